@@ -1,0 +1,28 @@
+# `make` builds out/hwdb (and proves it on the way), `make demo` runs it on a file of our own,
+# `make check` is the whole gate, `make check-peer` compares with Debian's own files.
+PREFIX ?= /usr/local
+DESTDIR ?=
+
+.PHONY: all demo check check-peer install clean
+
+all:
+	cd crates/hwdb && rt run -- ask /dev/null none
+	mkdir -p out
+	cp crates/hwdb/out/hwdb out/hwdb
+
+demo: all
+	out/hwdb ask examples/workshop.hwdb 'usb:v1209p0007d0101'
+
+check:
+	rt ci
+	$(MAKE) all
+	tests/runs out/hwdb
+
+check-peer: all
+	tests/peer out/hwdb
+
+install: all
+	install -D -m 755 out/hwdb '$(DESTDIR)$(PREFIX)/bin/hwdb'
+
+clean:
+	rm -rf out crates/*/out

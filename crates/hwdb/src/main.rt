@@ -1,0 +1,35 @@
+//! The program `hwdb`: hands its words, standard output and standard error to `hwdb_tool::program`.
+#![tactic(auto)]
+
+use hwdb_tool::{ToWrite, program, write_text};
+use std::env;
+use std::io::{self, ErrorKind};
+use std::process::ExitCode;
+
+/// The words of the command line, the first of which is the program's name.
+fn words_of(rt: &HostRuntime) -> io::Result<Vec<String>> {
+    let words = env::args(rt)?.collect(rt.alloc())?;
+    Ok(words)
+}
+
+fn main(rt: HostRuntime) -> ExitCode {
+    let mut out = ToWrite {
+        inner: rt.stdout(),
+        failed: 0,
+    };
+    let mut err = ToWrite {
+        inner: rt.stderr(),
+        failed: 0,
+    };
+    match words_of(&rt) {
+        Ok(words) => ExitCode::from(program(&rt, rt.alloc(), &words, &mut out, &mut err)),
+        Err(error) => {
+            let line = match error.kind() {
+                ErrorKind::OutOfMemory => "hwdb: out of memory\n",
+                _ => "hwdb: a word of the command line is not UTF-8\n",
+            };
+            let _ = write_text(&mut err, line.as_bytes());
+            ExitCode::from(1)
+        }
+    }
+}

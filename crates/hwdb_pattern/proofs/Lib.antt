@@ -1,0 +1,11 @@
+pub mod Matching
+pub mod Cutting
+pub mod Searching
+pub mod Bracketing
+pub mod Longer
+pub mod Shorter
+pub mod Closing
+pub mod Growing
+pub mod Deciding
+pub mod Pathing
+pub mod Computing

@@ -1,0 +1,5 @@
+use Rattle.hwdb_pattern.proofs.Growing.{live_front}
+use Rattle.hwdb_pattern.proofs.laws.dead_stays_dead.Goals as goal
+
+pub returns : goal.returns
+returns c = live_front

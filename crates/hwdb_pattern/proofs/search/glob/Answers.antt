@@ -1,0 +1,71 @@
+use Rattle.std.proofs.Common.{◌≡◌, ◌≤◌, length, drop, take, ◌-◌, arith, ap, eqb-true, refl}
+use Rattle.std.proofs.lemmas.List.{take_rest, length-drop}
+use Rattle.hwdb_pattern.proofs.Searching.{reaches_end, reaches_past_test, remains_first, remains_star, remains_more, reaches_past, remains_end}
+use Rattle.hwdb_pattern.proofs.search.glob.Goals as goal
+
+pub returns-then-first-pattern : goal.returns-then-first-pattern
+returns-then-first-pattern c = (
+  (λ t. reaches_end _ _ c.in-Some.first.at c.in-Some.first.met c.if-first-pattern.true (eqb-true _ _ t) c.in-Some.ensures.reached),
+  reaches_past_test _ _ c.in-Some.first.at c.in-Some.first.met c.if-first-pattern.true c.in-Some.ensures.met c.in-Some.ensures.reached,
+)
+
+pub loop-met-init : goal.loop-met-init
+loop-met-init c =
+    let within : c.in-Some.first.at ≤ length c.args.pattern.now = c.in-Some.ensures.within in
+    let met : c.in-Some.first.met ≤ length c.args.device.now = c.in-Some.ensures.met in
+    record {
+      at_in = omega arith;
+      met_in = omega arith;
+      remains = remains_first _ _ c.in-Some.first.at c.in-Some.first.met (omega arith) met
+          (c.in-Some.ensures.star (omega arith)) c.in-Some.ensures.reached;
+    }
+
+pub loop-met-preserved-in-None : goal.loop-met-preserved-in-None
+loop-met-preserved-in-None c = record {
+  at_in = c.loop-met.invariant.at_in;
+  met_in = omega arith;
+  remains = remains_more _ _ _ _ c.loop-met.at c.loop-met.met (take_rest c.args.pattern.now c.loop-met.at)
+      (take_rest c.args.device.now c.loop-met.met) (omega arith) c.in-None.ensures.refused c.loop-met.invariant.remains;
+}
+
+pub loop-met-preserved-then-at-next : goal.loop-met-preserved-then-at-next
+loop-met-preserved-then-at-next c =
+    let t : take (length c.args.pattern.now - c.loop-met.at) (drop c.loop-met.at c.args.pattern.now) ≡ drop c.loop-met.at c.args.pattern.now = take_rest c.args.pattern.now c.loop-met.at in
+    let l : take (length c.args.device.now - c.loop-met.met) (drop c.loop-met.met c.args.device.now) ≡ drop c.loop-met.met c.args.device.now = take_rest c.args.device.now c.loop-met.met in
+    record {
+      at_in = omega arith;
+      met_in = omega (arith, c.in-Some-run.ensures.met, ap length l, length-drop c.loop-met.met c.args.device.now);
+      remains = remains_star _ _ _ _ c.loop-met.at c.loop-met.met c.in-Some-run.next.at c.in-Some-run.next.met t l
+          c.if-at-next.true (omega arith) c.in-Some-run.ensures.met
+          (c.in-Some-run.ensures.star (omega (arith, ap length t, length-drop c.loop-met.at c.args.pattern.now)))
+          c.in-Some-run.ensures.reached c.loop-met.invariant.remains;
+    }
+
+pub returns-then-met-next : goal.returns-then-met-next
+returns-then-met-next c =
+    let t : take (length c.args.pattern.now - c.loop-met.at) (drop c.loop-met.at c.args.pattern.now) ≡ drop c.loop-met.at c.args.pattern.now = take_rest c.args.pattern.now c.loop-met.at in
+    let l : take (length c.args.device.now - c.loop-met.met) (drop c.loop-met.met c.args.device.now) ≡ drop c.loop-met.met c.args.device.now = take_rest c.args.device.now c.loop-met.met in (
+      (λ _. remains_end _ _ _ _ c.loop-met.at c.loop-met.met t l (omega arith)
+          (reaches_end _ _ c.in-Some-run.next.at c.in-Some-run.next.met
+          (omega (arith, c.in-Some-run.ensures.within, ap length t, length-drop c.loop-met.at c.args.pattern.now))
+          (omega (arith, ap length l, length-drop c.loop-met.met c.args.device.now))
+          c.in-Some-run.ensures.reached)
+          c.loop-met.invariant.remains),
+      (λ _. refl),
+    )
+
+pub loop-met-preserved : goal.loop-met-preserved
+loop-met-preserved c =
+    let t : take (length c.args.pattern.now - c.loop-met.at) (drop c.loop-met.at c.args.pattern.now) ≡ drop c.loop-met.at c.args.pattern.now = take_rest c.args.pattern.now c.loop-met.at in
+    let l : take (length c.args.device.now - c.loop-met.met) (drop c.loop-met.met c.args.device.now) ≡ drop c.loop-met.met c.args.device.now = take_rest c.args.device.now c.loop-met.met in
+    record {
+      at_in = c.loop-met.invariant.at_in;
+      met_in = omega arith;
+      remains = remains_more _ _ _ _ c.loop-met.at c.loop-met.met t l (omega arith)
+          (reaches_past _ _ c.in-Some-run.next.at c.in-Some-run.next.met
+          (omega (arith, c.in-Some-run.ensures.within, ap length t, length-drop c.loop-met.at c.args.pattern.now))
+          c.in-Some-run.ensures.met
+          (λ e. c.if-met-next.false (omega (arith, e, ap length l, length-drop c.loop-met.met c.args.device.now)))
+          c.in-Some-run.ensures.reached)
+          c.loop-met.invariant.remains;
+    }

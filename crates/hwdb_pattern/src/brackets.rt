@@ -1,0 +1,124 @@
+//! Brackets, and the items in them: named classes, ranges and single bytes.
+ghost use Rattle.std.specs.Prelude.{◌≡◌, ◌<◌, ◌≤◌, length, true, IfSome};
+ghost use Rattle.std.specs.Option.{option_map};
+ghost use Rattle.hwdb_pattern.specs.Brackets;
+ghost use Rattle.hwdb_pattern.specs.Brackets.{item_at, items_from, bracket_at, bracket_size};
+ghost use Rattle.hwdb_pattern.specs.Parts.{items_part, bracket_part};
+
+use crate::classes::named_class;
+
+/// A part of a pattern, weighed against one byte of a device.
+#[derive(Clone, Copy)]
+pub(crate) struct Part {
+    /// How many bytes of the pattern it takes.
+    pub(crate) size: usize,
+    /// Whether it admits the byte.
+    pub(crate) admits: bool,
+}
+
+/// A range where one stands, else one byte.
+fn plain_item(text: &[u8], byte: u8) -> Part
+    requires { 0 < length text.now }
+    ensures part { result ≡ items_part byte (Brackets.plain_item text.now) }
+    ensures moves { 0 < result.size }
+    ensures within { result.size ≤ length text.now }
+{
+    let low = text[0];
+    if text.len() > 2 && text[1] == b'-' && text[2] != b']' {
+        Part {
+            size: 3,
+            admits: low <= byte && byte <= text[2],
+        }
+    } else {
+        Part {
+            size: 1,
+            admits: byte == low,
+        }
+    }
+}
+
+/// The item at the beginning of the text: a named class, else a range, else one byte.
+fn item(text: &[u8], byte: u8) -> Part
+    requires { 0 < length text.now }
+    ensures part { result ≡ items_part byte (item_at text.now) }
+    ensures moves { 0 < result.size }
+    ensures within { result.size ≤ length text.now }
+{
+    if let Some(class) = named_class(text) {
+        return Part {
+            size: class.text().len(),
+            admits: class.holds(byte),
+        };
+    }
+    plain_item(text, byte)
+}
+
+/// The items from the first one to the `]` that closes, with it. None where no `]` closes.
+fn items(text: &[u8], byte: u8) -> Option<Part>
+    ensures part { result ≡ option_map (items_part byte) (items_from true 0 text.now) }
+    ensures within { IfSome result (λ part. part.size ≤ length text.now) }
+{
+    let mut at = 0;
+    let mut admits = false;
+    while at < text.len() {
+        if at > 0 && text[at] == b']' {
+            return Some(Part {
+                size: at + 1,
+                admits,
+            });
+        }
+        let next = item(&text[at..], byte);
+        admits = admits || next.admits;
+        at += next.size;
+    }
+    None
+}
+
+/// Whether the byte, behind the `[`, inverts the bracket.
+fn is_inversion(byte: u8) -> bool
+    ensures { result ≡ Brackets.is_inversion byte }
+{
+    byte == b'!' || byte == b'^'
+}
+
+/// The closed bracket at the beginning of the text, if one begins there.
+pub(crate) fn bracket(text: &[u8], byte: u8) -> Option<Part>
+    ensures part { result ≡ option_map (bracket_part byte) (bracket_at text.now) }
+    ensures moves { IfSome result (λ part. 0 < part.size) }
+    ensures within { IfSome result (λ part. part.size ≤ length text.now) }
+{
+    if text.len() < 2 {
+        return None;
+    }
+    if text[0] != b'[' {
+        return None;
+    }
+    if is_inversion(text[1]) {
+        match items(&text[2..], byte) {
+            Some(found) => Some(Part {
+                size: 2 + found.size,
+                admits: !found.admits,
+            }),
+            None => None,
+        }
+    } else {
+        match items(&text[1..], byte) {
+            Some(found) => Some(Part {
+                size: 1 + found.size,
+                admits: found.admits,
+            }),
+            None => None,
+        }
+    }
+}
+
+/// The length in bytes of the closed bracket that begins the text, both ends counted. None where none
+/// is closed in the text, also where the text doesn't begin with `[`.
+pub fn bracket_end(text: &[u8]) -> Option<usize>
+    ensures { result ≡ option_map bracket_size (bracket_at text.now) }
+{
+    match bracket(text, 0) {
+        Some(found) => Some(found.size),
+        None => None,
+    }
+}

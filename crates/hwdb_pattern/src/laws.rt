@@ -1,0 +1,53 @@
+//! Laws over the definitions alone. Each function does nothing: its contract is the law, for callers
+//! whose proofs need it.
+ghost use Rattle.hwdb_pattern.specs.Brackets.{StaysClosed};
+ghost use Rattle.hwdb_pattern.specs.Paths.{ClosedPartAndRest, ClosedPartIsCutAlike, DeadMatchesNothing, DeadStaysDead, LiveIsTested};
+ghost use Rattle.hwdb_pattern.specs.Patterns.{MatchesIsTested};
+ghost use Rattle.hwdb_pattern.specs.Rows.{BracketRows, ClosedRows, LiveRows, MatchRows, StarRows, TokenRows};
+
+/// A bracket that is closed in a text is the same bracket in every longer text that begins with it.
+#[tactic(auto, using(crate::proofs::Longer::bracket_longer))]
+pub fn closed_bracket_stays()
+    ensures { StaysClosed }
+{}
+
+/// The closed part of a path, cut again as a pattern, has exactly the path's tokens before the first
+/// `[` that begins no closed bracket; the path goes on with its open part.
+#[tactic(auto, using(crate::proofs::Closing::closed_is_cut_alike, crate::proofs::Closing::part_and_rest))]
+pub fn closed_part_is_cut_alike()
+    ensures tokens { ClosedPartIsCutAlike }
+    ensures rest { ClosedPartAndRest }
+{}
+
+/// Where a path isn't live for a device, no longer path is.
+pub fn dead_stays_dead()
+    ensures { DeadStaysDead }
+{}
+
+/// Where a path isn't live for a device, no pattern that begins with it matches the device.
+#[tactic(auto, using(crate::proofs::Growing::match_front))]
+pub fn dead_matches_nothing()
+    ensures { DeadMatchesNothing }
+{}
+
+/// The computing test `matches` is true exactly where the tokens match.
+#[tactic(auto, using(crate::proofs::Deciding::matches_tested))]
+pub fn matches_is_tested()
+    ensures { MatchesIsTested }
+{}
+
+/// The computing test `is_live` is true exactly where the path is live.
+#[tactic(auto, using(crate::proofs::Deciding::live_tested))]
+pub fn live_is_tested()
+    ensures { LiveIsTested }
+{}
+
+/// Worked rows: what the definitions give when they are computed.
+pub fn worked_rows()
+    ensures cut { TokenRows }
+    ensures closed { BracketRows }
+    ensures matched { MatchRows }
+    ensures starred { StarRows }
+    ensures parted { ClosedRows }
+    ensures live { LiveRows }
+{}

@@ -1,0 +1,193 @@
+//! Which of a device's prefixes some tokens match, as the prefixes' lengths.
+ghost use Rattle.std.specs.Prelude.{◌≡◌, ◌≢◌, ◌<◌, ◌≤◌, ◌+◌, ◌^◌, [], ◌∷◌, ◌++◌, length, slice_index, map, filter, All, Contains, IsTrue, OnOk, IfOk, IsOk, IsOkAnd};
+ghost use Rattle.hwdb_pattern.specs.Patterns.{tokens, token_at};
+ghost use Rattle.hwdb_pattern.specs.Prefixes.{takes, stepped, NoneTakes, Spread, Between, Follows, Within};
+
+use crate::tokens::{single_token, token_size};
+use std::alloc::{AllocError, Global};
+
+/// Whether the token at the beginning of the text takes the device's byte after `n` bytes.
+fn takes_next(text: &[u8], device: &[u8], n: usize) -> bool
+    requires some { 0 < length text.now }
+    requires no_star { slice_index text.now 0 ≢ 42 }
+    ensures { result ≡ takes (token_at text.now) device.now n }
+{
+    if n < device.len() {
+        single_token(text, device[n], true).admits
+    } else {
+        false
+    }
+}
+
+/// The lengths after one token that isn't a star. No memory is asked for where it takes no byte.
+fn take_single(
+    alloc: Global,
+    before: &[usize],
+    device: &[u8],
+    text: &[u8],
+) -> Result<Vec<usize>, AllocError>
+    requires some { 0 < length text.now }
+    requires no_star { slice_index text.now 0 ≢ 42 }
+    ensures stepped { IfOk result (λ after. after.items ≡ stepped (token_at text.now) device.now before.now) }
+    ensures free { NoneTakes (token_at text.now) device.now before.now → IsOk result }
+{
+    let mut after = Vec::new(alloc);
+    for n in before {
+        if takes_next(text, device, *n) {
+            after.push(*n + 1)?;
+        }
+    }
+    Ok(after)
+}
+
+/// Keeps the lengths after which the token takes the device's next byte.
+fn keep(lengths: &mut Vec<usize>, device: &[u8], text: &[u8])
+    requires some { 0 < length text.now }
+    requires no_star { slice_index text.now 0 ≢ 42 }
+    ensures { lengths.new.items ≡ filter (takes (token_at text.now) device.now) lengths.old.items }
+{
+    lengths.retain(|n| takes_next(text, device, *n));
+}
+
+/// Makes each length one more.
+fn advance(lengths: &mut [usize])
+    requires { All (λ n. n + 1 < 2 ^ 64) lengths.old }
+    ensures { lengths.new ≡ map (λ n. n + 1) lengths.old }
+{
+    for n in lengths.iter_mut() {
+        *n += 1;
+    }
+}
+
+/// The lengths after one more token, which isn't a star, in place.
+fn step(lengths: &mut Vec<usize>, device: &[u8], text: &[u8])
+    requires some { 0 < length text.now }
+    requires no_star { slice_index text.now 0 ≢ 42 }
+    ensures { lengths.new.items ≡ stepped (token_at text.now) device.now lengths.old.items }
+{
+    keep(lengths, device, text);
+    advance(lengths);
+}
+
+/// The least of the numbers, or `above` if there is none.
+fn least_of(numbers: &[usize], above: usize) -> usize
+    requires { All (λ n. n < above) numbers.now }
+    ensures least { All (λ n. result ≤ n) numbers.now }
+    ensures member { result < above → Contains numbers.now result }
+    ensures bound { result ≤ above }
+{
+    let mut least = above;
+    for n in numbers {
+        if *n < least {
+            least = *n;
+        }
+    }
+    least
+}
+
+/// Puts the lengths from the least one to the end into the vector, which held none.
+fn fill(lengths: &mut Vec<usize>, least: usize, end: usize) -> Result<(), AllocError>
+    requires room { end + 1 < 2 ^ 64 }
+    requires empty { lengths.old.items ≡ [] }
+    requires within { least ≤ end + 1 }
+    ensures { OnOk result (Between least (end + 1) lengths.new.items) }
+{
+    lengths.reserve(end + 1 - least)?;
+    for n in least..end + 1 {
+        lengths.push(n)?;
+    }
+    Ok(())
+}
+
+/// The lengths after a star.
+fn take_star(alloc: Global, before: &[usize], end: usize) -> Result<Vec<usize>, AllocError>
+    requires room { end + 1 < 2 ^ 64 }
+    requires within { All (λ n. n ≤ end) before.now }
+    ensures { IfOk result (λ after. Spread end before.now after.items) }
+{
+    let mut after = Vec::new(alloc);
+    fill(&mut after, least_of(before, end + 1), end)?;
+    Ok(after)
+}
+
+/// The lengths after a star, in place.
+fn spread(lengths: &mut Vec<usize>, end: usize) -> Result<(), AllocError>
+    requires room { end + 1 < 2 ^ 64 }
+    requires within { All (λ n. n ≤ end) lengths.old.items }
+    ensures { OnOk result (Spread end lengths.old.items lengths.new.items) }
+{
+    let least = least_of(lengths, end + 1);
+    lengths.clear();
+    fill(lengths, least, end)
+}
+
+/// The lengths after the text's first token.
+fn first_token(
+    alloc: Global,
+    before: &[usize],
+    device: &[u8],
+    text: &[u8],
+) -> Result<Vec<usize>, AllocError>
+    requires some { 0 < length text.now }
+    requires within { Within device.now before.now }
+    ensures follows { IfOk result (λ after. Follows (token_at text.now ∷ []) device.now before.now after.items) }
+    ensures within { IfOk result (λ after. Within device.now after.items) }
+    ensures free { slice_index text.now 0 ≢ 42 → NoneTakes (token_at text.now) device.now before.now → IsOkAnd result (λ after. after.items ≡ []) }
+{
+    if text[0] == b'*' {
+        take_star(alloc, before, device.len())
+    } else {
+        take_single(alloc, before, device, text)
+    }
+}
+
+/// The lengths after the text's first token, in place.
+fn next_token(lengths: &mut Vec<usize>, device: &[u8], text: &[u8]) -> Result<(), AllocError>
+    requires some { 0 < length text.now }
+    requires within { Within device.now lengths.old.items }
+    ensures follows { OnOk result (Follows (token_at text.now ∷ []) device.now lengths.old.items lengths.new.items) }
+    ensures within { OnOk result (Within device.now lengths.new.items) }
+{
+    if text[0] == b'*' {
+        return spread(lengths, device.len());
+    }
+    step(lengths, device, text);
+    Ok(())
+}
+
+/// The lengths after all tokens of the text, in place.
+fn follow(lengths: &mut Vec<usize>, device: &[u8], text: &[u8]) -> Result<(), AllocError>
+    requires { Within device.now lengths.old.items }
+    ensures follows { OnOk result (Follows (tokens text.now) device.now lengths.old.items lengths.new.items) }
+    ensures within { OnOk result (Within device.now lengths.new.items) }
+    ensures free { lengths.old.items ≡ [] → IsOk result }
+{
+    let mut at = 0;
+    while at < text.len() && !lengths.is_empty() {
+        let rest = &text[at..];
+        next_token(lengths, device, rest)?;
+        at += token_size(rest);
+    }
+    Ok(())
+}
+
+/// The lengths after all tokens of the text. No memory is asked for where the first one, which isn't a
+/// star, takes no byte of the device.
+pub(crate) fn along(
+    alloc: Global,
+    before: &[usize],
+    device: &[u8],
+    text: &[u8],
+) -> Result<Vec<usize>, AllocError>
+    requires { Within device.now before.now }
+    ensures follows { IfOk result (λ after. Follows (tokens text.now) device.now before.now after.items) }
+    ensures within { IfOk result (λ after. Within device.now after.items) }
+    ensures free { 0 < length text.now → slice_index text.now 0 ≢ 42 → NoneTakes (token_at text.now) device.now before.now → IsOk result }
+{
+    if text.is_empty() {
+        return Vec::from_slice(alloc, before);
+    }
+    let mut after = first_token(alloc, before, device, text)?;
+    follow(&mut after, device, &text[token_size(text)..])?;
+    Ok(after)
+}

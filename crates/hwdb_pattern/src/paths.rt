@@ -1,0 +1,105 @@
+//! A device on the way along a path that is fed piece by piece, as a tree of patterns is walked.
+ghost use Rattle.std.specs.Prelude.{◌≡◌, ◌↔◌, List, [], ℕ, ◌++◌, IsTrue, IfOk, IsOk};
+ghost use Rattle.hwdb_pattern.specs.Patterns.{Matches, tokens};
+ghost use Rattle.hwdb_pattern.specs.Prefixes.{Within};
+ghost use Rattle.hwdb_pattern.specs.Paths.{Reached, StandsFor, IsLive, IsLost};
+
+use crate::lengths::along;
+use crate::search::glob;
+use crate::tokens::closed_end;
+use std::alloc::{AllocError, Global};
+use std::marker::Model;
+
+/// What is known of a device on the way along a path: which of its prefixes the path's closed part
+/// matches, and the bytes of the path that aren't decided yet.
+///
+/// The closed part is what stands before the first `[` that begins no closed bracket in the path.
+#[derive(Drop)]
+pub struct Reach<'d> {
+    device: &'d [u8],
+    lengths: Vec<usize>,
+    kept: Vec<u8>,
+}
+
+impl<'d> Model for Reach<'d> {
+    ghost Value = { Reached };
+
+    ghost view = { λ r. record { device = r.device.now; lengths = r.lengths.items; kept = r.kept.items } };
+
+    ghost invariant = { λ r. Within r.device.now r.lengths.items };
+}
+
+impl<'d> Reach<'d> {
+    /// The state of the empty path.
+    ///
+    /// The only error is that memory is refused.
+    pub fn start(alloc: Global, device: &'d [u8]) -> Result<Reach<'d>, AllocError>
+        ensures device { IfOk result (λ reach. reach.device ≡ device.now) }
+        ensures path { IfOk result (λ reach. StandsFor reach []) }
+    {
+        let lengths = vec![in alloc; 0]?;
+        let kept = Vec::new(alloc);
+        Ok(Reach {
+            device,
+            lengths,
+            kept,
+        })
+    }
+
+    /// The state of the path followed by the piece. The old state stays.
+    ///
+    /// The only error is that memory is refused. None is asked for where no `[` is open and the piece's
+    /// first token takes no byte of the device.
+    pub fn feed(&self, alloc: Global, piece: &[u8]) -> Result<Reach<'d>, AllocError>
+        ensures device { IfOk result (λ next. next.device ≡ self.now.device) }
+        ensures path { IfOk result (λ next. (path : List ℕ) → StandsFor self.now path → StandsFor next (path ++ piece.now)) }
+        ensures free { self.now.kept ≡ [] → IsLost self.now piece.now → IsOk result }
+    {
+        let kept: &[u8] = &self.kept;
+        if kept.is_empty() {
+            return self.follow_text(alloc, piece);
+        }
+        let mut text = Vec::new(alloc);
+        text.extend_from_slice(kept)?;
+        text.extend_from_slice(piece)?;
+        self.follow_text(alloc, &text)
+    }
+
+    /// The state of the path followed by what the text has behind the kept bytes.
+    fn follow_text(&self, alloc: Global, text: &[u8]) -> Result<Reach<'d>, AllocError>
+        ensures device { IfOk result (λ next. next.device ≡ self.now.device) }
+        ensures path { IfOk result (λ next. (path piece : List ℕ) → text.now ≡ self.now.kept ++ piece → StandsFor self.now path → StandsFor next (path ++ piece)) }
+        ensures free { IsLost self.now text.now → IsOk result }
+    {
+        let end = closed_end(text);
+        let lengths = along(alloc, &self.lengths, self.device, &text[..end])?;
+        let mut kept = Vec::new(alloc);
+        kept.extend_from_slice(&text[end..])?;
+        Ok(Reach {
+            device: self.device,
+            lengths,
+            kept,
+        })
+    }
+
+    /// Whether the path is live for the device: its closed part matches some prefix of the device.
+    pub fn is_alive(&self) -> bool
+        ensures { (path : List ℕ) → StandsFor self.now path → (IsTrue result ↔ IsLive path self.now.device) }
+    {
+        let lengths: &[usize] = &self.lengths;
+        !lengths.is_empty()
+    }
+
+    /// Whether the path, read as a pattern, matches the whole device.
+    pub fn accepts(&self, path: &[u8]) -> bool
+        requires { StandsFor self.now path.now }
+        ensures { IsTrue result ↔ Matches (tokens path.now) self.now.device }
+    {
+        let kept: &[u8] = &self.kept;
+        if kept.is_empty() {
+            self.lengths.contains(&self.device.len())
+        } else {
+            glob(path, self.device)
+        }
+    }
+}

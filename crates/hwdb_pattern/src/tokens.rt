@@ -1,0 +1,70 @@
+//! The tokens of a pattern: stars, question marks, closed brackets and bytes.
+ghost use Rattle.std.specs.Prelude.{◌≡◌, ◌≢◌, ◌<◌, ◌≤◌, length, slice_index, false, None, take, drop};
+ghost use Rattle.hwdb_pattern.specs.Brackets.{bracket_at};
+ghost use Rattle.hwdb_pattern.specs.Parts.{token_part};
+ghost use Rattle.hwdb_pattern.specs.Patterns;
+ghost use Rattle.hwdb_pattern.specs.Patterns.{token_at};
+ghost use Rattle.hwdb_pattern.specs.Paths.{closed_part, open_part};
+
+use crate::brackets::{Part, bracket};
+
+/// The token at the beginning of the text, which isn't a star. Where the caller knows that no bracket is
+/// closed there, `may_close` is false, and none is looked for.
+pub(crate) fn single_token(text: &[u8], byte: u8, may_close: bool) -> Part
+    requires some { 0 < length text.now }
+    requires no_star { slice_index text.now 0 ≢ 42 }
+    requires no_bracket { may_close ≡ false → bracket_at text.now ≡ None }
+    ensures part { result ≡ token_part byte (token_at text.now) }
+    ensures moves { 0 < result.size }
+    ensures within { result.size ≤ length text.now }
+{
+    if text[0] == b'?' {
+        return Part {
+            size: 1,
+            admits: true,
+        };
+    }
+    if text[0] == b'[' && may_close {
+        if let Some(found) = bracket(text, byte) {
+            return found;
+        }
+    }
+    Part {
+        size: 1,
+        admits: byte == text[0],
+    }
+}
+
+/// How many bytes the token at the beginning of the text takes.
+pub(crate) fn token_size(text: &[u8]) -> usize
+    requires { 0 < length text.now }
+    ensures size { result ≡ Patterns.token_size (token_at text.now) }
+    ensures moves { 0 < result }
+    ensures within { result ≤ length text.now }
+{
+    if text[0] == b'*' {
+        1
+    } else {
+        single_token(text, 0, true).size
+    }
+}
+
+/// Where the first `[` stands that begins no closed bracket. The text's length where there is none.
+pub(crate) fn closed_end(text: &[u8]) -> usize
+    ensures within { result ≤ length text.now }
+    ensures before { take result text.now ≡ closed_part text.now }
+    ensures behind { drop result text.now ≡ open_part text.now }
+{
+    let mut at = 0;
+    while at < text.len() {
+        if text[at] == b'[' {
+            let Some(found) = bracket(&text[at..], 0) else {
+                return at;
+            };
+            at += found.size;
+        } else {
+            at += 1;
+        }
+    }
+    at
+}

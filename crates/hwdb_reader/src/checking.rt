@@ -1,0 +1,43 @@
+//! Whether bytes are a database.
+ghost use Rattle.std.specs.Prelude.{◌<◌, IfOk, OnErr, IfErr, length};
+ghost use Rattle.hwdb_layout.specs.Tree.{Tree, node_count};
+ghost use Rattle.hwdb_layout.specs.Database.{IsDatabase};
+ghost use Rattle.hwdb_layout.specs.Faults.{FaultStands};
+ghost use Rattle.hwdb_reader.specs.View.{db_tree};
+
+use crate::header::check_header;
+use crate::view::{Db, Node};
+use crate::walk::walk;
+use hwdb_layout::DbFault;
+
+/// How many nodes may stand one below the other, the root counted.
+const MAX_LEVELS: usize = 4097;
+
+/// Tests whether the bytes are a database, and answers a view of it. Takes no memory. Of the faults B1 to
+/// B5 the first that stands is answered; one of B6 to B11 only where none of these stands, with its
+/// offset in bytes.
+pub fn check(bytes: &[u8]) -> Result<Db<'_>, DbFault>
+    // The view has the tree that the bytes are a database of.
+    ensures accepted { IfOk result (λ db. IsDatabase bytes.now (db_tree db)) }
+    // A counter from 0 can enter each node once.
+    ensures nodes { IfOk result (λ db. node_count (db_tree db) < length bytes.now) }
+    // Only bytes that are no database of any tree are refused.
+    ensures refused { OnErr result ((t : Tree) → IsDatabase bytes.now t → ⊥) }
+    ensures fault { IfErr result (λ e. FaultStands bytes.now e) }
+{
+    let frame = check_header(bytes)?;
+    let root = frame.sizes.root;
+    let strings = frame.sizes.strings;
+    let end = walk(bytes, frame, MAX_LEVELS, frame.sizes.nodes, root, strings)?;
+    if end != strings {
+        return Err(DbFault::Place(root as u64));
+    }
+    Ok(Db {
+        root: Node {
+            bytes,
+            frame,
+            levels: MAX_LEVELS,
+            offset: root,
+        },
+    })
+}

@@ -1,0 +1,51 @@
+//! The header of a database.
+ghost use Rattle.std.specs.Prelude.{◌≡◌, IfOk, OnErr, IfErr};
+ghost use Rattle.hwdb_layout.specs.Database.{layout_of, IsHeader};
+ghost use Rattle.hwdb_layout.specs.Faults.{HeaderFault};
+
+use crate::fields::u64_at;
+use crate::frame::Frame;
+use hwdb_layout::{DbFault, Layout};
+
+/// Tests all that stands in the header, and the last byte. The first of B1 to B5 that stands is answered.
+#[tactic(auto, unfolding(hwdb_layout::specs::Database::layout_of))]
+pub fn check_header(b: &[u8]) -> Result<Frame, DbFault>
+    ensures ok { IfOk result (λ f. (f.sizes ≡ layout_of b.now) × IsHeader b.now) }
+    ensures err { OnErr result (IsHeader b.now → ⊥) }
+    ensures fault { IfErr result (λ e. HeaderFault b.now e) }
+{
+    if b.len() < 80 {
+        return Err(DbFault::Short);
+    }
+    if &b[..8] != b"KSLPHHRH".as_slice() {
+        return Err(DbFault::Signature);
+    }
+    let header = u64_at(b, 24);
+    let node_size = u64_at(b, 32);
+    let child_size = u64_at(b, 40);
+    let value_size = u64_at(b, 48);
+    if header < 80 || node_size < 24 || child_size < 16 || value_size < 32 {
+        return Err(DbFault::RecordSizes);
+    }
+    let nodes_len = u64_at(b, 64);
+    let strings_len = u64_at(b, 72);
+    if u64_at(b, 16) != b.len()
+        || header > b.len()
+        || nodes_len > b.len() - header
+        || strings_len != b.len() - header - nodes_len
+    {
+        return Err(DbFault::Lengths);
+    }
+    if strings_len == 0 || b[b.len() - 1] != 0 {
+        return Err(DbFault::Strings);
+    }
+    let sizes = Layout {
+        node_size,
+        child_size,
+        value_size,
+        nodes: header,
+        root: u64_at(b, 56),
+        strings: header + nodes_len,
+    };
+    Ok(Frame { sizes })
+}

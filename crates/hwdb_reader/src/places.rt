@@ -1,0 +1,54 @@
+//! Where the entries of a node that was tested stand, and what they show.
+ghost use Rattle.std.specs.Prelude.{◌≡◌, ◌≤◌, ◌<◌, ◌+◌, ◌*◌, ◌^◌, length};
+ghost use Rattle.hwdb_layout.specs.Database.{record_end, child_entry, child_count, value_entries, value_count, value_at, IsValue};
+ghost use Rattle.hwdb_layout.specs.Map.{shown};
+ghost use Rattle.hwdb_reader.specs.View.{entry_shows};
+
+use crate::fields::{text, u16_at, u32_at, u64_at};
+use crate::frame::Frame;
+use crate::view::Entry;
+
+/// Where the child entry `i` of the node at `off` stands.
+#[tactic(auto, using(hwdb_layout::proofs::Bounds::entry_room), unfolding(hwdb_layout::specs::Database::record_end))]
+pub fn child_entry_at(b: &[u8], f: Frame, off: usize, i: usize) -> usize
+    requires inside { record_end f.sizes b.now off ≤ length b.now }
+    requires below { i < child_count b.now off }
+    ensures place { result ≡ child_entry f.sizes off i }
+    ensures room { result + 16 ≤ length b.now }
+    ensures fits { result + 16 < 2 ^ 64 }
+{
+    off + f.sizes.node_size + f.sizes.child_size * i
+}
+
+/// Where the value entry `i` of the node at `off` stands.
+#[tactic(auto, using(hwdb_layout::proofs::Bounds::value_entry_room), unfolding(hwdb_layout::specs::Database::record_end))]
+pub fn value_entry_at(b: &[u8], f: Frame, off: usize, i: usize) -> usize
+    requires inside { record_end f.sizes b.now off ≤ length b.now }
+    requires below { i < value_count b.now off }
+    ensures place { result ≡ value_entries f.sizes b.now off + f.sizes.value_size * i }
+    ensures room { result + 32 ≤ length b.now }
+{
+    let entries = off + f.sizes.node_size + f.sizes.child_size * b[off + 8] as usize;
+    entries + f.sizes.value_size * i
+}
+
+/// The value at a sound value entry.
+#[tactic(auto, unfolding(hwdb_layout::specs::Database::value_at))]
+pub fn read_value(b: &[u8], f: Frame, entry: usize) -> Entry<'_>
+    requires room { entry + 32 ≤ length b.now }
+    requires sound { ∥ IsValue f.sizes b.now entry ∥₁ }
+    ensures { entry_shows result ≡ shown (value_at b.now entry) }
+{
+    let stored = text(b, u64_at(b, entry));
+    let key = match stored {
+        [b' ', key @ ..] => Some(key),
+        _ => None,
+    };
+    Entry {
+        priority: u16_at(b, entry + 28),
+        line: u32_at(b, entry + 24),
+        key,
+        value: text(b, u64_at(b, entry + 8)),
+        path: text(b, u64_at(b, entry + 16)),
+    }
+}

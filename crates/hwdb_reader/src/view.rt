@@ -1,0 +1,175 @@
+//! The view of a database that was accepted. That its bytes are a database stands in the types'
+//! invariants: no read tests an offset again or copies a text, and each slice is a part of the bytes.
+ghost use Rattle.hwdb_reader.specs.Placed.{Placed};
+
+use crate::fields::{text, u64_at};
+use crate::frame::Frame;
+use crate::places::{child_entry_at, read_value, value_entry_at};
+use std::marker::Model;
+
+/// Counts the nodes that were entered, from 0 on.
+#[derive(Drop)]
+pub struct Entered {
+    count: u64,
+}
+
+impl Model for Entered {
+    ghost use Rattle.std.specs.Prelude.{ℕ};
+
+    ghost Value = { ℕ };
+
+    ghost view = { λ e. e.count };
+}
+
+impl Entered {
+    ghost use Rattle.std.specs.Prelude.{◌≡◌};
+
+    /// A counter that has counted nothing.
+    pub fn new() -> Self
+        ensures { result ≡ 0 }
+    {
+        Entered { count: 0 }
+    }
+
+    /// How many nodes were entered.
+    pub fn count(&self) -> u64
+        ensures { result ≡ self.now }
+    {
+        self.count
+    }
+}
+
+/// A node of a checked database, seen from outside: its prefix alone.
+#[derive(Clone, Copy)]
+pub struct Node<'a> {
+    pub(crate) bytes: &'a [u8],
+    pub(crate) frame: Frame,
+    pub(crate) levels: usize,
+    pub(crate) offset: usize,
+    ghost placed: { ∥ Placed frame.sizes bytes.now levels offset ∥₁ },
+}
+
+/// A node that was entered: its children and its values.
+#[derive(Clone, Copy)]
+pub struct Inside<'a> {
+    pub(crate) node: Node<'a>,
+}
+
+/// A checked database: [`check`](crate::check) alone makes one.
+#[derive(Clone, Copy)]
+pub struct Db<'a> {
+    pub(crate) root: Node<'a>,
+}
+
+/// A child of a node.
+#[derive(Clone, Copy)]
+pub struct Child<'a> {
+    /// The byte that the child stands under, never 0.
+    pub byte: u8,
+    /// The child itself.
+    pub node: Node<'a>,
+}
+
+/// A value of a node.
+#[derive(Clone, Copy)]
+pub struct Entry<'a> {
+    /// The priority of its file, never 0.
+    pub priority: u16,
+    /// The line of its property.
+    pub line: u32,
+    /// The stored key without its one leading space; None where it doesn't begin with one, and then the
+    /// entry is no assignment.
+    pub key: Option<&'a [u8]>,
+    /// The value.
+    pub value: &'a [u8],
+    /// The stored path of its file.
+    pub path: &'a [u8],
+}
+
+impl<'a> Db<'a> {
+    ghost use Rattle.std.specs.Prelude.{◌≡◌, ◌<◌, ◌^◌};
+    ghost use Rattle.hwdb_layout.specs.Tree.{node_count};
+    ghost use Rattle.hwdb_layout.specs.Map.{IsTree};
+    ghost use Rattle.hwdb_reader.specs.View.{tree_of, db_tree};
+
+    /// The root.
+    pub fn root(&self) -> Node<'a>
+        ensures root { tree_of result ≡ db_tree self.now }
+        ensures tree { IsTree (db_tree self.now) }
+        ensures nodes { node_count (db_tree self.now) < 2 ^ 64 }
+    {
+        self.root
+    }
+}
+
+impl<'a> Node<'a> {
+    ghost use Rattle.std.specs.Prelude.{◌≡◌, ◌<◌, ◌+◌, ◌^◌};
+    ghost use Rattle.hwdb_layout.specs.Tree.{prefix_of};
+    ghost use Rattle.hwdb_reader.specs.View.{tree_of, entered_tree};
+
+    /// The bytes of the path between the node's own byte and its children's.
+    pub fn prefix(&self) -> &'a [u8]
+        ensures { result.now ≡ prefix_of (tree_of self.now) }
+    {
+        text(self.bytes, u64_at(self.bytes, self.offset))
+    }
+
+    /// Goes into the node, and counts it: the only way to its children and values.
+    pub fn enter(self, entered: &mut Entered) -> Inside<'a>
+        requires { entered.old + 1 < 2 ^ 64 }
+        ensures same { entered_tree result ≡ tree_of self.entry }
+        ensures counted { entered.new ≡ entered.old + 1 }
+    {
+        entered.count += 1;
+        Inside { node: self }
+    }
+}
+
+impl<'a> Inside<'a> {
+    ghost use Rattle.std.specs.Prelude.{◌≡◌, ◌<◌, Some, length, slice_get, option_map};
+    ghost use Rattle.hwdb_layout.specs.Tree.{children_of, values_of};
+    ghost use Rattle.hwdb_layout.specs.Map.{shown};
+    ghost use Rattle.hwdb_reader.specs.View.{tree_of, entered_tree, entry_shows};
+
+    /// How many children the node has.
+    pub fn children(&self) -> usize
+        ensures { result ≡ length (children_of (entered_tree self.now)) }
+    {
+        self.node.bytes[self.node.offset + 8] as usize
+    }
+
+    /// The child number `i`, counted from 0, ascending by byte.
+    pub fn child(&self, i: usize) -> Child<'a>
+        requires { i < length (children_of (entered_tree self.now)) }
+        ensures { slice_get (children_of (entered_tree self.now)) i ≡ Some (result.byte, tree_of result.node) }
+    {
+        let node = self.node;
+        let entry = child_entry_at(node.bytes, node.frame, node.offset, i);
+        Child {
+            byte: node.bytes[entry],
+            node: Node {
+                bytes: node.bytes,
+                frame: node.frame,
+                levels: node.levels - 1,
+                offset: u64_at(node.bytes, entry + 8),
+            },
+        }
+    }
+
+    /// How many values the node has.
+    pub fn values(&self) -> usize
+        ensures { result ≡ length (values_of (entered_tree self.now)) }
+    {
+        u64_at(self.node.bytes, self.node.offset + 16)
+    }
+
+    /// The value number `i`, counted from 0, ascending by stored key.
+    pub fn value(&self, i: usize) -> Entry<'a>
+        requires { i < length (values_of (entered_tree self.now)) }
+        ensures { option_map shown (slice_get (values_of (entered_tree self.now)) i) ≡ Some (entry_shows result) }
+    {
+        let node = self.node;
+        let entry = value_entry_at(node.bytes, node.frame, node.offset, i);
+        read_value(node.bytes, node.frame, entry)
+    }
+}

@@ -1,0 +1,15 @@
+pub mod Sections
+pub mod Bytes
+pub mod Steps
+pub mod Held
+pub mod Files
+pub mod Choosing
+pub mod NameSets
+pub mod Taking
+pub mod FaultOrder
+pub mod DerivedOrder
+pub mod Marks
+pub mod Storing
+pub mod Computed
+pub mod Ordered
+pub mod Listed

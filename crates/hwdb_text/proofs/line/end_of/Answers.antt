@@ -1,0 +1,11 @@
+use Rattle.std.proofs.Common.{sym, arith}
+use Rattle.hwdb_text.specs.Lines.{is}
+use Rattle.hwdb_text.proofs.Bytes.{place_of, no_place}
+use Rattle.hwdb_text.proofs.line.end_of.Goals as goal
+
+pub returns-in-Some-clause-place : goal.returns-in-Some-clause-place
+returns-in-Some-clause-place c =
+    sym (place_of (is c.args.needle) c.args.text.now c.in-Some.place (c.in-Some.ensures.0.high) (λ j l e. c.in-Some.ensures.0.before j (omega arith) l e) (c.in-Some.ensures.1))
+
+pub returns-in-None-clause-place : goal.returns-in-None-clause-place
+returns-in-None-clause-place c = sym (no_place (is c.args.needle) c.args.text.now (λ j l e. c.in-None.ensures j (omega arith) l e))

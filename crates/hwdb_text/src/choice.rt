@@ -1,0 +1,118 @@
+//! The choice of files: which names count, which folder each is taken from, and their priorities.
+ghost use Rattle.std.specs.Prelude.{◌≡◌, ◌<◌, ◌≤◌, length, map, All, IfOk, OnOk};
+ghost use Rattle.std.specs.Result.{IsErrOf};
+ghost use Rattle.std.specs.String.{string_bytes};
+ghost use Rattle.hwdb_text.specs.Choice.{choice_of, path_of, names, IsListed};
+ghost use Rattle.hwdb_text.specs.Choice;
+ghost use Rattle.hwdb_text.specs.Storable.{IsStorableChoice};
+ghost use Rattle.hwdb_text.specs.Choosing.{put_all, entry_of, with_priorities};
+
+use crate::line::{begins_with, end_of};
+use crate::outcome::TextError;
+use std::alloc::{AllocError, Global};
+use std::collections::BTreeMap;
+
+/// How many files may be chosen: as many as there are priorities.
+const MOST_FILES: usize = 65535;
+
+/// A file that was chosen.
+#[derive(Debug, Drop, PartialEq, Eq)]
+pub struct Chosen {
+    /// Whether it stands in /etc; else it stands in /usr/lib.
+    pub from_etc: bool,
+    /// Its name in its folder.
+    pub name: String,
+    /// One plus the number of chosen files with a smaller name.
+    pub priority: u16,
+}
+
+impl Chosen {
+    /// The stored path: the folder, without the root that the program was given, and the name.
+    pub fn path(&self, alloc: Global) -> Result<String, AllocError>
+        ensures { IfOk result (λ path. string_bytes path ≡ path_of (choice_of self.now)) }
+    {
+        let mut path = String::new(alloc);
+        if self.from_etc {
+            path.push_str("/etc/udev/hwdb.d/")?;
+            path.push_str(&self.name)?;
+            return Ok(path);
+        }
+        path.push_str("/usr/lib/udev/hwdb.d/")?;
+        path.push_str(&self.name)?;
+        Ok(path)
+    }
+}
+
+/// Whether a name counts: it ends in `.hwdb`, doesn't begin with `.` and holds no byte 0.
+fn counts(name: &[u8]) -> bool
+    ensures { result ≡ Choice.counts name.now }
+{
+    if !name.ends_with(b".hwdb") {
+        return false;
+    }
+    if begins_with(b'.', name) {
+        return false;
+    }
+    end_of(0, name) == name.len()
+}
+
+/// Puts the names of a folder that count among the others; a name that is there already is taken from this folder.
+fn put<'a>(
+    names: &mut BTreeMap<&'a str, bool>,
+    list: &'a [String],
+    from_etc: bool,
+) -> Result<(), AllocError>
+    ensures { OnOk result (map entry_of names.new.entries
+        ≡ put_all from_etc (map string_bytes list.now) (map entry_of names.old.entries)) }
+{
+    for name in list {
+        if counts(name.as_bytes()) {
+            names.insert(name.as_str(), from_etc)?;
+        }
+    }
+    Ok(())
+}
+
+/// The chosen files by priority (hwdb(7)), of the names that the folders in /etc and in /usr/lib list, in any order.
+///
+/// # Errors
+///
+/// `TooManyFiles` where more than 65,535 files are chosen; `Memory` where a growth was refused.
+pub fn select(alloc: Global, etc: &[String], usr: &[String]) -> Result<Vec<Chosen>, TextError>
+    ensures chosen { IfOk result (λ chosen. map choice_of chosen.items
+        ≡ Choice.choice (map string_bytes etc.now) (map string_bytes usr.now)) }
+    ensures listed { IfOk result (λ chosen. All (IsListed (map string_bytes etc.now) (map string_bytes usr.now)) (map choice_of chosen.items)) }
+    ensures storable { IfOk result (λ chosen. All IsStorableChoice (map choice_of chosen.items)) }
+    ensures few { IfOk result (λ _. length (names (map string_bytes etc.now) (map string_bytes usr.now)) ≤ 65535) }
+    ensures too_many { IsErrOf result TextError.TooManyFiles
+        → 65535 < length (names (map string_bytes etc.now) (map string_bytes usr.now)) }
+    ensures never_too_many_lines { IsErrOf result TextError.TooManyLines → ⊥ }
+{
+    let mut held = BTreeMap::new(alloc);
+    put(&mut held, usr, false)?;
+    put(&mut held, etc, true)?;
+    if held.len() > MOST_FILES {
+        return Err(TextError::TooManyFiles);
+    }
+    Ok(list(alloc, held)?)
+}
+
+/// The names with their priorities.
+fn list(alloc: Global, held: BTreeMap<&str, bool>) -> Result<Vec<Chosen>, AllocError>
+    requires { length held.entries ≤ 65535 }
+    ensures { IfOk result (λ chosen. map choice_of chosen.items
+        ≡ with_priorities 1 (map entry_of held.entry.entries)) }
+{
+    let mut chosen = Vec::new(alloc);
+    let mut priority = 0;
+    for (name, from_etc) in held {
+        priority += 1;
+        let name = String::from_str(alloc, name)?;
+        chosen.push(Chosen {
+            from_etc,
+            name,
+            priority,
+        })?;
+    }
+    Ok(chosen)
+}

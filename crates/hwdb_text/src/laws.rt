@@ -1,0 +1,69 @@
+//! More about the definitions, in words of their own. These functions do nothing: what each of them ensures is a law.
+ghost use Rattle.hwdb_text.specs.Rows.{FaultRows, AssignmentRows, ChoiceRows, PathRows};
+ghost use Rattle.hwdb_text.specs.Laws.{NamesAreThoseThatCount, NamesAscend, OneAscendingList, FaultsAreAll, FaultsAscend, PrioritiesCountUp, AssignmentsStandByLine};
+
+/// A name is chosen if it counts and one of the folders lists it, and no others are.
+#[tactic(auto, using(crate::proofs::NameSets::names_are_those_that_count))]
+pub fn names_are_those_that_count()
+    ensures { NamesAreThoseThatCount }
+{}
+
+/// The chosen names ascend by their bytes, so that none stands twice.
+#[tactic(auto, using(crate::proofs::NameSets::names_ascend))]
+pub fn names_ascend()
+    ensures { NamesAscend }
+{}
+
+/// A set of names has one ascending list.
+#[tactic(auto, using(crate::proofs::NameSets::one_ascending_list))]
+pub fn one_ascending_list()
+    ensures { OneAscendingList }
+{}
+
+/// The faults of a file are all that its lines and records have, each as often as it stands there.
+#[tactic(auto, using(crate::proofs::FaultOrder::faults_are_all))]
+pub fn faults_are_all()
+    ensures { FaultsAreAll }
+{}
+
+/// They ascend by line and then by number.
+#[tactic(auto, using(crate::proofs::FaultOrder::faults_ascend))]
+pub fn faults_ascend()
+    ensures { FaultsAscend }
+{}
+
+/// The priorities are 1, 2, 3 and so on.
+#[tactic(auto, using(crate::proofs::Ordered::priorities_count_up))]
+pub fn priorities_count_up()
+    ensures { PrioritiesCountUp }
+{}
+
+/// The assignments of a file stand by the lines of their properties.
+#[tactic(auto, using(crate::proofs::Ordered::assignments_stand_by_line))]
+pub fn assignments_stand_by_line()
+    ensures { AssignmentsStandByLine }
+{}
+
+/// The faults of files, at worked rows.
+#[tactic(auto, using(crate::proofs::Computed::fault_rows_hold))]
+pub fn fault_rows()
+    ensures { FaultRows }
+{}
+
+/// The assignments of files, at worked rows.
+#[tactic(auto, using(crate::proofs::Computed::assignment_rows_hold))]
+pub fn assignment_rows()
+    ensures { AssignmentRows }
+{}
+
+/// The choice of files, at worked rows.
+#[tactic(auto, using(crate::proofs::Computed::choice_rows_hold))]
+pub fn choice_rows()
+    ensures { ChoiceRows }
+{}
+
+/// The stored paths, at worked rows.
+#[tactic(auto, using(crate::proofs::Computed::path_rows_hold))]
+pub fn path_rows()
+    ensures { PathRows }
+{}

@@ -1,0 +1,290 @@
+//! The lines of a file, one after the other: records, what they assign, and what is wrong with them.
+//!
+//! `Reads` says what was read of the lines so far; each method keeps it.
+ghost use Rattle.std.specs.Prelude.{◌≡◌, ◌++◌, List, [], ◌∷◌, map, drop, IfOk, OnOk, IsTrue};
+ghost use Rattle.hwdb_text.specs.Lines;
+ghost use Rattle.hwdb_text.specs.Assignments.{Origin, assigned, given, text_of, property_assignments, section_assignments};
+ghost use Rattle.hwdb_text.specs.Faults.{property_faults, long_faults, section_faults, spoilt_faults, in_order};
+ghost use Rattle.hwdb_text.specs.Assignments;
+ghost use Rattle.hwdb_text.specs.Reading.{origin_of, Closes, Holds, AtStart, Reads, gives};
+
+use crate::line::{Content, content_of, end_of, unindented};
+use crate::outcome::{Assignment, Fault, FaultKind, Parsed};
+use std::alloc::{AllocError, Global};
+
+/// How long a match line may be, in bytes.
+const LONGEST_MATCH: usize = 4096;
+
+/// The file that is read.
+#[derive(Clone, Copy)]
+pub struct Source<'p> {
+    /// Its stored path.
+    pub path: &'p [u8],
+    pub priority: u16,
+}
+
+/// What was read last in the block.
+#[derive(Clone, Copy)]
+enum Stage {
+    /// Nothing that a property could belong to.
+    Start,
+    /// Match lines.
+    Matches,
+    /// Match lines and properties.
+    Properties,
+}
+
+/// What was read of a file.
+#[derive(Drop)]
+pub struct Reader<'b> {
+    stage: Stage,
+    /// The number of the first match line of the run.
+    first: u32,
+    /// The match lines of the run that aren't too long.
+    patterns: Vec<&'b [u8]>,
+    assignments: Vec<Assignment>,
+    /// The faults of dropped lines.
+    spoilt: Vec<Fault>,
+    /// The faults of the records.
+    faults: Vec<Fault>,
+}
+
+/// A copy of some bytes.
+fn copy(alloc: Global, bytes: &[u8]) -> Result<Vec<u8>, AllocError>
+    ensures { IfOk result (λ copied. copied.items ≡ bytes.now) }
+{
+    let mut copied = Vec::new(alloc);
+    copied.extend_from_slice(bytes)?;
+    Ok(copied)
+}
+
+/// Appends one assignment with each of the patterns.
+fn assign(
+    alloc: Global,
+    source: Source,
+    line: u32,
+    key: &[u8],
+    value: &[u8],
+    patterns: &[&[u8]],
+    assignments: &mut Vec<Assignment>,
+) -> Result<(), AllocError>
+    ensures { OnOk result (map assigned assignments.new.items
+        ≡ map assigned assignments.old.items
+        ++ map (given (origin_of source.entry) line key.now value.now) (map text_of patterns.now)) }
+{
+    for pattern in patterns {
+        let assignment = Assignment {
+            priority: source.priority,
+            line,
+            pattern: copy(alloc, pattern)?,
+            key: copy(alloc, key)?,
+            value: copy(alloc, value)?,
+            path: copy(alloc, source.path)?,
+        };
+        assignments.push(assignment)?;
+    }
+    Ok(())
+}
+
+/// Reads a clean property line that belongs to match lines with these patterns.
+fn property(
+    alloc: Global,
+    source: Source,
+    text: &[u8],
+    line: u32,
+    patterns: &[&[u8]],
+    assignments: &mut Vec<Assignment>,
+    faults: &mut Vec<Fault>,
+) -> Result<(), AllocError>
+    ensures assignments { OnOk result (map assigned assignments.new.items
+        ≡ map assigned assignments.old.items
+        ++ property_assignments (origin_of source.entry) (map text_of patterns.now) (Lines.line line text.now)) }
+    ensures faults { OnOk result (faults.new.items ≡ faults.old.items ++ property_faults (Lines.line line text.now)) }
+{
+    let body = unindented(text);
+    let equals = end_of(b'=', body);
+    if equals == body.len() {
+        faults.push(Fault {
+            line,
+            kind: FaultKind::NoEquals,
+        })?;
+        return Ok(());
+    }
+    if equals == 0 {
+        faults.push(Fault {
+            line,
+            kind: FaultKind::EmptyKey,
+        })?;
+        return Ok(());
+    }
+    let key = &body[..equals];
+    let value = &body[equals + 1..];
+    assign(alloc, source, line, key, value, patterns, assignments)
+}
+
+/// Reads a match line that belongs to a run.
+fn pattern<'b>(
+    text: &'b [u8],
+    line: u32,
+    patterns: &mut Vec<&'b [u8]>,
+    faults: &mut Vec<Fault>,
+) -> Result<(), AllocError>
+    ensures patterns { OnOk result (map text_of patterns.new.items
+        ≡ map text_of patterns.old.items ++ Assignments.patterns (Lines.line line text.now ∷ [])) }
+    ensures faults { OnOk result (faults.new.items ≡ faults.old.items ++ long_faults (Lines.line line text.now)) }
+{
+    if text.len() > LONGEST_MATCH {
+        faults.push(Fault {
+            line,
+            kind: FaultKind::LongMatch,
+        })?;
+    } else {
+        patterns.push(text)?;
+    }
+    Ok(())
+}
+
+impl<'b> Reader<'b> {
+    /// Nothing is read yet.
+    pub fn new(alloc: Global) -> Reader<'b>
+        ensures { (o : Origin) → (whole : List Lines.Line) → Reads o whole whole result }
+    {
+        Reader {
+            stage: Stage::Start,
+            first: 0,
+            patterns: Vec::new(alloc),
+            assignments: Vec::new(alloc),
+            spoilt: Vec::new(alloc),
+            faults: Vec::new(alloc),
+        }
+    }
+
+    /// Ends the block: at an empty line, or at the end of the file.
+    fn end(&mut self) -> Result<(), AllocError>
+        ensures closed { OnOk result ((o : Origin) → (whole rest : List Lines.Line) → Closes rest
+            → Holds o whole rest self.old → AtStart o whole (drop 1 rest) self.new) }
+        ensures start { OnOk result (self.new.stage ≡ Stage.Start) }
+        ensures spoilt { self.new.spoilt ≡ self.old.spoilt }
+    {
+        if let Stage::Matches = self.stage {
+            self.faults.push(Fault {
+                line: self.first,
+                kind: FaultKind::NoProperty,
+            })?;
+            self.stage = Stage::Start;
+            return Ok(());
+        }
+        self.stage = Stage::Start;
+        Ok(())
+    }
+
+    /// Reads a clean property line.
+    fn property_line(
+        &mut self,
+        alloc: Global,
+        source: Source,
+        text: &[u8],
+        line: u32,
+    ) -> Result<(), AllocError>
+        requires { IsTrue (Lines.is_property (Lines.line line text.now)) }
+        ensures held { OnOk result ((whole rest : List Lines.Line)
+            → Holds (origin_of source.entry) whole (Lines.line line text.now ∷ rest) self.old
+            → Holds (origin_of source.entry) whole rest self.new) }
+        ensures spoilt { self.new.spoilt ≡ self.old.spoilt }
+    {
+        if let Stage::Start = self.stage {
+            self.faults.push(Fault {
+                line,
+                kind: FaultKind::StrayProperty,
+            })?;
+            return Ok(());
+        }
+        self.stage = Stage::Properties;
+        property(
+            alloc,
+            source,
+            text,
+            line,
+            &self.patterns,
+            &mut self.assignments,
+            &mut self.faults,
+        )
+    }
+
+    /// Reads a clean match line.
+    fn match_line(&mut self, text: &'b [u8], line: u32) -> Result<(), AllocError>
+        requires { IsTrue (Lines.is_match (Lines.line line text.now)) }
+        ensures held { OnOk result ((o : Origin) → (whole rest : List Lines.Line)
+            → Holds o whole (Lines.line line text.now ∷ rest) self.old
+            → Holds o whole rest self.new) }
+        ensures spoilt { self.new.spoilt ≡ self.old.spoilt }
+    {
+        match self.stage {
+            Stage::Start => {
+                self.stage = Stage::Matches;
+                self.first = line;
+                self.patterns.clear();
+                pattern(text, line, &mut self.patterns, &mut self.faults)
+            }
+            Stage::Matches => pattern(text, line, &mut self.patterns, &mut self.faults),
+            Stage::Properties => {
+                self.stage = Stage::Start;
+                self.faults.push(Fault {
+                    line,
+                    kind: FaultKind::StrayMatch,
+                })?;
+                if text.len() > LONGEST_MATCH {
+                    self.faults.push(Fault {
+                        line,
+                        kind: FaultKind::LongMatch,
+                    })?;
+                }
+                Ok(())
+            }
+        }
+    }
+
+    /// Reads the next line.
+    pub fn line(
+        &mut self,
+        alloc: Global,
+        source: Source,
+        text: &'b [u8],
+        line: u32,
+    ) -> Result<(), AllocError>
+        ensures { OnOk result ((whole rest : List Lines.Line)
+            → Reads (origin_of source.entry) whole (Lines.line line text.now ∷ rest) self.old
+            → Reads (origin_of source.entry) whole rest self.new) }
+    {
+        match content_of(text) {
+            Content::Comment => Ok(()),
+            Content::ZeroByte => Ok(
+                self.spoilt.push(Fault {
+                    line,
+                    kind: FaultKind::ZeroByte,
+                })?,
+            ),
+            Content::Empty => self.end(),
+            Content::Property(clean) => self.property_line(alloc, source, clean, line),
+            Content::Match(clean) => self.match_line(clean, line),
+        }
+    }
+
+    /// What the file gives, behind its last line.
+    pub fn finish(mut self) -> Result<Parsed, AllocError>
+        ensures assignments { IfOk result (λ parsed. (o : Origin) → (whole : List Lines.Line) → Reads o whole [] self.entry
+            → map assigned parsed.assignments.items ≡ gives (section_assignments o) (Lines.clean whole)) }
+        ensures faults { IfOk result (λ parsed. (o : Origin) → (whole : List Lines.Line) → Reads o whole [] self.entry
+            → parsed.faults.items
+            ≡ in_order (spoilt_faults whole ++ gives section_faults (Lines.clean whole))) }
+    {
+        self.end()?;
+        let mut faults = self.spoilt;
+        faults.extend_from_slice(&self.faults)?;
+        faults.sort()?;
+        Ok(Parsed {
+            assignments: self.assignments,
+            faults,
+        })
+    }
+}

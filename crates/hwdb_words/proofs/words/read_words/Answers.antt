@@ -1,0 +1,25 @@
+use Rattle.std.proofs.Common.{◌≡◌, ◌∙◌, ap, sym, subst, true, map, string_bytes, List, option_map, Option, Some}
+use Rattle.clap.specs.Walk.{Row, Text, rows_of}
+use Rattle.clap.specs.Matches.{found_of}
+use Rattle.clap.specs.Simple.{App, is_simple, matches_of, subcommand_of, subcommand_rows, subcommand_rows_of}
+use Rattle.clap.specs.Takes.{takes}
+use Rattle.clap.specs.declared.parser.matches.ArgMatches.TheViews.{out-ArgMatches}
+use Rattle.hwdb_words.specs.Line.{hwdb_app}
+use Rattle.hwdb_words.specs.Jobs.{IsJob, IsJobOf}
+use Rattle.hwdb_words.proofs.Found.{name_in_rows, job_found}
+use Rattle.hwdb_words.proofs.words.read_words.Goals as goal
+
+pub returns-in-Err-clause-taken : goal.returns-in-Err-clause-taken
+returns-in-Err-clause-taken c = λ t. c.fault_of.ensures (c.in-Err.ensures.passes (ap (λ (a : App). takes a (map string_bytes c.args.words.now)) c.in_ok-command.ensures ∙ t))
+
+pub returns-in-Some-clause-job : goal.returns-in-Some-clause-job
+returns-in-Some-clause-job c =
+    let words = map string_bytes c.args.words.now in
+    let exact = c.in-Ok.ensures.matches (ap is_simple c.in_ok-command.ensures) in
+    let top_is : rows_of (found_of c.in-Ok.matches) ≡ matches_of hwdb_app words = exact.0 ∙ ap (λ (a : App). matches_of a words) c.in_ok-command.ensures in
+    let sub_is : subcommand_rows_of c.in-Ok.matches ≡ subcommand_of hwdb_app words = exact.1 ∙ ap (λ (a : App). subcommand_of a words) c.in_ok-command.ensures in
+    let found : IsJobOf (rows_of (found_of c.in-Ok.matches)) (subcommand_rows_of c.in-Ok.matches) c.in_ok-job-in-Some.job =
+    job_found _ _ _ _ _ (c.in-Some.ensures.name ∙ name_in_rows (out-ArgMatches c.in-Ok.matches).subcommand) c.in-Some.ensures.rows c.in_ok-job-in-Some.ensures in
+    let P : List Row → Type 0 = λ rows. IsJobOf rows (subcommand_of hwdb_app words) c.in_ok-job-in-Some.job in
+    let Q : Option (Text × List Row) → Type 0 = λ sub. IsJobOf (rows_of (found_of c.in-Ok.matches)) sub c.in_ok-job-in-Some.job in
+    subst P top_is (subst Q sub_is found)

@@ -1,0 +1,14 @@
+//! The command line of `hwdb`: what its words ask for.
+//!
+//! `command` is the command as `clap` is given it, after systemd-hwdb(8) with two commands of our own;
+//! `words` reads a job off `clap`'s matches.
+#![tactic(auto)]
+
+mod command;
+mod job;
+#[cfg(test)]
+mod tests;
+mod words;
+
+pub use job::{Job, Task, WordsFault};
+pub use words::read_words;

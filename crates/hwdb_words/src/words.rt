@@ -1,0 +1,165 @@
+//! What the words ask for, by the exact matches that `clap` finds.
+ghost use Rattle.std.specs.Prelude.{◌≡◌, IfOk, IfErr, IsErrOf, true, map, string_bytes, option_map, unwrap_or, codes};
+ghost use Rattle.clap.specs.Walk.{first_of, one_of, rows_of};
+ghost use Rattle.clap.specs.Matches.{found_of};
+ghost use Rattle.clap.specs.Simple.{matches_of, subcommand_of};
+ghost use Rattle.clap.specs.Takes.{takes};
+ghost use Rattle.clap.specs.Values.{kind_of};
+ghost use Rattle.hwdb_words.specs.Line.{hwdb_app};
+ghost use Rattle.hwdb_words.specs.Jobs.{IsJob, IsJobOf, IsLimit, IsTask, has_flag, or_else, text_or_empty};
+ghost use Rattle.hwdb_words.specs.declared.job.WordsFault.TheVariants.{Memory};
+
+use crate::command::hwdb_command;
+use crate::job::{Job, Task, WordsFault};
+use clap::error::ErrorKind;
+use clap::{ArgMatches, Error};
+use std::alloc::{AllocError, Global};
+
+/// The first value of the argument.
+fn text_of<'a>(matches: &ArgMatches<'a>, id: &str) -> Option<&'a str>
+    ensures { option_map (λ s. s.now) result ≡ first_of id.now (rows_of (found_of matches.now)) }
+{
+    matches.get_str(id)
+}
+
+/// Whether the flag stands there.
+fn has_flag(matches: &ArgMatches<'_>, id: &str) -> bool
+    ensures { result ≡ has_flag id.now (rows_of (found_of matches.now)) }
+{
+    match text_of(matches, id) {
+        Some(text) => text == "true",
+        None => false,
+    }
+}
+
+/// A text, copied.
+fn copied(alloc: Global, text: Option<&str>) -> Result<Option<String>, AllocError>
+    ensures { IfOk result (λ r. option_map string_bytes r ≡ option_map (λ s. s.now) text.entry) }
+{
+    match text {
+        None => Ok(None),
+        Some(text) => Ok(Some(String::from_str(alloc, text)?)),
+    }
+}
+
+/// The first value of the argument, copied.
+fn text_copied(alloc: Global, matches: &ArgMatches<'_>, id: &str) -> Result<String, AllocError>
+    ensures { IfOk result (λ r. string_bytes r ≡ text_or_empty id.now (rows_of (found_of matches.now))) }
+{
+    match text_of(matches, id) {
+        Some(text) => Ok(String::from_str(alloc, text)?),
+        None => Ok(String::new(alloc)),
+    }
+}
+
+/// The number that `--limit` gives.
+fn limit_of(inner: &ArgMatches<'_>) -> Option<u64>
+    ensures { IsLimit (one_of (codes "limit") (rows_of (found_of inner.now))) result }
+{
+    inner.get_one::<u64>("limit")
+}
+
+/// The task of `list`.
+fn list_task(alloc: Global, inner: &ArgMatches<'_>) -> Result<Task, AllocError>
+    ensures { IfOk result (IsTask (codes "list") (rows_of (found_of inner.now))) }
+{
+    let after = copied(alloc, text_of(inner, "after"))?;
+    let limit = limit_of(inner);
+    let device = text_copied(alloc, inner, "MODALIAS")?;
+    Ok(Task::List {
+        after,
+        limit,
+        device,
+    })
+}
+
+/// The task of the subcommand with its matches.
+fn task_of(alloc: Global, name: &str, inner: &ArgMatches<'_>) -> Result<Task, AllocError>
+    ensures { IfOk result (IsTask name.now (rows_of (found_of inner.now))) }
+{
+    if name == "query" {
+        let device = text_copied(alloc, inner, "MODALIAS")?;
+        Ok(Task::Query { device })
+    } else if name == "ask" {
+        let file = text_copied(alloc, inner, "FILE")?;
+        let device = text_copied(alloc, inner, "MODALIAS")?;
+        Ok(Task::Ask { file, device })
+    } else if name == "list" {
+        Ok(list_task(alloc, inner)?)
+    } else {
+        Ok(Task::Update)
+    }
+}
+
+/// The root: the one behind the subcommand counts before the one in front.
+fn root_of(
+    alloc: Global,
+    top: &ArgMatches<'_>,
+    inner: &ArgMatches<'_>,
+) -> Result<Option<String>, AllocError>
+    ensures { IfOk result (λ r. option_map string_bytes r
+        ≡ or_else (first_of (codes "root") (rows_of (found_of inner.now))) (first_of (codes "root") (rows_of (found_of top.now)))) }
+{
+    match text_of(inner, "root") {
+        Some(root) => Ok(Some(String::from_str(alloc, root)?)),
+        None => Ok(copied(alloc, text_of(top, "root"))?),
+    }
+}
+
+/// The job of the whole command line.
+fn job_of(
+    alloc: Global,
+    top: &ArgMatches<'_>,
+    name: &str,
+    inner: &ArgMatches<'_>,
+) -> Result<Job, AllocError>
+    ensures { IfOk result (IsJob (rows_of (found_of top.now)) name.now (rows_of (found_of inner.now))) }
+{
+    let task = task_of(alloc, name, inner)?;
+    let root = root_of(alloc, top, inner)?;
+    let usr = has_flag(inner, "usr") || has_flag(top, "usr");
+    let strict = has_flag(inner, "strict") || has_flag(top, "strict");
+    Ok(Job {
+        usr,
+        strict,
+        root,
+        task,
+    })
+}
+
+/// What is told of words that the command doesn't take.
+fn fault_of(alloc: Global, error: &Error) -> WordsFault
+    ensures { kind_of error.now ≡ ErrorKind.OutOfMemory → result ≡ Memory }
+{
+    let kind = error.kind();
+    if kind == ErrorKind::OutOfMemory {
+        return WordsFault::Memory;
+    }
+    match error.to_string(alloc) {
+        Err(_) => WordsFault::Memory,
+        Ok(text) if kind == ErrorKind::DisplayHelp => WordsFault::Help { text },
+        Ok(text) => WordsFault::Usage { text },
+    }
+}
+
+/// What the words ask for; the first is the program's name. Words that the command doesn't take give
+/// `WordsFault::Usage` with a text that says why, `--help` gives `WordsFault::Help`.
+pub fn read_words(alloc: Global, words: &[String]) -> Result<Job, WordsFault>
+    ensures job { IfOk result (IsJobOf (matches_of hwdb_app (map string_bytes words.now)) (subcommand_of hwdb_app (map string_bytes words.now))) }
+    ensures taken { IfErr result (λ e. takes hwdb_app (map string_bytes words.now) ≡ true → e ≡ Memory) }
+{
+    let command = hwdb_command(alloc)?;
+    let matches = match command.try_get_matches_from(words) {
+        Ok(matches) => matches,
+        Err(error) => return Err(fault_of(alloc, &error)),
+    };
+    match matches.subcommand() {
+        Some((name, inner)) => {
+            let job = job_of(alloc, &matches, name, inner)?;
+            Ok(job)
+        }
+        None => Err(WordsFault::Usage {
+            text: String::new(alloc),
+        }),
+    }
+}
