@@ -11,10 +11,11 @@ all:
 	cp crates/hwdb/out/hwdb out/hwdb
 
 demo: all
-	out/hwdb ask examples/workshop.hwdb 'usb:v1209p0007d0101'
+	out/hwdb ask examples/workshop.hwdb usb:v1209p0007d0101
 
 check:
 	rt ci
+	tests/refused
 	$(MAKE) all
 	tests/runs out/hwdb
 

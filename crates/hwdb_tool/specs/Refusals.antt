@@ -1,8 +1,12 @@
 -- Which refusals each call answers. Our choice.
 use Rattle.hwdb_text.specs.declared.outcome.TextError.{TextError}
 use Rattle.hwdb_text.specs.declared.outcome.TextError.TheVariants as text
+use Rattle.hwdb_query.specs.declared.errors.QueryError.{QueryError}
+use Rattle.hwdb_query.specs.declared.errors.QueryError.TheVariants as query
+use Rattle.hwdb_query.specs.declared.errors.CompileError.{CompileError}
+use Rattle.hwdb_query.specs.declared.errors.CompileError.TheVariants as compiling
 use Rattle.hwdb_tool.specs.declared.errors.ToolError.{ToolError}
-use Rattle.hwdb_tool.specs.declared.errors.ToolError.TheVariants.{Read, Write, TooLong, TooManyFiles, TooManyLines, Memory}
+use Rattle.hwdb_tool.specs.declared.errors.ToolError.TheVariants.{Read, Write, TooLong, TooManyFiles, TooManyLines, TooLarge, BadPosition, PageZero, BadDatabase, Memory}
 
 -- a refusal of the text files' crate, as one of this crate
 abbrev pub refusal_of_text : TextError → ToolError
@@ -10,16 +14,22 @@ refusal_of_text text.TooManyFiles = TooManyFiles
 refusal_of_text text.TooManyLines = TooManyLines
 refusal_of_text text.Memory = Memory
 
+-- a refusal of the compiler
+abbrev pub refusal_of_compile : CompileError → ToolError
+refusal_of_compile compiling.TooManyFiles = TooManyFiles
+refusal_of_compile compiling.TooManyLines = TooManyLines
+refusal_of_compile compiling.TooLarge = TooLarge
+refusal_of_compile compiling.Memory = Memory
+
+-- a refusal of positions and cursors
+abbrev pub refusal_of_query : QueryError → ToolError
+refusal_of_query query.PageZero = PageZero
+refusal_of_query query.BadPosition = BadPosition
+refusal_of_query query.Memory = Memory
+
 -- what reading a source to its end may answer
 abbrev pub IsReadRefusal : ToolError → Type 0
 IsReadRefusal Read = Unit {0}
 IsReadRefusal TooLong = Unit {0}
 IsReadRefusal Memory = Unit {0}
 IsReadRefusal _ = ⊥
-
--- what answering from one text file may answer
-abbrev pub IsAskRefusal : ToolError → Type 0
-IsAskRefusal TooManyLines = Unit {0}
-IsAskRefusal Write = Unit {0}
-IsAskRefusal Memory = Unit {0}
-IsAskRefusal _ = ⊥

@@ -1,20 +1,49 @@
-//! Which properties one text file gives a device.
-ghost use Rattle.std.specs.Prelude.{◌≡◌, ◌≢◌, ◌⊎◌, ◌≤◌, IfErr, IsErrOf};
+//! What `ask` does with one text file.
+ghost use Rattle.std.specs.Prelude.{◌≡◌, ◌≢◌, ◌⊎◌, ◌∷◌, [], IfOk, IfErr, OnOk, IsErrOf};
+ghost use Rattle.hwdb_query.specs.Compiling.{sources};
 ghost use Rattle.hwdb_tool.specs.Devices.{HasFailed};
-ghost use Rattle.hwdb_tool.specs.Refusals.{IsAskRefusal};
+ghost use Rattle.hwdb_tool.specs.Updates.{lone, IsAnswerOf, Asked, AskCutShort, IsAskRefusal};
 
 use crate::devices::Sink;
+use crate::engines::{MAX_BYTES, properties_of};
 use crate::errors::ToolError;
-use crate::texts::{fault_lines, property_lines};
+use crate::texts::fault_lines_at;
 use crate::transfer::write_text;
-use hwdb_pattern::glob;
-use hwdb_text::{Assignment, parse};
+use hwdb_query::{SourceFile, compile};
 use std::alloc::{AllocError, Global};
-use std::collections::BTreeMap;
 
-/// Writes the fault lines of the file's bytes to `err`, with `file` as the path, and then the properties of
-/// the device to `out`: `KEY=VALUE` for each key that a matching record gives, ascending by key, with the
-/// last value in the file. Nothing of `out` is written before the fault lines are whole.
+/// The texts that one file gives: its fault lines, and the properties of a device.
+#[derive(Drop)]
+struct Answer {
+    faults: Vec<u8>,
+    properties: Vec<u8>,
+}
+
+/// The bytes as a file of etc.
+fn lone(alloc: Global, bytes: &[u8]) -> Result<SourceFile, AllocError>
+    ensures { IfOk result (λ file. sources (file ∷ []) ≡ lone bytes.now) }
+{
+    Ok(SourceFile {
+        name: String::from_str(alloc, "1.hwdb")?,
+        bytes: bytes.to_vec(alloc)?,
+    })
+}
+
+/// What the file gives.
+fn answer_of(alloc: Global, file: &str, bytes: &[u8], device: &[u8]) -> Result<Answer, ToolError>
+    ensures answer { IfOk result (λ a. IsAnswerOf file.now bytes.now device.now a.faults.items a.properties.items) }
+    ensures refusals { IfErr result (λ e. (e ≢ ToolError.Write) × IsAskRefusal bytes.now MAX_BYTES e) }
+{
+    let source = lone(alloc, bytes)?;
+    let compiled = compile(alloc, &[source], &[], MAX_BYTES)?;
+    let faults = fault_lines_at(alloc, file.as_bytes(), &compiled.faults)?;
+    let properties = properties_of(alloc, &compiled.database, device)?;
+    Ok(Answer { faults, properties })
+}
+
+/// Answers from one text file alone, as the etc file `1.hwdb`: writes its fault lines to `err`, with `file`
+/// as the path, and then the properties of the device to `out`: `KEY=VALUE` for each key, ascending by
+/// key. Nothing of `out` is written before the fault lines are whole.
 pub fn ask<O: Sink, E: Sink>(
     alloc: Global,
     file: &str,
@@ -23,29 +52,16 @@ pub fn ask<O: Sink, E: Sink>(
     out: &mut O,
     err: &mut E,
 ) -> Result<(), ToolError>
-    ensures refusals { IfErr result IsAskRefusal }
+    ensures asked { OnOk result (Asked file.now bytes.now device.now (E.taken err.old) (E.taken err.new) (O.taken out.old) (O.taken out.new)) }
+
+    ensures refusals { IfErr result (IsAskRefusal bytes.now MAX_BYTES) }
     ensures cause { IsErrOf result ToolError.Write
         → HasFailed (E.failures err.old) (E.failures err.new) ⊎ HasFailed (O.failures out.old) (O.failures out.new) }
+    ensures cut_short { IsErrOf result ToolError.Write
+        → AskCutShort file.now bytes.now device.now (E.taken err.old) (E.taken err.new) (O.taken out.old) (O.taken out.new) }
     ensures untouched { IfErr result (λ e. e ≢ ToolError.Write → (err.new ≡ err.old) × (out.new ≡ out.old)) }
 {
-    let parsed = parse(alloc, file.as_bytes(), 1, bytes)?;
-    let faults = fault_lines(alloc, file, &parsed.faults)?;
-    let answer = answer_of(alloc, &parsed.assignments, device)?;
-    write_text(err, faults.as_bytes())?;
-    write_text(out, &answer)
-}
-
-/// The text of the properties that the assignments, in the order of their lines, give the device.
-fn answer_of(
-    alloc: Global,
-    assignments: &[Assignment],
-    device: &[u8],
-) -> Result<Vec<u8>, AllocError> {
-    let mut properties: BTreeMap<&[u8], &[u8]> = BTreeMap::new(alloc);
-    for assignment in assignments {
-        if glob(&assignment.pattern, device) {
-            properties.insert(&assignment.key, &assignment.value)?;
-        }
-    }
-    property_lines(alloc, properties)
+    let answer = answer_of(alloc, file, bytes, device)?;
+    write_text(err, &answer.faults)?;
+    write_text(out, &answer.properties)
 }

@@ -1,8 +1,10 @@
 //! Why a call of this crate refuses.
 ghost use Rattle.std.specs.Prelude.{◌≡◌};
-ghost use Rattle.hwdb_tool.specs.declared.errors.ToolError.TheVariants.{Memory};
-ghost use Rattle.hwdb_tool.specs.Refusals.{refusal_of_text};
+ghost use Rattle.hwdb_tool.specs.declared.errors.ToolError.TheVariants.{Memory, BadDatabase};
+ghost use Rattle.hwdb_tool.specs.Refusals.{refusal_of_text, refusal_of_compile, refusal_of_query};
 
+use hwdb_query::{CompileError, QueryError};
+use hwdb_reader::DbFault;
 use hwdb_text::TextError;
 use std::alloc::AllocError;
 use thiserror::Error;
@@ -25,6 +27,18 @@ pub enum ToolError {
     /// A file has more than 4,294,967,295 lines.
     #[error("a file has more than 4294967295 lines")]
     TooManyLines,
+    /// The database would have more bytes than the limit.
+    #[error("the database would be larger than the limit")]
+    TooLarge,
+    /// A text spells no position.
+    #[error("bad position")]
+    BadPosition,
+    /// A cursor's page was 0; the engines don't make such a cursor.
+    #[error("page of 0 hits")]
+    PageZero,
+    /// Bytes are no database.
+    #[error("bad database")]
+    BadDatabase(DbFault),
     /// A growth of memory was refused.
     #[error("out of memory")]
     Memory,
@@ -38,6 +52,14 @@ impl From<AllocError> for ToolError {
     }
 }
 
+impl From<DbFault> for ToolError {
+    ghost from_gives = { λ fault e. e ≡ BadDatabase fault };
+
+    fn from(fault: DbFault) -> ToolError {
+        ToolError::BadDatabase(fault)
+    }
+}
+
 impl From<TextError> for ToolError {
     ghost from_gives = { λ text e. e ≡ refusal_of_text text };
 
@@ -46,6 +68,31 @@ impl From<TextError> for ToolError {
             TextError::TooManyFiles => ToolError::TooManyFiles,
             TextError::TooManyLines => ToolError::TooManyLines,
             TextError::Memory => ToolError::Memory,
+        }
+    }
+}
+
+impl From<CompileError> for ToolError {
+    ghost from_gives = { λ compiling e. e ≡ refusal_of_compile compiling };
+
+    fn from(error: CompileError) -> ToolError {
+        match error {
+            CompileError::TooManyFiles => ToolError::TooManyFiles,
+            CompileError::TooManyLines => ToolError::TooManyLines,
+            CompileError::TooLarge => ToolError::TooLarge,
+            CompileError::Memory => ToolError::Memory,
+        }
+    }
+}
+
+impl From<QueryError> for ToolError {
+    ghost from_gives = { λ query e. e ≡ refusal_of_query query };
+
+    fn from(error: QueryError) -> ToolError {
+        match error {
+            QueryError::PageZero => ToolError::PageZero,
+            QueryError::BadPosition => ToolError::BadPosition,
+            QueryError::Memory => ToolError::Memory,
         }
     }
 }

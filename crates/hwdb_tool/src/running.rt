@@ -1,24 +1,33 @@
 //! The program: its words, its files, its status and its refusal lines.
-ghost use Rattle.std.specs.Prelude.{◌≤◌};
+ghost use Rattle.std.specs.Prelude.{◌≡◌, ◌≤◌};
 
 use crate::asking::ask;
 use crate::devices::Sink;
+use crate::engines::{MAX_BYTES, run_list, run_query};
 use crate::errors::ToolError;
-use crate::files::bytes_of;
+use crate::files::{OutFile, bytes_of, names_in};
+use crate::refusals::{Refusal, refuse, refuse_for};
 use crate::transfer::write_text;
-use std::alloc::Global;
+use crate::updating::run_update;
+use hwdb_query::SourceFile;
+use hwdb_text::{Chosen, select};
+use hwdb_words::{Job, Task, WordsFault, read_words};
+use std::alloc::{AllocError, Global};
 use std::rt::Files;
 
-/// What `ask FILE MODALIAS` is asked.
-#[derive(Clone, Copy)]
-struct Question<'w> {
-    file: &'w str,
-    device: &'w str,
-}
+const ETC_FILES: &str = "/etc/udev/hwdb.d";
+
+const USR_FILES: &str = "/usr/lib/udev/hwdb.d";
+
+const ETC_FOLDER: &str = "/etc/udev";
+
+const USR_FOLDER: &str = "/usr/lib/udev";
+
+const DATABASE: &str = "/hwdb.bin";
 
 /// Does what the words say, the first of which is the program's name, and answers the status: 0, or 1
-/// after a refusal, whose line goes to `err`.
-pub fn program<R: Files, O: Sink, E: Sink>(
+/// after a refusal, whose line goes to `err`, and where `--strict` says so.
+pub fn program<R: Files + Alloc + Clone + Drop, O: Sink, E: Sink>(
     rt: &R,
     alloc: Global,
     words: &[String],
@@ -29,72 +38,185 @@ where
     R::File: Drop,
     ensures { result ≤ 1 }
 {
-    let Some(question) = question_of(words) else {
-        return refuse(err, &["hwdb: usage"]);
-    };
-    match answer(rt, alloc, &question, out, err) {
-        Ok(()) => 0,
-        Err(error) => refuse_for(error, question.file, err),
+    match read_words(alloc, words) {
+        Ok(job) => match run(rt, alloc, &job, out, err) {
+            Ok(is_faulty) => u8::from(is_faulty),
+            Err(refusal) => refuse_for(&refusal, err),
+        },
+        Err(WordsFault::Help { text }) => match write_text(out, text.as_bytes()) {
+            Ok(()) => 0,
+            Err(_) => refuse(err, &["hwdb: cannot write"]),
+        },
+        Err(WordsFault::Usage { text }) => {
+            let _ = write_text(err, text.as_bytes());
+            1
+        }
+        Err(WordsFault::Memory) => refuse(err, &["hwdb: out of memory"]),
     }
 }
 
-/// The words `ask FILE MODALIAS`, behind the program's name.
-fn question_of<'w>(words: &'w [String]) -> Option<Question<'w>> {
-    match words {
-        [_, command, file, device] if command.as_str() == "ask" => Some(Question {
-            file: file.as_str(),
-            device: device.as_str(),
-        }),
-        _ => None,
-    }
-}
-
-/// Reads the file and answers from it.
-fn answer<R: Files, O: Sink, E: Sink>(
+/// Does the job, and answers whether `--strict` ends it with status 1.
+fn run<R: Files + Alloc + Clone + Drop, O: Sink, E: Sink>(
     rt: &R,
     alloc: Global,
-    question: &Question<'_>,
+    job: &Job,
     out: &mut O,
     err: &mut E,
-) -> Result<(), ToolError>
+) -> Result<bool, Refusal>
 where
     R::File: Drop,
 {
-    let bytes = bytes_of(alloc, rt, question.file)?;
-    ask(
-        alloc,
-        question.file,
-        &bytes,
-        question.device.as_bytes(),
-        out,
-        err,
-    )
-}
-
-/// Writes the line of a refusal, whose path, if it has one, is the one given. Takes no memory.
-fn refuse_for<E: Sink>(error: ToolError, path: &str, err: &mut E) -> u8
-    ensures { result ≤ 1 }
-{
-    match error {
-        ToolError::Read => refuse(err, &["hwdb: cannot read ", path]),
-        ToolError::Write => refuse(err, &["hwdb: cannot write"]),
-        ToolError::TooLong => refuse(err, &["hwdb: ", path, " is longer than 268435456 bytes"]),
-        ToolError::TooManyFiles => refuse(err, &["hwdb: more than 65535 files"]),
-        ToolError::TooManyLines => refuse(err, &["hwdb: a file has more than 4294967295 lines"]),
-        ToolError::Memory => refuse(err, &["hwdb: out of memory"]),
-    }
-}
-
-/// Writes a line, given in pieces, and answers the status of a refusal. Where `err` fails, nothing more
-/// can be said.
-fn refuse<E: Sink>(err: &mut E, pieces: &[&str]) -> u8
-    ensures { result ≤ 1 }
-{
-    for piece in pieces {
-        if write_text(err, piece.as_bytes()).is_err() {
-            return 1;
+    let root = match &job.root {
+        Some(root) => root.as_str(),
+        None => "",
+    };
+    match &job.task {
+        Task::Update => return update(rt, alloc, root, job, err),
+        Task::Query { device } => {
+            let bytes = database(rt, alloc, root)?;
+            run_query(alloc, &bytes, device.as_bytes(), out)?;
+        }
+        Task::Ask { file, device } => {
+            let bytes = file_bytes(rt, alloc, file.as_str())?;
+            ask(alloc, file.as_str(), &bytes, device.as_bytes(), out, err)?;
+        }
+        Task::List {
+            after,
+            limit,
+            device,
+        } => {
+            let bytes = database(rt, alloc, root)?;
+            let after = after.as_ref().map(|text| text.as_str());
+            run_list(alloc, &bytes, device.as_bytes(), after, *limit, out)?;
         }
     }
-    let _ = write_text(err, b"\n");
-    1
+    Ok(false)
+}
+
+/// Two texts as one path.
+fn joined(alloc: Global, front: &str, back: &str) -> Result<String, AllocError> {
+    let mut path = String::from_str(alloc, front)?;
+    path.push_str(back)?;
+    Ok(path)
+}
+
+/// All bytes of a file that has to be there.
+fn file_bytes<R: Files>(rt: &R, alloc: Global, path: &str) -> Result<Vec<u8>, Refusal>
+where
+    R::File: Drop,
+{
+    match bytes_of(alloc, rt, path) {
+        Ok(Some(bytes)) => Ok(bytes),
+        Ok(None) => Err(Refusal::at(alloc, ToolError::Read, path)),
+        Err(error) => Err(Refusal::at(alloc, error, path)),
+    }
+}
+
+/// The database below the root: the one of `/etc`, else the one of `/usr/lib`.
+fn database<R: Files>(rt: &R, alloc: Global, root: &str) -> Result<Vec<u8>, Refusal>
+where
+    R::File: Drop,
+{
+    for folder in [ETC_FOLDER, USR_FOLDER] {
+        let mut path = joined(alloc, root, folder)?;
+        path.push_str(DATABASE)?;
+        match bytes_of(alloc, rt, path.as_str()) {
+            Ok(Some(bytes)) => return Ok(bytes),
+            Ok(None) => {}
+            Err(error) => return Err(Refusal::at(alloc, error, path.as_str())),
+        }
+    }
+    Err(Refusal::NoDatabase)
+}
+
+/// The names in a folder below the root.
+fn listed<R: Files + Alloc + Clone + Drop>(
+    rt: &R,
+    alloc: Global,
+    root: &str,
+    folder: &str,
+) -> Result<Vec<String>, Refusal> {
+    let path = joined(alloc, root, folder)?;
+    match names_in(alloc, rt, path.as_str()) {
+        Ok(names) => Ok(names),
+        Err(error) => Err(Refusal::at(alloc, error, path.as_str())),
+    }
+}
+
+/// The chosen files of both folders, read.
+#[derive(Drop)]
+struct Sources {
+    etc: Vec<SourceFile>,
+    usr: Vec<SourceFile>,
+}
+
+impl Sources {
+    /// Adds a file to those of its folder.
+    fn add(&mut self, chosen: Chosen, bytes: Vec<u8>) -> Result<(), AllocError> {
+        let Chosen {
+            from_etc,
+            name,
+            priority: _,
+        } = chosen;
+        let files = if from_etc {
+            &mut self.etc
+        } else {
+            &mut self.usr
+        };
+        files.push(SourceFile { name, bytes })?;
+        Ok(())
+    }
+}
+
+/// Reads the chosen files: a masked one isn't read.
+fn read_chosen<R: Files>(
+    rt: &R,
+    alloc: Global,
+    root: &str,
+    chosen: Vec<Chosen>,
+) -> Result<Sources, Refusal>
+where
+    R::File: Drop,
+{
+    let mut sources = Sources {
+        etc: Vec::new(alloc),
+        usr: Vec::new(alloc),
+    };
+    for file in chosen {
+        let path = joined(alloc, root, file.path(alloc)?.as_str())?;
+        let bytes = file_bytes(rt, alloc, path.as_str())?;
+        sources.add(file, bytes)?;
+    }
+    Ok(sources)
+}
+
+/// Compiles the text files of both folders into the database of one, and answers whether `--strict` ends
+/// it with status 1.
+fn update<R: Files + Alloc + Clone + Drop, E: Sink>(
+    rt: &R,
+    alloc: Global,
+    root: &str,
+    job: &Job,
+    err: &mut E,
+) -> Result<bool, Refusal>
+where
+    R::File: Drop,
+{
+    let etc = listed(rt, alloc, root, ETC_FILES)?;
+    let usr = listed(rt, alloc, root, USR_FILES)?;
+    let chosen = select(alloc, &etc, &usr).map_err(ToolError::from)?;
+    let sources = read_chosen(rt, alloc, root, chosen)?;
+    let folder = joined(alloc, root, if job.usr { USR_FOLDER } else { ETC_FOLDER })?;
+    let path = joined(alloc, folder.as_str(), DATABASE)?;
+    let mut file = OutFile::new(rt, folder.as_str(), path.as_str());
+    let status = run_update(
+        alloc,
+        &sources.etc,
+        &sources.usr,
+        MAX_BYTES,
+        job.strict,
+        &mut file,
+        err,
+    )?;
+    Ok(status != 0)
 }

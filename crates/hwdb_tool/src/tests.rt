@@ -1,4 +1,6 @@
 //! Worked examples of reading, writing and asking.
+mod commands;
+
 use crate::asking::ask;
 use crate::errors::ToolError;
 use crate::fixed::{Endless, GivenBytes, TakenBytes};

@@ -1,29 +1,97 @@
-//! The texts that are printed: fault lines, and properties.
-use hwdb_text::Fault;
-use std::alloc::{AllocError, Global};
-use std::collections::BTreeMap;
+//! The texts that are printed: properties, lines of hits, fault lines.
+ghost use Rattle.std.specs.Prelude.{◌≡◌, ◌++◌, map, IfOk, OnOk};
+ghost use Rattle.hwdb_query.specs.Compiling.{fault_of};
+ghost use Rattle.hwdb_query.specs.Hits.{found_of_hit};
+ghost use Rattle.hwdb_query.specs.Pairs.{pairs_bytes};
+ghost use Rattle.hwdb_tool.specs.Texts.{property_text, properties_text, hit_text, place_text, fault_line, faults_text, faults_text_at};
 
-/// A line for each fault: the path, `:`, the line's number, `: `, what is wrong.
-pub fn fault_lines(alloc: Global, path: &str, faults: &[Fault]) -> Result<String, AllocError> {
-    let mut text = String::new(alloc);
-    for fault in faults {
-        let line = format!(in alloc; "{}:{}: {}\n", path, fault.line, fault.kind.text())?;
-        text.push_str(line.as_str())?;
+use hwdb_query::{FileFault, Hit};
+use hwdb_text::Fault;
+use itoa::Buffer;
+use std::alloc::{AllocError, Global};
+
+/// A line `KEY=VALUE` for each property.
+pub fn property_lines(alloc: Global, properties: &[(&[u8], &[u8])]) -> Result<Vec<u8>, AllocError>
+    ensures { IfOk result (λ text. text.items ≡ properties_text (pairs_bytes properties.now)) }
+{
+    let mut text = Vec::new(alloc);
+    for (key, value) in properties {
+        push_property(&mut text, key, value)?;
     }
     Ok(text)
 }
 
-/// A line `KEY=VALUE` for each property, ascending by key.
-pub fn property_lines(
-    alloc: Global,
-    properties: BTreeMap<&[u8], &[u8]>,
-) -> Result<Vec<u8>, AllocError> {
+/// Adds `KEY=VALUE` and a newline.
+fn push_property(text: &mut Vec<u8>, key: &[u8], value: &[u8]) -> Result<(), AllocError>
+    ensures { OnOk result (text.new.items ≡ text.old.items ++ property_text (key.now, value.now)) }
+{
+    text.extend_from_slice(key)?;
+    text.push(b'=')?;
+    text.extend_from_slice(value)?;
+    text.push(b'\n')?;
+    Ok(())
+}
+
+/// The line of a hit: its position, a tab, the pattern, a tab, the property.
+pub fn hit_line(alloc: Global, hit: &Hit<'_>) -> Result<Vec<u8>, AllocError>
+    ensures { IfOk result (λ line. line.items ≡ hit_text (found_of_hit hit.now)) }
+{
+    let position = hit.position(alloc)?;
+    let position = position.write(alloc)?;
+    let mut line = Vec::new(alloc);
+    line.extend_from_slice(position.as_bytes())?;
+    line.push(b'\t')?;
+    line.extend_from_slice(&hit.pattern)?;
+    line.push(b'\t')?;
+    push_property(&mut line, hit.key, hit.value)?;
+    Ok(line)
+}
+
+/// Adds where a fault stands: the path, `:`, the line's number.
+fn push_place(text: &mut Vec<u8>, path: &[u8], line: u32) -> Result<(), AllocError>
+    ensures { OnOk result (text.new.items ≡ text.old.items ++ place_text path.now line) }
+{
+    let mut number = Buffer::new();
+    text.extend_from_slice(path)?;
+    text.push(b':')?;
+    text.extend_from_slice(number.format(line).as_bytes())?;
+    Ok(())
+}
+
+/// Adds the line of a fault: where it stands, `: `, what is wrong.
+fn push_fault(text: &mut Vec<u8>, path: &[u8], fault: Fault) -> Result<(), AllocError>
+    ensures { OnOk result (text.new.items ≡ text.old.items ++ fault_line path.now fault) }
+{
+    push_place(text, path, fault.line)?;
+    text.push(b':')?;
+    text.push(b' ')?;
+    text.extend_from_slice(fault.kind.text().as_bytes())?;
+    text.push(b'\n')?;
+    Ok(())
+}
+
+/// A line for each fault, with the stored path of its file.
+pub fn fault_lines(alloc: Global, faults: &[FileFault]) -> Result<Vec<u8>, AllocError>
+    ensures { IfOk result (λ text. text.items ≡ faults_text (map fault_of faults.now)) }
+{
     let mut text = Vec::new(alloc);
-    for (key, value) in properties {
-        text.extend_from_slice(key)?;
-        text.push(b'=')?;
-        text.extend_from_slice(value)?;
-        text.push(b'\n')?;
+    for found in faults {
+        push_fault(&mut text, &found.path, found.fault)?;
+    }
+    Ok(text)
+}
+
+/// A line for each fault, all with one path.
+pub fn fault_lines_at(
+    alloc: Global,
+    path: &[u8],
+    faults: &[FileFault],
+) -> Result<Vec<u8>, AllocError>
+    ensures { IfOk result (λ text. text.items ≡ faults_text_at path.now (map fault_of faults.now)) }
+{
+    let mut text = Vec::new(alloc);
+    for found in faults {
+        push_fault(&mut text, path, found.fault)?;
     }
     Ok(text)
 }

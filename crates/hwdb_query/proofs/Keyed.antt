@@ -1,0 +1,179 @@
+-- The effective list, as answers are put one after another.
+use Rattle.std.proofs.Common.{◌≡◌, ◌∙◌, ap, sym, refl, subst, ℕ, ◌+◌, ◌<◌, true, false, List, [], ◌∷◌, ◌++◌, map, reverse, filter, length, arith, append_assoc, Option, Some, None, cond, if◌then◌else◌}
+use Rattle.std.specs.Prelude.{find, min, IfOk, Result, Ok, Err}
+use Rattle.std.proofs.lemmas.List.{reverse-append, append-nil}
+use Rattle.std.specs.List.{AllByRecursion}
+use Rattle.std.specs.Borrow.{Bor}
+use Rattle.std.specs.declared.cmp.Ordering.{Ordering}
+use Rattle.std.specs.declared.cmp.Ordering.TheVariants.{Less, Equal, Greater}
+use Rattle.std.specs.Ordering.{match_ordering, is_eq, ordering_reverse}
+use Rattle.std.specs.Cmp.{IsTotalOrder}
+use Rattle.std.specs.BTreeMap.{insert_entry}
+use Rattle.std.specs.FinMap as finite
+use Rattle.std.proofs.lemmas.Cmp.{nat_list_cmp_total, tied_itself}
+use Rattle.hwdb_query.specs.Lists.{put, put_all, Ascends}
+use Rattle.hwdb_layout.specs.Tree.{Tree}
+use Rattle.hwdb_query.specs.Answers.{Found, is_after, is_behind, answers, answers_after}
+use Rattle.hwdb_query.specs.Effective.{key_cmp, key_of_answer, has_key, value_or_none, last_value, effective_of}
+use Rattle.hwdb_query.specs.declared.hit.Hit.{Hit}
+use Rattle.hwdb_query.specs.Hits.{found_of_hit, Gives}
+use Rattle.hwdb_query.specs.Pairs.{pair_bytes, pairs_bytes, put_values}
+use Rattle.hwdb_query.proofs.Putting.{ascends_all, all_above}
+
+key_total : IsTotalOrder key_cmp
+key_total = nat_list_cmp_total
+
+-- the value of a key when one more answer has come
+abbrev after_one : Found → (List ℕ → List ℕ) → List ℕ → List ℕ
+after_one f g key = if is_eq (key_cmp key f.spot.key) then f.value else g key
+
+abbrev listed : (List ℕ → List ℕ) → List (List ℕ) → List (List ℕ × List ℕ)
+listed g keys = map (λ key. (key, g key)) keys
+
+last_value_one : (xs : List Found) (f : Found) (key : List ℕ) → last_value (xs ++ f ∷ []) key ≡ after_one f (last_value xs) key
+unfolding last_value
+last_value_one xs f key =
+    ap (λ l. value_or_none (find (has_key key) l)) (reverse-append xs (f ∷ []))
+    ∙ elim (is_eq (key_cmp key f.spot.key)) as (λ b. value_or_none (cond b (Some f) (find (has_key key) (reverse xs))) ≡ (if b then f.value else value_or_none (find (has_key key) (reverse xs)))) [
+      | true ↦ refl
+      | false ↦ refl
+    ]
+
+listed_alike : (g h : List ℕ → List ℕ) (keys : List (List ℕ)) → ((key : List ℕ) → g key ≡ h key) → listed g keys ≡ listed h keys
+listed_alike g h [] same = refl
+listed_alike g h (k ∷ keys) same = ap (λ v. (k, v) ∷ listed g keys) (same k) ∙ ap (λ l. (k, h k) ∷ l) (listed_alike g h keys same)
+
+equal_flipped : (a b : List ℕ) (o : Ordering) → key_cmp a b ≡ o → key_cmp b a ≡ ordering_reverse o
+equal_flipped a b o e = key_total.antisymm b a ∙ ap ordering_reverse e
+
+-- keys above the new answer's keep their values
+above_alike : (f : Found) (g : List ℕ → List ℕ) (keys : List (List ℕ)) → AllByRecursion (λ k. key_cmp f.spot.key k ≡ Less) keys → listed (after_one f g) keys ≡ listed g keys
+above_alike f g [] all = refl
+above_alike f g (k ∷ keys) all =
+    ap (λ o. (k, (if is_eq o then f.value else g k)) ∷ listed (after_one f g) keys) (equal_flipped f.spot.key k Less all.0)
+    ∙ ap (λ l. (k, g k) ∷ l) (above_alike f g keys all.1)
+
+same_key : (a b : List ℕ) → key_cmp a b ≡ Equal → a ≡ b
+same_key a b e = finite.slice_cmp-IsAntisymmetric finite.nat_cmp-IsAntisymmetric a b e
+
+-- one more answer is put at its key
+put_listed : (f : Found) (g : List ℕ → List ℕ) (keys : List (List ℕ)) → Ascends key_cmp keys
+    → listed (after_one f g) (put key_cmp f.spot.key keys) ≡ insert_entry key_cmp (listed g keys) f.spot.key f.value
+unfolding put Ascends
+put_listed f g [] up = ap (λ o. (f.spot.key, (if is_eq o then f.value else g f.spot.key)) ∷ []) (tied_itself key_total f.spot.key)
+put_listed f g (k ∷ keys) up =
+    let key = f.spot.key in
+    let again : listed (after_one f g) (put key_cmp key keys) ≡ insert_entry key_cmp (listed g keys) key f.value = put_listed f g keys up.1 in
+    let above : (x : List ℕ) → key_cmp key k ≡ Less → AllByRecursion (λ y. key_cmp key y ≡ Less) keys = λ x e. all_above key_cmp key_total key k keys e up.0 in
+    elim (key_cmp key k) as (λ o. key_cmp key k ≡ o → listed (after_one f g) (match_ordering o (key ∷ k ∷ keys) (k ∷ keys) (k ∷ put key_cmp key keys))
+    ≡ match_ordering o ((key, f.value) ∷ (k, g k) ∷ listed g keys) ((k, f.value) ∷ listed g keys) ((k, g k) ∷ insert_entry key_cmp (listed g keys) key f.value)) [
+      | Less ↦ λ e.
+          ap (λ o. (key, (if is_eq o then f.value else g key)) ∷ listed (after_one f g) (k ∷ keys)) (tied_itself key_total key)
+          ∙ ap (λ l. (key, f.value) ∷ l) (above_alike f g (k ∷ keys) (e, above k e))
+      | Equal ↦ λ e.
+          ap (λ o. (k, (if is_eq o then f.value else g k)) ∷ listed (after_one f g) keys) (equal_flipped key k Equal e)
+          ∙ ap (λ l. (k, f.value) ∷ l) (above_alike f g keys (subst (λ j. AllByRecursion (λ y. key_cmp j y ≡ Less) keys) (sym (same_key key k e)) up.0))
+      | Greater ↦ λ e.
+          ap (λ o. (k, (if is_eq o then f.value else g k)) ∷ listed (after_one f g) (put key_cmp key keys)) (equal_flipped key k Greater e)
+          ∙ ap (λ l. (k, g k) ∷ l) again
+    ] refl
+
+put_all_append : (xs ys l : List (List ℕ)) → put_all key_cmp (xs ++ ys) l ≡ put_all key_cmp ys (put_all key_cmp xs l)
+unfolding put_all
+put_all_append [] ys l = refl
+put_all_append (x ∷ xs) ys l = put_all_append xs ys (put key_cmp x l)
+
+map_append : (xs ys : List Found) → map key_of_answer (xs ++ ys) ≡ map key_of_answer xs ++ map key_of_answer ys
+map_append [] ys = refl
+map_append (x ∷ xs) ys = ap (λ l. key_of_answer x ∷ l) (map_append xs ys)
+
+none_ascends : let none : List (List ℕ) = [] in Ascends key_cmp none
+unfolding Ascends
+none_ascends = tt
+
+-- one more answer
+effective_one : (xs : List Found) (f : Found) → effective_of (xs ++ f ∷ []) ≡ insert_entry key_cmp (effective_of xs) f.spot.key f.value
+unfolding effective_of put_all
+effective_one xs f =
+    let keys = put_all key_cmp (map key_of_answer xs) [] in
+    let all : put_all key_cmp (map key_of_answer (xs ++ f ∷ [])) [] ≡ put key_cmp f.spot.key keys =
+    ap (λ l. put_all key_cmp l []) (map_append xs (f ∷ [])) ∙ put_all_append (map key_of_answer xs) (f.spot.key ∷ []) [] in
+    ap (listed (last_value (xs ++ f ∷ []))) all
+    ∙ listed_alike (last_value (xs ++ f ∷ [])) (after_one f (last_value xs)) (put key_cmp f.spot.key keys) (last_value_one xs f)
+    ∙ put_listed f (last_value xs) keys (ascends_all key_cmp key_total (map key_of_answer xs) [] none_ascends)
+
+effective_more : (xs ys : List Found) → put_values (effective_of xs) ys ≡ effective_of (xs ++ ys)
+unfolding put_values
+effective_more xs [] = ap effective_of (sym (append-nil xs))
+effective_more xs (f ∷ ys) =
+    ap (λ l. put_values l ys) (sym (effective_one xs f)) ∙ effective_more (xs ++ f ∷ []) ys ∙ ap effective_of (append_assoc xs (f ∷ []) ys)
+
+none_effective : effective_of [] ≡ []
+unfolding effective_of put_all
+none_effective = refl
+
+-- the answers, put one after another
+pub all_put : (xs : List Found) → put_values [] xs ≡ effective_of xs
+all_put xs = ap (λ l. put_values l xs) (sym none_effective) ∙ effective_more [] xs
+
+-- an entry of a map of slices is put where its bytes go
+pub bytes_put : (entries : List (Bor (List ℕ) × Bor (List ℕ))) (key value : Bor (List ℕ))
+    → pairs_bytes (insert_entry (λ (a : Bor (List ℕ)) (b : Bor (List ℕ)). key_cmp a.now b.now) entries key value) ≡ insert_entry key_cmp (pairs_bytes entries) key.now value.now
+bytes_put [] key value = refl
+bytes_put (e ∷ entries) key value =
+    let again = bytes_put entries key value in
+    elim (key_cmp key.now e.0.now) as (λ o. pairs_bytes (match_ordering o ((key, value) ∷ e ∷ entries) ((e.0, value) ∷ entries) (e ∷ insert_entry (λ (a : Bor (List ℕ)) (b : Bor (List ℕ)). key_cmp a.now b.now) entries key value))
+    ≡ match_ordering o ((key.now, value.now) ∷ pair_bytes e ∷ pairs_bytes entries) ((e.0.now, value.now) ∷ pairs_bytes entries) (pair_bytes e ∷ insert_entry key_cmp (pairs_bytes entries) key.now value.now)) [
+      | Less ↦ refl
+      | Equal ↦ refl
+      | Greater ↦ ap (λ l. pair_bytes e ∷ l) again
+    ]
+
+-- a hit is taken, and its value put at its key
+pub one_more : (before after : List (Bor (List ℕ) × Bor (List ℕ))) (to_come left : List Found) (hit : Hit) (all : List (List ℕ × List ℕ))
+    → put_values (pairs_bytes before) to_come ≡ all → to_come ≡ found_of_hit hit ∷ left
+    → after ≡ insert_entry (λ (a : Bor (List ℕ)) (b : Bor (List ℕ)). key_cmp a.now b.now) before hit.key hit.value
+    → put_values (pairs_bytes after) left ≡ all
+unfolding put_values
+one_more before after to_come left hit all whole taken inserted =
+    ap (λ (e : List (Bor (List ℕ) × Bor (List ℕ))). put_values (pairs_bytes e) left) inserted
+    ∙ ap (λ l. put_values l left) (bytes_put before hit.key hit.value)
+    ∙ sym (ap (put_values (pairs_bytes before)) taken) ∙ whole
+
+-- nothing more is to come
+pub no_more : (kept : List (List ℕ × List ℕ)) (to_come : List Found) (all : List (List ℕ × List ℕ)) → put_values kept to_come ≡ all → to_come ≡ [] → kept ≡ all
+unfolding put_values
+no_more kept to_come all whole none = sym (ap (put_values kept) none) ∙ whole
+
+pub none_left : (to_come : List Found) → length to_come ≡ 0 → to_come ≡ []
+none_left [] h = refl
+none_left (f ∷ more) h = absurd (omega arith)
+
+-- a page that came short was the last one
+pub short_page : (was held page : ℕ) (to_come left : List Found) (f : Found) → to_come ≡ f ∷ left → held + 1 ≡ min page (length to_come) → page ≡ 64
+    → was ≡ held → was + 1 < 64 → held ≡ length left
+short_page was held page to_come left f taken filled is64 same short = let n = ap length taken in omega (arith, n)
+
+-- what is held is all that is to come
+pub still_last : (before held : ℕ) (to_come left : List Found) (f : Found) → to_come ≡ f ∷ left → held + 1 ≡ before → before ≡ length to_come → held ≡ length left
+still_last before held to_come left f taken fewer last = let n = ap length taken in omega (arith, n)
+
+-- where no hit is given nothing was to come
+pub nothing_given : (before after : List Found) (r : Option Hit) → ((x : Hit) → r ≡ Some x → ⊥) → Gives before after r → before ≡ []
+nothing_given before after (Some x) never g = absurd (never x refl)
+nothing_given before after None never g = g.0
+
+all_behind : (fs : List Found) → filter (is_behind None) fs ≡ fs
+unfolding is_after
+all_behind [] = refl
+all_behind (f ∷ fs) = ap (λ l. f ∷ l) (all_behind fs)
+
+-- without a position all answers are to come
+pub from_the_first : (device : List ℕ) (t : Tree) → answers_after device None t ≡ answers device t
+unfolding answers_after
+from_the_first device t = all_behind (answers device t)
+
+pub shown_list : {A E : Type 0} (items : A → List (Bor (List ℕ) × Bor (List ℕ))) (r : Result A E) (entries : List (Bor (List ℕ) × Bor (List ℕ))) (all : List (List ℕ × List ℕ))
+    → pairs_bytes entries ≡ all → IfOk r (λ list. items list ≡ entries) → IfOk r (λ list. pairs_bytes (items list) ≡ all)
+shown_list items (Ok list) entries all is same = ap pairs_bytes same ∙ is
+shown_list items (Err e) entries all is same = tt

@@ -1,0 +1,15 @@
+pub mod Putting
+pub mod Placing
+pub mod Parting
+pub mod Dead
+pub mod Orders
+pub mod Steps
+pub mod Resuming
+pub mod Distinct
+pub mod Members
+pub mod Gathered
+pub mod Latest
+pub mod Accepting
+pub mod Keyed
+pub mod Numbers
+pub mod Spelled

@@ -1,0 +1,45 @@
+-- The order of positions is total.
+use Rattle.std.proofs.Common.{◌≡◌, ◌∙◌, ap, sym, refl, true, List, ℕ, Option, Some, None, filter, [], take}
+use Rattle.std.specs.declared.cmp.Ordering.{Ordering}
+use Rattle.std.specs.declared.cmp.Ordering.TheVariants.{Less, Equal, Greater}
+use Rattle.std.specs.Ordering.{is_lt}
+use Rattle.std.specs.Cmp.{IsTotalOrder}
+use Rattle.std.proofs.lemmas.Cmp.{on_total, then_total, nat_cmp_total, nat_list_cmp_total, alike_right}
+use Rattle.hwdb_layout.specs.Tree.{Tree}
+use Rattle.hwdb_query.specs.Answers.{Spot, Found, spot_cmp, found_cmp, is_after, is_behind, is_wanted, wanted, answers, answers_after, members_under}
+use Rattle.hwdb_query.specs.Lists.{keep_all}
+use Rattle.hwdb_query.proofs.Putting.{Upward, filter_put_all, keep_least}
+
+pub spot_total : IsTotalOrder spot_cmp
+unfolding spot_cmp
+spot_total =
+    then_total (on_total (λ (s : Spot). s.priority) nat_cmp_total)
+    (then_total (on_total (λ (s : Spot). s.line) nat_cmp_total)
+    (then_total (on_total (λ (s : Spot). s.pattern) nat_list_cmp_total) (on_total (λ (s : Spot). s.key) nat_list_cmp_total)))
+
+pub found_total : IsTotalOrder found_cmp
+unfolding found_cmp
+found_total = on_total (λ (f : Found). f.spot) spot_total
+
+pub less_of : (o : Ordering) → is_lt o ≡ true → o ≡ Less
+less_of Less h = refl
+less_of Equal h = cc
+less_of Greater h = cc
+
+-- what is behind a position stays behind it further on
+pub behind_upward : (after : Option Spot) → Upward found_cmp (is_behind after)
+unfolding found_cmp is_after
+behind_upward None = record { less = λ x y h e. refl; same = λ x y h e. refl }
+behind_upward (Some p) =
+    record {
+      less = λ x y h e. ap is_lt (spot_total.trans p x.spot y.spot (less_of _ h) e);
+      same = λ x y h e. ap is_lt (sym (alike_right spot_total x.spot y.spot p e)) ∙ h;
+    }
+
+-- the least answers after a position are the least of what is wanted
+pub page_is : (page : ℕ) (device : List ℕ) (after : Option Spot) (t : Tree)
+    → keep_all found_cmp page (wanted device after (members_under [] t)) [] ≡ take page (answers_after device after t)
+unfolding wanted answers_after answers
+page_is page device after t =
+    keep_least found_cmp page (filter (is_behind after) (filter (is_wanted device) (members_under [] t)))
+    ∙ ap (take page) (sym (filter_put_all found_cmp (is_behind after) (behind_upward after) (filter (is_wanted device) (members_under [] t)) []))

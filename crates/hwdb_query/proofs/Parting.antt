@@ -1,0 +1,142 @@
+-- The assignments and live nodes of a tree, by the parts of its root.
+use Rattle.std.proofs.Common.{◌≡◌, ◌∙◌, ap, sym, refl, ℕ, zero, suc, ◌+◌, ◌≤◌, Bool, true, false, List, [], ◌∷◌, ◌++◌, drop, map, filter, length, arith, Option, Some, None, slice_get, option_map, if◌then◌else◌}
+use Rattle.std.specs.List.{flat_map}
+use Rattle.std.proofs.lemmas.Grind.{flat_map-append}
+use Rattle.std.proofs.lemmas.List.Elements.{filter-append}
+use Rattle.hwdb_layout.specs.Tree.{Tree, Children, Value, prefix_of, values_of, children_of, list_of, node_count, nodes_below}
+use Rattle.hwdb_layout.specs.Tree.Tree.{Node}
+use Rattle.hwdb_layout.specs.Tree.Children.{NoMore, Child}
+use Rattle.hwdb_layout.specs.Map.{values_under, values_below}
+use Rattle.hwdb_layout.specs.Map.{Shown, shown}
+use Rattle.hwdb_query.specs.Answers.{Spot, Found, found_cmp, one_found, found_shown, found_of, members_under, members_in, own_members, is_wanted, is_behind, wanted}
+use Rattle.hwdb_pattern.specs.Paths.{is_live}
+use Rattle.hwdb_query.specs.Answers.{is_match}
+use Rattle.hwdb_query.specs.Lists.{keep_all}
+use Rattle.hwdb_query.specs.Live.{live_under, live_below, live_in, nodes_in}
+use Rattle.hwdb_query.proofs.Putting.{filter_in, filter_out, keep_all_append}
+
+pub own_listed : (pattern : List ℕ) (values : List Value) → flat_map found_of (map (λ v. (pattern, v)) values) ≡ own_members pattern values
+own_listed pattern [] = refl
+own_listed pattern (v ∷ values) = ap (λ r. found_shown pattern (shown v) ++ r) (own_listed pattern values)
+
+pub below_listed : (path : List ℕ) (ks : Children) → flat_map found_of (values_below path ks) ≡ members_in path (list_of ks)
+unfolding values_below list_of
+below_listed path NoMore = refl
+below_listed path (Child byte t more) =
+    flat_map-append found_of (values_under (path ++ byte ∷ []) t) (values_below path more)
+    ∙ ap (λ r. members_under (path ++ byte ∷ []) t ++ r) (below_listed path more)
+
+pub members_split : (path : List ℕ) (t : Tree) → members_under path t ≡ own_members (path ++ prefix_of t) (values_of t) ++ members_in (path ++ prefix_of t) (children_of t)
+unfolding values_under prefix_of values_of children_of
+members_split path (Node prefix values children) =
+    flat_map-append found_of (map (λ v. (path ++ prefix, v)) values) (values_below (path ++ prefix) children)
+    ∙ ap (λ r. r ++ flat_map found_of (values_below (path ++ prefix) children)) (own_listed (path ++ prefix) values)
+    ∙ ap (λ r. own_members (path ++ prefix) values ++ r) (below_listed (path ++ prefix) children)
+
+pub wanted_append : (device : List ℕ) (after : Option Spot) (xs ys : List Found) → wanted device after (xs ++ ys) ≡ wanted device after xs ++ wanted device after ys
+unfolding wanted
+wanted_append device after xs ys =
+    ap (filter (is_behind after)) (filter-append (is_wanted device) xs ys) ∙ filter-append (is_behind after) (filter (is_wanted device) xs) (filter (is_wanted device) ys)
+
+-- what is kept of a node and of those below it
+pub kept_split : (most : ℕ) (device : List ℕ) (after : Option Spot) (path : List ℕ) (t : Tree) (old : List Found)
+    → keep_all found_cmp most (wanted device after (members_in (path ++ prefix_of t) (children_of t))) (keep_all found_cmp most (wanted device after (own_members (path ++ prefix_of t) (values_of t))) old)
+    ≡ keep_all found_cmp most (wanted device after (members_under path t)) old
+kept_split most device after path t old =
+    sym (keep_all_append found_cmp most (wanted device after (own_members (path ++ prefix_of t) (values_of t))) (wanted device after (members_in (path ++ prefix_of t) (children_of t))) old)
+    ∙ ap (λ l. keep_all found_cmp most l old)
+    (sym (wanted_append device after (own_members (path ++ prefix_of t) (values_of t)) (members_in (path ++ prefix_of t) (children_of t)))
+    ∙ ap (wanted device after) (sym (members_split path t)))
+
+one_wanted : (device pattern : List ℕ) (s : Shown) (o : Option (List ℕ)) → is_match device pattern ≡ true → filter (is_wanted device) (one_found pattern s o) ≡ one_found pattern s o
+one_wanted device pattern s None h = refl
+one_wanted device pattern s (Some key) h = filter_in (is_wanted device) _ [] h
+
+one_unwanted : (device pattern : List ℕ) (s : Shown) (o : Option (List ℕ)) → is_match device pattern ≡ false → filter (is_wanted device) (one_found pattern s o) ≡ []
+one_unwanted device pattern s None h = refl
+one_unwanted device pattern s (Some key) h = filter_out (is_wanted device) _ [] h
+
+pub own_wanted : (device pattern : List ℕ) (values : List Value) → is_match device pattern ≡ true → filter (is_wanted device) (own_members pattern values) ≡ own_members pattern values
+unfolding found_shown
+own_wanted device pattern [] h = refl
+own_wanted device pattern (v ∷ values) h =
+    filter-append (is_wanted device) (found_shown pattern (shown v)) (own_members pattern values)
+    ∙ ap (λ r. r ++ filter (is_wanted device) (own_members pattern values)) (one_wanted device pattern (shown v) (shown v).key h)
+    ∙ ap (λ r. found_shown pattern (shown v) ++ r) (own_wanted device pattern values h)
+
+pub own_unwanted : (device pattern : List ℕ) (values : List Value) → is_match device pattern ≡ false → filter (is_wanted device) (own_members pattern values) ≡ []
+unfolding found_shown
+own_unwanted device pattern [] h = refl
+own_unwanted device pattern (v ∷ values) h =
+    filter-append (is_wanted device) (found_shown pattern (shown v)) (own_members pattern values)
+    ∙ ap (λ r. r ++ filter (is_wanted device) (own_members pattern values)) (one_unwanted device pattern (shown v) (shown v).key h)
+    ∙ own_unwanted device pattern values h
+
+-- the value at a place, and those behind it
+pub own_next : (pattern : List ℕ) (values : List Value) (i : ℕ) (s : Shown) → option_map shown (slice_get values i) ≡ Some s
+    → own_members pattern (drop i values) ≡ found_shown pattern s ++ own_members pattern (drop (suc i) values)
+own_next pattern [] i s h = absurd (cc)
+own_next pattern (v ∷ values) zero s h = let e : shown v ≡ s = cc in ap (λ q. found_shown pattern q ++ own_members pattern values) e
+own_next pattern (v ∷ values) (suc i) s h = own_next pattern values i s h
+
+pub own_behind : (pattern : List ℕ) (values : List Value) (i : ℕ) → length values ≤ i → own_members pattern (drop i values) ≡ []
+own_behind pattern [] zero h = refl
+own_behind pattern [] (suc i) h = refl
+own_behind pattern (v ∷ values) zero h = absurd (omega arith)
+own_behind pattern (v ∷ values) (suc i) h = own_behind pattern values i (omega arith)
+
+-- the child at a place, and those behind it
+pub kid_next : (kids : List (ℕ × Tree)) (i : ℕ) (k : ℕ × Tree) → slice_get kids i ≡ Some k → drop i kids ≡ k ∷ drop (suc i) kids
+kid_next [] i k h = absurd (cc)
+kid_next (j ∷ kids) zero k h = let e : j ≡ k = cc in ap (λ q. q ∷ kids) e
+kid_next (j ∷ kids) (suc i) k h = kid_next kids i k h
+
+pub kid_behind : (kids : List (ℕ × Tree)) (i : ℕ) → length kids ≤ i → drop i kids ≡ []
+kid_behind [] zero h = refl
+kid_behind [] (suc i) h = refl
+kid_behind (k ∷ kids) zero h = absurd (omega arith)
+kid_behind (k ∷ kids) (suc i) h = kid_behind kids i (omega arith)
+
+pub kept_next : (most : ℕ) (device : List ℕ) (after : Option Spot) (path : List ℕ) (k : ℕ × Tree) (kids rest : List (ℕ × Tree)) (old : List Found) → kids ≡ k ∷ rest
+    → keep_all found_cmp most (wanted device after (members_in path kids)) old
+    ≡ keep_all found_cmp most (wanted device after (members_in path rest)) (keep_all found_cmp most (wanted device after (members_under (path ++ k.0 ∷ []) k.1)) old)
+kept_next most device after path k kids rest old e =
+    ap (λ q. keep_all found_cmp most (wanted device after (members_in path q)) old) e
+    ∙ ap (λ l. keep_all found_cmp most l old) (wanted_append device after (members_under (path ++ k.0 ∷ []) k.1) (members_in path rest))
+    ∙ keep_all_append found_cmp most (wanted device after (members_under (path ++ k.0 ∷ []) k.1)) (wanted device after (members_in path rest)) old
+
+live_listed : (device path : List ℕ) (ks : Children) → live_below device path ks ≡ live_in device path (list_of ks)
+unfolding live_below list_of
+live_listed device path NoMore = refl
+live_listed device path (Child byte t more) = ap (λ n. live_under device (path ++ byte ∷ []) t + n) (live_listed device path more)
+
+pub live_split : (device path : List ℕ) (t : Tree) → live_under device path t ≡ (if is_live (path ++ prefix_of t) device then 1 else 0) + live_in device (path ++ prefix_of t) (children_of t)
+unfolding live_under prefix_of children_of
+live_split device path (Node prefix values children) = ap (λ n. (if is_live (path ++ prefix) device then 1 else 0) + n) (live_listed device (path ++ prefix) children)
+
+nodes_listed : (ks : Children) → nodes_below ks ≡ nodes_in (list_of ks)
+unfolding node_count list_of
+nodes_listed NoMore = refl
+nodes_listed (Child byte tree more) = ap (λ n. node_count tree + n) (nodes_listed more)
+
+pub node_and_below : (t : Tree) → node_count t ≡ 1 + nodes_in (children_of t)
+unfolding node_count children_of
+node_and_below (Node prefix values children) = ap (λ n. 1 + n) (nodes_listed children)
+
+one_at_most : (b : Bool) → (if b then 1 else 0) ≤ 1
+one_at_most true = omega arith
+one_at_most false = omega arith
+
+mutual
+  unfolding live_under node_count
+
+  pub live_least : (device path : List ℕ) (t : Tree) → live_under device path t ≤ node_count t
+  live_least device path (Node prefix values children) =
+      let below = live_least_below device (path ++ prefix) children in
+      let here = one_at_most (is_live (path ++ prefix) device) in omega (arith, below, here)
+
+  live_least_below : (device path : List ℕ) (ks : Children) → live_below device path ks ≤ nodes_below ks
+  live_least_below device path NoMore = omega arith
+  live_least_below device path (Child byte t more) =
+      let here = live_least device (path ++ byte ∷ []) t in
+      let rest = live_least_below device path more in omega (arith, here, rest)

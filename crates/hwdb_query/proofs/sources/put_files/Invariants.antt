@@ -1,0 +1,10 @@
+use Rattle.std.proofs.Common.{◌≡◌, List, ℕ, length}
+use Rattle.hwdb_query.specs.Compiling.{sources, first_of}
+use Rattle.hwdb_query.specs.Reading.{bytes_at}
+use Rattle.hwdb_query.proofs.sources.put_files.Given as goal
+
+abbrev pub invariant-files : goal.invariant-files
+invariant-files l = (name : List ℕ) → first_of name (sources l.rest) (bytes_at l.index name) ≡ first_of name (sources l.fn.files) (bytes_at l.fn.index name)
+
+abbrev pub decreases-files : goal.decreases-files
+decreases-files l = length l.rest

@@ -1,0 +1,12 @@
+pub mod Lists
+pub mod Answers
+pub mod Hits
+pub mod Live
+pub mod Assigned
+pub mod Compiling
+pub mod Surviving
+pub mod Reading
+pub mod Conversions
+pub mod Effective
+pub mod Pairs
+pub mod Spelling

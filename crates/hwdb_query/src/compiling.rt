@@ -1,0 +1,132 @@
+//! The compiler: the files of two folders, made into one database.
+ghost use Rattle.std.specs.Prelude.{◌≡◌, ◌≤◌, ◌++◌, ℕ, List, map, length, All, IfOk, IfErr, OnOk};
+ghost use Rattle.std.specs.List.{flat_map};
+ghost use Rattle.hwdb_layout.specs.Tight.{IsDatabaseOf, IsWritten};
+ghost use Rattle.hwdb_text.specs.Assignments.{Assigned, assigned};
+ghost use Rattle.hwdb_text.specs.Choice.{choice_of};
+ghost use Rattle.hwdb_text.specs.Storable.{IsStorableChoice};
+ghost use Rattle.hwdb_query.specs.Compiling.{sources, surviving, map_of_files, file_assignments, file_faults, all_faults, fault_in, fault_of, FewLines, AreAccepted, IsRefusal};
+ghost use Rattle.hwdb_query.specs.Reading.{bytes_at, read_from, IsPuttable, IsFileRefusal, IsFilesRefusal};
+
+use crate::errors::CompileError;
+use crate::sources::{Compiled, FileFault, SourceFile, names, put_files};
+use hwdb_text::{Assignment, Chosen, Fault, parse, select};
+use hwdb_writer::{Tree, write};
+use std::alloc::{AllocError, Global};
+use std::collections::BTreeMap;
+
+/// Puts assignments into the tree, one after another.
+fn put_assignments(tree: &mut Tree, assignments: &[Assignment]) -> Result<(), AllocError>
+    requires { All IsPuttable (map assigned assignments.now) }
+    ensures { OnOk result ((done : List Assigned) → tree.old ≡ surviving done → tree.new ≡ surviving (done ++ map assigned assignments.now)) }
+{
+    for assignment in assignments {
+        tree.put(assignment)?;
+    }
+    Ok(())
+}
+
+/// Adds the faults of a file.
+fn add_faults(
+    alloc: Global,
+    path: &[u8],
+    found: &[Fault],
+    faults: &mut Vec<FileFault>,
+) -> Result<(), AllocError>
+    ensures { OnOk result (map fault_of faults.new.items ≡ map fault_of faults.old.items ++ map (fault_in path.now) found.now) }
+{
+    for fault in found {
+        let path = Vec::from_slice(alloc, path)?;
+        faults.push(FileFault {
+            path,
+            fault: *fault,
+        })?;
+    }
+    Ok(())
+}
+
+/// Reads a chosen file: its assignments into the tree, and its faults behind the others.
+fn add_file(
+    alloc: Global,
+    file: &Chosen,
+    bytes: &[u8],
+    tree: &mut Tree,
+    faults: &mut Vec<FileFault>,
+) -> Result<(), CompileError>
+    requires { IsStorableChoice (choice_of file.now) }
+    ensures tree { OnOk result ((done : List Assigned) → tree.old ≡ surviving done → tree.new ≡ surviving (done ++ file_assignments (λ _. bytes.now) (choice_of file.now))) }
+    ensures faults { OnOk result (map fault_of faults.new.items ≡ map fault_of faults.old.items ++ file_faults (λ _. bytes.now) (choice_of file.now)) }
+    ensures few { OnOk result (FewLines bytes.now) }
+    ensures refused { IfErr result (IsFileRefusal bytes.now) }
+{
+    let path = file.path(alloc)?;
+    let path = path.as_bytes();
+    let parsed = parse(alloc, path, file.priority, bytes)?;
+    put_assignments(tree, &parsed.assignments)?;
+    add_faults(alloc, path, &parsed.faults, faults)?;
+    Ok(())
+}
+
+/// Reads the chosen files, in the order of their priorities.
+fn add_files(
+    alloc: Global,
+    chosen: &[Chosen],
+    index: &BTreeMap<&str, &[u8]>,
+    tree: &mut Tree,
+    faults: &mut Vec<FileFault>,
+) -> Result<(), CompileError>
+    requires { All IsStorableChoice (map choice_of chosen.now) }
+    ensures tree { OnOk result ((done : List Assigned) → tree.old ≡ surviving done → tree.new ≡ surviving (done ++ flat_map (file_assignments (read_from index.now)) (map choice_of chosen.now))) }
+    ensures faults { OnOk result (map fault_of faults.new.items ≡ map fault_of faults.old.items ++ flat_map (file_faults (read_from index.now)) (map choice_of chosen.now)) }
+    ensures few { OnOk result (All (λ c. FewLines (read_from index.now c)) (map choice_of chosen.now)) }
+    ensures refused { IfErr result (IsFilesRefusal (read_from index.now) (map choice_of chosen.now)) }
+{
+    for file in chosen {
+        let bytes = bytes_of(index, &file.name);
+        add_file(alloc, file, bytes, tree, faults)?;
+    }
+    Ok(())
+}
+
+/// The bytes of a file in the index.
+fn bytes_of<'a>(index: &BTreeMap<&str, &'a [u8]>, name: &str) -> &'a [u8]
+    ensures { result.now ≡ bytes_at index.now name.now }
+{
+    match index.get(name) {
+        Some(bytes) => bytes,
+        None => &[],
+    }
+}
+
+/// Makes a database of the files of the folders in /etc and in /usr/lib: chooses them by their names, reads
+/// them in the order of their priorities, and writes what survives. Of several files of one name in one list
+/// the first counts.
+///
+/// Refuses with [`CompileError::TooManyFiles`] before all, then with [`CompileError::TooManyLines`], then with
+/// [`CompileError::TooLarge`] where the database has more than `max_bytes` bytes; with
+/// [`CompileError::Memory`] wherever memory is refused.
+pub fn compile(
+    alloc: Global,
+    etc: &[SourceFile],
+    usr: &[SourceFile],
+    max_bytes: u32,
+) -> Result<Compiled, CompileError>
+    ensures database { IfOk result (λ c. IsWritten (map_of_files (sources etc.now) (sources usr.now)) c.database.items) }
+    ensures checked { IfOk result (λ c. IsDatabaseOf (map_of_files (sources etc.now) (sources usr.now)) c.database.items) }
+    ensures within { IfOk result (λ c. length c.database.items ≤ max_bytes) }
+    ensures faults { IfOk result (λ c. map fault_of c.faults.items ≡ all_faults (sources etc.now) (sources usr.now)) }
+    ensures accepted { OnOk result (AreAccepted (sources etc.now) (sources usr.now)) }
+    ensures refused { IfErr result (IsRefusal (sources etc.now) (sources usr.now) max_bytes) }
+{
+    let etc_names = names(alloc, etc)?;
+    let usr_names = names(alloc, usr)?;
+    let chosen = select(alloc, &etc_names, &usr_names)?;
+    let mut index = BTreeMap::new(alloc);
+    put_files(&mut index, usr)?;
+    put_files(&mut index, etc)?;
+    let mut tree = Tree::new(alloc);
+    let mut faults = Vec::new(alloc);
+    add_files(alloc, &chosen, &index, &mut tree, &mut faults)?;
+    let database = write(alloc, &tree, max_bytes)?;
+    Ok(Compiled { database, faults })
+}

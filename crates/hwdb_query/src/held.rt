@@ -1,0 +1,151 @@
+//! The one list of hits of a cursor.
+ghost use Rattle.std.specs.Prelude.{◌≡◌, ◌≢◌, ◌<◌, ◌≤◌, ◌+◌, ◌++◌, ℕ, List, [], ◌∷◌, length, take, drop, reverse, map, IfOk, OnOk, OnErr, Option, Some, None};
+ghost use Rattle.hwdb_query.specs.Answers.{Spot, Found, spot_cmp, found_cmp};
+ghost use Rattle.hwdb_query.specs.Lists.{put};
+ghost use Rattle.hwdb_query.specs.Hits.{parts_spot, found_of_hit, founds, shown_at, Page, PlaceOf, Gives, IsFirst};
+
+use crate::hit::{Hit, Parts, order};
+use crate::position::Position;
+use hwdb_reader::Entry;
+use std::alloc::{AllocError, Global};
+use std::cmp::Ordering;
+use std::marker::Model;
+
+/// Where a hit stands among others, or would.
+#[derive(Clone, Copy)]
+pub(crate) struct Place {
+    pub index: usize,
+    pub is_taken: bool,
+}
+
+/// The place of a position among hits that ascend.
+pub(crate) fn place_of(hits: &[Hit<'_>], parts: Parts<'_>) -> Place
+    ensures within { result.index ≤ length hits.now }
+    ensures place { (x : Found) → x.spot ≡ parts_spot parts.entry → PlaceOf x (founds hits.now) result }
+{
+    for (i, hit) in hits.iter().enumerate() {
+        match order(parts, hit.parts()) {
+            Ordering::Less => {
+                return Place {
+                    index: i,
+                    is_taken: false,
+                };
+            }
+            Ordering::Equal => {
+                return Place {
+                    index: i,
+                    is_taken: true,
+                };
+            }
+            Ordering::Greater => {}
+        }
+    }
+    Place {
+        index: hits.len(),
+        is_taken: false,
+    }
+}
+
+/// The hits that are held, never more than `most`.
+#[derive(Drop)]
+pub(crate) struct Held<'a> {
+    hits: Vec<Hit<'a>>,
+    most: usize,
+}
+
+impl<'a> Model for Held<'a> {
+    ghost Value = { Page };
+
+    ghost view = { λ s. record { hits = founds s.hits.items; most = s.most } };
+
+    ghost invariant = { λ s. length s.hits.items ≤ s.most };
+}
+
+impl<'a> Held<'a> {
+    /// No hits, and how many may be held.
+    pub(crate) fn new(alloc: Global, most: usize) -> Held<'a>
+        ensures { result ≡ record { hits = []; most = most } }
+    {
+        Held {
+            hits: Vec::new(alloc),
+            most,
+        }
+    }
+
+    /// How many hits are held.
+    pub(crate) fn len(&self) -> usize
+        ensures value { result ≡ length self.now.hits }
+        ensures within { result ≤ self.now.most }
+    {
+        self.hits.len()
+    }
+
+    /// Puts a hit in its place, and keeps the least of them. What isn't kept takes no memory.
+    pub(crate) fn keep(
+        &mut self,
+        alloc: Global,
+        pattern: &[u8],
+        key: &'a [u8],
+        entry: Entry<'a>,
+    ) -> Result<(), AllocError>
+        ensures most { self.new.most ≡ self.old.most }
+        ensures kept { OnOk result (self.new.hits ≡ take self.old.most (put found_cmp (shown_at pattern.now key.now entry.entry) self.old.hits)) }
+    {
+        let parts = Parts {
+            priority: entry.priority,
+            line: entry.line,
+            pattern,
+            key,
+        };
+        let place = place_of(&self.hits, parts);
+        if place.is_taken || place.index >= self.most {
+            return Ok(());
+        }
+        let pattern = pattern.to_vec(alloc)?;
+        let hit = Hit {
+            priority: entry.priority,
+            line: entry.line,
+            pattern,
+            key,
+            value: entry.value,
+            path: entry.path,
+        };
+        self.hits.truncate(self.most - 1);
+        self.hits.insert(place.index, hit)?;
+        Ok(())
+    }
+
+    /// Turns the list, so that the first hit is the next to be taken.
+    pub(crate) fn turn(&mut self)
+        ensures { self.new ≡ record self.old { hits = reverse self.old.hits } }
+    {
+        self.hits.reverse();
+    }
+
+    /// Lets all hits go.
+    pub(crate) fn clear(&mut self)
+        ensures { self.new ≡ record self.old { hits = [] } }
+    {
+        self.hits.clear();
+    }
+
+    /// Takes the last hit of the list.
+    pub(crate) fn pop(&mut self) -> Option<Hit<'a>>
+        ensures most { self.new.most ≡ self.old.most }
+        ensures gives { Gives (reverse self.old.hits) (reverse self.new.hits) result }
+    {
+        self.hits.pop()
+    }
+
+    /// The position of the first hit.
+    pub(crate) fn first_position(&self, alloc: Global) -> Result<Option<Position>, AllocError>
+        ensures { IfOk result (λ p. IsFirst self.now.hits p) }
+    {
+        let hits: &[Hit<'_>] = &self.hits;
+        if hits.is_empty() {
+            return Ok(None);
+        }
+        let position = hits[0].position(alloc)?;
+        Ok(Some(position))
+    }
+}

@@ -1,0 +1,76 @@
+//! Hits, and the order in which they come.
+ghost use Rattle.std.specs.Prelude.{◌≡◌, ℕ, List, length, IfOk};
+ghost use Rattle.hwdb_query.specs.Answers.{Spot, Found, spot_cmp};
+ghost use Rattle.hwdb_query.specs.Hits.{parts_spot, position_spot, found_of_hit};
+
+use crate::position::Position;
+use std::alloc::{AllocError, Global};
+use std::cmp::Ordering;
+
+/// An assignment that survived and whose pattern matches a device.
+#[derive(Drop)]
+pub struct Hit<'a> {
+    /// The priority of its file: 1 for the first that was chosen.
+    pub priority: u16,
+    /// The line of its property, counted from 1.
+    pub line: u32,
+    /// Its pattern.
+    pub pattern: Vec<u8>,
+    /// Its key, a part of the database's bytes.
+    pub key: &'a [u8],
+    /// Its value, a part of the database's bytes.
+    pub value: &'a [u8],
+    /// The stored path of its file, a part of the database's bytes.
+    pub path: &'a [u8],
+}
+
+/// What the order looks at.
+#[derive(Clone, Copy)]
+pub(crate) struct Parts<'p> {
+    pub priority: u16,
+    pub line: u32,
+    pub pattern: &'p [u8],
+    pub key: &'p [u8],
+}
+
+impl<'a> Hit<'a> {
+    /// What the order looks at.
+    pub(crate) fn parts(&self) -> Parts<'_>
+        ensures { parts_spot result ≡ (found_of_hit self.now).spot }
+    {
+        Parts {
+            priority: self.priority,
+            line: self.line,
+            pattern: &self.pattern,
+            key: self.key,
+        }
+    }
+
+    /// The position of the hit: its priority, line, pattern and key.
+    ///
+    /// The only error is that memory is refused.
+    pub fn position(&self, alloc: Global) -> Result<Position, AllocError>
+        ensures { IfOk result (λ p. position_spot p ≡ (found_of_hit self.now).spot) }
+    {
+        let pattern = self.pattern.to_vec(alloc)?;
+        let key = self.key.to_vec(alloc)?;
+        Ok(Position {
+            priority: self.priority,
+            line: self.line,
+            pattern,
+            key,
+        })
+    }
+}
+
+/// The order of positions: by priority, line, pattern and key.
+#[tactic(auto, unfolding(crate::specs::Answers::spot_cmp))]
+pub(crate) fn order(a: Parts<'_>, b: Parts<'_>) -> Ordering
+    ensures { result ≡ spot_cmp (parts_spot a.entry) (parts_spot b.entry) }
+{
+    a.priority
+        .cmp(&b.priority)
+        .then(a.line.cmp(&b.line))
+        .then(a.pattern.cmp(b.pattern))
+        .then(a.key.cmp(b.key))
+}

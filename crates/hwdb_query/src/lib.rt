@@ -1,0 +1,48 @@
+//! What a checked hardware database answers for a device.
+//!
+//! The answers are the assignments that survived in the database and whose pattern matches the device, by
+//! file priority, line, pattern and key (hwdb(7); that the order goes on by pattern and key is our choice).
+//! `specs/Answers` defines them as a filter and an order over all assignments of the database's tree.
+//!
+//! | Module | What it does |
+//! |---|---|
+//! | `hit` | the hits, and the order of their positions |
+//! | `position` | positions and their texts |
+//! | `spelling` | the parts of a position's text |
+//! | `held` | the one list of hits of a cursor, never longer than its page |
+//! | `filling` | one filling of a page: one descent along the live paths |
+//! | `paging` | the cursor: pages of answers after a position |
+//! | `start` | a new cursor |
+//! | `listing` | the effective list |
+//! | `laws` | what is proved of the definitions alone |
+//! | `sources` | files to be compiled, and the index of their names |
+//! | `compiling` | the files of two folders, made into one database |
+//! | `errors` | what the calls refuse |
+#![tactic(auto)]
+
+mod compiling;
+mod errors;
+mod filling;
+mod held;
+mod hit;
+mod laws;
+mod listing;
+mod paging;
+mod position;
+mod sources;
+mod spelling;
+mod start;
+#[cfg(test)]
+mod tests;
+
+pub use compiling::compile;
+pub use errors::{CompileError, QueryError};
+pub use hit::Hit;
+pub use laws::{
+    answers_are_the_maps, databases_show_one_map, positions_are_read_back, survivors_are_latest,
+};
+pub use listing::effective;
+pub use paging::Cursor;
+pub use position::Position;
+pub use sources::{Compiled, FileFault, SourceFile};
+pub use start::cursor;

@@ -1,0 +1,137 @@
+//! Positions: the places of assignments in the order of the answers.
+ghost use Rattle.std.specs.Prelude.{◌≡◌, ◌≢◌, ◌<◌, ℕ, List, ◌∷◌, ◌++◌, length, slice_index, IfOk, IfErr, IfSome, MatchOption, string_bytes};
+ghost use Rattle.hwdb_query.specs.Answers.{Spot};
+ghost use Rattle.hwdb_query.specs.Hits.{parts_spot, position_spot};
+ghost use Rattle.hwdb_query.specs.Spelling.{IsSpelling, canonical};
+ghost use Rattle.hwdb_query.specs.declared.errors.QueryError.TheVariants.{PageZero, BadPosition};
+
+use crate::errors::QueryError;
+use crate::hit::Parts;
+use crate::spelling::{bytes_of, cut, long_number, short_number};
+use std::alloc::{AllocError, Global};
+
+/// The place of an assignment in the order: by priority, then line, then the pattern's bytes, then the
+/// key's. It needn't be the place of any assignment.
+#[derive(Drop)]
+pub struct Position {
+    /// The priority of the assignment's file.
+    pub priority: u16,
+    /// The line of its property.
+    pub line: u32,
+    /// Its pattern.
+    pub pattern: Vec<u8>,
+    /// Its key.
+    pub key: Vec<u8>,
+}
+
+/// The four fields of a position's text.
+#[derive(Clone, Copy)]
+struct Fields<'a> {
+    priority: &'a str,
+    line: &'a str,
+    pattern: &'a str,
+    key: &'a str,
+}
+
+/// The fields between the first three colons.
+fn split_fields(text: &str) -> Option<Fields<'_>>
+    ensures parts { IfSome result (λ f. text.now ≡ f.priority.now ++ 58 ∷ (f.line.now ++ 58 ∷ (f.pattern.now ++ 58 ∷ f.key.now))) }
+    ensures found { (p l h k : List ℕ) → text.now ≡ p ++ 58 ∷ (l ++ 58 ∷ (h ++ 58 ∷ k))
+        → ((i : ℕ) → i < length p → slice_index p i ≢ 58) → ((i : ℕ) → i < length l → slice_index l i ≢ 58) → ((i : ℕ) → i < length h → slice_index h i ≢ 58)
+        → MatchOption result ⊥ (λ f. (f.priority.now ≡ p) × (f.line.now ≡ l) × (f.pattern.now ≡ h) × (f.key.now ≡ k)) }
+{
+    let (priority, rest) = cut(text)?;
+    let (line, rest) = cut(rest)?;
+    let (pattern, key) = cut(rest)?;
+    Some(Fields {
+        priority,
+        line,
+        pattern,
+        key,
+    })
+}
+
+impl Position {
+    /// A copy, in memory of its own.
+    pub(crate) fn copy(&self, alloc: Global) -> Result<Position, AllocError>
+        ensures { IfOk result (λ p. position_spot p ≡ position_spot self.now) }
+    {
+        let pattern = self.pattern.to_vec(alloc)?;
+        let key = self.key.to_vec(alloc)?;
+        Ok(Position {
+            priority: self.priority,
+            line: self.line,
+            pattern,
+            key,
+        })
+    }
+
+    /// What the order looks at.
+    pub(crate) fn parts(&self) -> Parts<'_>
+        ensures { parts_spot result ≡ position_spot self.now }
+    {
+        Parts {
+            priority: self.priority,
+            line: self.line,
+            pattern: &self.pattern,
+            key: &self.key,
+        }
+    }
+
+    /// The one text of the position: `P:L:HP:HK`, the priority and the line in decimal digits, the pattern
+    /// and the key in hexadecimal digits of lower case.
+    ///
+    /// The only error is that memory is refused.
+    pub fn write(&self, alloc: Global) -> Result<String, AllocError>
+        ensures { IfOk result (λ r. string_bytes r ≡ canonical (position_spot self.now)) }
+    {
+        let pattern = hex::encode(alloc, self.pattern.as_slice())?;
+        let key = hex::encode(alloc, self.key.as_slice())?;
+        let priority = self.priority;
+        let line = self.line;
+        Ok(format!(in alloc; "{priority}:{line}:{pattern}:{key}")?)
+    }
+
+    /// The position that the text spells, if it spells one.
+    fn read_fields(alloc: Global, text: &str) -> Result<Option<Position>, AllocError>
+        ensures spelled { IfOk result (λ r. IfSome r (λ p. IsSpelling (position_spot p) text.now)) }
+        ensures refused { IfOk result (λ r. r ≡ None → (p : Spot) → IsSpelling p text.now → ⊥) }
+    {
+        let Some(parts) = split_fields(text) else {
+            return Ok(None);
+        };
+        let Some(priority) = short_number(alloc, parts.priority)? else {
+            return Ok(None);
+        };
+        let Some(line) = long_number(alloc, parts.line)? else {
+            return Ok(None);
+        };
+        let Some(pattern) = bytes_of(alloc, parts.pattern)? else {
+            return Ok(None);
+        };
+        let Some(key) = bytes_of(alloc, parts.key)? else {
+            return Ok(None);
+        };
+        Ok(Some(Position {
+            priority,
+            line,
+            pattern,
+            key,
+        }))
+    }
+
+    /// The position that the text spells, with hexadecimal digits in either case.
+    ///
+    /// [`QueryError::BadPosition`] where it spells none, as with a sign, a leading zero or a field more;
+    /// [`QueryError::Memory`] where memory is refused.
+    pub fn read(alloc: Global, text: &str) -> Result<Position, QueryError>
+        ensures spelled { IfOk result (λ p. IsSpelling (position_spot p) text.now) }
+        ensures refused { IfErr result (λ e. e ≡ BadPosition → (p : Spot) → IsSpelling p text.now → ⊥) }
+        ensures no_page { IfErr result (λ e. e ≢ PageZero) }
+    {
+        match Position::read_fields(alloc, text)? {
+            Some(position) => Ok(position),
+            None => Err(QueryError::BadPosition),
+        }
+    }
+}

@@ -1,0 +1,48 @@
+//! The start of a cursor.
+ghost use Rattle.std.specs.Prelude.{◌≡◌, ◌≢◌, ◌<◌, IfOk, IfErr, false};
+ghost use Rattle.hwdb_reader.specs.View.{db_tree};
+ghost use Rattle.hwdb_query.specs.Answers.{answers_after};
+ghost use Rattle.hwdb_query.specs.Live.{live_nodes};
+ghost use Rattle.hwdb_query.specs.Hits.{given_spot, Progress};
+ghost use Rattle.hwdb_query.specs.declared.errors.QueryError.TheVariants.{PageZero, BadPosition};
+
+use crate::errors::QueryError;
+use crate::paging::Cursor;
+use crate::position::Position;
+use hwdb_reader::Db;
+use std::alloc::Global;
+
+/// A cursor over the answers of the database for the device, after a position if one is given. It holds
+/// nothing yet, and then at most `page` hits at a time.
+///
+/// [`QueryError::PageZero`] where `page` is 0, before memory is asked for; [`QueryError::Memory`] where memory
+/// is refused.
+pub fn cursor<'a, 'd>(
+    alloc: Global,
+    db: &Db<'a>,
+    device: &'d [u8],
+    after: Option<&Position>,
+    page: usize,
+) -> Result<Cursor<'a, 'd>, QueryError>
+    ensures begins { IfOk result (λ c. c ≡ record {
+      to_come = answers_after device.now (given_spot after.entry) (db_tree db.now);
+      held = 0;
+      page = page;
+      ended = false;
+      entered = 0;
+      live = live_nodes device.now (db_tree db.now);
+    }) }
+    ensures some { IfOk result (λ _. 0 < page) }
+    ensures zero { page ≡ 0 → IfErr result (λ e. e ≡ PageZero) }
+    ensures page { IfErr result (λ e. e ≡ PageZero → page ≡ 0) }
+    ensures known { IfErr result (λ e. e ≢ BadPosition) }
+{
+    if page == 0 {
+        return Err(QueryError::PageZero);
+    }
+    let after = match after {
+        None => None,
+        Some(position) => Some(position.copy(alloc)?),
+    };
+    Ok(Cursor::start(alloc, *db, device, after, page))
+}

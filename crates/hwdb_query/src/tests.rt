@@ -1,0 +1,235 @@
+//! Worked rows over small databases, and the texts of positions.
+mod compiled;
+mod vectors;
+
+use crate::{Cursor, Hit, Position, QueryError, cursor, effective};
+use hwdb_reader::check;
+use std::alloc::Global;
+use std::test::Fail;
+use vectors::{
+    BRACKETS, BRACKETS_BY_BYTE, CLASS, EMPTY, LATER_KEY, MANY_KEYS, ONE_RECORD, PAIR, PAIR_BY_BYTE,
+    ROOT_PREFIX, SECOND_FILE, SHARED, STARS, TWO_FOLDERS, TWO_PATTERNS, WRITTEN_TWICE, bytes_of,
+};
+
+/// How many hits a test reads at most.
+const MOST: usize = 100;
+
+/// Adds the line of a hit: its position's text, a tab, the pattern, a tab, the key, `=` and the value.
+fn add_line(alloc: Global, hit: &Hit<'_>, text: &mut Vec<u8>) -> Result<(), Fail> {
+    let position = hit.position(alloc)?;
+    let spelled = position.write(alloc)?;
+    text.extend_from_slice(spelled.as_str().as_bytes())?;
+    text.push(b'\t')?;
+    text.extend_from_slice(&hit.pattern)?;
+    text.push(b'\t')?;
+    text.extend_from_slice(hit.key)?;
+    text.push(b'=')?;
+    text.extend_from_slice(hit.value)?;
+    text.push(b'\n')?;
+    Ok(())
+}
+
+/// The lines of the hits after a position, and how many nodes the last filling entered.
+fn listed(
+    alloc: Global,
+    hex: &str,
+    device: &[u8],
+    after: Option<&Position>,
+    page: usize,
+) -> Result<(Vec<u8>, u64), Fail> {
+    let bytes = bytes_of(alloc, hex)?;
+    let db = check(&bytes).map_err(|_| "refused")?;
+    let mut hits = cursor(alloc, &db, device, after, page).map_err(|_| "no cursor")?;
+    let mut text = Vec::new(alloc);
+    for _ in 0..MOST {
+        let Some(hit) = hits.next()? else {
+            break;
+        };
+        add_line(alloc, &hit, &mut text)?;
+    }
+    Ok((text, hits.entered()))
+}
+
+#[test]
+fn hits(rt: HostRuntime) -> Result<(), Fail> {
+    let rows = [
+        (EMPTY, "a", "", 1u64),
+        (
+            TWO_PATTERNS,
+            "ab",
+            "1:2:612a:4b\ta*\tK=1\n1:5:6162:4b\tab\tK=2\n",
+            4,
+        ),
+        (TWO_PATTERNS, "ac", "1:2:612a:4b\ta*\tK=1\n", 3),
+        (TWO_PATTERNS, "x", "", 1),
+        (TWO_PATTERNS, "", "", 1),
+        (SECOND_FILE, "a", "2:2:61:4b\ta\tK=2\n", 2),
+        (
+            TWO_FOLDERS,
+            "a",
+            "1:2:61:4b\ta\tK=1\n2:2:612a:4b\ta*\tK=2\n",
+            3,
+        ),
+        (
+            ONE_RECORD,
+            "xy",
+            "1:3:782a:4b\tx*\tK=1\n1:3:783f:4b\tx?\tK=1\n",
+            4,
+        ),
+        (WRITTEN_TWICE, "x", "1:3:78:4b\tx\tK=1\n", 2),
+        (BRACKETS, "a[bzz", "1:2:615b622a:41\ta[b*\tA=1\n", 3),
+        (BRACKETS, "abzz", "", 3),
+        (BRACKETS, "abx", "1:5:615b62635d78:42\ta[bc]x\tB=1\n", 4),
+        (
+            BRACKETS,
+            "a[b",
+            "1:2:615b622a:41\ta[b*\tA=1\n1:8:615b62:43\ta[b\tC=1\n",
+            3,
+        ),
+        (BRACKETS, "q", "", 1),
+        (
+            BRACKETS_BY_BYTE,
+            "abx",
+            "1:5:615b62635d78:42\ta[bc]x\tB=1\n",
+            8,
+        ),
+        (BRACKETS_BY_BYTE, "abzz", "", 7),
+        (BRACKETS_BY_BYTE, "q", "", 1),
+        (STARS, "*", "1:2:2a:41\t*\tA=1\n", 2),
+        (
+            STARS,
+            "\\q",
+            "1:2:2a:41\t*\tA=1\n1:5:5c2a:42\t\\*\tB=1\n",
+            3,
+        ),
+        (ROOT_PREFIX, "a", "", 0),
+        (ROOT_PREFIX, "q", "1:2:71:4b\tq\tK=v\n", 1),
+        (
+            CLASS,
+            "5x",
+            "1:2:5b5b3a64696769743a5d5d78:4b\t[[:digit:]]x\tK=1\n",
+            2,
+        ),
+        (CLASS, "d]x", "", 1),
+        (SHARED, "a", "1:2:61:4b\ta\tK=K\n", 2),
+        (PAIR, "ab", "1:2:6162:4b\tab\tK=v\n", 2),
+        (PAIR_BY_BYTE, "ab", "1:2:6162:4b\tab\tK=v\n", 3),
+    ];
+    for (hex, device, text, nodes) in rows {
+        for page in [1, 2, 1000, usize::MAX] {
+            let (seen, entered) = listed(rt.alloc(), hex, device.as_bytes(), None, page)?;
+            assert_eq!(rt; seen.as_slice(), text.as_bytes());
+            assert_eq!(rt; entered, nodes);
+        }
+    }
+    Ok(())
+}
+
+#[test]
+fn effective_lists(rt: HostRuntime) -> Result<(), Fail> {
+    let rows = [
+        (EMPTY, "a", ""),
+        (TWO_PATTERNS, "ab", "K=2\n"),
+        (TWO_FOLDERS, "a", "K=2\n"),
+        (LATER_KEY, "a", "K=2\nL=3\n"),
+        (STARS, "\\q", "A=1\nB=1\n"),
+        (SHARED, "a", "K=K\n"),
+        (BRACKETS, "a[b", "A=1\nC=1\n"),
+    ];
+    for (hex, device, wanted) in rows {
+        let bytes = bytes_of(rt.alloc(), hex)?;
+        let db = check(&bytes).map_err(|_| "refused")?;
+        let mut text = Vec::new(rt.alloc());
+        for (key, value) in effective(rt.alloc(), &db, device.as_bytes())? {
+            text.extend_from_slice(key)?;
+            text.push(b'=')?;
+            text.extend_from_slice(value)?;
+            text.push(b'\n')?;
+        }
+        assert_eq!(rt; text.as_slice(), wanted.as_bytes());
+    }
+    let bytes = bytes_of(rt.alloc(), MANY_KEYS)?;
+    let db = check(&bytes).map_err(|_| "refused")?;
+    assert_eq!(rt; effective(rt.alloc(), &db, b"a")?.len(), 65);
+    Ok(())
+}
+
+#[test]
+fn resumed(rt: HostRuntime) -> Result<(), Fail> {
+    let second = "1:5:6162:4b\tab\tK=2\n";
+    let rows = [
+        (TWO_PATTERNS, "ab", "1:2:612a:4b", second),
+        (TWO_PATTERNS, "ab", "1:3::", second),
+        (TWO_PATTERNS, "ab", "9:0::", ""),
+        (
+            MANY_KEYS,
+            "a",
+            "1:65:61:4b3634",
+            "1:66:61:4b3635\ta\tK65=v\n",
+        ),
+    ];
+    for (hex, device, after, text) in rows {
+        for page in [1, 2, 1000] {
+            let after = Position::read(rt.alloc(), after).map_err(|_| "no position")?;
+            let (seen, _) = listed(rt.alloc(), hex, device.as_bytes(), Some(&after), page)?;
+            assert_eq!(rt; seen.as_slice(), text.as_bytes());
+        }
+    }
+    Ok(())
+}
+
+/// Reads a hit, and tells whether there was one and how many are held then.
+fn step(hits: &mut Cursor<'_, '_>) -> Result<(bool, usize), Fail> {
+    let found = hits.next()?.is_some();
+    Ok((found, hits.held()))
+}
+
+#[test]
+fn held_hits(rt: HostRuntime) -> Result<(), Fail> {
+    let bytes = bytes_of(rt.alloc(), MANY_KEYS)?;
+    let db = check(&bytes).map_err(|_| "refused")?;
+    let mut hits = cursor(rt.alloc(), &db, b"a", None, 64).map_err(|_| "no cursor")?;
+    assert_eq!(rt; hits.held(), 0);
+    assert_eq!(rt; hits.entered(), 0);
+    for i in 0..66usize {
+        let (found, held) = step(&mut hits)?;
+        assert_eq!(rt; found, i < 65);
+        assert_eq!(rt; held, if i < 64 { 63 - i } else { 0 });
+    }
+    let mut hits = cursor(rt.alloc(), &db, b"a", None, 1).map_err(|_| "no cursor")?;
+    for i in 0..66usize {
+        let (found, held) = step(&mut hits)?;
+        assert!(rt; found == (i < 65) && held == 0);
+    }
+    let none = cursor(rt.alloc(), &db, b"a", None, 0);
+    assert!(rt; matches!(&none, Err(QueryError::PageZero)));
+    Ok(())
+}
+
+#[test]
+fn position_texts(rt: HostRuntime) -> Result<(), Fail> {
+    for (text, canonical) in [
+        ("0:0::", "0:0::"),
+        ("65535:4294967295:4B:", "65535:4294967295:4b:"),
+        ("1:2:612a:4b", "1:2:612a:4b"),
+    ] {
+        let position = Position::read(rt.alloc(), text).map_err(|_| "no position")?;
+        let written = position.write(rt.alloc())?;
+        assert_eq!(rt; written.as_str(), canonical);
+    }
+    for text in [
+        "",
+        "1:2",
+        "01:2::",
+        "+1:2::",
+        "65536:1::",
+        "1:4294967296::",
+        "1:2:6:",
+        "1:2:zz:",
+        "1:2:::",
+    ] {
+        let refused = Position::read(rt.alloc(), text);
+        assert!(rt; matches!(&refused, Err(QueryError::BadPosition)));
+    }
+    Ok(())
+}

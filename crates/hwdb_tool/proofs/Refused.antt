@@ -1,0 +1,60 @@
+-- Which refusal an error of a crate below becomes.
+use Rattle.std.proofs.Common.{◌≡◌, ◌≢◌, ◌<◌, ℕ, List, Option, None, Some, refl, ap, arith, sym, subst, Result, Ok, Err, IfErr}
+use Rattle.std.specs.Option.{option_copied}
+use Rattle.hwdb_query.specs.Hits.{given_spot, next_spot}
+use Rattle.hwdb_query.specs.declared.position.Position.{Position}
+use Rattle.std.specs.Result.{IsErrAnd}
+use Rattle.std.specs.Borrow.{Bor}
+use Rattle.hwdb_query.specs.Answers.{Spot}
+use Rattle.hwdb_query.specs.Spelling.{IsSpelling}
+use Rattle.hwdb_query.specs.declared.errors.QueryError.{QueryError}
+use Rattle.hwdb_query.specs.declared.errors.QueryError.TheVariants as query
+use Rattle.hwdb_tool.specs.declared.errors.ToolError.{ToolError}
+use Rattle.hwdb_tool.specs.Refusals.{refusal_of_query}
+use Rattle.hwdb_tool.specs.Engines.{IsPositionRefusal, IsListRefusal, IsDatabaseRefusal, IsNoDatabase}
+use Rattle.hwdb_tool.specs.Updates.{IsAskRefusal}
+use Rattle.hwdb_tool.specs.declared.errors.ToolError.TheVariants.{Read, Write, TooLong, TooManyFiles, TooManyLines, TooLarge, BadPosition, PageZero, BadDatabase, Memory}
+use Rattle.hwdb_layout.specs.Map.{Map}
+use Rattle.hwdb_layout.specs.Tight.{IsDatabaseOf}
+
+module _ {X : Type 0} where
+  pub position_refused : (text : Bor (List ℕ)) (q : QueryError) (r : Result X ToolError) → IsErrAnd r (λ e. e ≡ refusal_of_query q)
+      → (q ≡ query.BadPosition → (p : Spot) → IsSpelling p text.now → ⊥) → q ≢ query.PageZero → IfErr r (IsPositionRefusal (Some text))
+  position_refused text q (Ok x) h bad page = tt
+  position_refused text query.PageZero (Err e) h bad page = absurd (page refl)
+  position_refused text query.BadPosition (Err e) h bad page = let P : ToolError → Type 0 = λ x. IsPositionRefusal (Some text) x in subst P (sym h) (bad refl)
+  position_refused text query.Memory (Err e) h bad page = let P : ToolError → Type 0 = λ x. IsPositionRefusal (Some text) x in subst P (sym h) tt
+
+  pub cursor_refused : (after : Option (Bor (List ℕ))) (bytes : List ℕ) (q : QueryError) (r : Result X ToolError) → IsErrAnd r (λ e. e ≡ refusal_of_query q)
+      → q ≢ query.PageZero → q ≢ query.BadPosition → IfErr r (IsListRefusal after bytes)
+  cursor_refused after bytes q (Ok x) h page bad = tt
+  cursor_refused after bytes query.PageZero (Err e) h page bad = absurd (page refl)
+  cursor_refused after bytes query.BadPosition (Err e) h page bad = absurd (bad refl)
+  cursor_refused None bytes query.Memory (Err e) h page bad = let P : ToolError → Type 0 = λ x. IsListRefusal None bytes x in subst P (sym h) tt
+  cursor_refused (Some text) bytes query.Memory (Err e) h page bad = let P : ToolError → Type 0 = λ x. IsListRefusal (Some text) bytes x in subst P (sym h) tt
+
+-- the position that a caller lends
+pub lent_spot : (lent : Option (Bor Position)) (own : Option Position) → option_copied lent ≡ own → given_spot lent ≡ next_spot own
+lent_spot None own e = ap next_spot e
+lent_spot (Some p) own e = ap next_spot e
+
+pub not_zero : (page : ℕ) → page ≡ 0 → 0 < page → ⊥
+not_zero page e some = omega (arith, e, some)
+
+is_write : ToolError → Type 0
+is_write Write = Unit {0}
+is_write _ = ⊥
+
+memory_is_no_write : Memory ≢ Write
+unfolding is_write
+memory_is_no_write e = subst is_write (sym e) tt
+
+-- a database of a map isn't refused
+module _ {X : Type 0} where
+  pub asked_refused : (bytes database : List ℕ) (m : Map) (max_bytes : ℕ) (q : ToolError) (r : Result X ToolError) → IsErrAnd r (λ e. e ≡ q)
+      → IsDatabaseRefusal database q → IsDatabaseOf m database → IfErr r (λ e. (e ≢ Write) × IsAskRefusal bytes max_bytes e)
+  asked_refused bytes database m max_bytes q (Ok x) h refusal is = tt
+  asked_refused bytes database m max_bytes (BadDatabase fault) (Err e) h refusal is = absurd (refusal.no_tree is.0 is.1)
+  asked_refused bytes database m max_bytes Memory (Err e) h refusal is =
+      let P : ToolError → Type 0 = λ x. (x ≢ Write) × IsAskRefusal bytes max_bytes x in subst P (sym h) (memory_is_no_write, tt)
+  asked_refused bytes database m max_bytes _ (Err e) h refusal is = absurd refusal

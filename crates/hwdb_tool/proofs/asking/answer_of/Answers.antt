@@ -1,0 +1,9 @@
+use Rattle.std.proofs.Common.{◌≡◌, ◌∙◌, subst, sym, List, ℕ, rules}
+use Rattle.hwdb_query.specs.Compiling.{Source, map_of_files}
+use Rattle.hwdb_layout.specs.Tight.{IsDatabaseOf}
+use Rattle.hwdb_tool.proofs.Refused.{asked_refused}
+use Rattle.hwdb_tool.proofs.asking.answer_of.Goals as goal
+
+pub returns-in_err-properties-clause-refusals : goal.returns-in_err-properties-clause-refusals
+returns-in_err-properties-clause-refusals c =
+    asked_refused c.args.bytes.now c.in_ok-compiled.compiled.database.items _ 268435456 c.in_err-properties.field-0.0 _ c.from_residual-in_err-properties.ensures.1 (rw c.deref-2.ensures.value at c.in_err-properties.ensures.refusals) c.in_ok-compiled.ensures.checked

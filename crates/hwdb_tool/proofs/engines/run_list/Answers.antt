@@ -1,0 +1,28 @@
+use Rattle.std.proofs.Common.{rules, ◌≡◌, ◌∙◌, arith, ap, subst, List, ℕ}
+use Rattle.hwdb_reader.specs.View.{db_tree}
+use Rattle.hwdb_query.specs.Answers.{Found, answers_after}
+use Rattle.hwdb_query.specs.Hits.{next_spot, Progress}
+use Rattle.hwdb_tool.specs.Devices.{AppendsPrefix}
+use Rattle.hwdb_tool.specs.Texts.{hits_text, within_limit}
+use Rattle.hwdb_tool.proofs.Refused.{cursor_refused, lent_spot, not_zero}
+use Rattle.hwdb_tool.proofs.engines.run_list.Goals as goal
+
+pub returns-in_err-hits-clause-refusals : goal.returns-in_err-hits-clause-refusals
+returns-in_err-hits-clause-refusals g c =
+    cursor_refused c.args.after c.args.bytes.now c.in_err-hits.field-0.0 _ c.from_residual-in_err-hits.ensures.1
+    (λ e. not_zero 64 (c.in_err-hits.ensures.page e) (omega arith)) c.in_err-hits.ensures.known
+
+pub returns-clause-cut_short : goal.returns-clause-cut_short
+returns-clause-cut_short g c = λ e.
+    let part = c.print_hits.ensures.cut_short e in
+    let begun = c.in_ok-hits.ensures.begins in
+    let device = c.args.device.now in
+    let tree = db_tree c.in_ok-db.db in
+    let all : c.in_ok-hits.hits.to_come ≡ answers_after device (next_spot c.in_ok-after.after) tree =
+    ap (λ (p : Progress). p.to_come) begun ∙ ap (λ s. answers_after device s tree) (lent_spot c.as_ref.result c.in_ok-after.after c.as_ref.ensures.value) in
+    let P : List Found → Type 0 = λ hits. AppendsPrefix (g.O.Sink.taken c.args.out.now) (g.O.Sink.taken c.print_hits.new.out) (hits_text (within_limit c.args.limit hits)) in
+    record {
+      from = next_spot c.in_ok-after.after;
+      spelled = c.in_ok-after.ensures.spelled;
+      cut_short = record { tree = tree; database = c.in_ok-db.ensures.accepted; taken = subst P all part };
+    }

@@ -1,0 +1,113 @@
+-- What the commands print, as functions of the database's bytes (hwdb(7), systemd-hwdb(8)); `list` is our choice.
+use Rattle.std.specs.Prelude.{◌≡◌, ℕ, ◌-◌, List, take, Option, Some, None, option_map}
+use Rattle.std.specs.Borrow.{Bor}
+use Rattle.std.specs.Io.KnownBytes.{Appends}
+use Rattle.hwdb_layout.specs.Tree.{Tree}
+use Rattle.hwdb_layout.specs.Database.{IsDatabase}
+use Rattle.hwdb_layout.specs.Faults.{FaultStands}
+use Rattle.hwdb_layout.specs.declared.DbFault.{DbFault}
+use Rattle.hwdb_query.specs.Answers.{Spot, Found, answers, answers_after}
+use Rattle.hwdb_query.specs.Effective.{effective_of}
+use Rattle.hwdb_query.specs.Spelling.{IsSpelling}
+use Rattle.hwdb_tool.specs.Devices.{AppendsPrefix}
+use Rattle.hwdb_tool.specs.Texts.{properties_text, hits_text, within_limit}
+use Rattle.hwdb_tool.specs.declared.errors.ToolError.{ToolError}
+use Rattle.hwdb_tool.specs.declared.errors.ToolError.TheVariants.{Read, Write, TooLong, TooManyFiles, TooManyLines, TooLarge, BadPosition, PageZero, BadDatabase, Memory}
+
+-- the properties that a database gives a device, as text
+abbrev pub query_text : List ℕ → Tree → List ℕ
+query_text device t = properties_text (effective_of (answers device t))
+
+-- the lines of the first hits after a position
+abbrev pub list_text : List ℕ → Option Spot → Option ℕ → Tree → List ℕ
+list_text device after limit t = hits_text (within_limit limit (answers_after device after t))
+
+-- the bytes are a database, and the text is what its tree gives
+pub record IsTextOf (of : Tree → List ℕ) (bytes text : List ℕ) : Type 0 where
+  pub tree : Tree
+  pub database : IsDatabase bytes tree
+  pub is : text ≡ of tree
+
+-- the bytes are a database, and a sink took what its tree gives
+pub record Printed (of : Tree → List ℕ) (bytes : List ℕ) (before now : Option (List ℕ)) : Type 0 where
+  pub tree : Tree
+  pub database : IsDatabase bytes tree
+  pub taken : Appends before now (of tree)
+
+-- the bytes are a database, and a sink took a prefix of what its tree gives
+pub record CutShort (of : Tree → List ℕ) (bytes : List ℕ) (before now : Option (List ℕ)) : Type 0 where
+  pub tree : Tree
+  pub database : IsDatabase bytes tree
+  pub taken : AppendsPrefix before now (of tree)
+
+-- the fault stands, and the bytes are a database of no tree
+pub record IsNoDatabase (bytes : List ℕ) (fault : DbFault) : Type 0 where
+  pub stands : FaultStands bytes fault
+  pub no_tree : (t : Tree) → IsDatabase bytes t → ⊥
+
+-- what answering from a database may refuse, before anything is written
+abbrev pub IsDatabaseRefusal : (bytes : List ℕ) → ToolError → Type 0
+IsDatabaseRefusal bytes (BadDatabase fault) = IsNoDatabase bytes fault
+IsDatabaseRefusal bytes Memory = Unit {0}
+IsDatabaseRefusal bytes _ = ⊥
+
+-- what `query` may refuse
+abbrev pub IsQueryRefusal : (bytes : List ℕ) → ToolError → Type 0
+IsQueryRefusal bytes (BadDatabase fault) = IsNoDatabase bytes fault
+IsQueryRefusal bytes Memory = Unit {0}
+IsQueryRefusal bytes Write = Unit {0}
+IsQueryRefusal bytes _ = ⊥
+
+-- the text handed in as `after`, if there is one, spells the position
+abbrev pub IsAfter : Option (Bor (List ℕ)) → Option Spot → Type 0
+IsAfter None None = Unit {0}
+IsAfter None (Some p) = ⊥
+IsAfter (Some text) None = ⊥
+IsAfter (Some text) (Some p) = IsSpelling p text.now
+
+-- a sink took what the tree gives from a position on
+pub record Listed (device : List ℕ) (after : Option (Bor (List ℕ))) (limit : Option ℕ) (bytes : List ℕ) (before now : Option (List ℕ)) : Type 0 where
+  pub from : Option Spot
+  pub spelled : IsAfter after from
+  pub printed : Printed (list_text device from limit) bytes before now
+
+-- a sink took a prefix of it
+pub record ListCutShort (device : List ℕ) (after : Option (Bor (List ℕ))) (limit : Option ℕ) (bytes : List ℕ) (before now : Option (List ℕ)) : Type 0 where
+  pub from : Option Spot
+  pub spelled : IsAfter after from
+  pub cut_short : CutShort (list_text device from limit) bytes before now
+
+-- a sink took the lines of the first hits, whole
+abbrev pub AppendsLines : Option (List ℕ) → Option (List ℕ) → List Found → Type 0
+AppendsLines before now hits = (n : ℕ) × Appends before now (hits_text (take n hits))
+
+-- a sink took whole lines of it
+pub record ListedLines (device : List ℕ) (limit : Option ℕ) (bytes : List ℕ) (before now : Option (List ℕ)) : Type 0 where
+  pub from : Option Spot
+  pub tree : Tree
+  pub database : IsDatabase bytes tree
+  pub lines : AppendsLines before now (within_limit limit (answers_after device from tree))
+
+-- what printing may refuse
+abbrev pub IsPrintRefusal : ToolError → Type 0
+IsPrintRefusal Write = Unit {0}
+IsPrintRefusal Memory = Unit {0}
+IsPrintRefusal _ = ⊥
+
+-- a limit, one smaller
+abbrev pub one_less : Option ℕ → Option ℕ
+one_less limit = option_map (λ n. n - 1) limit
+
+-- what reading the text of a position may refuse
+abbrev pub IsPositionRefusal : Option (Bor (List ℕ)) → ToolError → Type 0
+IsPositionRefusal (Some text) BadPosition = (p : Spot) → IsSpelling p text.now → ⊥
+IsPositionRefusal after Memory = Unit {0}
+IsPositionRefusal after _ = ⊥
+
+-- what `list` may refuse
+abbrev pub IsListRefusal : Option (Bor (List ℕ)) → (bytes : List ℕ) → ToolError → Type 0
+IsListRefusal (Some text) bytes BadPosition = (p : Spot) → IsSpelling p text.now → ⊥
+IsListRefusal after bytes (BadDatabase fault) = IsNoDatabase bytes fault
+IsListRefusal after bytes Memory = Unit {0}
+IsListRefusal after bytes Write = Unit {0}
+IsListRefusal after bytes _ = ⊥

@@ -1,0 +1,87 @@
+//! The engines of the commands, over bytes and sinks: what is printed and answered is a function of the
+//! arguments and the bytes.
+ghost use Rattle.std.specs.Prelude.{◌≡◌, ◌≢◌, ◌⊎◌, IfOk, IfErr, OnOk, IsErrOf};
+ghost use Rattle.hwdb_query.specs.Hits.{next_spot};
+ghost use Rattle.hwdb_tool.specs.Devices.{HasFailed};
+ghost use Rattle.hwdb_tool.specs.Engines.{query_text, IsTextOf, Printed, CutShort, IsDatabaseRefusal, IsQueryRefusal, IsAfter, IsPositionRefusal, Listed, ListCutShort, ListedLines, IsListRefusal};
+
+use crate::devices::Sink;
+use crate::errors::ToolError;
+use crate::listing::print_hits;
+use crate::texts::property_lines;
+use crate::transfer::write_text;
+use hwdb_query::{Position, cursor, effective};
+use hwdb_reader::check;
+use std::alloc::Global;
+
+/// The program's limit: a text file or database that it reads, and the database that it writes, has at
+/// most so many bytes.
+pub const MAX_BYTES: u32 = 268_435_456;
+
+/// How many hits `run_list` holds at most.
+const PAGE: usize = 64;
+
+/// The text of the properties that the database gives the device.
+pub fn properties_of(alloc: Global, bytes: &[u8], device: &[u8]) -> Result<Vec<u8>, ToolError>
+    ensures text { IfOk result (λ text. IsTextOf (query_text device.now) bytes.now text.items) }
+    ensures refusals { IfErr result (IsDatabaseRefusal bytes.now) }
+{
+    let db = check(bytes)?;
+    let properties = effective(alloc, &db, device)?;
+    Ok(property_lines(alloc, &properties)?)
+}
+
+/// Checks the bytes, and prints the properties of the device to `out`: `KEY=VALUE` for each key,
+/// ascending by key.
+pub fn run_query<O: Sink>(
+    alloc: Global,
+    bytes: &[u8],
+    device: &[u8],
+    out: &mut O,
+) -> Result<(), ToolError>
+    ensures printed { OnOk result (Printed (query_text device.now) bytes.now (O.taken out.old) (O.taken out.new)) }
+
+    ensures refusals { IfErr result (IsQueryRefusal bytes.now) }
+    ensures cause { IsErrOf result ToolError.Write → HasFailed (O.failures out.old) (O.failures out.new) }
+    ensures cut_short { IsErrOf result ToolError.Write → CutShort (query_text device.now) bytes.now (O.taken out.old) (O.taken out.new) }
+    ensures untouched { IfErr result (λ e. e ≢ ToolError.Write → out.new ≡ out.old) }
+{
+    let text = properties_of(alloc, bytes, device)?;
+    write_text(out, &text)
+}
+
+/// The position that a text spells, if there is a text.
+fn position_of(alloc: Global, after: Option<&str>) -> Result<Option<Position>, ToolError>
+    ensures spelled { IfOk result (λ p. IsAfter after.entry (next_spot p)) }
+    ensures refusals { IfErr result (IsPositionRefusal after.entry) }
+{
+    match after {
+        Some(text) => Ok(Some(Position::read(alloc, text)?)),
+        None => Ok(None),
+    }
+}
+
+/// Prints a line for each of the first `limit` hits after the position that `after` spells (from the
+/// first on without one; all of them without a limit). At most a page of 64 hits is held.
+pub fn run_list<O: Sink>(
+    alloc: Global,
+    bytes: &[u8],
+    device: &[u8],
+    after: Option<&str>,
+    limit: Option<u64>,
+    out: &mut O,
+) -> Result<(), ToolError>
+    ensures printed { OnOk result (Listed device.now after.entry limit bytes.now (O.taken out.old) (O.taken out.new)) }
+
+    ensures refusals { IfErr result (IsListRefusal after.entry bytes.now) }
+    ensures cause { IsErrOf result ToolError.Write → HasFailed (O.failures out.old) (O.failures out.new) }
+    ensures cut_short { IsErrOf result ToolError.Write → ListCutShort device.now after.entry limit bytes.now (O.taken out.old) (O.taken out.new) }
+    ensures whole_lines { IsErrOf result ToolError.Memory
+        → (out.new ≡ out.old) ⊎ ListedLines device.now limit bytes.now (O.taken out.old) (O.taken out.new) }
+    ensures untouched { IfErr result (λ e. e ≢ ToolError.Write → e ≢ ToolError.Memory → out.new ≡ out.old) }
+{
+    let after = position_of(alloc, after)?;
+    let db = check(bytes)?;
+    let mut hits = cursor(alloc, &db, device, after.as_ref(), PAGE)?;
+    print_hits(alloc, &mut hits, limit, out)
+}

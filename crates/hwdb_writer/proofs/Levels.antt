@@ -1,0 +1,100 @@
+-- One level of a set, at an opened node.
+use Rattle.std.proofs.Common.{◌≡◌, ◌≤◌, ◌<◌, ℕ, zero, suc, ◌+◌, List, [], ◌∷◌, length, map, get_or, take, drop, true, false, cond, nat_lt, None, refl, sym, ◌∙◌, ap, subst, arith, add-one}
+use Rattle.std.proofs.Math.Seq.{drop-cons}
+use Rattle.std.proofs.lemmas.List.{drop_all}
+use Rattle.std.proofs.lemmas.Bool.Decides.{nat_tests}
+use Rattle.std.specs.List.{insert}
+use Rattle.hwdb_layout.specs.Tree.{Value, Tree, Children, values_of}
+use Rattle.hwdb_layout.specs.Tree.Tree.{Node}
+use Rattle.hwdb_layout.specs.Tree.Children.{NoMore, Child}
+use Rattle.hwdb_layout.specs.Map.{IsTree, BytesAscend, KeysAscend}
+use Rattle.hwdb_writer.specs.declared.branches.Branch.{Branch}
+use Rattle.hwdb_writer.specs.declared.branches.Branch.TheViews.{out-Branch}
+use Rattle.hwdb_writer.specs.Standing.{standing, value_of, children_in, byte_of, tree_of}
+use Rattle.hwdb_writer.specs.Setting.{set_value, set_below, set_at, set_node, forked, reached, single, below_of}
+use Rattle.hwdb_writer.proofs.Standings.{opened}
+use Rattle.hwdb_writer.proofs.Meetings.{IsEnd}
+
+pub map-insert : {X Y : Type 0} (f : X → Y) (xs : List X) (i : ℕ) (y : X) → map f (insert xs i y) ≡ insert (map f xs) i (f y)
+map-insert f [] zero y = refl
+map-insert f [] (suc i) y = refl
+map-insert f (x ∷ xs) zero y = refl
+map-insert f (x ∷ xs) (suc i) y = ap (λ zs. f x ∷ zs) (map-insert f xs i y)
+
+is_less : (a b : ℕ) → a < b → nat_lt a b ≡ true
+is_less a b h = grind (arith, nat_tests)
+
+not_less : (a b : ℕ) → b ≤ a → nat_lt a b ≡ false
+not_less a b h = grind (arith, nat_tests)
+
+pub drop_at : (xs : List ℕ) (i : ℕ) → i < length xs → drop i xs ≡ get_or xs i 0 ∷ drop (i + 1) xs
+drop_at xs i h = rw (add-one, drop-cons xs i 0 h)
+
+pub fork_ends : (front : List ℕ) (c : ℕ) (lower : Tree) (right : List ℕ) (v : Value) → right ≡ [] → forked front c lower right v ≡ Node front (v ∷ []) (Child c lower NoMore)
+fork_ends front c lower right v e = ap (λ r. forked front c lower r v) e
+
+pub fork_before : (front : List ℕ) (c : ℕ) (lower : Tree) (right : List ℕ) (d : ℕ) (more : List ℕ) (v : Value) → right ≡ d ∷ more → d < c →
+    forked front c lower right v ≡ Node front [] (Child d (single more v) (Child c lower NoMore))
+fork_before front c lower right d more v e lt =
+    ap (λ r. forked front c lower r v) e
+    ∙ ap (λ b. Node front [] (cond b (Child d (single more v) (Child c lower NoMore)) (Child c lower (Child d (single more v) NoMore)))) (is_less d c lt)
+
+pub fork_behind : (front : List ℕ) (c : ℕ) (lower : Tree) (right : List ℕ) (d : ℕ) (more : List ℕ) (v : Value) → right ≡ d ∷ more → c ≤ d →
+    forked front c lower right v ≡ Node front [] (Child c lower (Child d (single more v) NoMore))
+fork_behind front c lower right d more v e le =
+    ap (λ r. forked front c lower r v) e
+    ∙ ap (λ b. Node front [] (cond b (Child d (single more v) (Child c lower NoMore)) (Child c lower (Child d (single more v) NoMore)))) (not_less d c le)
+
+module _ (b : Branch) (rest : List ℕ) (v : Value) (at : ℕ) where
+  abbrev p : List ℕ
+  p = (out-Branch b).prefix.items
+
+  abbrev vals : List Value
+  vals = map value_of (out-Branch b).values.items
+
+  abbrev kids : Children
+  kids = children_in (map standing (out-Branch b).children.items)
+
+  abbrev below : ℕ → List ℕ → Children
+  below d more = set_below d more v kids
+
+  set_opened : IsEnd at p rest → set_at rest v (tree_of b) ≡ set_node below p vals kids (take at p) (drop at p) (drop at rest) v
+  unfolding set_at
+  set_opened e = ap (set_at rest v) (opened b) ∙ ap (λ m. set_node below p vals kids m.front m.left m.right v) e
+
+  parts : Node (drop (at + 1) p) (values_of (tree_of b)) (below_of (tree_of b)) ≡ Node (drop (at + 1) p) vals kids
+  unfolding values_of below_of
+  parts = λ i. Node (drop (at + 1) p) (values_of (opened b i)) (below_of (opened b i))
+
+  pub forks : IsEnd at p rest → at < length p →
+      set_at rest v (tree_of b) ≡ forked (take at p) (get_or p at 0) (Node (drop (at + 1) p) (values_of (tree_of b)) (below_of (tree_of b))) (drop at rest) v
+  forks e lt =
+      set_opened e
+      ∙ ap (λ l. set_node below p vals kids (take at p) l (drop at rest) v) (drop_at p at lt)
+      ∙ ap (λ t. forked (take at p) (get_or p at 0) t (drop at rest) v) (sym parts)
+
+  pub ends : IsEnd at p rest → length p ≤ at → length rest ≤ at → set_at rest v (tree_of b) ≡ Node p (set_value v vals) kids
+  ends e le lr =
+      set_opened e
+      ∙ ap (λ l. set_node below p vals kids (take at p) l (drop at rest) v) (drop_all at p le)
+      ∙ ap (λ r. reached below p vals kids r v) (drop_all at rest lr)
+
+  pub goes : IsEnd at p rest → length p ≤ at → at < length rest → set_at rest v (tree_of b) ≡ Node p vals (set_below (get_or rest at 0) (drop (at + 1) rest) v kids)
+  goes e le lt =
+      set_opened e
+      ∙ ap (λ l. set_node below p vals kids (take at p) l (drop at rest) v) (drop_all at p le)
+      ∙ ap (λ r. reached below p vals kids r v) (drop_at rest at lt)
+
+pub keys_up : (b : Branch) → IsTree (tree_of b) → KeysAscend None (map value_of (out-Branch b).values.items)
+unfolding IsTree
+keys_up b h = let P : Tree → Type 0 = IsTree in let g = subst P (opened b) h in g.0
+
+pub bytes_up : (b : Branch) → IsTree (tree_of b) → BytesAscend 0 (children_in (map standing (out-Branch b).children.items))
+unfolding IsTree
+bytes_up b h = let P : Tree → Type 0 = IsTree in let g = subst P (opened b) h in g.1
+
+pub child_up : (n : ℕ) (bs : List Branch) (i : ℕ) (d : Branch) → BytesAscend n (children_in (map standing bs)) → i < length bs → IsTree (tree_of (get_or bs i d))
+unfolding IsTree
+child_up n [] i d h lt = absurd (omega (arith, lt))
+child_up n (b ∷ bs) zero d h lt = h.1
+child_up n (b ∷ bs) (suc i) d h lt = child_up (byte_of b) bs i d h.2 (omega arith)

@@ -1,0 +1,425 @@
+-- To set a place of a tree is to set it in the map.
+use Rattle.std.proofs.Common.{◌≡◌, ℕ, List, [], ◌∷◌, ◌++◌, map, flat_map, Bool, true, false, cond, Option, Some, None, refl, sym, ◌∙◌, ap, subst, arith, append_assoc, eqb, nat_lt, Ordering}
+use Rattle.std.specs.declared.cmp.Ordering.TheVariants.{Less, Equal, Greater}
+use Rattle.std.specs.Ordering.{nat_cmp, eq_by_cmp, is_eq, ordering_then}
+use Rattle.std.specs.Cmp.{IsTotalOrder, then_total, on_total, nat_cmp_total, tied_itself}
+use Rattle.std.specs.Cmp.Lexicographic.{slice_cmp, nat_list_cmp_total}
+use Rattle.std.specs.FinMap.{IsAntisymmetric, slice_cmp-IsAntisymmetric, nat_cmp-IsAntisymmetric, get-from_entries, get-insert, same_map, insert}
+use Rattle.std.specs.FinMap.Entries.{by_order, find}
+use Rattle.std.proofs.lemmas.Bool.Decides.{nat_tests}
+use Rattle.hwdb_layout.specs.Tree.{Value, Tree, Children}
+use Rattle.hwdb_layout.specs.Tree.Tree.{Node}
+use Rattle.hwdb_layout.specs.Tree.Children.{NoMore, Child}
+use Rattle.hwdb_layout.specs.Map.{Assigned, place_cmp, assigned_at, values_under, values_below, map_of}
+use Rattle.hwdb_layout.specs.Map.{key_of}
+use Rattle.hwdb_writer.specs.Setting.{Meeting, meet, behind, set_value, set_below, set_at, set_node, forked, single}
+
+abbrev pub Place : Type 0
+Place = List ℕ × List ℕ
+
+abbrev pub Entry : Type 0
+Entry = List ℕ × Value
+
+bytes_total : IsTotalOrder (slice_cmp nat_cmp)
+bytes_total = nat_list_cmp_total
+
+pub place_total : IsTotalOrder place_cmp
+place_total = then_total (on_total (λ (p : Place). p.0) nat_list_cmp_total) (on_total (λ (p : Place). p.1) nat_list_cmp_total)
+
+pub bytes_same : IsAntisymmetric (slice_cmp nat_cmp)
+bytes_same = slice_cmp-IsAntisymmetric nat_cmp-IsAntisymmetric
+
+both_equal : (a b : Ordering) → ordering_then a b ≡ Equal → (a ≡ Equal) × (b ≡ Equal)
+both_equal Less b e = absurd (cc)
+both_equal Equal b e = (refl, e)
+both_equal Greater b e = absurd (cc)
+
+pub place_same : IsAntisymmetric place_cmp
+place_same x y e =
+    let b = both_equal (slice_cmp nat_cmp x.0 y.0) (slice_cmp nat_cmp x.1 y.1) e in
+    λ i. (bytes_same x.0 y.0 b.0 i, bytes_same x.1 y.1 b.1 i)
+
+-- the first of two
+unfoldable pub either : {A : Type 0} → Option A → Option A → Option A
+either None y = y
+either (Some x) y = Some x
+
+abbrev pub is_at : Place → Place → Bool
+is_at q p = eq_by_cmp place_cmp q p
+
+abbrev pub given : Value → Assigned
+given v = record { priority = v.priority; line = v.line; value = v.value; path = v.path }
+
+unfoldable pub entries : List Entry → List (Place × Assigned)
+entries xs = flat_map (λ p. assigned_at p.0 p.1 (key_of p.1.key)) xs
+
+unfoldable pub found : Place → List Entry → Option Assigned
+found q xs = find place_cmp q (entries xs)
+
+either_cond : {A : Type 0} (b : Bool) (x y : Option A) (z : A) → either (cond b (Some z) x) y ≡ cond b (Some z) (either x y)
+unfolding either
+either_cond true x y z = refl
+either_cond false x y z = refl
+
+find_both : (q : Place) (xs ys : List (Place × Assigned)) → find place_cmp q (xs ++ ys) ≡ either (find place_cmp q xs) (find place_cmp q ys)
+unfolding either
+find_both q [] ys = refl
+find_both q (x ∷ xs) ys = ap (cond (is_at q x.0) (Some x.1)) (find_both q xs ys) ∙ sym (either_cond (is_at q x.0) (find place_cmp q xs) (find place_cmp q ys) x.1)
+
+unfoldable pub one : (q : Place) (path : List ℕ) (v : Value) → Option Assigned
+one q path v = find place_cmp q (assigned_at path v (key_of v.key))
+
+pub found_cons : (q : Place) (path : List ℕ) (v : Value) (xs : List Entry) → found q ((path, v) ∷ xs) ≡ either (one q path v) (found q xs)
+unfolding found entries one
+found_cons q path v xs = find_both q (assigned_at path v (key_of v.key)) (entries xs)
+
+either_assoc : {A : Type 0} (x y z : Option A) → either (either x y) z ≡ either x (either y z)
+unfolding either
+either_assoc None y z = refl
+either_assoc (Some x) y z = refl
+
+pub found_both : (q : Place) (xs ys : List Entry) → found q (xs ++ ys) ≡ either (found q xs) (found q ys)
+unfolding found entries either
+found_both q [] ys = refl
+found_both q (x ∷ xs) ys =
+    found_cons q x.0 x.1 (xs ++ ys) ∙ ap (either (one q x.0 x.1)) (found_both q xs ys)
+    ∙ sym (either_assoc (one q x.0 x.1) (found q xs) (found q ys)) ∙ ap (λ o. either o (found q ys)) (sym (found_cons q x.0 x.1 xs))
+
+-- a place whose pattern doesn't begin with a path is not below it
+abbrev pub Off : List ℕ → List ℕ → Type 0
+Off path pattern = (r : List ℕ) → pattern ≡ path ++ r → ⊥
+
+pub apart : (q p : Place) → (q.0 ≡ p.0 → ⊥) → is_at q p ≡ false
+apart q p h = no (place_cmp q p) refl
+  where
+    no : (r : Ordering) → place_cmp q p ≡ r → is_eq r ≡ false
+    no Less e = refl
+    no Equal e = absurd (h (ap (λ (x : Place). x.0) (place_same q p e)))
+    no Greater e = refl
+
+pub one_off : (q : Place) (path : List ℕ) (v : Value) → (q.0 ≡ path → ⊥) → one q path v ≡ None
+unfolding one
+one_off q path v h = by (key_of v.key)
+  where
+    by : (k : Option (List ℕ)) → find place_cmp q (assigned_at path v k) ≡ None
+    by None = refl
+    by (Some k) = ap (λ b. cond b (Some (given v)) None) (apart q (path, k) h)
+
+pub append_nil : (xs : List ℕ) → xs ++ [] ≡ xs
+append_nil [] = refl
+append_nil (x ∷ xs) = ap (λ ys. x ∷ ys) (append_nil xs)
+
+pub values_off : (q : Place) (path : List ℕ) (vs : List Value) → (q.0 ≡ path → ⊥) → found q (map (λ v. (path, v)) vs) ≡ None
+unfolding found entries either
+values_off q path [] h = refl
+values_off q path (v ∷ vs) h = found_cons q path v (map (λ v. (path, v)) vs) ∙ (λ i. either (one_off q path v h i) (values_off q path vs h i))
+
+pub off_deeper : (path more pattern : List ℕ) → Off path pattern → Off (path ++ more) pattern
+off_deeper path more pattern h r e = h (more ++ r) (e ∙ append_assoc path more r)
+
+pub off_here : (path pattern : List ℕ) → Off path pattern → pattern ≡ path → ⊥
+off_here path pattern h e = h [] (e ∙ sym (append_nil path))
+
+mutual
+  unfolding values_under found entries either
+
+  pub off_tree : (q : Place) (path : List ℕ) (t : Tree) → Off path q.0 → found q (values_under path t) ≡ None
+  off_tree q path (Node prefix values children) h =
+      let off = off_deeper path prefix q.0 h in
+      found_both q (map (λ v. (path ++ prefix, v)) values) (values_below (path ++ prefix) children)
+      ∙ (λ i. either (values_off q (path ++ prefix) values (off_here _ _ off) i) (off_children q (path ++ prefix) children off i))
+
+  pub off_children : (q : Place) (path : List ℕ) (ks : Children) → Off path q.0 → found q (values_below path ks) ≡ None
+  off_children q path NoMore h = refl
+  off_children q path (Child b t ks) h =
+      found_both q (values_under (path ++ b ∷ []) t) (values_below path ks)
+      ∙ (λ i. either (off_tree q (path ++ b ∷ []) t (off_deeper path (b ∷ []) q.0 h) i) (off_children q path ks h i))
+
+-- what a meeting says of its two lists
+abbrev pub Differ : List ℕ → List ℕ → Type 0
+Differ [] ys = Unit {0}
+Differ (x ∷ xs) [] = Unit {0}
+Differ (x ∷ xs) (y ∷ ys) = x ≡ y → ⊥
+
+pub record Met (a b : List ℕ) (m : Meeting) : Type 0 where
+  pub first : a ≡ m.front ++ m.left
+  pub second : b ≡ m.front ++ m.right
+  pub parted : Differ m.left m.right
+
+alike : (x y : ℕ) → eqb x y ≡ true → x ≡ y
+alike x y e = grind (arith, nat_tests)
+
+unlike : (x y : ℕ) → eqb x y ≡ false → x ≡ y → ⊥
+unlike x y e s = grind (arith, nat_tests)
+
+met_more : (t : Bool) (x y : ℕ) (a b : List ℕ) → eqb x y ≡ t → Met a b (meet a b) → Met (x ∷ a) (y ∷ b) (cond t (behind x (meet a b)) (record { front = []; left = x ∷ a; right = y ∷ b }))
+met_more true x y a b e h = record {
+  first = ap (λ zs. x ∷ zs) h.first;
+  second = λ i. sym (alike x y e) i ∷ h.second i;
+  parted = h.parted;
+}
+met_more false x y a b e h = record { first = refl; second = refl; parted = unlike x y e }
+
+pub met : (a b : List ℕ) → Met a b (meet a b)
+unfolding meet
+met [] b = record { first = refl; second = refl; parted = tt }
+met (x ∷ a) [] = record { first = refl; second = refl; parted = tt }
+met (x ∷ a) (y ∷ b) = met_more (eqb x y) x y a b refl (met a b)
+
+-- `q` is found where it was set, before what was there
+abbrev Sets : Place → Place → Value → List Entry → List Entry → Type 0
+Sets q p v new old = found q new ≡ cond (is_at q p) (Some (given v)) (found q old)
+
+pub is_place : (q p : Place) → is_at q p ≡ true → q ≡ p
+is_place q p e = yes (place_cmp q p) refl e
+  where
+    yes : (r : Ordering) → place_cmp q p ≡ r → is_eq r ≡ true → q ≡ p
+    yes Less h t = absurd (cc)
+    yes Equal h t = place_same q p h
+    yes Greater h t = absurd (cc)
+
+-- a set behind entries that don't have the place
+behind_sets : (b : Bool) (x y : Option Assigned) (z : Assigned) → (b ≡ true → x ≡ None) → either x (cond b (Some z) y) ≡ cond b (Some z) (either x y)
+unfolding either
+behind_sets true x y z none = ap (λ o. either o (Some z)) (none refl)
+behind_sets false x y z none = refl
+
+pub one_is : (q : Place) (path : List ℕ) (v : Value) (k : List ℕ) → key_of v.key ≡ Some k → one q path v ≡ cond (is_at q (path, k)) (Some (given v)) None
+unfolding one
+one_is q path v k e = ap (λ o. find place_cmp q (assigned_at path v o)) e
+
+key_same : (xs ys : List ℕ) → slice_cmp nat_cmp xs ys ≡ Equal → xs ≡ ys
+key_same = bytes_same
+
+pub differs : (q p : Place) → (q ≡ p → ⊥) → is_at q p ≡ false
+differs q p h = no (place_cmp q p) refl
+  where
+    no : (r : Ordering) → place_cmp q p ≡ r → is_eq r ≡ false
+    no Less e = refl
+    no Equal e = absurd (h (place_same q p e))
+    no Greater e = refl
+
+pub stored_is : (xs k : List ℕ) → key_of xs ≡ Some k → xs ≡ 32 ∷ k
+stored_is [] k e = absurd (cc)
+stored_is (c ∷ key) k e = by (eqb c 32) refl e
+  where
+    by : (b : Bool) → eqb c 32 ≡ b → cond b (Some key) None ≡ Some k → c ∷ key ≡ 32 ∷ k
+    by true h g = let a = alike c 32 h in cc
+    by false h g = absurd (cc)
+
+front_sets : (q : Place) (path : List ℕ) (v : Value) (k : List ℕ) → key_of v.key ≡ Some k → (xs : List Entry) → Sets q (path, k) v ((path, v) ∷ xs) xs
+unfolding either
+front_sets q path v k e xs =
+    found_cons q path v xs ∙ ap (λ o. either o (found q xs)) (one_is q path v k e) ∙ either_cond (is_at q (path, k)) None (found q xs) (given v)
+
+shadow : (b : Bool) (z z' : Assigned) (y : Option Assigned) → cond b (Some z) y ≡ cond b (Some z) (cond b (Some z') y)
+shadow true z z' y = refl
+shadow false z z' y = refl
+
+pub one_other : (q : Place) (path : List ℕ) (k : List ℕ) (w : Value) → q ≡ (path, k) → (key_of w.key ≡ Some k → ⊥) → one q path w ≡ None
+unfolding one
+one_other q path k w is other = by (key_of w.key) refl
+  where
+    by : (o : Option (List ℕ)) → key_of w.key ≡ o → find place_cmp q (assigned_at path w o) ≡ None
+    by None h = refl
+    by (Some k') h =
+        ap (λ b. cond b (Some (given w)) None) (differs q (path, k') (λ same. other (h ∙ ap (λ (x : Place). Some x.1) (sym same ∙ is))))
+
+value_step : (q : Place) (path : List ℕ) (v : Value) (k : List ℕ) → key_of v.key ≡ Some k → (w : Value) (vs : List Value) (r : Ordering) → slice_cmp nat_cmp v.key w.key ≡ r →
+    Sets q (path, k) v (map (λ x. (path, x)) (set_value v vs)) (map (λ x. (path, x)) vs) →
+    Sets q (path, k) v (map (λ x. (path, x)) (by_order r (v ∷ w ∷ vs) (v ∷ vs) (w ∷ set_value v vs))) (map (λ x. (path, x)) (w ∷ vs))
+value_step q path v k e w vs Less h ih = front_sets q path v k e (map (λ x. (path, x)) (w ∷ vs))
+value_step q path v k e w vs Equal h ih =
+    let same : w.key ≡ v.key = sym (key_same v.key w.key h) in
+    let xs = map (λ (x : Value). (path, x)) vs in
+    front_sets q path v k e xs ∙ shadow (is_at q (path, k)) (given v) (given w) (found q xs)
+    ∙ ap (cond (is_at q (path, k)) (Some (given v))) (sym (front_sets q path w k (ap key_of same ∙ e) xs))
+value_step q path v k e w vs Greater h ih =
+    let xs = map (λ (x : Value). (path, x)) vs in
+    let other : key_of w.key ≡ Some k → ⊥ = λ g.
+    let same : v.key ≡ w.key = stored_is v.key k e ∙ sym (stored_is w.key k g) in
+    let eq : slice_cmp nat_cmp v.key w.key ≡ Equal = ap (slice_cmp nat_cmp v.key) (sym same) ∙ tied_itself bytes_total v.key in
+    cc in
+    found_cons q path w (map (λ x. (path, x)) (set_value v vs)) ∙ ap (either (one q path w)) ih
+    ∙ behind_sets (is_at q (path, k)) (one q path w) (found q xs) (given v) (λ b. one_other q path k w (is_place q (path, k) b) other)
+    ∙ ap (cond (is_at q (path, k)) (Some (given v))) (sym (found_cons q path w xs))
+
+values_set : (q : Place) (path : List ℕ) (v : Value) (k : List ℕ) → key_of v.key ≡ Some k → (vs : List Value) →
+    Sets q (path, k) v (map (λ w. (path, w)) (set_value v vs)) (map (λ w. (path, w)) vs)
+unfolding set_value
+values_set q path v k e [] = front_sets q path v k e []
+values_set q path v k e (w ∷ vs) = value_step q path v k e w vs (slice_cmp nat_cmp v.key w.key) refl (values_set q path v k e vs)
+
+pub cancel : (path xs ys : List ℕ) → path ++ xs ≡ path ++ ys → xs ≡ ys
+cancel [] xs ys e = e
+cancel (c ∷ path) xs ys e = cancel path xs ys (cc)
+
+pub fork_off : (path : List ℕ) (b d : ℕ) (more : List ℕ) → (d ≡ b → ⊥) → Off (path ++ b ∷ []) (path ++ d ∷ more)
+fork_off path b d more ne r e =
+    let h = cancel path (d ∷ more) (b ∷ r) (e ∙ append_assoc path (b ∷ []) r) in
+    ne (cc)
+
+off_place : (q : Place) (path pattern k : List ℕ) → q ≡ (pattern, k) → Off path pattern → Off path q.0
+off_place q path pattern k e h r g = h r (ap (λ (x : Place). x.0) (sym e) ∙ g)
+
+leaf_sets : (q : Place) (path : List ℕ) (d : ℕ) (more : List ℕ) (v : Value) (k : List ℕ) → key_of v.key ≡ Some k → (xs : List Entry) →
+    Sets q (path ++ d ∷ more, k) v (((path ++ d ∷ []) ++ more, v) ∷ xs) xs
+leaf_sets q path d more v k e xs =
+    let P : List ℕ → Type 0 = λ p. Sets q (p, k) v (((path ++ d ∷ []) ++ more, v) ∷ xs) xs in
+    subst P (append_assoc path (d ∷ []) more) (front_sets q ((path ++ d ∷ []) ++ more) v k e xs)
+
+below_step : (q : Place) (path : List ℕ) (d : ℕ) (more : List ℕ) (v : Value) (k : List ℕ) → key_of v.key ≡ Some k → (b : ℕ) (t : Tree) (ks : Children) (r : Ordering) → nat_cmp d b ≡ r →
+    Sets q ((path ++ b ∷ []) ++ more, k) v (values_under (path ++ b ∷ []) (set_at more v t)) (values_under (path ++ b ∷ []) t) →
+    Sets q (path ++ d ∷ more, k) v (values_below path (set_below d more v ks)) (values_below path ks) →
+    Sets q (path ++ d ∷ more, k) v
+    (values_below path (by_order r (Child d (single more v) (Child b t ks)) (Child b (set_at more v t) ks) (Child b t (set_below d more v ks))))
+    (values_below path (Child b t ks))
+unfolding values_under
+below_step q path d more v k e b t ks Less h it ik = leaf_sets q path d more v k e (values_below path (Child b t ks))
+below_step q path d more v k e b t ks Equal h it ik =
+    let here = path ++ b ∷ [] in
+    let old = values_under here t in
+    let new = values_under here (set_at more v t) in
+    let rest = values_below path ks in
+    let P : List ℕ → Type 0 = λ p. Sets q (p, k) v (new ++ rest) (old ++ rest) in
+    let pattern : here ++ more ≡ path ++ d ∷ more = append_assoc path (b ∷ []) more ∙ ap (λ c. path ++ c ∷ more) (sym (nat_cmp-IsAntisymmetric d b h)) in
+    subst P pattern
+    (found_both q new rest ∙ ap (λ o. either o (found q rest)) it
+    ∙ either_cond (is_at q (here ++ more, k)) (found q old) (found q rest) (given v)
+    ∙ ap (cond (is_at q (here ++ more, k)) (Some (given v))) (sym (found_both q old rest)))
+below_step q path d more v k e b t ks Greater h it ik =
+    let old = values_under (path ++ b ∷ []) t in
+    let ne : d ≡ b → ⊥ = λ same. let eq : nat_cmp d b ≡ Equal = ap (nat_cmp d) (sym same) ∙ tied_itself nat_cmp_total d in cc in
+    found_both q old (values_below path (set_below d more v ks)) ∙ ap (either (found q old)) ik
+    ∙ behind_sets (is_at q (path ++ d ∷ more, k)) (found q old) (found q (values_below path ks)) (given v)
+    (λ y. off_tree q (path ++ b ∷ []) t (off_place q (path ++ b ∷ []) (path ++ d ∷ more) k (is_place q (path ++ d ∷ more, k) y) (fork_off path b d more ne)))
+    ∙ ap (cond (is_at q (path ++ d ∷ more, k)) (Some (given v))) (sym (found_both q old (values_below path ks)))
+
+-- a place behind a path that goes on is not the path
+pub longer : (path : List ℕ) (d : ℕ) (more : List ℕ) → path ++ d ∷ more ≡ path → ⊥
+longer [] d more e = absurd (cc)
+longer (c ∷ path) d more e = longer path d more (cc)
+
+module _ (q : Place) (path : List ℕ) (v : Value) (k : List ℕ) (e : key_of v.key ≡ Some k) (prefix : List ℕ) (values : List Value) (children : Children) where
+  abbrev here : List ℕ
+  here = path ++ prefix
+
+  abbrev old : List Entry
+  old = values_under path (Node prefix values children)
+
+  abbrev vals : List Entry
+  vals = map (λ w. (here, w)) values
+
+  values_case : Sets q (here, k) v (map (λ w. (here, w)) (set_value v values) ++ values_below here children) (vals ++ values_below here children)
+  values_case =
+      found_both q (map (λ w. (here, w)) (set_value v values)) (values_below here children)
+      ∙ ap (λ o. either o (found q (values_below here children))) (values_set q here v k e values)
+      ∙ either_cond (is_at q (here, k)) (found q vals) (found q (values_below here children)) (given v)
+      ∙ ap (cond (is_at q (here, k)) (Some (given v))) (sym (found_both q vals (values_below here children)))
+
+  children_case : (kids : Children) (d : ℕ) (more : List ℕ) → Sets q (here ++ d ∷ more, k) v (values_below here kids) (values_below here children) →
+      Sets q (here ++ d ∷ more, k) v (vals ++ values_below here kids) (vals ++ values_below here children)
+  children_case kids d more ih =
+      found_both q vals (values_below here kids) ∙ ap (either (found q vals)) ih
+      ∙ behind_sets (is_at q (here ++ d ∷ more, k)) (found q vals) (found q (values_below here children)) (given v)
+      (λ y. values_off q here values (λ g. longer here d more (ap (λ (x : Place). x.0) (sym (is_place q (here ++ d ∷ more, k) y)) ∙ g)))
+      ∙ ap (cond (is_at q (here ++ d ∷ more, k)) (Some (given v))) (sym (found_both q vals (values_below here children)))
+
+  -- the node's entries as those of the lower half
+  lower_same : (front : List ℕ) (c : ℕ) (back : List ℕ) → prefix ≡ front ++ c ∷ back →
+      values_under ((path ++ front) ++ c ∷ []) (Node back values children) ≡ values_under path (Node prefix values children)
+  unfolding values_under
+  lower_same front c back p =
+      let same : ((path ++ front) ++ c ∷ []) ++ back ≡ path ++ prefix =
+      append_assoc (path ++ front) (c ∷ []) back ∙ append_assoc path front (c ∷ back) ∙ ap (λ z. path ++ z) (sym p) in
+      ap (λ z. map (λ w. (z, w)) values ++ values_below z children) same
+
+  nil_right : (xs : List Entry) → xs ++ [] ≡ xs
+  nil_right [] = refl
+  nil_right (x ∷ xs) = ap (λ ys. x ∷ ys) (nil_right xs)
+
+  either_none : (x : Option Assigned) → either x None ≡ x
+  unfolding either
+  either_none None = refl
+  either_none (Some x) = refl
+
+  -- the same set, said of another spelling of the pattern
+  at_place : (a b : List ℕ) (new : List Entry) → a ≡ b → Sets q (path ++ a, k) v new old → Sets q (path ++ b, k) v new old
+  at_place a b new same h = h ∙ ap (λ z. cond (is_at q (path ++ z, k)) (Some (given v)) (found q old)) same
+
+  module _ (front : List ℕ) (c : ℕ) (back : List ℕ) (p : prefix ≡ front ++ c ∷ back) where
+    abbrev there : List ℕ
+    there = path ++ front
+
+    abbrev lower : List Entry
+    lower = values_under (there ++ c ∷ []) (Node back values children)
+
+    lower_old : lower ++ [] ≡ old
+    lower_old = nil_right lower ∙ lower_same front c back p
+
+    nothing : either (found q lower) (found q []) ≡ found q lower
+    unfolding found entries
+    nothing = either_none (found q lower)
+
+    fork_by : (d : ℕ) (more : List ℕ) → (c ≡ d → ⊥) → (t : Bool) →
+        Sets q (path ++ (front ++ d ∷ more), k) v
+        (values_under path (Node front [] (cond t (Child d (single more v) (Child c (Node back values children) NoMore)) (Child c (Node back values children) (Child d (single more v) NoMore)))))
+        old
+    unfolding values_under
+    fork_by d more h true =
+        leaf_sets q there d more v k e (lower ++ [])
+        ∙ ap (λ xs. cond (is_at q (there ++ d ∷ more, k)) (Some (given v)) (found q xs)) lower_old
+        ∙ ap (λ z. cond (is_at q (z, k)) (Some (given v)) (found q old)) (append_assoc path front (d ∷ more))
+    fork_by d more h false =
+        found_both q lower (((there ++ d ∷ []) ++ more, v) ∷ []) ∙ ap (either (found q lower)) (leaf_sets q there d more v k e [])
+        ∙ behind_sets (is_at q (there ++ d ∷ more, k)) (found q lower) (found q []) (given v)
+        (λ y. off_tree q (there ++ c ∷ []) (Node back values children)
+        (off_place q (there ++ c ∷ []) (there ++ d ∷ more) k (is_place q (there ++ d ∷ more, k) y) (fork_off there c d more (λ s. h (sym s)))))
+        ∙ ap (cond (is_at q (there ++ d ∷ more, k)) (Some (given v))) (nothing ∙ ap (found q) (lower_same front c back p))
+        ∙ ap (λ z. cond (is_at q (z, k)) (Some (given v)) (found q old)) (append_assoc path front (d ∷ more))
+
+    fork_case : (right : List ℕ) → Differ (c ∷ back) right →
+        Sets q (path ++ (front ++ right), k) v (values_under path (forked front c (Node back values children) right v)) old
+    unfolding values_under
+    fork_case [] h =
+        front_sets q there v k e (lower ++ [])
+        ∙ ap (λ xs. cond (is_at q (there, k)) (Some (given v)) (found q xs)) lower_old
+        ∙ ap (λ z. cond (is_at q (path ++ z, k)) (Some (given v)) (found q old)) (sym (append_nil front))
+    fork_case (d ∷ more) h = fork_by d more h (nat_lt d c)
+
+  node_case : (below : ℕ → List ℕ → Children) → ((d : ℕ) (more : List ℕ) → Sets q (here ++ d ∷ more, k) v (values_below here (below d more)) (values_below here children)) →
+      (rest front left right : List ℕ) → prefix ≡ front ++ left → rest ≡ front ++ right → Differ left right →
+      Sets q (path ++ rest, k) v (values_under path (set_node below prefix values children front left right v)) old
+  unfolding values_under
+  node_case below ih rest front [] [] p r h = at_place prefix rest _ (p ∙ sym r) values_case
+  node_case below ih rest front [] (d ∷ more) p r h =
+      children_case (below d more) d more (ih d more)
+      ∙ ap (λ z. cond (is_at q (z, k)) (Some (given v)) (found q old))
+      (append_assoc path prefix (d ∷ more) ∙ ap (λ z. path ++ z) (ap (λ z. z ++ d ∷ more) (p ∙ append_nil front) ∙ sym r))
+  node_case below ih rest front (c ∷ back) right p r h = at_place (front ++ right) rest _ (sym r) (fork_case front c back p right h)
+
+mutual
+  unfolding set_at values_under
+
+  sets_tree : (q : Place) (path rest : List ℕ) (v : Value) (k : List ℕ) → key_of v.key ≡ Some k → (t : Tree) →
+      Sets q (path ++ rest, k) v (values_under path (set_at rest v t)) (values_under path t)
+  sets_tree q path rest v k e (Node prefix values children) =
+      let ih = λ (d : ℕ) (more : List ℕ). sets_below q (path ++ prefix) d more v k e children in
+      let m = met prefix rest in
+      node_case q path v k e prefix values children (λ d more. set_below d more v children) ih rest
+      (meet prefix rest).front (meet prefix rest).left (meet prefix rest).right m.first m.second m.parted
+
+  sets_below : (q : Place) (path : List ℕ) (d : ℕ) (more : List ℕ) (v : Value) (k : List ℕ) → key_of v.key ≡ Some k → (ks : Children) →
+      Sets q (path ++ d ∷ more, k) v (values_below path (set_below d more v ks)) (values_below path ks)
+  sets_below q path d more v k e NoMore = leaf_sets q path d more v k e []
+  sets_below q path d more v k e (Child b t ks) =
+      below_step q path d more v k e b t ks (nat_cmp d b) refl (sets_tree q (path ++ b ∷ []) more v k e t) (sets_below q path d more v k e ks)
+
+-- the map of a tree with a place set is the map with the place set
+pub map_set : (pattern : List ℕ) (v : Value) (k : List ℕ) → key_of v.key ≡ Some k → (t : Tree) → map_of (set_at pattern v t) ≡ insert (map_of t) (pattern, k) (given v)
+unfolding map_of found entries
+map_set pattern v k e t =
+    same_map place_total place_same _ _ (λ q.
+    get-from_entries place_total _ q ∙ sets_tree q [] pattern v k e t
+    ∙ ap (cond (is_at q (pattern, k)) (Some (given v))) (sym (get-from_entries place_total _ q))
+    ∙ sym (get-insert place_total (map_of t) (pattern, k) (given v) q))

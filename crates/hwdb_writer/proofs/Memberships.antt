@@ -1,0 +1,169 @@
+-- Lists with the same members.
+use Rattle.std.proofs.Common.{◌≡◌, ◌<◌, ℕ, zero, suc, Bor, arith, List, [], ◌∷◌, ◌++◌, length, get_or, refl, sym, ◌∙◌, ap, subst, append_assoc, ◌⊎◌, inl, inr, ⊎_elim}
+use Rattle.hwdb_layout.specs.Written.{ascending}
+use Rattle.hwdb_writer.specs.Membership.{Holds, SameMembers}
+use Rattle.hwdb_writer.specs.Places.{texts, lists}
+use Rattle.hwdb_writer.proofs.Distinct.{one_list, ascending_ordered, holds_ascending, ascending_holds}
+
+pub same_refl : (xs : List (List ℕ)) → SameMembers xs xs
+same_refl xs = record { into = λ s h. h; back = λ s h. h }
+
+pub same_trans : (xs ys zs : List (List ℕ)) → SameMembers xs ys → SameMembers ys zs → SameMembers xs zs
+same_trans xs ys zs a b = record { into = λ s h. b.into s (a.into s h); back = λ s h. a.back s (b.back s h) }
+
+pub same_path : (xs ys : List (List ℕ)) → xs ≡ ys → SameMembers xs ys
+same_path xs ys e = subst (SameMembers xs) e (same_refl xs)
+
+left : (xs ys : List (List ℕ)) (s : List ℕ) → Holds xs s → Holds (xs ++ ys) s
+left [] ys s h = absurd h
+left (x ∷ xs) ys s h = ⊎_elim {C = Holds ((x ∷ xs) ++ ys) s} (λ e. inl e) (λ r. inr (left xs ys s r)) h
+
+right : (xs ys : List (List ℕ)) (s : List ℕ) → Holds ys s → Holds (xs ++ ys) s
+right [] ys s h = h
+right (x ∷ xs) ys s h = inr (right xs ys s h)
+
+either : (xs ys : List (List ℕ)) (s : List ℕ) → Holds (xs ++ ys) s → Holds xs s ⊎ Holds ys s
+either [] ys s h = inr h
+either (x ∷ xs) ys s h =
+    ⊎_elim {C = Holds (x ∷ xs) s ⊎ Holds ys s} (λ e. inl (inl e)) (λ r. ⊎_elim {C = Holds (x ∷ xs) s ⊎ Holds ys s} (λ a. inl (inr a)) (λ b. inr b) (either xs ys s r)) h
+
+pub same_both : (xs ys us vs : List (List ℕ)) → SameMembers xs ys → SameMembers us vs → SameMembers (xs ++ us) (ys ++ vs)
+same_both xs ys us vs a b = record {
+  into = λ s h. ⊎_elim {C = Holds (ys ++ vs) s} (λ x. left ys vs s (a.into s x)) (λ y. right ys vs s (b.into s y)) (either xs us s h);
+  back = λ s h. ⊎_elim {C = Holds (xs ++ us) s} (λ x. left xs us s (a.back s x)) (λ y. right xs us s (b.back s y)) (either ys vs s h);
+}
+
+pub same_swap : (xs ys : List (List ℕ)) → SameMembers (xs ++ ys) (ys ++ xs)
+same_swap xs ys = record {
+  into = λ s h. ⊎_elim {C = Holds (ys ++ xs) s} (λ x. right ys xs s x) (λ y. left ys xs s y) (either xs ys s h);
+  back = λ s h. ⊎_elim {C = Holds (xs ++ ys) s} (λ x. right xs ys s x) (λ y. left xs ys s y) (either ys xs s h);
+}
+
+-- one that is there already
+pub same_again : (xs : List (List ℕ)) (t : List ℕ) → Holds xs t → SameMembers xs (xs ++ t ∷ [])
+same_again xs t h = record {
+  into = λ s g. left xs (t ∷ []) s g;
+  back = λ s g. ⊎_elim {C = Holds xs s} (λ x. x) (λ y. ⊎_elim {C = Holds xs s} (λ e. subst (Holds xs) (sym e) h) (λ z. absurd z) y) (either xs (t ∷ []) s g);
+}
+
+pub same_order : (xs ys : List (List ℕ)) → SameMembers xs ys → ascending xs ≡ ascending ys
+same_order xs ys m =
+    one_list (ascending xs) (ascending ys) (ascending_ordered xs) (ascending_ordered ys) (λ s h. holds_ascending ys s (m.into s (ascending_holds xs s h)))
+    (λ s h. holds_ascending xs s (m.back s (ascending_holds ys s h)))
+
+-- pieces of three lists
+pub same_piece : (o k p k' p' : List (List ℕ)) (x y z : List ℕ) → SameMembers k' (k ++ x ∷ []) → SameMembers p' (p ++ z ∷ []) → SameMembers ((o ++ y ∷ []) ++ k' ++ p') ((o ++ k ++ p) ++ x ∷ y ∷ z ∷ [])
+same_piece o k p k' p' x y z a b = record {
+  into = λ s h.
+      ⊎_elim {C = Holds ((o ++ k ++ p) ++ x ∷ y ∷ z ∷ []) s}
+      (λ ok. ⊎_elim {C = Holds ((o ++ k ++ p) ++ x ∷ y ∷ z ∷ []) s}
+      (λ oy. ⊎_elim {C = Holds ((o ++ k ++ p) ++ x ∷ y ∷ z ∷ []) s} (λ i. left (o ++ k ++ p) _ s (left (o ++ k) p s (left o k s i))) (λ j. right (o ++ k ++ p) _ s (inr (left (y ∷ []) (z ∷ []) s j))) (either o (y ∷ []) s oy))
+      (λ kx. ⊎_elim {C = Holds ((o ++ k ++ p) ++ x ∷ y ∷ z ∷ []) s} (λ i. left (o ++ k ++ p) _ s (left (o ++ k) p s (right o k s i))) (λ j. right (o ++ k ++ p) _ s (left (x ∷ []) (y ∷ z ∷ []) s j)) (either k (x ∷ []) s (a.into s kx)))
+      (either (o ++ y ∷ []) k' s ok))
+      (λ pz. ⊎_elim {C = Holds ((o ++ k ++ p) ++ x ∷ y ∷ z ∷ []) s} (λ i. left (o ++ k ++ p) _ s (right (o ++ k) p s i)) (λ j. right (o ++ k ++ p) _ s (inr (inr j))) (either p (z ∷ []) s (b.into s pz)))
+      (either ((o ++ y ∷ []) ++ k') p' s h);
+  back = λ s h.
+      ⊎_elim {C = Holds ((o ++ y ∷ []) ++ k' ++ p') s}
+      (λ okp. ⊎_elim {C = Holds ((o ++ y ∷ []) ++ k' ++ p') s}
+      (λ ok. ⊎_elim {C = Holds ((o ++ y ∷ []) ++ k' ++ p') s} (λ i. left ((o ++ y ∷ []) ++ k') p' s (left (o ++ y ∷ []) k' s (left o (y ∷ []) s i))) (λ j. left ((o ++ y ∷ []) ++ k') p' s (right (o ++ y ∷ []) k' s (a.back s (left k (x ∷ []) s j)))) (either o k s ok))
+      (λ i. right ((o ++ y ∷ []) ++ k') p' s (b.back s (left p (z ∷ []) s i)))
+      (either (o ++ k) p s okp))
+      (λ xyz. ⊎_elim {C = Holds ((o ++ y ∷ []) ++ k' ++ p') s}
+      (λ e. left ((o ++ y ∷ []) ++ k') p' s (right (o ++ y ∷ []) k' s (a.back s (right k (x ∷ []) s (inl e)))))
+      (λ yz. ⊎_elim {C = Holds ((o ++ y ∷ []) ++ k' ++ p') s}
+      (λ e. left ((o ++ y ∷ []) ++ k') p' s (left (o ++ y ∷ []) k' s (right o (y ∷ []) s (inl e))))
+      (λ zs. right ((o ++ y ∷ []) ++ k') p' s (b.back s (right p (z ∷ []) s zs))) yz)
+      xyz)
+      (either (o ++ k ++ p) (x ∷ y ∷ z ∷ []) s h);
+}
+
+-- one more in the first list
+pub same_first : (o k p : List (List ℕ)) (x : List ℕ) → SameMembers ((o ++ x ∷ []) ++ k ++ p) ((o ++ k ++ p) ++ x ∷ [])
+same_first o k p x = record {
+  into = λ s h.
+      ⊎_elim {C = Holds ((o ++ k ++ p) ++ x ∷ []) s}
+      (λ ok. ⊎_elim {C = Holds ((o ++ k ++ p) ++ x ∷ []) s}
+      (λ ox. ⊎_elim {C = Holds ((o ++ k ++ p) ++ x ∷ []) s} (λ i. left (o ++ k ++ p) (x ∷ []) s (left (o ++ k) p s (left o k s i))) (λ j. right (o ++ k ++ p) (x ∷ []) s j) (either o (x ∷ []) s ox))
+      (λ i. left (o ++ k ++ p) (x ∷ []) s (left (o ++ k) p s (right o k s i))) (either (o ++ x ∷ []) k s ok))
+      (λ i. left (o ++ k ++ p) (x ∷ []) s (right (o ++ k) p s i)) (either ((o ++ x ∷ []) ++ k) p s h);
+  back = λ s h.
+      ⊎_elim {C = Holds ((o ++ x ∷ []) ++ k ++ p) s}
+      (λ okp. ⊎_elim {C = Holds ((o ++ x ∷ []) ++ k ++ p) s}
+      (λ ok. ⊎_elim {C = Holds ((o ++ x ∷ []) ++ k ++ p) s} (λ i. left ((o ++ x ∷ []) ++ k) p s (left (o ++ x ∷ []) k s (left o (x ∷ []) s i))) (λ j. left ((o ++ x ∷ []) ++ k) p s (right (o ++ x ∷ []) k s j)) (either o k s ok))
+      (λ i. right ((o ++ x ∷ []) ++ k) p s i) (either (o ++ k) p s okp))
+      (λ i. left ((o ++ x ∷ []) ++ k) p s (left (o ++ x ∷ []) k s (right o (x ∷ []) s i)))
+      (either (o ++ k ++ p) (x ∷ []) s h);
+}
+
+-- a loop's step, and its end
+pub same_more : (now next piece rest whole : List (List ℕ)) → SameMembers next (now ++ piece) → SameMembers (now ++ (piece ++ rest)) whole → SameMembers (next ++ rest) whole
+same_more now next piece rest whole a b =
+    same_trans (next ++ rest) ((now ++ piece) ++ rest) whole (same_both next (now ++ piece) rest rest a (same_refl rest))
+    (same_trans ((now ++ piece) ++ rest) (now ++ (piece ++ rest)) whole (same_path _ _ (append_assoc now piece rest)) b)
+
+pub same_end : (now whole : List (List ℕ)) → SameMembers (now ++ []) whole → SameMembers now whole
+same_end now whole a = same_trans now (now ++ []) whole (same_path _ _ (sym (nil now))) a
+  where
+    nil : (xs : List (List ℕ)) → xs ++ [] ≡ xs
+    nil [] = refl
+    nil (x ∷ xs) = ap (λ ys. x ∷ ys) (nil xs)
+
+-- a prefix, then the values' strings, then those below
+pub same_parts : (start one two end : List (List ℕ)) (p : List ℕ) (vs ks : List (List ℕ)) → SameMembers one (start ++ p ∷ []) → SameMembers two (one ++ vs) → SameMembers end (two ++ ks) → SameMembers end (start ++ ((p ∷ vs) ++ ks))
+same_parts start one two end p vs ks a b c =
+    same_trans end (two ++ ks) _ c
+    (same_trans (two ++ ks) ((one ++ vs) ++ ks) _ (same_both two (one ++ vs) ks ks b (same_refl ks))
+    (same_trans ((one ++ vs) ++ ks) (((start ++ p ∷ []) ++ vs) ++ ks) _ (same_both (one ++ vs) ((start ++ p ∷ []) ++ vs) ks ks (same_both one (start ++ p ∷ []) vs vs a (same_refl vs)) (same_refl ks))
+    (same_path _ _ (simp append_assoc))))
+
+pub held_at : (xs : List (Bor (List ℕ))) (i : ℕ) (d : Bor (List ℕ)) → i < length xs → Holds (texts xs) (get_or xs i d).now
+held_at [] i d lt = absurd (omega (arith, lt))
+held_at (x ∷ xs) zero d lt = inl refl
+held_at (x ∷ xs) (suc i) d lt = inr (held_at xs i d (omega (arith, lt)))
+
+pub same_last : (xs ys : List (Bor (List ℕ))) (i : ℕ) (d : Bor (List ℕ)) (t : List ℕ) → xs ≡ ys → i < length xs → (get_or xs i d).now ≡ t → SameMembers (texts ys) (texts ys ++ t ∷ [])
+same_last xs ys i d t e lt is =
+    let P : List (Bor (List ℕ)) → Type 0 = λ zs. Holds (texts zs) t in
+    same_again (texts ys) t (subst P e (subst (Holds (texts xs)) is (held_at xs i d lt)))
+
+-- a step where the rest is one piece and what is left then
+pub same_step : (now next piece left rest whole : List (List ℕ)) → SameMembers next (now ++ piece) → rest ≡ piece ++ left → SameMembers (now ++ rest) whole → SameMembers (next ++ left) whole
+same_step now next piece left rest whole a e b =
+    let P : List (List ℕ) → Type 0 = λ z. SameMembers (now ++ z) whole in
+    same_more now next piece left whole a (subst P e b)
+
+pub same_done : (now rest whole : List (List ℕ)) → rest ≡ [] → SameMembers (now ++ rest) whole → SameMembers now whole
+same_done now rest whole e b = let P : List (List ℕ) → Type 0 = λ z. SameMembers (now ++ z) whole in same_end now whole (subst P e b)
+
+-- a value's three strings
+pub same_value : (o o' k k' p p' : List (Bor (List ℕ))) (x y z x' z' : List ℕ) → texts o' ≡ texts o ++ y ∷ [] → x' ≡ x → z' ≡ z → SameMembers (texts k') (texts k ++ x' ∷ []) → SameMembers (texts p') (texts p ++ z' ∷ []) →
+    SameMembers (lists o' k' p') (lists o k p ++ x ∷ y ∷ z ∷ [])
+same_value o o' k k' p p' x y z x' z' e f g a b =
+    let A : List ℕ → Type 0 = λ s. SameMembers (texts k') (texts k ++ s ∷ []) in
+    let B : List ℕ → Type 0 = λ s. SameMembers (texts p') (texts p ++ s ∷ []) in
+    let C : List (List ℕ) → Type 0 = λ s. SameMembers (s ++ texts k' ++ texts p') (lists o k p ++ x ∷ y ∷ z ∷ []) in
+    subst C (sym e) (same_piece (texts o) (texts k) (texts p) (texts k') (texts p') x y z (subst A f a) (subst B g b))
+
+pub same_prefix : (o o' k p : List (Bor (List ℕ))) (x : List ℕ) → texts o' ≡ texts o ++ x ∷ [] → SameMembers (lists o' k p) (lists o k p ++ x ∷ [])
+same_prefix o o' k p x e =
+    let C : List (List ℕ) → Type 0 = λ s. SameMembers (s ++ texts k ++ texts p) (lists o k p ++ x ∷ []) in
+    subst C (sym e) (same_first (texts o) (texts k) (texts p) x)
+
+-- what was collected, as a whole
+pub same_whole : (o o' k p : List (Bor (List ℕ))) (all : List (List ℕ)) → texts o' ≡ texts o ++ texts k ++ texts p → SameMembers (lists o k p) all → ascending (texts o') ≡ ascending all
+same_whole o o' k p all e a = ap ascending e ∙ same_order (lists o k p) all a
+
+texts-append : (xs ys : List (Bor (List ℕ))) → texts (xs ++ ys) ≡ texts xs ++ texts ys
+texts-append [] ys = refl
+texts-append (x ∷ xs) ys = ap (λ zs. x.now ∷ zs) (texts-append xs ys)
+
+pub texts_joined : (a b c k k' p p' : List (Bor (List ℕ))) → b ≡ a ++ k' → k' ≡ k → c ≡ b ++ p' → p' ≡ p → texts c ≡ texts a ++ texts k ++ texts p
+texts_joined a b c k k' p p' e f g h =
+    ap texts (g ∙ (λ i. e i ++ h i) ∙ (λ i. (a ++ f i) ++ p)) ∙ texts-append (a ++ k) p ∙ ap (λ zs. zs ++ texts p) (texts-append a k)
+
+-- the lists before anything is collected
+pub at_first : (o0 o k p : List (Bor (List ℕ))) (x : Bor (List ℕ)) → o0 ≡ [] → o ≡ o0 ++ x ∷ [] → x.now ≡ [] → k ≡ [] → p ≡ [] → lists o k p ≡ [] ∷ []
+at_first o0 o k p x e f g h j = (λ i. lists ((f ∙ ap (λ z. z ++ x ∷ []) e) i) (h i) (j i)) ∙ ap (λ s. s ∷ []) g
+
+pub collected : (now start : List (List ℕ)) (more : List (List ℕ)) → start ≡ [] ∷ [] → SameMembers now (start ++ more) → SameMembers now ([] ∷ more)
+collected now start more e a = let P : List (List ℕ) → Type 0 = λ z. SameMembers now (z ++ more) in subst P e a

@@ -1,0 +1,24 @@
+use Rattle.std.proofs.Common.{ap, ◌∙◌, map}
+use Rattle.std.specs.List.{insert}
+use Rattle.hwdb_layout.specs.Tree.Tree.{Node}
+use Rattle.hwdb_writer.specs.Standing.{value_of, standing, children_in}
+use Rattle.hwdb_writer.specs.declared.branches.Branch.TheViews.{out-Branch}
+use Rattle.hwdb_writer.proofs.Standings.{rolled, byte_kept, lowered}
+use Rattle.hwdb_writer.proofs.Levels.{map-insert}
+use Rattle.hwdb_writer.proofs.Rolls.{out_rolled}
+use Rattle.hwdb_writer.proofs.branches.adopt.Goals as goal
+
+pub returns-clause-same : goal.returns-clause-same
+returns-clause-same c =
+    let x = ap out-Branch c.swap.ensures.x_after ∙ out_rolled _ in
+    byte_kept c.args.node.now _ (ap (λ r. r.byte) x)
+
+pub returns-clause-tree : goal.returns-clause-tree
+returns-clause-tree c =
+    let x = ap out-Branch c.swap.ensures.x_after ∙ out_rolled _ in
+    let y = c.swap.ensures.y_after in
+    let items = rw (c.unwrap.ensures, ap (λ r. r.children.items) x) at c.insert.ensures.items in
+    rolled _ c.args.front.items c.args.values.items _ (ap (λ r. r.prefix.items) x) (ap (λ r. r.values.items) x) items
+    ∙ ap (λ ks. Node c.args.front.items (map value_of c.args.values.items) (children_in ks))
+    (map-insert standing c.args.others.items c.args.place _
+    ∙ ap (insert (map standing c.args.others.items) c.args.place) (lowered _ c.args.node.now (ap (λ b. (out-Branch b).values.items) y) (ap (λ b. (out-Branch b).children.items) y)))

@@ -1,0 +1,10 @@
+use Rattle.std.proofs.Common.{ap, ◌∙◌, ◌++◌, [], ◌∷◌}
+use Rattle.hwdb_writer.proofs.Standings.{rolled, byte_rolled}
+use Rattle.hwdb_writer.proofs.branches.leaf.Goals as goal
+
+pub returns-clause-tree : goal.returns-clause-tree
+returns-clause-tree c =
+    rolled _ _ _ _ c.in_ok-prefix.ensures.items (c.in_ok-push.ensures.items ∙ ap (λ xs. xs ++ c.args.value ∷ []) c.new-values.ensures.items) c.new.ensures.items
+
+pub returns-clause-byte : goal.returns-clause-byte
+returns-clause-byte c = byte_rolled _

@@ -1,0 +1,5 @@
+use Rattle.hwdb_writer.proofs.OneTree.{one_written}
+use Rattle.hwdb_writer.proofs.laws.law_one_written_form.Goals as goal
+
+pub returns : goal.returns
+returns c = one_written

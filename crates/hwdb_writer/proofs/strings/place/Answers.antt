@@ -1,0 +1,24 @@
+use Rattle.std.proofs.Common.{arith}
+use Rattle.std.specs.Cmp.Lexicographic.{same_text}
+use Rattle.hwdb_writer.proofs.Placing.{found_place, missed_place, near_place, enough}
+use Rattle.hwdb_writer.proofs.strings.place.Goals as goal
+
+pub bounds-starts-i : goal.bounds-starts-i
+bounds-starts-i c = enough c.args.table.now.first c.args.table.now.strings.now c.requires.ordered c.args.table.now.starts.now c.requires.starts c.args.s.now c.in-Ok.i (omega (arith, c.in-Ok.ensures.bound))
+
+pub bounds-starts-i-in-Err : goal.bounds-starts-i-in-Err
+bounds-starts-i-in-Err c = enough c.args.table.now.first c.args.table.now.strings.now c.requires.ordered c.args.table.now.starts.now c.requires.starts c.args.s.now c.in-Err.i (omega (arith, c.in-Err.ensures.bound))
+
+pub returns-in-Ok : goal.returns-in-Ok
+returns-in-Ok c = found_place c.args.table.now.first c.args.table.now.strings.now c.requires.ordered c.args.table.now.starts.now c.requires.starts c.args.s.now c.in-Ok.i c.in-Ok.ensures.bound c.in-Ok.ensures.position
+
+pub returns-in-Err : goal.returns-in-Err
+returns-in-Err c = missed_place c.args.table.now.first c.args.table.now.strings.now c.requires.ordered c.args.table.now.starts.now c.requires.starts c.args.s.now c.in-Err.i c.in-Err.ensures.bound c.in-Err.ensures.position
+
+pub bounds-starts-first : goal.bounds-starts-first
+bounds-starts-first c = enough c.args.table.now.first c.args.table.now.strings.now c.requires.ordered c.args.table.now.starts.now c.requires.starts c.args.s.now c.args.near.now (omega (arith, c.if-first-strings.true))
+
+pub returns-then-eq : goal.returns-then-eq
+returns-then-eq c =
+    near_place c.args.table.now.first c.args.table.now.strings.now c.requires.ordered c.args.table.now.starts.now c.requires.starts c.args.s.now c.args.near.now c.if-first-strings.true
+    (same_text _ c.args.s.now c.if-eq.ensures)

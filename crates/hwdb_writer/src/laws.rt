@@ -1,0 +1,15 @@
+//! Laws of the written form. The functions hold no code: each is a law, its contract.
+ghost use Rattle.std.specs.Prelude.{◌≡◌, ℕ, List};
+ghost use Rattle.hwdb_layout.specs.Map.{Map};
+ghost use Rattle.hwdb_layout.specs.Tree.{Tree};
+ghost use Rattle.hwdb_layout.specs.Tight.{IsTightTree, IsWritten};
+
+/// A map has one tight tree at most.
+pub fn law_one_tight_tree()
+    ensures { (m : Map) (t u : Tree) → IsTightTree m t → IsTightTree m u → t ≡ u }
+{}
+
+/// A map has one written form at most.
+pub fn law_one_written_form()
+    ensures { (m : Map) (a b : List ℕ) → IsWritten m a → IsWritten m b → a ≡ b }
+{}

@@ -1,0 +1,19 @@
+//! The back end of the compiler: assignments put in any order, and the database of their map.
+//!
+//! A `Tree` holds assignments by pattern and key; `put` sets one place. `write` gives the one byte
+//! string that the layout and the map determine, whatever order the assignments were put in.
+#![tactic(auto)]
+
+mod assignments;
+mod branches;
+mod laws;
+mod nodes;
+mod records;
+mod strings;
+#[cfg(test)]
+mod tests;
+mod writing;
+
+pub use crate::assignments::Tree;
+pub use crate::laws::{law_one_tight_tree, law_one_written_form};
+pub use crate::writing::{StoreError, write};

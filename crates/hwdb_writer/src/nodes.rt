@@ -1,0 +1,136 @@
+//! The nodes section: each node's record, behind the texts of its children.
+ghost use Rattle.std.specs.Prelude.{◌≡◌, ◌<◌, ◌++◌, ◌∷◌, ◌+◌, ◌*◌, ◌-◌, ◌^◌, OnOk, map, flat_map, min, length};
+ghost use Rattle.byteorder.specs.Endian.{little_bytes};
+ghost use Rattle.hwdb_layout.specs.Written.{strings_of, strings_of_value, text_size, node_text, value_text, record_at, padding};
+ghost use Rattle.hwdb_writer.specs.Standing.{value_of, tree_of, byte_of};
+ghost use Rattle.hwdb_writer.specs.Narrow.{IsNarrow};
+ghost use Rattle.hwdb_writer.specs.Membership.{SameMembers};
+ghost use Rattle.hwdb_writer.specs.Places.{lists, IsTable, place_in};
+
+use crate::branches::{Branch, Stored};
+use crate::records::{
+    CHILD_SIZE, NODE_SIZE, VALUE_SIZE, push_child, push_node, push_rest, push_u16, push_u32,
+    push_u64,
+};
+use crate::strings::{Table, place, push_new};
+use std::alloc::AllocError;
+
+/// Appends the strings of the values: keys and paths only where the ones before them are others.
+fn collect_values<'t>(
+    values: &'t [Stored],
+    out: &mut Vec<&'t [u8]>,
+    keys: &mut Vec<&'t [u8]>,
+    paths: &mut Vec<&'t [u8]>,
+) -> Result<(), AllocError>
+    ensures { OnOk result (SameMembers (lists out.new.items keys.new.items paths.new.items)
+        (lists out.old.items keys.old.items paths.old.items ++ flat_map strings_of_value (map value_of values.now))) }
+{
+    for v in values {
+        push_new(keys, &v.key)?;
+        out.push(&v.value)?;
+        push_new(paths, &v.path)?;
+    }
+    Ok(())
+}
+
+/// Appends the strings of the node and of all below it, keys and paths to lists of their own.
+pub fn collect<'t>(
+    node: &'t Branch,
+    out: &mut Vec<&'t [u8]>,
+    keys: &mut Vec<&'t [u8]>,
+    paths: &mut Vec<&'t [u8]>,
+) -> Result<(), AllocError>
+    ensures { OnOk result (SameMembers (lists out.new.items keys.new.items paths.new.items)
+        (lists out.old.items keys.old.items paths.old.items ++ strings_of (tree_of node.now))) }
+{
+    out.push(&node.prefix)?;
+    collect_values(&node.values, out, keys, paths)?;
+    for child in &node.children {
+        collect(child, out, keys, paths)?;
+    }
+    Ok(())
+}
+
+/// How long a record with so many entries is, or the greatest number where it is longer.
+pub fn record_length(children: usize, values: usize) -> usize
+    ensures { result ≡ min (24 + 16 * children + 32 * values) (2 ^ 64 - 1) }
+{
+    let children = children.saturating_mul(CHILD_SIZE);
+    let values = values.saturating_mul(VALUE_SIZE);
+    children.saturating_add(values).saturating_add(NODE_SIZE)
+}
+
+/// How long the node's text is, or the greatest number where it is longer.
+pub fn text_length(node: &Branch) -> usize
+    ensures { result ≡ min (text_size (tree_of node.now)) (2 ^ 64 - 1) }
+{
+    let children: &[Branch] = &node.children;
+    let values: &[Stored] = &node.values;
+    let mut total = 0usize;
+    for child in children {
+        total = total.saturating_add(text_length(child));
+    }
+    total.saturating_add(record_length(children.len(), values.len()))
+}
+
+/// Where the last strings were found, in the order of the strings.
+#[derive(Drop)]
+pub struct Near {
+    pub prefix: usize,
+    pub key: usize,
+    pub value: usize,
+    pub path: usize,
+}
+
+/// Appends the value entries.
+fn push_values(
+    values: &[Stored],
+    table: &Table<'_, '_>,
+    near: &mut Near,
+    out: &mut Vec<u8>,
+) -> Result<(), AllocError>
+    requires { IsTable table.now }
+    ensures { OnOk result (out.new.items
+        ≡ out.old.items ++ flat_map (value_text (place_in table.now)) (map value_of values.now)) }
+{
+    for v in values {
+        push_u64(out, place(table, &mut near.key, &v.key))?;
+        push_u64(out, place(table, &mut near.value, &v.value))?;
+        push_u64(out, place(table, &mut near.path, &v.path))?;
+        push_u32(out, v.line)?;
+        push_u16(out, v.priority)?;
+        out.extend_from_slice(&[0; 2])?;
+    }
+    Ok(())
+}
+
+/// Appends the node's text to the bytes before it, and its child entry to its parent's.
+pub fn push_text(
+    node: &Branch,
+    table: &Table<'_, '_>,
+    near: &mut Near,
+    entries: &mut Vec<u8>,
+    out: &mut Vec<u8>,
+) -> Result<(), AllocError>
+    requires table { IsTable table.now }
+    requires narrow { IsNarrow (tree_of node.now) }
+    ensures text { OnOk result (out.new.items
+        ≡ out.old.items ++ node_text (place_in table.now) (length out.old.items) (tree_of node.now)) }
+    ensures entry { OnOk result (entries.new.items ≡ entries.old.items
+        ++ (byte_of node.now ∷ padding 7 ++ little_bytes 8 (record_at (length out.old.items) (tree_of node.now)))) }
+{
+    let children: &[Branch] = &node.children;
+    let values: &[Stored] = &node.values;
+    let first = entries.as_slice().len();
+    for child in children {
+        push_text(child, table, near, entries, out)?;
+    }
+    let at = out.as_slice().len();
+    let prefix = place(table, &mut near.prefix, &node.prefix);
+    push_node(out, prefix, children.len() as u8, values.len())?;
+    push_rest(out, entries, first)?;
+    push_values(values, table, near, out)?;
+    entries.truncate(first);
+    push_child(entries, node.byte, at)?;
+    Ok(())
+}

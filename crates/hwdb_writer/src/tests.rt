@@ -1,0 +1,154 @@
+//! The written form at small maps, with the path `/etc/udev/hwdb.d/1.hwdb` and priority 1.
+ghost use Rattle.std.specs.Bool.{OnTrue};
+ghost use Rattle.hwdb_writer.specs.Storable.{HasNoZero};
+
+use super::{StoreError, Tree, write};
+use hwdb_text::Assignment;
+use std::alloc::Global;
+use std::process::Abort;
+use std::test::Fail;
+
+/// The database of no assignment.
+const EMPTY: [u8; 105] = [
+    75, 83, 76, 80, 72, 72, 82, 72, 1, 0, 0, 0, 0, 0, 0, 0, 105, 0, 0, 0, 0, 0, 0, 0, 80, 0, 0, 0,
+    0, 0, 0, 0, 24, 0, 0, 0, 0, 0, 0, 0, 16, 0, 0, 0, 0, 0, 0, 0, 32, 0, 0, 0, 0, 0, 0, 0, 80, 0,
+    0, 0, 0, 0, 0, 0, 24, 0, 0, 0, 0, 0, 0, 0, 1, 0, 0, 0, 0, 0, 0, 0, 104, 0, 0, 0, 0, 0, 0, 0, 0,
+    0, 0, 0, 0, 0, 0, 0, 0, 0, 0, 0, 0, 0, 0, 0, 0,
+];
+
+/// That of the pattern `a` with the key `K` on line 2.
+const ONE: [u8; 206] = [
+    75, 83, 76, 80, 72, 72, 82, 72, 1, 0, 0, 0, 0, 0, 0, 0, 206, 0, 0, 0, 0, 0, 0, 0, 80, 0, 0, 0,
+    0, 0, 0, 0, 24, 0, 0, 0, 0, 0, 0, 0, 16, 0, 0, 0, 0, 0, 0, 0, 32, 0, 0, 0, 0, 0, 0, 0, 136, 0,
+    0, 0, 0, 0, 0, 0, 96, 0, 0, 0, 0, 0, 0, 0, 30, 0, 0, 0, 0, 0, 0, 0, 176, 0, 0, 0, 0, 0, 0, 0,
+    0, 0, 0, 0, 0, 0, 0, 0, 1, 0, 0, 0, 0, 0, 0, 0, 177, 0, 0, 0, 0, 0, 0, 0, 204, 0, 0, 0, 0, 0,
+    0, 0, 180, 0, 0, 0, 0, 0, 0, 0, 2, 0, 0, 0, 1, 0, 0, 0, 176, 0, 0, 0, 0, 0, 0, 0, 1, 0, 0, 0,
+    0, 0, 0, 0, 0, 0, 0, 0, 0, 0, 0, 0, 97, 0, 0, 0, 0, 0, 0, 0, 80, 0, 0, 0, 0, 0, 0, 0, 0, 32,
+    75, 0, 47, 101, 116, 99, 47, 117, 100, 101, 118, 47, 104, 119, 100, 98, 46, 100, 47, 49, 46,
+    104, 119, 100, 98, 0, 118, 0,
+];
+
+/// That of the pattern `a` with the keys `K` on line 2 and `L` on line 3.
+const TWO: [u8; 241] = [
+    75, 83, 76, 80, 72, 72, 82, 72, 1, 0, 0, 0, 0, 0, 0, 0, 241, 0, 0, 0, 0, 0, 0, 0, 80, 0, 0, 0,
+    0, 0, 0, 0, 24, 0, 0, 0, 0, 0, 0, 0, 16, 0, 0, 0, 0, 0, 0, 0, 32, 0, 0, 0, 0, 0, 0, 0, 168, 0,
+    0, 0, 0, 0, 0, 0, 128, 0, 0, 0, 0, 0, 0, 0, 33, 0, 0, 0, 0, 0, 0, 0, 208, 0, 0, 0, 0, 0, 0, 0,
+    0, 0, 0, 0, 0, 0, 0, 0, 2, 0, 0, 0, 0, 0, 0, 0, 209, 0, 0, 0, 0, 0, 0, 0, 239, 0, 0, 0, 0, 0,
+    0, 0, 215, 0, 0, 0, 0, 0, 0, 0, 2, 0, 0, 0, 1, 0, 0, 0, 212, 0, 0, 0, 0, 0, 0, 0, 239, 0, 0, 0,
+    0, 0, 0, 0, 215, 0, 0, 0, 0, 0, 0, 0, 3, 0, 0, 0, 1, 0, 0, 0, 208, 0, 0, 0, 0, 0, 0, 0, 1, 0,
+    0, 0, 0, 0, 0, 0, 0, 0, 0, 0, 0, 0, 0, 0, 97, 0, 0, 0, 0, 0, 0, 0, 80, 0, 0, 0, 0, 0, 0, 0, 0,
+    32, 75, 0, 32, 76, 0, 47, 101, 116, 99, 47, 117, 100, 101, 118, 47, 104, 119, 100, 98, 46, 100,
+    47, 49, 46, 104, 119, 100, 98, 0, 118, 0,
+];
+
+/// Whether there is no byte 0.
+fn has_no_zero(text: &[u8]) -> bool
+    ensures { OnTrue result (HasNoZero text.now) }
+{
+    match text {
+        [] => true,
+        [first, rest @ ..] => {
+            if *first == 0 {
+                return false;
+            }
+            has_no_zero(rest)
+        }
+    }
+}
+
+/// Puts one assignment.
+fn put(
+    rt: &impl Abort,
+    alloc: Global,
+    tree: &mut Tree,
+    line: u32,
+    pattern: &[u8],
+    key: &[u8],
+    value: &[u8],
+) -> Result<(), Fail> {
+    let path = b"/etc/udev/hwdb.d/1.hwdb".as_slice();
+    assert!(rt; pattern.len() <= 4096);
+    assert!(rt; has_no_zero(pattern));
+    assert!(rt; has_no_zero(key));
+    assert!(rt; has_no_zero(value));
+    assert!(rt; has_no_zero(path));
+    let assignment = Assignment {
+        priority: 1,
+        line,
+        pattern: Vec::from_slice(alloc, pattern)?,
+        key: Vec::from_slice(alloc, key)?,
+        value: Vec::from_slice(alloc, value)?,
+        path: Vec::from_slice(alloc, path)?,
+    };
+    tree.put(&assignment)?;
+    Ok(())
+}
+
+/// The database of the patterns, each with the keys from line 2 on.
+fn database(
+    rt: &impl Abort,
+    alloc: Global,
+    patterns: &[&[u8]],
+    keys: &[&[u8]],
+    max_bytes: u32,
+) -> Result<Result<Vec<u8>, StoreError>, Fail> {
+    let mut tree = Tree::new(alloc);
+    for pattern in patterns {
+        let mut line = 2;
+        for key in keys {
+            put(rt, alloc, &mut tree, line, pattern, key, b"v")?;
+            line = 3;
+        }
+    }
+    Ok(write(alloc, &tree, max_bytes))
+}
+
+#[test]
+fn sizes(rt: HostRuntime) -> Result<(), Fail> {
+    let alloc = rt.alloc();
+    let k: &[&[u8]] = &[b"K"];
+    let k_and_l: &[&[u8]] = &[b"K", b"L"];
+    let cases: [(&[&[u8]], &[&[u8]], u32); 7] = [
+        (&[], k, 105),
+        (&[b"a"], k, 206),
+        (&[b""], k, 166),
+        (&[b"ab"], k, 208),
+        (&[b"abc", b"abd"], k, 320),
+        (&[b"abd", b"abc"], k, 320),
+        (&[b"a"], k_and_l, 241),
+    ];
+    for (patterns, keys, size) in &cases {
+        let bytes = database(&rt, alloc, patterns, keys, *size)??;
+        assert_eq!(rt; bytes.len(), *size as usize);
+        let refused = database(&rt, alloc, patterns, keys, size.saturating_sub(1))?;
+        assert!(rt; matches!(&refused, Err(StoreError::TooLarge)));
+    }
+    Ok(())
+}
+
+#[test]
+fn vectors(rt: HostRuntime) -> Result<(), Fail> {
+    let alloc = rt.alloc();
+    let mut tree = Tree::new(alloc);
+    assert_eq!(rt; write(alloc, &tree, 105)?.as_slice(), EMPTY.as_slice());
+    put(&rt, alloc, &mut tree, 2, b"a", b"K", b"v")?;
+    assert_eq!(rt; write(alloc, &tree, 206)?.as_slice(), ONE.as_slice());
+    put(&rt, alloc, &mut tree, 3, b"a", b"L", b"v")?;
+    assert_eq!(rt; write(alloc, &tree, 241)?.as_slice(), TWO.as_slice());
+    Ok(())
+}
+
+#[test]
+fn order_and_last_put(rt: HostRuntime) -> Result<(), Fail> {
+    let alloc = rt.alloc();
+    let k: &[&[u8]] = &[b"K"];
+    let one_way = database(&rt, alloc, &[b"abc", b"abd"], k, 320)??;
+    let other_way = database(&rt, alloc, &[b"abd", b"abc"], k, 320)??;
+    assert_eq!(rt; one_way.as_slice(), other_way.as_slice());
+    let mut tree = Tree::new(alloc);
+    put(&rt, alloc, &mut tree, 2, b"a", b"K", b"w")?;
+    put(&rt, alloc, &mut tree, 3, b"a", b"L", b"v")?;
+    put(&rt, alloc, &mut tree, 2, b"a", b"K", b"v")?;
+    assert_eq!(rt; write(alloc, &tree, 241)?.as_slice(), TWO.as_slice());
+    Ok(())
+}
