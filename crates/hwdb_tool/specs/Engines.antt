@@ -82,8 +82,9 @@ abbrev pub AppendsLines : Option (List ℕ) → Option (List ℕ) → List Found
 AppendsLines before now hits = (n : ℕ) × Appends before now (hits_text (take n hits))
 
 -- a sink took whole lines of it
-pub record ListedLines (device : List ℕ) (limit : Option ℕ) (bytes : List ℕ) (before now : Option (List ℕ)) : Type 0 where
+pub record ListedLines (device : List ℕ) (after : Option (Bor (List ℕ))) (limit : Option ℕ) (bytes : List ℕ) (before now : Option (List ℕ)) : Type 0 where
   pub from : Option Spot
+  pub spelled : IsAfter after from
   pub tree : Tree
   pub database : IsDatabase bytes tree
   pub lines : AppendsLines before now (within_limit limit (answers_after device from tree))
@@ -104,10 +105,16 @@ IsPositionRefusal (Some text) BadPosition = (p : Spot) → IsSpelling p text.now
 IsPositionRefusal after Memory = Unit {0}
 IsPositionRefusal after _ = ⊥
 
--- what `list` may refuse
+-- the bytes are no database, and what was handed in as `after` isn't what is refused
+pub record IsListFault (after : Option (Bor (List ℕ))) (bytes : List ℕ) (fault : DbFault) : Type 0 where
+  pub from : Option Spot
+  pub spelled : IsAfter after from
+  pub no_database : IsNoDatabase bytes fault
+
+-- what `list` may refuse: a text that spells no position before a fault of the database
 abbrev pub IsListRefusal : Option (Bor (List ℕ)) → (bytes : List ℕ) → ToolError → Type 0
 IsListRefusal (Some text) bytes BadPosition = (p : Spot) → IsSpelling p text.now → ⊥
-IsListRefusal after bytes (BadDatabase fault) = IsNoDatabase bytes fault
+IsListRefusal after bytes (BadDatabase fault) = IsListFault after bytes fault
 IsListRefusal after bytes Memory = Unit {0}
 IsListRefusal after bytes Write = Unit {0}
 IsListRefusal after bytes _ = ⊥

@@ -77,7 +77,7 @@ pub fn run_list<O: Sink>(
     ensures cause { IsErrOf result ToolError.Write → HasFailed (O.failures out.old) (O.failures out.new) }
     ensures cut_short { IsErrOf result ToolError.Write → ListCutShort device.now after.entry limit bytes.now (O.taken out.old) (O.taken out.new) }
     ensures whole_lines { IsErrOf result ToolError.Memory
-        → (out.new ≡ out.old) ⊎ ListedLines device.now limit bytes.now (O.taken out.old) (O.taken out.new) }
+        → (out.new ≡ out.old) ⊎ ListedLines device.now after.entry limit bytes.now (O.taken out.old) (O.taken out.new) }
     ensures untouched { IfErr result (λ e. e ≢ ToolError.Write → e ≢ ToolError.Memory → out.new ≡ out.old) }
 {
     let after = position_of(alloc, after)?;

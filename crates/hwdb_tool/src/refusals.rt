@@ -1,5 +1,7 @@
 //! The lines of refusals on standard error.
-ghost use Rattle.std.specs.Prelude.{◌≡◌, ◌≤◌};
+ghost use Rattle.std.specs.Prelude.{◌≡◌};
+ghost use Rattle.hwdb_tool.specs.declared.errors.ToolError.TheVariants.{Memory};
+ghost use Rattle.hwdb_tool.specs.declared.refusals.Refusal.TheVariants.{Plain};
 
 use crate::devices::Sink;
 use crate::errors::ToolError;
@@ -29,12 +31,16 @@ impl Refusal {
 }
 
 impl From<AllocError> for Refusal {
+    ghost from_gives = { λ _ refusal. refusal ≡ Plain Memory };
+
     fn from(_: AllocError) -> Refusal {
         Refusal::Plain(ToolError::Memory)
     }
 }
 
 impl From<ToolError> for Refusal {
+    ghost from_gives = { λ error refusal. refusal ≡ Plain error };
+
     fn from(error: ToolError) -> Refusal {
         Refusal::Plain(error)
     }
@@ -42,7 +48,7 @@ impl From<ToolError> for Refusal {
 
 /// Writes the line of the refusal, and answers the status. Takes no memory.
 pub fn refuse_for<E: Sink>(refusal: &Refusal, err: &mut E) -> u8
-    ensures { result ≤ 1 }
+    ensures { result ≡ 1 }
 {
     match refusal {
         Refusal::At(ToolError::Read, path) => refuse(err, &["hwdb: cannot read ", path.as_str()]),
@@ -58,7 +64,7 @@ pub fn refuse_for<E: Sink>(refusal: &Refusal, err: &mut E) -> u8
 
 /// Writes the line of a refusal that has no path.
 fn refuse_plainly<E: Sink>(error: ToolError, err: &mut E) -> u8
-    ensures { result ≤ 1 }
+    ensures { result ≡ 1 }
 {
     match error {
         ToolError::Read => refuse(err, &["hwdb: cannot read"]),
@@ -79,7 +85,7 @@ fn refuse_plainly<E: Sink>(error: ToolError, err: &mut E) -> u8
 
 /// Writes the line of a fault of the database: its number, and where it has one its offset.
 fn refuse_database<E: Sink>(fault: DbFault, err: &mut E) -> u8
-    ensures { result ≤ 1 }
+    ensures { result ≡ 1 }
 {
     let mut buffer = itoa::Buffer::new();
     match fault {
@@ -103,7 +109,7 @@ fn refuse_database<E: Sink>(fault: DbFault, err: &mut E) -> u8
 /// Writes a line, given in pieces, and answers the status of a refusal. Where `err` fails, nothing more
 /// can be said.
 pub fn refuse<E: Sink>(err: &mut E, pieces: &[&str]) -> u8
-    ensures { result ≤ 1 }
+    ensures { result ≡ 1 }
 {
     for piece in pieces {
         if write_text(err, piece.as_bytes()).is_err() {

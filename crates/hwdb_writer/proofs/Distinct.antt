@@ -1,10 +1,10 @@
 -- Strings in order, each once: a list is determined by its members.
-use Rattle.std.proofs.Common.{◌≡◌, ◌<◌, ℕ, zero, suc, List, [], ◌∷◌, length, get_or, Bool, nat_eq, refl, sym, ◌∙◌, ap, subst, arith, Ordering, inl, inr, ⊎_elim, Bor}
+use Rattle.std.proofs.Common.{◌≡◌, ◌<◌, ℕ, zero, suc, List, [], ◌∷◌, length, get_or, Bool, nat_eq, refl, sym, ◌∙◌, ap, subst, arith, Ordering, inl, inr, ⊎_elim}
 use Rattle.std.specs.declared.cmp.Ordering.TheVariants.{Less, Equal, Greater}
 use Rattle.std.specs.Ordering.{nat_cmp, ordering_reverse}
 use Rattle.std.specs.List.{AllByRecursion, Contains, dedup}
 use Rattle.std.specs.List.Sorted.{IsStrictlySortedBy, IsSorted, IsPermutation}
-use Rattle.std.specs.Cmp.Lexicographic.{slice_cmp, pointwise, nat_list_cmp_total, on_texts, on_texts_equal, texts_ties, same_text}
+use Rattle.std.specs.Cmp.Lexicographic.{slice_cmp, pointwise, nat_list_cmp_total, nat_list_eq_equiv, texts_ties, same_text}
 use Rattle.std.specs.FinMap.{slice_cmp-IsAntisymmetric, nat_cmp-IsAntisymmetric}
 use Rattle.std.specs.FinMap.Entries.{by_order}
 use Rattle.std.proofs.lemmas.Cmp.{tied_itself}
@@ -12,7 +12,6 @@ use Rattle.std.proofs.lemmas.List.Kept.{IsStrictlySortedBy-dedup, Any-dedup, Con
 use Rattle.std.proofs.lemmas.List.Sorted.{Contains-permutation, IsPermutation-sym}
 use Rattle.hwdb_layout.specs.Written.{add_string, ascending}
 use Rattle.hwdb_writer.specs.Membership.{Holds}
-use Rattle.hwdb_writer.specs.Places.{texts}
 
 abbrev Text : Type 0
 Text = List ℕ
@@ -125,56 +124,41 @@ ascending_holds [] u h = h
 ascending_holds (s ∷ ss) u h =
     ⊎_elim {C = Holds (s ∷ ss) u} (λ e. inl e) (λ r. inr (ascending_holds ss u r)) (added_holds s (ascending ss) u h)
 
-pub held : (xs : List (Bor Text)) (s : Text) → Holds (texts xs) s → (x : Bor Text) × Contains xs x × (x.now ≡ s)
+pub held : (xs : List Text) (s : Text) → Holds xs s → Contains xs s
 held [] s h = absurd h
 held (x ∷ xs) s h =
-    ⊎_elim {C = (y : Bor Text) × Contains (x ∷ xs) y × (y.now ≡ s)} (λ e. (x, (0, omega arith, refl), sym e))
-    (λ r. let f = held xs s r in (f.0, (suc (f.1.0), omega (arith, f.1.1), f.1.2), f.2)) h
+    ⊎_elim {C = Contains (x ∷ xs) s} (λ e. (0, omega arith, sym e)) (λ r. let f = held xs s r in (suc f.0, omega (arith, f.1), f.2)) h
 
-holding : (xs : List (Bor Text)) (x : Bor Text) (k : ℕ) → k < length xs → get_or xs k x ≡ x → Holds (texts xs) x.now
+holding : (xs : List Text) (x : Text) (k : ℕ) → k < length xs → get_or xs k x ≡ x → Holds xs x
 holding [] x k lt e = absurd (omega (arith, lt))
-holding (y ∷ ys) x zero lt e = inl (ap (λ z. z.now) (sym e))
+holding (y ∷ ys) x zero lt e = inl (sym e)
 holding (y ∷ ys) x (suc k) lt e = inr (holding ys x k (omega (arith, lt)) e)
 
-pub holds_it : (xs : List (Bor Text)) (x : Bor Text) → Contains xs x → Holds (texts xs) x.now
+pub holds_it : (xs : List Text) (x : Text) → Contains xs x → Holds xs x
 holds_it xs x c = holding xs x c.0 c.1 c.2
 
-all_texts : (x : Bor Text) (ys : List (Bor Text)) → AllByRecursion (λ y. text_cmp x.now y.now ≡ Less) ys → AllByRecursion (λ y. text_cmp x.now y ≡ Less) (texts ys)
-all_texts x [] a = tt
-all_texts x (y ∷ ys) a = (a.0, all_texts x ys a.1)
-
-ordered_texts : (xs : List (Bor Text)) → IsStrictlySortedBy (λ x y. text_cmp x.now y.now) xs → IsOrdered (texts xs)
-unfolding IsStrictlySortedBy
-ordered_texts [] o = tt
-ordered_texts (x ∷ xs) o = (all_texts x xs o.0, ordered_texts xs o.1)
-
-abbrev same_bytes : Bor Text → Bor Text → Bool
-same_bytes x y = pointwise nat_eq x.now y.now
+abbrev same_bytes : Text → Text → Bool
+same_bytes = pointwise nat_eq
 
 -- what a sort and a dedup leave
-module _ (old sorted new : List (Bor Text)) (moved : IsPermutation old sorted) (up : IsSorted (λ x y. text_cmp x.now y.now) sorted) (left : new ≡ dedup same_bytes sorted) where
-  kept : (s : Text) → Holds (texts old) s → Holds (texts new) s
+module _ (old sorted new : List Text) (moved : IsPermutation old sorted) (up : IsSorted text_cmp sorted) (left : new ≡ dedup same_bytes sorted) where
+  kept : (s : Text) → Holds old s → Holds new s
   kept s h =
-      let f = held old s h in
-      let c = Contains-permutation old sorted f.0 moved f.1 in
-      let a = Any-dedup (on_texts_equal (λ (x : Bor Text). x.now)) sorted f.0 c in
-      let P : List (Bor Text) → Type 0 = λ xs. Holds (texts xs) s in
-      let Q : Text → Type 0 = λ t. Holds (texts (dedup same_bytes sorted)) t in
-      subst P (sym left) (subst Q (sym (same_text f.0.now a.1.now (sym a.4)) ∙ f.2) (holds_it (dedup same_bytes sorted) a.1 (a.0, a.2, a.3)))
+      let c = Contains-permutation old sorted s moved (held old s h) in
+      let a = Any-dedup nat_list_eq_equiv sorted s c in
+      let P : List Text → Type 0 = λ xs. Holds xs s in
+      let Q : Text → Type 0 = λ t. Holds (dedup same_bytes sorted) t in
+      subst P (sym left) (subst Q (sym (same_text s a.1 (sym a.4))) (holds_it (dedup same_bytes sorted) a.1 (a.0, a.2, a.3)))
 
-  back : (s : Text) → Holds (texts new) s → Holds (texts old) s
+  back : (s : Text) → Holds new s → Holds old s
   back s h =
-      let P : List (Bor Text) → Type 0 = λ xs. Holds (texts xs) s in
+      let P : List Text → Type 0 = λ xs. Holds xs s in
       let f = held (dedup same_bytes sorted) s (subst P left h) in
-      let c = Contains-permutation sorted old f.0 (IsPermutation-sym old sorted moved) (Contains-from_dedup same_bytes sorted f.0 f.1) in
-      let Q : Text → Type 0 = λ t. Holds (texts old) t in
-      subst Q f.2 (holds_it old f.0 c)
+      holds_it old s (Contains-permutation sorted old s (IsPermutation-sym old sorted moved) (Contains-from_dedup same_bytes sorted s f))
 
-  in_order : IsOrdered (texts new)
-  in_order =
-      let P : List (Bor Text) → Type 0 = λ xs. IsOrdered (texts xs) in
-      subst P (sym left) (ordered_texts (dedup same_bytes sorted) (IsStrictlySortedBy-dedup (on_texts (λ (x : Bor Text). x.now)) (λ x y. texts_ties x.now y.now) sorted up))
+  in_order : IsOrdered new
+  in_order = subst IsOrdered (sym left) (IsStrictlySortedBy-dedup nat_list_cmp_total texts_ties sorted up)
 
-  pub ordered_is : texts new ≡ ascending (texts old)
+  pub ordered_is : new ≡ ascending old
   ordered_is =
-      one_list (texts new) (ascending (texts old)) in_order (ascending_ordered (texts old)) (λ s h. holds_ascending (texts old) s (back s h)) (λ s h. kept s (ascending_holds (texts old) s h))
+      one_list new (ascending old) in_order (ascending_ordered old) (λ s h. holds_ascending old s (back s h)) (λ s h. kept s (ascending_holds old s h))

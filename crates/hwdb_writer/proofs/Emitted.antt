@@ -1,6 +1,5 @@
 -- The steps of the functions that go over a tree in memory.
-use Rattle.hwdb_writer.specs.Places.{texts}
-use Rattle.std.proofs.Common.{◌≡◌, ◌≤◌, ◌<◌, ℕ, zero, suc, ◌+◌, ◌-◌, ◌*◌, ◌^◌, List, [], ◌∷◌, ◌++◌, map, length, get_or, take, drop, min, refl, sym, ◌∙◌, ap, subst, arith, add-one, length-append, append_assoc, Bor}
+use Rattle.std.proofs.Common.{◌≡◌, ◌≤◌, ◌<◌, ℕ, zero, suc, ◌+◌, ◌-◌, ◌*◌, ◌^◌, List, [], ◌∷◌, ◌++◌, map, length, get_or, take, drop, min, refl, sym, ◌∙◌, ap, subst, arith, add-one, length-append, append_assoc}
 use Rattle.std.proofs.Math.Seq.{drop-cons}
 use Rattle.std.proofs.lemmas.List.{drop_all}
 use Rattle.std.specs.List.{flat_map}
@@ -41,14 +40,6 @@ append-[] (y ∷ ys) = ap (λ l. y ∷ l) (append-[] ys)
 -- nothing is left
 pub made_all : {X A : Type 0} (G : List X → List A) → G [] ≡ [] → (xs : List X) (i : ℕ) → length xs ≤ i → (done whole : List A) → done ++ G (drop i xs) ≡ whole → done ≡ whole
 made_all G none xs i le done whole h = sym (append-[] done) ∙ ap (λ l. done ++ l) (sym (ap G (drop_all i xs le) ∙ none)) ∙ h
-
--- pushed references
-pub texts_pushed : (xs ys : List (Bor (List ℕ))) (x : Bor (List ℕ)) (s : List ℕ) → ys ≡ xs ++ x ∷ [] → x.now ≡ s → texts ys ≡ texts xs ++ s ∷ []
-texts_pushed xs ys x s e f = ap texts e ∙ map-append xs (x ∷ []) ∙ ap (λ t. texts xs ++ t ∷ []) f
-  where
-    map-append : (xs ys : List (Bor (List ℕ))) → texts (xs ++ ys) ≡ texts xs ++ texts ys
-    map-append [] ys = refl
-    map-append (x ∷ xs) ys = ap (λ l. x.now ∷ l) (map-append xs ys)
 
 pub three : {A : Type 0} (o a b d : List A) (x y z : A) → a ≡ o ++ x ∷ [] → b ≡ a ++ y ∷ [] → d ≡ b ++ z ∷ [] → d ≡ o ++ x ∷ y ∷ z ∷ []
 three o a b d x y z e f g = g ∙ ap (λ l. l ++ z ∷ []) (f ∙ ap (λ l. l ++ y ∷ []) e) ∙ (simp append_assoc)

@@ -7,6 +7,7 @@ pub mod Rolls
 pub mod Maps
 pub mod Kept
 pub mod Puts
+pub mod Heads
 pub mod Distinct
 pub mod Placing
 pub mod Lengths

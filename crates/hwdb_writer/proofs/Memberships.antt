@@ -1,8 +1,7 @@
 -- Lists with the same members.
-use Rattle.std.proofs.Common.{◌≡◌, ◌<◌, ℕ, zero, suc, Bor, arith, List, [], ◌∷◌, ◌++◌, length, get_or, refl, sym, ◌∙◌, ap, subst, append_assoc, ◌⊎◌, inl, inr, ⊎_elim}
+use Rattle.std.proofs.Common.{◌≡◌, ◌<◌, ℕ, zero, suc, arith, List, [], ◌∷◌, ◌++◌, length, get_or, refl, sym, ◌∙◌, ap, subst, append_assoc, ◌⊎◌, inl, inr, ⊎_elim}
 use Rattle.hwdb_layout.specs.Written.{ascending}
 use Rattle.hwdb_writer.specs.Membership.{Holds, SameMembers}
-use Rattle.hwdb_writer.specs.Places.{texts, lists}
 use Rattle.hwdb_writer.proofs.Distinct.{one_list, ascending_ordered, holds_ascending, ascending_holds}
 
 pub same_refl : (xs : List (List ℕ)) → SameMembers xs xs
@@ -116,15 +115,15 @@ same_parts start one two end p vs ks a b c =
     (same_trans ((one ++ vs) ++ ks) (((start ++ p ∷ []) ++ vs) ++ ks) _ (same_both (one ++ vs) ((start ++ p ∷ []) ++ vs) ks ks (same_both one (start ++ p ∷ []) vs vs a (same_refl vs)) (same_refl ks))
     (same_path _ _ (simp append_assoc))))
 
-pub held_at : (xs : List (Bor (List ℕ))) (i : ℕ) (d : Bor (List ℕ)) → i < length xs → Holds (texts xs) (get_or xs i d).now
+pub held_at : (xs : List (List ℕ)) (i : ℕ) (d : List ℕ) → i < length xs → Holds xs (get_or xs i d)
 held_at [] i d lt = absurd (omega (arith, lt))
 held_at (x ∷ xs) zero d lt = inl refl
 held_at (x ∷ xs) (suc i) d lt = inr (held_at xs i d (omega (arith, lt)))
 
-pub same_last : (xs ys : List (Bor (List ℕ))) (i : ℕ) (d : Bor (List ℕ)) (t : List ℕ) → xs ≡ ys → i < length xs → (get_or xs i d).now ≡ t → SameMembers (texts ys) (texts ys ++ t ∷ [])
+pub same_last : (xs ys : List (List ℕ)) (i : ℕ) (d t : List ℕ) → xs ≡ ys → i < length xs → get_or xs i d ≡ t → SameMembers ys (ys ++ t ∷ [])
 same_last xs ys i d t e lt is =
-    let P : List (Bor (List ℕ)) → Type 0 = λ zs. Holds (texts zs) t in
-    same_again (texts ys) t (subst P e (subst (Holds (texts xs)) is (held_at xs i d lt)))
+    let P : List (List ℕ) → Type 0 = λ zs. Holds zs t in
+    same_again ys t (subst P e (subst (Holds xs) is (held_at xs i d lt)))
 
 -- a step where the rest is one piece and what is left then
 pub same_step : (now next piece left rest whole : List (List ℕ)) → SameMembers next (now ++ piece) → rest ≡ piece ++ left → SameMembers (now ++ rest) whole → SameMembers (next ++ left) whole
@@ -136,34 +135,26 @@ pub same_done : (now rest whole : List (List ℕ)) → rest ≡ [] → SameMembe
 same_done now rest whole e b = let P : List (List ℕ) → Type 0 = λ z. SameMembers (now ++ z) whole in same_end now whole (subst P e b)
 
 -- a value's three strings
-pub same_value : (o o' k k' p p' : List (Bor (List ℕ))) (x y z x' z' : List ℕ) → texts o' ≡ texts o ++ y ∷ [] → x' ≡ x → z' ≡ z → SameMembers (texts k') (texts k ++ x' ∷ []) → SameMembers (texts p') (texts p ++ z' ∷ []) →
-    SameMembers (lists o' k' p') (lists o k p ++ x ∷ y ∷ z ∷ [])
-same_value o o' k k' p p' x y z x' z' e f g a b =
-    let A : List ℕ → Type 0 = λ s. SameMembers (texts k') (texts k ++ s ∷ []) in
-    let B : List ℕ → Type 0 = λ s. SameMembers (texts p') (texts p ++ s ∷ []) in
-    let C : List (List ℕ) → Type 0 = λ s. SameMembers (s ++ texts k' ++ texts p') (lists o k p ++ x ∷ y ∷ z ∷ []) in
-    subst C (sym e) (same_piece (texts o) (texts k) (texts p) (texts k') (texts p') x y z (subst A f a) (subst B g b))
+pub same_value : (o o' k k' p p' : List (List ℕ)) (x y z x' y' z' : List ℕ) → o' ≡ o ++ y' ∷ [] → x' ≡ x → y' ≡ y → z' ≡ z → SameMembers k' (k ++ x' ∷ []) → SameMembers p' (p ++ z' ∷ []) →
+    SameMembers (o' ++ k' ++ p') ((o ++ k ++ p) ++ x ∷ y ∷ z ∷ [])
+same_value o o' k k' p p' x y z x' y' z' e f m g a b =
+    let A : List ℕ → Type 0 = λ s. SameMembers k' (k ++ s ∷ []) in
+    let B : List ℕ → Type 0 = λ s. SameMembers p' (p ++ s ∷ []) in
+    let C : List (List ℕ) → Type 0 = λ s. SameMembers (s ++ k' ++ p') ((o ++ k ++ p) ++ x ∷ y ∷ z ∷ []) in
+    subst C (sym (e ∙ ap (λ w. o ++ w ∷ []) m)) (same_piece o k p k' p' x y z (subst A f a) (subst B g b))
 
-pub same_prefix : (o o' k p : List (Bor (List ℕ))) (x : List ℕ) → texts o' ≡ texts o ++ x ∷ [] → SameMembers (lists o' k p) (lists o k p ++ x ∷ [])
-same_prefix o o' k p x e =
-    let C : List (List ℕ) → Type 0 = λ s. SameMembers (s ++ texts k ++ texts p) (lists o k p ++ x ∷ []) in
-    subst C (sym e) (same_first (texts o) (texts k) (texts p) x)
+pub same_prefix : (o o' k p : List (List ℕ)) (x x' : List ℕ) → o' ≡ o ++ x' ∷ [] → x' ≡ x → SameMembers (o' ++ k ++ p) ((o ++ k ++ p) ++ x ∷ [])
+same_prefix o o' k p x x' e f =
+    let C : List (List ℕ) → Type 0 = λ s. SameMembers (s ++ k ++ p) ((o ++ k ++ p) ++ x ∷ []) in
+    subst C (sym (e ∙ ap (λ w. o ++ w ∷ []) f)) (same_first o k p x)
 
 -- what was collected, as a whole
-pub same_whole : (o o' k p : List (Bor (List ℕ))) (all : List (List ℕ)) → texts o' ≡ texts o ++ texts k ++ texts p → SameMembers (lists o k p) all → ascending (texts o') ≡ ascending all
-same_whole o o' k p all e a = ap ascending e ∙ same_order (lists o k p) all a
-
-texts-append : (xs ys : List (Bor (List ℕ))) → texts (xs ++ ys) ≡ texts xs ++ texts ys
-texts-append [] ys = refl
-texts-append (x ∷ xs) ys = ap (λ zs. x.now ∷ zs) (texts-append xs ys)
-
-pub texts_joined : (a b c k k' p p' : List (Bor (List ℕ))) → b ≡ a ++ k' → k' ≡ k → c ≡ b ++ p' → p' ≡ p → texts c ≡ texts a ++ texts k ++ texts p
-texts_joined a b c k k' p p' e f g h =
-    ap texts (g ∙ (λ i. e i ++ h i) ∙ (λ i. (a ++ f i) ++ p)) ∙ texts-append (a ++ k) p ∙ ap (λ zs. zs ++ texts p) (texts-append a k)
+pub same_whole : (o k p o' all : List (List ℕ)) → o' ≡ (o ++ k) ++ p → SameMembers (o ++ k ++ p) all → ascending o' ≡ ascending all
+same_whole o k p o' all e a = ap ascending e ∙ same_order (o ++ k ++ p) all a
 
 -- the lists before anything is collected
-pub at_first : (o0 o k p : List (Bor (List ℕ))) (x : Bor (List ℕ)) → o0 ≡ [] → o ≡ o0 ++ x ∷ [] → x.now ≡ [] → k ≡ [] → p ≡ [] → lists o k p ≡ [] ∷ []
-at_first o0 o k p x e f g h j = (λ i. lists ((f ∙ ap (λ z. z ++ x ∷ []) e) i) (h i) (j i)) ∙ ap (λ s. s ∷ []) g
+pub at_first : (o0 o k p : List (List ℕ)) (x : List ℕ) → o0 ≡ [] → o ≡ o0 ++ x ∷ [] → x ≡ [] → k ≡ [] → p ≡ [] → o ++ k ++ p ≡ [] ∷ []
+at_first o0 o k p x e f g h j = (λ i. (f ∙ ap (λ z. z ++ x ∷ []) e) i ++ h i ++ j i) ∙ ap (λ s. s ∷ []) g
 
 pub collected : (now start : List (List ℕ)) (more : List (List ℕ)) → start ≡ [] ∷ [] → SameMembers now (start ++ more) → SameMembers now ([] ∷ more)
 collected now start more e a = let P : List (List ℕ) → Type 0 = λ z. SameMembers now (z ++ more) in subst P e a

@@ -1,6 +1,5 @@
 -- The whole of a database.
-use Rattle.hwdb_writer.specs.Places.{texts}
-use Rattle.std.proofs.Common.{◌≡◌, ◌≤◌, ◌<◌, ℕ, ◌+◌, ◌-◌, ◌^◌, List, [], ◌∷◌, ◌++◌, length, min, refl, sym, ◌∙◌, ap, subst, arith, length-append, append_assoc, Bor}
+use Rattle.std.proofs.Common.{◌≡◌, ◌≤◌, ◌<◌, ℕ, ◌+◌, ◌-◌, ◌^◌, List, [], ◌∷◌, ◌++◌, length, min, refl, sym, ◌∙◌, ap, subst, arith, length-append, append_assoc}
 use Rattle.std.specs.Prelude.{codes}
 use Rattle.std.specs.List.{flat_map}
 use Rattle.byteorder.specs.Endian.{little_bytes}
@@ -60,5 +59,5 @@ exact nodes section sum end most size strings a b c d e f = record {
   within = omega (arith, a, b, c, d, e, f);
 }
 
-pub section_is : (t : Tree) (xs ys : List (Bor (List ℕ))) (n : ℕ) → xs ≡ ys → texts ys ≡ table_of t → n ≡ min (length (section_of (texts xs))) (2 ^ 64 - 1) → n ≡ min (length (section_of (table_of t))) (2 ^ 64 - 1)
-section_is t xs ys n e f g = g ∙ ap (λ ss. min (length (section_of ss)) (2 ^ 64 - 1)) (ap texts e ∙ f)
+pub section_is : (t : Tree) (xs ys : List (List ℕ)) (n : ℕ) → xs ≡ ys → ys ≡ table_of t → n ≡ min (length (section_of xs)) (2 ^ 64 - 1) → n ≡ min (length (section_of (table_of t))) (2 ^ 64 - 1)
+section_is t xs ys n e f g = g ∙ ap (λ ss. min (length (section_of ss)) (2 ^ 64 - 1)) (e ∙ f)

@@ -3,6 +3,7 @@ pub mod Setting
 pub mod Found
 pub mod Storable
 pub mod Codes
+pub mod Words
 pub mod Places
 pub mod Narrow
 pub mod Membership

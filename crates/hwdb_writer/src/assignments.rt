@@ -65,7 +65,7 @@ impl Tree {
         let pattern: &[u8] = &a.pattern;
         let priority = a.priority;
         let line = a.line;
-        let mut key = Vec::new(alloc);
+        let mut key = Vec::with_capacity(alloc, a.key.len() + 1)?;
         key.push(b' ')?;
         key.extend_from_slice(&a.key)?;
         let value = Stored {

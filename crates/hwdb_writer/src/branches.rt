@@ -104,7 +104,7 @@ pub fn leaf(alloc: Global, byte: u8, prefix: &[u8], value: Stored) -> Result<Bra
     ensures byte { IfOk result (λ b. byte_of b ≡ byte) }
 {
     let prefix = Vec::from_slice(alloc, prefix)?;
-    let mut values = Vec::new(alloc);
+    let mut values = Vec::with_capacity(alloc, 1)?;
     values.push(value)?;
     Ok(Branch {
         byte,
@@ -162,9 +162,9 @@ pub fn fork(
     let byte = prefix[at];
     let front = Vec::from_slice(alloc, &prefix[..at])?;
     let back = Vec::from_slice(alloc, &prefix[at + 1..])?;
-    let mut values = Vec::new(alloc);
     if at == rest.len() {
         let others = Vec::with_capacity(alloc, 1)?;
+        let mut values = Vec::with_capacity(alloc, 1)?;
         values.push(value)?;
         adopt(node, front, values, others, 0, byte, back);
         return Ok(());
@@ -172,6 +172,7 @@ pub fn fork(
     let other = rest[at];
     let mut others = Vec::with_capacity(alloc, 2)?;
     others.push(leaf(alloc, other, &rest[at + 1..], value)?)?;
+    let values = Vec::new(alloc);
     if other < byte {
         adopt(node, front, values, others, 1, byte, back);
     } else {

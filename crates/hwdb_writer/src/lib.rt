@@ -12,6 +12,7 @@ mod records;
 mod strings;
 #[cfg(test)]
 mod tests;
+mod words;
 mod writing;
 
 pub use crate::assignments::Tree;

@@ -5,7 +5,7 @@ ghost use Rattle.hwdb_layout.specs.Written.{strings_of, strings_of_value, text_s
 ghost use Rattle.hwdb_writer.specs.Standing.{value_of, tree_of, byte_of};
 ghost use Rattle.hwdb_writer.specs.Narrow.{IsNarrow};
 ghost use Rattle.hwdb_writer.specs.Membership.{SameMembers};
-ghost use Rattle.hwdb_writer.specs.Places.{lists, IsTable, place_in};
+ghost use Rattle.hwdb_writer.specs.Places.{IsTable, place_in};
 
 use crate::branches::{Branch, Stored};
 use crate::records::{
@@ -13,21 +13,22 @@ use crate::records::{
     push_u64,
 };
 use crate::strings::{Table, place, push_new};
+use crate::words::Word;
 use std::alloc::AllocError;
 
 /// Appends the strings of the values: keys and paths only where the ones before them are others.
 fn collect_values<'t>(
     values: &'t [Stored],
-    out: &mut Vec<&'t [u8]>,
-    keys: &mut Vec<&'t [u8]>,
-    paths: &mut Vec<&'t [u8]>,
+    out: &mut Vec<Word<'t>>,
+    keys: &mut Vec<Word<'t>>,
+    paths: &mut Vec<Word<'t>>,
 ) -> Result<(), AllocError>
-    ensures { OnOk result (SameMembers (lists out.new.items keys.new.items paths.new.items)
-        (lists out.old.items keys.old.items paths.old.items ++ flat_map strings_of_value (map value_of values.now))) }
+    ensures { OnOk result (SameMembers (out.new.items ++ keys.new.items ++ paths.new.items)
+        ((out.old.items ++ keys.old.items ++ paths.old.items) ++ flat_map strings_of_value (map value_of values.now))) }
 {
     for v in values {
         push_new(keys, &v.key)?;
-        out.push(&v.value)?;
+        out.push(Word::new(&v.value))?;
         push_new(paths, &v.path)?;
     }
     Ok(())
@@ -36,14 +37,14 @@ fn collect_values<'t>(
 /// Appends the strings of the node and of all below it, keys and paths to lists of their own.
 pub fn collect<'t>(
     node: &'t Branch,
-    out: &mut Vec<&'t [u8]>,
-    keys: &mut Vec<&'t [u8]>,
-    paths: &mut Vec<&'t [u8]>,
+    out: &mut Vec<Word<'t>>,
+    keys: &mut Vec<Word<'t>>,
+    paths: &mut Vec<Word<'t>>,
 ) -> Result<(), AllocError>
-    ensures { OnOk result (SameMembers (lists out.new.items keys.new.items paths.new.items)
-        (lists out.old.items keys.old.items paths.old.items ++ strings_of (tree_of node.now))) }
+    ensures { OnOk result (SameMembers (out.new.items ++ keys.new.items ++ paths.new.items)
+        ((out.old.items ++ keys.old.items ++ paths.old.items) ++ strings_of (tree_of node.now))) }
 {
-    out.push(&node.prefix)?;
+    out.push(Word::new(&node.prefix))?;
     collect_values(&node.values, out, keys, paths)?;
     for child in &node.children {
         collect(child, out, keys, paths)?;

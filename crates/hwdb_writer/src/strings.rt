@@ -2,63 +2,65 @@
 ghost use Rattle.std.specs.Prelude.{◌≡◌, ◌<◌, ◌++◌, ◌∷◌, [], ◌+◌, ◌^◌, ◌-◌, OnOk, IfOk, min, length};
 ghost use Rattle.hwdb_layout.specs.Written.{ascending, section_of};
 ghost use Rattle.hwdb_writer.specs.Membership.{SameMembers};
-ghost use Rattle.hwdb_writer.specs.Places.{texts, starts_from, IsTable, place_in};
+ghost use Rattle.hwdb_writer.specs.Places.{starts_from, IsTable, place_in};
 
+use crate::words::Word;
 use std::alloc::{AllocError, Global};
 
 /// The strings in order, where each stands, and where the first of them stands.
 #[derive(Clone, Copy)]
 pub struct Table<'a, 't> {
-    pub strings: &'a [&'t [u8]],
+    pub words: &'a [Word<'t>],
     pub starts: &'a [usize],
     pub first: usize,
 }
 
 /// Appends the text, unless it stands last.
-pub fn push_new<'t>(list: &mut Vec<&'t [u8]>, text: &'t [u8]) -> Result<(), AllocError>
-    ensures { OnOk result (SameMembers (texts list.new.items) (texts list.old.items ++ text.now ∷ [])) }
+pub fn push_new<'t>(list: &mut Vec<Word<'t>>, text: &'t [u8]) -> Result<(), AllocError>
+    ensures { OnOk result (SameMembers list.new.items (list.old.items ++ text.now ∷ [])) }
 {
-    let known: &[&[u8]] = list;
+    let word = Word::new(text);
+    let known: &[Word<'_>] = list;
     let count = known.len();
     if count > 0 {
-        if known[count - 1] == text {
+        if known[count - 1] == word {
             return Ok(());
         }
     }
-    list.push(text)?;
+    list.push(word)?;
     Ok(())
 }
 
 /// Puts the strings in order, each once.
-pub fn order(strings: &mut Vec<&[u8]>) -> Result<(), AllocError>
-    ensures { OnOk result (texts strings.new.items ≡ ascending (texts strings.old.items)) }
+pub fn order(words: &mut Vec<Word<'_>>) -> Result<(), AllocError>
+    ensures { OnOk result (words.new.items ≡ ascending words.old.items) }
 {
-    strings.sort()?;
-    strings.dedup();
+    words.sort()?;
+    words.dedup();
     Ok(())
 }
 
 /// How long the section of the strings is, or the greatest number where it is longer.
-pub fn section_length(strings: &[&[u8]]) -> usize
-    ensures { result ≡ min (length (section_of (texts strings.now))) (2 ^ 64 - 1) }
+pub fn section_length(words: &[Word<'_>]) -> usize
+    ensures { result ≡ min (length (section_of words.now)) (2 ^ 64 - 1) }
 {
     let mut total = 0usize;
-    for s in strings {
-        total = total.saturating_add(s.len()).saturating_add(1);
+    for word in words {
+        total = total.saturating_add(word.text().len()).saturating_add(1);
     }
     total
 }
 
 /// Where each string stands, the first of them at `first`, and where they end.
-pub fn starts(alloc: Global, strings: &[&[u8]], first: usize) -> Result<Vec<usize>, AllocError>
-    requires { first + length (section_of (texts strings.now)) < 2 ^ 64 }
-    ensures { IfOk result (λ v. v.items ≡ starts_from first (texts strings.now)) }
+pub fn starts(alloc: Global, words: &[Word<'_>], first: usize) -> Result<Vec<usize>, AllocError>
+    requires { first + length (section_of words.now) < 2 ^ 64 }
+    ensures { IfOk result (λ v. v.items ≡ starts_from first words.now) }
 {
-    let mut starts = Vec::with_capacity(alloc, strings.len())?;
+    let mut starts = Vec::with_capacity(alloc, words.len())?;
     let mut end = first;
-    for s in strings {
+    for word in words {
         starts.push(end)?;
-        end += s.len() + 1;
+        end += word.text().len() + 1;
     }
     starts.push(end)?;
     Ok(starts)
@@ -69,15 +71,16 @@ pub fn place(table: &Table<'_, '_>, near: &mut usize, s: &[u8]) -> usize
     requires { IsTable table.now }
     ensures { result ≡ place_in table.now s.now }
 {
-    let strings = table.strings;
+    let words = table.words;
     let starts = table.starts;
+    let word = Word::new(s);
     let first = *near;
-    if first < strings.len() {
-        if strings[first] == s {
+    if first < words.len() {
+        if words[first] == word {
             return starts[first];
         }
     }
-    match strings.binary_search(&s) {
+    match words.binary_search(&word) {
         Ok(i) => {
             *near = i;
             starts[i]

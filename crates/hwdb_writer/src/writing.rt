@@ -5,7 +5,6 @@ ghost use Rattle.byteorder.specs.Endian.{little_bytes};
 ghost use Rattle.hwdb_layout.specs.Written.{table_of, text_size, record_at, section_of, written};
 ghost use Rattle.hwdb_layout.specs.Tight.{IsWritten, IsLonger, IsDatabaseOf};
 ghost use Rattle.hwdb_writer.specs.Narrow.{IsNarrow};
-ghost use Rattle.hwdb_writer.specs.Places.{texts};
 ghost use Rattle.hwdb_writer.specs.Standing.{tree_of};
 ghost use Rattle.hwdb_writer.specs.declared.writing.StoreError.TheVariants.{Memory};
 
@@ -14,6 +13,7 @@ use crate::branches::{Branch, Stored};
 use crate::nodes::{Near, collect, push_text, record_length, text_length};
 use crate::records::{CHILD_SIZE, HEADER_SIZE, NODE_SIZE, VALUE_SIZE, push_u64};
 use crate::strings::{Table, order, section_length, starts};
+use crate::words::Word;
 use std::alloc::{AllocError, Global};
 use thiserror::Error;
 
@@ -40,18 +40,18 @@ impl From<AllocError> for StoreError {
 const TOOL_VERSION: usize = 1;
 
 /// The distinct strings of the tree, the empty one among them, in order.
-fn distinct_strings(alloc: Global, root: &Branch) -> Result<Vec<&[u8]>, AllocError>
-    ensures { IfOk result (λ v. texts v.items ≡ table_of (tree_of root.now)) }
+fn distinct_strings(alloc: Global, root: &Branch) -> Result<Vec<Word<'_>>, AllocError>
+    ensures { IfOk result (λ v. v.items ≡ table_of (tree_of root.now)) }
 {
-    let mut strings: Vec<&[u8]> = Vec::new(alloc);
-    let mut keys: Vec<&[u8]> = Vec::new(alloc);
-    let mut paths: Vec<&[u8]> = Vec::new(alloc);
-    strings.push(&[])?;
-    collect(root, &mut strings, &mut keys, &mut paths)?;
-    strings.extend_from_slice(&keys)?;
-    strings.extend_from_slice(&paths)?;
-    order(&mut strings)?;
-    Ok(strings)
+    let mut words: Vec<Word<'_>> = Vec::new(alloc);
+    let mut keys: Vec<Word<'_>> = Vec::new(alloc);
+    let mut paths: Vec<Word<'_>> = Vec::new(alloc);
+    words.push(Word::new(&[]))?;
+    collect(root, &mut words, &mut keys, &mut paths)?;
+    words.append(&mut keys)?;
+    words.append(&mut paths)?;
+    order(&mut words)?;
+    Ok(words)
 }
 
 /// Appends numbers, each in 8 bytes.
@@ -65,11 +65,11 @@ fn push_numbers(out: &mut Vec<u8>, numbers: &[usize]) -> Result<(), AllocError>
 }
 
 /// Appends the string section.
-fn push_strings(out: &mut Vec<u8>, strings: &[&[u8]]) -> Result<(), AllocError>
-    ensures { OnOk result (out.new.items ≡ out.old.items ++ section_of (texts strings.now)) }
+fn push_strings(out: &mut Vec<u8>, words: &[Word<'_>]) -> Result<(), AllocError>
+    ensures { OnOk result (out.new.items ≡ out.old.items ++ section_of words.now) }
 {
-    for s in strings {
-        out.extend_from_slice(s)?;
+    for word in words {
+        out.extend_from_slice(word.text())?;
         out.push(0)?;
     }
     Ok(())
@@ -90,12 +90,12 @@ fn root_place(root: &Branch, nodes: usize) -> usize
 fn database(
     alloc: Global,
     root: &Branch,
-    strings: &[&[u8]],
+    words: &[Word<'_>],
     nodes: usize,
     section: usize,
 ) -> Result<Vec<u8>, AllocError>
     requires narrow { IsNarrow (tree_of root.now) }
-    requires strings { texts strings.now ≡ table_of (tree_of root.now) }
+    requires words { words.now ≡ table_of (tree_of root.now) }
     requires nodes { nodes ≡ text_size (tree_of root.now) }
     requires section { section ≡ length (section_of (table_of (tree_of root.now))) }
     requires fits { 80 + nodes + section < 2 ^ 64 }
@@ -103,9 +103,9 @@ fn database(
 {
     let first = HEADER_SIZE + nodes;
     let end = first + section;
-    let places = starts(alloc, strings, first)?;
+    let places = starts(alloc, words, first)?;
     let table = Table {
-        strings,
+        words,
         starts: &places,
         first,
     };
@@ -123,7 +123,7 @@ fn database(
     };
     let mut entries = Vec::new(alloc);
     push_text(root, &table, &mut near, &mut entries, &mut out)?;
-    push_strings(&mut out, strings)?;
+    push_strings(&mut out, words)?;
     Ok(out)
 }
 
@@ -137,14 +137,14 @@ fn database_within(
     ensures { let bytes = written (tree_of root.now) in IfOk result (λ o.
         MatchOption o (max_bytes < length bytes) (λ v. (v.items ≡ bytes) × (length bytes ≤ max_bytes))) }
 {
-    let strings = distinct_strings(alloc, root)?;
+    let words = distinct_strings(alloc, root)?;
     let nodes = text_length(root);
-    let section = section_length(&strings);
+    let section = section_length(&words);
     let end = nodes.saturating_add(section).saturating_add(HEADER_SIZE);
     if end > max_bytes as usize {
         return Ok(None);
     }
-    let bytes = database(alloc, root, &strings, nodes, section)?;
+    let bytes = database(alloc, root, &words, nodes, section)?;
     Ok(Some(bytes))
 }
 

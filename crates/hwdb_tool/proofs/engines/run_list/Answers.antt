@@ -1,8 +1,9 @@
-use Rattle.std.proofs.Common.{rules, ◌≡◌, ◌∙◌, arith, ap, subst, List, ℕ}
+use Rattle.std.proofs.Common.{rules, ◌≡◌, ◌∙◌, arith, ap, subst, List, ℕ, inr}
 use Rattle.hwdb_reader.specs.View.{db_tree}
 use Rattle.hwdb_query.specs.Answers.{Found, answers_after}
 use Rattle.hwdb_query.specs.Hits.{next_spot, Progress}
 use Rattle.hwdb_tool.specs.Devices.{AppendsPrefix}
+use Rattle.hwdb_tool.specs.Engines.{AppendsLines}
 use Rattle.hwdb_tool.specs.Texts.{hits_text, within_limit}
 use Rattle.hwdb_tool.proofs.Refused.{cursor_refused, lent_spot, not_zero}
 use Rattle.hwdb_tool.proofs.engines.run_list.Goals as goal
@@ -26,3 +27,20 @@ returns-clause-cut_short g c = λ e.
       spelled = c.in_ok-after.ensures.spelled;
       cut_short = record { tree = tree; database = c.in_ok-db.ensures.accepted; taken = subst P all part };
     }
+
+pub returns-clause-whole_lines : goal.returns-clause-whole_lines
+returns-clause-whole_lines g c = λ e.
+    let lines = c.print_hits.ensures.whole_lines e in
+    let begun = c.in_ok-hits.ensures.begins in
+    let device = c.args.device.now in
+    let tree = db_tree c.in_ok-db.db in
+    let all : c.in_ok-hits.hits.to_come ≡ answers_after device (next_spot c.in_ok-after.after) tree =
+    ap (λ (p : Progress). p.to_come) begun ∙ ap (λ s. answers_after device s tree) (lent_spot c.as_ref.result c.in_ok-after.after c.as_ref.ensures.value) in
+    let P : List Found → Type 0 = λ hits. AppendsLines (g.O.Sink.taken c.args.out.now) (g.O.Sink.taken c.print_hits.new.out) (within_limit c.args.limit hits) in
+    inr (record {
+      from = next_spot c.in_ok-after.after;
+      spelled = c.in_ok-after.ensures.spelled;
+      tree = tree;
+      database = c.in_ok-db.ensures.accepted;
+      lines = subst P all lines;
+    })

@@ -1,9 +1,8 @@
 use Rattle.std.proofs.Common.{◌++◌, drop}
 use Rattle.hwdb_writer.specs.Membership.{SameMembers}
-use Rattle.hwdb_writer.specs.Places.{lists}
 use Rattle.hwdb_writer.proofs.Emitted.{kid_strings}
 use Rattle.hwdb_writer.proofs.nodes.+collect.Given as goal
 
 abbrev pub invariant-loop-child : goal.invariant-loop-child
 invariant-loop-child l =
-    SameMembers (lists l.out.items l.keys.items l.paths.items ++ kid_strings (drop l.child-index l.child-items)) (lists l.initial.out.items l.initial.keys.items l.initial.paths.items ++ kid_strings l.child-items)
+    SameMembers ((l.out.items ++ l.keys.items ++ l.paths.items) ++ kid_strings (drop l.child-index l.child-items)) ((l.initial.out.items ++ l.initial.keys.items ++ l.initial.paths.items) ++ kid_strings l.child-items)

@@ -1,24 +1,31 @@
-use Rattle.std.proofs.Common.{arith}
+use Rattle.std.proofs.Common.{◌∙◌, ap, sym, arith}
+use Rattle.std.proofs.lemmas.List.{get_or_default}
 use Rattle.std.specs.Cmp.Lexicographic.{same_text}
-use Rattle.hwdb_writer.proofs.Placing.{found_place, missed_place, near_place, enough}
+use Rattle.hwdb_writer.specs.Places.{place_in}
+use Rattle.hwdb_writer.proofs.Placing.{found_place, missed_place, near_place, enough, nothing}
 use Rattle.hwdb_writer.proofs.strings.place.Goals as goal
 
 pub bounds-starts-i : goal.bounds-starts-i
-bounds-starts-i c = enough c.args.table.now.first c.args.table.now.strings.now c.requires.ordered c.args.table.now.starts.now c.requires.starts c.args.s.now c.in-Ok.i (omega (arith, c.in-Ok.ensures.bound))
+bounds-starts-i c = enough c.args.table.now.first c.args.table.now.words.now c.requires.ordered c.args.table.now.starts.now c.requires.starts c.args.s.now c.in-Ok.i (omega (arith, c.in-Ok.ensures.bound))
 
 pub bounds-starts-i-in-Err : goal.bounds-starts-i-in-Err
-bounds-starts-i-in-Err c = enough c.args.table.now.first c.args.table.now.strings.now c.requires.ordered c.args.table.now.starts.now c.requires.starts c.args.s.now c.in-Err.i (omega (arith, c.in-Err.ensures.bound))
+bounds-starts-i-in-Err c = enough c.args.table.now.first c.args.table.now.words.now c.requires.ordered c.args.table.now.starts.now c.requires.starts c.args.s.now c.in-Err.i (omega (arith, c.in-Err.ensures.bound))
 
 pub returns-in-Ok : goal.returns-in-Ok
-returns-in-Ok c = found_place c.args.table.now.first c.args.table.now.strings.now c.requires.ordered c.args.table.now.starts.now c.requires.starts c.args.s.now c.in-Ok.i c.in-Ok.ensures.bound c.in-Ok.ensures.position
+returns-in-Ok c =
+    found_place c.args.table.now.first c.args.table.now.words.now c.requires.ordered c.args.table.now.starts.now c.requires.starts c.new-word.result c.in-Ok.i c.in-Ok.ensures.bound c.in-Ok.ensures.position
+    ∙ ap (place_in c.args.table.now) c.new-word.ensures
 
 pub returns-in-Err : goal.returns-in-Err
-returns-in-Err c = missed_place c.args.table.now.first c.args.table.now.strings.now c.requires.ordered c.args.table.now.starts.now c.requires.starts c.args.s.now c.in-Err.i c.in-Err.ensures.bound c.in-Err.ensures.position
+returns-in-Err c =
+    missed_place c.args.table.now.first c.args.table.now.words.now c.requires.ordered c.args.table.now.starts.now c.requires.starts c.new-word.result c.in-Err.i c.in-Err.ensures.bound c.in-Err.ensures.position
+    ∙ ap (place_in c.args.table.now) c.new-word.ensures
 
 pub bounds-starts-first : goal.bounds-starts-first
-bounds-starts-first c = enough c.args.table.now.first c.args.table.now.strings.now c.requires.ordered c.args.table.now.starts.now c.requires.starts c.args.s.now c.args.near.now (omega (arith, c.if-first-strings.true))
+bounds-starts-first c = enough c.args.table.now.first c.args.table.now.words.now c.requires.ordered c.args.table.now.starts.now c.requires.starts c.args.s.now c.args.near.now (omega (arith, c.if-first-words.true))
 
 pub returns-then-eq : goal.returns-then-eq
 returns-then-eq c =
-    near_place c.args.table.now.first c.args.table.now.strings.now c.requires.ordered c.args.table.now.starts.now c.requires.starts c.args.s.now c.args.near.now c.if-first-strings.true
-    (same_text _ c.args.s.now c.if-eq.ensures)
+    let known = c.index-words-first.result in
+    near_place c.args.table.now.first c.args.table.now.words.now c.requires.ordered c.args.table.now.starts.now c.requires.starts c.args.s.now c.args.near.now c.if-first-words.true
+    (get_or_default c.args.table.now.words.now c.args.near.now nothing known c.if-first-words.true ∙ sym c.index-words-first.is ∙ same_text known c.new-word.result c.if-eq.ensures ∙ c.new-word.ensures)

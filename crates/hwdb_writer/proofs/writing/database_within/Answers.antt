@@ -1,5 +1,4 @@
-use Rattle.hwdb_writer.specs.Places.{texts}
-use Rattle.std.proofs.Common.{ap, ◌∙◌, arith}
+use Rattle.std.proofs.Common.{◌∙◌, arith}
 use Rattle.hwdb_writer.specs.Standing.{tree_of}
 use Rattle.hwdb_writer.proofs.Wholes.{too_long, exact, length-written, section_is}
 use Rattle.hwdb_writer.proofs.writing.database_within.Goals as goal
@@ -7,7 +6,7 @@ use Rattle.hwdb_writer.proofs.writing.database_within.Goals as goal
 pub returns-then-end-max_bytes : goal.returns-then-end-max_bytes
 returns-then-end-max_bytes c =
     let t = tree_of c.args.root.now in
-    let s = section_is t _ _ _ c.deref.ensures.value c.in_ok-strings.ensures c.section_length-section.ensures in
+    let s = section_is t _ _ _ c.deref.ensures.value c.in_ok-words.ensures c.section_length-section.ensures in
     let l = length-written t in
     let k = too_long _ _ _ _ c.args.max_bytes _ _ c.text_length-nodes.ensures s c.saturating_add.ensures c.saturating_add-end.ensures c.if-end-max_bytes.true in
     omega (arith, l, k)
@@ -15,11 +14,11 @@ returns-then-end-max_bytes c =
 pub database-requires : goal.database-requires
 database-requires c =
     let t = tree_of c.args.root.now in
-    let s = section_is t _ _ _ c.deref.ensures.value c.in_ok-strings.ensures c.section_length-section.ensures in
+    let s = section_is t _ _ _ c.deref.ensures.value c.in_ok-words.ensures c.section_length-section.ensures in
     let x = exact _ _ _ _ c.args.max_bytes _ _ c.text_length-nodes.ensures s c.saturating_add.ensures c.saturating_add-end.ensures c.if-end-max_bytes.false c.ranges.max_bytes.fits in
     record {
       narrow = c.requires;
-      strings = ap texts c.deref-2.ensures.value ∙ c.in_ok-strings.ensures;
+      words = c.deref-2.ensures.value ∙ c.in_ok-words.ensures;
       nodes = x.nodes_is;
       section = x.section_is;
       fits = omega (arith, x.nodes_is, x.section_is, x.within, c.ranges.max_bytes.fits);
@@ -28,6 +27,6 @@ database-requires c =
 pub returns : goal.returns
 returns c =
     let t = tree_of c.args.root.now in
-    let s = section_is t _ _ _ c.deref.ensures.value c.in_ok-strings.ensures c.section_length-section.ensures in
+    let s = section_is t _ _ _ c.deref.ensures.value c.in_ok-words.ensures c.section_length-section.ensures in
     let x = exact _ _ _ _ c.args.max_bytes _ _ c.text_length-nodes.ensures s c.saturating_add.ensures c.saturating_add-end.ensures c.if-end-max_bytes.false c.ranges.max_bytes.fits in
     (c.in_ok-bytes.ensures, omega (arith, length-written t, x.within))

@@ -8,7 +8,7 @@ use Rattle.hwdb_writer.proofs.assignments.Tree.put.Goals as goal
 pub invariant_of-self-2 : goal.invariant_of-self-2
 invariant_of-self-2 c =
     let key = c.in_ok-extend_from_slice.ensures.items
-    ∙ ap (λ xs. xs ++ c.deref.result.now) (c.in_ok-push.ensures.items ∙ ap (λ xs. xs ++ 32 ∷ []) c.new-key.ensures.items)
+    ∙ ap (λ xs. xs ++ c.deref.result.now) (c.in_ok-push.ensures.items ∙ ap (λ xs. xs ++ 32 ∷ []) c.in_ok-key.ensures.items)
     ∙ ap (λ xs. 32 ∷ xs) c.deref.ensures.value in
     let n = subst HasNoZero (sym c.deref-pattern.ensures.value) c.requires.pattern in
     let fit : (i : ℕ) → get_or c.deref-pattern.result.now i 0 < 256 = λ i. search rules in
@@ -22,7 +22,7 @@ invariant_of-self-2 c =
 pub returns-clause-ok : goal.returns-clause-ok
 returns-clause-ok c =
     let key = c.in_ok-extend_from_slice.ensures.items
-    ∙ ap (λ xs. xs ++ c.deref.result.now) (c.in_ok-push.ensures.items ∙ ap (λ xs. xs ++ 32 ∷ []) c.new-key.ensures.items)
+    ∙ ap (λ xs. xs ++ c.deref.result.now) (c.in_ok-push.ensures.items ∙ ap (λ xs. xs ++ 32 ∷ []) c.in_ok-key.ensures.items)
     ∙ ap (λ xs. 32 ∷ xs) c.deref.ensures.value in
     put_is (tree_of c.self.inside.root) _ _ _ _ _ c.args.a.now.key.items _ _ c.in_ok-put_below.ensures.ok c.deref-pattern.ensures.value c.self.view_is key
     (c.in_ok-from_slice.ensures.items ∙ c.deref-2.ensures.value) (c.in_ok-from_slice-2.ensures.items ∙ c.deref-3.ensures.value)

@@ -1,0 +1,57 @@
+-- Strings are compared as their first bytes are, as a number, where these differ.
+use Rattle.std.proofs.Common.{◌≡◌, ◌<◌, ◌≤◌, ℕ, zero, suc, ◌+◌, ◌*◌, ◌^◌, List, [], ◌∷◌, get_or, refl, sym, ◌∙◌, ap, subst, arith, Ordering}
+use Rattle.std.specs.declared.cmp.Ordering.TheVariants.{Less, Equal, Greater}
+use Rattle.std.specs.Ordering.{MatchOrdering, nat_cmp, ordering_then, ordering_reverse}
+use Rattle.std.specs.Cmp.Lexicographic.{slice_cmp, nat_list_cmp_total}
+use Rattle.std.proofs.lemmas.Cmp.{ranked}
+use Rattle.std.proofs.lemmas.Nat.{row_fits}
+use Rattle.byteorder.specs.Endian.{big_from, big_number}
+use Rattle.byteorder.specs.Numbers.{big_from-cons, big_from-lt}
+
+abbrev pub AreBytes : List ℕ → Type 0
+AreBytes xs = (i : ℕ) → get_or xs i 0 < 256
+
+behind : (x : ℕ) (xs : List ℕ) → AreBytes (x ∷ xs) → AreBytes xs
+behind x xs b i = b (suc i)
+
+-- the number of a string is that of its first byte and that of the rest
+front : (n x : ℕ) (xs : List ℕ) → big_from 0 (suc n) (x ∷ xs) ≡ x * 256 ^ n + big_from 0 n xs
+front n x xs = ap (λ m. x * 256 ^ n + m) (big_from-cons 0 n x xs)
+
+none : (i n : ℕ) → big_from i n [] ≡ 0
+none i zero = refl
+none i (suc n) = omega (arith, none (suc i) n)
+
+-- a greater first byte outweighs all bytes behind it
+outweighs : (n x y : ℕ) (xs ys : List ℕ) → AreBytes ys → y < x → big_from 0 (suc n) (x ∷ xs) < big_from 0 (suc n) (y ∷ ys) → ⊥
+outweighs n x y xs ys b lt less =
+    let rest : big_from 0 n ys < 256 ^ n = big_from-lt 0 n ys b in
+    let row : y * 256 ^ n + 256 ^ n ≤ x * 256 ^ n = row_fits y (256 ^ n) x (256 ^ n) lt (omega arith) in
+    omega (arith, rest, row, front n x xs, front n y ys, less)
+
+less_behind : (n x y : ℕ) (xs ys : List ℕ) → x ≡ y → big_from 0 (suc n) (x ∷ xs) < big_from 0 (suc n) (y ∷ ys) → big_from 0 n xs < big_from 0 n ys
+less_behind n x y xs ys e less =
+    let f = front n x xs in
+    let g = front n y ys ∙ ap (λ z. z * 256 ^ n + big_from 0 n ys) (sym e) in
+    omega (arith, f, g, less)
+
+by_first : (x y : ℕ) (r rest : Ordering) → MatchOrdering r (x < y) (x ≡ y) (y < x) → (y < x → ⊥) → (x ≡ y → rest ≡ Less) → ordering_then r rest ≡ Less
+by_first x y Less rest m not same = refl
+by_first x y Equal rest m not same = same m
+by_first x y Greater rest m not same = absurd (not m)
+
+less : (n : ℕ) (xs ys : List ℕ) → AreBytes xs → AreBytes ys → big_from 0 n xs < big_from 0 n ys → slice_cmp nat_cmp xs ys ≡ Less
+less zero xs ys a b lt = absurd (omega (arith, lt))
+less (suc n) [] [] a b lt = absurd (omega (arith, lt))
+less (suc n) [] (y ∷ ys) a b lt = refl
+less (suc n) (x ∷ xs) [] a b lt = absurd (omega (arith, lt, none 0 (suc n)))
+less (suc n) (x ∷ xs) (y ∷ ys) a b lt =
+    by_first x y (nat_cmp x y) (slice_cmp nat_cmp xs ys) (ranked x y (nat_cmp x y) refl) (λ g. outweighs n x y xs ys (behind y ys b) g lt)
+    (λ e. less n xs ys (behind x xs a) (behind y ys b) (less_behind n x y xs ys e lt))
+
+pub less_head : (h k : ℕ) (xs ys : List ℕ) → h ≡ big_number 8 xs → k ≡ big_number 8 ys → AreBytes xs → AreBytes ys → h < k → Less ≡ slice_cmp nat_cmp xs ys
+less_head h k xs ys e f a b lt = sym (less 8 xs ys a b (omega (arith, e, f, lt)))
+
+pub greater_head : (h k : ℕ) (xs ys : List ℕ) → h ≡ big_number 8 xs → k ≡ big_number 8 ys → AreBytes xs → AreBytes ys → k < h → Greater ≡ slice_cmp nat_cmp xs ys
+greater_head h k xs ys e f a b lt =
+    ap ordering_reverse (less_head k h ys xs f e b a lt) ∙ sym (nat_list_cmp_total.antisymm xs ys)

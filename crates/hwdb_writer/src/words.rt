@@ -1,0 +1,105 @@
+//! A string that is ordered by its bytes, with its first eight as one number that is compared first.
+ghost use Rattle.std.specs.Prelude.{◌≡◌, ℕ, List, Some, nat_eq, refl};
+ghost use Rattle.std.specs.Ordering.{nat_cmp};
+ghost use Rattle.std.specs.Cmp.{partial_equiv_from_equiv};
+ghost use Rattle.std.specs.Cmp.Lexicographic.{slice_cmp, pointwise, nat_list_eq_equiv, nat_list_cmp_total, texts_po, texts_ties};
+ghost use Rattle.byteorder.specs.Endian.{big_number};
+ghost use Rattle.hwdb_writer.specs.Codes.{coded_bytes};
+ghost use Rattle.hwdb_writer.specs.Words.{IsHeaded};
+
+use byteorder::{BigEndian, ByteOrder};
+use std::cmp::Ordering;
+use std::marker::Model;
+
+/// A string. Its first eight bytes stand beside it as a number, so that few comparisons look at the
+/// string.
+#[derive(Drop)]
+pub struct Word<'t> {
+    head: u64,
+    text: &'t [u8],
+}
+
+impl<'t> Model for Word<'t> {
+    ghost Value = { List ℕ };
+
+    ghost coded = { coded_bytes };
+
+    ghost view = { λ w. w.text.now };
+
+    ghost invariant = { λ w. IsHeaded w.head w.text.now };
+}
+
+/// The first eight bytes as a number, the highest first; those that a shorter string lacks count as 0.
+fn head_of(text: &[u8]) -> u64
+    ensures { result ≡ big_number 8 text.now }
+{
+    if text.len() >= 8 {
+        return BigEndian::read_u64(text);
+    }
+    let mut bytes = [0; 8];
+    bytes[..text.len()].copy_from_slice(text);
+    BigEndian::read_u64(&bytes)
+}
+
+impl<'t> Word<'t> {
+    /// The word of a string.
+    pub fn new(text: &'t [u8]) -> Word<'t>
+        ensures { result ≡ text.now }
+    {
+        Word {
+            head: head_of(text),
+            text,
+        }
+    }
+
+    /// Its string.
+    pub fn text(&self) -> &'t [u8]
+        ensures { result.now ≡ self.now }
+    {
+        self.text
+    }
+}
+
+impl<'t> PartialEq for Word<'t> {
+    ghost eq = { pointwise nat_eq };
+
+    ghost laws = { partial_equiv_from_equiv nat_list_eq_equiv };
+
+    fn eq(&self, other: &Self) -> bool {
+        self.text == other.text
+    }
+}
+
+impl<'t> Eq for Word<'t> {
+    ghost laws = { nat_list_eq_equiv };
+}
+
+impl<'t> PartialOrd for Word<'t> {
+    ghost partial_cmp = { λ x y. Some (slice_cmp nat_cmp x y) };
+
+    ghost laws = { texts_po };
+
+    fn partial_cmp(&self, other: &Self) -> Option<Ordering> {
+        Some(self.cmp(other))
+    }
+}
+
+impl<'t> Ord for Word<'t> {
+    ghost cmp = { slice_cmp nat_cmp };
+
+    ghost total = { nat_list_cmp_total };
+
+    ghost matches_partial_cmp = { λ x y. refl };
+
+    ghost matches_eq = { texts_ties };
+
+    fn cmp(&self, other: &Self) -> Ordering {
+        if self.head < other.head {
+            return Ordering::Less;
+        }
+        if self.head > other.head {
+            return Ordering::Greater;
+        }
+        self.text.cmp(other.text)
+    }
+}
