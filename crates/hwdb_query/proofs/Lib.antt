@@ -9,6 +9,8 @@ pub mod Distinct
 pub mod Members
 pub mod Gathered
 pub mod Latest
+pub mod LastOnes
+pub mod Computed
 pub mod Accepting
 pub mod Keyed
 pub mod Numbers

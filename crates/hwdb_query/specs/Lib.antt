@@ -5,6 +5,8 @@ pub mod Live
 pub mod Assigned
 pub mod Compiling
 pub mod Surviving
+pub mod Headline
+pub mod Rows
 pub mod Reading
 pub mod Conversions
 pub mod Effective
