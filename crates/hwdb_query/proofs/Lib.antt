@@ -10,6 +10,7 @@ pub mod Members
 pub mod Gathered
 pub mod Latest
 pub mod LastOnes
+pub mod Filled
 pub mod Computed
 pub mod Accepting
 pub mod Keyed

@@ -1,6 +1,6 @@
 -- The answers, said of the plain list of all assignments of the files (hwdb(7): of the assignments with one
 -- pattern and key the last one counts). That the order goes on by pattern and key is our choice.
-use Rattle.std.specs.Prelude.{◌≡◌, ℕ, Bool, false, if◌then◌else◌, List, [], ◌∷◌, map, filter, Option}
+use Rattle.std.specs.Prelude.{◌≡◌, ℕ, Bool, false, if◌then◌else◌, List, [], ◌∷◌, map, filter, Option, None}
 use Rattle.std.specs.List.{list_any}
 use Rattle.hwdb_text.specs.Assignments.{Assigned}
 use Rattle.hwdb_text.specs.Choice.{same}
@@ -9,7 +9,7 @@ use Rattle.hwdb_layout.specs.Database.{IsDatabase}
 use Rattle.hwdb_layout.specs.Map.{map_of}
 use Rattle.hwdb_layout.specs.Tight.{IsDatabaseOf}
 use Rattle.hwdb_query.specs.Lists.{in_order}
-use Rattle.hwdb_query.specs.Answers.{Spot, Found, found_cmp, is_wanted, is_behind, answers_after}
+use Rattle.hwdb_query.specs.Answers.{Spot, Found, found_cmp, is_wanted, is_behind, answers, answers_after}
 use Rattle.hwdb_query.specs.Compiling.{Source, all_assignments, map_of_files}
 
 -- whether two assignments have the same pattern and the same key
@@ -42,3 +42,9 @@ abbrev pub CompiledAnswersAreLast : Type 0
 CompiledAnswersAreLast =
     (etc usr : List Source) (bytes : List ℕ) (t : Tree) → IsDatabaseOf (map_of_files etc usr) bytes → IsDatabase bytes t
     → (device : List ℕ) (after : Option Spot) → answers_after device after t ≡ last_assignments device after (all_assignments etc usr)
+
+-- All answers in this tree are all of them.
+abbrev pub AllCompiledAnswersAreLast : Type 0
+AllCompiledAnswersAreLast =
+    (etc usr : List Source) (bytes : List ℕ) (t : Tree) → IsDatabaseOf (map_of_files etc usr) bytes → IsDatabase bytes t
+    → (device : List ℕ) → answers device t ≡ last_assignments device None (all_assignments etc usr)
