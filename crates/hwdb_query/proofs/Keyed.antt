@@ -177,3 +177,9 @@ pub shown_list : {A E : Type 0} (items : A → List (Bor (List ℕ) × Bor (List
     → pairs_bytes entries ≡ all → IfOk r (λ list. items list ≡ entries) → IfOk r (λ list. pairs_bytes (items list) ≡ all)
 shown_list items (Ok list) entries all is same = ap pairs_bytes same ∙ is
 shown_list items (Err e) entries all is same = tt
+
+-- what is said of a list that is shown
+pub shown_list_for : {A E : Type 0} (items : A → List (Bor (List ℕ) × Bor (List ℕ))) (r : Result A E) (all : List (List ℕ × List ℕ)) {P : A → Type 0}
+    → IfOk r (λ list. pairs_bytes (items list) ≡ all) → ((list : A) → pairs_bytes (items list) ≡ all → P list) → IfOk r P
+shown_list_for items (Ok list) all is more = more list is
+shown_list_for items (Err e) all is more = tt

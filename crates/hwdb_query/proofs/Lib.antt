@@ -9,6 +9,9 @@ pub mod Distinct
 pub mod Members
 pub mod Gathered
 pub mod Latest
+pub mod LastOnes
+pub mod Filled
+pub mod Computed
 pub mod Accepting
 pub mod Keyed
 pub mod Numbers

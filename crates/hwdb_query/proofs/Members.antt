@@ -53,7 +53,7 @@ put_has x (y ∷ ys) free =
       | Greater ↦ λ e. inr again
     ] refl
 
-all_sound : (f : Found) (xs l : List Found) → Among f (put_all found_cmp xs l) → Among f xs ⊎ Among f l
+pub all_sound : (f : Found) (xs l : List Found) → Among f (put_all found_cmp xs l) → Among f xs ⊎ Among f l
 unfolding put_all Among
 all_sound f [] l m = inr m
 all_sound f (x ∷ xs) l m =
@@ -65,7 +65,7 @@ all_keeps f [] l m = m
 all_keeps f (x ∷ xs) l m = all_keeps f xs (put found_cmp x l) (put_keeps f x l m)
 
 -- where no place is taken twice, all are there
-all_has : (f : Found) (xs l : List Found) → Among f xs → ((x y : Found) → Among x xs → Among y l → found_cmp x y ≡ Equal → x ≡ y)
+pub all_has : (f : Found) (xs l : List Found) → Among f xs → ((x y : Found) → Among x xs → Among y l → found_cmp x y ≡ Equal → x ≡ y)
     → ((x y : Found) → Among x xs → Among y xs → found_cmp x y ≡ Equal → x ≡ y) → Among f (put_all found_cmp xs l)
 unfolding put_all Among
 all_has f [] l m free single = absurd m
@@ -80,7 +80,7 @@ all_has f (x ∷ xs) l m free single =
           (λ a y ma my. single a y (inr ma) (inr my))
     ]
 
-filter_sound : (f : Found) (p : Found → Bool) (xs : List Found) → Among f (filter p xs) → Among f xs × (p f ≡ true)
+pub filter_sound : (f : Found) (p : Found → Bool) (xs : List Found) → Among f (filter p xs) → Among f xs × (p f ≡ true)
 unfolding Among
 filter_sound f p [] m = absurd m
 filter_sound f p (x ∷ xs) m =
@@ -90,7 +90,7 @@ filter_sound f p (x ∷ xs) m =
       | false ↦ λ e k. (inr (again k).0, (again k).1)
     ] refl m
 
-filter_complete : (f : Found) (p : Found → Bool) (xs : List Found) → Among f xs → p f ≡ true → Among f (filter p xs)
+pub filter_complete : (f : Found) (p : Found → Bool) (xs : List Found) → Among f xs → p f ≡ true → Among f (filter p xs)
 unfolding Among
 filter_complete f p [] m h = absurd m
 filter_complete f p (x ∷ xs) m h =
@@ -205,11 +205,11 @@ map_is : (t : Tree) (f : Found) → finite.get (map_of t) (f.spot.pattern, f.spo
 unfolding map_of entries_of
 map_is t f = finite.get-from_entries place_total (flat_map (λ p. assigned_at p.0 p.1 (key_of p.1.key)) (values_under [] t)) (f.spot.pattern, f.spot.key)
 
-none_ascends : let none : List Found = [] in Ascends found_cmp none
+pub none_ascends : let none : List Found = [] in Ascends found_cmp none
 unfolding Ascends
 none_ascends = tt
 
-in_none : (f : Found) → Among f [] → ⊥
+pub in_none : (f : Found) → Among f [] → ⊥
 unfolding Among
 in_none f m = m
 

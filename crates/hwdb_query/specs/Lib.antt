@@ -1,10 +1,13 @@
 pub mod Lists
 pub mod Answers
 pub mod Hits
+pub mod Fillings
 pub mod Live
 pub mod Assigned
 pub mod Compiling
 pub mod Surviving
+pub mod Headline
+pub mod Rows
 pub mod Reading
 pub mod Conversions
 pub mod Effective

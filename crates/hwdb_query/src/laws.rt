@@ -7,10 +7,13 @@ ghost use Rattle.hwdb_layout.specs.Tree.{Tree};
 ghost use Rattle.hwdb_reader.specs.View.{db_tree};
 ghost use Rattle.hwdb_query.specs.Answers.{answers};
 ghost use Rattle.hwdb_query.specs.Assigned.{AreAnswers};
+ghost use Rattle.hwdb_query.specs.Fillings.{FillingsOfARun};
+ghost use Rattle.hwdb_query.specs.Headline.{AllCompiledAnswersAreLast, CompiledAnswersAreLast};
+ghost use Rattle.hwdb_query.specs.Rows.{EffectiveRow, LastRows};
 ghost use Rattle.hwdb_query.specs.Surviving.{EachPlaceSurvives, SurvivorsAreAssigned, SurvivorsAreLatest};
 ghost use Rattle.hwdb_query.specs.Spelling.{SpellsOne, CanonicalSpells};
 
-use hwdb_layout::law_one_tree;
+use hwdb_layout::{law_ascending, law_one_tree};
 use hwdb_pattern::matches_is_tested;
 use hwdb_reader::Db;
 use hwdb_text::laws::{assignments_stand_by_line, priorities_count_up};
@@ -48,3 +51,28 @@ pub fn databases_show_one_map()
 {
     law_one_tree();
 }
+
+/// The answers in a database of some files' map are the last assignments that the files have: so a reader that
+/// accepts compiled bytes, whatever it does then, has these to answer.
+pub fn compiled_answers_are_last()
+    ensures after { CompiledAnswersAreLast }
+    ensures all { AllCompiledAnswersAreLast }
+{
+    matches_is_tested();
+    law_one_tree();
+    law_ascending();
+}
+
+/// The last assignments of files, at worked rows.
+#[tactic(auto, using(crate::proofs::Computed::last_rows_hold, crate::proofs::Computed::effective_row_holds))]
+pub fn last_rows()
+    ensures last { LastRows }
+    ensures effective { EffectiveRow }
+{}
+
+/// How many fillings a cursor takes that is read to its end: as many as there are pages, the last one perhaps
+/// not whole, and one more that finds the end.
+#[tactic(auto, using(crate::proofs::Filled::fillings_of_a_run))]
+pub fn fillings_of_a_run()
+    ensures { FillingsOfARun }
+{}

@@ -39,7 +39,8 @@ pub use compiling::compile;
 pub use errors::{CompileError, QueryError};
 pub use hit::Hit;
 pub use laws::{
-    answers_are_the_maps, databases_show_one_map, positions_are_read_back, survivors_are_latest,
+    answers_are_the_maps, compiled_answers_are_last, databases_show_one_map, fillings_of_a_run,
+    last_rows, positions_are_read_back, survivors_are_latest,
 };
 pub use listing::effective;
 pub use paging::Cursor;

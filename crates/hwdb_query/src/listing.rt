@@ -1,11 +1,14 @@
 //! The effective list: for each key the value that counts.
-ghost use Rattle.std.specs.Prelude.{◌≡◌, [], IfOk, OnOk};
+ghost use Rattle.std.specs.Prelude.{◌≡◌, List, [], IfOk, OnOk, None};
 ghost use Rattle.hwdb_reader.specs.View.{db_tree};
 ghost use Rattle.hwdb_query.specs.Answers.{answers};
+ghost use Rattle.hwdb_query.specs.Compiling.{Source, all_assignments};
+ghost use Rattle.hwdb_query.specs.Headline.{last_assignments, IsTreeOfFiles};
 ghost use Rattle.hwdb_query.specs.Effective.{effective_of};
 ghost use Rattle.hwdb_query.specs.Pairs.{pairs_bytes, put_values};
 
 use crate::paging::Cursor;
+use hwdb_pattern::matches_is_tested;
 use hwdb_reader::Db;
 use std::alloc::{AllocError, Global};
 use std::collections::BTreeMap;
@@ -52,14 +55,21 @@ fn pairs<'a>(
 /// For each key among the answers for the device its value, ascending by key: the value of the last answer
 /// with that key. Keys and values are parts of the database's bytes.
 ///
+/// Over the database of some files the answers are the last assignments of each pattern and key that the files
+/// have.
+///
 /// The only error is that memory is refused.
 pub fn effective<'a>(
     alloc: Global,
     db: &Db<'a>,
     device: &[u8],
 ) -> Result<Vec<(&'a [u8], &'a [u8])>, AllocError>
-    ensures { IfOk result (λ list. pairs_bytes list.items ≡ effective_of (answers device.now (db_tree db.now))) }
+    ensures list { IfOk result (λ list. pairs_bytes list.items ≡ effective_of (answers device.now (db_tree db.now))) }
+    ensures headline { IfOk result (λ list. (etc usr : List Source) → IsTreeOfFiles etc usr (db_tree db.now)
+        → pairs_bytes list.items ≡ effective_of (last_assignments device.now None (all_assignments etc usr))) }
 {
+    matches_is_tested();
+    let _root = db.root();
     let mut hits = Cursor::start(alloc, *db, device, None, PAGE);
     let mut values = BTreeMap::new(alloc);
     last_values(&mut hits, &mut values)?;

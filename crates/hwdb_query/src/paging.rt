@@ -3,6 +3,7 @@ ghost use Rattle.std.specs.Prelude.{◌≡◌, ◌<◌, ◌≤◌, ◌+◌, ◌�
 ghost use Rattle.hwdb_reader.specs.View.{db_tree};
 ghost use Rattle.hwdb_query.specs.Answers.{answers_after};
 ghost use Rattle.hwdb_query.specs.Live.{live_nodes};
+ghost use Rattle.hwdb_query.specs.Fillings.{after_next};
 ghost use Rattle.hwdb_query.specs.Hits.{found_of_hit, position_spot, next_spot, given_spot, still_to_come, Progress, Gives};
 
 use crate::filling::{Filled, fill};
@@ -152,6 +153,7 @@ impl<'a, 'd> Cursor<'a, 'd> {
     /// is that memory is refused, and then the cursor is what it was: the call can be made again.
     pub fn next(&mut self) -> Result<Option<Hit<'a>>, AllocError>
         ensures gives { IfOk result (Gives self.old.to_come self.new.to_come) }
+        ensures step { OnOk result (self.new ≡ after_next self.old) }
         ensures same { OnErr result (self.new ≡ self.old) }
         ensures no_memory { ((0 < self.old.held) ⊎ (self.old.ended ≡ true)) → IsOk result }
         ensures page { self.new.page ≡ self.old.page }

@@ -1,7 +1,9 @@
 //! The start of a cursor.
-ghost use Rattle.std.specs.Prelude.{◌≡◌, ◌≢◌, ◌<◌, IfOk, IfErr, false};
+ghost use Rattle.std.specs.Prelude.{◌≡◌, ◌≢◌, ◌<◌, List, IfOk, IfErr, false};
 ghost use Rattle.hwdb_reader.specs.View.{db_tree};
 ghost use Rattle.hwdb_query.specs.Answers.{answers_after};
+ghost use Rattle.hwdb_query.specs.Compiling.{Source, all_assignments};
+ghost use Rattle.hwdb_query.specs.Headline.{last_assignments, IsTreeOfFiles};
 ghost use Rattle.hwdb_query.specs.Live.{live_nodes};
 ghost use Rattle.hwdb_query.specs.Hits.{given_spot, Progress};
 ghost use Rattle.hwdb_query.specs.declared.errors.QueryError.TheVariants.{PageZero, BadPosition};
@@ -9,11 +11,15 @@ ghost use Rattle.hwdb_query.specs.declared.errors.QueryError.TheVariants.{PageZe
 use crate::errors::QueryError;
 use crate::paging::Cursor;
 use crate::position::Position;
+use hwdb_pattern::matches_is_tested;
 use hwdb_reader::Db;
 use std::alloc::Global;
 
 /// A cursor over the answers of the database for the device, after a position if one is given. It holds
 /// nothing yet, and then at most `page` hits at a time.
+///
+/// Over the database of some files it yields the last assignment of each pattern and key that the files have,
+/// where the pattern matches the device: by file priority, line, pattern and key.
 ///
 /// [`QueryError::PageZero`] where `page` is 0, before memory is asked for; [`QueryError::Memory`] where memory
 /// is refused.
@@ -32,6 +38,8 @@ pub fn cursor<'a, 'd>(
       entered = 0;
       live = live_nodes device.now (db_tree db.now);
     }) }
+    ensures headline { IfOk result (λ c. (etc usr : List Source) → IsTreeOfFiles etc usr (db_tree db.now)
+        → c.to_come ≡ last_assignments device.now (given_spot after.entry) (all_assignments etc usr)) }
     ensures some { IfOk result (λ _. 0 < page) }
     ensures zero { page ≡ 0 → IfErr result (λ e. e ≡ PageZero) }
     ensures page { IfErr result (λ e. e ≡ PageZero → page ≡ 0) }
@@ -40,6 +48,8 @@ pub fn cursor<'a, 'd>(
     if page == 0 {
         return Err(QueryError::PageZero);
     }
+    matches_is_tested();
+    let _root = db.root();
     let after = match after {
         None => None,
         Some(position) => Some(position.copy(alloc)?),
