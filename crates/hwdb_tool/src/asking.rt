@@ -1,7 +1,9 @@
 //! What `ask` does with one text file.
 ghost use Rattle.std.specs.Prelude.{◌≡◌, ◌≢◌, ◌⊎◌, ◌∷◌, [], IfOk, IfErr, OnOk, IsErrOf};
+ghost use Rattle.std.specs.Io.KnownBytes.{Appends};
 ghost use Rattle.hwdb_query.specs.Compiling.{sources};
 ghost use Rattle.hwdb_tool.specs.Devices.{HasFailed};
+ghost use Rattle.hwdb_tool.specs.Headline.{last_values_text};
 ghost use Rattle.hwdb_tool.specs.Updates.{lone, IsAnswerOf, Asked, AskCutShort, IsAskRefusal};
 
 use crate::devices::Sink;
@@ -32,6 +34,7 @@ fn lone(alloc: Global, bytes: &[u8]) -> Result<SourceFile, AllocError>
 /// What the file gives.
 fn answer_of(alloc: Global, file: &str, bytes: &[u8], device: &[u8]) -> Result<Answer, ToolError>
     ensures answer { IfOk result (λ a. IsAnswerOf file.now bytes.now device.now a.faults.items a.properties.items) }
+    ensures headline { IfOk result (λ a. a.properties.items ≡ last_values_text device.now (lone bytes.now) []) }
     ensures refusals { IfErr result (λ e. (e ≢ ToolError.Write) × IsAskRefusal bytes.now MAX_BYTES e) }
 {
     let source = lone(alloc, bytes)?;
@@ -53,6 +56,7 @@ pub fn ask<O: Sink, E: Sink>(
     err: &mut E,
 ) -> Result<(), ToolError>
     ensures asked { OnOk result (Asked file.now bytes.now device.now (E.taken err.old) (E.taken err.new) (O.taken out.old) (O.taken out.new)) }
+    ensures headline { OnOk result (Appends (O.taken out.old) (O.taken out.new) (last_values_text device.now (lone bytes.now) [])) }
 
     ensures refusals { IfErr result (IsAskRefusal bytes.now MAX_BYTES) }
     ensures cause { IsErrOf result ToolError.Write

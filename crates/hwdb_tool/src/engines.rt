@@ -1,16 +1,19 @@
 //! The engines of the commands, over bytes and sinks: what is printed and answered is a function of the
 //! arguments and the bytes.
-ghost use Rattle.std.specs.Prelude.{◌≡◌, ◌≢◌, ◌⊎◌, IfOk, IfErr, OnOk, IsErrOf};
+ghost use Rattle.std.specs.Prelude.{◌≡◌, ◌≢◌, ◌⊎◌, List, IfOk, IfErr, OnOk, IsErrOf};
+ghost use Rattle.std.specs.Io.KnownBytes.{Appends};
+ghost use Rattle.hwdb_query.specs.Compiling.{Source};
 ghost use Rattle.hwdb_query.specs.Hits.{next_spot};
 ghost use Rattle.hwdb_tool.specs.Devices.{HasFailed};
 ghost use Rattle.hwdb_tool.specs.Engines.{query_text, IsTextOf, Printed, CutShort, IsDatabaseRefusal, IsQueryRefusal, IsAfter, IsPositionRefusal, Listed, ListCutShort, ListedLines, IsListRefusal};
+ghost use Rattle.hwdb_tool.specs.Headline.{IsCompiled, LinesTaken, last_values_text};
 
 use crate::devices::Sink;
 use crate::errors::ToolError;
 use crate::listing::print_hits;
 use crate::texts::property_lines;
 use crate::transfer::write_text;
-use hwdb_query::{Position, cursor, effective};
+use hwdb_query::{Position, compiled_answers_are_last, cursor, effective};
 use hwdb_reader::check;
 use std::alloc::Global;
 
@@ -24,15 +27,18 @@ const PAGE: usize = 64;
 /// The text of the properties that the database gives the device.
 pub fn properties_of(alloc: Global, bytes: &[u8], device: &[u8]) -> Result<Vec<u8>, ToolError>
     ensures text { IfOk result (λ text. IsTextOf (query_text device.now) bytes.now text.items) }
+    ensures headline { IfOk result (λ text. (etc usr : List Source) → IsCompiled etc usr bytes.now → text.items ≡ last_values_text device.now etc usr) }
     ensures refusals { IfErr result (IsDatabaseRefusal bytes.now) }
 {
+    compiled_answers_are_last();
     let db = check(bytes)?;
     let properties = effective(alloc, &db, device)?;
     Ok(property_lines(alloc, &properties)?)
 }
 
 /// Checks the bytes, and prints the properties of the device to `out`: `KEY=VALUE` for each key,
-/// ascending by key.
+/// ascending by key. Over the database of some files that is for each key the value of the last assignment
+/// among those of the files whose pattern matches the device.
 pub fn run_query<O: Sink>(
     alloc: Global,
     bytes: &[u8],
@@ -40,6 +46,8 @@ pub fn run_query<O: Sink>(
     out: &mut O,
 ) -> Result<(), ToolError>
     ensures printed { OnOk result (Printed (query_text device.now) bytes.now (O.taken out.old) (O.taken out.new)) }
+    ensures headline { OnOk result ((etc usr : List Source) → IsCompiled etc usr bytes.now
+        → Appends (O.taken out.old) (O.taken out.new) (last_values_text device.now etc usr)) }
 
     ensures refusals { IfErr result (IsQueryRefusal bytes.now) }
     ensures cause { IsErrOf result ToolError.Write → HasFailed (O.failures out.old) (O.failures out.new) }
@@ -62,7 +70,8 @@ fn position_of(alloc: Global, after: Option<&str>) -> Result<Option<Position>, T
 }
 
 /// Prints a line for each of the first `limit` hits after the position that `after` spells (from the
-/// first on without one; all of them without a limit). At most a page of 64 hits is held.
+/// first on without one; all of them without a limit). At most a page of 64 hits is held. Over the database
+/// of some files the hits are exactly the last assignments of each pattern and key that the files have.
 pub fn run_list<O: Sink>(
     alloc: Global,
     bytes: &[u8],
@@ -72,6 +81,8 @@ pub fn run_list<O: Sink>(
     out: &mut O,
 ) -> Result<(), ToolError>
     ensures printed { OnOk result (Listed device.now after.entry limit bytes.now (O.taken out.old) (O.taken out.new)) }
+    ensures headline { OnOk result ((etc usr : List Source) → IsCompiled etc usr bytes.now
+        → LinesTaken device.now after.entry limit etc usr (O.taken out.old) (O.taken out.new)) }
 
     ensures refusals { IfErr result (IsListRefusal after.entry bytes.now) }
     ensures cause { IsErrOf result ToolError.Write → HasFailed (O.failures out.old) (O.failures out.new) }
@@ -80,6 +91,7 @@ pub fn run_list<O: Sink>(
         → (out.new ≡ out.old) ⊎ ListedLines device.now after.entry limit bytes.now (O.taken out.old) (O.taken out.new) }
     ensures untouched { IfErr result (λ e. e ≢ ToolError.Write → e ≢ ToolError.Memory → out.new ≡ out.old) }
 {
+    compiled_answers_are_last();
     let after = position_of(alloc, after)?;
     let db = check(bytes)?;
     let mut hits = cursor(alloc, &db, device, after.as_ref(), PAGE)?;

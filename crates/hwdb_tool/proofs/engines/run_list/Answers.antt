@@ -1,5 +1,9 @@
 use Rattle.std.proofs.Common.{rules, ◌≡◌, ◌∙◌, arith, ap, subst, List, ℕ, inr}
+use Rattle.std.proofs.lemmas.Result.{on_ok_weaker}
+use Rattle.std.specs.Io.KnownBytes.{Appends}
 use Rattle.hwdb_reader.specs.View.{db_tree}
+use Rattle.hwdb_query.specs.Compiling.{all_assignments}
+use Rattle.hwdb_query.specs.Headline.{last_assignments}
 use Rattle.hwdb_query.specs.Answers.{Found, answers_after}
 use Rattle.hwdb_query.specs.Hits.{next_spot, Progress}
 use Rattle.hwdb_tool.specs.Devices.{AppendsPrefix}
@@ -44,3 +48,18 @@ returns-clause-whole_lines g c = λ e.
       database = c.in_ok-db.ensures.accepted;
       lines = subst P all lines;
     })
+
+pub returns-clause-headline : goal.returns-clause-headline
+returns-clause-headline g c =
+    on_ok_weaker c.print_hits.result
+    (λ printed etc usr compiled.
+    let begun = c.in_ok-hits.ensures.begins in
+    let device = c.args.device.now in
+    let from = next_spot c.in_ok-after.after in
+    let tree = db_tree c.in_ok-db.db in
+    let all : c.in_ok-hits.hits.to_come ≡ last_assignments device from (all_assignments etc usr) =
+    ap (λ (p : Progress). p.to_come) begun ∙ ap (λ s. answers_after device s tree) (lent_spot c.as_ref.result c.in_ok-after.after c.as_ref.ensures.value)
+    ∙ c.compiled_answers_are_last.ensures.after etc usr c.args.bytes.now tree compiled c.in_ok-db.ensures.accepted device from in
+    let P : List Found → Type 0 = λ hits. Appends (g.O.Sink.taken c.args.out.now) (g.O.Sink.taken c.print_hits.new.out) (hits_text (within_limit c.args.limit hits)) in
+    record { from = from; spelled = c.in_ok-after.ensures.spelled; taken = subst P all printed })
+    c.print_hits.ensures.printed
