@@ -195,6 +195,7 @@ int main(int count_of_words, char **all) {
     struct answer whole = answer_of(0, 0);
     unsigned long requests = refuse_each("request", 0, &whole);
     refuse_each("request and all behind", 1, &whole);
+    if (requests == 0) failed++, printf("FAILED: %s: no request for memory was counted\n", name);
     put_back();
     printf("%s: %lu requests", name, requests);
     for (int i = 0; i < MOST_NAMES && kinds[i].name[0]; i++) printf("%s %s %lu", i ? "," : ":", kinds[i].name, kinds[i].count);
