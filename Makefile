@@ -1,9 +1,9 @@
 # `make` builds out/hwdb (and proves it on the way), `make demo` runs it on a file of our own,
-# `make check` is the whole gate, `make check-peer` compares with Debian's own files.
+# `make check` is the whole gate, `make check-peer` compares with Debian's own files, `make bench` measures on them.
 PREFIX ?= /usr/local
 DESTDIR ?=
 
-.PHONY: all demo check check-peer install clean
+.PHONY: all demo check check-peer bench install clean
 
 all:
 	cd crates/hwdb && rt run -- ask /dev/null none
@@ -18,9 +18,15 @@ check:
 	tests/refused
 	$(MAKE) all
 	tests/runs out/hwdb
+	tests/memory out/hwdb
 
 check-peer: all
 	tests/peer out/hwdb
+
+bench: all
+	cd crates/hwdb_bench && rt run -- data/workshop.bin data/devices 1
+	cp crates/hwdb_bench/out/hwdb_bench out/hwdb_bench
+	tests/bench out/hwdb out/hwdb_bench
 
 install: all
 	install -D -m 755 out/hwdb '$(DESTDIR)$(PREFIX)/bin/hwdb'

@@ -1,0 +1,124 @@
+/* The measuring program of tests/bench.
+ *
+ *   bench time RUNS COMMAND.. :: COMMAND.. ..   runs each command once, then each once more, and so on, RUNS times, with
+ *                 standard output and error thrown away. A line for each: the least and the middle wall time in
+ *                 microseconds, and the greatest memory that a run held, in KiB. Where a command's status isn't 0: `failed`
+ *   bench read FILE                             reads a file into memory, 64 KiB at a time
+ *   bench udev LIBRARY DEVICES ROUNDS           with libudev: opens the system's hardware database, looks up each line of
+ *                 the file DEVICES, so many times, and prints how many properties came in all */
+#define _GNU_SOURCE
+#include <dlfcn.h>
+#include <fcntl.h>
+#include <stdio.h>
+#include <stdlib.h>
+#include <string.h>
+#include <sys/resource.h>
+#include <sys/wait.h>
+#include <time.h>
+#include <unistd.h>
+
+enum { MOST_COMMANDS = 8, MOST_RUNS = 1000, PIECE = 65536 };
+
+static void fail(const char *what) { perror(what); exit(1); }
+
+struct bytes { char *at; size_t length; };
+
+static struct bytes bytes_of(const char *path) {
+    struct bytes bytes = {0};
+    size_t room = 0;
+    int file = open(path, O_RDONLY);
+    if (file < 0) fail(path);
+    for (;;) {
+        if (room - bytes.length < PIECE) {
+            room = room ? 2 * room : 2 * PIECE;
+            bytes.at = realloc(bytes.at, room);
+            if (!bytes.at) fail("realloc");
+        }
+        ssize_t count = read(file, bytes.at + bytes.length, PIECE);
+        if (count < 0) fail(path);
+        if (count == 0) break;
+        bytes.length += count;
+    }
+    close(file);
+    bytes.at[bytes.length] = 0;
+    return bytes;
+}
+
+struct command { char **words; long times[MOST_RUNS]; long memory; int has_failed; };
+static struct command commands[MOST_COMMANDS];
+
+static void run_once(struct command *command, int run) {
+    struct timespec begin, end;
+    struct rusage used;
+    int status;
+    clock_gettime(CLOCK_MONOTONIC, &begin);
+    pid_t child = fork();
+    if (child < 0) fail("fork");
+    if (child == 0) {
+        int nowhere = open("/dev/null", O_RDWR);
+        dup2(nowhere, 0), dup2(nowhere, 1), dup2(nowhere, 2);
+        execv(command->words[0], command->words);
+        _exit(127);
+    }
+    if (wait4(child, &status, 0, &used) != child) fail("wait4");
+    clock_gettime(CLOCK_MONOTONIC, &end);
+    command->times[run] = (end.tv_sec - begin.tv_sec) * 1000000 + (end.tv_nsec - begin.tv_nsec) / 1000;
+    if (used.ru_maxrss > command->memory) command->memory = used.ru_maxrss;
+    if (!WIFEXITED(status) || WEXITSTATUS(status)) command->has_failed = 1;
+}
+
+static int by_time(const void *a, const void *b) { return (*(long *)a > *(long *)b) - (*(long *)a < *(long *)b); }
+
+static int time_all(int runs, char **words) {
+    int count = 0;
+    if (runs < 1 || runs > MOST_RUNS) return 1;
+    while (*words && count < MOST_COMMANDS) {
+        commands[count++].words = words;
+        while (*words && strcmp(*words, "::")) words++;
+        if (*words) *words++ = 0;
+    }
+    for (int run = 0; run < runs; run++)
+        for (int i = 0; i < count; i++) run_once(&commands[i], run);
+    for (int i = 0; i < count; i++) {
+        qsort(commands[i].times, runs, sizeof(long), by_time);
+        if (commands[i].has_failed) printf("failed\n");
+        else printf("%ld %ld %ld\n", commands[i].times[0], commands[i].times[runs / 2], commands[i].memory);
+    }
+    return 0;
+}
+
+typedef void *new_udev(void);
+typedef void *new_hwdb(void *);
+typedef void *properties_of(void *, const char *, unsigned);
+typedef void *next_of(void *);
+
+static void *named(void *library, const char *name) {
+    void *found = dlsym(library, name);
+    if (!found) fail(name);
+    return found;
+}
+
+static int look_up(const char *path, const char *devices, long rounds) {
+    void *library = dlopen(path, RTLD_NOW);
+    if (!library) return fprintf(stderr, "%s\n", dlerror()), 1;
+    properties_of *properties = (properties_of *)named(library, "udev_hwdb_get_properties_list_entry");
+    next_of *next = (next_of *)named(library, "udev_list_entry_get_next");
+    struct bytes text = bytes_of(devices);
+    void *hwdb = ((new_hwdb *)named(library, "udev_hwdb_new"))(((new_udev *)named(library, "udev_new"))());
+    if (!hwdb) return fprintf(stderr, "no hardware database\n"), 1;
+    for (size_t i = 0; i < text.length; i++)
+        if (text.at[i] == '\n') text.at[i] = 0;
+    unsigned long found = 0;
+    for (long round = 0; round < rounds; round++)
+        for (char *device = text.at; device < text.at + text.length; device += strlen(device) + 1)
+            for (void *entry = properties(hwdb, device, 0); entry; entry = next(entry)) found++;
+    printf("%lu properties\n", found);
+    return 0;
+}
+
+int main(int count, char **words) {
+    if (count > 3 && !strcmp(words[1], "time")) return time_all(atoi(words[2]), words + 3);
+    if (count == 3 && !strcmp(words[1], "read")) return bytes_of(words[2]).length == 0;
+    if (count == 5 && !strcmp(words[1], "udev")) return look_up(words[2], words[3], atol(words[4]));
+    return fprintf(stderr, "usage: see the source\n"), 1;
+}
