@@ -1,12 +1,14 @@
 //! What the words ask for, by the exact matches that `clap` finds.
-ghost use Rattle.std.specs.Prelude.{◌≡◌, IfOk, IfErr, IfSome, IsErrOf, true, map, string_bytes, option_map, codes};
+ghost use Rattle.std.specs.Prelude.{◌≡◌, IfOk, IfErr, IfSome, IsErrOf, true, map, string_bytes, option_map, codes, []};
 ghost use Rattle.clap.specs.Walk.{first_of, one_of, rows_of};
 ghost use Rattle.clap.specs.Matches.{found_of};
 ghost use Rattle.clap.specs.Simple.{matches_of, subcommand_of};
 ghost use Rattle.clap.specs.Takes.{takes};
+ghost use Rattle.clap.specs.Faults.{fault_of};
 ghost use Rattle.clap.specs.Values.{kind_of};
 ghost use Rattle.hwdb_words.specs.Line.{hwdb_app};
 ghost use Rattle.hwdb_words.specs.Jobs.{HasValue, IsCommand, IsJob, IsJobOf, IsLimit, IsNumber, IsTask, IsValue, has_flag, or_else};
+ghost use Rattle.hwdb_words.specs.Refusals.{IsToldOf, IsToldOfOne};
 ghost use Rattle.hwdb_words.specs.declared.job.WordsFault.TheVariants.{Memory};
 
 use crate::command::hwdb_command;
@@ -132,8 +134,9 @@ fn job_of(
 }
 
 /// What is told of words that the command doesn't take.
-fn fault_of(alloc: Global, error: &Error) -> WordsFault
-    ensures { kind_of error.now ≡ ErrorKind.OutOfMemory → result ≡ Memory }
+fn refusal_of(alloc: Global, error: &Error) -> WordsFault
+    ensures memory { kind_of error.now ≡ ErrorKind.OutOfMemory → result ≡ Memory }
+    ensures told { IsToldOf (kind_of error.now) result }
 {
     let kind = error.kind();
     if kind == ErrorKind::OutOfMemory {
@@ -150,12 +153,14 @@ fn fault_of(alloc: Global, error: &Error) -> WordsFault
 /// `WordsFault::Usage` with a text that says why, `--help` gives `WordsFault::Help`.
 pub fn read_words(alloc: Global, words: &[String]) -> Result<Job, WordsFault>
     ensures job { IfOk result (IsJobOf (matches_of hwdb_app (map string_bytes words.now)) (subcommand_of hwdb_app (map string_bytes words.now))) }
+    ensures whole { IfOk result (λ _. fault_of hwdb_app (map string_bytes words.now) ≡ []) }
+    ensures told { IfErr result (IsToldOfOne (fault_of hwdb_app (map string_bytes words.now))) }
     ensures taken { IfErr result (λ e. takes hwdb_app (map string_bytes words.now) ≡ true → e ≡ Memory) }
 {
     let command = hwdb_command(alloc)?;
     let matches = match command.try_get_matches_from(words) {
         Ok(matches) => matches,
-        Err(error) => return Err(fault_of(alloc, &error)),
+        Err(error) => return Err(refusal_of(alloc, &error)),
     };
     match matches.subcommand() {
         Some((name, inner)) => {

@@ -9,6 +9,8 @@ use Rattle.hwdb_words.specs.Line.{hwdb_app}
 use Rattle.hwdb_words.specs.Jobs.{IsJobOf}
 use Rattle.hwdb_words.proofs.Found.{name_in_rows, job_found, command_found}
 use Rattle.hwdb_words.proofs.Taken.{command_taken}
+use Rattle.hwdb_words.proofs.Told.{told_of_one}
+use Rattle.clap.specs.Kinds.{HasKind}
 use Rattle.hwdb_words.proofs.words.read_words.Goals as goal
 
 -- what is found is one of the commands, with what it needs
@@ -24,7 +26,7 @@ job_of-requires c =
     (c.in-Some.ensures.name ∙ name_in_rows (out-ArgMatches c.in-Ok.matches).subcommand) c.in-Some.ensures.rows (taken.0, sub_is ∙ taken.1, taken.2)
 
 pub returns-in-Err-clause-taken : goal.returns-in-Err-clause-taken
-returns-in-Err-clause-taken c = λ t. c.fault_of.ensures (c.in-Err.ensures.passes (ap (λ (a : App). takes a (map string_bytes c.args.words.now)) c.in_ok-command.ensures ∙ t))
+returns-in-Err-clause-taken c = λ t. c.refusal_of.ensures.memory (c.in-Err.ensures.passes (ap (λ (a : App). takes a (map string_bytes c.args.words.now)) c.in_ok-command.ensures ∙ t))
 
 pub returns-clause-job : goal.returns-clause-job
 returns-clause-job c =
@@ -37,3 +39,17 @@ returns-clause-job c =
     let P : List Row → Type 0 = λ rows. IsJobOf rows (subcommand_of hwdb_app words) c.in_ok-job-in-Some.job in
     let Q : Option (Text × List Row) → Type 0 = λ sub. IsJobOf (rows_of (found_of c.in-Ok.matches)) sub c.in_ok-job-in-Some.job in
     subst P top_is (subst Q sub_is found)
+
+-- a job comes only where the words have no fault
+pub returns-clause-whole : goal.returns-clause-whole
+returns-clause-whole c =
+    let words = map string_bytes c.args.words.now in
+    let app = c.in_ok-command.ensures in
+    sym (ap (λ (a : App). fault_of a words) app) ∙ c.in-Ok.ensures.kinds (ap is_simple_and_free app)
+
+pub returns-in-Err-clause-told : goal.returns-in-Err-clause-told
+returns-in-Err-clause-told c =
+    let words = map string_bytes c.args.words.now in
+    let app = c.in_ok-command.ensures in
+    let may = subst (λ (a : App). HasKind (fault_of a words) c.in-Err.error) app (c.in-Err.ensures.kinds (ap is_simple_and_free app)) in
+    told_of_one (fault_of hwdb_app words) c.in-Err.error c.refusal_of.result may c.refusal_of.ensures.told
