@@ -1,5 +1,5 @@
 -- Command lines that the command takes.
-use Rattle.std.proofs.Common.{◌≡◌, refl, true, codes, List, [], ◌∷◌, Option, Some, option_map}
+use Rattle.std.proofs.Common.{◌≡◌, refl, true, codes, List, [], ◌∷◌, Some, option_map}
 use Rattle.clap.specs.Walk.{Text, first_of}
 use Rattle.clap.specs.Takes.{takes}
 use Rattle.clap.specs.Simple.{subcommand_of}

@@ -1,7 +1,7 @@
 -- What the matches of a command line ask for.
-use Rattle.std.specs.Prelude.{◌≡◌, ◌≢◌, ◌==◌, ◌||◌, ◌<◌, ◌^◌, ℕ, Bool, List, [], Option, Some, None, false, codes, unwrap_or, option_map, string_bytes, Result, Ok, Err}
+use Rattle.std.specs.Prelude.{◌≡◌, ◌⊎◌, ◌||◌, ◌<◌, ◌^◌, ℕ, Bool, List, Option, Some, None, IfSome, is_some, true, false, codes, option_map, string_bytes, Ok}
 use Rattle.std.specs.Str.{bytes_eq}
-use Rattle.std.specs.Str.Parse.{ParsesUnsigned}
+use Rattle.std.specs.Str.Parse.{IsNumeral, ParsesUnsigned, digits_value, without_leading_plus}
 use Rattle.std.specs.declared.num.ParseIntError.{ParseIntError}
 use Rattle.std.specs.Option.{option_map_or}
 use Rattle.clap.specs.Walk.{Row, Text, first_of, one_of}
@@ -13,26 +13,26 @@ use Rattle.hwdb_words.specs.declared.job.Task.TheVariants.{Update, Query, Ask, L
 abbrev pub has_flag : Text → List Row → Bool
 has_flag id rows = option_map_or (λ t. bytes_eq t (codes "true")) (first_of id rows) false
 
-abbrev pub text_or_empty : Text → List Row → Text
-text_or_empty id rows = unwrap_or (first_of id rows) []
+-- the text is the argument's value
+abbrev pub IsValue : Text → List Row → Text → Type 0
+IsValue id rows text = Some text ≡ first_of id rows
 
 abbrev pub or_else : {X : Type 0} → Option X → Option X → Option X
 or_else (Some x) other = Some x
 or_else None other = other
 
--- the limit is the number that the text writes, if there is one
+-- the limit is the number that the text writes, and there is none where there is no text
 abbrev pub IsLimit : Option Text → Option ℕ → Type 0
 IsLimit None limit = limit ≡ None
-IsLimit (Some text) None = (e : ParseIntError) × ParsesUnsigned 64 10 text (Err e)
+IsLimit (Some text) None = ⊥
 IsLimit (Some text) (Some n) = ParsesUnsigned {E = ParseIntError} 64 10 text (Ok n)
 
 abbrev pub IsTask : Text → List Row → Task → Type 0
-IsTask name inner Update = (name ≢ codes "query") × (name ≢ codes "ask") × (name ≢ codes "list")
-IsTask name inner (Query device) = (name ≡ codes "query") × (string_bytes device ≡ text_or_empty (codes "MODALIAS") inner)
-IsTask name inner (Ask file device) = (name ≡ codes "ask") × (string_bytes file ≡ text_or_empty (codes "FILE") inner)
-    × (string_bytes device ≡ text_or_empty (codes "MODALIAS") inner)
+IsTask name inner Update = name ≡ codes "update"
+IsTask name inner (Query device) = (name ≡ codes "query") × IsValue (codes "MODALIAS") inner (string_bytes device)
+IsTask name inner (Ask file device) = (name ≡ codes "ask") × IsValue (codes "FILE") inner (string_bytes file) × IsValue (codes "MODALIAS") inner (string_bytes device)
 IsTask name inner (ListHits after limit device) = (name ≡ codes "list") × (option_map string_bytes after ≡ first_of (codes "after") inner)
-    × IsLimit (one_of (codes "limit") inner) limit × (string_bytes device ≡ text_or_empty (codes "MODALIAS") inner)
+    × IsLimit (one_of (codes "limit") inner) limit × IsValue (codes "MODALIAS") inner (string_bytes device)
 
 pub record IsJob (top : List Row) (name : Text) (inner : List Row) (job : Job) : Type 0 where
   pub usr : job.usr ≡ (has_flag (codes "usr") inner || has_flag (codes "usr") top)
@@ -44,3 +44,20 @@ pub record IsJob (top : List Row) (name : Text) (inner : List Row) (job : Job) :
 abbrev pub IsJobOf : List Row → Option (Text × List Row) → Job → Type 0
 IsJobOf top None job = ⊥
 IsJobOf top (Some p) job = IsJob top p.0 p.1 job
+
+-- ---- what is found of words that the command takes
+
+-- the argument has a value
+abbrev pub HasValue : Text → List Row → Type 0
+HasValue id rows = is_some (first_of id rows) ≡ true
+
+-- the text writes a number of 64 bits
+abbrev pub IsNumber : Text → Type 0
+IsNumber text = IsNumeral 10 (without_leading_plus text) × (digits_value 10 (without_leading_plus text) < 2 ^ 64)
+
+-- it is one of the four commands, with each argument that this command needs
+abbrev pub IsCommand : Text → List Row → Type 0
+IsCommand name inner = (name ≡ codes "update")
+    ⊎ (((name ≡ codes "query") × HasValue (codes "MODALIAS") inner)
+    ⊎ (((name ≡ codes "ask") × HasValue (codes "FILE") inner × HasValue (codes "MODALIAS") inner)
+    ⊎ ((name ≡ codes "list") × HasValue (codes "MODALIAS") inner × IfSome (one_of (codes "limit") inner) IsNumber)))

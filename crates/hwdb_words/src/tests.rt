@@ -122,3 +122,78 @@ fn refusals(rt: HostRuntime) -> Result<(), Fail> {
     }
     Ok(())
 }
+
+/// The text of help or of a usage fault, after its name.
+fn told(alloc: Global, line: &str) -> Result<String, AllocError> {
+    let words = words_of(alloc, line)?;
+    match read_words(alloc, &words) {
+        Ok(_) => String::from_str(alloc, "job"),
+        Err(WordsFault::Help { text }) => format!(in alloc; "help: {}", text),
+        Err(WordsFault::Usage { text }) => format!(in alloc; "usage: {}", text),
+        Err(WordsFault::Memory) => String::from_str(alloc, "memory"),
+    }
+}
+
+#[test]
+fn help_names_the_command(rt: HostRuntime) -> Result<(), Fail> {
+    let rows = [
+        ("hwdb --help", ["update", "query", "ask", "list"]),
+        (
+            "hwdb update --help",
+            ["hwdb update", "--usr", "--strict", "--root"],
+        ),
+        (
+            "hwdb query -h",
+            ["hwdb query", "MODALIAS", "--root", "--help"],
+        ),
+        ("hwdb ask --help", ["hwdb ask", "FILE", "MODALIAS", "-r"]),
+        (
+            "hwdb -r /x list --help",
+            ["hwdb list", "MODALIAS", "--after", "--limit"],
+        ),
+    ];
+    for (line, wants) in rows {
+        let seen = told(rt.alloc(), line)?;
+        assert!(rt; seen.as_str().starts_with("help: "), "{line}");
+        for want in wants {
+            assert!(rt; seen.as_str().contains(want), "{line}: {want}");
+        }
+    }
+    Ok(())
+}
+
+#[test]
+fn usage_names_what_is_wrong(rt: HostRuntime) -> Result<(), Fail> {
+    let rows = [
+        ("hwdb query", "MODALIAS"),
+        ("hwdb ask", "FILE"),
+        ("hwdb ask f", "MODALIAS"),
+        ("hwdb list", "MODALIAS"),
+        ("hwdb query a b", "b"),
+        ("hwdb query --limit 1 a", "--limit"),
+        ("hwdb list --limit 1x a", "1x"),
+        ("hwdb list --limit 18446744073709551616 a", "--limit"),
+        ("hwdb update --root", "--root"),
+        ("hwdb --frob update", "--frob"),
+        ("hwdb frobnicate", "frobnicate"),
+        ("hwdb help", "help"),
+    ];
+    for (line, want) in rows {
+        let seen = told(rt.alloc(), line)?;
+        assert!(rt; seen.as_str().starts_with("usage: "), "{line}");
+        assert!(rt; seen.as_str().contains(want), "{line}: {want}");
+    }
+    Ok(())
+}
+
+#[test]
+fn no_words(rt: HostRuntime) -> Result<(), Fail> {
+    let words = Vec::new(rt.alloc());
+    assert!(rt;
+        matches!(
+            read_words(rt.alloc(), &words),
+            Err(WordsFault::Usage { text: _ })
+        )
+    );
+    Ok(())
+}

@@ -1,12 +1,14 @@
 //! What the words ask for, by the exact matches that `clap` finds.
-ghost use Rattle.std.specs.Prelude.{◌≡◌, IfOk, IfErr, IsErrOf, true, map, string_bytes, option_map, unwrap_or, codes};
+ghost use Rattle.std.specs.Prelude.{◌≡◌, IfOk, IfErr, IfSome, IsErrOf, true, map, string_bytes, option_map, codes, []};
 ghost use Rattle.clap.specs.Walk.{first_of, one_of, rows_of};
 ghost use Rattle.clap.specs.Matches.{found_of};
 ghost use Rattle.clap.specs.Simple.{matches_of, subcommand_of};
 ghost use Rattle.clap.specs.Takes.{takes};
+ghost use Rattle.clap.specs.Faults.{fault_of};
 ghost use Rattle.clap.specs.Values.{kind_of};
 ghost use Rattle.hwdb_words.specs.Line.{hwdb_app};
-ghost use Rattle.hwdb_words.specs.Jobs.{IsJob, IsJobOf, IsLimit, IsTask, has_flag, or_else, text_or_empty};
+ghost use Rattle.hwdb_words.specs.Jobs.{HasValue, IsCommand, IsJob, IsJobOf, IsLimit, IsNumber, IsTask, IsValue, has_flag, or_else};
+ghost use Rattle.hwdb_words.specs.Refusals.{IsToldOf, IsToldOfOne};
 ghost use Rattle.hwdb_words.specs.declared.job.WordsFault.TheVariants.{Memory};
 
 use crate::command::hwdb_command;
@@ -42,18 +44,18 @@ fn copied(alloc: Global, text: Option<&str>) -> Result<Option<String>, AllocErro
     }
 }
 
-/// The first value of the argument, copied.
-fn text_copied(alloc: Global, matches: &ArgMatches<'_>, id: &str) -> Result<String, AllocError>
-    ensures { IfOk result (λ r. string_bytes r ≡ text_or_empty id.now (rows_of (found_of matches.now))) }
+/// The value of an argument that has one, copied.
+fn value_of(alloc: Global, matches: &ArgMatches<'_>, id: &str) -> Result<String, AllocError>
+    requires { HasValue id.now (rows_of (found_of matches.now)) }
+    ensures { IfOk result (λ r. IsValue id.now (rows_of (found_of matches.now)) (string_bytes r)) }
 {
-    match text_of(matches, id) {
-        Some(text) => Ok(String::from_str(alloc, text)?),
-        None => Ok(String::new(alloc)),
-    }
+    let text = text_of(matches, id).unwrap();
+    String::from_str(alloc, text)
 }
 
 /// The number that `--limit` gives.
 fn limit_of(inner: &ArgMatches<'_>) -> Option<u64>
+    requires { IfSome (one_of (codes "limit") (rows_of (found_of inner.now))) IsNumber }
     ensures { IsLimit (one_of (codes "limit") (rows_of (found_of inner.now))) result }
 {
     inner.get_one::<u64>("limit")
@@ -61,11 +63,13 @@ fn limit_of(inner: &ArgMatches<'_>) -> Option<u64>
 
 /// The task of `list`.
 fn list_task(alloc: Global, inner: &ArgMatches<'_>) -> Result<Task, AllocError>
+    requires device { HasValue (codes "MODALIAS") (rows_of (found_of inner.now)) }
+    requires limit { IfSome (one_of (codes "limit") (rows_of (found_of inner.now))) IsNumber }
     ensures { IfOk result (IsTask (codes "list") (rows_of (found_of inner.now))) }
 {
     let after = copied(alloc, text_of(inner, "after"))?;
     let limit = limit_of(inner);
-    let device = text_copied(alloc, inner, "MODALIAS")?;
+    let device = value_of(alloc, inner, "MODALIAS")?;
     Ok(Task::List {
         after,
         limit,
@@ -75,14 +79,15 @@ fn list_task(alloc: Global, inner: &ArgMatches<'_>) -> Result<Task, AllocError>
 
 /// The task of the subcommand with its matches.
 fn task_of(alloc: Global, name: &str, inner: &ArgMatches<'_>) -> Result<Task, AllocError>
+    requires { IsCommand name.now (rows_of (found_of inner.now)) }
     ensures { IfOk result (IsTask name.now (rows_of (found_of inner.now))) }
 {
     if name == "query" {
-        let device = text_copied(alloc, inner, "MODALIAS")?;
+        let device = value_of(alloc, inner, "MODALIAS")?;
         Ok(Task::Query { device })
     } else if name == "ask" {
-        let file = text_copied(alloc, inner, "FILE")?;
-        let device = text_copied(alloc, inner, "MODALIAS")?;
+        let file = value_of(alloc, inner, "FILE")?;
+        let device = value_of(alloc, inner, "MODALIAS")?;
         Ok(Task::Ask { file, device })
     } else if name == "list" {
         Ok(list_task(alloc, inner)?)
@@ -113,6 +118,7 @@ fn job_of(
     name: &str,
     inner: &ArgMatches<'_>,
 ) -> Result<Job, AllocError>
+    requires { IsCommand name.now (rows_of (found_of inner.now)) }
     ensures { IfOk result (IsJob (rows_of (found_of top.now)) name.now (rows_of (found_of inner.now))) }
 {
     let task = task_of(alloc, name, inner)?;
@@ -128,8 +134,9 @@ fn job_of(
 }
 
 /// What is told of words that the command doesn't take.
-fn fault_of(alloc: Global, error: &Error) -> WordsFault
-    ensures { kind_of error.now ≡ ErrorKind.OutOfMemory → result ≡ Memory }
+fn refusal_of(alloc: Global, error: &Error) -> WordsFault
+    ensures memory { kind_of error.now ≡ ErrorKind.OutOfMemory → result ≡ Memory }
+    ensures told { IsToldOf (kind_of error.now) result }
 {
     let kind = error.kind();
     if kind == ErrorKind::OutOfMemory {
@@ -146,20 +153,20 @@ fn fault_of(alloc: Global, error: &Error) -> WordsFault
 /// `WordsFault::Usage` with a text that says why, `--help` gives `WordsFault::Help`.
 pub fn read_words(alloc: Global, words: &[String]) -> Result<Job, WordsFault>
     ensures job { IfOk result (IsJobOf (matches_of hwdb_app (map string_bytes words.now)) (subcommand_of hwdb_app (map string_bytes words.now))) }
+    ensures whole { IfOk result (λ _. fault_of hwdb_app (map string_bytes words.now) ≡ []) }
+    ensures told { IfErr result (IsToldOfOne (fault_of hwdb_app (map string_bytes words.now))) }
     ensures taken { IfErr result (λ e. takes hwdb_app (map string_bytes words.now) ≡ true → e ≡ Memory) }
 {
     let command = hwdb_command(alloc)?;
     let matches = match command.try_get_matches_from(words) {
         Ok(matches) => matches,
-        Err(error) => return Err(fault_of(alloc, &error)),
+        Err(error) => return Err(refusal_of(alloc, &error)),
     };
     match matches.subcommand() {
         Some((name, inner)) => {
             let job = job_of(alloc, &matches, name, inner)?;
             Ok(job)
         }
-        None => Err(WordsFault::Usage {
-            text: String::new(alloc),
-        }),
+        None => unreachable!(),
     }
 }

@@ -1,6 +1,6 @@
-use Rattle.std.proofs.Common.{rules, ◌∙◌, ap, ap₂, ◌≡◌}
-use Rattle.clap.specs.Simple.{App, app_of, with_subcommand}
-use Rattle.hwdb_words.specs.Line.{top_app, update_app, query_app, ask_app, list_app, hwdb_app}
+use Rattle.std.proofs.Common.{◌∙◌, ap₂, ◌≡◌}
+use Rattle.clap.specs.Simple.{app_of, with_subcommand}
+use Rattle.hwdb_words.specs.Line.{top_app, update_app, query_app, ask_app}
 use Rattle.hwdb_words.proofs.command.hwdb_command.Goals as goal
 
 pub returns : goal.returns

@@ -7,4 +7,4 @@ use Rattle.hwdb_words.proofs.words.limit_of.Goals as goal
 pub returns : goal.returns
 returns c =
     let is = one_text-rows (found_of c.args.inner.now) (codes "limit") in
-    limit_found _ c.get_one.result (λ e. c.get_one.ensures.none (is ∙ e)) (λ t e. c.get_one.ensures.value t (is ∙ e))
+    limit_found _ c.get_one.result (λ e. c.get_one.ensures.none (is ∙ e)) (λ t e. c.get_one.ensures.value t (is ∙ e)) c.requires

@@ -1,0 +1,19 @@
+-- What is told of words that ask for nothing, by the kinds of error that `clap` may give at them.
+use Rattle.std.specs.Prelude.{◌≡◌, ◌≢◌, ⊤}
+use Rattle.clap.specs.Kinds.{IsAmong, Kinds}
+use Rattle.clap.specs.declared.error.kind.ErrorKind.{ErrorKind}
+use Rattle.clap.specs.declared.error.kind.ErrorKind.TheVariants.{DisplayHelp, OutOfMemory}
+use Rattle.hwdb_words.specs.declared.job.WordsFault.{WordsFault}
+use Rattle.hwdb_words.specs.declared.job.WordsFault.TheVariants.{Help, Usage, Memory}
+
+-- help is told where help was asked for, and usage at any other error of the words
+abbrev pub IsToldOf : ErrorKind → WordsFault → Type 0
+IsToldOf kind (Help text) = kind ≡ DisplayHelp
+IsToldOf kind (Usage text) = (kind ≢ DisplayHelp) × (kind ≢ OutOfMemory)
+IsToldOf kind Memory = ⊤
+
+-- the same, of one of the kinds that may come
+abbrev pub IsToldOfOne : Kinds → WordsFault → Type 0
+IsToldOfOne kinds (Help text) = IsAmong DisplayHelp kinds
+IsToldOfOne kinds (Usage text) = (kind : ErrorKind) × (kind ≢ DisplayHelp) × IsAmong kind kinds
+IsToldOfOne kinds Memory = ⊤
