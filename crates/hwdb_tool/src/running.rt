@@ -1,5 +1,6 @@
 //! The program: its words, its files, its status and its refusal lines.
-ghost use Rattle.std.specs.Prelude.{◌≡◌, ◌≤◌};
+ghost use Rattle.std.specs.Prelude.{◌≡◌, ◌≤◌, map, string_bytes};
+ghost use Rattle.hwdb_words.specs.Refusals.{AreWrong};
 
 use crate::asking::ask;
 use crate::devices::Sink;
@@ -26,7 +27,8 @@ const USR_FOLDER: &str = "/usr/lib/udev";
 const DATABASE: &str = "/hwdb.bin";
 
 /// Does what the words say, the first of which is the program's name, and answers the status: 0, or 1
-/// after a refusal, whose line goes to `err`, and where `--strict` says so.
+/// after a refusal, whose line goes to `err`, and where `--strict` says so. Words that the command doesn't
+/// take, and that ask for no help, are refused.
 pub fn program<R: Files + Alloc + Clone + Drop, O: Sink, E: Sink>(
     rt: &R,
     alloc: Global,
@@ -36,7 +38,8 @@ pub fn program<R: Files + Alloc + Clone + Drop, O: Sink, E: Sink>(
 ) -> u8
 where
     R::File: Drop,
-    ensures { result ≤ 1 }
+    ensures status { result ≤ 1 }
+    ensures wrong_words { AreWrong (map string_bytes words.now) → result ≡ 1 }
 {
     match read_words(alloc, words) {
         Ok(job) => match run(rt, alloc, &job, out, err) {

@@ -1,8 +1,11 @@
 -- What is told of words that ask for nothing, by the kinds of error that `clap` may give at them.
-use Rattle.std.specs.Prelude.{◌≡◌, ◌≢◌, ⊤}
+use Rattle.std.specs.Prelude.{◌≡◌, ◌≢◌, List, [], ⊤}
 use Rattle.clap.specs.Kinds.{IsAmong, Kinds}
+use Rattle.clap.specs.Walk.{Text}
+use Rattle.clap.specs.Faults.{fault_of}
 use Rattle.clap.specs.declared.error.kind.ErrorKind.{ErrorKind}
 use Rattle.clap.specs.declared.error.kind.ErrorKind.TheVariants.{DisplayHelp, OutOfMemory}
+use Rattle.hwdb_words.specs.Line.{hwdb_app}
 use Rattle.hwdb_words.specs.declared.job.WordsFault.{WordsFault}
 use Rattle.hwdb_words.specs.declared.job.WordsFault.TheVariants.{Help, Usage, Memory}
 
@@ -17,3 +20,7 @@ abbrev pub IsToldOfOne : Kinds → WordsFault → Type 0
 IsToldOfOne kinds (Help text) = IsAmong DisplayHelp kinds
 IsToldOfOne kinds (Usage text) = (kind : ErrorKind) × (kind ≢ DisplayHelp) × IsAmong kind kinds
 IsToldOfOne kinds Memory = ⊤
+
+-- the command doesn't take the words, and they ask for no help
+abbrev pub AreWrong : List Text → Type 0
+AreWrong words = (fault_of hwdb_app words ≢ []) × (IsAmong DisplayHelp (fault_of hwdb_app words) → ⊥)
