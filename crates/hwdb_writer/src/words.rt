@@ -11,6 +11,9 @@ use byteorder::{BigEndian, ByteOrder};
 use std::cmp::Ordering;
 use std::marker::Model;
 
+/// How many bytes stand beside a string as a number.
+const HEAD: usize = 8;
+
 /// A string. Its first eight bytes stand beside it as a number, so that few comparisons look at the
 /// string.
 #[derive(Drop)]
@@ -33,10 +36,10 @@ impl<'t> Model for Word<'t> {
 fn head_of(text: &[u8]) -> u64
     ensures { result ≡ big_number 8 text.now }
 {
-    if text.len() >= 8 {
+    if text.len() >= HEAD {
         return BigEndian::read_u64(text);
     }
-    let mut bytes = [0; 8];
+    let mut bytes = [0; HEAD];
     bytes[..text.len()].copy_from_slice(text);
     BigEndian::read_u64(&bytes)
 }
@@ -99,6 +102,9 @@ impl<'t> Ord for Word<'t> {
         }
         if self.head > other.head {
             return Ordering::Greater;
+        }
+        if self.text.len() <= HEAD && other.text.len() <= HEAD {
+            return self.text.len().cmp(&other.text.len());
         }
         self.text.cmp(other.text)
     }
