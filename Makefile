@@ -18,6 +18,7 @@ check:
 	tests/refused
 	$(MAKE) all
 	tests/runs out/hwdb
+	tests/hostile out/hwdb
 	tests/memory out/hwdb
 
 check-peer: all
