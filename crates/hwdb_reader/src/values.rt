@@ -29,7 +29,8 @@ fn check_value(b: &[u8], l: Frame, entry: usize) -> Result<(), DbFault>
     Ok(())
 }
 
-/// Tests the `n` value entries from `first` on, whose stored keys have to ascend.
+/// Tests the `n` value entries from `first` on, whose stored keys have to ascend. A lone key, as nearly all
+/// are, isn't read.
 #[tactic(auto, unfolding(hwdb_layout::specs::Database::ValuesText, hwdb_layout::specs::Database::values_at))]
 pub fn check_values(b: &[u8], l: Frame, first: usize, n: usize) -> Result<(), DbFault>
     requires { first + l.sizes.value_size * n ≤ length b.now }
@@ -37,6 +38,9 @@ pub fn check_values(b: &[u8], l: Frame, first: usize, n: usize) -> Result<(), Db
     ensures err { OnErr result (ValuesText l.sizes b.now first None (values_at l.sizes b.now first n) → ⊥) }
     ensures fault { IfErr result (λ e. ValuesFault l.sizes b.now first n e) }
 {
+    if n == 1 {
+        return check_value(b, l, first);
+    }
     let mut before: Option<&[u8]> = None;
     let mut entry = first;
     for i in 0..n {
