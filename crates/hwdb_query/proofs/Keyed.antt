@@ -92,7 +92,7 @@ unfolding Ascends
 none_ascends = tt
 
 -- one more answer
-effective_one : (xs : List Found) (f : Found) → effective_of (xs ++ f ∷ []) ≡ insert_entry key_cmp (effective_of xs) f.spot.key f.value
+pub effective_one : (xs : List Found) (f : Found) → effective_of (xs ++ f ∷ []) ≡ insert_entry key_cmp (effective_of xs) f.spot.key f.value
 unfolding effective_of put_all
 effective_one xs f =
     let keys = put_all key_cmp (map key_of_answer xs) [] in
@@ -108,7 +108,7 @@ effective_more xs [] = ap effective_of (sym (append-nil xs))
 effective_more xs (f ∷ ys) =
     ap (λ l. put_values l ys) (sym (effective_one xs f)) ∙ effective_more (xs ++ f ∷ []) ys ∙ ap effective_of (append_assoc xs (f ∷ []) ys)
 
-none_effective : effective_of [] ≡ []
+pub none_effective : effective_of [] ≡ []
 unfolding effective_of put_all
 none_effective = refl
 

@@ -12,6 +12,8 @@ pub mod Latest
 pub mod LastOnes
 pub mod Filled
 pub mod Computed
+pub mod Plain
+pub mod PlainPairs
 pub mod Accepting
 pub mod Keyed
 pub mod Numbers

@@ -7,6 +7,7 @@ pub mod Assigned
 pub mod Compiling
 pub mod Surviving
 pub mod Headline
+pub mod Plain
 pub mod Rows
 pub mod Reading
 pub mod Conversions

@@ -1,5 +1,7 @@
 //! Worked rows over small databases, and the texts of positions.
+mod beside;
 mod compiled;
+mod plain;
 mod vectors;
 
 use crate::{Cursor, Hit, Position, QueryError, cursor, effective};

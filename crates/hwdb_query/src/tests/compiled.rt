@@ -21,7 +21,7 @@ struct Row<'t> {
 }
 
 /// Files with these names and texts.
-fn files(alloc: Global, texts: &[(&str, &str)]) -> Result<Vec<SourceFile>, Fail> {
+pub fn files(alloc: Global, texts: &[(&str, &str)]) -> Result<Vec<SourceFile>, Fail> {
     let mut files = Vec::new(alloc);
     for (name, text) in texts {
         let name = String::from_str(alloc, name)?;

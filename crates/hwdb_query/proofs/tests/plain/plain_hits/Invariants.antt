@@ -1,0 +1,16 @@
+use Rattle.std.proofs.Common.{◌≡◌, length, map}
+use Rattle.hwdb_text.specs.Assignments.{assigned}
+use Rattle.hwdb_query.specs.Answers.{found_cmp}
+use Rattle.hwdb_query.specs.Headline.{last_assignments}
+use Rattle.hwdb_query.specs.Hits.{founds, given_spot}
+use Rattle.hwdb_query.specs.Lists.{put_all}
+use Rattle.hwdb_query.proofs.Plain.{kept_of}
+use Rattle.hwdb_query.proofs.tests.plain.plain_hits.Given as goal
+
+abbrev pub invariant-all : goal.invariant-all
+invariant-all l =
+    put_all found_cmp (kept_of l.fn.device (given_spot l.fn.after) (map assigned l.rest)) (founds l.hits.items)
+    ≡ last_assignments l.fn.device (given_spot l.fn.after) (map assigned l.fn.all)
+
+abbrev pub decreases-all : goal.decreases-all
+decreases-all l = length l.rest

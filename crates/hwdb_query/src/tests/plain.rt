@@ -1,0 +1,181 @@
+//! The plain program: the answers for a device of a list of assignments, by a filter, a sort and the last of
+//! each key. It has no tree and no map, and its contract is the definition.
+ghost use Rattle.std.specs.Prelude.{◌≡◌, ◌++◌, List, [], ◌∷◌, Bool, true, false, not, if◌then◌else◌, map, filter, IfOk, OnOk};
+ghost use Rattle.std.specs.BTreeMap.{insert_entry};
+ghost use Rattle.std.specs.List.{list_any};
+ghost use Rattle.hwdb_text.specs.Assignments.{Assigned, assigned};
+ghost use Rattle.hwdb_pattern.specs.Patterns.{MatchesIsTested};
+ghost use Rattle.hwdb_query.specs.Answers.{found_cmp, is_match, is_after};
+ghost use Rattle.hwdb_query.specs.Effective.{effective_of, key_cmp};
+ghost use Rattle.hwdb_query.specs.Headline.{is_same_place, answer_of, last_assignments};
+ghost use Rattle.hwdb_query.specs.Hits.{found_of_hit, founds, parts_spot, given_spot};
+ghost use Rattle.hwdb_query.specs.Lists.{put, put_all};
+ghost use Rattle.hwdb_query.specs.Pairs.{pairs_bytes};
+ghost use Rattle.hwdb_query.specs.Plain.{last_one};
+
+use crate::held::place_of;
+use crate::hit::{Hit, Parts, order};
+use crate::position::Position;
+use hwdb_pattern::{glob, matches_is_tested};
+use hwdb_text::Assignment;
+use std::alloc::{AllocError, Global};
+use std::cmp::Ordering;
+
+/// Whether two assignments have the same pattern and the same key.
+fn is_same(a: &Assignment, b: &Assignment) -> bool
+    ensures { result ≡ is_same_place (assigned a.now) (assigned b.now) }
+{
+    if a.pattern.as_slice().cmp(b.pattern.as_slice()).is_eq() {
+        return a.key.as_slice().cmp(b.key.as_slice()).is_eq();
+    }
+    false
+}
+
+/// Whether one of the assignments has the pattern and the key of the first.
+fn is_followed(first: &Assignment, more: &[Assignment]) -> bool
+    ensures { result ≡ list_any (is_same_place (assigned first.now)) (map assigned more.now) }
+{
+    match more {
+        [] => false,
+        [next, rest @ ..] => {
+            if is_same(first, next) {
+                return true;
+            }
+            is_followed(first, rest)
+        }
+    }
+}
+
+/// Whether a pattern matches a device.
+fn is_matched(pattern: &[u8], device: &[u8]) -> bool
+    ensures { result ≡ is_match device.now pattern.now }
+{
+    matches_is_tested();
+    glob(pattern, device)
+}
+
+/// Whether a position is greater than the one given, if one is given.
+fn is_behind(after: Option<&Position>, parts: Parts<'_>) -> bool
+    ensures { result ≡ is_after (given_spot after.entry) (parts_spot parts.entry) }
+{
+    match after {
+        None => true,
+        Some(position) => match order(position.parts(), parts) {
+            Ordering::Less => true,
+            _ => false,
+        },
+    }
+}
+
+/// An assignment as a hit.
+fn hit_of<'a>(alloc: Global, a: &'a Assignment) -> Result<Hit<'a>, AllocError>
+    ensures { IfOk result (λ hit. found_of_hit hit ≡ answer_of (assigned a.now)) }
+{
+    let pattern = a.pattern.to_vec(alloc)?;
+    Ok(Hit {
+        priority: a.priority,
+        line: a.line,
+        pattern,
+        key: &a.key,
+        value: &a.value,
+        path: &a.path,
+    })
+}
+
+/// Puts a hit in its place.
+fn put_hit<'a>(hits: &mut Vec<Hit<'a>>, hit: Hit<'a>) -> Result<(), AllocError>
+    ensures { OnOk result (founds hits.new.items ≡ put found_cmp (found_of_hit hit.entry) (founds hits.old.items)) }
+{
+    let held: &[Hit<'_>] = hits;
+    let place = place_of(held, hit.parts());
+    if !place.is_taken {
+        hits.insert(place.index, hit)?;
+    }
+    Ok(())
+}
+
+/// Puts an assignment in its place, if it is the last of its pattern and key, its pattern matches the device,
+/// and it is greater than the position.
+fn put_last<'a>(
+    alloc: Global,
+    hits: &mut Vec<Hit<'a>>,
+    first: &'a Assignment,
+    more: &[Assignment],
+    device: &[u8],
+    after: Option<&Position>,
+) -> Result<(), AllocError>
+    ensures { OnOk result (founds hits.new.items
+        ≡ put_all found_cmp (last_one device.now (given_spot after.entry) (assigned first.now) (map assigned more.now)) (founds hits.old.items)) }
+{
+    if is_followed(first, more) {
+        return Ok(());
+    }
+    if !is_matched(&first.pattern, device) {
+        return Ok(());
+    }
+    let hit = hit_of(alloc, first)?;
+    if !is_behind(after, hit.parts()) {
+        return Ok(());
+    }
+    put_hit(hits, hit)
+}
+
+/// The last assignment of each pattern and key whose pattern matches the device, by priority, line, pattern and
+/// key: those after the position.
+pub fn plain_hits<'a>(
+    alloc: Global,
+    all: &'a [Assignment],
+    device: &[u8],
+    after: Option<&Position>,
+) -> Result<Vec<Hit<'a>>, AllocError>
+    ensures { IfOk result (λ hits. founds hits.items ≡ last_assignments device.now (given_spot after.entry) (map assigned all.now)) }
+{
+    let mut hits = Vec::new(alloc);
+    let mut rest = all;
+    'all: while let Some((first, more)) = rest.split_first() {
+        put_last(alloc, &mut hits, first, more, device, after)?;
+        rest = more;
+    }
+    Ok(hits)
+}
+
+/// Puts a value at its key, among pairs that ascend by key.
+fn put_value<'a>(
+    pairs: &mut Vec<(&'a [u8], &'a [u8])>,
+    key: &'a [u8],
+    value: &'a [u8],
+) -> Result<(), AllocError>
+    ensures { OnOk result (pairs_bytes pairs.new.items ≡ insert_entry key_cmp (pairs_bytes pairs.old.items) key.entry.now value.entry.now) }
+{
+    let count = pairs.as_slice().len();
+    for i in 0..count {
+        let (other, _) = pairs[i];
+        match key.cmp(other) {
+            Ordering::Less => {
+                pairs.insert(i, (key, value))?;
+                return Ok(());
+            }
+            Ordering::Equal => {
+                pairs[i] = (other, value);
+                return Ok(());
+            }
+            Ordering::Greater => {}
+        }
+    }
+    pairs.push((key, value))?;
+    Ok(())
+}
+
+/// For each key among the hits the value of the last hit with that key, ascending by key.
+pub fn plain_effective<'a>(
+    alloc: Global,
+    hits: &[Hit<'a>],
+) -> Result<Vec<(&'a [u8], &'a [u8])>, AllocError>
+    ensures { IfOk result (λ list. pairs_bytes list.items ≡ effective_of (founds hits.now)) }
+{
+    let mut pairs = Vec::new(alloc);
+    for hit in hits {
+        put_value(&mut pairs, hit.key, hit.value)?;
+    }
+    Ok(pairs)
+}
