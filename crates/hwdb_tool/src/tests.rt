@@ -1,5 +1,8 @@
 //! Worked examples of reading, writing and asking.
 mod commands;
+mod failing;
+mod hostile;
+mod vectors;
 
 use crate::asking::ask;
 use crate::errors::ToolError;
@@ -167,7 +170,7 @@ fn reads(rt: HostRuntime) -> Result<(), Fail> {
     assert_eq!(rt; whole.as_slice(), b"abcde".as_slice());
     let long = read_all(alloc, &mut GivenBytes::new(b"abcde"), 4);
     assert_eq!(rt; long.err(), Some(ToolError::TooLong));
-    for number in 0..3u64 {
+    for number in 0..6u64 {
         let mut failing = GivenBytes::new(b"abcde");
         failing.per_read = 1;
         failing.fails_at = Some(number);
@@ -178,6 +181,26 @@ fn reads(rt: HostRuntime) -> Result<(), Fail> {
     }
     let endless = read_all(alloc, &mut Endless { failed: 0 }, 100_000);
     assert_eq!(rt; endless.err(), Some(ToolError::TooLong));
+    Ok(())
+}
+
+/// More bytes than are asked for at once, up to the limit and one over it.
+#[test]
+fn long_reads(rt: HostRuntime) -> Result<(), Fail> {
+    let alloc = rt.alloc();
+    let bytes = [b'a'; 150_000];
+    for per_read in [1000, 65_536, usize::MAX] {
+        let mut source = GivenBytes::new(&bytes);
+        source.per_read = per_read;
+        let whole = read_all(alloc, &mut source, 150_000)?;
+        assert_eq!(rt; whole.as_slice(), bytes.as_slice());
+        let mut source = GivenBytes::new(&bytes);
+        source.per_read = per_read;
+        let long = read_all(alloc, &mut source, 149_999);
+        assert_eq!(rt; long.err(), Some(ToolError::TooLong));
+    }
+    let none = read_all(alloc, &mut GivenBytes::new(b""), 0)?;
+    assert_eq!(rt; none.len(), 0);
     Ok(())
 }
 

@@ -1,0 +1,251 @@
+//! Sinks that fail at each byte or at the flush, that take one byte at a time, or none.
+use crate::engines::{MAX_BYTES, run_list, run_query};
+use crate::errors::ToolError;
+use crate::fixed::TakenBytes;
+use crate::running::program;
+use crate::tests::vectors::FAULTY;
+use crate::updating::run_update;
+use hwdb_query::SourceFile;
+use std::alloc::{AllocError, Global};
+use std::process::Abort;
+use std::test::Fail;
+
+/// What a command prints of a small database.
+#[derive(Clone, Copy)]
+struct Printing {
+    lists: bool,
+    text: &'static str,
+    device: &'static str,
+    printed: &'static str,
+}
+
+const LIST: Printing = Printing {
+    lists: true,
+    text: "a*\n K=1\n\nab\n K=2\n",
+    device: "ab",
+    printed: "1:2:612a:4b\ta*\tK=1\n1:5:6162:4b\tab\tK=2\n",
+};
+
+const QUERY: Printing = Printing {
+    lists: false,
+    text: "usb:v1234*\n ID_X=1\n",
+    device: "usb:v1234p5",
+    printed: "ID_X=1\n",
+};
+
+fn files_of(alloc: Global, name: &str, text: &str) -> Result<Vec<SourceFile>, AllocError> {
+    let mut files = Vec::new(alloc);
+    let name = String::from_str(alloc, name)?;
+    let bytes = text.as_bytes().to_vec(alloc)?;
+    files.push(SourceFile { name, bytes })?;
+    Ok(files)
+}
+
+/// The database of one text file.
+fn database_of(alloc: Global, text: &str) -> Result<Vec<u8>, ToolError> {
+    let files = files_of(alloc, "1.hwdb", text)?;
+    let mut out: TakenBytes<1024> = TakenBytes::new();
+    let mut err: TakenBytes<8> = TakenBytes::new();
+    run_update(alloc, &files, &[], MAX_BYTES, true, &mut out, &mut err)?;
+    Ok(out.taken().to_vec(alloc)?)
+}
+
+fn print(
+    alloc: Global,
+    row: Printing,
+    bytes: &[u8],
+    out: &mut TakenBytes<64>,
+) -> Result<(), ToolError> {
+    let device = row.device.as_bytes();
+    if row.lists {
+        run_list(alloc, bytes, device, None, None, out)
+    } else {
+        run_query(alloc, bytes, device, out)
+    }
+}
+
+/// A sink that fails after so many bytes has taken just these.
+#[test]
+fn prints_cut_short(rt: HostRuntime) -> Result<(), Fail> {
+    assert_eq!(rt; LIST.printed.len(), 38);
+    for row in [LIST, QUERY] {
+        let bytes = database_of(rt.alloc(), row.text)?;
+        let want = row.printed.as_bytes();
+        for room in 0..want.len() {
+            let mut out: TakenBytes<64> = TakenBytes::new();
+            out.room = room;
+            assert_eq!(rt;
+                print(rt.alloc(), row, &bytes, &mut out),
+                Err(ToolError::Write)
+            );
+            assert_eq!(rt; out.taken(), &want[..room]);
+            assert_eq!(rt; out.failed, 1);
+        }
+        let mut out: TakenBytes<64> = TakenBytes::new();
+        out.room = want.len();
+        assert_eq!(rt; print(rt.alloc(), row, &bytes, &mut out), Ok(()));
+        assert_eq!(rt; out.taken(), want);
+    }
+    Ok(())
+}
+
+#[test]
+fn prints_by_bytes(rt: HostRuntime) -> Result<(), Fail> {
+    for row in [LIST, QUERY] {
+        let bytes = database_of(rt.alloc(), row.text)?;
+        let mut bytewise: TakenBytes<64> = TakenBytes::new();
+        bytewise.per_write = 1;
+        assert_eq!(rt; print(rt.alloc(), row, &bytes, &mut bytewise), Ok(()));
+        assert_eq!(rt; bytewise.taken(), row.printed.as_bytes());
+
+        let mut unwilling: TakenBytes<64> = TakenBytes::new();
+        unwilling.per_write = 0;
+        assert_eq!(rt;
+            print(rt.alloc(), row, &bytes, &mut unwilling),
+            Err(ToolError::Write)
+        );
+        assert_eq!(rt; unwilling.taken(), b"".as_slice());
+    }
+    Ok(())
+}
+
+#[test]
+fn prints_unflushed(rt: HostRuntime) -> Result<(), Fail> {
+    let bytes = database_of(rt.alloc(), QUERY.text)?;
+    let mut out: TakenBytes<64> = TakenBytes::new();
+    out.flush_fails = true;
+    assert_eq!(rt;
+        print(rt.alloc(), QUERY, &bytes, &mut out),
+        Err(ToolError::Write)
+    );
+    assert_eq!(rt; out.taken(), QUERY.printed.as_bytes());
+
+    let bytes = database_of(rt.alloc(), LIST.text)?;
+    let mut out: TakenBytes<64> = TakenBytes::new();
+    out.flush_fails = true;
+    assert_eq!(rt;
+        print(rt.alloc(), LIST, &bytes, &mut out),
+        Err(ToolError::Write)
+    );
+    assert!(rt; LIST.printed.as_bytes().starts_with(out.taken()));
+    Ok(())
+}
+
+const FAULTY_TEXT: &str = " S=1\na\n K=1\n NOEQ\n =v\nb\n\nc\n";
+
+const FAULT_LINES: &str =
+    "/etc/udev/hwdb.d/t.hwdb:1: property where a match is expected, ignored\n/etc/udev/hwdb.d/t.hwdb:4: property without =, ignored\n/etc/udev/hwdb.d/t.hwdb:5: empty key, ignored\n/etc/udev/hwdb.d/t.hwdb:6: match line inside a record, ignored; the record ends here\n/etc/udev/hwdb.d/t.hwdb:8: record without properties, ignored\n";
+
+fn update(
+    alloc: Global,
+    files: &[SourceFile],
+    strict: bool,
+    out: &mut TakenBytes<256>,
+    err: &mut TakenBytes<512>,
+) -> Result<u8, ToolError> {
+    run_update(alloc, files, &[], MAX_BYTES, strict, out, err)
+}
+
+/// Compares what an update left behind.
+fn left_behind(
+    rt: &impl Abort,
+    out: &TakenBytes<256>,
+    database: &[u8],
+    err: &TakenBytes<512>,
+    lines: &[u8],
+) {
+    assert_eq!(rt; err.taken(), lines);
+    assert_eq!(rt; out.taken(), database);
+}
+
+/// The database is begun only once the fault lines are whole.
+#[test]
+fn updates_cut_short(rt: HostRuntime) -> Result<(), Fail> {
+    let files = files_of(rt.alloc(), "t.hwdb", FAULTY_TEXT)?;
+    let lines = FAULT_LINES.as_bytes();
+    for room in 0..lines.len() {
+        let mut out: TakenBytes<256> = TakenBytes::new();
+        let mut err: TakenBytes<512> = TakenBytes::new();
+        err.room = room;
+        let seen = update(rt.alloc(), &files, room % 2 == 0, &mut out, &mut err);
+        assert_eq!(rt; seen, Err(ToolError::Write));
+        left_behind(&rt, &out, b"", &err, &lines[..room]);
+    }
+    for room in 0..FAULTY.len() {
+        let mut out: TakenBytes<256> = TakenBytes::new();
+        let mut err: TakenBytes<512> = TakenBytes::new();
+        out.room = room;
+        let seen = update(rt.alloc(), &files, room % 2 == 0, &mut out, &mut err);
+        assert_eq!(rt; seen, Err(ToolError::Write));
+        left_behind(&rt, &out, &FAULTY[..room], &err, lines);
+    }
+    for strict in [false, true] {
+        let mut out: TakenBytes<256> = TakenBytes::new();
+        let mut err: TakenBytes<512> = TakenBytes::new();
+        out.room = FAULTY.len();
+        err.room = lines.len();
+        let seen = update(rt.alloc(), &files, strict, &mut out, &mut err);
+        assert_eq!(rt; seen, Ok(u8::from(strict)));
+        left_behind(&rt, &out, FAULTY, &err, lines);
+    }
+    Ok(())
+}
+
+#[test]
+fn updates_by_bytes(rt: HostRuntime) -> Result<(), Fail> {
+    let files = files_of(rt.alloc(), "t.hwdb", FAULTY_TEXT)?;
+    let lines = FAULT_LINES.as_bytes();
+    let nothing = b"".as_slice();
+    let rows = [
+        (1usize, 1usize, Ok(0u8), FAULTY.as_slice(), lines),
+        (256, 0, Err(ToolError::Write), nothing, nothing),
+        (0, 512, Err(ToolError::Write), nothing, lines),
+    ];
+    for (of_database, of_lines, want, database, fault_lines) in rows {
+        let mut out: TakenBytes<256> = TakenBytes::new();
+        let mut err: TakenBytes<512> = TakenBytes::new();
+        out.per_write = of_database;
+        err.per_write = of_lines;
+        let seen = update(rt.alloc(), &files, false, &mut out, &mut err);
+        assert_eq!(rt; seen, want);
+        left_behind(&rt, &out, database, &err, fault_lines);
+    }
+    Ok(())
+}
+
+#[test]
+fn updates_unflushed(rt: HostRuntime) -> Result<(), Fail> {
+    let files = files_of(rt.alloc(), "t.hwdb", FAULTY_TEXT)?;
+    for (is_database, database) in [(false, b"".as_slice()), (true, FAULTY.as_slice())] {
+        let mut out: TakenBytes<256> = TakenBytes::new();
+        let mut err: TakenBytes<512> = TakenBytes::new();
+        out.flush_fails = is_database;
+        err.flush_fails = !is_database;
+        let seen = update(rt.alloc(), &files, true, &mut out, &mut err);
+        assert_eq!(rt; seen, Err(ToolError::Write));
+        left_behind(&rt, &out, database, &err, FAULT_LINES.as_bytes());
+    }
+    Ok(())
+}
+
+/// Help that can't be written whole is a refusal of the program.
+#[test]
+fn program_cut_short(rt: HostRuntime) -> Result<(), Fail> {
+    let alloc = rt.alloc();
+    let mut words = Vec::new(alloc);
+    words.push(String::from_str(alloc, "hwdb")?)?;
+    words.push(String::from_str(alloc, "--help")?)?;
+    let mut whole: TakenBytes<4096> = TakenBytes::new();
+    let mut err: TakenBytes<32> = TakenBytes::new();
+    assert_eq!(rt; program(&rt, alloc, &words, &mut whole, &mut err), 0);
+    assert_eq!(rt; err.taken(), b"".as_slice());
+    for room in 0..whole.taken().len() {
+        let mut out: TakenBytes<4096> = TakenBytes::new();
+        let mut err: TakenBytes<32> = TakenBytes::new();
+        out.room = room;
+        assert_eq!(rt; program(&rt, alloc, &words, &mut out, &mut err), 1);
+        assert_eq!(rt; out.taken(), &whole.taken()[..room]);
+        assert_eq!(rt; err.taken(), b"hwdb: cannot write\n".as_slice());
+    }
+    Ok(())
+}
