@@ -37,14 +37,17 @@ last_assignments device after all = filter (is_behind after) (last_matching devi
 abbrev pub IsTreeOfFiles : (etc usr : List Source) → Tree → Type 0
 IsTreeOfFiles etc usr t = map_of t ≡ map_of_files etc usr
 
--- Where bytes are a database of the files' map and of a tree, the answers in this tree are the last assignments.
-abbrev pub CompiledAnswersAreLast : Type 0
-CompiledAnswersAreLast =
-    (etc usr : List Source) (bytes : List ℕ) (t : Tree) → IsDatabaseOf (map_of_files etc usr) bytes → IsDatabase bytes t
-    → (device : List ℕ) (after : Option Spot) → answers_after device after t ≡ last_assignments device after (all_assignments etc usr)
+-- In each tree that the bytes are a database of, the answers are the last assignments of the files.
+abbrev pub AnswersAreLast : (etc usr : List Source) → (bytes : List ℕ) → Type 0
+AnswersAreLast etc usr bytes =
+    (t : Tree) → IsDatabase bytes t → (device : List ℕ) (after : Option Spot) → answers_after device after t ≡ last_assignments device after (all_assignments etc usr)
 
--- All answers in this tree are all of them.
+-- It is so for bytes that are a database of the files' map.
+abbrev pub CompiledAnswersAreLast : Type 0
+CompiledAnswersAreLast = (etc usr : List Source) (bytes : List ℕ) → IsDatabaseOf (map_of_files etc usr) bytes → AnswersAreLast etc usr bytes
+
+-- Without a position it is so of all answers.
 abbrev pub AllCompiledAnswersAreLast : Type 0
 AllCompiledAnswersAreLast =
-    (etc usr : List Source) (bytes : List ℕ) (t : Tree) → IsDatabaseOf (map_of_files etc usr) bytes → IsDatabase bytes t
-    → (device : List ℕ) → answers device t ≡ last_assignments device None (all_assignments etc usr)
+    (etc usr : List Source) (bytes : List ℕ) → IsDatabaseOf (map_of_files etc usr) bytes
+    → (t : Tree) → IsDatabase bytes t → (device : List ℕ) → answers device t ≡ last_assignments device None (all_assignments etc usr)

@@ -6,9 +6,11 @@ ghost use Rattle.hwdb_text.specs.Assignments.{Assigned, assigned};
 ghost use Rattle.hwdb_text.specs.Choice.{choice_of};
 ghost use Rattle.hwdb_text.specs.Storable.{IsStorableChoice};
 ghost use Rattle.hwdb_query.specs.Compiling.{sources, surviving, map_of_files, file_assignments, file_faults, all_faults, fault_in, fault_of, FewLines, AreAccepted, IsRefusal};
+ghost use Rattle.hwdb_query.specs.Headline.{AnswersAreLast};
 ghost use Rattle.hwdb_query.specs.Reading.{bytes_at, read_from, IsPuttable, IsFileRefusal, IsFilesRefusal};
 
 use crate::errors::CompileError;
+use crate::laws::compiled_answers_are_last;
 use crate::sources::{Compiled, FileFault, SourceFile, names, put_files};
 use hwdb_text::{Assignment, Chosen, Fault, parse, select};
 use hwdb_writer::{Tree, write};
@@ -102,6 +104,9 @@ fn bytes_of<'a>(index: &BTreeMap<&str, &'a [u8]>, name: &str) -> &'a [u8]
 /// them in the order of their priorities, and writes what survives. Of several files of one name in one list
 /// the first counts.
 ///
+/// What a reader of the database answers for a device is, of all assignments of the files, the last one of each
+/// pattern and key whose pattern matches: by file priority, line, pattern and key.
+///
 /// Refuses with [`CompileError::TooManyFiles`] before all, then with [`CompileError::TooManyLines`], then with
 /// [`CompileError::TooLarge`] where the database has more than `max_bytes` bytes; with
 /// [`CompileError::Memory`] wherever memory is refused.
@@ -113,11 +118,13 @@ pub fn compile(
 ) -> Result<Compiled, CompileError>
     ensures database { IfOk result (λ c. IsWritten (map_of_files (sources etc.now) (sources usr.now)) c.database.items) }
     ensures checked { IfOk result (λ c. IsDatabaseOf (map_of_files (sources etc.now) (sources usr.now)) c.database.items) }
+    ensures headline { IfOk result (λ c. AnswersAreLast (sources etc.now) (sources usr.now) c.database.items) }
     ensures within { IfOk result (λ c. length c.database.items ≤ max_bytes) }
     ensures faults { IfOk result (λ c. map fault_of c.faults.items ≡ all_faults (sources etc.now) (sources usr.now)) }
     ensures accepted { OnOk result (AreAccepted (sources etc.now) (sources usr.now)) }
     ensures refused { IfErr result (IsRefusal (sources etc.now) (sources usr.now) max_bytes) }
 {
+    compiled_answers_are_last();
     let etc_names = names(alloc, etc)?;
     let usr_names = names(alloc, usr)?;
     let chosen = select(alloc, &etc_names, &usr_names)?;

@@ -78,3 +78,6 @@ returns-clause-accepted c =
     let chosen = same_chosen etc usr _ _ (map choice_of c.deref-3.result.now) (ap (map choice_of) c.deref-3.ensures.value ∙ c.in_ok-chosen.ensures.chosen) etc_is usr_is in
     let few = few_chosen etc usr _ _ etc_is usr_is c.in_ok-chosen.ensures.few in
     accepted etc usr (read_from c.put_files-2.new.index) (map choice_of c.deref-3.result.now) read chosen few c.in_ok-add_files.ensures.few
+
+pub returns-clause-headline : goal.returns-clause-headline
+returns-clause-headline c = c.compiled_answers_are_last.ensures.after (sources c.args.etc.now) (sources c.args.usr.now) c.in_ok-database.database.items (returns-clause-checked c)
