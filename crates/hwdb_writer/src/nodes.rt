@@ -27,9 +27,9 @@ fn collect_values<'t>(
         ((out.old.items ++ keys.old.items ++ paths.old.items) ++ flat_map strings_of_value (map value_of values.now))) }
 {
     for v in values {
-        push_new(keys, &v.key)?;
-        out.push(Word::new(&v.value))?;
-        push_new(paths, &v.path)?;
+        push_new(keys, v.key())?;
+        out.push(Word::new(v.value()))?;
+        push_new(paths, v.path())?;
     }
     Ok(())
 }
@@ -95,9 +95,9 @@ fn push_values(
         ≡ out.old.items ++ flat_map (value_text (place_in table.now)) (map value_of values.now)) }
 {
     for v in values {
-        push_u64(out, place(table, &mut near.key, &v.key))?;
-        push_u64(out, place(table, &mut near.value, &v.value))?;
-        push_u64(out, place(table, &mut near.path, &v.path))?;
+        push_u64(out, place(table, &mut near.key, v.key()))?;
+        push_u64(out, place(table, &mut near.value, v.value()))?;
+        push_u64(out, place(table, &mut near.path, v.path()))?;
         push_u32(out, v.line)?;
         push_u16(out, v.priority)?;
         out.extend_from_slice(&[0; 2])?;
