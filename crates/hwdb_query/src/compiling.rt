@@ -2,7 +2,7 @@
 ghost use Rattle.std.specs.Prelude.{◌≡◌, ◌≤◌, ◌++◌, ℕ, List, map, length, All, IfOk, IfErr, OnOk};
 ghost use Rattle.std.specs.List.{flat_map};
 ghost use Rattle.hwdb_layout.specs.Tight.{IsDatabaseOf, IsWritten};
-ghost use Rattle.hwdb_text.specs.Assignments.{Assigned, assigned};
+ghost use Rattle.hwdb_text.specs.Assignments.{Assigned, origin, given_in};
 ghost use Rattle.hwdb_text.specs.Choice.{choice_of};
 ghost use Rattle.hwdb_text.specs.Storable.{IsStorableChoice};
 ghost use Rattle.hwdb_query.specs.Compiling.{sources, surviving, map_of_files, file_assignments, file_faults, all_faults, fault_in, fault_of, FewLines, AreAccepted, IsRefusal};
@@ -12,18 +12,19 @@ ghost use Rattle.hwdb_query.specs.Reading.{bytes_at, read_from, IsPuttable, IsFi
 use crate::errors::CompileError;
 use crate::laws::compiled_answers_are_last;
 use crate::sources::{Compiled, FileFault, SourceFile, names, put_files};
-use hwdb_text::{Assignment, Chosen, Fault, parse, select};
+use hwdb_text::{Chosen, Fault, Given, scan, select};
 use hwdb_writer::{Tree, write};
 use std::alloc::{AllocError, Global};
 use std::collections::BTreeMap;
 
-/// Puts assignments into the tree, one after another.
-fn put_assignments(tree: &mut Tree, assignments: &[Assignment]) -> Result<(), AllocError>
-    requires { All IsPuttable (map assigned assignments.now) }
-    ensures { OnOk result ((done : List Assigned) → tree.old ≡ surviving done → tree.new ≡ surviving (done ++ map assigned assignments.now)) }
+/// Puts what a file with this path and priority gives into the tree, one after another.
+fn put_all(tree: &mut Tree, path: &[u8], priority: u16, all: &[Given<'_>]) -> Result<(), AllocError>
+    requires { All IsPuttable (map (given_in (origin path.now priority)) all.now) }
+    ensures { OnOk result ((done : List Assigned) → tree.old ≡ surviving done
+        → tree.new ≡ surviving (done ++ map (given_in (origin path.now priority)) all.now)) }
 {
-    for assignment in assignments {
-        tree.put(assignment)?;
+    for given in all {
+        tree.set(priority, path, *given)?;
     }
     Ok(())
 }
@@ -63,9 +64,9 @@ fn add_file(
 {
     let path = file.path(alloc)?;
     let path = path.as_bytes();
-    let parsed = parse(alloc, path, file.priority, bytes)?;
-    put_assignments(tree, &parsed.assignments)?;
-    add_faults(alloc, path, &parsed.faults, faults)?;
+    let scanned = scan(alloc, bytes)?;
+    put_all(tree, path, file.priority, &scanned.assignments)?;
+    add_faults(alloc, path, &scanned.faults, faults)?;
     Ok(())
 }
 

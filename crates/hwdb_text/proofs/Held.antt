@@ -6,7 +6,7 @@ use Rattle.hwdb_text.specs.declared.records.Stage.{Stage}
 use Rattle.hwdb_text.specs.declared.records.Stage.TheVariants.{Start, Matches, Properties}
 use Rattle.hwdb_text.specs.declared.records.Reader.{Reader}
 use Rattle.hwdb_text.specs.Lines.{Line, clean, is_match, is_property}
-use Rattle.hwdb_text.specs.Assignments.{Origin, assigned, section_assignments, text_of, patterns, property_assignments}
+use Rattle.hwdb_text.specs.Assignments.{Origin, given_in, section_assignments, text_of, patterns, property_assignments}
 use Rattle.hwdb_text.specs.Faults.{section_faults, spoilt_faults, long_faults, property_faults, fault}
 use Rattle.hwdb_text.specs.Reading.{AtStart, Closes, Holds, HoldsAt, Reads, gives}
 use Rattle.hwdb_text.proofs.Steps.{end_start, end_section, property_start, property_section, match_start, match_more, match_stray}
@@ -50,7 +50,7 @@ held_stray_property o whole rest x r s e1 e2 p ea ef h =
 
 property_by : (g : Stage) (o : Origin) (whole rest : List Line) (x : Line) (r s : Reader) → (g ≡ Start → ⊥) → is_property x ≡ true
     → s.first ≡ r.first → s.patterns ≡ r.patterns
-    → map assigned s.assignments.items ≡ map assigned r.assignments.items ++ property_assignments o (map text_of r.patterns.items) x
+    → map (given_in o) s.assignments.items ≡ map (given_in o) r.assignments.items ++ property_assignments o (map text_of r.patterns.items) x
     → s.faults.items ≡ r.faults.items ++ property_faults x → HoldsAt g o whole (x ∷ rest) r → HoldsAt Properties o whole rest s
 property_by Start o whole rest x r s n p e1 ep ea ef h = absurd (n refl)
 property_by Matches o whole rest x r s n p e1 ep ea ef h =
@@ -60,7 +60,7 @@ property_by Properties o whole rest x r s n p e1 ep ea ef h =
 
 pub held_property : (o : Origin) (whole rest : List Line) (x : Line) (r s : Reader) → (r.stage ≡ Start → ⊥) → is_property x ≡ true
     → s.first ≡ r.first → s.patterns ≡ r.patterns
-    → map assigned s.assignments.items ≡ map assigned r.assignments.items ++ property_assignments o (map text_of r.patterns.items) x
+    → map (given_in o) s.assignments.items ≡ map (given_in o) r.assignments.items ++ property_assignments o (map text_of r.patterns.items) x
     → s.faults.items ≡ r.faults.items ++ property_faults x → Holds o whole (x ∷ rest) r → HoldsAt Properties o whole rest s
 held_property o whole rest x r s n p e1 ep ea ef h = property_by r.stage o whole rest x r s n p e1 ep ea ef h
 
@@ -92,10 +92,10 @@ long_no l h = grind arith
 -- behind the last line
 pub finished : (o : Origin) (whole : List Line) (r s : Reader) → Reads o whole [] r → s.spoilt ≡ r.spoilt
     → ((o : Origin) → (whole rest : List Line) → Closes rest → Holds o whole rest r → AtStart o whole (drop 1 rest) s)
-    → (map assigned s.assignments.items ≡ gives (section_assignments o) (clean whole)) × (s.spoilt.items ++ s.faults.items ≡ spoilt_faults whole ++ gives section_faults (clean whole))
+    → (map (given_in o) s.assignments.items ≡ gives (section_assignments o) (clean whole)) × (s.spoilt.items ++ s.faults.items ≡ spoilt_faults whole ++ gives section_faults (clean whole))
 finished o whole r s h es closed =
     let g = closed o (clean whole) [] tt h.clean in (
-      sym (g.assignments ∙ ap (λ k. map assigned s.assignments.items ++ k) (gives_none (section_assignments o)) ∙ append-nil (map assigned s.assignments.items)),
+      sym (g.assignments ∙ ap (λ k. map (given_in o) s.assignments.items ++ k) (gives_none (section_assignments o)) ∙ append-nil (map (given_in o) s.assignments.items)),
       ap (λ k. k ++ s.faults.items) (ap (λ a. a.items) es ∙ sym (h.spoilt ∙ append-nil r.spoilt.items))
           ∙ ap (λ k. spoilt_faults whole ++ k) (sym (g.faults ∙ ap (λ k. s.faults.items ++ k) (gives_none section_faults) ∙ append-nil s.faults.items)),
     )

@@ -7,7 +7,7 @@ use Rattle.hwdb_text.specs.declared.outcome.FaultKind.TheVariants.{StrayProperty
 use Rattle.hwdb_text.specs.declared.records.Reader.{Reader}
 use Rattle.hwdb_text.specs.Lines.{Line, is_match, is_property}
 use Rattle.hwdb_text.specs.Records.{Section, section}
-use Rattle.hwdb_text.specs.Assignments.{Origin, Assigned, assigned, text_of, patterns, section_assignments, property_assignments}
+use Rattle.hwdb_text.specs.Assignments.{Origin, Assigned, given_in, text_of, patterns, section_assignments, property_assignments}
 use Rattle.hwdb_text.specs.Faults.{section_faults, long_faults, lonely_faults, property_faults, fault}
 use Rattle.hwdb_text.specs.Lines.{is_long}
 use Rattle.hwdb_text.specs.Reading.{AllPass, gives, AtStart, InSection, Closes}
@@ -49,7 +49,7 @@ four a b c d = ap (λ r. a ++ r) (append_assoc b c d) ∙ sym (append_assoc a b 
 pub end_start : (o : Origin) (whole rest : List Line) (r s : Reader) → Closes rest → AtStart o whole rest r
     → s.assignments ≡ r.assignments → s.faults ≡ r.faults → AtStart o whole (drop 1 rest) s
 end_start o whole rest r s e h ea ef = record {
-  assignments = h.assignments ∙ ap (λ a. map assigned a.items ++ gives (section_assignments o) rest) (sym ea) ∙ ap (λ g. map assigned s.assignments.items ++ g) (passed (section_assignments o) rest e);
+  assignments = h.assignments ∙ ap (λ a. map (given_in o) a.items ++ gives (section_assignments o) rest) (sym ea) ∙ ap (λ g. map (given_in o) s.assignments.items ++ g) (passed (section_assignments o) rest e);
   faults = h.faults ∙ ap (λ f. f.items ++ gives section_faults rest) (sym ef) ∙ ap (λ g. s.faults.items ++ g) (passed section_faults rest e);
 }
 
@@ -60,7 +60,7 @@ end_section o whole rest r s m ms ps e h ea ef = record {
   assignments =
       h.assigned_then ∙ ap (λ g. h.assigned_before ++ g) (closing (section_assignments o) m ms ps rest h.are_matches h.are_properties e)
       ∙ sym (append_assoc h.assigned_before (section_assignments o (section [] (m ∷ ms) ps [])) (gives (section_assignments o) (drop 1 rest)))
-      ∙ ap (λ g. g ++ gives (section_assignments o) (drop 1 rest)) (sym h.assigned_now ∙ ap (λ a. map assigned a.items) (sym ea));
+      ∙ ap (λ g. g ++ gives (section_assignments o) (drop 1 rest)) (sym h.assigned_now ∙ ap (λ a. map (given_in o) a.items) (sym ea));
   faults =
       h.faults_then ∙ ap (λ g. h.faults_before ++ g) (closing section_faults m ms ps rest h.are_matches h.are_properties e
       ∙ ap (λ g. g ++ gives section_faults (drop 1 rest)) (section_faults_are m ms ps))
@@ -72,8 +72,8 @@ end_section o whole rest r s m ms ps e h ea ef = record {
 pub property_start : (o : Origin) (whole rest : List Line) (x : Line) (r s : Reader) → is_property x ≡ true → AtStart o whole (x ∷ rest) r
     → s.assignments ≡ r.assignments → s.faults.items ≡ r.faults.items ++ fault StrayProperty x ∷ [] → AtStart o whole rest s
 property_start o whole rest x r s p h ea ef = record {
-  assignments = h.assignments ∙ ap (λ g. map assigned r.assignments.items ++ g) (gives_leading no_lead (section_assignments o) (assignments_give o) x rest p)
-      ∙ ap (λ a. map assigned a.items ++ gives (section_assignments o) rest) (sym ea);
+  assignments = h.assignments ∙ ap (λ g. map (given_in o) r.assignments.items ++ g) (gives_leading no_lead (section_assignments o) (assignments_give o) x rest p)
+      ∙ ap (λ a. map (given_in o) a.items ++ gives (section_assignments o) rest) (sym ea);
   faults = h.faults ∙ ap (λ g. r.faults.items ++ g) (gives_leading fault_lead section_faults faults_give x rest p)
       ∙ sym (append_assoc r.faults.items (fault StrayProperty x ∷ []) (gives section_faults rest))
       ∙ ap (λ g. g ++ gives section_faults rest) (sym ef);
@@ -89,7 +89,7 @@ flat_snoc f xs x = flat_map-append f xs (x ∷ []) ∙ ap (λ g. flat_map f xs +
 -- a property of a section
 pub property_section : (o : Origin) (whole rest : List Line) (x : Line) (r s : Reader) (m : Line) (ms ps : List Line) → is_property x ≡ true
     → InSection o whole (x ∷ rest) r m ms ps → s.first ≡ r.first → s.patterns ≡ r.patterns
-    → map assigned s.assignments.items ≡ map assigned r.assignments.items ++ property_assignments o (map text_of r.patterns.items) x
+    → map (given_in o) s.assignments.items ≡ map (given_in o) r.assignments.items ++ property_assignments o (map text_of r.patterns.items) x
     → s.faults.items ≡ r.faults.items ++ property_faults x → InSection o whole rest s m ms (ps ++ (x ∷ []))
 property_section o whole rest x r s m ms ps p h e1 ep ea ef = record {
   are_matches = h.are_matches;
@@ -98,7 +98,7 @@ property_section o whole rest x r s m ms ps p h e1 ep ea ef = record {
   pattern = ap (λ a. map text_of a.items) ep ∙ h.pattern;
   assigned_before = h.assigned_before;
   assigned_then = h.assigned_then ∙ ap (λ g. h.assigned_before ++ gives (section_assignments o) (m ∷ (ms ++ g))) (sym (append_assoc ps (x ∷ []) rest));
-  assigned_now = ea ∙ ap (λ g. map assigned r.assignments.items ++ property_assignments o g x) h.pattern
+  assigned_now = ea ∙ ap (λ g. map (given_in o) r.assignments.items ++ property_assignments o g x) h.pattern
       ∙ ap (λ g. g ++ property_assignments o (patterns (m ∷ ms)) x) h.assigned_now
       ∙ append_assoc h.assigned_before (section_assignments o (section [] (m ∷ ms) ps [])) (property_assignments o (patterns (m ∷ ms)) x)
       ∙ ap (λ g. h.assigned_before ++ g) (sym (flat_snoc (property_assignments o (patterns (m ∷ ms))) ps x));
@@ -119,9 +119,9 @@ match_start o whole rest x r s e h e1 ep ea ef = record {
   are_properties = tt;
   first = e1;
   pattern = ep;
-  assigned_before = map assigned r.assignments.items;
+  assigned_before = map (given_in o) r.assignments.items;
   assigned_then = h.assignments;
-  assigned_now = ap (λ a. map assigned a.items) ea ∙ sym (append-nil (map assigned r.assignments.items));
+  assigned_now = ap (λ a. map (given_in o) a.items) ea ∙ sym (append-nil (map (given_in o) r.assignments.items));
   faults_before = r.faults.items;
   faults_then = h.faults;
   faults_now = ef ∙ ap (λ g. r.faults.items ++ g) (sym (append-nil (long_faults x ++ []) ∙ append-nil (long_faults x)));
@@ -147,7 +147,7 @@ match_more o whole rest x r s m ms e h e1 ep ea ef = record {
   pattern = ep ∙ ap (λ g. g ++ patterns (x ∷ [])) h.pattern ∙ sym (patterns_append (m ∷ ms) (x ∷ []));
   assigned_before = h.assigned_before;
   assigned_then = h.assigned_then ∙ ap (λ g. h.assigned_before ++ gives (section_assignments o) (m ∷ g)) (sym (append_assoc ms (x ∷ []) rest));
-  assigned_now = ap (λ a. map assigned a.items) ea ∙ h.assigned_now;
+  assigned_now = ap (λ a. map (given_in o) a.items) ea ∙ h.assigned_now;
   faults_before = h.faults_before;
   faults_then = h.faults_then ∙ ap (λ g. h.faults_before ++ gives section_faults (m ∷ g)) (sym (append_assoc ms (x ∷ []) rest));
   faults_now = ef ∙ ap (λ g. g ++ long_faults x) (h.faults_now ∙ ap (λ g. h.faults_before ++ g) (append-nil (flat_map long_faults (m ∷ ms))))
@@ -169,7 +169,7 @@ match_stray o whole rest x r s m ms p ps e h ea ef = record {
   assignments =
       h.assigned_then ∙ ap (λ g. h.assigned_before ++ g) (gives_stray (section_assignments o) m ms p ps x rest h.are_matches h.are_properties e)
       ∙ sym (append_assoc h.assigned_before (section_assignments o (section [] (m ∷ ms) (p ∷ ps) [])) (gives (section_assignments o) rest))
-      ∙ ap (λ g. g ++ gives (section_assignments o) rest) (sym h.assigned_now ∙ ap (λ a. map assigned a.items) (sym ea));
+      ∙ ap (λ g. g ++ gives (section_assignments o) rest) (sym h.assigned_now ∙ ap (λ a. map (given_in o) a.items) (sym ea));
   faults =
       h.faults_then ∙ ap (λ g. h.faults_before ++ g) (gives_stray section_faults m ms p ps x rest h.are_matches h.are_properties e
       ∙ ap (λ g. g ++ gives section_faults rest) (stray_faults_are m ms p ps x))

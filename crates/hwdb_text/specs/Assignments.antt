@@ -3,6 +3,7 @@ use Rattle.std.specs.Prelude.{ℕ, if◌then◌else◌, List, [], ◌∷◌, map
 use Rattle.std.specs.Borrow.{Bor}
 use Rattle.std.specs.List.{flat_map}
 use Rattle.hwdb_text.specs.declared.outcome.Assignment.{Assignment}
+use Rattle.hwdb_text.specs.declared.outcome.Given.{Given}
 use Rattle.hwdb_text.specs.Lines.{Line, lines, clean, has_equals, has_key, is_long, key, value}
 use Rattle.hwdb_text.specs.Records.{Section, sections}
 
@@ -43,6 +44,10 @@ given o number key value pattern = record {
   value = value;
   path = o.path;
 }
+
+-- what a property gives a pattern in a file, as the reader hands it out
+abbrev pub given_in : Origin → Given → Assigned
+given_in o g = given o g.line g.key.now g.value.now g.pattern.now
 
 -- the assignment of a property with a pattern
 abbrev pub assign : Origin → Line → List ℕ → Assigned

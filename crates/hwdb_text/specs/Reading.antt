@@ -5,14 +5,10 @@ use Rattle.hwdb_text.specs.declared.outcome.Fault.{Fault}
 use Rattle.hwdb_text.specs.declared.records.Stage.{Stage}
 use Rattle.hwdb_text.specs.declared.records.Stage.TheVariants.{Start, Matches, Properties}
 use Rattle.hwdb_text.specs.declared.records.Reader.{Reader}
-use Rattle.hwdb_text.specs.declared.records.Source.{Source}
 use Rattle.hwdb_text.specs.Lines.{Line, clean, is_empty, is_match, is_property}
 use Rattle.hwdb_text.specs.Records.{Section, section, sections}
-use Rattle.hwdb_text.specs.Assignments.{Origin, origin, Assigned, assigned, text_of, patterns, section_assignments}
+use Rattle.hwdb_text.specs.Assignments.{Origin, Assigned, given_in, text_of, patterns, section_assignments}
 use Rattle.hwdb_text.specs.Faults.{section_faults, long_faults, property_faults, spoilt_faults}
-
-abbrev pub origin_of : Source → Origin
-origin_of source = origin source.path.now source.priority
 
 abbrev pub AllPass : (Line → Bool) → List Line → Type 0
 AllPass test [] = Unit {0}
@@ -24,7 +20,7 @@ gives out ls = flat_map out (sections ls)
 
 -- nothing has begun that the next line could belong to
 pub record AtStart (o : Origin) (whole rest : List Line) (r : Reader) : Type 0 where
-  pub assignments : gives (section_assignments o) whole ≡ map assigned r.assignments.items ++ gives (section_assignments o) rest
+  pub assignments : gives (section_assignments o) whole ≡ map (given_in o) r.assignments.items ++ gives (section_assignments o) rest
   pub faults : gives section_faults whole ≡ r.faults.items ++ gives section_faults rest
 
 -- the match lines `m` and `ms` and the properties `ps` of a section were read
@@ -35,7 +31,7 @@ pub record InSection (o : Origin) (whole rest : List Line) (r : Reader) (m : Lin
   pub pattern : map text_of r.patterns.items ≡ patterns (m ∷ ms)
   pub assigned_before : List Assigned
   pub assigned_then : gives (section_assignments o) whole ≡ assigned_before ++ gives (section_assignments o) (m ∷ (ms ++ (ps ++ rest)))
-  pub assigned_now : map assigned r.assignments.items ≡ assigned_before ++ section_assignments o (section [] (m ∷ ms) ps [])
+  pub assigned_now : map (given_in o) r.assignments.items ≡ assigned_before ++ section_assignments o (section [] (m ∷ ms) ps [])
   pub faults_before : List Fault
   pub faults_then : gives section_faults whole ≡ faults_before ++ gives section_faults (m ∷ (ms ++ (ps ++ rest)))
   pub faults_now : r.faults.items ≡ faults_before ++ (flat_map long_faults (m ∷ ms) ++ flat_map property_faults ps)

@@ -16,5 +16,5 @@ mod records;
 mod tests;
 
 pub use crate::choice::{Chosen, select};
-pub use crate::outcome::{Assignment, Fault, FaultKind, Parsed, TextError};
-pub use crate::parsing::{next_line, parse};
+pub use crate::outcome::{Assignment, Fault, FaultKind, Given, Parsed, Scanned, TextError};
+pub use crate::parsing::{next_line, parse, scan};

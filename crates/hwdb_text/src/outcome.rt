@@ -22,6 +22,19 @@ pub struct Assignment {
     pub path: Vec<u8>,
 }
 
+/// What one property line gives one pattern, as it stands in the bytes of its file.
+#[derive(Clone, Copy, Debug, PartialEq, Eq)]
+pub struct Given<'b> {
+    /// The line of the property, from 1.
+    pub line: u32,
+    /// The match line.
+    pub pattern: &'b [u8],
+    /// What stands before the first `=` of the property.
+    pub key: &'b [u8],
+    /// What stands behind the first `=` of the property.
+    pub value: &'b [u8],
+}
+
 /// What is wrong with a line.
 #[derive(Clone, Copy, Debug, PartialEq, Eq, PartialOrd, Ord)]
 pub enum FaultKind {
@@ -72,6 +85,15 @@ pub struct Fault {
 pub struct Parsed {
     /// By line, and within a line by the place of the match line. Equal ones may stand more than once.
     pub assignments: Vec<Assignment>,
+    /// By line, and then by number.
+    pub faults: Vec<Fault>,
+}
+
+/// What a file says, in its own bytes.
+#[derive(Debug, Drop, PartialEq, Eq)]
+pub struct Scanned<'b> {
+    /// By line, and within a line by the place of the match line. Equal ones may stand more than once.
+    pub assignments: Vec<Given<'b>>,
     /// By line, and then by number.
     pub faults: Vec<Fault>,
 }

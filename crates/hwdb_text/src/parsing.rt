@@ -2,15 +2,15 @@
 ghost use Rattle.std.specs.Prelude.{◌≡◌, ◌+◌, ◌<◌, ◌≤◌, ◌↔◌, length, map, All, IfOk, IfErr};
 ghost use Rattle.std.specs.Result.{IsErrOf};
 ghost use Rattle.hwdb_text.specs.Lines.{lines};
-ghost use Rattle.hwdb_text.specs.Assignments.{origin, assigned};
+ghost use Rattle.hwdb_text.specs.Assignments.{Origin, origin, assigned, given_in};
 ghost use Rattle.hwdb_text.specs.Assignments;
 ghost use Rattle.hwdb_text.specs.Faults;
 ghost use Rattle.hwdb_text.specs.Storable.{IsStorable};
 
 use crate::line::end_of;
-use crate::outcome::{Parsed, TextError};
-use crate::records::{Reader, Source};
-use std::alloc::Global;
+use crate::outcome::{Assignment, Given, Parsed, Scanned, TextError};
+use crate::records::Reader;
+use std::alloc::{AllocError, Global};
 
 /// The number of the line behind line `before`, where 0 stands before the first line. Takes no memory.
 ///
@@ -30,7 +30,69 @@ pub fn next_line(before: u32) -> Result<u32, TextError>
     }
 }
 
-/// What a `.hwdb` file says (hwdb(7)), by one pass over its bytes. `path` is its stored path, `priority` its place among the chosen files.
+/// What a `.hwdb` file says (hwdb(7)), by one pass over its bytes, which it borrows from.
+///
+/// # Errors
+///
+/// `TooManyLines` where the file has more than 4,294,967,295 lines; `Memory` where a growth was refused.
+pub fn scan(alloc: Global, bytes: &[u8]) -> Result<Scanned<'_>, TextError>
+    ensures assignments { IfOk result (λ scanned. (o : Origin)
+        → map (given_in o) scanned.assignments.items ≡ Assignments.assignments o bytes.now) }
+    ensures faults { IfOk result (λ scanned. scanned.faults.items ≡ Faults.faults bytes.now) }
+    ensures storable { IfOk result (λ scanned. (o : Origin) → All IsStorable (map (given_in o) scanned.assignments.items)) }
+    ensures few { IfOk result (λ _. length (lines bytes.now) ≤ 4294967295) }
+    ensures too_many { IsErrOf result TextError.TooManyLines → 4294967295 < length (lines bytes.now) }
+    ensures never_too_many_files { IsErrOf result TextError.TooManyFiles → ⊥ }
+{
+    let mut reader = Reader::new(alloc);
+    let mut number = 0;
+    let mut at = 0;
+    while at < bytes.len() {
+        let rest = &bytes[at..];
+        let end = end_of(b'\n', rest);
+        number = next_line(number)?;
+        reader.line(&rest[..end], number)?;
+        at += end + 1;
+    }
+    Ok(reader.finish()?)
+}
+
+/// A copy of what a property gives a pattern, in a file with this path and priority.
+fn copy(
+    alloc: Global,
+    path: &[u8],
+    priority: u16,
+    given: &Given<'_>,
+) -> Result<Assignment, AllocError>
+    ensures { IfOk result (λ copied. assigned copied ≡ given_in (origin path.now priority) given.now) }
+{
+    Ok(Assignment {
+        priority,
+        line: given.line,
+        pattern: Vec::from_slice(alloc, given.pattern)?,
+        key: Vec::from_slice(alloc, given.key)?,
+        value: Vec::from_slice(alloc, given.value)?,
+        path: Vec::from_slice(alloc, path)?,
+    })
+}
+
+/// Copies of what the properties of a file with this path and priority give.
+fn copies(
+    alloc: Global,
+    path: &[u8],
+    priority: u16,
+    all: &[Given<'_>],
+) -> Result<Vec<Assignment>, AllocError>
+    ensures { IfOk result (λ copied. map assigned copied.items ≡ map (given_in (origin path.now priority)) all.now) }
+{
+    let mut copied = Vec::with_capacity(alloc, all.len())?;
+    for given in all {
+        copied.push(copy(alloc, path, priority, given)?)?;
+    }
+    Ok(copied)
+}
+
+/// What a `.hwdb` file says, as [`scan`] reads it, in copies. `path` is its stored path, `priority` its place among the chosen files.
 ///
 /// # Errors
 ///
@@ -44,16 +106,10 @@ pub fn parse(alloc: Global, path: &[u8], priority: u16, bytes: &[u8]) -> Result<
     ensures too_many { IsErrOf result TextError.TooManyLines → 4294967295 < length (lines bytes.now) }
     ensures never_too_many_files { IsErrOf result TextError.TooManyFiles → ⊥ }
 {
-    let source = Source { path, priority };
-    let mut reader = Reader::new(alloc);
-    let mut number = 0;
-    let mut at = 0;
-    while at < bytes.len() {
-        let rest = &bytes[at..];
-        let end = end_of(b'\n', rest);
-        number = next_line(number)?;
-        reader.line(alloc, source, &rest[..end], number)?;
-        at += end + 1;
-    }
-    Ok(reader.finish()?)
+    let scanned = scan(alloc, bytes)?;
+    let assignments = copies(alloc, path, priority, &scanned.assignments)?;
+    Ok(Parsed {
+        assignments,
+        faults: scanned.faults,
+    })
 }

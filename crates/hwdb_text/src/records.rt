@@ -3,25 +3,17 @@
 //! `Reads` says what was read of the lines so far; each method keeps it.
 ghost use Rattle.std.specs.Prelude.{◌≡◌, ◌++◌, List, [], ◌∷◌, map, drop, IfOk, OnOk, IsTrue};
 ghost use Rattle.hwdb_text.specs.Lines;
-ghost use Rattle.hwdb_text.specs.Assignments.{Origin, assigned, given, text_of, property_assignments, section_assignments};
+ghost use Rattle.hwdb_text.specs.Assignments.{Origin, given, given_in, text_of, property_assignments, section_assignments};
 ghost use Rattle.hwdb_text.specs.Faults.{property_faults, long_faults, section_faults, spoilt_faults, in_order};
 ghost use Rattle.hwdb_text.specs.Assignments;
-ghost use Rattle.hwdb_text.specs.Reading.{origin_of, Closes, Holds, AtStart, Reads, gives};
+ghost use Rattle.hwdb_text.specs.Reading.{Closes, Holds, AtStart, Reads, gives};
 
 use crate::line::{Content, content_of, end_of, unindented};
-use crate::outcome::{Assignment, Fault, FaultKind, Parsed};
+use crate::outcome::{Fault, FaultKind, Given, Scanned};
 use std::alloc::{AllocError, Global};
 
 /// How long a match line may be, in bytes.
 const LONGEST_MATCH: usize = 4096;
-
-/// The file that is read.
-#[derive(Clone, Copy)]
-pub struct Source<'p> {
-    /// Its stored path.
-    pub path: &'p [u8],
-    pub priority: u16,
-}
 
 /// What was read last in the block.
 #[derive(Clone, Copy)]
@@ -42,63 +34,45 @@ pub struct Reader<'b> {
     first: u32,
     /// The match lines of the run that aren't too long.
     patterns: Vec<&'b [u8]>,
-    assignments: Vec<Assignment>,
+    assignments: Vec<Given<'b>>,
     /// The faults of dropped lines.
     spoilt: Vec<Fault>,
     /// The faults of the records.
     faults: Vec<Fault>,
 }
 
-/// A copy of some bytes.
-fn copy(alloc: Global, bytes: &[u8]) -> Result<Vec<u8>, AllocError>
-    ensures { IfOk result (λ copied. copied.items ≡ bytes.now) }
-{
-    let mut copied = Vec::new(alloc);
-    copied.extend_from_slice(bytes)?;
-    Ok(copied)
-}
-
-/// Appends one assignment with each of the patterns.
-fn assign(
-    alloc: Global,
-    source: Source,
+/// Appends what a property gives each of the patterns.
+fn assign<'b>(
     line: u32,
-    key: &[u8],
-    value: &[u8],
-    patterns: &[&[u8]],
-    assignments: &mut Vec<Assignment>,
+    key: &'b [u8],
+    value: &'b [u8],
+    patterns: &[&'b [u8]],
+    assignments: &mut Vec<Given<'b>>,
 ) -> Result<(), AllocError>
-    ensures { OnOk result (map assigned assignments.new.items
-        ≡ map assigned assignments.old.items
-        ++ map (given (origin_of source.entry) line key.now value.now) (map text_of patterns.now)) }
+    ensures { OnOk result ((o : Origin) → map (given_in o) assignments.new.items
+        ≡ map (given_in o) assignments.old.items ++ map (given o line key.now value.now) (map text_of patterns.now)) }
 {
     for pattern in patterns {
-        let assignment = Assignment {
-            priority: source.priority,
+        assignments.push(Given {
             line,
-            pattern: copy(alloc, pattern)?,
-            key: copy(alloc, key)?,
-            value: copy(alloc, value)?,
-            path: copy(alloc, source.path)?,
-        };
-        assignments.push(assignment)?;
+            pattern: *pattern,
+            key,
+            value,
+        })?;
     }
     Ok(())
 }
 
 /// Reads a clean property line that belongs to match lines with these patterns.
-fn property(
-    alloc: Global,
-    source: Source,
-    text: &[u8],
+fn property<'b>(
+    text: &'b [u8],
     line: u32,
-    patterns: &[&[u8]],
-    assignments: &mut Vec<Assignment>,
+    patterns: &[&'b [u8]],
+    assignments: &mut Vec<Given<'b>>,
     faults: &mut Vec<Fault>,
 ) -> Result<(), AllocError>
-    ensures assignments { OnOk result (map assigned assignments.new.items
-        ≡ map assigned assignments.old.items
-        ++ property_assignments (origin_of source.entry) (map text_of patterns.now) (Lines.line line text.now)) }
+    ensures assignments { OnOk result ((o : Origin) → map (given_in o) assignments.new.items
+        ≡ map (given_in o) assignments.old.items ++ property_assignments o (map text_of patterns.now) (Lines.line line text.now)) }
     ensures faults { OnOk result (faults.new.items ≡ faults.old.items ++ property_faults (Lines.line line text.now)) }
 {
     let body = unindented(text);
@@ -119,7 +93,7 @@ fn property(
     }
     let key = &body[..equals];
     let value = &body[equals + 1..];
-    assign(alloc, source, line, key, value, patterns, assignments)
+    assign(line, key, value, patterns, assignments)
 }
 
 /// Reads a match line that belongs to a run.
@@ -179,17 +153,11 @@ impl<'b> Reader<'b> {
     }
 
     /// Reads a clean property line.
-    fn property_line(
-        &mut self,
-        alloc: Global,
-        source: Source,
-        text: &[u8],
-        line: u32,
-    ) -> Result<(), AllocError>
+    fn property_line(&mut self, text: &'b [u8], line: u32) -> Result<(), AllocError>
         requires { IsTrue (Lines.is_property (Lines.line line text.now)) }
-        ensures held { OnOk result ((whole rest : List Lines.Line)
-            → Holds (origin_of source.entry) whole (Lines.line line text.now ∷ rest) self.old
-            → Holds (origin_of source.entry) whole rest self.new) }
+        ensures held { OnOk result ((o : Origin) → (whole rest : List Lines.Line)
+            → Holds o whole (Lines.line line text.now ∷ rest) self.old
+            → Holds o whole rest self.new) }
         ensures spoilt { self.new.spoilt ≡ self.old.spoilt }
     {
         if let Stage::Start = self.stage {
@@ -201,8 +169,6 @@ impl<'b> Reader<'b> {
         }
         self.stage = Stage::Properties;
         property(
-            alloc,
-            source,
             text,
             line,
             &self.patterns,
@@ -245,16 +211,10 @@ impl<'b> Reader<'b> {
     }
 
     /// Reads the next line.
-    pub fn line(
-        &mut self,
-        alloc: Global,
-        source: Source,
-        text: &'b [u8],
-        line: u32,
-    ) -> Result<(), AllocError>
-        ensures { OnOk result ((whole rest : List Lines.Line)
-            → Reads (origin_of source.entry) whole (Lines.line line text.now ∷ rest) self.old
-            → Reads (origin_of source.entry) whole rest self.new) }
+    pub fn line(&mut self, text: &'b [u8], line: u32) -> Result<(), AllocError>
+        ensures { OnOk result ((o : Origin) → (whole rest : List Lines.Line)
+            → Reads o whole (Lines.line line text.now ∷ rest) self.old
+            → Reads o whole rest self.new) }
     {
         match content_of(text) {
             Content::Comment => Ok(()),
@@ -265,24 +225,24 @@ impl<'b> Reader<'b> {
                 })?,
             ),
             Content::Empty => self.end(),
-            Content::Property(clean) => self.property_line(alloc, source, clean, line),
+            Content::Property(clean) => self.property_line(clean, line),
             Content::Match(clean) => self.match_line(clean, line),
         }
     }
 
     /// What the file gives, behind its last line.
-    pub fn finish(mut self) -> Result<Parsed, AllocError>
-        ensures assignments { IfOk result (λ parsed. (o : Origin) → (whole : List Lines.Line) → Reads o whole [] self.entry
-            → map assigned parsed.assignments.items ≡ gives (section_assignments o) (Lines.clean whole)) }
-        ensures faults { IfOk result (λ parsed. (o : Origin) → (whole : List Lines.Line) → Reads o whole [] self.entry
-            → parsed.faults.items
+    pub fn finish(mut self) -> Result<Scanned<'b>, AllocError>
+        ensures assignments { IfOk result (λ scanned. (o : Origin) → (whole : List Lines.Line) → Reads o whole [] self.entry
+            → map (given_in o) scanned.assignments.items ≡ gives (section_assignments o) (Lines.clean whole)) }
+        ensures faults { IfOk result (λ scanned. (o : Origin) → (whole : List Lines.Line) → Reads o whole [] self.entry
+            → scanned.faults.items
             ≡ in_order (spoilt_faults whole ++ gives section_faults (Lines.clean whole))) }
     {
         self.end()?;
         let mut faults = self.spoilt;
         faults.extend_from_slice(&self.faults)?;
         faults.sort()?;
-        Ok(Parsed {
+        Ok(Scanned {
             assignments: self.assignments,
             faults,
         })

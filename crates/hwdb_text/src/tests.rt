@@ -79,6 +79,25 @@ fn files(rt: HostRuntime) -> Result<(), Fail> {
 }
 
 #[test]
+fn scanned(rt: HostRuntime) -> Result<(), Fail> {
+    let scanned = scan(rt.alloc(), b"x*\nx?\n K=1\n NOEQ\n")?;
+    let given = |pattern| Given {
+        line: 3,
+        pattern,
+        key: b"K",
+        value: b"1",
+    };
+    let want = [given(b"x*"), given(b"x?")];
+    assert!(rt; scanned.assignments.as_slice() == want.as_slice());
+    let fault = Fault {
+        line: 4,
+        kind: FaultKind::NoEquals,
+    };
+    assert!(rt; scanned.faults.as_slice() == [fault].as_slice());
+    Ok(())
+}
+
+#[test]
 fn long_match_lines(rt: HostRuntime) -> Result<(), Fail> {
     let alloc = rt.alloc();
     let mut file = Vec::new(alloc);

@@ -50,50 +50,6 @@ same_order xs ys m =
     one_list (ascending xs) (ascending ys) (ascending_ordered xs) (ascending_ordered ys) (λ s h. holds_ascending ys s (m.into s (ascending_holds xs s h)))
     (λ s h. holds_ascending xs s (m.back s (ascending_holds ys s h)))
 
--- pieces of three lists
-pub same_piece : (o k p k' p' : List (List ℕ)) (x y z : List ℕ) → SameMembers k' (k ++ x ∷ []) → SameMembers p' (p ++ z ∷ []) → SameMembers ((o ++ y ∷ []) ++ k' ++ p') ((o ++ k ++ p) ++ x ∷ y ∷ z ∷ [])
-same_piece o k p k' p' x y z a b = record {
-  into = λ s h.
-      ⊎_elim {C = Holds ((o ++ k ++ p) ++ x ∷ y ∷ z ∷ []) s}
-      (λ ok. ⊎_elim {C = Holds ((o ++ k ++ p) ++ x ∷ y ∷ z ∷ []) s}
-      (λ oy. ⊎_elim {C = Holds ((o ++ k ++ p) ++ x ∷ y ∷ z ∷ []) s} (λ i. left (o ++ k ++ p) _ s (left (o ++ k) p s (left o k s i))) (λ j. right (o ++ k ++ p) _ s (inr (left (y ∷ []) (z ∷ []) s j))) (either o (y ∷ []) s oy))
-      (λ kx. ⊎_elim {C = Holds ((o ++ k ++ p) ++ x ∷ y ∷ z ∷ []) s} (λ i. left (o ++ k ++ p) _ s (left (o ++ k) p s (right o k s i))) (λ j. right (o ++ k ++ p) _ s (left (x ∷ []) (y ∷ z ∷ []) s j)) (either k (x ∷ []) s (a.into s kx)))
-      (either (o ++ y ∷ []) k' s ok))
-      (λ pz. ⊎_elim {C = Holds ((o ++ k ++ p) ++ x ∷ y ∷ z ∷ []) s} (λ i. left (o ++ k ++ p) _ s (right (o ++ k) p s i)) (λ j. right (o ++ k ++ p) _ s (inr (inr j))) (either p (z ∷ []) s (b.into s pz)))
-      (either ((o ++ y ∷ []) ++ k') p' s h);
-  back = λ s h.
-      ⊎_elim {C = Holds ((o ++ y ∷ []) ++ k' ++ p') s}
-      (λ okp. ⊎_elim {C = Holds ((o ++ y ∷ []) ++ k' ++ p') s}
-      (λ ok. ⊎_elim {C = Holds ((o ++ y ∷ []) ++ k' ++ p') s} (λ i. left ((o ++ y ∷ []) ++ k') p' s (left (o ++ y ∷ []) k' s (left o (y ∷ []) s i))) (λ j. left ((o ++ y ∷ []) ++ k') p' s (right (o ++ y ∷ []) k' s (a.back s (left k (x ∷ []) s j)))) (either o k s ok))
-      (λ i. right ((o ++ y ∷ []) ++ k') p' s (b.back s (left p (z ∷ []) s i)))
-      (either (o ++ k) p s okp))
-      (λ xyz. ⊎_elim {C = Holds ((o ++ y ∷ []) ++ k' ++ p') s}
-      (λ e. left ((o ++ y ∷ []) ++ k') p' s (right (o ++ y ∷ []) k' s (a.back s (right k (x ∷ []) s (inl e)))))
-      (λ yz. ⊎_elim {C = Holds ((o ++ y ∷ []) ++ k' ++ p') s}
-      (λ e. left ((o ++ y ∷ []) ++ k') p' s (left (o ++ y ∷ []) k' s (right o (y ∷ []) s (inl e))))
-      (λ zs. right ((o ++ y ∷ []) ++ k') p' s (b.back s (right p (z ∷ []) s zs))) yz)
-      xyz)
-      (either (o ++ k ++ p) (x ∷ y ∷ z ∷ []) s h);
-}
-
--- one more in the first list
-pub same_first : (o k p : List (List ℕ)) (x : List ℕ) → SameMembers ((o ++ x ∷ []) ++ k ++ p) ((o ++ k ++ p) ++ x ∷ [])
-same_first o k p x = record {
-  into = λ s h.
-      ⊎_elim {C = Holds ((o ++ k ++ p) ++ x ∷ []) s}
-      (λ ok. ⊎_elim {C = Holds ((o ++ k ++ p) ++ x ∷ []) s}
-      (λ ox. ⊎_elim {C = Holds ((o ++ k ++ p) ++ x ∷ []) s} (λ i. left (o ++ k ++ p) (x ∷ []) s (left (o ++ k) p s (left o k s i))) (λ j. right (o ++ k ++ p) (x ∷ []) s j) (either o (x ∷ []) s ox))
-      (λ i. left (o ++ k ++ p) (x ∷ []) s (left (o ++ k) p s (right o k s i))) (either (o ++ x ∷ []) k s ok))
-      (λ i. left (o ++ k ++ p) (x ∷ []) s (right (o ++ k) p s i)) (either ((o ++ x ∷ []) ++ k) p s h);
-  back = λ s h.
-      ⊎_elim {C = Holds ((o ++ x ∷ []) ++ k ++ p) s}
-      (λ okp. ⊎_elim {C = Holds ((o ++ x ∷ []) ++ k ++ p) s}
-      (λ ok. ⊎_elim {C = Holds ((o ++ x ∷ []) ++ k ++ p) s} (λ i. left ((o ++ x ∷ []) ++ k) p s (left (o ++ x ∷ []) k s (left o (x ∷ []) s i))) (λ j. left ((o ++ x ∷ []) ++ k) p s (right (o ++ x ∷ []) k s j)) (either o k s ok))
-      (λ i. right ((o ++ x ∷ []) ++ k) p s i) (either (o ++ k) p s okp))
-      (λ i. left ((o ++ x ∷ []) ++ k) p s (left (o ++ x ∷ []) k s (right o (x ∷ []) s i)))
-      (either (o ++ k ++ p) (x ∷ []) s h);
-}
-
 -- a loop's step, and its end
 pub same_more : (now next piece rest whole : List (List ℕ)) → SameMembers next (now ++ piece) → SameMembers (now ++ (piece ++ rest)) whole → SameMembers (next ++ rest) whole
 same_more now next piece rest whole a b =
@@ -120,8 +76,8 @@ held_at [] i d lt = absurd (omega (arith, lt))
 held_at (x ∷ xs) zero d lt = inl refl
 held_at (x ∷ xs) (suc i) d lt = inr (held_at xs i d (omega (arith, lt)))
 
-pub same_last : (xs ys : List (List ℕ)) (i : ℕ) (d t : List ℕ) → xs ≡ ys → i < length xs → get_or xs i d ≡ t → SameMembers ys (ys ++ t ∷ [])
-same_last xs ys i d t e lt is =
+pub same_known : (xs ys : List (List ℕ)) (i : ℕ) (d t : List ℕ) → xs ≡ ys → i < length xs → get_or xs i d ≡ t → SameMembers ys (ys ++ t ∷ [])
+same_known xs ys i d t e lt is =
     let P : List (List ℕ) → Type 0 = λ zs. Holds zs t in
     same_again ys t (subst P e (subst (Holds xs) is (held_at xs i d lt)))
 
@@ -134,27 +90,23 @@ same_step now next piece left rest whole a e b =
 pub same_done : (now rest whole : List (List ℕ)) → rest ≡ [] → SameMembers (now ++ rest) whole → SameMembers now whole
 same_done now rest whole e b = let P : List (List ℕ) → Type 0 = λ z. SameMembers (now ++ z) whole in same_end now whole (subst P e b)
 
--- a value's three strings
-pub same_value : (o o' k k' p p' : List (List ℕ)) (x y z x' y' z' : List ℕ) → o' ≡ o ++ y' ∷ [] → x' ≡ x → y' ≡ y → z' ≡ z → SameMembers k' (k ++ x' ∷ []) → SameMembers p' (p ++ z' ∷ []) →
-    SameMembers (o' ++ k' ++ p') ((o ++ k ++ p) ++ x ∷ y ∷ z ∷ [])
-same_value o o' k k' p p' x y z x' y' z' e f m g a b =
-    let A : List ℕ → Type 0 = λ s. SameMembers k' (k ++ s ∷ []) in
-    let B : List ℕ → Type 0 = λ s. SameMembers p' (p ++ s ∷ []) in
-    let C : List (List ℕ) → Type 0 = λ s. SameMembers (s ++ k' ++ p') ((o ++ k ++ p) ++ x ∷ y ∷ z ∷ []) in
-    subst C (sym (e ∙ ap (λ w. o ++ w ∷ []) m)) (same_piece o k p k' p' x y z (subst A f a) (subst B g b))
+-- a string of another name
+pub same_named : (o o' : List (List ℕ)) (x x' : List ℕ) → x' ≡ x → SameMembers o' (o ++ x' ∷ []) → SameMembers o' (o ++ x ∷ [])
+same_named o o' x x' e a = let P : List ℕ → Type 0 = λ s. SameMembers o' (o ++ s ∷ []) in subst P e a
 
-pub same_prefix : (o o' k p : List (List ℕ)) (x x' : List ℕ) → o' ≡ o ++ x' ∷ [] → x' ≡ x → SameMembers (o' ++ k ++ p) ((o ++ k ++ p) ++ x ∷ [])
-same_prefix o o' k p x x' e f =
-    let C : List (List ℕ) → Type 0 = λ s. SameMembers (s ++ k ++ p) ((o ++ k ++ p) ++ x ∷ []) in
-    subst C (sym (e ∙ ap (λ w. o ++ w ∷ []) f)) (same_first o k p x)
+-- one string, another, and another
+pub same_three : (o a b d : List (List ℕ)) (x y z : List ℕ) → SameMembers a (o ++ x ∷ []) → SameMembers b (a ++ y ∷ []) → SameMembers d (b ++ z ∷ []) → SameMembers d (o ++ x ∷ y ∷ z ∷ [])
+same_three o a b d x y z e f g =
+    same_trans d (b ++ z ∷ []) _ g
+    (same_trans (b ++ z ∷ []) ((a ++ y ∷ []) ++ z ∷ []) _ (same_both b (a ++ y ∷ []) (z ∷ []) (z ∷ []) f (same_refl (z ∷ [])))
+    (same_trans ((a ++ y ∷ []) ++ z ∷ []) (((o ++ x ∷ []) ++ y ∷ []) ++ z ∷ []) _
+    (same_both (a ++ y ∷ []) ((o ++ x ∷ []) ++ y ∷ []) (z ∷ []) (z ∷ []) (same_both a (o ++ x ∷ []) (y ∷ []) (y ∷ []) e (same_refl (y ∷ []))) (same_refl (z ∷ [])))
+    (same_path _ _ (simp append_assoc))))
 
--- what was collected, as a whole
-pub same_whole : (o k p o' all : List (List ℕ)) → o' ≡ (o ++ k) ++ p → SameMembers (o ++ k ++ p) all → ascending o' ≡ ascending all
-same_whole o k p o' all e a = ap ascending e ∙ same_order (o ++ k ++ p) all a
+-- the list before anything is collected
+pub at_first : (none first : List (List ℕ)) (x : List ℕ) → none ≡ [] → first ≡ none ++ x ∷ [] → x ≡ [] → first ≡ [] ∷ []
+at_first none first x e f g = f ∙ ap (λ z. z ++ x ∷ []) e ∙ ap (λ s. s ∷ []) g
 
--- the lists before anything is collected
-pub at_first : (o0 o k p : List (List ℕ)) (x : List ℕ) → o0 ≡ [] → o ≡ o0 ++ x ∷ [] → x ≡ [] → k ≡ [] → p ≡ [] → o ++ k ++ p ≡ [] ∷ []
-at_first o0 o k p x e f g h j = (λ i. (f ∙ ap (λ z. z ++ x ∷ []) e) i ++ h i ++ j i) ∙ ap (λ s. s ∷ []) g
-
-pub collected : (now start : List (List ℕ)) (more : List (List ℕ)) → start ≡ [] ∷ [] → SameMembers now (start ++ more) → SameMembers now ([] ∷ more)
-collected now start more e a = let P : List (List ℕ) → Type 0 = λ z. SameMembers now (z ++ more) in subst P e a
+-- what was collected, in order
+pub collected : (all start more : List (List ℕ)) → start ≡ [] ∷ [] → SameMembers all (start ++ more) → ascending all ≡ ascending ([] ∷ more)
+collected all start more e a = same_order all ([] ∷ more) (let P : List (List ℕ) → Type 0 = λ z. SameMembers all (z ++ more) in subst P e a)

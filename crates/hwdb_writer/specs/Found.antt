@@ -6,7 +6,7 @@ use Rattle.std.specs.Ordering.{nat_cmp}
 use Rattle.std.specs.Cmp.Lexicographic.{slice_cmp}
 use Rattle.hwdb_writer.specs.declared.branches.Stored.{Stored}
 use Rattle.hwdb_writer.specs.declared.branches.Branch.{Branch}
-use Rattle.hwdb_writer.specs.Standing.{byte_of}
+use Rattle.hwdb_writer.specs.Standing.{byte_of, value_of}
 
 module _ {X K : Type 0} (R : K → K → Ordering) (key : X → K) where
   pub record IsHit (xs : List X) (k : K) (i : ℕ) : Type 0 where
@@ -20,7 +20,7 @@ module _ {X K : Type 0} (R : K → K → Ordering) (key : X → K) where
     pub behind : (j : ℕ) (d : X) → i ≤ j → j < length xs → R (key (slice_index_or xs j d)) k ≡ Greater
 
 abbrev pub key_in : Stored → List ℕ
-key_in s = s.key.items
+key_in s = (value_of s).key
 
 abbrev pub HitsKey : List Stored → List ℕ → ℕ → Type 0
 HitsKey = IsHit (slice_cmp nat_cmp) key_in

@@ -1,5 +1,5 @@
 -- The tree that a node in memory stands for.
-use Rattle.std.specs.Prelude.{ℕ, List, [], ◌∷◌, map}
+use Rattle.std.specs.Prelude.{ℕ, List, [], ◌∷◌, map, take, drop}
 use Rattle.hwdb_layout.specs.Tree.{Value, Tree, Children}
 use Rattle.hwdb_layout.specs.Tree.Tree.{Node}
 use Rattle.hwdb_layout.specs.Tree.Children.{NoMore, Child}
@@ -8,8 +8,15 @@ use Rattle.hwdb_writer.specs.declared.branches.Branch.{Branch}
 use Rattle.hwdb_writer.specs.declared.branches.Branch.TheOpen.{Branch-F}
 use Rattle.hwdb_writer.specs.declared.branches.Branch.TheFolds.{fold-Branch}
 
+-- its key, its value and its path are cut from the one text that it holds
 abbrev pub value_of : Stored → Value
-value_of s = record { priority = s.priority; line = s.line; key = s.key.items; value = s.value.items; path = s.path.items }
+value_of s = record {
+  priority = s.priority;
+  line = s.line;
+  key = take s.value_at s.text.items;
+  value = drop s.value_at (take s.path_at s.text.items);
+  path = drop s.path_at s.text.items;
+}
 
 -- the children, each under its byte
 abbrev pub children_in : List (ℕ × Tree) → Children

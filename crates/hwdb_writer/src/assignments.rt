@@ -1,6 +1,6 @@
 //! The assignments, seen as a finite map.
 use crate::branches::{Branch, Stored, put_below};
-use hwdb_text::Assignment;
+use hwdb_text::{Assignment, Given};
 use std::alloc::{AllocError, Global};
 use std::marker::Model;
 
@@ -28,9 +28,10 @@ impl Model for Tree {
 }
 
 impl Tree {
-    ghost use Rattle.std.specs.Prelude.{◌≡◌, ◌≤◌, ◌<◌, length, OnOk, OnErr};
+    ghost use Rattle.std.specs.Prelude.{◌≡◌, ◌≤◌, ◌<◌, ◌∷◌, ℕ, List, length, OnOk, OnErr};
     ghost use Rattle.std.specs.FinMap.{empty, insert};
-    ghost use Rattle.hwdb_writer.specs.Storable.{HasNoZero, max_pattern};
+    ghost use Rattle.hwdb_writer.specs.Standing.{value_of};
+    ghost use Rattle.hwdb_writer.specs.Storable.{HasNoZero, IsStorableValue, max_pattern};
 
     /// No assignment. Takes no memory.
     pub fn new(alloc: Global) -> Self
@@ -47,6 +48,39 @@ impl Tree {
         }
     }
 
+    /// Sets the map at the pattern and the value's key.
+    fn set_value(&mut self, pattern: &[u8], value: Stored) -> Result<(), AllocError>
+        requires short { length pattern.now ≤ max_pattern }
+        requires pattern { HasNoZero pattern.now }
+        requires value { IsStorableValue (value_of value) }
+        ensures ok { OnOk result (let v = value_of value in (key : List ℕ) → v.key ≡ 32 ∷ key
+            → self.new ≡ insert self.old (pattern.now, key) (record { priority = v.priority; line = v.line; value = v.value; path = v.path })) }
+        ensures err { OnErr result (self.new ≡ self.old) }
+    {
+        put_below(self.alloc, &mut self.root, pattern, value)?;
+        Ok(())
+    }
+
+    /// Sets the map at one place, the pattern and the key of what a file with this priority and this stored path gives. The
+    /// last that is set there stays.
+    ///
+    /// Patterns have at most 4,096 bytes. Where memory is refused, the map is what it was.
+    pub fn set(&mut self, priority: u16, path: &[u8], given: Given<'_>) -> Result<(), AllocError>
+        requires short { length given.pattern.now ≤ max_pattern }
+        requires pattern { HasNoZero given.pattern.now }
+        requires key { HasNoZero given.key.now }
+        requires value { HasNoZero given.value.now }
+        requires path { HasNoZero path.now }
+        requires priority { 0 < priority }
+        ensures ok { OnOk result (self.new ≡ insert self.old (given.entry.pattern.now, given.entry.key.now)
+            (record { priority = priority; line = given.entry.line; value = given.entry.value.now; path = path.now })) }
+        ensures err { OnErr result (self.new ≡ self.old) }
+    {
+        let alloc = self.alloc;
+        let value = Stored::new(alloc, priority, given.line, given.key, given.value, path)?;
+        self.set_value(given.pattern, value)
+    }
+
     /// Sets the map at one place, the assignment's pattern and key. The last assignment put there stays.
     ///
     /// Patterns have at most 4,096 bytes. Where memory is refused, the map is what it was.
@@ -61,21 +95,12 @@ impl Tree {
             (record { priority = a.now.priority; line = a.now.line; value = a.now.value.items; path = a.now.path.items })) }
         ensures err { OnErr result (self.new ≡ self.old) }
     {
-        let alloc = self.alloc;
-        let pattern: &[u8] = &a.pattern;
-        let priority = a.priority;
-        let line = a.line;
-        let mut key = Vec::with_capacity(alloc, a.key.len() + 1)?;
-        key.push(b' ')?;
-        key.extend_from_slice(&a.key)?;
-        let value = Stored {
-            priority,
-            line,
-            key,
-            value: Vec::from_slice(alloc, &a.value)?,
-            path: Vec::from_slice(alloc, &a.path)?,
+        let given = Given {
+            line: a.line,
+            pattern: &a.pattern,
+            key: &a.key,
+            value: &a.value,
         };
-        put_below(alloc, &mut self.root, pattern, value)?;
-        Ok(())
+        self.set(a.priority, &a.path, given)
     }
 }

@@ -18,14 +18,76 @@ use std::alloc::{AllocError, Global};
 use std::cmp::Ordering;
 use std::mem;
 
-/// A value of a node: its stored key, which is a space and the key, and what stands beside it.
+/// A value of a node. Its stored key, which is a space and the key, its value and its path stand one after
+/// another in one text.
 #[derive(Drop)]
 pub struct Stored {
     pub priority: u16,
     pub line: u32,
-    pub key: Vec<u8>,
-    pub value: Vec<u8>,
-    pub path: Vec<u8>,
+    text: Vec<u8>,
+    /// Where the value begins in the text.
+    value_at: usize,
+    /// Where the path begins in the text.
+    path_at: usize,
+}
+
+impl Stored {
+    /// A value with a space before its key.
+    #[inline(never)]
+    pub fn new(
+        alloc: Global,
+        priority: u16,
+        line: u32,
+        key: &[u8],
+        value: &[u8],
+        path: &[u8],
+    ) -> Result<Stored, AllocError>
+        ensures { IfOk result (λ s. value_of s ≡ record { priority = priority; line = line; key = 32 ∷ key.now; value = value.now; path = path.now }) }
+    {
+        let length = key
+            .len()
+            .saturating_add(value.len())
+            .saturating_add(path.len());
+        let mut text = Vec::with_capacity(alloc, length.saturating_add(1))?;
+        text.push(b' ')?;
+        text.extend_from_slice(key)?;
+        let value_at = text.len();
+        text.extend_from_slice(value)?;
+        let path_at = text.len();
+        text.extend_from_slice(path)?;
+        Ok(Stored {
+            priority,
+            line,
+            text,
+            value_at,
+            path_at,
+        })
+    }
+
+    /// Its stored key.
+    pub fn key(&self) -> &[u8]
+        ensures { result.now ≡ (value_of self.now).key }
+    {
+        let text: &[u8] = &self.text;
+        &text[..self.value_at.min(text.len())]
+    }
+
+    /// Its value.
+    pub fn value(&self) -> &[u8]
+        ensures { result.now ≡ (value_of self.now).value }
+    {
+        let text: &[u8] = &self.text;
+        let front = &text[..self.path_at.min(text.len())];
+        &front[self.value_at.min(front.len())..]
+    }
+
+    /// Its path.
+    pub fn path(&self) -> &[u8]
+        ensures { result.now ≡ (value_of self.now).path }
+    {
+        let text: &[u8] = &self.text;
+        &text[self.path_at.min(text.len())..]
+    }
 }
 
 /// A node: the byte that it stands under, what follows it, its values by key, its children by byte.
@@ -60,7 +122,7 @@ pub fn find_key(values: &[Stored], key: &[u8]) -> Result<usize, usize>
     let mut high = values.len();
     while low < high {
         let middle = low + (high - low) / 2;
-        match values[middle].key.as_slice().cmp(key) {
+        match values[middle].key().cmp(key) {
             Ordering::Less => low = middle + 1,
             Ordering::Equal => return Ok(middle),
             Ordering::Greater => high = middle,
@@ -85,7 +147,7 @@ pub fn put_value(values: &mut Vec<Stored>, value: Stored) -> Result<(), AllocErr
     ensures ok { OnOk result (map value_of values.new.items ≡ set_value (value_of value) (map value_of values.old.items)) }
     ensures err { OnErr result (values.new.items ≡ values.old.items) }
 {
-    match find_key(values, &value.key) {
+    match find_key(values, value.key()) {
         Ok(i) => {
             values[i] = value;
             Ok(())

@@ -6,6 +6,7 @@
 
 mod assignments;
 mod branches;
+mod guesses;
 mod laws;
 mod nodes;
 mod records;

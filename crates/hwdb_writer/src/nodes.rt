@@ -8,6 +8,7 @@ ghost use Rattle.hwdb_writer.specs.Membership.{SameMembers};
 ghost use Rattle.hwdb_writer.specs.Places.{IsTable, place_in};
 
 use crate::branches::{Branch, Stored};
+use crate::guesses::Guesses;
 use crate::records::{
     CHILD_SIZE, NODE_SIZE, VALUE_SIZE, push_child, push_node, push_rest, push_u16, push_u32,
     push_u64,
@@ -16,38 +17,35 @@ use crate::strings::{Table, place, push_new};
 use crate::words::Word;
 use std::alloc::AllocError;
 
-/// Appends the strings of the values: keys and paths only where the ones before them are others.
+/// Appends the strings of the values, but those that are known to stand there.
 fn collect_values<'t>(
     values: &'t [Stored],
-    out: &mut Vec<Word<'t>>,
-    keys: &mut Vec<Word<'t>>,
-    paths: &mut Vec<Word<'t>>,
+    words: &mut Vec<Word<'t>>,
+    guesses: &mut Guesses,
 ) -> Result<(), AllocError>
-    ensures { OnOk result (SameMembers (out.new.items ++ keys.new.items ++ paths.new.items)
-        ((out.old.items ++ keys.old.items ++ paths.old.items) ++ flat_map strings_of_value (map value_of values.now))) }
+    ensures { OnOk result (SameMembers words.new.items
+        (words.old.items ++ flat_map strings_of_value (map value_of values.now))) }
 {
     for v in values {
-        push_new(keys, &v.key)?;
-        out.push(Word::new(&v.value))?;
-        push_new(paths, &v.path)?;
+        push_new(words, guesses, v.key())?;
+        push_new(words, guesses, v.value())?;
+        push_new(words, guesses, v.path())?;
     }
     Ok(())
 }
 
-/// Appends the strings of the node and of all below it, keys and paths to lists of their own.
+/// Appends the strings of the node and of all below it, but those that are known to stand there.
 pub fn collect<'t>(
     node: &'t Branch,
-    out: &mut Vec<Word<'t>>,
-    keys: &mut Vec<Word<'t>>,
-    paths: &mut Vec<Word<'t>>,
+    words: &mut Vec<Word<'t>>,
+    guesses: &mut Guesses,
 ) -> Result<(), AllocError>
-    ensures { OnOk result (SameMembers (out.new.items ++ keys.new.items ++ paths.new.items)
-        ((out.old.items ++ keys.old.items ++ paths.old.items) ++ strings_of (tree_of node.now))) }
+    ensures { OnOk result (SameMembers words.new.items (words.old.items ++ strings_of (tree_of node.now))) }
 {
-    out.push(Word::new(&node.prefix))?;
-    collect_values(&node.values, out, keys, paths)?;
+    push_new(words, guesses, &node.prefix)?;
+    collect_values(&node.values, words, guesses)?;
     for child in &node.children {
-        collect(child, out, keys, paths)?;
+        collect(child, words, guesses)?;
     }
     Ok(())
 }
@@ -74,20 +72,11 @@ pub fn text_length(node: &Branch) -> usize
     total.saturating_add(record_length(children.len(), values.len()))
 }
 
-/// Where the last strings were found, in the order of the strings.
-#[derive(Drop)]
-pub struct Near {
-    pub prefix: usize,
-    pub key: usize,
-    pub value: usize,
-    pub path: usize,
-}
-
 /// Appends the value entries.
 fn push_values(
     values: &[Stored],
     table: &Table<'_, '_>,
-    near: &mut Near,
+    guesses: &mut Guesses,
     out: &mut Vec<u8>,
 ) -> Result<(), AllocError>
     requires { IsTable table.now }
@@ -95,9 +84,9 @@ fn push_values(
         ≡ out.old.items ++ flat_map (value_text (place_in table.now)) (map value_of values.now)) }
 {
     for v in values {
-        push_u64(out, place(table, &mut near.key, &v.key))?;
-        push_u64(out, place(table, &mut near.value, &v.value))?;
-        push_u64(out, place(table, &mut near.path, &v.path))?;
+        push_u64(out, place(table, guesses, v.key()))?;
+        push_u64(out, place(table, guesses, v.value()))?;
+        push_u64(out, place(table, guesses, v.path()))?;
         push_u32(out, v.line)?;
         push_u16(out, v.priority)?;
         out.extend_from_slice(&[0; 2])?;
@@ -109,7 +98,7 @@ fn push_values(
 pub fn push_text(
     node: &Branch,
     table: &Table<'_, '_>,
-    near: &mut Near,
+    guesses: &mut Guesses,
     entries: &mut Vec<u8>,
     out: &mut Vec<u8>,
 ) -> Result<(), AllocError>
@@ -124,13 +113,13 @@ pub fn push_text(
     let values: &[Stored] = &node.values;
     let first = entries.as_slice().len();
     for child in children {
-        push_text(child, table, near, entries, out)?;
+        push_text(child, table, guesses, entries, out)?;
     }
     let at = out.as_slice().len();
-    let prefix = place(table, &mut near.prefix, &node.prefix);
+    let prefix = place(table, guesses, &node.prefix);
     push_node(out, prefix, children.len() as u8, values.len())?;
     push_rest(out, entries, first)?;
-    push_values(values, table, near, out)?;
+    push_values(values, table, guesses, out)?;
     entries.truncate(first);
     push_child(entries, node.byte, at)?;
     Ok(())

@@ -4,6 +4,7 @@ ghost use Rattle.hwdb_layout.specs.Written.{ascending, section_of};
 ghost use Rattle.hwdb_writer.specs.Membership.{SameMembers};
 ghost use Rattle.hwdb_writer.specs.Places.{starts_from, IsTable, place_in};
 
+use crate::guesses::Guesses;
 use crate::words::Word;
 use std::alloc::{AllocError, Global};
 
@@ -15,19 +16,25 @@ pub struct Table<'a, 't> {
     pub first: usize,
 }
 
-/// Appends the text, unless it stands last.
-pub fn push_new<'t>(list: &mut Vec<Word<'t>>, text: &'t [u8]) -> Result<(), AllocError>
-    ensures { OnOk result (SameMembers list.new.items (list.old.items ++ text.now ∷ [])) }
+/// Appends the text, unless it stands where it was noted.
+pub fn push_new<'t>(
+    words: &mut Vec<Word<'t>>,
+    guesses: &mut Guesses,
+    text: &'t [u8],
+) -> Result<(), AllocError>
+    ensures { OnOk result (SameMembers words.new.items (words.old.items ++ text.now ∷ [])) }
 {
     let word = Word::new(text);
-    let known: &[Word<'_>] = list;
+    let known: &[Word<'_>] = words;
     let count = known.len();
-    if count > 0 {
-        if known[count - 1] == word {
+    let place = guesses.guess(&word);
+    if place < count {
+        if known[place] == word {
             return Ok(());
         }
     }
-    list.push(word)?;
+    guesses.note(&word, count);
+    words.push(word)?;
     Ok(())
 }
 
@@ -66,23 +73,23 @@ pub fn starts(alloc: Global, words: &[Word<'_>], first: usize) -> Result<Vec<usi
     Ok(starts)
 }
 
-/// Where the string stands, or would belong. `near` is where to look first, and then where it was found.
-pub fn place(table: &Table<'_, '_>, near: &mut usize, s: &[u8]) -> usize
+/// Where the string stands, or would belong. It is looked for where it was noted, and noted where it was found.
+pub fn place(table: &Table<'_, '_>, guesses: &mut Guesses, s: &[u8]) -> usize
     requires { IsTable table.now }
     ensures { result ≡ place_in table.now s.now }
 {
     let words = table.words;
     let starts = table.starts;
     let word = Word::new(s);
-    let first = *near;
-    if first < words.len() {
-        if words[first] == word {
-            return starts[first];
+    let noted = guesses.guess(&word);
+    if noted < words.len() {
+        if words[noted] == word {
+            return starts[noted];
         }
     }
     match words.binary_search(&word) {
         Ok(i) => {
-            *near = i;
+            guesses.note(&word, i);
             starts[i]
         }
         Err(i) => starts[i],

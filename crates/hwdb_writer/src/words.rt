@@ -32,6 +32,9 @@ impl<'t> Model for Word<'t> {
     ghost invariant = { λ w. IsHeaded w.head w.text.now };
 }
 
+/// What spreads numbers: odd, and near 2^64 by the golden ratio.
+const FACTOR: u64 = 0x9e37_79b9_7f4a_7c15;
+
 /// The first eight bytes as a number, the highest first; those that a shorter string lacks count as 0.
 fn head_of(text: &[u8]) -> u64
     ensures { result ≡ big_number 8 text.now }
@@ -53,6 +56,20 @@ impl<'t> Word<'t> {
             head: head_of(text),
             text,
         }
+    }
+
+    /// A number made of its first, middle and last bytes. Equal strings have one number; others can.
+    pub fn number(&self) -> u64 {
+        let text = self.text;
+        let last = text.len().saturating_sub(8);
+        if last == 0 {
+            return self.head.wrapping_mul(FACTOR);
+        }
+        let middle = head_of(&text[last / 2..]);
+        let end = head_of(&text[last..]);
+        let number = self.head.wrapping_mul(FACTOR).rotate_left(25) ^ middle;
+        let number = number.wrapping_mul(FACTOR).rotate_left(25) ^ end;
+        number.wrapping_mul(FACTOR)
     }
 
     /// Its string.

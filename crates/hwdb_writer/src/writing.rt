@@ -10,7 +10,8 @@ ghost use Rattle.hwdb_writer.specs.declared.writing.StoreError.TheVariants.{Memo
 
 use crate::assignments::Tree;
 use crate::branches::{Branch, Stored};
-use crate::nodes::{Near, collect, push_text, record_length, text_length};
+use crate::guesses::Guesses;
+use crate::nodes::{collect, push_text, record_length, text_length};
 use crate::records::{CHILD_SIZE, HEADER_SIZE, NODE_SIZE, VALUE_SIZE, push_u64};
 use crate::strings::{Table, order, section_length, starts};
 use crate::words::Word;
@@ -39,18 +40,22 @@ impl From<AllocError> for StoreError {
 /// The version of the tool that the header names.
 const TOOL_VERSION: usize = 1;
 
-/// The distinct strings of the tree, the empty one among them, in order.
-fn distinct_strings(alloc: Global, root: &Branch) -> Result<Vec<Word<'_>>, AllocError>
+/// For how many bytes of the nodes section there is an entry of the guesses (our choice: some three for a string).
+const NODE_BYTES_A_GUESS: usize = 32;
+
+/// The distinct strings of the tree, the empty one among them, in order; each is noted.
+fn distinct_strings<'t>(
+    alloc: Global,
+    root: &'t Branch,
+    guesses: &mut Guesses,
+) -> Result<Vec<Word<'t>>, AllocError>
     ensures { IfOk result (λ v. v.items ≡ table_of (tree_of root.now)) }
 {
     let mut words: Vec<Word<'_>> = Vec::new(alloc);
-    let mut keys: Vec<Word<'_>> = Vec::new(alloc);
-    let mut paths: Vec<Word<'_>> = Vec::new(alloc);
     words.push(Word::new(&[]))?;
-    collect(root, &mut words, &mut keys, &mut paths)?;
-    words.append(&mut keys)?;
-    words.append(&mut paths)?;
+    collect(root, &mut words, guesses)?;
     order(&mut words)?;
+    guesses.note_all(&words);
     Ok(words)
 }
 
@@ -91,6 +96,7 @@ fn database(
     alloc: Global,
     root: &Branch,
     words: &[Word<'_>],
+    guesses: &mut Guesses,
     nodes: usize,
     section: usize,
 ) -> Result<Vec<u8>, AllocError>
@@ -115,14 +121,8 @@ fn database(
     push_numbers(&mut out, &[TOOL_VERSION, end, HEADER_SIZE])?;
     push_numbers(&mut out, &[NODE_SIZE, CHILD_SIZE, VALUE_SIZE])?;
     push_numbers(&mut out, &[root_at, nodes, section])?;
-    let mut near = Near {
-        prefix: 0,
-        key: 0,
-        value: 0,
-        path: 0,
-    };
     let mut entries = Vec::new(alloc);
-    push_text(root, &table, &mut near, &mut entries, &mut out)?;
+    push_text(root, &table, guesses, &mut entries, &mut out)?;
     push_strings(&mut out, words)?;
     Ok(out)
 }
@@ -137,14 +137,15 @@ fn database_within(
     ensures { let bytes = written (tree_of root.now) in IfOk result (λ o.
         MatchOption o (max_bytes < length bytes) (λ v. (v.items ≡ bytes) × (length bytes ≤ max_bytes))) }
 {
-    let words = distinct_strings(alloc, root)?;
     let nodes = text_length(root);
+    let mut guesses = Guesses::new(alloc, nodes / NODE_BYTES_A_GUESS)?;
+    let words = distinct_strings(alloc, root, &mut guesses)?;
     let section = section_length(&words);
     let end = nodes.saturating_add(section).saturating_add(HEADER_SIZE);
     if end > max_bytes as usize {
         return Ok(None);
     }
-    let bytes = database(alloc, root, &words, nodes, section)?;
+    let bytes = database(alloc, root, &words, &mut guesses, nodes, section)?;
     Ok(Some(bytes))
 }
 

@@ -10,9 +10,9 @@ use Rattle.hwdb_writer.proofs.Steps.{up_keys}
 use Rattle.hwdb_writer.proofs.branches.find_key.Goals as goal
 
 -- what was compared, at any default
-at_any : (xs : List Stored) (i : ℕ) (x : Stored) (k : List ℕ) (r : Ordering) → i < length xs → slice_cmp nat_cmp (key_in (get_or xs i x)) k ≡ r
+at_any : (xs : List Stored) (i : ℕ) (x : Stored) (k : List ℕ) (r : Ordering) → i < length xs → x ≡ get_or xs i x → slice_cmp nat_cmp (key_in x) k ≡ r
     → (d : Stored) → slice_cmp nat_cmp (key_in (get_or xs i d)) k ≡ r
-at_any xs i x k r lt is d = ap (λ y. slice_cmp nat_cmp (key_in y) k) (get_or_default xs i d x lt) ∙ is
+at_any xs i x k r lt same is d = ap (λ y. slice_cmp nat_cmp (key_in y) k) (get_or_default xs i d x lt ∙ sym same) ∙ is
 
 pub loop-low-preserved-in-Less : goal.loop-low-preserved-in-Less
 loop-low-preserved-in-Less c =
@@ -20,8 +20,8 @@ loop-low-preserved-in-Less c =
     let xs = c.args.values.now in
     let h = c.loop-low.invariant in
     let lt : middle < length xs = omega arith in
-    let e = rw c.as_slice.ensures.value at (sym c.cmp.ensures ∙ c.in-Less.is) in
-    between_less (slice_cmp nat_cmp) key_in nat_list_cmp_total None xs (up_keys None xs c.requires) c.args.key.now c.loop-low.low c.loop-low.high middle h lt (at_any xs middle c.index-values-middle.result c.args.key.now Less lt e) (omega arith)
+    let e = rw c.key.ensures at (sym c.cmp.ensures ∙ c.in-Less.is) in
+    between_less (slice_cmp nat_cmp) key_in nat_list_cmp_total None xs (up_keys None xs c.requires) c.args.key.now c.loop-low.low c.loop-low.high middle h lt (at_any xs middle c.index-values-middle.result c.args.key.now Less lt c.index-values-middle.is e) (omega arith)
 
 pub returns-in-Equal-clause-found : goal.returns-in-Equal-clause-found
 returns-in-Equal-clause-found c =
@@ -29,8 +29,8 @@ returns-in-Equal-clause-found c =
     let xs = c.args.values.now in
     let h = c.loop-low.invariant in
     let lt : middle < length xs = omega arith in
-    let e = rw c.as_slice.ensures.value at (sym c.cmp.ensures ∙ c.in-Equal.is) in
-    between_hit (slice_cmp nat_cmp) key_in nat_list_cmp_total None xs (up_keys None xs c.requires) c.args.key.now c.loop-low.low c.loop-low.high middle h lt (at_any xs middle c.index-values-middle.result c.args.key.now Equal lt e)
+    let e = rw c.key.ensures at (sym c.cmp.ensures ∙ c.in-Equal.is) in
+    between_hit (slice_cmp nat_cmp) key_in nat_list_cmp_total None xs (up_keys None xs c.requires) c.args.key.now c.loop-low.low c.loop-low.high middle h lt (at_any xs middle c.index-values-middle.result c.args.key.now Equal lt c.index-values-middle.is e)
 
 pub loop-low-preserved : goal.loop-low-preserved
 loop-low-preserved c =
@@ -38,5 +38,5 @@ loop-low-preserved c =
     let xs = c.args.values.now in
     let h = c.loop-low.invariant in
     let lt : middle < length xs = omega arith in
-    let e = rw c.as_slice.ensures.value at (sym c.cmp.ensures ∙ c.in-Greater.is) in
-    between_greater (slice_cmp nat_cmp) key_in nat_list_cmp_total None xs (up_keys None xs c.requires) c.args.key.now c.loop-low.low c.loop-low.high middle h lt (at_any xs middle c.index-values-middle.result c.args.key.now Greater lt e) (omega arith)
+    let e = rw c.key.ensures at (sym c.cmp.ensures ∙ c.in-Greater.is) in
+    between_greater (slice_cmp nat_cmp) key_in nat_list_cmp_total None xs (up_keys None xs c.requires) c.args.key.now c.loop-low.low c.loop-low.high middle h lt (at_any xs middle c.index-values-middle.result c.args.key.now Greater lt c.index-values-middle.is e) (omega arith)

@@ -5,10 +5,10 @@ use Rattle.hwdb_writer.proofs.branches.put_value.Goals as goal
 
 pub returns-in-Ok-clause-ok : goal.returns-in-Ok-clause-ok
 returns-in-Ok-clause-ok c =
-    let h = rw (c.deref.ensures.value, c.deref-2.ensures.value) at c.in-Ok.ensures.found in
+    let h = rw (c.deref.ensures.value, c.key.ensures) at c.in-Ok.ensures.found in
     sym (value_hit c.args.value c.args.values.now.items c.in-Ok.i h)
 
 pub returns-in_ok-insert-in-Err-clause-ok : goal.returns-in_ok-insert-in-Err-clause-ok
 returns-in_ok-insert-in-Err-clause-ok c =
-    let h = rw (c.deref.ensures.value, c.deref-2.ensures.value) at c.in-Err.ensures.absent in
+    let h = rw (c.deref.ensures.value, c.key.ensures) at c.in-Err.ensures.absent in
     ap (map value_of) c.in_ok-insert-in-Err.ensures.items ∙ sym (value_gap c.args.value c.args.values.now.items c.in-Err.i h)

@@ -1,11 +1,11 @@
-use Rattle.std.proofs.Common.{◌++◌, ◌∙◌, subst, List, ℕ}
+use Rattle.std.proofs.Common.{◌++◌, subst, List, ℕ}
 use Rattle.hwdb_layout.specs.Written.{strings_of}
 use Rattle.hwdb_writer.specs.Membership.{SameMembers}
 use Rattle.hwdb_writer.specs.Standing.{tree_of}
 use Rattle.hwdb_writer.specs.declared.branches.Branch.{Branch}
 use Rattle.hwdb_writer.specs.declared.branches.Branch.TheViews.{out-Branch}
 use Rattle.hwdb_writer.proofs.Emitted.{one_left, none_left, kid_strings, kid_strings-cons, kid_strings-none, value_strings, parts_opened}
-use Rattle.hwdb_writer.proofs.Memberships.{same_refl, same_step, same_done, same_prefix, same_parts}
+use Rattle.hwdb_writer.proofs.Memberships.{same_refl, same_step, same_done, same_named, same_parts}
 use Rattle.hwdb_writer.proofs.nodes.+collect.Goals as goal
 
 pub loop-child-init : goal.loop-child-init
@@ -20,9 +20,8 @@ loop-child-preserved t c =
 pub returns : goal.returns
 returns t c =
     let end = same_done _ _ _ (none_left kid_strings kid_strings-none c.deref-child-items.result.now c.loop-child.child-index c.loop-child-test.false) c.loop-child.invariant in
-    let start = c.args.out.now.items ++ c.args.keys.now.items ++ c.args.paths.now.items in
-    let P : List (List ℕ) → Type 0 = λ z. SameMembers (c.loop-child.out.items ++ c.loop-child.keys.items ++ c.loop-child.paths.items) (start ++ z) in
+    let start = c.args.words.now.items in
+    let P : List (List ℕ) → Type 0 = λ z. SameMembers c.loop-child.words.items (start ++ z) in
     subst P (parts_opened c.args.node.now c.deref-child-items.result.now c.deref-2.result.now c.deref-child-items.ensures.value c.deref-2.ensures.value)
     (same_parts start _ _ _ (out-Branch c.args.node.now).prefix.items (value_strings c.deref-2.result.now) (kid_strings c.deref-child-items.result.now)
-    (same_prefix c.args.out.now.items c.push.new.self.items c.args.keys.now.items c.args.paths.now.items _ _ c.in_ok-push.ensures.items (c.new.ensures ∙ c.deref.ensures.value))
-    c.in_ok-collect_values.ensures end)
+    (same_named _ _ _ _ c.deref.ensures.value c.in_ok-push_new.ensures) c.in_ok-collect_values.ensures end)

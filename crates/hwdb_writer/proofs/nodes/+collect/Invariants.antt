@@ -4,5 +4,4 @@ use Rattle.hwdb_writer.proofs.Emitted.{kid_strings}
 use Rattle.hwdb_writer.proofs.nodes.+collect.Given as goal
 
 abbrev pub invariant-loop-child : goal.invariant-loop-child
-invariant-loop-child l =
-    SameMembers ((l.out.items ++ l.keys.items ++ l.paths.items) ++ kid_strings (drop l.child-index l.child-items)) ((l.initial.out.items ++ l.initial.keys.items ++ l.initial.paths.items) ++ kid_strings l.child-items)
+invariant-loop-child l = SameMembers (l.words.items ++ kid_strings (drop l.child-index l.child-items)) (l.initial.words.items ++ kid_strings l.child-items)

@@ -21,11 +21,11 @@ returns-in-Err c =
     missed_place c.args.table.now.first c.args.table.now.words.now c.requires.ordered c.args.table.now.starts.now c.requires.starts c.new-word.result c.in-Err.i c.in-Err.ensures.bound c.in-Err.ensures.position
     ∙ ap (place_in c.args.table.now) c.new-word.ensures
 
-pub bounds-starts-first : goal.bounds-starts-first
-bounds-starts-first c = enough c.args.table.now.first c.args.table.now.words.now c.requires.ordered c.args.table.now.starts.now c.requires.starts c.args.s.now c.args.near.now (omega (arith, c.if-first-words.true))
+pub bounds-starts-noted : goal.bounds-starts-noted
+bounds-starts-noted c = enough c.args.table.now.first c.args.table.now.words.now c.requires.ordered c.args.table.now.starts.now c.requires.starts c.args.s.now c.guess-noted.result (omega (arith, c.if-noted-words.true))
 
 pub returns-then-eq : goal.returns-then-eq
 returns-then-eq c =
-    let known = c.index-words-first.result in
-    near_place c.args.table.now.first c.args.table.now.words.now c.requires.ordered c.args.table.now.starts.now c.requires.starts c.args.s.now c.args.near.now c.if-first-words.true
-    (get_or_default c.args.table.now.words.now c.args.near.now nothing known c.if-first-words.true ∙ sym c.index-words-first.is ∙ same_text known c.new-word.result c.if-eq.ensures ∙ c.new-word.ensures)
+    let known = c.index-words-noted.result in
+    near_place c.args.table.now.first c.args.table.now.words.now c.requires.ordered c.args.table.now.starts.now c.requires.starts c.args.s.now c.guess-noted.result c.if-noted-words.true
+    (get_or_default c.args.table.now.words.now c.guess-noted.result nothing known c.if-noted-words.true ∙ sym c.index-words-noted.is ∙ same_text known c.new-word.result c.if-eq.ensures ∙ c.new-word.ensures)

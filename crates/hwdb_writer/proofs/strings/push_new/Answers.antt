@@ -1,13 +1,13 @@
-use Rattle.std.proofs.Common.{◌∙◌, ◌++◌, ◌∷◌, [], ap, sym, length, ◌-◌, arith}
+use Rattle.std.proofs.Common.{◌∙◌, ◌++◌, ◌∷◌, [], ap, sym}
 use Rattle.std.specs.Cmp.Lexicographic.{same_text}
-use Rattle.hwdb_writer.proofs.Memberships.{same_last, same_path}
+use Rattle.hwdb_writer.proofs.Memberships.{same_known, same_path}
 use Rattle.hwdb_writer.proofs.strings.push_new.Goals as goal
 
 pub returns-then-eq : goal.returns-then-eq
 returns-then-eq c =
-    let last = c.index-known-count.result in
-    same_last c.deref-known.result.now c.args.list.now.items (length c.deref-known.result.now - 1) last c.args.text.now c.deref-known.ensures.value (omega (arith, c.if-count-gt0.true))
-    (sym c.index-known-count.is ∙ same_text last c.new-word.result c.if-eq.ensures ∙ c.new-word.ensures)
+    let known = c.index-known-place.result in
+    same_known c.deref-known.result.now c.args.words.now.items c.guess-place.result known c.args.text.now c.deref-known.ensures.value c.if-place-count.true
+    (sym c.index-known-place.is ∙ same_text known c.new-word.result c.if-eq.ensures ∙ c.new-word.ensures)
 
 pub returns : goal.returns
-returns c = same_path _ _ (c.in_ok-push.ensures.items ∙ ap (λ w. c.args.list.now.items ++ w ∷ []) c.new-word.ensures)
+returns c = same_path _ _ (c.in_ok-push.ensures.items ∙ ap (λ w. c.args.words.now.items ++ w ∷ []) c.new-word.ensures)

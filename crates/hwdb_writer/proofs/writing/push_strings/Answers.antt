@@ -1,4 +1,4 @@
-use Rattle.std.proofs.Common.{List, ℕ, ◌++◌, [], ◌∷◌, ◌∙◌, ap, append_assoc, refl}
+use Rattle.std.proofs.Common.{◌++◌, [], ◌∷◌, ◌∙◌, ap, append_assoc, refl}
 use Rattle.std.proofs.lemmas.List.{get_or_default}
 use Rattle.hwdb_layout.specs.Written.{section_of, ended}
 use Rattle.hwdb_writer.proofs.Placing.{nothing, text_in}

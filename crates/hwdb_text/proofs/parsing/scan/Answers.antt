@@ -1,4 +1,4 @@
-use Rattle.std.proofs.Common.{◌≡◌, ◌+◌, ◌<◌, length, drop, sym, ◌∙◌, refl, ap, arith, zero-add, Err}
+use Rattle.std.proofs.Common.{◌≡◌, ◌+◌, ◌<◌, length, drop, sym, ◌∙◌, refl, ap, arith, zero-add, [], Err}
 use Rattle.std.proofs.lemmas.List.{take_rest, length-drop}
 use Rattle.hwdb_text.specs.Lines.{is, lines, pieces}
 use Rattle.std.proofs.lemmas.List.Elements.{All-same}
@@ -7,14 +7,14 @@ use Rattle.hwdb_text.specs.Storable.{IsStorable}
 use Rattle.hwdb_text.proofs.Storing.{assignments_storable}
 use Rattle.hwdb_text.proofs.Bytes.{count_lines}
 use Rattle.hwdb_text.proofs.Files.{more_lines, next_count, next_reads, end_pieces, end_reads}
-use Rattle.hwdb_text.proofs.parsing.parse.Goals as goal
+use Rattle.hwdb_text.proofs.parsing.scan.Goals as goal
 
 pub loop-at-init : goal.loop-at-init
 loop-at-init c = record {
   at_in = omega arith;
   fits = omega arith;
   count = zero-add _ ∙ sym (count_lines 1 (pieces (is 10) c.args.bytes.now));
-  reads = c.new-reader.ensures (origin c.args.path.now c.args.priority) (lines c.args.bytes.now);
+  reads = λ o. c.new-reader.ensures o (lines c.args.bytes.now);
 }
 
 pub returns-in_err-number-clause-too_many : goal.returns-in_err-number-clause-too_many
@@ -31,19 +31,20 @@ loop-at-preserved c =
       fits = c.in_ok-number.ensures.fits;
       count = next_count c.args.bytes.now c.loop-at.at c.end_of-end.result c.loop-at.number c.in_ok-number.number (length (lines c.args.bytes.now)) _
           c.loop-at-test.true t c.end_of-end.ensures.place c.in_ok-number.ensures.next c.loop-at.invariant.count;
-      reads = next_reads (origin c.args.path.now c.args.priority) (lines c.args.bytes.now) c.args.bytes.now c.loop-at.at c.end_of-end.result c.loop-at.number c.in_ok-number.number _ _ c.loop-at.reader c.line.new.self
-          c.loop-at-test.true t c.end_of-end.ensures.place refl c.in_ok-number.ensures.next c.in_ok-line.ensures c.loop-at.invariant.reads;
+      reads = λ o. next_reads o (lines c.args.bytes.now) c.args.bytes.now c.loop-at.at c.end_of-end.result c.loop-at.number c.in_ok-number.number _ _ c.loop-at.reader c.line.new.self
+          c.loop-at-test.true t c.end_of-end.ensures.place refl c.in_ok-number.ensures.next (c.in_ok-line.ensures o) (c.loop-at.invariant.reads o);
     }
 
 pub returns-clause-assignments : goal.returns-clause-assignments
-returns-clause-assignments c =
-    c.in_ok-finish.ensures.assignments (origin c.args.path.now c.args.priority) (lines c.args.bytes.now)
-    (end_reads (origin c.args.path.now c.args.priority) (lines c.args.bytes.now) c.args.bytes.now c.loop-at.at (c.loop-at.number + 1) c.loop-at.reader c.loop-at-test.false c.loop-at.invariant.reads)
+returns-clause-assignments c = λ o.
+    c.in_ok-finish.ensures.assignments o (lines c.args.bytes.now)
+    (end_reads o (lines c.args.bytes.now) c.args.bytes.now c.loop-at.at (c.loop-at.number + 1) c.loop-at.reader c.loop-at-test.false (c.loop-at.invariant.reads o))
 
 pub returns-clause-faults : goal.returns-clause-faults
 returns-clause-faults c =
-    c.in_ok-finish.ensures.faults (origin c.args.path.now c.args.priority) (lines c.args.bytes.now)
-    (end_reads (origin c.args.path.now c.args.priority) (lines c.args.bytes.now) c.args.bytes.now c.loop-at.at (c.loop-at.number + 1) c.loop-at.reader c.loop-at-test.false c.loop-at.invariant.reads)
+    let o = origin [] 0 in
+    c.in_ok-finish.ensures.faults o (lines c.args.bytes.now)
+    (end_reads o (lines c.args.bytes.now) c.args.bytes.now c.loop-at.at (c.loop-at.number + 1) c.loop-at.reader c.loop-at-test.false (c.loop-at.invariant.reads o))
 
 pub returns-clause-few : goal.returns-clause-few
 returns-clause-few c =
@@ -51,6 +52,5 @@ returns-clause-few c =
     omega arith
 
 pub returns-clause-storable : goal.returns-clause-storable
-returns-clause-storable c =
-    let o = origin c.args.path.now c.args.priority in
-    All-same IsStorable _ (assignments o c.args.bytes.now) (returns-clause-assignments c) (assignments_storable o c.args.bytes.now)
+returns-clause-storable c = λ o.
+    All-same IsStorable _ (assignments o c.args.bytes.now) (returns-clause-assignments c o) (assignments_storable o c.args.bytes.now)
