@@ -59,7 +59,7 @@ returns-clause-headline g c =
     let tree = db_tree c.in_ok-db.db in
     let all : c.in_ok-hits.hits.to_come ≡ last_assignments device from (all_assignments etc usr) =
     ap (λ (p : Progress). p.to_come) begun ∙ ap (λ s. answers_after device s tree) (lent_spot c.as_ref.result c.in_ok-after.after c.as_ref.ensures.value)
-    ∙ c.compiled_answers_are_last.ensures.after etc usr c.args.bytes.now tree compiled c.in_ok-db.ensures.accepted device from in
+    ∙ c.compiled_answers_are_last.ensures.after etc usr c.args.bytes.now compiled tree c.in_ok-db.ensures.accepted device from in
     let P : List Found → Type 0 = λ hits. Appends (g.O.Sink.taken c.args.out.now) (g.O.Sink.taken c.print_hits.new.out) (hits_text (within_limit c.args.limit hits)) in
     record { from = from; spelled = c.in_ok-after.ensures.spelled; taken = subst P all printed })
     c.print_hits.ensures.printed
