@@ -19,8 +19,9 @@ use Rattle.hwdb_query.specs.Assigned.{Among, assigned_of}
 use Rattle.hwdb_query.specs.Compiling.{entry_of, surviving}
 use Rattle.hwdb_query.specs.Headline.{is_same_place, last_of_each, answer_of, last_matching, last_assignments}
 use Rattle.hwdb_query.proofs.Putting.{ascends_all}
+use Rattle.hwdb_query.proofs.Latest.{same_place}
 use Rattle.hwdb_query.proofs.Orders.{found_total}
-use Rattle.hwdb_query.proofs.Members.{all_sound, all_has, filter_sound, filter_complete, none_ascends, in_none, then_equal, equal_of, same_text, place_total, are_answers}
+use Rattle.hwdb_query.proofs.Members.{all_sound, all_has, filter_sound, filter_complete, none_ascends, in_none, then_equal, same_text, place_total, are_answers}
 
 -- the first of two that there is
 abbrev first_some : Option Stored → Option Stored → Option Stored
@@ -112,11 +113,6 @@ last_sound f (a ∷ more) m =
         | inr r ↦ again r
       ]
     ] refl m
-
-same_place : (p q : List ℕ × List ℕ) → eq_by_cmp place_cmp p q ≡ true → p ≡ q
-same_place p q e =
-    let both = then_equal (slice_cmp nat_cmp p.0 q.0) (slice_cmp nat_cmp p.1 q.1) (equal_of (place_cmp p q) e) in
-    λ i. (same_text p.0 q.0 both.0 i, same_text p.1 q.1 both.1 i)
 
 answer_is : (a : Assigned) (f : Found) → (entry_of a).0 ≡ place_of f → (entry_of a).1 ≡ assigned_of f → answer_of a ≡ f
 answer_is a f p v = λ i. record { spot = record { priority = (v i).priority; line = (v i).line; pattern = (p i).0; key = (p i).1 }; value = (v i).value; path = (v i).path }

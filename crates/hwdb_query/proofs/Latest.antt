@@ -120,7 +120,7 @@ found : (done : List Assigned) (a : Assigned) (place : List ℕ × List ℕ)
     → finite.get (surviving (done ++ a ∷ [])) place ≡ cond (eq_by_cmp place_cmp place (entry_of a).0) (Some (entry_of a).1) (finite.get (surviving done) place)
 found done a place = ap (λ m. finite.get m place) (surviving_one done a) ∙ finite.get-insert place_total (surviving done) (entry_of a).0 (entry_of a).1 place
 
-same_place : (p q : List ℕ × List ℕ) → eq_by_cmp place_cmp p q ≡ true → p ≡ q
+pub same_place : (p q : List ℕ × List ℕ) → eq_by_cmp place_cmp p q ≡ true → p ≡ q
 same_place p q e =
     let both = then_equal (slice_cmp nat_cmp p.0 q.0) (slice_cmp nat_cmp p.1 q.1) (equal_of (place_cmp p q) e) in
     λ i. (same_text p.0 q.0 both.0 i, same_text p.1 q.1 both.1 i)
