@@ -24,7 +24,7 @@ children_in [] = NoMore
 children_in (p ∷ ps) = Child p.0 p.1 (children_in ps)
 
 abbrev pub standing_step : Branch-F (ℕ × Tree) → ℕ × Tree
-standing_step b = (b.byte, Node b.prefix.items (map value_of b.values.items) (children_in b.children.items))
+standing_step b = (b.byte, Node b.prefix (map value_of b.values.items) (children_in b.children.items))
 
 -- the byte of a node, and its tree
 unfoldable pub standing : Branch → ℕ × Tree

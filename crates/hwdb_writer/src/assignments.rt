@@ -1,5 +1,6 @@
 //! The assignments, seen as a finite map.
 use crate::branches::{Branch, Stored, put_below};
+use crate::prefix::Prefix;
 use hwdb_text::{Assignment, Given};
 use std::alloc::{AllocError, Global};
 use std::marker::Model;
@@ -41,7 +42,7 @@ impl Tree {
             alloc,
             root: Branch {
                 byte: 0,
-                prefix: Vec::new(alloc),
+                prefix: Prefix::empty(alloc),
                 values: Vec::new(alloc),
                 children: Vec::new(alloc),
             },
