@@ -8,14 +8,14 @@ use Rattle.hwdb_writer.specs.declared.branches.Branch.{Branch}
 use Rattle.hwdb_writer.specs.declared.branches.Branch.TheOpen.{Branch-F}
 use Rattle.hwdb_writer.specs.declared.branches.Branch.TheFolds.{fold-Branch}
 
--- its key, its value and its path are cut from the one text that it holds
+-- its key and its value are cut from the one text that it holds
 abbrev pub value_of : Stored → Value
 value_of s = record {
   priority = s.priority;
   line = s.line;
   key = take s.value_at s.text.items;
-  value = drop s.value_at (take s.path_at s.text.items);
-  path = drop s.path_at s.text.items;
+  value = drop s.value_at s.text.items;
+  path = s.path.value.items;
 }
 
 -- the children, each under its byte

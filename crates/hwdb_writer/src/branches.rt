@@ -18,9 +18,10 @@ use crate::prefix::Prefix;
 use std::alloc::{AllocError, Global};
 use std::cmp::Ordering;
 use std::mem;
+use std::rc::Rc;
 
-/// A value of a node. Its stored key, which is a space and the key, its value and its path stand one after
-/// another in one text.
+/// A value of a node. Its stored key, which is a space and the key, and its value stand one after another in
+/// one text.
 #[derive(Drop)]
 pub struct Stored {
     pub priority: u16,
@@ -28,8 +29,8 @@ pub struct Stored {
     text: Vec<u8>,
     /// Where the value begins in the text.
     value_at: usize,
-    /// Where the path begins in the text.
-    path_at: usize,
+    /// The path, which many values share.
+    path: Rc<Vec<u8>>,
 }
 
 impl Stored {
@@ -41,27 +42,23 @@ impl Stored {
         line: u32,
         key: &[u8],
         value: &[u8],
-        path: &[u8],
+        path: Rc<Vec<u8>>,
     ) -> Result<Stored, AllocError>
-        ensures { IfOk result (λ s. value_of s ≡ record { priority = priority; line = line; key = 32 ∷ key.now; value = value.now; path = path.now }) }
+        ensures { IfOk result (λ s. value_of s
+            ≡ record { priority = priority; line = line; key = 32 ∷ key.now; value = value.now; path = path.value.items }) }
     {
-        let length = key
-            .len()
-            .saturating_add(value.len())
-            .saturating_add(path.len());
+        let length = key.len().saturating_add(value.len());
         let mut text = Vec::with_capacity(alloc, length.saturating_add(1))?;
         text.push(b' ')?;
         text.extend_from_slice(key)?;
         let value_at = text.len();
         text.extend_from_slice(value)?;
-        let path_at = text.len();
-        text.extend_from_slice(path)?;
         Ok(Stored {
             priority,
             line,
             text,
             value_at,
-            path_at,
+            path,
         })
     }
 
@@ -78,16 +75,14 @@ impl Stored {
         ensures { result.now ≡ (value_of self.now).value }
     {
         let text: &[u8] = &self.text;
-        let front = &text[..self.path_at.min(text.len())];
-        &front[self.value_at.min(front.len())..]
+        &text[self.value_at.min(text.len())..]
     }
 
     /// Its path.
     pub fn path(&self) -> &[u8]
         ensures { result.now ≡ (value_of self.now).path }
     {
-        let text: &[u8] = &self.text;
-        &text[self.path_at.min(text.len())..]
+        self.path.as_ref().as_slice()
     }
 }
 
