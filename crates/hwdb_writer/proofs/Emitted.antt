@@ -62,7 +62,7 @@ pub kid_strings-none : kid_strings [] ≡ []
 unfolding strings_of
 kid_strings-none = refl
 
-strings-opened : (b : Branch) → strings_of (tree_of b) ≡ ((out-Branch b).prefix.items ∷ value_strings (out-Branch b).values.items) ++ kid_strings (out-Branch b).children.items
+strings-opened : (b : Branch) → strings_of (tree_of b) ≡ ((out-Branch b).prefix ∷ value_strings (out-Branch b).values.items) ++ kid_strings (out-Branch b).children.items
 unfolding strings_of
 strings-opened b = ap strings_of (opened b)
 
@@ -71,8 +71,8 @@ value_strings-cons v vs = refl
 
 -- a prefix, then the values' strings, then those below
 pub parts_opened : (b : Branch) (kids : List Branch) (vals : List Stored) → kids ≡ (out-Branch b).children.items → vals ≡ (out-Branch b).values.items →
-    ((out-Branch b).prefix.items ∷ value_strings vals) ++ kid_strings kids ≡ strings_of (tree_of b)
-parts_opened b kids vals k w = (λ i. ((out-Branch b).prefix.items ∷ value_strings (w i)) ++ kid_strings (k i)) ∙ sym (strings-opened b)
+    ((out-Branch b).prefix ∷ value_strings vals) ++ kid_strings kids ≡ strings_of (tree_of b)
+parts_opened b kids vals k w = (λ i. ((out-Branch b).prefix ∷ value_strings (w i)) ++ kid_strings (k i)) ∙ sym (strings-opened b)
 
 -- how long the texts of the children that are left are
 abbrev pub M : ℕ
@@ -167,11 +167,11 @@ module _ (place : List ℕ → ℕ) where
 
   -- a node's text, piece by piece
   module _ (b : Branch) (kids : List Branch) (vals : List Stored) (k : kids ≡ (out-Branch b).children.items) (w : vals ≡ (out-Branch b).values.items) where
-    the_tree : tree_of b ≡ Node (out-Branch b).prefix.items (map value_of vals) (kids_of kids)
-    the_tree = opened b ∙ (λ i. Node (out-Branch b).prefix.items (map value_of (sym w i)) (kids_of (sym k i)))
+    the_tree : tree_of b ≡ Node (out-Branch b).prefix (map value_of vals) (kids_of kids)
+    the_tree = opened b ∙ (λ i. Node (out-Branch b).prefix (map value_of (sym w i)) (kids_of (sym k i)))
 
     pub emitted : (o t r x y : List ℕ) (p : ℕ) (entries : List ℕ) → t ≡ o ++ nodes_text place (length o) (kids_of kids) →
-        r ≡ t ++ (little_bytes 8 p ++ length kids ∷ padding 7 ++ little_bytes 8 (length vals)) → p ≡ place (out-Branch b).prefix.items →
+        r ≡ t ++ (little_bytes 8 p ++ length kids ∷ padding 7 ++ little_bytes 8 (length vals)) → p ≡ place (out-Branch b).prefix →
         x ≡ r ++ entries → entries ≡ entries_text place (length o) (kids_of kids) → y ≡ x ++ vals_text vals → y ≡ o ++ node_text place (length o) (tree_of b)
     unfolding node_text
     emitted o t r x y p entries e f g h j l =

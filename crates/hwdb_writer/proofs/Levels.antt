@@ -9,6 +9,7 @@ use Rattle.hwdb_layout.specs.Tree.Tree.{Node}
 use Rattle.hwdb_layout.specs.Tree.Children.{NoMore, Child}
 use Rattle.hwdb_layout.specs.Map.{IsTree, BytesAscend, KeysAscend}
 use Rattle.hwdb_writer.specs.declared.branches.Branch.{Branch}
+use Rattle.hwdb_writer.specs.declared.branches.Stored.{Stored}
 use Rattle.hwdb_writer.specs.declared.branches.Branch.TheViews.{out-Branch}
 use Rattle.hwdb_writer.specs.Standing.{standing, value_of, children_in, byte_of, tree_of}
 use Rattle.hwdb_writer.specs.Setting.{set_value, set_below, set_at, set_node, forked, reached, single, below_of}
@@ -30,9 +31,6 @@ not_less a b h = grind (arith, nat_tests)
 pub drop_at : (xs : List ℕ) (i : ℕ) → i < length xs → drop i xs ≡ get_or xs i 0 ∷ drop (i + 1) xs
 drop_at xs i h = rw (add-one, drop-cons xs i 0 h)
 
-pub fork_ends : (front : List ℕ) (c : ℕ) (lower : Tree) (right : List ℕ) (v : Value) → right ≡ [] → forked front c lower right v ≡ Node front (v ∷ []) (Child c lower NoMore)
-fork_ends front c lower right v e = ap (λ r. forked front c lower r v) e
-
 pub fork_before : (front : List ℕ) (c : ℕ) (lower : Tree) (right : List ℕ) (d : ℕ) (more : List ℕ) (v : Value) → right ≡ d ∷ more → d < c →
     forked front c lower right v ≡ Node front [] (Child d (single more v) (Child c lower NoMore))
 fork_before front c lower right d more v e lt =
@@ -45,9 +43,27 @@ fork_behind front c lower right d more v e le =
     ap (λ r. forked front c lower r v) e
     ∙ ap (λ b. Node front [] (cond b (Child d (single more v) (Child c lower NoMore)) (Child c lower (Child d (single more v) NoMore)))) (not_less d c le)
 
+-- a node that was split, with one other child
+module _ (new : Tree) (p rest : List ℕ) (at : ℕ) (v : Value) (vs : List Value) (below : Children) (front back : List ℕ) (none : List Stored) (others : List Branch) (leaf : Branch) (byte : ℕ) where
+  pub split_before : new ≡ Node front (map value_of none) (children_in (insert (map standing others) 1 (byte, Node back vs below))) → front ≡ take at p → back ≡ drop (at + 1) p
+      → byte ≡ get_or p at 0 → none ≡ [] → others ≡ leaf ∷ [] → byte_of leaf ≡ get_or rest at 0 → tree_of leaf ≡ single (drop (at + 1) rest) v
+      → at < length rest → get_or rest at 0 < get_or p at 0 → new ≡ forked (take at p) (get_or p at 0) (Node (drop (at + 1) p) vs below) (drop at rest) v
+  split_before is f b c n o d t lt less =
+      is ∙ (λ i. Node (f i) (map value_of (n i)) (children_in (insert (map standing (o i)) 1 (c i, Node (b i) vs below))))
+      ∙ (λ i. Node (take at p) [] (Child (d i) (t i) (Child (get_or p at 0) (Node (drop (at + 1) p) vs below) NoMore)))
+      ∙ sym (fork_before (take at p) (get_or p at 0) (Node (drop (at + 1) p) vs below) (drop at rest) (get_or rest at 0) (drop (at + 1) rest) v (drop_at rest at lt) less)
+
+  pub split_behind : new ≡ Node front (map value_of none) (children_in (insert (map standing others) 0 (byte, Node back vs below))) → front ≡ take at p → back ≡ drop (at + 1) p
+      → byte ≡ get_or p at 0 → none ≡ [] → others ≡ leaf ∷ [] → byte_of leaf ≡ get_or rest at 0 → tree_of leaf ≡ single (drop (at + 1) rest) v
+      → at < length rest → get_or p at 0 ≤ get_or rest at 0 → new ≡ forked (take at p) (get_or p at 0) (Node (drop (at + 1) p) vs below) (drop at rest) v
+  split_behind is f b c n o d t lt least =
+      is ∙ (λ i. Node (f i) (map value_of (n i)) (children_in (insert (map standing (o i)) 0 (c i, Node (b i) vs below))))
+      ∙ (λ i. Node (take at p) [] (Child (get_or p at 0) (Node (drop (at + 1) p) vs below) (Child (d i) (t i) NoMore)))
+      ∙ sym (fork_behind (take at p) (get_or p at 0) (Node (drop (at + 1) p) vs below) (drop at rest) (get_or rest at 0) (drop (at + 1) rest) v (drop_at rest at lt) least)
+
 module _ (b : Branch) (rest : List ℕ) (v : Value) (at : ℕ) where
   abbrev p : List ℕ
-  p = (out-Branch b).prefix.items
+  p = (out-Branch b).prefix
 
   abbrev vals : List Value
   vals = map value_of (out-Branch b).values.items

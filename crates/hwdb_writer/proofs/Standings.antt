@@ -12,7 +12,7 @@ use Rattle.hwdb_writer.specs.declared.branches.Stored.{Stored}
 use Rattle.hwdb_writer.specs.Standing.{standing, standing_step, value_of, children_in, tree_of, byte_of}
 
 abbrev pub one_level : Branch-F Branch → ℕ × Tree
-one_level b = (b.byte, Node b.prefix.items (map value_of b.values.items) (children_in (map standing b.children.items)))
+one_level b = (b.byte, Node b.prefix (map value_of b.values.items) (children_in (map standing b.children.items)))
 
 pub standing-roll : (b : Branch-F Branch) → standing (roll-Branch b) ≡ one_level b
 unfolding standing
@@ -22,14 +22,14 @@ pub standing-out : (b : Branch) → standing b ≡ one_level (out-Branch b)
 unfolding standing
 standing-out = fold_out-Branch (ℕ × Tree) standing_step
 
-pub rolled : (b : Branch-F Branch) (p : List ℕ) (vs : List Stored) (bs : List Branch) → b.prefix.items ≡ p → b.values.items ≡ vs → b.children.items ≡ bs →
+pub rolled : (b : Branch-F Branch) (p : List ℕ) (vs : List Stored) (bs : List Branch) → b.prefix ≡ p → b.values.items ≡ vs → b.children.items ≡ bs →
     tree_of (roll-Branch b) ≡ Node p (map value_of vs) (children_in (map standing bs))
 rolled b p vs bs e f g = ap (λ x. x.1) (standing-roll b) ∙ (λ i. Node (e i) (map value_of (f i)) (children_in (map standing (g i))))
 
 pub byte_rolled : (b : Branch-F Branch) → byte_of (roll-Branch b) ≡ b.byte
 byte_rolled b = ap (λ x. x.0) (standing-roll b)
 
-pub opened : (b : Branch) → tree_of b ≡ Node (out-Branch b).prefix.items (map value_of (out-Branch b).values.items) (children_in (map standing (out-Branch b).children.items))
+pub opened : (b : Branch) → tree_of b ≡ Node (out-Branch b).prefix (map value_of (out-Branch b).values.items) (children_in (map standing (out-Branch b).children.items))
 opened b = ap (λ x. x.1) (standing-out b)
 
 pub byte_opened : (b : Branch) → byte_of b ≡ (out-Branch b).byte
@@ -42,11 +42,11 @@ pub byte_kept : (n : Branch) (b : Branch-F Branch) → b.byte ≡ (out-Branch n)
 byte_kept n b e = byte_rolled b ∙ e ∙ sym (byte_opened n)
 
 pub lowered : (x : Branch-F Branch) (n : Branch) → x.values.items ≡ (out-Branch n).values.items → x.children.items ≡ (out-Branch n).children.items →
-    standing (roll-Branch x) ≡ (x.byte, Node x.prefix.items (values_of (tree_of n)) (below_of (tree_of n)))
+    standing (roll-Branch x) ≡ (x.byte, Node x.prefix (values_of (tree_of n)) (below_of (tree_of n)))
 unfolding values_of below_of
 lowered x n e f =
-    standing-roll x ∙ (λ i. (x.byte, Node x.prefix.items (map value_of (e i)) (children_in (map standing (f i)))))
-    ∙ (λ i. (x.byte, Node x.prefix.items (values_of (sym (opened n) i)) (below_of (sym (opened n) i))))
+    standing-roll x ∙ (λ i. (x.byte, Node x.prefix (map value_of (e i)) (children_in (map standing (f i)))))
+    ∙ (λ i. (x.byte, Node x.prefix (values_of (sym (opened n) i)) (below_of (sym (opened n) i))))
 
 pub kids_same : (bs : List Branch) (i : ℕ) (d b' : Branch) → byte_of b' ≡ byte_of (get_or bs i d) → tree_of b' ≡ tree_of (get_or bs i d) →
     children_in (map standing (set bs i b')) ≡ children_in (map standing bs)

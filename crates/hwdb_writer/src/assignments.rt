@@ -1,14 +1,18 @@
 //! The assignments, seen as a finite map.
 use crate::branches::{Branch, Stored, put_below};
+use crate::prefix::Prefix;
 use hwdb_text::{Assignment, Given};
 use std::alloc::{AllocError, Global};
 use std::marker::Model;
+use std::rc::Rc;
 
 /// The assignments, by pattern and key: from these to priority, line, value and path.
 #[derive(Drop)]
 pub struct Tree {
     alloc: Global,
     pub(crate) root: Branch,
+    /// The path that was set last.
+    path: Option<Rc<Vec<u8>>>,
 }
 
 impl Model for Tree {
@@ -28,7 +32,7 @@ impl Model for Tree {
 }
 
 impl Tree {
-    ghost use Rattle.std.specs.Prelude.{◌≡◌, ◌≤◌, ◌<◌, ◌∷◌, ℕ, List, length, OnOk, OnErr};
+    ghost use Rattle.std.specs.Prelude.{◌≡◌, ◌≤◌, ◌<◌, ◌∷◌, ℕ, List, length, IfOk, OnOk, OnErr};
     ghost use Rattle.std.specs.FinMap.{empty, insert};
     ghost use Rattle.hwdb_writer.specs.Standing.{value_of};
     ghost use Rattle.hwdb_writer.specs.Storable.{HasNoZero, IsStorableValue, max_pattern};
@@ -41,11 +45,28 @@ impl Tree {
             alloc,
             root: Branch {
                 byte: 0,
-                prefix: Vec::new(alloc),
+                prefix: Prefix::empty(alloc),
                 values: Vec::new(alloc),
                 children: Vec::new(alloc),
             },
+            path: None,
         }
+    }
+
+    /// The path to be shared: the one that was set last, where it is the same.
+    fn shared(&mut self, path: &[u8]) -> Result<Rc<Vec<u8>>, AllocError>
+        ensures path { IfOk result (λ shared. shared.value.items ≡ path.now) }
+        ensures same { self.new ≡ self.old }
+    {
+        if let Some(last) = &self.path {
+            if last.as_ref().as_slice() == path {
+                return last.clone();
+            }
+        }
+        let alloc = self.alloc;
+        let shared = Rc::new(alloc, Vec::from_slice(alloc, path)?)?;
+        self.path = Some(shared.clone()?);
+        Ok(shared)
     }
 
     /// Sets the map at the pattern and the value's key.
@@ -77,6 +98,7 @@ impl Tree {
         ensures err { OnErr result (self.new ≡ self.old) }
     {
         let alloc = self.alloc;
+        let path = self.shared(path)?;
         let value = Stored::new(alloc, priority, given.line, given.key, given.value, path)?;
         self.set_value(given.pattern, value)
     }

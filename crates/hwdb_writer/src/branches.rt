@@ -14,12 +14,14 @@ ghost use Rattle.hwdb_writer.specs.declared.branches.Branch.TheViews.{out-Branch
 ghost use Rattle.hwdb_writer.specs.Found.{HitsKey, MissesKey, HitsByte, MissesByte};
 ghost use Rattle.hwdb_writer.specs.Standing.{value_of, tree_of, byte_of, standing, children_in};
 
+use crate::prefix::Prefix;
 use std::alloc::{AllocError, Global};
 use std::cmp::Ordering;
 use std::mem;
+use std::rc::Rc;
 
-/// A value of a node. Its stored key, which is a space and the key, its value and its path stand one after
-/// another in one text.
+/// A value of a node. Its stored key, which is a space and the key, and its value stand one after another in
+/// one text.
 #[derive(Drop)]
 pub struct Stored {
     pub priority: u16,
@@ -27,8 +29,8 @@ pub struct Stored {
     text: Vec<u8>,
     /// Where the value begins in the text.
     value_at: usize,
-    /// Where the path begins in the text.
-    path_at: usize,
+    /// The path, which many values share.
+    path: Rc<Vec<u8>>,
 }
 
 impl Stored {
@@ -40,27 +42,23 @@ impl Stored {
         line: u32,
         key: &[u8],
         value: &[u8],
-        path: &[u8],
+        path: Rc<Vec<u8>>,
     ) -> Result<Stored, AllocError>
-        ensures { IfOk result (λ s. value_of s ≡ record { priority = priority; line = line; key = 32 ∷ key.now; value = value.now; path = path.now }) }
+        ensures { IfOk result (λ s. value_of s
+            ≡ record { priority = priority; line = line; key = 32 ∷ key.now; value = value.now; path = path.value.items }) }
     {
-        let length = key
-            .len()
-            .saturating_add(value.len())
-            .saturating_add(path.len());
+        let length = key.len().saturating_add(value.len());
         let mut text = Vec::with_capacity(alloc, length.saturating_add(1))?;
         text.push(b' ')?;
         text.extend_from_slice(key)?;
         let value_at = text.len();
         text.extend_from_slice(value)?;
-        let path_at = text.len();
-        text.extend_from_slice(path)?;
         Ok(Stored {
             priority,
             line,
             text,
             value_at,
-            path_at,
+            path,
         })
     }
 
@@ -77,16 +75,14 @@ impl Stored {
         ensures { result.now ≡ (value_of self.now).value }
     {
         let text: &[u8] = &self.text;
-        let front = &text[..self.path_at.min(text.len())];
-        &front[self.value_at.min(front.len())..]
+        &text[self.value_at.min(text.len())..]
     }
 
     /// Its path.
     pub fn path(&self) -> &[u8]
         ensures { result.now ≡ (value_of self.now).path }
     {
-        let text: &[u8] = &self.text;
-        &text[self.path_at.min(text.len())..]
+        self.path.as_ref().as_slice()
     }
 }
 
@@ -94,7 +90,7 @@ impl Stored {
 #[derive(Drop)]
 pub struct Branch {
     pub byte: u8,
-    pub prefix: Vec<u8>,
+    pub prefix: Prefix,
     pub values: Vec<Stored>,
     pub children: Vec<Branch>,
 }
@@ -165,7 +161,7 @@ pub fn leaf(alloc: Global, byte: u8, prefix: &[u8], value: Stored) -> Result<Bra
     ensures tree { IfOk result (λ b. tree_of b ≡ single prefix.now (value_of value)) }
     ensures byte { IfOk result (λ b. byte_of b ≡ byte) }
 {
-    let prefix = Vec::from_slice(alloc, prefix)?;
+    let prefix = Prefix::new(alloc, prefix)?;
     let mut values = Vec::with_capacity(alloc, 1)?;
     values.push(value)?;
     Ok(Branch {
@@ -179,18 +175,18 @@ pub fn leaf(alloc: Global, byte: u8, prefix: &[u8], value: Stored) -> Result<Bra
 /// Makes the node a child of one with its byte, and with this prefix, these values and these other children.
 fn adopt(
     node: &mut Branch,
-    front: Vec<u8>,
+    front: Prefix,
     values: Vec<Stored>,
     others: Vec<Branch>,
     place: usize,
     byte: u8,
-    back: Vec<u8>,
+    back: Prefix,
 )
     requires room { vec_len others < vec_capacity others }
     requires place { place ≤ vec_len others }
     ensures same { byte_of node.new ≡ byte_of node.old }
-    ensures tree { tree_of node.new ≡ Node front.items (map value_of values.items)
-        (children_in (insert (map standing others.items) place (byte, Node back.items (values_of (tree_of node.old)) (below_of (tree_of node.old))))) }
+    ensures tree { tree_of node.new ≡ Node front (map value_of values.items)
+        (children_in (insert (map standing others.items) place (byte, Node back (values_of (tree_of node.old)) (below_of (tree_of node.old))))) }
 {
     let mut lower = Branch {
         byte: node.byte,
@@ -213,17 +209,17 @@ pub fn fork(
     rest: &[u8],
     value: Stored,
 ) -> Result<(), AllocError>
-    requires inside { at < length (out-Branch node.old).prefix.items }
+    requires inside { at < length (out-Branch node.old).prefix }
     requires within { at ≤ length rest.now }
     ensures same { byte_of node.new ≡ byte_of node.old }
     ensures err { OnErr result (tree_of node.new ≡ tree_of node.old) }
-    ensures ok { OnOk result (let p = (out-Branch node.old).prefix.items in
+    ensures ok { OnOk result (let p = (out-Branch node.old).prefix in
         tree_of node.new ≡ forked (take at p) (slice_index p at) (Node (drop (at + 1) p) (values_of (tree_of node.old)) (below_of (tree_of node.old))) (drop at rest.now) (value_of value)) }
 {
-    let prefix: &[u8] = &node.prefix;
+    let prefix = node.prefix.text();
     let byte = prefix[at];
-    let front = Vec::from_slice(alloc, &prefix[..at])?;
-    let back = Vec::from_slice(alloc, &prefix[at + 1..])?;
+    let front = Prefix::new(alloc, &prefix[..at])?;
+    let back = Prefix::new(alloc, &prefix[at + 1..])?;
     if at == rest.len() {
         let others = Vec::with_capacity(alloc, 1)?;
         let mut values = Vec::with_capacity(alloc, 1)?;
@@ -255,7 +251,7 @@ pub fn put_below(
     ensures ok { OnOk result (tree_of node.new ≡ set_at rest.now (value_of value) (tree_of node.old)) }
     ensures err { OnErr result (tree_of node.new ≡ tree_of node.old) }
 {
-    let prefix: &[u8] = &node.prefix;
+    let prefix = node.prefix.text();
     let at = common(prefix, rest);
     if at < prefix.len() {
         return fork(alloc, node, at, rest, value);

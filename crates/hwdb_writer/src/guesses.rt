@@ -7,7 +7,7 @@ use std::alloc::{AllocError, Global};
 /// Where strings were noted, by their numbers. Two strings can have one entry.
 #[derive(Drop)]
 pub struct Guesses {
-    places: Vec<usize>,
+    places: Vec<u32>,
 }
 
 impl Guesses {
@@ -27,15 +27,15 @@ impl Guesses {
     /// Where the string may stand.
     pub fn guess(&self, word: &Word<'_>) -> usize {
         match self.places.get(self.entry_of(word)) {
-            Some(place) => *place,
+            Some(place) => *place as usize,
             None => 0,
         }
     }
 
-    /// Notes where the string stands.
+    /// Notes where the string stands; nothing where the place is greater than 4,294,967,295.
     pub fn note(&mut self, word: &Word<'_>, place: usize) {
         let entry = self.entry_of(word);
-        if let Some(noted) = self.places.get_mut(entry) {
+        if let (Some(noted), Ok(place)) = (self.places.get_mut(entry), u32::try_from(place)) {
             *noted = place;
         }
     }

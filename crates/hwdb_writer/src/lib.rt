@@ -9,6 +9,7 @@ mod branches;
 mod guesses;
 mod laws;
 mod nodes;
+mod prefix;
 mod records;
 mod strings;
 #[cfg(test)]

@@ -42,7 +42,7 @@ pub fn collect<'t>(
 ) -> Result<(), AllocError>
     ensures { OnOk result (SameMembers words.new.items (words.old.items ++ strings_of (tree_of node.now))) }
 {
-    push_new(words, guesses, &node.prefix)?;
+    push_new(words, guesses, node.prefix.text())?;
     collect_values(&node.values, words, guesses)?;
     for child in &node.children {
         collect(child, words, guesses)?;
@@ -116,7 +116,7 @@ pub fn push_text(
         push_text(child, table, guesses, entries, out)?;
     }
     let at = out.as_slice().len();
-    let prefix = place(table, guesses, &node.prefix);
+    let prefix = place(table, guesses, node.prefix.text());
     push_node(out, prefix, children.len() as u8, values.len())?;
     push_rest(out, entries, first)?;
     push_values(values, table, guesses, out)?;

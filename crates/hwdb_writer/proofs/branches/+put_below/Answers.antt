@@ -14,8 +14,8 @@ use Rattle.hwdb_writer.proofs.branches.+put_below.Goals as goal
 
 pub returns-then-at-prefix-clause-ok : goal.returns-then-at-prefix-clause-ok
 returns-then-at-prefix-clause-ok t c =
-    let m = rw c.deref-prefix.ensures.value at c.common-at.ensures.meeting in
-    let e = rw c.deref-prefix.ensures.value at c.if-at-prefix.true in
+    let m = rw c.text-prefix.ensures at c.common-at.ensures.meeting in
+    let e = rw c.text-prefix.ensures at c.if-at-prefix.true in
     on_ok_weaker c.fork.result (λ h. h ∙ sym (forks c.args.node.now c.args.rest.now (value_of c.args.value) c.common-at.result m e)) c.fork.ensures.ok
 
 pub put_value-requires : goal.put_value-requires
@@ -33,11 +33,11 @@ returns-in_ok-put_value-clause-same t c = byte_kept _ _ refl
 
 pub returns-in_ok-put_value-clause-ok : goal.returns-in_ok-put_value-clause-ok
 returns-in_ok-put_value-clause-ok t c =
-    let m = rw c.deref-prefix.ensures.value at c.common-at.ensures.meeting in
-    let e = rw c.deref-prefix.ensures.value at c.if-at-prefix.false in
+    let m = rw c.text-prefix.ensures at c.common-at.ensures.meeting in
+    let e = rw c.text-prefix.ensures at c.if-at-prefix.false in
     let b = out-Branch c.args.node.now in
     rolled _ _ _ _ refl refl refl
-    ∙ ap (λ vs. Node b.prefix.items vs (children_in (map standing b.children.items))) c.in_ok-put_value.ensures.ok
+    ∙ ap (λ vs. Node b.prefix vs (children_in (map standing b.children.items))) c.in_ok-put_value.ensures.ok
     ∙ sym (ends c.args.node.now c.args.rest.now (value_of c.args.value) c.common-at.result m e (omega arith))
 
 pub find_byte-requires : goal.find_byte-requires
@@ -67,12 +67,12 @@ returns-in_ok-insert-in-Err-clause-ok t c =
     let at = c.common-at.result in
     let rest = c.args.rest.now in
     let b = out-Branch c.args.node.now in
-    let m = rw c.deref-prefix.ensures.value at c.common-at.ensures.meeting in
-    let e = rw c.deref-prefix.ensures.value at c.if-at-prefix.false in
+    let m = rw c.text-prefix.ensures at c.common-at.ensures.meeting in
+    let e = rw c.text-prefix.ensures at c.if-at-prefix.false in
     let h = rw c.deref.ensures.value at c.in-Err.ensures.absent in
     let tree = rw take_rest at c.in_ok-child-in-Err.ensures.tree in
-    rolled _ b.prefix.items b.values.items _ refl refl c.in_ok-insert-in-Err.ensures.items
-    ∙ ap (Node b.prefix.items (map value_of b.values.items))
+    rolled _ b.prefix b.values.items _ refl refl c.in_ok-insert-in-Err.ensures.items
+    ∙ ap (Node b.prefix (map value_of b.values.items))
     (sym (child_gap (get_or rest at 0) (drop (at + 1) rest) (value_of c.args.value) b.children.items c.in-Err.i c.in_ok-child-in-Err.child h c.in_ok-child-in-Err.ensures.byte tree))
     ∙ sym (goes c.args.node.now rest (value_of c.args.value) at m e (omega (arith, c.if-at-rest.false)))
 
@@ -81,14 +81,14 @@ returns-in-Ok-clause-ok t c =
     let at = c.common-at.result in
     let rest = c.args.rest.now in
     let b = out-Branch c.args.node.now in
-    let m = rw c.deref-prefix.ensures.value at c.common-at.ensures.meeting in
-    let e = rw c.deref-prefix.ensures.value at c.if-at-prefix.false in
+    let m = rw c.text-prefix.ensures at c.common-at.ensures.meeting in
+    let e = rw c.text-prefix.ensures at c.if-at-prefix.false in
     let h = rw c.deref.ensures.value at c.in-Ok.ensures.found in
     let ok = rw take_rest at c.put_below.ensures.ok in
     let same = c.put_below.ensures.same ∙ ap byte_of c.index_mut.ensures.value in
     on_ok_weaker c.put_below.result (λ g.
-    rolled _ b.prefix.items b.values.items _ refl refl refl
-    ∙ ap (Node b.prefix.items (map value_of b.values.items))
+    rolled _ b.prefix b.values.items _ refl refl refl
+    ∙ ap (Node b.prefix (map value_of b.values.items))
     (sym (child_hit (get_or rest at 0) (drop (at + 1) rest) (value_of c.args.value) b.children.items c.in-Ok.i c.index_mut.result.now c.put_below.new.node h same
     (g ∙ ap (λ x. set_at (drop (at + 1) rest) (value_of c.args.value) (tree_of x)) c.index_mut.ensures.value)))
     ∙ sym (goes c.args.node.now rest (value_of c.args.value) at m e (omega (arith, c.if-at-rest.false)))) ok
@@ -98,5 +98,5 @@ returns-in-Ok-clause-err t c =
     let b = out-Branch c.args.node.now in
     let s = c.put_below.ensures.same ∙ ap byte_of c.index_mut.ensures.value in
     on_err_weaker c.put_below.result (λ h. rolled _ _ _ _ refl refl refl
-    ∙ ap (λ ks. Node b.prefix.items (map value_of b.values.items) ks) (kids_same b.children.items c.in-Ok.i c.index_mut.result.now c.put_below.new.node s (h ∙ ap tree_of c.index_mut.ensures.value))
+    ∙ ap (λ ks. Node b.prefix (map value_of b.values.items) ks) (kids_same b.children.items c.in-Ok.i c.index_mut.result.now c.put_below.new.node s (h ∙ ap tree_of c.index_mut.ensures.value))
     ∙ sym (opened c.args.node.now)) c.put_below.ensures.err

@@ -18,7 +18,7 @@ returns-clause-tree c =
     let x = ap out-Branch c.swap.ensures.x_after ∙ out_rolled _ in
     let y = c.swap.ensures.y_after in
     let items = rw (c.unwrap.ensures, ap (λ r. r.children.items) x) at c.insert.ensures.items in
-    rolled _ c.args.front.items c.args.values.items _ (ap (λ r. r.prefix.items) x) (ap (λ r. r.values.items) x) items
-    ∙ ap (λ ks. Node c.args.front.items (map value_of c.args.values.items) (children_in ks))
+    rolled _ c.args.front c.args.values.items _ (ap (λ r. r.prefix) x) (ap (λ r. r.values.items) x) items
+    ∙ ap (λ ks. Node c.args.front (map value_of c.args.values.items) (children_in ks))
     (map-insert standing c.args.others.items c.args.place _
     ∙ ap (insert (map standing c.args.others.items) c.args.place) (lowered _ c.args.node.now (ap (λ b. (out-Branch b).values.items) y) (ap (λ b. (out-Branch b).children.items) y)))

@@ -22,6 +22,6 @@ returns t c =
     let end = same_done _ _ _ (none_left kid_strings kid_strings-none c.deref-child-items.result.now c.loop-child.child-index c.loop-child-test.false) c.loop-child.invariant in
     let start = c.args.words.now.items in
     let P : List (List ℕ) → Type 0 = λ z. SameMembers c.loop-child.words.items (start ++ z) in
-    subst P (parts_opened c.args.node.now c.deref-child-items.result.now c.deref-2.result.now c.deref-child-items.ensures.value c.deref-2.ensures.value)
-    (same_parts start _ _ _ (out-Branch c.args.node.now).prefix.items (value_strings c.deref-2.result.now) (kid_strings c.deref-child-items.result.now)
-    (same_named _ _ _ _ c.deref.ensures.value c.in_ok-push_new.ensures) c.in_ok-collect_values.ensures end)
+    subst P (parts_opened c.args.node.now c.deref-child-items.result.now c.deref.result.now c.deref-child-items.ensures.value c.deref.ensures.value)
+    (same_parts start _ _ _ (out-Branch c.args.node.now).prefix (value_strings c.deref.result.now) (kid_strings c.deref-child-items.result.now)
+    (same_named _ _ _ _ c.text.ensures c.in_ok-push_new.ensures) c.in_ok-collect_values.ensures end)

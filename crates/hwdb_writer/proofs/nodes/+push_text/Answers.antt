@@ -21,7 +21,7 @@ overflow_cast-children t c = omega (arith, few c.args.node.now c.deref-children.
 pub push_rest-requires : goal.push_rest-requires
 push_rest-requires t c =
     let e = entries_all (place_in c.args.table.now) c.deref-children.result.now c.loop-child.child-index c.loop-child-test.false _ _ _ c.loop-child.invariant.entries in
-    let l = ap length (c.deref-2.ensures.value ∙ e) ∙ length-append c.args.entries.now.items _ in
+    let l = ap length (c.deref.ensures.value ∙ e) ∙ length-append c.args.entries.now.items _ in
     omega (arith, l, ap length c.as_slice-first.ensures.value)
 
 pub returns : goal.returns
@@ -36,8 +36,8 @@ returns t c =
     let x = texts_all place kids c.loop-child.child-index c.loop-child-test.false _ _ c.loop-child.invariant.texts in
     record {
       text = emitted place c.args.node.now kids vals k w c.args.out.now.items c.loop-child.out.items c.push_node.new.out.items c.push_rest.new.out.items c.push_values.new.out.items c.place-prefix.result _
-          x c.in_ok-push_node.ensures (c.place-prefix.ensures ∙ ap place c.deref.ensures.value) c.in_ok-push_rest.ensures
-          (kept_back c.args.entries.now.items _ _ _ n (c.deref-2.ensures.value ∙ e)) c.in_ok-push_values.ensures;
+          x c.in_ok-push_node.ensures (c.place-prefix.ensures ∙ ap place c.text.ensures) c.in_ok-push_rest.ensures
+          (kept_back c.args.entries.now.items _ _ _ n (c.deref.ensures.value ∙ e)) c.in_ok-push_values.ensures;
       entry = entered place c.args.node.now kids vals k w c.args.out.now.items c.loop-child.out.items c.args.entries.now.items c.truncate.new.self.items c.push_child.new.entries.items _ _
           x refl (ap length c.as_slice-at.ensures.value)
           c.in_ok-push_child.ensures (c.truncate.ensures.items ∙ kept_front c.args.entries.now.items _ c.loop-child.entries.items _ n e);

@@ -1,5 +1,5 @@
 use Rattle.std.proofs.Common.{◌<◌, ◌^◌, refl, sym, subst, arith}
-use Rattle.hwdb_writer.specs.Storable.{IsStorableValue}
+use Rattle.hwdb_writer.specs.Storable.{HasNoZero, IsStorableValue}
 use Rattle.hwdb_writer.proofs.Puts.{value_sound}
 use Rattle.hwdb_writer.proofs.assignments.Tree.set.Goals as goal
 
@@ -12,5 +12,6 @@ set_value-requires c =
       short = c.requires.short;
       pattern = c.requires.pattern;
       value = subst IsStorableValue (sym c.in_ok-value.ensures)
-          (value_sound _ given.key.now given.value.now c.args.path.now refl refl refl c.requires.key c.requires.value c.requires.path c.requires.priority p l);
+          (value_sound _ given.key.now given.value.now c.in_ok-path.path.value.items refl refl refl c.requires.key c.requires.value
+          (subst HasNoZero (sym c.in_ok-path.ensures.path) c.requires.path) c.requires.priority p l);
     }
