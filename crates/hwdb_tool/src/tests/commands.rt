@@ -6,6 +6,7 @@ use crate::updating::run_update;
 use hwdb_query::SourceFile;
 use hwdb_reader::DbFault;
 use std::alloc::{AllocError, Global};
+use std::process::Abort;
 use std::test::Fail;
 
 /// A text file of one of the folders; no name is no file.
@@ -197,25 +198,33 @@ fn answers(rt: HostRuntime) -> Result<(), Fail> {
     ];
     for (first, second, device, listed, printed) in rows {
         let made = update_of(rt.alloc(), &[first, second], MAX_BYTES, false)?;
-        let mut list: TakenBytes<256> = TakenBytes::new();
-        run_list(
+        answered(
+            &rt,
             rt.alloc(),
             made.database.taken(),
-            device.as_bytes(),
-            None,
-            None,
-            &mut list,
+            device,
+            listed,
+            printed,
         )?;
-        assert_eq!(rt; list.taken(), listed.as_bytes(), "list of {device}");
-        let mut query: TakenBytes<256> = TakenBytes::new();
-        run_query(
-            rt.alloc(),
-            made.database.taken(),
-            device.as_bytes(),
-            &mut query,
-        )?;
-        assert_eq!(rt; query.taken(), printed.as_bytes(), "query of {device}");
     }
+    Ok(())
+}
+
+/// What `list` and `query` print of a database for a device.
+fn answered(
+    rt: &impl Abort,
+    alloc: Global,
+    database: &[u8],
+    device: &str,
+    listed: &str,
+    printed: &str,
+) -> Result<(), Fail> {
+    let mut list: TakenBytes<256> = TakenBytes::new();
+    run_list(alloc, database, device.as_bytes(), None, None, &mut list)?;
+    assert_eq!(rt; list.taken(), listed.as_bytes(), "list of {device}");
+    let mut query: TakenBytes<256> = TakenBytes::new();
+    run_query(alloc, database, device.as_bytes(), &mut query)?;
+    assert_eq!(rt; query.taken(), printed.as_bytes(), "query of {device}");
     Ok(())
 }
 
