@@ -197,3 +197,40 @@ fn no_words(rt: HostRuntime) -> Result<(), Fail> {
     );
     Ok(())
 }
+
+/// An unknown option is told what it is like only where it is much like it, and a value that begins with `-` how it is
+/// passed.
+#[test]
+fn tips(rt: HostRuntime) -> Result<(), Fail> {
+    let rows = [
+        (
+            "hwdb update --foo",
+            "usage: error: unexpected argument '--foo' found\n\nFor more information, try '--help'.\n",
+        ),
+        (
+            "hwdb update --stric",
+            "usage: error: unexpected argument '--stric' found\n\n  tip: a similar argument exists: '--strict'\n\nUsage: hwdb update --strict\n\nFor more information, try '--help'.\n",
+        ),
+        (
+            "hwdb list --limit -1 a",
+            "usage: error: unexpected argument '-1' found\n\n  tip: to pass '-1' as the value of '--limit', use '--limit=-1'\n\nUsage: hwdb list [OPTIONS] <MODALIAS>\n\nFor more information, try '--help'.\n",
+        ),
+        (
+            "hwdb query -a",
+            "usage: error: unexpected argument '-a' found\n\n  tip: to pass '-a' as a value, use '-- -a'\n\nUsage: hwdb query [OPTIONS] <MODALIAS>\n\nFor more information, try '--help'.\n",
+        ),
+        (
+            "hwdb list --limit --afte a",
+            "usage: error: unexpected argument '--afte' found\n\n  tip: a similar argument exists: '--after'\n\nUsage: hwdb list --after <POS> <MODALIAS>\n\nFor more information, try '--help'.\n",
+        ),
+        (
+            "hwdb -r -x update",
+            "usage: error: unexpected argument '-x' found\n\nUsage: hwdb [OPTIONS] <COMMAND>\n\nFor more information, try '--help'.\n",
+        ),
+    ];
+    for (line, want) in rows {
+        let seen = told(rt.alloc(), line)?;
+        assert_eq!(rt; seen.as_str(), want, "{line}");
+    }
+    Ok(())
+}

@@ -13,6 +13,7 @@ ghost use Rattle.hwdb_words.specs.declared.job.WordsFault.TheVariants.{Memory};
 
 use crate::command::hwdb_command;
 use crate::job::{Job, Task, WordsFault};
+use crate::tips::with_fitting_tip;
 use clap::error::ErrorKind;
 use clap::{ArgMatches, Error};
 use std::alloc::{AllocError, Global};
@@ -134,7 +135,7 @@ fn job_of(
 }
 
 /// What is told of words that the command doesn't take.
-fn refusal_of(alloc: Global, error: &Error) -> WordsFault
+fn refusal_of(alloc: Global, error: &Error, words: &[String]) -> WordsFault
     ensures memory { kind_of error.now ≡ ErrorKind.OutOfMemory → result ≡ Memory }
     ensures told { IsToldOf (kind_of error.now) result }
 {
@@ -142,11 +143,20 @@ fn refusal_of(alloc: Global, error: &Error) -> WordsFault
     if kind == ErrorKind::OutOfMemory {
         return WordsFault::Memory;
     }
-    match error.to_string(alloc) {
+    match text_of_fault(alloc, error, words) {
         Err(_) => WordsFault::Memory,
         Ok(text) if kind == ErrorKind::DisplayHelp => WordsFault::Help { text },
         Ok(text) => WordsFault::Usage { text },
     }
+}
+
+/// The text of help, or of a fault of the words.
+fn text_of_fault(alloc: Global, error: &Error, words: &[String]) -> Result<String, AllocError> {
+    let text = error.to_string(alloc)?;
+    if error.kind() == ErrorKind::UnknownArgument {
+        return with_fitting_tip(alloc, text.as_str(), words);
+    }
+    Ok(text)
 }
 
 /// What the words ask for; the first is the program's name. Words that the command doesn't take give
@@ -160,7 +170,7 @@ pub fn read_words(alloc: Global, words: &[String]) -> Result<Job, WordsFault>
     let command = hwdb_command(alloc)?;
     let matches = match command.try_get_matches_from(words) {
         Ok(matches) => matches,
-        Err(error) => return Err(refusal_of(alloc, &error)),
+        Err(error) => return Err(refusal_of(alloc, &error, words)),
     };
     match matches.subcommand() {
         Some((name, inner)) => {
