@@ -13,14 +13,8 @@ fn words_of(rt: &HostRuntime) -> io::Result<Vec<String>> {
 }
 
 fn main(rt: HostRuntime) -> ExitCode {
-    let mut out = ToWrite {
-        inner: rt.stdout(),
-        failed: 0,
-    };
-    let mut err = ToWrite {
-        inner: rt.stderr(),
-        failed: 0,
-    };
+    let mut out = ToWrite::new(rt.stdout());
+    let mut err = ToWrite::new(rt.stderr());
     match words_of(&rt) {
         Ok(words) => ExitCode::from(program(&rt, rt.alloc(), &words, &mut out, &mut err)),
         Err(error) => {

@@ -29,10 +29,7 @@ fn words_of(rt: &HostRuntime) -> io::Result<Vec<String>> {
 fn bytes_of(rt: &HostRuntime, alloc: Global, path: &str) -> Result<Vec<u8>, ToolError> {
     match File::open(rt, path) {
         Ok(file) => {
-            let mut source = FromRead {
-                inner: file,
-                failed: 0,
-            };
+            let mut source = FromRead::new(file);
             read_all(alloc, &mut source, MAX_BYTES)
         }
         Err(_) => Err(ToolError::Read),
@@ -56,10 +53,7 @@ fn measured(
 
 /// Writes a count as a line.
 fn print(rt: &HostRuntime, count: u64) -> Result<(), ToolError> {
-    let mut out = ToWrite {
-        inner: rt.stdout(),
-        failed: 0,
-    };
+    let mut out = ToWrite::new(rt.stdout());
     let mut number = Buffer::new();
     write_text(&mut out, number.format(count).as_bytes())?;
     write_text(&mut out, b" properties\n")
@@ -84,10 +78,7 @@ fn main(rt: HostRuntime) -> ExitCode {
     match run(&rt, &words) {
         Ok(()) => ExitCode::from(0),
         Err(_) => {
-            let mut err = ToWrite {
-                inner: rt.stderr(),
-                failed: 0,
-            };
+            let mut err = ToWrite::new(rt.stderr());
             let _ = write_text(&mut err, b"usage: hwdb_bench DATABASE DEVICES ROUNDS\n");
             ExitCode::from(1)
         }

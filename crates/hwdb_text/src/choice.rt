@@ -43,8 +43,9 @@ impl Chosen {
     }
 }
 
-/// Whether a name counts: it ends in `.hwdb`, doesn't begin with `.` and holds no byte 0.
-fn counts(name: &[u8]) -> bool
+/// Whether a name counts: it ends in `.hwdb`, doesn't begin with `.` and holds no byte 0 (hwdb(7), but for
+/// the last two). Doesn't allocate; reads the name once.
+pub fn counts(name: &[u8]) -> bool
     ensures { result ≡ Choice.counts name.now }
 {
     if !name.ends_with(b".hwdb") {

@@ -15,6 +15,6 @@ mod records;
 #[cfg(test)]
 mod tests;
 
-pub use crate::choice::{Chosen, select};
+pub use crate::choice::{Chosen, counts, select};
 pub use crate::outcome::{Assignment, Fault, FaultKind, Given, Parsed, Scanned, TextError};
 pub use crate::parsing::{next_line, parse, scan};

@@ -14,6 +14,10 @@ use Rattle.hwdb_tool.specs.Texts.{properties_text, hits_text, within_limit}
 use Rattle.hwdb_tool.specs.declared.errors.ToolError.{ToolError}
 use Rattle.hwdb_tool.specs.declared.errors.ToolError.TheVariants.{Read, Write, TooLong, TooManyFiles, TooManyLines, TooLarge, BadPosition, PageZero, BadDatabase, Memory}
 
+-- how many bytes a text file or a database has at most: 256 MiB
+abbrev pub max_file : ℕ
+max_file = 268435456
+
 -- the properties that a database gives a device, as text
 abbrev pub query_text : List ℕ → Tree → List ℕ
 query_text device t = properties_text (effective_of (answers device t))

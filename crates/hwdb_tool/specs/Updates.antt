@@ -6,6 +6,7 @@ use Rattle.hwdb_query.specs.Compiling.{Source, FaultIn, AreAccepted, IsRefusal, 
 use Rattle.hwdb_query.specs.declared.errors.CompileError.TheVariants as compiling
 use Rattle.hwdb_tool.specs.Devices.{AppendsPrefix}
 use Rattle.hwdb_tool.specs.Engines.{IsTextOf, Printed, CutShort, query_text}
+use Rattle.hwdb_tool.specs.Headline.{IsCompiled}
 use Rattle.hwdb_tool.specs.Texts.{faults_text, faults_text_at}
 use Rattle.hwdb_tool.specs.declared.errors.ToolError.{ToolError}
 use Rattle.hwdb_tool.specs.declared.errors.ToolError.TheVariants.{Read, Write, TooLong, TooManyFiles, TooManyLines, TooLarge, BadPosition, PageZero, BadDatabase, Memory}
@@ -21,6 +22,7 @@ pub record Updated (etc usr : List Source) (max_bytes : ℕ) (strict : Bool) (st
   pub accepted : AreAccepted etc usr
   pub database : List ℕ
   pub written : IsWritten (map_of_files etc usr) database
+  pub compiled : IsCompiled etc usr database
   pub within : length database ≤ max_bytes
   pub faults : Appends err_before err_now (faults_text (all_faults etc usr))
   pub taken : Appends out_before out_now database

@@ -2,7 +2,8 @@
 ghost use Rattle.std.specs.Prelude.{◌≡◌, ◌≢◌, ◌⊎◌, ◌∷◌, [], IfOk, IfErr, OnOk, IsErrOf};
 ghost use Rattle.std.specs.Io.KnownBytes.{Appends};
 ghost use Rattle.hwdb_query.specs.Compiling.{sources};
-ghost use Rattle.hwdb_tool.specs.Devices.{HasFailed};
+ghost use Rattle.hwdb_tool.specs.Devices.{HasFailed, OneOfTwoFailed};
+ghost use Rattle.hwdb_tool.specs.Engines.{max_file};
 ghost use Rattle.hwdb_tool.specs.Headline.{last_values_text};
 ghost use Rattle.hwdb_tool.specs.Updates.{lone, IsAnswerOf, Asked, AskCutShort, IsAskRefusal};
 
@@ -35,7 +36,7 @@ fn lone(alloc: Global, bytes: &[u8]) -> Result<SourceFile, AllocError>
 fn answer_of(alloc: Global, file: &str, bytes: &[u8], device: &[u8]) -> Result<Answer, ToolError>
     ensures answer { IfOk result (λ a. IsAnswerOf file.now bytes.now device.now a.faults.items a.properties.items) }
     ensures headline { IfOk result (λ a. a.properties.items ≡ last_values_text device.now (lone bytes.now) []) }
-    ensures refusals { IfErr result (λ e. (e ≢ ToolError.Write) × IsAskRefusal bytes.now MAX_BYTES e) }
+    ensures refusals { IfErr result (λ e. (e ≢ ToolError.Write) × IsAskRefusal bytes.now max_file e) }
 {
     let source = lone(alloc, bytes)?;
     let compiled = compile(alloc, &[source], &[], MAX_BYTES)?;
@@ -58,9 +59,13 @@ pub fn ask<O: Sink, E: Sink>(
     ensures asked { OnOk result (Asked file.now bytes.now device.now (E.taken err.old) (E.taken err.new) (O.taken out.old) (O.taken out.new)) }
     ensures headline { OnOk result (Appends (O.taken out.old) (O.taken out.new) (last_values_text device.now (lone bytes.now) [])) }
 
-    ensures refusals { IfErr result (IsAskRefusal bytes.now MAX_BYTES) }
+    ensures refusals { IfErr result (IsAskRefusal bytes.now max_file) }
     ensures cause { IsErrOf result ToolError.Write
         → HasFailed (E.failures err.old) (E.failures err.new) ⊎ HasFailed (O.failures out.old) (O.failures out.new) }
+    ensures unfailed { OnOk result ((E.failures err.new ≡ E.failures err.old)
+        × (O.failures out.new ≡ O.failures out.old)) }
+    ensures last { IsErrOf result ToolError.Write → OneOfTwoFailed (E.failures err.old)
+        (E.failures err.new) (O.failures out.old) (O.failures out.new) }
     ensures cut_short { IsErrOf result ToolError.Write
         → AskCutShort file.now bytes.now device.now (E.taken err.old) (E.taken err.new) (O.taken out.old) (O.taken out.new) }
     ensures untouched { IfErr result (λ e. e ≢ ToolError.Write → (err.new ≡ err.old) × (out.new ≡ out.old)) }

@@ -3,6 +3,8 @@ ghost use Rattle.std.specs.Prelude.{◌≡◌, ◌<◌, ◌≤◌, ℕ, List, Op
 ghost use Rattle.std.specs.Io.KnownBytes.{Keeps, ReadConsumes, WriteAppends};
 ghost use Rattle.hwdb_tool.specs.Devices.{CountsFailures};
 
+use crate::causes::Cause;
+
 /// A call of a device that failed, for whatever reason.
 #[derive(Clone, Copy, Debug)]
 pub struct DeviceFailed;
@@ -39,4 +41,9 @@ pub trait Sink {
     fn flush(&mut self) -> Result<(), DeviceFailed>
         ensures bytes { Keeps (taken self.old) (taken self.new) }
         ensures cause { CountsFailures (failures self.old) (failures self.new) result };
+
+    /// Why the last call that failed did, where the sink knows it. For messages alone: no promise speaks of it.
+    fn cause(&self) -> Option<Cause> {
+        None
+    }
 }

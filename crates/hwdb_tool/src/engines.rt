@@ -4,7 +4,7 @@ ghost use Rattle.std.specs.Prelude.{◌≡◌, ◌≢◌, ◌⊎◌, List, IfOk,
 ghost use Rattle.std.specs.Io.KnownBytes.{Appends};
 ghost use Rattle.hwdb_query.specs.Compiling.{Source};
 ghost use Rattle.hwdb_query.specs.Hits.{next_spot};
-ghost use Rattle.hwdb_tool.specs.Devices.{HasFailed};
+ghost use Rattle.hwdb_tool.specs.Devices.{HasFailed, OneFailed};
 ghost use Rattle.hwdb_tool.specs.Engines.{query_text, IsTextOf, Printed, CutShort, IsDatabaseRefusal, IsQueryRefusal, IsAfter, IsPositionRefusal, Listed, ListCutShort, ListedLines, IsListRefusal};
 ghost use Rattle.hwdb_tool.specs.Headline.{IsCompiled, LinesTaken, last_values_text};
 
@@ -51,6 +51,8 @@ pub fn run_query<O: Sink>(
 
     ensures refusals { IfErr result (IsQueryRefusal bytes.now) }
     ensures cause { IsErrOf result ToolError.Write → HasFailed (O.failures out.old) (O.failures out.new) }
+    ensures unfailed { OnOk result (O.failures out.new ≡ O.failures out.old) }
+    ensures last { IsErrOf result ToolError.Write → OneFailed (O.failures out.old) (O.failures out.new) }
     ensures cut_short { IsErrOf result ToolError.Write → CutShort (query_text device.now) bytes.now (O.taken out.old) (O.taken out.new) }
     ensures untouched { IfErr result (λ e. e ≢ ToolError.Write → out.new ≡ out.old) }
 {
@@ -86,6 +88,8 @@ pub fn run_list<O: Sink>(
 
     ensures refusals { IfErr result (IsListRefusal after.entry bytes.now) }
     ensures cause { IsErrOf result ToolError.Write → HasFailed (O.failures out.old) (O.failures out.new) }
+    ensures unfailed { OnOk result (O.failures out.new ≡ O.failures out.old) }
+    ensures last { IsErrOf result ToolError.Write → OneFailed (O.failures out.old) (O.failures out.new) }
     ensures cut_short { IsErrOf result ToolError.Write → ListCutShort device.now after.entry limit bytes.now (O.taken out.old) (O.taken out.new) }
     ensures whole_lines { IsErrOf result ToolError.Memory
         → (out.new ≡ out.old) ⊎ ListedLines device.now after.entry limit bytes.now (O.taken out.old) (O.taken out.new) }

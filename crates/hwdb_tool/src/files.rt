@@ -1,138 +1,256 @@
-//! Files and folders: what is read, and the output file.
-ghost use Rattle.std.specs.Prelude.{◌≡◌, ◌≤◌, IfOk, length, None};
+//! Files and folders: what is read, and the file that takes the database's place.
+ghost use Rattle.std.specs.Prelude.{◌≡◌};
 
-use crate::adapters::{FromRead, after_failure};
-use crate::devices::{DeviceFailed, Sink};
+use crate::adapters::FromRead;
+use crate::causes::Cause;
 use crate::engines::MAX_BYTES;
 use crate::errors::ToolError;
+use crate::refusals::Refusal;
 use crate::transfer::read_all;
+use hwdb_text::counts;
+use itoa::Buffer;
 use std::alloc::{AllocError, Global};
-use std::fs::{self, File};
-use std::io::{self, ErrorKind, Write};
+use std::fs::{self, File, Metadata, OpenFile, OpenOptions, Permissions};
+use std::io::{self, ErrorKind, Read, Write};
+use std::os::unix::fs::{FileTypeExt, MetadataExt, OpenOptionsExt, PermissionsExt};
 use std::rt::Files;
+use std::str::from_utf8;
 
-/// A folder's listing is read for at most so many entries.
-const MAX_ENTRIES: usize = 1_048_576;
+/// The number of the device /dev/null: on Linux 1, 3.
+const NULL_DEVICE: u64 = 0x103;
 
-/// The names in a folder; none where it isn't there. `ToolError::Read` where it can't be listed, has more
-/// than `MAX_ENTRIES` entries, or has a name that isn't text.
-pub fn names_in<R: Files + Alloc + Clone + Drop>(
-    alloc: Global,
-    rt: &R,
-    path: &str,
-) -> Result<Vec<String>, ToolError> {
+/// The names of a folder's text files, in no order; none where the folder isn't there. Other entries of the
+/// folder never matter.
+///
+/// Refuses a folder that can't be listed, and a text file's name that isn't UTF-8, with its path.
+pub fn names_in<R: Files>(alloc: Global, rt: &R, folder: &str) -> Result<Vec<String>, Refusal> {
     let mut names = Vec::new(alloc);
-    let entries = match fs::read_dir(rt, path) {
-        Ok(entries) => entries,
+    // The slash has a link to a folder followed.
+    let path = joined(alloc, folder, "/")?;
+    let listing = match rt.open_dir(path.as_str()) {
+        Ok(entries) => all_of(alloc, entries, folder)?,
         Err(error) if error.kind() == ErrorKind::NotFound => return Ok(names),
-        Err(_) => return Err(ToolError::Read),
+        Err(error) => return Err(Refusal::read(alloc, folder.as_bytes(), Cause::of(&error))),
     };
-    for entry in entries {
-        let Ok(entry) = entry else {
-            return Err(ToolError::Read);
-        };
-        if names.len() >= MAX_ENTRIES {
-            return Err(ToolError::Read);
+    // The listing has byte 0 behind each name.
+    for name in listing.split(|byte| *byte == 0) {
+        if counts(name) {
+            let name = text_of(alloc, path.as_str(), name)?;
+            names.push(name).map_err(AllocError::from)?;
         }
-        add_name(alloc, &mut names, entry.file_name())?;
     }
     Ok(names)
 }
 
-/// Adds a name to a list.
-fn add_name(alloc: Global, names: &mut Vec<String>, name: &str) -> Result<(), AllocError> {
-    names.push(String::from_str(alloc, name)?)?;
-    Ok(())
+/// A name of the folder at a path, as text.
+fn text_of(alloc: Global, folder: &str, name: &[u8]) -> Result<String, Refusal> {
+    match from_utf8(name) {
+        Ok(name) => Ok(String::from_str(alloc, name)?),
+        Err(_) => {
+            let mut path = Vec::from_slice(alloc, folder.as_bytes())?;
+            path.extend_from_slice(name)?;
+            Err(Refusal::At(ToolError::Read, path, Some(Cause::Name)))
+        }
+    }
 }
 
-/// All bytes of a file, or None where it isn't there. `ToolError::Read` where it can't be read,
-/// `ToolError::TooLong` where it has more than `MAX_BYTES` bytes.
-pub fn bytes_of<R: Files>(alloc: Global, rt: &R, path: &str) -> Result<Option<Vec<u8>>, ToolError>
+/// Two texts as one path.
+pub fn joined(alloc: Global, front: &str, back: &str) -> Result<String, AllocError> {
+    let mut path = String::from_str(alloc, front)?;
+    path.push_str(back)?;
+    Ok(path)
+}
+
+/// All bytes that a reader has left, of which refusals say that they are those at the path.
+fn all_of<R: Read + Drop>(alloc: Global, reader: R, path: &str) -> Result<Vec<u8>, Refusal> {
+    let mut source = FromRead::new(reader);
+    match read_all(alloc, &mut source, MAX_BYTES) {
+        Ok(bytes) => Ok(bytes),
+        Err(error) => Err(Refusal::at(alloc, error, path.as_bytes(), source.cause)),
+    }
+}
+
+/// All bytes of whatever can be read at a path: a file, a pipe, a device.
+pub fn any_bytes<R: Files>(alloc: Global, rt: &R, path: &str) -> Result<Vec<u8>, Refusal>
 where
     R::File: Drop,
 {
     match File::open(rt, path) {
-        Ok(file) => {
-            let mut source = FromRead {
-                inner: file,
-                failed: 0,
-            };
-            Ok(Some(read_all(alloc, &mut source, MAX_BYTES)?))
-        }
-        Err(error) if error.kind() == ErrorKind::NotFound => Ok(None),
-        Err(_) => Err(ToolError::Read),
+        Ok(file) => all_of(alloc, file, path),
+        Err(error) => Err(Refusal::read(alloc, path.as_bytes(), Cause::of(&error))),
     }
 }
 
-/// A file that is opened, and cut to nothing, at its first write, and whose folder is made then.
-#[derive(Drop)]
-pub struct OutFile<'a, R: Files> {
-    rt: &'a R,
-    folder: &'a str,
-    path: &'a str,
-    file: Option<R::File>,
-    failed: u64,
+/// What stands in a regular file's place; None where it is one.
+fn other_than_file(found: &Metadata) -> Option<Cause> {
+    let kind = found.file_type();
+    if kind.is_file() {
+        None
+    } else if kind.is_dir() {
+        Some(Cause::Folder)
+    } else if kind.is_fifo() {
+        Some(Cause::Pipe)
+    } else if kind.is_socket() {
+        Some(Cause::Socket)
+    } else {
+        Some(Cause::Device)
+    }
 }
 
-impl<'a, R: Files> OutFile<'a, R>
+/// All bytes of a regular file; a link is followed. What else stands there isn't opened: an open would wait
+/// for the other end of a pipe.
+fn file_bytes<R: Files>(
+    alloc: Global,
+    rt: &R,
+    path: &str,
+    found: &Metadata,
+) -> Result<Vec<u8>, Refusal>
 where
     R::File: Drop,
 {
-    /// The file at a path, in a folder.
-    pub fn new(rt: &'a R, folder: &'a str, path: &'a str) -> Self {
-        OutFile {
+    match other_than_file(found) {
+        None => any_bytes(alloc, rt, path),
+        Some(cause) => Err(Refusal::read(alloc, path.as_bytes(), cause)),
+    }
+}
+
+/// All bytes of a text file that was chosen. /dev/null is an empty one: a link to it masks a file.
+pub fn text_bytes<R: Files>(alloc: Global, rt: &R, path: &str) -> Result<Vec<u8>, Refusal>
+where
+    R::File: Drop,
+{
+    match fs::metadata(rt, path) {
+        Ok(found) if found.file_type().is_char_device() && found.rdev() == NULL_DEVICE => {
+            Ok(Vec::new(alloc))
+        }
+        Ok(found) => file_bytes(alloc, rt, path, &found),
+        Err(error) => Err(Refusal::read(alloc, path.as_bytes(), Cause::of(&error))),
+    }
+}
+
+/// All bytes of a database, or None where nothing stands at the path, not even a link.
+pub fn database_bytes<R: Files>(
+    alloc: Global,
+    rt: &R,
+    path: &str,
+) -> Result<Option<Vec<u8>>, Refusal>
+where
+    R::File: Drop,
+{
+    if let Err(error) = fs::symlink_metadata(rt, path) {
+        if error.kind() == ErrorKind::NotFound {
+            return Ok(None);
+        }
+    }
+    match fs::metadata(rt, path) {
+        Ok(found) => Ok(Some(file_bytes(alloc, rt, path, &found)?)),
+        Err(error) => Err(Refusal::read(alloc, path.as_bytes(), Cause::of(&error))),
+    }
+}
+
+/// How the name of a file begins that is to be the database: as systemd-hwdb's does.
+const PART: &str = "/.#hwdb.bin";
+
+/// How many names are tried for it.
+const MOST_PARTS: u32 = 65536;
+
+/// Who may read and write a file while it is written, and once it is the database: systemd-hwdb's modes.
+const PART_MODE: u32 = 0o600;
+
+const DATABASE_MODE: u32 = 0o444;
+
+/// A file that takes another one's place once it is whole on the disk. It stands beside that file, under a
+/// name that no other process has, from the first write on; its folder is made then.
+#[derive(Drop)]
+pub struct Replacement<'a, R: Files> {
+    rt: &'a R,
+    folder: &'a str,
+    target: &'a str,
+    /// Where it stands until it takes the target's place.
+    part: String,
+    file: Option<R::File>,
+}
+
+impl<'a, R: Files> Replacement<'a, R>
+where
+    R::File: Drop,
+{
+    /// Nothing is made yet of the file that is to stand at `target`, in `folder`.
+    pub fn new(alloc: Global, rt: &'a R, folder: &'a str, target: &'a str) -> Self {
+        Replacement {
             rt,
             folder,
-            path,
+            target,
+            part: String::new(alloc),
             file: None,
-            failed: 0,
         }
     }
 
-    fn write_some(&mut self, buf: &[u8]) -> io::Result<usize>
-        ensures bound { IfOk result (λ n. n ≤ length buf.now) }
-        ensures same { self.new.failed ≡ self.old.failed }
-    {
+    /// Makes the file, under the first name that is free.
+    fn create(&mut self) -> io::Result<R::File> {
+        fs::create_dir_all(self.rt, self.folder)?;
+        let mut options = OpenOptions::new();
+        options.write(true).create_new(true).mode(PART_MODE);
+        for number in 0..MOST_PARTS {
+            let mut digits = Buffer::new();
+            self.part.clear();
+            self.part.push_str(self.folder)?;
+            self.part.push_str(PART)?;
+            self.part.push_str(digits.format(number))?;
+            match options.open(self.rt, self.part.as_str()) {
+                Err(error) if error.kind() == ErrorKind::AlreadyExists => {}
+                made => return made,
+            }
+        }
+        Err(io::Error::from(ErrorKind::AlreadyExists))
+    }
+
+    /// Puts the file, of which all is written, in the target's place; after an error it is gone, and what
+    /// stood there stands. Only where the folder can't be synced in the end may a crash bring that back.
+    pub fn replace(mut self) -> io::Result<()> {
+        let Some(file) = self.file.take() else {
+            return Ok(());
+        };
+        if let Err(error) = self.settle(file) {
+            let _ = fs::remove_file(self.rt, self.part.as_str());
+            return Err(error);
+        }
+        File::open(self.rt, self.folder)?.sync_all()
+    }
+
+    /// Has the file on the disk, and renames it.
+    fn settle(&self, file: R::File) -> io::Result<()> {
+        file.set_permissions(Permissions::from_mode(DATABASE_MODE))?;
+        file.sync_all()?;
+        fs::rename(self.rt, self.part.as_str(), self.target)
+    }
+
+    /// Takes the file away again, if it was made.
+    pub fn remove(mut self) {
+        if self.file.take().is_some() {
+            let _ = fs::remove_file(self.rt, self.part.as_str());
+        }
+    }
+}
+
+impl<'a, R: Files> Write for Replacement<'a, R>
+where
+    R::File: Drop,
+{
+    fn write(&mut self, buf: &[u8]) -> io::Result<usize> {
         if self.file.is_none() {
-            fs::create_dir_all(self.rt, self.folder)?;
-            self.file = Some(File::create(self.rt, self.path)?);
+            self.file = Some(self.create()?);
         }
         match &mut self.file {
             Some(file) => file.write(buf),
             None => Ok(0),
         }
     }
-}
 
-impl<'a, R: Files> Sink for OutFile<'a, R>
-where
-    R::File: Drop,
-{
-    ghost taken = { λ _. None };
-
-    ghost failures = { λ s. s.failed };
-
-    fn write(&mut self, buf: &[u8]) -> Result<usize, DeviceFailed> {
-        match self.write_some(buf) {
-            Ok(n) if n > 0 || buf.is_empty() => Ok(n),
-            _ => {
-                self.failed = after_failure(self.failed);
-                Err(DeviceFailed)
-            }
-        }
-    }
-
-    fn flush(&mut self) -> Result<(), DeviceFailed> {
-        let flushed = match &mut self.file {
+    fn flush(&mut self) -> io::Result<()> {
+        match &mut self.file {
             Some(file) => file.flush(),
             None => Ok(()),
-        };
-        match flushed {
-            Ok(()) => Ok(()),
-            Err(_) => {
-                self.failed = after_failure(self.failed);
-                Err(DeviceFailed)
-            }
         }
     }
 }

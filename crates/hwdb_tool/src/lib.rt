@@ -8,6 +8,7 @@
 
 pub mod adapters;
 pub mod asking;
+pub mod causes;
 pub mod devices;
 pub mod engines;
 pub mod errors;
@@ -24,6 +25,7 @@ pub mod updating;
 
 pub use adapters::{FromRead, ToWrite};
 pub use asking::ask;
+pub use causes::Cause;
 pub use devices::{DeviceFailed, Sink, Source};
 pub use engines::{run_list, run_query};
 pub use errors::ToolError;

@@ -1,7 +1,7 @@
 //! Printing the hits of a cursor, one line after another.
 ghost use Rattle.std.specs.Prelude.{◌≡◌, ◌≢◌, ◌≤◌, OnOk, IfErr, IsErrOf};
 ghost use Rattle.std.specs.Io.KnownBytes.{Appends};
-ghost use Rattle.hwdb_tool.specs.Devices.{HasFailed, AppendsPrefix};
+ghost use Rattle.hwdb_tool.specs.Devices.{HasFailed, OneFailed, AppendsPrefix};
 ghost use Rattle.hwdb_tool.specs.Engines.{AppendsLines, IsPrintRefusal, one_less};
 ghost use Rattle.hwdb_tool.specs.Texts.{hits_text, within_limit};
 
@@ -31,8 +31,10 @@ pub fn print_hits<O: Sink>(
 ) -> Result<(), ToolError>
     ensures printed { OnOk result (Appends (O.taken out.old) (O.taken out.new) (hits_text (within_limit limit hits.old.to_come))) }
     ensures refusals { IfErr result IsPrintRefusal }
-    ensures later { O.failures out.old ≤ O.failures out.new }
     ensures cause { IsErrOf result ToolError.Write → HasFailed (O.failures out.old) (O.failures out.new) }
+    ensures unfailed { OnOk result (O.failures out.new ≡ O.failures out.old) }
+    ensures last { IsErrOf result ToolError.Write → OneFailed (O.failures out.old) (O.failures out.new) }
+    ensures refused { IsErrOf result ToolError.Memory → O.failures out.new ≡ O.failures out.old }
     ensures cut_short { IsErrOf result ToolError.Write → AppendsPrefix (O.taken out.old) (O.taken out.new) (hits_text (within_limit limit hits.old.to_come)) }
     ensures whole_lines { IsErrOf result ToolError.Memory → AppendsLines (O.taken out.old) (O.taken out.new) (within_limit limit hits.old.to_come) }
 {

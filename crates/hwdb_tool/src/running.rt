@@ -2,12 +2,14 @@
 ghost use Rattle.std.specs.Prelude.{◌≡◌, ◌≤◌, map, string_bytes};
 ghost use Rattle.hwdb_words.specs.Refusals.{AreWrong};
 
+use crate::adapters::ToWrite;
 use crate::asking::ask;
+use crate::causes::Cause;
 use crate::devices::Sink;
 use crate::engines::{MAX_BYTES, run_list, run_query};
 use crate::errors::ToolError;
-use crate::files::{OutFile, bytes_of, names_in};
-use crate::refusals::{Refusal, refuse, refuse_for};
+use crate::files::{Replacement, any_bytes, database_bytes, joined, names_in, text_bytes};
+use crate::refusals::{Refusal, refuse_for, refuse_text};
 use crate::transfer::write_text;
 use crate::updating::run_update;
 use hwdb_query::SourceFile;
@@ -28,7 +30,8 @@ const DATABASE: &str = "/hwdb.bin";
 
 /// Does what the words say, the first of which is the program's name, and answers the status: 0, or 1
 /// after a refusal, whose line goes to `err`, and where `--strict` says so. Words that the command doesn't
-/// take, and that ask for no help, are refused.
+/// take, and that ask for no help, are refused. Where the reader of `out` went away the status is 0, and
+/// nothing is said.
 pub fn program<R: Files + Alloc + Clone + Drop, O: Sink, E: Sink>(
     rt: &R,
     alloc: Global,
@@ -44,17 +47,34 @@ where
     match read_words(alloc, words) {
         Ok(job) => match run(rt, alloc, &job, out, err) {
             Ok(is_faulty) => u8::from(is_faulty),
-            Err(refusal) => refuse_for(&refusal, err),
+            Err(refusal) => refuse_job(alloc, refusal, out, err),
         },
         Err(WordsFault::Help { text }) => match write_text(out, text.as_bytes()) {
             Ok(()) => 0,
-            Err(_) => refuse(err, &["hwdb: cannot write"]),
+            Err(error) => refuse_job(alloc, Refusal::from(error), out, err),
         },
         Err(WordsFault::Usage { text }) => {
             let _ = write_text(err, text.as_bytes());
             1
         }
-        Err(WordsFault::Memory) => refuse(err, &["hwdb: out of memory"]),
+        Err(WordsFault::Memory) => refuse_text(err, "hwdb: out of memory"),
+    }
+}
+
+/// Writes the line of the refusal, and answers the status. Where `out` failed the line says so; but where its
+/// reader went away, as `head` does, nothing is said, and the status is 0.
+fn refuse_job<O: Sink, E: Sink>(alloc: Global, refusal: Refusal, out: &O, err: &mut E) -> u8
+    ensures { result ≤ 1 }
+{
+    match (refusal, out.cause()) {
+        (Refusal::Plain(ToolError::Write), Some(cause)) => {
+            if cause.is_broken_pipe() {
+                return 0;
+            }
+            let refusal = Refusal::write(alloc, b"standard output", Some(cause));
+            refuse_for(&refusal, err)
+        }
+        (refusal, _) => refuse_for(&refusal, err),
     }
 }
 
@@ -80,7 +100,7 @@ where
             run_query(alloc, &bytes, device.as_bytes(), out)?;
         }
         Task::Ask { file, device } => {
-            let bytes = file_bytes(rt, alloc, file.as_str())?;
+            let bytes = any_bytes(alloc, rt, file.as_str())?;
             ask(alloc, file.as_str(), &bytes, device.as_bytes(), out, err)?;
         }
         Task::List {
@@ -96,54 +116,19 @@ where
     Ok(false)
 }
 
-/// Two texts as one path.
-fn joined(alloc: Global, front: &str, back: &str) -> Result<String, AllocError> {
-    let mut path = String::from_str(alloc, front)?;
-    path.push_str(back)?;
-    Ok(path)
-}
-
-/// All bytes of a file that has to be there.
-fn file_bytes<R: Files>(rt: &R, alloc: Global, path: &str) -> Result<Vec<u8>, Refusal>
-where
-    R::File: Drop,
-{
-    match bytes_of(alloc, rt, path) {
-        Ok(Some(bytes)) => Ok(bytes),
-        Ok(None) => Err(Refusal::at(alloc, ToolError::Read, path)),
-        Err(error) => Err(Refusal::at(alloc, error, path)),
-    }
-}
-
 /// The database below the root: the one of `/etc`, else the one of `/usr/lib`.
 fn database<R: Files>(rt: &R, alloc: Global, root: &str) -> Result<Vec<u8>, Refusal>
 where
     R::File: Drop,
 {
     for folder in [ETC_FOLDER, USR_FOLDER] {
-        let mut path = joined(alloc, root, folder)?;
-        path.push_str(DATABASE)?;
-        match bytes_of(alloc, rt, path.as_str()) {
-            Ok(Some(bytes)) => return Ok(bytes),
-            Ok(None) => {}
-            Err(error) => return Err(Refusal::at(alloc, error, path.as_str())),
+        let folder = joined(alloc, root, folder)?;
+        let path = joined(alloc, folder.as_str(), DATABASE)?;
+        if let Some(bytes) = database_bytes(alloc, rt, path.as_str())? {
+            return Ok(bytes);
         }
     }
     Err(Refusal::NoDatabase)
-}
-
-/// The names in a folder below the root.
-fn listed<R: Files + Alloc + Clone + Drop>(
-    rt: &R,
-    alloc: Global,
-    root: &str,
-    folder: &str,
-) -> Result<Vec<String>, Refusal> {
-    let path = joined(alloc, root, folder)?;
-    match names_in(alloc, rt, path.as_str()) {
-        Ok(names) => Ok(names),
-        Err(error) => Err(Refusal::at(alloc, error, path.as_str())),
-    }
 }
 
 /// The chosen files of both folders, read.
@@ -187,15 +172,27 @@ where
     };
     for file in chosen {
         let path = joined(alloc, root, file.path(alloc)?.as_str())?;
-        let bytes = file_bytes(rt, alloc, path.as_str())?;
+        let bytes = text_bytes(alloc, rt, path.as_str())?;
         sources.add(file, bytes)?;
     }
     Ok(sources)
 }
 
-/// Compiles the text files of both folders into the database of one, and answers whether `--strict` ends
-/// it with status 1.
-fn update<R: Files + Alloc + Clone + Drop, E: Sink>(
+/// The names of the text files in a folder below the root.
+fn listed<R: Files>(
+    rt: &R,
+    alloc: Global,
+    root: &str,
+    folder: &str,
+) -> Result<Vec<String>, Refusal> {
+    let path = joined(alloc, root, folder)?;
+    names_in(alloc, rt, path.as_str())
+}
+
+/// Compiles the text files of both folders into the database of one, which takes the old one's place once it
+/// is whole on the disk. Answers whether `--strict` ends it with status 1. After a refusal the old database
+/// stands as it was, and no new file.
+fn update<R: Files, E: Sink>(
     rt: &R,
     alloc: Global,
     root: &str,
@@ -211,15 +208,84 @@ where
     let sources = read_chosen(rt, alloc, root, chosen)?;
     let folder = joined(alloc, root, if job.usr { USR_FOLDER } else { ETC_FOLDER })?;
     let path = joined(alloc, folder.as_str(), DATABASE)?;
-    let mut file = OutFile::new(rt, folder.as_str(), path.as_str());
-    let status = run_update(
+    let status = write_database(
+        rt,
+        alloc,
+        &sources,
+        folder.as_str(),
+        path.as_str(),
+        job.strict,
+        err,
+    )?;
+    Ok(status != 0)
+}
+
+/// Writes the database of the files beside the one at the path, in a folder, and puts it in its place. Answers the
+/// status of the update.
+fn write_database<R: Files, E: Sink>(
+    rt: &R,
+    alloc: Global,
+    sources: &Sources,
+    folder: &str,
+    path: &str,
+    strict: bool,
+    err: &mut E,
+) -> Result<u8, Refusal>
+where
+    R::File: Drop,
+{
+    let mut out = ToWrite::new(Replacement::new(alloc, rt, folder, path));
+    let updated = run_update(
         alloc,
         &sources.etc,
         &sources.usr,
         MAX_BYTES,
-        job.strict,
-        &mut file,
+        strict,
+        &mut out,
         err,
-    )?;
-    Ok(status != 0)
+    );
+    match updated {
+        Ok(status) => {
+            put_in_place(alloc, out, path)?;
+            Ok(status)
+        }
+        Err(error) => Err(taken_back(alloc, out, error, path)),
+    }
+}
+
+/// Puts the new file, of which all is written, in the place of the one at the path.
+fn put_in_place<R: Files>(
+    alloc: Global,
+    out: ToWrite<Replacement<'_, R>>,
+    path: &str,
+) -> Result<(), Refusal>
+where
+    R::File: Drop,
+{
+    match out.inner.replace() {
+        Ok(()) => Ok(()),
+        Err(error) => Err(Refusal::write(alloc, path.as_bytes(), Some(Cause::of(&error)))),
+    }
+}
+
+/// Takes the new file away again, and answers the refusal: over the path where the file is what failed.
+fn taken_back<R: Files>(
+    alloc: Global,
+    out: ToWrite<Replacement<'_, R>>,
+    error: ToolError,
+    path: &str,
+) -> Refusal
+where
+    R::File: Drop,
+{
+    let ToWrite {
+        inner: new,
+        failed: _,
+        cause,
+    } = out;
+    new.remove();
+    match (error, cause) {
+        (ToolError::Write, Some(cause)) => Refusal::write(alloc, path.as_bytes(), Some(cause)),
+        (error, _) => Refusal::from(error),
+    }
 }

@@ -2,6 +2,7 @@
 mod commands;
 mod failing;
 mod hostile;
+mod refusals;
 mod vectors;
 
 use crate::asking::ask;

@@ -1,7 +1,7 @@
 //! Reading a whole source and writing a whole text.
-ghost use Rattle.std.specs.Prelude.{◌≡◌, ◌≢◌, ◌<◌, ◌≤◌, ℕ, List, Option, length, IfOk, IfErr, IfSome, OnOk, vec_len, IsErrOf};
+ghost use Rattle.std.specs.Prelude.{◌≡◌, ◌≢◌, ◌<◌, ◌≤◌, ℕ, List, Option, length, IfOk, IfErr, IfSome, OnOk, OnErr, vec_len, IsErrOf};
 ghost use Rattle.std.specs.Io.KnownBytes.{Appends, IsAtEnd};
-ghost use Rattle.hwdb_tool.specs.Devices.{HasFailed, AppendsPrefix};
+ghost use Rattle.hwdb_tool.specs.Devices.{HasFailed, OneFailed, AppendsPrefix};
 ghost use Rattle.hwdb_tool.specs.Refusals.{IsReadRefusal};
 
 use crate::devices::{Sink, Source};
@@ -16,6 +16,8 @@ pub fn write_text<W: Sink>(sink: &mut W, text: &[u8]) -> Result<(), ToolError>
     ensures later { W.failures sink.old ≤ W.failures sink.new }
     ensures refusal { IfErr result (λ e. e ≡ ToolError.Write) }
     ensures cause { IfErr result (λ _. HasFailed (W.failures sink.old) (W.failures sink.new)) }
+    ensures unfailed { OnOk result (W.failures sink.new ≡ W.failures sink.old) }
+    ensures last { OnErr result (OneFailed (W.failures sink.old) (W.failures sink.new)) }
 {
     let mut written = 0;
     while written < text.len() {
@@ -48,6 +50,8 @@ pub fn read_all<R: Source>(
     ensures too_long { IsErrOf result ToolError.TooLong → IfSome (R.left source.old) (λ xs. max_bytes < length xs) }
     ensures later { R.failures source.old ≤ R.failures source.new }
     ensures cause { IsErrOf result ToolError.Read → HasFailed (R.failures source.old) (R.failures source.new) }
+    ensures unfailed { OnOk result (R.failures source.new ≡ R.failures source.old) }
+    ensures last { IsErrOf result ToolError.Read → OneFailed (R.failures source.old) (R.failures source.new) }
 {
     let limit = max_bytes as usize;
     let mut bytes = Vec::new(alloc);

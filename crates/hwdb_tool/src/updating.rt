@@ -1,7 +1,7 @@
 //! What `update` does with the files of both folders.
-ghost use Rattle.std.specs.Prelude.{◌≡◌, ◌≢◌, ◌⊎◌, map, IfOk, IfErr, IsErrOf};
+ghost use Rattle.std.specs.Prelude.{◌≡◌, ◌≢◌, ◌⊎◌, map, IfOk, IfErr, OnOk, IsErrOf};
 ghost use Rattle.hwdb_query.specs.Compiling.{sources, fault_of};
-ghost use Rattle.hwdb_tool.specs.Devices.{HasFailed};
+ghost use Rattle.hwdb_tool.specs.Devices.{HasFailed, OneOfTwoFailed};
 ghost use Rattle.hwdb_tool.specs.Updates.{status_of, Updated, UpdateCutShort, IsUpdateRefusal};
 
 use crate::devices::Sink;
@@ -36,6 +36,10 @@ pub fn run_update<O: Sink, E: Sink>(
     ensures refusals { IfErr result (IsUpdateRefusal (sources etc.now) (sources usr.now) max_bytes) }
     ensures cause { IsErrOf result ToolError.Write
         → HasFailed (E.failures err.old) (E.failures err.new) ⊎ HasFailed (O.failures out.old) (O.failures out.new) }
+    ensures unfailed { OnOk result ((E.failures err.new ≡ E.failures err.old)
+        × (O.failures out.new ≡ O.failures out.old)) }
+    ensures last { IsErrOf result ToolError.Write → OneOfTwoFailed (E.failures err.old)
+        (E.failures err.new) (O.failures out.old) (O.failures out.new) }
     ensures cut_short { IsErrOf result ToolError.Write → UpdateCutShort (sources etc.now) (sources usr.now)
         (E.taken err.old) (E.taken err.new) (O.taken out.old) (O.taken out.new) }
     ensures untouched { IfErr result (λ e. e ≢ ToolError.Write → (err.new ≡ err.old) × (out.new ≡ out.old)) }

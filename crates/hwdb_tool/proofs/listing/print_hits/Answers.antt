@@ -17,5 +17,5 @@ printing-preserved g c =
       whole = λ end q. c.printing.invariant.whole end (whole_step _ _ end _ _ _ f c.deref.result.now all (not_reached c.printing.left c.printing-test.ensures) line c.in_ok-write_text.ensures.whole (rw c.one_less-left.ensures at q));
       part = λ end q. c.printing.invariant.part end (part_step _ _ end _ _ _ f c.deref.result.now all (not_reached c.printing.left c.printing-test.ensures) line c.in_ok-write_text.ensures.whole (rw c.one_less-left.ensures at q));
       lines = λ end q. c.printing.invariant.lines end (lines_step _ _ end _ _ _ f c.deref.result.now all (not_reached c.printing.left c.printing-test.ensures) line c.in_ok-write_text.ensures.whole (rw c.one_less-left.ensures at q));
-      later = omega (arith, c.printing.invariant.later, c.in_ok-write_text.ensures.later);
+      same = c.in_ok-write_text.ensures.unfailed ∙ c.printing.invariant.same;
     }

@@ -13,7 +13,7 @@ invariant-printing g l = record {
       → AppendsPrefix (g.O.Sink.taken l.initial.out) end (hits_text (within_limit l.initial.left l.initial.hits.to_come));
   lines : (end : Option (List ℕ)) → AppendsLines (g.O.Sink.taken l.out) end (within_limit l.left l.hits.to_come)
       → AppendsLines (g.O.Sink.taken l.initial.out) end (within_limit l.initial.left l.initial.hits.to_come);
-  later : g.O.Sink.failures l.initial.out ≤ g.O.Sink.failures l.out;
+  same : g.O.Sink.failures l.out ≡ g.O.Sink.failures l.initial.out;
 }
 
 abbrev pub decreases-printing : goal.decreases-printing
