@@ -139,14 +139,13 @@ fn refusal_of(alloc: Global, error: &Error, words: &[String]) -> WordsFault
     ensures memory { kind_of error.now ≡ ErrorKind.OutOfMemory → result ≡ Memory }
     ensures told { IsToldOf (kind_of error.now) result }
 {
-    let kind = error.kind();
-    if kind == ErrorKind::OutOfMemory {
-        return WordsFault::Memory;
-    }
-    match text_of_fault(alloc, error, words) {
-        Err(_) => WordsFault::Memory,
-        Ok(text) if kind == ErrorKind::DisplayHelp => WordsFault::Help { text },
-        Ok(text) => WordsFault::Usage { text },
+    match error.kind() {
+        ErrorKind::OutOfMemory => WordsFault::Memory,
+        kind => match text_of_fault(alloc, error, words) {
+            Err(refused) => WordsFault::from(refused),
+            Ok(text) if kind == ErrorKind::DisplayHelp => WordsFault::Help { text },
+            Ok(text) => WordsFault::Usage { text },
+        },
     }
 }
 
