@@ -1,3 +1,5 @@
+pub mod Stored
+pub mod Runs
 pub mod Standing
 pub mod Setting
 pub mod Found
