@@ -47,7 +47,7 @@ impl Tree {
             alloc,
             root: Branch {
                 byte: 0,
-                prefix: Prefix::empty(alloc),
+                prefix: Prefix::empty(),
                 values: Values::none(alloc),
                 children: Vec::new(alloc),
             },
