@@ -197,7 +197,10 @@ fn path_and_its_beginning(rt: HostRuntime) -> Result<(), Fail> {
     put(&rt, alloc, &mut shorter_first, 2, b"abc", b"K", b"1")?;
     let bytes = write(alloc, &longer_first, 282)?;
     assert_eq!(rt; bytes.len(), 282);
-    assert_eq!(rt; write(alloc, &shorter_first, 282)?.as_slice(), bytes.as_slice());
+    assert_eq!(rt;
+        write(alloc, &shorter_first, 282)?.as_slice(),
+        bytes.as_slice()
+    );
     Ok(())
 }
 

@@ -13,8 +13,7 @@ use crate::stored::Stored;
 use std::alloc::{AllocError, Global};
 use std::cmp::Ordering;
 use std::marker::Model;
-use std::mem;
-use std::slice;
+use std::{mem, slice};
 
 /// How many values a run has at most (our choice).
 const RUN_LENGTH: usize = 128;
@@ -85,11 +84,7 @@ fn find_run(runs: &[Vec<Stored>], key: &[u8]) -> usize
 }
 
 /// Splits a run in two.
-fn split(
-    runs: &mut Vec<Vec<Stored>>,
-    run: usize,
-    at: usize,
-) -> Result<(), AllocError>
+fn split(runs: &mut Vec<Vec<Stored>>, run: usize, at: usize) -> Result<(), AllocError>
     requires run { run < vec_len runs.old }
     requires runs { AreRuns runs.old.items }
     requires low { 0 < at }

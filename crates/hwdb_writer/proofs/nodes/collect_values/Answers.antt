@@ -1,4 +1,4 @@
-use Rattle.std.proofs.Common.{◌++◌, refl, subst, List, ℕ, map}
+use Rattle.std.proofs.Common.{◌++◌, refl, subst, List}
 use Rattle.std.specs.List.{flat_map}
 use Rattle.hwdb_layout.specs.Tree.{Value}
 use Rattle.hwdb_layout.specs.Written.{strings_of_value}

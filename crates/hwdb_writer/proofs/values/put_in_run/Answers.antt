@@ -1,4 +1,4 @@
-use Rattle.std.proofs.Common.{◌≡◌, ◌∙◌, ◌<◌, None, ap, sym, map, subst, length, List}
+use Rattle.std.proofs.Common.{◌∙◌, None, ap, sym, map, subst}
 use Rattle.std.proofs.lemmas.Result.{on_ok_weaker, on_err_weaker}
 use Rattle.hwdb_layout.specs.Map.{KeysAscend}
 use Rattle.hwdb_writer.specs.Setting.{set_value}

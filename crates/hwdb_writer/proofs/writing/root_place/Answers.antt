@@ -10,7 +10,8 @@ pub returns : goal.returns
 returns c =
     omega (
       arith,
-      c.len.ensures, c.record_length.ensures,
+      c.len.ensures,
+      c.record_length.ensures,
       size-opened c.args.root.now c.deref-children.result.now c.deref-children.ensures.value,
       root_at 80 c.args.root.now c.deref-children.result.now c.deref-children.ensures.value,
       c.requires.nodes,
