@@ -2,6 +2,7 @@
 use Rattle.std.proofs.Common.{◌≡◌, ◌≤◌, ◌<◌, ℕ, zero, suc, ◌+◌, ◌-◌, ◌*◌, ◌^◌, List, [], ◌∷◌, ◌++◌, map, length, get_or, take, drop, min, refl, sym, ◌∙◌, ap, subst, arith, add-one, length-append, append_assoc}
 use Rattle.std.proofs.Math.Seq.{drop-cons}
 use Rattle.std.proofs.lemmas.List.{drop_all}
+use Rattle.std.proofs.lemmas.Grind.{flat_map-append}
 use Rattle.std.specs.List.{flat_map}
 use Rattle.byteorder.specs.Endian.{little_bytes}
 use Rattle.hwdb_layout.specs.Tree.{Children, count}
@@ -9,9 +10,11 @@ use Rattle.hwdb_layout.specs.Tree.Tree.{Node}
 use Rattle.hwdb_layout.specs.Tree.Children.{Child}
 use Rattle.hwdb_layout.specs.Written.{strings_of, strings_below, strings_of_value, text_size, texts_size, record_at, padding, value_text, entries_text, node_text, nodes_text}
 use Rattle.hwdb_writer.specs.declared.branches.Branch.{Branch}
-use Rattle.hwdb_writer.specs.declared.branches.Stored.{Stored}
+use Rattle.hwdb_writer.specs.declared.stored.Stored.{Stored}
 use Rattle.hwdb_writer.specs.declared.branches.Branch.TheViews.{out-Branch}
-use Rattle.hwdb_writer.specs.Standing.{standing, value_of, children_in, byte_of, tree_of}
+use Rattle.hwdb_writer.specs.Stored.{value_of}
+use Rattle.hwdb_writer.specs.Runs.{Run, values_at, values_in}
+use Rattle.hwdb_writer.specs.Standing.{standing, children_in, byte_of, tree_of}
 use Rattle.hwdb_writer.specs.Narrow.{IsNarrow, AreNarrow}
 use Rattle.hwdb_writer.proofs.Standings.{opened, byte_opened}
 use Rattle.hwdb_writer.proofs.Lengths.{length-node, length-nodes}
@@ -62,17 +65,24 @@ pub kid_strings-none : kid_strings [] ≡ []
 unfolding strings_of
 kid_strings-none = refl
 
-strings-opened : (b : Branch) → strings_of (tree_of b) ≡ ((out-Branch b).prefix ∷ value_strings (out-Branch b).values.items) ++ kid_strings (out-Branch b).children.items
+strings-opened : (b : Branch) → strings_of (tree_of b) ≡ ((out-Branch b).prefix ∷ flat_map strings_of_value (out-Branch b).values) ++ kid_strings (out-Branch b).children.items
 unfolding strings_of
 strings-opened b = ap strings_of (opened b)
 
 pub value_strings-cons : (v : Stored) (vs : List Stored) → value_strings (v ∷ vs) ≡ strings_of_value (value_of v) ++ value_strings vs
 value_strings-cons v vs = refl
 
+-- the strings of the values in runs
+abbrev pub run_strings : List Run → List (List ℕ)
+run_strings runs = flat_map strings_of_value (values_in runs)
+
+pub run_strings-cons : (r : Run) (rs : List Run) → run_strings (r ∷ rs) ≡ value_strings r.items ++ run_strings rs
+run_strings-cons r rs = flat_map-append strings_of_value (values_at r) (values_in rs)
+
 -- a prefix, then the values' strings, then those below
-pub parts_opened : (b : Branch) (kids : List Branch) (vals : List Stored) → kids ≡ (out-Branch b).children.items → vals ≡ (out-Branch b).values.items →
-    ((out-Branch b).prefix ∷ value_strings vals) ++ kid_strings kids ≡ strings_of (tree_of b)
-parts_opened b kids vals k w = (λ i. ((out-Branch b).prefix ∷ value_strings (w i)) ++ kid_strings (k i)) ∙ sym (strings-opened b)
+pub parts_opened : (b : Branch) (kids : List Branch) → kids ≡ (out-Branch b).children.items →
+    ((out-Branch b).prefix ∷ flat_map strings_of_value (out-Branch b).values) ++ kid_strings kids ≡ strings_of (tree_of b)
+parts_opened b kids k = (λ i. ((out-Branch b).prefix ∷ flat_map strings_of_value (out-Branch b).values) ++ kid_strings (k i)) ∙ sym (strings-opened b)
 
 -- how long the texts of the children that are left are
 abbrev pub M : ℕ
@@ -96,18 +106,13 @@ unfolding count
 count-kids [] = refl
 count-kids (b ∷ bs) = ap suc (count-kids bs)
 
-length-vals : (vs : List Stored) → length (map value_of vs) ≡ length vs
-length-vals [] = refl
-length-vals (v ∷ vs) = ap suc (length-vals vs)
-
-pub size-opened : (b : Branch) (kids : List Branch) (vals : List Stored) → kids ≡ (out-Branch b).children.items → vals ≡ (out-Branch b).values.items →
-    text_size (tree_of b) ≡ texts_size (kids_of kids) + (24 + 16 * length kids + 32 * length vals)
+pub size-opened : (b : Branch) (kids : List Branch) → kids ≡ (out-Branch b).children.items →
+    text_size (tree_of b) ≡ texts_size (kids_of kids) + (24 + 16 * length kids + 32 * length (out-Branch b).values)
 unfolding text_size
-size-opened b kids vals k w =
+size-opened b kids k =
     ap text_size (opened b)
-    ∙ ap (λ ks. texts_size (kids_of ks) + (24 + 16 * count (kids_of ks) + 32 * length (map value_of (out-Branch b).values.items))) (sym k)
-    ∙ ap (λ vs. texts_size (kids_of kids) + (24 + 16 * count (kids_of kids) + 32 * length (map value_of vs))) (sym w)
-    ∙ (λ i. texts_size (kids_of kids) + (24 + 16 * count-kids kids i + 32 * length-vals vals i))
+    ∙ ap (λ ks. texts_size (kids_of ks) + (24 + 16 * count (kids_of ks) + 32 * length (out-Branch b).values)) (sym k)
+    ∙ (λ i. texts_size (kids_of kids) + (24 + 16 * count-kids kids i + 32 * length (out-Branch b).values))
 
 -- six pieces, one after another
 pub six : (o a b d e f g p q r s t u : List ℕ) → a ≡ o ++ p → b ≡ a ++ q → d ≡ b ++ r → e ≡ d ++ s → f ≡ e ++ t → g ≡ f ++ u → g ≡ o ++ (p ++ q ++ r ++ s ++ t ++ u)
@@ -123,6 +128,12 @@ module _ (place : List ℕ → ℕ) where
 
   pub vals_text-cons : (v : Stored) (vs : List Stored) → vals_text (v ∷ vs) ≡ value_text place (value_of v) ++ vals_text vs
   vals_text-cons v vs = refl
+
+  abbrev pub runs_text : List Run → List ℕ
+  runs_text runs = flat_map (value_text place) (values_in runs)
+
+  pub runs_text-cons : (r : Run) (rs : List Run) → runs_text (r ∷ rs) ≡ vals_text r.items ++ runs_text rs
+  runs_text-cons r rs = flat_map-append (value_text place) (values_at r) (values_in rs)
 
   module _ (bs : List Branch) (i : ℕ) (b : Branch) (is : b ≡ get_or bs i b) (lt : i < length bs) where
     kids_left : kids_of (drop i bs) ≡ Child (byte_of b) (tree_of b) (kids_of (drop (i + 1) bs))
@@ -166,19 +177,19 @@ module _ (place : List ℕ → ℕ) where
     entries_all at done whole h = sym (append-[] done) ∙ ap (λ xs. done ++ entries_text place at (kids_of xs)) (sym (drop_all i bs le)) ∙ h
 
   -- a node's text, piece by piece
-  module _ (b : Branch) (kids : List Branch) (vals : List Stored) (k : kids ≡ (out-Branch b).children.items) (w : vals ≡ (out-Branch b).values.items) where
-    the_tree : tree_of b ≡ Node (out-Branch b).prefix (map value_of vals) (kids_of kids)
-    the_tree = opened b ∙ (λ i. Node (out-Branch b).prefix (map value_of (sym w i)) (kids_of (sym k i)))
+  module _ (b : Branch) (kids : List Branch) (k : kids ≡ (out-Branch b).children.items) where
+    the_tree : tree_of b ≡ Node (out-Branch b).prefix (out-Branch b).values (kids_of kids)
+    the_tree = opened b ∙ ap (λ ks. Node (out-Branch b).prefix (out-Branch b).values (kids_of ks)) (sym k)
 
-    pub emitted : (o t r x y : List ℕ) (p : ℕ) (entries : List ℕ) → t ≡ o ++ nodes_text place (length o) (kids_of kids) →
-        r ≡ t ++ (little_bytes 8 p ++ length kids ∷ padding 7 ++ little_bytes 8 (length vals)) → p ≡ place (out-Branch b).prefix →
-        x ≡ r ++ entries → entries ≡ entries_text place (length o) (kids_of kids) → y ≡ x ++ vals_text vals → y ≡ o ++ node_text place (length o) (tree_of b)
+    pub emitted : (o t r x y : List ℕ) (p n : ℕ) (entries : List ℕ) → n ≡ length (out-Branch b).values → t ≡ o ++ nodes_text place (length o) (kids_of kids) →
+        r ≡ t ++ (little_bytes 8 p ++ length kids ∷ padding 7 ++ little_bytes 8 n) → p ≡ place (out-Branch b).prefix →
+        x ≡ r ++ entries → entries ≡ entries_text place (length o) (kids_of kids) → y ≡ x ++ flat_map (value_text place) (out-Branch b).values → y ≡ o ++ node_text place (length o) (tree_of b)
     unfolding node_text
-    emitted o t r x y p entries e f g h j l =
+    emitted o t r x y p n entries m e f g h j l =
         l
-        ∙ ap (λ q. q ++ vals_text vals) (h ∙ ap (λ q. q ++ entries) (f ∙ ap (λ q. q ++ (little_bytes 8 p ++ length kids ∷ padding 7 ++ little_bytes 8 (length vals))) e))
+        ∙ ap (λ q. q ++ flat_map (value_text place) (out-Branch b).values) (h ∙ ap (λ q. q ++ entries) (f ∙ ap (λ q. q ++ (little_bytes 8 p ++ length kids ∷ padding 7 ++ little_bytes 8 n)) e))
         ∙ (simp append_assoc)
-        ∙ (λ i. o ++ (nodes_text place (length o) (kids_of kids) ++ little_bytes 8 (g i) ++ sym (count-kids kids) i ∷ padding 7 ++ little_bytes 8 (sym (length-vals vals) i) ++ j i ++ vals_text vals))
+        ∙ (λ i. o ++ (nodes_text place (length o) (kids_of kids) ++ little_bytes 8 (g i) ++ sym (count-kids kids) i ∷ padding 7 ++ little_bytes 8 (m i) ++ j i ++ flat_map (value_text place) (out-Branch b).values))
         ∙ ap (λ t. o ++ node_text place (length o) t) (sym the_tree)
 
     pub entered : (o t : List ℕ) (e0 cut e1 : List ℕ) (byte at : ℕ) → t ≡ o ++ nodes_text place (length o) (kids_of kids) → byte ≡ (out-Branch b).byte → at ≡ length t →
@@ -211,7 +222,7 @@ one_of (x ∷ xs) (suc i) b is lt = let h = one_of xs i b is (omega (arith, lt))
 -- a child's text is shorter than its parent's
 pub shorter : (n : Branch) (kids : List Branch) → kids ≡ (out-Branch n).children.items → (i : ℕ) (b : Branch) → b ≡ get_or kids i b → i < length kids → text_size (tree_of b) < text_size (tree_of n)
 shorter n kids k i b is lt =
-    let s = size-opened n kids (out-Branch n).values.items k refl in
+    let s = size-opened n kids k in
     let o = one_of kids i b is lt in
     omega (arith, s, o)
 

@@ -9,9 +9,8 @@ use Rattle.hwdb_layout.specs.Tree.Tree.{Node}
 use Rattle.hwdb_layout.specs.Tree.Children.{NoMore, Child}
 use Rattle.hwdb_layout.specs.Map.{IsTree, BytesAscend, KeysAscend}
 use Rattle.hwdb_writer.specs.declared.branches.Branch.{Branch}
-use Rattle.hwdb_writer.specs.declared.branches.Stored.{Stored}
 use Rattle.hwdb_writer.specs.declared.branches.Branch.TheViews.{out-Branch}
-use Rattle.hwdb_writer.specs.Standing.{standing, value_of, children_in, byte_of, tree_of}
+use Rattle.hwdb_writer.specs.Standing.{standing, children_in, byte_of, tree_of}
 use Rattle.hwdb_writer.specs.Setting.{set_value, set_below, set_at, set_node, forked, reached, single, below_of}
 use Rattle.hwdb_writer.proofs.Standings.{opened}
 use Rattle.hwdb_writer.proofs.Meetings.{IsEnd}
@@ -44,20 +43,20 @@ fork_behind front c lower right d more v e le =
     ∙ ap (λ b. Node front [] (cond b (Child d (single more v) (Child c lower NoMore)) (Child c lower (Child d (single more v) NoMore)))) (not_less d c le)
 
 -- a node that was split, with one other child
-module _ (new : Tree) (p rest : List ℕ) (at : ℕ) (v : Value) (vs : List Value) (below : Children) (front back : List ℕ) (none : List Stored) (others : List Branch) (leaf : Branch) (byte : ℕ) where
-  pub split_before : new ≡ Node front (map value_of none) (children_in (insert (map standing others) 1 (byte, Node back vs below))) → front ≡ take at p → back ≡ drop (at + 1) p
+module _ (new : Tree) (p rest : List ℕ) (at : ℕ) (v : Value) (vs : List Value) (below : Children) (front back : List ℕ) (none : List Value) (others : List Branch) (leaf : Branch) (byte : ℕ) where
+  pub split_before : new ≡ Node front none (children_in (insert (map standing others) 1 (byte, Node back vs below))) → front ≡ take at p → back ≡ drop (at + 1) p
       → byte ≡ get_or p at 0 → none ≡ [] → others ≡ leaf ∷ [] → byte_of leaf ≡ get_or rest at 0 → tree_of leaf ≡ single (drop (at + 1) rest) v
       → at < length rest → get_or rest at 0 < get_or p at 0 → new ≡ forked (take at p) (get_or p at 0) (Node (drop (at + 1) p) vs below) (drop at rest) v
   split_before is f b c n o d t lt less =
-      is ∙ (λ i. Node (f i) (map value_of (n i)) (children_in (insert (map standing (o i)) 1 (c i, Node (b i) vs below))))
+      is ∙ (λ i. Node (f i) (n i) (children_in (insert (map standing (o i)) 1 (c i, Node (b i) vs below))))
       ∙ (λ i. Node (take at p) [] (Child (d i) (t i) (Child (get_or p at 0) (Node (drop (at + 1) p) vs below) NoMore)))
       ∙ sym (fork_before (take at p) (get_or p at 0) (Node (drop (at + 1) p) vs below) (drop at rest) (get_or rest at 0) (drop (at + 1) rest) v (drop_at rest at lt) less)
 
-  pub split_behind : new ≡ Node front (map value_of none) (children_in (insert (map standing others) 0 (byte, Node back vs below))) → front ≡ take at p → back ≡ drop (at + 1) p
+  pub split_behind : new ≡ Node front none (children_in (insert (map standing others) 0 (byte, Node back vs below))) → front ≡ take at p → back ≡ drop (at + 1) p
       → byte ≡ get_or p at 0 → none ≡ [] → others ≡ leaf ∷ [] → byte_of leaf ≡ get_or rest at 0 → tree_of leaf ≡ single (drop (at + 1) rest) v
       → at < length rest → get_or p at 0 ≤ get_or rest at 0 → new ≡ forked (take at p) (get_or p at 0) (Node (drop (at + 1) p) vs below) (drop at rest) v
   split_behind is f b c n o d t lt least =
-      is ∙ (λ i. Node (f i) (map value_of (n i)) (children_in (insert (map standing (o i)) 0 (c i, Node (b i) vs below))))
+      is ∙ (λ i. Node (f i) (n i) (children_in (insert (map standing (o i)) 0 (c i, Node (b i) vs below))))
       ∙ (λ i. Node (take at p) [] (Child (get_or p at 0) (Node (drop (at + 1) p) vs below) (Child (d i) (t i) NoMore)))
       ∙ sym (fork_behind (take at p) (get_or p at 0) (Node (drop (at + 1) p) vs below) (drop at rest) (get_or rest at 0) (drop (at + 1) rest) v (drop_at rest at lt) least)
 
@@ -66,7 +65,7 @@ module _ (b : Branch) (rest : List ℕ) (v : Value) (at : ℕ) where
   p = (out-Branch b).prefix
 
   abbrev vals : List Value
-  vals = map value_of (out-Branch b).values.items
+  vals = (out-Branch b).values
 
   abbrev kids : Children
   kids = children_in (map standing (out-Branch b).children.items)
@@ -101,7 +100,7 @@ module _ (b : Branch) (rest : List ℕ) (v : Value) (at : ℕ) where
       ∙ ap (λ l. set_node below p vals kids (take at p) l (drop at rest) v) (drop_all at p le)
       ∙ ap (λ r. reached below p vals kids r v) (drop_at rest at lt)
 
-pub keys_up : (b : Branch) → IsTree (tree_of b) → KeysAscend None (map value_of (out-Branch b).values.items)
+pub keys_up : (b : Branch) → IsTree (tree_of b) → KeysAscend None (out-Branch b).values
 unfolding IsTree
 keys_up b h = let P : Tree → Type 0 = IsTree in let g = subst P (opened b) h in g.0
 

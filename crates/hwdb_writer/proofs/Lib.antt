@@ -18,3 +18,4 @@ pub mod OneTree
 pub mod ReadBack
 pub mod Bridge
 pub mod Memberships
+pub mod Splits

@@ -10,9 +10,10 @@ use Rattle.std.proofs.lemmas.Bool.Decides.{nat_tests}
 use Rattle.hwdb_layout.specs.Tree.{Value, Children}
 use Rattle.hwdb_layout.specs.Tree.Children.{NoMore, Child}
 use Rattle.hwdb_layout.specs.Map.{IsTree, BytesAscend, KeysAscend}
-use Rattle.hwdb_writer.specs.declared.branches.Stored.{Stored}
+use Rattle.hwdb_writer.specs.declared.stored.Stored.{Stored}
 use Rattle.hwdb_writer.specs.declared.branches.Branch.{Branch}
-use Rattle.hwdb_writer.specs.Standing.{standing, value_of, children_in, byte_of, tree_of}
+use Rattle.hwdb_writer.specs.Stored.{value_of}
+use Rattle.hwdb_writer.specs.Standing.{standing, children_in, byte_of, tree_of}
 use Rattle.hwdb_writer.specs.Setting.{set_value, set_below, set_at, single}
 use Rattle.hwdb_writer.specs.Found.{key_in, HitsKey, MissesKey, HitsByte, MissesByte}
 use Rattle.hwdb_writer.proofs.Searching.{Up, hit_more, gap_more, turned, turned_back}

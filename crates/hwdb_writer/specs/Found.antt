@@ -4,9 +4,10 @@ use Rattle.std.specs.declared.cmp.Ordering.{Ordering}
 use Rattle.std.specs.declared.cmp.Ordering.TheVariants.{Less, Equal, Greater}
 use Rattle.std.specs.Ordering.{nat_cmp}
 use Rattle.std.specs.Cmp.Lexicographic.{slice_cmp}
-use Rattle.hwdb_writer.specs.declared.branches.Stored.{Stored}
+use Rattle.hwdb_writer.specs.declared.stored.Stored.{Stored}
 use Rattle.hwdb_writer.specs.declared.branches.Branch.{Branch}
-use Rattle.hwdb_writer.specs.Standing.{byte_of, value_of}
+use Rattle.hwdb_writer.specs.Stored.{value_of}
+use Rattle.hwdb_writer.specs.Standing.{byte_of}
 
 module _ {X K : Type 0} (R : K → K → Ordering) (key : X → K) where
   pub record IsHit (xs : List X) (k : K) (i : ℕ) : Type 0 where

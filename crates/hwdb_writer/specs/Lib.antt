@@ -1,3 +1,6 @@
+pub mod Stored
+pub mod Runs
+pub mod Text
 pub mod Standing
 pub mod Setting
 pub mod Found

@@ -1,22 +1,11 @@
 -- The tree that a node in memory stands for.
-use Rattle.std.specs.Prelude.{ℕ, List, [], ◌∷◌, map, take, drop}
-use Rattle.hwdb_layout.specs.Tree.{Value, Tree, Children}
+use Rattle.std.specs.Prelude.{ℕ, List, [], ◌∷◌}
+use Rattle.hwdb_layout.specs.Tree.{Tree, Children}
 use Rattle.hwdb_layout.specs.Tree.Tree.{Node}
 use Rattle.hwdb_layout.specs.Tree.Children.{NoMore, Child}
-use Rattle.hwdb_writer.specs.declared.branches.Stored.{Stored}
 use Rattle.hwdb_writer.specs.declared.branches.Branch.{Branch}
 use Rattle.hwdb_writer.specs.declared.branches.Branch.TheOpen.{Branch-F}
 use Rattle.hwdb_writer.specs.declared.branches.Branch.TheFolds.{fold-Branch}
-
--- its key and its value are cut from the one text that it holds
-abbrev pub value_of : Stored → Value
-value_of s = record {
-  priority = s.priority;
-  line = s.line;
-  key = take s.value_at s.text.items;
-  value = drop s.value_at s.text.items;
-  path = s.path.value.items;
-}
 
 -- the children, each under its byte
 abbrev pub children_in : List (ℕ × Tree) → Children
@@ -24,7 +13,7 @@ children_in [] = NoMore
 children_in (p ∷ ps) = Child p.0 p.1 (children_in ps)
 
 abbrev pub standing_step : Branch-F (ℕ × Tree) → ℕ × Tree
-standing_step b = (b.byte, Node b.prefix (map value_of b.values.items) (children_in b.children.items))
+standing_step b = (b.byte, Node b.prefix b.values (children_in b.children.items))
 
 -- the byte of a node, and its tree
 unfoldable pub standing : Branch → ℕ × Tree

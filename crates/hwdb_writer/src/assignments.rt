@@ -1,6 +1,8 @@
 //! The assignments, seen as a finite map.
-use crate::branches::{Branch, Stored, put_below};
+use crate::branches::{Branch, put_below};
 use crate::prefix::Prefix;
+use crate::stored::Stored;
+use crate::values::Values;
 use hwdb_text::{Assignment, Given};
 use std::alloc::{AllocError, Global};
 use std::marker::Model;
@@ -34,7 +36,7 @@ impl Model for Tree {
 impl Tree {
     ghost use Rattle.std.specs.Prelude.{◌≡◌, ◌≤◌, ◌<◌, ◌∷◌, ℕ, List, length, IfOk, OnOk, OnErr};
     ghost use Rattle.std.specs.FinMap.{empty, insert};
-    ghost use Rattle.hwdb_writer.specs.Standing.{value_of};
+    ghost use Rattle.hwdb_writer.specs.Stored.{value_of};
     ghost use Rattle.hwdb_writer.specs.Storable.{HasNoZero, IsStorableValue, max_pattern};
 
     /// No assignment. Takes no memory.
@@ -45,8 +47,8 @@ impl Tree {
             alloc,
             root: Branch {
                 byte: 0,
-                prefix: Prefix::empty(alloc),
-                values: Vec::new(alloc),
+                prefix: Prefix::empty(),
+                values: Values::none(alloc),
                 children: Vec::new(alloc),
             },
             path: None,

@@ -1,97 +1,30 @@
 //! The nodes of the tree in memory, and how an assignment finds its node.
 //!
-//! A chain of single children is one node with a prefix. Values stand by stored key and children by
-//! byte, so that a search halves what is left. Each change makes its growths first.
+//! A chain of single children is one node with a prefix. Children stand by byte, so that a search
+//! halves what is left. Each change makes its growths first.
 ghost use Rattle.std.specs.Prelude.{◌≡◌, ◌≢◌, ◌≤◌, ◌<◌, ◌+◌, ◌^◌, ◌∷◌, [], map, take, drop, length, slice_index, None, vec_len, vec_capacity, IfOk, IfErr, OnOk, OnErr};
 ghost use Rattle.std.specs.List.{insert};
-ghost use Rattle.std.specs.Ordering.{nat_cmp};
-ghost use Rattle.std.specs.Cmp.Lexicographic.{slice_cmp};
 ghost use Rattle.hwdb_layout.specs.Tree.{prefix_of, values_of};
 ghost use Rattle.hwdb_layout.specs.Tree.Tree.{Node};
-ghost use Rattle.hwdb_layout.specs.Map.{IsTree, KeysAscend, BytesAscend};
-ghost use Rattle.hwdb_writer.specs.Setting.{meet, set_at, single, set_value, forked, below_of};
+ghost use Rattle.hwdb_layout.specs.Map.{IsTree, BytesAscend};
+ghost use Rattle.hwdb_writer.specs.Setting.{meet, set_at, single, forked, below_of};
 ghost use Rattle.hwdb_writer.specs.declared.branches.Branch.TheViews.{out-Branch};
-ghost use Rattle.hwdb_writer.specs.Found.{HitsKey, MissesKey, HitsByte, MissesByte};
-ghost use Rattle.hwdb_writer.specs.Standing.{value_of, tree_of, byte_of, standing, children_in};
+ghost use Rattle.hwdb_writer.specs.Found.{HitsByte, MissesByte};
+ghost use Rattle.hwdb_writer.specs.Stored.{value_of};
+ghost use Rattle.hwdb_writer.specs.Standing.{tree_of, byte_of, standing, children_in};
 
 use crate::prefix::Prefix;
+use crate::stored::Stored;
+use crate::values::Values;
 use std::alloc::{AllocError, Global};
-use std::cmp::Ordering;
 use std::mem;
-use std::rc::Rc;
-
-/// A value of a node. Its stored key, which is a space and the key, and its value stand one after another in
-/// one text.
-#[derive(Drop)]
-pub struct Stored {
-    pub priority: u16,
-    pub line: u32,
-    text: Vec<u8>,
-    /// Where the value begins in the text.
-    value_at: usize,
-    /// The path, which many values share.
-    path: Rc<Vec<u8>>,
-}
-
-impl Stored {
-    /// A value with a space before its key.
-    #[inline(never)]
-    pub fn new(
-        alloc: Global,
-        priority: u16,
-        line: u32,
-        key: &[u8],
-        value: &[u8],
-        path: Rc<Vec<u8>>,
-    ) -> Result<Stored, AllocError>
-        ensures { IfOk result (λ s. value_of s
-            ≡ record { priority = priority; line = line; key = 32 ∷ key.now; value = value.now; path = path.value.items }) }
-    {
-        let length = key.len().saturating_add(value.len());
-        let mut text = Vec::with_capacity(alloc, length.saturating_add(1))?;
-        text.push(b' ')?;
-        text.extend_from_slice(key)?;
-        let value_at = text.len();
-        text.extend_from_slice(value)?;
-        Ok(Stored {
-            priority,
-            line,
-            text,
-            value_at,
-            path,
-        })
-    }
-
-    /// Its stored key.
-    pub fn key(&self) -> &[u8]
-        ensures { result.now ≡ (value_of self.now).key }
-    {
-        let text: &[u8] = &self.text;
-        &text[..self.value_at.min(text.len())]
-    }
-
-    /// Its value.
-    pub fn value(&self) -> &[u8]
-        ensures { result.now ≡ (value_of self.now).value }
-    {
-        let text: &[u8] = &self.text;
-        &text[self.value_at.min(text.len())..]
-    }
-
-    /// Its path.
-    pub fn path(&self) -> &[u8]
-        ensures { result.now ≡ (value_of self.now).path }
-    {
-        self.path.as_ref().as_slice()
-    }
-}
 
 /// A node: the byte that it stands under, what follows it, its values by key, its children by byte.
 #[derive(Drop)]
 pub struct Branch {
     pub byte: u8,
     pub prefix: Prefix,
-    pub values: Vec<Stored>,
+    pub values: Values,
     pub children: Vec<Branch>,
 }
 
@@ -108,25 +41,6 @@ pub fn common(a: &[u8], b: &[u8]) -> usize
     n
 }
 
-/// Where the key stands, or where it belongs.
-pub fn find_key(values: &[Stored], key: &[u8]) -> Result<usize, usize>
-    requires { KeysAscend None (map value_of values.now) }
-    ensures found { IfOk result (HitsKey values.now key.now) }
-    ensures absent { IfErr result (MissesKey values.now key.now) }
-{
-    let mut low = 0;
-    let mut high = values.len();
-    while low < high {
-        let middle = low + (high - low) / 2;
-        match values[middle].key().cmp(key) {
-            Ordering::Less => low = middle + 1,
-            Ordering::Equal => return Ok(middle),
-            Ordering::Greater => high = middle,
-        }
-    }
-    Err(low)
-}
-
 /// Where the child under the byte stands, or where it belongs.
 pub fn find_byte(children: &[Branch], byte: u8) -> Result<usize, usize>
     requires { BytesAscend 0 (children_in (map standing children.now)) }
@@ -136,25 +50,6 @@ pub fn find_byte(children: &[Branch], byte: u8) -> Result<usize, usize>
     children.binary_search_by_key(&byte, |n| n.byte)
 }
 
-/// Puts the value in its place among the values of a node.
-#[inline(never)]
-pub fn put_value(values: &mut Vec<Stored>, value: Stored) -> Result<(), AllocError>
-    requires { KeysAscend None (map value_of values.old.items) }
-    ensures ok { OnOk result (map value_of values.new.items ≡ set_value (value_of value) (map value_of values.old.items)) }
-    ensures err { OnErr result (values.new.items ≡ values.old.items) }
-{
-    match find_key(values, value.key()) {
-        Ok(i) => {
-            values[i] = value;
-            Ok(())
-        }
-        Err(i) => {
-            values.insert(i, value)?;
-            Ok(())
-        }
-    }
-}
-
 /// A node with one value.
 #[inline(never)]
 pub fn leaf(alloc: Global, byte: u8, prefix: &[u8], value: Stored) -> Result<Branch, AllocError>
@@ -162,8 +57,7 @@ pub fn leaf(alloc: Global, byte: u8, prefix: &[u8], value: Stored) -> Result<Bra
     ensures byte { IfOk result (λ b. byte_of b ≡ byte) }
 {
     let prefix = Prefix::new(alloc, prefix)?;
-    let mut values = Vec::with_capacity(alloc, 1)?;
-    values.push(value)?;
+    let values = Values::one(alloc, value)?;
     Ok(Branch {
         byte,
         prefix,
@@ -176,7 +70,7 @@ pub fn leaf(alloc: Global, byte: u8, prefix: &[u8], value: Stored) -> Result<Bra
 fn adopt(
     node: &mut Branch,
     front: Prefix,
-    values: Vec<Stored>,
+    values: Values,
     others: Vec<Branch>,
     place: usize,
     byte: u8,
@@ -185,7 +79,7 @@ fn adopt(
     requires room { vec_len others < vec_capacity others }
     requires place { place ≤ vec_len others }
     ensures same { byte_of node.new ≡ byte_of node.old }
-    ensures tree { tree_of node.new ≡ Node front (map value_of values.items)
+    ensures tree { tree_of node.new ≡ Node front values
         (children_in (insert (map standing others.items) place (byte, Node back (values_of (tree_of node.old)) (below_of (tree_of node.old))))) }
 {
     let mut lower = Branch {
@@ -222,15 +116,14 @@ pub fn fork(
     let back = Prefix::new(alloc, &prefix[at + 1..])?;
     if at == rest.len() {
         let others = Vec::with_capacity(alloc, 1)?;
-        let mut values = Vec::with_capacity(alloc, 1)?;
-        values.push(value)?;
+        let values = Values::one(alloc, value)?;
         adopt(node, front, values, others, 0, byte, back);
         return Ok(());
     }
     let other = rest[at];
     let mut others = Vec::with_capacity(alloc, 2)?;
     others.push(leaf(alloc, other, &rest[at + 1..], value)?)?;
-    let values = Vec::new(alloc);
+    let values = Values::none(alloc);
     if other < byte {
         adopt(node, front, values, others, 1, byte, back);
     } else {
@@ -257,7 +150,7 @@ pub fn put_below(
         return fork(alloc, node, at, rest, value);
     }
     if at == rest.len() {
-        put_value(&mut node.values, value)?;
+        node.values.set(alloc, value)?;
         Ok(())
     } else {
         match find_byte(&node.children, rest[at]) {

@@ -11,9 +11,11 @@ mod laws;
 mod nodes;
 mod prefix;
 mod records;
+mod stored;
 mod strings;
 #[cfg(test)]
 mod tests;
+mod values;
 mod words;
 mod writing;
 

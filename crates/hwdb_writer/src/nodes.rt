@@ -2,23 +2,26 @@
 ghost use Rattle.std.specs.Prelude.{◌≡◌, ◌<◌, ◌++◌, ◌∷◌, ◌+◌, ◌*◌, ◌-◌, ◌^◌, OnOk, map, flat_map, min, length};
 ghost use Rattle.byteorder.specs.Endian.{little_bytes};
 ghost use Rattle.hwdb_layout.specs.Written.{strings_of, strings_of_value, text_size, node_text, value_text, record_at, padding};
-ghost use Rattle.hwdb_writer.specs.Standing.{value_of, tree_of, byte_of};
+ghost use Rattle.hwdb_writer.specs.Stored.{value_of};
+ghost use Rattle.hwdb_writer.specs.Standing.{tree_of, byte_of};
 ghost use Rattle.hwdb_writer.specs.Narrow.{IsNarrow};
 ghost use Rattle.hwdb_writer.specs.Membership.{SameMembers};
 ghost use Rattle.hwdb_writer.specs.Places.{IsTable, place_in};
 
-use crate::branches::{Branch, Stored};
+use crate::branches::Branch;
 use crate::guesses::Guesses;
 use crate::records::{
     CHILD_SIZE, NODE_SIZE, VALUE_SIZE, push_child, push_node, push_rest, push_u16, push_u32,
     push_u64,
 };
+use crate::stored::Stored;
 use crate::strings::{Table, place, push_new};
+use crate::values::Values;
 use crate::words::Word;
 use std::alloc::AllocError;
 
-/// Appends the strings of the values, but those that are known to stand there.
-fn collect_values<'t>(
+/// Appends the strings of the values of a run, but those that are known to stand there.
+fn collect_run<'t>(
     values: &'t [Stored],
     words: &mut Vec<Word<'t>>,
     guesses: &mut Guesses,
@@ -30,6 +33,20 @@ fn collect_values<'t>(
         push_new(words, guesses, v.key())?;
         push_new(words, guesses, v.value())?;
         push_new(words, guesses, v.path())?;
+    }
+    Ok(())
+}
+
+/// Appends the strings of the values, but those that are known to stand there.
+fn collect_values<'t>(
+    values: &'t Values,
+    words: &mut Vec<Word<'t>>,
+    guesses: &mut Guesses,
+) -> Result<(), AllocError>
+    ensures { OnOk result (SameMembers words.new.items (words.old.items ++ flat_map strings_of_value values.now)) }
+{
+    for run in values.runs() {
+        collect_run(run, words, guesses)?;
     }
     Ok(())
 }
@@ -64,16 +81,15 @@ pub fn text_length(node: &Branch) -> usize
     ensures { result ≡ min (text_size (tree_of node.now)) (2 ^ 64 - 1) }
 {
     let children: &[Branch] = &node.children;
-    let values: &[Stored] = &node.values;
     let mut total = 0usize;
     for child in children {
         total = total.saturating_add(text_length(child));
     }
-    total.saturating_add(record_length(children.len(), values.len()))
+    total.saturating_add(record_length(children.len(), node.values.len()))
 }
 
-/// Appends the value entries.
-fn push_values(
+/// Appends the value entries of a run.
+fn push_run(
     values: &[Stored],
     table: &Table<'_, '_>,
     guesses: &mut Guesses,
@@ -94,6 +110,23 @@ fn push_values(
     Ok(())
 }
 
+/// Appends the value entries.
+fn push_values(
+    values: &Values,
+    table: &Table<'_, '_>,
+    guesses: &mut Guesses,
+    out: &mut Vec<u8>,
+) -> Result<(), AllocError>
+    requires { IsTable table.now }
+    ensures { OnOk result (out.new.items
+        ≡ out.old.items ++ flat_map (value_text (place_in table.now)) values.now) }
+{
+    for run in values.runs() {
+        push_run(run, table, guesses, out)?;
+    }
+    Ok(())
+}
+
 /// Appends the node's text to the bytes before it, and its child entry to its parent's.
 pub fn push_text(
     node: &Branch,
@@ -104,22 +137,22 @@ pub fn push_text(
 ) -> Result<(), AllocError>
     requires table { IsTable table.now }
     requires narrow { IsNarrow (tree_of node.now) }
+    requires fits { text_size (tree_of node.now) < 2 ^ 64 }
     ensures text { OnOk result (out.new.items
         ≡ out.old.items ++ node_text (place_in table.now) (length out.old.items) (tree_of node.now)) }
     ensures entry { OnOk result (entries.new.items ≡ entries.old.items
         ++ (byte_of node.now ∷ padding 7 ++ little_bytes 8 (record_at (length out.old.items) (tree_of node.now)))) }
 {
     let children: &[Branch] = &node.children;
-    let values: &[Stored] = &node.values;
     let first = entries.as_slice().len();
     for child in children {
         push_text(child, table, guesses, entries, out)?;
     }
     let at = out.as_slice().len();
     let prefix = place(table, guesses, node.prefix.text());
-    push_node(out, prefix, children.len() as u8, values.len())?;
+    push_node(out, prefix, children.len() as u8, node.values.len())?;
     push_rest(out, entries, first)?;
-    push_values(values, table, guesses, out)?;
+    push_values(&node.values, table, guesses, out)?;
     entries.truncate(first);
     push_child(entries, node.byte, at)?;
     Ok(())

@@ -1,12 +1,21 @@
 //! The bytes that a node's path goes on with, in the node itself where they are few.
-use smallvec::SmallVec;
 use std::alloc::{AllocError, Global};
 use std::marker::Model;
 
-/// Some bytes; up to sixteen take no memory of their own.
+/// How many bytes stand in the node itself: as many as, with their count, leave a prefix as large as a `Vec`.
+const SHORT: usize = 22;
+
+#[derive(Drop)]
+enum Text {
+    /// So many of the bytes.
+    Short(u8, [u8; SHORT]),
+    Long(Box<Vec<u8>>),
+}
+
+/// Some bytes; up to 22 take no memory of their own.
 #[derive(Drop)]
 pub struct Prefix {
-    bytes: SmallVec<u8, 16>,
+    text: Text,
 }
 
 impl Model for Prefix {
@@ -17,18 +26,22 @@ impl Model for Prefix {
 
     ghost coded = { coded_bytes };
 
-    ghost view = { λ p. p.bytes.items };
+    ghost use Rattle.hwdb_writer.specs.Text.{bytes_of, IsWithin};
+
+    ghost view = { λ p. bytes_of p.text };
+
+    ghost invariant = { λ p. IsWithin p.text };
 }
 
 impl Prefix {
     ghost use Rattle.std.specs.Prelude.{◌≡◌, [], IfOk};
 
     /// No bytes. Takes no memory.
-    pub fn empty(alloc: Global) -> Prefix
+    pub fn empty() -> Prefix
         ensures { result ≡ [] }
     {
         Prefix {
-            bytes: SmallVec::new(alloc),
+            text: Text::Short(0, [0; SHORT]),
         }
     }
 
@@ -36,8 +49,17 @@ impl Prefix {
     pub fn new(alloc: Global, text: &[u8]) -> Result<Prefix, AllocError>
         ensures { IfOk result (λ p. p ≡ text.now) }
     {
+        let length = text.len();
+        if length > SHORT {
+            let text = Box::new(alloc, Vec::from_slice(alloc, text)?)?;
+            return Ok(Prefix {
+                text: Text::Long(text),
+            });
+        }
+        let mut bytes = [0; SHORT];
+        bytes[..length].copy_from_slice(text);
         Ok(Prefix {
-            bytes: SmallVec::from_slice(alloc, text)?,
+            text: Text::Short(length as u8, bytes),
         })
     }
 
@@ -45,6 +67,9 @@ impl Prefix {
     pub fn text(&self) -> &[u8]
         ensures { result.now ≡ self.now }
     {
-        self.bytes.as_slice()
+        match &self.text {
+            Text::Short(length, bytes) => &bytes[..*length as usize],
+            Text::Long(text) => text.as_slice(),
+        }
     }
 }

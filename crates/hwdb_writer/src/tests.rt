@@ -103,6 +103,39 @@ fn database(
     Ok(write(alloc, &tree, max_bytes))
 }
 
+/// How many keys one pattern has in the tests of their order: enough for many runs.
+const COUNT: usize = 4000;
+
+/// The size of their database: the header, the root with its one child, the pattern's node, and the strings.
+const COUNT_SIZE: u32 = 80 + 40 + (24 + 32 * 4000) + (1 + 4 * 4000 + 24 + 2);
+
+/// A key of its own for each number below 10,000, in their order.
+fn key(n: usize) -> [u8; 2] {
+    [(n / 100 % 100) as u8 + 1, (n % 100) as u8 + 1]
+}
+
+/// Puts the keys of one pattern, each so many behind the one before it, and from the first on again.
+fn put_stepping(
+    rt: &impl Abort,
+    alloc: Global,
+    tree: &mut Tree,
+    step: usize,
+    value: &[u8],
+) -> Result<(), Fail> {
+    for i in 0..COUNT {
+        let n = i.wrapping_mul(step) % COUNT;
+        put(rt, alloc, tree, 2, b"a", &key(n), value)?;
+    }
+    Ok(())
+}
+
+/// The database of the keys of one pattern that came in steps.
+fn stepping(rt: &impl Abort, alloc: Global, step: usize) -> Result<Vec<u8>, Fail> {
+    let mut tree = Tree::new(alloc);
+    put_stepping(rt, alloc, &mut tree, step, b"v")?;
+    Ok(write(alloc, &tree, COUNT_SIZE)?)
+}
+
 #[test]
 fn sizes(rt: HostRuntime) -> Result<(), Fail> {
     let alloc = rt.alloc();
@@ -150,5 +183,59 @@ fn order_and_last_put(rt: HostRuntime) -> Result<(), Fail> {
     put(&rt, alloc, &mut tree, 3, b"a", b"L", b"v")?;
     put(&rt, alloc, &mut tree, 2, b"a", b"K", b"v")?;
     assert_eq!(rt; write(alloc, &tree, 241)?.as_slice(), TWO.as_slice());
+    Ok(())
+}
+
+#[test]
+fn path_and_its_beginning(rt: HostRuntime) -> Result<(), Fail> {
+    let alloc = rt.alloc();
+    let mut longer_first = Tree::new(alloc);
+    put(&rt, alloc, &mut longer_first, 2, b"abc", b"K", b"1")?;
+    put(&rt, alloc, &mut longer_first, 5, b"ab", b"K", b"2")?;
+    let mut shorter_first = Tree::new(alloc);
+    put(&rt, alloc, &mut shorter_first, 5, b"ab", b"K", b"2")?;
+    put(&rt, alloc, &mut shorter_first, 2, b"abc", b"K", b"1")?;
+    let bytes = write(alloc, &longer_first, 282)?;
+    assert_eq!(rt; bytes.len(), 282);
+    assert_eq!(rt;
+        write(alloc, &shorter_first, 282)?.as_slice(),
+        bytes.as_slice()
+    );
+    Ok(())
+}
+
+#[test]
+fn long_value(rt: HostRuntime) -> Result<(), Fail> {
+    let alloc = rt.alloc();
+    let value = [b'x'; 300];
+    let mut tree = Tree::new(alloc);
+    put(&rt, alloc, &mut tree, 2, b"a", b"K", &value)?;
+    let bytes = write(alloc, &tree, 505)?;
+    assert_eq!(rt; bytes.len(), 505);
+    assert_eq!(rt; bytes.iter().filter(|byte| **byte == b'x').count(), 300);
+    Ok(())
+}
+
+#[test]
+fn many_keys_in_any_order(rt: HostRuntime) -> Result<(), Fail> {
+    let alloc = rt.alloc();
+    let ascending = stepping(&rt, alloc, 1)?;
+    assert_eq!(rt; ascending.len(), COUNT_SIZE as usize);
+    let falling = stepping(&rt, alloc, COUNT - 1)?;
+    assert_eq!(rt; falling.as_slice(), ascending.as_slice());
+    let mixed = stepping(&rt, alloc, 1237)?;
+    assert_eq!(rt; mixed.as_slice(), ascending.as_slice());
+    Ok(())
+}
+
+#[test]
+fn many_keys_put_again(rt: HostRuntime) -> Result<(), Fail> {
+    let alloc = rt.alloc();
+    let mut tree = Tree::new(alloc);
+    put_stepping(&rt, alloc, &mut tree, 1, b"u")?;
+    put_stepping(&rt, alloc, &mut tree, 1237, b"v")?;
+    let again = write(alloc, &tree, COUNT_SIZE)?;
+    let once = stepping(&rt, alloc, 1)?;
+    assert_eq!(rt; again.as_slice(), once.as_slice());
     Ok(())
 }

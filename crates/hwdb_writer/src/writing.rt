@@ -9,7 +9,7 @@ ghost use Rattle.hwdb_writer.specs.Standing.{tree_of};
 ghost use Rattle.hwdb_writer.specs.declared.writing.StoreError.TheVariants.{Memory};
 
 use crate::assignments::Tree;
-use crate::branches::{Branch, Stored};
+use crate::branches::Branch;
 use crate::guesses::Guesses;
 use crate::nodes::{collect, push_text, record_length, text_length};
 use crate::records::{CHILD_SIZE, HEADER_SIZE, NODE_SIZE, VALUE_SIZE, push_u64};
@@ -87,8 +87,7 @@ fn root_place(root: &Branch, nodes: usize) -> usize
     ensures { result ≡ record_at 80 (tree_of root.now) }
 {
     let children: &[Branch] = &root.children;
-    let values: &[Stored] = &root.values;
-    HEADER_SIZE + nodes - record_length(children.len(), values.len())
+    HEADER_SIZE + nodes - record_length(children.len(), root.values.len())
 }
 
 /// The database of the tree, whose strings and parts are these and so long.

@@ -4,7 +4,8 @@ use Rattle.std.proofs.lemmas.List.{take_rest}
 use Rattle.hwdb_layout.specs.Tree.Tree.{Node}
 use Rattle.hwdb_layout.specs.Map.{IsTree}
 use Rattle.hwdb_writer.specs.Setting.{set_at}
-use Rattle.hwdb_writer.specs.Standing.{value_of, standing, children_in, tree_of, byte_of}
+use Rattle.hwdb_writer.specs.Stored.{value_of}
+use Rattle.hwdb_writer.specs.Standing.{standing, children_in, tree_of, byte_of}
 use Rattle.hwdb_writer.specs.declared.branches.Branch.{Branch}
 use Rattle.hwdb_writer.specs.declared.branches.Branch.TheViews.{out-Branch}
 use Rattle.hwdb_writer.proofs.Standings.{rolled, byte_kept, opened, kids_same, on_err_anyway}
@@ -18,26 +19,26 @@ returns-then-at-prefix-clause-ok t c =
     let e = rw c.text-prefix.ensures at c.if-at-prefix.true in
     on_ok_weaker c.fork.result (λ h. h ∙ sym (forks c.args.node.now c.args.rest.now (value_of c.args.value) c.common-at.result m e)) c.fork.ensures.ok
 
-pub put_value-requires : goal.put_value-requires
-put_value-requires t c = keys_up _ c.requires
+pub set-requires : goal.set-requires
+set-requires t c = keys_up _ c.requires
 
-pub returns-in_err-put_value-clause-same : goal.returns-in_err-put_value-clause-same
-returns-in_err-put_value-clause-same t c = byte_kept _ _ refl
+pub returns-in_err-set-clause-same : goal.returns-in_err-set-clause-same
+returns-in_err-set-clause-same t c = byte_kept _ _ refl
 
-pub returns-in_err-put_value-clause-err : goal.returns-in_err-put_value-clause-err
-returns-in_err-put_value-clause-err t c =
-    on_err_anyway c.from_residual.result (rolled _ _ _ _ refl c.in_err-put_value.ensures.err refl ∙ sym (opened c.args.node.now))
+pub returns-in_err-set-clause-err : goal.returns-in_err-set-clause-err
+returns-in_err-set-clause-err t c =
+    on_err_anyway c.from_residual.result (rolled _ _ _ _ refl c.in_err-set.ensures.err refl ∙ sym (opened c.args.node.now))
 
-pub returns-in_ok-put_value-clause-same : goal.returns-in_ok-put_value-clause-same
-returns-in_ok-put_value-clause-same t c = byte_kept _ _ refl
+pub returns-in_ok-set-clause-same : goal.returns-in_ok-set-clause-same
+returns-in_ok-set-clause-same t c = byte_kept _ _ refl
 
-pub returns-in_ok-put_value-clause-ok : goal.returns-in_ok-put_value-clause-ok
-returns-in_ok-put_value-clause-ok t c =
+pub returns-in_ok-set-clause-ok : goal.returns-in_ok-set-clause-ok
+returns-in_ok-set-clause-ok t c =
     let m = rw c.text-prefix.ensures at c.common-at.ensures.meeting in
     let e = rw c.text-prefix.ensures at c.if-at-prefix.false in
     let b = out-Branch c.args.node.now in
     rolled _ _ _ _ refl refl refl
-    ∙ ap (λ vs. Node b.prefix vs (children_in (map standing b.children.items))) c.in_ok-put_value.ensures.ok
+    ∙ ap (λ vs. Node b.prefix vs (children_in (map standing b.children.items))) c.in_ok-set.ensures.ok
     ∙ sym (ends c.args.node.now c.args.rest.now (value_of c.args.value) c.common-at.result m e (omega arith))
 
 pub find_byte-requires : goal.find_byte-requires
@@ -71,8 +72,8 @@ returns-in_ok-insert-in-Err-clause-ok t c =
     let e = rw c.text-prefix.ensures at c.if-at-prefix.false in
     let h = rw c.deref.ensures.value at c.in-Err.ensures.absent in
     let tree = rw take_rest at c.in_ok-child-in-Err.ensures.tree in
-    rolled _ b.prefix b.values.items _ refl refl c.in_ok-insert-in-Err.ensures.items
-    ∙ ap (Node b.prefix (map value_of b.values.items))
+    rolled _ b.prefix b.values _ refl refl c.in_ok-insert-in-Err.ensures.items
+    ∙ ap (Node b.prefix b.values)
     (sym (child_gap (get_or rest at 0) (drop (at + 1) rest) (value_of c.args.value) b.children.items c.in-Err.i c.in_ok-child-in-Err.child h c.in_ok-child-in-Err.ensures.byte tree))
     ∙ sym (goes c.args.node.now rest (value_of c.args.value) at m e (omega (arith, c.if-at-rest.false)))
 
@@ -87,8 +88,8 @@ returns-in-Ok-clause-ok t c =
     let ok = rw take_rest at c.put_below.ensures.ok in
     let same = c.put_below.ensures.same ∙ ap byte_of c.index_mut.ensures.value in
     on_ok_weaker c.put_below.result (λ g.
-    rolled _ b.prefix b.values.items _ refl refl refl
-    ∙ ap (Node b.prefix (map value_of b.values.items))
+    rolled _ b.prefix b.values _ refl refl refl
+    ∙ ap (Node b.prefix b.values)
     (sym (child_hit (get_or rest at 0) (drop (at + 1) rest) (value_of c.args.value) b.children.items c.in-Ok.i c.index_mut.result.now c.put_below.new.node h same
     (g ∙ ap (λ x. set_at (drop (at + 1) rest) (value_of c.args.value) (tree_of x)) c.index_mut.ensures.value)))
     ∙ sym (goes c.args.node.now rest (value_of c.args.value) at m e (omega (arith, c.if-at-rest.false)))) ok
@@ -98,5 +99,5 @@ returns-in-Ok-clause-err t c =
     let b = out-Branch c.args.node.now in
     let s = c.put_below.ensures.same ∙ ap byte_of c.index_mut.ensures.value in
     on_err_weaker c.put_below.result (λ h. rolled _ _ _ _ refl refl refl
-    ∙ ap (λ ks. Node b.prefix (map value_of b.values.items) ks) (kids_same b.children.items c.in-Ok.i c.index_mut.result.now c.put_below.new.node s (h ∙ ap tree_of c.index_mut.ensures.value))
+    ∙ ap (λ ks. Node b.prefix b.values ks) (kids_same b.children.items c.in-Ok.i c.index_mut.result.now c.put_below.new.node s (h ∙ ap tree_of c.index_mut.ensures.value))
     ∙ sym (opened c.args.node.now)) c.put_below.ensures.err

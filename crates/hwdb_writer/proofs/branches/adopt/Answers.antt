@@ -1,7 +1,7 @@
 use Rattle.std.proofs.Common.{ap, ◌∙◌, map}
 use Rattle.std.specs.List.{insert}
 use Rattle.hwdb_layout.specs.Tree.Tree.{Node}
-use Rattle.hwdb_writer.specs.Standing.{value_of, standing, children_in}
+use Rattle.hwdb_writer.specs.Standing.{standing, children_in}
 use Rattle.hwdb_writer.specs.declared.branches.Branch.TheViews.{out-Branch}
 use Rattle.hwdb_writer.proofs.Standings.{rolled, byte_kept, lowered}
 use Rattle.hwdb_writer.proofs.Levels.{map-insert}
@@ -18,7 +18,7 @@ returns-clause-tree c =
     let x = ap out-Branch c.swap.ensures.x_after ∙ out_rolled _ in
     let y = c.swap.ensures.y_after in
     let items = rw (c.unwrap.ensures, ap (λ r. r.children.items) x) at c.insert.ensures.items in
-    rolled _ c.args.front c.args.values.items _ (ap (λ r. r.prefix) x) (ap (λ r. r.values.items) x) items
-    ∙ ap (λ ks. Node c.args.front (map value_of c.args.values.items) (children_in ks))
+    rolled _ c.args.front c.args.values _ (ap (λ r. r.prefix) x) (ap (λ r. r.values) x) items
+    ∙ ap (λ ks. Node c.args.front c.args.values (children_in ks))
     (map-insert standing c.args.others.items c.args.place _
-    ∙ ap (insert (map standing c.args.others.items) c.args.place) (lowered _ c.args.node.now (ap (λ b. (out-Branch b).values.items) y) (ap (λ b. (out-Branch b).children.items) y)))
+    ∙ ap (insert (map standing c.args.others.items) c.args.place) (lowered _ c.args.node.now (ap (λ b. (out-Branch b).values) y) (ap (λ b. (out-Branch b).children.items) y)))

@@ -2,7 +2,8 @@ use Rattle.std.proofs.Common.{◌∙◌, ◌++◌, ◌∷◌, [], ap, get_or, ar
 use Rattle.std.proofs.lemmas.List.{take_rest}
 use Rattle.hwdb_layout.specs.Tree.{values_of}
 use Rattle.hwdb_writer.specs.Setting.{below_of}
-use Rattle.hwdb_writer.specs.Standing.{value_of, tree_of}
+use Rattle.hwdb_writer.specs.Stored.{value_of}
+use Rattle.hwdb_writer.specs.Standing.{tree_of}
 use Rattle.hwdb_writer.specs.declared.branches.Branch.TheViews.{out-Branch}
 use Rattle.hwdb_writer.proofs.Levels.{split_before, split_behind}
 use Rattle.hwdb_writer.proofs.branches.fork.Goals as goal
@@ -17,9 +18,9 @@ returns-then-other-byte-clause-ok c =
     let back = rw c.text-prefix.ensures at (rw take_rest at c.in_ok-back.ensures) in
     let tree = rw take_rest at c.in_ok-leaf.ensures.tree in
     let order = rw c.text-prefix.ensures at c.if-other-byte.true in
-    split_before _ p rest at (value_of c.args.value) (values_of old) (below_of old) _ _ c.new-values.result.items c.push-2.new.self.items c.in_ok-leaf.field-0 _
-    c.adopt-then-other-byte.ensures.tree front back (ap (λ t. get_or t at 0) c.text-prefix.ensures) c.new-values.ensures.items
-    (c.in_ok-push-2.ensures.items ∙ ap (λ bs. bs ++ c.in_ok-leaf.field-0 ∷ []) c.in_ok-others-2.ensures.items)
+    split_before _ p rest at (value_of c.args.value) (values_of old) (below_of old) _ _ c.none-values.result c.push.new.self.items c.in_ok-leaf.field-0 _
+    c.adopt-then-other-byte.ensures.tree front back (ap (λ t. get_or t at 0) c.text-prefix.ensures) c.none-values.ensures
+    (c.in_ok-push.ensures.items ∙ ap (λ bs. bs ++ c.in_ok-leaf.field-0 ∷ []) c.in_ok-others-2.ensures.items)
     c.in_ok-leaf.ensures.byte tree (omega (arith, c.requires.within, c.if-at-rest.false)) order
 
 pub returns-else-other-byte-clause-ok : goal.returns-else-other-byte-clause-ok
@@ -32,7 +33,7 @@ returns-else-other-byte-clause-ok c =
     let back = rw c.text-prefix.ensures at (rw take_rest at c.in_ok-back.ensures) in
     let tree = rw take_rest at c.in_ok-leaf.ensures.tree in
     let order = rw c.text-prefix.ensures at c.if-other-byte.false in
-    split_behind _ p rest at (value_of c.args.value) (values_of old) (below_of old) _ _ c.new-values.result.items c.push-2.new.self.items c.in_ok-leaf.field-0 _
-    c.adopt-else-other-byte.ensures.tree front back (ap (λ t. get_or t at 0) c.text-prefix.ensures) c.new-values.ensures.items
-    (c.in_ok-push-2.ensures.items ∙ ap (λ bs. bs ++ c.in_ok-leaf.field-0 ∷ []) c.in_ok-others-2.ensures.items)
+    split_behind _ p rest at (value_of c.args.value) (values_of old) (below_of old) _ _ c.none-values.result c.push.new.self.items c.in_ok-leaf.field-0 _
+    c.adopt-else-other-byte.ensures.tree front back (ap (λ t. get_or t at 0) c.text-prefix.ensures) c.none-values.ensures
+    (c.in_ok-push.ensures.items ∙ ap (λ bs. bs ++ c.in_ok-leaf.field-0 ∷ []) c.in_ok-others-2.ensures.items)
     c.in_ok-leaf.ensures.byte tree (omega (arith, c.requires.within, c.if-at-rest.false)) (omega (arith, order))

@@ -1,10 +1,11 @@
 use Rattle.std.proofs.Common.{◌++◌, subst, List, ℕ}
-use Rattle.hwdb_layout.specs.Written.{strings_of}
+use Rattle.std.specs.List.{flat_map}
+use Rattle.hwdb_layout.specs.Written.{strings_of, strings_of_value}
 use Rattle.hwdb_writer.specs.Membership.{SameMembers}
 use Rattle.hwdb_writer.specs.Standing.{tree_of}
 use Rattle.hwdb_writer.specs.declared.branches.Branch.{Branch}
 use Rattle.hwdb_writer.specs.declared.branches.Branch.TheViews.{out-Branch}
-use Rattle.hwdb_writer.proofs.Emitted.{one_left, none_left, kid_strings, kid_strings-cons, kid_strings-none, value_strings, parts_opened}
+use Rattle.hwdb_writer.proofs.Emitted.{one_left, none_left, kid_strings, kid_strings-cons, kid_strings-none, parts_opened}
 use Rattle.hwdb_writer.proofs.Memberships.{same_refl, same_step, same_done, same_named, same_parts}
 use Rattle.hwdb_writer.proofs.nodes.+collect.Goals as goal
 
@@ -22,6 +23,6 @@ returns t c =
     let end = same_done _ _ _ (none_left kid_strings kid_strings-none c.deref-child-items.result.now c.loop-child.child-index c.loop-child-test.false) c.loop-child.invariant in
     let start = c.args.words.now.items in
     let P : List (List ℕ) → Type 0 = λ z. SameMembers c.loop-child.words.items (start ++ z) in
-    subst P (parts_opened c.args.node.now c.deref-child-items.result.now c.deref.result.now c.deref-child-items.ensures.value c.deref.ensures.value)
-    (same_parts start _ _ _ (out-Branch c.args.node.now).prefix (value_strings c.deref.result.now) (kid_strings c.deref-child-items.result.now)
+    subst P (parts_opened c.args.node.now c.deref-child-items.result.now c.deref-child-items.ensures.value)
+    (same_parts start _ _ _ (out-Branch c.args.node.now).prefix (flat_map strings_of_value (out-Branch c.args.node.now).values) (kid_strings c.deref-child-items.result.now)
     (same_named _ _ _ _ c.text.ensures c.in_ok-push_new.ensures) c.in_ok-collect_values.ensures end)

@@ -16,5 +16,5 @@ loop-child-preserved t c =
 pub returns : goal.returns
 returns t c =
     let e = sizes_none c.deref-children.result.now c.loop-child.child-index c.loop-child-test.false in
-    let s = size-opened c.args.node.now c.deref-children.result.now c.deref-values.result.now c.deref-children.ensures.value c.deref-values.ensures.value in
-    omega (arith, e, s, c.loop-child.invariant.sum, c.loop-child.invariant.small, c.record_length.ensures, c.saturating_add.ensures)
+    let s = size-opened c.args.node.now c.deref-children.result.now c.deref-children.ensures.value in
+    omega (arith, e, s, c.loop-child.invariant.sum, c.loop-child.invariant.small, c.len.ensures, c.record_length.ensures, c.saturating_add.ensures)

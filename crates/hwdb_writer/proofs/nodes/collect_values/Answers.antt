@@ -1,22 +1,23 @@
-use Rattle.std.proofs.Common.{refl}
+use Rattle.std.proofs.Common.{◌++◌, refl, subst, List}
+use Rattle.std.specs.List.{flat_map}
+use Rattle.hwdb_layout.specs.Tree.{Value}
 use Rattle.hwdb_layout.specs.Written.{strings_of_value}
-use Rattle.hwdb_writer.specs.Standing.{value_of}
-use Rattle.hwdb_writer.specs.declared.branches.Stored.{Stored}
-use Rattle.hwdb_writer.proofs.Emitted.{one_left, none_left, value_strings, value_strings-cons}
-use Rattle.hwdb_writer.proofs.Memberships.{same_refl, same_step, same_done, same_named, same_three}
+use Rattle.hwdb_writer.specs.Membership.{SameMembers}
+use Rattle.hwdb_writer.specs.Runs.{Run}
+use Rattle.hwdb_writer.proofs.Emitted.{one_left, none_left, value_strings, run_strings, run_strings-cons}
+use Rattle.hwdb_writer.proofs.Memberships.{same_refl, same_step, same_done}
 use Rattle.hwdb_writer.proofs.nodes.collect_values.Goals as goal
 
-pub loop-v-init : goal.loop-v-init
-loop-v-init c = same_refl _
+pub loop-run-init : goal.loop-run-init
+loop-run-init c = same_refl _
 
-pub loop-v-preserved : goal.loop-v-preserved
-loop-v-preserved c =
-    let v = c.v-item.result in
-    same_step _ _ (strings_of_value (value_of v)) _ _ _
-    (same_three c.loop-v.words.items c.push_new.new.words.items c.push_new-in-loop-v.new.words.items c.push_new-in-loop-v-2.new.words.items (value_of v).key (value_of v).value (value_of v).path
-    (same_named _ _ _ _ c.key.ensures c.in_ok-push_new.ensures) (same_named _ _ _ _ c.value.ensures c.in_ok-push_new-2.ensures) (same_named _ _ _ _ c.path.ensures c.in_ok-push_new-3.ensures))
-    (one_left value_strings (λ (s : Stored). strings_of_value (value_of s)) value_strings-cons c.args.values.now c.loop-v.v-index v c.v-item.is c.loop-v-test.true)
-    c.loop-v.invariant
+pub loop-run-preserved : goal.loop-run-preserved
+loop-run-preserved c =
+    same_step _ _ (value_strings c.run-item.result.items) _ _ _ (rw c.deref.ensures.value at c.in_ok-collect_run.ensures)
+    (one_left run_strings (λ (r : Run). value_strings r.items) run_strings-cons c.runs-run-items.result.now c.loop-run.run-index c.run-item.result c.run-item.is c.loop-run-test.true)
+    c.loop-run.invariant
 
 pub returns : goal.returns
-returns c = same_done _ _ _ (none_left value_strings refl c.args.values.now c.loop-v.v-index c.loop-v-test.false) c.loop-v.invariant
+returns c =
+    let P : List Value → Type 0 = λ vs. SameMembers c.loop-run.words.items (c.args.words.now.items ++ flat_map strings_of_value vs) in
+    subst P c.runs-run-items.ensures (same_done _ _ _ (none_left run_strings refl c.runs-run-items.result.now c.loop-run.run-index c.loop-run-test.false) c.loop-run.invariant)

@@ -1,21 +1,20 @@
 use Rattle.std.proofs.Common.{◌++◌, ◌∙◌, ap, refl}
+use Rattle.std.specs.List.{flat_map}
 use Rattle.hwdb_layout.specs.Written.{value_text}
-use Rattle.hwdb_writer.specs.Standing.{value_of}
 use Rattle.hwdb_writer.specs.Places.{place_in}
-use Rattle.hwdb_writer.specs.declared.branches.Stored.{Stored}
-use Rattle.hwdb_writer.proofs.Emitted.{made_more, made_all, six, at_place, vals_text, vals_text-cons}
+use Rattle.hwdb_writer.specs.Runs.{Run}
+use Rattle.hwdb_writer.proofs.Emitted.{made_more, made_all, vals_text, runs_text, runs_text-cons}
 use Rattle.hwdb_writer.proofs.nodes.push_values.Goals as goal
 
-pub loop-v-preserved : goal.loop-v-preserved
-loop-v-preserved c =
+pub loop-run-preserved : goal.loop-run-preserved
+loop-run-preserved c =
     let place = place_in c.args.table.now in
-    made_more (vals_text place) (λ (v : Stored). value_text place (value_of v)) (vals_text-cons place) c.args.values.now c.loop-v.v-index c.v-item.result c.v-item.is c.loop-v-test.true _ _ _
-    (six c.loop-v.out.items _ _ _ _ _ _ _ _ _ _ _ _
-    (c.in_ok-push_u64.ensures ∙ ap (λ x. c.loop-v.out.items ++ x) (at_place place _ _ _ c.place.ensures c.key.ensures))
-    (c.in_ok-push_u64-2.ensures ∙ ap (λ x. c.push_u64.new.out.items ++ x) (at_place place _ _ _ c.place-in-loop-v.ensures c.value.ensures))
-    (c.in_ok-push_u64-3.ensures ∙ ap (λ x. c.push_u64-in-loop-v.new.out.items ++ x) (at_place place _ _ _ c.place-in-loop-v-2.ensures c.path.ensures))
-    c.in_ok-push_u32.ensures c.in_ok-push_u16.ensures c.in_ok-extend_from_slice.ensures.items)
-    c.loop-v.invariant
+    made_more (runs_text place) (λ (r : Run). vals_text place r.items) (runs_text-cons place) c.runs-run-items.result.now c.loop-run.run-index c.run-item.result c.run-item.is c.loop-run-test.true _ _ _
+    (rw c.deref.ensures.value at c.in_ok-push_run.ensures)
+    c.loop-run.invariant
 
 pub returns : goal.returns
-returns c = made_all (vals_text (place_in c.args.table.now)) refl c.args.values.now c.loop-v.v-index c.loop-v-test.false _ _ c.loop-v.invariant
+returns c =
+    let place = place_in c.args.table.now in
+    made_all (runs_text place) refl c.runs-run-items.result.now c.loop-run.run-index c.loop-run-test.false _ _ c.loop-run.invariant
+    ∙ ap (λ vs. c.args.out.now.items ++ flat_map (value_text place) vs) c.runs-run-items.ensures

@@ -1,9 +1,7 @@
-use Rattle.std.proofs.Common.{◌≡◌, ◌++◌, drop, map}
-use Rattle.std.specs.List.{flat_map}
-use Rattle.hwdb_layout.specs.Written.{value_text}
-use Rattle.hwdb_writer.specs.Standing.{value_of}
+use Rattle.std.proofs.Common.{◌≡◌, ◌++◌, drop}
 use Rattle.hwdb_writer.specs.Places.{place_in}
+use Rattle.hwdb_writer.proofs.Emitted.{runs_text}
 use Rattle.hwdb_writer.proofs.nodes.push_values.Given as goal
 
-abbrev pub invariant-loop-v : goal.invariant-loop-v
-invariant-loop-v l = l.out.items ++ flat_map (value_text (place_in l.table)) (map value_of (drop l.v-index l.values)) ≡ l.initial.out.items ++ flat_map (value_text (place_in l.table)) (map value_of l.values)
+abbrev pub invariant-loop-run : goal.invariant-loop-run
+invariant-loop-run l = l.out.items ++ runs_text (place_in l.table) (drop l.run-index l.run-items) ≡ l.initial.out.items ++ runs_text (place_in l.table) l.run-items

@@ -6,7 +6,7 @@ use Rattle.hwdb_writer.proofs.Puts.{empty_map, empty_sound}
 use Rattle.hwdb_writer.proofs.assignments.Tree.new.Goals as goal
 
 pub invariant_of-result : goal.invariant_of-result
-invariant_of-result c = subst IsSound (sym (rolled _ [] [] [] c.empty.ensures c.new.ensures.items c.new-2.ensures.items)) empty_sound
+invariant_of-result c = subst IsSound (sym (rolled _ [] [] [] c.empty.ensures c.none.ensures c.new.ensures.items)) empty_sound
 
 pub returns : goal.returns
-returns c = ap map_of (rolled _ [] [] [] c.empty.ensures c.new.ensures.items c.new-2.ensures.items) ∙ empty_map
+returns c = ap map_of (rolled _ [] [] [] c.empty.ensures c.none.ensures c.new.ensures.items) ∙ empty_map

@@ -1,4 +1,4 @@
-use Rattle.std.proofs.Common.{arith, ◌∙◌, ap, sym}
+use Rattle.std.proofs.Common.{arith, ◌∙◌}
 use Rattle.hwdb_writer.proofs.Heads.{less_head, greater_head, same_head}
 use Rattle.hwdb_writer.proofs.words.WordOrd.cmp.Goals as goal
 

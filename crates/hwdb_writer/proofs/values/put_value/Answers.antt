@@ -1,7 +1,7 @@
 use Rattle.std.proofs.Common.{sym, ap, ◌∙◌, map}
-use Rattle.hwdb_writer.specs.Standing.{value_of}
+use Rattle.hwdb_writer.specs.Stored.{value_of}
 use Rattle.hwdb_writer.proofs.Steps.{value_hit, value_gap}
-use Rattle.hwdb_writer.proofs.branches.put_value.Goals as goal
+use Rattle.hwdb_writer.proofs.values.put_value.Goals as goal
 
 pub returns-in-Ok-clause-ok : goal.returns-in-Ok-clause-ok
 returns-in-Ok-clause-ok c =

@@ -3,11 +3,11 @@ use Rattle.std.specs.declared.cmp.Ordering.TheVariants.{Less, Equal, Greater}
 use Rattle.std.specs.Ordering.{nat_cmp}
 use Rattle.std.specs.Cmp.Lexicographic.{slice_cmp, nat_list_cmp_total}
 use Rattle.std.proofs.lemmas.List.{get_or_default}
-use Rattle.hwdb_writer.specs.declared.branches.Stored.{Stored}
+use Rattle.hwdb_writer.specs.declared.stored.Stored.{Stored}
 use Rattle.hwdb_writer.specs.Found.{key_in}
 use Rattle.hwdb_writer.proofs.Searching.{between_hit, between_less, between_greater}
 use Rattle.hwdb_writer.proofs.Steps.{up_keys}
-use Rattle.hwdb_writer.proofs.branches.find_key.Goals as goal
+use Rattle.hwdb_writer.proofs.values.find_key.Goals as goal
 
 -- what was compared, at any default
 at_any : (xs : List Stored) (i : ℕ) (x : Stored) (k : List ℕ) (r : Ordering) → i < length xs → x ≡ get_or xs i x → slice_cmp nat_cmp (key_in x) k ≡ r

@@ -3,7 +3,7 @@ use Rattle.std.specs.Ordering.{nat_cmp}
 use Rattle.std.specs.Cmp.Lexicographic.{slice_cmp}
 use Rattle.hwdb_writer.specs.Found.{key_in}
 use Rattle.hwdb_writer.proofs.Searching.{Between}
-use Rattle.hwdb_writer.proofs.branches.find_key.Given as goal
+use Rattle.hwdb_writer.proofs.values.find_key.Given as goal
 
 abbrev pub invariant-loop-low : goal.invariant-loop-low
 invariant-loop-low l = Between (slice_cmp nat_cmp) key_in l.values l.key l.low l.high
