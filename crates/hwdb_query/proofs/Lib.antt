@@ -4,6 +4,8 @@ pub mod Parting
 pub mod Dead
 pub mod Orders
 pub mod Steps
+pub mod Collecting
+pub mod Descending
 pub mod Resuming
 pub mod Distinct
 pub mod Members
@@ -16,5 +18,6 @@ pub mod Plain
 pub mod PlainPairs
 pub mod Accepting
 pub mod Keyed
+pub mod ByKey
 pub mod Numbers
 pub mod Spelled

@@ -10,6 +10,7 @@ use hwdb_reader::Entry;
 use std::alloc::{AllocError, Global};
 use std::cmp::Ordering;
 use std::marker::Model;
+use std::mem;
 
 /// Where a hit stands among others, or would.
 #[derive(Clone, Copy)]
@@ -122,11 +123,25 @@ impl<'a> Held<'a> {
         self.hits.reverse();
     }
 
-    /// Lets all hits go.
-    pub(crate) fn clear(&mut self)
-        ensures { self.new ≡ record self.old { hits = [] } }
+    /// Takes all hits out, with the memory that they stand in.
+    pub(crate) fn take(&mut self, alloc: Global) -> Held<'a>
+        ensures taken { result ≡ self.old }
+        ensures left { self.new ≡ record self.old { hits = [] } }
     {
-        self.hits.clear();
+        let hits = mem::replace(&mut self.hits, Vec::new(alloc));
+        Held {
+            hits,
+            most: self.most,
+        }
+    }
+
+    /// Becomes another list.
+    pub(crate) fn set(&mut self, other: Held<'a>)
+        ensures { self.new ≡ other.entry }
+    {
+        let Held { hits, most } = other;
+        self.hits = hits;
+        self.most = most;
     }
 
     /// Takes the last hit of the list.

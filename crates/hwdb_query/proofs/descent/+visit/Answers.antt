@@ -1,24 +1,24 @@
-use Rattle.std.proofs.Common.{◌≡◌, ◌∙◌, ap, sym, refl, subst, drop, take, suc, ◌+◌, ◌≤◌, length, ◌++◌, ◌∷◌, [], ℕ, arith, add-one, true, if◌then◌else◌}
+use Rattle.std.proofs.Common.{◌≡◌, ◌∙◌, ap, sym, refl, subst, drop, take, suc, ◌+◌, ◌≤◌, length, ◌++◌, ◌∷◌, [], List, filter, ℕ, arith, add-one, true, if◌then◌else◌}
 use Rattle.std.proofs.lemmas.List.{length-append}
 use Rattle.hwdb_pattern.specs.Paths.{StandsFor, IsLive}
 use Rattle.hwdb_layout.specs.Tree.{Tree, node_count, children_of, prefix_of, values_of}
 use Rattle.hwdb_reader.specs.View.{tree_of, entered_tree}
-use Rattle.hwdb_query.specs.Answers.{found_cmp, wanted, members_under, members_in, own_members}
+use Rattle.hwdb_query.specs.Answers.{is_wanted, members_under, members_in, own_members}
+use Rattle.hwdb_query.specs.Collected.{Collects}
 use Rattle.hwdb_pattern.specs.Paths.{is_live}
-use Rattle.hwdb_query.specs.Lists.{keep_all}
 use Rattle.hwdb_query.specs.Live.{live_under, live_in, nodes_in}
-use Rattle.hwdb_query.specs.Hits.{after_spot, Page}
-use Rattle.hwdb_query.proofs.Parting.{node_and_below, kid_next, kid_behind, kept_split, kept_next, live_split, live_least}
-use Rattle.hwdb_query.proofs.Steps.{stands_whole, cut_front, live_is, dead_is, keep_none, unwanted}
+use Rattle.hwdb_query.proofs.Parting.{node_and_below, kid_next, kid_behind, live_split, live_least}
+use Rattle.hwdb_query.proofs.Steps.{stands_whole, cut_front, live_is, dead_is}
+use Rattle.hwdb_query.proofs.Descending.{collected_none, node_collected, child_collected}
 use Rattle.hwdb_query.proofs.Dead.{dead_path, none_wanted, none_live}
-use Rattle.hwdb_query.proofs.filling.+visit.Goals as goal
-use Rattle.hwdb_query.proofs.filling.+visit.Goals.{then-is_alive+in_ok-offer_values+else-loop-i-test, else-is_alive}
+use Rattle.hwdb_query.proofs.descent.+visit.Goals as goal
+use Rattle.hwdb_query.proofs.descent.+visit.Goals.{then-is_alive+in_ok-collect_matching+else-loop-i-test, else-is_alive}
 
 pub enter-inside-requires : goal.enter-inside-requires
 enter-inside-requires t c = let r = c.requires.room in omega (arith, r, node_and_below (tree_of c.args.node))
 
-pub offer_values-requires : goal.offer_values-requires
-offer_values-requires t c =
+pub collect_matching-requires : goal.collect_matching-requires
+collect_matching-requires t c =
     let whole = c.in_ok-extend_from_slice.ensures.items in
     let stands = stands_whole c.args.above.now c.in_ok-here.here c.args.from c.args.path.now.items c.prefix.result.now c.extend_from_slice.new.self.items c.deref.result.now _
     c.requires.within whole c.deref.ensures.value refl c.requires.stands c.in_ok-here.ensures.path in
@@ -28,14 +28,10 @@ pub loop-i-init : goal.loop-i-init
 loop-i-init t c =
     let tree = tree_of c.args.node in
     let device = c.args.above.now.device in
-    let after = after_spot c.args.after in
-    let most = c.args.held.now.most in
-    let old = c.args.held.now.hits in
     let same : entered_tree c.enter-inside.result ≡ tree = c.enter-inside.ensures.same in
     let whole : c.extend_from_slice.new.self.items ≡ c.args.path.now.items ++ prefix_of tree = c.in_ok-extend_from_slice.ensures.items ∙ ap (λ p. c.args.path.now.items ++ p) c.prefix.ensures in
     let seen : c.deref-then-is_alive.result.now ≡ c.args.path.now.items ++ prefix_of tree = c.deref-then-is_alive.ensures.value ∙ whole in
     let dev : c.in_ok-here.here.device ≡ device = c.in_ok-here.ensures.device in
-    let offered = c.in_ok-offer_values.ensures.kept in
     let stands = stands_whole c.args.above.now c.in_ok-here.here c.args.from c.args.path.now.items c.prefix.result.now c.extend_from_slice.new.self.items c.deref.result.now _
     c.requires.within c.in_ok-extend_from_slice.ensures.items c.deref.ensures.value refl c.requires.stands c.in_ok-here.ensures.path in
     let alive : is_live (c.args.path.now.items ++ prefix_of tree) device ≡ true =
@@ -50,16 +46,11 @@ loop-i-init t c =
     let below : nodes_in (children_of (entered_tree c.enter-inside.result)) ≡ nodes_in (children_of tree) = ap (λ u. nodes_in (children_of u)) same in
     record {
       path = whole;
-      most = c.in_ok-offer_values.ensures.most;
-      kept =
-          ap (λ p. keep_all found_cmp most (wanted device after (members_in p (children_of (entered_tree c.enter-inside.result)))) c.offer_values.new.held.hits) whole
-          ∙ ap (λ u. keep_all found_cmp most (wanted device after (members_in (c.args.path.now.items ++ prefix_of tree) (children_of u))) c.offer_values.new.held.hits) same
-          ∙ ap (keep_all found_cmp most (wanted device after (members_in (c.args.path.now.items ++ prefix_of tree) (children_of tree))))
-          (offered
-          ∙ ap (λ d. keep_all found_cmp most (wanted d after (own_members c.deref-then-is_alive.result.now (values_of (entered_tree c.enter-inside.result)))) old) dev
-          ∙ ap (λ p. keep_all found_cmp most (wanted device after (own_members p (values_of (entered_tree c.enter-inside.result)))) old) seen
-          ∙ ap (λ u. keep_all found_cmp most (wanted device after (own_members (c.args.path.now.items ++ prefix_of tree) (values_of u))) old) same)
-          ∙ kept_split most device after c.args.path.now.items tree old;
+      collected = λ end below.
+          node_collected device c.args.path.now.items tree c.args.into.now c.collect_matching.new.into end
+          (subst (λ (g : List ℕ × List ℕ × Tree). Collects c.args.into.now (filter (is_wanted g.0) (own_members g.1 (values_of g.2))) c.collect_matching.new.into)
+          (λ i. (dev i, seen i, same i)) c.in_ok-collect_matching.ensures)
+          (subst (λ (g : List ℕ × Tree). Collects c.collect_matching.new.into (filter (is_wanted device) (members_in g.0 (children_of g.1))) end) (λ i. (whole i, same i)) below);
       counted = omega (arith, counted, split, live);
       room = omega (arith, counted, nodes, below);
       size = omega (arith, nodes, below);
@@ -91,9 +82,6 @@ pub loop-i-preserved : goal.loop-i-preserved
 loop-i-preserved t c =
     let tree = tree_of c.args.node in
     let device = c.args.above.now.device in
-    let after = after_spot c.args.after in
-    let most = c.args.held.now.most in
-    let old = c.args.held.now.hits in
     let kids = children_of (entered_tree c.enter-inside.result) in
     let node = tree_of c.child-child.result.node in
     let k : ℕ × Tree = (c.child-child.result.byte, node) in
@@ -117,49 +105,40 @@ loop-i-preserved t c =
     c.in_ok-visit.ensures.counted ∙ ap (λ d. c.loop-i.entered + live_under d c.push.new.self.items node) dev ∙ ap (λ p. c.loop-i.entered + live_under device p node) pushed in
     let behind : live_in device c.truncate.new.self.items rest ≡ live_in device c.loop-i.path.items rest = ap (λ p. live_in device p rest) front in
     let before = c.loop-i.invariant.counted in
-    let kept : c.visit.new.held.hits ≡ keep_all found_cmp most (wanted device after (members_under below node)) c.loop-i.held.hits =
-    c.in_ok-visit.ensures.kept
-    ∙ ap (λ m. keep_all found_cmp m (wanted c.in_ok-here.here.device after (members_under c.push.new.self.items node)) c.loop-i.held.hits) c.loop-i.invariant.most
-    ∙ ap (λ d. keep_all found_cmp most (wanted d after (members_under c.push.new.self.items node)) c.loop-i.held.hits) dev
-    ∙ ap (λ p. keep_all found_cmp most (wanted device after (members_under p node)) c.loop-i.held.hits) pushed in
+    let collected : Collects c.loop-i.into (filter (is_wanted device) (members_under below node)) c.visit.new.into =
+    subst (λ (g : List ℕ × List ℕ). Collects c.loop-i.into (filter (is_wanted g.0) (members_under g.1 node)) c.visit.new.into) (λ i. (dev i, pushed i)) c.in_ok-visit.ensures.collected in
     record {
       path = front ∙ c.loop-i.invariant.path;
-      most = c.in_ok-visit.ensures.most ∙ c.loop-i.invariant.most;
-      kept = rw add-one (
-          ap (λ p. keep_all found_cmp most (wanted device after (members_in p rest)) c.visit.new.held.hits) front
-          ∙ ap (keep_all found_cmp most (wanted device after (members_in c.loop-i.path.items rest))) kept
-          ∙ sym (kept_next most device after c.loop-i.path.items k (drop c.loop-i.i kids) rest c.loop-i.held.hits next)
-          ∙ c.loop-i.invariant.kept);
+      collected = rw add-one (λ end behind. c.loop-i.invariant.collected end
+          (child_collected device c.loop-i.path.items k (drop c.loop-i.i kids) rest c.loop-i.into c.visit.new.into end next collected
+          (subst (λ p. Collects c.visit.new.into (filter (is_wanted device) (members_in p rest)) end) front behind)));
       counted = rw add-one (let goal_is : c.visit.new.entered + live_in device c.truncate.new.self.items rest ≡ c.args.entered.now + live_under device c.args.path.now.items tree = omega (arith, live, counted, behind, before) in goal_is);
       room = rw add-one (let goal_is : c.visit.new.entered + nodes_in rest ≤ c.args.entered.now + node_count tree = omega (arith, nodes, counted, least, room) in goal_is);
       size = rw (add-one c.loop-i.i) (let goal_is : nodes_in rest + 1 ≤ node_count tree = omega (arith, nodes, size) in goal_is);
     }
 
-pub returns-clause-kept : goal.returns-clause-kept
-returns-clause-kept t c =
+pub returns-clause-collected : goal.returns-clause-collected
+returns-clause-collected t c =
     let tree = tree_of c.args.node in
     let device = c.args.above.now.device in
-    let after = after_spot c.args.after in
-    let most = c.args.held.now.most in
     let stands = stands_whole c.args.above.now c.in_ok-here.here c.args.from c.args.path.now.items c.prefix.result.now c.extend_from_slice.new.self.items c.deref.result.now _
     c.requires.within c.in_ok-extend_from_slice.ensures.items c.deref.ensures.value refl c.requires.stands c.in_ok-here.ensures.path in
     let whole : c.extend_from_slice.new.self.items ≡ c.args.path.now.items ++ prefix_of tree = c.in_ok-extend_from_slice.ensures.items ∙ ap (λ p. c.args.path.now.items ++ p) c.prefix.ensures in
     let dev : c.in_ok-here.here.device ≡ device = c.in_ok-here.ensures.device in
     elim c.if-is_alive.branch [
-      | then-is_alive+in_ok-offer_values+else-loop-i-test w ↦
+      | then-is_alive+in_ok-collect_matching+else-loop-i-test w ↦
           let kids = children_of (entered_tree w.enter-inside.result) in
           let last = w.loop-i-test.false in
           let size = w.children-i-end.ensures in
           let none : drop w.loop-i.i kids ≡ [] = kid_behind kids w.loop-i.i (omega (arith, last, size)) in
-          ap (λ (p : Page). p.hits) w.held-is
-          ∙ keep_none most (wanted device after (members_in w.loop-i.path.items (drop w.loop-i.i kids))) w.loop-i.held.hits
-          (ap (λ ks. wanted device after (members_in w.loop-i.path.items ks)) none ∙ unwanted device after)
-          ∙ w.loop-i.invariant.kept
+          subst (Collects c.args.into.now (filter (is_wanted device) (members_under c.args.path.now.items tree))) (sym w.into-is)
+          (w.loop-i.invariant.collected w.loop-i.into (collected_none w.loop-i.into _ (ap (λ ks. filter (is_wanted device) (members_in w.loop-i.path.items ks)) none)))
       | else-is_alive w ↦
           let lost = dead_is c.in_ok-here.here.device c.extend_from_slice.new.self.items _ w.if-is_alive.false (c.is_alive.ensures _ stands) in
           let dead = dead_path device (c.args.path.now.items ++ prefix_of tree) c.path_laws.ensures.matched c.path_laws.ensures.live c.path_laws.ensures.longer c.path_laws.ensures.below
           (subst (λ d. IsLive (c.args.path.now.items ++ prefix_of tree) d → ⊥) dev (subst (λ p. IsLive p c.in_ok-here.here.device → ⊥) whole lost)) in
-          ap (λ (p : Page). p.hits) w.held-is ∙ keep_none most _ c.args.held.now.hits (none_wanted device after c.args.path.now.items tree dead)
+          subst (Collects c.args.into.now (filter (is_wanted device) (members_under c.args.path.now.items tree))) (sym w.into-is)
+          (collected_none c.args.into.now _ (none_wanted device c.args.path.now.items tree dead))
     ]
 
 pub returns-clause-counted : goal.returns-clause-counted
@@ -171,7 +150,7 @@ returns-clause-counted t c =
     let whole : c.extend_from_slice.new.self.items ≡ c.args.path.now.items ++ prefix_of tree = c.in_ok-extend_from_slice.ensures.items ∙ ap (λ p. c.args.path.now.items ++ p) c.prefix.ensures in
     let dev : c.in_ok-here.here.device ≡ device = c.in_ok-here.ensures.device in
     elim c.if-is_alive.branch [
-      | then-is_alive+in_ok-offer_values+else-loop-i-test w ↦
+      | then-is_alive+in_ok-collect_matching+else-loop-i-test w ↦
           let kids = children_of (entered_tree w.enter-inside.result) in
           let last = w.loop-i-test.false in
           let size = w.children-i-end.ensures in
