@@ -5,7 +5,8 @@ use Rattle.std.specs.declared.cmp.Ordering.TheVariants.{Less}
 use Rattle.std.proofs.lemmas.List.Elements.{filter-append}
 use Rattle.hwdb_layout.specs.Tree.{Value}
 use Rattle.hwdb_layout.specs.Map.{Shown, shown}
-use Rattle.hwdb_query.specs.Answers.{Found, found_cmp, one_found, found_shown, is_after, is_behind, is_wanted, wanted, own_members}
+use Rattle.std.specs.Ordering.{is_lt, ordering_reverse}
+use Rattle.hwdb_query.specs.Answers.{Spot, Found, spot_cmp, found_cmp, one_found, found_shown, is_after, is_behind, is_wanted, wanted, own_members}
 use Rattle.hwdb_query.specs.Lists.{put, put_all, in_order, keep_all, Ascends}
 use Rattle.hwdb_query.specs.Hits.{after_spot, Page as HeldHits}
 use Rattle.hwdb_query.specs.Collected.{PageCollects, LastCollects, Collects, Shows, IsPage, IsLast, IsOfPage, IsOfLast}
@@ -13,8 +14,8 @@ use Rattle.hwdb_query.specs.declared.next_page.NextPage.{NextPage}
 use Rattle.hwdb_query.specs.declared.last_hits.LastHits.{LastHits}
 use Rattle.hwdb_query.specs.declared.collector.Collector.{Collector}
 use Rattle.hwdb_query.specs.declared.collector.Collector.TheVariants.{Page, Last as LastOnes}
-use Rattle.hwdb_query.proofs.Putting.{keep_all_append, ascends_put, ascends_all}
-use Rattle.hwdb_query.proofs.Orders.{found_total}
+use Rattle.hwdb_query.proofs.Putting.{keep_all_append, ascends_put, ascends_all, filter_in, filter_out}
+use Rattle.hwdb_query.proofs.Orders.{spot_total, found_total}
 use Rattle.hwdb_query.proofs.Parting.{own_next, own_behind}
 use Rattle.hwdb_query.proofs.Steps.{keep_none, offered_some, offered_early}
 
@@ -178,3 +179,43 @@ pub last_at_end : (a : LastHits) (xs : List Found) (b : Collector) (last : LastH
 unfolding Collects LastCollects
 last_at_end a xs (Page b) last none taken is = absurd taken
 last_at_end a xs (LastOnes b) last none taken is = subst (λ (l : LastHits). Shows l.hits (in_order found_cmp xs)) (sym is) (taken [] none_ascends none)
+
+-- a value of which no hit is kept
+one_skipped : (a : NextPage) (pattern : List ℕ) (s : Shown) → ((key : List ℕ) → PageCollects a (found_at pattern key s ∷ []) a) → PageCollects a (found_shown pattern s) a
+unfolding found_shown
+one_skipped a pattern s skipped = elim s.key as (λ o. PageCollects a (one_found pattern s o) a) [ None ↦ page_none a | Some key ↦ skipped key ]
+
+pub page_values_skipped : (a c : NextPage) (pattern : List ℕ) (values : List Value) (i p l : ℕ) → option_map (λ v. v.priority) (slice_get values i) ≡ Some p → option_map (λ v. v.line) (slice_get values i) ≡ Some l
+    → ((x : Found) → (x.spot.priority ≡ p) × (x.spot.line ≡ l) → PageCollects a (x ∷ []) a)
+    → PageCollects a (own_members pattern (drop (suc i) values)) c → PageCollects a (own_members pattern (drop i values)) c
+page_values_skipped a c pattern [] i p l at on skipped rest = absurd (cc)
+page_values_skipped a c pattern (v ∷ values) zero p l at on skipped rest =
+    let same_p : v.priority ≡ p = cc in
+    let same_l : v.line ≡ l = cc in
+    page_more a a c (found_shown pattern (shown v)) (own_members pattern values) (one_skipped a pattern (shown v) (λ key. skipped (found_at pattern key (shown v)) (same_p, same_l))) rest
+page_values_skipped a c pattern (v ∷ values) (suc i) p l at on skipped rest = page_values_skipped a c pattern values i p l at on skipped rest
+
+-- no hit of an origin is kept: it stands before the position, or behind a full page
+pub skipped_before : (a : NextPage) (after : Spot) (x : Found) → after_spot a.after ≡ Some after → spot_cmp x.spot after ≡ Less → PageCollects a (x ∷ []) a
+unfolding is_after
+skipped_before a after x given less =
+    let early : is_after (after_spot a.after) x.spot ≡ false = ap (λ o. is_after o x.spot) given ∙ ap is_lt (spot_total.antisymm after x.spot ∙ ap ordering_reverse less) in
+    record {
+      after = refl;
+      most = refl;
+      ascends = λ up. up;
+      kept = λ up. keep_none a.held.most (filter (is_behind (after_spot a.after)) (x ∷ [])) a.held.hits (filter_out (is_behind (after_spot a.after)) x [] early);
+    }
+
+pub skipped_behind : (a : NextPage) (x : Found) → (Ascends found_cmp a.held.hits → take a.held.most (put found_cmp x a.held.hits) ≡ a.held.hits) → PageCollects a (x ∷ []) a
+unfolding keep_all
+skipped_behind a x stays =
+    record {
+      after = refl;
+      most = refl;
+      ascends = λ up. up;
+      kept = λ up. elim (is_after (after_spot a.after) x.spot) as (λ b. is_after (after_spot a.after) x.spot ≡ b → a.held.hits ≡ keep_all found_cmp a.held.most (filter (is_behind (after_spot a.after)) (x ∷ [])) a.held.hits) [
+        | true ↦ λ e. sym (ap (λ l. keep_all found_cmp a.held.most l a.held.hits) (filter_in (is_behind (after_spot a.after)) x [] e) ∙ stays up)
+        | false ↦ λ e. keep_none a.held.most (filter (is_behind (after_spot a.after)) (x ∷ [])) a.held.hits (filter_out (is_behind (after_spot a.after)) x [] e)
+      ] refl;
+    }

@@ -1,5 +1,6 @@
 pub mod Putting
 pub mod Placing
+pub mod Halving
 pub mod Parting
 pub mod Dead
 pub mod Orders

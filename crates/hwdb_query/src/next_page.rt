@@ -1,15 +1,15 @@
 //! A page that is filled.
 //!
 //! A value that isn't kept takes no memory.
-ghost use Rattle.std.specs.Prelude.{◌≡◌, OnOk};
+ghost use Rattle.std.specs.Prelude.{◌≡◌, List, [], ◌∷◌, OnOk, true};
 ghost use Rattle.hwdb_layout.specs.Tree.{values_of};
 ghost use Rattle.hwdb_reader.specs.View.{entered_tree, entry_shows};
-ghost use Rattle.hwdb_query.specs.Answers.{found_shown, is_after, own_members};
-ghost use Rattle.hwdb_query.specs.Hits.{parts_spot, after_spot};
+ghost use Rattle.hwdb_query.specs.Answers.{Found, found_shown, is_after, own_members};
+ghost use Rattle.hwdb_query.specs.Hits.{parts_spot, after_spot, IsOf};
 
 use crate::held::Held;
-use crate::hit::{Parts, order};
-use hwdb_reader::{Entry, Inside};
+use crate::hit::{Parts, is_earlier, order};
+use hwdb_reader::{Entry, Inside, Origin};
 use std::alloc::{AllocError, Global};
 use std::cmp::Ordering;
 
@@ -55,7 +55,20 @@ impl<'a, 'p> NextPage<'a, 'p> {
         Ok(())
     }
 
-    /// Takes what the values of a node assign at a pattern.
+    /// Whether no hit of an origin is kept: where it comes before the position's, or behind a full page.
+    fn skips(&self, origin: Origin) -> bool
+        ensures { result ≡ true → (x : Found) → IsOf origin x → PageCollects self.now (x ∷ []) self.now }
+    {
+        if let Some(after) = self.after {
+            if is_earlier(origin, after.origin()) {
+                return true;
+            }
+        }
+        self.held.is_full_before(origin)
+    }
+
+    /// Takes what the values of a node assign at a pattern. Of a value that isn't kept for its origin no text is
+    /// looked at.
     pub(crate) fn collect(
         &mut self,
         alloc: Global,
@@ -66,7 +79,9 @@ impl<'a, 'p> NextPage<'a, 'p> {
             (PageCollects self.old (own_members pattern.now (values_of (entered_tree inside.entry))) self.new) }
     {
         for i in 0..inside.values() {
-            self.offer(alloc, pattern, inside.value(i))?;
+            if !self.skips(inside.origin(i)) {
+                self.offer(alloc, pattern, inside.value(i))?;
+            }
         }
         Ok(())
     }
