@@ -1,5 +1,5 @@
 -- Nothing is wanted at or below a dead path, and nothing there is live.
-use Rattle.std.proofs.Common.{◌≡◌, ◌∙◌, ap, sym, refl, ℕ, ◌+◌, Bool, true, false, List, [], ◌∷◌, ◌++◌, map, filter, append_assoc, Option, if◌then◌else◌}
+use Rattle.std.proofs.Common.{◌≡◌, ◌∙◌, ap, sym, refl, ℕ, ◌+◌, Bool, true, false, List, [], ◌∷◌, ◌++◌, map, filter, append_assoc, if◌then◌else◌}
 use Rattle.std.specs.List.{flat_map}
 use Rattle.std.proofs.lemmas.Grind.{flat_map-append}
 use Rattle.std.proofs.lemmas.List.{append-nil}
@@ -10,7 +10,7 @@ use Rattle.hwdb_layout.specs.Tree.{Tree, Children, prefix_of}
 use Rattle.hwdb_layout.specs.Tree.Tree.{Node}
 use Rattle.hwdb_layout.specs.Tree.Children.{NoMore, Child}
 use Rattle.hwdb_layout.specs.Map.{values_under, values_below}
-use Rattle.hwdb_query.specs.Answers.{Spot, found_of, members_under, is_wanted, is_behind, wanted}
+use Rattle.hwdb_query.specs.Answers.{found_of, members_under, is_wanted}
 use Rattle.hwdb_pattern.specs.Paths.{is_live, LiveIsTested, DeadStaysDead, DeadMatchesNothing}
 use Rattle.hwdb_query.specs.Answers.{is_match}
 use Rattle.hwdb_query.specs.Live.{live_under, live_below}
@@ -76,17 +76,16 @@ mutual
       ∙ ap (λ n. n + live_below device (path ++ more) ks) here ∙ ap (λ n. 0 + n) rest
 
 -- a node whose path is dead
-pub none_wanted : (device : List ℕ) (after : Option Spot) (path : List ℕ) (t : Tree) → Dead device (path ++ prefix_of t) → wanted device after (members_under path t) ≡ []
-unfolding wanted values_under prefix_of
-none_wanted device after path (Node prefix values children) dead =
+pub none_wanted : (device path : List ℕ) (t : Tree) → Dead device (path ++ prefix_of t) → filter (is_wanted device) (members_under path t) ≡ []
+unfolding values_under prefix_of
+none_wanted device path (Node prefix values children) dead =
     let q = path ++ prefix in
     let below : filter (is_wanted device) (flat_map found_of (values_below (q ++ []) children)) ≡ [] = dead_below device q dead [] children in
-    ap (filter (is_behind after))
-    (ap (filter (is_wanted device)) (flat_map-append found_of (map (λ v. (q, v)) values) (values_below q children))
+    ap (filter (is_wanted device)) (flat_map-append found_of (map (λ v. (q, v)) values) (values_below q children))
     ∙ filter-append (is_wanted device) (flat_map found_of (map (λ v. (q, v)) values)) (flat_map found_of (values_below q children))
     ∙ ap (λ l. l ++ filter (is_wanted device) (flat_map found_of (values_below q children)))
     (ap (filter (is_wanted device)) (own_listed q values) ∙ own_unwanted device q values (ap (is_match device) (sym (append-nil q)) ∙ dead.unmatched []))
-    ∙ ap (λ r. filter (is_wanted device) (flat_map found_of (values_below r children))) (sym (append-nil q)) ∙ below)
+    ∙ ap (λ r. filter (is_wanted device) (flat_map found_of (values_below r children))) (sym (append-nil q)) ∙ below
 
 pub none_live : (device path : List ℕ) (t : Tree) → Dead device (path ++ prefix_of t) → live_under device path t ≡ 0
 unfolding live_under prefix_of

@@ -1,9 +1,8 @@
 -- The effective list, as answers are put one after another.
-use Rattle.std.proofs.Common.{◌≡◌, ◌∙◌, ap, sym, refl, subst, ℕ, ◌+◌, ◌<◌, true, false, List, [], ◌∷◌, ◌++◌, map, reverse, filter, length, arith, append_assoc, Option, Some, None, cond, if◌then◌else◌}
-use Rattle.std.specs.Prelude.{find, min, IfOk, Result, Ok, Err}
+use Rattle.std.proofs.Common.{◌≡◌, ◌∙◌, ap, sym, refl, subst, ℕ, true, false, List, [], ◌∷◌, ◌++◌, map, reverse, filter, append_assoc, Some, None, cond, if◌then◌else◌}
+use Rattle.std.specs.Prelude.{find}
 use Rattle.std.proofs.lemmas.List.{reverse-append, append-nil}
 use Rattle.std.specs.List.{AllByRecursion}
-use Rattle.std.specs.Borrow.{Bor}
 use Rattle.std.specs.declared.cmp.Ordering.{Ordering}
 use Rattle.std.specs.declared.cmp.Ordering.TheVariants.{Less, Equal, Greater}
 use Rattle.std.specs.Ordering.{match_ordering, is_eq, ordering_reverse}
@@ -15,9 +14,7 @@ use Rattle.hwdb_query.specs.Lists.{put, put_all, Ascends}
 use Rattle.hwdb_layout.specs.Tree.{Tree}
 use Rattle.hwdb_query.specs.Answers.{Found, is_after, is_behind, answers, answers_after}
 use Rattle.hwdb_query.specs.Effective.{key_cmp, key_of_answer, has_key, value_or_none, last_value, effective_of}
-use Rattle.hwdb_query.specs.declared.hit.Hit.{Hit}
-use Rattle.hwdb_query.specs.Hits.{found_of_hit, Gives}
-use Rattle.hwdb_query.specs.Pairs.{pair_bytes, pairs_bytes, put_values}
+use Rattle.hwdb_query.specs.Pairs.{put_values}
 use Rattle.hwdb_query.proofs.Putting.{ascends_all, all_above}
 
 key_total : IsTotalOrder key_cmp
@@ -52,6 +49,15 @@ above_alike f g [] all = refl
 above_alike f g (k ∷ keys) all =
     ap (λ o. (k, (if is_eq o then f.value else g k)) ∷ listed (after_one f g) keys) (equal_flipped f.spot.key k Less all.0)
     ∙ ap (λ l. (k, g k) ∷ l) (above_alike f g keys all.1)
+
+-- whether two keys are equal doesn't ask for their order
+pub flipped : (a b : List ℕ) → is_eq (key_cmp a b) ≡ is_eq (key_cmp b a)
+flipped a b = ap is_eq (key_total.antisymm a b) ∙ turned (key_cmp b a)
+  where
+    turned : (o : Ordering) → is_eq (ordering_reverse o) ≡ is_eq o
+    turned Less = refl
+    turned Equal = refl
+    turned Greater = refl
 
 same_key : (a b : List ℕ) → key_cmp a b ≡ Equal → a ≡ b
 same_key a b e = finite.slice_cmp-IsAntisymmetric finite.nat_cmp-IsAntisymmetric a b e
@@ -116,53 +122,6 @@ none_effective = refl
 pub all_put : (xs : List Found) → put_values [] xs ≡ effective_of xs
 all_put xs = ap (λ l. put_values l xs) (sym none_effective) ∙ effective_more [] xs
 
--- an entry of a map of slices is put where its bytes go
-pub bytes_put : (entries : List (Bor (List ℕ) × Bor (List ℕ))) (key value : Bor (List ℕ))
-    → pairs_bytes (insert_entry (λ (a : Bor (List ℕ)) (b : Bor (List ℕ)). key_cmp a.now b.now) entries key value) ≡ insert_entry key_cmp (pairs_bytes entries) key.now value.now
-bytes_put [] key value = refl
-bytes_put (e ∷ entries) key value =
-    let again = bytes_put entries key value in
-    elim (key_cmp key.now e.0.now) as (λ o. pairs_bytes (match_ordering o ((key, value) ∷ e ∷ entries) ((e.0, value) ∷ entries) (e ∷ insert_entry (λ (a : Bor (List ℕ)) (b : Bor (List ℕ)). key_cmp a.now b.now) entries key value))
-    ≡ match_ordering o ((key.now, value.now) ∷ pair_bytes e ∷ pairs_bytes entries) ((e.0.now, value.now) ∷ pairs_bytes entries) (pair_bytes e ∷ insert_entry key_cmp (pairs_bytes entries) key.now value.now)) [
-      | Less ↦ refl
-      | Equal ↦ refl
-      | Greater ↦ ap (λ l. pair_bytes e ∷ l) again
-    ]
-
--- a hit is taken, and its value put at its key
-pub one_more : (before after : List (Bor (List ℕ) × Bor (List ℕ))) (to_come left : List Found) (hit : Hit) (all : List (List ℕ × List ℕ))
-    → put_values (pairs_bytes before) to_come ≡ all → to_come ≡ found_of_hit hit ∷ left
-    → after ≡ insert_entry (λ (a : Bor (List ℕ)) (b : Bor (List ℕ)). key_cmp a.now b.now) before hit.key hit.value
-    → put_values (pairs_bytes after) left ≡ all
-unfolding put_values
-one_more before after to_come left hit all whole taken inserted =
-    ap (λ (e : List (Bor (List ℕ) × Bor (List ℕ))). put_values (pairs_bytes e) left) inserted
-    ∙ ap (λ l. put_values l left) (bytes_put before hit.key hit.value)
-    ∙ sym (ap (put_values (pairs_bytes before)) taken) ∙ whole
-
--- nothing more is to come
-pub no_more : (kept : List (List ℕ × List ℕ)) (to_come : List Found) (all : List (List ℕ × List ℕ)) → put_values kept to_come ≡ all → to_come ≡ [] → kept ≡ all
-unfolding put_values
-no_more kept to_come all whole none = sym (ap (put_values kept) none) ∙ whole
-
-pub none_left : (to_come : List Found) → length to_come ≡ 0 → to_come ≡ []
-none_left [] h = refl
-none_left (f ∷ more) h = absurd (omega arith)
-
--- a page that came short was the last one
-pub short_page : (was held page : ℕ) (to_come left : List Found) (f : Found) → to_come ≡ f ∷ left → held + 1 ≡ min page (length to_come) → page ≡ 64
-    → was ≡ held → was + 1 < 64 → held ≡ length left
-short_page was held page to_come left f taken filled is64 same short = let n = ap length taken in omega (arith, n)
-
--- what is held is all that is to come
-pub still_last : (before held : ℕ) (to_come left : List Found) (f : Found) → to_come ≡ f ∷ left → held + 1 ≡ before → before ≡ length to_come → held ≡ length left
-still_last before held to_come left f taken fewer last = let n = ap length taken in omega (arith, n)
-
--- where no hit is given nothing was to come
-pub nothing_given : (before after : List Found) (r : Option Hit) → ((x : Hit) → r ≡ Some x → ⊥) → Gives before after r → before ≡ []
-nothing_given before after (Some x) never g = absurd (never x refl)
-nothing_given before after None never g = g.0
-
 all_behind : (fs : List Found) → filter (is_behind None) fs ≡ fs
 unfolding is_after
 all_behind [] = refl
@@ -172,14 +131,3 @@ all_behind (f ∷ fs) = ap (λ l. f ∷ l) (all_behind fs)
 pub from_the_first : (device : List ℕ) (t : Tree) → answers_after device None t ≡ answers device t
 unfolding answers_after
 from_the_first device t = all_behind (answers device t)
-
-pub shown_list : {A E : Type 0} (items : A → List (Bor (List ℕ) × Bor (List ℕ))) (r : Result A E) (entries : List (Bor (List ℕ) × Bor (List ℕ))) (all : List (List ℕ × List ℕ))
-    → pairs_bytes entries ≡ all → IfOk r (λ list. items list ≡ entries) → IfOk r (λ list. pairs_bytes (items list) ≡ all)
-shown_list items (Ok list) entries all is same = ap pairs_bytes same ∙ is
-shown_list items (Err e) entries all is same = tt
-
--- what is said of a list that is shown
-pub shown_list_for : {A E : Type 0} (items : A → List (Bor (List ℕ) × Bor (List ℕ))) (r : Result A E) (all : List (List ℕ × List ℕ)) {P : A → Type 0}
-    → IfOk r (λ list. pairs_bytes (items list) ≡ all) → ((list : A) → pairs_bytes (items list) ≡ all → P list) → IfOk r P
-shown_list_for items (Ok list) all is more = more list is
-shown_list_for items (Err e) all is more = tt

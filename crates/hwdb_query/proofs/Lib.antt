@@ -1,9 +1,12 @@
 pub mod Putting
 pub mod Placing
+pub mod Halving
 pub mod Parting
 pub mod Dead
 pub mod Orders
 pub mod Steps
+pub mod Collecting
+pub mod Descending
 pub mod Resuming
 pub mod Distinct
 pub mod Members
@@ -16,5 +19,6 @@ pub mod Plain
 pub mod PlainPairs
 pub mod Accepting
 pub mod Keyed
+pub mod ByKey
 pub mod Numbers
 pub mod Spelled

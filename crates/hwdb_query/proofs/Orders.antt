@@ -1,5 +1,5 @@
 -- The order of positions is total.
-use Rattle.std.proofs.Common.{◌≡◌, ◌∙◌, ap, sym, refl, true, List, ℕ, Option, Some, None, filter, [], take}
+use Rattle.std.proofs.Common.{◌≡◌, ◌∙◌, ap, sym, refl, true, false, List, ℕ, Option, Some, None, filter, [], take}
 use Rattle.std.specs.declared.cmp.Ordering.{Ordering}
 use Rattle.std.specs.declared.cmp.Ordering.TheVariants.{Less, Equal, Greater}
 use Rattle.std.specs.Ordering.{is_lt}
@@ -25,6 +25,21 @@ pub less_of : (o : Ordering) → is_lt o ≡ true → o ≡ Less
 less_of Less h = refl
 less_of Equal h = cc
 less_of Greater h = cc
+
+-- whether a position comes after the one given, by cases
+pub after_none : (a : Option Spot) (s : Spot) → a ≡ None → true ≡ is_after a s
+unfolding is_after
+after_none a s e = sym (ap (λ o. is_after o s) e)
+
+pub after_less : (a : Option Spot) (p s : Spot) → a ≡ Some p → Less ≡ spot_cmp p s → true ≡ is_after a s
+unfolding is_after
+after_less a p s e h = ap is_lt h ∙ sym (ap (λ o. is_after o s) e)
+
+pub after_other : (a : Option Spot) (p s : Spot) (o : Ordering) → a ≡ Some p → o ≡ spot_cmp p s → (o ≡ Less → ⊥) → false ≡ is_after a s
+unfolding is_after
+after_other a p s Less e h n = absurd (n refl)
+after_other a p s Equal e h n = ap is_lt h ∙ sym (ap (λ o. is_after o s) e)
+after_other a p s Greater e h n = ap is_lt h ∙ sym (ap (λ o. is_after o s) e)
 
 -- what is behind a position stays behind it further on
 pub behind_upward : (after : Option Spot) → Upward found_cmp (is_behind after)

@@ -1,5 +1,5 @@
 -- The assignments and live nodes of a tree, by the parts of its root.
-use Rattle.std.proofs.Common.{◌≡◌, ◌∙◌, ap, sym, refl, ℕ, zero, suc, ◌+◌, ◌≤◌, Bool, true, false, List, [], ◌∷◌, ◌++◌, drop, map, filter, length, arith, Option, Some, None, slice_get, option_map, if◌then◌else◌}
+use Rattle.std.proofs.Common.{◌≡◌, ◌∙◌, ap, refl, ℕ, zero, suc, ◌+◌, ◌≤◌, Bool, true, false, List, [], ◌∷◌, ◌++◌, drop, map, filter, length, arith, Option, Some, None, slice_get, option_map, if◌then◌else◌}
 use Rattle.std.specs.List.{flat_map}
 use Rattle.std.proofs.lemmas.Grind.{flat_map-append}
 use Rattle.std.proofs.lemmas.List.Elements.{filter-append}
@@ -8,12 +8,11 @@ use Rattle.hwdb_layout.specs.Tree.Tree.{Node}
 use Rattle.hwdb_layout.specs.Tree.Children.{NoMore, Child}
 use Rattle.hwdb_layout.specs.Map.{values_under, values_below}
 use Rattle.hwdb_layout.specs.Map.{Shown, shown}
-use Rattle.hwdb_query.specs.Answers.{Spot, Found, found_cmp, one_found, found_shown, found_of, members_under, members_in, own_members, is_wanted, is_behind, wanted}
+use Rattle.hwdb_query.specs.Answers.{one_found, found_shown, found_of, members_under, members_in, own_members, is_wanted}
 use Rattle.hwdb_pattern.specs.Paths.{is_live}
 use Rattle.hwdb_query.specs.Answers.{is_match}
-use Rattle.hwdb_query.specs.Lists.{keep_all}
 use Rattle.hwdb_query.specs.Live.{live_under, live_below, live_in, nodes_in}
-use Rattle.hwdb_query.proofs.Putting.{filter_in, filter_out, keep_all_append}
+use Rattle.hwdb_query.proofs.Putting.{filter_in, filter_out}
 
 pub own_listed : (pattern : List ℕ) (values : List Value) → flat_map found_of (map (λ v. (pattern, v)) values) ≡ own_members pattern values
 own_listed pattern [] = refl
@@ -32,21 +31,6 @@ members_split path (Node prefix values children) =
     flat_map-append found_of (map (λ v. (path ++ prefix, v)) values) (values_below (path ++ prefix) children)
     ∙ ap (λ r. r ++ flat_map found_of (values_below (path ++ prefix) children)) (own_listed (path ++ prefix) values)
     ∙ ap (λ r. own_members (path ++ prefix) values ++ r) (below_listed (path ++ prefix) children)
-
-pub wanted_append : (device : List ℕ) (after : Option Spot) (xs ys : List Found) → wanted device after (xs ++ ys) ≡ wanted device after xs ++ wanted device after ys
-unfolding wanted
-wanted_append device after xs ys =
-    ap (filter (is_behind after)) (filter-append (is_wanted device) xs ys) ∙ filter-append (is_behind after) (filter (is_wanted device) xs) (filter (is_wanted device) ys)
-
--- what is kept of a node and of those below it
-pub kept_split : (most : ℕ) (device : List ℕ) (after : Option Spot) (path : List ℕ) (t : Tree) (old : List Found)
-    → keep_all found_cmp most (wanted device after (members_in (path ++ prefix_of t) (children_of t))) (keep_all found_cmp most (wanted device after (own_members (path ++ prefix_of t) (values_of t))) old)
-    ≡ keep_all found_cmp most (wanted device after (members_under path t)) old
-kept_split most device after path t old =
-    sym (keep_all_append found_cmp most (wanted device after (own_members (path ++ prefix_of t) (values_of t))) (wanted device after (members_in (path ++ prefix_of t) (children_of t))) old)
-    ∙ ap (λ l. keep_all found_cmp most l old)
-    (sym (wanted_append device after (own_members (path ++ prefix_of t) (values_of t)) (members_in (path ++ prefix_of t) (children_of t)))
-    ∙ ap (wanted device after) (sym (members_split path t)))
 
 one_wanted : (device pattern : List ℕ) (s : Shown) (o : Option (List ℕ)) → is_match device pattern ≡ true → filter (is_wanted device) (one_found pattern s o) ≡ one_found pattern s o
 one_wanted device pattern s None h = refl
@@ -96,14 +80,6 @@ kid_behind [] zero h = refl
 kid_behind [] (suc i) h = refl
 kid_behind (k ∷ kids) zero h = absurd (omega arith)
 kid_behind (k ∷ kids) (suc i) h = kid_behind kids i (omega arith)
-
-pub kept_next : (most : ℕ) (device : List ℕ) (after : Option Spot) (path : List ℕ) (k : ℕ × Tree) (kids rest : List (ℕ × Tree)) (old : List Found) → kids ≡ k ∷ rest
-    → keep_all found_cmp most (wanted device after (members_in path kids)) old
-    ≡ keep_all found_cmp most (wanted device after (members_in path rest)) (keep_all found_cmp most (wanted device after (members_under (path ++ k.0 ∷ []) k.1)) old)
-kept_next most device after path k kids rest old e =
-    ap (λ q. keep_all found_cmp most (wanted device after (members_in path q)) old) e
-    ∙ ap (λ l. keep_all found_cmp most l old) (wanted_append device after (members_under (path ++ k.0 ∷ []) k.1) (members_in path rest))
-    ∙ keep_all_append found_cmp most (wanted device after (members_under (path ++ k.0 ∷ []) k.1)) (wanted device after (members_in path rest)) old
 
 live_listed : (device path : List ℕ) (ks : Children) → live_below device path ks ≡ live_in device path (list_of ks)
 unfolding live_below list_of

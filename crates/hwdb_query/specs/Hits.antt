@@ -1,10 +1,11 @@
 -- Our own words: hits, positions and cursors as contracts see them.
-use Rattle.std.specs.Prelude.{◌≡◌, ℕ, Bool, List, [], ◌∷◌, Option, Some, None, map, option_map, reverse, ◌++◌, take, drop, true, false}
+use Rattle.std.specs.Prelude.{◌≡◌, ◌≤◌, ℕ, suc, length, get_or, Bool, List, [], ◌∷◌, Option, Some, None, map, option_map, reverse, ◌++◌, take, drop, true, false}
 use Rattle.std.specs.Borrow.{Bor}
 use Rattle.hwdb_query.specs.Answers.{Spot, Found, found_cmp, answers_after}
 use Rattle.hwdb_layout.specs.Tree.{Tree}
 use Rattle.hwdb_query.specs.Lists.{put}
 use Rattle.hwdb_reader.specs.declared.view.Entry.{Entry}
+use Rattle.hwdb_reader.specs.declared.view.Origin.{Origin}
 use Rattle.hwdb_query.specs.declared.held.Place.{Place}
 use Rattle.hwdb_query.specs.declared.hit.Parts.{Parts}
 use Rattle.hwdb_query.specs.declared.hit.Hit.{Hit}
@@ -46,6 +47,20 @@ placed x l i false = take i l ++ x ∷ drop i l
 
 abbrev pub PlaceOf : Found → List Found → Place → Type 0
 PlaceOf x l p = put found_cmp x l ≡ placed x l p.index p.is_taken
+
+-- the last of some hits, which are as many as may be held or more
+pub record IsLastOfFull (last : Hit) (hits : List Hit) (most : ℕ) : Type 0 where
+  pub index : ℕ
+  pub end : suc index ≡ length hits
+  pub is : last ≡ get_or hits index last
+  pub full : most ≤ length hits
+
+-- a position, and a hit, with an origin
+abbrev pub IsSpotOf : Origin → Spot → Type 0
+IsSpotOf o s = (s.priority ≡ o.priority) × (s.line ≡ o.line)
+
+abbrev pub IsOf : Origin → Found → Type 0
+IsOf o x = IsSpotOf o x.spot
 
 -- the first of what was to come is given, or nothing was to come
 abbrev pub Gives : List Found → List Found → Option Hit → Type 0

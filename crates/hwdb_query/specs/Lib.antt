@@ -1,6 +1,7 @@
 pub mod Lists
 pub mod Answers
 pub mod Hits
+pub mod Collected
 pub mod Fillings
 pub mod Live
 pub mod Assigned

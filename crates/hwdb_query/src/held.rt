@@ -1,15 +1,16 @@
 //! The one list of hits of a cursor.
-ghost use Rattle.std.specs.Prelude.{◌≡◌, ◌≢◌, ◌<◌, ◌≤◌, ◌+◌, ◌++◌, ℕ, List, [], ◌∷◌, length, take, drop, reverse, map, IfOk, OnOk, OnErr, Option, Some, None};
+ghost use Rattle.std.specs.Prelude.{◌≡◌, ◌≢◌, ◌<◌, ◌≤◌, ◌+◌, ◌++◌, ℕ, List, [], ◌∷◌, length, take, drop, reverse, map, IfSome, IfOk, OnOk, OnErr, Option, Some, None, true};
 ghost use Rattle.hwdb_query.specs.Answers.{Spot, Found, spot_cmp, found_cmp};
-ghost use Rattle.hwdb_query.specs.Lists.{put};
-ghost use Rattle.hwdb_query.specs.Hits.{parts_spot, found_of_hit, founds, shown_at, Page, PlaceOf, Gives, IsFirst};
+ghost use Rattle.hwdb_query.specs.Lists.{put, Ascends};
+ghost use Rattle.hwdb_query.specs.Hits.{parts_spot, found_of_hit, founds, shown_at, Page, PlaceOf, IsLastOfFull, IsOf, Gives, IsFirst};
 
-use crate::hit::{Hit, Parts, order};
+use crate::hit::{Hit, Parts, is_earlier, order};
 use crate::position::Position;
-use hwdb_reader::Entry;
+use hwdb_reader::{Entry, Origin};
 use std::alloc::{AllocError, Global};
 use std::cmp::Ordering;
 use std::marker::Model;
+use std::mem;
 
 /// Where a hit stands among others, or would.
 #[derive(Clone, Copy)]
@@ -18,32 +19,36 @@ pub(crate) struct Place {
     pub is_taken: bool,
 }
 
-/// The place of a position among hits that ascend.
+/// The place of a position among hits that ascend, found by halving.
 pub(crate) fn place_of(hits: &[Hit<'_>], parts: Parts<'_>) -> Place
     ensures within { result.index ≤ length hits.now }
-    ensures place { (x : Found) → x.spot ≡ parts_spot parts.entry → PlaceOf x (founds hits.now) result }
+    ensures place { Ascends found_cmp (founds hits.now)
+        → (x : Found) → x.spot ≡ parts_spot parts.entry → PlaceOf x (founds hits.now) result }
 {
-    for (i, hit) in hits.iter().enumerate() {
-        match order(parts, hit.parts()) {
-            Ordering::Less => {
-                return Place {
-                    index: i,
-                    is_taken: false,
-                };
-            }
-            Ordering::Equal => {
-                return Place {
-                    index: i,
-                    is_taken: true,
-                };
-            }
-            Ordering::Greater => {}
-        }
+    let compare = |hit: &Hit<'_>| -> Ordering
+        ensures { result ≡ spot_cmp (found_of_hit hit.now).spot (parts_spot parts.entry) }
+    { order(hit.parts(), parts) };
+    match hits.binary_search_by(compare) {
+        Ok(index) => Place {
+            index,
+            is_taken: true,
+        },
+        Err(index) => Place {
+            index,
+            is_taken: false,
+        },
     }
-    Place {
-        index: hits.len(),
-        is_taken: false,
+}
+
+/// The last of some hits, if there are as many as may be held.
+fn last_of_full<'h, 'a>(hits: &'h [Hit<'a>], most: usize) -> Option<&'h Hit<'a>>
+    ensures { IfSome result (λ last. IsLastOfFull last.now hits.now most) }
+{
+    let count = hits.len();
+    if count < most || count == 0 {
+        return None;
     }
+    Some(&hits[count - 1])
 }
 
 /// The hits that are held, never more than `most`.
@@ -80,6 +85,29 @@ impl<'a> Held<'a> {
         self.hits.len()
     }
 
+    /// Whether as many hits are held as may be, and all come before an origin.
+    pub(crate) fn is_full_before(&self, origin: Origin) -> bool
+        ensures { result ≡ true → Ascends found_cmp self.now.hits → (x : Found) → IsOf origin x
+            → take self.now.most (put found_cmp x self.now.hits) ≡ self.now.hits }
+    {
+        match last_of_full(&self.hits, self.most) {
+            None => false,
+            Some(last) => is_earlier(last.origin(), origin),
+        }
+    }
+
+    /// Whether as many hits are held as may be, and all come before a position.
+    fn is_full_below(&self, parts: Parts<'_>) -> bool
+        ensures { result ≡ true → Ascends found_cmp self.now.hits
+            → (x : Found) → x.spot ≡ parts_spot parts.entry
+            → take self.now.most (put found_cmp x self.now.hits) ≡ self.now.hits }
+    {
+        match last_of_full(&self.hits, self.most) {
+            None => false,
+            Some(last) => order(last.parts(), parts).is_lt(),
+        }
+    }
+
     /// Puts a hit in its place, and keeps the least of them. What isn't kept takes no memory.
     pub(crate) fn keep(
         &mut self,
@@ -89,7 +117,8 @@ impl<'a> Held<'a> {
         entry: Entry<'a>,
     ) -> Result<(), AllocError>
         ensures most { self.new.most ≡ self.old.most }
-        ensures kept { OnOk result (self.new.hits ≡ take self.old.most (put found_cmp (shown_at pattern.now key.now entry.entry) self.old.hits)) }
+        ensures kept { OnOk result (Ascends found_cmp self.old.hits → self.new.hits
+            ≡ take self.old.most (put found_cmp (shown_at pattern.now key.now entry.entry) self.old.hits)) }
     {
         let parts = Parts {
             priority: entry.priority,
@@ -97,6 +126,9 @@ impl<'a> Held<'a> {
             pattern,
             key,
         };
+        if self.is_full_below(parts) {
+            return Ok(());
+        }
         let place = place_of(&self.hits, parts);
         if place.is_taken || place.index >= self.most {
             return Ok(());
@@ -122,11 +154,25 @@ impl<'a> Held<'a> {
         self.hits.reverse();
     }
 
-    /// Lets all hits go.
-    pub(crate) fn clear(&mut self)
-        ensures { self.new ≡ record self.old { hits = [] } }
+    /// Takes all hits out, with the memory that they stand in.
+    pub(crate) fn take(&mut self, alloc: Global) -> Held<'a>
+        ensures taken { result ≡ self.old }
+        ensures left { self.new ≡ record self.old { hits = [] } }
     {
-        self.hits.clear();
+        let hits = mem::replace(&mut self.hits, Vec::new(alloc));
+        Held {
+            hits,
+            most: self.most,
+        }
+    }
+
+    /// Becomes another list.
+    pub(crate) fn set(&mut self, other: Held<'a>)
+        ensures { self.new ≡ other.entry }
+    {
+        let Held { hits, most } = other;
+        self.hits = hits;
+        self.most = most;
     }
 
     /// Takes the last hit of the list.

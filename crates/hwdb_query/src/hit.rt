@@ -1,9 +1,11 @@
 //! Hits, and the order in which they come.
-ghost use Rattle.std.specs.Prelude.{◌≡◌, ℕ, List, length, IfOk};
+ghost use Rattle.std.specs.Prelude.{◌≡◌, ℕ, List, length, IfOk, true};
+ghost use Rattle.std.specs.declared.cmp.Ordering.TheVariants.{Less};
 ghost use Rattle.hwdb_query.specs.Answers.{Spot, Found, spot_cmp};
-ghost use Rattle.hwdb_query.specs.Hits.{parts_spot, position_spot, found_of_hit};
+ghost use Rattle.hwdb_query.specs.Hits.{parts_spot, position_spot, found_of_hit, IsOf, IsSpotOf};
 
 use crate::position::Position;
+use hwdb_reader::Origin;
 use std::alloc::{AllocError, Global};
 use std::cmp::Ordering;
 
@@ -33,6 +35,18 @@ pub(crate) struct Parts<'p> {
     pub key: &'p [u8],
 }
 
+impl<'p> Parts<'p> {
+    /// The origin among them.
+    pub(crate) fn origin(self) -> Origin
+        ensures { IsSpotOf result (parts_spot self.entry) }
+    {
+        Origin {
+            priority: self.priority,
+            line: self.line,
+        }
+    }
+}
+
 impl<'a> Hit<'a> {
     /// What the order looks at.
     pub(crate) fn parts(&self) -> Parts<'_>
@@ -43,6 +57,16 @@ impl<'a> Hit<'a> {
             line: self.line,
             pattern: &self.pattern,
             key: self.key,
+        }
+    }
+
+    /// Where the hit comes from.
+    pub(crate) fn origin(&self) -> Origin
+        ensures { IsOf result (found_of_hit self.now) }
+    {
+        Origin {
+            priority: self.priority,
+            line: self.line,
         }
     }
 
@@ -73,4 +97,15 @@ pub(crate) fn order(a: Parts<'_>, b: Parts<'_>) -> Ordering
         .then(a.line.cmp(&b.line))
         .then(a.pattern.cmp(b.pattern))
         .then(a.key.cmp(b.key))
+}
+
+/// Whether an origin comes before another: by priority, then by line.
+pub(crate) fn is_earlier(a: Origin, b: Origin) -> bool
+    ensures { result ≡ true → (x y : Spot) → IsSpotOf a x → IsSpotOf b y
+        → spot_cmp x y ≡ Less }
+{
+    a.priority
+        .cmp(&b.priority)
+        .then(a.line.cmp(&b.line))
+        .is_lt()
 }

@@ -10,9 +10,13 @@
 //! | `position` | positions and their texts |
 //! | `spelling` | the parts of a position's text |
 //! | `held` | the one list of hits of a cursor, never longer than its page |
-//! | `filling` | one filling of a page: one descent along the live paths |
+//! | `descent` | one descent of the tree along the live paths |
+//! | `collector` | what takes the assignments of a descent: a page, or the last hits |
+//! | `next_page` | a page that is filled |
+//! | `filling` | one filling of a page: the least hits after a position |
 //! | `paging` | the cursor: pages of answers after a position |
 //! | `start` | a new cursor |
+//! | `last_hits` | the last hit of each key |
 //! | `listing` | the effective list |
 //! | `laws` | what is proved of the definitions alone |
 //! | `sources` | files to be compiled, and the index of their names |
@@ -20,13 +24,17 @@
 //! | `errors` | what the calls refuse |
 #![tactic(auto)]
 
+mod collector;
 mod compiling;
+mod descent;
 mod errors;
 mod filling;
 mod held;
 mod hit;
+mod last_hits;
 mod laws;
 mod listing;
+mod next_page;
 mod paging;
 mod position;
 mod sources;

@@ -24,4 +24,4 @@ mod walk;
 
 pub use checking::check;
 pub use hwdb_layout::DbFault;
-pub use view::{Child, Db, Entered, Entry, Inside, Node};
+pub use view::{Child, Db, Entered, Entry, Inside, Node, Origin};

@@ -6,7 +6,7 @@ ghost use Rattle.hwdb_reader.specs.View.{entry_shows};
 
 use crate::fields::{text, u16_at, u32_at, u64_at};
 use crate::frame::Frame;
-use crate::view::Entry;
+use crate::view::{Entry, Origin};
 
 /// Where the child entry `i` of the node at `off` stands.
 #[tactic(auto, using(hwdb_layout::proofs::Bounds::entry_room), unfolding(hwdb_layout::specs::Database::record_end))]
@@ -51,4 +51,16 @@ pub fn read_value(b: &[u8], f: Frame, entry: usize) -> Entry<'_>
         value: text(b, u64_at(b, entry + 8)),
         path: text(b, u64_at(b, entry + 16)),
     }
+}
+
+/// Where the value at a value entry comes from.
+#[tactic(auto, unfolding(hwdb_layout::specs::Database::value_at))]
+pub fn read_origin(b: &[u8], entry: usize) -> Origin
+    requires { entry + 32 ≤ length b.now }
+    ensures priority { result.priority ≡ (value_at b.now entry).priority }
+    ensures line { result.line ≡ (value_at b.now entry).line }
+{
+    let priority = u16_at(b, entry + 28);
+    let line = u32_at(b, entry + 24);
+    Origin { priority, line }
 }

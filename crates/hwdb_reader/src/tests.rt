@@ -28,6 +28,10 @@ fn show(
     let inside = node.enter(entered);
     for i in 0..inside.values() {
         let value = inside.value(i);
+        let origin = inside.origin(i);
+        if origin.priority != value.priority || origin.line != value.line {
+            text.push(b'!')?;
+        }
         text.extend_from_slice(path)?;
         text.push(b':')?;
         text.push(b'0' | ((value.priority & 7) as u8))?;

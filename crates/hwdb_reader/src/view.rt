@@ -4,7 +4,7 @@ ghost use Rattle.hwdb_reader.specs.Placed.{Placed};
 
 use crate::fields::{text, u64_at};
 use crate::frame::Frame;
-use crate::places::{child_entry_at, read_value, value_entry_at};
+use crate::places::{child_entry_at, read_origin, read_value, value_entry_at};
 use std::marker::Model;
 
 /// Counts the nodes that were entered, from 0 on.
@@ -86,6 +86,15 @@ pub struct Entry<'a> {
     pub path: &'a [u8],
 }
 
+/// The place in the files that a value comes from.
+#[derive(Clone, Copy)]
+pub struct Origin {
+    /// The priority of its file, never 0.
+    pub priority: u16,
+    /// The line of its property.
+    pub line: u32,
+}
+
 impl<'a> Db<'a> {
     ghost use Rattle.std.specs.Prelude.{◌≡◌, ◌<◌, ◌^◌};
     ghost use Rattle.hwdb_layout.specs.Tree.{node_count};
@@ -161,6 +170,18 @@ impl<'a> Inside<'a> {
         ensures { result ≡ length (values_of (entered_tree self.now)) }
     {
         u64_at(self.node.bytes, self.node.offset + 16)
+    }
+
+    /// Where the value number `i` comes from, without a look at its texts.
+    pub fn origin(&self, i: usize) -> Origin
+        requires { i < length (values_of (entered_tree self.now)) }
+        ensures priority { option_map (λ v. v.priority)
+            (slice_get (values_of (entered_tree self.now)) i) ≡ Some result.priority }
+        ensures line { option_map (λ v. v.line)
+            (slice_get (values_of (entered_tree self.now)) i) ≡ Some result.line }
+    {
+        let entry = value_entry_at(self.node.bytes, self.node.frame, self.node.offset, i);
+        read_origin(self.node.bytes, entry)
     }
 
     /// The value number `i`, counted from 0, ascending by stored key.

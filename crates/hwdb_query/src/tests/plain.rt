@@ -1,19 +1,19 @@
 //! The plain program: the answers for a device of a list of assignments, by a filter, a sort and the last of
 //! each key. It has no tree and no map, and its contract is the definition.
-ghost use Rattle.std.specs.Prelude.{◌≡◌, ◌++◌, List, [], ◌∷◌, Bool, true, false, not, if◌then◌else◌, map, filter, IfOk, OnOk};
+ghost use Rattle.std.specs.Prelude.{◌≡◌, ◌≤◌, ◌++◌, length, List, [], ◌∷◌, Bool, true, false, not, if◌then◌else◌, map, filter, IfOk, OnOk};
 ghost use Rattle.std.specs.BTreeMap.{insert_entry};
 ghost use Rattle.std.specs.List.{list_any};
 ghost use Rattle.hwdb_text.specs.Assignments.{Assigned, assigned};
 ghost use Rattle.hwdb_pattern.specs.Patterns.{MatchesIsTested};
-ghost use Rattle.hwdb_query.specs.Answers.{found_cmp, is_match, is_after};
+ghost use Rattle.hwdb_query.specs.Answers.{Found, found_cmp, is_match, is_after};
 ghost use Rattle.hwdb_query.specs.Effective.{effective_of, key_cmp};
 ghost use Rattle.hwdb_query.specs.Headline.{is_same_place, answer_of, last_assignments};
-ghost use Rattle.hwdb_query.specs.Hits.{found_of_hit, founds, parts_spot, given_spot};
+ghost use Rattle.hwdb_query.specs.Hits.{found_of_hit, founds, parts_spot, given_spot, PlaceOf};
 ghost use Rattle.hwdb_query.specs.Lists.{put, put_all};
 ghost use Rattle.hwdb_query.specs.Pairs.{pairs_bytes};
 ghost use Rattle.hwdb_query.specs.Plain.{last_one};
 
-use crate::held::place_of;
+use crate::held::Place;
 use crate::hit::{Hit, Parts, order};
 use crate::position::Position;
 use hwdb_pattern::{glob, matches_is_tested};
@@ -82,12 +82,40 @@ fn hit_of<'a>(alloc: Global, a: &'a Assignment) -> Result<Hit<'a>, AllocError>
     })
 }
 
+/// The place of a position among hits, the first that isn't below it.
+fn place_among(hits: &[Hit<'_>], parts: Parts<'_>) -> Place
+    ensures within { result.index ≤ length hits.now }
+    ensures place { (x : Found) → x.spot ≡ parts_spot parts.entry → PlaceOf x (founds hits.now) result }
+{
+    for (i, hit) in hits.iter().enumerate() {
+        match order(parts, hit.parts()) {
+            Ordering::Less => {
+                return Place {
+                    index: i,
+                    is_taken: false,
+                };
+            }
+            Ordering::Equal => {
+                return Place {
+                    index: i,
+                    is_taken: true,
+                };
+            }
+            Ordering::Greater => {}
+        }
+    }
+    Place {
+        index: hits.len(),
+        is_taken: false,
+    }
+}
+
 /// Puts a hit in its place.
 fn put_hit<'a>(hits: &mut Vec<Hit<'a>>, hit: Hit<'a>) -> Result<(), AllocError>
     ensures { OnOk result (founds hits.new.items ≡ put found_cmp (found_of_hit hit.entry) (founds hits.old.items)) }
 {
     let held: &[Hit<'_>] = hits;
-    let place = place_of(held, hit.parts());
+    let place = place_among(held, hit.parts());
     if !place.is_taken {
         hits.insert(place.index, hit)?;
     }

@@ -1,18 +1,19 @@
-use Rattle.std.proofs.Common.{add-one}
-use Rattle.hwdb_query.proofs.Placing.{compared, less_here, same_here, more_here, none_here}
+use Rattle.std.proofs.Common.{◌≡◌, rules, sym, subst}
+use Rattle.std.specs.List.{HoldsAt}
+use Rattle.std.specs.List.Sorted.{IsBinarySearchResult}
+use Rattle.std.proofs.lemmas.Fn.{always_returns_same}
+use Rattle.std.specs.declared.cmp.Ordering.TheVariants.{Equal}
+use Rattle.hwdb_query.specs.Answers.{spot_cmp}
+use Rattle.hwdb_query.specs.Hits.{parts_spot, found_of_hit}
+use Rattle.hwdb_query.proofs.Halving.{found_taken, found_free}
 use Rattle.hwdb_query.proofs.held.place_of.Goals as goal
 
-pub returns-in-Less-clause-place : goal.returns-in-Less-clause-place
-returns-in-Less-clause-place c = λ x e. less_here x c.args.hits.now c.loop-i.i c.index-hits-i.result c.loop-i-test.true c.index-hits-i.is
-    (compared x _ _ c.index-hits-i.result _ e c.parts.ensures c.in-Less.ensures) (c.loop-i.invariant x e)
+pub returns-in-Ok-clause-place : goal.returns-in-Ok-clause-place
+returns-in-Ok-clause-place c = λ up x e.
+    let at = c.in-Ok.ensures.position (λ h. spot_cmp (found_of_hit h).spot (parts_spot c.args.parts)) (always_returns_same _ _ _ (λ a r g called. (search rules, search rules))) in
+    found_taken x c.args.hits.now c.in-Ok.index up c.in-Ok.ensures.bound (subst (λ s. HoldsAt (λ y. spot_cmp (found_of_hit y).spot s ≡ Equal) c.args.hits.now c.in-Ok.index) (sym e) at)
 
-pub returns-in-Equal-clause-place : goal.returns-in-Equal-clause-place
-returns-in-Equal-clause-place c = λ x e. same_here x c.args.hits.now c.loop-i.i c.index-hits-i.result c.loop-i-test.true c.index-hits-i.is
-    (compared x _ _ c.index-hits-i.result _ e c.parts.ensures c.in-Equal.ensures) (c.loop-i.invariant x e)
-
-pub loop-i-preserved : goal.loop-i-preserved
-loop-i-preserved c = λ x e. rw add-one (more_here x c.args.hits.now c.loop-i.i c.index-hits-i.result c.loop-i-test.true c.index-hits-i.is
-    (compared x _ _ c.index-hits-i.result _ e c.parts.ensures c.in-Greater.ensures) (c.loop-i.invariant x e))
-
-pub returns-clause-place : goal.returns-clause-place
-returns-clause-place c = λ x e. none_here x c.args.hits.now c.loop-i.i c.loop-i-test.false (c.loop-i.invariant x e)
+pub returns-in-Err-clause-place : goal.returns-in-Err-clause-place
+returns-in-Err-clause-place c = λ up x e.
+    let at = c.binary_search_by.ensures.position (λ h. spot_cmp (found_of_hit h).spot (parts_spot c.args.parts)) (always_returns_same _ _ _ (λ a r g called. (search rules, search rules))) in
+    found_free x c.args.hits.now c.in-Err.index c.binary_search_by.result up c.in-Err.is c.binary_search_by.ensures.bound (subst (λ s. IsBinarySearchResult (λ y. spot_cmp (found_of_hit y).spot s) c.args.hits.now c.binary_search_by.result) (sym e) at)

@@ -1,19 +1,22 @@
-use Rattle.std.proofs.Common.{ap, sym, ◌∙◌, ◌≡◌, take, length, arith, refl, false}
+use Rattle.std.proofs.Common.{ap, sym, subst, ◌∙◌, ◌≡◌, take, length, arith, refl, false}
 use Rattle.hwdb_query.specs.Answers.{found_cmp}
-use Rattle.hwdb_query.specs.Lists.{put}
+use Rattle.hwdb_query.specs.Lists.{put, Ascends}
 use Rattle.hwdb_query.specs.Hits.{Page, founds, shown_at, placed}
 use Rattle.hwdb_query.proofs.Placing.{kept_here}
 use Rattle.hwdb_query.proofs.held.Held.keep.Goals as goal
 
+pub returns-then-is_full_below-clause-kept : goal.returns-then-is_full_below-clause-kept
+returns-then-is_full_below-clause-kept c = λ up. sym (c.is_full_below.ensures c.if-is_full_below.true up (shown_at c.args.pattern.now c.args.key.now c.args.entry) refl)
+
 pub returns-clause-kept : goal.returns-clause-kept
-returns-clause-kept c =
+returns-clause-kept c = λ up.
     let x = shown_at c.args.pattern.now c.args.key.now c.args.entry in
     let o = c.args.self.now.hits in
     let old : founds c.self.inside.hits.items ≡ o = ap (λ (p : Page). p.hits) c.self.view_is in
     let most : c.self.inside.most ≡ c.args.self.now.most = ap (λ (p : Page). p.most) c.self.view_is in
     let seen : founds c.deref.result.now ≡ o = ap founds c.deref.ensures.value ∙ old in
     let place : put found_cmp x o ≡ placed x o c.place_of-place.result.index false =
-    ap (put found_cmp x) (sym seen) ∙ c.place_of-place.ensures.place x refl ∙ ap (λ l. placed x l c.place_of-place.result.index c.place_of-place.result.is_taken) seen
+    ap (put found_cmp x) (sym seen) ∙ c.place_of-place.ensures.place (subst (Ascends found_cmp) (sym seen) up) x refl ∙ ap (λ l. placed x l c.place_of-place.result.index c.place_of-place.result.is_taken) seen
     ∙ ap (placed x o c.place_of-place.result.index) c.if-place.false in
     let pattern = c.in_ok-pattern.ensures.items_if_clones_equal (λ _ _ e. e) in
     let within = c.place_of-place.ensures.within in

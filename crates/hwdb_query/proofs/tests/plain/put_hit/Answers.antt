@@ -6,5 +6,5 @@ use Rattle.hwdb_query.proofs.tests.plain.put_hit.Goals as goal
 pub returns-in_ok-insert : goal.returns-in_ok-insert
 returns-in_ok-insert c =
     let hit = c.args.hit in
-    let at = subst (λ hits. PlaceOf (found_of_hit hit) (founds hits) c.place_of-place.result) c.deref-held.ensures.value (c.place_of-place.ensures.place (found_of_hit hit) (sym c.parts.ensures)) in
-    hit_put hit c.args.hits.now.items c.insert.new.self.items c.place_of-place.result at c.if-not-place.true c.in_ok-insert.ensures.items
+    let at = subst (λ hits. PlaceOf (found_of_hit hit) (founds hits) c.place_among-place.result) c.deref-held.ensures.value (c.place_among-place.ensures.place (found_of_hit hit) (sym c.parts.ensures)) in
+    hit_put hit c.args.hits.now.items c.insert.new.self.items c.place_among-place.result at c.if-not-place.true c.in_ok-insert.ensures.items

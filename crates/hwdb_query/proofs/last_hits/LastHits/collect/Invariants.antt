@@ -1,0 +1,12 @@
+use Rattle.std.proofs.Common.{drop}
+use Rattle.hwdb_layout.specs.Tree.{values_of}
+use Rattle.hwdb_reader.specs.View.{entered_tree}
+use Rattle.hwdb_query.specs.Answers.{own_members}
+use Rattle.hwdb_query.specs.Collected.{LastCollects}
+use Rattle.hwdb_query.specs.declared.last_hits.LastHits.{LastHits}
+use Rattle.hwdb_query.proofs.last_hits.LastHits.collect.Given as goal
+
+abbrev pub invariant-loop-i : goal.invariant-loop-i
+invariant-loop-i l =
+    (end : LastHits) → LastCollects l.self (own_members l.pattern (drop l.i (values_of (entered_tree l.inside)))) end
+    → LastCollects l.fn.self (own_members l.pattern (values_of (entered_tree l.inside))) end

@@ -1,0 +1,110 @@
+//! One descent of the tree along the paths that are live for a device.
+//!
+//! A node whose path is dead isn't entered, and no pattern at or below it matches.
+ghost use Rattle.std.specs.Prelude.{◌≡◌, ◌<◌, ◌≤◌, ◌+◌, ◌++◌, ◌^◌, ℕ, List, [], length, take, filter, IfOk, OnOk};
+ghost use Rattle.hwdb_pattern.specs.Patterns.{MatchesIsTested};
+ghost use Rattle.hwdb_pattern.specs.Paths.{StandsFor, LiveIsTested, DeadStaysDead, DeadMatchesNothing};
+ghost use Rattle.hwdb_layout.specs.Tree.{node_count, values_of};
+ghost use Rattle.hwdb_reader.specs.View.{tree_of, entered_tree, db_tree};
+ghost use Rattle.hwdb_query.specs.Answers.{is_wanted, own_members, members_under};
+ghost use Rattle.hwdb_query.specs.Collected.{Collects};
+ghost use Rattle.hwdb_query.specs.Live.{live_under, live_nodes};
+
+use crate::collector::Collector;
+use hwdb_pattern::{
+    Reach, dead_matches_nothing, dead_stays_dead, live_is_tested, matches_is_tested,
+};
+use hwdb_reader::{Db, Entered, Inside, Node};
+use std::alloc::{AllocError, Global};
+
+/// What is known of patterns and paths, for the proofs of the descent.
+fn path_laws()
+    ensures matched { MatchesIsTested }
+    ensures live { LiveIsTested }
+    ensures longer { DeadStaysDead }
+    ensures below { DeadMatchesNothing }
+{
+    matches_is_tested();
+    live_is_tested();
+    dead_stays_dead();
+    dead_matches_nothing();
+}
+
+/// Collects what the values of a node assign at its path, if it matches the device.
+fn collect_matching<'a>(
+    alloc: Global,
+    inside: Inside<'a>,
+    reach: &Reach<'_>,
+    pattern: &[u8],
+    into: &mut Collector<'a, '_>,
+) -> Result<(), AllocError>
+    requires { StandsFor reach.now pattern.now }
+    ensures { OnOk result (Collects into.old
+        (filter (is_wanted reach.now.device) (own_members pattern.now (values_of (entered_tree inside.entry)))) into.new) }
+{
+    if inside.values() == 0 {
+        return Ok(());
+    }
+    matches_is_tested();
+    if !reach.accepts(pattern) {
+        return Ok(());
+    }
+    into.collect(alloc, inside, pattern)
+}
+
+/// Collects what the tree of a node assigns to the device, and counts the nodes whose path is live. The path
+/// is the node's without its prefix; `above` stands for its first `from` bytes.
+fn visit<'a>(
+    alloc: Global,
+    node: Node<'a>,
+    above: &Reach<'_>,
+    from: usize,
+    path: &mut Vec<u8>,
+    into: &mut Collector<'a, '_>,
+    entered: &mut Entered,
+) -> Result<(), AllocError>
+    requires within { from ≤ length path.old.items }
+    requires stands { StandsFor above.now (take from path.old.items) }
+    requires room { entered.old + node_count (tree_of node) < 2 ^ 64 }
+    ensures path { OnOk result (path.new.items ≡ path.old.items) }
+    ensures collected { OnOk result (Collects into.old
+        (filter (is_wanted above.now.device) (members_under path.old.items (tree_of node.entry))) into.new) }
+    ensures counted { OnOk result
+        (entered.new ≡ entered.old + live_under above.now.device path.old.items (tree_of node.entry)) }
+{
+    path_laws();
+    let start = path.len();
+    path.extend_from_slice(node.prefix())?;
+    let here = above.feed(alloc, &path[from..])?;
+    if here.is_alive() {
+        let inside = node.enter(entered);
+        let end = path.len();
+        collect_matching(alloc, inside, &here, path, into)?;
+        for i in 0..inside.children() {
+            let child = inside.child(i);
+            path.push(child.byte)?;
+            visit(alloc, child.node, &here, end, path, into, entered)?;
+            path.truncate(end);
+        }
+    }
+    path.truncate(start);
+    Ok(())
+}
+
+/// Collects what the database assigns to the device, and gives how many nodes were entered.
+pub(crate) fn descend<'a>(
+    alloc: Global,
+    db: &Db<'a>,
+    device: &[u8],
+    into: &mut Collector<'a, '_>,
+) -> Result<u64, AllocError>
+    ensures collected { OnOk result (Collects into.old
+        (filter (is_wanted device.now) (members_under [] (db_tree db.now))) into.new) }
+    ensures entered { IfOk result (λ count. count ≡ live_nodes device.now (db_tree db.now)) }
+{
+    let mut path = Vec::new(alloc);
+    let mut entered = Entered::new();
+    let start = Reach::start(alloc, device)?;
+    visit(alloc, db.root(), &start, 0, &mut path, into, &mut entered)?;
+    Ok(entered.count())
+}

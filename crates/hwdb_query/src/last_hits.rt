@@ -1,0 +1,138 @@
+//! The last hit of each key.
+ghost use Rattle.std.specs.Prelude.{◌≡◌, List, [], IfOk, OnOk};
+ghost use Rattle.hwdb_layout.specs.Tree.{values_of};
+ghost use Rattle.hwdb_reader.specs.View.{entered_tree, entry_shows};
+ghost use Rattle.hwdb_query.specs.Answers.{Found, is_after, found_shown, own_members};
+ghost use Rattle.hwdb_query.specs.Effective.{effective_of};
+ghost use Rattle.hwdb_query.specs.Hits.{parts_spot};
+ghost use Rattle.hwdb_query.specs.Pairs.{pairs_bytes};
+
+use crate::hit::{Parts, order};
+use hwdb_reader::{Entry, Inside};
+use std::alloc::{AllocError, Global};
+use std::cmp::Ordering;
+use std::collections::BTreeMap;
+use std::rc::Rc;
+
+/// The last hit of a key so far. The hits of a pattern share one copy of it.
+#[derive(Drop)]
+pub(crate) struct Last<'a> {
+    pub priority: u16,
+    pub line: u32,
+    pub pattern: Rc<Vec<u8>>,
+    pub value: &'a [u8],
+}
+
+impl<'a> Last<'a> {
+    ghost use Rattle.hwdb_query.specs.Collected.{told_last};
+
+    /// What the order looks at.
+    fn parts<'p>(&'p self, key: &'p [u8]) -> Parts<'p>
+        ensures { parts_spot result ≡ (told_last key.now self.now).0 }
+    {
+        Parts {
+            priority: self.priority,
+            line: self.line,
+            pattern: &self.pattern,
+            key,
+        }
+    }
+}
+
+/// A copy of a pattern, which hits can share.
+fn shared(alloc: Global, pattern: &[u8]) -> Result<Rc<Vec<u8>>, AllocError>
+    ensures { IfOk result (λ copy. copy.value.items ≡ pattern.now) }
+{
+    let copy = pattern.to_vec(alloc)?;
+    match Rc::new(alloc, copy) {
+        Ok(copy) => Ok(copy),
+        Err(_) => Err(AllocError),
+    }
+}
+
+/// The last hit of each key so far.
+#[derive(Drop)]
+pub(crate) struct LastHits<'a> {
+    pub hits: BTreeMap<&'a [u8], Last<'a>>,
+}
+
+impl<'a> LastHits<'a> {
+    ghost use Rattle.hwdb_query.specs.Collected.{spot_at, Shows, LastCollects};
+
+    /// No hits.
+    pub(crate) fn new(alloc: Global) -> LastHits<'a>
+        ensures { result.hits.entries ≡ [] }
+    {
+        LastHits {
+            hits: BTreeMap::new(alloc),
+        }
+    }
+
+    /// Whether a hit of a key comes after the one that stands there, if one does.
+    fn is_last(&self, parts: Parts<'_>) -> bool
+        ensures { result ≡ is_after (spot_at self.now.hits parts.entry.key.now) (parts_spot parts.entry) }
+    {
+        match self.hits.get(parts.key) {
+            None => true,
+            Some(last) => match order(last.parts(parts.key), parts) {
+                Ordering::Less => true,
+                _ => false,
+            },
+        }
+    }
+
+    /// Offers what one value assigns at a pattern.
+    fn offer(&mut self, pattern: &Rc<Vec<u8>>, entry: Entry<'a>) -> Result<(), AllocError>
+        ensures { OnOk result
+            (LastCollects self.old (found_shown pattern.now.value.items (entry_shows entry.entry)) self.new) }
+    {
+        let Some(key) = entry.key else {
+            return Ok(());
+        };
+        let parts = Parts {
+            priority: entry.priority,
+            line: entry.line,
+            pattern,
+            key,
+        };
+        if self.is_last(parts) {
+            let last = Last {
+                priority: entry.priority,
+                line: entry.line,
+                pattern: pattern.clone()?,
+                value: entry.value,
+            };
+            self.hits.insert(key, last)?;
+        }
+        Ok(())
+    }
+
+    /// Takes what the values of a node assign at a pattern.
+    pub(crate) fn collect(
+        &mut self,
+        alloc: Global,
+        inside: Inside<'a>,
+        pattern: &[u8],
+    ) -> Result<(), AllocError>
+        ensures { OnOk result
+            (LastCollects self.old (own_members pattern.now (values_of (entered_tree inside.entry))) self.new) }
+    {
+        let shared = shared(alloc, pattern)?;
+        for i in 0..inside.values() {
+            self.offer(&shared, inside.value(i))?;
+        }
+        Ok(())
+    }
+
+    /// The keys and their values, ascending by key.
+    pub(crate) fn pairs(self, alloc: Global) -> Result<Vec<(&'a [u8], &'a [u8])>, AllocError>
+        ensures { IfOk result (λ list. (hits : List Found) → Shows self.entry.hits hits
+            → pairs_bytes list.items ≡ effective_of hits) }
+    {
+        let mut pairs = Vec::new(alloc);
+        for (key, last) in self.hits {
+            pairs.push((key, last.value))?;
+        }
+        Ok(pairs)
+    }
+}

@@ -1,0 +1,88 @@
+//! A page that is filled.
+//!
+//! A value that isn't kept takes no memory.
+ghost use Rattle.std.specs.Prelude.{◌≡◌, List, [], ◌∷◌, OnOk, true};
+ghost use Rattle.hwdb_layout.specs.Tree.{values_of};
+ghost use Rattle.hwdb_reader.specs.View.{entered_tree, entry_shows};
+ghost use Rattle.hwdb_query.specs.Answers.{Found, found_shown, is_after, own_members};
+ghost use Rattle.hwdb_query.specs.Hits.{parts_spot, after_spot, IsOf};
+
+use crate::held::Held;
+use crate::hit::{Parts, is_earlier, order};
+use hwdb_reader::{Entry, Inside, Origin};
+use std::alloc::{AllocError, Global};
+use std::cmp::Ordering;
+
+/// Whether a position is greater than the one given, if one is given.
+fn is_past(after: Option<Parts<'_>>, parts: Parts<'_>) -> bool
+    ensures { result ≡ is_after (after_spot after.entry) (parts_spot parts.entry) }
+{
+    match after {
+        None => true,
+        Some(position) => match order(position, parts) {
+            Ordering::Less => true,
+            _ => false,
+        },
+    }
+}
+
+/// A page that is filled: the least of the hits so far that come after a position.
+#[derive(Drop)]
+pub(crate) struct NextPage<'a, 'p> {
+    pub after: Option<Parts<'p>>,
+    pub held: Held<'a>,
+}
+
+impl<'a, 'p> NextPage<'a, 'p> {
+    ghost use Rattle.hwdb_query.specs.Collected.{PageCollects};
+
+    /// Offers what one value assigns at a pattern.
+    fn offer(&mut self, alloc: Global, pattern: &[u8], entry: Entry<'a>) -> Result<(), AllocError>
+        ensures { OnOk result (PageCollects self.old (found_shown pattern.now (entry_shows entry.entry)) self.new) }
+    {
+        let Some(key) = entry.key else {
+            return Ok(());
+        };
+        let parts = Parts {
+            priority: entry.priority,
+            line: entry.line,
+            pattern,
+            key,
+        };
+        if is_past(self.after, parts) {
+            self.held.keep(alloc, pattern, key, entry)?;
+        }
+        Ok(())
+    }
+
+    /// Whether no hit of an origin is kept: where it comes before the position's, or behind a full page.
+    fn skips(&self, origin: Origin) -> bool
+        ensures { result ≡ true → (x : Found) → IsOf origin x → PageCollects self.now (x ∷ []) self.now }
+    {
+        if let Some(after) = self.after {
+            if is_earlier(origin, after.origin()) {
+                return true;
+            }
+        }
+        self.held.is_full_before(origin)
+    }
+
+    /// Takes what the values of a node assign at a pattern. Of a value that isn't kept for its origin no text is
+    /// looked at.
+    pub(crate) fn collect(
+        &mut self,
+        alloc: Global,
+        inside: Inside<'a>,
+        pattern: &[u8],
+    ) -> Result<(), AllocError>
+        ensures { OnOk result
+            (PageCollects self.old (own_members pattern.now (values_of (entered_tree inside.entry))) self.new) }
+    {
+        for i in 0..inside.values() {
+            if !self.skips(inside.origin(i)) {
+                self.offer(alloc, pattern, inside.value(i))?;
+            }
+        }
+        Ok(())
+    }
+}
