@@ -236,10 +236,10 @@ static int is_one_of(const char *word, const char *const *all) {
     return 0;
 }
 
-/* Whether standard error is that of a folder that couldn't be made since something has its name, as it has. */
+/* What is wrong with the refusal. Where a folder is there and can't be looked at, the cause is that it is there. */
 static const char *wrong_cause(struct answer *is, struct call *call, int error) {
     const char *wrong = wrong_lines(&is->err, strerror(error));
-    if (wrong && !strcmp(call->name, "stat") && !strcmp(call->path, folder)) wrong = wrong_lines(&is->err, strerror(EEXIST));
+    if (wrong && !strcmp(call->name, "stat") && !strncmp(call->path, folder, strlen(call->path))) wrong = wrong_lines(&is->err, strerror(EEXIST));
     return wrong;
 }
 
