@@ -18,6 +18,9 @@ check:
 	tests/refused
 	$(MAKE) all
 	tests/runs out/hwdb
+	tests/crash out/hwdb
+	tests/growth out/hwdb
+	tests/folders out/hwdb
 	tests/hostile out/hwdb
 	tests/memory out/hwdb
 

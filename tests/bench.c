@@ -2,7 +2,11 @@
  *
  *   bench time RUNS COMMAND.. :: COMMAND.. ..   runs each command once, then each once more, and so on, RUNS times, with
  *                 standard output and error thrown away. A line for each: the least and the middle wall time in
- *                 microseconds, and the greatest memory that a run held, in KiB. Where a command's status isn't 0: `failed`
+ *                 microseconds, and the greatest memory that a run held, in KiB. Where a command's status isn't 0: `failed`, and it
+ *                 isn't run again
+ *   bench processor SECONDS RUNS COMMAND.. :: COMMAND.. ..   the same, with the time that the processor spent on the
+ *                 command, its own and the system's, in place of wall time; a run that takes more than SECONDS of it has failed
+ *   bench links FILE FOLDER COUNT               gives the file so many names in the folder, each ending in .hwdb
  *   bench read FILE                             reads a file into memory, 64 KiB at a time
  *   bench udev LIBRARY DEVICES ROUNDS           with libudev: opens the system's hardware database, looks up each line of
  *                 the file DEVICES, so many times, and prints how many properties came in all */
@@ -47,6 +51,10 @@ static struct bytes bytes_of(const char *path) {
 struct command { char **words; long times[MOST_RUNS]; long memory; int has_failed; };
 static struct command commands[MOST_COMMANDS];
 
+static int most_seconds;
+
+static long microseconds(struct timeval time) { return time.tv_sec * 1000000 + time.tv_usec; }
+
 static void run_once(struct command *command, int run) {
     struct timespec begin, end;
     struct rusage used;
@@ -56,6 +64,8 @@ static void run_once(struct command *command, int run) {
     if (child < 0) fail("fork");
     if (child == 0) {
         int nowhere = open("/dev/null", O_RDWR);
+        struct rlimit most = {most_seconds, most_seconds}, no_core = {0, 0};
+        if (most_seconds) setrlimit(RLIMIT_CPU, &most), setrlimit(RLIMIT_CORE, &no_core);
         dup2(nowhere, 0), dup2(nowhere, 1), dup2(nowhere, 2);
         execv(command->words[0], command->words);
         _exit(127);
@@ -63,6 +73,7 @@ static void run_once(struct command *command, int run) {
     if (wait4(child, &status, 0, &used) != child) fail("wait4");
     clock_gettime(CLOCK_MONOTONIC, &end);
     command->times[run] = (end.tv_sec - begin.tv_sec) * 1000000 + (end.tv_nsec - begin.tv_nsec) / 1000;
+    if (most_seconds) command->times[run] = microseconds(used.ru_utime) + microseconds(used.ru_stime);
     if (used.ru_maxrss > command->memory) command->memory = used.ru_maxrss;
     if (!WIFEXITED(status) || WEXITSTATUS(status)) command->has_failed = 1;
 }
@@ -78,7 +89,8 @@ static int time_all(int runs, char **words) {
         if (*words) *words++ = 0;
     }
     for (int run = 0; run < runs; run++)
-        for (int i = 0; i < count; i++) run_once(&commands[i], run);
+        for (int i = 0; i < count; i++)
+            if (!commands[i].has_failed) run_once(&commands[i], run);
     for (int i = 0; i < count; i++) {
         qsort(commands[i].times, runs, sizeof(long), by_time);
         if (commands[i].has_failed) printf("failed\n");
@@ -116,8 +128,22 @@ static int look_up(const char *path, const char *devices, long rounds) {
     return 0;
 }
 
+static int link_all(const char *file, const char *folder, unsigned long count) {
+    char path[4096];
+    for (unsigned long i = 1; i <= count; i++) {
+        snprintf(path, sizeof path, "%s/%08lx.hwdb", folder, i * 2654435761UL % 4294967296UL);
+        if (link(file, path)) fail(path);
+    }
+    return 0;
+}
+
 int main(int count, char **words) {
     if (count > 3 && !strcmp(words[1], "time")) return time_all(atoi(words[2]), words + 3);
+    if (count > 4 && !strcmp(words[1], "processor")) {
+        most_seconds = atoi(words[2]);
+        return time_all(atoi(words[3]), words + 4);
+    }
+    if (count == 5 && !strcmp(words[1], "links")) return link_all(words[2], words[3], strtoul(words[4], 0, 10));
     if (count == 3 && !strcmp(words[1], "read")) return bytes_of(words[2]).length == 0;
     if (count == 5 && !strcmp(words[1], "udev")) return look_up(words[2], words[3], atol(words[4]));
     return fprintf(stderr, "usage: see the source\n"), 1;

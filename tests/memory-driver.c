@@ -7,10 +7,14 @@
  *   OUTPUT     `whole` or `lines`: after a refusal standard output is empty, or has whole lines of what it has without
  *   DATABASE   the file that the command writes, or `-`. Before each run it is made what it was at first: where it wasn't
  *              there it is deleted, and its folder too where that is empty then
- *   LINES      a file with the lines of file calls that were refused memory that the command may answer with
+ *   LINES      a file with the beginnings of the lines that the command may answer with where a file call was refused
+ *              memory; behind each comes a cause. Where one is of a file that is written, a refusal may stand behind the
+ *              fault lines
+ * In the folder of DATABASE no file may be left that wasn't there at first.
  * It works in the current folder, and prints a line for each wrong answer and then a line of counts. The last line of
  * the file `tally` that it adds is 'PASSED FAILED'. */
 #define _GNU_SOURCE
+#include <dirent.h>
 #include <errno.h>
 #include <fcntl.h>
 #include <libgen.h>
@@ -27,11 +31,14 @@ enum { SECONDS = 20, MOST_REQUESTS = 50000, MOST_NAMES = 32, MOST_SHOWN = 5 };
 
 /* A file's bytes, ended by a byte 0 that isn't counted. */
 struct text { char *bytes; size_t length; int is_there; };
-struct answer { int status; struct text out, err, database; };
+struct answer { int status; const char *left; struct text out, err, database; };
 
 static const char *library, *name, *database;
+static char folder[PATH_MAX], first_names[MOST_NAMES][NAME_MAX + 1];
+static int count_of_first;
 static int may_be_lines;
 static struct text lines, old;
+static size_t faults_length;
 static char **words;
 
 static void fail(const char *what) { perror(what); exit(2); }
@@ -63,17 +70,49 @@ static void let_go(struct answer *answer) {
     free(answer->out.bytes), free(answer->err.bytes), free(answer->database.bytes);
 }
 
+static int is_first(const char *entry) {
+    for (int i = 0; i < count_of_first; i++)
+        if (!strcmp(first_names[i], entry)) return 1;
+    return 0;
+}
+
+/* Notes the names in the database's folder, but for the database. */
+static void note_first_names(void) {
+    snprintf(folder, sizeof folder, "%s", database);
+    dirname(folder);
+    DIR *entries = opendir(folder);
+    for (struct dirent *entry; entries && (entry = readdir(entries)) && count_of_first < MOST_NAMES;)
+        if (strcmp(entry->d_name, "hwdb.bin")) strcpy(first_names[count_of_first++], entry->d_name);
+    if (entries) closedir(entries);
+}
+
+/* A name in the database's folder that wasn't there at first, and isn't the database's, or null. Deletes these files. */
+static const char *left_behind(void) {
+    static char found[PATH_MAX];
+    int has_found = 0;
+    DIR *entries = database ? opendir(folder) : 0;
+    if (!entries) return 0;
+    for (struct dirent *entry; (entry = readdir(entries));) {
+        char path[2 * PATH_MAX];
+        snprintf(path, sizeof path, "%s/%s", folder, entry->d_name);
+        if (!strcmp(entry->d_name, ".") || !strcmp(entry->d_name, "..") || is_first(entry->d_name) || !strcmp(path, database)) continue;
+        snprintf(found, sizeof found, "%s", entry->d_name);
+        has_found = 1;
+        unlink(path);
+    }
+    closedir(entries);
+    return has_found ? found : 0;
+}
+
 /* Makes the database what it was before the first run. */
 static void put_back(void) {
     if (!database) return;
+    unlink(database);
     if (!old.is_there) {
-        char folder[PATH_MAX];
-        unlink(database);
-        snprintf(folder, sizeof folder, "%s", database);
-        rmdir(dirname(folder));
+        rmdir(folder);
         return;
     }
-    int file = open(database, O_WRONLY | O_CREAT | O_TRUNC, 0644);
+    int file = open(database, O_WRONLY | O_CREAT | O_EXCL, 0644);
     if (file < 0 || write(file, old.bytes, old.length) != (ssize_t)old.length) fail(database);
     close(file);
 }
@@ -107,6 +146,7 @@ static struct answer answer_of(unsigned long from, unsigned long to) {
     answer.out = text_of("out");
     answer.err = text_of("err");
     if (database) answer.database = text_of(database);
+    answer.left = left_behind();
     return answer;
 }
 
@@ -123,11 +163,20 @@ static void count(const char *what, const char *who) {
     }
 }
 
-/* Whether a text is one of the lines, which end in a newline each. */
-static int is_line(const char *text, size_t length) {
-    for (char *at = lines.bytes; *at; at = strchr(at, '\n') + 1)
-        if (length == (size_t)(strchr(at, '\n') + 1 - at) && !memcmp(at, text, length)) return 1;
+/* Whether a text is a line that begins with one of the lines' texts, and then has a cause. */
+static int is_line(const char *text) {
+    if (!*text || strchr(text, '\n') != text + strlen(text) - 1) return 0;
+    for (char *at = lines.bytes; *at; at = strchr(at, '\n') + 1) {
+        size_t length = strchr(at, '\n') - at;
+        if (strlen(text) > length + 1 && !memcmp(at, text, length)) return 1;
+    }
     return 0;
+}
+
+/* How much of standard error is fault lines: all of it, but for the line of a refusal. */
+static size_t length_of_faults(struct text err) {
+    const char *refusal = strstr(err.bytes, "hwdb: cannot ");
+    return refusal ? (size_t)(refusal - err.bytes) : err.length;
 }
 
 /* What was printed on standard output before the refusal. */
@@ -145,20 +194,21 @@ static int is_whole(struct answer *is, struct answer *whole) {
  * request was refused, and all behind it. */
 static const char *judge(struct answer *is, struct answer *whole, int asks_in_vain) {
     int is_old = !database || is_same(is->database, old);
+    if (is->left) return 0;
     if (is_whole(is, whole)) return asks_in_vain ? 0 : "the whole answer";
     if (is->status != 1 || !is_old || !is_untouched(is, whole)) return 0;
     if (is_text(is->err, "hwdb: out of memory\n")) return "out of memory";
     if (is->out.length) return 0;
-    if (is_line(is->err.bytes, is->err.length)) return "a file call's line";
-    if (database && is->err.length > whole->err.length && is_prefix(whole->err, is->err) &&
-        !strcmp(is->err.bytes + whole->err.length, "hwdb: cannot write\n"))
-        return "cannot write, behind the fault lines";
-    return 0;
+    if (is_line(is->err.bytes)) return "a file call's line";
+    if (faults_length == 0 || is->err.length <= faults_length || memcmp(is->err.bytes, whole->err.bytes, faults_length)) return 0;
+    if (!strcmp(is->err.bytes + faults_length, "hwdb: out of memory\n")) return "out of memory, behind the fault lines";
+    return is_line(is->err.bytes + faults_length) ? "a file call's line, behind the fault lines" : 0;
 }
 
 static void show(const char *mode, unsigned long number, const char *who, struct answer *is) {
-    printf("FAILED: %s, %s %lu refused (asked by: %s): status %d, out '%.200s', err '%.300s'%s\n", name, mode, number, who,
-           is->status, is->out.bytes, is->err.bytes, database && !is_same(is->database, old) ? ", the database changed" : "");
+    printf("FAILED: %s, %s %lu refused (asked by: %s): status %d, out '%.200s', err '%.600s'%s%s%s\n", name, mode, number, who,
+           is->status, is->out.bytes, is->err.bytes, database && !is_same(is->database, old) ? ", the database changed" : "",
+           is->left ? ", left " : "", is->left ? is->left : "");
 }
 
 static unsigned long passed, failed;
@@ -191,8 +241,9 @@ int main(int count_of_words, char **all) {
     lines = text_of(all[5]);
     words = all + 6;
     if (!lines.is_there) fail(all[5]);
-    if (database) old = text_of(database);
+    if (database) old = text_of(database), note_first_names();
     struct answer whole = answer_of(0, 0);
+    if (strstr(lines.bytes, "hwdb: cannot write ")) faults_length = length_of_faults(whole.err);
     unsigned long requests = refuse_each("request", 0, &whole);
     refuse_each("request and all behind", 1, &whole);
     if (requests == 0) failed++, printf("FAILED: %s: no request for memory was counted\n", name);
