@@ -20,6 +20,7 @@ check:
 	tests/runs out/hwdb
 	tests/hostile out/hwdb
 	tests/memory out/hwdb
+	tests/random out/hwdb
 
 check-peer: all
 	tests/peer out/hwdb
