@@ -15,6 +15,7 @@ demo: all
 
 check:
 	rt ci
+	tests/documents
 	tests/refused
 	$(MAKE) all
 	tests/runs out/hwdb
@@ -23,6 +24,7 @@ check:
 	tests/folders out/hwdb
 	tests/hostile out/hwdb
 	tests/memory out/hwdb
+	tests/random out/hwdb
 
 check-peer: all
 	tests/peer out/hwdb
