@@ -43,11 +43,8 @@ impl<'a> Last<'a> {
 fn shared(alloc: Global, pattern: &[u8]) -> Result<Rc<Vec<u8>>, AllocError>
     ensures { IfOk result (λ copy. copy.value.items ≡ pattern.now) }
 {
-    let copy = pattern.to_vec(alloc)?;
-    match Rc::new(alloc, copy) {
-        Ok(copy) => Ok(copy),
-        Err(_) => Err(AllocError),
-    }
+    let copy = Rc::new(alloc, pattern.to_vec(alloc)?)?;
+    Ok(copy)
 }
 
 /// The last hit of each key so far.
