@@ -50,7 +50,8 @@ pub fn find_key(values: &[Stored], key: &[u8]) -> Result<usize, usize>
 #[inline(never)]
 pub fn put_value(values: &mut Vec<Stored>, value: Stored) -> Result<(), AllocError>
     requires { KeysAscend None (map value_of values.old.items) }
-    ensures ok { OnOk result (map value_of values.new.items ≡ set_value (value_of value) (map value_of values.old.items)) }
+    ensures ok { OnOk result (map value_of values.new.items
+        ≡ set_value (value_of value) (map value_of values.old.items)) }
     ensures err { OnErr result (values.new.items ≡ values.old.items) }
 {
     match find_key(values, value.key()) {
@@ -133,19 +134,22 @@ fn put_in_run(runs: &mut Vec<Vec<Stored>>, value: Stored) -> Result<(), AllocErr
     requires runs { AreRuns runs.old.items }
     requires ascend { KeysAscend None (values_in runs.old.items) }
     ensures runs { AreRuns runs.new.items }
-    ensures ok { OnOk result (values_in runs.new.items ≡ set_value (value_of value) (values_in runs.old.items)) }
+    ensures ok { OnOk result (values_in runs.new.items
+        ≡ set_value (value_of value) (values_in runs.old.items)) }
     ensures err { OnErr result (values_in runs.new.items ≡ values_in runs.old.items) }
 {
     let run = find_run(runs, value.key());
     put_value(&mut runs[run], value)
 }
 
-/// Puts the value in its place, in a run that has room for it.
+/// Puts the value in its place, in a run that has room for it. Where memory is refused, the values
+/// stay, though a run may be two.
 fn put_in_runs(runs: &mut Vec<Vec<Stored>>, value: Stored) -> Result<(), AllocError>
     requires runs { AreRuns runs.old.items }
     requires ascend { KeysAscend None (values_in runs.old.items) }
     ensures runs { AreRuns runs.new.items }
-    ensures ok { OnOk result (values_in runs.new.items ≡ set_value (value_of value) (values_in runs.old.items)) }
+    ensures ok { OnOk result (values_in runs.new.items
+        ≡ set_value (value_of value) (values_in runs.old.items)) }
     ensures err { OnErr result (values_in runs.new.items ≡ values_in runs.old.items) }
 {
     make_room(runs, value.key())?;
@@ -233,9 +237,10 @@ impl Values {
         Ok(())
     }
 
-    /// Puts the value in its place. One with its key makes way. Where memory is refused, they stay as they are.
+    /// Puts the value in its place. One with its key makes way. Where memory is refused, they stay as
+    /// they are.
     ///
-    /// Takes a search, and moves the values of one run at most; one time in many it moves the list of runs.
+    /// Takes a search, and moves the values of one run at most; a split moves the list of runs besides.
     #[inline(never)]
     pub fn set(&mut self, alloc: Global, value: Stored) -> Result<(), AllocError>
         requires { KeysAscend None self.old }
