@@ -93,6 +93,11 @@ def odd_line(rng, pool):
     return match_line(rng, pool) if kind < 0.92 else property_line(rng)
 
 
+def soup_line(rng, pool):
+    """A line of any kind."""
+    return rng.choice([match_line(rng, pool), odd_line(rng, pool), property_line(rng), property_line(rng)])
+
+
 def record(rng, pool):
     lines = [match_line(rng, pool) for _ in range(rng.choice([1, 1, 1, 2, 3]))]
     lines += [property_line(rng) for _ in range(rng.choice([0, 1, 1, 2, 3]))]
@@ -108,7 +113,7 @@ def text_file(rng, pool):
         lines += record(rng, pool)
         lines += rng.choice([[b""], [b""], [b"", b""], [b"\r"], []])
     if rng.random() < 0.1:
-        lines = [rng.choice([match_line, odd_line])(rng, pool) if rng.random() < 0.5 else property_line(rng) for _ in range(8)]
+        lines = [soup_line(rng, pool) for _ in range(8)]
     text = b"\n".join(lines)
     return text + rng.choice([b"\n", b"\n", b"", b"\n\n", b" ", b"\0"])
 
@@ -150,12 +155,18 @@ def device(rng, pool):
     kind = rng.random()
     if kind < 0.05:
         return b""
-    if kind < 0.7:
-        for _ in range(4):
-            text = fitting(rng, rng.choice(pool))
+    if kind < 0.85 and pool:
+        for _ in range(6):
+            text = rng.choice(pool)
+            text = as_it_stands(rng, text) if rng.random() < 0.25 else fitting(rng, text)
             if is_word(text):
                 return text
     return "".join(some(rng, DEVICE_PIECES, 1, 5)).encode()
+
+
+def as_it_stands(rng, text):
+    """A pattern's own bytes, of which those that are no wildcards match themselves."""
+    return text.replace(b"*", rng.choice([b"", b"*", b"a"])).replace(b"?", rng.choice([b"?", b"b"]))
 
 
 def fitting(rng, text):
@@ -165,7 +176,7 @@ def fitting(rng, text):
         if token == reference.STAR:
             device += "".join(some(rng, DEVICE_PIECES, 0, 2)).encode()
         elif token:
-            usual = [byte for byte in token if 32 < byte < 127]
+            usual = [byte for byte in sorted(token) if 32 < byte < 127]
             device += bytes([rng.choice(usual or sorted(token))])
     if rng.random() < 0.15 and device:
         at = rng.randrange(len(device))
@@ -182,17 +193,20 @@ def is_word(text):
 
 # Positions.
 
-BAD_POSITIONS = [b"", b":::", b"1:2", b"01:2::", b"+1:2::", b"-1:2::", b"65536:1::", b"1:4294967296::", b"1:2:6:", b"1:2:zz:"]
-BAD_POSITIONS += [b"1:2:::", b" 1:2::", b"1:2:: ", b"1:2::\xc3\xa9", b"\xd9\xa3:1::", b"1:-2::", b"0x1:2::", b"1:::", b"00:0::"]
-BAD_POSITIONS += [b"1:02::", b"99999999999999999999999:1::", b"1:99999999999999999999999::", b"1:2:61:4b4", b"1:2:6:1", b"1;2::"]
+BAD_POSITIONS = [b"", b":::", b"1:2", b"01:2::", b"+1:2::", b"-1:2::", b"65536:1::", b"1:4294967296::", b"1:2:6:"]
+BAD_POSITIONS += [b"1:2:zz:", b"1:2:::", b" 1:2::", b"1:2:: ", b"1:2::\xc3\xa9", b"\xd9\xa3:1::", b"1:-2::", b"0x1:2::"]
+BAD_POSITIONS += [b"1:::", b"00:0::", b"1:02::", b"99999999999999999999999:1::", b"1:99999999999999999999999::"]
+BAD_POSITIONS += [b"1:2:61:4b4", b"1:2:6:1", b"1;2::"]
 GOOD_POSITIONS = [b"0:0::", b"1:0::", b"65535:4294967295:ff:FF", b"1:2::", b"2:0::", b"1:4294967295::", b"1:3:5B:4B"]
 
 
 def position(rng, assignments):
     """The text of a position: one of these assignments', one near it, an invented one, or none at all."""
     kind = rng.random()
-    if kind < 0.1 or not assignments:
-        return rng.choice(BAD_POSITIONS + GOOD_POSITIONS)
+    if kind < 0.08:
+        return rng.choice(BAD_POSITIONS)
+    if kind < 0.16 or not assignments:
+        return rng.choice(GOOD_POSITIONS)
     priority, line, text, key = reference.position_of(rng.choice(assignments))
     if kind < 0.5:
         return reference.position_text((priority, line, text, key))
