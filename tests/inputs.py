@@ -226,7 +226,12 @@ def position(rng, assignments):
 
 
 class Layout:
-    """How a tree is laid out: the sizes of records, what stands where nobody looks, and the order of the strings."""
+    """How a tree is laid out. Without arguments: as the program lays out a tree.
+
+    The sizes of the header, a node, a child entry and a value entry, and the tool version; `junk` and `shuffled` are
+    seeds, None for padding of 0 and for ascending strings; `shares` is whether a string may be the ending of another one;
+    before the node number `gap_at` there is a gap, which no database may have.
+    """
 
     def __init__(self, sizes=(80, 24, 16, 32), version=1, junk=None, shuffled=None, shares=False, gap_at=None):
         self.sizes = sizes
@@ -268,49 +273,60 @@ def string_section(texts, how):
     return section, places
 
 
+class Writer:
+    """The header and the nodes of a database, as they grow: children before their node."""
+
+    def __init__(self, how, strings_at, places):
+        self.how = how
+        self.strings_at = strings_at
+        self.places = places
+        self.padding = bytes(7) if how.junk is None else b"\x09" * 7
+        self.nodes = 0
+        self.data = bytearray()
+        self.add(b"", how.sizes[0])
+
+    def add(self, record, size):
+        """Adds a record, up to its size with bytes that nobody looks at."""
+        spare = size - len(record)
+        junk = bytes(spare) if self.how.junk is None else random.Random(self.how.junk + len(self.data)).randbytes(spare)
+        self.data += record + junk
+
+    def place(self, text):
+        return self.strings_at + self.places[text]
+
+    def add_node(self, node):
+        """Adds the records of a node and of those below it; where its own begins."""
+        _, node_size, child_size, value_size = self.how.sizes
+        children = [(byte, self.add_node(child)) for byte, child in node.children]
+        if self.nodes == self.how.gap_at:
+            self.data += bytes(8)
+        self.nodes += 1
+        begins = len(self.data)
+        counts = (len(node.children), self.padding, len(node.values))
+        self.add(struct.pack("<QB7sQ", self.place(node.prefix), *counts), node_size)
+        for byte, at in children:
+            self.add(struct.pack("<B7sQ", byte, self.padding, at), child_size)
+        for priority, line, *texts in node.values:
+            places = [self.place(text) for text in texts]
+            self.add(struct.pack("<QQQIH2s", *places, line, priority, self.padding[:2]), value_size)
+        return begins
+
+
 def laid_out(root, how):
     """The bytes of a tree in such a layout."""
     nodes = reference.nodes_of(root)
-    texts = {b""}
-    for node in nodes:
-        texts.add(node.prefix)
-        for _, _, key, value, path in node.values:
-            texts |= {key, value, path}
+    texts = {b""}.union(*([node.prefix] for node in nodes), *(value[2:] for node in nodes for value in node.values))
     section, places = string_section(texts, how)
     header_size, node_size, child_size, value_size = how.sizes
     nodes_size = sum(node_size + child_size * len(n.children) + value_size * len(n.values) for n in nodes)
-    nodes_size += 8 if how.gap_at is not None and how.gap_at < len(nodes) else 0
+    if how.gap_at is not None and how.gap_at < len(nodes):
+        nodes_size += 8
     strings_at = header_size + nodes_size
-    data = bytearray()
-    done = [0]
-
-    def add(bytes_of_record, size):
-        junk = random.Random(how.junk + len(data)) if how.junk is not None else None
-        spare = size - len(bytes_of_record)
-        data.extend(bytes_of_record + (junk.randbytes(spare) if junk else bytes(spare)))
-
-    def place(text):
-        return strings_at + places[text]
-
-    def add_node(node):
-        children = [(byte, add_node(child)) for byte, child in node.children]
-        if done[0] == how.gap_at:
-            data.extend(bytes(8))
-        done[0] += 1
-        begins = len(data)
-        padding = b"\x09" * 7 if how.junk is not None else bytes(7)
-        add(struct.pack("<QB7sQ", place(node.prefix), len(children), padding, len(node.values)), node_size)
-        for byte, at in children:
-            add(struct.pack("<B7sQ", byte, padding, at), child_size)
-        for priority, line, key, value, path in node.values:
-            add(struct.pack("<QQQIH2s", place(key), place(value), place(path), line, priority, padding[:2]), value_size)
-        return begins
-
-    add(b"", header_size)
-    root_at = add_node(root)
-    sizes = (strings_at + len(section), *how.sizes, root_at, nodes_size, len(section))
-    data[:80] = struct.pack("<8s9Q", reference.SIGNATURE, how.version, *sizes)
-    return bytes(data) + section
+    writer = Writer(how, strings_at, places)
+    root_at = writer.add_node(root)
+    numbers = (how.version, strings_at + len(section), *how.sizes, root_at, nodes_size, len(section))
+    writer.data[:80] = struct.pack("<8s9Q", reference.SIGNATURE, *numbers)
+    return bytes(writer.data) + section
 
 
 PATHS = [b"/etc/udev/hwdb.d/a.hwdb", b"a.hwdb", b""]
@@ -323,16 +339,15 @@ def values(rng, spoilt):
         rng.shuffle(keys)
         keys += keys[:1]
     priorities = [1, 1, 1, 2, 3, 65535] + ([0] if spoilt else [])
-    return [
-        (rng.choice(priorities), rng.choice([0, 1, 2, 3, 4294967295]), key, rng.choice(VALUES), rng.choice(PATHS))
-        for key in keys
-    ]
+    lines = [0, 1, 2, 3, 4294967295]
+    texts = [b"1\n2", *VALUES]
+    return [(rng.choice(priorities), rng.choice(lines), key, rng.choice(texts), rng.choice(PATHS)) for key in keys]
 
 
 def tree(rng, spoilt, depth=0):
     """A tree of any kind: with a prefix at the root, with nodes that have nothing, with keys that are none."""
     prefix = rng.choice([b"", b"", pattern(rng), b"[", b"[a", b"*"]) if depth else rng.choice([b"", b"", b"", b"a", b"["])
-    bytes_below = sorted(set(some(rng, b"ab*?[]^-:", 0, 3 if depth < 4 else 0)))
+    bytes_below = sorted(set(some(rng, b"ab*?[]^-:#\n\xc3", 0, 3 if depth < 4 else 0)))
     if spoilt and rng.random() < 0.15:
         bytes_below = rng.choice([bytes_below[::-1], bytes_below + bytes_below, [0] + bytes_below])
     children = [(byte, tree(rng, spoilt, depth + 1)) for byte in bytes_below]
