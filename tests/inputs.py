@@ -242,6 +242,9 @@ class Layout:
         self.gap_at = gap_at
 
 
+PLAIN = Layout()
+
+
 def layout(rng):
     sizes = (80, 24, 16, 32)
     if rng.random() < 0.4:
