@@ -93,6 +93,11 @@ def odd_line(rng, pool):
     return match_line(rng, pool) if kind < 0.92 else property_line(rng)
 
 
+def soup_line(rng, pool):
+    """A line of any kind."""
+    return rng.choice([match_line(rng, pool), odd_line(rng, pool), property_line(rng), property_line(rng)])
+
+
 def record(rng, pool):
     lines = [match_line(rng, pool) for _ in range(rng.choice([1, 1, 1, 2, 3]))]
     lines += [property_line(rng) for _ in range(rng.choice([0, 1, 1, 2, 3]))]
@@ -108,7 +113,7 @@ def text_file(rng, pool):
         lines += record(rng, pool)
         lines += rng.choice([[b""], [b""], [b"", b""], [b"\r"], []])
     if rng.random() < 0.1:
-        lines = [rng.choice([match_line, odd_line])(rng, pool) if rng.random() < 0.5 else property_line(rng) for _ in range(8)]
+        lines = [soup_line(rng, pool) for _ in range(8)]
     text = b"\n".join(lines)
     return text + rng.choice([b"\n", b"\n", b"", b"\n\n", b" ", b"\0"])
 
@@ -150,12 +155,18 @@ def device(rng, pool):
     kind = rng.random()
     if kind < 0.05:
         return b""
-    if kind < 0.7:
-        for _ in range(4):
-            text = fitting(rng, rng.choice(pool))
+    if kind < 0.85 and pool:
+        for _ in range(6):
+            text = rng.choice(pool)
+            text = as_it_stands(rng, text) if rng.random() < 0.25 else fitting(rng, text)
             if is_word(text):
                 return text
     return "".join(some(rng, DEVICE_PIECES, 1, 5)).encode()
+
+
+def as_it_stands(rng, text):
+    """A pattern's own bytes, of which those that are no wildcards match themselves."""
+    return text.replace(b"*", rng.choice([b"", b"*", b"a"])).replace(b"?", rng.choice([b"?", b"b"]))
 
 
 def fitting(rng, text):
@@ -165,7 +176,7 @@ def fitting(rng, text):
         if token == reference.STAR:
             device += "".join(some(rng, DEVICE_PIECES, 0, 2)).encode()
         elif token:
-            usual = [byte for byte in token if 32 < byte < 127]
+            usual = [byte for byte in sorted(token) if 32 < byte < 127]
             device += bytes([rng.choice(usual or sorted(token))])
     if rng.random() < 0.15 and device:
         at = rng.randrange(len(device))
@@ -182,17 +193,20 @@ def is_word(text):
 
 # Positions.
 
-BAD_POSITIONS = [b"", b":::", b"1:2", b"01:2::", b"+1:2::", b"-1:2::", b"65536:1::", b"1:4294967296::", b"1:2:6:", b"1:2:zz:"]
-BAD_POSITIONS += [b"1:2:::", b" 1:2::", b"1:2:: ", b"1:2::\xc3\xa9", b"\xd9\xa3:1::", b"1:-2::", b"0x1:2::", b"1:::", b"00:0::"]
-BAD_POSITIONS += [b"1:02::", b"99999999999999999999999:1::", b"1:99999999999999999999999::", b"1:2:61:4b4", b"1:2:6:1", b"1;2::"]
+BAD_POSITIONS = [b"", b":::", b"1:2", b"01:2::", b"+1:2::", b"-1:2::", b"65536:1::", b"1:4294967296::", b"1:2:6:"]
+BAD_POSITIONS += [b"1:2:zz:", b"1:2:::", b" 1:2::", b"1:2:: ", b"1:2::\xc3\xa9", b"\xd9\xa3:1::", b"1:-2::", b"0x1:2::"]
+BAD_POSITIONS += [b"1:::", b"00:0::", b"1:02::", b"99999999999999999999999:1::", b"1:99999999999999999999999::"]
+BAD_POSITIONS += [b"1:2:61:4b4", b"1:2:6:1", b"1;2::"]
 GOOD_POSITIONS = [b"0:0::", b"1:0::", b"65535:4294967295:ff:FF", b"1:2::", b"2:0::", b"1:4294967295::", b"1:3:5B:4B"]
 
 
 def position(rng, assignments):
     """The text of a position: one of these assignments', one near it, an invented one, or none at all."""
     kind = rng.random()
-    if kind < 0.1 or not assignments:
-        return rng.choice(BAD_POSITIONS + GOOD_POSITIONS)
+    if kind < 0.08:
+        return rng.choice(BAD_POSITIONS)
+    if kind < 0.16 or not assignments:
+        return rng.choice(GOOD_POSITIONS)
     priority, line, text, key = reference.position_of(rng.choice(assignments))
     if kind < 0.5:
         return reference.position_text((priority, line, text, key))
@@ -212,7 +226,12 @@ def position(rng, assignments):
 
 
 class Layout:
-    """How a tree is laid out: the sizes of records, what stands where nobody looks, and the order of the strings."""
+    """How a tree is laid out. Without arguments: as the program lays out a tree.
+
+    The sizes of the header, a node, a child entry and a value entry, and the tool version; `junk` and `shuffled` are
+    seeds, None for padding of 0 and for ascending strings; `shares` is whether a string may be the ending of another one;
+    before the node number `gap_at` there is a gap, which no database may have.
+    """
 
     def __init__(self, sizes=(80, 24, 16, 32), version=1, junk=None, shuffled=None, shares=False, gap_at=None):
         self.sizes = sizes
@@ -221,6 +240,9 @@ class Layout:
         self.shuffled = shuffled
         self.shares = shares
         self.gap_at = gap_at
+
+
+PLAIN = Layout()
 
 
 def layout(rng):
@@ -254,49 +276,60 @@ def string_section(texts, how):
     return section, places
 
 
+class Writer:
+    """The header and the nodes of a database, as they grow: children before their node."""
+
+    def __init__(self, how, strings_at, places):
+        self.how = how
+        self.strings_at = strings_at
+        self.places = places
+        self.padding = bytes(7) if how.junk is None else b"\x09" * 7
+        self.nodes = 0
+        self.data = bytearray()
+        self.add(b"", how.sizes[0])
+
+    def add(self, record, size):
+        """Adds a record, up to its size with bytes that nobody looks at."""
+        spare = size - len(record)
+        junk = bytes(spare) if self.how.junk is None else random.Random(self.how.junk + len(self.data)).randbytes(spare)
+        self.data += record + junk
+
+    def place(self, text):
+        return self.strings_at + self.places[text]
+
+    def add_node(self, node):
+        """Adds the records of a node and of those below it; where its own begins."""
+        _, node_size, child_size, value_size = self.how.sizes
+        children = [(byte, self.add_node(child)) for byte, child in node.children]
+        if self.nodes == self.how.gap_at:
+            self.data += bytes(8)
+        self.nodes += 1
+        begins = len(self.data)
+        counts = (len(node.children), self.padding, len(node.values))
+        self.add(struct.pack("<QB7sQ", self.place(node.prefix), *counts), node_size)
+        for byte, at in children:
+            self.add(struct.pack("<B7sQ", byte, self.padding, at), child_size)
+        for priority, line, *texts in node.values:
+            places = [self.place(text) for text in texts]
+            self.add(struct.pack("<QQQIH2s", *places, line, priority, self.padding[:2]), value_size)
+        return begins
+
+
 def laid_out(root, how):
     """The bytes of a tree in such a layout."""
     nodes = reference.nodes_of(root)
-    texts = {b""}
-    for node in nodes:
-        texts.add(node.prefix)
-        for _, _, key, value, path in node.values:
-            texts |= {key, value, path}
+    texts = {b""}.union(*([node.prefix] for node in nodes), *(value[2:] for node in nodes for value in node.values))
     section, places = string_section(texts, how)
     header_size, node_size, child_size, value_size = how.sizes
     nodes_size = sum(node_size + child_size * len(n.children) + value_size * len(n.values) for n in nodes)
-    nodes_size += 8 if how.gap_at is not None and how.gap_at < len(nodes) else 0
+    if how.gap_at is not None and how.gap_at < len(nodes):
+        nodes_size += 8
     strings_at = header_size + nodes_size
-    data = bytearray()
-    done = [0]
-
-    def add(bytes_of_record, size):
-        junk = random.Random(how.junk + len(data)) if how.junk is not None else None
-        spare = size - len(bytes_of_record)
-        data.extend(bytes_of_record + (junk.randbytes(spare) if junk else bytes(spare)))
-
-    def place(text):
-        return strings_at + places[text]
-
-    def add_node(node):
-        children = [(byte, add_node(child)) for byte, child in node.children]
-        if done[0] == how.gap_at:
-            data.extend(bytes(8))
-        done[0] += 1
-        begins = len(data)
-        padding = b"\x09" * 7 if how.junk is not None else bytes(7)
-        add(struct.pack("<QB7sQ", place(node.prefix), len(children), padding, len(node.values)), node_size)
-        for byte, at in children:
-            add(struct.pack("<B7sQ", byte, padding, at), child_size)
-        for priority, line, key, value, path in node.values:
-            add(struct.pack("<QQQIH2s", place(key), place(value), place(path), line, priority, padding[:2]), value_size)
-        return begins
-
-    add(b"", header_size)
-    root_at = add_node(root)
-    sizes = (strings_at + len(section), *how.sizes, root_at, nodes_size, len(section))
-    data[:80] = struct.pack("<8s9Q", reference.SIGNATURE, how.version, *sizes)
-    return bytes(data) + section
+    writer = Writer(how, strings_at, places)
+    root_at = writer.add_node(root)
+    numbers = (how.version, strings_at + len(section), *how.sizes, root_at, nodes_size, len(section))
+    writer.data[:80] = struct.pack("<8s9Q", reference.SIGNATURE, *numbers)
+    return bytes(writer.data) + section
 
 
 PATHS = [b"/etc/udev/hwdb.d/a.hwdb", b"a.hwdb", b""]
@@ -309,16 +342,15 @@ def values(rng, spoilt):
         rng.shuffle(keys)
         keys += keys[:1]
     priorities = [1, 1, 1, 2, 3, 65535] + ([0] if spoilt else [])
-    return [
-        (rng.choice(priorities), rng.choice([0, 1, 2, 3, 4294967295]), key, rng.choice(VALUES), rng.choice(PATHS))
-        for key in keys
-    ]
+    lines = [0, 1, 2, 3, 4294967295]
+    texts = [b"1\n2", *VALUES]
+    return [(rng.choice(priorities), rng.choice(lines), key, rng.choice(texts), rng.choice(PATHS)) for key in keys]
 
 
 def tree(rng, spoilt, depth=0):
     """A tree of any kind: with a prefix at the root, with nodes that have nothing, with keys that are none."""
     prefix = rng.choice([b"", b"", pattern(rng), b"[", b"[a", b"*"]) if depth else rng.choice([b"", b"", b"", b"a", b"["])
-    bytes_below = sorted(set(some(rng, b"ab*?[]^-:", 0, 3 if depth < 4 else 0)))
+    bytes_below = sorted(set(some(rng, b"ab*?[]^-:#\n\xc3", 0, 3 if depth < 4 else 0)))
     if spoilt and rng.random() < 0.15:
         bytes_below = rng.choice([bytes_below[::-1], bytes_below + bytes_below, [0] + bytes_below])
     children = [(byte, tree(rng, spoilt, depth + 1)) for byte in bytes_below]
