@@ -30,7 +30,8 @@ impl<'a, 'p> Collector<'a, 'p> {
         pattern: &[u8],
     ) -> Result<(), AllocError>
         ensures { OnOk result
-            (Collects self.old (own_members pattern.now (values_of (entered_tree inside.entry))) self.new) }
+            (Collects self.old
+            (own_members pattern.now (values_of (entered_tree inside.entry))) self.new) }
     {
         match self {
             Collector::Page(page) => page.collect(alloc, inside, pattern),

@@ -40,7 +40,8 @@ fn collect_matching<'a>(
 ) -> Result<(), AllocError>
     requires { StandsFor reach.now pattern.now }
     ensures { OnOk result (Collects into.old
-        (filter (is_wanted reach.now.device) (own_members pattern.now (values_of (entered_tree inside.entry)))) into.new) }
+        (filter (is_wanted reach.now.device)
+        (own_members pattern.now (values_of (entered_tree inside.entry)))) into.new) }
 {
     if inside.values() == 0 {
         return Ok(());
@@ -68,9 +69,11 @@ fn visit<'a>(
     requires room { entered.old + node_count (tree_of node) < 2 ^ 64 }
     ensures path { OnOk result (path.new.items ≡ path.old.items) }
     ensures collected { OnOk result (Collects into.old
-        (filter (is_wanted above.now.device) (members_under path.old.items (tree_of node.entry))) into.new) }
+        (filter (is_wanted above.now.device)
+        (members_under path.old.items (tree_of node.entry))) into.new) }
     ensures counted { OnOk result
-        (entered.new ≡ entered.old + live_under above.now.device path.old.items (tree_of node.entry)) }
+        (entered.new
+        ≡ entered.old + live_under above.now.device path.old.items (tree_of node.entry)) }
 {
     path_laws();
     let start = path.len();

@@ -118,7 +118,8 @@ impl<'a> Held<'a> {
     ) -> Result<(), AllocError>
         ensures most { self.new.most ≡ self.old.most }
         ensures kept { OnOk result (Ascends found_cmp self.old.hits → self.new.hits
-            ≡ take self.old.most (put found_cmp (shown_at pattern.now key.now entry.entry) self.old.hits)) }
+            ≡ take self.old.most
+            (put found_cmp (shown_at pattern.now key.now entry.entry) self.old.hits)) }
     {
         let parts = Parts {
             priority: entry.priority,

@@ -67,7 +67,8 @@ impl<'a> LastHits<'a> {
 
     /// Whether a hit of a key comes after the one that stands there, if one does.
     fn is_last(&self, parts: Parts<'_>) -> bool
-        ensures { result ≡ is_after (spot_at self.now.hits parts.entry.key.now) (parts_spot parts.entry) }
+        ensures { result
+            ≡ is_after (spot_at self.now.hits parts.entry.key.now) (parts_spot parts.entry) }
     {
         match self.hits.get(parts.key) {
             None => true,
@@ -81,7 +82,8 @@ impl<'a> LastHits<'a> {
     /// Offers what one value assigns at a pattern.
     fn offer(&mut self, pattern: &Rc<Vec<u8>>, entry: Entry<'a>) -> Result<(), AllocError>
         ensures { OnOk result
-            (LastCollects self.old (found_shown pattern.now.value.items (entry_shows entry.entry)) self.new) }
+            (LastCollects self.old
+            (found_shown pattern.now.value.items (entry_shows entry.entry)) self.new) }
     {
         let Some(key) = entry.key else {
             return Ok(());
@@ -112,7 +114,8 @@ impl<'a> LastHits<'a> {
         pattern: &[u8],
     ) -> Result<(), AllocError>
         ensures { OnOk result
-            (LastCollects self.old (own_members pattern.now (values_of (entered_tree inside.entry))) self.new) }
+            (LastCollects self.old
+            (own_members pattern.now (values_of (entered_tree inside.entry))) self.new) }
     {
         let shared = shared(alloc, pattern)?;
         for i in 0..inside.values() {

@@ -38,7 +38,8 @@ impl<'a, 'p> NextPage<'a, 'p> {
 
     /// Offers what one value assigns at a pattern.
     fn offer(&mut self, alloc: Global, pattern: &[u8], entry: Entry<'a>) -> Result<(), AllocError>
-        ensures { OnOk result (PageCollects self.old (found_shown pattern.now (entry_shows entry.entry)) self.new) }
+        ensures { OnOk result
+            (PageCollects self.old (found_shown pattern.now (entry_shows entry.entry)) self.new) }
     {
         let Some(key) = entry.key else {
             return Ok(());
@@ -55,9 +56,10 @@ impl<'a, 'p> NextPage<'a, 'p> {
         Ok(())
     }
 
-    /// Whether no hit of an origin is kept: where it comes before the position's, or behind a full page.
+    /// Whether no hit of an origin is kept: it comes before the position's, or behind a full page.
     fn skips(&self, origin: Origin) -> bool
-        ensures { result ≡ true → (x : Found) → IsOf origin x → PageCollects self.now (x ∷ []) self.now }
+        ensures { result ≡ true → (x : Found) → IsOf origin x
+            → PageCollects self.now (x ∷ []) self.now }
     {
         if let Some(after) = self.after {
             if is_earlier(origin, after.origin()) {
@@ -67,8 +69,8 @@ impl<'a, 'p> NextPage<'a, 'p> {
         self.held.is_full_before(origin)
     }
 
-    /// Takes what the values of a node assign at a pattern. Of a value that isn't kept for its origin no text is
-    /// looked at.
+    /// Takes what the values of a node assign at a pattern. Of a value that isn't kept for its origin
+    /// no text is looked at.
     pub(crate) fn collect(
         &mut self,
         alloc: Global,
@@ -76,7 +78,8 @@ impl<'a, 'p> NextPage<'a, 'p> {
         pattern: &[u8],
     ) -> Result<(), AllocError>
         ensures { OnOk result
-            (PageCollects self.old (own_members pattern.now (values_of (entered_tree inside.entry))) self.new) }
+            (PageCollects self.old
+            (own_members pattern.now (values_of (entered_tree inside.entry))) self.new) }
     {
         for i in 0..inside.values() {
             if !self.skips(inside.origin(i)) {

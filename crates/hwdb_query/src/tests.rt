@@ -9,8 +9,9 @@ use hwdb_reader::check;
 use std::alloc::Global;
 use std::test::Fail;
 use vectors::{
-    BRACKETS, BRACKETS_BY_BYTE, CLASS, EMPTY, LATER_KEY, MANY_KEYS, ONE_RECORD, PAIR, PAIR_BY_BYTE,
-    ROOT_PREFIX, SECOND_FILE, SHARED, STARS, TWO_FOLDERS, TWO_PATTERNS, WRITTEN_TWICE, bytes_of,
+    BRACKETS, BRACKETS_BY_BYTE, CLASS, EMPTY, LATER_KEY, MANY_KEYS, ONE_LINE_GREATER,
+    ONE_LINE_LESS, ONE_RECORD, PAIR, PAIR_BY_BYTE, ROOT_PREFIX, SECOND_FILE, SHARED, STARS,
+    TWO_FOLDERS, TWO_PATTERNS, WRITTEN_TWICE, bytes_of,
 };
 
 /// How many hits a test reads at most.
@@ -137,6 +138,8 @@ fn effective_lists(rt: HostRuntime) -> Result<(), Fail> {
         (STARS, "\\q", "A=1\nB=1\n"),
         (SHARED, "a", "K=K\n"),
         (BRACKETS, "a[b", "A=1\nC=1\n"),
+        (ONE_LINE_LESS, "xy", "K=1\n"),
+        (ONE_LINE_GREATER, "xy", "K=K\n"),
     ];
     for (hex, device, wanted) in rows {
         let bytes = bytes_of(rt.alloc(), hex)?;

@@ -119,6 +119,20 @@ fn compare_devices(
     Ok(is_same)
 }
 
+/// The answers over the compiled database are the plain program's.
+fn compare_compiled(
+    alloc: Global,
+    etc: &[(&str, &str)],
+    usr: &[(&str, &str)],
+    devices: &[&str],
+) -> Result<bool, Fail> {
+    let etc = files(alloc, etc)?;
+    let usr = files(alloc, usr)?;
+    let all = assignments_of(alloc, &etc, &usr)?;
+    let compiled = compile(alloc, &etc, &usr, LIMIT)?;
+    compare_devices(alloc, &compiled.database, &all, devices)
+}
+
 /// The answers over the compiled database, and over the given one, are the plain program's.
 fn compare_row(alloc: Global, row: &Row<'_>) -> Result<bool, Fail> {
     let etc = files(alloc, row.etc)?;
@@ -261,5 +275,30 @@ fn many_beside_the_cursor(rt: HostRuntime) -> Result<(), Fail> {
         devices: &["a", "b"],
     };
     assert!(rt; compare_row(rt.alloc(), &row)?);
+    Ok(())
+}
+
+#[test]
+fn later_ones_beside_the_cursor(rt: HostRuntime) -> Result<(), Fail> {
+    let one_record = "x*\nx?\n L=1\n K=1\n\nx*\n K=2\n\n?y\n K=3\n L=4\n";
+    let first = "a*\n K=1\n L=1\n\nab\n K=2\n M=1\n";
+    let second = "ab\n L=2\n K=4\n N=5\n";
+    let falling = "a\n K5=1\n K4=2\n K3=3\n K2=4\n K1=5\n\n*\n K6=6\n K3=7\n K0=8\n";
+    let is_same = compare_compiled(
+        rt.alloc(),
+        &[("1.hwdb", one_record)],
+        &[],
+        &["xy", "xz", "ay", "x"],
+    )?;
+    assert!(rt; is_same);
+    let is_same = compare_compiled(
+        rt.alloc(),
+        &[("10-a.hwdb", first), ("30-c.hwdb", "*\n L=3\n")],
+        &[("20-b.hwdb", second), ("30-c.hwdb", "ab\n L=9\n")],
+        &["ab", "ac", "b", ""],
+    )?;
+    assert!(rt; is_same);
+    let is_same = compare_compiled(rt.alloc(), &[("1.hwdb", falling)], &[], &["a", "b"])?;
+    assert!(rt; is_same);
     Ok(())
 }
