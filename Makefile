@@ -28,6 +28,7 @@ check:
 
 check-peer: all
 	tests/peer out/hwdb
+	tests/users out/hwdb
 
 bench: all
 	cd crates/hwdb_bench && rt run -- data/workshop.bin data/devices 1

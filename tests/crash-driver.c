@@ -247,6 +247,7 @@ static const char *wrong_cause(struct answer *is, struct call *call, int error) 
  * the rename, its file has to stay. */
 static const char *after_failure(struct answer *is, struct call *call, int error, int takes_name) {
     static const char *const tried_again[] = {"read", "write", "fsync", "fdatasync", 0}, *const of_folder[] = {"open", "fsync", 0};
+    static const char *const counts[] = {"open", "list", "read", "write", "fchmod", "fsync", "fdatasync", "rename", 0};
     int is_new;
     const char *wrong = wrong_database(&is_new);
     if (wrong) return wrong;
@@ -254,6 +255,7 @@ static const char *after_failure(struct answer *is, struct call *call, int error
     int has_taken = takes_name && is_new;
     if (look_at_folder(0, has_taken)) return "a file is left";
     if (has_taken && !look_at_folder(0, 0)) return "a file of another process is deleted";
+    if (is->status == 0 && error && error != EINTR && is_one_of(call->name, counts)) return "a failed call was passed over";
     if (is->status == 0) return is_new ? wrong_lines(&is->err, 0) : "status 0, and the old database";
     if (is->status != 1) return "the status is neither 0 nor 1";
     if (error == EINTR && is_one_of(call->name, tried_again)) return "an interrupted call wasn't tried again";
