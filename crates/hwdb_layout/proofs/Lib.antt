@@ -4,3 +4,4 @@ pub mod Bounds
 pub mod Entries
 pub mod Whole
 pub mod Ascends
+pub mod Faultless

@@ -17,6 +17,8 @@
 ghost use Rattle.std.specs.Prelude.{◌≡◌, ◌<◌, ℕ, List, length};
 ghost use Rattle.hwdb_layout.specs.Tree.{Tree, node_count};
 ghost use Rattle.hwdb_layout.specs.Database.{IsDatabase};
+ghost use Rattle.hwdb_layout.specs.declared.DbFault.{DbFault};
+ghost use Rattle.hwdb_layout.specs.Faults.{FaultStands};
 ghost use Rattle.hwdb_layout.specs.Map.{IsTree};
 ghost use Rattle.hwdb_layout.specs.Written.{written};
 ghost use Rattle.hwdb_layout.specs.Samples.{empty_tree, empty_bytes, one_tree, one_bytes, two_tree, two_bytes};
@@ -81,6 +83,12 @@ pub fn law_ascending()
 /// A database has more bytes than its tree has nodes.
 pub fn law_few_nodes()
     ensures { (bytes : List ℕ) (t : Tree) → IsDatabase bytes t → node_count t < length bytes }
+{}
+
+/// No fault stands in a database, so that bytes with a fault are a database of no tree.
+pub fn law_faultless()
+    ensures { (bytes : List ℕ) (t : Tree) (e : DbFault)
+        → IsDatabase bytes t → FaultStands bytes e → ⊥ }
 {}
 
 /// The written form, byte for byte, of the empty tree, of one value and of two.

@@ -9,3 +9,4 @@ pub mod Growing
 pub mod Deciding
 pub mod Pathing
 pub mod Computing
+pub mod Joining

@@ -1,6 +1,6 @@
 -- Patterns and what they match, from hwdb(7) and POSIX.1-2017 fnmatch without flags (XCU 2.13), over bytes.
 -- A backslash, `/` and a leading `.` are ordinary bytes. `*` is 42, `?` is 63 and `[` is 91.
-use Rattle.std.specs.Prelude.{◌≡◌, ◌↔◌, ℕ, zero, suc, ◌-◌, ◌==◌, Bool, true, false, not, IsTrue, if◌then◌else◌, List, [], ◌∷◌, ◌++◌, Option, Some, None, ⊤}
+use Rattle.std.specs.Prelude.{◌≡◌, ◌↔◌, ℕ, zero, suc, ◌-◌, ◌==◌, Bool, true, false, not, IsTrue, if◌then◌else◌, List, [], ◌∷◌, ◌++◌, length, Option, Some, None, ⊤}
 use Rattle.hwdb_pattern.specs.Brackets.{Bracket, in_spans, bracket_at}
 
 -- a star, a question mark, a closed bracket, or a byte that stands for itself
@@ -38,6 +38,18 @@ tokens_from zero (first ∷ rest) =
 
 abbrev pub tokens : List ℕ → List Token
 tokens pattern = tokens_from 0 pattern
+
+-- The text is a concatenation of as many pieces as there are tokens, in order: each token stands at the
+-- beginning of what is left, and its piece has its size.
+abbrev pub AreCutFrom : List Token → List ℕ → Type 0
+AreCutFrom [] text = text ≡ []
+AreCutFrom (token ∷ more) text =
+    (piece : List ℕ) × (rest : List ℕ) × (text ≡ piece ++ rest) × (token_at text ≡ token)
+    × (length piece ≡ token_size token) × AreCutFrom more rest
+
+-- the tokens of a pattern are cut from the whole of it
+abbrev pub TokensAreThePattern : Type 0
+TokensAreThePattern = (pattern : List ℕ) → AreCutFrom (tokens pattern) pattern
 
 -- whether a token that isn't a star admits the one byte
 abbrev pub admits_byte : Token → ℕ → Bool

@@ -29,8 +29,9 @@ abbrev pub BracketRows : Type 0
 BracketRows =
     map (λ text. option_map bracket_size (bracket_at text))
     (codes "[a-c]x" ∷ codes "[!a]x" ∷ codes "[]-a]x" ∷ codes "[!]" ∷ codes "[]" ∷ codes "[a" ∷ codes "[]]"
-    ∷ codes "[[:digit:]" ∷ codes "[a-[:digit:]]" ∷ codes "[[:upper:][:digit:]_]" ∷ [])
-    ≡ Some 5 ∷ Some 4 ∷ Some 5 ∷ None ∷ None ∷ None ∷ Some 3 ∷ None ∷ Some 12 ∷ Some 21 ∷ []
+    ∷ codes "[[:digit:]" ∷ codes "[a-[:digit:]]" ∷ codes "[[:upper:][:digit:]_]" ∷ codes "[[:digit:]]x" ∷ codes "[c-a]x"
+    ∷ codes "[]:alpha:]" ∷ [])
+    ≡ Some 5 ∷ Some 4 ∷ Some 5 ∷ None ∷ None ∷ None ∷ Some 3 ∷ None ∷ Some 12 ∷ Some 21 ∷ Some 11 ∷ Some 5 ∷ Some 10 ∷ []
 
 -- which of these patterns match the device
 abbrev pub matching : List ℕ → List (List ℕ) → List Bool

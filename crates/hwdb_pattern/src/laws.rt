@@ -2,13 +2,19 @@
 //! whose proofs need it.
 ghost use Rattle.hwdb_pattern.specs.Brackets.{StaysClosed};
 ghost use Rattle.hwdb_pattern.specs.Paths.{ClosedPartAndRest, ClosedPartIsCutAlike, DeadMatchesNothing, DeadStaysDead, LiveIsTested};
-ghost use Rattle.hwdb_pattern.specs.Patterns.{MatchesIsTested};
+ghost use Rattle.hwdb_pattern.specs.Patterns.{MatchesIsTested, TokensAreThePattern};
 ghost use Rattle.hwdb_pattern.specs.Rows.{BracketRows, ClosedRows, LiveRows, MatchRows, StarRows, TokenRows};
 
 /// A bracket that is closed in a text is the same bracket in every longer text that begins with it.
 #[tactic(auto, using(crate::proofs::Longer::bracket_longer))]
 pub fn closed_bracket_stays()
     ensures { StaysClosed }
+{}
+
+/// The tokens of a pattern are cut from the whole of it: their texts, joined, are the pattern.
+#[tactic(auto, using(crate::proofs::Joining::tokens_are_the_pattern))]
+pub fn tokens_are_the_pattern()
+    ensures { TokensAreThePattern }
 {}
 
 /// The closed part of a path, cut again as a pattern, has exactly the path's tokens before the first

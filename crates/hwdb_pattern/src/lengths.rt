@@ -28,7 +28,8 @@ fn take_single(
 ) -> Result<Vec<usize>, AllocError>
     requires some { 0 < length text.now }
     requires no_star { slice_index text.now 0 ≢ 42 }
-    ensures stepped { IfOk result (λ after. after.items ≡ stepped (token_at text.now) device.now before.now) }
+    ensures stepped { IfOk result (λ after.
+        after.items ≡ stepped (token_at text.now) device.now before.now) }
     ensures free { NoneTakes (token_at text.now) device.now before.now → IsOk result }
 {
     let mut after = Vec::new(alloc);
@@ -130,9 +131,11 @@ fn first_token(
 ) -> Result<Vec<usize>, AllocError>
     requires some { 0 < length text.now }
     requires within { Within device.now before.now }
-    ensures follows { IfOk result (λ after. Follows (token_at text.now ∷ []) device.now before.now after.items) }
+    ensures follows { IfOk result (λ after.
+        Follows (token_at text.now ∷ []) device.now before.now after.items) }
     ensures within { IfOk result (λ after. Within device.now after.items) }
-    ensures free { slice_index text.now 0 ≢ 42 → NoneTakes (token_at text.now) device.now before.now → IsOkAnd result (λ after. after.items ≡ []) }
+    ensures free { slice_index text.now 0 ≢ 42 → NoneTakes (token_at text.now) device.now before.now
+        → IsOkAnd result (λ after. after.items ≡ []) }
 {
     if text[0] == b'*' {
         take_star(alloc, before, device.len())
@@ -145,7 +148,8 @@ fn first_token(
 fn next_token(lengths: &mut Vec<usize>, device: &[u8], text: &[u8]) -> Result<(), AllocError>
     requires some { 0 < length text.now }
     requires within { Within device.now lengths.old.items }
-    ensures follows { OnOk result (Follows (token_at text.now ∷ []) device.now lengths.old.items lengths.new.items) }
+    ensures follows { OnOk result
+        (Follows (token_at text.now ∷ []) device.now lengths.old.items lengths.new.items) }
     ensures within { OnOk result (Within device.now lengths.new.items) }
 {
     if text[0] == b'*' {
@@ -158,7 +162,8 @@ fn next_token(lengths: &mut Vec<usize>, device: &[u8], text: &[u8]) -> Result<()
 /// The lengths after all tokens of the text, in place.
 fn follow(lengths: &mut Vec<usize>, device: &[u8], text: &[u8]) -> Result<(), AllocError>
     requires { Within device.now lengths.old.items }
-    ensures follows { OnOk result (Follows (tokens text.now) device.now lengths.old.items lengths.new.items) }
+    ensures follows { OnOk result
+        (Follows (tokens text.now) device.now lengths.old.items lengths.new.items) }
     ensures within { OnOk result (Within device.now lengths.new.items) }
     ensures free { lengths.old.items ≡ [] → IsOk result }
 {
@@ -180,9 +185,11 @@ pub(crate) fn along(
     text: &[u8],
 ) -> Result<Vec<usize>, AllocError>
     requires { Within device.now before.now }
-    ensures follows { IfOk result (λ after. Follows (tokens text.now) device.now before.now after.items) }
+    ensures follows { IfOk result (λ after.
+        Follows (tokens text.now) device.now before.now after.items) }
     ensures within { IfOk result (λ after. Within device.now after.items) }
-    ensures free { 0 < length text.now → slice_index text.now 0 ≢ 42 → NoneTakes (token_at text.now) device.now before.now → IsOk result }
+    ensures free { 0 < length text.now → slice_index text.now 0 ≢ 42
+        → NoneTakes (token_at text.now) device.now before.now → IsOk result }
 {
     if text.is_empty() {
         return Vec::from_slice(alloc, before);

@@ -29,7 +29,7 @@ mod tokens;
 pub use brackets::bracket_end;
 pub use laws::{
     closed_bracket_stays, closed_part_is_cut_alike, dead_matches_nothing, dead_stays_dead,
-    live_is_tested, matches_is_tested, worked_rows,
+    live_is_tested, matches_is_tested, tokens_are_the_pattern, worked_rows,
 };
 pub use paths::Reach;
 pub use search::glob;

@@ -52,7 +52,8 @@ impl<'d> Reach<'d> {
     /// first token takes no byte of the device.
     pub fn feed(&self, alloc: Global, piece: &[u8]) -> Result<Reach<'d>, AllocError>
         ensures device { IfOk result (λ next. next.device ≡ self.now.device) }
-        ensures path { IfOk result (λ next. (path : List ℕ) → StandsFor self.now path → StandsFor next (path ++ piece.now)) }
+        ensures path { IfOk result (λ next. (path : List ℕ)
+            → StandsFor self.now path → StandsFor next (path ++ piece.now)) }
         ensures free { self.now.kept ≡ [] → IsLost self.now piece.now → IsOk result }
     {
         let kept: &[u8] = &self.kept;
@@ -68,7 +69,9 @@ impl<'d> Reach<'d> {
     /// The state of the path followed by what the text has behind the kept bytes.
     fn follow_text(&self, alloc: Global, text: &[u8]) -> Result<Reach<'d>, AllocError>
         ensures device { IfOk result (λ next. next.device ≡ self.now.device) }
-        ensures path { IfOk result (λ next. (path piece : List ℕ) → text.now ≡ self.now.kept ++ piece → StandsFor self.now path → StandsFor next (path ++ piece)) }
+        ensures path { IfOk result (λ next. (path piece : List ℕ)
+            → text.now ≡ self.now.kept ++ piece
+            → StandsFor self.now path → StandsFor next (path ++ piece)) }
         ensures free { IsLost self.now text.now → IsOk result }
     {
         let end = closed_end(text);
@@ -84,7 +87,8 @@ impl<'d> Reach<'d> {
 
     /// Whether the path is live for the device: its closed part matches some prefix of the device.
     pub fn is_alive(&self) -> bool
-        ensures { (path : List ℕ) → StandsFor self.now path → (IsTrue result ↔ IsLive path self.now.device) }
+        ensures { (path : List ℕ) → StandsFor self.now path
+            → (IsTrue result ↔ IsLive path self.now.device) }
     {
         let lengths: &[usize] = &self.lengths;
         !lengths.is_empty()

@@ -21,7 +21,8 @@ fn run(pattern: &[u8], device: &[u8], close: usize) -> Option<Place>
     requires { NoneCloses pattern.now close }
     ensures within { IfSome result (λ place. place.at ≤ length pattern.now) }
     ensures met { IfSome result (λ place. place.met ≤ length device.now) }
-    ensures star { IfSome result (λ place. place.at < length pattern.now → slice_index pattern.now place.at ≡ 42) }
+    ensures star { IfSome result (λ place. place.at < length pattern.now
+        → slice_index pattern.now place.at ≡ 42) }
     ensures reached { IfSome result (λ place. Reaches pattern.now device.now place.at place.met) }
     ensures refused { IfNone result (Matches (tokens pattern.now) device.now → ⊥) }
 {

@@ -4,7 +4,7 @@ use std::alloc::{AllocError, Global};
 
 /// A text, the length of the bracket that begins it, the one-byte devices that it matches as a pattern,
 /// and some that it doesn't.
-const BRACKETS: [(&str, Option<usize>, &str, &str); 24] = [
+const BRACKETS: [(&str, Option<usize>, &str, &str); 25] = [
     ("[abc]", Some(5), "abc", "d["),
     ("[a-c]", Some(5), "abc", "d-"),
     ("[a-]", Some(4), "a-", "b"),
@@ -26,6 +26,7 @@ const BRACKETS: [(&str, Option<usize>, &str, &str); 24] = [
     ("[a-", None, "", "[a-"),
     ("[]]", Some(3), "]", "["),
     ("[[:digi:]]", Some(9), "", "[:"),
+    ("[]:alpha:]", Some(10), "]:alph", "b["),
     ("[[:digit:]-z]", Some(13), "-z5", "a:"),
     ("[![:space:]]", Some(12), "a", "\x0b\t "),
     ("[[:upper:][:digit:]_]", Some(21), "A7_", "a:"),
@@ -41,6 +42,10 @@ fn brackets(rt: HostRuntime) {
         for byte in out_of_it.as_bytes() {
             assert!(rt; !glob(text.as_bytes(), &[*byte]), "{text} on {byte}");
         }
+    }
+    // With text behind the bracket.
+    for (text, end) in [("[[:digit:]]x", 11), ("[c-a]x", 5), ("[]:alpha:]x", 10)] {
+        assert!(rt; bracket_end(text.as_bytes()) == Some(end), "the length in {text}");
     }
     for text in ["", "a", "]", "a[b]"] {
         assert!(rt;
@@ -92,7 +97,7 @@ fn classes(rt: HostRuntime) {
 }
 
 /// A pattern, a device, and whether the one matches the other.
-const GLOBS: [(&str, &str, bool); 52] = [
+const GLOBS: [(&str, &str, bool); 60] = [
     ("", "", true),
     ("", "a", false),
     ("*", "", true),
@@ -105,6 +110,14 @@ const GLOBS: [(&str, &str, bool); 52] = [
     ("a*b", "abc", false),
     ("*ab", "aab", true),
     ("*a*b", "xaxbx", false),
+    ("*ab*b", "ab", false),
+    ("*ab*b", "abb", true),
+    ("*[a]", "a", true),
+    ("*[a]", "b", false),
+    ("*x]y[z]", "x]yz", true),
+    ("*x]y[z]", "x]y[z]", false),
+    ("[!a]", "/", true),
+    ("[!/]", "/", false),
     ("[a-c]x", "bx", true),
     ("[!a]x", "bx", true),
     ("[]-a]x", "bx", false),

@@ -1,5 +1,5 @@
 -- Faults in order: a list that is sorted and has the same faults is the one list that the definition gives.
-use Rattle.std.proofs.Common.{◌≡◌, ℕ, ◌+◌, ◌<◌, suc, zero, Bool, true, false, List, [], ◌∷◌, refl, ap, ◌∙◌, sym, subst, cond, inl, inr, length, get_or, arith, ◌==◌, IsPermutation, sum_by}
+use Rattle.std.proofs.Common.{◌≡◌, ℕ, ◌+◌, ◌<◌, suc, Bool, true, false, List, [], ◌∷◌, refl, ap, ◌∙◌, sym, subst, cond, inl, inr, length, get_or, arith, ◌==◌, IsPermutation, sum_by}
 use Rattle.std.proofs.lemmas.Bool.{cases_Bool}
 use Rattle.std.proofs.lemmas.Cmp.{nat_cmp_total, then_total, on_total, ranked, tied_itself, upto}
 use Rattle.std.proofs.lemmas.List.Sums.{sum_by-cons}
@@ -13,7 +13,7 @@ use Rattle.hwdb_text.specs.declared.outcome.Fault.{Fault}
 use Rattle.hwdb_text.specs.declared.outcome.FaultKind.{FaultKind}
 use Rattle.hwdb_text.specs.declared.outcome.FaultKind.TheVariants.{StrayProperty, NoProperty, StrayMatch, NoEquals, EmptyKey, ZeroByte, LongMatch}
 use Rattle.hwdb_text.specs.Faults.{fault_number, fault_cmp, with_fault, in_order, all_faults}
-use Rattle.hwdb_text.specs.Laws.{FaultsAreAll, FaultsAscend}
+use Rattle.hwdb_text.specs.Laws.{FaultsAreAll}
 use Rattle.hwdb_text.proofs.NameSets.{equal_of, greater_of, nat_equal_by, then_equal}
 
 kind_at : ℕ → FaultKind
@@ -36,24 +36,24 @@ kind_equal a b e = sym (kind_back a) ∙ ap kind_at e ∙ kind_back b
 nat_equal : (x y : ℕ) → nat_cmp x y ≡ Equal → x ≡ y
 nat_equal x y e = nat_equal_by (nat_cmp x y) x y (ranked x y (nat_cmp x y) refl) e
 
-fault_equal : (f g : Fault) → is_eq (fault_cmp f g) ≡ true → f ≡ g
+pub fault_equal : (f g : Fault) → is_eq (fault_cmp f g) ≡ true → f ≡ g
 fault_equal f g e =
     let t = then_equal (nat_cmp f.line g.line) (nat_cmp (fault_number f.kind) (fault_number g.kind)) (equal_of (fault_cmp f g) e) in
     ap (λ (n : ℕ). let r : Fault = record { line = n; kind = f.kind } in r) (nat_equal f.line g.line t.0)
     ∙ ap (λ (k : FaultKind). let r : Fault = record { line = g.line; kind = k } in r) (kind_equal f.kind g.kind (nat_equal (fault_number f.kind) (fault_number g.kind) t.1))
 
-fault_total : IsTotalOrder fault_cmp
+pub fault_total : IsTotalOrder fault_cmp
 fault_total = then_total (on_total (λ (f : Fault). f.line) nat_cmp_total) (on_total (λ (f : Fault). fault_number f.kind) nat_cmp_total)
 
 fault_weak : IsStrictWeakOrder (λ f g. is_lt (fault_cmp f g))
 fault_weak = ranks_by fault_total (λ (f : Fault). f)
 
 -- none of some faults comes before the one given
-abbrev AllFrom : Fault → List Fault → Type 0
+abbrev pub AllFrom : Fault → List Fault → Type 0
 AllFrom f [] = Unit {0}
 AllFrom f (g ∷ more) = (is_lt (fault_cmp g f) ≡ false) × AllFrom f more
 
-abbrev Up : List Fault → Type 0
+abbrev pub Up : List Fault → Type 0
 Up [] = Unit {0}
 Up (f ∷ more) = AllFrom f more × Up more
 
@@ -73,15 +73,6 @@ up_of (f ∷ more) s = (
   all_from f more (λ k d l. sorted_far (λ f g. is_lt (fault_cmp f g)) fault_weak (f ∷ more) s 0 (suc k) d (omega arith) (omega arith)),
   up_of more (sorted_rest f more s),
 )
-
-sorted_of : (fs : List Fault) → Up fs → IsSorted fault_cmp fs
-sorted_of [] u k d l h = absurd (omega arith)
-sorted_of (f ∷ []) u k d l h = absurd (omega arith)
-sorted_of (f ∷ g ∷ more) u zero d l h = u.0.0
-sorted_of (f ∷ g ∷ more) u (suc k) d l h =
-    let t : is_lt (fault_cmp (get_or (g ∷ more) (k + 1) d) (get_or (g ∷ more) k d)) ≡ false = sorted_of (g ∷ more) u.1 k d (omega arith) (omega arith) in
-    let e : suc (k + 1) ≡ suc k + 1 = omega arith in
-    let P : ℕ → Type 0 = λ n. is_lt (fault_cmp (get_or (f ∷ g ∷ more) n d) (get_or (g ∷ more) k d)) ≡ false in subst P e t
 
 -- how often a fault stands in a list
 abbrev is_it : Fault → Fault → ℕ
@@ -187,7 +178,7 @@ up_with f (g ∷ more) u = elim (cases_Bool (is_gt (fault_cmp f g))) [
       subst P (sym e) ((ap is_lt (fault_total.antisymm g f) ∙ not_above (fault_cmp f g) e, all_from_more f g more e u.0), u)
 ]
 
-up_in_order : (fs : List Fault) → Up (in_order fs)
+pub up_in_order : (fs : List Fault) → Up (in_order fs)
 up_in_order [] = tt
 up_in_order (f ∷ more) = up_with f (in_order more) (up_in_order more)
 
@@ -209,9 +200,6 @@ moved_in_order (f ∷ more) =
 
 pub faults_are_all : FaultsAreAll
 faults_are_all file = moved_in_order (all_faults file)
-
-pub faults_ascend : FaultsAscend
-faults_ascend file = sorted_of (in_order (all_faults file)) (up_in_order (all_faults file))
 
 -- a list in order that has the same faults is theirs in order
 pub in_order_is : (fs gs : List Fault) → IsPermutation fs gs → IsSorted fault_cmp gs → gs ≡ in_order fs

@@ -13,3 +13,5 @@ pub mod Storing
 pub mod Computed
 pub mod Ordered
 pub mod Listed
+pub mod Joining
+pub mod FaultSets

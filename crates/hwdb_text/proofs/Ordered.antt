@@ -63,7 +63,7 @@ rises_drop n (suc k) low [] high r = r
 rises_drop n (suc k) low (x ∷ xs) high r = rises_more n low (n x) (drop k xs) high r.0 (rises_drop n k (n x) xs high r.1)
 
 -- what is behind the first section
-behind_section : (ls : List Line) → drop (size (first_section ls)) ls ≡ drop (length (first_section ls).stray) (behind is_property (behind is_match (behind is_property ls)))
+pub behind_section : (ls : List Line) → drop (size (first_section ls)) ls ≡ drop (length (first_section ls).stray) (behind is_property (behind is_match (behind is_property ls)))
 unfolding first_section
 behind_section ls =
     let a = behind is_property ls in

@@ -1,9 +1,33 @@
 -- More about the definitions, in words of their own.
-use Rattle.std.specs.Prelude.{ℕ, ◌+◌, ◌<◌, ◌≡◌, length, map, slice_index, true, false, if◌then◌else◌, List, [], ◌∷◌}
-use Rattle.std.specs.List.Sorted.{IsPermutation, IsSorted, IsNonDecreasingBy}
+use Rattle.std.specs.Prelude.{ℕ, ◌+◌, ◌<◌, ◌≡◌, ◌↔◌, Contains, length, map, filter, slice_index, true, false, not, if◌then◌else◌, List, [], ◌∷◌, ◌++◌, All}
+use Rattle.std.specs.List.{flat_map}
+use Rattle.std.specs.List.Sorted.{IsPermutation, IsStrictlySortedBy, IsNonDecreasingBy}
+use Rattle.hwdb_text.specs.declared.outcome.Fault.{Fault}
+use Rattle.hwdb_text.specs.Lines.{Line, lines, ended, has, is_empty}
+use Rattle.hwdb_text.specs.Records.{lines_of, sections_from, sections}
 use Rattle.hwdb_text.specs.Assignments.{Origin, assignments}
 use Rattle.hwdb_text.specs.Choice.{counts, is_smaller, lists, names, choice}
 use Rattle.hwdb_text.specs.Faults.{all_faults, faults, fault_cmp}
+
+-- the lines of a file, with a newline behind each, are the file, with one behind its last line
+abbrev pub LinesAreTheFile : Type 0
+LinesAreTheFile = (file : List ℕ) → flat_map (λ l. l.text ++ 10 ∷ []) (lines file) ≡ ended file
+
+-- no newline stands in a line
+abbrev pub LinesHoldNoNewline : Type 0
+LinesHoldNoNewline = (file : List ℕ) → All (λ l. has 10 l.text ≡ false) (lines file)
+
+-- the numbers of the lines are 1, 2, 3 and so on
+abbrev pub LinesCountUp : Type 0
+LinesCountUp = (file : List ℕ) (k : ℕ) → k < length (lines file) → slice_index (map (λ l. l.number) (lines file)) k ≡ k + 1
+
+-- the sections of a block, joined, are the block
+abbrev pub SectionsAreTheBlock : Type 0
+SectionsAreTheBlock = (block : List Line) → flat_map lines_of (sections_from 0 block) ≡ block
+
+-- the sections of some clean lines, joined, are those of them that aren't empty
+abbrev pub SectionsAreTheLines : Type 0
+SectionsAreTheLines = (ls : List Line) → flat_map lines_of (sections ls) ≡ filter (λ l. not (is_empty l)) ls
 
 -- a name is chosen if it counts and one of the folders lists it, and no others are
 abbrev pub NamesAreThoseThatCount : Type 0
@@ -31,9 +55,14 @@ OneAscendingList = (xs ys : List (List ℕ)) → Ascends xs → Ascends ys → (
 abbrev pub FaultsAreAll : Type 0
 FaultsAreAll = (file : List ℕ) → IsPermutation (all_faults file) (faults file)
 
--- they ascend by line and then by number
+-- they ascend by line and then by number, each below those after it, so that none stands twice
 abbrev pub FaultsAscend : Type 0
-FaultsAscend = (file : List ℕ) → IsSorted fault_cmp (faults file)
+FaultsAscend = (file : List ℕ) → IsStrictlySortedBy fault_cmp (faults file)
+
+-- a set of faults has one ascending list
+abbrev pub OneListOfFaults : Type 0
+OneListOfFaults = (fs gs : List Fault)
+    → IsStrictlySortedBy fault_cmp fs → IsStrictlySortedBy fault_cmp gs → ((f : Fault) → Contains fs f ↔ Contains gs f) → fs ≡ gs
 
 -- the priorities are 1, 2, 3 and so on
 abbrev pub PrioritiesCountUp : Type 0

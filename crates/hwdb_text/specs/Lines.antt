@@ -31,6 +31,12 @@ numbered number (text ∷ more) = line number text ∷ numbered (number + 1) mor
 abbrev pub lines : List ℕ → List Line
 lines file = numbered 1 (pieces (is 10) file)
 
+-- a file, with a newline behind its last line if none stands there
+unfoldable pub ended : List ℕ → List ℕ
+ended [] = []
+ended (b ∷ []) = if b == 10 then b ∷ [] else b ∷ (10 ∷ [])
+ended (b ∷ next ∷ rest) = b ∷ ended (next ∷ rest)
+
 abbrev pub begins_with : ℕ → List ℕ → Bool
 begins_with byte [] = false
 begins_with byte (first ∷ rest) = first == byte

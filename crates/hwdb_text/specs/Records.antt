@@ -1,6 +1,6 @@
 -- Clean lines, cut into blocks at the empty ones, and each block into sections, after the records of hwdb(7). Where a record ends early is
 -- our choice.
-use Rattle.std.specs.Prelude.{ℕ, zero, suc, ◌+◌, ◌-◌, Bool, if◌then◌else◌, List, [], ◌∷◌, take, length}
+use Rattle.std.specs.Prelude.{ℕ, zero, suc, ◌+◌, ◌-◌, Bool, if◌then◌else◌, List, [], ◌∷◌, ◌++◌, take, length}
 use Rattle.std.specs.List.{flat_map}
 use Rattle.hwdb_text.specs.Lines.{Line, pieces, is_empty, is_property, is_match}
 
@@ -34,6 +34,10 @@ first_section ls =
 
 abbrev pub size : Section → ℕ
 size s = length s.leading + length s.matches + length s.properties + length s.stray
+
+-- the lines of a section
+abbrev pub lines_of : Section → List Line
+lines_of s = s.leading ++ (s.matches ++ (s.properties ++ s.stray))
 
 -- the sections of a block, the first `skip` lines of which belong to the section before
 unfoldable pub sections_from : (skip : ℕ) → List Line → List Section

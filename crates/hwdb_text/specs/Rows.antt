@@ -21,6 +21,8 @@ fault_rows =
     ∷ (codes "a\nb\n", at 1 NoProperty ∷ [])
     ∷ (replicate 4096 97 ++ codes "\n K=1\n", [])
     ∷ (replicate 4097 97 ++ codes "\n K=1\n", at 1 LongMatch ∷ [])
+    ∷ (replicate 4097 97, at 1 NoProperty ∷ at 1 LongMatch ∷ [])
+    ∷ (codes "a\n K=1\n" ++ replicate 4097 97, at 3 StrayMatch ∷ at 3 LongMatch ∷ [])
     ∷ (codes "a\n K=1\nb\n\nc\n L\n", at 3 StrayMatch ∷ at 6 NoEquals ∷ [])
     ∷ []
 

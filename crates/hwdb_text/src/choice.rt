@@ -82,9 +82,12 @@ fn put<'a>(
 pub fn select(alloc: Global, etc: &[String], usr: &[String]) -> Result<Vec<Chosen>, TextError>
     ensures chosen { IfOk result (λ chosen. map choice_of chosen.items
         ≡ Choice.choice (map string_bytes etc.now) (map string_bytes usr.now)) }
-    ensures listed { IfOk result (λ chosen. All (IsListed (map string_bytes etc.now) (map string_bytes usr.now)) (map choice_of chosen.items)) }
+    ensures listed { IfOk result (λ chosen. All
+        (IsListed (map string_bytes etc.now) (map string_bytes usr.now))
+        (map choice_of chosen.items)) }
     ensures storable { IfOk result (λ chosen. All IsStorableChoice (map choice_of chosen.items)) }
-    ensures few { IfOk result (λ _. length (names (map string_bytes etc.now) (map string_bytes usr.now)) ≤ 65535) }
+    ensures few { IfOk result (λ _.
+        length (names (map string_bytes etc.now) (map string_bytes usr.now)) ≤ 65535) }
     ensures too_many { IsErrOf result TextError.TooManyFiles
         → 65535 < length (names (map string_bytes etc.now) (map string_bytes usr.now)) }
     ensures never_too_many_lines { IsErrOf result TextError.TooManyLines → ⊥ }

@@ -1,6 +1,27 @@
 //! More about the definitions, in words of their own. These functions do nothing: what each of them ensures is a law.
 ghost use Rattle.hwdb_text.specs.Rows.{FaultRows, AssignmentRows, ChoiceRows, PathRows};
-ghost use Rattle.hwdb_text.specs.Laws.{NamesAreThoseThatCount, NamesAscend, OneAscendingList, FaultsAreAll, FaultsAscend, PrioritiesCountUp, AssignmentsStandByLine};
+ghost use Rattle.hwdb_text.specs.Laws.{LinesAreTheFile, LinesHoldNoNewline, LinesCountUp, SectionsAreTheBlock, SectionsAreTheLines, NamesAreThoseThatCount, NamesAscend, OneAscendingList, FaultsAreAll, FaultsAscend, OneListOfFaults, PrioritiesCountUp, AssignmentsStandByLine};
+
+/// The lines of a file are all of it: with a newline behind each, they are the file, with one behind its last line.
+#[tactic(auto, using(crate::proofs::Joining::lines_are_the_file, crate::proofs::Joining::lines_hold_no_newline, crate::proofs::Joining::lines_count_up))]
+pub fn lines_are_the_file()
+    ensures joined { LinesAreTheFile }
+    ensures cut { LinesHoldNoNewline }
+    ensures numbered { LinesCountUp }
+{}
+
+/// The sections of a block, joined, are the block.
+#[tactic(auto, using(crate::proofs::Joining::sections_are_the_block))]
+pub fn sections_are_the_block()
+    ensures { SectionsAreTheBlock }
+{}
+
+/// The sections of clean lines, joined, are those of them that aren't empty: each stands in one section,
+/// in its order.
+#[tactic(auto, using(crate::proofs::Joining::sections_are_the_lines))]
+pub fn sections_are_the_lines()
+    ensures { SectionsAreTheLines }
+{}
 
 /// A name is chosen if it counts and one of the folders lists it, and no others are.
 #[tactic(auto, using(crate::proofs::NameSets::names_are_those_that_count))]
@@ -26,10 +47,16 @@ pub fn faults_are_all()
     ensures { FaultsAreAll }
 {}
 
-/// They ascend by line and then by number.
-#[tactic(auto, using(crate::proofs::FaultOrder::faults_ascend))]
+/// They ascend by line and then by number, so that none stands twice.
+#[tactic(auto, using(crate::proofs::FaultSets::faults_ascend))]
 pub fn faults_ascend()
     ensures { FaultsAscend }
+{}
+
+/// A set of faults has one ascending list.
+#[tactic(auto, using(crate::proofs::FaultSets::one_list_of_faults))]
+pub fn one_list_of_faults()
+    ensures { OneListOfFaults }
 {}
 
 /// The priorities are 1, 2, 3 and so on.

@@ -39,9 +39,11 @@ pub fn scan(alloc: Global, bytes: &[u8]) -> Result<Scanned<'_>, TextError>
     ensures assignments { IfOk result (λ scanned. (o : Origin)
         → map (given_in o) scanned.assignments.items ≡ Assignments.assignments o bytes.now) }
     ensures faults { IfOk result (λ scanned. scanned.faults.items ≡ Faults.faults bytes.now) }
-    ensures storable { IfOk result (λ scanned. (o : Origin) → All IsStorable (map (given_in o) scanned.assignments.items)) }
+    ensures storable { IfOk result (λ scanned. (o : Origin)
+        → All IsStorable (map (given_in o) scanned.assignments.items)) }
     ensures few { IfOk result (λ _. length (lines bytes.now) ≤ 4294967295) }
-    ensures too_many { IsErrOf result TextError.TooManyLines → 4294967295 < length (lines bytes.now) }
+    ensures too_many { IsErrOf result TextError.TooManyLines
+        → 4294967295 < length (lines bytes.now) }
     ensures never_too_many_files { IsErrOf result TextError.TooManyFiles → ⊥ }
 {
     let mut reader = Reader::new(alloc);
@@ -64,7 +66,8 @@ fn copy(
     priority: u16,
     given: &Given<'_>,
 ) -> Result<Assignment, AllocError>
-    ensures { IfOk result (λ copied. assigned copied ≡ given_in (origin path.now priority) given.now) }
+    ensures { IfOk result (λ copied.
+        assigned copied ≡ given_in (origin path.now priority) given.now) }
 {
     Ok(Assignment {
         priority,
@@ -83,7 +86,8 @@ fn copies(
     priority: u16,
     all: &[Given<'_>],
 ) -> Result<Vec<Assignment>, AllocError>
-    ensures { IfOk result (λ copied. map assigned copied.items ≡ map (given_in (origin path.now priority)) all.now) }
+    ensures { IfOk result (λ copied. map assigned copied.items
+        ≡ map (given_in (origin path.now priority)) all.now) }
 {
     let mut copied = Vec::with_capacity(alloc, all.len())?;
     for given in all {
@@ -101,9 +105,11 @@ pub fn parse(alloc: Global, path: &[u8], priority: u16, bytes: &[u8]) -> Result<
     ensures assignments { IfOk result (λ parsed. map assigned parsed.assignments.items
         ≡ Assignments.assignments (origin path.now priority) bytes.now) }
     ensures faults { IfOk result (λ parsed. parsed.faults.items ≡ Faults.faults bytes.now) }
-    ensures storable { IfOk result (λ parsed. All IsStorable (map assigned parsed.assignments.items)) }
+    ensures storable { IfOk result (λ parsed.
+        All IsStorable (map assigned parsed.assignments.items)) }
     ensures few { IfOk result (λ _. length (lines bytes.now) ≤ 4294967295) }
-    ensures too_many { IsErrOf result TextError.TooManyLines → 4294967295 < length (lines bytes.now) }
+    ensures too_many { IsErrOf result TextError.TooManyLines
+        → 4294967295 < length (lines bytes.now) }
     ensures never_too_many_files { IsErrOf result TextError.TooManyFiles → ⊥ }
 {
     let scanned = scan(alloc, bytes)?;

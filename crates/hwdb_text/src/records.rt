@@ -50,7 +50,8 @@ fn assign<'b>(
     assignments: &mut Vec<Given<'b>>,
 ) -> Result<(), AllocError>
     ensures { OnOk result ((o : Origin) → map (given_in o) assignments.new.items
-        ≡ map (given_in o) assignments.old.items ++ map (given o line key.now value.now) (map text_of patterns.now)) }
+        ≡ map (given_in o) assignments.old.items
+        ++ map (given o line key.now value.now) (map text_of patterns.now)) }
 {
     for pattern in patterns {
         assignments.push(Given {
@@ -72,8 +73,10 @@ fn property<'b>(
     faults: &mut Vec<Fault>,
 ) -> Result<(), AllocError>
     ensures assignments { OnOk result ((o : Origin) → map (given_in o) assignments.new.items
-        ≡ map (given_in o) assignments.old.items ++ property_assignments o (map text_of patterns.now) (Lines.line line text.now)) }
-    ensures faults { OnOk result (faults.new.items ≡ faults.old.items ++ property_faults (Lines.line line text.now)) }
+        ≡ map (given_in o) assignments.old.items
+        ++ property_assignments o (map text_of patterns.now) (Lines.line line text.now)) }
+    ensures faults { OnOk result (faults.new.items
+        ≡ faults.old.items ++ property_faults (Lines.line line text.now)) }
 {
     let body = unindented(text);
     let equals = end_of(b'=', body);
@@ -105,7 +108,8 @@ fn pattern<'b>(
 ) -> Result<(), AllocError>
     ensures patterns { OnOk result (map text_of patterns.new.items
         ≡ map text_of patterns.old.items ++ Assignments.patterns (Lines.line line text.now ∷ [])) }
-    ensures faults { OnOk result (faults.new.items ≡ faults.old.items ++ long_faults (Lines.line line text.now)) }
+    ensures faults { OnOk result (faults.new.items
+        ≡ faults.old.items ++ long_faults (Lines.line line text.now)) }
 {
     if text.len() > LONGEST_MATCH {
         faults.push(Fault {
@@ -232,9 +236,12 @@ impl<'b> Reader<'b> {
 
     /// What the file gives, behind its last line.
     pub fn finish(mut self) -> Result<Scanned<'b>, AllocError>
-        ensures assignments { IfOk result (λ scanned. (o : Origin) → (whole : List Lines.Line) → Reads o whole [] self.entry
-            → map (given_in o) scanned.assignments.items ≡ gives (section_assignments o) (Lines.clean whole)) }
-        ensures faults { IfOk result (λ scanned. (o : Origin) → (whole : List Lines.Line) → Reads o whole [] self.entry
+        ensures assignments { IfOk result (λ scanned. (o : Origin) → (whole : List Lines.Line)
+            → Reads o whole [] self.entry
+            → map (given_in o) scanned.assignments.items
+            ≡ gives (section_assignments o) (Lines.clean whole)) }
+        ensures faults { IfOk result (λ scanned. (o : Origin) → (whole : List Lines.Line)
+            → Reads o whole [] self.entry
             → scanned.faults.items
             ≡ in_order (spoilt_faults whole ++ gives section_faults (Lines.clean whole))) }
     {

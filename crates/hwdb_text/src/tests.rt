@@ -39,6 +39,9 @@ fn files(rt: HostRuntime) -> Result<(), Fail> {
         ("a\n K=1\n", "2 a K=1;"),
         // The last line needs no end.
         ("a\n K=1", "2 a K=1;"),
+        // A line of one byte without an end.
+        ("a", "1 F2;"),
+        ("a\n K=1\nb", "2 a K=1;3 F3;"),
         // A property goes with each match line of its record.
         ("x*\nx?\n K=1\n", "3 x* K=1;3 x? K=1;"),
         ("x\nx\n K=1\n", "3 x K=1;3 x K=1;"),
@@ -130,6 +133,57 @@ fn long_match_lines(rt: HostRuntime) -> Result<(), Fail> {
                 kind: FaultKind::LongMatch
             }
     );
+    Ok(())
+}
+
+/// As many bytes `a` as are asked for, between two texts.
+fn around(
+    alloc: Global,
+    before: &str,
+    length: usize,
+    behind: &str,
+) -> Result<Vec<u8>, AllocError> {
+    let mut text = Vec::new(alloc);
+    text.extend_from_slice(before.as_bytes())?;
+    for _ in 0..length {
+        text.push(b'a')?;
+    }
+    text.extend_from_slice(behind.as_bytes())?;
+    Ok(text)
+}
+
+/// A match line that is too long has its fault beside each other fault of its line.
+#[test]
+fn long_match_lines_at_fault(rt: HostRuntime) -> Result<(), Fail> {
+    let alloc = rt.alloc();
+    let fault = |line, kind| Fault { line, kind };
+    // No property follows.
+    let lonely = parse(alloc, b"P", 7, &around(alloc, "", 4097, "\n")?)?;
+    let want = [
+        fault(1, FaultKind::NoProperty),
+        fault(1, FaultKind::LongMatch),
+    ];
+    assert!(rt; lonely.faults.as_slice() == want.as_slice());
+    assert_eq!(rt; lonely.assignments.len(), 0);
+    // It stands inside a record.
+    let stray = parse(alloc, b"P", 7, &around(alloc, "b\n K=1\n", 4097, "\n")?)?;
+    let want = [
+        fault(3, FaultKind::StrayMatch),
+        fault(3, FaultKind::LongMatch),
+    ];
+    assert!(rt; stray.faults.as_slice() == want.as_slice());
+    assert_eq!(rt; stray.assignments.len(), 1);
+    Ok(())
+}
+
+/// A property line may have any length.
+#[test]
+fn long_property_lines(rt: HostRuntime) -> Result<(), Fail> {
+    let alloc = rt.alloc();
+    let parsed = parse(alloc, b"P", 7, &around(alloc, "b\n K=", 70000, "\n L=2\n")?)?;
+    assert_eq!(rt; (parsed.assignments.len(), parsed.faults.len()), (2, 0));
+    let given = &parsed.assignments[0];
+    assert_eq!(rt; (given.line, given.value.len()), (2, 70000));
     Ok(())
 }
 
