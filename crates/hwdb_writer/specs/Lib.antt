@@ -1,6 +1,5 @@
 pub mod Stored
 pub mod Runs
-pub mod Text
 pub mod Standing
 pub mod Setting
 pub mod Found

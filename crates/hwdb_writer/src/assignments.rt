@@ -47,7 +47,7 @@ impl Tree {
             alloc,
             root: Branch {
                 byte: 0,
-                prefix: Prefix::empty(),
+                prefix: Prefix::empty(alloc),
                 values: Values::none(alloc),
                 children: Vec::new(alloc),
             },
