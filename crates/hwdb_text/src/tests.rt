@@ -137,12 +137,7 @@ fn long_match_lines(rt: HostRuntime) -> Result<(), Fail> {
 }
 
 /// As many bytes `a` as are asked for, between two texts.
-fn around(
-    alloc: Global,
-    before: &str,
-    length: usize,
-    behind: &str,
-) -> Result<Vec<u8>, AllocError> {
+fn around(alloc: Global, before: &str, length: usize, behind: &str) -> Result<Vec<u8>, AllocError> {
     let mut text = Vec::new(alloc);
     text.extend_from_slice(before.as_bytes())?;
     for _ in 0..length {
