@@ -15,3 +15,4 @@ pub mod Ordered
 pub mod Listed
 pub mod Joining
 pub mod FaultSets
+pub mod Nothing

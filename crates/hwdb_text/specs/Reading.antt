@@ -18,6 +18,12 @@ AllPass test (l ∷ more) = (test l ≡ true) × AllPass test more
 abbrev pub gives : {X : Type 0} → (Section → List X) → List Line → List X
 gives out ls = flat_map out (sections ls)
 
+-- nothing was read yet
+pub record IsFresh (r : Reader) : Type 0 where
+  pub start : r.stage ≡ Start
+  pub spoilt : r.spoilt.items ≡ []
+  pub faults : r.faults.items ≡ []
+
 -- nothing has begun that the next line could belong to
 pub record AtStart (o : Origin) (whole rest : List Line) (r : Reader) : Type 0 where
   pub assignments : gives (section_assignments o) whole ≡ map (given_in o) r.assignments.items ++ gives (section_assignments o) rest

@@ -1,5 +1,5 @@
 //! The choice of files: which names count, which folder each is taken from, and their priorities.
-ghost use Rattle.std.specs.Prelude.{◌≡◌, ◌<◌, ◌≤◌, length, map, All, IfOk, OnOk};
+ghost use Rattle.std.specs.Prelude.{◌≡◌, ◌<◌, ◌≤◌, [], length, map, All, IfOk, IsOk, OnOk};
 ghost use Rattle.std.specs.Result.{IsErrOf};
 ghost use Rattle.std.specs.String.{string_bytes};
 ghost use Rattle.hwdb_text.specs.Choice.{choice_of, path_of, names, IsListed};
@@ -63,8 +63,9 @@ fn put<'a>(
     list: &'a [String],
     from_etc: bool,
 ) -> Result<(), AllocError>
-    ensures { OnOk result (map entry_of names.new.entries
+    ensures names { OnOk result (map entry_of names.new.entries
         ≡ put_all from_etc (map string_bytes list.now) (map entry_of names.old.entries)) }
+    ensures free { list.now ≡ [] → IsOk result }
 {
     for name in list {
         if counts(name.as_bytes()) {
@@ -79,6 +80,7 @@ fn put<'a>(
 /// # Errors
 ///
 /// `TooManyFiles` where more than 65,535 files are chosen; `Memory` where a growth was refused.
+/// Two empty lists take no memory.
 pub fn select(alloc: Global, etc: &[String], usr: &[String]) -> Result<Vec<Chosen>, TextError>
     ensures chosen { IfOk result (λ chosen. map choice_of chosen.items
         ≡ Choice.choice (map string_bytes etc.now) (map string_bytes usr.now)) }
@@ -91,6 +93,7 @@ pub fn select(alloc: Global, etc: &[String], usr: &[String]) -> Result<Vec<Chose
     ensures too_many { IsErrOf result TextError.TooManyFiles
         → 65535 < length (names (map string_bytes etc.now) (map string_bytes usr.now)) }
     ensures never_too_many_lines { IsErrOf result TextError.TooManyLines → ⊥ }
+    ensures free { etc.now ≡ [] → usr.now ≡ [] → IsOk result }
 {
     let mut held = BTreeMap::new(alloc);
     put(&mut held, usr, false)?;
@@ -104,8 +107,9 @@ pub fn select(alloc: Global, etc: &[String], usr: &[String]) -> Result<Vec<Chose
 /// The names with their priorities.
 fn list(alloc: Global, held: BTreeMap<&str, bool>) -> Result<Vec<Chosen>, AllocError>
     requires { length held.entries ≤ 65535 }
-    ensures { IfOk result (λ chosen. map choice_of chosen.items
+    ensures chosen { IfOk result (λ chosen. map choice_of chosen.items
         ≡ with_priorities 1 (map entry_of held.entry.entries)) }
+    ensures free { held.entry.entries ≡ [] → IsOk result }
 {
     let mut chosen = Vec::new(alloc);
     let mut priority = 0;

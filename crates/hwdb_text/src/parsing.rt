@@ -1,5 +1,5 @@
 //! A file, line by line.
-ghost use Rattle.std.specs.Prelude.{◌≡◌, ◌+◌, ◌<◌, ◌≤◌, ◌↔◌, length, map, All, IfOk, IfErr};
+ghost use Rattle.std.specs.Prelude.{◌≡◌, ◌+◌, ◌<◌, ◌≤◌, ◌↔◌, [], length, map, All, IfOk, IfErr, IsOk};
 ghost use Rattle.std.specs.Result.{IsErrOf};
 ghost use Rattle.hwdb_text.specs.Lines.{lines};
 ghost use Rattle.hwdb_text.specs.Assignments.{Origin, origin, assigned, given_in};
@@ -35,6 +35,7 @@ pub fn next_line(before: u32) -> Result<u32, TextError>
 /// # Errors
 ///
 /// `TooManyLines` where the file has more than 4,294,967,295 lines; `Memory` where a growth was refused.
+/// An empty file takes no memory.
 pub fn scan(alloc: Global, bytes: &[u8]) -> Result<Scanned<'_>, TextError>
     ensures assignments { IfOk result (λ scanned. (o : Origin)
         → map (given_in o) scanned.assignments.items ≡ Assignments.assignments o bytes.now) }
@@ -45,6 +46,7 @@ pub fn scan(alloc: Global, bytes: &[u8]) -> Result<Scanned<'_>, TextError>
     ensures too_many { IsErrOf result TextError.TooManyLines
         → 4294967295 < length (lines bytes.now) }
     ensures never_too_many_files { IsErrOf result TextError.TooManyFiles → ⊥ }
+    ensures free { bytes.now ≡ [] → IsOk result }
 {
     let mut reader = Reader::new(alloc);
     let mut number = 0;
@@ -86,8 +88,9 @@ fn copies(
     priority: u16,
     all: &[Given<'_>],
 ) -> Result<Vec<Assignment>, AllocError>
-    ensures { IfOk result (λ copied. map assigned copied.items
+    ensures copied { IfOk result (λ copied. map assigned copied.items
         ≡ map (given_in (origin path.now priority)) all.now) }
+    ensures free { all.now ≡ [] → IsOk result }
 {
     let mut copied = Vec::with_capacity(alloc, all.len())?;
     for given in all {
@@ -101,6 +104,7 @@ fn copies(
 /// # Errors
 ///
 /// `TooManyLines` where the file has more than 4,294,967,295 lines; `Memory` where a growth was refused.
+/// An empty file takes no memory.
 pub fn parse(alloc: Global, path: &[u8], priority: u16, bytes: &[u8]) -> Result<Parsed, TextError>
     ensures assignments { IfOk result (λ parsed. map assigned parsed.assignments.items
         ≡ Assignments.assignments (origin path.now priority) bytes.now) }
@@ -111,6 +115,7 @@ pub fn parse(alloc: Global, path: &[u8], priority: u16, bytes: &[u8]) -> Result<
     ensures too_many { IsErrOf result TextError.TooManyLines
         → 4294967295 < length (lines bytes.now) }
     ensures never_too_many_files { IsErrOf result TextError.TooManyFiles → ⊥ }
+    ensures free { bytes.now ≡ [] → IsOk result }
 {
     let scanned = scan(alloc, bytes)?;
     let assignments = copies(alloc, path, priority, &scanned.assignments)?;

@@ -1,12 +1,12 @@
 //! The lines of a file, one after the other: records, what they assign, and what is wrong with them.
 //!
 //! `Reads` says what was read of the lines so far; each method keeps it.
-ghost use Rattle.std.specs.Prelude.{◌≡◌, ◌++◌, List, [], ◌∷◌, map, drop, IfOk, OnOk, IsTrue};
+ghost use Rattle.std.specs.Prelude.{◌≡◌, ◌++◌, List, [], ◌∷◌, map, drop, IfOk, IsOk, OnOk, IsTrue};
 ghost use Rattle.hwdb_text.specs.Lines;
 ghost use Rattle.hwdb_text.specs.Assignments.{Origin, given, given_in, text_of, property_assignments, section_assignments};
 ghost use Rattle.hwdb_text.specs.Faults.{property_faults, long_faults, section_faults, spoilt_faults, in_order};
 ghost use Rattle.hwdb_text.specs.Assignments;
-ghost use Rattle.hwdb_text.specs.Reading.{Closes, Holds, AtStart, Reads, gives};
+ghost use Rattle.hwdb_text.specs.Reading.{Closes, Holds, AtStart, IsFresh, Reads, gives};
 
 use crate::line::{Content, content_of, end_of, unindented};
 use crate::outcome::{Fault, FaultKind, Given, Scanned};
@@ -125,7 +125,8 @@ fn pattern<'b>(
 impl<'b> Reader<'b> {
     /// Nothing is read yet.
     pub fn new(alloc: Global) -> Reader<'b>
-        ensures { (o : Origin) → (whole : List Lines.Line) → Reads o whole whole result }
+        ensures reads { (o : Origin) → (whole : List Lines.Line) → Reads o whole whole result }
+        ensures fresh { IsFresh result }
     {
         Reader {
             stage: Stage::Start,
@@ -143,6 +144,8 @@ impl<'b> Reader<'b> {
             → Holds o whole rest self.old → AtStart o whole (drop 1 rest) self.new) }
         ensures start { OnOk result (self.new.stage ≡ Stage.Start) }
         ensures spoilt { self.new.spoilt ≡ self.old.spoilt }
+        ensures free { self.old.stage ≡ Stage.Start → IsOk result }
+        ensures same { self.old.stage ≡ Stage.Start → self.new.faults ≡ self.old.faults }
     {
         if let Stage::Matches = self.stage {
             self.faults.push(Fault {
@@ -234,7 +237,7 @@ impl<'b> Reader<'b> {
         }
     }
 
-    /// What the file gives, behind its last line.
+    /// What the file gives, behind its last line. Takes no memory where nothing was read.
     pub fn finish(mut self) -> Result<Scanned<'b>, AllocError>
         ensures assignments { IfOk result (λ scanned. (o : Origin) → (whole : List Lines.Line)
             → Reads o whole [] self.entry
@@ -244,6 +247,7 @@ impl<'b> Reader<'b> {
             → Reads o whole [] self.entry
             → scanned.faults.items
             ≡ in_order (spoilt_faults whole ++ gives section_faults (Lines.clean whole))) }
+        ensures free { IsFresh self.entry → IsOk result }
     {
         self.end()?;
         let mut faults = self.spoilt;

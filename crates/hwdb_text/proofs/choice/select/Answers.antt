@@ -14,7 +14,7 @@ pub returns-then-len-gt-MOST_FILES-clause-too_many : goal.returns-then-len-gt-MO
 returns-then-len-gt-MOST_FILES-clause-too_many c = λ _.
     let etc = map string_bytes c.args.etc.now in
     let usr = map string_bytes c.args.usr.now in
-    let held = both_put etc usr c.new-held.result.entries c.put.new.names.entries c.put-2.new.names.entries c.new-held.ensures.empty c.in_ok-put.ensures c.in_ok-put-2.ensures in
+    let held = both_put etc usr c.new-held.result.entries c.put.new.names.entries c.put-2.new.names.entries c.new-held.ensures.empty c.in_ok-put.ensures.names c.in_ok-put-2.ensures.names in
     let many = sym (map_length entry_of c.put-2.new.names.entries) ∙ ap length held ∙ as_many etc usr in
     omega (arith, many)
 
@@ -22,7 +22,7 @@ pub returns-clause-few : goal.returns-clause-few
 returns-clause-few c =
     let etc = map string_bytes c.args.etc.now in
     let usr = map string_bytes c.args.usr.now in
-    let held = both_put etc usr c.new-held.result.entries c.put.new.names.entries c.put-2.new.names.entries c.new-held.ensures.empty c.in_ok-put.ensures c.in_ok-put-2.ensures in
+    let held = both_put etc usr c.new-held.result.entries c.put.new.names.entries c.put-2.new.names.entries c.new-held.ensures.empty c.in_ok-put.ensures.names c.in_ok-put-2.ensures.names in
     let many = sym (map_length entry_of c.put-2.new.names.entries) ∙ ap length held ∙ as_many etc usr in
     omega (arith, many)
 
@@ -30,8 +30,8 @@ pub returns-clause-chosen : goal.returns-clause-chosen
 returns-clause-chosen c =
     let etc = map string_bytes c.args.etc.now in
     let usr = map string_bytes c.args.usr.now in
-    let held = both_put etc usr c.new-held.result.entries c.put.new.names.entries c.put-2.new.names.entries c.new-held.ensures.empty c.in_ok-put.ensures c.in_ok-put-2.ensures in
-    c.in_ok-list.ensures ∙ ap (with_priorities 1) held ∙ choice_is etc usr
+    let held = both_put etc usr c.new-held.result.entries c.put.new.names.entries c.put-2.new.names.entries c.new-held.ensures.empty c.in_ok-put.ensures.names c.in_ok-put-2.ensures.names in
+    c.in_ok-list.ensures.chosen ∙ ap (with_priorities 1) held ∙ choice_is etc usr
 
 pub returns-clause-listed : goal.returns-clause-listed
 returns-clause-listed c =

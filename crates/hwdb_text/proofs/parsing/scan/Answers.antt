@@ -14,7 +14,8 @@ loop-at-init c = record {
   at_in = omega arith;
   fits = omega arith;
   count = zero-add _ ∙ sym (count_lines 1 (pieces (is 10) c.args.bytes.now));
-  reads = λ o. c.new-reader.ensures o (lines c.args.bytes.now);
+  fresh = λ _. c.new-reader.ensures.fresh;
+  reads = λ o. c.new-reader.ensures.reads o (lines c.args.bytes.now);
 }
 
 pub returns-in_err-number-clause-too_many : goal.returns-in_err-number-clause-too_many
@@ -31,6 +32,7 @@ loop-at-preserved c =
       fits = c.in_ok-number.ensures.fits;
       count = next_count c.args.bytes.now c.loop-at.at c.end_of-end.result c.loop-at.number c.in_ok-number.number (length (lines c.args.bytes.now)) _
           c.loop-at-test.true t c.end_of-end.ensures.place c.in_ok-number.ensures.next c.loop-at.invariant.count;
+      fresh = λ e. let none = ap length e in let some = c.loop-at-test.true in absurd (omega (arith, none, some));
       reads = λ o. next_reads o (lines c.args.bytes.now) c.args.bytes.now c.loop-at.at c.end_of-end.result c.loop-at.number c.in_ok-number.number _ _ c.loop-at.reader c.line.new.self
           c.loop-at-test.true t c.end_of-end.ensures.place refl c.in_ok-number.ensures.next (c.in_ok-line.ensures o) (c.loop-at.invariant.reads o);
     }

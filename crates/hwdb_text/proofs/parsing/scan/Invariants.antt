@@ -1,7 +1,7 @@
-use Rattle.std.proofs.Common.{length, ◌-◌, ◌≡◌, ◌+◌, ◌≤◌, drop}
+use Rattle.std.proofs.Common.{length, ◌-◌, ◌≡◌, ◌+◌, ◌≤◌, drop, []}
 use Rattle.hwdb_text.specs.Lines.{is, lines, pieces, numbered}
 use Rattle.hwdb_text.specs.Assignments.{Origin}
-use Rattle.hwdb_text.specs.Reading.{Reads}
+use Rattle.hwdb_text.specs.Reading.{IsFresh, Reads}
 use Rattle.hwdb_text.proofs.parsing.scan.Given as goal
 
 abbrev pub invariant-loop-at : goal.invariant-loop-at
@@ -9,6 +9,7 @@ invariant-loop-at l = record {
   at_in : l.at ≤ length l.bytes + 1;
   fits : l.number ≤ 4294967295;
   count : l.number + length (pieces (is 10) (drop l.at l.bytes)) ≡ length (lines l.bytes);
+  fresh : l.bytes ≡ [] → IsFresh l.reader;
   reads : (o : Origin) → Reads o (lines l.bytes) (numbered (l.number + 1) (pieces (is 10) (drop l.at l.bytes))) l.reader;
 }
 
