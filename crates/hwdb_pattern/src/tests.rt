@@ -45,7 +45,10 @@ fn brackets(rt: HostRuntime) {
     }
     // With text behind the bracket.
     for (text, end) in [("[[:digit:]]x", 11), ("[c-a]x", 5), ("[]:alpha:]x", 10)] {
-        assert!(rt; bracket_end(text.as_bytes()) == Some(end), "the length in {text}");
+        assert!(rt;
+            bracket_end(text.as_bytes()) == Some(end),
+            "the length in {text}"
+        );
     }
     for text in ["", "a", "]", "a[b]"] {
         assert!(rt;
