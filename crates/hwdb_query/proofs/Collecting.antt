@@ -16,7 +16,7 @@ use Rattle.hwdb_query.specs.declared.collector.Collector.{Collector}
 use Rattle.hwdb_query.specs.declared.collector.Collector.TheVariants.{Page, Last as LastOnes}
 use Rattle.hwdb_query.proofs.Putting.{keep_all_append, ascends_put, ascends_all, filter_in, filter_out}
 use Rattle.hwdb_query.proofs.Orders.{spot_total, found_total}
-use Rattle.hwdb_query.proofs.Parting.{own_next, own_behind}
+use Rattle.hwdb_query.proofs.Parting.{own_next, own_one, own_behind}
 use Rattle.hwdb_query.proofs.Steps.{keep_none, offered_some, offered_early}
 
 -- what a value assigns at a pattern
@@ -83,11 +83,6 @@ last_values_next a b c pattern values i s at here rest =
 
 pub last_values_over : (a : LastHits) (pattern : List ℕ) (values : List Value) (i : ℕ) → length values ≤ i → LastCollects a (own_members pattern (drop i values)) a
 last_values_over a pattern values i le = subst (λ xs. LastCollects a xs a) (sym (own_behind pattern values i le)) (last_none a)
-
-pub page_values_next : (a b c : NextPage) (pattern : List ℕ) (values : List Value) (i : ℕ) (s : Shown) → option_map shown (slice_get values i) ≡ Some s
-    → PageCollects a (found_shown pattern s) b → PageCollects b (own_members pattern (drop (suc i) values)) c → PageCollects a (own_members pattern (drop i values)) c
-page_values_next a b c pattern values i s at here rest =
-    subst (λ xs. PageCollects a xs c) (sym (own_next pattern values i s at)) (page_more a b c (found_shown pattern s) (own_members pattern (drop (suc i) values)) here rest)
 
 pub page_values_over : (a : NextPage) (pattern : List ℕ) (values : List Value) (i : ℕ) → length values ≤ i → PageCollects a (own_members pattern (drop i values)) a
 page_values_over a pattern values i le = subst (λ xs. PageCollects a xs a) (sym (own_behind pattern values i le)) (page_none a)
@@ -185,15 +180,18 @@ one_skipped : (a : NextPage) (pattern : List ℕ) (s : Shown) → ((key : List �
 unfolding found_shown
 one_skipped a pattern s skipped = elim s.key as (λ o. PageCollects a (one_found pattern s o) a) [ None ↦ page_none a | Some key ↦ skipped key ]
 
-pub page_values_skipped : (a c : NextPage) (pattern : List ℕ) (values : List Value) (i p l : ℕ) → option_map (λ v. v.priority) (slice_get values i) ≡ Some p → option_map (λ v. v.line) (slice_get values i) ≡ Some l
-    → ((x : Found) → (x.spot.priority ≡ p) × (x.spot.line ≡ l) → PageCollects a (x ∷ []) a)
-    → PageCollects a (own_members pattern (drop (suc i) values)) c → PageCollects a (own_members pattern (drop i values)) c
-page_values_skipped a c pattern [] i p l at on skipped rest = absurd (cc)
-page_values_skipped a c pattern (v ∷ values) zero p l at on skipped rest =
+pub page_one_taken : (a b : NextPage) (pattern : List ℕ) (values : List Value) (i : ℕ) (s : Shown) → option_map shown (slice_get values i) ≡ Some s → PageCollects a (found_shown pattern s) b
+    → PageCollects a (own_members pattern (take 1 (drop i values))) b
+page_one_taken a b pattern values i s at taken = subst (λ xs. PageCollects a xs b) (sym (own_one pattern values i s at)) taken
+
+pub page_one_skipped : (a : NextPage) (pattern : List ℕ) (values : List Value) (i p l : ℕ) → option_map (λ v. v.priority) (slice_get values i) ≡ Some p → option_map (λ v. v.line) (slice_get values i) ≡ Some l
+    → ((x : Found) → (x.spot.priority ≡ p) × (x.spot.line ≡ l) → PageCollects a (x ∷ []) a) → PageCollects a (own_members pattern (take 1 (drop i values))) a
+page_one_skipped a pattern [] i p l at on skipped = absurd (cc)
+page_one_skipped a pattern (v ∷ values) zero p l at on skipped =
     let same_p : v.priority ≡ p = cc in
     let same_l : v.line ≡ l = cc in
-    page_more a a c (found_shown pattern (shown v)) (own_members pattern values) (one_skipped a pattern (shown v) (λ key. skipped (found_at pattern key (shown v)) (same_p, same_l))) rest
-page_values_skipped a c pattern (v ∷ values) (suc i) p l at on skipped rest = page_values_skipped a c pattern values i p l at on skipped rest
+    page_more a a a (found_shown pattern (shown v)) [] (one_skipped a pattern (shown v) (λ key. skipped (found_at pattern key (shown v)) (same_p, same_l))) (page_none a)
+page_one_skipped a pattern (v ∷ values) (suc i) p l at on skipped = page_one_skipped a pattern values i p l at on skipped
 
 -- no hit of an origin is kept: it stands before the position, or behind a full page
 pub skipped_before : (a : NextPage) (after : Spot) (x : Found) → after_spot a.after ≡ Some after → spot_cmp x.spot after ≡ Less → PageCollects a (x ∷ []) a

@@ -100,7 +100,7 @@ filter_complete f p (x ∷ xs) m h =
       | false ↦ λ e. elim m [ inl q ↦ (let w : p f ≡ false = ap p (sym q) ∙ e in absurd (let v : true ≡ false = sym h ∙ w in cc)) | inr r ↦ again r ]
     ] refl
 
-key_is : (k key : List ℕ) → key_of k ≡ Some key → k ≡ 32 ∷ key
+pub key_is : (k key : List ℕ) → key_of k ≡ Some key → k ≡ 32 ∷ key
 key_is [] key h = cc
 key_is (c ∷ rest) key h =
     elim (c == 32) as (λ b. (c == 32) ≡ b → (if b then Some rest else None) ≡ Some key → c ∷ rest ≡ 32 ∷ key) [

@@ -137,7 +137,7 @@ impl<'a> Node<'a> {
 impl<'a> Inside<'a> {
     ghost use Rattle.std.specs.Prelude.{◌≡◌, ◌<◌, Some, length, slice_get, option_map};
     ghost use Rattle.hwdb_layout.specs.Tree.{children_of, values_of};
-    ghost use Rattle.hwdb_layout.specs.Map.{shown};
+    ghost use Rattle.hwdb_layout.specs.Map.{IsTree, shown};
     ghost use Rattle.hwdb_reader.specs.View.{tree_of, entered_tree, entry_shows};
 
     /// How many children the node has.
@@ -164,6 +164,11 @@ impl<'a> Inside<'a> {
             },
         }
     }
+
+    /// In the node's tree stored keys and bytes ascend.
+    pub fn law_ascending(&self)
+        ensures { IsTree (entered_tree self.now) }
+    {}
 
     /// How many values the node has.
     pub fn values(&self) -> usize
