@@ -2,12 +2,11 @@
 use Rattle.std.proofs.Common.{ℕ, zero, suc, ◌+◌, List, [], ◌∷◌, Option, Some, None}
 use Rattle.std.specs.Coded.{×_prop, Unit-prop}
 use Rattle.std.proofs.Props.{props}
-use Rattle.hwdb_layout.specs.declared.Layout.{Layout}
-use Rattle.hwdb_layout.specs.Tree.{Value, Tree, Children}
-use Rattle.hwdb_layout.specs.Tree.Tree.{Node}
-use Rattle.hwdb_layout.specs.Tree.Children.{NoMore, Child}
-use Rattle.hwdb_layout.specs.Database.{NodeText, ChildrenText, ValuesText, IsAbove, child_entry, child_field, value_entries, record_end, layout_of, IsDatabase, max_levels}
-use Rattle.hwdb_layout.specs.Map.{KeysAscend, IsTree, BytesAscend}
+use Rattle.hwdb_spec.specs.declared.Layout.{Layout}
+use Rattle.hwdb_spec.specs.Tree.{Value, Tree, Children, IsAbove, KeysAscend, IsTree, BytesAscend}
+use Rattle.hwdb_spec.specs.Tree.Tree.{Node}
+use Rattle.hwdb_spec.specs.Tree.Children.{NoMore, Child}
+use Rattle.hwdb_spec.specs.Format.{NodeText, ChildrenText, ValuesText, child_entry, child_field, value_entries, record_end, layout_of, IsDatabase, max_levels}
 
 keys_ascend : (l : Layout) (b : List ℕ) (entry : ℕ) (before : Option (List ℕ)) (vs : List Value) → ValuesText l b entry before vs → KeysAscend before vs
 unfolding ValuesText

@@ -1,11 +1,11 @@
 -- How far the text of a tree reaches.
 use Rattle.std.proofs.Common.{◌≤◌, ◌<◌, ℕ, zero, suc, ◌+◌, ◌*◌, List, arith}
 use Rattle.std.proofs.lemmas.Nat.{mul-le}
-use Rattle.hwdb_layout.specs.declared.Layout.{Layout}
-use Rattle.hwdb_layout.specs.Tree.{Tree, Children, node_count, nodes_below}
-use Rattle.hwdb_layout.specs.Tree.Tree.{Node}
-use Rattle.hwdb_layout.specs.Tree.Children.{NoMore, Child}
-use Rattle.hwdb_layout.specs.Database.{NodeText, ChildrenText, record_end, child_entry, child_count, child_field, value_entries, value_count}
+use Rattle.hwdb_spec.specs.declared.Layout.{Layout}
+use Rattle.hwdb_spec.specs.Tree.{Tree, Children, node_count, nodes_below}
+use Rattle.hwdb_spec.specs.Tree.Tree.{Node}
+use Rattle.hwdb_spec.specs.Tree.Children.{NoMore, Child}
+use Rattle.hwdb_spec.specs.Format.{NodeText, ChildrenText, record_end, child_entry, child_count, child_field, value_entries, value_count}
 
 -- a record has room for its fixed fields
 pub record_fields : (l : Layout) (b : List ℕ) (off : ℕ) → 24 ≤ l.node_size → off + 24 ≤ record_end l b off

@@ -1,10 +1,10 @@
 -- The values of a node, entry by entry.
-use Rattle.std.proofs.Common.{◌≡◌, ◌<◌, ◌-◌, ℕ, suc, ◌+◌, List, Option, Some, refl, sym, ap, arith, subst}
+use Rattle.std.proofs.Common.{◌≡◌, ◌<◌, ◌-◌, ℕ, suc, ◌+◌, List, Option, Some, refl, sym, ap, arith, subst, is_ge, false, true}
 use Rattle.std.specs.declared.cmp.Ordering.{Ordering}
 use Rattle.std.specs.declared.cmp.Ordering.TheVariants.{Less, Equal, Greater}
-use Rattle.std.proofs.Common.{is_ge, false, true}
-use Rattle.hwdb_layout.specs.declared.Layout.{Layout}
-use Rattle.hwdb_layout.specs.Database.{ValuesText, values_at, value_at, number_at, text_at, IsValue, IsAbove}
+use Rattle.hwdb_spec.specs.declared.Layout.{Layout}
+use Rattle.hwdb_spec.specs.Format.{ValuesText, values_at, value_at, number_at, text_at, IsValue}
+use Rattle.hwdb_spec.specs.Tree.{IsAbove}
 
 module _ (l : Layout) (b : List ℕ) (e : ℕ) (before : Option (List ℕ)) (n i : ℕ) (lt : i < n) where
   pub values_next : ValuesText l b e before (values_at l b e (n - i)) → IsValue l b e × IsAbove before (text_at b (number_at 8 e b)) × ValuesText l b (e + l.value_size) (Some (text_at b (number_at 8 e b))) (values_at l b (e + l.value_size) (n - (i + 1)))

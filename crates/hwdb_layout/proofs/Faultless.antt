@@ -3,15 +3,14 @@ use Rattle.std.proofs.Common.{◌≡◌, ◌≤◌, ◌<◌, ◌⊎◌, ℕ, zer
 use Rattle.std.specs.Cmp.Lexicographic.{slice_cmp}
 use Rattle.std.specs.Ordering.{nat_cmp}
 use Rattle.std.specs.declared.cmp.Ordering.TheVariants.{Less}
-use Rattle.hwdb_layout.specs.declared.Layout.{Layout}
-use Rattle.hwdb_layout.specs.declared.DbFault.{DbFault}
-use Rattle.hwdb_layout.specs.declared.DbFault.TheVariants.{Short, Signature, RecordSizes, Lengths, Strings, Place, Depth, ChildOrder, StringOffset, KeyOrder, Priority}
-use Rattle.hwdb_layout.specs.Tree.{Value, Tree, Children, count}
-use Rattle.hwdb_layout.specs.Tree.Tree.{Node}
-use Rattle.hwdb_layout.specs.Tree.Children.{NoMore, Child}
-use Rattle.hwdb_layout.specs.Database.{number_at, IsPlace, IsValue, text_at, value_at, ValuesText, NodeText, ChildrenText, child_entry, child_count, child_byte, child_field, value_entries, value_count, record_end, layout_of, IsHeader, IsDatabase}
-use Rattle.hwdb_layout.specs.Faults.{IsField, ValuesFault, Fits, child_from, Reached, byte_before, NodeFault, Stands, HeaderFault, FaultStands}
-use Rattle.hwdb_layout.specs.Faults.Reached.{Root, Below}
+use Rattle.hwdb_spec.specs.declared.Layout.{Layout}
+use Rattle.hwdb_spec.specs.declared.DbFault.{DbFault}
+use Rattle.hwdb_spec.specs.declared.DbFault.TheVariants.{Short, Signature, RecordSizes, Lengths, Strings, Place, Depth, ChildOrder, StringOffset, KeyOrder, Priority}
+use Rattle.hwdb_spec.specs.Tree.{Value, Tree, Children, count}
+use Rattle.hwdb_spec.specs.Tree.Tree.{Node}
+use Rattle.hwdb_spec.specs.Tree.Children.{NoMore, Child}
+use Rattle.hwdb_spec.specs.Format.{number_at, IsPlace, IsValue, text_at, value_at, ValuesText, NodeText, ChildrenText, child_entry, child_count, child_byte, child_field, value_entries, value_count, record_end, layout_of, IsHeader, IsDatabase, IsField, ValuesFault, Fits, child_from, Reached, byte_before, NodeFault, Stands, HeaderFault, FaultStands}
+use Rattle.hwdb_spec.specs.Format.Reached.{Root, Below}
 use Rattle.hwdb_layout.proofs.Bounds.{children_room, begins_before}
 use Rattle.hwdb_layout.proofs.Whole.{large_nodes, root_fits}
 

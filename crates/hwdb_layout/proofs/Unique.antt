@@ -1,10 +1,10 @@
 -- Bytes are the text of one tree at most.
 use Rattle.std.proofs.Common.{◌≡◌, ℕ, zero, suc, ◌+◌, List, [], ◌∷◌, length, Option, Some, refl}
-use Rattle.hwdb_layout.specs.declared.Layout.{Layout}
-use Rattle.hwdb_layout.specs.Tree.{Value, Tree, Children, count}
-use Rattle.hwdb_layout.specs.Tree.Tree.{Node}
-use Rattle.hwdb_layout.specs.Tree.Children.{NoMore, Child}
-use Rattle.hwdb_layout.specs.Database.{NodeText, ChildrenText, ValuesText, tree_at, children_at, values_at, record_end, child_entry, child_field, value_entries}
+use Rattle.hwdb_spec.specs.declared.Layout.{Layout}
+use Rattle.hwdb_spec.specs.Tree.{Value, Tree, Children, count}
+use Rattle.hwdb_spec.specs.Tree.Tree.{Node}
+use Rattle.hwdb_spec.specs.Tree.Children.{NoMore, Child}
+use Rattle.hwdb_spec.specs.Format.{NodeText, ChildrenText, ValuesText, tree_at, children_at, values_at, record_end, child_entry, child_field, value_entries}
 
 pub values_are : (l : Layout) (b : List ℕ) (entry : ℕ) (before : Option (List ℕ)) (vs : List Value) → ValuesText l b entry before vs → vs ≡ values_at l b entry (length vs)
 unfolding ValuesText values_at

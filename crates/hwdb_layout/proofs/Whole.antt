@@ -1,11 +1,10 @@
 -- A database as a whole.
 use Rattle.std.proofs.Common.{◌≡◌, ◌≢◌, ◌≤◌, ◌<◌, ℕ, List, length, refl, sym, ◌∙◌, arith, subst, inl, inr}
-use Rattle.hwdb_layout.specs.declared.Layout.{Layout}
-use Rattle.hwdb_layout.specs.declared.DbFault.{DbFault}
-use Rattle.hwdb_layout.specs.declared.DbFault.TheVariants.{Place}
-use Rattle.hwdb_layout.specs.Tree.{Tree, node_count}
-use Rattle.hwdb_layout.specs.Database.{NodeText, tree_at, record_end, layout_of, IsHeader, IsDatabase, max_levels}
-use Rattle.hwdb_layout.specs.Faults.{Fits, Stands, HeaderFault, FaultStands}
+use Rattle.hwdb_spec.specs.declared.Layout.{Layout}
+use Rattle.hwdb_spec.specs.declared.DbFault.{DbFault}
+use Rattle.hwdb_spec.specs.declared.DbFault.TheVariants.{Place}
+use Rattle.hwdb_spec.specs.Tree.{Tree, node_count}
+use Rattle.hwdb_spec.specs.Format.{NodeText, tree_at, record_end, layout_of, IsHeader, IsDatabase, max_levels, Fits, Stands, HeaderFault, FaultStands}
 use Rattle.hwdb_layout.proofs.Unique.{tree_is}
 use Rattle.hwdb_layout.proofs.Bounds.{begins_before, node_room}
 

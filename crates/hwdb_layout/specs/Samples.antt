@@ -1,8 +1,8 @@
 -- Three small trees, and their databases byte for byte.
-use Rattle.std.specs.Prelude.{ℕ, List, [], ◌∷◌, codes}
-use Rattle.hwdb_layout.specs.Tree.{Value, Tree}
-use Rattle.hwdb_layout.specs.Tree.Tree.{Node}
-use Rattle.hwdb_layout.specs.Tree.Children.{NoMore, Child}
+use Rattle.std.specs.Prelude.{List, codes, ℕ, ◌∷◌, []}
+use Rattle.hwdb_spec.specs.Tree.{Value, Tree}
+use Rattle.hwdb_spec.specs.Tree.Children.{NoMore, Child}
+use Rattle.hwdb_spec.specs.Tree.Tree.{Node}
 
 -- the value v under a key, on a line of the file 1.hwdb
 abbrev pub sample_value : List ℕ → ℕ → Value

@@ -1,74 +1,16 @@
-//! What a hardware database is: the definitions that its writer and its reader both cite.
+//! Laws of the format of a hardware database, which its writer and its reader both stand on.
 //!
-//! The layout of the records is that of systemd's `hwdb-internal.h`. Own choices are the order of the
-//! nodes (each node's record stands behind the texts of its children), the tight tree, and the order of
-//! the strings. `specs/` has the definitions:
-//!
-//! - `Tree`: nodes with a prefix, values and children;
-//! - `Map`: the finite map that a tree stands for, and when keys and bytes ascend in it;
-//! - `Database`: when bytes are a database of a tree, for any sizes of the records;
-//! - `Faults`: what stands in bytes that are no database;
-//! - `Tight`: the one tree of a map that is written;
-//! - `Written`: the bytes that are written for a tree.
-//!
-//! The functions below hold no code: each is a law of these definitions, its contract.
+//! The functions below hold no code: each is a law of the definitions of `hwdb_spec`, its contract.
 #![tactic(auto)]
 
 ghost use Rattle.std.specs.Prelude.{◌≡◌, ◌<◌, ℕ, List, length};
-ghost use Rattle.hwdb_layout.specs.Tree.{Tree, node_count};
-ghost use Rattle.hwdb_layout.specs.Database.{IsDatabase};
-ghost use Rattle.hwdb_layout.specs.declared.DbFault.{DbFault};
-ghost use Rattle.hwdb_layout.specs.Faults.{FaultStands};
-ghost use Rattle.hwdb_layout.specs.Map.{IsTree};
-ghost use Rattle.hwdb_layout.specs.Written.{written};
+ghost use Rattle.hwdb_spec.specs.Tree.{Tree, node_count, IsTree};
+ghost use Rattle.hwdb_spec.specs.Format.{IsDatabase, FaultStands};
+ghost use Rattle.hwdb_spec.specs.declared.DbFault.{DbFault};
+ghost use Rattle.hwdb_spec.specs.Written.{written};
 ghost use Rattle.hwdb_layout.specs.Samples.{empty_tree, empty_bytes, one_tree, one_bytes, two_tree, two_bytes};
 
-/// How large the records are, and where the parts of a database stand.
-///
-/// Sizes are in bytes, places are offsets from the start of the file.
-#[derive(Clone, Copy, Debug, PartialEq, Eq)]
-pub struct Layout {
-    /// How long a node is, without its entries.
-    pub node_size: usize,
-    /// How long a child entry is.
-    pub child_size: usize,
-    /// How long a value entry is.
-    pub value_size: usize,
-    /// Where the nodes section begins: where the header ends.
-    pub nodes: usize,
-    /// Where the root's record stands.
-    pub root: usize,
-    /// Where the string section begins: where the nodes section ends.
-    pub strings: usize,
-}
-
-/// Why bytes are no database: the first of B1 to B5 that stands, or one of B6 to B11 with the offset
-/// at which it stands.
-#[derive(Clone, Copy, Debug, PartialEq, Eq)]
-pub enum DbFault {
-    /// B1: there are fewer than 80 bytes.
-    Short,
-    /// B2: the first 8 bytes aren't the signature `KSLPHHRH`.
-    Signature,
-    /// B3: the header or a record is shorter than its known fields.
-    RecordSizes,
-    /// B4: the file's size isn't the number of bytes, or its parts don't add up to it.
-    Lengths,
-    /// B5: there is no string, or the last byte isn't 0.
-    Strings,
-    /// B6: the node at the offset isn't where its text says.
-    Place(u64),
-    /// B7: the node at the offset is deeper than 4,097 levels.
-    Depth(u64),
-    /// B8: the byte of the child entry at the offset is 0 or not above the one before it.
-    ChildOrder(u64),
-    /// B9: the string offset at the offset names no place in the string section.
-    StringOffset(u64),
-    /// B10: the stored key of the value entry at the offset isn't above the one before it.
-    KeyOrder(u64),
-    /// B11: the priority of the value entry at the offset is 0.
-    Priority(u64),
-}
+pub use hwdb_spec::{DbFault, Layout};
 
 /// Bytes are a database of one tree at most.
 pub fn law_one_tree()

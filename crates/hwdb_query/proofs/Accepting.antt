@@ -1,21 +1,20 @@
 -- What was read is what the chosen files hold, and when files are refused.
 use Rattle.std.proofs.Common.{◌≡◌, ◌∙◌, ap, sym, refl, subst, ℕ, suc, ◌≤◌, List, [], ◌∷◌, ◌++◌, map, length, Result, Ok, Err, All}
-use Rattle.std.specs.Prelude.{Any, IfErr}
+use Rattle.std.specs.Prelude.{Any, IfErr, flat_map}
 use Rattle.std.specs.Result.{IsErrAnd}
-use Rattle.std.specs.List.{flat_map}
 use Rattle.std.specs.FinMap as finite
 use Rattle.std.specs.Borrow.{Bor}
 use Rattle.std.specs.BTreeMap.{BTreeMap}
-use Rattle.hwdb_text.specs.Choice.{Choice, choice, names}
-use Rattle.hwdb_layout.specs.Map.{Map}
-use Rattle.hwdb_layout.specs.Tight.{IsLonger}
+use Rattle.hwdb_spec.specs.Folders.{Choice, choice, names, Source, name_of, chosen_of, first_of, contents, file_assignments, file_faults, faults_of_files, FewLines, ManyLines, AreAccepted, FaultIn}
+use Rattle.hwdb_spec.specs.Tree.{Map, surviving, map_of_files}
+use Rattle.hwdb_spec.specs.Written.{IsLonger}
 use Rattle.hwdb_writer.specs.declared.writing.StoreError.{StoreError}
 use Rattle.hwdb_writer.specs.declared.writing.StoreError.TheVariants as store
 use Rattle.hwdb_query.specs.declared.errors.CompileError.{CompileError}
 use Rattle.hwdb_query.specs.declared.errors.CompileError.TheVariants.{TooManyFiles, TooManyLines, TooLarge, Memory}
-use Rattle.hwdb_query.specs.Compiling.{Source, name_of, chosen_of, first_of, contents, surviving, map_of_files, file_assignments, file_faults, all_faults, FewLines, ManyLines, AreAccepted, IsRefusal, FaultIn}
-use Rattle.hwdb_query.specs.Conversions.{of_store}
-use Rattle.hwdb_query.specs.Reading.{bytes_at, read_from, IsFileRefusal, IsFilesRefusal}
+use Rattle.hwdb_query.specs.Views.{IsRefusal}
+use Rattle.hwdb_query.specs.Internal.Conversions.{of_store}
+use Rattle.hwdb_query.specs.Internal.Reading.{bytes_at, read_from, IsFileRefusal, IsFilesRefusal}
 use Rattle.hwdb_query.proofs.Gathered.{empty_index}
 
 abbrev Index : Type 0
@@ -51,7 +50,7 @@ same_map etc usr read given before after r g empty filled =
     filled (empty ∙ none_surviving) ∙ ap surviving (λ i. flat_map (file_assignments (sym r i)) (g i))
 
 pub same_faults : (etc usr : List Source) (read : Choice → List ℕ) (given : List Choice) (before after : List FaultIn) → contents etc usr ≡ read → given ≡ chosen_of etc usr → before ≡ []
-    → after ≡ before ++ flat_map (file_faults read) given → after ≡ all_faults etc usr
+    → after ≡ before ++ flat_map (file_faults read) given → after ≡ faults_of_files etc usr
 same_faults etc usr read given before after r g empty added =
     added ∙ ap (λ l. l ++ flat_map (file_faults read) given) empty ∙ (λ i. flat_map (file_faults (sym r i)) (g i))
 

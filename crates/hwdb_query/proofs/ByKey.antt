@@ -14,11 +14,11 @@ use Rattle.std.proofs.lemmas.List.{reverse-append, append-nil}
 use Rattle.std.proofs.lemmas.Map.{lookup-none}
 use Rattle.std.proofs.lemmas.Map.Keys.{IsDistinct-from_sorted}
 use Rattle.std.proofs.lemmas.Map.Entries.{lookup_head, lookup_tail, none_past_head, none_below_head}
-use Rattle.hwdb_query.specs.Lists.{put, in_order, Ascends}
-use Rattle.hwdb_query.specs.Answers.{Found, spot_cmp, found_cmp, is_after}
-use Rattle.hwdb_query.specs.Effective.{key_cmp, key_of_answer, has_key, last_value, effective_of}
-use Rattle.hwdb_query.specs.Pairs.{pair_bytes, pairs_bytes, put_values}
-use Rattle.hwdb_query.specs.Collected.{Told, told, told_last, told_at, spot_at, last_with, Shows}
+use Rattle.hwdb_spec.specs.Assignment.{put, in_order, Ascends, Found, spot_cmp, found_cmp}
+use Rattle.hwdb_spec.specs.Answers.{is_after, key_cmp, key_of_answer, has_key, last_value, effective_of}
+use Rattle.hwdb_query.specs.Views.{pair_bytes, pairs_bytes}
+use Rattle.hwdb_query.specs.Internal.Pairs.{put_values}
+use Rattle.hwdb_query.specs.Internal.Collected.{Told, told, told_last, told_at, spot_at, last_with, Shows}
 use Rattle.hwdb_query.specs.declared.last_hits.Last.{Last}
 use Rattle.hwdb_query.proofs.Putting.{ascends_all, all_above, above_of}
 use Rattle.hwdb_query.proofs.Orders.{found_total}

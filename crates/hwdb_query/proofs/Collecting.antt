@@ -3,13 +3,15 @@ use Rattle.std.proofs.Common.{◌≡◌, ◌∙◌, ap, sym, refl, subst, ℕ, z
 use Rattle.std.specs.List.{AllByRecursion}
 use Rattle.std.specs.declared.cmp.Ordering.TheVariants.{Less}
 use Rattle.std.proofs.lemmas.List.Elements.{filter-append}
-use Rattle.hwdb_layout.specs.Tree.{Value}
-use Rattle.hwdb_layout.specs.Map.{Shown, shown}
+use Rattle.hwdb_spec.specs.Tree.{Value, Shown, shown, one_found, found_shown}
 use Rattle.std.specs.Ordering.{is_lt, ordering_reverse}
-use Rattle.hwdb_query.specs.Answers.{Spot, Found, spot_cmp, found_cmp, one_found, found_shown, is_after, is_behind, is_wanted, wanted, own_members}
-use Rattle.hwdb_query.specs.Lists.{put, put_all, in_order, keep_all, Ascends}
-use Rattle.hwdb_query.specs.Hits.{after_spot, Page as HeldHits}
-use Rattle.hwdb_query.specs.Collected.{PageCollects, LastCollects, Collects, Shows, IsPage, IsLast, IsOfPage, IsOfLast}
+use Rattle.hwdb_spec.specs.Assignment.{Spot, Found, spot_cmp, found_cmp, put, put_all, in_order, Ascends}
+use Rattle.hwdb_spec.specs.Answers.{is_after, is_behind, is_wanted}
+use Rattle.hwdb_query.specs.Internal.Members.{wanted, own_members}
+use Rattle.hwdb_query.specs.Internal.Lists.{keep_all}
+use Rattle.hwdb_query.specs.Internal.Hits.{after_spot}
+use Rattle.hwdb_query.specs.Views.{Page as HeldHits}
+use Rattle.hwdb_query.specs.Internal.Collected.{PageCollects, LastCollects, Collects, Shows, IsPage, IsLast, IsOfPage, IsOfLast}
 use Rattle.hwdb_query.specs.declared.next_page.NextPage.{NextPage}
 use Rattle.hwdb_query.specs.declared.last_hits.LastHits.{LastHits}
 use Rattle.hwdb_query.specs.declared.collector.Collector.{Collector}

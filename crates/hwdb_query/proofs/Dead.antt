@@ -1,19 +1,15 @@
 -- Nothing is wanted at or below a dead path, and nothing there is live.
 use Rattle.std.proofs.Common.{◌≡◌, ◌∙◌, ap, sym, refl, ℕ, ◌+◌, Bool, true, false, List, [], ◌∷◌, ◌++◌, map, filter, append_assoc, if◌then◌else◌}
-use Rattle.std.specs.List.{flat_map}
+use Rattle.std.specs.Prelude.{flat_map}
 use Rattle.std.proofs.lemmas.Grind.{flat_map-append}
 use Rattle.std.proofs.lemmas.List.{append-nil}
 use Rattle.std.proofs.lemmas.List.Elements.{filter-append}
-use Rattle.hwdb_pattern.specs.Patterns.{tokens, MatchesIsTested}
-use Rattle.hwdb_pattern.specs.Paths.{IsLive}
-use Rattle.hwdb_layout.specs.Tree.{Tree, Children, prefix_of}
-use Rattle.hwdb_layout.specs.Tree.Tree.{Node}
-use Rattle.hwdb_layout.specs.Tree.Children.{NoMore, Child}
-use Rattle.hwdb_layout.specs.Map.{values_under, values_below}
-use Rattle.hwdb_query.specs.Answers.{found_of, members_under, is_wanted}
-use Rattle.hwdb_pattern.specs.Paths.{is_live, LiveIsTested, DeadStaysDead, DeadMatchesNothing}
-use Rattle.hwdb_query.specs.Answers.{is_match}
-use Rattle.hwdb_query.specs.Live.{live_under, live_below}
+use Rattle.hwdb_spec.specs.Patterns.{tokens}
+use Rattle.hwdb_pattern.specs.Laws.{MatchesIsTested, LiveIsTested, DeadStaysDead, DeadMatchesNothing}
+use Rattle.hwdb_spec.specs.Tree.{IsLive, Tree, Children, prefix_of, values_under, values_below, found_of, members_under, is_live, live_under, live_below}
+use Rattle.hwdb_spec.specs.Tree.Tree.{Node}
+use Rattle.hwdb_spec.specs.Tree.Children.{NoMore, Child}
+use Rattle.hwdb_spec.specs.Answers.{is_wanted, is_match}
 use Rattle.hwdb_query.proofs.Parting.{own_listed, own_unwanted}
 
 -- what is known of all paths that begin with a dead one

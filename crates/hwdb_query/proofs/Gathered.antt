@@ -1,30 +1,28 @@
 -- Files, assignments and faults, gathered one after another.
 use Rattle.std.proofs.Common.{◌≡◌, ◌∙◌, ap, sym, refl, subst, ℕ, zero, suc, ◌≤◌, ◌<◌, ◌==◌, ◌||◌, true, false, List, [], ◌∷◌, ◌++◌, map, length, take, get_or, arith, append_assoc, Option, Some, cond, if◌then◌else◌, All}
-use Rattle.std.specs.Prelude.{Any}
-use Rattle.std.specs.List.{flat_map, slice_index_or}
+use Rattle.std.specs.Prelude.{Any, flat_map}
+use Rattle.std.specs.List.{slice_index_or}
 use Rattle.std.specs.FinMap as finite
-use Rattle.std.specs.Ordering.{is_eq, nat_cmp}
+use Rattle.std.specs.Ordering.{is_eq, nat_cmp, ordering_reverse}
 use Rattle.std.specs.Cmp.Lexicographic.{slice_cmp}
 use Rattle.std.proofs.lemmas.List.{reverse-append, append-nil, take_all}
 use Rattle.std.proofs.lemmas.List.Elements.{All-nil, All-cons, All-head, All-tail, All-append}
-use Rattle.hwdb_text.specs.Lines.{Line, lines, clean, has_equals, has_key, has}
-use Rattle.hwdb_text.specs.Records.{sections}
-use Rattle.hwdb_text.specs.Assignments.{Assigned, Origin, assign, patterns, property_assignments, section_assignments, assignments}
-use Rattle.hwdb_text.specs.Choice.{Choice, same}
-use Rattle.hwdb_text.specs.Storable.{IsStorable, HasNoZero}
-use Rattle.hwdb_writer.specs.Storable as writer
-use Rattle.hwdb_layout.specs.Map.{Map}
+use Rattle.hwdb_spec.specs.Lines.{Line, lines, clean, has_equals, has_key, has}
+use Rattle.hwdb_spec.specs.Records.{sections, Origin, assign, patterns, property_assignments, section_assignments, assignments}
+use Rattle.hwdb_spec.specs.Assignment.{Assignment}
+use Rattle.hwdb_spec.specs.Folders.{Choice, same, IsStorable, HasNoZero, Source, name_of, first_of}
+use Rattle.hwdb_writer.specs.Internal.Storable as writer
+use Rattle.hwdb_spec.specs.Tree.{Map, entry_of, surviving}
 use Rattle.std.specs.Borrow.{Bor}
 use Rattle.std.specs.Option.{option_map_or}
 use Rattle.std.specs.BTreeMap.{BTreeMap, get_by, is_at}
 use Rattle.std.specs.Map.{lookup}
-use Rattle.std.specs.Ordering.{ordering_reverse}
 use Rattle.std.specs.declared.cmp.Ordering.{Ordering}
 use Rattle.std.specs.declared.cmp.Ordering.TheVariants.{Less, Equal, Greater}
 use Rattle.std.proofs.lemmas.Cmp.{nat_list_cmp_total}
 use Rattle.hwdb_query.specs.declared.sources.SourceFile.{SourceFile}
-use Rattle.hwdb_query.specs.Compiling.{Source, source_of, sources, name_of, first_of, entry_of, surviving}
-use Rattle.hwdb_query.specs.Reading.{bytes_at, IsPuttable}
+use Rattle.hwdb_query.specs.Views.{source_of, sources}
+use Rattle.hwdb_query.specs.Internal.Reading.{bytes_at, IsPuttable}
 
 -- one more of a list, mapped
 pub mapped_more : {A B : Type 0} (f : A → B) (xs : List A) (i : ℕ) (x : A) → i < length xs → x ≡ get_or xs i x → map f (take (suc i) xs) ≡ map f (take i xs) ++ f x ∷ []
@@ -56,7 +54,7 @@ any_at P f xs i x lt e p = (i, f x, in_range f xs i lt, read f xs i x lt e, p)
     read f (y ∷ xs) (suc i) x lt e = read f xs i x (omega arith) e
 
 -- one more assignment
-pub surviving_one : (xs : List Assigned) (a : Assigned) → surviving (xs ++ a ∷ []) ≡ finite.insert (surviving xs) (a.pattern, a.key) (entry_of a).1
+pub surviving_one : (xs : List Assignment) (a : Assignment) → surviving (xs ++ a ∷ []) ≡ finite.insert (surviving xs) (a.pattern, a.key) (entry_of a).1
 surviving_one xs a = ap (λ l. finite.from_entries (map entry_of l)) (reverse-append xs (a ∷ []))
 
 -- a text without byte 0, in the words of the crate that writes it
@@ -81,7 +79,7 @@ first_behind name [] s others = refl
 first_behind name (t ∷ before) s others = ap (λ b. if same name t.name then t.bytes else b) (first_behind name before s others)
 
 -- the assignments of a file have its path and priority
-abbrev pub From : Origin → Assigned → Type 0
+abbrev pub From : Origin → Assignment → Type 0
 From o a = (a.path ≡ o.path) × (a.priority ≡ o.priority)
 
 from_map : (o : Origin) (l : Line) (ps : List (List ℕ)) → All (From o) (map (assign o l) ps)
@@ -95,7 +93,7 @@ from_property o ps l =
       | false ↦ All-nil (From o)
     ]
 
-from_all : {A : Type 0} (o : Origin) (f : A → List Assigned) → ((x : A) → All (From o) (f x)) → (xs : List A) → All (From o) (flat_map f xs)
+from_all : {A : Type 0} (o : Origin) (f : A → List Assignment) → ((x : A) → All (From o) (f x)) → (xs : List A) → All (From o) (flat_map f xs)
 from_all o f each [] = All-nil (From o)
 from_all o f each (x ∷ xs) = All-append (From o) (f x) (flat_map f xs) (each x) (from_all o f each xs)
 
@@ -103,7 +101,7 @@ pub from_file : (o : Origin) (file : List ℕ) → All (From o) (assignments o f
 from_file o file =
     from_all o (section_assignments o) (λ s. from_all o (property_assignments o (patterns s.matches)) (from_property o (patterns s.matches)) s.properties) (sections (clean (lines file)))
 
-pub puttable : (o : Origin) (file : List ℕ) (given : List Assigned) → given ≡ assignments o file → All IsStorable given → HasNoZero o.path → 0 < o.priority → All IsPuttable given
+pub puttable : (o : Origin) (file : List ℕ) (given : List Assignment) → given ≡ assignments o file → All IsStorable given → HasNoZero o.path → 0 < o.priority → All IsPuttable given
 puttable o file given is storable path priority =
     let origin = subst (All (From o)) (sym is)
     (from_all o (section_assignments o) (λ s. from_all o (property_assignments o (patterns s.matches)) (from_property o (patterns s.matches)) s.properties) (sections (clean (lines file)))) in
@@ -118,7 +116,7 @@ gathered_more f [] x = append-nil (f x)
 gathered_more f (y ∷ xs) x = ap (λ l. f y ++ l) (gathered_more f xs x) ∙ sym (append_assoc (f y) (flat_map f xs) (f x))
 
 -- the assignments of one more file
-pub tree_step : (done : List Assigned) (f : Choice → List Assigned) (choices more : List Choice) (c : Choice) (given : List Assigned) (tree : Map)
+pub tree_step : (done : List Assignment) (f : Choice → List Assignment) (choices more : List Choice) (c : Choice) (given : List Assignment) (tree : Map)
     → tree ≡ surviving ((done ++ flat_map f choices) ++ given) → given ≡ f c → more ≡ choices ++ c ∷ [] → tree ≡ surviving (done ++ flat_map f more)
 tree_step done f choices more c given tree is own next =
     is ∙ ap surviving (append_assoc done (flat_map f choices) given
@@ -132,7 +130,7 @@ list_step old mid new given f choices more c is before own next =
     ∙ ap (λ l. old ++ l) (ap (λ l. flat_map f choices ++ l) own ∙ sym (gathered_more f choices c) ∙ sym (ap (flat_map f) next))
 
 -- one more assignment is put
-pub put_step : (done xs more : List Assigned) (a : Assigned) (before after : Map) → before ≡ surviving (done ++ xs)
+pub put_step : (done xs more : List Assignment) (a : Assignment) (before after : Map) → before ≡ surviving (done ++ xs)
     → after ≡ finite.insert before (a.pattern, a.key) (entry_of a).1 → more ≡ xs ++ a ∷ [] → after ≡ surviving (done ++ more)
 put_step done xs more a before after is put next =
     put ∙ ap (λ m. finite.insert m (a.pattern, a.key) (entry_of a).1) is ∙ sym (surviving_one (done ++ xs) a)

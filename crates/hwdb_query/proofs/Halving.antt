@@ -10,9 +10,9 @@ use Rattle.std.specs.declared.cmp.Ordering.TheVariants.{Less, Equal, Greater}
 use Rattle.std.proofs.lemmas.Cmp.{alike_right}
 use Rattle.std.proofs.lemmas.List.Sorted.{searchable_from_sorted}
 use Rattle.hwdb_reader.specs.declared.view.Origin.{Origin}
-use Rattle.hwdb_query.specs.Answers.{Spot, Found, spot_cmp, found_cmp}
-use Rattle.hwdb_query.specs.Lists.{put, Ascends}
-use Rattle.hwdb_query.specs.Hits.{Page, found_of_hit, founds, IsLastOfFull, IsSpotOf}
+use Rattle.hwdb_spec.specs.Assignment.{Spot, Found, spot_cmp, found_cmp, put, Ascends}
+use Rattle.hwdb_query.specs.Views.{Page, found_of_hit, founds}
+use Rattle.hwdb_query.specs.Internal.Hits.{IsLastOfFull, IsSpotOf}
 use Rattle.hwdb_query.specs.declared.hit.Hit.{Hit}
 use Rattle.hwdb_query.proofs.Putting.{put_less, put_same, put_more}
 use Rattle.hwdb_query.proofs.Orders.{spot_total, found_total}

@@ -10,11 +10,10 @@ use Rattle.std.specs.Cmp.{IsTotalOrder}
 use Rattle.std.specs.BTreeMap.{insert_entry}
 use Rattle.std.specs.FinMap as finite
 use Rattle.std.proofs.lemmas.Cmp.{nat_list_cmp_total, tied_itself}
-use Rattle.hwdb_query.specs.Lists.{put, put_all, Ascends}
-use Rattle.hwdb_layout.specs.Tree.{Tree}
-use Rattle.hwdb_query.specs.Answers.{Found, is_after, is_behind, answers, answers_after}
-use Rattle.hwdb_query.specs.Effective.{key_cmp, key_of_answer, has_key, value_or_none, last_value, effective_of}
-use Rattle.hwdb_query.specs.Pairs.{put_values}
+use Rattle.hwdb_spec.specs.Assignment.{put, put_all, Ascends, Found}
+use Rattle.hwdb_spec.specs.Tree.{Tree, answers, answers_after}
+use Rattle.hwdb_spec.specs.Answers.{is_after, is_behind, key_cmp, key_of_answer, has_key, value_or_none, last_value, effective_of}
+use Rattle.hwdb_query.specs.Internal.Pairs.{put_values}
 use Rattle.hwdb_query.proofs.Putting.{ascends_all, all_above}
 
 key_total : IsTotalOrder key_cmp

@@ -9,15 +9,12 @@ use Rattle.std.specs.declared.cmp.Ordering.{Ordering}
 use Rattle.std.specs.declared.cmp.Ordering.TheVariants.{Less, Equal, Greater}
 use Rattle.std.proofs.lemmas.Cmp.{tied_itself}
 use Rattle.std.proofs.lemmas.List.{reverse-append}
-use Rattle.hwdb_text.specs.Assignments.{Assigned}
-use Rattle.hwdb_pattern.specs.Patterns.{tokens, MatchesIsTested}
-use Rattle.hwdb_layout.specs.Tree.{Tree}
-use Rattle.hwdb_layout.specs.Map.{IsTree, place_cmp, map_of, Assigned as Stored}
-use Rattle.hwdb_query.specs.Lists.{in_order, Ascends}
-use Rattle.hwdb_query.specs.Answers.{Spot, Found, spot_cmp, found_cmp, is_wanted, is_behind, answers, answers_after}
-use Rattle.hwdb_query.specs.Assigned.{Among, assigned_of}
-use Rattle.hwdb_query.specs.Compiling.{entry_of, surviving}
-use Rattle.hwdb_query.specs.Headline.{is_same_place, last_of_each, answer_of, last_matching, last_assignments}
+use Rattle.hwdb_spec.specs.Assignment.{Assignment, in_order, Ascends, Spot, Found, spot_cmp, found_cmp}
+use Rattle.hwdb_spec.specs.Patterns.{tokens}
+use Rattle.hwdb_pattern.specs.Laws.{MatchesIsTested}
+use Rattle.hwdb_spec.specs.Tree.{Tree, IsTree, place_cmp, map_of, Assigned as Stored, answers, answers_after, entry_of, surviving}
+use Rattle.hwdb_spec.specs.Answers.{is_wanted, is_behind, is_same_place, last_of_each, answer_of, last_matching, last_assignments}
+use Rattle.hwdb_query.specs.Laws.{Among, assigned_of}
 use Rattle.hwdb_query.proofs.Putting.{ascends_all}
 use Rattle.hwdb_query.proofs.Latest.{same_place}
 use Rattle.hwdb_query.proofs.Orders.{found_total}
@@ -29,11 +26,11 @@ first_some None other = other
 first_some (Some s) other = Some s
 
 -- what an assignment puts at a place
-abbrev put_there : List ℕ × List ℕ → Assigned → Option Stored
+abbrev put_there : List ℕ × List ℕ → Assignment → Option Stored
 put_there p a = cond (eq_by_cmp place_cmp p (entry_of a).0) (Some (entry_of a).1) None
 
 -- what the last of some assignments at a place puts there
-last_at : List ℕ × List ℕ → List Assigned → Option Stored
+last_at : List ℕ × List ℕ → List Assignment → Option Stored
 last_at p [] = None
 last_at p (a ∷ more) = first_some (last_at p more) (put_there p a)
 
@@ -43,7 +40,7 @@ place_of f = (f.spot.pattern, f.spot.key)
 abbrev Entry : Type 0
 Entry = (List ℕ × List ℕ) × Stored
 
-map_push : (xs : List Assigned) (a : Assigned) → map entry_of (xs ++ a ∷ []) ≡ map entry_of xs ++ entry_of a ∷ []
+map_push : (xs : List Assignment) (a : Assignment) → map entry_of (xs ++ a ∷ []) ≡ map entry_of xs ++ entry_of a ∷ []
 map_push [] a = refl
 map_push (x ∷ xs) a = ap (λ l. entry_of x ∷ l) (map_push xs a)
 
@@ -58,7 +55,7 @@ find_push p (x ∷ es) e =
       | false ↦ again
     ]
 
-found_last : (p : List ℕ × List ℕ) (all : List Assigned) → finite.find place_cmp p (map entry_of (reverse all)) ≡ last_at p all
+found_last : (p : List ℕ × List ℕ) (all : List Assignment) → finite.find place_cmp p (map entry_of (reverse all)) ≡ last_at p all
 unfolding last_at
 found_last p [] = refl
 found_last p (a ∷ more) =
@@ -68,7 +65,7 @@ found_last p (a ∷ more) =
     ∙ ap (λ o. first_some o (put_there p a)) (found_last p more)
 
 -- the map has at each place what the last assignment puts there
-survives : (p : List ℕ × List ℕ) (all : List Assigned) → finite.get (surviving all) p ≡ last_at p all
+survives : (p : List ℕ × List ℕ) (all : List Assignment) → finite.get (surviving all) p ≡ last_at p all
 survives p all = finite.get-from_entries place_total (map entry_of (reverse all)) p ∙ found_last p all
 
 both_equal : (o q : Ordering) → (if is_eq o then is_eq q else false) ≡ is_eq (ordering_then o q)
@@ -84,7 +81,7 @@ one_there (Some t) s true = refl
 one_there (Some t) s false = refl
 
 -- an assignment is followed where the last one at its place is another
-is_followed : (a : Assigned) (more : List Assigned) → list_any (is_same_place a) more ≡ is_some (last_at (entry_of a).0 more)
+is_followed : (a : Assignment) (more : List Assignment) → list_any (is_same_place a) more ≡ is_some (last_at (entry_of a).0 more)
 unfolding last_at
 is_followed a [] = refl
 is_followed a (b ∷ more) =
@@ -96,7 +93,7 @@ no_some : (o : Option Stored) → is_some o ≡ false → o ≡ None
 no_some None h = refl
 no_some (Some s) h = cc
 
-last_sound : (f : Found) (all : List Assigned) → Among f (map answer_of (last_of_each all)) → last_at (place_of f) all ≡ Some (assigned_of f)
+last_sound : (f : Found) (all : List Assignment) → Among f (map answer_of (last_of_each all)) → last_at (place_of f) all ≡ Some (assigned_of f)
 unfolding Among last_of_each last_at
 last_sound f [] m = absurd m
 last_sound f (a ∷ more) m =
@@ -114,11 +111,11 @@ last_sound f (a ∷ more) m =
       ]
     ] refl m
 
-answer_is : (a : Assigned) (f : Found) → (entry_of a).0 ≡ place_of f → (entry_of a).1 ≡ assigned_of f → answer_of a ≡ f
+answer_is : (a : Assignment) (f : Found) → (entry_of a).0 ≡ place_of f → (entry_of a).1 ≡ assigned_of f → answer_of a ≡ f
 answer_is a f p v = λ i. record { spot = record { priority = (v i).priority; line = (v i).line; pattern = (p i).0; key = (p i).1 }; value = (v i).value; path = (v i).path }
 
 -- the assignment is kept, where it's the last at its place
-kept_last : (f : Found) (a : Assigned) (more : List Assigned) → last_at (place_of f) more ≡ None → put_there (place_of f) a ≡ Some (assigned_of f)
+kept_last : (f : Found) (a : Assignment) (more : List Assignment) → last_at (place_of f) more ≡ None → put_there (place_of f) a ≡ Some (assigned_of f)
     → Among f (map answer_of (last_of_each (a ∷ more)))
 unfolding Among last_of_each
 kept_last f a more none put =
@@ -132,12 +129,12 @@ kept_last f a more none put =
       | false ↦ λ e k. cc
     ] refl put
 
-kept_behind : (f : Found) (a : Assigned) (more : List Assigned) → Among f (map answer_of (last_of_each more)) → Among f (map answer_of (last_of_each (a ∷ more)))
+kept_behind : (f : Found) (a : Assignment) (more : List Assignment) → Among f (map answer_of (last_of_each more)) → Among f (map answer_of (last_of_each (a ∷ more)))
 unfolding Among last_of_each
 kept_behind f a more m =
     elim (list_any (is_same_place a) more) as (λ b. Among f (map answer_of (if b then last_of_each more else a ∷ last_of_each more))) [ true ↦ m | false ↦ inr m ]
 
-last_complete : (f : Found) (all : List Assigned) → last_at (place_of f) all ≡ Some (assigned_of f) → Among f (map answer_of (last_of_each all))
+last_complete : (f : Found) (all : List Assignment) → last_at (place_of f) all ≡ Some (assigned_of f) → Among f (map answer_of (last_of_each all))
 unfolding last_at
 last_complete f [] h = cc
 last_complete f (a ∷ more) h =
@@ -148,7 +145,7 @@ last_complete f (a ∷ more) h =
     ] refl h
 
 -- two answers at one position have one value
-same_answer : (x y : Found) (all : List Assigned) → last_at (place_of x) all ≡ Some (assigned_of x) → last_at (place_of y) all ≡ Some (assigned_of y) → found_cmp x y ≡ Equal → x ≡ y
+same_answer : (x y : Found) (all : List Assignment) → last_at (place_of x) all ≡ Some (assigned_of x) → last_at (place_of y) all ≡ Some (assigned_of y) → found_cmp x y ≡ Equal → x ≡ y
 unfolding found_cmp spot_cmp
 same_answer x y all hx hy h =
     let a = then_equal (nat_cmp x.spot.priority y.spot.priority) _ h in
@@ -208,7 +205,7 @@ same_ascending (x ∷ xs) (y ∷ ys) up vp there back =
     λ i. is i ∷ rest i
 
 -- the answers in a tree with the map are the last assignments whose pattern matches
-same_answers : MatchesIsTested → (device : List ℕ) (t : Tree) (all : List Assigned) → IsTree t → map_of t ≡ surviving all → answers device t ≡ last_matching device all
+same_answers : MatchesIsTested → (device : List ℕ) (t : Tree) (all : List Assignment) → IsTree t → map_of t ≡ surviving all → answers device t ≡ last_matching device all
 unfolding last_matching
 same_answers tested device t all tree is =
     let A = are_answers tested device t tree in
@@ -228,7 +225,7 @@ same_answers tested device t all tree is =
       | inr n ↦ absurd (in_none f n)
     ])
 
-pub last_are_answers : MatchesIsTested → (device : List ℕ) (after : Option Spot) (t : Tree) (all : List Assigned) → IsTree t → map_of t ≡ surviving all
+pub last_are_answers : MatchesIsTested → (device : List ℕ) (after : Option Spot) (t : Tree) (all : List Assignment) → IsTree t → map_of t ≡ surviving all
     → answers_after device after t ≡ last_assignments device after all
 unfolding answers_after last_assignments
 last_are_answers tested device after t all tree is = ap (filter (is_behind after)) (same_answers tested device t all tree is)

@@ -1,20 +1,19 @@
 -- The answers are the members of the map that match.
 use Rattle.std.proofs.Common.{◌≡◌, ◌∙◌, ap, sym, refl, subst, ℕ, Bool, true, false, List, [], ◌∷◌, ◌++◌, filter, Some, None, if◌then◌else◌, cond, ◌==◌, ◌⊎◌, inl, inr, eqb-true}
 use Rattle.std.specs.FinMap as finite
-use Rattle.std.specs.List.{flat_map}
+use Rattle.std.specs.Prelude.{flat_map}
 use Rattle.std.specs.Cmp.{IsTotalOrder}
 use Rattle.std.specs.Cmp.Lexicographic.{slice_cmp}
 use Rattle.std.specs.Ordering.{nat_cmp, is_eq, match_ordering, ordering_then}
 use Rattle.std.specs.declared.cmp.Ordering.{Ordering}
 use Rattle.std.specs.declared.cmp.Ordering.TheVariants.{Less, Equal, Greater}
 use Rattle.std.proofs.lemmas.Cmp.{nat_list_cmp_total, tied_itself, on_total, then_total}
-use Rattle.hwdb_layout.specs.Tree.{Tree, Value}
-use Rattle.hwdb_layout.specs.Map.{values_under, IsTree, Assigned, place_cmp, map_of, assigned_at}
-use Rattle.hwdb_layout.specs.Map.{shown, key_of}
-use Rattle.hwdb_pattern.specs.Patterns.{tokens, MatchesIsTested}
-use Rattle.hwdb_query.specs.Lists.{put, put_all, Ascends}
-use Rattle.hwdb_query.specs.Answers.{Found, spot_cmp, found_cmp, one_found, found_shown, found_of, members_under, is_wanted, answers}
-use Rattle.hwdb_query.specs.Assigned.{Among, assigned_of, AreAnswers}
+use Rattle.hwdb_spec.specs.Tree.{Tree, Value, values_under, IsTree, Assigned, place_cmp, map_of, assigned_at, shown, key_of, one_found, found_shown, found_of, members_under, answers}
+use Rattle.hwdb_spec.specs.Patterns.{tokens}
+use Rattle.hwdb_pattern.specs.Laws.{MatchesIsTested}
+use Rattle.hwdb_spec.specs.Assignment.{put, put_all, Ascends, Found, spot_cmp, found_cmp}
+use Rattle.hwdb_spec.specs.Answers.{is_wanted}
+use Rattle.hwdb_query.specs.Laws.{Among, assigned_of, AreAnswers}
 use Rattle.hwdb_query.proofs.Putting.{ascends_all}
 use Rattle.hwdb_query.proofs.Orders.{found_total}
 use Rattle.hwdb_query.proofs.Distinct.{Apart, Distinct, under_distinct}

@@ -5,9 +5,11 @@ use Rattle.std.specs.declared.cmp.Ordering.TheVariants.{Less, Equal, Greater}
 use Rattle.std.specs.Ordering.{is_lt}
 use Rattle.std.specs.Cmp.{IsTotalOrder}
 use Rattle.std.proofs.lemmas.Cmp.{on_total, then_total, nat_cmp_total, nat_list_cmp_total, alike_right}
-use Rattle.hwdb_layout.specs.Tree.{Tree}
-use Rattle.hwdb_query.specs.Answers.{Spot, Found, spot_cmp, found_cmp, is_after, is_behind, is_wanted, wanted, answers, answers_after, members_under}
-use Rattle.hwdb_query.specs.Lists.{keep_all}
+use Rattle.hwdb_spec.specs.Tree.{Tree, answers, answers_after, members_under}
+use Rattle.hwdb_spec.specs.Assignment.{Spot, Found, spot_cmp, found_cmp}
+use Rattle.hwdb_spec.specs.Answers.{is_after, is_behind, is_wanted}
+use Rattle.hwdb_query.specs.Internal.Members.{wanted}
+use Rattle.hwdb_query.specs.Internal.Lists.{keep_all}
 use Rattle.hwdb_query.proofs.Putting.{Upward, filter_put_all, keep_least}
 
 pub spot_total : IsTotalOrder spot_cmp

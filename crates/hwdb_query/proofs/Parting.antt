@@ -1,17 +1,14 @@
 -- The assignments and live nodes of a tree, by the parts of its root.
 use Rattle.std.proofs.Common.{◌≡◌, ◌∙◌, ap, refl, ℕ, zero, suc, ◌+◌, ◌≤◌, Bool, true, false, List, [], ◌∷◌, ◌++◌, drop, map, filter, length, arith, Option, Some, None, slice_get, option_map, if◌then◌else◌}
-use Rattle.std.specs.List.{flat_map}
+use Rattle.std.specs.Prelude.{flat_map}
 use Rattle.std.proofs.lemmas.Grind.{flat_map-append}
 use Rattle.std.proofs.lemmas.List.Elements.{filter-append}
-use Rattle.hwdb_layout.specs.Tree.{Tree, Children, Value, prefix_of, values_of, children_of, list_of, node_count, nodes_below}
-use Rattle.hwdb_layout.specs.Tree.Tree.{Node}
-use Rattle.hwdb_layout.specs.Tree.Children.{NoMore, Child}
-use Rattle.hwdb_layout.specs.Map.{values_under, values_below}
-use Rattle.hwdb_layout.specs.Map.{Shown, shown}
-use Rattle.hwdb_query.specs.Answers.{one_found, found_shown, found_of, members_under, members_in, own_members, is_wanted}
-use Rattle.hwdb_pattern.specs.Paths.{is_live}
-use Rattle.hwdb_query.specs.Answers.{is_match}
-use Rattle.hwdb_query.specs.Live.{live_under, live_below, live_in, nodes_in}
+use Rattle.hwdb_spec.specs.Tree.{Tree, Children, Value, prefix_of, values_of, children_of, list_of, node_count, nodes_below, values_under, values_below, Shown, shown, one_found, found_shown, found_of, members_under, is_live, live_under, live_below}
+use Rattle.hwdb_spec.specs.Tree.Tree.{Node}
+use Rattle.hwdb_spec.specs.Tree.Children.{NoMore, Child}
+use Rattle.hwdb_query.specs.Internal.Members.{members_in, own_members}
+use Rattle.hwdb_spec.specs.Answers.{is_wanted, is_match}
+use Rattle.hwdb_query.specs.Internal.Live.{live_in, nodes_in}
 use Rattle.hwdb_query.proofs.Putting.{filter_in, filter_out}
 
 pub own_listed : (pattern : List ℕ) (values : List Value) → flat_map found_of (map (λ v. (pattern, v)) values) ≡ own_members pattern values

@@ -5,9 +5,8 @@ use Rattle.std.specs.declared.cmp.Ordering.TheVariants.{Less, Equal, Greater}
 use Rattle.std.proofs.lemmas.List.{take-append-drop, drop_all, take_all}
 use mathlib.Core.List.{reverse_aux}
 use Rattle.hwdb_query.specs.declared.hit.Hit.{Hit}
-use Rattle.hwdb_query.specs.Answers.{Spot, Found, spot_cmp, found_cmp}
-use Rattle.hwdb_query.specs.Lists.{put}
-use Rattle.hwdb_query.specs.Hits.{found_of_hit, founds}
+use Rattle.hwdb_spec.specs.Assignment.{Spot, Found, spot_cmp, found_cmp, put}
+use Rattle.hwdb_query.specs.Views.{found_of_hit, founds}
 use Rattle.hwdb_query.proofs.Putting.{put_less, put_same, put_more}
 
 pub compared : (x : Found) (a b : Spot) (h : Hit) (o : Ordering) → x.spot ≡ a → b ≡ (found_of_hit h).spot → o ≡ spot_cmp a b → found_cmp x (found_of_hit h) ≡ o

@@ -1,12 +1,12 @@
 -- The plain program, one assignment after another.
 use Rattle.std.proofs.Common.{◌≡◌, ◌∙◌, ap, sym, refl, ℕ, Bool, true, false, List, [], ◌∷◌, ◌++◌, map, filter, Option, if◌then◌else◌, take, drop, not, length, arith}
 use Rattle.std.specs.List.{list_any}
-use Rattle.hwdb_text.specs.Assignments.{Assigned}
-use Rattle.hwdb_query.specs.Lists.{put, put_all}
-use Rattle.hwdb_query.specs.Answers.{Spot, Found, found_cmp, is_match, is_wanted, is_after, is_behind, wanted}
-use Rattle.hwdb_query.specs.Headline.{is_same_place, last_of_each, answer_of, last_matching, last_assignments}
-use Rattle.hwdb_query.specs.Hits.{PlaceOf, placed, found_of_hit, founds}
-use Rattle.hwdb_query.specs.Plain.{last_one}
+use Rattle.hwdb_spec.specs.Assignment.{Assignment, put, put_all, Spot, Found, found_cmp}
+use Rattle.hwdb_spec.specs.Answers.{is_match, is_wanted, is_after, is_behind, is_same_place, last_of_each, answer_of, last_matching, last_assignments}
+use Rattle.hwdb_query.specs.Internal.Members.{wanted}
+use Rattle.hwdb_query.specs.Internal.Hits.{PlaceOf, placed}
+use Rattle.hwdb_query.specs.Views.{found_of_hit, founds}
+use Rattle.hwdb_query.specs.Internal.Plain.{last_one}
 use Rattle.hwdb_query.specs.declared.held.Place.{Place}
 use Rattle.hwdb_query.specs.declared.hit.Hit.{Hit}
 use Rattle.hwdb_query.proofs.Putting.{filter_in, filter_out, filter_put_all}
@@ -14,11 +14,11 @@ use Rattle.hwdb_query.proofs.Orders.{behind_upward}
 use Rattle.hwdb_query.proofs.Placing.{founds_put}
 
 -- an assignment that is followed, or isn't wanted, is left out
-pub left_followed : (device : List ℕ) (after : Option Spot) (a : Assigned) (more : List Assigned) → list_any (is_same_place a) more ≡ true → last_one device after a more ≡ []
+pub left_followed : (device : List ℕ) (after : Option Spot) (a : Assignment) (more : List Assignment) → list_any (is_same_place a) more ≡ true → last_one device after a more ≡ []
 unfolding wanted
 left_followed device after a more is = ap (λ b. wanted device after (if b then [] else answer_of a ∷ [])) is
 
-pub left_unmatched : (device : List ℕ) (after : Option Spot) (a : Assigned) (more : List Assigned) → is_match device a.pattern ≡ false → last_one device after a more ≡ []
+pub left_unmatched : (device : List ℕ) (after : Option Spot) (a : Assignment) (more : List Assignment) → is_match device a.pattern ≡ false → last_one device after a more ≡ []
 unfolding wanted
 left_unmatched device after a more is =
     elim (list_any (is_same_place a) more) as (λ b. wanted device after (if b then [] else answer_of a ∷ []) ≡ []) [
@@ -26,11 +26,11 @@ left_unmatched device after a more is =
       | false ↦ ap (filter (is_behind after)) (filter_out (is_wanted device) (answer_of a) [] is)
     ]
 
-one_matched : (device : List ℕ) (after : Option Spot) (a : Assigned) → is_match device a.pattern ≡ true → wanted device after (answer_of a ∷ []) ≡ filter (is_behind after) (answer_of a ∷ [])
+one_matched : (device : List ℕ) (after : Option Spot) (a : Assignment) → is_match device a.pattern ≡ true → wanted device after (answer_of a ∷ []) ≡ filter (is_behind after) (answer_of a ∷ [])
 unfolding wanted
 one_matched device after a is = ap (filter (is_behind after)) (filter_in (is_wanted device) (answer_of a) [] is)
 
-pub left_before : (device : List ℕ) (after : Option Spot) (a : Assigned) (more : List Assigned) → is_match device a.pattern ≡ true → is_after after (answer_of a).spot ≡ false → last_one device after a more ≡ []
+pub left_before : (device : List ℕ) (after : Option Spot) (a : Assignment) (more : List Assignment) → is_match device a.pattern ≡ true → is_after after (answer_of a).spot ≡ false → last_one device after a more ≡ []
 unfolding wanted
 left_before device after a more matched is =
     elim (list_any (is_same_place a) more) as (λ b. wanted device after (if b then [] else answer_of a ∷ []) ≡ []) [
@@ -38,7 +38,7 @@ left_before device after a more matched is =
       | false ↦ one_matched device after a matched ∙ filter_out (is_behind after) (answer_of a) [] is
     ]
 
-pub kept_one : (device : List ℕ) (after : Option Spot) (a : Assigned) (more : List Assigned) → list_any (is_same_place a) more ≡ false → is_match device a.pattern ≡ true
+pub kept_one : (device : List ℕ) (after : Option Spot) (a : Assignment) (more : List Assignment) → list_any (is_same_place a) more ≡ false → is_match device a.pattern ≡ true
     → is_after after (answer_of a).spot ≡ true → last_one device after a more ≡ answer_of a ∷ []
 kept_one device after a more last matched is =
     ap (λ b. wanted device after (if b then [] else answer_of a ∷ [])) last ∙ one_matched device after a matched ∙ filter_in (is_behind after) (answer_of a) [] is
@@ -72,10 +72,10 @@ wanted_both device after xs ys = ap (filter (is_behind after)) (filter_both (is_
         ]
 
 -- all that is kept of some assignments
-abbrev pub kept_of : List ℕ → Option Spot → List Assigned → List Found
+abbrev pub kept_of : List ℕ → Option Spot → List Assignment → List Found
 kept_of device after all = wanted device after (map answer_of (last_of_each all))
 
-first_kept : (device : List ℕ) (after : Option Spot) (a : Assigned) (more : List Assigned) → kept_of device after (a ∷ more) ≡ last_one device after a more ++ kept_of device after more
+first_kept : (device : List ℕ) (after : Option Spot) (a : Assignment) (more : List Assignment) → kept_of device after (a ∷ more) ≡ last_one device after a more ++ kept_of device after more
 unfolding last_of_each
 first_kept device after a more =
     elim (list_any (is_same_place a) more) as (λ b. wanted device after (map answer_of (if b then last_of_each more else a ∷ last_of_each more))
@@ -85,17 +85,17 @@ first_kept device after a more =
     ]
 
 -- one assignment more is put
-pub more_put : (device : List ℕ) (after : Option Spot) (all more : List Assigned) (a : Assigned) (before now whole : List Found) → all ≡ a ∷ more
+pub more_put : (device : List ℕ) (after : Option Spot) (all more : List Assignment) (a : Assignment) (before now whole : List Found) → all ≡ a ∷ more
     → now ≡ put_all found_cmp (last_one device after a more) before → put_all found_cmp (kept_of device after all) before ≡ whole → put_all found_cmp (kept_of device after more) now ≡ whole
 more_put device after all more a before now whole cut put is =
     ap (put_all found_cmp (kept_of device after more)) put ∙ sym (put_both (last_one device after a more) (kept_of device after more) before)
     ∙ ap (λ l. put_all found_cmp l before) (sym (first_kept device after a more) ∙ sym (ap (kept_of device after) cut)) ∙ is
 
-pub none_more : (device : List ℕ) (after : Option Spot) (all : List Assigned) (hits whole : List Found) → all ≡ [] → put_all found_cmp (kept_of device after all) hits ≡ whole → hits ≡ whole
+pub none_more : (device : List ℕ) (after : Option Spot) (all : List Assignment) (hits whole : List Found) → all ≡ [] → put_all found_cmp (kept_of device after all) hits ≡ whole → hits ≡ whole
 unfolding last_of_each wanted put_all
 none_more device after all hits whole none is = sym (ap (λ l. put_all found_cmp (kept_of device after l) hits) none) ∙ is
 
-pub all_put : (device : List ℕ) (after : Option Spot) (all : List Assigned) (hits : List Found) → hits ≡ [] → put_all found_cmp (kept_of device after all) hits ≡ last_assignments device after all
+pub all_put : (device : List ℕ) (after : Option Spot) (all : List Assignment) (hits : List Found) → hits ≡ [] → put_all found_cmp (kept_of device after all) hits ≡ last_assignments device after all
 unfolding wanted last_matching last_assignments
 all_put device after all hits none =
     ap (put_all found_cmp (kept_of device after all)) none ∙ sym (filter_put_all found_cmp (is_behind after) (behind_upward after) (filter (is_wanted device) (map answer_of (last_of_each all))) [])

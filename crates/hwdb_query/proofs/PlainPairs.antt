@@ -7,8 +7,8 @@ use Rattle.std.specs.Ordering.{match_ordering}
 use Rattle.std.specs.declared.cmp.Ordering.{Ordering}
 use Rattle.std.specs.declared.cmp.Ordering.TheVariants.{Less, Equal, Greater}
 use Rattle.std.proofs.lemmas.List.{take_all, drop_all}
-use Rattle.hwdb_query.specs.Effective.{key_cmp}
-use Rattle.hwdb_query.specs.Pairs.{pair_bytes, pairs_bytes}
+use Rattle.hwdb_spec.specs.Answers.{key_cmp}
+use Rattle.hwdb_query.specs.Views.{pair_bytes, pairs_bytes}
 
 abbrev Pair : Type 0
 Pair = Bor (List ℕ) × Bor (List ℕ)

@@ -3,11 +3,12 @@ use Rattle.std.proofs.Common.{◌≡◌, ◌∙◌, ap, sym, refl, subst, ℕ, z
 use Rattle.std.proofs.lemmas.List.{take-append-drop, reverse-reverse, reverse-append, length-reverse}
 use Rattle.std.specs.List.{AllByRecursion}
 use Rattle.std.specs.Ordering.{is_lt}
-use Rattle.hwdb_layout.specs.Tree.{Tree}
+use Rattle.hwdb_spec.specs.Tree.{Tree, answers, answers_after, members_under}
 use Rattle.hwdb_query.specs.declared.position.Position.{Position}
-use Rattle.hwdb_query.specs.Answers.{Spot, Found, spot_cmp, found_cmp, is_after, is_behind, is_wanted, answers, answers_after, members_under}
-use Rattle.hwdb_query.specs.Lists.{Ascends}
-use Rattle.hwdb_query.specs.Hits.{IsFirst, position_spot}
+use Rattle.hwdb_spec.specs.Assignment.{Spot, Found, spot_cmp, found_cmp, Ascends}
+use Rattle.hwdb_spec.specs.Answers.{is_after, is_behind, is_wanted}
+use Rattle.hwdb_query.specs.Internal.Hits.{IsFirst}
+use Rattle.hwdb_query.specs.Views.{position_spot}
 use Rattle.hwdb_query.proofs.Putting.{ascends_all, ascends_filter, behind_last, filter_in, filter_out}
 use Rattle.hwdb_query.proofs.Orders.{found_total, behind_upward, less_of}
 

@@ -1,13 +1,14 @@
 -- Steps of a filling.
 use Rattle.std.proofs.Common.{◌≡◌, ◌∙◌, ap, sym, refl, subst, ℕ, zero, suc, ◌-◌, ◌≤◌, Bool, true, false, List, [], ◌∷◌, ◌++◌, take, drop, filter, length, arith, Option, Some, None, IsTrue, ◌↔◌}
 use Rattle.std.proofs.lemmas.List.{take_rest}
-use Rattle.hwdb_pattern.specs.Patterns.{tokens, Matches, MatchesIsTested}
-use Rattle.hwdb_pattern.specs.Paths.{IsLive, StandsFor, Reached}
-use Rattle.hwdb_layout.specs.Map.{Shown}
-use Rattle.hwdb_query.specs.Answers.{Spot, Found, found_cmp, one_found, found_shown, is_after, is_behind, is_wanted, wanted}
-use Rattle.hwdb_pattern.specs.Paths.{is_live, LiveIsTested}
-use Rattle.hwdb_query.specs.Answers.{is_match}
-use Rattle.hwdb_query.specs.Lists.{put, keep_all}
+use Rattle.hwdb_spec.specs.Patterns.{tokens, Matches}
+use Rattle.hwdb_pattern.specs.Laws.{MatchesIsTested, LiveIsTested}
+use Rattle.hwdb_spec.specs.Tree.{IsLive, Shown, one_found, found_shown, is_live}
+use Rattle.hwdb_pattern.specs.Views.{StandsFor, Reached}
+use Rattle.hwdb_spec.specs.Assignment.{Spot, Found, found_cmp, put}
+use Rattle.hwdb_spec.specs.Answers.{is_after, is_behind, is_wanted, is_match}
+use Rattle.hwdb_query.specs.Internal.Members.{wanted}
+use Rattle.hwdb_query.specs.Internal.Lists.{keep_all}
 use Rattle.hwdb_query.proofs.Putting.{filter_in, filter_out}
 
 pub cut_whole : (from : ℕ) (path prefix : List ℕ) → from ≤ length path → take from path ++ drop from (path ++ prefix) ≡ path ++ prefix

@@ -1,9 +1,8 @@
 -- The last assignments at worked rows, computed from the texts of files.
-use Rattle.std.specs.Prelude.{ℕ, ◌≡◌, List, [], ◌∷◌, codes, map, Option, Some, None}
-use Rattle.hwdb_query.specs.Answers.{Spot, Found}
-use Rattle.hwdb_query.specs.Compiling.{Source, all_assignments}
-use Rattle.hwdb_query.specs.Effective.{effective_of}
-use Rattle.hwdb_query.specs.Headline.{last_assignments}
+use Rattle.std.specs.Prelude.{List, ℕ, codes, Option, [], ◌∷◌, None, Some, map, ◌≡◌}
+use Rattle.hwdb_spec.specs.Folders.{Source, all_assignments}
+use Rattle.hwdb_spec.specs.Assignment.{Spot, Found}
+use Rattle.hwdb_spec.specs.Answers.{last_assignments, effective_of}
 
 abbrev pub file : (name bytes : List ℕ) → Source
 file name bytes = record { name = name; bytes = bytes }

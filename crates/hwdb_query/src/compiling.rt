@@ -1,13 +1,14 @@
 //! The compiler: the files of two folders, made into one database.
-ghost use Rattle.std.specs.Prelude.{◌≡◌, ◌≤◌, ◌++◌, ℕ, List, map, length, All, IfOk, IfErr, OnOk};
-ghost use Rattle.std.specs.List.{flat_map};
-ghost use Rattle.hwdb_layout.specs.Tight.{IsDatabaseOf, IsWritten};
-ghost use Rattle.hwdb_text.specs.Assignments.{Assigned, origin, given_in};
-ghost use Rattle.hwdb_text.specs.Choice.{choice_of};
-ghost use Rattle.hwdb_text.specs.Storable.{IsStorableChoice};
-ghost use Rattle.hwdb_query.specs.Compiling.{sources, surviving, map_of_files, file_assignments, file_faults, all_faults, fault_in, fault_of, FewLines, AreAccepted, IsRefusal};
-ghost use Rattle.hwdb_query.specs.Headline.{AnswersAreLast};
-ghost use Rattle.hwdb_query.specs.Reading.{bytes_at, read_from, IsPuttable, IsFileRefusal, IsFilesRefusal};
+ghost use Rattle.std.specs.Prelude.{◌≡◌, ◌≤◌, ◌++◌, ℕ, List, map, length, All, IfOk, IfErr, OnOk, flat_map};
+ghost use Rattle.hwdb_spec.specs.Written.{IsDatabaseOf, IsWritten};
+ghost use Rattle.hwdb_spec.specs.Assignment.{Assignment};
+ghost use Rattle.hwdb_spec.specs.Records.{origin};
+ghost use Rattle.hwdb_text.specs.Views.{given_in, choice_of};
+ghost use Rattle.hwdb_spec.specs.Folders.{IsStorableChoice, file_assignments, file_faults, faults_of_files, fault_in, FewLines, AreAccepted};
+ghost use Rattle.hwdb_query.specs.Views.{sources, fault_of, IsRefusal};
+ghost use Rattle.hwdb_spec.specs.Tree.{surviving, map_of_files};
+ghost use Rattle.hwdb_query.specs.Laws.{AnswersAreLast};
+ghost use Rattle.hwdb_query.specs.Internal.Reading.{bytes_at, read_from, IsPuttable, IsFileRefusal, IsFilesRefusal};
 
 use crate::errors::CompileError;
 use crate::laws::compiled_answers_are_last;
@@ -20,7 +21,7 @@ use std::collections::BTreeMap;
 /// Puts what a file with this path and priority gives into the tree, one after another.
 fn put_all(tree: &mut Tree, path: &[u8], priority: u16, all: &[Given<'_>]) -> Result<(), AllocError>
     requires { All IsPuttable (map (given_in (origin path.now priority)) all.now) }
-    ensures { OnOk result ((done : List Assigned) → tree.old ≡ surviving done
+    ensures { OnOk result ((done : List Assignment) → tree.old ≡ surviving done
         → tree.new ≡ surviving (done ++ map (given_in (origin path.now priority)) all.now)) }
 {
     for given in all {
@@ -57,7 +58,7 @@ fn add_file(
     faults: &mut Vec<FileFault>,
 ) -> Result<(), CompileError>
     requires { IsStorableChoice (choice_of file.now) }
-    ensures tree { OnOk result ((done : List Assigned) → tree.old ≡ surviving done → tree.new ≡ surviving (done ++ file_assignments (λ _. bytes.now) (choice_of file.now))) }
+    ensures tree { OnOk result ((done : List Assignment) → tree.old ≡ surviving done → tree.new ≡ surviving (done ++ file_assignments (λ _. bytes.now) (choice_of file.now))) }
     ensures faults { OnOk result (map fault_of faults.new.items ≡ map fault_of faults.old.items ++ file_faults (λ _. bytes.now) (choice_of file.now)) }
     ensures few { OnOk result (FewLines bytes.now) }
     ensures refused { IfErr result (IsFileRefusal bytes.now) }
@@ -79,7 +80,7 @@ fn add_files(
     faults: &mut Vec<FileFault>,
 ) -> Result<(), CompileError>
     requires { All IsStorableChoice (map choice_of chosen.now) }
-    ensures tree { OnOk result ((done : List Assigned) → tree.old ≡ surviving done → tree.new ≡ surviving (done ++ flat_map (file_assignments (read_from index.now)) (map choice_of chosen.now))) }
+    ensures tree { OnOk result ((done : List Assignment) → tree.old ≡ surviving done → tree.new ≡ surviving (done ++ flat_map (file_assignments (read_from index.now)) (map choice_of chosen.now))) }
     ensures faults { OnOk result (map fault_of faults.new.items ≡ map fault_of faults.old.items ++ flat_map (file_faults (read_from index.now)) (map choice_of chosen.now)) }
     ensures few { OnOk result (All (λ c. FewLines (read_from index.now c)) (map choice_of chosen.now)) }
     ensures refused { IfErr result (IsFilesRefusal (read_from index.now) (map choice_of chosen.now)) }
@@ -121,7 +122,7 @@ pub fn compile(
     ensures checked { IfOk result (λ c. IsDatabaseOf (map_of_files (sources etc.now) (sources usr.now)) c.database.items) }
     ensures headline { IfOk result (λ c. AnswersAreLast (sources etc.now) (sources usr.now) c.database.items) }
     ensures within { IfOk result (λ c. length c.database.items ≤ max_bytes) }
-    ensures faults { IfOk result (λ c. map fault_of c.faults.items ≡ all_faults (sources etc.now) (sources usr.now)) }
+    ensures faults { IfOk result (λ c. map fault_of c.faults.items ≡ faults_of_files (sources etc.now) (sources usr.now)) }
     ensures accepted { OnOk result (AreAccepted (sources etc.now) (sources usr.now)) }
     ensures refused { IfErr result (IsRefusal (sources etc.now) (sources usr.now) max_bytes) }
 {

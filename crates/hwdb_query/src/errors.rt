@@ -57,7 +57,7 @@ impl From<AllocError> for CompileError {
 }
 
 impl From<TextError> for CompileError {
-    ghost use Rattle.hwdb_query.specs.Conversions.{of_text};
+    ghost use Rattle.hwdb_query.specs.Internal.Conversions.{of_text};
 
     ghost from_gives = { λ error e. e ≡ of_text error };
 
@@ -71,7 +71,7 @@ impl From<TextError> for CompileError {
 }
 
 impl From<StoreError> for CompileError {
-    ghost use Rattle.hwdb_query.specs.Conversions.{of_store};
+    ghost use Rattle.hwdb_query.specs.Internal.Conversions.{of_store};
 
     ghost from_gives = { λ error e. e ≡ of_store error };
 

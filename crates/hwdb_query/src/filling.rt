@@ -1,9 +1,8 @@
 //! One filling of a page: one descent of the tree, of which the least hits after a position are kept.
 ghost use Rattle.std.specs.Prelude.{◌≡◌, List, [], take, reverse, IfOk, OnOk, OnErr};
-ghost use Rattle.hwdb_reader.specs.View.{db_tree};
-ghost use Rattle.hwdb_query.specs.Answers.{answers_after};
-ghost use Rattle.hwdb_query.specs.Live.{live_nodes};
-ghost use Rattle.hwdb_query.specs.Hits.{after_spot, IsFirst};
+ghost use Rattle.hwdb_reader.specs.Views.{db_tree};
+ghost use Rattle.hwdb_spec.specs.Tree.{answers_after, live_nodes};
+ghost use Rattle.hwdb_query.specs.Internal.Hits.{after_spot, IsFirst};
 
 use crate::collector::Collector;
 use crate::descent::descend;

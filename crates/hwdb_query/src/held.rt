@@ -1,8 +1,8 @@
 //! The one list of hits of a cursor.
 ghost use Rattle.std.specs.Prelude.{◌≡◌, ◌≢◌, ◌<◌, ◌≤◌, ◌+◌, ◌++◌, ℕ, List, [], ◌∷◌, length, take, drop, reverse, map, IfSome, IfOk, OnOk, OnErr, Option, Some, None, true};
-ghost use Rattle.hwdb_query.specs.Answers.{Spot, Found, spot_cmp, found_cmp};
-ghost use Rattle.hwdb_query.specs.Lists.{put, Ascends};
-ghost use Rattle.hwdb_query.specs.Hits.{parts_spot, found_of_hit, founds, shown_at, Page, PlaceOf, IsLastOfFull, IsOf, Gives, IsFirst};
+ghost use Rattle.hwdb_spec.specs.Assignment.{Spot, Found, spot_cmp, found_cmp, put, Ascends};
+ghost use Rattle.hwdb_query.specs.Internal.Hits.{parts_spot, shown_at, PlaceOf, IsLastOfFull, IsOf, IsFirst};
+ghost use Rattle.hwdb_query.specs.Views.{found_of_hit, founds, Page, Gives};
 
 use crate::hit::{Hit, Parts, is_earlier, order};
 use crate::position::Position;

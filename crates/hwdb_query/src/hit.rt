@@ -1,8 +1,9 @@
 //! Hits, and the order in which they come.
 ghost use Rattle.std.specs.Prelude.{◌≡◌, ℕ, List, length, IfOk, true};
 ghost use Rattle.std.specs.declared.cmp.Ordering.TheVariants.{Less};
-ghost use Rattle.hwdb_query.specs.Answers.{Spot, Found, spot_cmp};
-ghost use Rattle.hwdb_query.specs.Hits.{parts_spot, position_spot, found_of_hit, IsOf, IsSpotOf};
+ghost use Rattle.hwdb_spec.specs.Assignment.{Spot, Found, spot_cmp};
+ghost use Rattle.hwdb_query.specs.Internal.Hits.{parts_spot, IsOf, IsSpotOf};
+ghost use Rattle.hwdb_query.specs.Views.{position_spot, found_of_hit};
 
 use crate::position::Position;
 use hwdb_reader::Origin;
@@ -88,7 +89,7 @@ impl<'a> Hit<'a> {
 }
 
 /// The order of positions: by priority, line, pattern and key.
-#[tactic(auto, unfolding(crate::specs::Answers::spot_cmp))]
+#[tactic(auto, unfolding(hwdb_spec::specs::Assignment::spot_cmp))]
 pub(crate) fn order(a: Parts<'_>, b: Parts<'_>) -> Ordering
     ensures { result ≡ spot_cmp (parts_spot a.entry) (parts_spot b.entry) }
 {

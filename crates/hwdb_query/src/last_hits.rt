@@ -1,11 +1,12 @@
 //! The last hit of each key.
 ghost use Rattle.std.specs.Prelude.{◌≡◌, List, [], IfOk, OnOk};
-ghost use Rattle.hwdb_layout.specs.Tree.{values_of};
-ghost use Rattle.hwdb_reader.specs.View.{entered_tree, entry_shows};
-ghost use Rattle.hwdb_query.specs.Answers.{Found, is_after, found_shown, own_members};
-ghost use Rattle.hwdb_query.specs.Effective.{effective_of};
-ghost use Rattle.hwdb_query.specs.Hits.{parts_spot};
-ghost use Rattle.hwdb_query.specs.Pairs.{pairs_bytes};
+ghost use Rattle.hwdb_spec.specs.Tree.{values_of, found_shown};
+ghost use Rattle.hwdb_reader.specs.Views.{entered_tree, entry_shows};
+ghost use Rattle.hwdb_spec.specs.Assignment.{Found};
+ghost use Rattle.hwdb_spec.specs.Answers.{is_after, effective_of};
+ghost use Rattle.hwdb_query.specs.Internal.Members.{own_members};
+ghost use Rattle.hwdb_query.specs.Internal.Hits.{parts_spot};
+ghost use Rattle.hwdb_query.specs.Views.{pairs_bytes};
 
 use crate::hit::{Parts, order};
 use hwdb_reader::{Entry, Inside};
@@ -24,7 +25,7 @@ pub(crate) struct Last<'a> {
 }
 
 impl<'a> Last<'a> {
-    ghost use Rattle.hwdb_query.specs.Collected.{told_last};
+    ghost use Rattle.hwdb_query.specs.Internal.Collected.{told_last};
 
     /// What the order looks at.
     fn parts<'p>(&'p self, key: &'p [u8]) -> Parts<'p>
@@ -54,7 +55,7 @@ pub(crate) struct LastHits<'a> {
 }
 
 impl<'a> LastHits<'a> {
-    ghost use Rattle.hwdb_query.specs.Collected.{spot_at, Shows, LastCollects};
+    ghost use Rattle.hwdb_query.specs.Internal.Collected.{spot_at, Shows, LastCollects};
 
     /// No hits.
     pub(crate) fn new(alloc: Global) -> LastHits<'a>

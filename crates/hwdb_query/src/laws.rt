@@ -1,17 +1,11 @@
 //! Laws over the definitions alone. Each function does nothing: its contract is the law.
 ghost use Rattle.std.specs.Prelude.{◌≡◌, ℕ, List};
-ghost use Rattle.hwdb_layout.specs.Database.{IsDatabase};
-ghost use Rattle.hwdb_layout.specs.Map.{Map, map_of};
-ghost use Rattle.hwdb_layout.specs.Tight.{IsDatabaseOf};
-ghost use Rattle.hwdb_layout.specs.Tree.{Tree};
-ghost use Rattle.hwdb_reader.specs.View.{db_tree};
-ghost use Rattle.hwdb_query.specs.Answers.{answers};
-ghost use Rattle.hwdb_query.specs.Assigned.{AreAnswers};
-ghost use Rattle.hwdb_query.specs.Fillings.{FillingsOfARun};
-ghost use Rattle.hwdb_query.specs.Headline.{AllCompiledAnswersAreLast, CompiledAnswersAreLast};
+ghost use Rattle.hwdb_spec.specs.Format.{IsDatabase};
+ghost use Rattle.hwdb_spec.specs.Tree.{Map, map_of, Tree, answers};
+ghost use Rattle.hwdb_spec.specs.Written.{IsDatabaseOf};
+ghost use Rattle.hwdb_reader.specs.Views.{db_tree};
+ghost use Rattle.hwdb_query.specs.Laws.{AreAnswers, FillingsOfARun, AllCompiledAnswersAreLast, CompiledAnswersAreLast, EachPlaceSurvives, SurvivorsAreAssigned, SurvivorsAreLatest, SpellsOne, CanonicalSpells};
 ghost use Rattle.hwdb_query.specs.Rows.{EffectiveRow, LastRows};
-ghost use Rattle.hwdb_query.specs.Surviving.{EachPlaceSurvives, SurvivorsAreAssigned, SurvivorsAreLatest};
-ghost use Rattle.hwdb_query.specs.Spelling.{SpellsOne, CanonicalSpells};
 
 use hwdb_layout::{law_ascending, law_one_tree};
 use hwdb_pattern::matches_is_tested;

@@ -2,10 +2,12 @@
 //!
 //! A value that isn't kept takes no memory.
 ghost use Rattle.std.specs.Prelude.{◌≡◌, List, [], ◌∷◌, OnOk, true};
-ghost use Rattle.hwdb_layout.specs.Tree.{values_of};
-ghost use Rattle.hwdb_reader.specs.View.{entered_tree, entry_shows};
-ghost use Rattle.hwdb_query.specs.Answers.{Found, found_shown, is_after, own_members};
-ghost use Rattle.hwdb_query.specs.Hits.{parts_spot, after_spot, IsOf};
+ghost use Rattle.hwdb_spec.specs.Tree.{values_of, found_shown};
+ghost use Rattle.hwdb_reader.specs.Views.{entered_tree, entry_shows};
+ghost use Rattle.hwdb_spec.specs.Assignment.{Found};
+ghost use Rattle.hwdb_spec.specs.Answers.{is_after};
+ghost use Rattle.hwdb_query.specs.Internal.Members.{own_members};
+ghost use Rattle.hwdb_query.specs.Internal.Hits.{parts_spot, after_spot, IsOf};
 
 use crate::held::Held;
 use crate::hit::{Parts, is_earlier, order};
@@ -34,7 +36,7 @@ pub(crate) struct NextPage<'a, 'p> {
 }
 
 impl<'a, 'p> NextPage<'a, 'p> {
-    ghost use Rattle.hwdb_query.specs.Collected.{PageCollects};
+    ghost use Rattle.hwdb_query.specs.Internal.Collected.{PageCollects};
 
     /// Offers what one value assigns at a pattern.
     fn offer(&mut self, alloc: Global, pattern: &[u8], entry: Entry<'a>) -> Result<(), AllocError>

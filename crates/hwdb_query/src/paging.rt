@@ -1,10 +1,8 @@
 //! A cursor over the answers of a database for a device.
 ghost use Rattle.std.specs.Prelude.{◌≡◌, ◌<◌, ◌≤◌, ◌+◌, ◌⊎◌, ◌↔◌, ℕ, List, [], ◌∷◌, length, reverse, min, IfOk, IfSome, IsSome, IsOk, OnOk, OnErr, OnSome, IfErr, Option, Some, None, true, false, option_map, option_copied};
-ghost use Rattle.hwdb_reader.specs.View.{db_tree};
-ghost use Rattle.hwdb_query.specs.Answers.{answers_after};
-ghost use Rattle.hwdb_query.specs.Live.{live_nodes};
-ghost use Rattle.hwdb_query.specs.Fillings.{after_next};
-ghost use Rattle.hwdb_query.specs.Hits.{found_of_hit, position_spot, next_spot, given_spot, still_to_come, Progress, Gives};
+ghost use Rattle.hwdb_reader.specs.Views.{db_tree};
+ghost use Rattle.hwdb_spec.specs.Tree.{answers_after, live_nodes};
+ghost use Rattle.hwdb_query.specs.Views.{after_next, found_of_hit, position_spot, next_spot, given_spot, still_to_come, Progress, Gives};
 
 use crate::filling::{Filled, fill};
 use crate::held::Held;

@@ -1,8 +1,9 @@
 //! Positions: the places of assignments in the order of the answers.
 ghost use Rattle.std.specs.Prelude.{◌≡◌, ◌≢◌, ◌<◌, ℕ, List, ◌∷◌, ◌++◌, length, slice_index, IfOk, IfErr, IfSome, MatchOption, string_bytes};
-ghost use Rattle.hwdb_query.specs.Answers.{Spot};
-ghost use Rattle.hwdb_query.specs.Hits.{parts_spot, position_spot};
-ghost use Rattle.hwdb_query.specs.Spelling.{IsSpelling, canonical};
+ghost use Rattle.hwdb_spec.specs.Assignment.{Spot};
+ghost use Rattle.hwdb_query.specs.Internal.Hits.{parts_spot};
+ghost use Rattle.hwdb_query.specs.Views.{position_spot};
+ghost use Rattle.hwdb_spec.specs.Texts.{IsSpelling, canonical};
 ghost use Rattle.hwdb_query.specs.declared.errors.QueryError.TheVariants.{PageZero, BadPosition};
 
 use crate::errors::QueryError;

@@ -1,8 +1,9 @@
 //! The files that are compiled, and the index of their names.
 ghost use Rattle.std.specs.Prelude.{◌≡◌, ℕ, List, map, IfOk, OnOk};
 ghost use Rattle.std.specs.String.{string_bytes};
-ghost use Rattle.hwdb_query.specs.Compiling.{sources, name_of, first_of};
-ghost use Rattle.hwdb_query.specs.Reading.{bytes_at};
+ghost use Rattle.hwdb_query.specs.Views.{sources};
+ghost use Rattle.hwdb_spec.specs.Folders.{name_of, first_of};
+ghost use Rattle.hwdb_query.specs.Internal.Reading.{bytes_at};
 
 use hwdb_text::Fault;
 use std::alloc::{AllocError, Global};

@@ -1,11 +1,10 @@
 //! The start of a cursor.
 ghost use Rattle.std.specs.Prelude.{◌≡◌, ◌≢◌, ◌<◌, List, IfOk, IfErr, false};
-ghost use Rattle.hwdb_reader.specs.View.{db_tree};
-ghost use Rattle.hwdb_query.specs.Answers.{answers_after};
-ghost use Rattle.hwdb_query.specs.Compiling.{Source, all_assignments};
-ghost use Rattle.hwdb_query.specs.Headline.{last_assignments, IsTreeOfFiles};
-ghost use Rattle.hwdb_query.specs.Live.{live_nodes};
-ghost use Rattle.hwdb_query.specs.Hits.{given_spot, Progress};
+ghost use Rattle.hwdb_reader.specs.Views.{db_tree};
+ghost use Rattle.hwdb_spec.specs.Tree.{answers_after, IsTreeOfFiles, live_nodes};
+ghost use Rattle.hwdb_spec.specs.Folders.{Source, all_assignments};
+ghost use Rattle.hwdb_spec.specs.Answers.{last_assignments};
+ghost use Rattle.hwdb_query.specs.Views.{given_spot, Progress};
 ghost use Rattle.hwdb_query.specs.declared.errors.QueryError.TheVariants.{PageZero, BadPosition};
 
 use crate::errors::QueryError;

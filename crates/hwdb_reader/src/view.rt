@@ -1,6 +1,6 @@
 //! The view of a database that was accepted. That its bytes are a database stands in the types'
 //! invariants: no read tests an offset again or copies a text, and each slice is a part of the bytes.
-ghost use Rattle.hwdb_reader.specs.Placed.{Placed};
+ghost use Rattle.hwdb_reader.specs.Internal.Placed.{Placed};
 
 use crate::fields::{text, u64_at};
 use crate::frame::Frame;
@@ -97,9 +97,8 @@ pub struct Origin {
 
 impl<'a> Db<'a> {
     ghost use Rattle.std.specs.Prelude.{◌≡◌, ◌<◌, ◌^◌};
-    ghost use Rattle.hwdb_layout.specs.Tree.{node_count};
-    ghost use Rattle.hwdb_layout.specs.Map.{IsTree};
-    ghost use Rattle.hwdb_reader.specs.View.{tree_of, db_tree};
+    ghost use Rattle.hwdb_spec.specs.Tree.{node_count, IsTree};
+    ghost use Rattle.hwdb_reader.specs.Views.{tree_of, db_tree};
 
     /// The root.
     pub fn root(&self) -> Node<'a>
@@ -113,8 +112,8 @@ impl<'a> Db<'a> {
 
 impl<'a> Node<'a> {
     ghost use Rattle.std.specs.Prelude.{◌≡◌, ◌<◌, ◌+◌, ◌^◌};
-    ghost use Rattle.hwdb_layout.specs.Tree.{prefix_of};
-    ghost use Rattle.hwdb_reader.specs.View.{tree_of, entered_tree};
+    ghost use Rattle.hwdb_spec.specs.Tree.{prefix_of};
+    ghost use Rattle.hwdb_reader.specs.Views.{tree_of, entered_tree};
 
     /// The bytes of the path between the node's own byte and its children's.
     pub fn prefix(&self) -> &'a [u8]
@@ -136,9 +135,8 @@ impl<'a> Node<'a> {
 
 impl<'a> Inside<'a> {
     ghost use Rattle.std.specs.Prelude.{◌≡◌, ◌<◌, Some, length, slice_get, option_map};
-    ghost use Rattle.hwdb_layout.specs.Tree.{children_of, values_of};
-    ghost use Rattle.hwdb_layout.specs.Map.{shown};
-    ghost use Rattle.hwdb_reader.specs.View.{tree_of, entered_tree, entry_shows};
+    ghost use Rattle.hwdb_spec.specs.Tree.{children_of, values_of, shown};
+    ghost use Rattle.hwdb_reader.specs.Views.{tree_of, entered_tree, entry_shows};
 
     /// How many children the node has.
     pub fn children(&self) -> usize

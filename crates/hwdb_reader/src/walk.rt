@@ -1,7 +1,6 @@
 //! The walk over the nodes section: each node's text is its children's texts, in order, and its record.
 ghost use Rattle.std.specs.Prelude.{◌≡◌, ◌≤◌, ℕ, length, SomeIff, IfOk, OnOk, OnErr, IfErr, None};
-ghost use Rattle.hwdb_layout.specs.Database.{record_end, prefix_field, value_entries, value_count, IsPlace, ValuesText, values_at, NodeText, tree_at};
-ghost use Rattle.hwdb_layout.specs.Faults.{Fits, Reached, NodeFault, Stands};
+ghost use Rattle.hwdb_spec.specs.Format.{record_end, prefix_field, value_entries, value_count, IsPlace, ValuesText, values_at, NodeText, tree_at, Fits, Reached, NodeFault, Stands};
 
 use crate::fields::{is_place, u64_at};
 use crate::frame::Frame;
@@ -9,7 +8,7 @@ use crate::values::check_values;
 use hwdb_layout::DbFault;
 
 /// Where the record at `off` ends, if it lies between `from` and `limit`. No sum wraps.
-#[tactic(auto, unfolding(hwdb_layout::specs::Database::record_end))]
+#[tactic(auto, unfolding(hwdb_spec::specs::Format::record_end))]
 fn record_end_within(b: &[u8], l: Frame, from: usize, off: usize, limit: usize) -> Option<usize>
     requires { limit ≤ length b.now }
     ensures { SomeIff result ((from ≤ off) × (record_end l.sizes b.now off ≤ limit)) (record_end l.sizes b.now off) }
@@ -35,7 +34,7 @@ fn record_end_within(b: &[u8], l: Frame, from: usize, off: usize, limit: usize) 
 }
 
 /// Tests the prefix and the values of a node whose record has room.
-#[tactic(auto, unfolding(hwdb_layout::specs::Database::record_end))]
+#[tactic(auto, unfolding(hwdb_spec::specs::Format::record_end))]
 fn check_fields(b: &[u8], l: Frame, off: usize) -> Result<(), DbFault>
     requires { record_end l.sizes b.now off ≤ length b.now }
     ensures ok { OnOk result (IsPlace l.sizes b.now (prefix_field b.now off)

@@ -5,12 +5,12 @@ use Rattle.std.proofs.Math.Seq.{take-append-add}
 use Rattle.std.proofs.lemmas.List.{take-append-le}
 use Rattle.std.proofs.KnownBytes.{Appends-trans, Appends-nil}
 use Rattle.std.specs.Io.KnownBytes.{Appends}
-use Rattle.hwdb_query.specs.Answers.{Found}
-use Rattle.hwdb_query.specs.Hits.{Gives, found_of_hit}
+use Rattle.hwdb_spec.specs.Assignment.{Found}
+use Rattle.hwdb_query.specs.Views.{Gives, found_of_hit}
 use Rattle.hwdb_query.specs.declared.hit.Hit.{Hit}
 use Rattle.hwdb_tool.specs.Devices.{AppendsPrefix}
 use Rattle.hwdb_tool.specs.Engines.{AppendsLines, one_less}
-use Rattle.hwdb_tool.specs.Texts.{hit_text, hits_text, within_limit}
+use Rattle.hwdb_spec.specs.Texts.{hit_text, hits_text, within_limit}
 
 -- what a limit leaves of a list that isn't empty
 pub next_within : (limit : Option ℕ) (f : Found) (more : List Found) → limit ≢ Some 0

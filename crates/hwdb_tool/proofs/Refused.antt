@@ -1,12 +1,12 @@
 -- Which refusal an error of a crate below becomes.
 use Rattle.std.proofs.Common.{◌≡◌, ◌≢◌, ◌<◌, ℕ, List, Option, None, Some, refl, ap, arith, sym, subst, Result, Ok, Err, IfErr}
 use Rattle.std.specs.Option.{option_copied}
-use Rattle.hwdb_query.specs.Hits.{given_spot, next_spot}
+use Rattle.hwdb_query.specs.Views.{given_spot, next_spot}
 use Rattle.hwdb_query.specs.declared.position.Position.{Position}
 use Rattle.std.specs.Result.{IsErrAnd}
 use Rattle.std.specs.Borrow.{Bor}
-use Rattle.hwdb_query.specs.Answers.{Spot}
-use Rattle.hwdb_query.specs.Spelling.{IsSpelling}
+use Rattle.hwdb_spec.specs.Assignment.{Spot}
+use Rattle.hwdb_spec.specs.Texts.{IsSpelling}
 use Rattle.hwdb_query.specs.declared.errors.QueryError.{QueryError}
 use Rattle.hwdb_query.specs.declared.errors.QueryError.TheVariants as query
 use Rattle.hwdb_tool.specs.declared.errors.ToolError.{ToolError}
@@ -14,8 +14,8 @@ use Rattle.hwdb_tool.specs.Refusals.{refusal_of_query}
 use Rattle.hwdb_tool.specs.Engines.{IsPositionRefusal, IsListRefusal, IsDatabaseRefusal, IsNoDatabase}
 use Rattle.hwdb_tool.specs.Updates.{IsAskRefusal}
 use Rattle.hwdb_tool.specs.declared.errors.ToolError.TheVariants.{Read, Write, TooLong, TooManyFiles, TooManyLines, TooLarge, BadPosition, PageZero, BadDatabase, Memory}
-use Rattle.hwdb_layout.specs.Map.{Map}
-use Rattle.hwdb_layout.specs.Tight.{IsDatabaseOf}
+use Rattle.hwdb_spec.specs.Tree.{Map}
+use Rattle.hwdb_spec.specs.Written.{IsDatabaseOf}
 
 module _ {X : Type 0} where
   pub position_refused : (text : Bor (List ℕ)) (q : QueryError) (r : Result X ToolError) → IsErrAnd r (λ e. e ≡ refusal_of_query q)

@@ -1,30 +1,15 @@
--- What the commands print, as functions of the database's bytes (hwdb(7), systemd-hwdb(8)); `list` is our choice.
-use Rattle.std.specs.Prelude.{◌≡◌, ℕ, ◌-◌, List, take, Option, Some, None, option_map}
-use Rattle.std.specs.Borrow.{Bor}
+-- What the calls that read a database write, and what they refuse (systemd-hwdb(8)); `list` is our choice.
+use Rattle.std.specs.Prelude.{List, ℕ, ◌≡◌, Option, None, Some, take, option_map, ◌-◌}
 use Rattle.std.specs.Io.KnownBytes.{Appends}
-use Rattle.hwdb_layout.specs.Tree.{Tree}
-use Rattle.hwdb_layout.specs.Database.{IsDatabase}
-use Rattle.hwdb_layout.specs.Faults.{FaultStands}
-use Rattle.hwdb_layout.specs.declared.DbFault.{DbFault}
-use Rattle.hwdb_query.specs.Answers.{Spot, Found, answers, answers_after}
-use Rattle.hwdb_query.specs.Effective.{effective_of}
-use Rattle.hwdb_query.specs.Spelling.{IsSpelling}
+use Rattle.std.specs.Borrow.{Bor}
+use Rattle.hwdb_spec.specs.Format.{IsDatabase, FaultStands}
+use Rattle.hwdb_spec.specs.Tree.{Tree, answers_after}
 use Rattle.hwdb_tool.specs.Devices.{AppendsPrefix}
-use Rattle.hwdb_tool.specs.Texts.{properties_text, hits_text, within_limit}
+use Rattle.hwdb_spec.specs.declared.DbFault.{DbFault}
+use Rattle.hwdb_tool.specs.declared.errors.ToolError.TheVariants.{BadDatabase, Memory, Write, BadPosition}
 use Rattle.hwdb_tool.specs.declared.errors.ToolError.{ToolError}
-use Rattle.hwdb_tool.specs.declared.errors.ToolError.TheVariants.{Read, Write, TooLong, TooManyFiles, TooManyLines, TooLarge, BadPosition, PageZero, BadDatabase, Memory}
-
--- how many bytes a text file or a database has at most: 256 MiB
-abbrev pub max_file : ℕ
-max_file = 268435456
-
--- the properties that a database gives a device, as text
-abbrev pub query_text : List ℕ → Tree → List ℕ
-query_text device t = properties_text (effective_of (answers device t))
-
--- the lines of the first hits after a position
-abbrev pub list_text : List ℕ → Option Spot → Option ℕ → Tree → List ℕ
-list_text device after limit t = hits_text (within_limit limit (answers_after device after t))
+use Rattle.hwdb_spec.specs.Texts.{IsSpelling, list_text, hits_text, within_limit}
+use Rattle.hwdb_spec.specs.Assignment.{Spot, Found}
 
 -- the bytes are a database, and the text is what its tree gives
 pub record IsTextOf (of : Tree → List ℕ) (bytes text : List ℕ) : Type 0 where

@@ -1,10 +1,9 @@
 //! What `ask` does with one text file.
 ghost use Rattle.std.specs.Prelude.{◌≡◌, ◌≢◌, ◌⊎◌, ◌∷◌, [], IfOk, IfErr, OnOk, IsErrOf};
 ghost use Rattle.std.specs.Io.KnownBytes.{Appends};
-ghost use Rattle.hwdb_query.specs.Compiling.{sources};
+ghost use Rattle.hwdb_query.specs.Views.{sources};
 ghost use Rattle.hwdb_tool.specs.Devices.{HasFailed, OneOfTwoFailed};
-ghost use Rattle.hwdb_tool.specs.Engines.{max_file};
-ghost use Rattle.hwdb_tool.specs.Headline.{last_values_text};
+ghost use Rattle.hwdb_spec.specs.Texts.{max_file, last_values_text};
 ghost use Rattle.hwdb_tool.specs.Updates.{lone, IsAnswerOf, Asked, AskCutShort, IsAskRefusal};
 
 use crate::devices::Sink;

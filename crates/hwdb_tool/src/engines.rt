@@ -2,11 +2,13 @@
 //! arguments and the bytes.
 ghost use Rattle.std.specs.Prelude.{◌≡◌, ◌≢◌, ◌⊎◌, List, IfOk, IfErr, OnOk, IsErrOf};
 ghost use Rattle.std.specs.Io.KnownBytes.{Appends};
-ghost use Rattle.hwdb_query.specs.Compiling.{Source};
-ghost use Rattle.hwdb_query.specs.Hits.{next_spot};
+ghost use Rattle.hwdb_spec.specs.Folders.{Source};
+ghost use Rattle.hwdb_query.specs.Views.{next_spot};
 ghost use Rattle.hwdb_tool.specs.Devices.{HasFailed, OneFailed};
-ghost use Rattle.hwdb_tool.specs.Engines.{query_text, IsTextOf, Printed, CutShort, IsDatabaseRefusal, IsQueryRefusal, IsAfter, IsPositionRefusal, Listed, ListCutShort, ListedLines, IsListRefusal};
-ghost use Rattle.hwdb_tool.specs.Headline.{IsCompiled, LinesTaken, last_values_text};
+ghost use Rattle.hwdb_spec.specs.Texts.{query_text, last_values_text};
+ghost use Rattle.hwdb_tool.specs.Engines.{IsTextOf, Printed, CutShort, IsDatabaseRefusal, IsQueryRefusal, IsAfter, IsPositionRefusal, Listed, ListCutShort, ListedLines, IsListRefusal};
+ghost use Rattle.hwdb_spec.specs.Written.{IsCompiled};
+ghost use Rattle.hwdb_tool.specs.Headline.{LinesTaken};
 
 use crate::devices::Sink;
 use crate::errors::ToolError;

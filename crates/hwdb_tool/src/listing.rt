@@ -3,7 +3,7 @@ ghost use Rattle.std.specs.Prelude.{◌≡◌, ◌≢◌, ◌≤◌, OnOk, IfErr
 ghost use Rattle.std.specs.Io.KnownBytes.{Appends};
 ghost use Rattle.hwdb_tool.specs.Devices.{HasFailed, OneFailed, AppendsPrefix};
 ghost use Rattle.hwdb_tool.specs.Engines.{AppendsLines, IsPrintRefusal, one_less};
-ghost use Rattle.hwdb_tool.specs.Texts.{hits_text, within_limit};
+ghost use Rattle.hwdb_spec.specs.Texts.{hits_text, within_limit};
 
 use crate::devices::Sink;
 use crate::errors::ToolError;

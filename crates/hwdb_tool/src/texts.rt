@@ -1,9 +1,7 @@
 //! The texts that are printed: properties, lines of hits, fault lines.
 ghost use Rattle.std.specs.Prelude.{◌≡◌, ◌++◌, map, IfOk, OnOk};
-ghost use Rattle.hwdb_query.specs.Compiling.{fault_of};
-ghost use Rattle.hwdb_query.specs.Hits.{found_of_hit};
-ghost use Rattle.hwdb_query.specs.Pairs.{pairs_bytes};
-ghost use Rattle.hwdb_tool.specs.Texts.{property_text, properties_text, hit_text, place_text, fault_line, faults_text, faults_text_at};
+ghost use Rattle.hwdb_query.specs.Views.{fault_of, found_of_hit, pairs_bytes};
+ghost use Rattle.hwdb_spec.specs.Texts.{property_text, properties_text, hit_text, place_text, fault_line, faults_text, faults_text_at};
 
 use hwdb_query::{FileFault, Hit};
 use hwdb_text::Fault;

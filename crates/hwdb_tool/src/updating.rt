@@ -1,8 +1,9 @@
 //! What `update` does with the files of both folders.
 ghost use Rattle.std.specs.Prelude.{◌≡◌, ◌≢◌, ◌⊎◌, map, IfOk, IfErr, OnOk, IsErrOf};
-ghost use Rattle.hwdb_query.specs.Compiling.{sources, fault_of};
+ghost use Rattle.hwdb_query.specs.Views.{sources, fault_of};
 ghost use Rattle.hwdb_tool.specs.Devices.{HasFailed, OneOfTwoFailed};
-ghost use Rattle.hwdb_tool.specs.Updates.{status_of, Updated, UpdateCutShort, IsUpdateRefusal};
+ghost use Rattle.hwdb_spec.specs.Texts.{status_of};
+ghost use Rattle.hwdb_tool.specs.Updates.{Updated, UpdateCutShort, IsUpdateRefusal};
 
 use crate::devices::Sink;
 use crate::errors::ToolError;

@@ -1,13 +1,13 @@
 -- What the matches of a command line ask for.
-use Rattle.std.specs.Prelude.{◌≡◌, ◌⊎◌, ◌||◌, ◌<◌, ◌^◌, ℕ, Bool, List, Option, Some, None, IfSome, is_some, true, false, codes, option_map, string_bytes, Ok}
+use Rattle.std.specs.Prelude.{Bool, List, codes, false, Some, ◌≡◌, None, Option, Ok, ℕ, option_map, string_bytes, ◌||◌, is_some, true, ◌<◌, ◌^◌, IfSome, ◌⊎◌}
 use Rattle.std.specs.Str.{bytes_eq}
-use Rattle.std.specs.Str.Parse.{IsNumeral, ParsesUnsigned, digits_value, without_leading_plus}
-use Rattle.std.specs.declared.num.ParseIntError.{ParseIntError}
 use Rattle.std.specs.Option.{option_map_or}
+use Rattle.std.specs.declared.num.ParseIntError.{ParseIntError}
+use Rattle.std.specs.Str.Parse.{ParsesUnsigned, IsNumeral, digits_value, without_leading_plus}
 use Rattle.clap.specs.Walk.{Row, Text, first_of, one_of}
-use Rattle.hwdb_words.specs.declared.job.Job.{Job}
+use Rattle.hwdb_words.specs.declared.job.Task.TheVariants.{Ask, List as ListHits, Query, Update}
 use Rattle.hwdb_words.specs.declared.job.Task.{Task}
-use Rattle.hwdb_words.specs.declared.job.Task.TheVariants.{Update, Query, Ask, List as ListHits}
+use Rattle.hwdb_words.specs.declared.job.Job.{Job}
 
 -- the flag stands on this side
 abbrev pub has_flag : Text → List Row → Bool
@@ -46,7 +46,6 @@ IsJobOf top None job = ⊥
 IsJobOf top (Some p) job = IsJob top p.0 p.1 job
 
 -- ---- what is found of words that the command takes
-
 -- the argument has a value
 abbrev pub HasValue : Text → List Row → Type 0
 HasValue id rows = is_some (first_of id rows) ≡ true

@@ -1,8 +1,8 @@
 -- The command line of hwdb, as the command that `clap` is given: systemd-hwdb(8), with `ask` and `list` of our own.
-use Rattle.std.specs.Prelude.{Some, true, codes}
+use Rattle.std.specs.Prelude.{Some, codes, true}
 use Rattle.clap.specs.Walk.{Rule}
-use Rattle.clap.specs.Simple.{App, Shape, new_app, new_rule, with_rule, with_subcommand, on_top}
-use Rattle.clap.specs.declared.builder.action.ArgAction.TheVariants.{Set, SetTrue}
+use Rattle.clap.specs.declared.builder.action.ArgAction.TheVariants.{SetTrue, Set}
+use Rattle.clap.specs.Simple.{new_rule, App, with_rule, new_app, Shape, on_top, with_subcommand}
 use Rattle.clap.specs.declared.builder.value_parser.ValueParser.TheVariants as vp
 
 abbrev pub usr_rule : Rule

@@ -1,13 +1,13 @@
 -- What is told of words that ask for nothing, by the kinds of error that `clap` may give at them.
-use Rattle.std.specs.Prelude.{◌≡◌, ◌≢◌, List, [], ⊤}
+use Rattle.std.specs.Prelude.{⊤, ◌≡◌, ◌≢◌, List, []}
+use Rattle.clap.specs.declared.error.kind.ErrorKind.TheVariants.{DisplayHelp, OutOfMemory}
+use Rattle.clap.specs.declared.error.kind.ErrorKind.{ErrorKind}
 use Rattle.clap.specs.Kinds.{IsAmong, Kinds}
 use Rattle.clap.specs.Walk.{Text}
 use Rattle.clap.specs.Faults.{fault_of}
-use Rattle.clap.specs.declared.error.kind.ErrorKind.{ErrorKind}
-use Rattle.clap.specs.declared.error.kind.ErrorKind.TheVariants.{DisplayHelp, OutOfMemory}
-use Rattle.hwdb_words.specs.Line.{hwdb_app}
+use Rattle.hwdb_words.specs.declared.job.WordsFault.TheVariants.{Help, Memory, Usage}
 use Rattle.hwdb_words.specs.declared.job.WordsFault.{WordsFault}
-use Rattle.hwdb_words.specs.declared.job.WordsFault.TheVariants.{Help, Usage, Memory}
+use Rattle.hwdb_words.specs.Line.{hwdb_app}
 
 -- help is told where help was asked for, and usage at any other error of the words
 abbrev pub IsToldOf : ErrorKind → WordsFault → Type 0

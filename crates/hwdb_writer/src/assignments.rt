@@ -18,15 +18,15 @@ pub struct Tree {
 }
 
 impl Model for Tree {
-    ghost use Rattle.hwdb_writer.specs.Codes.{Map, map_code};
+    ghost use Rattle.hwdb_writer.specs.Internal.Codes.{Map, map_code};
 
     ghost Value = { Map };
 
     ghost coded = { map_code };
 
-    ghost use Rattle.hwdb_layout.specs.Map.{map_of};
-    ghost use Rattle.hwdb_writer.specs.Storable.{IsSound};
-    ghost use Rattle.hwdb_writer.specs.Standing.{tree_of};
+    ghost use Rattle.hwdb_spec.specs.Tree.{map_of};
+    ghost use Rattle.hwdb_writer.specs.Internal.Storable.{IsSound};
+    ghost use Rattle.hwdb_writer.specs.Internal.Standing.{tree_of};
 
     ghost view = { λ t. map_of (tree_of t.root) };
 
@@ -36,8 +36,8 @@ impl Model for Tree {
 impl Tree {
     ghost use Rattle.std.specs.Prelude.{◌≡◌, ◌≤◌, ◌<◌, ◌∷◌, ℕ, List, length, IfOk, OnOk, OnErr};
     ghost use Rattle.std.specs.FinMap.{empty, insert};
-    ghost use Rattle.hwdb_writer.specs.Stored.{value_of};
-    ghost use Rattle.hwdb_writer.specs.Storable.{HasNoZero, IsStorableValue, max_pattern};
+    ghost use Rattle.hwdb_writer.specs.Internal.Stored.{value_of};
+    ghost use Rattle.hwdb_writer.specs.Internal.Storable.{HasNoZero, IsStorableValue, max_pattern};
 
     /// No assignment. Takes no memory.
     pub fn new(alloc: Global) -> Self

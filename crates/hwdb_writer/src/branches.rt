@@ -4,14 +4,13 @@
 //! halves what is left. Each change makes its growths first.
 ghost use Rattle.std.specs.Prelude.{◌≡◌, ◌≢◌, ◌≤◌, ◌<◌, ◌+◌, ◌^◌, ◌∷◌, [], map, take, drop, length, slice_index, None, vec_len, vec_capacity, IfOk, IfErr, OnOk, OnErr};
 ghost use Rattle.std.specs.List.{insert};
-ghost use Rattle.hwdb_layout.specs.Tree.{prefix_of, values_of};
-ghost use Rattle.hwdb_layout.specs.Tree.Tree.{Node};
-ghost use Rattle.hwdb_layout.specs.Map.{IsTree, BytesAscend};
-ghost use Rattle.hwdb_writer.specs.Setting.{meet, set_at, single, forked, below_of};
+ghost use Rattle.hwdb_spec.specs.Tree.{prefix_of, values_of, IsTree, BytesAscend};
+ghost use Rattle.hwdb_spec.specs.Tree.Tree.{Node};
+ghost use Rattle.hwdb_writer.specs.Internal.Setting.{meet, set_at, single, forked, below_of};
 ghost use Rattle.hwdb_writer.specs.declared.branches.Branch.TheViews.{out-Branch};
-ghost use Rattle.hwdb_writer.specs.Found.{HitsByte, MissesByte};
-ghost use Rattle.hwdb_writer.specs.Stored.{value_of};
-ghost use Rattle.hwdb_writer.specs.Standing.{tree_of, byte_of, standing, children_in};
+ghost use Rattle.hwdb_writer.specs.Internal.Found.{HitsByte, MissesByte};
+ghost use Rattle.hwdb_writer.specs.Internal.Stored.{value_of};
+ghost use Rattle.hwdb_writer.specs.Internal.Standing.{tree_of, byte_of, standing, children_in};
 
 use crate::prefix::Prefix;
 use crate::stored::Stored;

@@ -1,12 +1,12 @@
 //! The nodes section: each node's record, behind the texts of its children.
 ghost use Rattle.std.specs.Prelude.{◌≡◌, ◌<◌, ◌++◌, ◌∷◌, ◌+◌, ◌*◌, ◌-◌, ◌^◌, OnOk, map, flat_map, min, length};
 ghost use Rattle.byteorder.specs.Endian.{little_bytes};
-ghost use Rattle.hwdb_layout.specs.Written.{strings_of, strings_of_value, text_size, node_text, value_text, record_at, padding};
-ghost use Rattle.hwdb_writer.specs.Stored.{value_of};
-ghost use Rattle.hwdb_writer.specs.Standing.{tree_of, byte_of};
-ghost use Rattle.hwdb_writer.specs.Narrow.{IsNarrow};
-ghost use Rattle.hwdb_writer.specs.Membership.{SameMembers};
-ghost use Rattle.hwdb_writer.specs.Places.{IsTable, place_in};
+ghost use Rattle.hwdb_spec.specs.Written.{strings_of, strings_of_value, text_size, node_text, value_text, record_at, padding};
+ghost use Rattle.hwdb_writer.specs.Internal.Stored.{value_of};
+ghost use Rattle.hwdb_writer.specs.Internal.Standing.{tree_of, byte_of};
+ghost use Rattle.hwdb_writer.specs.Internal.Narrow.{IsNarrow};
+ghost use Rattle.hwdb_writer.specs.Internal.Membership.{SameMembers};
+ghost use Rattle.hwdb_writer.specs.Internal.Places.{IsTable, place_in};
 
 use crate::branches::Branch;
 use crate::guesses::Guesses;

@@ -1,7 +1,7 @@
 //! The numbers and records of the nodes section, lowest byte first.
 ghost use Rattle.std.specs.Prelude.{◌≡◌, ◌≤◌, ◌++◌, ◌∷◌, OnOk, length, drop};
 ghost use Rattle.byteorder.specs.Endian.{little_bytes};
-ghost use Rattle.hwdb_layout.specs.Written.{padding};
+ghost use Rattle.hwdb_spec.specs.Written.{padding};
 
 use byteorder::{ByteOrder, LittleEndian};
 use std::alloc::AllocError;

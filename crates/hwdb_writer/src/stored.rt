@@ -1,6 +1,6 @@
 //! What is stored of an assignment at a node.
 ghost use Rattle.std.specs.Prelude.{◌≡◌, ◌∷◌, IfOk};
-ghost use Rattle.hwdb_writer.specs.Stored.{value_of};
+ghost use Rattle.hwdb_writer.specs.Internal.Stored.{value_of};
 
 use std::alloc::{AllocError, Global};
 use std::rc::Rc;

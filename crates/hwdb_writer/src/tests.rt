@@ -1,6 +1,6 @@
 //! The written form at small maps, with the path `/etc/udev/hwdb.d/1.hwdb` and priority 1.
 ghost use Rattle.std.specs.Bool.{OnTrue};
-ghost use Rattle.hwdb_writer.specs.Storable.{HasNoZero};
+ghost use Rattle.hwdb_writer.specs.Internal.Storable.{HasNoZero};
 
 use super::{StoreError, Tree, write};
 use hwdb_text::Assignment;

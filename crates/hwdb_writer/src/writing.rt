@@ -2,10 +2,9 @@
 ghost use Rattle.std.specs.Prelude.{◌≡◌, ◌<◌, ◌≤◌, ◌++◌, ◌+◌, ◌^◌, OnOk, IfOk, map, flat_map, length, MatchOption, List, ℕ};
 ghost use Rattle.std.specs.Result.{IsErrOf};
 ghost use Rattle.byteorder.specs.Endian.{little_bytes};
-ghost use Rattle.hwdb_layout.specs.Written.{table_of, text_size, record_at, section_of, written};
-ghost use Rattle.hwdb_layout.specs.Tight.{IsWritten, IsLonger, IsDatabaseOf};
-ghost use Rattle.hwdb_writer.specs.Narrow.{IsNarrow};
-ghost use Rattle.hwdb_writer.specs.Standing.{tree_of};
+ghost use Rattle.hwdb_spec.specs.Written.{table_of, text_size, record_at, section_of, written, IsWritten, IsLonger, IsDatabaseOf};
+ghost use Rattle.hwdb_writer.specs.Internal.Narrow.{IsNarrow};
+ghost use Rattle.hwdb_writer.specs.Internal.Standing.{tree_of};
 ghost use Rattle.hwdb_writer.specs.declared.writing.StoreError.TheVariants.{Memory};
 
 use crate::assignments::Tree;

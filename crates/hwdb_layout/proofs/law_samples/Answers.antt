@@ -1,6 +1,6 @@
 use Rattle.std.proofs.Common.{refl}
-use Rattle.hwdb_layout.specs.Tree.{count}
-use Rattle.hwdb_layout.specs.Written.{add_string, ascending, strings_of, place_of, text_size, record_at, entries_text, node_text, written}
+use Rattle.hwdb_spec.specs.Tree.{count}
+use Rattle.hwdb_spec.specs.Written.{add_string, ascending, strings_of, place_of, text_size, record_at, entries_text, node_text, written}
 use Rattle.hwdb_layout.proofs.law_samples.Goals as goal
 
 pub returns-clause-empty : goal.returns-clause-empty

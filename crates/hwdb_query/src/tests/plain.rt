@@ -3,15 +3,13 @@
 ghost use Rattle.std.specs.Prelude.{◌≡◌, ◌≤◌, ◌++◌, length, List, [], ◌∷◌, Bool, true, false, not, if◌then◌else◌, map, filter, IfOk, OnOk};
 ghost use Rattle.std.specs.BTreeMap.{insert_entry};
 ghost use Rattle.std.specs.List.{list_any};
-ghost use Rattle.hwdb_text.specs.Assignments.{Assigned, assigned};
-ghost use Rattle.hwdb_pattern.specs.Patterns.{MatchesIsTested};
-ghost use Rattle.hwdb_query.specs.Answers.{Found, found_cmp, is_match, is_after};
-ghost use Rattle.hwdb_query.specs.Effective.{effective_of, key_cmp};
-ghost use Rattle.hwdb_query.specs.Headline.{is_same_place, answer_of, last_assignments};
-ghost use Rattle.hwdb_query.specs.Hits.{found_of_hit, founds, parts_spot, given_spot, PlaceOf};
-ghost use Rattle.hwdb_query.specs.Lists.{put, put_all};
-ghost use Rattle.hwdb_query.specs.Pairs.{pairs_bytes};
-ghost use Rattle.hwdb_query.specs.Plain.{last_one};
+ghost use Rattle.hwdb_spec.specs.Assignment.{Assignment, Found, found_cmp, put, put_all};
+ghost use Rattle.hwdb_text.specs.Views.{assigned};
+ghost use Rattle.hwdb_pattern.specs.Laws.{MatchesIsTested};
+ghost use Rattle.hwdb_spec.specs.Answers.{is_match, is_after, effective_of, key_cmp, is_same_place, answer_of, last_assignments};
+ghost use Rattle.hwdb_query.specs.Views.{found_of_hit, founds, given_spot, pairs_bytes};
+ghost use Rattle.hwdb_query.specs.Internal.Hits.{parts_spot, PlaceOf};
+ghost use Rattle.hwdb_query.specs.Internal.Plain.{last_one};
 
 use crate::held::Place;
 use crate::hit::{Hit, Parts, order};

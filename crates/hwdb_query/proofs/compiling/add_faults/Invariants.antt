@@ -1,5 +1,6 @@
 use Rattle.std.proofs.Common.{◌≡◌, ◌++◌, map, take}
-use Rattle.hwdb_query.specs.Compiling.{fault_in, fault_of}
+use Rattle.hwdb_spec.specs.Folders.{fault_in}
+use Rattle.hwdb_query.specs.Views.{fault_of}
 use Rattle.hwdb_query.proofs.compiling.add_faults.Given as goal
 
 abbrev pub invariant-loop-fault : goal.invariant-loop-fault

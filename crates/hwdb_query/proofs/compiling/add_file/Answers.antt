@@ -1,6 +1,7 @@
 use Rattle.std.proofs.Common.{◌∙◌, ap, sym, subst, map, All}
-use Rattle.hwdb_text.specs.Assignments.{given_in, origin}
-use Rattle.hwdb_text.specs.Storable.{IsStorable, HasNoZero}
+use Rattle.hwdb_text.specs.Views.{given_in}
+use Rattle.hwdb_spec.specs.Records.{origin}
+use Rattle.hwdb_spec.specs.Folders.{IsStorable, HasNoZero}
 use Rattle.hwdb_query.proofs.Gathered.{puttable}
 use Rattle.hwdb_query.proofs.compiling.add_file.Goals as goal
 

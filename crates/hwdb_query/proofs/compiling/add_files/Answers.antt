@@ -1,12 +1,11 @@
 use Rattle.std.proofs.Common.{◌≡◌, ◌∙◌, ◌++◌, ap, sym, subst, map, take, All, add-one}
-use Rattle.std.specs.List.{flat_map}
+use Rattle.std.specs.Prelude.{flat_map}
 use Rattle.std.proofs.lemmas.List.Elements.{All-push}
-use Rattle.hwdb_text.specs.Assignments.{assignments, origin}
-use Rattle.hwdb_text.specs.Faults.{faults}
-use Rattle.hwdb_text.specs.Choice.{Choice, choice_of, path_of}
-use Rattle.hwdb_text.specs.Storable.{IsStorableChoice}
-use Rattle.hwdb_query.specs.Compiling.{file_assignments, file_faults, fault_in, fault_of, FewLines, ManyLines}
-use Rattle.hwdb_query.specs.Reading.{bytes_at, read_from, IsFilesRefusal}
+use Rattle.hwdb_spec.specs.Records.{assignments, origin, faults}
+use Rattle.hwdb_spec.specs.Folders.{Choice, path_of, IsStorableChoice, file_assignments, file_faults, fault_in, FewLines, ManyLines}
+use Rattle.hwdb_text.specs.Views.{choice_of}
+use Rattle.hwdb_query.specs.Views.{fault_of}
+use Rattle.hwdb_query.specs.Internal.Reading.{bytes_at, read_from, IsFilesRefusal}
 use Rattle.hwdb_query.proofs.Gathered.{all_at, any_at, mapped_more, tree_step, list_step}
 use Rattle.hwdb_query.proofs.Accepting.{error_given, files_refusal}
 use Rattle.hwdb_query.proofs.compiling.add_files.Goals as goal

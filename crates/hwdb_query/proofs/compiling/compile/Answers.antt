@@ -1,9 +1,9 @@
 use Rattle.std.proofs.Common.{◌∙◌, ap, sym, subst, map, [], Err}
 use Rattle.std.specs.String.{string_bytes}
-use Rattle.hwdb_layout.specs.Tight.{IsDatabaseOf, IsWritten}
-use Rattle.hwdb_text.specs.Choice.{choice_of}
-use Rattle.hwdb_query.specs.Compiling.{sources, fault_of, IsRefusal}
-use Rattle.hwdb_query.specs.Reading.{read_from}
+use Rattle.hwdb_spec.specs.Written.{IsDatabaseOf, IsWritten}
+use Rattle.hwdb_text.specs.Views.{choice_of}
+use Rattle.hwdb_query.specs.Views.{sources, fault_of, IsRefusal}
+use Rattle.hwdb_query.specs.Internal.Reading.{read_from}
 use Rattle.hwdb_query.proofs.Accepting.{same_contents, same_chosen, few_chosen, same_map, same_faults, accepted, error_given, refusal, store_refusal}
 use Rattle.hwdb_query.proofs.compiling.compile.Goals as goal
 

@@ -1,9 +1,10 @@
 use Rattle.std.proofs.Common.{◌++◌, ◌∙◌, [], ap, map, take, get_or, add-one}
 use Rattle.std.proofs.lemmas.List.{get_or_default}
 use Rattle.hwdb_text.specs.declared.outcome.Given.{Given}
-use Rattle.hwdb_text.specs.Assignments.{origin, given_in}
-use Rattle.hwdb_query.specs.Compiling.{surviving}
-use Rattle.hwdb_query.specs.Reading.{IsPuttable}
+use Rattle.hwdb_spec.specs.Records.{origin}
+use Rattle.hwdb_text.specs.Views.{given_in}
+use Rattle.hwdb_spec.specs.Tree.{surviving}
+use Rattle.hwdb_query.specs.Internal.Reading.{IsPuttable}
 use Rattle.hwdb_query.proofs.Gathered.{all_at, no_zero, mapped_more, mapped_all, put_step}
 use Rattle.hwdb_query.proofs.compiling.put_all.Goals as goal
 

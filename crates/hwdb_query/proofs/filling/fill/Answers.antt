@@ -1,7 +1,8 @@
 use Rattle.std.proofs.Common.{◌∙◌, ap, reverse, take, []}
-use Rattle.hwdb_reader.specs.View.{db_tree}
-use Rattle.hwdb_query.specs.Answers.{answers_after, members_under}
-use Rattle.hwdb_query.specs.Hits.{after_spot, Page}
+use Rattle.hwdb_reader.specs.Views.{db_tree}
+use Rattle.hwdb_spec.specs.Tree.{answers_after, members_under}
+use Rattle.hwdb_query.specs.Internal.Hits.{after_spot}
+use Rattle.hwdb_query.specs.Views.{Page}
 use Rattle.hwdb_query.specs.declared.next_page.NextPage.{NextPage}
 use Rattle.hwdb_query.proofs.Orders.{page_is}
 use Rattle.hwdb_query.proofs.Collecting.{still_page, page_at_end}

@@ -3,8 +3,9 @@ use Rattle.std.specs.List.{HoldsAt}
 use Rattle.std.specs.List.Sorted.{IsBinarySearchResult}
 use Rattle.std.proofs.lemmas.Fn.{always_returns_same}
 use Rattle.std.specs.declared.cmp.Ordering.TheVariants.{Equal}
-use Rattle.hwdb_query.specs.Answers.{spot_cmp}
-use Rattle.hwdb_query.specs.Hits.{parts_spot, found_of_hit}
+use Rattle.hwdb_spec.specs.Assignment.{spot_cmp}
+use Rattle.hwdb_query.specs.Internal.Hits.{parts_spot}
+use Rattle.hwdb_query.specs.Views.{found_of_hit}
 use Rattle.hwdb_query.proofs.Halving.{found_taken, found_free}
 use Rattle.hwdb_query.proofs.held.place_of.Goals as goal
 

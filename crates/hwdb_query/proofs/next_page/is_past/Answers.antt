@@ -1,5 +1,5 @@
 use Rattle.std.proofs.Common.{ap}
-use Rattle.hwdb_query.specs.Hits.{after_spot}
+use Rattle.hwdb_query.specs.Internal.Hits.{after_spot}
 use Rattle.hwdb_query.proofs.Orders.{after_none, after_less, after_other}
 use Rattle.hwdb_query.proofs.next_page.is_past.Goals as goal
 

@@ -1,5 +1,6 @@
 use Rattle.std.proofs.Common.{◌∙◌}
-use Rattle.hwdb_query.specs.Compiling.{source_of, name_of}
+use Rattle.hwdb_query.specs.Views.{source_of}
+use Rattle.hwdb_spec.specs.Folders.{name_of}
 use Rattle.hwdb_query.proofs.Gathered.{mapped_all, names_listed}
 use Rattle.hwdb_query.proofs.sources.names.Goals as goal
 

@@ -1,4 +1,4 @@
-use Rattle.hwdb_query.specs.Reading.{bytes_at}
+use Rattle.hwdb_query.specs.Internal.Reading.{bytes_at}
 use Rattle.hwdb_query.proofs.Gathered.{put_at, files_step, no_files}
 use Rattle.hwdb_query.proofs.sources.put_files.Goals as goal
 

@@ -1,6 +1,7 @@
 use Rattle.std.proofs.Common.{◌≡◌, List, ℕ, length}
-use Rattle.hwdb_query.specs.Compiling.{sources, first_of}
-use Rattle.hwdb_query.specs.Reading.{bytes_at}
+use Rattle.hwdb_query.specs.Views.{sources}
+use Rattle.hwdb_spec.specs.Folders.{first_of}
+use Rattle.hwdb_query.specs.Internal.Reading.{bytes_at}
 use Rattle.hwdb_query.proofs.sources.put_files.Given as goal
 
 abbrev pub invariant-files : goal.invariant-files

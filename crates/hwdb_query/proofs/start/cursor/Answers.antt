@@ -1,8 +1,9 @@
 use Rattle.std.proofs.Common.{◌≡◌, ◌∙◌, ap, sym, Some}
-use Rattle.hwdb_reader.specs.View.{db_tree}
-use Rattle.hwdb_query.specs.Answers.{Spot, answers_after}
-use Rattle.hwdb_query.specs.Compiling.{all_assignments}
-use Rattle.hwdb_query.specs.Hits.{Progress, next_spot, given_spot}
+use Rattle.hwdb_reader.specs.Views.{db_tree}
+use Rattle.hwdb_spec.specs.Assignment.{Spot}
+use Rattle.hwdb_spec.specs.Tree.{answers_after}
+use Rattle.hwdb_spec.specs.Folders.{all_assignments}
+use Rattle.hwdb_query.specs.Views.{Progress, next_spot, given_spot}
 use Rattle.hwdb_query.proofs.LastOnes.{last_are_answers}
 use Rattle.hwdb_query.proofs.start.cursor.Goals as goal
 use Rattle.hwdb_query.proofs.start.cursor.Goals.{in-None, in-Some+in_ok-copy-in-Some}

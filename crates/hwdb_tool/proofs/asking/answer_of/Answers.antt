@@ -1,6 +1,7 @@
 use Rattle.std.proofs.Common.{◌≡◌, ◌∙◌, subst, sym, List, [], ℕ, rules}
-use Rattle.hwdb_query.specs.Compiling.{Source, map_of_files}
-use Rattle.hwdb_layout.specs.Tight.{IsDatabaseOf}
+use Rattle.hwdb_spec.specs.Folders.{Source}
+use Rattle.hwdb_spec.specs.Tree.{map_of_files}
+use Rattle.hwdb_spec.specs.Written.{IsDatabaseOf}
 use Rattle.hwdb_tool.specs.Updates.{lone}
 use Rattle.hwdb_tool.proofs.Refused.{asked_refused}
 use Rattle.hwdb_tool.proofs.asking.answer_of.Goals as goal

@@ -1,14 +1,15 @@
 use Rattle.std.proofs.Common.{rules, ◌≡◌, ◌∙◌, arith, ap, subst, List, ℕ, inr}
 use Rattle.std.proofs.lemmas.Result.{on_ok_weaker}
 use Rattle.std.specs.Io.KnownBytes.{Appends}
-use Rattle.hwdb_reader.specs.View.{db_tree}
-use Rattle.hwdb_query.specs.Compiling.{all_assignments}
-use Rattle.hwdb_query.specs.Headline.{last_assignments}
-use Rattle.hwdb_query.specs.Answers.{Found, answers_after}
-use Rattle.hwdb_query.specs.Hits.{next_spot, Progress}
+use Rattle.hwdb_reader.specs.Views.{db_tree}
+use Rattle.hwdb_spec.specs.Folders.{all_assignments}
+use Rattle.hwdb_spec.specs.Answers.{last_assignments}
+use Rattle.hwdb_spec.specs.Assignment.{Found}
+use Rattle.hwdb_spec.specs.Tree.{answers_after}
+use Rattle.hwdb_query.specs.Views.{next_spot, Progress}
 use Rattle.hwdb_tool.specs.Devices.{AppendsPrefix}
 use Rattle.hwdb_tool.specs.Engines.{AppendsLines}
-use Rattle.hwdb_tool.specs.Texts.{hits_text, within_limit}
+use Rattle.hwdb_spec.specs.Texts.{hits_text, within_limit}
 use Rattle.hwdb_tool.proofs.Refused.{cursor_refused, lent_spot, not_zero}
 use Rattle.hwdb_tool.proofs.engines.run_list.Goals as goal
 

@@ -1,5 +1,5 @@
 use Rattle.std.proofs.Common.{◌≡◌, ◌∙◌, ◌≤◌, arith, List, ℕ, Option}
-use Rattle.hwdb_query.specs.Hits.{found_of_hit}
+use Rattle.hwdb_query.specs.Views.{found_of_hit}
 use Rattle.hwdb_tool.proofs.HitLines.{given, not_reached, whole_step, part_step, part_of_line, lines_step}
 use Rattle.hwdb_tool.proofs.listing.print_hits.Goals as goal
 

@@ -1,5 +1,5 @@
-use Rattle.hwdb_query.specs.Answers.{found_cmp}
-use Rattle.hwdb_query.specs.Hits.{found_of_hit}
+use Rattle.hwdb_spec.specs.Assignment.{found_cmp}
+use Rattle.hwdb_query.specs.Views.{found_of_hit}
 use Rattle.hwdb_query.proofs.Halving.{full_page}
 use Rattle.hwdb_query.proofs.held.Held.is_full_before.Goals as goal
 

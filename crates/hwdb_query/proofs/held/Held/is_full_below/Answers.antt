@@ -1,7 +1,7 @@
 use Rattle.std.proofs.Common.{◌≡◌, ◌∙◌, sym}
 use Rattle.std.specs.declared.cmp.Ordering.TheVariants.{Less}
-use Rattle.hwdb_query.specs.Answers.{found_cmp, spot_cmp}
-use Rattle.hwdb_query.specs.Hits.{found_of_hit}
+use Rattle.hwdb_spec.specs.Assignment.{found_cmp, spot_cmp}
+use Rattle.hwdb_query.specs.Views.{found_of_hit}
 use Rattle.hwdb_query.proofs.Orders.{less_of}
 use Rattle.hwdb_query.proofs.Halving.{full_page}
 use Rattle.hwdb_query.proofs.held.Held.is_full_below.Goals as goal

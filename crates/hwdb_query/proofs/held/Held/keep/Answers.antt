@@ -1,7 +1,7 @@
 use Rattle.std.proofs.Common.{ap, sym, subst, ◌∙◌, ◌≡◌, take, length, arith, refl, false}
-use Rattle.hwdb_query.specs.Answers.{found_cmp}
-use Rattle.hwdb_query.specs.Lists.{put, Ascends}
-use Rattle.hwdb_query.specs.Hits.{Page, founds, shown_at, placed}
+use Rattle.hwdb_spec.specs.Assignment.{found_cmp, put, Ascends}
+use Rattle.hwdb_query.specs.Views.{Page, founds}
+use Rattle.hwdb_query.specs.Internal.Hits.{shown_at, placed}
 use Rattle.hwdb_query.proofs.Placing.{kept_here}
 use Rattle.hwdb_query.proofs.held.Held.keep.Goals as goal
 

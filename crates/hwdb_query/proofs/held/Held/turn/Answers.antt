@@ -1,5 +1,5 @@
 use Rattle.std.proofs.Common.{ap, ◌∙◌, reverse}
-use Rattle.hwdb_query.specs.Hits.{Page, founds}
+use Rattle.hwdb_query.specs.Views.{Page, founds}
 use Rattle.hwdb_query.proofs.Placing.{founds_reverse}
 use Rattle.hwdb_query.proofs.held.Held.turn.Goals as goal
 

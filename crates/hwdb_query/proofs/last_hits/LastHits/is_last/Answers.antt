@@ -1,7 +1,7 @@
 use Rattle.std.proofs.Common.{◌∙◌, ap, sym, Option, option_map}
-use Rattle.hwdb_query.specs.Answers.{spot_cmp}
-use Rattle.hwdb_query.specs.Hits.{parts_spot}
-use Rattle.hwdb_query.specs.Collected.{Told, told_last}
+use Rattle.hwdb_spec.specs.Assignment.{spot_cmp}
+use Rattle.hwdb_query.specs.Internal.Hits.{parts_spot}
+use Rattle.hwdb_query.specs.Internal.Collected.{Told, told_last}
 use Rattle.hwdb_query.specs.declared.last_hits.Last.{Last}
 use Rattle.hwdb_query.proofs.Orders.{after_none, after_less, after_other}
 use Rattle.hwdb_query.proofs.last_hits.LastHits.is_last.Goals as goal

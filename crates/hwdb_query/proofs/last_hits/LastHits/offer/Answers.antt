@@ -1,7 +1,7 @@
 use Rattle.std.proofs.Common.{◌≡◌, ◌∙◌, ap, sym, refl, option_map, List, ℕ}
-use Rattle.hwdb_reader.specs.View.{entry_shows}
-use Rattle.hwdb_query.specs.Answers.{is_after}
-use Rattle.hwdb_query.specs.Collected.{spot_at}
+use Rattle.hwdb_reader.specs.Views.{entry_shows}
+use Rattle.hwdb_spec.specs.Answers.{is_after}
+use Rattle.hwdb_query.specs.Internal.Collected.{spot_at}
 use Rattle.hwdb_query.proofs.ByKey.{left_there, put_there, inserted_at}
 use Rattle.hwdb_query.proofs.Collecting.{found_at, last_offered_none, last_offered}
 use Rattle.hwdb_query.proofs.last_hits.LastHits.offer.Goals as goal

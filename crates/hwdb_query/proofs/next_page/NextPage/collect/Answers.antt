@@ -1,8 +1,8 @@
 use Rattle.std.proofs.Common.{arith, add-one, subst, drop, suc}
-use Rattle.hwdb_layout.specs.Tree.{values_of}
-use Rattle.hwdb_reader.specs.View.{entered_tree, entry_shows}
-use Rattle.hwdb_query.specs.Answers.{own_members}
-use Rattle.hwdb_query.specs.Collected.{PageCollects}
+use Rattle.hwdb_spec.specs.Tree.{values_of}
+use Rattle.hwdb_reader.specs.Views.{entered_tree, entry_shows}
+use Rattle.hwdb_query.specs.Internal.Members.{own_members}
+use Rattle.hwdb_query.specs.Internal.Collected.{PageCollects}
 use Rattle.hwdb_query.proofs.Collecting.{page_values_next, page_values_skipped, page_values_over}
 use Rattle.hwdb_query.proofs.next_page.NextPage.collect.Goals as goal
 use Rattle.hwdb_query.proofs.next_page.NextPage.collect.Goals.{then-not-skips+in_ok-offer, else-not-skips}

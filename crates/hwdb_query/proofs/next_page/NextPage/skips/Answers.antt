@@ -1,5 +1,5 @@
 use Rattle.std.proofs.Common.{ap}
-use Rattle.hwdb_query.specs.Hits.{parts_spot, after_spot}
+use Rattle.hwdb_query.specs.Internal.Hits.{parts_spot, after_spot}
 use Rattle.hwdb_query.proofs.Collecting.{skipped_before, skipped_behind}
 use Rattle.hwdb_query.proofs.next_page.NextPage.skips.Goals as goal
 

@@ -1,9 +1,10 @@
 use Rattle.std.proofs.Common.{◌≡◌, ◌∙◌, ap, sym, refl, subst, ℕ, List, [], ◌∷◌, length, reverse, take, Option, Some, Bool, false, arith}
-use Rattle.hwdb_layout.specs.Tree.{Tree}
-use Rattle.hwdb_reader.specs.View.{db_tree}
+use Rattle.hwdb_spec.specs.Tree.{Tree, answers_after}
+use Rattle.hwdb_reader.specs.Views.{db_tree}
 use Rattle.hwdb_query.specs.declared.position.Position.{Position}
-use Rattle.hwdb_query.specs.Answers.{Spot, Found, answers_after}
-use Rattle.hwdb_query.specs.Hits.{IsFirst, Progress, position_spot, next_spot, after_spot, still_to_come}
+use Rattle.hwdb_spec.specs.Assignment.{Spot, Found}
+use Rattle.hwdb_query.specs.Internal.Hits.{IsFirst, after_spot}
+use Rattle.hwdb_query.specs.Views.{Progress, position_spot, next_spot, still_to_come}
 use Rattle.hwdb_query.proofs.Resuming.{page_left}
 use Rattle.hwdb_query.proofs.paging.Cursor.fill_page.Goals as goal
 use Rattle.hwdb_query.proofs.paging.Cursor.fill_page.Goals.{in-None, in-Some, in-Some-1, in-None-1}

@@ -1,7 +1,7 @@
 use Rattle.std.proofs.Common.{◌≡◌, ◌∙◌, ap, sym, refl, ℕ, ◌<◌, min, List, [], ◌∷◌, length, Option, Some, None, IfSome, arith}
 use Rattle.hwdb_query.specs.declared.hit.Hit.{Hit}
-use Rattle.hwdb_query.specs.Answers.{Found}
-use Rattle.hwdb_query.specs.Hits.{found_of_hit, Gives, Progress}
+use Rattle.hwdb_spec.specs.Assignment.{Found}
+use Rattle.hwdb_query.specs.Views.{found_of_hit, Gives, Progress}
 use Rattle.hwdb_query.proofs.paging.Cursor.next.Goals as goal
 
 no_more : (page n : ℕ) → 0 < page → 0 ≡ min page n → n ≡ 0

@@ -2,8 +2,10 @@ use Rattle.std.proofs.Common.{◌≡◌, ◌∙◌, ap, sym, refl, Option, Some,
 use Rattle.std.specs.Ordering.{is_lt}
 use Rattle.std.specs.declared.cmp.Ordering.{Ordering}
 use Rattle.std.specs.declared.cmp.Ordering.TheVariants.{Less, Equal, Greater}
-use Rattle.hwdb_query.specs.Answers.{Spot, spot_cmp, is_after}
-use Rattle.hwdb_query.specs.Hits.{given_spot, parts_spot}
+use Rattle.hwdb_spec.specs.Assignment.{Spot, spot_cmp}
+use Rattle.hwdb_spec.specs.Answers.{is_after}
+use Rattle.hwdb_query.specs.Views.{given_spot}
+use Rattle.hwdb_query.specs.Internal.Hits.{parts_spot}
 use Rattle.hwdb_query.proofs.tests.plain.is_behind.Goals as goal
 
 none : (a : Option Spot) (s : Spot) → a ≡ None → true ≡ is_after a s

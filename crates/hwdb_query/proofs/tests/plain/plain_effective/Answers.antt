@@ -1,8 +1,7 @@
 use Rattle.std.proofs.Common.{◌∙◌, ap, sym, add-one, take}
 use Rattle.std.specs.BTreeMap.{insert_entry}
-use Rattle.hwdb_query.specs.Effective.{effective_of, key_cmp}
-use Rattle.hwdb_query.specs.Hits.{found_of_hit, founds}
-use Rattle.hwdb_query.specs.Pairs.{pairs_bytes}
+use Rattle.hwdb_spec.specs.Answers.{effective_of, key_cmp}
+use Rattle.hwdb_query.specs.Views.{found_of_hit, founds, pairs_bytes}
 use Rattle.hwdb_query.proofs.Keyed.{effective_one, none_effective}
 use Rattle.hwdb_query.proofs.Placing.{found_more}
 use Rattle.hwdb_query.proofs.tests.plain.plain_effective.Goals as goal

@@ -1,7 +1,6 @@
 use Rattle.std.proofs.Common.{◌≡◌, take}
-use Rattle.hwdb_query.specs.Effective.{effective_of}
-use Rattle.hwdb_query.specs.Hits.{founds}
-use Rattle.hwdb_query.specs.Pairs.{pairs_bytes}
+use Rattle.hwdb_spec.specs.Answers.{effective_of}
+use Rattle.hwdb_query.specs.Views.{founds, pairs_bytes}
 use Rattle.hwdb_query.proofs.tests.plain.plain_effective.Given as goal
 
 abbrev pub invariant-loop-hit : goal.invariant-loop-hit

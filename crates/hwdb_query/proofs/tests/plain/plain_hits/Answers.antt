@@ -1,6 +1,6 @@
 use Rattle.std.proofs.Common.{ap, map}
-use Rattle.hwdb_text.specs.Assignments.{assigned}
-use Rattle.hwdb_query.specs.Hits.{founds, given_spot}
+use Rattle.hwdb_text.specs.Views.{assigned}
+use Rattle.hwdb_query.specs.Views.{founds, given_spot}
 use Rattle.hwdb_query.proofs.Plain.{all_put, more_put, none_more, none_there}
 use Rattle.hwdb_query.proofs.tests.plain.plain_hits.Goals as goal
 

@@ -1,9 +1,8 @@
 use Rattle.std.proofs.Common.{◌≡◌, length, map}
-use Rattle.hwdb_text.specs.Assignments.{assigned}
-use Rattle.hwdb_query.specs.Answers.{found_cmp}
-use Rattle.hwdb_query.specs.Headline.{last_assignments}
-use Rattle.hwdb_query.specs.Hits.{founds, given_spot}
-use Rattle.hwdb_query.specs.Lists.{put_all}
+use Rattle.hwdb_text.specs.Views.{assigned}
+use Rattle.hwdb_spec.specs.Assignment.{found_cmp, put_all}
+use Rattle.hwdb_spec.specs.Answers.{last_assignments}
+use Rattle.hwdb_query.specs.Views.{founds, given_spot}
 use Rattle.hwdb_query.proofs.Plain.{kept_of}
 use Rattle.hwdb_query.proofs.tests.plain.plain_hits.Given as goal
 

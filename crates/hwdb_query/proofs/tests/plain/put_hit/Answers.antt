@@ -1,5 +1,6 @@
 use Rattle.std.proofs.Common.{sym, subst}
-use Rattle.hwdb_query.specs.Hits.{PlaceOf, found_of_hit, founds}
+use Rattle.hwdb_query.specs.Internal.Hits.{PlaceOf}
+use Rattle.hwdb_query.specs.Views.{found_of_hit, founds}
 use Rattle.hwdb_query.proofs.Plain.{hit_put}
 use Rattle.hwdb_query.proofs.tests.plain.put_hit.Goals as goal
 

@@ -1,9 +1,9 @@
 use Rattle.std.proofs.Common.{◌∙◌, ap, sym, map}
 use Rattle.std.proofs.lemmas.Result.{on_ok_weaker}
-use Rattle.hwdb_text.specs.Assignments.{assigned}
-use Rattle.hwdb_query.specs.Answers.{Found, is_match, is_after, found_cmp}
-use Rattle.hwdb_query.specs.Lists.{put}
-use Rattle.hwdb_query.specs.Hits.{given_spot, founds}
+use Rattle.hwdb_text.specs.Views.{assigned}
+use Rattle.hwdb_spec.specs.Assignment.{Found, found_cmp, put}
+use Rattle.hwdb_spec.specs.Answers.{is_match, is_after}
+use Rattle.hwdb_query.specs.Views.{given_spot, founds}
 use Rattle.hwdb_query.proofs.Plain.{left_followed, left_unmatched, left_before, kept_one, none_put, one_put}
 use Rattle.hwdb_query.proofs.tests.plain.put_last.Goals as goal
 

@@ -1,7 +1,7 @@
 use Rattle.std.proofs.Common.{◌∙◌, ap, add-one, length, arith}
 use Rattle.std.specs.BTreeMap.{insert_entry}
-use Rattle.hwdb_query.specs.Effective.{key_cmp}
-use Rattle.hwdb_query.specs.Pairs.{pairs_bytes}
+use Rattle.hwdb_spec.specs.Answers.{key_cmp}
+use Rattle.hwdb_query.specs.Views.{pairs_bytes}
 use Rattle.hwdb_query.proofs.PlainPairs.{below_next, at_next, behind_next, behind_all}
 use Rattle.hwdb_query.proofs.tests.plain.put_value.Goals as goal
 

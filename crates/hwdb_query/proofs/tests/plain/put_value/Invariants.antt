@@ -1,7 +1,7 @@
 use Rattle.std.proofs.Common.{◌≡◌, ◌++◌, take, drop}
 use Rattle.std.specs.BTreeMap.{insert_entry}
-use Rattle.hwdb_query.specs.Effective.{key_cmp}
-use Rattle.hwdb_query.specs.Pairs.{pairs_bytes}
+use Rattle.hwdb_spec.specs.Answers.{key_cmp}
+use Rattle.hwdb_query.specs.Views.{pairs_bytes}
 use Rattle.hwdb_query.proofs.tests.plain.put_value.Given as goal
 
 abbrev pub invariant-loop-i : goal.invariant-loop-i
