@@ -31,7 +31,7 @@ distinct_append (p ∷ ps) qs d e far = (both ps qs d.0 far.0, distinct_append p
     both (r ∷ ps) qs a b = (a.0, both ps qs a.1 b)
 
 -- keys above a key stay above it
-keys_above : (before : List ℕ) (values : List Value) → KeysAscend (Some before) values → AllByRecursion (λ v. slice_cmp nat_cmp before v.key ≡ Less) values
+pub keys_above : (before : List ℕ) (values : List Value) → KeysAscend (Some before) values → AllByRecursion (λ v. slice_cmp nat_cmp before v.key ≡ Less) values
 keys_above before [] h = tt
 keys_above before (v ∷ vs) h = (h.0, lift vs (keys_above v.key vs h.1))
   where

@@ -4,7 +4,7 @@ use Rattle.std.specs.Int.{div_ceil}
 use Rattle.std.proofs.Math.Nat.{add-div_left, add-mod_left}
 use Rattle.std.proofs.lemmas.Bool.{ne_eqb}
 use Rattle.std.proofs.lemmas.Grind.{div_ceil_times}
-use Rattle.hwdb_spec.specs.Assignment.{Found}
+use Rattle.hwdb_spec.specs.Assignment.{Assignment}
 use Rattle.hwdb_query.specs.Views.{Progress, fills, filled, given}
 use Rattle.hwdb_query.specs.Laws.{fillings, FillingsOfARun}
 
@@ -37,7 +37,7 @@ unfolding fillings
 over zero p held ended = refl
 over (suc calls) p held ended = no_filling calls p (fills_none p held ended) ∙ over calls (given p) (omega (arith, held)) ended
 
-tail_length : (l : List Found) → length (drop 1 l) ≡ length l - 1
+tail_length : (l : List Assignment) → length (drop 1 l) ≡ length l - 1
 tail_length [] = refl
 tail_length (x ∷ l) = omega arith
 

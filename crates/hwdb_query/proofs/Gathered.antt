@@ -54,7 +54,7 @@ any_at P f xs i x lt e p = (i, f x, in_range f xs i lt, read f xs i x lt e, p)
     read f (y ∷ xs) (suc i) x lt e = read f xs i x (omega arith) e
 
 -- one more assignment
-pub surviving_one : (xs : List Assignment) (a : Assignment) → surviving (xs ++ a ∷ []) ≡ finite.insert (surviving xs) (a.pattern, a.key) (entry_of a).1
+pub surviving_one : (xs : List Assignment) (a : Assignment) → surviving (xs ++ a ∷ []) ≡ finite.insert (surviving xs) (a.position.pattern, a.position.key) (entry_of a).1
 surviving_one xs a = ap (λ l. finite.from_entries (map entry_of l)) (reverse-append xs (a ∷ []))
 
 -- a text without byte 0, in the words of the crate that writes it
@@ -80,7 +80,7 @@ first_behind name (t ∷ before) s others = ap (λ b. if same name t.name then t
 
 -- the assignments of a file have its path and priority
 abbrev pub From : Origin → Assignment → Type 0
-From o a = (a.path ≡ o.path) × (a.priority ≡ o.priority)
+From o a = (a.path ≡ o.path) × (a.position.priority ≡ o.priority)
 
 from_map : (o : Origin) (l : Line) (ps : List (List ℕ)) → All (From o) (map (assign o l) ps)
 from_map o l [] = All-nil (From o)
@@ -131,9 +131,9 @@ list_step old mid new given f choices more c is before own next =
 
 -- one more assignment is put
 pub put_step : (done xs more : List Assignment) (a : Assignment) (before after : Map) → before ≡ surviving (done ++ xs)
-    → after ≡ finite.insert before (a.pattern, a.key) (entry_of a).1 → more ≡ xs ++ a ∷ [] → after ≡ surviving (done ++ more)
+    → after ≡ finite.insert before (a.position.pattern, a.position.key) (entry_of a).1 → more ≡ xs ++ a ∷ [] → after ≡ surviving (done ++ more)
 put_step done xs more a before after is put next =
-    put ∙ ap (λ m. finite.insert m (a.pattern, a.key) (entry_of a).1) is ∙ sym (surviving_one (done ++ xs) a)
+    put ∙ ap (λ m. finite.insert m (a.position.pattern, a.position.key) (entry_of a).1) is ∙ sym (surviving_one (done ++ xs) a)
     ∙ ap surviving (append_assoc done xs (a ∷ []) ∙ sym (ap (λ l. done ++ l) next))
 
 pub names_listed : (files : List SourceFile) → map (λ f. name_of (source_of f)) files ≡ map name_of (sources files)

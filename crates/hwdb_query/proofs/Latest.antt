@@ -50,36 +50,36 @@ none_latest place s is = All-nil _
 
 -- of a file of a smaller priority, or of one with this and no line behind this
 abbrev Before : ℕ → ℕ → Assignment → Type 0
-Before n m b = (b.priority < n) ⊎ ((b.priority ≡ n) × (b.line ≤ m))
+Before n m b = (b.position.priority < n) ⊎ ((b.position.priority ≡ n) × (b.position.line ≤ m))
 
 abbrev Climbs : ℕ → List Assignment → Type 0
 Climbs m [] = Unit {0}
-Climbs m (x ∷ xs) = (m ≤ x.line) × Climbs x.line xs
+Climbs m (x ∷ xs) = (m ≤ x.position.line) × Climbs x.position.line xs
 
-climbs : (m : ℕ) (xs : List Assignment) → ((x : Assignment) (rest : List Assignment) → xs ≡ x ∷ rest → m ≤ x.line) → IsNonDecreasingBy (λ a. a.line) xs → Climbs m xs
+climbs : (m : ℕ) (xs : List Assignment) → ((x : Assignment) (rest : List Assignment) → xs ≡ x ∷ rest → m ≤ x.position.line) → IsNonDecreasingBy (λ a. a.position.line) xs → Climbs m xs
 climbs m [] first up = tt
 climbs m (x ∷ xs) first up = (
   first x xs refl,
-  climbs x.line xs
+  climbs x.position.line xs
       (λ y rest e. next x xs y rest e up)
       (λ i j d le lt. up (suc i) (suc j) d (omega arith) (omega arith)),
 )
   where
-    next : (x : Assignment) (xs : List Assignment) (y : Assignment) (rest : List Assignment) → xs ≡ y ∷ rest → IsNonDecreasingBy (λ a. a.line) (x ∷ xs) → x.line ≤ y.line
+    next : (x : Assignment) (xs : List Assignment) (y : Assignment) (rest : List Assignment) → xs ≡ y ∷ rest → IsNonDecreasingBy (λ a. a.position.line) (x ∷ xs) → x.position.line ≤ y.position.line
     next x xs y rest e up =
-        let Q : List Assignment → Type 0 = λ l. IsNonDecreasingBy (λ a. a.line) (x ∷ l) in
-        let at : IsNonDecreasingBy (λ a. a.line) (x ∷ y ∷ rest) = subst Q e up in
+        let Q : List Assignment → Type 0 = λ l. IsNonDecreasingBy (λ a. a.position.line) (x ∷ l) in
+        let at : IsNonDecreasingBy (λ a. a.position.line) (x ∷ y ∷ rest) = subst Q e up in
         at 0 1 x (omega arith) (omega arith)
 
-rising_file : (n m : ℕ) (done xs : List Assignment) → All (Before n m) done → All (λ a. a.priority ≡ n) xs → Climbs m xs → Rising done xs
+rising_file : (n m : ℕ) (done xs : List Assignment) → All (Before n m) done → All (λ a. a.position.priority ≡ n) xs → Climbs m xs → Rising done xs
 rising_file n m done [] before own up = tt
 rising_file n m done (x ∷ xs) before own up =
-    let here : x.priority ≡ n = All-head (λ a. a.priority ≡ n) x xs own in
+    let here : x.position.priority ≡ n = All-head (λ a. a.position.priority ≡ n) x xs own in
     let earlier : All (λ b. IsEarlier b (entry_of x).1) done = All-weaker (Before n m) (λ b. IsEarlier b (entry_of x).1)
     (λ b h. elim h [ inl lt ↦ inl (omega arith) | inr e ↦ inr (e.0 ∙ sym here, omega (arith, e.1, up.0)) ]) done before in
-    let next : All (Before n x.line) (done ++ x ∷ []) = All-push (Before n x.line) done x
-    (All-weaker (Before n m) (Before n x.line) (λ b h. elim h [ inl lt ↦ inl lt | inr e ↦ inr (e.0, omega (arith, e.1, up.0)) ]) done before) (inr (here, omega arith)) in
-    (earlier, rising_file n x.line (done ++ x ∷ []) xs next (All-tail (λ a. a.priority ≡ n) x xs own) up.1)
+    let next : All (Before n x.position.line) (done ++ x ∷ []) = All-push (Before n x.position.line) done x
+    (All-weaker (Before n m) (Before n x.position.line) (λ b h. elim h [ inl lt ↦ inl lt | inr e ↦ inr (e.0, omega (arith, e.1, up.0)) ]) done before) (inr (here, omega arith)) in
+    (earlier, rising_file n x.position.line (done ++ x ∷ []) xs next (All-tail (λ a. a.position.priority ≡ n) x xs own) up.1)
 
 rising_append : (done xs ys : List Assignment) → Rising done xs → Rising (done ++ xs) ys → Rising done (xs ++ ys)
 rising_append done [] ys up more = subst (λ l. Rising l ys) (append-nil done) more
@@ -96,17 +96,17 @@ counts n (c ∷ cs) h =
     let first : c.priority ≡ n = h 0 (omega arith) ∙ omega arith in
     (first, counts (suc n) cs (λ k lt. h (suc k) (omega arith) ∙ omega arith))
 
-rising_files : (read : Choice → List ℕ) → AssignmentsStandByLine → (n : ℕ) (done : List Assignment) (cs : List Choice) → All (λ b. b.priority < n) done → Counts n cs
+rising_files : (read : Choice → List ℕ) → AssignmentsStandByLine → (n : ℕ) (done : List Assignment) (cs : List Choice) → All (λ b. b.position.priority < n) done → Counts n cs
     → Rising done (flat_map (file_assignments read) cs)
 rising_files read by_line n done [] before count = tt
 rising_files read by_line n done (c ∷ cs) before count =
     let xs = file_assignments read c in
     let o = origin (path_of c) c.priority in
-    let own : All (λ a. a.priority ≡ n) xs = All-weaker (λ a. (a.path ≡ o.path) × (a.priority ≡ o.priority)) (λ a. a.priority ≡ n) (λ a h. h.1 ∙ count.0) xs (from_file o (read c)) in
-    let front = rising_file n 0 done xs (All-weaker (λ b. b.priority < n) (Before n 0) (λ b h. inl h) done before) own (climbs 0 xs (λ x rest e. omega arith) (by_line o (read c))) in
-    let next : All (λ b. b.priority < suc n) (done ++ xs) = All-append (λ b. b.priority < suc n) done xs
-    (All-weaker (λ b. b.priority < n) (λ b. b.priority < suc n) (λ b h. omega arith) done before)
-    (All-weaker (λ a. a.priority ≡ n) (λ b. b.priority < suc n) (λ b h. omega arith) xs own) in
+    let own : All (λ a. a.position.priority ≡ n) xs = All-weaker (λ a. (a.path ≡ o.path) × (a.position.priority ≡ o.priority)) (λ a. a.position.priority ≡ n) (λ a h. h.1 ∙ count.0) xs (from_file o (read c)) in
+    let front = rising_file n 0 done xs (All-weaker (λ b. b.position.priority < n) (Before n 0) (λ b h. inl h) done before) own (climbs 0 xs (λ x rest e. omega arith) (by_line o (read c))) in
+    let next : All (λ b. b.position.priority < suc n) (done ++ xs) = All-append (λ b. b.position.priority < suc n) done xs
+    (All-weaker (λ b. b.position.priority < n) (λ b. b.position.priority < suc n) (λ b h. omega arith) done before)
+    (All-weaker (λ a. a.position.priority ≡ n) (λ b. b.position.priority < suc n) (λ b h. omega arith) xs own) in
     rising_append done xs (flat_map (file_assignments read) cs) front (rising_files read by_line (suc n) (done ++ xs) cs next count.1)
 
 pub survivors_are_latest : PrioritiesCountUp → AssignmentsStandByLine → SurvivorsAreLatest

@@ -10,6 +10,7 @@ pub mod Descending
 pub mod Resuming
 pub mod Distinct
 pub mod Members
+pub mod Backwards
 pub mod Gathered
 pub mod Latest
 pub mod LastOnes

@@ -1,7 +1,8 @@
 -- The assignments and live nodes of a tree, by the parts of its root.
-use Rattle.std.proofs.Common.{◌≡◌, ◌∙◌, ap, refl, ℕ, zero, suc, ◌+◌, ◌≤◌, Bool, true, false, List, [], ◌∷◌, ◌++◌, drop, map, filter, length, arith, Option, Some, None, slice_get, option_map, if◌then◌else◌}
+use Rattle.std.proofs.Common.{◌≡◌, ◌∙◌, ap, sym, refl, ℕ, zero, suc, ◌+◌, ◌≤◌, Bool, true, false, List, [], ◌∷◌, ◌++◌, take, drop, map, filter, length, arith, append_assoc, Option, Some, None, slice_get, option_map, if◌then◌else◌}
 use Rattle.std.specs.Prelude.{flat_map}
 use Rattle.std.proofs.lemmas.Grind.{flat_map-append}
+use Rattle.std.proofs.lemmas.List.{append-nil}
 use Rattle.std.proofs.lemmas.List.Elements.{filter-append}
 use Rattle.hwdb_spec.specs.Tree.{Tree, Children, Value, prefix_of, values_of, children_of, list_of, node_count, nodes_below, values_under, values_below, Shown, shown, one_found, found_shown, found_of, members_under, is_live, live_under, live_below}
 use Rattle.hwdb_spec.specs.Tree.Tree.{Node}
@@ -59,6 +60,27 @@ pub own_next : (pattern : List ℕ) (values : List Value) (i : ℕ) (s : Shown) 
 own_next pattern [] i s h = absurd (cc)
 own_next pattern (v ∷ values) zero s h = let e : shown v ≡ s = cc in ap (λ q. found_shown pattern q ++ own_members pattern values) e
 own_next pattern (v ∷ values) (suc i) s h = own_next pattern values i s h
+
+-- what one value assigns, and what those behind it assign
+pub own_split : (pattern : List ℕ) (values : List Value) (i : ℕ) → own_members pattern (drop i values) ≡ own_members pattern (take 1 (drop i values)) ++ own_members pattern (drop (suc i) values)
+own_split pattern [] zero = refl
+own_split pattern [] (suc i) = refl
+own_split pattern (v ∷ values) zero = ap (λ r. r ++ own_members pattern values) (sym (append-nil (found_shown pattern (shown v))))
+own_split pattern (v ∷ values) (suc i) = own_split pattern values i
+
+-- what the first values assign, and what the one behind them assigns
+pub own_taken : (pattern : List ℕ) (values : List Value) (i : ℕ) → own_members pattern (take (suc i) values) ≡ own_members pattern (take i values) ++ own_members pattern (take 1 (drop i values))
+own_taken pattern [] zero = refl
+own_taken pattern [] (suc i) = refl
+own_taken pattern (v ∷ values) zero = refl
+own_taken pattern (v ∷ values) (suc i) =
+    ap (λ r. found_shown pattern (shown v) ++ r) (own_taken pattern values i)
+    ∙ sym (append_assoc (found_shown pattern (shown v)) (own_members pattern (take i values)) (own_members pattern (take 1 (drop i values))))
+
+pub own_one : (pattern : List ℕ) (values : List Value) (i : ℕ) (s : Shown) → option_map shown (slice_get values i) ≡ Some s → own_members pattern (take 1 (drop i values)) ≡ found_shown pattern s
+own_one pattern [] i s h = absurd (cc)
+own_one pattern (v ∷ values) zero s h = let e : shown v ≡ s = cc in append-nil (found_shown pattern (shown v)) ∙ ap (found_shown pattern) e
+own_one pattern (v ∷ values) (suc i) s h = own_one pattern values i s h
 
 pub own_behind : (pattern : List ℕ) (values : List Value) (i : ℕ) → length values ≤ i → own_members pattern (drop i values) ≡ []
 own_behind pattern [] zero h = refl

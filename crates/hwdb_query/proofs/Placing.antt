@@ -5,13 +5,13 @@ use Rattle.std.specs.declared.cmp.Ordering.TheVariants.{Less, Equal, Greater}
 use Rattle.std.proofs.lemmas.List.{take-append-drop, drop_all, take_all}
 use mathlib.Core.List.{reverse_aux}
 use Rattle.hwdb_query.specs.declared.hit.Hit.{Hit}
-use Rattle.hwdb_spec.specs.Assignment.{Spot, Found, spot_cmp, found_cmp, put}
+use Rattle.hwdb_spec.specs.Assignment.{Position, Assignment, position_cmp, assignment_cmp, put}
 use Rattle.hwdb_query.specs.Views.{found_of_hit, founds}
 use Rattle.hwdb_query.proofs.Putting.{put_less, put_same, put_more}
 
-pub compared : (x : Found) (a b : Spot) (h : Hit) (o : Ordering) → x.spot ≡ a → b ≡ (found_of_hit h).spot → o ≡ spot_cmp a b → found_cmp x (found_of_hit h) ≡ o
-unfolding found_cmp
-compared x a b h o xa bh is = ap (λ s. spot_cmp s (found_of_hit h).spot) xa ∙ ap (spot_cmp a) (sym bh) ∙ sym is
+pub compared : (x : Assignment) (a b : Position) (h : Hit) (o : Ordering) → x.position ≡ a → b ≡ (found_of_hit h).position → o ≡ position_cmp a b → assignment_cmp x (found_of_hit h) ≡ o
+unfolding assignment_cmp
+compared x a b h o xa bh is = ap (λ s. position_cmp s (found_of_hit h).position) xa ∙ ap (position_cmp a) (sym bh) ∙ sym is
 
 pub founds_length : (hits : List Hit) → length (founds hits) ≡ length hits
 founds_length [] = refl
@@ -27,35 +27,35 @@ found_more [] i h l e = absurd (omega arith)
 found_more (k ∷ hits) zero h l e = ap (λ f. found_of_hit f ∷ []) (sym e)
 found_more (k ∷ hits) (suc i) h l e = ap (λ r. found_of_hit k ∷ r) (found_more hits i h (omega arith) e)
 
-pub less_here : (x : Found) (hits : List Hit) (i : ℕ) (h : Hit) → i < length hits → h ≡ get_or hits i h → found_cmp x (found_of_hit h) ≡ Less
-    → put found_cmp x (founds hits) ≡ take i (founds hits) ++ put found_cmp x (drop i (founds hits)) → put found_cmp x (founds hits) ≡ take i (founds hits) ++ x ∷ drop i (founds hits)
+pub less_here : (x : Assignment) (hits : List Hit) (i : ℕ) (h : Hit) → i < length hits → h ≡ get_or hits i h → assignment_cmp x (found_of_hit h) ≡ Less
+    → put assignment_cmp x (founds hits) ≡ take i (founds hits) ++ put assignment_cmp x (drop i (founds hits)) → put assignment_cmp x (founds hits) ≡ take i (founds hits) ++ x ∷ drop i (founds hits)
 less_here x hits i h l e o inv =
     let d = found_next hits i h l e in
-    inv ∙ ap (λ r. take i (founds hits) ++ r) (ap (put found_cmp x) d ∙ put_less found_cmp x (found_of_hit h) _ o ∙ ap (λ r. x ∷ r) (sym d))
+    inv ∙ ap (λ r. take i (founds hits) ++ r) (ap (put assignment_cmp x) d ∙ put_less assignment_cmp x (found_of_hit h) _ o ∙ ap (λ r. x ∷ r) (sym d))
 
-pub same_here : (x : Found) (hits : List Hit) (i : ℕ) (h : Hit) → i < length hits → h ≡ get_or hits i h → found_cmp x (found_of_hit h) ≡ Equal
-    → put found_cmp x (founds hits) ≡ take i (founds hits) ++ put found_cmp x (drop i (founds hits)) → put found_cmp x (founds hits) ≡ founds hits
+pub same_here : (x : Assignment) (hits : List Hit) (i : ℕ) (h : Hit) → i < length hits → h ≡ get_or hits i h → assignment_cmp x (found_of_hit h) ≡ Equal
+    → put assignment_cmp x (founds hits) ≡ take i (founds hits) ++ put assignment_cmp x (drop i (founds hits)) → put assignment_cmp x (founds hits) ≡ founds hits
 same_here x hits i h l e o inv =
     let d = found_next hits i h l e in
-    inv ∙ ap (λ r. take i (founds hits) ++ r) (ap (put found_cmp x) d ∙ put_same found_cmp x (found_of_hit h) _ o ∙ sym d) ∙ take-append-drop i (founds hits)
+    inv ∙ ap (λ r. take i (founds hits) ++ r) (ap (put assignment_cmp x) d ∙ put_same assignment_cmp x (found_of_hit h) _ o ∙ sym d) ∙ take-append-drop i (founds hits)
 
-pub more_here : (x : Found) (hits : List Hit) (i : ℕ) (h : Hit) → i < length hits → h ≡ get_or hits i h → found_cmp x (found_of_hit h) ≡ Greater
-    → put found_cmp x (founds hits) ≡ take i (founds hits) ++ put found_cmp x (drop i (founds hits))
-    → put found_cmp x (founds hits) ≡ take (suc i) (founds hits) ++ put found_cmp x (drop (suc i) (founds hits))
+pub more_here : (x : Assignment) (hits : List Hit) (i : ℕ) (h : Hit) → i < length hits → h ≡ get_or hits i h → assignment_cmp x (found_of_hit h) ≡ Greater
+    → put assignment_cmp x (founds hits) ≡ take i (founds hits) ++ put assignment_cmp x (drop i (founds hits))
+    → put assignment_cmp x (founds hits) ≡ take (suc i) (founds hits) ++ put assignment_cmp x (drop (suc i) (founds hits))
 more_here x hits i h l e o inv =
     let d = found_next hits i h l e in
-    inv ∙ ap (λ r. take i (founds hits) ++ r) (ap (put found_cmp x) d ∙ put_more found_cmp x (found_of_hit h) _ o)
-    ∙ sym (append_assoc (take i (founds hits)) (found_of_hit h ∷ []) (put found_cmp x (drop (suc i) (founds hits))))
-    ∙ ap (λ r. r ++ put found_cmp x (drop (suc i) (founds hits))) (sym (found_more hits i h l e))
+    inv ∙ ap (λ r. take i (founds hits) ++ r) (ap (put assignment_cmp x) d ∙ put_more assignment_cmp x (found_of_hit h) _ o)
+    ∙ sym (append_assoc (take i (founds hits)) (found_of_hit h ∷ []) (put assignment_cmp x (drop (suc i) (founds hits))))
+    ∙ ap (λ r. r ++ put assignment_cmp x (drop (suc i) (founds hits))) (sym (found_more hits i h l e))
 
-pub none_here : (x : Found) (hits : List Hit) (i : ℕ) → length hits ≤ i
-    → put found_cmp x (founds hits) ≡ take i (founds hits) ++ put found_cmp x (drop i (founds hits)) → put found_cmp x (founds hits) ≡ take (length hits) (founds hits) ++ x ∷ drop (length hits) (founds hits)
+pub none_here : (x : Assignment) (hits : List Hit) (i : ℕ) → length hits ≤ i
+    → put assignment_cmp x (founds hits) ≡ take i (founds hits) ++ put assignment_cmp x (drop i (founds hits)) → put assignment_cmp x (founds hits) ≡ take (length hits) (founds hits) ++ x ∷ drop (length hits) (founds hits)
 unfolding put
 none_here x hits i l inv =
     let n = founds_length hits in
     let long : length (founds hits) ≤ i = omega (arith, n) in
     let fits : length (founds hits) ≤ length hits = omega (arith, n) in
-    inv ∙ ap (λ r. take i (founds hits) ++ put found_cmp x r) (drop_all i (founds hits) long)
+    inv ∙ ap (λ r. take i (founds hits) ++ put assignment_cmp x r) (drop_all i (founds hits) long)
     ∙ ap (λ r. r ++ x ∷ []) (take_all i (founds hits) long ∙ sym (take_all (length hits) (founds hits) fits))
     ∙ ap (λ r. take (length hits) (founds hits) ++ x ∷ r) (sym (drop_all (length hits) (founds hits) fits))
 
@@ -83,9 +83,9 @@ founds_onto (h ∷ hits) done = founds_onto hits (h ∷ done)
 pub founds_reverse : (hits : List Hit) → founds (reverse hits) ≡ reverse (founds hits)
 founds_reverse hits = founds_onto hits []
 
-pub kept_here : (most m i : ℕ) (hits old into cut : List Hit) (h : Hit) (x : Found) (o : List Found) → i < most → i ≤ length old
+pub kept_here : (most m i : ℕ) (hits old into cut : List Hit) (h : Hit) (x : Assignment) (o : List Assignment) → i < most → i ≤ length old
     → founds old ≡ o → found_of_hit h ≡ x → cut ≡ take (most - 1) old → into ≡ take i cut ++ h ∷ drop i cut
-    → put found_cmp x o ≡ take i o ++ x ∷ drop i o → founds into ≡ take most (put found_cmp x o)
+    → put assignment_cmp x o ≡ take i o ++ x ∷ drop i o → founds into ≡ take most (put assignment_cmp x o)
 kept_here zero m i hits old into cut h x o l n os hx cs is p = absurd (omega arith)
 kept_here (suc k) m i hits old into cut h x o l n os hx cs is p =
     let less : suc k - 1 ≡ k = omega arith in

@@ -166,6 +166,71 @@ ascends_filter cmp p (x ∷ xs) up =
       | false ↦ ascends_filter cmp p xs up.1
     ]
 
+pub below_of : {A : Type 0} (cmp : A → A → Ordering) → IsTotalOrder cmp → (x y : A) → cmp x y ≡ Less → cmp y x ≡ Greater
+below_of cmp total x y h = total.antisymm y x ∙ ap ordering_reverse h
+
+put_below : {A : Type 0} (cmp : A → A → Ordering) (x y z : A) (zs : List A) → cmp x y ≡ Less → cmp x z ≡ Less → put cmp x (put cmp y (z ∷ zs)) ≡ x ∷ put cmp y (z ∷ zs)
+unfolding put
+put_below cmp x y z zs xy xz =
+    elim (cmp y z) as (λ o. let l = match_ordering o (y ∷ z ∷ zs) (z ∷ zs) (z ∷ put cmp y zs) in put cmp x l ≡ x ∷ l) [
+      | Less ↦ put_less cmp x y (z ∷ zs) xy
+      | Equal ↦ put_less cmp x z zs xz
+      | Greater ↦ put_less cmp x z (put cmp y zs) xz
+    ]
+
+put_either : {A : Type 0} (cmp : A → A → Ordering) → IsTotalOrder cmp → (x y : A) (l : List A) → cmp x y ≡ Less → put cmp x (put cmp y l) ≡ put cmp y (put cmp x l)
+unfolding put
+put_either cmp total x y [] xy = put_less cmp x y [] xy ∙ sym (put_more cmp y x [] (below_of cmp total x y xy))
+put_either cmp total x y (z ∷ zs) xy =
+    let yx : cmp y x ≡ Greater = below_of cmp total x y xy in
+    elim (cmp x z) as (λ o. cmp x z ≡ o → put cmp x (put cmp y (z ∷ zs)) ≡ put cmp y (put cmp x (z ∷ zs))) [
+      | Less ↦ λ e. put_below cmp x y z zs xy e ∙ sym (ap (put cmp y) (put_less cmp x z zs e) ∙ put_more cmp y x (z ∷ zs) yx)
+      | Equal ↦ λ e.
+          let yz : cmp y z ≡ Greater = below_of cmp total z y (sym (total.congr x z y e) ∙ xy) in
+          ap (put cmp x) (put_more cmp y z zs yz) ∙ put_same cmp x z (put cmp y zs) e ∙ sym (ap (put cmp y) (put_same cmp x z zs e) ∙ put_more cmp y z zs yz)
+      | Greater ↦ λ e.
+          let yz : cmp y z ≡ Greater = below_of cmp total z y (total.trans z x y (above_of cmp total x z e) xy) in
+          ap (put cmp x) (put_more cmp y z zs yz) ∙ put_more cmp x z (put cmp y zs) e
+          ∙ ap (λ l. z ∷ l) (put_either cmp total x y zs xy)
+          ∙ sym (ap (put cmp y) (put_more cmp x z zs e) ∙ put_more cmp y z (put cmp x zs) yz)
+    ] refl
+
+-- two members of different places are put there in either order
+pub put_both_ways : {A : Type 0} (cmp : A → A → Ordering) → IsTotalOrder cmp → (x y : A) (l : List A) → (cmp x y ≡ Equal → ⊥) → put cmp x (put cmp y l) ≡ put cmp y (put cmp x l)
+put_both_ways cmp total x y l apart =
+    elim (cmp x y) as (λ o. cmp x y ≡ o → put cmp x (put cmp y l) ≡ put cmp y (put cmp x l)) [
+      | Less ↦ λ e. put_either cmp total x y l e
+      | Equal ↦ λ e. absurd (apart e)
+      | Greater ↦ λ e. sym (put_either cmp total y x l (above_of cmp total x y e))
+    ] refl
+
+-- the members of one list have other places than those of the other
+abbrev pub PlacesApart : {A : Type 0} → (A → A → Ordering) → List A → List A → Type 0
+PlacesApart cmp xs ys = AllByRecursion (λ x. AllByRecursion (λ y. cmp x y ≡ Equal → ⊥) ys) xs
+
+keep_past : {A : Type 0} (cmp : A → A → Ordering) → IsTotalOrder cmp → (n : ℕ) (x : A) (ys l : List A) → AllByRecursion (λ y. cmp x y ≡ Equal → ⊥) ys
+    → take n (put cmp x (keep_all cmp n ys l)) ≡ keep_all cmp n ys (take n (put cmp x l))
+unfolding keep_all
+keep_past cmp total n x [] l apart = refl
+keep_past cmp total n x (y ∷ ys) l apart =
+    keep_past cmp total n x ys (take n (put cmp y l)) apart.1
+    ∙ ap (keep_all cmp n ys) (take_put cmp n x (put cmp y l) ∙ ap (take n) (put_both_ways cmp total x y l apart.0) ∙ sym (take_put cmp n y (put cmp x l)))
+
+-- two such lists are kept in either order
+pub keep_both_ways : {A : Type 0} (cmp : A → A → Ordering) → IsTotalOrder cmp → (n : ℕ) (xs ys l : List A) → PlacesApart cmp xs ys
+    → keep_all cmp n xs (keep_all cmp n ys l) ≡ keep_all cmp n ys (keep_all cmp n xs l)
+unfolding keep_all
+keep_both_ways cmp total n [] ys l apart = refl
+keep_both_ways cmp total n (x ∷ xs) ys l apart =
+    ap (keep_all cmp n xs) (keep_past cmp total n x ys l apart.0) ∙ keep_both_ways cmp total n xs ys (take n (put cmp x l)) apart.1
+
+pub apart_filter : {A : Type 0} (cmp : A → A → Ordering) (p : A → Bool) (xs ys : List A) → PlacesApart cmp xs ys → PlacesApart cmp (filter p xs) (filter p ys)
+apart_filter {A = A} cmp p xs ys apart = all_filter (λ x. AllByRecursion (λ y. cmp x y ≡ Equal → ⊥) (filter p ys)) p xs (go xs apart)
+  where
+    go : (xs : List A) → PlacesApart cmp xs ys → PlacesApart cmp xs (filter p ys)
+    go [] apart = tt
+    go (x ∷ xs) apart = (all_filter (λ y. cmp x y ≡ Equal → ⊥) p ys apart.0, go xs apart.1)
+
 above : {A : Type 0} → (A → A → Ordering) → A → A → Bool
 above cmp x y = is_lt (cmp x y)
 

@@ -2,7 +2,7 @@
 use Rattle.std.specs.Prelude.{List, [], ◌∷◌, ◌≡◌, ◌⊎◌, Some, ℕ, Option, None, ◌<◌, ◌≤◌, All, Contains, IsSome, suc, zero, if◌then◌else◌, ◌+◌, false, length, ◌^◌}
 use Rattle.std.specs.Int.{div_ceil}
 use Rattle.hex.specs.Hex.{IsBytes}
-use Rattle.hwdb_spec.specs.Assignment.{Found, Ascends, found_cmp, Spot, Assignment}
+use Rattle.hwdb_spec.specs.Assignment.{Assignment, Ascends, assignment_cmp, Position}
 use Rattle.hwdb_spec.specs.Tree.{Assigned, Tree, map_of, answers_after, map_of_files, answers, Assigned as Stored, entry_of}
 use Rattle.hwdb_spec.specs.Patterns.{Matches, tokens}
 use Rattle.hwdb_spec.specs.Format.{IsDatabase}
@@ -13,27 +13,27 @@ use Rattle.hwdb_query.specs.Views.{Progress, after_next, fills}
 use Rattle.hwdb_spec.specs.Texts.{IsSpelling, canonical}
 use Rattle.std.specs.FinMap as finite
 
-unfoldable pub Among : Found → List Found → Type 0
+unfoldable pub Among : Assignment → List Assignment → Type 0
 Among f [] = ⊥
 Among f (x ∷ xs) = (x ≡ f) ⊎ Among f xs
 
 -- what the map has at its pattern and key
-abbrev pub assigned_of : Found → Assigned
-assigned_of f = record { priority = f.spot.priority; line = f.spot.line; value = f.value; path = f.path }
+abbrev pub assigned_of : Assignment → Assigned
+assigned_of f = record { priority = f.position.priority; line = f.position.line; value = f.value; path = f.path }
 
-abbrev pub IsAssigned : Tree → Found → Type 0
-IsAssigned t f = finite.get (map_of t) (f.spot.pattern, f.spot.key) ≡ Some (assigned_of f)
+abbrev pub IsAssigned : Tree → Assignment → Type 0
+IsAssigned t f = finite.get (map_of t) (f.position.pattern, f.position.key) ≡ Some (assigned_of f)
 
 -- a strictly ascending list of those members of the map whose pattern matches
-pub record AreAnswers (device : List ℕ) (t : Tree) (list : List Found) : Type 0 where
-  pub ascends : Ascends found_cmp list
-  pub sound : (f : Found) → Among f list → IsAssigned t f × Matches (tokens f.spot.pattern) device
-  pub complete : (f : Found) → IsAssigned t f → Matches (tokens f.spot.pattern) device → Among f list
+pub record AreAnswers (device : List ℕ) (t : Tree) (list : List Assignment) : Type 0 where
+  pub ascends : Ascends assignment_cmp list
+  pub sound : (f : Assignment) → Among f list → IsAssigned t f × Matches (tokens f.position.pattern) device
+  pub complete : (f : Assignment) → IsAssigned t f → Matches (tokens f.position.pattern) device → Among f list
 
 -- In each tree that the bytes are a database of, the answers are the last assignments of the files.
 abbrev pub AnswersAreLast : (etc usr : List Source) → (bytes : List ℕ) → Type 0
 AnswersAreLast etc usr bytes =
-    (t : Tree) → IsDatabase bytes t → (device : List ℕ) (after : Option Spot) → answers_after device after t ≡ last_assignments device after (all_assignments etc usr)
+    (t : Tree) → IsDatabase bytes t → (device : List ℕ) (after : Option Position) → answers_after device after t ≡ last_assignments device after (all_assignments etc usr)
 
 -- It is so for bytes that are a database of the files' map.
 abbrev pub CompiledAnswersAreLast : Type 0
@@ -47,7 +47,8 @@ AllCompiledAnswersAreLast =
 
 -- it comes no later: its file has a smaller priority, or the same one and its line isn't behind
 abbrev pub IsEarlier : Assignment → Stored → Type 0
-IsEarlier a s = (a.priority < s.priority) ⊎ ((a.priority ≡ s.priority) × (a.line ≤ s.line))
+IsEarlier a s =
+    (a.position.priority < s.priority) ⊎ ((a.position.priority ≡ s.priority) × (a.position.line ≤ s.line))
 
 -- Of the assignments with one pattern and key that the files have, none comes later than the one in the map.
 abbrev pub SurvivorsAreLatest : Type 0
@@ -78,7 +79,7 @@ FillingsOfARun =
     → fillings calls p ≡ div_ceil (length p.to_come) p.page + 1
 
 -- a position that the fields of one can hold
-pub record IsPosition (p : Spot) : Type 0 where
+pub record IsPosition (p : Position) : Type 0 where
   pub priority : p.priority < 2 ^ 16
   pub line : p.line < 2 ^ 32
   pub pattern : IsBytes p.pattern
@@ -86,8 +87,8 @@ pub record IsPosition (p : Spot) : Type 0 where
 
 -- A text spells one position at most.
 abbrev pub SpellsOne : Type 0
-SpellsOne = (p q : Spot) (bytes : List ℕ) → IsSpelling p bytes → IsSpelling q bytes → p ≡ q
+SpellsOne = (p q : Position) (bytes : List ℕ) → IsSpelling p bytes → IsSpelling q bytes → p ≡ q
 
 -- The text that is written of a position spells it.
 abbrev pub CanonicalSpells : Type 0
-CanonicalSpells = (p : Spot) → IsPosition p → IsSpelling p (canonical p)
+CanonicalSpells = (p : Position) → IsPosition p → IsSpelling p (canonical p)

@@ -1,30 +1,30 @@
 -- The last assignments at worked rows, computed from the texts of files.
 use Rattle.std.specs.Prelude.{List, ℕ, codes, Option, [], ◌∷◌, None, Some, map, ◌≡◌}
 use Rattle.hwdb_spec.specs.Folders.{Source, all_assignments}
-use Rattle.hwdb_spec.specs.Assignment.{Spot, Found}
+use Rattle.hwdb_spec.specs.Assignment.{Position, Assignment}
 use Rattle.hwdb_spec.specs.Answers.{last_assignments, effective_of}
 
 abbrev pub file : (name bytes : List ℕ) → Source
 file name bytes = record { name = name; bytes = bytes }
 
-abbrev pub spot : (priority line : ℕ) (pattern key : List ℕ) → Spot
+abbrev pub spot : (priority line : ℕ) (pattern key : List ℕ) → Position
 spot priority line pattern key = record { priority = priority; line = line; pattern = pattern; key = key }
 
 -- an answer of the file `1.hwdb` in /etc
-abbrev pub in_first : Spot → (value : List ℕ) → Found
-in_first place value = record { spot = place; value = value; path = codes "/etc/udev/hwdb.d/1.hwdb" }
+abbrev pub in_first : Position → (value : List ℕ) → Assignment
+in_first place value = record { position = place; value = value; path = codes "/etc/udev/hwdb.d/1.hwdb" }
 
 -- an answer of the file `2.hwdb` in /usr/lib
-abbrev pub in_second : Spot → (value : List ℕ) → Found
-in_second place value = record { spot = place; value = value; path = codes "/usr/lib/udev/hwdb.d/2.hwdb" }
+abbrev pub in_second : Position → (value : List ℕ) → Assignment
+in_second place value = record { position = place; value = value; path = codes "/usr/lib/udev/hwdb.d/2.hwdb" }
 
 -- files of both folders, a device and a position, and the last assignments
 pub record Row : Type 0 where
   pub etc : List Source
   pub usr : List Source
   pub device : List ℕ
-  pub after : Option Spot
-  pub last : List Found
+  pub after : Option Position
+  pub last : List Assignment
 
 abbrev pub first : List ℕ → List Source
 first text = file (codes "1.hwdb") text ∷ []

@@ -8,8 +8,8 @@ use Rattle.hwdb_query.specs.declared.sources.FileFault.{FileFault}
 use Rattle.hwdb_query.specs.declared.errors.CompileError.{CompileError}
 use Rattle.hwdb_spec.specs.Written.{IsTooLarge}
 use Rattle.hwdb_query.specs.declared.errors.CompileError.TheVariants.{Memory, TooLarge, TooManyFiles, TooManyLines}
-use Rattle.hwdb_query.specs.declared.position.Position.{Position}
-use Rattle.hwdb_spec.specs.Assignment.{Spot, Found}
+use Rattle.hwdb_query.specs.declared.position.Position.{Position as OwnedPosition}
+use Rattle.hwdb_spec.specs.Assignment.{Position, Assignment}
 use Rattle.hwdb_query.specs.declared.hit.Hit.{Hit}
 use Rattle.hwdb_spec.specs.Tree.{Tree, answers_after}
 
@@ -36,45 +36,45 @@ pair_bytes p = (p.0.now, p.1.now)
 abbrev pub pairs_bytes : List (Bor (List ℕ) × Bor (List ℕ)) → List (List ℕ × List ℕ)
 pairs_bytes pairs = map pair_bytes pairs
 
-abbrev pub position_spot : Position → Spot
+abbrev pub position_spot : OwnedPosition → Position
 position_spot p = record { priority = p.priority; line = p.line; pattern = p.pattern.items; key = p.key.items }
 
-abbrev pub found_of_hit : Hit → Found
+abbrev pub found_of_hit : Hit → Assignment
 found_of_hit h = record {
-  spot = record { priority = h.priority; line = h.line; pattern = h.pattern.items; key = h.key.now };
+  position = record { priority = h.priority; line = h.line; pattern = h.pattern.items; key = h.key.now };
   value = h.value.now;
   path = h.path.now;
 }
 
-abbrev pub founds : List Hit → List Found
+abbrev pub founds : List Hit → List Assignment
 founds hits = map found_of_hit hits
 
 -- the hits that are held, and how many may be
 pub record Page : Type 0 where
-  pub hits : List Found
+  pub hits : List Assignment
   pub most : ℕ
 
 -- the first of what was to come is given, or nothing was to come
-abbrev pub Gives : List Found → List Found → Option Hit → Type 0
+abbrev pub Gives : List Assignment → List Assignment → Option Hit → Type 0
 Gives before after (Some hit) = before ≡ found_of_hit hit ∷ after
 Gives before after None = (before ≡ []) × (after ≡ [])
 
-abbrev pub next_spot : Option Position → Option Spot
+abbrev pub next_spot : Option OwnedPosition → Option Position
 next_spot after = option_map position_spot after
 
 -- the position that a caller gives
-abbrev pub given_spot : Option (Bor Position) → Option Spot
+abbrev pub given_spot : Option (Bor OwnedPosition) → Option Position
 given_spot after = option_map (λ p. position_spot p.now) after
 
 -- what a cursor has still to yield: the hits that it holds, and the answers behind them
-abbrev pub still_to_come : List ℕ → Option Spot → Tree → Bool → List Found → List Found
+abbrev pub still_to_come : List ℕ → Option Position → Tree → Bool → List Assignment → List Assignment
 still_to_come device after t true hits = reverse hits
 still_to_come device after t false hits = reverse hits ++ answers_after device after t
 
 -- what contracts see of a cursor
 pub record Progress : Type 0 where
   -- the answers that it has still to yield
-  pub to_come : List Found
+  pub to_come : List Assignment
   -- how many of these it holds, and how many it may
   pub held : ℕ
   pub page : ℕ

@@ -1,7 +1,8 @@
 //! Hits, and the order in which they come.
 ghost use Rattle.std.specs.Prelude.{◌≡◌, ℕ, List, length, IfOk, true};
 ghost use Rattle.std.specs.declared.cmp.Ordering.TheVariants.{Less};
-ghost use Rattle.hwdb_spec.specs.Assignment.{Spot, Found, spot_cmp};
+ghost use Rattle.hwdb_spec.specs.Assignment.{Assignment, position_cmp};
+ghost use Rattle.hwdb_spec.specs.Assignment;
 ghost use Rattle.hwdb_query.specs.Internal.Hits.{parts_spot, IsOf, IsSpotOf};
 ghost use Rattle.hwdb_query.specs.Views.{position_spot, found_of_hit};
 
@@ -51,7 +52,7 @@ impl<'p> Parts<'p> {
 impl<'a> Hit<'a> {
     /// What the order looks at.
     pub(crate) fn parts(&self) -> Parts<'_>
-        ensures { parts_spot result ≡ (found_of_hit self.now).spot }
+        ensures { parts_spot result ≡ (found_of_hit self.now).position }
     {
         Parts {
             priority: self.priority,
@@ -75,7 +76,7 @@ impl<'a> Hit<'a> {
     ///
     /// The only error is that memory is refused.
     pub fn position(&self, alloc: Global) -> Result<Position, AllocError>
-        ensures { IfOk result (λ p. position_spot p ≡ (found_of_hit self.now).spot) }
+        ensures { IfOk result (λ p. position_spot p ≡ (found_of_hit self.now).position) }
     {
         let pattern = self.pattern.to_vec(alloc)?;
         let key = self.key.to_vec(alloc)?;
@@ -89,9 +90,9 @@ impl<'a> Hit<'a> {
 }
 
 /// The order of positions: by priority, line, pattern and key.
-#[tactic(auto, unfolding(hwdb_spec::specs::Assignment::spot_cmp))]
+#[tactic(auto, unfolding(hwdb_spec::specs::Assignment::position_cmp))]
 pub(crate) fn order(a: Parts<'_>, b: Parts<'_>) -> Ordering
-    ensures { result ≡ spot_cmp (parts_spot a.entry) (parts_spot b.entry) }
+    ensures { result ≡ position_cmp (parts_spot a.entry) (parts_spot b.entry) }
 {
     a.priority
         .cmp(&b.priority)
@@ -102,8 +103,8 @@ pub(crate) fn order(a: Parts<'_>, b: Parts<'_>) -> Ordering
 
 /// Whether an origin comes before another: by priority, then by line.
 pub(crate) fn is_earlier(a: Origin, b: Origin) -> bool
-    ensures { result ≡ true → (x y : Spot) → IsSpotOf a x → IsSpotOf b y
-        → spot_cmp x y ≡ Less }
+    ensures { result ≡ true → (x y : Assignment.Position) → IsSpotOf a x → IsSpotOf b y
+        → position_cmp x y ≡ Less }
 {
     a.priority
         .cmp(&b.priority)

@@ -2,7 +2,7 @@
 ghost use Rattle.std.specs.Prelude.{◌≡◌, List, [], IfOk, OnOk};
 ghost use Rattle.hwdb_spec.specs.Tree.{values_of, found_shown};
 ghost use Rattle.hwdb_reader.specs.Views.{entered_tree, entry_shows};
-ghost use Rattle.hwdb_spec.specs.Assignment.{Found};
+ghost use Rattle.hwdb_spec.specs.Assignment.{Assignment};
 ghost use Rattle.hwdb_spec.specs.Answers.{is_after, effective_of};
 ghost use Rattle.hwdb_query.specs.Internal.Members.{own_members};
 ghost use Rattle.hwdb_query.specs.Internal.Hits.{parts_spot};
@@ -127,7 +127,7 @@ impl<'a> LastHits<'a> {
 
     /// The keys and their values, ascending by key.
     pub(crate) fn pairs(self, alloc: Global) -> Result<Vec<(&'a [u8], &'a [u8])>, AllocError>
-        ensures { IfOk result (λ list. (hits : List Found) → Shows self.entry.hits hits
+        ensures { IfOk result (λ list. (hits : List Assignment) → Shows self.entry.hits hits
             → pairs_bytes list.items ≡ effective_of hits) }
     {
         let mut pairs = Vec::new(alloc);

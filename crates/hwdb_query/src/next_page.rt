@@ -1,10 +1,10 @@
 //! A page that is filled.
 //!
 //! A value that isn't kept takes no memory.
-ghost use Rattle.std.specs.Prelude.{◌≡◌, List, [], ◌∷◌, OnOk, true};
+ghost use Rattle.std.specs.Prelude.{◌≡◌, ◌<◌, List, [], ◌∷◌, length, take, drop, OnOk, true};
 ghost use Rattle.hwdb_spec.specs.Tree.{values_of, found_shown};
 ghost use Rattle.hwdb_reader.specs.Views.{entered_tree, entry_shows};
-ghost use Rattle.hwdb_spec.specs.Assignment.{Found};
+ghost use Rattle.hwdb_spec.specs.Assignment.{Assignment};
 ghost use Rattle.hwdb_spec.specs.Answers.{is_after};
 ghost use Rattle.hwdb_query.specs.Internal.Members.{own_members};
 ghost use Rattle.hwdb_query.specs.Internal.Hits.{parts_spot, after_spot, IsOf};
@@ -60,7 +60,7 @@ impl<'a, 'p> NextPage<'a, 'p> {
 
     /// Whether no hit of an origin is kept: it comes before the position's, or behind a full page.
     fn skips(&self, origin: Origin) -> bool
-        ensures { result ≡ true → (x : Found) → IsOf origin x
+        ensures { result ≡ true → (x : Assignment) → IsOf origin x
             → PageCollects self.now (x ∷ []) self.now }
     {
         if let Some(after) = self.after {
@@ -71,8 +71,30 @@ impl<'a, 'p> NextPage<'a, 'p> {
         self.held.is_full_before(origin)
     }
 
-    /// Takes what the values of a node assign at a pattern. Of a value that isn't kept for its origin
-    /// no text is looked at.
+    /// Takes what one value of a node assigns at a pattern. Of a value that isn't kept for its origin no
+    /// text is looked at.
+    fn collect_one(
+        &mut self,
+        alloc: Global,
+        inside: Inside<'a>,
+        pattern: &[u8],
+        i: usize,
+    ) -> Result<(), AllocError>
+        requires { i < length (values_of (entered_tree inside)) }
+        ensures { OnOk result
+            (PageCollects self.old
+            (own_members pattern.now (take 1 (drop i (values_of (entered_tree inside.entry)))))
+            self.new) }
+    {
+        if self.skips(inside.origin(i)) {
+            return Ok(());
+        }
+        self.offer(alloc, pattern, inside.value(i))
+    }
+
+    /// Takes what the values of a node assign at a pattern. The values stand by key, and are gone over
+    /// from the end whose origin comes first: a value that comes before all so far is put into the page,
+    /// and one behind a full page is passed over by its origin.
     pub(crate) fn collect(
         &mut self,
         alloc: Global,
@@ -83,10 +105,12 @@ impl<'a, 'p> NextPage<'a, 'p> {
             (PageCollects self.old
             (own_members pattern.now (values_of (entered_tree inside.entry))) self.new) }
     {
-        for i in 0..inside.values() {
-            if !self.skips(inside.origin(i)) {
-                self.offer(alloc, pattern, inside.value(i))?;
-            }
+        inside.law_ascending();
+        let count = inside.values();
+        let falls = count > 1 && is_earlier(inside.origin(count - 1), inside.origin(0));
+        for step in 0..count {
+            let i = if falls { count - 1 - step } else { step };
+            self.collect_one(alloc, inside, pattern, i)?;
         }
         Ok(())
     }

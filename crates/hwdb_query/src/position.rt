@@ -1,6 +1,6 @@
 //! Positions: the places of assignments in the order of the answers.
 ghost use Rattle.std.specs.Prelude.{◌≡◌, ◌≢◌, ◌<◌, ℕ, List, ◌∷◌, ◌++◌, length, slice_index, IfOk, IfErr, IfSome, MatchOption, string_bytes};
-ghost use Rattle.hwdb_spec.specs.Assignment.{Spot};
+ghost use Rattle.hwdb_spec.specs.Assignment;
 ghost use Rattle.hwdb_query.specs.Internal.Hits.{parts_spot};
 ghost use Rattle.hwdb_query.specs.Views.{position_spot};
 ghost use Rattle.hwdb_spec.specs.Texts.{IsSpelling, canonical};
@@ -96,7 +96,7 @@ impl Position {
     /// The position that the text spells, if it spells one.
     fn read_fields(alloc: Global, text: &str) -> Result<Option<Position>, AllocError>
         ensures spelled { IfOk result (λ r. IfSome r (λ p. IsSpelling (position_spot p) text.now)) }
-        ensures refused { IfOk result (λ r. r ≡ None → (p : Spot) → IsSpelling p text.now → ⊥) }
+        ensures refused { IfOk result (λ r. r ≡ None → (p : Assignment.Position) → IsSpelling p text.now → ⊥) }
     {
         let Some(parts) = split_fields(text) else {
             return Ok(None);
@@ -127,7 +127,7 @@ impl Position {
     /// [`QueryError::Memory`] where memory is refused.
     pub fn read(alloc: Global, text: &str) -> Result<Position, QueryError>
         ensures spelled { IfOk result (λ p. IsSpelling (position_spot p) text.now) }
-        ensures refused { IfErr result (λ e. e ≡ BadPosition → (p : Spot) → IsSpelling p text.now → ⊥) }
+        ensures refused { IfErr result (λ e. e ≡ BadPosition → (p : Assignment.Position) → IsSpelling p text.now → ⊥) }
         ensures no_page { IfErr result (λ e. e ≢ PageZero) }
     {
         match Position::read_fields(alloc, text)? {

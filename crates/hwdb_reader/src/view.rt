@@ -135,7 +135,7 @@ impl<'a> Node<'a> {
 
 impl<'a> Inside<'a> {
     ghost use Rattle.std.specs.Prelude.{◌≡◌, ◌<◌, Some, length, slice_get, option_map};
-    ghost use Rattle.hwdb_spec.specs.Tree.{children_of, values_of, shown};
+    ghost use Rattle.hwdb_spec.specs.Tree.{children_of, values_of, IsTree, shown};
     ghost use Rattle.hwdb_reader.specs.Views.{tree_of, entered_tree, entry_shows};
 
     /// How many children the node has.
@@ -162,6 +162,11 @@ impl<'a> Inside<'a> {
             },
         }
     }
+
+    /// In the node's tree stored keys and bytes ascend.
+    pub fn law_ascending(&self)
+        ensures { IsTree (entered_tree self.now) }
+    {}
 
     /// How many values the node has.
     pub fn values(&self) -> usize

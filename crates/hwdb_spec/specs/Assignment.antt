@@ -8,37 +8,28 @@ use Rattle.std.specs.Cmp.Lexicographic.{slice_cmp}
 use Rattle.std.specs.List.{AllByRecursion}
 use Rattle.std.specs.declared.cmp.Ordering.TheVariants.{Less}
 
--- an assignment, with lists in place of vectors
+-- where an assignment stands: the priority of its file, the line of its property, its pattern and its key
+pub record Position : Type 0 where
+  pub priority : ℕ
+  pub line : ℕ
+  pub pattern : List ℕ
+  pub key : List ℕ
+
+-- what one property line gives one pattern; the path is the stored path of its file
 pub record Assignment : Type 0 where
-  pub priority : ℕ
-  pub line : ℕ
-  pub pattern : List ℕ
-  pub key : List ℕ
-  pub value : List ℕ
-  pub path : List ℕ
-
--- the position of an assignment
-pub record Spot : Type 0 where
-  pub priority : ℕ
-  pub line : ℕ
-  pub pattern : List ℕ
-  pub key : List ℕ
-
--- an assignment that survived
-pub record Found : Type 0 where
-  pub spot : Spot
+  pub position : Position
   pub value : List ℕ
   pub path : List ℕ
 
 -- by priority, line, pattern, key
-unfoldable pub spot_cmp : Spot → Spot → Ordering
-spot_cmp a b =
+unfoldable pub position_cmp : Position → Position → Ordering
+position_cmp a b =
     ordering_then (nat_cmp a.priority b.priority)
     (ordering_then (nat_cmp a.line b.line) (ordering_then (slice_cmp nat_cmp a.pattern b.pattern) (slice_cmp nat_cmp a.key b.key)))
 
 -- assignments by their positions
-unfoldable pub found_cmp : Found → Found → Ordering
-found_cmp a b = spot_cmp a.spot b.spot
+unfoldable pub assignment_cmp : Assignment → Assignment → Ordering
+assignment_cmp a b = position_cmp a.position b.position
 
 -- a member put in its place; where its place is taken the list stays
 unfoldable pub put : {A : Type 0} → (A → A → Ordering) → A → List A → List A

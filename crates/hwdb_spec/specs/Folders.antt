@@ -138,9 +138,9 @@ HasNoZero text = has 0 text ≡ false
 
 -- what is read of a file; its path and priority are the caller's
 pub record IsStorable (a : Assignment) : Type 0 where
-  pub short : length a.pattern ≤ 4096
-  pub pattern : HasNoZero a.pattern
-  pub key : HasNoZero a.key
+  pub short : length a.position.pattern ≤ 4096
+  pub pattern : HasNoZero a.position.pattern
+  pub key : HasNoZero a.position.key
   pub value : HasNoZero a.value
 
 -- the path and the priority of a chosen file

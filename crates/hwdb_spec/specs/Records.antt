@@ -71,10 +71,7 @@ patterns (l ∷ more) = if is_long l then patterns more else l.text ∷ patterns
 -- what the property at a line gives a pattern
 abbrev pub given : Origin → (number : ℕ) → (key value pattern : List ℕ) → Assignment
 given o number key value pattern = record {
-  priority = o.priority;
-  line = number;
-  pattern = pattern;
-  key = key;
+  position = record { priority = o.priority; line = number; pattern = pattern; key = key };
   value = value;
   path = o.path;
 }

@@ -3,7 +3,7 @@
 use Rattle.std.specs.Prelude.{List, ℕ, ◌++◌, ◌∷◌, Ok, ◌<◌, ◌^◌, ◌≡◌, [], flat_map, None, Option, Some, take, Bool, false, true}
 use Rattle.std.specs.Fmt.{decimal}
 use Rattle.hex.specs.Hex.{decode_of, encode_lower}
-use Rattle.hwdb_spec.specs.Assignment.{Spot, Found}
+use Rattle.hwdb_spec.specs.Assignment.{Position, Assignment}
 use Rattle.hwdb_spec.specs.declared.Fault.{Fault}
 use Rattle.hwdb_spec.specs.Records.{fault_text}
 use Rattle.hwdb_spec.specs.Folders.{FaultIn, Source, all_assignments}
@@ -15,7 +15,7 @@ abbrev pub spot_text : ℕ → ℕ → List ℕ → List ℕ → List ℕ
 spot_text priority line pattern key = decimal priority ++ 58 ∷ (decimal line ++ 58 ∷ (pattern ++ 58 ∷ key))
 
 -- The text spells the position: its hexadecimal digits stand in either case.
-pub record IsSpelling (p : Spot) (bytes : List ℕ) : Type 0 where
+pub record IsSpelling (p : Position) (bytes : List ℕ) : Type 0 where
   pub pattern_text : List ℕ
   pub key_text : List ℕ
   pub priority : p.priority < 2 ^ 16
@@ -25,7 +25,7 @@ pub record IsSpelling (p : Spot) (bytes : List ℕ) : Type 0 where
   pub text : bytes ≡ spot_text p.priority p.line pattern_text key_text
 
 -- the one text that is written of a position: its hexadecimal digits stand in lower case
-abbrev pub canonical : Spot → List ℕ
+abbrev pub canonical : Position → List ℕ
 canonical p = spot_text p.priority p.line (encode_lower p.pattern) (encode_lower p.key)
 
 -- `KEY=VALUE` and a newline
@@ -37,15 +37,15 @@ abbrev pub properties_text : List (List ℕ × List ℕ) → List ℕ
 properties_text properties = flat_map property_text properties
 
 -- the line of a hit: its position, a tab, the pattern, a tab, the property
-abbrev pub hit_text : Found → List ℕ
-hit_text f = canonical f.spot ++ 9 ∷ (f.spot.pattern ++ 9 ∷ property_text (f.spot.key, f.value))
+abbrev pub hit_text : Assignment → List ℕ
+hit_text f = canonical f.position ++ 9 ∷ (f.position.pattern ++ 9 ∷ property_text (f.position.key, f.value))
 
 -- a line for each hit
-abbrev pub hits_text : List Found → List ℕ
+abbrev pub hits_text : List Assignment → List ℕ
 hits_text hits = flat_map hit_text hits
 
 -- the first hits, as many as the limit says; all of them without one
-abbrev pub within_limit : Option ℕ → List Found → List Found
+abbrev pub within_limit : Option ℕ → List Assignment → List Assignment
 within_limit None hits = hits
 within_limit (Some n) hits = take n hits
 
@@ -74,7 +74,7 @@ abbrev pub query_text : List ℕ → Tree → List ℕ
 query_text device t = properties_text (effective_of (answers device t))
 
 -- the lines of the first hits after a position
-abbrev pub list_text : List ℕ → Option Spot → Option ℕ → Tree → List ℕ
+abbrev pub list_text : List ℕ → Option Position → Option ℕ → Tree → List ℕ
 list_text device after limit t = hits_text (within_limit limit (answers_after device after t))
 
 -- for each key the value of the last assignment among those that match the device, as text
@@ -82,7 +82,7 @@ abbrev pub last_values_text : (device : List ℕ) (etc usr : List Source) → Li
 last_values_text device etc usr = properties_text (effective_of (last_assignments device None (all_assignments etc usr)))
 
 -- the lines of the first of the last assignments after a position
-abbrev pub last_lines_text : (device : List ℕ) (from : Option Spot) (limit : Option ℕ) (etc usr : List Source) → List ℕ
+abbrev pub last_lines_text : (device : List ℕ) (from : Option Position) (limit : Option ℕ) (etc usr : List Source) → List ℕ
 last_lines_text device from limit etc usr = hits_text (within_limit limit (last_assignments device from (all_assignments etc usr)))
 
 -- 1 where `strict` and there is a fault, else 0

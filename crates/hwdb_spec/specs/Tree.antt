@@ -6,7 +6,7 @@ use Rattle.std.specs.declared.cmp.Ordering.TheVariants.{Less}
 use Rattle.std.specs.Ordering.{nat_cmp, ordering_then}
 use Rattle.std.specs.Cmp.Lexicographic.{slice_cmp}
 use Rattle.std.specs.declared.cmp.Ordering.{Ordering}
-use Rattle.hwdb_spec.specs.Assignment.{Assignment, Found, found_cmp, in_order, Spot}
+use Rattle.hwdb_spec.specs.Assignment.{Assignment, assignment_cmp, in_order, Position}
 use Rattle.hwdb_spec.specs.Folders.{Source, all_assignments}
 use Rattle.hwdb_spec.specs.Answers.{is_wanted, is_behind}
 use Rattle.hwdb_spec.specs.Patterns.{Token, bracket, literal, one, star, token_at, token_size, Matches, tokens, matches}
@@ -137,7 +137,8 @@ unfoldable mutual
 
 -- an assignment at its pattern and key
 abbrev pub entry_of : Assignment → (List ℕ × List ℕ) × Assigned
-entry_of a = ((a.pattern, a.key), record { priority = a.priority; line = a.line; value = a.value; path = a.path })
+entry_of a =
+    ((a.position.pattern, a.position.key), record { priority = a.position.priority; line = a.position.line; value = a.value; path = a.path })
 
 -- the map of those that survive: of the assignments with one pattern and key the last
 abbrev pub surviving : List Assignment → Map
@@ -152,29 +153,29 @@ abbrev pub IsTreeOfFiles : (etc usr : List Source) → Tree → Type 0
 IsTreeOfFiles etc usr t = map_of t ≡ map_of_files etc usr
 
 -- what a value assigns at a pattern; nothing where its stored key begins with no space
-abbrev pub one_found : List ℕ → Shown → Option (List ℕ) → List Found
+abbrev pub one_found : List ℕ → Shown → Option (List ℕ) → List Assignment
 one_found pattern s None = []
 one_found pattern s (Some key) =
-    record { spot = record { priority = s.priority; line = s.line; pattern = pattern; key = key }; value = s.value; path = s.path } ∷ []
+    record { position = record { priority = s.priority; line = s.line; pattern = pattern; key = key }; value = s.value; path = s.path } ∷ []
 
 -- what a value assigns at a pattern, as readers see it
-unfoldable pub found_shown : List ℕ → Shown → List Found
+unfoldable pub found_shown : List ℕ → Shown → List Assignment
 found_shown pattern s = one_found pattern s s.key
 
 -- what a value assigns at its path
-abbrev pub found_of : List ℕ × Value → List Found
+abbrev pub found_of : List ℕ × Value → List Assignment
 found_of p = found_shown p.0 (shown p.1)
 
 -- the assignments of a tree, from a path on
-abbrev pub members_under : List ℕ → Tree → List Found
+abbrev pub members_under : List ℕ → Tree → List Assignment
 members_under path t = flat_map found_of (values_under path t)
 
 -- the answers, ascending
-unfoldable pub answers : List ℕ → Tree → List Found
-answers device t = in_order found_cmp (filter (is_wanted device) (members_under [] t))
+unfoldable pub answers : List ℕ → Tree → List Assignment
+answers device t = in_order assignment_cmp (filter (is_wanted device) (members_under [] t))
 
 -- the answers after a position
-unfoldable pub answers_after : List ℕ → Option Spot → Tree → List Found
+unfoldable pub answers_after : List ℕ → Option Position → Tree → List Assignment
 answers_after device after t = filter (is_behind after) (answers device t)
 
 -- a `[` that begins no closed bracket: in a longer path it may begin one

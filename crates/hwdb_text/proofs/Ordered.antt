@@ -35,7 +35,7 @@ abbrev at_line : Line → ℕ
 at_line l = l.number
 
 abbrev of_line : Assignment → ℕ
-of_line a = a.line
+of_line a = a.position.line
 
 -- some lines rise up to a number, and others from it
 abbrev Meet : (low : ℕ) → (xs ys : List Line) → (high : ℕ) → Type 0

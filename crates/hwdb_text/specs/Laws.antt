@@ -55,7 +55,7 @@ PrioritiesCountUp = (etc usr : List (List ℕ)) (k : ℕ) → k < length (choice
 
 -- the assignments of a file stand by the lines of their properties
 abbrev pub AssignmentsStandByLine : Type 0
-AssignmentsStandByLine = (o : Origin) (file : List ℕ) → IsNonDecreasingBy (λ a. a.line) (assignments o file)
+AssignmentsStandByLine = (o : Origin) (file : List ℕ) → IsNonDecreasingBy (λ a. a.position.line) (assignments o file)
 
 -- the lines of a section
 abbrev pub lines_of : Section → List Line

@@ -10,7 +10,11 @@ use Rattle.hwdb_spec.specs.Folders.{Choice}
 use Rattle.hwdb_text.specs.declared.choice.Chosen.{Chosen}
 
 abbrev pub assigned : OwnedAssignment → Assignment
-assigned a = record { priority = a.priority; line = a.line; pattern = a.pattern.items; key = a.key.items; value = a.value.items; path = a.path.items }
+assigned a = record {
+  position = record { priority = a.priority; line = a.line; pattern = a.pattern.items; key = a.key.items };
+  value = a.value.items;
+  path = a.path.items;
+}
 
 abbrev pub text_of : Bor (List ℕ) → List ℕ
 text_of text = text.now

@@ -2,10 +2,10 @@
 use Rattle.std.proofs.Common.{◌≡◌, ◌≢◌, ◌<◌, ℕ, List, Option, None, Some, refl, ap, arith, sym, subst, Result, Ok, Err, IfErr}
 use Rattle.std.specs.Option.{option_copied}
 use Rattle.hwdb_query.specs.Views.{given_spot, next_spot}
-use Rattle.hwdb_query.specs.declared.position.Position.{Position}
+use Rattle.hwdb_query.specs.declared.position.Position.{Position as OwnedPosition}
 use Rattle.std.specs.Result.{IsErrAnd}
 use Rattle.std.specs.Borrow.{Bor}
-use Rattle.hwdb_spec.specs.Assignment.{Spot}
+use Rattle.hwdb_spec.specs.Assignment.{Position}
 use Rattle.hwdb_spec.specs.Texts.{IsSpelling}
 use Rattle.hwdb_query.specs.declared.errors.QueryError.{QueryError}
 use Rattle.hwdb_query.specs.declared.errors.QueryError.TheVariants as query
@@ -19,7 +19,7 @@ use Rattle.hwdb_spec.specs.Written.{IsDatabaseOf}
 
 module _ {X : Type 0} where
   pub position_refused : (text : Bor (List ℕ)) (q : QueryError) (r : Result X ToolError) → IsErrAnd r (λ e. e ≡ refusal_of_query q)
-      → (q ≡ query.BadPosition → (p : Spot) → IsSpelling p text.now → ⊥) → q ≢ query.PageZero → IfErr r (IsPositionRefusal (Some text))
+      → (q ≡ query.BadPosition → (p : Position) → IsSpelling p text.now → ⊥) → q ≢ query.PageZero → IfErr r (IsPositionRefusal (Some text))
   position_refused text q (Ok x) h bad page = tt
   position_refused text query.PageZero (Err e) h bad page = absurd (page refl)
   position_refused text query.BadPosition (Err e) h bad page = let P : ToolError → Type 0 = λ x. IsPositionRefusal (Some text) x in subst P (sym h) (bad refl)
@@ -34,7 +34,7 @@ module _ {X : Type 0} where
   cursor_refused (Some text) bytes query.Memory (Err e) h page bad = let P : ToolError → Type 0 = λ x. IsListRefusal (Some text) bytes x in subst P (sym h) tt
 
 -- the position that a caller lends
-pub lent_spot : (lent : Option (Bor Position)) (own : Option Position) → option_copied lent ≡ own → given_spot lent ≡ next_spot own
+pub lent_spot : (lent : Option (Bor OwnedPosition)) (own : Option OwnedPosition) → option_copied lent ≡ own → given_spot lent ≡ next_spot own
 lent_spot None own e = ap next_spot e
 lent_spot (Some p) own e = ap next_spot e
 

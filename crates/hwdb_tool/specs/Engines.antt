@@ -9,7 +9,7 @@ use Rattle.hwdb_spec.specs.declared.DbFault.{DbFault}
 use Rattle.hwdb_tool.specs.declared.errors.ToolError.TheVariants.{BadDatabase, Memory, Write, BadPosition}
 use Rattle.hwdb_tool.specs.declared.errors.ToolError.{ToolError}
 use Rattle.hwdb_spec.specs.Texts.{IsSpelling, list_text, hits_text, within_limit}
-use Rattle.hwdb_spec.specs.Assignment.{Spot, Found}
+use Rattle.hwdb_spec.specs.Assignment.{Position, Assignment}
 
 -- the bytes are a database, and the text is what its tree gives
 pub record IsTextOf (of : Tree → List ℕ) (bytes text : List ℕ) : Type 0 where
@@ -48,7 +48,7 @@ IsQueryRefusal bytes Write = Unit {0}
 IsQueryRefusal bytes _ = ⊥
 
 -- the text handed in as `after`, if there is one, spells the position
-abbrev pub IsAfter : Option (Bor (List ℕ)) → Option Spot → Type 0
+abbrev pub IsAfter : Option (Bor (List ℕ)) → Option Position → Type 0
 IsAfter None None = Unit {0}
 IsAfter None (Some p) = ⊥
 IsAfter (Some text) None = ⊥
@@ -56,23 +56,23 @@ IsAfter (Some text) (Some p) = IsSpelling p text.now
 
 -- a sink took what the tree gives from a position on
 pub record Listed (device : List ℕ) (after : Option (Bor (List ℕ))) (limit : Option ℕ) (bytes : List ℕ) (before now : Option (List ℕ)) : Type 0 where
-  pub from : Option Spot
+  pub from : Option Position
   pub spelled : IsAfter after from
   pub printed : Printed (list_text device from limit) bytes before now
 
 -- a sink took a prefix of it
 pub record ListCutShort (device : List ℕ) (after : Option (Bor (List ℕ))) (limit : Option ℕ) (bytes : List ℕ) (before now : Option (List ℕ)) : Type 0 where
-  pub from : Option Spot
+  pub from : Option Position
   pub spelled : IsAfter after from
   pub cut_short : CutShort (list_text device from limit) bytes before now
 
 -- a sink took the lines of the first hits, whole
-abbrev pub AppendsLines : Option (List ℕ) → Option (List ℕ) → List Found → Type 0
+abbrev pub AppendsLines : Option (List ℕ) → Option (List ℕ) → List Assignment → Type 0
 AppendsLines before now hits = (n : ℕ) × Appends before now (hits_text (take n hits))
 
 -- a sink took whole lines of it
 pub record ListedLines (device : List ℕ) (after : Option (Bor (List ℕ))) (limit : Option ℕ) (bytes : List ℕ) (before now : Option (List ℕ)) : Type 0 where
-  pub from : Option Spot
+  pub from : Option Position
   pub spelled : IsAfter after from
   pub tree : Tree
   pub database : IsDatabase bytes tree
@@ -90,19 +90,19 @@ one_less limit = option_map (λ n. n - 1) limit
 
 -- what reading the text of a position may refuse
 abbrev pub IsPositionRefusal : Option (Bor (List ℕ)) → ToolError → Type 0
-IsPositionRefusal (Some text) BadPosition = (p : Spot) → IsSpelling p text.now → ⊥
+IsPositionRefusal (Some text) BadPosition = (p : Position) → IsSpelling p text.now → ⊥
 IsPositionRefusal after Memory = Unit {0}
 IsPositionRefusal after _ = ⊥
 
 -- the bytes are no database, and what was handed in as `after` isn't what is refused
 pub record IsListFault (after : Option (Bor (List ℕ))) (bytes : List ℕ) (fault : DbFault) : Type 0 where
-  pub from : Option Spot
+  pub from : Option Position
   pub spelled : IsAfter after from
   pub no_database : IsNoDatabase bytes fault
 
 -- what `list` may refuse: a text that spells no position before a fault of the database
 abbrev pub IsListRefusal : Option (Bor (List ℕ)) → (bytes : List ℕ) → ToolError → Type 0
-IsListRefusal (Some text) bytes BadPosition = (p : Spot) → IsSpelling p text.now → ⊥
+IsListRefusal (Some text) bytes BadPosition = (p : Position) → IsSpelling p text.now → ⊥
 IsListRefusal after bytes (BadDatabase fault) = IsListFault after bytes fault
 IsListRefusal after bytes Memory = Unit {0}
 IsListRefusal after bytes Write = Unit {0}

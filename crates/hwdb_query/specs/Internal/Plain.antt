@@ -1,10 +1,10 @@
 -- Our own words: what the plain program, which tests run beside the cursor, keeps of one assignment.
 use Rattle.std.specs.Prelude.{List, Option, [], ℕ, if◌then◌else◌, ◌∷◌}
 use Rattle.std.specs.List.{list_any}
-use Rattle.hwdb_spec.specs.Assignment.{Assignment, Found, Spot}
-use Rattle.hwdb_spec.specs.Answers.{answer_of, is_same_place}
+use Rattle.hwdb_spec.specs.Assignment.{Assignment, Position}
+use Rattle.hwdb_spec.specs.Answers.{is_same_place}
 use Rattle.hwdb_query.specs.Internal.Members.{wanted}
 
 -- the assignment as an answer, if none of those behind it has its pattern and key, and if it is wanted
-abbrev pub last_one : List ℕ → Option Spot → Assignment → List Assignment → List Found
-last_one device after a more = wanted device after (if list_any (is_same_place a) more then [] else answer_of a ∷ [])
+abbrev pub last_one : List ℕ → Option Position → Assignment → List Assignment → List Assignment
+last_one device after a more = wanted device after (if list_any (is_same_place a) more then [] else a ∷ [])

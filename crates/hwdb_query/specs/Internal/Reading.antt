@@ -22,7 +22,7 @@ read_from index c = bytes_at index c.name
 pub record IsPuttable (a : Assignment) : Type 0 where
   pub storable : IsStorable a
   pub path : HasNoZero a.path
-  pub priority : 0 < a.priority
+  pub priority : 0 < a.position.priority
 
 -- why one file is refused
 abbrev pub IsFileRefusal : (bytes : List ℕ) → CompileError → Type 0

@@ -3,10 +3,10 @@
 ghost use Rattle.std.specs.Prelude.{◌≡◌, ◌≤◌, ◌++◌, length, List, [], ◌∷◌, Bool, true, false, not, if◌then◌else◌, map, filter, IfOk, OnOk};
 ghost use Rattle.std.specs.BTreeMap.{insert_entry};
 ghost use Rattle.std.specs.List.{list_any};
-ghost use Rattle.hwdb_spec.specs.Assignment.{Assignment, Found, found_cmp, put, put_all};
+ghost use Rattle.hwdb_spec.specs.Assignment.{Assignment, assignment_cmp, put, put_all};
 ghost use Rattle.hwdb_text.specs.Views.{assigned};
 ghost use Rattle.hwdb_pattern.specs.Laws.{MatchesIsTested};
-ghost use Rattle.hwdb_spec.specs.Answers.{is_match, is_after, effective_of, key_cmp, is_same_place, answer_of, last_assignments};
+ghost use Rattle.hwdb_spec.specs.Answers.{is_match, is_after, effective_of, key_cmp, is_same_place, last_assignments};
 ghost use Rattle.hwdb_query.specs.Views.{found_of_hit, founds, given_spot, pairs_bytes};
 ghost use Rattle.hwdb_query.specs.Internal.Hits.{parts_spot, PlaceOf};
 ghost use Rattle.hwdb_query.specs.Internal.Plain.{last_one};
@@ -67,7 +67,7 @@ fn is_behind(after: Option<&Position>, parts: Parts<'_>) -> bool
 
 /// An assignment as a hit.
 fn hit_of<'a>(alloc: Global, a: &'a Assignment) -> Result<Hit<'a>, AllocError>
-    ensures { IfOk result (λ hit. found_of_hit hit ≡ answer_of (assigned a.now)) }
+    ensures { IfOk result (λ hit. found_of_hit hit ≡ assigned a.now) }
 {
     let pattern = a.pattern.to_vec(alloc)?;
     Ok(Hit {
@@ -83,7 +83,7 @@ fn hit_of<'a>(alloc: Global, a: &'a Assignment) -> Result<Hit<'a>, AllocError>
 /// The place of a position among hits, the first that isn't below it.
 fn place_among(hits: &[Hit<'_>], parts: Parts<'_>) -> Place
     ensures within { result.index ≤ length hits.now }
-    ensures place { (x : Found) → x.spot ≡ parts_spot parts.entry → PlaceOf x (founds hits.now) result }
+    ensures place { (x : Assignment) → x.position ≡ parts_spot parts.entry → PlaceOf x (founds hits.now) result }
 {
     for (i, hit) in hits.iter().enumerate() {
         match order(parts, hit.parts()) {
@@ -110,7 +110,7 @@ fn place_among(hits: &[Hit<'_>], parts: Parts<'_>) -> Place
 
 /// Puts a hit in its place.
 fn put_hit<'a>(hits: &mut Vec<Hit<'a>>, hit: Hit<'a>) -> Result<(), AllocError>
-    ensures { OnOk result (founds hits.new.items ≡ put found_cmp (found_of_hit hit.entry) (founds hits.old.items)) }
+    ensures { OnOk result (founds hits.new.items ≡ put assignment_cmp (found_of_hit hit.entry) (founds hits.old.items)) }
 {
     let held: &[Hit<'_>] = hits;
     let place = place_among(held, hit.parts());
@@ -131,7 +131,7 @@ fn put_last<'a>(
     after: Option<&Position>,
 ) -> Result<(), AllocError>
     ensures { OnOk result (founds hits.new.items
-        ≡ put_all found_cmp (last_one device.now (given_spot after.entry) (assigned first.now) (map assigned more.now)) (founds hits.old.items)) }
+        ≡ put_all assignment_cmp (last_one device.now (given_spot after.entry) (assigned first.now) (map assigned more.now)) (founds hits.old.items)) }
 {
     if is_followed(first, more) {
         return Ok(());

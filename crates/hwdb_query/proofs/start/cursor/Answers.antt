@@ -1,6 +1,6 @@
 use Rattle.std.proofs.Common.{◌≡◌, ◌∙◌, ap, sym, Some}
 use Rattle.hwdb_reader.specs.Views.{db_tree}
-use Rattle.hwdb_spec.specs.Assignment.{Spot}
+use Rattle.hwdb_spec.specs.Assignment.{Position}
 use Rattle.hwdb_spec.specs.Tree.{answers_after}
 use Rattle.hwdb_spec.specs.Folders.{all_assignments}
 use Rattle.hwdb_query.specs.Views.{Progress, next_spot, given_spot}
@@ -15,7 +15,7 @@ returns-clause-headline c = λ etc usr files.
     let from : next_spot c.match-after.after ≡ given_spot c.args.after =
     elim c.match-after.branch [
       | in-None w ↦ ap next_spot w.after-is ∙ sym (ap given_spot w.in-None.is)
-      | in-Some+in_ok-copy-in-Some w ↦ ap next_spot w.after-is ∙ ap (λ (s : Spot). Some s) w.in_ok-copy-in-Some.ensures ∙ sym (ap given_spot w.in-Some.is)
+      | in-Some+in_ok-copy-in-Some w ↦ ap next_spot w.after-is ∙ ap (λ (s : Position). Some s) w.in_ok-copy-in-Some.ensures ∙ sym (ap given_spot w.in-Some.is)
     ] in
     ap (λ (p : Progress). p.to_come) c.start.ensures
     ∙ ap (λ spot. answers_after device spot tree) from

@@ -4,7 +4,7 @@ use Rattle.std.specs.Io.KnownBytes.{Appends}
 use Rattle.hwdb_reader.specs.Views.{db_tree}
 use Rattle.hwdb_spec.specs.Folders.{all_assignments}
 use Rattle.hwdb_spec.specs.Answers.{last_assignments}
-use Rattle.hwdb_spec.specs.Assignment.{Found}
+use Rattle.hwdb_spec.specs.Assignment.{Assignment}
 use Rattle.hwdb_spec.specs.Tree.{answers_after}
 use Rattle.hwdb_query.specs.Views.{next_spot, Progress}
 use Rattle.hwdb_tool.specs.Devices.{AppendsPrefix}
@@ -26,7 +26,7 @@ returns-clause-cut_short g c = λ e.
     let tree = db_tree c.in_ok-db.db in
     let all : c.in_ok-hits.hits.to_come ≡ answers_after device (next_spot c.in_ok-after.after) tree =
     ap (λ (p : Progress). p.to_come) begun ∙ ap (λ s. answers_after device s tree) (lent_spot c.as_ref.result c.in_ok-after.after c.as_ref.ensures.value) in
-    let P : List Found → Type 0 = λ hits. AppendsPrefix (g.O.Sink.taken c.args.out.now) (g.O.Sink.taken c.print_hits.new.out) (hits_text (within_limit c.args.limit hits)) in
+    let P : List Assignment → Type 0 = λ hits. AppendsPrefix (g.O.Sink.taken c.args.out.now) (g.O.Sink.taken c.print_hits.new.out) (hits_text (within_limit c.args.limit hits)) in
     record {
       from = next_spot c.in_ok-after.after;
       spelled = c.in_ok-after.ensures.spelled;
@@ -41,7 +41,7 @@ returns-clause-whole_lines g c = λ e.
     let tree = db_tree c.in_ok-db.db in
     let all : c.in_ok-hits.hits.to_come ≡ answers_after device (next_spot c.in_ok-after.after) tree =
     ap (λ (p : Progress). p.to_come) begun ∙ ap (λ s. answers_after device s tree) (lent_spot c.as_ref.result c.in_ok-after.after c.as_ref.ensures.value) in
-    let P : List Found → Type 0 = λ hits. AppendsLines (g.O.Sink.taken c.args.out.now) (g.O.Sink.taken c.print_hits.new.out) (within_limit c.args.limit hits) in
+    let P : List Assignment → Type 0 = λ hits. AppendsLines (g.O.Sink.taken c.args.out.now) (g.O.Sink.taken c.print_hits.new.out) (within_limit c.args.limit hits) in
     inr (record {
       from = next_spot c.in_ok-after.after;
       spelled = c.in_ok-after.ensures.spelled;
@@ -61,6 +61,6 @@ returns-clause-headline g c =
     let all : c.in_ok-hits.hits.to_come ≡ last_assignments device from (all_assignments etc usr) =
     ap (λ (p : Progress). p.to_come) begun ∙ ap (λ s. answers_after device s tree) (lent_spot c.as_ref.result c.in_ok-after.after c.as_ref.ensures.value)
     ∙ c.compiled_answers_are_last.ensures.after etc usr c.args.bytes.now compiled tree c.in_ok-db.ensures.accepted device from in
-    let P : List Found → Type 0 = λ hits. Appends (g.O.Sink.taken c.args.out.now) (g.O.Sink.taken c.print_hits.new.out) (hits_text (within_limit c.args.limit hits)) in
+    let P : List Assignment → Type 0 = λ hits. Appends (g.O.Sink.taken c.args.out.now) (g.O.Sink.taken c.print_hits.new.out) (hits_text (within_limit c.args.limit hits)) in
     record { from = from; spelled = c.in_ok-after.ensures.spelled; taken = subst P all printed })
     c.print_hits.ensures.printed

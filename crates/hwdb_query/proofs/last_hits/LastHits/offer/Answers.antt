@@ -16,10 +16,10 @@ returns-in_ok-insert c =
     let x = found_at pattern c.in-Some.key.now s in
     let m = c.args.self.now.hits in
     let seen : c.deref-2.result.now ≡ pattern = c.deref-2.ensures.value ∙ ap (λ v. v.items) c.deref.ensures in
-    let late : is_after (spot_at m c.in-Some.key.now) x.spot ≡ _ =
-    ap (λ p. is_after (spot_at m c.in-Some.key.now) (record x.spot { pattern = p })) (sym seen) ∙ sym c.is_last.ensures ∙ c.if-is_last.true in
+    let late : is_after (spot_at m c.in-Some.key.now) x.position ≡ _ =
+    ap (λ p. is_after (spot_at m c.in-Some.key.now) (record x.position { pattern = p })) (sym seen) ∙ sym c.is_last.ensures ∙ c.if-is_last.true in
     let copy : c.in_ok-clone.field-0.value.items ≡ pattern = ap (λ v. v.items) c.in_ok-clone.ensures.cases in
-    let same = ap (λ (p : List ℕ). (record x.spot { pattern = p }, x.value)) copy in
+    let same = ap (λ (p : List ℕ). (record x.position { pattern = p }, x.value)) copy in
     last_offered _ _ pattern c.in-Some.key.now s (ap (λ o. option_map (λ k. k.now) o) c.in-Some.is)
     (λ hits up shows. put_there m c.insert.new.self hits x up shows late
     (λ q. inserted_at m c.insert.new.self x c.in-Some.key _ q refl same (c.in_ok-insert.ensures.updates.0 (record c.in-Some.key { now = q }))))
@@ -31,7 +31,7 @@ returns-else-is_last c =
     let x = found_at pattern c.in-Some.key.now s in
     let m = c.args.self.now.hits in
     let seen : c.deref-2.result.now ≡ pattern = c.deref-2.ensures.value ∙ ap (λ v. v.items) c.deref.ensures in
-    let early : is_after (spot_at m c.in-Some.key.now) x.spot ≡ _ =
-    ap (λ p. is_after (spot_at m c.in-Some.key.now) (record x.spot { pattern = p })) (sym seen) ∙ sym c.is_last.ensures ∙ c.if-is_last.false in
+    let early : is_after (spot_at m c.in-Some.key.now) x.position ≡ _ =
+    ap (λ p. is_after (spot_at m c.in-Some.key.now) (record x.position { pattern = p })) (sym seen) ∙ sym c.is_last.ensures ∙ c.if-is_last.false in
     last_offered _ _ pattern c.in-Some.key.now s (ap (λ o. option_map (λ k. k.now) o) c.in-Some.is)
     (λ hits up shows. left_there m hits x up shows early)

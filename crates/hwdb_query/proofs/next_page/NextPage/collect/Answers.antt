@@ -1,28 +1,30 @@
-use Rattle.std.proofs.Common.{arith, add-one, subst, drop, suc}
+use Rattle.std.proofs.Common.{◌≡◌, ◌∙◌, ◌-◌, ◌<◌, ap, sym, subst, drop, take, length, arith, add-one}
 use Rattle.hwdb_spec.specs.Tree.{values_of}
-use Rattle.hwdb_reader.specs.Views.{entered_tree, entry_shows}
+use Rattle.hwdb_reader.specs.Views.{entered_tree}
 use Rattle.hwdb_query.specs.Internal.Members.{own_members}
 use Rattle.hwdb_query.specs.Internal.Collected.{PageCollects}
-use Rattle.hwdb_query.proofs.Collecting.{page_values_next, page_values_skipped, page_values_over}
+use Rattle.hwdb_query.proofs.Backwards.{walked_to, none_walked, one_walked}
 use Rattle.hwdb_query.proofs.next_page.NextPage.collect.Goals as goal
-use Rattle.hwdb_query.proofs.next_page.NextPage.collect.Goals.{then-not-skips+in_ok-offer, else-not-skips}
+use Rattle.hwdb_query.proofs.next_page.NextPage.collect.Goals.{then-falls, else-falls}
 
-pub loop-i-preserved : goal.loop-i-preserved
-loop-i-preserved c =
-    let values = values_of (entered_tree c.args.inside) in
-    let behind = own_members c.args.pattern.now (drop (suc c.loop-i.i) values) in
-    rw add-one (λ end rest. c.loop-i.invariant end
-    (elim c.if-not-skips.branch [
-      | then-not-skips+in_ok-offer w ↦
-          page_values_next c.loop-i.self w.offer.new.self end c.args.pattern.now values c.loop-i.i (entry_shows w.value.result) w.value.ensures w.in_ok-offer.ensures
-          (subst (λ a. PageCollects a behind end) w.self-is rest)
-      | else-not-skips w ↦
-          page_values_skipped c.loop-i.self end c.args.pattern.now values c.loop-i.i c.origin.result.priority c.origin.result.line c.origin.ensures.priority c.origin.ensures.line
-          (c.skips.ensures w.if-not-skips.false) (subst (λ a. PageCollects a behind end) w.self-is rest)
-    ]))
+pub loop-step-init : goal.loop-step-init
+loop-step-init c = none_walked c.args.self.now c.args.pattern.now c.if-count-gt1.falls (values_of (entered_tree c.args.inside))
 
-pub returns : goal.returns
-returns c =
+pub loop-step-preserved : goal.loop-step-preserved
+loop-step-preserved c =
+    let pattern = c.args.pattern.now in
     let values = values_of (entered_tree c.args.inside) in
-    let n = c.values-i-end.ensures in
-    c.loop-i.invariant c.loop-i.self (page_values_over c.loop-i.self c.args.pattern.now values c.loop-i.i (omega (arith, n, c.loop-i-test.false)))
+    let falls = c.if-count-gt1.falls in
+    let step = c.loop-step.step in
+    let size = c.values-count.ensures in
+    let within : step < length values = subst (λ n. step < n) size c.loop-step-test.true in
+    let at : c.if-falls.i ≡ walked_to falls step values =
+    elim c.if-falls.branch [
+      | then-falls w ↦
+          let is = w.i-is in
+          let back : c.if-falls.i ≡ length values - 1 - step = omega (arith, is, size) in
+          back ∙ sym (ap (λ f. walked_to f step values) w.if-falls.true)
+      | else-falls w ↦ w.i-is ∙ sym (ap (λ f. walked_to f step values) w.if-falls.false)
+    ] in
+    rw add-one (one_walked c.args.self.now c.loop-step.self c.collect_one.new.self pattern falls (entered_tree c.args.inside) step c.law_ascending.ensures within c.loop-step.invariant
+    (subst (λ i. PageCollects c.loop-step.self (own_members pattern (take 1 (drop i values))) c.collect_one.new.self) at c.in_ok-collect_one.ensures))

@@ -5,7 +5,7 @@ use Rattle.hwdb_query.proofs.next_page.NextPage.skips.Goals as goal
 
 pub returns-then-is_earlier : goal.returns-then-is_earlier
 returns-then-is_earlier c = λ is x of.
-    skipped_before c.args.self.now (parts_spot c.in-Some.after) x (ap after_spot c.in-Some.is) (c.is_earlier.ensures c.if-is_earlier.true x.spot (parts_spot c.in-Some.after) of c.origin.ensures)
+    skipped_before c.args.self.now (parts_spot c.in-Some.after) x (ap after_spot c.in-Some.is) (c.is_earlier.ensures c.if-is_earlier.true x.position (parts_spot c.in-Some.after) of c.origin.ensures)
 
 pub returns : goal.returns
 returns c = λ is x of. skipped_behind c.args.self.now x (λ up. c.is_full_before.ensures is up x of)

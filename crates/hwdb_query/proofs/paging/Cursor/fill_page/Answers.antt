@@ -1,20 +1,20 @@
 use Rattle.std.proofs.Common.{◌≡◌, ◌∙◌, ap, sym, refl, subst, ℕ, List, [], ◌∷◌, length, reverse, take, Option, Some, Bool, false, arith}
 use Rattle.hwdb_spec.specs.Tree.{Tree, answers_after}
 use Rattle.hwdb_reader.specs.Views.{db_tree}
-use Rattle.hwdb_query.specs.declared.position.Position.{Position}
-use Rattle.hwdb_spec.specs.Assignment.{Spot, Found}
+use Rattle.hwdb_query.specs.declared.position.Position.{Position as OwnedPosition}
+use Rattle.hwdb_spec.specs.Assignment.{Position, Assignment}
 use Rattle.hwdb_query.specs.Internal.Hits.{IsFirst, after_spot}
 use Rattle.hwdb_query.specs.Views.{Progress, position_spot, next_spot, still_to_come}
 use Rattle.hwdb_query.proofs.Resuming.{page_left}
 use Rattle.hwdb_query.proofs.paging.Cursor.fill_page.Goals as goal
 use Rattle.hwdb_query.proofs.paging.Cursor.fill_page.Goals.{in-None, in-Some, in-Some-1, in-None-1}
 
-none_held : (hits : List Found) → length hits ≡ 0 → hits ≡ []
+none_held : (hits : List Assignment) → length hits ≡ 0 → hits ≡ []
 none_held [] h = refl
 none_held (x ∷ hits) h = absurd (omega arith)
 
 -- the page that was taken, and what it left, are what was to come
-page_taken : (device : List ℕ) (before after : Option Spot) (t : Tree) (ended : Bool) (old new : List Found) (page : ℕ) (last : Option Position) (p : Position) (to_come : List Found)
+page_taken : (device : List ℕ) (before after : Option Position) (t : Tree) (ended : Bool) (old new : List Assignment) (page : ℕ) (last : Option OwnedPosition) (p : OwnedPosition) (to_come : List Assignment)
     → still_to_come device before t ended old ≡ to_come → ended ≡ false → length old ≡ 0 → after ≡ before → new ≡ reverse (take page (answers_after device after t))
     → IsFirst new last → last ≡ Some p → still_to_come device (Some (position_spot p)) t ended new ≡ to_come
 page_taken device before after t ended old new page last p to_come is opened empty same hits first l =
@@ -31,7 +31,7 @@ returns-in-Some-last-clause-to_come c =
     let same : after_spot c.match-self.after ≡ next_spot inside.after =
     elim c.match-self.branch [
       | in-None w ↦ ap after_spot w.after-is ∙ sym (ap next_spot w.in-None.is)
-      | in-Some w ↦ ap after_spot w.after-is ∙ ap (λ (s : Spot). Some s) w.parts.ensures ∙ sym (ap next_spot w.in-Some.is)
+      | in-Some w ↦ ap after_spot w.after-is ∙ ap (λ (s : Position). Some s) w.parts.ensures ∙ sym (ap next_spot w.in-Some.is)
     ] in
     let is = ap (λ (p : Progress). p.to_come) c.self.view_is in
     let opened = ap (λ (p : Progress). p.ended) c.self.view_is ∙ c.requires.open in

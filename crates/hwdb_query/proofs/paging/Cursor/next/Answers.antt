@@ -1,13 +1,13 @@
 use Rattle.std.proofs.Common.{◌≡◌, ◌∙◌, ap, sym, refl, ℕ, ◌<◌, min, List, [], ◌∷◌, length, Option, Some, None, IfSome, arith}
 use Rattle.hwdb_query.specs.declared.hit.Hit.{Hit}
-use Rattle.hwdb_spec.specs.Assignment.{Found}
+use Rattle.hwdb_spec.specs.Assignment.{Assignment}
 use Rattle.hwdb_query.specs.Views.{found_of_hit, Gives, Progress}
 use Rattle.hwdb_query.proofs.paging.Cursor.next.Goals as goal
 
 no_more : (page n : ℕ) → 0 < page → 0 ≡ min page n → n ≡ 0
 no_more page n big e = omega arith
 
-empty_list : (l : List Found) → length l ≡ 0 → l ≡ []
+empty_list : (l : List Assignment) → length l ≡ 0 → l ≡ []
 empty_list [] h = refl
 empty_list (x ∷ l) h = absurd (omega arith)
 
