@@ -7,7 +7,7 @@ ghost use Rattle.hwdb_reader.specs.Views.{db_tree};
 ghost use Rattle.hwdb_query.specs.Laws.{AreAnswers, FillingsOfARun, AllCompiledAnswersAreLast, CompiledAnswersAreLast, EachPlaceSurvives, SurvivorsAreAssigned, SurvivorsAreLatest, SpellsOne, CanonicalSpells};
 ghost use Rattle.hwdb_query.specs.Rows.{EffectiveRow, LastRows};
 
-use hwdb_layout::{law_ascending, law_one_tree};
+use hwdb_reader::{law_ascending, law_one_tree};
 use hwdb_pattern::matches_is_tested;
 use hwdb_reader::Db;
 use hwdb_text::laws::{assignments_stand_by_line, priorities_count_up};

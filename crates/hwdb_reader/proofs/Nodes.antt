@@ -7,7 +7,7 @@ use Rattle.hwdb_spec.specs.Tree.{Tree, count}
 use Rattle.hwdb_spec.specs.Tree.Tree.{Node}
 use Rattle.hwdb_spec.specs.Format.{NodeText, ChildrenText, ValuesText, values_at, children_at, tree_at, IsPlace, child_entry, child_count, child_byte, child_field, value_entries, value_count, record_end, prefix_field, Fits, ChildrenFit, Reached, NodeFault, ValuesFault, child_from, Stands, byte_before}
 use Rattle.hwdb_spec.specs.Format.Reached.{Below}
-use Rattle.hwdb_layout.proofs.Bounds.{begins_before, children_room}
+use Rattle.hwdb_reader.proofs.Bounds.{begins_before, children_room}
 
 pub length-values_at : (l : Layout) (b : List ℕ) (e n : ℕ) → length (values_at l b e n) ≡ n
 unfolding values_at

@@ -7,7 +7,7 @@ ghost use Rattle.hwdb_reader.specs.Views.{db_tree};
 use crate::header::check_header;
 use crate::view::{Db, Node};
 use crate::walk::walk;
-use hwdb_layout::DbFault;
+use hwdb_spec::DbFault;
 
 /// How many nodes may stand one below the other, the root counted.
 const MAX_LEVELS: usize = 4097;

@@ -4,7 +4,7 @@ ghost use Rattle.hwdb_spec.specs.Format.{layout_of, IsHeader, HeaderFault};
 
 use crate::fields::u64_at;
 use crate::frame::Frame;
-use hwdb_layout::{DbFault, Layout};
+use hwdb_spec::{DbFault, Layout};
 
 /// Tests all that stands in the header, and the last byte. The first of B1 to B5 that stands is answered.
 #[tactic(auto, unfolding(hwdb_spec::specs::Format::layout_of))]

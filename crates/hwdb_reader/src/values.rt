@@ -4,7 +4,7 @@ ghost use Rattle.hwdb_spec.specs.Format.{IsValue, ValuesText, values_at, EntryFa
 
 use crate::fields::{is_place, text, u16_at, u64_at};
 use crate::frame::Frame;
-use hwdb_layout::DbFault;
+use hwdb_spec::DbFault;
 
 /// Tests one value entry: its three strings are inside the string section, its priority isn't 0.
 fn check_value(b: &[u8], l: Frame, entry: usize) -> Result<(), DbFault>

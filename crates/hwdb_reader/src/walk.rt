@@ -5,7 +5,7 @@ ghost use Rattle.hwdb_spec.specs.Format.{record_end, prefix_field, value_entries
 use crate::fields::{is_place, u64_at};
 use crate::frame::Frame;
 use crate::values::check_values;
-use hwdb_layout::DbFault;
+use hwdb_spec::DbFault;
 
 /// Where the record at `off` ends, if it lies between `from` and `limit`. No sum wraps.
 #[tactic(auto, unfolding(hwdb_spec::specs::Format::record_end))]

@@ -5,8 +5,8 @@ use Rattle.hwdb_spec.specs.declared.DbFault.{DbFault}
 use Rattle.hwdb_spec.specs.declared.DbFault.TheVariants.{Place}
 use Rattle.hwdb_spec.specs.Tree.{Tree, node_count}
 use Rattle.hwdb_spec.specs.Format.{NodeText, tree_at, record_end, layout_of, IsHeader, IsDatabase, max_levels, Fits, Stands, HeaderFault, FaultStands}
-use Rattle.hwdb_layout.proofs.Unique.{tree_is}
-use Rattle.hwdb_layout.proofs.Bounds.{begins_before, node_room}
+use Rattle.hwdb_reader.proofs.Unique.{tree_is}
+use Rattle.hwdb_reader.proofs.Bounds.{begins_before, node_room}
 
 pub strings_inside : (b : List ℕ) → IsHeader b → (layout_of b).strings ≤ length b
 unfolding layout_of

@@ -1,7 +1,7 @@
 use Rattle.std.proofs.Common.{refl}
 use Rattle.hwdb_spec.specs.Tree.{count}
 use Rattle.hwdb_spec.specs.Written.{add_string, ascending, strings_of, place_of, text_size, record_at, entries_text, node_text, written}
-use Rattle.hwdb_layout.proofs.law_samples.Goals as goal
+use Rattle.hwdb_reader.proofs.laws.law_samples.Goals as goal
 
 pub returns-clause-empty : goal.returns-clause-empty
 unfolding count add_string ascending strings_of place_of text_size record_at entries_text node_text written

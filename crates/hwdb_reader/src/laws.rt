@@ -1,16 +1,10 @@
-//! Laws of the format of a hardware database, which its writer and its reader both stand on.
-//!
-//! The functions below hold no code: each is a law of the definitions of `hwdb_spec`, its contract.
-#![tactic(auto)]
-
+//! Laws of the format: each function holds no code, its contract is a law of the definitions of `hwdb_spec`.
 ghost use Rattle.std.specs.Prelude.{◌≡◌, ◌<◌, ℕ, List, length};
 ghost use Rattle.hwdb_spec.specs.Tree.{Tree, node_count, IsTree};
 ghost use Rattle.hwdb_spec.specs.Format.{IsDatabase, FaultStands};
 ghost use Rattle.hwdb_spec.specs.declared.DbFault.{DbFault};
 ghost use Rattle.hwdb_spec.specs.Written.{written};
-ghost use Rattle.hwdb_layout.specs.Samples.{empty_tree, empty_bytes, one_tree, one_bytes, two_tree, two_bytes};
-
-pub use hwdb_spec::{DbFault, Layout};
+ghost use Rattle.hwdb_reader.specs.Samples.{empty_tree, empty_bytes, one_tree, one_bytes, two_tree, two_bytes};
 
 /// Bytes are a database of one tree at most.
 pub fn law_one_tree()

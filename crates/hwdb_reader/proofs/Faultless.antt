@@ -11,8 +11,8 @@ use Rattle.hwdb_spec.specs.Tree.Tree.{Node}
 use Rattle.hwdb_spec.specs.Tree.Children.{NoMore, Child}
 use Rattle.hwdb_spec.specs.Format.{number_at, IsPlace, IsValue, text_at, value_at, ValuesText, NodeText, ChildrenText, child_entry, child_count, child_byte, child_field, value_entries, value_count, record_end, layout_of, IsHeader, IsDatabase, IsField, ValuesFault, Fits, child_from, Reached, byte_before, NodeFault, Stands, HeaderFault, FaultStands}
 use Rattle.hwdb_spec.specs.Format.Reached.{Root, Below}
-use Rattle.hwdb_layout.proofs.Bounds.{children_room, begins_before}
-use Rattle.hwdb_layout.proofs.Whole.{large_nodes, root_fits}
+use Rattle.hwdb_reader.proofs.Bounds.{children_room, begins_before}
+use Rattle.hwdb_reader.proofs.Whole.{large_nodes, root_fits}
 
 module _ (l : Layout) (b : List ℕ) where
   values_stand : (entry : ℕ) (before : Option (List ℕ)) (vs : List Value) (i : ℕ) → ValuesText l b entry before vs → i < length vs → IsValue l b (entry + l.value_size * i)
