@@ -1,5 +1,6 @@
 //! The view of a database that was accepted. That its bytes are a database stands in the types'
 //! invariants: no read tests an offset again or copies a text, and each slice is a part of the bytes.
+ghost use Rattle.std.specs.Prelude.{◌<◌};
 ghost use Rattle.hwdb_reader.specs.Internal.Placed.{Placed};
 
 use crate::fields::{text, u64_at};
@@ -84,6 +85,7 @@ pub struct Entry<'a> {
     pub value: &'a [u8],
     /// The stored path of its file.
     pub path: &'a [u8],
+    ghost positive: { 0 < priority },
 }
 
 /// The place in the files that a value comes from.

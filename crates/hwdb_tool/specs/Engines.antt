@@ -1,5 +1,5 @@
 -- What the calls that read a database write, and what they refuse (systemd-hwdb(8)); `list` is our choice.
-use Rattle.std.specs.Prelude.{List, ℕ, ◌≡◌, Option, None, Some, take, option_map, ◌-◌}
+use Rattle.std.specs.Prelude.{ℕ, List, ◌≡◌, Option, None, Some, take, option_map, ◌-◌}
 use Rattle.std.specs.Io.KnownBytes.{Appends}
 use Rattle.std.specs.Borrow.{Bor}
 use Rattle.hwdb_spec.specs.Format.{IsDatabase, FaultStands}
@@ -10,6 +10,10 @@ use Rattle.hwdb_tool.specs.declared.errors.ToolError.TheVariants.{BadDatabase, M
 use Rattle.hwdb_tool.specs.declared.errors.ToolError.{ToolError}
 use Rattle.hwdb_spec.specs.Texts.{IsSpelling, list_text, hits_text, within_limit}
 use Rattle.hwdb_spec.specs.Assignment.{Position, Assignment}
+
+-- how many hits `list` holds at most
+abbrev pub list_page : ℕ
+list_page = 64
 
 -- the bytes are a database, and the text is what its tree gives
 pub record IsTextOf (of : Tree → List ℕ) (bytes text : List ℕ) : Type 0 where

@@ -234,3 +234,24 @@ fn tips(rt: HostRuntime) -> Result<(), Fail> {
     }
     Ok(())
 }
+
+#[test]
+fn error_texts(rt: HostRuntime) -> Result<(), Fail> {
+    let alloc = rt.alloc();
+    let help = WordsFault::Help {
+        text: String::from_str(alloc, "a help text")?,
+    };
+    let usage = WordsFault::Usage {
+        text: String::from_str(alloc, "a usage text")?,
+    };
+    let rows = [
+        (help, "a help text"),
+        (usage, "a usage text"),
+        (WordsFault::Memory, "out of memory"),
+    ];
+    for (error, want) in rows {
+        let text = format!(in alloc; "{error}")?;
+        assert_eq!(rt; text.as_str(), want);
+    }
+    Ok(())
+}

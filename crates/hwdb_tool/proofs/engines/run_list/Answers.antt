@@ -8,7 +8,7 @@ use Rattle.hwdb_spec.specs.Assignment.{Assignment}
 use Rattle.hwdb_spec.specs.Tree.{answers_after}
 use Rattle.hwdb_query.specs.Views.{next_spot, Progress}
 use Rattle.hwdb_tool.specs.Devices.{AppendsPrefix}
-use Rattle.hwdb_tool.specs.Engines.{AppendsLines}
+use Rattle.hwdb_tool.specs.Engines.{AppendsLines, list_page}
 use Rattle.hwdb_spec.specs.Texts.{hits_text, within_limit}
 use Rattle.hwdb_tool.proofs.Refused.{cursor_refused, lent_spot, not_zero}
 use Rattle.hwdb_tool.proofs.engines.run_list.Goals as goal
@@ -16,7 +16,7 @@ use Rattle.hwdb_tool.proofs.engines.run_list.Goals as goal
 pub returns-in_err-hits-clause-refusals : goal.returns-in_err-hits-clause-refusals
 returns-in_err-hits-clause-refusals g c =
     cursor_refused c.args.after c.args.bytes.now c.in_err-hits.field-0.0 _ c.from_residual-in_err-hits.ensures.1
-    (λ e. not_zero 64 (c.in_err-hits.ensures.page e) (omega arith)) c.in_err-hits.ensures.known
+    (λ e. not_zero list_page (c.in_err-hits.ensures.page e) (omega arith)) c.in_err-hits.ensures.known
 
 pub returns-clause-cut_short : goal.returns-clause-cut_short
 returns-clause-cut_short g c = λ e.
