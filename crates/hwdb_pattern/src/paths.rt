@@ -25,7 +25,8 @@ pub struct Reach<'d> {
 impl<'d> Model for Reach<'d> {
     ghost Value = { Reached };
 
-    ghost view = { λ r. record { device = r.device.now; lengths = r.lengths.items; kept = r.kept.items } };
+    ghost view = { λ r. record
+        { device = r.device.now; lengths = r.lengths.items; kept = r.kept.items } };
 
     ghost invariant = { λ r. Within r.device.now r.lengths.items };
 }

@@ -18,10 +18,10 @@ use Rattle.hwdb_spec.specs.Assignment.{put, in_order, Ascends, Assignment, posit
 use Rattle.hwdb_spec.specs.Answers.{is_after, key_cmp, key_of_answer, has_key, last_value, effective_of}
 use Rattle.hwdb_query.specs.Views.{pair_bytes, pairs_bytes}
 use Rattle.hwdb_query.specs.Internal.Pairs.{put_values}
-use Rattle.hwdb_query.specs.Internal.Collected.{Told, told, told_last, told_at, spot_at, last_with, Shows}
+use Rattle.hwdb_query.specs.Internal.Collected.{Told, told, told_last, told_at, position_at, last_with, Shows}
 use Rattle.hwdb_query.specs.declared.last_hits.Last.{Last}
 use Rattle.hwdb_query.proofs.Putting.{ascends_all, all_above, above_of}
-use Rattle.hwdb_query.proofs.Orders.{found_total}
+use Rattle.hwdb_query.proofs.Orders.{assignment_total}
 use Rattle.hwdb_query.proofs.Members.{then_equal, equal_of, same_text}
 use Rattle.hwdb_query.proofs.Keyed.{all_put, flipped}
 
@@ -107,7 +107,7 @@ some_newer key x z o =
     ]
 
 greater_not : (x z : Assignment) → assignment_cmp x z ≡ Less → is_lt (assignment_cmp z x) ≡ false
-greater_not x z h = ap is_lt (found_total.antisymm z x ∙ ap ordering_reverse h)
+greater_not x z h = ap is_lt (assignment_total.antisymm z x ∙ ap ordering_reverse h)
 
 none_below : (x : Assignment) (l : List Assignment) → AllByRecursion (λ z. assignment_cmp x z ≡ Less) l → AllByRecursion (λ z. is_lt (assignment_cmp z x) ≡ false) l
 none_below x [] all = tt
@@ -145,7 +145,7 @@ alike x y [] e all = tt
 alike x y (z ∷ zs) e all = (same z ∙ all.0, alike x y zs e all.1)
   where
     same : (z : Assignment) → assignment_cmp x z ≡ assignment_cmp y z
-    same z = found_total.antisymm x z ∙ ap ordering_reverse (alike_right found_total x y z e) ∙ sym (found_total.antisymm y z)
+    same z = assignment_total.antisymm x z ∙ ap ordering_reverse (alike_right assignment_total x y z e) ∙ sym (assignment_total.antisymm y z)
 
 -- one more hit in its place
 last_put : (key : List ℕ) (x : Assignment) (l : List Assignment) → Ascends assignment_cmp l → last_at key (put assignment_cmp x l) ≡ newer key x (last_at key l)
@@ -156,17 +156,17 @@ last_put key x (y ∷ ys) up =
     let least = up.0 in
     elim (assignment_cmp x y) as (λ o. assignment_cmp x y ≡ o → last_at key (match_ordering o (x ∷ y ∷ ys) (y ∷ ys) (y ∷ put assignment_cmp x ys)) ≡ newer key x (last_at key (y ∷ ys))) [
       | Less ↦ λ e.
-          let below : AllByRecursion (λ z. is_lt (assignment_cmp z x) ≡ false) (y ∷ ys) = none_below x (y ∷ ys) (e, all_above assignment_cmp found_total x y ys e least) in
+          let below : AllByRecursion (λ z. is_lt (assignment_cmp z x) ≡ false) (y ∷ ys) = none_below x (y ∷ ys) (e, all_above assignment_cmp assignment_total x y ys e least) in
           elim (last_at key (y ∷ ys)) as (λ o. last_at key (y ∷ ys) ≡ o → first_some o (one key x) ≡ newer key x o) [
             | None ↦ λ d. sym (is_newer key x)
             | Some z ↦ λ d. sym (stays key x z (of_last (λ z. is_lt (assignment_cmp z x) ≡ false) key (y ∷ ys) z below d))
           ] refl
       | Equal ↦ λ e.
-          let tied : assignment_cmp y x ≡ Equal = found_total.antisymm y x ∙ ap ordering_reverse e in
+          let tied : assignment_cmp y x ≡ Equal = assignment_total.antisymm y x ∙ ap ordering_reverse e in
           let above : AllByRecursion (λ z. assignment_cmp x z ≡ Less) ys = alike x y ys e least in
           all_stay key x (y ∷ ys) (last_at key (y ∷ ys)) (ap is_lt tied, none_below x ys above) refl (some_there key x y ys e)
       | Greater ↦ λ e.
-          let less : assignment_cmp y x ≡ Less = above_of assignment_cmp found_total x y e in
+          let less : assignment_cmp y x ≡ Less = above_of assignment_cmp assignment_total x y e in
           ap (λ o. first_some o (one key y)) again
           ∙ elim (last_at key ys) as (λ o. first_some (newer key x o) (one key y) ≡ newer key x (first_some o (one key y))) [
             | None ↦ ap (λ o. first_some o (one key y)) (is_newer key x) ∙ replaces key x y less
@@ -184,18 +184,18 @@ key_is : (key : List ℕ) (x : Assignment) → has_key key x ≡ true → key �
 key_is key x h = same_text key x.position.key (equal_of _ h)
 
 -- a hit that doesn't come after the one that stands at its key
-pub left_there : (m : Hits) (hits : List Assignment) (x : Assignment) → Ascends assignment_cmp hits → Shows m hits → is_after (spot_at m x.position.key) x.position ≡ false → Shows m (put assignment_cmp x hits)
+pub left_there : (m : Hits) (hits : List Assignment) (x : Assignment) → Ascends assignment_cmp hits → Shows m hits → is_after (position_at m x.position.key) x.position ≡ false → Shows m (put assignment_cmp x hits)
 left_there m hits x up shows early = λ key.
     shows key ∙ ap (option_map told)
     (sym (with_put key x hits up
     ∙ elim (has_key key x) as (λ b. has_key key x ≡ b → cond b (cond (is_after (option_map (λ (t : Told). t.0) (option_map told (last_with key hits))) x.position) (Some x) (last_with key hits)) (last_with key hits) ≡ last_with key hits) [
       | true ↦ λ e. ap (λ b. cond b (Some x) (last_with key hits))
-          (ap (λ (o : Option Told). is_after (option_map (λ (t : Told). t.0) o) x.position) (sym (shows key)) ∙ ap (λ k. is_after (spot_at m k) x.position) (key_is key x e) ∙ early)
+          (ap (λ (o : Option Told). is_after (option_map (λ (t : Told). t.0) o) x.position) (sym (shows key)) ∙ ap (λ k. is_after (position_at m k) x.position) (key_is key x e) ∙ early)
       | false ↦ λ e. refl
     ] refl))
 
 -- a hit that stands at its key from now on
-pub put_there : (m n : Hits) (hits : List Assignment) (x : Assignment) → Ascends assignment_cmp hits → Shows m hits → is_after (spot_at m x.position.key) x.position ≡ true
+pub put_there : (m n : Hits) (hits : List Assignment) (x : Assignment) → Ascends assignment_cmp hits → Shows m hits → is_after (position_at m x.position.key) x.position ≡ true
     → ((key : List ℕ) → told_at n key ≡ cond (has_key key x) (Some (told x)) (told_at m key)) → Shows n (put assignment_cmp x hits)
 put_there m n hits x up shows late now = λ key.
     now key ∙ ap (cond (has_key key x) (Some (told x))) (shows key)
@@ -203,7 +203,7 @@ put_there m n hits x up shows late now = λ key.
     ∙ elim (has_key key x) as (λ b. has_key key x ≡ b → option_map told (cond b (cond (is_after (option_map (λ (t : Told). t.0) (option_map told (last_with key hits))) x.position) (Some x) (last_with key hits)) (last_with key hits))
     ≡ cond b (Some (told x)) (option_map told (last_with key hits))) [
       | true ↦ λ e. ap (λ b. option_map told (cond b (Some x) (last_with key hits)))
-          (ap (λ (o : Option Told). is_after (option_map (λ (t : Told). t.0) o) x.position) (sym (shows key)) ∙ ap (λ k. is_after (spot_at m k) x.position) (key_is key x e) ∙ late)
+          (ap (λ (o : Option Told). is_after (option_map (λ (t : Told). t.0) o) x.position) (sym (shows key)) ∙ ap (λ k. is_after (position_at m k) x.position) (key_is key x e) ∙ late)
       | false ↦ λ e. refl
     ] refl)
 

@@ -17,7 +17,7 @@ use Rattle.hwdb_spec.specs.Answers.{is_wanted, is_behind, is_same_place, last_of
 use Rattle.hwdb_query.specs.Laws.{Among, assigned_of}
 use Rattle.hwdb_query.proofs.Putting.{ascends_all}
 use Rattle.hwdb_query.proofs.Latest.{same_place}
-use Rattle.hwdb_query.proofs.Orders.{found_total}
+use Rattle.hwdb_query.proofs.Orders.{assignment_total}
 use Rattle.hwdb_query.proofs.Members.{all_sound, all_has, filter_sound, filter_complete, none_ascends, in_none, then_equal, same_text, place_total, are_answers}
 
 -- the first of two that there is
@@ -165,10 +165,10 @@ among_all P f (x ∷ xs) all m = elim m [ inl is ↦ subst P is all.0 | inr r �
 
 never_less : (x y : Assignment) → assignment_cmp x y ≡ Less → x ≡ y → ⊥
 never_less x y less is =
-    let no : Equal ≡ Less = sym (tied_itself found_total x) ∙ ap (assignment_cmp x) is ∙ less in absurd (cc)
+    let no : Equal ≡ Less = sym (tied_itself assignment_total x) ∙ ap (assignment_cmp x) is ∙ less in absurd (cc)
 
 crossed : (x y : Assignment) → assignment_cmp x y ≡ Less → assignment_cmp y x ≡ Less → ⊥
-crossed x y a b = never_less x x (found_total.trans x y x a b) refl
+crossed x y a b = never_less x x (assignment_total.trans x y x a b) refl
 
 -- two ascending lists with the same members have the same first one
 same_first : (x y : Assignment) (xs ys : List Assignment) → Ascends assignment_cmp (x ∷ xs) → Ascends assignment_cmp (y ∷ ys) → Among x (y ∷ ys) → Among y (x ∷ xs) → x ≡ y
@@ -215,7 +215,7 @@ same_answers tested device t all tree is =
     let single : (x y : Assignment) → Among x (filter w fs) → Among y (filter w fs) → assignment_cmp x y ≡ Equal → x ≡ y =
     λ x y mx my e. same_answer x y all (last_sound x all (filter_sound x w fs mx).0) (last_sound y all (filter_sound y w fs my).0) e in
     same_ascending (answers device t) (in_order assignment_cmp (filter w fs)) A.ascends
-    (ascends_all assignment_cmp found_total (filter w fs) [] none_ascends)
+    (ascends_all assignment_cmp assignment_total (filter w fs) [] none_ascends)
     (λ f m.
     let s = A.sound f m in
     let here : Among f (filter w fs) = filter_complete f w fs (last_complete f all (sym (at f) ∙ s.0)) ((tested (tokens f.position.pattern) device).1 s.1) in

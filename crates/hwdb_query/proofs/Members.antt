@@ -8,14 +8,14 @@ use Rattle.std.specs.Ordering.{nat_cmp, is_eq, match_ordering, ordering_then}
 use Rattle.std.specs.declared.cmp.Ordering.{Ordering}
 use Rattle.std.specs.declared.cmp.Ordering.TheVariants.{Less, Equal, Greater}
 use Rattle.std.proofs.lemmas.Cmp.{nat_list_cmp_total, tied_itself, on_total, then_total}
-use Rattle.hwdb_spec.specs.Tree.{Tree, Value, values_under, IsTree, Assigned, place_cmp, map_of, assigned_at, shown, key_of, one_found, found_shown, found_of, members_under, answers}
+use Rattle.hwdb_spec.specs.Tree.{Tree, Value, values_under, IsTree, Assigned, place_cmp, map_of, assigned_at, shown, key_of, one_assignment, assignment_shown, assignment_of, members_under, answers}
 use Rattle.hwdb_spec.specs.Patterns.{tokens}
 use Rattle.hwdb_pattern.specs.Laws.{MatchesIsTested}
 use Rattle.hwdb_spec.specs.Assignment.{put, put_all, Ascends, Assignment, position_cmp, assignment_cmp}
 use Rattle.hwdb_spec.specs.Answers.{is_wanted}
 use Rattle.hwdb_query.specs.Laws.{Among, assigned_of, AreAnswers}
 use Rattle.hwdb_query.proofs.Putting.{ascends_all}
-use Rattle.hwdb_query.proofs.Orders.{found_total}
+use Rattle.hwdb_query.proofs.Orders.{assignment_total}
 use Rattle.hwdb_query.proofs.Distinct.{Apart, Distinct, under_distinct}
 
 put_sound : (f x : Assignment) (l : List Assignment) → Among f (put assignment_cmp x l) → (x ≡ f) ⊎ Among f l
@@ -108,13 +108,13 @@ key_is (c ∷ rest) key h =
     ] refl h
 
 -- a place that an entry has is no other entry's
-place_free : (pattern key : List ℕ) (v : Value) (ps : List (List ℕ × Value)) → Apart (pattern, v) ps → key_of v.key ≡ Some key → (f : Assignment) → Among f (flat_map found_of ps)
+place_free : (pattern key : List ℕ) (v : Value) (ps : List (List ℕ × Value)) → Apart (pattern, v) ps → key_of v.key ≡ Some key → (f : Assignment) → Among f (flat_map assignment_of ps)
     → pattern ≡ f.position.pattern → key ≡ f.position.key → ⊥
-unfolding Among found_shown
+unfolding Among assignment_shown
 place_free pattern key v [] apart h f m pe ke = m
 place_free pattern key v (q ∷ ps) apart h f m pe ke =
-    let again : Among f (flat_map found_of ps) → ⊥ = λ k. place_free pattern key v ps apart.1 h f k pe ke in
-    elim (key_of q.1.key) as (λ o. key_of q.1.key ≡ o → Among f (one_found q.0 (shown q.1) o ++ flat_map found_of ps) → ⊥) [
+    let again : Among f (flat_map assignment_of ps) → ⊥ = λ k. place_free pattern key v ps apart.1 h f k pe ke in
+    elim (key_of q.1.key) as (λ o. key_of q.1.key ≡ o → Among f (one_assignment q.0 (shown q.1) o ++ flat_map assignment_of ps) → ⊥) [
       | None ↦ λ e k. again k
       | Some other ↦ λ e k. elim k [
         | inl is ↦ apart.0 (pe ∙ sym (ap (λ (x : Assignment). x.position.pattern) is))
@@ -142,12 +142,12 @@ place_total = then_total (on_total (λ (p : List ℕ × List ℕ). p.0) nat_list
 entries_of : List (List ℕ × Value) → List ((List ℕ × List ℕ) × Assigned)
 entries_of ps = flat_map (λ p. assigned_at p.0 p.1 (key_of p.1.key)) ps
 
-find_sound : (f : Assignment) (ps : List (List ℕ × Value)) → Distinct ps → Among f (flat_map found_of ps) → finite.find place_cmp (f.position.pattern, f.position.key) (entries_of ps) ≡ Some (assigned_of f)
-unfolding Among found_shown Distinct entries_of
+find_sound : (f : Assignment) (ps : List (List ℕ × Value)) → Distinct ps → Among f (flat_map assignment_of ps) → finite.find place_cmp (f.position.pattern, f.position.key) (entries_of ps) ≡ Some (assigned_of f)
+unfolding Among assignment_shown Distinct entries_of
 find_sound f [] d m = absurd m
 find_sound f (p ∷ ps) d m =
-    let again : Among f (flat_map found_of ps) → finite.find place_cmp (f.position.pattern, f.position.key) (entries_of ps) ≡ Some (assigned_of f) = find_sound f ps d.1 in
-    elim (key_of p.1.key) as (λ o. key_of p.1.key ≡ o → Among f (one_found p.0 (shown p.1) o ++ flat_map found_of ps)
+    let again : Among f (flat_map assignment_of ps) → finite.find place_cmp (f.position.pattern, f.position.key) (entries_of ps) ≡ Some (assigned_of f) = find_sound f ps d.1 in
+    elim (key_of p.1.key) as (λ o. key_of p.1.key ≡ o → Among f (one_assignment p.0 (shown p.1) o ++ flat_map assignment_of ps)
     → finite.find place_cmp (f.position.pattern, f.position.key) (assigned_at p.0 p.1 o ++ entries_of ps) ≡ Some (assigned_of f)) [
       | None ↦ λ e k. again k
       | Some key ↦ λ e k. elim k [
@@ -165,17 +165,17 @@ find_sound f (p ∷ ps) d m =
       ]
     ] refl m
 
-find_complete : (f : Assignment) (ps : List (List ℕ × Value)) → finite.find place_cmp (f.position.pattern, f.position.key) (entries_of ps) ≡ Some (assigned_of f) → Among f (flat_map found_of ps)
-unfolding Among found_shown entries_of
+find_complete : (f : Assignment) (ps : List (List ℕ × Value)) → finite.find place_cmp (f.position.pattern, f.position.key) (entries_of ps) ≡ Some (assigned_of f) → Among f (flat_map assignment_of ps)
+unfolding Among assignment_shown entries_of
 find_complete f [] h = absurd (cc)
 find_complete f (p ∷ ps) h =
-    let again : finite.find place_cmp (f.position.pattern, f.position.key) (entries_of ps) ≡ Some (assigned_of f) → Among f (flat_map found_of ps) = find_complete f ps in
+    let again : finite.find place_cmp (f.position.pattern, f.position.key) (entries_of ps) ≡ Some (assigned_of f) → Among f (flat_map assignment_of ps) = find_complete f ps in
     elim (key_of p.1.key) as (λ o. finite.find place_cmp (f.position.pattern, f.position.key) (assigned_at p.0 p.1 o ++ entries_of ps) ≡ Some (assigned_of f)
-    → Among f (one_found p.0 (shown p.1) o ++ flat_map found_of ps)) [
+    → Among f (one_assignment p.0 (shown p.1) o ++ flat_map assignment_of ps)) [
       | None ↦ λ k. again k
       | Some key ↦ λ k. elim (place_cmp (f.position.pattern, f.position.key) (p.0, key)) as (λ o. place_cmp (f.position.pattern, f.position.key) (p.0, key) ≡ o
           → cond (is_eq o) (Some (record { priority = p.1.priority; line = p.1.line; value = p.1.value; path = p.1.path })) (finite.find place_cmp (f.position.pattern, f.position.key) (entries_of ps)) ≡ Some (assigned_of f)
-          → Among f (one_found p.0 (shown p.1) (Some key) ++ flat_map found_of ps)) [
+          → Among f (one_assignment p.0 (shown p.1) (Some key) ++ flat_map assignment_of ps)) [
             | Less ↦ λ t q. inr (again q)
             | Equal ↦ λ t q. inl (
                 let b = then_equal (slice_cmp nat_cmp f.position.pattern p.0) (slice_cmp nat_cmp f.position.key key) t in
@@ -187,7 +187,7 @@ find_complete f (p ∷ ps) h =
           ] refl k
     ] h
 
-members_single : (ps : List (List ℕ × Value)) → Distinct ps → (x y : Assignment) → Among x (flat_map found_of ps) → Among y (flat_map found_of ps) → assignment_cmp x y ≡ Equal → x ≡ y
+members_single : (ps : List (List ℕ × Value)) → Distinct ps → (x y : Assignment) → Among x (flat_map assignment_of ps) → Among y (flat_map assignment_of ps) → assignment_cmp x y ≡ Equal → x ≡ y
 unfolding assignment_cmp position_cmp
 members_single ps d x y mx my h =
     let a = then_equal (nat_cmp x.position.priority y.position.priority) _ h in
@@ -220,7 +220,7 @@ are_answers tested device t tree =
     let d : Distinct ps = under_distinct [] t tree in
     let w : Assignment → Bool = is_wanted device in
     record {
-      ascends = ascends_all assignment_cmp found_total (filter w (members_under [] t)) [] none_ascends;
+      ascends = ascends_all assignment_cmp assignment_total (filter w (members_under [] t)) [] none_ascends;
       sound = λ f m. elim (all_sound f (filter w (members_under [] t)) [] m) [
         | inl a ↦ (let s = filter_sound f w (members_under [] t) a in (map_is t f ∙ find_sound f ps d s.0, (tested (tokens f.position.pattern) device).0 s.1))
         | inr n ↦ absurd (in_none f n)

@@ -12,16 +12,16 @@ use Rattle.hwdb_query.specs.Internal.Members.{wanted}
 use Rattle.hwdb_query.specs.Internal.Lists.{keep_all}
 use Rattle.hwdb_query.proofs.Putting.{Upward, filter_put_all, keep_least}
 
-pub spot_total : IsTotalOrder position_cmp
+pub position_total : IsTotalOrder position_cmp
 unfolding position_cmp
-spot_total =
+position_total =
     then_total (on_total (λ (s : Position). s.priority) nat_cmp_total)
     (then_total (on_total (λ (s : Position). s.line) nat_cmp_total)
     (then_total (on_total (λ (s : Position). s.pattern) nat_list_cmp_total) (on_total (λ (s : Position). s.key) nat_list_cmp_total)))
 
-pub found_total : IsTotalOrder assignment_cmp
+pub assignment_total : IsTotalOrder assignment_cmp
 unfolding assignment_cmp
-found_total = on_total (λ (f : Assignment). f.position) spot_total
+assignment_total = on_total (λ (f : Assignment). f.position) position_total
 
 pub less_of : (o : Ordering) → is_lt o ≡ true → o ≡ Less
 less_of Less h = refl
@@ -49,8 +49,8 @@ unfolding assignment_cmp is_after
 behind_upward None = record { less = λ x y h e. refl; same = λ x y h e. refl }
 behind_upward (Some p) =
     record {
-      less = λ x y h e. ap is_lt (spot_total.trans p x.position y.position (less_of _ h) e);
-      same = λ x y h e. ap is_lt (sym (alike_right spot_total x.position y.position p e)) ∙ h;
+      less = λ x y h e. ap is_lt (position_total.trans p x.position y.position (less_of _ h) e);
+      same = λ x y h e. ap is_lt (sym (alike_right position_total x.position y.position p e)) ∙ h;
     }
 
 -- the least answers after a position are the least of what is wanted

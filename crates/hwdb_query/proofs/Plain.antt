@@ -5,7 +5,7 @@ use Rattle.hwdb_spec.specs.Assignment.{Assignment, put, put_all, Position, assig
 use Rattle.hwdb_spec.specs.Answers.{is_match, is_wanted, is_after, is_behind, is_same_place, last_of_each, last_matching, last_assignments}
 use Rattle.hwdb_query.specs.Internal.Members.{wanted}
 use Rattle.hwdb_query.specs.Internal.Hits.{PlaceOf, placed}
-use Rattle.hwdb_query.specs.Views.{found_of_hit, founds}
+use Rattle.hwdb_query.specs.Views.{assignment_of_hit, assignments_of_hits}
 use Rattle.hwdb_query.specs.Internal.Plain.{last_one}
 use Rattle.hwdb_query.specs.declared.held.Place.{Place}
 use Rattle.hwdb_query.specs.declared.hit.Hit.{Hit}
@@ -101,9 +101,9 @@ all_put device after all hits none =
     ap (put_all assignment_cmp (kept_of device after all)) none ∙ sym (filter_put_all assignment_cmp (is_behind after) (behind_upward after) (filter (is_wanted device) (last_of_each all)) [])
 
 -- a hit put in its place among others
-pub hit_put : (hit : Hit) (old new : List Hit) (place : Place) → PlaceOf (found_of_hit hit) (founds old) place → not place.is_taken ≡ true
-    → new ≡ take place.index old ++ hit ∷ drop place.index old → founds new ≡ put assignment_cmp (found_of_hit hit) (founds old)
-hit_put hit old new place at free is = ap founds is ∙ founds_put place.index hit old ∙ sym (ap (placed (found_of_hit hit) (founds old) place.index) (none_taken place.is_taken free)) ∙ sym at
+pub hit_put : (hit : Hit) (old new : List Hit) (place : Place) → PlaceOf (assignment_of_hit hit) (assignments_of_hits old) place → not place.is_taken ≡ true
+    → new ≡ take place.index old ++ hit ∷ drop place.index old → assignments_of_hits new ≡ put assignment_cmp (assignment_of_hit hit) (assignments_of_hits old)
+hit_put hit old new place at free is = ap assignments_of_hits is ∙ founds_put place.index hit old ∙ sym (ap (placed (assignment_of_hit hit) (assignments_of_hits old) place.index) (none_taken place.is_taken free)) ∙ sym at
   where
     none_taken : (b : Bool) → not b ≡ true → b ≡ false
     none_taken true h = cc

@@ -48,11 +48,11 @@ entry_at : (o : Ordering) (key value : List ℕ) (e : Bytes) (l : List Bytes) �
     → insert_entry key_cmp (e ∷ l) key value ≡ match_ordering o ((key, value) ∷ e ∷ l) ((e.0, value) ∷ l) (e ∷ insert_entry key_cmp l key value)
 entry_at o key value e l is = ap (λ q. match_ordering q ((key, value) ∷ e ∷ l) ((e.0, value) ∷ l) (e ∷ insert_entry key_cmp l key value)) is
 
-found_at : (o : Ordering) (ps : List Pair) (i : ℕ) (p : Pair) (key value : List ℕ) → i < length ps → p ≡ get_or ps i p → o ≡ key_cmp key p.0.now → StandsFrom (pairs_bytes ps) i key value
+assignment_at : (o : Ordering) (ps : List Pair) (i : ℕ) (p : Pair) (key value : List ℕ) → i < length ps → p ≡ get_or ps i p → o ≡ key_cmp key p.0.now → StandsFrom (pairs_bytes ps) i key value
     → insert_entry key_cmp (pairs_bytes ps) key value
     ≡ take i (pairs_bytes ps)
     ++ match_ordering o ((key, value) ∷ pair_bytes p ∷ drop (suc i) (pairs_bytes ps)) ((p.0.now, value) ∷ drop (suc i) (pairs_bytes ps)) (pair_bytes p ∷ insert_entry key_cmp (drop (suc i) (pairs_bytes ps)) key value)
-found_at o ps i p key value lt e is at =
+assignment_at o ps i p key value lt e is at =
     at ∙ ap (λ l. take i (pairs_bytes ps) ++ insert_entry key_cmp l key value) (pair_next ps i p lt e)
     ∙ ap (λ l. take i (pairs_bytes ps) ++ l) (entry_at o key value (pair_bytes p) (drop (suc i) (pairs_bytes ps)) (sym is))
 
@@ -60,17 +60,17 @@ pub below_next : (ps new : List Pair) (i : ℕ) (p own : Pair) → i < length ps
     → new ≡ take i ps ++ own ∷ drop i ps → pairs_bytes new ≡ insert_entry key_cmp (pairs_bytes ps) own.0.now own.1.now
 below_next ps new i p own lt e is at put =
     ap pairs_bytes put ∙ pair_inserted ps i own ∙ ap (λ l. take i (pairs_bytes ps) ++ pair_bytes own ∷ l) (pair_next ps i p lt e)
-    ∙ sym (found_at Less ps i p own.0.now own.1.now lt e is at)
+    ∙ sym (assignment_at Less ps i p own.0.now own.1.now lt e is at)
 
 pub at_next : (ps : List Pair) (i : ℕ) (p : Pair) (key value : Bor (List ℕ)) → i < length ps → p ≡ get_or ps i p → Equal ≡ key_cmp key.now p.0.now → StandsFrom (pairs_bytes ps) i key.now value.now
     → pairs_bytes (slice_set ps i (p.0, value)) ≡ insert_entry key_cmp (pairs_bytes ps) key.now value.now
-at_next ps i p key value lt e is at = pair_set ps i (p.0, value) lt ∙ sym (found_at Equal ps i p key.now value.now lt e is at)
+at_next ps i p key value lt e is at = pair_set ps i (p.0, value) lt ∙ sym (assignment_at Equal ps i p key.now value.now lt e is at)
 
 pub behind_next : (ps : List Pair) (i : ℕ) (p : Pair) (key value : List ℕ) → i < length ps → p ≡ get_or ps i p → Greater ≡ key_cmp key p.0.now → StandsFrom (pairs_bytes ps) i key value
     → StandsFrom (pairs_bytes ps) (suc i) key value
 behind_next ps i p key value lt e is at =
     let rest = insert_entry key_cmp (drop (suc i) (pairs_bytes ps)) key value in
-    found_at Greater ps i p key value lt e is at ∙ sym (append_assoc (take i (pairs_bytes ps)) (pair_bytes p ∷ []) rest) ∙ ap (λ l. l ++ rest) (sym (pair_more ps i p lt e))
+    assignment_at Greater ps i p key value lt e is at ∙ sym (append_assoc (take i (pairs_bytes ps)) (pair_bytes p ∷ []) rest) ∙ ap (λ l. l ++ rest) (sym (pair_more ps i p lt e))
 
 pub behind_all : (ps new : List Pair) (i : ℕ) (own : Pair) → length ps ≤ i → StandsFrom (pairs_bytes ps) i own.0.now own.1.now → new ≡ ps ++ own ∷ []
     → pairs_bytes new ≡ insert_entry key_cmp (pairs_bytes ps) own.0.now own.1.now

@@ -8,9 +8,9 @@ use Rattle.hwdb_query.specs.declared.position.Position.{Position as OwnedPositio
 use Rattle.hwdb_spec.specs.Assignment.{Position, Assignment, position_cmp, assignment_cmp, Ascends}
 use Rattle.hwdb_spec.specs.Answers.{is_after, is_behind, is_wanted}
 use Rattle.hwdb_query.specs.Internal.Hits.{IsFirst}
-use Rattle.hwdb_query.specs.Views.{position_spot}
+use Rattle.hwdb_query.specs.Views.{position_value}
 use Rattle.hwdb_query.proofs.Putting.{ascends_all, ascends_filter, behind_last, filter_in, filter_out}
-use Rattle.hwdb_query.proofs.Orders.{found_total, behind_upward, less_of}
+use Rattle.hwdb_query.proofs.Orders.{assignment_total, behind_upward, less_of}
 
 nothing_ascends : let none : List Assignment = [] in Ascends assignment_cmp none
 unfolding Ascends
@@ -19,7 +19,7 @@ nothing_ascends = tt
 pub answers_ascend : (device : List ℕ) (after : Option Position) (t : Tree) → Ascends assignment_cmp (answers_after device after t)
 unfolding answers_after answers
 answers_ascend device after t =
-    ascends_filter assignment_cmp (is_behind after) _ (ascends_all assignment_cmp found_total (filter (is_wanted device) (members_under [] t)) [] nothing_ascends)
+    ascends_filter assignment_cmp (is_behind after) _ (ascends_all assignment_cmp assignment_total (filter (is_wanted device) (members_under [] t)) [] nothing_ascends)
 
 all_that_pass : (q : Assignment → Bool) (l : List Assignment) → AllByRecursion (λ y. q y ≡ true) (filter q l)
 all_that_pass q [] = tt
@@ -62,14 +62,14 @@ answers_left page device after t x more e =
     let further : (y : Assignment) → is_lt (position_cmp x.position y.position) ≡ true → is_behind after y ≡ true = λ y h. (behind_upward after).less x y here (less_of _ h) in
     sym (filter_again (λ y. is_lt (position_cmp x.position y.position)) (is_behind after) further all)
     ∙ ap (filter (λ y. is_lt (position_cmp x.position y.position))) split
-    ∙ behind_last assignment_cmp found_total x (reverse more) (drop page A) up
+    ∙ behind_last assignment_cmp assignment_total x (reverse more) (drop page A) up
 
 -- a page was taken, and its last position
 pub page_left : (page : ℕ) (device : List ℕ) (after : Option Position) (t : Tree) (hits : List Assignment) (last : Option OwnedPosition) → hits ≡ reverse (take page (answers_after device after t))
-    → IsFirst hits last → (p : OwnedPosition) → last ≡ Some p → reverse hits ++ answers_after device (Some (position_spot p)) t ≡ answers_after device after t
+    → IsFirst hits last → (p : OwnedPosition) → last ≡ Some p → reverse hits ++ answers_after device (Some (position_value p)) t ≡ answers_after device after t
 page_left page device after t [] last e first p l = absurd (subst (IsFirst []) l first)
 page_left page device after t (x ∷ more) last e first p l =
-    let spot : position_spot p ≡ x.position = subst (IsFirst (x ∷ more)) l first in
+    let spot : position_value p ≡ x.position = subst (IsFirst (x ∷ more)) l first in
     let A = answers_after device after t in
     ap (λ s. reverse (x ∷ more) ++ answers_after device (Some s) t) spot
     ∙ ap (λ r. reverse (x ∷ more) ++ r) (answers_left page device after t x more (sym e))

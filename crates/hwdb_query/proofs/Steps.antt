@@ -3,7 +3,7 @@ use Rattle.std.proofs.Common.{◌≡◌, ◌∙◌, ap, sym, refl, subst, ℕ, z
 use Rattle.std.proofs.lemmas.List.{take_rest}
 use Rattle.hwdb_spec.specs.Patterns.{tokens, Matches}
 use Rattle.hwdb_pattern.specs.Laws.{MatchesIsTested, LiveIsTested}
-use Rattle.hwdb_spec.specs.Tree.{IsLive, Shown, one_found, found_shown, is_live}
+use Rattle.hwdb_spec.specs.Tree.{IsLive, Shown, one_assignment, assignment_shown, is_live}
 use Rattle.hwdb_pattern.specs.Views.{StandsFor, Reached}
 use Rattle.hwdb_spec.specs.Assignment.{Position, Assignment, assignment_cmp, put}
 use Rattle.hwdb_spec.specs.Answers.{is_after, is_behind, is_wanted, is_match}
@@ -60,26 +60,26 @@ keep_none most xs old h = sym (ap (λ l. keep_all assignment_cmp most l old) h)
 
 -- one value is offered
 pub offered_none : (most : ℕ) (after : Option Position) (pattern : List ℕ) (s : Shown) (old : List Assignment) → s.key ≡ None
-    → old ≡ keep_all assignment_cmp most (filter (is_behind after) (found_shown pattern s)) old
-unfolding found_shown
-offered_none most after pattern s old h = keep_none most _ old (ap (λ o. filter (is_behind after) (one_found pattern s o)) h)
+    → old ≡ keep_all assignment_cmp most (filter (is_behind after) (assignment_shown pattern s)) old
+unfolding assignment_shown
+offered_none most after pattern s old h = keep_none most _ old (ap (λ o. filter (is_behind after) (one_assignment pattern s o)) h)
 
 pub offered_some : (most : ℕ) (after : Option Position) (pattern key : List ℕ) (s : Shown) (x : Assignment) (old new : List Assignment) → s.key ≡ Some key
     → x ≡ record { position = record { priority = s.priority; line = s.line; pattern = pattern; key = key }; value = s.value; path = s.path }
     → is_after after x.position ≡ true → new ≡ take most (put assignment_cmp x old)
-    → new ≡ keep_all assignment_cmp most (filter (is_behind after) (found_shown pattern s)) old
-unfolding found_shown keep_all
+    → new ≡ keep_all assignment_cmp most (filter (is_behind after) (assignment_shown pattern s)) old
+unfolding assignment_shown keep_all
 offered_some most after pattern key s x old new h e p n =
-    n ∙ sym (ap (λ o. keep_all assignment_cmp most (filter (is_behind after) (one_found pattern s o)) old) h
+    n ∙ sym (ap (λ o. keep_all assignment_cmp most (filter (is_behind after) (one_assignment pattern s o)) old) h
     ∙ ap (λ (y : Assignment). keep_all assignment_cmp most (filter (is_behind after) (y ∷ [])) old) (sym e)
     ∙ ap (λ l. keep_all assignment_cmp most l old) (filter_in (is_behind after) x [] p))
 
 pub offered_early : (most : ℕ) (after : Option Position) (pattern key : List ℕ) (s : Shown) (old : List Assignment) → s.key ≡ Some key
     → is_after after (record { priority = s.priority; line = s.line; pattern = pattern; key = key }) ≡ false
-    → old ≡ keep_all assignment_cmp most (filter (is_behind after) (found_shown pattern s)) old
-unfolding found_shown
+    → old ≡ keep_all assignment_cmp most (filter (is_behind after) (assignment_shown pattern s)) old
+unfolding assignment_shown
 offered_early most after pattern key s old h p =
-    keep_none most _ old (ap (λ o. filter (is_behind after) (one_found pattern s o)) h ∙ filter_out (is_behind after) _ [] p)
+    keep_none most _ old (ap (λ o. filter (is_behind after) (one_assignment pattern s o)) h ∙ filter_out (is_behind after) _ [] p)
 
 pub unwanted : (device : List ℕ) (after : Option Position) → wanted device after [] ≡ []
 unfolding wanted

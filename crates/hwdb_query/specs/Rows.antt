@@ -7,8 +7,8 @@ use Rattle.hwdb_spec.specs.Answers.{last_assignments, effective_of}
 abbrev pub file : (name bytes : List ℕ) → Source
 file name bytes = record { name = name; bytes = bytes }
 
-abbrev pub spot : (priority line : ℕ) (pattern key : List ℕ) → Position
-spot priority line pattern key = record { priority = priority; line = line; pattern = pattern; key = key }
+abbrev pub position : (priority line : ℕ) (pattern key : List ℕ) → Position
+position priority line pattern key = record { priority = priority; line = line; pattern = pattern; key = key }
 
 -- an answer of the file `1.hwdb` in /etc
 abbrev pub in_first : Position → (value : List ℕ) → Assignment
@@ -42,21 +42,21 @@ rows =
       usr = [];
       device = codes "ab";
       after = None;
-      last = in_first (spot 1 2 (codes "a*") (codes "K")) (codes "1") ∷ in_first (spot 1 5 (codes "ab") (codes "K")) (codes "2") ∷ [];
+      last = in_first (position 1 2 (codes "a*") (codes "K")) (codes "1") ∷ in_first (position 1 5 (codes "ab") (codes "K")) (codes "2") ∷ [];
     }
     ∷ record {
       etc = two_patterns;
       usr = [];
       device = codes "ab";
-      after = Some (spot 1 2 (codes "a*") (codes "K"));
-      last = in_first (spot 1 5 (codes "ab") (codes "K")) (codes "2") ∷ [];
+      after = Some (position 1 2 (codes "a*") (codes "K"));
+      last = in_first (position 1 5 (codes "ab") (codes "K")) (codes "2") ∷ [];
     }
     ∷ record {
       etc = two_patterns;
       usr = [];
       device = codes "ab";
-      after = Some (spot 1 3 [] []);
-      last = in_first (spot 1 5 (codes "ab") (codes "K")) (codes "2") ∷ [];
+      after = Some (position 1 3 [] []);
+      last = in_first (position 1 5 (codes "ab") (codes "K")) (codes "2") ∷ [];
     }
     ∷ record { etc = two_patterns; usr = []; device = codes "x"; after = None; last = [] }
     ∷ record {
@@ -64,14 +64,14 @@ rows =
       usr = second (codes "a\n L=3\n");
       device = codes "a";
       after = None;
-      last = in_first (spot 1 6 (codes "a") (codes "K")) (codes "2") ∷ in_second (spot 2 2 (codes "a") (codes "L")) (codes "3") ∷ [];
+      last = in_first (position 1 6 (codes "a") (codes "K")) (codes "2") ∷ in_second (position 2 2 (codes "a") (codes "L")) (codes "3") ∷ [];
     }
     ∷ record {
       etc = first (codes "x*\nx?\nx*\n K=1\n");
       usr = [];
       device = codes "xy";
       after = None;
-      last = in_first (spot 1 4 (codes "x*") (codes "K")) (codes "1") ∷ in_first (spot 1 4 (codes "x?") (codes "K")) (codes "1") ∷ [];
+      last = in_first (position 1 4 (codes "x*") (codes "K")) (codes "1") ∷ in_first (position 1 4 (codes "x?") (codes "K")) (codes "1") ∷ [];
     }
     ∷ []
 

@@ -36,18 +36,18 @@ pair_bytes p = (p.0.now, p.1.now)
 abbrev pub pairs_bytes : List (Bor (List ℕ) × Bor (List ℕ)) → List (List ℕ × List ℕ)
 pairs_bytes pairs = map pair_bytes pairs
 
-abbrev pub position_spot : OwnedPosition → Position
-position_spot p = record { priority = p.priority; line = p.line; pattern = p.pattern.items; key = p.key.items }
+abbrev pub position_value : OwnedPosition → Position
+position_value p = record { priority = p.priority; line = p.line; pattern = p.pattern.items; key = p.key.items }
 
-abbrev pub found_of_hit : Hit → Assignment
-found_of_hit h = record {
+abbrev pub assignment_of_hit : Hit → Assignment
+assignment_of_hit h = record {
   position = record { priority = h.priority; line = h.line; pattern = h.pattern.items; key = h.key.now };
   value = h.value.now;
   path = h.path.now;
 }
 
-abbrev pub founds : List Hit → List Assignment
-founds hits = map found_of_hit hits
+abbrev pub assignments_of_hits : List Hit → List Assignment
+assignments_of_hits hits = map assignment_of_hit hits
 
 -- the hits that are held, and how many may be
 pub record Page : Type 0 where
@@ -56,15 +56,15 @@ pub record Page : Type 0 where
 
 -- the first of what was to come is given, or nothing was to come
 abbrev pub Gives : List Assignment → List Assignment → Option Hit → Type 0
-Gives before after (Some hit) = before ≡ found_of_hit hit ∷ after
+Gives before after (Some hit) = before ≡ assignment_of_hit hit ∷ after
 Gives before after None = (before ≡ []) × (after ≡ [])
 
-abbrev pub next_spot : Option OwnedPosition → Option Position
-next_spot after = option_map position_spot after
+abbrev pub next_position : Option OwnedPosition → Option Position
+next_position after = option_map position_value after
 
 -- the position that a caller gives
-abbrev pub given_spot : Option (Bor OwnedPosition) → Option Position
-given_spot after = option_map (λ p. position_spot p.now) after
+abbrev pub given_position : Option (Bor OwnedPosition) → Option Position
+given_position after = option_map (λ p. position_value p.now) after
 
 -- what a cursor has still to yield: the hits that it holds, and the answers behind them
 abbrev pub still_to_come : List ℕ → Option Position → Tree → Bool → List Assignment → List Assignment

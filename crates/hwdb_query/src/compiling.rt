@@ -37,7 +37,9 @@ fn add_faults(
     found: &[Fault],
     faults: &mut Vec<FileFault>,
 ) -> Result<(), AllocError>
-    ensures { OnOk result (map fault_of faults.new.items ≡ map fault_of faults.old.items ++ map (fault_in path.now) found.now) }
+    ensures { OnOk result
+        (map fault_of faults.new.items
+        ≡ map fault_of faults.old.items ++ map (fault_in path.now) found.now) }
 {
     for fault in found {
         let path = Vec::from_slice(alloc, path)?;
@@ -58,8 +60,12 @@ fn add_file(
     faults: &mut Vec<FileFault>,
 ) -> Result<(), CompileError>
     requires { IsStorableChoice (choice_of file.now) }
-    ensures tree { OnOk result ((done : List Assignment) → tree.old ≡ surviving done → tree.new ≡ surviving (done ++ file_assignments (λ _. bytes.now) (choice_of file.now))) }
-    ensures faults { OnOk result (map fault_of faults.new.items ≡ map fault_of faults.old.items ++ file_faults (λ _. bytes.now) (choice_of file.now)) }
+    ensures tree { OnOk result
+        ((done : List Assignment) → tree.old ≡ surviving done
+        → tree.new ≡ surviving (done ++ file_assignments (λ _. bytes.now) (choice_of file.now))) }
+    ensures faults { OnOk result
+        (map fault_of faults.new.items
+        ≡ map fault_of faults.old.items ++ file_faults (λ _. bytes.now) (choice_of file.now)) }
     ensures few { OnOk result (FewLines bytes.now) }
     ensures refused { IfErr result (IsFileRefusal bytes.now) }
 {
@@ -80,10 +86,18 @@ fn add_files(
     faults: &mut Vec<FileFault>,
 ) -> Result<(), CompileError>
     requires { All IsStorableChoice (map choice_of chosen.now) }
-    ensures tree { OnOk result ((done : List Assignment) → tree.old ≡ surviving done → tree.new ≡ surviving (done ++ flat_map (file_assignments (read_from index.now)) (map choice_of chosen.now))) }
-    ensures faults { OnOk result (map fault_of faults.new.items ≡ map fault_of faults.old.items ++ flat_map (file_faults (read_from index.now)) (map choice_of chosen.now)) }
-    ensures few { OnOk result (All (λ c. FewLines (read_from index.now c)) (map choice_of chosen.now)) }
-    ensures refused { IfErr result (IsFilesRefusal (read_from index.now) (map choice_of chosen.now)) }
+    ensures tree { OnOk result
+        ((done : List Assignment) → tree.old ≡ surviving done
+        → tree.new ≡ surviving
+        (done ++ flat_map (file_assignments (read_from index.now)) (map choice_of chosen.now))) }
+    ensures faults { OnOk result
+        (map fault_of faults.new.items
+        ≡ map fault_of faults.old.items
+        ++ flat_map (file_faults (read_from index.now)) (map choice_of chosen.now)) }
+    ensures few { OnOk result
+        (All (λ c. FewLines (read_from index.now c)) (map choice_of chosen.now)) }
+    ensures refused { IfErr result
+        (IsFilesRefusal (read_from index.now) (map choice_of chosen.now)) }
 {
     for file in chosen {
         let bytes = bytes_of(index, &file.name);
@@ -118,11 +132,15 @@ pub fn compile(
     usr: &[SourceFile],
     max_bytes: u32,
 ) -> Result<Compiled, CompileError>
-    ensures database { IfOk result (λ c. IsWritten (map_of_files (sources etc.now) (sources usr.now)) c.database.items) }
-    ensures checked { IfOk result (λ c. IsDatabaseOf (map_of_files (sources etc.now) (sources usr.now)) c.database.items) }
-    ensures headline { IfOk result (λ c. AnswersAreLast (sources etc.now) (sources usr.now) c.database.items) }
+    ensures database { IfOk result
+        (λ c. IsWritten (map_of_files (sources etc.now) (sources usr.now)) c.database.items) }
+    ensures checked { IfOk result
+        (λ c. IsDatabaseOf (map_of_files (sources etc.now) (sources usr.now)) c.database.items) }
+    ensures headline { IfOk result
+        (λ c. AnswersAreLast (sources etc.now) (sources usr.now) c.database.items) }
     ensures within { IfOk result (λ c. length c.database.items ≤ max_bytes) }
-    ensures faults { IfOk result (λ c. map fault_of c.faults.items ≡ faults_of_files (sources etc.now) (sources usr.now)) }
+    ensures faults { IfOk result
+        (λ c. map fault_of c.faults.items ≡ faults_of_files (sources etc.now) (sources usr.now)) }
     ensures accepted { OnOk result (AreAccepted (sources etc.now) (sources usr.now)) }
     ensures refused { IfErr result (IsRefusal (sources etc.now) (sources usr.now) max_bytes) }
 {

@@ -1,8 +1,8 @@
 //! The one list of hits of a cursor.
 ghost use Rattle.std.specs.Prelude.{◌≡◌, ◌≢◌, ◌<◌, ◌≤◌, ◌+◌, ◌++◌, ℕ, List, [], ◌∷◌, length, take, drop, reverse, map, IfSome, IfOk, OnOk, OnErr, Option, Some, None, true};
 ghost use Rattle.hwdb_spec.specs.Assignment.{Position, Assignment, position_cmp, assignment_cmp, put, Ascends};
-ghost use Rattle.hwdb_query.specs.Internal.Hits.{parts_spot, shown_at, PlaceOf, IsLastOfFull, IsOf, IsFirst};
-ghost use Rattle.hwdb_query.specs.Views.{found_of_hit, founds, Page, Gives};
+ghost use Rattle.hwdb_query.specs.Internal.Hits.{parts_position, shown_at, PlaceOf, IsLastOfFull, IsOf, IsFirst};
+ghost use Rattle.hwdb_query.specs.Views.{assignment_of_hit, assignments_of_hits, Page, Gives};
 
 use crate::hit::{Hit, Parts, is_earlier, order};
 use crate::position::Position;
@@ -22,11 +22,13 @@ pub(crate) struct Place {
 /// The place of a position among hits that ascend, found by halving.
 pub(crate) fn place_of(hits: &[Hit<'_>], parts: Parts<'_>) -> Place
     ensures within { result.index ≤ length hits.now }
-    ensures place { Ascends assignment_cmp (founds hits.now)
-        → (x : Assignment) → x.position ≡ parts_spot parts.entry → PlaceOf x (founds hits.now) result }
+    ensures place { Ascends assignment_cmp (assignments_of_hits hits.now)
+        → (x : Assignment) → x.position ≡ parts_position parts.entry
+        → PlaceOf x (assignments_of_hits hits.now) result }
 {
     let compare = |hit: &Hit<'_>| -> Ordering
-        ensures { result ≡ position_cmp (found_of_hit hit.now).position (parts_spot parts.entry) }
+        ensures { result
+            ≡ position_cmp (assignment_of_hit hit.now).position (parts_position parts.entry) }
     { order(hit.parts(), parts) };
     match hits.binary_search_by(compare) {
         Ok(index) => Place {
@@ -61,7 +63,7 @@ pub(crate) struct Held<'a> {
 impl<'a> Model for Held<'a> {
     ghost Value = { Page };
 
-    ghost view = { λ s. record { hits = founds s.hits.items; most = s.most } };
+    ghost view = { λ s. record { hits = assignments_of_hits s.hits.items; most = s.most } };
 
     ghost invariant = { λ s. length s.hits.items ≤ s.most };
 }
@@ -87,7 +89,8 @@ impl<'a> Held<'a> {
 
     /// Whether as many hits are held as may be, and all come before an origin.
     pub(crate) fn is_full_before(&self, origin: Origin) -> bool
-        ensures { result ≡ true → Ascends assignment_cmp self.now.hits → (x : Assignment) → IsOf origin x
+        ensures { result ≡ true → Ascends assignment_cmp self.now.hits → (x : Assignment)
+            → IsOf origin x
             → take self.now.most (put assignment_cmp x self.now.hits) ≡ self.now.hits }
     {
         match last_of_full(&self.hits, self.most) {
@@ -99,7 +102,7 @@ impl<'a> Held<'a> {
     /// Whether as many hits are held as may be, and all come before a position.
     fn is_full_below(&self, parts: Parts<'_>) -> bool
         ensures { result ≡ true → Ascends assignment_cmp self.now.hits
-            → (x : Assignment) → x.position ≡ parts_spot parts.entry
+            → (x : Assignment) → x.position ≡ parts_position parts.entry
             → take self.now.most (put assignment_cmp x self.now.hits) ≡ self.now.hits }
     {
         match last_of_full(&self.hits, self.most) {

@@ -7,14 +7,14 @@ ghost use Rattle.hwdb_reader.specs.Views.{db_tree};
 ghost use Rattle.hwdb_query.specs.Laws.{AreAnswers, FillingsOfARun, AllCompiledAnswersAreLast, CompiledAnswersAreLast, EachPlaceSurvives, SurvivorsAreAssigned, SurvivorsAreLatest, SpellsOne, CanonicalSpells};
 ghost use Rattle.hwdb_query.specs.Rows.{EffectiveRow, LastRows};
 
-use hwdb_reader::{law_ascending, law_one_tree};
 use hwdb_pattern::matches_is_tested;
-use hwdb_reader::Db;
+use hwdb_reader::{Db, law_ascending, law_one_tree};
 use hwdb_text::laws::{assignments_stand_by_line, priorities_count_up};
 
 /// The answers are, in order, those members of the database's map whose pattern matches the device.
 pub fn answers_are_the_maps(db: &Db<'_>)
-    ensures { (device : List ℕ) → AreAnswers device (db_tree db.now) (answers device (db_tree db.now)) }
+    ensures { (device : List ℕ)
+        → AreAnswers device (db_tree db.now) (answers device (db_tree db.now)) }
 {
     matches_is_tested();
     let _root = db.root();
@@ -41,7 +41,8 @@ pub fn survivors_are_latest()
 /// Bytes that are a database of a map show this map and no other: so a reader that accepts compiled bytes sees
 /// the map that was compiled.
 pub fn databases_show_one_map()
-    ensures { (m : Map) (bytes : List ℕ) (t : Tree) → IsDatabaseOf m bytes → IsDatabase bytes t → map_of t ≡ m }
+    ensures { (m : Map) (bytes : List ℕ) (t : Tree) → IsDatabaseOf m bytes → IsDatabase bytes t
+        → map_of t ≡ m }
 {
     law_one_tree();
 }

@@ -25,9 +25,12 @@ pub fn effective<'a>(
     db: &Db<'a>,
     device: &[u8],
 ) -> Result<Vec<(&'a [u8], &'a [u8])>, AllocError>
-    ensures list { IfOk result (λ list. pairs_bytes list.items ≡ effective_of (answers device.now (db_tree db.now))) }
-    ensures headline { IfOk result (λ list. (etc usr : List Source) → IsTreeOfFiles etc usr (db_tree db.now)
-        → pairs_bytes list.items ≡ effective_of (last_assignments device.now None (all_assignments etc usr))) }
+    ensures list { IfOk result
+        (λ list. pairs_bytes list.items ≡ effective_of (answers device.now (db_tree db.now))) }
+    ensures headline { IfOk result
+        (λ list. (etc usr : List Source) → IsTreeOfFiles etc usr (db_tree db.now)
+        → pairs_bytes list.items
+        ≡ effective_of (last_assignments device.now None (all_assignments etc usr))) }
 {
     matches_is_tested();
     let _root = db.root();

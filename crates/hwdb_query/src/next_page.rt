@@ -2,12 +2,12 @@
 //!
 //! A value that isn't kept takes no memory.
 ghost use Rattle.std.specs.Prelude.{◌≡◌, ◌<◌, List, [], ◌∷◌, length, take, drop, OnOk, true};
-ghost use Rattle.hwdb_spec.specs.Tree.{values_of, found_shown};
+ghost use Rattle.hwdb_spec.specs.Tree.{values_of, assignment_shown};
 ghost use Rattle.hwdb_reader.specs.Views.{entered_tree, entry_shows};
 ghost use Rattle.hwdb_spec.specs.Assignment.{Assignment};
 ghost use Rattle.hwdb_spec.specs.Answers.{is_after};
 ghost use Rattle.hwdb_query.specs.Internal.Members.{own_members};
-ghost use Rattle.hwdb_query.specs.Internal.Hits.{parts_spot, after_spot, IsOf};
+ghost use Rattle.hwdb_query.specs.Internal.Hits.{parts_position, after_position, IsOf};
 
 use crate::held::Held;
 use crate::hit::{Parts, is_earlier, order};
@@ -17,7 +17,7 @@ use std::cmp::Ordering;
 
 /// Whether a position is greater than the one given, if one is given.
 fn is_past(after: Option<Parts<'_>>, parts: Parts<'_>) -> bool
-    ensures { result ≡ is_after (after_spot after.entry) (parts_spot parts.entry) }
+    ensures { result ≡ is_after (after_position after.entry) (parts_position parts.entry) }
 {
     match after {
         None => true,
@@ -41,7 +41,8 @@ impl<'a, 'p> NextPage<'a, 'p> {
     /// Offers what one value assigns at a pattern.
     fn offer(&mut self, alloc: Global, pattern: &[u8], entry: Entry<'a>) -> Result<(), AllocError>
         ensures { OnOk result
-            (PageCollects self.old (found_shown pattern.now (entry_shows entry.entry)) self.new) }
+            (PageCollects self.old
+            (assignment_shown pattern.now (entry_shows entry.entry)) self.new) }
     {
         let Some(key) = entry.key else {
             return Ok(());

@@ -38,7 +38,8 @@ pub struct Compiled {
 
 /// The names of the files.
 pub(crate) fn names(alloc: Global, files: &[SourceFile]) -> Result<Vec<String>, AllocError>
-    ensures { IfOk result (λ names. map string_bytes names.items ≡ map name_of (sources files.now)) }
+    ensures { IfOk result
+        (λ names. map string_bytes names.items ≡ map name_of (sources files.now)) }
 {
     let mut names = Vec::new(alloc);
     for file in files {
@@ -54,7 +55,9 @@ pub(crate) fn put_files<'a>(
     index: &mut BTreeMap<&'a str, &'a [u8]>,
     files: &'a [SourceFile],
 ) -> Result<(), AllocError>
-    ensures { OnOk result ((name : List ℕ) → bytes_at index.new name ≡ first_of name (sources files.now) (bytes_at index.old name)) }
+    ensures { OnOk result
+        ((name : List ℕ)
+        → bytes_at index.new name ≡ first_of name (sources files.now) (bytes_at index.old name)) }
 {
     let mut rest = files;
     'files: while let Some((file, before)) = rest.split_last() {

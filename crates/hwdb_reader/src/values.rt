@@ -33,8 +33,10 @@ fn check_value(b: &[u8], l: Frame, entry: usize) -> Result<(), DbFault>
 #[tactic(auto, unfolding(hwdb_spec::specs::Format::ValuesText, hwdb_spec::specs::Format::values_at))]
 pub fn check_values(b: &[u8], l: Frame, first: usize, n: usize) -> Result<(), DbFault>
     requires { first + l.sizes.value_size * n ≤ length b.now }
-    ensures ok { OnOk result (ValuesText l.sizes b.now first None (values_at l.sizes b.now first n)) }
-    ensures err { OnErr result (ValuesText l.sizes b.now first None (values_at l.sizes b.now first n) → ⊥) }
+    ensures ok { OnOk result
+        (ValuesText l.sizes b.now first None (values_at l.sizes b.now first n)) }
+    ensures err { OnErr result
+        (ValuesText l.sizes b.now first None (values_at l.sizes b.now first n) → ⊥) }
     ensures fault { IfErr result (λ e. ValuesFault l.sizes b.now first n e) }
 {
     if n == 1 {

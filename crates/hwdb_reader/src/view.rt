@@ -150,7 +150,8 @@ impl<'a> Inside<'a> {
     /// The child number `i`, counted from 0, ascending by byte.
     pub fn child(&self, i: usize) -> Child<'a>
         requires { i < length (children_of (entered_tree self.now)) }
-        ensures { slice_get (children_of (entered_tree self.now)) i ≡ Some (result.byte, tree_of result.node) }
+        ensures { slice_get (children_of (entered_tree self.now)) i
+            ≡ Some (result.byte, tree_of result.node) }
     {
         let node = self.node;
         let entry = child_entry_at(node.bytes, node.frame, node.offset, i);
@@ -192,7 +193,8 @@ impl<'a> Inside<'a> {
     /// The value number `i`, counted from 0, ascending by stored key.
     pub fn value(&self, i: usize) -> Entry<'a>
         requires { i < length (values_of (entered_tree self.now)) }
-        ensures { option_map shown (slice_get (values_of (entered_tree self.now)) i) ≡ Some (entry_shows result) }
+        ensures { option_map shown (slice_get (values_of (entered_tree self.now)) i)
+            ≡ Some (entry_shows result) }
     {
         let node = self.node;
         let entry = value_entry_at(node.bytes, node.frame, node.offset, i);

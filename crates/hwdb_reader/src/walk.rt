@@ -11,7 +11,8 @@ use hwdb_spec::DbFault;
 #[tactic(auto, unfolding(hwdb_spec::specs::Format::record_end))]
 fn record_end_within(b: &[u8], l: Frame, from: usize, off: usize, limit: usize) -> Option<usize>
     requires { limit ≤ length b.now }
-    ensures { SomeIff result ((from ≤ off) × (record_end l.sizes b.now off ≤ limit)) (record_end l.sizes b.now off) }
+    ensures { SomeIff result ((from ≤ off) × (record_end l.sizes b.now off ≤ limit))
+        (record_end l.sizes b.now off) }
 {
     if off < from || limit < off || limit - off < l.sizes.node_size {
         return None;
@@ -38,10 +39,13 @@ fn record_end_within(b: &[u8], l: Frame, from: usize, off: usize, limit: usize) 
 fn check_fields(b: &[u8], l: Frame, off: usize) -> Result<(), DbFault>
     requires { record_end l.sizes b.now off ≤ length b.now }
     ensures ok { OnOk result (IsPlace l.sizes b.now (prefix_field b.now off)
-        × ValuesText l.sizes b.now (value_entries l.sizes b.now off) None (values_at l.sizes b.now (value_entries l.sizes b.now off) (value_count b.now off))) }
+        × ValuesText l.sizes b.now (value_entries l.sizes b.now off) None
+        (values_at l.sizes b.now (value_entries l.sizes b.now off) (value_count b.now off))) }
     ensures err { OnErr result (IsPlace l.sizes b.now (prefix_field b.now off)
-        → ValuesText l.sizes b.now (value_entries l.sizes b.now off) None (values_at l.sizes b.now (value_entries l.sizes b.now off) (value_count b.now off)) → ⊥) }
-    ensures fault { IfErr result (λ e. (levels from : ℕ) → NodeFault l.sizes b.now levels from off e) }
+        → ValuesText l.sizes b.now (value_entries l.sizes b.now off) None
+        (values_at l.sizes b.now (value_entries l.sizes b.now off) (value_count b.now off)) → ⊥) }
+    ensures fault { IfErr result
+        (λ e. (levels from : ℕ) → NodeFault l.sizes b.now levels from off e) }
 {
     if !is_place(b, l, u64_at(b, off)) {
         return Err(DbFault::StringOffset(off as u64));
@@ -62,9 +66,12 @@ pub fn walk(
 ) -> Result<usize, DbFault>
     requires inside { limit ≤ length b.now }
     requires reached { Reached l.sizes b.now levels from off limit }
-    ensures ok { IfOk result (λ end. (end ≡ record_end l.sizes b.now off) × Fits l.sizes b.now from off limit
+    ensures ok { IfOk result
+        (λ end. (end ≡ record_end l.sizes b.now off) × Fits l.sizes b.now from off limit
         × NodeText l.sizes b.now levels from off (tree_at l.sizes b.now levels off)) }
-    ensures err { OnErr result (Fits l.sizes b.now from off limit → NodeText l.sizes b.now levels from off (tree_at l.sizes b.now levels off) → ⊥) }
+    ensures err { OnErr result
+        (Fits l.sizes b.now from off limit
+        → NodeText l.sizes b.now levels from off (tree_at l.sizes b.now levels off) → ⊥) }
     ensures fault { IfErr result (λ e. Stands l.sizes b.now e) }
 {
     let Some(end) = record_end_within(b, l, from, off, limit) else {

@@ -20,8 +20,8 @@ is_wanted device f = is_match device f.position.pattern
 
 -- whether a position is greater than the one given, if one is given
 unfoldable pub is_after : Option Position → Position → Bool
-is_after None spot = true
-is_after (Some after) spot = is_lt (position_cmp after spot)
+is_after None position = true
+is_after (Some after) position = is_lt (position_cmp after position)
 
 -- whether the position of an assignment is greater than the one given, if one is given
 abbrev pub is_behind : Option Position → Assignment → Bool

@@ -11,8 +11,8 @@ use Rattle.hwdb_spec.specs.Tree.{Tree, answers, answers_after}
 use Rattle.hwdb_spec.specs.Answers.{effective_of, last_assignments}
 
 -- two decimal numbers and two hexadecimal texts, with colons between
-abbrev pub spot_text : ℕ → ℕ → List ℕ → List ℕ → List ℕ
-spot_text priority line pattern key = decimal priority ++ 58 ∷ (decimal line ++ 58 ∷ (pattern ++ 58 ∷ key))
+abbrev pub position_text : ℕ → ℕ → List ℕ → List ℕ → List ℕ
+position_text priority line pattern key = decimal priority ++ 58 ∷ (decimal line ++ 58 ∷ (pattern ++ 58 ∷ key))
 
 -- The text spells the position: its hexadecimal digits stand in either case.
 pub record IsSpelling (p : Position) (bytes : List ℕ) : Type 0 where
@@ -22,11 +22,11 @@ pub record IsSpelling (p : Position) (bytes : List ℕ) : Type 0 where
   pub line : p.line < 2 ^ 32
   pub pattern : decode_of pattern_text ≡ Ok p.pattern
   pub key : decode_of key_text ≡ Ok p.key
-  pub text : bytes ≡ spot_text p.priority p.line pattern_text key_text
+  pub text : bytes ≡ position_text p.priority p.line pattern_text key_text
 
 -- the one text that is written of a position: its hexadecimal digits stand in lower case
 abbrev pub canonical : Position → List ℕ
-canonical p = spot_text p.priority p.line (encode_lower p.pattern) (encode_lower p.key)
+canonical p = position_text p.priority p.line (encode_lower p.pattern) (encode_lower p.key)
 
 -- `KEY=VALUE` and a newline
 abbrev pub property_text : List ℕ × List ℕ → List ℕ

@@ -153,22 +153,22 @@ abbrev pub IsTreeOfFiles : (etc usr : List Source) → Tree → Type 0
 IsTreeOfFiles etc usr t = map_of t ≡ map_of_files etc usr
 
 -- what a value assigns at a pattern; nothing where its stored key begins with no space
-abbrev pub one_found : List ℕ → Shown → Option (List ℕ) → List Assignment
-one_found pattern s None = []
-one_found pattern s (Some key) =
+abbrev pub one_assignment : List ℕ → Shown → Option (List ℕ) → List Assignment
+one_assignment pattern s None = []
+one_assignment pattern s (Some key) =
     record { position = record { priority = s.priority; line = s.line; pattern = pattern; key = key }; value = s.value; path = s.path } ∷ []
 
 -- what a value assigns at a pattern, as readers see it
-unfoldable pub found_shown : List ℕ → Shown → List Assignment
-found_shown pattern s = one_found pattern s s.key
+unfoldable pub assignment_shown : List ℕ → Shown → List Assignment
+assignment_shown pattern s = one_assignment pattern s s.key
 
 -- what a value assigns at its path
-abbrev pub found_of : List ℕ × Value → List Assignment
-found_of p = found_shown p.0 (shown p.1)
+abbrev pub assignment_of : List ℕ × Value → List Assignment
+assignment_of p = assignment_shown p.0 (shown p.1)
 
 -- the assignments of a tree, from a path on
 abbrev pub members_under : List ℕ → Tree → List Assignment
-members_under path t = flat_map found_of (values_under path t)
+members_under path t = flat_map assignment_of (values_under path t)
 
 -- the answers, ascending
 unfoldable pub answers : List ℕ → Tree → List Assignment

@@ -6,7 +6,7 @@ use Rattle.std.proofs.lemmas.List.{take-append-le}
 use Rattle.std.proofs.KnownBytes.{Appends-trans, Appends-nil}
 use Rattle.std.specs.Io.KnownBytes.{Appends}
 use Rattle.hwdb_spec.specs.Assignment.{Assignment}
-use Rattle.hwdb_query.specs.Views.{Gives, found_of_hit}
+use Rattle.hwdb_query.specs.Views.{Gives, assignment_of_hit}
 use Rattle.hwdb_query.specs.declared.hit.Hit.{Hit}
 use Rattle.hwdb_tool.specs.Devices.{AppendsPrefix}
 use Rattle.hwdb_tool.specs.Engines.{AppendsLines, one_less}
@@ -52,7 +52,7 @@ pub no_lines : (a : Option (List ℕ)) (hits : List Assignment) → AppendsLines
 no_lines a hits = (0, Appends-nil a)
 
 -- what was given is the first of what was to come
-pub given : (before after : List Assignment) (o : Option Hit) (hit : Hit) → o ≡ Some hit → Gives before after o → before ≡ found_of_hit hit ∷ after
+pub given : (before after : List Assignment) (o : Option Hit) (hit : Hit) → o ≡ Some hit → Gives before after o → before ≡ assignment_of_hit hit ∷ after
 given before after o hit e g = let P : Option Hit → Type 0 = λ x. Gives before after x in subst P e g
 
 -- what is printed of a list behind its first line

@@ -1,7 +1,7 @@
 -- Which refusal an error of a crate below becomes.
 use Rattle.std.proofs.Common.{◌≡◌, ◌≢◌, ◌<◌, ℕ, List, Option, None, Some, refl, ap, arith, sym, subst, Result, Ok, Err, IfErr}
 use Rattle.std.specs.Option.{option_copied}
-use Rattle.hwdb_query.specs.Views.{given_spot, next_spot}
+use Rattle.hwdb_query.specs.Views.{given_position, next_position}
 use Rattle.hwdb_query.specs.declared.position.Position.{Position as OwnedPosition}
 use Rattle.std.specs.Result.{IsErrAnd}
 use Rattle.std.specs.Borrow.{Bor}
@@ -34,9 +34,9 @@ module _ {X : Type 0} where
   cursor_refused (Some text) bytes query.Memory (Err e) h page bad = let P : ToolError → Type 0 = λ x. IsListRefusal (Some text) bytes x in subst P (sym h) tt
 
 -- the position that a caller lends
-pub lent_spot : (lent : Option (Bor OwnedPosition)) (own : Option OwnedPosition) → option_copied lent ≡ own → given_spot lent ≡ next_spot own
-lent_spot None own e = ap next_spot e
-lent_spot (Some p) own e = ap next_spot e
+pub lent_position : (lent : Option (Bor OwnedPosition)) (own : Option OwnedPosition) → option_copied lent ≡ own → given_position lent ≡ next_position own
+lent_position None own e = ap next_position e
+lent_position (Some p) own e = ap next_position e
 
 pub not_zero : (page : ℕ) → page ≡ 0 → 0 < page → ⊥
 not_zero page e some = omega (arith, e, some)

@@ -31,14 +31,21 @@ pub fn print_hits<O: Sink>(
     out: &mut O,
 ) -> Result<(), ToolError>
     requires page { hits.old.page ≡ list_page }
-    ensures printed { OnOk result (Appends (O.taken out.old) (O.taken out.new) (hits_text (within_limit limit hits.old.to_come))) }
+    ensures printed { OnOk result
+        (Appends (O.taken out.old) (O.taken out.new)
+        (hits_text (within_limit limit hits.old.to_come))) }
     ensures refusals { IfErr result IsPrintRefusal }
-    ensures cause { IsErrOf result ToolError.Write → HasFailed (O.failures out.old) (O.failures out.new) }
+    ensures cause { IsErrOf result ToolError.Write
+        → HasFailed (O.failures out.old) (O.failures out.new) }
     ensures unfailed { OnOk result (O.failures out.new ≡ O.failures out.old) }
-    ensures last { IsErrOf result ToolError.Write → OneFailed (O.failures out.old) (O.failures out.new) }
+    ensures last { IsErrOf result ToolError.Write
+        → OneFailed (O.failures out.old) (O.failures out.new) }
     ensures refused { IsErrOf result ToolError.Memory → O.failures out.new ≡ O.failures out.old }
-    ensures cut_short { IsErrOf result ToolError.Write → AppendsPrefix (O.taken out.old) (O.taken out.new) (hits_text (within_limit limit hits.old.to_come)) }
-    ensures whole_lines { IsErrOf result ToolError.Memory → AppendsLines (O.taken out.old) (O.taken out.new) (within_limit limit hits.old.to_come) }
+    ensures cut_short { IsErrOf result ToolError.Write
+        → AppendsPrefix (O.taken out.old) (O.taken out.new)
+        (hits_text (within_limit limit hits.old.to_come)) }
+    ensures whole_lines { IsErrOf result ToolError.Memory
+        → AppendsLines (O.taken out.old) (O.taken out.new) (within_limit limit hits.old.to_come) }
 {
     let mut left = limit;
     'printing: while left != Some(0) {

@@ -31,19 +31,24 @@ pub fn run_update<O: Sink, E: Sink>(
     out: &mut O,
     err: &mut E,
 ) -> Result<u8, ToolError>
-    ensures updated { IfOk result (λ status. Updated (sources etc.now) (sources usr.now) max_bytes strict status
+    ensures updated { IfOk result
+        (λ status. Updated (sources etc.now) (sources usr.now) max_bytes strict status
         (E.taken err.old) (E.taken err.new) (O.taken out.old) (O.taken out.new)) }
 
-    ensures refusals { IfErr result (IsUpdateRefusal (sources etc.now) (sources usr.now) max_bytes) }
+    ensures refusals { IfErr result
+        (IsUpdateRefusal (sources etc.now) (sources usr.now) max_bytes) }
     ensures cause { IsErrOf result ToolError.Write
-        → HasFailed (E.failures err.old) (E.failures err.new) ⊎ HasFailed (O.failures out.old) (O.failures out.new) }
+        → HasFailed (E.failures err.old) (E.failures err.new)
+        ⊎ HasFailed (O.failures out.old) (O.failures out.new) }
     ensures unfailed { OnOk result ((E.failures err.new ≡ E.failures err.old)
         × (O.failures out.new ≡ O.failures out.old)) }
     ensures last { IsErrOf result ToolError.Write → OneOfTwoFailed (E.failures err.old)
         (E.failures err.new) (O.failures out.old) (O.failures out.new) }
-    ensures cut_short { IsErrOf result ToolError.Write → UpdateCutShort (sources etc.now) (sources usr.now)
+    ensures cut_short { IsErrOf result ToolError.Write
+        → UpdateCutShort (sources etc.now) (sources usr.now)
         (E.taken err.old) (E.taken err.new) (O.taken out.old) (O.taken out.new) }
-    ensures untouched { IfErr result (λ e. e ≢ ToolError.Write → (err.new ≡ err.old) × (out.new ≡ out.old)) }
+    ensures untouched { IfErr result
+        (λ e. e ≢ ToolError.Write → (err.new ≡ err.old) × (out.new ≡ out.old)) }
 {
     let compiled = compile(alloc, etc, usr, max_bytes)?;
     let faults = fault_lines(alloc, &compiled.faults)?;

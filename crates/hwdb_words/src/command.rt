@@ -117,7 +117,8 @@ fn limit_option<'a>(alloc: Global) -> Arg<'a>
 
 fn add_shared<'a>(alloc: Global, command: Command<'a>) -> Result<Command<'a>, AllocError>
     ensures app { IfOk result (λ r. app_of r ≡ with_shared (app_of command.entry)) }
-    ensures local { IfOk result (λ r. (fields_of r).has_globals ≡ (fields_of command.entry).has_globals) }
+    ensures local { IfOk result
+        (λ r. (fields_of r).has_globals ≡ (fields_of command.entry).has_globals) }
 {
     let with_usr = command.arg(usr_option(alloc))?;
     let with_strict = with_usr.arg(strict_option(alloc))?;

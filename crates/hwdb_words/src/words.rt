@@ -104,7 +104,8 @@ fn root_of(
     inner: &ArgMatches<'_>,
 ) -> Result<Option<String>, AllocError>
     ensures { IfOk result (λ r. option_map string_bytes r
-        ≡ or_else (first_of (codes "root") (rows_of (found_of inner.now))) (first_of (codes "root") (rows_of (found_of top.now)))) }
+        ≡ or_else (first_of (codes "root") (rows_of (found_of inner.now)))
+        (first_of (codes "root") (rows_of (found_of top.now)))) }
 {
     match text_of(inner, "root") {
         Some(root) => Ok(Some(String::from_str(alloc, root)?)),
@@ -120,7 +121,8 @@ fn job_of(
     inner: &ArgMatches<'_>,
 ) -> Result<Job, AllocError>
     requires { IsCommand name.now (rows_of (found_of inner.now)) }
-    ensures { IfOk result (IsJob (rows_of (found_of top.now)) name.now (rows_of (found_of inner.now))) }
+    ensures { IfOk result
+        (IsJob (rows_of (found_of top.now)) name.now (rows_of (found_of inner.now))) }
 {
     let task = task_of(alloc, name, inner)?;
     let root = root_of(alloc, top, inner)?;
@@ -161,10 +163,13 @@ fn text_of_fault(alloc: Global, error: &Error, words: &[String]) -> Result<Strin
 /// What the words ask for; the first is the program's name. Words that the command doesn't take give
 /// `WordsFault::Usage` with a text that says why, `--help` gives `WordsFault::Help`.
 pub fn read_words(alloc: Global, words: &[String]) -> Result<Job, WordsFault>
-    ensures job { IfOk result (IsJobOf (matches_of hwdb_app (map string_bytes words.now)) (subcommand_of hwdb_app (map string_bytes words.now))) }
+    ensures job { IfOk result
+        (IsJobOf (matches_of hwdb_app (map string_bytes words.now))
+        (subcommand_of hwdb_app (map string_bytes words.now))) }
     ensures whole { IfOk result (λ _. fault_of hwdb_app (map string_bytes words.now) ≡ []) }
     ensures told { IfErr result (IsToldOfOne (fault_of hwdb_app (map string_bytes words.now))) }
-    ensures taken { IfErr result (λ e. takes hwdb_app (map string_bytes words.now) ≡ true → e ≡ Memory) }
+    ensures taken { IfErr result
+        (λ e. takes hwdb_app (map string_bytes words.now) ≡ true → e ≡ Memory) }
 {
     let command = hwdb_command(alloc)?;
     let matches = match command.try_get_matches_from(words) {

@@ -29,7 +29,12 @@ pub struct Branch {
 
 /// How long the longest common beginning is.
 pub fn common(a: &[u8], b: &[u8]) -> usize
-    ensures meeting { meet a.now b.now ≡ record { front = take result a.now; left = drop result a.now; right = drop result b.now } }
+    ensures meeting { meet a.now b.now
+        ≡ record {
+          front = take result a.now;
+          left = drop result a.now;
+          right = drop result b.now;
+        } }
     ensures first { result ≤ length a.now }
     ensures second { result ≤ length b.now }
 {
@@ -79,7 +84,8 @@ fn adopt(
     requires place { place ≤ vec_len others }
     ensures same { byte_of node.new ≡ byte_of node.old }
     ensures tree { tree_of node.new ≡ Node front values
-        (children_in (insert (map standing others.items) place (byte, Node back (values_of (tree_of node.old)) (below_of (tree_of node.old))))) }
+        (children_in (insert (map standing others.items) place
+        (byte, Node back (values_of (tree_of node.old)) (below_of (tree_of node.old))))) }
 {
     let mut lower = Branch {
         byte: node.byte,
@@ -107,7 +113,10 @@ pub fn fork(
     ensures same { byte_of node.new ≡ byte_of node.old }
     ensures err { OnErr result (tree_of node.new ≡ tree_of node.old) }
     ensures ok { OnOk result (let p = (out-Branch node.old).prefix in
-        tree_of node.new ≡ forked (take at p) (slice_index p at) (Node (drop (at + 1) p) (values_of (tree_of node.old)) (below_of (tree_of node.old))) (drop at rest.now) (value_of value)) }
+        tree_of node.new
+        ≡ forked (take at p) (slice_index p at)
+        (Node (drop (at + 1) p) (values_of (tree_of node.old)) (below_of (tree_of node.old)))
+        (drop at rest.now) (value_of value)) }
 {
     let prefix = node.prefix.text();
     let byte = prefix[at];
@@ -140,7 +149,8 @@ pub fn put_below(
 ) -> Result<(), AllocError>
     requires { IsTree (tree_of node.old) }
     ensures same { byte_of node.new ≡ byte_of node.old }
-    ensures ok { OnOk result (tree_of node.new ≡ set_at rest.now (value_of value) (tree_of node.old)) }
+    ensures ok { OnOk result
+        (tree_of node.new ≡ set_at rest.now (value_of value) (tree_of node.old)) }
     ensures err { OnErr result (tree_of node.new ≡ tree_of node.old) }
 {
     let prefix = node.prefix.text();

@@ -133,7 +133,8 @@ fn database_within(
 ) -> Result<Option<Vec<u8>>, AllocError>
     requires { IsNarrow (tree_of root.now) }
     ensures { let bytes = written (tree_of root.now) in IfOk result (λ o.
-        MatchOption o (max_bytes < length bytes) (λ v. (v.items ≡ bytes) × (length bytes ≤ max_bytes))) }
+        MatchOption o (max_bytes < length bytes)
+        (λ v. (v.items ≡ bytes) × (length bytes ≤ max_bytes))) }
 {
     let nodes = text_length(root);
     let mut guesses = Guesses::new(alloc, nodes / NODE_BYTES_A_GUESS)?;

@@ -4,7 +4,7 @@ use Rattle.std.specs.BTreeMap.{BTreeMap, get_by}
 use Rattle.std.specs.Borrow.{Bor}
 use Rattle.hwdb_spec.specs.Assignment.{Ascends, Assignment, assignment_cmp, Position, put_all}
 use Rattle.hwdb_query.specs.declared.next_page.NextPage.{NextPage}
-use Rattle.hwdb_query.specs.Internal.Hits.{after_spot}
+use Rattle.hwdb_query.specs.Internal.Hits.{after_position}
 use Rattle.hwdb_spec.specs.Answers.{is_behind, key_cmp, has_key}
 use Rattle.hwdb_query.specs.Internal.Lists.{keep_all}
 use Rattle.hwdb_query.specs.declared.last_hits.Last.{Last}
@@ -19,7 +19,7 @@ pub record PageCollects (a : NextPage) (xs : List Assignment) (b : NextPage) : T
   pub most : b.held.most ≡ a.held.most
   pub ascends : Ascends assignment_cmp a.held.hits → Ascends assignment_cmp b.held.hits
   pub kept : Ascends assignment_cmp a.held.hits
-      → b.held.hits ≡ keep_all assignment_cmp a.held.most (filter (is_behind (after_spot a.after)) xs) a.held.hits
+      → b.held.hits ≡ keep_all assignment_cmp a.held.most (filter (is_behind (after_position a.after)) xs) a.held.hits
 
 -- the position and the value of a hit
 abbrev pub Told : Type 0
@@ -38,8 +38,8 @@ told_last key h = (
 abbrev pub told_at : BTreeMap (Bor (List ℕ)) Last → List ℕ → Option Told
 told_at m key = option_map (told_last key) (get_by (λ k. key_cmp key k.now) m)
 
-abbrev pub spot_at : BTreeMap (Bor (List ℕ)) Last → List ℕ → Option Position
-spot_at m key = option_map (λ t. t.0) (told_at m key)
+abbrev pub position_at : BTreeMap (Bor (List ℕ)) Last → List ℕ → Option Position
+position_at m key = option_map (λ t. t.0) (told_at m key)
 
 -- the last of some hits with a key
 abbrev pub last_with : List ℕ → List Assignment → Option Assignment

@@ -7,10 +7,10 @@ use Rattle.hwdb_query.specs.declared.held.Place.{Place}
 use Rattle.hwdb_query.specs.declared.hit.Hit.{Hit}
 use Rattle.hwdb_reader.specs.declared.view.Origin.{Origin}
 use Rattle.hwdb_query.specs.declared.position.Position.{Position as OwnedPosition}
-use Rattle.hwdb_query.specs.Views.{position_spot}
+use Rattle.hwdb_query.specs.Views.{position_value}
 
-abbrev pub parts_spot : Parts → Position
-parts_spot p = record { priority = p.priority; line = p.line; pattern = p.pattern.now; key = p.key.now }
+abbrev pub parts_position : Parts → Position
+parts_position p = record { priority = p.priority; line = p.line; pattern = p.pattern.now; key = p.key.now }
 
 -- the hit that an entry gives at a pattern
 abbrev pub shown_at : List ℕ → List ℕ → Entry → Assignment
@@ -36,18 +36,18 @@ pub record IsLastOfFull (last : Hit) (hits : List Hit) (most : ℕ) : Type 0 whe
   pub full : most ≤ length hits
 
 -- a position, and a hit, with an origin
-abbrev pub IsSpotOf : Origin → Position → Type 0
-IsSpotOf o s = (s.priority ≡ o.priority) × (s.line ≡ o.line)
+abbrev pub IsPositionOf : Origin → Position → Type 0
+IsPositionOf o s = (s.priority ≡ o.priority) × (s.line ≡ o.line)
 
 abbrev pub IsOf : Origin → Assignment → Type 0
-IsOf o x = IsSpotOf o x.position
+IsOf o x = IsPositionOf o x.position
 
-abbrev pub after_spot : Option Parts → Option Position
-after_spot after = option_map parts_spot after
+abbrev pub after_position : Option Parts → Option Position
+after_position after = option_map parts_position after
 
 -- the position of the first of a list, if there is one
 abbrev pub IsFirst : List Assignment → Option OwnedPosition → Type 0
 IsFirst [] None = Unit {0}
 IsFirst [] (Some p) = ⊥
 IsFirst (f ∷ more) None = ⊥
-IsFirst (f ∷ more) (Some p) = position_spot p ≡ f.position
+IsFirst (f ∷ more) (Some p) = position_value p ≡ f.position

@@ -7,8 +7,8 @@ ghost use Rattle.hwdb_spec.specs.Assignment.{Assignment, assignment_cmp, put, pu
 ghost use Rattle.hwdb_text.specs.Views.{assigned};
 ghost use Rattle.hwdb_pattern.specs.Laws.{MatchesIsTested};
 ghost use Rattle.hwdb_spec.specs.Answers.{is_match, is_after, effective_of, key_cmp, is_same_place, last_assignments};
-ghost use Rattle.hwdb_query.specs.Views.{found_of_hit, founds, given_spot, pairs_bytes};
-ghost use Rattle.hwdb_query.specs.Internal.Hits.{parts_spot, PlaceOf};
+ghost use Rattle.hwdb_query.specs.Views.{assignment_of_hit, assignments_of_hits, given_position, pairs_bytes};
+ghost use Rattle.hwdb_query.specs.Internal.Hits.{parts_position, PlaceOf};
 ghost use Rattle.hwdb_query.specs.Internal.Plain.{last_one};
 
 use crate::held::Place;
@@ -54,7 +54,7 @@ fn is_matched(pattern: &[u8], device: &[u8]) -> bool
 
 /// Whether a position is greater than the one given, if one is given.
 fn is_behind(after: Option<&Position>, parts: Parts<'_>) -> bool
-    ensures { result ≡ is_after (given_spot after.entry) (parts_spot parts.entry) }
+    ensures { result ≡ is_after (given_position after.entry) (parts_position parts.entry) }
 {
     match after {
         None => true,
@@ -67,7 +67,7 @@ fn is_behind(after: Option<&Position>, parts: Parts<'_>) -> bool
 
 /// An assignment as a hit.
 fn hit_of<'a>(alloc: Global, a: &'a Assignment) -> Result<Hit<'a>, AllocError>
-    ensures { IfOk result (λ hit. found_of_hit hit ≡ assigned a.now) }
+    ensures { IfOk result (λ hit. assignment_of_hit hit ≡ assigned a.now) }
 {
     let pattern = a.pattern.to_vec(alloc)?;
     Ok(Hit {
@@ -83,7 +83,8 @@ fn hit_of<'a>(alloc: Global, a: &'a Assignment) -> Result<Hit<'a>, AllocError>
 /// The place of a position among hits, the first that isn't below it.
 fn place_among(hits: &[Hit<'_>], parts: Parts<'_>) -> Place
     ensures within { result.index ≤ length hits.now }
-    ensures place { (x : Assignment) → x.position ≡ parts_spot parts.entry → PlaceOf x (founds hits.now) result }
+    ensures place { (x : Assignment) → x.position ≡ parts_position parts.entry
+        → PlaceOf x (assignments_of_hits hits.now) result }
 {
     for (i, hit) in hits.iter().enumerate() {
         match order(parts, hit.parts()) {
@@ -110,7 +111,9 @@ fn place_among(hits: &[Hit<'_>], parts: Parts<'_>) -> Place
 
 /// Puts a hit in its place.
 fn put_hit<'a>(hits: &mut Vec<Hit<'a>>, hit: Hit<'a>) -> Result<(), AllocError>
-    ensures { OnOk result (founds hits.new.items ≡ put assignment_cmp (found_of_hit hit.entry) (founds hits.old.items)) }
+    ensures { OnOk result
+        (assignments_of_hits hits.new.items
+        ≡ put assignment_cmp (assignment_of_hit hit.entry) (assignments_of_hits hits.old.items)) }
 {
     let held: &[Hit<'_>] = hits;
     let place = place_among(held, hit.parts());
@@ -130,8 +133,10 @@ fn put_last<'a>(
     device: &[u8],
     after: Option<&Position>,
 ) -> Result<(), AllocError>
-    ensures { OnOk result (founds hits.new.items
-        ≡ put_all assignment_cmp (last_one device.now (given_spot after.entry) (assigned first.now) (map assigned more.now)) (founds hits.old.items)) }
+    ensures { OnOk result (assignments_of_hits hits.new.items
+        ≡ put_all assignment_cmp
+        (last_one device.now (given_position after.entry) (assigned first.now)
+        (map assigned more.now)) (assignments_of_hits hits.old.items)) }
 {
     if is_followed(first, more) {
         return Ok(());
@@ -154,7 +159,9 @@ pub fn plain_hits<'a>(
     device: &[u8],
     after: Option<&Position>,
 ) -> Result<Vec<Hit<'a>>, AllocError>
-    ensures { IfOk result (λ hits. founds hits.items ≡ last_assignments device.now (given_spot after.entry) (map assigned all.now)) }
+    ensures { IfOk result
+        (λ hits. assignments_of_hits hits.items
+        ≡ last_assignments device.now (given_position after.entry) (map assigned all.now)) }
 {
     let mut hits = Vec::new(alloc);
     let mut rest = all;
@@ -171,7 +178,9 @@ fn put_value<'a>(
     key: &'a [u8],
     value: &'a [u8],
 ) -> Result<(), AllocError>
-    ensures { OnOk result (pairs_bytes pairs.new.items ≡ insert_entry key_cmp (pairs_bytes pairs.old.items) key.entry.now value.entry.now) }
+    ensures { OnOk result
+        (pairs_bytes pairs.new.items
+        ≡ insert_entry key_cmp (pairs_bytes pairs.old.items) key.entry.now value.entry.now) }
 {
     let count = pairs.as_slice().len();
     for i in 0..count {
@@ -197,7 +206,8 @@ pub fn plain_effective<'a>(
     alloc: Global,
     hits: &[Hit<'a>],
 ) -> Result<Vec<(&'a [u8], &'a [u8])>, AllocError>
-    ensures { IfOk result (λ list. pairs_bytes list.items ≡ effective_of (founds hits.now)) }
+    ensures { IfOk result
+        (λ list. pairs_bytes list.items ≡ effective_of (assignments_of_hits hits.now)) }
 {
     let mut pairs = Vec::new(alloc);
     for hit in hits {

@@ -1,7 +1,7 @@
 use Rattle.std.proofs.Common.{◌∙◌, ap, sym, add-one, take}
 use Rattle.std.specs.BTreeMap.{insert_entry}
 use Rattle.hwdb_spec.specs.Answers.{effective_of, key_cmp}
-use Rattle.hwdb_query.specs.Views.{found_of_hit, founds, pairs_bytes}
+use Rattle.hwdb_query.specs.Views.{assignment_of_hit, assignments_of_hits, pairs_bytes}
 use Rattle.hwdb_query.proofs.Keyed.{effective_one, none_effective}
 use Rattle.hwdb_query.proofs.Placing.{found_more}
 use Rattle.hwdb_query.proofs.tests.plain.plain_effective.Goals as goal
@@ -16,4 +16,4 @@ loop-hit-preserved c =
     let hit = c.hit-item.result in
     rw add-one (c.in_ok-put_value.ensures
     ∙ ap (λ l. insert_entry key_cmp l hit.key.now hit.value.now) c.loop-hit.invariant
-    ∙ sym (effective_one (take i (founds hits)) (found_of_hit hit)) ∙ ap effective_of (sym (found_more hits i hit c.loop-hit-test.true c.hit-item.is)))
+    ∙ sym (effective_one (take i (assignments_of_hits hits)) (assignment_of_hit hit)) ∙ ap effective_of (sym (found_more hits i hit c.loop-hit-test.true c.hit-item.is)))
