@@ -16,9 +16,8 @@ use Rattle.hwdb_spec.specs.Tree.{Tree, IsTree, place_cmp, map_of, Assigned as St
 use Rattle.hwdb_spec.specs.Answers.{is_wanted, is_behind, is_same_place, last_of_each, last_matching, last_assignments}
 use Rattle.hwdb_query.specs.Laws.{Among, assigned_of}
 use Rattle.hwdb_query.proofs.Putting.{ascends_all}
-use Rattle.hwdb_query.proofs.Latest.{same_place}
 use Rattle.hwdb_query.proofs.Orders.{assignment_total}
-use Rattle.hwdb_query.proofs.Members.{all_sound, all_has, filter_sound, filter_complete, none_ascends, in_none, then_equal, same_text, place_total, are_answers}
+use Rattle.hwdb_query.proofs.Members.{all_sound, all_has, filter_sound, filter_complete, none_ascends, in_none, then_equal, same_text, place_total, same_place, are_answers}
 
 -- the first of two that there is
 abbrev first_some : Option Stored → Option Stored → Option Stored

@@ -4,7 +4,7 @@ use Rattle.std.specs.FinMap as finite
 use Rattle.std.specs.Prelude.{flat_map}
 use Rattle.std.specs.Cmp.{IsTotalOrder}
 use Rattle.std.specs.Cmp.Lexicographic.{slice_cmp}
-use Rattle.std.specs.Ordering.{nat_cmp, is_eq, match_ordering, ordering_then}
+use Rattle.std.specs.Ordering.{eq_by_cmp, nat_cmp, is_eq, match_ordering, ordering_then}
 use Rattle.std.specs.declared.cmp.Ordering.{Ordering}
 use Rattle.std.specs.declared.cmp.Ordering.TheVariants.{Less, Equal, Greater}
 use Rattle.std.proofs.lemmas.Cmp.{nat_list_cmp_total, tied_itself, on_total, then_total}
@@ -231,3 +231,9 @@ are_answers tested device t tree =
           all_has f (filter w (members_under [] t)) [] here (λ x y mx my e. absurd (in_none y my))
           (λ x y mx my e. members_single ps d x y (filter_sound x w (members_under [] t) mx).0 (filter_sound y w (members_under [] t) my).0 e);
     }
+
+-- places that the order takes for equal
+pub same_place : (p q : List ℕ × List ℕ) → eq_by_cmp place_cmp p q ≡ true → p ≡ q
+same_place p q e =
+    let both = then_equal (slice_cmp nat_cmp p.0 q.0) (slice_cmp nat_cmp p.1 q.1) (equal_of (place_cmp p q) e) in
+    λ i. (same_text p.0 q.0 both.0 i, same_text p.1 q.1 both.1 i)

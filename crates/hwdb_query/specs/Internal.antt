@@ -3,8 +3,5 @@ pub mod Lists
 pub mod Hits
 pub mod Collected
 pub mod Live
-pub mod Plain
-pub mod Reading
-pub mod Conversions
 pub mod Pairs
 pub mod Members

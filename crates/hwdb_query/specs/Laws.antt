@@ -1,9 +1,9 @@
--- What the laws say of answers, surviving assignments, fillings and the texts of positions.
-use Rattle.std.specs.Prelude.{List, [], ◌∷◌, ◌≡◌, ◌⊎◌, Some, ℕ, Option, None, ◌<◌, ◌≤◌, All, Contains, IsSome, suc, zero, if◌then◌else◌, ◌+◌, false, length, ◌^◌}
+-- What the laws say of answers, fillings and the texts of positions.
+use Rattle.std.specs.Prelude.{List, [], ◌∷◌, ◌≡◌, ◌⊎◌, Some, ℕ, Option, None, ◌<◌, suc, zero, if◌then◌else◌, ◌+◌, false, length, ◌^◌}
 use Rattle.std.specs.Int.{div_ceil}
 use Rattle.hex.specs.Hex.{IsBytes}
 use Rattle.hwdb_spec.specs.Assignment.{Assignment, Ascends, assignment_cmp, Position}
-use Rattle.hwdb_spec.specs.Tree.{Assigned, Tree, map_of, answers_after, map_of_files, answers, Assigned as Stored, entry_of}
+use Rattle.hwdb_spec.specs.Tree.{Assigned, Tree, map_of, answers_after, map_of_files, answers}
 use Rattle.hwdb_spec.specs.Patterns.{Matches, tokens}
 use Rattle.hwdb_spec.specs.Format.{IsDatabase}
 use Rattle.hwdb_spec.specs.Folders.{Source, all_assignments}
@@ -44,27 +44,6 @@ abbrev pub AllCompiledAnswersAreLast : Type 0
 AllCompiledAnswersAreLast =
     (etc usr : List Source) (bytes : List ℕ) → IsDatabaseOf (map_of_files etc usr) bytes
     → (t : Tree) → IsDatabase bytes t → (device : List ℕ) → answers device t ≡ last_assignments device None (all_assignments etc usr)
-
--- it comes no later: its file has a smaller priority, or the same one and its line isn't behind
-abbrev pub IsEarlier : Assignment → Stored → Type 0
-IsEarlier a s =
-    (a.position.priority < s.priority) ⊎ ((a.position.priority ≡ s.priority) × (a.position.line ≤ s.line))
-
--- Of the assignments with one pattern and key that the files have, none comes later than the one in the map.
-abbrev pub SurvivorsAreLatest : Type 0
-SurvivorsAreLatest =
-    (etc usr : List Source) (place : List ℕ × List ℕ) (s : Stored) → finite.get (map_of_files etc usr) place ≡ Some s
-    → All (λ a. (entry_of a).0 ≡ place → IsEarlier a s) (all_assignments etc usr)
-
--- What the map has at a pattern and key is one of the assignments with them.
-abbrev pub SurvivorsAreAssigned : Type 0
-SurvivorsAreAssigned =
-    (etc usr : List Source) (place : List ℕ × List ℕ) (s : Stored) → finite.get (map_of_files etc usr) place ≡ Some s
-    → (a : Assignment) × Contains (all_assignments etc usr) a × (entry_of a ≡ (place, s))
-
--- The map has something at the pattern and key of each assignment.
-abbrev pub EachPlaceSurvives : Type 0
-EachPlaceSurvives = (etc usr : List Source) → All (λ a. IsSome (finite.get (map_of_files etc usr) (entry_of a).0)) (all_assignments etc usr)
 
 -- how many of some calls of `next` fill a page
 unfoldable pub fillings : (calls : ℕ) → Progress → ℕ

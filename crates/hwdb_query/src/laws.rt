@@ -4,12 +4,11 @@ ghost use Rattle.hwdb_spec.specs.Format.{IsDatabase};
 ghost use Rattle.hwdb_spec.specs.Tree.{Map, map_of, Tree, answers};
 ghost use Rattle.hwdb_spec.specs.Written.{IsDatabaseOf};
 ghost use Rattle.hwdb_reader.specs.Views.{db_tree};
-ghost use Rattle.hwdb_query.specs.Laws.{AreAnswers, FillingsOfARun, AllCompiledAnswersAreLast, CompiledAnswersAreLast, EachPlaceSurvives, SurvivorsAreAssigned, SurvivorsAreLatest, SpellsOne, CanonicalSpells};
+ghost use Rattle.hwdb_query.specs.Laws.{AreAnswers, FillingsOfARun, AllCompiledAnswersAreLast, CompiledAnswersAreLast, SpellsOne, CanonicalSpells};
 ghost use Rattle.hwdb_query.specs.Rows.{EffectiveRow, LastRows};
 
 use hwdb_pattern::matches_is_tested;
 use hwdb_reader::{Db, law_ascending, law_one_tree};
-use hwdb_text::laws::{assignments_stand_by_line, priorities_count_up};
 
 /// The answers are, in order, those members of the database's map whose pattern matches the device.
 pub fn answers_are_the_maps(db: &Db<'_>)
@@ -26,17 +25,6 @@ pub fn positions_are_read_back()
     ensures one { SpellsOne }
     ensures canonical { CanonicalSpells }
 {}
-
-/// Of the assignments of all files with one pattern and key, one is compiled, and none of them comes after it:
-/// by the priority of its file, and then by its line.
-pub fn survivors_are_latest()
-    ensures assigned { SurvivorsAreAssigned }
-    ensures each { EachPlaceSurvives }
-    ensures latest { SurvivorsAreLatest }
-{
-    priorities_count_up();
-    assignments_stand_by_line();
-}
 
 /// Bytes that are a database of a map show this map and no other: so a reader that accepts compiled bytes sees
 /// the map that was compiled.

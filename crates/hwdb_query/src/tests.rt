@@ -1,7 +1,4 @@
 //! Worked rows over small databases, and the texts of positions.
-mod beside;
-mod compiled;
-mod plain;
 mod vectors;
 
 use crate::{CompileError, Cursor, Hit, Position, QueryError, compile, cursor, effective};

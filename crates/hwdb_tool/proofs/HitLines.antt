@@ -1,5 +1,5 @@
 -- Lines of hits, one after another.
-use Rattle.std.proofs.Common.{◌≡◌, ◌≢◌, ◌∙◌, ℕ, zero, suc, ◌+◌, ◌-◌, ◌≤◌, refl, ap, sym, subst, List, [], ◌∷◌, ◌++◌, Option, None, Some, length, take, arith, length-append, true, not, nat_eq, true≢false}
+use Rattle.std.proofs.Common.{◌≡◌, ◌≢◌, ◌∙◌, ℕ, zero, suc, ◌+◌, ◌-◌, refl, ap, sym, subst, List, [], ◌∷◌, ◌++◌, Option, None, Some, length, take, arith, length-append, true, not, nat_eq, true≢false}
 use Rattle.std.specs.Option.{option_eq}
 use Rattle.std.proofs.Math.Seq.{take-append-add}
 use Rattle.std.proofs.lemmas.List.{take-append-le}

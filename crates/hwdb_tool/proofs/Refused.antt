@@ -11,9 +11,9 @@ use Rattle.hwdb_query.specs.declared.errors.QueryError.{QueryError}
 use Rattle.hwdb_query.specs.declared.errors.QueryError.TheVariants as query
 use Rattle.hwdb_tool.specs.declared.errors.ToolError.{ToolError}
 use Rattle.hwdb_tool.specs.Refusals.{refusal_of_query}
-use Rattle.hwdb_tool.specs.Engines.{IsPositionRefusal, IsListRefusal, IsDatabaseRefusal, IsNoDatabase}
+use Rattle.hwdb_tool.specs.Engines.{IsPositionRefusal, IsListRefusal, IsDatabaseRefusal}
 use Rattle.hwdb_tool.specs.Updates.{IsAskRefusal}
-use Rattle.hwdb_tool.specs.declared.errors.ToolError.TheVariants.{Read, Write, TooLong, TooManyFiles, TooManyLines, TooLarge, BadPosition, PageZero, BadDatabase, Memory}
+use Rattle.hwdb_tool.specs.declared.errors.ToolError.TheVariants.{Write, BadDatabase, Memory}
 use Rattle.hwdb_spec.specs.Tree.{Map}
 use Rattle.hwdb_spec.specs.Written.{IsDatabaseOf}
 

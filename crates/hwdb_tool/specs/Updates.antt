@@ -6,11 +6,11 @@ use Rattle.hwdb_spec.specs.Written.{IsCompiled, IsWritten, IsTooLarge}
 use Rattle.hwdb_spec.specs.Texts.{faults_text, status_of, faults_text_at, query_text}
 use Rattle.hwdb_spec.specs.Tree.{map_of_files}
 use Rattle.hwdb_tool.specs.Devices.{AppendsPrefix}
-use Rattle.hwdb_query.specs.Views.{IsRefusal}
+use Rattle.hwdb_compile.specs.Views.{IsRefusal}
 use Rattle.hwdb_tool.specs.declared.errors.ToolError.TheVariants.{Memory, TooLarge, TooManyFiles, TooManyLines, Write}
 use Rattle.hwdb_tool.specs.declared.errors.ToolError.{ToolError}
 use Rattle.hwdb_tool.specs.Engines.{IsTextOf, Printed, CutShort}
-use Rattle.hwdb_query.specs.declared.errors.CompileError.TheVariants as compiling
+use Rattle.hwdb_compile.specs.declared.errors.CompileError.TheVariants as compiling
 
 -- the files are accepted, `err` took their fault lines and `out` their database
 pub record Updated (etc usr : List Source) (max_bytes : ℕ) (strict : Bool) (status : ℕ) (err_before err_now out_before out_now : Option (List ℕ)) : Type 0 where

@@ -1,7 +1,7 @@
 //! What `ask` does with one text file.
 ghost use Rattle.std.specs.Prelude.{◌≡◌, ◌≢◌, ◌⊎◌, ◌∷◌, [], IfOk, IfErr, OnOk, IsErrOf};
 ghost use Rattle.std.specs.Io.KnownBytes.{Appends};
-ghost use Rattle.hwdb_query.specs.Views.{sources};
+ghost use Rattle.hwdb_compile.specs.Views.{sources};
 ghost use Rattle.hwdb_tool.specs.Devices.{HasFailed, OneOfTwoFailed};
 ghost use Rattle.hwdb_spec.specs.Texts.{max_file, last_values_text};
 ghost use Rattle.hwdb_tool.specs.Updates.{lone, IsAnswerOf, Asked, AskCutShort, IsAskRefusal};
@@ -11,7 +11,7 @@ use crate::engines::{MAX_BYTES, properties_of};
 use crate::errors::ToolError;
 use crate::texts::fault_lines_at;
 use crate::transfer::write_text;
-use hwdb_query::{SourceFile, compile};
+use hwdb_compile::{SourceFile, compile};
 use std::alloc::{AllocError, Global};
 
 /// The texts that one file gives: its fault lines, and the properties of a device.

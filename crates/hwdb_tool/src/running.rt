@@ -12,7 +12,7 @@ use crate::files::{Replacement, any_bytes, database_bytes, joined, names_in, tex
 use crate::refusals::{Refusal, refuse_for, refuse_text};
 use crate::transfer::write_text;
 use crate::updating::run_update;
-use hwdb_query::SourceFile;
+use hwdb_compile::SourceFile;
 use hwdb_text::{Chosen, select};
 use hwdb_words::{Job, Task, WordsFault, read_words};
 use std::alloc::{AllocError, Global};

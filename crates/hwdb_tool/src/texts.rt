@@ -1,9 +1,11 @@
 //! The texts that are printed: properties, lines of hits, fault lines.
 ghost use Rattle.std.specs.Prelude.{◌≡◌, ◌++◌, map, IfOk, OnOk};
-ghost use Rattle.hwdb_query.specs.Views.{fault_of, assignment_of_hit, pairs_bytes};
+ghost use Rattle.hwdb_compile.specs.Views.{fault_of};
+ghost use Rattle.hwdb_query.specs.Views.{assignment_of_hit, pairs_bytes};
 ghost use Rattle.hwdb_spec.specs.Texts.{property_text, properties_text, hit_text, place_text, fault_line, faults_text, faults_text_at};
 
-use hwdb_query::{FileFault, Hit};
+use hwdb_compile::FileFault;
+use hwdb_query::Hit;
 use hwdb_text::Fault;
 use itoa::Buffer;
 use std::alloc::{AllocError, Global};

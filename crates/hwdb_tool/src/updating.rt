@@ -1,6 +1,6 @@
 //! What `update` does with the files of both folders.
 ghost use Rattle.std.specs.Prelude.{◌≡◌, ◌≢◌, ◌⊎◌, map, IfOk, IfErr, OnOk, IsErrOf};
-ghost use Rattle.hwdb_query.specs.Views.{sources, fault_of};
+ghost use Rattle.hwdb_compile.specs.Views.{sources, fault_of};
 ghost use Rattle.hwdb_tool.specs.Devices.{HasFailed, OneOfTwoFailed};
 ghost use Rattle.hwdb_spec.specs.Texts.{status_of};
 ghost use Rattle.hwdb_tool.specs.Updates.{Updated, UpdateCutShort, IsUpdateRefusal};
@@ -9,7 +9,7 @@ use crate::devices::Sink;
 use crate::errors::ToolError;
 use crate::texts::fault_lines;
 use crate::transfer::write_text;
-use hwdb_query::{FileFault, SourceFile, compile};
+use hwdb_compile::{FileFault, SourceFile, compile};
 use std::alloc::Global;
 
 /// The status of an update: 1 where `strict` and there is a fault, else 0.

@@ -12,7 +12,7 @@ use crate::running::program;
 use crate::tests::vectors::FAULTY;
 use crate::transfer::write_text;
 use crate::updating::run_update;
-use hwdb_query::SourceFile;
+use hwdb_compile::SourceFile;
 use std::alloc::{AllocError, Global};
 use std::io::{self, Write};
 use std::process::Abort;

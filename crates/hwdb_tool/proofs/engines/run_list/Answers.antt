@@ -1,4 +1,4 @@
-use Rattle.std.proofs.Common.{rules, ◌≡◌, ◌∙◌, arith, ap, subst, List, ℕ, inr}
+use Rattle.std.proofs.Common.{◌≡◌, ◌∙◌, arith, ap, subst, List, inr}
 use Rattle.std.proofs.lemmas.Result.{on_ok_weaker}
 use Rattle.std.specs.Io.KnownBytes.{Appends}
 use Rattle.hwdb_reader.specs.Views.{db_tree}

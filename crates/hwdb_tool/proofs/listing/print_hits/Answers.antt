@@ -1,4 +1,4 @@
-use Rattle.std.proofs.Common.{◌≡◌, ◌∙◌, ◌≤◌, arith, List, ℕ, Option}
+use Rattle.std.proofs.Common.{◌∙◌}
 use Rattle.hwdb_query.specs.Views.{assignment_of_hit}
 use Rattle.hwdb_tool.proofs.HitLines.{given, not_reached, whole_step, part_step, part_of_line, lines_step}
 use Rattle.hwdb_tool.proofs.listing.print_hits.Goals as goal

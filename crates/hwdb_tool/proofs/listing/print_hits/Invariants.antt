@@ -1,4 +1,4 @@
-use Rattle.std.proofs.Common.{◌≡◌, ◌≤◌, List, ℕ, Option, length}
+use Rattle.std.proofs.Common.{◌≡◌, List, ℕ, Option, length}
 use Rattle.std.specs.Io.KnownBytes.{Appends}
 use Rattle.hwdb_tool.specs.Devices.{AppendsPrefix}
 use Rattle.hwdb_tool.specs.Engines.{AppendsLines}

@@ -1,5 +1,5 @@
 use Rattle.std.proofs.Common.{◌≡◌, take, map}
-use Rattle.hwdb_query.specs.Views.{fault_of}
+use Rattle.hwdb_compile.specs.Views.{fault_of}
 use Rattle.hwdb_spec.specs.Texts.{faults_text_at}
 use Rattle.hwdb_tool.proofs.texts.fault_lines_at.Given as goal
 

@@ -1,6 +1,6 @@
 use Rattle.std.proofs.Common.{◌≡◌, ◌∙◌, ap, refl, subst, inl, inr, map, List, ℕ}
 use Rattle.std.specs.Io.KnownBytes.{Appends}
-use Rattle.hwdb_query.specs.Views.{fault_of, sources}
+use Rattle.hwdb_compile.specs.Views.{fault_of, sources}
 use Rattle.hwdb_spec.specs.Folders.{faults_of_files}
 use Rattle.hwdb_tool.specs.Devices.{AppendsPrefix}
 use Rattle.hwdb_spec.specs.Texts.{faults_text}

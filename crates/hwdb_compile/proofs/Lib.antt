@@ -1,0 +1,6 @@
+pub mod Gathered
+pub mod Accepting
+pub mod Latest
+pub mod PlainHits
+pub mod Plain
+pub mod PlainPairs
