@@ -4,12 +4,12 @@
 //! `words` reads a job off `clap`'s matches, and `tips` leaves out what misleads in the text of a fault.
 #![tactic(auto)]
 
+mod args;
 mod command;
 mod job;
 #[cfg(test)]
 mod tests;
 mod tips;
-mod args;
 
-pub use job::{Job, Task, WordsFault};
 pub use args::read_words;
+pub use job::{Job, Task, WordsFault};

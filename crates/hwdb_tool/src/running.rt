@@ -12,9 +12,9 @@ use crate::files::{Replacement, any_bytes, database_bytes, joined, names_in, tex
 use crate::refusals::{Refusal, refuse_for, refuse_text};
 use crate::transfer::write_text;
 use crate::updating::run_update;
+use hwdb_cli::{Job, Task, WordsFault, read_words};
 use hwdb_compile::SourceFile;
 use hwdb_text::{Chosen, select};
-use hwdb_cli::{Job, Task, WordsFault, read_words};
 use std::alloc::{AllocError, Global};
 use std::rt::Files;
 
