@@ -13,7 +13,7 @@ use Rattle.hwdb_spec.specs.Folders.{Choice, path_of, name_of, chosen_of, content
 use Rattle.hwdb_text.specs.Laws.{PrioritiesCountUp, AssignmentsStandByLine}
 use Rattle.hwdb_spec.specs.Tree.{place_cmp, Assigned as Stored, entry_of, surviving}
 use Rattle.hwdb_compile.specs.Laws.{IsEarlier, SurvivorsAreLatest, SurvivorsAreAssigned, EachPlaceSurvives}
-use Rattle.hwdb_query.proofs.Members.{place_total, same_place}
+use Rattle.hwdb_compile.proofs.Members.{place_total, same_place}
 use Rattle.hwdb_compile.proofs.Gathered.{surviving_one, from_file}
 
 abbrev Latest : List Assignment → Type 0

@@ -1,3 +1,8 @@
+pub mod Putting
+pub mod Members
+pub mod Orders
+pub mod Placing
+pub mod Keyed
 pub mod Gathered
 pub mod Accepting
 pub mod Latest

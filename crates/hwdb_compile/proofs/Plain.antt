@@ -7,9 +7,9 @@ use Rattle.hwdb_query.specs.Internal.Members.{wanted}
 use Rattle.hwdb_query.specs.Views.{assignment_of_hit, assignments_of_hits}
 use Rattle.hwdb_compile.specs.Internal.Plain.{last_one}
 use Rattle.hwdb_query.specs.declared.hit.Hit.{Hit}
-use Rattle.hwdb_query.proofs.Putting.{filter_in, filter_out, filter_put_all}
-use Rattle.hwdb_query.proofs.Orders.{behind_upward}
-use Rattle.hwdb_query.proofs.Placing.{founds_put}
+use Rattle.hwdb_compile.proofs.Putting.{filter_in, filter_out, filter_put_all}
+use Rattle.hwdb_compile.proofs.Orders.{behind_upward}
+use Rattle.hwdb_compile.proofs.Placing.{founds_put}
 
 -- an assignment that is followed, or isn't wanted, is left out
 pub left_followed : (device : List ℕ) (after : Option Position) (a : Assignment) (more : List Assignment) → list_any (is_same_place a) more ≡ true → last_one device after a more ≡ []

@@ -5,8 +5,8 @@ use Rattle.std.proofs.lemmas.List.{take-append-drop, drop_all, take_all}
 use Rattle.hwdb_spec.specs.Assignment.{Assignment, assignment_cmp, put}
 use Rattle.hwdb_query.specs.declared.hit.Hit.{Hit}
 use Rattle.hwdb_query.specs.Views.{assignment_of_hit, assignments_of_hits}
-use Rattle.hwdb_query.proofs.Putting.{put_less, put_same, put_more}
-use Rattle.hwdb_query.proofs.Placing.{founds_length}
+use Rattle.hwdb_compile.proofs.Putting.{put_less, put_same, put_more}
+use Rattle.hwdb_compile.proofs.Placing.{founds_length}
 
 pub found_next : (hits : List Hit) (i : ℕ) (h : Hit) → i < length hits → h ≡ get_or hits i h → drop i (assignments_of_hits hits) ≡ assignment_of_hit h ∷ drop (suc i) (assignments_of_hits hits)
 found_next [] i h l e = absurd (omega arith)

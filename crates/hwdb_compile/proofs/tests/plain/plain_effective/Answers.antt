@@ -2,7 +2,7 @@ use Rattle.std.proofs.Common.{◌∙◌, ap, sym, add-one, take}
 use Rattle.std.specs.BTreeMap.{insert_entry}
 use Rattle.hwdb_spec.specs.Answers.{effective_of, key_cmp}
 use Rattle.hwdb_query.specs.Views.{assignment_of_hit, assignments_of_hits, pairs_bytes}
-use Rattle.hwdb_query.proofs.Keyed.{effective_one, none_effective}
+use Rattle.hwdb_compile.proofs.Keyed.{effective_one, none_effective}
 use Rattle.hwdb_compile.proofs.PlainHits.{found_more}
 use Rattle.hwdb_compile.proofs.tests.plain.plain_effective.Goals as goal
 
