@@ -16,6 +16,7 @@ demo: all
 check:
 	rt ci
 	tests/documents
+	tests/definitions
 	tests/refused
 	$(MAKE) all
 	tests/runs out/hwdb

@@ -1,7 +1,7 @@
 -- The tests that compute say what the facts say.
 use Rattle.std.proofs.Common.{◌≡◌, ◌∙◌, ap, sym, refl, ℕ, zero, suc, ◌≤◌, Bool, true, false, List, [], ◌∷◌, ◌++◌, take, length, cond, arith, IsTrue, ◌↔◌}
-use Rattle.hwdb_pattern.specs.Patterns.{Token, star, one, bracket, literal, admits_byte, tokens, Matches, some_ending, byte_then, piece_then, matches}
-use Rattle.hwdb_pattern.specs.Paths.{closed_part, IsLive, some_up_to, is_live}
+use Rattle.hwdb_spec.specs.Patterns.{Token, star, one, bracket, literal, admits_byte, tokens, Matches, some_ending, byte_then, piece_then, matches}
+use Rattle.hwdb_spec.specs.Tree.{closed_part, IsLive, some_up_to, is_live}
 
 -- a list cut in two, whose second part passes
 pub record Ending (test : List ℕ → Bool) (device : List ℕ) : Type 0 where

@@ -1,8 +1,8 @@
 -- What is known of a path is known of all that begin with it.
 use Rattle.std.proofs.Common.{◌≡◌, ◌∙◌, ap, sym, refl, subst, ℕ, zero, suc, ◌-◌, ◌≤◌, Bool, true, false, List, [], ◌∷◌, ◌++◌, take, length, cond, arith, append_assoc}
 use Rattle.std.proofs.lemmas.List.{length-append}
-use Rattle.hwdb_pattern.specs.Patterns.{Token, token_at, token_size, tokens_from, tokens, Matches}
-use Rattle.hwdb_pattern.specs.Paths.{is_open, IsLive}
+use Rattle.hwdb_spec.specs.Patterns.{Token, token_at, token_size, tokens_from, tokens, Matches}
+use Rattle.hwdb_spec.specs.Tree.{is_open, IsLive}
 use Rattle.hwdb_pattern.proofs.Closing.{closed_tokens_from, closed_tokens, closed_cut, token_longer}
 
 -- tokens that another list begins with

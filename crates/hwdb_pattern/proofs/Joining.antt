@@ -1,7 +1,8 @@
 -- The texts of a pattern's tokens, joined again.
 use Rattle.std.proofs.Common.{ℕ, zero, suc, ◌≤◌, List, [], ◌∷◌, take, drop, length, refl, sym, subst, arith}
 use Rattle.std.proofs.lemmas.List.{take-append-drop, length-take-le, length-drop}
-use Rattle.hwdb_pattern.specs.Patterns.{Token, token_at, token_size, tokens, AreCutFrom, TokensAreThePattern}
+use Rattle.hwdb_spec.specs.Patterns.{Token, token_at, token_size, tokens}
+use Rattle.hwdb_pattern.specs.Laws.{AreCutFrom, TokensAreThePattern}
 use Rattle.hwdb_pattern.proofs.Cutting.{first_token, no_tokens, token_long}
 use Rattle.hwdb_pattern.proofs.Longer.{token_within}
 

@@ -1,6 +1,6 @@
 -- What a list of tokens matches, token by token: the steps of the greedy search.
 use Rattle.std.proofs.Common.{◌≡◌, ℕ, Bool, true, false, IsTrue, List, [], ◌∷◌, ◌++◌, refl, sym, ap, subst, ◌∙◌, ◌⊎◌, inl, inr, append_assoc}
-use Rattle.hwdb_pattern.specs.Patterns.{Token, star, one, bracket, literal, admits_byte, Admits, Matches}
+use Rattle.hwdb_spec.specs.Patterns.{Token, star, one, bracket, literal, admits_byte, Admits, Matches}
 
 abbrev pub is_star : Token → Bool
 is_star star = true

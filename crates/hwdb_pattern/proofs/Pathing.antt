@@ -6,9 +6,10 @@ use Rattle.std.proofs.lemmas.Bool.{cases_eq, cases_lt}
 use Rattle.std.proofs.lemmas.List.{append-nil, take_more, take-take, take_at, get_or-take, get_or_at, length-take-le, length-append, length-map, drop_more, set_at, map-append, take_all, drop-drop, length-drop, take-append-drop}
 use Rattle.std.proofs.lemmas.List.Elements.{Contains-get_or, Contains-push_cases, Contains-push, Contains-append_left, All-contains}
 use Rattle.std.proofs.Math.Seq.{take-add}
-use Rattle.hwdb_pattern.specs.Patterns.{Token, star, one, bracket, literal, token_at, token_size, tokens_from, tokens, admits_byte, Admits, Matches}
-use Rattle.hwdb_pattern.specs.Prefixes.{Lengths, takes, stepped, NoneTakes, Spread, Between, Follows}
-use Rattle.hwdb_pattern.specs.Paths.{closed_from, closed_part, open_part, Reached, StandsFor, IsLive, IsLost}
+use Rattle.hwdb_spec.specs.Patterns.{Token, star, one, bracket, literal, token_at, token_size, tokens_from, tokens, admits_byte, Admits, Matches}
+use Rattle.hwdb_pattern.specs.Views.{Lengths, takes, NoneTakes, open_part, Reached, StandsFor, IsLost}
+use Rattle.hwdb_pattern.specs.Internal.Prefixes.{stepped, Spread, Between, Follows}
+use Rattle.hwdb_spec.specs.Tree.{closed_from, closed_part, IsLive}
 use Rattle.hwdb_pattern.proofs.Matching.{is_star, one_byte}
 use Rattle.hwdb_pattern.proofs.Cutting.{first_token, no_tokens, no_tokens_at, star_at}
 use Rattle.hwdb_pattern.proofs.Closing.{closed_tokens, closed_cut, closed_whole, closed_append, open_append}

@@ -2,11 +2,10 @@
 use Rattle.std.proofs.Common.{◌≡◌, nat_eq, nat_lt, eq-eqb, lt-ltb, None, ℕ, ◌+◌, ◌<◌, ◌≤◌, Bool, not, IsTrue, true, false, List, [], ◌∷◌, drop, length, get_or, refl, sym, ap, subst, ◌∙◌, inl, inr, arith}
 use Rattle.std.proofs.lemmas.Bool.{cases_eq, cases_lt}
 use Rattle.std.proofs.lemmas.List.{drop-drop, drop_more, length-drop, drop_all, get_or-drop}
-use Rattle.hwdb_pattern.specs.Brackets.{bracket_at}
+use Rattle.hwdb_spec.specs.Patterns.{bracket_at, Token, star, token_at, token_size, tokens, admits_byte, Matches}
 use Rattle.hwdb_pattern.proofs.Longer.{none_closes}
-use Rattle.hwdb_pattern.specs.Patterns.{Token, star, token_at, token_size, tokens, admits_byte, Matches}
-use Rattle.hwdb_pattern.specs.Search.{Reaches, Remains}
-use Rattle.hwdb_pattern.specs.Parts.{token_part}
+use Rattle.hwdb_pattern.specs.Internal.Search.{Reaches, Remains}
+use Rattle.hwdb_pattern.specs.Internal.Parts.{token_part}
 use Rattle.hwdb_pattern.specs.declared.brackets.Part.{Part}
 use Rattle.hwdb_pattern.proofs.Matching.{is_star, single, single_admits, single_rest, single_empty, star_nothing, star_more, star_step, star_star, star_absorbs, star_empty}
 use Rattle.hwdb_pattern.proofs.Cutting.{first_token, not_star, star_at, no_tokens_at}

@@ -1,7 +1,4 @@
-pub mod Brackets
-pub mod Patterns
-pub mod Prefixes
-pub mod Paths
-pub mod Parts
-pub mod Search
+pub mod Views
+pub mod Laws
 pub mod Rows
+pub mod Internal

@@ -1,9 +1,9 @@
 -- Worked rows of hwdb(7) and POSIX fnmatch (XCU 2.13): what the definitions give when they are computed.
-use Rattle.std.specs.Prelude.{◌≡◌, ℕ, Bool, true, false, List, [], ◌∷◌, map, codes, Some, None}
+use Rattle.std.specs.Prelude.{List, false, ℕ, true, [], codes, map, ◌∷◌, ◌≡◌, None, Some, Bool}
 use Rattle.std.specs.Option.{option_map}
-use Rattle.hwdb_pattern.specs.Brackets.{Span, span, bracket_at, bracket_size}
-use Rattle.hwdb_pattern.specs.Patterns.{Token, star, one, bracket, literal, tokens, matches}
-use Rattle.hwdb_pattern.specs.Paths.{closed_part, is_live}
+use Rattle.hwdb_spec.specs.Patterns.{Span, Token, bracket, literal, one, span, star, tokens, bracket_at, matches}
+use Rattle.hwdb_pattern.specs.Internal.Parts.{bracket_size}
+use Rattle.hwdb_spec.specs.Tree.{closed_part, is_live}
 
 -- a bracket of this size and these bytes, not inverted
 abbrev pub upright : ℕ → List Span → Token

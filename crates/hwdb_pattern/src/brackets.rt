@@ -1,11 +1,11 @@
 //! Brackets, and the items in them: named classes, ranges and single bytes.
 ghost use Rattle.std.specs.Prelude.{◌≡◌, ◌<◌, ◌≤◌, length, true, IfSome};
 ghost use Rattle.std.specs.Option.{option_map};
-ghost use Rattle.hwdb_pattern.specs.Brackets;
-ghost use Rattle.hwdb_pattern.specs.Brackets.{item_at, items_from, bracket_at, bracket_size};
-ghost use Rattle.hwdb_pattern.specs.Parts.{items_part, bracket_part};
+ghost use Rattle.hwdb_spec.specs.Patterns;
+ghost use Rattle.hwdb_spec.specs.Patterns.{item_at, items_from, bracket_at};
+ghost use Rattle.hwdb_pattern.specs.Internal.Parts.{bracket_size, items_part, bracket_part};
 
-use crate::classes::named_class;
+use crate::classes::{holds, named_class, text_of};
 
 /// A part of a pattern, weighed against one byte of a device.
 #[derive(Clone, Copy)]
@@ -19,7 +19,7 @@ pub(crate) struct Part {
 /// A range where one stands, else one byte.
 fn plain_item(text: &[u8], byte: u8) -> Part
     requires { 0 < length text.now }
-    ensures part { result ≡ items_part byte (Brackets.plain_item text.now) }
+    ensures part { result ≡ items_part byte (Patterns.plain_item text.now) }
     ensures moves { 0 < result.size }
     ensures within { result.size ≤ length text.now }
 {
@@ -46,8 +46,8 @@ fn item(text: &[u8], byte: u8) -> Part
 {
     if let Some(class) = named_class(text) {
         return Part {
-            size: class.text().len(),
-            admits: class.holds(byte),
+            size: text_of(class).len(),
+            admits: holds(class, byte),
         };
     }
     plain_item(text, byte)
@@ -76,7 +76,7 @@ fn items(text: &[u8], byte: u8) -> Option<Part>
 
 /// Whether the byte, behind the `[`, inverts the bracket.
 fn is_inversion(byte: u8) -> bool
-    ensures { result ≡ Brackets.is_inversion byte }
+    ensures { result ≡ Patterns.is_inversion byte }
 {
     byte == b'!' || byte == b'^'
 }

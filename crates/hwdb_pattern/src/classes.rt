@@ -1,23 +1,8 @@
 //! The named classes of bytes, which may stand in a bracket.
 ghost use Rattle.std.specs.Prelude.{◌≡◌, ◌≤◌, length, IfSome};
-ghost use Rattle.hwdb_pattern.specs.Brackets.{class_text, class_spans, class_at, in_spans};
+ghost use Rattle.hwdb_spec.specs.Patterns.{class_text, class_spans, class_at, in_spans};
 
-/// A named class of bytes, as POSIX has it in the C locale.
-#[derive(Clone, Copy)]
-pub(crate) enum Class {
-    Alnum,
-    Alpha,
-    Blank,
-    Cntrl,
-    Digit,
-    Graph,
-    Lower,
-    Print,
-    Punct,
-    Space,
-    Upper,
-    Xdigit,
-}
+use hwdb_spec::Class;
 
 const ALL: [Class; 12] = [
     Class::Alnum,
@@ -34,45 +19,43 @@ const ALL: [Class; 12] = [
     Class::Xdigit,
 ];
 
-impl Class {
-    /// Whether the class holds the byte.
-    pub(crate) fn holds(self, byte: u8) -> bool
-        ensures { result ≡ in_spans (class_spans self) byte }
-    {
-        match self {
-            Class::Alnum => matches!(byte, b'0'..=b'9' | b'A'..=b'Z' | b'a'..=b'z'),
-            Class::Alpha => matches!(byte, b'A'..=b'Z' | b'a'..=b'z'),
-            Class::Blank => matches!(byte, 9 | 32),
-            Class::Cntrl => matches!(byte, 0..=31 | 127),
-            Class::Digit => matches!(byte, b'0'..=b'9'),
-            Class::Graph => matches!(byte, 33..=126),
-            Class::Lower => matches!(byte, b'a'..=b'z'),
-            Class::Print => matches!(byte, 32..=126),
-            Class::Punct => matches!(byte, 33..=47 | 58..=64 | 91..=96 | 123..=126),
-            Class::Space => matches!(byte, 9..=13 | 32),
-            Class::Upper => matches!(byte, b'A'..=b'Z'),
-            Class::Xdigit => matches!(byte, b'0'..=b'9' | b'A'..=b'F' | b'a'..=b'f'),
-        }
+/// Whether the class holds the byte.
+pub(crate) fn holds(class: Class, byte: u8) -> bool
+    ensures { result ≡ in_spans (class_spans class) byte }
+{
+    match class {
+        Class::Alnum => matches!(byte, b'0'..=b'9' | b'A'..=b'Z' | b'a'..=b'z'),
+        Class::Alpha => matches!(byte, b'A'..=b'Z' | b'a'..=b'z'),
+        Class::Blank => matches!(byte, 9 | 32),
+        Class::Cntrl => matches!(byte, 0..=31 | 127),
+        Class::Digit => matches!(byte, b'0'..=b'9'),
+        Class::Graph => matches!(byte, 33..=126),
+        Class::Lower => matches!(byte, b'a'..=b'z'),
+        Class::Print => matches!(byte, 32..=126),
+        Class::Punct => matches!(byte, 33..=47 | 58..=64 | 91..=96 | 123..=126),
+        Class::Space => matches!(byte, 9..=13 | 32),
+        Class::Upper => matches!(byte, b'A'..=b'Z'),
+        Class::Xdigit => matches!(byte, b'0'..=b'9' | b'A'..=b'F' | b'a'..=b'f'),
     }
+}
 
-    /// How the class is written in a bracket.
-    pub(crate) fn text(self) -> &'static [u8]
-        ensures { result.now ≡ class_text self }
-    {
-        match self {
-            Class::Alnum => b"[:alnum:]",
-            Class::Alpha => b"[:alpha:]",
-            Class::Blank => b"[:blank:]",
-            Class::Cntrl => b"[:cntrl:]",
-            Class::Digit => b"[:digit:]",
-            Class::Graph => b"[:graph:]",
-            Class::Lower => b"[:lower:]",
-            Class::Print => b"[:print:]",
-            Class::Punct => b"[:punct:]",
-            Class::Space => b"[:space:]",
-            Class::Upper => b"[:upper:]",
-            Class::Xdigit => b"[:xdigit:]",
-        }
+/// How the class is written in a bracket.
+pub(crate) fn text_of(class: Class) -> &'static [u8]
+    ensures { result.now ≡ class_text class }
+{
+    match class {
+        Class::Alnum => b"[:alnum:]",
+        Class::Alpha => b"[:alpha:]",
+        Class::Blank => b"[:blank:]",
+        Class::Cntrl => b"[:cntrl:]",
+        Class::Digit => b"[:digit:]",
+        Class::Graph => b"[:graph:]",
+        Class::Lower => b"[:lower:]",
+        Class::Print => b"[:print:]",
+        Class::Punct => b"[:punct:]",
+        Class::Space => b"[:space:]",
+        Class::Upper => b"[:upper:]",
+        Class::Xdigit => b"[:xdigit:]",
     }
 }
 
@@ -88,7 +71,7 @@ pub(crate) fn named_class(text: &[u8]) -> Option<Class>
         return None;
     }
     for class in ALL {
-        if text.starts_with(class.text()) {
+        if text.starts_with(text_of(class)) {
             return Some(class);
         }
     }

@@ -1,8 +1,6 @@
 //! Laws over the definitions alone. Each function does nothing: its contract is the law, for callers
 //! whose proofs need it.
-ghost use Rattle.hwdb_pattern.specs.Brackets.{StaysClosed};
-ghost use Rattle.hwdb_pattern.specs.Paths.{ClosedPartAndRest, ClosedPartIsCutAlike, DeadMatchesNothing, DeadStaysDead, LiveIsTested};
-ghost use Rattle.hwdb_pattern.specs.Patterns.{MatchesIsTested, TokensAreThePattern};
+ghost use Rattle.hwdb_pattern.specs.Laws.{StaysClosed, ClosedPartAndRest, ClosedPartIsCutAlike, DeadMatchesNothing, DeadStaysDead, LiveIsTested, MatchesIsTested, TokensAreThePattern};
 ghost use Rattle.hwdb_pattern.specs.Rows.{BracketRows, ClosedRows, LiveRows, MatchRows, StarRows, TokenRows};
 
 /// A bracket that is closed in a text is the same bracket in every longer text that begins with it.

@@ -1,7 +1,8 @@
 //! Which of a device's prefixes some tokens match, as the prefixes' lengths.
 ghost use Rattle.std.specs.Prelude.{◌≡◌, ◌≢◌, ◌<◌, ◌≤◌, ◌+◌, ◌^◌, [], ◌∷◌, ◌++◌, length, slice_index, map, filter, All, Contains, IsTrue, OnOk, IfOk, IsOk, IsOkAnd};
-ghost use Rattle.hwdb_pattern.specs.Patterns.{tokens, token_at};
-ghost use Rattle.hwdb_pattern.specs.Prefixes.{takes, stepped, NoneTakes, Spread, Between, Follows, Within};
+ghost use Rattle.hwdb_spec.specs.Patterns.{tokens, token_at};
+ghost use Rattle.hwdb_pattern.specs.Views.{takes, NoneTakes};
+ghost use Rattle.hwdb_pattern.specs.Internal.Prefixes.{stepped, Spread, Between, Follows, Within};
 
 use crate::tokens::{single_token, token_size};
 use std::alloc::{AllocError, Global};

@@ -1,8 +1,9 @@
 //! A device on the way along a path that is fed piece by piece, as a tree of patterns is walked.
 ghost use Rattle.std.specs.Prelude.{◌≡◌, ◌↔◌, List, [], ℕ, ◌++◌, IsTrue, IfOk, IsOk};
-ghost use Rattle.hwdb_pattern.specs.Patterns.{Matches, tokens};
-ghost use Rattle.hwdb_pattern.specs.Prefixes.{Within};
-ghost use Rattle.hwdb_pattern.specs.Paths.{Reached, StandsFor, IsLive, IsLost};
+ghost use Rattle.hwdb_spec.specs.Patterns.{Matches, tokens};
+ghost use Rattle.hwdb_pattern.specs.Internal.Prefixes.{Within};
+ghost use Rattle.hwdb_pattern.specs.Views.{Reached, StandsFor, IsLost};
+ghost use Rattle.hwdb_spec.specs.Tree.{IsLive};
 
 use crate::lengths::along;
 use crate::search::glob;
@@ -24,7 +25,8 @@ pub struct Reach<'d> {
 impl<'d> Model for Reach<'d> {
     ghost Value = { Reached };
 
-    ghost view = { λ r. record { device = r.device.now; lengths = r.lengths.items; kept = r.kept.items } };
+    ghost view = { λ r. record
+        { device = r.device.now; lengths = r.lengths.items; kept = r.kept.items } };
 
     ghost invariant = { λ r. Within r.device.now r.lengths.items };
 }

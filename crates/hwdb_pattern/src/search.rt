@@ -1,7 +1,7 @@
 //! Whether a pattern matches a device: a greedy search from star to star.
 ghost use Rattle.std.specs.Prelude.{◌≡◌, ◌<◌, ◌≤◌, ◌↔◌, length, slice_index, IsTrue, IfSome, IfNone};
-ghost use Rattle.hwdb_pattern.specs.Patterns.{Matches, tokens};
-ghost use Rattle.hwdb_pattern.specs.Search.{NoneCloses, Reaches};
+ghost use Rattle.hwdb_spec.specs.Patterns.{Matches, tokens};
+ghost use Rattle.hwdb_pattern.specs.Internal.Search.{NoneCloses, Reaches};
 
 use crate::tokens::single_token;
 

@@ -1,10 +1,10 @@
 //! The tokens of a pattern: stars, question marks, closed brackets and bytes.
 ghost use Rattle.std.specs.Prelude.{◌≡◌, ◌≢◌, ◌<◌, ◌≤◌, length, slice_index, false, None, take, drop};
-ghost use Rattle.hwdb_pattern.specs.Brackets.{bracket_at};
-ghost use Rattle.hwdb_pattern.specs.Parts.{token_part};
-ghost use Rattle.hwdb_pattern.specs.Patterns;
-ghost use Rattle.hwdb_pattern.specs.Patterns.{token_at};
-ghost use Rattle.hwdb_pattern.specs.Paths.{closed_part, open_part};
+ghost use Rattle.hwdb_spec.specs.Patterns.{bracket_at, token_at};
+ghost use Rattle.hwdb_pattern.specs.Internal.Parts.{token_part};
+ghost use Rattle.hwdb_spec.specs.Patterns;
+ghost use Rattle.hwdb_spec.specs.Tree.{closed_part};
+ghost use Rattle.hwdb_pattern.specs.Views.{open_part};
 
 use crate::brackets::{Part, bracket};
 

@@ -6,37 +6,38 @@ use Rattle.std.specs.Ordering.{nat_cmp}
 use Rattle.std.specs.declared.cmp.Ordering.TheVariants.{Less, Equal}
 use Rattle.std.proofs.lemmas.Cmp.{nat_list_cmp_total, tied_itself}
 use Rattle.std.proofs.lemmas.List.Elements.{filter-append}
-use Rattle.hwdb_layout.specs.Tree.{Tree, Value, values_of}
-use Rattle.hwdb_layout.specs.Tree.Tree.{Node}
-use Rattle.hwdb_layout.specs.Map.{IsTree, KeysAscend, shown, key_of}
-use Rattle.hwdb_query.specs.Answers.{Found, spot_cmp, found_cmp, one_found, found_shown, is_behind, own_members}
-use Rattle.hwdb_query.specs.Lists.{keep_all}
-use Rattle.hwdb_query.specs.Hits.{after_spot}
-use Rattle.hwdb_query.specs.Collected.{PageCollects}
+use Rattle.hwdb_spec.specs.Tree.{Tree, Value, values_of, IsTree, KeysAscend, shown, key_of, one_assignment, assignment_shown}
+use Rattle.hwdb_spec.specs.Tree.Tree.{Node}
+use Rattle.hwdb_spec.specs.Assignment.{Assignment, position_cmp, assignment_cmp}
+use Rattle.hwdb_spec.specs.Answers.{is_behind}
+use Rattle.hwdb_query.specs.Internal.Members.{own_members}
+use Rattle.hwdb_query.specs.Internal.Lists.{keep_all}
+use Rattle.hwdb_query.specs.Internal.Hits.{after_position}
+use Rattle.hwdb_query.specs.Internal.Collected.{PageCollects}
 use Rattle.hwdb_query.specs.declared.next_page.NextPage.{NextPage}
 use Rattle.hwdb_query.proofs.Putting.{PlacesApart, keep_all_append, keep_both_ways, apart_filter}
-use Rattle.hwdb_query.proofs.Orders.{found_total}
+use Rattle.hwdb_query.proofs.Orders.{assignment_total}
 use Rattle.hwdb_query.proofs.Parting.{own_split, own_taken}
 use Rattle.hwdb_query.proofs.Collecting.{page_more, page_none, page_values_over}
 use Rattle.hwdb_query.proofs.Distinct.{keys_above}
 use Rattle.hwdb_query.proofs.Members.{key_is, then_equal, same_text}
 
-same_key : (x y : Found) → found_cmp x y ≡ Equal → x.spot.key ≡ y.spot.key
-unfolding found_cmp spot_cmp
+same_key : (x y : Assignment) → assignment_cmp x y ≡ Equal → x.position.key ≡ y.position.key
+unfolding assignment_cmp position_cmp
 same_key x y h =
-    let a = then_equal (nat_cmp x.spot.priority y.spot.priority) _ h in
-    let b = then_equal (nat_cmp x.spot.line y.spot.line) _ a.1 in
-    let c = then_equal (slice_cmp nat_cmp x.spot.pattern y.spot.pattern) (slice_cmp nat_cmp x.spot.key y.spot.key) b.1 in
-    same_text x.spot.key y.spot.key c.1
+    let a = then_equal (nat_cmp x.position.priority y.position.priority) _ h in
+    let b = then_equal (nat_cmp x.position.line y.position.line) _ a.1 in
+    let c = then_equal (slice_cmp nat_cmp x.position.pattern y.position.pattern) (slice_cmp nat_cmp x.position.key y.position.key) b.1 in
+    same_text x.position.key y.position.key c.1
 
 -- what a value assigns stands elsewhere than what values of greater keys assign
 value_apart : (pattern key : List ℕ) (v : Value) (values : List Value) → key_of v.key ≡ Some key → AllByRecursion (λ w. slice_cmp nat_cmp v.key w.key ≡ Less) values
-    → (x : Found) → x.spot.key ≡ key → AllByRecursion (λ y. found_cmp x y ≡ Equal → ⊥) (own_members pattern values)
-unfolding found_shown
+    → (x : Assignment) → x.position.key ≡ key → AllByRecursion (λ y. assignment_cmp x y ≡ Equal → ⊥) (own_members pattern values)
+unfolding assignment_shown
 value_apart pattern key v [] at above x is = tt
 value_apart pattern key v (w ∷ values) at above x is =
     let rest = value_apart pattern key v values at above.1 x is in
-    elim (key_of w.key) as (λ o. key_of w.key ≡ o → AllByRecursion (λ y. found_cmp x y ≡ Equal → ⊥) (one_found pattern (shown w) o ++ own_members pattern values)) [
+    elim (key_of w.key) as (λ o. key_of w.key ≡ o → AllByRecursion (λ y. assignment_cmp x y ≡ Equal → ⊥) (one_assignment pattern (shown w) o ++ own_members pattern values)) [
       | None ↦ λ e. rest
       | Some other ↦ λ e. (
         λ h.
@@ -49,12 +50,12 @@ value_apart pattern key v (w ∷ values) at above x is =
 
 -- one value and those behind it
 one_apart : (pattern : List ℕ) (before : Option (List ℕ)) (values : List Value) (i : ℕ) → KeysAscend before values
-    → PlacesApart found_cmp (own_members pattern (take 1 (drop i values))) (own_members pattern (drop (suc i) values))
-unfolding found_shown
+    → PlacesApart assignment_cmp (own_members pattern (take 1 (drop i values))) (own_members pattern (drop (suc i) values))
+unfolding assignment_shown
 one_apart pattern before [] zero up = tt
 one_apart pattern before [] (suc i) up = tt
 one_apart pattern before (v ∷ values) zero up =
-    elim (key_of v.key) as (λ o. key_of v.key ≡ o → PlacesApart found_cmp (one_found pattern (shown v) o ++ []) (own_members pattern values)) [
+    elim (key_of v.key) as (λ o. key_of v.key ≡ o → PlacesApart assignment_cmp (one_assignment pattern (shown v) o ++ []) (own_members pattern values)) [
       | None ↦ λ e. tt
       | Some key ↦ λ e. (value_apart pattern key v values e (keys_above v.key values up.1) _ refl, tt)
     ] refl
@@ -65,19 +66,19 @@ unfolding IsTree values_of
 keys_ascend (Node prefix values children) h = h.0
 
 -- two lists that stand apart are taken in either order
-page_both_ways : (a b : NextPage) (xs ys : List Found) → PlacesApart found_cmp xs ys → PageCollects a (ys ++ xs) b → PageCollects a (xs ++ ys) b
+page_both_ways : (a b : NextPage) (xs ys : List Assignment) → PlacesApart assignment_cmp xs ys → PageCollects a (ys ++ xs) b → PageCollects a (xs ++ ys) b
 page_both_ways a b xs ys apart p =
     let most = a.held.most in
-    let behind = is_behind (after_spot a.after) in
-    let both : (xs ys : List Found) → keep_all found_cmp most (filter behind (xs ++ ys)) a.held.hits ≡ keep_all found_cmp most (filter behind ys) (keep_all found_cmp most (filter behind xs) a.held.hits) =
-    λ xs ys. ap (λ l. keep_all found_cmp most l a.held.hits) (filter-append behind xs ys) ∙ keep_all_append found_cmp most (filter behind xs) (filter behind ys) a.held.hits in
+    let behind = is_behind (after_position a.after) in
+    let both : (xs ys : List Assignment) → keep_all assignment_cmp most (filter behind (xs ++ ys)) a.held.hits ≡ keep_all assignment_cmp most (filter behind ys) (keep_all assignment_cmp most (filter behind xs) a.held.hits) =
+    λ xs ys. ap (λ l. keep_all assignment_cmp most l a.held.hits) (filter-append behind xs ys) ∙ keep_all_append assignment_cmp most (filter behind xs) (filter behind ys) a.held.hits in
     record {
       after = p.after;
       most = p.most;
       ascends = p.ascends;
       kept = λ up.
           p.kept up ∙ both ys xs
-          ∙ keep_both_ways found_cmp found_total most (filter behind xs) (filter behind ys) a.held.hits (apart_filter found_cmp behind xs ys apart)
+          ∙ keep_both_ways assignment_cmp assignment_total most (filter behind xs) (filter behind ys) a.held.hits (apart_filter assignment_cmp behind xs ys apart)
           ∙ sym (both xs ys);
     }
 

@@ -14,14 +14,14 @@ use Rattle.std.proofs.lemmas.List.{reverse-append, append-nil}
 use Rattle.std.proofs.lemmas.Map.{lookup-none}
 use Rattle.std.proofs.lemmas.Map.Keys.{IsDistinct-from_sorted}
 use Rattle.std.proofs.lemmas.Map.Entries.{lookup_head, lookup_tail, none_past_head, none_below_head}
-use Rattle.hwdb_query.specs.Lists.{put, in_order, Ascends}
-use Rattle.hwdb_query.specs.Answers.{Found, spot_cmp, found_cmp, is_after}
-use Rattle.hwdb_query.specs.Effective.{key_cmp, key_of_answer, has_key, last_value, effective_of}
-use Rattle.hwdb_query.specs.Pairs.{pair_bytes, pairs_bytes, put_values}
-use Rattle.hwdb_query.specs.Collected.{Told, told, told_last, told_at, spot_at, last_with, Shows}
+use Rattle.hwdb_spec.specs.Assignment.{put, in_order, Ascends, Assignment, position_cmp, assignment_cmp}
+use Rattle.hwdb_spec.specs.Answers.{is_after, key_cmp, key_of_answer, has_key, last_value, effective_of}
+use Rattle.hwdb_query.specs.Views.{pair_bytes, pairs_bytes}
+use Rattle.hwdb_query.specs.Internal.Pairs.{put_values}
+use Rattle.hwdb_query.specs.Internal.Collected.{Told, told, told_last, told_at, position_at, last_with, Shows}
 use Rattle.hwdb_query.specs.declared.last_hits.Last.{Last}
 use Rattle.hwdb_query.proofs.Putting.{ascends_all, all_above, above_of}
-use Rattle.hwdb_query.proofs.Orders.{found_total}
+use Rattle.hwdb_query.proofs.Orders.{assignment_total}
 use Rattle.hwdb_query.proofs.Members.{then_equal, equal_of, same_text}
 use Rattle.hwdb_query.proofs.Keyed.{all_put, flipped}
 
@@ -31,15 +31,15 @@ first_some None other = other
 first_some (Some s) other = Some s
 
 -- a hit, if it has the key
-abbrev one : List ℕ → Found → Option Found
+abbrev one : List ℕ → Assignment → Option Assignment
 one key f = cond (has_key key f) (Some f) None
 
 -- the last of some hits with a key, from the first on
-last_at : List ℕ → List Found → Option Found
+last_at : List ℕ → List Assignment → Option Assignment
 last_at key [] = None
 last_at key (f ∷ more) = first_some (last_at key more) (one key f)
 
-find_push : (key : List ℕ) (fs : List Found) (f : Found) → find (has_key key) (fs ++ f ∷ []) ≡ first_some (find (has_key key) fs) (one key f)
+find_push : (key : List ℕ) (fs : List Assignment) (f : Assignment) → find (has_key key) (fs ++ f ∷ []) ≡ first_some (find (has_key key) fs) (one key f)
 find_push key [] f = refl
 find_push key (g ∷ fs) f =
     let again = find_push key fs f in
@@ -48,14 +48,14 @@ find_push key (g ∷ fs) f =
       | false ↦ again
     ]
 
-with_is_at : (key : List ℕ) (l : List Found) → last_with key l ≡ last_at key l
+with_is_at : (key : List ℕ) (l : List Assignment) → last_with key l ≡ last_at key l
 unfolding last_at
 with_is_at key [] = refl
 with_is_at key (f ∷ more) =
     ap (find (has_key key)) (reverse-append (f ∷ []) more) ∙ find_push key (reverse more) f ∙ ap (λ o. first_some o (one key f)) (with_is_at key more)
 
 -- what holds of all holds of the last with a key
-of_last : (P : Found → Type 0) (key : List ℕ) (l : List Found) (z : Found) → AllByRecursion P l → last_at key l ≡ Some z → P z
+of_last : (P : Assignment → Type 0) (key : List ℕ) (l : List Assignment) (z : Assignment) → AllByRecursion P l → last_at key l ≡ Some z → P z
 unfolding last_at
 of_last P key [] z all e = cc
 of_last P key (f ∷ more) z all e =
@@ -70,65 +70,65 @@ of_last P key (f ∷ more) z all e =
     ] refl e
 
 -- the last of a key when one more hit has come
-abbrev newer : List ℕ → Found → Option Found → Option Found
-newer key x o = cond (has_key key x) (cond (is_after (option_map (λ (t : Told). t.0) (option_map told o)) x.spot) (Some x) o) o
+abbrev newer : List ℕ → Assignment → Option Assignment → Option Assignment
+newer key x o = cond (has_key key x) (cond (is_after (option_map (λ (t : Told). t.0) (option_map told o)) x.position) (Some x) o) o
 
-is_newer : (key : List ℕ) (x : Found) → newer key x None ≡ one key x
+is_newer : (key : List ℕ) (x : Assignment) → newer key x None ≡ one key x
 unfolding is_after
 is_newer key x = refl
 
 -- a hit that isn't below another replaces nothing
-stays : (key : List ℕ) (x z : Found) → is_lt (found_cmp z x) ≡ false → newer key x (Some z) ≡ Some z
-unfolding is_after found_cmp
+stays : (key : List ℕ) (x z : Assignment) → is_lt (assignment_cmp z x) ≡ false → newer key x (Some z) ≡ Some z
+unfolding is_after assignment_cmp
 stays key x z h =
-    elim (has_key key x) as (λ b. cond b (cond (is_lt (spot_cmp z.spot x.spot)) (Some x) (Some z)) (Some z) ≡ Some z) [
+    elim (has_key key x) as (λ b. cond b (cond (is_lt (position_cmp z.position x.position)) (Some x) (Some z)) (Some z) ≡ Some z) [
       | true ↦ ap (λ b. cond b (Some x) (Some z)) h
       | false ↦ refl
     ]
 
-replaces : (key : List ℕ) (x y : Found) → found_cmp y x ≡ Less → first_some (one key x) (one key y) ≡ newer key x (one key y)
-unfolding is_after found_cmp
+replaces : (key : List ℕ) (x y : Assignment) → assignment_cmp y x ≡ Less → first_some (one key x) (one key y) ≡ newer key x (one key y)
+unfolding is_after assignment_cmp
 replaces key x y h =
     elim (has_key key x) as (λ b. first_some (cond b (Some x) None) (one key y)
-    ≡ cond b (cond (is_after (option_map (λ (t : Told). t.0) (option_map told (one key y))) x.spot) (Some x) (one key y)) (one key y)) [
-      | true ↦ elim (has_key key y) as (λ c. Some x ≡ cond (is_after (option_map (λ (t : Told). t.0) (option_map told (cond c (Some y) None))) x.spot) (Some x) (cond c (Some y) None)) [
+    ≡ cond b (cond (is_after (option_map (λ (t : Told). t.0) (option_map told (one key y))) x.position) (Some x) (one key y)) (one key y)) [
+      | true ↦ elim (has_key key y) as (λ c. Some x ≡ cond (is_after (option_map (λ (t : Told). t.0) (option_map told (cond c (Some y) None))) x.position) (Some x) (cond c (Some y) None)) [
         | true ↦ sym (ap (λ o. cond (is_lt o) (Some x) (Some y)) h)
         | false ↦ refl
       ]
       | false ↦ refl
     ]
 
-some_newer : (key : List ℕ) (x z : Found) (o : Option Found) → first_some (newer key x (Some z)) o ≡ newer key x (Some z)
+some_newer : (key : List ℕ) (x z : Assignment) (o : Option Assignment) → first_some (newer key x (Some z)) o ≡ newer key x (Some z)
 unfolding is_after
 some_newer key x z o =
-    elim (has_key key x) as (λ b. first_some (cond b (cond (is_lt (spot_cmp z.spot x.spot)) (Some x) (Some z)) (Some z)) o ≡ cond b (cond (is_lt (spot_cmp z.spot x.spot)) (Some x) (Some z)) (Some z)) [
-      | true ↦ elim (is_lt (spot_cmp z.spot x.spot)) as (λ b. first_some (cond b (Some x) (Some z)) o ≡ cond b (Some x) (Some z)) [ true ↦ refl | false ↦ refl ]
+    elim (has_key key x) as (λ b. first_some (cond b (cond (is_lt (position_cmp z.position x.position)) (Some x) (Some z)) (Some z)) o ≡ cond b (cond (is_lt (position_cmp z.position x.position)) (Some x) (Some z)) (Some z)) [
+      | true ↦ elim (is_lt (position_cmp z.position x.position)) as (λ b. first_some (cond b (Some x) (Some z)) o ≡ cond b (Some x) (Some z)) [ true ↦ refl | false ↦ refl ]
       | false ↦ refl
     ]
 
-greater_not : (x z : Found) → found_cmp x z ≡ Less → is_lt (found_cmp z x) ≡ false
-greater_not x z h = ap is_lt (found_total.antisymm z x ∙ ap ordering_reverse h)
+greater_not : (x z : Assignment) → assignment_cmp x z ≡ Less → is_lt (assignment_cmp z x) ≡ false
+greater_not x z h = ap is_lt (assignment_total.antisymm z x ∙ ap ordering_reverse h)
 
-none_below : (x : Found) (l : List Found) → AllByRecursion (λ z. found_cmp x z ≡ Less) l → AllByRecursion (λ z. is_lt (found_cmp z x) ≡ false) l
+none_below : (x : Assignment) (l : List Assignment) → AllByRecursion (λ z. assignment_cmp x z ≡ Less) l → AllByRecursion (λ z. is_lt (assignment_cmp z x) ≡ false) l
 none_below x [] all = tt
 none_below x (z ∷ l) all = (greater_not x z all.0, none_below x l all.1)
 
 -- hits of which none is below: the last of them with a key stays
-all_stay : (key : List ℕ) (x : Found) (l : List Found) (o : Option Found) → AllByRecursion (λ z. is_lt (found_cmp z x) ≡ false) l → last_at key l ≡ o
+all_stay : (key : List ℕ) (x : Assignment) (l : List Assignment) (o : Option Assignment) → AllByRecursion (λ z. is_lt (assignment_cmp z x) ≡ false) l → last_at key l ≡ o
     → (o ≡ None → one key x ≡ None) → o ≡ newer key x o
 all_stay key x l None all e none = sym (is_newer key x ∙ none refl)
-all_stay key x l (Some z) all e none = sym (stays key x z (of_last (λ z. is_lt (found_cmp z x) ≡ false) key l z all e))
+all_stay key x l (Some z) all e none = sym (stays key x z (of_last (λ z. is_lt (assignment_cmp z x) ≡ false) key l z all e))
 
-same_key_of : (x y : Found) → found_cmp x y ≡ Equal → x.spot.key ≡ y.spot.key
-unfolding found_cmp spot_cmp
+same_key_of : (x y : Assignment) → assignment_cmp x y ≡ Equal → x.position.key ≡ y.position.key
+unfolding assignment_cmp position_cmp
 same_key_of x y h =
-    let a = then_equal (nat_cmp x.spot.priority y.spot.priority) _ h in
-    let b = then_equal (nat_cmp x.spot.line y.spot.line) _ a.1 in
-    let c = then_equal (slice_cmp nat_cmp x.spot.pattern y.spot.pattern) (slice_cmp nat_cmp x.spot.key y.spot.key) b.1 in
-    same_text x.spot.key y.spot.key c.1
+    let a = then_equal (nat_cmp x.position.priority y.position.priority) _ h in
+    let b = then_equal (nat_cmp x.position.line y.position.line) _ a.1 in
+    let c = then_equal (slice_cmp nat_cmp x.position.pattern y.position.pattern) (slice_cmp nat_cmp x.position.key y.position.key) b.1 in
+    same_text x.position.key y.position.key c.1
 
 -- where the first has the key, there is a last one
-some_there : (key : List ℕ) (x y : Found) (ys : List Found) → found_cmp x y ≡ Equal → last_at key (y ∷ ys) ≡ None → one key x ≡ None
+some_there : (key : List ℕ) (x y : Assignment) (ys : List Assignment) → assignment_cmp x y ≡ Equal → last_at key (y ∷ ys) ≡ None → one key x ≡ None
 unfolding last_at
 some_there key x y ys h none =
     elim (last_at key ys) as (λ o. first_some o (one key y) ≡ None → one key x ≡ None) [
@@ -140,33 +140,33 @@ some_there key x y ys h none =
     ] none
 
 -- what is above a hit is above those that tie with it
-alike : (x y : Found) (ys : List Found) → found_cmp x y ≡ Equal → AllByRecursion (λ z. found_cmp y z ≡ Less) ys → AllByRecursion (λ z. found_cmp x z ≡ Less) ys
+alike : (x y : Assignment) (ys : List Assignment) → assignment_cmp x y ≡ Equal → AllByRecursion (λ z. assignment_cmp y z ≡ Less) ys → AllByRecursion (λ z. assignment_cmp x z ≡ Less) ys
 alike x y [] e all = tt
 alike x y (z ∷ zs) e all = (same z ∙ all.0, alike x y zs e all.1)
   where
-    same : (z : Found) → found_cmp x z ≡ found_cmp y z
-    same z = found_total.antisymm x z ∙ ap ordering_reverse (alike_right found_total x y z e) ∙ sym (found_total.antisymm y z)
+    same : (z : Assignment) → assignment_cmp x z ≡ assignment_cmp y z
+    same z = assignment_total.antisymm x z ∙ ap ordering_reverse (alike_right assignment_total x y z e) ∙ sym (assignment_total.antisymm y z)
 
 -- one more hit in its place
-last_put : (key : List ℕ) (x : Found) (l : List Found) → Ascends found_cmp l → last_at key (put found_cmp x l) ≡ newer key x (last_at key l)
+last_put : (key : List ℕ) (x : Assignment) (l : List Assignment) → Ascends assignment_cmp l → last_at key (put assignment_cmp x l) ≡ newer key x (last_at key l)
 unfolding put Ascends last_at
 last_put key x [] up = sym (is_newer key x)
 last_put key x (y ∷ ys) up =
-    let again : last_at key (put found_cmp x ys) ≡ newer key x (last_at key ys) = last_put key x ys up.1 in
+    let again : last_at key (put assignment_cmp x ys) ≡ newer key x (last_at key ys) = last_put key x ys up.1 in
     let least = up.0 in
-    elim (found_cmp x y) as (λ o. found_cmp x y ≡ o → last_at key (match_ordering o (x ∷ y ∷ ys) (y ∷ ys) (y ∷ put found_cmp x ys)) ≡ newer key x (last_at key (y ∷ ys))) [
+    elim (assignment_cmp x y) as (λ o. assignment_cmp x y ≡ o → last_at key (match_ordering o (x ∷ y ∷ ys) (y ∷ ys) (y ∷ put assignment_cmp x ys)) ≡ newer key x (last_at key (y ∷ ys))) [
       | Less ↦ λ e.
-          let below : AllByRecursion (λ z. is_lt (found_cmp z x) ≡ false) (y ∷ ys) = none_below x (y ∷ ys) (e, all_above found_cmp found_total x y ys e least) in
+          let below : AllByRecursion (λ z. is_lt (assignment_cmp z x) ≡ false) (y ∷ ys) = none_below x (y ∷ ys) (e, all_above assignment_cmp assignment_total x y ys e least) in
           elim (last_at key (y ∷ ys)) as (λ o. last_at key (y ∷ ys) ≡ o → first_some o (one key x) ≡ newer key x o) [
             | None ↦ λ d. sym (is_newer key x)
-            | Some z ↦ λ d. sym (stays key x z (of_last (λ z. is_lt (found_cmp z x) ≡ false) key (y ∷ ys) z below d))
+            | Some z ↦ λ d. sym (stays key x z (of_last (λ z. is_lt (assignment_cmp z x) ≡ false) key (y ∷ ys) z below d))
           ] refl
       | Equal ↦ λ e.
-          let tied : found_cmp y x ≡ Equal = found_total.antisymm y x ∙ ap ordering_reverse e in
-          let above : AllByRecursion (λ z. found_cmp x z ≡ Less) ys = alike x y ys e least in
+          let tied : assignment_cmp y x ≡ Equal = assignment_total.antisymm y x ∙ ap ordering_reverse e in
+          let above : AllByRecursion (λ z. assignment_cmp x z ≡ Less) ys = alike x y ys e least in
           all_stay key x (y ∷ ys) (last_at key (y ∷ ys)) (ap is_lt tied, none_below x ys above) refl (some_there key x y ys e)
       | Greater ↦ λ e.
-          let less : found_cmp y x ≡ Less = above_of found_cmp found_total x y e in
+          let less : assignment_cmp y x ≡ Less = above_of assignment_cmp assignment_total x y e in
           ap (λ o. first_some o (one key y)) again
           ∙ elim (last_at key ys) as (λ o. first_some (newer key x o) (one key y) ≡ newer key x (first_some o (one key y))) [
             | None ↦ ap (λ o. first_some o (one key y)) (is_newer key x) ∙ replaces key x y less
@@ -177,38 +177,38 @@ last_put key x (y ∷ ys) up =
 abbrev Hits : Type 0
 Hits = BTreeMap (Bor (List ℕ)) Last
 
-with_put : (key : List ℕ) (x : Found) (hits : List Found) → Ascends found_cmp hits → last_with key (put found_cmp x hits) ≡ newer key x (last_with key hits)
-with_put key x hits up = with_is_at key (put found_cmp x hits) ∙ last_put key x hits up ∙ ap (newer key x) (sym (with_is_at key hits))
+with_put : (key : List ℕ) (x : Assignment) (hits : List Assignment) → Ascends assignment_cmp hits → last_with key (put assignment_cmp x hits) ≡ newer key x (last_with key hits)
+with_put key x hits up = with_is_at key (put assignment_cmp x hits) ∙ last_put key x hits up ∙ ap (newer key x) (sym (with_is_at key hits))
 
-key_is : (key : List ℕ) (x : Found) → has_key key x ≡ true → key ≡ x.spot.key
-key_is key x h = same_text key x.spot.key (equal_of _ h)
+key_is : (key : List ℕ) (x : Assignment) → has_key key x ≡ true → key ≡ x.position.key
+key_is key x h = same_text key x.position.key (equal_of _ h)
 
 -- a hit that doesn't come after the one that stands at its key
-pub left_there : (m : Hits) (hits : List Found) (x : Found) → Ascends found_cmp hits → Shows m hits → is_after (spot_at m x.spot.key) x.spot ≡ false → Shows m (put found_cmp x hits)
+pub left_there : (m : Hits) (hits : List Assignment) (x : Assignment) → Ascends assignment_cmp hits → Shows m hits → is_after (position_at m x.position.key) x.position ≡ false → Shows m (put assignment_cmp x hits)
 left_there m hits x up shows early = λ key.
     shows key ∙ ap (option_map told)
     (sym (with_put key x hits up
-    ∙ elim (has_key key x) as (λ b. has_key key x ≡ b → cond b (cond (is_after (option_map (λ (t : Told). t.0) (option_map told (last_with key hits))) x.spot) (Some x) (last_with key hits)) (last_with key hits) ≡ last_with key hits) [
+    ∙ elim (has_key key x) as (λ b. has_key key x ≡ b → cond b (cond (is_after (option_map (λ (t : Told). t.0) (option_map told (last_with key hits))) x.position) (Some x) (last_with key hits)) (last_with key hits) ≡ last_with key hits) [
       | true ↦ λ e. ap (λ b. cond b (Some x) (last_with key hits))
-          (ap (λ (o : Option Told). is_after (option_map (λ (t : Told). t.0) o) x.spot) (sym (shows key)) ∙ ap (λ k. is_after (spot_at m k) x.spot) (key_is key x e) ∙ early)
+          (ap (λ (o : Option Told). is_after (option_map (λ (t : Told). t.0) o) x.position) (sym (shows key)) ∙ ap (λ k. is_after (position_at m k) x.position) (key_is key x e) ∙ early)
       | false ↦ λ e. refl
     ] refl))
 
 -- a hit that stands at its key from now on
-pub put_there : (m n : Hits) (hits : List Found) (x : Found) → Ascends found_cmp hits → Shows m hits → is_after (spot_at m x.spot.key) x.spot ≡ true
-    → ((key : List ℕ) → told_at n key ≡ cond (has_key key x) (Some (told x)) (told_at m key)) → Shows n (put found_cmp x hits)
+pub put_there : (m n : Hits) (hits : List Assignment) (x : Assignment) → Ascends assignment_cmp hits → Shows m hits → is_after (position_at m x.position.key) x.position ≡ true
+    → ((key : List ℕ) → told_at n key ≡ cond (has_key key x) (Some (told x)) (told_at m key)) → Shows n (put assignment_cmp x hits)
 put_there m n hits x up shows late now = λ key.
     now key ∙ ap (cond (has_key key x) (Some (told x))) (shows key)
     ∙ sym (ap (option_map told) (with_put key x hits up)
-    ∙ elim (has_key key x) as (λ b. has_key key x ≡ b → option_map told (cond b (cond (is_after (option_map (λ (t : Told). t.0) (option_map told (last_with key hits))) x.spot) (Some x) (last_with key hits)) (last_with key hits))
+    ∙ elim (has_key key x) as (λ b. has_key key x ≡ b → option_map told (cond b (cond (is_after (option_map (λ (t : Told). t.0) (option_map told (last_with key hits))) x.position) (Some x) (last_with key hits)) (last_with key hits))
     ≡ cond b (Some (told x)) (option_map told (last_with key hits))) [
       | true ↦ λ e. ap (λ b. option_map told (cond b (Some x) (last_with key hits)))
-          (ap (λ (o : Option Told). is_after (option_map (λ (t : Told). t.0) o) x.spot) (sym (shows key)) ∙ ap (λ k. is_after (spot_at m k) x.spot) (key_is key x e) ∙ late)
+          (ap (λ (o : Option Told). is_after (option_map (λ (t : Told). t.0) o) x.position) (sym (shows key)) ∙ ap (λ k. is_after (position_at m k) x.position) (key_is key x e) ∙ late)
       | false ↦ λ e. refl
     ] refl)
 
 -- what an insertion puts at each key
-pub inserted_at : (m n : Hits) (x : Found) (key : Bor (List ℕ)) (last : Last) (q : List ℕ) → key.now ≡ x.spot.key → told_last key.now last ≡ told x
+pub inserted_at : (m n : Hits) (x : Assignment) (key : Bor (List ℕ)) (last : Last) (q : List ℕ) → key.now ≡ x.position.key → told_last key.now last ≡ told x
     → get_by (λ k. key_cmp q k.now) n ≡ cond (is_eq (key_cmp key.now q)) (Some last) (get_by (λ k. key_cmp q k.now) m)
     → told_at n q ≡ cond (has_key q x) (Some (told x)) (told_at m q)
 inserted_at m n x key last q at same is =
@@ -278,7 +278,7 @@ none_ascends : let none : List (List ℕ) = [] in Ascends key_cmp none
 unfolding Ascends
 none_ascends = tt
 
-sorted_effective : (hits : List Found) → IsStrictlySortedBy key_cmp (keys_of (effective_of hits))
+sorted_effective : (hits : List Assignment) → IsStrictlySortedBy key_cmp (keys_of (effective_of hits))
 unfolding effective_of
 sorted_effective hits = sorted_listed (last_value hits) (in_order key_cmp (map key_of_answer hits)) (ascends_all key_cmp nat_list_cmp_total (map key_of_answer hits) [] none_ascends)
 
@@ -308,15 +308,15 @@ lookup_inserted q key value (e ∷ es) =
     apart h d = let same : q ≡ e.0 = same_text q e.0 (equal_of _ h) in
         ap is_eq (ap (λ k. key_cmp k key) same ∙ nat_list_cmp_total.antisymm e.0 key ∙ ap ordering_reverse d)
 
-value_found : Found → List ℕ
+value_found : Assignment → List ℕ
 value_found f = f.value
 
-lookup_put : (q : List ℕ) (l : List Found) (es : List (List ℕ × List ℕ)) → lookup (is_at (key_cmp q)) (put_values es l) ≡ first_some (option_map value_found (last_at q l)) (lookup (is_at (key_cmp q)) es)
+lookup_put : (q : List ℕ) (l : List Assignment) (es : List (List ℕ × List ℕ)) → lookup (is_at (key_cmp q)) (put_values es l) ≡ first_some (option_map value_found (last_at q l)) (lookup (is_at (key_cmp q)) es)
 unfolding put_values last_at value_found
 lookup_put q [] es = refl
 lookup_put q (f ∷ more) es =
-    lookup_put q more (insert_entry key_cmp es f.spot.key f.value)
-    ∙ ap (first_some (option_map value_found (last_at q more))) (lookup_inserted q f.spot.key f.value es)
+    lookup_put q more (insert_entry key_cmp es f.position.key f.value)
+    ∙ ap (first_some (option_map value_found (last_at q more))) (lookup_inserted q f.position.key f.value es)
     ∙ elim (last_at q more) as (λ o. first_some (option_map value_found o) (cond (has_key q f) (Some f.value) (lookup (is_at (key_cmp q)) es))
     ≡ first_some (option_map value_found (first_some o (one q f))) (lookup (is_at (key_cmp q)) es)) [
       | Some z ↦ refl
@@ -327,7 +327,7 @@ first_or_none : {A : Type 0} (o : Option A) → first_some o None ≡ o
 first_or_none None = refl
 first_or_none (Some a) = refl
 
-values_same : (o : Option Found) → option_map value_told (option_map told o) ≡ option_map value_found o
+values_same : (o : Option Assignment) → option_map value_told (option_map told o) ≡ option_map value_found o
 unfolding value_told value_found
 values_same None = refl
 values_same (Some f) = refl
@@ -385,7 +385,7 @@ same_entries (e ∷ es) (f ∷ fs) s t same =
     λ i. (head i, value i) ∷ rest i
 
 -- the pairs of a map that shows hits are the effective list of the hits
-pub pairs_are : (m : Hits) (hits : List Found) → IsOrdered (λ (a : Bor (List ℕ)) (b : Bor (List ℕ)). key_cmp a.now b.now) m → Shows m hits → map pair_of m.entries ≡ effective_of hits
+pub pairs_are : (m : Hits) (hits : List Assignment) → IsOrdered (λ (a : Bor (List ℕ)) (b : Bor (List ℕ)). key_cmp a.now b.now) m → Shows m hits → map pair_of m.entries ≡ effective_of hits
 pairs_are m hits ordered shows =
     same_entries (map pair_of m.entries) (effective_of hits) (sorted_pairs m.entries ordered) (sorted_effective hits)
     (λ q. lookup_pairs q m.entries ∙ ap (option_map value_told) (shows q) ∙ values_same (last_with q hits) ∙ ap (option_map value_found) (with_is_at q hits)

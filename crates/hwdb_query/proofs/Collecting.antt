@@ -3,83 +3,85 @@ use Rattle.std.proofs.Common.{◌≡◌, ◌∙◌, ap, sym, refl, subst, ℕ, z
 use Rattle.std.specs.List.{AllByRecursion}
 use Rattle.std.specs.declared.cmp.Ordering.TheVariants.{Less}
 use Rattle.std.proofs.lemmas.List.Elements.{filter-append}
-use Rattle.hwdb_layout.specs.Tree.{Value}
-use Rattle.hwdb_layout.specs.Map.{Shown, shown}
+use Rattle.hwdb_spec.specs.Tree.{Value, Shown, shown, one_assignment, assignment_shown}
 use Rattle.std.specs.Ordering.{is_lt, ordering_reverse}
-use Rattle.hwdb_query.specs.Answers.{Spot, Found, spot_cmp, found_cmp, one_found, found_shown, is_after, is_behind, is_wanted, wanted, own_members}
-use Rattle.hwdb_query.specs.Lists.{put, put_all, in_order, keep_all, Ascends}
-use Rattle.hwdb_query.specs.Hits.{after_spot, Page as HeldHits}
-use Rattle.hwdb_query.specs.Collected.{PageCollects, LastCollects, Collects, Shows, IsPage, IsLast, IsOfPage, IsOfLast}
+use Rattle.hwdb_spec.specs.Assignment.{Position, Assignment, position_cmp, assignment_cmp, put, put_all, in_order, Ascends}
+use Rattle.hwdb_spec.specs.Answers.{is_after, is_behind, is_wanted}
+use Rattle.hwdb_query.specs.Internal.Members.{wanted, own_members}
+use Rattle.hwdb_query.specs.Internal.Lists.{keep_all}
+use Rattle.hwdb_query.specs.Internal.Hits.{after_position}
+use Rattle.hwdb_query.specs.Views.{Page as HeldHits}
+use Rattle.hwdb_query.specs.Internal.Collected.{PageCollects, LastCollects, Collects, Shows, IsPage, IsLast, IsOfPage, IsOfLast}
 use Rattle.hwdb_query.specs.declared.next_page.NextPage.{NextPage}
 use Rattle.hwdb_query.specs.declared.last_hits.LastHits.{LastHits}
 use Rattle.hwdb_query.specs.declared.collector.Collector.{Collector}
 use Rattle.hwdb_query.specs.declared.collector.Collector.TheVariants.{Page, Last as LastOnes}
 use Rattle.hwdb_query.proofs.Putting.{keep_all_append, ascends_put, ascends_all, filter_in, filter_out}
-use Rattle.hwdb_query.proofs.Orders.{spot_total, found_total}
+use Rattle.hwdb_query.proofs.Orders.{position_total, assignment_total}
 use Rattle.hwdb_query.proofs.Parting.{own_next, own_one, own_behind}
 use Rattle.hwdb_query.proofs.Steps.{keep_none, offered_some, offered_early}
 
 -- what a value assigns at a pattern
-abbrev pub found_at : (pattern key : List ℕ) → Shown → Found
-found_at pattern key s = record { spot = record { priority = s.priority; line = s.line; pattern = pattern; key = key }; value = s.value; path = s.path }
+abbrev pub assignment_at : (pattern key : List ℕ) → Shown → Assignment
+assignment_at pattern key s = record { position = record { priority = s.priority; line = s.line; pattern = pattern; key = key }; value = s.value; path = s.path }
 
-all_take : (P : Found → Type 0) (n : ℕ) (l : List Found) → AllByRecursion P l → AllByRecursion P (take n l)
+all_take : (P : Assignment → Type 0) (n : ℕ) (l : List Assignment) → AllByRecursion P l → AllByRecursion P (take n l)
 all_take P zero l all = tt
 all_take P (suc n) [] all = tt
 all_take P (suc n) (x ∷ l) all = (all.0, all_take P n l all.1)
 
-ascends_take : (n : ℕ) (l : List Found) → Ascends found_cmp l → Ascends found_cmp (take n l)
+ascends_take : (n : ℕ) (l : List Assignment) → Ascends assignment_cmp l → Ascends assignment_cmp (take n l)
 unfolding Ascends
 ascends_take zero l up = tt
 ascends_take (suc n) [] up = tt
-ascends_take (suc n) (x ∷ l) up = (all_take (λ y. found_cmp x y ≡ Less) n l up.0, ascends_take n l up.1)
+ascends_take (suc n) (x ∷ l) up = (all_take (λ y. assignment_cmp x y ≡ Less) n l up.0, ascends_take n l up.1)
 
-pub ascends_kept : (n : ℕ) (x : Found) (l : List Found) → Ascends found_cmp l → Ascends found_cmp (take n (put found_cmp x l))
-ascends_kept n x l up = ascends_take n (put found_cmp x l) (ascends_put found_cmp found_total x l up)
+pub ascends_kept : (n : ℕ) (x : Assignment) (l : List Assignment) → Ascends assignment_cmp l → Ascends assignment_cmp (take n (put assignment_cmp x l))
+ascends_kept n x l up = ascends_take n (put assignment_cmp x l) (ascends_put assignment_cmp assignment_total x l up)
 
 pub page_none : (a : NextPage) → PageCollects a [] a
 page_none a = record {
   after = refl;
   most = refl;
   ascends = λ up. up;
-  kept = λ up. keep_none a.held.most (filter (is_behind (after_spot a.after)) []) a.held.hits refl;
+  kept = λ up. keep_none a.held.most (filter (is_behind (after_position a.after)) []) a.held.hits refl;
 }
 
-pub page_more : (a b c : NextPage) (xs ys : List Found) → PageCollects a xs b → PageCollects b ys c → PageCollects a (xs ++ ys) c
+pub page_more : (a b c : NextPage) (xs ys : List Assignment) → PageCollects a xs b → PageCollects b ys c → PageCollects a (xs ++ ys) c
 page_more a b c xs ys p q =
     let most = a.held.most in
-    let behind = is_behind (after_spot a.after) in
+    let behind = is_behind (after_position a.after) in
     record {
       after = q.after ∙ p.after;
       most = q.most ∙ p.most;
       ascends = λ up. q.ascends (p.ascends up);
       kept = λ up.
-          q.kept (p.ascends up) ∙ ap (λ m. keep_all found_cmp m (filter (is_behind (after_spot b.after)) ys) b.held.hits) p.most
-          ∙ ap (λ s. keep_all found_cmp most (filter (is_behind (after_spot s)) ys) b.held.hits) p.after
-          ∙ ap (keep_all found_cmp most (filter behind ys)) (p.kept up)
-          ∙ sym (keep_all_append found_cmp most (filter behind xs) (filter behind ys) a.held.hits)
-          ∙ ap (λ l. keep_all found_cmp most l a.held.hits) (sym (filter-append behind xs ys));
+          q.kept (p.ascends up) ∙ ap (λ m. keep_all assignment_cmp m (filter (is_behind (after_position b.after)) ys) b.held.hits) p.most
+          ∙ ap (λ s. keep_all assignment_cmp most (filter (is_behind (after_position s)) ys) b.held.hits) p.after
+          ∙ ap (keep_all assignment_cmp most (filter behind ys)) (p.kept up)
+          ∙ sym (keep_all_append assignment_cmp most (filter behind xs) (filter behind ys) a.held.hits)
+          ∙ ap (λ l. keep_all assignment_cmp most l a.held.hits) (sym (filter-append behind xs ys));
     }
 
-put_both : (xs ys l : List Found) → put_all found_cmp (xs ++ ys) l ≡ put_all found_cmp ys (put_all found_cmp xs l)
+put_both : (xs ys l : List Assignment) → put_all assignment_cmp (xs ++ ys) l ≡ put_all assignment_cmp ys (put_all assignment_cmp xs l)
 unfolding put_all
 put_both [] ys l = refl
-put_both (x ∷ xs) ys l = put_both xs ys (put found_cmp x l)
+put_both (x ∷ xs) ys l = put_both xs ys (put assignment_cmp x l)
 
 pub last_none : (a : LastHits) → LastCollects a [] a
 unfolding put_all LastCollects
 last_none a hits up shows = shows
 
-pub last_more : (a b c : LastHits) (xs ys : List Found) → LastCollects a xs b → LastCollects b ys c → LastCollects a (xs ++ ys) c
+pub last_more : (a b c : LastHits) (xs ys : List Assignment) → LastCollects a xs b → LastCollects b ys c → LastCollects a (xs ++ ys) c
 unfolding LastCollects
 last_more a b c xs ys p q hits up shows =
-    subst (Shows c.hits) (sym (put_both xs ys hits)) (q (put_all found_cmp xs hits) (ascends_all found_cmp found_total xs hits up) (p hits up shows))
+    subst (Shows c.hits) (sym (put_both xs ys hits)) (q (put_all assignment_cmp xs hits) (ascends_all assignment_cmp assignment_total xs hits up) (p hits up shows))
 
 -- the values of a node are offered one after another
 pub last_values_next : (a b c : LastHits) (pattern : List ℕ) (values : List Value) (i : ℕ) (s : Shown) → option_map shown (slice_get values i) ≡ Some s
-    → LastCollects a (found_shown pattern s) b → LastCollects b (own_members pattern (drop (suc i) values)) c → LastCollects a (own_members pattern (drop i values)) c
+    → LastCollects a (assignment_shown pattern s) b → LastCollects b (own_members pattern (drop (suc i) values)) c → LastCollects a (own_members pattern (drop i values)) c
 last_values_next a b c pattern values i s at here rest =
-    subst (λ xs. LastCollects a xs c) (sym (own_next pattern values i s at)) (last_more a b c (found_shown pattern s) (own_members pattern (drop (suc i) values)) here rest)
+    subst (λ xs. LastCollects a xs c) (sym (own_next pattern values i s at)) (last_more a b c (assignment_shown pattern s) (own_members pattern (drop (suc i) values)) here rest)
 
 pub last_values_over : (a : LastHits) (pattern : List ℕ) (values : List Value) (i : ℕ) → length values ≤ i → LastCollects a (own_members pattern (drop i values)) a
 last_values_over a pattern values i le = subst (λ xs. LastCollects a xs a) (sym (own_behind pattern values i le)) (last_none a)
@@ -88,34 +90,34 @@ pub page_values_over : (a : NextPage) (pattern : List ℕ) (values : List Value)
 page_values_over a pattern values i le = subst (λ xs. PageCollects a xs a) (sym (own_behind pattern values i le)) (page_none a)
 
 -- one value is offered
-pub last_offered_none : (a : LastHits) (pattern : List ℕ) (s : Shown) → s.key ≡ None → LastCollects a (found_shown pattern s) a
-unfolding found_shown
-last_offered_none a pattern s none = subst (λ o. LastCollects a (one_found pattern s o) a) (sym none) (last_none a)
+pub last_offered_none : (a : LastHits) (pattern : List ℕ) (s : Shown) → s.key ≡ None → LastCollects a (assignment_shown pattern s) a
+unfolding assignment_shown
+last_offered_none a pattern s none = subst (λ o. LastCollects a (one_assignment pattern s o) a) (sym none) (last_none a)
 
 pub last_offered : (a b : LastHits) (pattern key : List ℕ) (s : Shown) → s.key ≡ Some key
-    → ((hits : List Found) → Ascends found_cmp hits → Shows a.hits hits → Shows b.hits (put found_cmp (found_at pattern key s) hits)) → LastCollects a (found_shown pattern s) b
-unfolding found_shown put_all LastCollects
-last_offered a b pattern key s some step = subst (λ o. LastCollects a (one_found pattern s o) b) (sym some) step
+    → ((hits : List Assignment) → Ascends assignment_cmp hits → Shows a.hits hits → Shows b.hits (put assignment_cmp (assignment_at pattern key s) hits)) → LastCollects a (assignment_shown pattern s) b
+unfolding assignment_shown put_all LastCollects
+last_offered a b pattern key s some step = subst (λ o. LastCollects a (one_assignment pattern s o) b) (sym some) step
 
-pub page_offered_none : (a : NextPage) (pattern : List ℕ) (s : Shown) → s.key ≡ None → PageCollects a (found_shown pattern s) a
-unfolding found_shown
-page_offered_none a pattern s none = subst (λ o. PageCollects a (one_found pattern s o) a) (sym none) (page_none a)
+pub page_offered_none : (a : NextPage) (pattern : List ℕ) (s : Shown) → s.key ≡ None → PageCollects a (assignment_shown pattern s) a
+unfolding assignment_shown
+page_offered_none a pattern s none = subst (λ o. PageCollects a (one_assignment pattern s o) a) (sym none) (page_none a)
 
-pub page_offered_early : (a : NextPage) (pattern key : List ℕ) (s : Shown) → s.key ≡ Some key → is_after (after_spot a.after) (found_at pattern key s).spot ≡ false
-    → PageCollects a (found_shown pattern s) a
+pub page_offered_early : (a : NextPage) (pattern key : List ℕ) (s : Shown) → s.key ≡ Some key → is_after (after_position a.after) (assignment_at pattern key s).position ≡ false
+    → PageCollects a (assignment_shown pattern s) a
 page_offered_early a pattern key s some early =
-    record { after = refl; most = refl; ascends = λ up. up; kept = λ up. offered_early a.held.most (after_spot a.after) pattern key s a.held.hits some early }
+    record { after = refl; most = refl; ascends = λ up. up; kept = λ up. offered_early a.held.most (after_position a.after) pattern key s a.held.hits some early }
 
-pub page_offered : (a b : NextPage) (pattern key : List ℕ) (s : Shown) → s.key ≡ Some key → is_after (after_spot a.after) (found_at pattern key s).spot ≡ true
-    → b.after ≡ a.after → b.held.most ≡ a.held.most → (Ascends found_cmp a.held.hits → b.held.hits ≡ take a.held.most (put found_cmp (found_at pattern key s) a.held.hits))
-    → PageCollects a (found_shown pattern s) b
+pub page_offered : (a b : NextPage) (pattern key : List ℕ) (s : Shown) → s.key ≡ Some key → is_after (after_position a.after) (assignment_at pattern key s).position ≡ true
+    → b.after ≡ a.after → b.held.most ≡ a.held.most → (Ascends assignment_cmp a.held.hits → b.held.hits ≡ take a.held.most (put assignment_cmp (assignment_at pattern key s) a.held.hits))
+    → PageCollects a (assignment_shown pattern s) b
 page_offered a b pattern key s some late after most kept =
-    let x = found_at pattern key s in
+    let x = assignment_at pattern key s in
     record {
       after = after;
       most = most;
-      ascends = λ up. subst (Ascends found_cmp) (sym (kept up)) (ascends_kept a.held.most x a.held.hits up);
-      kept = λ up. offered_some a.held.most (after_spot a.after) pattern key s x a.held.hits b.held.hits some refl late (kept up);
+      ascends = λ up. subst (Ascends assignment_cmp) (sym (kept up)) (ascends_kept a.held.most x a.held.hits up);
+      kept = λ up. offered_some a.held.most (after_position a.after) pattern key s x a.held.hits b.held.hits some refl late (kept up);
     }
 
 -- nothing is taken
@@ -125,7 +127,7 @@ collects_none (Page a) = page_none a
 collects_none (LastOnes a) = last_none a
 
 -- one list is taken, and then another
-pub collects_more : (a b c : Collector) (xs ys : List Found) → Collects a xs b → Collects b ys c → Collects a (xs ++ ys) c
+pub collects_more : (a b c : Collector) (xs ys : List Assignment) → Collects a xs b → Collects b ys c → Collects a (xs ++ ys) c
 unfolding Collects
 collects_more (Page a) (Page b) (Page c) xs ys p q = page_more a b c xs ys p q
 collects_more (Page a) (Page b) (LastOnes c) xs ys p q = q
@@ -134,86 +136,86 @@ collects_more (LastOnes a) (Page b) c xs ys p q = absurd p
 collects_more (LastOnes a) (LastOnes b) (Page c) xs ys p q = q
 collects_more (LastOnes a) (LastOnes b) (LastOnes c) xs ys p q = last_more a b c xs ys p q
 
-pub page_collected : (a : NextPage) (xs : List Found) (b : NextPage) → PageCollects a xs b → Collects (Page a) xs (Page b)
+pub page_collected : (a : NextPage) (xs : List Assignment) (b : NextPage) → PageCollects a xs b → Collects (Page a) xs (Page b)
 unfolding Collects
 page_collected a xs b taken = taken
 
-pub last_collected : (a : LastHits) (xs : List Found) (b : LastHits) → LastCollects a xs b → Collects (LastOnes a) xs (LastOnes b)
+pub last_collected : (a : LastHits) (xs : List Assignment) (b : LastHits) → LastCollects a xs b → Collects (LastOnes a) xs (LastOnes b)
 unfolding Collects
 last_collected a xs b taken = taken
 
 -- it stays the one of the two that it is
-pub still_page : (a : NextPage) (xs : List Found) (b : Collector) → Collects (Page a) xs b → IsPage b
+pub still_page : (a : NextPage) (xs : List Assignment) (b : Collector) → Collects (Page a) xs b → IsPage b
 unfolding Collects
 still_page a xs (Page b) taken = tt
 still_page a xs (LastOnes b) taken = taken
 
-pub still_last : (a : LastHits) (xs : List Found) (b : Collector) → Collects (LastOnes a) xs b → IsLast b
+pub still_last : (a : LastHits) (xs : List Assignment) (b : Collector) → Collects (LastOnes a) xs b → IsLast b
 unfolding Collects
 still_last a xs (Page b) taken = taken
 still_last a xs (LastOnes b) taken = tt
 
-none_ascends : let none : List Found = [] in Ascends found_cmp none
+none_ascends : let none : List Assignment = [] in Ascends assignment_cmp none
 unfolding Ascends
 none_ascends = tt
 
 -- a page that was empty, after all
-pub page_at_end : (a : NextPage) (members : List Found) (device : List ℕ) (b : Collector) (held : HeldHits) → a.held.hits ≡ [] → Collects (Page a) (filter (is_wanted device) members) b → IsOfPage b held
-    → (held.most ≡ a.held.most) × (held.hits ≡ keep_all found_cmp a.held.most (wanted device (after_spot a.after) members) [])
+pub page_at_end : (a : NextPage) (members : List Assignment) (device : List ℕ) (b : Collector) (held : HeldHits) → a.held.hits ≡ [] → Collects (Page a) (filter (is_wanted device) members) b → IsOfPage b held
+    → (held.most ≡ a.held.most) × (held.hits ≡ keep_all assignment_cmp a.held.most (wanted device (after_position a.after) members) [])
 unfolding Collects wanted
 page_at_end a members device (Page b) held none taken is =
-    let up : Ascends found_cmp a.held.hits = subst (Ascends found_cmp) (sym none) none_ascends in (
+    let up : Ascends assignment_cmp a.held.hits = subst (Ascends assignment_cmp) (sym none) none_ascends in (
       ap (λ (p : HeldHits). p.most) is ∙ taken.most,
       ap (λ (p : HeldHits). p.hits) is ∙ taken.kept up
-          ∙ ap (keep_all found_cmp a.held.most (filter (is_behind (after_spot a.after)) (filter (is_wanted device) members))) none,
+          ∙ ap (keep_all assignment_cmp a.held.most (filter (is_behind (after_position a.after)) (filter (is_wanted device) members))) none,
     )
 page_at_end a members device (LastOnes b) held none taken is = absurd taken
 
 -- what showed nothing shows the last of all
-pub last_at_end : (a : LastHits) (xs : List Found) (b : Collector) (last : LastHits) → Shows a.hits [] → Collects (LastOnes a) xs b → IsOfLast b last → Shows last.hits (in_order found_cmp xs)
+pub last_at_end : (a : LastHits) (xs : List Assignment) (b : Collector) (last : LastHits) → Shows a.hits [] → Collects (LastOnes a) xs b → IsOfLast b last → Shows last.hits (in_order assignment_cmp xs)
 unfolding Collects LastCollects
 last_at_end a xs (Page b) last none taken is = absurd taken
-last_at_end a xs (LastOnes b) last none taken is = subst (λ (l : LastHits). Shows l.hits (in_order found_cmp xs)) (sym is) (taken [] none_ascends none)
+last_at_end a xs (LastOnes b) last none taken is = subst (λ (l : LastHits). Shows l.hits (in_order assignment_cmp xs)) (sym is) (taken [] none_ascends none)
 
 -- a value of which no hit is kept
-one_skipped : (a : NextPage) (pattern : List ℕ) (s : Shown) → ((key : List ℕ) → PageCollects a (found_at pattern key s ∷ []) a) → PageCollects a (found_shown pattern s) a
-unfolding found_shown
-one_skipped a pattern s skipped = elim s.key as (λ o. PageCollects a (one_found pattern s o) a) [ None ↦ page_none a | Some key ↦ skipped key ]
+one_skipped : (a : NextPage) (pattern : List ℕ) (s : Shown) → ((key : List ℕ) → PageCollects a (assignment_at pattern key s ∷ []) a) → PageCollects a (assignment_shown pattern s) a
+unfolding assignment_shown
+one_skipped a pattern s skipped = elim s.key as (λ o. PageCollects a (one_assignment pattern s o) a) [ None ↦ page_none a | Some key ↦ skipped key ]
 
-pub page_one_taken : (a b : NextPage) (pattern : List ℕ) (values : List Value) (i : ℕ) (s : Shown) → option_map shown (slice_get values i) ≡ Some s → PageCollects a (found_shown pattern s) b
+pub page_one_taken : (a b : NextPage) (pattern : List ℕ) (values : List Value) (i : ℕ) (s : Shown) → option_map shown (slice_get values i) ≡ Some s → PageCollects a (assignment_shown pattern s) b
     → PageCollects a (own_members pattern (take 1 (drop i values))) b
 page_one_taken a b pattern values i s at taken = subst (λ xs. PageCollects a xs b) (sym (own_one pattern values i s at)) taken
 
 pub page_one_skipped : (a : NextPage) (pattern : List ℕ) (values : List Value) (i p l : ℕ) → option_map (λ v. v.priority) (slice_get values i) ≡ Some p → option_map (λ v. v.line) (slice_get values i) ≡ Some l
-    → ((x : Found) → (x.spot.priority ≡ p) × (x.spot.line ≡ l) → PageCollects a (x ∷ []) a) → PageCollects a (own_members pattern (take 1 (drop i values))) a
+    → ((x : Assignment) → (x.position.priority ≡ p) × (x.position.line ≡ l) → PageCollects a (x ∷ []) a) → PageCollects a (own_members pattern (take 1 (drop i values))) a
 page_one_skipped a pattern [] i p l at on skipped = absurd (cc)
 page_one_skipped a pattern (v ∷ values) zero p l at on skipped =
     let same_p : v.priority ≡ p = cc in
     let same_l : v.line ≡ l = cc in
-    page_more a a a (found_shown pattern (shown v)) [] (one_skipped a pattern (shown v) (λ key. skipped (found_at pattern key (shown v)) (same_p, same_l))) (page_none a)
+    page_more a a a (assignment_shown pattern (shown v)) [] (one_skipped a pattern (shown v) (λ key. skipped (assignment_at pattern key (shown v)) (same_p, same_l))) (page_none a)
 page_one_skipped a pattern (v ∷ values) (suc i) p l at on skipped = page_one_skipped a pattern values i p l at on skipped
 
 -- no hit of an origin is kept: it stands before the position, or behind a full page
-pub skipped_before : (a : NextPage) (after : Spot) (x : Found) → after_spot a.after ≡ Some after → spot_cmp x.spot after ≡ Less → PageCollects a (x ∷ []) a
+pub skipped_before : (a : NextPage) (after : Position) (x : Assignment) → after_position a.after ≡ Some after → position_cmp x.position after ≡ Less → PageCollects a (x ∷ []) a
 unfolding is_after
 skipped_before a after x given less =
-    let early : is_after (after_spot a.after) x.spot ≡ false = ap (λ o. is_after o x.spot) given ∙ ap is_lt (spot_total.antisymm after x.spot ∙ ap ordering_reverse less) in
+    let early : is_after (after_position a.after) x.position ≡ false = ap (λ o. is_after o x.position) given ∙ ap is_lt (position_total.antisymm after x.position ∙ ap ordering_reverse less) in
     record {
       after = refl;
       most = refl;
       ascends = λ up. up;
-      kept = λ up. keep_none a.held.most (filter (is_behind (after_spot a.after)) (x ∷ [])) a.held.hits (filter_out (is_behind (after_spot a.after)) x [] early);
+      kept = λ up. keep_none a.held.most (filter (is_behind (after_position a.after)) (x ∷ [])) a.held.hits (filter_out (is_behind (after_position a.after)) x [] early);
     }
 
-pub skipped_behind : (a : NextPage) (x : Found) → (Ascends found_cmp a.held.hits → take a.held.most (put found_cmp x a.held.hits) ≡ a.held.hits) → PageCollects a (x ∷ []) a
+pub skipped_behind : (a : NextPage) (x : Assignment) → (Ascends assignment_cmp a.held.hits → take a.held.most (put assignment_cmp x a.held.hits) ≡ a.held.hits) → PageCollects a (x ∷ []) a
 unfolding keep_all
 skipped_behind a x stays =
     record {
       after = refl;
       most = refl;
       ascends = λ up. up;
-      kept = λ up. elim (is_after (after_spot a.after) x.spot) as (λ b. is_after (after_spot a.after) x.spot ≡ b → a.held.hits ≡ keep_all found_cmp a.held.most (filter (is_behind (after_spot a.after)) (x ∷ [])) a.held.hits) [
-        | true ↦ λ e. sym (ap (λ l. keep_all found_cmp a.held.most l a.held.hits) (filter_in (is_behind (after_spot a.after)) x [] e) ∙ stays up)
-        | false ↦ λ e. keep_none a.held.most (filter (is_behind (after_spot a.after)) (x ∷ [])) a.held.hits (filter_out (is_behind (after_spot a.after)) x [] e)
+      kept = λ up. elim (is_after (after_position a.after) x.position) as (λ b. is_after (after_position a.after) x.position ≡ b → a.held.hits ≡ keep_all assignment_cmp a.held.most (filter (is_behind (after_position a.after)) (x ∷ [])) a.held.hits) [
+        | true ↦ λ e. sym (ap (λ l. keep_all assignment_cmp a.held.most l a.held.hits) (filter_in (is_behind (after_position a.after)) x [] e) ∙ stays up)
+        | false ↦ λ e. keep_none a.held.most (filter (is_behind (after_position a.after)) (x ∷ [])) a.held.hits (filter_out (is_behind (after_position a.after)) x [] e)
       ] refl;
     }

@@ -1,19 +1,15 @@
 -- Nothing is wanted at or below a dead path, and nothing there is live.
 use Rattle.std.proofs.Common.{◌≡◌, ◌∙◌, ap, sym, refl, ℕ, ◌+◌, Bool, true, false, List, [], ◌∷◌, ◌++◌, map, filter, append_assoc, if◌then◌else◌}
-use Rattle.std.specs.List.{flat_map}
+use Rattle.std.specs.Prelude.{flat_map}
 use Rattle.std.proofs.lemmas.Grind.{flat_map-append}
 use Rattle.std.proofs.lemmas.List.{append-nil}
 use Rattle.std.proofs.lemmas.List.Elements.{filter-append}
-use Rattle.hwdb_pattern.specs.Patterns.{tokens, MatchesIsTested}
-use Rattle.hwdb_pattern.specs.Paths.{IsLive}
-use Rattle.hwdb_layout.specs.Tree.{Tree, Children, prefix_of}
-use Rattle.hwdb_layout.specs.Tree.Tree.{Node}
-use Rattle.hwdb_layout.specs.Tree.Children.{NoMore, Child}
-use Rattle.hwdb_layout.specs.Map.{values_under, values_below}
-use Rattle.hwdb_query.specs.Answers.{found_of, members_under, is_wanted}
-use Rattle.hwdb_pattern.specs.Paths.{is_live, LiveIsTested, DeadStaysDead, DeadMatchesNothing}
-use Rattle.hwdb_query.specs.Answers.{is_match}
-use Rattle.hwdb_query.specs.Live.{live_under, live_below}
+use Rattle.hwdb_spec.specs.Patterns.{tokens}
+use Rattle.hwdb_pattern.specs.Laws.{MatchesIsTested, LiveIsTested, DeadStaysDead, DeadMatchesNothing}
+use Rattle.hwdb_spec.specs.Tree.{IsLive, Tree, Children, prefix_of, values_under, values_below, assignment_of, members_under, is_live, live_under, live_below}
+use Rattle.hwdb_spec.specs.Tree.Tree.{Node}
+use Rattle.hwdb_spec.specs.Tree.Children.{NoMore, Child}
+use Rattle.hwdb_spec.specs.Answers.{is_wanted, is_match}
 use Rattle.hwdb_query.proofs.Parting.{own_listed, own_unwanted}
 
 -- what is known of all paths that begin with a dead one
@@ -38,22 +34,22 @@ mutual
 
   dead_values : (device path : List ℕ) → Dead device path → (more : List ℕ) (t : Tree) → filter (is_wanted device) (members_under (path ++ more) t) ≡ []
   dead_values device path dead more (Node prefix values children) =
-      let below : filter (is_wanted device) (flat_map found_of (values_below (path ++ (more ++ prefix)) children)) ≡ [] = dead_below device path dead (more ++ prefix) children in
-      ap (λ r. filter (is_wanted device) (flat_map found_of (map (λ v. (r, v)) values ++ values_below r children))) (append_assoc path more prefix)
-      ∙ ap (filter (is_wanted device)) (flat_map-append found_of (map (λ v. (path ++ (more ++ prefix), v)) values) (values_below (path ++ (more ++ prefix)) children))
-      ∙ filter-append (is_wanted device) (flat_map found_of (map (λ v. (path ++ (more ++ prefix), v)) values)) (flat_map found_of (values_below (path ++ (more ++ prefix)) children))
-      ∙ ap (λ l. l ++ filter (is_wanted device) (flat_map found_of (values_below (path ++ (more ++ prefix)) children)))
+      let below : filter (is_wanted device) (flat_map assignment_of (values_below (path ++ (more ++ prefix)) children)) ≡ [] = dead_below device path dead (more ++ prefix) children in
+      ap (λ r. filter (is_wanted device) (flat_map assignment_of (map (λ v. (r, v)) values ++ values_below r children))) (append_assoc path more prefix)
+      ∙ ap (filter (is_wanted device)) (flat_map-append assignment_of (map (λ v. (path ++ (more ++ prefix), v)) values) (values_below (path ++ (more ++ prefix)) children))
+      ∙ filter-append (is_wanted device) (flat_map assignment_of (map (λ v. (path ++ (more ++ prefix), v)) values)) (flat_map assignment_of (values_below (path ++ (more ++ prefix)) children))
+      ∙ ap (λ l. l ++ filter (is_wanted device) (flat_map assignment_of (values_below (path ++ (more ++ prefix)) children)))
       (ap (filter (is_wanted device)) (own_listed (path ++ (more ++ prefix)) values) ∙ own_unwanted device (path ++ (more ++ prefix)) values (dead.unmatched (more ++ prefix)))
       ∙ below
 
-  dead_below : (device path : List ℕ) → Dead device path → (more : List ℕ) (ks : Children) → filter (is_wanted device) (flat_map found_of (values_below (path ++ more) ks)) ≡ []
+  dead_below : (device path : List ℕ) → Dead device path → (more : List ℕ) (ks : Children) → filter (is_wanted device) (flat_map assignment_of (values_below (path ++ more) ks)) ≡ []
   dead_below device path dead more NoMore = refl
   dead_below device path dead more (Child byte t ks) =
       let here : filter (is_wanted device) (members_under (path ++ (more ++ byte ∷ [])) t) ≡ [] = dead_values device path dead (more ++ byte ∷ []) t in
-      let rest : filter (is_wanted device) (flat_map found_of (values_below (path ++ more) ks)) ≡ [] = dead_below device path dead more ks in
-      ap (filter (is_wanted device)) (flat_map-append found_of (values_under ((path ++ more) ++ byte ∷ []) t) (values_below (path ++ more) ks))
-      ∙ filter-append (is_wanted device) (flat_map found_of (values_under ((path ++ more) ++ byte ∷ []) t)) (flat_map found_of (values_below (path ++ more) ks))
-      ∙ ap (λ l. l ++ filter (is_wanted device) (flat_map found_of (values_below (path ++ more) ks)))
+      let rest : filter (is_wanted device) (flat_map assignment_of (values_below (path ++ more) ks)) ≡ [] = dead_below device path dead more ks in
+      ap (filter (is_wanted device)) (flat_map-append assignment_of (values_under ((path ++ more) ++ byte ∷ []) t) (values_below (path ++ more) ks))
+      ∙ filter-append (is_wanted device) (flat_map assignment_of (values_under ((path ++ more) ++ byte ∷ []) t)) (flat_map assignment_of (values_below (path ++ more) ks))
+      ∙ ap (λ l. l ++ filter (is_wanted device) (flat_map assignment_of (values_below (path ++ more) ks)))
       (ap (λ r. filter (is_wanted device) (members_under r t)) (append_assoc path more (byte ∷ [])) ∙ here)
       ∙ rest
 
@@ -80,12 +76,12 @@ pub none_wanted : (device path : List ℕ) (t : Tree) → Dead device (path ++ p
 unfolding values_under prefix_of
 none_wanted device path (Node prefix values children) dead =
     let q = path ++ prefix in
-    let below : filter (is_wanted device) (flat_map found_of (values_below (q ++ []) children)) ≡ [] = dead_below device q dead [] children in
-    ap (filter (is_wanted device)) (flat_map-append found_of (map (λ v. (q, v)) values) (values_below q children))
-    ∙ filter-append (is_wanted device) (flat_map found_of (map (λ v. (q, v)) values)) (flat_map found_of (values_below q children))
-    ∙ ap (λ l. l ++ filter (is_wanted device) (flat_map found_of (values_below q children)))
+    let below : filter (is_wanted device) (flat_map assignment_of (values_below (q ++ []) children)) ≡ [] = dead_below device q dead [] children in
+    ap (filter (is_wanted device)) (flat_map-append assignment_of (map (λ v. (q, v)) values) (values_below q children))
+    ∙ filter-append (is_wanted device) (flat_map assignment_of (map (λ v. (q, v)) values)) (flat_map assignment_of (values_below q children))
+    ∙ ap (λ l. l ++ filter (is_wanted device) (flat_map assignment_of (values_below q children)))
     (ap (filter (is_wanted device)) (own_listed q values) ∙ own_unwanted device q values (ap (is_match device) (sym (append-nil q)) ∙ dead.unmatched []))
-    ∙ ap (λ r. filter (is_wanted device) (flat_map found_of (values_below r children))) (sym (append-nil q)) ∙ below
+    ∙ ap (λ r. filter (is_wanted device) (flat_map assignment_of (values_below r children))) (sym (append-nil q)) ∙ below
 
 pub none_live : (device path : List ℕ) (t : Tree) → Dead device (path ++ prefix_of t) → live_under device path t ≡ 0
 unfolding live_under prefix_of

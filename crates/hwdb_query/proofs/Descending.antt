@@ -1,14 +1,16 @@
 -- What is collected of a node, and of those below it.
 use Rattle.std.proofs.Common.{◌≡◌, ◌∙◌, ap, sym, subst, ℕ, List, [], ◌∷◌, ◌++◌, filter, true, false}
 use Rattle.std.proofs.lemmas.List.Elements.{filter-append}
-use Rattle.hwdb_layout.specs.Tree.{Tree, Value, prefix_of, values_of, children_of}
-use Rattle.hwdb_query.specs.Answers.{Found, is_wanted, is_match, own_members, members_under, members_in}
-use Rattle.hwdb_query.specs.Collected.{Collects}
+use Rattle.hwdb_spec.specs.Tree.{Tree, Value, prefix_of, values_of, children_of, members_under}
+use Rattle.hwdb_spec.specs.Assignment.{Assignment}
+use Rattle.hwdb_spec.specs.Answers.{is_wanted, is_match}
+use Rattle.hwdb_query.specs.Internal.Members.{own_members, members_in}
+use Rattle.hwdb_query.specs.Internal.Collected.{Collects}
 use Rattle.hwdb_query.specs.declared.collector.Collector.{Collector}
 use Rattle.hwdb_query.proofs.Collecting.{collects_none, collects_more}
 use Rattle.hwdb_query.proofs.Parting.{members_split, own_wanted, own_unwanted}
 
-pub collected_none : (a : Collector) (xs : List Found) → xs ≡ [] → Collects a xs a
+pub collected_none : (a : Collector) (xs : List Assignment) → xs ≡ [] → Collects a xs a
 collected_none a xs none = subst (λ l. Collects a l a) (sym none) (collects_none a)
 
 -- what the values of a node assign, by whether the path matches

@@ -4,9 +4,9 @@ use Rattle.std.specs.Int.{div_ceil}
 use Rattle.std.proofs.Math.Nat.{add-div_left, add-mod_left}
 use Rattle.std.proofs.lemmas.Bool.{ne_eqb}
 use Rattle.std.proofs.lemmas.Grind.{div_ceil_times}
-use Rattle.hwdb_query.specs.Answers.{Found}
-use Rattle.hwdb_query.specs.Hits.{Progress}
-use Rattle.hwdb_query.specs.Fillings.{fills, filled, given, fillings, FillingsOfARun}
+use Rattle.hwdb_spec.specs.Assignment.{Assignment}
+use Rattle.hwdb_query.specs.Views.{Progress, fills, filled, given}
+use Rattle.hwdb_query.specs.Laws.{fillings, FillingsOfARun}
 
 not_none : (n : ℕ) → 0 < n → (n == 0) ≡ false
 not_none n some = ne_eqb n 0 (λ is. omega (arith, some, is))
@@ -37,7 +37,7 @@ unfolding fillings
 over zero p held ended = refl
 over (suc calls) p held ended = no_filling calls p (fills_none p held ended) ∙ over calls (given p) (omega (arith, held)) ended
 
-tail_length : (l : List Found) → length (drop 1 l) ≡ length l - 1
+tail_length : (l : List Assignment) → length (drop 1 l) ≡ length l - 1
 tail_length [] = refl
 tail_length (x ∷ l) = omega arith
 

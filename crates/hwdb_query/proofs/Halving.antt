@@ -10,108 +10,108 @@ use Rattle.std.specs.declared.cmp.Ordering.TheVariants.{Less, Equal, Greater}
 use Rattle.std.proofs.lemmas.Cmp.{alike_right}
 use Rattle.std.proofs.lemmas.List.Sorted.{searchable_from_sorted}
 use Rattle.hwdb_reader.specs.declared.view.Origin.{Origin}
-use Rattle.hwdb_query.specs.Answers.{Spot, Found, spot_cmp, found_cmp}
-use Rattle.hwdb_query.specs.Lists.{put, Ascends}
-use Rattle.hwdb_query.specs.Hits.{Page, found_of_hit, founds, IsLastOfFull, IsSpotOf}
+use Rattle.hwdb_spec.specs.Assignment.{Position, Assignment, position_cmp, assignment_cmp, put, Ascends}
+use Rattle.hwdb_query.specs.Views.{Page, assignment_of_hit, assignments_of_hits}
+use Rattle.hwdb_query.specs.Internal.Hits.{IsLastOfFull, IsPositionOf}
 use Rattle.hwdb_query.specs.declared.hit.Hit.{Hit}
 use Rattle.hwdb_query.proofs.Putting.{put_less, put_same, put_more}
-use Rattle.hwdb_query.proofs.Orders.{spot_total, found_total}
+use Rattle.hwdb_query.proofs.Orders.{position_total, assignment_total}
 use Rattle.hwdb_query.proofs.Placing.{founds_length}
 
-abbrev spot_of : Hit → Spot
-spot_of h = (found_of_hit h).spot
+abbrev position_of : Hit → Position
+position_of h = (assignment_of_hit h).position
 
-flipped : (x y : Found) (o : Ordering) → found_cmp x y ≡ o → found_cmp y x ≡ ordering_reverse o
-flipped x y o e = found_total.antisymm y x ∙ ap ordering_reverse e
+flipped : (x y : Assignment) (o : Ordering) → assignment_cmp x y ≡ o → assignment_cmp y x ≡ ordering_reverse o
+flipped x y o e = assignment_total.antisymm y x ∙ ap ordering_reverse e
 
 -- ascending hits are sorted
-sorted : (hits : List Hit) → Ascends found_cmp (founds hits) → IsSortedBy (λ a b. is_lt (spot_cmp (spot_of a) (spot_of b))) hits
-unfolding Ascends found_cmp
+sorted : (hits : List Hit) → Ascends assignment_cmp (assignments_of_hits hits) → IsSortedBy (λ a b. is_lt (position_cmp (position_of a) (position_of b))) hits
+unfolding Ascends assignment_cmp
 sorted [] up k d le lt = absurd (omega arith)
 sorted (h ∷ []) up k d le lt = absurd (omega arith)
-sorted (h ∷ g ∷ hits) up zero d le lt = ap is_lt (spot_total.antisymm (spot_of g) (spot_of h) ∙ ap ordering_reverse up.0.0)
+sorted (h ∷ g ∷ hits) up zero d le lt = ap is_lt (position_total.antisymm (position_of g) (position_of h) ∙ ap ordering_reverse up.0.0)
 sorted (h ∷ g ∷ hits) up (suc k) d le lt =
-    let P : ℕ → Type 0 = λ m. is_lt (spot_cmp (spot_of (slice_index_or (h ∷ g ∷ hits) m d)) (spot_of (slice_index_or (h ∷ g ∷ hits) (suc k) d))) ≡ false in
+    let P : ℕ → Type 0 = λ m. is_lt (position_cmp (position_of (slice_index_or (h ∷ g ∷ hits) m d)) (position_of (slice_index_or (h ∷ g ∷ hits) (suc k) d))) ≡ false in
     let next : suc (k + 1) ≡ suc k + 1 = omega arith in
     subst P next (sorted (g ∷ hits) up.1 k d (omega arith) (omega arith))
 
 -- where a hit ties with one of them, its place is taken
-tied : (x : Found) (hits : List Hit) (i : ℕ) → Ascends found_cmp (founds hits) → i < length hits → HoldsAt (λ y. found_cmp (found_of_hit y) x ≡ Equal) hits i → put found_cmp x (founds hits) ≡ founds hits
+tied : (x : Assignment) (hits : List Hit) (i : ℕ) → Ascends assignment_cmp (assignments_of_hits hits) → i < length hits → HoldsAt (λ y. assignment_cmp (assignment_of_hit y) x ≡ Equal) hits i → put assignment_cmp x (assignments_of_hits hits) ≡ assignments_of_hits hits
 unfolding Ascends
 tied x [] i up lt at = absurd (omega arith)
-tied x (h ∷ hits) zero up lt at = put_same found_cmp x (found_of_hit h) (founds hits) (flipped (found_of_hit h) x Equal (at h))
+tied x (h ∷ hits) zero up lt at = put_same assignment_cmp x (assignment_of_hit h) (assignments_of_hits hits) (flipped (assignment_of_hit h) x Equal (at h))
 tied x (h ∷ hits) (suc i) up lt at =
-    let below : found_cmp (found_of_hit h) x ≡ Less = reach hits i (omega arith) up.0 (λ d. at d) in
-    put_more found_cmp x (found_of_hit h) (founds hits) (flipped (found_of_hit h) x Less below) ∙ ap (λ l. found_of_hit h ∷ l) (tied x hits i up.1 (omega arith) (λ d. at d))
+    let below : assignment_cmp (assignment_of_hit h) x ≡ Less = reach hits i (omega arith) up.0 (λ d. at d) in
+    put_more assignment_cmp x (assignment_of_hit h) (assignments_of_hits hits) (flipped (assignment_of_hit h) x Less below) ∙ ap (λ l. assignment_of_hit h ∷ l) (tied x hits i up.1 (omega arith) (λ d. at d))
   where
-    reach : (hits : List Hit) (i : ℕ) → i < length hits → AllByRecursion (λ y. found_cmp (found_of_hit h) y ≡ Less) (founds hits) → HoldsAt (λ y. found_cmp (found_of_hit y) x ≡ Equal) hits i → found_cmp (found_of_hit h) x ≡ Less
+    reach : (hits : List Hit) (i : ℕ) → i < length hits → AllByRecursion (λ y. assignment_cmp (assignment_of_hit h) y ≡ Less) (assignments_of_hits hits) → HoldsAt (λ y. assignment_cmp (assignment_of_hit y) x ≡ Equal) hits i → assignment_cmp (assignment_of_hit h) x ≡ Less
     reach [] i lt all at = absurd (omega arith)
-    reach (g ∷ hits) zero lt all at = sym (alike_right found_total (found_of_hit g) x (found_of_hit h) (at g)) ∙ all.0
+    reach (g ∷ hits) zero lt all at = sym (alike_right assignment_total (assignment_of_hit g) x (assignment_of_hit h) (at g)) ∙ all.0
     reach (g ∷ hits) (suc i) lt all at = reach hits i (omega arith) all.1 (λ d. at d)
 
 -- where those before a place are below it, and those behind above it, it is put there
-between : (x : Found) (hits : List Hit) (i : ℕ) → i ≤ length hits → IsPartitionPoint (λ y. found_cmp (found_of_hit y) x ≡ Less) (λ y. found_cmp (found_of_hit y) x ≡ Greater) hits i
-    → put found_cmp x (founds hits) ≡ take i (founds hits) ++ x ∷ drop i (founds hits)
+between : (x : Assignment) (hits : List Hit) (i : ℕ) → i ≤ length hits → IsPartitionPoint (λ y. assignment_cmp (assignment_of_hit y) x ≡ Less) (λ y. assignment_cmp (assignment_of_hit y) x ≡ Greater) hits i
+    → put assignment_cmp x (assignments_of_hits hits) ≡ take i (assignments_of_hits hits) ++ x ∷ drop i (assignments_of_hits hits)
 unfolding put
 between x [] zero le parted = refl
 between x [] (suc i) le parted = absurd (omega arith)
-between x (h ∷ hits) zero le parted = put_less found_cmp x (found_of_hit h) (founds hits) (flipped (found_of_hit h) x Greater (parted.1 0 h (omega arith) (omega arith)))
+between x (h ∷ hits) zero le parted = put_less assignment_cmp x (assignment_of_hit h) (assignments_of_hits hits) (flipped (assignment_of_hit h) x Greater (parted.1 0 h (omega arith) (omega arith)))
 between x (h ∷ hits) (suc i) le parted =
-    put_more found_cmp x (found_of_hit h) (founds hits) (flipped (found_of_hit h) x Less (parted.0 0 h (omega arith) (omega arith)))
-    ∙ ap (λ l. found_of_hit h ∷ l) (between x hits i (omega arith) ((λ k d from lt. parted.0 (suc k) d (omega arith) (omega arith)), λ k d from lt. parted.1 (suc k) d (omega arith) (omega arith)))
+    put_more assignment_cmp x (assignment_of_hit h) (assignments_of_hits hits) (flipped (assignment_of_hit h) x Less (parted.0 0 h (omega arith) (omega arith)))
+    ∙ ap (λ l. assignment_of_hit h ∷ l) (between x hits i (omega arith) ((λ k d from lt. parted.0 (suc k) d (omega arith) (omega arith)), λ k d from lt. parted.1 (suc k) d (omega arith) (omega arith)))
 
 -- what a search by halving says of the hits
-pub found_taken : (x : Found) (hits : List Hit) (i : ℕ) → Ascends found_cmp (founds hits) → i < length hits → HoldsAt (λ y. spot_cmp (spot_of y) x.spot ≡ Equal) hits i
-    → put found_cmp x (founds hits) ≡ founds hits
-unfolding found_cmp
+pub found_taken : (x : Assignment) (hits : List Hit) (i : ℕ) → Ascends assignment_cmp (assignments_of_hits hits) → i < length hits → HoldsAt (λ y. position_cmp (position_of y) x.position ≡ Equal) hits i
+    → put assignment_cmp x (assignments_of_hits hits) ≡ assignments_of_hits hits
+unfolding assignment_cmp
 found_taken x hits i up lt at = tied x hits i up lt at
 
-pub found_free : (x : Found) (hits : List Hit) (i : ℕ) (r : Result ℕ ℕ) → Ascends found_cmp (founds hits) → r ≡ Err i → IsSearchInRange r (length hits) → IsBinarySearchResult (λ y. spot_cmp (spot_of y) x.spot) hits r
-    → put found_cmp x (founds hits) ≡ take i (founds hits) ++ x ∷ drop i (founds hits)
-unfolding found_cmp
+pub found_free : (x : Assignment) (hits : List Hit) (i : ℕ) (r : Result ℕ ℕ) → Ascends assignment_cmp (assignments_of_hits hits) → r ≡ Err i → IsSearchInRange r (length hits) → IsBinarySearchResult (λ y. position_cmp (position_of y) x.position) hits r
+    → put assignment_cmp x (assignments_of_hits hits) ≡ take i (assignments_of_hits hits) ++ x ∷ drop i (assignments_of_hits hits)
+unfolding assignment_cmp
 found_free x hits i r up is range result =
     between x hits i (subst (λ q. IsSearchInRange q (length hits)) is range)
-    (subst (IsBinarySearchResult (λ y. spot_cmp (spot_of y) x.spot) hits) is result (searchable_from_sorted spot_total spot_of hits x.spot (sorted hits up)))
+    (subst (IsBinarySearchResult (λ y. position_cmp (position_of y) x.position) hits) is result (searchable_from_sorted position_total position_of hits x.position (sorted hits up)))
 
 -- ---- full lists
 
 -- a hit above the last is above all
-all_below : (x : Found) (hits : List Hit) (n : ℕ) (h : Hit) → suc n ≡ length hits → h ≡ get_or hits n h → Ascends found_cmp (founds hits) → found_cmp (found_of_hit h) x ≡ Less
-    → AllByRecursion (λ y. found_cmp y x ≡ Less) (founds hits)
+all_below : (x : Assignment) (hits : List Hit) (n : ℕ) (h : Hit) → suc n ≡ length hits → h ≡ get_or hits n h → Ascends assignment_cmp (assignments_of_hits hits) → assignment_cmp (assignment_of_hit h) x ≡ Less
+    → AllByRecursion (λ y. assignment_cmp y x ≡ Less) (assignments_of_hits hits)
 unfolding Ascends
 all_below x [] n h size at up less = absurd (omega (arith, size))
-all_below x (g ∷ []) zero h size at up less = (subst (λ k. found_cmp (found_of_hit k) x ≡ Less) at less, tt)
+all_below x (g ∷ []) zero h size at up less = (subst (λ k. assignment_cmp (assignment_of_hit k) x ≡ Less) at less, tt)
 all_below x (g ∷ []) (suc n) h size at up less = absurd (omega (arith, size))
 all_below x (g ∷ f ∷ hits) zero h size at up less = absurd (omega (arith, size))
 all_below x (g ∷ f ∷ hits) (suc n) h size at up less =
     let rest = all_below x (f ∷ hits) n h (omega (arith, size)) at up.1 less in
-    (found_total.trans (found_of_hit g) (found_of_hit f) x up.0.0 rest.0, rest)
+    (assignment_total.trans (assignment_of_hit g) (assignment_of_hit f) x up.0.0 rest.0, rest)
 
-put_behind : (x : Found) (l : List Found) → AllByRecursion (λ y. found_cmp y x ≡ Less) l → put found_cmp x l ≡ l ++ x ∷ []
+put_behind : (x : Assignment) (l : List Assignment) → AllByRecursion (λ y. assignment_cmp y x ≡ Less) l → put assignment_cmp x l ≡ l ++ x ∷ []
 unfolding put
 put_behind x [] all = refl
-put_behind x (y ∷ ys) all = put_more found_cmp x y ys (flipped y x Less all.0) ∙ ap (λ l. y ∷ l) (put_behind x ys all.1)
+put_behind x (y ∷ ys) all = put_more assignment_cmp x y ys (flipped y x Less all.0) ∙ ap (λ l. y ∷ l) (put_behind x ys all.1)
 
-cut_behind : (x : Found) (l : List Found) (most : ℕ) → most ≡ length l → take most (l ++ x ∷ []) ≡ l
+cut_behind : (x : Assignment) (l : List Assignment) (most : ℕ) → most ≡ length l → take most (l ++ x ∷ []) ≡ l
 cut_behind x [] zero e = refl
 cut_behind x [] (suc most) e = absurd (omega (arith, e))
 cut_behind x (y ∷ l) zero e = absurd (omega (arith, e))
 cut_behind x (y ∷ l) (suc most) e = ap (λ r. y ∷ r) (cut_behind x l most (omega (arith, e)))
 
 -- a full list stays as it is where a hit comes behind its last
-pub full_stays : (x : Found) (hits : List Hit) (last : Hit) (most : ℕ) → IsLastOfFull last hits most → length hits ≤ most → Ascends found_cmp (founds hits) → found_cmp (found_of_hit last) x ≡ Less
-    → take most (put found_cmp x (founds hits)) ≡ founds hits
+pub full_stays : (x : Assignment) (hits : List Hit) (last : Hit) (most : ℕ) → IsLastOfFull last hits most → length hits ≤ most → Ascends assignment_cmp (assignments_of_hits hits) → assignment_cmp (assignment_of_hit last) x ≡ Less
+    → take most (put assignment_cmp x (assignments_of_hits hits)) ≡ assignments_of_hits hits
 full_stays x hits last most full le up less =
-    let size : most ≡ length (founds hits) = omega (arith, full.full, le, founds_length hits) in
-    ap (take most) (put_behind x (founds hits) (all_below x hits full.index last full.end full.is up less)) ∙ cut_behind x (founds hits) most size
+    let size : most ≡ length (assignments_of_hits hits) = omega (arith, full.full, le, founds_length hits) in
+    ap (take most) (put_behind x (assignments_of_hits hits) (all_below x hits full.index last full.end full.is up less)) ∙ cut_behind x (assignments_of_hits hits) most size
 
 -- the same, of a list as contracts see it
-pub full_page : (x : Found) (hits seen : List Hit) (last : Hit) (most : ℕ) (page : Page) → seen ≡ hits → record { hits = founds hits; most = most } ≡ page → length hits ≤ most → IsLastOfFull last seen most
-    → Ascends found_cmp page.hits → found_cmp (found_of_hit last) x ≡ Less → take page.most (put found_cmp x page.hits) ≡ page.hits
+pub full_page : (x : Assignment) (hits seen : List Hit) (last : Hit) (most : ℕ) (page : Page) → seen ≡ hits → record { hits = assignments_of_hits hits; most = most } ≡ page → length hits ≤ most → IsLastOfFull last seen most
+    → Ascends assignment_cmp page.hits → assignment_cmp (assignment_of_hit last) x ≡ Less → take page.most (put assignment_cmp x page.hits) ≡ page.hits
 full_page x hits seen last most page same view le full up less =
-    let shown : founds hits ≡ page.hits = ap (λ (p : Page). p.hits) view in
-    subst (λ (p : Page). take p.most (put found_cmp x p.hits) ≡ p.hits) view
-    (full_stays x hits last most (subst (λ l. IsLastOfFull last l most) same full) le (subst (Ascends found_cmp) (sym shown) up) less)
+    let shown : assignments_of_hits hits ≡ page.hits = ap (λ (p : Page). p.hits) view in
+    subst (λ (p : Page). take p.most (put assignment_cmp x p.hits) ≡ p.hits) view
+    (full_stays x hits last most (subst (λ l. IsLastOfFull last l most) same full) le (subst (Ascends assignment_cmp) (sym shown) up) less)
 
 -- ---- origins
 
@@ -124,8 +124,8 @@ earlier_first p q l m rest h =
     ] h
 
 -- positions whose origins differ are told apart by these
-pub origins_first : (a b : Origin) (x y : Spot) → is_lt (ordering_then (nat_cmp a.priority b.priority) (nat_cmp a.line b.line)) ≡ true → IsSpotOf a x → IsSpotOf b y → spot_cmp x y ≡ Less
-unfolding spot_cmp
+pub origins_first : (a b : Origin) (x y : Position) → is_lt (ordering_then (nat_cmp a.priority b.priority) (nat_cmp a.line b.line)) ≡ true → IsPositionOf a x → IsPositionOf b y → position_cmp x y ≡ Less
+unfolding position_cmp
 origins_first a b x y h ia ib =
     let rest = ordering_then (slice_cmp nat_cmp x.pattern y.pattern) (slice_cmp nat_cmp x.key y.key) in
     (λ i. ordering_then (nat_cmp (ia.0 i) (ib.0 i)) (ordering_then (nat_cmp (ia.1 i) (ib.1 i)) rest)) ∙ earlier_first a.priority b.priority a.line b.line rest h

@@ -10,28 +10,27 @@ use Rattle.std.specs.Cmp.{IsTotalOrder}
 use Rattle.std.specs.BTreeMap.{insert_entry}
 use Rattle.std.specs.FinMap as finite
 use Rattle.std.proofs.lemmas.Cmp.{nat_list_cmp_total, tied_itself}
-use Rattle.hwdb_query.specs.Lists.{put, put_all, Ascends}
-use Rattle.hwdb_layout.specs.Tree.{Tree}
-use Rattle.hwdb_query.specs.Answers.{Found, is_after, is_behind, answers, answers_after}
-use Rattle.hwdb_query.specs.Effective.{key_cmp, key_of_answer, has_key, value_or_none, last_value, effective_of}
-use Rattle.hwdb_query.specs.Pairs.{put_values}
+use Rattle.hwdb_spec.specs.Assignment.{put, put_all, Ascends, Assignment}
+use Rattle.hwdb_spec.specs.Tree.{Tree, answers, answers_after}
+use Rattle.hwdb_spec.specs.Answers.{is_after, is_behind, key_cmp, key_of_answer, has_key, value_or_none, last_value, effective_of}
+use Rattle.hwdb_query.specs.Internal.Pairs.{put_values}
 use Rattle.hwdb_query.proofs.Putting.{ascends_all, all_above}
 
 key_total : IsTotalOrder key_cmp
 key_total = nat_list_cmp_total
 
 -- the value of a key when one more answer has come
-abbrev after_one : Found → (List ℕ → List ℕ) → List ℕ → List ℕ
-after_one f g key = if is_eq (key_cmp key f.spot.key) then f.value else g key
+abbrev after_one : Assignment → (List ℕ → List ℕ) → List ℕ → List ℕ
+after_one f g key = if is_eq (key_cmp key f.position.key) then f.value else g key
 
 abbrev listed : (List ℕ → List ℕ) → List (List ℕ) → List (List ℕ × List ℕ)
 listed g keys = map (λ key. (key, g key)) keys
 
-last_value_one : (xs : List Found) (f : Found) (key : List ℕ) → last_value (xs ++ f ∷ []) key ≡ after_one f (last_value xs) key
+last_value_one : (xs : List Assignment) (f : Assignment) (key : List ℕ) → last_value (xs ++ f ∷ []) key ≡ after_one f (last_value xs) key
 unfolding last_value
 last_value_one xs f key =
     ap (λ l. value_or_none (find (has_key key) l)) (reverse-append xs (f ∷ []))
-    ∙ elim (is_eq (key_cmp key f.spot.key)) as (λ b. value_or_none (cond b (Some f) (find (has_key key) (reverse xs))) ≡ (if b then f.value else value_or_none (find (has_key key) (reverse xs)))) [
+    ∙ elim (is_eq (key_cmp key f.position.key)) as (λ b. value_or_none (cond b (Some f) (find (has_key key) (reverse xs))) ≡ (if b then f.value else value_or_none (find (has_key key) (reverse xs)))) [
       | true ↦ refl
       | false ↦ refl
     ]
@@ -44,10 +43,10 @@ equal_flipped : (a b : List ℕ) (o : Ordering) → key_cmp a b ≡ o → key_cm
 equal_flipped a b o e = key_total.antisymm b a ∙ ap ordering_reverse e
 
 -- keys above the new answer's keep their values
-above_alike : (f : Found) (g : List ℕ → List ℕ) (keys : List (List ℕ)) → AllByRecursion (λ k. key_cmp f.spot.key k ≡ Less) keys → listed (after_one f g) keys ≡ listed g keys
+above_alike : (f : Assignment) (g : List ℕ → List ℕ) (keys : List (List ℕ)) → AllByRecursion (λ k. key_cmp f.position.key k ≡ Less) keys → listed (after_one f g) keys ≡ listed g keys
 above_alike f g [] all = refl
 above_alike f g (k ∷ keys) all =
-    ap (λ o. (k, (if is_eq o then f.value else g k)) ∷ listed (after_one f g) keys) (equal_flipped f.spot.key k Less all.0)
+    ap (λ o. (k, (if is_eq o then f.value else g k)) ∷ listed (after_one f g) keys) (equal_flipped f.position.key k Less all.0)
     ∙ ap (λ l. (k, g k) ∷ l) (above_alike f g keys all.1)
 
 -- whether two keys are equal doesn't ask for their order
@@ -63,12 +62,12 @@ same_key : (a b : List ℕ) → key_cmp a b ≡ Equal → a ≡ b
 same_key a b e = finite.slice_cmp-IsAntisymmetric finite.nat_cmp-IsAntisymmetric a b e
 
 -- one more answer is put at its key
-put_listed : (f : Found) (g : List ℕ → List ℕ) (keys : List (List ℕ)) → Ascends key_cmp keys
-    → listed (after_one f g) (put key_cmp f.spot.key keys) ≡ insert_entry key_cmp (listed g keys) f.spot.key f.value
+put_listed : (f : Assignment) (g : List ℕ → List ℕ) (keys : List (List ℕ)) → Ascends key_cmp keys
+    → listed (after_one f g) (put key_cmp f.position.key keys) ≡ insert_entry key_cmp (listed g keys) f.position.key f.value
 unfolding put Ascends
-put_listed f g [] up = ap (λ o. (f.spot.key, (if is_eq o then f.value else g f.spot.key)) ∷ []) (tied_itself key_total f.spot.key)
+put_listed f g [] up = ap (λ o. (f.position.key, (if is_eq o then f.value else g f.position.key)) ∷ []) (tied_itself key_total f.position.key)
 put_listed f g (k ∷ keys) up =
-    let key = f.spot.key in
+    let key = f.position.key in
     let again : listed (after_one f g) (put key_cmp key keys) ≡ insert_entry key_cmp (listed g keys) key f.value = put_listed f g keys up.1 in
     let above : (x : List ℕ) → key_cmp key k ≡ Less → AllByRecursion (λ y. key_cmp key y ≡ Less) keys = λ x e. all_above key_cmp key_total key k keys e up.0 in
     elim (key_cmp key k) as (λ o. key_cmp key k ≡ o → listed (after_one f g) (match_ordering o (key ∷ k ∷ keys) (k ∷ keys) (k ∷ put key_cmp key keys))
@@ -89,7 +88,7 @@ unfolding put_all
 put_all_append [] ys l = refl
 put_all_append (x ∷ xs) ys l = put_all_append xs ys (put key_cmp x l)
 
-map_append : (xs ys : List Found) → map key_of_answer (xs ++ ys) ≡ map key_of_answer xs ++ map key_of_answer ys
+map_append : (xs ys : List Assignment) → map key_of_answer (xs ++ ys) ≡ map key_of_answer xs ++ map key_of_answer ys
 map_append [] ys = refl
 map_append (x ∷ xs) ys = ap (λ l. key_of_answer x ∷ l) (map_append xs ys)
 
@@ -98,17 +97,17 @@ unfolding Ascends
 none_ascends = tt
 
 -- one more answer
-pub effective_one : (xs : List Found) (f : Found) → effective_of (xs ++ f ∷ []) ≡ insert_entry key_cmp (effective_of xs) f.spot.key f.value
+pub effective_one : (xs : List Assignment) (f : Assignment) → effective_of (xs ++ f ∷ []) ≡ insert_entry key_cmp (effective_of xs) f.position.key f.value
 unfolding effective_of put_all
 effective_one xs f =
     let keys = put_all key_cmp (map key_of_answer xs) [] in
-    let all : put_all key_cmp (map key_of_answer (xs ++ f ∷ [])) [] ≡ put key_cmp f.spot.key keys =
-    ap (λ l. put_all key_cmp l []) (map_append xs (f ∷ [])) ∙ put_all_append (map key_of_answer xs) (f.spot.key ∷ []) [] in
+    let all : put_all key_cmp (map key_of_answer (xs ++ f ∷ [])) [] ≡ put key_cmp f.position.key keys =
+    ap (λ l. put_all key_cmp l []) (map_append xs (f ∷ [])) ∙ put_all_append (map key_of_answer xs) (f.position.key ∷ []) [] in
     ap (listed (last_value (xs ++ f ∷ []))) all
-    ∙ listed_alike (last_value (xs ++ f ∷ [])) (after_one f (last_value xs)) (put key_cmp f.spot.key keys) (last_value_one xs f)
+    ∙ listed_alike (last_value (xs ++ f ∷ [])) (after_one f (last_value xs)) (put key_cmp f.position.key keys) (last_value_one xs f)
     ∙ put_listed f (last_value xs) keys (ascends_all key_cmp key_total (map key_of_answer xs) [] none_ascends)
 
-effective_more : (xs ys : List Found) → put_values (effective_of xs) ys ≡ effective_of (xs ++ ys)
+effective_more : (xs ys : List Assignment) → put_values (effective_of xs) ys ≡ effective_of (xs ++ ys)
 unfolding put_values
 effective_more xs [] = ap effective_of (sym (append-nil xs))
 effective_more xs (f ∷ ys) =
@@ -119,10 +118,10 @@ unfolding effective_of put_all
 none_effective = refl
 
 -- the answers, put one after another
-pub all_put : (xs : List Found) → put_values [] xs ≡ effective_of xs
+pub all_put : (xs : List Assignment) → put_values [] xs ≡ effective_of xs
 all_put xs = ap (λ l. put_values l xs) (sym none_effective) ∙ effective_more [] xs
 
-all_behind : (fs : List Found) → filter (is_behind None) fs ≡ fs
+all_behind : (fs : List Assignment) → filter (is_behind None) fs ≡ fs
 unfolding is_after
 all_behind [] = refl
 all_behind (f ∷ fs) = ap (λ l. f ∷ l) (all_behind fs)

@@ -9,19 +9,15 @@ use Rattle.std.specs.declared.cmp.Ordering.{Ordering}
 use Rattle.std.specs.declared.cmp.Ordering.TheVariants.{Less, Equal, Greater}
 use Rattle.std.proofs.lemmas.Cmp.{tied_itself}
 use Rattle.std.proofs.lemmas.List.{reverse-append}
-use Rattle.hwdb_text.specs.Assignments.{Assigned}
-use Rattle.hwdb_pattern.specs.Patterns.{tokens, MatchesIsTested}
-use Rattle.hwdb_layout.specs.Tree.{Tree}
-use Rattle.hwdb_layout.specs.Map.{IsTree, place_cmp, map_of, Assigned as Stored}
-use Rattle.hwdb_query.specs.Lists.{in_order, Ascends}
-use Rattle.hwdb_query.specs.Answers.{Spot, Found, spot_cmp, found_cmp, is_wanted, is_behind, answers, answers_after}
-use Rattle.hwdb_query.specs.Assigned.{Among, assigned_of}
-use Rattle.hwdb_query.specs.Compiling.{entry_of, surviving}
-use Rattle.hwdb_query.specs.Headline.{is_same_place, last_of_each, answer_of, last_matching, last_assignments}
+use Rattle.hwdb_spec.specs.Assignment.{Assignment, in_order, Ascends, Position, position_cmp, assignment_cmp}
+use Rattle.hwdb_spec.specs.Patterns.{tokens}
+use Rattle.hwdb_pattern.specs.Laws.{MatchesIsTested}
+use Rattle.hwdb_spec.specs.Tree.{Tree, IsTree, place_cmp, map_of, Assigned as Stored, answers, answers_after, entry_of, surviving}
+use Rattle.hwdb_spec.specs.Answers.{is_wanted, is_behind, is_same_place, last_of_each, last_matching, last_assignments}
+use Rattle.hwdb_query.specs.Laws.{Among, assigned_of}
 use Rattle.hwdb_query.proofs.Putting.{ascends_all}
-use Rattle.hwdb_query.proofs.Latest.{same_place}
-use Rattle.hwdb_query.proofs.Orders.{found_total}
-use Rattle.hwdb_query.proofs.Members.{all_sound, all_has, filter_sound, filter_complete, none_ascends, in_none, then_equal, same_text, place_total, are_answers}
+use Rattle.hwdb_query.proofs.Orders.{assignment_total}
+use Rattle.hwdb_query.proofs.Members.{all_sound, all_has, filter_sound, filter_complete, none_ascends, in_none, then_equal, same_text, place_total, same_place, are_answers}
 
 -- the first of two that there is
 abbrev first_some : Option Stored → Option Stored → Option Stored
@@ -29,21 +25,21 @@ first_some None other = other
 first_some (Some s) other = Some s
 
 -- what an assignment puts at a place
-abbrev put_there : List ℕ × List ℕ → Assigned → Option Stored
+abbrev put_there : List ℕ × List ℕ → Assignment → Option Stored
 put_there p a = cond (eq_by_cmp place_cmp p (entry_of a).0) (Some (entry_of a).1) None
 
 -- what the last of some assignments at a place puts there
-last_at : List ℕ × List ℕ → List Assigned → Option Stored
+last_at : List ℕ × List ℕ → List Assignment → Option Stored
 last_at p [] = None
 last_at p (a ∷ more) = first_some (last_at p more) (put_there p a)
 
-abbrev place_of : Found → List ℕ × List ℕ
-place_of f = (f.spot.pattern, f.spot.key)
+abbrev place_of : Assignment → List ℕ × List ℕ
+place_of f = (f.position.pattern, f.position.key)
 
 abbrev Entry : Type 0
 Entry = (List ℕ × List ℕ) × Stored
 
-map_push : (xs : List Assigned) (a : Assigned) → map entry_of (xs ++ a ∷ []) ≡ map entry_of xs ++ entry_of a ∷ []
+map_push : (xs : List Assignment) (a : Assignment) → map entry_of (xs ++ a ∷ []) ≡ map entry_of xs ++ entry_of a ∷ []
 map_push [] a = refl
 map_push (x ∷ xs) a = ap (λ l. entry_of x ∷ l) (map_push xs a)
 
@@ -58,7 +54,7 @@ find_push p (x ∷ es) e =
       | false ↦ again
     ]
 
-found_last : (p : List ℕ × List ℕ) (all : List Assigned) → finite.find place_cmp p (map entry_of (reverse all)) ≡ last_at p all
+found_last : (p : List ℕ × List ℕ) (all : List Assignment) → finite.find place_cmp p (map entry_of (reverse all)) ≡ last_at p all
 unfolding last_at
 found_last p [] = refl
 found_last p (a ∷ more) =
@@ -68,7 +64,7 @@ found_last p (a ∷ more) =
     ∙ ap (λ o. first_some o (put_there p a)) (found_last p more)
 
 -- the map has at each place what the last assignment puts there
-survives : (p : List ℕ × List ℕ) (all : List Assigned) → finite.get (surviving all) p ≡ last_at p all
+survives : (p : List ℕ × List ℕ) (all : List Assignment) → finite.get (surviving all) p ≡ last_at p all
 survives p all = finite.get-from_entries place_total (map entry_of (reverse all)) p ∙ found_last p all
 
 both_equal : (o q : Ordering) → (if is_eq o then is_eq q else false) ≡ is_eq (ordering_then o q)
@@ -84,11 +80,11 @@ one_there (Some t) s true = refl
 one_there (Some t) s false = refl
 
 -- an assignment is followed where the last one at its place is another
-is_followed : (a : Assigned) (more : List Assigned) → list_any (is_same_place a) more ≡ is_some (last_at (entry_of a).0 more)
+is_followed : (a : Assignment) (more : List Assignment) → list_any (is_same_place a) more ≡ is_some (last_at (entry_of a).0 more)
 unfolding last_at
 is_followed a [] = refl
 is_followed a (b ∷ more) =
-    ap (λ x. x || list_any (is_same_place a) more) (both_equal (slice_cmp nat_cmp a.pattern b.pattern) (slice_cmp nat_cmp a.key b.key))
+    ap (λ x. x || list_any (is_same_place a) more) (both_equal (slice_cmp nat_cmp a.position.pattern b.position.pattern) (slice_cmp nat_cmp a.position.key b.position.key))
     ∙ ap (λ x. eq_by_cmp place_cmp (entry_of a).0 (entry_of b).0 || x) (is_followed a more)
     ∙ one_there (last_at (entry_of a).0 more) (entry_of b).1 (eq_by_cmp place_cmp (entry_of a).0 (entry_of b).0)
 
@@ -96,17 +92,17 @@ no_some : (o : Option Stored) → is_some o ≡ false → o ≡ None
 no_some None h = refl
 no_some (Some s) h = cc
 
-last_sound : (f : Found) (all : List Assigned) → Among f (map answer_of (last_of_each all)) → last_at (place_of f) all ≡ Some (assigned_of f)
+last_sound : (f : Assignment) (all : List Assignment) → Among f (last_of_each all) → last_at (place_of f) all ≡ Some (assigned_of f)
 unfolding Among last_of_each last_at
 last_sound f [] m = absurd m
 last_sound f (a ∷ more) m =
-    let again : Among f (map answer_of (last_of_each more)) → last_at (place_of f) (a ∷ more) ≡ Some (assigned_of f) =
+    let again : Among f (last_of_each more) → last_at (place_of f) (a ∷ more) ≡ Some (assigned_of f) =
     λ k. ap (λ o. first_some o (put_there (place_of f) a)) (last_sound f more k) in
-    elim (list_any (is_same_place a) more) as (λ b. list_any (is_same_place a) more ≡ b → Among f (map answer_of (if b then last_of_each more else a ∷ last_of_each more))
+    elim (list_any (is_same_place a) more) as (λ b. list_any (is_same_place a) more ≡ b → Among f (if b then last_of_each more else a ∷ last_of_each more)
     → last_at (place_of f) (a ∷ more) ≡ Some (assigned_of f)) [
       | true ↦ λ e k. again k
       | false ↦ λ e k. elim k [
-        | inl is ↦ subst (λ (g : Found). last_at (place_of g) (a ∷ more) ≡ Some (assigned_of g)) is
+        | inl is ↦ subst (λ (g : Assignment). last_at (place_of g) (a ∷ more) ≡ Some (assigned_of g)) is
             (let none : last_at (entry_of a).0 more ≡ None = no_some _ (sym (is_followed a more) ∙ e) in
             ap (λ o. first_some o (put_there (entry_of a).0 a)) none
             ∙ ap (λ o. cond (is_eq o) (Some (entry_of a).1) None) (tied_itself place_total (entry_of a).0))
@@ -114,88 +110,88 @@ last_sound f (a ∷ more) m =
       ]
     ] refl m
 
-answer_is : (a : Assigned) (f : Found) → (entry_of a).0 ≡ place_of f → (entry_of a).1 ≡ assigned_of f → answer_of a ≡ f
-answer_is a f p v = λ i. record { spot = record { priority = (v i).priority; line = (v i).line; pattern = (p i).0; key = (p i).1 }; value = (v i).value; path = (v i).path }
+answer_is : (a : Assignment) (f : Assignment) → (entry_of a).0 ≡ place_of f → (entry_of a).1 ≡ assigned_of f → a ≡ f
+answer_is a f p v = λ i. record { position = record { priority = (v i).priority; line = (v i).line; pattern = (p i).0; key = (p i).1 }; value = (v i).value; path = (v i).path }
 
 -- the assignment is kept, where it's the last at its place
-kept_last : (f : Found) (a : Assigned) (more : List Assigned) → last_at (place_of f) more ≡ None → put_there (place_of f) a ≡ Some (assigned_of f)
-    → Among f (map answer_of (last_of_each (a ∷ more)))
+kept_last : (f : Assignment) (a : Assignment) (more : List Assignment) → last_at (place_of f) more ≡ None → put_there (place_of f) a ≡ Some (assigned_of f)
+    → Among f (last_of_each (a ∷ more))
 unfolding Among last_of_each
 kept_last f a more none put =
     elim (eq_by_cmp place_cmp (place_of f) (entry_of a).0) as (λ b. eq_by_cmp place_cmp (place_of f) (entry_of a).0 ≡ b → cond b (Some (entry_of a).1) None ≡ Some (assigned_of f)
-    → Among f (map answer_of (last_of_each (a ∷ more)))) [
+    → Among f (last_of_each (a ∷ more))) [
       | true ↦ λ e k.
           let at : (entry_of a).0 ≡ place_of f = sym (same_place (place_of f) (entry_of a).0 e) in
           let value : (entry_of a).1 ≡ assigned_of f = cc in
           let alone : list_any (is_same_place a) more ≡ false = is_followed a more ∙ ap (λ p. is_some (last_at p more)) at ∙ ap is_some none in
-          subst (λ b. Among f (map answer_of (if b then last_of_each more else a ∷ last_of_each more))) (sym alone) (inl (answer_is a f at value))
+          subst (λ b. Among f (if b then last_of_each more else a ∷ last_of_each more)) (sym alone) (inl (answer_is a f at value))
       | false ↦ λ e k. cc
     ] refl put
 
-kept_behind : (f : Found) (a : Assigned) (more : List Assigned) → Among f (map answer_of (last_of_each more)) → Among f (map answer_of (last_of_each (a ∷ more)))
+kept_behind : (f : Assignment) (a : Assignment) (more : List Assignment) → Among f (last_of_each more) → Among f (last_of_each (a ∷ more))
 unfolding Among last_of_each
 kept_behind f a more m =
-    elim (list_any (is_same_place a) more) as (λ b. Among f (map answer_of (if b then last_of_each more else a ∷ last_of_each more))) [ true ↦ m | false ↦ inr m ]
+    elim (list_any (is_same_place a) more) as (λ b. Among f (if b then last_of_each more else a ∷ last_of_each more)) [ true ↦ m | false ↦ inr m ]
 
-last_complete : (f : Found) (all : List Assigned) → last_at (place_of f) all ≡ Some (assigned_of f) → Among f (map answer_of (last_of_each all))
+last_complete : (f : Assignment) (all : List Assignment) → last_at (place_of f) all ≡ Some (assigned_of f) → Among f (last_of_each all)
 unfolding last_at
 last_complete f [] h = cc
 last_complete f (a ∷ more) h =
-    let again : last_at (place_of f) more ≡ Some (assigned_of f) → Among f (map answer_of (last_of_each more)) = last_complete f more in
-    elim (last_at (place_of f) more) as (λ o. last_at (place_of f) more ≡ o → first_some o (put_there (place_of f) a) ≡ Some (assigned_of f) → Among f (map answer_of (last_of_each (a ∷ more)))) [
+    let again : last_at (place_of f) more ≡ Some (assigned_of f) → Among f (last_of_each more) = last_complete f more in
+    elim (last_at (place_of f) more) as (λ o. last_at (place_of f) more ≡ o → first_some o (put_there (place_of f) a) ≡ Some (assigned_of f) → Among f (last_of_each (a ∷ more))) [
       | None ↦ λ e k. kept_last f a more e k
       | Some s ↦ λ e k. kept_behind f a more (again (e ∙ k))
     ] refl h
 
 -- two answers at one position have one value
-same_answer : (x y : Found) (all : List Assigned) → last_at (place_of x) all ≡ Some (assigned_of x) → last_at (place_of y) all ≡ Some (assigned_of y) → found_cmp x y ≡ Equal → x ≡ y
-unfolding found_cmp spot_cmp
+same_answer : (x y : Assignment) (all : List Assignment) → last_at (place_of x) all ≡ Some (assigned_of x) → last_at (place_of y) all ≡ Some (assigned_of y) → assignment_cmp x y ≡ Equal → x ≡ y
+unfolding assignment_cmp position_cmp
 same_answer x y all hx hy h =
-    let a = then_equal (nat_cmp x.spot.priority y.spot.priority) _ h in
-    let b = then_equal (nat_cmp x.spot.line y.spot.line) _ a.1 in
-    let c = then_equal (slice_cmp nat_cmp x.spot.pattern y.spot.pattern) (slice_cmp nat_cmp x.spot.key y.spot.key) b.1 in
-    let pe : x.spot.pattern ≡ y.spot.pattern = same_text x.spot.pattern y.spot.pattern c.0 in
-    let ke : x.spot.key ≡ y.spot.key = same_text x.spot.key y.spot.key c.1 in
+    let a = then_equal (nat_cmp x.position.priority y.position.priority) _ h in
+    let b = then_equal (nat_cmp x.position.line y.position.line) _ a.1 in
+    let c = then_equal (slice_cmp nat_cmp x.position.pattern y.position.pattern) (slice_cmp nat_cmp x.position.key y.position.key) b.1 in
+    let pe : x.position.pattern ≡ y.position.pattern = same_text x.position.pattern y.position.pattern c.0 in
+    let ke : x.position.key ≡ y.position.key = same_text x.position.key y.position.key c.1 in
     let s : Some (assigned_of x) ≡ Some (assigned_of y) =
-    sym hx ∙ ap (λ p. last_at (p, x.spot.key) all) pe ∙ ap (λ k. last_at (y.spot.pattern, k) all) ke ∙ hy in
+    sym hx ∙ ap (λ p. last_at (p, x.position.key) all) pe ∙ ap (λ k. last_at (y.position.pattern, k) all) ke ∙ hy in
     let v : assigned_of x ≡ assigned_of y = cc in
-    λ i. record { spot = record { priority = (v i).priority; line = (v i).line; pattern = pe i; key = ke i }; value = (v i).value; path = (v i).path }
+    λ i. record { position = record { priority = (v i).priority; line = (v i).line; pattern = pe i; key = ke i }; value = (v i).value; path = (v i).path }
 
-among_all : (P : Found → Type 0) (f : Found) (xs : List Found) → AllByRecursion P xs → Among f xs → P f
+among_all : (P : Assignment → Type 0) (f : Assignment) (xs : List Assignment) → AllByRecursion P xs → Among f xs → P f
 unfolding Among
 among_all P f [] all m = absurd m
 among_all P f (x ∷ xs) all m = elim m [ inl is ↦ subst P is all.0 | inr r ↦ among_all P f xs all.1 r ]
 
-never_less : (x y : Found) → found_cmp x y ≡ Less → x ≡ y → ⊥
+never_less : (x y : Assignment) → assignment_cmp x y ≡ Less → x ≡ y → ⊥
 never_less x y less is =
-    let no : Equal ≡ Less = sym (tied_itself found_total x) ∙ ap (found_cmp x) is ∙ less in absurd (cc)
+    let no : Equal ≡ Less = sym (tied_itself assignment_total x) ∙ ap (assignment_cmp x) is ∙ less in absurd (cc)
 
-crossed : (x y : Found) → found_cmp x y ≡ Less → found_cmp y x ≡ Less → ⊥
-crossed x y a b = never_less x x (found_total.trans x y x a b) refl
+crossed : (x y : Assignment) → assignment_cmp x y ≡ Less → assignment_cmp y x ≡ Less → ⊥
+crossed x y a b = never_less x x (assignment_total.trans x y x a b) refl
 
 -- two ascending lists with the same members have the same first one
-same_first : (x y : Found) (xs ys : List Found) → Ascends found_cmp (x ∷ xs) → Ascends found_cmp (y ∷ ys) → Among x (y ∷ ys) → Among y (x ∷ xs) → x ≡ y
+same_first : (x y : Assignment) (xs ys : List Assignment) → Ascends assignment_cmp (x ∷ xs) → Ascends assignment_cmp (y ∷ ys) → Among x (y ∷ ys) → Among y (x ∷ xs) → x ≡ y
 unfolding Ascends Among
 same_first x y xs ys up vp mx my =
     elim mx [
       | inl is ↦ sym is
       | inr r ↦ elim my [
         | inl is ↦ is
-        | inr q ↦ absurd (crossed x y (among_all (λ z. found_cmp x z ≡ Less) y xs up.0 q) (among_all (λ z. found_cmp y z ≡ Less) x ys vp.0 r))
+        | inr q ↦ absurd (crossed x y (among_all (λ z. assignment_cmp x z ≡ Less) y xs up.0 q) (among_all (λ z. assignment_cmp y z ≡ Less) x ys vp.0 r))
       ]
     ]
 
 -- what stands behind the first is no first one
-behind_first : (x y f : Found) (xs ys : List Found) → Ascends found_cmp (x ∷ xs) → x ≡ y → Among f xs → Among f (y ∷ ys) → Among f ys
+behind_first : (x y f : Assignment) (xs ys : List Assignment) → Ascends assignment_cmp (x ∷ xs) → x ≡ y → Among f xs → Among f (y ∷ ys) → Among f ys
 unfolding Ascends Among
 behind_first x y f xs ys up is m k =
     elim k [
-      | inl e ↦ absurd (never_less x f (among_all (λ z. found_cmp x z ≡ Less) f xs up.0 m) (is ∙ e))
+      | inl e ↦ absurd (never_less x f (among_all (λ z. assignment_cmp x z ≡ Less) f xs up.0 m) (is ∙ e))
       | inr r ↦ r
     ]
 
 -- two ascending lists with the same members are equal
-same_ascending : (xs ys : List Found) → Ascends found_cmp xs → Ascends found_cmp ys → ((f : Found) → Among f xs → Among f ys) → ((f : Found) → Among f ys → Among f xs) → xs ≡ ys
+same_ascending : (xs ys : List Assignment) → Ascends assignment_cmp xs → Ascends assignment_cmp ys → ((f : Assignment) → Among f xs → Among f ys) → ((f : Assignment) → Among f ys → Among f xs) → xs ≡ ys
 unfolding Ascends Among
 same_ascending [] [] up vp there back = refl
 same_ascending [] (y ∷ ys) up vp there back = absurd (back y (inl refl))
@@ -208,27 +204,27 @@ same_ascending (x ∷ xs) (y ∷ ys) up vp there back =
     λ i. is i ∷ rest i
 
 -- the answers in a tree with the map are the last assignments whose pattern matches
-same_answers : MatchesIsTested → (device : List ℕ) (t : Tree) (all : List Assigned) → IsTree t → map_of t ≡ surviving all → answers device t ≡ last_matching device all
+same_answers : MatchesIsTested → (device : List ℕ) (t : Tree) (all : List Assignment) → IsTree t → map_of t ≡ surviving all → answers device t ≡ last_matching device all
 unfolding last_matching
 same_answers tested device t all tree is =
     let A = are_answers tested device t tree in
-    let fs = map answer_of (last_of_each all) in
-    let w : Found → Bool = is_wanted device in
-    let at : (f : Found) → finite.get (map_of t) (place_of f) ≡ last_at (place_of f) all = λ f. ap (λ m. finite.get m (place_of f)) is ∙ survives (place_of f) all in
-    let single : (x y : Found) → Among x (filter w fs) → Among y (filter w fs) → found_cmp x y ≡ Equal → x ≡ y =
+    let fs = last_of_each all in
+    let w : Assignment → Bool = is_wanted device in
+    let at : (f : Assignment) → finite.get (map_of t) (place_of f) ≡ last_at (place_of f) all = λ f. ap (λ m. finite.get m (place_of f)) is ∙ survives (place_of f) all in
+    let single : (x y : Assignment) → Among x (filter w fs) → Among y (filter w fs) → assignment_cmp x y ≡ Equal → x ≡ y =
     λ x y mx my e. same_answer x y all (last_sound x all (filter_sound x w fs mx).0) (last_sound y all (filter_sound y w fs my).0) e in
-    same_ascending (answers device t) (in_order found_cmp (filter w fs)) A.ascends
-    (ascends_all found_cmp found_total (filter w fs) [] none_ascends)
+    same_ascending (answers device t) (in_order assignment_cmp (filter w fs)) A.ascends
+    (ascends_all assignment_cmp assignment_total (filter w fs) [] none_ascends)
     (λ f m.
     let s = A.sound f m in
-    let here : Among f (filter w fs) = filter_complete f w fs (last_complete f all (sym (at f) ∙ s.0)) ((tested (tokens f.spot.pattern) device).1 s.1) in
+    let here : Among f (filter w fs) = filter_complete f w fs (last_complete f all (sym (at f) ∙ s.0)) ((tested (tokens f.position.pattern) device).1 s.1) in
     all_has f (filter w fs) [] here (λ x y mx my e. absurd (in_none y my)) single)
     (λ f m. elim (all_sound f (filter w fs) [] m) [
-      | inl a ↦ (let s = filter_sound f w fs a in A.complete f (at f ∙ last_sound f all s.0) ((tested (tokens f.spot.pattern) device).0 s.1))
+      | inl a ↦ (let s = filter_sound f w fs a in A.complete f (at f ∙ last_sound f all s.0) ((tested (tokens f.position.pattern) device).0 s.1))
       | inr n ↦ absurd (in_none f n)
     ])
 
-pub last_are_answers : MatchesIsTested → (device : List ℕ) (after : Option Spot) (t : Tree) (all : List Assigned) → IsTree t → map_of t ≡ surviving all
+pub last_are_answers : MatchesIsTested → (device : List ℕ) (after : Option Position) (t : Tree) (all : List Assignment) → IsTree t → map_of t ≡ surviving all
     → answers_after device after t ≡ last_assignments device after all
 unfolding answers_after last_assignments
 last_are_answers tested device after t all tree is = ap (filter (is_behind after)) (same_answers tested device t all tree is)

@@ -11,14 +11,9 @@ pub mod Resuming
 pub mod Distinct
 pub mod Members
 pub mod Backwards
-pub mod Gathered
-pub mod Latest
 pub mod LastOnes
 pub mod Filled
 pub mod Computed
-pub mod Plain
-pub mod PlainPairs
-pub mod Accepting
 pub mod Keyed
 pub mod ByKey
 pub mod Numbers

@@ -1,74 +1,71 @@
 -- The assignments and live nodes of a tree, by the parts of its root.
 use Rattle.std.proofs.Common.{◌≡◌, ◌∙◌, ap, sym, refl, ℕ, zero, suc, ◌+◌, ◌≤◌, Bool, true, false, List, [], ◌∷◌, ◌++◌, take, drop, map, filter, length, arith, append_assoc, Option, Some, None, slice_get, option_map, if◌then◌else◌}
-use Rattle.std.specs.List.{flat_map}
+use Rattle.std.specs.Prelude.{flat_map}
 use Rattle.std.proofs.lemmas.Grind.{flat_map-append}
 use Rattle.std.proofs.lemmas.List.{append-nil}
 use Rattle.std.proofs.lemmas.List.Elements.{filter-append}
-use Rattle.hwdb_layout.specs.Tree.{Tree, Children, Value, prefix_of, values_of, children_of, list_of, node_count, nodes_below}
-use Rattle.hwdb_layout.specs.Tree.Tree.{Node}
-use Rattle.hwdb_layout.specs.Tree.Children.{NoMore, Child}
-use Rattle.hwdb_layout.specs.Map.{values_under, values_below}
-use Rattle.hwdb_layout.specs.Map.{Shown, shown}
-use Rattle.hwdb_query.specs.Answers.{one_found, found_shown, found_of, members_under, members_in, own_members, is_wanted}
-use Rattle.hwdb_pattern.specs.Paths.{is_live}
-use Rattle.hwdb_query.specs.Answers.{is_match}
-use Rattle.hwdb_query.specs.Live.{live_under, live_below, live_in, nodes_in}
+use Rattle.hwdb_spec.specs.Tree.{Tree, Children, Value, prefix_of, values_of, children_of, list_of, node_count, nodes_below, values_under, values_below, Shown, shown, one_assignment, assignment_shown, assignment_of, members_under, is_live, live_under, live_below}
+use Rattle.hwdb_spec.specs.Tree.Tree.{Node}
+use Rattle.hwdb_spec.specs.Tree.Children.{NoMore, Child}
+use Rattle.hwdb_query.specs.Internal.Members.{members_in, own_members}
+use Rattle.hwdb_spec.specs.Answers.{is_wanted, is_match}
+use Rattle.hwdb_query.specs.Internal.Live.{live_in, nodes_in}
 use Rattle.hwdb_query.proofs.Putting.{filter_in, filter_out}
 
-pub own_listed : (pattern : List ℕ) (values : List Value) → flat_map found_of (map (λ v. (pattern, v)) values) ≡ own_members pattern values
+pub own_listed : (pattern : List ℕ) (values : List Value) → flat_map assignment_of (map (λ v. (pattern, v)) values) ≡ own_members pattern values
 own_listed pattern [] = refl
-own_listed pattern (v ∷ values) = ap (λ r. found_shown pattern (shown v) ++ r) (own_listed pattern values)
+own_listed pattern (v ∷ values) = ap (λ r. assignment_shown pattern (shown v) ++ r) (own_listed pattern values)
 
-pub below_listed : (path : List ℕ) (ks : Children) → flat_map found_of (values_below path ks) ≡ members_in path (list_of ks)
+pub below_listed : (path : List ℕ) (ks : Children) → flat_map assignment_of (values_below path ks) ≡ members_in path (list_of ks)
 unfolding values_below list_of
 below_listed path NoMore = refl
 below_listed path (Child byte t more) =
-    flat_map-append found_of (values_under (path ++ byte ∷ []) t) (values_below path more)
+    flat_map-append assignment_of (values_under (path ++ byte ∷ []) t) (values_below path more)
     ∙ ap (λ r. members_under (path ++ byte ∷ []) t ++ r) (below_listed path more)
 
 pub members_split : (path : List ℕ) (t : Tree) → members_under path t ≡ own_members (path ++ prefix_of t) (values_of t) ++ members_in (path ++ prefix_of t) (children_of t)
 unfolding values_under prefix_of values_of children_of
 members_split path (Node prefix values children) =
-    flat_map-append found_of (map (λ v. (path ++ prefix, v)) values) (values_below (path ++ prefix) children)
-    ∙ ap (λ r. r ++ flat_map found_of (values_below (path ++ prefix) children)) (own_listed (path ++ prefix) values)
+    flat_map-append assignment_of (map (λ v. (path ++ prefix, v)) values) (values_below (path ++ prefix) children)
+    ∙ ap (λ r. r ++ flat_map assignment_of (values_below (path ++ prefix) children)) (own_listed (path ++ prefix) values)
     ∙ ap (λ r. own_members (path ++ prefix) values ++ r) (below_listed (path ++ prefix) children)
 
-one_wanted : (device pattern : List ℕ) (s : Shown) (o : Option (List ℕ)) → is_match device pattern ≡ true → filter (is_wanted device) (one_found pattern s o) ≡ one_found pattern s o
+one_wanted : (device pattern : List ℕ) (s : Shown) (o : Option (List ℕ)) → is_match device pattern ≡ true → filter (is_wanted device) (one_assignment pattern s o) ≡ one_assignment pattern s o
 one_wanted device pattern s None h = refl
 one_wanted device pattern s (Some key) h = filter_in (is_wanted device) _ [] h
 
-one_unwanted : (device pattern : List ℕ) (s : Shown) (o : Option (List ℕ)) → is_match device pattern ≡ false → filter (is_wanted device) (one_found pattern s o) ≡ []
+one_unwanted : (device pattern : List ℕ) (s : Shown) (o : Option (List ℕ)) → is_match device pattern ≡ false → filter (is_wanted device) (one_assignment pattern s o) ≡ []
 one_unwanted device pattern s None h = refl
 one_unwanted device pattern s (Some key) h = filter_out (is_wanted device) _ [] h
 
 pub own_wanted : (device pattern : List ℕ) (values : List Value) → is_match device pattern ≡ true → filter (is_wanted device) (own_members pattern values) ≡ own_members pattern values
-unfolding found_shown
+unfolding assignment_shown
 own_wanted device pattern [] h = refl
 own_wanted device pattern (v ∷ values) h =
-    filter-append (is_wanted device) (found_shown pattern (shown v)) (own_members pattern values)
+    filter-append (is_wanted device) (assignment_shown pattern (shown v)) (own_members pattern values)
     ∙ ap (λ r. r ++ filter (is_wanted device) (own_members pattern values)) (one_wanted device pattern (shown v) (shown v).key h)
-    ∙ ap (λ r. found_shown pattern (shown v) ++ r) (own_wanted device pattern values h)
+    ∙ ap (λ r. assignment_shown pattern (shown v) ++ r) (own_wanted device pattern values h)
 
 pub own_unwanted : (device pattern : List ℕ) (values : List Value) → is_match device pattern ≡ false → filter (is_wanted device) (own_members pattern values) ≡ []
-unfolding found_shown
+unfolding assignment_shown
 own_unwanted device pattern [] h = refl
 own_unwanted device pattern (v ∷ values) h =
-    filter-append (is_wanted device) (found_shown pattern (shown v)) (own_members pattern values)
+    filter-append (is_wanted device) (assignment_shown pattern (shown v)) (own_members pattern values)
     ∙ ap (λ r. r ++ filter (is_wanted device) (own_members pattern values)) (one_unwanted device pattern (shown v) (shown v).key h)
     ∙ own_unwanted device pattern values h
 
 -- the value at a place, and those behind it
 pub own_next : (pattern : List ℕ) (values : List Value) (i : ℕ) (s : Shown) → option_map shown (slice_get values i) ≡ Some s
-    → own_members pattern (drop i values) ≡ found_shown pattern s ++ own_members pattern (drop (suc i) values)
+    → own_members pattern (drop i values) ≡ assignment_shown pattern s ++ own_members pattern (drop (suc i) values)
 own_next pattern [] i s h = absurd (cc)
-own_next pattern (v ∷ values) zero s h = let e : shown v ≡ s = cc in ap (λ q. found_shown pattern q ++ own_members pattern values) e
+own_next pattern (v ∷ values) zero s h = let e : shown v ≡ s = cc in ap (λ q. assignment_shown pattern q ++ own_members pattern values) e
 own_next pattern (v ∷ values) (suc i) s h = own_next pattern values i s h
 
 -- what one value assigns, and what those behind it assign
 pub own_split : (pattern : List ℕ) (values : List Value) (i : ℕ) → own_members pattern (drop i values) ≡ own_members pattern (take 1 (drop i values)) ++ own_members pattern (drop (suc i) values)
 own_split pattern [] zero = refl
 own_split pattern [] (suc i) = refl
-own_split pattern (v ∷ values) zero = ap (λ r. r ++ own_members pattern values) (sym (append-nil (found_shown pattern (shown v))))
+own_split pattern (v ∷ values) zero = ap (λ r. r ++ own_members pattern values) (sym (append-nil (assignment_shown pattern (shown v))))
 own_split pattern (v ∷ values) (suc i) = own_split pattern values i
 
 -- what the first values assign, and what the one behind them assigns
@@ -77,12 +74,12 @@ own_taken pattern [] zero = refl
 own_taken pattern [] (suc i) = refl
 own_taken pattern (v ∷ values) zero = refl
 own_taken pattern (v ∷ values) (suc i) =
-    ap (λ r. found_shown pattern (shown v) ++ r) (own_taken pattern values i)
-    ∙ sym (append_assoc (found_shown pattern (shown v)) (own_members pattern (take i values)) (own_members pattern (take 1 (drop i values))))
+    ap (λ r. assignment_shown pattern (shown v) ++ r) (own_taken pattern values i)
+    ∙ sym (append_assoc (assignment_shown pattern (shown v)) (own_members pattern (take i values)) (own_members pattern (take 1 (drop i values))))
 
-pub own_one : (pattern : List ℕ) (values : List Value) (i : ℕ) (s : Shown) → option_map shown (slice_get values i) ≡ Some s → own_members pattern (take 1 (drop i values)) ≡ found_shown pattern s
+pub own_one : (pattern : List ℕ) (values : List Value) (i : ℕ) (s : Shown) → option_map shown (slice_get values i) ≡ Some s → own_members pattern (take 1 (drop i values)) ≡ assignment_shown pattern s
 own_one pattern [] i s h = absurd (cc)
-own_one pattern (v ∷ values) zero s h = let e : shown v ≡ s = cc in append-nil (found_shown pattern (shown v)) ∙ ap (found_shown pattern) e
+own_one pattern (v ∷ values) zero s h = let e : shown v ≡ s = cc in append-nil (assignment_shown pattern (shown v)) ∙ ap (assignment_shown pattern) e
 own_one pattern (v ∷ values) (suc i) s h = own_one pattern values i s h
 
 pub own_behind : (pattern : List ℕ) (values : List Value) (i : ℕ) → length values ≤ i → own_members pattern (drop i values) ≡ []

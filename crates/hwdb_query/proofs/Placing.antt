@@ -1,74 +1,23 @@
 -- The place of a hit among others.
-use Rattle.std.proofs.Common.{◌≡◌, ◌∙◌, ap, sym, refl, ℕ, zero, suc, ◌-◌, ◌≤◌, ◌<◌, List, [], ◌∷◌, ◌++◌, take, drop, reverse, length, get_or, arith, append_assoc}
-use Rattle.std.specs.declared.cmp.Ordering.{Ordering}
-use Rattle.std.specs.declared.cmp.Ordering.TheVariants.{Less, Equal, Greater}
-use Rattle.std.proofs.lemmas.List.{take-append-drop, drop_all, take_all}
+use Rattle.std.proofs.Common.{◌≡◌, ◌∙◌, ap, sym, refl, ℕ, zero, suc, ◌-◌, ◌≤◌, ◌<◌, List, [], ◌∷◌, ◌++◌, take, drop, reverse, length, arith}
 use mathlib.Core.List.{reverse_aux}
 use Rattle.hwdb_query.specs.declared.hit.Hit.{Hit}
-use Rattle.hwdb_query.specs.Answers.{Spot, Found, spot_cmp, found_cmp}
-use Rattle.hwdb_query.specs.Lists.{put}
-use Rattle.hwdb_query.specs.Hits.{found_of_hit, founds}
-use Rattle.hwdb_query.proofs.Putting.{put_less, put_same, put_more}
+use Rattle.hwdb_spec.specs.Assignment.{Assignment, assignment_cmp, put}
+use Rattle.hwdb_query.specs.Views.{assignment_of_hit, assignments_of_hits}
 
-pub compared : (x : Found) (a b : Spot) (h : Hit) (o : Ordering) → x.spot ≡ a → b ≡ (found_of_hit h).spot → o ≡ spot_cmp a b → found_cmp x (found_of_hit h) ≡ o
-unfolding found_cmp
-compared x a b h o xa bh is = ap (λ s. spot_cmp s (found_of_hit h).spot) xa ∙ ap (spot_cmp a) (sym bh) ∙ sym is
-
-pub founds_length : (hits : List Hit) → length (founds hits) ≡ length hits
+pub founds_length : (hits : List Hit) → length (assignments_of_hits hits) ≡ length hits
 founds_length [] = refl
 founds_length (h ∷ hits) = ap suc (founds_length hits)
 
-pub found_next : (hits : List Hit) (i : ℕ) (h : Hit) → i < length hits → h ≡ get_or hits i h → drop i (founds hits) ≡ found_of_hit h ∷ drop (suc i) (founds hits)
-found_next [] i h l e = absurd (omega arith)
-found_next (k ∷ hits) zero h l e = ap (λ f. found_of_hit f ∷ founds hits) (sym e)
-found_next (k ∷ hits) (suc i) h l e = found_next hits i h (omega arith) e
-
-pub found_more : (hits : List Hit) (i : ℕ) (h : Hit) → i < length hits → h ≡ get_or hits i h → take (suc i) (founds hits) ≡ take i (founds hits) ++ found_of_hit h ∷ []
-found_more [] i h l e = absurd (omega arith)
-found_more (k ∷ hits) zero h l e = ap (λ f. found_of_hit f ∷ []) (sym e)
-found_more (k ∷ hits) (suc i) h l e = ap (λ r. found_of_hit k ∷ r) (found_more hits i h (omega arith) e)
-
-pub less_here : (x : Found) (hits : List Hit) (i : ℕ) (h : Hit) → i < length hits → h ≡ get_or hits i h → found_cmp x (found_of_hit h) ≡ Less
-    → put found_cmp x (founds hits) ≡ take i (founds hits) ++ put found_cmp x (drop i (founds hits)) → put found_cmp x (founds hits) ≡ take i (founds hits) ++ x ∷ drop i (founds hits)
-less_here x hits i h l e o inv =
-    let d = found_next hits i h l e in
-    inv ∙ ap (λ r. take i (founds hits) ++ r) (ap (put found_cmp x) d ∙ put_less found_cmp x (found_of_hit h) _ o ∙ ap (λ r. x ∷ r) (sym d))
-
-pub same_here : (x : Found) (hits : List Hit) (i : ℕ) (h : Hit) → i < length hits → h ≡ get_or hits i h → found_cmp x (found_of_hit h) ≡ Equal
-    → put found_cmp x (founds hits) ≡ take i (founds hits) ++ put found_cmp x (drop i (founds hits)) → put found_cmp x (founds hits) ≡ founds hits
-same_here x hits i h l e o inv =
-    let d = found_next hits i h l e in
-    inv ∙ ap (λ r. take i (founds hits) ++ r) (ap (put found_cmp x) d ∙ put_same found_cmp x (found_of_hit h) _ o ∙ sym d) ∙ take-append-drop i (founds hits)
-
-pub more_here : (x : Found) (hits : List Hit) (i : ℕ) (h : Hit) → i < length hits → h ≡ get_or hits i h → found_cmp x (found_of_hit h) ≡ Greater
-    → put found_cmp x (founds hits) ≡ take i (founds hits) ++ put found_cmp x (drop i (founds hits))
-    → put found_cmp x (founds hits) ≡ take (suc i) (founds hits) ++ put found_cmp x (drop (suc i) (founds hits))
-more_here x hits i h l e o inv =
-    let d = found_next hits i h l e in
-    inv ∙ ap (λ r. take i (founds hits) ++ r) (ap (put found_cmp x) d ∙ put_more found_cmp x (found_of_hit h) _ o)
-    ∙ sym (append_assoc (take i (founds hits)) (found_of_hit h ∷ []) (put found_cmp x (drop (suc i) (founds hits))))
-    ∙ ap (λ r. r ++ put found_cmp x (drop (suc i) (founds hits))) (sym (found_more hits i h l e))
-
-pub none_here : (x : Found) (hits : List Hit) (i : ℕ) → length hits ≤ i
-    → put found_cmp x (founds hits) ≡ take i (founds hits) ++ put found_cmp x (drop i (founds hits)) → put found_cmp x (founds hits) ≡ take (length hits) (founds hits) ++ x ∷ drop (length hits) (founds hits)
-unfolding put
-none_here x hits i l inv =
-    let n = founds_length hits in
-    let long : length (founds hits) ≤ i = omega (arith, n) in
-    let fits : length (founds hits) ≤ length hits = omega (arith, n) in
-    inv ∙ ap (λ r. take i (founds hits) ++ put found_cmp x r) (drop_all i (founds hits) long)
-    ∙ ap (λ r. r ++ x ∷ []) (take_all i (founds hits) long ∙ sym (take_all (length hits) (founds hits) fits))
-    ∙ ap (λ r. take (length hits) (founds hits) ++ x ∷ r) (sym (drop_all (length hits) (founds hits) fits))
-
-pub founds_take : (n : ℕ) (hits : List Hit) → founds (take n hits) ≡ take n (founds hits)
+pub founds_take : (n : ℕ) (hits : List Hit) → assignments_of_hits (take n hits) ≡ take n (assignments_of_hits hits)
 founds_take zero hits = refl
 founds_take (suc n) [] = refl
-founds_take (suc n) (h ∷ hits) = ap (λ r. found_of_hit h ∷ r) (founds_take n hits)
+founds_take (suc n) (h ∷ hits) = ap (λ r. assignment_of_hit h ∷ r) (founds_take n hits)
 
-pub founds_put : (i : ℕ) (h : Hit) (hits : List Hit) → founds (take i hits ++ h ∷ drop i hits) ≡ take i (founds hits) ++ found_of_hit h ∷ drop i (founds hits)
+pub founds_put : (i : ℕ) (h : Hit) (hits : List Hit) → assignments_of_hits (take i hits ++ h ∷ drop i hits) ≡ take i (assignments_of_hits hits) ++ assignment_of_hit h ∷ drop i (assignments_of_hits hits)
 founds_put zero h hits = refl
 founds_put (suc i) h [] = refl
-founds_put (suc i) h (k ∷ hits) = ap (λ r. found_of_hit k ∷ r) (founds_put i h hits)
+founds_put (suc i) h (k ∷ hits) = ap (λ r. assignment_of_hit k ∷ r) (founds_put i h hits)
 
 -- a list cut before or after one more stands in it
 pub cut_put : {A : Type 0} (i k : ℕ) (x : A) (l : List A) → i ≤ k → i ≤ length l → take i (take k l) ++ x ∷ drop i (take k l) ≡ take (suc k) (take i l ++ x ∷ drop i l)
@@ -77,21 +26,21 @@ cut_put (suc i) zero x l m n = absurd (omega arith)
 cut_put (suc i) (suc k) x [] m n = absurd (omega arith)
 cut_put (suc i) (suc k) x (y ∷ l) m n = ap (λ r. y ∷ r) (cut_put i k x l (omega arith) (omega arith))
 
-founds_onto : (hits done : List Hit) → founds (reverse_aux hits done) ≡ reverse_aux (founds hits) (founds done)
+founds_onto : (hits done : List Hit) → assignments_of_hits (reverse_aux hits done) ≡ reverse_aux (assignments_of_hits hits) (assignments_of_hits done)
 founds_onto [] done = refl
 founds_onto (h ∷ hits) done = founds_onto hits (h ∷ done)
 
-pub founds_reverse : (hits : List Hit) → founds (reverse hits) ≡ reverse (founds hits)
+pub founds_reverse : (hits : List Hit) → assignments_of_hits (reverse hits) ≡ reverse (assignments_of_hits hits)
 founds_reverse hits = founds_onto hits []
 
-pub kept_here : (most m i : ℕ) (hits old into cut : List Hit) (h : Hit) (x : Found) (o : List Found) → i < most → i ≤ length old
-    → founds old ≡ o → found_of_hit h ≡ x → cut ≡ take (most - 1) old → into ≡ take i cut ++ h ∷ drop i cut
-    → put found_cmp x o ≡ take i o ++ x ∷ drop i o → founds into ≡ take most (put found_cmp x o)
+pub kept_here : (most m i : ℕ) (hits old into cut : List Hit) (h : Hit) (x : Assignment) (o : List Assignment) → i < most → i ≤ length old
+    → assignments_of_hits old ≡ o → assignment_of_hit h ≡ x → cut ≡ take (most - 1) old → into ≡ take i cut ++ h ∷ drop i cut
+    → put assignment_cmp x o ≡ take i o ++ x ∷ drop i o → assignments_of_hits into ≡ take most (put assignment_cmp x o)
 kept_here zero m i hits old into cut h x o l n os hx cs is p = absurd (omega arith)
 kept_here (suc k) m i hits old into cut h x o l n os hx cs is p =
     let less : suc k - 1 ≡ k = omega arith in
     let size : length o ≡ length old = ap length (sym os) ∙ founds_length old in
-    ap founds is ∙ founds_put i h cut
-    ∙ ap (λ f. take i (founds cut) ++ f ∷ drop i (founds cut)) hx
-    ∙ ap (λ r. take i r ++ x ∷ drop i r) (ap founds (cs ∙ ap (λ q. take q old) less) ∙ founds_take k old ∙ ap (take k) os)
+    ap assignments_of_hits is ∙ founds_put i h cut
+    ∙ ap (λ f. take i (assignments_of_hits cut) ++ f ∷ drop i (assignments_of_hits cut)) hx
+    ∙ ap (λ r. take i r ++ x ∷ drop i r) (ap assignments_of_hits (cs ∙ ap (λ q. take q old) less) ∙ founds_take k old ∙ ap (take k) os)
     ∙ cut_put i k x o (omega arith) (omega arith) ∙ ap (take (suc k)) (sym p)

@@ -6,7 +6,8 @@ use Rattle.std.specs.Ordering.{match_ordering, is_lt, ordering_reverse}
 use Rattle.std.specs.Cmp.{IsTotalOrder}
 use Rattle.std.specs.List.{AllByRecursion}
 use Rattle.std.proofs.lemmas.Cmp.{tied_itself}
-use Rattle.hwdb_query.specs.Lists.{put, put_all, in_order, keep_all, Ascends}
+use Rattle.hwdb_spec.specs.Assignment.{put, put_all, in_order, Ascends}
+use Rattle.hwdb_query.specs.Internal.Lists.{keep_all}
 
 take_shorter : {A : Type 0} (n : ℕ) (ys : List A) → take n (take (suc n) ys) ≡ take n ys
 take_shorter zero ys = refl

@@ -4,7 +4,7 @@ use Rattle.std.specs.Fmt.{decimal}
 use Rattle.std.proofs.lemmas.Fmt.{decimal_injective}
 use Rattle.hex.specs.Hex.{decode_of, encode_lower}
 use Rattle.hex.proofs.HexLemmas.{decode_of-same, decode_of-encode_lower}
-use Rattle.hwdb_query.specs.Spelling.{SpellsOne, CanonicalSpells}
+use Rattle.hwdb_query.specs.Laws.{SpellsOne, CanonicalSpells}
 use Rattle.hwdb_query.proofs.Numbers.{NoColon, no_colon_decimal, no_colon_hex}
 
 -- a text without a colon ends where the first colon stands

@@ -1,13 +1,14 @@
 -- Steps of a filling.
 use Rattle.std.proofs.Common.{◌≡◌, ◌∙◌, ap, sym, refl, subst, ℕ, zero, suc, ◌-◌, ◌≤◌, Bool, true, false, List, [], ◌∷◌, ◌++◌, take, drop, filter, length, arith, Option, Some, None, IsTrue, ◌↔◌}
 use Rattle.std.proofs.lemmas.List.{take_rest}
-use Rattle.hwdb_pattern.specs.Patterns.{tokens, Matches, MatchesIsTested}
-use Rattle.hwdb_pattern.specs.Paths.{IsLive, StandsFor, Reached}
-use Rattle.hwdb_layout.specs.Map.{Shown}
-use Rattle.hwdb_query.specs.Answers.{Spot, Found, found_cmp, one_found, found_shown, is_after, is_behind, is_wanted, wanted}
-use Rattle.hwdb_pattern.specs.Paths.{is_live, LiveIsTested}
-use Rattle.hwdb_query.specs.Answers.{is_match}
-use Rattle.hwdb_query.specs.Lists.{put, keep_all}
+use Rattle.hwdb_spec.specs.Patterns.{tokens, Matches}
+use Rattle.hwdb_pattern.specs.Laws.{MatchesIsTested, LiveIsTested}
+use Rattle.hwdb_spec.specs.Tree.{IsLive, Shown, one_assignment, assignment_shown, is_live}
+use Rattle.hwdb_pattern.specs.Views.{StandsFor, Reached}
+use Rattle.hwdb_spec.specs.Assignment.{Position, Assignment, assignment_cmp, put}
+use Rattle.hwdb_spec.specs.Answers.{is_after, is_behind, is_wanted, is_match}
+use Rattle.hwdb_query.specs.Internal.Members.{wanted}
+use Rattle.hwdb_query.specs.Internal.Lists.{keep_all}
 use Rattle.hwdb_query.proofs.Putting.{filter_in, filter_out}
 
 pub cut_whole : (from : ℕ) (path prefix : List ℕ) → from ≤ length path → take from path ++ drop from (path ++ prefix) ≡ path ++ prefix
@@ -45,41 +46,41 @@ mismatch_is tested device pattern b e h = go (is_match device pattern) (λ t. h.
     go true k = let t : b ≡ true = k refl in cc
     go false k = refl
 
-pub own_matched : (device : List ℕ) (after : Option Spot) (pattern : List ℕ) (t : List Found) → filter (is_wanted device) t ≡ t → wanted device after t ≡ filter (is_behind after) t
+pub own_matched : (device : List ℕ) (after : Option Position) (pattern : List ℕ) (t : List Assignment) → filter (is_wanted device) t ≡ t → wanted device after t ≡ filter (is_behind after) t
 unfolding wanted
 own_matched device after pattern t h = ap (filter (is_behind after)) h
 
-pub own_none : (device : List ℕ) (after : Option Spot) (t : List Found) → filter (is_wanted device) t ≡ [] → wanted device after t ≡ []
+pub own_none : (device : List ℕ) (after : Option Position) (t : List Assignment) → filter (is_wanted device) t ≡ [] → wanted device after t ≡ []
 unfolding wanted
 own_none device after t h = ap (filter (is_behind after)) h
 
-pub keep_none : (most : ℕ) (xs old : List Found) → xs ≡ [] → old ≡ keep_all found_cmp most xs old
+pub keep_none : (most : ℕ) (xs old : List Assignment) → xs ≡ [] → old ≡ keep_all assignment_cmp most xs old
 unfolding keep_all
-keep_none most xs old h = sym (ap (λ l. keep_all found_cmp most l old) h)
+keep_none most xs old h = sym (ap (λ l. keep_all assignment_cmp most l old) h)
 
 -- one value is offered
-pub offered_none : (most : ℕ) (after : Option Spot) (pattern : List ℕ) (s : Shown) (old : List Found) → s.key ≡ None
-    → old ≡ keep_all found_cmp most (filter (is_behind after) (found_shown pattern s)) old
-unfolding found_shown
-offered_none most after pattern s old h = keep_none most _ old (ap (λ o. filter (is_behind after) (one_found pattern s o)) h)
+pub offered_none : (most : ℕ) (after : Option Position) (pattern : List ℕ) (s : Shown) (old : List Assignment) → s.key ≡ None
+    → old ≡ keep_all assignment_cmp most (filter (is_behind after) (assignment_shown pattern s)) old
+unfolding assignment_shown
+offered_none most after pattern s old h = keep_none most _ old (ap (λ o. filter (is_behind after) (one_assignment pattern s o)) h)
 
-pub offered_some : (most : ℕ) (after : Option Spot) (pattern key : List ℕ) (s : Shown) (x : Found) (old new : List Found) → s.key ≡ Some key
-    → x ≡ record { spot = record { priority = s.priority; line = s.line; pattern = pattern; key = key }; value = s.value; path = s.path }
-    → is_after after x.spot ≡ true → new ≡ take most (put found_cmp x old)
-    → new ≡ keep_all found_cmp most (filter (is_behind after) (found_shown pattern s)) old
-unfolding found_shown keep_all
+pub offered_some : (most : ℕ) (after : Option Position) (pattern key : List ℕ) (s : Shown) (x : Assignment) (old new : List Assignment) → s.key ≡ Some key
+    → x ≡ record { position = record { priority = s.priority; line = s.line; pattern = pattern; key = key }; value = s.value; path = s.path }
+    → is_after after x.position ≡ true → new ≡ take most (put assignment_cmp x old)
+    → new ≡ keep_all assignment_cmp most (filter (is_behind after) (assignment_shown pattern s)) old
+unfolding assignment_shown keep_all
 offered_some most after pattern key s x old new h e p n =
-    n ∙ sym (ap (λ o. keep_all found_cmp most (filter (is_behind after) (one_found pattern s o)) old) h
-    ∙ ap (λ (y : Found). keep_all found_cmp most (filter (is_behind after) (y ∷ [])) old) (sym e)
-    ∙ ap (λ l. keep_all found_cmp most l old) (filter_in (is_behind after) x [] p))
+    n ∙ sym (ap (λ o. keep_all assignment_cmp most (filter (is_behind after) (one_assignment pattern s o)) old) h
+    ∙ ap (λ (y : Assignment). keep_all assignment_cmp most (filter (is_behind after) (y ∷ [])) old) (sym e)
+    ∙ ap (λ l. keep_all assignment_cmp most l old) (filter_in (is_behind after) x [] p))
 
-pub offered_early : (most : ℕ) (after : Option Spot) (pattern key : List ℕ) (s : Shown) (old : List Found) → s.key ≡ Some key
+pub offered_early : (most : ℕ) (after : Option Position) (pattern key : List ℕ) (s : Shown) (old : List Assignment) → s.key ≡ Some key
     → is_after after (record { priority = s.priority; line = s.line; pattern = pattern; key = key }) ≡ false
-    → old ≡ keep_all found_cmp most (filter (is_behind after) (found_shown pattern s)) old
-unfolding found_shown
+    → old ≡ keep_all assignment_cmp most (filter (is_behind after) (assignment_shown pattern s)) old
+unfolding assignment_shown
 offered_early most after pattern key s old h p =
-    keep_none most _ old (ap (λ o. filter (is_behind after) (one_found pattern s o)) h ∙ filter_out (is_behind after) _ [] p)
+    keep_none most _ old (ap (λ o. filter (is_behind after) (one_assignment pattern s o)) h ∙ filter_out (is_behind after) _ [] p)
 
-pub unwanted : (device : List ℕ) (after : Option Spot) → wanted device after [] ≡ []
+pub unwanted : (device : List ℕ) (after : Option Position) → wanted device after [] ≡ []
 unfolding wanted
 unwanted device after = refl

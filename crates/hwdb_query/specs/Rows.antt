@@ -1,31 +1,30 @@
 -- The last assignments at worked rows, computed from the texts of files.
-use Rattle.std.specs.Prelude.{ℕ, ◌≡◌, List, [], ◌∷◌, codes, map, Option, Some, None}
-use Rattle.hwdb_query.specs.Answers.{Spot, Found}
-use Rattle.hwdb_query.specs.Compiling.{Source, all_assignments}
-use Rattle.hwdb_query.specs.Effective.{effective_of}
-use Rattle.hwdb_query.specs.Headline.{last_assignments}
+use Rattle.std.specs.Prelude.{List, ℕ, codes, Option, [], ◌∷◌, None, Some, map, ◌≡◌}
+use Rattle.hwdb_spec.specs.Folders.{Source, all_assignments}
+use Rattle.hwdb_spec.specs.Assignment.{Position, Assignment}
+use Rattle.hwdb_spec.specs.Answers.{last_assignments, effective_of}
 
 abbrev pub file : (name bytes : List ℕ) → Source
 file name bytes = record { name = name; bytes = bytes }
 
-abbrev pub spot : (priority line : ℕ) (pattern key : List ℕ) → Spot
-spot priority line pattern key = record { priority = priority; line = line; pattern = pattern; key = key }
+abbrev pub position : (priority line : ℕ) (pattern key : List ℕ) → Position
+position priority line pattern key = record { priority = priority; line = line; pattern = pattern; key = key }
 
 -- an answer of the file `1.hwdb` in /etc
-abbrev pub in_first : Spot → (value : List ℕ) → Found
-in_first place value = record { spot = place; value = value; path = codes "/etc/udev/hwdb.d/1.hwdb" }
+abbrev pub in_first : Position → (value : List ℕ) → Assignment
+in_first place value = record { position = place; value = value; path = codes "/etc/udev/hwdb.d/1.hwdb" }
 
 -- an answer of the file `2.hwdb` in /usr/lib
-abbrev pub in_second : Spot → (value : List ℕ) → Found
-in_second place value = record { spot = place; value = value; path = codes "/usr/lib/udev/hwdb.d/2.hwdb" }
+abbrev pub in_second : Position → (value : List ℕ) → Assignment
+in_second place value = record { position = place; value = value; path = codes "/usr/lib/udev/hwdb.d/2.hwdb" }
 
 -- files of both folders, a device and a position, and the last assignments
 pub record Row : Type 0 where
   pub etc : List Source
   pub usr : List Source
   pub device : List ℕ
-  pub after : Option Spot
-  pub last : List Found
+  pub after : Option Position
+  pub last : List Assignment
 
 abbrev pub first : List ℕ → List Source
 first text = file (codes "1.hwdb") text ∷ []
@@ -43,21 +42,21 @@ rows =
       usr = [];
       device = codes "ab";
       after = None;
-      last = in_first (spot 1 2 (codes "a*") (codes "K")) (codes "1") ∷ in_first (spot 1 5 (codes "ab") (codes "K")) (codes "2") ∷ [];
+      last = in_first (position 1 2 (codes "a*") (codes "K")) (codes "1") ∷ in_first (position 1 5 (codes "ab") (codes "K")) (codes "2") ∷ [];
     }
     ∷ record {
       etc = two_patterns;
       usr = [];
       device = codes "ab";
-      after = Some (spot 1 2 (codes "a*") (codes "K"));
-      last = in_first (spot 1 5 (codes "ab") (codes "K")) (codes "2") ∷ [];
+      after = Some (position 1 2 (codes "a*") (codes "K"));
+      last = in_first (position 1 5 (codes "ab") (codes "K")) (codes "2") ∷ [];
     }
     ∷ record {
       etc = two_patterns;
       usr = [];
       device = codes "ab";
-      after = Some (spot 1 3 [] []);
-      last = in_first (spot 1 5 (codes "ab") (codes "K")) (codes "2") ∷ [];
+      after = Some (position 1 3 [] []);
+      last = in_first (position 1 5 (codes "ab") (codes "K")) (codes "2") ∷ [];
     }
     ∷ record { etc = two_patterns; usr = []; device = codes "x"; after = None; last = [] }
     ∷ record {
@@ -65,14 +64,14 @@ rows =
       usr = second (codes "a\n L=3\n");
       device = codes "a";
       after = None;
-      last = in_first (spot 1 6 (codes "a") (codes "K")) (codes "2") ∷ in_second (spot 2 2 (codes "a") (codes "L")) (codes "3") ∷ [];
+      last = in_first (position 1 6 (codes "a") (codes "K")) (codes "2") ∷ in_second (position 2 2 (codes "a") (codes "L")) (codes "3") ∷ [];
     }
     ∷ record {
       etc = first (codes "x*\nx?\nx*\n K=1\n");
       usr = [];
       device = codes "xy";
       after = None;
-      last = in_first (spot 1 4 (codes "x*") (codes "K")) (codes "1") ∷ in_first (spot 1 4 (codes "x?") (codes "K")) (codes "1") ∷ [];
+      last = in_first (position 1 4 (codes "x*") (codes "K")) (codes "1") ∷ in_first (position 1 4 (codes "x?") (codes "K")) (codes "1") ∷ [];
     }
     ∷ []
 

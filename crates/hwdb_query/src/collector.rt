@@ -1,8 +1,8 @@
 //! What takes the assignments of a descent.
 ghost use Rattle.std.specs.Prelude.{◌≡◌, List, OnOk};
-ghost use Rattle.hwdb_layout.specs.Tree.{values_of};
-ghost use Rattle.hwdb_reader.specs.View.{entered_tree};
-ghost use Rattle.hwdb_query.specs.Answers.{own_members};
+ghost use Rattle.hwdb_spec.specs.Tree.{values_of};
+ghost use Rattle.hwdb_reader.specs.Views.{entered_tree};
+ghost use Rattle.hwdb_query.specs.Internal.Members.{own_members};
 
 use crate::held::Held;
 use crate::last_hits::LastHits;
@@ -20,7 +20,7 @@ pub(crate) enum Collector<'a, 'p> {
 }
 
 impl<'a, 'p> Collector<'a, 'p> {
-    ghost use Rattle.hwdb_query.specs.Collected.{Collects, IsPage, IsLast, IsOfPage, IsOfLast};
+    ghost use Rattle.hwdb_query.specs.Internal.Collected.{Collects, IsPage, IsLast, IsOfPage, IsOfLast};
 
     /// Takes what the values of a node assign at a pattern.
     pub(crate) fn collect(

@@ -2,13 +2,13 @@
 //!
 //! A node whose path is dead isn't entered, and no pattern at or below it matches.
 ghost use Rattle.std.specs.Prelude.{◌≡◌, ◌<◌, ◌≤◌, ◌+◌, ◌++◌, ◌^◌, ℕ, List, [], length, take, filter, IfOk, OnOk};
-ghost use Rattle.hwdb_pattern.specs.Patterns.{MatchesIsTested};
-ghost use Rattle.hwdb_pattern.specs.Paths.{StandsFor, LiveIsTested, DeadStaysDead, DeadMatchesNothing};
-ghost use Rattle.hwdb_layout.specs.Tree.{node_count, values_of};
-ghost use Rattle.hwdb_reader.specs.View.{tree_of, entered_tree, db_tree};
-ghost use Rattle.hwdb_query.specs.Answers.{is_wanted, own_members, members_under};
-ghost use Rattle.hwdb_query.specs.Collected.{Collects};
-ghost use Rattle.hwdb_query.specs.Live.{live_under, live_nodes};
+ghost use Rattle.hwdb_pattern.specs.Laws.{MatchesIsTested, LiveIsTested, DeadStaysDead, DeadMatchesNothing};
+ghost use Rattle.hwdb_pattern.specs.Views.{StandsFor};
+ghost use Rattle.hwdb_spec.specs.Tree.{node_count, values_of, members_under, live_under, live_nodes};
+ghost use Rattle.hwdb_reader.specs.Views.{tree_of, entered_tree, db_tree};
+ghost use Rattle.hwdb_spec.specs.Answers.{is_wanted};
+ghost use Rattle.hwdb_query.specs.Internal.Members.{own_members};
+ghost use Rattle.hwdb_query.specs.Internal.Collected.{Collects};
 
 use crate::collector::Collector;
 use hwdb_pattern::{

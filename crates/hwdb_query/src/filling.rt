@@ -1,9 +1,8 @@
 //! One filling of a page: one descent of the tree, of which the least hits after a position are kept.
 ghost use Rattle.std.specs.Prelude.{◌≡◌, List, [], take, reverse, IfOk, OnOk, OnErr};
-ghost use Rattle.hwdb_reader.specs.View.{db_tree};
-ghost use Rattle.hwdb_query.specs.Answers.{answers_after};
-ghost use Rattle.hwdb_query.specs.Live.{live_nodes};
-ghost use Rattle.hwdb_query.specs.Hits.{after_spot, IsFirst};
+ghost use Rattle.hwdb_reader.specs.Views.{db_tree};
+ghost use Rattle.hwdb_spec.specs.Tree.{answers_after, live_nodes};
+ghost use Rattle.hwdb_query.specs.Internal.Hits.{after_position, IsFirst};
 
 use crate::collector::Collector;
 use crate::descent::descend;
@@ -32,7 +31,10 @@ pub(crate) fn fill<'a>(
     requires { held.old.hits ≡ [] }
     ensures same { OnErr result (held.new ≡ held.old) }
     ensures most { held.new.most ≡ held.old.most }
-    ensures hits { OnOk result (held.new.hits ≡ reverse (take held.old.most (answers_after device.now (after_spot after.entry) (db_tree db.now)))) }
+    ensures hits { OnOk result
+        (held.new.hits
+        ≡ reverse (take held.old.most
+        (answers_after device.now (after_position after.entry) (db_tree db.now)))) }
     ensures last { IfOk result (λ f. IsFirst held.new.hits f.last) }
     ensures entered { IfOk result (λ f. f.entered ≡ live_nodes device.now (db_tree db.now)) }
 {

@@ -1,8 +1,8 @@
 //! The one list of hits of a cursor.
 ghost use Rattle.std.specs.Prelude.{◌≡◌, ◌≢◌, ◌<◌, ◌≤◌, ◌+◌, ◌++◌, ℕ, List, [], ◌∷◌, length, take, drop, reverse, map, IfSome, IfOk, OnOk, OnErr, Option, Some, None, true};
-ghost use Rattle.hwdb_query.specs.Answers.{Spot, Found, spot_cmp, found_cmp};
-ghost use Rattle.hwdb_query.specs.Lists.{put, Ascends};
-ghost use Rattle.hwdb_query.specs.Hits.{parts_spot, found_of_hit, founds, shown_at, Page, PlaceOf, IsLastOfFull, IsOf, Gives, IsFirst};
+ghost use Rattle.hwdb_spec.specs.Assignment.{Position, Assignment, position_cmp, assignment_cmp, put, Ascends};
+ghost use Rattle.hwdb_query.specs.Internal.Hits.{parts_position, shown_at, PlaceOf, IsLastOfFull, IsOf, IsFirst};
+ghost use Rattle.hwdb_query.specs.Views.{assignment_of_hit, assignments_of_hits, Page, Gives};
 
 use crate::hit::{Hit, Parts, is_earlier, order};
 use crate::position::Position;
@@ -22,11 +22,13 @@ pub(crate) struct Place {
 /// The place of a position among hits that ascend, found by halving.
 pub(crate) fn place_of(hits: &[Hit<'_>], parts: Parts<'_>) -> Place
     ensures within { result.index ≤ length hits.now }
-    ensures place { Ascends found_cmp (founds hits.now)
-        → (x : Found) → x.spot ≡ parts_spot parts.entry → PlaceOf x (founds hits.now) result }
+    ensures place { Ascends assignment_cmp (assignments_of_hits hits.now)
+        → (x : Assignment) → x.position ≡ parts_position parts.entry
+        → PlaceOf x (assignments_of_hits hits.now) result }
 {
     let compare = |hit: &Hit<'_>| -> Ordering
-        ensures { result ≡ spot_cmp (found_of_hit hit.now).spot (parts_spot parts.entry) }
+        ensures { result
+            ≡ position_cmp (assignment_of_hit hit.now).position (parts_position parts.entry) }
     { order(hit.parts(), parts) };
     match hits.binary_search_by(compare) {
         Ok(index) => Place {
@@ -61,7 +63,7 @@ pub(crate) struct Held<'a> {
 impl<'a> Model for Held<'a> {
     ghost Value = { Page };
 
-    ghost view = { λ s. record { hits = founds s.hits.items; most = s.most } };
+    ghost view = { λ s. record { hits = assignments_of_hits s.hits.items; most = s.most } };
 
     ghost invariant = { λ s. length s.hits.items ≤ s.most };
 }
@@ -87,8 +89,9 @@ impl<'a> Held<'a> {
 
     /// Whether as many hits are held as may be, and all come before an origin.
     pub(crate) fn is_full_before(&self, origin: Origin) -> bool
-        ensures { result ≡ true → Ascends found_cmp self.now.hits → (x : Found) → IsOf origin x
-            → take self.now.most (put found_cmp x self.now.hits) ≡ self.now.hits }
+        ensures { result ≡ true → Ascends assignment_cmp self.now.hits → (x : Assignment)
+            → IsOf origin x
+            → take self.now.most (put assignment_cmp x self.now.hits) ≡ self.now.hits }
     {
         match last_of_full(&self.hits, self.most) {
             None => false,
@@ -98,9 +101,9 @@ impl<'a> Held<'a> {
 
     /// Whether as many hits are held as may be, and all come before a position.
     fn is_full_below(&self, parts: Parts<'_>) -> bool
-        ensures { result ≡ true → Ascends found_cmp self.now.hits
-            → (x : Found) → x.spot ≡ parts_spot parts.entry
-            → take self.now.most (put found_cmp x self.now.hits) ≡ self.now.hits }
+        ensures { result ≡ true → Ascends assignment_cmp self.now.hits
+            → (x : Assignment) → x.position ≡ parts_position parts.entry
+            → take self.now.most (put assignment_cmp x self.now.hits) ≡ self.now.hits }
     {
         match last_of_full(&self.hits, self.most) {
             None => false,
@@ -117,9 +120,9 @@ impl<'a> Held<'a> {
         entry: Entry<'a>,
     ) -> Result<(), AllocError>
         ensures most { self.new.most ≡ self.old.most }
-        ensures kept { OnOk result (Ascends found_cmp self.old.hits → self.new.hits
+        ensures kept { OnOk result (Ascends assignment_cmp self.old.hits → self.new.hits
             ≡ take self.old.most
-            (put found_cmp (shown_at pattern.now key.now entry.entry) self.old.hits)) }
+            (put assignment_cmp (shown_at pattern.now key.now entry.entry) self.old.hits)) }
     {
         let parts = Parts {
             priority: entry.priority,

@@ -1,8 +1,10 @@
 //! Hits, and the order in which they come.
 ghost use Rattle.std.specs.Prelude.{◌≡◌, ℕ, List, length, IfOk, true};
 ghost use Rattle.std.specs.declared.cmp.Ordering.TheVariants.{Less};
-ghost use Rattle.hwdb_query.specs.Answers.{Spot, Found, spot_cmp};
-ghost use Rattle.hwdb_query.specs.Hits.{parts_spot, position_spot, found_of_hit, IsOf, IsSpotOf};
+ghost use Rattle.hwdb_spec.specs.Assignment.{Assignment, position_cmp};
+ghost use Rattle.hwdb_spec.specs.Assignment;
+ghost use Rattle.hwdb_query.specs.Internal.Hits.{parts_position, IsOf, IsPositionOf};
+ghost use Rattle.hwdb_query.specs.Views.{position_value, assignment_of_hit};
 
 use crate::position::Position;
 use hwdb_reader::Origin;
@@ -38,7 +40,7 @@ pub(crate) struct Parts<'p> {
 impl<'p> Parts<'p> {
     /// The origin among them.
     pub(crate) fn origin(self) -> Origin
-        ensures { IsSpotOf result (parts_spot self.entry) }
+        ensures { IsPositionOf result (parts_position self.entry) }
     {
         Origin {
             priority: self.priority,
@@ -50,7 +52,7 @@ impl<'p> Parts<'p> {
 impl<'a> Hit<'a> {
     /// What the order looks at.
     pub(crate) fn parts(&self) -> Parts<'_>
-        ensures { parts_spot result ≡ (found_of_hit self.now).spot }
+        ensures { parts_position result ≡ (assignment_of_hit self.now).position }
     {
         Parts {
             priority: self.priority,
@@ -62,7 +64,7 @@ impl<'a> Hit<'a> {
 
     /// Where the hit comes from.
     pub(crate) fn origin(&self) -> Origin
-        ensures { IsOf result (found_of_hit self.now) }
+        ensures { IsOf result (assignment_of_hit self.now) }
     {
         Origin {
             priority: self.priority,
@@ -74,7 +76,7 @@ impl<'a> Hit<'a> {
     ///
     /// The only error is that memory is refused.
     pub fn position(&self, alloc: Global) -> Result<Position, AllocError>
-        ensures { IfOk result (λ p. position_spot p ≡ (found_of_hit self.now).spot) }
+        ensures { IfOk result (λ p. position_value p ≡ (assignment_of_hit self.now).position) }
     {
         let pattern = self.pattern.to_vec(alloc)?;
         let key = self.key.to_vec(alloc)?;
@@ -88,9 +90,9 @@ impl<'a> Hit<'a> {
 }
 
 /// The order of positions: by priority, line, pattern and key.
-#[tactic(auto, unfolding(crate::specs::Answers::spot_cmp))]
+#[tactic(auto, unfolding(hwdb_spec::specs::Assignment::position_cmp))]
 pub(crate) fn order(a: Parts<'_>, b: Parts<'_>) -> Ordering
-    ensures { result ≡ spot_cmp (parts_spot a.entry) (parts_spot b.entry) }
+    ensures { result ≡ position_cmp (parts_position a.entry) (parts_position b.entry) }
 {
     a.priority
         .cmp(&b.priority)
@@ -101,8 +103,8 @@ pub(crate) fn order(a: Parts<'_>, b: Parts<'_>) -> Ordering
 
 /// Whether an origin comes before another: by priority, then by line.
 pub(crate) fn is_earlier(a: Origin, b: Origin) -> bool
-    ensures { result ≡ true → (x y : Spot) → IsSpotOf a x → IsSpotOf b y
-        → spot_cmp x y ≡ Less }
+    ensures { result ≡ true → (x y : Assignment.Position) → IsPositionOf a x → IsPositionOf b y
+        → position_cmp x y ≡ Less }
 {
     a.priority
         .cmp(&b.priority)

@@ -1,11 +1,12 @@
 //! The last hit of each key.
 ghost use Rattle.std.specs.Prelude.{◌≡◌, List, [], IfOk, OnOk};
-ghost use Rattle.hwdb_layout.specs.Tree.{values_of};
-ghost use Rattle.hwdb_reader.specs.View.{entered_tree, entry_shows};
-ghost use Rattle.hwdb_query.specs.Answers.{Found, is_after, found_shown, own_members};
-ghost use Rattle.hwdb_query.specs.Effective.{effective_of};
-ghost use Rattle.hwdb_query.specs.Hits.{parts_spot};
-ghost use Rattle.hwdb_query.specs.Pairs.{pairs_bytes};
+ghost use Rattle.hwdb_spec.specs.Tree.{values_of, assignment_shown};
+ghost use Rattle.hwdb_reader.specs.Views.{entered_tree, entry_shows};
+ghost use Rattle.hwdb_spec.specs.Assignment.{Assignment};
+ghost use Rattle.hwdb_spec.specs.Answers.{is_after, effective_of};
+ghost use Rattle.hwdb_query.specs.Internal.Members.{own_members};
+ghost use Rattle.hwdb_query.specs.Internal.Hits.{parts_position};
+ghost use Rattle.hwdb_query.specs.Views.{pairs_bytes};
 
 use crate::hit::{Parts, order};
 use hwdb_reader::{Entry, Inside};
@@ -24,11 +25,11 @@ pub(crate) struct Last<'a> {
 }
 
 impl<'a> Last<'a> {
-    ghost use Rattle.hwdb_query.specs.Collected.{told_last};
+    ghost use Rattle.hwdb_query.specs.Internal.Collected.{told_last};
 
     /// What the order looks at.
     fn parts<'p>(&'p self, key: &'p [u8]) -> Parts<'p>
-        ensures { parts_spot result ≡ (told_last key.now self.now).0 }
+        ensures { parts_position result ≡ (told_last key.now self.now).0 }
     {
         Parts {
             priority: self.priority,
@@ -54,7 +55,7 @@ pub(crate) struct LastHits<'a> {
 }
 
 impl<'a> LastHits<'a> {
-    ghost use Rattle.hwdb_query.specs.Collected.{spot_at, Shows, LastCollects};
+    ghost use Rattle.hwdb_query.specs.Internal.Collected.{position_at, Shows, LastCollects};
 
     /// No hits.
     pub(crate) fn new(alloc: Global) -> LastHits<'a>
@@ -68,7 +69,8 @@ impl<'a> LastHits<'a> {
     /// Whether a hit of a key comes after the one that stands there, if one does.
     fn is_last(&self, parts: Parts<'_>) -> bool
         ensures { result
-            ≡ is_after (spot_at self.now.hits parts.entry.key.now) (parts_spot parts.entry) }
+            ≡ is_after (position_at self.now.hits parts.entry.key.now)
+            (parts_position parts.entry) }
     {
         match self.hits.get(parts.key) {
             None => true,
@@ -83,7 +85,7 @@ impl<'a> LastHits<'a> {
     fn offer(&mut self, pattern: &Rc<Vec<u8>>, entry: Entry<'a>) -> Result<(), AllocError>
         ensures { OnOk result
             (LastCollects self.old
-            (found_shown pattern.now.value.items (entry_shows entry.entry)) self.new) }
+            (assignment_shown pattern.now.value.items (entry_shows entry.entry)) self.new) }
     {
         let Some(key) = entry.key else {
             return Ok(());
@@ -126,7 +128,7 @@ impl<'a> LastHits<'a> {
 
     /// The keys and their values, ascending by key.
     pub(crate) fn pairs(self, alloc: Global) -> Result<Vec<(&'a [u8], &'a [u8])>, AllocError>
-        ensures { IfOk result (λ list. (hits : List Found) → Shows self.entry.hits hits
+        ensures { IfOk result (λ list. (hits : List Assignment) → Shows self.entry.hits hits
             → pairs_bytes list.items ≡ effective_of hits) }
     {
         let mut pairs = Vec::new(alloc);

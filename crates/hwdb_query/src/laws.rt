@@ -1,26 +1,19 @@
 //! Laws over the definitions alone. Each function does nothing: its contract is the law.
 ghost use Rattle.std.specs.Prelude.{◌≡◌, ℕ, List};
-ghost use Rattle.hwdb_layout.specs.Database.{IsDatabase};
-ghost use Rattle.hwdb_layout.specs.Map.{Map, map_of};
-ghost use Rattle.hwdb_layout.specs.Tight.{IsDatabaseOf};
-ghost use Rattle.hwdb_layout.specs.Tree.{Tree};
-ghost use Rattle.hwdb_reader.specs.View.{db_tree};
-ghost use Rattle.hwdb_query.specs.Answers.{answers};
-ghost use Rattle.hwdb_query.specs.Assigned.{AreAnswers};
-ghost use Rattle.hwdb_query.specs.Fillings.{FillingsOfARun};
-ghost use Rattle.hwdb_query.specs.Headline.{AllCompiledAnswersAreLast, CompiledAnswersAreLast};
+ghost use Rattle.hwdb_spec.specs.Format.{IsDatabase};
+ghost use Rattle.hwdb_spec.specs.Tree.{Map, map_of, Tree, answers};
+ghost use Rattle.hwdb_spec.specs.Written.{IsDatabaseOf};
+ghost use Rattle.hwdb_reader.specs.Views.{db_tree};
+ghost use Rattle.hwdb_query.specs.Laws.{AreAnswers, FillingsOfARun, AllCompiledAnswersAreLast, CompiledAnswersAreLast, SpellsOne, CanonicalSpells};
 ghost use Rattle.hwdb_query.specs.Rows.{EffectiveRow, LastRows};
-ghost use Rattle.hwdb_query.specs.Surviving.{EachPlaceSurvives, SurvivorsAreAssigned, SurvivorsAreLatest};
-ghost use Rattle.hwdb_query.specs.Spelling.{SpellsOne, CanonicalSpells};
 
-use hwdb_layout::{law_ascending, law_one_tree};
 use hwdb_pattern::matches_is_tested;
-use hwdb_reader::Db;
-use hwdb_text::laws::{assignments_stand_by_line, priorities_count_up};
+use hwdb_reader::{Db, law_ascending, law_one_tree};
 
 /// The answers are, in order, those members of the database's map whose pattern matches the device.
 pub fn answers_are_the_maps(db: &Db<'_>)
-    ensures { (device : List ℕ) → AreAnswers device (db_tree db.now) (answers device (db_tree db.now)) }
+    ensures { (device : List ℕ)
+        → AreAnswers device (db_tree db.now) (answers device (db_tree db.now)) }
 {
     matches_is_tested();
     let _root = db.root();
@@ -33,21 +26,11 @@ pub fn positions_are_read_back()
     ensures canonical { CanonicalSpells }
 {}
 
-/// Of the assignments of all files with one pattern and key, one is compiled, and none of them comes after it:
-/// by the priority of its file, and then by its line.
-pub fn survivors_are_latest()
-    ensures assigned { SurvivorsAreAssigned }
-    ensures each { EachPlaceSurvives }
-    ensures latest { SurvivorsAreLatest }
-{
-    priorities_count_up();
-    assignments_stand_by_line();
-}
-
 /// Bytes that are a database of a map show this map and no other: so a reader that accepts compiled bytes sees
 /// the map that was compiled.
 pub fn databases_show_one_map()
-    ensures { (m : Map) (bytes : List ℕ) (t : Tree) → IsDatabaseOf m bytes → IsDatabase bytes t → map_of t ≡ m }
+    ensures { (m : Map) (bytes : List ℕ) (t : Tree) → IsDatabaseOf m bytes → IsDatabase bytes t
+        → map_of t ≡ m }
 {
     law_one_tree();
 }

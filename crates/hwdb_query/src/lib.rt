@@ -19,13 +19,10 @@
 //! | `last_hits` | the last hit of each key |
 //! | `listing` | the effective list |
 //! | `laws` | what is proved of the definitions alone |
-//! | `sources` | files to be compiled, and the index of their names |
-//! | `compiling` | the files of two folders, made into one database |
 //! | `errors` | what the calls refuse |
 #![tactic(auto)]
 
 mod collector;
-mod compiling;
 mod descent;
 mod errors;
 mod filling;
@@ -37,21 +34,18 @@ mod listing;
 mod next_page;
 mod paging;
 mod position;
-mod sources;
 mod spelling;
 mod start;
 #[cfg(test)]
 mod tests;
 
-pub use compiling::compile;
-pub use errors::{CompileError, QueryError};
+pub use errors::QueryError;
 pub use hit::Hit;
 pub use laws::{
     answers_are_the_maps, compiled_answers_are_last, databases_show_one_map, fillings_of_a_run,
-    last_rows, positions_are_read_back, survivors_are_latest,
+    last_rows, positions_are_read_back,
 };
 pub use listing::effective;
 pub use paging::Cursor;
 pub use position::Position;
-pub use sources::{Compiled, FileFault, SourceFile};
 pub use start::cursor;

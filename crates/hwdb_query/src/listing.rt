@@ -1,11 +1,10 @@
 //! The effective list: for each key the value that counts.
 ghost use Rattle.std.specs.Prelude.{◌≡◌, List, [], IfOk, OnOk, None};
-ghost use Rattle.hwdb_reader.specs.View.{db_tree};
-ghost use Rattle.hwdb_query.specs.Answers.{answers};
-ghost use Rattle.hwdb_query.specs.Compiling.{Source, all_assignments};
-ghost use Rattle.hwdb_query.specs.Headline.{last_assignments, IsTreeOfFiles};
-ghost use Rattle.hwdb_query.specs.Effective.{effective_of};
-ghost use Rattle.hwdb_query.specs.Pairs.{pairs_bytes};
+ghost use Rattle.hwdb_reader.specs.Views.{db_tree};
+ghost use Rattle.hwdb_spec.specs.Tree.{answers, IsTreeOfFiles};
+ghost use Rattle.hwdb_spec.specs.Folders.{Source, all_assignments};
+ghost use Rattle.hwdb_spec.specs.Answers.{last_assignments, effective_of};
+ghost use Rattle.hwdb_query.specs.Views.{pairs_bytes};
 
 use crate::collector::Collector;
 use crate::descent::descend;
@@ -26,9 +25,12 @@ pub fn effective<'a>(
     db: &Db<'a>,
     device: &[u8],
 ) -> Result<Vec<(&'a [u8], &'a [u8])>, AllocError>
-    ensures list { IfOk result (λ list. pairs_bytes list.items ≡ effective_of (answers device.now (db_tree db.now))) }
-    ensures headline { IfOk result (λ list. (etc usr : List Source) → IsTreeOfFiles etc usr (db_tree db.now)
-        → pairs_bytes list.items ≡ effective_of (last_assignments device.now None (all_assignments etc usr))) }
+    ensures list { IfOk result
+        (λ list. pairs_bytes list.items ≡ effective_of (answers device.now (db_tree db.now))) }
+    ensures headline { IfOk result
+        (λ list. (etc usr : List Source) → IsTreeOfFiles etc usr (db_tree db.now)
+        → pairs_bytes list.items
+        ≡ effective_of (last_assignments device.now None (all_assignments etc usr))) }
 {
     matches_is_tested();
     let _root = db.root();

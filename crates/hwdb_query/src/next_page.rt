@@ -2,10 +2,12 @@
 //!
 //! A value that isn't kept takes no memory.
 ghost use Rattle.std.specs.Prelude.{◌≡◌, ◌<◌, List, [], ◌∷◌, length, take, drop, OnOk, true};
-ghost use Rattle.hwdb_layout.specs.Tree.{values_of};
-ghost use Rattle.hwdb_reader.specs.View.{entered_tree, entry_shows};
-ghost use Rattle.hwdb_query.specs.Answers.{Found, found_shown, is_after, own_members};
-ghost use Rattle.hwdb_query.specs.Hits.{parts_spot, after_spot, IsOf};
+ghost use Rattle.hwdb_spec.specs.Tree.{values_of, assignment_shown};
+ghost use Rattle.hwdb_reader.specs.Views.{entered_tree, entry_shows};
+ghost use Rattle.hwdb_spec.specs.Assignment.{Assignment};
+ghost use Rattle.hwdb_spec.specs.Answers.{is_after};
+ghost use Rattle.hwdb_query.specs.Internal.Members.{own_members};
+ghost use Rattle.hwdb_query.specs.Internal.Hits.{parts_position, after_position, IsOf};
 
 use crate::held::Held;
 use crate::hit::{Parts, is_earlier, order};
@@ -15,7 +17,7 @@ use std::cmp::Ordering;
 
 /// Whether a position is greater than the one given, if one is given.
 fn is_past(after: Option<Parts<'_>>, parts: Parts<'_>) -> bool
-    ensures { result ≡ is_after (after_spot after.entry) (parts_spot parts.entry) }
+    ensures { result ≡ is_after (after_position after.entry) (parts_position parts.entry) }
 {
     match after {
         None => true,
@@ -34,12 +36,13 @@ pub(crate) struct NextPage<'a, 'p> {
 }
 
 impl<'a, 'p> NextPage<'a, 'p> {
-    ghost use Rattle.hwdb_query.specs.Collected.{PageCollects};
+    ghost use Rattle.hwdb_query.specs.Internal.Collected.{PageCollects};
 
     /// Offers what one value assigns at a pattern.
     fn offer(&mut self, alloc: Global, pattern: &[u8], entry: Entry<'a>) -> Result<(), AllocError>
         ensures { OnOk result
-            (PageCollects self.old (found_shown pattern.now (entry_shows entry.entry)) self.new) }
+            (PageCollects self.old
+            (assignment_shown pattern.now (entry_shows entry.entry)) self.new) }
     {
         let Some(key) = entry.key else {
             return Ok(());
@@ -58,7 +61,7 @@ impl<'a, 'p> NextPage<'a, 'p> {
 
     /// Whether no hit of an origin is kept: it comes before the position's, or behind a full page.
     fn skips(&self, origin: Origin) -> bool
-        ensures { result ≡ true → (x : Found) → IsOf origin x
+        ensures { result ≡ true → (x : Assignment) → IsOf origin x
             → PageCollects self.now (x ∷ []) self.now }
     {
         if let Some(after) = self.after {

@@ -1,10 +1,8 @@
 //! A cursor over the answers of a database for a device.
 ghost use Rattle.std.specs.Prelude.{◌≡◌, ◌<◌, ◌≤◌, ◌+◌, ◌⊎◌, ◌↔◌, ℕ, List, [], ◌∷◌, length, reverse, min, IfOk, IfSome, IsSome, IsOk, OnOk, OnErr, OnSome, IfErr, Option, Some, None, true, false, option_map, option_copied};
-ghost use Rattle.hwdb_reader.specs.View.{db_tree};
-ghost use Rattle.hwdb_query.specs.Answers.{answers_after};
-ghost use Rattle.hwdb_query.specs.Live.{live_nodes};
-ghost use Rattle.hwdb_query.specs.Fillings.{after_next};
-ghost use Rattle.hwdb_query.specs.Hits.{found_of_hit, position_spot, next_spot, given_spot, still_to_come, Progress, Gives};
+ghost use Rattle.hwdb_reader.specs.Views.{db_tree};
+ghost use Rattle.hwdb_spec.specs.Tree.{answers_after, live_nodes};
+ghost use Rattle.hwdb_query.specs.Views.{after_next, assignment_of_hit, position_value, next_position, given_position, still_to_come, Progress, Gives};
 
 use crate::filling::{Filled, fill};
 use crate::held::Held;
@@ -33,7 +31,8 @@ impl<'a, 'd> Model for Cursor<'a, 'd> {
     ghost Value = { Progress };
 
     ghost view = { λ c. record {
-      to_come = still_to_come c.device.now (next_spot c.after) (db_tree c.db) c.ended c.held.hits;
+      to_come = still_to_come c.device.now (next_position c.after)
+          (db_tree c.db) c.ended c.held.hits;
       held = length c.held.hits;
       page = c.held.most;
       ended = c.ended;
@@ -55,7 +54,7 @@ impl<'a, 'd> Cursor<'a, 'd> {
     ) -> Cursor<'a, 'd>
         requires { 0 < page }
         ensures { result ≡ record {
-          to_come = answers_after device.entry.now (next_spot after) (db_tree db.entry);
+          to_come = answers_after device.entry.now (next_position after) (db_tree db.entry);
           held = 0;
           page = page;
           ended = false;
@@ -100,7 +99,8 @@ impl<'a, 'd> Cursor<'a, 'd> {
 
     /// Takes the next of the hits that are held.
     fn take(&mut self) -> Option<Hit<'a>>
-        ensures some { IfSome result (λ hit. self.old.to_come ≡ found_of_hit hit ∷ self.new.to_come) }
+        ensures some { IfSome result
+            (λ hit. self.old.to_come ≡ assignment_of_hit hit ∷ self.new.to_come) }
         ensures fewer { IfSome result (λ _. self.new.held + 1 ≡ self.old.held) }
         ensures none { result ≡ None → (self.new ≡ self.old) × (self.old.held ≡ 0) }
         ensures page { self.new.page ≡ self.old.page }
@@ -159,11 +159,15 @@ impl<'a, 'd> Cursor<'a, 'd> {
         ensures page { self.new.page ≡ self.old.page }
         ensures live { self.new.live ≡ self.old.live }
         ensures one_fewer { 0 < self.old.held → self.new.held + 1 ≡ self.old.held }
-        ensures filled { IfOk result (λ r. IsSome r → self.old.held ≡ 0 → self.new.held + 1 ≡ min self.old.page (length self.old.to_come)) }
+        ensures filled { IfOk result
+            (λ r. IsSome r → self.old.held ≡ 0
+            → self.new.held + 1 ≡ min self.old.page (length self.old.to_come)) }
         ensures open { IfOk result (λ r. IsSome r → self.new.ended ≡ self.old.ended) }
         ensures end { IfOk result (λ r. r ≡ None → (self.new.held ≡ 0) × (self.new.ended ≡ true)) }
-        ensures stays { ((0 < self.old.held) ⊎ (self.old.ended ≡ true)) → self.new.entered ≡ self.old.entered }
-        ensures entered { OnOk result (self.old.held ≡ 0 → self.old.ended ≡ false → self.new.entered ≡ self.old.live) }
+        ensures stays { ((0 < self.old.held) ⊎ (self.old.ended ≡ true))
+            → self.new.entered ≡ self.old.entered }
+        ensures entered { OnOk result
+            (self.old.held ≡ 0 → self.old.ended ≡ false → self.new.entered ≡ self.old.live) }
     {
         if let Some(hit) = self.take() {
             return Ok(Some(hit));

@@ -1,8 +1,9 @@
 //! Positions: the places of assignments in the order of the answers.
 ghost use Rattle.std.specs.Prelude.{◌≡◌, ◌≢◌, ◌<◌, ℕ, List, ◌∷◌, ◌++◌, length, slice_index, IfOk, IfErr, IfSome, MatchOption, string_bytes};
-ghost use Rattle.hwdb_query.specs.Answers.{Spot};
-ghost use Rattle.hwdb_query.specs.Hits.{parts_spot, position_spot};
-ghost use Rattle.hwdb_query.specs.Spelling.{IsSpelling, canonical};
+ghost use Rattle.hwdb_spec.specs.Assignment;
+ghost use Rattle.hwdb_query.specs.Internal.Hits.{parts_position};
+ghost use Rattle.hwdb_query.specs.Views.{position_value};
+ghost use Rattle.hwdb_spec.specs.Texts.{IsSpelling, canonical};
 ghost use Rattle.hwdb_query.specs.declared.errors.QueryError.TheVariants.{PageZero, BadPosition};
 
 use crate::errors::QueryError;
@@ -35,10 +36,15 @@ struct Fields<'a> {
 
 /// The fields between the first three colons.
 fn split_fields(text: &str) -> Option<Fields<'_>>
-    ensures parts { IfSome result (λ f. text.now ≡ f.priority.now ++ 58 ∷ (f.line.now ++ 58 ∷ (f.pattern.now ++ 58 ∷ f.key.now))) }
+    ensures parts { IfSome result
+        (λ f. text.now
+        ≡ f.priority.now ++ 58 ∷ (f.line.now ++ 58 ∷ (f.pattern.now ++ 58 ∷ f.key.now))) }
     ensures found { (p l h k : List ℕ) → text.now ≡ p ++ 58 ∷ (l ++ 58 ∷ (h ++ 58 ∷ k))
-        → ((i : ℕ) → i < length p → slice_index p i ≢ 58) → ((i : ℕ) → i < length l → slice_index l i ≢ 58) → ((i : ℕ) → i < length h → slice_index h i ≢ 58)
-        → MatchOption result ⊥ (λ f. (f.priority.now ≡ p) × (f.line.now ≡ l) × (f.pattern.now ≡ h) × (f.key.now ≡ k)) }
+        → ((i : ℕ) → i < length p → slice_index p i ≢ 58)
+        → ((i : ℕ) → i < length l → slice_index l i ≢ 58)
+        → ((i : ℕ) → i < length h → slice_index h i ≢ 58)
+        → MatchOption result ⊥
+        (λ f. (f.priority.now ≡ p) × (f.line.now ≡ l) × (f.pattern.now ≡ h) × (f.key.now ≡ k)) }
 {
     let (priority, rest) = cut(text)?;
     let (line, rest) = cut(rest)?;
@@ -54,7 +60,7 @@ fn split_fields(text: &str) -> Option<Fields<'_>>
 impl Position {
     /// A copy, in memory of its own.
     pub(crate) fn copy(&self, alloc: Global) -> Result<Position, AllocError>
-        ensures { IfOk result (λ p. position_spot p ≡ position_spot self.now) }
+        ensures { IfOk result (λ p. position_value p ≡ position_value self.now) }
     {
         let pattern = self.pattern.to_vec(alloc)?;
         let key = self.key.to_vec(alloc)?;
@@ -68,7 +74,7 @@ impl Position {
 
     /// What the order looks at.
     pub(crate) fn parts(&self) -> Parts<'_>
-        ensures { parts_spot result ≡ position_spot self.now }
+        ensures { parts_position result ≡ position_value self.now }
     {
         Parts {
             priority: self.priority,
@@ -83,7 +89,7 @@ impl Position {
     ///
     /// The only error is that memory is refused.
     pub fn write(&self, alloc: Global) -> Result<String, AllocError>
-        ensures { IfOk result (λ r. string_bytes r ≡ canonical (position_spot self.now)) }
+        ensures { IfOk result (λ r. string_bytes r ≡ canonical (position_value self.now)) }
     {
         let pattern = hex::encode(alloc, self.pattern.as_slice())?;
         let key = hex::encode(alloc, self.key.as_slice())?;
@@ -94,8 +100,10 @@ impl Position {
 
     /// The position that the text spells, if it spells one.
     fn read_fields(alloc: Global, text: &str) -> Result<Option<Position>, AllocError>
-        ensures spelled { IfOk result (λ r. IfSome r (λ p. IsSpelling (position_spot p) text.now)) }
-        ensures refused { IfOk result (λ r. r ≡ None → (p : Spot) → IsSpelling p text.now → ⊥) }
+        ensures spelled { IfOk result
+            (λ r. IfSome r (λ p. IsSpelling (position_value p) text.now)) }
+        ensures refused { IfOk result
+            (λ r. r ≡ None → (p : Assignment.Position) → IsSpelling p text.now → ⊥) }
     {
         let Some(parts) = split_fields(text) else {
             return Ok(None);
@@ -125,8 +133,9 @@ impl Position {
     /// [`QueryError::BadPosition`] where it spells none, as with a sign, a leading zero or a field more;
     /// [`QueryError::Memory`] where memory is refused.
     pub fn read(alloc: Global, text: &str) -> Result<Position, QueryError>
-        ensures spelled { IfOk result (λ p. IsSpelling (position_spot p) text.now) }
-        ensures refused { IfErr result (λ e. e ≡ BadPosition → (p : Spot) → IsSpelling p text.now → ⊥) }
+        ensures spelled { IfOk result (λ p. IsSpelling (position_value p) text.now) }
+        ensures refused { IfErr result
+            (λ e. e ≡ BadPosition → (p : Assignment.Position) → IsSpelling p text.now → ⊥) }
         ensures no_page { IfErr result (λ e. e ≢ PageZero) }
     {
         match Position::read_fields(alloc, text)? {

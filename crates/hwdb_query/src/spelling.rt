@@ -9,7 +9,9 @@ use std::alloc::{AllocError, Global};
 /// What stands before and behind the first colon.
 pub(crate) fn cut(text: &str) -> Option<(&str, &str)>
     ensures parts { IfSome result (λ x. text.now ≡ x.0.now ++ 58 ∷ x.1.now) }
-    ensures found { (xs ys : List ℕ) → text.now ≡ xs ++ 58 ∷ ys → ((i : ℕ) → i < length xs → slice_index xs i ≢ 58) → MatchOption result ⊥ (λ x. (x.0.now ≡ xs) × (x.1.now ≡ ys)) }
+    ensures found { (xs ys : List ℕ) → text.now ≡ xs ++ 58 ∷ ys
+        → ((i : ℕ) → i < length xs → slice_index xs i ≢ 58)
+        → MatchOption result ⊥ (λ x. (x.0.now ≡ xs) × (x.1.now ≡ ys)) }
 {
     text.split_once(':')
 }
@@ -32,7 +34,9 @@ pub(crate) fn number(alloc: Global, text: &str) -> Result<Option<u64>, AllocErro
 
 /// The bytes of a hexadecimal text.
 pub(crate) fn bytes_of(alloc: Global, text: &str) -> Result<Option<Vec<u8>>, AllocError>
-    ensures { IfOk result (λ r. MatchOption r ((bytes : List ℕ) → decode_of text.now ≢ Ok bytes) (λ v. decode_of text.now ≡ Ok v.items)) }
+    ensures { IfOk result
+        (λ r. MatchOption r ((bytes : List ℕ) → decode_of text.now ≢ Ok bytes)
+        (λ v. decode_of text.now ≡ Ok v.items)) }
 {
     match hex::decode(alloc, text) {
         Ok(bytes) => Ok(Some(bytes)),

@@ -1,11 +1,10 @@
 //! The start of a cursor.
 ghost use Rattle.std.specs.Prelude.{◌≡◌, ◌≢◌, ◌<◌, List, IfOk, IfErr, false};
-ghost use Rattle.hwdb_reader.specs.View.{db_tree};
-ghost use Rattle.hwdb_query.specs.Answers.{answers_after};
-ghost use Rattle.hwdb_query.specs.Compiling.{Source, all_assignments};
-ghost use Rattle.hwdb_query.specs.Headline.{last_assignments, IsTreeOfFiles};
-ghost use Rattle.hwdb_query.specs.Live.{live_nodes};
-ghost use Rattle.hwdb_query.specs.Hits.{given_spot, Progress};
+ghost use Rattle.hwdb_reader.specs.Views.{db_tree};
+ghost use Rattle.hwdb_spec.specs.Tree.{answers_after, IsTreeOfFiles, live_nodes};
+ghost use Rattle.hwdb_spec.specs.Folders.{Source, all_assignments};
+ghost use Rattle.hwdb_spec.specs.Answers.{last_assignments};
+ghost use Rattle.hwdb_query.specs.Views.{given_position, Progress};
 ghost use Rattle.hwdb_query.specs.declared.errors.QueryError.TheVariants.{PageZero, BadPosition};
 
 use crate::errors::QueryError;
@@ -31,15 +30,17 @@ pub fn cursor<'a, 'd>(
     page: usize,
 ) -> Result<Cursor<'a, 'd>, QueryError>
     ensures begins { IfOk result (λ c. c ≡ record {
-      to_come = answers_after device.now (given_spot after.entry) (db_tree db.now);
+      to_come = answers_after device.now (given_position after.entry) (db_tree db.now);
       held = 0;
       page = page;
       ended = false;
       entered = 0;
       live = live_nodes device.now (db_tree db.now);
     }) }
-    ensures headline { IfOk result (λ c. (etc usr : List Source) → IsTreeOfFiles etc usr (db_tree db.now)
-        → c.to_come ≡ last_assignments device.now (given_spot after.entry) (all_assignments etc usr)) }
+    ensures headline { IfOk result
+        (λ c. (etc usr : List Source) → IsTreeOfFiles etc usr (db_tree db.now)
+        → c.to_come ≡ last_assignments device.now (given_position after.entry)
+        (all_assignments etc usr)) }
     ensures some { IfOk result (λ _. 0 < page) }
     ensures zero { page ≡ 0 → IfErr result (λ e. e ≡ PageZero) }
     ensures page { IfErr result (λ e. e ≡ PageZero → page ≡ 0) }

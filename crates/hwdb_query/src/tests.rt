@@ -1,10 +1,8 @@
 //! Worked rows over small databases, and the texts of positions.
-mod beside;
-mod compiled;
-mod plain;
 mod vectors;
 
-use crate::{Cursor, Hit, Position, QueryError, cursor, effective};
+use crate::{CompileError, Cursor, Hit, Position, QueryError, compile, cursor, effective};
+use compiled::files;
 use hwdb_reader::check;
 use std::alloc::Global;
 use std::test::Fail;
@@ -235,6 +233,112 @@ fn position_texts(rt: HostRuntime) -> Result<(), Fail> {
     ] {
         let refused = Position::read(rt.alloc(), text);
         assert!(rt; matches!(&refused, Err(QueryError::BadPosition)));
+    }
+    Ok(())
+}
+
+/// A device of so many bytes: one, and `a` behind it.
+fn long_device(alloc: Global, first: u8, length: usize) -> Result<Vec<u8>, Fail> {
+    let mut device = Vec::new(alloc);
+    device.push(first)?;
+    for _ in 1..length {
+        device.push(b'a')?;
+    }
+    Ok(device)
+}
+
+#[test]
+fn long_devices(rt: HostRuntime) -> Result<(), Fail> {
+    let rows = [(b'a', "1:2:612a:4b\ta*\tK=1\n", "K=1"), (b'x', "", "")];
+    for (first, lines, pair) in rows {
+        let device = long_device(rt.alloc(), first, 5000)?;
+        let (seen, _) = listed(rt.alloc(), TWO_PATTERNS, &device, None, 64)?;
+        assert_eq!(rt; seen.as_slice(), lines.as_bytes());
+        let bytes = bytes_of(rt.alloc(), TWO_PATTERNS)?;
+        let db = check(&bytes).map_err(|_| "refused")?;
+        let mut text = Vec::new(rt.alloc());
+        for (key, value) in effective(rt.alloc(), &db, &device)? {
+            text.extend_from_slice(key)?;
+            text.push(b'=')?;
+            text.extend_from_slice(value)?;
+        }
+        assert_eq!(rt; text.as_slice(), pair.as_bytes());
+    }
+    Ok(())
+}
+
+/// A stored path of 300 bytes, of a file whose name has 283.
+#[test]
+fn long_path(rt: HostRuntime) -> Result<(), Fail> {
+    let alloc = rt.alloc();
+    let mut name = String::new(alloc);
+    for _ in 0..278 {
+        name.push_str("n")?;
+    }
+    name.push_str(".hwdb")?;
+    let etc = files(alloc, &[(name.as_str(), "a\n K=v\n")])?;
+    let compiled = compile(alloc, &etc, &[], 1000)?;
+    assert_eq!(rt; compiled.database.len(), 206 + 300 - 23);
+    let db = check(&compiled.database).map_err(|_| "refused")?;
+    let mut hits = cursor(alloc, &db, b"a", None, 1).map_err(|_| "no cursor")?;
+    let hit = hits.next()?.ok_or("no hit")?;
+    let path = format!(in alloc; "/etc/udev/hwdb.d/{name}")?;
+    assert_eq!(rt; hit.path.len(), 300);
+    assert_eq!(rt; hit.path, path.as_bytes());
+    Ok(())
+}
+
+/// Two cursors over two databases take turns.
+#[test]
+fn two_databases(rt: HostRuntime) -> Result<(), Fail> {
+    let alloc = rt.alloc();
+    let one = bytes_of(alloc, TWO_PATTERNS)?;
+    let other = bytes_of(alloc, TWO_FOLDERS)?;
+    let one = check(&one).map_err(|_| "refused")?;
+    let other = check(&other).map_err(|_| "refused")?;
+    let mut of_one = cursor(alloc, &one, b"ab", None, 1).map_err(|_| "no cursor")?;
+    let mut of_other = cursor(alloc, &other, b"a", None, 1).map_err(|_| "no cursor")?;
+    let mut text = Vec::new(alloc);
+    for _ in 0..3 {
+        if let Some(hit) = of_one.next()? {
+            add_line(alloc, &hit, &mut text)?;
+        }
+        if let Some(hit) = of_other.next()? {
+            add_line(alloc, &hit, &mut text)?;
+        }
+    }
+    let lines =
+        "1:2:612a:4b\ta*\tK=1\n1:2:61:4b\ta\tK=1\n1:5:6162:4b\tab\tK=2\n2:2:612a:4b\ta*\tK=2\n";
+    assert_eq!(rt; text.as_slice(), lines.as_bytes());
+    Ok(())
+}
+
+#[test]
+fn error_texts(rt: HostRuntime) -> Result<(), Fail> {
+    let rows = [
+        (QueryError::PageZero, "a page holds at least one hit"),
+        (QueryError::BadPosition, "bad position"),
+        (QueryError::Memory, "out of memory"),
+    ];
+    for (error, want) in rows {
+        let text = format!(in rt.alloc(); "{error}")?;
+        assert_eq!(rt; text.as_str(), want);
+    }
+    let rows = [
+        (CompileError::TooManyFiles, "more than 65535 files"),
+        (
+            CompileError::TooManyLines,
+            "a file has more than 4294967295 lines",
+        ),
+        (
+            CompileError::TooLarge,
+            "the database would be larger than the limit",
+        ),
+        (CompileError::Memory, "out of memory"),
+    ];
+    for (error, want) in rows {
+        let text = format!(in rt.alloc(); "{error}")?;
+        assert_eq!(rt; text.as_str(), want);
     }
     Ok(())
 }

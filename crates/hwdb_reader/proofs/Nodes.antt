@@ -1,15 +1,13 @@
 -- The nodes of a database, record by record.
-use Rattle.std.proofs.Common.{◌≡◌, ◌≤◌, ◌<◌, ◌-◌, ℕ, zero, suc, ◌+◌, List, length, None, refl, sym, ap, arith, subst, inl, inr}
-use Rattle.hwdb_layout.specs.declared.Layout.{Layout}
-use Rattle.hwdb_layout.specs.declared.DbFault.{DbFault}
-use Rattle.hwdb_layout.specs.declared.DbFault.TheVariants.{Short, Signature, RecordSizes, Lengths, Strings, Place, Depth, ChildOrder, StringOffset, KeyOrder, Priority}
-use Rattle.std.proofs.Common.{add-one}
-use Rattle.hwdb_layout.specs.Tree.{Tree, count}
-use Rattle.hwdb_layout.specs.Tree.Tree.{Node}
-use Rattle.hwdb_layout.specs.Database.{NodeText, ChildrenText, ValuesText, values_at, children_at, tree_at, IsPlace, child_entry, child_count, child_byte, child_field, value_entries, value_count, record_end, prefix_field}
-use Rattle.hwdb_layout.specs.Faults.{Fits, ChildrenFit, Reached, NodeFault, ValuesFault, child_from, Stands, byte_before}
-use Rattle.hwdb_layout.specs.Faults.Reached.{Below}
-use Rattle.hwdb_layout.proofs.Bounds.{begins_before, children_room}
+use Rattle.std.proofs.Common.{◌≡◌, ◌≤◌, ◌<◌, ◌-◌, ℕ, zero, suc, ◌+◌, List, length, None, refl, sym, ap, arith, subst, inl, inr, add-one}
+use Rattle.hwdb_spec.specs.declared.Layout.{Layout}
+use Rattle.hwdb_spec.specs.declared.DbFault.{DbFault}
+use Rattle.hwdb_spec.specs.declared.DbFault.TheVariants.{Short, Signature, RecordSizes, Lengths, Strings, Place, Depth, ChildOrder, StringOffset, KeyOrder, Priority}
+use Rattle.hwdb_spec.specs.Tree.{Tree, count}
+use Rattle.hwdb_spec.specs.Tree.Tree.{Node}
+use Rattle.hwdb_spec.specs.Format.{NodeText, ChildrenText, ValuesText, values_at, children_at, tree_at, IsPlace, child_entry, child_count, child_byte, child_field, value_entries, value_count, record_end, prefix_field, Fits, ChildrenFit, Reached, NodeFault, ValuesFault, child_from, Stands, byte_before}
+use Rattle.hwdb_spec.specs.Format.Reached.{Below}
+use Rattle.hwdb_reader.proofs.Bounds.{begins_before, children_room}
 
 pub length-values_at : (l : Layout) (b : List ℕ) (e n : ℕ) → length (values_at l b e n) ≡ n
 unfolding values_at

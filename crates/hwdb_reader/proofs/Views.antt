@@ -2,11 +2,11 @@
 use Rattle.std.proofs.Common.{◌≡◌, ◌≤◌, ◌<◌, ◌-◌, ◌^◌, ℕ, zero, suc, ◌+◌, ◌*◌, List, length, Option, Some, refl, sym, ◌∙◌, ap, arith, subst, slice_get}
 use Rattle.std.proofs.Math.Logic.{∥∥₁_elim, ∥∥₁_map}
 use Rattle.std.specs.Coded.{le_prop}
-use Rattle.hwdb_layout.specs.declared.Layout.{Layout}
-use Rattle.hwdb_layout.specs.Tree.{Tree, list_of, children_of, values_of, prefix_of}
-use Rattle.hwdb_layout.specs.Database.{NodeText, ChildrenText, ValuesText, values_at, value_at, children_at, tree_at, text_at, IsValue, child_entry, child_count, child_byte, child_field, value_entries, value_count, record_end, prefix_field}
-use Rattle.hwdb_reader.specs.Placed.{Placed}
-use Rattle.hwdb_layout.proofs.Bounds.{children_room, record_end_large}
+use Rattle.hwdb_spec.specs.declared.Layout.{Layout}
+use Rattle.hwdb_spec.specs.Tree.{Tree, list_of, children_of, values_of, prefix_of}
+use Rattle.hwdb_spec.specs.Format.{NodeText, ChildrenText, ValuesText, values_at, value_at, children_at, tree_at, text_at, IsValue, child_entry, child_count, child_byte, child_field, value_entries, value_count, record_end, prefix_field}
+use Rattle.hwdb_reader.specs.Internal.Placed.{Placed}
+use Rattle.hwdb_reader.proofs.Bounds.{children_room, record_end_large}
 use Rattle.hwdb_reader.proofs.Nodes.{node_open, no_levels}
 
 levels_some : (l : Layout) (b : List ℕ) (levels from off : ℕ) (t : Tree) → NodeText l b levels from off t → 0 < levels

@@ -1,2 +1,3 @@
-pub mod Placed
-pub mod View
+pub mod Views
+pub mod Samples
+pub mod Internal

@@ -1,14 +1,13 @@
 //! Whether bytes are a database.
 ghost use Rattle.std.specs.Prelude.{◌<◌, IfOk, OnErr, IfErr, length};
-ghost use Rattle.hwdb_layout.specs.Tree.{Tree, node_count};
-ghost use Rattle.hwdb_layout.specs.Database.{IsDatabase};
-ghost use Rattle.hwdb_layout.specs.Faults.{FaultStands};
-ghost use Rattle.hwdb_reader.specs.View.{db_tree};
+ghost use Rattle.hwdb_spec.specs.Tree.{Tree, node_count};
+ghost use Rattle.hwdb_spec.specs.Format.{IsDatabase, FaultStands};
+ghost use Rattle.hwdb_reader.specs.Views.{db_tree};
 
 use crate::header::check_header;
 use crate::view::{Db, Node};
 use crate::walk::walk;
-use hwdb_layout::DbFault;
+use hwdb_spec::DbFault;
 
 /// How many nodes may stand one below the other, the root counted.
 const MAX_LEVELS: usize = 4097;

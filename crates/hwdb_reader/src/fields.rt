@@ -1,13 +1,13 @@
 //! Single fields of the records, and the strings that they name. Numbers are little-endian.
 ghost use Rattle.std.specs.Prelude.{◌≡◌, ◌≤◌, ◌<◌, ◌+◌, ◌↔◌, length, IsTrue};
-ghost use Rattle.hwdb_layout.specs.Database.{number_at, text_at, IsPlace};
+ghost use Rattle.hwdb_spec.specs.Format.{number_at, text_at, IsPlace};
 
 use crate::frame::Frame;
 use byteorder::{ByteOrder, LittleEndian};
 use memchr::memchr;
 
 /// The number in the eight bytes at `i`.
-#[tactic(auto, unfolding(hwdb_layout::specs::Database::number_at))]
+#[tactic(auto, unfolding(hwdb_spec::specs::Format::number_at))]
 pub fn u64_at(b: &[u8], i: usize) -> usize
     requires { i + 8 ≤ length b.now }
     ensures { result ≡ number_at 8 i b.now }
@@ -16,7 +16,7 @@ pub fn u64_at(b: &[u8], i: usize) -> usize
 }
 
 /// The number in the two bytes at `i`.
-#[tactic(auto, unfolding(hwdb_layout::specs::Database::number_at))]
+#[tactic(auto, unfolding(hwdb_spec::specs::Format::number_at))]
 pub fn u16_at(b: &[u8], i: usize) -> u16
     requires { i + 2 ≤ length b.now }
     ensures { result ≡ number_at 2 i b.now }
@@ -25,7 +25,7 @@ pub fn u16_at(b: &[u8], i: usize) -> u16
 }
 
 /// The number in the four bytes at `i`.
-#[tactic(auto, unfolding(hwdb_layout::specs::Database::number_at))]
+#[tactic(auto, unfolding(hwdb_spec::specs::Format::number_at))]
 pub fn u32_at(b: &[u8], i: usize) -> u32
     requires { i + 4 ≤ length b.now }
     ensures { result ≡ number_at 4 i b.now }
@@ -34,7 +34,7 @@ pub fn u32_at(b: &[u8], i: usize) -> u32
 }
 
 /// The string that stands at `i`: up to the next byte 0.
-#[tactic(auto, unfolding(hwdb_layout::specs::Database::text_at))]
+#[tactic(auto, unfolding(hwdb_spec::specs::Format::text_at))]
 pub fn text(b: &[u8], i: usize) -> &[u8]
     requires { i < length b.now }
     ensures { result.now ≡ text_at b.now i }

@@ -1,7 +1,7 @@
 //! A layout that was checked.
 ghost use Rattle.std.specs.Prelude.{◌≤◌};
 
-use hwdb_layout::Layout;
+use hwdb_spec::Layout;
 
 /// A layout whose records have room for their known fields.
 #[derive(Clone, Copy)]

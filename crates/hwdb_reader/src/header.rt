@@ -1,14 +1,13 @@
 //! The header of a database.
 ghost use Rattle.std.specs.Prelude.{◌≡◌, IfOk, OnErr, IfErr};
-ghost use Rattle.hwdb_layout.specs.Database.{layout_of, IsHeader};
-ghost use Rattle.hwdb_layout.specs.Faults.{HeaderFault};
+ghost use Rattle.hwdb_spec.specs.Format.{layout_of, IsHeader, HeaderFault};
 
 use crate::fields::u64_at;
 use crate::frame::Frame;
-use hwdb_layout::{DbFault, Layout};
+use hwdb_spec::{DbFault, Layout};
 
 /// Tests all that stands in the header, and the last byte. The first of B1 to B5 that stands is answered.
-#[tactic(auto, unfolding(hwdb_layout::specs::Database::layout_of))]
+#[tactic(auto, unfolding(hwdb_spec::specs::Format::layout_of))]
 pub fn check_header(b: &[u8]) -> Result<Frame, DbFault>
     ensures ok { IfOk result (λ f. (f.sizes ≡ layout_of b.now) × IsHeader b.now) }
     ensures err { OnErr result (IsHeader b.now → ⊥) }

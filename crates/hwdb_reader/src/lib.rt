@@ -2,19 +2,21 @@
 //! without memory, and answers a view whose reads never test an offset again.
 //!
 //! The layout is that of systemd's `hwdb-internal.h`, with the record sizes that the header announces.
-//! What a database of a tree is, and what each fault is, stands in the definitions of `hwdb_layout`.
+//! What a database of a tree is, and what each fault is, stands in the definitions of `hwdb_spec`.
 //!
 //! - `header`: the faults B1 to B5, in this order;
 //! - `walk`: the nodes, by recursion that the depth limit bounds;
 //! - `values`: the value entries of a node;
 //! - `fields` and `places`: single fields, and where records stand;
-//! - `view`: the nodes, children and values of a database that was accepted.
+//! - `view`: the nodes, children and values of a database that was accepted;
+//! - `laws`: laws of the format, on the definitions alone.
 #![tactic(auto)]
 
 mod checking;
 mod fields;
 mod frame;
 mod header;
+mod laws;
 mod places;
 #[cfg(test)]
 mod tests;
@@ -23,5 +25,6 @@ mod view;
 mod walk;
 
 pub use checking::check;
-pub use hwdb_layout::DbFault;
+pub use hwdb_spec::DbFault;
+pub use laws::{law_ascending, law_faultless, law_few_nodes, law_one_tree, law_samples};
 pub use view::{Child, Db, Entered, Entry, Inside, Node, Origin};

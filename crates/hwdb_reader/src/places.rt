@@ -1,15 +1,15 @@
 //! Where the entries of a node that was tested stand, and what they show.
 ghost use Rattle.std.specs.Prelude.{◌≡◌, ◌≤◌, ◌<◌, ◌+◌, ◌*◌, ◌^◌, length};
-ghost use Rattle.hwdb_layout.specs.Database.{record_end, child_entry, child_count, value_entries, value_count, value_at, IsValue};
-ghost use Rattle.hwdb_layout.specs.Map.{shown};
-ghost use Rattle.hwdb_reader.specs.View.{entry_shows};
+ghost use Rattle.hwdb_spec.specs.Format.{record_end, child_entry, child_count, value_entries, value_count, value_at, IsValue};
+ghost use Rattle.hwdb_spec.specs.Tree.{shown};
+ghost use Rattle.hwdb_reader.specs.Views.{entry_shows};
 
 use crate::fields::{text, u16_at, u32_at, u64_at};
 use crate::frame::Frame;
 use crate::view::{Entry, Origin};
 
 /// Where the child entry `i` of the node at `off` stands.
-#[tactic(auto, using(hwdb_layout::proofs::Bounds::entry_room), unfolding(hwdb_layout::specs::Database::record_end))]
+#[tactic(auto, using(crate::proofs::Bounds::entry_room), unfolding(hwdb_spec::specs::Format::record_end))]
 pub fn child_entry_at(b: &[u8], f: Frame, off: usize, i: usize) -> usize
     requires inside { record_end f.sizes b.now off ≤ length b.now }
     requires below { i < child_count b.now off }
@@ -21,7 +21,7 @@ pub fn child_entry_at(b: &[u8], f: Frame, off: usize, i: usize) -> usize
 }
 
 /// Where the value entry `i` of the node at `off` stands.
-#[tactic(auto, using(hwdb_layout::proofs::Bounds::value_entry_room), unfolding(hwdb_layout::specs::Database::record_end))]
+#[tactic(auto, using(crate::proofs::Bounds::value_entry_room), unfolding(hwdb_spec::specs::Format::record_end))]
 pub fn value_entry_at(b: &[u8], f: Frame, off: usize, i: usize) -> usize
     requires inside { record_end f.sizes b.now off ≤ length b.now }
     requires below { i < value_count b.now off }
@@ -33,7 +33,7 @@ pub fn value_entry_at(b: &[u8], f: Frame, off: usize, i: usize) -> usize
 }
 
 /// The value at a sound value entry.
-#[tactic(auto, unfolding(hwdb_layout::specs::Database::value_at))]
+#[tactic(auto, unfolding(hwdb_spec::specs::Format::value_at))]
 pub fn read_value(b: &[u8], f: Frame, entry: usize) -> Entry<'_>
     requires room { entry + 32 ≤ length b.now }
     requires sound { ∥ IsValue f.sizes b.now entry ∥₁ }
@@ -54,7 +54,7 @@ pub fn read_value(b: &[u8], f: Frame, entry: usize) -> Entry<'_>
 }
 
 /// Where the value at a value entry comes from.
-#[tactic(auto, unfolding(hwdb_layout::specs::Database::value_at))]
+#[tactic(auto, unfolding(hwdb_spec::specs::Format::value_at))]
 pub fn read_origin(b: &[u8], entry: usize) -> Origin
     requires { entry + 32 ≤ length b.now }
     ensures priority { result.priority ≡ (value_at b.now entry).priority }

@@ -1,11 +1,10 @@
 //! The value entries of a node, tested.
 ghost use Rattle.std.specs.Prelude.{◌≤◌, ◌+◌, ◌*◌, length, OnOk, OnErr, IfErr, None};
-ghost use Rattle.hwdb_layout.specs.Database.{IsValue, ValuesText, values_at};
-ghost use Rattle.hwdb_layout.specs.Faults.{EntryFault, ValuesFault};
+ghost use Rattle.hwdb_spec.specs.Format.{IsValue, ValuesText, values_at, EntryFault, ValuesFault};
 
 use crate::fields::{is_place, text, u16_at, u64_at};
 use crate::frame::Frame;
-use hwdb_layout::DbFault;
+use hwdb_spec::DbFault;
 
 /// Tests one value entry: its three strings are inside the string section, its priority isn't 0.
 fn check_value(b: &[u8], l: Frame, entry: usize) -> Result<(), DbFault>
@@ -31,11 +30,13 @@ fn check_value(b: &[u8], l: Frame, entry: usize) -> Result<(), DbFault>
 
 /// Tests the `n` value entries from `first` on, whose stored keys have to ascend. A lone key, as nearly all
 /// are, isn't read.
-#[tactic(auto, unfolding(hwdb_layout::specs::Database::ValuesText, hwdb_layout::specs::Database::values_at))]
+#[tactic(auto, unfolding(hwdb_spec::specs::Format::ValuesText, hwdb_spec::specs::Format::values_at))]
 pub fn check_values(b: &[u8], l: Frame, first: usize, n: usize) -> Result<(), DbFault>
     requires { first + l.sizes.value_size * n ≤ length b.now }
-    ensures ok { OnOk result (ValuesText l.sizes b.now first None (values_at l.sizes b.now first n)) }
-    ensures err { OnErr result (ValuesText l.sizes b.now first None (values_at l.sizes b.now first n) → ⊥) }
+    ensures ok { OnOk result
+        (ValuesText l.sizes b.now first None (values_at l.sizes b.now first n)) }
+    ensures err { OnErr result
+        (ValuesText l.sizes b.now first None (values_at l.sizes b.now first n) → ⊥) }
     ensures fault { IfErr result (λ e. ValuesFault l.sizes b.now first n e) }
 {
     if n == 1 {

@@ -1,6 +1,7 @@
 //! The view of a database that was accepted. That its bytes are a database stands in the types'
 //! invariants: no read tests an offset again or copies a text, and each slice is a part of the bytes.
-ghost use Rattle.hwdb_reader.specs.Placed.{Placed};
+ghost use Rattle.std.specs.Prelude.{◌<◌};
+ghost use Rattle.hwdb_reader.specs.Internal.Placed.{Placed};
 
 use crate::fields::{text, u64_at};
 use crate::frame::Frame;
@@ -84,6 +85,7 @@ pub struct Entry<'a> {
     pub value: &'a [u8],
     /// The stored path of its file.
     pub path: &'a [u8],
+    ghost positive: { 0 < priority },
 }
 
 /// The place in the files that a value comes from.
@@ -97,9 +99,8 @@ pub struct Origin {
 
 impl<'a> Db<'a> {
     ghost use Rattle.std.specs.Prelude.{◌≡◌, ◌<◌, ◌^◌};
-    ghost use Rattle.hwdb_layout.specs.Tree.{node_count};
-    ghost use Rattle.hwdb_layout.specs.Map.{IsTree};
-    ghost use Rattle.hwdb_reader.specs.View.{tree_of, db_tree};
+    ghost use Rattle.hwdb_spec.specs.Tree.{node_count, IsTree};
+    ghost use Rattle.hwdb_reader.specs.Views.{tree_of, db_tree};
 
     /// The root.
     pub fn root(&self) -> Node<'a>
@@ -113,8 +114,8 @@ impl<'a> Db<'a> {
 
 impl<'a> Node<'a> {
     ghost use Rattle.std.specs.Prelude.{◌≡◌, ◌<◌, ◌+◌, ◌^◌};
-    ghost use Rattle.hwdb_layout.specs.Tree.{prefix_of};
-    ghost use Rattle.hwdb_reader.specs.View.{tree_of, entered_tree};
+    ghost use Rattle.hwdb_spec.specs.Tree.{prefix_of};
+    ghost use Rattle.hwdb_reader.specs.Views.{tree_of, entered_tree};
 
     /// The bytes of the path between the node's own byte and its children's.
     pub fn prefix(&self) -> &'a [u8]
@@ -136,9 +137,8 @@ impl<'a> Node<'a> {
 
 impl<'a> Inside<'a> {
     ghost use Rattle.std.specs.Prelude.{◌≡◌, ◌<◌, Some, length, slice_get, option_map};
-    ghost use Rattle.hwdb_layout.specs.Tree.{children_of, values_of};
-    ghost use Rattle.hwdb_layout.specs.Map.{IsTree, shown};
-    ghost use Rattle.hwdb_reader.specs.View.{tree_of, entered_tree, entry_shows};
+    ghost use Rattle.hwdb_spec.specs.Tree.{children_of, values_of, IsTree, shown};
+    ghost use Rattle.hwdb_reader.specs.Views.{tree_of, entered_tree, entry_shows};
 
     /// How many children the node has.
     pub fn children(&self) -> usize
@@ -150,7 +150,8 @@ impl<'a> Inside<'a> {
     /// The child number `i`, counted from 0, ascending by byte.
     pub fn child(&self, i: usize) -> Child<'a>
         requires { i < length (children_of (entered_tree self.now)) }
-        ensures { slice_get (children_of (entered_tree self.now)) i ≡ Some (result.byte, tree_of result.node) }
+        ensures { slice_get (children_of (entered_tree self.now)) i
+            ≡ Some (result.byte, tree_of result.node) }
     {
         let node = self.node;
         let entry = child_entry_at(node.bytes, node.frame, node.offset, i);
@@ -192,7 +193,8 @@ impl<'a> Inside<'a> {
     /// The value number `i`, counted from 0, ascending by stored key.
     pub fn value(&self, i: usize) -> Entry<'a>
         requires { i < length (values_of (entered_tree self.now)) }
-        ensures { option_map shown (slice_get (values_of (entered_tree self.now)) i) ≡ Some (entry_shows result) }
+        ensures { option_map shown (slice_get (values_of (entered_tree self.now)) i)
+            ≡ Some (entry_shows result) }
     {
         let node = self.node;
         let entry = value_entry_at(node.bytes, node.frame, node.offset, i);

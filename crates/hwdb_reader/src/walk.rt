@@ -1,18 +1,18 @@
 //! The walk over the nodes section: each node's text is its children's texts, in order, and its record.
 ghost use Rattle.std.specs.Prelude.{◌≡◌, ◌≤◌, ℕ, length, SomeIff, IfOk, OnOk, OnErr, IfErr, None};
-ghost use Rattle.hwdb_layout.specs.Database.{record_end, prefix_field, value_entries, value_count, IsPlace, ValuesText, values_at, NodeText, tree_at};
-ghost use Rattle.hwdb_layout.specs.Faults.{Fits, Reached, NodeFault, Stands};
+ghost use Rattle.hwdb_spec.specs.Format.{record_end, prefix_field, value_entries, value_count, IsPlace, ValuesText, values_at, NodeText, tree_at, Fits, Reached, NodeFault, Stands};
 
 use crate::fields::{is_place, u64_at};
 use crate::frame::Frame;
 use crate::values::check_values;
-use hwdb_layout::DbFault;
+use hwdb_spec::DbFault;
 
 /// Where the record at `off` ends, if it lies between `from` and `limit`. No sum wraps.
-#[tactic(auto, unfolding(hwdb_layout::specs::Database::record_end))]
+#[tactic(auto, unfolding(hwdb_spec::specs::Format::record_end))]
 fn record_end_within(b: &[u8], l: Frame, from: usize, off: usize, limit: usize) -> Option<usize>
     requires { limit ≤ length b.now }
-    ensures { SomeIff result ((from ≤ off) × (record_end l.sizes b.now off ≤ limit)) (record_end l.sizes b.now off) }
+    ensures { SomeIff result ((from ≤ off) × (record_end l.sizes b.now off ≤ limit))
+        (record_end l.sizes b.now off) }
 {
     if off < from || limit < off || limit - off < l.sizes.node_size {
         return None;
@@ -35,14 +35,17 @@ fn record_end_within(b: &[u8], l: Frame, from: usize, off: usize, limit: usize) 
 }
 
 /// Tests the prefix and the values of a node whose record has room.
-#[tactic(auto, unfolding(hwdb_layout::specs::Database::record_end))]
+#[tactic(auto, unfolding(hwdb_spec::specs::Format::record_end))]
 fn check_fields(b: &[u8], l: Frame, off: usize) -> Result<(), DbFault>
     requires { record_end l.sizes b.now off ≤ length b.now }
     ensures ok { OnOk result (IsPlace l.sizes b.now (prefix_field b.now off)
-        × ValuesText l.sizes b.now (value_entries l.sizes b.now off) None (values_at l.sizes b.now (value_entries l.sizes b.now off) (value_count b.now off))) }
+        × ValuesText l.sizes b.now (value_entries l.sizes b.now off) None
+        (values_at l.sizes b.now (value_entries l.sizes b.now off) (value_count b.now off))) }
     ensures err { OnErr result (IsPlace l.sizes b.now (prefix_field b.now off)
-        → ValuesText l.sizes b.now (value_entries l.sizes b.now off) None (values_at l.sizes b.now (value_entries l.sizes b.now off) (value_count b.now off)) → ⊥) }
-    ensures fault { IfErr result (λ e. (levels from : ℕ) → NodeFault l.sizes b.now levels from off e) }
+        → ValuesText l.sizes b.now (value_entries l.sizes b.now off) None
+        (values_at l.sizes b.now (value_entries l.sizes b.now off) (value_count b.now off)) → ⊥) }
+    ensures fault { IfErr result
+        (λ e. (levels from : ℕ) → NodeFault l.sizes b.now levels from off e) }
 {
     if !is_place(b, l, u64_at(b, off)) {
         return Err(DbFault::StringOffset(off as u64));
@@ -63,9 +66,12 @@ pub fn walk(
 ) -> Result<usize, DbFault>
     requires inside { limit ≤ length b.now }
     requires reached { Reached l.sizes b.now levels from off limit }
-    ensures ok { IfOk result (λ end. (end ≡ record_end l.sizes b.now off) × Fits l.sizes b.now from off limit
+    ensures ok { IfOk result
+        (λ end. (end ≡ record_end l.sizes b.now off) × Fits l.sizes b.now from off limit
         × NodeText l.sizes b.now levels from off (tree_at l.sizes b.now levels off)) }
-    ensures err { OnErr result (Fits l.sizes b.now from off limit → NodeText l.sizes b.now levels from off (tree_at l.sizes b.now levels off) → ⊥) }
+    ensures err { OnErr result
+        (Fits l.sizes b.now from off limit
+        → NodeText l.sizes b.now levels from off (tree_at l.sizes b.now levels off) → ⊥) }
     ensures fault { IfErr result (λ e. Stands l.sizes b.now e) }
 {
     let Some(end) = record_end_within(b, l, from, off, limit) else {

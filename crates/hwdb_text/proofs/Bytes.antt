@@ -3,11 +3,9 @@ use Rattle.std.proofs.Common.{◌≡◌, ℕ, zero, suc, ◌-◌, ◌+◌, ◌<�
 use Rattle.std.proofs.lemmas.Bool.{cases_Bool}
 use Rattle.std.proofs.lemmas.List.{take_more}
 use Rattle.std.specs.List.{position_or_len}
-use Rattle.hwdb_text.specs.Lines.{Line, line, numbered, pieces, led, trimmed, is, has, before, after, property, is_blank, is_none}
-use Rattle.hwdb_text.specs.Assignments.{Origin, given, assign, property_assignments}
-use Rattle.hwdb_text.specs.Faults.{property_faults, fault}
-use Rattle.hwdb_text.specs.Lines.{has_equals, has_key}
-use Rattle.hwdb_text.specs.declared.outcome.FaultKind.TheVariants.{NoEquals, EmptyKey}
+use Rattle.hwdb_spec.specs.Lines.{Line, line, numbered, pieces, led, trimmed, is, has, before, after, property, is_blank, is_none, has_equals, has_key}
+use Rattle.hwdb_spec.specs.Records.{Origin, given, assign, property_assignments, property_faults, fault}
+use Rattle.hwdb_spec.specs.declared.FaultKind.TheVariants.{NoEquals, EmptyKey}
 
 pub place_of : (test : ℕ → Bool) (text : List ℕ) (k : ℕ) → k < length text
     → ((j : ℕ) → j < k → test (get_or text j 0) ≡ true → ⊥) → test (get_or text k 0) ≡ true → position_or_len test text ≡ k

@@ -1,7 +1,7 @@
 -- The definitions at worked rows, computed.
 use Rattle.std.proofs.Common.{refl}
-use Rattle.hwdb_text.specs.Lines.{pieces, trimmed, numbered}
-use Rattle.hwdb_text.specs.Records.{run, behind, first_section, sections_from}
+use Rattle.hwdb_spec.specs.Lines.{pieces, trimmed, numbered}
+use Rattle.hwdb_spec.specs.Records.{run, behind, first_section, sections_from}
 use Rattle.hwdb_text.specs.Rows.{FaultRows, AssignmentRows, ChoiceRows, PathRows}
 
 pub fault_rows_hold : FaultRows

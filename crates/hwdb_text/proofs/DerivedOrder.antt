@@ -2,12 +2,12 @@
 use Rattle.std.proofs.Common.{◌≡◌, List, refl, ap, ◌∙◌, sym, get_or, ◌+◌}
 use Rattle.std.specs.List.Sorted.{IsSorted}
 use Rattle.std.specs.Ordering.{nat_cmp, ordering_then, is_lt}
-use Rattle.hwdb_text.specs.contracts.outcome.FaultKindOrd.TheImpl as kinds
-use Rattle.hwdb_text.specs.contracts.outcome.FaultOrd.TheImpl.{ghosts}
-use Rattle.hwdb_text.specs.declared.outcome.Fault.{Fault}
-use Rattle.hwdb_text.specs.declared.outcome.FaultKind.{FaultKind}
-use Rattle.hwdb_text.specs.declared.outcome.FaultKind.TheVariants.{StrayProperty, NoProperty, StrayMatch, NoEquals, EmptyKey, ZeroByte, LongMatch}
-use Rattle.hwdb_text.specs.Faults.{fault_number, fault_cmp}
+use Rattle.hwdb_spec.specs.contracts.FaultKindOrd.TheImpl as kinds
+use Rattle.hwdb_spec.specs.contracts.FaultOrd.TheImpl.{ghosts}
+use Rattle.hwdb_spec.specs.declared.Fault.{Fault}
+use Rattle.hwdb_spec.specs.declared.FaultKind.{FaultKind}
+use Rattle.hwdb_spec.specs.declared.FaultKind.TheVariants.{StrayProperty, NoProperty, StrayMatch, NoEquals, EmptyKey, ZeroByte, LongMatch}
+use Rattle.hwdb_spec.specs.Records.{fault_number, fault_cmp}
 
 by_number : (a b : FaultKind) → kinds.ghosts.cmp a b ≡ nat_cmp (fault_number a) (fault_number b)
 by_number StrayProperty StrayProperty = refl

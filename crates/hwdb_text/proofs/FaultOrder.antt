@@ -9,10 +9,10 @@ use Rattle.std.specs.List.Sorted.{IsSorted}
 use Rattle.std.specs.Ordering.{nat_cmp, is_eq, is_lt, is_gt, ordering_reverse}
 use Rattle.std.specs.declared.cmp.Ordering.{Ordering}
 use Rattle.std.specs.declared.cmp.Ordering.TheVariants.{Less, Equal, Greater}
-use Rattle.hwdb_text.specs.declared.outcome.Fault.{Fault}
-use Rattle.hwdb_text.specs.declared.outcome.FaultKind.{FaultKind}
-use Rattle.hwdb_text.specs.declared.outcome.FaultKind.TheVariants.{StrayProperty, NoProperty, StrayMatch, NoEquals, EmptyKey, ZeroByte, LongMatch}
-use Rattle.hwdb_text.specs.Faults.{fault_number, fault_cmp, with_fault, in_order, all_faults}
+use Rattle.hwdb_spec.specs.declared.Fault.{Fault}
+use Rattle.hwdb_spec.specs.declared.FaultKind.{FaultKind}
+use Rattle.hwdb_spec.specs.declared.FaultKind.TheVariants.{StrayProperty, NoProperty, StrayMatch, NoEquals, EmptyKey, ZeroByte, LongMatch}
+use Rattle.hwdb_spec.specs.Records.{fault_number, fault_cmp, with_fault, by_line, all_faults}
 use Rattle.hwdb_text.specs.Laws.{FaultsAreAll}
 use Rattle.hwdb_text.proofs.NameSets.{equal_of, greater_of, nat_equal_by, then_equal}
 
@@ -178,9 +178,9 @@ up_with f (g ∷ more) u = elim (cases_Bool (is_gt (fault_cmp f g))) [
       subst P (sym e) ((ap is_lt (fault_total.antisymm g f) ∙ not_above (fault_cmp f g) e, all_from_more f g more e u.0), u)
 ]
 
-pub up_in_order : (fs : List Fault) → Up (in_order fs)
+pub up_in_order : (fs : List Fault) → Up (by_line fs)
 up_in_order [] = tt
-up_in_order (f ∷ more) = up_with f (in_order more) (up_in_order more)
+up_in_order (f ∷ more) = up_with f (by_line more) (up_in_order more)
 
 moved_with_by : (f g : Fault) (more rest : List Fault) (b : Bool) → IsPermutation (f ∷ more) rest → IsPermutation (f ∷ (g ∷ more)) (cond b (g ∷ rest) (f ∷ (g ∷ more)))
 moved_with_by f g more rest true p =
@@ -193,16 +193,16 @@ moved_with : (f : Fault) (fs : List Fault) → IsPermutation (f ∷ fs) (with_fa
 moved_with f [] = IsPermutation-refl (f ∷ [])
 moved_with f (g ∷ more) = moved_with_by f g more (with_fault f more) (is_gt (fault_cmp f g)) (moved_with f more)
 
-moved_in_order : (fs : List Fault) → IsPermutation fs (in_order fs)
+moved_in_order : (fs : List Fault) → IsPermutation fs (by_line fs)
 moved_in_order [] = IsPermutation-refl []
 moved_in_order (f ∷ more) =
-    IsPermutation-trans (f ∷ more) (f ∷ in_order more) (with_fault f (in_order more)) (IsPermutation-cons f more (in_order more) (moved_in_order more)) (moved_with f (in_order more))
+    IsPermutation-trans (f ∷ more) (f ∷ by_line more) (with_fault f (by_line more)) (IsPermutation-cons f more (by_line more) (moved_in_order more)) (moved_with f (by_line more))
 
 pub faults_are_all : FaultsAreAll
 faults_are_all file = moved_in_order (all_faults file)
 
 -- a list in order that has the same faults is theirs in order
-pub in_order_is : (fs gs : List Fault) → IsPermutation fs gs → IsSorted fault_cmp gs → gs ≡ in_order fs
+pub in_order_is : (fs gs : List Fault) → IsPermutation fs gs → IsSorted fault_cmp gs → gs ≡ by_line fs
 in_order_is fs gs p s =
-    same_tallies gs (in_order fs) (up_of gs s) (up_in_order fs)
-    (λ x. sum_by-IsPermutation (is_it x) fs gs p ∙ sym (sum_by-IsPermutation (is_it x) fs (in_order fs) (moved_in_order fs)))
+    same_tallies gs (by_line fs) (up_of gs s) (up_in_order fs)
+    (λ x. sum_by-IsPermutation (is_it x) fs gs p ∙ sym (sum_by-IsPermutation (is_it x) fs (by_line fs) (moved_in_order fs)))

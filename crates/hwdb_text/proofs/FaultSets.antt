@@ -2,18 +2,18 @@
 use Rattle.std.proofs.Common.{◌≡◌, ℕ, zero, suc, ◌+◌, ◌<◌, ◌≤◌, ◌==◌, ◌⊎◌, Bool, true, false, not, List, [], ◌∷◌, ◌++◌, map, filter, refl, ap, ◌∙◌, sym, subst, cond, inl, inr, arith, eq-eqb, ne_eqb, eqb-true}
 use Rattle.std.proofs.lemmas.Bool.{cases_Bool}
 use Rattle.std.proofs.lemmas.Cmp.{tied_itself}
-use Rattle.std.specs.List.{flat_map, AllByRecursion, Contains}
+use Rattle.std.specs.Prelude.{flat_map}
+use Rattle.std.specs.List.{AllByRecursion, Contains}
 use Rattle.std.specs.List.Sorted.{IsStrictlySortedBy}
 use Rattle.std.specs.Ordering.{is_eq, is_lt, is_gt, ordering_reverse}
 use Rattle.std.specs.declared.cmp.Ordering.{Ordering}
 use Rattle.std.specs.declared.cmp.Ordering.TheVariants.{Less, Equal, Greater}
-use Rattle.hwdb_text.specs.declared.outcome.Fault.{Fault}
-use Rattle.hwdb_text.specs.declared.outcome.FaultKind.{FaultKind}
-use Rattle.hwdb_text.specs.declared.outcome.FaultKind.TheVariants.{StrayProperty, NoProperty, StrayMatch, NoEquals, EmptyKey, ZeroByte, LongMatch}
-use Rattle.hwdb_text.specs.Lines.{Line, lines, clean, numbered, pieces, is, is_dropped, is_empty, is_spoilt, is_long, has_equals, has_key}
-use Rattle.hwdb_text.specs.Records.{Section, lines_of, sections}
-use Rattle.hwdb_text.specs.Faults.{fault, fault_number, fault_cmp, property_faults, long_faults, lonely_faults, section_faults, spoilt_faults, all_faults, with_fault, in_order, faults}
-use Rattle.hwdb_text.specs.Laws.{FaultsAscend, OneListOfFaults}
+use Rattle.hwdb_spec.specs.declared.Fault.{Fault}
+use Rattle.hwdb_spec.specs.declared.FaultKind.{FaultKind}
+use Rattle.hwdb_spec.specs.declared.FaultKind.TheVariants.{StrayProperty, NoProperty, StrayMatch, NoEquals, EmptyKey, ZeroByte, LongMatch}
+use Rattle.hwdb_spec.specs.Lines.{Line, lines, clean, numbered, pieces, is, is_dropped, is_empty, is_spoilt, is_long, has_equals, has_key}
+use Rattle.hwdb_spec.specs.Records.{Section, sections, fault, fault_number, fault_cmp, property_faults, long_faults, lonely_faults, section_faults, spoilt_faults, all_faults, with_fault, by_line, faults}
+use Rattle.hwdb_text.specs.Laws.{lines_of, FaultsAscend, OneListOfFaults}
 use Rattle.hwdb_text.proofs.FaultOrder.{AllFrom, Up, fault_equal, fault_total, up_in_order}
 use Rattle.hwdb_text.proofs.Joining.{sections_are_the_lines}
 use Rattle.hwdb_text.proofs.NameSets.{less_of, greater_of}
@@ -262,10 +262,10 @@ often_with f g (h ∷ more) =
     let i = often_with f g more in
     elim (cases_Bool (is_gt (fault_cmp g h))) [ inl e ↦ rw e (omega (arith, i)) | inr e ↦ rw e refl ]
 
-often_in_order : (f : Fault) (fs : List Fault) → often f (in_order fs) ≡ often f fs
+often_in_order : (f : Fault) (fs : List Fault) → often f (by_line fs) ≡ often f fs
 unfolding often
 often_in_order f [] = refl
-often_in_order f (g ∷ more) = often_with f g (in_order more) ∙ ap (λ m. once f g + m) (often_in_order f more)
+often_in_order f (g ∷ more) = often_with f g (by_line more) ∙ ap (λ m. once f g + m) (often_in_order f more)
 
 less_by : (f g : Fault) → is_lt (fault_cmp g f) ≡ false → is_eq (fault_cmp f g) ≡ false → fault_cmp f g ≡ Less
 less_by f g h e = elim (cases_Bool (is_lt (fault_cmp f g))) [

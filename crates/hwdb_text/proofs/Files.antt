@@ -3,9 +3,9 @@ use Rattle.std.proofs.Common.{◌≡◌, ℕ, suc, ◌+◌, ◌<◌, ◌≤◌, 
 use Rattle.std.proofs.lemmas.List.{drop-drop, drop_all, length-drop}
 use Rattle.std.specs.List.{position_or_len}
 use Rattle.hwdb_text.specs.declared.records.Reader.{Reader}
-use Rattle.hwdb_text.specs.Lines.{Line, line, is, pieces, numbered}
-use Rattle.hwdb_text.specs.Assignments.{Origin}
-use Rattle.hwdb_text.specs.Reading.{Reads}
+use Rattle.hwdb_spec.specs.Lines.{Line, line, is, pieces, numbered}
+use Rattle.hwdb_spec.specs.Records.{Origin}
+use Rattle.hwdb_text.specs.Internal.Reading.{Reads}
 use Rattle.hwdb_text.proofs.Bytes.{line_step, number_step, no_pieces, no_numbers}
 
 pub more_lines : (bytes : List ℕ) (at : ℕ) → at < length bytes → 0 < length (pieces (is 10) (drop at bytes))

@@ -1,14 +1,14 @@
 -- What one more line does, at the stage where the reader is.
 use Rattle.std.proofs.Common.{◌≡◌, ℕ, true, List, [], ◌∷◌, ◌++◌, drop, map, refl, ap, ◌∙◌, sym, subst, Result, Ok, Err, append-nil, ◌<◌, ◌≤◌, length, arith}
 use Rattle.std.specs.Result.{OnOk}
-use Rattle.hwdb_text.specs.declared.outcome.FaultKind.TheVariants.{StrayProperty, NoProperty, StrayMatch, LongMatch}
+use Rattle.hwdb_spec.specs.declared.FaultKind.TheVariants.{StrayProperty, NoProperty, StrayMatch, LongMatch}
 use Rattle.hwdb_text.specs.declared.records.Stage.{Stage}
 use Rattle.hwdb_text.specs.declared.records.Stage.TheVariants.{Start, Matches, Properties}
 use Rattle.hwdb_text.specs.declared.records.Reader.{Reader}
-use Rattle.hwdb_text.specs.Lines.{Line, clean, is_match, is_property}
-use Rattle.hwdb_text.specs.Assignments.{Origin, given_in, section_assignments, text_of, patterns, property_assignments}
-use Rattle.hwdb_text.specs.Faults.{section_faults, spoilt_faults, long_faults, property_faults, fault}
-use Rattle.hwdb_text.specs.Reading.{AtStart, Closes, Holds, HoldsAt, Reads, gives}
+use Rattle.hwdb_spec.specs.Lines.{Line, clean, is_match, is_property}
+use Rattle.hwdb_spec.specs.Records.{Origin, section_assignments, patterns, property_assignments, section_faults, spoilt_faults, long_faults, property_faults, fault}
+use Rattle.hwdb_text.specs.Views.{given_in, text_of}
+use Rattle.hwdb_text.specs.Internal.Reading.{AtStart, Closes, Holds, HoldsAt, Reads, gives}
 use Rattle.hwdb_text.proofs.Steps.{end_start, end_section, property_start, property_section, match_start, match_more, match_stray}
 use Rattle.hwdb_text.proofs.Sections.{gives_none}
 

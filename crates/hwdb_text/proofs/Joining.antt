@@ -2,10 +2,10 @@
 use Rattle.std.proofs.Common.{◌≡◌, ℕ, zero, suc, ◌+◌, ◌-◌, ◌<◌, ◌==◌, Bool, true, false, not, List, [], ◌∷◌, ◌++◌, take, drop, length, filter, All, refl, ap, ◌∙◌, sym, inl, inr, arith, append_assoc, eqb-true, get_or, map}
 use Rattle.std.proofs.lemmas.Bool.{cases_Bool}
 use Rattle.std.proofs.lemmas.Grind.{flat_map-append}
-use Rattle.std.specs.List.{flat_map}
-use Rattle.hwdb_text.specs.Lines.{Line, ended, has, pieces, led, numbered, is, is_empty, is_property, is_match}
-use Rattle.hwdb_text.specs.Records.{run, behind, first_section, size, lines_of, sections_from}
-use Rattle.hwdb_text.specs.Laws.{LinesAreTheFile, LinesHoldNoNewline, LinesCountUp, SectionsAreTheBlock, SectionsAreTheLines}
+use Rattle.std.specs.Prelude.{flat_map}
+use Rattle.hwdb_spec.specs.Lines.{Line, has, pieces, led, numbered, is, is_empty, is_property, is_match}
+use Rattle.hwdb_text.specs.Laws.{ended, lines_of, LinesAreTheFile, LinesHoldNoNewline, LinesCountUp, SectionsAreTheBlock, SectionsAreTheLines}
+use Rattle.hwdb_spec.specs.Records.{run, behind, first_section, size, sections_from}
 use Rattle.hwdb_text.proofs.Ordered.{behind_section}
 use Rattle.hwdb_text.proofs.Sections.{positive}
 

@@ -5,8 +5,8 @@ use Rattle.std.proofs.lemmas.List.{length-drop, get_or-drop}
 use Rattle.memchr.specs.Find.{is_byte2}
 use Rattle.hwdb_text.specs.declared.line.Content.{Content}
 use Rattle.hwdb_text.specs.declared.line.Content.TheVariants.{Comment, ZeroByte, Empty, Property, Match}
-use Rattle.hwdb_text.specs.Lines.{is, has, before, begins_with, trimmed}
-use Rattle.hwdb_text.specs.Contents.{IsKind, IsContent}
+use Rattle.hwdb_spec.specs.Lines.{is, has, before, begins_with, trimmed}
+use Rattle.hwdb_text.specs.Internal.Contents.{IsKind, IsContent}
 use Rattle.hwdb_text.proofs.Bytes.{place_of, no_place, has_none}
 
 or_left : (a b : Bool) → a ≡ true → (a || b) ≡ true

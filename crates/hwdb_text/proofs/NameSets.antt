@@ -6,7 +6,7 @@ use Rattle.std.specs.Ordering.{nat_cmp, is_eq, is_lt, ordering_reverse, ordering
 use Rattle.std.specs.declared.cmp.Ordering.{Ordering}
 use Rattle.std.specs.declared.cmp.Ordering.TheVariants.{Less, Equal, Greater}
 use Rattle.std.specs.Cmp.Lexicographic.{slice_cmp}
-use Rattle.hwdb_text.specs.Choice.{counts, is_smaller, same, lists, with_name, ascending}
+use Rattle.hwdb_spec.specs.Folders.{counts, is_smaller, same, lists, with_name, ascending}
 use Rattle.hwdb_text.specs.Laws.{NamesAreThoseThatCount, IsBelow, Ascends, NamesAscend, OneAscendingList}
 
 pub equal_of : (o : Ordering) → is_eq o ≡ true → o ≡ Equal

@@ -4,12 +4,12 @@ use Rattle.std.proofs.lemmas.Bool.{cases_Bool}
 use Rattle.std.proofs.lemmas.Grind.{flat_map-append}
 use Rattle.std.proofs.lemmas.List.{drop-drop}
 use Rattle.std.proofs.lemmas.List.Sorted.{IsNonDecreasingBy-from_all_adjacent}
-use Rattle.std.specs.List.{flat_map}
-use Rattle.hwdb_text.specs.Lines.{Line, lines, clean, clean_line, is, is_dropped, is_empty, is_property, is_match, has_equals, has_key, pieces, led, numbered}
-use Rattle.hwdb_text.specs.Records.{run, behind, first_section, size, sections_from}
-use Rattle.hwdb_text.specs.Assignments.{Origin, Assigned, patterns, assign, property_assignments, section_assignments, assignments}
-use Rattle.hwdb_text.specs.Choice.{Choice}
-use Rattle.hwdb_text.specs.Choosing.{with_priorities, all_names}
+use Rattle.std.specs.Prelude.{flat_map}
+use Rattle.hwdb_spec.specs.Lines.{Line, lines, clean, clean_line, is, is_dropped, is_empty, is_property, is_match, has_equals, has_key, pieces, led, numbered}
+use Rattle.hwdb_spec.specs.Records.{run, behind, first_section, size, sections_from, Origin, patterns, assign, property_assignments, section_assignments, assignments}
+use Rattle.hwdb_spec.specs.Assignment.{Assignment}
+use Rattle.hwdb_spec.specs.Folders.{Choice}
+use Rattle.hwdb_text.specs.Internal.Choosing.{with_priorities, all_names}
 use Rattle.hwdb_text.specs.Laws.{AssignmentsStandByLine, PrioritiesCountUp}
 use Rattle.hwdb_text.proofs.Sections.{positive}
 use Rattle.hwdb_text.proofs.Taking.{choice_is}
@@ -34,8 +34,8 @@ rises_ends n low (x ∷ xs) high r = let e : n x ≤ high = rises_ends n (n x) x
 abbrev at_line : Line → ℕ
 at_line l = l.number
 
-abbrev of_line : Assigned → ℕ
-of_line a = a.line
+abbrev of_line : Assignment → ℕ
+of_line a = a.position.line
 
 -- some lines rise up to a number, and others from it
 abbrev Meet : (low : ℕ) → (xs ys : List Line) → (high : ℕ) → Type 0
@@ -144,7 +144,7 @@ pieces_rise low (l ∷ more) high r =
 blocks_rise : (o : Origin) (low : ℕ) (ps : List (List Line)) (high : ℕ) → RisesAll low ps high → Rises of_line low (flat_map (section_assignments o) (flat_map (sections_from 0) ps)) high
 blocks_rise o low [] high a = a
 blocks_rise o low (p ∷ ps) high a =
-    let P : List Assigned → Type 0 = λ xs. Rises of_line low xs high in
+    let P : List Assignment → Type 0 = λ xs. Rises of_line low xs high in
     subst P (sym (flat_map-append (section_assignments o) (sections_from 0 p) (flat_map (sections_from 0) ps)))
     (rises_append of_line low (flat_map (section_assignments o) (sections_from 0 p)) a.0 (flat_map (section_assignments o) (flat_map (sections_from 0) ps)) high
     (sections_rise o 0 p low a.0 a.1.0) (blocks_rise o a.0 ps high a.1.1))

@@ -3,10 +3,10 @@ use Rattle.std.proofs.Common.{◌≡◌, ℕ, zero, suc, ◌-◌, ◌+◌, ◌<�
 use Rattle.std.proofs.lemmas.Bool.{cases_Bool}
 use Rattle.std.proofs.Math.Seq.{drop-append-add}
 use Rattle.std.proofs.lemmas.Grind.{flat_map-append}
-use Rattle.std.specs.List.{flat_map}
-use Rattle.hwdb_text.specs.Lines.{Line, pieces, led, is_empty, is_property, is_match, begins_with, is_none}
-use Rattle.hwdb_text.specs.Records.{Section, section, run, behind, first_section, size, sections_from, sections}
-use Rattle.hwdb_text.specs.Reading.{AllPass, gives}
+use Rattle.std.specs.Prelude.{flat_map}
+use Rattle.hwdb_spec.specs.Lines.{Line, pieces, led, is_empty, is_property, is_match, begins_with, is_none}
+use Rattle.hwdb_spec.specs.Records.{Section, section, run, behind, first_section, size, sections_from, sections}
+use Rattle.hwdb_text.specs.Internal.Reading.{AllPass, gives}
 
 abbrev pub Stops : (Line → Bool) → List Line → Type 0
 Stops test [] = Unit {0}

@@ -1,19 +1,18 @@
 -- What one more line does to what was read.
 use Rattle.std.proofs.Common.{◌≡◌, Bool, true, false, List, [], ◌∷◌, ◌++◌, drop, map, refl, ap, ◌∙◌, sym, cond, append_assoc, append-nil}
 use Rattle.std.proofs.lemmas.Grind.{flat_map-append}
-use Rattle.std.specs.List.{flat_map}
-use Rattle.hwdb_text.specs.declared.outcome.Fault.{Fault}
-use Rattle.hwdb_text.specs.declared.outcome.FaultKind.TheVariants.{StrayProperty, NoProperty, StrayMatch}
+use Rattle.std.specs.Prelude.{flat_map}
+use Rattle.hwdb_spec.specs.declared.Fault.{Fault}
+use Rattle.hwdb_spec.specs.declared.FaultKind.TheVariants.{StrayProperty, NoProperty, StrayMatch}
 use Rattle.hwdb_text.specs.declared.records.Reader.{Reader}
-use Rattle.hwdb_text.specs.Lines.{Line, is_match, is_property}
-use Rattle.hwdb_text.specs.Records.{Section, section}
-use Rattle.hwdb_text.specs.Assignments.{Origin, Assigned, given_in, text_of, patterns, section_assignments, property_assignments}
-use Rattle.hwdb_text.specs.Faults.{section_faults, long_faults, lonely_faults, property_faults, fault}
-use Rattle.hwdb_text.specs.Lines.{is_long}
-use Rattle.hwdb_text.specs.Reading.{AllPass, gives, AtStart, InSection, Closes}
+use Rattle.hwdb_spec.specs.Lines.{Line, is_match, is_property, is_long}
+use Rattle.hwdb_spec.specs.Records.{Section, section, Origin, patterns, section_assignments, property_assignments, section_faults, long_faults, lonely_faults, property_faults, fault}
+use Rattle.hwdb_spec.specs.Assignment.{Assignment}
+use Rattle.hwdb_text.specs.Views.{given_in, text_of}
+use Rattle.hwdb_text.specs.Internal.Reading.{AllPass, gives, AtStart, InSection, Closes}
 use Rattle.hwdb_text.proofs.Sections.{Gives, gives_empty, gives_leading, gives_section, gives_last, gives_stray, gives_none}
 
-abbrev no_lead : Line → List Assigned
+abbrev no_lead : Line → List Assignment
 no_lead x = []
 
 abbrev fault_lead : Line → List Fault

@@ -1,14 +1,12 @@
 -- What is read of a file, and what is chosen, can be held by a database.
 use Rattle.std.proofs.Common.{◌≡◌, ℕ, zero, suc, ◌+◌, ◌-◌, ◌≤◌, Bool, true, false, not, List, [], ◌∷◌, ◌++◌, take, drop, length, map, refl, sym, subst, cond, ◌||◌, inl, inr, arith, All, filter}
-use Rattle.std.specs.Prelude.{codes, nat_eq}
-use Rattle.std.specs.List.{flat_map, position_or_len, prefix_len, ends_with, AllByRecursion as Each}
+use Rattle.std.specs.Prelude.{codes, nat_eq, flat_map}
+use Rattle.std.specs.List.{position_or_len, prefix_len, ends_with, AllByRecursion as Each}
 use Rattle.std.proofs.lemmas.Bool.{cases_Bool, ltb-false}
 use Rattle.std.proofs.lemmas.List.Elements.{All-from_recursion}
-use Rattle.hwdb_text.specs.Lines.{Line, lines, has, is, trimmed, before, property, clean, clean_line, is_dropped, is_comment, is_long, is_indent, is_none, is_blank, is_empty, is_property, is_match, has_equals, has_key, pieces, led, begins_with}
-use Rattle.hwdb_text.specs.Records.{Section, run, behind, first_section, size, sections_from, sections}
-use Rattle.hwdb_text.specs.Assignments.{Origin, patterns, assign, property_assignments, section_assignments, assignments}
-use Rattle.hwdb_text.specs.Choice.{counts, is_smaller, same, lists, with_name, ascending, names, chosen, choice}
-use Rattle.hwdb_text.specs.Storable.{HasNoZero, IsStorable, IsStorableChoice}
+use Rattle.hwdb_spec.specs.Lines.{Line, lines, has, is, trimmed, before, property, clean, clean_line, is_dropped, is_comment, is_long, is_indent, is_none, is_blank, is_empty, is_property, is_match, has_equals, has_key, pieces, led, begins_with}
+use Rattle.hwdb_spec.specs.Records.{Section, run, behind, first_section, size, sections_from, sections, Origin, patterns, assign, property_assignments, section_assignments, assignments}
+use Rattle.hwdb_spec.specs.Folders.{counts, is_smaller, same, lists, with_name, ascending, names, chosen, choice, HasNoZero, IsStorable, IsStorableChoice}
 
 each_append : {X : Type 0} (P : X → Type 0) (xs ys : List X) → Each P xs → Each P ys → Each P (xs ++ ys)
 each_append P [] ys a b = b

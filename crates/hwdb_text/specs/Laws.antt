@@ -1,17 +1,10 @@
 -- More about the definitions, in words of their own.
-use Rattle.std.specs.Prelude.{ℕ, ◌+◌, ◌<◌, ◌≡◌, ◌↔◌, Contains, length, map, filter, slice_index, true, false, not, if◌then◌else◌, List, [], ◌∷◌, ◌++◌, All}
-use Rattle.std.specs.List.{flat_map}
+use Rattle.std.specs.Prelude.{All, List, false, ℕ, ◌≡◌, length, map, slice_index, ◌+◌, ◌<◌, true, if◌then◌else◌, [], ◌∷◌, Contains, ◌↔◌, ◌++◌, flat_map, filter, not, ◌==◌}
 use Rattle.std.specs.List.Sorted.{IsPermutation, IsStrictlySortedBy, IsNonDecreasingBy}
-use Rattle.hwdb_text.specs.declared.outcome.Fault.{Fault}
-use Rattle.hwdb_text.specs.Lines.{Line, lines, ended, has, is_empty}
-use Rattle.hwdb_text.specs.Records.{lines_of, sections_from, sections}
-use Rattle.hwdb_text.specs.Assignments.{Origin, assignments}
-use Rattle.hwdb_text.specs.Choice.{counts, is_smaller, lists, names, choice}
-use Rattle.hwdb_text.specs.Faults.{all_faults, faults, fault_cmp}
-
--- the lines of a file, with a newline behind each, are the file, with one behind its last line
-abbrev pub LinesAreTheFile : Type 0
-LinesAreTheFile = (file : List ℕ) → flat_map (λ l. l.text ++ 10 ∷ []) (lines file) ≡ ended file
+use Rattle.hwdb_spec.specs.Lines.{has, lines, Line, is_empty}
+use Rattle.hwdb_spec.specs.Folders.{counts, lists, names, is_smaller, choice}
+use Rattle.hwdb_spec.specs.Records.{all_faults, faults, fault_cmp, Origin, assignments, Section, sections_from, sections}
+use Rattle.hwdb_spec.specs.declared.Fault.{Fault}
 
 -- no newline stands in a line
 abbrev pub LinesHoldNoNewline : Type 0
@@ -20,14 +13,6 @@ LinesHoldNoNewline = (file : List ℕ) → All (λ l. has 10 l.text ≡ false) (
 -- the numbers of the lines are 1, 2, 3 and so on
 abbrev pub LinesCountUp : Type 0
 LinesCountUp = (file : List ℕ) (k : ℕ) → k < length (lines file) → slice_index (map (λ l. l.number) (lines file)) k ≡ k + 1
-
--- the sections of a block, joined, are the block
-abbrev pub SectionsAreTheBlock : Type 0
-SectionsAreTheBlock = (block : List Line) → flat_map lines_of (sections_from 0 block) ≡ block
-
--- the sections of some clean lines, joined, are those of them that aren't empty
-abbrev pub SectionsAreTheLines : Type 0
-SectionsAreTheLines = (ls : List Line) → flat_map lines_of (sections ls) ≡ filter (λ l. not (is_empty l)) ls
 
 -- a name is chosen if it counts and one of the folders lists it, and no others are
 abbrev pub NamesAreThoseThatCount : Type 0
@@ -70,4 +55,26 @@ PrioritiesCountUp = (etc usr : List (List ℕ)) (k : ℕ) → k < length (choice
 
 -- the assignments of a file stand by the lines of their properties
 abbrev pub AssignmentsStandByLine : Type 0
-AssignmentsStandByLine = (o : Origin) (file : List ℕ) → IsNonDecreasingBy (λ a. a.line) (assignments o file)
+AssignmentsStandByLine = (o : Origin) (file : List ℕ) → IsNonDecreasingBy (λ a. a.position.line) (assignments o file)
+
+-- the lines of a section
+abbrev pub lines_of : Section → List Line
+lines_of s = s.leading ++ (s.matches ++ (s.properties ++ s.stray))
+
+-- the sections of a block, joined, are the block
+abbrev pub SectionsAreTheBlock : Type 0
+SectionsAreTheBlock = (block : List Line) → flat_map lines_of (sections_from 0 block) ≡ block
+
+-- the sections of some clean lines, joined, are those of them that aren't empty
+abbrev pub SectionsAreTheLines : Type 0
+SectionsAreTheLines = (ls : List Line) → flat_map lines_of (sections ls) ≡ filter (λ l. not (is_empty l)) ls
+
+-- a file, with a newline behind its last line if none stands there
+unfoldable pub ended : List ℕ → List ℕ
+ended [] = []
+ended (b ∷ []) = if b == 10 then b ∷ [] else b ∷ (10 ∷ [])
+ended (b ∷ next ∷ rest) = b ∷ ended (next ∷ rest)
+
+-- the lines of a file, with a newline behind each, are the file, with one behind its last line
+abbrev pub LinesAreTheFile : Type 0
+LinesAreTheFile = (file : List ℕ) → flat_map (λ l. l.text ++ 10 ∷ []) (lines file) ≡ ended file

@@ -1,11 +1,4 @@
-pub mod Lines
-pub mod Contents
-pub mod Records
-pub mod Assignments
-pub mod Faults
-pub mod Reading
-pub mod Choice
-pub mod Choosing
-pub mod Storable
+pub mod Views
 pub mod Laws
 pub mod Rows
+pub mod Internal

@@ -1,11 +1,11 @@
 -- The definitions at worked rows, each a table of what is given and what it gives. Byte 97 is `a`.
-use Rattle.std.specs.Prelude.{ℕ, ◌≡◌, true, false, List, [], ◌∷◌, ◌++◌, codes, map, replicate}
-use Rattle.hwdb_text.specs.declared.outcome.Fault.{Fault}
-use Rattle.hwdb_text.specs.declared.outcome.FaultKind.{FaultKind}
-use Rattle.hwdb_text.specs.declared.outcome.FaultKind.TheVariants.{StrayProperty, NoProperty, StrayMatch, NoEquals, EmptyKey, ZeroByte, LongMatch}
-use Rattle.hwdb_text.specs.Assignments.{Origin, origin, Assigned, given, assignments}
-use Rattle.hwdb_text.specs.Faults.{faults}
-use Rattle.hwdb_text.specs.Choice.{Choice, choice, path_of}
+use Rattle.std.specs.Prelude.{ℕ, List, [], codes, replicate, ◌++◌, ◌∷◌, map, ◌≡◌, true, false}
+use Rattle.hwdb_spec.specs.declared.Fault.{Fault}
+use Rattle.hwdb_spec.specs.declared.FaultKind.{FaultKind}
+use Rattle.hwdb_spec.specs.declared.FaultKind.TheVariants.{EmptyKey, LongMatch, NoEquals, NoProperty, StrayMatch, StrayProperty, ZeroByte}
+use Rattle.hwdb_spec.specs.Records.{faults, Origin, origin, given, assignments}
+use Rattle.hwdb_spec.specs.Assignment.{Assignment}
+use Rattle.hwdb_spec.specs.Folders.{Choice, choice, path_of}
 
 abbrev pub at : ℕ → FaultKind → Fault
 at number kind = record { line = number; kind = kind }
@@ -33,7 +33,7 @@ abbrev pub here : Origin
 here = origin (codes "P") 7
 
 -- a file, and its assignments
-abbrev pub assignment_rows : List (List ℕ × List Assigned)
+abbrev pub assignment_rows : List (List ℕ × List Assignment)
 assignment_rows =
     (codes "x*\nx?\n K=1\n", given here 3 (codes "K") (codes "1") (codes "x*") ∷ given here 3 (codes "K") (codes "1") (codes "x?") ∷ [])
     ∷ (codes "x\nx\n K=1\n", given here 3 (codes "K") (codes "1") (codes "x") ∷ given here 3 (codes "K") (codes "1") (codes "x") ∷ [])

@@ -2,10 +2,10 @@
 ghost use Rattle.std.specs.Prelude.{◌≡◌, ◌<◌, ◌≤◌, [], length, map, All, IfOk, IsOk, OnOk};
 ghost use Rattle.std.specs.Result.{IsErrOf};
 ghost use Rattle.std.specs.String.{string_bytes};
-ghost use Rattle.hwdb_text.specs.Choice.{choice_of, path_of, names, IsListed};
-ghost use Rattle.hwdb_text.specs.Choice;
-ghost use Rattle.hwdb_text.specs.Storable.{IsStorableChoice};
-ghost use Rattle.hwdb_text.specs.Choosing.{put_all, entry_of, with_priorities};
+ghost use Rattle.hwdb_text.specs.Views.{choice_of};
+ghost use Rattle.hwdb_spec.specs.Folders.{path_of, names, IsListed, IsStorableChoice};
+ghost use Rattle.hwdb_spec.specs.Folders;
+ghost use Rattle.hwdb_text.specs.Internal.Choosing.{put_all, entry_of, with_priorities};
 
 use crate::line::{begins_with, end_of};
 use crate::outcome::TextError;
@@ -46,7 +46,7 @@ impl Chosen {
 /// Whether a name counts: it ends in `.hwdb`, doesn't begin with `.` and holds no byte 0 (hwdb(7), but for
 /// the last two). Doesn't allocate; reads the name once.
 pub fn counts(name: &[u8]) -> bool
-    ensures { result ≡ Choice.counts name.now }
+    ensures { result ≡ Folders.counts name.now }
 {
     if !name.ends_with(b".hwdb") {
         return false;
@@ -83,7 +83,7 @@ fn put<'a>(
 /// Two empty lists take no memory.
 pub fn select(alloc: Global, etc: &[String], usr: &[String]) -> Result<Vec<Chosen>, TextError>
     ensures chosen { IfOk result (λ chosen. map choice_of chosen.items
-        ≡ Choice.choice (map string_bytes etc.now) (map string_bytes usr.now)) }
+        ≡ Folders.choice (map string_bytes etc.now) (map string_bytes usr.now)) }
     ensures listed { IfOk result (λ chosen. All
         (IsListed (map string_bytes etc.now) (map string_bytes usr.now))
         (map choice_of chosen.items)) }

@@ -16,5 +16,6 @@ mod records;
 mod tests;
 
 pub use crate::choice::{Chosen, counts, select};
-pub use crate::outcome::{Assignment, Fault, FaultKind, Given, Parsed, Scanned, TextError};
+pub use crate::outcome::{Assignment, Given, Parsed, Scanned, TextError};
 pub use crate::parsing::{next_line, parse, scan};
+pub use hwdb_spec::{Fault, FaultKind};

@@ -1,9 +1,9 @@
 //! One line, read by itself: whether it is dropped, and else its clean text and kind.
 ghost use Rattle.std.specs.Prelude.{◌≡◌, ◌≤◌, length, drop};
 ghost use Rattle.std.specs.List.{position_or_len, prefix_len};
-ghost use Rattle.hwdb_text.specs.Lines.{is, trimmed};
-ghost use Rattle.hwdb_text.specs.Lines;
-ghost use Rattle.hwdb_text.specs.Contents.{IsContent, IsKind};
+ghost use Rattle.hwdb_spec.specs.Lines.{is, trimmed};
+ghost use Rattle.hwdb_spec.specs.Lines;
+ghost use Rattle.hwdb_text.specs.Internal.Contents.{IsContent, IsKind};
 
 use memchr::{memchr, memchr2};
 

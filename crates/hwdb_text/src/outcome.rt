@@ -1,7 +1,7 @@
 //! What the calls of this crate answer.
 ghost use Rattle.std.specs.Prelude.{◌≡◌};
-ghost use Rattle.hwdb_text.specs.Faults.{fault_text};
 
+use hwdb_spec::Fault;
 use std::alloc::AllocError;
 use thiserror::Error;
 
@@ -33,51 +33,6 @@ pub struct Given<'b> {
     pub key: &'b [u8],
     /// What stands behind the first `=` of the property.
     pub value: &'b [u8],
-}
-
-/// What is wrong with a line.
-#[derive(Clone, Copy, Debug, PartialEq, Eq, PartialOrd, Ord)]
-pub enum FaultKind {
-    /// F1: a property line where a match line is expected.
-    StrayProperty,
-    /// F2: match lines without a property; at the first of them.
-    NoProperty,
-    /// F3: a match line directly after a property.
-    StrayMatch,
-    /// F4: a property without `=`.
-    NoEquals,
-    /// F5: a property with an empty key.
-    EmptyKey,
-    /// F6: a line with byte 0.
-    ZeroByte,
-    /// F7: a match line of more than 4,096 bytes.
-    LongMatch,
-}
-
-impl FaultKind {
-    /// What is printed of it, behind the path and the line.
-    pub fn text(self) -> &'static str
-        ensures { result.now ≡ fault_text self }
-    {
-        match self {
-            FaultKind::StrayProperty => "property where a match is expected, ignored",
-            FaultKind::NoProperty => "record without properties, ignored",
-            FaultKind::StrayMatch => "match line inside a record, ignored; the record ends here",
-            FaultKind::NoEquals => "property without =, ignored",
-            FaultKind::EmptyKey => "empty key, ignored",
-            FaultKind::ZeroByte => "byte 0 in the line, ignored",
-            FaultKind::LongMatch => "match line longer than 4096 bytes, ignored",
-        }
-    }
-}
-
-/// A line of a file, and what is wrong with it. Faults are ordered by line, and then by number.
-#[derive(Clone, Copy, Debug, PartialEq, Eq, PartialOrd, Ord)]
-pub struct Fault {
-    /// The line, from 1.
-    pub line: u32,
-    /// What is wrong there.
-    pub kind: FaultKind,
 }
 
 /// What a file says.

@@ -1,11 +1,11 @@
 //! A file, line by line.
 ghost use Rattle.std.specs.Prelude.{◌≡◌, ◌+◌, ◌<◌, ◌≤◌, ◌↔◌, [], length, map, All, IfOk, IfErr, IsOk};
 ghost use Rattle.std.specs.Result.{IsErrOf};
-ghost use Rattle.hwdb_text.specs.Lines.{lines};
-ghost use Rattle.hwdb_text.specs.Assignments.{Origin, origin, assigned, given_in};
-ghost use Rattle.hwdb_text.specs.Assignments;
-ghost use Rattle.hwdb_text.specs.Faults;
-ghost use Rattle.hwdb_text.specs.Storable.{IsStorable};
+ghost use Rattle.hwdb_spec.specs.Lines.{lines};
+ghost use Rattle.hwdb_spec.specs.Records.{Origin, origin};
+ghost use Rattle.hwdb_text.specs.Views.{assigned, given_in};
+ghost use Rattle.hwdb_spec.specs.Records;
+ghost use Rattle.hwdb_spec.specs.Folders.{IsStorable};
 
 use crate::line::end_of;
 use crate::outcome::{Assignment, Given, Parsed, Scanned, TextError};
@@ -38,8 +38,8 @@ pub fn next_line(before: u32) -> Result<u32, TextError>
 /// An empty file takes no memory.
 pub fn scan(alloc: Global, bytes: &[u8]) -> Result<Scanned<'_>, TextError>
     ensures assignments { IfOk result (λ scanned. (o : Origin)
-        → map (given_in o) scanned.assignments.items ≡ Assignments.assignments o bytes.now) }
-    ensures faults { IfOk result (λ scanned. scanned.faults.items ≡ Faults.faults bytes.now) }
+        → map (given_in o) scanned.assignments.items ≡ Records.assignments o bytes.now) }
+    ensures faults { IfOk result (λ scanned. scanned.faults.items ≡ Records.faults bytes.now) }
     ensures storable { IfOk result (λ scanned. (o : Origin)
         → All IsStorable (map (given_in o) scanned.assignments.items)) }
     ensures few { IfOk result (λ _. length (lines bytes.now) ≤ 4294967295) }
@@ -107,8 +107,8 @@ fn copies(
 /// An empty file takes no memory.
 pub fn parse(alloc: Global, path: &[u8], priority: u16, bytes: &[u8]) -> Result<Parsed, TextError>
     ensures assignments { IfOk result (λ parsed. map assigned parsed.assignments.items
-        ≡ Assignments.assignments (origin path.now priority) bytes.now) }
-    ensures faults { IfOk result (λ parsed. parsed.faults.items ≡ Faults.faults bytes.now) }
+        ≡ Records.assignments (origin path.now priority) bytes.now) }
+    ensures faults { IfOk result (λ parsed. parsed.faults.items ≡ Records.faults bytes.now) }
     ensures storable { IfOk result (λ parsed.
         All IsStorable (map assigned parsed.assignments.items)) }
     ensures few { IfOk result (λ _. length (lines bytes.now) ≤ 4294967295) }

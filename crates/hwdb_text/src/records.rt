@@ -2,14 +2,15 @@
 //!
 //! `Reads` says what was read of the lines so far; each method keeps it.
 ghost use Rattle.std.specs.Prelude.{◌≡◌, ◌++◌, List, [], ◌∷◌, map, drop, IfOk, IsOk, OnOk, IsTrue};
-ghost use Rattle.hwdb_text.specs.Lines;
-ghost use Rattle.hwdb_text.specs.Assignments.{Origin, given, given_in, text_of, property_assignments, section_assignments};
-ghost use Rattle.hwdb_text.specs.Faults.{property_faults, long_faults, section_faults, spoilt_faults, in_order};
-ghost use Rattle.hwdb_text.specs.Assignments;
-ghost use Rattle.hwdb_text.specs.Reading.{Closes, Holds, AtStart, IsFresh, Reads, gives};
+ghost use Rattle.hwdb_spec.specs.Lines;
+ghost use Rattle.hwdb_spec.specs.Records.{Origin, given, property_assignments, section_assignments, property_faults, long_faults, section_faults, spoilt_faults, by_line};
+ghost use Rattle.hwdb_text.specs.Views.{given_in, text_of};
+ghost use Rattle.hwdb_spec.specs.Records;
+ghost use Rattle.hwdb_text.specs.Internal.Reading.{Closes, Holds, AtStart, IsFresh, Reads, gives};
 
 use crate::line::{Content, content_of, end_of, unindented};
-use crate::outcome::{Fault, FaultKind, Given, Scanned};
+use crate::outcome::{Given, Scanned};
+use hwdb_spec::{Fault, FaultKind};
 use std::alloc::{AllocError, Global};
 
 /// How long a match line may be, in bytes.
@@ -107,7 +108,7 @@ fn pattern<'b>(
     faults: &mut Vec<Fault>,
 ) -> Result<(), AllocError>
     ensures patterns { OnOk result (map text_of patterns.new.items
-        ≡ map text_of patterns.old.items ++ Assignments.patterns (Lines.line line text.now ∷ [])) }
+        ≡ map text_of patterns.old.items ++ Records.patterns (Lines.line line text.now ∷ [])) }
     ensures faults { OnOk result (faults.new.items
         ≡ faults.old.items ++ long_faults (Lines.line line text.now)) }
 {
@@ -246,7 +247,7 @@ impl<'b> Reader<'b> {
         ensures faults { IfOk result (λ scanned. (o : Origin) → (whole : List Lines.Line)
             → Reads o whole [] self.entry
             → scanned.faults.items
-            ≡ in_order (spoilt_faults whole ++ gives section_faults (Lines.clean whole))) }
+            ≡ by_line (spoilt_faults whole ++ gives section_faults (Lines.clean whole))) }
         ensures free { IsFresh self.entry → IsOk result }
     {
         self.end()?;

@@ -168,6 +168,18 @@ fn long_match_lines_at_fault(rt: HostRuntime) -> Result<(), Fail> {
     ];
     assert!(rt; stray.faults.as_slice() == want.as_slice());
     assert_eq!(rt; stray.assignments.len(), 1);
+    // Both in one file.
+    let mut file = around(alloc, "b\n K=1\n", 4097, "\n\n")?;
+    file.extend_from_slice(&around(alloc, "", 4097, "\n")?)?;
+    let both = parse(alloc, b"P", 7, &file)?;
+    let want = [
+        fault(3, FaultKind::StrayMatch),
+        fault(3, FaultKind::LongMatch),
+        fault(5, FaultKind::NoProperty),
+        fault(5, FaultKind::LongMatch),
+    ];
+    assert!(rt; both.faults.as_slice() == want.as_slice());
+    assert_eq!(rt; both.assignments.len(), 1);
     Ok(())
 }
 

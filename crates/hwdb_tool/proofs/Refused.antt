@@ -1,25 +1,25 @@
 -- Which refusal an error of a crate below becomes.
 use Rattle.std.proofs.Common.{◌≡◌, ◌≢◌, ◌<◌, ℕ, List, Option, None, Some, refl, ap, arith, sym, subst, Result, Ok, Err, IfErr}
 use Rattle.std.specs.Option.{option_copied}
-use Rattle.hwdb_query.specs.Hits.{given_spot, next_spot}
-use Rattle.hwdb_query.specs.declared.position.Position.{Position}
+use Rattle.hwdb_query.specs.Views.{given_position, next_position}
+use Rattle.hwdb_query.specs.declared.position.Position.{Position as OwnedPosition}
 use Rattle.std.specs.Result.{IsErrAnd}
 use Rattle.std.specs.Borrow.{Bor}
-use Rattle.hwdb_query.specs.Answers.{Spot}
-use Rattle.hwdb_query.specs.Spelling.{IsSpelling}
+use Rattle.hwdb_spec.specs.Assignment.{Position}
+use Rattle.hwdb_spec.specs.Texts.{IsSpelling}
 use Rattle.hwdb_query.specs.declared.errors.QueryError.{QueryError}
 use Rattle.hwdb_query.specs.declared.errors.QueryError.TheVariants as query
 use Rattle.hwdb_tool.specs.declared.errors.ToolError.{ToolError}
 use Rattle.hwdb_tool.specs.Refusals.{refusal_of_query}
-use Rattle.hwdb_tool.specs.Engines.{IsPositionRefusal, IsListRefusal, IsDatabaseRefusal, IsNoDatabase}
+use Rattle.hwdb_tool.specs.Engines.{IsPositionRefusal, IsListRefusal, IsDatabaseRefusal}
 use Rattle.hwdb_tool.specs.Updates.{IsAskRefusal}
-use Rattle.hwdb_tool.specs.declared.errors.ToolError.TheVariants.{Read, Write, TooLong, TooManyFiles, TooManyLines, TooLarge, BadPosition, PageZero, BadDatabase, Memory}
-use Rattle.hwdb_layout.specs.Map.{Map}
-use Rattle.hwdb_layout.specs.Tight.{IsDatabaseOf}
+use Rattle.hwdb_tool.specs.declared.errors.ToolError.TheVariants.{Write, BadDatabase, Memory}
+use Rattle.hwdb_spec.specs.Tree.{Map}
+use Rattle.hwdb_spec.specs.Written.{IsDatabaseOf}
 
 module _ {X : Type 0} where
   pub position_refused : (text : Bor (List ℕ)) (q : QueryError) (r : Result X ToolError) → IsErrAnd r (λ e. e ≡ refusal_of_query q)
-      → (q ≡ query.BadPosition → (p : Spot) → IsSpelling p text.now → ⊥) → q ≢ query.PageZero → IfErr r (IsPositionRefusal (Some text))
+      → (q ≡ query.BadPosition → (p : Position) → IsSpelling p text.now → ⊥) → q ≢ query.PageZero → IfErr r (IsPositionRefusal (Some text))
   position_refused text q (Ok x) h bad page = tt
   position_refused text query.PageZero (Err e) h bad page = absurd (page refl)
   position_refused text query.BadPosition (Err e) h bad page = let P : ToolError → Type 0 = λ x. IsPositionRefusal (Some text) x in subst P (sym h) (bad refl)
@@ -34,9 +34,9 @@ module _ {X : Type 0} where
   cursor_refused (Some text) bytes query.Memory (Err e) h page bad = let P : ToolError → Type 0 = λ x. IsListRefusal (Some text) bytes x in subst P (sym h) tt
 
 -- the position that a caller lends
-pub lent_spot : (lent : Option (Bor Position)) (own : Option Position) → option_copied lent ≡ own → given_spot lent ≡ next_spot own
-lent_spot None own e = ap next_spot e
-lent_spot (Some p) own e = ap next_spot e
+pub lent_position : (lent : Option (Bor OwnedPosition)) (own : Option OwnedPosition) → option_copied lent ≡ own → given_position lent ≡ next_position own
+lent_position None own e = ap next_position e
+lent_position (Some p) own e = ap next_position e
 
 pub not_zero : (page : ℕ) → page ≡ 0 → 0 < page → ⊥
 not_zero page e some = omega (arith, e, some)

@@ -1,5 +1,5 @@
 -- Devices: what a call does to the count of failed calls and to the bytes that the device tells. Our choice.
-use Rattle.std.specs.Prelude.{◌≡◌, ℕ, ◌+◌, ◌-◌, ◌^◌, ◌<◌, ◌≤◌, ◌⊎◌, ◌==◌, if◌then◌else◌, List, take, length, Option, Result, MatchResult}
+use Rattle.std.specs.Prelude.{ℕ, if◌then◌else◌, ◌+◌, ◌-◌, ◌==◌, ◌^◌, MatchResult, Result, ◌≡◌, ◌<◌, ◌⊎◌, List, Option, length, take, ◌≤◌}
 use Rattle.std.specs.Io.KnownBytes.{Appends}
 
 -- the count after one more failed call: once at its greatest value, it stays there

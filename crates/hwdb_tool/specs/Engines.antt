@@ -1,30 +1,19 @@
--- What the commands print, as functions of the database's bytes (hwdb(7), systemd-hwdb(8)); `list` is our choice.
-use Rattle.std.specs.Prelude.{◌≡◌, ℕ, ◌-◌, List, take, Option, Some, None, option_map}
-use Rattle.std.specs.Borrow.{Bor}
+-- What the calls that read a database write, and what they refuse (systemd-hwdb(8)); `list` is our choice.
+use Rattle.std.specs.Prelude.{ℕ, List, ◌≡◌, Option, None, Some, take, option_map, ◌-◌}
 use Rattle.std.specs.Io.KnownBytes.{Appends}
-use Rattle.hwdb_layout.specs.Tree.{Tree}
-use Rattle.hwdb_layout.specs.Database.{IsDatabase}
-use Rattle.hwdb_layout.specs.Faults.{FaultStands}
-use Rattle.hwdb_layout.specs.declared.DbFault.{DbFault}
-use Rattle.hwdb_query.specs.Answers.{Spot, Found, answers, answers_after}
-use Rattle.hwdb_query.specs.Effective.{effective_of}
-use Rattle.hwdb_query.specs.Spelling.{IsSpelling}
+use Rattle.std.specs.Borrow.{Bor}
+use Rattle.hwdb_spec.specs.Format.{IsDatabase, FaultStands}
+use Rattle.hwdb_spec.specs.Tree.{Tree, answers_after}
 use Rattle.hwdb_tool.specs.Devices.{AppendsPrefix}
-use Rattle.hwdb_tool.specs.Texts.{properties_text, hits_text, within_limit}
+use Rattle.hwdb_spec.specs.declared.DbFault.{DbFault}
+use Rattle.hwdb_tool.specs.declared.errors.ToolError.TheVariants.{BadDatabase, Memory, Write, BadPosition}
 use Rattle.hwdb_tool.specs.declared.errors.ToolError.{ToolError}
-use Rattle.hwdb_tool.specs.declared.errors.ToolError.TheVariants.{Read, Write, TooLong, TooManyFiles, TooManyLines, TooLarge, BadPosition, PageZero, BadDatabase, Memory}
+use Rattle.hwdb_spec.specs.Texts.{IsSpelling, list_text, hits_text, within_limit}
+use Rattle.hwdb_spec.specs.Assignment.{Position, Assignment}
 
--- how many bytes a text file or a database has at most: 256 MiB
-abbrev pub max_file : ℕ
-max_file = 268435456
-
--- the properties that a database gives a device, as text
-abbrev pub query_text : List ℕ → Tree → List ℕ
-query_text device t = properties_text (effective_of (answers device t))
-
--- the lines of the first hits after a position
-abbrev pub list_text : List ℕ → Option Spot → Option ℕ → Tree → List ℕ
-list_text device after limit t = hits_text (within_limit limit (answers_after device after t))
+-- how many hits `list` holds at most
+abbrev pub list_page : ℕ
+list_page = 64
 
 -- the bytes are a database, and the text is what its tree gives
 pub record IsTextOf (of : Tree → List ℕ) (bytes text : List ℕ) : Type 0 where
@@ -63,7 +52,7 @@ IsQueryRefusal bytes Write = Unit {0}
 IsQueryRefusal bytes _ = ⊥
 
 -- the text handed in as `after`, if there is one, spells the position
-abbrev pub IsAfter : Option (Bor (List ℕ)) → Option Spot → Type 0
+abbrev pub IsAfter : Option (Bor (List ℕ)) → Option Position → Type 0
 IsAfter None None = Unit {0}
 IsAfter None (Some p) = ⊥
 IsAfter (Some text) None = ⊥
@@ -71,23 +60,23 @@ IsAfter (Some text) (Some p) = IsSpelling p text.now
 
 -- a sink took what the tree gives from a position on
 pub record Listed (device : List ℕ) (after : Option (Bor (List ℕ))) (limit : Option ℕ) (bytes : List ℕ) (before now : Option (List ℕ)) : Type 0 where
-  pub from : Option Spot
+  pub from : Option Position
   pub spelled : IsAfter after from
   pub printed : Printed (list_text device from limit) bytes before now
 
 -- a sink took a prefix of it
 pub record ListCutShort (device : List ℕ) (after : Option (Bor (List ℕ))) (limit : Option ℕ) (bytes : List ℕ) (before now : Option (List ℕ)) : Type 0 where
-  pub from : Option Spot
+  pub from : Option Position
   pub spelled : IsAfter after from
   pub cut_short : CutShort (list_text device from limit) bytes before now
 
 -- a sink took the lines of the first hits, whole
-abbrev pub AppendsLines : Option (List ℕ) → Option (List ℕ) → List Found → Type 0
+abbrev pub AppendsLines : Option (List ℕ) → Option (List ℕ) → List Assignment → Type 0
 AppendsLines before now hits = (n : ℕ) × Appends before now (hits_text (take n hits))
 
 -- a sink took whole lines of it
 pub record ListedLines (device : List ℕ) (after : Option (Bor (List ℕ))) (limit : Option ℕ) (bytes : List ℕ) (before now : Option (List ℕ)) : Type 0 where
-  pub from : Option Spot
+  pub from : Option Position
   pub spelled : IsAfter after from
   pub tree : Tree
   pub database : IsDatabase bytes tree
@@ -105,19 +94,19 @@ one_less limit = option_map (λ n. n - 1) limit
 
 -- what reading the text of a position may refuse
 abbrev pub IsPositionRefusal : Option (Bor (List ℕ)) → ToolError → Type 0
-IsPositionRefusal (Some text) BadPosition = (p : Spot) → IsSpelling p text.now → ⊥
+IsPositionRefusal (Some text) BadPosition = (p : Position) → IsSpelling p text.now → ⊥
 IsPositionRefusal after Memory = Unit {0}
 IsPositionRefusal after _ = ⊥
 
 -- the bytes are no database, and what was handed in as `after` isn't what is refused
 pub record IsListFault (after : Option (Bor (List ℕ))) (bytes : List ℕ) (fault : DbFault) : Type 0 where
-  pub from : Option Spot
+  pub from : Option Position
   pub spelled : IsAfter after from
   pub no_database : IsNoDatabase bytes fault
 
 -- what `list` may refuse: a text that spells no position before a fault of the database
 abbrev pub IsListRefusal : Option (Bor (List ℕ)) → (bytes : List ℕ) → ToolError → Type 0
-IsListRefusal (Some text) bytes BadPosition = (p : Spot) → IsSpelling p text.now → ⊥
+IsListRefusal (Some text) bytes BadPosition = (p : Position) → IsSpelling p text.now → ⊥
 IsListRefusal after bytes (BadDatabase fault) = IsListFault after bytes fault
 IsListRefusal after bytes Memory = Unit {0}
 IsListRefusal after bytes Write = Unit {0}

@@ -1,6 +1,5 @@
 pub mod Devices
 pub mod Refusals
-pub mod Texts
 pub mod Engines
 pub mod Headline
 pub mod Updates

@@ -1,12 +1,12 @@
 -- Which refusals each call answers. Our choice.
+use Rattle.hwdb_tool.specs.declared.errors.ToolError.TheVariants.{Memory, TooManyFiles, TooManyLines, TooLarge, BadPosition, PageZero, Read, TooLong}
 use Rattle.hwdb_text.specs.declared.outcome.TextError.{TextError}
-use Rattle.hwdb_text.specs.declared.outcome.TextError.TheVariants as text
-use Rattle.hwdb_query.specs.declared.errors.QueryError.{QueryError}
-use Rattle.hwdb_query.specs.declared.errors.QueryError.TheVariants as query
-use Rattle.hwdb_query.specs.declared.errors.CompileError.{CompileError}
-use Rattle.hwdb_query.specs.declared.errors.CompileError.TheVariants as compiling
 use Rattle.hwdb_tool.specs.declared.errors.ToolError.{ToolError}
-use Rattle.hwdb_tool.specs.declared.errors.ToolError.TheVariants.{Read, Write, TooLong, TooManyFiles, TooManyLines, TooLarge, BadPosition, PageZero, BadDatabase, Memory}
+use Rattle.hwdb_compile.specs.declared.errors.CompileError.{CompileError}
+use Rattle.hwdb_query.specs.declared.errors.QueryError.{QueryError}
+use Rattle.hwdb_text.specs.declared.outcome.TextError.TheVariants as text
+use Rattle.hwdb_compile.specs.declared.errors.CompileError.TheVariants as compiling
+use Rattle.hwdb_query.specs.declared.errors.QueryError.TheVariants as query
 
 -- a refusal of the text files' crate, as one of this crate
 abbrev pub refusal_of_text : TextError → ToolError

@@ -1,10 +1,9 @@
 //! What `ask` does with one text file.
 ghost use Rattle.std.specs.Prelude.{◌≡◌, ◌≢◌, ◌⊎◌, ◌∷◌, [], IfOk, IfErr, OnOk, IsErrOf};
 ghost use Rattle.std.specs.Io.KnownBytes.{Appends};
-ghost use Rattle.hwdb_query.specs.Compiling.{sources};
+ghost use Rattle.hwdb_compile.specs.Views.{sources};
 ghost use Rattle.hwdb_tool.specs.Devices.{HasFailed, OneOfTwoFailed};
-ghost use Rattle.hwdb_tool.specs.Engines.{max_file};
-ghost use Rattle.hwdb_tool.specs.Headline.{last_values_text};
+ghost use Rattle.hwdb_spec.specs.Texts.{max_file, last_values_text};
 ghost use Rattle.hwdb_tool.specs.Updates.{lone, IsAnswerOf, Asked, AskCutShort, IsAskRefusal};
 
 use crate::devices::Sink;
@@ -12,7 +11,7 @@ use crate::engines::{MAX_BYTES, properties_of};
 use crate::errors::ToolError;
 use crate::texts::fault_lines_at;
 use crate::transfer::write_text;
-use hwdb_query::{SourceFile, compile};
+use hwdb_compile::{SourceFile, compile};
 use std::alloc::{AllocError, Global};
 
 /// The texts that one file gives: its fault lines, and the properties of a device.
@@ -34,9 +33,12 @@ fn lone(alloc: Global, bytes: &[u8]) -> Result<SourceFile, AllocError>
 
 /// What the file gives.
 fn answer_of(alloc: Global, file: &str, bytes: &[u8], device: &[u8]) -> Result<Answer, ToolError>
-    ensures answer { IfOk result (λ a. IsAnswerOf file.now bytes.now device.now a.faults.items a.properties.items) }
-    ensures headline { IfOk result (λ a. a.properties.items ≡ last_values_text device.now (lone bytes.now) []) }
-    ensures refusals { IfErr result (λ e. (e ≢ ToolError.Write) × IsAskRefusal bytes.now max_file e) }
+    ensures answer { IfOk result
+        (λ a. IsAnswerOf file.now bytes.now device.now a.faults.items a.properties.items) }
+    ensures headline { IfOk result
+        (λ a. a.properties.items ≡ last_values_text device.now (lone bytes.now) []) }
+    ensures refusals { IfErr result
+        (λ e. (e ≢ ToolError.Write) × IsAskRefusal bytes.now max_file e) }
 {
     let source = lone(alloc, bytes)?;
     let compiled = compile(alloc, &[source], &[], MAX_BYTES)?;
@@ -56,19 +58,26 @@ pub fn ask<O: Sink, E: Sink>(
     out: &mut O,
     err: &mut E,
 ) -> Result<(), ToolError>
-    ensures asked { OnOk result (Asked file.now bytes.now device.now (E.taken err.old) (E.taken err.new) (O.taken out.old) (O.taken out.new)) }
-    ensures headline { OnOk result (Appends (O.taken out.old) (O.taken out.new) (last_values_text device.now (lone bytes.now) [])) }
+    ensures asked { OnOk result
+        (Asked file.now bytes.now device.now (E.taken err.old) (E.taken err.new) (O.taken out.old)
+        (O.taken out.new)) }
+    ensures headline { OnOk result
+        (Appends (O.taken out.old) (O.taken out.new)
+        (last_values_text device.now (lone bytes.now) [])) }
 
     ensures refusals { IfErr result (IsAskRefusal bytes.now max_file) }
     ensures cause { IsErrOf result ToolError.Write
-        → HasFailed (E.failures err.old) (E.failures err.new) ⊎ HasFailed (O.failures out.old) (O.failures out.new) }
+        → HasFailed (E.failures err.old) (E.failures err.new)
+        ⊎ HasFailed (O.failures out.old) (O.failures out.new) }
     ensures unfailed { OnOk result ((E.failures err.new ≡ E.failures err.old)
         × (O.failures out.new ≡ O.failures out.old)) }
     ensures last { IsErrOf result ToolError.Write → OneOfTwoFailed (E.failures err.old)
         (E.failures err.new) (O.failures out.old) (O.failures out.new) }
     ensures cut_short { IsErrOf result ToolError.Write
-        → AskCutShort file.now bytes.now device.now (E.taken err.old) (E.taken err.new) (O.taken out.old) (O.taken out.new) }
-    ensures untouched { IfErr result (λ e. e ≢ ToolError.Write → (err.new ≡ err.old) × (out.new ≡ out.old)) }
+        → AskCutShort file.now bytes.now device.now (E.taken err.old) (E.taken err.new)
+        (O.taken out.old) (O.taken out.new) }
+    ensures untouched { IfErr result
+        (λ e. e ≢ ToolError.Write → (err.new ≡ err.old) × (out.new ≡ out.old)) }
 {
     let answer = answer_of(alloc, file, bytes, device)?;
     write_text(err, &answer.faults)?;

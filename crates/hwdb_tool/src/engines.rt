@@ -2,11 +2,13 @@
 //! arguments and the bytes.
 ghost use Rattle.std.specs.Prelude.{◌≡◌, ◌≢◌, ◌⊎◌, List, IfOk, IfErr, OnOk, IsErrOf};
 ghost use Rattle.std.specs.Io.KnownBytes.{Appends};
-ghost use Rattle.hwdb_query.specs.Compiling.{Source};
-ghost use Rattle.hwdb_query.specs.Hits.{next_spot};
+ghost use Rattle.hwdb_spec.specs.Folders.{Source};
+ghost use Rattle.hwdb_query.specs.Views.{next_position};
 ghost use Rattle.hwdb_tool.specs.Devices.{HasFailed, OneFailed};
-ghost use Rattle.hwdb_tool.specs.Engines.{query_text, IsTextOf, Printed, CutShort, IsDatabaseRefusal, IsQueryRefusal, IsAfter, IsPositionRefusal, Listed, ListCutShort, ListedLines, IsListRefusal};
-ghost use Rattle.hwdb_tool.specs.Headline.{IsCompiled, LinesTaken, last_values_text};
+ghost use Rattle.hwdb_spec.specs.Texts.{query_text, last_values_text};
+ghost use Rattle.hwdb_tool.specs.Engines.{IsTextOf, Printed, CutShort, IsDatabaseRefusal, IsQueryRefusal, IsAfter, IsPositionRefusal, Listed, ListCutShort, ListedLines, IsListRefusal};
+ghost use Rattle.hwdb_spec.specs.Written.{IsCompiled};
+ghost use Rattle.hwdb_tool.specs.Headline.{LinesTaken};
 
 use crate::devices::Sink;
 use crate::errors::ToolError;
@@ -27,7 +29,9 @@ const PAGE: usize = 64;
 /// The text of the properties that the database gives the device.
 pub fn properties_of(alloc: Global, bytes: &[u8], device: &[u8]) -> Result<Vec<u8>, ToolError>
     ensures text { IfOk result (λ text. IsTextOf (query_text device.now) bytes.now text.items) }
-    ensures headline { IfOk result (λ text. (etc usr : List Source) → IsCompiled etc usr bytes.now → text.items ≡ last_values_text device.now etc usr) }
+    ensures headline { IfOk result
+        (λ text. (etc usr : List Source) → IsCompiled etc usr bytes.now
+        → text.items ≡ last_values_text device.now etc usr) }
     ensures refusals { IfErr result (IsDatabaseRefusal bytes.now) }
 {
     compiled_answers_are_last();
@@ -45,15 +49,19 @@ pub fn run_query<O: Sink>(
     device: &[u8],
     out: &mut O,
 ) -> Result<(), ToolError>
-    ensures printed { OnOk result (Printed (query_text device.now) bytes.now (O.taken out.old) (O.taken out.new)) }
+    ensures printed { OnOk result
+        (Printed (query_text device.now) bytes.now (O.taken out.old) (O.taken out.new)) }
     ensures headline { OnOk result ((etc usr : List Source) → IsCompiled etc usr bytes.now
         → Appends (O.taken out.old) (O.taken out.new) (last_values_text device.now etc usr)) }
 
     ensures refusals { IfErr result (IsQueryRefusal bytes.now) }
-    ensures cause { IsErrOf result ToolError.Write → HasFailed (O.failures out.old) (O.failures out.new) }
+    ensures cause { IsErrOf result ToolError.Write
+        → HasFailed (O.failures out.old) (O.failures out.new) }
     ensures unfailed { OnOk result (O.failures out.new ≡ O.failures out.old) }
-    ensures last { IsErrOf result ToolError.Write → OneFailed (O.failures out.old) (O.failures out.new) }
-    ensures cut_short { IsErrOf result ToolError.Write → CutShort (query_text device.now) bytes.now (O.taken out.old) (O.taken out.new) }
+    ensures last { IsErrOf result ToolError.Write
+        → OneFailed (O.failures out.old) (O.failures out.new) }
+    ensures cut_short { IsErrOf result ToolError.Write
+        → CutShort (query_text device.now) bytes.now (O.taken out.old) (O.taken out.new) }
     ensures untouched { IfErr result (λ e. e ≢ ToolError.Write → out.new ≡ out.old) }
 {
     let text = properties_of(alloc, bytes, device)?;
@@ -62,7 +70,7 @@ pub fn run_query<O: Sink>(
 
 /// The position that a text spells, if there is a text.
 fn position_of(alloc: Global, after: Option<&str>) -> Result<Option<Position>, ToolError>
-    ensures spelled { IfOk result (λ p. IsAfter after.entry (next_spot p)) }
+    ensures spelled { IfOk result (λ p. IsAfter after.entry (next_position p)) }
     ensures refusals { IfErr result (IsPositionRefusal after.entry) }
 {
     match after {
@@ -82,18 +90,24 @@ pub fn run_list<O: Sink>(
     limit: Option<u64>,
     out: &mut O,
 ) -> Result<(), ToolError>
-    ensures printed { OnOk result (Listed device.now after.entry limit bytes.now (O.taken out.old) (O.taken out.new)) }
+    ensures printed { OnOk result
+        (Listed device.now after.entry limit bytes.now (O.taken out.old) (O.taken out.new)) }
     ensures headline { OnOk result ((etc usr : List Source) → IsCompiled etc usr bytes.now
         → LinesTaken device.now after.entry limit etc usr (O.taken out.old) (O.taken out.new)) }
 
     ensures refusals { IfErr result (IsListRefusal after.entry bytes.now) }
-    ensures cause { IsErrOf result ToolError.Write → HasFailed (O.failures out.old) (O.failures out.new) }
+    ensures cause { IsErrOf result ToolError.Write
+        → HasFailed (O.failures out.old) (O.failures out.new) }
     ensures unfailed { OnOk result (O.failures out.new ≡ O.failures out.old) }
-    ensures last { IsErrOf result ToolError.Write → OneFailed (O.failures out.old) (O.failures out.new) }
-    ensures cut_short { IsErrOf result ToolError.Write → ListCutShort device.now after.entry limit bytes.now (O.taken out.old) (O.taken out.new) }
+    ensures last { IsErrOf result ToolError.Write
+        → OneFailed (O.failures out.old) (O.failures out.new) }
+    ensures cut_short { IsErrOf result ToolError.Write
+        → ListCutShort device.now after.entry limit bytes.now (O.taken out.old) (O.taken out.new) }
     ensures whole_lines { IsErrOf result ToolError.Memory
-        → (out.new ≡ out.old) ⊎ ListedLines device.now after.entry limit bytes.now (O.taken out.old) (O.taken out.new) }
-    ensures untouched { IfErr result (λ e. e ≢ ToolError.Write → e ≢ ToolError.Memory → out.new ≡ out.old) }
+        → (out.new ≡ out.old)
+        ⊎ ListedLines device.now after.entry limit bytes.now (O.taken out.old) (O.taken out.new) }
+    ensures untouched { IfErr result
+        (λ e. e ≢ ToolError.Write → e ≢ ToolError.Memory → out.new ≡ out.old) }
 {
     compiled_answers_are_last();
     let after = position_of(alloc, after)?;

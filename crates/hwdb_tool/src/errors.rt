@@ -3,7 +3,8 @@ ghost use Rattle.std.specs.Prelude.{◌≡◌};
 ghost use Rattle.hwdb_tool.specs.declared.errors.ToolError.TheVariants.{Memory, BadDatabase};
 ghost use Rattle.hwdb_tool.specs.Refusals.{refusal_of_text, refusal_of_compile, refusal_of_query};
 
-use hwdb_query::{CompileError, QueryError};
+use hwdb_compile::CompileError;
+use hwdb_query::QueryError;
 use hwdb_reader::DbFault;
 use hwdb_text::TextError;
 use std::alloc::AllocError;

@@ -1,5 +1,6 @@
 //! Files and folders: what is read, and the file that takes the database's place.
-ghost use Rattle.std.specs.Prelude.{◌≡◌};
+ghost use Rattle.std.specs.Prelude.{◌≡◌, ◌≤◌, IfOk, vec_len};
+ghost use Rattle.hwdb_spec.specs.Texts.{max_file};
 
 use crate::adapters::FromRead;
 use crate::causes::Cause;
@@ -62,7 +63,9 @@ pub fn joined(alloc: Global, front: &str, back: &str) -> Result<String, AllocErr
 }
 
 /// All bytes that a reader has left, of which refusals say that they are those at the path.
-fn all_of<R: Read + Drop>(alloc: Global, reader: R, path: &str) -> Result<Vec<u8>, Refusal> {
+fn all_of<R: Read + Drop>(alloc: Global, reader: R, path: &str) -> Result<Vec<u8>, Refusal>
+    ensures { IfOk result (λ bytes. vec_len bytes ≤ max_file) }
+{
     let mut source = FromRead::new(reader);
     match read_all(alloc, &mut source, MAX_BYTES) {
         Ok(bytes) => Ok(bytes),
@@ -74,6 +77,7 @@ fn all_of<R: Read + Drop>(alloc: Global, reader: R, path: &str) -> Result<Vec<u8
 pub fn any_bytes<R: Files>(alloc: Global, rt: &R, path: &str) -> Result<Vec<u8>, Refusal>
 where
     R::File: Drop,
+    ensures { IfOk result (λ bytes. vec_len bytes ≤ max_file) }
 {
     match File::open(rt, path) {
         Ok(file) => all_of(alloc, file, path),

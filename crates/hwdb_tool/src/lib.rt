@@ -29,7 +29,7 @@ pub use causes::Cause;
 pub use devices::{DeviceFailed, Sink, Source};
 pub use engines::{run_list, run_query};
 pub use errors::ToolError;
-pub use hwdb_words::{Job, Task, WordsFault, read_words};
+pub use hwdb_cli::{Job, Task, WordsFault, read_words};
 pub use running::program;
 pub use transfer::{read_all, write_text};
 pub use updating::run_update;

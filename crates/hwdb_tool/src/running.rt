@@ -1,6 +1,6 @@
 //! The program: its words, its files, its status and its refusal lines.
 ghost use Rattle.std.specs.Prelude.{◌≡◌, ◌≤◌, map, string_bytes};
-ghost use Rattle.hwdb_words.specs.Refusals.{AreWrong};
+ghost use Rattle.hwdb_cli.specs.Refusals.{AreWrong};
 
 use crate::adapters::ToWrite;
 use crate::asking::ask;
@@ -12,9 +12,9 @@ use crate::files::{Replacement, any_bytes, database_bytes, joined, names_in, tex
 use crate::refusals::{Refusal, refuse_for, refuse_text};
 use crate::transfer::write_text;
 use crate::updating::run_update;
-use hwdb_query::SourceFile;
+use hwdb_cli::{Job, Task, WordsFault, read_words};
+use hwdb_compile::SourceFile;
 use hwdb_text::{Chosen, select};
-use hwdb_words::{Job, Task, WordsFault, read_words};
 use std::alloc::{AllocError, Global};
 use std::rt::Files;
 

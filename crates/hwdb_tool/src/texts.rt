@@ -1,11 +1,11 @@
 //! The texts that are printed: properties, lines of hits, fault lines.
 ghost use Rattle.std.specs.Prelude.{◌≡◌, ◌++◌, map, IfOk, OnOk};
-ghost use Rattle.hwdb_query.specs.Compiling.{fault_of};
-ghost use Rattle.hwdb_query.specs.Hits.{found_of_hit};
-ghost use Rattle.hwdb_query.specs.Pairs.{pairs_bytes};
-ghost use Rattle.hwdb_tool.specs.Texts.{property_text, properties_text, hit_text, place_text, fault_line, faults_text, faults_text_at};
+ghost use Rattle.hwdb_compile.specs.Views.{fault_of};
+ghost use Rattle.hwdb_query.specs.Views.{assignment_of_hit, pairs_bytes};
+ghost use Rattle.hwdb_spec.specs.Texts.{property_text, properties_text, hit_text, place_text, fault_line, faults_text, faults_text_at};
 
-use hwdb_query::{FileFault, Hit};
+use hwdb_compile::FileFault;
+use hwdb_query::Hit;
 use hwdb_text::Fault;
 use itoa::Buffer;
 use std::alloc::{AllocError, Global};
@@ -34,7 +34,7 @@ fn push_property(text: &mut Vec<u8>, key: &[u8], value: &[u8]) -> Result<(), All
 
 /// The line of a hit: its position, a tab, the pattern, a tab, the property.
 pub fn hit_line(alloc: Global, hit: &Hit<'_>) -> Result<Vec<u8>, AllocError>
-    ensures { IfOk result (λ line. line.items ≡ hit_text (found_of_hit hit.now)) }
+    ensures { IfOk result (λ line. line.items ≡ hit_text (assignment_of_hit hit.now)) }
 {
     let position = hit.position(alloc)?;
     let position = position.write(alloc)?;

@@ -47,11 +47,14 @@ pub fn read_all<R: Source>(
     ensures fits { IfOk result (λ v. vec_len v ≤ max_bytes) }
 
     ensures refusals { IfErr result IsReadRefusal }
-    ensures too_long { IsErrOf result ToolError.TooLong → IfSome (R.left source.old) (λ xs. max_bytes < length xs) }
+    ensures too_long { IsErrOf result ToolError.TooLong
+        → IfSome (R.left source.old) (λ xs. max_bytes < length xs) }
     ensures later { R.failures source.old ≤ R.failures source.new }
-    ensures cause { IsErrOf result ToolError.Read → HasFailed (R.failures source.old) (R.failures source.new) }
+    ensures cause { IsErrOf result ToolError.Read
+        → HasFailed (R.failures source.old) (R.failures source.new) }
     ensures unfailed { OnOk result (R.failures source.new ≡ R.failures source.old) }
-    ensures last { IsErrOf result ToolError.Read → OneFailed (R.failures source.old) (R.failures source.new) }
+    ensures last { IsErrOf result ToolError.Read
+        → OneFailed (R.failures source.old) (R.failures source.new) }
 {
     let limit = max_bytes as usize;
     let mut bytes = Vec::new(alloc);

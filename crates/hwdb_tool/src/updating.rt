@@ -1,14 +1,15 @@
 //! What `update` does with the files of both folders.
 ghost use Rattle.std.specs.Prelude.{◌≡◌, ◌≢◌, ◌⊎◌, map, IfOk, IfErr, OnOk, IsErrOf};
-ghost use Rattle.hwdb_query.specs.Compiling.{sources, fault_of};
+ghost use Rattle.hwdb_compile.specs.Views.{sources, fault_of};
 ghost use Rattle.hwdb_tool.specs.Devices.{HasFailed, OneOfTwoFailed};
-ghost use Rattle.hwdb_tool.specs.Updates.{status_of, Updated, UpdateCutShort, IsUpdateRefusal};
+ghost use Rattle.hwdb_spec.specs.Texts.{status_of};
+ghost use Rattle.hwdb_tool.specs.Updates.{Updated, UpdateCutShort, IsUpdateRefusal};
 
 use crate::devices::Sink;
 use crate::errors::ToolError;
 use crate::texts::fault_lines;
 use crate::transfer::write_text;
-use hwdb_query::{FileFault, SourceFile, compile};
+use hwdb_compile::{FileFault, SourceFile, compile};
 use std::alloc::Global;
 
 /// The status of an update: 1 where `strict` and there is a fault, else 0.
@@ -30,19 +31,24 @@ pub fn run_update<O: Sink, E: Sink>(
     out: &mut O,
     err: &mut E,
 ) -> Result<u8, ToolError>
-    ensures updated { IfOk result (λ status. Updated (sources etc.now) (sources usr.now) max_bytes strict status
+    ensures updated { IfOk result
+        (λ status. Updated (sources etc.now) (sources usr.now) max_bytes strict status
         (E.taken err.old) (E.taken err.new) (O.taken out.old) (O.taken out.new)) }
 
-    ensures refusals { IfErr result (IsUpdateRefusal (sources etc.now) (sources usr.now) max_bytes) }
+    ensures refusals { IfErr result
+        (IsUpdateRefusal (sources etc.now) (sources usr.now) max_bytes) }
     ensures cause { IsErrOf result ToolError.Write
-        → HasFailed (E.failures err.old) (E.failures err.new) ⊎ HasFailed (O.failures out.old) (O.failures out.new) }
+        → HasFailed (E.failures err.old) (E.failures err.new)
+        ⊎ HasFailed (O.failures out.old) (O.failures out.new) }
     ensures unfailed { OnOk result ((E.failures err.new ≡ E.failures err.old)
         × (O.failures out.new ≡ O.failures out.old)) }
     ensures last { IsErrOf result ToolError.Write → OneOfTwoFailed (E.failures err.old)
         (E.failures err.new) (O.failures out.old) (O.failures out.new) }
-    ensures cut_short { IsErrOf result ToolError.Write → UpdateCutShort (sources etc.now) (sources usr.now)
+    ensures cut_short { IsErrOf result ToolError.Write
+        → UpdateCutShort (sources etc.now) (sources usr.now)
         (E.taken err.old) (E.taken err.new) (O.taken out.old) (O.taken out.new) }
-    ensures untouched { IfErr result (λ e. e ≢ ToolError.Write → (err.new ≡ err.old) × (out.new ≡ out.old)) }
+    ensures untouched { IfErr result
+        (λ e. e ≢ ToolError.Write → (err.new ≡ err.old) × (out.new ≡ out.old)) }
 {
     let compiled = compile(alloc, etc, usr, max_bytes)?;
     let faults = fault_lines(alloc, &compiled.faults)?;

@@ -1,17 +1,16 @@
 -- The written form is a database.
 use Rattle.std.proofs.Common.{◌≡◌, ◌≤◌, ◌<◌, ℕ, zero, suc, ◌+◌, ◌-◌, ◌*◌, ◌^◌, List, [], ◌∷◌, ◌++◌, length, take, get_or, Option, Some, None, refl, sym, ◌∙◌, ap, subst, arith, length-append, append_assoc, inl, inr, ⊎_elim}
-use Rattle.std.specs.Prelude.{codes}
-use Rattle.std.specs.List.{AllByRecursion, flat_map}
+use Rattle.std.specs.Prelude.{codes, flat_map}
+use Rattle.std.specs.List.{AllByRecursion}
 use Rattle.byteorder.specs.Endian.{little_bytes}
-use Rattle.hwdb_layout.specs.declared.Layout.{Layout}
-use Rattle.hwdb_layout.specs.Tree.{Value, Tree, Children, count}
-use Rattle.hwdb_layout.specs.Tree.Tree.{Node}
-use Rattle.hwdb_layout.specs.Tree.Children.{NoMore, Child}
-use Rattle.hwdb_layout.specs.Map.{IsTree, BytesAscend, KeysAscend}
-use Rattle.hwdb_layout.specs.Database.{number_at, text_at, prefix_field, child_count, value_count, record_end, value_at, IsPlace, IsValue, ValuesText, NodeText, ChildrenText, layout_of, IsHeader, IsDatabase}
-use Rattle.hwdb_layout.specs.Written.{strings_of, strings_below, strings_of_value, table_of, section_of, ended, place_of, text_size, texts_size, record_at, padding, value_text, entries_text, node_text, nodes_text, header_text, written}
-use Rattle.hwdb_writer.specs.Membership.{Holds}
-use Rattle.hwdb_writer.specs.Storable.{HasNoZero, IsText, IsStorableValue, IsStorable, AreStorable, IsSound}
+use Rattle.hwdb_spec.specs.declared.Layout.{Layout}
+use Rattle.hwdb_spec.specs.Tree.{Value, Tree, Children, count, IsTree, BytesAscend, KeysAscend}
+use Rattle.hwdb_spec.specs.Tree.Tree.{Node}
+use Rattle.hwdb_spec.specs.Tree.Children.{NoMore, Child}
+use Rattle.hwdb_spec.specs.Format.{number_at, text_at, prefix_field, child_count, value_count, record_end, value_at, IsPlace, IsValue, ValuesText, NodeText, ChildrenText, layout_of, IsHeader, IsDatabase}
+use Rattle.hwdb_spec.specs.Written.{strings_of, strings_below, strings_of_value, table_of, section_of, ended, place_of, text_size, texts_size, record_at, padding, value_text, entries_text, node_text, nodes_text, header_text, written}
+use Rattle.hwdb_writer.specs.Internal.Membership.{Holds}
+use Rattle.hwdb_writer.specs.Internal.Storable.{HasNoZero, IsText, IsStorableValue, IsStorable, AreStorable, IsSound}
 use Rattle.hwdb_writer.proofs.Distinct.{IsOrdered, ascending_ordered, holds_ascending}
 use Rattle.hwdb_writer.proofs.Lengths.{length-node, length-nodes, length-entries, length-value}
 use Rattle.hwdb_writer.proofs.Wholes.{length-written}

@@ -10,8 +10,8 @@ use Rattle.std.specs.FinMap.Entries.{by_order}
 use Rattle.std.proofs.lemmas.Cmp.{tied_itself}
 use Rattle.std.proofs.lemmas.List.Kept.{IsStrictlySortedBy-dedup, Any-dedup, Contains-from_dedup}
 use Rattle.std.proofs.lemmas.List.Sorted.{Contains-permutation, IsPermutation-sym}
-use Rattle.hwdb_layout.specs.Written.{add_string, ascending}
-use Rattle.hwdb_writer.specs.Membership.{Holds}
+use Rattle.hwdb_spec.specs.Written.{add_string, ascending}
+use Rattle.hwdb_writer.specs.Internal.Membership.{Holds}
 
 abbrev Text : Type 0
 Text = List ℕ

@@ -3,19 +3,19 @@ use Rattle.std.proofs.Common.{◌≡◌, ◌≤◌, ◌<◌, ℕ, zero, suc, ◌
 use Rattle.std.proofs.Math.Seq.{drop-cons}
 use Rattle.std.proofs.lemmas.List.{drop_all}
 use Rattle.std.proofs.lemmas.Grind.{flat_map-append}
-use Rattle.std.specs.List.{flat_map}
+use Rattle.std.specs.Prelude.{flat_map}
 use Rattle.byteorder.specs.Endian.{little_bytes}
-use Rattle.hwdb_layout.specs.Tree.{Children, count}
-use Rattle.hwdb_layout.specs.Tree.Tree.{Node}
-use Rattle.hwdb_layout.specs.Tree.Children.{Child}
-use Rattle.hwdb_layout.specs.Written.{strings_of, strings_below, strings_of_value, text_size, texts_size, record_at, padding, value_text, entries_text, node_text, nodes_text}
+use Rattle.hwdb_spec.specs.Tree.{Children, count}
+use Rattle.hwdb_spec.specs.Tree.Tree.{Node}
+use Rattle.hwdb_spec.specs.Tree.Children.{Child}
+use Rattle.hwdb_spec.specs.Written.{strings_of, strings_below, strings_of_value, text_size, texts_size, record_at, padding, value_text, entries_text, node_text, nodes_text}
 use Rattle.hwdb_writer.specs.declared.branches.Branch.{Branch}
 use Rattle.hwdb_writer.specs.declared.stored.Stored.{Stored}
 use Rattle.hwdb_writer.specs.declared.branches.Branch.TheViews.{out-Branch}
-use Rattle.hwdb_writer.specs.Stored.{value_of}
-use Rattle.hwdb_writer.specs.Runs.{Run, values_at, values_in}
-use Rattle.hwdb_writer.specs.Standing.{standing, children_in, byte_of, tree_of}
-use Rattle.hwdb_writer.specs.Narrow.{IsNarrow, AreNarrow}
+use Rattle.hwdb_writer.specs.Internal.Stored.{value_of}
+use Rattle.hwdb_writer.specs.Internal.Runs.{Run, values_at, values_in}
+use Rattle.hwdb_writer.specs.Internal.Standing.{standing, children_in, byte_of, tree_of}
+use Rattle.hwdb_writer.specs.Internal.Narrow.{IsNarrow, AreNarrow}
 use Rattle.hwdb_writer.proofs.Standings.{opened, byte_opened}
 use Rattle.hwdb_writer.proofs.Lengths.{length-node, length-nodes}
 

@@ -8,14 +8,12 @@ use Rattle.std.specs.FinMap.Entries.{by_order}
 use Rattle.std.specs.List.{AllByRecursion}
 use Rattle.std.proofs.lemmas.Bool.Decides.{nat_tests}
 use Rattle.std.proofs.lemmas.Cmp.{ranked}
-use Rattle.hwdb_layout.specs.Tree.{Value, Tree, Children, count, prefix_of}
-use Rattle.hwdb_layout.specs.Tree.Tree.{Node}
-use Rattle.hwdb_layout.specs.Tree.Children.{NoMore, Child}
-use Rattle.hwdb_layout.specs.Map.{IsTree, BytesAscend, KeysAscend}
-use Rattle.hwdb_layout.specs.Database.{IsAbove}
-use Rattle.hwdb_layout.specs.Tight.{IsTight, IsForked}
-use Rattle.hwdb_writer.specs.Setting.{meet, set_value, set_below, set_at, set_node, forked, single}
-use Rattle.hwdb_writer.specs.Storable.{IsText, IsStorableValue, IsStorable, AreStorable, IsSound, max_pattern}
+use Rattle.hwdb_spec.specs.Tree.{Value, Tree, Children, count, prefix_of, IsTree, BytesAscend, KeysAscend, IsAbove}
+use Rattle.hwdb_spec.specs.Tree.Tree.{Node}
+use Rattle.hwdb_spec.specs.Tree.Children.{NoMore, Child}
+use Rattle.hwdb_spec.specs.Written.{IsTight, IsForked}
+use Rattle.hwdb_writer.specs.Internal.Setting.{meet, set_value, set_below, set_at, set_node, forked, single}
+use Rattle.hwdb_writer.specs.Internal.Storable.{IsText, IsStorableValue, IsStorable, AreStorable, IsSound, max_pattern}
 use Rattle.hwdb_writer.proofs.Searching.{turned_back}
 use Rattle.hwdb_writer.proofs.Maps.{met, Differ}
 

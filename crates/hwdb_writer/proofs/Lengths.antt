@@ -1,11 +1,11 @@
 -- How long the texts of a tree are.
 use Rattle.std.proofs.Common.{◌≡◌, ℕ, ◌+◌, ◌*◌, List, [], ◌∷◌, length, refl, ◌∙◌, arith, length-append}
-use Rattle.std.specs.List.{flat_map}
+use Rattle.std.specs.Prelude.{flat_map}
 use Rattle.byteorder.specs.Numbers.{length-bytes_low_first}
-use Rattle.hwdb_layout.specs.Tree.{Value, Tree, Children, count}
-use Rattle.hwdb_layout.specs.Tree.Tree.{Node}
-use Rattle.hwdb_layout.specs.Tree.Children.{NoMore, Child}
-use Rattle.hwdb_layout.specs.Written.{text_size, texts_size, value_text, entries_text, node_text, nodes_text}
+use Rattle.hwdb_spec.specs.Tree.{Value, Tree, Children, count}
+use Rattle.hwdb_spec.specs.Tree.Tree.{Node}
+use Rattle.hwdb_spec.specs.Tree.Children.{NoMore, Child}
+use Rattle.hwdb_spec.specs.Written.{text_size, texts_size, value_text, entries_text, node_text, nodes_text}
 
 module _ (place : List ℕ → ℕ) where
   pub length-value : (v : Value) → length (value_text place v) ≡ 32

@@ -4,14 +4,13 @@ use Rattle.std.proofs.Math.Seq.{drop-cons}
 use Rattle.std.proofs.lemmas.List.{drop_all}
 use Rattle.std.proofs.lemmas.Bool.Decides.{nat_tests}
 use Rattle.std.specs.List.{insert}
-use Rattle.hwdb_layout.specs.Tree.{Value, Tree, Children, values_of}
-use Rattle.hwdb_layout.specs.Tree.Tree.{Node}
-use Rattle.hwdb_layout.specs.Tree.Children.{NoMore, Child}
-use Rattle.hwdb_layout.specs.Map.{IsTree, BytesAscend, KeysAscend}
+use Rattle.hwdb_spec.specs.Tree.{Value, Tree, Children, values_of, IsTree, BytesAscend, KeysAscend}
+use Rattle.hwdb_spec.specs.Tree.Tree.{Node}
+use Rattle.hwdb_spec.specs.Tree.Children.{NoMore, Child}
 use Rattle.hwdb_writer.specs.declared.branches.Branch.{Branch}
 use Rattle.hwdb_writer.specs.declared.branches.Branch.TheViews.{out-Branch}
-use Rattle.hwdb_writer.specs.Standing.{standing, children_in, byte_of, tree_of}
-use Rattle.hwdb_writer.specs.Setting.{set_value, set_below, set_at, set_node, forked, reached, single, below_of}
+use Rattle.hwdb_writer.specs.Internal.Standing.{standing, children_in, byte_of, tree_of}
+use Rattle.hwdb_writer.specs.Internal.Setting.{set_value, set_below, set_at, set_node, forked, reached, single, below_of}
 use Rattle.hwdb_writer.proofs.Standings.{opened}
 use Rattle.hwdb_writer.proofs.Meetings.{IsEnd}
 

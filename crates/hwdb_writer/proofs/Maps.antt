@@ -7,12 +7,10 @@ use Rattle.std.specs.Cmp.Lexicographic.{slice_cmp, nat_list_cmp_total}
 use Rattle.std.specs.FinMap.{IsAntisymmetric, slice_cmp-IsAntisymmetric, nat_cmp-IsAntisymmetric, get-from_entries, get-insert, same_map, insert}
 use Rattle.std.specs.FinMap.Entries.{by_order, find}
 use Rattle.std.proofs.lemmas.Bool.Decides.{nat_tests}
-use Rattle.hwdb_layout.specs.Tree.{Value, Tree, Children}
-use Rattle.hwdb_layout.specs.Tree.Tree.{Node}
-use Rattle.hwdb_layout.specs.Tree.Children.{NoMore, Child}
-use Rattle.hwdb_layout.specs.Map.{Assigned, place_cmp, assigned_at, values_under, values_below, map_of}
-use Rattle.hwdb_layout.specs.Map.{key_of}
-use Rattle.hwdb_writer.specs.Setting.{Meeting, meet, behind, set_value, set_below, set_at, set_node, forked, single}
+use Rattle.hwdb_spec.specs.Tree.{Value, Tree, Children, Assigned, place_cmp, assigned_at, values_under, values_below, map_of, key_of}
+use Rattle.hwdb_spec.specs.Tree.Tree.{Node}
+use Rattle.hwdb_spec.specs.Tree.Children.{NoMore, Child}
+use Rattle.hwdb_writer.specs.Internal.Setting.{Meeting, meet, behind, set_value, set_below, set_at, set_node, forked, single}
 
 abbrev pub Place : Type 0
 Place = List ℕ × List ℕ

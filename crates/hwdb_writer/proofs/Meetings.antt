@@ -2,7 +2,7 @@
 use Rattle.std.proofs.Common.{◌≡◌, ◌≤◌, ◌<◌, ℕ, zero, suc, ◌+◌, List, [], ◌∷◌, length, take, drop, get_or, true, false, cond, refl, ◌∙◌, ap, arith, eqb, eq-eqb}
 use Rattle.std.proofs.lemmas.Bool.Decides.{nat_tests}
 use Rattle.std.proofs.lemmas.List.{take_more_same}
-use Rattle.hwdb_writer.specs.Setting.{meet, behind}
+use Rattle.hwdb_writer.specs.Internal.Setting.{meet, behind}
 
 -- the first n elements are alike
 pub record Past (n : ℕ) (a b : List ℕ) : Type 0 where

@@ -6,13 +6,11 @@ use Rattle.std.specs.Cmp.{tied_itself}
 use Rattle.std.specs.Cmp.Lexicographic.{slice_cmp, nat_list_cmp_total}
 use Rattle.std.specs.FinMap.{get, get-from_entries}
 use Rattle.std.proofs.lemmas.Bool.{cases_lt}
-use Rattle.hwdb_layout.specs.Tree.{Value, Tree, Children, count, prefix_of}
-use Rattle.hwdb_layout.specs.Tree.Tree.{Node}
-use Rattle.hwdb_layout.specs.Tree.Children.{NoMore, Child}
-use Rattle.hwdb_layout.specs.Map.{Map, Assigned, map_of, values_under, values_below, key_of, IsTree, BytesAscend, KeysAscend}
-use Rattle.hwdb_layout.specs.Tight.{IsTight, AreTight, IsForked, AllKeys, IsTightTree, IsWritten}
-use Rattle.hwdb_layout.specs.Written.{written}
-use Rattle.hwdb_writer.specs.Setting.{meet}
+use Rattle.hwdb_spec.specs.Tree.{Value, Tree, Children, count, prefix_of, Map, Assigned, map_of, values_under, values_below, key_of, IsTree, BytesAscend, KeysAscend}
+use Rattle.hwdb_spec.specs.Tree.Tree.{Node}
+use Rattle.hwdb_spec.specs.Tree.Children.{NoMore, Child}
+use Rattle.hwdb_spec.specs.Written.{IsTight, AreTight, IsForked, AllKeys, IsTightTree, IsWritten, written}
+use Rattle.hwdb_writer.specs.Internal.Setting.{meet}
 use Rattle.hwdb_writer.proofs.Maps.{Place, Entry, found, found_both, found_cons, one, one_is, one_other, either, entries, given, is_at, Off, values_off, off_tree, off_children, off_here, met, Differ, append_nil, place_total, bytes_same, cancel, fork_off, longer, stored_is}
 
 -- the first of two places where something may be found

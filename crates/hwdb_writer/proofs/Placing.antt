@@ -9,9 +9,9 @@ use Rattle.std.specs.List.Sorted.{IsStrictlySortedBy, IsBinarySearchResult}
 use Rattle.std.specs.Cmp.{tied_back, tied_itself}
 use Rattle.std.specs.Cmp.Lexicographic.{slice_cmp, nat_list_cmp_total}
 use Rattle.std.specs.FinMap.Entries.{by_order}
-use Rattle.hwdb_layout.specs.Written.{place_of, section_of, ended}
-use Rattle.hwdb_writer.specs.Places.{starts_from}
-use Rattle.hwdb_writer.specs.Found.{IsHit, IsGap}
+use Rattle.hwdb_spec.specs.Written.{place_of, section_of, ended}
+use Rattle.hwdb_writer.specs.Internal.Places.{starts_from}
+use Rattle.hwdb_writer.specs.Internal.Found.{IsHit, IsGap}
 use Rattle.hwdb_writer.proofs.Searching.{Up, searched, hit_more, gap_more, turned, turned_back}
 use Rattle.hwdb_writer.proofs.Distinct.{IsOrdered}
 

@@ -1,13 +1,11 @@
 -- What a put makes of the map.
 use Rattle.std.proofs.Common.{◌≡◌, ◌<◌, ◌^◌, ℕ, suc, List, [], ◌∷◌, get_or, refl, sym, ◌∙◌, ap, subst, arith, IsSome}
 use Rattle.std.specs.FinMap.{FinMap, insert, empty}
-use Rattle.hwdb_layout.specs.Tree.{Value, Tree, prefix_of}
-use Rattle.hwdb_layout.specs.Tree.Tree.{Node}
-use Rattle.hwdb_layout.specs.Tree.Children.{NoMore}
-use Rattle.hwdb_layout.specs.Map.{map_of, place_cmp, Assigned, values_under, IsTree}
-use Rattle.hwdb_layout.specs.Map.{key_of}
-use Rattle.hwdb_writer.specs.Setting.{set_at}
-use Rattle.hwdb_writer.specs.Storable.{IsSound, IsStorable, IsStorableValue, HasNoZero, IsText}
+use Rattle.hwdb_spec.specs.Tree.{Value, Tree, prefix_of, map_of, place_cmp, Assigned, values_under, IsTree, key_of}
+use Rattle.hwdb_spec.specs.Tree.Tree.{Node}
+use Rattle.hwdb_spec.specs.Tree.Children.{NoMore}
+use Rattle.hwdb_writer.specs.Internal.Setting.{set_at}
+use Rattle.hwdb_writer.specs.Internal.Storable.{IsSound, IsStorable, IsStorableValue, HasNoZero, IsText}
 use Rattle.hwdb_writer.proofs.Maps.{map_set}
 
 pub empty_map : map_of (Node [] [] NoMore) ≡ empty

@@ -12,10 +12,10 @@ use Rattle.std.proofs.lemmas.List.Sums.{take_while-cons}
 use Rattle.std.proofs.lemmas.Bool.Decides.{nat_tests}
 use Rattle.byteorder.specs.Endian.{little_bytes, little_number}
 use Rattle.byteorder.specs.Numbers.{little_number-reads_back}
-use Rattle.hwdb_layout.specs.Database.{number_at, text_at}
-use Rattle.hwdb_layout.specs.Written.{place_of, section_of, ended}
-use Rattle.hwdb_writer.specs.Membership.{Holds}
-use Rattle.hwdb_writer.specs.Storable.{HasNoZero}
+use Rattle.hwdb_spec.specs.Format.{number_at, text_at}
+use Rattle.hwdb_spec.specs.Written.{place_of, section_of, ended}
+use Rattle.hwdb_writer.specs.Internal.Membership.{Holds}
+use Rattle.hwdb_writer.specs.Internal.Storable.{HasNoZero}
 use Rattle.hwdb_writer.proofs.Distinct.{IsOrdered}
 
 -- the text stands in b at i

@@ -5,7 +5,7 @@ use Rattle.std.specs.declared.cmp.Ordering.TheVariants.{Less, Equal, Greater}
 use Rattle.std.specs.Ordering.{ordering_index, ordering_reverse, is_lt}
 use Rattle.std.specs.Cmp.{IsTotalOrder, alike_right}
 use Rattle.std.specs.List.Sorted.{IsSearchInRange, IsBinarySearchResult, IsNonDecreasingBy}
-use Rattle.hwdb_writer.specs.Found.{IsHit, IsGap}
+use Rattle.hwdb_writer.specs.Internal.Found.{IsHit, IsGap}
 use Rattle.std.proofs.lemmas.List.Sorted.{searchable_from_sorted}
 
 module _ {X K : Type 0} (R : K → K → Ordering) (key : X → K) where

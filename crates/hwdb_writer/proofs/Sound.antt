@@ -1,13 +1,12 @@
 -- What a sound tree is.
 use Rattle.std.proofs.Common.{◌≡◌, ◌<◌, ℕ, ◌+◌, List, [], ◌∷◌, arith}
 use Rattle.std.specs.List.{AllByRecursion}
-use Rattle.hwdb_layout.specs.Tree.{Value, Tree, Children, count}
-use Rattle.hwdb_layout.specs.Tree.Tree.{Node}
-use Rattle.hwdb_layout.specs.Tree.Children.{NoMore, Child}
-use Rattle.hwdb_layout.specs.Map.{Map, map_of, IsTree, BytesAscend}
-use Rattle.hwdb_layout.specs.Tight.{IsTight, AreTight, AllKeys, IsTightTree}
-use Rattle.hwdb_writer.specs.Narrow.{IsNarrow, AreNarrow}
-use Rattle.hwdb_writer.specs.Storable.{IsSound, IsStorable, AreStorable, IsStorableValue}
+use Rattle.hwdb_spec.specs.Tree.{Value, Tree, Children, count, Map, map_of, IsTree, BytesAscend}
+use Rattle.hwdb_spec.specs.Tree.Tree.{Node}
+use Rattle.hwdb_spec.specs.Tree.Children.{NoMore, Child}
+use Rattle.hwdb_spec.specs.Written.{IsTight, AreTight, AllKeys, IsTightTree}
+use Rattle.hwdb_writer.specs.Internal.Narrow.{IsNarrow, AreNarrow}
+use Rattle.hwdb_writer.specs.Internal.Storable.{IsSound, IsStorable, AreStorable, IsStorableValue}
 
 all_keys : (vs : List Value) → AllByRecursion IsStorableValue vs → AllKeys vs
 all_keys [] a = tt

@@ -8,12 +8,11 @@ use Rattle.std.specs.Cmp.Lexicographic.{slice_cmp, nat_list_cmp_total}
 use Rattle.std.specs.FinMap.Entries.{by_order}
 use Rattle.std.proofs.Math.Seq.{drop-cons}
 use Rattle.std.proofs.lemmas.List.{drop_all}
-use Rattle.hwdb_layout.specs.Tree.{Value}
-use Rattle.hwdb_layout.specs.Map.{KeysAscend}
+use Rattle.hwdb_spec.specs.Tree.{Value, KeysAscend}
 use Rattle.hwdb_writer.specs.declared.stored.Stored.{Stored}
-use Rattle.hwdb_writer.specs.Stored.{value_of}
-use Rattle.hwdb_writer.specs.Setting.{set_value}
-use Rattle.hwdb_writer.specs.Runs.{Run, values_at, values_in, AreRuns, BeginsAbove, IsRunOf}
+use Rattle.hwdb_writer.specs.Internal.Stored.{value_of}
+use Rattle.hwdb_writer.specs.Internal.Setting.{set_value}
+use Rattle.hwdb_writer.specs.Internal.Runs.{Run, values_at, values_in, AreRuns, BeginsAbove, IsRunOf}
 use Rattle.hwdb_writer.proofs.Searching.{turned, turned_back}
 
 abbrev pub IsBelow : List ℕ → Value → Type 0

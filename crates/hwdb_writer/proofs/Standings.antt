@@ -1,14 +1,14 @@
 -- The equations of `standing`.
 use Rattle.std.proofs.Common.{◌≡◌, ℕ, zero, suc, List, [], ◌∷◌, map, get_or, set, Result, Ok, Err, OnErr, ap, refl, sym, ◌∙◌}
-use Rattle.hwdb_layout.specs.Tree.{Value, Tree, values_of}
-use Rattle.hwdb_layout.specs.Tree.Children.{Child}
-use Rattle.hwdb_writer.specs.Setting.{below_of}
-use Rattle.hwdb_layout.specs.Tree.Tree.{Node}
+use Rattle.hwdb_spec.specs.Tree.{Value, Tree, values_of}
+use Rattle.hwdb_spec.specs.Tree.Children.{Child}
+use Rattle.hwdb_writer.specs.Internal.Setting.{below_of}
+use Rattle.hwdb_spec.specs.Tree.Tree.{Node}
 use Rattle.hwdb_writer.specs.declared.branches.Branch.{Branch}
 use Rattle.hwdb_writer.specs.declared.branches.Branch.TheOpen.{Branch-F}
 use Rattle.hwdb_writer.specs.declared.branches.Branch.TheViews.{out-Branch, roll-Branch}
 use Rattle.hwdb_writer.specs.declared.branches.Branch.TheFolds.{fold-roll-Branch, fold_out-Branch}
-use Rattle.hwdb_writer.specs.Standing.{standing, standing_step, children_in, tree_of, byte_of}
+use Rattle.hwdb_writer.specs.Internal.Standing.{standing, standing_step, children_in, tree_of, byte_of}
 
 abbrev pub one_level : Branch-F Branch → ℕ × Tree
 one_level b = (b.byte, Node b.prefix b.values (children_in (map standing b.children.items)))

@@ -7,15 +7,14 @@ use Rattle.std.specs.Cmp.{tied_back, nat_cmp_total}
 use Rattle.std.specs.Cmp.Lexicographic.{slice_cmp, nat_list_cmp_total}
 use Rattle.std.specs.FinMap.Entries.{by_order}
 use Rattle.std.proofs.lemmas.Bool.Decides.{nat_tests}
-use Rattle.hwdb_layout.specs.Tree.{Value, Children}
-use Rattle.hwdb_layout.specs.Tree.Children.{NoMore, Child}
-use Rattle.hwdb_layout.specs.Map.{IsTree, BytesAscend, KeysAscend}
+use Rattle.hwdb_spec.specs.Tree.{Value, Children, IsTree, BytesAscend, KeysAscend}
+use Rattle.hwdb_spec.specs.Tree.Children.{NoMore, Child}
 use Rattle.hwdb_writer.specs.declared.stored.Stored.{Stored}
 use Rattle.hwdb_writer.specs.declared.branches.Branch.{Branch}
-use Rattle.hwdb_writer.specs.Stored.{value_of}
-use Rattle.hwdb_writer.specs.Standing.{standing, children_in, byte_of, tree_of}
-use Rattle.hwdb_writer.specs.Setting.{set_value, set_below, set_at, single}
-use Rattle.hwdb_writer.specs.Found.{key_in, HitsKey, MissesKey, HitsByte, MissesByte}
+use Rattle.hwdb_writer.specs.Internal.Stored.{value_of}
+use Rattle.hwdb_writer.specs.Internal.Standing.{standing, children_in, byte_of, tree_of}
+use Rattle.hwdb_writer.specs.Internal.Setting.{set_value, set_below, set_at, single}
+use Rattle.hwdb_writer.specs.Internal.Found.{key_in, HitsKey, MissesKey, HitsByte, MissesByte}
 use Rattle.hwdb_writer.proofs.Searching.{Up, hit_more, gap_more, turned, turned_back}
 
 pub up_keys : (before : Option (List ℕ)) (xs : List Stored) → KeysAscend before (map value_of xs) → Up (slice_cmp nat_cmp) key_in before xs

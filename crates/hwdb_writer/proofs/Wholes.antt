@@ -1,10 +1,9 @@
 -- The whole of a database.
 use Rattle.std.proofs.Common.{◌≡◌, ◌≤◌, ◌<◌, ℕ, ◌+◌, ◌-◌, ◌^◌, List, [], ◌∷◌, ◌++◌, length, min, refl, sym, ◌∙◌, ap, subst, arith, length-append, append_assoc}
-use Rattle.std.specs.Prelude.{codes}
-use Rattle.std.specs.List.{flat_map}
+use Rattle.std.specs.Prelude.{codes, flat_map}
 use Rattle.byteorder.specs.Endian.{little_bytes}
-use Rattle.hwdb_layout.specs.Tree.{Tree}
-use Rattle.hwdb_layout.specs.Written.{text_size, record_at, node_text, place_of, table_of, section_of, header_text, written}
+use Rattle.hwdb_spec.specs.Tree.{Tree}
+use Rattle.hwdb_spec.specs.Written.{text_size, record_at, node_text, place_of, table_of, section_of, header_text, written}
 use Rattle.hwdb_writer.proofs.Lengths.{length-node}
 use Rattle.hwdb_writer.proofs.Distinct.{IsOrdered, ascending_ordered}
 

@@ -1,11 +1,1 @@
-pub mod Stored
-pub mod Runs
-pub mod Standing
-pub mod Setting
-pub mod Found
-pub mod Storable
-pub mod Codes
-pub mod Words
-pub mod Places
-pub mod Narrow
-pub mod Membership
+pub mod Internal

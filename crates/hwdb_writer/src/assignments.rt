@@ -18,15 +18,15 @@ pub struct Tree {
 }
 
 impl Model for Tree {
-    ghost use Rattle.hwdb_writer.specs.Codes.{Map, map_code};
+    ghost use Rattle.hwdb_writer.specs.Internal.Codes.{Map, map_code};
 
     ghost Value = { Map };
 
     ghost coded = { map_code };
 
-    ghost use Rattle.hwdb_layout.specs.Map.{map_of};
-    ghost use Rattle.hwdb_writer.specs.Storable.{IsSound};
-    ghost use Rattle.hwdb_writer.specs.Standing.{tree_of};
+    ghost use Rattle.hwdb_spec.specs.Tree.{map_of};
+    ghost use Rattle.hwdb_writer.specs.Internal.Storable.{IsSound};
+    ghost use Rattle.hwdb_writer.specs.Internal.Standing.{tree_of};
 
     ghost view = { λ t. map_of (tree_of t.root) };
 
@@ -36,8 +36,8 @@ impl Model for Tree {
 impl Tree {
     ghost use Rattle.std.specs.Prelude.{◌≡◌, ◌≤◌, ◌<◌, ◌∷◌, ℕ, List, length, IfOk, OnOk, OnErr};
     ghost use Rattle.std.specs.FinMap.{empty, insert};
-    ghost use Rattle.hwdb_writer.specs.Stored.{value_of};
-    ghost use Rattle.hwdb_writer.specs.Storable.{HasNoZero, IsStorableValue, max_pattern};
+    ghost use Rattle.hwdb_writer.specs.Internal.Stored.{value_of};
+    ghost use Rattle.hwdb_writer.specs.Internal.Storable.{HasNoZero, IsStorableValue, max_pattern};
 
     /// No assignment. Takes no memory.
     pub fn new(alloc: Global) -> Self
@@ -77,7 +77,8 @@ impl Tree {
         requires pattern { HasNoZero pattern.now }
         requires value { IsStorableValue (value_of value) }
         ensures ok { OnOk result (let v = value_of value in (key : List ℕ) → v.key ≡ 32 ∷ key
-            → self.new ≡ insert self.old (pattern.now, key) (record { priority = v.priority; line = v.line; value = v.value; path = v.path })) }
+            → self.new ≡ insert self.old (pattern.now, key)
+            (record { priority = v.priority; line = v.line; value = v.value; path = v.path })) }
         ensures err { OnErr result (self.new ≡ self.old) }
     {
         put_below(self.alloc, &mut self.root, pattern, value)?;
@@ -95,8 +96,14 @@ impl Tree {
         requires value { HasNoZero given.value.now }
         requires path { HasNoZero path.now }
         requires priority { 0 < priority }
-        ensures ok { OnOk result (self.new ≡ insert self.old (given.entry.pattern.now, given.entry.key.now)
-            (record { priority = priority; line = given.entry.line; value = given.entry.value.now; path = path.now })) }
+        ensures ok { OnOk result
+            (self.new ≡ insert self.old (given.entry.pattern.now, given.entry.key.now)
+            (record {
+              priority = priority;
+              line = given.entry.line;
+              value = given.entry.value.now;
+              path = path.now;
+            })) }
         ensures err { OnErr result (self.new ≡ self.old) }
     {
         let alloc = self.alloc;
@@ -116,7 +123,12 @@ impl Tree {
         requires path { HasNoZero a.now.path.items }
         requires priority { 0 < a.now.priority }
         ensures ok { OnOk result (self.new ≡ insert self.old (a.now.pattern.items, a.now.key.items)
-            (record { priority = a.now.priority; line = a.now.line; value = a.now.value.items; path = a.now.path.items })) }
+            (record {
+              priority = a.now.priority;
+              line = a.now.line;
+              value = a.now.value.items;
+              path = a.now.path.items;
+            })) }
         ensures err { OnErr result (self.new ≡ self.old) }
     {
         let given = Given {

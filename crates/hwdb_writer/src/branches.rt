@@ -4,14 +4,13 @@
 //! halves what is left. Each change makes its growths first.
 ghost use Rattle.std.specs.Prelude.{◌≡◌, ◌≢◌, ◌≤◌, ◌<◌, ◌+◌, ◌^◌, ◌∷◌, [], map, take, drop, length, slice_index, None, vec_len, vec_capacity, IfOk, IfErr, OnOk, OnErr};
 ghost use Rattle.std.specs.List.{insert};
-ghost use Rattle.hwdb_layout.specs.Tree.{prefix_of, values_of};
-ghost use Rattle.hwdb_layout.specs.Tree.Tree.{Node};
-ghost use Rattle.hwdb_layout.specs.Map.{IsTree, BytesAscend};
-ghost use Rattle.hwdb_writer.specs.Setting.{meet, set_at, single, forked, below_of};
+ghost use Rattle.hwdb_spec.specs.Tree.{prefix_of, values_of, IsTree, BytesAscend};
+ghost use Rattle.hwdb_spec.specs.Tree.Tree.{Node};
+ghost use Rattle.hwdb_writer.specs.Internal.Setting.{meet, set_at, single, forked, below_of};
 ghost use Rattle.hwdb_writer.specs.declared.branches.Branch.TheViews.{out-Branch};
-ghost use Rattle.hwdb_writer.specs.Found.{HitsByte, MissesByte};
-ghost use Rattle.hwdb_writer.specs.Stored.{value_of};
-ghost use Rattle.hwdb_writer.specs.Standing.{tree_of, byte_of, standing, children_in};
+ghost use Rattle.hwdb_writer.specs.Internal.Found.{HitsByte, MissesByte};
+ghost use Rattle.hwdb_writer.specs.Internal.Stored.{value_of};
+ghost use Rattle.hwdb_writer.specs.Internal.Standing.{tree_of, byte_of, standing, children_in};
 
 use crate::prefix::Prefix;
 use crate::stored::Stored;
@@ -30,7 +29,12 @@ pub struct Branch {
 
 /// How long the longest common beginning is.
 pub fn common(a: &[u8], b: &[u8]) -> usize
-    ensures meeting { meet a.now b.now ≡ record { front = take result a.now; left = drop result a.now; right = drop result b.now } }
+    ensures meeting { meet a.now b.now
+        ≡ record {
+          front = take result a.now;
+          left = drop result a.now;
+          right = drop result b.now;
+        } }
     ensures first { result ≤ length a.now }
     ensures second { result ≤ length b.now }
 {
@@ -80,7 +84,8 @@ fn adopt(
     requires place { place ≤ vec_len others }
     ensures same { byte_of node.new ≡ byte_of node.old }
     ensures tree { tree_of node.new ≡ Node front values
-        (children_in (insert (map standing others.items) place (byte, Node back (values_of (tree_of node.old)) (below_of (tree_of node.old))))) }
+        (children_in (insert (map standing others.items) place
+        (byte, Node back (values_of (tree_of node.old)) (below_of (tree_of node.old))))) }
 {
     let mut lower = Branch {
         byte: node.byte,
@@ -108,7 +113,10 @@ pub fn fork(
     ensures same { byte_of node.new ≡ byte_of node.old }
     ensures err { OnErr result (tree_of node.new ≡ tree_of node.old) }
     ensures ok { OnOk result (let p = (out-Branch node.old).prefix in
-        tree_of node.new ≡ forked (take at p) (slice_index p at) (Node (drop (at + 1) p) (values_of (tree_of node.old)) (below_of (tree_of node.old))) (drop at rest.now) (value_of value)) }
+        tree_of node.new
+        ≡ forked (take at p) (slice_index p at)
+        (Node (drop (at + 1) p) (values_of (tree_of node.old)) (below_of (tree_of node.old)))
+        (drop at rest.now) (value_of value)) }
 {
     let prefix = node.prefix.text();
     let byte = prefix[at];
@@ -141,7 +149,8 @@ pub fn put_below(
 ) -> Result<(), AllocError>
     requires { IsTree (tree_of node.old) }
     ensures same { byte_of node.new ≡ byte_of node.old }
-    ensures ok { OnOk result (tree_of node.new ≡ set_at rest.now (value_of value) (tree_of node.old)) }
+    ensures ok { OnOk result
+        (tree_of node.new ≡ set_at rest.now (value_of value) (tree_of node.old)) }
     ensures err { OnErr result (tree_of node.new ≡ tree_of node.old) }
 {
     let prefix = node.prefix.text();

@@ -1,8 +1,7 @@
 //! Laws of the written form. The functions hold no code: each is a law, its contract.
 ghost use Rattle.std.specs.Prelude.{◌≡◌, ℕ, List};
-ghost use Rattle.hwdb_layout.specs.Map.{Map};
-ghost use Rattle.hwdb_layout.specs.Tree.{Tree};
-ghost use Rattle.hwdb_layout.specs.Tight.{IsTightTree, IsWritten};
+ghost use Rattle.hwdb_spec.specs.Tree.{Map, Tree};
+ghost use Rattle.hwdb_spec.specs.Written.{IsTightTree, IsWritten};
 
 /// A map has one tight tree at most.
 pub fn law_one_tight_tree()

@@ -1,12 +1,12 @@
 //! The nodes section: each node's record, behind the texts of its children.
 ghost use Rattle.std.specs.Prelude.{◌≡◌, ◌<◌, ◌++◌, ◌∷◌, ◌+◌, ◌*◌, ◌-◌, ◌^◌, OnOk, map, flat_map, min, length};
 ghost use Rattle.byteorder.specs.Endian.{little_bytes};
-ghost use Rattle.hwdb_layout.specs.Written.{strings_of, strings_of_value, text_size, node_text, value_text, record_at, padding};
-ghost use Rattle.hwdb_writer.specs.Stored.{value_of};
-ghost use Rattle.hwdb_writer.specs.Standing.{tree_of, byte_of};
-ghost use Rattle.hwdb_writer.specs.Narrow.{IsNarrow};
-ghost use Rattle.hwdb_writer.specs.Membership.{SameMembers};
-ghost use Rattle.hwdb_writer.specs.Places.{IsTable, place_in};
+ghost use Rattle.hwdb_spec.specs.Written.{strings_of, strings_of_value, text_size, node_text, value_text, record_at, padding};
+ghost use Rattle.hwdb_writer.specs.Internal.Stored.{value_of};
+ghost use Rattle.hwdb_writer.specs.Internal.Standing.{tree_of, byte_of};
+ghost use Rattle.hwdb_writer.specs.Internal.Narrow.{IsNarrow};
+ghost use Rattle.hwdb_writer.specs.Internal.Membership.{SameMembers};
+ghost use Rattle.hwdb_writer.specs.Internal.Places.{IsTable, place_in};
 
 use crate::branches::Branch;
 use crate::guesses::Guesses;
@@ -43,7 +43,8 @@ fn collect_values<'t>(
     words: &mut Vec<Word<'t>>,
     guesses: &mut Guesses,
 ) -> Result<(), AllocError>
-    ensures { OnOk result (SameMembers words.new.items (words.old.items ++ flat_map strings_of_value values.now)) }
+    ensures { OnOk result
+        (SameMembers words.new.items (words.old.items ++ flat_map strings_of_value values.now)) }
 {
     for run in values.runs() {
         collect_run(run, words, guesses)?;
@@ -57,7 +58,8 @@ pub fn collect<'t>(
     words: &mut Vec<Word<'t>>,
     guesses: &mut Guesses,
 ) -> Result<(), AllocError>
-    ensures { OnOk result (SameMembers words.new.items (words.old.items ++ strings_of (tree_of node.now))) }
+    ensures { OnOk result
+        (SameMembers words.new.items (words.old.items ++ strings_of (tree_of node.now))) }
 {
     push_new(words, guesses, node.prefix.text())?;
     collect_values(&node.values, words, guesses)?;
@@ -139,9 +141,11 @@ pub fn push_text(
     requires narrow { IsNarrow (tree_of node.now) }
     requires fits { text_size (tree_of node.now) < 2 ^ 64 }
     ensures text { OnOk result (out.new.items
-        ≡ out.old.items ++ node_text (place_in table.now) (length out.old.items) (tree_of node.now)) }
+        ≡ out.old.items
+        ++ node_text (place_in table.now) (length out.old.items) (tree_of node.now)) }
     ensures entry { OnOk result (entries.new.items ≡ entries.old.items
-        ++ (byte_of node.now ∷ padding 7 ++ little_bytes 8 (record_at (length out.old.items) (tree_of node.now)))) }
+        ++ (byte_of node.now ∷ padding 7
+        ++ little_bytes 8 (record_at (length out.old.items) (tree_of node.now)))) }
 {
     let children: &[Branch] = &node.children;
     let first = entries.as_slice().len();

@@ -11,7 +11,7 @@ pub struct Prefix {
 
 impl Model for Prefix {
     ghost use Rattle.std.specs.Prelude.{ℕ, List};
-    ghost use Rattle.hwdb_writer.specs.Codes.{coded_bytes};
+    ghost use Rattle.hwdb_writer.specs.Internal.Codes.{coded_bytes};
 
     ghost Value = { List ℕ };
 

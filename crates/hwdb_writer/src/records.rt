@@ -1,7 +1,7 @@
 //! The numbers and records of the nodes section, lowest byte first.
 ghost use Rattle.std.specs.Prelude.{◌≡◌, ◌≤◌, ◌++◌, ◌∷◌, OnOk, length, drop};
 ghost use Rattle.byteorder.specs.Endian.{little_bytes};
-ghost use Rattle.hwdb_layout.specs.Written.{padding};
+ghost use Rattle.hwdb_spec.specs.Written.{padding};
 
 use byteorder::{ByteOrder, LittleEndian};
 use std::alloc::AllocError;
@@ -53,7 +53,8 @@ pub fn push_node(
     values: usize,
 ) -> Result<(), AllocError>
     ensures { OnOk result (out.new.items
-        ≡ out.old.items ++ (little_bytes 8 prefix ++ children ∷ padding 7 ++ little_bytes 8 values)) }
+        ≡ out.old.items
+        ++ (little_bytes 8 prefix ++ children ∷ padding 7 ++ little_bytes 8 values)) }
 {
     push_u64(out, prefix)?;
     out.push(children)?;
@@ -63,7 +64,8 @@ pub fn push_node(
 
 /// Appends a child entry: the child's byte, and where its record stands.
 pub fn push_child(entries: &mut Vec<u8>, byte: u8, place: usize) -> Result<(), AllocError>
-    ensures { OnOk result (entries.new.items ≡ entries.old.items ++ (byte ∷ padding 7 ++ little_bytes 8 place)) }
+    ensures { OnOk result
+        (entries.new.items ≡ entries.old.items ++ (byte ∷ padding 7 ++ little_bytes 8 place)) }
 {
     entries.push(byte)?;
     entries.extend_from_slice(&[0; 7])?;

@@ -1,6 +1,6 @@
 //! What is stored of an assignment at a node.
 ghost use Rattle.std.specs.Prelude.{◌≡◌, ◌∷◌, IfOk};
-ghost use Rattle.hwdb_writer.specs.Stored.{value_of};
+ghost use Rattle.hwdb_writer.specs.Internal.Stored.{value_of};
 
 use std::alloc::{AllocError, Global};
 use std::rc::Rc;
@@ -30,7 +30,14 @@ impl Stored {
         path: Rc<Vec<u8>>,
     ) -> Result<Stored, AllocError>
         ensures { IfOk result (λ s. value_of s
-            ≡ record { priority = priority; line = line; key = 32 ∷ key.now; value = value.now; path = path.value.items }) }
+            ≡ record {
+              priority = priority;
+              line = line;
+              key = 32
+                  ∷ key.now;
+              value = value.now;
+              path = path.value.items;
+            }) }
     {
         let length = key.len().saturating_add(value.len());
         let mut text = Vec::with_capacity(alloc, length.saturating_add(1))?;

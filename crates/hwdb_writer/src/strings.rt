@@ -1,8 +1,8 @@
 //! The string section: the distinct strings in order, and where each stands.
 ghost use Rattle.std.specs.Prelude.{◌≡◌, ◌<◌, ◌++◌, ◌∷◌, [], ◌+◌, ◌^◌, ◌-◌, OnOk, IfOk, min, length};
-ghost use Rattle.hwdb_layout.specs.Written.{ascending, section_of};
-ghost use Rattle.hwdb_writer.specs.Membership.{SameMembers};
-ghost use Rattle.hwdb_writer.specs.Places.{starts_from, IsTable, place_in};
+ghost use Rattle.hwdb_spec.specs.Written.{ascending, section_of};
+ghost use Rattle.hwdb_writer.specs.Internal.Membership.{SameMembers};
+ghost use Rattle.hwdb_writer.specs.Internal.Places.{starts_from, IsTable, place_in};
 
 use crate::guesses::Guesses;
 use crate::words::Word;

@@ -1,6 +1,6 @@
 //! The written form at small maps, with the path `/etc/udev/hwdb.d/1.hwdb` and priority 1.
 ghost use Rattle.std.specs.Bool.{OnTrue};
-ghost use Rattle.hwdb_writer.specs.Storable.{HasNoZero};
+ghost use Rattle.hwdb_writer.specs.Internal.Storable.{HasNoZero};
 
 use super::{StoreError, Tree, write};
 use hwdb_text::Assignment;
@@ -141,20 +141,25 @@ fn sizes(rt: HostRuntime) -> Result<(), Fail> {
     let alloc = rt.alloc();
     let k: &[&[u8]] = &[b"K"];
     let k_and_l: &[&[u8]] = &[b"K", b"L"];
-    let cases: [(&[&[u8]], &[&[u8]], u32); 7] = [
+    let cases: [(&[&[u8]], &[&[u8]], u32); 9] = [
         (&[], k, 105),
         (&[b"a"], k, 206),
         (&[b""], k, 166),
         (&[b"ab"], k, 208),
         (&[b"abc", b"abd"], k, 320),
         (&[b"abd", b"abc"], k, 320),
+        (&[b"abc", b"ab"], k, 280),
+        (&[b"ab", b"abc"], k, 280),
         (&[b"a"], k_and_l, 241),
     ];
     for (patterns, keys, size) in &cases {
         let bytes = database(&rt, alloc, patterns, keys, *size)??;
         assert_eq!(rt; bytes.len(), *size as usize);
-        let refused = database(&rt, alloc, patterns, keys, size.saturating_sub(1))?;
-        assert!(rt; matches!(&refused, Err(StoreError::TooLarge)));
+        // Also below the header alone, and below the nodes.
+        for limit in [size.saturating_sub(1), 90, 0] {
+            let refused = database(&rt, alloc, patterns, keys, limit)?;
+            assert!(rt; matches!(&refused, Err(StoreError::TooLarge)));
+        }
     }
     Ok(())
 }
@@ -175,9 +180,12 @@ fn vectors(rt: HostRuntime) -> Result<(), Fail> {
 fn order_and_last_put(rt: HostRuntime) -> Result<(), Fail> {
     let alloc = rt.alloc();
     let k: &[&[u8]] = &[b"K"];
-    let one_way = database(&rt, alloc, &[b"abc", b"abd"], k, 320)??;
-    let other_way = database(&rt, alloc, &[b"abd", b"abc"], k, 320)??;
-    assert_eq!(rt; one_way.as_slice(), other_way.as_slice());
+    let pairs: [(&[u8], &[u8]); 2] = [(b"abc", b"abd"), (b"abc", b"ab")];
+    for (first, second) in pairs {
+        let one_way = database(&rt, alloc, &[first, second], k, 320)??;
+        let other_way = database(&rt, alloc, &[second, first], k, 320)??;
+        assert_eq!(rt; one_way.as_slice(), other_way.as_slice());
+    }
     let mut tree = Tree::new(alloc);
     put(&rt, alloc, &mut tree, 2, b"a", b"K", b"w")?;
     put(&rt, alloc, &mut tree, 3, b"a", b"L", b"v")?;
@@ -237,5 +245,51 @@ fn many_keys_put_again(rt: HostRuntime) -> Result<(), Fail> {
     let again = write(alloc, &tree, COUNT_SIZE)?;
     let once = stepping(&rt, alloc, 1)?;
     assert_eq!(rt; again.as_slice(), once.as_slice());
+    Ok(())
+}
+
+/// A tree of which a `put` was refused memory is what it was, and takes the same assignment the next time. Memory is
+/// refused under `rt try --test --fail-alloc N` alone; without it the first `put` is the one that counts.
+#[test]
+fn put_again(rt: HostRuntime) -> Result<(), Fail> {
+    let alloc = rt.alloc();
+    let mut tree = Tree::new(alloc);
+    put(&rt, alloc, &mut tree, 2, b"abc", b"K", b"v")?;
+    let pattern = b"abd".as_slice();
+    let key = b"K".as_slice();
+    let value = b"v".as_slice();
+    let path = b"/etc/udev/hwdb.d/1.hwdb".as_slice();
+    assert!(rt;
+        has_no_zero(pattern) && has_no_zero(key) && has_no_zero(value) && has_no_zero(path)
+    );
+    let assignment = Assignment {
+        priority: 1,
+        line: 2,
+        pattern: Vec::from_slice(alloc, pattern)?,
+        key: Vec::from_slice(alloc, key)?,
+        value: Vec::from_slice(alloc, value)?,
+        path: Vec::from_slice(alloc, path)?,
+    };
+    if tree.put(&assignment).is_err() {
+        assert_eq!(rt; write(alloc, &tree, 320)?.len(), 209);
+        tree.put(&assignment)?;
+    }
+    assert_eq!(rt; write(alloc, &tree, 320)?.len(), 320);
+    Ok(())
+}
+
+#[test]
+fn error_texts(rt: HostRuntime) -> Result<(), Fail> {
+    let rows = [
+        (
+            StoreError::TooLarge,
+            "the database would be larger than the limit",
+        ),
+        (StoreError::Memory, "out of memory"),
+    ];
+    for (error, want) in rows {
+        let text = format!(in rt.alloc(); "{error}")?;
+        assert_eq!(rt; text.as_str(), want);
+    }
     Ok(())
 }

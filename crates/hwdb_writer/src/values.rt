@@ -3,11 +3,11 @@
 //! They stand in runs of bounded length, one behind another, so that a value that comes in between
 //! moves the values of one run at most. Few values are one run, which stands in the node itself.
 ghost use Rattle.std.specs.Prelude.{◌≡◌, ◌≤◌, ◌<◌, ◌-◌, ◌^◌, ◌∷◌, [], map, min, length, slice_index_or, None, vec_len, IfOk, IfErr, OnOk, OnErr};
-ghost use Rattle.hwdb_layout.specs.Map.{KeysAscend};
-ghost use Rattle.hwdb_writer.specs.Setting.{set_value};
-ghost use Rattle.hwdb_writer.specs.Found.{HitsKey, MissesKey};
-ghost use Rattle.hwdb_writer.specs.Stored.{value_of};
-ghost use Rattle.hwdb_writer.specs.Runs.{Run, values_in, AreRuns, IsRunOf};
+ghost use Rattle.hwdb_spec.specs.Tree.{KeysAscend};
+ghost use Rattle.hwdb_writer.specs.Internal.Setting.{set_value};
+ghost use Rattle.hwdb_writer.specs.Internal.Found.{HitsKey, MissesKey};
+ghost use Rattle.hwdb_writer.specs.Internal.Stored.{value_of};
+ghost use Rattle.hwdb_writer.specs.Internal.Runs.{Run, values_in, AreRuns, IsRunOf};
 
 use crate::stored::Stored;
 use std::alloc::{AllocError, Global};
@@ -164,14 +164,14 @@ pub struct Values {
 
 impl Model for Values {
     ghost use Rattle.std.specs.Prelude.{List};
-    ghost use Rattle.hwdb_layout.specs.Tree.{Value as Kept};
-    ghost use Rattle.hwdb_writer.specs.Codes.{values_code};
+    ghost use Rattle.hwdb_spec.specs.Tree.{Value as Kept};
+    ghost use Rattle.hwdb_writer.specs.Internal.Codes.{values_code};
 
     ghost Value = { List Kept };
 
     ghost coded = { values_code };
 
-    ghost use Rattle.hwdb_writer.specs.Runs.{values_of_runs, IsSound};
+    ghost use Rattle.hwdb_writer.specs.Internal.Runs.{values_of_runs, IsSound};
 
     ghost view = { λ v. values_of_runs v.runs };
 

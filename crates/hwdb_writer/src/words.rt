@@ -4,8 +4,8 @@ ghost use Rattle.std.specs.Ordering.{nat_cmp};
 ghost use Rattle.std.specs.Cmp.{partial_equiv_from_equiv};
 ghost use Rattle.std.specs.Cmp.Lexicographic.{slice_cmp, pointwise, nat_list_eq_equiv, nat_list_cmp_total, texts_po, texts_ties};
 ghost use Rattle.byteorder.specs.Endian.{big_number};
-ghost use Rattle.hwdb_writer.specs.Codes.{coded_bytes};
-ghost use Rattle.hwdb_writer.specs.Words.{IsHeaded};
+ghost use Rattle.hwdb_writer.specs.Internal.Codes.{coded_bytes};
+ghost use Rattle.hwdb_writer.specs.Internal.Words.{IsHeaded};
 
 use byteorder::{BigEndian, ByteOrder};
 use std::cmp::Ordering;

@@ -2,10 +2,9 @@
 ghost use Rattle.std.specs.Prelude.{◌≡◌, ◌<◌, ◌≤◌, ◌++◌, ◌+◌, ◌^◌, OnOk, IfOk, map, flat_map, length, MatchOption, List, ℕ};
 ghost use Rattle.std.specs.Result.{IsErrOf};
 ghost use Rattle.byteorder.specs.Endian.{little_bytes};
-ghost use Rattle.hwdb_layout.specs.Written.{table_of, text_size, record_at, section_of, written};
-ghost use Rattle.hwdb_layout.specs.Tight.{IsWritten, IsLonger, IsDatabaseOf};
-ghost use Rattle.hwdb_writer.specs.Narrow.{IsNarrow};
-ghost use Rattle.hwdb_writer.specs.Standing.{tree_of};
+ghost use Rattle.hwdb_spec.specs.Written.{table_of, text_size, record_at, section_of, written, IsWritten, IsLonger, IsDatabaseOf};
+ghost use Rattle.hwdb_writer.specs.Internal.Narrow.{IsNarrow};
+ghost use Rattle.hwdb_writer.specs.Internal.Standing.{tree_of};
 ghost use Rattle.hwdb_writer.specs.declared.writing.StoreError.TheVariants.{Memory};
 
 use crate::assignments::Tree;
@@ -134,7 +133,8 @@ fn database_within(
 ) -> Result<Option<Vec<u8>>, AllocError>
     requires { IsNarrow (tree_of root.now) }
     ensures { let bytes = written (tree_of root.now) in IfOk result (λ o.
-        MatchOption o (max_bytes < length bytes) (λ v. (v.items ≡ bytes) × (length bytes ≤ max_bytes))) }
+        MatchOption o (max_bytes < length bytes)
+        (λ v. (v.items ≡ bytes) × (length bytes ≤ max_bytes))) }
 {
     let nodes = text_length(root);
     let mut guesses = Guesses::new(alloc, nodes / NODE_BYTES_A_GUESS)?;

@@ -3,7 +3,7 @@ use crate::engines::{MAX_BYTES, run_list, run_query};
 use crate::errors::ToolError;
 use crate::fixed::TakenBytes;
 use crate::updating::run_update;
-use hwdb_query::SourceFile;
+use hwdb_compile::SourceFile;
 use hwdb_reader::DbFault;
 use std::alloc::{AllocError, Global};
 use std::process::Abort;

@@ -1,12 +1,20 @@
 //! Sinks that fail at each byte or at the flush, that take one byte at a time, or none.
+ghost use Rattle.std.specs.Prelude.{Some, take};
+
+use crate::adapters::ToWrite;
+use crate::asking::ask;
+use crate::causes::Cause;
+use crate::devices::{DeviceFailed, Sink};
 use crate::engines::{MAX_BYTES, run_list, run_query};
 use crate::errors::ToolError;
 use crate::fixed::TakenBytes;
 use crate::running::program;
 use crate::tests::vectors::FAULTY;
+use crate::transfer::write_text;
 use crate::updating::run_update;
-use hwdb_query::SourceFile;
+use hwdb_compile::SourceFile;
 use std::alloc::{AllocError, Global};
+use std::io::{self, Write};
 use std::process::Abort;
 use std::test::Fail;
 
@@ -246,6 +254,110 @@ fn program_cut_short(rt: HostRuntime) -> Result<(), Fail> {
         assert_eq!(rt; program(&rt, alloc, &words, &mut out, &mut err), 1);
         assert_eq!(rt; out.taken(), &whole.taken()[..room]);
         assert_eq!(rt; err.taken(), b"hwdb: cannot write\n".as_slice());
+    }
+    Ok(())
+}
+
+/// A sink of which the first flush fails, and no other.
+#[derive(Drop)]
+struct FirstFlushFails {
+    sink: TakenBytes<64>,
+}
+
+impl FirstFlushFails {
+    fn new() -> FirstFlushFails {
+        let mut sink: TakenBytes<64> = TakenBytes::new();
+        sink.flush_fails = true;
+        FirstFlushFails { sink }
+    }
+}
+
+impl Sink for FirstFlushFails {
+    ghost taken = { λ s. Some (take s.sink.len s.sink.bytes) };
+
+    ghost failures = { λ s. s.sink.failed };
+
+    fn write(&mut self, buf: &[u8]) -> Result<usize, DeviceFailed> {
+        self.sink.write(buf)
+    }
+
+    fn flush(&mut self) -> Result<(), DeviceFailed> {
+        let flushed = self.sink.flush();
+        self.sink.flush_fails = false;
+        flushed
+    }
+}
+
+/// A flush that fails is a refusal, though the next one wouldn't fail.
+#[test]
+fn first_flush_fails(rt: HostRuntime) -> Result<(), Fail> {
+    let alloc = rt.alloc();
+    let mut out = FirstFlushFails::new();
+    assert_eq!(rt; write_text(&mut out, b"abcde"), Err(ToolError::Write));
+    assert_eq!(rt; out.sink.taken(), b"abcde".as_slice());
+    let bytes = database_of(alloc, QUERY.text)?;
+    let mut out = FirstFlushFails::new();
+    let seen = run_query(alloc, &bytes, QUERY.device.as_bytes(), &mut out);
+    assert_eq!(rt; seen, Err(ToolError::Write));
+    assert_eq!(rt; out.sink.taken(), QUERY.printed.as_bytes());
+    let bytes = database_of(alloc, LIST.text)?;
+    let mut out = FirstFlushFails::new();
+    let seen = run_list(alloc, &bytes, LIST.device.as_bytes(), None, None, &mut out);
+    assert_eq!(rt; seen, Err(ToolError::Write));
+    assert_eq!(rt; out.sink.taken(), b"1:2:612a:4b\ta*\tK=1\n".as_slice());
+    let mut out = FirstFlushFails::new();
+    let mut err: TakenBytes<8> = TakenBytes::new();
+    let text = b"a\n K=1\n";
+    let seen = ask(alloc, "t.hwdb", text, b"a", &mut out, &mut err);
+    assert_eq!(rt; seen, Err(ToolError::Write));
+    assert_eq!(rt; out.sink.taken(), b"K=1\n".as_slice());
+    Ok(())
+}
+
+/// A writer of the library that takes so many bytes at a time, and nothing more once it is full.
+#[derive(Drop)]
+struct ShortWriter {
+    sink: TakenBytes<64>,
+}
+
+impl Write for ShortWriter {
+    fn write(&mut self, buf: &[u8]) -> io::Result<usize> {
+        Ok(self.sink.write(buf).unwrap_or(0))
+    }
+
+    fn flush(&mut self) -> io::Result<()> {
+        Ok(())
+    }
+}
+
+/// A writer of the library that writes short gets the whole text all the same; one that takes nothing has failed.
+#[test]
+fn short_writes(rt: HostRuntime) -> Result<(), Fail> {
+    for row in [LIST, QUERY] {
+        let bytes = database_of(rt.alloc(), row.text)?;
+        let want = row.printed.as_bytes();
+        for (per_write, room) in [(1usize, 64usize), (3, 64), (64, 64), (3, 5), (0, 64)] {
+            let mut sink: TakenBytes<64> = TakenBytes::new();
+            sink.per_write = per_write;
+            sink.room = room;
+            let mut out = ToWrite::new(ShortWriter { sink });
+            let device = row.device.as_bytes();
+            let seen = if row.lists {
+                run_list(rt.alloc(), &bytes, device, None, None, &mut out)
+            } else {
+                run_query(rt.alloc(), &bytes, device, &mut out)
+            };
+            let is_whole = per_write > 0 && room == 64;
+            let taken = if is_whole {
+                want
+            } else {
+                &want[..room.min(per_write * 5)]
+            };
+            assert_eq!(rt; seen.is_ok(), is_whole);
+            assert_eq!(rt; out.inner.sink.taken(), taken);
+            let cause = if is_whole { None } else { Some(Cause::Nothing) };
+            assert_eq!(rt; out.cause, cause);
+        }
     }
     Ok(())
 }

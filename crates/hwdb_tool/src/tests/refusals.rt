@@ -28,6 +28,12 @@ fn without_a_path(rt: HostRuntime) {
             "hwdb: the database would be larger than 268435456 bytes\n",
         ),
         (ToolError::BadPosition, "hwdb: bad position\n"),
+        (ToolError::PageZero, "hwdb: page of 0 hits\n"),
+        (ToolError::Read, "hwdb: cannot read\n"),
+        (
+            ToolError::TooLong,
+            "hwdb: a file is longer than 268435456 bytes\n",
+        ),
         (ToolError::Write, "hwdb: cannot write\n"),
         (ToolError::Memory, "hwdb: out of memory\n"),
     ];
@@ -131,7 +137,15 @@ fn over_a_path(rt: HostRuntime) -> Result<(), Fail> {
             None,
             "hwdb: /x/y is longer than 268435456 bytes\n",
         ),
+        (ToolError::Write, None, "hwdb: cannot write /x/y\n"),
         (ToolError::Memory, None, "hwdb: out of memory\n"),
+        // Of these the path isn't said.
+        (ToolError::BadPosition, None, "hwdb: bad position\n"),
+        (
+            ToolError::BadDatabase(DbFault::KeyOrder(7)),
+            None,
+            "hwdb: bad database: B10 at 7\n",
+        ),
     ];
     for (error, cause, line) in rows {
         says_of(&rt, rt.alloc(), error, b"/x/y", cause, line);
@@ -144,4 +158,31 @@ fn broken_pipes(rt: HostRuntime) {
     assert!(rt; Cause::System(32).is_broken_pipe());
     assert!(rt; !Cause::System(28).is_broken_pipe());
     assert!(rt; !Cause::Pipe.is_broken_pipe());
+}
+
+#[test]
+fn error_texts(rt: HostRuntime) -> Result<(), Fail> {
+    let rows = [
+        (ToolError::Read, "cannot read"),
+        (ToolError::Write, "cannot write"),
+        (ToolError::TooLong, "longer than the limit"),
+        (ToolError::TooManyFiles, "more than 65535 files"),
+        (
+            ToolError::TooManyLines,
+            "a file has more than 4294967295 lines",
+        ),
+        (
+            ToolError::TooLarge,
+            "the database would be larger than the limit",
+        ),
+        (ToolError::BadPosition, "bad position"),
+        (ToolError::PageZero, "page of 0 hits"),
+        (ToolError::BadDatabase(DbFault::Short), "bad database"),
+        (ToolError::Memory, "out of memory"),
+    ];
+    for (error, want) in rows {
+        let text = format!(in rt.alloc(); "{error}")?;
+        assert_eq!(rt; text.as_str(), want);
+    }
+    Ok(())
 }

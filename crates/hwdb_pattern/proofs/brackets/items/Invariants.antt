@@ -1,7 +1,7 @@
 use Rattle.std.proofs.Common.{length, ◌-◌, ◌≤◌, ◌≡◌, drop, nat_eq, true}
 use Rattle.std.specs.Option.{option_map}
-use Rattle.hwdb_pattern.specs.Brackets.{items_from}
-use Rattle.hwdb_pattern.specs.Parts.{items_part, ahead}
+use Rattle.hwdb_spec.specs.Patterns.{items_from}
+use Rattle.hwdb_pattern.specs.Internal.Parts.{items_part, ahead}
 use Rattle.hwdb_pattern.proofs.brackets.items.Given as goal
 
 abbrev pub invariant-loop-at : goal.invariant-loop-at

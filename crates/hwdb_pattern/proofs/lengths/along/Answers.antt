@@ -1,8 +1,8 @@
 use Rattle.std.proofs.Common.{◌∙◌, sym, arith, subst, length, List, ℕ, eqb-true}
 use Rattle.std.proofs.lemmas.List.{take_rest}
 use Rattle.std.proofs.lemmas.Result.{IfOk-weaker}
-use Rattle.hwdb_pattern.specs.Patterns.{tokens}
-use Rattle.hwdb_pattern.specs.Prefixes.{Follows}
+use Rattle.hwdb_spec.specs.Patterns.{tokens}
+use Rattle.hwdb_pattern.specs.Internal.Prefixes.{Follows}
 use Rattle.hwdb_pattern.proofs.Pathing.{along_first, along_none}
 use Rattle.hwdb_pattern.proofs.lengths.along.Goals as goal
 

@@ -1,5 +1,5 @@
 use Rattle.std.proofs.Common.{◌≡◌, ◌+◌, ◌∙◌, arith, subst, ℕ}
-use Rattle.hwdb_pattern.specs.Prefixes.{Between}
+use Rattle.hwdb_pattern.specs.Internal.Prefixes.{Between}
 use Rattle.hwdb_pattern.proofs.Pathing.{between_none, between_more}
 use Rattle.hwdb_pattern.proofs.lengths.fill.Goals as goal
 

@@ -1,4 +1,4 @@
-use Rattle.hwdb_pattern.specs.Prefixes.{Between}
+use Rattle.hwdb_pattern.specs.Internal.Prefixes.{Between}
 use Rattle.hwdb_pattern.proofs.lengths.fill.Given as goal
 
 abbrev pub invariant-loop-n : goal.invariant-loop-n

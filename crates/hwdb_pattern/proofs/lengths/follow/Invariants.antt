@@ -1,5 +1,5 @@
 use Rattle.std.proofs.Common.{◌≡◌, [], length, ◌-◌, ◌≤◌}
-use Rattle.hwdb_pattern.specs.Prefixes.{Within}
+use Rattle.hwdb_pattern.specs.Internal.Prefixes.{Within}
 use Rattle.hwdb_pattern.proofs.Pathing.{Along}
 use Rattle.hwdb_pattern.proofs.lengths.follow.Given as goal
 

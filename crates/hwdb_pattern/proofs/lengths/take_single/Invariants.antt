@@ -1,6 +1,6 @@
 use Rattle.std.proofs.Common.{◌≡◌, take}
-use Rattle.hwdb_pattern.specs.Patterns.{token_at}
-use Rattle.hwdb_pattern.specs.Prefixes.{stepped}
+use Rattle.hwdb_spec.specs.Patterns.{token_at}
+use Rattle.hwdb_pattern.specs.Internal.Prefixes.{stepped}
 use Rattle.hwdb_pattern.proofs.lengths.take_single.Given as goal
 
 abbrev pub invariant-loop-n : goal.invariant-loop-n

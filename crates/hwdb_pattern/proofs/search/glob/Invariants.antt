@@ -1,5 +1,5 @@
 use Rattle.std.proofs.Common.{length, ◌-◌, ◌≤◌, ◌+◌}
-use Rattle.hwdb_pattern.specs.Search.{Remains}
+use Rattle.hwdb_pattern.specs.Internal.Search.{Remains}
 use Rattle.hwdb_pattern.proofs.search.glob.Given as goal
 
 abbrev pub invariant-loop-met : goal.invariant-loop-met

@@ -1,5 +1,5 @@
 use Rattle.std.proofs.Common.{length, ◌-◌, ◌≤◌}
-use Rattle.hwdb_pattern.specs.Search.{Reaches}
+use Rattle.hwdb_pattern.specs.Internal.Search.{Reaches}
 use Rattle.hwdb_pattern.proofs.search.run.Given as goal
 
 abbrev pub invariant-loop-at : goal.invariant-loop-at

@@ -1,5 +1,5 @@
 use Rattle.std.proofs.Common.{ap, sym, ◌∙◌}
-use Rattle.hwdb_pattern.specs.Parts.{token_part, bracket_part}
+use Rattle.hwdb_pattern.specs.Internal.Parts.{token_part, bracket_part}
 use Rattle.std.specs.Option.{option_map}
 use Rattle.hwdb_pattern.proofs.Cutting.{token_one, token_bracket, token_open, token_byte}
 use Rattle.hwdb_pattern.proofs.tokens.single_token.Goals as goal

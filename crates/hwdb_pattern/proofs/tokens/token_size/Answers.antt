@@ -1,5 +1,5 @@
 use Rattle.std.proofs.Common.{ap, sym}
-use Rattle.hwdb_pattern.specs.Patterns.{token_size}
+use Rattle.hwdb_spec.specs.Patterns.{token_size}
 use Rattle.hwdb_pattern.proofs.Cutting.{star_at}
 use Rattle.hwdb_pattern.proofs.tokens.token_size.Goals as goal
 

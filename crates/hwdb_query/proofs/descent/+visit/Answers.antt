@@ -1,12 +1,12 @@
 use Rattle.std.proofs.Common.{◌≡◌, ◌∙◌, ap, sym, refl, subst, drop, take, suc, ◌+◌, ◌≤◌, length, ◌++◌, ◌∷◌, [], List, filter, ℕ, arith, add-one, true, if◌then◌else◌}
 use Rattle.std.proofs.lemmas.List.{length-append}
-use Rattle.hwdb_pattern.specs.Paths.{StandsFor, IsLive}
-use Rattle.hwdb_layout.specs.Tree.{Tree, node_count, children_of, prefix_of, values_of}
-use Rattle.hwdb_reader.specs.View.{tree_of, entered_tree}
-use Rattle.hwdb_query.specs.Answers.{is_wanted, members_under, members_in, own_members}
-use Rattle.hwdb_query.specs.Collected.{Collects}
-use Rattle.hwdb_pattern.specs.Paths.{is_live}
-use Rattle.hwdb_query.specs.Live.{live_under, live_in, nodes_in}
+use Rattle.hwdb_pattern.specs.Views.{StandsFor}
+use Rattle.hwdb_spec.specs.Tree.{IsLive, Tree, node_count, children_of, prefix_of, values_of, members_under, is_live, live_under}
+use Rattle.hwdb_reader.specs.Views.{tree_of, entered_tree}
+use Rattle.hwdb_spec.specs.Answers.{is_wanted}
+use Rattle.hwdb_query.specs.Internal.Members.{members_in, own_members}
+use Rattle.hwdb_query.specs.Internal.Collected.{Collects}
+use Rattle.hwdb_query.specs.Internal.Live.{live_in, nodes_in}
 use Rattle.hwdb_query.proofs.Parting.{node_and_below, kid_next, kid_behind, live_split, live_least}
 use Rattle.hwdb_query.proofs.Steps.{stands_whole, cut_front, live_is, dead_is}
 use Rattle.hwdb_query.proofs.Descending.{collected_none, node_collected, child_collected}

@@ -1,10 +1,11 @@
 use Rattle.std.proofs.Common.{◌≡◌, ◌+◌, ◌≤◌, ◌++◌, drop, filter}
-use Rattle.hwdb_layout.specs.Tree.{node_count, children_of, prefix_of}
-use Rattle.hwdb_reader.specs.View.{tree_of, entered_tree}
-use Rattle.hwdb_query.specs.Answers.{is_wanted, members_under, members_in}
-use Rattle.hwdb_query.specs.Collected.{Collects}
+use Rattle.hwdb_spec.specs.Tree.{node_count, children_of, prefix_of, members_under, live_under}
+use Rattle.hwdb_reader.specs.Views.{tree_of, entered_tree}
+use Rattle.hwdb_spec.specs.Answers.{is_wanted}
+use Rattle.hwdb_query.specs.Internal.Members.{members_in}
+use Rattle.hwdb_query.specs.Internal.Collected.{Collects}
 use Rattle.hwdb_query.specs.declared.collector.Collector.{Collector}
-use Rattle.hwdb_query.specs.Live.{live_under, live_in, nodes_in}
+use Rattle.hwdb_query.specs.Internal.Live.{live_in, nodes_in}
 use Rattle.hwdb_query.proofs.descent.+visit.Given as goal
 
 abbrev pub decreases-visit : goal.decreases-visit

@@ -1,7 +1,8 @@
 use Rattle.std.proofs.Common.{◌∙◌, ap, reverse, take, []}
-use Rattle.hwdb_reader.specs.View.{db_tree}
-use Rattle.hwdb_query.specs.Answers.{answers_after, members_under}
-use Rattle.hwdb_query.specs.Hits.{after_spot, Page}
+use Rattle.hwdb_reader.specs.Views.{db_tree}
+use Rattle.hwdb_spec.specs.Tree.{answers_after, members_under}
+use Rattle.hwdb_query.specs.Internal.Hits.{after_position}
+use Rattle.hwdb_query.specs.Views.{Page}
 use Rattle.hwdb_query.specs.declared.next_page.NextPage.{NextPage}
 use Rattle.hwdb_query.proofs.Orders.{page_is}
 use Rattle.hwdb_query.proofs.Collecting.{still_page, page_at_end}
@@ -24,5 +25,5 @@ returns-clause-hits c =
     let none = ap (λ (p : Page). p.hits) c.take.ensures.taken ∙ c.requires in
     let end = page_at_end a (members_under [] tree) c.args.device.now c.descend.new.into c.into_held-filled.result none c.in_ok-entered.ensures.collected c.into_held-filled.ensures in
     ap (λ (p : Page). p.hits) c.set.ensures ∙ ap (λ (p : Page). p.hits) c.turn.ensures
-    ∙ ap reverse (end.1 ∙ page_is c.take.result.most c.args.device.now (after_spot c.args.after) tree)
-    ∙ ap (λ (p : Page). reverse (take p.most (answers_after c.args.device.now (after_spot c.args.after) tree))) c.take.ensures.taken
+    ∙ ap reverse (end.1 ∙ page_is c.take.result.most c.args.device.now (after_position c.args.after) tree)
+    ∙ ap (λ (p : Page). reverse (take p.most (answers_after c.args.device.now (after_position c.args.after) tree))) c.take.ensures.taken

@@ -1,5 +1,5 @@
 use Rattle.std.proofs.Common.{◌≡◌, ◌∙◌, ap}
-use Rattle.hwdb_layout.specs.Map.{map_of}
+use Rattle.hwdb_spec.specs.Tree.{map_of}
 use Rattle.hwdb_query.proofs.laws.databases_show_one_map.Goals as goal
 
 pub returns : goal.returns

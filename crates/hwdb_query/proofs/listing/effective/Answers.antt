@@ -1,10 +1,9 @@
 use Rattle.std.proofs.Common.{◌≡◌, ◌∙◌, ap, sym, [], None, filter}
 use Rattle.std.proofs.lemmas.Result.{IfOk-weaker}
-use Rattle.hwdb_reader.specs.View.{db_tree}
-use Rattle.hwdb_query.specs.Answers.{is_wanted, members_under, answers}
-use Rattle.hwdb_query.specs.Compiling.{all_assignments}
-use Rattle.hwdb_query.specs.Effective.{effective_of}
-use Rattle.hwdb_query.specs.Headline.{last_assignments}
+use Rattle.hwdb_reader.specs.Views.{db_tree}
+use Rattle.hwdb_spec.specs.Answers.{is_wanted, effective_of, last_assignments}
+use Rattle.hwdb_spec.specs.Tree.{members_under, answers}
+use Rattle.hwdb_spec.specs.Folders.{all_assignments}
 use Rattle.hwdb_query.proofs.ByKey.{shows_none}
 use Rattle.hwdb_query.proofs.Collecting.{still_last, last_at_end}
 use Rattle.hwdb_query.proofs.Keyed.{from_the_first}

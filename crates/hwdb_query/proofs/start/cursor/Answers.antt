@@ -1,8 +1,9 @@
 use Rattle.std.proofs.Common.{◌≡◌, ◌∙◌, ap, sym, Some}
-use Rattle.hwdb_reader.specs.View.{db_tree}
-use Rattle.hwdb_query.specs.Answers.{Spot, answers_after}
-use Rattle.hwdb_query.specs.Compiling.{all_assignments}
-use Rattle.hwdb_query.specs.Hits.{Progress, next_spot, given_spot}
+use Rattle.hwdb_reader.specs.Views.{db_tree}
+use Rattle.hwdb_spec.specs.Assignment.{Position}
+use Rattle.hwdb_spec.specs.Tree.{answers_after}
+use Rattle.hwdb_spec.specs.Folders.{all_assignments}
+use Rattle.hwdb_query.specs.Views.{Progress, next_position, given_position}
 use Rattle.hwdb_query.proofs.LastOnes.{last_are_answers}
 use Rattle.hwdb_query.proofs.start.cursor.Goals as goal
 use Rattle.hwdb_query.proofs.start.cursor.Goals.{in-None, in-Some+in_ok-copy-in-Some}
@@ -11,11 +12,11 @@ pub returns-clause-headline : goal.returns-clause-headline
 returns-clause-headline c = λ etc usr files.
     let device = c.args.device.now in
     let tree = db_tree c.args.db.now in
-    let from : next_spot c.match-after.after ≡ given_spot c.args.after =
+    let from : next_position c.match-after.after ≡ given_position c.args.after =
     elim c.match-after.branch [
-      | in-None w ↦ ap next_spot w.after-is ∙ sym (ap given_spot w.in-None.is)
-      | in-Some+in_ok-copy-in-Some w ↦ ap next_spot w.after-is ∙ ap (λ (s : Spot). Some s) w.in_ok-copy-in-Some.ensures ∙ sym (ap given_spot w.in-Some.is)
+      | in-None w ↦ ap next_position w.after-is ∙ sym (ap given_position w.in-None.is)
+      | in-Some+in_ok-copy-in-Some w ↦ ap next_position w.after-is ∙ ap (λ (s : Position). Some s) w.in_ok-copy-in-Some.ensures ∙ sym (ap given_position w.in-Some.is)
     ] in
     ap (λ (p : Progress). p.to_come) c.start.ensures
     ∙ ap (λ spot. answers_after device spot tree) from
-    ∙ last_are_answers c.matches_is_tested.ensures device (given_spot c.args.after) tree (all_assignments etc usr) c.root-root.ensures.tree files
+    ∙ last_are_answers c.matches_is_tested.ensures device (given_position c.args.after) tree (all_assignments etc usr) c.root-root.ensures.tree files

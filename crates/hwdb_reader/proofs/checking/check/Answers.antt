@@ -1,9 +1,9 @@
 use Rattle.std.proofs.Common.{ap, sym, ◌∙◌, arith}
 use Rattle.std.proofs.lemmas.Result.{err_from_is_err_and}
-use Rattle.hwdb_layout.specs.declared.Layout.{Layout}
-use Rattle.hwdb_layout.specs.Faults.Reached.{Root}
-use Rattle.hwdb_reader.specs.View.{tree_of}
-use Rattle.hwdb_layout.proofs.Whole.{strings_inside, read_text, root_fits, few_nodes, header_stands, node_stands, root_stands_at, database_of}
+use Rattle.hwdb_spec.specs.declared.Layout.{Layout}
+use Rattle.hwdb_spec.specs.Format.Reached.{Root}
+use Rattle.hwdb_reader.specs.Views.{tree_of}
+use Rattle.hwdb_reader.proofs.Whole.{strings_inside, read_text, root_fits, few_nodes, header_stands, node_stands, root_stands_at, database_of}
 use Rattle.hwdb_reader.proofs.checking.check.Goals as goal
 
 pub returns-in_err-frame-clause-fault : goal.returns-in_err-frame-clause-fault

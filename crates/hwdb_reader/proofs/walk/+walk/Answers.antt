@@ -1,7 +1,7 @@
 use Rattle.std.proofs.Common.{◌≡◌, ◌+◌, ℕ, ◌-◌, arith, ap, sym, ◌∙◌, refl, subst, below_more}
 use Rattle.std.proofs.lemmas.Result.{err_from_is_err_and}
-use Rattle.hwdb_layout.specs.Database.{record_end, child_entry, child_field, child_byte, child_count, ChildrenText, children_at, tree_at}
-use Rattle.hwdb_layout.proofs.Bounds.{record_fields, entry_room, record_end_large}
+use Rattle.hwdb_spec.specs.Format.{record_end, child_entry, child_field, child_byte, child_count, ChildrenText, children_at, tree_at}
+use Rattle.hwdb_reader.proofs.Bounds.{record_fields, entry_room, record_end_large}
 use Rattle.hwdb_reader.proofs.Nodes.{node_open, node_close, child_open, child_close, child_fits, child_reached, fault_stands, place_stands, children_done, children_end, no_levels, child_from_next, byte_before_next, children_begin, bytes_begin}
 use Rattle.hwdb_reader.proofs.walk.+walk.Goals as goal
 

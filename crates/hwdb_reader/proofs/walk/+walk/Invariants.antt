@@ -1,6 +1,5 @@
 use Rattle.std.proofs.Common.{◌≡◌, ◌-◌, ◌↔◌}
-use Rattle.hwdb_layout.specs.Database.{ChildrenText, children_at, tree_at, child_entry, child_count}
-use Rattle.hwdb_layout.specs.Faults.{child_from, byte_before, ChildrenFit}
+use Rattle.hwdb_spec.specs.Format.{ChildrenText, children_at, tree_at, child_entry, child_count, child_from, byte_before, ChildrenFit}
 use Rattle.hwdb_reader.proofs.walk.+walk.Given as goal
 
 abbrev pub decreases-walk : goal.decreases-walk

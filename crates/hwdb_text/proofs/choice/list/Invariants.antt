@@ -1,6 +1,6 @@
 use Rattle.std.proofs.Common.{◌≡◌, map, length}
-use Rattle.hwdb_text.specs.Choice.{choice_of}
-use Rattle.hwdb_text.specs.Choosing.{with_priorities, entry_of}
+use Rattle.hwdb_text.specs.Views.{choice_of}
+use Rattle.hwdb_text.specs.Internal.Choosing.{with_priorities, entry_of}
 use Rattle.hwdb_text.proofs.choice.list.Given as goal
 
 abbrev pub invariant-loop-name : goal.invariant-loop-name

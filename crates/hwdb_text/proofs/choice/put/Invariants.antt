@@ -1,6 +1,6 @@
 use Rattle.std.proofs.Common.{◌≡◌, map, drop}
 use Rattle.std.specs.String.{string_bytes}
-use Rattle.hwdb_text.specs.Choosing.{put_all, entry_of}
+use Rattle.hwdb_text.specs.Internal.Choosing.{put_all, entry_of}
 use Rattle.hwdb_text.proofs.choice.put.Given as goal
 
 abbrev pub invariant-loop-name : goal.invariant-loop-name

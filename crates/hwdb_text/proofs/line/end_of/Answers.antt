@@ -1,5 +1,5 @@
 use Rattle.std.proofs.Common.{sym, arith}
-use Rattle.hwdb_text.specs.Lines.{is}
+use Rattle.hwdb_spec.specs.Lines.{is}
 use Rattle.hwdb_text.proofs.Bytes.{place_of, no_place}
 use Rattle.hwdb_text.proofs.line.end_of.Goals as goal
 

@@ -1,5 +1,5 @@
 use Rattle.std.proofs.Common.{◌≡◌, ◌≤◌, length, take}
-use Rattle.hwdb_text.specs.Lines.{trimmed}
+use Rattle.hwdb_spec.specs.Lines.{trimmed}
 use Rattle.hwdb_text.proofs.line.trim.Given as goal
 
 abbrev pub invariant-loop-end : goal.invariant-loop-end

@@ -1,6 +1,6 @@
 use Rattle.std.proofs.Common.{length, ◌-◌, ◌≡◌, ◌≤◌, drop}
 use Rattle.std.specs.List.{prefix_len}
-use Rattle.hwdb_text.specs.Lines.{is_indent}
+use Rattle.hwdb_spec.specs.Lines.{is_indent}
 use Rattle.hwdb_text.proofs.line.unindented.Given as goal
 
 abbrev pub invariant-loop-at : goal.invariant-loop-at

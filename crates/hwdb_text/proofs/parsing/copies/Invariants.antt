@@ -1,5 +1,6 @@
 use Rattle.std.proofs.Common.{◌≡◌, map, take}
-use Rattle.hwdb_text.specs.Assignments.{origin, assigned, given_in}
+use Rattle.hwdb_spec.specs.Records.{origin}
+use Rattle.hwdb_text.specs.Views.{assigned, given_in}
 use Rattle.hwdb_text.proofs.parsing.copies.Given as goal
 
 abbrev pub invariant-loop-given : goal.invariant-loop-given

@@ -1,7 +1,7 @@
 use Rattle.std.proofs.Common.{length, ◌-◌, ◌≡◌, ◌+◌, ◌≤◌, drop, []}
-use Rattle.hwdb_text.specs.Lines.{is, lines, pieces, numbered}
-use Rattle.hwdb_text.specs.Assignments.{Origin}
-use Rattle.hwdb_text.specs.Reading.{IsFresh, Reads}
+use Rattle.hwdb_spec.specs.Lines.{is, lines, pieces, numbered}
+use Rattle.hwdb_spec.specs.Records.{Origin}
+use Rattle.hwdb_text.specs.Internal.Reading.{IsFresh, Reads}
 use Rattle.hwdb_text.proofs.parsing.scan.Given as goal
 
 abbrev pub invariant-loop-at : goal.invariant-loop-at

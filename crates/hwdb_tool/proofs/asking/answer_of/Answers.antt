@@ -1,13 +1,15 @@
-use Rattle.std.proofs.Common.{◌≡◌, ◌∙◌, subst, sym, List, [], ℕ, rules}
-use Rattle.hwdb_query.specs.Compiling.{Source, map_of_files}
-use Rattle.hwdb_layout.specs.Tight.{IsDatabaseOf}
+use Rattle.std.proofs.Common.{subst, sym, List, [], ℕ}
+use Rattle.hwdb_spec.specs.Folders.{Source}
+use Rattle.hwdb_spec.specs.Tree.{map_of_files}
+use Rattle.hwdb_spec.specs.Written.{IsDatabaseOf}
+use Rattle.hwdb_spec.specs.Texts.{max_file}
 use Rattle.hwdb_tool.specs.Updates.{lone}
 use Rattle.hwdb_tool.proofs.Refused.{asked_refused}
 use Rattle.hwdb_tool.proofs.asking.answer_of.Goals as goal
 
 pub returns-in_err-properties-clause-refusals : goal.returns-in_err-properties-clause-refusals
 returns-in_err-properties-clause-refusals c =
-    asked_refused c.args.bytes.now c.in_ok-compiled.compiled.database.items _ 268435456 c.in_err-properties.field-0.0 _ c.from_residual-in_err-properties.ensures.1 (rw c.deref-2.ensures.value at c.in_err-properties.ensures.refusals) c.in_ok-compiled.ensures.checked
+    asked_refused c.args.bytes.now c.in_ok-compiled.compiled.database.items _ max_file c.in_err-properties.field-0.0 _ c.from_residual-in_err-properties.ensures.1 (rw c.deref-2.ensures.value at c.in_err-properties.ensures.refusals) c.in_ok-compiled.ensures.checked
 
 pub returns-clause-headline : goal.returns-clause-headline
 returns-clause-headline c =

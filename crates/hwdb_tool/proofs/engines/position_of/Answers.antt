@@ -1,4 +1,3 @@
-use Rattle.std.proofs.Common.{rules}
 use Rattle.hwdb_tool.proofs.Refused.{position_refused}
 use Rattle.hwdb_tool.proofs.engines.position_of.Goals as goal
 

@@ -1,21 +1,22 @@
-use Rattle.std.proofs.Common.{rules, ◌≡◌, ◌∙◌, arith, ap, subst, List, ℕ, inr}
+use Rattle.std.proofs.Common.{◌≡◌, ◌∙◌, arith, ap, subst, List, inr}
 use Rattle.std.proofs.lemmas.Result.{on_ok_weaker}
 use Rattle.std.specs.Io.KnownBytes.{Appends}
-use Rattle.hwdb_reader.specs.View.{db_tree}
-use Rattle.hwdb_query.specs.Compiling.{all_assignments}
-use Rattle.hwdb_query.specs.Headline.{last_assignments}
-use Rattle.hwdb_query.specs.Answers.{Found, answers_after}
-use Rattle.hwdb_query.specs.Hits.{next_spot, Progress}
+use Rattle.hwdb_reader.specs.Views.{db_tree}
+use Rattle.hwdb_spec.specs.Folders.{all_assignments}
+use Rattle.hwdb_spec.specs.Answers.{last_assignments}
+use Rattle.hwdb_spec.specs.Assignment.{Assignment}
+use Rattle.hwdb_spec.specs.Tree.{answers_after}
+use Rattle.hwdb_query.specs.Views.{next_position, Progress}
 use Rattle.hwdb_tool.specs.Devices.{AppendsPrefix}
-use Rattle.hwdb_tool.specs.Engines.{AppendsLines}
-use Rattle.hwdb_tool.specs.Texts.{hits_text, within_limit}
-use Rattle.hwdb_tool.proofs.Refused.{cursor_refused, lent_spot, not_zero}
+use Rattle.hwdb_tool.specs.Engines.{AppendsLines, list_page}
+use Rattle.hwdb_spec.specs.Texts.{hits_text, within_limit}
+use Rattle.hwdb_tool.proofs.Refused.{cursor_refused, lent_position, not_zero}
 use Rattle.hwdb_tool.proofs.engines.run_list.Goals as goal
 
 pub returns-in_err-hits-clause-refusals : goal.returns-in_err-hits-clause-refusals
 returns-in_err-hits-clause-refusals g c =
     cursor_refused c.args.after c.args.bytes.now c.in_err-hits.field-0.0 _ c.from_residual-in_err-hits.ensures.1
-    (λ e. not_zero 64 (c.in_err-hits.ensures.page e) (omega arith)) c.in_err-hits.ensures.known
+    (λ e. not_zero list_page (c.in_err-hits.ensures.page e) (omega arith)) c.in_err-hits.ensures.known
 
 pub returns-clause-cut_short : goal.returns-clause-cut_short
 returns-clause-cut_short g c = λ e.
@@ -23,11 +24,11 @@ returns-clause-cut_short g c = λ e.
     let begun = c.in_ok-hits.ensures.begins in
     let device = c.args.device.now in
     let tree = db_tree c.in_ok-db.db in
-    let all : c.in_ok-hits.hits.to_come ≡ answers_after device (next_spot c.in_ok-after.after) tree =
-    ap (λ (p : Progress). p.to_come) begun ∙ ap (λ s. answers_after device s tree) (lent_spot c.as_ref.result c.in_ok-after.after c.as_ref.ensures.value) in
-    let P : List Found → Type 0 = λ hits. AppendsPrefix (g.O.Sink.taken c.args.out.now) (g.O.Sink.taken c.print_hits.new.out) (hits_text (within_limit c.args.limit hits)) in
+    let all : c.in_ok-hits.hits.to_come ≡ answers_after device (next_position c.in_ok-after.after) tree =
+    ap (λ (p : Progress). p.to_come) begun ∙ ap (λ s. answers_after device s tree) (lent_position c.as_ref.result c.in_ok-after.after c.as_ref.ensures.value) in
+    let P : List Assignment → Type 0 = λ hits. AppendsPrefix (g.O.Sink.taken c.args.out.now) (g.O.Sink.taken c.print_hits.new.out) (hits_text (within_limit c.args.limit hits)) in
     record {
-      from = next_spot c.in_ok-after.after;
+      from = next_position c.in_ok-after.after;
       spelled = c.in_ok-after.ensures.spelled;
       cut_short = record { tree = tree; database = c.in_ok-db.ensures.accepted; taken = subst P all part };
     }
@@ -38,11 +39,11 @@ returns-clause-whole_lines g c = λ e.
     let begun = c.in_ok-hits.ensures.begins in
     let device = c.args.device.now in
     let tree = db_tree c.in_ok-db.db in
-    let all : c.in_ok-hits.hits.to_come ≡ answers_after device (next_spot c.in_ok-after.after) tree =
-    ap (λ (p : Progress). p.to_come) begun ∙ ap (λ s. answers_after device s tree) (lent_spot c.as_ref.result c.in_ok-after.after c.as_ref.ensures.value) in
-    let P : List Found → Type 0 = λ hits. AppendsLines (g.O.Sink.taken c.args.out.now) (g.O.Sink.taken c.print_hits.new.out) (within_limit c.args.limit hits) in
+    let all : c.in_ok-hits.hits.to_come ≡ answers_after device (next_position c.in_ok-after.after) tree =
+    ap (λ (p : Progress). p.to_come) begun ∙ ap (λ s. answers_after device s tree) (lent_position c.as_ref.result c.in_ok-after.after c.as_ref.ensures.value) in
+    let P : List Assignment → Type 0 = λ hits. AppendsLines (g.O.Sink.taken c.args.out.now) (g.O.Sink.taken c.print_hits.new.out) (within_limit c.args.limit hits) in
     inr (record {
-      from = next_spot c.in_ok-after.after;
+      from = next_position c.in_ok-after.after;
       spelled = c.in_ok-after.ensures.spelled;
       tree = tree;
       database = c.in_ok-db.ensures.accepted;
@@ -55,11 +56,11 @@ returns-clause-headline g c =
     (λ printed etc usr compiled.
     let begun = c.in_ok-hits.ensures.begins in
     let device = c.args.device.now in
-    let from = next_spot c.in_ok-after.after in
+    let from = next_position c.in_ok-after.after in
     let tree = db_tree c.in_ok-db.db in
     let all : c.in_ok-hits.hits.to_come ≡ last_assignments device from (all_assignments etc usr) =
-    ap (λ (p : Progress). p.to_come) begun ∙ ap (λ s. answers_after device s tree) (lent_spot c.as_ref.result c.in_ok-after.after c.as_ref.ensures.value)
+    ap (λ (p : Progress). p.to_come) begun ∙ ap (λ s. answers_after device s tree) (lent_position c.as_ref.result c.in_ok-after.after c.as_ref.ensures.value)
     ∙ c.compiled_answers_are_last.ensures.after etc usr c.args.bytes.now compiled tree c.in_ok-db.ensures.accepted device from in
-    let P : List Found → Type 0 = λ hits. Appends (g.O.Sink.taken c.args.out.now) (g.O.Sink.taken c.print_hits.new.out) (hits_text (within_limit c.args.limit hits)) in
+    let P : List Assignment → Type 0 = λ hits. Appends (g.O.Sink.taken c.args.out.now) (g.O.Sink.taken c.print_hits.new.out) (hits_text (within_limit c.args.limit hits)) in
     record { from = from; spelled = c.in_ok-after.ensures.spelled; taken = subst P all printed })
     c.print_hits.ensures.printed

@@ -1,8 +1,8 @@
-use Rattle.std.proofs.Common.{◌≡◌, ◌≤◌, List, ℕ, Option, length}
+use Rattle.std.proofs.Common.{◌≡◌, List, ℕ, Option, length}
 use Rattle.std.specs.Io.KnownBytes.{Appends}
 use Rattle.hwdb_tool.specs.Devices.{AppendsPrefix}
 use Rattle.hwdb_tool.specs.Engines.{AppendsLines}
-use Rattle.hwdb_tool.specs.Texts.{hits_text, within_limit}
+use Rattle.hwdb_spec.specs.Texts.{hits_text, within_limit}
 use Rattle.hwdb_tool.proofs.listing.print_hits.Given as goal
 
 abbrev pub invariant-printing : goal.invariant-printing

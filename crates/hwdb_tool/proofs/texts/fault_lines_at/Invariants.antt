@@ -1,6 +1,6 @@
 use Rattle.std.proofs.Common.{◌≡◌, take, map}
-use Rattle.hwdb_query.specs.Compiling.{fault_of}
-use Rattle.hwdb_tool.specs.Texts.{faults_text_at}
+use Rattle.hwdb_compile.specs.Views.{fault_of}
+use Rattle.hwdb_spec.specs.Texts.{faults_text_at}
 use Rattle.hwdb_tool.proofs.texts.fault_lines_at.Given as goal
 
 abbrev pub invariant-loop-found : goal.invariant-loop-found

@@ -1,6 +1,6 @@
 use Rattle.std.proofs.Common.{◌≡◌, take}
-use Rattle.hwdb_query.specs.Pairs.{pairs_bytes}
-use Rattle.hwdb_tool.specs.Texts.{properties_text}
+use Rattle.hwdb_query.specs.Views.{pairs_bytes}
+use Rattle.hwdb_spec.specs.Texts.{properties_text}
 use Rattle.hwdb_tool.proofs.texts.property_lines.Given as goal
 
 abbrev pub invariant-loop-key : goal.invariant-loop-key

@@ -1,11 +1,11 @@
 use Rattle.std.proofs.Common.{length-drop, ◌+◌, refl, sym, ap, ◌∙◌, map, subst, drop, get_or, arith}
 use Rattle.std.proofs.lemmas.Result.{on_ok_weaker, on_err_weaker}
 use Rattle.std.proofs.lemmas.List.{take_rest}
-use Rattle.hwdb_layout.specs.Tree.Tree.{Node}
-use Rattle.hwdb_layout.specs.Map.{IsTree}
-use Rattle.hwdb_writer.specs.Setting.{set_at}
-use Rattle.hwdb_writer.specs.Stored.{value_of}
-use Rattle.hwdb_writer.specs.Standing.{standing, children_in, tree_of, byte_of}
+use Rattle.hwdb_spec.specs.Tree.Tree.{Node}
+use Rattle.hwdb_spec.specs.Tree.{IsTree}
+use Rattle.hwdb_writer.specs.Internal.Setting.{set_at}
+use Rattle.hwdb_writer.specs.Internal.Stored.{value_of}
+use Rattle.hwdb_writer.specs.Internal.Standing.{standing, children_in, tree_of, byte_of}
 use Rattle.hwdb_writer.specs.declared.branches.Branch.{Branch}
 use Rattle.hwdb_writer.specs.declared.branches.Branch.TheViews.{out-Branch}
 use Rattle.hwdb_writer.proofs.Standings.{rolled, byte_kept, opened, kids_same, on_err_anyway}

@@ -5,7 +5,7 @@ use Rattle.std.specs.List.Sorted.{IsBinarySearchResult}
 use Rattle.std.proofs.lemmas.List.Sorted.{answers_always}
 use Rattle.hwdb_writer.specs.declared.branches.Branch.{Branch}
 use Rattle.hwdb_writer.specs.declared.branches.Branch.TheViews.{out-Branch}
-use Rattle.hwdb_writer.specs.Standing.{byte_of}
+use Rattle.hwdb_writer.specs.Internal.Standing.{byte_of}
 use Rattle.hwdb_writer.proofs.Standings.{byte_opened}
 use Rattle.hwdb_writer.proofs.Searching.{searched}
 use Rattle.hwdb_writer.proofs.Steps.{up_bytes}

@@ -1,9 +1,9 @@
 use Rattle.std.proofs.Common.{◌∙◌, ◌++◌, ◌∷◌, [], ap, get_or, arith}
 use Rattle.std.proofs.lemmas.List.{take_rest}
-use Rattle.hwdb_layout.specs.Tree.{values_of}
-use Rattle.hwdb_writer.specs.Setting.{below_of}
-use Rattle.hwdb_writer.specs.Stored.{value_of}
-use Rattle.hwdb_writer.specs.Standing.{tree_of}
+use Rattle.hwdb_spec.specs.Tree.{values_of}
+use Rattle.hwdb_writer.specs.Internal.Setting.{below_of}
+use Rattle.hwdb_writer.specs.Internal.Stored.{value_of}
+use Rattle.hwdb_writer.specs.Internal.Standing.{tree_of}
 use Rattle.hwdb_writer.specs.declared.branches.Branch.TheViews.{out-Branch}
 use Rattle.hwdb_writer.proofs.Levels.{split_before, split_behind}
 use Rattle.hwdb_writer.proofs.branches.fork.Goals as goal

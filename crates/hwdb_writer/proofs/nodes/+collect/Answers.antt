@@ -1,8 +1,8 @@
 use Rattle.std.proofs.Common.{◌++◌, subst, List, ℕ}
-use Rattle.std.specs.List.{flat_map}
-use Rattle.hwdb_layout.specs.Written.{strings_of, strings_of_value}
-use Rattle.hwdb_writer.specs.Membership.{SameMembers}
-use Rattle.hwdb_writer.specs.Standing.{tree_of}
+use Rattle.std.specs.Prelude.{flat_map}
+use Rattle.hwdb_spec.specs.Written.{strings_of, strings_of_value}
+use Rattle.hwdb_writer.specs.Internal.Membership.{SameMembers}
+use Rattle.hwdb_writer.specs.Internal.Standing.{tree_of}
 use Rattle.hwdb_writer.specs.declared.branches.Branch.{Branch}
 use Rattle.hwdb_writer.specs.declared.branches.Branch.TheViews.{out-Branch}
 use Rattle.hwdb_writer.proofs.Emitted.{one_left, none_left, kid_strings, kid_strings-cons, kid_strings-none, parts_opened}

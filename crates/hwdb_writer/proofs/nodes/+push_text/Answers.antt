@@ -1,6 +1,6 @@
 use Rattle.std.proofs.Common.{◌≡◌, ◌∙◌, ap, length, refl, arith, length-append}
 use Rattle.hwdb_writer.specs.declared.branches.Branch.TheViews.{out-Branch}
-use Rattle.hwdb_writer.specs.Places.{place_in}
+use Rattle.hwdb_writer.specs.Internal.Places.{place_in}
 use Rattle.hwdb_writer.proofs.Emitted.{texts_more, entries_more, texts_all, entries_all, emitted, entered, narrow_child, narrow_kids, shorter, size-opened, few, kept_front, kept_back}
 use Rattle.hwdb_writer.proofs.nodes.+push_text.Goals as goal
 

@@ -1,7 +1,7 @@
 use Rattle.std.proofs.Common.{◌≡◌, ◌++◌, drop, length}
-use Rattle.hwdb_layout.specs.Written.{nodes_text, entries_text, text_size}
-use Rattle.hwdb_writer.specs.Standing.{tree_of}
-use Rattle.hwdb_writer.specs.Places.{place_in}
+use Rattle.hwdb_spec.specs.Written.{nodes_text, entries_text, text_size}
+use Rattle.hwdb_writer.specs.Internal.Standing.{tree_of}
+use Rattle.hwdb_writer.specs.Internal.Places.{place_in}
 use Rattle.hwdb_writer.proofs.Emitted.{kids_of}
 use Rattle.hwdb_writer.proofs.nodes.+push_text.Given as goal
 

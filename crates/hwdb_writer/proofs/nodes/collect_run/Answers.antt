@@ -1,6 +1,6 @@
 use Rattle.std.proofs.Common.{refl}
-use Rattle.hwdb_layout.specs.Written.{strings_of_value}
-use Rattle.hwdb_writer.specs.Stored.{value_of}
+use Rattle.hwdb_spec.specs.Written.{strings_of_value}
+use Rattle.hwdb_writer.specs.Internal.Stored.{value_of}
 use Rattle.hwdb_writer.specs.declared.stored.Stored.{Stored}
 use Rattle.hwdb_writer.proofs.Emitted.{one_left, none_left, value_strings, value_strings-cons}
 use Rattle.hwdb_writer.proofs.Memberships.{same_refl, same_step, same_done, same_named, same_three}

@@ -1,9 +1,9 @@
 use Rattle.std.proofs.Common.{◌++◌, refl, subst, List}
-use Rattle.std.specs.List.{flat_map}
-use Rattle.hwdb_layout.specs.Tree.{Value}
-use Rattle.hwdb_layout.specs.Written.{strings_of_value}
-use Rattle.hwdb_writer.specs.Membership.{SameMembers}
-use Rattle.hwdb_writer.specs.Runs.{Run}
+use Rattle.std.specs.Prelude.{flat_map}
+use Rattle.hwdb_spec.specs.Tree.{Value}
+use Rattle.hwdb_spec.specs.Written.{strings_of_value}
+use Rattle.hwdb_writer.specs.Internal.Membership.{SameMembers}
+use Rattle.hwdb_writer.specs.Internal.Runs.{Run}
 use Rattle.hwdb_writer.proofs.Emitted.{one_left, none_left, value_strings, run_strings, run_strings-cons}
 use Rattle.hwdb_writer.proofs.Memberships.{same_refl, same_step, same_done}
 use Rattle.hwdb_writer.proofs.nodes.collect_values.Goals as goal

@@ -1,5 +1,5 @@
 use Rattle.std.proofs.Common.{◌++◌, drop}
-use Rattle.hwdb_writer.specs.Membership.{SameMembers}
+use Rattle.hwdb_writer.specs.Internal.Membership.{SameMembers}
 use Rattle.hwdb_writer.proofs.Emitted.{run_strings}
 use Rattle.hwdb_writer.proofs.nodes.collect_values.Given as goal
 

@@ -1,7 +1,7 @@
 use Rattle.std.proofs.Common.{◌++◌, ◌∙◌, ap, refl}
-use Rattle.hwdb_layout.specs.Written.{value_text}
-use Rattle.hwdb_writer.specs.Stored.{value_of}
-use Rattle.hwdb_writer.specs.Places.{place_in}
+use Rattle.hwdb_spec.specs.Written.{value_text}
+use Rattle.hwdb_writer.specs.Internal.Stored.{value_of}
+use Rattle.hwdb_writer.specs.Internal.Places.{place_in}
 use Rattle.hwdb_writer.specs.declared.stored.Stored.{Stored}
 use Rattle.hwdb_writer.proofs.Emitted.{made_more, made_all, six, at_place, vals_text, vals_text-cons}
 use Rattle.hwdb_writer.proofs.nodes.push_run.Goals as goal

@@ -1,8 +1,8 @@
 use Rattle.std.proofs.Common.{◌++◌, ◌∙◌, ap, refl}
-use Rattle.std.specs.List.{flat_map}
-use Rattle.hwdb_layout.specs.Written.{value_text}
-use Rattle.hwdb_writer.specs.Places.{place_in}
-use Rattle.hwdb_writer.specs.Runs.{Run}
+use Rattle.std.specs.Prelude.{flat_map}
+use Rattle.hwdb_spec.specs.Written.{value_text}
+use Rattle.hwdb_writer.specs.Internal.Places.{place_in}
+use Rattle.hwdb_writer.specs.Internal.Runs.{Run}
 use Rattle.hwdb_writer.proofs.Emitted.{made_more, made_all, vals_text, runs_text, runs_text-cons}
 use Rattle.hwdb_writer.proofs.nodes.push_values.Goals as goal
 

@@ -1,5 +1,5 @@
 use Rattle.std.proofs.Common.{◌≡◌, ◌++◌, drop}
-use Rattle.hwdb_writer.specs.Places.{place_in}
+use Rattle.hwdb_writer.specs.Internal.Places.{place_in}
 use Rattle.hwdb_writer.proofs.Emitted.{runs_text}
 use Rattle.hwdb_writer.proofs.nodes.push_values.Given as goal
 

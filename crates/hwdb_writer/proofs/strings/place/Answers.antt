@@ -1,7 +1,7 @@
 use Rattle.std.proofs.Common.{◌∙◌, ap, sym, arith}
 use Rattle.std.proofs.lemmas.List.{get_or_default}
 use Rattle.std.specs.Cmp.Lexicographic.{same_text}
-use Rattle.hwdb_writer.specs.Places.{place_in}
+use Rattle.hwdb_writer.specs.Internal.Places.{place_in}
 use Rattle.hwdb_writer.proofs.Placing.{found_place, missed_place, near_place, enough, nothing}
 use Rattle.hwdb_writer.proofs.strings.place.Goals as goal
 

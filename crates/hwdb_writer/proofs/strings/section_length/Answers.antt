@@ -1,6 +1,6 @@
 use Rattle.std.proofs.Common.{◌+◌, ◌-◌, ◌^◌, min, length, sym, ap, ◌∙◌, arith, List, ℕ}
 use Rattle.std.proofs.lemmas.List.{get_or_default}
-use Rattle.hwdb_layout.specs.Written.{section_of}
+use Rattle.hwdb_spec.specs.Written.{section_of}
 use Rattle.hwdb_writer.proofs.Placing.{section_left, none_left, saturated, nothing}
 use Rattle.hwdb_writer.proofs.strings.section_length.Goals as goal
 

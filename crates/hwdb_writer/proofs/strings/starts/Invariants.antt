@@ -1,6 +1,6 @@
 use Rattle.std.proofs.Common.{◌≡◌, ◌+◌, ◌++◌, drop, length}
-use Rattle.hwdb_layout.specs.Written.{section_of}
-use Rattle.hwdb_writer.specs.Places.{starts_from}
+use Rattle.hwdb_spec.specs.Written.{section_of}
+use Rattle.hwdb_writer.specs.Internal.Places.{starts_from}
 use Rattle.hwdb_writer.proofs.strings.starts.Given as goal
 
 abbrev pub invariant-loop-word : goal.invariant-loop-word

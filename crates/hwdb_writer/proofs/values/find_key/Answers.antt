@@ -4,7 +4,7 @@ use Rattle.std.specs.Ordering.{nat_cmp}
 use Rattle.std.specs.Cmp.Lexicographic.{slice_cmp, nat_list_cmp_total}
 use Rattle.std.proofs.lemmas.List.{get_or_default}
 use Rattle.hwdb_writer.specs.declared.stored.Stored.{Stored}
-use Rattle.hwdb_writer.specs.Found.{key_in}
+use Rattle.hwdb_writer.specs.Internal.Found.{key_in}
 use Rattle.hwdb_writer.proofs.Searching.{between_hit, between_less, between_greater}
 use Rattle.hwdb_writer.proofs.Steps.{up_keys}
 use Rattle.hwdb_writer.proofs.values.find_key.Goals as goal

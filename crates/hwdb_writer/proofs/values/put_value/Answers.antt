@@ -1,5 +1,5 @@
 use Rattle.std.proofs.Common.{sym, ap, ◌∙◌, map}
-use Rattle.hwdb_writer.specs.Stored.{value_of}
+use Rattle.hwdb_writer.specs.Internal.Stored.{value_of}
 use Rattle.hwdb_writer.proofs.Steps.{value_hit, value_gap}
 use Rattle.hwdb_writer.proofs.values.put_value.Goals as goal
 

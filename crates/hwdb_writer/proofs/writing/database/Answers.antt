@@ -1,5 +1,5 @@
 use Rattle.std.proofs.Common.{◌∙◌}
-use Rattle.hwdb_writer.specs.Standing.{tree_of}
+use Rattle.hwdb_writer.specs.Internal.Standing.{tree_of}
 use Rattle.hwdb_writer.proofs.Wholes.{table_ordered, built, three_rows}
 use Rattle.hwdb_writer.proofs.writing.database.Goals as goal
 

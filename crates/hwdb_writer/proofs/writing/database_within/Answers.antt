@@ -1,5 +1,5 @@
 use Rattle.std.proofs.Common.{◌∙◌, arith}
-use Rattle.hwdb_writer.specs.Standing.{tree_of}
+use Rattle.hwdb_writer.specs.Internal.Standing.{tree_of}
 use Rattle.hwdb_writer.proofs.Wholes.{too_long, exact, length-written, section_is}
 use Rattle.hwdb_writer.proofs.writing.database_within.Goals as goal
 

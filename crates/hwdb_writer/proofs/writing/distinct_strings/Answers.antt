@@ -1,6 +1,6 @@
 use Rattle.std.proofs.Common.{◌∙◌}
-use Rattle.hwdb_layout.specs.Written.{strings_of}
-use Rattle.hwdb_writer.specs.Standing.{tree_of}
+use Rattle.hwdb_spec.specs.Written.{strings_of}
+use Rattle.hwdb_writer.specs.Internal.Standing.{tree_of}
 use Rattle.hwdb_writer.proofs.Memberships.{at_first, collected}
 use Rattle.hwdb_writer.proofs.writing.distinct_strings.Goals as goal
 

@@ -1,6 +1,6 @@
 use Rattle.std.proofs.Common.{ℕ, refl}
 use Rattle.std.proofs.lemmas.List.{get_or_default}
-use Rattle.std.specs.List.{flat_map}
+use Rattle.std.specs.Prelude.{flat_map}
 use Rattle.byteorder.specs.Endian.{little_bytes}
 use Rattle.hwdb_writer.proofs.Emitted.{made_more, made_all}
 use Rattle.hwdb_writer.proofs.writing.push_numbers.Goals as goal

@@ -1,5 +1,5 @@
 use Rattle.std.proofs.Common.{◌≡◌, ◌++◌, drop}
-use Rattle.std.specs.List.{flat_map}
+use Rattle.std.specs.Prelude.{flat_map}
 use Rattle.byteorder.specs.Endian.{little_bytes}
 use Rattle.hwdb_writer.proofs.writing.push_numbers.Given as goal
 

@@ -1,6 +1,6 @@
 use Rattle.std.proofs.Common.{◌++◌, [], ◌∷◌, ◌∙◌, ap, append_assoc, refl}
 use Rattle.std.proofs.lemmas.List.{get_or_default}
-use Rattle.hwdb_layout.specs.Written.{section_of, ended}
+use Rattle.hwdb_spec.specs.Written.{section_of, ended}
 use Rattle.hwdb_writer.proofs.Placing.{nothing, text_in}
 use Rattle.hwdb_writer.proofs.Emitted.{made_more, made_all}
 use Rattle.hwdb_writer.proofs.writing.push_strings.Goals as goal

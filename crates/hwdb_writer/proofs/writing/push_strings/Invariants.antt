@@ -1,5 +1,5 @@
 use Rattle.std.proofs.Common.{◌≡◌, ◌++◌, drop}
-use Rattle.hwdb_layout.specs.Written.{section_of}
+use Rattle.hwdb_spec.specs.Written.{section_of}
 use Rattle.hwdb_writer.proofs.writing.push_strings.Given as goal
 
 abbrev pub invariant-loop-word : goal.invariant-loop-word

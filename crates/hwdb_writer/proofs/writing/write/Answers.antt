@@ -1,7 +1,7 @@
 use Rattle.std.proofs.Common.{◌<◌, ◌^◌, length, refl, sym, subst, arith, List, ℕ}
-use Rattle.hwdb_layout.specs.Database.{IsDatabase}
-use Rattle.hwdb_layout.specs.Written.{written}
-use Rattle.hwdb_writer.specs.Standing.{tree_of}
+use Rattle.hwdb_spec.specs.Format.{IsDatabase}
+use Rattle.hwdb_spec.specs.Written.{written}
+use Rattle.hwdb_writer.specs.Internal.Standing.{tree_of}
 use Rattle.hwdb_writer.proofs.Bridge.{is_database}
 use Rattle.hwdb_writer.proofs.Sound.{sound_narrow, sound_tight}
 use Rattle.hwdb_writer.proofs.writing.write.Goals as goal

@@ -1,5 +1,5 @@
 use Rattle.std.proofs.Common.{ap, sym, ◌∙◌, length, eqb-true}
-use Rattle.hwdb_pattern.specs.Paths.{Reached}
+use Rattle.hwdb_pattern.specs.Views.{Reached}
 use Rattle.hwdb_pattern.proofs.Pathing.{accept_test}
 use Rattle.hwdb_pattern.proofs.paths.Reach.accepts.Goals as goal
 

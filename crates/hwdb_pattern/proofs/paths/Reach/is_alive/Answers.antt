@@ -1,5 +1,5 @@
 use Rattle.std.proofs.Common.{ap, ◌∙◌}
-use Rattle.hwdb_pattern.specs.Paths.{Reached}
+use Rattle.hwdb_pattern.specs.Views.{Reached}
 use Rattle.hwdb_pattern.proofs.Pathing.{alive_test}
 use Rattle.hwdb_pattern.proofs.paths.Reach.is_alive.Goals as goal
 

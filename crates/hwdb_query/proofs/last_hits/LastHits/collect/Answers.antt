@@ -1,8 +1,7 @@
 use Rattle.std.proofs.Common.{arith, add-one, subst}
-use Rattle.hwdb_layout.specs.Tree.{values_of}
-use Rattle.hwdb_reader.specs.View.{entered_tree, entry_shows}
-use Rattle.hwdb_query.specs.Answers.{found_shown}
-use Rattle.hwdb_query.specs.Collected.{LastCollects}
+use Rattle.hwdb_spec.specs.Tree.{values_of, assignment_shown}
+use Rattle.hwdb_reader.specs.Views.{entered_tree, entry_shows}
+use Rattle.hwdb_query.specs.Internal.Collected.{LastCollects}
 use Rattle.hwdb_query.proofs.Collecting.{last_values_next, last_values_over}
 use Rattle.hwdb_query.proofs.last_hits.LastHits.collect.Goals as goal
 
@@ -10,7 +9,7 @@ pub loop-i-preserved : goal.loop-i-preserved
 loop-i-preserved c =
     let values = values_of (entered_tree c.args.inside) in
     rw add-one (λ end rest. c.loop-i.invariant end
-    (last_values_next c.loop-i.self c.offer.new.self end c.args.pattern.now values c.loop-i.i (entry_shows c.value.result) c.value.ensures (subst (λ p. LastCollects c.loop-i.self (found_shown p (entry_shows c.value.result)) c.offer.new.self) c.in_ok-shared.ensures c.in_ok-offer.ensures) rest))
+    (last_values_next c.loop-i.self c.offer.new.self end c.args.pattern.now values c.loop-i.i (entry_shows c.value.result) c.value.ensures (subst (λ p. LastCollects c.loop-i.self (assignment_shown p (entry_shows c.value.result)) c.offer.new.self) c.in_ok-shared.ensures c.in_ok-offer.ensures) rest))
 
 pub returns : goal.returns
 returns c =

@@ -1,8 +1,8 @@
 use Rattle.std.proofs.Common.{drop}
-use Rattle.hwdb_layout.specs.Tree.{values_of}
-use Rattle.hwdb_reader.specs.View.{entered_tree}
-use Rattle.hwdb_query.specs.Answers.{own_members}
-use Rattle.hwdb_query.specs.Collected.{LastCollects}
+use Rattle.hwdb_spec.specs.Tree.{values_of}
+use Rattle.hwdb_reader.specs.Views.{entered_tree}
+use Rattle.hwdb_query.specs.Internal.Members.{own_members}
+use Rattle.hwdb_query.specs.Internal.Collected.{LastCollects}
 use Rattle.hwdb_query.specs.declared.last_hits.LastHits.{LastHits}
 use Rattle.hwdb_query.proofs.last_hits.LastHits.collect.Given as goal
 

@@ -1,5 +1,5 @@
 use Rattle.std.proofs.Common.{◌≡◌, ◌++◌, map}
-use Rattle.hwdb_query.specs.Pairs.{pairs_bytes}
+use Rattle.hwdb_query.specs.Views.{pairs_bytes}
 use Rattle.hwdb_query.proofs.ByKey.{pair_of}
 use Rattle.hwdb_query.proofs.last_hits.LastHits.pairs.Given as goal
 

@@ -1,18 +1,18 @@
 use Rattle.std.proofs.Common.{◌≡◌, ◌∙◌, ap, sym, refl, ℕ, ◌<◌, min, List, [], ◌∷◌, length, Option, Some, None, IfSome, arith}
 use Rattle.hwdb_query.specs.declared.hit.Hit.{Hit}
-use Rattle.hwdb_query.specs.Answers.{Found}
-use Rattle.hwdb_query.specs.Hits.{found_of_hit, Gives, Progress}
+use Rattle.hwdb_spec.specs.Assignment.{Assignment}
+use Rattle.hwdb_query.specs.Views.{assignment_of_hit, Gives, Progress}
 use Rattle.hwdb_query.proofs.paging.Cursor.next.Goals as goal
 
 no_more : (page n : ℕ) → 0 < page → 0 ≡ min page n → n ≡ 0
 no_more page n big e = omega arith
 
-empty_list : (l : List Found) → length l ≡ 0 → l ≡ []
+empty_list : (l : List Assignment) → length l ≡ 0 → l ≡ []
 empty_list [] h = refl
 empty_list (x ∷ l) h = absurd (omega arith)
 
 taken : (r : Option Hit) (old mid new : Progress) (page : ℕ) → mid.to_come ≡ old.to_come → 0 < page → mid.held ≡ min page (length old.to_come)
-    → IfSome r (λ hit. mid.to_come ≡ found_of_hit hit ∷ new.to_come) → (r ≡ None → (new ≡ mid) × (mid.held ≡ 0)) → Gives old.to_come new.to_come r
+    → IfSome r (λ hit. mid.to_come ≡ assignment_of_hit hit ∷ new.to_come) → (r ≡ None → (new ≡ mid) × (mid.held ≡ 0)) → Gives old.to_come new.to_come r
 taken (Some hit) old mid new page same big held some none = sym same ∙ some
 taken None old mid new page same big held some none =
     let n = none refl in

@@ -1,9 +1,9 @@
 use Rattle.std.proofs.Common.{arith}
 use Rattle.std.proofs.Math.Logic.{∥∥₁_elim}
 use Rattle.std.specs.Coded.{le_prop}
-use Rattle.hwdb_reader.specs.View.{tree_of}
-use Rattle.hwdb_layout.proofs.Bounds.{node_room}
-use Rattle.hwdb_layout.proofs.Ascends.{ascends, IsTree-prop}
+use Rattle.hwdb_reader.specs.Views.{tree_of}
+use Rattle.hwdb_reader.proofs.Bounds.{node_room}
+use Rattle.hwdb_reader.proofs.Ascends.{ascends, IsTree-prop}
 use Rattle.hwdb_reader.proofs.view.Db.root.Goals as goal
 
 pub returns-clause-tree : goal.returns-clause-tree

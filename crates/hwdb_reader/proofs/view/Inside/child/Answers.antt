@@ -1,6 +1,6 @@
 use Rattle.std.proofs.Common.{◌<◌, subst}
-use Rattle.hwdb_reader.specs.View.{tree_of}
-use Rattle.hwdb_layout.specs.Database.{child_count}
+use Rattle.hwdb_reader.specs.Views.{tree_of}
+use Rattle.hwdb_spec.specs.Format.{child_count}
 use Rattle.hwdb_reader.proofs.Views.{placed_levels, placed_inside, children_number, child_read, child_placed}
 use Rattle.hwdb_reader.proofs.view.Inside.child.Goals as goal
 

@@ -1,6 +1,6 @@
 use Rattle.std.proofs.Common.{◌<◌, ap, sym, subst, Some}
-use Rattle.hwdb_reader.specs.View.{tree_of}
-use Rattle.hwdb_layout.specs.Database.{value_count}
+use Rattle.hwdb_reader.specs.Views.{tree_of}
+use Rattle.hwdb_spec.specs.Format.{value_count}
 use Rattle.hwdb_reader.proofs.Views.{placed_inside, values_number, value_read, value_placed}
 use Rattle.hwdb_reader.proofs.view.Inside.value.Goals as goal
 

@@ -1,6 +1,6 @@
 use Rattle.std.proofs.Common.{arith, sym, ◌∙◌}
-use Rattle.hwdb_reader.specs.View.{tree_of}
-use Rattle.hwdb_layout.proofs.Bounds.{record_fields}
+use Rattle.hwdb_reader.specs.Views.{tree_of}
+use Rattle.hwdb_reader.proofs.Bounds.{record_fields}
 use Rattle.hwdb_reader.proofs.Views.{placed_inside, values_number}
 use Rattle.hwdb_reader.proofs.view.Inside.values.Goals as goal
 

@@ -1,7 +1,7 @@
 use Rattle.std.proofs.Common.{arith, ap, ◌∙◌}
-use Rattle.hwdb_reader.specs.View.{tree_of}
-use Rattle.hwdb_layout.specs.Database.{text_at}
-use Rattle.hwdb_layout.proofs.Bounds.{record_fields}
+use Rattle.hwdb_reader.specs.Views.{tree_of}
+use Rattle.hwdb_spec.specs.Format.{text_at}
+use Rattle.hwdb_reader.proofs.Bounds.{record_fields}
 use Rattle.hwdb_reader.proofs.Views.{placed_inside, placed_prefix, prefix_read}
 use Rattle.hwdb_reader.proofs.view.Node.prefix.Goals as goal
 

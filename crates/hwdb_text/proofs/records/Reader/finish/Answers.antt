@@ -1,5 +1,5 @@
 use Rattle.std.proofs.Common.{◌∙◌, ◌++◌, ap}
-use Rattle.hwdb_text.specs.Faults.{in_order}
+use Rattle.hwdb_spec.specs.Records.{by_line}
 use Rattle.hwdb_text.proofs.Held.{finished}
 use Rattle.hwdb_text.proofs.FaultOrder.{in_order_is}
 use Rattle.hwdb_text.proofs.DerivedOrder.{sorted_by_number}
@@ -13,4 +13,4 @@ pub returns-clause-faults : goal.returns-clause-faults
 returns-clause-faults c = λ o whole h.
     let f = finished o whole c.args.self c.end.new.self h c.in_ok-end.ensures.spoilt c.in_ok-end.ensures.closed in
     in_order_is _ c.sort.new.self.items c.in_ok-sort.ensures.permutation (sorted_by_number c.sort.new.self.items c.in_ok-sort.ensures.sorted)
-    ∙ ap in_order (c.in_ok-extend_from_slice.ensures.items ∙ ap (λ fs. c.end.new.self.spoilt.items ++ fs) c.deref.ensures.value ∙ f.1)
+    ∙ ap by_line (c.in_ok-extend_from_slice.ensures.items ∙ ap (λ fs. c.end.new.self.spoilt.items ++ fs) c.deref.ensures.value ∙ f.1)

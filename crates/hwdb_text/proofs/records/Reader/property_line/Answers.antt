@@ -1,6 +1,7 @@
 use Rattle.std.proofs.Common.{◌∙◌, ◌++◌, refl, ap, map}
-use Rattle.hwdb_text.specs.Lines.{line}
-use Rattle.hwdb_text.specs.Assignments.{given_in, text_of, property_assignments}
+use Rattle.hwdb_spec.specs.Lines.{line}
+use Rattle.hwdb_text.specs.Views.{given_in, text_of}
+use Rattle.hwdb_spec.specs.Records.{property_assignments}
 use Rattle.hwdb_text.proofs.Held.{on_ok_both, held_stray_property, held_property}
 use Rattle.hwdb_text.proofs.records.Reader.property_line.Goals as goal
 

@@ -1,6 +1,6 @@
 use Rattle.std.proofs.Common.{[], sym, subst, ap, ◌∙◌}
-use Rattle.hwdb_layout.specs.Map.{map_of}
-use Rattle.hwdb_writer.specs.Storable.{IsSound}
+use Rattle.hwdb_spec.specs.Tree.{map_of}
+use Rattle.hwdb_writer.specs.Internal.Storable.{IsSound}
 use Rattle.hwdb_writer.proofs.Standings.{rolled}
 use Rattle.hwdb_writer.proofs.Puts.{empty_map, empty_sound}
 use Rattle.hwdb_writer.proofs.assignments.Tree.new.Goals as goal

@@ -1,5 +1,5 @@
 use Rattle.std.proofs.Common.{◌<◌, ◌^◌, refl, sym, subst, arith}
-use Rattle.hwdb_writer.specs.Storable.{HasNoZero, IsStorableValue}
+use Rattle.hwdb_writer.specs.Internal.Storable.{HasNoZero, IsStorableValue}
 use Rattle.hwdb_writer.proofs.Puts.{value_sound}
 use Rattle.hwdb_writer.proofs.assignments.Tree.set.Goals as goal
 

@@ -1,6 +1,6 @@
 use Rattle.std.proofs.Common.{◌<◌, ℕ, get_or, refl, sym, subst, rules}
-use Rattle.hwdb_writer.specs.Storable.{IsSound}
-use Rattle.hwdb_writer.specs.Standing.{tree_of}
+use Rattle.hwdb_writer.specs.Internal.Storable.{IsSound}
+use Rattle.hwdb_writer.specs.Internal.Standing.{tree_of}
 use Rattle.hwdb_writer.proofs.Kept.{put_kept}
 use Rattle.hwdb_writer.proofs.Puts.{put_is, is_text}
 use Rattle.hwdb_writer.proofs.assignments.Tree.set_value.Goals as goal

@@ -1,5 +1,5 @@
 use Rattle.std.proofs.Common.{◌≡◌, ◌+◌, ◌-◌, ◌^◌, ◌<◌, drop, length, min}
-use Rattle.hwdb_writer.specs.Runs.{values_in}
+use Rattle.hwdb_writer.specs.Internal.Runs.{values_in}
 use Rattle.hwdb_writer.proofs.values.Values.len.Given as goal
 
 abbrev pub invariant-loop-run : goal.invariant-loop-run

@@ -1,0 +1,49 @@
+-- The command line of hwdb, as the command that `clap` is given: systemd-hwdb(8), with `ask` and `list` of our own.
+use Rattle.std.specs.Prelude.{Some, codes, true}
+use Rattle.clap.specs.Walk.{Rule}
+use Rattle.clap.specs.declared.builder.action.ArgAction.TheVariants.{SetTrue, Set}
+use Rattle.clap.specs.Simple.{new_rule, App, with_rule, new_app, Shape, on_top, with_subcommand}
+use Rattle.clap.specs.declared.builder.value_parser.ValueParser.TheVariants as vp
+
+abbrev pub usr_rule : Rule
+usr_rule = record (new_rule (codes "usr")) { long = Some (codes "usr"); action = Some SetTrue }
+
+abbrev pub strict_rule : Rule
+strict_rule = record (new_rule (codes "strict")) { short = Some 115; long = Some (codes "strict"); action = Some SetTrue }
+
+abbrev pub root_rule : Rule
+root_rule = record (new_rule (codes "root")) { value_names = 1; short = Some 114; long = Some (codes "root"); action = Some Set }
+
+abbrev pub device_rule : Rule
+device_rule = record (new_rule (codes "MODALIAS")) { required = true; action = Some Set }
+
+abbrev pub file_rule : Rule
+file_rule = record (new_rule (codes "FILE")) { required = true; action = Some Set }
+
+abbrev pub after_rule : Rule
+after_rule = record (new_rule (codes "after")) { value_names = 1; long = Some (codes "after"); action = Some Set }
+
+abbrev pub limit_rule : Rule
+limit_rule = record (new_rule (codes "limit")) { value_names = 1; long = Some (codes "limit"); action = Some Set; parser = Some (vp.Unsigned 0 18446744073709551615) }
+
+-- the options that stand before and behind the command's word
+abbrev pub with_shared : App → App
+with_shared a = with_rule (with_rule (with_rule a usr_rule) strict_rule) root_rule
+
+abbrev pub update_app : App
+update_app = with_shared (new_app (codes "update"))
+
+abbrev pub query_app : App
+query_app = with_rule (with_shared (new_app (codes "query"))) device_rule
+
+abbrev pub ask_app : App
+ask_app = with_rule (with_rule (with_shared (new_app (codes "ask"))) file_rule) device_rule
+
+abbrev pub list_app : App
+list_app = with_rule (with_rule (with_rule (with_shared (new_app (codes "list"))) after_rule) limit_rule) device_rule
+
+abbrev pub top_app : App
+top_app = on_top (λ (s : Shape). record s { subcommand_required = true; disable_help_subcommand = true }) (with_shared (new_app (codes "hwdb")))
+
+abbrev pub hwdb_app : App
+hwdb_app = with_subcommand (with_subcommand (with_subcommand (with_subcommand top_app update_app.top) query_app.top) ask_app.top) list_app.top

@@ -1,0 +1,186 @@
+//! What the words ask for, by the exact matches that `clap` finds.
+ghost use Rattle.std.specs.Prelude.{◌≡◌, IfOk, IfErr, IfSome, IsErrOf, true, map, string_bytes, option_map, codes, []};
+ghost use Rattle.clap.specs.Walk.{first_of, one_of, rows_of};
+ghost use Rattle.clap.specs.Matches.{found_of};
+ghost use Rattle.clap.specs.Simple.{matches_of, subcommand_of};
+ghost use Rattle.clap.specs.Takes.{takes};
+ghost use Rattle.clap.specs.Faults.{fault_of};
+ghost use Rattle.clap.specs.Values.{kind_of};
+ghost use Rattle.hwdb_cli.specs.Line.{hwdb_app};
+ghost use Rattle.hwdb_cli.specs.Jobs.{HasValue, IsCommand, IsJob, IsJobOf, IsLimit, IsNumber, IsTask, IsValue, has_flag, or_else};
+ghost use Rattle.hwdb_cli.specs.Refusals.{IsToldOf, IsToldOfOne};
+ghost use Rattle.hwdb_cli.specs.declared.job.WordsFault.TheVariants.{Memory};
+
+use crate::command::hwdb_command;
+use crate::job::{Job, Task, WordsFault};
+use crate::tips::with_fitting_tip;
+use clap::error::ErrorKind;
+use clap::{ArgMatches, Error};
+use std::alloc::{AllocError, Global};
+
+/// The first value of the argument.
+fn text_of<'a>(matches: &ArgMatches<'a>, id: &str) -> Option<&'a str>
+    ensures { option_map (λ s. s.now) result ≡ first_of id.now (rows_of (found_of matches.now)) }
+{
+    matches.get_str(id)
+}
+
+/// Whether the flag stands there.
+fn has_flag(matches: &ArgMatches<'_>, id: &str) -> bool
+    ensures { result ≡ has_flag id.now (rows_of (found_of matches.now)) }
+{
+    match text_of(matches, id) {
+        Some(text) => text == "true",
+        None => false,
+    }
+}
+
+/// A text, copied.
+fn copied(alloc: Global, text: Option<&str>) -> Result<Option<String>, AllocError>
+    ensures { IfOk result (λ r. option_map string_bytes r ≡ option_map (λ s. s.now) text.entry) }
+{
+    match text {
+        None => Ok(None),
+        Some(text) => Ok(Some(String::from_str(alloc, text)?)),
+    }
+}
+
+/// The value of an argument that has one, copied.
+fn value_of(alloc: Global, matches: &ArgMatches<'_>, id: &str) -> Result<String, AllocError>
+    requires { HasValue id.now (rows_of (found_of matches.now)) }
+    ensures { IfOk result (λ r. IsValue id.now (rows_of (found_of matches.now)) (string_bytes r)) }
+{
+    let text = text_of(matches, id).unwrap();
+    String::from_str(alloc, text)
+}
+
+/// The number that `--limit` gives.
+fn limit_of(inner: &ArgMatches<'_>) -> Option<u64>
+    requires { IfSome (one_of (codes "limit") (rows_of (found_of inner.now))) IsNumber }
+    ensures { IsLimit (one_of (codes "limit") (rows_of (found_of inner.now))) result }
+{
+    inner.get_one::<u64>("limit")
+}
+
+/// The task of `list`.
+fn list_task(alloc: Global, inner: &ArgMatches<'_>) -> Result<Task, AllocError>
+    requires device { HasValue (codes "MODALIAS") (rows_of (found_of inner.now)) }
+    requires limit { IfSome (one_of (codes "limit") (rows_of (found_of inner.now))) IsNumber }
+    ensures { IfOk result (IsTask (codes "list") (rows_of (found_of inner.now))) }
+{
+    let after = copied(alloc, text_of(inner, "after"))?;
+    let limit = limit_of(inner);
+    let device = value_of(alloc, inner, "MODALIAS")?;
+    Ok(Task::List {
+        after,
+        limit,
+        device,
+    })
+}
+
+/// The task of the subcommand with its matches.
+fn task_of(alloc: Global, name: &str, inner: &ArgMatches<'_>) -> Result<Task, AllocError>
+    requires { IsCommand name.now (rows_of (found_of inner.now)) }
+    ensures { IfOk result (IsTask name.now (rows_of (found_of inner.now))) }
+{
+    if name == "query" {
+        let device = value_of(alloc, inner, "MODALIAS")?;
+        Ok(Task::Query { device })
+    } else if name == "ask" {
+        let file = value_of(alloc, inner, "FILE")?;
+        let device = value_of(alloc, inner, "MODALIAS")?;
+        Ok(Task::Ask { file, device })
+    } else if name == "list" {
+        Ok(list_task(alloc, inner)?)
+    } else {
+        Ok(Task::Update)
+    }
+}
+
+/// The root: the one behind the subcommand counts before the one in front.
+fn root_of(
+    alloc: Global,
+    top: &ArgMatches<'_>,
+    inner: &ArgMatches<'_>,
+) -> Result<Option<String>, AllocError>
+    ensures { IfOk result (λ r. option_map string_bytes r
+        ≡ or_else (first_of (codes "root") (rows_of (found_of inner.now)))
+        (first_of (codes "root") (rows_of (found_of top.now)))) }
+{
+    match text_of(inner, "root") {
+        Some(root) => Ok(Some(String::from_str(alloc, root)?)),
+        None => Ok(copied(alloc, text_of(top, "root"))?),
+    }
+}
+
+/// The job of the whole command line.
+fn job_of(
+    alloc: Global,
+    top: &ArgMatches<'_>,
+    name: &str,
+    inner: &ArgMatches<'_>,
+) -> Result<Job, AllocError>
+    requires { IsCommand name.now (rows_of (found_of inner.now)) }
+    ensures { IfOk result
+        (IsJob (rows_of (found_of top.now)) name.now (rows_of (found_of inner.now))) }
+{
+    let task = task_of(alloc, name, inner)?;
+    let root = root_of(alloc, top, inner)?;
+    let usr = has_flag(inner, "usr") || has_flag(top, "usr");
+    let strict = has_flag(inner, "strict") || has_flag(top, "strict");
+    Ok(Job {
+        usr,
+        strict,
+        root,
+        task,
+    })
+}
+
+/// What is told of words that the command doesn't take.
+fn refusal_of(alloc: Global, error: &Error, words: &[String]) -> WordsFault
+    ensures memory { kind_of error.now ≡ ErrorKind.OutOfMemory → result ≡ Memory }
+    ensures told { IsToldOf (kind_of error.now) result }
+{
+    match error.kind() {
+        ErrorKind::OutOfMemory => WordsFault::Memory,
+        kind => match text_of_fault(alloc, error, words) {
+            Err(refused) => WordsFault::from(refused),
+            Ok(text) if kind == ErrorKind::DisplayHelp => WordsFault::Help { text },
+            Ok(text) => WordsFault::Usage { text },
+        },
+    }
+}
+
+/// The text of help, or of a fault of the words.
+fn text_of_fault(alloc: Global, error: &Error, words: &[String]) -> Result<String, AllocError> {
+    let text = error.to_string(alloc)?;
+    if error.kind() == ErrorKind::UnknownArgument {
+        return with_fitting_tip(alloc, text.as_str(), words);
+    }
+    Ok(text)
+}
+
+/// What the words ask for; the first is the program's name. Words that the command doesn't take give
+/// `WordsFault::Usage` with a text that says why, `--help` gives `WordsFault::Help`.
+pub fn read_words(alloc: Global, words: &[String]) -> Result<Job, WordsFault>
+    ensures job { IfOk result
+        (IsJobOf (matches_of hwdb_app (map string_bytes words.now))
+        (subcommand_of hwdb_app (map string_bytes words.now))) }
+    ensures whole { IfOk result (λ _. fault_of hwdb_app (map string_bytes words.now) ≡ []) }
+    ensures told { IfErr result (IsToldOfOne (fault_of hwdb_app (map string_bytes words.now))) }
+    ensures taken { IfErr result
+        (λ e. takes hwdb_app (map string_bytes words.now) ≡ true → e ≡ Memory) }
+{
+    let command = hwdb_command(alloc)?;
+    let matches = match command.try_get_matches_from(words) {
+        Ok(matches) => matches,
+        Err(error) => return Err(refusal_of(alloc, &error, words)),
+    };
+    match matches.subcommand() {
+        Some((name, inner)) => {
+            let job = job_of(alloc, &matches, name, inner)?;
+            Ok(job)
+        }
+        None => unreachable!(),
+    }
+}

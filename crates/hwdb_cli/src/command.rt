@@ -1,0 +1,213 @@
+//! The command line of `hwdb`, as `clap` is given it: one level of subcommands, each shared option declared
+//! at both levels. The definition of this command as data is what contracts speak of; help texts are
+//! shown by tests.
+ghost use Rattle.std.specs.Prelude.{◌≡◌, IfOk, false, codes};
+ghost use Rattle.clap.specs.Walk.{rule_of};
+ghost use Rattle.clap.specs.Simple.{app_of, shape_of};
+ghost use Rattle.clap.specs.declared.builder.command.Command.TheViews.{out-Command as fields_of};
+ghost use Rattle.hwdb_cli.specs.Line.{usr_rule, strict_rule, root_rule, device_rule, file_rule, after_rule, limit_rule, with_shared, update_app, query_app, ask_app, list_app, top_app, hwdb_app};
+
+use clap::builder::ValueParser;
+use clap::{Arg, ArgAction, Command};
+use std::alloc::{AllocError, Global};
+
+const HWDB_ABOUT: &str = "Compiles and queries the hardware database of udev";
+
+const HWDB_AFTER: &str = "Status: 0; 1 after a refusal.\nExample: hwdb query usb:v1D6Bp0002";
+
+const UPDATE_ABOUT: &str =
+    "Compiles the text files of /etc/udev/hwdb.d and /usr/lib/udev/hwdb.d into /etc/udev/hwdb.bin";
+
+const UPDATE_AFTER: &str =
+    "Status: 0; 1 after a refusal, or with --strict if a line had a fault.\nExample: hwdb --root /mnt update --strict";
+
+const QUERY_ABOUT: &str =
+    "Prints the properties that the database gives a device, as KEY=VALUE lines";
+
+const QUERY_AFTER: &str =
+    "Status: 0, also if there are none; 1 after a refusal.\nExample: hwdb query usb:v1D6Bp0002";
+
+const ASK_ABOUT: &str =
+    "Prints the properties that one text file gives a device, as KEY=VALUE lines";
+
+const ASK_AFTER: &str =
+    "Status: 0, also if there are none; 1 after a refusal.\nExample: hwdb ask 60-keyboard.hwdb evdev:input:b0003v04B3p3018";
+
+const LIST_ABOUT: &str =
+    "Prints each assignment of the database that matches a device, with its position";
+
+const LIST_AFTER: &str =
+    "Status: 0, also if there are none; 1 after a refusal.\nExample: hwdb list --limit 10 --after 3:17:: usb:v1D6Bp0002";
+
+fn usr_option<'a>(alloc: Global) -> Arg<'a>
+    ensures rule { rule_of result ≡ usr_rule }
+    ensures local { result.global ≡ false }
+{
+    Arg::new(alloc, "usr")
+        .long("usr")
+        .help("With update: write /usr/lib/udev/hwdb.bin")
+        .action(ArgAction::SetTrue)
+}
+
+fn strict_option<'a>(alloc: Global) -> Arg<'a>
+    ensures rule { rule_of result ≡ strict_rule }
+    ensures local { result.global ≡ false }
+{
+    Arg::new(alloc, "strict")
+        .short('s')
+        .long("strict")
+        .help("With update: end with status 1 if a line had a fault")
+        .action(ArgAction::SetTrue)
+}
+
+fn root_option<'a>(alloc: Global) -> Arg<'a>
+    ensures rule { rule_of result ≡ root_rule }
+    ensures local { result.global ≡ false }
+{
+    Arg::new(alloc, "root")
+        .short('r')
+        .long("root")
+        .value_name("PATH")
+        .help("Put PATH in front of the paths of folders and databases")
+        .action(ArgAction::Set)
+}
+
+fn device_argument<'a>(alloc: Global) -> Arg<'a>
+    ensures rule { rule_of result ≡ device_rule }
+    ensures local { result.global ≡ false }
+{
+    Arg::new(alloc, "MODALIAS")
+        .help("The device string; one that begins with - stands after --")
+        .required(true)
+        .action(ArgAction::Set)
+}
+
+fn file_argument<'a>(alloc: Global) -> Arg<'a>
+    ensures rule { rule_of result ≡ file_rule }
+    ensures local { result.global ≡ false }
+{
+    Arg::new(alloc, "FILE")
+        .help("A .hwdb text file; the root doesn't change its path")
+        .required(true)
+        .action(ArgAction::Set)
+}
+
+fn after_option<'a>(alloc: Global) -> Arg<'a>
+    ensures rule { rule_of result ≡ after_rule }
+    ensures local { result.global ≡ false }
+{
+    Arg::new(alloc, "after")
+        .long("after")
+        .value_name("POS")
+        .help("Print only what stands after this position, as list prints it")
+        .action(ArgAction::Set)
+}
+
+fn limit_option<'a>(alloc: Global) -> Arg<'a>
+    ensures rule { rule_of result ≡ limit_rule }
+    ensures local { result.global ≡ false }
+{
+    Arg::new(alloc, "limit")
+        .long("limit")
+        .value_name("N")
+        .help("Print at most N lines; 0 prints nothing")
+        .action(ArgAction::Set)
+        .value_parser(ValueParser::unsigned(0, u64::MAX))
+}
+
+fn add_shared<'a>(alloc: Global, command: Command<'a>) -> Result<Command<'a>, AllocError>
+    ensures app { IfOk result (λ r. app_of r ≡ with_shared (app_of command.entry)) }
+    ensures local { IfOk result
+        (λ r. (fields_of r).has_globals ≡ (fields_of command.entry).has_globals) }
+{
+    let with_usr = command.arg(usr_option(alloc))?;
+    let with_strict = with_usr.arg(strict_option(alloc))?;
+    with_strict.arg(root_option(alloc))
+}
+
+fn update_command<'a>(alloc: Global) -> Result<Command<'a>, AllocError>
+    ensures shape { IfOk result (λ r. shape_of r ≡ update_app.top) }
+    ensures local { IfOk result (λ r. (fields_of r).has_globals ≡ false) }
+{
+    add_shared(
+        alloc,
+        Command::new(alloc, "update")
+            .about(UPDATE_ABOUT)
+            .after_help(UPDATE_AFTER),
+    )
+}
+
+fn query_command<'a>(alloc: Global) -> Result<Command<'a>, AllocError>
+    ensures shape { IfOk result (λ r. shape_of r ≡ query_app.top) }
+    ensures local { IfOk result (λ r. (fields_of r).has_globals ≡ false) }
+{
+    let command = add_shared(
+        alloc,
+        Command::new(alloc, "query")
+            .about(QUERY_ABOUT)
+            .after_help(QUERY_AFTER),
+    )?;
+    command.arg(device_argument(alloc))
+}
+
+fn ask_command<'a>(alloc: Global) -> Result<Command<'a>, AllocError>
+    ensures shape { IfOk result (λ r. shape_of r ≡ ask_app.top) }
+    ensures local { IfOk result (λ r. (fields_of r).has_globals ≡ false) }
+{
+    let command = add_shared(
+        alloc,
+        Command::new(alloc, "ask")
+            .about(ASK_ABOUT)
+            .after_help(ASK_AFTER),
+    )?;
+    let with_file = command.arg(file_argument(alloc))?;
+    with_file.arg(device_argument(alloc))
+}
+
+fn list_command<'a>(alloc: Global) -> Result<Command<'a>, AllocError>
+    ensures shape { IfOk result (λ r. shape_of r ≡ list_app.top) }
+    ensures local { IfOk result (λ r. (fields_of r).has_globals ≡ false) }
+{
+    let command = add_shared(
+        alloc,
+        Command::new(alloc, "list")
+            .about(LIST_ABOUT)
+            .after_help(LIST_AFTER),
+    )?;
+    let with_after = command.arg(after_option(alloc))?;
+    let with_limit = with_after.arg(limit_option(alloc))?;
+    with_limit.arg(device_argument(alloc))
+}
+
+fn top_command<'a>(alloc: Global) -> Result<Command<'a>, AllocError>
+    ensures app { IfOk result (λ r. app_of r ≡ top_app) }
+    ensures local { IfOk result (λ r. (fields_of r).has_globals ≡ false) }
+{
+    let command = add_shared(
+        alloc,
+        Command::new(alloc, "hwdb")
+            .about(HWDB_ABOUT)
+            .after_help(HWDB_AFTER),
+    )?;
+    Ok(
+        command
+            .subcommand_required(true)
+            .disable_help_subcommand(true),
+    )
+}
+
+/// The whole command.
+pub fn hwdb_command<'a>(alloc: Global) -> Result<Command<'a>, AllocError>
+    ensures { IfOk result (λ r. app_of r ≡ hwdb_app) }
+{
+    let top = top_command(alloc)?;
+    let update = update_command(alloc)?;
+    let with_update = top.subcommand(update)?;
+    let query = query_command(alloc)?;
+    let with_query = with_update.subcommand(query)?;
+    let ask = ask_command(alloc)?;
+    let with_ask = with_query.subcommand(ask)?;
+    let list = list_command(alloc)?;
+    let whole = with_ask.subcommand(list)?;
+    Ok(whole)
+}

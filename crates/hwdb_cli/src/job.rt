@@ -1,0 +1,75 @@
+//! What a command line asks for, and why it asks for nothing.
+ghost use Rattle.std.specs.Prelude.{◌≡◌};
+ghost use Rattle.hwdb_cli.specs.declared.job.WordsFault.TheVariants.{Memory};
+
+use std::alloc::AllocError;
+use thiserror::Error;
+
+/// What to do.
+#[derive(Debug, Drop)]
+pub enum Task {
+    /// Compile the text files of both folders.
+    Update,
+    /// Print the properties that the database gives the device.
+    Query {
+        /// The device string.
+        device: String,
+    },
+    /// Print the properties that one text file gives the device.
+    Ask {
+        /// The text file's path.
+        file: String,
+        /// The device string.
+        device: String,
+    },
+    /// Print the hits that the database has for the device.
+    List {
+        /// The text of the position after which to begin.
+        after: Option<String>,
+        /// How many hits at most.
+        limit: Option<u64>,
+        /// The device string.
+        device: String,
+    },
+}
+
+/// What a command line asks for.
+#[derive(Debug, Drop)]
+pub struct Job {
+    /// Whether `update` writes the database of `/usr/lib`.
+    pub usr: bool,
+    /// Whether `update` ends with status 1 if a line had a fault.
+    pub strict: bool,
+    /// What to put in front of the paths of folders and databases.
+    pub root: Option<String>,
+    /// What to do.
+    pub task: Task,
+}
+
+/// Why words ask for nothing.
+#[derive(Debug, Drop, Error)]
+pub enum WordsFault {
+    /// Help was asked for.
+    #[error("{text}")]
+    Help {
+        /// The help.
+        text: String,
+    },
+    /// The command doesn't take the words.
+    #[error("{text}")]
+    Usage {
+        /// What is wrong, and how to use it.
+        text: String,
+    },
+    /// A growth of memory was refused.
+    #[error("out of memory")]
+    Memory,
+}
+
+impl From<AllocError> for WordsFault {
+    ghost from_gives = { λ _ e. e ≡ Memory };
+
+    fn from(_: AllocError) -> WordsFault {
+        WordsFault::Memory
+    }
+}

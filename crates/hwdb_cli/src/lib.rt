@@ -1,0 +1,15 @@
+//! The command line of `hwdb`: what its words ask for.
+//!
+//! `command` is the command as `clap` is given it, after systemd-hwdb(8) with two commands of our own;
+//! `words` reads a job off `clap`'s matches, and `tips` leaves out what misleads in the text of a fault.
+#![tactic(auto)]
+
+mod args;
+mod command;
+mod job;
+#[cfg(test)]
+mod tests;
+mod tips;
+
+pub use args::read_words;
+pub use job::{Job, Task, WordsFault};

@@ -1,0 +1,257 @@
+//! Command lines, and what they ask for.
+use crate::{Job, Task, WordsFault, read_words};
+use std::alloc::{AllocError, Global};
+use std::test::Fail;
+
+fn words_of(alloc: Global, line: &str) -> Result<Vec<String>, AllocError> {
+    let mut words = Vec::new(alloc);
+    for word in line.split(' ') {
+        words.push(String::from_str(alloc, word)?)?;
+    }
+    Ok(words)
+}
+
+/// A text in brackets, or `none`.
+fn optional(alloc: Global, text: &Option<String>) -> Result<String, AllocError> {
+    match text {
+        Some(text) => format!(in alloc; "[{}]", text),
+        None => String::from_str(alloc, "none"),
+    }
+}
+
+/// A job as a line: its flags, its root and its task.
+fn shown(alloc: Global, job: &Job) -> Result<String, AllocError> {
+    let root = optional(alloc, &job.root)?;
+    let task = match &job.task {
+        Task::Update => String::from_str(alloc, "update")?,
+        Task::Query { device } => format!(in alloc; "query {}", device)?,
+        Task::Ask { file, device } => format!(in alloc; "ask {} {}", file, device)?,
+        Task::List {
+            after,
+            limit,
+            device,
+        } => {
+            let after = optional(alloc, after)?;
+            match limit {
+                Some(n) => format!(in alloc; "list {} {} {}", after, n, device)?,
+                None => format!(in alloc; "list {} all {}", after, device)?,
+            }
+        }
+    };
+    format!(in alloc;
+        "usr={} strict={} root={} {}",
+        job.usr, job.strict, root, task
+    )
+}
+
+/// What a command line is read as: a job, or `help`, `usage` or `memory`.
+fn read(alloc: Global, line: &str) -> Result<String, AllocError> {
+    let words = words_of(alloc, line)?;
+    match read_words(alloc, &words) {
+        Ok(job) => shown(alloc, &job),
+        Err(WordsFault::Help { text: _ }) => String::from_str(alloc, "help"),
+        Err(WordsFault::Usage { text: _ }) => String::from_str(alloc, "usage"),
+        Err(WordsFault::Memory) => String::from_str(alloc, "memory"),
+    }
+}
+
+#[test]
+fn jobs(rt: HostRuntime) -> Result<(), Fail> {
+    let rows = [
+        (
+            "hwdb -s update -r /x",
+            "usr=false strict=true root=[/x] update",
+        ),
+        (
+            "hwdb query -- -a",
+            "usr=false strict=false root=none query -a",
+        ),
+        (
+            "hwdb -r /x update -r /y",
+            "usr=false strict=false root=[/y] update",
+        ),
+        (
+            "hwdb --root=/x update --usr",
+            "usr=true strict=false root=[/x] update",
+        ),
+        (
+            "hwdb --usr --strict query a",
+            "usr=true strict=true root=none query a",
+        ),
+        ("hwdb ask f a", "usr=false strict=false root=none ask f a"),
+        (
+            "hwdb list a",
+            "usr=false strict=false root=none list none all a",
+        ),
+        (
+            "hwdb list --after 1:2:: --limit 0 a",
+            "usr=false strict=false root=none list [1:2::] 0 a",
+        ),
+        (
+            "hwdb list --limit 18446744073709551615 a",
+            "usr=false strict=false root=none list none 18446744073709551615 a",
+        ),
+    ];
+    for (line, want) in rows {
+        let seen = read(rt.alloc(), line)?;
+        assert_eq!(rt; seen.as_str(), want, "{line}");
+    }
+    Ok(())
+}
+
+#[test]
+fn refusals(rt: HostRuntime) -> Result<(), Fail> {
+    let rows = [
+        ("hwdb", "usage"),
+        ("hwdb query", "usage"),
+        ("hwdb ask f", "usage"),
+        ("hwdb update a", "usage"),
+        ("hwdb query -a", "usage"),
+        ("hwdb list --limit -1 a", "usage"),
+        ("hwdb list --limit 18446744073709551616 a", "usage"),
+        ("hwdb -s -s update", "usage"),
+        ("hwdb update -r /x -r /y", "usage"),
+        ("hwdb frobnicate", "usage"),
+        ("hwdb --help", "help"),
+        ("hwdb -h", "help"),
+        ("hwdb list --help", "help"),
+    ];
+    for (line, want) in rows {
+        let seen = read(rt.alloc(), line)?;
+        assert_eq!(rt; seen.as_str(), want, "{line}");
+    }
+    Ok(())
+}
+
+/// The text of help or of a usage fault, after its name.
+fn told(alloc: Global, line: &str) -> Result<String, AllocError> {
+    let words = words_of(alloc, line)?;
+    match read_words(alloc, &words) {
+        Ok(_) => String::from_str(alloc, "job"),
+        Err(WordsFault::Help { text }) => format!(in alloc; "help: {}", text),
+        Err(WordsFault::Usage { text }) => format!(in alloc; "usage: {}", text),
+        Err(WordsFault::Memory) => String::from_str(alloc, "memory"),
+    }
+}
+
+#[test]
+fn help_names_the_command(rt: HostRuntime) -> Result<(), Fail> {
+    let rows = [
+        ("hwdb --help", ["update", "query", "ask", "list"]),
+        (
+            "hwdb update --help",
+            ["hwdb update", "--usr", "--strict", "--root"],
+        ),
+        (
+            "hwdb query -h",
+            ["hwdb query", "MODALIAS", "--root", "--help"],
+        ),
+        ("hwdb ask --help", ["hwdb ask", "FILE", "MODALIAS", "-r"]),
+        (
+            "hwdb -r /x list --help",
+            ["hwdb list", "MODALIAS", "--after", "--limit"],
+        ),
+    ];
+    for (line, wants) in rows {
+        let seen = told(rt.alloc(), line)?;
+        assert!(rt; seen.as_str().starts_with("help: "), "{line}");
+        for want in wants {
+            assert!(rt; seen.as_str().contains(want), "{line}: {want}");
+        }
+    }
+    Ok(())
+}
+
+#[test]
+fn usage_names_what_is_wrong(rt: HostRuntime) -> Result<(), Fail> {
+    let rows = [
+        ("hwdb query", "MODALIAS"),
+        ("hwdb ask", "FILE"),
+        ("hwdb ask f", "MODALIAS"),
+        ("hwdb list", "MODALIAS"),
+        ("hwdb query a b", "b"),
+        ("hwdb query --limit 1 a", "--limit"),
+        ("hwdb list --limit 1x a", "1x"),
+        ("hwdb list --limit 18446744073709551616 a", "--limit"),
+        ("hwdb update --root", "--root"),
+        ("hwdb --frob update", "--frob"),
+        ("hwdb frobnicate", "frobnicate"),
+        ("hwdb help", "help"),
+    ];
+    for (line, want) in rows {
+        let seen = told(rt.alloc(), line)?;
+        assert!(rt; seen.as_str().starts_with("usage: "), "{line}");
+        assert!(rt; seen.as_str().contains(want), "{line}: {want}");
+    }
+    Ok(())
+}
+
+#[test]
+fn no_words(rt: HostRuntime) -> Result<(), Fail> {
+    let words = Vec::new(rt.alloc());
+    assert!(rt;
+        matches!(
+            read_words(rt.alloc(), &words),
+            Err(WordsFault::Usage { text: _ })
+        )
+    );
+    Ok(())
+}
+
+/// An unknown option is told what it is like only where it is much like it, and a value that begins with `-` how it is
+/// passed.
+#[test]
+fn tips(rt: HostRuntime) -> Result<(), Fail> {
+    let rows = [
+        (
+            "hwdb update --foo",
+            "usage: error: unexpected argument '--foo' found\n\nFor more information, try '--help'.\n",
+        ),
+        (
+            "hwdb update --stric",
+            "usage: error: unexpected argument '--stric' found\n\n  tip: a similar argument exists: '--strict'\n\nUsage: hwdb update --strict\n\nFor more information, try '--help'.\n",
+        ),
+        (
+            "hwdb list --limit -1 a",
+            "usage: error: unexpected argument '-1' found\n\n  tip: to pass '-1' as the value of '--limit', use '--limit=-1'\n\nUsage: hwdb list [OPTIONS] <MODALIAS>\n\nFor more information, try '--help'.\n",
+        ),
+        (
+            "hwdb query -a",
+            "usage: error: unexpected argument '-a' found\n\n  tip: to pass '-a' as a value, use '-- -a'\n\nUsage: hwdb query [OPTIONS] <MODALIAS>\n\nFor more information, try '--help'.\n",
+        ),
+        (
+            "hwdb list --limit --afte a",
+            "usage: error: unexpected argument '--afte' found\n\n  tip: a similar argument exists: '--after'\n\nUsage: hwdb list --after <POS> <MODALIAS>\n\nFor more information, try '--help'.\n",
+        ),
+        (
+            "hwdb -r -x update",
+            "usage: error: unexpected argument '-x' found\n\nUsage: hwdb [OPTIONS] <COMMAND>\n\nFor more information, try '--help'.\n",
+        ),
+    ];
+    for (line, want) in rows {
+        let seen = told(rt.alloc(), line)?;
+        assert_eq!(rt; seen.as_str(), want, "{line}");
+    }
+    Ok(())
+}
+
+#[test]
+fn error_texts(rt: HostRuntime) -> Result<(), Fail> {
+    let alloc = rt.alloc();
+    let help = WordsFault::Help {
+        text: String::from_str(alloc, "a help text")?,
+    };
+    let usage = WordsFault::Usage {
+        text: String::from_str(alloc, "a usage text")?,
+    };
+    let rows = [
+        (help, "a help text"),
+        (usage, "a usage text"),
+        (WordsFault::Memory, "out of memory"),
+    ];
+    for (error, want) in rows {
+        let text = format!(in alloc; "{error}")?;
+        assert_eq!(rt; text.as_str(), want);
+    }
+    Ok(())
+}

@@ -1,0 +1,11 @@
+pub mod Putting
+pub mod Members
+pub mod Orders
+pub mod Placing
+pub mod Keyed
+pub mod Gathered
+pub mod Accepting
+pub mod Latest
+pub mod PlainHits
+pub mod Plain
+pub mod PlainPairs

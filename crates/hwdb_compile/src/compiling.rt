@@ -1,0 +1,159 @@
+//! The compiler: the files of two folders, made into one database.
+ghost use Rattle.std.specs.Prelude.{◌≡◌, ◌≤◌, ◌++◌, ℕ, List, map, length, All, IfOk, IfErr, OnOk, flat_map};
+ghost use Rattle.hwdb_spec.specs.Written.{IsDatabaseOf, IsWritten};
+ghost use Rattle.hwdb_spec.specs.Assignment.{Assignment};
+ghost use Rattle.hwdb_spec.specs.Records.{origin};
+ghost use Rattle.hwdb_text.specs.Views.{given_in, choice_of};
+ghost use Rattle.hwdb_spec.specs.Folders.{IsStorableChoice, file_assignments, file_faults, faults_of_files, fault_in, FewLines, AreAccepted};
+ghost use Rattle.hwdb_compile.specs.Views.{sources, fault_of, IsRefusal};
+ghost use Rattle.hwdb_spec.specs.Tree.{surviving, map_of_files};
+ghost use Rattle.hwdb_query.specs.Laws.{AnswersAreLast};
+ghost use Rattle.hwdb_compile.specs.Internal.Reading.{bytes_at, read_from, IsPuttable, IsFileRefusal, IsFilesRefusal};
+
+use crate::errors::CompileError;
+use crate::sources::{Compiled, FileFault, SourceFile, names, put_files};
+use hwdb_query::compiled_answers_are_last;
+use hwdb_text::{Chosen, Fault, Given, scan, select};
+use hwdb_writer::{Tree, write};
+use std::alloc::{AllocError, Global};
+use std::collections::BTreeMap;
+
+/// Puts what a file with this path and priority gives into the tree, one after another.
+fn put_all(tree: &mut Tree, path: &[u8], priority: u16, all: &[Given<'_>]) -> Result<(), AllocError>
+    requires { All IsPuttable (map (given_in (origin path.now priority)) all.now) }
+    ensures { OnOk result ((done : List Assignment) → tree.old ≡ surviving done
+        → tree.new ≡ surviving (done ++ map (given_in (origin path.now priority)) all.now)) }
+{
+    for given in all {
+        tree.set(priority, path, *given)?;
+    }
+    Ok(())
+}
+
+/// Adds the faults of a file.
+fn add_faults(
+    alloc: Global,
+    path: &[u8],
+    found: &[Fault],
+    faults: &mut Vec<FileFault>,
+) -> Result<(), AllocError>
+    ensures { OnOk result
+        (map fault_of faults.new.items
+        ≡ map fault_of faults.old.items ++ map (fault_in path.now) found.now) }
+{
+    for fault in found {
+        let path = Vec::from_slice(alloc, path)?;
+        faults.push(FileFault {
+            path,
+            fault: *fault,
+        })?;
+    }
+    Ok(())
+}
+
+/// Reads a chosen file: its assignments into the tree, and its faults behind the others.
+fn add_file(
+    alloc: Global,
+    file: &Chosen,
+    bytes: &[u8],
+    tree: &mut Tree,
+    faults: &mut Vec<FileFault>,
+) -> Result<(), CompileError>
+    requires { IsStorableChoice (choice_of file.now) }
+    ensures tree { OnOk result
+        ((done : List Assignment) → tree.old ≡ surviving done
+        → tree.new ≡ surviving (done ++ file_assignments (λ _. bytes.now) (choice_of file.now))) }
+    ensures faults { OnOk result
+        (map fault_of faults.new.items
+        ≡ map fault_of faults.old.items ++ file_faults (λ _. bytes.now) (choice_of file.now)) }
+    ensures few { OnOk result (FewLines bytes.now) }
+    ensures refused { IfErr result (IsFileRefusal bytes.now) }
+{
+    let path = file.path(alloc)?;
+    let path = path.as_bytes();
+    let scanned = scan(alloc, bytes)?;
+    put_all(tree, path, file.priority, &scanned.assignments)?;
+    add_faults(alloc, path, &scanned.faults, faults)?;
+    Ok(())
+}
+
+/// Reads the chosen files, in the order of their priorities.
+fn add_files(
+    alloc: Global,
+    chosen: &[Chosen],
+    index: &BTreeMap<&str, &[u8]>,
+    tree: &mut Tree,
+    faults: &mut Vec<FileFault>,
+) -> Result<(), CompileError>
+    requires { All IsStorableChoice (map choice_of chosen.now) }
+    ensures tree { OnOk result
+        ((done : List Assignment) → tree.old ≡ surviving done
+        → tree.new ≡ surviving
+        (done ++ flat_map (file_assignments (read_from index.now)) (map choice_of chosen.now))) }
+    ensures faults { OnOk result
+        (map fault_of faults.new.items
+        ≡ map fault_of faults.old.items
+        ++ flat_map (file_faults (read_from index.now)) (map choice_of chosen.now)) }
+    ensures few { OnOk result
+        (All (λ c. FewLines (read_from index.now c)) (map choice_of chosen.now)) }
+    ensures refused { IfErr result
+        (IsFilesRefusal (read_from index.now) (map choice_of chosen.now)) }
+{
+    for file in chosen {
+        let bytes = bytes_of(index, &file.name);
+        add_file(alloc, file, bytes, tree, faults)?;
+    }
+    Ok(())
+}
+
+/// The bytes of a file in the index.
+fn bytes_of<'a>(index: &BTreeMap<&str, &'a [u8]>, name: &str) -> &'a [u8]
+    ensures { result.now ≡ bytes_at index.now name.now }
+{
+    match index.get(name) {
+        Some(bytes) => bytes,
+        None => &[],
+    }
+}
+
+/// Makes a database of the files of the folders in /etc and in /usr/lib: chooses them by their names, reads
+/// them in the order of their priorities, and writes what survives. Of several files of one name in one list
+/// the first counts.
+///
+/// What a reader of the database answers for a device is, of all assignments of the files, the last one of each
+/// pattern and key whose pattern matches: by file priority, line, pattern and key.
+///
+/// Refuses with [`CompileError::TooManyFiles`] before all, then with [`CompileError::TooManyLines`], then with
+/// [`CompileError::TooLarge`] where the database has more than `max_bytes` bytes; with
+/// [`CompileError::Memory`] wherever memory is refused.
+pub fn compile(
+    alloc: Global,
+    etc: &[SourceFile],
+    usr: &[SourceFile],
+    max_bytes: u32,
+) -> Result<Compiled, CompileError>
+    ensures database { IfOk result
+        (λ c. IsWritten (map_of_files (sources etc.now) (sources usr.now)) c.database.items) }
+    ensures checked { IfOk result
+        (λ c. IsDatabaseOf (map_of_files (sources etc.now) (sources usr.now)) c.database.items) }
+    ensures headline { IfOk result
+        (λ c. AnswersAreLast (sources etc.now) (sources usr.now) c.database.items) }
+    ensures within { IfOk result (λ c. length c.database.items ≤ max_bytes) }
+    ensures faults { IfOk result
+        (λ c. map fault_of c.faults.items ≡ faults_of_files (sources etc.now) (sources usr.now)) }
+    ensures accepted { OnOk result (AreAccepted (sources etc.now) (sources usr.now)) }
+    ensures refused { IfErr result (IsRefusal (sources etc.now) (sources usr.now) max_bytes) }
+{
+    compiled_answers_are_last();
+    let etc_names = names(alloc, etc)?;
+    let usr_names = names(alloc, usr)?;
+    let chosen = select(alloc, &etc_names, &usr_names)?;
+    let mut index = BTreeMap::new(alloc);
+    put_files(&mut index, usr)?;
+    put_files(&mut index, etc)?;
+    let mut tree = Tree::new(alloc);
+    let mut faults = Vec::new(alloc);
+    add_files(alloc, &chosen, &index, &mut tree, &mut faults)?;
+    let database = write(alloc, &tree, max_bytes)?;
+    Ok(Compiled { database, faults })
+}

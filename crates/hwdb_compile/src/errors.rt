@@ -1,0 +1,60 @@
+//! What the compiler refuses.
+ghost use Rattle.std.specs.Prelude.{◌≡◌};
+ghost use Rattle.hwdb_compile.specs.declared.errors.CompileError.TheVariants.{Memory};
+
+use hwdb_text::TextError;
+use hwdb_writer::StoreError;
+use std::alloc::AllocError;
+use thiserror::Error;
+
+/// Why files are not compiled.
+#[derive(Clone, Copy, Debug, PartialEq, Eq, Error)]
+pub enum CompileError {
+    /// More files are chosen than there are priorities.
+    #[error("more than 65535 files")]
+    TooManyFiles,
+    /// A file has more lines than can be numbered.
+    #[error("a file has more than 4294967295 lines")]
+    TooManyLines,
+    /// The database would have more bytes than the limit.
+    #[error("the database would be larger than the limit")]
+    TooLarge,
+    /// Memory was refused.
+    #[error("out of memory")]
+    Memory,
+}
+
+impl From<AllocError> for CompileError {
+    ghost from_gives = { λ _ e. e ≡ Memory };
+
+    fn from(_: AllocError) -> CompileError {
+        CompileError::Memory
+    }
+}
+
+impl From<TextError> for CompileError {
+    ghost use Rattle.hwdb_compile.specs.Internal.Conversions.{of_text};
+
+    ghost from_gives = { λ error e. e ≡ of_text error };
+
+    fn from(error: TextError) -> CompileError {
+        match error {
+            TextError::TooManyFiles => CompileError::TooManyFiles,
+            TextError::TooManyLines => CompileError::TooManyLines,
+            TextError::Memory => CompileError::Memory,
+        }
+    }
+}
+
+impl From<StoreError> for CompileError {
+    ghost use Rattle.hwdb_compile.specs.Internal.Conversions.{of_store};
+
+    ghost from_gives = { λ error e. e ≡ of_store error };
+
+    fn from(error: StoreError) -> CompileError {
+        match error {
+            StoreError::TooLarge => CompileError::TooLarge,
+            StoreError::Memory => CompileError::Memory,
+        }
+    }
+}

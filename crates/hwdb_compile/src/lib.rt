@@ -1,0 +1,24 @@
+//! The compiler: text files of two folders, made into one database.
+//!
+//! Of the assignments of the files with one pattern and key the last one survives (hwdb(7)), and the database is
+//! the written form of the map of those that do. Lines that aren't read as hwdb(7) says are told as faults.
+//!
+//! | Module | What it does |
+//! |---|---|
+//! | `sources` | files to be compiled, and the index of their names |
+//! | `compiling` | the files of two folders, made into one database |
+//! | `laws` | what is proved of the definitions alone |
+//! | `errors` | what the compiler refuses |
+#![tactic(auto)]
+
+mod compiling;
+mod errors;
+mod laws;
+mod sources;
+#[cfg(test)]
+mod tests;
+
+pub use compiling::compile;
+pub use errors::CompileError;
+pub use laws::survivors_are_latest;
+pub use sources::{Compiled, FileFault, SourceFile};

@@ -1,0 +1,4 @@
+-- What the proofs of this crate speak of.
+pub mod Prefixes
+pub mod Parts
+pub mod Search

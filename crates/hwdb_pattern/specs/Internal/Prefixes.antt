@@ -1,0 +1,26 @@
+-- The lengths of a device's prefixes that tokens match, as the code goes from one token to the next.
+use Rattle.std.specs.Prelude.{All, List, length, ℕ, ◌≤◌, ◌++◌, filter, map, ◌+◌, Contains, ◌<◌}
+use Rattle.hwdb_pattern.specs.Views.{Lengths, takes}
+use Rattle.hwdb_spec.specs.Patterns.{Token}
+
+-- every length is one of a prefix of the device
+abbrev pub Within : List ℕ → List ℕ → Type 0
+Within device lengths = All (λ n. n ≤ length device) lengths
+
+-- whatever tokens led to the lengths before, these tokens behind them lead to those after
+pub record Follows (more : List Token) (device before after : List ℕ) : Type 0 where
+  pub lengths : (ts : List Token) → Lengths ts device before → Lengths (ts ++ more) device after
+
+-- the lengths after one more token that isn't a star
+abbrev pub stepped : Token → List ℕ → List ℕ → List ℕ
+stepped t device lengths = map (λ n. n + 1) (filter (takes t device) lengths)
+
+-- the lengths after a star: those from the least one on
+pub record Spread (end : ℕ) (before after : List ℕ) : Type 0 where
+  pub sound : (n : ℕ) → Contains after n → (n ≤ end) × (m : ℕ) × (m ≤ n) × Contains before m
+  pub complete : (n m : ℕ) → n ≤ end → m ≤ n → Contains before m → Contains after n
+
+-- the numbers are those from the least on, below `end`
+pub record Between (least end : ℕ) (numbers : List ℕ) : Type 0 where
+  pub sound : (m : ℕ) → Contains numbers m → (least ≤ m) × (m < end)
+  pub complete : (m : ℕ) → least ≤ m → m < end → Contains numbers m

@@ -1,0 +1,20 @@
+-- Our own words: how far a search has come, as what is left to match from a place in the pattern and
+-- in the device.
+use Rattle.std.specs.Prelude.{List, slice_index, ℕ, ◌≢◌, ◌≤◌, drop, ◌∷◌, length}
+use Rattle.hwdb_spec.specs.Patterns.{Matches, star, tokens}
+
+-- no `]` stands from `close` on; `]` is 93
+abbrev pub NoneCloses : List ℕ → ℕ → Type 0
+NoneCloses pattern close = (k : ℕ) → close ≤ k → slice_index pattern k ≢ 93
+
+-- The tokens before `at` are no stars and take the first `met` bytes of the device.
+pub record Reaches (pattern device : List ℕ) (at met : ℕ) : Type 0 where
+  pub forth : Matches (tokens pattern) device → Matches (tokens (drop at pattern)) (drop met device)
+  pub back : Matches (tokens (drop at pattern)) (drop met device) → Matches (tokens pattern) device
+  pub later : Matches (star ∷ tokens pattern) device → Matches (star ∷ tokens (drop at pattern)) (drop met device)
+
+-- The pattern matches the device exactly if at least `met` bytes are there, and a star and the tokens
+-- from `at` match what is behind them.
+pub record Remains (pattern device : List ℕ) (at met : ℕ) : Type 0 where
+  pub forth : Matches (tokens pattern) device → (met ≤ length device) × Matches (star ∷ tokens (drop at pattern)) (drop met device)
+  pub back : met ≤ length device → Matches (star ∷ tokens (drop at pattern)) (drop met device) → Matches (tokens pattern) device

@@ -1,6 +1,0 @@
-use Rattle.std.proofs.Common.{◌≡◌, ◌++◌, map, take}
-use Rattle.hwdb_query.specs.Compiling.{fault_in, fault_of}
-use Rattle.hwdb_query.proofs.compiling.add_faults.Given as goal
-
-abbrev pub invariant-loop-fault : goal.invariant-loop-fault
-invariant-loop-fault l = map fault_of l.faults.items ≡ map fault_of l.fn.faults.items ++ map (fault_in l.path) (take l.fault-index l.found)

@@ -1,0 +1,7 @@
+-- What the proofs of this crate speak of.
+pub mod Lists
+pub mod Hits
+pub mod Collected
+pub mod Live
+pub mod Pairs
+pub mod Members

@@ -1,0 +1,27 @@
+-- The values of a node, entry by entry.
+use Rattle.std.proofs.Common.{◌≡◌, ◌<◌, ◌-◌, ℕ, suc, ◌+◌, List, Option, Some, refl, sym, ap, arith, subst, is_ge, false, true}
+use Rattle.std.specs.declared.cmp.Ordering.{Ordering}
+use Rattle.std.specs.declared.cmp.Ordering.TheVariants.{Less, Equal, Greater}
+use Rattle.hwdb_spec.specs.declared.Layout.{Layout}
+use Rattle.hwdb_spec.specs.Format.{ValuesText, values_at, value_at, number_at, text_at, IsValue}
+use Rattle.hwdb_spec.specs.Tree.{IsAbove}
+
+module _ (l : Layout) (b : List ℕ) (e : ℕ) (before : Option (List ℕ)) (n i : ℕ) (lt : i < n) where
+  pub values_next : ValuesText l b e before (values_at l b e (n - i)) → IsValue l b e × IsAbove before (text_at b (number_at 8 e b)) × ValuesText l b (e + l.value_size) (Some (text_at b (number_at 8 e b))) (values_at l b (e + l.value_size) (n - (i + 1)))
+  unfolding ValuesText values_at value_at
+  values_next h =
+      let k : n - i ≡ suc (n - (i + 1)) = omega arith in
+      let p = subst (λ m. ValuesText l b e before (values_at l b e m)) k h in
+      (p.0, p.2, p.3)
+
+  pub values_back : IsValue l b e → IsAbove before (text_at b (number_at 8 e b)) → ValuesText l b (e + l.value_size) (Some (text_at b (number_at 8 e b))) (values_at l b (e + l.value_size) (n - (i + 1))) → ValuesText l b e before (values_at l b e (n - i))
+  unfolding ValuesText values_at value_at
+  values_back v a rest =
+      let k : n - i ≡ suc (n - (i + 1)) = omega arith in
+      subst (λ m. ValuesText l b e before (values_at l b e m)) (sym k) (v, refl, a, rest)
+
+pub less_of : (r : Ordering) → is_ge r ≡ false → r ≡ Less
+less_of r h = elim r as (λ r. is_ge r ≡ false → r ≡ Less) [ Less ↦ λ _. refl | Equal ↦ λ h. absurd (cc) | Greater ↦ λ h. absurd (cc) ] h
+
+pub not_less : (r : Ordering) → is_ge r ≡ true → r ≡ Less → ⊥
+not_less r h e = let k : is_ge r ≡ false = ap is_ge e in cc

@@ -1,0 +1,5 @@
+use Rattle.hwdb_reader.proofs.Ascends.{database_ascends}
+use Rattle.hwdb_reader.proofs.laws.law_ascending.Goals as goal
+
+pub returns : goal.returns
+returns c = database_ascends

@@ -1,0 +1,5 @@
+use Rattle.hwdb_reader.proofs.Faultless.{faultless}
+use Rattle.hwdb_reader.proofs.laws.law_faultless.Goals as goal
+
+pub returns : goal.returns
+returns c = faultless

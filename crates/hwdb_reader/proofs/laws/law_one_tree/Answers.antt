@@ -1,0 +1,5 @@
+use Rattle.hwdb_reader.proofs.Whole.{one_database}
+use Rattle.hwdb_reader.proofs.laws.law_one_tree.Goals as goal
+
+pub returns : goal.returns
+returns c = one_database

@@ -1,0 +1,10 @@
+pub mod Assignment
+pub mod Lines
+pub mod Records
+pub mod Folders
+pub mod Patterns
+pub mod Answers
+pub mod Tree
+pub mod Format
+pub mod Written
+pub mod Texts

@@ -1,0 +1,92 @@
+-- The texts that are printed. Their form is our choice; `KEY=VALUE` is that of systemd-hwdb(8). A tab is byte 9, a
+-- newline 10, a space 32, `:` is 58 and `=` is 61.
+use Rattle.std.specs.Prelude.{List, ℕ, ◌++◌, ◌∷◌, Ok, ◌<◌, ◌^◌, ◌≡◌, [], flat_map, None, Option, Some, take, Bool, false, true}
+use Rattle.std.specs.Fmt.{decimal}
+use Rattle.hex.specs.Hex.{decode_of, encode_lower}
+use Rattle.hwdb_spec.specs.Assignment.{Position, Assignment}
+use Rattle.hwdb_spec.specs.declared.Fault.{Fault}
+use Rattle.hwdb_spec.specs.Records.{fault_text}
+use Rattle.hwdb_spec.specs.Folders.{FaultIn, Source, all_assignments}
+use Rattle.hwdb_spec.specs.Tree.{Tree, answers, answers_after}
+use Rattle.hwdb_spec.specs.Answers.{effective_of, last_assignments}
+
+-- two decimal numbers and two hexadecimal texts, with colons between
+abbrev pub position_text : ℕ → ℕ → List ℕ → List ℕ → List ℕ
+position_text priority line pattern key = decimal priority ++ 58 ∷ (decimal line ++ 58 ∷ (pattern ++ 58 ∷ key))
+
+-- The text spells the position: its hexadecimal digits stand in either case.
+pub record IsSpelling (p : Position) (bytes : List ℕ) : Type 0 where
+  pub pattern_text : List ℕ
+  pub key_text : List ℕ
+  pub priority : p.priority < 2 ^ 16
+  pub line : p.line < 2 ^ 32
+  pub pattern : decode_of pattern_text ≡ Ok p.pattern
+  pub key : decode_of key_text ≡ Ok p.key
+  pub text : bytes ≡ position_text p.priority p.line pattern_text key_text
+
+-- the one text that is written of a position: its hexadecimal digits stand in lower case
+abbrev pub canonical : Position → List ℕ
+canonical p = position_text p.priority p.line (encode_lower p.pattern) (encode_lower p.key)
+
+-- `KEY=VALUE` and a newline
+abbrev pub property_text : List ℕ × List ℕ → List ℕ
+property_text p = p.0 ++ 61 ∷ (p.1 ++ 10 ∷ [])
+
+-- a line for each property
+abbrev pub properties_text : List (List ℕ × List ℕ) → List ℕ
+properties_text properties = flat_map property_text properties
+
+-- the line of a hit: its position, a tab, the pattern, a tab, the property
+abbrev pub hit_text : Assignment → List ℕ
+hit_text f = canonical f.position ++ 9 ∷ (f.position.pattern ++ 9 ∷ property_text (f.position.key, f.value))
+
+-- a line for each hit
+abbrev pub hits_text : List Assignment → List ℕ
+hits_text hits = flat_map hit_text hits
+
+-- the first hits, as many as the limit says; all of them without one
+abbrev pub within_limit : Option ℕ → List Assignment → List Assignment
+within_limit None hits = hits
+within_limit (Some n) hits = take n hits
+
+-- where a fault stands: the path, `:`, the line's number
+abbrev pub place_text : List ℕ → ℕ → List ℕ
+place_text path line = path ++ 58 ∷ decimal line
+
+-- the line of a fault: where it stands, `: `, what is wrong
+abbrev pub fault_line : List ℕ → Fault → List ℕ
+fault_line path f = place_text path f.line ++ 58 ∷ 32 ∷ (fault_text f.kind ++ 10 ∷ [])
+
+-- a line for each fault, with the path of its file
+abbrev pub faults_text : List FaultIn → List ℕ
+faults_text faults = flat_map (λ f. fault_line f.path f.fault) faults
+
+-- a line for each fault, all with one path
+abbrev pub faults_text_at : List ℕ → List FaultIn → List ℕ
+faults_text_at path faults = flat_map (λ f. fault_line path f.fault) faults
+
+-- how many bytes a text file or a database has at most: 256 MiB
+abbrev pub max_file : ℕ
+max_file = 268435456
+
+-- the properties that a database gives a device, as text
+abbrev pub query_text : List ℕ → Tree → List ℕ
+query_text device t = properties_text (effective_of (answers device t))
+
+-- the lines of the first hits after a position
+abbrev pub list_text : List ℕ → Option Position → Option ℕ → Tree → List ℕ
+list_text device after limit t = hits_text (within_limit limit (answers_after device after t))
+
+-- for each key the value of the last assignment among those that match the device, as text
+abbrev pub last_values_text : (device : List ℕ) (etc usr : List Source) → List ℕ
+last_values_text device etc usr = properties_text (effective_of (last_assignments device None (all_assignments etc usr)))
+
+-- the lines of the first of the last assignments after a position
+abbrev pub last_lines_text : (device : List ℕ) (from : Option Position) (limit : Option ℕ) (etc usr : List Source) → List ℕ
+last_lines_text device from limit etc usr = hits_text (within_limit limit (last_assignments device from (all_assignments etc usr)))
+
+-- 1 where `strict` and there is a fault, else 0
+abbrev pub status_of : Bool → List FaultIn → ℕ
+status_of true (f ∷ more) = 1
+status_of true [] = 0
+status_of false faults = 0

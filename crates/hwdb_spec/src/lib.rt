@@ -1,0 +1,132 @@
+//! What has to be believed: the definitions that every contract of this program speaks of, and nothing else.
+//!
+//! `specs/` is read from top to bottom in this order. Each file begins with what it says and which public standard it
+//! comes from.
+//!
+//! | File | Says |
+//! |---|---|
+//! | `Assignment` | an assignment, its position, and the order of positions |
+//! | `Lines` | a file's lines, and what is read of each |
+//! | `Records` | what a file assigns, and its faults |
+//! | `Folders` | which files of two folders count, and what they assign together |
+//! | `Patterns` | brackets, tokens, and what matches |
+//! | `Answers` | the last assignments, those that match, those after a position, and the effective list |
+//! | `Tree` | nodes, the map that they stand for, their answers, and live nodes |
+//! | `Format` | the header, a node's record, when bytes are a database of a tree, and which fault stands |
+//! | `Written` | the tight tree of a map, and its bytes |
+//! | `Texts` | each line that is printed |
+//!
+//! The types below are those that the definitions name.
+#![tactic(auto)]
+
+ghost use Rattle.std.specs.Prelude.{◌≡◌};
+ghost use Rattle.hwdb_spec.specs.Records.{fault_text};
+
+/// A named class of bytes, as POSIX has it in the C locale.
+#[derive(Clone, Copy)]
+pub enum Class {
+    Alnum,
+    Alpha,
+    Blank,
+    Cntrl,
+    Digit,
+    Graph,
+    Lower,
+    Print,
+    Punct,
+    Space,
+    Upper,
+    Xdigit,
+}
+
+/// What is wrong with a line.
+#[derive(Clone, Copy, Debug, PartialEq, Eq, PartialOrd, Ord)]
+pub enum FaultKind {
+    /// F1: a property line where a match line is expected.
+    StrayProperty,
+    /// F2: match lines without a property; at the first of them.
+    NoProperty,
+    /// F3: a match line directly after a property.
+    StrayMatch,
+    /// F4: a property without `=`.
+    NoEquals,
+    /// F5: a property with an empty key.
+    EmptyKey,
+    /// F6: a line with byte 0.
+    ZeroByte,
+    /// F7: a match line of more than 4,096 bytes.
+    LongMatch,
+}
+
+impl FaultKind {
+    /// What is printed of it, behind the path and the line.
+    pub fn text(self) -> &'static str
+        ensures { result.now ≡ fault_text self }
+    {
+        match self {
+            FaultKind::StrayProperty => "property where a match is expected, ignored",
+            FaultKind::NoProperty => "record without properties, ignored",
+            FaultKind::StrayMatch => "match line inside a record, ignored; the record ends here",
+            FaultKind::NoEquals => "property without =, ignored",
+            FaultKind::EmptyKey => "empty key, ignored",
+            FaultKind::ZeroByte => "byte 0 in the line, ignored",
+            FaultKind::LongMatch => "match line longer than 4096 bytes, ignored",
+        }
+    }
+}
+
+/// A line of a file, and what is wrong with it. Faults are ordered by line, and then by number.
+#[derive(Clone, Copy, Debug, PartialEq, Eq, PartialOrd, Ord)]
+pub struct Fault {
+    /// The line, from 1.
+    pub line: u32,
+    /// What is wrong there.
+    pub kind: FaultKind,
+}
+
+/// How large the records are, and where the parts of a database stand.
+///
+/// Sizes are in bytes, places are offsets from the start of the file.
+#[derive(Clone, Copy, Debug, PartialEq, Eq)]
+pub struct Layout {
+    /// How long a node is, without its entries.
+    pub node_size: usize,
+    /// How long a child entry is.
+    pub child_size: usize,
+    /// How long a value entry is.
+    pub value_size: usize,
+    /// Where the nodes section begins: where the header ends.
+    pub nodes: usize,
+    /// Where the root's record stands.
+    pub root: usize,
+    /// Where the string section begins: where the nodes section ends.
+    pub strings: usize,
+}
+
+/// Why bytes are no database: the first of B1 to B5 that stands, or one of B6 to B11 with the offset
+/// at which it stands.
+#[derive(Clone, Copy, Debug, PartialEq, Eq)]
+pub enum DbFault {
+    /// B1: there are fewer than 80 bytes.
+    Short,
+    /// B2: the first 8 bytes aren't the signature `KSLPHHRH`.
+    Signature,
+    /// B3: the header or a record is shorter than its known fields.
+    RecordSizes,
+    /// B4: the file's size isn't the number of bytes, or its parts don't add up to it.
+    Lengths,
+    /// B5: there is no string, or the last byte isn't 0.
+    Strings,
+    /// B6: the node at the offset isn't where its text says.
+    Place(u64),
+    /// B7: the node at the offset is deeper than 4,097 levels.
+    Depth(u64),
+    /// B8: the byte of the child entry at the offset is 0 or not above the one before it.
+    ChildOrder(u64),
+    /// B9: the string offset at the offset names no place in the string section.
+    StringOffset(u64),
+    /// B10: the stored key of the value entry at the offset isn't above the one before it.
+    KeyOrder(u64),
+    /// B11: the priority of the value entry at the offset is 0.
+    Priority(u64),
+}

@@ -1,0 +1,24 @@
+-- The names that the code holds while it chooses: in order of their bytes, each with whether it is taken from etc.
+use Rattle.std.specs.Prelude.{Bool, List, ℕ, [], if◌then◌else◌, ◌∷◌, false, true, ◌+◌}
+use Rattle.std.specs.Borrow.{Bor}
+use Rattle.std.specs.BTreeMap.{insert_entry}
+use Rattle.std.specs.Ordering.{nat_cmp}
+use Rattle.std.specs.Cmp.Lexicographic.{slice_cmp}
+use Rattle.hwdb_spec.specs.Folders.{counts, Choice}
+
+abbrev pub entry_of : Bor (List ℕ) × Bool → List ℕ × Bool
+entry_of e = (e.0.now, e.1)
+
+-- The names of a list that count, put among those that are held. A name that is held already stays where it is and takes the new answer.
+abbrev pub put_all : Bool → List (List ℕ) → List (List ℕ × Bool) → List (List ℕ × Bool)
+put_all from_etc [] held = held
+put_all from_etc (name ∷ more) held = put_all from_etc more (if counts name then insert_entry (slice_cmp nat_cmp) held name from_etc else held)
+
+-- the names of both folders
+abbrev pub all_names : List (List ℕ) → List (List ℕ) → List (List ℕ × Bool)
+all_names etc usr = put_all true etc (put_all false usr [])
+
+-- the names with their priorities, from the one given on
+unfoldable pub with_priorities : ℕ → List (List ℕ × Bool) → List Choice
+with_priorities priority [] = []
+with_priorities priority (n ∷ more) = record { from_etc = n.1; name = n.0; priority = priority } ∷ with_priorities (priority + 1) more

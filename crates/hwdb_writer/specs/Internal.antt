@@ -1,0 +1,12 @@
+-- What the proofs of this crate speak of.
+pub mod Stored
+pub mod Runs
+pub mod Standing
+pub mod Setting
+pub mod Found
+pub mod Storable
+pub mod Codes
+pub mod Words
+pub mod Places
+pub mod Narrow
+pub mod Membership
