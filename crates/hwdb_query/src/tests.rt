@@ -1,8 +1,7 @@
 //! Worked rows over small databases, and the texts of positions.
 mod vectors;
 
-use crate::{CompileError, Cursor, Hit, Position, QueryError, compile, cursor, effective};
-use compiled::files;
+use crate::{Cursor, Hit, Position, QueryError, cursor, effective};
 use hwdb_reader::check;
 use std::alloc::Global;
 use std::test::Fail;
@@ -267,27 +266,6 @@ fn long_devices(rt: HostRuntime) -> Result<(), Fail> {
     Ok(())
 }
 
-/// A stored path of 300 bytes, of a file whose name has 283.
-#[test]
-fn long_path(rt: HostRuntime) -> Result<(), Fail> {
-    let alloc = rt.alloc();
-    let mut name = String::new(alloc);
-    for _ in 0..278 {
-        name.push_str("n")?;
-    }
-    name.push_str(".hwdb")?;
-    let etc = files(alloc, &[(name.as_str(), "a\n K=v\n")])?;
-    let compiled = compile(alloc, &etc, &[], 1000)?;
-    assert_eq!(rt; compiled.database.len(), 206 + 300 - 23);
-    let db = check(&compiled.database).map_err(|_| "refused")?;
-    let mut hits = cursor(alloc, &db, b"a", None, 1).map_err(|_| "no cursor")?;
-    let hit = hits.next()?.ok_or("no hit")?;
-    let path = format!(in alloc; "/etc/udev/hwdb.d/{name}")?;
-    assert_eq!(rt; hit.path.len(), 300);
-    assert_eq!(rt; hit.path, path.as_bytes());
-    Ok(())
-}
-
 /// Two cursors over two databases take turns.
 #[test]
 fn two_databases(rt: HostRuntime) -> Result<(), Fail> {
@@ -319,22 +297,6 @@ fn error_texts(rt: HostRuntime) -> Result<(), Fail> {
         (QueryError::PageZero, "a page holds at least one hit"),
         (QueryError::BadPosition, "bad position"),
         (QueryError::Memory, "out of memory"),
-    ];
-    for (error, want) in rows {
-        let text = format!(in rt.alloc(); "{error}")?;
-        assert_eq!(rt; text.as_str(), want);
-    }
-    let rows = [
-        (CompileError::TooManyFiles, "more than 65535 files"),
-        (
-            CompileError::TooManyLines,
-            "a file has more than 4294967295 lines",
-        ),
-        (
-            CompileError::TooLarge,
-            "the database would be larger than the limit",
-        ),
-        (CompileError::Memory, "out of memory"),
     ];
     for (error, want) in rows {
         let text = format!(in rt.alloc(); "{error}")?;
