@@ -11,13 +11,13 @@ use Rattle.hwdb_spec.specs.Assignment.{Assignment}
 use Rattle.hwdb_spec.specs.Records.{origin}
 use Rattle.hwdb_spec.specs.Folders.{Choice, path_of, name_of, chosen_of, contents, file_assignments, all_assignments}
 use Rattle.hwdb_text.specs.Laws.{PrioritiesCountUp, AssignmentsStandByLine}
-use Rattle.hwdb_spec.specs.Tree.{place_cmp, Assigned as Stored, entry_of, surviving}
+use Rattle.hwdb_spec.specs.Tree.{place_cmp, entry_of, surviving}
 use Rattle.hwdb_compile.specs.Laws.{IsEarlier, SurvivorsAreLatest, SurvivorsAreAssigned, EachPlaceSurvives}
 use Rattle.hwdb_compile.proofs.Members.{place_total, same_place}
 use Rattle.hwdb_compile.proofs.Gathered.{surviving_one, from_file}
 
 abbrev Latest : List Assignment → Type 0
-Latest done = (place : List ℕ × List ℕ) (s : Stored) → finite.get (surviving done) place ≡ Some s → All (λ a. (entry_of a).0 ≡ place → IsEarlier a s) done
+Latest done = (place : List ℕ × List ℕ) (s : Assignment) → finite.get (surviving done) place ≡ Some s → All (λ a. (entry_of a).0 ≡ place → IsEarlier a s) done
 
 -- no assignment is earlier than those before it
 abbrev Rising : List Assignment → List Assignment → Type 0
@@ -119,7 +119,7 @@ found : (done : List Assignment) (a : Assignment) (place : List ℕ × List ℕ)
 found done a place = ap (λ m. finite.get m place) (surviving_one done a) ∙ finite.get-insert place_total (surviving done) (entry_of a).0 (entry_of a).1 place
 
 abbrev Given : List Assignment → Type 0
-Given done = (place : List ℕ × List ℕ) (s : Stored) → finite.get (surviving done) place ≡ Some s → (a : Assignment) × Contains done a × (entry_of a ≡ (place, s))
+Given done = (place : List ℕ × List ℕ) (s : Assignment) → finite.get (surviving done) place ≡ Some s → (a : Assignment) × Contains done a × (entry_of a ≡ (place, s))
 
 given_one : (done : List Assignment) (a : Assignment) → Given done → Given (done ++ a ∷ [])
 given_one done a before = λ place s is.

@@ -6,11 +6,12 @@ use Rattle.std.specs.Ordering.{nat_cmp}
 use Rattle.std.specs.declared.cmp.Ordering.TheVariants.{Less, Equal}
 use Rattle.std.proofs.lemmas.Cmp.{nat_list_cmp_total, tied_itself}
 use Rattle.std.proofs.lemmas.List.Elements.{filter-append}
-use Rattle.hwdb_spec.specs.Tree.{Tree, Value, values_of, IsTree, KeysAscend, shown, key_of, one_assignment, assignment_shown}
+use Rattle.hwdb_spec.specs.Tree.{Tree, Value, IsTree, KeysAscend, key_of, values_of}
+use Rattle.hwdb_query.specs.Internal.Members.{one_assignment, assignment_shown, own_members}
+use Rattle.hwdb_reader.specs.Views.{shown}
 use Rattle.hwdb_spec.specs.Tree.Tree.{Node}
 use Rattle.hwdb_spec.specs.Assignment.{Assignment, position_cmp, assignment_cmp}
 use Rattle.hwdb_spec.specs.Answers.{is_behind}
-use Rattle.hwdb_query.specs.Internal.Members.{own_members}
 use Rattle.hwdb_query.specs.Internal.Lists.{keep_all}
 use Rattle.hwdb_query.specs.Internal.Hits.{after_position}
 use Rattle.hwdb_query.specs.Internal.Collected.{PageCollects}

@@ -3,11 +3,12 @@ use Rattle.std.proofs.Common.{◌≡◌, ◌∙◌, ap, sym, refl, subst, ℕ, z
 use Rattle.std.specs.List.{AllByRecursion}
 use Rattle.std.specs.declared.cmp.Ordering.TheVariants.{Less}
 use Rattle.std.proofs.lemmas.List.Elements.{filter-append}
-use Rattle.hwdb_spec.specs.Tree.{Value, Shown, shown, one_assignment, assignment_shown}
+use Rattle.hwdb_spec.specs.Tree.{Value}
+use Rattle.hwdb_query.specs.Internal.Members.{one_assignment, assignment_shown, wanted, own_members}
+use Rattle.hwdb_reader.specs.Views.{Shown, shown}
 use Rattle.std.specs.Ordering.{is_lt, ordering_reverse}
 use Rattle.hwdb_spec.specs.Assignment.{Position, Assignment, position_cmp, assignment_cmp, put, put_all, in_order, Ascends}
 use Rattle.hwdb_spec.specs.Answers.{is_after, is_behind, is_wanted}
-use Rattle.hwdb_query.specs.Internal.Members.{wanted, own_members}
 use Rattle.hwdb_query.specs.Internal.Lists.{keep_all}
 use Rattle.hwdb_query.specs.Internal.Hits.{after_position}
 use Rattle.hwdb_query.specs.Views.{Page as HeldHits}

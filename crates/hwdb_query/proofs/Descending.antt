@@ -1,7 +1,8 @@
 -- What is collected of a node, and of those below it.
 use Rattle.std.proofs.Common.{◌≡◌, ◌∙◌, ap, sym, subst, ℕ, List, [], ◌∷◌, ◌++◌, filter, true, false}
 use Rattle.std.proofs.lemmas.List.Elements.{filter-append}
-use Rattle.hwdb_spec.specs.Tree.{Tree, Value, prefix_of, values_of, children_of, members_under}
+use Rattle.hwdb_spec.specs.Tree.{Tree, Value, prefix_of, members_under, values_of}
+use Rattle.hwdb_reader.specs.Views.{children_of}
 use Rattle.hwdb_spec.specs.Assignment.{Assignment}
 use Rattle.hwdb_spec.specs.Answers.{is_wanted, is_match}
 use Rattle.hwdb_query.specs.Internal.Members.{own_members, members_in}

@@ -12,24 +12,24 @@ use Rattle.std.proofs.lemmas.List.{reverse-append}
 use Rattle.hwdb_spec.specs.Assignment.{Assignment, in_order, Ascends, Position, position_cmp, assignment_cmp}
 use Rattle.hwdb_spec.specs.Patterns.{tokens}
 use Rattle.hwdb_pattern.specs.Laws.{MatchesIsTested}
-use Rattle.hwdb_spec.specs.Tree.{Tree, IsTree, place_cmp, map_of, Assigned as Stored, answers, answers_after, entry_of, surviving}
+use Rattle.hwdb_spec.specs.Tree.{Tree, IsTree, place_cmp, map_of, answers, answers_after, entry_of, surviving}
 use Rattle.hwdb_spec.specs.Answers.{is_wanted, is_behind, is_same_place, last_of_each, last_matching, last_assignments}
-use Rattle.hwdb_query.specs.Laws.{Among, assigned_of}
+use Rattle.hwdb_query.specs.Laws.{Among}
 use Rattle.hwdb_query.proofs.Putting.{ascends_all}
 use Rattle.hwdb_query.proofs.Orders.{assignment_total}
 use Rattle.hwdb_query.proofs.Members.{all_sound, all_has, filter_sound, filter_complete, none_ascends, in_none, then_equal, same_text, place_total, same_place, are_answers}
 
 -- the first of two that there is
-abbrev first_some : Option Stored → Option Stored → Option Stored
+abbrev first_some : Option Assignment → Option Assignment → Option Assignment
 first_some None other = other
 first_some (Some s) other = Some s
 
 -- what an assignment puts at a place
-abbrev put_there : List ℕ × List ℕ → Assignment → Option Stored
+abbrev put_there : List ℕ × List ℕ → Assignment → Option Assignment
 put_there p a = cond (eq_by_cmp place_cmp p (entry_of a).0) (Some (entry_of a).1) None
 
 -- what the last of some assignments at a place puts there
-last_at : List ℕ × List ℕ → List Assignment → Option Stored
+last_at : List ℕ × List ℕ → List Assignment → Option Assignment
 last_at p [] = None
 last_at p (a ∷ more) = first_some (last_at p more) (put_there p a)
 
@@ -37,7 +37,7 @@ abbrev place_of : Assignment → List ℕ × List ℕ
 place_of f = (f.position.pattern, f.position.key)
 
 abbrev Entry : Type 0
-Entry = (List ℕ × List ℕ) × Stored
+Entry = (List ℕ × List ℕ) × Assignment
 
 map_push : (xs : List Assignment) (a : Assignment) → map entry_of (xs ++ a ∷ []) ≡ map entry_of xs ++ entry_of a ∷ []
 map_push [] a = refl
@@ -73,7 +73,7 @@ both_equal Equal q = refl
 both_equal Greater q = refl
 
 -- one more assignment at a place
-one_there : (o : Option Stored) (s : Stored) (b : Bool) → b || is_some o ≡ is_some (first_some o (cond b (Some s) None))
+one_there : (o : Option Assignment) (s : Assignment) (b : Bool) → b || is_some o ≡ is_some (first_some o (cond b (Some s) None))
 one_there None s true = refl
 one_there None s false = refl
 one_there (Some t) s true = refl
@@ -88,21 +88,21 @@ is_followed a (b ∷ more) =
     ∙ ap (λ x. eq_by_cmp place_cmp (entry_of a).0 (entry_of b).0 || x) (is_followed a more)
     ∙ one_there (last_at (entry_of a).0 more) (entry_of b).1 (eq_by_cmp place_cmp (entry_of a).0 (entry_of b).0)
 
-no_some : (o : Option Stored) → is_some o ≡ false → o ≡ None
+no_some : (o : Option Assignment) → is_some o ≡ false → o ≡ None
 no_some None h = refl
 no_some (Some s) h = cc
 
-last_sound : (f : Assignment) (all : List Assignment) → Among f (last_of_each all) → last_at (place_of f) all ≡ Some (assigned_of f)
+last_sound : (f : Assignment) (all : List Assignment) → Among f (last_of_each all) → last_at (place_of f) all ≡ Some f
 unfolding Among last_of_each last_at
 last_sound f [] m = absurd m
 last_sound f (a ∷ more) m =
-    let again : Among f (last_of_each more) → last_at (place_of f) (a ∷ more) ≡ Some (assigned_of f) =
+    let again : Among f (last_of_each more) → last_at (place_of f) (a ∷ more) ≡ Some f =
     λ k. ap (λ o. first_some o (put_there (place_of f) a)) (last_sound f more k) in
     elim (list_any (is_same_place a) more) as (λ b. list_any (is_same_place a) more ≡ b → Among f (if b then last_of_each more else a ∷ last_of_each more)
-    → last_at (place_of f) (a ∷ more) ≡ Some (assigned_of f)) [
+    → last_at (place_of f) (a ∷ more) ≡ Some f) [
       | true ↦ λ e k. again k
       | false ↦ λ e k. elim k [
-        | inl is ↦ subst (λ (g : Assignment). last_at (place_of g) (a ∷ more) ≡ Some (assigned_of g)) is
+        | inl is ↦ subst (λ (g : Assignment). last_at (place_of g) (a ∷ more) ≡ Some g) is
             (let none : last_at (entry_of a).0 more ≡ None = no_some _ (sym (is_followed a more) ∙ e) in
             ap (λ o. first_some o (put_there (entry_of a).0 a)) none
             ∙ ap (λ o. cond (is_eq o) (Some (entry_of a).1) None) (tied_itself place_total (entry_of a).0))
@@ -110,19 +110,19 @@ last_sound f (a ∷ more) m =
       ]
     ] refl m
 
-answer_is : (a : Assignment) (f : Assignment) → (entry_of a).0 ≡ place_of f → (entry_of a).1 ≡ assigned_of f → a ≡ f
-answer_is a f p v = λ i. record { position = record { priority = (v i).priority; line = (v i).line; pattern = (p i).0; key = (p i).1 }; value = (v i).value; path = (v i).path }
+answer_is : (a : Assignment) (f : Assignment) → (entry_of a).0 ≡ place_of f → (entry_of a).1 ≡ f → a ≡ f
+answer_is a f p v = v
 
 -- the assignment is kept, where it's the last at its place
-kept_last : (f : Assignment) (a : Assignment) (more : List Assignment) → last_at (place_of f) more ≡ None → put_there (place_of f) a ≡ Some (assigned_of f)
+kept_last : (f : Assignment) (a : Assignment) (more : List Assignment) → last_at (place_of f) more ≡ None → put_there (place_of f) a ≡ Some f
     → Among f (last_of_each (a ∷ more))
 unfolding Among last_of_each
 kept_last f a more none put =
-    elim (eq_by_cmp place_cmp (place_of f) (entry_of a).0) as (λ b. eq_by_cmp place_cmp (place_of f) (entry_of a).0 ≡ b → cond b (Some (entry_of a).1) None ≡ Some (assigned_of f)
+    elim (eq_by_cmp place_cmp (place_of f) (entry_of a).0) as (λ b. eq_by_cmp place_cmp (place_of f) (entry_of a).0 ≡ b → cond b (Some (entry_of a).1) None ≡ Some f
     → Among f (last_of_each (a ∷ more))) [
       | true ↦ λ e k.
           let at : (entry_of a).0 ≡ place_of f = sym (same_place (place_of f) (entry_of a).0 e) in
-          let value : (entry_of a).1 ≡ assigned_of f = cc in
+          let value : (entry_of a).1 ≡ f = cc in
           let alone : list_any (is_same_place a) more ≡ false = is_followed a more ∙ ap (λ p. is_some (last_at p more)) at ∙ ap is_some none in
           subst (λ b. Among f (if b then last_of_each more else a ∷ last_of_each more)) (sym alone) (inl (answer_is a f at value))
       | false ↦ λ e k. cc
@@ -133,18 +133,18 @@ unfolding Among last_of_each
 kept_behind f a more m =
     elim (list_any (is_same_place a) more) as (λ b. Among f (if b then last_of_each more else a ∷ last_of_each more)) [ true ↦ m | false ↦ inr m ]
 
-last_complete : (f : Assignment) (all : List Assignment) → last_at (place_of f) all ≡ Some (assigned_of f) → Among f (last_of_each all)
+last_complete : (f : Assignment) (all : List Assignment) → last_at (place_of f) all ≡ Some f → Among f (last_of_each all)
 unfolding last_at
 last_complete f [] h = cc
 last_complete f (a ∷ more) h =
-    let again : last_at (place_of f) more ≡ Some (assigned_of f) → Among f (last_of_each more) = last_complete f more in
-    elim (last_at (place_of f) more) as (λ o. last_at (place_of f) more ≡ o → first_some o (put_there (place_of f) a) ≡ Some (assigned_of f) → Among f (last_of_each (a ∷ more))) [
+    let again : last_at (place_of f) more ≡ Some f → Among f (last_of_each more) = last_complete f more in
+    elim (last_at (place_of f) more) as (λ o. last_at (place_of f) more ≡ o → first_some o (put_there (place_of f) a) ≡ Some f → Among f (last_of_each (a ∷ more))) [
       | None ↦ λ e k. kept_last f a more e k
       | Some s ↦ λ e k. kept_behind f a more (again (e ∙ k))
     ] refl h
 
 -- two answers at one position have one value
-same_answer : (x y : Assignment) (all : List Assignment) → last_at (place_of x) all ≡ Some (assigned_of x) → last_at (place_of y) all ≡ Some (assigned_of y) → assignment_cmp x y ≡ Equal → x ≡ y
+same_answer : (x y : Assignment) (all : List Assignment) → last_at (place_of x) all ≡ Some x → last_at (place_of y) all ≡ Some y → assignment_cmp x y ≡ Equal → x ≡ y
 unfolding assignment_cmp position_cmp
 same_answer x y all hx hy h =
     let a = then_equal (nat_cmp x.position.priority y.position.priority) _ h in
@@ -152,10 +152,10 @@ same_answer x y all hx hy h =
     let c = then_equal (slice_cmp nat_cmp x.position.pattern y.position.pattern) (slice_cmp nat_cmp x.position.key y.position.key) b.1 in
     let pe : x.position.pattern ≡ y.position.pattern = same_text x.position.pattern y.position.pattern c.0 in
     let ke : x.position.key ≡ y.position.key = same_text x.position.key y.position.key c.1 in
-    let s : Some (assigned_of x) ≡ Some (assigned_of y) =
+    let s : Some x ≡ Some y =
     sym hx ∙ ap (λ p. last_at (p, x.position.key) all) pe ∙ ap (λ k. last_at (y.position.pattern, k) all) ke ∙ hy in
-    let v : assigned_of x ≡ assigned_of y = cc in
-    λ i. record { position = record { priority = (v i).priority; line = (v i).line; pattern = pe i; key = ke i }; value = (v i).value; path = (v i).path }
+    let v : x ≡ y = cc in
+    v
 
 among_all : (P : Assignment → Type 0) (f : Assignment) (xs : List Assignment) → AllByRecursion P xs → Among f xs → P f
 unfolding Among

@@ -1,5 +1,5 @@
 -- The answers are the members of the map that match.
-use Rattle.std.proofs.Common.{◌≡◌, ◌∙◌, ap, sym, refl, subst, ℕ, Bool, true, false, List, [], ◌∷◌, ◌++◌, filter, Some, None, if◌then◌else◌, cond, ◌==◌, ◌⊎◌, inl, inr, eqb-true}
+use Rattle.std.proofs.Common.{◌≡◌, ◌∙◌, ap, sym, refl, subst, ℕ, Bool, true, false, List, [], ◌∷◌, ◌++◌, filter, map, Some, None, if◌then◌else◌, cond, ◌==◌, ◌⊎◌, inl, inr, eqb-true}
 use Rattle.std.specs.FinMap as finite
 use Rattle.std.specs.Prelude.{flat_map}
 use Rattle.std.specs.Cmp.{IsTotalOrder}
@@ -8,12 +8,12 @@ use Rattle.std.specs.Ordering.{eq_by_cmp, nat_cmp, is_eq, match_ordering, orderi
 use Rattle.std.specs.declared.cmp.Ordering.{Ordering}
 use Rattle.std.specs.declared.cmp.Ordering.TheVariants.{Less, Equal, Greater}
 use Rattle.std.proofs.lemmas.Cmp.{nat_list_cmp_total, tied_itself, on_total, then_total}
-use Rattle.hwdb_spec.specs.Tree.{Tree, Value, values_under, IsTree, Assigned, place_cmp, map_of, assigned_at, shown, key_of, one_assignment, assignment_shown, assignment_of, members_under, answers}
+use Rattle.hwdb_spec.specs.Tree.{Tree, Value, values_under, IsTree, place_cmp, map_of, entry_of, assigned_at, key_of, assignment_of, members_under, answers}
 use Rattle.hwdb_spec.specs.Patterns.{tokens}
 use Rattle.hwdb_pattern.specs.Laws.{MatchesIsTested}
 use Rattle.hwdb_spec.specs.Assignment.{put, put_all, Ascends, Assignment, position_cmp, assignment_cmp}
 use Rattle.hwdb_spec.specs.Answers.{is_wanted}
-use Rattle.hwdb_query.specs.Laws.{Among, assigned_of, AreAnswers}
+use Rattle.hwdb_query.specs.Laws.{Among, AreAnswers}
 use Rattle.hwdb_query.proofs.Putting.{ascends_all}
 use Rattle.hwdb_query.proofs.Orders.{assignment_total}
 use Rattle.hwdb_query.proofs.Distinct.{Apart, Distinct, under_distinct}
@@ -110,11 +110,11 @@ key_is (c ∷ rest) key h =
 -- a place that an entry has is no other entry's
 place_free : (pattern key : List ℕ) (v : Value) (ps : List (List ℕ × Value)) → Apart (pattern, v) ps → key_of v.key ≡ Some key → (f : Assignment) → Among f (flat_map assignment_of ps)
     → pattern ≡ f.position.pattern → key ≡ f.position.key → ⊥
-unfolding Among assignment_shown
+unfolding Among
 place_free pattern key v [] apart h f m pe ke = m
 place_free pattern key v (q ∷ ps) apart h f m pe ke =
     let again : Among f (flat_map assignment_of ps) → ⊥ = λ k. place_free pattern key v ps apart.1 h f k pe ke in
-    elim (key_of q.1.key) as (λ o. key_of q.1.key ≡ o → Among f (one_assignment q.0 (shown q.1) o ++ flat_map assignment_of ps) → ⊥) [
+    elim (key_of q.1.key) as (λ o. key_of q.1.key ≡ o → Among f (assigned_at q.0 q.1 o ++ flat_map assignment_of ps) → ⊥) [
       | None ↦ λ e k. again k
       | Some other ↦ λ e k. elim k [
         | inl is ↦ apart.0 (pe ∙ sym (ap (λ (x : Assignment). x.position.pattern) is))
@@ -139,23 +139,23 @@ same_text xs ys e = finite.slice_cmp-IsAntisymmetric finite.nat_cmp-IsAntisymmet
 pub place_total : IsTotalOrder place_cmp
 place_total = then_total (on_total (λ (p : List ℕ × List ℕ). p.0) nat_list_cmp_total) (on_total (λ (p : List ℕ × List ℕ). p.1) nat_list_cmp_total)
 
-entries_of : List (List ℕ × Value) → List ((List ℕ × List ℕ) × Assigned)
-entries_of ps = flat_map (λ p. assigned_at p.0 p.1 (key_of p.1.key)) ps
+entries_of : List (List ℕ × Value) → List ((List ℕ × List ℕ) × Assignment)
+entries_of ps = map entry_of (flat_map assignment_of ps)
 
-find_sound : (f : Assignment) (ps : List (List ℕ × Value)) → Distinct ps → Among f (flat_map assignment_of ps) → finite.find place_cmp (f.position.pattern, f.position.key) (entries_of ps) ≡ Some (assigned_of f)
-unfolding Among assignment_shown Distinct entries_of
+find_sound : (f : Assignment) (ps : List (List ℕ × Value)) → Distinct ps → Among f (flat_map assignment_of ps) → finite.find place_cmp (f.position.pattern, f.position.key) (entries_of ps) ≡ Some f
+unfolding Among Distinct entries_of
 find_sound f [] d m = absurd m
 find_sound f (p ∷ ps) d m =
-    let again : Among f (flat_map assignment_of ps) → finite.find place_cmp (f.position.pattern, f.position.key) (entries_of ps) ≡ Some (assigned_of f) = find_sound f ps d.1 in
-    elim (key_of p.1.key) as (λ o. key_of p.1.key ≡ o → Among f (one_assignment p.0 (shown p.1) o ++ flat_map assignment_of ps)
-    → finite.find place_cmp (f.position.pattern, f.position.key) (assigned_at p.0 p.1 o ++ entries_of ps) ≡ Some (assigned_of f)) [
+    let again : Among f (flat_map assignment_of ps) → finite.find place_cmp (f.position.pattern, f.position.key) (entries_of ps) ≡ Some f = find_sound f ps d.1 in
+    elim (key_of p.1.key) as (λ o. key_of p.1.key ≡ o → Among f (assigned_at p.0 p.1 o ++ flat_map assignment_of ps)
+    → finite.find place_cmp (f.position.pattern, f.position.key) (map entry_of (assigned_at p.0 p.1 o ++ flat_map assignment_of ps)) ≡ Some f) [
       | None ↦ λ e k. again k
       | Some key ↦ λ e k. elim k [
-        | inl is ↦ subst (λ (g : Assignment). finite.find place_cmp (g.position.pattern, g.position.key) (assigned_at p.0 p.1 (Some key) ++ entries_of ps) ≡ Some (assigned_of g)) is
-            (let a : Assigned = record { priority = p.1.priority; line = p.1.line; value = p.1.value; path = p.1.path } in
+        | inl is ↦ subst (λ (g : Assignment). finite.find place_cmp (g.position.pattern, g.position.key) (map entry_of (assigned_at p.0 p.1 (Some key) ++ flat_map assignment_of ps)) ≡ Some g) is
+            (let a : Assignment = record { position = record { priority = p.1.priority; line = p.1.line; pattern = p.0; key = key }; value = p.1.value; path = p.1.path } in
             ap (λ o. cond (is_eq o) (Some a) (finite.find place_cmp (p.0, key) (entries_of ps))) (tied_itself place_total (p.0, key)))
         | inr r ↦ elim (place_cmp (f.position.pattern, f.position.key) (p.0, key)) as (λ o. place_cmp (f.position.pattern, f.position.key) (p.0, key) ≡ o
-            → cond (is_eq o) (Some (record { priority = p.1.priority; line = p.1.line; value = p.1.value; path = p.1.path })) (finite.find place_cmp (f.position.pattern, f.position.key) (entries_of ps)) ≡ Some (assigned_of f)) [
+            → cond (is_eq o) (Some (record { position = record { priority = p.1.priority; line = p.1.line; pattern = p.0; key = key }; value = p.1.value; path = p.1.path })) (finite.find place_cmp (f.position.pattern, f.position.key) (entries_of ps)) ≡ Some f) [
               | Less ↦ λ t. again r
               | Equal ↦ λ t.
                   let b = then_equal (slice_cmp nat_cmp f.position.pattern p.0) (slice_cmp nat_cmp f.position.key key) t in
@@ -165,24 +165,21 @@ find_sound f (p ∷ ps) d m =
       ]
     ] refl m
 
-find_complete : (f : Assignment) (ps : List (List ℕ × Value)) → finite.find place_cmp (f.position.pattern, f.position.key) (entries_of ps) ≡ Some (assigned_of f) → Among f (flat_map assignment_of ps)
-unfolding Among assignment_shown entries_of
+find_complete : (f : Assignment) (ps : List (List ℕ × Value)) → finite.find place_cmp (f.position.pattern, f.position.key) (entries_of ps) ≡ Some f → Among f (flat_map assignment_of ps)
+unfolding Among entries_of
 find_complete f [] h = absurd (cc)
 find_complete f (p ∷ ps) h =
-    let again : finite.find place_cmp (f.position.pattern, f.position.key) (entries_of ps) ≡ Some (assigned_of f) → Among f (flat_map assignment_of ps) = find_complete f ps in
-    elim (key_of p.1.key) as (λ o. finite.find place_cmp (f.position.pattern, f.position.key) (assigned_at p.0 p.1 o ++ entries_of ps) ≡ Some (assigned_of f)
-    → Among f (one_assignment p.0 (shown p.1) o ++ flat_map assignment_of ps)) [
+    let again : finite.find place_cmp (f.position.pattern, f.position.key) (entries_of ps) ≡ Some f → Among f (flat_map assignment_of ps) = find_complete f ps in
+    elim (key_of p.1.key) as (λ o. finite.find place_cmp (f.position.pattern, f.position.key) (map entry_of (assigned_at p.0 p.1 o ++ flat_map assignment_of ps)) ≡ Some f
+    → Among f (assigned_at p.0 p.1 o ++ flat_map assignment_of ps)) [
       | None ↦ λ k. again k
       | Some key ↦ λ k. elim (place_cmp (f.position.pattern, f.position.key) (p.0, key)) as (λ o. place_cmp (f.position.pattern, f.position.key) (p.0, key) ≡ o
-          → cond (is_eq o) (Some (record { priority = p.1.priority; line = p.1.line; value = p.1.value; path = p.1.path })) (finite.find place_cmp (f.position.pattern, f.position.key) (entries_of ps)) ≡ Some (assigned_of f)
-          → Among f (one_assignment p.0 (shown p.1) (Some key) ++ flat_map assignment_of ps)) [
+          → cond (is_eq o) (Some (record { position = record { priority = p.1.priority; line = p.1.line; pattern = p.0; key = key }; value = p.1.value; path = p.1.path })) (finite.find place_cmp (f.position.pattern, f.position.key) (entries_of ps)) ≡ Some f
+          → Among f (assigned_at p.0 p.1 (Some key) ++ flat_map assignment_of ps)) [
             | Less ↦ λ t q. inr (again q)
             | Equal ↦ λ t q. inl (
-                let b = then_equal (slice_cmp nat_cmp f.position.pattern p.0) (slice_cmp nat_cmp f.position.key key) t in
-                let pe : p.0 ≡ f.position.pattern = sym (same_text f.position.pattern p.0 b.0) in
-                let ke : key ≡ f.position.key = sym (same_text f.position.key key b.1) in
-                let v : record { priority = p.1.priority; line = p.1.line; value = p.1.value; path = p.1.path } ≡ assigned_of f = cc in
-                λ i. record { position = record { priority = (v i).priority; line = (v i).line; pattern = pe i; key = ke i }; value = (v i).value; path = (v i).path })
+                let v : record { position = record { priority = p.1.priority; line = p.1.line; pattern = p.0; key = key }; value = p.1.value; path = p.1.path } ≡ f = cc in
+                v)
             | Greater ↦ λ t q. inr (again q)
           ] refl k
     ] h
@@ -195,14 +192,14 @@ members_single ps d x y mx my h =
     let c = then_equal (slice_cmp nat_cmp x.position.pattern y.position.pattern) (slice_cmp nat_cmp x.position.key y.position.key) b.1 in
     let pe : x.position.pattern ≡ y.position.pattern = same_text x.position.pattern y.position.pattern c.0 in
     let ke : x.position.key ≡ y.position.key = same_text x.position.key y.position.key c.1 in
-    let s : Some (assigned_of x) ≡ Some (assigned_of y) =
+    let s : Some x ≡ Some y =
     sym (find_sound x ps d mx) ∙ ap (λ p. finite.find place_cmp (p, x.position.key) (entries_of ps)) pe ∙ ap (λ k. finite.find place_cmp (y.position.pattern, k) (entries_of ps)) ke ∙ find_sound y ps d my in
-    let v : assigned_of x ≡ assigned_of y = cc in
-    λ i. record { position = record { priority = (v i).priority; line = (v i).line; pattern = pe i; key = ke i }; value = (v i).value; path = (v i).path }
+    let v : x ≡ y = cc in
+    v
 
 map_is : (t : Tree) (f : Assignment) → finite.get (map_of t) (f.position.pattern, f.position.key) ≡ finite.find place_cmp (f.position.pattern, f.position.key) (entries_of (values_under [] t))
 unfolding map_of entries_of
-map_is t f = finite.get-from_entries place_total (flat_map (λ p. assigned_at p.0 p.1 (key_of p.1.key)) (values_under [] t)) (f.position.pattern, f.position.key)
+map_is t f = finite.get-from_entries place_total (map entry_of (members_under [] t)) (f.position.pattern, f.position.key)
 
 pub none_ascends : let none : List Assignment = [] in Ascends assignment_cmp none
 unfolding Ascends

@@ -4,17 +4,25 @@ use Rattle.std.specs.Prelude.{flat_map}
 use Rattle.std.proofs.lemmas.Grind.{flat_map-append}
 use Rattle.std.proofs.lemmas.List.{append-nil}
 use Rattle.std.proofs.lemmas.List.Elements.{filter-append}
-use Rattle.hwdb_spec.specs.Tree.{Tree, Children, Value, prefix_of, values_of, children_of, list_of, node_count, nodes_below, values_under, values_below, Shown, shown, one_assignment, assignment_shown, assignment_of, members_under, is_live, live_under, live_below}
+use Rattle.hwdb_spec.specs.Tree.{Tree, Children, Value, prefix_of, values_under, values_below, key_of, assigned_at, assignment_of, members_under, is_live, live_under, live_below, values_of}
+use Rattle.hwdb_query.specs.Internal.Members.{one_assignment, assignment_shown, members_in, own_members}
+use Rattle.hwdb_reader.specs.Views.{children_of, list_of, node_count, nodes_below, Shown, shown}
 use Rattle.hwdb_spec.specs.Tree.Tree.{Node}
 use Rattle.hwdb_spec.specs.Tree.Children.{NoMore, Child}
-use Rattle.hwdb_query.specs.Internal.Members.{members_in, own_members}
 use Rattle.hwdb_spec.specs.Answers.{is_wanted, is_match}
 use Rattle.hwdb_query.specs.Internal.Live.{live_in, nodes_in}
 use Rattle.hwdb_query.proofs.Putting.{filter_in, filter_out}
 
+-- what a value assigns, and what it is shown to assign
+at_once : (pattern : List ℕ) (v : Value) (o : Option (List ℕ)) → assigned_at pattern v o ≡ one_assignment pattern (shown v) o
+at_once pattern v None = refl
+at_once pattern v (Some key) = refl
+
 pub own_listed : (pattern : List ℕ) (values : List Value) → flat_map assignment_of (map (λ v. (pattern, v)) values) ≡ own_members pattern values
+unfolding assignment_shown
 own_listed pattern [] = refl
-own_listed pattern (v ∷ values) = ap (λ r. assignment_shown pattern (shown v) ++ r) (own_listed pattern values)
+own_listed pattern (v ∷ values) =
+    ap (λ r. r ++ flat_map assignment_of (map (λ w. (pattern, w)) values)) (at_once pattern v (key_of v.key)) ∙ ap (λ r. assignment_shown pattern (shown v) ++ r) (own_listed pattern values)
 
 pub below_listed : (path : List ℕ) (ks : Children) → flat_map assignment_of (values_below path ks) ≡ members_in path (list_of ks)
 unfolding values_below list_of

@@ -3,11 +3,12 @@ use Rattle.std.proofs.Common.{◌≡◌, ◌∙◌, ap, sym, refl, subst, ℕ, z
 use Rattle.std.proofs.lemmas.List.{take_rest}
 use Rattle.hwdb_spec.specs.Patterns.{tokens, Matches}
 use Rattle.hwdb_pattern.specs.Laws.{MatchesIsTested, LiveIsTested}
-use Rattle.hwdb_spec.specs.Tree.{IsLive, Shown, one_assignment, assignment_shown, is_live}
+use Rattle.hwdb_spec.specs.Tree.{IsLive, is_live}
+use Rattle.hwdb_query.specs.Internal.Members.{one_assignment, assignment_shown, wanted}
+use Rattle.hwdb_reader.specs.Views.{Shown}
 use Rattle.hwdb_pattern.specs.Views.{StandsFor, Reached}
 use Rattle.hwdb_spec.specs.Assignment.{Position, Assignment, assignment_cmp, put}
 use Rattle.hwdb_spec.specs.Answers.{is_after, is_behind, is_wanted, is_match}
-use Rattle.hwdb_query.specs.Internal.Members.{wanted}
 use Rattle.hwdb_query.specs.Internal.Lists.{keep_all}
 use Rattle.hwdb_query.proofs.Putting.{filter_in, filter_out}
 

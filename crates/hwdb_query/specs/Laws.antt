@@ -3,7 +3,7 @@ use Rattle.std.specs.Prelude.{List, [], ◌∷◌, ◌≡◌, ◌⊎◌, Some, �
 use Rattle.std.specs.Int.{div_ceil}
 use Rattle.hex.specs.Hex.{IsBytes}
 use Rattle.hwdb_spec.specs.Assignment.{Assignment, Ascends, assignment_cmp, Position}
-use Rattle.hwdb_spec.specs.Tree.{Assigned, Tree, map_of, answers_after, map_of_files, answers}
+use Rattle.hwdb_spec.specs.Tree.{Tree, map_of, answers_after, map_of_files, answers}
 use Rattle.hwdb_spec.specs.Patterns.{Matches, tokens}
 use Rattle.hwdb_spec.specs.Format.{IsDatabase}
 use Rattle.hwdb_spec.specs.Folders.{Source, all_assignments}
@@ -17,12 +17,9 @@ unfoldable pub Among : Assignment → List Assignment → Type 0
 Among f [] = ⊥
 Among f (x ∷ xs) = (x ≡ f) ⊎ Among f xs
 
--- what the map has at its pattern and key
-abbrev pub assigned_of : Assignment → Assigned
-assigned_of f = record { priority = f.position.priority; line = f.position.line; value = f.value; path = f.path }
-
+-- the map of the tree has it at its pattern and key
 abbrev pub IsAssigned : Tree → Assignment → Type 0
-IsAssigned t f = finite.get (map_of t) (f.position.pattern, f.position.key) ≡ Some (assigned_of f)
+IsAssigned t f = finite.get (map_of t) (f.position.pattern, f.position.key) ≡ Some f
 
 -- a strictly ascending list of those members of the map whose pattern matches
 pub record AreAnswers (device : List ℕ) (t : Tree) (list : List Assignment) : Type 0 where

@@ -4,8 +4,10 @@
 ghost use Rattle.std.specs.Prelude.{◌≡◌, ◌<◌, ◌≤◌, ◌+◌, ◌++◌, ◌^◌, ℕ, List, [], length, take, filter, IfOk, OnOk};
 ghost use Rattle.hwdb_pattern.specs.Laws.{MatchesIsTested, LiveIsTested, DeadStaysDead, DeadMatchesNothing};
 ghost use Rattle.hwdb_pattern.specs.Views.{StandsFor};
-ghost use Rattle.hwdb_spec.specs.Tree.{node_count, values_of, members_under, live_under, live_nodes};
-ghost use Rattle.hwdb_reader.specs.Views.{tree_of, entered_tree, db_tree};
+ghost use Rattle.hwdb_spec.specs.Tree.{members_under, live_under, live_nodes};
+ghost use Rattle.hwdb_reader.specs.Views.{node_count};
+ghost use Rattle.hwdb_spec.specs.Tree.{values_of};
+ghost use Rattle.hwdb_reader.specs.Views.{tree_of, entered_tree};
 ghost use Rattle.hwdb_spec.specs.Answers.{is_wanted};
 ghost use Rattle.hwdb_query.specs.Internal.Members.{own_members};
 ghost use Rattle.hwdb_query.specs.Internal.Collected.{Collects};
@@ -14,7 +16,7 @@ use crate::collector::Collector;
 use hwdb_pattern::{
     Reach, dead_matches_nothing, dead_stays_dead, live_is_tested, matches_is_tested,
 };
-use hwdb_reader::{Db, Entered, Inside, Node};
+use hwdb_reader::{Entered, Inside, Node};
 use std::alloc::{AllocError, Global};
 
 /// What is known of patterns and paths, for the proofs of the descent.
@@ -94,20 +96,21 @@ fn visit<'a>(
     Ok(())
 }
 
-/// Collects what the database assigns to the device, and gives how many nodes were entered.
+/// Collects what the tree below the root assigns to the device, and gives how many nodes were entered.
 pub(crate) fn descend<'a>(
     alloc: Global,
-    db: &Db<'a>,
+    root: Node<'a>,
     device: &[u8],
     into: &mut Collector<'a, '_>,
 ) -> Result<u64, AllocError>
     ensures collected { OnOk result (Collects into.old
-        (filter (is_wanted device.now) (members_under [] (db_tree db.now))) into.new) }
-    ensures entered { IfOk result (λ count. count ≡ live_nodes device.now (db_tree db.now)) }
+        (filter (is_wanted device.now) (members_under [] (tree_of root.entry))) into.new) }
+    ensures entered { IfOk result (λ count. count ≡ live_nodes device.now (tree_of root.entry)) }
 {
+    root.law_tree();
     let mut path = Vec::new(alloc);
     let mut entered = Entered::new();
     let start = Reach::start(alloc, device)?;
-    visit(alloc, db.root(), &start, 0, &mut path, into, &mut entered)?;
+    visit(alloc, root, &start, 0, &mut path, into, &mut entered)?;
     Ok(entered.count())
 }

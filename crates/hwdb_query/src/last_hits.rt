@@ -1,6 +1,7 @@
 //! The last hit of each key.
 ghost use Rattle.std.specs.Prelude.{◌≡◌, List, [], IfOk, OnOk};
-ghost use Rattle.hwdb_spec.specs.Tree.{values_of, assignment_shown};
+ghost use Rattle.hwdb_query.specs.Internal.Members.{assignment_shown};
+ghost use Rattle.hwdb_spec.specs.Tree.{values_of};
 ghost use Rattle.hwdb_reader.specs.Views.{entered_tree, entry_shows};
 ghost use Rattle.hwdb_spec.specs.Assignment.{Assignment};
 ghost use Rattle.hwdb_spec.specs.Answers.{is_after, effective_of};

@@ -3,7 +3,6 @@ ghost use Rattle.std.specs.Prelude.{◌≡◌, ℕ, List};
 ghost use Rattle.hwdb_spec.specs.Format.{IsDatabase};
 ghost use Rattle.hwdb_spec.specs.Tree.{Map, map_of, Tree, answers};
 ghost use Rattle.hwdb_spec.specs.Written.{IsDatabaseOf};
-ghost use Rattle.hwdb_reader.specs.Views.{db_tree};
 ghost use Rattle.hwdb_query.specs.Laws.{AreAnswers, FillingsOfARun, AllCompiledAnswersAreLast, CompiledAnswersAreLast, SpellsOne, CanonicalSpells};
 ghost use Rattle.hwdb_query.specs.Rows.{EffectiveRow, LastRows};
 
@@ -13,7 +12,7 @@ use hwdb_reader::{Db, law_ascending, law_one_tree};
 /// The answers are, in order, those members of the database's map whose pattern matches the device.
 pub fn answers_are_the_maps(db: &Db<'_>)
     ensures { (device : List ℕ)
-        → AreAnswers device (db_tree db.now) (answers device (db_tree db.now)) }
+        → AreAnswers device db.now (answers device db.now) }
 {
     matches_is_tested();
     let _root = db.root();

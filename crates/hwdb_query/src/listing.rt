@@ -1,6 +1,5 @@
 //! The effective list: for each key the value that counts.
 ghost use Rattle.std.specs.Prelude.{◌≡◌, List, [], IfOk, OnOk, None};
-ghost use Rattle.hwdb_reader.specs.Views.{db_tree};
 ghost use Rattle.hwdb_spec.specs.Tree.{answers, IsTreeOfFiles};
 ghost use Rattle.hwdb_spec.specs.Folders.{Source, all_assignments};
 ghost use Rattle.hwdb_spec.specs.Answers.{last_assignments, effective_of};
@@ -26,15 +25,15 @@ pub fn effective<'a>(
     device: &[u8],
 ) -> Result<Vec<(&'a [u8], &'a [u8])>, AllocError>
     ensures list { IfOk result
-        (λ list. pairs_bytes list.items ≡ effective_of (answers device.now (db_tree db.now))) }
+        (λ list. pairs_bytes list.items ≡ effective_of (answers device.now db.now)) }
     ensures headline { IfOk result
-        (λ list. (etc usr : List Source) → IsTreeOfFiles etc usr (db_tree db.now)
+        (λ list. (etc usr : List Source) → IsTreeOfFiles etc usr db.now
         → pairs_bytes list.items
         ≡ effective_of (last_assignments device.now None (all_assignments etc usr))) }
 {
     matches_is_tested();
-    let _root = db.root();
+    let root = db.root();
     let mut collector = Collector::Last(LastHits::new(alloc));
-    descend(alloc, db, device, &mut collector)?;
+    descend(alloc, root, device, &mut collector)?;
     collector.into_last().pairs(alloc)
 }

@@ -2,7 +2,8 @@
 //!
 //! A value that isn't kept takes no memory.
 ghost use Rattle.std.specs.Prelude.{◌≡◌, ◌<◌, List, [], ◌∷◌, length, take, drop, OnOk, true};
-ghost use Rattle.hwdb_spec.specs.Tree.{values_of, assignment_shown};
+ghost use Rattle.hwdb_query.specs.Internal.Members.{assignment_shown};
+ghost use Rattle.hwdb_spec.specs.Tree.{values_of};
 ghost use Rattle.hwdb_reader.specs.Views.{entered_tree, entry_shows};
 ghost use Rattle.hwdb_spec.specs.Assignment.{Assignment};
 ghost use Rattle.hwdb_spec.specs.Answers.{is_after};

@@ -1,6 +1,6 @@
 //! A cursor over the answers of a database for a device.
 ghost use Rattle.std.specs.Prelude.{◌≡◌, ◌<◌, ◌≤◌, ◌+◌, ◌⊎◌, ◌↔◌, ℕ, List, [], ◌∷◌, length, reverse, min, IfOk, IfSome, IsSome, IsOk, OnOk, OnErr, OnSome, IfErr, Option, Some, None, true, false, option_map, option_copied};
-ghost use Rattle.hwdb_reader.specs.Views.{db_tree};
+ghost use Rattle.hwdb_reader.specs.Views.{tree_of};
 ghost use Rattle.hwdb_spec.specs.Tree.{answers_after, live_nodes};
 ghost use Rattle.hwdb_query.specs.Views.{after_next, assignment_of_hit, position_value, next_position, given_position, still_to_come, Progress, Gives};
 
@@ -8,7 +8,7 @@ use crate::filling::{Filled, fill};
 use crate::held::Held;
 use crate::hit::{Hit, Parts};
 use crate::position::Position;
-use hwdb_reader::Db;
+use hwdb_reader::Node;
 use std::alloc::{AllocError, Global};
 use std::marker::Model;
 
@@ -19,7 +19,7 @@ use std::marker::Model;
 #[derive(Drop)]
 pub struct Cursor<'a, 'd> {
     alloc: Global,
-    db: Db<'a>,
+    root: Node<'a>,
     device: &'d [u8],
     after: Option<Position>,
     held: Held<'a>,
@@ -32,12 +32,12 @@ impl<'a, 'd> Model for Cursor<'a, 'd> {
 
     ghost view = { λ c. record {
       to_come = still_to_come c.device.now (next_position c.after)
-          (db_tree c.db) c.ended c.held.hits;
+          (tree_of c.root) c.ended c.held.hits;
       held = length c.held.hits;
       page = c.held.most;
       ended = c.ended;
       entered = c.entered;
-      live = live_nodes c.device.now (db_tree c.db);
+      live = live_nodes c.device.now (tree_of c.root);
     } };
 
     ghost invariant = { λ c. 0 < c.held.most };
@@ -47,24 +47,24 @@ impl<'a, 'd> Cursor<'a, 'd> {
     /// A cursor that holds nothing yet.
     pub(crate) fn start(
         alloc: Global,
-        db: Db<'a>,
+        root: Node<'a>,
         device: &'d [u8],
         after: Option<Position>,
         page: usize,
     ) -> Cursor<'a, 'd>
         requires { 0 < page }
         ensures { result ≡ record {
-          to_come = answers_after device.entry.now (next_position after) (db_tree db.entry);
+          to_come = answers_after device.entry.now (next_position after) (tree_of root.entry);
           held = 0;
           page = page;
           ended = false;
           entered = 0;
-          live = live_nodes device.entry.now (db_tree db.entry);
+          live = live_nodes device.entry.now (tree_of root.entry);
         } }
     {
         Cursor {
             alloc,
-            db,
+            root,
             device,
             after,
             held: Held::new(alloc, page),
@@ -130,7 +130,7 @@ impl<'a, 'd> Cursor<'a, 'd> {
         };
         let Filled { last, entered } = fill(
             self.alloc,
-            &self.db,
+            self.root,
             self.device,
             after,
             &mut self.held,

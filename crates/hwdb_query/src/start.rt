@@ -1,6 +1,5 @@
 //! The start of a cursor.
 ghost use Rattle.std.specs.Prelude.{◌≡◌, ◌≢◌, ◌<◌, List, IfOk, IfErr, false};
-ghost use Rattle.hwdb_reader.specs.Views.{db_tree};
 ghost use Rattle.hwdb_spec.specs.Tree.{answers_after, IsTreeOfFiles, live_nodes};
 ghost use Rattle.hwdb_spec.specs.Folders.{Source, all_assignments};
 ghost use Rattle.hwdb_spec.specs.Answers.{last_assignments};
@@ -30,15 +29,15 @@ pub fn cursor<'a, 'd>(
     page: usize,
 ) -> Result<Cursor<'a, 'd>, QueryError>
     ensures begins { IfOk result (λ c. c ≡ record {
-      to_come = answers_after device.now (given_position after.entry) (db_tree db.now);
+      to_come = answers_after device.now (given_position after.entry) db.now;
       held = 0;
       page = page;
       ended = false;
       entered = 0;
-      live = live_nodes device.now (db_tree db.now);
+      live = live_nodes device.now db.now;
     }) }
     ensures headline { IfOk result
-        (λ c. (etc usr : List Source) → IsTreeOfFiles etc usr (db_tree db.now)
+        (λ c. (etc usr : List Source) → IsTreeOfFiles etc usr db.now
         → c.to_come ≡ last_assignments device.now (given_position after.entry)
         (all_assignments etc usr)) }
     ensures some { IfOk result (λ _. 0 < page) }
@@ -50,10 +49,10 @@ pub fn cursor<'a, 'd>(
         return Err(QueryError::PageZero);
     }
     matches_is_tested();
-    let _root = db.root();
+    let root = db.root();
     let after = match after {
         None => None,
         Some(position) => Some(position.copy(alloc)?),
     };
-    Ok(Cursor::start(alloc, *db, device, after, page))
+    Ok(Cursor::start(alloc, root, device, after, page))
 }

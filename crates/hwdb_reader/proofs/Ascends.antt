@@ -6,7 +6,7 @@ use Rattle.hwdb_spec.specs.declared.Layout.{Layout}
 use Rattle.hwdb_spec.specs.Tree.{Value, Tree, Children, IsAbove, KeysAscend, IsTree, BytesAscend}
 use Rattle.hwdb_spec.specs.Tree.Tree.{Node}
 use Rattle.hwdb_spec.specs.Tree.Children.{NoMore, Child}
-use Rattle.hwdb_spec.specs.Format.{NodeText, ChildrenText, ValuesText, child_entry, child_field, value_entries, record_end, layout_of, IsDatabase, max_levels}
+use Rattle.hwdb_spec.specs.Format.{NodeText, ChildrenText, ValuesText, child_entry, child_off, value_entries, record_end, layout_of, IsDatabase, max_levels}
 
 keys_ascend : (l : Layout) (b : List ℕ) (entry : ℕ) (before : Option (List ℕ)) (vs : List Value) → ValuesText l b entry before vs → KeysAscend before vs
 unfolding ValuesText
@@ -24,7 +24,7 @@ mutual
   pub bytes_ascend : (l : Layout) (b : List ℕ) (levels from entry byte end : ℕ) (ks : Children) → ChildrenText l b levels from entry byte end ks → BytesAscend byte ks
   bytes_ascend l b levels from entry byte end NoMore h = tt
   bytes_ascend l b levels from entry byte end (Child c t more) h =
-      (h.0, ascends l b levels from (child_field b entry) t h.2, bytes_ascend l b levels (record_end l b (child_field b entry)) (entry + l.child_size) c end more h.3)
+      (h.0, ascends l b levels from (child_off b entry) t h.2, bytes_ascend l b levels (record_end l b (child_off b entry)) (entry + l.child_size) c end more h.3)
 
 pub database_ascends : (b : List ℕ) (t : Tree) → IsDatabase b t → IsTree t
 database_ascends b t h = ascends (layout_of b) b max_levels (layout_of b).nodes (layout_of b).root t h.text

@@ -3,7 +3,8 @@ use Rattle.std.proofs.Common.{◌≡◌, ◌<◌, ◌-◌, ℕ, suc, ◌+◌, Li
 use Rattle.std.specs.declared.cmp.Ordering.{Ordering}
 use Rattle.std.specs.declared.cmp.Ordering.TheVariants.{Less, Equal, Greater}
 use Rattle.hwdb_spec.specs.declared.Layout.{Layout}
-use Rattle.hwdb_spec.specs.Format.{ValuesText, values_at, value_at, number_at, text_at, IsValue}
+use Rattle.hwdb_spec.specs.Format.{ValuesText, value_at, number_at, text_at, IsValue}
+use Rattle.hwdb_reader.specs.Internal.Read.{values_at}
 use Rattle.hwdb_spec.specs.Tree.{IsAbove}
 
 module _ (l : Layout) (b : List ℕ) (e : ℕ) (before : Option (List ℕ)) (n i : ℕ) (lt : i < n) where

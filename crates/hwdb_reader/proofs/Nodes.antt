@@ -5,8 +5,10 @@ use Rattle.hwdb_spec.specs.declared.DbFault.{DbFault}
 use Rattle.hwdb_spec.specs.declared.DbFault.TheVariants.{Short, Signature, RecordSizes, Lengths, Strings, Place, Depth, ChildOrder, StringOffset, KeyOrder, Priority}
 use Rattle.hwdb_spec.specs.Tree.{Tree, count}
 use Rattle.hwdb_spec.specs.Tree.Tree.{Node}
-use Rattle.hwdb_spec.specs.Format.{NodeText, ChildrenText, ValuesText, values_at, children_at, tree_at, IsPlace, child_entry, child_count, child_byte, child_field, value_entries, value_count, record_end, prefix_field, Fits, ChildrenFit, Reached, NodeFault, ValuesFault, child_from, Stands, byte_before}
-use Rattle.hwdb_spec.specs.Format.Reached.{Below}
+use Rattle.hwdb_spec.specs.Format.{NodeText, ChildrenText, ValuesText, IsPlace, child_entry, children_count, child_byte, child_off, value_entries, values_count, record_end, prefix_off, Fits, ChildrenFit, Visit, Visited, NodeFault, ValuesFault, child_from, IsVisitFault, byte_before}
+use Rattle.hwdb_reader.specs.Internal.Read.{values_at, children_at, tree_at}
+use Rattle.hwdb_spec.specs.Format.Visited.{Below}
+use Rattle.hwdb_reader.specs.Internal.Placed.{visit}
 use Rattle.hwdb_reader.proofs.Bounds.{begins_before, children_room}
 
 pub length-values_at : (l : Layout) (b : List ℕ) (e n : ℕ) → length (values_at l b e n) ≡ n
@@ -21,9 +23,9 @@ count-children_at read l b e (suc n) = ap suc (count-children_at read l b (e + l
 
 -- a node with its fields and its children
 pub record NodeParts (l : Layout) (b : List ℕ) (levels from off : ℕ) : Type 0 where
-  pub prefix : IsPlace l b (prefix_field b off)
-  pub values : ValuesText l b (value_entries l b off) None (values_at l b (value_entries l b off) (value_count b off))
-  pub children : ChildrenText l b levels from (child_entry l off 0) 0 off (children_at (tree_at l b levels) l b (child_entry l off 0) (child_count b off))
+  pub prefix : IsPlace l b (prefix_off b off)
+  pub values : ValuesText l b (value_entries l b off) None (values_at l b (value_entries l b off) (values_count b off))
+  pub children : ChildrenText l b levels from (child_entry l off 0) 0 off (children_at (tree_at l b levels) l b (child_entry l off 0) (children_count b off))
 
 module _ (l : Layout) (b : List ℕ) (levels from off : ℕ) (some : 0 < levels) where
   pub node_open : NodeText l b levels from off (tree_at l b levels off) → NodeParts l b (levels - 1) from off
@@ -43,8 +45,8 @@ module _ (l : Layout) (b : List ℕ) (levels from off : ℕ) (some : 0 < levels)
 -- a child with those after it
 pub record ChildParts (l : Layout) (b : List ℕ) (levels from e byte end n : ℕ) : Type 0 where
   pub above : byte < child_byte b e
-  pub child : NodeText l b levels from (child_field b e) (tree_at l b levels (child_field b e))
-  pub more : ChildrenText l b levels (record_end l b (child_field b e)) (e + l.child_size) (child_byte b e) end (children_at (tree_at l b levels) l b (e + l.child_size) n)
+  pub child : NodeText l b levels from (child_off b e) (tree_at l b levels (child_off b e))
+  pub more : ChildrenText l b levels (record_end l b (child_off b e)) (e + l.child_size) (child_byte b e) end (children_at (tree_at l b levels) l b (e + l.child_size) n)
 
 module _ (l : Layout) (b : List ℕ) (levels from e byte end n i : ℕ) (lt : i < n) where
   pub child_open : ChildrenText l b levels from e byte end (children_at (tree_at l b levels) l b e (n - i)) → ChildParts l b levels from e byte end (n - (i + 1))
@@ -61,40 +63,39 @@ module _ (l : Layout) (b : List ℕ) (levels from e byte end n i : ℕ) (lt : i 
       subst (λ m. ChildrenText l b levels from e byte end (children_at (tree_at l b levels) l b e m)) (sym k) (p.above, refl, p.child, p.more)
 
 -- a child of a node fits
-pub child_fits : (l : Layout) (b : List ℕ) (big : 24 ≤ l.node_size) (levels from e byte end n : ℕ) → ChildParts l b levels from e byte end n → Fits l b from (child_field b e) end
+pub child_fits : (l : Layout) (b : List ℕ) (big : 24 ≤ l.node_size) (levels from e byte end n : ℕ) → ChildParts l b levels from e byte end n → Fits l b (visit levels from (child_off b e) end)
 child_fits l b big levels from e byte end n p =
-    let first = begins_before l b big levels from (child_field b e) (tree_at l b levels (child_field b e)) p.child in
-    let after = children_room l b big levels (record_end l b (child_field b e)) (e + l.child_size) (child_byte b e) end (children_at (tree_at l b levels) l b (e + l.child_size) n) p.more in
-    record { above = omega arith; below = omega arith }
+    let first = begins_before l b big levels from (child_off b e) (tree_at l b levels (child_off b e)) p.child in
+    let after = children_room l b big levels (record_end l b (child_off b e)) (e + l.child_size) (child_byte b e) end (children_at (tree_at l b levels) l b (e + l.child_size) n) p.more in
+    (omega arith, omega arith)
 
-pub child_reached : (l : Layout) (b : List ℕ) (levels from off limit i : ℕ) → 0 < levels → Reached l b levels from off limit → Fits l b from off limit → i < child_count b off → ChildrenFit l b from off i → Reached l b (levels - 1) (child_from l b from off i) (child_field b (child_entry l off i)) off
-child_reached l b levels from off limit i some r f lt fits =
-    let k : levels ≡ suc (levels - 1) = omega arith in
-    Below i (subst (λ m. Reached l b m from off limit) k r) f lt fits
+-- the child of a visited node that fits is visited, where all before it fit
+pub child_visited : (l : Layout) (b : List ℕ) (v : Visit) (i : ℕ) → 0 < v.levels → Visited l b v → Fits l b v → i < children_count b v.off → ChildrenFit l b v i → Visited l b (visit (v.levels - 1) (child_from l b v.from v.off i) (child_off b (child_entry l v.off i)) v.off)
+child_visited l b v i some r f lt fits = Below i r some f lt fits
 
 -- a fault of a node's values is one of the node
-pub values_fault : (l : Layout) (b : List ℕ) (levels from off : ℕ) (e : DbFault) → ValuesFault l b (value_entries l b off) (value_count b off) e → NodeFault l b levels from off e
-values_fault l b levels from off Short h = h
-values_fault l b levels from off Signature h = h
-values_fault l b levels from off RecordSizes h = h
-values_fault l b levels from off Lengths h = h
-values_fault l b levels from off Strings h = h
-values_fault l b levels from off (Place at) h = absurd h.2
-values_fault l b levels from off (Depth at) h = absurd h.2
-values_fault l b levels from off (ChildOrder at) h = absurd h.2
-values_fault l b levels from off (StringOffset at) h = inr h
-values_fault l b levels from off (KeyOrder at) h = h
-values_fault l b levels from off (Priority at) h = h
+pub values_fault : (l : Layout) (b : List ℕ) (v : Visit) (e : DbFault) → ValuesFault l b (value_entries l b v.off) (values_count b v.off) e → NodeFault l b v e
+values_fault l b v Short h = h
+values_fault l b v Signature h = h
+values_fault l b v RecordSizes h = h
+values_fault l b v Lengths h = h
+values_fault l b v Strings h = h
+values_fault l b v (Place at) h = absurd h.2
+values_fault l b v (Depth at) h = absurd h.2
+values_fault l b v (ChildOrder at) h = absurd h.2
+values_fault l b v (StringOffset at) h = inr h
+values_fault l b v (KeyOrder at) h = h
+values_fault l b v (Priority at) h = h
 
--- a fault of a reached node that fits stands
-pub fault_stands : (l : Layout) (b : List ℕ) (levels from off limit : ℕ) (e : DbFault) → Reached l b levels from off limit → Fits l b from off limit → NodeFault l b levels from off e → Stands l b e
-unfolding Stands
-fault_stands l b levels from off limit e r f h = (levels, from, off, limit, r, inl (f, h))
+-- a fault of a visited node that fits is one of the database
+pub fault_stands : (l : Layout) (b : List ℕ) (v : Visit) (e : DbFault) → Visited l b v → Fits l b v → NodeFault l b v e → IsVisitFault l b e
+unfolding IsVisitFault
+fault_stands l b v e r f h = (v, r, inl (f, h))
 
--- so does the place of one that doesn't fit
-pub place_stands : (l : Layout) (b : List ℕ) (levels from off limit : ℕ) → Reached l b levels from off limit → ¬ Fits l b from off limit → Stands l b (Place off)
-unfolding Stands
-place_stands l b levels from off limit r f = (levels, from, off, limit, r, inr (f, refl))
+-- so is the place of one that doesn't fit
+pub place_stands : (l : Layout) (b : List ℕ) (v : Visit) → Visited l b v → ¬ Fits l b v → IsVisitFault l b (Place v.off)
+unfolding IsVisitFault
+place_stands l b v r f = (v, r, inr (f, refl))
 
 -- behind the last child its text ends
 pub children_done : (l : Layout) (b : List ℕ) (levels from e byte end n i : ℕ) → n ≤ i → ChildrenText l b levels from e byte end (children_at (tree_at l b levels) l b e (n - i)) → from ≡ end
@@ -114,7 +115,7 @@ unfolding NodeText
 no_levels l b zero from off (Node prefix values children) z h = h
 no_levels l b (suc levels) from off (Node prefix values children) z h = absurd (omega arith)
 
-pub child_from_next : (l : Layout) (b : List ℕ) (from off i : ℕ) → child_from l b from off (i + 1) ≡ record_end l b (child_field b (child_entry l off i))
+pub child_from_next : (l : Layout) (b : List ℕ) (from off i : ℕ) → child_from l b from off (i + 1) ≡ record_end l b (child_off b (child_entry l off i))
 unfolding child_from
 child_from_next l b from off i = rw add-one refl
 

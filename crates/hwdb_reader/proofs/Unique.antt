@@ -4,7 +4,8 @@ use Rattle.hwdb_spec.specs.declared.Layout.{Layout}
 use Rattle.hwdb_spec.specs.Tree.{Value, Tree, Children, count}
 use Rattle.hwdb_spec.specs.Tree.Tree.{Node}
 use Rattle.hwdb_spec.specs.Tree.Children.{NoMore, Child}
-use Rattle.hwdb_spec.specs.Format.{NodeText, ChildrenText, ValuesText, tree_at, children_at, values_at, record_end, child_entry, child_field, value_entries}
+use Rattle.hwdb_spec.specs.Format.{NodeText, ChildrenText, ValuesText, record_end, child_entry, child_off, value_entries}
+use Rattle.hwdb_reader.specs.Internal.Read.{tree_at, children_at, values_at}
 
 pub values_are : (l : Layout) (b : List ℕ) (entry : ℕ) (before : Option (List ℕ)) (vs : List Value) → ValuesText l b entry before vs → vs ≡ values_at l b entry (length vs)
 unfolding ValuesText values_at
@@ -28,7 +29,7 @@ mutual
   pub children_are : (l : Layout) (b : List ℕ) (levels from entry byte end : ℕ) (ks : Children) → ChildrenText l b levels from entry byte end ks → ks ≡ children_at (tree_at l b levels) l b entry (count ks)
   children_are l b levels from entry byte end NoMore h = refl
   children_are l b levels from entry byte end (Child c t more) h =
-      let first = tree_is l b levels from (child_field b entry) t h.2 in
-      let rest = children_are l b levels (record_end l b (child_field b entry)) (entry + l.child_size) c end more h.3 in
+      let first = tree_is l b levels from (child_off b entry) t h.2 in
+      let rest = children_are l b levels (record_end l b (child_off b entry)) (entry + l.child_size) c end more h.3 in
       let byte_is = h.1 in
       cc

@@ -1,8 +1,8 @@
 //! Whether bytes are a database.
 ghost use Rattle.std.specs.Prelude.{◌<◌, IfOk, OnErr, IfErr, length};
-ghost use Rattle.hwdb_spec.specs.Tree.{Tree, node_count};
-ghost use Rattle.hwdb_spec.specs.Format.{IsDatabase, FaultStands};
-ghost use Rattle.hwdb_reader.specs.Views.{db_tree};
+ghost use Rattle.hwdb_spec.specs.Tree.{Tree};
+ghost use Rattle.hwdb_reader.specs.Views.{node_count};
+ghost use Rattle.hwdb_spec.specs.Format.{IsDatabase, Applies};
 
 use crate::header::check_header;
 use crate::view::{Db, Node};
@@ -17,12 +17,12 @@ const MAX_LEVELS: usize = 4097;
 /// offset in bytes.
 pub fn check(bytes: &[u8]) -> Result<Db<'_>, DbFault>
     // The view has the tree that the bytes are a database of.
-    ensures accepted { IfOk result (λ db. IsDatabase bytes.now (db_tree db)) }
+    ensures accepted { IfOk result (λ db. IsDatabase bytes.now db) }
     // A counter from 0 can enter each node once.
-    ensures nodes { IfOk result (λ db. node_count (db_tree db) < length bytes.now) }
+    ensures nodes { IfOk result (λ db. node_count db < length bytes.now) }
     // Only bytes that are no database of any tree are refused.
     ensures refused { OnErr result ((t : Tree) → IsDatabase bytes.now t → ⊥) }
-    ensures fault { IfErr result (λ e. FaultStands bytes.now e) }
+    ensures fault { IfErr result (λ e. Applies bytes.now e) }
 {
     let frame = check_header(bytes)?;
     let root = frame.sizes.root;

@@ -1,7 +1,8 @@
 //! Laws of the format: each function holds no code, its contract is a law of the definitions of `hwdb_spec`.
 ghost use Rattle.std.specs.Prelude.{◌≡◌, ◌<◌, ℕ, List, length};
-ghost use Rattle.hwdb_spec.specs.Tree.{Tree, node_count, IsTree};
-ghost use Rattle.hwdb_spec.specs.Format.{IsDatabase, FaultStands};
+ghost use Rattle.hwdb_spec.specs.Tree.{Tree, IsTree};
+ghost use Rattle.hwdb_reader.specs.Views.{node_count};
+ghost use Rattle.hwdb_spec.specs.Format.{IsDatabase, Applies};
 ghost use Rattle.hwdb_spec.specs.declared.DbFault.{DbFault};
 ghost use Rattle.hwdb_spec.specs.Written.{written};
 ghost use Rattle.hwdb_reader.specs.Samples.{empty_tree, empty_bytes, one_tree, one_bytes, two_tree, two_bytes};
@@ -24,7 +25,7 @@ pub fn law_few_nodes()
 /// No fault stands in a database, so that bytes with a fault are a database of no tree.
 pub fn law_faultless()
     ensures { (bytes : List ℕ) (t : Tree) (e : DbFault)
-        → IsDatabase bytes t → FaultStands bytes e → ⊥ }
+        → IsDatabase bytes t → Applies bytes e → ⊥ }
 {}
 
 /// The written form, byte for byte, of the empty tree, of one value and of two.

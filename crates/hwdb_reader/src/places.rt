@@ -1,7 +1,7 @@
 //! Where the entries of a node that was tested stand, and what they show.
 ghost use Rattle.std.specs.Prelude.{◌≡◌, ◌≤◌, ◌<◌, ◌+◌, ◌*◌, ◌^◌, length};
-ghost use Rattle.hwdb_spec.specs.Format.{record_end, child_entry, child_count, value_entries, value_count, value_at, IsValue};
-ghost use Rattle.hwdb_spec.specs.Tree.{shown};
+ghost use Rattle.hwdb_spec.specs.Format.{record_end, child_entry, children_count, value_entries, values_count, value_at, IsValue};
+ghost use Rattle.hwdb_reader.specs.Views.{shown};
 ghost use Rattle.hwdb_reader.specs.Views.{entry_shows};
 
 use crate::fields::{text, u16_at, u32_at, u64_at};
@@ -12,7 +12,7 @@ use crate::view::{Entry, Origin};
 #[tactic(auto, using(crate::proofs::Bounds::entry_room), unfolding(hwdb_spec::specs::Format::record_end))]
 pub fn child_entry_at(b: &[u8], f: Frame, off: usize, i: usize) -> usize
     requires inside { record_end f.sizes b.now off ≤ length b.now }
-    requires below { i < child_count b.now off }
+    requires below { i < children_count b.now off }
     ensures place { result ≡ child_entry f.sizes off i }
     ensures room { result + 16 ≤ length b.now }
     ensures fits { result + 16 < 2 ^ 64 }
@@ -24,7 +24,7 @@ pub fn child_entry_at(b: &[u8], f: Frame, off: usize, i: usize) -> usize
 #[tactic(auto, using(crate::proofs::Bounds::value_entry_room), unfolding(hwdb_spec::specs::Format::record_end))]
 pub fn value_entry_at(b: &[u8], f: Frame, off: usize, i: usize) -> usize
     requires inside { record_end f.sizes b.now off ≤ length b.now }
-    requires below { i < value_count b.now off }
+    requires below { i < values_count b.now off }
     ensures place { result ≡ value_entries f.sizes b.now off + f.sizes.value_size * i }
     ensures room { result + 32 ≤ length b.now }
 {

@@ -1,6 +1,7 @@
 //! The value entries of a node, tested.
 ghost use Rattle.std.specs.Prelude.{◌≤◌, ◌+◌, ◌*◌, length, OnOk, OnErr, IfErr, None};
-ghost use Rattle.hwdb_spec.specs.Format.{IsValue, ValuesText, values_at, EntryFault, ValuesFault};
+ghost use Rattle.hwdb_spec.specs.Format.{IsValue, ValuesText, EntryFault, ValuesFault};
+ghost use Rattle.hwdb_reader.specs.Internal.Read.{values_at};
 
 use crate::fields::{is_place, text, u16_at, u64_at};
 use crate::frame::Frame;
@@ -30,7 +31,7 @@ fn check_value(b: &[u8], l: Frame, entry: usize) -> Result<(), DbFault>
 
 /// Tests the `n` value entries from `first` on, whose stored keys have to ascend. A lone key, as nearly all
 /// are, isn't read.
-#[tactic(auto, unfolding(hwdb_spec::specs::Format::ValuesText, hwdb_spec::specs::Format::values_at))]
+#[tactic(auto, unfolding(hwdb_spec::specs::Format::ValuesText, crate::specs::Internal::Read::values_at))]
 pub fn check_values(b: &[u8], l: Frame, first: usize, n: usize) -> Result<(), DbFault>
     requires { first + l.sizes.value_size * n ≤ length b.now }
     ensures ok { OnOk result

@@ -56,10 +56,22 @@ pub struct Inside<'a> {
     pub(crate) node: Node<'a>,
 }
 
-/// A checked database: [`check`](crate::check) alone makes one.
-#[derive(Clone, Copy)]
+/// A checked database: [`check`](crate::check) alone makes one. To contracts it is its tree.
+#[derive(Drop)]
 pub struct Db<'a> {
     pub(crate) root: Node<'a>,
+}
+
+impl<'a> Model for Db<'a> {
+    ghost use Rattle.hwdb_spec.specs.Tree.{Tree};
+    ghost use Rattle.hwdb_reader.specs.Internal.Codes.{tree_code};
+    ghost use Rattle.hwdb_reader.specs.Views.{tree_of};
+
+    ghost Value = { Tree };
+
+    ghost coded = { tree_code };
+
+    ghost view = { λ d. tree_of d.root };
 }
 
 /// A child of a node.
@@ -98,24 +110,31 @@ pub struct Origin {
 }
 
 impl<'a> Db<'a> {
-    ghost use Rattle.std.specs.Prelude.{◌≡◌, ◌<◌, ◌^◌};
-    ghost use Rattle.hwdb_spec.specs.Tree.{node_count, IsTree};
-    ghost use Rattle.hwdb_reader.specs.Views.{tree_of, db_tree};
+    ghost use Rattle.std.specs.Prelude.{◌≡◌};
+    ghost use Rattle.hwdb_spec.specs.Tree.{IsTree};
+    ghost use Rattle.hwdb_reader.specs.Views.{tree_of};
 
     /// The root.
     pub fn root(&self) -> Node<'a>
-        ensures root { tree_of result ≡ db_tree self.now }
-        ensures tree { IsTree (db_tree self.now) }
-        ensures nodes { node_count (db_tree self.now) < 2 ^ 64 }
+        ensures root { tree_of result ≡ self.now }
+        ensures tree { IsTree self.now }
     {
+        self.root.law_tree();
         self.root
     }
 }
 
 impl<'a> Node<'a> {
     ghost use Rattle.std.specs.Prelude.{◌≡◌, ◌<◌, ◌+◌, ◌^◌};
-    ghost use Rattle.hwdb_spec.specs.Tree.{prefix_of};
+    ghost use Rattle.hwdb_spec.specs.Tree.{prefix_of, IsTree};
+    ghost use Rattle.hwdb_reader.specs.Views.{node_count};
     ghost use Rattle.hwdb_reader.specs.Views.{tree_of, entered_tree};
+
+    /// In the node's tree stored keys and bytes ascend, and its nodes can be counted.
+    pub fn law_tree(&self)
+        ensures ascending { IsTree (tree_of self.now) }
+        ensures nodes { node_count (tree_of self.now) < 2 ^ 64 }
+    {}
 
     /// The bytes of the path between the node's own byte and its children's.
     pub fn prefix(&self) -> &'a [u8]
@@ -137,7 +156,9 @@ impl<'a> Node<'a> {
 
 impl<'a> Inside<'a> {
     ghost use Rattle.std.specs.Prelude.{◌≡◌, ◌<◌, Some, length, slice_get, option_map};
-    ghost use Rattle.hwdb_spec.specs.Tree.{children_of, values_of, IsTree, shown};
+    ghost use Rattle.hwdb_spec.specs.Tree.{IsTree};
+    ghost use Rattle.hwdb_reader.specs.Views.{children_of, shown};
+    ghost use Rattle.hwdb_spec.specs.Tree.{values_of};
     ghost use Rattle.hwdb_reader.specs.Views.{tree_of, entered_tree, entry_shows};
 
     /// How many children the node has.

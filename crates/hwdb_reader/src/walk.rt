@@ -1,6 +1,8 @@
 //! The walk over the nodes section: each node's text is its children's texts, in order, and its record.
 ghost use Rattle.std.specs.Prelude.{◌≡◌, ◌≤◌, ℕ, length, SomeIff, IfOk, OnOk, OnErr, IfErr, None};
-ghost use Rattle.hwdb_spec.specs.Format.{record_end, prefix_field, value_entries, value_count, IsPlace, ValuesText, values_at, NodeText, tree_at, Fits, Reached, NodeFault, Stands};
+ghost use Rattle.hwdb_spec.specs.Format.{record_end, prefix_off, value_entries, values_count, IsPlace, ValuesText, NodeText, Fits, Visited, NodeFault, IsVisitFault};
+ghost use Rattle.hwdb_reader.specs.Internal.Read.{values_at, tree_at};
+ghost use Rattle.hwdb_reader.specs.Internal.Placed.{visit};
 
 use crate::fields::{is_place, u64_at};
 use crate::frame::Frame;
@@ -38,14 +40,15 @@ fn record_end_within(b: &[u8], l: Frame, from: usize, off: usize, limit: usize) 
 #[tactic(auto, unfolding(hwdb_spec::specs::Format::record_end))]
 fn check_fields(b: &[u8], l: Frame, off: usize) -> Result<(), DbFault>
     requires { record_end l.sizes b.now off ≤ length b.now }
-    ensures ok { OnOk result (IsPlace l.sizes b.now (prefix_field b.now off)
+    ensures ok { OnOk result (IsPlace l.sizes b.now (prefix_off b.now off)
         × ValuesText l.sizes b.now (value_entries l.sizes b.now off) None
-        (values_at l.sizes b.now (value_entries l.sizes b.now off) (value_count b.now off))) }
-    ensures err { OnErr result (IsPlace l.sizes b.now (prefix_field b.now off)
+        (values_at l.sizes b.now (value_entries l.sizes b.now off) (values_count b.now off))) }
+    ensures err { OnErr result (IsPlace l.sizes b.now (prefix_off b.now off)
         → ValuesText l.sizes b.now (value_entries l.sizes b.now off) None
-        (values_at l.sizes b.now (value_entries l.sizes b.now off) (value_count b.now off)) → ⊥) }
+        (values_at l.sizes b.now (value_entries l.sizes b.now off) (values_count b.now off)) → ⊥) }
     ensures fault { IfErr result
-        (λ e. (levels from : ℕ) → NodeFault l.sizes b.now levels from off e) }
+        (λ e. (levels from limit : ℕ)
+        → NodeFault l.sizes b.now (visit levels from off limit) e) }
 {
     if !is_place(b, l, u64_at(b, off)) {
         return Err(DbFault::StringOffset(off as u64));
@@ -65,14 +68,14 @@ pub fn walk(
     limit: usize,
 ) -> Result<usize, DbFault>
     requires inside { limit ≤ length b.now }
-    requires reached { Reached l.sizes b.now levels from off limit }
+    requires visited { Visited l.sizes b.now (visit levels from off limit) }
     ensures ok { IfOk result
-        (λ end. (end ≡ record_end l.sizes b.now off) × Fits l.sizes b.now from off limit
+        (λ end. (end ≡ record_end l.sizes b.now off) × Fits l.sizes b.now (visit levels from off limit)
         × NodeText l.sizes b.now levels from off (tree_at l.sizes b.now levels off)) }
     ensures err { OnErr result
-        (Fits l.sizes b.now from off limit
+        (Fits l.sizes b.now (visit levels from off limit)
         → NodeText l.sizes b.now levels from off (tree_at l.sizes b.now levels off) → ⊥) }
-    ensures fault { IfErr result (λ e. Stands l.sizes b.now e) }
+    ensures fault { IfErr result (λ e. IsVisitFault l.sizes b.now e) }
 {
     let Some(end) = record_end_within(b, l, from, off, limit) else {
         return Err(DbFault::Place(off as u64));

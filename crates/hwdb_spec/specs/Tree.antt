@@ -43,25 +43,6 @@ unfoldable pub count : Children → ℕ
 count NoMore = 0
 count (Child byte tree more) = suc (count more)
 
--- children as a list, each with its byte
-unfoldable pub list_of : Children → List (ℕ × Tree)
-list_of NoMore = []
-list_of (Child byte tree more) = (byte, tree) ∷ list_of more
-
--- the children of the root
-unfoldable pub children_of : Tree → List (ℕ × Tree)
-children_of (Node prefix values children) = list_of children
-
--- how many nodes a tree has
-unfoldable mutual
-  pub node_count : Tree → ℕ
-  node_count (Node prefix values children) = 1 + nodes_below children
-
-  -- how many nodes the trees of children have
-  pub nodes_below : Children → ℕ
-  nodes_below NoMore = 0
-  nodes_below (Child byte tree more) = node_count tree + nodes_below more
-
 -- a key is above the one before it, if there is one
 abbrev pub IsAbove : Option (List ℕ) → List ℕ → Type 0
 IsAbove None key = Unit {0}
@@ -71,18 +52,6 @@ IsAbove (Some before) key = slice_cmp nat_cmp before key ≡ Less
 abbrev pub key_of : List ℕ → Option (List ℕ)
 key_of [] = None
 key_of (c ∷ key) = if c == 32 then Some key else None
-
--- a value as readers see it: its key without the space, if it has one
-pub record Shown : Type 0 where
-  pub priority : ℕ
-  pub line : ℕ
-  pub key : Option (List ℕ)
-  pub value : List ℕ
-  pub path : List ℕ
-
--- a value, as readers see it
-abbrev pub shown : Value → Shown
-shown v = record { priority = v.priority; line = v.line; key = key_of v.key; value = v.value; path = v.path }
 
 unfoldable mutual
   -- the values of a tree, each with its path, from a path on
@@ -95,30 +64,35 @@ unfoldable mutual
   values_below path NoMore = []
   values_below path (Child byte tree more) = values_under (path ++ byte ∷ []) tree ++ values_below path more
 
--- what is assigned at a pattern and a key
-pub record Assigned : Type 0 where
-  pub priority : ℕ
-  pub line : ℕ
-  pub value : List ℕ
-  pub path : List ℕ
+-- what a value assigns at a pattern; nothing where its stored key begins with no space
+abbrev pub assigned_at : List ℕ → Value → Option (List ℕ) → List Assignment
+assigned_at pattern v None = []
+assigned_at pattern v (Some key) =
+    record { position = record { priority = v.priority; line = v.line; pattern = pattern; key = key }; value = v.value; path = v.path } ∷ []
+
+-- what a value assigns at its path
+abbrev pub assignment_of : List ℕ × Value → List Assignment
+assignment_of p = assigned_at p.0 p.1 (key_of p.1.key)
+
+-- the assignments of a tree, from a path on
+abbrev pub members_under : List ℕ → Tree → List Assignment
+members_under path t = flat_map assignment_of (values_under path t)
 
 -- patterns and keys, by pattern and then by key
 abbrev pub place_cmp : List ℕ × List ℕ → List ℕ × List ℕ → Ordering
 place_cmp a b = ordering_then (slice_cmp nat_cmp a.0 b.0) (slice_cmp nat_cmp a.1 b.1)
 
--- what a value assigns at a pattern; nothing where its stored key begins with no space
-abbrev pub assigned_at : List ℕ → Value → Option (List ℕ) → List ((List ℕ × List ℕ) × Assigned)
-assigned_at pattern v None = []
-assigned_at pattern v (Some key) =
-    ((pattern, key), record { priority = v.priority; line = v.line; value = v.value; path = v.path }) ∷ []
-
 -- from patterns and keys to what is assigned there
 abbrev pub Map : Type 0
-Map = finite.FinMap place_cmp Assigned
+Map = finite.FinMap place_cmp Assignment
+
+-- an assignment under its pattern and key
+abbrev pub entry_of : Assignment → (List ℕ × List ℕ) × Assignment
+entry_of a = ((a.position.pattern, a.position.key), a)
 
 -- the map that a tree stands for
 unfoldable pub map_of : Tree → Map
-map_of t = finite.from_entries (flat_map (λ p. assigned_at p.0 p.1 (key_of p.1.key)) (values_under [] t))
+map_of t = finite.from_entries (map entry_of (members_under [] t))
 
 -- stored keys ascend, and the first is above `before`
 abbrev pub KeysAscend : Option (List ℕ) → List Value → Type 0
@@ -135,11 +109,6 @@ unfoldable mutual
   BytesAscend before NoMore = Unit {0}
   BytesAscend before (Child byte tree more) = (before < byte) × IsTree tree × BytesAscend byte more
 
--- an assignment at its pattern and key
-abbrev pub entry_of : Assignment → (List ℕ × List ℕ) × Assigned
-entry_of a =
-    ((a.position.pattern, a.position.key), record { priority = a.position.priority; line = a.position.line; value = a.value; path = a.path })
-
 -- the map of those that survive: of the assignments with one pattern and key the last
 abbrev pub surviving : List Assignment → Map
 surviving all = finite.from_entries (map entry_of (reverse all))
@@ -151,24 +120,6 @@ map_of_files etc usr = surviving (all_assignments etc usr)
 -- the tree has the map of the files
 abbrev pub IsTreeOfFiles : (etc usr : List Source) → Tree → Type 0
 IsTreeOfFiles etc usr t = map_of t ≡ map_of_files etc usr
-
--- what a value assigns at a pattern; nothing where its stored key begins with no space
-abbrev pub one_assignment : List ℕ → Shown → Option (List ℕ) → List Assignment
-one_assignment pattern s None = []
-one_assignment pattern s (Some key) =
-    record { position = record { priority = s.priority; line = s.line; pattern = pattern; key = key }; value = s.value; path = s.path } ∷ []
-
--- what a value assigns at a pattern, as readers see it
-unfoldable pub assignment_shown : List ℕ → Shown → List Assignment
-assignment_shown pattern s = one_assignment pattern s s.key
-
--- what a value assigns at its path
-abbrev pub assignment_of : List ℕ × Value → List Assignment
-assignment_of p = assignment_shown p.0 (shown p.1)
-
--- the assignments of a tree, from a path on
-abbrev pub members_under : List ℕ → Tree → List Assignment
-members_under path t = flat_map assignment_of (values_under path t)
 
 -- the answers, ascending
 unfoldable pub answers : List ℕ → Tree → List Assignment

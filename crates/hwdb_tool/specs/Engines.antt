@@ -2,7 +2,7 @@
 use Rattle.std.specs.Prelude.{ℕ, List, ◌≡◌, Option, None, Some, take, option_map, ◌-◌}
 use Rattle.std.specs.Io.KnownBytes.{Appends}
 use Rattle.std.specs.Borrow.{Bor}
-use Rattle.hwdb_spec.specs.Format.{IsDatabase, FaultStands}
+use Rattle.hwdb_spec.specs.Format.{IsDatabase, Applies}
 use Rattle.hwdb_spec.specs.Tree.{Tree, answers_after}
 use Rattle.hwdb_tool.specs.Devices.{AppendsPrefix}
 use Rattle.hwdb_spec.specs.declared.DbFault.{DbFault}
@@ -35,7 +35,7 @@ pub record CutShort (of : Tree → List ℕ) (bytes : List ℕ) (before now : Op
 
 -- the fault stands, and the bytes are a database of no tree
 pub record IsNoDatabase (bytes : List ℕ) (fault : DbFault) : Type 0 where
-  pub stands : FaultStands bytes fault
+  pub stands : Applies bytes fault
   pub no_tree : (t : Tree) → IsDatabase bytes t → ⊥
 
 -- what answering from a database may refuse, before anything is written

@@ -7,7 +7,7 @@ use Rattle.hwdb_spec.specs.declared.Layout.{Layout}
 use Rattle.hwdb_spec.specs.Tree.{Value, Tree, Children, count, IsTree, BytesAscend, KeysAscend}
 use Rattle.hwdb_spec.specs.Tree.Tree.{Node}
 use Rattle.hwdb_spec.specs.Tree.Children.{NoMore, Child}
-use Rattle.hwdb_spec.specs.Format.{number_at, text_at, prefix_field, child_count, value_count, record_end, value_at, IsPlace, IsValue, ValuesText, NodeText, ChildrenText, layout_of, IsHeader, IsDatabase}
+use Rattle.hwdb_spec.specs.Format.{number_at, text_at, prefix_off, children_count, values_count, record_end, value_at, IsPlace, IsValue, ValuesText, NodeText, ChildrenText, layout_of, IsHeader, IsDatabase}
 use Rattle.hwdb_spec.specs.Written.{strings_of, strings_below, strings_of_value, table_of, section_of, ended, place_of, text_size, texts_size, record_at, padding, value_text, entries_text, node_text, nodes_text, header_text, written}
 use Rattle.hwdb_writer.specs.Internal.Membership.{Holds}
 use Rattle.hwdb_writer.specs.Internal.Storable.{HasNoZero, IsText, IsStorableValue, IsStorable, AreStorable, IsSound}
@@ -116,9 +116,9 @@ module _ (b : List ℕ) (root strings : ℕ) (table : List (List ℕ)) (o : IsOr
 
   -- the fields of a node's record
   pub record Fields (prefix : List ℕ) (values : List Value) (children : Children) (off from : ℕ) : Type 0 where
-    prefix_ok : Found prefix (prefix_field b off)
-    children_ok : child_count b off ≡ count children
-    values_count : value_count b off ≡ length values
+    prefix_ok : Found prefix (prefix_off b off)
+    children_ok : children_count b off ≡ count children
+    values_count : values_count b off ≡ length values
     entries : Stands b (off + 24) (entries_text place from children)
     values_at : Stands b (off + 24 + 16 * count children) (flat_map (value_text place) values)
 

@@ -4,7 +4,7 @@ use Rattle.std.proofs.Math.Seq.{drop-cons}
 use Rattle.std.proofs.lemmas.List.{drop_all}
 use Rattle.std.proofs.lemmas.Bool.Decides.{nat_tests}
 use Rattle.std.specs.List.{insert}
-use Rattle.hwdb_spec.specs.Tree.{Value, Tree, Children, values_of, IsTree, BytesAscend, KeysAscend}
+use Rattle.hwdb_spec.specs.Tree.{Value, Tree, Children, IsTree, BytesAscend, KeysAscend, values_of}
 use Rattle.hwdb_spec.specs.Tree.Tree.{Node}
 use Rattle.hwdb_spec.specs.Tree.Children.{NoMore, Child}
 use Rattle.hwdb_writer.specs.declared.branches.Branch.{Branch}

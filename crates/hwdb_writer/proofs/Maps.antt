@@ -1,13 +1,14 @@
 -- To set a place of a tree is to set it in the map.
-use Rattle.std.proofs.Common.{◌≡◌, ℕ, List, [], ◌∷◌, ◌++◌, map, flat_map, Bool, true, false, cond, Option, Some, None, refl, sym, ◌∙◌, ap, subst, arith, append_assoc, eqb, nat_lt, Ordering}
+use Rattle.std.proofs.Common.{◌≡◌, ℕ, List, [], ◌∷◌, ◌++◌, map, flat_map, Bool, true, false, cond, Option, Some, None, refl, sym, ◌∙◌, ap, subst, arith, append_assoc, eqb, nat_lt, Ordering, option_map}
 use Rattle.std.specs.declared.cmp.Ordering.TheVariants.{Less, Equal, Greater}
 use Rattle.std.specs.Ordering.{nat_cmp, eq_by_cmp, is_eq, ordering_then}
 use Rattle.std.specs.Cmp.{IsTotalOrder, then_total, on_total, nat_cmp_total, tied_itself}
 use Rattle.std.specs.Cmp.Lexicographic.{slice_cmp, nat_list_cmp_total}
-use Rattle.std.specs.FinMap.{IsAntisymmetric, slice_cmp-IsAntisymmetric, nat_cmp-IsAntisymmetric, get-from_entries, get-insert, same_map, insert}
+use Rattle.std.specs.FinMap.{IsAntisymmetric, slice_cmp-IsAntisymmetric, nat_cmp-IsAntisymmetric, get, get-from_entries, get-insert, same_map, insert}
 use Rattle.std.specs.FinMap.Entries.{by_order, find}
 use Rattle.std.proofs.lemmas.Bool.Decides.{nat_tests}
-use Rattle.hwdb_spec.specs.Tree.{Value, Tree, Children, Assigned, place_cmp, assigned_at, values_under, values_below, map_of, key_of}
+use Rattle.hwdb_spec.specs.Assignment.{Assignment}
+use Rattle.hwdb_spec.specs.Tree.{Value, Tree, Children, place_cmp, entry_of, assigned_at, assignment_of, values_under, values_below, map_of, key_of}
 use Rattle.hwdb_spec.specs.Tree.Tree.{Node}
 use Rattle.hwdb_spec.specs.Tree.Children.{NoMore, Child}
 use Rattle.hwdb_writer.specs.Internal.Setting.{Meeting, meet, behind, set_value, set_below, set_at, set_node, forked, single}
@@ -45,11 +46,26 @@ either (Some x) y = Some x
 abbrev pub is_at : Place → Place → Bool
 is_at q p = eq_by_cmp place_cmp q p
 
+-- what stands beside a key
+pub record Assigned : Type 0 where
+  pub priority : ℕ
+  pub line : ℕ
+  pub value : List ℕ
+  pub path : List ℕ
+
 abbrev pub given : Value → Assigned
 given v = record { priority = v.priority; line = v.line; value = v.value; path = v.path }
 
+abbrev pub kept_at : List ℕ → Value → Option (List ℕ) → List (Place × Assigned)
+kept_at pattern v None = []
+kept_at pattern v (Some key) = ((pattern, key), given v) ∷ []
+
+-- the assignment at a place
+abbrev pub full : Place → Assigned → Assignment
+full q a = record { position = record { priority = a.priority; line = a.line; pattern = q.0; key = q.1 }; value = a.value; path = a.path }
+
 unfoldable pub entries : List Entry → List (Place × Assigned)
-entries xs = flat_map (λ p. assigned_at p.0 p.1 (key_of p.1.key)) xs
+entries xs = flat_map (λ p. kept_at p.0 p.1 (key_of p.1.key)) xs
 
 unfoldable pub found : Place → List Entry → Option Assigned
 found q xs = find place_cmp q (entries xs)
@@ -65,11 +81,11 @@ find_both q [] ys = refl
 find_both q (x ∷ xs) ys = ap (cond (is_at q x.0) (Some x.1)) (find_both q xs ys) ∙ sym (either_cond (is_at q x.0) (find place_cmp q xs) (find place_cmp q ys) x.1)
 
 unfoldable pub one : (q : Place) (path : List ℕ) (v : Value) → Option Assigned
-one q path v = find place_cmp q (assigned_at path v (key_of v.key))
+one q path v = find place_cmp q (kept_at path v (key_of v.key))
 
 pub found_cons : (q : Place) (path : List ℕ) (v : Value) (xs : List Entry) → found q ((path, v) ∷ xs) ≡ either (one q path v) (found q xs)
 unfolding found entries one
-found_cons q path v xs = find_both q (assigned_at path v (key_of v.key)) (entries xs)
+found_cons q path v xs = find_both q (kept_at path v (key_of v.key)) (entries xs)
 
 either_assoc : {A : Type 0} (x y z : Option A) → either (either x y) z ≡ either x (either y z)
 unfolding either
@@ -99,7 +115,7 @@ pub one_off : (q : Place) (path : List ℕ) (v : Value) → (q.0 ≡ path → �
 unfolding one
 one_off q path v h = by (key_of v.key)
   where
-    by : (k : Option (List ℕ)) → find place_cmp q (assigned_at path v k) ≡ None
+    by : (k : Option (List ℕ)) → find place_cmp q (kept_at path v k) ≡ None
     by None = refl
     by (Some k) = ap (λ b. cond b (Some (given v)) None) (apart q (path, k) h)
 
@@ -184,7 +200,7 @@ behind_sets false x y z none = refl
 
 pub one_is : (q : Place) (path : List ℕ) (v : Value) (k : List ℕ) → key_of v.key ≡ Some k → one q path v ≡ cond (is_at q (path, k)) (Some (given v)) None
 unfolding one
-one_is q path v k e = ap (λ o. find place_cmp q (assigned_at path v o)) e
+one_is q path v k e = ap (λ o. find place_cmp q (kept_at path v o)) e
 
 key_same : (xs ys : List ℕ) → slice_cmp nat_cmp xs ys ≡ Equal → xs ≡ ys
 key_same = bytes_same
@@ -218,7 +234,7 @@ pub one_other : (q : Place) (path : List ℕ) (k : List ℕ) (w : Value) → q �
 unfolding one
 one_other q path k w is other = by (key_of w.key) refl
   where
-    by : (o : Option (List ℕ)) → key_of w.key ≡ o → find place_cmp q (assigned_at path w o) ≡ None
+    by : (o : Option (List ℕ)) → key_of w.key ≡ o → find place_cmp q (kept_at path w o) ≡ None
     by None h = refl
     by (Some k') h =
         ap (λ b. cond b (Some (given w)) None) (differs q (path, k') (λ same. other (h ∙ ap (λ (x : Place). Some x.1) (sym same ∙ is))))
@@ -413,11 +429,41 @@ mutual
   sets_below q path d more v k e (Child b t ks) =
       below_step q path d more v k e b t ks (nat_cmp d b) refl (sets_tree q (path ++ b ∷ []) more v k e t) (sets_below q path d more v k e ks)
 
+full_cond : (q : Place) (b : Bool) (x : Option Assigned) (z : Assigned) → option_map (full q) (cond b (Some z) x) ≡ cond b (Some (full q z)) (option_map (full q) x)
+full_cond q true x z = refl
+full_cond q false x z = refl
+
+-- an entry in front of others
+got_at : (q p : Place) (v : Value) (b : Bool) → is_at q p ≡ b → (x : Option Assignment) (y : Option Assigned) → x ≡ option_map (full q) y →
+    cond b (Some (full p (given v))) x ≡ option_map (full q) (cond b (Some (given v)) y)
+got_at q p v true e x y same = ap (λ r. Some (full r (given v))) (sym (is_place q p e))
+got_at q p v false e x y same = same
+
+got_by : (q : Place) (pattern : List ℕ) (v : Value) (o : Option (List ℕ)) (rest : List Assignment) (xs : List (Place × Assigned)) → find place_cmp q (map entry_of rest) ≡ option_map (full q) (find place_cmp q xs) →
+    find place_cmp q (map entry_of (assigned_at pattern v o ++ rest)) ≡ option_map (full q) (find place_cmp q (kept_at pattern v o ++ xs))
+got_by q pattern v None rest xs same = same
+got_by q pattern v (Some key) rest xs same = got_at q (pattern, key) v (is_at q (pattern, key)) refl _ _ same
+
+-- what a tree's entries assign at a place
+pub got : (q : Place) (xs : List Entry) → find place_cmp q (map entry_of (flat_map assignment_of xs)) ≡ option_map (full q) (found q xs)
+unfolding found entries
+got q [] = refl
+got q (x ∷ xs) = got_by q x.0 x.1 (key_of x.1.key) (flat_map assignment_of xs) (entries xs) (got q xs)
+
+same_at : (q p : Place) (a : Assigned) (x : Option Assignment) → cond (is_at q p) (Some (full q a)) x ≡ cond (is_at q p) (Some (full p a)) x
+same_at q p a x = by (is_at q p) refl
+  where
+    by : (b : Bool) → is_at q p ≡ b → cond b (Some (full q a)) x ≡ cond b (Some (full p a)) x
+    by true e = ap (λ r. Some (full r a)) (is_place q p e)
+    by false e = refl
+
 -- the map of a tree with a place set is the map with the place set
-pub map_set : (pattern : List ℕ) (v : Value) (k : List ℕ) → key_of v.key ≡ Some k → (t : Tree) → map_of (set_at pattern v t) ≡ insert (map_of t) (pattern, k) (given v)
-unfolding map_of found entries
+pub map_set : (pattern : List ℕ) (v : Value) (k : List ℕ) → key_of v.key ≡ Some k → (t : Tree) → map_of (set_at pattern v t) ≡ insert (map_of t) (pattern, k) (full (pattern, k) (given v))
+unfolding map_of
 map_set pattern v k e t =
     same_map place_total place_same _ _ (λ q.
-    get-from_entries place_total _ q ∙ sets_tree q [] pattern v k e t
-    ∙ ap (cond (is_at q (pattern, k)) (Some (given v))) (sym (get-from_entries place_total _ q))
-    ∙ sym (get-insert place_total (map_of t) (pattern, k) (given v) q))
+    get-from_entries place_total _ q ∙ got q (values_under [] (set_at pattern v t)) ∙ ap (option_map (full q)) (sets_tree q [] pattern v k e t)
+    ∙ full_cond q (is_at q (pattern, k)) (found q (values_under [] t)) (given v)
+    ∙ ap (cond (is_at q (pattern, k)) (Some (full q (given v)))) (sym (get-from_entries place_total _ q ∙ got q (values_under [] t)))
+    ∙ same_at q (pattern, k) (given v) (get (map_of t) q)
+    ∙ sym (get-insert place_total (map_of t) (pattern, k) (full (pattern, k) (given v)) q))

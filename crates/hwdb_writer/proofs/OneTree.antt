@@ -1,17 +1,17 @@
 -- A map has one tight tree.
-use Rattle.std.proofs.Common.{◌≡◌, ◌<◌, ◌≤◌, ℕ, List, [], ◌∷◌, ◌++◌, map, append_assoc, true, cond, Option, Some, None, refl, sym, ◌∙◌, ap, subst, arith, Ordering, ◌⊎◌, inl, inr, ⊎_elim, IsSome}
+use Rattle.std.proofs.Common.{◌≡◌, ◌<◌, ◌≤◌, ℕ, List, [], ◌∷◌, ◌++◌, map, append_assoc, true, cond, Option, Some, None, refl, sym, ◌∙◌, ap, subst, arith, Ordering, ◌⊎◌, inl, inr, ⊎_elim, IsSome, option_map}
 use Rattle.std.specs.declared.cmp.Ordering.TheVariants.{Less, Equal, Greater}
 use Rattle.std.specs.Ordering.{nat_cmp, ordering_reverse, is_eq}
 use Rattle.std.specs.Cmp.{tied_itself}
 use Rattle.std.specs.Cmp.Lexicographic.{slice_cmp, nat_list_cmp_total}
 use Rattle.std.specs.FinMap.{get, get-from_entries}
 use Rattle.std.proofs.lemmas.Bool.{cases_lt}
-use Rattle.hwdb_spec.specs.Tree.{Value, Tree, Children, count, prefix_of, Map, Assigned, map_of, values_under, values_below, key_of, IsTree, BytesAscend, KeysAscend}
+use Rattle.hwdb_spec.specs.Tree.{Value, Tree, Children, count, prefix_of, Map, map_of, values_under, values_below, key_of, IsTree, BytesAscend, KeysAscend}
 use Rattle.hwdb_spec.specs.Tree.Tree.{Node}
 use Rattle.hwdb_spec.specs.Tree.Children.{NoMore, Child}
 use Rattle.hwdb_spec.specs.Written.{IsTight, AreTight, IsForked, AllKeys, IsTightTree, IsWritten, written}
 use Rattle.hwdb_writer.specs.Internal.Setting.{meet}
-use Rattle.hwdb_writer.proofs.Maps.{Place, Entry, found, found_both, found_cons, one, one_is, one_other, either, entries, given, is_at, Off, values_off, off_tree, off_children, off_here, met, Differ, append_nil, place_total, bytes_same, cancel, fork_off, longer, stored_is}
+use Rattle.hwdb_writer.proofs.Maps.{Place, Entry, Assigned, full, got, found, found_both, found_cons, one, one_is, one_other, either, entries, given, is_at, Off, values_off, off_tree, off_children, off_here, met, Differ, append_nil, place_total, bytes_same, cancel, fork_off, longer, stored_is}
 
 -- the first of two places where something may be found
 either_first : {A : Type 0} (x y : Option A) (a : A) → x ≡ Some a → either x y ≡ Some a
@@ -390,12 +390,20 @@ one_inside (Node p vs ks) (Node q ws ls) ep eq o h o' h' same =
     let k = one_children [] 0 0 ks ls o.1 h.1 o'.1 h'.1 (below_alike [] [] vs ws ks ls s) in
     λ i. Node ((ep ∙ sym eq) i) (v i) (k i)
 
+full_same : (q : Place) (x y : Option Assigned) → option_map (full q) x ≡ option_map (full q) y → x ≡ y
+full_same q None None e = refl
+full_same q None (Some b) e = absurd (cc)
+full_same q (Some a) None e = absurd (cc)
+full_same q (Some a) (Some b) e =
+    let f : full q a ≡ full q b = cc in
+    λ i. Some (record { priority = (f i).position.priority; line = (f i).position.line; value = (f i).value; path = (f i).path })
+
 -- a map has one tight tree
 pub one_tight : (m : Map) (t u : Tree) → IsTightTree m t → IsTightTree m u → t ≡ u
-unfolding map_of found entries
+unfolding map_of
 one_tight m t u h g =
     one_inside t u h.root g.root h.ordered h.tight g.ordered g.tight
-    (λ q. sym (get-from_entries place_total _ q) ∙ ap (λ n. get n q) (h.same ∙ sym g.same) ∙ get-from_entries place_total _ q)
+    (λ q. full_same q _ _ (sym (got q (values_under [] t)) ∙ sym (get-from_entries place_total _ q) ∙ ap (λ n. get n q) (h.same ∙ sym g.same) ∙ get-from_entries place_total _ q ∙ got q (values_under [] u)))
 
 pub one_written : (m : Map) (a b : List ℕ) → IsWritten m a → IsWritten m b → a ≡ b
 one_written m a b h g = h.2 ∙ ap written (one_tight m h.0 g.0 h.1 g.1) ∙ sym g.2

@@ -1,10 +1,12 @@
 -- What a put makes of the map.
 use Rattle.std.proofs.Common.{◌≡◌, ◌<◌, ◌^◌, ℕ, suc, List, [], ◌∷◌, get_or, refl, sym, ◌∙◌, ap, subst, arith, IsSome}
 use Rattle.std.specs.FinMap.{FinMap, insert, empty}
-use Rattle.hwdb_spec.specs.Tree.{Value, Tree, prefix_of, map_of, place_cmp, Assigned, values_under, IsTree, key_of}
+use Rattle.hwdb_spec.specs.Tree.{Value, Tree, prefix_of, map_of, place_cmp, values_under, IsTree, key_of}
 use Rattle.hwdb_spec.specs.Tree.Tree.{Node}
 use Rattle.hwdb_spec.specs.Tree.Children.{NoMore}
+use Rattle.hwdb_spec.specs.Assignment.{Assignment}
 use Rattle.hwdb_writer.specs.Internal.Setting.{set_at}
+use Rattle.hwdb_writer.specs.Internal.Stored.{at_place}
 use Rattle.hwdb_writer.specs.Internal.Storable.{IsSound, IsStorable, IsStorableValue, HasNoZero, IsText}
 use Rattle.hwdb_writer.proofs.Maps.{map_set}
 
@@ -33,8 +35,8 @@ value_sound v k value path e f g nk nv np p q l = record {
   line_fits = l;
 }
 
-pub put_is : (t t' : Tree) (m : FinMap place_cmp Assigned) (p pattern : List ℕ) (v : Value) (k value path : List ℕ) → t' ≡ set_at p v t → p ≡ pattern → map_of t ≡ m → v.key ≡ 32 ∷ k → v.value ≡ value → v.path ≡ path →
-    map_of t' ≡ insert m (pattern, k) (record { priority = v.priority; line = v.line; value = value; path = path })
-put_is t t' m p pattern v k value path e ep em ek ev eh =
+pub put_is : (t t' : Tree) (m : FinMap place_cmp Assignment) (p pattern : List ℕ) (v : Value) (k : List ℕ) → t' ≡ set_at p v t → p ≡ pattern → map_of t ≡ m → v.key ≡ 32 ∷ k →
+    map_of t' ≡ insert m (pattern, k) (at_place (pattern, k) v)
+put_is t t' m p pattern v k e ep em ek =
     ap map_of e ∙ map_set p v k (ap key_of ek) t
-    ∙ (λ i. insert (em i) (ep i, k) (record { priority = v.priority; line = v.line; value = ev i; path = eh i }))
+    ∙ (λ i. insert (em i) (ep i, k) (at_place (ep i, k) v))

@@ -18,7 +18,8 @@ pub struct Tree {
 }
 
 impl Model for Tree {
-    ghost use Rattle.hwdb_writer.specs.Internal.Codes.{Map, map_code};
+    ghost use Rattle.hwdb_spec.specs.Tree.{Map};
+    ghost use Rattle.hwdb_writer.specs.Internal.Codes.{map_code};
 
     ghost Value = { Map };
 
@@ -36,7 +37,9 @@ impl Model for Tree {
 impl Tree {
     ghost use Rattle.std.specs.Prelude.{◌≡◌, ◌≤◌, ◌<◌, ◌∷◌, ℕ, List, length, IfOk, OnOk, OnErr};
     ghost use Rattle.std.specs.FinMap.{empty, insert};
-    ghost use Rattle.hwdb_writer.specs.Internal.Stored.{value_of};
+    ghost use Rattle.hwdb_spec.specs.Records.{origin};
+    ghost use Rattle.hwdb_text.specs.Views.{assigned, given_in};
+    ghost use Rattle.hwdb_writer.specs.Internal.Stored.{value_of, at_place};
     ghost use Rattle.hwdb_writer.specs.Internal.Storable.{HasNoZero, IsStorableValue, max_pattern};
 
     /// No assignment. Takes no memory.
@@ -77,8 +80,7 @@ impl Tree {
         requires pattern { HasNoZero pattern.now }
         requires value { IsStorableValue (value_of value) }
         ensures ok { OnOk result (let v = value_of value in (key : List ℕ) → v.key ≡ 32 ∷ key
-            → self.new ≡ insert self.old (pattern.now, key)
-            (record { priority = v.priority; line = v.line; value = v.value; path = v.path })) }
+            → self.new ≡ insert self.old (pattern.now, key) (at_place (pattern.now, key) v)) }
         ensures err { OnErr result (self.new ≡ self.old) }
     {
         put_below(self.alloc, &mut self.root, pattern, value)?;
@@ -98,12 +100,7 @@ impl Tree {
         requires priority { 0 < priority }
         ensures ok { OnOk result
             (self.new ≡ insert self.old (given.entry.pattern.now, given.entry.key.now)
-            (record {
-              priority = priority;
-              line = given.entry.line;
-              value = given.entry.value.now;
-              path = path.now;
-            })) }
+            (given_in (origin path.now priority) given.entry)) }
         ensures err { OnErr result (self.new ≡ self.old) }
     {
         let alloc = self.alloc;
@@ -123,12 +120,7 @@ impl Tree {
         requires path { HasNoZero a.now.path.items }
         requires priority { 0 < a.now.priority }
         ensures ok { OnOk result (self.new ≡ insert self.old (a.now.pattern.items, a.now.key.items)
-            (record {
-              priority = a.now.priority;
-              line = a.now.line;
-              value = a.now.value.items;
-              path = a.now.path.items;
-            })) }
+            (assigned a.now)) }
         ensures err { OnErr result (self.new ≡ self.old) }
     {
         let given = Given {

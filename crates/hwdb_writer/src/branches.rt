@@ -4,7 +4,8 @@
 //! halves what is left. Each change makes its growths first.
 ghost use Rattle.std.specs.Prelude.{◌≡◌, ◌≢◌, ◌≤◌, ◌<◌, ◌+◌, ◌^◌, ◌∷◌, [], map, take, drop, length, slice_index, None, vec_len, vec_capacity, IfOk, IfErr, OnOk, OnErr};
 ghost use Rattle.std.specs.List.{insert};
-ghost use Rattle.hwdb_spec.specs.Tree.{prefix_of, values_of, IsTree, BytesAscend};
+ghost use Rattle.hwdb_spec.specs.Tree.{prefix_of, IsTree, BytesAscend};
+ghost use Rattle.hwdb_spec.specs.Tree.{values_of};
 ghost use Rattle.hwdb_spec.specs.Tree.Tree.{Node};
 ghost use Rattle.hwdb_writer.specs.Internal.Setting.{meet, set_at, single, forked, below_of};
 ghost use Rattle.hwdb_writer.specs.declared.branches.Branch.TheViews.{out-Branch};

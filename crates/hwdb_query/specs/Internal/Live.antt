@@ -1,6 +1,7 @@
 -- Live nodes among the children of a node.
 use Rattle.std.specs.Prelude.{List, [], ℕ, ◌++◌, ◌+◌, ◌∷◌}
-use Rattle.hwdb_spec.specs.Tree.{Tree, live_under, node_count}
+use Rattle.hwdb_spec.specs.Tree.{Tree, live_under}
+use Rattle.hwdb_reader.specs.Views.{node_count}
 
 abbrev pub live_in : List ℕ → List ℕ → List (ℕ × Tree) → ℕ
 live_in device path [] = 0

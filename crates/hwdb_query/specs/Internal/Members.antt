@@ -1,12 +1,23 @@
 -- What a node and its children assign, part by part.
-use Rattle.std.specs.Prelude.{List, Option, filter, ℕ, flat_map, [], ◌++◌, ◌∷◌}
+use Rattle.std.specs.Prelude.{List, Option, None, Some, filter, ℕ, flat_map, [], ◌++◌, ◌∷◌}
 use Rattle.hwdb_spec.specs.Assignment.{Assignment, Position}
 use Rattle.hwdb_spec.specs.Answers.{is_behind, is_wanted}
-use Rattle.hwdb_spec.specs.Tree.{Value, assignment_shown, shown, Tree, members_under}
+use Rattle.hwdb_spec.specs.Tree.{Value, Tree, members_under}
+use Rattle.hwdb_reader.specs.Views.{Shown, shown}
 
 -- those of a list that are answers after a position
 unfoldable pub wanted : List ℕ → Option Position → List Assignment → List Assignment
 wanted device after fs = filter (is_behind after) (filter (is_wanted device) fs)
+
+-- what a value assigns at a pattern, as the view shows it
+abbrev pub one_assignment : List ℕ → Shown → Option (List ℕ) → List Assignment
+one_assignment pattern s None = []
+one_assignment pattern s (Some key) =
+    record { position = record { priority = s.priority; line = s.line; pattern = pattern; key = key }; value = s.value; path = s.path } ∷ []
+
+-- what a shown value assigns at a pattern
+unfoldable pub assignment_shown : List ℕ → Shown → List Assignment
+assignment_shown pattern s = one_assignment pattern s s.key
 
 -- what the values of a node assign
 abbrev pub own_members : List ℕ → List Value → List Assignment

@@ -1,8 +1,8 @@
 use Rattle.std.proofs.Common.{◌≡◌, ◌∙◌, ap, sym, refl, subst, drop, take, suc, ◌+◌, ◌≤◌, length, ◌++◌, ◌∷◌, [], List, filter, ℕ, arith, add-one, true, if◌then◌else◌}
 use Rattle.std.proofs.lemmas.List.{length-append}
 use Rattle.hwdb_pattern.specs.Views.{StandsFor}
-use Rattle.hwdb_spec.specs.Tree.{IsLive, Tree, node_count, children_of, prefix_of, values_of, members_under, is_live, live_under}
-use Rattle.hwdb_reader.specs.Views.{tree_of, entered_tree}
+use Rattle.hwdb_spec.specs.Tree.{IsLive, Tree, prefix_of, members_under, is_live, live_under, values_of}
+use Rattle.hwdb_reader.specs.Views.{node_count, children_of, tree_of, entered_tree}
 use Rattle.hwdb_spec.specs.Answers.{is_wanted}
 use Rattle.hwdb_query.specs.Internal.Members.{members_in, own_members}
 use Rattle.hwdb_query.specs.Internal.Collected.{Collects}

@@ -1,6 +1,6 @@
 use Rattle.std.proofs.Common.{◌≡◌, ◌+◌, ◌≤◌, ◌++◌, drop, filter}
-use Rattle.hwdb_spec.specs.Tree.{node_count, children_of, prefix_of, members_under, live_under}
-use Rattle.hwdb_reader.specs.Views.{tree_of, entered_tree}
+use Rattle.hwdb_spec.specs.Tree.{prefix_of, members_under, live_under}
+use Rattle.hwdb_reader.specs.Views.{node_count, children_of, tree_of, entered_tree}
 use Rattle.hwdb_spec.specs.Answers.{is_wanted}
 use Rattle.hwdb_query.specs.Internal.Members.{members_in}
 use Rattle.hwdb_query.specs.Internal.Collected.{Collects}

@@ -1,7 +1,7 @@
 use Rattle.std.proofs.Common.{ap, arith, filter}
 use Rattle.std.proofs.lemmas.Result.{on_ok_weaker}
-use Rattle.hwdb_spec.specs.Tree.{values_of}
 use Rattle.hwdb_reader.specs.Views.{entered_tree}
+use Rattle.hwdb_spec.specs.Tree.{values_of}
 use Rattle.hwdb_spec.specs.Answers.{is_wanted}
 use Rattle.hwdb_query.proofs.Parting.{own_behind}
 use Rattle.hwdb_query.proofs.Steps.{match_is, mismatch_is}

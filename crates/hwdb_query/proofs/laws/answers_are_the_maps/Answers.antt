@@ -1,6 +1,5 @@
-use Rattle.hwdb_reader.specs.Views.{db_tree}
 use Rattle.hwdb_query.proofs.Members.{are_answers}
 use Rattle.hwdb_query.proofs.laws.answers_are_the_maps.Goals as goal
 
 pub returns : goal.returns
-returns c = λ device. are_answers c.matches_is_tested.ensures device (db_tree c.args.db.now) c.root-root.ensures.tree
+returns c = λ device. are_answers c.matches_is_tested.ensures device c.args.db.now c.root-root.ensures.tree

@@ -1,6 +1,5 @@
 use Rattle.std.proofs.Common.{◌≡◌, ◌∙◌, ap, sym, [], None, filter}
 use Rattle.std.proofs.lemmas.Result.{IfOk-weaker}
-use Rattle.hwdb_reader.specs.Views.{db_tree}
 use Rattle.hwdb_spec.specs.Answers.{is_wanted, effective_of, last_assignments}
 use Rattle.hwdb_spec.specs.Tree.{members_under, answers}
 use Rattle.hwdb_spec.specs.Folders.{all_assignments}
@@ -17,15 +16,15 @@ pub returns-clause-list : goal.returns-clause-list
 unfolding answers
 returns-clause-list c =
     let device = c.args.device.now in
-    let tree = db_tree c.args.db.now in
+    let tree = c.args.db.now in
     let shows = last_at_end c.new.result (filter (is_wanted device) (members_under [] tree)) c.descend.new.into c.into_last.result (shows_none c.new.result.hits c.new.ensures)
-    c.in_ok-descend.ensures.collected c.into_last.ensures in
+    (rw c.root-root.ensures.root at c.in_ok-descend.ensures.collected) c.into_last.ensures in
     IfOk-weaker c.pairs.result _ _ (λ list shown. shown (answers device tree) shows) c.pairs.ensures
 
 pub returns-clause-headline : goal.returns-clause-headline
 returns-clause-headline c =
     let device = c.args.device.now in
-    let tree = db_tree c.args.db.now in
+    let tree = c.args.db.now in
     IfOk-weaker c.pairs.result _ _
     (λ list shown etc usr files.
     let last : answers device tree ≡ last_assignments device None (all_assignments etc usr) =

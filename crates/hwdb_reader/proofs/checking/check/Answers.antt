@@ -1,7 +1,7 @@
 use Rattle.std.proofs.Common.{ap, sym, ◌∙◌, arith}
 use Rattle.std.proofs.lemmas.Result.{err_from_is_err_and}
 use Rattle.hwdb_spec.specs.declared.Layout.{Layout}
-use Rattle.hwdb_spec.specs.Format.Reached.{Root}
+use Rattle.hwdb_spec.specs.Format.Visited.{Root}
 use Rattle.hwdb_reader.specs.Views.{tree_of}
 use Rattle.hwdb_reader.proofs.Whole.{strings_inside, read_text, root_fits, few_nodes, header_stands, node_stands, root_stands_at, database_of}
 use Rattle.hwdb_reader.proofs.checking.check.Goals as goal
@@ -14,8 +14,8 @@ returns-in_err-frame-clause-fault c =
 pub walk-requires-clause-inside : goal.walk-requires-clause-inside
 walk-requires-clause-inside c = let ok = c.in_ok-frame.ensures.ok in rw ok.0 (strings_inside c.args.bytes.now ok.1)
 
-pub walk-requires-clause-reached : goal.walk-requires-clause-reached
-walk-requires-clause-reached c = Root
+pub walk-requires-clause-visited : goal.walk-requires-clause-visited
+walk-requires-clause-visited c = Root
 
 pub returns-in_err-end-clause-refused : goal.returns-in_err-end-clause-refused
 returns-in_err-end-clause-refused c =
@@ -42,7 +42,7 @@ invariant_of-result c =
     let e = c.in_ok-end.ensures.ok in
     let inside = strings_inside c.args.bytes.now ok.1 in
     let sizes = ap (λ (m : Layout). m.strings) ok.0 in
-    let below = e.1.below in
+    let below = e.1.1 in
     record { placed = ∣ record { from = c.in_ok-frame.frame.sizes.nodes; text = e.2; inside = omega (arith, below, sizes, inside); small = omega arith } ∣₁ }
 
 pub returns-clause-accepted : goal.returns-clause-accepted

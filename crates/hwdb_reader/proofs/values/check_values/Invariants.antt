@@ -1,5 +1,6 @@
 use Rattle.std.proofs.Common.{◌≡◌, ◌+◌, ◌*◌, ◌-◌, ◌↔◌, ℕ, None, option_map, MatchOption}
-use Rattle.hwdb_spec.specs.Format.{number_at, text_at, IsPlace, ValuesText, values_at}
+use Rattle.hwdb_spec.specs.Format.{number_at, text_at, IsPlace, ValuesText}
+use Rattle.hwdb_reader.specs.Internal.Read.{values_at}
 use Rattle.hwdb_reader.proofs.values.check_values.Given as goal
 
 abbrev pub invariant-loop-i : goal.invariant-loop-i

@@ -1,7 +1,6 @@
 use Rattle.std.proofs.Common.{◌≡◌, ◌∙◌, arith, ap, subst, List, inr}
 use Rattle.std.proofs.lemmas.Result.{on_ok_weaker}
 use Rattle.std.specs.Io.KnownBytes.{Appends}
-use Rattle.hwdb_reader.specs.Views.{db_tree}
 use Rattle.hwdb_spec.specs.Folders.{all_assignments}
 use Rattle.hwdb_spec.specs.Answers.{last_assignments}
 use Rattle.hwdb_spec.specs.Assignment.{Assignment}
@@ -23,7 +22,7 @@ returns-clause-cut_short g c = λ e.
     let part = c.print_hits.ensures.cut_short e in
     let begun = c.in_ok-hits.ensures.begins in
     let device = c.args.device.now in
-    let tree = db_tree c.in_ok-db.db in
+    let tree = c.in_ok-db.db in
     let all : c.in_ok-hits.hits.to_come ≡ answers_after device (next_position c.in_ok-after.after) tree =
     ap (λ (p : Progress). p.to_come) begun ∙ ap (λ s. answers_after device s tree) (lent_position c.as_ref.result c.in_ok-after.after c.as_ref.ensures.value) in
     let P : List Assignment → Type 0 = λ hits. AppendsPrefix (g.O.Sink.taken c.args.out.now) (g.O.Sink.taken c.print_hits.new.out) (hits_text (within_limit c.args.limit hits)) in
@@ -38,7 +37,7 @@ returns-clause-whole_lines g c = λ e.
     let lines = c.print_hits.ensures.whole_lines e in
     let begun = c.in_ok-hits.ensures.begins in
     let device = c.args.device.now in
-    let tree = db_tree c.in_ok-db.db in
+    let tree = c.in_ok-db.db in
     let all : c.in_ok-hits.hits.to_come ≡ answers_after device (next_position c.in_ok-after.after) tree =
     ap (λ (p : Progress). p.to_come) begun ∙ ap (λ s. answers_after device s tree) (lent_position c.as_ref.result c.in_ok-after.after c.as_ref.ensures.value) in
     let P : List Assignment → Type 0 = λ hits. AppendsLines (g.O.Sink.taken c.args.out.now) (g.O.Sink.taken c.print_hits.new.out) (within_limit c.args.limit hits) in
@@ -57,7 +56,7 @@ returns-clause-headline g c =
     let begun = c.in_ok-hits.ensures.begins in
     let device = c.args.device.now in
     let from = next_position c.in_ok-after.after in
-    let tree = db_tree c.in_ok-db.db in
+    let tree = c.in_ok-db.db in
     let all : c.in_ok-hits.hits.to_come ≡ last_assignments device from (all_assignments etc usr) =
     ap (λ (p : Progress). p.to_come) begun ∙ ap (λ s. answers_after device s tree) (lent_position c.as_ref.result c.in_ok-after.after c.as_ref.ensures.value)
     ∙ c.compiled_answers_are_last.ensures.after etc usr c.args.bytes.now compiled tree c.in_ok-db.ensures.accepted device from in

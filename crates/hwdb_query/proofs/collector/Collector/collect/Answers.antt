@@ -1,7 +1,7 @@
 use Rattle.std.proofs.Common.{sym, subst}
 use Rattle.std.proofs.lemmas.Result.{on_ok_weaker}
-use Rattle.hwdb_spec.specs.Tree.{values_of}
 use Rattle.hwdb_reader.specs.Views.{entered_tree}
+use Rattle.hwdb_spec.specs.Tree.{values_of}
 use Rattle.hwdb_query.specs.Internal.Members.{own_members}
 use Rattle.hwdb_query.specs.Internal.Collected.{Collects}
 use Rattle.hwdb_query.specs.declared.collector.Collector.TheVariants.{Page, Last}

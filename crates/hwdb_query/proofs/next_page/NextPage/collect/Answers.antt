@@ -1,6 +1,6 @@
 use Rattle.std.proofs.Common.{◌≡◌, ◌∙◌, ◌-◌, ◌<◌, ap, sym, subst, drop, take, length, arith, add-one}
-use Rattle.hwdb_spec.specs.Tree.{values_of}
 use Rattle.hwdb_reader.specs.Views.{entered_tree}
+use Rattle.hwdb_spec.specs.Tree.{values_of}
 use Rattle.hwdb_query.specs.Internal.Members.{own_members}
 use Rattle.hwdb_query.specs.Internal.Collected.{PageCollects}
 use Rattle.hwdb_query.proofs.Backwards.{walked_to, none_walked, one_walked}

@@ -1,6 +1,6 @@
 use Rattle.std.proofs.Common.{◌≡◌, ◌∙◌, ap, sym, refl, subst, ℕ, List, [], ◌∷◌, length, reverse, take, Option, Some, Bool, false, arith}
 use Rattle.hwdb_spec.specs.Tree.{Tree, answers_after}
-use Rattle.hwdb_reader.specs.Views.{db_tree}
+use Rattle.hwdb_reader.specs.Views.{tree_of}
 use Rattle.hwdb_query.specs.declared.position.Position.{Position as OwnedPosition}
 use Rattle.hwdb_spec.specs.Assignment.{Position, Assignment}
 use Rattle.hwdb_query.specs.Internal.Hits.{IsFirst, after_position}
@@ -27,7 +27,7 @@ pub returns-in-Some-last-clause-to_come : goal.returns-in-Some-last-clause-to_co
 returns-in-Some-last-clause-to_come c =
     let inside = c.self.inside in
     let device = inside.device.now in
-    let tree = db_tree inside.db in
+    let tree = tree_of inside.root in
     let same : after_position c.match-self.after ≡ next_position inside.after =
     elim c.match-self.branch [
       | in-None w ↦ ap after_position w.after-is ∙ sym (ap next_position w.in-None.is)

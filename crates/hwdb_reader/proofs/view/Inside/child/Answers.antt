@@ -1,6 +1,6 @@
 use Rattle.std.proofs.Common.{◌<◌, subst}
 use Rattle.hwdb_reader.specs.Views.{tree_of}
-use Rattle.hwdb_spec.specs.Format.{child_count}
+use Rattle.hwdb_spec.specs.Format.{children_count}
 use Rattle.hwdb_reader.proofs.Views.{placed_levels, placed_inside, children_number, child_read, child_placed}
 use Rattle.hwdb_reader.proofs.view.Inside.child.Goals as goal
 
@@ -18,12 +18,12 @@ pub invariant_of-result : goal.invariant_of-result
 unfolding tree_of
 invariant_of-result c =
     let n = c.args.self.now.node in
-    let lt : c.args.i < child_count n.bytes.now n.offset = subst (λ m. c.args.i < m) (children_number _ _ _ _ n.placed) c.requires in
+    let lt : c.args.i < children_count n.bytes.now n.offset = subst (λ m. c.args.i < m) (children_number _ _ _ _ n.placed) c.requires in
     record { placed = rw (c.u64_at.ensures, c.child_entry_at-entry.ensures.place) (child_placed _ _ _ _ n.placed n.frame.node_fields c.args.i lt) }
 
 pub returns : goal.returns
 unfolding tree_of
 returns c =
     let n = c.args.self.now.node in
-    let lt : c.args.i < child_count n.bytes.now n.offset = subst (λ m. c.args.i < m) (children_number _ _ _ _ n.placed) c.requires in
+    let lt : c.args.i < children_count n.bytes.now n.offset = subst (λ m. c.args.i < m) (children_number _ _ _ _ n.placed) c.requires in
     rw (c.u64_at.ensures, c.child_entry_at-entry.ensures.place) (child_read _ _ _ _ n.placed c.args.i lt)

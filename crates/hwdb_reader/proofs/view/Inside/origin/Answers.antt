@@ -1,6 +1,6 @@
 use Rattle.std.proofs.Common.{◌<◌, ap, sym, subst, Some}
 use Rattle.hwdb_reader.specs.Views.{tree_of}
-use Rattle.hwdb_spec.specs.Format.{value_count}
+use Rattle.hwdb_spec.specs.Format.{values_count}
 use Rattle.hwdb_reader.proofs.Views.{placed_inside, values_number, value_read}
 use Rattle.hwdb_reader.proofs.view.Inside.origin.Goals as goal
 
@@ -15,12 +15,12 @@ pub returns-clause-priority : goal.returns-clause-priority
 unfolding tree_of
 returns-clause-priority c =
     let n = c.args.self.now.node in
-    let lt : c.args.i < value_count n.bytes.now n.offset = subst (λ m. c.args.i < m) (values_number _ _ _ _ n.placed) c.requires in
+    let lt : c.args.i < values_count n.bytes.now n.offset = subst (λ m. c.args.i < m) (values_number _ _ _ _ n.placed) c.requires in
     rw (value_read _ _ _ _ n.placed c.args.i lt) (ap Some (sym (rw c.value_entry_at-entry.ensures.place at c.read_origin.ensures.priority)))
 
 pub returns-clause-line : goal.returns-clause-line
 unfolding tree_of
 returns-clause-line c =
     let n = c.args.self.now.node in
-    let lt : c.args.i < value_count n.bytes.now n.offset = subst (λ m. c.args.i < m) (values_number _ _ _ _ n.placed) c.requires in
+    let lt : c.args.i < values_count n.bytes.now n.offset = subst (λ m. c.args.i < m) (values_number _ _ _ _ n.placed) c.requires in
     rw (value_read _ _ _ _ n.placed c.args.i lt) (ap Some (sym (rw c.value_entry_at-entry.ensures.place at c.read_origin.ensures.line)))

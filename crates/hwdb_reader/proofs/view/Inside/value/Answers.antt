@@ -1,6 +1,6 @@
 use Rattle.std.proofs.Common.{◌<◌, ap, sym, subst, Some}
 use Rattle.hwdb_reader.specs.Views.{tree_of}
-use Rattle.hwdb_spec.specs.Format.{value_count}
+use Rattle.hwdb_spec.specs.Format.{values_count}
 use Rattle.hwdb_reader.proofs.Views.{placed_inside, values_number, value_read, value_placed}
 use Rattle.hwdb_reader.proofs.view.Inside.value.Goals as goal
 
@@ -15,12 +15,12 @@ pub read_value-requires-clause-sound : goal.read_value-requires-clause-sound
 unfolding tree_of
 read_value-requires-clause-sound c =
     let n = c.args.self.now.node in
-    let lt : c.args.i < value_count n.bytes.now n.offset = subst (λ m. c.args.i < m) (values_number _ _ _ _ n.placed) c.requires in
+    let lt : c.args.i < values_count n.bytes.now n.offset = subst (λ m. c.args.i < m) (values_number _ _ _ _ n.placed) c.requires in
     rw c.value_entry_at-entry.ensures.place (value_placed _ _ _ _ n.placed c.args.i lt)
 
 pub returns : goal.returns
 unfolding tree_of
 returns c =
     let n = c.args.self.now.node in
-    let lt : c.args.i < value_count n.bytes.now n.offset = subst (λ m. c.args.i < m) (values_number _ _ _ _ n.placed) c.requires in
+    let lt : c.args.i < values_count n.bytes.now n.offset = subst (λ m. c.args.i < m) (values_number _ _ _ _ n.placed) c.requires in
     rw (value_read _ _ _ _ n.placed c.args.i lt) (ap Some (sym (rw c.value_entry_at-entry.ensures.place at c.read_value.ensures)))

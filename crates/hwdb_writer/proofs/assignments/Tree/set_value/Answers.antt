@@ -13,4 +13,4 @@ invariant_of-self-2 c =
 
 pub returns-clause-ok : goal.returns-clause-ok
 returns-clause-ok c = λ key is.
-    put_is (tree_of c.self.inside.root) _ _ _ _ _ key _ _ c.in_ok-put_below.ensures.ok refl c.self.view_is is refl refl
+    put_is (tree_of c.self.inside.root) _ _ _ _ _ key c.in_ok-put_below.ensures.ok refl c.self.view_is is
