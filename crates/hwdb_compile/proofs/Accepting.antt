@@ -5,14 +5,14 @@ use Rattle.std.specs.Result.{IsErrAnd}
 use Rattle.std.specs.FinMap as finite
 use Rattle.std.specs.Borrow.{Bor}
 use Rattle.std.specs.BTreeMap.{BTreeMap}
-use Rattle.hwdb_spec.specs.Folders.{Choice, choice, names, Source, name_of, chosen_of, first_of, contents, file_assignments, file_faults, faults_of_files, FewLines, ManyLines, AreAccepted, FaultIn}
+use Rattle.hwdb_spec.specs.Folders.{Choice, choice, names, Source, chosen_of, first_of, contents, file_assignments, file_faults, faults_of_files, AreAccepted, FaultIn}
+use Rattle.hwdb_compile.specs.Views.{name_of, FewLines, ManyLines, IsRefusal}
 use Rattle.hwdb_spec.specs.Tree.{Map, surviving, map_of_files}
 use Rattle.hwdb_spec.specs.Written.{IsLonger}
 use Rattle.hwdb_writer.specs.declared.writing.StoreError.{StoreError}
 use Rattle.hwdb_writer.specs.declared.writing.StoreError.TheVariants as store
 use Rattle.hwdb_compile.specs.declared.errors.CompileError.{CompileError}
 use Rattle.hwdb_compile.specs.declared.errors.CompileError.TheVariants.{TooManyFiles, TooManyLines, TooLarge, Memory}
-use Rattle.hwdb_compile.specs.Views.{IsRefusal}
 use Rattle.hwdb_compile.specs.Internal.Conversions.{of_store}
 use Rattle.hwdb_compile.specs.Internal.Reading.{bytes_at, read_from, IsFileRefusal, IsFilesRefusal}
 use Rattle.hwdb_compile.proofs.Gathered.{empty_index}

@@ -10,7 +10,9 @@ use Rattle.std.proofs.lemmas.List.Elements.{All-nil, All-cons, All-head, All-tai
 use Rattle.hwdb_spec.specs.Lines.{Line, lines, clean, has_equals, has_key, has}
 use Rattle.hwdb_spec.specs.Records.{sections, Origin, assign, patterns, property_assignments, section_assignments, assignments}
 use Rattle.hwdb_spec.specs.Assignment.{Assignment}
-use Rattle.hwdb_spec.specs.Folders.{Choice, same, IsStorable, HasNoZero, Source, name_of, first_of}
+use Rattle.hwdb_spec.specs.Folders.{Choice, same, Source, first_of}
+use Rattle.hwdb_text.specs.Views.{IsStorable, HasNoZero}
+use Rattle.hwdb_compile.specs.Views.{name_of, source_of, sources}
 use Rattle.hwdb_writer.specs.Internal.Storable as writer
 use Rattle.hwdb_spec.specs.Tree.{Map, entry_of, surviving}
 use Rattle.std.specs.Borrow.{Bor}
@@ -21,7 +23,6 @@ use Rattle.std.specs.declared.cmp.Ordering.{Ordering}
 use Rattle.std.specs.declared.cmp.Ordering.TheVariants.{Less, Equal, Greater}
 use Rattle.std.proofs.lemmas.Cmp.{nat_list_cmp_total}
 use Rattle.hwdb_compile.specs.declared.sources.SourceFile.{SourceFile}
-use Rattle.hwdb_compile.specs.Views.{source_of, sources}
 use Rattle.hwdb_compile.specs.Internal.Reading.{bytes_at, IsPuttable}
 
 -- one more of a list, mapped

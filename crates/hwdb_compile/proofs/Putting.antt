@@ -5,7 +5,8 @@ use Rattle.std.specs.declared.cmp.Ordering.TheVariants.{Less, Equal, Greater}
 use Rattle.std.specs.Ordering.{match_ordering}
 use Rattle.std.specs.Cmp.{IsTotalOrder}
 use Rattle.std.specs.List.{AllByRecursion}
-use Rattle.hwdb_spec.specs.Assignment.{put, put_all, Ascends}
+use Rattle.hwdb_spec.specs.Assignment.{put, put_all}
+use Rattle.std.specs.List.Sorted.{IsStrictlySortedBy}
 
 -- what passes goes on passing behind it
 pub record Upward {A : Type 0} (cmp : A → A → Ordering) (p : A → Bool) : Type 0 where
@@ -87,17 +88,17 @@ all_above cmp total x y (z ∷ zs) h all = (total.trans x y z h all.0, all_above
 pub above_of : {A : Type 0} (cmp : A → A → Ordering) → IsTotalOrder cmp → (x y : A) → cmp x y ≡ Greater → cmp y x ≡ Less
 above_of cmp total x y h = let e = total.antisymm y x in e ∙ rw h refl
 
-pub ascends_put : {A : Type 0} (cmp : A → A → Ordering) → IsTotalOrder cmp → (x : A) (l : List A) → Ascends cmp l → Ascends cmp (put cmp x l)
-unfolding put Ascends
+pub ascends_put : {A : Type 0} (cmp : A → A → Ordering) → IsTotalOrder cmp → (x : A) (l : List A) → IsStrictlySortedBy cmp l → IsStrictlySortedBy cmp (put cmp x l)
+unfolding put IsStrictlySortedBy
 ascends_put cmp total x [] up = (tt, tt)
 ascends_put cmp total x (y ∷ ys) up =
-    elim (cmp x y) as (λ o. cmp x y ≡ o → Ascends cmp (match_ordering o (x ∷ y ∷ ys) (y ∷ ys) (y ∷ put cmp x ys))) [
+    elim (cmp x y) as (λ o. cmp x y ≡ o → IsStrictlySortedBy cmp (match_ordering o (x ∷ y ∷ ys) (y ∷ ys) (y ∷ put cmp x ys))) [
       | Less ↦ λ e. ((e, all_above cmp total x y ys e up.0), up)
       | Equal ↦ λ e. up
       | Greater ↦ λ e. (all_put cmp (λ z. cmp y z ≡ Less) x ys (above_of cmp total x y e) up.0, ascends_put cmp total x ys up.1)
     ] refl
 
-pub ascends_all : {A : Type 0} (cmp : A → A → Ordering) → IsTotalOrder cmp → (xs l : List A) → Ascends cmp l → Ascends cmp (put_all cmp xs l)
+pub ascends_all : {A : Type 0} (cmp : A → A → Ordering) → IsTotalOrder cmp → (xs l : List A) → IsStrictlySortedBy cmp l → IsStrictlySortedBy cmp (put_all cmp xs l)
 unfolding put_all
 ascends_all cmp total [] l up = up
 ascends_all cmp total (x ∷ xs) l up = ascends_all cmp total xs (put cmp x l) (ascends_put cmp total x l up)

@@ -2,7 +2,8 @@
 ghost use Rattle.std.specs.Prelude.{◌≡◌, ℕ, List, map, IfOk, OnOk};
 ghost use Rattle.std.specs.String.{string_bytes};
 ghost use Rattle.hwdb_compile.specs.Views.{sources};
-ghost use Rattle.hwdb_spec.specs.Folders.{name_of, first_of};
+ghost use Rattle.hwdb_spec.specs.Folders.{first_of};
+ghost use Rattle.hwdb_compile.specs.Views.{name_of};
 ghost use Rattle.hwdb_compile.specs.Internal.Reading.{bytes_at};
 
 use hwdb_text::Fault;

@@ -14,8 +14,10 @@ use Rattle.std.proofs.lemmas.List.{reverse-append, append-nil}
 use Rattle.std.proofs.lemmas.Map.{lookup-none}
 use Rattle.std.proofs.lemmas.Map.Keys.{IsDistinct-from_sorted}
 use Rattle.std.proofs.lemmas.Map.Entries.{lookup_head, lookup_tail, none_past_head, none_below_head}
-use Rattle.hwdb_spec.specs.Assignment.{put, in_order, Ascends, Assignment, position_cmp, assignment_cmp}
-use Rattle.hwdb_spec.specs.Answers.{is_after, key_cmp, key_of_answer, has_key, last_value, effective_of}
+use Rattle.hwdb_spec.specs.Assignment.{put, in_order, Assignment, position_cmp, assignment_cmp}
+use Rattle.std.specs.List.Sorted.{IsStrictlySortedBy}
+use Rattle.hwdb_spec.specs.Answers.{is_after, key_of_answer, has_key, last_value, effective_of}
+use Rattle.hwdb_spec.specs.Assignment.{text_cmp}
 use Rattle.hwdb_query.specs.Views.{pair_bytes, pairs_bytes}
 use Rattle.hwdb_query.specs.Internal.Pairs.{put_values}
 use Rattle.hwdb_query.specs.Internal.Collected.{Told, told, told_last, told_at, position_at, last_with, Shows}
@@ -135,7 +137,7 @@ some_there key x y ys h none =
       | Some z ↦ λ k. cc
       | None ↦ λ k. elim (has_key key y) as (λ b. has_key key y ≡ b → cond b (Some y) None ≡ None → one key x ≡ None) [
         | true ↦ λ e q. cc
-        | false ↦ λ e q. ap (λ b. cond b (Some x) None) (ap (λ k. is_eq (key_cmp key k)) (same_key_of x y h) ∙ e)
+        | false ↦ λ e q. ap (λ b. cond b (Some x) None) (ap (λ k. is_eq (text_cmp key k)) (same_key_of x y h) ∙ e)
       ] refl k
     ] none
 
@@ -148,8 +150,8 @@ alike x y (z ∷ zs) e all = (same z ∙ all.0, alike x y zs e all.1)
     same z = assignment_total.antisymm x z ∙ ap ordering_reverse (alike_right assignment_total x y z e) ∙ sym (assignment_total.antisymm y z)
 
 -- one more hit in its place
-last_put : (key : List ℕ) (x : Assignment) (l : List Assignment) → Ascends assignment_cmp l → last_at key (put assignment_cmp x l) ≡ newer key x (last_at key l)
-unfolding put Ascends last_at
+last_put : (key : List ℕ) (x : Assignment) (l : List Assignment) → IsStrictlySortedBy assignment_cmp l → last_at key (put assignment_cmp x l) ≡ newer key x (last_at key l)
+unfolding put IsStrictlySortedBy last_at
 last_put key x [] up = sym (is_newer key x)
 last_put key x (y ∷ ys) up =
     let again : last_at key (put assignment_cmp x ys) ≡ newer key x (last_at key ys) = last_put key x ys up.1 in
@@ -177,14 +179,14 @@ last_put key x (y ∷ ys) up =
 abbrev Hits : Type 0
 Hits = BTreeMap (Bor (List ℕ)) Last
 
-with_put : (key : List ℕ) (x : Assignment) (hits : List Assignment) → Ascends assignment_cmp hits → last_with key (put assignment_cmp x hits) ≡ newer key x (last_with key hits)
+with_put : (key : List ℕ) (x : Assignment) (hits : List Assignment) → IsStrictlySortedBy assignment_cmp hits → last_with key (put assignment_cmp x hits) ≡ newer key x (last_with key hits)
 with_put key x hits up = with_is_at key (put assignment_cmp x hits) ∙ last_put key x hits up ∙ ap (newer key x) (sym (with_is_at key hits))
 
 key_is : (key : List ℕ) (x : Assignment) → has_key key x ≡ true → key ≡ x.position.key
 key_is key x h = same_text key x.position.key (equal_of _ h)
 
 -- a hit that doesn't come after the one that stands at its key
-pub left_there : (m : Hits) (hits : List Assignment) (x : Assignment) → Ascends assignment_cmp hits → Shows m hits → is_after (position_at m x.position.key) x.position ≡ false → Shows m (put assignment_cmp x hits)
+pub left_there : (m : Hits) (hits : List Assignment) (x : Assignment) → IsStrictlySortedBy assignment_cmp hits → Shows m hits → is_after (position_at m x.position.key) x.position ≡ false → Shows m (put assignment_cmp x hits)
 left_there m hits x up shows early = λ key.
     shows key ∙ ap (option_map told)
     (sym (with_put key x hits up
@@ -195,7 +197,7 @@ left_there m hits x up shows early = λ key.
     ] refl))
 
 -- a hit that stands at its key from now on
-pub put_there : (m n : Hits) (hits : List Assignment) (x : Assignment) → Ascends assignment_cmp hits → Shows m hits → is_after (position_at m x.position.key) x.position ≡ true
+pub put_there : (m n : Hits) (hits : List Assignment) (x : Assignment) → IsStrictlySortedBy assignment_cmp hits → Shows m hits → is_after (position_at m x.position.key) x.position ≡ true
     → ((key : List ℕ) → told_at n key ≡ cond (has_key key x) (Some (told x)) (told_at m key)) → Shows n (put assignment_cmp x hits)
 put_there m n hits x up shows late now = λ key.
     now key ∙ ap (cond (has_key key x) (Some (told x))) (shows key)
@@ -209,15 +211,15 @@ put_there m n hits x up shows late now = λ key.
 
 -- what an insertion puts at each key
 pub inserted_at : (m n : Hits) (x : Assignment) (key : Bor (List ℕ)) (last : Last) (q : List ℕ) → key.now ≡ x.position.key → told_last key.now last ≡ told x
-    → get_by (λ k. key_cmp q k.now) n ≡ cond (is_eq (key_cmp key.now q)) (Some last) (get_by (λ k. key_cmp q k.now) m)
+    → get_by (λ k. text_cmp q k.now) n ≡ cond (is_eq (text_cmp key.now q)) (Some last) (get_by (λ k. text_cmp q k.now) m)
     → told_at n q ≡ cond (has_key q x) (Some (told x)) (told_at m q)
 inserted_at m n x key last q at same is =
     ap (option_map (told_last q)) is
-    ∙ elim (is_eq (key_cmp key.now q)) as (λ b. is_eq (key_cmp key.now q) ≡ b → option_map (told_last q) (cond b (Some last) (get_by (λ k. key_cmp q k.now) m)) ≡ cond b (Some (told x)) (told_at m q)) [
+    ∙ elim (is_eq (text_cmp key.now q)) as (λ b. is_eq (text_cmp key.now q) ≡ b → option_map (told_last q) (cond b (Some last) (get_by (λ k. text_cmp q k.now) m)) ≡ cond b (Some (told x)) (told_at m q)) [
       | true ↦ λ e. ap Some (ap (λ k. told_last k last) (sym (same_text key.now q (equal_of _ e))) ∙ same)
       | false ↦ λ e. refl
     ] refl
-    ∙ ap (λ b. cond b (Some (told x)) (told_at m q)) (flipped key.now q ∙ ap (λ k. is_eq (key_cmp q k)) at)
+    ∙ ap (λ b. cond b (Some (told x)) (told_at m q)) (flipped key.now q ∙ ap (λ k. is_eq (text_cmp q k)) at)
 
 -- ---- the list at the end
 
@@ -245,82 +247,82 @@ pairs_over pairs rest whole none is = sym (append-nil (pairs_bytes pairs)) ∙ s
 value_told : Told → List ℕ
 value_told t = t.1
 
-lookup_pairs : (q : List ℕ) (es : List (Bor (List ℕ) × Last)) → lookup (is_at (key_cmp q)) (map pair_of es) ≡ option_map value_told (option_map (told_last q) (lookup (is_at (λ (k : Bor (List ℕ)). key_cmp q k.now)) es))
+lookup_pairs : (q : List ℕ) (es : List (Bor (List ℕ) × Last)) → lookup (is_at (text_cmp q)) (map pair_of es) ≡ option_map value_told (option_map (told_last q) (lookup (is_at (λ (k : Bor (List ℕ)). text_cmp q k.now)) es))
 unfolding value_told
 lookup_pairs q [] = refl
 lookup_pairs q (e ∷ es) =
     let again = lookup_pairs q es in
-    elim (is_eq (key_cmp q e.0.now)) as (λ b. cond b (Some e.1.value.now) (lookup (is_at (key_cmp q)) (map pair_of es))
-    ≡ option_map value_told (option_map (told_last q) (cond b (Some e.1) (lookup (is_at (λ (k : Bor (List ℕ)). key_cmp q k.now)) es)))) [
+    elim (is_eq (text_cmp q e.0.now)) as (λ b. cond b (Some e.1.value.now) (lookup (is_at (text_cmp q)) (map pair_of es))
+    ≡ option_map value_told (option_map (told_last q) (cond b (Some e.1) (lookup (is_at (λ (k : Bor (List ℕ)). text_cmp q k.now)) es)))) [
       | true ↦ refl
       | false ↦ again
     ]
 
-sorted_pairs : (es : List (Bor (List ℕ) × Last)) → IsStrictlySortedBy (λ (a : Bor (List ℕ)) (b : Bor (List ℕ)). key_cmp a.now b.now) (keys_of es) → IsStrictlySortedBy key_cmp (keys_of (map pair_of es))
+sorted_pairs : (es : List (Bor (List ℕ) × Last)) → IsStrictlySortedBy (λ (a : Bor (List ℕ)) (b : Bor (List ℕ)). text_cmp a.now b.now) (keys_of es) → IsStrictlySortedBy text_cmp (keys_of (map pair_of es))
 unfolding IsStrictlySortedBy
 sorted_pairs [] s = tt
 sorted_pairs (e ∷ es) s = (above es s.0, sorted_pairs es s.1)
   where
-    above : (es : List (Bor (List ℕ) × Last)) → AllByRecursion (λ (b : Bor (List ℕ)). key_cmp e.0.now b.now ≡ Less) (keys_of es) → AllByRecursion (λ b. key_cmp e.0.now b ≡ Less) (keys_of (map pair_of es))
+    above : (es : List (Bor (List ℕ) × Last)) → AllByRecursion (λ (b : Bor (List ℕ)). text_cmp e.0.now b.now ≡ Less) (keys_of es) → AllByRecursion (λ b. text_cmp e.0.now b ≡ Less) (keys_of (map pair_of es))
     above [] all = tt
     above (f ∷ es) all = (all.0, above es all.1)
 
-sorted_listed : (g : List ℕ → List ℕ) (keys : List (List ℕ)) → Ascends key_cmp keys → IsStrictlySortedBy key_cmp (keys_of (map (λ key. (key, g key)) keys))
-unfolding IsStrictlySortedBy Ascends
+sorted_listed : (g : List ℕ → List ℕ) (keys : List (List ℕ)) → IsStrictlySortedBy text_cmp keys → IsStrictlySortedBy text_cmp (keys_of (map (λ key. (key, g key)) keys))
+unfolding IsStrictlySortedBy
 sorted_listed g [] up = tt
 sorted_listed g (k ∷ keys) up = (above keys up.0, sorted_listed g keys up.1)
   where
-    above : (keys : List (List ℕ)) → AllByRecursion (λ b. key_cmp k b ≡ Less) keys → AllByRecursion (λ b. key_cmp k b ≡ Less) (keys_of (map (λ key. (key, g key)) keys))
+    above : (keys : List (List ℕ)) → AllByRecursion (λ b. text_cmp k b ≡ Less) keys → AllByRecursion (λ b. text_cmp k b ≡ Less) (keys_of (map (λ key. (key, g key)) keys))
     above [] all = tt
     above (j ∷ keys) all = (all.0, above keys all.1)
 
-none_ascends : let none : List (List ℕ) = [] in Ascends key_cmp none
-unfolding Ascends
+none_ascends : let none : List (List ℕ) = [] in IsStrictlySortedBy text_cmp none
+unfolding IsStrictlySortedBy
 none_ascends = tt
 
-sorted_effective : (hits : List Assignment) → IsStrictlySortedBy key_cmp (keys_of (effective_of hits))
+sorted_effective : (hits : List Assignment) → IsStrictlySortedBy text_cmp (keys_of (effective_of hits))
 unfolding effective_of
-sorted_effective hits = sorted_listed (last_value hits) (in_order key_cmp (map key_of_answer hits)) (ascends_all key_cmp nat_list_cmp_total (map key_of_answer hits) [] none_ascends)
+sorted_effective hits = sorted_listed (last_value hits) (in_order text_cmp (map key_of_answer hits)) (ascends_all text_cmp nat_list_cmp_total (map key_of_answer hits) [] none_ascends)
 
-lookup_inserted : (q key value : List ℕ) (es : List (List ℕ × List ℕ)) → lookup (is_at (key_cmp q)) (insert_entry key_cmp es key value) ≡ cond (is_eq (key_cmp q key)) (Some value) (lookup (is_at (key_cmp q)) es)
+lookup_inserted : (q key value : List ℕ) (es : List (List ℕ × List ℕ)) → lookup (is_at (text_cmp q)) (insert_entry text_cmp es key value) ≡ cond (is_eq (text_cmp q key)) (Some value) (lookup (is_at (text_cmp q)) es)
 lookup_inserted q key value [] = refl
 lookup_inserted q key value (e ∷ es) =
     let again = lookup_inserted q key value es in
-    let rest = lookup (is_at (key_cmp q)) es in
-    elim (key_cmp key e.0) as (λ o. key_cmp key e.0 ≡ o → lookup (is_at (key_cmp q)) (match_ordering o ((key, value) ∷ e ∷ es) ((e.0, value) ∷ es) (e ∷ insert_entry key_cmp es key value))
-    ≡ cond (is_eq (key_cmp q key)) (Some value) (cond (is_eq (key_cmp q e.0)) (Some e.1) rest)) [
+    let rest = lookup (is_at (text_cmp q)) es in
+    elim (text_cmp key e.0) as (λ o. text_cmp key e.0 ≡ o → lookup (is_at (text_cmp q)) (match_ordering o ((key, value) ∷ e ∷ es) ((e.0, value) ∷ es) (e ∷ insert_entry text_cmp es key value))
+    ≡ cond (is_eq (text_cmp q key)) (Some value) (cond (is_eq (text_cmp q e.0)) (Some e.1) rest)) [
       | Less ↦ λ d. refl
       | Equal ↦ λ d. let same : key ≡ e.0 = same_text key e.0 d in
-          ap (λ k. cond (is_eq (key_cmp q k)) (Some value) rest) (sym same)
-          ∙ elim (is_eq (key_cmp q key)) as (λ b. is_eq (key_cmp q key) ≡ b → cond b (Some value) rest ≡ cond b (Some value) (cond (is_eq (key_cmp q e.0)) (Some e.1) rest)) [
+          ap (λ k. cond (is_eq (text_cmp q k)) (Some value) rest) (sym same)
+          ∙ elim (is_eq (text_cmp q key)) as (λ b. is_eq (text_cmp q key) ≡ b → cond b (Some value) rest ≡ cond b (Some value) (cond (is_eq (text_cmp q e.0)) (Some e.1) rest)) [
             | true ↦ λ h. refl
-            | false ↦ λ h. sym (ap (λ b. cond b (Some e.1) rest) (ap (λ k. is_eq (key_cmp q k)) (sym same) ∙ h))
+            | false ↦ λ h. sym (ap (λ b. cond b (Some e.1) rest) (ap (λ k. is_eq (text_cmp q k)) (sym same) ∙ h))
           ] refl
       | Greater ↦ λ d.
-          ap (cond (is_eq (key_cmp q e.0)) (Some e.1)) again
-          ∙ elim (is_eq (key_cmp q e.0)) as (λ b. is_eq (key_cmp q e.0) ≡ b → cond b (Some e.1) (cond (is_eq (key_cmp q key)) (Some value) rest) ≡ cond (is_eq (key_cmp q key)) (Some value) (cond b (Some e.1) rest)) [
+          ap (cond (is_eq (text_cmp q e.0)) (Some e.1)) again
+          ∙ elim (is_eq (text_cmp q e.0)) as (λ b. is_eq (text_cmp q e.0) ≡ b → cond b (Some e.1) (cond (is_eq (text_cmp q key)) (Some value) rest) ≡ cond (is_eq (text_cmp q key)) (Some value) (cond b (Some e.1) rest)) [
             | true ↦ λ h. sym (ap (λ b. cond b (Some value) (Some e.1)) (apart h d))
             | false ↦ λ h. refl
           ] refl
     ] refl
   where
-    apart : is_eq (key_cmp q e.0) ≡ true → key_cmp key e.0 ≡ Greater → is_eq (key_cmp q key) ≡ false
+    apart : is_eq (text_cmp q e.0) ≡ true → text_cmp key e.0 ≡ Greater → is_eq (text_cmp q key) ≡ false
     apart h d = let same : q ≡ e.0 = same_text q e.0 (equal_of _ h) in
-        ap is_eq (ap (λ k. key_cmp k key) same ∙ nat_list_cmp_total.antisymm e.0 key ∙ ap ordering_reverse d)
+        ap is_eq (ap (λ k. text_cmp k key) same ∙ nat_list_cmp_total.antisymm e.0 key ∙ ap ordering_reverse d)
 
 value_found : Assignment → List ℕ
 value_found f = f.value
 
-lookup_put : (q : List ℕ) (l : List Assignment) (es : List (List ℕ × List ℕ)) → lookup (is_at (key_cmp q)) (put_values es l) ≡ first_some (option_map value_found (last_at q l)) (lookup (is_at (key_cmp q)) es)
+lookup_put : (q : List ℕ) (l : List Assignment) (es : List (List ℕ × List ℕ)) → lookup (is_at (text_cmp q)) (put_values es l) ≡ first_some (option_map value_found (last_at q l)) (lookup (is_at (text_cmp q)) es)
 unfolding put_values last_at value_found
 lookup_put q [] es = refl
 lookup_put q (f ∷ more) es =
-    lookup_put q more (insert_entry key_cmp es f.position.key f.value)
+    lookup_put q more (insert_entry text_cmp es f.position.key f.value)
     ∙ ap (first_some (option_map value_found (last_at q more))) (lookup_inserted q f.position.key f.value es)
-    ∙ elim (last_at q more) as (λ o. first_some (option_map value_found o) (cond (has_key q f) (Some f.value) (lookup (is_at (key_cmp q)) es))
-    ≡ first_some (option_map value_found (first_some o (one q f))) (lookup (is_at (key_cmp q)) es)) [
+    ∙ elim (last_at q more) as (λ o. first_some (option_map value_found o) (cond (has_key q f) (Some f.value) (lookup (is_at (text_cmp q)) es))
+    ≡ first_some (option_map value_found (first_some o (one q f))) (lookup (is_at (text_cmp q)) es)) [
       | Some z ↦ refl
-      | None ↦ elim (has_key q f) as (λ b. cond b (Some f.value) (lookup (is_at (key_cmp q)) es) ≡ first_some (option_map value_found (cond b (Some f) None)) (lookup (is_at (key_cmp q)) es)) [ true ↦ refl | false ↦ refl ]
+      | None ↦ elim (has_key q f) as (λ b. cond b (Some f.value) (lookup (is_at (text_cmp q)) es) ≡ first_some (option_map value_found (cond b (Some f) None)) (lookup (is_at (text_cmp q)) es)) [ true ↦ refl | false ↦ refl ]
     ]
 
 first_or_none : {A : Type 0} (o : Option A) → first_some o None ≡ o
@@ -338,13 +340,13 @@ abbrev Entries : Type 0
 Entries = List (List ℕ × List ℕ)
 
 abbrev value_at : List ℕ → Entries → Option (List ℕ)
-value_at q es = lookup (is_at (key_cmp q)) es
+value_at q es = lookup (is_at (text_cmp q)) es
 
 abbrev Sorted : Entries → Type 0
-Sorted es = IsStrictlySortedBy key_cmp (keys_of es)
+Sorted es = IsStrictlySortedBy text_cmp (keys_of es)
 
 at_head : (e : List ℕ × List ℕ) (es : Entries) → value_at e.0 (e ∷ es) ≡ Some e.1
-at_head e es = lookup_head (is_at (key_cmp e.0)) e es (ap is_eq (tied_itself nat_list_cmp_total e.0))
+at_head e es = lookup_head (is_at (text_cmp e.0)) e es (ap is_eq (tied_itself nat_list_cmp_total e.0))
 
 sorted_behind : (e : List ℕ × List ℕ) (es : Entries) → Sorted (e ∷ es) → Sorted es
 unfolding IsStrictlySortedBy
@@ -355,20 +357,20 @@ never v h = cc
 
 one_head : (e f : List ℕ × List ℕ) (es fs : Entries) → Sorted (e ∷ es) → Sorted (f ∷ fs) → ((q : List ℕ) → value_at q (e ∷ es) ≡ value_at q (f ∷ fs)) → e.0 ≡ f.0
 one_head e f es fs s t same =
-    elim (key_cmp e.0 f.0) as (λ o. key_cmp e.0 f.0 ≡ o → e.0 ≡ f.0) [
+    elim (text_cmp e.0 f.0) as (λ o. text_cmp e.0 f.0 ≡ o → e.0 ≡ f.0) [
       | Less ↦ λ d. absurd (never e.1 (sym (at_head e es) ∙ same e.0 ∙ lookup-none _ (f ∷ fs) (none_below_head nat_list_cmp_total e.0 f fs t d)))
       | Equal ↦ λ d. same_text e.0 f.0 d
       | Greater ↦ λ d. absurd (never f.1 (sym (at_head f fs) ∙ sym (same f.0) ∙ lookup-none _ (e ∷ es) (none_below_head nat_list_cmp_total f.0 e es s (nat_list_cmp_total.antisymm f.0 e.0 ∙ ap ordering_reverse d))))
     ] refl
 
-none_behind : (q : List ℕ) (e : List ℕ × List ℕ) (es : Entries) → Sorted (e ∷ es) → eq_by_cmp key_cmp q e.0 ≡ true → value_at q es ≡ None
-none_behind q e es s h = lookup-none (is_at (key_cmp q)) es (none_past_head (eq_by_cmp_equiv nat_list_cmp_total) q e es (IsDistinct-from_sorted key_cmp _ s) h)
+none_behind : (q : List ℕ) (e : List ℕ × List ℕ) (es : Entries) → Sorted (e ∷ es) → eq_by_cmp text_cmp q e.0 ≡ true → value_at q es ≡ None
+none_behind q e es s h = lookup-none (is_at (text_cmp q)) es (none_past_head (eq_by_cmp_equiv nat_list_cmp_total) q e es (IsDistinct-from_sorted text_cmp _ s) h)
 
 same_behind : (e f : List ℕ × List ℕ) (es fs : Entries) → Sorted (e ∷ es) → Sorted (f ∷ fs) → e.0 ≡ f.0 → (q : List ℕ) → value_at q (e ∷ es) ≡ value_at q (f ∷ fs) → value_at q es ≡ value_at q fs
 same_behind e f es fs s t head q same =
-    elim (is_eq (key_cmp q e.0)) as (λ b. is_eq (key_cmp q e.0) ≡ b → value_at q es ≡ value_at q fs) [
-      | true ↦ λ h. none_behind q e es s h ∙ sym (none_behind q f fs t (ap (λ k. is_eq (key_cmp q k)) (sym head) ∙ h))
-      | false ↦ λ h. sym (lookup_tail (is_at (key_cmp q)) e es h) ∙ same ∙ lookup_tail (is_at (key_cmp q)) f fs (ap (λ k. is_eq (key_cmp q k)) (sym head) ∙ h)
+    elim (is_eq (text_cmp q e.0)) as (λ b. is_eq (text_cmp q e.0) ≡ b → value_at q es ≡ value_at q fs) [
+      | true ↦ λ h. none_behind q e es s h ∙ sym (none_behind q f fs t (ap (λ k. is_eq (text_cmp q k)) (sym head) ∙ h))
+      | false ↦ λ h. sym (lookup_tail (is_at (text_cmp q)) e es h) ∙ same ∙ lookup_tail (is_at (text_cmp q)) f fs (ap (λ k. is_eq (text_cmp q k)) (sym head) ∙ h)
     ] refl
 
 some_same : {A : Type 0} (a b : A) → Some a ≡ Some b → a ≡ b
@@ -385,12 +387,12 @@ same_entries (e ∷ es) (f ∷ fs) s t same =
     λ i. (head i, value i) ∷ rest i
 
 -- the pairs of a map that shows hits are the effective list of the hits
-pub pairs_are : (m : Hits) (hits : List Assignment) → IsOrdered (λ (a : Bor (List ℕ)) (b : Bor (List ℕ)). key_cmp a.now b.now) m → Shows m hits → map pair_of m.entries ≡ effective_of hits
+pub pairs_are : (m : Hits) (hits : List Assignment) → IsOrdered (λ (a : Bor (List ℕ)) (b : Bor (List ℕ)). text_cmp a.now b.now) m → Shows m hits → map pair_of m.entries ≡ effective_of hits
 pairs_are m hits ordered shows =
     same_entries (map pair_of m.entries) (effective_of hits) (sorted_pairs m.entries ordered) (sorted_effective hits)
     (λ q. lookup_pairs q m.entries ∙ ap (option_map value_told) (shows q) ∙ values_same (last_with q hits) ∙ ap (option_map value_found) (with_is_at q hits)
-    ∙ sym (ap (lookup (is_at (key_cmp q))) (sym (all_put hits)) ∙ lookup_put q hits [] ∙ first_or_none (option_map value_found (last_at q hits))))
+    ∙ sym (ap (lookup (is_at (text_cmp q))) (sym (all_put hits)) ∙ lookup_put q hits [] ∙ first_or_none (option_map value_found (last_at q hits))))
 
 -- an empty map shows no hits
 pub shows_none : (m : Hits) → m.entries ≡ [] → Shows m []
-shows_none m none = λ key. ap (λ (es : List (Bor (List ℕ) × Last)). option_map (told_last key) (lookup (is_at (λ (k : Bor (List ℕ)). key_cmp key k.now)) es)) none
+shows_none m none = λ key. ap (λ (es : List (Bor (List ℕ) × Last)). option_map (told_last key) (lookup (is_at (λ (k : Bor (List ℕ)). text_cmp key k.now)) es)) none

@@ -7,7 +7,8 @@ use Rattle.hwdb_spec.specs.Tree.{Value}
 use Rattle.hwdb_query.specs.Internal.Members.{one_assignment, assignment_shown, wanted, own_members}
 use Rattle.hwdb_reader.specs.Views.{Shown, shown}
 use Rattle.std.specs.Ordering.{is_lt, ordering_reverse}
-use Rattle.hwdb_spec.specs.Assignment.{Position, Assignment, position_cmp, assignment_cmp, put, put_all, in_order, Ascends}
+use Rattle.hwdb_spec.specs.Assignment.{Position, Assignment, position_cmp, assignment_cmp, put, put_all, in_order}
+use Rattle.std.specs.List.Sorted.{IsStrictlySortedBy}
 use Rattle.hwdb_spec.specs.Answers.{is_after, is_behind, is_wanted}
 use Rattle.hwdb_query.specs.Internal.Lists.{keep_all}
 use Rattle.hwdb_query.specs.Internal.Hits.{after_position}
@@ -31,13 +32,13 @@ all_take P zero l all = tt
 all_take P (suc n) [] all = tt
 all_take P (suc n) (x ∷ l) all = (all.0, all_take P n l all.1)
 
-ascends_take : (n : ℕ) (l : List Assignment) → Ascends assignment_cmp l → Ascends assignment_cmp (take n l)
-unfolding Ascends
+ascends_take : (n : ℕ) (l : List Assignment) → IsStrictlySortedBy assignment_cmp l → IsStrictlySortedBy assignment_cmp (take n l)
+unfolding IsStrictlySortedBy
 ascends_take zero l up = tt
 ascends_take (suc n) [] up = tt
 ascends_take (suc n) (x ∷ l) up = (all_take (λ y. assignment_cmp x y ≡ Less) n l up.0, ascends_take n l up.1)
 
-pub ascends_kept : (n : ℕ) (x : Assignment) (l : List Assignment) → Ascends assignment_cmp l → Ascends assignment_cmp (take n (put assignment_cmp x l))
+pub ascends_kept : (n : ℕ) (x : Assignment) (l : List Assignment) → IsStrictlySortedBy assignment_cmp l → IsStrictlySortedBy assignment_cmp (take n (put assignment_cmp x l))
 ascends_kept n x l up = ascends_take n (put assignment_cmp x l) (ascends_put assignment_cmp assignment_total x l up)
 
 pub page_none : (a : NextPage) → PageCollects a [] a
@@ -96,7 +97,7 @@ unfolding assignment_shown
 last_offered_none a pattern s none = subst (λ o. LastCollects a (one_assignment pattern s o) a) (sym none) (last_none a)
 
 pub last_offered : (a b : LastHits) (pattern key : List ℕ) (s : Shown) → s.key ≡ Some key
-    → ((hits : List Assignment) → Ascends assignment_cmp hits → Shows a.hits hits → Shows b.hits (put assignment_cmp (assignment_at pattern key s) hits)) → LastCollects a (assignment_shown pattern s) b
+    → ((hits : List Assignment) → IsStrictlySortedBy assignment_cmp hits → Shows a.hits hits → Shows b.hits (put assignment_cmp (assignment_at pattern key s) hits)) → LastCollects a (assignment_shown pattern s) b
 unfolding assignment_shown put_all LastCollects
 last_offered a b pattern key s some step = subst (λ o. LastCollects a (one_assignment pattern s o) b) (sym some) step
 
@@ -110,14 +111,14 @@ page_offered_early a pattern key s some early =
     record { after = refl; most = refl; ascends = λ up. up; kept = λ up. offered_early a.held.most (after_position a.after) pattern key s a.held.hits some early }
 
 pub page_offered : (a b : NextPage) (pattern key : List ℕ) (s : Shown) → s.key ≡ Some key → is_after (after_position a.after) (assignment_at pattern key s).position ≡ true
-    → b.after ≡ a.after → b.held.most ≡ a.held.most → (Ascends assignment_cmp a.held.hits → b.held.hits ≡ take a.held.most (put assignment_cmp (assignment_at pattern key s) a.held.hits))
+    → b.after ≡ a.after → b.held.most ≡ a.held.most → (IsStrictlySortedBy assignment_cmp a.held.hits → b.held.hits ≡ take a.held.most (put assignment_cmp (assignment_at pattern key s) a.held.hits))
     → PageCollects a (assignment_shown pattern s) b
 page_offered a b pattern key s some late after most kept =
     let x = assignment_at pattern key s in
     record {
       after = after;
       most = most;
-      ascends = λ up. subst (Ascends assignment_cmp) (sym (kept up)) (ascends_kept a.held.most x a.held.hits up);
+      ascends = λ up. subst (IsStrictlySortedBy assignment_cmp) (sym (kept up)) (ascends_kept a.held.most x a.held.hits up);
       kept = λ up. offered_some a.held.most (after_position a.after) pattern key s x a.held.hits b.held.hits some refl late (kept up);
     }
 
@@ -156,8 +157,8 @@ unfolding Collects
 still_last a xs (Page b) taken = taken
 still_last a xs (LastOnes b) taken = tt
 
-none_ascends : let none : List Assignment = [] in Ascends assignment_cmp none
-unfolding Ascends
+none_ascends : let none : List Assignment = [] in IsStrictlySortedBy assignment_cmp none
+unfolding IsStrictlySortedBy
 none_ascends = tt
 
 -- a page that was empty, after all
@@ -165,7 +166,7 @@ pub page_at_end : (a : NextPage) (members : List Assignment) (device : List ℕ)
     → (held.most ≡ a.held.most) × (held.hits ≡ keep_all assignment_cmp a.held.most (wanted device (after_position a.after) members) [])
 unfolding Collects wanted
 page_at_end a members device (Page b) held none taken is =
-    let up : Ascends assignment_cmp a.held.hits = subst (Ascends assignment_cmp) (sym none) none_ascends in (
+    let up : IsStrictlySortedBy assignment_cmp a.held.hits = subst (IsStrictlySortedBy assignment_cmp) (sym none) none_ascends in (
       ap (λ (p : HeldHits). p.most) is ∙ taken.most,
       ap (λ (p : HeldHits). p.hits) is ∙ taken.kept up
           ∙ ap (keep_all assignment_cmp a.held.most (filter (is_behind (after_position a.after)) (filter (is_wanted device) members))) none,
@@ -208,7 +209,7 @@ skipped_before a after x given less =
       kept = λ up. keep_none a.held.most (filter (is_behind (after_position a.after)) (x ∷ [])) a.held.hits (filter_out (is_behind (after_position a.after)) x [] early);
     }
 
-pub skipped_behind : (a : NextPage) (x : Assignment) → (Ascends assignment_cmp a.held.hits → take a.held.most (put assignment_cmp x a.held.hits) ≡ a.held.hits) → PageCollects a (x ∷ []) a
+pub skipped_behind : (a : NextPage) (x : Assignment) → (IsStrictlySortedBy assignment_cmp a.held.hits → take a.held.most (put assignment_cmp x a.held.hits) ≡ a.held.hits) → PageCollects a (x ∷ []) a
 unfolding keep_all
 skipped_behind a x stays =
     record {

@@ -10,7 +10,8 @@ use Rattle.std.specs.declared.cmp.Ordering.TheVariants.{Less, Equal, Greater}
 use Rattle.std.proofs.lemmas.Cmp.{alike_right}
 use Rattle.std.proofs.lemmas.List.Sorted.{searchable_from_sorted}
 use Rattle.hwdb_reader.specs.declared.view.Origin.{Origin}
-use Rattle.hwdb_spec.specs.Assignment.{Position, Assignment, position_cmp, assignment_cmp, put, Ascends}
+use Rattle.hwdb_spec.specs.Assignment.{Position, Assignment, position_cmp, assignment_cmp, put}
+use Rattle.std.specs.List.Sorted.{IsStrictlySortedBy}
 use Rattle.hwdb_query.specs.Views.{Page, assignment_of_hit, assignments_of_hits}
 use Rattle.hwdb_query.specs.Internal.Hits.{IsLastOfFull, IsPositionOf}
 use Rattle.hwdb_query.specs.declared.hit.Hit.{Hit}
@@ -25,8 +26,8 @@ flipped : (x y : Assignment) (o : Ordering) → assignment_cmp x y ≡ o → ass
 flipped x y o e = assignment_total.antisymm y x ∙ ap ordering_reverse e
 
 -- ascending hits are sorted
-sorted : (hits : List Hit) → Ascends assignment_cmp (assignments_of_hits hits) → IsSortedBy (λ a b. is_lt (position_cmp (position_of a) (position_of b))) hits
-unfolding Ascends assignment_cmp
+sorted : (hits : List Hit) → IsStrictlySortedBy assignment_cmp (assignments_of_hits hits) → IsSortedBy (λ a b. is_lt (position_cmp (position_of a) (position_of b))) hits
+unfolding IsStrictlySortedBy assignment_cmp
 sorted [] up k d le lt = absurd (omega arith)
 sorted (h ∷ []) up k d le lt = absurd (omega arith)
 sorted (h ∷ g ∷ hits) up zero d le lt = ap is_lt (position_total.antisymm (position_of g) (position_of h) ∙ ap ordering_reverse up.0.0)
@@ -36,8 +37,8 @@ sorted (h ∷ g ∷ hits) up (suc k) d le lt =
     subst P next (sorted (g ∷ hits) up.1 k d (omega arith) (omega arith))
 
 -- where a hit ties with one of them, its place is taken
-tied : (x : Assignment) (hits : List Hit) (i : ℕ) → Ascends assignment_cmp (assignments_of_hits hits) → i < length hits → HoldsAt (λ y. assignment_cmp (assignment_of_hit y) x ≡ Equal) hits i → put assignment_cmp x (assignments_of_hits hits) ≡ assignments_of_hits hits
-unfolding Ascends
+tied : (x : Assignment) (hits : List Hit) (i : ℕ) → IsStrictlySortedBy assignment_cmp (assignments_of_hits hits) → i < length hits → HoldsAt (λ y. assignment_cmp (assignment_of_hit y) x ≡ Equal) hits i → put assignment_cmp x (assignments_of_hits hits) ≡ assignments_of_hits hits
+unfolding IsStrictlySortedBy
 tied x [] i up lt at = absurd (omega arith)
 tied x (h ∷ hits) zero up lt at = put_same assignment_cmp x (assignment_of_hit h) (assignments_of_hits hits) (flipped (assignment_of_hit h) x Equal (at h))
 tied x (h ∷ hits) (suc i) up lt at =
@@ -61,12 +62,12 @@ between x (h ∷ hits) (suc i) le parted =
     ∙ ap (λ l. assignment_of_hit h ∷ l) (between x hits i (omega arith) ((λ k d from lt. parted.0 (suc k) d (omega arith) (omega arith)), λ k d from lt. parted.1 (suc k) d (omega arith) (omega arith)))
 
 -- what a search by halving says of the hits
-pub found_taken : (x : Assignment) (hits : List Hit) (i : ℕ) → Ascends assignment_cmp (assignments_of_hits hits) → i < length hits → HoldsAt (λ y. position_cmp (position_of y) x.position ≡ Equal) hits i
+pub found_taken : (x : Assignment) (hits : List Hit) (i : ℕ) → IsStrictlySortedBy assignment_cmp (assignments_of_hits hits) → i < length hits → HoldsAt (λ y. position_cmp (position_of y) x.position ≡ Equal) hits i
     → put assignment_cmp x (assignments_of_hits hits) ≡ assignments_of_hits hits
 unfolding assignment_cmp
 found_taken x hits i up lt at = tied x hits i up lt at
 
-pub found_free : (x : Assignment) (hits : List Hit) (i : ℕ) (r : Result ℕ ℕ) → Ascends assignment_cmp (assignments_of_hits hits) → r ≡ Err i → IsSearchInRange r (length hits) → IsBinarySearchResult (λ y. position_cmp (position_of y) x.position) hits r
+pub found_free : (x : Assignment) (hits : List Hit) (i : ℕ) (r : Result ℕ ℕ) → IsStrictlySortedBy assignment_cmp (assignments_of_hits hits) → r ≡ Err i → IsSearchInRange r (length hits) → IsBinarySearchResult (λ y. position_cmp (position_of y) x.position) hits r
     → put assignment_cmp x (assignments_of_hits hits) ≡ take i (assignments_of_hits hits) ++ x ∷ drop i (assignments_of_hits hits)
 unfolding assignment_cmp
 found_free x hits i r up is range result =
@@ -76,9 +77,9 @@ found_free x hits i r up is range result =
 -- ---- full lists
 
 -- a hit above the last is above all
-all_below : (x : Assignment) (hits : List Hit) (n : ℕ) (h : Hit) → suc n ≡ length hits → h ≡ get_or hits n h → Ascends assignment_cmp (assignments_of_hits hits) → assignment_cmp (assignment_of_hit h) x ≡ Less
+all_below : (x : Assignment) (hits : List Hit) (n : ℕ) (h : Hit) → suc n ≡ length hits → h ≡ get_or hits n h → IsStrictlySortedBy assignment_cmp (assignments_of_hits hits) → assignment_cmp (assignment_of_hit h) x ≡ Less
     → AllByRecursion (λ y. assignment_cmp y x ≡ Less) (assignments_of_hits hits)
-unfolding Ascends
+unfolding IsStrictlySortedBy
 all_below x [] n h size at up less = absurd (omega (arith, size))
 all_below x (g ∷ []) zero h size at up less = (subst (λ k. assignment_cmp (assignment_of_hit k) x ≡ Less) at less, tt)
 all_below x (g ∷ []) (suc n) h size at up less = absurd (omega (arith, size))
@@ -99,7 +100,7 @@ cut_behind x (y ∷ l) zero e = absurd (omega (arith, e))
 cut_behind x (y ∷ l) (suc most) e = ap (λ r. y ∷ r) (cut_behind x l most (omega (arith, e)))
 
 -- a full list stays as it is where a hit comes behind its last
-pub full_stays : (x : Assignment) (hits : List Hit) (last : Hit) (most : ℕ) → IsLastOfFull last hits most → length hits ≤ most → Ascends assignment_cmp (assignments_of_hits hits) → assignment_cmp (assignment_of_hit last) x ≡ Less
+pub full_stays : (x : Assignment) (hits : List Hit) (last : Hit) (most : ℕ) → IsLastOfFull last hits most → length hits ≤ most → IsStrictlySortedBy assignment_cmp (assignments_of_hits hits) → assignment_cmp (assignment_of_hit last) x ≡ Less
     → take most (put assignment_cmp x (assignments_of_hits hits)) ≡ assignments_of_hits hits
 full_stays x hits last most full le up less =
     let size : most ≡ length (assignments_of_hits hits) = omega (arith, full.full, le, founds_length hits) in
@@ -107,11 +108,11 @@ full_stays x hits last most full le up less =
 
 -- the same, of a list as contracts see it
 pub full_page : (x : Assignment) (hits seen : List Hit) (last : Hit) (most : ℕ) (page : Page) → seen ≡ hits → record { hits = assignments_of_hits hits; most = most } ≡ page → length hits ≤ most → IsLastOfFull last seen most
-    → Ascends assignment_cmp page.hits → assignment_cmp (assignment_of_hit last) x ≡ Less → take page.most (put assignment_cmp x page.hits) ≡ page.hits
+    → IsStrictlySortedBy assignment_cmp page.hits → assignment_cmp (assignment_of_hit last) x ≡ Less → take page.most (put assignment_cmp x page.hits) ≡ page.hits
 full_page x hits seen last most page same view le full up less =
     let shown : assignments_of_hits hits ≡ page.hits = ap (λ (p : Page). p.hits) view in
     subst (λ (p : Page). take p.most (put assignment_cmp x p.hits) ≡ p.hits) view
-    (full_stays x hits last most (subst (λ l. IsLastOfFull last l most) same full) le (subst (Ascends assignment_cmp) (sym shown) up) less)
+    (full_stays x hits last most (subst (λ l. IsLastOfFull last l most) same full) le (subst (IsStrictlySortedBy assignment_cmp) (sym shown) up) less)
 
 -- ---- origins
 

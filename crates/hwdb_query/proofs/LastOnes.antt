@@ -9,7 +9,8 @@ use Rattle.std.specs.declared.cmp.Ordering.{Ordering}
 use Rattle.std.specs.declared.cmp.Ordering.TheVariants.{Less, Equal, Greater}
 use Rattle.std.proofs.lemmas.Cmp.{tied_itself}
 use Rattle.std.proofs.lemmas.List.{reverse-append}
-use Rattle.hwdb_spec.specs.Assignment.{Assignment, in_order, Ascends, Position, position_cmp, assignment_cmp}
+use Rattle.hwdb_spec.specs.Assignment.{Assignment, in_order, Position, position_cmp, assignment_cmp}
+use Rattle.std.specs.List.Sorted.{IsStrictlySortedBy}
 use Rattle.hwdb_spec.specs.Patterns.{tokens}
 use Rattle.hwdb_pattern.specs.Laws.{MatchesIsTested}
 use Rattle.hwdb_spec.specs.Tree.{Tree, IsTree, place_cmp, map_of, answers, answers_after, entry_of, surviving}
@@ -170,8 +171,8 @@ crossed : (x y : Assignment) → assignment_cmp x y ≡ Less → assignment_cmp 
 crossed x y a b = never_less x x (assignment_total.trans x y x a b) refl
 
 -- two ascending lists with the same members have the same first one
-same_first : (x y : Assignment) (xs ys : List Assignment) → Ascends assignment_cmp (x ∷ xs) → Ascends assignment_cmp (y ∷ ys) → Among x (y ∷ ys) → Among y (x ∷ xs) → x ≡ y
-unfolding Ascends Among
+same_first : (x y : Assignment) (xs ys : List Assignment) → IsStrictlySortedBy assignment_cmp (x ∷ xs) → IsStrictlySortedBy assignment_cmp (y ∷ ys) → Among x (y ∷ ys) → Among y (x ∷ xs) → x ≡ y
+unfolding IsStrictlySortedBy Among
 same_first x y xs ys up vp mx my =
     elim mx [
       | inl is ↦ sym is
@@ -182,8 +183,8 @@ same_first x y xs ys up vp mx my =
     ]
 
 -- what stands behind the first is no first one
-behind_first : (x y f : Assignment) (xs ys : List Assignment) → Ascends assignment_cmp (x ∷ xs) → x ≡ y → Among f xs → Among f (y ∷ ys) → Among f ys
-unfolding Ascends Among
+behind_first : (x y f : Assignment) (xs ys : List Assignment) → IsStrictlySortedBy assignment_cmp (x ∷ xs) → x ≡ y → Among f xs → Among f (y ∷ ys) → Among f ys
+unfolding IsStrictlySortedBy Among
 behind_first x y f xs ys up is m k =
     elim k [
       | inl e ↦ absurd (never_less x f (among_all (λ z. assignment_cmp x z ≡ Less) f xs up.0 m) (is ∙ e))
@@ -191,8 +192,8 @@ behind_first x y f xs ys up is m k =
     ]
 
 -- two ascending lists with the same members are equal
-same_ascending : (xs ys : List Assignment) → Ascends assignment_cmp xs → Ascends assignment_cmp ys → ((f : Assignment) → Among f xs → Among f ys) → ((f : Assignment) → Among f ys → Among f xs) → xs ≡ ys
-unfolding Ascends Among
+same_ascending : (xs ys : List Assignment) → IsStrictlySortedBy assignment_cmp xs → IsStrictlySortedBy assignment_cmp ys → ((f : Assignment) → Among f xs → Among f ys) → ((f : Assignment) → Among f ys → Among f xs) → xs ≡ ys
+unfolding IsStrictlySortedBy Among
 same_ascending [] [] up vp there back = refl
 same_ascending [] (y ∷ ys) up vp there back = absurd (back y (inl refl))
 same_ascending (x ∷ xs) [] up vp there back = absurd (there x (inl refl))

@@ -11,7 +11,8 @@ use Rattle.std.proofs.lemmas.Cmp.{nat_list_cmp_total, tied_itself, on_total, the
 use Rattle.hwdb_spec.specs.Tree.{Tree, Value, values_under, IsTree, place_cmp, map_of, entry_of, assigned_at, key_of, assignment_of, members_under, answers}
 use Rattle.hwdb_spec.specs.Patterns.{tokens}
 use Rattle.hwdb_pattern.specs.Laws.{MatchesIsTested}
-use Rattle.hwdb_spec.specs.Assignment.{put, put_all, Ascends, Assignment, position_cmp, assignment_cmp}
+use Rattle.hwdb_spec.specs.Assignment.{put, put_all, Assignment, position_cmp, assignment_cmp}
+use Rattle.std.specs.List.Sorted.{IsStrictlySortedBy}
 use Rattle.hwdb_spec.specs.Answers.{is_wanted}
 use Rattle.hwdb_query.specs.Laws.{Among, AreAnswers}
 use Rattle.hwdb_query.proofs.Putting.{ascends_all}
@@ -201,8 +202,8 @@ map_is : (t : Tree) (f : Assignment) → finite.get (map_of t) (f.position.patte
 unfolding map_of entries_of
 map_is t f = finite.get-from_entries place_total (map entry_of (members_under [] t)) (f.position.pattern, f.position.key)
 
-pub none_ascends : let none : List Assignment = [] in Ascends assignment_cmp none
-unfolding Ascends
+pub none_ascends : let none : List Assignment = [] in IsStrictlySortedBy assignment_cmp none
+unfolding IsStrictlySortedBy
 none_ascends = tt
 
 pub in_none : (f : Assignment) → Among f [] → ⊥

@@ -6,7 +6,8 @@ use Rattle.std.specs.Ordering.{match_ordering, is_lt, ordering_reverse}
 use Rattle.std.specs.Cmp.{IsTotalOrder}
 use Rattle.std.specs.List.{AllByRecursion}
 use Rattle.std.proofs.lemmas.Cmp.{tied_itself}
-use Rattle.hwdb_spec.specs.Assignment.{put, put_all, in_order, Ascends}
+use Rattle.hwdb_spec.specs.Assignment.{put, put_all, in_order}
+use Rattle.std.specs.List.Sorted.{IsStrictlySortedBy}
 use Rattle.hwdb_query.specs.Internal.Lists.{keep_all}
 
 take_shorter : {A : Type 0} (n : ℕ) (ys : List A) → take n (take (suc n) ys) ≡ take n ys
@@ -134,17 +135,17 @@ all_above cmp total x y (z ∷ zs) h all = (total.trans x y z h all.0, all_above
 pub above_of : {A : Type 0} (cmp : A → A → Ordering) → IsTotalOrder cmp → (x y : A) → cmp x y ≡ Greater → cmp y x ≡ Less
 above_of cmp total x y h = let e = total.antisymm y x in e ∙ rw h refl
 
-pub ascends_put : {A : Type 0} (cmp : A → A → Ordering) → IsTotalOrder cmp → (x : A) (l : List A) → Ascends cmp l → Ascends cmp (put cmp x l)
-unfolding put Ascends
+pub ascends_put : {A : Type 0} (cmp : A → A → Ordering) → IsTotalOrder cmp → (x : A) (l : List A) → IsStrictlySortedBy cmp l → IsStrictlySortedBy cmp (put cmp x l)
+unfolding put IsStrictlySortedBy
 ascends_put cmp total x [] up = (tt, tt)
 ascends_put cmp total x (y ∷ ys) up =
-    elim (cmp x y) as (λ o. cmp x y ≡ o → Ascends cmp (match_ordering o (x ∷ y ∷ ys) (y ∷ ys) (y ∷ put cmp x ys))) [
+    elim (cmp x y) as (λ o. cmp x y ≡ o → IsStrictlySortedBy cmp (match_ordering o (x ∷ y ∷ ys) (y ∷ ys) (y ∷ put cmp x ys))) [
       | Less ↦ λ e. ((e, all_above cmp total x y ys e up.0), up)
       | Equal ↦ λ e. up
       | Greater ↦ λ e. (all_put cmp (λ z. cmp y z ≡ Less) x ys (above_of cmp total x y e) up.0, ascends_put cmp total x ys up.1)
     ] refl
 
-pub ascends_all : {A : Type 0} (cmp : A → A → Ordering) → IsTotalOrder cmp → (xs l : List A) → Ascends cmp l → Ascends cmp (put_all cmp xs l)
+pub ascends_all : {A : Type 0} (cmp : A → A → Ordering) → IsTotalOrder cmp → (xs l : List A) → IsStrictlySortedBy cmp l → IsStrictlySortedBy cmp (put_all cmp xs l)
 unfolding put_all
 ascends_all cmp total [] l up = up
 ascends_all cmp total (x ∷ xs) l up = ascends_all cmp total xs (put cmp x l) (ascends_put cmp total x l up)
@@ -157,11 +158,11 @@ all_filter P p (x ∷ xs) all =
       | false ↦ all_filter P p xs all.1
     ]
 
-pub ascends_filter : {A : Type 0} (cmp : A → A → Ordering) (p : A → Bool) (xs : List A) → Ascends cmp xs → Ascends cmp (filter p xs)
-unfolding Ascends
+pub ascends_filter : {A : Type 0} (cmp : A → A → Ordering) (p : A → Bool) (xs : List A) → IsStrictlySortedBy cmp xs → IsStrictlySortedBy cmp (filter p xs)
+unfolding IsStrictlySortedBy
 ascends_filter cmp p [] up = tt
 ascends_filter cmp p (x ∷ xs) up =
-    elim (p x) as (λ b. Ascends cmp (if b then (x ∷ filter p xs) else filter p xs)) [
+    elim (p x) as (λ b. IsStrictlySortedBy cmp (if b then (x ∷ filter p xs) else filter p xs)) [
       | true ↦ (all_filter (λ y. cmp x y ≡ Less) p xs up.0, ascends_filter cmp p xs up.1)
       | false ↦ ascends_filter cmp p xs up.1
     ]
@@ -250,8 +251,8 @@ not_itself : {A : Type 0} (cmp : A → A → Ordering) → IsTotalOrder cmp → 
 not_itself cmp total x = ap is_lt (tied_itself total x)
 
 -- those above a member of an ascending list are those behind it
-pub behind_last : {A : Type 0} (cmp : A → A → Ordering) → IsTotalOrder cmp → (x : A) (ys zs : List A) → Ascends cmp (ys ++ x ∷ zs) → filter (λ y. is_lt (cmp x y)) (ys ++ x ∷ zs) ≡ zs
-unfolding Ascends
+pub behind_last : {A : Type 0} (cmp : A → A → Ordering) → IsTotalOrder cmp → (x : A) (ys zs : List A) → IsStrictlySortedBy cmp (ys ++ x ∷ zs) → filter (λ y. is_lt (cmp x y)) (ys ++ x ∷ zs) ≡ zs
+unfolding IsStrictlySortedBy
 behind_last cmp total x [] zs up = filter_out (λ y. is_lt (cmp x y)) x zs (not_itself cmp total x) ∙ all_pass cmp x zs up.0
 behind_last cmp total x (y ∷ ys) zs up =
     filter_out (λ y. is_lt (cmp x y)) y (ys ++ x ∷ zs) (not_above cmp total x y (below_last cmp y x ys zs up.0)) ∙ behind_last cmp total x ys zs up.1

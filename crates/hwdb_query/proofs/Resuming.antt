@@ -5,18 +5,19 @@ use Rattle.std.specs.List.{AllByRecursion}
 use Rattle.std.specs.Ordering.{is_lt}
 use Rattle.hwdb_spec.specs.Tree.{Tree, answers, answers_after, members_under}
 use Rattle.hwdb_query.specs.declared.position.Position.{Position as OwnedPosition}
-use Rattle.hwdb_spec.specs.Assignment.{Position, Assignment, position_cmp, assignment_cmp, Ascends}
+use Rattle.hwdb_spec.specs.Assignment.{Position, Assignment, position_cmp, assignment_cmp}
+use Rattle.std.specs.List.Sorted.{IsStrictlySortedBy}
 use Rattle.hwdb_spec.specs.Answers.{is_after, is_behind, is_wanted}
 use Rattle.hwdb_query.specs.Internal.Hits.{IsFirst}
 use Rattle.hwdb_query.specs.Views.{position_value}
 use Rattle.hwdb_query.proofs.Putting.{ascends_all, ascends_filter, behind_last, filter_in, filter_out}
 use Rattle.hwdb_query.proofs.Orders.{assignment_total, behind_upward, less_of}
 
-nothing_ascends : let none : List Assignment = [] in Ascends assignment_cmp none
-unfolding Ascends
+nothing_ascends : let none : List Assignment = [] in IsStrictlySortedBy assignment_cmp none
+unfolding IsStrictlySortedBy
 nothing_ascends = tt
 
-pub answers_ascend : (device : List ℕ) (after : Option Position) (t : Tree) → Ascends assignment_cmp (answers_after device after t)
+pub answers_ascend : (device : List ℕ) (after : Option Position) (t : Tree) → IsStrictlySortedBy assignment_cmp (answers_after device after t)
 unfolding answers_after answers
 answers_ascend device after t =
     ascends_filter assignment_cmp (is_behind after) _ (ascends_all assignment_cmp assignment_total (filter (is_wanted device) (members_under [] t)) [] nothing_ascends)
@@ -57,7 +58,7 @@ answers_left page device after t x more e =
     let front : take page A ≡ reverse more ++ x ∷ [] = sym (reverse-reverse (take page A)) ∙ ap reverse e ∙ reverse-append (x ∷ []) more in
     let split : A ≡ reverse more ++ x ∷ drop page A =
     sym (take-append-drop page A) ∙ ap (λ l. l ++ drop page A) front ∙ append_assoc (reverse more) (x ∷ []) (drop page A) in
-    let up : Ascends assignment_cmp (reverse more ++ x ∷ drop page A) = subst (Ascends assignment_cmp) split (answers_ascend device after t) in
+    let up : IsStrictlySortedBy assignment_cmp (reverse more ++ x ∷ drop page A) = subst (IsStrictlySortedBy assignment_cmp) split (answers_ascend device after t) in
     let here : is_behind after x ≡ true = at_last (λ y. is_behind after y ≡ true) (reverse more) x (drop page A) (subst (AllByRecursion (λ y. is_behind after y ≡ true)) split (all_that_pass (is_behind after) all)) in
     let further : (y : Assignment) → is_lt (position_cmp x.position y.position) ≡ true → is_behind after y ≡ true = λ y h. (behind_upward after).less x y here (less_of _ h) in
     sym (filter_again (λ y. is_lt (position_cmp x.position y.position)) (is_behind after) further all)

@@ -2,7 +2,8 @@
 use Rattle.std.specs.Prelude.{List, [], ◌∷◌, ◌≡◌, ◌⊎◌, Some, ℕ, Option, None, ◌<◌, suc, zero, if◌then◌else◌, ◌+◌, false, length, ◌^◌}
 use Rattle.std.specs.Int.{div_ceil}
 use Rattle.hex.specs.Hex.{IsBytes}
-use Rattle.hwdb_spec.specs.Assignment.{Assignment, Ascends, assignment_cmp, Position}
+use Rattle.hwdb_spec.specs.Assignment.{Assignment, assignment_cmp, Position}
+use Rattle.std.specs.List.Sorted.{IsStrictlySortedBy}
 use Rattle.hwdb_spec.specs.Tree.{Tree, map_of, answers_after, map_of_files, answers}
 use Rattle.hwdb_spec.specs.Patterns.{Matches, tokens}
 use Rattle.hwdb_spec.specs.Format.{IsDatabase}
@@ -23,7 +24,7 @@ IsAssigned t f = finite.get (map_of t) (f.position.pattern, f.position.key) ≡ 
 
 -- a strictly ascending list of those members of the map whose pattern matches
 pub record AreAnswers (device : List ℕ) (t : Tree) (list : List Assignment) : Type 0 where
-  pub ascends : Ascends assignment_cmp list
+  pub ascends : IsStrictlySortedBy assignment_cmp list
   pub sound : (f : Assignment) → Among f list → IsAssigned t f × Matches (tokens f.position.pattern) device
   pub complete : (f : Assignment) → IsAssigned t f → Matches (tokens f.position.pattern) device → Among f list
 

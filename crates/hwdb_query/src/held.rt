@@ -1,6 +1,7 @@
 //! The one list of hits of a cursor.
 ghost use Rattle.std.specs.Prelude.{◌≡◌, ◌≢◌, ◌<◌, ◌≤◌, ◌+◌, ◌++◌, ℕ, List, [], ◌∷◌, length, take, drop, reverse, map, IfSome, IfOk, OnOk, OnErr, Option, Some, None, true};
-ghost use Rattle.hwdb_spec.specs.Assignment.{Position, Assignment, position_cmp, assignment_cmp, put, Ascends};
+ghost use Rattle.hwdb_spec.specs.Assignment.{Position, Assignment, position_cmp, assignment_cmp, put};
+ghost use Rattle.std.specs.List.Sorted.{IsStrictlySortedBy};
 ghost use Rattle.hwdb_query.specs.Internal.Hits.{parts_position, shown_at, PlaceOf, IsLastOfFull, IsOf, IsFirst};
 ghost use Rattle.hwdb_query.specs.Views.{assignment_of_hit, assignments_of_hits, Page, Gives};
 
@@ -22,7 +23,7 @@ pub(crate) struct Place {
 /// The place of a position among hits that ascend, found by halving.
 pub(crate) fn place_of(hits: &[Hit<'_>], parts: Parts<'_>) -> Place
     ensures within { result.index ≤ length hits.now }
-    ensures place { Ascends assignment_cmp (assignments_of_hits hits.now)
+    ensures place { IsStrictlySortedBy assignment_cmp (assignments_of_hits hits.now)
         → (x : Assignment) → x.position ≡ parts_position parts.entry
         → PlaceOf x (assignments_of_hits hits.now) result }
 {
@@ -89,7 +90,7 @@ impl<'a> Held<'a> {
 
     /// Whether as many hits are held as may be, and all come before an origin.
     pub(crate) fn is_full_before(&self, origin: Origin) -> bool
-        ensures { result ≡ true → Ascends assignment_cmp self.now.hits → (x : Assignment)
+        ensures { result ≡ true → IsStrictlySortedBy assignment_cmp self.now.hits → (x : Assignment)
             → IsOf origin x
             → take self.now.most (put assignment_cmp x self.now.hits) ≡ self.now.hits }
     {
@@ -101,7 +102,7 @@ impl<'a> Held<'a> {
 
     /// Whether as many hits are held as may be, and all come before a position.
     fn is_full_below(&self, parts: Parts<'_>) -> bool
-        ensures { result ≡ true → Ascends assignment_cmp self.now.hits
+        ensures { result ≡ true → IsStrictlySortedBy assignment_cmp self.now.hits
             → (x : Assignment) → x.position ≡ parts_position parts.entry
             → take self.now.most (put assignment_cmp x self.now.hits) ≡ self.now.hits }
     {
@@ -120,7 +121,7 @@ impl<'a> Held<'a> {
         entry: Entry<'a>,
     ) -> Result<(), AllocError>
         ensures most { self.new.most ≡ self.old.most }
-        ensures kept { OnOk result (Ascends assignment_cmp self.old.hits → self.new.hits
+        ensures kept { OnOk result (IsStrictlySortedBy assignment_cmp self.old.hits → self.new.hits
             ≡ take self.old.most
             (put assignment_cmp (shown_at pattern.now key.now entry.entry) self.old.hits)) }
     {

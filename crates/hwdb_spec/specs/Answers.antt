@@ -2,12 +2,10 @@
 -- key the last one counts, and for each key the last of those whose pattern matches). That the order goes on by pattern
 -- and key, and that the effective list ascends by key, is our choice.
 use Rattle.std.specs.Prelude.{Bool, List, ℕ, None, Option, Some, true, false, if◌then◌else◌, [], ◌∷◌, filter, map, find, reverse}
-use Rattle.std.specs.Ordering.{is_lt, nat_cmp, is_eq}
+use Rattle.std.specs.Ordering.{is_lt, is_eq}
 use Rattle.std.specs.List.{list_any}
-use Rattle.std.specs.declared.cmp.Ordering.{Ordering}
-use Rattle.std.specs.Cmp.Lexicographic.{slice_cmp}
 use Rattle.hwdb_spec.specs.Patterns.{matches, tokens}
-use Rattle.hwdb_spec.specs.Assignment.{Assignment, Position, position_cmp, assignment_cmp, in_order}
+use Rattle.hwdb_spec.specs.Assignment.{Assignment, Position, position_cmp, assignment_cmp, in_order, text_cmp}
 use Rattle.hwdb_spec.specs.Folders.{same}
 
 -- whether a pattern matches a device
@@ -44,17 +42,13 @@ last_matching device all = in_order assignment_cmp (filter (is_wanted device) (l
 unfoldable pub last_assignments : List ℕ → Option Position → List Assignment → List Assignment
 last_assignments device after all = filter (is_behind after) (last_matching device all)
 
--- the order of keys, by their bytes
-abbrev pub key_cmp : List ℕ → List ℕ → Ordering
-key_cmp a b = slice_cmp nat_cmp a b
-
 -- the key of an answer
 abbrev pub key_of_answer : Assignment → List ℕ
 key_of_answer f = f.position.key
 
 -- whether an answer has a key
 abbrev pub has_key : List ℕ → Assignment → Bool
-has_key key f = is_eq (key_cmp key f.position.key)
+has_key key f = is_eq (text_cmp key f.position.key)
 
 -- the value of an answer; nothing where there is none
 abbrev pub value_or_none : Option Assignment → List ℕ
@@ -67,4 +61,4 @@ last_value answers key = value_or_none (find (has_key key) (reverse answers))
 
 -- for each key among the answers the value of the last answer with that key, ascending by key
 unfoldable pub effective_of : List Assignment → List (List ℕ × List ℕ)
-effective_of answers = map (λ key. (key, last_value answers key)) (in_order key_cmp (map key_of_answer answers))
+effective_of answers = map (λ key. (key, last_value answers key)) (in_order text_cmp (map key_of_answer answers))

@@ -1,12 +1,14 @@
 -- An assignment and its position, and the order of positions: by the priority of the file, the line, the pattern and
 -- the key (hwdb(7): later files and lines replace earlier ones; that the order goes on by pattern and key is our
 -- choice).
-use Rattle.std.specs.Prelude.{List, ℕ, [], ◌∷◌, ◌≡◌}
+use Rattle.std.specs.Prelude.{List, ℕ, [], ◌∷◌}
 use Rattle.std.specs.declared.cmp.Ordering.{Ordering}
 use Rattle.std.specs.Ordering.{nat_cmp, ordering_then, match_ordering}
 use Rattle.std.specs.Cmp.Lexicographic.{slice_cmp}
-use Rattle.std.specs.List.{AllByRecursion}
-use Rattle.std.specs.declared.cmp.Ordering.TheVariants.{Less}
+
+-- the order of texts, by their bytes
+abbrev pub text_cmp : List ℕ → List ℕ → Ordering
+text_cmp a b = slice_cmp nat_cmp a b
 
 -- where an assignment stands: the priority of its file, the line of its property, its pattern and its key
 pub record Position : Type 0 where
@@ -25,7 +27,7 @@ pub record Assignment : Type 0 where
 unfoldable pub position_cmp : Position → Position → Ordering
 position_cmp a b =
     ordering_then (nat_cmp a.priority b.priority)
-    (ordering_then (nat_cmp a.line b.line) (ordering_then (slice_cmp nat_cmp a.pattern b.pattern) (slice_cmp nat_cmp a.key b.key)))
+    (ordering_then (nat_cmp a.line b.line) (ordering_then (text_cmp a.pattern b.pattern) (text_cmp a.key b.key)))
 
 -- assignments by their positions
 unfoldable pub assignment_cmp : Assignment → Assignment → Ordering
@@ -36,6 +38,11 @@ unfoldable pub put : {A : Type 0} → (A → A → Ordering) → A → List A �
 put cmp x [] = x ∷ []
 put cmp x (y ∷ ys) = match_ordering (cmp x y) (x ∷ y ∷ ys) (y ∷ ys) (y ∷ put cmp x ys)
 
+-- texts as a set: ascending, each once
+unfoldable pub ascending : List (List ℕ) → List (List ℕ)
+ascending [] = []
+ascending (text ∷ more) = put text_cmp text (ascending more)
+
 -- one after another put in their places
 unfoldable pub put_all : {A : Type 0} → (A → A → Ordering) → List A → List A → List A
 put_all cmp [] kept = kept
@@ -44,8 +51,3 @@ put_all cmp (x ∷ xs) kept = put_all cmp xs (put cmp x kept)
 -- the members of a list, in order, each place once
 abbrev pub in_order : {A : Type 0} → (A → A → Ordering) → List A → List A
 in_order cmp xs = put_all cmp xs []
-
--- each member is below all that are behind it
-unfoldable pub Ascends : {A : Type 0} → (A → A → Ordering) → List A → Type 0
-Ascends cmp [] = Unit {0}
-Ascends cmp (x ∷ xs) = AllByRecursion (λ y. cmp x y ≡ Less) xs × Ascends cmp xs

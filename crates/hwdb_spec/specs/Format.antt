@@ -3,8 +3,7 @@
 -- choice of faults). Records may be longer than their known fields.
 use Rattle.std.specs.Prelude.{List, drop, ℕ, slice_index, ◌+◌, ◌*◌, not, take_while, ◌==◌, length, ◌<◌, ◌≤◌, Option, Some, [], ◌∷◌, ◌≡◌, None, suc, zero, codes, take, ◌-◌, ◌⊎◌, ◌≢◌}
 use Rattle.std.specs.declared.cmp.Ordering.TheVariants.{Less}
-use Rattle.std.specs.Ordering.{nat_cmp}
-use Rattle.std.specs.Cmp.Lexicographic.{slice_cmp}
+use Rattle.hwdb_spec.specs.Assignment.{text_cmp}
 use Rattle.byteorder.specs.Endian.{little_number}
 use Rattle.hwdb_spec.specs.declared.Layout.{Layout}
 use Rattle.hwdb_spec.specs.Tree.{Value, IsAbove, Children, Tree, count}
@@ -233,7 +232,7 @@ EntryFault l b entry _ = ⊥
 abbrev pub KeysFall : Layout → List ℕ → ℕ → Type 0
 KeysFall l b entry =
     IsPlace l b (key_off b entry) × IsPlace l b (key_off b (entry + l.value_size))
-    × (slice_cmp nat_cmp (text_at b (key_off b entry)) (text_at b (key_off b (entry + l.value_size))) ≢ Less)
+    × (text_cmp (text_at b (key_off b entry)) (text_at b (key_off b (entry + l.value_size))) ≢ Less)
 
 -- a fault of the n value entries from `first` on
 abbrev pub ValuesFault : Layout → List ℕ → (first n : ℕ) → DbFault → Type 0

@@ -1,52 +1,48 @@
 -- A file, cut into lines, and its clean lines, after hwdb(7). Which bytes end a line and which are blanks, and what is
--- done with byte 0, is our choice. A tab is byte 9, a newline 10, a space 32, `#` is 35 and `=` 61.
-use Rattle.std.specs.Prelude.{List, [], ◌∷◌, Bool, if◌then◌else◌, ℕ, ◌==◌, ◌+◌, false, true, nat_le, take, drop, not, length, nat_lt}
-use Rattle.std.specs.List.{list_any, position_or_len, prefix_len}
+-- done with byte 0, is our choice.
+use Rattle.std.specs.Prelude.{List, [], ◌∷◌, Bool, if◌then◌else◌, ℕ, ◌==◌, ◌+◌, false, true, nat_le, drop, not, length, nat_lt, codes, slice_index}
+use Rattle.std.specs.List.{list_any, prefix_len, before_first, after_first, onto_first}
+use Prim.Native.String.{String}
 
--- an element, put in front of the first piece
-abbrev pub led : {A : Type 0} → A → List (List A) → List (List A)
-led x [] = (x ∷ []) ∷ []
-led x (piece ∷ more) = (x ∷ piece) ∷ more
+-- a byte, as a text of one character
+abbrev pub byte : String → ℕ
+byte text = slice_index (codes text) 0
 
 -- a list, cut at the members that pass the test; a last piece that is empty doesn't count
 unfoldable pub pieces : {A : Type 0} → (A → Bool) → List A → List (List A)
 pieces cuts [] = []
-pieces cuts (x ∷ rest) = if cuts x then [] ∷ pieces cuts rest else led x (pieces cuts rest)
+pieces cuts (x ∷ rest) = if cuts x then [] ∷ pieces cuts rest else onto_first x (pieces cuts rest)
 
 -- whether a byte is the one given
 abbrev pub is : ℕ → ℕ → Bool
-is byte b = b == byte
+is own b = b == own
 
 -- a line: its number and its text
 pub record Line : Type 0 where
   pub number : ℕ
   pub text : List ℕ
 
--- the line with this number and this text
-abbrev pub line : ℕ → List ℕ → Line
-line number text = record { number = number; text = text }
-
 -- texts as lines, numbered from `number` on
 unfoldable pub numbered : ℕ → List (List ℕ) → List Line
 numbered number [] = []
-numbered number (text ∷ more) = line number text ∷ numbered (number + 1) more
+numbered number (text ∷ more) = record { number = number; text = text } ∷ numbered (number + 1) more
 
 -- the lines of a file, from the number 1 on
 abbrev pub lines : List ℕ → List Line
-lines file = numbered 1 (pieces (is 10) file)
+lines file = numbered 1 (pieces (is (byte "\n")) file)
 
 -- whether a text begins with a byte
 abbrev pub begins_with : ℕ → List ℕ → Bool
-begins_with byte [] = false
-begins_with byte (first ∷ rest) = first == byte
+begins_with own [] = false
+begins_with own (first ∷ rest) = first == own
 
 -- whether a byte stands in a text
 abbrev pub has : ℕ → List ℕ → Bool
-has byte text = list_any (is byte) text
+has own text = list_any (is own) text
 
 -- a line that begins with `#`
 abbrev pub is_comment : Line → Bool
-is_comment l = begins_with 35 l.text
+is_comment l = begins_with (byte "#") l.text
 
 -- no comment, but a line with a byte 0
 abbrev pub is_spoilt : Line → Bool
@@ -70,21 +66,9 @@ unfoldable pub trimmed : List ℕ → List ℕ
 trimmed [] = []
 trimmed (b ∷ rest) = if (if is_none (trimmed rest) then is_blank b else false) then [] else b ∷ trimmed rest
 
--- what stands before the first such byte; the whole text if there is none
-abbrev pub before : ℕ → List ℕ → List ℕ
-before byte text = take (position_or_len (is byte) text) text
-
--- what stands behind the first such byte
-abbrev pub after : ℕ → List ℕ → List ℕ
-after byte text = drop (position_or_len (is byte) text + 1) text
-
--- what stands before the first `#`, without trailing blanks
-abbrev pub clean_text : List ℕ → List ℕ
-clean_text text = trimmed (before 35 text)
-
--- a line with its clean text
+-- a line without what stands from the first `#` on, and without the blanks before that
 abbrev pub clean_line : Line → Line
-clean_line l = line l.number (clean_text l.text)
+clean_line l = record { number = l.number; text = trimmed (before_first (is (byte "#")) l.text) }
 
 -- the clean lines of those that aren't dropped
 abbrev pub clean : List Line → List Line
@@ -97,19 +81,23 @@ is_empty l = is_none l.text
 
 -- a clean line that begins with a space
 abbrev pub is_property : Line → Bool
-is_property l = begins_with 32 l.text
+is_property l = begins_with (byte " ") l.text
 
 -- a clean line that is neither empty nor a property
 abbrev pub is_match : Line → Bool
 is_match l = if is_empty l then false else not (is_property l)
 
--- a match line of more than 4,096 bytes
+-- how many bytes a pattern has at most
+abbrev pub max_pattern : ℕ
+max_pattern = 4096
+
+-- a match line that is longer
 abbrev pub is_long : Line → Bool
-is_long l = nat_lt 4096 (length l.text)
+is_long l = nat_lt max_pattern (length l.text)
 
 -- a space or a tab
 abbrev pub is_indent : ℕ → Bool
-is_indent b = if b == 32 then true else b == 9
+is_indent b = if b == byte " " then true else b == byte "\t"
 
 -- a property line without its leading spaces and tabs
 abbrev pub property : Line → List ℕ
@@ -117,15 +105,15 @@ property l = drop (prefix_len is_indent l.text) l.text
 
 -- whether a `=` stands in a property
 abbrev pub has_equals : Line → Bool
-has_equals l = has 61 (property l)
+has_equals l = has (byte "=") (property l)
 
 -- what stands before the first `=`
 abbrev pub key : Line → List ℕ
-key l = before 61 (property l)
+key l = before_first (is (byte "=")) (property l)
 
 -- what stands behind the first `=`, further ones included
 abbrev pub value : Line → List ℕ
-value l = after 61 (property l)
+value l = after_first (is (byte "=")) (property l)
 
 -- whether a byte stands before the first `=`
 abbrev pub has_key : Line → Bool

@@ -27,18 +27,17 @@ pub record Section : Type 0 where
   pub properties : List Line
   pub stray : List Line
 
--- a section of these lines
-abbrev pub section : List Line → List Line → List Line → List Line → Section
-section leading matches properties stray =
-    record { leading = leading; matches = matches; properties = properties; stray = stray }
-
 -- the section at the beginning of some lines
 unfoldable pub first_section : List Line → Section
 first_section ls =
     let from_matches = behind is_property ls in
     let from_properties = behind is_match from_matches in
-    section (run is_property ls) (run is_match from_matches) (run is_property from_properties)
-    (take 1 (behind is_property from_properties))
+    record {
+      leading = run is_property ls;
+      matches = run is_match from_matches;
+      properties = run is_property from_properties;
+      stray = take 1 (behind is_property from_properties);
+    }
 
 -- how many lines a section has
 abbrev pub size : Section → ℕ
@@ -68,17 +67,13 @@ abbrev pub patterns : List Line → List (List ℕ)
 patterns [] = []
 patterns (l ∷ more) = if is_long l then patterns more else l.text ∷ patterns more
 
--- what the property at a line gives a pattern
-abbrev pub given : Origin → (number : ℕ) → (key value pattern : List ℕ) → Assignment
-given o number key value pattern = record {
-  position = record { priority = o.priority; line = number; pattern = pattern; key = key };
-  value = value;
-  path = o.path;
-}
-
 -- the assignment of a property with a pattern
 abbrev pub assign : Origin → Line → List ℕ → Assignment
-assign o l pattern = given o l.number (key l) (value l) pattern
+assign o l pattern = record {
+  position = record { priority = o.priority; line = l.number; pattern = pattern; key = key l };
+  value = value l;
+  path = o.path;
+}
 
 -- the assignments of a property, one with each pattern
 abbrev pub property_assignments : Origin → List (List ℕ) → Line → List Assignment

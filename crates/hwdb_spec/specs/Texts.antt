@@ -1,10 +1,10 @@
--- The texts that are printed. Their form is our choice; `KEY=VALUE` is that of systemd-hwdb(8). A tab is byte 9, a
--- newline 10, a space 32, `:` is 58 and `=` is 61.
-use Rattle.std.specs.Prelude.{List, ℕ, ◌++◌, ◌∷◌, Ok, ◌<◌, ◌^◌, ◌≡◌, [], flat_map, None, Option, Some, take, Bool, false, true}
+-- The texts that are printed. Their form is our choice; `KEY=VALUE` is that of systemd-hwdb(8).
+use Rattle.std.specs.Prelude.{codes, List, ℕ, ◌++◌, ◌∷◌, Ok, ◌<◌, ◌^◌, ◌≡◌, [], flat_map, None, Option, Some, take, Bool, false, true}
 use Rattle.std.specs.Fmt.{decimal}
 use Rattle.hex.specs.Hex.{decode_of, encode_lower}
 use Rattle.hwdb_spec.specs.Assignment.{Position, Assignment}
 use Rattle.hwdb_spec.specs.declared.Fault.{Fault}
+use Rattle.hwdb_spec.specs.Lines.{byte}
 use Rattle.hwdb_spec.specs.Records.{fault_text}
 use Rattle.hwdb_spec.specs.Folders.{FaultIn, Source, all_assignments}
 use Rattle.hwdb_spec.specs.Tree.{Tree, answers, answers_after}
@@ -12,7 +12,7 @@ use Rattle.hwdb_spec.specs.Answers.{effective_of, last_assignments}
 
 -- two decimal numbers and two hexadecimal texts, with colons between
 abbrev pub position_text : ℕ → ℕ → List ℕ → List ℕ → List ℕ
-position_text priority line pattern key = decimal priority ++ 58 ∷ (decimal line ++ 58 ∷ (pattern ++ 58 ∷ key))
+position_text priority line pattern key = decimal priority ++ byte ":" ∷ (decimal line ++ byte ":" ∷ (pattern ++ byte ":" ∷ key))
 
 -- The text spells the position: its hexadecimal digits stand in either case.
 pub record IsSpelling (p : Position) (bytes : List ℕ) : Type 0 where
@@ -30,7 +30,7 @@ canonical p = position_text p.priority p.line (encode_lower p.pattern) (encode_l
 
 -- `KEY=VALUE` and a newline
 abbrev pub property_text : List ℕ × List ℕ → List ℕ
-property_text p = p.0 ++ 61 ∷ (p.1 ++ 10 ∷ [])
+property_text p = p.0 ++ byte "=" ∷ (p.1 ++ byte "\n" ∷ [])
 
 -- a line for each property
 abbrev pub properties_text : List (List ℕ × List ℕ) → List ℕ
@@ -38,7 +38,7 @@ properties_text properties = flat_map property_text properties
 
 -- the line of a hit: its position, a tab, the pattern, a tab, the property
 abbrev pub hit_text : Assignment → List ℕ
-hit_text f = canonical f.position ++ 9 ∷ (f.position.pattern ++ 9 ∷ property_text (f.position.key, f.value))
+hit_text f = canonical f.position ++ byte "\t" ∷ (f.position.pattern ++ byte "\t" ∷ property_text (f.position.key, f.value))
 
 -- a line for each hit
 abbrev pub hits_text : List Assignment → List ℕ
@@ -51,11 +51,11 @@ within_limit (Some n) hits = take n hits
 
 -- where a fault stands: the path, `:`, the line's number
 abbrev pub place_text : List ℕ → ℕ → List ℕ
-place_text path line = path ++ 58 ∷ decimal line
+place_text path line = path ++ byte ":" ∷ decimal line
 
 -- the line of a fault: where it stands, `: `, what is wrong
 abbrev pub fault_line : List ℕ → Fault → List ℕ
-fault_line path f = place_text path f.line ++ 58 ∷ 32 ∷ (fault_text f.kind ++ 10 ∷ [])
+fault_line path f = place_text path f.line ++ codes ": " ++ (fault_text f.kind ++ byte "\n" ∷ [])
 
 -- a line for each fault, with the path of its file
 abbrev pub faults_text : List FaultIn → List ℕ

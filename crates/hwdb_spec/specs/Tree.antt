@@ -1,12 +1,12 @@
 -- The tree that a database holds (systemd's hwdb-internal.h: a trie with prefixes), the map from patterns and keys that
 -- it stands for (hwdb(7)), its answers for a device, and its live nodes. That a stored key without the leading space
--- assigns nothing, and which nodes are live, is our choice. A space is byte 32, `[` is 91.
+-- assigns nothing, and which nodes are live, is our choice.
 use Rattle.std.specs.Prelude.{List, ℕ, suc, [], ◌∷◌, ◌+◌, None, Option, Some, ◌≡◌, if◌then◌else◌, ◌==◌, map, ◌++◌, flat_map, ◌<◌, reverse, filter, Bool, false, zero, ◌-◌, length, take, ◌≤◌, true}
 use Rattle.std.specs.declared.cmp.Ordering.TheVariants.{Less}
-use Rattle.std.specs.Ordering.{nat_cmp, ordering_then}
-use Rattle.std.specs.Cmp.Lexicographic.{slice_cmp}
+use Rattle.std.specs.Ordering.{ordering_then}
 use Rattle.std.specs.declared.cmp.Ordering.{Ordering}
-use Rattle.hwdb_spec.specs.Assignment.{Assignment, assignment_cmp, in_order, Position}
+use Rattle.hwdb_spec.specs.Assignment.{Assignment, text_cmp, assignment_cmp, in_order, Position}
+use Rattle.hwdb_spec.specs.Lines.{byte}
 use Rattle.hwdb_spec.specs.Folders.{Source, all_assignments}
 use Rattle.hwdb_spec.specs.Answers.{is_wanted, is_behind}
 use Rattle.hwdb_spec.specs.Patterns.{Token, bracket, literal, one, star, token_at, token_size, Matches, tokens, matches}
@@ -46,12 +46,12 @@ count (Child byte tree more) = suc (count more)
 -- a key is above the one before it, if there is one
 abbrev pub IsAbove : Option (List ℕ) → List ℕ → Type 0
 IsAbove None key = Unit {0}
-IsAbove (Some before) key = slice_cmp nat_cmp before key ≡ Less
+IsAbove (Some before) key = text_cmp before key ≡ Less
 
 -- the key behind the space that a stored key begins with
 abbrev pub key_of : List ℕ → Option (List ℕ)
 key_of [] = None
-key_of (c ∷ key) = if c == 32 then Some key else None
+key_of (c ∷ key) = if c == byte " " then Some key else None
 
 unfoldable mutual
   -- the values of a tree, each with its path, from a path on
@@ -80,7 +80,7 @@ members_under path t = flat_map assignment_of (values_under path t)
 
 -- patterns and keys, by pattern and then by key
 abbrev pub place_cmp : List ℕ × List ℕ → List ℕ × List ℕ → Ordering
-place_cmp a b = ordering_then (slice_cmp nat_cmp a.0 b.0) (slice_cmp nat_cmp a.1 b.1)
+place_cmp a b = ordering_then (text_cmp a.0 b.0) (text_cmp a.1 b.1)
 
 -- from patterns and keys to what is assigned there
 abbrev pub Map : Type 0
@@ -134,7 +134,7 @@ abbrev pub is_open : Token → Bool
 is_open star = false
 is_open one = false
 is_open (bracket found) = false
-is_open (literal own) = own == 91
+is_open (literal own) = own == byte "["
 
 -- what stands before the first open `[`; the text's first `skip` bytes belong to the token that was cut before
 unfoldable pub closed_from : (skip : ℕ) → List ℕ → List ℕ

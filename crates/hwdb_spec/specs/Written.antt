@@ -2,24 +2,13 @@
 -- the order of the nodes and that of the strings, and which of the trees with one map is written).
 use Rattle.std.specs.Prelude.{List, [], ℕ, ◌∷◌, flat_map, ◌++◌, length, ◌+◌, ◌*◌, replicate, codes, IsSome, ◌-◌, ◌<◌, ◌≡◌}
 use Rattle.std.specs.FinMap.Entries.{by_order}
-use Rattle.std.specs.Ordering.{nat_cmp}
-use Rattle.std.specs.Cmp.Lexicographic.{slice_cmp}
 use Rattle.byteorder.specs.Endian.{little_bytes}
 use Rattle.hwdb_spec.specs.Tree.{Value, Children, Tree, count, key_of, IsTree, Map, map_of, prefix_of, map_of_files}
 use Rattle.hwdb_spec.specs.Tree.Children.{Child, NoMore}
 use Rattle.hwdb_spec.specs.Tree.Tree.{Node}
+use Rattle.hwdb_spec.specs.Assignment.{text_cmp, ascending}
 use Rattle.hwdb_spec.specs.Format.{IsDatabase}
 use Rattle.hwdb_spec.specs.Folders.{AreAccepted, Source}
-
--- a string among strings that ascend, each once
-unfoldable pub add_string : List ℕ → List (List ℕ) → List (List ℕ)
-add_string s [] = s ∷ []
-add_string s (t ∷ ts) = by_order (slice_cmp nat_cmp s t) (s ∷ t ∷ ts) (t ∷ ts) (t ∷ add_string s ts)
-
--- strings, ascending, each once
-unfoldable pub ascending : List (List ℕ) → List (List ℕ)
-ascending [] = []
-ascending (s ∷ ss) = add_string s (ascending ss)
 
 -- the strings of a tree, as often as they stand in it
 abbrev pub strings_of_value : Value → List (List ℕ)
@@ -50,7 +39,7 @@ section_of table = flat_map ended table
 -- where a string of an ascending table stands, the first of which stands at `from`
 unfoldable pub place_of : ℕ → List (List ℕ) → List ℕ → ℕ
 place_of from [] s = from
-place_of from (t ∷ ts) s = by_order (slice_cmp nat_cmp s t) from from (place_of (from + length t + 1) ts s)
+place_of from (t ∷ ts) s = by_order (text_cmp s t) from from (place_of (from + length t + 1) ts s)
 
 -- how long a node's record is, and its text
 abbrev pub record_size : List Value → Children → ℕ

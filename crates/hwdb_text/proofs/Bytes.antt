@@ -3,8 +3,11 @@ use Rattle.std.proofs.Common.{◌≡◌, ℕ, zero, suc, ◌-◌, ◌+◌, ◌<�
 use Rattle.std.proofs.lemmas.Bool.{cases_Bool}
 use Rattle.std.proofs.lemmas.List.{take_more}
 use Rattle.std.specs.List.{position_or_len}
-use Rattle.hwdb_spec.specs.Lines.{Line, line, numbered, pieces, led, trimmed, is, has, before, after, property, is_blank, is_none, has_equals, has_key}
-use Rattle.hwdb_spec.specs.Records.{Origin, given, assign, property_assignments, property_faults, fault}
+use Rattle.hwdb_spec.specs.Lines.{Line, numbered, pieces, trimmed, is, has, property, is_blank, is_none, has_equals, has_key}
+use Rattle.hwdb_text.specs.Internal.Contents.{line}
+use Rattle.std.specs.List.{onto_first, before_first, after_first}
+use Rattle.hwdb_spec.specs.Records.{Origin, assign, property_assignments, property_faults, fault}
+use Rattle.hwdb_text.specs.Views.{given}
 use Rattle.hwdb_spec.specs.declared.FaultKind.TheVariants.{NoEquals, EmptyKey}
 
 pub place_of : (test : ℕ → Bool) (text : List ℕ) (k : ℕ) → k < length text
@@ -91,8 +94,8 @@ no_equals l body equals b e f = ap (has 61) (sym b) ∙ has_none 61 body (sym e 
 some_equals : (l : Line) (body : List ℕ) (equals : ℕ) → body ≡ property l → equals ≡ position_or_len (is 61) body → (equals ≡ length body → ⊥) → has_equals l ≡ true
 some_equals l body equals b e f = ap (has 61) (sym b) ∙ has_some 61 body (λ q. f (e ∙ q))
 
-key_is : (l : Line) (body : List ℕ) (equals : ℕ) → body ≡ property l → equals ≡ position_or_len (is 61) body → take equals body ≡ before 61 (property l)
-key_is l body equals b e = ap (λ (k : ℕ). take k body) e ∙ ap (before 61) b
+key_is : (l : Line) (body : List ℕ) (equals : ℕ) → body ≡ property l → equals ≡ position_or_len (is 61) body → take equals body ≡ before_first (is 61) (property l)
+key_is l body equals b e = ap (λ (k : ℕ). take k body) e ∙ ap (before_first (is 61)) b
 
 some_key : (l : Line) (body : List ℕ) (equals : ℕ) → body ≡ property l → equals ≡ position_or_len (is 61) body → (equals ≡ 0 → ⊥) → equals ≤ length body → has_key l ≡ true
 some_key l body equals b e f h = ap (λ (k : List ℕ). not (is_none k)) (sym (key_is l body equals b e)) ∙ ap not (take_some equals body f h)
@@ -119,21 +122,21 @@ pub without_key : (o : Origin) (ps : List (List ℕ)) (l : Line) (body : List �
 without_key o ps l body equals b e n f =
     (assignments_by o ps l true false (some_equals l body equals b e n) (no_key l body equals b e f), faults_by l true false (some_equals l body equals b e n) (no_key l body equals b e f))
 
-value_is : (l : Line) (body : List ℕ) (equals : ℕ) → body ≡ property l → equals ≡ position_or_len (is 61) body → drop (equals + 1) body ≡ after 61 (property l)
-value_is l body equals b e = ap (λ (k : ℕ). drop (k + 1) body) e ∙ ap (after 61) b
+value_is : (l : Line) (body : List ℕ) (equals : ℕ) → body ≡ property l → equals ≡ position_or_len (is 61) body → drop (equals + 1) body ≡ after_first (is 61) (property l)
+value_is l body equals b e = ap (λ (k : ℕ). drop (k + 1) body) e ∙ ap (after_first (is 61)) b
 
 pub with_key : (o : Origin) (ps : List (List ℕ)) (l : Line) (body : List ℕ) (equals : ℕ) (value : List ℕ) → body ≡ property l → equals ≡ position_or_len (is 61) body
     → (equals ≡ length body → ⊥) → (equals ≡ 0 → ⊥) → equals ≤ length body → value ≡ drop (equals + 1) body
     → (map (given o l.number (take equals body) value) ps ≡ property_assignments o ps l) × (property_faults l ≡ [])
 with_key o ps l body equals value b e n z h v = (
   ap (λ (k : List ℕ). map (given o l.number k value) ps) (key_is l body equals b e)
-      ∙ ap (λ (k : List ℕ). map (given o l.number (before 61 (property l)) k) ps) (v ∙ value_is l body equals b e)
+      ∙ ap (λ (k : List ℕ). map (given o l.number (before_first (is 61) (property l)) k) ps) (v ∙ value_is l body equals b e)
       ∙ sym (assignments_by o ps l true true (some_equals l body equals b e n) (some_key l body equals b e z h)),
   faults_by l true true (some_equals l body equals b e n) (some_key l body equals b e z h),
 )
 
-line_by : (t : Bool) (x : ℕ) (xs : List ℕ) (e : ℕ) (ps : List (List ℕ)) (more : List (List ℕ)) → (t ≡ false → led x ps ≡ (x ∷ take e xs) ∷ more) → (t ≡ true → ps ≡ more)
-    → cond t ([] ∷ ps) (led x ps) ≡ take (cond (not t) (1 + e) 0) (x ∷ xs) ∷ more
+line_by : (t : Bool) (x : ℕ) (xs : List ℕ) (e : ℕ) (ps : List (List ℕ)) (more : List (List ℕ)) → (t ≡ false → onto_first x ps ≡ (x ∷ take e xs) ∷ more) → (t ≡ true → ps ≡ more)
+    → cond t ([] ∷ ps) (onto_first x ps) ≡ take (cond (not t) (1 + e) 0) (x ∷ xs) ∷ more
 line_by true x xs e ps more f g = ap (λ (r : List (List ℕ)). [] ∷ r) (g refl)
 line_by false x xs e ps more f g = f refl ∙ ap (λ (k : ℕ). take k (x ∷ xs) ∷ more) (let s : suc e ≡ 1 + e = omega arith in s)
 
@@ -160,7 +163,7 @@ line_step (x ∷ []) h =
     (λ f. sym (ap (pieces (is 10)) (rest_here (is 10 x) x [] 0 f) ∙ no_pieces))
 line_step (x ∷ y ∷ xs) h =
     line_by (is 10 x) x (y ∷ xs) (position_or_len (is 10) (y ∷ xs)) (pieces (is 10) (y ∷ xs)) _
-    (λ f. ap (led x) (line_step (y ∷ xs) (omega arith))
+    (λ f. ap (onto_first x) (line_step (y ∷ xs) (omega arith))
     ∙ ap (λ (r : List ℕ). (x ∷ take (position_or_len (is 10) (y ∷ xs)) (y ∷ xs)) ∷ pieces (is 10) r) (sym (rest_by (is 10 x) x (y ∷ xs) (position_or_len (is 10) (y ∷ xs)) f)))
     (λ f. ap (pieces (is 10)) (sym (rest_here (is 10 x) x (y ∷ xs) (position_or_len (is 10) (y ∷ xs)) f)))
 

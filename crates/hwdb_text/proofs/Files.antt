@@ -3,7 +3,8 @@ use Rattle.std.proofs.Common.{◌≡◌, ℕ, suc, ◌+◌, ◌<◌, ◌≤◌, 
 use Rattle.std.proofs.lemmas.List.{drop-drop, drop_all, length-drop}
 use Rattle.std.specs.List.{position_or_len}
 use Rattle.hwdb_text.specs.declared.records.Reader.{Reader}
-use Rattle.hwdb_spec.specs.Lines.{Line, line, is, pieces, numbered}
+use Rattle.hwdb_spec.specs.Lines.{Line, is, pieces, numbered}
+use Rattle.hwdb_text.specs.Internal.Contents.{line}
 use Rattle.hwdb_spec.specs.Records.{Origin}
 use Rattle.hwdb_text.specs.Internal.Reading.{Reads}
 use Rattle.hwdb_text.proofs.Bytes.{line_step, number_step, no_pieces, no_numbers}

@@ -3,7 +3,8 @@ use Rattle.std.proofs.Common.{◌≡◌, ℕ, zero, suc, ◌+◌, ◌-◌, ◌<�
 use Rattle.std.proofs.lemmas.Bool.{cases_Bool}
 use Rattle.std.proofs.lemmas.Grind.{flat_map-append}
 use Rattle.std.specs.Prelude.{flat_map}
-use Rattle.hwdb_spec.specs.Lines.{Line, has, pieces, led, numbered, is, is_empty, is_property, is_match}
+use Rattle.hwdb_spec.specs.Lines.{Line, has, pieces, numbered, is, is_empty, is_property, is_match}
+use Rattle.std.specs.List.{onto_first}
 use Rattle.hwdb_text.specs.Laws.{ended, lines_of, LinesAreTheFile, LinesHoldNoNewline, LinesCountUp, SectionsAreTheBlock, SectionsAreTheLines}
 use Rattle.hwdb_spec.specs.Records.{run, behind, first_section, size, sections_from}
 use Rattle.hwdb_text.proofs.Ordered.{behind_section}
@@ -55,7 +56,7 @@ sections_are_the_block block = joined_from 0 block
 abbrev all_of : {X : Type 0} → List (List X) → List X
 all_of ps = flat_map (λ p. p) ps
 
-led_joined : {X : Type 0} (x : X) (ps : List (List X)) → all_of (led x ps) ≡ x ∷ all_of ps
+led_joined : {X : Type 0} (x : X) (ps : List (List X)) → all_of (onto_first x ps) ≡ x ∷ all_of ps
 led_joined x [] = refl
 led_joined x (p ∷ more) = refl
 
@@ -89,10 +90,10 @@ numbered_joined n (p ∷ more) = ap (λ r. (p ++ 10 ∷ []) ++ r) (numbered_join
 newline_is : (b : ℕ) → (b == 10) ≡ true → 10 ≡ b
 newline_is b e = sym (eqb-true b 10 e)
 
-led_ended : (b c : ℕ) (rest : List ℕ) → ends_joined (led b (pieces (is 10) (c ∷ rest))) ≡ b ∷ ends_joined (pieces (is 10) (c ∷ rest))
+led_ended : (b c : ℕ) (rest : List ℕ) → ends_joined (onto_first b (pieces (is 10) (c ∷ rest))) ≡ b ∷ ends_joined (pieces (is 10) (c ∷ rest))
 unfolding pieces
 led_ended b c rest = elim (cases_Bool (c == 10)) [ inl e ↦ rw e refl | inr e ↦ rw e (led_twice (pieces (is 10) rest)) ] where
-  led_twice : (ps : List (List ℕ)) → ends_joined (led b (led c ps)) ≡ b ∷ ends_joined (led c ps)
+  led_twice : (ps : List (List ℕ)) → ends_joined (onto_first b (onto_first c ps)) ≡ b ∷ ends_joined (onto_first c ps)
   led_twice [] = refl
   led_twice (p ∷ more) = refl
 
@@ -114,7 +115,7 @@ abbrev NoNewline : List (List ℕ) → Type 0
 NoNewline [] = Unit {0}
 NoNewline (p ∷ more) = (has 10 p ≡ false) × NoNewline more
 
-led_clean : (b : ℕ) (ps : List (List ℕ)) → (b == 10) ≡ false → NoNewline ps → NoNewline (led b ps)
+led_clean : (b : ℕ) (ps : List (List ℕ)) → (b == 10) ≡ false → NoNewline ps → NoNewline (onto_first b ps)
 led_clean b [] e n = (rw e refl, tt)
 led_clean b (p ∷ more) e n = (rw e n.0, n.1)
 

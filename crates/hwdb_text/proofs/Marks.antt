@@ -5,7 +5,8 @@ use Rattle.std.proofs.lemmas.List.{length-drop, get_or-drop}
 use Rattle.memchr.specs.Find.{is_byte2}
 use Rattle.hwdb_text.specs.declared.line.Content.{Content}
 use Rattle.hwdb_text.specs.declared.line.Content.TheVariants.{Comment, ZeroByte, Empty, Property, Match}
-use Rattle.hwdb_spec.specs.Lines.{is, has, before, begins_with, trimmed}
+use Rattle.hwdb_spec.specs.Lines.{is, has, begins_with, trimmed}
+use Rattle.std.specs.List.{before_first}
 use Rattle.hwdb_text.specs.Internal.Contents.{IsKind, IsContent}
 use Rattle.hwdb_text.proofs.Bytes.{place_of, no_place, has_none}
 
@@ -30,7 +31,7 @@ take_whole [] = refl
 take_whole (x ∷ xs) = ap (λ (r : List ℕ). x ∷ r) (take_whole xs)
 
 -- the content of a line that isn't dropped
-kept : (text piece : List ℕ) (content : Content) → begins_with 35 text ≡ false → has 0 text ≡ false → before 35 text ≡ piece → IsKind (trimmed piece) content → IsContent text content
+kept : (text piece : List ℕ) (content : Content) → begins_with 35 text ≡ false → has 0 text ≡ false → before_first (is 35) text ≡ piece → IsKind (trimmed piece) content → IsContent text content
 kept text piece Comment b h e k = absurd k
 kept text piece ZeroByte b h e k = absurd k
 kept text piece Empty b h e k = (b, h, (let P : List ℕ → Type 0 = λ t. IsKind (trimmed t) Empty in subst P (sym e) k))

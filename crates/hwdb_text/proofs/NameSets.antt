@@ -2,12 +2,14 @@
 use Rattle.std.proofs.Common.{◌≡◌, ℕ, ◌<◌, Bool, true, false, List, [], ◌∷◌, ◌++◌, refl, ap, ◌∙◌, sym, subst, cond, ◌||◌, inl, inr, filter}
 use Rattle.std.proofs.lemmas.Bool.{cases_Bool}
 use Rattle.std.proofs.lemmas.Cmp.{nat_list_cmp_total, tied_itself, ranked}
-use Rattle.std.specs.Ordering.{nat_cmp, is_eq, is_lt, ordering_reverse, ordering_then, MatchOrdering}
+use Rattle.std.specs.Ordering.{nat_cmp, is_eq, is_lt, match_ordering, ordering_reverse, ordering_then, MatchOrdering}
 use Rattle.std.specs.declared.cmp.Ordering.{Ordering}
 use Rattle.std.specs.declared.cmp.Ordering.TheVariants.{Less, Equal, Greater}
 use Rattle.std.specs.Cmp.Lexicographic.{slice_cmp}
-use Rattle.hwdb_spec.specs.Folders.{counts, is_smaller, same, lists, with_name, ascending}
-use Rattle.hwdb_text.specs.Laws.{NamesAreThoseThatCount, IsBelow, Ascends, NamesAscend, OneAscendingList}
+use Rattle.hwdb_spec.specs.Folders.{counts, same, lists}
+use Rattle.hwdb_spec.specs.Assignment.{ascending, put, text_cmp}
+use Rattle.hwdb_text.specs.Laws.{is_smaller, NamesAreThoseThatCount, IsBelow, Ascends, NamesAscend, OneAscendingList}
+use Rattle.hwdb_text.specs.Internal.Choosing.{with_name}
 
 pub equal_of : (o : Ordering) → is_eq o ≡ true → o ≡ Equal
 equal_of Less e = cc
@@ -95,9 +97,23 @@ lists_with_name n k [] = refl
 lists_with_name n k (m ∷ more) =
     lists_with_by n k m more (with_name k more) (is_smaller k m) (same k m) (λ e. ap (λ (x : List ℕ). same x n) (sym (same_equal k m e))) (lists_with_name n k more)
 
+put_by : {A : Type 0} (o : Ordering) (a b c : A) → match_ordering o a b c ≡ cond (is_lt o) a (cond (is_eq o) b c)
+put_by Less a b c = refl
+put_by Equal a b c = refl
+put_by Greater a b c = refl
+
+-- a name is put among ascending ones as any text is
+pub put_is : (k : List ℕ) (set : List (List ℕ)) → put text_cmp k set ≡ with_name k set
+unfolding put
+put_is k [] = refl
+put_is k (m ∷ more) =
+    put_by (text_cmp k m) (k ∷ m ∷ more) (m ∷ more) (m ∷ put text_cmp k more)
+    ∙ ap (λ r. cond (is_smaller k m) (k ∷ m ∷ more) (cond (same k m) (m ∷ more) (m ∷ r))) (put_is k more)
+
 lists_ascending : (n : List ℕ) (set : List (List ℕ)) → lists n (ascending set) ≡ lists n set
+unfolding ascending
 lists_ascending n [] = refl
-lists_ascending n (k ∷ more) = lists_with_name n k (ascending more) ∙ ap (λ (b : Bool). same k n || b) (lists_ascending n more)
+lists_ascending n (k ∷ more) = ap (lists n) (put_is k (ascending more)) ∙ lists_with_name n k (ascending more) ∙ ap (λ (b : Bool). same k n || b) (lists_ascending n more)
 
 pub lists_append : (n : List ℕ) (xs ys : List (List ℕ)) → lists n (xs ++ ys) ≡ (lists n xs || lists n ys)
 lists_append n [] ys = refl
@@ -156,8 +172,9 @@ ascends_with_name k [] a = (tt, tt)
 ascends_with_name k (m ∷ more) a = ascends_with_by k m more (is_smaller k m) (same k m) refl refl a (ascends_with_name k more a.1)
 
 ascends_ascending : (set : List (List ℕ)) → Ascends (ascending set)
+unfolding ascending
 ascends_ascending [] = tt
-ascends_ascending (n ∷ more) = ascends_with_name n (ascending more) (ascends_ascending more)
+ascends_ascending (n ∷ more) = subst Ascends (sym (put_is n (ascending more))) (ascends_with_name n (ascending more) (ascends_ascending more))
 
 pub names_ascend : NamesAscend
 names_ascend etc usr = ascends_ascending (filter counts (etc ++ usr))

@@ -5,7 +5,8 @@ use Rattle.std.proofs.lemmas.Grind.{flat_map-append}
 use Rattle.std.proofs.lemmas.List.{drop-drop}
 use Rattle.std.proofs.lemmas.List.Sorted.{IsNonDecreasingBy-from_all_adjacent}
 use Rattle.std.specs.Prelude.{flat_map}
-use Rattle.hwdb_spec.specs.Lines.{Line, lines, clean, clean_line, is, is_dropped, is_empty, is_property, is_match, has_equals, has_key, pieces, led, numbered}
+use Rattle.hwdb_spec.specs.Lines.{Line, lines, clean, clean_line, is, is_dropped, is_empty, is_property, is_match, has_equals, has_key, pieces, numbered}
+use Rattle.std.specs.List.{onto_first}
 use Rattle.hwdb_spec.specs.Records.{run, behind, first_section, size, sections_from, Origin, patterns, assign, property_assignments, section_assignments, assignments}
 use Rattle.hwdb_spec.specs.Assignment.{Assignment}
 use Rattle.hwdb_spec.specs.Folders.{Choice}
@@ -126,7 +127,7 @@ abbrev RisesAll : (low : ℕ) → List (List Line) → (high : ℕ) → Type 0
 RisesAll low [] high = low ≤ high
 RisesAll low (p ∷ ps) high = (mid : ℕ) × (Rises at_line low p mid × RisesAll mid ps high)
 
-led_rises : (x : Line) (low : ℕ) (ps : List (List Line)) (high : ℕ) → low ≤ x.number → RisesAll x.number ps high → RisesAll low (led x ps) high
+led_rises : (x : Line) (low : ℕ) (ps : List (List Line)) (high : ℕ) → low ≤ x.number → RisesAll x.number ps high → RisesAll low (onto_first x ps) high
 led_rises x low [] high h a = (x.number, ((h, (let e : x.number ≤ x.number = omega arith in e)), a))
 led_rises x low (p ∷ ps) high h a = (a.0, ((h, a.1.0), a.1.1))
 
@@ -139,7 +140,7 @@ unfolding pieces
 pieces_rise low [] high r = r
 pieces_rise low (l ∷ more) high r =
     let a = pieces_rise l.number more high r.1 in
-    all_cond (is_empty l) low ([] ∷ pieces is_empty more) (led l (pieces is_empty more)) high (l.number, (r.0, a)) (led_rises l low (pieces is_empty more) high r.0 a)
+    all_cond (is_empty l) low ([] ∷ pieces is_empty more) (onto_first l (pieces is_empty more)) high (l.number, (r.0, a)) (led_rises l low (pieces is_empty more) high r.0 a)
 
 blocks_rise : (o : Origin) (low : ℕ) (ps : List (List Line)) (high : ℕ) → RisesAll low ps high → Rises of_line low (flat_map (section_assignments o) (flat_map (sections_from 0) ps)) high
 blocks_rise o low [] high a = a

@@ -4,9 +4,10 @@ use Rattle.std.proofs.lemmas.Bool.{cases_Bool}
 use Rattle.std.proofs.Math.Seq.{drop-append-add}
 use Rattle.std.proofs.lemmas.Grind.{flat_map-append}
 use Rattle.std.specs.Prelude.{flat_map}
-use Rattle.hwdb_spec.specs.Lines.{Line, pieces, led, is_empty, is_property, is_match, begins_with, is_none}
-use Rattle.hwdb_spec.specs.Records.{Section, section, run, behind, first_section, size, sections_from, sections}
-use Rattle.hwdb_text.specs.Internal.Reading.{AllPass, gives}
+use Rattle.hwdb_spec.specs.Lines.{Line, pieces, is_empty, is_property, is_match, begins_with, is_none}
+use Rattle.std.specs.List.{onto_first}
+use Rattle.hwdb_spec.specs.Records.{Section, run, behind, first_section, size, sections_from, sections}
+use Rattle.hwdb_text.specs.Internal.Reading.{section, AllPass, gives}
 
 abbrev pub Stops : (Line → Bool) → List Line → Type 0
 Stops test [] = Unit {0}
@@ -172,7 +173,7 @@ abbrev pub other_pieces : List (List Line) → List (List Line)
 other_pieces [] = []
 other_pieces (p ∷ more) = more
 
-led_is : (x : Line) (ps : List (List Line)) → led x ps ≡ (x ∷ head_piece ps) ∷ other_pieces ps
+led_is : (x : Line) (ps : List (List Line)) → onto_first x ps ≡ (x ∷ head_piece ps) ∷ other_pieces ps
 led_is x [] = refl
 led_is x (p ∷ more) = refl
 

@@ -6,10 +6,10 @@ use Rattle.hwdb_spec.specs.declared.Fault.{Fault}
 use Rattle.hwdb_spec.specs.declared.FaultKind.TheVariants.{StrayProperty, NoProperty, StrayMatch}
 use Rattle.hwdb_text.specs.declared.records.Reader.{Reader}
 use Rattle.hwdb_spec.specs.Lines.{Line, is_match, is_property, is_long}
-use Rattle.hwdb_spec.specs.Records.{Section, section, Origin, patterns, section_assignments, property_assignments, section_faults, long_faults, lonely_faults, property_faults, fault}
+use Rattle.hwdb_spec.specs.Records.{Section, Origin, patterns, section_assignments, property_assignments, section_faults, long_faults, lonely_faults, property_faults, fault}
+use Rattle.hwdb_text.specs.Internal.Reading.{section, AllPass, gives, AtStart, InSection, Closes}
 use Rattle.hwdb_spec.specs.Assignment.{Assignment}
 use Rattle.hwdb_text.specs.Views.{given_in, text_of}
-use Rattle.hwdb_text.specs.Internal.Reading.{AllPass, gives, AtStart, InSection, Closes}
 use Rattle.hwdb_text.proofs.Sections.{Gives, gives_empty, gives_leading, gives_section, gives_last, gives_stray, gives_none}
 
 abbrev no_lead : Line → List Assignment

@@ -4,9 +4,15 @@ use Rattle.std.specs.Prelude.{codes, nat_eq, flat_map}
 use Rattle.std.specs.List.{position_or_len, prefix_len, ends_with, AllByRecursion as Each}
 use Rattle.std.proofs.lemmas.Bool.{cases_Bool, ltb-false}
 use Rattle.std.proofs.lemmas.List.Elements.{All-from_recursion}
-use Rattle.hwdb_spec.specs.Lines.{Line, lines, has, is, trimmed, before, property, clean, clean_line, is_dropped, is_comment, is_long, is_indent, is_none, is_blank, is_empty, is_property, is_match, has_equals, has_key, pieces, led, begins_with}
+use Rattle.hwdb_spec.specs.Lines.{Line, lines, has, is, trimmed, property, clean, clean_line, is_dropped, is_comment, is_long, is_indent, is_none, is_blank, is_empty, is_property, is_match, has_equals, has_key, pieces, begins_with}
+use Rattle.std.specs.List.{onto_first, before_first}
 use Rattle.hwdb_spec.specs.Records.{Section, run, behind, first_section, size, sections_from, sections, Origin, patterns, assign, property_assignments, section_assignments, assignments}
-use Rattle.hwdb_spec.specs.Folders.{counts, is_smaller, same, lists, with_name, ascending, names, chosen, choice, HasNoZero, IsStorable, IsStorableChoice}
+use Rattle.hwdb_spec.specs.Folders.{counts, same, lists, names, chosen, choice}
+use Rattle.hwdb_text.proofs.NameSets.{put_is}
+use Rattle.hwdb_text.specs.Views.{HasNoZero, IsStorable, IsStorableChoice}
+use Rattle.hwdb_spec.specs.Assignment.{ascending}
+use Rattle.hwdb_text.specs.Laws.{is_smaller}
+use Rattle.hwdb_text.specs.Internal.Choosing.{with_name}
 
 each_append : {X : Type 0} (P : X → Type 0) (xs ys : List X) → Each P xs → Each P ys → Each P (xs ++ ys)
 each_append P [] ys a b = b
@@ -78,10 +84,10 @@ clean_whole (l ∷ more) = elim (cases_Bool (is_dropped l)) [
   | inr d ↦
       let P : Bool → Type 0 = λ b. Each Whole (cond b (clean more) (clean_line l ∷ clean more)) in
       subst P (sym d)
-      (zero_trim (before 35 l.text) (zero_take (position_or_len (is 35) l.text) l.text (kept_whole (is_comment l) (has 0 l.text) d)), clean_whole more)
+      (zero_trim (before_first (is 35) l.text) (zero_take (position_or_len (is 35) l.text) l.text (kept_whole (is_comment l) (has 0 l.text) d)), clean_whole more)
 ]
 
-led_each : (x : Line) (ps : List (List Line)) → Whole x → Each (Each Whole) ps → Each (Each Whole) (led x ps)
+led_each : (x : Line) (ps : List (List Line)) → Whole x → Each (Each Whole) ps → Each (Each Whole) (onto_first x ps)
 led_each x [] h a = ((h, tt), tt)
 led_each x (p ∷ ps) h a = ((h, a.0), a.1)
 
@@ -89,7 +95,7 @@ pieces_each : (ls : List Line) → Each Whole ls → Each (Each Whole) (pieces i
 unfolding pieces
 pieces_each [] a = tt
 pieces_each (l ∷ more) a =
-    each_cond (Each Whole) (is_empty l) ([] ∷ pieces is_empty more) (led l (pieces is_empty more)) (tt, pieces_each more a.1) (led_each l (pieces is_empty more) a.0 (pieces_each more a.1))
+    each_cond (Each Whole) (is_empty l) ([] ∷ pieces is_empty more) (onto_first l (pieces is_empty more)) (tt, pieces_each more a.1) (led_each l (pieces is_empty more) a.0 (pieces_each more a.1))
 
 run_each : (test : Line → Bool) (ls : List Line) → Each Whole ls → Each Whole (run test ls)
 unfolding run
@@ -179,8 +185,9 @@ counted_with name (n ∷ more) e a =
     (each_cond Counts (same name n) (n ∷ more) (n ∷ with_name name more) a (a.0, counted_with name more e a.1))
 
 counted_ascending : (set : List (List ℕ)) → Each Counts set → Each Counts (ascending set)
+unfolding ascending
 counted_ascending [] a = tt
-counted_ascending (n ∷ more) a = counted_with n (ascending more) a.0 (counted_ascending more a.1)
+counted_ascending (n ∷ more) a = subst (Each Counts) (sym (put_is n (ascending more))) (counted_with n (ascending more) a.0 (counted_ascending more a.1))
 
 whole_by : (e d z : Bool) → cond e (cond d false (not z)) false ≡ true → z ≡ false
 whole_by true true z h = cc

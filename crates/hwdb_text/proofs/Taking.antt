@@ -8,9 +8,9 @@ use Rattle.std.specs.declared.cmp.Ordering.TheVariants.{Less, Equal, Greater}
 use Rattle.std.specs.Cmp.Lexicographic.{slice_cmp}
 use Rattle.std.specs.Borrow.{Bor}
 use Rattle.std.specs.BTreeMap.{insert_entry}
-use Rattle.hwdb_spec.specs.Folders.{Choice, counts, is_smaller, same, lists, with_name, names, choice}
-use Rattle.hwdb_text.specs.Internal.Choosing.{entry_of, put_all, all_names, with_priorities}
-use Rattle.hwdb_text.specs.Laws.{IsBelow, Ascends}
+use Rattle.hwdb_spec.specs.Folders.{Choice, counts, same, lists, names, choice}
+use Rattle.hwdb_text.specs.Laws.{is_smaller, IsBelow, Ascends}
+use Rattle.hwdb_text.specs.Internal.Choosing.{with_name, entry_of, put_all, all_names, with_priorities}
 use Rattle.hwdb_text.proofs.Choosing.{put_yes, put_no}
 use Rattle.hwdb_text.proofs.NameSets.{same_equal, same_itself, smaller_itself, smaller_not_same, smaller_back, lists_with_name, lists_filter, ascends_with_name, below_listed, one_ascending_list, names_ascend, names_are_those_that_count}
 

@@ -1,8 +1,10 @@
 -- More about the definitions, in words of their own.
-use Rattle.std.specs.Prelude.{All, List, false, ℕ, ◌≡◌, length, map, slice_index, ◌+◌, ◌<◌, true, if◌then◌else◌, [], ◌∷◌, Contains, ◌↔◌, ◌++◌, flat_map, filter, not, ◌==◌}
+use Rattle.std.specs.Prelude.{All, Bool, List, false, ℕ, ◌≡◌, length, map, slice_index, ◌+◌, ◌<◌, true, if◌then◌else◌, [], ◌∷◌, Contains, ◌↔◌, ◌++◌, flat_map, filter, not, ◌==◌}
 use Rattle.std.specs.List.Sorted.{IsPermutation, IsStrictlySortedBy, IsNonDecreasingBy}
+use Rattle.std.specs.Ordering.{is_lt}
+use Rattle.hwdb_spec.specs.Assignment.{text_cmp}
 use Rattle.hwdb_spec.specs.Lines.{has, lines, Line, is_empty}
-use Rattle.hwdb_spec.specs.Folders.{counts, lists, names, is_smaller, choice}
+use Rattle.hwdb_spec.specs.Folders.{counts, lists, names, choice}
 use Rattle.hwdb_spec.specs.Records.{all_faults, faults, fault_cmp, Origin, assignments, Section, sections_from, sections}
 use Rattle.hwdb_spec.specs.declared.Fault.{Fault}
 
@@ -18,6 +20,10 @@ LinesCountUp = (file : List ℕ) (k : ℕ) → k < length (lines file) → slice
 abbrev pub NamesAreThoseThatCount : Type 0
 NamesAreThoseThatCount = (etc usr : List (List ℕ)) (name : List ℕ)
     → lists name (names etc usr) ≡ (if counts name then (if lists name etc then true else lists name usr) else false)
+
+-- whether a name is smaller than another, by their bytes
+abbrev pub is_smaller : List ℕ → List ℕ → Bool
+is_smaller m n = is_lt (text_cmp m n)
 
 -- a name is smaller than each of some names
 abbrev pub IsBelow : List ℕ → List (List ℕ) → Type 0

@@ -1,12 +1,13 @@
 -- What the types of this crate mean.
-use Rattle.std.specs.Prelude.{List, ℕ}
+use Rattle.std.specs.Prelude.{List, ℕ, length, false, ◌≡◌, ◌≤◌, ◌<◌, Contains, if◌then◌else◌}
+use Rattle.hwdb_spec.specs.Lines.{has, max_pattern}
 use Rattle.std.specs.Borrow.{Bor}
 use Rattle.std.specs.String.{string_bytes}
 use Rattle.hwdb_spec.specs.Assignment.{Assignment}
 use Rattle.hwdb_text.specs.declared.outcome.Assignment.{Assignment as OwnedAssignment}
 use Rattle.hwdb_text.specs.declared.outcome.Given.{Given}
-use Rattle.hwdb_spec.specs.Records.{Origin, given}
-use Rattle.hwdb_spec.specs.Folders.{Choice}
+use Rattle.hwdb_spec.specs.Records.{Origin}
+use Rattle.hwdb_spec.specs.Folders.{Choice, path_of}
 use Rattle.hwdb_text.specs.declared.choice.Chosen.{Chosen}
 
 abbrev pub assigned : OwnedAssignment → Assignment
@@ -19,9 +20,37 @@ assigned a = record {
 abbrev pub text_of : Bor (List ℕ) → List ℕ
 text_of text = text.now
 
+-- what the property at a line gives a pattern
+abbrev pub given : Origin → (number : ℕ) → (key value pattern : List ℕ) → Assignment
+given o number key value pattern = record {
+  position = record { priority = o.priority; line = number; pattern = pattern; key = key };
+  value = value;
+  path = o.path;
+}
+
 -- what a property gives a pattern in a file, as the reader hands it out
 abbrev pub given_in : Origin → Given → Assignment
 given_in o g = given o g.line g.key.now g.value.now g.pattern.now
+
+-- a text without byte 0
+abbrev pub HasNoZero : List ℕ → Type 0
+HasNoZero text = has 0 text ≡ false
+
+-- what is read of a file; its path and priority are the caller's
+pub record IsStorable (a : Assignment) : Type 0 where
+  pub short : length a.position.pattern ≤ max_pattern
+  pub pattern : HasNoZero a.position.pattern
+  pub key : HasNoZero a.position.key
+  pub value : HasNoZero a.value
+
+-- the path and the priority of a chosen file
+pub record IsStorableChoice (c : Choice) : Type 0 where
+  pub path : HasNoZero (path_of c)
+  pub priority : 0 < c.priority
+
+-- a chosen file stands in the folder that it is taken from
+abbrev pub IsListed : (etc usr : List (List ℕ)) → Choice → Type 0
+IsListed etc usr c = Contains (if c.from_etc then etc else usr) c.name
 
 abbrev pub choice_of : Chosen → Choice
 choice_of c = record { from_etc = c.from_etc; name = string_bytes c.name; priority = c.priority }

@@ -3,7 +3,8 @@ ghost use Rattle.std.specs.Prelude.{◌≡◌, ◌<◌, ◌≤◌, [], length, m
 ghost use Rattle.std.specs.Result.{IsErrOf};
 ghost use Rattle.std.specs.String.{string_bytes};
 ghost use Rattle.hwdb_text.specs.Views.{choice_of};
-ghost use Rattle.hwdb_spec.specs.Folders.{path_of, names, IsListed, IsStorableChoice};
+ghost use Rattle.hwdb_spec.specs.Folders.{path_of, names};
+ghost use Rattle.hwdb_text.specs.Views.{IsListed, IsStorableChoice};
 ghost use Rattle.hwdb_spec.specs.Folders;
 ghost use Rattle.hwdb_text.specs.Internal.Choosing.{put_all, entry_of, with_priorities};
 

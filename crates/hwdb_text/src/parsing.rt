@@ -5,7 +5,7 @@ ghost use Rattle.hwdb_spec.specs.Lines.{lines};
 ghost use Rattle.hwdb_spec.specs.Records.{Origin, origin};
 ghost use Rattle.hwdb_text.specs.Views.{assigned, given_in};
 ghost use Rattle.hwdb_spec.specs.Records;
-ghost use Rattle.hwdb_spec.specs.Folders.{IsStorable};
+ghost use Rattle.hwdb_text.specs.Views.{IsStorable};
 
 use crate::line::end_of;
 use crate::outcome::{Assignment, Given, Parsed, Scanned, TextError};

@@ -3,9 +3,11 @@
 //! `Reads` says what was read of the lines so far; each method keeps it.
 ghost use Rattle.std.specs.Prelude.{◌≡◌, ◌++◌, List, [], ◌∷◌, map, drop, IfOk, IsOk, OnOk, IsTrue};
 ghost use Rattle.hwdb_spec.specs.Lines;
-ghost use Rattle.hwdb_spec.specs.Records.{Origin, given, property_assignments, section_assignments, property_faults, long_faults, section_faults, spoilt_faults, by_line};
+ghost use Rattle.hwdb_spec.specs.Records.{Origin, property_assignments, section_assignments, property_faults, long_faults, section_faults, spoilt_faults, by_line};
+ghost use Rattle.hwdb_text.specs.Views.{given};
 ghost use Rattle.hwdb_text.specs.Views.{given_in, text_of};
 ghost use Rattle.hwdb_spec.specs.Records;
+ghost use Rattle.hwdb_text.specs.Internal.Contents;
 ghost use Rattle.hwdb_text.specs.Internal.Reading.{Closes, Holds, AtStart, IsFresh, Reads, gives};
 
 use crate::line::{Content, content_of, end_of, unindented};
@@ -75,9 +77,9 @@ fn property<'b>(
 ) -> Result<(), AllocError>
     ensures assignments { OnOk result ((o : Origin) → map (given_in o) assignments.new.items
         ≡ map (given_in o) assignments.old.items
-        ++ property_assignments o (map text_of patterns.now) (Lines.line line text.now)) }
+        ++ property_assignments o (map text_of patterns.now) (Contents.line line text.now)) }
     ensures faults { OnOk result (faults.new.items
-        ≡ faults.old.items ++ property_faults (Lines.line line text.now)) }
+        ≡ faults.old.items ++ property_faults (Contents.line line text.now)) }
 {
     let body = unindented(text);
     let equals = end_of(b'=', body);
@@ -108,9 +110,9 @@ fn pattern<'b>(
     faults: &mut Vec<Fault>,
 ) -> Result<(), AllocError>
     ensures patterns { OnOk result (map text_of patterns.new.items
-        ≡ map text_of patterns.old.items ++ Records.patterns (Lines.line line text.now ∷ [])) }
+        ≡ map text_of patterns.old.items ++ Records.patterns (Contents.line line text.now ∷ [])) }
     ensures faults { OnOk result (faults.new.items
-        ≡ faults.old.items ++ long_faults (Lines.line line text.now)) }
+        ≡ faults.old.items ++ long_faults (Contents.line line text.now)) }
 {
     if text.len() > LONGEST_MATCH {
         faults.push(Fault {
@@ -162,9 +164,9 @@ impl<'b> Reader<'b> {
 
     /// Reads a clean property line.
     fn property_line(&mut self, text: &'b [u8], line: u32) -> Result<(), AllocError>
-        requires { IsTrue (Lines.is_property (Lines.line line text.now)) }
+        requires { IsTrue (Lines.is_property (Contents.line line text.now)) }
         ensures held { OnOk result ((o : Origin) → (whole rest : List Lines.Line)
-            → Holds o whole (Lines.line line text.now ∷ rest) self.old
+            → Holds o whole (Contents.line line text.now ∷ rest) self.old
             → Holds o whole rest self.new) }
         ensures spoilt { self.new.spoilt ≡ self.old.spoilt }
     {
@@ -187,9 +189,9 @@ impl<'b> Reader<'b> {
 
     /// Reads a clean match line.
     fn match_line(&mut self, text: &'b [u8], line: u32) -> Result<(), AllocError>
-        requires { IsTrue (Lines.is_match (Lines.line line text.now)) }
+        requires { IsTrue (Lines.is_match (Contents.line line text.now)) }
         ensures held { OnOk result ((o : Origin) → (whole rest : List Lines.Line)
-            → Holds o whole (Lines.line line text.now ∷ rest) self.old
+            → Holds o whole (Contents.line line text.now ∷ rest) self.old
             → Holds o whole rest self.new) }
         ensures spoilt { self.new.spoilt ≡ self.old.spoilt }
     {
@@ -221,7 +223,7 @@ impl<'b> Reader<'b> {
     /// Reads the next line.
     pub fn line(&mut self, text: &'b [u8], line: u32) -> Result<(), AllocError>
         ensures { OnOk result ((o : Origin) → (whole rest : List Lines.Line)
-            → Reads o whole (Lines.line line text.now ∷ rest) self.old
+            → Reads o whole (Contents.line line text.now ∷ rest) self.old
             → Reads o whole rest self.new) }
     {
         match content_of(text) {

@@ -1,7 +1,7 @@
 -- Strings in order, each once: a list is determined by its members.
 use Rattle.std.proofs.Common.{◌≡◌, ◌<◌, ℕ, zero, suc, List, [], ◌∷◌, length, get_or, Bool, nat_eq, refl, sym, ◌∙◌, ap, subst, arith, Ordering, inl, inr, ⊎_elim}
 use Rattle.std.specs.declared.cmp.Ordering.TheVariants.{Less, Equal, Greater}
-use Rattle.std.specs.Ordering.{nat_cmp, ordering_reverse}
+use Rattle.std.specs.Ordering.{nat_cmp, match_ordering, ordering_reverse}
 use Rattle.std.specs.List.{AllByRecursion, Contains, dedup}
 use Rattle.std.specs.List.Sorted.{IsStrictlySortedBy, IsSorted, IsPermutation}
 use Rattle.std.specs.Cmp.Lexicographic.{slice_cmp, pointwise, nat_list_cmp_total, nat_list_eq_equiv, texts_ties, same_text}
@@ -10,14 +10,12 @@ use Rattle.std.specs.FinMap.Entries.{by_order}
 use Rattle.std.proofs.lemmas.Cmp.{tied_itself}
 use Rattle.std.proofs.lemmas.List.Kept.{IsStrictlySortedBy-dedup, Any-dedup, Contains-from_dedup}
 use Rattle.std.proofs.lemmas.List.Sorted.{Contains-permutation, IsPermutation-sym}
-use Rattle.hwdb_spec.specs.Written.{add_string, ascending}
+use Rattle.hwdb_writer.specs.Internal.Strings.{add_string}
+use Rattle.hwdb_spec.specs.Assignment.{ascending, put, text_cmp}
 use Rattle.hwdb_writer.specs.Internal.Membership.{Holds}
 
 abbrev Text : Type 0
 Text = List ℕ
-
-abbrev text_cmp : Text → Text → Ordering
-text_cmp = slice_cmp nat_cmp
 
 abbrev pub IsOrdered : List Text → Type 0
 IsOrdered = IsStrictlySortedBy text_cmp
@@ -81,10 +79,22 @@ unfolding add_string IsStrictlySortedBy
 added s [] o = (tt, tt)
 added s (t ∷ ts) o = added_step s t ts (text_cmp s t) refl o (added s ts o.1)
 
+put_by : {A : Type 0} (o : Ordering) (a b c : A) → match_ordering o a b c ≡ by_order o a b c
+put_by Less a b c = refl
+put_by Equal a b c = refl
+put_by Greater a b c = refl
+
+-- a string is added as any text is put
+put_is : (s : Text) (ts : List Text) → put text_cmp s ts ≡ add_string s ts
+unfolding put add_string
+put_is s [] = refl
+put_is s (t ∷ ts) =
+    put_by (text_cmp s t) (s ∷ t ∷ ts) (t ∷ ts) (t ∷ put text_cmp s ts) ∙ ap (λ r. by_order (text_cmp s t) (s ∷ t ∷ ts) (t ∷ ts) (t ∷ r)) (put_is s ts)
+
 pub ascending_ordered : (ss : List Text) → IsOrdered (ascending ss)
 unfolding ascending IsStrictlySortedBy
 ascending_ordered [] = tt
-ascending_ordered (s ∷ ss) = added s (ascending ss) (ascending_ordered ss)
+ascending_ordered (s ∷ ss) = subst IsOrdered (sym (put_is s (ascending ss))) (added s (ascending ss) (ascending_ordered ss))
 
 holds_step : (s t : Text) (ts : List Text) (u : Text) (r : Ordering) → text_cmp s t ≡ r → Holds (s ∷ t ∷ ts) u → (Holds (s ∷ ts) u → Holds (add_string s ts) u) →
     Holds (by_order r (s ∷ t ∷ ts) (t ∷ ts) (t ∷ add_string s ts)) u
@@ -116,13 +126,14 @@ pub holds_ascending : (ss : List Text) (u : Text) → Holds ss u → Holds (asce
 unfolding ascending
 holds_ascending [] u h = h
 holds_ascending (s ∷ ss) u h =
-    holds_added s (ascending ss) u (⊎_elim {C = Holds (s ∷ ascending ss) u} (λ e. inl e) (λ r. inr (holds_ascending ss u r)) h)
+    subst (λ xs. Holds xs u) (sym (put_is s (ascending ss)))
+    (holds_added s (ascending ss) u (⊎_elim {C = Holds (s ∷ ascending ss) u} (λ e. inl e) (λ r. inr (holds_ascending ss u r)) h))
 
 pub ascending_holds : (ss : List Text) (u : Text) → Holds (ascending ss) u → Holds ss u
 unfolding ascending
 ascending_holds [] u h = h
 ascending_holds (s ∷ ss) u h =
-    ⊎_elim {C = Holds (s ∷ ss) u} (λ e. inl e) (λ r. inr (ascending_holds ss u r)) (added_holds s (ascending ss) u h)
+    ⊎_elim {C = Holds (s ∷ ss) u} (λ e. inl e) (λ r. inr (ascending_holds ss u r)) (added_holds s (ascending ss) u (subst (λ xs. Holds xs u) (put_is s (ascending ss)) h))
 
 pub held : (xs : List Text) (s : Text) → Holds xs s → Contains xs s
 held [] s h = absurd h

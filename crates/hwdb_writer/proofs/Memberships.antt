@@ -1,6 +1,6 @@
 -- Lists with the same members.
 use Rattle.std.proofs.Common.{◌≡◌, ◌<◌, ℕ, zero, suc, arith, List, [], ◌∷◌, ◌++◌, length, get_or, refl, sym, ◌∙◌, ap, subst, append_assoc, ◌⊎◌, inl, inr, ⊎_elim}
-use Rattle.hwdb_spec.specs.Written.{ascending}
+use Rattle.hwdb_spec.specs.Assignment.{ascending}
 use Rattle.hwdb_writer.specs.Internal.Membership.{Holds, SameMembers}
 use Rattle.hwdb_writer.proofs.Distinct.{one_list, ascending_ordered, holds_ascending, ascending_holds}
 

@@ -10,3 +10,4 @@ pub mod Words
 pub mod Places
 pub mod Narrow
 pub mod Membership
+pub mod Strings

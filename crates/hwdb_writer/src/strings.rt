@@ -1,6 +1,7 @@
 //! The string section: the distinct strings in order, and where each stands.
 ghost use Rattle.std.specs.Prelude.{◌≡◌, ◌<◌, ◌++◌, ◌∷◌, [], ◌+◌, ◌^◌, ◌-◌, OnOk, IfOk, min, length};
-ghost use Rattle.hwdb_spec.specs.Written.{ascending, section_of};
+ghost use Rattle.hwdb_spec.specs.Written.{section_of};
+ghost use Rattle.hwdb_spec.specs.Assignment.{ascending};
 ghost use Rattle.hwdb_writer.specs.Internal.Membership.{SameMembers};
 ghost use Rattle.hwdb_writer.specs.Internal.Places.{starts_from, IsTable, place_in};
 

@@ -5,7 +5,9 @@ use Rattle.std.specs.Borrow.{Bor}
 use Rattle.std.specs.Ordering.{nat_cmp}
 use Rattle.std.specs.Option.{option_map_or}
 use Rattle.std.specs.Cmp.Lexicographic.{slice_cmp}
-use Rattle.hwdb_spec.specs.Folders.{Choice, HasNoZero, IsStorable, ManyLines}
+use Rattle.hwdb_spec.specs.Folders.{Choice}
+use Rattle.hwdb_text.specs.Views.{HasNoZero, IsStorable}
+use Rattle.hwdb_compile.specs.Views.{ManyLines}
 use Rattle.hwdb_spec.specs.Assignment.{Assignment}
 use Rattle.hwdb_compile.specs.declared.errors.CompileError.{CompileError}
 use Rattle.hwdb_compile.specs.declared.errors.CompileError.TheVariants.{Memory, TooLarge, TooManyFiles, TooManyLines}

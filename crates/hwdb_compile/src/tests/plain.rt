@@ -7,7 +7,8 @@ ghost use Rattle.std.specs.Ordering.{is_lt};
 ghost use Rattle.hwdb_spec.specs.Assignment.{Assignment, assignment_cmp, position_cmp, put, put_all};
 ghost use Rattle.hwdb_text.specs.Views.{assigned};
 ghost use Rattle.hwdb_pattern.specs.Laws.{MatchesIsTested};
-ghost use Rattle.hwdb_spec.specs.Answers.{is_match, is_after, effective_of, key_cmp, is_same_place, last_assignments};
+ghost use Rattle.hwdb_spec.specs.Answers.{is_match, is_after, effective_of, is_same_place, last_assignments};
+ghost use Rattle.hwdb_spec.specs.Assignment.{text_cmp};
 ghost use Rattle.hwdb_query.specs.Views.{assignment_of_hit, assignments_of_hits, given_position, pairs_bytes, position_value};
 ghost use Rattle.hwdb_compile.specs.Internal.Plain.{last_one, IsPlace};
 
@@ -188,7 +189,7 @@ fn put_value<'a>(
 ) -> Result<(), AllocError>
     ensures { OnOk result
         (pairs_bytes pairs.new.items
-        ≡ insert_entry key_cmp (pairs_bytes pairs.old.items) key.entry.now value.entry.now) }
+        ≡ insert_entry text_cmp (pairs_bytes pairs.old.items) key.entry.now value.entry.now) }
 {
     let count = pairs.as_slice().len();
     for i in 0..count {

@@ -2,10 +2,12 @@
 use Rattle.std.specs.Prelude.{List, filter, ◌≡◌, ℕ, Option, option_map, find, reverse}
 use Rattle.std.specs.BTreeMap.{BTreeMap, get_by}
 use Rattle.std.specs.Borrow.{Bor}
-use Rattle.hwdb_spec.specs.Assignment.{Ascends, Assignment, assignment_cmp, Position, put_all}
+use Rattle.hwdb_spec.specs.Assignment.{Assignment, assignment_cmp, Position, put_all}
+use Rattle.std.specs.List.Sorted.{IsStrictlySortedBy}
 use Rattle.hwdb_query.specs.declared.next_page.NextPage.{NextPage}
 use Rattle.hwdb_query.specs.Internal.Hits.{after_position}
-use Rattle.hwdb_spec.specs.Answers.{is_behind, key_cmp, has_key}
+use Rattle.hwdb_spec.specs.Answers.{is_behind, has_key}
+use Rattle.hwdb_spec.specs.Assignment.{text_cmp}
 use Rattle.hwdb_query.specs.Internal.Lists.{keep_all}
 use Rattle.hwdb_query.specs.declared.last_hits.Last.{Last}
 use Rattle.hwdb_query.specs.declared.last_hits.LastHits.{LastHits}
@@ -17,8 +19,8 @@ use Rattle.hwdb_query.specs.Views.{Page as HeldHits}
 pub record PageCollects (a : NextPage) (xs : List Assignment) (b : NextPage) : Type 0 where
   pub after : b.after ≡ a.after
   pub most : b.held.most ≡ a.held.most
-  pub ascends : Ascends assignment_cmp a.held.hits → Ascends assignment_cmp b.held.hits
-  pub kept : Ascends assignment_cmp a.held.hits
+  pub ascends : IsStrictlySortedBy assignment_cmp a.held.hits → IsStrictlySortedBy assignment_cmp b.held.hits
+  pub kept : IsStrictlySortedBy assignment_cmp a.held.hits
       → b.held.hits ≡ keep_all assignment_cmp a.held.most (filter (is_behind (after_position a.after)) xs) a.held.hits
 
 -- the position and the value of a hit
@@ -36,7 +38,7 @@ told_last key h = (
 
 -- what stands at a key
 abbrev pub told_at : BTreeMap (Bor (List ℕ)) Last → List ℕ → Option Told
-told_at m key = option_map (told_last key) (get_by (λ k. key_cmp key k.now) m)
+told_at m key = option_map (told_last key) (get_by (λ k. text_cmp key k.now) m)
 
 abbrev pub position_at : BTreeMap (Bor (List ℕ)) Last → List ℕ → Option Position
 position_at m key = option_map (λ t. t.0) (told_at m key)
@@ -52,7 +54,7 @@ Shows m hits = (key : List ℕ) → told_at m key ≡ option_map told (last_with
 -- what showed the last of some hits shows the last of them and these
 unfoldable pub LastCollects : LastHits → List Assignment → LastHits → Type 0
 LastCollects a xs b =
-    (hits : List Assignment) → Ascends assignment_cmp hits → Shows a.hits hits → Shows b.hits (put_all assignment_cmp xs hits)
+    (hits : List Assignment) → IsStrictlySortedBy assignment_cmp hits → Shows a.hits hits → Shows b.hits (put_all assignment_cmp xs hits)
 
 unfoldable pub Collects : Collector → List Assignment → Collector → Type 0
 Collects (Page a) xs (Page b) = PageCollects a xs b

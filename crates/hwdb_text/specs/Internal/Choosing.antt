@@ -4,7 +4,8 @@ use Rattle.std.specs.Borrow.{Bor}
 use Rattle.std.specs.BTreeMap.{insert_entry}
 use Rattle.std.specs.Ordering.{nat_cmp}
 use Rattle.std.specs.Cmp.Lexicographic.{slice_cmp}
-use Rattle.hwdb_spec.specs.Folders.{counts, Choice}
+use Rattle.hwdb_spec.specs.Folders.{counts, same, Choice}
+use Rattle.hwdb_text.specs.Laws.{is_smaller}
 
 abbrev pub entry_of : Bor (List ℕ) × Bool → List ℕ × Bool
 entry_of e = (e.0.now, e.1)
@@ -13,6 +14,12 @@ entry_of e = (e.0.now, e.1)
 abbrev pub put_all : Bool → List (List ℕ) → List (List ℕ × Bool) → List (List ℕ × Bool)
 put_all from_etc [] held = held
 put_all from_etc (name ∷ more) held = put_all from_etc more (if counts name then insert_entry (slice_cmp nat_cmp) held name from_etc else held)
+
+-- a name, put among ascending ones if it isn't there
+abbrev pub with_name : List ℕ → List (List ℕ) → List (List ℕ)
+with_name name [] = name ∷ []
+with_name name (n ∷ more) =
+    if is_smaller name n then name ∷ (n ∷ more) else (if same name n then n ∷ more else n ∷ with_name name more)
 
 -- the names of both folders
 abbrev pub all_names : List (List ℕ) → List (List ℕ) → List (List ℕ × Bool)

@@ -2,7 +2,15 @@
 use Rattle.std.specs.Prelude.{List, true, ℕ, ◌≡◌, false}
 use Rattle.hwdb_text.specs.declared.line.Content.TheVariants.{Comment, Empty, Match, Property, ZeroByte}
 use Rattle.hwdb_text.specs.declared.line.Content.{Content}
-use Rattle.hwdb_spec.specs.Lines.{is_empty, is_match, is_property, line, begins_with, clean_text, has}
+use Rattle.hwdb_spec.specs.Lines.{Line, clean_line, is_empty, is_match, is_property, begins_with, has}
+
+-- the line with this number and this text
+abbrev pub line : ℕ → List ℕ → Line
+line number text = record { number = number; text = text }
+
+-- what is read of a line's text
+abbrev pub clean_text : List ℕ → List ℕ
+clean_text text = (clean_line (line 0 text)).text
 
 -- the kind of a clean line
 abbrev pub IsKind : (clean : List ℕ) → Content → Type 0

@@ -1,7 +1,7 @@
 -- How far a file was read: what the state of the reader says about the lines so far.
 use Rattle.std.specs.Prelude.{Bool, List, [], true, ◌∷◌, ◌≡◌, flat_map, map, ◌++◌}
 use Rattle.hwdb_spec.specs.Lines.{Line, is_match, is_property, is_empty, clean}
-use Rattle.hwdb_spec.specs.Records.{Section, sections, Origin, section_assignments, section_faults, long_faults, patterns, property_faults, section, spoilt_faults}
+use Rattle.hwdb_spec.specs.Records.{Section, sections, Origin, section_assignments, section_faults, long_faults, patterns, property_faults, spoilt_faults}
 use Rattle.hwdb_text.specs.declared.records.Reader.{Reader}
 use Rattle.hwdb_text.specs.declared.records.Stage.TheVariants.{Start, Matches, Properties}
 use Rattle.hwdb_text.specs.Views.{given_in, text_of}
@@ -12,6 +12,11 @@ use Rattle.hwdb_text.specs.declared.records.Stage.{Stage}
 abbrev pub AllPass : (Line → Bool) → List Line → Type 0
 AllPass test [] = Unit {0}
 AllPass test (l ∷ more) = (test l ≡ true) × AllPass test more
+
+-- a section of these lines
+abbrev pub section : List Line → List Line → List Line → List Line → Section
+section leading matches properties stray =
+    record { leading = leading; matches = matches; properties = properties; stray = stray }
 
 -- what the sections of some clean lines give
 abbrev pub gives : {X : Type 0} → (Section → List X) → List Line → List X

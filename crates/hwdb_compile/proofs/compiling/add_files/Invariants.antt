@@ -3,8 +3,8 @@ use Rattle.std.specs.Prelude.{flat_map}
 use Rattle.hwdb_spec.specs.Assignment.{Assignment}
 use Rattle.hwdb_text.specs.Views.{choice_of}
 use Rattle.hwdb_spec.specs.Tree.{surviving}
-use Rattle.hwdb_spec.specs.Folders.{file_assignments, file_faults, FewLines}
-use Rattle.hwdb_compile.specs.Views.{fault_of}
+use Rattle.hwdb_spec.specs.Folders.{file_assignments, file_faults}
+use Rattle.hwdb_compile.specs.Views.{FewLines, fault_of}
 use Rattle.hwdb_compile.specs.Internal.Reading.{read_from}
 use Rattle.hwdb_compile.proofs.compiling.add_files.Given as goal
 

@@ -1,6 +1,5 @@
 use Rattle.std.proofs.Common.{◌∙◌}
-use Rattle.hwdb_compile.specs.Views.{source_of}
-use Rattle.hwdb_spec.specs.Folders.{name_of}
+use Rattle.hwdb_compile.specs.Views.{source_of, name_of}
 use Rattle.hwdb_compile.proofs.Gathered.{mapped_all, names_listed}
 use Rattle.hwdb_compile.proofs.sources.names.Goals as goal
 

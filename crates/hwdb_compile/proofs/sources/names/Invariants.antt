@@ -1,7 +1,6 @@
 use Rattle.std.proofs.Common.{◌≡◌, map, take}
 use Rattle.std.specs.String.{string_bytes}
-use Rattle.hwdb_compile.specs.Views.{source_of}
-use Rattle.hwdb_spec.specs.Folders.{name_of}
+use Rattle.hwdb_compile.specs.Views.{source_of, name_of}
 use Rattle.hwdb_compile.proofs.sources.names.Given as goal
 
 abbrev pub invariant-loop-file : goal.invariant-loop-file

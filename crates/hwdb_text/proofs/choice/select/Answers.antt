@@ -2,7 +2,8 @@ use Rattle.std.proofs.Common.{◌∙◌, ap, sym, length, map, arith}
 use Rattle.std.specs.String.{string_bytes}
 use Rattle.std.proofs.lemmas.List.Elements.{All-same}
 use Rattle.hwdb_text.specs.Internal.Choosing.{entry_of, with_priorities}
-use Rattle.hwdb_spec.specs.Folders.{choice, IsListed, IsStorableChoice}
+use Rattle.hwdb_spec.specs.Folders.{choice}
+use Rattle.hwdb_text.specs.Views.{IsListed, IsStorableChoice}
 use Rattle.hwdb_text.proofs.Storing.{choices_storable}
 use Rattle.hwdb_text.proofs.Listed.{choices_listed}
 use Rattle.hwdb_text.proofs.Taking.{choice_is, as_many, both_put}

@@ -1,6 +1,6 @@
 use Rattle.std.proofs.Common.{◌≡◌, ◌++◌, map, take}
-use Rattle.hwdb_spec.specs.Records.{Origin, given}
-use Rattle.hwdb_text.specs.Views.{given_in, text_of}
+use Rattle.hwdb_spec.specs.Records.{Origin}
+use Rattle.hwdb_text.specs.Views.{given, given_in, text_of}
 use Rattle.hwdb_text.proofs.records.assign.Given as goal
 
 abbrev pub invariant-loop-pattern : goal.invariant-loop-pattern

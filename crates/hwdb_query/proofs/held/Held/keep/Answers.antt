@@ -1,5 +1,6 @@
 use Rattle.std.proofs.Common.{ap, sym, subst, ◌∙◌, ◌≡◌, take, length, arith, refl, false}
-use Rattle.hwdb_spec.specs.Assignment.{assignment_cmp, put, Ascends}
+use Rattle.hwdb_spec.specs.Assignment.{assignment_cmp, put}
+use Rattle.std.specs.List.Sorted.{IsStrictlySortedBy}
 use Rattle.hwdb_query.specs.Views.{Page, assignments_of_hits}
 use Rattle.hwdb_query.specs.Internal.Hits.{shown_at, placed}
 use Rattle.hwdb_query.proofs.Placing.{kept_here}
@@ -16,7 +17,7 @@ returns-clause-kept c = λ up.
     let most : c.self.inside.most ≡ c.args.self.now.most = ap (λ (p : Page). p.most) c.self.view_is in
     let seen : assignments_of_hits c.deref.result.now ≡ o = ap assignments_of_hits c.deref.ensures.value ∙ old in
     let place : put assignment_cmp x o ≡ placed x o c.place_of-place.result.index false =
-    ap (put assignment_cmp x) (sym seen) ∙ c.place_of-place.ensures.place (subst (Ascends assignment_cmp) (sym seen) up) x refl ∙ ap (λ l. placed x l c.place_of-place.result.index c.place_of-place.result.is_taken) seen
+    ap (put assignment_cmp x) (sym seen) ∙ c.place_of-place.ensures.place (subst (IsStrictlySortedBy assignment_cmp) (sym seen) up) x refl ∙ ap (λ l. placed x l c.place_of-place.result.index c.place_of-place.result.is_taken) seen
     ∙ ap (placed x o c.place_of-place.result.index) c.if-place.false in
     let pattern = c.in_ok-pattern.ensures.items_if_clones_equal (λ _ _ e. e) in
     let within = c.place_of-place.ensures.within in

@@ -1,6 +1,7 @@
 use Rattle.std.proofs.Common.{sym, ◌∙◌, ◌++◌, [], ◌∷◌, refl, ap, map, append_assoc}
 use Rattle.hwdb_spec.specs.declared.FaultKind.TheVariants.{StrayMatch, LongMatch}
-use Rattle.hwdb_spec.specs.Lines.{line}
+use Rattle.hwdb_spec.specs.Lines.{}
+use Rattle.hwdb_text.specs.Internal.Contents.{line}
 use Rattle.hwdb_text.specs.Views.{text_of}
 use Rattle.hwdb_spec.specs.Records.{patterns, fault}
 use Rattle.hwdb_text.proofs.Held.{on_ok_both, held_match_start, held_match_more, held_stray_match, long_yes, long_no}

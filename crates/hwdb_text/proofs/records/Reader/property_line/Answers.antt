@@ -1,5 +1,6 @@
 use Rattle.std.proofs.Common.{◌∙◌, ◌++◌, refl, ap, map}
-use Rattle.hwdb_spec.specs.Lines.{line}
+use Rattle.hwdb_spec.specs.Lines.{}
+use Rattle.hwdb_text.specs.Internal.Contents.{line}
 use Rattle.hwdb_text.specs.Views.{given_in, text_of}
 use Rattle.hwdb_spec.specs.Records.{property_assignments}
 use Rattle.hwdb_text.proofs.Held.{on_ok_both, held_stray_property, held_property}
