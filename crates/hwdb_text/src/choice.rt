@@ -3,7 +3,7 @@ ghost use Rattle.std.specs.Prelude.{◌≡◌, ◌<◌, ◌≤◌, [], length, m
 ghost use Rattle.std.specs.Result.{IsErrOf};
 ghost use Rattle.std.specs.String.{string_bytes};
 ghost use Rattle.hwdb_text.specs.Views.{choice_of};
-ghost use Rattle.hwdb_spec.specs.Folders.{path_of, names};
+ghost use Rattle.hwdb_spec.specs.Folders.{max_files, path_of, names};
 ghost use Rattle.hwdb_text.specs.Views.{IsListed, IsStorableChoice};
 ghost use Rattle.hwdb_spec.specs.Folders;
 ghost use Rattle.hwdb_text.specs.Internal.Choosing.{put_all, entry_of, with_priorities};
@@ -90,9 +90,9 @@ pub fn select(alloc: Global, etc: &[String], usr: &[String]) -> Result<Vec<Chose
         (map choice_of chosen.items)) }
     ensures storable { IfOk result (λ chosen. All IsStorableChoice (map choice_of chosen.items)) }
     ensures few { IfOk result (λ _.
-        length (names (map string_bytes etc.now) (map string_bytes usr.now)) ≤ 65535) }
+        length (names (map string_bytes etc.now) (map string_bytes usr.now)) ≤ max_files) }
     ensures too_many { IsErrOf result TextError.TooManyFiles
-        → 65535 < length (names (map string_bytes etc.now) (map string_bytes usr.now)) }
+        → max_files < length (names (map string_bytes etc.now) (map string_bytes usr.now)) }
     ensures never_too_many_lines { IsErrOf result TextError.TooManyLines → ⊥ }
     ensures free { etc.now ≡ [] → usr.now ≡ [] → IsOk result }
 {
@@ -107,7 +107,7 @@ pub fn select(alloc: Global, etc: &[String], usr: &[String]) -> Result<Vec<Chose
 
 /// The names with their priorities.
 fn list(alloc: Global, held: BTreeMap<&str, bool>) -> Result<Vec<Chosen>, AllocError>
-    requires { length held.entries ≤ 65535 }
+    requires { length held.entries ≤ max_files }
     ensures chosen { IfOk result (λ chosen. map choice_of chosen.items
         ≡ with_priorities 1 (map entry_of held.entry.entries)) }
     ensures free { held.entry.entries ≡ [] → IsOk result }

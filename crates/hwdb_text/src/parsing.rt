@@ -5,6 +5,7 @@ ghost use Rattle.hwdb_spec.specs.Lines.{lines};
 ghost use Rattle.hwdb_spec.specs.Records.{Origin, origin};
 ghost use Rattle.hwdb_text.specs.Views.{assigned, given_in};
 ghost use Rattle.hwdb_spec.specs.Records;
+ghost use Rattle.hwdb_spec.specs.Folders.{max_lines};
 ghost use Rattle.hwdb_text.specs.Views.{IsStorable};
 
 use crate::line::end_of;
@@ -19,9 +20,9 @@ use std::alloc::{AllocError, Global};
 /// `TooManyLines` where `before` is 4,294,967,295, the greatest number that a line can have.
 pub fn next_line(before: u32) -> Result<u32, TextError>
     ensures next { IfOk result (λ number. number ≡ before + 1) }
-    ensures fits { IfOk result (λ number. number ≤ 4294967295) }
+    ensures fits { IfOk result (λ number. number ≤ max_lines) }
     ensures error { IfErr result (λ e. e ≡ TextError.TooManyLines) }
-    ensures too_many { IsErrOf result TextError.TooManyLines ↔ (before ≡ 4294967295) }
+    ensures too_many { IsErrOf result TextError.TooManyLines ↔ (before ≡ max_lines) }
 {
     if before == u32::MAX {
         Err(TextError::TooManyLines)
@@ -42,9 +43,9 @@ pub fn scan(alloc: Global, bytes: &[u8]) -> Result<Scanned<'_>, TextError>
     ensures faults { IfOk result (λ scanned. scanned.faults.items ≡ Records.faults bytes.now) }
     ensures storable { IfOk result (λ scanned. (o : Origin)
         → All IsStorable (map (given_in o) scanned.assignments.items)) }
-    ensures few { IfOk result (λ _. length (lines bytes.now) ≤ 4294967295) }
+    ensures few { IfOk result (λ _. length (lines bytes.now) ≤ max_lines) }
     ensures too_many { IsErrOf result TextError.TooManyLines
-        → 4294967295 < length (lines bytes.now) }
+        → max_lines < length (lines bytes.now) }
     ensures never_too_many_files { IsErrOf result TextError.TooManyFiles → ⊥ }
     ensures free { bytes.now ≡ [] → IsOk result }
 {
@@ -111,9 +112,9 @@ pub fn parse(alloc: Global, path: &[u8], priority: u16, bytes: &[u8]) -> Result<
     ensures faults { IfOk result (λ parsed. parsed.faults.items ≡ Records.faults bytes.now) }
     ensures storable { IfOk result (λ parsed.
         All IsStorable (map assigned parsed.assignments.items)) }
-    ensures few { IfOk result (λ _. length (lines bytes.now) ≤ 4294967295) }
+    ensures few { IfOk result (λ _. length (lines bytes.now) ≤ max_lines) }
     ensures too_many { IsErrOf result TextError.TooManyLines
-        → 4294967295 < length (lines bytes.now) }
+        → max_lines < length (lines bytes.now) }
     ensures never_too_many_files { IsErrOf result TextError.TooManyFiles → ⊥ }
     ensures free { bytes.now ≡ [] → IsOk result }
 {

@@ -32,6 +32,7 @@ fn lone(alloc: Global, bytes: &[u8]) -> Result<SourceFile, AllocError>
 }
 
 /// What the file gives.
+#[tactic(auto, unfolding(hwdb_spec::specs::Assignment::ascending, hwdb_spec::specs::Assignment::put))]
 fn answer_of(alloc: Global, file: &str, bytes: &[u8], device: &[u8]) -> Result<Answer, ToolError>
     ensures answer { IfOk result
         (λ a. IsAnswerOf file.now bytes.now device.now a.faults.items a.properties.items) }

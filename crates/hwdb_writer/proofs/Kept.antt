@@ -13,7 +13,8 @@ use Rattle.hwdb_spec.specs.Tree.Tree.{Node}
 use Rattle.hwdb_spec.specs.Tree.Children.{NoMore, Child}
 use Rattle.hwdb_spec.specs.Written.{IsTight, IsForked}
 use Rattle.hwdb_writer.specs.Internal.Setting.{meet, set_value, set_below, set_at, set_node, forked, single}
-use Rattle.hwdb_writer.specs.Internal.Storable.{IsText, IsStorableValue, IsStorable, AreStorable, IsSound, max_pattern}
+use Rattle.hwdb_writer.specs.Internal.Storable.{IsText, IsStorableValue, IsStorable, AreStorable, IsSound}
+use Rattle.hwdb_spec.specs.Lines.{max_pattern}
 use Rattle.hwdb_writer.proofs.Searching.{turned_back}
 use Rattle.hwdb_writer.proofs.Maps.{met, Differ}
 

@@ -40,7 +40,8 @@ impl Tree {
     ghost use Rattle.hwdb_spec.specs.Records.{origin};
     ghost use Rattle.hwdb_text.specs.Views.{assigned, given_in};
     ghost use Rattle.hwdb_writer.specs.Internal.Stored.{value_of, at_place};
-    ghost use Rattle.hwdb_writer.specs.Internal.Storable.{HasNoZero, IsStorableValue, max_pattern};
+    ghost use Rattle.hwdb_writer.specs.Internal.Storable.{HasNoZero, IsStorableValue};
+    ghost use Rattle.hwdb_spec.specs.Lines.{max_pattern};
 
     /// No assignment. Takes no memory.
     pub fn new(alloc: Global) -> Self

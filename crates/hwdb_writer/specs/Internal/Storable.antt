@@ -1,14 +1,11 @@
 -- What holds of a tree in memory: it is tight, and can be stored (our choice of limits).
 use Rattle.std.specs.Prelude.{ℕ, List, [], ◌<◌, ◌∷◌, IsSome, ◌^◌, length, ◌+◌, ◌≤◌, ◌≡◌}
 use Rattle.std.specs.List.{AllByRecursion}
+use Rattle.hwdb_spec.specs.Lines.{max_pattern}
 use Rattle.hwdb_spec.specs.Tree.{Value, key_of, Children, Tree, IsTree, prefix_of}
 use Rattle.hwdb_spec.specs.Tree.Children.{Child, NoMore}
 use Rattle.hwdb_spec.specs.Written.{IsForked}
 use Rattle.hwdb_spec.specs.Tree.Tree.{Node}
-
--- how long a pattern may be
-abbrev pub max_pattern : ℕ
-max_pattern = 4096
 
 -- no byte is 0
 abbrev pub HasNoZero : List ℕ → Type 0
