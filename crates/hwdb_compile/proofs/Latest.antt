@@ -8,7 +8,7 @@ use Rattle.std.proofs.lemmas.Cmp.{tied_itself}
 use Rattle.std.proofs.lemmas.List.{append-nil}
 use Rattle.std.proofs.lemmas.List.Elements.{All-nil, All-head, All-tail, All-append, All-push, All-weaker, Contains-push, Contains-append_left}
 use Rattle.hwdb_spec.specs.Assignment.{Assignment}
-use Rattle.hwdb_spec.specs.Records.{origin}
+use Rattle.hwdb_text.specs.Views.{origin}
 use Rattle.hwdb_spec.specs.Folders.{Choice, path_of, chosen_of, contents, file_assignments, all_assignments}
 use Rattle.hwdb_compile.specs.Views.{name_of}
 use Rattle.hwdb_text.specs.Laws.{PrioritiesCountUp, AssignmentsStandByLine}

@@ -2,7 +2,7 @@
 ghost use Rattle.std.specs.Prelude.{◌≡◌, ◌≤◌, ◌++◌, ℕ, List, map, length, All, IfOk, IfErr, OnOk, flat_map};
 ghost use Rattle.hwdb_spec.specs.Written.{IsDatabaseOf, IsWritten};
 ghost use Rattle.hwdb_spec.specs.Assignment.{Assignment};
-ghost use Rattle.hwdb_spec.specs.Records.{origin};
+ghost use Rattle.hwdb_text.specs.Views.{origin};
 ghost use Rattle.hwdb_text.specs.Views.{given_in, choice_of};
 ghost use Rattle.hwdb_spec.specs.Folders.{file_assignments, file_faults, faults_of_files, fault_in, AreAccepted};
 ghost use Rattle.hwdb_text.specs.Views.{IsStorableChoice};

@@ -1,7 +1,8 @@
 -- A closed bracket is decided by its own bytes.
 use Rattle.std.proofs.Common.{◌≡◌, ℕ, zero, suc, ◌-◌, ◌+◌, Bool, true, false, List, [], ◌∷◌, ◌++◌, length, refl, ap, ◌∙◌, sym, Option, Some, cond, ◌==◌, arith, inl, inr, ne_eqb, eq-eqb}
 use Rattle.std.proofs.lemmas.Bool.{cases_eq}
-use Rattle.hwdb_spec.specs.Patterns.{Items, items, item_at, joined, items_from}
+use Rattle.hwdb_spec.specs.Patterns.{Items, item_at, joined, items_from}
+use Rattle.hwdb_pattern.specs.Internal.Parts.{items}
 use Rattle.hwdb_pattern.proofs.Bracketing.{item_long}
 use Rattle.hwdb_pattern.proofs.Longer.{item_same, joined_some, joined_size}
 

@@ -1,27 +1,27 @@
 -- Worked rows of hwdb(7) and POSIX fnmatch (XCU 2.13): what the definitions give when they are computed.
 use Rattle.std.specs.Prelude.{List, false, ℕ, true, [], codes, map, ◌∷◌, ◌≡◌, None, Some, Bool}
 use Rattle.std.specs.Option.{option_map}
-use Rattle.hwdb_spec.specs.Patterns.{Span, Token, bracket, literal, one, span, star, tokens, bracket_at, matches}
+use Rattle.hwdb_spec.specs.Patterns.{Token, bracket, literal, one, star, tokens, bracket_at, matches}
 use Rattle.hwdb_pattern.specs.Internal.Parts.{bracket_size}
 use Rattle.hwdb_spec.specs.Tree.{closed_part, is_live}
 
 -- a bracket of this size and these bytes, not inverted
-abbrev pub upright : ℕ → List Span → Token
+abbrev pub upright : ℕ → List (ℕ × ℕ) → Token
 upright size spans = bracket (record { size = size; inverted = false; spans = spans })
 
 -- and one that is inverted
-abbrev pub inverted : ℕ → List Span → Token
+abbrev pub inverted : ℕ → List (ℕ × ℕ) → Token
 inverted size spans = bracket (record { size = size; inverted = true; spans = spans })
 
 abbrev pub TokenRows : Type 0
 TokenRows =
     map tokens (codes "a*[b?" ∷ codes "[]-a]x" ∷ codes "[!c-a]" ∷ codes "\\*" ∷ codes "[[:digit:]" ∷ codes "[[:digit:]-z]" ∷ [])
     ≡ (literal 97 ∷ star ∷ literal 91 ∷ literal 98 ∷ one ∷ [])
-    ∷ (upright 5 (span 93 97 ∷ []) ∷ literal 120 ∷ [])
-    ∷ (inverted 6 (span 99 97 ∷ []) ∷ [])
+    ∷ (upright 5 ((93, 97) ∷ []) ∷ literal 120 ∷ [])
+    ∷ (inverted 6 ((99, 97) ∷ []) ∷ [])
     ∷ (literal 92 ∷ star ∷ [])
-    ∷ (literal 91 ∷ upright 9 (span 58 58 ∷ span 100 100 ∷ span 105 105 ∷ span 103 103 ∷ span 105 105 ∷ span 116 116 ∷ span 58 58 ∷ []) ∷ [])
-    ∷ (upright 13 (span 48 57 ∷ span 45 45 ∷ span 122 122 ∷ []) ∷ [])
+    ∷ (literal 91 ∷ upright 9 ((58, 58) ∷ (100, 100) ∷ (105, 105) ∷ (103, 103) ∷ (105, 105) ∷ (116, 116) ∷ (58, 58) ∷ []) ∷ [])
+    ∷ (upright 13 ((48, 57) ∷ (45, 45) ∷ (122, 122) ∷ []) ∷ [])
     ∷ []
 
 -- the lengths of the brackets that begin these texts

@@ -6,7 +6,7 @@ use Rattle.std.specs.List.{ends_with, list_any}
 use Rattle.std.specs.Ordering.{is_lt, is_eq}
 use Rattle.hwdb_spec.specs.Lines.{begins_with, byte, has, lines}
 use Rattle.hwdb_spec.specs.Assignment.{Assignment, text_cmp, ascending}
-use Rattle.hwdb_spec.specs.Records.{assignments, origin, faults}
+use Rattle.hwdb_spec.specs.Records.{assignments, faults}
 use Rattle.hwdb_spec.specs.declared.Fault.{Fault}
 
 -- a name that counts
@@ -67,7 +67,7 @@ contents etc usr c = first_of c.name etc (first_of c.name usr [])
 
 -- what the chosen files assign, by priority, line and match line; `read` gives the bytes of each
 abbrev pub file_assignments : (read : Choice → List ℕ) → Choice → List Assignment
-file_assignments read c = assignments (origin (path_of c) c.priority) (read c)
+file_assignments read c = assignments (record { path = path_of c; priority = c.priority }) (read c)
 
 -- a fault, with the stored path of its file
 pub record FaultIn : Type 0 where

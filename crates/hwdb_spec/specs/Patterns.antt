@@ -1,29 +1,20 @@
 -- Patterns and what they match, from hwdb(7) and POSIX.1-2017 fnmatch without flags (XCU 2.13), over bytes in the C
 -- locale, without collating symbols and equivalence classes. A backslash, `/` and a leading `.` are ordinary bytes. That
 -- `^` inverts as `!` does, and that a reversed range has no members, is our choice where POSIX leaves it open.
--- `!` is 33, `*` is 42, `-` is 45, `?` is 63, `[` is 91, `]` is 93, `^` is 94.
 use Rattle.std.specs.Prelude.{ℕ, Bool, false, nat_le, if◌then◌else◌, List, codes, [], ◌∷◌, Option, find, nat_eq, ◌==◌, length, None, Some, ◌++◌, ◌+◌, suc, true, zero, ◌-◌, not, IsTrue, ⊤, ◌≡◌}
 use Rattle.std.specs.List.{list_any, starts_with}
 use Rattle.std.specs.Option.{option_map_or}
+use Rattle.hwdb_spec.specs.Lines.{byte}
 use Rattle.hwdb_spec.specs.declared.Class.TheVariants.{Alnum, Alpha, Blank, Cntrl, Digit, Graph, Lower, Print, Punct, Space, Upper, Xdigit}
 use Rattle.hwdb_spec.specs.declared.Class.{Class}
 
--- the bytes from `low` to `high`, both counted; none where `low` is the greater
-pub record Span : Type 0 where
-  pub low : ℕ
-  pub high : ℕ
-
--- the span from `low` to `high`
-abbrev pub span : ℕ → ℕ → Span
-span low high = record { low = low; high = high }
-
--- whether a byte is in a span
-abbrev pub in_span : ℕ → Span → Bool
-in_span byte s = if nat_le s.low byte then nat_le byte s.high else false
+-- whether a byte is in a span: from its first byte to its last, both counted; in none where the first is the greater
+abbrev pub in_span : ℕ → ℕ × ℕ → Bool
+in_span b span = if nat_le span.0 b then nat_le b span.1 else false
 
 -- whether the byte is in one of the spans
-abbrev pub in_spans : List Span → ℕ → Bool
-in_spans spans byte = list_any (in_span byte) spans
+abbrev pub in_spans : List (ℕ × ℕ) → ℕ → Bool
+in_spans spans b = list_any (in_span b) spans
 
 -- how a named class is written in a bracket
 abbrev pub class_text : Class → List ℕ
@@ -41,19 +32,19 @@ class_text Upper = codes "[:upper:]"
 class_text Xdigit = codes "[:xdigit:]"
 
 -- the bytes of a named class
-abbrev pub class_spans : Class → List Span
-class_spans Alnum = span 48 57 ∷ span 65 90 ∷ span 97 122 ∷ []
-class_spans Alpha = span 65 90 ∷ span 97 122 ∷ []
-class_spans Blank = span 9 9 ∷ span 32 32 ∷ []
-class_spans Cntrl = span 0 31 ∷ span 127 127 ∷ []
-class_spans Digit = span 48 57 ∷ []
-class_spans Graph = span 33 126 ∷ []
-class_spans Lower = span 97 122 ∷ []
-class_spans Print = span 32 126 ∷ []
-class_spans Punct = span 33 47 ∷ span 58 64 ∷ span 91 96 ∷ span 123 126 ∷ []
-class_spans Space = span 9 13 ∷ span 32 32 ∷ []
-class_spans Upper = span 65 90 ∷ []
-class_spans Xdigit = span 48 57 ∷ span 65 70 ∷ span 97 102 ∷ []
+abbrev pub class_spans : Class → List (ℕ × ℕ)
+class_spans Alnum = (48, 57) ∷ (65, 90) ∷ (97, 122) ∷ []
+class_spans Alpha = (65, 90) ∷ (97, 122) ∷ []
+class_spans Blank = (9, 9) ∷ (32, 32) ∷ []
+class_spans Cntrl = (0, 31) ∷ (127, 127) ∷ []
+class_spans Digit = (48, 57) ∷ []
+class_spans Graph = (33, 126) ∷ []
+class_spans Lower = (97, 122) ∷ []
+class_spans Print = (32, 126) ∷ []
+class_spans Punct = (33, 47) ∷ (58, 64) ∷ (91, 96) ∷ (123, 126) ∷ []
+class_spans Space = (9, 13) ∷ (32, 32) ∷ []
+class_spans Upper = (65, 90) ∷ []
+class_spans Xdigit = (48, 57) ∷ (65, 70) ∷ (97, 102) ∷ []
 
 -- the twelve named classes
 unfoldable pub classes : List Class
@@ -67,46 +58,42 @@ class_at text = find (λ c. starts_with nat_eq text (class_text c)) classes
 -- one or more items of a bracket: how many bytes of text they take, and which bytes they admit
 pub record Items : Type 0 where
   pub size : ℕ
-  pub spans : List Span
-
--- items of so many bytes of text, with these spans
-abbrev pub items : ℕ → List Span → Items
-items size spans = record { size = size; spans = spans }
+  pub spans : List (ℕ × ℕ)
 
 -- A range where one stands: a byte, `-`, and a byte that isn't `]`. Else one byte.
 abbrev pub plain_item : List ℕ → Items
-plain_item [] = items 1 []
-plain_item (low ∷ []) = items 1 (span low low ∷ [])
-plain_item (low ∷ dash ∷ []) = items 1 (span low low ∷ [])
+plain_item [] = record { size = 1; spans = [] }
+plain_item (low ∷ []) = record { size = 1; spans = (low, low) ∷ [] }
+plain_item (low ∷ dash ∷ []) = record { size = 1; spans = (low, low) ∷ [] }
 plain_item (low ∷ dash ∷ high ∷ rest) =
-    if dash == 45 then (if high == 93 then items 1 (span low low ∷ []) else items 3 (span low high ∷ []))
-    else items 1 (span low low ∷ [])
+    if dash == byte "-" then (if high == byte "]" then record { size = 1; spans = (low, low) ∷ [] } else record { size = 3; spans = (low, high) ∷ [] })
+    else record { size = 1; spans = (low, low) ∷ [] }
 
 -- the item at the beginning of a text: a named class, else a range, else one byte
 unfoldable pub item_at : List ℕ → Items
-item_at text = option_map_or (λ c. items (length (class_text c)) (class_spans c)) (class_at text) (plain_item text)
+item_at text = option_map_or (λ c. record { size = length (class_text c); spans = class_spans c }) (class_at text) (plain_item text)
 
 -- an item, and those after it
 abbrev pub joined : Items → Option Items → Option Items
 joined first None = None
-joined first (Some more) = Some (items (first.size + more.size) (first.spans ++ more.spans))
+joined first (Some more) = Some (record { size = first.size + more.size; spans = first.spans ++ more.spans })
 
 -- The items from here to the `]` that closes, with it, if one does. The first `skip` bytes belong to
 -- the item that was read before. At the first item's place a `]` doesn't close.
 unfoldable pub items_from : (is_first : Bool) → (skip : ℕ) → List ℕ → Option Items
 items_from is_first skip [] = None
-items_from is_first (suc skip) (byte ∷ rest) = items_from is_first skip rest
-items_from true zero (byte ∷ rest) =
-    joined (item_at (byte ∷ rest)) (items_from false ((item_at (byte ∷ rest)).size - 1) rest)
-items_from false zero (byte ∷ rest) =
-    if byte == 93 then Some (items 1 [])
-    else joined (item_at (byte ∷ rest)) (items_from false ((item_at (byte ∷ rest)).size - 1) rest)
+items_from is_first (suc skip) (b ∷ rest) = items_from is_first skip rest
+items_from true zero (b ∷ rest) =
+    joined (item_at (b ∷ rest)) (items_from false ((item_at (b ∷ rest)).size - 1) rest)
+items_from false zero (b ∷ rest) =
+    if b == byte "]" then Some (record { size = 1; spans = [] })
+    else joined (item_at (b ∷ rest)) (items_from false ((item_at (b ∷ rest)).size - 1) rest)
 
 -- a closed bracket: how many bytes it takes, both ends counted, whether it is inverted, and its items' bytes
 pub record Bracket : Type 0 where
   pub size : ℕ
   pub inverted : Bool
-  pub spans : List Span
+  pub spans : List (ℕ × ℕ)
 
 -- the bracket of its items, which begin behind `start` bytes
 abbrev pub bracket_of : ℕ → Bool → Option Items → Option Bracket
@@ -116,14 +103,14 @@ bracket_of start inverted (Some found) =
 
 -- `!` or `^`, which inverts behind the `[`
 abbrev pub is_inversion : ℕ → Bool
-is_inversion byte = if byte == 33 then true else byte == 94
+is_inversion b = if b == byte "!" then true else b == byte "^"
 
 -- the closed bracket at the beginning of a text, if one begins there
 unfoldable pub bracket_at : List ℕ → Option Bracket
 bracket_at [] = None
 bracket_at (first ∷ []) = None
 bracket_at (first ∷ mark ∷ rest) =
-    if first == 91 then
+    if first == byte "[" then
     (if is_inversion mark then bracket_of 2 true (items_from true 0 rest)
     else bracket_of 1 false (items_from true 0 (mark ∷ rest)))
     else None
@@ -138,15 +125,15 @@ pub data Token : Type 0 where
 -- a `[` that begins no closed bracket is an ordinary byte
 abbrev pub bracket_or_byte : Option Bracket → Token
 bracket_or_byte (Some found) = bracket found
-bracket_or_byte None = literal 91
+bracket_or_byte None = literal (byte "[")
 
 -- the token at the beginning of a text
 unfoldable pub token_at : List ℕ → Token
 token_at [] = literal 0
 token_at (first ∷ rest) =
-    if first == 42 then star
-    else (if first == 63 then one
-    else (if first == 91 then bracket_or_byte (bracket_at (first ∷ rest))
+    if first == byte "*" then star
+    else (if first == byte "?" then one
+    else (if first == byte "[" then bracket_or_byte (bracket_at (first ∷ rest))
     else literal first))
 
 -- how many bytes of text it takes

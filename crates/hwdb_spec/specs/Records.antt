@@ -58,10 +58,6 @@ pub record Origin : Type 0 where
   pub path : List ℕ
   pub priority : ℕ
 
--- the origin with this path and this priority
-abbrev pub origin : List ℕ → ℕ → Origin
-origin path priority = record { path = path; priority = priority }
-
 -- the texts of the match lines that aren't too long
 abbrev pub patterns : List Line → List (List ℕ)
 patterns [] = []

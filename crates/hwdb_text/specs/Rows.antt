@@ -3,8 +3,8 @@ use Rattle.std.specs.Prelude.{ℕ, List, [], codes, replicate, ◌++◌, ◌∷�
 use Rattle.hwdb_spec.specs.declared.Fault.{Fault}
 use Rattle.hwdb_spec.specs.declared.FaultKind.{FaultKind}
 use Rattle.hwdb_spec.specs.declared.FaultKind.TheVariants.{EmptyKey, LongMatch, NoEquals, NoProperty, StrayMatch, StrayProperty, ZeroByte}
-use Rattle.hwdb_spec.specs.Records.{faults, Origin, origin, assignments}
-use Rattle.hwdb_text.specs.Views.{given}
+use Rattle.hwdb_spec.specs.Records.{faults, Origin, assignments}
+use Rattle.hwdb_text.specs.Views.{origin, given}
 use Rattle.hwdb_spec.specs.Assignment.{Assignment}
 use Rattle.hwdb_spec.specs.Folders.{Choice, choice, path_of}
 

@@ -20,6 +20,10 @@ assigned a = record {
 abbrev pub text_of : Bor (List ℕ) → List ℕ
 text_of text = text.now
 
+-- the origin with this path and this priority
+abbrev pub origin : List ℕ → ℕ → Origin
+origin path priority = record { path = path; priority = priority }
+
 -- what the property at a line gives a pattern
 abbrev pub given : Origin → (number : ℕ) → (key value pattern : List ℕ) → Assignment
 given o number key value pattern = record {

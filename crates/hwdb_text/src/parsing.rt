@@ -2,7 +2,8 @@
 ghost use Rattle.std.specs.Prelude.{◌≡◌, ◌+◌, ◌<◌, ◌≤◌, ◌↔◌, [], length, map, All, IfOk, IfErr, IsOk};
 ghost use Rattle.std.specs.Result.{IsErrOf};
 ghost use Rattle.hwdb_spec.specs.Lines.{lines};
-ghost use Rattle.hwdb_spec.specs.Records.{Origin, origin};
+ghost use Rattle.hwdb_spec.specs.Records.{Origin};
+ghost use Rattle.hwdb_text.specs.Views.{origin};
 ghost use Rattle.hwdb_text.specs.Views.{assigned, given_in};
 ghost use Rattle.hwdb_spec.specs.Records;
 ghost use Rattle.hwdb_spec.specs.Folders.{max_lines};

@@ -37,7 +37,7 @@ impl Model for Tree {
 impl Tree {
     ghost use Rattle.std.specs.Prelude.{◌≡◌, ◌≤◌, ◌<◌, ◌∷◌, ℕ, List, length, IfOk, OnOk, OnErr};
     ghost use Rattle.std.specs.FinMap.{empty, insert};
-    ghost use Rattle.hwdb_spec.specs.Records.{origin};
+    ghost use Rattle.hwdb_text.specs.Views.{origin};
     ghost use Rattle.hwdb_text.specs.Views.{assigned, given_in};
     ghost use Rattle.hwdb_writer.specs.Internal.Stored.{value_of, at_place};
     ghost use Rattle.hwdb_writer.specs.Internal.Storable.{HasNoZero, IsStorableValue};

@@ -1,11 +1,15 @@
 -- Our own words: what the code knows of a part of a pattern beside one byte of a device.
-use Rattle.std.specs.Prelude.{Bool, ℕ, true, if◌then◌else◌, ◌+◌}
+use Rattle.std.specs.Prelude.{Bool, List, ℕ, true, if◌then◌else◌, ◌+◌}
 use Rattle.hwdb_pattern.specs.declared.brackets.Part.{Part}
 use Rattle.hwdb_spec.specs.Patterns.{Items, in_spans, Token, admits_byte, token_size, Bracket, bracket}
 
 -- how many bytes it takes, and whether it admits the byte
 abbrev pub part : ℕ → Bool → Part
 part size admits = record { size = size; admits = admits }
+
+-- items of so many bytes of text, with these spans
+abbrev pub items : ℕ → List (ℕ × ℕ) → Items
+items size spans = record { size = size; spans = spans }
 
 abbrev pub items_part : ℕ → Items → Part
 items_part byte found = part found.size (in_spans found.spans byte)

@@ -1,6 +1,5 @@
 use Rattle.std.proofs.Common.{◌∙◌, ap, sym, subst, map, All}
-use Rattle.hwdb_text.specs.Views.{given_in, IsStorable, HasNoZero}
-use Rattle.hwdb_spec.specs.Records.{origin}
+use Rattle.hwdb_text.specs.Views.{given_in, IsStorable, HasNoZero, origin}
 use Rattle.hwdb_compile.proofs.Gathered.{puttable}
 use Rattle.hwdb_compile.proofs.compiling.add_file.Goals as goal
 

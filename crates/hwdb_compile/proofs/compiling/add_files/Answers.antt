@@ -1,9 +1,9 @@
 use Rattle.std.proofs.Common.{◌≡◌, ◌∙◌, ◌++◌, ap, sym, subst, map, take, All, add-one}
 use Rattle.std.specs.Prelude.{flat_map}
 use Rattle.std.proofs.lemmas.List.Elements.{All-push}
-use Rattle.hwdb_spec.specs.Records.{assignments, origin, faults}
+use Rattle.hwdb_spec.specs.Records.{assignments, faults}
+use Rattle.hwdb_text.specs.Views.{origin, IsStorableChoice, choice_of}
 use Rattle.hwdb_spec.specs.Folders.{Choice, path_of, file_assignments, file_faults, fault_in}
-use Rattle.hwdb_text.specs.Views.{IsStorableChoice, choice_of}
 use Rattle.hwdb_compile.specs.Views.{FewLines, ManyLines, fault_of}
 use Rattle.hwdb_compile.specs.Internal.Reading.{bytes_at, read_from, IsFilesRefusal}
 use Rattle.hwdb_compile.proofs.Gathered.{all_at, any_at, mapped_more, tree_step, list_step}

@@ -1,8 +1,7 @@
 use Rattle.std.proofs.Common.{◌++◌, ◌∙◌, [], ap, map, take, get_or, add-one}
 use Rattle.std.proofs.lemmas.List.{get_or_default}
 use Rattle.hwdb_text.specs.declared.outcome.Given.{Given}
-use Rattle.hwdb_spec.specs.Records.{origin}
-use Rattle.hwdb_text.specs.Views.{given_in}
+use Rattle.hwdb_text.specs.Views.{origin, given_in}
 use Rattle.hwdb_spec.specs.Tree.{surviving}
 use Rattle.hwdb_compile.specs.Internal.Reading.{IsPuttable}
 use Rattle.hwdb_compile.proofs.Gathered.{all_at, no_zero, mapped_more, mapped_all, put_step}

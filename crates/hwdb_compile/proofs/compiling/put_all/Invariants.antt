@@ -1,7 +1,6 @@
 use Rattle.std.proofs.Common.{◌≡◌, ◌++◌, List, map, take}
 use Rattle.hwdb_spec.specs.Assignment.{Assignment}
-use Rattle.hwdb_spec.specs.Records.{origin}
-use Rattle.hwdb_text.specs.Views.{given_in}
+use Rattle.hwdb_text.specs.Views.{origin, given_in}
 use Rattle.hwdb_spec.specs.Tree.{surviving}
 use Rattle.hwdb_compile.proofs.compiling.put_all.Given as goal
 

@@ -1,6 +1,5 @@
 use Rattle.std.proofs.Common.{◌≡◌, map, take}
-use Rattle.hwdb_spec.specs.Records.{origin}
-use Rattle.hwdb_text.specs.Views.{assigned, given_in}
+use Rattle.hwdb_text.specs.Views.{origin, assigned, given_in}
 use Rattle.hwdb_text.proofs.parsing.copies.Given as goal
 
 abbrev pub invariant-loop-given : goal.invariant-loop-given

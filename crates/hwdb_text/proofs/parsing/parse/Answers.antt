@@ -1,6 +1,5 @@
 use Rattle.std.proofs.Common.{◌≡◌, ◌∙◌, true, false}
-use Rattle.hwdb_spec.specs.Records.{origin}
-use Rattle.hwdb_text.specs.Views.{given_in}
+use Rattle.hwdb_text.specs.Views.{origin, given_in}
 use Rattle.hwdb_text.proofs.Nothing.{nothing_given}
 use Rattle.hwdb_text.proofs.parsing.parse.Goals as goal
 

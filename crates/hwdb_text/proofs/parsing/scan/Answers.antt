@@ -2,8 +2,8 @@ use Rattle.std.proofs.Common.{◌≡◌, ◌+◌, ◌<◌, length, drop, sym, �
 use Rattle.std.proofs.lemmas.List.{take_rest, length-drop}
 use Rattle.hwdb_spec.specs.Lines.{is, lines, pieces}
 use Rattle.std.proofs.lemmas.List.Elements.{All-same}
-use Rattle.hwdb_spec.specs.Records.{origin, assignments}
-use Rattle.hwdb_text.specs.Views.{IsStorable}
+use Rattle.hwdb_spec.specs.Records.{assignments}
+use Rattle.hwdb_text.specs.Views.{origin, IsStorable}
 use Rattle.hwdb_text.proofs.Storing.{assignments_storable}
 use Rattle.hwdb_text.proofs.Bytes.{count_lines}
 use Rattle.hwdb_text.proofs.Files.{more_lines, next_count, next_reads, end_pieces, end_reads}
