@@ -70,7 +70,8 @@ pub fn walk(
     requires inside { limit ≤ length b.now }
     requires visited { Visited l.sizes b.now (visit levels from off limit) }
     ensures ok { IfOk result
-        (λ end. (end ≡ record_end l.sizes b.now off) × Fits l.sizes b.now (visit levels from off limit)
+        (λ end. (end ≡ record_end l.sizes b.now off)
+        × Fits l.sizes b.now (visit levels from off limit)
         × NodeText l.sizes b.now levels from off (tree_at l.sizes b.now levels off)) }
     ensures err { OnErr result
         (Fits l.sizes b.now (visit levels from off limit)

@@ -7,7 +7,7 @@ use Rattle.hwdb_spec.specs.Tree.{Value, Children, Tree, count, key_of, IsTree, M
 use Rattle.hwdb_spec.specs.Tree.Children.{Child, NoMore}
 use Rattle.hwdb_spec.specs.Tree.Tree.{Node}
 use Rattle.hwdb_spec.specs.Assignment.{text_cmp, ascending}
-use Rattle.hwdb_spec.specs.Format.{IsDatabase}
+use Rattle.hwdb_spec.specs.Format.{IsDatabase, header_bytes, node_bytes, child_bytes, value_bytes}
 use Rattle.hwdb_spec.specs.Folders.{AreAccepted, Source}
 
 -- the strings of a tree, as often as they stand in it
@@ -43,7 +43,7 @@ place_of from (t ∷ ts) s = by_order (text_cmp s t) from from (place_of (from +
 
 -- how long a node's record is, and its text
 abbrev pub record_size : List Value → Children → ℕ
-record_size values children = 24 + 16 * count children + 32 * length values
+record_size values children = node_bytes + child_bytes * count children + value_bytes * length values
 
 unfoldable mutual
   -- how long the text of a tree is
@@ -91,11 +91,12 @@ module _ (place : List ℕ → ℕ) where
 abbrev pub header_text : Tree → List ℕ
 header_text t =
     let strings = length (section_of (table_of t)) in
-    codes "KSLPHHRH" ++ flat_map (little_bytes 8) (1 ∷ (80 + text_size t + strings) ∷ 80 ∷ 24 ∷ 16 ∷ 32 ∷ record_at 80 t ∷ text_size t ∷ strings ∷ [])
+    codes "KSLPHHRH" ++ flat_map (little_bytes 8)
+    (1 ∷ (header_bytes + text_size t + strings) ∷ header_bytes ∷ node_bytes ∷ child_bytes ∷ value_bytes ∷ record_at header_bytes t ∷ text_size t ∷ strings ∷ [])
 
 -- the database of a tree
 unfoldable pub written : Tree → List ℕ
-written t = header_text t ++ node_text (place_of (80 + text_size t) (table_of t)) 80 t ++ section_of (table_of t)
+written t = header_text t ++ node_text (place_of (header_bytes + text_size t) (table_of t)) header_bytes t ++ section_of (table_of t)
 
 -- every stored key begins with a space
 abbrev pub AllKeys : List Value → Type 0
