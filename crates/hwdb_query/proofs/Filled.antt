@@ -1,35 +1,58 @@
 -- The fillings of a run are counted.
-use Rattle.std.proofs.Common.{◌≡◌, ◌∙◌, ap, sym, refl, subst, ℕ, zero, suc, ◌+◌, ◌-◌, ◌<◌, ◌≤◌, ◌==◌, true, false, not, if◌then◌else◌, List, [], ◌∷◌, length, drop, min, arith, ◌*◌, ◌⊎◌, inl, inr, ◌/◌, ◌%◌}
+use Rattle.std.proofs.Common.{◌≡◌, ◌∙◌, ap, sym, refl, subst, ℕ, zero, suc, ◌+◌, ◌-◌, ◌<◌, ◌≤◌, ◌==◌, Bool, true, false, not, if◌then◌else◌, List, [], ◌∷◌, length, drop, min, arith, ◌*◌, ◌⊎◌, inl, inr, ◌/◌, ◌%◌}
 use Rattle.std.specs.Int.{div_ceil}
 use Rattle.std.proofs.Math.Nat.{add-div_left, add-mod_left}
 use Rattle.std.proofs.lemmas.Bool.{ne_eqb}
 use Rattle.std.proofs.lemmas.Grind.{div_ceil_times}
 use Rattle.hwdb_spec.specs.Assignment.{Assignment}
-use Rattle.hwdb_query.specs.Views.{Progress, fills, filled, given}
+use Rattle.hwdb_query.specs.Views.{Progress, fills}
 use Rattle.hwdb_query.specs.Laws.{fillings, FillingsOfARun}
 
 not_none : (n : ℕ) → 0 < n → (n == 0) ≡ false
 not_none n some = ne_eqb n 0 (λ is. omega (arith, some, is))
 
+-- a page is held; where nothing was to come, the end is reached
+abbrev pub filled : Progress → Progress
+filled p = record p { held = min p.page (length p.to_come); ended = length p.to_come == 0; entered = p.live }
+
+-- the first hit is given, if there is one
+abbrev pub given : Progress → Progress
+given p = record p { to_come = drop 1 p.to_come; held = p.held - 1 }
+
+-- after a `next` that fills a page, or doesn't
+abbrev next_by : Bool → Progress → Progress
+next_by b p = record {
+  to_come = drop 1 p.to_come;
+  held = (if b then min p.page (length p.to_come) else p.held) - 1;
+  page = p.page;
+  ended = if b then length p.to_come == 0 else p.ended;
+  entered = if b then p.live else p.entered;
+  live = p.live;
+}
+
 -- with hits held nothing is filled
 fills_not : (p : Progress) (h : ℕ) → p.held ≡ suc h → fills p ≡ false
 fills_not p h is = ap (λ b. if b then not p.ended else false) (not_none p.held (omega (arith, is)))
 
-fills_none : (p : Progress) → p.held ≡ 0 → p.ended ≡ true → fills p ≡ false
+pub fills_none : (p : Progress) → p.held ≡ 0 → p.ended ≡ true → fills p ≡ false
 fills_none p held ended = ap (λ n. if n == 0 then not p.ended else false) held ∙ ap not ended
 
-fills_now : (p : Progress) → p.held ≡ 0 → p.ended ≡ false → fills p ≡ true
+pub fills_now : (p : Progress) → p.held ≡ 0 → p.ended ≡ false → fills p ≡ true
 fills_now p held ended = ap (λ n. if n == 0 then not p.ended else false) held ∙ ap not ended
+
+-- with a hit held nothing is filled
+pub held_fills_not : (p : Progress) → 0 < p.held → fills p ≡ false
+held_fills_not p h = fills_not p (p.held - 1) (omega (arith, h))
 
 -- a call that fills no page
 no_filling : (calls : ℕ) (p : Progress) → fills p ≡ false → fillings (suc calls) p ≡ fillings calls (given p)
 unfolding fillings
-no_filling calls p is = ap (λ b. (if b then 1 else 0) + fillings calls (given (if b then filled p else p))) is ∙ omega arith
+no_filling calls p is = ap (λ b. (if b then 1 else 0) + fillings calls (next_by b p)) is ∙ omega arith
 
 -- a call that fills one
 one_filling : (calls : ℕ) (p : Progress) → fills p ≡ true → fillings (suc calls) p ≡ 1 + fillings calls (given (filled p))
 unfolding fillings
-one_filling calls p is = ap (λ b. (if b then 1 else 0) + fillings calls (given (if b then filled p else p))) is
+one_filling calls p is = ap (λ b. (if b then 1 else 0) + fillings calls (next_by b p)) is
 
 -- after the end nothing is filled
 over : (calls : ℕ) (p : Progress) → p.held ≡ 0 → p.ended ≡ true → fillings calls p ≡ 0

@@ -65,14 +65,14 @@ pub record Progress : Type 0 where
 abbrev pub fills : Progress → Bool
 fills p = if p.held == 0 then not p.ended else false
 
--- a page is held; where nothing was to come, the end is reached
-abbrev pub filled : Progress → Progress
-filled p = record p { held = min p.page (length p.to_come); ended = length p.to_come == 0; entered = p.live }
-
--- the first hit is given, if there is one
-abbrev pub given : Progress → Progress
-given p = record p { to_come = drop 1 p.to_come; held = p.held - 1 }
-
--- a cursor after a `next` that isn't refused
+-- A cursor after a `next` that isn't refused: the first of what was to come is given, if there is one. Where a page is
+-- filled, it is the first of what is to come, and where there is none the end is reached.
 abbrev pub after_next : Progress → Progress
-after_next p = given (if fills p then filled p else p)
+after_next p = record {
+  to_come = drop 1 p.to_come;
+  held = (if fills p then min p.page (length p.to_come) else p.held) - 1;
+  page = p.page;
+  ended = if fills p then length p.to_come == 0 else p.ended;
+  entered = if fills p then p.live else p.entered;
+  live = p.live;
+}

@@ -1,9 +1,10 @@
 //! Laws over the definitions alone. Each function does nothing: its contract is the law.
-ghost use Rattle.std.specs.Prelude.{◌≡◌, ℕ, List};
+ghost use Rattle.std.specs.Prelude.{◌≡◌, ◌<◌, ◌+◌, ◌-◌, ◌⊎◌, ℕ, List, [], length, min, true, false};
 ghost use Rattle.hwdb_spec.specs.Format.{IsDatabase};
 ghost use Rattle.hwdb_spec.specs.Tree.{Map, map_of, Tree, answers};
 ghost use Rattle.hwdb_spec.specs.Written.{IsDatabaseOf};
 ghost use Rattle.hwdb_query.specs.Laws.{AreAnswers, FillingsOfARun, AllCompiledAnswersAreLast, CompiledAnswersAreLast, SpellsOne, CanonicalSpells};
+ghost use Rattle.hwdb_query.specs.Views.{Progress, after_next};
 ghost use Rattle.hwdb_query.specs.Rows.{EffectiveRow, LastRows};
 
 use hwdb_pattern::matches_is_tested;
@@ -50,6 +51,22 @@ pub fn compiled_answers_are_last()
 pub fn last_rows()
     ensures last { LastRows }
     ensures effective { EffectiveRow }
+{}
+
+/// What a call of `next` changes of a cursor: with a hit held, or at the end, nothing is entered; a page that is
+/// filled holds what is to come, as much as it may, but for the hit that is given, and the live nodes were entered.
+pub fn after_each_next()
+    ensures held { (p : Progress) → 0 < p.held → (after_next p).held + 1 ≡ p.held }
+    ensures filled { (p : Progress) → p.held ≡ 0 → p.ended ≡ false
+        → (after_next p).held ≡ min p.page (length p.to_come) - 1 }
+    ensures open { (p : Progress) → 0 < length p.to_come → p.ended ≡ false
+        → (after_next p).ended ≡ false }
+    ensures end { (p : Progress) → p.held ≡ 0 → p.to_come ≡ []
+        → ((after_next p).held ≡ 0) × ((after_next p).ended ≡ true) }
+    ensures stays { (p : Progress) → (0 < p.held) ⊎ (p.ended ≡ true)
+        → ((after_next p).entered ≡ p.entered) × ((after_next p).ended ≡ p.ended) }
+    ensures entered { (p : Progress) → p.held ≡ 0 → p.ended ≡ false
+        → (after_next p).entered ≡ p.live }
 {}
 
 /// How many fillings a cursor takes that is read to its end: as many as there are pages, the last one perhaps

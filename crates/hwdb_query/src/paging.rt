@@ -156,18 +156,6 @@ impl<'a, 'd> Cursor<'a, 'd> {
         ensures step { OnOk result (self.new ≡ after_next self.old) }
         ensures same { OnErr result (self.new ≡ self.old) }
         ensures no_memory { ((0 < self.old.held) ⊎ (self.old.ended ≡ true)) → IsOk result }
-        ensures page { self.new.page ≡ self.old.page }
-        ensures live { self.new.live ≡ self.old.live }
-        ensures one_fewer { 0 < self.old.held → self.new.held + 1 ≡ self.old.held }
-        ensures filled { IfOk result
-            (λ r. IsSome r → self.old.held ≡ 0
-            → self.new.held + 1 ≡ min self.old.page (length self.old.to_come)) }
-        ensures open { IfOk result (λ r. IsSome r → self.new.ended ≡ self.old.ended) }
-        ensures end { IfOk result (λ r. r ≡ None → (self.new.held ≡ 0) × (self.new.ended ≡ true)) }
-        ensures stays { ((0 < self.old.held) ⊎ (self.old.ended ≡ true))
-            → self.new.entered ≡ self.old.entered }
-        ensures entered { OnOk result
-            (self.old.held ≡ 0 → self.old.ended ≡ false → self.new.entered ≡ self.old.live) }
     {
         if let Some(hit) = self.take() {
             return Ok(Some(hit));
