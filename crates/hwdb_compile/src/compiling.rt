@@ -10,7 +10,7 @@ ghost use Rattle.hwdb_compile.specs.Views.{FewLines};
 ghost use Rattle.hwdb_compile.specs.Views.{sources, fault_of, IsRefusal};
 ghost use Rattle.hwdb_spec.specs.Tree.{surviving, map_of_files};
 ghost use Rattle.hwdb_query.specs.Laws.{AnswersAreLast};
-ghost use Rattle.hwdb_compile.specs.Internal.Reading.{bytes_at, read_from, IsPuttable, IsFileRefusal, IsFilesRefusal};
+ghost use Rattle.hwdb_compile.specs.Internal.Reading.{bytes_at, read_from, IsPuttable, TakesUp, IsFileRefusal, IsFilesRefusal};
 
 use crate::errors::CompileError;
 use crate::sources::{Compiled, FileFault, SourceFile, names, put_files};
@@ -23,8 +23,8 @@ use std::collections::BTreeMap;
 /// Puts what a file with this path and priority gives into the tree, one after another.
 fn put_all(tree: &mut Tree, path: &[u8], priority: u16, all: &[Given<'_>]) -> Result<(), AllocError>
     requires { All IsPuttable (map (given_in (origin path.now priority)) all.now) }
-    ensures { OnOk result ((done : List Assignment) → tree.old ≡ surviving done
-        → tree.new ≡ surviving (done ++ map (given_in (origin path.now priority)) all.now)) }
+    ensures { OnOk result
+        (TakesUp tree.old (map (given_in (origin path.now priority)) all.now) tree.new) }
 {
     for given in all {
         tree.set(priority, path, *given)?;
@@ -63,8 +63,7 @@ fn add_file(
 ) -> Result<(), CompileError>
     requires { IsStorableChoice (choice_of file.now) }
     ensures tree { OnOk result
-        ((done : List Assignment) → tree.old ≡ surviving done
-        → tree.new ≡ surviving (done ++ file_assignments (λ _. bytes.now) (choice_of file.now))) }
+        (TakesUp tree.old (file_assignments (λ _. bytes.now) (choice_of file.now)) tree.new) }
     ensures faults { OnOk result
         (map fault_of faults.new.items
         ≡ map fault_of faults.old.items ++ file_faults (λ _. bytes.now) (choice_of file.now)) }
@@ -89,9 +88,8 @@ fn add_files(
 ) -> Result<(), CompileError>
     requires { All IsStorableChoice (map choice_of chosen.now) }
     ensures tree { OnOk result
-        ((done : List Assignment) → tree.old ≡ surviving done
-        → tree.new ≡ surviving
-        (done ++ flat_map (file_assignments (read_from index.now)) (map choice_of chosen.now))) }
+        (TakesUp tree.old
+        (flat_map (file_assignments (read_from index.now)) (map choice_of chosen.now)) tree.new) }
     ensures faults { OnOk result
         (map fault_of faults.new.items
         ≡ map fault_of faults.old.items

@@ -1,8 +1,7 @@
 //! The walk over the nodes section: each node's text is its children's texts, in order, and its record.
 ghost use Rattle.std.specs.Prelude.{◌≡◌, ◌≤◌, ℕ, length, SomeIff, IfOk, OnOk, OnErr, IfErr, None};
-ghost use Rattle.hwdb_spec.specs.Format.{record_end, prefix_off, value_entries, values_count, IsPlace, ValuesText, NodeText, Fits, Visited, NodeFault, IsVisitFault};
-ghost use Rattle.hwdb_reader.specs.Internal.Read.{values_at, tree_at};
-ghost use Rattle.hwdb_reader.specs.Internal.Placed.{visit};
+ghost use Rattle.hwdb_spec.specs.Format.{record_end, Visited, NodeFault, IsVisitFault};
+ghost use Rattle.hwdb_reader.specs.Internal.Placed.{visit, FieldsAreSound, IsSoundNode};
 
 use crate::fields::{is_place, u64_at};
 use crate::frame::Frame;
@@ -40,12 +39,8 @@ fn record_end_within(b: &[u8], l: Frame, from: usize, off: usize, limit: usize) 
 #[tactic(auto, unfolding(hwdb_spec::specs::Format::record_end))]
 fn check_fields(b: &[u8], l: Frame, off: usize) -> Result<(), DbFault>
     requires { record_end l.sizes b.now off ≤ length b.now }
-    ensures ok { OnOk result (IsPlace l.sizes b.now (prefix_off b.now off)
-        × ValuesText l.sizes b.now (value_entries l.sizes b.now off) None
-        (values_at l.sizes b.now (value_entries l.sizes b.now off) (values_count b.now off))) }
-    ensures err { OnErr result (IsPlace l.sizes b.now (prefix_off b.now off)
-        → ValuesText l.sizes b.now (value_entries l.sizes b.now off) None
-        (values_at l.sizes b.now (value_entries l.sizes b.now off) (values_count b.now off)) → ⊥) }
+    ensures ok { OnOk result (FieldsAreSound l.sizes b.now off) }
+    ensures err { OnErr result (FieldsAreSound l.sizes b.now off → ⊥) }
     ensures fault { IfErr result
         (λ e. (levels from limit : ℕ)
         → NodeFault l.sizes b.now (visit levels from off limit) e) }
@@ -71,11 +66,8 @@ pub fn walk(
     requires visited { Visited l.sizes b.now (visit levels from off limit) }
     ensures ok { IfOk result
         (λ end. (end ≡ record_end l.sizes b.now off)
-        × Fits l.sizes b.now (visit levels from off limit)
-        × NodeText l.sizes b.now levels from off (tree_at l.sizes b.now levels off)) }
-    ensures err { OnErr result
-        (Fits l.sizes b.now (visit levels from off limit)
-        → NodeText l.sizes b.now levels from off (tree_at l.sizes b.now levels off) → ⊥) }
+        × IsSoundNode l.sizes b.now (visit levels from off limit)) }
+    ensures err { OnErr result (IsSoundNode l.sizes b.now (visit levels from off limit) → ⊥) }
     ensures fault { IfErr result (λ e. IsVisitFault l.sizes b.now e) }
 {
     let Some(end) = record_end_within(b, l, from, off, limit) else {

@@ -22,7 +22,7 @@ returns-in_err-end-clause-refused c =
     let p = err_from_is_err_and c.from_residual-in_err-end.result c.from_residual-in_err-end.ensures.1 in
     let ok = c.in_ok-frame.ensures.ok in
     let e = rw ok.0 at c.in_err-end.ensures.err in
-    rw p.1 (λ t h. e (root_fits c.args.bytes.now t h) (read_text c.args.bytes.now t h))
+    rw p.1 (λ t h. e (root_fits c.args.bytes.now t h, read_text c.args.bytes.now t h))
 
 pub returns-in_err-end-clause-fault : goal.returns-in_err-end-clause-fault
 returns-in_err-end-clause-fault c =
@@ -42,19 +42,19 @@ invariant_of-result c =
     let e = c.in_ok-end.ensures.ok in
     let inside = strings_inside c.args.bytes.now ok.1 in
     let sizes = ap (λ (m : Layout). m.strings) ok.0 in
-    let below = e.1.1 in
-    record { placed = ∣ record { from = c.in_ok-frame.frame.sizes.nodes; text = e.2; inside = omega (arith, below, sizes, inside); small = omega arith } ∣₁ }
+    let below = e.1.0.1 in
+    record { placed = ∣ record { from = c.in_ok-frame.frame.sizes.nodes; text = e.1.1; inside = omega (arith, below, sizes, inside); small = omega arith } ∣₁ }
 
 pub returns-clause-accepted : goal.returns-clause-accepted
 unfolding tree_of
 returns-clause-accepted c =
     let ok = c.in_ok-frame.ensures.ok in
     let e = c.in_ok-end.ensures.ok in
-    database_of c.args.bytes.now c.in_ok-frame.frame.sizes ok.0 ok.1 e.2 (sym e.0 ∙ c.if-end-strings.false)
+    database_of c.args.bytes.now c.in_ok-frame.frame.sizes ok.0 ok.1 e.1.1 (sym e.0 ∙ c.if-end-strings.false)
 
 pub returns-clause-nodes : goal.returns-clause-nodes
 unfolding tree_of
 returns-clause-nodes c =
     let ok = c.in_ok-frame.ensures.ok in
     let e = c.in_ok-end.ensures.ok in
-    few_nodes c.args.bytes.now _ (database_of c.args.bytes.now c.in_ok-frame.frame.sizes ok.0 ok.1 e.2 (sym e.0 ∙ c.if-end-strings.false))
+    few_nodes c.args.bytes.now _ (database_of c.args.bytes.now c.in_ok-frame.frame.sizes ok.0 ok.1 e.1.1 (sym e.0 ∙ c.if-end-strings.false))

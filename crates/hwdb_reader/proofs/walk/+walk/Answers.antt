@@ -11,7 +11,7 @@ pub returns-in_default-clause-fault : goal.returns-in_default-clause-fault
 returns-in_default-clause-fault t c = place_stands c.args.l.sizes c.args.b.now (visit c.args.levels c.args.from c.args.off c.args.limit) c.requires.visited (λ f. c.in_default.ensures f)
 
 pub returns-then-levels-eq0-clause-err : goal.returns-then-levels-eq0-clause-err
-returns-then-levels-eq0-clause-err t c f h = no_levels c.args.l.sizes c.args.b.now c.args.levels c.args.from c.args.off _ c.if-levels-eq0.true h
+returns-then-levels-eq0-clause-err t c n = no_levels c.args.l.sizes c.args.b.now c.args.levels c.args.from c.args.off _ c.if-levels-eq0.true n.1
 
 pub returns-then-levels-eq0-clause-fault : goal.returns-then-levels-eq0-clause-fault
 returns-then-levels-eq0-clause-fault t c =
@@ -21,7 +21,7 @@ returns-then-levels-eq0-clause-fault t c =
 pub returns-in_err-check_fields-clause-err : goal.returns-in_err-check_fields-clause-err
 returns-in_err-check_fields-clause-err t c =
     let p = err_from_is_err_and c.from_residual.result c.from_residual.ensures.1 in
-    rw p.1 (λ f h. let q = node_open c.args.l.sizes c.args.b.now c.args.levels c.args.from c.args.off (omega arith) h in c.in_err-check_fields.ensures.err q.prefix q.values)
+    rw p.1 (λ n. let q = node_open c.args.l.sizes c.args.b.now c.args.levels c.args.from c.args.off (omega arith) n.1 in c.in_err-check_fields.ensures.err (q.prefix, q.values))
 
 pub returns-in_err-check_fields-clause-fault : goal.returns-in_err-check_fields-clause-fault
 returns-in_err-check_fields-clause-fault t c =
@@ -62,8 +62,8 @@ bounds-b-entry t c =
     omega (arith, room, h)
 
 pub returns-then-c-byte-clause-err : goal.returns-then-c-byte-clause-err
-returns-then-c-byte-clause-err t c f h =
-    let q = node_open c.args.l.sizes c.args.b.now c.args.levels c.args.from c.args.off (omega arith) h in
+returns-then-c-byte-clause-err t c n =
+    let q = node_open c.args.l.sizes c.args.b.now c.args.levels c.args.from c.args.off (omega arith) n.1 in
     let ch = child_open c.args.l.sizes c.args.b.now (c.args.levels - 1) c.loop-i.begin c.loop-i.entry c.loop-i.byte c.args.off (children_count c.args.b.now c.args.off) c.loop-i.i (omega arith) (c.loop-i.invariant.rest.1 q.children) in
     let a = ch.above in
     omega (arith, a)
@@ -90,11 +90,11 @@ walk-requires t c =
 pub returns-in_err-begin-clause-err : goal.returns-in_err-begin-clause-err
 returns-in_err-begin-clause-err t c =
     let p = err_from_is_err_and c.from_residual-in_err-begin.result c.from_residual-in_err-begin.ensures.1 in
-    rw p.1 (λ f h.
-    let q = node_open c.args.l.sizes c.args.b.now c.args.levels c.args.from c.args.off (omega arith) h in
+    rw p.1 (λ n.
+    let q = node_open c.args.l.sizes c.args.b.now c.args.levels c.args.from c.args.off (omega arith) n.1 in
     let ch = child_open c.args.l.sizes c.args.b.now (c.args.levels - 1) c.loop-i.begin c.loop-i.entry c.loop-i.byte c.args.off (children_count c.args.b.now c.args.off) c.loop-i.i (omega arith) (c.loop-i.invariant.rest.1 q.children) in
     let fit = child_fits c.args.l.sizes c.args.b.now c.args.l.node_fields (c.args.levels - 1) c.loop-i.begin c.loop-i.entry c.loop-i.byte c.args.off _ ch in
-    rw c.u64_at.ensures at c.in_err-begin.ensures.err fit ch.child)
+    rw c.u64_at.ensures at c.in_err-begin.ensures.err (fit, ch.child))
 
 pub overflow_add-entry-in-loop-i-2 : goal.overflow_add-entry-in-loop-i-2
 overflow_add-entry-in-loop-i-2 t c =
@@ -111,17 +111,17 @@ loop-i-preserved t c =
       entry = omega (arith, entry);
       begin = ok.0 ∙ ap (λ e. record_end c.args.l.sizes c.args.b.now (child_off c.args.b.now e)) entry ∙ sym (child_from_next c.args.l.sizes c.args.b.now c.args.from c.args.off c.loop-i.i);
       byte = ap (child_byte c.args.b.now) entry ∙ sym (byte_before_next c.args.l.sizes c.args.b.now c.args.off c.loop-i.i);
-      fit = below_more _ _ c.loop-i.invariant.fit (rw (← begin, ← entry) ok.1);
+      fit = below_more _ _ c.loop-i.invariant.fit (rw (← begin, ← entry) ok.1.0);
       rest = (
         λ h. c.loop-i.invariant.rest.0 (child_close c.args.l.sizes c.args.b.now (c.args.levels - 1) c.loop-i.begin c.loop-i.entry c.loop-i.byte c.args.off n c.loop-i.i (omega arith)
-            (record { above = omega arith; child = ok.2; more = rw ok.0 at h })),
+            (record { above = omega arith; child = ok.1.1; more = rw ok.0 at h })),
         λ h. rw ok.0 (child_open c.args.l.sizes c.args.b.now (c.args.levels - 1) c.loop-i.begin c.loop-i.entry c.loop-i.byte c.args.off n c.loop-i.i (omega arith) (c.loop-i.invariant.rest.1 h)).more,
       );
     }
 
 pub returns-then-begin-off-clause-err : goal.returns-then-begin-off-clause-err
-returns-then-begin-off-clause-err t c f h =
-    let q = node_open c.args.l.sizes c.args.b.now c.args.levels c.args.from c.args.off (omega arith) h in
+returns-then-begin-off-clause-err t c n =
+    let q = node_open c.args.l.sizes c.args.b.now c.args.levels c.args.from c.args.off (omega arith) n.1 in
     c.if-begin-off.true (children_done c.args.l.sizes c.args.b.now (c.args.levels - 1) c.loop-i.begin c.loop-i.entry c.loop-i.byte c.args.off (children_count c.args.b.now c.args.off) c.loop-i.i (omega arith) (c.loop-i.invariant.rest.1 q.children))
 
 pub returns-then-begin-off-clause-fault : goal.returns-then-begin-off-clause-fault
@@ -137,12 +137,14 @@ returns-clause-ok t c =
     let e = c.in-Some.ensures in
     let f = c.in_ok-check_fields.ensures.ok in (
       e.1,
-      e.0,
-      node_close c.args.l.sizes c.args.b.now c.args.levels c.args.from c.args.off (omega arith)
-          (record {
-            prefix = f.0;
-            values = f.1;
-            children = c.loop-i.invariant.rest.0
-                (children_end c.args.l.sizes c.args.b.now (c.args.levels - 1) c.loop-i.begin c.loop-i.entry c.loop-i.byte c.args.off (children_count c.args.b.now c.args.off) c.loop-i.i (omega arith) c.if-begin-off.false);
-          }),
+      (
+        e.0,
+        node_close c.args.l.sizes c.args.b.now c.args.levels c.args.from c.args.off (omega arith)
+            (record {
+              prefix = f.0;
+              values = f.1;
+              children = c.loop-i.invariant.rest.0
+                  (children_end c.args.l.sizes c.args.b.now (c.args.levels - 1) c.loop-i.begin c.loop-i.entry c.loop-i.byte c.args.off (children_count c.args.b.now c.args.off) c.loop-i.i (omega arith) c.if-begin-off.false);
+            }),
+      ),
     )
