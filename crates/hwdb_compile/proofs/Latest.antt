@@ -21,7 +21,7 @@ abbrev Latest : List Assignment → Type 0
 Latest done = (place : List ℕ × List ℕ) (s : Assignment) → finite.get (surviving done) place ≡ Some s → All (λ a. (entry_of a).0 ≡ place → IsEarlier a s) done
 
 -- no assignment is earlier than those before it
-abbrev Rising : List Assignment → List Assignment → Type 0
+abbrev pub Rising : List Assignment → List Assignment → Type 0
 Rising done [] = Unit {0}
 Rising done (a ∷ more) = All (λ b. IsEarlier b (entry_of a).1) done × Rising (done ++ a ∷ []) more
 
@@ -86,17 +86,17 @@ rising_append done [] ys up more = subst (λ l. Rising l ys) (append-nil done) m
 rising_append done (x ∷ xs) ys up more = (up.0, rising_append (done ++ x ∷ []) xs ys up.1 (subst (λ l. Rising l ys) (sym (append_assoc done (x ∷ []) xs)) more))
 
 -- priorities count up from a number
-abbrev Counts : ℕ → List Choice → Type 0
+abbrev pub Counts : ℕ → List Choice → Type 0
 Counts n [] = Unit {0}
 Counts n (c ∷ cs) = (c.priority ≡ n) × Counts (suc n) cs
 
-counts : (n : ℕ) (cs : List Choice) → ((k : ℕ) → k < length cs → slice_index (map (λ c. c.priority) cs) k ≡ k + n) → Counts n cs
+pub counts : (n : ℕ) (cs : List Choice) → ((k : ℕ) → k < length cs → slice_index (map (λ c. c.priority) cs) k ≡ k + n) → Counts n cs
 counts n [] h = tt
 counts n (c ∷ cs) h =
     let first : c.priority ≡ n = h 0 (omega arith) ∙ omega arith in
     (first, counts (suc n) cs (λ k lt. h (suc k) (omega arith) ∙ omega arith))
 
-rising_files : (read : Choice → List ℕ) → AssignmentsStandByLine → (n : ℕ) (done : List Assignment) (cs : List Choice) → All (λ b. b.position.priority < n) done → Counts n cs
+pub rising_files : (read : Choice → List ℕ) → AssignmentsStandByLine → (n : ℕ) (done : List Assignment) (cs : List Choice) → All (λ b. b.position.priority < n) done → Counts n cs
     → Rising done (flat_map (file_assignments read) cs)
 rising_files read by_line n done [] before count = tt
 rising_files read by_line n done (c ∷ cs) before count =

@@ -9,3 +9,4 @@ pub mod Latest
 pub mod PlainHits
 pub mod Plain
 pub mod PlainPairs
+pub mod InWords

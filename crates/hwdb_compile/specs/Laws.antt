@@ -1,8 +1,9 @@
 -- What the laws say of surviving assignments.
-use Rattle.std.specs.Prelude.{List, ◌≡◌, ◌⊎◌, Some, ℕ, ◌<◌, ◌≤◌, All, Contains, IsSome}
+use Rattle.std.specs.Prelude.{List, ◌≡◌, ◌⊎◌, Some, ℕ, ◌<◌, ◌≤◌, ◌↔◌, All, Contains, IsSome}
 use Rattle.hwdb_spec.specs.Assignment.{Assignment}
 use Rattle.hwdb_spec.specs.Tree.{map_of_files, entry_of}
 use Rattle.hwdb_spec.specs.Folders.{Source, all_assignments}
+use Rattle.hwdb_spec.specs.Last.{IsLast, IsLatest}
 use Rattle.std.specs.FinMap as finite
 
 -- it comes no later: its file has a smaller priority, or the same one and its line isn't behind
@@ -25,3 +26,7 @@ SurvivorsAreAssigned =
 -- The map has something at the pattern and key of each assignment.
 abbrev pub EachPlaceSurvives : Type 0
 EachPlaceSurvives = (etc usr : List Source) → All (λ a. IsSome (finite.get (map_of_files etc usr) (entry_of a).0)) (all_assignments etc usr)
+
+-- Of all that the files assign, the last one of a pattern and key is the latest by priority and line.
+abbrev pub LastIsLatest : Type 0
+LastIsLatest = (etc usr : List Source) (a : Assignment) → IsLast (all_assignments etc usr) a ↔ IsLatest (all_assignments etc usr) a

@@ -1,7 +1,7 @@
 //! Laws over the definitions alone. Each function does nothing: its contract is the law.
-ghost use Rattle.hwdb_compile.specs.Laws.{EachPlaceSurvives, SurvivorsAreAssigned, SurvivorsAreLatest};
+ghost use Rattle.hwdb_compile.specs.Laws.{EachPlaceSurvives, LastIsLatest, SurvivorsAreAssigned, SurvivorsAreLatest};
 
-use hwdb_text::laws::{assignments_stand_by_line, priorities_count_up};
+use hwdb_text::laws::{assignments_stand_by_line, one_value_a_line, priorities_count_up};
 
 /// Of the assignments of all files with one pattern and key, one is compiled, and none of them comes after it:
 /// by the priority of its file, and then by its line.
@@ -12,4 +12,14 @@ pub fn survivors_are_latest()
 {
     priorities_count_up();
     assignments_stand_by_line();
+}
+
+/// Of the assignments of all files the last one of a pattern and key in their list, which goes file by file and line
+/// by line, is the one than which none with its pattern and key is later, by the priority of its file and its line.
+pub fn last_is_latest()
+    ensures { LastIsLatest }
+{
+    priorities_count_up();
+    assignments_stand_by_line();
+    one_value_a_line();
 }

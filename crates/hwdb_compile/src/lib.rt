@@ -20,5 +20,5 @@ mod tests;
 
 pub use compiling::compile;
 pub use errors::CompileError;
-pub use laws::survivors_are_latest;
+pub use laws::{last_is_latest, survivors_are_latest};
 pub use sources::{Compiled, FileFault, SourceFile};

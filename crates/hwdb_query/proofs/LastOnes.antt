@@ -129,7 +129,7 @@ kept_last f a more none put =
       | false ↦ λ e k. cc
     ] refl put
 
-kept_behind : (f : Assignment) (a : Assignment) (more : List Assignment) → Among f (last_of_each more) → Among f (last_of_each (a ∷ more))
+pub kept_behind : (f : Assignment) (a : Assignment) (more : List Assignment) → Among f (last_of_each more) → Among f (last_of_each (a ∷ more))
 unfolding Among last_of_each
 kept_behind f a more m =
     elim (list_any (is_same_place a) more) as (λ b. Among f (if b then last_of_each more else a ∷ last_of_each more)) [ true ↦ m | false ↦ inr m ]
@@ -157,6 +157,10 @@ same_answer x y all hx hy h =
     sym hx ∙ ap (λ p. last_at (p, x.position.key) all) pe ∙ ap (λ k. last_at (y.position.pattern, k) all) ke ∙ hy in
     let v : x ≡ y = cc in
     v
+
+-- two that are the last of their places stand at two positions
+pub single_place : (x y : Assignment) (all : List Assignment) → Among x (last_of_each all) → Among y (last_of_each all) → assignment_cmp x y ≡ Equal → x ≡ y
+single_place x y all mx my h = same_answer x y all (last_sound x all mx) (last_sound y all my) h
 
 among_all : (P : Assignment → Type 0) (f : Assignment) (xs : List Assignment) → AllByRecursion P xs → Among f xs → P f
 unfolding Among
@@ -192,7 +196,7 @@ behind_first x y f xs ys up is m k =
     ]
 
 -- two ascending lists with the same members are equal
-same_ascending : (xs ys : List Assignment) → IsStrictlySortedBy assignment_cmp xs → IsStrictlySortedBy assignment_cmp ys → ((f : Assignment) → Among f xs → Among f ys) → ((f : Assignment) → Among f ys → Among f xs) → xs ≡ ys
+pub same_ascending : (xs ys : List Assignment) → IsStrictlySortedBy assignment_cmp xs → IsStrictlySortedBy assignment_cmp ys → ((f : Assignment) → Among f xs → Among f ys) → ((f : Assignment) → Among f ys → Among f xs) → xs ≡ ys
 unfolding IsStrictlySortedBy Among
 same_ascending [] [] up vp there back = refl
 same_ascending [] (y ∷ ys) up vp there back = absurd (back y (inl refl))
@@ -213,7 +217,7 @@ same_answers tested device t all tree is =
     let w : Assignment → Bool = is_wanted device in
     let at : (f : Assignment) → finite.get (map_of t) (place_of f) ≡ last_at (place_of f) all = λ f. ap (λ m. finite.get m (place_of f)) is ∙ survives (place_of f) all in
     let single : (x y : Assignment) → Among x (filter w fs) → Among y (filter w fs) → assignment_cmp x y ≡ Equal → x ≡ y =
-    λ x y mx my e. same_answer x y all (last_sound x all (filter_sound x w fs mx).0) (last_sound y all (filter_sound y w fs my).0) e in
+    λ x y mx my e. single_place x y all (filter_sound x w fs mx).0 (filter_sound y w fs my).0 e in
     same_ascending (answers device t) (in_order assignment_cmp (filter w fs)) A.ascends
     (ascends_all assignment_cmp assignment_total (filter w fs) [] none_ascends)
     (λ f m.

@@ -12,6 +12,7 @@ pub mod Distinct
 pub mod Members
 pub mod Backwards
 pub mod LastOnes
+pub mod InWords
 pub mod Filled
 pub mod Computed
 pub mod Keyed

@@ -9,6 +9,7 @@ use Rattle.hwdb_spec.specs.Patterns.{Matches, tokens}
 use Rattle.hwdb_spec.specs.Format.{IsDatabase}
 use Rattle.hwdb_spec.specs.Folders.{Source, all_assignments}
 use Rattle.hwdb_spec.specs.Answers.{last_assignments}
+use Rattle.hwdb_spec.specs.Last.{AreLast}
 use Rattle.hwdb_spec.specs.Written.{IsDatabaseOf}
 use Rattle.hwdb_query.specs.Views.{Progress, after_next, fills}
 use Rattle.hwdb_spec.specs.Texts.{IsSpelling, canonical}
@@ -42,6 +43,16 @@ abbrev pub AllCompiledAnswersAreLast : Type 0
 AllCompiledAnswersAreLast =
     (etc usr : List Source) (bytes : List ℕ) → IsDatabaseOf (map_of_files etc usr) bytes
     → (t : Tree) → IsDatabase bytes t → (device : List ℕ) → answers device t ≡ last_assignments device None (all_assignments etc usr)
+
+-- `last_assignments`, which computes, is the list that `AreLast` tells in words, of any assignments.
+abbrev pub LastAssignmentsAreLast : Type 0
+LastAssignmentsAreLast =
+    (device : List ℕ) (after : Option Position) (all : List Assignment) → AreLast device after all (last_assignments device after all)
+
+-- There is one such list.
+abbrev pub OneListIsLast : Type 0
+OneListIsLast =
+    (device : List ℕ) (after : Option Position) (all xs ys : List Assignment) → AreLast device after all xs → AreLast device after all ys → xs ≡ ys
 
 -- how many of some calls of `next` fill a page
 unfoldable pub fillings : (calls : ℕ) → Progress → ℕ

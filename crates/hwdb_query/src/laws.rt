@@ -3,7 +3,7 @@ ghost use Rattle.std.specs.Prelude.{◌≡◌, ◌<◌, ◌+◌, ◌-◌, ◌⊎
 ghost use Rattle.hwdb_spec.specs.Format.{IsDatabase};
 ghost use Rattle.hwdb_spec.specs.Tree.{Map, map_of, Tree, answers};
 ghost use Rattle.hwdb_spec.specs.Written.{IsDatabaseOf};
-ghost use Rattle.hwdb_query.specs.Laws.{AreAnswers, FillingsOfARun, AllCompiledAnswersAreLast, CompiledAnswersAreLast, SpellsOne, CanonicalSpells};
+ghost use Rattle.hwdb_query.specs.Laws.{AreAnswers, FillingsOfARun, AllCompiledAnswersAreLast, CompiledAnswersAreLast, LastAssignmentsAreLast, OneListIsLast, SpellsOne, CanonicalSpells};
 ghost use Rattle.hwdb_query.specs.Views.{Progress, after_next};
 ghost use Rattle.hwdb_query.specs.Rows.{EffectiveRow, LastRows};
 
@@ -44,6 +44,16 @@ pub fn compiled_answers_are_last()
     matches_is_tested();
     law_one_tree();
     law_ascending();
+}
+
+/// `last_assignments`, by which contracts compute, is the list that `AreLast` tells in words: strictly ascending,
+/// and of exactly those assignments that are the last of their pattern and key, match the device and lie behind
+/// the position. No other list is so.
+pub fn last_assignments_are_last()
+    ensures are { LastAssignmentsAreLast }
+    ensures one { OneListIsLast }
+{
+    matches_is_tested();
 }
 
 /// The last assignments of files, at worked rows.

@@ -43,7 +43,7 @@ pub use errors::QueryError;
 pub use hit::Hit;
 pub use laws::{
     after_each_next, answers_are_the_maps, compiled_answers_are_last, databases_show_one_map,
-    fillings_of_a_run, last_rows, positions_are_read_back,
+    fillings_of_a_run, last_assignments_are_last, last_rows, positions_are_read_back,
 };
 pub use listing::effective;
 pub use paging::Cursor;

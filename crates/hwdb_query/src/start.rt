@@ -3,6 +3,7 @@ ghost use Rattle.std.specs.Prelude.{◌≡◌, ◌≢◌, ◌<◌, List, IfOk, I
 ghost use Rattle.hwdb_spec.specs.Tree.{answers_after, IsTreeOfFiles, live_nodes};
 ghost use Rattle.hwdb_spec.specs.Folders.{Source, all_assignments};
 ghost use Rattle.hwdb_spec.specs.Answers.{last_assignments};
+ghost use Rattle.hwdb_spec.specs.Last.{AreLast};
 ghost use Rattle.hwdb_query.specs.Views.{given_position, Progress};
 ghost use Rattle.hwdb_query.specs.declared.errors.QueryError.TheVariants.{PageZero, BadPosition};
 
@@ -37,6 +38,9 @@ pub fn cursor<'a, 'd>(
       live = live_nodes device.now db.now;
     }) }
     ensures headline { IfOk result
+        (λ c. (etc usr : List Source) → IsTreeOfFiles etc usr db.now
+        → AreLast device.now (given_position after.entry) (all_assignments etc usr) c.to_come) }
+    ensures list { IfOk result
         (λ c. (etc usr : List Source) → IsTreeOfFiles etc usr db.now
         → c.to_come ≡ last_assignments device.now (given_position after.entry)
         (all_assignments etc usr)) }

@@ -3,6 +3,7 @@ pub mod Lines
 pub mod Records
 pub mod Folders
 pub mod Patterns
+pub mod Last
 pub mod Answers
 pub mod Tree
 pub mod Format

@@ -16,3 +16,4 @@ pub mod Listed
 pub mod Joining
 pub mod FaultSets
 pub mod Nothing
+pub mod OneLine

@@ -2,7 +2,7 @@
 use Rattle.std.specs.Prelude.{All, Bool, List, false, ℕ, ◌≡◌, length, map, slice_index, ◌+◌, ◌<◌, true, if◌then◌else◌, [], ◌∷◌, Contains, ◌↔◌, ◌++◌, flat_map, filter, not, ◌==◌}
 use Rattle.std.specs.List.Sorted.{IsPermutation, IsStrictlySortedBy, IsNonDecreasingBy}
 use Rattle.std.specs.Ordering.{is_lt}
-use Rattle.hwdb_spec.specs.Assignment.{text_cmp}
+use Rattle.hwdb_spec.specs.Assignment.{Assignment, text_cmp}
 use Rattle.hwdb_spec.specs.Lines.{has, lines, Line, is_empty}
 use Rattle.hwdb_spec.specs.Folders.{counts, lists, names, choice}
 use Rattle.hwdb_spec.specs.Records.{all_faults, faults, fault_cmp, Origin, assignments, Section, sections_from, sections}
@@ -62,6 +62,12 @@ PrioritiesCountUp = (etc usr : List (List ℕ)) (k : ℕ) → k < length (choice
 -- the assignments of a file stand by the lines of their properties
 abbrev pub AssignmentsStandByLine : Type 0
 AssignmentsStandByLine = (o : Origin) (file : List ℕ) → IsNonDecreasingBy (λ a. a.position.line) (assignments o file)
+
+-- the assignments of one line of a file have one key and one value
+abbrev pub OneValueALine : Type 0
+OneValueALine = (o : Origin) (file : List ℕ) (a b : Assignment)
+    → Contains (assignments o file) a → Contains (assignments o file) b → a.position.line ≡ b.position.line
+    → (a.position.key ≡ b.position.key) × (a.value ≡ b.value)
 
 -- the lines of a section
 abbrev pub lines_of : Section → List Line

@@ -1,6 +1,6 @@
 //! More about the definitions, in words of their own. These functions do nothing: what each of them ensures is a law.
 ghost use Rattle.hwdb_text.specs.Rows.{FaultRows, AssignmentRows, ChoiceRows, PathRows};
-ghost use Rattle.hwdb_text.specs.Laws.{LinesAreTheFile, LinesHoldNoNewline, LinesCountUp, SectionsAreTheBlock, SectionsAreTheLines, NamesAreThoseThatCount, NamesAscend, OneAscendingList, FaultsAreAll, FaultsAscend, OneListOfFaults, PrioritiesCountUp, AssignmentsStandByLine};
+ghost use Rattle.hwdb_text.specs.Laws.{LinesAreTheFile, LinesHoldNoNewline, LinesCountUp, SectionsAreTheBlock, SectionsAreTheLines, NamesAreThoseThatCount, NamesAscend, OneAscendingList, FaultsAreAll, FaultsAscend, OneListOfFaults, PrioritiesCountUp, AssignmentsStandByLine, OneValueALine};
 
 /// The lines of a file are all of it: with a newline behind each, they are the file, with one behind its last line.
 #[tactic(auto, using(crate::proofs::Joining::lines_are_the_file, crate::proofs::Joining::lines_hold_no_newline, crate::proofs::Joining::lines_count_up))]
@@ -69,6 +69,11 @@ pub fn priorities_count_up()
 #[tactic(auto, using(crate::proofs::Ordered::assignments_stand_by_line))]
 pub fn assignments_stand_by_line()
     ensures { AssignmentsStandByLine }
+{}
+
+/// The assignments of one line of a file have one key and one value: they differ in their patterns alone.
+pub fn one_value_a_line()
+    ensures { OneValueALine }
 {}
 
 /// The faults of files, at worked rows.
