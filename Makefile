@@ -35,6 +35,7 @@ check:
 	$(MAKE) all
 	tests/words out/hwdb
 	tests/installed out/hwdb
+	tests/readme out/hwdb
 	tests/runs out/hwdb
 	tests/crash out/hwdb
 	tests/growth out/hwdb
