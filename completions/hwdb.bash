@@ -18,7 +18,9 @@ _hwdb_value() {
         DATABASE) _filedir bin ;;
         PATH) _filedir -d ;;
         MODALIAS)
-            _hwdb_reply < <(find "$_hwdb_sys" -name modalias -type f -exec cat {} + 2>/dev/null | LC_ALL=C sort -u)
+            # udev's rules put a word in front of those of input devices.
+            _hwdb_reply < <(find "$_hwdb_sys" -name modalias -type f -exec cat {} + 2>/dev/null |
+                sed '/^input:/{p; s/^/evdev:/}' | LC_ALL=C sort -u)
             __ltrim_colon_completions "$cur"
             ;;
     esac

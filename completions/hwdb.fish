@@ -40,8 +40,9 @@ function __hwdb_at
     not set -q argv[2]; or test (count $words) -eq $argv[2]
 end
 
+# udev's rules put a word in front of those of input devices.
 function __hwdb_modalias
-    find $_hwdb_sys -name modalias -type f -exec cat '{}' + 2>/dev/null | sort -u
+    find $_hwdb_sys -name modalias -type f -exec cat '{}' + 2>/dev/null | sed '/^input:/{p; s/^/evdev:/}' | sort -u
 end
 
 function __hwdb_file
