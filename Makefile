@@ -1,7 +1,7 @@
 # `make` builds out/hwdb (and proves it on the way), `make demo` runs it on a file of our own,
 # `make check` is the whole gate, `make check-peer` compares with Debian's own files, `make bench` measures on them.
-# `make install` and `make uninstall` go by the folders below, `make deb` makes a Debian package in out/, and
-# `make check-package` tries all of these; it installs what it needs with apt-get.
+# `make install` and `make uninstall` go by the folders below, `make deb` makes a Debian package in out/, `make dist` an
+# archive of the sources, and `make check-package` tries all but the last; it installs what it needs with apt-get.
 VERSION := $(shell cat VERSION)
 PREFIX ?= /usr/local
 DESTDIR ?=
@@ -17,7 +17,7 @@ SYSTEMD_HWDB ?= no
 # What is installed and tested: the program that `make` built, or another one.
 PROGRAM ?= out/hwdb
 
-.PHONY: all demo check check-peer check-package bench install uninstall deb clean
+.PHONY: all demo check check-peer check-package bench install uninstall deb dist clean
 
 all:
 	cd crates/hwdb && rt run -- ask /dev/null none
@@ -88,6 +88,11 @@ uninstall:
 # out/hwdb_VERSION_ARCHITECTURE.deb, of the same bytes for the same commit and program.
 deb: $(PROGRAM)
 	packaging/deb '$(PROGRAM)' out
+
+# The sources of this commit.
+dist:
+	mkdir -p out
+	git archive --format=tar.gz --prefix='hwdb-$(VERSION)/' -o 'out/hwdb-$(VERSION).tar.gz' HEAD
 
 # Needs root, for apt-get and for a root of its own.
 check-package: $(PROGRAM)

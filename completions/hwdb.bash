@@ -15,7 +15,7 @@ _hwdb_reply() {
 _hwdb_value() {
     case $1 in
         FILE) _filedir hwdb ;;
-        DATABASE) _filedir bin ;;
+        DATABASE | OLD | NEW) _filedir bin ;;
         PATH) _filedir -d ;;
         MODALIAS)
             # udev's rules put a word in front of those of input devices.
@@ -30,6 +30,7 @@ _hwdb() {
     local cur prev words cword split
     _init_completion -s -n : || return
 
+    # One that ends in .. may be given again and again.
     local -A arguments=(
         [update]=''
         [query]='MODALIAS'
@@ -70,6 +71,9 @@ _hwdb() {
         mapfile -t COMPREPLY < <(compgen -W "${!arguments[*]}" -- "$cur")
     else
         local kinds=(${arguments[$command]-})
-        _hwdb_value "${kinds[place]-}"
+        local last=$((${#kinds[@]} - 1))
+        [[ $place -gt $last && $last -ge 0 && ${kinds[last]} == *.. ]] && place=$last
+        word=${kinds[place]-}
+        _hwdb_value "${word%..}"
     fi
 } && complete -F _hwdb hwdb
