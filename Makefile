@@ -1,9 +1,23 @@
 # `make` builds out/hwdb (and proves it on the way), `make demo` runs it on a file of our own,
 # `make check` is the whole gate, `make check-peer` compares with Debian's own files, `make bench` measures on them.
+# `make install` and `make uninstall` go by the folders below, `make deb` makes a Debian package in out/, `make dist` an
+# archive of the sources, and `make check-package` tries all but the last; it installs what it needs with apt-get.
+VERSION := $(shell cat VERSION)
 PREFIX ?= /usr/local
 DESTDIR ?=
+BINDIR ?= $(PREFIX)/bin
+MANDIR ?= $(PREFIX)/share/man
+DOCDIR ?= $(PREFIX)/share/doc/hwdb
+BASHDIR ?= $(PREFIX)/share/bash-completion/completions
+ZSHDIR ?= $(PREFIX)/share/zsh/site-functions
+FISHDIR ?= $(PREFIX)/share/fish/vendor_completions.d
+UNITDIR ?= $(PREFIX)/lib/systemd/system
+# `yes` also installs the program under the name systemd-hwdb, as a link.
+SYSTEMD_HWDB ?= no
+# What is installed and tested: the program that `make` built, or another one.
+PROGRAM ?= out/hwdb
 
-.PHONY: all demo check check-peer bench install clean
+.PHONY: all demo check check-peer check-package bench install uninstall deb dist clean
 
 all:
 	cd crates/hwdb && rt run -- ask /dev/null none
@@ -19,6 +33,9 @@ check:
 	tests/definitions
 	tests/refused
 	$(MAKE) all
+	tests/words out/hwdb
+	tests/installed out/hwdb
+	tests/readme out/hwdb
 	tests/runs out/hwdb
 	tests/crash out/hwdb
 	tests/growth out/hwdb
@@ -36,8 +53,55 @@ bench: all
 	cp crates/hwdb_bench/out/hwdb_bench out/hwdb_bench
 	tests/bench out/hwdb out/hwdb_bench
 
-install: all
-	install -D -m 755 out/hwdb '$(DESTDIR)$(PREFIX)/bin/hwdb'
+# Only where there is no program yet, so that root needs no toolchain to install what a user built.
+out/hwdb:
+	$(MAKE) all
+
+install: $(PROGRAM)
+	install -D -m 755 '$(PROGRAM)' '$(DESTDIR)$(BINDIR)/hwdb'
+	install -D -m 644 man/hwdb.8 '$(DESTDIR)$(MANDIR)/man8/hwdb.8'
+	install -D -m 644 man/hwdb-format.7 '$(DESTDIR)$(MANDIR)/man7/hwdb-format.7'
+	install -D -m 644 completions/hwdb.bash '$(DESTDIR)$(BASHDIR)/hwdb'
+	install -D -m 644 completions/_hwdb '$(DESTDIR)$(ZSHDIR)/_hwdb'
+	install -D -m 644 completions/hwdb.fish '$(DESTDIR)$(FISHDIR)/hwdb.fish'
+	install -D -m 644 README.md '$(DESTDIR)$(DOCDIR)/README.md'
+	install -D -m 644 CHANGELOG.md '$(DESTDIR)$(DOCDIR)/CHANGELOG.md'
+	install -D -m 644 LICENSE '$(DESTDIR)$(DOCDIR)/LICENSE'
+	install -d '$(DESTDIR)$(UNITDIR)'
+	sed 's|@bindir@|$(BINDIR)|' packaging/hwdb-update.service.in >'$(DESTDIR)$(UNITDIR)/hwdb-update.service'
+	chmod 644 '$(DESTDIR)$(UNITDIR)/hwdb-update.service'
+ifeq ($(SYSTEMD_HWDB),yes)
+	ln -sf hwdb '$(DESTDIR)$(BINDIR)/systemd-hwdb'
+endif
+
+# Takes away what `make install` put there, with its own folder, and leaves folders that others use too. A systemd-hwdb
+# that isn't the link to ours stays.
+uninstall:
+	rm -f '$(DESTDIR)$(BINDIR)/hwdb'
+	rm -f '$(DESTDIR)$(MANDIR)/man8/hwdb.8' '$(DESTDIR)$(MANDIR)/man7/hwdb-format.7'
+	rm -f '$(DESTDIR)$(BASHDIR)/hwdb' '$(DESTDIR)$(ZSHDIR)/_hwdb' '$(DESTDIR)$(FISHDIR)/hwdb.fish'
+	rm -f '$(DESTDIR)$(DOCDIR)/README.md' '$(DESTDIR)$(DOCDIR)/CHANGELOG.md' '$(DESTDIR)$(DOCDIR)/LICENSE'
+	rm -f '$(DESTDIR)$(UNITDIR)/hwdb-update.service'
+	[ ! -d '$(DESTDIR)$(DOCDIR)' ] || rmdir --ignore-fail-on-non-empty '$(DESTDIR)$(DOCDIR)'
+	[ "$$(readlink '$(DESTDIR)$(BINDIR)/systemd-hwdb')" != hwdb ] || rm '$(DESTDIR)$(BINDIR)/systemd-hwdb'
+
+# out/hwdb_VERSION_ARCHITECTURE.deb, of the same bytes for the same commit and program.
+deb: $(PROGRAM)
+	packaging/deb '$(PROGRAM)' out
+
+# The sources of this commit.
+dist:
+	mkdir -p out
+	git archive --format=tar.gz --prefix='hwdb-$(VERSION)/' -o 'out/hwdb-$(VERSION).tar.gz' HEAD
+
+# Needs root, for apt-get and for a root of its own.
+check-package: $(PROGRAM)
+	tests/package-tools
+	tests/words '$(PROGRAM)'
+	tests/completions
+	tests/lint '$(PROGRAM)'
+	tests/installed '$(PROGRAM)'
+	tests/package '$(PROGRAM)'
 
 clean:
 	rm -rf out crates/*/out

@@ -12,4 +12,5 @@ mod tests;
 mod tips;
 
 pub use args::read_words;
+pub use command::hwdb_command;
 pub use job::{Job, Task, WordsFault};

@@ -1,0 +1,79 @@
+# Completion of hwdb(8) for bash, by way of bash-completion. A command is one line in each of the two tables.
+
+# Where the kernel shows its devices.
+: "${_hwdb_sys:=/sys/devices}"
+
+# _hwdb_reply: adds each line of standard input that begins with $cur, quoted, to the completions
+_hwdb_reply() {
+    local line
+    while IFS= read -r line; do
+        [[ $line == "$cur"* ]] && COMPREPLY+=("$(printf '%q' "$line")")
+    done
+}
+
+# _hwdb_value KIND: completions of an argument, or of an option's value
+_hwdb_value() {
+    case $1 in
+        FILE) _filedir hwdb ;;
+        DATABASE | OLD | NEW) _filedir bin ;;
+        PATH) _filedir -d ;;
+        MODALIAS)
+            # udev's rules put a word in front of those of input devices.
+            _hwdb_reply < <(find "$_hwdb_sys" -name modalias -type f -exec cat {} + 2>/dev/null |
+                sed '/^input:/{p; s/^/evdev:/}' | LC_ALL=C sort -u)
+            __ltrim_colon_completions "$cur"
+            ;;
+    esac
+}
+
+_hwdb() {
+    local cur prev words cword split
+    _init_completion -s -n : || return
+
+    # One that ends in .. may be given again and again.
+    local -A arguments=(
+        [update]=''
+        [query]='MODALIAS'
+        [ask]='FILE MODALIAS'
+        [list]='MODALIAS'
+    )
+    local -A options=(
+        [hwdb]='--usr -s --strict -r --root -h --help'
+        [update]='--usr -s --strict -r --root -h --help'
+        [query]='--usr -s --strict -r --root -h --help'
+        [ask]='--usr -s --strict -r --root -h --help'
+        [list]='--usr -s --strict -r --root --after --limit -h --help'
+    )
+    local -A values=(
+        [-r]='PATH' [--root]='PATH' [--after]='POS' [--limit]='N'
+    )
+
+    # The command, and which of its arguments the word is.
+    local command=hwdb place=0 ended='' word i
+    for ((i = 1; i < cword; i++)); do
+        word=${words[i]}
+        if [[ -z $ended && $word == -- ]]; then
+            ended=yes
+        elif [[ -z $ended && -n ${values[$word]-} ]]; then
+            ((i++))
+            # bash takes = for a word of its own.
+            [[ ${words[i]-} == '=' ]] && ((i++))
+        elif [[ -n $ended || $word != -* ]]; then
+            if [[ $command == hwdb ]]; then command=$word; else ((place++)); fi
+        fi
+    done
+
+    if [[ -z $ended && -n ${values[$prev]-} ]]; then
+        _hwdb_value "${values[$prev]}"
+    elif [[ -z $ended && $cur == -* ]]; then
+        mapfile -t COMPREPLY < <(compgen -W "${options[$command]-}" -- "$cur")
+    elif [[ $command == hwdb ]]; then
+        mapfile -t COMPREPLY < <(compgen -W "${!arguments[*]}" -- "$cur")
+    else
+        local kinds=(${arguments[$command]-})
+        local last=$((${#kinds[@]} - 1))
+        [[ $place -gt $last && $last -ge 0 && ${kinds[last]} == *.. ]] && place=$last
+        word=${kinds[place]-}
+        _hwdb_value "${word%..}"
+    fi
+} && complete -F _hwdb hwdb

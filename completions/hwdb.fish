@@ -1,0 +1,72 @@
+# Completion of hwdb(8) for fish. A command is one line, and one more for each option and argument of its own.
+
+# Where the kernel shows its devices.
+set -q _hwdb_sys; or set -g _hwdb_sys /sys/devices
+
+# The words before the one that is completed, without options and their values: the command, and its arguments.
+function __hwdb_words
+    set -l words (commandline -opc)
+    set -e words[1]
+    set -l skip
+    set -l ended
+    for word in $words
+        if set -q skip[1]
+            set -e skip
+        else if set -q ended[1]
+            echo $word
+        else
+            switch $word
+                case --
+                    set ended yes
+                case -r --root --after --limit
+                    set skip yes
+                case '-*'
+                case '*'
+                    echo $word
+            end
+        end
+    end
+end
+
+# Whether no command stands there yet.
+function __hwdb_none
+    test (count (__hwdb_words)) -eq 0
+end
+
+# __hwdb_at COMMAND [PLACE]: whether this command stands there, and the word is its argument with this place, from 1.
+function __hwdb_at
+    set -l words (__hwdb_words)
+    test "$words[1]" = $argv[1]; or return 1
+    not set -q argv[2]; or test (count $words) -eq $argv[2]
+end
+
+# udev's rules put a word in front of those of input devices.
+function __hwdb_modalias
+    find $_hwdb_sys -name modalias -type f -exec cat '{}' + 2>/dev/null | sed '/^input:/{p; s/^/evdev:/}' | sort -u
+end
+
+function __hwdb_file
+    __fish_complete_suffix .hwdb
+end
+
+function __hwdb_database
+    __fish_complete_suffix .bin
+end
+
+complete -c hwdb -f
+complete -c hwdb -n __hwdb_none -a update -d 'Compiles the text files of /etc/udev/hwdb.d and /usr/lib/udev/hwdb.d into /etc/udev/hwdb.bin'
+complete -c hwdb -n __hwdb_none -a query -d 'Prints the properties that the database gives a device, as KEY=VALUE lines'
+complete -c hwdb -n __hwdb_none -a ask -d 'Prints the properties that one text file gives a device, as KEY=VALUE lines'
+complete -c hwdb -n __hwdb_none -a list -d 'Prints each assignment of the database that matches a device, with its position'
+
+complete -c hwdb -l usr -d 'With update: write /usr/lib/udev/hwdb.bin'
+complete -c hwdb -s s -l strict -d 'With update: end with status 1 if a line had a fault'
+complete -c hwdb -s r -l root -x -a '(__fish_complete_directories)' -d 'Put PATH in front of the paths of folders and databases'
+complete -c hwdb -s h -l help -d 'Print help'
+complete -c hwdb -n '__hwdb_at list' -l after -x -d 'Print only what stands after this position, as list prints it'
+complete -c hwdb -n '__hwdb_at list' -l limit -x -d 'Print at most N lines; 0 prints nothing'
+
+complete -c hwdb -n '__hwdb_at query 1' -a '(__hwdb_modalias)' -d MODALIAS
+complete -c hwdb -n '__hwdb_at ask 1' -k -a '(__hwdb_file)' -d FILE
+complete -c hwdb -n '__hwdb_at ask 2' -a '(__hwdb_modalias)' -d MODALIAS
+complete -c hwdb -n '__hwdb_at list 1' -a '(__hwdb_modalias)' -d MODALIAS
