@@ -8,8 +8,8 @@ use Rattle.std.specs.List.{starts_with, find}
 use Rattle.hwdb_pattern.specs.declared.brackets.Part.{Part}
 use Rattle.hwdb_spec.specs.declared.Class.{Class}
 use Rattle.hwdb_spec.specs.declared.Class.TheVariants.{Alnum, Alpha, Blank, Cntrl, Digit, Graph, Lower, Print, Punct, Space, Upper, Xdigit}
-use Rattle.hwdb_spec.specs.Patterns.{Items, Bracket, classes, class_at, class_text, class_spans, in_spans, in_span, item_at, plain_item, joined, items_from, bracket_at, bracket_of, is_inversion}
-use Rattle.hwdb_pattern.specs.Internal.Parts.{items, part, items_part, bracket_part, ahead}
+use Rattle.hwdb_spec.specs.Patterns.{Items, Bracket, classes, class_text, class_spans, in_span, item_at, plain_item, joined, items_from, bracket_at, bracket_of, is_inversion}
+use Rattle.hwdb_pattern.specs.Internal.Parts.{class_at, in_spans, items, part, items_part, bracket_part, ahead}
 use Rattle.hwdb_pattern.proofs.Cutting.{drop_less}
 
 pub items_skipped : (f : Bool) (skip : ℕ) (text : List ℕ) → items_from f skip text ≡ items_from f 0 (drop skip text)

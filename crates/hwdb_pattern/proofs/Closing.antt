@@ -7,8 +7,8 @@ use Rattle.std.proofs.lemmas.List.{take_at, append-nil, length-drop, drop_all, d
 use Rattle.std.proofs.Math.Seq.{take-add}
 use Rattle.std.specs.Option.{option_map}
 use Rattle.hwdb_pattern.specs.declared.brackets.Part.{Part}
-use Rattle.hwdb_pattern.specs.Internal.Parts.{bracket_part}
-use Rattle.hwdb_spec.specs.Patterns.{Bracket, Items, bracket_at, bracket_of, items_from, is_inversion, Token, bracket_or_byte, token_at, token_size, tokens_from, tokens}
+use Rattle.hwdb_pattern.specs.Internal.Parts.{bracket_part, bracket_or_byte}
+use Rattle.hwdb_spec.specs.Patterns.{Bracket, Items, bracket_at, bracket_of, items_from, is_inversion, Token, token_at, token_size, tokens_from, tokens}
 use Rattle.hwdb_spec.specs.Tree.{is_open, closed_from, closed_part}
 use Rattle.hwdb_pattern.specs.Views.{open_from, open_part}
 use Rattle.hwdb_pattern.proofs.Cutting.{drop_less, token_long, token_one, star_at, token_bracket_or, token_byte}

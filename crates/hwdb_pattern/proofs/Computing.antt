@@ -1,6 +1,7 @@
 -- The worked rows, computed.
 use Rattle.std.proofs.Common.{refl}
-use Rattle.hwdb_spec.specs.Patterns.{bracket_at, items_from, item_at, class_at, classes, tokens_from, token_at, some_ending, byte_then, piece_then, matches}
+use Rattle.hwdb_spec.specs.Patterns.{bracket_at, items_from, item_at, classes, tokens_from, token_at, some_ending, byte_then, piece_then, matches}
+use Rattle.hwdb_pattern.specs.Internal.Parts.{class_at}
 use Rattle.hwdb_spec.specs.Tree.{closed_from, some_up_to, is_live}
 use Rattle.hwdb_pattern.specs.Rows.{TokenRows, BracketRows, MatchRows, StarRows, ClosedRows, LiveRows}
 

@@ -1,10 +1,10 @@
 -- How a pattern is cut into tokens, seen from any place where a token begins.
 use Rattle.std.proofs.Common.{◌≡◌, ℕ, zero, suc, ◌-◌, ◌<◌, ◌≤◌, Bool, true, false, List, [], ◌∷◌, drop, length, get_or, refl, ap, ◌∙◌, sym, Option, Some, None, cond, ◌==◌, arith, ne_eqb, eq-eqb}
 use Rattle.std.proofs.lemmas.List.{drop_all}
-use Rattle.hwdb_spec.specs.Patterns.{Bracket, Items, bracket_at, bracket_of, items_from, is_inversion, Token, star, one, literal, bracket_or_byte, token_at, token_size, tokens_from, tokens}
+use Rattle.hwdb_spec.specs.Patterns.{Bracket, Items, bracket_at, bracket_of, items_from, is_inversion, Token, star, one, literal, token_at, token_size, tokens_from, tokens}
+use Rattle.hwdb_pattern.specs.Internal.Parts.{bracket_or_byte, token_part, bracket_part}
 use Rattle.std.specs.Option.{option_map}
 use Rattle.hwdb_pattern.specs.declared.brackets.Part.{Part}
-use Rattle.hwdb_pattern.specs.Internal.Parts.{token_part, bracket_part}
 use Rattle.hwdb_pattern.proofs.Matching.{is_star}
 
 -- bytes of a token that was cut before are passed over

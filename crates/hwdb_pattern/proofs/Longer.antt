@@ -5,8 +5,8 @@ use Rattle.std.specs.List.{starts_with, find}
 use Rattle.std.specs.Option.{option_map_or}
 use Rattle.hwdb_spec.specs.declared.Class.{Class}
 use Rattle.hwdb_spec.specs.declared.Class.TheVariants.{Alnum, Alpha, Blank, Cntrl, Digit, Graph, Lower, Print, Punct, Space, Upper, Xdigit}
-use Rattle.hwdb_spec.specs.Patterns.{Items, Bracket, classes, class_at, class_text, class_spans, item_at, plain_item, joined, items_from, bracket_at, bracket_of, is_inversion, token_at, token_size, bracket_or_byte}
-use Rattle.hwdb_pattern.specs.Internal.Parts.{items}
+use Rattle.hwdb_spec.specs.Patterns.{Items, Bracket, classes, class_text, class_spans, item_at, plain_item, joined, items_from, bracket_at, bracket_of, is_inversion, token_at, token_size}
+use Rattle.hwdb_pattern.specs.Internal.Parts.{class_at, bracket_or_byte, items}
 use Rattle.hwdb_pattern.proofs.Bracketing.{item_long}
 use Rattle.hwdb_pattern.proofs.Cutting.{star_at, token_one, token_bracket_or, token_byte}
 

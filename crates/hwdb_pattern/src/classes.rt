@@ -1,6 +1,7 @@
 //! The named classes of bytes, which may stand in a bracket.
 ghost use Rattle.std.specs.Prelude.{◌≡◌, ◌≤◌, length, IfSome};
-ghost use Rattle.hwdb_spec.specs.Patterns.{class_text, class_spans, class_at, in_spans};
+ghost use Rattle.hwdb_spec.specs.Patterns.{class_text, class_spans};
+ghost use Rattle.hwdb_pattern.specs.Internal.Parts.{class_at, in_spans};
 
 use hwdb_spec::Class;
 

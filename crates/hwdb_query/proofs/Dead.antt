@@ -6,7 +6,8 @@ use Rattle.std.proofs.lemmas.List.{append-nil}
 use Rattle.std.proofs.lemmas.List.Elements.{filter-append}
 use Rattle.hwdb_spec.specs.Patterns.{tokens}
 use Rattle.hwdb_pattern.specs.Laws.{MatchesIsTested, LiveIsTested, DeadStaysDead, DeadMatchesNothing}
-use Rattle.hwdb_spec.specs.Tree.{IsLive, Tree, Children, prefix_of, values_under, values_below, assignment_of, members_under, is_live, live_under, live_below}
+use Rattle.hwdb_spec.specs.Tree.{IsLive, Tree, Children, prefix_of, values_under, values_below, members_under, is_live, live_under, live_below}
+use Rattle.hwdb_query.specs.Internal.Members.{assignment_of}
 use Rattle.hwdb_spec.specs.Tree.Tree.{Node}
 use Rattle.hwdb_spec.specs.Tree.Children.{NoMore, Child}
 use Rattle.hwdb_spec.specs.Answers.{is_wanted, is_match}

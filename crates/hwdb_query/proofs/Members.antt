@@ -8,7 +8,8 @@ use Rattle.std.specs.Ordering.{eq_by_cmp, nat_cmp, is_eq, match_ordering, orderi
 use Rattle.std.specs.declared.cmp.Ordering.{Ordering}
 use Rattle.std.specs.declared.cmp.Ordering.TheVariants.{Less, Equal, Greater}
 use Rattle.std.proofs.lemmas.Cmp.{nat_list_cmp_total, tied_itself, on_total, then_total}
-use Rattle.hwdb_spec.specs.Tree.{Tree, Value, values_under, IsTree, place_cmp, map_of, entry_of, assigned_at, key_of, assignment_of, members_under, answers}
+use Rattle.hwdb_spec.specs.Tree.{Tree, Value, values_under, IsTree, place_cmp, map_of, entry_of, assigned_at, key_of, members_under, answers}
+use Rattle.hwdb_query.specs.Internal.Members.{assignment_of}
 use Rattle.hwdb_spec.specs.Patterns.{tokens}
 use Rattle.hwdb_pattern.specs.Laws.{MatchesIsTested}
 use Rattle.hwdb_spec.specs.Assignment.{put, put_all, Assignment, position_cmp, assignment_cmp}

@@ -31,17 +31,15 @@ pub record Choice : Type 0 where
   pub name : List ℕ
   pub priority : ℕ
 
--- A name of the set is taken from etc if etc has it, else from usr. Its priority is one plus the number of smaller names.
-abbrev pub chosen : (etc set : List (List ℕ)) → List ℕ → Choice
-chosen etc set name = record {
-  from_etc = lists name etc;
-  name = name;
-  priority = 1 + count_by (λ n. is_lt (text_cmp n name)) set;
-}
-
--- the chosen files, by priority
+-- The chosen files, by priority. A name of the set is taken from etc if etc has it, else from usr. Its priority is one
+-- plus the number of smaller names.
 abbrev pub choice : (etc usr : List (List ℕ)) → List Choice
-choice etc usr = map (chosen etc (names etc usr)) (names etc usr)
+choice etc usr =
+    map (λ name. record {
+      from_etc = lists name etc;
+      name = name;
+      priority = 1 + count_by (λ n. is_lt (text_cmp n name)) (names etc usr);
+    }) (names etc usr)
 
 -- the stored path
 abbrev pub path_of : Choice → List ℕ

@@ -12,10 +12,6 @@ use Rattle.hwdb_spec.specs.declared.Class.{Class}
 abbrev pub in_span : ℕ → ℕ × ℕ → Bool
 in_span b span = if nat_le span.0 b then nat_le b span.1 else false
 
--- whether the byte is in one of the spans
-abbrev pub in_spans : List (ℕ × ℕ) → ℕ → Bool
-in_spans spans b = list_any (in_span b) spans
-
 -- how a named class is written in a bracket
 abbrev pub class_text : Class → List ℕ
 class_text Alnum = codes "[:alnum:]"
@@ -51,10 +47,6 @@ unfoldable pub classes : List Class
 classes =
     Alnum ∷ Alpha ∷ Blank ∷ Cntrl ∷ Digit ∷ Graph ∷ Lower ∷ Print ∷ Punct ∷ Space ∷ Upper ∷ Xdigit ∷ []
 
--- the named class that stands at the beginning of a text
-unfoldable pub class_at : List ℕ → Option Class
-class_at text = find (λ c. starts_with nat_eq text (class_text c)) classes
-
 -- one or more items of a bracket: how many bytes of text they take, and which bytes they admit
 pub record Items : Type 0 where
   pub size : ℕ
@@ -71,7 +63,7 @@ plain_item (low ∷ dash ∷ high ∷ rest) =
 
 -- the item at the beginning of a text: a named class, else a range, else one byte
 unfoldable pub item_at : List ℕ → Items
-item_at text = option_map_or (λ c. record { size = length (class_text c); spans = class_spans c }) (class_at text) (plain_item text)
+item_at text = option_map_or (λ c. record { size = length (class_text c); spans = class_spans c }) (find (λ c. starts_with nat_eq text (class_text c)) classes) (plain_item text)
 
 -- an item, and those after it
 abbrev pub joined : Items → Option Items → Option Items
@@ -122,18 +114,13 @@ pub data Token : Type 0 where
   bracket : Bracket → Token
   literal : ℕ → Token
 
--- a `[` that begins no closed bracket is an ordinary byte
-abbrev pub bracket_or_byte : Option Bracket → Token
-bracket_or_byte (Some found) = bracket found
-bracket_or_byte None = literal (byte "[")
-
--- the token at the beginning of a text
+-- The token at the beginning of a text. A `[` that begins no closed bracket stands for itself.
 unfoldable pub token_at : List ℕ → Token
 token_at [] = literal 0
 token_at (first ∷ rest) =
     if first == byte "*" then star
     else (if first == byte "?" then one
-    else (if first == byte "[" then bracket_or_byte (bracket_at (first ∷ rest))
+    else (if first == byte "[" then option_map_or bracket (bracket_at (first ∷ rest)) (literal (byte "["))
     else literal first))
 
 -- how many bytes of text it takes
@@ -156,7 +143,7 @@ tokens pattern = tokens_from 0 pattern
 abbrev pub admits_byte : Token → ℕ → Bool
 admits_byte star b = false
 admits_byte one b = true
-admits_byte (bracket found) b = if found.inverted then not (in_spans found.spans b) else in_spans found.spans b
+admits_byte (bracket found) b = if found.inverted then not (list_any (in_span b) found.spans) else list_any (in_span b) found.spans
 admits_byte (literal own) b = b == own
 
 -- a star admits any piece, also the empty one; any other token a piece of one byte that it admits

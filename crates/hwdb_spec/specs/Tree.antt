@@ -70,13 +70,9 @@ assigned_at pattern v None = []
 assigned_at pattern v (Some key) =
     record { position = record { priority = v.priority; line = v.line; pattern = pattern; key = key }; value = v.value; path = v.path } ∷ []
 
--- what a value assigns at its path
-abbrev pub assignment_of : List ℕ × Value → List Assignment
-assignment_of p = assigned_at p.0 p.1 (key_of p.1.key)
-
 -- the assignments of a tree, from a path on
 abbrev pub members_under : List ℕ → Tree → List Assignment
-members_under path t = flat_map assignment_of (values_under path t)
+members_under path t = flat_map (λ p. assigned_at p.0 p.1 (key_of p.1.key)) (values_under path t)
 
 -- patterns and keys, by pattern and then by key
 abbrev pub place_cmp : List ℕ × List ℕ → List ℕ × List ℕ → Ordering
@@ -119,7 +115,7 @@ map_of_files etc usr = surviving (all_assignments etc usr)
 
 -- the tree has the map of the files
 abbrev pub IsTreeOfFiles : (etc usr : List Source) → Tree → Type 0
-IsTreeOfFiles etc usr t = map_of t ≡ map_of_files etc usr
+IsTreeOfFiles etc usr t = map_of t ≡ surviving (all_assignments etc usr)
 
 -- the answers, ascending
 unfoldable pub answers : List ℕ → Tree → List Assignment

@@ -3,7 +3,8 @@ use Rattle.std.proofs.Common.{◌≡◌, ℕ, suc, ◌<◌, Bool, true, false, L
 use Rattle.std.specs.List.{AllByRecursion as Each}
 use Rattle.std.proofs.lemmas.Bool.{cases_Bool}
 use Rattle.std.proofs.lemmas.List.Elements.{All-from_recursion}
-use Rattle.hwdb_spec.specs.Folders.{counts, same, lists, names, chosen, choice}
+use Rattle.hwdb_spec.specs.Folders.{counts, same, lists, names, choice}
+use Rattle.hwdb_text.specs.Internal.Choosing.{chosen}
 use Rattle.hwdb_text.specs.Views.{IsListed}
 use Rattle.hwdb_text.proofs.NameSets.{same_equal, same_itself, names_are_those_that_count}
 use Rattle.hwdb_text.proofs.Storing.{each_map, each_weaker}

@@ -7,12 +7,12 @@ use Rattle.std.proofs.lemmas.List.Elements.{All-from_recursion}
 use Rattle.hwdb_spec.specs.Lines.{Line, lines, has, is, trimmed, property, clean, clean_line, is_dropped, is_comment, is_long, is_indent, is_none, is_blank, is_empty, is_property, is_match, has_equals, has_key, pieces, begins_with}
 use Rattle.std.specs.List.{onto_first, before_first}
 use Rattle.hwdb_spec.specs.Records.{Section, run, behind, first_section, size, sections_from, sections, Origin, patterns, assign, property_assignments, section_assignments, assignments}
-use Rattle.hwdb_spec.specs.Folders.{counts, same, lists, names, chosen, choice}
+use Rattle.hwdb_spec.specs.Folders.{counts, same, lists, names, choice}
+use Rattle.hwdb_text.specs.Internal.Choosing.{chosen, with_name}
 use Rattle.hwdb_text.proofs.NameSets.{put_is}
 use Rattle.hwdb_text.specs.Views.{HasNoZero, IsStorable, IsStorableChoice}
 use Rattle.hwdb_spec.specs.Assignment.{ascending}
 use Rattle.hwdb_text.specs.Laws.{is_smaller}
-use Rattle.hwdb_text.specs.Internal.Choosing.{with_name}
 
 each_append : {X : Type 0} (P : X → Type 0) (xs ys : List X) → Each P xs → Each P ys → Each P (xs ++ ys)
 each_append P [] ys a b = b

@@ -8,7 +8,7 @@ use Rattle.std.specs.FinMap.{IsAntisymmetric, slice_cmp-IsAntisymmetric, nat_cmp
 use Rattle.std.specs.FinMap.Entries.{by_order, find}
 use Rattle.std.proofs.lemmas.Bool.Decides.{nat_tests}
 use Rattle.hwdb_spec.specs.Assignment.{Assignment}
-use Rattle.hwdb_spec.specs.Tree.{Value, Tree, Children, place_cmp, entry_of, assigned_at, assignment_of, values_under, values_below, map_of, key_of}
+use Rattle.hwdb_spec.specs.Tree.{Value, Tree, Children, place_cmp, entry_of, assigned_at, values_under, values_below, map_of, key_of}
 use Rattle.hwdb_spec.specs.Tree.Tree.{Node}
 use Rattle.hwdb_spec.specs.Tree.Children.{NoMore, Child}
 use Rattle.hwdb_writer.specs.Internal.Setting.{Meeting, meet, behind, set_value, set_below, set_at, set_node, forked, single}
@@ -18,6 +18,10 @@ Place = List ℕ × List ℕ
 
 abbrev pub Entry : Type 0
 Entry = List ℕ × Value
+
+-- what a value assigns at its path
+abbrev pub assignment_of : Entry → List Assignment
+assignment_of p = assigned_at p.0 p.1 (key_of p.1.key)
 
 bytes_total : IsTotalOrder (slice_cmp nat_cmp)
 bytes_total = nat_list_cmp_total

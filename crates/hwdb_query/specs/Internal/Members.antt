@@ -2,8 +2,12 @@
 use Rattle.std.specs.Prelude.{List, Option, None, Some, filter, ℕ, flat_map, [], ◌++◌, ◌∷◌}
 use Rattle.hwdb_spec.specs.Assignment.{Assignment, Position}
 use Rattle.hwdb_spec.specs.Answers.{is_behind, is_wanted}
-use Rattle.hwdb_spec.specs.Tree.{Value, Tree, members_under}
+use Rattle.hwdb_spec.specs.Tree.{Value, Tree, key_of, assigned_at, members_under}
 use Rattle.hwdb_reader.specs.Views.{Shown, shown}
+
+-- what a value assigns at its path
+abbrev pub assignment_of : List ℕ × Value → List Assignment
+assignment_of p = assigned_at p.0 p.1 (key_of p.1.key)
 
 -- those of a list that are answers after a position
 unfoldable pub wanted : List ℕ → Option Position → List Assignment → List Assignment

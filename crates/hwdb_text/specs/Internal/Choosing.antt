@@ -1,10 +1,11 @@
 -- The names that the code holds while it chooses: in order of their bytes, each with whether it is taken from etc.
-use Rattle.std.specs.Prelude.{Bool, List, ℕ, [], if◌then◌else◌, ◌∷◌, false, true, ◌+◌}
+use Rattle.std.specs.Prelude.{Bool, List, ℕ, [], if◌then◌else◌, ◌∷◌, false, true, ◌+◌, count_by}
 use Rattle.std.specs.Borrow.{Bor}
 use Rattle.std.specs.BTreeMap.{insert_entry}
-use Rattle.std.specs.Ordering.{nat_cmp}
+use Rattle.std.specs.Ordering.{nat_cmp, is_lt}
 use Rattle.std.specs.Cmp.Lexicographic.{slice_cmp}
-use Rattle.hwdb_spec.specs.Folders.{counts, same, Choice}
+use Rattle.hwdb_spec.specs.Folders.{counts, lists, same, Choice}
+use Rattle.hwdb_spec.specs.Assignment.{text_cmp}
 use Rattle.hwdb_text.specs.Laws.{is_smaller}
 
 abbrev pub entry_of : Bor (List ℕ) × Bool → List ℕ × Bool
@@ -14,6 +15,14 @@ entry_of e = (e.0.now, e.1)
 abbrev pub put_all : Bool → List (List ℕ) → List (List ℕ × Bool) → List (List ℕ × Bool)
 put_all from_etc [] held = held
 put_all from_etc (name ∷ more) held = put_all from_etc more (if counts name then insert_entry (slice_cmp nat_cmp) held name from_etc else held)
+
+-- a name of the set as a choice
+abbrev pub chosen : (etc set : List (List ℕ)) → List ℕ → Choice
+chosen etc set name = record {
+  from_etc = lists name etc;
+  name = name;
+  priority = 1 + count_by (λ n. is_lt (text_cmp n name)) set;
+}
 
 -- a name, put among ascending ones if it isn't there
 abbrev pub with_name : List ℕ → List (List ℕ) → List (List ℕ)

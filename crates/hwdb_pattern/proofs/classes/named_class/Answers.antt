@@ -1,6 +1,7 @@
 use Rattle.std.proofs.Common.{refl, ◌∙◌, sym, ap, nat_eq}
 use Rattle.std.specs.List.{starts_with}
-use Rattle.hwdb_spec.specs.Patterns.{class_at, classes}
+use Rattle.hwdb_spec.specs.Patterns.{classes}
+use Rattle.hwdb_pattern.specs.Internal.Parts.{class_at}
 use Rattle.hwdb_spec.specs.declared.Class.TheVariants.{Alnum}
 use Rattle.hwdb_pattern.proofs.Bracketing.{find_next, no_class, no_class_short}
 use Rattle.hwdb_pattern.proofs.classes.named_class.Goals as goal
