@@ -2,6 +2,7 @@
 -- sections, and each property of a section goes with each match line of it. Where a record ends early, what is a fault,
 -- and the faults' numbers and texts are our choice.
 use Rattle.std.specs.Prelude.{Bool, List, [], if◌then◌else◌, ◌∷◌, take, length, ℕ, ◌+◌, suc, zero, ◌-◌, flat_map, map, codes, ◌++◌}
+use Rattle.std.specs.List.{take_while}
 use Rattle.std.specs.declared.cmp.Ordering.{Ordering}
 use Rattle.std.specs.Ordering.{nat_cmp, ordering_then, is_gt}
 use Rattle.hwdb_spec.specs.Lines.{Line, is_match, is_property, is_empty, pieces, is_long, key, value, has_equals, has_key, clean, lines, is_spoilt}
@@ -9,11 +10,6 @@ use Rattle.hwdb_spec.specs.Assignment.{Assignment}
 use Rattle.hwdb_spec.specs.declared.FaultKind.TheVariants.{EmptyKey, LongMatch, NoEquals, NoProperty, StrayMatch, StrayProperty, ZeroByte}
 use Rattle.hwdb_spec.specs.declared.FaultKind.{FaultKind}
 use Rattle.hwdb_spec.specs.declared.Fault.{Fault}
-
--- the longest run at the front of lines that pass the test, and what is behind it
-unfoldable pub run : (Line → Bool) → List Line → List Line
-run test [] = []
-run test (l ∷ more) = if test l then l ∷ run test more else []
 
 -- what is behind the longest run at the front of lines that pass the test
 unfoldable pub behind : (Line → Bool) → List Line → List Line
@@ -33,9 +29,9 @@ first_section ls =
     let from_matches = behind is_property ls in
     let from_properties = behind is_match from_matches in
     record {
-      leading = run is_property ls;
-      matches = run is_match from_matches;
-      properties = run is_property from_properties;
+      leading = take_while is_property ls;
+      matches = take_while is_match from_matches;
+      properties = take_while is_property from_properties;
       stray = take 1 (behind is_property from_properties);
     }
 

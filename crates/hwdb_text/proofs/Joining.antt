@@ -6,14 +6,17 @@ use Rattle.std.specs.Prelude.{flat_map}
 use Rattle.hwdb_spec.specs.Lines.{Line, has, pieces, numbered, is, is_empty, is_property, is_match}
 use Rattle.std.specs.List.{onto_first}
 use Rattle.hwdb_text.specs.Laws.{ended, lines_of, LinesAreTheFile, LinesHoldNoNewline, LinesCountUp, SectionsAreTheBlock, SectionsAreTheLines}
-use Rattle.hwdb_spec.specs.Records.{run, behind, first_section, size, sections_from}
+use Rattle.std.specs.List.{take_while}
+use Rattle.hwdb_text.proofs.Runs.{run_cons}
+use Rattle.hwdb_spec.specs.Records.{behind, first_section, size, sections_from}
 use Rattle.hwdb_text.proofs.Ordered.{behind_section}
 use Rattle.hwdb_text.proofs.Sections.{positive}
 
-run_behind : (test : Line → Bool) (ls : List Line) → run test ls ++ behind test ls ≡ ls
-unfolding run behind
+run_behind : (test : Line → Bool) (ls : List Line) → take_while test ls ++ behind test ls ≡ ls
+unfolding behind
 run_behind test [] = refl
-run_behind test (l ∷ more) = elim (cases_Bool (test l)) [ inl e ↦ rw e (ap (λ r. l ∷ r) (run_behind test more)) | inr e ↦ rw e refl ]
+run_behind test (l ∷ more) =
+    ap (λ r. r ++ behind test (l ∷ more)) (run_cons test l more) ∙ elim (cases_Bool (test l)) [ inl e ↦ rw e (ap (λ r. l ∷ r) (run_behind test more)) | inr e ↦ rw e refl ]
 
 take_front : (n : ℕ) (ls : List Line) → take n ls ++ drop (length (take n ls)) ls ≡ ls
 take_front zero ls = refl
@@ -27,9 +30,9 @@ section_then ls =
     let a = behind is_property ls in
     let b = behind is_match a in
     let c = behind is_property b in
-    let p = run is_property ls in
-    let m = run is_match a in
-    let q = run is_property b in
+    let p = take_while is_property ls in
+    let m = take_while is_match a in
+    let q = take_while is_property b in
     let s = take 1 c in
     ap (λ r. (p ++ (m ++ (q ++ s))) ++ r) (behind_section ls)
     ∙ append_assoc p (m ++ (q ++ s)) (drop (length s) c)

@@ -1,3 +1,4 @@
+pub mod Runs
 pub mod Sections
 pub mod Bytes
 pub mod Steps

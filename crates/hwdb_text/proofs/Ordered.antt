@@ -7,7 +7,9 @@ use Rattle.std.proofs.lemmas.List.Sorted.{IsNonDecreasingBy-from_all_adjacent}
 use Rattle.std.specs.Prelude.{flat_map}
 use Rattle.hwdb_spec.specs.Lines.{Line, lines, clean, clean_line, is, is_dropped, is_empty, is_property, is_match, has_equals, has_key, pieces, numbered}
 use Rattle.std.specs.List.{onto_first}
-use Rattle.hwdb_spec.specs.Records.{run, behind, first_section, size, sections_from, Origin, patterns, assign, property_assignments, section_assignments, assignments}
+use Rattle.std.specs.List.{take_while}
+use Rattle.hwdb_text.proofs.Runs.{run_cons}
+use Rattle.hwdb_spec.specs.Records.{behind, first_section, size, sections_from, Origin, patterns, assign, property_assignments, section_assignments, assignments}
 use Rattle.hwdb_spec.specs.Assignment.{Assignment}
 use Rattle.hwdb_spec.specs.Folders.{Choice}
 use Rattle.hwdb_text.specs.Internal.Choosing.{with_priorities, all_names}
@@ -46,17 +48,19 @@ meet_cond : (b : Bool) (low : ℕ) (xs ys us vs : List Line) (high : ℕ) → Me
 meet_cond true low xs ys us vs high a b = a
 meet_cond false low xs ys us vs high a b = b
 
-run_meets : (test : Line → Bool) (low : ℕ) (ls : List Line) (high : ℕ) → Rises at_line low ls high → Meet low (run test ls) (behind test ls) high
-unfolding run behind
+run_meets : (test : Line → Bool) (low : ℕ) (ls : List Line) (high : ℕ) → Rises at_line low ls high → Meet low (take_while test ls) (behind test ls) high
+unfolding behind
 run_meets test low [] high r = (high, (r, (let e : high ≤ high = omega arith in e)))
 run_meets test low (l ∷ more) high r =
     let m = run_meets test l.number more high r.1 in
-    meet_cond (test l) low (l ∷ run test more) [] (behind test more) (l ∷ more) high (m.0, ((r.0, m.1.0), m.1.1)) (low, ((let e : low ≤ low = omega arith in e), r))
+    subst (λ xs. Meet low xs (behind test (l ∷ more)) high) (sym (run_cons test l more))
+    (meet_cond (test l) low (l ∷ take_while test more) [] (behind test more) (l ∷ more) high (m.0, ((r.0, m.1.0), m.1.1)) (low, ((let e : low ≤ low = omega arith in e), r)))
 
-drop_run : (test : Line → Bool) (ls : List Line) → drop (length (run test ls)) ls ≡ behind test ls
-unfolding run behind
+drop_run : (test : Line → Bool) (ls : List Line) → drop (length (take_while test ls)) ls ≡ behind test ls
+unfolding behind
 drop_run test [] = refl
-drop_run test (l ∷ more) = elim (cases_Bool (test l)) [ inl e ↦ rw e (drop_run test more) | inr e ↦ rw e refl ]
+drop_run test (l ∷ more) =
+    ap (λ r. drop (length r) (l ∷ more)) (run_cons test l more) ∙ elim (cases_Bool (test l)) [ inl e ↦ rw e (drop_run test more) | inr e ↦ rw e refl ]
 
 rises_drop : {X : Type 0} (n : X → ℕ) (k : ℕ) (low : ℕ) (xs : List X) (high : ℕ) → Rises n low xs high → Rises n low (drop k xs) high
 rises_drop n zero low xs high r = r
@@ -69,9 +73,9 @@ unfolding first_section
 behind_section ls =
     let a = behind is_property ls in
     let b = behind is_match a in
-    let x = length (run is_property ls) in
-    let y = length (run is_match a) in
-    let z = length (run is_property b) in
+    let x = length (take_while is_property ls) in
+    let y = length (take_while is_match a) in
+    let z = length (take_while is_property b) in
     let w = length (take 1 (behind is_property b)) in
     sym (drop-drop w (x + y + z) ls)
     ∙ ap (drop w) (sym (drop-drop z (x + y) ls) ∙ ap (drop z) (sym (drop-drop y x ls) ∙ ap (drop y) (drop_run is_property ls) ∙ drop_run is_match a) ∙ drop_run is_property b)
@@ -83,12 +87,12 @@ section_meets low ls high r =
     let m = run_meets is_property low ls high r in
     let n = run_meets is_match m.0 (behind is_property ls) high m.1.1 in
     let p = run_meets is_property n.0 (behind is_match (behind is_property ls)) high n.1.1 in
-    let e : low ≤ m.0 = rises_ends at_line low (run is_property ls) m.0 m.1.0 in
-    let f : m.0 ≤ n.0 = rises_ends at_line m.0 (run is_match (behind is_property ls)) n.0 n.1.0 in
+    let e : low ≤ m.0 = rises_ends at_line low (take_while is_property ls) m.0 m.1.0 in
+    let f : m.0 ≤ n.0 = rises_ends at_line m.0 (take_while is_match (behind is_property ls)) n.0 n.1.0 in
     let P : List Line → Type 0 = λ rest. Rises at_line p.0 rest high in (
       p.0,
       (
-        rises_more at_line low n.0 (run is_property (behind is_match (behind is_property ls))) p.0 (omega arith) p.1.0,
+        rises_more at_line low n.0 (take_while is_property (behind is_match (behind is_property ls))) p.0 (omega arith) p.1.0,
         subst P (sym (behind_section ls)) (rises_drop at_line (length (first_section ls).stray) p.0 (behind is_property (behind is_match (behind is_property ls))) high p.1.1),
       ),
     )

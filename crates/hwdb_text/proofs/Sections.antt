@@ -6,7 +6,9 @@ use Rattle.std.proofs.lemmas.Grind.{flat_map-append}
 use Rattle.std.specs.Prelude.{flat_map}
 use Rattle.hwdb_spec.specs.Lines.{Line, pieces, is_empty, is_property, is_match, begins_with, is_none}
 use Rattle.std.specs.List.{onto_first}
-use Rattle.hwdb_spec.specs.Records.{Section, run, behind, first_section, size, sections_from, sections}
+use Rattle.std.specs.List.{take_while}
+use Rattle.hwdb_text.proofs.Runs.{run_cons}
+use Rattle.hwdb_spec.specs.Records.{Section, behind, first_section, size, sections_from, sections}
 use Rattle.hwdb_text.specs.Internal.Reading.{section, AllPass, gives}
 
 abbrev pub Stops : (Line → Bool) → List Line → Type 0
@@ -43,11 +45,10 @@ property_no_match_by false false h = cc
 pub property_no_match : (l : Line) → is_property l ≡ true → is_match l ≡ false
 property_no_match l h = property_no_match_by (is_empty l) (is_property l) h
 
-run_over : (test : Line → Bool) (xs ys : List Line) → AllPass test xs → Stops test ys → run test (xs ++ ys) ≡ xs
-unfolding run
+run_over : (test : Line → Bool) (xs ys : List Line) → AllPass test xs → Stops test ys → take_while test (xs ++ ys) ≡ xs
 run_over test [] [] a s = refl
-run_over test [] (y ∷ ys) a s = rw s refl
-run_over test (x ∷ xs) ys a s = rw (a.0) (ap (λ r. x ∷ r) (run_over test xs ys a.1 s))
+run_over test [] (y ∷ ys) a s = run_cons test y ys ∙ rw s refl
+run_over test (x ∷ xs) ys a s = run_cons test x (xs ++ ys) ∙ rw (a.0) (ap (λ r. x ∷ r) (run_over test xs ys a.1 s))
 
 behind_over : (test : Line → Bool) (xs ys : List Line) → AllPass test xs → Stops test ys → behind test (xs ++ ys) ≡ ys
 unfolding behind
@@ -96,16 +97,21 @@ one_section m ms ps t am ap1 st sm =
 abbrev pub with_leading : Line → Section → Section
 with_leading x s = section (x ∷ s.leading) s.matches s.properties s.stray
 
+run_more : (test : Line → Bool) (x : Line) (xs : List Line) → test x ≡ true → take_while test (x ∷ xs) ≡ x ∷ take_while test xs
+run_more test x xs e = run_cons test x xs ∙ rw e refl
+
+behind_more : (test : Line → Bool) (x : Line) (xs : List Line) → test x ≡ true → behind test (x ∷ xs) ≡ behind test xs
+unfolding behind
+behind_more test x xs e = rw e refl
+
 first_leading : (x : Line) (h : List Line) → is_property x ≡ true → first_section (x ∷ h) ≡ with_leading x (first_section h)
-unfolding first_section run behind
-first_leading x h p = rw p refl
+unfolding first_section
+first_leading x h p =
+    let b = behind_more is_property x h p in
+    λ i. section (run_more is_property x h p i) (take_while is_match (b i)) (take_while is_property (behind is_match (b i))) (take 1 (behind is_property (behind is_match (b i))))
 
 positive_property : (y : Line) (h : List Line) → is_property y ≡ true → 0 < size (first_section (y ∷ h))
 positive_property y h p = rw (first_leading y h p) (omega arith)
-
-run_more : (test : Line → Bool) (x : Line) (xs : List Line) → test x ≡ true → run test (x ∷ xs) ≡ x ∷ run test xs
-unfolding run
-run_more test x xs e = rw e refl
 
 positive_match : (y : Line) (h : List Line) → is_property y ≡ false → is_match y ≡ true → 0 < size (first_section (y ∷ h))
 unfolding first_section
@@ -125,7 +131,7 @@ pub record Gives {X : Type 0} (lead : Line → List X) (out : Section → List X
   pub nothing : out (section [] [] [] []) ≡ []
 
 first_none : first_section [] ≡ section [] [] [] []
-unfolding first_section run behind
+unfolding first_section behind
 first_none = refl
 
 none_left : sections_from 0 [] ≡ []

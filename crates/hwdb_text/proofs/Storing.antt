@@ -6,7 +6,9 @@ use Rattle.std.proofs.lemmas.Bool.{cases_Bool, ltb-false}
 use Rattle.std.proofs.lemmas.List.Elements.{All-from_recursion}
 use Rattle.hwdb_spec.specs.Lines.{Line, lines, has, is, trimmed, property, clean, clean_line, is_dropped, is_comment, is_long, is_indent, is_none, is_blank, is_empty, is_property, is_match, has_equals, has_key, pieces, begins_with}
 use Rattle.std.specs.List.{onto_first, before_first}
-use Rattle.hwdb_spec.specs.Records.{Section, run, behind, first_section, size, sections_from, sections, Origin, patterns, assign, property_assignments, section_assignments, assignments}
+use Rattle.std.specs.List.{take_while}
+use Rattle.hwdb_text.proofs.Runs.{run_cons}
+use Rattle.hwdb_spec.specs.Records.{Section, behind, first_section, size, sections_from, sections, Origin, patterns, assign, property_assignments, section_assignments, assignments}
 use Rattle.hwdb_spec.specs.Folders.{counts, same, lists, names, choice}
 use Rattle.hwdb_text.specs.Internal.Choosing.{chosen, with_name}
 use Rattle.hwdb_text.proofs.NameSets.{put_is}
@@ -97,10 +99,9 @@ pieces_each [] a = tt
 pieces_each (l ∷ more) a =
     each_cond (Each Whole) (is_empty l) ([] ∷ pieces is_empty more) (onto_first l (pieces is_empty more)) (tt, pieces_each more a.1) (led_each l (pieces is_empty more) a.0 (pieces_each more a.1))
 
-run_each : (test : Line → Bool) (ls : List Line) → Each Whole ls → Each Whole (run test ls)
-unfolding run
+run_each : (test : Line → Bool) (ls : List Line) → Each Whole ls → Each Whole (take_while test ls)
 run_each test [] a = tt
-run_each test (l ∷ more) a = each_cond Whole (test l) (l ∷ run test more) [] (a.0, run_each test more a.1) tt
+run_each test (l ∷ more) a = subst (Each Whole) (sym (run_cons test l more)) (each_cond Whole (test l) (l ∷ take_while test more) [] (a.0, run_each test more a.1) tt)
 
 behind_each : (test : Line → Bool) (ls : List Line) → Each Whole ls → Each Whole (behind test ls)
 unfolding behind
