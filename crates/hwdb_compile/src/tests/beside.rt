@@ -30,7 +30,7 @@ struct Row<'t> {
 /// A database, and the assignments of the files.
 #[derive(Clone, Copy)]
 struct Both<'a> {
-    db: Db<'a>,
+    db: &'a Db<'a>,
     all: &'a [Assignment],
 }
 
@@ -78,7 +78,7 @@ fn compare(
     }
     let mut is_same = true;
     for page in [1, 2, 1000] {
-        let mut hits = cursor(alloc, &both.db, device, after, page).map_err(|_| "no cursor")?;
+        let mut hits = cursor(alloc, both.db, device, after, page).map_err(|_| "no cursor")?;
         let mut yielded = Vec::new(alloc);
         for _ in 0..MOST {
             let Some(hit) = hits.next()? else {
@@ -100,7 +100,7 @@ fn compare_all(alloc: Global, both: Both<'_>, device: &[u8]) -> Result<bool, Fai
         is_same = compare(alloc, both, device, Some(&position))? && is_same;
     }
     let plain = plain_effective(alloc, &hits)?;
-    let list = effective(alloc, &both.db, device)?;
+    let list = effective(alloc, both.db, device)?;
     Ok(is_same && list == plain)
 }
 
@@ -112,7 +112,7 @@ fn compare_devices(
     devices: &[&str],
 ) -> Result<bool, Fail> {
     let db = check(bytes).map_err(|_| "refused")?;
-    let both = Both { db, all };
+    let both = Both { db: &db, all };
     let mut is_same = true;
     for device in devices {
         is_same = compare_all(alloc, both, device.as_bytes())? && is_same;
