@@ -142,6 +142,16 @@ fn help_names_the_command(rt: HostRuntime) -> Result<(), Fail> {
             "hwdb update --help",
             ["hwdb update", "--usr", "--strict", "--root"],
         ),
+        // The folders and places of systemd-hwdb(8).
+        (
+            "hwdb update --help",
+            [
+                "/etc/udev/hwdb.d",
+                "/usr/lib/udev/hwdb.d",
+                "/etc/udev/hwdb.bin",
+                "/usr/lib/udev/hwdb.bin",
+            ],
+        ),
         (
             "hwdb query -h",
             ["hwdb query", "MODALIAS", "--root", "--help"],

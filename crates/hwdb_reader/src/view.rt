@@ -206,6 +206,7 @@ impl<'a> Inside<'a> {
             (slice_get (values_of (entered_tree self.now)) i) ≡ Some result.priority }
         ensures line { option_map (λ v. v.line)
             (slice_get (values_of (entered_tree self.now)) i) ≡ Some result.line }
+        ensures positive { 0 < result.priority }
     {
         let entry = value_entry_at(self.node.bytes, self.node.frame, self.node.offset, i);
         read_origin(self.node.bytes, entry)
