@@ -2,10 +2,13 @@
 ghost use Rattle.std.specs.Prelude.{◌≡◌, ◌≢◌, ◌<◌, ◌≤◌, ◌+◌, ◌^◌, [], ◌∷◌, ◌++◌, length, slice_index, map, filter, All, Contains, IsTrue, OnOk, IfOk, IsOk, IsOkAnd};
 ghost use Rattle.hwdb_spec.specs.Patterns.{tokens, token_at};
 ghost use Rattle.hwdb_pattern.specs.Views.{takes, NoneTakes};
-ghost use Rattle.hwdb_pattern.specs.Internal.Prefixes.{stepped, Spread, Between, Follows, Within};
+ghost use Rattle.hwdb_pattern.specs.Internal.Prefixes.{AreAdmitted, stepped, Spread, Between, Follows, Within};
 
 use crate::tokens::{single_token, token_size};
 use std::alloc::{AllocError, Global};
+
+/// From how many lengths on a bracket is read for each byte that there is, in place of once for each length.
+const FEW: usize = 256;
 
 /// Whether the token at the beginning of the text takes the device's byte after `n` bytes.
 fn takes_next(text: &[u8], device: &[u8], n: usize) -> bool
@@ -20,8 +23,35 @@ fn takes_next(text: &[u8], device: &[u8], n: usize) -> bool
     }
 }
 
-/// The lengths after one token that isn't a star. No memory is asked for where it takes no byte.
-fn take_single(
+/// Which bytes the token at the beginning of the text admits: a bracket is read once for each, and not once for each
+/// place of a device.
+fn admitted_bytes(text: &[u8]) -> [bool; 256]
+    requires some { 0 < length text.now }
+    requires no_star { slice_index text.now 0 ≢ 42 }
+    ensures { AreAdmitted (token_at text.now) result 256 }
+{
+    let mut admitted = [false; 256];
+    for byte in 0..256usize {
+        admitted[byte] = single_token(text, byte as u8, true).admits;
+    }
+    admitted
+}
+
+/// Whether the token at the beginning of the text, which admits these bytes, takes the device's byte after `n` bytes.
+fn takes_one_of(admitted: &[bool; 256], device: &[u8], n: usize, text: &[u8]) -> bool
+    requires { AreAdmitted (token_at text.now) admitted.now 256 }
+    ensures { result ≡ takes (token_at text.now) device.now n }
+{
+    if n < device.len() {
+        admitted[device[n] as usize]
+    } else {
+        false
+    }
+}
+
+/// The lengths after one token that isn't a star: one look at the token for each length. No memory is asked for where it
+/// takes no byte.
+fn take_by_token(
     alloc: Global,
     before: &[usize],
     device: &[u8],
@@ -42,13 +72,79 @@ fn take_single(
     Ok(after)
 }
 
+/// The same, by the bytes that the token admits.
+fn take_by_byte(
+    alloc: Global,
+    before: &[usize],
+    device: &[u8],
+    text: &[u8],
+) -> Result<Vec<usize>, AllocError>
+    requires some { 0 < length text.now }
+    requires no_star { slice_index text.now 0 ≢ 42 }
+    ensures stepped { IfOk result (λ after.
+        after.items ≡ stepped (token_at text.now) device.now before.now) }
+    ensures free { NoneTakes (token_at text.now) device.now before.now → IsOk result }
+{
+    let admitted = admitted_bytes(text);
+    let mut after = Vec::new(alloc);
+    for n in before {
+        if takes_one_of(&admitted, device, *n, text) {
+            after.push(*n + 1)?;
+        }
+    }
+    Ok(after)
+}
+
+/// The lengths after one token that isn't a star. No memory is asked for where it takes no byte.
+fn take_single(
+    alloc: Global,
+    before: &[usize],
+    device: &[u8],
+    text: &[u8],
+) -> Result<Vec<usize>, AllocError>
+    requires some { 0 < length text.now }
+    requires no_star { slice_index text.now 0 ≢ 42 }
+    ensures stepped { IfOk result (λ after.
+        after.items ≡ stepped (token_at text.now) device.now before.now) }
+    ensures free { NoneTakes (token_at text.now) device.now before.now → IsOk result }
+{
+    if text[0] == b'[' && before.len() > FEW {
+        take_by_byte(alloc, before, device, text)
+    } else {
+        take_by_token(alloc, before, device, text)
+    }
+}
+
+/// Keeps the lengths after which the token takes the device's next byte: one look at the token for each length.
+fn keep_by_token(lengths: &mut Vec<usize>, device: &[u8], text: &[u8])
+    requires some { 0 < length text.now }
+    requires no_star { slice_index text.now 0 ≢ 42 }
+    ensures { lengths.new.items ≡ filter (takes (token_at text.now) device.now) lengths.old.items }
+{
+    lengths.retain(|n| takes_next(text, device, *n));
+}
+
+/// The same, by the bytes that the token admits.
+fn keep_by_byte(lengths: &mut Vec<usize>, device: &[u8], text: &[u8])
+    requires some { 0 < length text.now }
+    requires no_star { slice_index text.now 0 ≢ 42 }
+    ensures { lengths.new.items ≡ filter (takes (token_at text.now) device.now) lengths.old.items }
+{
+    let admitted = admitted_bytes(text);
+    lengths.retain(|n| takes_one_of(&admitted, device, *n, text));
+}
+
 /// Keeps the lengths after which the token takes the device's next byte.
 fn keep(lengths: &mut Vec<usize>, device: &[u8], text: &[u8])
     requires some { 0 < length text.now }
     requires no_star { slice_index text.now 0 ≢ 42 }
     ensures { lengths.new.items ≡ filter (takes (token_at text.now) device.now) lengths.old.items }
 {
-    lengths.retain(|n| takes_next(text, device, *n));
+    if text[0] == b'[' && lengths.len() > FEW {
+        keep_by_byte(lengths, device, text);
+    } else {
+        keep_by_token(lengths, device, text);
+    }
 }
 
 /// Makes each length one more.

@@ -60,13 +60,13 @@ fn last_close(pattern: &[u8]) -> usize
 pub fn glob(pattern: &[u8], device: &[u8]) -> bool
     ensures { IsTrue result ↔ Matches (tokens pattern.now) device.now }
 {
-    let Some(first) = run(pattern, device, pattern.len()) else {
+    let close = last_close(pattern);
+    let Some(first) = run(pattern, device, close) else {
         return false;
     };
     if first.at == pattern.len() {
         return first.met == device.len();
     }
-    let close = last_close(pattern);
     let mut at = first.at + 1;
     let mut met = first.met;
     while met <= device.len() {

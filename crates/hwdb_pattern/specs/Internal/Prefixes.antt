@@ -1,7 +1,7 @@
 -- The lengths of a device's prefixes that tokens match, as the code goes from one token to the next.
-use Rattle.std.specs.Prelude.{All, List, length, ℕ, ◌≤◌, ◌++◌, filter, map, ◌+◌, Contains, ◌<◌}
+use Rattle.std.specs.Prelude.{All, Bool, false, slice_index_or, ◌≡◌, List, length, ℕ, ◌≤◌, ◌++◌, filter, map, ◌+◌, Contains, ◌<◌}
 use Rattle.hwdb_pattern.specs.Views.{Lengths, takes}
-use Rattle.hwdb_spec.specs.Patterns.{Token}
+use Rattle.hwdb_spec.specs.Patterns.{Token, admits_byte}
 
 -- every length is one of a prefix of the device
 abbrev pub Within : List ℕ → List ℕ → Type 0
@@ -14,6 +14,10 @@ pub record Follows (more : List Token) (device before after : List ℕ) : Type 0
 -- the lengths after one more token that isn't a star
 abbrev pub stepped : Token → List ℕ → List ℕ → List ℕ
 stepped t device lengths = map (λ n. n + 1) (filter (takes t device) lengths)
+
+-- the first members of a table say whether the token admits these bytes
+abbrev pub AreAdmitted : Token → List Bool → ℕ → Type 0
+AreAdmitted t table n = (b : ℕ) → b < n → slice_index_or table b false ≡ admits_byte t b
 
 -- the lengths after a star: those from the least one on
 pub record Spread (end : ℕ) (before after : List ℕ) : Type 0 where
