@@ -1,10 +1,10 @@
 -- The steps of a search for a match.
-use Rattle.std.proofs.Common.{◌≡◌, nat_eq, nat_lt, eq-eqb, lt-ltb, None, ℕ, ◌+◌, ◌<◌, ◌≤◌, Bool, not, IsTrue, true, false, List, [], ◌∷◌, drop, length, get_or, refl, sym, ap, subst, ◌∙◌, inl, inr, arith}
+use Rattle.std.proofs.Common.{◌≡◌, nat_eq, nat_lt, eq-eqb, lt-ltb, None, ℕ, ◌+◌, ◌<◌, ◌≤◌, Bool, not, IsTrue, true, false, List, [], ◌∷◌, drop, length, get_or, refl, sym, ap, subst, ◌∙◌, inl, inr, arith, slice_set, replicate}
 use Rattle.std.proofs.lemmas.Bool.{cases_eq, cases_lt}
-use Rattle.std.proofs.lemmas.List.{drop-drop, drop_more, length-drop, drop_all, get_or-drop}
+use Rattle.std.proofs.lemmas.List.{drop-drop, drop_more, length-drop, drop_all, get_or-drop, length-set, get_or-set_other, get_or-replicate, length-replicate}
 use Rattle.hwdb_spec.specs.Patterns.{bracket_at, Token, star, token_at, token_size, tokens, admits_byte, Matches}
 use Rattle.hwdb_pattern.proofs.Longer.{none_closes}
-use Rattle.hwdb_pattern.specs.Internal.Search.{Reaches, Remains}
+use Rattle.hwdb_pattern.specs.Internal.Search.{AreOpen, Reaches, Remains}
 use Rattle.hwdb_pattern.specs.Internal.Parts.{token_part}
 use Rattle.hwdb_pattern.specs.declared.brackets.Part.{Part}
 use Rattle.hwdb_pattern.proofs.Matching.{is_star, single, single_admits, single_rest, single_empty, star_nothing, star_more, star_step, star_star, star_absorbs, star_empty}
@@ -190,3 +190,28 @@ no_bracket_at pattern text at close t n e = elim (cases_lt at close) [
   | inl below ↦ let w : true ≡ false = sym (lt-ltb at close below) ∙ e in cc
   | inr past ↦ none_closes text (λ k h. n (at + k) (omega arith) (sym (get_behind pattern text at k t) ∙ h))
 ]
+
+pub none_behind : (pattern : List ℕ) (at close : ℕ) → close ≤ at → ((k : ℕ) → close ≤ k → get_or pattern k 0 ≡ 93 → ⊥) → bracket_at (drop at pattern) ≡ None
+none_behind pattern at close le n =
+    none_closes (drop at pattern) (λ k h. n (at + k) (omega arith) (sym (get_behind pattern (drop at pattern) at k refl) ∙ h))
+
+-- the table from a place on is that of the pattern from there
+pub open_behind : (pattern : List ℕ) (opens : List Bool) (at : ℕ) → AreOpen pattern opens → AreOpen (drop at pattern) (drop at opens)
+open_behind pattern opens at h k lt e =
+    ap bracket_at (drop-drop k at pattern)
+    ∙ h (at + k) (omega (arith, length-drop at opens, lt)) (sym (get_or-drop at opens k false) ∙ e)
+
+-- one more place where no closed bracket begins
+pub open_more : (pattern : List ℕ) (opens : List Bool) (at : ℕ) → AreOpen pattern opens → bracket_at (drop at pattern) ≡ None → AreOpen pattern (slice_set opens at true)
+open_more pattern opens at h none k lt e = elim (cases_eq k at) [
+  | inl same ↦ ap (λ n. bracket_at (drop n pattern)) same ∙ none
+  | inr other ↦ h k (omega (arith, length-set opens at true, lt)) (sym (get_or-set_other opens at k true false other) ∙ e)
+]
+
+-- a table that says nothing
+pub none_open : (pattern : List ℕ) (n : ℕ) → AreOpen pattern (replicate n false)
+none_open pattern n k lt e =
+    absurd (let w : true ≡ false = sym e ∙ get_or-replicate n k false false (omega (arith, lt, length-replicate n none)) in cc)
+  where
+    none : Bool
+    none = false

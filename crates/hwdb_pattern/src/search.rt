@@ -1,8 +1,9 @@
 //! Whether a pattern matches a device: a greedy search from star to star.
-ghost use Rattle.std.specs.Prelude.{◌≡◌, ◌<◌, ◌≤◌, ◌↔◌, length, slice_index, IsTrue, IfSome, IfNone};
-ghost use Rattle.hwdb_spec.specs.Patterns.{Matches, tokens};
-ghost use Rattle.hwdb_pattern.specs.Internal.Search.{NoneCloses, Reaches};
+ghost use Rattle.std.specs.Prelude.{◌≡◌, ◌<◌, ◌≤◌, ◌↔◌, None, drop, false, length, slice_index, IsTrue, IfSome, IfNone};
+ghost use Rattle.hwdb_spec.specs.Patterns.{Matches, bracket_at, tokens};
+ghost use Rattle.hwdb_pattern.specs.Internal.Search.{AreOpen, NoneCloses, Reaches};
 
+use crate::brackets::bracket_end;
 use crate::tokens::single_token;
 
 /// A place in the pattern and in the device.
@@ -14,11 +15,52 @@ struct Place {
     met: usize,
 }
 
+/// How many places of a pattern a search remembers: as many as the longest pattern of a text file has.
+const PLACES: usize = 4096;
+
+/// Whether a closed bracket may begin at a place: not from `close` on, since no `]` stands there, and not where none was
+/// found before.
+fn may_close(pattern: &[u8], at: usize, close: usize, opens: &[bool]) -> bool
+    requires closes { NoneCloses pattern.now close }
+    requires opens { AreOpen pattern.now opens.now }
+    ensures { result ≡ false → bracket_at (drop at pattern.now) ≡ None }
+{
+    if at >= close {
+        return false;
+    }
+    if at < opens.len() {
+        return !opens[at];
+    }
+    true
+}
+
+/// The places at which a `[` begins no closed bracket, of those that a search remembers.
+fn open_brackets(pattern: &[u8]) -> [bool; PLACES]
+    ensures { AreOpen pattern.now result }
+{
+    let mut opens = [false; PLACES];
+    let places = pattern.len().min(PLACES);
+    for at in 0..places {
+        if pattern[at] == b'[' && bracket_end(&pattern[at..]).is_none() {
+            opens[at] = true;
+        }
+    }
+    opens
+}
+
+/// The table from a place on; empty behind its end.
+fn opens_from(opens: &[bool], at: usize) -> &[bool]
+    ensures { result.now ≡ drop at opens.now }
+{
+    if at < opens.len() { &opens[at..] } else { &[] }
+}
+
 /// Takes the tokens before the first star, and for each the next byte of the device. Answers how far
 /// that led: to a star, or to the pattern's end. None where a token isn't met. No bracket is looked for
-/// from `close` on, since no `]` stands there.
-fn run(pattern: &[u8], device: &[u8], close: usize) -> Option<Place>
-    requires { NoneCloses pattern.now close }
+/// from `close` on, since no `]` stands there, nor where none was found before.
+fn run(pattern: &[u8], device: &[u8], close: usize, opens: &[bool]) -> Option<Place>
+    requires closes { NoneCloses pattern.now close }
+    requires opens { AreOpen pattern.now opens.now }
     ensures within { IfSome result (λ place. place.at ≤ length pattern.now) }
     ensures met { IfSome result (λ place. place.met ≤ length device.now) }
     ensures star { IfSome result (λ place. place.at < length pattern.now
@@ -32,7 +74,8 @@ fn run(pattern: &[u8], device: &[u8], close: usize) -> Option<Place>
         if met == device.len() {
             return None;
         }
-        let next = single_token(&pattern[at..], device[met], at < close);
+        let is_bracket = may_close(pattern, at, close, opens);
+        let next = single_token(&pattern[at..], device[met], is_bracket);
         if !next.admits {
             return None;
         }
@@ -56,21 +99,26 @@ fn last_close(pattern: &[u8]) -> usize
     close
 }
 
-/// Whether the pattern matches the whole device.
+/// Whether the pattern matches the whole device. Takes no memory, and at most as many steps as pattern and device have
+/// bytes, multiplied; for each `[` of its first 4,096 bytes that begins no closed bracket one look at what is behind it,
+/// and for one further behind a look each time.
+#[inline(never)]
 pub fn glob(pattern: &[u8], device: &[u8]) -> bool
     ensures { IsTrue result ↔ Matches (tokens pattern.now) device.now }
 {
     let close = last_close(pattern);
-    let Some(first) = run(pattern, device, close) else {
+    let Some(first) = run(pattern, device, close, &[]) else {
         return false;
     };
     if first.at == pattern.len() {
         return first.met == device.len();
     }
+    let opens = open_brackets(pattern);
     let mut at = first.at + 1;
     let mut met = first.met;
     while met <= device.len() {
-        match run(&pattern[at..], &device[met..], close.saturating_sub(at)) {
+        let (rest, left) = (&pattern[at..], &device[met..]);
+        match run(rest, left, close.saturating_sub(at), opens_from(&opens, at)) {
             None => met += 1,
             Some(next) => {
                 if at + next.at < pattern.len() {

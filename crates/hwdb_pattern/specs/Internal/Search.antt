@@ -1,11 +1,16 @@
 -- Our own words: how far a search has come, as what is left to match from a place in the pattern and
 -- in the device.
-use Rattle.std.specs.Prelude.{List, slice_index, ℕ, ◌≢◌, ◌≤◌, drop, ◌∷◌, length}
-use Rattle.hwdb_spec.specs.Patterns.{Matches, star, tokens}
+use Rattle.std.specs.Prelude.{Bool, List, None, false, true, slice_index, slice_index_or, ℕ, ◌≡◌, ◌≢◌, ◌<◌, ◌≤◌, drop, ◌∷◌, length}
+use Rattle.hwdb_spec.specs.Patterns.{Matches, bracket_at, star, tokens}
 
 -- no `]` stands from `close` on; `]` is 93
 abbrev pub NoneCloses : List ℕ → ℕ → Type 0
 NoneCloses pattern close = (k : ℕ) → close ≤ k → slice_index pattern k ≢ 93
+
+-- where the table says so, no closed bracket begins
+abbrev pub AreOpen : List ℕ → List Bool → Type 0
+AreOpen pattern opens =
+    (k : ℕ) → k < length opens → slice_index_or opens k false ≡ true → bracket_at (drop k pattern) ≡ None
 
 -- The tokens before `at` are no stars and take the first `met` bytes of the device.
 pub record Reaches (pattern device : List ℕ) (at met : ℕ) : Type 0 where

@@ -1,6 +1,7 @@
-use Rattle.std.proofs.Common.{arith, ap, length}
+use Rattle.std.proofs.Common.{arith, ap, length, ◌∙◌}
 use Rattle.std.proofs.lemmas.List.{take_rest, length-drop}
-use Rattle.hwdb_pattern.proofs.Searching.{run_step, run_refused, reaches_short, not_star_at, no_bracket_at}
+use Rattle.hwdb_pattern.proofs.Searching.{run_step, run_refused, reaches_short, not_star_at}
+use Rattle.hwdb_spec.specs.Patterns.{bracket_at}
 use Rattle.hwdb_pattern.proofs.search.run.Goals as goal
 
 pub returns-then-met-device-clause-refused : goal.returns-then-met-device-clause-refused
@@ -24,5 +25,4 @@ loop-at-preserved c = record {
 }
 
 pub single_token-next-requires-clause-no_bracket : goal.single_token-next-requires-clause-no_bracket
-single_token-next-requires-clause-no_bracket c =
-    no_bracket_at c.args.pattern.now _ c.loop-at.at c.args.close (take_rest c.args.pattern.now c.loop-at.at) c.requires
+single_token-next-requires-clause-no_bracket c = λ e. ap bracket_at (take_rest c.args.pattern.now c.loop-at.at) ∙ c.may_close-is_bracket.ensures e
