@@ -194,7 +194,7 @@ fn globs(rt: HostRuntime) {
 }
 
 /// A device, two pieces of a path and whether the path is live after each, and whether the path matches.
-const PATHS: [(&str, [(&str, bool); 2], bool); 14] = [
+const PATHS: [(&str, [(&str, bool); 2], bool); 17] = [
     ("abx", [("a[b", true), ("c]x", true)], true),
     ("abzz", [("a[b", true), ("c]x", false)], false),
     ("a", [("[ab[]", true), ("", true)], true),
@@ -209,6 +209,20 @@ const PATHS: [(&str, [(&str, bool); 2], bool); 14] = [
     ("", [("", true), ("?", false)], false),
     ("a/b", [("*", true), ("?b", true)], true),
     ("ab", [("ab", true), ("c", false)], false),
+    // Bytes are kept, and nothing follows; many bytes are kept.
+    ("a", [("a[b", true), ("", true)], false),
+    ("a[b", [("a[b", true), ("", true)], true),
+    (
+        "z",
+        [
+            (
+                "[0123456789abcdefghijklmnopqrstuvwxyzABCDEFGHIJKLMNOPQRSTUVWXYZ,;.",
+                true,
+            ),
+            ("]", true),
+        ],
+        true,
+    ),
 ];
 
 /// Whether a path is live after each of two pieces, and whether it then matches the device.

@@ -1,10 +1,10 @@
 //! Positions: the places of assignments in the order of the answers.
-ghost use Rattle.std.specs.Prelude.{◌≡◌, ◌≢◌, ◌<◌, ℕ, List, ◌∷◌, ◌++◌, length, slice_index, IfOk, IfErr, IfSome, MatchOption, string_bytes};
+ghost use Rattle.std.specs.Prelude.{◌≡◌, ◌≢◌, ◌<◌, ℕ, List, ◌∷◌, ◌++◌, length, slice_index, IfOk, IfErr, OnErr, IfSome, MatchOption, string_bytes};
 ghost use Rattle.hwdb_spec.specs.Assignment;
 ghost use Rattle.hwdb_query.specs.Internal.Hits.{parts_position};
 ghost use Rattle.hwdb_query.specs.Views.{position_value};
-ghost use Rattle.hwdb_spec.specs.Texts.{IsSpelling, canonical};
-ghost use Rattle.hwdb_query.specs.declared.errors.QueryError.TheVariants.{PageZero, BadPosition};
+ghost use Rattle.hwdb_spec.specs.Texts.{IsSpelling, HasNumbers, canonical};
+ghost use Rattle.hwdb_query.specs.declared.errors.QueryError.TheVariants.{PageZero, BadPosition, Memory};
 
 use crate::errors::QueryError;
 use crate::hit::Parts;
@@ -104,14 +104,15 @@ impl Position {
             (λ r. IfSome r (λ p. IsSpelling (position_value p) text.now)) }
         ensures refused { IfOk result
             (λ r. r ≡ None → (p : Assignment.Position) → IsSpelling p text.now → ⊥) }
+        ensures numbers { OnErr result (HasNumbers text.now) }
     {
         let Some(parts) = split_fields(text) else {
             return Ok(None);
         };
-        let Some(priority) = short_number(alloc, parts.priority)? else {
+        let Some(priority) = short_number(parts.priority) else {
             return Ok(None);
         };
-        let Some(line) = long_number(alloc, parts.line)? else {
+        let Some(line) = long_number(parts.line) else {
             return Ok(None);
         };
         let Some(pattern) = bytes_of(alloc, parts.pattern)? else {
@@ -131,12 +132,14 @@ impl Position {
     /// The position that the text spells, with hexadecimal digits in either case.
     ///
     /// [`QueryError::BadPosition`] where it spells none, as with a sign, a leading zero or a field more;
-    /// [`QueryError::Memory`] where memory is refused.
+    /// [`QueryError::Memory`] where memory is refused,
+    /// which is asked for the pattern and the key alone: behind numbers that are none it isn't.
     pub fn read(alloc: Global, text: &str) -> Result<Position, QueryError>
         ensures spelled { IfOk result (λ p. IsSpelling (position_value p) text.now) }
         ensures refused { IfErr result
             (λ e. e ≡ BadPosition → (p : Assignment.Position) → IsSpelling p text.now → ⊥) }
         ensures no_page { IfErr result (λ e. e ≢ PageZero) }
+        ensures numbers { IfErr result (λ e. e ≡ Memory → HasNumbers text.now) }
     {
         match Position::read_fields(alloc, text)? {
             Some(position) => Ok(position),

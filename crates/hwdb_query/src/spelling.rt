@@ -4,6 +4,7 @@ ghost use Rattle.std.specs.Fmt.{decimal};
 ghost use Rattle.hex.specs.Hex.{decode_of};
 
 use hex::FromHexError;
+use itoa::Buffer;
 use std::alloc::{AllocError, Global};
 
 /// What stands before and behind the first colon.
@@ -17,18 +18,18 @@ pub(crate) fn cut(text: &str) -> Option<(&str, &str)>
 }
 
 /// A number as it is printed: no sign, no leading zero.
-pub(crate) fn number(alloc: Global, text: &str) -> Result<Option<u64>, AllocError>
-    ensures printed { IfOk result (λ r. IfSome r (λ n. (text.now ≡ decimal n) × (n < 2 ^ 64))) }
-    ensures found { IfOk result (λ r. (n : ℕ) → n < 2 ^ 64 → text.now ≡ decimal n → r ≡ Some n) }
+pub(crate) fn number(text: &str) -> Option<u64>
+    ensures printed { IfSome result (λ n. (text.now ≡ decimal n) × (n < 2 ^ 64)) }
+    ensures found { (n : ℕ) → n < 2 ^ 64 → text.now ≡ decimal n → result ≡ Some n }
 {
     let Ok(n) = text.parse::<u64>() else {
-        return Ok(None);
+        return None;
     };
-    let printed = n.to_string(alloc)?;
-    if printed.as_str() == text {
-        Ok(Some(n))
+    let mut digits = Buffer::new();
+    if digits.format(n) == text {
+        Some(n)
     } else {
-        Ok(None)
+        None
     }
 }
 
@@ -46,23 +47,23 @@ pub(crate) fn bytes_of(alloc: Global, text: &str) -> Result<Option<Vec<u8>>, All
 }
 
 /// A number of 16 bits, as it is printed.
-pub(crate) fn short_number(alloc: Global, text: &str) -> Result<Option<u16>, AllocError>
-    ensures printed { IfOk result (λ r. IfSome r (λ n. (text.now ≡ decimal n) × (n < 2 ^ 16))) }
-    ensures found { IfOk result (λ r. (n : ℕ) → n < 2 ^ 16 → text.now ≡ decimal n → r ≡ Some n) }
+pub(crate) fn short_number(text: &str) -> Option<u16>
+    ensures printed { IfSome result (λ n. (text.now ≡ decimal n) × (n < 2 ^ 16)) }
+    ensures found { (n : ℕ) → n < 2 ^ 16 → text.now ≡ decimal n → result ≡ Some n }
 {
-    match number(alloc, text)? {
-        Some(n) if n <= 65535 => Ok(Some(n as u16)),
-        _ => Ok(None),
+    match number(text) {
+        Some(n) if n <= 65535 => Some(n as u16),
+        _ => None,
     }
 }
 
 /// A number of 32 bits, as it is printed.
-pub(crate) fn long_number(alloc: Global, text: &str) -> Result<Option<u32>, AllocError>
-    ensures printed { IfOk result (λ r. IfSome r (λ n. (text.now ≡ decimal n) × (n < 2 ^ 32))) }
-    ensures found { IfOk result (λ r. (n : ℕ) → n < 2 ^ 32 → text.now ≡ decimal n → r ≡ Some n) }
+pub(crate) fn long_number(text: &str) -> Option<u32>
+    ensures printed { IfSome result (λ n. (text.now ≡ decimal n) × (n < 2 ^ 32)) }
+    ensures found { (n : ℕ) → n < 2 ^ 32 → text.now ≡ decimal n → result ≡ Some n }
 {
-    match number(alloc, text)? {
-        Some(n) if n <= 4_294_967_295 => Ok(Some(n as u32)),
-        _ => Ok(None),
+    match number(text) {
+        Some(n) if n <= 4_294_967_295 => Some(n as u32),
+        _ => None,
     }
 }

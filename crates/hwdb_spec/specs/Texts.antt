@@ -24,6 +24,15 @@ pub record IsSpelling (p : Position) (bytes : List ℕ) : Type 0 where
   pub key : decode_of key_text ≡ Ok p.key
   pub text : bytes ≡ position_text p.priority p.line pattern_text key_text
 
+-- it begins with the two numbers of a position, each with its colon
+pub record HasNumbers (bytes : List ℕ) : Type 0 where
+  pub priority : ℕ
+  pub line : ℕ
+  pub rest : List ℕ
+  pub small_priority : priority < 2 ^ 16
+  pub small_line : line < 2 ^ 32
+  pub text : bytes ≡ decimal priority ++ 58 ∷ (decimal line ++ 58 ∷ rest)
+
 -- the one text that is written of a position: its hexadecimal digits stand in lower case
 abbrev pub canonical : Position → List ℕ
 canonical p = position_text p.priority p.line (encode_lower p.pattern) (encode_lower p.key)

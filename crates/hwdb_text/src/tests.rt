@@ -100,6 +100,15 @@ fn scanned(rt: HostRuntime) -> Result<(), Fail> {
     Ok(())
 }
 
+/// The path is the caller's, also where it is empty.
+#[test]
+fn empty_path(rt: HostRuntime) -> Result<(), Fail> {
+    let parsed = parse(rt.alloc(), b"", 1, b"a\n K=1\n")?;
+    assert_eq!(rt; parsed.assignments.len(), 1);
+    assert_eq!(rt; parsed.assignments[0].path.as_slice(), b"".as_slice());
+    Ok(())
+}
+
 #[test]
 fn long_match_lines(rt: HostRuntime) -> Result<(), Fail> {
     let alloc = rt.alloc();

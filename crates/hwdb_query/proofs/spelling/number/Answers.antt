@@ -10,5 +10,8 @@ returns-in_default-clause-found c = λ n small is. absurd (never_err ParseIntErr
 pub returns-then-eq-clause-found : goal.returns-then-eq-clause-found
 returns-then-eq-clause-found c = λ n small is. ap Some (read_is ParseIntError _ _ n c.in-Ok.ensures.value.0 small is)
 
-pub returns-clause-found : goal.returns-clause-found
-returns-clause-found c = λ n small is. let same = read_is ParseIntError _ _ n c.in-Ok.ensures.value.0 small is in let text_is = is ∙ ap decimal (sym same) in let printed_is : string_bytes c.in_ok-printed.printed ≡ decimal c.in-Ok.n = search rules in let same_text : c.eq.result ≡ true = c.eq.ensures ∙ texts_equal _ _ (c.as_str.ensures.value ∙ printed_is ∙ sym text_is) in absurd (true≢false (sym same_text ∙ c.if-eq.false))
+pub returns-else-eq-clause-found : goal.returns-else-eq-clause-found
+returns-else-eq-clause-found c = λ n small is.
+    let same = read_is ParseIntError _ _ n c.in-Ok.ensures.value.0 small is in
+    let same_text : c.eq.result ≡ true = c.eq.ensures ∙ texts_equal _ _ (c.format.ensures.text ∙ ap decimal same ∙ sym is) in
+    absurd (true≢false (sym same_text ∙ c.if-eq.false))
