@@ -9,3 +9,5 @@ pub mod Tree
 pub mod Format
 pub mod Written
 pub mod Texts
+pub mod Failures
+pub mod Store

@@ -15,6 +15,8 @@
 //! | `Format` | the header, a node's record, when bytes are a database of a tree, and which fault stands |
 //! | `Written` | the tight tree of a map, and its bytes |
 //! | `Texts` | each line that is printed |
+//! | `Failures` | how failed calls are counted |
+//! | `Store` | a store of files, what a crash may leave, and a database that is replaced |
 //!
 //! The types below are those that the definitions name.
 #![tactic(auto)]

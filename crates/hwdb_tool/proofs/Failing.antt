@@ -3,7 +3,7 @@ use Rattle.std.proofs.Common.{◌≡◌, ◌∙◌, ℕ, ◌+◌, ◌-◌, ◌^�
 use Rattle.std.proofs.Math.Seq.{take-add}
 use Rattle.std.proofs.KnownBytes.{Appends-trans, Consumes-trans, Consumes-all}
 use Rattle.std.specs.Io.KnownBytes.{Appends, Consumes, IsAtEnd}
-use Rattle.hwdb_tool.specs.Devices.{after_failure, HasFailed}
+use Rattle.hwdb_spec.specs.Failures.{after_failure, HasFailed}
 
 rises : (before : ℕ) (b : Bool) → (before == 2 ^ 64 - 1) ≡ b → HasFailed before (cond b before (before + 1))
 rises before true e = inr (eqb-true before (2 ^ 64 - 1) e)

@@ -12,8 +12,9 @@ use Rattle.hwdb_query.specs.declared.errors.QueryError.TheVariants as query
 use Rattle.hwdb_tool.specs.declared.errors.ToolError.{ToolError}
 use Rattle.hwdb_tool.specs.Refusals.{refusal_of_query}
 use Rattle.hwdb_tool.specs.Engines.{IsPositionRefusal, IsListRefusal, IsDatabaseRefusal}
-use Rattle.hwdb_tool.specs.Updates.{IsAskRefusal}
-use Rattle.hwdb_tool.specs.declared.errors.ToolError.TheVariants.{Write, BadDatabase, Memory}
+use Rattle.hwdb_tool.specs.Updates.{IsAskRefusal, OnUnreplaced}
+use Rattle.hwdb_store.specs.declared.replacement.Unreplaced.{Unreplaced}
+use Rattle.hwdb_tool.specs.declared.errors.ToolError.TheVariants.{Write, BadDatabase, Memory, Replace}
 use Rattle.hwdb_spec.specs.Tree.{Map}
 use Rattle.hwdb_spec.specs.Written.{IsDatabaseOf}
 
@@ -58,3 +59,9 @@ module _ {X : Type 0} where
   asked_refused bytes database m max_bytes Memory (Err e) h refusal is =
       let P : ToolError → Type 0 = λ x. (x ≢ Write) × IsAskRefusal bytes max_bytes x in subst P (sym h) (memory_is_no_write, tt)
   asked_refused bytes database m max_bytes _ (Err e) h refusal is = absurd refusal
+
+-- the database wasn't replaced
+module _ {X : Type 0} where
+  pub unreplaced_for : (P : Unreplaced → Type 0) (u : Unreplaced) (r : Result X ToolError) → IsErrAnd r (λ e. e ≡ Replace u) → P u → IfErr r (OnUnreplaced P)
+  unreplaced_for P u (Ok x) is p = tt
+  unreplaced_for P u (Err e) is p = let Q : ToolError → Type 0 = λ x. OnUnreplaced P x in subst Q (sym is) p

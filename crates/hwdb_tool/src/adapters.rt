@@ -2,7 +2,7 @@
 ghost use Rattle.std.specs.Prelude.{◌≡◌};
 ghost use Rattle.std.specs.Io.{ReadsAtMost, WritesAtMost};
 ghost use Rattle.std.specs.Io.KnownBytes.{ReadConsumes, WriteAppends};
-ghost use Rattle.hwdb_tool.specs.Devices.{after_failure};
+ghost use Rattle.hwdb_spec.specs.Failures.{after_failure};
 
 use crate::causes::Cause;
 use crate::devices::{DeviceFailed, Sink, Source};
@@ -30,7 +30,7 @@ fn read_on<R: Read>(reader: &mut R, buf: &mut [u8]) -> io::Result<usize>
 }
 
 /// Writes, and tries again where a signal came between.
-fn write_on<W: Write>(writer: &mut W, buf: &[u8]) -> io::Result<usize>
+pub fn write_on<W: Write>(writer: &mut W, buf: &[u8]) -> io::Result<usize>
     ensures bound { WritesAtMost result buf.now }
     ensures bytes { WriteAppends (W.contents writer.old) (W.contents writer.new) result buf.now }
 {

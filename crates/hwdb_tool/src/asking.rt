@@ -2,7 +2,8 @@
 ghost use Rattle.std.specs.Prelude.{◌≡◌, ◌≢◌, ◌⊎◌, ◌∷◌, [], IfOk, IfErr, OnOk, IsErrOf};
 ghost use Rattle.std.specs.Io.KnownBytes.{Appends};
 ghost use Rattle.hwdb_compile.specs.Views.{sources};
-ghost use Rattle.hwdb_tool.specs.Devices.{HasFailed, OneOfTwoFailed};
+ghost use Rattle.hwdb_spec.specs.Failures.{HasFailed};
+ghost use Rattle.hwdb_tool.specs.Devices.{OneOfTwoFailed};
 ghost use Rattle.hwdb_spec.specs.Texts.{max_file, last_values_text};
 ghost use Rattle.hwdb_tool.specs.Updates.{lone, IsAnswerOf, Asked, AskCutShort, IsAskRefusal};
 

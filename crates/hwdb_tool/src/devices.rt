@@ -1,7 +1,7 @@
 //! Where bytes come from and where they go to.
 ghost use Rattle.std.specs.Prelude.{◌≡◌, ◌<◌, ◌≤◌, ℕ, List, Option, length, IfOk};
 ghost use Rattle.std.specs.Io.KnownBytes.{Keeps, ReadConsumes, WriteAppends};
-ghost use Rattle.hwdb_tool.specs.Devices.{CountsFailures};
+ghost use Rattle.hwdb_spec.specs.Failures.{CountsFailures};
 
 use crate::causes::Cause;
 

@@ -4,7 +4,7 @@ ghost use Rattle.std.specs.Prelude.{◌≡◌, ◌≢◌, ◌⊎◌, List, IfOk,
 ghost use Rattle.std.specs.Io.KnownBytes.{Appends};
 ghost use Rattle.hwdb_spec.specs.Folders.{Source};
 ghost use Rattle.hwdb_query.specs.Views.{next_position};
-ghost use Rattle.hwdb_tool.specs.Devices.{HasFailed, OneFailed};
+ghost use Rattle.hwdb_spec.specs.Failures.{HasFailed, OneFailed};
 ghost use Rattle.hwdb_spec.specs.Texts.{query_text, last_values_text};
 ghost use Rattle.hwdb_tool.specs.Engines.{IsTextOf, Printed, CutShort, IsDatabaseRefusal, IsQueryRefusal, IsAfter, IsPositionRefusal, Listed, ListCutShort, ListedLines, IsListRefusal};
 ghost use Rattle.hwdb_spec.specs.Written.{IsCompiled};

@@ -1,11 +1,12 @@
 //! Why a call of this crate refuses.
 ghost use Rattle.std.specs.Prelude.{◌≡◌};
-ghost use Rattle.hwdb_tool.specs.declared.errors.ToolError.TheVariants.{Memory, BadDatabase};
+ghost use Rattle.hwdb_tool.specs.declared.errors.ToolError.TheVariants.{Memory, BadDatabase, Replace};
 ghost use Rattle.hwdb_tool.specs.Refusals.{refusal_of_text, refusal_of_compile, refusal_of_query};
 
 use hwdb_compile::CompileError;
 use hwdb_query::QueryError;
 use hwdb_reader::DbFault;
+use hwdb_store::Unreplaced;
 use hwdb_text::TextError;
 use std::alloc::AllocError;
 use thiserror::Error;
@@ -40,6 +41,9 @@ pub enum ToolError {
     /// Bytes are no database.
     #[error("bad database")]
     BadDatabase(DbFault),
+    /// The database wasn't replaced.
+    #[error("the database was not replaced")]
+    Replace(Unreplaced),
     /// A growth of memory was refused.
     #[error("out of memory")]
     Memory,
@@ -58,6 +62,14 @@ impl From<DbFault> for ToolError {
 
     fn from(fault: DbFault) -> ToolError {
         ToolError::BadDatabase(fault)
+    }
+}
+
+impl From<Unreplaced> for ToolError {
+    ghost from_gives = { λ unreplaced e. e ≡ Replace unreplaced };
+
+    fn from(unreplaced: Unreplaced) -> ToolError {
+        ToolError::Replace(unreplaced)
     }
 }
 

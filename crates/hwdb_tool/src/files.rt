@@ -1,18 +1,19 @@
-//! Files and folders: what is read, and the file that takes the database's place.
-ghost use Rattle.std.specs.Prelude.{◌≡◌, ◌≤◌, IfOk, vec_len};
+//! Files and folders: what is read, and the file system as a store that is updated.
+ghost use Rattle.std.specs.Prelude.{◌≡◌, ◌≤◌, [], None, IfOk, vec_len};
+ghost use Rattle.hwdb_spec.specs.Failures.{after_failure, CountsFailures};
 ghost use Rattle.hwdb_spec.specs.Texts.{max_file};
 
-use crate::adapters::FromRead;
+use crate::adapters::{FromRead, after_failure, write_on};
 use crate::causes::Cause;
 use crate::engines::MAX_BYTES;
 use crate::errors::ToolError;
 use crate::refusals::Refusal;
 use crate::transfer::read_all;
+use hwdb_store::{CallFailed, Store};
 use hwdb_text::counts;
-use itoa::Buffer;
 use std::alloc::{AllocError, Global};
 use std::fs::{self, File, Metadata, OpenFile, OpenOptions, Permissions};
-use std::io::{self, ErrorKind, Read, Write};
+use std::io::{self, ErrorKind, Read};
 use std::os::unix::fs::{FileTypeExt, MetadataExt, OpenOptionsExt, PermissionsExt};
 use std::rt::Files;
 use std::str::from_utf8;
@@ -59,6 +60,13 @@ fn text_of(alloc: Global, folder: &str, name: &[u8]) -> Result<String, Refusal> 
 pub fn joined(alloc: Global, front: &str, back: &str) -> Result<String, AllocError> {
     let mut path = String::from_str(alloc, front)?;
     path.push_str(back)?;
+    Ok(path)
+}
+
+/// The path of a name in a folder.
+pub fn path_in(alloc: Global, folder: &str, name: &str) -> Result<String, AllocError> {
+    let mut path = joined(alloc, folder, "/")?;
+    path.push_str(name)?;
     Ok(path)
 }
 
@@ -152,109 +160,168 @@ where
     }
 }
 
-/// How the name of a file begins that is to be the database: as systemd-hwdb's does.
-const PART: &str = "/.#hwdb.bin";
-
-/// How many names are tried for it.
-const MOST_PARTS: u32 = 65536;
-
 /// Who may read and write a file while it is written, and once it is the database: systemd-hwdb's modes.
 const PART_MODE: u32 = 0o600;
 
 const DATABASE_MODE: u32 = 0o444;
 
-/// A file that takes another one's place once it is whole on the disk. It stands beside that file, under a
-/// name that no other process has, from the first write on; its folder is made then.
+/// The file system as a store, a call of the library for each of its calls. It tells nothing of its contents: no
+/// contract of the library says what stands under a path.
 #[derive(Drop)]
-pub struct Replacement<'a, R: Files> {
+pub struct SystemStore<'a, R: Files> {
+    alloc: Global,
     rt: &'a R,
-    folder: &'a str,
-    target: &'a str,
-    /// Where it stands until it takes the target's place.
-    part: String,
+    /// The file that was made last.
     file: Option<R::File>,
+    /// How many calls have failed; a write that a signal interrupted is made again, and one that took nothing of
+    /// something has failed.
+    failed: u64,
+    /// Why the first of these did; or that the last name which was tried for the new file is taken.
+    pub cause: Option<Cause>,
 }
 
-impl<'a, R: Files> Replacement<'a, R>
+impl<'a, R: Files> SystemStore<'a, R>
 where
     R::File: Drop,
 {
-    /// Nothing is made yet of the file that is to stand at `target`, in `folder`.
-    pub fn new(alloc: Global, rt: &'a R, folder: &'a str, target: &'a str) -> Self {
-        Replacement {
+    /// The files that the runtime reaches.
+    pub fn new(alloc: Global, rt: &'a R) -> Self {
+        SystemStore {
+            alloc,
             rt,
-            folder,
-            target,
-            part: String::new(alloc),
             file: None,
+            failed: 0,
+            cause: None,
         }
     }
 
-    /// Makes the file, under the first name that is free.
-    fn create(&mut self) -> io::Result<R::File> {
-        fs::create_dir_all(self.rt, self.folder)?;
+    /// Makes and opens a file, its owner's alone.
+    fn open_new(&self, folder: &str, name: &str) -> io::Result<R::File> {
+        let path = path_in(self.alloc, folder, name)?;
         let mut options = OpenOptions::new();
         options.write(true).create_new(true).mode(PART_MODE);
-        for number in 0..MOST_PARTS {
-            let mut digits = Buffer::new();
-            self.part.clear();
-            self.part.push_str(self.folder)?;
-            self.part.push_str(PART)?;
-            self.part.push_str(digits.format(number))?;
-            match options.open(self.rt, self.part.as_str()) {
-                Err(error) if error.kind() == ErrorKind::AlreadyExists => {}
-                made => return made,
-            }
-        }
-        Err(io::Error::from(ErrorKind::AlreadyExists))
+        options.open(self.rt, path.as_str())
     }
 
-    /// Puts the file, of which all is written, in the target's place; after an error it is gone, and what
-    /// stood there stands. Only where the folder can't be synced in the end may a crash bring that back.
-    pub fn replace(mut self) -> io::Result<()> {
-        let Some(file) = self.file.take() else {
-            return Ok(());
-        };
-        if let Err(error) = self.settle(file) {
-            let _ = fs::remove_file(self.rt, self.part.as_str());
-            return Err(error);
-        }
-        File::open(self.rt, self.folder)?.sync_all()
+    /// Renames a file in its folder.
+    fn renamed(&self, folder: &str, from: &str, to: &str) -> io::Result<()> {
+        let from = path_in(self.alloc, folder, from)?;
+        let to = path_in(self.alloc, folder, to)?;
+        fs::rename(self.rt, from.as_str(), to.as_str())
     }
 
-    /// Has the file on the disk, and renames it.
-    fn settle(&self, file: R::File) -> io::Result<()> {
-        file.set_permissions(Permissions::from_mode(DATABASE_MODE))?;
-        file.sync_all()?;
-        fs::rename(self.rt, self.part.as_str(), self.target)
+    /// Removes a file.
+    fn removed(&self, folder: &str, name: &str) -> io::Result<()> {
+        let path = path_in(self.alloc, folder, name)?;
+        fs::remove_file(self.rt, path.as_str())
     }
 
-    /// Takes the file away again, if it was made.
-    pub fn remove(mut self) {
-        if self.file.take().is_some() {
-            let _ = fs::remove_file(self.rt, self.part.as_str());
+    /// Counts a call if it failed, and notes why the first one did.
+    fn counted<T>(&mut self, done: io::Result<T>) -> Result<T, CallFailed>
+        ensures { CountsFailures self.old.failed self.new.failed result }
+    {
+        match done {
+            Ok(value) => Ok(value),
+            Err(error) => Err(self.fail(Cause::of(&error))),
         }
+    }
+
+    /// Counts a failed call.
+    fn fail(&mut self, cause: Cause) -> CallFailed
+        ensures { self.new.failed ≡ after_failure self.old.failed }
+    {
+        if self.failed == 0 {
+            self.cause = Some(cause);
+        }
+        self.failed = after_failure(self.failed);
+        CallFailed
     }
 }
 
-impl<'a, R: Files> Write for Replacement<'a, R>
+impl<'a, R: Files> Store for SystemStore<'a, R>
 where
     R::File: Drop,
 {
-    fn write(&mut self, buf: &[u8]) -> io::Result<usize> {
-        if self.file.is_none() {
-            self.file = Some(self.create()?);
-        }
-        match &mut self.file {
-            Some(file) => file.write(buf),
-            None => Ok(0),
+    ghost tells = { ⊥ };
+
+    ghost seen = { λ _ _. None };
+
+    ghost may_leave = { λ _ _ _. ⊥ };
+
+    ghost is_whole = { λ _ _. Unit {0} };
+
+    ghost part = { λ _. [] };
+
+    ghost moment = { λ _. 0 };
+
+    ghost left_since = { λ _ _ _ _. ⊥ };
+
+    ghost failures = { λ s. s.failed };
+
+    ghost only_now = { λ s p v left. left };
+
+    fn make_folder(&mut self, folder: &str) -> Result<(), CallFailed> {
+        let made = fs::create_dir_all(self.rt, folder);
+        self.counted(made)
+    }
+
+    fn create_new(&mut self, folder: &str, name: &str) -> Result<bool, CallFailed> {
+        match self.open_new(folder, name) {
+            Err(error) if error.kind() == ErrorKind::AlreadyExists => {
+                self.cause = Some(Cause::of(&error));
+                Ok(false)
+            }
+            opened => {
+                let file = self.counted(opened)?;
+                self.file = Some(file);
+                Ok(true)
+            }
         }
     }
 
-    fn flush(&mut self) -> io::Result<()> {
-        match &mut self.file {
-            Some(file) => file.flush(),
-            None => Ok(()),
+    fn write(&mut self, buf: &[u8]) -> Result<usize, CallFailed> {
+        let written = match &mut self.file {
+            Some(file) => write_on(file, buf),
+            None => Ok(0),
+        };
+        match written {
+            Ok(n) if n > 0 || buf.is_empty() => Ok(n),
+            Ok(_) => Err(self.fail(Cause::Nothing)),
+            Err(error) => Err(self.fail(Cause::of(&error))),
         }
+    }
+
+    fn set_mode(&mut self) -> Result<(), CallFailed> {
+        let set = match &self.file {
+            Some(file) => file.set_permissions(Permissions::from_mode(DATABASE_MODE)),
+            None => Ok(()),
+        };
+        self.counted(set)
+    }
+
+    fn sync(&mut self) -> Result<(), CallFailed> {
+        let synced = match &self.file {
+            Some(file) => file.sync_all(),
+            None => Ok(()),
+        };
+        self.counted(synced)
+    }
+
+    fn rename(&mut self, folder: &str, from: &str, to: &str) -> Result<(), CallFailed> {
+        let renamed = self.renamed(folder, from, to);
+        self.counted(renamed)
+    }
+
+    fn sync_folder(&mut self, folder: &str) -> Result<(), CallFailed> {
+        let synced = match File::open(self.rt, folder) {
+            Ok(file) => file.sync_all(),
+            Err(error) => Err(error),
+        };
+        self.counted(synced)
+    }
+
+    fn remove(&mut self, folder: &str, name: &str) -> Result<(), CallFailed> {
+        let removed = self.removed(folder, name);
+        self.counted(removed)
     }
 }

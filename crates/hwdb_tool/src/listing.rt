@@ -1,7 +1,8 @@
 //! Printing the hits of a cursor, one line after another.
 ghost use Rattle.std.specs.Prelude.{◌≡◌, ◌≢◌, ◌≤◌, OnOk, IfErr, IsErrOf};
 ghost use Rattle.std.specs.Io.KnownBytes.{Appends};
-ghost use Rattle.hwdb_tool.specs.Devices.{HasFailed, OneFailed, AppendsPrefix};
+ghost use Rattle.hwdb_spec.specs.Failures.{HasFailed, OneFailed};
+ghost use Rattle.hwdb_tool.specs.Devices.{AppendsPrefix};
 ghost use Rattle.hwdb_tool.specs.Engines.{AppendsLines, IsPrintRefusal, list_page, one_less};
 ghost use Rattle.hwdb_spec.specs.Texts.{hits_text, within_limit};
 

@@ -98,7 +98,7 @@ fn refuse_plainly<E: Sink>(error: ToolError, err: &mut E) -> u8
 {
     match error {
         ToolError::Read => refuse_text(err, "hwdb: cannot read"),
-        ToolError::Write => refuse_text(err, "hwdb: cannot write"),
+        ToolError::Write | ToolError::Replace(_) => refuse_text(err, "hwdb: cannot write"),
         ToolError::TooLong => refuse_text(err, "hwdb: a file is longer than 268435456 bytes"),
         ToolError::TooManyFiles => refuse_text(err, "hwdb: more than 65535 files"),
         ToolError::TooManyLines => refuse_text(err, "hwdb: a file has more than 4294967295 lines"),

@@ -2,18 +2,17 @@
 ghost use Rattle.std.specs.Prelude.{◌≡◌, ◌≤◌, map, string_bytes};
 ghost use Rattle.hwdb_cli.specs.Refusals.{AreWrong};
 
-use crate::adapters::ToWrite;
 use crate::asking::ask;
-use crate::causes::Cause;
 use crate::devices::Sink;
 use crate::engines::{MAX_BYTES, run_list, run_query};
 use crate::errors::ToolError;
-use crate::files::{Replacement, any_bytes, database_bytes, joined, names_in, text_bytes};
+use crate::files::{SystemStore, any_bytes, database_bytes, joined, names_in, path_in, text_bytes};
 use crate::refusals::{Refusal, refuse_for, refuse_text};
 use crate::transfer::write_text;
 use crate::updating::run_update;
 use hwdb_cli::{Job, Task, WordsFault, read_words};
 use hwdb_compile::SourceFile;
+use hwdb_store::DATABASE;
 use hwdb_text::{Chosen, select};
 use std::alloc::{AllocError, Global};
 use std::rt::Files;
@@ -25,8 +24,6 @@ const USR_FILES: &str = "/usr/lib/udev/hwdb.d";
 const ETC_FOLDER: &str = "/etc/udev";
 
 const USR_FOLDER: &str = "/usr/lib/udev";
-
-const DATABASE: &str = "/hwdb.bin";
 
 /// Does what the words say, the first of which is the program's name, and answers the status: 0, or 1
 /// after a refusal, whose line goes to `err`, and where `--strict` says so. Words that the command doesn't
@@ -123,7 +120,7 @@ where
 {
     for folder in [ETC_FOLDER, USR_FOLDER] {
         let folder = joined(alloc, root, folder)?;
-        let path = joined(alloc, folder.as_str(), DATABASE)?;
+        let path = path_in(alloc, folder.as_str(), DATABASE)?;
         if let Some(bytes) = database_bytes(alloc, rt, path.as_str())? {
             return Ok(bytes);
         }
@@ -207,85 +204,23 @@ where
     let chosen = select(alloc, &etc, &usr).map_err(ToolError::from)?;
     let sources = read_chosen(rt, alloc, root, chosen)?;
     let folder = joined(alloc, root, if job.usr { USR_FOLDER } else { ETC_FOLDER })?;
-    let path = joined(alloc, folder.as_str(), DATABASE)?;
-    let status = write_database(
-        rt,
-        alloc,
-        &sources,
-        folder.as_str(),
-        path.as_str(),
-        job.strict,
-        err,
-    )?;
-    Ok(status != 0)
-}
-
-/// Writes the database of the files beside the one at the path, in a folder, and puts it in its place. Answers the
-/// status of the update.
-fn write_database<R: Files, E: Sink>(
-    rt: &R,
-    alloc: Global,
-    sources: &Sources,
-    folder: &str,
-    path: &str,
-    strict: bool,
-    err: &mut E,
-) -> Result<u8, Refusal>
-where
-    R::File: Drop,
-{
-    let mut out = ToWrite::new(Replacement::new(alloc, rt, folder, path));
+    let mut store = SystemStore::new(alloc, rt);
     let updated = run_update(
         alloc,
         &sources.etc,
         &sources.usr,
         MAX_BYTES,
-        strict,
-        &mut out,
+        job.strict,
+        folder.as_str(),
+        &mut store,
         err,
     );
     match updated {
-        Ok(status) => {
-            put_in_place(alloc, out, path)?;
-            Ok(status)
+        Ok(status) => Ok(status != 0),
+        Err(ToolError::Replace(_)) => {
+            let path = path_in(alloc, folder.as_str(), DATABASE)?;
+            Err(Refusal::write(alloc, path.as_bytes(), store.cause))
         }
-        Err(error) => Err(taken_back(alloc, out, error, path)),
-    }
-}
-
-/// Puts the new file, of which all is written, in the place of the one at the path.
-fn put_in_place<R: Files>(
-    alloc: Global,
-    out: ToWrite<Replacement<'_, R>>,
-    path: &str,
-) -> Result<(), Refusal>
-where
-    R::File: Drop,
-{
-    match out.inner.replace() {
-        Ok(()) => Ok(()),
-        Err(error) => Err(Refusal::write(alloc, path.as_bytes(), Some(Cause::of(&error)))),
-    }
-}
-
-/// Takes the new file away again, and answers the refusal: over the path where the file is what failed.
-fn taken_back<R: Files>(
-    alloc: Global,
-    out: ToWrite<Replacement<'_, R>>,
-    error: ToolError,
-    path: &str,
-) -> Refusal
-where
-    R::File: Drop,
-{
-    let ToWrite {
-        inner: new,
-        failed: _,
-        cause,
-    } = out;
-    new.remove();
-    match (error, cause) {
-        (ToolError::Write, Some(cause)) => Refusal::write(alloc, path.as_bytes(), Some(cause)),
-        (error, _) => Refusal::from(error),
+        Err(error) => Err(Refusal::from(error)),
     }
 }

@@ -9,9 +9,20 @@ use crate::asking::ask;
 use crate::errors::ToolError;
 use crate::fixed::{Endless, GivenBytes, TakenBytes};
 use crate::transfer::{read_all, write_text};
-use std::alloc::Global;
+use hwdb_store::Memory;
+use hwdb_store::memory::state_of;
+use std::alloc::{AllocError, Global};
 use std::process::Abort;
 use std::test::Fail;
+
+/// The bytes of the database in the folder `/f` of a store; none where it has none.
+fn database_in(alloc: Global, store: &Memory) -> Result<Vec<u8>, AllocError> {
+    let state = state_of(alloc, &store.steps, b"/f/hwdb.bin")?;
+    match state.now {
+        Some(file) => file.bytes.to_vec(alloc),
+        None => Ok(Vec::new(alloc)),
+    }
+}
 
 /// Asks one file, and compares what was written to `out` and to `err`.
 fn asks(

@@ -1,7 +1,8 @@
 //! Reading a whole source and writing a whole text.
 ghost use Rattle.std.specs.Prelude.{◌≡◌, ◌≢◌, ◌<◌, ◌≤◌, ℕ, List, Option, length, IfOk, IfErr, IfSome, OnOk, OnErr, vec_len, IsErrOf};
 ghost use Rattle.std.specs.Io.KnownBytes.{Appends, IsAtEnd};
-ghost use Rattle.hwdb_tool.specs.Devices.{HasFailed, OneFailed, AppendsPrefix};
+ghost use Rattle.hwdb_spec.specs.Failures.{HasFailed, OneFailed};
+ghost use Rattle.hwdb_tool.specs.Devices.{AppendsPrefix};
 ghost use Rattle.hwdb_tool.specs.Refusals.{IsReadRefusal};
 
 use crate::devices::{Sink, Source};

@@ -2,9 +2,11 @@
 use crate::engines::{MAX_BYTES, run_list, run_query};
 use crate::errors::ToolError;
 use crate::fixed::TakenBytes;
+use crate::tests::database_in;
 use crate::updating::run_update;
 use hwdb_compile::SourceFile;
 use hwdb_reader::DbFault;
+use hwdb_store::Memory;
 use std::alloc::{AllocError, Global};
 use std::process::Abort;
 use std::test::Fail;
@@ -43,7 +45,7 @@ fn add(alloc: Global, files: &mut Vec<SourceFile>, file: Text<'_>) -> Result<(),
 /// What `update` wrote: the database, the fault lines and the status.
 #[derive(Drop)]
 struct Updated {
-    database: TakenBytes<4096>,
+    database: Vec<u8>,
     faults: TakenBytes<1024>,
     status: u8,
 }
@@ -63,7 +65,7 @@ fn update_of(
             add(alloc, &mut usr, *file)?;
         }
     }
-    let mut database: TakenBytes<4096> = TakenBytes::new();
+    let mut store = Memory::new(alloc);
     let mut faults: TakenBytes<1024> = TakenBytes::new();
     let status = run_update(
         alloc,
@@ -71,9 +73,11 @@ fn update_of(
         &usr,
         max_bytes,
         strict,
-        &mut database,
+        "/f",
+        &mut store,
         &mut faults,
     )?;
+    let database = database_in(alloc, &store)?;
     Ok(Updated {
         database,
         faults,
@@ -201,7 +205,7 @@ fn answers(rt: HostRuntime) -> Result<(), Fail> {
         answered(
             &rt,
             rt.alloc(),
-            made.database.taken(),
+            made.database.as_slice(),
             device,
             listed,
             printed,
@@ -243,7 +247,7 @@ fn updates(rt: HostRuntime) -> Result<(), Fail> {
     ];
     for (file, max_bytes, strict, size, faults, status) in rows {
         let made = update_of(rt.alloc(), &[file], max_bytes, strict)?;
-        assert_eq!(rt; made.database.taken().len(), size);
+        assert_eq!(rt; made.database.as_slice().len(), size);
         assert_eq!(rt; made.faults.taken(), faults.as_bytes());
         assert_eq!(rt; made.status, status);
     }
@@ -274,7 +278,7 @@ fn resumed(rt: HostRuntime) -> Result<(), Fail> {
         let mut list: TakenBytes<256> = TakenBytes::new();
         run_list(
             rt.alloc(),
-            made.database.taken(),
+            made.database.as_slice(),
             b"ab",
             Some(after),
             limit,
@@ -312,7 +316,7 @@ fn resumed(rt: HostRuntime) -> Result<(), Fail> {
 #[test]
 fn refused(rt: HostRuntime) -> Result<(), Fail> {
     let made = update_of(rt.alloc(), &[OVERRIDES], MAX_BYTES, false)?;
-    let bytes = made.database.taken();
+    let bytes = made.database.as_slice();
     for length in 0..bytes.len() {
         let fault = if length < 80 {
             DbFault::Short
@@ -342,7 +346,7 @@ fn pages(rt: HostRuntime) -> Result<(), Fail> {
             }
         }
     }
-    let mut database: TakenBytes<8192> = TakenBytes::new();
+    let mut store = Memory::new(alloc);
     let mut faults: TakenBytes<8> = TakenBytes::new();
     let mut files = Vec::new(alloc);
     add(alloc, &mut files, etc("1.hwdb", text.as_str()))?;
@@ -352,16 +356,18 @@ fn pages(rt: HostRuntime) -> Result<(), Fail> {
         &[],
         MAX_BYTES,
         true,
-        &mut database,
+        "/f",
+        &mut store,
         &mut faults,
     )?;
+    let database = database_in(alloc, &store)?;
     for (after, limit, lines) in [
         (None, None, 65usize),
         (None, Some(64u64), 64),
         (Some("1:65:61:4b3634"), None, 1),
     ] {
         let mut list: TakenBytes<4096> = TakenBytes::new();
-        run_list(alloc, database.taken(), b"a", after, limit, &mut list)?;
+        run_list(alloc, &database, b"a", after, limit, &mut list)?;
         let mut seen = 0;
         for byte in list.taken() {
             if *byte == b'\n' {

@@ -9,10 +9,12 @@ use crate::engines::{MAX_BYTES, run_list, run_query};
 use crate::errors::ToolError;
 use crate::fixed::TakenBytes;
 use crate::running::program;
+use crate::tests::database_in;
 use crate::tests::vectors::FAULTY;
 use crate::transfer::write_text;
 use crate::updating::run_update;
 use hwdb_compile::SourceFile;
+use hwdb_store::{Memory, Unreplaced};
 use std::alloc::{AllocError, Global};
 use std::io::{self, Write};
 use std::process::Abort;
@@ -52,10 +54,10 @@ fn files_of(alloc: Global, name: &str, text: &str) -> Result<Vec<SourceFile>, Al
 /// The database of one text file.
 fn database_of(alloc: Global, text: &str) -> Result<Vec<u8>, ToolError> {
     let files = files_of(alloc, "1.hwdb", text)?;
-    let mut out: TakenBytes<1024> = TakenBytes::new();
+    let mut store = Memory::new(alloc);
     let mut err: TakenBytes<8> = TakenBytes::new();
-    run_update(alloc, &files, &[], MAX_BYTES, true, &mut out, &mut err)?;
-    Ok(out.taken().to_vec(alloc)?)
+    update(alloc, &files, true, &mut store, &mut err)?;
+    Ok(database_in(alloc, &store)?)
 }
 
 fn print(
@@ -144,95 +146,101 @@ const FAULTY_TEXT: &str = " S=1\na\n K=1\n NOEQ\n =v\nb\n\nc\n";
 const FAULT_LINES: &str =
     "/etc/udev/hwdb.d/t.hwdb:1: property where a match is expected, ignored\n/etc/udev/hwdb.d/t.hwdb:4: property without =, ignored\n/etc/udev/hwdb.d/t.hwdb:5: empty key, ignored\n/etc/udev/hwdb.d/t.hwdb:6: match line inside a record, ignored; the record ends here\n/etc/udev/hwdb.d/t.hwdb:8: record without properties, ignored\n";
 
-fn update(
+fn update<E: Sink>(
     alloc: Global,
     files: &[SourceFile],
     strict: bool,
-    out: &mut TakenBytes<256>,
-    err: &mut TakenBytes<512>,
+    store: &mut Memory,
+    err: &mut E,
 ) -> Result<u8, ToolError> {
-    run_update(alloc, files, &[], MAX_BYTES, strict, out, err)
-}
-
-/// Compares what an update left behind.
-fn left_behind(
-    rt: &impl Abort,
-    out: &TakenBytes<256>,
-    database: &[u8],
-    err: &TakenBytes<512>,
-    lines: &[u8],
-) {
-    assert_eq!(rt; err.taken(), lines);
-    assert_eq!(rt; out.taken(), database);
+    run_update(alloc, files, &[], MAX_BYTES, strict, "/f", store, err)
 }
 
 /// The database is begun only once the fault lines are whole.
 #[test]
 fn updates_cut_short(rt: HostRuntime) -> Result<(), Fail> {
-    let files = files_of(rt.alloc(), "t.hwdb", FAULTY_TEXT)?;
+    let alloc = rt.alloc();
+    let files = files_of(alloc, "t.hwdb", FAULTY_TEXT)?;
     let lines = FAULT_LINES.as_bytes();
     for room in 0..lines.len() {
-        let mut out: TakenBytes<256> = TakenBytes::new();
+        let mut store = Memory::new(alloc);
         let mut err: TakenBytes<512> = TakenBytes::new();
         err.room = room;
-        let seen = update(rt.alloc(), &files, room % 2 == 0, &mut out, &mut err);
+        let seen = update(alloc, &files, room % 2 == 0, &mut store, &mut err);
         assert_eq!(rt; seen, Err(ToolError::Write));
-        left_behind(&rt, &out, b"", &err, &lines[..room]);
-    }
-    for room in 0..FAULTY.len() {
-        let mut out: TakenBytes<256> = TakenBytes::new();
-        let mut err: TakenBytes<512> = TakenBytes::new();
-        out.room = room;
-        let seen = update(rt.alloc(), &files, room % 2 == 0, &mut out, &mut err);
-        assert_eq!(rt; seen, Err(ToolError::Write));
-        left_behind(&rt, &out, &FAULTY[..room], &err, lines);
+        assert_eq!(rt; err.taken(), &lines[..room]);
+        assert_eq!(rt; store.calls, 0);
     }
     for strict in [false, true] {
-        let mut out: TakenBytes<256> = TakenBytes::new();
+        let mut store = Memory::new(alloc);
         let mut err: TakenBytes<512> = TakenBytes::new();
-        out.room = FAULTY.len();
         err.room = lines.len();
-        let seen = update(rt.alloc(), &files, strict, &mut out, &mut err);
+        let seen = update(alloc, &files, strict, &mut store, &mut err);
         assert_eq!(rt; seen, Ok(u8::from(strict)));
-        left_behind(&rt, &out, FAULTY, &err, lines);
+        assert_eq!(rt; err.taken(), lines);
+        assert_eq!(rt; database_in(alloc, &store)?.as_slice(), FAULTY.as_slice());
+    }
+    Ok(())
+}
+
+/// Each call of the store fails in turn: the folder's, the new file's, two writes, its mode, its sync, its rename, and
+/// the folder's sync, after which the new database stands all the same.
+#[test]
+fn updates_refused(rt: HostRuntime) -> Result<(), Fail> {
+    let alloc = rt.alloc();
+    let files = files_of(alloc, "t.hwdb", FAULTY_TEXT)?;
+    for call in 0..8u64 {
+        let mut store = Memory::new(alloc);
+        let mut err: TakenBytes<512> = TakenBytes::new();
+        store.per_write = 200;
+        store.fails = [Some(call), None];
+        let seen = update(alloc, &files, true, &mut store, &mut err);
+        let (want, database) = if call == 7 {
+            (Unreplaced::Unsynced, FAULTY.as_slice())
+        } else {
+            (Unreplaced::Undone, b"".as_slice())
+        };
+        assert_eq!(rt; seen, Err(ToolError::Replace(want)));
+        assert_eq!(rt; database_in(alloc, &store)?.as_slice(), database);
+        assert_eq!(rt; err.taken(), FAULT_LINES.as_bytes());
     }
     Ok(())
 }
 
 #[test]
 fn updates_by_bytes(rt: HostRuntime) -> Result<(), Fail> {
-    let files = files_of(rt.alloc(), "t.hwdb", FAULTY_TEXT)?;
+    let alloc = rt.alloc();
+    let files = files_of(alloc, "t.hwdb", FAULTY_TEXT)?;
     let lines = FAULT_LINES.as_bytes();
     let nothing = b"".as_slice();
     let rows = [
-        (1usize, 1usize, Ok(0u8), FAULTY.as_slice(), lines),
-        (256, 0, Err(ToolError::Write), nothing, nothing),
-        (0, 512, Err(ToolError::Write), nothing, lines),
+        (1usize, Ok(0u8), FAULTY.as_slice(), lines),
+        (0, Err(ToolError::Write), nothing, nothing),
     ];
-    for (of_database, of_lines, want, database, fault_lines) in rows {
-        let mut out: TakenBytes<256> = TakenBytes::new();
+    for (of_lines, want, database, fault_lines) in rows {
+        let mut store = Memory::new(alloc);
         let mut err: TakenBytes<512> = TakenBytes::new();
-        out.per_write = of_database;
+        store.per_write = 1;
         err.per_write = of_lines;
-        let seen = update(rt.alloc(), &files, false, &mut out, &mut err);
+        let seen = update(alloc, &files, false, &mut store, &mut err);
         assert_eq!(rt; seen, want);
-        left_behind(&rt, &out, database, &err, fault_lines);
+        assert_eq!(rt; err.taken(), fault_lines);
+        assert_eq!(rt; database_in(alloc, &store)?.as_slice(), database);
     }
     Ok(())
 }
 
 #[test]
 fn updates_unflushed(rt: HostRuntime) -> Result<(), Fail> {
-    let files = files_of(rt.alloc(), "t.hwdb", FAULTY_TEXT)?;
-    for (is_database, database) in [(false, b"".as_slice()), (true, FAULTY.as_slice())] {
-        let mut out: TakenBytes<256> = TakenBytes::new();
-        let mut err: TakenBytes<512> = TakenBytes::new();
-        out.flush_fails = is_database;
-        err.flush_fails = !is_database;
-        let seen = update(rt.alloc(), &files, true, &mut out, &mut err);
-        assert_eq!(rt; seen, Err(ToolError::Write));
-        left_behind(&rt, &out, database, &err, FAULT_LINES.as_bytes());
-    }
+    let alloc = rt.alloc();
+    let files = files_of(alloc, "t.hwdb", FAULTY_TEXT)?;
+    let mut store = Memory::new(alloc);
+    let mut err: TakenBytes<512> = TakenBytes::new();
+    err.flush_fails = true;
+    let seen = update(alloc, &files, true, &mut store, &mut err);
+    assert_eq!(rt; seen, Err(ToolError::Write));
+    assert_eq!(rt; err.taken(), FAULT_LINES.as_bytes());
+    assert_eq!(rt; store.calls, 0);
     Ok(())
 }
 

@@ -1,0 +1,139 @@
+-- A store of files: what a read of each path gives, and what a crash may leave under it. The file system's calls are
+-- POSIX's; the names and modes are systemd-hwdb's. A path is a folder, a slash (byte 47) and a name.
+use Rattle.std.specs.Prelude.{◌≡◌, ◌≢◌, ◌⊎◌, ◌<◌, ◌≤◌, ℕ, Bool, true, false, List, [], ◌++◌, ◌∷◌, Option, Some, None, codes}
+use Rattle.std.specs.Fmt.{decimal}
+
+-- a file: its bytes, and who may read and write it
+pub record Stored : Type 0 where
+  pub bytes : List ℕ
+  pub mode : ℕ
+
+-- what stands under each path
+abbrev pub Contents : Type 0
+Contents = List ℕ → Option Stored
+
+-- what a crash may leave under each path
+abbrev pub Outcomes : Type 1
+Outcomes = List ℕ → Option Stored → Type 0
+
+abbrev pub path_in : (folder name : List ℕ) → List ℕ
+path_in folder name = folder ++ 47 ∷ name
+
+-- the database's name in its folder
+abbrev pub database_name : List ℕ
+database_name = codes "hwdb.bin"
+
+-- the name of the new file: this and a number
+abbrev pub part_name : ℕ → List ℕ
+part_name number = codes ".#hwdb.bin" ++ decimal number
+
+-- how many of these names are tried
+abbrev pub most_parts : ℕ
+most_parts = 65536
+
+-- its mode while it is written, and the database's, in octal digits 600 and 444
+abbrev pub part_mode : ℕ
+part_mode = 384
+
+abbrev pub database_mode : ℕ
+database_mode = 292
+
+-- the file that is to be the database
+abbrev pub database_file : List ℕ → Stored
+database_file bytes = record { bytes = bytes; mode = database_mode }
+
+-- every path has what it had
+abbrev pub Same : Contents → Contents → Type 0
+Same old new = (p : List ℕ) → new p ≡ old p
+
+-- every path but one has what it had
+abbrev pub SameBut : List ℕ → Contents → Contents → Type 0
+SameBut path old new = (p : List ℕ) → p ≢ path → new p ≡ old p
+
+-- the path has this file, and every other path what it had
+pub record Replaced (path : List ℕ) (file : Stored) (old new : Contents) : Type 0 where
+  pub there : new path ≡ Some file
+  pub others : SameBut path old new
+
+-- a new file was made under the path, empty; or something has the name already, and nothing changed
+abbrev pub Created : Bool → (path part : List ℕ) → Contents → Contents → Type 0
+Created true path part old new = (old path ≡ None) × (part ≡ path) × Replaced path record { bytes = []; mode = part_mode } old new
+Created false path part old new = (old path ≢ None) × Same old new
+
+-- a write put the bytes behind those of the file under the path
+abbrev pub Written : (path bytes : List ℕ) → Contents → Contents → Type 0
+Written path bytes old new = (f : Stored) → old path ≡ Some f → new path ≡ Some (record { bytes = f.bytes ++ bytes; mode = f.mode })
+
+-- the file under the path has another mode
+abbrev pub ModeSet : (path : List ℕ) (mode : ℕ) → Contents → Contents → Type 0
+ModeSet path mode old new = (f : Stored) → old path ≡ Some f → new path ≡ Some (record { bytes = f.bytes; mode = mode })
+
+-- the file under the path is gone
+pub record Removed (path : List ℕ) (old new : Contents) : Type 0 where
+  pub gone : new path ≡ None
+  pub others : SameBut path old new
+
+-- the one path has what the other one had, and the other one nothing
+pub record Renamed (from to : List ℕ) (old new : Contents) : Type 0 where
+  pub there : new to ≡ old from
+  pub gone : from ≢ to → new from ≡ None
+  pub others : (p : List ℕ) → p ≢ from → p ≢ to → new p ≡ old p
+
+-- a crash leaves nothing that it might not have left before
+abbrev pub NoMore : Outcomes → Outcomes → Type 0
+NoMore old new = (p : List ℕ) (v : Option Stored) → new p v → old p v
+
+-- nor under every path but one
+abbrev pub NoMoreBut : List ℕ → Outcomes → Outcomes → Type 0
+NoMoreBut path old new = (p : List ℕ) (v : Option Stored) → p ≢ path → new p v → old p v
+
+-- nor but under the path of a file that was made
+abbrev pub NoMoreCreated : Bool → (path : List ℕ) → Outcomes → Outcomes → Type 0
+NoMoreCreated true path old new = NoMoreBut path old new
+NoMoreCreated false path old new = NoMore old new
+
+-- nor after a rename, but under the second path the file that stood under the first, as it stood there if it is whole
+pub record NoMoreRenamed (from to : List ℕ) (file : Option Stored) (is_whole : Type 0) (old new : Outcomes) : Type 0 where
+  pub there : is_whole → (v : Option Stored) → new to v → old to v ⊎ (v ≡ file)
+  pub others : (p : List ℕ) (v : Option Stored) → p ≢ from → p ≢ to → new p v → old p v
+
+-- a crash leaves this under the path
+abbrev pub Always : List ℕ → Option Stored → Outcomes → Type 0
+Always path file outcomes = (v : Option Stored) → outcomes path v → v ≡ file
+
+-- Time goes on: a crash since t might have left what it might have left before, or one of these.
+pub record Elapses (before now : ℕ) (past since : ℕ → Outcomes) (more : Outcomes) : Type 0 where
+  pub later : before ≤ now
+  pub nothing_else : (t : ℕ) (p : List ℕ) (v : Option Stored) → t ≤ before → since t p v → past t p v ⊎ more p v
+
+-- A crash at any moment since old leaves what these outcomes allow.
+pub record LeavesOnly {D : Type 0} (moment : D → ℕ) (left_since : D → ℕ → Outcomes) (old new : D) (outcomes : Outcomes) : Type 0 where
+  pub each : (p : List ℕ) (v : Option Stored) → left_since new (moment old) p v → outcomes p v
+  -- for a run that began earlier
+  pub time : Elapses (moment old) (moment new) (left_since old) (left_since new) outcomes
+
+-- the names of new files below this number are taken
+abbrev pub AreTaken : (folder : List ℕ) (number : ℕ) → Contents → Type 0
+AreTaken folder number old = (k : ℕ) → k < number → old (path_in folder (part_name k)) ≢ None
+
+-- the path of the new file: its name is the first one that nothing had
+pub record IsPart (folder : List ℕ) (old : Contents) (p : List ℕ) : Type 0 where
+  pub number : ℕ
+  pub tried : number < most_parts
+  pub is : p ≡ path_in folder (part_name number)
+  pub free : old p ≡ None
+  pub first : AreTaken folder number old
+
+-- under every path but the new file's what a crash might have left before
+abbrev pub OldOrPart : (folder : List ℕ) (old : Contents) (outcomes : Outcomes) → Outcomes
+OldOrPart folder old outcomes p v = outcomes p v ⊎ IsPart folder old p
+
+-- the same, and in the database's place perhaps the new one, whole
+abbrev pub OldOrNew : (folder bytes : List ℕ) (old : Contents) (outcomes : Outcomes) → Outcomes
+OldOrNew folder bytes old outcomes p v =
+    outcomes p v ⊎ (((p ≡ path_in folder database_name) × (v ≡ Some (database_file bytes))) ⊎ IsPart folder old p)
+
+-- the database is replaced by these bytes, on the disk too
+pub record InPlace (folder bytes : List ℕ) (old new : Contents) (outcomes : Outcomes) : Type 0 where
+  pub seen : Replaced (path_in folder database_name) (database_file bytes) old new
+  pub durable : Always (path_in folder database_name) (Some (database_file bytes)) outcomes

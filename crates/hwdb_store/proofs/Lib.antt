@@ -1,0 +1,4 @@
+pub mod Making
+pub mod Moments
+pub mod Replacing
+pub mod Steps

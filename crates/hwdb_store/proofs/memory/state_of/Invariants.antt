@@ -1,0 +1,6 @@
+use Rattle.std.proofs.Common.{◌≡◌, drop}
+use Rattle.hwdb_store.specs.Memory.{lent, state_of, begin}
+use Rattle.hwdb_store.proofs.memory.state_of.Given as goal
+
+abbrev pub invariant-loop-step : goal.invariant-loop-step
+invariant-loop-step l = state_of l.path (lent l.state) (drop l.step-index l.steps) ≡ state_of l.path begin l.steps

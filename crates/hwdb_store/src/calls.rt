@@ -1,0 +1,137 @@
+//! A store of files, as an update sees it: each call may fail, and a crash may come at each moment.
+ghost use Rattle.std.specs.Prelude.{◌≡◌, ◌<◌, ◌≤◌, ℕ, List, Option, length, take, IfOk, OnOk, MatchResult};
+ghost use Rattle.hwdb_spec.specs.Failures.{CountsFailures};
+ghost use Rattle.hwdb_spec.specs.Store.{Stored, Contents, path_in, Same, SameBut, Created, Written, ModeSet, Removed, Renamed, NoMore, NoMoreBut, NoMoreCreated, NoMoreRenamed, Always, Elapses};
+
+use std::alloc::AllocError;
+
+/// A call of a store that failed, for whatever reason.
+#[derive(Clone, Copy, Debug)]
+pub struct CallFailed;
+
+impl From<AllocError> for CallFailed {
+    fn from(_: AllocError) -> CallFailed {
+        CallFailed
+    }
+}
+
+/// Files in folders, by POSIX's calls. The file that was made last is the one that is written.
+///
+/// A store in memory tells its contents. The file system doesn't: no contract of std says what stands under a path.
+pub trait Store {
+    /// Whether the store tells its contents.
+    ghost tells: { Type 0 };
+    /// What a read of each path gives.
+    ghost seen: { Self → Contents };
+    /// What a crash at this moment may leave under a path.
+    ghost may_leave: { Self → List ℕ → Option Stored → Type 0 };
+    /// The file that stands under a path is on the disk, its bytes and its mode; its name may not be.
+    ghost is_whole: { Self → List ℕ → Type 0 };
+    /// The path of the file that was made last: what is written goes there.
+    ghost part: { Self → List ℕ };
+    /// The moment, as a number that doesn't fall.
+    ghost moment: { Self → ℕ };
+    /// What a crash at some moment from that one on might have left, during a call or between two.
+    ghost left_since: { Self → ℕ → List ℕ → Option Stored → Type 0 };
+    /// How many calls have failed so far, which stays at the greatest `u64`.
+    ghost failures: { Self → ℕ };
+
+    /// Makes a folder, and those above it, where they aren't there. No file changes.
+    fn make_folder(&mut self, folder: &str) -> Result<(), CallFailed>
+        ensures seen { tells → Same (seen self.old) (seen self.new) }
+        ensures crash { NoMore (may_leave self.old) (may_leave self.new) }
+        ensures time { Elapses (moment self.old) (moment self.new)
+            (left_since self.old) (left_since self.new) (may_leave self.new) }
+        ensures cause { CountsFailures (failures self.old) (failures self.new) result };
+
+    /// Makes a new file with this name, unless something has it, and returns whether it did. The file is empty, and its
+    /// owner's alone.
+    fn create_new(&mut self, folder: &str, name: &str) -> Result<bool, CallFailed>
+        ensures seen { tells → MatchResult result
+            (λ made. Created made (path_in folder.now name.now) (part self.new)
+            (seen self.old) (seen self.new)) (λ _. Same (seen self.old) (seen self.new)) }
+        ensures crash { MatchResult result
+            (λ made. NoMoreCreated made (path_in folder.now name.now)
+            (may_leave self.old) (may_leave self.new))
+            (λ _. NoMore (may_leave self.old) (may_leave self.new)) }
+        ensures time { Elapses (moment self.old) (moment self.new)
+            (left_since self.old) (left_since self.new) (may_leave self.new) }
+        ensures cause { CountsFailures (failures self.old) (failures self.new) result };
+
+    /// Adds bytes from the front of `buf` to the file that was made last, and returns how many. Adding none of something has failed.
+    fn write(&mut self, buf: &[u8]) -> Result<usize, CallFailed>
+        ensures bound { IfOk result (λ n. n ≤ length buf.now) }
+        ensures progress { IfOk result (λ n. 0 < length buf.now → 0 < n) }
+        ensures written { tells → IfOk result
+            (λ n. Written (part self.old) (take n buf.now) (seen self.old) (seen self.new)) }
+        ensures others { tells → SameBut (part self.old) (seen self.old) (seen self.new) }
+        ensures part { part self.new ≡ part self.old }
+        ensures crash { NoMoreBut (part self.old) (may_leave self.old) (may_leave self.new) }
+        ensures time { Elapses (moment self.old) (moment self.new)
+            (left_since self.old) (left_since self.new) (may_leave self.new) }
+        ensures cause { CountsFailures (failures self.old) (failures self.new) result };
+
+    /// Gives the file that was made last the database's mode: everybody may read it.
+    fn set_mode(&mut self) -> Result<(), CallFailed>
+        ensures set { tells → OnOk result
+            (ModeSet (part self.old) 292 (seen self.old) (seen self.new)) }
+        ensures others { tells → SameBut (part self.old) (seen self.old) (seen self.new) }
+        ensures part { part self.new ≡ part self.old }
+        ensures crash { NoMoreBut (part self.old) (may_leave self.old) (may_leave self.new) }
+        ensures time { Elapses (moment self.old) (moment self.new)
+            (left_since self.old) (left_since self.new) (may_leave self.new) }
+        ensures cause { CountsFailures (failures self.old) (failures self.new) result };
+
+    /// Has the file that was made last on the disk, its bytes and its mode.
+    fn sync(&mut self) -> Result<(), CallFailed>
+        ensures whole { OnOk result (is_whole self.new (part self.old)) }
+        ensures seen { tells → Same (seen self.old) (seen self.new) }
+        ensures part { part self.new ≡ part self.old }
+        ensures crash { NoMore (may_leave self.old) (may_leave self.new) }
+        ensures time { Elapses (moment self.old) (moment self.new)
+            (left_since self.old) (left_since self.new) (may_leave self.new) }
+        ensures cause { CountsFailures (failures self.old) (failures self.new) result };
+
+    /// Gives a file another name in its folder, whatever has that.
+    fn rename(&mut self, folder: &str, from: &str, to: &str) -> Result<(), CallFailed>
+        ensures seen { tells → MatchResult result
+            (λ _. Renamed (path_in folder.now from.now) (path_in folder.now to.now)
+            (seen self.old) (seen self.new)) (λ _. Same (seen self.old) (seen self.new)) }
+        ensures whole { OnOk result (is_whole self.old (path_in folder.now from.now)
+            → is_whole self.new (path_in folder.now to.now)) }
+        ensures crash { MatchResult result
+            (λ _. NoMoreRenamed (path_in folder.now from.now) (path_in folder.now to.now)
+            (seen self.old (path_in folder.now from.now))
+            (is_whole self.old (path_in folder.now from.now))
+            (may_leave self.old) (may_leave self.new))
+            (λ _. NoMore (may_leave self.old) (may_leave self.new)) }
+        ensures time { Elapses (moment self.old) (moment self.new)
+            (left_since self.old) (left_since self.new) (may_leave self.new) }
+        ensures cause { CountsFailures (failures self.old) (failures self.new) result };
+
+    /// Has the names in a folder on the disk: what stands under them, and is whole there, a crash leaves.
+    fn sync_folder(&mut self, folder: &str) -> Result<(), CallFailed>
+        ensures durable { OnOk result ((name : List ℕ) → is_whole self.old (path_in folder.now name)
+            → Always (path_in folder.now name) (seen self.old (path_in folder.now name))
+            (may_leave self.new)) }
+        ensures seen { tells → Same (seen self.old) (seen self.new) }
+        ensures crash { NoMore (may_leave self.old) (may_leave self.new) }
+        ensures time { Elapses (moment self.old) (moment self.new)
+            (left_since self.old) (left_since self.new) (may_leave self.new) }
+        ensures cause { CountsFailures (failures self.old) (failures self.new) result };
+
+    /// Takes a file away.
+    fn remove(&mut self, folder: &str, name: &str) -> Result<(), CallFailed>
+        ensures seen { tells → MatchResult result
+            (λ _. Removed (path_in folder.now name.now) (seen self.old) (seen self.new))
+            (λ _. Same (seen self.old) (seen self.new)) }
+        ensures crash { NoMoreBut (path_in folder.now name.now)
+            (may_leave self.old) (may_leave self.new) }
+        ensures time { Elapses (moment self.old) (moment self.new)
+            (left_since self.old) (left_since self.new) (may_leave self.new) }
+        ensures cause { CountsFailures (failures self.old) (failures self.new) result };
+
+    /// At this moment a crash leaves what it may leave now.
+    ghost only_now: { (store : Self) (p : List ℕ) (v : Option Stored)
+        → left_since store (moment store) p v → may_leave store p v };
+}

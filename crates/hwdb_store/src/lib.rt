@@ -1,0 +1,15 @@
+//! The database's place: a file is replaced whole, whatever call fails and whenever a crash comes.
+//!
+//! A [`calls::Store`] is what the program asks of a file system, call by call; it says what a read gives and what a
+//! crash at each moment may leave. [`replacement`] puts a new file in the database's place by these calls.
+#![tactic(auto)]
+
+pub mod calls;
+pub mod memory;
+pub mod replacement;
+#[cfg(test)]
+mod tests;
+
+pub use calls::{CallFailed, Store};
+pub use memory::{File, Memory, State, Step};
+pub use replacement::{DATABASE, Unreplaced, replace};
