@@ -10,6 +10,7 @@
 //! | `Records` | what a file assigns, and its faults |
 //! | `Folders` | which files of two folders count, and what they assign together |
 //! | `Patterns` | brackets, tokens, and what matches |
+//! | `Last` | which assignments are the last ones, in words |
 //! | `Answers` | the last assignments, those that match, those after a position, and the effective list |
 //! | `Tree` | nodes, the map that they stand for, their answers, and live nodes |
 //! | `Format` | the header, a node's record, when bytes are a database of a tree, and which fault stands |
