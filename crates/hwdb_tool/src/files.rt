@@ -171,7 +171,8 @@ const DATABASE_MODE: u32 = 0o444;
 pub struct SystemStore<'a, R: Files> {
     alloc: Global,
     rt: &'a R,
-    /// The file that was made last.
+    /// The path that was spelled last, and the file that was made last.
+    path: String,
     file: Option<R::File>,
     /// How many calls have failed; a write that a signal interrupted is made again, and one that took nothing of
     /// something has failed.
@@ -189,31 +190,49 @@ where
         SystemStore {
             alloc,
             rt,
+            path: String::new(alloc),
             file: None,
             failed: 0,
             cause: None,
         }
     }
 
+    /// Spells the path of a name in a folder. For a name that was spelled before it takes no memory.
+    fn spell(&mut self, folder: &str, name: &str) -> Result<(), AllocError>
+        ensures { self.new.failed ≡ self.old.failed }
+    {
+        self.path.clear();
+        self.path.push_str(folder)?;
+        self.path.push_str("/")?;
+        self.path.push_str(name)?;
+        Ok(())
+    }
+
     /// Makes and opens a file, its owner's alone.
-    fn open_new(&self, folder: &str, name: &str) -> io::Result<R::File> {
-        let path = path_in(self.alloc, folder, name)?;
+    fn open_new(&mut self, folder: &str, name: &str) -> io::Result<R::File>
+        ensures { self.new.failed ≡ self.old.failed }
+    {
+        self.spell(folder, name)?;
         let mut options = OpenOptions::new();
         options.write(true).create_new(true).mode(PART_MODE);
-        options.open(self.rt, path.as_str())
+        options.open(self.rt, self.path.as_str())
     }
 
     /// Renames a file in its folder.
-    fn renamed(&self, folder: &str, from: &str, to: &str) -> io::Result<()> {
-        let from = path_in(self.alloc, folder, from)?;
+    fn renamed(&mut self, folder: &str, from: &str, to: &str) -> io::Result<()>
+        ensures { self.new.failed ≡ self.old.failed }
+    {
         let to = path_in(self.alloc, folder, to)?;
-        fs::rename(self.rt, from.as_str(), to.as_str())
+        self.spell(folder, from)?;
+        fs::rename(self.rt, self.path.as_str(), to.as_str())
     }
 
     /// Removes a file.
-    fn removed(&self, folder: &str, name: &str) -> io::Result<()> {
-        let path = path_in(self.alloc, folder, name)?;
-        fs::remove_file(self.rt, path.as_str())
+    fn removed(&mut self, folder: &str, name: &str) -> io::Result<()>
+        ensures { self.new.failed ≡ self.old.failed }
+    {
+        self.spell(folder, name)?;
+        fs::remove_file(self.rt, self.path.as_str())
     }
 
     /// Counts a call if it failed, and notes why the first one did.

@@ -54,7 +54,7 @@ where
             let _ = write_text(err, text.as_bytes());
             1
         }
-        Err(WordsFault::Memory) => refuse_text(err, "hwdb: out of memory"),
+        Err(WordsFault::Memory) => refuse_text(err, "out of memory"),
     }
 }
 

@@ -1,0 +1,9 @@
+use Rattle.std.proofs.Common.{ap, sym}
+use Rattle.hwdb_tool.specs.Refusals.{refusal_line, error_text}
+use Rattle.hwdb_tool.specs.declared.errors.ToolError.{ToolError}
+use Rattle.hwdb_tool.proofs.Lines.{refused_as}
+use Rattle.hwdb_tool.proofs.refusals.refuse_plainly.Goals as goal
+
+pub returns-in-BadDatabase-clause-line : goal.returns-in-BadDatabase-clause-line
+returns-in-BadDatabase-clause-line g c =
+    refused_as _ _ _ _ _ _ (ap (λ (e : ToolError). refusal_line (error_text e)) (sym c.in-BadDatabase.is)) c.refuse_database.ensures.line
