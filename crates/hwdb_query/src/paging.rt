@@ -156,6 +156,10 @@ impl<'a, 'd> Cursor<'a, 'd> {
         ensures step { OnOk result (self.new ≡ after_next self.old) }
         ensures same { OnErr result (self.new ≡ self.old) }
         ensures no_memory { ((0 < self.old.held) ⊎ (self.old.ended ≡ true)) → IsOk result }
+        ensures filled { IfOk result
+            (λ r. IsSome r → self.old.held ≡ 0
+            → self.new.held + 1 ≡ min self.old.page (length self.old.to_come)) }
+        ensures end { IfOk result (λ r. r ≡ None → (self.new.held ≡ 0) × (self.new.ended ≡ true)) }
     {
         if let Some(hit) = self.take() {
             return Ok(Some(hit));
