@@ -1,5 +1,6 @@
 # `make` builds out/hwdb (and proves it on the way), `make demo` runs it on a file of our own,
 # `make check` is the whole gate, `make check-peer` compares with Debian's own files, `make bench` measures on them.
+# `make lib` builds the C library, out/libhwdb.so.0 and out/libhwdb.a.
 # `make install` and `make uninstall` go by the folders below, `make deb` makes a Debian package in out/, `make dist` an
 # archive of the sources, and `make check-package` tries all but the last; it installs what it needs with apt-get.
 VERSION := $(shell cat VERSION)
@@ -12,17 +13,38 @@ BASHDIR ?= $(PREFIX)/share/bash-completion/completions
 ZSHDIR ?= $(PREFIX)/share/zsh/site-functions
 FISHDIR ?= $(PREFIX)/share/fish/vendor_completions.d
 UNITDIR ?= $(PREFIX)/lib/systemd/system
+LIBDIR ?= $(PREFIX)/lib
+INCLUDEDIR ?= $(PREFIX)/include
 # `yes` also installs the program under the name systemd-hwdb, as a link.
 SYSTEMD_HWDB ?= no
 # What is installed and tested: the program that `make` built, or another one.
 PROGRAM ?= out/hwdb
+# The library that is installed, libhwdb.a beside it; none where this is empty.
+LIBRARY ?= out/libhwdb.so.0
+# What the library's C is compiled with.
+CC ?= cc
+CFLAGS ?= -O2
 
-.PHONY: all demo check check-peer check-package bench install uninstall deb dist clean
+.PHONY: all lib demo check check-peer check-package bench install uninstall deb dist clean
 
 all:
 	cd crates/hwdb && rt run -- ask /dev/null none
 	mkdir -p out
 	cp crates/hwdb/out/hwdb out/hwdb
+
+# The proved calls and c/hwdb.c as one object in which only the names of c/hwdb.map are left for others.
+lib:
+	cd crates/hwdb_c && rt lib
+	mkdir -p out
+	$(CC) -std=c11 -Wall -Wextra -Werror $(CFLAGS) -fPIC -c -o out/hwdb.o c/hwdb.c
+	ld -r -o out/libhwdb.o out/hwdb.o --whole-archive crates/hwdb_c/out/libhwdb_c.a --no-whole-archive \
+		"$$(dirname "$$(rt doc)")/c/liblibc_c.a"
+	objcopy --wildcard --keep-global-symbol='sd_hwdb_*' out/libhwdb.o
+	rm -f out/libhwdb.a
+	ar rcsD out/libhwdb.a out/libhwdb.o
+	$(CC) -shared -Wl,-soname,libhwdb.so.0 -Wl,--version-script=c/hwdb.map -Wl,-z,relro -Wl,-z,now \
+		-Wl,-z,noexecstack -Wl,--no-undefined -o out/libhwdb.so.0 out/libhwdb.o
+	rm -f out/hwdb.o out/libhwdb.o
 
 demo: all
 	out/hwdb ask examples/workshop.hwdb usb:v1209p0007d0101
@@ -33,8 +55,10 @@ check:
 	tests/definitions
 	tests/refused
 	$(MAKE) all
+	$(MAKE) lib
 	tests/words out/hwdb
 	tests/installed out/hwdb
+	tests/library out/hwdb
 	tests/readme out/hwdb
 	tests/runs out/hwdb
 	tests/crash out/hwdb
@@ -57,7 +81,10 @@ bench: all
 out/hwdb:
 	$(MAKE) all
 
-install: $(PROGRAM)
+out/libhwdb.so.0:
+	$(MAKE) lib
+
+install: $(PROGRAM) $(LIBRARY)
 	install -D -m 755 '$(PROGRAM)' '$(DESTDIR)$(BINDIR)/hwdb'
 	install -D -m 644 man/hwdb.8 '$(DESTDIR)$(MANDIR)/man8/hwdb.8'
 	install -D -m 644 man/hwdb-format.7 '$(DESTDIR)$(MANDIR)/man7/hwdb-format.7'
@@ -70,18 +97,31 @@ install: $(PROGRAM)
 	install -d '$(DESTDIR)$(UNITDIR)'
 	sed 's|@bindir@|$(BINDIR)|' packaging/hwdb-update.service.in >'$(DESTDIR)$(UNITDIR)/hwdb-update.service'
 	chmod 644 '$(DESTDIR)$(UNITDIR)/hwdb-update.service'
+ifneq ($(LIBRARY),)
+	install -D -m 644 '$(LIBRARY)' '$(DESTDIR)$(LIBDIR)/libhwdb.so.0'
+	ln -sf libhwdb.so.0 '$(DESTDIR)$(LIBDIR)/libhwdb.so'
+	install -m 644 '$(dir $(LIBRARY))libhwdb.a' '$(DESTDIR)$(LIBDIR)/libhwdb.a'
+	install -D -m 644 c/hwdb.h '$(DESTDIR)$(INCLUDEDIR)/hwdb.h'
+	install -d '$(DESTDIR)$(LIBDIR)/pkgconfig'
+	sed 's|@libdir@|$(LIBDIR)|; s|@includedir@|$(INCLUDEDIR)|; s|@version@|$(VERSION)|' c/hwdb.pc.in \
+		>'$(DESTDIR)$(LIBDIR)/pkgconfig/hwdb.pc'
+	chmod 644 '$(DESTDIR)$(LIBDIR)/pkgconfig/hwdb.pc'
+endif
 ifeq ($(SYSTEMD_HWDB),yes)
 	ln -sf hwdb '$(DESTDIR)$(BINDIR)/systemd-hwdb'
 endif
 
-# Takes away what `make install` put there, with its own folder, and leaves folders that others use too. A systemd-hwdb
-# that isn't the link to ours stays.
+# Takes away what `make install` put there, with its own folder, and leaves folders that others use too. A systemd-hwdb or
+# libhwdb.so that isn't the link to ours stays.
 uninstall:
 	rm -f '$(DESTDIR)$(BINDIR)/hwdb'
 	rm -f '$(DESTDIR)$(MANDIR)/man8/hwdb.8' '$(DESTDIR)$(MANDIR)/man7/hwdb-format.7'
 	rm -f '$(DESTDIR)$(BASHDIR)/hwdb' '$(DESTDIR)$(ZSHDIR)/_hwdb' '$(DESTDIR)$(FISHDIR)/hwdb.fish'
 	rm -f '$(DESTDIR)$(DOCDIR)/README.md' '$(DESTDIR)$(DOCDIR)/CHANGELOG.md' '$(DESTDIR)$(DOCDIR)/LICENSE'
 	rm -f '$(DESTDIR)$(UNITDIR)/hwdb-update.service'
+	rm -f '$(DESTDIR)$(LIBDIR)/libhwdb.so.0' '$(DESTDIR)$(LIBDIR)/libhwdb.a' '$(DESTDIR)$(INCLUDEDIR)/hwdb.h'
+	rm -f '$(DESTDIR)$(LIBDIR)/pkgconfig/hwdb.pc'
+	[ "$$(readlink '$(DESTDIR)$(LIBDIR)/libhwdb.so')" != libhwdb.so.0 ] || rm '$(DESTDIR)$(LIBDIR)/libhwdb.so'
 	[ ! -d '$(DESTDIR)$(DOCDIR)' ] || rmdir --ignore-fail-on-non-empty '$(DESTDIR)$(DOCDIR)'
 	[ "$$(readlink '$(DESTDIR)$(BINDIR)/systemd-hwdb')" != hwdb ] || rm '$(DESTDIR)$(BINDIR)/systemd-hwdb'
 

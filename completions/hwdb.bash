@@ -33,14 +33,16 @@ _hwdb() {
     # One that ends in .. may be given again and again.
     local -A arguments=(
         [update]=''
-        [query]='MODALIAS'
+        [query]='MODALIAS..'
+        [explain]='MODALIAS'
         [ask]='FILE MODALIAS'
         [list]='MODALIAS'
     )
     local -A options=(
-        [hwdb]='--usr -s --strict -r --root -h --help'
+        [hwdb]='--usr -s --strict -r --root -h --help -V --version'
         [update]='--usr -s --strict -r --root -h --help'
         [query]='--usr -s --strict -r --root -h --help'
+        [explain]='--usr -s --strict -r --root -h --help'
         [ask]='--usr -s --strict -r --root -h --help'
         [list]='--usr -s --strict -r --root --after --limit -h --help'
     )

@@ -55,7 +55,8 @@ end
 
 complete -c hwdb -f
 complete -c hwdb -n __hwdb_none -a update -d 'Compiles the text files of /etc/udev/hwdb.d and /usr/lib/udev/hwdb.d into /etc/udev/hwdb.bin'
-complete -c hwdb -n __hwdb_none -a query -d 'Prints the properties that the database gives a device, as KEY=VALUE lines'
+complete -c hwdb -n __hwdb_none -a query -d 'Prints the properties that the database gives each device, as KEY=VALUE lines'
+complete -c hwdb -n __hwdb_none -a explain -d 'Prints the properties that the database gives a device, and where each comes from'
 complete -c hwdb -n __hwdb_none -a ask -d 'Prints the properties that one text file gives a device, as KEY=VALUE lines'
 complete -c hwdb -n __hwdb_none -a list -d 'Prints each assignment of the database that matches a device, with its position'
 
@@ -63,10 +64,12 @@ complete -c hwdb -l usr -d 'With update: write /usr/lib/udev/hwdb.bin'
 complete -c hwdb -s s -l strict -d 'With update: end with status 1 if a line had a fault'
 complete -c hwdb -s r -l root -x -a '(__fish_complete_directories)' -d 'Put PATH in front of the paths of folders and databases'
 complete -c hwdb -s h -l help -d 'Print help'
+complete -c hwdb -n __hwdb_none -s V -l version -d 'Print version'
 complete -c hwdb -n '__hwdb_at list' -l after -x -d 'Print only what stands after this position, as list prints it'
 complete -c hwdb -n '__hwdb_at list' -l limit -x -d 'Print at most N lines; 0 prints nothing'
 
-complete -c hwdb -n '__hwdb_at query 1' -a '(__hwdb_modalias)' -d MODALIAS
+complete -c hwdb -n '__hwdb_at query' -a '(__hwdb_modalias)' -d MODALIAS
+complete -c hwdb -n '__hwdb_at explain 1' -a '(__hwdb_modalias)' -d MODALIAS
 complete -c hwdb -n '__hwdb_at ask 1' -k -a '(__hwdb_file)' -d FILE
 complete -c hwdb -n '__hwdb_at ask 2' -a '(__hwdb_modalias)' -d MODALIAS
 complete -c hwdb -n '__hwdb_at list 1' -a '(__hwdb_modalias)' -d MODALIAS

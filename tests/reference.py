@@ -492,6 +492,24 @@ def properties_text(assignments, device):
     return b"".join(b"%s=%s\n" % pair for pair in effective(assignments, device))
 
 
+def origin_line(a):
+    return b"    %s:%d  %s\n" % (a.path, a.line, a.pattern)
+
+
+def explained_text(assignments, device):
+    """What `explain` prints: for each key its last answer, and then the others, from the last to the first."""
+    found = {}
+    for a in answers(assignments, device):
+        found.setdefault(a.key, []).append(a)
+    text = b""
+    for key in sorted(found):
+        begins = b""
+        for a in reversed(found[key]):
+            text += begins + b"%s=%s\n" % (key, a.value) + origin_line(a)
+            begins = b"  overrides "
+    return text
+
+
 def list_line(a):
     return b"%s\t%s\t%s=%s\n" % (position_text(position_of(a)), a.pattern, a.key, a.value)
 

@@ -1,11 +1,11 @@
 -- What the matches of a command line ask for.
-use Rattle.std.specs.Prelude.{Bool, List, codes, false, Some, ◌≡◌, None, Option, Ok, ℕ, option_map, string_bytes, ◌||◌, is_some, true, ◌<◌, ◌^◌, IfSome, ◌⊎◌}
+use Rattle.std.specs.Prelude.{Bool, List, codes, false, Some, ◌≡◌, None, Option, Ok, ℕ, option_map, string_bytes, map, ◌||◌, is_some, true, ◌<◌, ◌^◌, IfSome, ◌⊎◌}
 use Rattle.std.specs.Str.{bytes_eq}
-use Rattle.std.specs.Option.{option_map_or}
+use Rattle.std.specs.Option.{option_map_or, option_or}
 use Rattle.std.specs.declared.num.ParseIntError.{ParseIntError}
 use Rattle.std.specs.Str.Parse.{ParsesUnsigned, IsNumeral, digits_value, without_leading_plus}
-use Rattle.clap.specs.Walk.{Row, Text, first_of, one_of}
-use Rattle.hwdb_cli.specs.declared.job.Task.TheVariants.{Ask, List as ListHits, Query, Update}
+use Rattle.clap.specs.Walk.{Row, Text, all_of, first_of, one_of}
+use Rattle.hwdb_cli.specs.declared.job.Task.TheVariants.{Ask, Explain, List as ListHits, Query, Update}
 use Rattle.hwdb_cli.specs.declared.job.Task.{Task}
 use Rattle.hwdb_cli.specs.declared.job.Job.{Job}
 
@@ -17,9 +17,9 @@ has_flag id rows = option_map_or (λ t. bytes_eq t (codes "true")) (first_of id 
 abbrev pub IsValue : Text → List Row → Text → Type 0
 IsValue id rows text = Some text ≡ first_of id rows
 
-abbrev pub or_else : {X : Type 0} → Option X → Option X → Option X
-or_else (Some x) other = Some x
-or_else None other = other
+-- the texts are the argument's values, in the order in which they stand
+abbrev pub AreValues : Text → List Row → List Text → Type 0
+AreValues id rows texts = Some texts ≡ all_of id rows
 
 -- the limit is the number that the text writes, and there is none where there is no text
 abbrev pub IsLimit : Option Text → Option ℕ → Type 0
@@ -29,7 +29,8 @@ IsLimit (Some text) (Some n) = ParsesUnsigned {E = ParseIntError} 64 10 text (Ok
 
 abbrev pub IsTask : Text → List Row → Task → Type 0
 IsTask name inner Update = name ≡ codes "update"
-IsTask name inner (Query device) = (name ≡ codes "query") × IsValue (codes "MODALIAS") inner (string_bytes device)
+IsTask name inner (Query devices) = (name ≡ codes "query") × AreValues (codes "MODALIAS") inner (map string_bytes devices.items)
+IsTask name inner (Explain device) = (name ≡ codes "explain") × IsValue (codes "MODALIAS") inner (string_bytes device)
 IsTask name inner (Ask file device) = (name ≡ codes "ask") × IsValue (codes "FILE") inner (string_bytes file) × IsValue (codes "MODALIAS") inner (string_bytes device)
 IsTask name inner (ListHits after limit device) = (name ≡ codes "list") × (option_map string_bytes after ≡ first_of (codes "after") inner)
     × IsLimit (one_of (codes "limit") inner) limit × IsValue (codes "MODALIAS") inner (string_bytes device)
@@ -37,7 +38,7 @@ IsTask name inner (ListHits after limit device) = (name ≡ codes "list") × (op
 pub record IsJob (top : List Row) (name : Text) (inner : List Row) (job : Job) : Type 0 where
   pub usr : job.usr ≡ (has_flag (codes "usr") inner || has_flag (codes "usr") top)
   pub strict : job.strict ≡ (has_flag (codes "strict") inner || has_flag (codes "strict") top)
-  pub root : option_map string_bytes job.root ≡ or_else (first_of (codes "root") inner) (first_of (codes "root") top)
+  pub root : option_map string_bytes job.root ≡ option_or (first_of (codes "root") inner) (first_of (codes "root") top)
   pub task : IsTask name inner job.task
 
 -- the job of a command's own matches and of its subcommand's
@@ -54,9 +55,10 @@ HasValue id rows = is_some (first_of id rows) ≡ true
 abbrev pub IsNumber : Text → Type 0
 IsNumber text = IsNumeral 10 (without_leading_plus text) × (digits_value 10 (without_leading_plus text) < 2 ^ 64)
 
--- it is one of the four commands, with each argument that this command needs
+-- it is one of the five commands, with each argument that this command needs
 abbrev pub IsCommand : Text → List Row → Type 0
 IsCommand name inner = (name ≡ codes "update")
     ⊎ (((name ≡ codes "query") × HasValue (codes "MODALIAS") inner)
+    ⊎ (((name ≡ codes "explain") × HasValue (codes "MODALIAS") inner)
     ⊎ (((name ≡ codes "ask") × HasValue (codes "FILE") inner × HasValue (codes "MODALIAS") inner)
-    ⊎ ((name ≡ codes "list") × HasValue (codes "MODALIAS") inner × IfSome (one_of (codes "limit") inner) IsNumber)))
+    ⊎ ((name ≡ codes "list") × HasValue (codes "MODALIAS") inner × IfSome (one_of (codes "limit") inner) IsNumber))))

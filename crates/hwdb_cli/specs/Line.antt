@@ -1,7 +1,7 @@
--- The command line of hwdb, as the command that `clap` is given: systemd-hwdb(8), with `ask` and `list` of our own.
+-- The command line of hwdb, as the command that `clap` is given: systemd-hwdb(8), with `explain`, `ask` and `list` of our own.
 use Rattle.std.specs.Prelude.{Some, codes, true}
 use Rattle.clap.specs.Walk.{Rule}
-use Rattle.clap.specs.declared.builder.action.ArgAction.TheVariants.{SetTrue, Set}
+use Rattle.clap.specs.declared.builder.action.ArgAction.TheVariants.{SetTrue, Set, Append}
 use Rattle.clap.specs.Simple.{new_rule, App, with_rule, new_app, Shape, on_top, with_subcommand}
 use Rattle.clap.specs.declared.builder.value_parser.ValueParser.TheVariants as vp
 
@@ -16,6 +16,10 @@ root_rule = record (new_rule (codes "root")) { value_names = 1; short = Some 114
 
 abbrev pub device_rule : Rule
 device_rule = record (new_rule (codes "MODALIAS")) { required = true; action = Some Set }
+
+-- devices, one or more
+abbrev pub devices_rule : Rule
+devices_rule = record (new_rule (codes "MODALIAS")) { required = true; action = Some Append }
 
 abbrev pub file_rule : Rule
 file_rule = record (new_rule (codes "FILE")) { required = true; action = Some Set }
@@ -34,7 +38,10 @@ abbrev pub update_app : App
 update_app = with_shared (new_app (codes "update"))
 
 abbrev pub query_app : App
-query_app = with_rule (with_shared (new_app (codes "query"))) device_rule
+query_app = with_rule (with_shared (new_app (codes "query"))) devices_rule
+
+abbrev pub explain_app : App
+explain_app = with_rule (with_shared (new_app (codes "explain"))) device_rule
 
 abbrev pub ask_app : App
 ask_app = with_rule (with_rule (with_shared (new_app (codes "ask"))) file_rule) device_rule
@@ -43,7 +50,8 @@ abbrev pub list_app : App
 list_app = with_rule (with_rule (with_rule (with_shared (new_app (codes "list"))) after_rule) limit_rule) device_rule
 
 abbrev pub top_app : App
-top_app = on_top (λ (s : Shape). record s { subcommand_required = true; disable_help_subcommand = true }) (with_shared (new_app (codes "hwdb")))
+top_app = on_top (λ (s : Shape). record s { has_version = true; subcommand_required = true; disable_help_subcommand = true }) (with_shared (new_app (codes "hwdb")))
 
 abbrev pub hwdb_app : App
-hwdb_app = with_subcommand (with_subcommand (with_subcommand (with_subcommand top_app update_app.top) query_app.top) ask_app.top) list_app.top
+hwdb_app = with_subcommand (with_subcommand (with_subcommand (with_subcommand (with_subcommand top_app update_app.top) query_app.top) explain_app.top)
+    ask_app.top) list_app.top

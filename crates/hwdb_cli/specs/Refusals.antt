@@ -1,6 +1,6 @@
 -- What is told of words that ask for nothing, by the kinds of error that `clap` may give at them.
-use Rattle.std.specs.Prelude.{⊤, ◌≡◌, ◌≢◌, List, []}
-use Rattle.clap.specs.declared.error.kind.ErrorKind.TheVariants.{DisplayHelp, OutOfMemory}
+use Rattle.std.specs.Prelude.{⊤, ◌≡◌, ◌≢◌, ◌⊎◌, List, []}
+use Rattle.clap.specs.declared.error.kind.ErrorKind.TheVariants.{DisplayHelp, DisplayVersion, OutOfMemory}
 use Rattle.clap.specs.declared.error.kind.ErrorKind.{ErrorKind}
 use Rattle.clap.specs.Kinds.{IsAmong, Kinds}
 use Rattle.clap.specs.Walk.{Text}
@@ -9,18 +9,18 @@ use Rattle.hwdb_cli.specs.declared.job.WordsFault.TheVariants.{Help, Memory, Usa
 use Rattle.hwdb_cli.specs.declared.job.WordsFault.{WordsFault}
 use Rattle.hwdb_cli.specs.Line.{hwdb_app}
 
--- help is told where help was asked for, and usage at any other error of the words
+-- help or the version is told where it was asked for, and usage at any other error of the words
 abbrev pub IsToldOf : ErrorKind → WordsFault → Type 0
-IsToldOf kind (Help text) = kind ≡ DisplayHelp
-IsToldOf kind (Usage text) = (kind ≢ DisplayHelp) × (kind ≢ OutOfMemory)
+IsToldOf kind (Help text) = (kind ≡ DisplayHelp) ⊎ (kind ≡ DisplayVersion)
+IsToldOf kind (Usage text) = (kind ≢ DisplayHelp) × (kind ≢ DisplayVersion) × (kind ≢ OutOfMemory)
 IsToldOf kind Memory = ⊤
 
 -- the same, of one of the kinds that may come
 abbrev pub IsToldOfOne : Kinds → WordsFault → Type 0
-IsToldOfOne kinds (Help text) = IsAmong DisplayHelp kinds
-IsToldOfOne kinds (Usage text) = (kind : ErrorKind) × (kind ≢ DisplayHelp) × IsAmong kind kinds
+IsToldOfOne kinds (Help text) = IsAmong DisplayHelp kinds ⊎ IsAmong DisplayVersion kinds
+IsToldOfOne kinds (Usage text) = (kind : ErrorKind) × (kind ≢ DisplayHelp) × (kind ≢ DisplayVersion) × IsAmong kind kinds
 IsToldOfOne kinds Memory = ⊤
 
--- the command doesn't take the words, and they ask for no help
+-- the command doesn't take the words, and they ask neither for help nor for the version
 abbrev pub AreWrong : List Text → Type 0
-AreWrong words = (fault_of hwdb_app words ≢ []) × (IsAmong DisplayHelp (fault_of hwdb_app words) → ⊥)
+AreWrong words = (fault_of hwdb_app words ≢ []) × (IsAmong DisplayHelp (fault_of hwdb_app words) → ⊥) × (IsAmong DisplayVersion (fault_of hwdb_app words) → ⊥)

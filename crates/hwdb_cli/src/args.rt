@@ -1,5 +1,6 @@
 //! What the words ask for, by the exact matches that `clap` finds.
-ghost use Rattle.std.specs.Prelude.{◌≡◌, IfOk, IfErr, IfSome, IsErrOf, true, map, string_bytes, option_map, codes, []};
+ghost use Rattle.std.specs.Prelude.{◌≡◌, ◌≢◌, ◌⊎◌, IfOk, IfErr, IfSome, IsErrOf, true, false, map, string_bytes, option_map, codes, []};
+ghost use Rattle.std.specs.Option.{option_or};
 ghost use Rattle.clap.specs.Walk.{first_of, one_of, rows_of};
 ghost use Rattle.clap.specs.Matches.{found_of};
 ghost use Rattle.clap.specs.Simple.{matches_of, subcommand_of};
@@ -7,7 +8,7 @@ ghost use Rattle.clap.specs.Takes.{takes};
 ghost use Rattle.clap.specs.Faults.{fault_of};
 ghost use Rattle.clap.specs.Values.{kind_of};
 ghost use Rattle.hwdb_cli.specs.Line.{hwdb_app};
-ghost use Rattle.hwdb_cli.specs.Jobs.{HasValue, IsCommand, IsJob, IsJobOf, IsLimit, IsNumber, IsTask, IsValue, has_flag, or_else};
+ghost use Rattle.hwdb_cli.specs.Jobs.{AreValues, HasValue, IsCommand, IsJob, IsJobOf, IsLimit, IsNumber, IsTask, IsValue, has_flag};
 ghost use Rattle.hwdb_cli.specs.Refusals.{IsToldOf, IsToldOfOne};
 ghost use Rattle.hwdb_cli.specs.declared.job.WordsFault.TheVariants.{Memory};
 
@@ -54,6 +55,20 @@ fn value_of(alloc: Global, matches: &ArgMatches<'_>, id: &str) -> Result<String,
     String::from_str(alloc, text)
 }
 
+/// The values of an argument that has some, copied.
+fn values_of(alloc: Global, matches: &ArgMatches<'_>, id: &str) -> Result<Vec<String>, AllocError>
+    requires { HasValue id.now (rows_of (found_of matches.now)) }
+    ensures { IfOk result
+        (λ r. AreValues id.now (rows_of (found_of matches.now)) (map string_bytes r.items)) }
+{
+    let texts = matches.get_strs(id).unwrap();
+    let mut values = Vec::new(alloc);
+    'copying: for text in texts {
+        values.push(String::from_str(alloc, text)?)?;
+    }
+    Ok(values)
+}
+
 /// The number that `--limit` gives.
 fn limit_of(inner: &ArgMatches<'_>) -> Option<u64>
     requires { IfSome (one_of (codes "limit") (rows_of (found_of inner.now))) IsNumber }
@@ -84,8 +99,11 @@ fn task_of(alloc: Global, name: &str, inner: &ArgMatches<'_>) -> Result<Task, Al
     ensures { IfOk result (IsTask name.now (rows_of (found_of inner.now))) }
 {
     if name == "query" {
+        let devices = values_of(alloc, inner, "MODALIAS")?;
+        Ok(Task::Query { devices })
+    } else if name == "explain" {
         let device = value_of(alloc, inner, "MODALIAS")?;
-        Ok(Task::Query { device })
+        Ok(Task::Explain { device })
     } else if name == "ask" {
         let file = value_of(alloc, inner, "FILE")?;
         let device = value_of(alloc, inner, "MODALIAS")?;
@@ -104,7 +122,7 @@ fn root_of(
     inner: &ArgMatches<'_>,
 ) -> Result<Option<String>, AllocError>
     ensures { IfOk result (λ r. option_map string_bytes r
-        ≡ or_else (first_of (codes "root") (rows_of (found_of inner.now)))
+        ≡ option_or (first_of (codes "root") (rows_of (found_of inner.now)))
         (first_of (codes "root") (rows_of (found_of top.now)))) }
 {
     match text_of(inner, "root") {
@@ -136,6 +154,16 @@ fn job_of(
     })
 }
 
+/// Whether what the words ask for is a text: help, or the version.
+fn is_asked_for(kind: ErrorKind) -> bool
+    ensures yes { result ≡ true
+        → (kind ≡ ErrorKind.DisplayHelp) ⊎ (kind ≡ ErrorKind.DisplayVersion) }
+    ensures no { result ≡ false
+        → (kind ≢ ErrorKind.DisplayHelp) × (kind ≢ ErrorKind.DisplayVersion) }
+{
+    matches!(kind, ErrorKind::DisplayHelp | ErrorKind::DisplayVersion)
+}
+
 /// What is told of words that the command doesn't take.
 fn refusal_of(alloc: Global, error: &Error, words: &[String]) -> WordsFault
     ensures memory { kind_of error.now ≡ ErrorKind.OutOfMemory → result ≡ Memory }
@@ -145,13 +173,13 @@ fn refusal_of(alloc: Global, error: &Error, words: &[String]) -> WordsFault
         ErrorKind::OutOfMemory => WordsFault::Memory,
         kind => match text_of_fault(alloc, error, words) {
             Err(refused) => WordsFault::from(refused),
-            Ok(text) if kind == ErrorKind::DisplayHelp => WordsFault::Help { text },
+            Ok(text) if is_asked_for(kind) => WordsFault::Help { text },
             Ok(text) => WordsFault::Usage { text },
         },
     }
 }
 
-/// The text of help, or of a fault of the words.
+/// The text of help, of the version, or of a fault of the words.
 fn text_of_fault(alloc: Global, error: &Error, words: &[String]) -> Result<String, AllocError> {
     let text = error.to_string(alloc)?;
     if error.kind() == ErrorKind::UnknownArgument {
@@ -161,7 +189,8 @@ fn text_of_fault(alloc: Global, error: &Error, words: &[String]) -> Result<Strin
 }
 
 /// What the words ask for; the first is the program's name. Words that the command doesn't take give
-/// `WordsFault::Usage` with a text that says why, `--help` gives `WordsFault::Help`.
+/// `WordsFault::Usage` with a text that says why, `--help` and `--version`
+/// give `WordsFault::Help`.
 pub fn read_words(alloc: Global, words: &[String]) -> Result<Job, WordsFault>
     ensures job { IfOk result
         (IsJobOf (matches_of hwdb_app (map string_bytes words.now))

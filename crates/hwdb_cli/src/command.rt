@@ -5,11 +5,14 @@ ghost use Rattle.std.specs.Prelude.{◌≡◌, IfOk, false, codes};
 ghost use Rattle.clap.specs.Walk.{rule_of};
 ghost use Rattle.clap.specs.Simple.{app_of, shape_of};
 ghost use Rattle.clap.specs.declared.builder.command.Command.TheViews.{out-Command as fields_of};
-ghost use Rattle.hwdb_cli.specs.Line.{usr_rule, strict_rule, root_rule, device_rule, file_rule, after_rule, limit_rule, with_shared, update_app, query_app, ask_app, list_app, top_app, hwdb_app};
+ghost use Rattle.hwdb_cli.specs.Line.{usr_rule, strict_rule, root_rule, device_rule, devices_rule, file_rule, after_rule, limit_rule, with_shared, update_app, query_app, explain_app, ask_app, list_app, top_app, hwdb_app};
 
 use clap::builder::ValueParser;
 use clap::{Arg, ArgAction, Command};
 use std::alloc::{AllocError, Global};
+
+/// The version, as the file VERSION has it.
+const VERSION: &str = "1.0.0";
 
 const HWDB_ABOUT: &str = "Compiles and queries the hardware database of udev";
 
@@ -22,10 +25,16 @@ const UPDATE_AFTER: &str =
     "Status: 0; 1 after a refusal, or with --strict if a line had a fault.\nExample: hwdb --root /mnt update --strict";
 
 const QUERY_ABOUT: &str =
-    "Prints the properties that the database gives a device, as KEY=VALUE lines";
+    "Prints the properties that the database gives each device, as KEY=VALUE lines";
 
 const QUERY_AFTER: &str =
     "Status: 0, also if there are none; 1 after a refusal.\nExample: hwdb query usb:v1D6Bp0002";
+
+const EXPLAIN_ABOUT: &str =
+    "Prints the properties that the database gives a device, and where each comes from";
+
+const EXPLAIN_AFTER: &str =
+    "Status: 0, also if there are none; 1 after a refusal.\nExample: hwdb explain usb:v1D6Bp0002";
 
 const ASK_ABOUT: &str =
     "Prints the properties that one text file gives a device, as KEY=VALUE lines";
@@ -80,6 +89,16 @@ fn device_argument<'a>(alloc: Global) -> Arg<'a>
         .help("The device string; one that begins with - stands after --")
         .required(true)
         .action(ArgAction::Set)
+}
+
+fn devices_argument<'a>(alloc: Global) -> Arg<'a>
+    ensures rule { rule_of result ≡ devices_rule }
+    ensures local { result.global ≡ false }
+{
+    Arg::new(alloc, "MODALIAS")
+        .help("The device strings; one that begins with - stands after --")
+        .required(true)
+        .action(ArgAction::Append)
 }
 
 fn file_argument<'a>(alloc: Global) -> Arg<'a>
@@ -147,6 +166,19 @@ fn query_command<'a>(alloc: Global) -> Result<Command<'a>, AllocError>
             .about(QUERY_ABOUT)
             .after_help(QUERY_AFTER),
     )?;
+    command.arg(devices_argument(alloc))
+}
+
+fn explain_command<'a>(alloc: Global) -> Result<Command<'a>, AllocError>
+    ensures shape { IfOk result (λ r. shape_of r ≡ explain_app.top) }
+    ensures local { IfOk result (λ r. (fields_of r).has_globals ≡ false) }
+{
+    let command = add_shared(
+        alloc,
+        Command::new(alloc, "explain")
+            .about(EXPLAIN_ABOUT)
+            .after_help(EXPLAIN_AFTER),
+    )?;
     command.arg(device_argument(alloc))
 }
 
@@ -186,6 +218,7 @@ fn top_command<'a>(alloc: Global) -> Result<Command<'a>, AllocError>
     let command = add_shared(
         alloc,
         Command::new(alloc, "hwdb")
+            .version(VERSION)
             .about(HWDB_ABOUT)
             .after_help(HWDB_AFTER),
     )?;
@@ -205,8 +238,10 @@ pub fn hwdb_command<'a>(alloc: Global) -> Result<Command<'a>, AllocError>
     let with_update = top.subcommand(update)?;
     let query = query_command(alloc)?;
     let with_query = with_update.subcommand(query)?;
+    let explain = explain_command(alloc)?;
+    let with_explain = with_query.subcommand(explain)?;
     let ask = ask_command(alloc)?;
-    let with_ask = with_query.subcommand(ask)?;
+    let with_ask = with_explain.subcommand(ask)?;
     let list = list_command(alloc)?;
     let whole = with_ask.subcommand(list)?;
     Ok(whole)

@@ -10,8 +10,13 @@ use thiserror::Error;
 pub enum Task {
     /// Compile the text files of both folders.
     Update,
-    /// Print the properties that the database gives the device.
+    /// Print the properties that the database gives each device.
     Query {
+        /// The device strings, one or more.
+        devices: Vec<String>,
+    },
+    /// Print the properties that the database gives the device, and where each comes from.
+    Explain {
         /// The device string.
         device: String,
     },
@@ -49,10 +54,10 @@ pub struct Job {
 /// Why words ask for nothing.
 #[derive(Debug, Drop, Error)]
 pub enum WordsFault {
-    /// Help was asked for.
+    /// Help or the version was asked for.
     #[error("{text}")]
     Help {
-        /// The help.
+        /// What is printed.
         text: String,
     },
     /// The command doesn't take the words.
@@ -61,7 +66,7 @@ pub enum WordsFault {
         /// What is wrong, and how to use it.
         text: String,
     },
-    /// A growth of memory was refused.
+    /// Memory was refused.
     #[error("out of memory")]
     Memory,
 }

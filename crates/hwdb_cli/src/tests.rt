@@ -24,7 +24,14 @@ fn shown(alloc: Global, job: &Job) -> Result<String, AllocError> {
     let root = optional(alloc, &job.root)?;
     let task = match &job.task {
         Task::Update => String::from_str(alloc, "update")?,
-        Task::Query { device } => format!(in alloc; "query {}", device)?,
+        Task::Query { devices } => {
+            let mut line = String::from_str(alloc, "query")?;
+            for device in devices {
+                write!(line, " {}", device)?;
+            }
+            line
+        }
+        Task::Explain { device } => format!(in alloc; "explain {}", device)?,
         Task::Ask { file, device } => format!(in alloc; "ask {} {}", file, device)?,
         Task::List {
             after,
@@ -78,6 +85,18 @@ fn jobs(rt: HostRuntime) -> Result<(), Fail> {
             "hwdb --usr --strict query a",
             "usr=true strict=true root=none query a",
         ),
+        (
+            "hwdb query a b a",
+            "usr=false strict=false root=none query a b a",
+        ),
+        (
+            "hwdb query a -r /x b -- -c",
+            "usr=false strict=false root=[/x] query a b -c",
+        ),
+        (
+            "hwdb explain -- -a",
+            "usr=false strict=false root=none explain -a",
+        ),
         ("hwdb ask f a", "usr=false strict=false root=none ask f a"),
         (
             "hwdb list a",
@@ -104,6 +123,9 @@ fn refusals(rt: HostRuntime) -> Result<(), Fail> {
     let rows = [
         ("hwdb", "usage"),
         ("hwdb query", "usage"),
+        ("hwdb explain", "usage"),
+        ("hwdb explain a b", "usage"),
+        ("hwdb list a b", "usage"),
         ("hwdb ask f", "usage"),
         ("hwdb update a", "usage"),
         ("hwdb query -a", "usage"),
@@ -115,6 +137,11 @@ fn refusals(rt: HostRuntime) -> Result<(), Fail> {
         ("hwdb --help", "help"),
         ("hwdb -h", "help"),
         ("hwdb list --help", "help"),
+        ("hwdb --version", "help"),
+        ("hwdb -V", "help"),
+        ("hwdb -r /x -V update", "help"),
+        ("hwdb update --version", "usage"),
+        ("hwdb query -V", "usage"),
     ];
     for (line, want) in rows {
         let seen = read(rt.alloc(), line)?;
@@ -138,6 +165,11 @@ fn told(alloc: Global, line: &str) -> Result<String, AllocError> {
 fn help_names_the_command(rt: HostRuntime) -> Result<(), Fail> {
     let rows = [
         ("hwdb --help", ["update", "query", "ask", "list"]),
+        ("hwdb --help", ["explain", "--root", "--version", "-V"]),
+        (
+            "hwdb explain --help",
+            ["hwdb explain", "MODALIAS", "--root", "-r"],
+        ),
         (
             "hwdb update --help",
             ["hwdb update", "--usr", "--strict", "--root"],
@@ -173,13 +205,22 @@ fn help_names_the_command(rt: HostRuntime) -> Result<(), Fail> {
 }
 
 #[test]
+fn version(rt: HostRuntime) -> Result<(), Fail> {
+    for line in ["hwdb --version", "hwdb -V"] {
+        let seen = told(rt.alloc(), line)?;
+        assert_eq!(rt; seen.as_str(), "help: hwdb 1.0.0\n", "{line}");
+    }
+    Ok(())
+}
+
+#[test]
 fn usage_names_what_is_wrong(rt: HostRuntime) -> Result<(), Fail> {
     let rows = [
         ("hwdb query", "MODALIAS"),
         ("hwdb ask", "FILE"),
         ("hwdb ask f", "MODALIAS"),
         ("hwdb list", "MODALIAS"),
-        ("hwdb query a b", "b"),
+        ("hwdb explain a b", "b"),
         ("hwdb query --limit 1 a", "--limit"),
         ("hwdb list --limit 1x a", "1x"),
         ("hwdb list --limit 18446744073709551616 a", "--limit"),
@@ -227,7 +268,7 @@ fn tips(rt: HostRuntime) -> Result<(), Fail> {
         ),
         (
             "hwdb query -a",
-            "usage: error: unexpected argument '-a' found\n\n  tip: to pass '-a' as a value, use '-- -a'\n\nUsage: hwdb query [OPTIONS] <MODALIAS>\n\nFor more information, try '--help'.\n",
+            "usage: error: unexpected argument '-a' found\n\n  tip: to pass '-a' as a value, use '-- -a'\n\nUsage: hwdb query [OPTIONS] <MODALIAS>...\n\nFor more information, try '--help'.\n",
         ),
         (
             "hwdb list --limit --afte a",

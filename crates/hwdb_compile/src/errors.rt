@@ -2,7 +2,7 @@
 ghost use Rattle.std.specs.Prelude.{◌≡◌};
 ghost use Rattle.hwdb_compile.specs.declared.errors.CompileError.TheVariants.{Memory};
 
-use hwdb_text::TextError;
+use hwdb_text::{ScanError, SelectError};
 use hwdb_writer::StoreError;
 use std::alloc::AllocError;
 use thiserror::Error;
@@ -32,16 +32,28 @@ impl From<AllocError> for CompileError {
     }
 }
 
-impl From<TextError> for CompileError {
-    ghost use Rattle.hwdb_compile.specs.Internal.Conversions.{of_text};
+impl From<SelectError> for CompileError {
+    ghost use Rattle.hwdb_compile.specs.Internal.Conversions.{of_select};
 
-    ghost from_gives = { λ error e. e ≡ of_text error };
+    ghost from_gives = { λ error e. e ≡ of_select error };
 
-    fn from(error: TextError) -> CompileError {
+    fn from(error: SelectError) -> CompileError {
         match error {
-            TextError::TooManyFiles => CompileError::TooManyFiles,
-            TextError::TooManyLines => CompileError::TooManyLines,
-            TextError::Memory => CompileError::Memory,
+            SelectError::TooManyFiles => CompileError::TooManyFiles,
+            SelectError::Memory => CompileError::Memory,
+        }
+    }
+}
+
+impl From<ScanError> for CompileError {
+    ghost use Rattle.hwdb_compile.specs.Internal.Conversions.{of_scan};
+
+    ghost from_gives = { λ error e. e ≡ of_scan error };
+
+    fn from(error: ScanError) -> CompileError {
+        match error {
+            ScanError::TooManyLines => CompileError::TooManyLines,
+            ScanError::Memory => CompileError::Memory,
         }
     }
 }

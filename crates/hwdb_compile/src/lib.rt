@@ -6,19 +6,19 @@
 //! | Module | What it does |
 //! |---|---|
 //! | `sources` | files to be compiled, and the index of their names |
-//! | `compiling` | the files of two folders, made into one database |
+//! | `compiler` | the files of two folders, made into one database |
 //! | `laws` | what is proved of the definitions alone |
 //! | `errors` | what the compiler refuses |
 #![tactic(auto)]
 
-mod compiling;
+mod compiler;
 mod errors;
 mod laws;
 mod sources;
 #[cfg(test)]
 mod tests;
 
-pub use compiling::compile;
+pub use compiler::compile;
 pub use errors::CompileError;
 pub use laws::{last_is_latest, survivors_are_latest};
 pub use sources::{Compiled, FileFault, SourceFile};

@@ -4,20 +4,20 @@ ghost use Rattle.hwdb_pattern.specs.Laws.{StaysClosed, ClosedPartAndRest, Closed
 ghost use Rattle.hwdb_pattern.specs.Rows.{BracketRows, ClosedRows, LiveRows, MatchRows, StarRows, TokenRows};
 
 /// A bracket that is closed in a text is the same bracket in every longer text that begins with it.
-#[tactic(auto, using(crate::proofs::Longer::bracket_longer))]
+#[tactic(auto, using(crate::proofs::LongerPathLemmas::bracket_longer))]
 pub fn closed_bracket_stays()
     ensures { StaysClosed }
 {}
 
 /// The tokens of a pattern are cut from the whole of it: their texts, joined, are the pattern.
-#[tactic(auto, using(crate::proofs::Joining::tokens_are_the_pattern))]
+#[tactic(auto, using(crate::proofs::JoinLemmas::tokens_are_the_pattern))]
 pub fn tokens_are_the_pattern()
     ensures { TokensAreThePattern }
 {}
 
 /// The closed part of a path, cut again as a pattern, has exactly the path's tokens before the first
 /// `[` that begins no closed bracket; the path goes on with its open part.
-#[tactic(auto, using(crate::proofs::Closing::closed_is_cut_alike, crate::proofs::Closing::part_and_rest))]
+#[tactic(auto, using(crate::proofs::ClosedPartLemmas::closed_is_cut_alike, crate::proofs::ClosedPartLemmas::part_and_rest))]
 pub fn closed_part_is_cut_alike()
     ensures tokens { ClosedPartIsCutAlike }
     ensures rest { ClosedPartAndRest }
@@ -29,19 +29,19 @@ pub fn dead_stays_dead()
 {}
 
 /// Where a path isn't live for a device, no pattern that begins with it matches the device.
-#[tactic(auto, using(crate::proofs::Growing::match_front))]
+#[tactic(auto, using(crate::proofs::GrowthLemmas::match_front))]
 pub fn dead_matches_nothing()
     ensures { DeadMatchesNothing }
 {}
 
 /// The computing test `matches` is true exactly where the tokens match.
-#[tactic(auto, using(crate::proofs::Deciding::matches_tested))]
+#[tactic(auto, using(crate::proofs::LiveLemmas::matches_tested))]
 pub fn matches_is_tested()
     ensures { MatchesIsTested }
 {}
 
 /// The computing test `is_live` is true exactly where the path is live.
-#[tactic(auto, using(crate::proofs::Deciding::live_tested))]
+#[tactic(auto, using(crate::proofs::LiveLemmas::live_tested))]
 pub fn live_is_tested()
     ensures { LiveIsTested }
 {}

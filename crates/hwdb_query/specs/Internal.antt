@@ -1,6 +1,7 @@
 -- What the proofs of this crate speak of.
 pub mod Lists
 pub mod Hits
+pub mod Explaining
 pub mod Collected
 pub mod Live
 pub mod Pairs

@@ -1,5 +1,5 @@
 -- What the laws say of answers, fillings and the texts of positions.
-use Rattle.std.specs.Prelude.{List, [], ◌∷◌, ◌≡◌, ◌⊎◌, Some, ℕ, Option, None, ◌<◌, suc, zero, if◌then◌else◌, ◌+◌, false, length, ◌^◌}
+use Rattle.std.specs.Prelude.{List, [], ◌∷◌, ◌≡◌, ◌⊎◌, Some, ℕ, Option, None, ◌<◌, suc, zero, if◌then◌else◌, ◌+◌, false, length, ◌^◌, map, All, ◌≢◌}
 use Rattle.std.specs.Int.{div_ceil}
 use Rattle.hex.specs.Hex.{IsBytes}
 use Rattle.hwdb_spec.specs.Assignment.{Assignment, assignment_cmp, Position}
@@ -8,7 +8,8 @@ use Rattle.hwdb_spec.specs.Tree.{Tree, map_of, answers_after, map_of_files, answ
 use Rattle.hwdb_spec.specs.Patterns.{Matches, tokens}
 use Rattle.hwdb_spec.specs.Format.{IsDatabase}
 use Rattle.hwdb_spec.specs.Folders.{Source, all_assignments}
-use Rattle.hwdb_spec.specs.Answers.{last_assignments}
+use Rattle.hwdb_spec.specs.Answers.{last_assignments, effective_of}
+use Rattle.hwdb_spec.specs.Explanations.{explained}
 use Rattle.hwdb_spec.specs.Last.{AreLast}
 use Rattle.hwdb_spec.specs.Written.{IsDatabaseOf}
 use Rattle.hwdb_query.specs.Views.{Progress, after_next, fills}
@@ -80,3 +81,16 @@ SpellsOne = (p q : Position) (bytes : List ℕ) → IsSpelling p bytes → IsSpe
 -- The text that is written of a position spells it.
 abbrev pub CanonicalSpells : Type 0
 CanonicalSpells = (p : Position) → IsPosition p → IsSpelling p (canonical p)
+
+-- the value of the first of some answers; nothing where there is none
+abbrev pub first_value : List Assignment → List ℕ
+first_value [] = []
+first_value (f ∷ more) = f.value
+
+-- The first of a key's answers has the value that the effective list has for it, and no key but those of that list is told.
+abbrev pub ExplainedAreEffective : Type 0
+ExplainedAreEffective = (answers : List Assignment) → map (λ p. (p.0, first_value p.1)) (explained answers) ≡ effective_of answers
+
+-- Each key has an answer.
+abbrev pub AllAreExplained : Type 0
+AllAreExplained = (answers : List Assignment) → All (λ p. p.1 ≢ []) (explained answers)

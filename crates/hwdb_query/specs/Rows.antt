@@ -3,6 +3,7 @@ use Rattle.std.specs.Prelude.{List, ℕ, codes, Option, [], ◌∷◌, None, Som
 use Rattle.hwdb_spec.specs.Folders.{Source, all_assignments}
 use Rattle.hwdb_spec.specs.Assignment.{Position, Assignment}
 use Rattle.hwdb_spec.specs.Answers.{last_assignments, effective_of}
+use Rattle.hwdb_spec.specs.Explanations.{explained, explanations_text}
 
 abbrev pub file : (name bytes : List ℕ) → Source
 file name bytes = record { name = name; bytes = bytes }
@@ -83,3 +84,9 @@ abbrev pub EffectiveRow : Type 0
 EffectiveRow =
     effective_of (last_assignments (codes "a") None (all_assignments (first (codes "a\n K=1\n L=1\n\na\n K=2\n")) (second (codes "a\n L=3\n"))))
     ≡ (codes "K", codes "2") ∷ (codes "L", codes "3") ∷ []
+
+-- what is explained of a device with two patterns and one key, as text
+abbrev pub ExplainedRow : Type 0
+ExplainedRow =
+    explanations_text (explained (last_assignments (codes "ab") None (all_assignments two_patterns [])))
+    ≡ codes "K=2\n    /etc/udev/hwdb.d/1.hwdb:5  ab\n  overrides K=1\n    /etc/udev/hwdb.d/1.hwdb:2  a*\n"

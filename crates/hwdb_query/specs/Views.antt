@@ -4,6 +4,8 @@ use Rattle.std.specs.Borrow.{Bor}
 use Rattle.hwdb_query.specs.declared.position.Position.{Position as OwnedPosition}
 use Rattle.hwdb_spec.specs.Assignment.{Position, Assignment}
 use Rattle.hwdb_query.specs.declared.hit.Hit.{Hit}
+use Rattle.hwdb_query.specs.declared.answer.Answer.{Answer}
+use Rattle.hwdb_query.specs.declared.answer.Explained.{Explained}
 use Rattle.hwdb_spec.specs.Tree.{Tree, answers_after}
 
 -- the bytes of a key and of a value
@@ -25,6 +27,20 @@ assignment_of_hit h = record {
 
 abbrev pub assignments_of_hits : List Hit → List Assignment
 assignments_of_hits hits = map assignment_of_hit hits
+
+abbrev pub assignment_of_answer : Answer → Assignment
+assignment_of_answer a = record {
+  position = record { priority = a.priority; line = a.line; pattern = a.pattern.value.items; key = a.key.now };
+  value = a.value.now;
+  path = a.path.now;
+}
+
+-- a key and its answers
+abbrev pub explained_value : Explained → List ℕ × List Assignment
+explained_value e = (e.key.now, map assignment_of_answer e.answers.items)
+
+abbrev pub explained_values : List Explained → List (List ℕ × List Assignment)
+explained_values explained = map explained_value explained
 
 -- the hits that are held, and how many may be
 pub record Page : Type 0 where

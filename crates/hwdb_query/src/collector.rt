@@ -4,7 +4,8 @@ ghost use Rattle.hwdb_spec.specs.Tree.{values_of};
 ghost use Rattle.hwdb_reader.specs.Views.{entered_tree};
 ghost use Rattle.hwdb_query.specs.Internal.Members.{own_members};
 
-use crate::held::Held;
+use crate::all_hits::AllHits;
+use crate::hit_page::HitPage;
 use crate::last_hits::LastHits;
 use crate::next_page::NextPage;
 use hwdb_reader::Inside;
@@ -17,10 +18,12 @@ pub(crate) enum Collector<'a, 'p> {
     Page(NextPage<'a, 'p>),
     /// The last hit of each key.
     Last(LastHits<'a>),
+    /// All hits.
+    All(AllHits<'a>),
 }
 
 impl<'a, 'p> Collector<'a, 'p> {
-    ghost use Rattle.hwdb_query.specs.Internal.Collected.{Collects, IsPage, IsLast, IsOfPage, IsOfLast};
+    ghost use Rattle.hwdb_query.specs.Internal.Collected.{Collects, IsPage, IsLast, IsAll, IsOfPage, IsOfLast, IsOfAll};
 
     /// Takes what the values of a node assign at a pattern.
     pub(crate) fn collect(
@@ -36,17 +39,19 @@ impl<'a, 'p> Collector<'a, 'p> {
         match self {
             Collector::Page(page) => page.collect(alloc, inside, pattern),
             Collector::Last(last) => last.collect(alloc, inside, pattern),
+            Collector::All(all) => all.collect(alloc, inside, pattern),
         }
     }
 
     /// The hits of a page.
-    pub(crate) fn into_held(self) -> Held<'a>
+    pub(crate) fn into_held(self) -> HitPage<'a>
         requires { IsPage self }
         ensures { IsOfPage self.entry result }
     {
         match self {
             Collector::Page(NextPage { after: _, held }) => held,
             Collector::Last(_last) => unreachable!(),
+            Collector::All(_all) => unreachable!(),
         }
     }
 
@@ -58,6 +63,19 @@ impl<'a, 'p> Collector<'a, 'p> {
         match self {
             Collector::Page(_page) => unreachable!(),
             Collector::Last(last) => last,
+            Collector::All(_all) => unreachable!(),
+        }
+    }
+
+    /// All hits.
+    pub(crate) fn into_all(self) -> AllHits<'a>
+        requires { IsAll self }
+        ensures { IsOfAll self.entry result }
+    {
+        match self {
+            Collector::Page(_page) => unreachable!(),
+            Collector::Last(_last) => unreachable!(),
+            Collector::All(all) => all,
         }
     }
 }

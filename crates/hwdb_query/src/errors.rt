@@ -1,17 +1,34 @@
 //! What the calls of this crate refuse.
 ghost use Rattle.std.specs.Prelude.{◌≡◌};
-ghost use Rattle.hwdb_query.specs.declared.errors.QueryError.TheVariants.{Memory};
 
 use std::alloc::AllocError;
 use thiserror::Error;
 
-/// Why there is no cursor, or no position.
+/// Why there is no cursor.
 #[derive(Clone, Copy, Debug, PartialEq, Eq, Error)]
-pub enum QueryError {
+pub enum CursorError {
     /// A page of no hits.
     #[error("a page holds at least one hit")]
     PageZero,
-    /// A text that spells no position.
+    /// Memory was refused.
+    #[error("out of memory")]
+    Memory,
+}
+
+impl From<AllocError> for CursorError {
+    ghost use Rattle.hwdb_query.specs.declared.errors.CursorError.TheVariants.{Memory};
+
+    ghost from_gives = { λ _ e. e ≡ Memory };
+
+    fn from(_: AllocError) -> CursorError {
+        CursorError::Memory
+    }
+}
+
+/// Why a text is no position.
+#[derive(Clone, Copy, Debug, PartialEq, Eq, Error)]
+pub enum PositionError {
+    /// It spells none.
     #[error("bad position")]
     BadPosition,
     /// Memory was refused.
@@ -19,10 +36,12 @@ pub enum QueryError {
     Memory,
 }
 
-impl From<AllocError> for QueryError {
+impl From<AllocError> for PositionError {
+    ghost use Rattle.hwdb_query.specs.declared.errors.PositionError.TheVariants.{Memory};
+
     ghost from_gives = { λ _ e. e ≡ Memory };
 
-    fn from(_: AllocError) -> QueryError {
-        QueryError::Memory
+    fn from(_: AllocError) -> PositionError {
+        PositionError::Memory
     }
 }

@@ -1,12 +1,14 @@
 //! Hits, and the order in which they come.
-ghost use Rattle.std.specs.Prelude.{◌≡◌, ℕ, List, length, IfOk, true};
+ghost use Rattle.std.specs.Prelude.{◌≡◌, ◌++◌, ℕ, List, length, IfOk, OnOk, true};
 ghost use Rattle.std.specs.declared.cmp.Ordering.TheVariants.{Less};
 ghost use Rattle.hwdb_spec.specs.Assignment.{Assignment, position_cmp};
 ghost use Rattle.hwdb_spec.specs.Assignment;
+ghost use Rattle.hwdb_spec.specs.Texts.{canonical};
 ghost use Rattle.hwdb_query.specs.Internal.Hits.{parts_position, IsOf, IsPositionOf};
 ghost use Rattle.hwdb_query.specs.Views.{position_value, assignment_of_hit};
 
 use crate::position::Position;
+use crate::spelling::{push_hex, push_number};
 use hwdb_reader::Origin;
 use std::alloc::{AllocError, Global};
 use std::cmp::Ordering;
@@ -70,6 +72,24 @@ impl<'a> Hit<'a> {
             priority: self.priority,
             line: self.line,
         }
+    }
+
+    /// Adds the one text of the hit's position, as [`Position::write`] gives it: `P:L:HP:HK`, the priority and the line
+    /// in decimal digits, the pattern and the key in hexadecimal digits of lower case.
+    ///
+    /// The only error is that memory is refused; it is asked for the text alone.
+    pub fn push_position(&self, text: &mut Vec<u8>) -> Result<(), AllocError>
+        ensures { OnOk result (text.new.items
+            ≡ text.old.items ++ canonical (assignment_of_hit self.now).position) }
+    {
+        push_number(text, u32::from(self.priority))?;
+        text.push(b':')?;
+        push_number(text, self.line)?;
+        text.push(b':')?;
+        push_hex(text, &self.pattern)?;
+        text.push(b':')?;
+        push_hex(text, self.key)?;
+        Ok(())
     }
 
     /// The position of the hit: its priority, line, pattern and key.

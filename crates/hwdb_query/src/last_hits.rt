@@ -42,7 +42,7 @@ impl<'a> Last<'a> {
 }
 
 /// A copy of a pattern, which hits can share.
-fn shared(alloc: Global, pattern: &[u8]) -> Result<Rc<Vec<u8>>, AllocError>
+pub(crate) fn shared(alloc: Global, pattern: &[u8]) -> Result<Rc<Vec<u8>>, AllocError>
     ensures { IfOk result (λ copy. copy.value.items ≡ pattern.now) }
 {
     let copy = Rc::new(alloc, pattern.to_vec(alloc)?)?;

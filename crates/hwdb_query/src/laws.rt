@@ -3,9 +3,9 @@ ghost use Rattle.std.specs.Prelude.{◌≡◌, ◌<◌, ◌+◌, ◌-◌, ◌⊎
 ghost use Rattle.hwdb_spec.specs.Format.{IsDatabase};
 ghost use Rattle.hwdb_spec.specs.Tree.{Map, map_of, Tree, answers};
 ghost use Rattle.hwdb_spec.specs.Written.{IsDatabaseOf};
-ghost use Rattle.hwdb_query.specs.Laws.{AreAnswers, FillingsOfARun, AllCompiledAnswersAreLast, CompiledAnswersAreLast, LastAssignmentsAreLast, OneListIsLast, SpellsOne, CanonicalSpells};
+ghost use Rattle.hwdb_query.specs.Laws.{AreAnswers, FillingsOfARun, AllCompiledAnswersAreLast, CompiledAnswersAreLast, LastAssignmentsAreLast, OneListIsLast, SpellsOne, CanonicalSpells, ExplainedAreEffective, AllAreExplained};
 ghost use Rattle.hwdb_query.specs.Views.{Progress, after_next};
-ghost use Rattle.hwdb_query.specs.Rows.{EffectiveRow, LastRows};
+ghost use Rattle.hwdb_query.specs.Rows.{EffectiveRow, ExplainedRow, LastRows};
 
 use hwdb_pattern::matches_is_tested;
 use hwdb_reader::{Db, law_ascending, law_one_tree};
@@ -57,10 +57,19 @@ pub fn last_assignments_are_last()
 }
 
 /// The last assignments of files, at worked rows.
-#[tactic(auto, using(crate::proofs::Computed::last_rows_hold, crate::proofs::Computed::effective_row_holds))]
+#[tactic(auto, using(crate::proofs::ComputedRows::last_rows_hold, crate::proofs::ComputedRows::effective_row_holds, crate::proofs::ComputedRows::explained_row_holds))]
 pub fn last_rows()
     ensures last { LastRows }
     ensures effective { EffectiveRow }
+    ensures explained { ExplainedRow }
+{}
+
+/// The explanation of some answers tells the effective list of them: in order, its keys, each with the value of the
+/// first of its answers, and each key has one.
+#[tactic(auto, using(crate::proofs::ExplainedLemmas::explained_are_effective, crate::proofs::ExplainedLemmas::all_are_explained))]
+pub fn explained_are_effective()
+    ensures properties { ExplainedAreEffective }
+    ensures present { AllAreExplained }
 {}
 
 /// What a call of `next` changes of a cursor: with a hit held, or at the end, nothing is entered; a page that is
@@ -81,7 +90,7 @@ pub fn after_each_next()
 
 /// How many fillings a cursor takes that is read to its end: as many as there are pages, the last one perhaps
 /// not whole, and one more that finds the end.
-#[tactic(auto, using(crate::proofs::Filled::fillings_of_a_run))]
+#[tactic(auto, using(crate::proofs::FillLemmas::fillings_of_a_run))]
 pub fn fillings_of_a_run()
     ensures { FillingsOfARun }
 {}

@@ -9,43 +9,54 @@
 //! | `hit` | the hits, and the order of their positions |
 //! | `position` | positions and their texts |
 //! | `spelling` | the parts of a position's text |
-//! | `held` | the one list of hits of a cursor, never longer than its page |
+//! | `hit_page` | the one list of hits of a cursor, never longer than its page |
 //! | `descent` | one descent of the tree along the live paths |
-//! | `collector` | what takes the assignments of a descent: a page, or the last hits |
+//! | `collector` | what takes the assignments of a descent: a page, the last hits, or all hits |
 //! | `next_page` | a page that is filled |
-//! | `filling` | one filling of a page: the least hits after a position |
-//! | `paging` | the cursor: pages of answers after a position |
+//! | `refill` | one filling of a page: the least hits after a position |
+//! | `cursors` | the cursor: pages of answers after a position |
 //! | `start` | a new cursor |
 //! | `last_hits` | the last hit of each key |
-//! | `listing` | the effective list |
+//! | `properties` | the effective list |
+//! | `all_hits` | all hits, each at its position |
+//! | `answer` | answers, and those of one key |
+//! | `by_key` | answers by key |
+//! | `explanations` | for each key its answers |
 //! | `laws` | what is proved of the definitions alone |
 //! | `errors` | what the calls refuse |
 #![tactic(auto)]
 
+mod all_hits;
+mod answer;
+mod by_key;
 mod collector;
+mod cursors;
 mod descent;
 mod errors;
-mod filling;
-mod held;
+mod explanations;
 mod hit;
+mod hit_page;
 mod last_hits;
 mod laws;
-mod listing;
 mod next_page;
-mod paging;
 mod position;
+mod properties;
+mod refill;
 mod spelling;
 mod start;
 #[cfg(test)]
 mod tests;
 
-pub use errors::QueryError;
+pub use answer::{Answer, Explained};
+pub use cursors::Cursor;
+pub use errors::{CursorError, PositionError};
+pub use explanations::explain;
 pub use hit::Hit;
 pub use laws::{
     after_each_next, answers_are_the_maps, compiled_answers_are_last, databases_show_one_map,
-    fillings_of_a_run, last_assignments_are_last, last_rows, positions_are_read_back,
+    explained_are_effective, fillings_of_a_run, last_assignments_are_last, last_rows,
+    positions_are_read_back,
 };
-pub use listing::effective;
-pub use paging::Cursor;
 pub use position::Position;
+pub use properties::effective;
 pub use start::cursor;

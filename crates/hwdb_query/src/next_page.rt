@@ -10,8 +10,8 @@ ghost use Rattle.hwdb_spec.specs.Answers.{is_after};
 ghost use Rattle.hwdb_query.specs.Internal.Members.{own_members};
 ghost use Rattle.hwdb_query.specs.Internal.Hits.{parts_position, after_position, IsOf};
 
-use crate::held::Held;
 use crate::hit::{Parts, is_earlier, order};
+use crate::hit_page::HitPage;
 use hwdb_reader::{Entry, Inside, Origin};
 use std::alloc::{AllocError, Global};
 use std::cmp::Ordering;
@@ -33,7 +33,7 @@ fn is_past(after: Option<Parts<'_>>, parts: Parts<'_>) -> bool
 #[derive(Drop)]
 pub(crate) struct NextPage<'a, 'p> {
     pub after: Option<Parts<'p>>,
-    pub held: Held<'a>,
+    pub held: HitPage<'a>,
 }
 
 impl<'a, 'p> NextPage<'a, 'p> {

@@ -4,9 +4,9 @@ ghost use Rattle.hwdb_spec.specs.Assignment;
 ghost use Rattle.hwdb_query.specs.Internal.Hits.{parts_position};
 ghost use Rattle.hwdb_query.specs.Views.{position_value};
 ghost use Rattle.hwdb_spec.specs.Texts.{IsSpelling, HasNumbers, canonical};
-ghost use Rattle.hwdb_query.specs.declared.errors.QueryError.TheVariants.{PageZero, BadPosition, Memory};
+ghost use Rattle.hwdb_query.specs.declared.errors.PositionError.TheVariants.{BadPosition, Memory};
 
-use crate::errors::QueryError;
+use crate::errors::PositionError;
 use crate::hit::Parts;
 use crate::spelling::{bytes_of, cut, long_number, short_number};
 use std::alloc::{AllocError, Global};
@@ -131,19 +131,18 @@ impl Position {
 
     /// The position that the text spells, with hexadecimal digits in either case.
     ///
-    /// [`QueryError::BadPosition`] where it spells none, as with a sign, a leading zero or a field more;
-    /// [`QueryError::Memory`] where memory is refused,
+    /// [`PositionError::BadPosition`] where it spells none, as with a sign, a leading zero or a field more;
+    /// [`PositionError::Memory`] where memory is refused,
     /// which is asked for the pattern and the key alone: behind numbers that are none it isn't.
-    pub fn read(alloc: Global, text: &str) -> Result<Position, QueryError>
+    pub fn read(alloc: Global, text: &str) -> Result<Position, PositionError>
         ensures spelled { IfOk result (λ p. IsSpelling (position_value p) text.now) }
         ensures refused { IfErr result
             (λ e. e ≡ BadPosition → (p : Assignment.Position) → IsSpelling p text.now → ⊥) }
-        ensures no_page { IfErr result (λ e. e ≢ PageZero) }
         ensures numbers { IfErr result (λ e. e ≡ Memory → HasNumbers text.now) }
     {
         match Position::read_fields(alloc, text)? {
             Some(position) => Ok(position),
-            None => Err(QueryError::BadPosition),
+            None => Err(PositionError::BadPosition),
         }
     }
 }

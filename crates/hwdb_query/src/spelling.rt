@@ -1,7 +1,7 @@
 //! The parts of a position's text: fields between colons, decimal numbers and hexadecimal texts.
-ghost use Rattle.std.specs.Prelude.{◌≡◌, ◌≢◌, ◌<◌, ◌^◌, ℕ, List, [], ◌∷◌, ◌++◌, length, slice_index, IfOk, IfSome, MatchOption, Some, None, Ok, string_bytes};
+ghost use Rattle.std.specs.Prelude.{◌≡◌, ◌≢◌, ◌<◌, ◌^◌, ℕ, List, [], ◌∷◌, ◌++◌, length, slice_index, IfOk, OnOk, IfSome, MatchOption, Some, None, Ok, string_bytes};
 ghost use Rattle.std.specs.Fmt.{decimal};
-ghost use Rattle.hex.specs.Hex.{decode_of};
+ghost use Rattle.hex.specs.Hex.{decode_of, encode_lower};
 
 use hex::FromHexError;
 use itoa::Buffer;
@@ -66,4 +66,32 @@ pub(crate) fn long_number(text: &str) -> Option<u32>
         Some(n) if n <= 4_294_967_295 => Some(n as u32),
         _ => None,
     }
+}
+
+/// How many bytes are turned into digits at once.
+const PIECE: usize = 64;
+
+/// Adds the hexadecimal digits of some bytes, in lower case.
+pub(crate) fn push_hex(text: &mut Vec<u8>, bytes: &[u8]) -> Result<(), AllocError>
+    ensures { OnOk result (text.new.items ≡ text.old.items ++ encode_lower bytes.now) }
+{
+    let mut digits = [0u8; 2 * PIECE];
+    let mut rest = bytes;
+    while !rest.is_empty() {
+        let (piece, behind) = rest.split_at(rest.len().min(PIECE));
+        let written = &mut digits[..2 * piece.len()];
+        hex::encode_to_slice(piece, written).unwrap();
+        text.extend_from_slice(written)?;
+        rest = behind;
+    }
+    Ok(())
+}
+
+/// Adds a number in decimal digits.
+pub(crate) fn push_number(text: &mut Vec<u8>, number: u32) -> Result<(), AllocError>
+    ensures { OnOk result (text.new.items ≡ text.old.items ++ decimal number) }
+{
+    let mut digits = Buffer::new();
+    text.extend_from_slice(digits.format(number).as_bytes())?;
+    Ok(())
 }

@@ -1,14 +1,14 @@
 //! The start of a cursor.
-ghost use Rattle.std.specs.Prelude.{◌≡◌, ◌≢◌, ◌<◌, List, IfOk, IfErr, false};
+ghost use Rattle.std.specs.Prelude.{◌≡◌, ◌<◌, List, IfOk, IfErr, false};
 ghost use Rattle.hwdb_spec.specs.Tree.{answers_after, IsTreeOfFiles, live_nodes};
 ghost use Rattle.hwdb_spec.specs.Folders.{Source, all_assignments};
 ghost use Rattle.hwdb_spec.specs.Answers.{last_assignments};
 ghost use Rattle.hwdb_spec.specs.Last.{AreLast};
 ghost use Rattle.hwdb_query.specs.Views.{given_position, Progress};
-ghost use Rattle.hwdb_query.specs.declared.errors.QueryError.TheVariants.{PageZero, BadPosition};
+ghost use Rattle.hwdb_query.specs.declared.errors.CursorError.TheVariants.{PageZero};
 
-use crate::errors::QueryError;
-use crate::paging::Cursor;
+use crate::cursors::Cursor;
+use crate::errors::CursorError;
 use crate::position::Position;
 use hwdb_pattern::matches_is_tested;
 use hwdb_reader::Db;
@@ -20,7 +20,7 @@ use std::alloc::Global;
 /// Over the database of some files it yields the last assignment of each pattern and key that the files have,
 /// where the pattern matches the device: by file priority, line, pattern and key.
 ///
-/// [`QueryError::PageZero`] where `page` is 0, before memory is asked for; [`QueryError::Memory`] where memory
+/// [`CursorError::PageZero`] where `page` is 0, before memory is asked for; [`CursorError::Memory`] where memory
 /// is refused.
 pub fn cursor<'a, 'd>(
     alloc: Global,
@@ -28,7 +28,7 @@ pub fn cursor<'a, 'd>(
     device: &'d [u8],
     after: Option<&Position>,
     page: usize,
-) -> Result<Cursor<'a, 'd>, QueryError>
+) -> Result<Cursor<'a, 'd>, CursorError>
     ensures begins { IfOk result (λ c. c ≡ record {
       to_come = answers_after device.now (given_position after.entry) db.now;
       held = 0;
@@ -47,10 +47,9 @@ pub fn cursor<'a, 'd>(
     ensures some { IfOk result (λ _. 0 < page) }
     ensures zero { page ≡ 0 → IfErr result (λ e. e ≡ PageZero) }
     ensures page { IfErr result (λ e. e ≡ PageZero → page ≡ 0) }
-    ensures known { IfErr result (λ e. e ≢ BadPosition) }
 {
     if page == 0 {
-        return Err(QueryError::PageZero);
+        return Err(CursorError::PageZero);
     }
     matches_is_tested();
     let root = db.root();

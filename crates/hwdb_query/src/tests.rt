@@ -1,7 +1,8 @@
 //! Worked rows over small databases, and the texts of positions.
+mod explanations;
 mod vectors;
 
-use crate::{Cursor, Hit, Position, QueryError, cursor, effective};
+use crate::{Cursor, CursorError, Hit, Position, PositionError, cursor, effective};
 use hwdb_reader::check;
 use std::alloc::Global;
 use std::test::Fail;
@@ -204,7 +205,7 @@ fn held_hits(rt: HostRuntime) -> Result<(), Fail> {
         assert!(rt; found == (i < 65) && held == 0);
     }
     let none = cursor(rt.alloc(), &db, b"a", None, 0);
-    assert!(rt; matches!(&none, Err(QueryError::PageZero)));
+    assert!(rt; matches!(&none, Err(CursorError::PageZero)));
     Ok(())
 }
 
@@ -231,7 +232,7 @@ fn position_texts(rt: HostRuntime) -> Result<(), Fail> {
         "1:2:::",
     ] {
         let refused = Position::read(rt.alloc(), text);
-        assert!(rt; matches!(&refused, Err(QueryError::BadPosition)));
+        assert!(rt; matches!(&refused, Err(PositionError::BadPosition)));
     }
     Ok(())
 }
@@ -293,12 +294,19 @@ fn two_databases(rt: HostRuntime) -> Result<(), Fail> {
 
 #[test]
 fn error_texts(rt: HostRuntime) -> Result<(), Fail> {
-    let rows = [
-        (QueryError::PageZero, "a page holds at least one hit"),
-        (QueryError::BadPosition, "bad position"),
-        (QueryError::Memory, "out of memory"),
+    let of_cursor = [
+        (CursorError::PageZero, "a page holds at least one hit"),
+        (CursorError::Memory, "out of memory"),
     ];
-    for (error, want) in rows {
+    for (error, want) in of_cursor {
+        let text = format!(in rt.alloc(); "{error}")?;
+        assert_eq!(rt; text.as_str(), want);
+    }
+    let of_position = [
+        (PositionError::BadPosition, "bad position"),
+        (PositionError::Memory, "out of memory"),
+    ];
+    for (error, want) in of_position {
         let text = format!(in rt.alloc(); "{error}")?;
         assert_eq!(rt; text.as_str(), want);
     }

@@ -48,3 +48,21 @@ pub fn check_header(b: &[u8]) -> Result<Frame, DbFault>
     };
     Ok(Frame { sizes })
 }
+
+/// The layout that the header says, where all that stands in it was tested before.
+#[tactic(auto, unfolding(hwdb_spec::specs::Format::layout_of))]
+pub fn frame_of(b: &[u8]) -> Frame
+    requires { IsHeader b.now }
+    ensures { result.sizes ≡ layout_of b.now }
+{
+    let header = u64_at(b, 24);
+    let sizes = Layout {
+        node_size: u64_at(b, 32),
+        child_size: u64_at(b, 40),
+        value_size: u64_at(b, 48),
+        nodes: header,
+        root: u64_at(b, 56),
+        strings: header + u64_at(b, 64),
+    };
+    Frame { sizes }
+}

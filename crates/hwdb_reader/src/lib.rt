@@ -9,22 +9,25 @@
 //! - `values`: the value entries of a node;
 //! - `fields` and `places`: single fields, and where records stand;
 //! - `view`: the nodes, children and values of a database that was accepted;
+//! - `reopened`: the view of a database that was accepted before;
 //! - `laws`: laws of the format, on the definitions alone.
 #![tactic(auto)]
 
-mod checking;
+mod checker;
 mod fields;
 mod frame;
 mod header;
 mod laws;
 mod places;
+mod reopened;
 #[cfg(test)]
 mod tests;
 mod values;
 mod view;
 mod walk;
 
-pub use checking::check;
+pub use checker::check;
 pub use hwdb_spec::DbFault;
 pub use laws::{law_ascending, law_faultless, law_few_nodes, law_one_tree, law_samples};
+pub use reopened::reopen;
 pub use view::{Child, Db, Entered, Entry, Inside, Node, Origin};

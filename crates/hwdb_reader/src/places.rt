@@ -9,7 +9,7 @@ use crate::frame::Frame;
 use crate::view::{Entry, Origin};
 
 /// Where the child entry `i` of the node at `off` stands.
-#[tactic(auto, using(crate::proofs::Bounds::entry_room), unfolding(hwdb_spec::specs::Format::record_end))]
+#[tactic(auto, using(crate::proofs::BoundLemmas::entry_room), unfolding(hwdb_spec::specs::Format::record_end))]
 pub fn child_entry_at(b: &[u8], f: Frame, off: usize, i: usize) -> usize
     requires inside { record_end f.sizes b.now off ≤ length b.now }
     requires below { i < children_count b.now off }
@@ -21,7 +21,7 @@ pub fn child_entry_at(b: &[u8], f: Frame, off: usize, i: usize) -> usize
 }
 
 /// Where the value entry `i` of the node at `off` stands.
-#[tactic(auto, using(crate::proofs::Bounds::value_entry_room), unfolding(hwdb_spec::specs::Format::record_end))]
+#[tactic(auto, using(crate::proofs::BoundLemmas::value_entry_room), unfolding(hwdb_spec::specs::Format::record_end))]
 pub fn value_entry_at(b: &[u8], f: Frame, off: usize, i: usize) -> usize
     requires inside { record_end f.sizes b.now off ≤ length b.now }
     requires below { i < values_count b.now off }

@@ -9,5 +9,7 @@ pub mod Tree
 pub mod Format
 pub mod Written
 pub mod Texts
+pub mod Explanations
 pub mod Failures
 pub mod Store
+pub mod Library

@@ -1,9 +1,11 @@
 -- The texts that are printed. Their form is our choice; `KEY=VALUE` is that of systemd-hwdb(8).
-use Rattle.std.specs.Prelude.{codes, List, ℕ, ◌++◌, ◌∷◌, Ok, ◌<◌, ◌^◌, ◌≡◌, [], flat_map, None, Option, Some, take, Bool, false, true}
+use Rattle.std.specs.Prelude.{codes, List, ℕ, ◌++◌, ◌∷◌, Ok, ◌<◌, ◌^◌, ◌≡◌, [], flat_map, map, None, Option, Some, take, Bool, false, true}
 use Rattle.std.specs.Fmt.{decimal}
 use Rattle.hex.specs.Hex.{decode_of, encode_lower}
 use Rattle.hwdb_spec.specs.Assignment.{Position, Assignment}
 use Rattle.hwdb_spec.specs.declared.Fault.{Fault}
+use Rattle.hwdb_spec.specs.declared.DbFault.{DbFault}
+use Rattle.hwdb_spec.specs.declared.DbFault.TheVariants.{Short, Signature, RecordSizes, Lengths, Strings, Place, Depth, ChildOrder, StringOffset, KeyOrder, Priority}
 use Rattle.hwdb_spec.specs.Lines.{byte}
 use Rattle.hwdb_spec.specs.Records.{fault_text}
 use Rattle.hwdb_spec.specs.Folders.{FaultIn, Source, all_assignments}
@@ -74,6 +76,35 @@ faults_text faults = flat_map (λ f. fault_line f.path f.fault) faults
 abbrev pub faults_text_at : List ℕ → List FaultIn → List ℕ
 faults_text_at path faults = flat_map (λ f. fault_line path f.fault) faults
 
+-- the name of a fault of the database
+abbrev pub db_fault_name : DbFault → List ℕ
+db_fault_name Short = codes "B1"
+db_fault_name Signature = codes "B2"
+db_fault_name RecordSizes = codes "B3"
+db_fault_name Lengths = codes "B4"
+db_fault_name Strings = codes "B5"
+db_fault_name (Place at) = codes "B6"
+db_fault_name (Depth at) = codes "B7"
+db_fault_name (ChildOrder at) = codes "B8"
+db_fault_name (StringOffset at) = codes "B9"
+db_fault_name (KeyOrder at) = codes "B10"
+db_fault_name (Priority at) = codes "B11"
+
+-- the offset at which it stands, if it has one
+abbrev pub db_fault_offset : DbFault → Option ℕ
+db_fault_offset (Place at) = Some at
+db_fault_offset (Depth at) = Some at
+db_fault_offset (ChildOrder at) = Some at
+db_fault_offset (StringOffset at) = Some at
+db_fault_offset (KeyOrder at) = Some at
+db_fault_offset (Priority at) = Some at
+db_fault_offset _ = None
+
+-- its name, and behind that its offset
+abbrev pub at_offset : List ℕ → Option ℕ → List ℕ
+at_offset name None = name
+at_offset name (Some at) = name ++ (codes " at " ++ decimal at)
+
 -- how many bytes a text file or a database has at most: 256 MiB
 abbrev pub max_file : ℕ
 max_file = 268435456
@@ -82,6 +113,20 @@ max_file = 268435456
 abbrev pub query_text : List ℕ → Tree → List ℕ
 query_text device t = properties_text (effective_of (answers device t))
 
+-- an empty line where more texts follow
+abbrev pub empty_line : List (List ℕ) → List ℕ
+empty_line [] = []
+empty_line (text ∷ more) = byte "\n" ∷ []
+
+-- texts, an empty line between two of them
+unfoldable pub with_empty_lines : List (List ℕ) → List ℕ
+with_empty_lines [] = []
+with_empty_lines (text ∷ more) = text ++ (empty_line more ++ with_empty_lines more)
+
+-- the properties that a database gives each of some devices, as text
+abbrev pub queries_text : List (List ℕ) → Tree → List ℕ
+queries_text devices t = with_empty_lines (map (λ device. query_text device t) devices)
+
 -- the lines of the first hits after a position
 abbrev pub list_text : List ℕ → Option Position → Option ℕ → Tree → List ℕ
 list_text device after limit t = hits_text (within_limit limit (answers_after device after t))
@@ -89,6 +134,10 @@ list_text device after limit t = hits_text (within_limit limit (answers_after de
 -- for each key the value of the last assignment among those that match the device, as text
 abbrev pub last_values_text : (device : List ℕ) (etc usr : List Source) → List ℕ
 last_values_text device etc usr = properties_text (effective_of (last_assignments device None (all_assignments etc usr)))
+
+-- the same of each of some devices
+abbrev pub last_values_texts : (devices : List (List ℕ)) (etc usr : List Source) → List ℕ
+last_values_texts devices etc usr = with_empty_lines (map (λ device. last_values_text device etc usr) devices)
 
 -- the lines of the first of the last assignments after a position
 abbrev pub last_lines_text : (device : List ℕ) (from : Option Position) (limit : Option ℕ) (etc usr : List Source) → List ℕ

@@ -16,14 +16,19 @@
 //! | `Format` | the header, a node's record, when bytes are a database of a tree, and which fault stands |
 //! | `Written` | the tight tree of a map, and its bytes |
 //! | `Texts` | each line that is printed |
+//! | `Explanations` | for each key the answer that counts and those that it overrides, and their lines |
 //! | `Failures` | how failed calls are counted |
 //! | `Store` | a store of files, what a crash may leave, and a database that is replaced |
+//! | `Library` | what the C library is told |
 //!
 //! The types below are those that the definitions name.
 #![tactic(auto)]
 
 ghost use Rattle.std.specs.Prelude.{◌≡◌};
 ghost use Rattle.hwdb_spec.specs.Records.{fault_text};
+ghost use Rattle.hwdb_spec.specs.Texts.{db_fault_name, db_fault_offset};
+
+use std::{error, fmt};
 
 /// A named class of bytes, as POSIX has it in the C locale.
 #[derive(Clone, Copy)]
@@ -133,3 +138,52 @@ pub enum DbFault {
     /// B11: the priority of the value entry at the offset is 0.
     Priority(u64),
 }
+
+impl DbFault {
+    /// Its name, B1 to B11.
+    pub fn name(self) -> &'static str
+        ensures { result.now ≡ db_fault_name self }
+    {
+        match self {
+            DbFault::Short => "B1",
+            DbFault::Signature => "B2",
+            DbFault::RecordSizes => "B3",
+            DbFault::Lengths => "B4",
+            DbFault::Strings => "B5",
+            DbFault::Place(_) => "B6",
+            DbFault::Depth(_) => "B7",
+            DbFault::ChildOrder(_) => "B8",
+            DbFault::StringOffset(_) => "B9",
+            DbFault::KeyOrder(_) => "B10",
+            DbFault::Priority(_) => "B11",
+        }
+    }
+
+    /// The offset at which it stands, if it has one.
+    pub fn offset(self) -> Option<u64>
+        ensures { result ≡ db_fault_offset self }
+    {
+        match self {
+            DbFault::Place(at)
+            | DbFault::Depth(at)
+            | DbFault::ChildOrder(at)
+            | DbFault::StringOffset(at)
+            | DbFault::KeyOrder(at)
+            | DbFault::Priority(at) => Some(at),
+            _ => None,
+        }
+    }
+}
+
+/// Its name, and behind that its offset, as the program prints them.
+impl fmt::Display for DbFault {
+    fn fmt<W: fmt::Write>(&self, f: &mut fmt::Formatter<W>) -> fmt::Result {
+        let name = self.name();
+        match self.offset() {
+            None => write!(f, "{name}"),
+            Some(offset) => write!(f, "{name} at {offset}"),
+        }
+    }
+}
+
+impl error::Error for DbFault {}

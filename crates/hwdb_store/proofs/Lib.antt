@@ -1,4 +1,4 @@
-pub mod Making
-pub mod Moments
-pub mod Replacing
-pub mod Steps
+pub mod MakingLemmas
+pub mod MomentLemmas
+pub mod ReplacementLemmas
+pub mod StepLemmas

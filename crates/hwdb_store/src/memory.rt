@@ -226,7 +226,7 @@ impl Memory {
         }
     }
 
-    /// Counts a call, and answers whether it is to fail.
+    /// Counts a call, and returns whether it is to fail.
     fn is_to_fail(&mut self) -> bool
         ensures failed { self.new.failed ≡ self.old.failed }
         ensures steps { self.new.steps.items ≡ self.old.steps.items }

@@ -9,7 +9,7 @@ ghost use Rattle.hwdb_spec.specs.Folders;
 ghost use Rattle.hwdb_text.specs.Internal.Choosing.{put_all, entry_of, with_priorities};
 
 use crate::line::{begins_with, end_of};
-use crate::outcome::TextError;
+use crate::outcome::SelectError;
 use std::alloc::{AllocError, Global};
 use std::collections::BTreeMap;
 
@@ -80,9 +80,9 @@ fn put<'a>(
 ///
 /// # Errors
 ///
-/// `TooManyFiles` where more than 65,535 files are chosen; `Memory` where a growth was refused.
+/// `TooManyFiles` where more than 65,535 files are chosen; `Memory` where memory is refused.
 /// Two empty lists take no memory.
-pub fn select(alloc: Global, etc: &[String], usr: &[String]) -> Result<Vec<Chosen>, TextError>
+pub fn select(alloc: Global, etc: &[String], usr: &[String]) -> Result<Vec<Chosen>, SelectError>
     ensures chosen { IfOk result (λ chosen. map choice_of chosen.items
         ≡ Folders.choice (map string_bytes etc.now) (map string_bytes usr.now)) }
     ensures listed { IfOk result (λ chosen. All
@@ -91,16 +91,15 @@ pub fn select(alloc: Global, etc: &[String], usr: &[String]) -> Result<Vec<Chose
     ensures storable { IfOk result (λ chosen. All IsStorableChoice (map choice_of chosen.items)) }
     ensures few { IfOk result (λ _.
         length (names (map string_bytes etc.now) (map string_bytes usr.now)) ≤ max_files) }
-    ensures too_many { IsErrOf result TextError.TooManyFiles
+    ensures too_many { IsErrOf result SelectError.TooManyFiles
         → max_files < length (names (map string_bytes etc.now) (map string_bytes usr.now)) }
-    ensures never_too_many_lines { IsErrOf result TextError.TooManyLines → ⊥ }
     ensures free { etc.now ≡ [] → usr.now ≡ [] → IsOk result }
 {
     let mut held = BTreeMap::new(alloc);
     put(&mut held, usr, false)?;
     put(&mut held, etc, true)?;
     if held.len() > MOST_FILES {
-        return Err(TextError::TooManyFiles);
+        return Err(SelectError::TooManyFiles);
     }
     Ok(list(alloc, held)?)
 }

@@ -3,7 +3,7 @@ ghost use Rattle.hwdb_text.specs.Rows.{FaultRows, AssignmentRows, ChoiceRows, Pa
 ghost use Rattle.hwdb_text.specs.Laws.{LinesAreTheFile, LinesHoldNoNewline, LinesCountUp, SectionsAreTheBlock, SectionsAreTheLines, NamesAreThoseThatCount, NamesAscend, OneAscendingList, FaultsAreAll, FaultsAscend, OneListOfFaults, PrioritiesCountUp, AssignmentsStandByLine, OneValueALine};
 
 /// The lines of a file are all of it: with a newline behind each, they are the file, with one behind its last line.
-#[tactic(auto, using(crate::proofs::Joining::lines_are_the_file, crate::proofs::Joining::lines_hold_no_newline, crate::proofs::Joining::lines_count_up))]
+#[tactic(auto, using(crate::proofs::JoinLemmas::lines_are_the_file, crate::proofs::JoinLemmas::lines_hold_no_newline, crate::proofs::JoinLemmas::lines_count_up))]
 pub fn lines_are_the_file()
     ensures joined { LinesAreTheFile }
     ensures cut { LinesHoldNoNewline }
@@ -11,62 +11,62 @@ pub fn lines_are_the_file()
 {}
 
 /// The sections of a block, joined, are the block.
-#[tactic(auto, using(crate::proofs::Joining::sections_are_the_block))]
+#[tactic(auto, using(crate::proofs::JoinLemmas::sections_are_the_block))]
 pub fn sections_are_the_block()
     ensures { SectionsAreTheBlock }
 {}
 
 /// The sections of clean lines, joined, are those of them that aren't empty: each stands in one section,
 /// in its order.
-#[tactic(auto, using(crate::proofs::Joining::sections_are_the_lines))]
+#[tactic(auto, using(crate::proofs::JoinLemmas::sections_are_the_lines))]
 pub fn sections_are_the_lines()
     ensures { SectionsAreTheLines }
 {}
 
 /// A name is chosen if it counts and one of the folders lists it, and no others are.
-#[tactic(auto, using(crate::proofs::NameSets::names_are_those_that_count))]
+#[tactic(auto, using(crate::proofs::NameSetLemmas::names_are_those_that_count))]
 pub fn names_are_those_that_count()
     ensures { NamesAreThoseThatCount }
 {}
 
 /// The chosen names ascend by their bytes, so that none stands twice.
-#[tactic(auto, using(crate::proofs::NameSets::names_ascend))]
+#[tactic(auto, using(crate::proofs::NameSetLemmas::names_ascend))]
 pub fn names_ascend()
     ensures { NamesAscend }
 {}
 
 /// A set of names has one ascending list.
-#[tactic(auto, using(crate::proofs::NameSets::one_ascending_list))]
+#[tactic(auto, using(crate::proofs::NameSetLemmas::one_ascending_list))]
 pub fn one_ascending_list()
     ensures { OneAscendingList }
 {}
 
 /// The faults of a file are all that its lines and records have, each as often as it stands there.
-#[tactic(auto, using(crate::proofs::FaultOrder::faults_are_all))]
+#[tactic(auto, using(crate::proofs::FaultOrderLemmas::faults_are_all))]
 pub fn faults_are_all()
     ensures { FaultsAreAll }
 {}
 
 /// They ascend by line and then by number, so that none stands twice.
-#[tactic(auto, using(crate::proofs::FaultSets::faults_ascend))]
+#[tactic(auto, using(crate::proofs::FaultSetLemmas::faults_ascend))]
 pub fn faults_ascend()
     ensures { FaultsAscend }
 {}
 
 /// A set of faults has one ascending list.
-#[tactic(auto, using(crate::proofs::FaultSets::one_list_of_faults))]
+#[tactic(auto, using(crate::proofs::FaultSetLemmas::one_list_of_faults))]
 pub fn one_list_of_faults()
     ensures { OneListOfFaults }
 {}
 
 /// The priorities are 1, 2, 3 and so on.
-#[tactic(auto, using(crate::proofs::Ordered::priorities_count_up))]
+#[tactic(auto, using(crate::proofs::OrderLemmas::priorities_count_up))]
 pub fn priorities_count_up()
     ensures { PrioritiesCountUp }
 {}
 
 /// The assignments of a file stand by the lines of their properties.
-#[tactic(auto, using(crate::proofs::Ordered::assignments_stand_by_line))]
+#[tactic(auto, using(crate::proofs::OrderLemmas::assignments_stand_by_line))]
 pub fn assignments_stand_by_line()
     ensures { AssignmentsStandByLine }
 {}
@@ -77,25 +77,25 @@ pub fn one_value_a_line()
 {}
 
 /// The faults of files, at worked rows.
-#[tactic(auto, using(crate::proofs::Computed::fault_rows_hold))]
+#[tactic(auto, using(crate::proofs::ComputedRows::fault_rows_hold))]
 pub fn fault_rows()
     ensures { FaultRows }
 {}
 
 /// The assignments of files, at worked rows.
-#[tactic(auto, using(crate::proofs::Computed::assignment_rows_hold))]
+#[tactic(auto, using(crate::proofs::ComputedRows::assignment_rows_hold))]
 pub fn assignment_rows()
     ensures { AssignmentRows }
 {}
 
 /// The choice of files, at worked rows.
-#[tactic(auto, using(crate::proofs::Computed::choice_rows_hold))]
+#[tactic(auto, using(crate::proofs::ComputedRows::choice_rows_hold))]
 pub fn choice_rows()
     ensures { ChoiceRows }
 {}
 
 /// The stored paths, at worked rows.
-#[tactic(auto, using(crate::proofs::Computed::path_rows_hold))]
+#[tactic(auto, using(crate::proofs::ComputedRows::path_rows_hold))]
 pub fn path_rows()
     ensures { PathRows }
 {}

@@ -10,12 +10,12 @@ mod choice;
 pub mod laws;
 mod line;
 mod outcome;
-mod parsing;
+mod parser;
 mod records;
 #[cfg(test)]
 mod tests;
 
 pub use crate::choice::{Chosen, counts, select};
-pub use crate::outcome::{Assignment, Given, Parsed, Scanned, TextError};
-pub use crate::parsing::{next_line, parse, scan};
+pub use crate::outcome::{Assignment, Given, Parsed, ScanError, Scanned, SelectError};
+pub use crate::parser::{next_line, parse, scan};
 pub use hwdb_spec::{Fault, FaultKind};

@@ -53,26 +53,44 @@ pub struct Scanned<'b> {
     pub faults: Vec<Fault>,
 }
 
-/// Why files aren't chosen or read.
+/// Why no files are chosen.
 #[derive(Clone, Copy, Debug, Error, PartialEq, Eq)]
-pub enum TextError {
-    /// More files are chosen than there are priorities.
+pub enum SelectError {
+    /// More files would be chosen than there are priorities.
     #[error("more than 65535 files")]
     TooManyFiles,
-    /// A file has more lines than can be numbered.
-    #[error("a file has more than 4294967295 lines")]
-    TooManyLines,
-    /// A growth was refused.
+    /// Memory was refused.
     #[error("out of memory")]
     Memory,
 }
 
-impl From<AllocError> for TextError {
-    ghost use Rattle.hwdb_text.specs.declared.outcome.TextError.TheVariants.{Memory};
+impl From<AllocError> for SelectError {
+    ghost use Rattle.hwdb_text.specs.declared.outcome.SelectError.TheVariants.{Memory};
 
     ghost from_gives = { λ _ e. e ≡ Memory };
 
-    fn from(_error: AllocError) -> TextError {
-        TextError::Memory
+    fn from(_error: AllocError) -> SelectError {
+        SelectError::Memory
+    }
+}
+
+/// Why a file isn't read.
+#[derive(Clone, Copy, Debug, Error, PartialEq, Eq)]
+pub enum ScanError {
+    /// It has more lines than can be numbered.
+    #[error("a file has more than 4294967295 lines")]
+    TooManyLines,
+    /// Memory was refused.
+    #[error("out of memory")]
+    Memory,
+}
+
+impl From<AllocError> for ScanError {
+    ghost use Rattle.hwdb_text.specs.declared.outcome.ScanError.TheVariants.{Memory};
+
+    ghost from_gives = { λ _ e. e ≡ Memory };
+
+    fn from(_error: AllocError) -> ScanError {
+        ScanError::Memory
     }
 }

@@ -4,7 +4,7 @@ use std::alloc::{AllocError, Global};
 use std::test::Fail;
 
 /// What a file says: `LINE PATTERN KEY=VALUE;` for each assignment, then `LINE FNUMBER;` for each fault.
-fn said(alloc: Global, file: &str) -> Result<String, TextError> {
+fn said(alloc: Global, file: &str) -> Result<String, ScanError> {
     let parsed = parse(alloc, b"P", 7, file.as_bytes())?;
     let mut text = String::new(alloc);
     for assignment in &parsed.assignments {
@@ -226,15 +226,22 @@ fn texts(rt: HostRuntime) -> Result<(), Fail> {
     for (kind, want) in rows {
         assert_eq!(rt; kind.text(), want);
     }
-    let errors = [
-        (TextError::TooManyFiles, "more than 65535 files"),
+    let of_select = [
+        (SelectError::TooManyFiles, "more than 65535 files"),
+        (SelectError::Memory, "out of memory"),
+    ];
+    for (error, want) in of_select {
+        let text = format!(in rt.alloc(); "{error}")?;
+        assert_eq!(rt; text.as_str(), want);
+    }
+    let of_scan = [
         (
-            TextError::TooManyLines,
+            ScanError::TooManyLines,
             "a file has more than 4294967295 lines",
         ),
-        (TextError::Memory, "out of memory"),
+        (ScanError::Memory, "out of memory"),
     ];
-    for (error, want) in errors {
+    for (error, want) in of_scan {
         let text = format!(in rt.alloc(); "{error}")?;
         assert_eq!(rt; text.as_str(), want);
     }
@@ -245,7 +252,7 @@ fn texts(rt: HostRuntime) -> Result<(), Fail> {
 fn line_numbers(rt: HostRuntime) -> Result<(), Fail> {
     assert_eq!(rt; next_line(0)?, 1);
     assert_eq!(rt; next_line(4294967294)?, 4294967295);
-    assert!(rt; next_line(4294967295) == Err(TextError::TooManyLines));
+    assert!(rt; next_line(4294967295) == Err(ScanError::TooManyLines));
     Ok(())
 }
 
@@ -317,7 +324,7 @@ fn many_files(rt: HostRuntime) -> Result<(), Fail> {
     etc.push(String::from_str(alloc, "65535.hwdb")?)?;
     match select(alloc, &etc, &none) {
         Ok(_) => assert!(rt; false, "65536 files are chosen"),
-        Err(error) => assert!(rt; error == TextError::TooManyFiles),
+        Err(error) => assert!(rt; error == SelectError::TooManyFiles),
     }
     Ok(())
 }

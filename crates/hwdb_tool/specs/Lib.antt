@@ -1,5 +1,1 @@
-pub mod Devices
 pub mod Refusals
-pub mod Engines
-pub mod Headline
-pub mod Updates

@@ -3,12 +3,8 @@ ghost use Rattle.std.specs.Prelude.{◌≡◌, ◌≤◌, [], None, IfOk, vec_le
 ghost use Rattle.hwdb_spec.specs.Failures.{after_failure, CountsFailures};
 ghost use Rattle.hwdb_spec.specs.Texts.{max_file};
 
-use crate::adapters::{FromRead, after_failure, write_on};
-use crate::causes::Cause;
-use crate::engines::MAX_BYTES;
-use crate::errors::ToolError;
 use crate::refusals::Refusal;
-use crate::transfer::read_all;
+use hwdb_commands::{Cause, FromRead, MAX_BYTES, ToolError, after_failure, read_all, write_on};
 use hwdb_store::{CallFailed, Store};
 use hwdb_text::counts;
 use std::alloc::{AllocError, Global};

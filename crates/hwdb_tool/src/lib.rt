@@ -1,35 +1,23 @@
-//! The program `hwdb` over devices that may fail at any byte.
+//! The program `hwdb`: its words, its files, its statuses and its refusal lines.
 //!
-//! A [`devices::Source`] gives bytes and a [`devices::Sink`] takes them; each counts its failed calls, and
-//! some tell their bytes to contracts. [`transfer`] moves whole texts through them, [`engines`] has what
-//! the commands do with bytes, and [`running`] is the program itself: its words, files, statuses and
-//! refusal lines.
+//! | Module | What it does |
+//! |---|---|
+//! | `dispatch` | the program: what each command reads, and where its text goes |
+//! | `files` | files and folders, and the file system as a store |
+//! | `refusals` | the line of each refusal |
+//!
+//! What the commands do with bytes is in `hwdb_commands`; its calls are here too.
 #![tactic(auto)]
 
-pub mod adapters;
-pub mod asking;
-pub mod causes;
-pub mod devices;
-pub mod engines;
-pub mod errors;
+mod dispatch;
 mod files;
-pub mod fixed;
-mod listing;
 mod refusals;
-pub mod running;
 #[cfg(test)]
 mod tests;
-mod texts;
-pub mod transfer;
-pub mod updating;
 
-pub use adapters::{FromRead, ToWrite};
-pub use asking::ask;
-pub use causes::Cause;
-pub use devices::{DeviceFailed, Sink, Source};
-pub use engines::{run_list, run_query};
-pub use errors::ToolError;
+pub use dispatch::program;
 pub use hwdb_cli::{Job, Task, WordsFault, read_words};
-pub use running::program;
-pub use transfer::{read_all, write_text};
-pub use updating::run_update;
+pub use hwdb_commands::{
+    Cause, DeviceFailed, FromRead, Sink, Source, ToWrite, ToolError, ask, read_all, run_explain,
+    run_list, run_queries, run_query, run_update, testing, write_text,
+};

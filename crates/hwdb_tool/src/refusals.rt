@@ -1,14 +1,13 @@
 //! The lines of refusals on standard error.
 ghost use Rattle.std.specs.Prelude.{◌≡◌, ◌++◌, ℕ, List, map, codes};
 ghost use Rattle.std.specs.List.{concat};
-ghost use Rattle.hwdb_tool.specs.Refusals.{Refused, refusal_line, refusal_text, path_text, file_text, error_text, error_words, db_fault_name, db_fault_offset, at_offset};
-ghost use Rattle.hwdb_tool.specs.declared.errors.ToolError.TheVariants.{Memory};
+ghost use Rattle.hwdb_spec.specs.Texts.{db_fault_name, db_fault_offset, at_offset};
+ghost use Rattle.hwdb_commands.specs.Refusals.{error_text};
+ghost use Rattle.hwdb_tool.specs.Refusals.{Refused, refusal_line, refusal_text, path_text, file_text};
+ghost use Rattle.hwdb_commands.specs.declared.errors.ToolError.TheVariants.{Memory};
 ghost use Rattle.hwdb_tool.specs.declared.refusals.Refusal.TheVariants.{Plain};
 
-use crate::causes::Cause;
-use crate::devices::Sink;
-use crate::errors::ToolError;
-use crate::transfer::write_text;
+use hwdb_commands::{Cause, Sink, ToolError, write_text};
 use hwdb_reader::DbFault;
 use std::alloc::{AllocError, Global};
 
@@ -64,7 +63,7 @@ const BEGIN: &[u8] = b"hwdb: ";
 
 const END: &[u8] = b"\n";
 
-/// Writes the line of the refusal, and answers the status. Takes no memory. Where `err` fails, nothing more can be
+/// Writes the line of the refusal, and returns the status. Takes no memory. Where `err` fails, nothing more can be
 /// said.
 pub fn refuse_for<E: Sink>(refusal: &Refusal, err: &mut E) -> u8
     ensures status { result ≡ 1 }
@@ -122,59 +121,7 @@ fn refuse_plainly<E: Sink>(error: ToolError, err: &mut E) -> u8
 {
     match error {
         ToolError::BadDatabase(fault) => refuse_database(fault, err),
-        error => refuse_text(err, words_of(error)),
-    }
-}
-
-/// The words of an error.
-fn words_of(error: ToolError) -> &'static str
-    ensures { result.now ≡ error_words error }
-{
-    match error {
-        ToolError::Read => "cannot read",
-        ToolError::Write | ToolError::Replace(_) => "cannot write",
-        ToolError::TooLong => "a file is longer than 268435456 bytes",
-        ToolError::TooManyFiles => "more than 65535 files",
-        ToolError::TooManyLines => "a file has more than 4294967295 lines",
-        ToolError::TooLarge => "the database would be larger than 268435456 bytes",
-        ToolError::BadPosition => "bad position",
-        ToolError::PageZero => "page of 0 hits",
-        ToolError::BadDatabase(_) => "bad database: ",
-        ToolError::Memory => "out of memory",
-    }
-}
-
-/// The name of a fault of the database.
-fn name_of(fault: DbFault) -> &'static str
-    ensures { result.now ≡ db_fault_name fault }
-{
-    match fault {
-        DbFault::Short => "B1",
-        DbFault::Signature => "B2",
-        DbFault::RecordSizes => "B3",
-        DbFault::Lengths => "B4",
-        DbFault::Strings => "B5",
-        DbFault::Place(_) => "B6",
-        DbFault::Depth(_) => "B7",
-        DbFault::ChildOrder(_) => "B8",
-        DbFault::StringOffset(_) => "B9",
-        DbFault::KeyOrder(_) => "B10",
-        DbFault::Priority(_) => "B11",
-    }
-}
-
-/// The offset at which a fault of the database stands, if it has one.
-fn offset_of(fault: DbFault) -> Option<u64>
-    ensures { result ≡ db_fault_offset fault }
-{
-    match fault {
-        DbFault::Place(at)
-        | DbFault::Depth(at)
-        | DbFault::ChildOrder(at)
-        | DbFault::StringOffset(at)
-        | DbFault::KeyOrder(at)
-        | DbFault::Priority(at) => Some(at),
-        _ => None,
+        error => refuse_text(err, error.words()),
     }
 }
 
@@ -186,8 +133,8 @@ fn refuse_database<E: Sink>(fault: DbFault, err: &mut E) -> u8
         (E.taken err.old) (E.taken err.new) (E.failures err.old) (E.failures err.new) }
 {
     let bad = b"bad database: ".as_slice();
-    let name = name_of(fault).as_bytes();
-    match offset_of(fault) {
+    let name = fault.name().as_bytes();
+    match fault.offset() {
         None => refuse(err, &[BEGIN, bad, name, END]),
         Some(offset) => {
             let mut digits = itoa::Buffer::new();
@@ -198,7 +145,7 @@ fn refuse_database<E: Sink>(fault: DbFault, err: &mut E) -> u8
     }
 }
 
-/// Writes a line, and answers the status of a refusal.
+/// Writes a line, and returns the status of a refusal.
 pub fn refuse_text<E: Sink>(err: &mut E, line: &str) -> u8
     ensures status { result ≡ 1 }
     ensures line { Refused (refusal_line line.now)
@@ -207,7 +154,7 @@ pub fn refuse_text<E: Sink>(err: &mut E, line: &str) -> u8
     refuse(err, &[BEGIN, line.as_bytes(), END])
 }
 
-/// Writes a line, given in pieces, and answers the status of a refusal.
+/// Writes a line, given in pieces, and returns the status of a refusal.
 fn refuse<E: Sink>(err: &mut E, pieces: &[&[u8]]) -> u8
     ensures status { result ≡ 1 }
     ensures line { Refused (concat (map (λ piece. piece.now) pieces.now))

@@ -1,7 +1,7 @@
 //! The assignments, seen as a finite map.
-use crate::branches::{Branch, put_below};
 use crate::prefix::Prefix;
-use crate::stored::Stored;
+use crate::trie::{TrieNode, insert_below};
+use crate::value_entry::ValueEntry;
 use crate::values::Values;
 use hwdb_text::{Assignment, Given};
 use std::alloc::{AllocError, Global};
@@ -12,7 +12,7 @@ use std::rc::Rc;
 #[derive(Drop)]
 pub struct Tree {
     alloc: Global,
-    pub(crate) root: Branch,
+    pub(crate) root: TrieNode,
     /// The path that was set last.
     path: Option<Rc<Vec<u8>>>,
 }
@@ -39,7 +39,7 @@ impl Tree {
     ghost use Rattle.std.specs.FinMap.{empty, insert};
     ghost use Rattle.hwdb_text.specs.Views.{origin};
     ghost use Rattle.hwdb_text.specs.Views.{assigned, given_in};
-    ghost use Rattle.hwdb_writer.specs.Internal.Stored.{value_of, at_place};
+    ghost use Rattle.hwdb_writer.specs.Internal.ValueEntries.{value_of, at_place};
     ghost use Rattle.hwdb_writer.specs.Internal.Storable.{HasNoZero, IsStorableValue};
     ghost use Rattle.hwdb_spec.specs.Lines.{max_pattern};
 
@@ -49,7 +49,7 @@ impl Tree {
     {
         Tree {
             alloc,
-            root: Branch {
+            root: TrieNode {
                 byte: 0,
                 prefix: Prefix::empty(alloc),
                 values: Values::none(alloc),
@@ -76,7 +76,7 @@ impl Tree {
     }
 
     /// Sets the map at the pattern and the value's key.
-    fn set_value(&mut self, pattern: &[u8], value: Stored) -> Result<(), AllocError>
+    fn set_value(&mut self, pattern: &[u8], value: ValueEntry) -> Result<(), AllocError>
         requires short { length pattern.now ≤ max_pattern }
         requires pattern { HasNoZero pattern.now }
         requires value { IsStorableValue (value_of value) }
@@ -84,7 +84,7 @@ impl Tree {
             → self.new ≡ insert self.old (pattern.now, key) (at_place (pattern.now, key) v)) }
         ensures err { OnErr result (self.new ≡ self.old) }
     {
-        put_below(self.alloc, &mut self.root, pattern, value)?;
+        insert_below(self.alloc, &mut self.root, pattern, value)?;
         Ok(())
     }
 
@@ -106,7 +106,7 @@ impl Tree {
     {
         let alloc = self.alloc;
         let path = self.shared(path)?;
-        let value = Stored::new(alloc, priority, given.line, given.key, given.value, path)?;
+        let value = ValueEntry::new(alloc, priority, given.line, given.key, given.value, path)?;
         self.set_value(given.pattern, value)
     }
 

@@ -5,20 +5,20 @@
 #![tactic(auto)]
 
 mod assignments;
-mod branches;
-mod guesses;
+mod keyed;
 mod laws;
 mod nodes;
+mod output;
 mod prefix;
 mod records;
-mod stored;
+mod registry;
 mod strings;
 #[cfg(test)]
 mod tests;
+mod trie;
+mod value_entry;
 mod values;
-mod words;
-mod writing;
 
 pub use crate::assignments::Tree;
 pub use crate::laws::{law_one_tight_tree, law_one_written_form};
-pub use crate::writing::{StoreError, write};
+pub use crate::output::{StoreError, write};

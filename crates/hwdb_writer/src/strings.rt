@@ -5,42 +5,42 @@ ghost use Rattle.hwdb_spec.specs.Assignment.{ascending};
 ghost use Rattle.hwdb_writer.specs.Internal.Membership.{SameMembers};
 ghost use Rattle.hwdb_writer.specs.Internal.Places.{starts_from, IsTable, place_in};
 
-use crate::guesses::Guesses;
-use crate::words::Word;
+use crate::keyed::KeyedStr;
+use crate::registry::Registry;
 use std::alloc::{AllocError, Global};
 
 /// The strings in order, where each stands, and where the first of them stands.
 #[derive(Clone, Copy)]
 pub struct Table<'a, 't> {
-    pub words: &'a [Word<'t>],
+    pub words: &'a [KeyedStr<'t>],
     pub starts: &'a [usize],
     pub first: usize,
 }
 
-/// Appends the text, unless it stands where it was noted.
+/// Appends the text, unless it stands where it was remembered.
 pub fn push_new<'t>(
-    words: &mut Vec<Word<'t>>,
-    guesses: &mut Guesses,
+    words: &mut Vec<KeyedStr<'t>>,
+    registry: &mut Registry,
     text: &'t [u8],
 ) -> Result<(), AllocError>
     ensures { OnOk result (SameMembers words.new.items (words.old.items ++ text.now ∷ [])) }
 {
-    let word = Word::new(text);
-    let known: &[Word<'_>] = words;
+    let word = KeyedStr::new(text);
+    let known: &[KeyedStr<'_>] = words;
     let count = known.len();
-    let place = guesses.guess(&word);
+    let place = registry.lookup(&word);
     if place < count {
         if known[place] == word {
             return Ok(());
         }
     }
-    guesses.note(&word, count);
+    registry.remember(&word, count);
     words.push(word)?;
     Ok(())
 }
 
 /// Puts the strings in order, each once.
-pub fn order(words: &mut Vec<Word<'_>>) -> Result<(), AllocError>
+pub fn order(words: &mut Vec<KeyedStr<'_>>) -> Result<(), AllocError>
     ensures { OnOk result (words.new.items ≡ ascending words.old.items) }
 {
     words.sort()?;
@@ -49,7 +49,7 @@ pub fn order(words: &mut Vec<Word<'_>>) -> Result<(), AllocError>
 }
 
 /// How long the section of the strings is, or the greatest number where it is longer.
-pub fn section_length(words: &[Word<'_>]) -> usize
+pub fn section_length(words: &[KeyedStr<'_>]) -> usize
     ensures { result ≡ min (length (section_of words.now)) (2 ^ 64 - 1) }
 {
     let mut total = 0usize;
@@ -60,7 +60,7 @@ pub fn section_length(words: &[Word<'_>]) -> usize
 }
 
 /// Where each string stands, the first of them at `first`, and where they end.
-pub fn starts(alloc: Global, words: &[Word<'_>], first: usize) -> Result<Vec<usize>, AllocError>
+pub fn starts(alloc: Global, words: &[KeyedStr<'_>], first: usize) -> Result<Vec<usize>, AllocError>
     requires { first + length (section_of words.now) < 2 ^ 64 }
     ensures { IfOk result (λ v. v.items ≡ starts_from first words.now) }
 {
@@ -74,23 +74,23 @@ pub fn starts(alloc: Global, words: &[Word<'_>], first: usize) -> Result<Vec<usi
     Ok(starts)
 }
 
-/// Where the string stands, or would belong. It is looked for where it was noted, and noted where it was found.
-pub fn place(table: &Table<'_, '_>, guesses: &mut Guesses, s: &[u8]) -> usize
+/// Where the string stands, or would belong. It is looked for where it was remembered, and remembered where it was found.
+pub fn place(table: &Table<'_, '_>, registry: &mut Registry, s: &[u8]) -> usize
     requires { IsTable table.now }
     ensures { result ≡ place_in table.now s.now }
 {
     let words = table.words;
     let starts = table.starts;
-    let word = Word::new(s);
-    let noted = guesses.guess(&word);
-    if noted < words.len() {
-        if words[noted] == word {
-            return starts[noted];
+    let word = KeyedStr::new(s);
+    let remembered = registry.lookup(&word);
+    if remembered < words.len() {
+        if words[remembered] == word {
+            return starts[remembered];
         }
     }
     match words.binary_search(&word) {
         Ok(i) => {
-            guesses.note(&word, i);
+            registry.remember(&word, i);
             starts[i]
         }
         Err(i) => starts[i],

@@ -6,10 +6,10 @@ ghost use Rattle.std.specs.Prelude.{◌≡◌, ◌≤◌, ◌<◌, ◌-◌, ◌^
 ghost use Rattle.hwdb_spec.specs.Tree.{KeysAscend};
 ghost use Rattle.hwdb_writer.specs.Internal.Setting.{set_value};
 ghost use Rattle.hwdb_writer.specs.Internal.Found.{HitsKey, MissesKey};
-ghost use Rattle.hwdb_writer.specs.Internal.Stored.{value_of};
+ghost use Rattle.hwdb_writer.specs.Internal.ValueEntries.{value_of};
 ghost use Rattle.hwdb_writer.specs.Internal.Runs.{Run, values_in, AreRuns, IsRunOf};
 
-use crate::stored::Stored;
+use crate::value_entry::ValueEntry;
 use std::alloc::{AllocError, Global};
 use std::cmp::Ordering;
 use std::marker::Model;
@@ -22,13 +22,13 @@ const RUN_LENGTH: usize = 128;
 #[derive(Drop)]
 enum Runs {
     /// One run, or no value.
-    One(Vec<Stored>),
+    One(Vec<ValueEntry>),
     /// Some runs, each with a value. The box keeps a node small.
-    Many(Box<Vec<Vec<Stored>>>),
+    Many(Box<Vec<Vec<ValueEntry>>>),
 }
 
 /// Where the key stands, or where it belongs.
-pub fn find_key(values: &[Stored], key: &[u8]) -> Result<usize, usize>
+pub fn find_key(values: &[ValueEntry], key: &[u8]) -> Result<usize, usize>
     requires { KeysAscend None (map value_of values.now) }
     ensures found { IfOk result (HitsKey values.now key.now) }
     ensures absent { IfErr result (MissesKey values.now key.now) }
@@ -48,7 +48,7 @@ pub fn find_key(values: &[Stored], key: &[u8]) -> Result<usize, usize>
 
 /// Puts the value in its place in a run.
 #[inline(never)]
-pub fn put_value(values: &mut Vec<Stored>, value: Stored) -> Result<(), AllocError>
+pub fn put_value(values: &mut Vec<ValueEntry>, value: ValueEntry) -> Result<(), AllocError>
     requires { KeysAscend None (map value_of values.old.items) }
     ensures ok { OnOk result (map value_of values.new.items
         ≡ set_value (value_of value) (map value_of values.old.items)) }
@@ -67,7 +67,7 @@ pub fn put_value(values: &mut Vec<Stored>, value: Stored) -> Result<(), AllocErr
 }
 
 /// Which run a key is in, or belongs to.
-fn find_run(runs: &[Vec<Stored>], key: &[u8]) -> usize
+fn find_run(runs: &[Vec<ValueEntry>], key: &[u8]) -> usize
     requires runs { AreRuns runs.now }
     requires ascend { KeysAscend None (values_in runs.now) }
     ensures { IsRunOf runs.now key.now result }
@@ -85,7 +85,7 @@ fn find_run(runs: &[Vec<Stored>], key: &[u8]) -> usize
 }
 
 /// Splits a run in two.
-fn split(runs: &mut Vec<Vec<Stored>>, run: usize, at: usize) -> Result<(), AllocError>
+fn split(runs: &mut Vec<Vec<ValueEntry>>, run: usize, at: usize) -> Result<(), AllocError>
     requires run { run < vec_len runs.old }
     requires runs { AreRuns runs.old.items }
     requires low { 0 < at }
@@ -101,7 +101,7 @@ fn split(runs: &mut Vec<Vec<Stored>>, run: usize, at: usize) -> Result<(), Alloc
 
 /// Where to split a full run that a key comes to: in its middle, but before its last value where the
 /// key goes on behind all, so that keys that come in their order leave full runs.
-fn split_place(run: &[Stored], last: bool, key: &[u8]) -> usize
+fn split_place(run: &[ValueEntry], last: bool, key: &[u8]) -> usize
     requires { 1 < length run.now }
     ensures low { 0 < result }
     ensures high { result < length run.now }
@@ -114,14 +114,14 @@ fn split_place(run: &[Stored], last: bool, key: &[u8]) -> usize
 }
 
 /// Splits the run that a key belongs to, where it is full.
-fn make_room(runs: &mut Vec<Vec<Stored>>, key: &[u8]) -> Result<(), AllocError>
+fn make_room(runs: &mut Vec<Vec<ValueEntry>>, key: &[u8]) -> Result<(), AllocError>
     requires runs { AreRuns runs.old.items }
     requires ascend { KeysAscend None (values_in runs.old.items) }
     ensures runs { AreRuns runs.new.items }
     ensures same { values_in runs.new.items ≡ values_in runs.old.items }
 {
     let run = find_run(runs, key);
-    let values: &[Stored] = &runs[run];
+    let values: &[ValueEntry] = &runs[run];
     if values.len() < RUN_LENGTH {
         return Ok(());
     }
@@ -130,7 +130,7 @@ fn make_room(runs: &mut Vec<Vec<Stored>>, key: &[u8]) -> Result<(), AllocError>
 }
 
 /// Puts the value in the run that its key belongs to.
-fn put_in_run(runs: &mut Vec<Vec<Stored>>, value: Stored) -> Result<(), AllocError>
+fn put_in_run(runs: &mut Vec<Vec<ValueEntry>>, value: ValueEntry) -> Result<(), AllocError>
     requires runs { AreRuns runs.old.items }
     requires ascend { KeysAscend None (values_in runs.old.items) }
     ensures runs { AreRuns runs.new.items }
@@ -144,7 +144,7 @@ fn put_in_run(runs: &mut Vec<Vec<Stored>>, value: Stored) -> Result<(), AllocErr
 
 /// Puts the value in its place, in a run that has room for it. Where memory is refused, the values
 /// stay, though a run may be two.
-fn put_in_runs(runs: &mut Vec<Vec<Stored>>, value: Stored) -> Result<(), AllocError>
+fn put_in_runs(runs: &mut Vec<Vec<ValueEntry>>, value: ValueEntry) -> Result<(), AllocError>
     requires runs { AreRuns runs.old.items }
     requires ascend { KeysAscend None (values_in runs.old.items) }
     ensures runs { AreRuns runs.new.items }
@@ -189,7 +189,7 @@ impl Values {
     }
 
     /// One value.
-    pub fn one(alloc: Global, value: Stored) -> Result<Values, AllocError>
+    pub fn one(alloc: Global, value: ValueEntry) -> Result<Values, AllocError>
         ensures { IfOk result (λ v. v ≡ value_of value ∷ []) }
     {
         let mut run = Vec::with_capacity(alloc, 1)?;
@@ -200,7 +200,7 @@ impl Values {
     }
 
     /// Their runs, one behind another.
-    pub fn runs(&self) -> &[Vec<Stored>]
+    pub fn runs(&self) -> &[Vec<ValueEntry>]
         ensures { values_in result.now ≡ self.now }
     {
         match &self.runs {
@@ -242,7 +242,7 @@ impl Values {
     ///
     /// Takes a search, and moves the values of one run at most; a split moves the list of runs besides.
     #[inline(never)]
-    pub fn set(&mut self, alloc: Global, value: Stored) -> Result<(), AllocError>
+    pub fn set(&mut self, alloc: Global, value: ValueEntry) -> Result<(), AllocError>
         requires { KeysAscend None self.old }
         ensures ok { OnOk result (self.new ≡ set_value (value_of value) self.old) }
         ensures err { OnErr result (self.new ≡ self.old) }

@@ -3,7 +3,7 @@ use Rattle.std.specs.Prelude.{List, ℕ, Bool, drop, false, take, true, ◌++◌
 use Rattle.hwdb_query.specs.declared.hit.Parts.{Parts}
 use Rattle.hwdb_spec.specs.Assignment.{Position, Assignment, assignment_cmp, put}
 use Rattle.hwdb_reader.specs.declared.view.Entry.{Entry}
-use Rattle.hwdb_query.specs.declared.held.Place.{Place}
+use Rattle.hwdb_query.specs.declared.hit_page.Place.{Place}
 use Rattle.hwdb_query.specs.declared.hit.Hit.{Hit}
 use Rattle.hwdb_reader.specs.declared.view.Origin.{Origin}
 use Rattle.hwdb_query.specs.declared.position.Position.{Position as OwnedPosition}

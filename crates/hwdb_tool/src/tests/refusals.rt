@@ -1,8 +1,7 @@
 //! The line of each refusal.
-use crate::causes::Cause;
-use crate::errors::ToolError;
-use crate::fixed::TakenBytes;
 use crate::refusals::{Refusal, refuse_for};
+use hwdb_commands::testing::MemorySink;
+use hwdb_commands::{Cause, ToolError};
 use hwdb_reader::DbFault;
 use std::alloc::Global;
 use std::process::Abort;
@@ -10,7 +9,7 @@ use std::test::Fail;
 
 /// Compares the line of a refusal, and its status.
 fn says(rt: &impl Abort, refusal: &Refusal, line: &str) {
-    let mut err: TakenBytes<256> = TakenBytes::new();
+    let mut err: MemorySink<256> = MemorySink::new();
     assert_eq!(rt; refuse_for(refusal, &mut err), 1, "{line}");
     assert_eq!(rt; err.taken(), line.as_bytes());
 }
@@ -158,31 +157,4 @@ fn broken_pipes(rt: HostRuntime) {
     assert!(rt; Cause::System(32).is_broken_pipe());
     assert!(rt; !Cause::System(28).is_broken_pipe());
     assert!(rt; !Cause::Pipe.is_broken_pipe());
-}
-
-#[test]
-fn error_texts(rt: HostRuntime) -> Result<(), Fail> {
-    let rows = [
-        (ToolError::Read, "cannot read"),
-        (ToolError::Write, "cannot write"),
-        (ToolError::TooLong, "longer than the limit"),
-        (ToolError::TooManyFiles, "more than 65535 files"),
-        (
-            ToolError::TooManyLines,
-            "a file has more than 4294967295 lines",
-        ),
-        (
-            ToolError::TooLarge,
-            "the database would be larger than the limit",
-        ),
-        (ToolError::BadPosition, "bad position"),
-        (ToolError::PageZero, "page of 0 hits"),
-        (ToolError::BadDatabase(DbFault::Short), "bad database"),
-        (ToolError::Memory, "out of memory"),
-    ];
-    for (error, want) in rows {
-        let text = format!(in rt.alloc(); "{error}")?;
-        assert_eq!(rt; text.as_str(), want);
-    }
-    Ok(())
 }

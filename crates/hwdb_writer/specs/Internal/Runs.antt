@@ -5,14 +5,14 @@ use Rattle.std.specs.List.{AllByRecursion}
 use Rattle.std.specs.declared.cmp.Ordering.TheVariants.{Less}
 use Rattle.std.specs.Ordering.{nat_cmp}
 use Rattle.std.specs.Cmp.Lexicographic.{slice_cmp}
-use Rattle.hwdb_writer.specs.declared.stored.Stored.{Stored}
+use Rattle.hwdb_writer.specs.declared.value_entry.ValueEntry.{ValueEntry}
 use Rattle.hwdb_spec.specs.Tree.{Value}
-use Rattle.hwdb_writer.specs.Internal.Stored.{value_of}
+use Rattle.hwdb_writer.specs.Internal.ValueEntries.{value_of}
 use Rattle.hwdb_writer.specs.declared.values.Runs.TheVariants.{Many, One}
 use Rattle.hwdb_writer.specs.declared.values.Runs.{Runs}
 
 abbrev pub Run : Type 0
-Run = Vec Stored Global
+Run = Vec ValueEntry Global
 
 abbrev pub values_at : Run → List Value
 values_at run = map value_of run.items

@@ -1,7 +1,7 @@
 use Rattle.std.proofs.Common.{◌∙◌, codes}
 use Rattle.clap.proofs.WalkLemmas.{one_text-rows}
 use Rattle.clap.specs.Matches.{found_of}
-use Rattle.hwdb_cli.proofs.Limits.{limit_found}
+use Rattle.hwdb_cli.proofs.LimitLemmas.{limit_found}
 use Rattle.hwdb_cli.proofs.args.limit_of.Goals as goal
 
 pub returns : goal.returns

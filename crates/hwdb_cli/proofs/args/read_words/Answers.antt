@@ -7,9 +7,9 @@ use Rattle.clap.specs.Faults.{fault_of, is_simple_and_free}
 use Rattle.clap.specs.declared.parser.matches.ArgMatches.TheViews.{out-ArgMatches}
 use Rattle.hwdb_cli.specs.Line.{hwdb_app}
 use Rattle.hwdb_cli.specs.Jobs.{IsJobOf}
-use Rattle.hwdb_cli.proofs.Found.{name_in_rows, job_found, command_found}
-use Rattle.hwdb_cli.proofs.Taken.{command_taken}
-use Rattle.hwdb_cli.proofs.Told.{told_of_one}
+use Rattle.hwdb_cli.proofs.FoundLemmas.{name_in_rows, job_found, command_found}
+use Rattle.hwdb_cli.proofs.TakenLemmas.{command_taken}
+use Rattle.hwdb_cli.proofs.ToldLemmas.{told_of_one}
 use Rattle.clap.specs.Kinds.{HasKind}
 use Rattle.hwdb_cli.proofs.args.read_words.Goals as goal
 

@@ -1,6 +1,6 @@
 use Rattle.std.proofs.Common.{◌∙◌}
 use Rattle.std.proofs.lemmas.Result.{IfOk-weaker}
-use Rattle.hwdb_cli.proofs.Built.{no_new_global}
+use Rattle.hwdb_cli.proofs.BuiltLemmas.{no_new_global}
 use Rattle.hwdb_cli.proofs.command.add_shared.Goals as goal
 
 pub returns-clause-local : goal.returns-clause-local

@@ -1,4 +1,4 @@
-use Rattle.hwdb_compile.proofs.InWords as words
+use Rattle.hwdb_compile.proofs.InWordsLemmas as words
 use Rattle.hwdb_compile.proofs.laws.last_is_latest.Goals as goal
 
 pub returns : goal.returns

@@ -1,4 +1,4 @@
-use Rattle.hwdb_compile.proofs.Latest as latest
+use Rattle.hwdb_compile.proofs.LatestLemmas as latest
 use Rattle.hwdb_compile.proofs.laws.survivors_are_latest.Goals as goal
 
 pub returns-clause-assigned : goal.returns-clause-assigned

@@ -1,6 +1,6 @@
 use Rattle.std.proofs.Common.{◌∙◌}
 use Rattle.hwdb_compile.specs.Views.{source_of, name_of}
-use Rattle.hwdb_compile.proofs.Gathered.{mapped_all, names_listed}
+use Rattle.hwdb_compile.proofs.GatherLemmas.{mapped_all, names_listed}
 use Rattle.hwdb_compile.proofs.sources.names.Goals as goal
 
 pub returns : goal.returns

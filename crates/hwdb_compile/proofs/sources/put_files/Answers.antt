@@ -1,5 +1,5 @@
 use Rattle.hwdb_compile.specs.Internal.Reading.{bytes_at}
-use Rattle.hwdb_compile.proofs.Gathered.{put_at, files_step, no_files}
+use Rattle.hwdb_compile.proofs.GatherLemmas.{put_at, files_step, no_files}
 use Rattle.hwdb_compile.proofs.sources.put_files.Goals as goal
 
 pub files-preserved : goal.files-preserved

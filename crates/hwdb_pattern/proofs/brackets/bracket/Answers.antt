@@ -2,7 +2,7 @@ use Rattle.std.proofs.Common.{ap, sym, ◌∙◌, arith, true, false}
 use Rattle.std.proofs.lemmas.List.{take_rest}
 use Rattle.std.specs.Option.{option_map}
 use Rattle.hwdb_pattern.specs.Internal.Parts.{bracket_part}
-use Rattle.hwdb_pattern.proofs.Bracketing.{bracket_short, bracket_other, bracket_inverted, bracket_upright, bracket_read, wrap}
+use Rattle.hwdb_pattern.proofs.BracketLemmas.{bracket_short, bracket_other, bracket_inverted, bracket_upright, bracket_read, wrap}
 use Rattle.hwdb_pattern.proofs.brackets.bracket.Goals as goal
 
 pub returns-then-text-lt2-clause-part : goal.returns-then-text-lt2-clause-part

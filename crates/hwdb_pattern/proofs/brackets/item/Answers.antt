@@ -1,7 +1,7 @@
 use Rattle.std.proofs.Common.{◌≡◌, ap, sym, ◌∙◌, length, refl}
 use Rattle.hwdb_spec.specs.Patterns.{item_at, class_text, class_spans}
 use Rattle.hwdb_pattern.specs.Internal.Parts.{items, items_part}
-use Rattle.hwdb_pattern.proofs.Bracketing.{item_class, item_plain}
+use Rattle.hwdb_pattern.proofs.BracketLemmas.{item_class, item_plain}
 use Rattle.hwdb_pattern.proofs.brackets.item.Goals as goal
 
 pub returns-in-Some-clause-part : goal.returns-in-Some-clause-part

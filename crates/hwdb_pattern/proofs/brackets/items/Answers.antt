@@ -1,6 +1,6 @@
 use Rattle.std.proofs.Common.{ap, sym, ◌∙◌, length, arith, cond, true}
 use Rattle.std.proofs.lemmas.List.{take_rest, length-drop}
-use Rattle.hwdb_pattern.proofs.Bracketing.{items_step, items_closed, items_open}
+use Rattle.hwdb_pattern.proofs.BracketLemmas.{items_step, items_closed, items_open}
 use Rattle.hwdb_pattern.proofs.brackets.items.Goals as goal
 use Rattle.hwdb_pattern.proofs.brackets.items.Goals.{else-at-gt0-via-then-at-gt0+else-text-at-eq93, else-at-gt0-via-else-at-gt0, then-admits, else-admits}
 

@@ -3,7 +3,7 @@ use Rattle.std.specs.List.{starts_with}
 use Rattle.hwdb_spec.specs.Patterns.{classes}
 use Rattle.hwdb_pattern.specs.Internal.Parts.{class_at}
 use Rattle.hwdb_spec.specs.declared.Class.TheVariants.{Alnum}
-use Rattle.hwdb_pattern.proofs.Bracketing.{find_next, no_class, no_class_short}
+use Rattle.hwdb_pattern.proofs.BracketLemmas.{find_next, no_class, no_class_short}
 use Rattle.hwdb_pattern.proofs.classes.named_class.Goals as goal
 
 pub loop-class-init : goal.loop-class-init

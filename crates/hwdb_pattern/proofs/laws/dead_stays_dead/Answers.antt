@@ -1,4 +1,4 @@
-use Rattle.hwdb_pattern.proofs.Growing.{live_front}
+use Rattle.hwdb_pattern.proofs.GrowthLemmas.{live_front}
 use Rattle.hwdb_pattern.proofs.laws.dead_stays_dead.Goals as goal
 
 pub returns : goal.returns

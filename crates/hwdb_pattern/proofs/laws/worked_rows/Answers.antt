@@ -1,4 +1,4 @@
-use Rattle.hwdb_pattern.proofs.Computing.{token_rows, bracket_rows, match_rows, star_rows, closed_rows, live_rows}
+use Rattle.hwdb_pattern.proofs.ComputedRows.{token_rows, bracket_rows, match_rows, star_rows, closed_rows, live_rows}
 use Rattle.hwdb_pattern.proofs.laws.worked_rows.Goals as goal
 
 pub returns : goal.returns

@@ -1,4 +1,4 @@
-use Rattle.hwdb_pattern.proofs.Pathing.{advance_step}
+use Rattle.hwdb_pattern.proofs.PathLemmas.{advance_step}
 use Rattle.hwdb_pattern.proofs.lengths.advance.Goals as goal
 
 pub loop-n-preserved : goal.loop-n-preserved

@@ -3,7 +3,7 @@ use Rattle.std.proofs.lemmas.List.{take_rest}
 use Rattle.std.proofs.lemmas.Result.{IfOk-weaker}
 use Rattle.hwdb_spec.specs.Patterns.{tokens}
 use Rattle.hwdb_pattern.specs.Internal.Prefixes.{Follows}
-use Rattle.hwdb_pattern.proofs.Pathing.{along_first, along_none}
+use Rattle.hwdb_pattern.proofs.PathLemmas.{along_first, along_none}
 use Rattle.hwdb_pattern.proofs.lengths.along.Goals as goal
 
 pub returns-then-is_empty-clause-follows : goal.returns-then-is_empty-clause-follows

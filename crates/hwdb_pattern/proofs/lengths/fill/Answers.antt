@@ -1,6 +1,6 @@
 use Rattle.std.proofs.Common.{◌≡◌, ◌+◌, ◌∙◌, arith, subst, ℕ}
 use Rattle.hwdb_pattern.specs.Internal.Prefixes.{Between}
-use Rattle.hwdb_pattern.proofs.Pathing.{between_none, between_more}
+use Rattle.hwdb_pattern.proofs.PathLemmas.{between_none, between_more}
 use Rattle.hwdb_pattern.proofs.lengths.fill.Goals as goal
 
 pub loop-n-init : goal.loop-n-init

@@ -1,8 +1,8 @@
 use Rattle.std.proofs.Common.{◌∙◌}
 use Rattle.std.proofs.lemmas.Result.{IfOk-weaker}
 use Rattle.hwdb_spec.specs.Patterns.{token_at}
-use Rattle.hwdb_pattern.proofs.Pathing.{first_star, follows_one, spread_within, step_within, stepped_none, ok_and}
-use Rattle.hwdb_pattern.proofs.Cutting.{not_star}
+use Rattle.hwdb_pattern.proofs.PathLemmas.{first_star, follows_one, spread_within, step_within, stepped_none, ok_and}
+use Rattle.hwdb_pattern.proofs.TokenLemmas.{not_star}
 use Rattle.hwdb_pattern.proofs.lengths.first_token.Goals as goal
 
 pub returns-then-text-eq42-clause-follows : goal.returns-then-text-eq42-clause-follows

@@ -1,7 +1,7 @@
 use Rattle.std.proofs.Common.{◌≡◌, ◌∙◌, sym, arith, ap, length, eqb-true, eq-eqb, vec_len}
 use Rattle.std.proofs.lemmas.Bool.{false≢true}
 use Rattle.std.proofs.lemmas.List.{take_rest, length-drop}
-use Rattle.hwdb_pattern.proofs.Pathing.{along_step, along_end, along_dead}
+use Rattle.hwdb_pattern.proofs.PathLemmas.{along_step, along_end, along_dead}
 use Rattle.hwdb_pattern.proofs.lengths.follow.Goals as goal
 
 pub loop-at-preserved : goal.loop-at-preserved

@@ -1,7 +1,7 @@
 use Rattle.std.proofs.Common.{subst, refl, List, ℕ, ◌≤◌}
 use Rattle.std.specs.Prelude.{Contains, All}
 use Rattle.std.proofs.lemmas.Result.{IfOk-weaker}
-use Rattle.hwdb_pattern.proofs.Pathing.{between_spread}
+use Rattle.hwdb_pattern.proofs.PathLemmas.{between_spread}
 use Rattle.hwdb_pattern.proofs.lengths.spread.Goals as goal
 
 pub returns : goal.returns

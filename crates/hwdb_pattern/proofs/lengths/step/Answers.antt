@@ -1,6 +1,6 @@
 use Rattle.std.proofs.Common.{◌∙◌, arith}
 use Rattle.hwdb_spec.specs.Patterns.{token_at}
-use Rattle.hwdb_pattern.proofs.Pathing.{kept_fits}
+use Rattle.hwdb_pattern.proofs.PathLemmas.{kept_fits}
 use Rattle.hwdb_pattern.proofs.lengths.step.Goals as goal
 
 pub advance-requires : goal.advance-requires

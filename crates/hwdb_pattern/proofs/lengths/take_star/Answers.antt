@@ -1,5 +1,5 @@
 use Rattle.std.proofs.Common.{refl}
-use Rattle.hwdb_pattern.proofs.Pathing.{between_spread}
+use Rattle.hwdb_pattern.proofs.PathLemmas.{between_spread}
 use Rattle.hwdb_pattern.proofs.lengths.take_star.Goals as goal
 
 pub returns : goal.returns

@@ -1,6 +1,6 @@
 use Rattle.std.proofs.Common.{◌≡◌, ◌≤◌, length, drop, take, ◌-◌, arith, ap, eqb-true, refl}
 use Rattle.std.proofs.lemmas.List.{take_rest, length-drop}
-use Rattle.hwdb_pattern.proofs.Searching.{reaches_end, reaches_past_test, remains_first, remains_star, remains_more, reaches_past, remains_end}
+use Rattle.hwdb_pattern.proofs.SearchLemmas.{reaches_end, reaches_past_test, remains_first, remains_star, remains_more, reaches_past, remains_end}
 use Rattle.hwdb_pattern.proofs.search.glob.Goals as goal
 
 pub returns-then-first-pattern : goal.returns-then-first-pattern

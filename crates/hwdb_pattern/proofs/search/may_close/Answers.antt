@@ -1,5 +1,5 @@
 use Rattle.std.proofs.Common.{arith}
-use Rattle.hwdb_pattern.proofs.Searching.{none_behind}
+use Rattle.hwdb_pattern.proofs.SearchLemmas.{none_behind}
 use Rattle.hwdb_pattern.proofs.search.may_close.Goals as goal
 
 pub returns-then-at-close : goal.returns-then-at-close

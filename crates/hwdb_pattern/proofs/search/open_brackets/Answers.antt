@@ -1,5 +1,5 @@
 use Rattle.std.proofs.Common.{refl}
-use Rattle.hwdb_pattern.proofs.Searching.{none_open}
+use Rattle.hwdb_pattern.proofs.SearchLemmas.{none_open}
 use Rattle.hwdb_pattern.proofs.search.open_brackets.Goals as goal
 
 pub loop-at-init : goal.loop-at-init

@@ -1,6 +1,6 @@
 use Rattle.std.proofs.Common.{arith, ap, length, ◌∙◌}
 use Rattle.std.proofs.lemmas.List.{take_rest, length-drop}
-use Rattle.hwdb_pattern.proofs.Searching.{run_step, run_refused, reaches_short, not_star_at}
+use Rattle.hwdb_pattern.proofs.SearchLemmas.{run_step, run_refused, reaches_short, not_star_at}
 use Rattle.hwdb_spec.specs.Patterns.{bracket_at}
 use Rattle.hwdb_pattern.proofs.search.run.Goals as goal
 

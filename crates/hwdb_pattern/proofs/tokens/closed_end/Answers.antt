@@ -1,6 +1,6 @@
 use Rattle.std.proofs.Common.{◌∙◌, sym, ap, arith, length}
 use Rattle.std.proofs.lemmas.List.{take_rest, length-drop}
-use Rattle.hwdb_pattern.proofs.Closing.{closed_start, closed_step, closed_stops, closed_ends, closed_token, open_token, other_token, first_of_rest, back_of_rest}
+use Rattle.hwdb_pattern.proofs.ClosedPartLemmas.{closed_start, closed_step, closed_stops, closed_ends, closed_token, open_token, other_token, first_of_rest, back_of_rest}
 use Rattle.hwdb_pattern.proofs.tokens.closed_end.Goals as goal
 
 pub loop-at-init : goal.loop-at-init

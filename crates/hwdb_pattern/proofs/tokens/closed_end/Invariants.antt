@@ -1,5 +1,5 @@
 use Rattle.std.proofs.Common.{length, ◌-◌, ◌≤◌}
-use Rattle.hwdb_pattern.proofs.Closing.{ClosedTo}
+use Rattle.hwdb_pattern.proofs.ClosedPartLemmas.{ClosedTo}
 use Rattle.hwdb_pattern.proofs.tokens.closed_end.Given as goal
 
 abbrev pub invariant-loop-at : goal.invariant-loop-at

@@ -1,7 +1,7 @@
 use Rattle.std.proofs.Common.{ap, sym, ◌∙◌}
 use Rattle.hwdb_pattern.specs.Internal.Parts.{token_part, bracket_part}
 use Rattle.std.specs.Option.{option_map}
-use Rattle.hwdb_pattern.proofs.Cutting.{token_one, token_bracket, token_open, token_byte}
+use Rattle.hwdb_pattern.proofs.TokenLemmas.{token_one, token_bracket, token_open, token_byte}
 use Rattle.hwdb_pattern.proofs.tokens.single_token.Goals as goal
 use Rattle.hwdb_pattern.proofs.tokens.single_token.Goals.{then-text-eq91+then-may_close+in_default, else-text-eq91, else-text-eq91-via-then-text-eq91+else-may_close, else-text-eq91-via-else-text-eq91}
 

@@ -1,6 +1,6 @@
 use Rattle.std.proofs.Common.{ap, sym}
 use Rattle.hwdb_spec.specs.Patterns.{token_size}
-use Rattle.hwdb_pattern.proofs.Cutting.{star_at}
+use Rattle.hwdb_pattern.proofs.TokenLemmas.{star_at}
 use Rattle.hwdb_pattern.proofs.tokens.token_size.Goals as goal
 
 pub returns-then-text-eq42-clause-size : goal.returns-then-text-eq42-clause-size

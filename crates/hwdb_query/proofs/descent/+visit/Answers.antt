@@ -7,10 +7,10 @@ use Rattle.hwdb_spec.specs.Answers.{is_wanted}
 use Rattle.hwdb_query.specs.Internal.Members.{members_in, own_members}
 use Rattle.hwdb_query.specs.Internal.Collected.{Collects}
 use Rattle.hwdb_query.specs.Internal.Live.{live_in, nodes_in}
-use Rattle.hwdb_query.proofs.Parting.{node_and_below, kid_next, kid_behind, live_split, live_least}
-use Rattle.hwdb_query.proofs.Steps.{stands_whole, cut_front, live_is, dead_is}
-use Rattle.hwdb_query.proofs.Descending.{collected_none, node_collected, child_collected}
-use Rattle.hwdb_query.proofs.Dead.{dead_path, none_wanted, none_live}
+use Rattle.hwdb_query.proofs.PartLemmas.{node_and_below, kid_next, kid_behind, live_split, live_least}
+use Rattle.hwdb_query.proofs.StepLemmas.{stands_whole, cut_front, live_is, dead_is}
+use Rattle.hwdb_query.proofs.DescentLemmas.{collected_none, node_collected, child_collected}
+use Rattle.hwdb_query.proofs.DeadPathLemmas.{dead_path, none_wanted, none_live}
 use Rattle.hwdb_query.proofs.descent.+visit.Goals as goal
 use Rattle.hwdb_query.proofs.descent.+visit.Goals.{then-is_alive+in_ok-collect_matching+else-loop-i-test, else-is_alive}
 

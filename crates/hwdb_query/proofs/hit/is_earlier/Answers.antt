@@ -1,6 +1,6 @@
 use Rattle.std.proofs.Common.{◌∙◌, ap, sym}
 use Rattle.std.specs.Ordering.{is_lt, ordering_then}
-use Rattle.hwdb_query.proofs.Halving.{origins_first}
+use Rattle.hwdb_query.proofs.HalvingLemmas.{origins_first}
 use Rattle.hwdb_query.proofs.hit.is_earlier.Goals as goal
 
 pub returns : goal.returns

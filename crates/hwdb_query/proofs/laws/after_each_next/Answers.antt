@@ -1,7 +1,7 @@
 use Rattle.std.proofs.Common.{◌≡◌, ◌∙◌, ap, refl, not, eqb-true, ◌<◌, ℕ, ◌+◌, ◌-◌, ◌==◌, Bool, true, false, if◌then◌else◌, length, min, arith, inl, inr}
 use Rattle.std.proofs.lemmas.Bool.{ne_eqb}
 use Rattle.hwdb_query.specs.Views.{Progress, fills}
-use Rattle.hwdb_query.proofs.Filled.{fills_none, fills_now, held_fills_not}
+use Rattle.hwdb_query.proofs.FillLemmas.{fills_none, fills_now, held_fills_not}
 use Rattle.hwdb_query.proofs.laws.after_each_next.Goals as goal
 
 held_by : (p : Progress) (b : Bool) → fills p ≡ b → (if fills p then min p.page (length p.to_come) else p.held) - 1 ≡ (if b then min p.page (length p.to_come) else p.held) - 1

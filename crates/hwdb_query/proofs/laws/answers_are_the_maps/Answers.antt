@@ -1,4 +1,4 @@
-use Rattle.hwdb_query.proofs.Members.{are_answers}
+use Rattle.hwdb_query.proofs.MemberLemmas.{are_answers}
 use Rattle.hwdb_query.proofs.laws.answers_are_the_maps.Goals as goal
 
 pub returns : goal.returns

@@ -1,8 +1,8 @@
 use Rattle.std.proofs.Common.{◌≡◌, ◌∙◌, ap, sym, None}
 use Rattle.hwdb_spec.specs.Tree.{map_of, map_of_files}
 use Rattle.hwdb_spec.specs.Folders.{all_assignments}
-use Rattle.hwdb_query.proofs.Keyed.{from_the_first}
-use Rattle.hwdb_query.proofs.LastOnes.{last_are_answers}
+use Rattle.hwdb_query.proofs.KeyLemmas.{from_the_first}
+use Rattle.hwdb_query.proofs.LastLemmas.{last_are_answers}
 use Rattle.hwdb_query.proofs.laws.compiled_answers_are_last.Goals as goal
 
 pub returns-clause-after : goal.returns-clause-after

@@ -1,4 +1,4 @@
-use Rattle.hwdb_query.proofs.InWords as words
+use Rattle.hwdb_query.proofs.InWordsLemmas as words
 use Rattle.hwdb_query.proofs.laws.last_assignments_are_last.Goals as goal
 
 pub returns-clause-are : goal.returns-clause-are

@@ -1,4 +1,4 @@
-use Rattle.hwdb_query.proofs.Spelled.{spells_one, canonical_spells}
+use Rattle.hwdb_query.proofs.SpellingLemmas.{spells_one, canonical_spells}
 use Rattle.hwdb_query.proofs.laws.positions_are_read_back.Goals as goal
 
 pub returns-clause-one : goal.returns-clause-one

@@ -1,6 +1,6 @@
 use Rattle.std.proofs.Common.{ap}
 use Rattle.hwdb_query.specs.Internal.Hits.{after_position}
-use Rattle.hwdb_query.proofs.Orders.{after_none, after_less, after_other}
+use Rattle.hwdb_query.proofs.OrderLemmas.{after_none, after_less, after_other}
 use Rattle.hwdb_query.proofs.next_page.is_past.Goals as goal
 
 pub returns-in-None : goal.returns-in-None

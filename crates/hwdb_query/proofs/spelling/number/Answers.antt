@@ -1,7 +1,7 @@
 use Rattle.std.proofs.Common.{rules, ◌≡◌, ◌∙◌, ap, sym, Some, true, true≢false, string_bytes}
 use Rattle.std.specs.Fmt.{decimal}
 use Rattle.std.specs.declared.num.ParseIntError.{ParseIntError}
-use Rattle.hwdb_query.proofs.Numbers.{read_is, never_err, texts_equal}
+use Rattle.hwdb_query.proofs.NumberLemmas.{read_is, never_err, texts_equal}
 use Rattle.hwdb_query.proofs.spelling.number.Goals as goal
 
 pub returns-in_default-clause-found : goal.returns-in_default-clause-found

@@ -4,8 +4,8 @@ use Rattle.hwdb_spec.specs.Tree.{answers_after}
 use Rattle.hwdb_spec.specs.Folders.{all_assignments}
 use Rattle.hwdb_spec.specs.Last.{AreLast}
 use Rattle.hwdb_query.specs.Views.{Progress, next_position, given_position}
-use Rattle.hwdb_query.proofs.InWords.{last_assignments_are_last}
-use Rattle.hwdb_query.proofs.LastOnes.{last_are_answers}
+use Rattle.hwdb_query.proofs.InWordsLemmas.{last_assignments_are_last}
+use Rattle.hwdb_query.proofs.LastLemmas.{last_are_answers}
 use Rattle.hwdb_query.proofs.start.cursor.Goals as goal
 use Rattle.hwdb_query.proofs.start.cursor.Goals.{in-None, in-Some+in_ok-copy-in-Some}
 

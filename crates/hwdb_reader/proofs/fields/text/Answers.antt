@@ -1,5 +1,5 @@
 use Rattle.std.proofs.Common.{arith}
-use Rattle.hwdb_reader.proofs.Texts.{text_found, text_open}
+use Rattle.hwdb_reader.proofs.StringLemmas.{text_found, text_open}
 use Rattle.hwdb_reader.proofs.fields.text.Goals as goal
 
 pub returns-in-Some : goal.returns-in-Some

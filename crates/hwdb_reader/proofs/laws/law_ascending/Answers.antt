@@ -1,4 +1,4 @@
-use Rattle.hwdb_reader.proofs.Ascends.{database_ascends}
+use Rattle.hwdb_reader.proofs.KeyOrderLemmas.{database_ascends}
 use Rattle.hwdb_reader.proofs.laws.law_ascending.Goals as goal
 
 pub returns : goal.returns

@@ -1,4 +1,4 @@
-use Rattle.hwdb_reader.proofs.Whole.{few_nodes}
+use Rattle.hwdb_reader.proofs.WholeLemmas.{few_nodes}
 use Rattle.hwdb_reader.proofs.laws.law_few_nodes.Goals as goal
 
 pub returns : goal.returns

@@ -1,4 +1,4 @@
-use Rattle.hwdb_reader.proofs.Whole.{one_database}
+use Rattle.hwdb_reader.proofs.WholeLemmas.{one_database}
 use Rattle.hwdb_reader.proofs.laws.law_one_tree.Goals as goal
 
 pub returns : goal.returns

@@ -2,7 +2,7 @@ use Rattle.std.proofs.Common.{◌≡◌, option_map, arith, ap, sym, ◌∙◌, 
 use Rattle.std.proofs.lemmas.Result.{err_from_is_err_and}
 use Rattle.hwdb_spec.specs.Format.{number_at, text_at}
 use Rattle.hwdb_spec.specs.Tree.{IsAbove}
-use Rattle.hwdb_reader.proofs.Entries.{values_next, values_back, less_of, not_less}
+use Rattle.hwdb_reader.proofs.EntryLemmas.{values_next, values_back, less_of, not_less}
 use Rattle.hwdb_reader.proofs.values.check_values.Goals as goal
 use Rattle.hwdb_reader.proofs.values.check_values.Goals.{in-Some+else-is_ge, in_default}
 

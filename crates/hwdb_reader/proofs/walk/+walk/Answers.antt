@@ -3,8 +3,8 @@ use Rattle.std.proofs.lemmas.Result.{err_from_is_err_and}
 use Rattle.hwdb_spec.specs.Format.{record_end, child_entry, child_off, child_byte, children_count, ChildrenText}
 use Rattle.hwdb_reader.specs.Internal.Read.{children_at, tree_at}
 use Rattle.hwdb_reader.specs.Internal.Placed.{visit}
-use Rattle.hwdb_reader.proofs.Bounds.{record_fields, entry_room, record_end_large}
-use Rattle.hwdb_reader.proofs.Nodes.{node_open, node_close, child_open, child_close, child_fits, child_visited, fault_stands, place_stands, children_done, children_end, no_levels, child_from_next, byte_before_next, children_begin, bytes_begin}
+use Rattle.hwdb_reader.proofs.BoundLemmas.{record_fields, entry_room, record_end_large}
+use Rattle.hwdb_reader.proofs.NodeLemmas.{node_open, node_close, child_open, child_close, child_fits, child_visited, fault_stands, place_stands, children_done, children_end, no_levels, child_from_next, byte_before_next, children_begin, bytes_begin}
 use Rattle.hwdb_reader.proofs.walk.+walk.Goals as goal
 
 pub returns-in_default-clause-fault : goal.returns-in_default-clause-fault

@@ -1,5 +1,5 @@
-use Rattle.hwdb_store.proofs.Moments.{elapses_on, or_part, or_part_less}
-use Rattle.hwdb_store.proofs.Replacing.{filled_of}
+use Rattle.hwdb_store.proofs.MomentLemmas.{elapses_on, or_part, or_part_less}
+use Rattle.hwdb_store.proofs.ReplacementLemmas.{filled_of}
 use Rattle.hwdb_store.proofs.replacement.fill.Goals as goal
 
 pub returns-in_err-set_mode-clause-time : goal.returns-in_err-set_mode-clause-time

@@ -1,7 +1,7 @@
 use Rattle.std.proofs.Common.{arith, ◌∙◌, inl, ap, subst, List, ℕ}
 use Rattle.hwdb_spec.specs.Store.{path_in}
-use Rattle.hwdb_store.proofs.Moments.{elapses_on, elapses_more}
-use Rattle.hwdb_store.proofs.Making.{made_of, part_of, or_made, not_made_of, no_more_made, one_more_taken}
+use Rattle.hwdb_store.proofs.MomentLemmas.{elapses_on, elapses_more}
+use Rattle.hwdb_store.proofs.MakingLemmas.{made_of, part_of, or_made, not_made_of, no_more_made, one_more_taken}
 use Rattle.hwdb_store.specs.Internal.{Made}
 use Rattle.hwdb_store.proofs.replacement.make.Goals as goal
 

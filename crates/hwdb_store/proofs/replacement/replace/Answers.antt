@@ -1,7 +1,7 @@
 use Rattle.std.proofs.Common.{◌≡◌, ◌∙◌, rules, subst, sym, ap, List, ℕ}
 use Rattle.hwdb_spec.specs.Store.{path_in, database_name}
 use Rattle.hwdb_store.specs.Internal.{Made, Settled}
-use Rattle.hwdb_store.proofs.Replacing.{seen_of, in_place, in_place_now, given_up, given_up_now, undone, left_behind, replaced, up, made_apart}
+use Rattle.hwdb_store.proofs.ReplacementLemmas.{seen_of, in_place, in_place_now, given_up, given_up_now, undone, left_behind, replaced, up, made_apart}
 use Rattle.hwdb_store.proofs.replacement.replace.Goals as goal
 
 pub returns-in_err-part-clause-seen : goal.returns-in_err-part-clause-seen

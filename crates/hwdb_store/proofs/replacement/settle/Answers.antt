@@ -1,7 +1,7 @@
 use Rattle.std.proofs.Common.{◌≡◌, ◌∙◌, refl, Some, subst, sym, ap}
 use Rattle.hwdb_spec.specs.Store.{path_in, database_name, database_file, NoMoreBut}
-use Rattle.hwdb_store.proofs.Moments.{elapses_on, elapses_more}
-use Rattle.hwdb_store.proofs.Replacing.{renamed_left, settled_of, or_file, or_crash}
+use Rattle.hwdb_store.proofs.MomentLemmas.{elapses_on, elapses_more}
+use Rattle.hwdb_store.proofs.ReplacementLemmas.{renamed_left, settled_of, or_file, or_crash}
 use Rattle.hwdb_store.proofs.replacement.settle.Goals as goal
 
 pub returns-in_err-rename-clause-time : goal.returns-in_err-rename-clause-time

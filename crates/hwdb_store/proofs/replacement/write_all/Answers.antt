@@ -1,7 +1,7 @@
 use Rattle.std.proofs.Common.{rules, arith, ◌∙◌}
 use Rattle.std.proofs.lemmas.Grind.{common_steps}
 use Rattle.std.proofs.lemmas.List.{take_rest}
-use Rattle.hwdb_store.proofs.Moments.{elapses_on, or_part, no_more_on, same_but_on, written_more}
+use Rattle.hwdb_store.proofs.MomentLemmas.{elapses_on, or_part, no_more_on, same_but_on, written_more}
 use Rattle.hwdb_store.proofs.replacement.write_all.Goals as goal
 
 pub returns-in_err-written-clause-time : goal.returns-in_err-written-clause-time

@@ -2,7 +2,7 @@ use Rattle.std.proofs.Common.{sym, ◌∙◌, ap, map, drop, ◌+◌}
 use Rattle.std.specs.String.{string_bytes}
 use Rattle.hwdb_spec.specs.Folders.{counts}
 use Rattle.hwdb_text.specs.Internal.Choosing.{put_all, entry_of}
-use Rattle.hwdb_text.proofs.Choosing.{put_step, pass_step, item_at}
+use Rattle.hwdb_text.proofs.ChoiceLemmas.{put_step, pass_step, item_at}
 use Rattle.hwdb_text.proofs.choice.put.Goals as goal
 use Rattle.hwdb_text.proofs.choice.put.Goals.{then-counts+in_ok-insert, else-counts}
 

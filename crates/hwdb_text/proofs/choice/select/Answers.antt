@@ -4,10 +4,10 @@ use Rattle.std.proofs.lemmas.List.Elements.{All-same}
 use Rattle.hwdb_text.specs.Internal.Choosing.{entry_of, with_priorities}
 use Rattle.hwdb_spec.specs.Folders.{choice}
 use Rattle.hwdb_text.specs.Views.{IsListed, IsStorableChoice}
-use Rattle.hwdb_text.proofs.Storing.{choices_storable}
-use Rattle.hwdb_text.proofs.Listed.{choices_listed}
-use Rattle.hwdb_text.proofs.Taking.{choice_is, as_many, both_put}
-use Rattle.hwdb_text.proofs.Choosing.{map_length}
+use Rattle.hwdb_text.proofs.StoreLemmas.{choices_storable}
+use Rattle.hwdb_text.proofs.ListLemmas.{choices_listed}
+use Rattle.hwdb_text.proofs.TakeLemmas.{choice_is, as_many, both_put}
+use Rattle.hwdb_text.proofs.ChoiceLemmas.{map_length}
 use Rattle.hwdb_text.proofs.choice.select.Goals as goal
 
 pub returns-then-len-gt-MOST_FILES-clause-too_many : goal.returns-then-len-gt-MOST_FILES-clause-too_many

@@ -1,6 +1,6 @@
 use Rattle.std.proofs.Common.{arith}
 use Rattle.std.proofs.lemmas.List.{take_rest}
-use Rattle.hwdb_text.proofs.Marks.{unmarked, marked_by_zero, marked_behind, marked_kept}
+use Rattle.hwdb_text.proofs.MarkLemmas.{unmarked, marked_by_zero, marked_behind, marked_kept}
 use Rattle.hwdb_text.proofs.line.content_of.Goals as goal
 
 pub returns-in_default : goal.returns-in_default

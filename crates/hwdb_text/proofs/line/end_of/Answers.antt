@@ -1,6 +1,6 @@
 use Rattle.std.proofs.Common.{sym, arith}
 use Rattle.hwdb_spec.specs.Lines.{is}
-use Rattle.hwdb_text.proofs.Bytes.{place_of, no_place}
+use Rattle.hwdb_text.proofs.ByteLemmas.{place_of, no_place}
 use Rattle.hwdb_text.proofs.line.end_of.Goals as goal
 
 pub returns-in-Some-clause-place : goal.returns-in-Some-clause-place

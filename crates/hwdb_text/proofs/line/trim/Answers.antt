@@ -1,6 +1,6 @@
 use Rattle.std.proofs.Common.{sym, ◌∙◌, arith, ◌≡◌, ℕ, subst, take}
 use Rattle.hwdb_spec.specs.Lines.{trimmed}
-use Rattle.hwdb_text.proofs.Bytes.{trim_back, trim_here, trim_none}
+use Rattle.hwdb_text.proofs.ByteLemmas.{trim_back, trim_here, trim_none}
 use Rattle.hwdb_text.proofs.line.trim.Goals as goal
 use Rattle.hwdb_text.proofs.line.trim.Goals.{then-loop-end-test+else-is_blank, else-loop-end-test}
 

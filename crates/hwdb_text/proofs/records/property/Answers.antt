@@ -3,8 +3,8 @@ use Rattle.std.proofs.lemmas.List.{take_rest}
 use Rattle.hwdb_spec.specs.Lines.{}
 use Rattle.hwdb_text.specs.Internal.Contents.{line}
 use Rattle.hwdb_text.specs.Views.{origin, given_in, text_of}
-use Rattle.hwdb_text.proofs.Bytes.{without_equals, without_key, with_key}
-use Rattle.hwdb_text.proofs.Held.{on_ok}
+use Rattle.hwdb_text.proofs.ByteLemmas.{without_equals, without_key, with_key}
+use Rattle.hwdb_text.proofs.HeldLemmas.{on_ok}
 use Rattle.hwdb_text.proofs.records.property.Goals as goal
 
 pub returns-then-equals-body-clause-assignments : goal.returns-then-equals-body-clause-assignments

@@ -1,6 +1,6 @@
 use Rattle.std.proofs.Common.{◌∙◌, inl, subst, ℕ}
 use Rattle.hwdb_spec.specs.Failures.{HasFailed}
-use Rattle.hwdb_tool.proofs.Lines.{next_taken, cut_text}
+use Rattle.hwdb_tool.proofs.LineLemmas.{next_taken, cut_text}
 use Rattle.hwdb_tool.proofs.refusals.refuse.Goals as goal
 
 pub loop-piece-preserved : goal.loop-piece-preserved

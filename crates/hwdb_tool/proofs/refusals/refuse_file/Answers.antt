@@ -1,7 +1,7 @@
 use Rattle.std.proofs.Common.{ap, sym, ◌∙◌, ◌++◌, List, ℕ, Option, Some}
 use Rattle.hwdb_tool.specs.Refusals.{refusal_line, file_text}
-use Rattle.hwdb_tool.specs.declared.causes.Cause.{Cause}
-use Rattle.hwdb_tool.proofs.Lines.{refused_as, cause_line}
+use Rattle.hwdb_commands.specs.declared.causes.Cause.{Cause}
+use Rattle.hwdb_tool.proofs.LineLemmas.{refused_as, cause_line}
 use Rattle.hwdb_tool.proofs.refusals.refuse_file.Goals as goal
 
 pub returns-in-Some-clause-line : goal.returns-in-Some-clause-line

@@ -1,7 +1,7 @@
 use Rattle.std.proofs.Common.{ap, sym, ◌∙◌, List, [], ℕ}
 use Rattle.hwdb_tool.specs.Refusals.{refusal_line, refusal_text, path_text}
 use Rattle.hwdb_tool.specs.declared.refusals.Refusal.{Refusal}
-use Rattle.hwdb_tool.proofs.Lines.{refused_as}
+use Rattle.hwdb_tool.proofs.LineLemmas.{refused_as}
 use Rattle.hwdb_tool.proofs.refusals.refuse_for.Goals as goal
 
 pub returns-in-At-clause-line : goal.returns-in-At-clause-line

@@ -1,7 +1,7 @@
 use Rattle.std.proofs.Common.{ap, sym, ◌∙◌, ◌++◌, List, [], ℕ}
 use Rattle.hwdb_tool.specs.Refusals.{refusal_line, path_text}
-use Rattle.hwdb_tool.specs.declared.errors.ToolError.{ToolError}
-use Rattle.hwdb_tool.proofs.Lines.{refused_as, two_line, plain_text}
+use Rattle.hwdb_commands.specs.declared.errors.ToolError.{ToolError}
+use Rattle.hwdb_tool.proofs.LineLemmas.{refused_as, two_line, plain_text}
 use Rattle.hwdb_tool.proofs.refusals.refuse_over.Goals as goal
 
 pub returns-in-Read-clause-line : goal.returns-in-Read-clause-line

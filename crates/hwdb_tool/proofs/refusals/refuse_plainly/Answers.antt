@@ -1,7 +1,8 @@
 use Rattle.std.proofs.Common.{ap, sym}
-use Rattle.hwdb_tool.specs.Refusals.{refusal_line, error_text}
-use Rattle.hwdb_tool.specs.declared.errors.ToolError.{ToolError}
-use Rattle.hwdb_tool.proofs.Lines.{refused_as}
+use Rattle.hwdb_tool.specs.Refusals.{refusal_line}
+use Rattle.hwdb_commands.specs.Refusals.{error_text}
+use Rattle.hwdb_commands.specs.declared.errors.ToolError.{ToolError}
+use Rattle.hwdb_tool.proofs.LineLemmas.{refused_as}
 use Rattle.hwdb_tool.proofs.refusals.refuse_plainly.Goals as goal
 
 pub returns-in-BadDatabase-clause-line : goal.returns-in-BadDatabase-clause-line

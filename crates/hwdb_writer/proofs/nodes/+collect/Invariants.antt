@@ -1,6 +1,6 @@
 use Rattle.std.proofs.Common.{◌++◌, drop}
 use Rattle.hwdb_writer.specs.Internal.Membership.{SameMembers}
-use Rattle.hwdb_writer.proofs.Emitted.{kid_strings}
+use Rattle.hwdb_writer.proofs.EmissionLemmas.{kid_strings}
 use Rattle.hwdb_writer.proofs.nodes.+collect.Given as goal
 
 abbrev pub invariant-loop-child : goal.invariant-loop-child

@@ -1,7 +1,7 @@
 use Rattle.std.proofs.Common.{◌≡◌, ◌∙◌, ap, length, refl, arith, length-append}
-use Rattle.hwdb_writer.specs.declared.branches.Branch.TheViews.{out-Branch}
+use Rattle.hwdb_writer.specs.declared.trie.TrieNode.TheViews.{out-TrieNode}
 use Rattle.hwdb_writer.specs.Internal.Places.{place_in}
-use Rattle.hwdb_writer.proofs.Emitted.{texts_more, entries_more, texts_all, entries_all, emitted, entered, narrow_child, narrow_kids, shorter, size-opened, few, kept_front, kept_back}
+use Rattle.hwdb_writer.proofs.EmissionLemmas.{texts_more, entries_more, texts_all, entries_all, emitted, entered, narrow_child, narrow_kids, shorter, size-opened, few, kept_front, kept_back}
 use Rattle.hwdb_writer.proofs.nodes.+push_text.Goals as goal
 
 pub push_text-requires : goal.push_text-requires
@@ -32,7 +32,7 @@ returns t c =
     let kids = c.deref-children.result.now in
     let k = c.deref-children.ensures.value in
     let s = size-opened c.args.node.now kids k in
-    let count : c.len.result ≡ length (out-Branch c.args.node.now).values = omega (arith, s, c.len.ensures, c.requires.fits) in
+    let count : c.len.result ≡ length (out-TrieNode c.args.node.now).values = omega (arith, s, c.len.ensures, c.requires.fits) in
     let n = ap length c.as_slice-first.ensures.value in
     let e = entries_all place kids c.loop-child.child-index c.loop-child-test.false _ _ _ c.loop-child.invariant.entries in
     let x = texts_all place kids c.loop-child.child-index c.loop-child-test.false _ _ c.loop-child.invariant.texts in

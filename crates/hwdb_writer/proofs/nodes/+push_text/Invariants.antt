@@ -2,7 +2,7 @@ use Rattle.std.proofs.Common.{◌≡◌, ◌++◌, drop, length}
 use Rattle.hwdb_spec.specs.Written.{nodes_text, entries_text, text_size}
 use Rattle.hwdb_writer.specs.Internal.Standing.{tree_of}
 use Rattle.hwdb_writer.specs.Internal.Places.{place_in}
-use Rattle.hwdb_writer.proofs.Emitted.{kids_of}
+use Rattle.hwdb_writer.proofs.EmissionLemmas.{kids_of}
 use Rattle.hwdb_writer.proofs.nodes.+push_text.Given as goal
 
 abbrev pub decreases-push_text : goal.decreases-push_text

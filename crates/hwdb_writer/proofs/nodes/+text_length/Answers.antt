@@ -1,5 +1,5 @@
 use Rattle.std.proofs.Common.{◌+◌, min, ap, sym, ◌∙◌, arith}
-use Rattle.hwdb_writer.proofs.Emitted.{M, sizes_left, sizes_none, summed, size-opened}
+use Rattle.hwdb_writer.proofs.EmissionLemmas.{M, sizes_left, sizes_none, summed, size-opened}
 use Rattle.hwdb_writer.proofs.nodes.+text_length.Goals as goal
 
 pub loop-child-init : goal.loop-child-init

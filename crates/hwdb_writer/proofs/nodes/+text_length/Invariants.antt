@@ -1,6 +1,6 @@
 use Rattle.std.proofs.Common.{◌≡◌, ◌+◌, ◌-◌, ◌^◌, ◌<◌, drop, min}
 use Rattle.hwdb_spec.specs.Written.{texts_size}
-use Rattle.hwdb_writer.proofs.Emitted.{kids_of}
+use Rattle.hwdb_writer.proofs.EmissionLemmas.{kids_of}
 use Rattle.hwdb_writer.proofs.nodes.+text_length.Given as goal
 
 abbrev pub invariant-loop-child : goal.invariant-loop-child

@@ -1,6 +1,6 @@
 use Rattle.std.proofs.Common.{◌++◌, drop}
 use Rattle.hwdb_writer.specs.Internal.Membership.{SameMembers}
-use Rattle.hwdb_writer.proofs.Emitted.{value_strings}
+use Rattle.hwdb_writer.proofs.EmissionLemmas.{value_strings}
 use Rattle.hwdb_writer.proofs.nodes.collect_run.Given as goal
 
 abbrev pub invariant-loop-v : goal.invariant-loop-v

@@ -4,8 +4,8 @@ use Rattle.hwdb_spec.specs.Tree.{Value}
 use Rattle.hwdb_spec.specs.Written.{strings_of_value}
 use Rattle.hwdb_writer.specs.Internal.Membership.{SameMembers}
 use Rattle.hwdb_writer.specs.Internal.Runs.{Run}
-use Rattle.hwdb_writer.proofs.Emitted.{one_left, none_left, value_strings, run_strings, run_strings-cons}
-use Rattle.hwdb_writer.proofs.Memberships.{same_refl, same_step, same_done}
+use Rattle.hwdb_writer.proofs.EmissionLemmas.{one_left, none_left, value_strings, run_strings, run_strings-cons}
+use Rattle.hwdb_writer.proofs.MembershipLemmas.{same_refl, same_step, same_done}
 use Rattle.hwdb_writer.proofs.nodes.collect_values.Goals as goal
 
 pub loop-run-init : goal.loop-run-init

@@ -1,6 +1,6 @@
 use Rattle.std.proofs.Common.{◌++◌, drop}
 use Rattle.hwdb_writer.specs.Internal.Membership.{SameMembers}
-use Rattle.hwdb_writer.proofs.Emitted.{run_strings}
+use Rattle.hwdb_writer.proofs.EmissionLemmas.{run_strings}
 use Rattle.hwdb_writer.proofs.nodes.collect_values.Given as goal
 
 abbrev pub invariant-loop-run : goal.invariant-loop-run

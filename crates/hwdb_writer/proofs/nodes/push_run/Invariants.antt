@@ -1,7 +1,7 @@
 use Rattle.std.proofs.Common.{◌≡◌, ◌++◌, drop, map}
 use Rattle.std.specs.Prelude.{flat_map}
 use Rattle.hwdb_spec.specs.Written.{value_text}
-use Rattle.hwdb_writer.specs.Internal.Stored.{value_of}
+use Rattle.hwdb_writer.specs.Internal.ValueEntries.{value_of}
 use Rattle.hwdb_writer.specs.Internal.Places.{place_in}
 use Rattle.hwdb_writer.proofs.nodes.push_run.Given as goal
 

@@ -3,7 +3,7 @@ use Rattle.std.specs.Prelude.{flat_map}
 use Rattle.hwdb_spec.specs.Written.{value_text}
 use Rattle.hwdb_writer.specs.Internal.Places.{place_in}
 use Rattle.hwdb_writer.specs.Internal.Runs.{Run}
-use Rattle.hwdb_writer.proofs.Emitted.{made_more, made_all, vals_text, runs_text, runs_text-cons}
+use Rattle.hwdb_writer.proofs.EmissionLemmas.{made_more, made_all, vals_text, runs_text, runs_text-cons}
 use Rattle.hwdb_writer.proofs.nodes.push_values.Goals as goal
 
 pub loop-run-preserved : goal.loop-run-preserved

@@ -1,6 +1,6 @@
 use Rattle.std.proofs.Common.{◌≡◌, ◌++◌, drop}
 use Rattle.hwdb_writer.specs.Internal.Places.{place_in}
-use Rattle.hwdb_writer.proofs.Emitted.{runs_text}
+use Rattle.hwdb_writer.proofs.EmissionLemmas.{runs_text}
 use Rattle.hwdb_writer.proofs.nodes.push_values.Given as goal
 
 abbrev pub invariant-loop-run : goal.invariant-loop-run

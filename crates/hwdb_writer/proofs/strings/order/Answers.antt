@@ -1,5 +1,5 @@
 use Rattle.std.proofs.lemmas.List.Filters.{dedup_is}
-use Rattle.hwdb_writer.proofs.Distinct.{ordered_is}
+use Rattle.hwdb_writer.proofs.DistinctLemmas.{ordered_is}
 use Rattle.hwdb_writer.proofs.strings.order.Goals as goal
 
 pub returns : goal.returns

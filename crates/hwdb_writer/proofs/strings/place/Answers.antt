@@ -2,7 +2,7 @@ use Rattle.std.proofs.Common.{◌∙◌, ap, sym, arith}
 use Rattle.std.proofs.lemmas.List.{get_or_default}
 use Rattle.std.specs.Cmp.Lexicographic.{same_text}
 use Rattle.hwdb_writer.specs.Internal.Places.{place_in}
-use Rattle.hwdb_writer.proofs.Placing.{found_place, missed_place, near_place, enough, nothing}
+use Rattle.hwdb_writer.proofs.PlaceLemmas.{found_place, missed_place, near_place, enough, nothing}
 use Rattle.hwdb_writer.proofs.strings.place.Goals as goal
 
 pub bounds-starts-i : goal.bounds-starts-i
@@ -21,11 +21,11 @@ returns-in-Err c =
     missed_place c.args.table.now.first c.args.table.now.words.now c.requires.ordered c.args.table.now.starts.now c.requires.starts c.new-word.result c.in-Err.i c.in-Err.ensures.bound c.in-Err.ensures.position
     ∙ ap (place_in c.args.table.now) c.new-word.ensures
 
-pub bounds-starts-noted : goal.bounds-starts-noted
-bounds-starts-noted c = enough c.args.table.now.first c.args.table.now.words.now c.requires.ordered c.args.table.now.starts.now c.requires.starts c.args.s.now c.guess-noted.result (omega (arith, c.if-noted-words.true))
+pub bounds-starts-remembered : goal.bounds-starts-remembered
+bounds-starts-remembered c = enough c.args.table.now.first c.args.table.now.words.now c.requires.ordered c.args.table.now.starts.now c.requires.starts c.args.s.now c.lookup-remembered.result (omega (arith, c.if-remembered-words.true))
 
 pub returns-then-eq : goal.returns-then-eq
 returns-then-eq c =
-    let known = c.index-words-noted.result in
-    near_place c.args.table.now.first c.args.table.now.words.now c.requires.ordered c.args.table.now.starts.now c.requires.starts c.args.s.now c.guess-noted.result c.if-noted-words.true
-    (get_or_default c.args.table.now.words.now c.guess-noted.result nothing known c.if-noted-words.true ∙ sym c.index-words-noted.is ∙ same_text known c.new-word.result c.if-eq.ensures ∙ c.new-word.ensures)
+    let known = c.index-words-remembered.result in
+    near_place c.args.table.now.first c.args.table.now.words.now c.requires.ordered c.args.table.now.starts.now c.requires.starts c.args.s.now c.lookup-remembered.result c.if-remembered-words.true
+    (get_or_default c.args.table.now.words.now c.lookup-remembered.result nothing known c.if-remembered-words.true ∙ sym c.index-words-remembered.is ∙ same_text known c.new-word.result c.if-eq.ensures ∙ c.new-word.ensures)

@@ -1,12 +1,12 @@
 use Rattle.std.proofs.Common.{◌∙◌, ◌++◌, ◌∷◌, [], ap, sym}
 use Rattle.std.specs.Cmp.Lexicographic.{same_text}
-use Rattle.hwdb_writer.proofs.Memberships.{same_known, same_path}
+use Rattle.hwdb_writer.proofs.MembershipLemmas.{same_known, same_path}
 use Rattle.hwdb_writer.proofs.strings.push_new.Goals as goal
 
 pub returns-then-eq : goal.returns-then-eq
 returns-then-eq c =
     let known = c.index-known-place.result in
-    same_known c.deref-known.result.now c.args.words.now.items c.guess-place.result known c.args.text.now c.deref-known.ensures.value c.if-place-count.true
+    same_known c.deref-known.result.now c.args.words.now.items c.lookup-place.result known c.args.text.now c.deref-known.ensures.value c.if-place-count.true
     (sym c.index-known-place.is ∙ same_text known c.new-word.result c.if-eq.ensures ∙ c.new-word.ensures)
 
 pub returns : goal.returns

@@ -1,7 +1,7 @@
 use Rattle.std.proofs.Common.{◌+◌, ◌-◌, ◌^◌, min, length, sym, ap, ◌∙◌, arith, List, ℕ}
 use Rattle.std.proofs.lemmas.List.{get_or_default}
 use Rattle.hwdb_spec.specs.Written.{section_of}
-use Rattle.hwdb_writer.proofs.Placing.{section_left, none_left, saturated, nothing}
+use Rattle.hwdb_writer.proofs.PlaceLemmas.{section_left, none_left, saturated, nothing}
 use Rattle.hwdb_writer.proofs.strings.section_length.Goals as goal
 
 pub loop-word-init : goal.loop-word-init

@@ -1,7 +1,7 @@
 use Rattle.std.proofs.Common.{◌++◌, ◌∙◌, ap, refl, arith, length}
 use Rattle.std.proofs.lemmas.List.{get_or_default}
 use Rattle.hwdb_writer.specs.Internal.Places.{starts_from}
-use Rattle.hwdb_writer.proofs.Placing.{section_left, starts_next, starts_end, nothing}
+use Rattle.hwdb_writer.proofs.PlaceLemmas.{section_left, starts_next, starts_end, nothing}
 use Rattle.hwdb_writer.proofs.strings.starts.Goals as goal
 
 pub loop-word-init : goal.loop-word-init

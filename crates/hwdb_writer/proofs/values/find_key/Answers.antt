@@ -3,15 +3,15 @@ use Rattle.std.specs.declared.cmp.Ordering.TheVariants.{Less, Equal, Greater}
 use Rattle.std.specs.Ordering.{nat_cmp}
 use Rattle.std.specs.Cmp.Lexicographic.{slice_cmp, nat_list_cmp_total}
 use Rattle.std.proofs.lemmas.List.{get_or_default}
-use Rattle.hwdb_writer.specs.declared.stored.Stored.{Stored}
+use Rattle.hwdb_writer.specs.declared.value_entry.ValueEntry.{ValueEntry}
 use Rattle.hwdb_writer.specs.Internal.Found.{key_in}
-use Rattle.hwdb_writer.proofs.Searching.{between_hit, between_less, between_greater}
-use Rattle.hwdb_writer.proofs.Steps.{up_keys}
+use Rattle.hwdb_writer.proofs.SearchLemmas.{between_hit, between_less, between_greater}
+use Rattle.hwdb_writer.proofs.StepLemmas.{up_keys}
 use Rattle.hwdb_writer.proofs.values.find_key.Goals as goal
 
 -- what was compared, at any default
-at_any : (xs : List Stored) (i : ℕ) (x : Stored) (k : List ℕ) (r : Ordering) → i < length xs → x ≡ get_or xs i x → slice_cmp nat_cmp (key_in x) k ≡ r
-    → (d : Stored) → slice_cmp nat_cmp (key_in (get_or xs i d)) k ≡ r
+at_any : (xs : List ValueEntry) (i : ℕ) (x : ValueEntry) (k : List ℕ) (r : Ordering) → i < length xs → x ≡ get_or xs i x → slice_cmp nat_cmp (key_in x) k ≡ r
+    → (d : ValueEntry) → slice_cmp nat_cmp (key_in (get_or xs i d)) k ≡ r
 at_any xs i x k r lt same is d = ap (λ y. slice_cmp nat_cmp (key_in y) k) (get_or_default xs i d x lt ∙ sym same) ∙ is
 
 pub loop-low-preserved-in-Less : goal.loop-low-preserved-in-Less

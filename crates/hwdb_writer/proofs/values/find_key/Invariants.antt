@@ -2,7 +2,7 @@ use Rattle.std.proofs.Common.{◌-◌}
 use Rattle.std.specs.Ordering.{nat_cmp}
 use Rattle.std.specs.Cmp.Lexicographic.{slice_cmp}
 use Rattle.hwdb_writer.specs.Internal.Found.{key_in}
-use Rattle.hwdb_writer.proofs.Searching.{Between}
+use Rattle.hwdb_writer.proofs.SearchLemmas.{Between}
 use Rattle.hwdb_writer.proofs.values.find_key.Given as goal
 
 abbrev pub invariant-loop-low : goal.invariant-loop-low

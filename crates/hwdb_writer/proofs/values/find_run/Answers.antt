@@ -1,5 +1,5 @@
 use Rattle.std.proofs.Common.{◌+◌, ◌-◌, ◌/◌, ◌<◌, length, sym, ◌∙◌, arith}
-use Rattle.hwdb_writer.proofs.Splits.{narrowed_up, narrowed_down, filled_here, not_greater}
+use Rattle.hwdb_writer.proofs.SplitLemmas.{narrowed_up, narrowed_down, filled_here, not_greater}
 use Rattle.hwdb_writer.proofs.values.find_run.Goals as goal
 
 pub loop-low-preserved-in-Greater : goal.loop-low-preserved-in-Greater

@@ -1,5 +1,5 @@
 use Rattle.std.proofs.Common.{◌-◌}
-use Rattle.hwdb_writer.proofs.Splits.{Narrowed}
+use Rattle.hwdb_writer.proofs.SplitLemmas.{Narrowed}
 use Rattle.hwdb_writer.proofs.values.find_run.Given as goal
 
 abbrev pub invariant-loop-low : goal.invariant-loop-low

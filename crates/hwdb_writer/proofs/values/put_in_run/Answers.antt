@@ -2,9 +2,9 @@ use Rattle.std.proofs.Common.{◌∙◌, None, ap, sym, map, subst}
 use Rattle.std.proofs.lemmas.Result.{on_ok_weaker, on_err_weaker}
 use Rattle.hwdb_spec.specs.Tree.{KeysAscend}
 use Rattle.hwdb_writer.specs.Internal.Setting.{set_value}
-use Rattle.hwdb_writer.specs.Internal.Stored.{value_of}
+use Rattle.hwdb_writer.specs.Internal.ValueEntries.{value_of}
 use Rattle.hwdb_writer.specs.Internal.Runs.{Run, values_at, IsRunOf}
-use Rattle.hwdb_writer.proofs.Splits.{run_ascends, values_put, values_kept, filled_put, filled_kept, runs_set, either_way}
+use Rattle.hwdb_writer.proofs.SplitLemmas.{run_ascends, values_put, values_kept, filled_put, filled_kept, runs_set, either_way}
 use Rattle.hwdb_writer.proofs.values.put_in_run.Goals as goal
 
 pub put_value-requires : goal.put_value-requires

@@ -1,6 +1,6 @@
 use Rattle.std.proofs.Common.{sym, ap, ◌∙◌, map}
-use Rattle.hwdb_writer.specs.Internal.Stored.{value_of}
-use Rattle.hwdb_writer.proofs.Steps.{value_hit, value_gap}
+use Rattle.hwdb_writer.specs.Internal.ValueEntries.{value_of}
+use Rattle.hwdb_writer.proofs.StepLemmas.{value_hit, value_gap}
 use Rattle.hwdb_writer.proofs.values.put_value.Goals as goal
 
 pub returns-in-Ok-clause-ok : goal.returns-in-Ok-clause-ok

@@ -1,7 +1,7 @@
 use Rattle.std.proofs.Common.{◌∙◌, ◌++◌, ◌<◌, ap, map, length, arith}
-use Rattle.hwdb_writer.specs.Internal.Stored.{value_of}
+use Rattle.hwdb_writer.specs.Internal.ValueEntries.{value_of}
 use Rattle.hwdb_writer.specs.Internal.Runs.{values_at, values_in}
-use Rattle.hwdb_writer.proofs.Splits.{values_split, halves}
+use Rattle.hwdb_writer.proofs.SplitLemmas.{values_split, halves}
 use Rattle.hwdb_writer.proofs.values.split.Goals as goal
 
 pub returns-clause-same : goal.returns-clause-same

@@ -1,6 +1,6 @@
 use Rattle.std.proofs.Common.{sym, add-one}
 use Rattle.hwdb_query.specs.Views.{assignment_of_hit}
-use Rattle.hwdb_compile.proofs.PlainHits.{less_here, same_here, more_here, none_here}
+use Rattle.hwdb_compile.proofs.PlainHitLemmas.{less_here, same_here, more_here, none_here}
 use Rattle.hwdb_compile.proofs.tests.plain.place_among.Goals as goal
 
 pub returns-in-Less-clause-place : goal.returns-in-Less-clause-place

@@ -3,8 +3,8 @@ use Rattle.std.specs.BTreeMap.{insert_entry}
 use Rattle.hwdb_spec.specs.Answers.{effective_of}
 use Rattle.hwdb_spec.specs.Assignment.{text_cmp}
 use Rattle.hwdb_query.specs.Views.{assignment_of_hit, assignments_of_hits, pairs_bytes}
-use Rattle.hwdb_compile.proofs.Keyed.{effective_one, none_effective}
-use Rattle.hwdb_compile.proofs.PlainHits.{found_more}
+use Rattle.hwdb_compile.proofs.KeyLemmas.{effective_one, none_effective}
+use Rattle.hwdb_compile.proofs.PlainHitLemmas.{found_more}
 use Rattle.hwdb_compile.proofs.tests.plain.plain_effective.Goals as goal
 
 pub loop-hit-init : goal.loop-hit-init

@@ -1,7 +1,7 @@
 use Rattle.std.proofs.Common.{ap, map}
 use Rattle.hwdb_text.specs.Views.{assigned}
 use Rattle.hwdb_query.specs.Views.{assignments_of_hits, given_position}
-use Rattle.hwdb_compile.proofs.Plain.{all_put, more_put, none_more, none_there}
+use Rattle.hwdb_compile.proofs.PlainLemmas.{all_put, more_put, none_more, none_there}
 use Rattle.hwdb_compile.proofs.tests.plain.plain_hits.Goals as goal
 
 pub all-init : goal.all-init

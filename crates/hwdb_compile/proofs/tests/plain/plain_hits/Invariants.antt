@@ -3,7 +3,7 @@ use Rattle.hwdb_text.specs.Views.{assigned}
 use Rattle.hwdb_spec.specs.Assignment.{assignment_cmp, put_all}
 use Rattle.hwdb_spec.specs.Answers.{last_assignments}
 use Rattle.hwdb_query.specs.Views.{assignments_of_hits, given_position}
-use Rattle.hwdb_compile.proofs.Plain.{kept_of}
+use Rattle.hwdb_compile.proofs.PlainLemmas.{kept_of}
 use Rattle.hwdb_compile.proofs.tests.plain.plain_hits.Given as goal
 
 abbrev pub invariant-all : goal.invariant-all

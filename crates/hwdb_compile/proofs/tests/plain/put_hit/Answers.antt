@@ -1,7 +1,7 @@
 use Rattle.std.proofs.Common.{subst, Some}
 use Rattle.hwdb_query.specs.Views.{assignment_of_hit, assignments_of_hits}
 use Rattle.hwdb_compile.specs.Internal.Plain.{IsPlace}
-use Rattle.hwdb_compile.proofs.Plain.{hit_put}
+use Rattle.hwdb_compile.proofs.PlainLemmas.{hit_put}
 use Rattle.hwdb_compile.proofs.tests.plain.put_hit.Goals as goal
 
 pub returns-in_ok-insert : goal.returns-in_ok-insert

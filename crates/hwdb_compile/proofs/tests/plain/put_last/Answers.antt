@@ -4,7 +4,7 @@ use Rattle.hwdb_text.specs.Views.{assigned}
 use Rattle.hwdb_spec.specs.Assignment.{Assignment, assignment_cmp, put}
 use Rattle.hwdb_spec.specs.Answers.{is_match, is_after}
 use Rattle.hwdb_query.specs.Views.{given_position, assignments_of_hits}
-use Rattle.hwdb_compile.proofs.Plain.{left_followed, left_unmatched, left_before, kept_one, none_put, one_put}
+use Rattle.hwdb_compile.proofs.PlainLemmas.{left_followed, left_unmatched, left_before, kept_one, none_put, one_put}
 use Rattle.hwdb_compile.proofs.tests.plain.put_last.Goals as goal
 
 pub returns-then-is_followed : goal.returns-then-is_followed

@@ -2,7 +2,7 @@ use Rattle.std.proofs.Common.{◌∙◌, ap, add-one, length, arith}
 use Rattle.std.specs.BTreeMap.{insert_entry}
 use Rattle.hwdb_spec.specs.Assignment.{text_cmp}
 use Rattle.hwdb_query.specs.Views.{pairs_bytes}
-use Rattle.hwdb_compile.proofs.PlainPairs.{below_next, at_next, behind_next, behind_all}
+use Rattle.hwdb_compile.proofs.PlainPairLemmas.{below_next, at_next, behind_next, behind_all}
 use Rattle.hwdb_compile.proofs.tests.plain.put_value.Goals as goal
 
 pub returns-in-Less : goal.returns-in-Less

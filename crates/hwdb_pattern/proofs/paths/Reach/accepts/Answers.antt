@@ -1,6 +1,6 @@
 use Rattle.std.proofs.Common.{ap, sym, ◌∙◌, length, eqb-true}
 use Rattle.hwdb_pattern.specs.Views.{Reached}
-use Rattle.hwdb_pattern.proofs.Pathing.{accept_test}
+use Rattle.hwdb_pattern.proofs.PathLemmas.{accept_test}
 use Rattle.hwdb_pattern.proofs.paths.Reach.accepts.Goals as goal
 
 pub returns-then-is_empty : goal.returns-then-is_empty

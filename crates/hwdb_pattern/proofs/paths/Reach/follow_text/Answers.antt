@@ -2,7 +2,7 @@ use Rattle.std.proofs.Common.{List, ℕ, ◌++◌, ◌-◌, take, drop, length, 
 use Rattle.std.proofs.lemmas.List.{take_rest}
 use Rattle.std.proofs.lemmas.Bool.{false≢true}
 use Rattle.hwdb_pattern.specs.Views.{Reached}
-use Rattle.hwdb_pattern.proofs.Pathing.{fed, lost_front}
+use Rattle.hwdb_pattern.proofs.PathLemmas.{fed, lost_front}
 use Rattle.hwdb_pattern.proofs.paths.Reach.follow_text.Goals as goal
 
 pub returns-clause-path : goal.returns-clause-path

@@ -1,6 +1,6 @@
 use Rattle.std.proofs.Common.{ap, ◌∙◌}
 use Rattle.hwdb_pattern.specs.Views.{Reached}
-use Rattle.hwdb_pattern.proofs.Pathing.{alive_test}
+use Rattle.hwdb_pattern.proofs.PathLemmas.{alive_test}
 use Rattle.hwdb_pattern.proofs.paths.Reach.is_alive.Goals as goal
 
 pub returns : goal.returns

@@ -1,4 +1,4 @@
-use Rattle.hwdb_pattern.proofs.Pathing.{starts}
+use Rattle.hwdb_pattern.proofs.PathLemmas.{starts}
 use Rattle.hwdb_pattern.proofs.paths.Reach.start.Goals as goal
 
 pub returns-clause-path : goal.returns-clause-path

@@ -3,7 +3,7 @@ use Rattle.hwdb_spec.specs.Assignment.{position_cmp}
 use Rattle.hwdb_query.specs.Internal.Hits.{parts_position}
 use Rattle.hwdb_query.specs.Internal.Collected.{Told, told_last}
 use Rattle.hwdb_query.specs.declared.last_hits.Last.{Last}
-use Rattle.hwdb_query.proofs.Orders.{after_none, after_less, after_other}
+use Rattle.hwdb_query.proofs.OrderLemmas.{after_none, after_less, after_other}
 use Rattle.hwdb_query.proofs.last_hits.LastHits.is_last.Goals as goal
 
 pub returns-in-None : goal.returns-in-None

@@ -2,8 +2,8 @@ use Rattle.std.proofs.Common.{◌≡◌, ◌∙◌, ap, sym, refl, option_map, L
 use Rattle.hwdb_reader.specs.Views.{entry_shows}
 use Rattle.hwdb_spec.specs.Answers.{is_after}
 use Rattle.hwdb_query.specs.Internal.Collected.{position_at}
-use Rattle.hwdb_query.proofs.ByKey.{left_there, put_there, inserted_at}
-use Rattle.hwdb_query.proofs.Collecting.{assignment_at, last_offered_none, last_offered}
+use Rattle.hwdb_query.proofs.ByKeyLemmas.{left_there, put_there, inserted_at}
+use Rattle.hwdb_query.proofs.CollectionLemmas.{assignment_at, last_offered_none, last_offered}
 use Rattle.hwdb_query.proofs.last_hits.LastHits.offer.Goals as goal
 
 pub returns-in_default : goal.returns-in_default

@@ -1,6 +1,6 @@
 use Rattle.std.proofs.Common.{◌∙◌, ◌++◌, ap, map}
 use Rattle.hwdb_query.specs.Views.{pairs_bytes}
-use Rattle.hwdb_query.proofs.ByKey.{pair_of, pair_step, pairs_over, pairs_are}
+use Rattle.hwdb_query.proofs.ByKeyLemmas.{pair_of, pair_step, pairs_over, pairs_are}
 use Rattle.hwdb_query.proofs.last_hits.LastHits.pairs.Goals as goal
 
 pub loop-key-init : goal.loop-key-init

@@ -3,7 +3,7 @@ use Rattle.hwdb_reader.specs.Views.{entered_tree}
 use Rattle.hwdb_spec.specs.Tree.{values_of}
 use Rattle.hwdb_query.specs.Internal.Members.{own_members}
 use Rattle.hwdb_query.specs.Internal.Collected.{PageCollects}
-use Rattle.hwdb_query.proofs.Backwards.{walked_to, none_walked, one_walked}
+use Rattle.hwdb_query.proofs.BackwardsLemmas.{walked_to, none_walked, one_walked}
 use Rattle.hwdb_query.proofs.next_page.NextPage.collect.Goals as goal
 use Rattle.hwdb_query.proofs.next_page.NextPage.collect.Goals.{then-falls, else-falls}
 

@@ -2,7 +2,7 @@ use Rattle.hwdb_reader.specs.Views.{entered_tree}
 use Rattle.hwdb_spec.specs.Tree.{values_of}
 use Rattle.hwdb_query.specs.Internal.Members.{own_members}
 use Rattle.hwdb_query.specs.Internal.Collected.{PageCollects}
-use Rattle.hwdb_query.proofs.Backwards.{walked}
+use Rattle.hwdb_query.proofs.BackwardsLemmas.{walked}
 use Rattle.hwdb_query.proofs.next_page.NextPage.collect.Given as goal
 
 abbrev pub invariant-loop-step : goal.invariant-loop-step

@@ -1,7 +1,7 @@
 use Rattle.std.proofs.lemmas.Result.{on_ok_weaker}
 use Rattle.hwdb_reader.specs.Views.{entered_tree, entry_shows}
 use Rattle.hwdb_spec.specs.Tree.{values_of}
-use Rattle.hwdb_query.proofs.Collecting.{page_one_taken, page_one_skipped}
+use Rattle.hwdb_query.proofs.CollectionLemmas.{page_one_taken, page_one_skipped}
 use Rattle.hwdb_query.proofs.next_page.NextPage.collect_one.Goals as goal
 
 pub returns-then-skips : goal.returns-then-skips

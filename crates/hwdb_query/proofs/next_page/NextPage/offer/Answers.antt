@@ -1,6 +1,6 @@
 use Rattle.std.proofs.Common.{◌∙◌, ap, sym, refl, option_map}
 use Rattle.hwdb_reader.specs.Views.{entry_shows}
-use Rattle.hwdb_query.proofs.Collecting.{page_offered_none, page_offered_early, page_offered}
+use Rattle.hwdb_query.proofs.CollectionLemmas.{page_offered_none, page_offered_early, page_offered}
 use Rattle.hwdb_query.proofs.next_page.NextPage.offer.Goals as goal
 
 pub returns-in_default : goal.returns-in_default

@@ -1,6 +1,6 @@
 use Rattle.std.proofs.Common.{ap}
 use Rattle.hwdb_query.specs.Internal.Hits.{parts_position, after_position}
-use Rattle.hwdb_query.proofs.Collecting.{skipped_before, skipped_behind}
+use Rattle.hwdb_query.proofs.CollectionLemmas.{skipped_before, skipped_behind}
 use Rattle.hwdb_query.proofs.next_page.NextPage.skips.Goals as goal
 
 pub returns-then-is_earlier : goal.returns-then-is_earlier

@@ -1,7 +1,7 @@
 use Rattle.std.proofs.Common.{◌∙◌, ap, arith, ◌<◌, ◌^◌}
 use Rattle.std.specs.Fmt.{decimal}
 use Rattle.hex.specs.Hex.{decode_of}
-use Rattle.hwdb_query.proofs.Numbers.{never_some, missing, no_colon_decimal, no_colon_hex}
+use Rattle.hwdb_query.proofs.NumberLemmas.{never_some, missing, no_colon_decimal, no_colon_hex}
 use Rattle.hwdb_query.proofs.position.Position.read_fields.Goals as goal
 
 pub returns-in_default-clause-refused : goal.returns-in_default-clause-refused

@@ -1,7 +1,7 @@
 use Rattle.std.proofs.Common.{◌<◌, subst}
 use Rattle.hwdb_reader.specs.Views.{tree_of}
 use Rattle.hwdb_spec.specs.Format.{children_count}
-use Rattle.hwdb_reader.proofs.Views.{placed_levels, placed_inside, children_number, child_read, child_placed}
+use Rattle.hwdb_reader.proofs.ViewLemmas.{placed_levels, placed_inside, children_number, child_read, child_placed}
 use Rattle.hwdb_reader.proofs.view.Inside.child.Goals as goal
 
 pub child_entry_at-entry-requires-clause-inside : goal.child_entry_at-entry-requires-clause-inside

@@ -1,6 +1,6 @@
 use Rattle.std.proofs.Math.Logic.{∥∥₁_elim}
 use Rattle.hwdb_reader.specs.Views.{tree_of}
-use Rattle.hwdb_reader.proofs.Ascends.{ascends, IsTree-prop}
+use Rattle.hwdb_reader.proofs.KeyOrderLemmas.{ascends, IsTree-prop}
 use Rattle.hwdb_reader.proofs.view.Inside.law_ascending.Goals as goal
 
 pub returns : goal.returns

@@ -3,7 +3,7 @@ use Rattle.std.specs.Coded.{le_prop}
 use Rattle.std.proofs.Math.Logic.{∥∥₁_elim}
 use Rattle.hwdb_reader.specs.Views.{tree_of}
 use Rattle.hwdb_spec.specs.Format.{values_count, value_at, IsValue}
-use Rattle.hwdb_reader.proofs.Views.{placed_inside, values_number, value_read, value_placed}
+use Rattle.hwdb_reader.proofs.ViewLemmas.{placed_inside, values_number, value_read, value_placed}
 use Rattle.hwdb_reader.proofs.view.Inside.origin.Goals as goal
 
 pub value_entry_at-entry-requires-clause-inside : goal.value_entry_at-entry-requires-clause-inside

@@ -1,7 +1,7 @@
 use Rattle.std.proofs.Common.{◌<◌, ap, sym, subst, Some}
 use Rattle.hwdb_reader.specs.Views.{tree_of}
 use Rattle.hwdb_spec.specs.Format.{values_count}
-use Rattle.hwdb_reader.proofs.Views.{placed_inside, values_number, value_read, value_placed}
+use Rattle.hwdb_reader.proofs.ViewLemmas.{placed_inside, values_number, value_read, value_placed}
 use Rattle.hwdb_reader.proofs.view.Inside.value.Goals as goal
 
 pub value_entry_at-entry-requires-clause-inside : goal.value_entry_at-entry-requires-clause-inside

@@ -1,7 +1,7 @@
 use Rattle.std.proofs.Common.{arith, sym, ◌∙◌}
 use Rattle.hwdb_reader.specs.Views.{tree_of}
-use Rattle.hwdb_reader.proofs.Bounds.{record_fields}
-use Rattle.hwdb_reader.proofs.Views.{placed_inside, values_number}
+use Rattle.hwdb_reader.proofs.BoundLemmas.{record_fields}
+use Rattle.hwdb_reader.proofs.ViewLemmas.{placed_inside, values_number}
 use Rattle.hwdb_reader.proofs.view.Inside.values.Goals as goal
 
 pub overflow_add-self : goal.overflow_add-self

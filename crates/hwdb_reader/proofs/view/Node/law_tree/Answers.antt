@@ -2,8 +2,8 @@ use Rattle.std.proofs.Common.{arith}
 use Rattle.std.proofs.Math.Logic.{∥∥₁_elim}
 use Rattle.std.specs.Coded.{le_prop}
 use Rattle.hwdb_reader.specs.Views.{tree_of}
-use Rattle.hwdb_reader.proofs.Bounds.{node_room}
-use Rattle.hwdb_reader.proofs.Ascends.{ascends, IsTree-prop}
+use Rattle.hwdb_reader.proofs.BoundLemmas.{node_room}
+use Rattle.hwdb_reader.proofs.KeyOrderLemmas.{ascends, IsTree-prop}
 use Rattle.hwdb_reader.proofs.view.Node.law_tree.Goals as goal
 
 pub returns-clause-ascending : goal.returns-clause-ascending

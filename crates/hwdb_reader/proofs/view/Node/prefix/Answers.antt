@@ -1,8 +1,8 @@
 use Rattle.std.proofs.Common.{arith, ap, ◌∙◌}
 use Rattle.hwdb_reader.specs.Views.{tree_of}
 use Rattle.hwdb_spec.specs.Format.{text_at}
-use Rattle.hwdb_reader.proofs.Bounds.{record_fields}
-use Rattle.hwdb_reader.proofs.Views.{placed_inside, placed_prefix, prefix_read}
+use Rattle.hwdb_reader.proofs.BoundLemmas.{record_fields}
+use Rattle.hwdb_reader.proofs.ViewLemmas.{placed_inside, placed_prefix, prefix_read}
 use Rattle.hwdb_reader.proofs.view.Node.prefix.Goals as goal
 
 pub u64_at-requires : goal.u64_at-requires

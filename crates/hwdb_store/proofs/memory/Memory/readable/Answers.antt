@@ -1,6 +1,6 @@
 use Rattle.std.proofs.Common.{rules}
 use Rattle.hwdb_store.specs.Memory.{stored}
-use Rattle.hwdb_store.proofs.Steps.{standing}
+use Rattle.hwdb_store.proofs.StepLemmas.{standing}
 use Rattle.hwdb_store.proofs.memory.Memory.readable.Goals as goal
 
 pub returns-in-Some : goal.returns-in-Some

@@ -1,5 +1,5 @@
 use Rattle.std.proofs.Common.{◌∙◌}
-use Rattle.hwdb_store.proofs.Steps.{created, elapses_on_step}
+use Rattle.hwdb_store.proofs.StepLemmas.{created, elapses_on_step}
 use Rattle.hwdb_store.proofs.memory.MemoryStore.create_new.Goals as goal
 
 pub returns-in_ok-take-in-Ok-Some-clause-seen : goal.returns-in_ok-take-in-Ok-Some-clause-seen

@@ -1,6 +1,6 @@
 use Rattle.hwdb_spec.specs.Store.{path_in}
 use Rattle.hwdb_store.specs.Memory.{IsRemoval}
-use Rattle.hwdb_store.proofs.Steps.{Took, took, time_of, elapses_same, removal_seen, removal_crash}
+use Rattle.hwdb_store.proofs.StepLemmas.{Took, took, time_of, elapses_same, removal_seen, removal_crash}
 use Rattle.hwdb_store.proofs.memory.MemoryStore.remove.Goals as goal
 
 pub returns-in_err-take-clause-time : goal.returns-in_err-take-clause-time

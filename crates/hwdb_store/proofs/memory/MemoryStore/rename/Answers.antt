@@ -1,7 +1,7 @@
 use Rattle.std.proofs.Common.{◌≡◌, Some}
 use Rattle.hwdb_spec.specs.Store.{Stored, path_in}
 use Rattle.hwdb_store.specs.Memory.{IsMove, seen_of, state_of, begin}
-use Rattle.hwdb_store.proofs.Steps.{Took, took, time_of, elapses_same, move_seen, move_whole, move_crash}
+use Rattle.hwdb_store.proofs.StepLemmas.{Took, took, time_of, elapses_same, move_seen, move_whole, move_crash}
 use Rattle.hwdb_store.proofs.memory.MemoryStore.rename.Goals as goal
 
 pub returns-in_err-take-clause-time : goal.returns-in_err-take-clause-time

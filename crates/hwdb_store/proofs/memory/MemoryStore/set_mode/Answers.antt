@@ -1,7 +1,7 @@
 use Rattle.std.proofs.Common.{◌≡◌, Some, sym, ap, ◌∙◌}
 use Rattle.hwdb_spec.specs.Store.{Stored, database_mode}
 use Rattle.hwdb_store.specs.Memory.{IsChange, seen_of}
-use Rattle.hwdb_store.proofs.Steps.{Took, took, time_of, change_seen, change_others, change_crash, same_file}
+use Rattle.hwdb_store.proofs.StepLemmas.{Took, took, time_of, change_seen, change_others, change_crash, same_file}
 use Rattle.hwdb_store.proofs.memory.MemoryStore.set_mode.Goals as goal
 
 pub returns-clause-set : goal.returns-clause-set

@@ -1,5 +1,5 @@
 use Rattle.hwdb_store.specs.Memory.{IsSync}
-use Rattle.hwdb_store.proofs.Steps.{Took, took, time_of, elapses_same, sync_whole, sync_seen, sync_crash}
+use Rattle.hwdb_store.proofs.StepLemmas.{Took, took, time_of, elapses_same, sync_whole, sync_seen, sync_crash}
 use Rattle.hwdb_store.proofs.memory.MemoryStore.sync.Goals as goal
 
 pub returns-in_err-take-clause-time : goal.returns-in_err-take-clause-time

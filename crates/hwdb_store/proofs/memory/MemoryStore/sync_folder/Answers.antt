@@ -1,6 +1,6 @@
 use Rattle.hwdb_spec.specs.Store.{path_in}
 use Rattle.hwdb_store.specs.declared.memory.Step.TheVariants.{Kept}
-use Rattle.hwdb_store.proofs.Steps.{elapses_on_step, kept_durable, kept_seen, kept_crash}
+use Rattle.hwdb_store.proofs.StepLemmas.{elapses_on_step, kept_durable, kept_seen, kept_crash}
 use Rattle.hwdb_store.proofs.memory.MemoryStore.sync_folder.Goals as goal
 
 pub returns-clause-durable : goal.returns-clause-durable

@@ -1,7 +1,7 @@
 use Rattle.std.proofs.Common.{◌≡◌, ◌++◌, Some, sym, ap, ◌∙◌, take}
 use Rattle.hwdb_spec.specs.Store.{Stored}
 use Rattle.hwdb_store.specs.Memory.{IsChange, seen_of}
-use Rattle.hwdb_store.proofs.Steps.{Took, took, time_of, elapses_same, change_seen, change_others, change_crash, same_file}
+use Rattle.hwdb_store.proofs.StepLemmas.{Took, took, time_of, elapses_same, change_seen, change_others, change_crash, same_file}
 use Rattle.hwdb_store.proofs.memory.MemoryStore.write.Goals as goal
 
 pub returns-in_err-take-clause-time : goal.returns-in_err-take-clause-time

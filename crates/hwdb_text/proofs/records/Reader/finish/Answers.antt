@@ -1,8 +1,8 @@
 use Rattle.std.proofs.Common.{◌∙◌, ◌++◌, ap}
 use Rattle.hwdb_spec.specs.Records.{by_line}
-use Rattle.hwdb_text.proofs.Held.{finished}
-use Rattle.hwdb_text.proofs.FaultOrder.{in_order_is}
-use Rattle.hwdb_text.proofs.DerivedOrder.{sorted_by_number}
+use Rattle.hwdb_text.proofs.HeldLemmas.{finished}
+use Rattle.hwdb_text.proofs.FaultOrderLemmas.{in_order_is}
+use Rattle.hwdb_text.proofs.DerivedOrderLemmas.{sorted_by_number}
 use Rattle.hwdb_text.proofs.records.Reader.finish.Goals as goal
 
 pub returns-clause-assignments : goal.returns-clause-assignments

@@ -4,7 +4,7 @@ use Rattle.hwdb_spec.specs.Lines.{}
 use Rattle.hwdb_text.specs.Internal.Contents.{line}
 use Rattle.hwdb_text.specs.Views.{text_of}
 use Rattle.hwdb_spec.specs.Records.{patterns, fault}
-use Rattle.hwdb_text.proofs.Held.{on_ok_both, held_match_start, held_match_more, held_stray_match, long_yes, long_no}
+use Rattle.hwdb_text.proofs.HeldLemmas.{on_ok_both, held_match_start, held_match_more, held_stray_match, long_yes, long_no}
 use Rattle.hwdb_text.proofs.records.Reader.match_line.Goals as goal
 
 pub returns-in-Start-clause-held : goal.returns-in-Start-clause-held

@@ -3,7 +3,7 @@ use Rattle.hwdb_spec.specs.Lines.{}
 use Rattle.hwdb_text.specs.Internal.Contents.{line}
 use Rattle.hwdb_text.specs.Views.{given_in, text_of}
 use Rattle.hwdb_spec.specs.Records.{property_assignments}
-use Rattle.hwdb_text.proofs.Held.{on_ok_both, held_stray_property, held_property}
+use Rattle.hwdb_text.proofs.HeldLemmas.{on_ok_both, held_stray_property, held_property}
 use Rattle.hwdb_text.proofs.records.Reader.property_line.Goals as goal
 
 pub returns-in-Start-clause-held : goal.returns-in-Start-clause-held

@@ -1,8 +1,8 @@
 use Rattle.std.proofs.Common.{[], sym, subst, ap, ◌∙◌}
 use Rattle.hwdb_spec.specs.Tree.{map_of}
 use Rattle.hwdb_writer.specs.Internal.Storable.{IsSound}
-use Rattle.hwdb_writer.proofs.Standings.{rolled}
-use Rattle.hwdb_writer.proofs.Puts.{empty_map, empty_sound}
+use Rattle.hwdb_writer.proofs.StandingLemmas.{rolled}
+use Rattle.hwdb_writer.proofs.PutLemmas.{empty_map, empty_sound}
 use Rattle.hwdb_writer.proofs.assignments.Tree.new.Goals as goal
 
 pub invariant_of-result : goal.invariant_of-result

@@ -1,6 +1,6 @@
 use Rattle.std.proofs.Common.{◌<◌, ◌^◌, refl, sym, subst, arith}
 use Rattle.hwdb_writer.specs.Internal.Storable.{HasNoZero, IsStorableValue}
-use Rattle.hwdb_writer.proofs.Puts.{value_sound}
+use Rattle.hwdb_writer.proofs.PutLemmas.{value_sound}
 use Rattle.hwdb_writer.proofs.assignments.Tree.set.Goals as goal
 
 pub set_value-requires : goal.set_value-requires

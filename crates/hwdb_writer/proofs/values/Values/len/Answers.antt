@@ -1,5 +1,5 @@
 use Rattle.std.proofs.Common.{length, ap, arith}
-use Rattle.hwdb_writer.proofs.Splits.{counts_left, counts_none}
+use Rattle.hwdb_writer.proofs.SplitLemmas.{counts_left, counts_none}
 use Rattle.hwdb_writer.proofs.values.Values.len.Goals as goal
 
 pub loop-run-preserved : goal.loop-run-preserved

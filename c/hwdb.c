@@ -1,0 +1,267 @@
+/* The calls of hwdb.h over the proved calls of crates/hwdb_c. What stands here isn't proved: it opens and reads the file,
+ * counts references, and keeps strings. */
+#define _GNU_SOURCE
+#include "hwdb.h"
+
+#include <errno.h>
+#include <fcntl.h>
+#include <search.h>
+#include <stdbool.h>
+#include <stdint.h>
+#include <stdlib.h>
+#include <string.h>
+#include <sys/stat.h>
+#include <unistd.h>
+
+/* Where sd_hwdb_new looks, in this order. Tests have others. */
+#ifndef HWDB_PATHS
+#define HWDB_PATHS "/etc/udev/hwdb.bin", "/usr/lib/udev/hwdb.bin"
+#endif
+
+/* A file that is read has at most so many bytes, as the program has it. */
+#define MAX_BYTES (256 << 20)
+
+/* How much room there is at first for the strings of one lookup. */
+#define FIRST_ROOM 1024
+
+/* What hwdb_c_properties answers. */
+enum { WRITTEN = 0, TOO_SHORT = 1, NO_MEMORY = 2 };
+
+/* crates/hwdb_c/src/lib.rt. The first is total. The second is for bytes for which the first answered 0; these are read
+ * into memory that nobody else has, and never change. No pointer that is handed to them is NULL. */
+uint32_t hwdb_c_check(const uint8_t *bytes, size_t length, uint64_t *place);
+uint32_t hwdb_c_properties(const uint8_t *bytes, size_t length, const uint8_t *device, size_t device_length, uint8_t *out,
+                           size_t room, size_t *needed);
+
+struct sd_hwdb {
+    size_t references;
+    /* the database, which was accepted */
+    uint8_t *bytes;
+    size_t length;
+    /* the last lookup: key, byte 0, value, byte 0 for each property, `used` bytes in all */
+    char *strings;
+    size_t room;
+    size_t used;
+    /* where the next property stands in it */
+    size_t next;
+    /* no property may be enumerated: `get` came behind the last `seek`, or that one failed */
+    bool is_spent;
+    /* every string that was given so far, each once: a tree of tsearch(3). Their number is at most the database's. */
+    void *given;
+};
+
+static int compare(const void *a, const void *b) {
+    return strcmp(a, b);
+}
+
+/* All bytes of a file: *ret is never NULL on success. */
+static int read_file(int fd, uint8_t **ret, size_t *ret_length) {
+    struct stat status;
+
+    if (fstat(fd, &status) < 0)
+        return -errno;
+    if (S_ISDIR(status.st_mode))
+        return -EISDIR;
+    if (!S_ISREG(status.st_mode))
+        return -EINVAL;
+    if (status.st_size > MAX_BYTES)
+        return -EFBIG;
+
+    /* One byte more than there are: a file that grows meanwhile isn't taken for the shorter one. */
+    size_t room = (size_t)status.st_size + 1;
+    uint8_t *bytes = malloc(room);
+    if (!bytes)
+        return -ENOMEM;
+    size_t length = 0;
+    while (length < room) {
+        ssize_t n = read(fd, bytes + length, room - length);
+        if (n < 0 && errno == EINTR)
+            continue;
+        if (n < 0) {
+            int error = errno;
+            free(bytes);
+            return -error;
+        }
+        if (n == 0)
+            break;
+        length += (size_t)n;
+    }
+    *ret = bytes;
+    *ret_length = length;
+    return 0;
+}
+
+/* A handle over bytes, which it takes over on success. */
+static int new_from_bytes(uint8_t *bytes, size_t length, sd_hwdb **ret) {
+    uint64_t place;
+
+    if (hwdb_c_check(bytes, length, &place) != 0)
+        return -EUCLEAN;
+    sd_hwdb *hwdb = calloc(1, sizeof *hwdb);
+    if (!hwdb)
+        return -ENOMEM;
+    hwdb->strings = malloc(FIRST_ROOM);
+    if (!hwdb->strings) {
+        free(hwdb);
+        return -ENOMEM;
+    }
+    hwdb->room = FIRST_ROOM;
+    hwdb->references = 1;
+    hwdb->bytes = bytes;
+    hwdb->length = length;
+    *ret = hwdb;
+    return 0;
+}
+
+static int new_from_file(int fd, sd_hwdb **ret) {
+    uint8_t *bytes = NULL;
+    size_t length = 0;
+
+    int r = read_file(fd, &bytes, &length);
+    if (r < 0)
+        return r;
+    r = new_from_bytes(bytes, length, ret);
+    if (r < 0)
+        free(bytes);
+    return r;
+}
+
+int sd_hwdb_new_from_path(const char *path, sd_hwdb **ret) {
+    if (!path || !*path || !ret)
+        return -EINVAL;
+    int fd = open(path, O_RDONLY | O_CLOEXEC | O_NOCTTY | O_NONBLOCK);
+    if (fd < 0)
+        return -errno;
+    int r = new_from_file(fd, ret);
+    close(fd);
+    return r;
+}
+
+int sd_hwdb_new(sd_hwdb **ret) {
+    static const char *const paths[] = {HWDB_PATHS};
+
+    for (size_t i = 0; i < sizeof paths / sizeof *paths; i++) {
+        struct stat status;
+        int r = sd_hwdb_new_from_path(paths[i], ret);
+        /* A link to nothing is a name that is there: no other database stands in for it. */
+        if (r != -ENOENT || lstat(paths[i], &status) == 0)
+            return r;
+    }
+    return -ENOENT;
+}
+
+sd_hwdb *sd_hwdb_ref(sd_hwdb *hwdb) {
+    if (hwdb)
+        hwdb->references++;
+    return hwdb;
+}
+
+sd_hwdb *sd_hwdb_unref(sd_hwdb *hwdb) {
+    if (!hwdb || --hwdb->references > 0)
+        return NULL;
+    tdestroy(hwdb->given, free);
+    free(hwdb->strings);
+    free(hwdb->bytes);
+    free(hwdb);
+    return NULL;
+}
+
+/* The handle's own copy of a string, which stays as long as the handle; NULL where memory is refused. */
+static const char *keep(sd_hwdb *hwdb, const char *string) {
+    char **found = tfind(string, &hwdb->given, compare);
+    if (found)
+        return *found;
+    char *copy = strdup(string);
+    if (copy && !tsearch(copy, &hwdb->given, compare)) {
+        free(copy);
+        return NULL;
+    }
+    return copy;
+}
+
+/* Asks for the properties of a device, into the room that there is. */
+static uint32_t ask(sd_hwdb *hwdb, const char *modalias, size_t *needed) {
+    return hwdb_c_properties(hwdb->bytes, hwdb->length, (const uint8_t *)modalias, strlen(modalias),
+                             (uint8_t *)hwdb->strings, hwdb->room, needed);
+}
+
+/* The properties of a device, as the last lookup. */
+static int look_up(sd_hwdb *hwdb, const char *modalias) {
+    size_t needed = 0;
+
+    hwdb->is_spent = true;
+    hwdb->used = 0;
+    hwdb->next = 0;
+    uint32_t answer = ask(hwdb, modalias, &needed);
+    if (answer == TOO_SHORT) {
+        char *larger = malloc(needed);
+        if (!larger)
+            return -ENOMEM;
+        free(hwdb->strings);
+        hwdb->strings = larger;
+        hwdb->room = needed;
+        answer = ask(hwdb, modalias, &needed);
+    }
+    if (answer != WRITTEN)
+        return -ENOMEM;
+    hwdb->used = needed;
+    return 0;
+}
+
+/* The property at a place of the last lookup, and the place behind it. */
+static size_t property_at(const sd_hwdb *hwdb, size_t place, const char **key, const char **value) {
+    *key = hwdb->strings + place;
+    *value = *key + strlen(*key) + 1;
+    return place + (size_t)(*value - *key) + strlen(*value) + 1;
+}
+
+int sd_hwdb_get(sd_hwdb *hwdb, const char *modalias, const char *key, const char **value) {
+    const char *this_key, *this_value;
+
+    if (!hwdb || !modalias || !key || !value)
+        return -EINVAL;
+    int r = look_up(hwdb, modalias);
+    if (r < 0)
+        return r;
+    for (size_t place = 0; place < hwdb->used;) {
+        place = property_at(hwdb, place, &this_key, &this_value);
+        if (strcmp(this_key, key) == 0) {
+            const char *kept = keep(hwdb, this_value);
+            if (!kept)
+                return -ENOMEM;
+            *value = kept;
+            return 0;
+        }
+    }
+    return -ENOENT;
+}
+
+int sd_hwdb_seek(sd_hwdb *hwdb, const char *modalias) {
+    if (!hwdb || !modalias)
+        return -EINVAL;
+    int r = look_up(hwdb, modalias);
+    if (r < 0)
+        return r;
+    hwdb->is_spent = false;
+    return 0;
+}
+
+int sd_hwdb_enumerate(sd_hwdb *hwdb, const char **key, const char **value) {
+    const char *this_key, *this_value;
+
+    if (!hwdb || !key || !value)
+        return -EINVAL;
+    if (hwdb->is_spent)
+        return -EAGAIN;
+    if (hwdb->next >= hwdb->used)
+        return 0;
+    size_t behind = property_at(hwdb, hwdb->next, &this_key, &this_value);
+    const char *kept_key = keep(hwdb, this_key);
+    const char *kept_value = keep(hwdb, this_value);
+    if (!kept_key || !kept_value)
+        return -ENOMEM;
+    *key = kept_key;
+    *value = kept_value;
+    hwdb->next = behind;
+    return 1;
+}

@@ -1,0 +1,265 @@
+-- What is found of words that the command takes: one of its commands, with each argument that this one needs.
+use Rattle.std.proofs.Common.{◌≡◌, ◌∙◌, ℕ, Bool, true, false, refl, sym, subst, inl, inr, List, [], Option, Some, None, is_some, codes, true≢false}
+use Rattle.std.specs.Prelude.{IfSome, option_map}
+use Rattle.std.specs.List.{find}
+use Rattle.std.specs.Option.{option_map_or}
+use Rattle.std.specs.Str.{bytes_eq}
+use Rattle.std.proofs.lemmas.Slice.Eq.{bytes_eq-Decides}
+use Rattle.clap.specs.Kinds.{check_kinds}
+use Rattle.clap.specs.Faults.{check_fault, defaults_fault, entered_fault, fault_of, level_fault, settle_fault, walk_fault}
+use Rattle.clap.specs.Walk.{Row, Rule, Text, answers_to, finished, nothing_held, one_of, rows_after, settled, walk, walk_from}
+use Rattle.clap.specs.Simple.{App, Shape, argument_words, built, built_leaf, entered, filled, inherited, label_of, marked_built, names_of, rows_at, subcommand_of, with_index, with_leaf_noted}
+use Rattle.clap.proofs.ValueTestLemmas.{accepts-Accepts}
+use Rattle.clap.specs.declared.builder.value_parser.ValueParser.TheVariants as vp
+use Rattle.hwdb_cli.specs.Line.{ask_app, device_rule, devices_rule, explain_app, file_rule, hwdb_app, limit_rule, list_app, query_app, update_app}
+use Rattle.hwdb_cli.specs.Jobs.{HasValue, IsCommand, IsNumber}
+use Rattle.hwdb_cli.proofs.WalkLemmas.{none_of_both}
+use Rattle.hwdb_cli.proofs.UseLemmas.{Each, RowFits, StandsAlone, found_each, required_value, rows_fit, text_read}
+
+-- a command as it is built
+abbrev built_command : App → Shape
+built_command a = built_leaf (inherited (with_leaf_noted (marked_built hwdb_app.top)) a.top)
+
+abbrev argument_at : ℕ → Rule → Rule
+argument_at i a = with_index i (filled a)
+
+pub other_text : {X : Type 0} (a b : Text) → bytes_eq a b ≡ false → a ≡ b → X
+other_text a b differ is = absurd (true≢false (sym ((bytes_eq-Decides a b).1 is) ∙ differ))
+
+-- ---- the arguments
+
+query_devices : StandsAlone (built_command query_app).rules (argument_at 1 devices_rule)
+query_devices = record {
+  alone = (
+    λ is. other_text (codes "usr") (codes "MODALIAS") refl is,
+    (
+      λ is. other_text (codes "strict") (codes "MODALIAS") refl is,
+      (
+        λ is. other_text (codes "root") (codes "MODALIAS") refl is,
+        (
+          λ is. refl,
+          (
+            λ is. other_text (codes "help") (codes "MODALIAS") refl is,
+            tt,
+          ),
+        ),
+      ),
+    ),
+  );
+  set = refl;
+  defaults = refl;
+  some = λ e. cc;
+}
+
+explain_device : StandsAlone (built_command explain_app).rules (argument_at 1 device_rule)
+explain_device = record {
+  alone = (
+    λ is. other_text (codes "usr") (codes "MODALIAS") refl is,
+    (
+      λ is. other_text (codes "strict") (codes "MODALIAS") refl is,
+      (
+        λ is. other_text (codes "root") (codes "MODALIAS") refl is,
+        (
+          λ is. refl,
+          (
+            λ is. other_text (codes "help") (codes "MODALIAS") refl is,
+            tt,
+          ),
+        ),
+      ),
+    ),
+  );
+  set = refl;
+  defaults = refl;
+  some = λ e. cc;
+}
+
+ask_file : StandsAlone (built_command ask_app).rules (argument_at 1 file_rule)
+ask_file = record {
+  alone = (
+    λ is. other_text (codes "usr") (codes "FILE") refl is,
+    (
+      λ is. other_text (codes "strict") (codes "FILE") refl is,
+      (
+        λ is. other_text (codes "root") (codes "FILE") refl is,
+        (
+          λ is. refl,
+          (
+            λ is. other_text (codes "MODALIAS") (codes "FILE") refl is,
+            (
+              λ is. other_text (codes "help") (codes "FILE") refl is,
+              tt,
+            ),
+          ),
+        ),
+      ),
+    ),
+  );
+  set = refl;
+  defaults = refl;
+  some = λ e. cc;
+}
+
+ask_device : StandsAlone (built_command ask_app).rules (argument_at 2 device_rule)
+ask_device = record {
+  alone = (
+    λ is. other_text (codes "usr") (codes "MODALIAS") refl is,
+    (
+      λ is. other_text (codes "strict") (codes "MODALIAS") refl is,
+      (
+        λ is. other_text (codes "root") (codes "MODALIAS") refl is,
+        (
+          λ is. other_text (codes "FILE") (codes "MODALIAS") refl is,
+          (
+            λ is. refl,
+            (
+              λ is. other_text (codes "help") (codes "MODALIAS") refl is,
+              tt,
+            ),
+          ),
+        ),
+      ),
+    ),
+  );
+  set = refl;
+  defaults = refl;
+  some = λ e. cc;
+}
+
+list_device : StandsAlone (built_command list_app).rules (argument_at 1 device_rule)
+list_device = record {
+  alone = (
+    λ is. other_text (codes "usr") (codes "MODALIAS") refl is,
+    (
+      λ is. other_text (codes "strict") (codes "MODALIAS") refl is,
+      (
+        λ is. other_text (codes "root") (codes "MODALIAS") refl is,
+        (
+          λ is. other_text (codes "after") (codes "MODALIAS") refl is,
+          (
+            λ is. other_text (codes "limit") (codes "MODALIAS") refl is,
+            (
+              λ is. refl,
+              (
+                λ is. other_text (codes "help") (codes "MODALIAS") refl is,
+                tt,
+              ),
+            ),
+          ),
+        ),
+      ),
+    ),
+  );
+  set = refl;
+  defaults = refl;
+  some = λ e. cc;
+}
+
+list_limit : StandsAlone (built_command list_app).rules (argument_at 1 limit_rule)
+list_limit = record {
+  alone = (
+    λ is. other_text (codes "usr") (codes "limit") refl is,
+    (
+      λ is. other_text (codes "strict") (codes "limit") refl is,
+      (
+        λ is. other_text (codes "root") (codes "limit") refl is,
+        (
+          λ is. other_text (codes "after") (codes "limit") refl is,
+          (
+            λ is. refl,
+            (
+              λ is. other_text (codes "MODALIAS") (codes "limit") refl is,
+              (
+                λ is. other_text (codes "help") (codes "limit") refl is,
+                tt,
+              ),
+            ),
+          ),
+        ),
+      ),
+    ),
+  );
+  set = refl;
+  defaults = refl;
+  some = λ e. cc;
+}
+
+-- a limit that was read is a number
+limit_number : (rows : List Row) → Each (RowFits (argument_at 1 limit_rule)) rows → IfSome (one_of (codes "limit") rows) IsNumber
+limit_number rows each = go (one_of (codes "limit") rows) refl
+  where
+    go : (o : Option Text) → one_of (codes "limit") rows ≡ o → IfSome o IsNumber
+    go None at = tt
+    go (Some t) at =
+        let read = text_read (argument_at 1 limit_rule) rows t each at in
+        let fits = accepts-Accepts false (vp.Unsigned 0 18446744073709551615) read.0 read.1 in
+        subst IsNumber (sym read.2) (fits.0, fits.1)
+
+-- ---- the commands
+
+-- words that the command takes give what it needs
+abbrev Gives : Shape → Type 0
+Gives s = (words : List Text) → level_fault s [] nothing_held words false [] ≡ [] → IsCommand s.name (rows_after s.rules [] words)
+
+value_of : (s : Shape) (words : List Text) (a : Rule) → StandsAlone s.rules a → find (λ b. bytes_eq b.id a.id) s.rules ≡ Some a → a.required ≡ true
+    → s.subcommand_negates_reqs ≡ false → level_fault s [] nothing_held words false [] ≡ [] → HasValue a.id (rows_after s.rules [] words)
+value_of s words a = required_value s words a (λ b. bytes_eq b.id a.id)
+
+update_gives : Gives (built_command update_app)
+update_gives words e = inl refl
+
+query_gives : Gives (built_command query_app)
+query_gives words e = inr (inl (refl, value_of (built_command query_app) words (argument_at 1 devices_rule) query_devices refl refl refl e))
+
+explain_gives : Gives (built_command explain_app)
+explain_gives words e = inr (inr (inl (refl, value_of (built_command explain_app) words (argument_at 1 device_rule) explain_device refl refl refl e)))
+
+ask_gives : Gives (built_command ask_app)
+ask_gives words e = inr (inr (inr (inl (
+  refl,
+  value_of (built_command ask_app) words (argument_at 1 file_rule) ask_file refl refl refl e,
+  value_of (built_command ask_app) words (argument_at 2 device_rule) ask_device refl refl refl e,
+))))
+
+list_gives : Gives (built_command list_app)
+list_gives words e = inr (inr (inr (inr (
+  refl,
+  value_of (built_command list_app) words (argument_at 1 device_rule) list_device refl refl refl e,
+  limit_number _ (rows_fit (built_command list_app) words (argument_at 1 limit_rule) list_limit e),
+))))
+
+-- ---- the command line
+
+-- the subcommand at which a walk stopped, where it takes its words
+command_entered : (a : App) (stop : Option (Text × List Text)) → Each Gives a.subs → entered_fault a stop ≡ [] → is_some (entered a stop) ≡ true
+    → (q : Text × List Row) × (entered a stop ≡ Some q) × IsCommand q.0 q.1
+command_entered a None each e some = absurd (true≢false (sym some))
+command_entered a (Some p) each e some = go (find (λ s. answers_to p.0 (label_of s)) a.subs) refl e some
+  where
+    go : (o : Option Shape) → find (λ s. answers_to p.0 (label_of s)) a.subs ≡ o → option_map_or (λ s. level_fault s [] nothing_held p.1 false []) o [] ≡ []
+        → is_some (option_map (λ s. rows_at s p.1) o) ≡ true → (q : Text × List Row) × (option_map (λ s. rows_at s p.1) o ≡ Some q) × IsCommand q.0 q.1
+    go None at e some = absurd (true≢false (sym some))
+    go (Some s) at e some = (rows_at s p.1, refl, (found_each Gives (λ s. answers_to p.0 (label_of s)) a.subs s at each).1 p.1 e)
+
+no_subcommand_missing : (x y z : Bool) → check_kinds x y z ≡ [] → y ≡ false
+no_subcommand_missing true y z e = cc
+no_subcommand_missing false true z e = cc
+no_subcommand_missing false false z e = refl
+
+-- a command that asks for a subcommand has one
+subcommand_there : (s : Shape) (rows : List Row) (has : Bool) → s.subcommand_required ≡ true → check_fault s rows has ≡ [] → has ≡ true
+subcommand_there s rows true required e = refl
+subcommand_there s rows false required e = sym (no_subcommand_missing _ _ _ e) ∙ required
+
+-- words that the command takes name one of its commands, with what this one needs
+pub command_taken : (words : List Text) → fault_of hwdb_app words ≡ [] → (q : Text × List Row) × (subcommand_of hwdb_app words ≡ Some q) × IsCommand q.0 q.1
+command_taken words e =
+    let a = built hwdb_app in
+    let left = argument_words hwdb_app words in
+    let end = walk a.top.rules (names_of a) nothing_held left in
+    let steps = none_of_both (walk_fault a.top (names_of a) (walk_from nothing_held) left) _ e in
+    let below = none_of_both (entered_fault a end.stopped) _ steps.1 in
+    let settle = none_of_both (settle_fault a.top.rules a.top.args_override_self end.held) _ below.1 in
+    let checks = none_of_both (defaults_fault (settled a.top.rules end.held).rows a.top.rules) _ settle.1 in
+    let has = subcommand_there a.top (finished a.top.rules end.held) (is_some (entered a end.stopped)) refl checks.1 in
+    command_entered a end.stopped (update_gives, (query_gives, (explain_gives, (ask_gives, (list_gives, tt))))) below.0 has

@@ -1,0 +1,5 @@
+pub mod ExplanationLemmas
+pub mod DeviceTextLemmas
+pub mod FailureLemmas
+pub mod HitLineLemmas
+pub mod RefusalLemmas

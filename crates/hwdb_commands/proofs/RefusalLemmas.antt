@@ -1,0 +1,67 @@
+-- Which refusal an error of a crate below becomes.
+use Rattle.std.proofs.Common.{◌≡◌, ◌≢◌, ◌<◌, ℕ, List, Option, None, Some, refl, ap, arith, sym, subst, Result, Ok, Err, IfErr}
+use Rattle.std.specs.Option.{option_copied}
+use Rattle.hwdb_query.specs.Views.{given_position, next_position}
+use Rattle.hwdb_query.specs.declared.position.Position.{Position as OwnedPosition}
+use Rattle.std.specs.Result.{IsErrAnd}
+use Rattle.std.specs.Borrow.{Bor}
+use Rattle.hwdb_spec.specs.Assignment.{Position}
+use Rattle.hwdb_spec.specs.Texts.{IsSpelling}
+use Rattle.hwdb_query.specs.declared.errors.CursorError.{CursorError}
+use Rattle.hwdb_query.specs.declared.errors.CursorError.TheVariants as cursors
+use Rattle.hwdb_query.specs.declared.errors.PositionError.{PositionError}
+use Rattle.hwdb_query.specs.declared.errors.PositionError.TheVariants as positions
+use Rattle.hwdb_commands.specs.declared.errors.ToolError.{ToolError}
+use Rattle.hwdb_commands.specs.Refusals.{refusal_of_cursor, refusal_of_position}
+use Rattle.hwdb_commands.specs.Lookups.{IsPositionRefusal, IsListRefusal, IsDatabaseRefusal}
+use Rattle.hwdb_commands.specs.Updates.{IsAskRefusal, OnUnreplaced}
+use Rattle.hwdb_store.specs.declared.replacement.Unreplaced.{Unreplaced}
+use Rattle.hwdb_commands.specs.declared.errors.ToolError.TheVariants.{Write, BadDatabase, Memory, Replace}
+use Rattle.hwdb_spec.specs.Tree.{Map}
+use Rattle.hwdb_spec.specs.Written.{IsDatabaseOf}
+
+module _ {X : Type 0} where
+  pub position_refused : (text : Bor (List ℕ)) (q : PositionError) (r : Result X ToolError) → IsErrAnd r (λ e. e ≡ refusal_of_position q)
+      → (q ≡ positions.BadPosition → (p : Position) → IsSpelling p text.now → ⊥) → IfErr r (IsPositionRefusal (Some text))
+  position_refused text q (Ok x) h bad = tt
+  position_refused text positions.BadPosition (Err e) h bad = let P : ToolError → Type 0 = λ x. IsPositionRefusal (Some text) x in subst P (sym h) (bad refl)
+  position_refused text positions.Memory (Err e) h bad = let P : ToolError → Type 0 = λ x. IsPositionRefusal (Some text) x in subst P (sym h) tt
+
+  pub cursor_refused : (after : Option (Bor (List ℕ))) (bytes : List ℕ) (q : CursorError) (r : Result X ToolError) → IsErrAnd r (λ e. e ≡ refusal_of_cursor q)
+      → q ≢ cursors.PageZero → IfErr r (IsListRefusal after bytes)
+  cursor_refused after bytes q (Ok x) h page = tt
+  cursor_refused after bytes cursors.PageZero (Err e) h page = absurd (page refl)
+  cursor_refused None bytes cursors.Memory (Err e) h page = let P : ToolError → Type 0 = λ x. IsListRefusal None bytes x in subst P (sym h) tt
+  cursor_refused (Some text) bytes cursors.Memory (Err e) h page = let P : ToolError → Type 0 = λ x. IsListRefusal (Some text) bytes x in subst P (sym h) tt
+
+-- the position that a caller lends
+pub lent_position : (lent : Option (Bor OwnedPosition)) (own : Option OwnedPosition) → option_copied lent ≡ own → given_position lent ≡ next_position own
+lent_position None own e = ap next_position e
+lent_position (Some p) own e = ap next_position e
+
+pub not_zero : (page : ℕ) → page ≡ 0 → 0 < page → ⊥
+not_zero page e some = omega (arith, e, some)
+
+is_write : ToolError → Type 0
+is_write Write = Unit {0}
+is_write _ = ⊥
+
+memory_is_no_write : Memory ≢ Write
+unfolding is_write
+memory_is_no_write e = subst is_write (sym e) tt
+
+-- a database of a map isn't refused
+module _ {X : Type 0} where
+  pub asked_refused : (bytes database : List ℕ) (m : Map) (max_bytes : ℕ) (q : ToolError) (r : Result X ToolError) → IsErrAnd r (λ e. e ≡ q)
+      → IsDatabaseRefusal database q → IsDatabaseOf m database → IfErr r (λ e. (e ≢ Write) × IsAskRefusal bytes max_bytes e)
+  asked_refused bytes database m max_bytes q (Ok x) h refusal is = tt
+  asked_refused bytes database m max_bytes (BadDatabase fault) (Err e) h refusal is = absurd (refusal.no_tree is.0 is.1)
+  asked_refused bytes database m max_bytes Memory (Err e) h refusal is =
+      let P : ToolError → Type 0 = λ x. (x ≢ Write) × IsAskRefusal bytes max_bytes x in subst P (sym h) (memory_is_no_write, tt)
+  asked_refused bytes database m max_bytes _ (Err e) h refusal is = absurd refusal
+
+-- the database wasn't replaced
+module _ {X : Type 0} where
+  pub unreplaced_for : (P : Unreplaced → Type 0) (u : Unreplaced) (r : Result X ToolError) → IsErrAnd r (λ e. e ≡ Replace u) → P u → IfErr r (OnUnreplaced P)
+  unreplaced_for P u (Ok x) is p = tt
+  unreplaced_for P u (Err e) is p = let Q : ToolError → Type 0 = λ x. OnUnreplaced P x in subst Q (sym is) p

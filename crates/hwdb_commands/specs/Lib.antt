@@ -1,0 +1,4 @@
+pub mod Devices
+pub mod Refusals
+pub mod Lookups
+pub mod Updates

@@ -1,0 +1,62 @@
+//! Printing the hits of a cursor, one line after another.
+ghost use Rattle.std.specs.Prelude.{◌≡◌, ◌≢◌, ◌≤◌, OnOk, IfErr, IsErrOf};
+ghost use Rattle.std.specs.Io.KnownBytes.{Appends};
+ghost use Rattle.hwdb_spec.specs.Failures.{HasFailed, OneFailed};
+ghost use Rattle.hwdb_commands.specs.Devices.{AppendsPrefix};
+ghost use Rattle.hwdb_commands.specs.Lookups.{AppendsLines, IsPrintRefusal, list_page, one_less};
+ghost use Rattle.hwdb_spec.specs.Texts.{hits_text, within_limit};
+
+use crate::devices::Sink;
+use crate::errors::ToolError;
+use crate::texts::set_hit_line;
+use crate::transfer::write_text;
+use hwdb_query::Cursor;
+use std::alloc::Global;
+
+/// A limit after one more line.
+fn one_less(limit: Option<u64>) -> Option<u64>
+    ensures { result ≡ one_less limit }
+{
+    match limit {
+        Some(n) => Some(n.saturating_sub(1)),
+        None => None,
+    }
+}
+
+/// Prints a line for each of the first `limit` hits that the cursor has still to yield; it holds at most a page
+/// of 64.
+pub fn print_hits<O: Sink>(
+    alloc: Global,
+    hits: &mut Cursor<'_, '_>,
+    limit: Option<u64>,
+    out: &mut O,
+) -> Result<(), ToolError>
+    requires page { hits.old.page ≡ list_page }
+    ensures printed { OnOk result
+        (Appends (O.taken out.old) (O.taken out.new)
+        (hits_text (within_limit limit hits.old.to_come))) }
+    ensures refusals { IfErr result IsPrintRefusal }
+    ensures cause { IsErrOf result ToolError.Write
+        → HasFailed (O.failures out.old) (O.failures out.new) }
+    ensures unfailed { OnOk result (O.failures out.new ≡ O.failures out.old) }
+    ensures last { IsErrOf result ToolError.Write
+        → OneFailed (O.failures out.old) (O.failures out.new) }
+    ensures refused { IsErrOf result ToolError.Memory → O.failures out.new ≡ O.failures out.old }
+    ensures cut_short { IsErrOf result ToolError.Write
+        → AppendsPrefix (O.taken out.old) (O.taken out.new)
+        (hits_text (within_limit limit hits.old.to_come)) }
+    ensures whole_lines { IsErrOf result ToolError.Memory
+        → AppendsLines (O.taken out.old) (O.taken out.new) (within_limit limit hits.old.to_come) }
+{
+    let mut line = Vec::new(alloc);
+    let mut left = limit;
+    'printing: while left != Some(0) {
+        let Some(hit) = hits.next()? else {
+            return Ok(());
+        };
+        set_hit_line(&mut line, &hit)?;
+        write_text(out, &line)?;
+        left = one_less(left);
+    }
+    Ok(())
+}

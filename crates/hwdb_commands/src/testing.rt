@@ -1,0 +1,145 @@
+//! Devices over fixed memory, for tests: they tell their bytes, take no memory and fail where they are
+//! told to.
+ghost use Rattle.std.specs.Prelude.{◌≡◌, ◌≤◌, ◌+◌, ℕ, List, None, Some, drop, take, length};
+
+use crate::adapters::after_failure;
+use crate::devices::{DeviceFailed, Sink, Source};
+
+/// A source of the given bytes.
+#[derive(Drop)]
+pub struct MemorySource<'a> {
+    /// The bytes that are left.
+    pub rest: &'a [u8],
+    /// How many bytes a read gives at most; 0 counts as 1.
+    pub per_read: usize,
+    /// The number of the read that fails, counted from 0.
+    pub fails_at: Option<u64>,
+    /// How many reads there were.
+    pub reads: u64,
+    /// How many reads have failed.
+    pub failed: u64,
+}
+
+impl<'a> MemorySource<'a> {
+    /// The bytes in one piece, without a failure.
+    pub fn new(bytes: &'a [u8]) -> MemorySource<'a>
+        ensures bytes { result.rest.now ≡ bytes.now }
+        ensures failed { result.failed ≡ 0 }
+    {
+        MemorySource {
+            rest: bytes,
+            per_read: usize::MAX,
+            fails_at: None,
+            reads: 0,
+            failed: 0,
+        }
+    }
+}
+
+impl<'a> Source for MemorySource<'a> {
+    ghost left = { λ s. Some s.rest.now };
+
+    ghost failures = { λ s. s.failed };
+
+    fn read(&mut self, buf: &mut [u8]) -> Result<usize, DeviceFailed> {
+        let number = self.reads;
+        self.reads = self.reads.saturating_add(1);
+        if self.fails_at == Some(number) {
+            self.failed = after_failure(self.failed);
+            return Err(DeviceFailed);
+        }
+        let n = self.per_read.max(1).min(buf.len()).min(self.rest.len());
+        buf[..n].copy_from_slice(&self.rest[..n]);
+        self.rest = &self.rest[n..];
+        Ok(n)
+    }
+}
+
+/// A source that never ends. It tells nothing of its bytes.
+#[derive(Drop)]
+pub struct EndlessSource {
+    /// How many reads have failed: none.
+    pub failed: u64,
+}
+
+impl Source for EndlessSource {
+    ghost left = { λ _. None };
+
+    ghost failures = { λ s. s.failed };
+
+    fn read(&mut self, buf: &mut [u8]) -> Result<usize, DeviceFailed> {
+        buf.fill(b'a');
+        Ok(buf.len())
+    }
+}
+
+/// A sink into an array.
+#[derive(Drop)]
+pub struct MemorySink<const N: usize> {
+    /// The array.
+    pub bytes: [u8; N],
+    /// How many bytes of it were taken.
+    pub len: usize,
+    /// After how many bytes each further write fails.
+    pub room: usize,
+    /// How many bytes a write takes at most.
+    pub per_write: usize,
+    /// Whether each flush fails.
+    pub flush_fails: bool,
+    /// How many calls have failed.
+    pub failed: u64,
+    ghost within: { len ≤ N },
+}
+
+impl<const N: usize> MemorySink<N> {
+    /// An empty sink with the array's room, without a failure before it is full.
+    pub fn new() -> MemorySink<N>
+        ensures empty { result.len ≡ 0 }
+        ensures failed { result.failed ≡ 0 }
+    {
+        MemorySink {
+            bytes: [0; N],
+            len: 0,
+            room: N,
+            per_write: N,
+            flush_fails: false,
+            failed: 0,
+        }
+    }
+
+    /// The bytes that were taken.
+    pub fn taken(&self) -> &[u8]
+        ensures { result.now ≡ take self.now.len self.now.bytes }
+    {
+        let all = &self.bytes[..];
+        &all[..self.len]
+    }
+}
+
+impl<const N: usize> Sink for MemorySink<N> {
+    ghost taken = { λ s. Some (take s.len s.bytes) };
+
+    ghost failures = { λ s. s.failed };
+
+    fn write(&mut self, buf: &[u8]) -> Result<usize, DeviceFailed> {
+        let room = self.room.min(N).saturating_sub(self.len);
+        let n = self.per_write.min(buf.len()).min(room);
+        if n == 0 && !buf.is_empty() {
+            self.failed = after_failure(self.failed);
+            return Err(DeviceFailed);
+        }
+        let end = self.len + n;
+        let all = &mut self.bytes[..];
+        all[self.len..end].copy_from_slice(&buf[..n]);
+        self.len = end;
+        Ok(n)
+    }
+
+    fn flush(&mut self) -> Result<(), DeviceFailed> {
+        if self.flush_fails {
+            self.failed = after_failure(self.failed);
+            return Err(DeviceFailed);
+        }
+        Ok(())
+    }
+}

@@ -1,0 +1,145 @@
+-- The assignments and live nodes of a tree, by the parts of its root.
+use Rattle.std.proofs.Common.{◌≡◌, ◌∙◌, ap, sym, refl, ℕ, zero, suc, ◌+◌, ◌≤◌, Bool, true, false, List, [], ◌∷◌, ◌++◌, take, drop, map, filter, length, arith, append_assoc, Option, Some, None, slice_get, option_map, if◌then◌else◌}
+use Rattle.std.specs.Prelude.{flat_map}
+use Rattle.std.proofs.lemmas.Grind.{flat_map-append}
+use Rattle.std.proofs.lemmas.List.{append-nil}
+use Rattle.std.proofs.lemmas.List.Elements.{filter-append}
+use Rattle.hwdb_spec.specs.Tree.{Tree, Children, Value, prefix_of, values_under, values_below, key_of, assigned_at, members_under, is_live, live_under, live_below, values_of}
+use Rattle.hwdb_query.specs.Internal.Members.{assignment_of, one_assignment, assignment_shown, members_in, own_members}
+use Rattle.hwdb_reader.specs.Views.{children_of, list_of, node_count, nodes_below, Shown, shown}
+use Rattle.hwdb_spec.specs.Tree.Tree.{Node}
+use Rattle.hwdb_spec.specs.Tree.Children.{NoMore, Child}
+use Rattle.hwdb_spec.specs.Answers.{is_wanted, is_match}
+use Rattle.hwdb_query.specs.Internal.Live.{live_in, nodes_in}
+use Rattle.hwdb_query.proofs.PutLemmas.{filter_in, filter_out}
+
+-- what a value assigns, and what it is shown to assign
+at_once : (pattern : List ℕ) (v : Value) (o : Option (List ℕ)) → assigned_at pattern v o ≡ one_assignment pattern (shown v) o
+at_once pattern v None = refl
+at_once pattern v (Some key) = refl
+
+pub own_listed : (pattern : List ℕ) (values : List Value) → flat_map assignment_of (map (λ v. (pattern, v)) values) ≡ own_members pattern values
+unfolding assignment_shown
+own_listed pattern [] = refl
+own_listed pattern (v ∷ values) =
+    ap (λ r. r ++ flat_map assignment_of (map (λ w. (pattern, w)) values)) (at_once pattern v (key_of v.key)) ∙ ap (λ r. assignment_shown pattern (shown v) ++ r) (own_listed pattern values)
+
+pub below_listed : (path : List ℕ) (ks : Children) → flat_map assignment_of (values_below path ks) ≡ members_in path (list_of ks)
+unfolding values_below list_of
+below_listed path NoMore = refl
+below_listed path (Child byte t more) =
+    flat_map-append assignment_of (values_under (path ++ byte ∷ []) t) (values_below path more)
+    ∙ ap (λ r. members_under (path ++ byte ∷ []) t ++ r) (below_listed path more)
+
+pub members_split : (path : List ℕ) (t : Tree) → members_under path t ≡ own_members (path ++ prefix_of t) (values_of t) ++ members_in (path ++ prefix_of t) (children_of t)
+unfolding values_under prefix_of values_of children_of
+members_split path (Node prefix values children) =
+    flat_map-append assignment_of (map (λ v. (path ++ prefix, v)) values) (values_below (path ++ prefix) children)
+    ∙ ap (λ r. r ++ flat_map assignment_of (values_below (path ++ prefix) children)) (own_listed (path ++ prefix) values)
+    ∙ ap (λ r. own_members (path ++ prefix) values ++ r) (below_listed (path ++ prefix) children)
+
+one_wanted : (device pattern : List ℕ) (s : Shown) (o : Option (List ℕ)) → is_match device pattern ≡ true → filter (is_wanted device) (one_assignment pattern s o) ≡ one_assignment pattern s o
+one_wanted device pattern s None h = refl
+one_wanted device pattern s (Some key) h = filter_in (is_wanted device) _ [] h
+
+one_unwanted : (device pattern : List ℕ) (s : Shown) (o : Option (List ℕ)) → is_match device pattern ≡ false → filter (is_wanted device) (one_assignment pattern s o) ≡ []
+one_unwanted device pattern s None h = refl
+one_unwanted device pattern s (Some key) h = filter_out (is_wanted device) _ [] h
+
+pub own_wanted : (device pattern : List ℕ) (values : List Value) → is_match device pattern ≡ true → filter (is_wanted device) (own_members pattern values) ≡ own_members pattern values
+unfolding assignment_shown
+own_wanted device pattern [] h = refl
+own_wanted device pattern (v ∷ values) h =
+    filter-append (is_wanted device) (assignment_shown pattern (shown v)) (own_members pattern values)
+    ∙ ap (λ r. r ++ filter (is_wanted device) (own_members pattern values)) (one_wanted device pattern (shown v) (shown v).key h)
+    ∙ ap (λ r. assignment_shown pattern (shown v) ++ r) (own_wanted device pattern values h)
+
+pub own_unwanted : (device pattern : List ℕ) (values : List Value) → is_match device pattern ≡ false → filter (is_wanted device) (own_members pattern values) ≡ []
+unfolding assignment_shown
+own_unwanted device pattern [] h = refl
+own_unwanted device pattern (v ∷ values) h =
+    filter-append (is_wanted device) (assignment_shown pattern (shown v)) (own_members pattern values)
+    ∙ ap (λ r. r ++ filter (is_wanted device) (own_members pattern values)) (one_unwanted device pattern (shown v) (shown v).key h)
+    ∙ own_unwanted device pattern values h
+
+-- the value at a place, and those behind it
+pub own_next : (pattern : List ℕ) (values : List Value) (i : ℕ) (s : Shown) → option_map shown (slice_get values i) ≡ Some s
+    → own_members pattern (drop i values) ≡ assignment_shown pattern s ++ own_members pattern (drop (suc i) values)
+own_next pattern [] i s h = absurd (cc)
+own_next pattern (v ∷ values) zero s h = let e : shown v ≡ s = cc in ap (λ q. assignment_shown pattern q ++ own_members pattern values) e
+own_next pattern (v ∷ values) (suc i) s h = own_next pattern values i s h
+
+-- what one value assigns, and what those behind it assign
+pub own_split : (pattern : List ℕ) (values : List Value) (i : ℕ) → own_members pattern (drop i values) ≡ own_members pattern (take 1 (drop i values)) ++ own_members pattern (drop (suc i) values)
+own_split pattern [] zero = refl
+own_split pattern [] (suc i) = refl
+own_split pattern (v ∷ values) zero = ap (λ r. r ++ own_members pattern values) (sym (append-nil (assignment_shown pattern (shown v))))
+own_split pattern (v ∷ values) (suc i) = own_split pattern values i
+
+-- what the first values assign, and what the one behind them assigns
+pub own_taken : (pattern : List ℕ) (values : List Value) (i : ℕ) → own_members pattern (take (suc i) values) ≡ own_members pattern (take i values) ++ own_members pattern (take 1 (drop i values))
+own_taken pattern [] zero = refl
+own_taken pattern [] (suc i) = refl
+own_taken pattern (v ∷ values) zero = refl
+own_taken pattern (v ∷ values) (suc i) =
+    ap (λ r. assignment_shown pattern (shown v) ++ r) (own_taken pattern values i)
+    ∙ sym (append_assoc (assignment_shown pattern (shown v)) (own_members pattern (take i values)) (own_members pattern (take 1 (drop i values))))
+
+pub own_one : (pattern : List ℕ) (values : List Value) (i : ℕ) (s : Shown) → option_map shown (slice_get values i) ≡ Some s → own_members pattern (take 1 (drop i values)) ≡ assignment_shown pattern s
+own_one pattern [] i s h = absurd (cc)
+own_one pattern (v ∷ values) zero s h = let e : shown v ≡ s = cc in append-nil (assignment_shown pattern (shown v)) ∙ ap (assignment_shown pattern) e
+own_one pattern (v ∷ values) (suc i) s h = own_one pattern values i s h
+
+pub own_behind : (pattern : List ℕ) (values : List Value) (i : ℕ) → length values ≤ i → own_members pattern (drop i values) ≡ []
+own_behind pattern [] zero h = refl
+own_behind pattern [] (suc i) h = refl
+own_behind pattern (v ∷ values) zero h = absurd (omega arith)
+own_behind pattern (v ∷ values) (suc i) h = own_behind pattern values i (omega arith)
+
+-- the child at a place, and those behind it
+pub kid_next : (kids : List (ℕ × Tree)) (i : ℕ) (k : ℕ × Tree) → slice_get kids i ≡ Some k → drop i kids ≡ k ∷ drop (suc i) kids
+kid_next [] i k h = absurd (cc)
+kid_next (j ∷ kids) zero k h = let e : j ≡ k = cc in ap (λ q. q ∷ kids) e
+kid_next (j ∷ kids) (suc i) k h = kid_next kids i k h
+
+pub kid_behind : (kids : List (ℕ × Tree)) (i : ℕ) → length kids ≤ i → drop i kids ≡ []
+kid_behind [] zero h = refl
+kid_behind [] (suc i) h = refl
+kid_behind (k ∷ kids) zero h = absurd (omega arith)
+kid_behind (k ∷ kids) (suc i) h = kid_behind kids i (omega arith)
+
+live_listed : (device path : List ℕ) (ks : Children) → live_below device path ks ≡ live_in device path (list_of ks)
+unfolding live_below list_of
+live_listed device path NoMore = refl
+live_listed device path (Child byte t more) = ap (λ n. live_under device (path ++ byte ∷ []) t + n) (live_listed device path more)
+
+pub live_split : (device path : List ℕ) (t : Tree) → live_under device path t ≡ (if is_live (path ++ prefix_of t) device then 1 else 0) + live_in device (path ++ prefix_of t) (children_of t)
+unfolding live_under prefix_of children_of
+live_split device path (Node prefix values children) = ap (λ n. (if is_live (path ++ prefix) device then 1 else 0) + n) (live_listed device (path ++ prefix) children)
+
+nodes_listed : (ks : Children) → nodes_below ks ≡ nodes_in (list_of ks)
+unfolding node_count list_of
+nodes_listed NoMore = refl
+nodes_listed (Child byte tree more) = ap (λ n. node_count tree + n) (nodes_listed more)
+
+pub node_and_below : (t : Tree) → node_count t ≡ 1 + nodes_in (children_of t)
+unfolding node_count children_of
+node_and_below (Node prefix values children) = ap (λ n. 1 + n) (nodes_listed children)
+
+one_at_most : (b : Bool) → (if b then 1 else 0) ≤ 1
+one_at_most true = omega arith
+one_at_most false = omega arith
+
+mutual
+  unfolding live_under node_count
+
+  pub live_least : (device path : List ℕ) (t : Tree) → live_under device path t ≤ node_count t
+  live_least device path (Node prefix values children) =
+      let below = live_least_below device (path ++ prefix) children in
+      let here = one_at_most (is_live (path ++ prefix) device) in omega (arith, below, here)
+
+  live_least_below : (device path : List ℕ) (ks : Children) → live_below device path ks ≤ nodes_below ks
+  live_least_below device path NoMore = omega arith
+  live_least_below device path (Child byte t more) =
+      let here = live_least device (path ++ byte ∷ []) t in
+      let rest = live_least_below device path more in omega (arith, here, rest)

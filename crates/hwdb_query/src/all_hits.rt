@@ -1,0 +1,98 @@
+//! All hits, each at its position.
+ghost use Rattle.std.specs.Prelude.{◌≡◌, [], IfOk, OnOk};
+ghost use Rattle.hwdb_query.specs.Internal.Members.{assignment_shown, own_members};
+ghost use Rattle.hwdb_spec.specs.Tree.{values_of};
+ghost use Rattle.hwdb_reader.specs.Views.{entered_tree, entry_shows};
+
+use crate::answer::Answer;
+use crate::by_key::AnswersByKey;
+use crate::last_hits::shared;
+use hwdb_reader::{Entry, Inside};
+use std::alloc::{AllocError, Global};
+use std::collections::BTreeMap;
+use std::rc::Rc;
+
+/// The position of a hit: its priority, line, pattern and key. The hits of a pattern share one copy of it.
+type Place<'a> = (u16, u32, Rc<Vec<u8>>, &'a [u8]);
+
+/// What stands at a position.
+#[derive(Clone, Copy)]
+pub(crate) struct Content<'a> {
+    pub value: &'a [u8],
+    pub path: &'a [u8],
+}
+
+/// All hits so far, by position.
+#[derive(Drop)]
+pub(crate) struct AllHits<'a> {
+    pub hits: BTreeMap<Place<'a>, Content<'a>>,
+}
+
+impl<'a> AllHits<'a> {
+    ghost use Rattle.hwdb_query.specs.Internal.Explaining.{AllCollects, all_shown, IsByKey};
+
+    /// No hits.
+    pub(crate) fn new(alloc: Global) -> AllHits<'a>
+        ensures { result.hits.entries ≡ [] }
+    {
+        AllHits {
+            hits: BTreeMap::new(alloc),
+        }
+    }
+
+    /// Takes what one value assigns at a pattern.
+    fn offer(&mut self, pattern: &Rc<Vec<u8>>, entry: Entry<'a>) -> Result<(), AllocError>
+        ensures { OnOk result
+            (AllCollects self.old
+            (assignment_shown pattern.now.value.items (entry_shows entry.entry)) self.new) }
+    {
+        let Some(key) = entry.key else {
+            return Ok(());
+        };
+        let place = (entry.priority, entry.line, pattern.clone()?, key);
+        let content = Content {
+            value: entry.value,
+            path: entry.path,
+        };
+        self.hits.insert(place, content)?;
+        Ok(())
+    }
+
+    /// Takes what the values of a node assign at a pattern.
+    pub(crate) fn collect(
+        &mut self,
+        alloc: Global,
+        inside: Inside<'a>,
+        pattern: &[u8],
+    ) -> Result<(), AllocError>
+        ensures { OnOk result
+            (AllCollects self.old
+            (own_members pattern.now (values_of (entered_tree inside.entry))) self.new) }
+    {
+        let shared = shared(alloc, pattern)?;
+        for i in 0..inside.values() {
+            self.offer(&shared, inside.value(i))?;
+        }
+        Ok(())
+    }
+
+    /// The hits by key.
+    pub(crate) fn by_key(self, alloc: Global) -> Result<AnswersByKey<'a>, AllocError>
+        ensures { IfOk result (λ by_key. IsByKey by_key (all_shown self.entry)) }
+    {
+        let mut by_key = AnswersByKey::new(alloc);
+        for (place, content) in self.hits {
+            let (priority, line, pattern, key) = place;
+            let answer = Answer {
+                priority,
+                line,
+                pattern,
+                key,
+                value: content.value,
+                path: content.path,
+            };
+            by_key.add(alloc, answer)?;
+        }
+        Ok(by_key)
+    }
+}

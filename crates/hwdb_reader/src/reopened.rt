@@ -1,0 +1,24 @@
+//! A database that was accepted before.
+ghost use Rattle.std.specs.Prelude.{◌≡◌};
+ghost use Rattle.hwdb_spec.specs.Tree.{Tree};
+ghost use Rattle.hwdb_spec.specs.Format.{IsDatabase};
+
+use crate::checker::MAX_LEVELS;
+use crate::header::frame_of;
+use crate::view::{Db, Node};
+
+/// The view of bytes that [`check`](crate::check) accepted before, without a second pass: the header alone is read.
+pub fn reopen(bytes: &[u8]) -> Db<'_>
+    requires { (t : Tree) × IsDatabase bytes.now t }
+    ensures { (t : Tree) → IsDatabase bytes.now t → result ≡ t }
+{
+    let frame = frame_of(bytes);
+    Db {
+        root: Node {
+            bytes,
+            frame,
+            levels: MAX_LEVELS,
+            offset: frame.sizes.root,
+        },
+    }
+}

@@ -1,0 +1,227 @@
+//! The program: its words, its files, its status and its refusal lines.
+ghost use Rattle.std.specs.Prelude.{◌≡◌, ◌≤◌, map, string_bytes};
+ghost use Rattle.hwdb_cli.specs.Refusals.{AreWrong};
+
+use crate::files::{SystemStore, any_bytes, database_bytes, joined, names_in, path_in, text_bytes};
+use crate::refusals::{Refusal, refuse_for, refuse_text};
+use hwdb_cli::{Job, Task, WordsFault, read_words};
+use hwdb_commands::{
+    MAX_BYTES, Sink, ToolError, ask, run_explain, run_list, run_queries, run_update, write_text,
+};
+use hwdb_compile::SourceFile;
+use hwdb_store::DATABASE;
+use hwdb_text::{Chosen, select};
+use std::alloc::{AllocError, Global};
+use std::rt::Files;
+
+const ETC_FILES: &str = "/etc/udev/hwdb.d";
+
+const USR_FILES: &str = "/usr/lib/udev/hwdb.d";
+
+const ETC_FOLDER: &str = "/etc/udev";
+
+const USR_FOLDER: &str = "/usr/lib/udev";
+
+/// Does what the words say, the first of which is the program's name, and returns the status: 0, or 1
+/// after a refusal, whose line goes to `err`, and where `--strict` says so. Words that the command doesn't
+/// take, and that ask for no help, are refused. Where the reader of `out` went away the status is 0, and
+/// nothing is said.
+pub fn program<R: Files + Alloc + Clone + Drop, O: Sink, E: Sink>(
+    rt: &R,
+    alloc: Global,
+    words: &[String],
+    out: &mut O,
+    err: &mut E,
+) -> u8
+where
+    R::File: Drop,
+    ensures status { result ≤ 1 }
+    ensures wrong_words { AreWrong (map string_bytes words.now) → result ≡ 1 }
+{
+    match read_words(alloc, words) {
+        Ok(job) => match run(rt, alloc, &job, out, err) {
+            Ok(is_faulty) => u8::from(is_faulty),
+            Err(refusal) => refuse_job(alloc, refusal, out, err),
+        },
+        Err(WordsFault::Help { text }) => match write_text(out, text.as_bytes()) {
+            Ok(()) => 0,
+            Err(error) => refuse_job(alloc, Refusal::from(error), out, err),
+        },
+        Err(WordsFault::Usage { text }) => {
+            let _ = write_text(err, text.as_bytes());
+            1
+        }
+        Err(WordsFault::Memory) => refuse_text(err, "out of memory"),
+    }
+}
+
+/// Writes the line of the refusal, and returns the status. Where `out` failed the line says so; but where its
+/// reader went away, as `head` does, nothing is said, and the status is 0.
+fn refuse_job<O: Sink, E: Sink>(alloc: Global, refusal: Refusal, out: &O, err: &mut E) -> u8
+    ensures { result ≤ 1 }
+{
+    match (refusal, out.cause()) {
+        (Refusal::Plain(ToolError::Write), Some(cause)) => {
+            if cause.is_broken_pipe() {
+                return 0;
+            }
+            let refusal = Refusal::write(alloc, b"standard output", Some(cause));
+            refuse_for(&refusal, err)
+        }
+        (refusal, _) => refuse_for(&refusal, err),
+    }
+}
+
+/// Does the job, and returns whether `--strict` ends it with status 1.
+fn run<R: Files + Alloc + Clone + Drop, O: Sink, E: Sink>(
+    rt: &R,
+    alloc: Global,
+    job: &Job,
+    out: &mut O,
+    err: &mut E,
+) -> Result<bool, Refusal>
+where
+    R::File: Drop,
+{
+    let root = match &job.root {
+        Some(root) => root.as_str(),
+        None => "",
+    };
+    match &job.task {
+        Task::Update => return update(rt, alloc, root, job, err),
+        Task::Query { devices } => {
+            let bytes = database(rt, alloc, root)?;
+            run_queries(alloc, &bytes, devices, out)?;
+        }
+        Task::Explain { device } => {
+            let bytes = database(rt, alloc, root)?;
+            run_explain(alloc, &bytes, device.as_bytes(), out)?;
+        }
+        Task::Ask { file, device } => {
+            let bytes = any_bytes(alloc, rt, file.as_str())?;
+            ask(alloc, file.as_str(), &bytes, device.as_bytes(), out, err)?;
+        }
+        Task::List {
+            after,
+            limit,
+            device,
+        } => {
+            let bytes = database(rt, alloc, root)?;
+            let after = after.as_ref().map(|text| text.as_str());
+            run_list(alloc, &bytes, device.as_bytes(), after, *limit, out)?;
+        }
+    }
+    Ok(false)
+}
+
+/// The database below the root: the one of `/etc`, else the one of `/usr/lib`.
+fn database<R: Files>(rt: &R, alloc: Global, root: &str) -> Result<Vec<u8>, Refusal>
+where
+    R::File: Drop,
+{
+    for folder in [ETC_FOLDER, USR_FOLDER] {
+        let folder = joined(alloc, root, folder)?;
+        let path = path_in(alloc, folder.as_str(), DATABASE)?;
+        if let Some(bytes) = database_bytes(alloc, rt, path.as_str())? {
+            return Ok(bytes);
+        }
+    }
+    Err(Refusal::NoDatabase)
+}
+
+/// The chosen files of both folders, read.
+#[derive(Drop)]
+struct Sources {
+    etc: Vec<SourceFile>,
+    usr: Vec<SourceFile>,
+}
+
+impl Sources {
+    /// Adds a file to those of its folder.
+    fn add(&mut self, chosen: Chosen, bytes: Vec<u8>) -> Result<(), AllocError> {
+        let Chosen {
+            from_etc,
+            name,
+            priority: _,
+        } = chosen;
+        let files = if from_etc {
+            &mut self.etc
+        } else {
+            &mut self.usr
+        };
+        files.push(SourceFile { name, bytes })?;
+        Ok(())
+    }
+}
+
+/// Reads the chosen files: a masked one isn't read.
+fn read_chosen<R: Files>(
+    rt: &R,
+    alloc: Global,
+    root: &str,
+    chosen: Vec<Chosen>,
+) -> Result<Sources, Refusal>
+where
+    R::File: Drop,
+{
+    let mut sources = Sources {
+        etc: Vec::new(alloc),
+        usr: Vec::new(alloc),
+    };
+    for file in chosen {
+        let path = joined(alloc, root, file.path(alloc)?.as_str())?;
+        let bytes = text_bytes(alloc, rt, path.as_str())?;
+        sources.add(file, bytes)?;
+    }
+    Ok(sources)
+}
+
+/// The names of the text files in a folder below the root.
+fn listed<R: Files>(
+    rt: &R,
+    alloc: Global,
+    root: &str,
+    folder: &str,
+) -> Result<Vec<String>, Refusal> {
+    let path = joined(alloc, root, folder)?;
+    names_in(alloc, rt, path.as_str())
+}
+
+/// Compiles the text files of both folders into the database of one, which takes the old one's place once it
+/// is whole on the disk. Returns whether `--strict` ends it with status 1. After a refusal the old database
+/// stands as it was, and no new file.
+fn update<R: Files, E: Sink>(
+    rt: &R,
+    alloc: Global,
+    root: &str,
+    job: &Job,
+    err: &mut E,
+) -> Result<bool, Refusal>
+where
+    R::File: Drop,
+{
+    let etc = listed(rt, alloc, root, ETC_FILES)?;
+    let usr = listed(rt, alloc, root, USR_FILES)?;
+    let chosen = select(alloc, &etc, &usr).map_err(ToolError::from)?;
+    let sources = read_chosen(rt, alloc, root, chosen)?;
+    let folder = joined(alloc, root, if job.usr { USR_FOLDER } else { ETC_FOLDER })?;
+    let mut store = SystemStore::new(alloc, rt);
+    let updated = run_update(
+        alloc,
+        &sources.etc,
+        &sources.usr,
+        MAX_BYTES,
+        job.strict,
+        folder.as_str(),
+        &mut store,
+        err,
+    );
+    match updated {
+        Ok(status) => Ok(status != 0),
+        Err(ToolError::Replace(_)) => {
+            let path = path_in(alloc, folder.as_str(), DATABASE)?;
+            Err(Refusal::write(alloc, path.as_bytes(), store.cause))
+        }
+        Err(error) => Err(Refusal::from(error)),
+    }
+}
