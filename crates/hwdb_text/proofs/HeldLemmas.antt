@@ -30,7 +30,7 @@ pub end_matches : (o : Origin) (whole rest : List Line) (r s : Reader) → r.sta
     → s.faults.items ≡ r.faults.items ++ record { line = r.first; kind = NoProperty } ∷ [] → Closes rest → Holds o whole rest r → AtStart o whole (drop 1 rest) s
 end_matches o whole rest r s e ea ef k h =
     let g = at_stage o whole rest r Matches e h in
-    end_section o whole rest r s g.0 g.1 [] k g.2 ea (ef ∙ ap (λ (n : ℕ). r.faults.items ++ record { line = n; kind = NoProperty } ∷ []) (g.2).first)
+    end_section o whole rest r s g.0 g.1 [] k g.2 ea (ef ∙ ap (λ (n : ℕ). r.faults.items ++ record { line = n; kind = NoProperty } ∷ []) (g.2).pending.first)
 
 end_by : (g : Stage) (o : Origin) (whole rest : List Line) (r s : Reader) → (g ≡ Matches → ⊥) → s.assignments ≡ r.assignments
     → s.faults ≡ r.faults → Closes rest → HoldsAt g o whole rest r → AtStart o whole (drop 1 rest) s

@@ -1,5 +1,5 @@
 -- The longest run at the front of lines that pass a test, line by line.
-use Rattle.std.proofs.Common.{◌≡◌, ◌+◌, ℕ, suc, Bool, true, false, cond, List, [], ◌∷◌, take, refl, ◌∙◌, ap, arith}
+use Rattle.std.proofs.Common.{◌≡◌, ◌+◌, ℕ, suc, Bool, true, false, cond, List, [], ◌∷◌, take, refl, ap, arith}
 use Rattle.std.specs.List.{take_while, prefix_len}
 use Rattle.hwdb_spec.specs.Lines.{Line}
 

@@ -57,14 +57,14 @@ pub end_section : (o : Origin) (whole rest : List Line) (r s : Reader) (m : Line
     → s.assignments ≡ r.assignments → s.faults.items ≡ r.faults.items ++ lonely_faults (m ∷ ms) ps → AtStart o whole (drop 1 rest) s
 end_section o whole rest r s m ms ps e h ea ef = record {
   assignments =
-      h.assigned_then ∙ ap (λ g. h.assigned_before ++ g) (closing (section_assignments o) m ms ps rest h.are_matches h.are_properties e)
-      ∙ sym (append_assoc h.assigned_before (section_assignments o (section [] (m ∷ ms) ps [])) (gives (section_assignments o) (drop 1 rest)))
-      ∙ ap (λ g. g ++ gives (section_assignments o) (drop 1 rest)) (sym h.assigned_now ∙ ap (λ a. map (given_in o) a.items) (sym ea));
+      h.assignments.all ∙ ap (λ g. h.assignments.before ++ g) (closing (section_assignments o) m ms ps rest h.pending.are_matches h.pending.are_properties e)
+      ∙ sym (append_assoc h.assignments.before (section_assignments o (section [] (m ∷ ms) ps [])) (gives (section_assignments o) (drop 1 rest)))
+      ∙ ap (λ g. g ++ gives (section_assignments o) (drop 1 rest)) (sym h.assignments.now ∙ ap (λ a. map (given_in o) a.items) (sym ea));
   faults =
-      h.faults_then ∙ ap (λ g. h.faults_before ++ g) (closing section_faults m ms ps rest h.are_matches h.are_properties e
+      h.faults.all ∙ ap (λ g. h.faults.before ++ g) (closing section_faults m ms ps rest h.pending.are_matches h.pending.are_properties e
       ∙ ap (λ g. g ++ gives section_faults (drop 1 rest)) (section_faults_are m ms ps))
-      ∙ four h.faults_before (flat_map long_faults (m ∷ ms) ++ flat_map property_faults ps) (lonely_faults (m ∷ ms) ps) (gives section_faults (drop 1 rest))
-      ∙ ap (λ g. g ++ gives section_faults (drop 1 rest)) (ap (λ g. g ++ lonely_faults (m ∷ ms) ps) (sym h.faults_now) ∙ sym ef);
+      ∙ four h.faults.before (flat_map long_faults (m ∷ ms) ++ flat_map property_faults ps) (lonely_faults (m ∷ ms) ps) (gives section_faults (drop 1 rest))
+      ∙ ap (λ g. g ++ gives section_faults (drop 1 rest)) (ap (λ g. g ++ lonely_faults (m ∷ ms) ps) (sym h.faults.now) ∙ sym ef);
 }
 
 -- a property where nothing has begun
@@ -91,22 +91,28 @@ pub property_section : (o : Origin) (whole rest : List Line) (x : Line) (r s : R
     → map (given_in o) s.assignments.items ≡ map (given_in o) r.assignments.items ++ property_assignments o (map text_of r.patterns.items) x
     → s.faults.items ≡ r.faults.items ++ property_faults x → InSection o whole rest s m ms (ps ++ (x ∷ []))
 property_section o whole rest x r s m ms ps p h e1 ep ea ef = record {
-  are_matches = h.are_matches;
-  are_properties = all_snoc is_property ps x h.are_properties p;
-  first = e1 ∙ h.first;
-  pattern = ap (λ a. map text_of a.items) ep ∙ h.pattern;
-  assigned_before = h.assigned_before;
-  assigned_then = h.assigned_then ∙ ap (λ g. h.assigned_before ++ gives (section_assignments o) (m ∷ (ms ++ g))) (sym (append_assoc ps (x ∷ []) rest));
-  assigned_now = ea ∙ ap (λ g. map (given_in o) r.assignments.items ++ property_assignments o g x) h.pattern
-      ∙ ap (λ g. g ++ property_assignments o (patterns (m ∷ ms)) x) h.assigned_now
-      ∙ append_assoc h.assigned_before (section_assignments o (section [] (m ∷ ms) ps [])) (property_assignments o (patterns (m ∷ ms)) x)
-      ∙ ap (λ g. h.assigned_before ++ g) (sym (flat_snoc (property_assignments o (patterns (m ∷ ms))) ps x));
-  faults_before = h.faults_before;
-  faults_then = h.faults_then ∙ ap (λ g. h.faults_before ++ gives section_faults (m ∷ (ms ++ g))) (sym (append_assoc ps (x ∷ []) rest));
-  faults_now = ef ∙ ap (λ g. g ++ property_faults x) h.faults_now
-      ∙ append_assoc h.faults_before (flat_map long_faults (m ∷ ms) ++ flat_map property_faults ps) (property_faults x)
-      ∙ ap (λ g. h.faults_before ++ g) (append_assoc (flat_map long_faults (m ∷ ms)) (flat_map property_faults ps) (property_faults x)
-      ∙ ap (λ g. flat_map long_faults (m ∷ ms) ++ g) (sym (flat_snoc property_faults ps x)));
+  pending = record {
+    are_matches = h.pending.are_matches;
+    are_properties = all_snoc is_property ps x h.pending.are_properties p;
+    first = e1 ∙ h.pending.first;
+    pattern = ap (λ a. map text_of a.items) ep ∙ h.pending.pattern;
+  };
+  assignments = record {
+    before = h.assignments.before;
+    all = h.assignments.all ∙ ap (λ g. h.assignments.before ++ gives (section_assignments o) (m ∷ (ms ++ g))) (sym (append_assoc ps (x ∷ []) rest));
+    now = ea ∙ ap (λ g. map (given_in o) r.assignments.items ++ property_assignments o g x) h.pending.pattern
+        ∙ ap (λ g. g ++ property_assignments o (patterns (m ∷ ms)) x) h.assignments.now
+        ∙ append_assoc h.assignments.before (section_assignments o (section [] (m ∷ ms) ps [])) (property_assignments o (patterns (m ∷ ms)) x)
+        ∙ ap (λ g. h.assignments.before ++ g) (sym (flat_snoc (property_assignments o (patterns (m ∷ ms))) ps x));
+  };
+  faults = record {
+    before = h.faults.before;
+    all = h.faults.all ∙ ap (λ g. h.faults.before ++ gives section_faults (m ∷ (ms ++ g))) (sym (append_assoc ps (x ∷ []) rest));
+    now = ef ∙ ap (λ g. g ++ property_faults x) h.faults.now
+        ∙ append_assoc h.faults.before (flat_map long_faults (m ∷ ms) ++ flat_map property_faults ps) (property_faults x)
+        ∙ ap (λ g. h.faults.before ++ g) (append_assoc (flat_map long_faults (m ∷ ms)) (flat_map property_faults ps) (property_faults x)
+        ∙ ap (λ g. flat_map long_faults (m ∷ ms) ++ g) (sym (flat_snoc property_faults ps x)));
+  };
 }
 
 -- a match line where nothing has begun
@@ -114,16 +120,22 @@ pub match_start : (o : Origin) (whole rest : List Line) (x : Line) (r s : Reader
     → s.first ≡ x.number → map text_of s.patterns.items ≡ patterns (x ∷ []) → s.assignments ≡ r.assignments
     → s.faults.items ≡ r.faults.items ++ long_faults x → InSection o whole rest s x [] []
 match_start o whole rest x r s e h e1 ep ea ef = record {
-  are_matches = (e, tt);
-  are_properties = tt;
-  first = e1;
-  pattern = ep;
-  assigned_before = map (given_in o) r.assignments.items;
-  assigned_then = h.assignments;
-  assigned_now = ap (λ a. map (given_in o) a.items) ea ∙ sym (append-nil (map (given_in o) r.assignments.items));
-  faults_before = r.faults.items;
-  faults_then = h.faults;
-  faults_now = ef ∙ ap (λ g. r.faults.items ++ g) (sym (append-nil (long_faults x ++ []) ∙ append-nil (long_faults x)));
+  pending = record {
+    are_matches = (e, tt);
+    are_properties = tt;
+    first = e1;
+    pattern = ep;
+  };
+  assignments = record {
+    before = map (given_in o) r.assignments.items;
+    all = h.assignments;
+    now = ap (λ a. map (given_in o) a.items) ea ∙ sym (append-nil (map (given_in o) r.assignments.items));
+  };
+  faults = record {
+    before = r.faults.items;
+    all = h.faults;
+    now = ef ∙ ap (λ g. r.faults.items ++ g) (sym (append-nil (long_faults x ++ []) ∙ append-nil (long_faults x)));
+  };
 }
 
 cond_append : {X : Type 0} (b : Bool) (x : X) (xs ys : List X) → cond b (xs ++ ys) (x ∷ (xs ++ ys)) ≡ cond b xs (x ∷ xs) ++ ys
@@ -140,18 +152,24 @@ pub match_more : (o : Origin) (whole rest : List Line) (x : Line) (r s : Reader)
     → InSection o whole (x ∷ rest) r m ms [] → s.first ≡ r.first → map text_of s.patterns.items ≡ map text_of r.patterns.items ++ patterns (x ∷ [])
     → s.assignments ≡ r.assignments → s.faults.items ≡ r.faults.items ++ long_faults x → InSection o whole rest s m (ms ++ (x ∷ [])) []
 match_more o whole rest x r s m ms e h e1 ep ea ef = record {
-  are_matches = (h.are_matches.0, all_snoc is_match ms x h.are_matches.1 e);
-  are_properties = tt;
-  first = e1 ∙ h.first;
-  pattern = ep ∙ ap (λ g. g ++ patterns (x ∷ [])) h.pattern ∙ sym (patterns_append (m ∷ ms) (x ∷ []));
-  assigned_before = h.assigned_before;
-  assigned_then = h.assigned_then ∙ ap (λ g. h.assigned_before ++ gives (section_assignments o) (m ∷ g)) (sym (append_assoc ms (x ∷ []) rest));
-  assigned_now = ap (λ a. map (given_in o) a.items) ea ∙ h.assigned_now;
-  faults_before = h.faults_before;
-  faults_then = h.faults_then ∙ ap (λ g. h.faults_before ++ gives section_faults (m ∷ g)) (sym (append_assoc ms (x ∷ []) rest));
-  faults_now = ef ∙ ap (λ g. g ++ long_faults x) (h.faults_now ∙ ap (λ g. h.faults_before ++ g) (append-nil (flat_map long_faults (m ∷ ms))))
-      ∙ append_assoc h.faults_before (flat_map long_faults (m ∷ ms)) (long_faults x)
-      ∙ ap (λ g. h.faults_before ++ g) (sym (flat_snoc long_faults (m ∷ ms) x) ∙ sym (append-nil (flat_map long_faults ((m ∷ ms) ++ (x ∷ [])))));
+  pending = record {
+    are_matches = (h.pending.are_matches.0, all_snoc is_match ms x h.pending.are_matches.1 e);
+    are_properties = tt;
+    first = e1 ∙ h.pending.first;
+    pattern = ep ∙ ap (λ g. g ++ patterns (x ∷ [])) h.pending.pattern ∙ sym (patterns_append (m ∷ ms) (x ∷ []));
+  };
+  assignments = record {
+    before = h.assignments.before;
+    all = h.assignments.all ∙ ap (λ g. h.assignments.before ++ gives (section_assignments o) (m ∷ g)) (sym (append_assoc ms (x ∷ []) rest));
+    now = ap (λ a. map (given_in o) a.items) ea ∙ h.assignments.now;
+  };
+  faults = record {
+    before = h.faults.before;
+    all = h.faults.all ∙ ap (λ g. h.faults.before ++ gives section_faults (m ∷ g)) (sym (append_assoc ms (x ∷ []) rest));
+    now = ef ∙ ap (λ g. g ++ long_faults x) (h.faults.now ∙ ap (λ g. h.faults.before ++ g) (append-nil (flat_map long_faults (m ∷ ms))))
+        ∙ append_assoc h.faults.before (flat_map long_faults (m ∷ ms)) (long_faults x)
+        ∙ ap (λ g. h.faults.before ++ g) (sym (flat_snoc long_faults (m ∷ ms) x) ∙ sym (append-nil (flat_map long_faults ((m ∷ ms) ++ (x ∷ [])))));
+  };
 }
 
 stray_faults_are : (m : Line) (ms : List Line) (p : Line) (ps : List Line) (x : Line)
@@ -166,12 +184,12 @@ pub match_stray : (o : Origin) (whole rest : List Line) (x : Line) (r s : Reader
     → s.faults.items ≡ r.faults.items ++ (fault StrayMatch x ∷ long_faults x) → AtStart o whole rest s
 match_stray o whole rest x r s m ms p ps e h ea ef = record {
   assignments =
-      h.assigned_then ∙ ap (λ g. h.assigned_before ++ g) (gives_stray (section_assignments o) m ms p ps x rest h.are_matches h.are_properties e)
-      ∙ sym (append_assoc h.assigned_before (section_assignments o (section [] (m ∷ ms) (p ∷ ps) [])) (gives (section_assignments o) rest))
-      ∙ ap (λ g. g ++ gives (section_assignments o) rest) (sym h.assigned_now ∙ ap (λ a. map (given_in o) a.items) (sym ea));
+      h.assignments.all ∙ ap (λ g. h.assignments.before ++ g) (gives_stray (section_assignments o) m ms p ps x rest h.pending.are_matches h.pending.are_properties e)
+      ∙ sym (append_assoc h.assignments.before (section_assignments o (section [] (m ∷ ms) (p ∷ ps) [])) (gives (section_assignments o) rest))
+      ∙ ap (λ g. g ++ gives (section_assignments o) rest) (sym h.assignments.now ∙ ap (λ a. map (given_in o) a.items) (sym ea));
   faults =
-      h.faults_then ∙ ap (λ g. h.faults_before ++ g) (gives_stray section_faults m ms p ps x rest h.are_matches h.are_properties e
+      h.faults.all ∙ ap (λ g. h.faults.before ++ g) (gives_stray section_faults m ms p ps x rest h.pending.are_matches h.pending.are_properties e
       ∙ ap (λ g. g ++ gives section_faults rest) (stray_faults_are m ms p ps x))
-      ∙ four h.faults_before (flat_map long_faults (m ∷ ms) ++ flat_map property_faults (p ∷ ps)) (fault StrayMatch x ∷ long_faults x) (gives section_faults rest)
-      ∙ ap (λ g. g ++ gives section_faults rest) (ap (λ g. g ++ (fault StrayMatch x ∷ long_faults x)) (sym h.faults_now) ∙ sym ef);
+      ∙ four h.faults.before (flat_map long_faults (m ∷ ms) ++ flat_map property_faults (p ∷ ps)) (fault StrayMatch x ∷ long_faults x) (gives section_faults rest)
+      ∙ ap (λ g. g ++ gives section_faults rest) (ap (λ g. g ++ (fault StrayMatch x ∷ long_faults x)) (sym h.faults.now) ∙ sym ef);
 }

@@ -5,8 +5,6 @@ use Rattle.hwdb_spec.specs.Records.{Section, sections, Origin, section_assignmen
 use Rattle.hwdb_text.specs.declared.records.Reader.{Reader}
 use Rattle.hwdb_text.specs.declared.records.Stage.TheVariants.{Start, Matches, Properties}
 use Rattle.hwdb_text.specs.Views.{given_in, text_of}
-use Rattle.hwdb_spec.specs.Assignment.{Assignment}
-use Rattle.hwdb_spec.specs.declared.Fault.{Fault}
 use Rattle.hwdb_text.specs.declared.records.Stage.{Stage}
 
 abbrev pub AllPass : (Line → Bool) → List Line → Type 0
@@ -33,18 +31,26 @@ pub record AtStart (o : Origin) (whole rest : List Line) (r : Reader) : Type 0 w
   pub assignments : gives (section_assignments o) whole ≡ map (given_in o) r.assignments.items ++ gives (section_assignments o) rest
   pub faults : gives section_faults whole ≡ r.faults.items ++ gives section_faults rest
 
--- the match lines `m` and `ms` and the properties `ps` of a section were read
-pub record InSection (o : Origin) (whole rest : List Line) (r : Reader) (m : Line) (ms ps : List Line) : Type 0 where
+-- the reader holds the match lines `m` and `ms` and the properties `ps` of a section that may go on
+pub record IsPending (r : Reader) (m : Line) (ms ps : List Line) : Type 0 where
   pub are_matches : AllPass is_match (m ∷ ms)
   pub are_properties : AllPass is_property ps
   pub first : r.first ≡ m.number
   pub pattern : map text_of r.patterns.items ≡ patterns (m ∷ ms)
-  pub assigned_before : List Assignment
-  pub assigned_then : gives (section_assignments o) whole ≡ assigned_before ++ gives (section_assignments o) (m ∷ (ms ++ (ps ++ rest)))
-  pub assigned_now : map (given_in o) r.assignments.items ≡ assigned_before ++ section_assignments o (section [] (m ∷ ms) ps [])
-  pub faults_before : List Fault
-  pub faults_then : gives section_faults whole ≡ faults_before ++ gives section_faults (m ∷ (ms ++ (ps ++ rest)))
-  pub faults_now : r.faults.items ≡ faults_before ++ (flat_map long_faults (m ∷ ms) ++ flat_map property_faults ps)
+
+-- of what the lines `whole` give, all before the lines `ahead` was given, and then `so_far` of what these give
+pub record IsGiven {X : Type 0} (out : Section → List X) (whole ahead : List Line) (so_far given : List X) : Type 0 where
+  pub before : List X
+  pub all : gives out whole ≡ before ++ gives out ahead
+  pub now : given ≡ before ++ so_far
+
+-- a section was begun: these lines are pending, and each was given what it gives
+pub record InSection (o : Origin) (whole rest : List Line) (r : Reader) (m : Line) (ms ps : List Line) : Type 0 where
+  pub pending : IsPending r m ms ps
+  pub assignments : IsGiven (section_assignments o) whole (m ∷ (ms ++ (ps ++ rest)))
+      (section_assignments o (section [] (m ∷ ms) ps [])) (map (given_in o) r.assignments.items)
+  pub faults : IsGiven section_faults whole (m ∷ (ms ++ (ps ++ rest)))
+      (flat_map long_faults (m ∷ ms) ++ flat_map property_faults ps) r.faults.items
 
 -- what was read of the clean lines `whole`, where `rest` is left of them
 abbrev pub HoldsAt : Stage → Origin → List Line → List Line → Reader → Type 0
