@@ -1,5 +1,6 @@
-pub mod ExplanationLemmas
 pub mod DeviceTextLemmas
+pub mod ExplanationLemmas
 pub mod FailureLemmas
 pub mod HitLineLemmas
 pub mod RefusalLemmas
+pub mod UpdateLemmas

@@ -1,5 +1,5 @@
 -- Which refusal an error of a crate below becomes.
-use Rattle.std.proofs.Common.{◌≡◌, ◌≢◌, ◌<◌, ℕ, List, Option, None, Some, refl, ap, arith, sym, subst, Result, Ok, Err, IfErr}
+use Rattle.std.proofs.Common.{◌≡◌, ◌≢◌, ◌<◌, ℕ, List, [], Option, None, Some, refl, ap, arith, sym, subst, Result, Ok, Err, IfErr}
 use Rattle.std.specs.Option.{option_copied}
 use Rattle.hwdb_query.specs.Views.{given_position, next_position}
 use Rattle.hwdb_query.specs.declared.position.Position.{Position as OwnedPosition}
@@ -12,11 +12,15 @@ use Rattle.hwdb_query.specs.declared.errors.CursorError.TheVariants as cursors
 use Rattle.hwdb_query.specs.declared.errors.PositionError.{PositionError}
 use Rattle.hwdb_query.specs.declared.errors.PositionError.TheVariants as positions
 use Rattle.hwdb_commands.specs.declared.errors.ToolError.{ToolError}
-use Rattle.hwdb_commands.specs.Refusals.{refusal_of_cursor, refusal_of_position}
+use Rattle.hwdb_commands.specs.Refusals.{refusal_of_compile, refusal_of_cursor, refusal_of_position}
+use Rattle.hwdb_spec.specs.Assignment.{ascending, put}
+use Rattle.hwdb_compile.specs.Views.{IsRefusal}
+use Rattle.hwdb_compile.specs.declared.errors.CompileError.{CompileError}
+use Rattle.hwdb_compile.specs.declared.errors.CompileError.TheVariants as compiling
 use Rattle.hwdb_commands.specs.Lookups.{IsPositionRefusal, IsListRefusal, IsDatabaseRefusal}
-use Rattle.hwdb_commands.specs.Updates.{IsAskRefusal, OnUnreplaced}
+use Rattle.hwdb_commands.specs.Updates.{lone, IsAskRefusal, OnUnreplaced}
 use Rattle.hwdb_store.specs.declared.replacement.Unreplaced.{Unreplaced}
-use Rattle.hwdb_commands.specs.declared.errors.ToolError.TheVariants.{Write, BadDatabase, Memory, Replace}
+use Rattle.hwdb_commands.specs.declared.errors.ToolError.TheVariants.{Write, BadDatabase, Memory, Replace, TooLarge, TooManyLines}
 use Rattle.hwdb_spec.specs.Tree.{Map}
 use Rattle.hwdb_spec.specs.Written.{IsDatabaseOf}
 
@@ -49,6 +53,24 @@ is_write _ = ⊥
 memory_is_no_write : Memory ≢ Write
 unfolding is_write
 memory_is_no_write e = subst is_write (sym e) tt
+
+other_than_write : (e : ToolError) → (is_write e → ⊥) → e ≢ Write
+unfolding is_write
+other_than_write e other is = let P : ToolError → Type 0 = λ x. is_write x → ⊥ in subst P is other tt
+
+-- what the compiler refuses of the one file
+module _ {X : Type 0} where
+  pub lone_refused : (bytes : List ℕ) (max_bytes : ℕ) (q : CompileError) (r : Result X ToolError) → IsErrAnd r (λ e. e ≡ refusal_of_compile q)
+      → IsRefusal (lone bytes) [] max_bytes q → IfErr r (λ e. (e ≢ Write) × IsAskRefusal bytes max_bytes e)
+  unfolding ascending put is_write
+  lone_refused bytes max_bytes q (Ok x) h refusal = tt
+  lone_refused bytes max_bytes compiling.TooManyFiles (Err e) h refusal = absurd (omega (arith, refusal))
+  lone_refused bytes max_bytes compiling.TooManyLines (Err e) h refusal =
+      let P : ToolError → Type 0 = λ x. (x ≢ Write) × IsAskRefusal bytes max_bytes x in subst P (sym h) (other_than_write TooManyLines (λ is. is), refusal)
+  lone_refused bytes max_bytes compiling.TooLarge (Err e) h refusal =
+      let P : ToolError → Type 0 = λ x. (x ≢ Write) × IsAskRefusal bytes max_bytes x in subst P (sym h) (other_than_write TooLarge (λ is. is), refusal)
+  lone_refused bytes max_bytes compiling.Memory (Err e) h refusal =
+      let P : ToolError → Type 0 = λ x. (x ≢ Write) × IsAskRefusal bytes max_bytes x in subst P (sym h) (memory_is_no_write, tt)
 
 -- a database of a map isn't refused
 module _ {X : Type 0} where

@@ -1,7 +1,7 @@
 -- What `update` and `ask` write and return, as functions of the files (systemd-hwdb(8); `ask` is our choice).
-use Rattle.std.specs.Prelude.{Bool, List, Option, Some, length, ℕ, ◌≡◌, ◌≤◌, ◌⊎◌, [], codes, ◌∷◌}
+use Rattle.std.specs.Prelude.{Bool, true, List, Option, Some, length, ℕ, ◌≡◌, ◌≤◌, ◌⊎◌, [], codes, ◌∷◌}
 use Rattle.std.specs.Io.KnownBytes.{Appends}
-use Rattle.hwdb_spec.specs.Folders.{AreAccepted, Source, faults_of_files, HaveManyLines}
+use Rattle.hwdb_spec.specs.Folders.{AreAccepted, Choice, Source, faults_of_files, HaveManyLines}
 use Rattle.hwdb_spec.specs.Written.{IsCompiled, IsWritten, IsTooLarge}
 use Rattle.hwdb_spec.specs.Texts.{faults_text, status_of, faults_text_at, query_text}
 use Rattle.hwdb_spec.specs.Tree.{map_of_files}
@@ -58,6 +58,10 @@ IsUpdateRefusal etc usr max_bytes _ = ⊥
 -- the one file that `ask` reads, as a file of etc
 abbrev pub lone : List ℕ → List Source
 lone bytes = record { name = codes "1.hwdb"; bytes = bytes } ∷ []
+
+-- its choice: the first file, of etc
+abbrev pub lone_choice : Choice
+lone_choice = record { from_etc = true; name = codes "1.hwdb"; priority = 1 }
 
 -- what `ask` writes: the fault lines of the one file, and the properties that its database gives the device
 pub record AreAskTexts (file bytes device : List ℕ) (texts : Texts) : Type 0 where

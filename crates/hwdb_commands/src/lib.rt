@@ -41,4 +41,4 @@ pub use explanation::run_explain;
 pub use lookup::{MAX_BYTES, run_list, run_queries, run_query};
 pub use single_file::ask;
 pub use transfer::{read_all, write_text};
-pub use update::run_update;
+pub use update::{run_update, update_chosen};

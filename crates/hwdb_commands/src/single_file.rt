@@ -1,18 +1,19 @@
 //! What `ask` does with one text file.
 ghost use Rattle.std.specs.Prelude.{◌≡◌, ◌≢◌, ◌⊎◌, ◌∷◌, [], IfOk, IfErr, OnOk, IsErrOf};
 ghost use Rattle.std.specs.Io.KnownBytes.{Appends};
-ghost use Rattle.hwdb_compile.specs.Views.{sources};
+ghost use Rattle.hwdb_text.specs.Views.{choice_of};
 ghost use Rattle.hwdb_spec.specs.Failures.{HasFailed};
 ghost use Rattle.hwdb_commands.specs.Devices.{OneOfTwoFailed, WroteTexts, WroteTextsPrefix};
 ghost use Rattle.hwdb_spec.specs.Texts.{max_file, last_values_text};
-ghost use Rattle.hwdb_commands.specs.Updates.{lone, AreAskTexts, IsAskRefusal};
+ghost use Rattle.hwdb_commands.specs.Updates.{lone, lone_choice, AreAskTexts, IsAskRefusal};
 
 use crate::devices::Sink;
 use crate::errors::ToolError;
 use crate::lookup::{MAX_BYTES, properties_of};
 use crate::texts::fault_lines_at;
 use crate::transfer::write_text;
-use hwdb_compile::{SourceFile, compile};
+use hwdb_compile::{ChosenFile, compile_chosen};
+use hwdb_text::Chosen;
 use std::alloc::{AllocError, Global};
 
 /// The texts that one file gives: its fault lines, and the properties of a device.
@@ -22,13 +23,14 @@ struct Answer {
     properties: Vec<u8>,
 }
 
-/// The bytes as a file of etc.
-fn lone(alloc: Global, bytes: &[u8]) -> Result<SourceFile, AllocError>
-    ensures { IfOk result (λ file. sources (file ∷ []) ≡ lone bytes.now) }
+/// The choice of the one file, as the first of etc.
+fn lone_choice(alloc: Global) -> Result<Chosen, AllocError>
+    ensures { IfOk result (λ chosen. choice_of chosen ≡ lone_choice) }
 {
-    Ok(SourceFile {
+    Ok(Chosen {
+        from_etc: true,
         name: String::from_str(alloc, "1.hwdb")?,
-        bytes: bytes.to_vec(alloc)?,
+        priority: 1,
     })
 }
 
@@ -43,8 +45,12 @@ fn answer_of(alloc: Global, file: &str, bytes: &[u8], device: &[u8]) -> Result<A
     ensures refusals { IfErr result
         (λ e. (e ≢ ToolError.Write) × IsAskRefusal bytes.now max_file e) }
 {
-    let source = lone(alloc, bytes)?;
-    let compiled = compile(alloc, &[source], &[], MAX_BYTES)?;
+    let choice = lone_choice(alloc)?;
+    let only = ChosenFile {
+        choice: &choice,
+        bytes,
+    };
+    let compiled = compile_chosen(alloc, &[only], MAX_BYTES)?;
     let faults = fault_lines_at(alloc, file.as_bytes(), &compiled.faults)?;
     let properties = properties_of(alloc, &compiled.database, device)?;
     Ok(Answer { faults, properties })

@@ -1,12 +1,15 @@
 -- What was read is what the chosen files hold, and when files are refused.
-use Rattle.std.proofs.Common.{◌≡◌, ◌∙◌, ap, sym, refl, subst, ℕ, suc, ◌≤◌, List, [], ◌∷◌, ◌++◌, map, length, Result, Ok, Err, All}
+use Rattle.std.proofs.Common.{◌≡◌, ◌∙◌, ap, sym, refl, subst, ℕ, List, [], ◌∷◌, ◌++◌, map, length, Result, Ok, Err, All, get_or, ◌<◌}
 use Rattle.std.specs.Prelude.{Any, IfErr, flat_map}
 use Rattle.std.specs.Result.{IsErrAnd}
 use Rattle.std.specs.FinMap as finite
 use Rattle.std.specs.Borrow.{Bor}
 use Rattle.std.specs.BTreeMap.{BTreeMap}
-use Rattle.hwdb_spec.specs.Folders.{Choice, choice, names, Source, chosen_of, first_of, contents, file_assignments, file_faults, faults_of_files, AreAccepted, FaultIn}
-use Rattle.hwdb_compile.specs.Views.{name_of, FewLines, ManyLines, IsRefusal}
+use Rattle.std.proofs.lemmas.List.Elements.{All-nil, All-cons, All-head, All-tail}
+use Rattle.hwdb_spec.specs.Records.{assignments, faults}
+use Rattle.hwdb_spec.specs.Folders.{Choice, path_of, Source, first_of, contents, file_assignments, file_faults, fault_in, faults_of_files, AreAccepted, FaultIn}
+use Rattle.hwdb_compile.specs.declared.sources.ChosenFile.{ChosenFile}
+use Rattle.hwdb_compile.specs.Views.{FewLines, ManyLines, AreChosenOf, IsRefusal, bytes_in, choice_in}
 use Rattle.hwdb_spec.specs.Tree.{Map, surviving, map_of_files}
 use Rattle.hwdb_spec.specs.Written.{IsLonger}
 use Rattle.hwdb_writer.specs.declared.output.StoreError.{StoreError}
@@ -14,8 +17,8 @@ use Rattle.hwdb_writer.specs.declared.output.StoreError.TheVariants as store
 use Rattle.hwdb_compile.specs.declared.errors.CompileError.{CompileError}
 use Rattle.hwdb_compile.specs.declared.errors.CompileError.TheVariants.{TooManyFiles, TooManyLines, TooLarge, Memory}
 use Rattle.hwdb_compile.specs.Internal.Conversions.{of_store}
-use Rattle.hwdb_compile.specs.Internal.Reading.{bytes_at, read_from, IsFileRefusal, IsFilesRefusal}
-use Rattle.hwdb_compile.proofs.GatherLemmas.{empty_index}
+use Rattle.hwdb_compile.specs.Internal.Reading.{assignments_in, bytes_at, faults_in, IsFileRefusal, IsFilesRefusal}
+use Rattle.hwdb_compile.proofs.GatherLemmas.{any_at, empty_index}
 
 abbrev Index : Type 0
 Index = BTreeMap (Bor (List ℕ)) (Bor (List ℕ))
@@ -23,42 +26,57 @@ Index = BTreeMap (Bor (List ℕ)) (Bor (List ℕ))
 -- the index has of each chosen file what it holds
 pub same_contents : (etc usr : List Source) (none some all : Index) → none.entries ≡ []
     → ((name : List ℕ) → bytes_at some name ≡ first_of name usr (bytes_at none name))
-    → ((name : List ℕ) → bytes_at all name ≡ first_of name etc (bytes_at some name)) → contents etc usr ≡ read_from all
-same_contents etc usr none some all empty first second = λ i c.
-    sym (second c.name ∙ ap (first_of c.name etc) (first c.name ∙ ap (first_of c.name usr) (empty_index none c.name empty))) i
-
-pub same_chosen : (etc usr : List Source) (es us : List (List ℕ)) (given : List Choice) → given ≡ choice es us → es ≡ map name_of etc → us ≡ map name_of usr → given ≡ chosen_of etc usr
-same_chosen etc usr es us given is e u = is ∙ (λ i. choice (e i) (u i))
-
-length_mapped : {A B : Type 0} (f : A → B) (xs : List A) → length (map f xs) ≡ length xs
-length_mapped f [] = refl
-length_mapped f (x ∷ xs) = ap suc (length_mapped f xs)
-
-pub few_chosen : (etc usr : List Source) (es us : List (List ℕ)) → es ≡ map name_of etc → us ≡ map name_of usr → length (names es us) ≤ 65535 → length (chosen_of etc usr) ≤ 65535
-few_chosen etc usr es us e u few =
-    let P : List (List ℕ) → Type 0 = λ l. length l ≤ 65535 in
-    let here : length (names (map name_of etc) (map name_of usr)) ≤ 65535 = subst P (λ i. names (e i) (u i)) few in
-    subst (λ n. n ≤ 65535) (sym (length_mapped _ (names (map name_of etc) (map name_of usr)))) here
+    → ((name : List ℕ) → bytes_at all name ≡ first_of name etc (bytes_at some name)) → (c : Choice) → bytes_at all c.name ≡ contents etc usr c
+same_contents etc usr none some all empty first second c =
+    second c.name ∙ ap (first_of c.name etc) (first c.name ∙ ap (first_of c.name usr) (empty_index none c.name empty))
 
 none_surviving : finite.empty ≡ surviving []
 none_surviving = refl
 
+-- what the chosen files give is what those of the folders give
+all_read : {B : Type 0} (f : Choice → List ℕ → List B) (read : Choice → List ℕ) (files : List ChosenFile)
+    → All (λ x. bytes_in x ≡ read (choice_in x)) files → flat_map (λ x. f (choice_in x) (bytes_in x)) files ≡ flat_map (λ c. f c (read c)) (map choice_in files)
+all_read f read [] is = refl
+all_read f read (x ∷ files) is =
+    ap (λ b. f (choice_in x) b ++ flat_map (λ y. f (choice_in y) (bytes_in y)) files) (All-head (λ y. bytes_in y ≡ read (choice_in y)) x files is)
+    ∙ ap (λ l. f (choice_in x) (read (choice_in x)) ++ l) (all_read f read files (All-tail (λ y. bytes_in y ≡ read (choice_in y)) x files is))
+
+-- what holds of the bytes of each file holds of what is read
+each_read : (P : List ℕ → Type 0) (read : Choice → List ℕ) (files : List ChosenFile)
+    → All (λ x. bytes_in x ≡ read (choice_in x)) files → All (λ x. P (bytes_in x)) files → All (λ c. P (read c)) (map choice_in files)
+each_read P read [] is all = All-nil (λ c. P (read c))
+each_read P read (x ∷ files) is all =
+    All-cons (λ c. P (read c)) (choice_in x) (map choice_in files) (subst P (All-head (λ y. bytes_in y ≡ read (choice_in y)) x files is) (All-head (λ y. P (bytes_in y)) x files all))
+    (each_read P read files (All-tail (λ y. bytes_in y ≡ read (choice_in y)) x files is) (All-tail (λ y. P (bytes_in y)) x files all))
+
+-- what holds of the bytes of one file holds of what is read of one
+one_read : (P : List ℕ → Type 0) (read : Choice → List ℕ) (files : List ChosenFile)
+    → All (λ x. bytes_in x ≡ read (choice_in x)) files → Any (λ x. P (bytes_in x)) files → Any (λ c. P (read c)) (map choice_in files)
+one_read P read files is one =
+    any_at (λ c. P (read c)) choice_in files one.0 one.1 one.2 (sym one.3) (subst P (same_at is one.0 one.1 one.2 (sym one.3)) one.4)
+  where
+    same_at : All (λ x. bytes_in x ≡ read (choice_in x)) files → (i : ℕ) (x : ChosenFile) → i < length files → x ≡ get_or files i x → bytes_in x ≡ read (choice_in x)
+    same_at is i x lt e = subst (λ y. bytes_in y ≡ read (choice_in y)) (sym e) (is i x lt)
+
 -- the tree that was filled has the files' map
-pub same_map : (etc usr : List Source) (read : Choice → List ℕ) (given : List Choice) (before after : Map) → contents etc usr ≡ read → given ≡ chosen_of etc usr → before ≡ finite.empty
-    → (before ≡ surviving [] → after ≡ surviving ([] ++ flat_map (file_assignments read) given)) → after ≡ map_of_files etc usr
-same_map etc usr read given before after r g empty filled =
-    filled (empty ∙ none_surviving) ∙ ap surviving (λ i. flat_map (file_assignments (sym r i)) (g i))
+pub same_map : (etc usr : List Source) (files : List ChosenFile) (before after : Map) → AreChosenOf etc usr files → before ≡ finite.empty
+    → (before ≡ surviving [] → after ≡ surviving ([] ++ flat_map assignments_in files)) → after ≡ map_of_files etc usr
+same_map etc usr files before after of empty filled =
+    filled (empty ∙ none_surviving)
+    ∙ ap surviving (all_read (λ c b. assignments (record { path = path_of c; priority = c.priority }) b) (contents etc usr) files of.bytes
+    ∙ ap (flat_map (file_assignments (contents etc usr))) of.choices)
 
-pub same_faults : (etc usr : List Source) (read : Choice → List ℕ) (given : List Choice) (before after : List FaultIn) → contents etc usr ≡ read → given ≡ chosen_of etc usr → before ≡ []
-    → after ≡ before ++ flat_map (file_faults read) given → after ≡ faults_of_files etc usr
-same_faults etc usr read given before after r g empty added =
-    added ∙ ap (λ l. l ++ flat_map (file_faults read) given) empty ∙ (λ i. flat_map (file_faults (sym r i)) (g i))
+pub same_faults : (etc usr : List Source) (files : List ChosenFile) (before after : List FaultIn) → AreChosenOf etc usr files → before ≡ []
+    → after ≡ before ++ flat_map faults_in files → after ≡ faults_of_files etc usr
+same_faults etc usr files before after of empty added =
+    added ∙ ap (λ l. l ++ flat_map faults_in files) empty
+    ∙ all_read (λ c b. map (fault_in (path_of c)) (faults b)) (contents etc usr) files of.bytes
+    ∙ ap (flat_map (file_faults (contents etc usr))) of.choices
 
-pub accepted : (etc usr : List Source) (read : Choice → List ℕ) (given : List Choice) → contents etc usr ≡ read → given ≡ chosen_of etc usr → length (chosen_of etc usr) ≤ 65535
-    → All (λ c. FewLines (read c)) given → AreAccepted etc usr
-accepted etc usr read given r g files few = record {
-  files = files;
-  lines = subst (λ (p : (Choice → List ℕ) × List Choice). All (λ c. FewLines (p.0 c)) p.1) (λ i. (sym r i, g i)) few;
+pub accepted : (etc usr : List Source) (files : List ChosenFile) → AreChosenOf etc usr files → All (λ f. FewLines (bytes_in f)) files → AreAccepted etc usr
+accepted etc usr files of few = record {
+  files = of.few;
+  lines = subst (All (λ c. FewLines (contents etc usr c))) of.choices (each_read FewLines (contents etc usr) files of.bytes few);
 }
 
 -- what a conversion of an error gives
@@ -66,22 +84,22 @@ pub error_given : {A E : Type 0} (Q P : E → Type 0) (r : Result A E) → IsErr
 error_given Q P (Ok x) is so = tt
 error_given Q P (Err e) is so = so e is
 
-pub files_refusal : (read : Choice → List ℕ) (choices : List Choice) (bytes : List ℕ) (e : CompileError) → (ManyLines bytes → Any (λ c. ManyLines (read c)) choices)
-    → IsFileRefusal bytes e → IsFilesRefusal read choices e
-files_refusal read choices bytes TooManyFiles so h = h
-files_refusal read choices bytes TooManyLines so h = so h
-files_refusal read choices bytes TooLarge so h = h
-files_refusal read choices bytes Memory so h = tt
+pub files_refusal : (files : List ChosenFile) (bytes : List ℕ) (e : CompileError) → (ManyLines bytes → Any (λ f. ManyLines (bytes_in f)) files)
+    → IsFileRefusal bytes e → IsFilesRefusal files e
+files_refusal files bytes TooManyFiles so h = h
+files_refusal files bytes TooManyLines so h = so h
+files_refusal files bytes TooLarge so h = h
+files_refusal files bytes Memory so h = tt
 
-pub refusal : (etc usr : List Source) (max_bytes : ℕ) (read : Choice → List ℕ) (given : List Choice) (e : CompileError) → contents etc usr ≡ read → given ≡ chosen_of etc usr → length (chosen_of etc usr) ≤ 65535
-    → IsFilesRefusal read given e → IsRefusal etc usr max_bytes e
-refusal etc usr max_bytes read given TooManyFiles r g few h = absurd h
-refusal etc usr max_bytes read given TooManyLines r g few h = record {
-  files = few;
-  lines = subst (λ (p : (Choice → List ℕ) × List Choice). Any (λ c. ManyLines (p.0 c)) p.1) (λ i. (sym r i, g i)) h;
+pub refusal : (etc usr : List Source) (max_bytes : ℕ) (files : List ChosenFile) (e : CompileError) → AreChosenOf etc usr files
+    → IsFilesRefusal files e → IsRefusal etc usr max_bytes e
+refusal etc usr max_bytes files TooManyFiles of h = absurd h
+refusal etc usr max_bytes files TooManyLines of h = record {
+  files = of.few;
+  lines = subst (Any (λ c. ManyLines (contents etc usr c))) of.choices (one_read ManyLines (contents etc usr) files of.bytes h);
 }
-refusal etc usr max_bytes read given TooLarge r g few h = absurd h
-refusal etc usr max_bytes read given Memory r g few h = tt
+refusal etc usr max_bytes files TooLarge of h = absurd h
+refusal etc usr max_bytes files Memory of h = tt
 
 pub store_refusal : (etc usr : List Source) (max_bytes : ℕ) (tree : Map) (x : StoreError) → AreAccepted etc usr → tree ≡ map_of_files etc usr
     → (x ≡ store.TooLarge → IsLonger tree max_bytes) → IsRefusal etc usr max_bytes (of_store x)

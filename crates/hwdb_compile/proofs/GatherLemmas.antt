@@ -10,7 +10,7 @@ use Rattle.std.proofs.lemmas.List.Elements.{All-nil, All-cons, All-head, All-tai
 use Rattle.hwdb_spec.specs.Lines.{Line, lines, clean, has_equals, has_key, has}
 use Rattle.hwdb_spec.specs.Records.{sections, Origin, assign, patterns, property_assignments, section_assignments, assignments}
 use Rattle.hwdb_spec.specs.Assignment.{Assignment}
-use Rattle.hwdb_spec.specs.Folders.{Choice, same, Source, first_of}
+use Rattle.hwdb_spec.specs.Folders.{same, Source, first_of}
 use Rattle.hwdb_text.specs.Views.{IsStorable, HasNoZero}
 use Rattle.hwdb_compile.specs.Views.{name_of, source_of, sources}
 use Rattle.hwdb_writer.specs.Internal.Storable as writer
@@ -30,6 +30,16 @@ pub mapped_more : {A B : Type 0} (f : A → B) (xs : List A) (i : ℕ) (x : A) �
 mapped_more f [] i x lt e = absurd (omega arith)
 mapped_more f (y ∷ xs) zero x lt e = ap (λ z. f z ∷ []) (sym e)
 mapped_more f (y ∷ xs) (suc i) x lt e = ap (λ l. f y ∷ l) (mapped_more f xs i x (omega arith) e)
+
+-- one more of a list
+pub taken_more : {A : Type 0} (xs : List A) (i : ℕ) (x : A) → i < length xs → x ≡ get_or xs i x → take (suc i) xs ≡ take i xs ++ x ∷ []
+taken_more [] i x lt e = absurd (omega arith)
+taken_more (y ∷ xs) zero x lt e = ap (λ z. z ∷ []) (sym e)
+taken_more (y ∷ xs) (suc i) x lt e = ap (λ l. y ∷ l) (taken_more xs i x (omega arith) e)
+
+-- it holds of one of them
+pub any_here : {A : Type 0} (P : A → Type 0) (xs : List A) (i : ℕ) (x : A) → i < length xs → x ≡ get_or xs i x → P x → Any P xs
+any_here P xs i x lt e p = (i, x, lt, sym e, p)
 
 -- all of a list, mapped
 pub mapped_all : {A B : Type 0} (f : A → B) (xs : List A) (i : ℕ) → length xs ≤ i → map f (take i xs) ≡ map f xs
@@ -117,18 +127,18 @@ gathered_more f [] x = append-nil (f x)
 gathered_more f (y ∷ xs) x = ap (λ l. f y ++ l) (gathered_more f xs x) ∙ sym (append_assoc (f y) (flat_map f xs) (f x))
 
 -- the assignments of one more file
-pub tree_step : (done : List Assignment) (f : Choice → List Assignment) (choices more : List Choice) (c : Choice) (given : List Assignment) (tree : Map)
-    → tree ≡ surviving ((done ++ flat_map f choices) ++ given) → given ≡ f c → more ≡ choices ++ c ∷ [] → tree ≡ surviving (done ++ flat_map f more)
-tree_step done f choices more c given tree is own next =
-    is ∙ ap surviving (append_assoc done (flat_map f choices) given
-    ∙ ap (λ l. done ++ l) (ap (λ l. flat_map f choices ++ l) own ∙ sym (gathered_more f choices c) ∙ sym (ap (flat_map f) next)))
+pub tree_step : {A : Type 0} (done : List Assignment) (f : A → List Assignment) (files more : List A) (file : A) (given : List Assignment) (tree : Map)
+    → tree ≡ surviving ((done ++ flat_map f files) ++ given) → given ≡ f file → more ≡ files ++ file ∷ [] → tree ≡ surviving (done ++ flat_map f more)
+tree_step done f files more file given tree is own next =
+    is ∙ ap surviving (append_assoc done (flat_map f files) given
+    ∙ ap (λ l. done ++ l) (ap (λ l. flat_map f files ++ l) own ∙ sym (gathered_more f files file) ∙ sym (ap (flat_map f) next)))
 
 -- the faults of one more file
-pub list_step : {B : Type 0} (old mid new given : List B) (f : Choice → List B) (choices more : List Choice) (c : Choice)
-    → new ≡ mid ++ given → mid ≡ old ++ flat_map f choices → given ≡ f c → more ≡ choices ++ c ∷ [] → new ≡ old ++ flat_map f more
-list_step old mid new given f choices more c is before own next =
-    is ∙ ap (λ l. l ++ given) before ∙ append_assoc old (flat_map f choices) given
-    ∙ ap (λ l. old ++ l) (ap (λ l. flat_map f choices ++ l) own ∙ sym (gathered_more f choices c) ∙ sym (ap (flat_map f) next))
+pub list_step : {A B : Type 0} (old mid new given : List B) (f : A → List B) (files more : List A) (file : A)
+    → new ≡ mid ++ given → mid ≡ old ++ flat_map f files → given ≡ f file → more ≡ files ++ file ∷ [] → new ≡ old ++ flat_map f more
+list_step old mid new given f files more file is before own next =
+    is ∙ ap (λ l. l ++ given) before ∙ append_assoc old (flat_map f files) given
+    ∙ ap (λ l. old ++ l) (ap (λ l. flat_map f files ++ l) own ∙ sym (gathered_more f files file) ∙ sym (ap (flat_map f) next))
 
 -- one more assignment is put
 pub put_step : (done xs more : List Assignment) (a : Assignment) (before after : Map) → before ≡ surviving (done ++ xs)

@@ -1,5 +1,5 @@
 -- Of the assignments of files the last one of a pattern and key is the latest by priority and line.
-use Rattle.std.proofs.Common.{◌≡◌, ◌∙◌, ap, sym, refl, subst, ℕ, suc, ◌+◌, ◌<◌, ◌≤◌, ◌⊎◌, Bool, true, false, List, [], ◌∷◌, ◌++◌, arith, append_assoc, inl, inr, All, map}
+use Rattle.std.proofs.Common.{◌≡◌, ◌∙◌, ap, sym, refl, subst, ℕ, suc, ◌<◌, ◌≤◌, ◌⊎◌, true, false, List, [], ◌∷◌, ◌++◌, arith, append_assoc, inl, inr, All, map}
 use Rattle.std.specs.Prelude.{Contains, flat_map, if◌then◌else◌}
 use Rattle.std.specs.Ordering.{is_eq, nat_cmp}
 use Rattle.std.specs.Cmp.Lexicographic.{slice_cmp}
@@ -11,7 +11,7 @@ use Rattle.std.proofs.lemmas.List.{append-nil}
 use Rattle.std.proofs.lemmas.List.Elements.{All-nil, All-cons, All-append, All-weaker, All-contains, All-contains_itself, Contains-push, Contains-append_left, Contains-append_right, Contains-append_cases}
 use Rattle.hwdb_spec.specs.Assignment.{Assignment}
 use Rattle.hwdb_text.specs.Views.{origin}
-use Rattle.hwdb_spec.specs.Folders.{Choice, Source, same, path_of, chosen_of, contents, file_assignments, all_assignments}
+use Rattle.hwdb_spec.specs.Folders.{Choice, same, path_of, chosen_of, contents, file_assignments, all_assignments}
 use Rattle.hwdb_compile.specs.Views.{name_of}
 use Rattle.hwdb_spec.specs.Answers.{is_same_place}
 use Rattle.hwdb_spec.specs.Last.{HaveOnePlace, IsLast, IsNoLater, IsLatest}

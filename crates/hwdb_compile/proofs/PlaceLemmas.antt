@@ -1,6 +1,5 @@
 -- The place of a hit among others.
 use Rattle.std.proofs.Common.{◌≡◌, ap, refl, ℕ, zero, suc, List, [], ◌∷◌, ◌++◌, take, drop, length}
-use mathlib.Core.List.{reverse_aux}
 use Rattle.hwdb_query.specs.declared.hit.Hit.{Hit}
 use Rattle.hwdb_query.specs.Views.{assignment_of_hit, assignments_of_hits}
 

@@ -1,10 +1,12 @@
 -- What the types of this crate mean: files and faults as contracts see them, and when each refusal comes.
-use Rattle.std.specs.Prelude.{List, map, length, ℕ, ◌<◌, ◌≤◌}
+use Rattle.std.specs.Prelude.{List, map, length, ℕ, ◌<◌, ◌≤◌, ◌≡◌, All}
 use Rattle.std.specs.String.{string_bytes}
-use Rattle.hwdb_spec.specs.Folders.{Source, FaultIn, fault_in, HaveManyLines, chosen_of, max_files, max_lines}
+use Rattle.hwdb_spec.specs.Folders.{Choice, Source, FaultIn, contents, fault_in, HaveManyLines, chosen_of, max_files, max_lines}
 use Rattle.hwdb_spec.specs.Lines.{lines}
 use Rattle.hwdb_spec.specs.Written.{IsTooLarge}
+use Rattle.hwdb_text.specs.Views.{choice_of}
 use Rattle.hwdb_compile.specs.declared.sources.SourceFile.{SourceFile}
+use Rattle.hwdb_compile.specs.declared.sources.ChosenFile.{ChosenFile}
 use Rattle.hwdb_compile.specs.declared.sources.FileFault.{FileFault}
 use Rattle.hwdb_compile.specs.declared.errors.CompileError.{CompileError}
 use Rattle.hwdb_compile.specs.declared.errors.CompileError.TheVariants.{Memory, TooLarge, TooManyFiles, TooManyLines}
@@ -22,6 +24,23 @@ fault_of f = fault_in f.path.items f.fault
 abbrev pub name_of : Source → List ℕ
 name_of s = s.name
 
+-- which file was chosen, and what it holds
+abbrev pub choice_in : ChosenFile → Choice
+choice_in f = choice_of f.choice.now
+
+abbrev pub bytes_in : ChosenFile → List ℕ
+bytes_in f = f.bytes.now
+
+-- the files are the chosen ones of two folders, by priority, each with what it holds
+pub record AreChosenOf (etc usr : List Source) (files : List ChosenFile) : Type 0 where
+  pub few : length (chosen_of etc usr) ≤ max_files
+  pub choices : map choice_in files ≡ chosen_of etc usr
+  pub bytes : All (λ f. bytes_in f ≡ contents etc usr (choice_in f)) files
+
+-- it holds for any two folders of which these are the chosen files
+abbrev pub ForFolders : List ChosenFile → (List Source → List Source → Type 0) → Type 0
+ForFolders files Holds = (etc usr : List Source) → AreChosenOf etc usr files → Holds etc usr
+
 -- a file with as many lines as can be numbered
 abbrev pub FewLines : List ℕ → Type 0
 FewLines bytes = length (lines bytes) ≤ max_lines
@@ -29,6 +48,13 @@ FewLines bytes = length (lines bytes) ≤ max_lines
 -- a file with more
 abbrev pub ManyLines : List ℕ → Type 0
 ManyLines bytes = max_lines < length (lines bytes)
+
+-- when the choice is refused
+abbrev pub IsChoiceRefusal : (etc usr : List Source) → CompileError → Type 0
+IsChoiceRefusal etc usr TooManyFiles = max_files < length (chosen_of etc usr)
+IsChoiceRefusal etc usr TooManyLines = ⊥
+IsChoiceRefusal etc usr TooLarge = ⊥
+IsChoiceRefusal etc usr Memory = Unit {0}
 
 -- when each refusal comes: too many files before all, then too many lines, then a database that is too large
 abbrev pub IsRefusal : (etc usr : List Source) (max_bytes : ℕ) → CompileError → Type 0

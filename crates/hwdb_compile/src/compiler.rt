@@ -6,19 +6,18 @@ ghost use Rattle.hwdb_text.specs.Views.{origin};
 ghost use Rattle.hwdb_text.specs.Views.{given_in, choice_of};
 ghost use Rattle.hwdb_spec.specs.Folders.{file_assignments, file_faults, faults_of_files, fault_in, AreAccepted};
 ghost use Rattle.hwdb_text.specs.Views.{IsStorableChoice};
-ghost use Rattle.hwdb_compile.specs.Views.{FewLines};
+ghost use Rattle.hwdb_compile.specs.Views.{FewLines, ForFolders, bytes_in, choice_in};
 ghost use Rattle.hwdb_compile.specs.Views.{sources, fault_of, IsRefusal};
 ghost use Rattle.hwdb_spec.specs.Tree.{surviving, map_of_files};
 ghost use Rattle.hwdb_query.specs.Laws.{AnswersAreLast};
-ghost use Rattle.hwdb_compile.specs.Internal.Reading.{bytes_at, read_from, IsPuttable, TakesUp, IsFileRefusal, IsFilesRefusal};
+ghost use Rattle.hwdb_compile.specs.Internal.Reading.{assignments_in, faults_in, IsPuttable, TakesUp, IsFileRefusal, IsFilesRefusal};
 
 use crate::errors::CompileError;
-use crate::sources::{Compiled, FileFault, SourceFile, names, put_files};
+use crate::sources::{ChosenFile, Compiled, FileFault, SourceFile, choose, with_bytes};
 use hwdb_query::compiled_answers_are_last;
-use hwdb_text::{Chosen, Fault, Given, scan, select};
+use hwdb_text::{Chosen, Fault, Given, scan};
 use hwdb_writer::{Tree, write};
 use std::alloc::{AllocError, Global};
-use std::collections::BTreeMap;
 
 /// Puts what a file with this path and priority gives into the tree, one after another.
 fn put_all(tree: &mut Tree, path: &[u8], priority: u16, all: &[Given<'_>]) -> Result<(), AllocError>
@@ -81,39 +80,57 @@ fn add_file(
 /// Reads the chosen files, in the order of their priorities.
 fn add_files(
     alloc: Global,
-    chosen: &[Chosen],
-    index: &BTreeMap<&str, &[u8]>,
+    files: &[ChosenFile<'_>],
     tree: &mut Tree,
     faults: &mut Vec<FileFault>,
 ) -> Result<(), CompileError>
-    requires { All IsStorableChoice (map choice_of chosen.now) }
+    requires { All IsStorableChoice (map choice_in files.now) }
     ensures tree { OnOk result
-        (TakesUp tree.old
-        (flat_map (file_assignments (read_from index.now)) (map choice_of chosen.now)) tree.new) }
+        (TakesUp tree.old (flat_map assignments_in files.now) tree.new) }
     ensures faults { OnOk result
         (map fault_of faults.new.items
-        ≡ map fault_of faults.old.items
-        ++ flat_map (file_faults (read_from index.now)) (map choice_of chosen.now)) }
-    ensures few { OnOk result
-        (All (λ c. FewLines (read_from index.now c)) (map choice_of chosen.now)) }
-    ensures refused { IfErr result
-        (IsFilesRefusal (read_from index.now) (map choice_of chosen.now)) }
+        ≡ map fault_of faults.old.items ++ flat_map faults_in files.now) }
+    ensures few { OnOk result (All (λ f. FewLines (bytes_in f)) files.now) }
+    ensures refused { IfErr result (IsFilesRefusal files.now) }
 {
-    for file in chosen {
-        let bytes = bytes_of(index, &file.name);
-        add_file(alloc, file, bytes, tree, faults)?;
+    for file in files {
+        add_file(alloc, file.choice, file.bytes, tree, faults)?;
     }
     Ok(())
 }
 
-/// The bytes of a file in the index.
-fn bytes_of<'a>(index: &BTreeMap<&str, &'a [u8]>, name: &str) -> &'a [u8]
-    ensures { result.now ≡ bytes_at index.now name.now }
+/// Makes a database of chosen files, which stand in the order of their priorities: what [`compile`] makes of any two
+/// folders of which these are the chosen files.
+///
+/// # Errors
+///
+/// [`CompileError::TooManyLines`] before [`CompileError::TooLarge`], where the database has more than `max_bytes`
+/// bytes; [`CompileError::Memory`] wherever memory is refused.
+pub fn compile_chosen(
+    alloc: Global,
+    files: &[ChosenFile<'_>],
+    max_bytes: u32,
+) -> Result<Compiled, CompileError>
+    requires { All IsStorableChoice (map choice_in files.now) }
+    ensures database { IfOk result (λ c. ForFolders files.now
+        (λ etc usr. IsWritten (map_of_files etc usr) c.database.items)) }
+    ensures checked { IfOk result (λ c. ForFolders files.now
+        (λ etc usr. IsDatabaseOf (map_of_files etc usr) c.database.items)) }
+    ensures headline { IfOk result (λ c. ForFolders files.now
+        (λ etc usr. AnswersAreLast etc usr c.database.items)) }
+    ensures within { IfOk result (λ c. length c.database.items ≤ max_bytes) }
+    ensures faults { IfOk result (λ c. ForFolders files.now
+        (λ etc usr. map fault_of c.faults.items ≡ faults_of_files etc usr)) }
+    ensures accepted { OnOk result (ForFolders files.now AreAccepted) }
+    ensures refused { IfErr result (λ e. ForFolders files.now
+        (λ etc usr. IsRefusal etc usr max_bytes e)) }
 {
-    match index.get(name) {
-        Some(bytes) => bytes,
-        None => &[],
-    }
+    compiled_answers_are_last();
+    let mut tree = Tree::new(alloc);
+    let mut faults = Vec::new(alloc);
+    add_files(alloc, files, &mut tree, &mut faults)?;
+    let database = write(alloc, &tree, max_bytes)?;
+    Ok(Compiled { database, faults })
 }
 
 /// Makes a database of the files of the folders in /etc and in /usr/lib: chooses them by their names, reads
@@ -144,16 +161,7 @@ pub fn compile(
     ensures accepted { OnOk result (AreAccepted (sources etc.now) (sources usr.now)) }
     ensures refused { IfErr result (IsRefusal (sources etc.now) (sources usr.now) max_bytes) }
 {
-    compiled_answers_are_last();
-    let etc_names = names(alloc, etc)?;
-    let usr_names = names(alloc, usr)?;
-    let chosen = select(alloc, &etc_names, &usr_names)?;
-    let mut index = BTreeMap::new(alloc);
-    put_files(&mut index, usr)?;
-    put_files(&mut index, etc)?;
-    let mut tree = Tree::new(alloc);
-    let mut faults = Vec::new(alloc);
-    add_files(alloc, &chosen, &index, &mut tree, &mut faults)?;
-    let database = write(alloc, &tree, max_bytes)?;
-    Ok(Compiled { database, faults })
+    let chosen = choose(alloc, etc, usr)?;
+    let files = with_bytes(alloc, &chosen, etc, usr)?;
+    compile_chosen(alloc, &files, max_bytes)
 }

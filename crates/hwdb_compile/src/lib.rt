@@ -5,7 +5,7 @@
 //!
 //! | Module | What it does |
 //! |---|---|
-//! | `sources` | files to be compiled, and the index of their names |
+//! | `sources` | the files of two folders, and the chosen ones among them |
 //! | `compiler` | the files of two folders, made into one database |
 //! | `laws` | what is proved of the definitions alone |
 //! | `errors` | what the compiler refuses |
@@ -18,7 +18,7 @@ mod sources;
 #[cfg(test)]
 mod tests;
 
-pub use compiler::compile;
+pub use compiler::{compile, compile_chosen};
 pub use errors::CompileError;
 pub use laws::{last_is_latest, survivors_are_latest};
-pub use sources::{Compiled, FileFault, SourceFile};
+pub use sources::{ChosenFile, Compiled, FileFault, SourceFile, choose, with_bytes};

@@ -1,12 +1,13 @@
-//! The files that are compiled, and the index of their names.
-ghost use Rattle.std.specs.Prelude.{◌≡◌, ℕ, List, map, IfOk, OnOk};
+//! The files that are compiled: those of two folders, and the chosen ones among them.
+ghost use Rattle.std.specs.Prelude.{◌≡◌, ◌≤◌, ℕ, List, map, length, All, IfOk, IfErr, OnOk};
 ghost use Rattle.std.specs.String.{string_bytes};
-ghost use Rattle.hwdb_compile.specs.Views.{sources};
-ghost use Rattle.hwdb_spec.specs.Folders.{first_of};
-ghost use Rattle.hwdb_compile.specs.Views.{name_of};
+ghost use Rattle.hwdb_spec.specs.Folders.{chosen_of, first_of, max_files};
+ghost use Rattle.hwdb_text.specs.Views.{choice_of, IsStorableChoice};
+ghost use Rattle.hwdb_compile.specs.Views.{sources, name_of, choice_in, AreChosenOf, IsChoiceRefusal};
 ghost use Rattle.hwdb_compile.specs.Internal.Reading.{bytes_at};
 
-use hwdb_text::Fault;
+use crate::errors::CompileError;
+use hwdb_text::{Chosen, Fault, select};
 use std::alloc::{AllocError, Global};
 use std::collections::BTreeMap;
 
@@ -17,6 +18,15 @@ pub struct SourceFile {
     pub name: String,
     /// What it holds.
     pub bytes: Vec<u8>,
+}
+
+/// A chosen file, and what it holds.
+#[derive(Clone, Copy)]
+pub struct ChosenFile<'a> {
+    /// Its folder, name and priority.
+    pub choice: &'a Chosen,
+    /// What it holds.
+    pub bytes: &'a [u8],
 }
 
 /// A fault, and the file that it stands in.
@@ -52,7 +62,7 @@ pub(crate) fn names(alloc: Global, files: &[SourceFile]) -> Result<Vec<String>, 
 
 /// Puts the files into the index of names: each takes the place of others with its name, and the first of one
 /// name stays.
-pub(crate) fn put_files<'a>(
+fn put_files<'a>(
     index: &mut BTreeMap<&'a str, &'a [u8]>,
     files: &'a [SourceFile],
 ) -> Result<(), AllocError>
@@ -66,4 +76,66 @@ pub(crate) fn put_files<'a>(
         rest = before;
     }
     Ok(())
+}
+
+/// The bytes of a file in the index.
+fn bytes_of<'a>(index: &BTreeMap<&str, &'a [u8]>, name: &str) -> &'a [u8]
+    ensures { result.now ≡ bytes_at index.now name.now }
+{
+    match index.get(name) {
+        Some(bytes) => bytes,
+        None => &[],
+    }
+}
+
+/// The chosen files by priority, of the files that the folders in /etc and in /usr/lib hold, in any order.
+///
+/// # Errors
+///
+/// [`CompileError::TooManyFiles`] where more than 65,535 files are chosen; [`CompileError::Memory`] where memory is
+/// refused.
+pub fn choose(
+    alloc: Global,
+    etc: &[SourceFile],
+    usr: &[SourceFile],
+) -> Result<Vec<Chosen>, CompileError>
+    ensures chosen { IfOk result
+        (λ chosen. map choice_of chosen.items ≡ chosen_of (sources etc.now) (sources usr.now)) }
+    ensures few { IfOk result
+        (λ _. length (chosen_of (sources etc.now) (sources usr.now)) ≤ max_files) }
+    ensures storable { IfOk result (λ chosen. All IsStorableChoice (map choice_of chosen.items)) }
+    ensures refused { IfErr result (IsChoiceRefusal (sources etc.now) (sources usr.now)) }
+{
+    let etc_names = names(alloc, etc)?;
+    let usr_names = names(alloc, usr)?;
+    Ok(select(alloc, &etc_names, &usr_names)?)
+}
+
+/// Each of the files that [`choose`] gave, with what it holds. Of several files of one name in one list the first counts.
+///
+/// # Errors
+///
+/// Where memory is refused.
+pub fn with_bytes<'a>(
+    alloc: Global,
+    chosen: &'a [Chosen],
+    etc: &'a [SourceFile],
+    usr: &'a [SourceFile],
+) -> Result<Vec<ChosenFile<'a>>, AllocError>
+    requires chosen { map choice_of chosen.now ≡ chosen_of (sources etc.now) (sources usr.now) }
+    requires few { length (chosen_of (sources etc.now) (sources usr.now)) ≤ max_files }
+    ensures files { IfOk result
+        (λ files. AreChosenOf (sources etc.now) (sources usr.now) files.items) }
+    ensures choices { IfOk result
+        (λ files. map choice_in files.items ≡ map choice_of chosen.now) }
+{
+    let mut index = BTreeMap::new(alloc);
+    put_files(&mut index, usr)?;
+    put_files(&mut index, etc)?;
+    let mut files = Vec::new(alloc);
+    for choice in chosen {
+        let bytes = bytes_of(&index, &choice.name);
+        files.push(ChosenFile { choice, bytes })?;
+    }
+    Ok(files)
 }

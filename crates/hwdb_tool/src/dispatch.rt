@@ -1,14 +1,16 @@
 //! The program: its words, its files, its status and its refusal lines.
-ghost use Rattle.std.specs.Prelude.{◌≡◌, ◌≤◌, map, string_bytes};
+ghost use Rattle.std.specs.Prelude.{◌≡◌, ◌≤◌, map, string_bytes, All, IfOk};
+ghost use Rattle.hwdb_text.specs.Views.{IsStorableChoice, choice_of};
+ghost use Rattle.hwdb_compile.specs.Views.{choice_in};
 ghost use Rattle.hwdb_cli.specs.Refusals.{AreWrong};
 
 use crate::files::{SystemStore, any_bytes, database_bytes, joined, names_in, path_in, text_bytes};
 use crate::refusals::{Refusal, refuse_for, refuse_text};
 use hwdb_cli::{Job, Task, WordsFault, read_words};
 use hwdb_commands::{
-    MAX_BYTES, Sink, ToolError, ask, run_explain, run_list, run_queries, run_update, write_text,
+    MAX_BYTES, Sink, ToolError, ask, run_explain, run_list, run_queries, update_chosen, write_text,
 };
-use hwdb_compile::SourceFile;
+use hwdb_compile::ChosenFile;
 use hwdb_store::DATABASE;
 use hwdb_text::{Chosen, select};
 use std::alloc::{AllocError, Global};
@@ -40,7 +42,7 @@ where
 {
     match read_words(alloc, words) {
         Ok(job) => match run(rt, alloc, &job, out, err) {
-            Ok(is_faulty) => u8::from(is_faulty),
+            Ok(status) => status,
             Err(refusal) => refuse_job(alloc, refusal, out, err),
         },
         Err(WordsFault::Help { text }) => match write_text(out, text.as_bytes()) {
@@ -72,16 +74,17 @@ fn refuse_job<O: Sink, E: Sink>(alloc: Global, refusal: Refusal, out: &O, err: &
     }
 }
 
-/// Does the job, and returns whether `--strict` ends it with status 1.
+/// Does the job, and returns the status: 1 where `--strict` says so, else 0.
 fn run<R: Files + Alloc + Clone + Drop, O: Sink, E: Sink>(
     rt: &R,
     alloc: Global,
     job: &Job,
     out: &mut O,
     err: &mut E,
-) -> Result<bool, Refusal>
+) -> Result<u8, Refusal>
 where
     R::File: Drop,
+    ensures { IfOk result (λ status. status ≤ 1) }
 {
     let root = match &job.root {
         Some(root) => root.as_str(),
@@ -111,7 +114,7 @@ where
             run_list(alloc, &bytes, device.as_bytes(), after, *limit, out)?;
         }
     }
-    Ok(false)
+    Ok(0)
 }
 
 /// The database below the root: the one of `/etc`, else the one of `/usr/lib`.
@@ -129,51 +132,39 @@ where
     Err(Refusal::NoDatabase)
 }
 
-/// The chosen files of both folders, read.
-#[derive(Drop)]
-struct Sources {
-    etc: Vec<SourceFile>,
-    usr: Vec<SourceFile>,
-}
-
-impl Sources {
-    /// Adds a file to those of its folder.
-    fn add(&mut self, chosen: Chosen, bytes: Vec<u8>) -> Result<(), AllocError> {
-        let Chosen {
-            from_etc,
-            name,
-            priority: _,
-        } = chosen;
-        let files = if from_etc {
-            &mut self.etc
-        } else {
-            &mut self.usr
-        };
-        files.push(SourceFile { name, bytes })?;
-        Ok(())
-    }
-}
-
-/// Reads the chosen files: a masked one isn't read.
+/// What the chosen files hold: a masked one isn't read.
 fn read_chosen<R: Files>(
     rt: &R,
     alloc: Global,
     root: &str,
-    chosen: Vec<Chosen>,
-) -> Result<Sources, Refusal>
+    chosen: &[Chosen],
+) -> Result<Vec<Vec<u8>>, Refusal>
 where
     R::File: Drop,
 {
-    let mut sources = Sources {
-        etc: Vec::new(alloc),
-        usr: Vec::new(alloc),
-    };
+    let mut texts = Vec::new(alloc);
     for file in chosen {
         let path = joined(alloc, root, file.path(alloc)?.as_str())?;
         let bytes = text_bytes(alloc, rt, path.as_str())?;
-        sources.add(file, bytes)?;
+        texts.push(bytes).map_err(AllocError::from)?;
     }
-    Ok(sources)
+    Ok(texts)
+}
+
+/// The chosen files, each with the text that was read of it.
+fn with_texts<'a>(
+    alloc: Global,
+    chosen: &'a [Chosen],
+    texts: &'a [Vec<u8>],
+) -> Result<Vec<ChosenFile<'a>>, AllocError>
+    requires { All IsStorableChoice (map choice_of chosen.now) }
+    ensures { IfOk result (λ files. All IsStorableChoice (map choice_in files.items)) }
+{
+    let mut files = Vec::new(alloc);
+    for (choice, bytes) in chosen.iter().zip(texts) {
+        files.push(ChosenFile { choice, bytes })?;
+    }
+    Ok(files)
 }
 
 /// The names of the text files in a folder below the root.
@@ -188,7 +179,7 @@ fn listed<R: Files>(
 }
 
 /// Compiles the text files of both folders into the database of one, which takes the old one's place once it
-/// is whole on the disk. Returns whether `--strict` ends it with status 1. After a refusal the old database
+/// is whole on the disk. Returns the status: 1 where `--strict` and there is a fault, else 0. After a refusal the old database
 /// stands as it was, and no new file.
 fn update<R: Files, E: Sink>(
     rt: &R,
@@ -196,20 +187,21 @@ fn update<R: Files, E: Sink>(
     root: &str,
     job: &Job,
     err: &mut E,
-) -> Result<bool, Refusal>
+) -> Result<u8, Refusal>
 where
     R::File: Drop,
+    ensures { IfOk result (λ status. status ≤ 1) }
 {
     let etc = listed(rt, alloc, root, ETC_FILES)?;
     let usr = listed(rt, alloc, root, USR_FILES)?;
     let chosen = select(alloc, &etc, &usr).map_err(ToolError::from)?;
-    let sources = read_chosen(rt, alloc, root, chosen)?;
+    let texts = read_chosen(rt, alloc, root, &chosen)?;
+    let files = with_texts(alloc, &chosen, &texts)?;
     let folder = joined(alloc, root, if job.usr { USR_FOLDER } else { ETC_FOLDER })?;
     let mut store = SystemStore::new(alloc, rt);
-    let updated = run_update(
+    let updated = update_chosen(
         alloc,
-        &sources.etc,
-        &sources.usr,
+        &files,
         MAX_BYTES,
         job.strict,
         folder.as_str(),
@@ -217,7 +209,7 @@ where
         err,
     );
     match updated {
-        Ok(status) => Ok(status != 0),
+        Ok(status) => Ok(status),
         Err(ToolError::Replace(_)) => {
             let path = path_in(alloc, folder.as_str(), DATABASE)?;
             Err(Refusal::write(alloc, path.as_bytes(), store.cause))

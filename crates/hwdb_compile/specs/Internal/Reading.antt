@@ -5,9 +5,10 @@ use Rattle.std.specs.Borrow.{Bor}
 use Rattle.std.specs.Ordering.{nat_cmp}
 use Rattle.std.specs.Option.{option_map_or}
 use Rattle.std.specs.Cmp.Lexicographic.{slice_cmp}
-use Rattle.hwdb_spec.specs.Folders.{Choice}
+use Rattle.hwdb_spec.specs.Folders.{FaultIn, file_assignments, file_faults}
 use Rattle.hwdb_text.specs.Views.{HasNoZero, IsStorable}
-use Rattle.hwdb_compile.specs.Views.{ManyLines}
+use Rattle.hwdb_compile.specs.Views.{ManyLines, bytes_in, choice_in}
+use Rattle.hwdb_compile.specs.declared.sources.ChosenFile.{ChosenFile}
 use Rattle.hwdb_spec.specs.Assignment.{Assignment}
 use Rattle.hwdb_spec.specs.Tree.{Map, surviving}
 use Rattle.hwdb_compile.specs.declared.errors.CompileError.{CompileError}
@@ -17,9 +18,12 @@ use Rattle.hwdb_compile.specs.declared.errors.CompileError.TheVariants.{Memory, 
 abbrev pub bytes_at : BTreeMap (Bor (List ℕ)) (Bor (List ℕ)) → List ℕ → List ℕ
 bytes_at index name = option_map_or (λ b. b.now) (get_by (λ k. slice_cmp nat_cmp name k.now) index) []
 
--- the bytes of a chosen file in the index
-abbrev pub read_from : BTreeMap (Bor (List ℕ)) (Bor (List ℕ)) → Choice → List ℕ
-read_from index c = bytes_at index c.name
+-- what a chosen file assigns, and its faults
+abbrev pub assignments_in : ChosenFile → List Assignment
+assignments_in f = file_assignments (λ _. bytes_in f) (choice_in f)
+
+abbrev pub faults_in : ChosenFile → List FaultIn
+faults_in f = file_faults (λ _. bytes_in f) (choice_in f)
 
 -- the map takes up more assignments: where it had what survives of some, it has what survives of these and more
 abbrev pub TakesUp : Map → List Assignment → Map → Type 0
@@ -39,8 +43,8 @@ IsFileRefusal bytes TooLarge = ⊥
 IsFileRefusal bytes Memory = Unit {0}
 
 -- why one of some files is refused
-abbrev pub IsFilesRefusal : (read : Choice → List ℕ) → List Choice → CompileError → Type 0
-IsFilesRefusal read choices TooManyFiles = ⊥
-IsFilesRefusal read choices TooManyLines = Any (λ c. ManyLines (read c)) choices
-IsFilesRefusal read choices TooLarge = ⊥
-IsFilesRefusal read choices Memory = Unit {0}
+abbrev pub IsFilesRefusal : List ChosenFile → CompileError → Type 0
+IsFilesRefusal files TooManyFiles = ⊥
+IsFilesRefusal files TooManyLines = Any (λ f. ManyLines (bytes_in f)) files
+IsFilesRefusal files TooLarge = ⊥
+IsFilesRefusal files Memory = Unit {0}
