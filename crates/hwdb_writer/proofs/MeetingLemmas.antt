@@ -1,8 +1,8 @@
 -- What two lists begin with, found from the front.
-use Rattle.std.proofs.Common.{◌≡◌, ◌≤◌, ◌<◌, ℕ, zero, suc, ◌+◌, List, [], ◌∷◌, length, take, drop, get_or, true, false, cond, refl, ◌∙◌, ap, arith, eqb, eq-eqb}
+use Rattle.std.proofs.Common.{◌≡◌, ◌≤◌, ◌<◌, ℕ, zero, suc, ◌+◌, List, [], ◌∷◌, length, take, get_or, true, false, cond, refl, ◌∙◌, ap, arith, eqb, eq-eqb}
 use Rattle.std.proofs.lemmas.Bool.Decides.{nat_tests}
 use Rattle.std.proofs.lemmas.List.{take_more_same}
-use Rattle.hwdb_writer.specs.Internal.Setting.{meet, behind}
+use Rattle.hwdb_writer.specs.Internal.Setting.{meet, behind, MeetAt}
 
 -- the first n elements are alike
 pub record Past (n : ℕ) (a b : List ℕ) : Type 0 where
@@ -10,13 +10,10 @@ pub record Past (n : ℕ) (a b : List ℕ) : Type 0 where
   pub second : n ≤ length b
   pub alike : take n a ≡ take n b
 
-abbrev pub IsEnd : ℕ → List ℕ → List ℕ → Type 0
-IsEnd n a b = meet a b ≡ record { front = take n a; left = drop n a; right = drop n b }
-
 differ : (x y : ℕ) → (x ≡ y → ⊥) → eqb x y ≡ false
 differ x y h = grind (arith, nat_tests)
 
-pub meets_at : (n : ℕ) (a b : List ℕ) → Past n a b → (n < length a → n < length b → get_or a n 0 ≡ get_or b n 0 → ⊥) → IsEnd n a b
+pub meets_at : (n : ℕ) (a b : List ℕ) → Past n a b → (n < length a → n < length b → get_or a n 0 ≡ get_or b n 0 → ⊥) → MeetAt n a b
 unfolding meet
 meets_at zero [] b p apart = refl
 meets_at zero (x ∷ a) [] p apart = refl
