@@ -1,7 +1,7 @@
 -- One level of a set, at an opened node.
 use Rattle.std.proofs.Common.{◌≡◌, ◌≤◌, ◌<◌, ℕ, zero, suc, ◌+◌, List, [], ◌∷◌, ◌++◌, length, map, get_or, take, drop, None, refl, sym, ◌∙◌, ap, subst, arith, add-one}
 use Rattle.std.proofs.Math.Seq.{drop-cons}
-use Rattle.std.proofs.lemmas.List.{drop_all}
+use Rattle.std.proofs.lemmas.List.{drop_all, take-append-drop}
 use Rattle.std.specs.List.{insert}
 use Rattle.hwdb_spec.specs.Tree.{Value, Tree, Children, count, IsTree, BytesAscend, KeysAscend}
 use Rattle.hwdb_spec.specs.Tree.Tree.{Node}
@@ -11,7 +11,7 @@ use Rattle.hwdb_writer.specs.declared.trie.TrieNode.TheViews.{out-TrieNode}
 use Rattle.hwdb_writer.specs.Internal.Standing.{standing, children_in, byte_of, tree_of, prefix_in}
 use Rattle.hwdb_writer.specs.Internal.Setting.{MeetAt, IsSet, set_value, single, with_prefix}
 use Rattle.hwdb_writer.proofs.StandingLemmas.{opened}
-use Rattle.hwdb_writer.proofs.MapLemmas.{Met, met, Differ, append_nil, cancel}
+use Rattle.hwdb_writer.proofs.MapLemmas.{append_nil, cancel}
 use Rattle.hwdb_writer.proofs.SettingLemmas.{SetBelow, below_end, below_new, below_more, set_here, set_deeper, cut_here, cut_deeper, set_like}
 
 pub map-insert : {X Y : Type 0} (f : X → Y) (xs : List X) (i : ℕ) (y : X) → map f (insert xs i y) ≡ insert (map f xs) i (f y)
@@ -34,17 +34,14 @@ module _ (b : TrieNode) (rest : List ℕ) (v : Value) (at : ℕ) (meets : MeetAt
   abbrev kids : Children
   kids = children_in (map standing (out-TrieNode b).children.items)
 
-  parted : Met p rest (record { front = take at p; left = drop at p; right = drop at rest })
-  parted = subst (Met p rest) meets (met p rest)
-
   whole : length p ≤ at → take at p ≡ p
-  whole le = sym (append_nil (take at p)) ∙ ap (λ l. take at p ++ l) (sym (drop_all at p le)) ∙ sym parted.first
+  whole le = sym (append_nil (take at p)) ∙ ap (λ l. take at p ++ l) (sym (drop_all at p le)) ∙ take-append-drop at p
 
   ended : length rest ≤ at → rest ≡ take at p
-  ended le = parted.second ∙ ap (λ l. take at p ++ l) (drop_all at rest le) ∙ append_nil (take at p)
+  ended le = sym (take-append-drop at rest) ∙ ap (λ l. take at rest ++ l) (drop_all at rest le) ∙ append_nil (take at rest) ∙ sym meets.alike
 
   gone : at < length rest → rest ≡ take at p ++ get_or rest at 0 ∷ drop (at + 1) rest
-  gone lt = parted.second ∙ ap (λ l. take at p ++ l) (drop_at rest at lt)
+  gone lt = sym (take-append-drop at rest) ∙ (λ i. sym meets.alike i ++ drop_at rest at lt i)
 
   pub ends : length p ≤ at → length rest ≤ at → (u : Tree) → u ≡ Node p (set_value v vals) kids → IsSet rest v (tree_of b) u
   ends le lr u e = set_like p rest v _ _ _ u (sym (ended lr ∙ whole le)) (sym (opened b)) (sym e) (set_here p v vals kids)
@@ -56,7 +53,7 @@ module _ (b : TrieNode) (rest : List ℕ) (v : Value) (at : ℕ) (meets : MeetAt
       set_like (p ++ d ∷ more) rest v _ _ _ u (sym (gone lt ∙ ap (λ l. l ++ d ∷ more) (whole le))) (sym (opened b)) (sym e) (set_deeper p d more v vals kids ls is)
 
   -- where the rest leaves the prefix, which was cut there
-  module _ (front : List ℕ) (c : ℕ) (back : List ℕ) (whole : p ≡ front ++ c ∷ back) (first : front ≡ take at p) where
+  module _ (front : List ℕ) (c : ℕ) (back : List ℕ) (inside : at < length p) (whole : p ≡ front ++ c ∷ back) (first : front ≡ take at p) where
     abbrev lower : Tree
     lower = with_prefix back (tree_of b)
 
@@ -79,9 +76,10 @@ module _ (b : TrieNode) (rest : List ℕ) (v : Value) (at : ℕ) (meets : MeetAt
         set_like (front ++ d ∷ more) rest v _ _ _ u (ap (λ l. l ++ d ∷ more) first ∙ sym (gone lt)) old_is (sym e) (cut_deeper front c back v vals kids d more ls two is)
 
     differ : at < length rest → c ≡ get_or rest at 0 → ⊥
-    differ lt =
-        let left : drop at p ≡ c ∷ back = cancel (take at p) (drop at p) (c ∷ back) (sym parted.first ∙ whole ∙ ap (λ l. l ++ c ∷ back) first) in
-        subst (Differ (c ∷ back)) (drop_at rest at lt) (subst (λ (l : List ℕ). Differ l (drop at rest)) left parted.parted)
+    differ lt same =
+        let cut : take at p ++ drop at p ≡ take at p ++ c ∷ back = take-append-drop at p ∙ whole ∙ ap (λ l. l ++ c ∷ back) first in
+        let byte : get_or p at 0 ≡ c = let e = sym (drop_at p at inside) ∙ cancel (take at p) (drop at p) (c ∷ back) cut in cc in
+        meets.apart inside lt (byte ∙ same)
 
     pub leaves_before : at < length rest → get_or rest at 0 < c → (u : Tree) → u ≡ Node front [] (Child (get_or rest at 0) (single (drop (at + 1) rest) v) (Child c lower NoMore)) → IsSet rest v (tree_of b) u
     unfolding count

@@ -11,7 +11,7 @@ use Rattle.hwdb_spec.specs.Assignment.{Assignment}
 use Rattle.hwdb_spec.specs.Tree.{Value, Tree, Children, place_cmp, entry_of, assigned_at, values_under, values_below, key_of}
 use Rattle.hwdb_spec.specs.Tree.Tree.{Node}
 use Rattle.hwdb_spec.specs.Tree.Children.{NoMore, Child}
-use Rattle.hwdb_writer.specs.Internal.Setting.{Meeting, meet, behind, set_value, single, map_under}
+use Rattle.hwdb_writer.specs.Internal.Setting.{set_value, single, map_under}
 
 abbrev pub Place : Type 0
 Place = List ℕ × List ℕ
@@ -153,37 +153,6 @@ mutual
       found_both q (values_under (path ++ b ∷ []) t) (values_below path ks)
       ∙ (λ i. either (off_tree q (path ++ b ∷ []) t (off_deeper path (b ∷ []) q.0 h) i) (off_children q path ks h i))
 
--- what a meeting says of its two lists
-abbrev pub Differ : List ℕ → List ℕ → Type 0
-Differ [] ys = Unit {0}
-Differ (x ∷ xs) [] = Unit {0}
-Differ (x ∷ xs) (y ∷ ys) = x ≡ y → ⊥
-
-pub record Met (a b : List ℕ) (m : Meeting) : Type 0 where
-  pub first : a ≡ m.front ++ m.left
-  pub second : b ≡ m.front ++ m.right
-  pub parted : Differ m.left m.right
-
-alike : (x y : ℕ) → eqb x y ≡ true → x ≡ y
-alike x y e = grind (arith, nat_tests)
-
-unlike : (x y : ℕ) → eqb x y ≡ false → x ≡ y → ⊥
-unlike x y e s = grind (arith, nat_tests)
-
-met_more : (t : Bool) (x y : ℕ) (a b : List ℕ) → eqb x y ≡ t → Met a b (meet a b) → Met (x ∷ a) (y ∷ b) (cond t (behind x (meet a b)) (record { front = []; left = x ∷ a; right = y ∷ b }))
-met_more true x y a b e h = record {
-  first = ap (λ zs. x ∷ zs) h.first;
-  second = λ i. sym (alike x y e) i ∷ h.second i;
-  parted = h.parted;
-}
-met_more false x y a b e h = record { first = refl; second = refl; parted = unlike x y e }
-
-pub met : (a b : List ℕ) → Met a b (meet a b)
-unfolding meet
-met [] b = record { first = refl; second = refl; parted = tt }
-met (x ∷ a) [] = record { first = refl; second = refl; parted = tt }
-met (x ∷ a) (y ∷ b) = met_more (eqb x y) x y a b refl (met a b)
-
 -- `q` is found where it was set, before what was there
 abbrev pub Sets : Place → Place → Value → List Entry → List Entry → Type 0
 Sets q p v new old = found q new ≡ cond (is_at q p) (Some (given v)) (found q old)
@@ -216,6 +185,9 @@ differs q p h = no (place_cmp q p) refl
     no Less e = refl
     no Equal e = absurd (h (place_same q p e))
     no Greater e = refl
+
+alike : (x y : ℕ) → eqb x y ≡ true → x ≡ y
+alike x y e = grind (arith, nat_tests)
 
 pub stored_is : (xs k : List ℕ) → key_of xs ≡ Some k → xs ≡ 32 ∷ k
 stored_is [] k e = absurd (cc)

@@ -34,9 +34,6 @@ opened b = ap (λ x. x.1) (standing-out b)
 pub byte_opened : (b : TrieNode) → byte_of b ≡ (out-TrieNode b).byte
 byte_opened b = ap (λ x. x.0) (standing-out b)
 
-pub tree_byte : (b b' : TrieNode) → b ≡ b' → tree_of b ≡ tree_of b'
-tree_byte b b' e = ap tree_of e
-
 pub byte_kept : (n : TrieNode) (b : TrieNode-F TrieNode) → b.byte ≡ (out-TrieNode n).byte → byte_of (roll-TrieNode b) ≡ byte_of n
 byte_kept n b e = byte_rolled b ∙ e ∙ sym (byte_opened n)
 

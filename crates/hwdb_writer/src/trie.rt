@@ -69,9 +69,8 @@ pub fn leaf(
     })
 }
 
-/// Makes the node a child of one with these values and these other children, at this place among them.
-///
-/// The one has its byte and the front of its prefix, which was cut; the node has what is behind.
+/// Puts a node in the place of this one: with the front of its cut prefix, these values, and these
+/// other children. It is among them, at this place, under the cut's byte and with what is behind.
 fn push_down(node: &mut TrieNode, cut: Cut, values: Values, others: Vec<TrieNode>, place: usize)
     requires room { vec_len others < vec_capacity others }
     requires place { place ≤ vec_len others }
@@ -92,7 +91,7 @@ fn push_down(node: &mut TrieNode, cut: Cut, values: Values, others: Vec<TrieNode
     node.children.insert(place, lower).unwrap();
 }
 
-/// Puts the value at the rest of the path, where this leaves the node's prefix: the node is split there.
+/// Puts the value at the rest of the path, which leaves the node's prefix: the node is split there.
 #[inline(never)]
 pub fn split_node(
     alloc: Global,

@@ -1,5 +1,5 @@
 -- A tree with a value set at a path.
-use Rattle.std.specs.Prelude.{List, ℕ, ◌∷◌, ◌++◌, [], cond, nat_eq, ◌≡◌, take, drop, map, Some}
+use Rattle.std.specs.Prelude.{List, ℕ, ◌∷◌, ◌++◌, [], ◌≡◌, ◌≢◌, ◌<◌, take, length, slice_index, map, Some}
 use Rattle.std.specs.FinMap.Entries.{by_order}
 use Rattle.std.specs.FinMap as finite
 use Rattle.std.specs.Ordering.{nat_cmp}
@@ -10,23 +10,10 @@ use Rattle.hwdb_spec.specs.Tree.Children.{NoMore}
 use Rattle.hwdb_writer.specs.Internal.Storable.{CanStand, IsNode, IsSound}
 use Rattle.hwdb_writer.specs.Internal.ValueEntries.{at_place}
 
--- what two lists begin with, and what is left of each
-pub record Meeting : Type 0 where
-  pub front : List ℕ
-  pub left : List ℕ
-  pub right : List ℕ
-
-abbrev pub behind : ℕ → Meeting → Meeting
-behind c m = record { front = c ∷ m.front; left = m.left; right = m.right }
-
-unfoldable pub meet : List ℕ → List ℕ → Meeting
-meet [] ys = record { front = []; left = []; right = ys }
-meet (x ∷ xs) [] = record { front = []; left = x ∷ xs; right = [] }
-meet (x ∷ xs) (y ∷ ys) = cond (nat_eq x y) (behind x (meet xs ys)) (record { front = []; left = x ∷ xs; right = y ∷ ys })
-
--- so many bytes are what the two begin with
-abbrev pub MeetAt : ℕ → List ℕ → List ℕ → Type 0
-MeetAt n a b = meet a b ≡ record { front = take n a; left = drop n a; right = drop n b }
+-- two lists begin with the same bytes, so many, and no more
+pub record MeetAt (n : ℕ) (xs ys : List ℕ) : Type 0 where
+  pub alike : take n xs ≡ take n ys
+  pub apart : n < length xs → n < length ys → slice_index xs n ≢ slice_index ys n
 
 -- a tree of one value
 abbrev pub single : List ℕ → Value → Tree
@@ -47,10 +34,10 @@ map_under path t = finite.from_entries (map entry_of (members_under path t))
 
 -- `u` is the tree `t` with the value set at the rest of a path
 pub record IsSet (rest : List ℕ) (v : Value) (t u : Tree) : Type 0 where
-  -- where `t` is a whole tree, `u` is one
+  -- a sound tree stays sound
   pub sound : CanStand 0 rest v → IsSound t → IsSound u
-  -- where `t` is a node below a path, `u` is one
+  -- and so does a node of one, below a path of so many bytes
   pub below : (used : ℕ) → CanStand used rest v → IsNode used t → IsNode used u
-  -- the map has the value at that place, and else what it had
+  -- the map, from any path on, is that of `t` with the value put at its place
   pub map : (path key : List ℕ) → key_of v.key ≡ Some key →
       map_under path u ≡ finite.insert (map_under path t) (path ++ rest, key) (at_place (path ++ rest, key) v)

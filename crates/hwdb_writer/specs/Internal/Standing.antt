@@ -26,5 +26,6 @@ tree_of b = (standing b).1
 abbrev pub byte_of : TrieNode → ℕ
 byte_of b = (standing b).0
 
+-- the prefix of a node
 abbrev pub prefix_in : TrieNode → List ℕ
 prefix_in b = (out-TrieNode b).prefix

@@ -43,7 +43,7 @@ pub record IsSound (t : Tree) : Type 0 where
   pub root : prefix_of t ≡ []
   pub storable : IsStorable 0 t
 
--- a node below a path of so many bytes
+-- a node of a sound tree, below a path of so many bytes
 pub record IsNode (used : ℕ) (t : Tree) : Type 0 where
   pub ordered : IsTree t
   pub forked : IsForked t

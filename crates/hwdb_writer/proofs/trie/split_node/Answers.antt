@@ -15,7 +15,7 @@ returns-then-at-rest-clause-ok c =
     let cut = c.in_ok-cut.cut in
     let lower : ℕ × Tree = (cut.byte, with_prefix cut.back (tree_of c.args.node.now)) in
     leaves_here c.args.node.now c.args.rest.now (value_of c.args.value) c.args.at c.requires.meeting
-    cut.front cut.byte cut.back c.in_ok-cut.ensures.whole c.in_ok-cut.ensures.front (omega (arith, c.if-at-rest.true)) _
+    cut.front cut.byte cut.back c.requires.inside c.in_ok-cut.ensures.whole c.in_ok-cut.ensures.front (omega (arith, c.if-at-rest.true)) _
     (c.push_down.ensures.tree ∙ (λ i. Node cut.front (c.in_ok-values.ensures i) (children_in (insert (map standing (c.in_ok-others.ensures.items i)) 0 lower))))
 
 pub returns-then-other-cut-clause-ok : goal.returns-then-other-cut-clause-ok
@@ -26,7 +26,7 @@ returns-then-other-cut-clause-ok c =
     let tree = rw take_rest at c.in_ok-leaf.ensures.tree in
     let others = c.in_ok-push.ensures.items ∙ ap (λ bs. bs ++ leaf ∷ []) c.in_ok-others-2.ensures.items in
     leaves_before c.args.node.now c.args.rest.now (value_of c.args.value) c.args.at c.requires.meeting
-    cut.front cut.byte cut.back c.in_ok-cut.ensures.whole c.in_ok-cut.ensures.front (omega (arith, c.requires.within, c.if-at-rest.false)) c.if-other-cut.true _
+    cut.front cut.byte cut.back c.requires.inside c.in_ok-cut.ensures.whole c.in_ok-cut.ensures.front (omega (arith, c.requires.within, c.if-at-rest.false)) c.if-other-cut.true _
     (c.push_down-then-other-cut.ensures.tree
     ∙ (λ i. Node cut.front (c.none-values.ensures i) (children_in (insert (map standing (others i)) 1 lower)))
     ∙ (λ i. Node cut.front [] (Child (c.in_ok-leaf.ensures.byte i) (tree i) (Child lower.0 lower.1 NoMore))))
@@ -40,7 +40,7 @@ returns-else-other-cut-clause-ok c =
     let others = c.in_ok-push.ensures.items ∙ ap (λ bs. bs ++ leaf ∷ []) c.in_ok-others-2.ensures.items in
     let order = c.if-other-cut.false in
     leaves_behind c.args.node.now c.args.rest.now (value_of c.args.value) c.args.at c.requires.meeting
-    cut.front cut.byte cut.back c.in_ok-cut.ensures.whole c.in_ok-cut.ensures.front (omega (arith, c.requires.within, c.if-at-rest.false)) (omega (arith, order)) _
+    cut.front cut.byte cut.back c.requires.inside c.in_ok-cut.ensures.whole c.in_ok-cut.ensures.front (omega (arith, c.requires.within, c.if-at-rest.false)) (omega (arith, order)) _
     (c.push_down-else-other-cut.ensures.tree
     ∙ (λ i. Node cut.front (c.none-values.ensures i) (children_in (insert (map standing (others i)) 0 lower)))
     ∙ (λ i. Node cut.front [] (Child lower.0 lower.1 (Child (c.in_ok-leaf.ensures.byte i) (tree i) NoMore))))
