@@ -1,28 +1,19 @@
--- A tree with a place set is sound.
-use Rattle.std.proofs.Common.{◌≡◌, ◌<◌, ◌≤◌, ℕ, suc, ◌+◌, ◌-◌, List, [], ◌∷◌, ◌++◌, length, length-append, Bool, true, false, cond, nat_lt, Option, Some, None, refl, sym, ◌∙◌, ap, subst, arith, Ordering, ◌⊎◌, inl, inr, ⊎_elim}
+-- A tree with a value set is sound.
+use Rattle.std.proofs.Common.{◌≡◌, ◌<◌, ◌≤◌, ℕ, ◌+◌, List, [], ◌∷◌, ◌++◌, length, length-append, Option, Some, None, refl, sym, subst, arith, Ordering}
 use Rattle.std.specs.declared.cmp.Ordering.TheVariants.{Less, Equal, Greater}
 use Rattle.std.specs.Ordering.{nat_cmp}
 use Rattle.std.specs.Cmp.Lexicographic.{slice_cmp, nat_list_cmp_total}
 use Rattle.std.specs.FinMap.{slice_cmp-IsAntisymmetric, nat_cmp-IsAntisymmetric}
 use Rattle.std.specs.FinMap.Entries.{by_order}
 use Rattle.std.specs.List.{AllByRecursion}
-use Rattle.std.proofs.lemmas.Bool.Decides.{nat_tests}
-use Rattle.std.proofs.lemmas.Cmp.{ranked}
-use Rattle.hwdb_spec.specs.Tree.{Value, Tree, Children, count, prefix_of, IsTree, BytesAscend, KeysAscend, IsAbove}
+use Rattle.hwdb_spec.specs.Tree.{Value, Tree, Children, count, IsTree, BytesAscend, KeysAscend, IsAbove}
 use Rattle.hwdb_spec.specs.Tree.Tree.{Node}
 use Rattle.hwdb_spec.specs.Tree.Children.{NoMore, Child}
 use Rattle.hwdb_spec.specs.Written.{IsTight, IsForked}
-use Rattle.hwdb_writer.specs.Internal.Setting.{meet, set_value, set_below, set_at, set_node, forked, single}
-use Rattle.hwdb_writer.specs.Internal.Storable.{IsText, IsStorableValue, IsStorable, AreStorable, IsSound}
+use Rattle.hwdb_writer.specs.Internal.Setting.{set_value, single}
+use Rattle.hwdb_writer.specs.Internal.Storable.{IsText, IsStorableValue, IsStorable, AreStorable, IsNode, CanStand}
 use Rattle.hwdb_spec.specs.Lines.{max_pattern}
 use Rattle.hwdb_writer.proofs.SearchLemmas.{turned_back}
-use Rattle.hwdb_writer.proofs.MapLemmas.{met, Differ}
-
-is_below : (a b : ℕ) → nat_cmp a b ≡ Less → a < b
-is_below a b e = ranked a b Less (sym e)
-
-is_over : (a b : ℕ) → nat_cmp a b ≡ Greater → b < a
-is_over a b e = ranked a b Greater (sym e)
 
 key_step : (before : Option (List ℕ)) (v w : Value) (vs : List Value) (r : Ordering) → slice_cmp nat_cmp v.key w.key ≡ r → IsAbove before v.key → KeysAscend before (w ∷ vs) →
     (slice_cmp nat_cmp w.key v.key ≡ Less → KeysAscend (Some w.key) (set_value v vs)) →
@@ -49,7 +40,7 @@ values_kept v (w ∷ vs) s a =
       | Greater ↦ (a.0, values_kept v vs s a.1)
     ]
 
-some_values : (v : Value) (vs : List Value) → 0 < length (set_value v vs)
+pub some_values : (v : Value) (vs : List Value) → 0 < length (set_value v vs)
 unfolding set_value
 some_values v [] = omega arith
 some_values v (w ∷ vs) =
@@ -64,24 +55,24 @@ pub record SoundAt (used : ℕ) (t : Tree) : Type 0 where
   pub ordered : IsTree t
   pub storable : IsStorable used t
 
-single_sound : (used : ℕ) (more : List ℕ) (v : Value) → IsText more → used + length more ≤ max_pattern → IsStorableValue v → SoundAt used (single more v)
+single_sound : (used : ℕ) (more : List ℕ) (v : Value) → CanStand used more v → SoundAt used (single more v)
 unfolding IsTree IsStorable
-single_sound used more v n l s = record { ordered = ((tt, tt), tt); storable = (n, l, (s, tt), tt) }
+single_sound used more v s = record { ordered = ((tt, tt), tt); storable = (s.text, s.short, (s.value, tt), tt) }
 
 single_forked : (more : List ℕ) (v : Value) → IsForked (single more v)
 unfolding IsTight count
 single_forked more v = omega arith
 
 -- children that ascend from a byte on, below a path of so many bytes
-record Kids (used before : ℕ) (ks : Children) : Type 0 where
-  ordered : BytesAscend before ks
-  storable : AreStorable used ks
+pub record Kids (used before : ℕ) (ks : Children) : Type 0 where
+  pub ordered : BytesAscend before ks
+  pub storable : AreStorable used ks
 
 kids : (used before d : ℕ) (t : Tree) (ks : Children) → before < d → d < 256 → IsForked t → SoundAt used t → Kids used d ks → Kids used before (Child d t ks)
 unfolding IsTree IsStorable
 kids used before d t ks lt small f s k = record { ordered = (lt, s.ordered, k.ordered); storable = (small, f, s.storable, k.storable) }
 
-no_kids : (used before : ℕ) → Kids used before NoMore
+pub no_kids : (used before : ℕ) → Kids used before NoMore
 unfolding IsTree IsStorable
 no_kids used before = record { ordered = tt; storable = tt }
 
@@ -106,13 +97,26 @@ node : (used : ℕ) (prefix : List ℕ) (values : List Value) (ks : Children) �
 unfolding IsTree IsStorable
 node used prefix values ks n l a h k = record { ordered = (h, k.ordered); storable = (n, l, a, k.storable) }
 
-below_kept : (used before d : ℕ) (more : List ℕ) (v : Value) (b : ℕ) (t : Tree) (ks : Children) (r : Ordering) → nat_cmp d b ≡ r → before < d → d < 256 → SoundAt used (single more v) → Opened used before b t ks →
-    SoundAt used (set_at more v t) → IsForked (set_at more v t) → (b < d → Kids used b (set_below d more v ks)) →
-    Kids used before (by_order r (Child d (single more v) (Child b t ks)) (Child b (set_at more v t) ks) (Child b t (set_below d more v ks)))
-below_kept used before d more v b t ks Less e lt small n o it f ik =
-    kids used before d _ _ lt small (single_forked more v) n (kids used d b t ks (is_below d b e) o.small o.needed o.first o.others)
-below_kept used before d more v b t ks Equal e lt small n o it f ik = kids used before b _ ks o.above o.small f it o.others
-below_kept used before d more v b t ks Greater e lt small n o it f ik = kids used before b t _ o.above o.small o.needed o.first (ik (is_over d b e))
+-- children of which one is new, one is another node, or one stands before what is kept
+module _ (used before d : ℕ) (more : List ℕ) (v : Value) (lt : before < d) (small : d < 256) (s : CanStand used more v) where
+  pub kids_end : Kids used before (Child d (single more v) NoMore)
+  kids_end = kids used before d _ NoMore lt small (single_forked more v) (single_sound used more v s) (no_kids used d)
+
+  pub kids_new : (b : ℕ) (t : Tree) (ks : Children) → d < b → Kids used before (Child b t ks) → Kids used before (Child d (single more v) (Child b t ks))
+  kids_new b t ks less h =
+      let o = open_kids used before b t ks h in
+      kids used before d _ _ lt small (single_forked more v) (single_sound used more v s) (kids used d b t ks less o.small o.needed o.first o.others)
+
+pub kids_hit : (used before d : ℕ) (t u : Tree) (ks : Children) → (IsNode used t → IsNode used u) → Kids used before (Child d t ks) → Kids used before (Child d u ks)
+kids_hit used before d t u ks f h =
+    let o = open_kids used before d t ks h in
+    let n = f (record { ordered = o.first.ordered; forked = o.needed; storable = o.first.storable }) in
+    kids used before d u ks o.above o.small n.forked (record { ordered = n.ordered; storable = n.storable }) o.others
+
+pub kids_more : (used before b : ℕ) (t : Tree) (ks ls : Children) → (Kids used b ks → Kids used b ls) → Kids used before (Child b t ks) → Kids used before (Child b t ls)
+kids_more used before b t ks ls f h =
+    let o = open_kids used before b t ks h in
+    kids used before b t ls o.above o.small o.needed o.first (f o.others)
 
 text_front : (xs ys : List ℕ) → IsText (xs ++ ys) → IsText xs
 text_front [] ys n = tt
@@ -121,31 +125,6 @@ text_front (x ∷ xs) ys n = (n.0, n.1, text_front xs ys n.2)
 text_back : (xs ys : List ℕ) → IsText (xs ++ ys) → IsText ys
 text_back [] ys n = n
 text_back (x ∷ xs) ys n = text_back xs ys n.2
-
-fork_by : (used : ℕ) (front : List ℕ) (c : ℕ) (lower : Tree) (d : ℕ) (more : List ℕ) (v : Value) → IsText front → used + length front ≤ max_pattern → 0 < c → c < 256 → IsForked lower → SoundAt (used + length front + 1) lower →
-    0 < d → d < 256 → SoundAt (used + length front + 1) (single more v) → (c ≡ d → ⊥) → (t : Bool) → nat_lt d c ≡ t →
-    SoundAt used (Node front [] (cond t (Child d (single more v) (Child c lower NoMore)) (Child c lower (Child d (single more v) NoMore))))
-fork_by used front c lower d more v n l pc sc f s pd sd one df true e =
-    node used front [] _ n l tt tt
-    (kids (used + length front + 1) 0 d _ _ pd sd (single_forked more v) one (kids (used + length front + 1) d c lower NoMore (grind (arith, nat_tests)) sc f s (no_kids (used + length front + 1) c)))
-fork_by used front c lower d more v n l pc sc f s pd sd one df false e =
-    node used front [] _ n l tt tt
-    (kids (used + length front + 1) 0 c lower _ pc sc f s (kids (used + length front + 1) c d _ NoMore (grind (arith, nat_tests)) sd (single_forked more v) one (no_kids (used + length front + 1) d)))
-
-fork_kept : (used : ℕ) (front : List ℕ) (c : ℕ) (lower : Tree) (right : List ℕ) (v : Value) (back : List ℕ) → IsText front → used + length front ≤ max_pattern → 0 < c → c < 256 → IsForked lower → SoundAt (used + length front + 1) lower →
-    IsText right → used + length front + length right ≤ max_pattern → IsStorableValue v → Differ (c ∷ back) right → SoundAt used (forked front c lower right v)
-fork_kept used front c lower [] v back n l pc sc f s nr lr sv df = node used front (v ∷ []) _ n l (sv, tt) (tt, tt) (kids (used + length front + 1) 0 c lower NoMore pc sc f s (no_kids (used + length front + 1) c))
-fork_kept used front c lower (d ∷ more) v back n l pc sc f s nr lr sv df =
-    fork_by used front c lower d more v n l pc sc f s nr.0 nr.1 (single_sound (used + length front + 1) more v nr.2 (omega (arith, lr)) sv) df (nat_lt d c) refl
-
-fork_forked : (front : List ℕ) (c : ℕ) (lower : Tree) (right : List ℕ) (v : Value) → IsForked (forked front c lower right v)
-unfolding IsTight count
-fork_forked front c lower [] v = omega arith
-fork_forked front c lower (d ∷ more) v =
-    elim (nat_lt d c) as (λ t. IsForked (Node front [] (cond t (Child d (single more v) (Child c lower NoMore)) (Child c lower (Child d (single more v) NoMore))))) [
-      | true ↦ omega arith
-      | false ↦ omega arith
-    ]
 
 record Parts (used : ℕ) (prefix : List ℕ) (values : List Value) (children : Children) : Type 0 where
   texts : IsText prefix
@@ -173,88 +152,32 @@ lower_kept used front c back values children p =
     let e : used + length (front ++ c ∷ back) + 1 ≡ used + length front + 1 + length back + 1 = omega (arith, l) in
     node (used + length front + 1) back values children t.2 (omega (arith, l, p.short)) p.good p.keys (subst P e p.below)
 
--- what is cut had a value or two children, and what is left of it still has
-cut_forked : (prefix : List ℕ) (values : List Value) (children : Children) (front : List ℕ) (c : ℕ) (back : List ℕ) → prefix ≡ front ++ c ∷ back → IsForked (Node prefix values children) ⊎ (prefix ≡ []) → IsForked (Node back values children)
-unfolding IsTight
-cut_forked prefix values children front c back e need =
-    ⊎_elim {C = 0 < length values + (count children - 1)} (λ f. f) (λ none. let l = ap length (sym none ∙ e) in let k = length-append front (c ∷ back) in absurd (omega (arith, l, k))) need
+-- where a value can stand behind a prefix and a byte, it can stand below them
+module _ (used : ℕ) (prefix : List ℕ) (d : ℕ) (more : List ℕ) (v : Value) (s : CanStand used (prefix ++ d ∷ more) v) where
+  pub stand_byte : (0 < d) × (d < 256)
+  stand_byte = let t = text_back prefix (d ∷ more) s.text in (t.0, t.1)
 
-node_kept : (used : ℕ) (below : ℕ → List ℕ → Children) (prefix : List ℕ) (values : List Value) (children : Children) (front left right : List ℕ) (v : Value) →
-    ((d : ℕ) (more : List ℕ) → right ≡ d ∷ more → left ≡ [] → Kids (used + length prefix + 1) 0 (below d more)) → Parts used prefix values children → prefix ≡ front ++ left → IsText right → used + length front + length right ≤ max_pattern →
-    IsStorableValue v → IsForked (Node prefix values children) ⊎ (prefix ≡ []) → Differ left right → SoundAt used (set_node below prefix values children front left right v)
-node_kept used below prefix values children front [] [] v ih p e nr lr sv need df =
+  pub stand_below : CanStand (used + length prefix + 1) more v
+  stand_below =
+      let l = length-append prefix (d ∷ more) in
+      record { text = (text_back prefix (d ∷ more) s.text).2; short = omega (arith, l, s.short); value = s.value }
+
+pub here_kept : (used : ℕ) (prefix : List ℕ) (v : Value) (values : List Value) (children : Children) → IsStorableValue v → SoundAt used (Node prefix values children) → SoundAt used (Node prefix (set_value v values) children)
+here_kept used prefix v values children sv s =
+    let p = parts used prefix values children s in
     node used prefix (set_value v values) children p.texts p.short (values_kept v values sv p.good) (keys_kept None v values tt p.keys) p.below
-node_kept used below prefix values children front [] (d ∷ more) v ih p e nr lr sv need df = node used prefix values (below d more) p.texts p.short p.good p.keys (ih d more refl refl)
-node_kept used below prefix values children front (c ∷ back) right v ih p e nr lr sv need df =
-    let q = subst (λ (xs : List ℕ). Parts used xs values children) e p in
+
+pub deeper_kept : (used : ℕ) (prefix : List ℕ) (values : List Value) (ks ls : Children) → (Kids (used + length prefix + 1) 0 ks → Kids (used + length prefix + 1) 0 ls) → SoundAt used (Node prefix values ks) → SoundAt used (Node prefix values ls)
+deeper_kept used prefix values ks ls f s =
+    let p = parts used prefix values ks s in
+    node used prefix values ls p.texts p.short p.good p.keys (f p.below)
+
+-- a node that is cut in its prefix
+pub cut_kept : (used : ℕ) (front : List ℕ) (c : ℕ) (back : List ℕ) (values : List Value) (children : Children) → IsForked (Node back values children) →
+    SoundAt used (Node (front ++ c ∷ back) values children) → SoundAt used (Node front [] (Child c (Node back values children) NoMore))
+cut_kept used front c back values children f s =
+    let p = parts used (front ++ c ∷ back) values children s in
+    let t = text_back front (c ∷ back) p.texts in
     let l = length-append front (c ∷ back) in
-    let t = text_back front (c ∷ back) q.texts in
-    fork_kept used front c (Node back values children) right v back (text_front front (c ∷ back) q.texts) (omega (arith, l, q.short)) t.0 t.1 (cut_forked prefix values children front c back e need)
-    (lower_kept used front c back values children q) nr lr sv df
-
-count_kept : (d : ℕ) (more : List ℕ) (v : Value) (ks : Children) → count ks ≤ count (set_below d more v ks)
-unfolding set_at count
-count_kept d more v NoMore = omega arith
-count_kept d more v (Child b t ks) =
-    let h = count_kept d more v ks in
-    elim (nat_cmp d b) as (λ r. suc (count ks) ≤ count (by_order r (Child d (single more v) (Child b t ks)) (Child b (set_at more v t) ks) (Child b t (set_below d more v ks)))) [
-      | Less ↦ omega arith
-      | Equal ↦ omega arith
-      | Greater ↦ omega (arith, h)
-    ]
-
-node_forked : (below : ℕ → List ℕ → Children) (prefix : List ℕ) (values : List Value) (children : Children) (front left right : List ℕ) (v : Value) → ((d : ℕ) (more : List ℕ) → count children ≤ count (below d more)) →
-    IsForked (Node prefix values children) → IsForked (set_node below prefix values children front left right v)
-unfolding IsTight
-node_forked below prefix values children front [] [] v h f = let s = some_values v values in omega (arith, s)
-node_forked below prefix values children front [] (d ∷ more) v h f = let k = h d more in omega (arith, k, f)
-node_forked below prefix values children front (c ∷ back) right v h f = fork_forked front c (Node back values children) right v
-
-set_forked : (rest : List ℕ) (v : Value) (t : Tree) → IsForked t → IsForked (set_at rest v t)
-unfolding set_at
-set_forked rest v (Node prefix values children) f =
-    node_forked (λ d more. set_below d more v children) prefix values children (meet prefix rest).front (meet prefix rest).left (meet prefix rest).right v (λ d more. count_kept d more v children) f
-
--- how far a rest goes
-rest_short : (used : ℕ) (prefix rest front left right : List ℕ) (d : ℕ) (more : List ℕ) → used + length rest ≤ max_pattern → prefix ≡ front ++ left → rest ≡ front ++ right → right ≡ d ∷ more → left ≡ [] → used + length prefix + 1 + length more ≤ max_pattern
-rest_short used prefix rest front left right d more l p r e f =
-    let a = ap length p ∙ length-append front left in
-    let b = ap length r ∙ length-append front right in
-    let x = ap length e in
-    let y = ap length f in
-    omega (arith, a, b, x, y, l)
-
-mutual
-  unfolding set_at prefix_of
-
-  pub set_kept : (used : ℕ) (rest : List ℕ) (v : Value) (t : Tree) → IsText rest → used + length rest ≤ max_pattern → IsStorableValue v → IsForked t ⊎ (prefix_of t ≡ []) → SoundAt used t → SoundAt used (set_at rest v t)
-  set_kept used rest v (Node prefix values children) n l sv need s =
-      let p = parts used prefix values children s in
-      let ih = λ (d : ℕ) (more : List ℕ) (lt : 0 < d) (small : d < 256) (z : IsText more) (k : used + length prefix + 1 + length more ≤ max_pattern). kids_kept (used + length prefix + 1) 0 d more v children lt small z k sv p.below in
-      let m = met prefix rest in
-      let r = text_back (meet prefix rest).front _ (subst IsText m.second n) in
-      let k = ap length m.second ∙ length-append (meet prefix rest).front (meet prefix rest).right in
-      node_kept used (λ d more. set_below d more v children) prefix values children (meet prefix rest).front (meet prefix rest).left (meet prefix rest).right v
-      (λ d more e f. let g = subst IsText e r in ih d more g.0 g.1 g.2 (rest_short used prefix rest _ _ _ d more l m.first m.second e f))
-      p m.first r (omega (arith, k, l)) sv need m.parted
-
-  kids_kept : (used before d : ℕ) (more : List ℕ) (v : Value) (ks : Children) → before < d → d < 256 → IsText more → used + length more ≤ max_pattern → IsStorableValue v → Kids used before ks → Kids used before (set_below d more v ks)
-  kids_kept used before d more v NoMore lt small n l sv k = kids used before d _ NoMore lt small (single_forked more v) (single_sound used more v n l sv) (no_kids used d)
-  kids_kept used before d more v (Child b t ks) lt small n l sv k =
-      let o = open_kids used before b t ks k in
-      below_kept used before d more v b t ks (nat_cmp d b) refl lt small (single_sound used more v n l sv) o (set_kept used more v t n l sv (inl o.needed) o.first) (set_forked more v t o.needed)
-      (λ lower. kids_kept used b d more v ks lower small n l sv o.others)
-
-root_kept : (rest : List ℕ) (v : Value) (t : Tree) → prefix_of t ≡ [] → prefix_of (set_at rest v t) ≡ []
-unfolding set_at prefix_of meet
-root_kept rest v (Node prefix values children) e = by prefix e rest
-  where
-    by : (prefix : List ℕ) → prefix ≡ [] → (rest : List ℕ) → prefix_of (set_at rest v (Node prefix values children)) ≡ []
-    by [] e [] = refl
-    by [] e (x ∷ xs) = refl
-    by (p ∷ ps) e rest = absurd (let l = ap length e in omega (arith, l))
-
-pub put_kept : (rest : List ℕ) (v : Value) (t : Tree) → IsText rest → length rest ≤ max_pattern → IsStorableValue v → IsSound t → IsSound (set_at rest v t)
-put_kept rest v t n l sv s =
-    let k = set_kept 0 rest v t n (omega (arith, l)) sv (inr s.root) (record { ordered = s.ordered; storable = s.storable }) in
-    record { ordered = k.ordered; root = root_kept rest v t s.root; storable = k.storable }
+    node used front [] _ (text_front front (c ∷ back) p.texts) (omega (arith, l, p.short)) tt tt
+    (kids (used + length front + 1) 0 c _ NoMore t.0 t.1 f (lower_kept used front c back values children p) (no_kids (used + length front + 1) c))

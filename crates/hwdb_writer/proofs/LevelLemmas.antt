@@ -1,18 +1,18 @@
 -- One level of a set, at an opened node.
-use Rattle.std.proofs.Common.{◌≡◌, ◌≤◌, ◌<◌, ℕ, zero, suc, ◌+◌, List, [], ◌∷◌, length, map, get_or, take, drop, true, false, cond, nat_lt, None, refl, sym, ◌∙◌, ap, subst, arith, add-one}
+use Rattle.std.proofs.Common.{◌≡◌, ◌≤◌, ◌<◌, ℕ, zero, suc, ◌+◌, List, [], ◌∷◌, ◌++◌, length, map, get_or, take, drop, None, refl, sym, ◌∙◌, ap, subst, arith, add-one}
 use Rattle.std.proofs.Math.Seq.{drop-cons}
-use Rattle.std.proofs.lemmas.List.{drop_all}
-use Rattle.std.proofs.lemmas.Bool.Decides.{nat_tests}
+use Rattle.std.proofs.lemmas.List.{drop_all, take-append-drop}
 use Rattle.std.specs.List.{insert}
-use Rattle.hwdb_spec.specs.Tree.{Value, Tree, Children, IsTree, BytesAscend, KeysAscend, values_of}
+use Rattle.hwdb_spec.specs.Tree.{Value, Tree, Children, count, IsTree, BytesAscend, KeysAscend}
 use Rattle.hwdb_spec.specs.Tree.Tree.{Node}
 use Rattle.hwdb_spec.specs.Tree.Children.{NoMore, Child}
 use Rattle.hwdb_writer.specs.declared.trie.TrieNode.{TrieNode}
 use Rattle.hwdb_writer.specs.declared.trie.TrieNode.TheViews.{out-TrieNode}
-use Rattle.hwdb_writer.specs.Internal.Standing.{standing, children_in, byte_of, tree_of}
-use Rattle.hwdb_writer.specs.Internal.Setting.{set_value, set_below, set_at, set_node, forked, reached, single, below_of}
+use Rattle.hwdb_writer.specs.Internal.Standing.{standing, children_in, byte_of, tree_of, prefix_in}
+use Rattle.hwdb_writer.specs.Internal.Setting.{MeetAt, IsSet, set_value, single, with_prefix}
 use Rattle.hwdb_writer.proofs.StandingLemmas.{opened}
-use Rattle.hwdb_writer.proofs.MeetingLemmas.{IsEnd}
+use Rattle.hwdb_writer.proofs.MapLemmas.{append_nil, cancel}
+use Rattle.hwdb_writer.proofs.SettingLemmas.{SetBelow, below_end, below_new, below_more, set_here, set_deeper, cut_here, cut_deeper, set_like}
 
 pub map-insert : {X Y : Type 0} (f : X → Y) (xs : List X) (i : ℕ) (y : X) → map f (insert xs i y) ≡ insert (map f xs) i (f y)
 map-insert f [] zero y = refl
@@ -20,48 +20,13 @@ map-insert f [] (suc i) y = refl
 map-insert f (x ∷ xs) zero y = refl
 map-insert f (x ∷ xs) (suc i) y = ap (λ zs. f x ∷ zs) (map-insert f xs i y)
 
-is_less : (a b : ℕ) → a < b → nat_lt a b ≡ true
-is_less a b h = grind (arith, nat_tests)
-
-not_less : (a b : ℕ) → b ≤ a → nat_lt a b ≡ false
-not_less a b h = grind (arith, nat_tests)
-
 pub drop_at : (xs : List ℕ) (i : ℕ) → i < length xs → drop i xs ≡ get_or xs i 0 ∷ drop (i + 1) xs
 drop_at xs i h = rw (add-one, drop-cons xs i 0 h)
 
-pub fork_before : (front : List ℕ) (c : ℕ) (lower : Tree) (right : List ℕ) (d : ℕ) (more : List ℕ) (v : Value) → right ≡ d ∷ more → d < c →
-    forked front c lower right v ≡ Node front [] (Child d (single more v) (Child c lower NoMore))
-fork_before front c lower right d more v e lt =
-    ap (λ r. forked front c lower r v) e
-    ∙ ap (λ b. Node front [] (cond b (Child d (single more v) (Child c lower NoMore)) (Child c lower (Child d (single more v) NoMore)))) (is_less d c lt)
-
-pub fork_behind : (front : List ℕ) (c : ℕ) (lower : Tree) (right : List ℕ) (d : ℕ) (more : List ℕ) (v : Value) → right ≡ d ∷ more → c ≤ d →
-    forked front c lower right v ≡ Node front [] (Child c lower (Child d (single more v) NoMore))
-fork_behind front c lower right d more v e le =
-    ap (λ r. forked front c lower r v) e
-    ∙ ap (λ b. Node front [] (cond b (Child d (single more v) (Child c lower NoMore)) (Child c lower (Child d (single more v) NoMore)))) (not_less d c le)
-
--- a node that was split, with one other child
-module _ (new : Tree) (p rest : List ℕ) (at : ℕ) (v : Value) (vs : List Value) (below : Children) (front back : List ℕ) (none : List Value) (others : List TrieNode) (leaf : TrieNode) (byte : ℕ) where
-  pub split_before : new ≡ Node front none (children_in (insert (map standing others) 1 (byte, Node back vs below))) → front ≡ take at p → back ≡ drop (at + 1) p
-      → byte ≡ get_or p at 0 → none ≡ [] → others ≡ leaf ∷ [] → byte_of leaf ≡ get_or rest at 0 → tree_of leaf ≡ single (drop (at + 1) rest) v
-      → at < length rest → get_or rest at 0 < get_or p at 0 → new ≡ forked (take at p) (get_or p at 0) (Node (drop (at + 1) p) vs below) (drop at rest) v
-  split_before is f b c n o d t lt less =
-      is ∙ (λ i. Node (f i) (n i) (children_in (insert (map standing (o i)) 1 (c i, Node (b i) vs below))))
-      ∙ (λ i. Node (take at p) [] (Child (d i) (t i) (Child (get_or p at 0) (Node (drop (at + 1) p) vs below) NoMore)))
-      ∙ sym (fork_before (take at p) (get_or p at 0) (Node (drop (at + 1) p) vs below) (drop at rest) (get_or rest at 0) (drop (at + 1) rest) v (drop_at rest at lt) less)
-
-  pub split_behind : new ≡ Node front none (children_in (insert (map standing others) 0 (byte, Node back vs below))) → front ≡ take at p → back ≡ drop (at + 1) p
-      → byte ≡ get_or p at 0 → none ≡ [] → others ≡ leaf ∷ [] → byte_of leaf ≡ get_or rest at 0 → tree_of leaf ≡ single (drop (at + 1) rest) v
-      → at < length rest → get_or p at 0 ≤ get_or rest at 0 → new ≡ forked (take at p) (get_or p at 0) (Node (drop (at + 1) p) vs below) (drop at rest) v
-  split_behind is f b c n o d t lt least =
-      is ∙ (λ i. Node (f i) (n i) (children_in (insert (map standing (o i)) 0 (c i, Node (b i) vs below))))
-      ∙ (λ i. Node (take at p) [] (Child (get_or p at 0) (Node (drop (at + 1) p) vs below) (Child (d i) (t i) NoMore)))
-      ∙ sym (fork_behind (take at p) (get_or p at 0) (Node (drop (at + 1) p) vs below) (drop at rest) (get_or rest at 0) (drop (at + 1) rest) v (drop_at rest at lt) least)
-
-module _ (b : TrieNode) (rest : List ℕ) (v : Value) (at : ℕ) where
+-- one level of a set, in the node `b`, whose prefix meets the rest at `at`
+module _ (b : TrieNode) (rest : List ℕ) (v : Value) (at : ℕ) (meets : MeetAt at (prefix_in b) rest) where
   abbrev p : List ℕ
-  p = (out-TrieNode b).prefix
+  p = prefix_in b
 
   abbrev vals : List Value
   vals = (out-TrieNode b).values
@@ -69,35 +34,69 @@ module _ (b : TrieNode) (rest : List ℕ) (v : Value) (at : ℕ) where
   abbrev kids : Children
   kids = children_in (map standing (out-TrieNode b).children.items)
 
-  abbrev below : ℕ → List ℕ → Children
-  below d more = set_below d more v kids
+  whole : length p ≤ at → take at p ≡ p
+  whole le = sym (append_nil (take at p)) ∙ ap (λ l. take at p ++ l) (sym (drop_all at p le)) ∙ take-append-drop at p
 
-  set_opened : IsEnd at p rest → set_at rest v (tree_of b) ≡ set_node below p vals kids (take at p) (drop at p) (drop at rest) v
-  unfolding set_at
-  set_opened e = ap (set_at rest v) (opened b) ∙ ap (λ m. set_node below p vals kids m.front m.left m.right v) e
+  ended : length rest ≤ at → rest ≡ take at p
+  ended le = sym (take-append-drop at rest) ∙ ap (λ l. take at rest ++ l) (drop_all at rest le) ∙ append_nil (take at rest) ∙ sym meets.alike
 
-  parts : Node (drop (at + 1) p) (values_of (tree_of b)) (below_of (tree_of b)) ≡ Node (drop (at + 1) p) vals kids
-  unfolding values_of below_of
-  parts = λ i. Node (drop (at + 1) p) (values_of (opened b i)) (below_of (opened b i))
+  gone : at < length rest → rest ≡ take at p ++ get_or rest at 0 ∷ drop (at + 1) rest
+  gone lt = sym (take-append-drop at rest) ∙ (λ i. sym meets.alike i ++ drop_at rest at lt i)
 
-  pub forks : IsEnd at p rest → at < length p →
-      set_at rest v (tree_of b) ≡ forked (take at p) (get_or p at 0) (Node (drop (at + 1) p) (values_of (tree_of b)) (below_of (tree_of b))) (drop at rest) v
-  forks e lt =
-      set_opened e
-      ∙ ap (λ l. set_node below p vals kids (take at p) l (drop at rest) v) (drop_at p at lt)
-      ∙ ap (λ t. forked (take at p) (get_or p at 0) t (drop at rest) v) (sym parts)
+  pub ends : length p ≤ at → length rest ≤ at → (u : Tree) → u ≡ Node p (set_value v vals) kids → IsSet rest v (tree_of b) u
+  ends le lr u e = set_like p rest v _ _ _ u (sym (ended lr ∙ whole le)) (sym (opened b)) (sym e) (set_here p v vals kids)
 
-  pub ends : IsEnd at p rest → length p ≤ at → length rest ≤ at → set_at rest v (tree_of b) ≡ Node p (set_value v vals) kids
-  ends e le lr =
-      set_opened e
-      ∙ ap (λ l. set_node below p vals kids (take at p) l (drop at rest) v) (drop_all at p le)
-      ∙ ap (λ r. reached below p vals kids r v) (drop_all at rest lr)
+  pub goes : length p ≤ at → at < length rest → (ls : Children) (u : Tree) → SetBelow (get_or rest at 0) (drop (at + 1) rest) v kids ls → u ≡ Node p vals ls → IsSet rest v (tree_of b) u
+  goes le lt ls u is e =
+      let d = get_or rest at 0 in
+      let more = drop (at + 1) rest in
+      set_like (p ++ d ∷ more) rest v _ _ _ u (sym (gone lt ∙ ap (λ l. l ++ d ∷ more) (whole le))) (sym (opened b)) (sym e) (set_deeper p d more v vals kids ls is)
 
-  pub goes : IsEnd at p rest → length p ≤ at → at < length rest → set_at rest v (tree_of b) ≡ Node p vals (set_below (get_or rest at 0) (drop (at + 1) rest) v kids)
-  goes e le lt =
-      set_opened e
-      ∙ ap (λ l. set_node below p vals kids (take at p) l (drop at rest) v) (drop_all at p le)
-      ∙ ap (λ r. reached below p vals kids r v) (drop_at rest at lt)
+  -- where the rest leaves the prefix, which was cut there
+  module _ (front : List ℕ) (c : ℕ) (back : List ℕ) (inside : at < length p) (whole : p ≡ front ++ c ∷ back) (first : front ≡ take at p) where
+    abbrev lower : Tree
+    lower = with_prefix back (tree_of b)
+
+    lower_is : Node back vals kids ≡ lower
+    unfolding with_prefix
+    lower_is = ap (with_prefix back) (sym (opened b))
+
+    old_is : Node (front ++ c ∷ back) vals kids ≡ tree_of b
+    old_is = ap (λ l. Node l vals kids) (sym whole) ∙ sym (opened b)
+
+    pub leaves_here : length rest ≤ at → (u : Tree) → u ≡ Node front (v ∷ []) (Child c lower NoMore) → IsSet rest v (tree_of b) u
+    leaves_here lr u e =
+        set_like front rest v _ _ _ u (first ∙ sym (ended lr)) old_is (ap (λ t. Node front (v ∷ []) (Child c t NoMore)) lower_is ∙ sym e)
+        (cut_here front c back v vals kids)
+
+    leaves : at < length rest → (ls : Children) (u : Tree) → 1 < count ls → SetBelow (get_or rest at 0) (drop (at + 1) rest) v (Child c (Node back vals kids) NoMore) ls → u ≡ Node front [] ls → IsSet rest v (tree_of b) u
+    leaves lt ls u two is e =
+        let d = get_or rest at 0 in
+        let more = drop (at + 1) rest in
+        set_like (front ++ d ∷ more) rest v _ _ _ u (ap (λ l. l ++ d ∷ more) first ∙ sym (gone lt)) old_is (sym e) (cut_deeper front c back v vals kids d more ls two is)
+
+    differ : at < length rest → c ≡ get_or rest at 0 → ⊥
+    differ lt same =
+        let cut : take at p ++ drop at p ≡ take at p ++ c ∷ back = take-append-drop at p ∙ whole ∙ ap (λ l. l ++ c ∷ back) first in
+        let byte : get_or p at 0 ≡ c = let e = sym (drop_at p at inside) ∙ cancel (take at p) (drop at p) (c ∷ back) cut in cc in
+        meets.apart inside lt (byte ∙ same)
+
+    pub leaves_before : at < length rest → get_or rest at 0 < c → (u : Tree) → u ≡ Node front [] (Child (get_or rest at 0) (single (drop (at + 1) rest) v) (Child c lower NoMore)) → IsSet rest v (tree_of b) u
+    unfolding count
+    leaves_before lt less u e =
+        let d = get_or rest at 0 in
+        let more = drop (at + 1) rest in
+        leaves lt _ u (omega arith) (below_new d more v c (Node back vals kids) NoMore less)
+        (e ∙ ap (λ t. Node front [] (Child d (single more v) (Child c t NoMore))) (sym lower_is))
+
+    pub leaves_behind : at < length rest → c ≤ get_or rest at 0 → (u : Tree) → u ≡ Node front [] (Child c lower (Child (get_or rest at 0) (single (drop (at + 1) rest) v) NoMore)) → IsSet rest v (tree_of b) u
+    unfolding count
+    leaves_behind lt least u e =
+        let d = get_or rest at 0 in
+        let more = drop (at + 1) rest in
+        let less : c < d = let apart = differ lt in grind (arith, apart, least) in
+        leaves lt _ u (omega arith) (below_more d more v c (Node back vals kids) NoMore _ less (below_end d more v))
+        (e ∙ ap (λ t. Node front [] (Child c t (Child d (single more v) NoMore))) (sym lower_is))
 
 pub keys_up : (b : TrieNode) → IsTree (tree_of b) → KeysAscend None (out-TrieNode b).values
 unfolding IsTree

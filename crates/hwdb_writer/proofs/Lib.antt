@@ -1,6 +1,7 @@
 pub mod MeetingLemmas
 pub mod StandingLemmas
 pub mod SearchLemmas
+pub mod SettingLemmas
 pub mod StepLemmas
 pub mod LevelLemmas
 pub mod RollLemmas

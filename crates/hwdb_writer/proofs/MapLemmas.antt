@@ -1,17 +1,17 @@
 -- To set a place of a tree is to set it in the map.
-use Rattle.std.proofs.Common.{◌≡◌, ℕ, List, [], ◌∷◌, ◌++◌, map, flat_map, Bool, true, false, cond, Option, Some, None, refl, sym, ◌∙◌, ap, subst, arith, append_assoc, eqb, nat_lt, Ordering, option_map}
+use Rattle.std.proofs.Common.{◌≡◌, ℕ, List, [], ◌∷◌, ◌++◌, map, flat_map, Bool, true, false, cond, Option, Some, None, refl, sym, ◌∙◌, ap, subst, arith, append_assoc, eqb, Ordering, option_map}
 use Rattle.std.specs.declared.cmp.Ordering.TheVariants.{Less, Equal, Greater}
 use Rattle.std.specs.Ordering.{nat_cmp, eq_by_cmp, is_eq, ordering_then}
-use Rattle.std.specs.Cmp.{IsTotalOrder, then_total, on_total, nat_cmp_total, tied_itself}
+use Rattle.std.specs.Cmp.{IsTotalOrder, then_total, on_total, tied_itself}
 use Rattle.std.specs.Cmp.Lexicographic.{slice_cmp, nat_list_cmp_total}
-use Rattle.std.specs.FinMap.{IsAntisymmetric, slice_cmp-IsAntisymmetric, nat_cmp-IsAntisymmetric, get, get-from_entries, get-insert, same_map, insert}
+use Rattle.std.specs.FinMap.{FinMap, IsAntisymmetric, slice_cmp-IsAntisymmetric, nat_cmp-IsAntisymmetric, get, get-from_entries, get-insert, same_map, insert}
 use Rattle.std.specs.FinMap.Entries.{by_order, find}
 use Rattle.std.proofs.lemmas.Bool.Decides.{nat_tests}
 use Rattle.hwdb_spec.specs.Assignment.{Assignment}
-use Rattle.hwdb_spec.specs.Tree.{Value, Tree, Children, place_cmp, entry_of, assigned_at, values_under, values_below, map_of, key_of}
+use Rattle.hwdb_spec.specs.Tree.{Value, Tree, Children, place_cmp, entry_of, assigned_at, values_under, values_below, key_of}
 use Rattle.hwdb_spec.specs.Tree.Tree.{Node}
 use Rattle.hwdb_spec.specs.Tree.Children.{NoMore, Child}
-use Rattle.hwdb_writer.specs.Internal.Setting.{Meeting, meet, behind, set_value, set_below, set_at, set_node, forked, single}
+use Rattle.hwdb_writer.specs.Internal.Setting.{set_value, single, map_under}
 
 abbrev pub Place : Type 0
 Place = List ℕ × List ℕ
@@ -153,39 +153,8 @@ mutual
       found_both q (values_under (path ++ b ∷ []) t) (values_below path ks)
       ∙ (λ i. either (off_tree q (path ++ b ∷ []) t (off_deeper path (b ∷ []) q.0 h) i) (off_children q path ks h i))
 
--- what a meeting says of its two lists
-abbrev pub Differ : List ℕ → List ℕ → Type 0
-Differ [] ys = Unit {0}
-Differ (x ∷ xs) [] = Unit {0}
-Differ (x ∷ xs) (y ∷ ys) = x ≡ y → ⊥
-
-pub record Met (a b : List ℕ) (m : Meeting) : Type 0 where
-  pub first : a ≡ m.front ++ m.left
-  pub second : b ≡ m.front ++ m.right
-  pub parted : Differ m.left m.right
-
-alike : (x y : ℕ) → eqb x y ≡ true → x ≡ y
-alike x y e = grind (arith, nat_tests)
-
-unlike : (x y : ℕ) → eqb x y ≡ false → x ≡ y → ⊥
-unlike x y e s = grind (arith, nat_tests)
-
-met_more : (t : Bool) (x y : ℕ) (a b : List ℕ) → eqb x y ≡ t → Met a b (meet a b) → Met (x ∷ a) (y ∷ b) (cond t (behind x (meet a b)) (record { front = []; left = x ∷ a; right = y ∷ b }))
-met_more true x y a b e h = record {
-  first = ap (λ zs. x ∷ zs) h.first;
-  second = λ i. sym (alike x y e) i ∷ h.second i;
-  parted = h.parted;
-}
-met_more false x y a b e h = record { first = refl; second = refl; parted = unlike x y e }
-
-pub met : (a b : List ℕ) → Met a b (meet a b)
-unfolding meet
-met [] b = record { first = refl; second = refl; parted = tt }
-met (x ∷ a) [] = record { first = refl; second = refl; parted = tt }
-met (x ∷ a) (y ∷ b) = met_more (eqb x y) x y a b refl (met a b)
-
 -- `q` is found where it was set, before what was there
-abbrev Sets : Place → Place → Value → List Entry → List Entry → Type 0
+abbrev pub Sets : Place → Place → Value → List Entry → List Entry → Type 0
 Sets q p v new old = found q new ≡ cond (is_at q p) (Some (given v)) (found q old)
 
 pub is_place : (q p : Place) → is_at q p ≡ true → q ≡ p
@@ -216,6 +185,9 @@ differs q p h = no (place_cmp q p) refl
     no Less e = refl
     no Equal e = absurd (h (place_same q p e))
     no Greater e = refl
+
+alike : (x y : ℕ) → eqb x y ≡ true → x ≡ y
+alike x y e = grind (arith, nat_tests)
 
 pub stored_is : (xs k : List ℕ) → key_of xs ≡ Some k → xs ≡ 32 ∷ k
 stored_is [] k e = absurd (cc)
@@ -286,29 +258,34 @@ leaf_sets q path d more v k e xs =
     let P : List ℕ → Type 0 = λ p. Sets q (p, k) v (((path ++ d ∷ []) ++ more, v) ∷ xs) xs in
     subst P (append_assoc path (d ∷ []) more) (front_sets q ((path ++ d ∷ []) ++ more) v k e xs)
 
-below_step : (q : Place) (path : List ℕ) (d : ℕ) (more : List ℕ) (v : Value) (k : List ℕ) → key_of v.key ≡ Some k → (b : ℕ) (t : Tree) (ks : Children) (r : Ordering) → nat_cmp d b ≡ r →
-    Sets q ((path ++ b ∷ []) ++ more, k) v (values_under (path ++ b ∷ []) (set_at more v t)) (values_under (path ++ b ∷ []) t) →
-    Sets q (path ++ d ∷ more, k) v (values_below path (set_below d more v ks)) (values_below path ks) →
-    Sets q (path ++ d ∷ more, k) v
-    (values_below path (by_order r (Child d (single more v) (Child b t ks)) (Child b (set_at more v t) ks) (Child b t (set_below d more v ks))))
-    (values_below path (Child b t ks))
+-- children of which one is new, one has the value set below it, or one stands before it
+pub sets_new : (q : Place) (path : List ℕ) (d : ℕ) (more : List ℕ) (v : Value) (k : List ℕ) → key_of v.key ≡ Some k → (ks : Children) →
+    Sets q (path ++ d ∷ more, k) v (values_below path (Child d (single more v) ks)) (values_below path ks)
 unfolding values_under
-below_step q path d more v k e b t ks Less h it ik = leaf_sets q path d more v k e (values_below path (Child b t ks))
-below_step q path d more v k e b t ks Equal h it ik =
-    let here = path ++ b ∷ [] in
+sets_new q path d more v k e ks = leaf_sets q path d more v k e (values_below path ks)
+
+pub sets_hit : (q : Place) (path : List ℕ) (d : ℕ) (more : List ℕ) (v : Value) (k : List ℕ) (t u : Tree) (ks : Children) →
+    Sets q ((path ++ d ∷ []) ++ more, k) v (values_under (path ++ d ∷ []) u) (values_under (path ++ d ∷ []) t) →
+    Sets q (path ++ d ∷ more, k) v (values_below path (Child d u ks)) (values_below path (Child d t ks))
+unfolding values_under
+sets_hit q path d more v k t u ks it =
+    let here = path ++ d ∷ [] in
     let old = values_under here t in
-    let new = values_under here (set_at more v t) in
+    let new = values_under here u in
     let rest = values_below path ks in
     let P : List ℕ → Type 0 = λ p. Sets q (p, k) v (new ++ rest) (old ++ rest) in
-    let pattern : here ++ more ≡ path ++ d ∷ more = append_assoc path (b ∷ []) more ∙ ap (λ c. path ++ c ∷ more) (sym (nat_cmp-IsAntisymmetric d b h)) in
-    subst P pattern
+    subst P (append_assoc path (d ∷ []) more)
     (found_both q new rest ∙ ap (λ o. either o (found q rest)) it
     ∙ either_cond (is_at q (here ++ more, k)) (found q old) (found q rest) (given v)
     ∙ ap (cond (is_at q (here ++ more, k)) (Some (given v))) (sym (found_both q old rest)))
-below_step q path d more v k e b t ks Greater h it ik =
+
+pub sets_more : (q : Place) (path : List ℕ) (d : ℕ) (more : List ℕ) (v : Value) (k : List ℕ) (b : ℕ) (t : Tree) (ks ls : Children) → (d ≡ b → ⊥) →
+    Sets q (path ++ d ∷ more, k) v (values_below path ls) (values_below path ks) →
+    Sets q (path ++ d ∷ more, k) v (values_below path (Child b t ls)) (values_below path (Child b t ks))
+unfolding values_under
+sets_more q path d more v k b t ks ls ne ik =
     let old = values_under (path ++ b ∷ []) t in
-    let ne : d ≡ b → ⊥ = λ same. let eq : nat_cmp d b ≡ Equal = ap (nat_cmp d) (sym same) ∙ tied_itself nat_cmp_total d in cc in
-    found_both q old (values_below path (set_below d more v ks)) ∙ ap (either (found q old)) ik
+    found_both q old (values_below path ls) ∙ ap (either (found q old)) ik
     ∙ behind_sets (is_at q (path ++ d ∷ more, k)) (found q old) (found q (values_below path ks)) (given v)
     (λ y. off_tree q (path ++ b ∷ []) t (off_place q (path ++ b ∷ []) (path ++ d ∷ more) k (is_place q (path ++ d ∷ more, k) y) (fork_off path b d more ne)))
     ∙ ap (cond (is_at q (path ++ d ∷ more, k)) (Some (given v))) (sym (found_both q old (values_below path ks)))
@@ -318,18 +295,17 @@ pub longer : (path : List ℕ) (d : ℕ) (more : List ℕ) → path ++ d ∷ mor
 longer [] d more e = absurd (cc)
 longer (c ∷ path) d more e = longer path d more (cc)
 
-module _ (q : Place) (path : List ℕ) (v : Value) (k : List ℕ) (e : key_of v.key ≡ Some k) (prefix : List ℕ) (values : List Value) (children : Children) where
+-- a node that has the value set in its values, or below it
+module _ (q : Place) (path : List ℕ) (v : Value) (k : List ℕ) (prefix : List ℕ) (values : List Value) (children : Children) where
   abbrev here : List ℕ
   here = path ++ prefix
-
-  abbrev old : List Entry
-  old = values_under path (Node prefix values children)
 
   abbrev vals : List Entry
   vals = map (λ w. (here, w)) values
 
-  values_case : Sets q (here, k) v (map (λ w. (here, w)) (set_value v values) ++ values_below here children) (vals ++ values_below here children)
-  values_case =
+  pub sets_here : key_of v.key ≡ Some k → Sets q (here, k) v (values_under path (Node prefix (set_value v values) children)) (values_under path (Node prefix values children))
+  unfolding values_under
+  sets_here e =
       found_both q (map (λ w. (here, w)) (set_value v values)) (values_below here children)
       ∙ ap (λ o. either o (found q (values_below here children))) (values_set q here v k e values)
       ∙ either_cond (is_at q (here, k)) (found q vals) (found q (values_below here children)) (given v)
@@ -343,95 +319,24 @@ module _ (q : Place) (path : List ℕ) (v : Value) (k : List ℕ) (e : key_of v.
       (λ y. values_off q here values (λ g. longer here d more (ap (λ (x : Place). x.0) (sym (is_place q (here ++ d ∷ more, k) y)) ∙ g)))
       ∙ ap (cond (is_at q (here ++ d ∷ more, k)) (Some (given v))) (sym (found_both q vals (values_below here children)))
 
-  -- the node's entries as those of the lower half
-  lower_same : (front : List ℕ) (c : ℕ) (back : List ℕ) → prefix ≡ front ++ c ∷ back →
-      values_under ((path ++ front) ++ c ∷ []) (Node back values children) ≡ values_under path (Node prefix values children)
+  pub sets_deeper : (kids : Children) (d : ℕ) (more : List ℕ) → Sets q (here ++ d ∷ more, k) v (values_below here kids) (values_below here children) →
+      Sets q (path ++ (prefix ++ d ∷ more), k) v (values_under path (Node prefix values kids)) (values_under path (Node prefix values children))
   unfolding values_under
-  lower_same front c back p =
-      let same : ((path ++ front) ++ c ∷ []) ++ back ≡ path ++ prefix =
-      append_assoc (path ++ front) (c ∷ []) back ∙ append_assoc path front (c ∷ back) ∙ ap (λ z. path ++ z) (sym p) in
-      ap (λ z. map (λ w. (z, w)) values ++ values_below z children) same
+  sets_deeper kids d more ih =
+      let P : List ℕ → Type 0 = λ p. Sets q (p, k) v (vals ++ values_below here kids) (vals ++ values_below here children) in
+      subst P (append_assoc path prefix (d ∷ more)) (children_case kids d more ih)
 
-  nil_right : (xs : List Entry) → xs ++ [] ≡ xs
-  nil_right [] = refl
-  nil_right (x ∷ xs) = ap (λ ys. x ∷ ys) (nil_right xs)
+nil_right : (xs : List Entry) → xs ++ [] ≡ xs
+nil_right [] = refl
+nil_right (x ∷ xs) = ap (λ ys. x ∷ ys) (nil_right xs)
 
-  either_none : (x : Option Assigned) → either x None ≡ x
-  unfolding either
-  either_none None = refl
-  either_none (Some x) = refl
-
-  -- the same set, said of another spelling of the pattern
-  at_place : (a b : List ℕ) (new : List Entry) → a ≡ b → Sets q (path ++ a, k) v new old → Sets q (path ++ b, k) v new old
-  at_place a b new same h = h ∙ ap (λ z. cond (is_at q (path ++ z, k)) (Some (given v)) (found q old)) same
-
-  module _ (front : List ℕ) (c : ℕ) (back : List ℕ) (p : prefix ≡ front ++ c ∷ back) where
-    abbrev there : List ℕ
-    there = path ++ front
-
-    abbrev lower : List Entry
-    lower = values_under (there ++ c ∷ []) (Node back values children)
-
-    lower_old : lower ++ [] ≡ old
-    lower_old = nil_right lower ∙ lower_same front c back p
-
-    nothing : either (found q lower) (found q []) ≡ found q lower
-    unfolding found entries
-    nothing = either_none (found q lower)
-
-    fork_by : (d : ℕ) (more : List ℕ) → (c ≡ d → ⊥) → (t : Bool) →
-        Sets q (path ++ (front ++ d ∷ more), k) v
-        (values_under path (Node front [] (cond t (Child d (single more v) (Child c (Node back values children) NoMore)) (Child c (Node back values children) (Child d (single more v) NoMore)))))
-        old
-    unfolding values_under
-    fork_by d more h true =
-        leaf_sets q there d more v k e (lower ++ [])
-        ∙ ap (λ xs. cond (is_at q (there ++ d ∷ more, k)) (Some (given v)) (found q xs)) lower_old
-        ∙ ap (λ z. cond (is_at q (z, k)) (Some (given v)) (found q old)) (append_assoc path front (d ∷ more))
-    fork_by d more h false =
-        found_both q lower (((there ++ d ∷ []) ++ more, v) ∷ []) ∙ ap (either (found q lower)) (leaf_sets q there d more v k e [])
-        ∙ behind_sets (is_at q (there ++ d ∷ more, k)) (found q lower) (found q []) (given v)
-        (λ y. off_tree q (there ++ c ∷ []) (Node back values children)
-        (off_place q (there ++ c ∷ []) (there ++ d ∷ more) k (is_place q (there ++ d ∷ more, k) y) (fork_off there c d more (λ s. h (sym s)))))
-        ∙ ap (cond (is_at q (there ++ d ∷ more, k)) (Some (given v))) (nothing ∙ ap (found q) (lower_same front c back p))
-        ∙ ap (λ z. cond (is_at q (z, k)) (Some (given v)) (found q old)) (append_assoc path front (d ∷ more))
-
-    fork_case : (right : List ℕ) → Differ (c ∷ back) right →
-        Sets q (path ++ (front ++ right), k) v (values_under path (forked front c (Node back values children) right v)) old
-    unfolding values_under
-    fork_case [] h =
-        front_sets q there v k e (lower ++ [])
-        ∙ ap (λ xs. cond (is_at q (there, k)) (Some (given v)) (found q xs)) lower_old
-        ∙ ap (λ z. cond (is_at q (path ++ z, k)) (Some (given v)) (found q old)) (sym (append_nil front))
-    fork_case (d ∷ more) h = fork_by d more h (nat_lt d c)
-
-  node_case : (below : ℕ → List ℕ → Children) → ((d : ℕ) (more : List ℕ) → Sets q (here ++ d ∷ more, k) v (values_below here (below d more)) (values_below here children)) →
-      (rest front left right : List ℕ) → prefix ≡ front ++ left → rest ≡ front ++ right → Differ left right →
-      Sets q (path ++ rest, k) v (values_under path (set_node below prefix values children front left right v)) old
-  unfolding values_under
-  node_case below ih rest front [] [] p r h = at_place prefix rest _ (p ∙ sym r) values_case
-  node_case below ih rest front [] (d ∷ more) p r h =
-      children_case (below d more) d more (ih d more)
-      ∙ ap (λ z. cond (is_at q (z, k)) (Some (given v)) (found q old))
-      (append_assoc path prefix (d ∷ more) ∙ ap (λ z. path ++ z) (ap (λ z. z ++ d ∷ more) (p ∙ append_nil front) ∙ sym r))
-  node_case below ih rest front (c ∷ back) right p r h = at_place (front ++ right) rest _ (sym r) (fork_case front c back p right h)
-
-mutual
-  unfolding set_at values_under
-
-  sets_tree : (q : Place) (path rest : List ℕ) (v : Value) (k : List ℕ) → key_of v.key ≡ Some k → (t : Tree) →
-      Sets q (path ++ rest, k) v (values_under path (set_at rest v t)) (values_under path t)
-  sets_tree q path rest v k e (Node prefix values children) =
-      let ih = λ (d : ℕ) (more : List ℕ). sets_below q (path ++ prefix) d more v k e children in
-      let m = met prefix rest in
-      node_case q path v k e prefix values children (λ d more. set_below d more v children) ih rest
-      (meet prefix rest).front (meet prefix rest).left (meet prefix rest).right m.first m.second m.parted
-
-  sets_below : (q : Place) (path : List ℕ) (d : ℕ) (more : List ℕ) (v : Value) (k : List ℕ) → key_of v.key ≡ Some k → (ks : Children) →
-      Sets q (path ++ d ∷ more, k) v (values_below path (set_below d more v ks)) (values_below path ks)
-  sets_below q path d more v k e NoMore = leaf_sets q path d more v k e []
-  sets_below q path d more v k e (Child b t ks) =
-      below_step q path d more v k e b t ks (nat_cmp d b) refl (sets_tree q (path ++ b ∷ []) more v k e t) (sets_below q path d more v k e ks)
+-- a node that is cut in its prefix has the values that it had
+pub cut_same : (path front : List ℕ) (c : ℕ) (back : List ℕ) (values : List Value) (children : Children) →
+    values_under path (Node front [] (Child c (Node back values children) NoMore)) ≡ values_under path (Node (front ++ c ∷ back) values children)
+unfolding values_under
+cut_same path front c back values children =
+    let same : ((path ++ front) ++ c ∷ []) ++ back ≡ path ++ (front ++ c ∷ back) = append_assoc (path ++ front) (c ∷ []) back ∙ append_assoc path front (c ∷ back) in
+    nil_right _ ∙ ap (λ z. map (λ w. (z, w)) values ++ values_below z children) same
 
 full_cond : (q : Place) (b : Bool) (x : Option Assigned) (z : Assigned) → option_map (full q) (cond b (Some z) x) ≡ cond b (Some (full q z)) (option_map (full q) x)
 full_cond q true x z = refl
@@ -461,13 +366,40 @@ same_at q p a x = by (is_at q p) refl
     by true e = ap (λ r. Some (full r a)) (is_place q p e)
     by false e = refl
 
--- the map of a tree with a place set is the map with the place set
-pub map_set : (pattern : List ℕ) (v : Value) (k : List ℕ) → key_of v.key ≡ Some k → (t : Tree) → map_of (set_at pattern v t) ≡ insert (map_of t) (pattern, k) (full (pattern, k) (given v))
-unfolding map_of
-map_set pattern v k e t =
-    same_map place_total place_same _ _ (λ q.
-    get-from_entries place_total _ q ∙ got q (values_under [] (set_at pattern v t)) ∙ ap (option_map (full q)) (sets_tree q [] pattern v k e t)
-    ∙ full_cond q (is_at q (pattern, k)) (found q (values_under [] t)) (given v)
-    ∙ ap (cond (is_at q (pattern, k)) (Some (full q (given v)))) (sym (get-from_entries place_total _ q ∙ got q (values_under [] t)))
-    ∙ same_at q (pattern, k) (given v) (get (map_of t) q)
-    ∙ sym (get-insert place_total (map_of t) (pattern, k) (full (pattern, k) (given v)) q))
+-- what an assignment holds beside its place
+abbrev assigned : Assignment → Assigned
+assigned a = record { priority = a.position.priority; line = a.position.line; value = a.value; path = a.path }
+
+bare : (q : Place) (x : Option Assigned) → option_map assigned (option_map (full q) x) ≡ x
+bare q None = refl
+bare q (Some x) = refl
+
+-- entries with the value found first have the map with the value set, and the other way
+module _ (path rest : List ℕ) (v : Value) (k : List ℕ) (t u : Tree) where
+  abbrev place : Place
+  place = (path ++ rest, k)
+
+  abbrev old : List Entry
+  old = values_under path t
+
+  abbrev new : List Entry
+  new = values_under path u
+
+  gotten : (q : Place) (t : Tree) → get (map_under path t) q ≡ option_map (full q) (found q (values_under path t))
+  gotten q t = get-from_entries place_total _ q ∙ got q (values_under path t)
+
+  inserted : (q : Place) → get (insert (map_under path t) place (full place (given v))) q ≡ option_map (full q) (cond (is_at q place) (Some (given v)) (found q old))
+  inserted q =
+      get-insert place_total (map_under path t) place (full place (given v)) q
+      ∙ sym (same_at q place (given v) (get (map_under path t) q))
+      ∙ ap (cond (is_at q place) (Some (full q (given v)))) (gotten q t)
+      ∙ sym (full_cond q (is_at q place) (found q old) (given v))
+
+  pub map_set : ((q : Place) → Sets q place v new old) → map_under path u ≡ insert (map_under path t) place (full place (given v))
+  map_set h = same_map place_total place_same _ _ (λ q. gotten q u ∙ ap (option_map (full q)) (h q) ∙ sym (inserted q))
+
+  pub map_sets : map_under path u ≡ insert (map_under path t) place (full place (given v)) → (q : Place) → Sets q place v new old
+  map_sets m q =
+      sym (bare q (found q new))
+      ∙ ap (option_map assigned) (sym (gotten q u) ∙ ap (λ (w : FinMap place_cmp Assignment). get w q) m ∙ inserted q)
+      ∙ bare q (cond (is_at q place) (Some (given v)) (found q old))

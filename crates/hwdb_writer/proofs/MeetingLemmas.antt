@@ -1,38 +1,59 @@
 -- What two lists begin with, found from the front.
-use Rattle.std.proofs.Common.{◌≡◌, ◌≤◌, ◌<◌, ℕ, zero, suc, ◌+◌, List, [], ◌∷◌, length, take, drop, get_or, true, false, cond, refl, ◌∙◌, ap, arith, eqb, eq-eqb}
+use Rattle.std.proofs.Common.{◌≡◌, ◌≤◌, ◌<◌, ℕ, ◌+◌, List, [], ◌∷◌, ◌++◌, length, take, get_or, Bool, true, false, cond, refl, sym, ap, arith, eqb}
+use Rattle.std.specs.Prelude.{nat_eq}
 use Rattle.std.proofs.lemmas.Bool.Decides.{nat_tests}
 use Rattle.std.proofs.lemmas.List.{take_more_same}
-use Rattle.hwdb_writer.specs.Internal.Setting.{meet, behind}
+
+-- what two lists begin with, and what is left of each
+pub record Meeting : Type 0 where
+  pub front : List ℕ
+  pub left : List ℕ
+  pub right : List ℕ
+
+abbrev behind : ℕ → Meeting → Meeting
+behind c m = record { front = c ∷ m.front; left = m.left; right = m.right }
+
+unfoldable pub meet : List ℕ → List ℕ → Meeting
+meet [] ys = record { front = []; left = []; right = ys }
+meet (x ∷ xs) [] = record { front = []; left = x ∷ xs; right = [] }
+meet (x ∷ xs) (y ∷ ys) = cond (nat_eq x y) (behind x (meet xs ys)) (record { front = []; left = x ∷ xs; right = y ∷ ys })
+
+-- what a meeting says of its two lists
+abbrev pub Differ : List ℕ → List ℕ → Type 0
+Differ [] ys = Unit {0}
+Differ (x ∷ xs) [] = Unit {0}
+Differ (x ∷ xs) (y ∷ ys) = x ≡ y → ⊥
+
+pub record Met (a b : List ℕ) (m : Meeting) : Type 0 where
+  pub first : a ≡ m.front ++ m.left
+  pub second : b ≡ m.front ++ m.right
+  pub parted : Differ m.left m.right
+
+same_byte : (x y : ℕ) → eqb x y ≡ true → x ≡ y
+same_byte x y e = grind (arith, nat_tests)
+
+other_byte : (x y : ℕ) → eqb x y ≡ false → x ≡ y → ⊥
+other_byte x y e s = grind (arith, nat_tests)
+
+met_more : (t : Bool) (x y : ℕ) (a b : List ℕ) → eqb x y ≡ t → Met a b (meet a b) → Met (x ∷ a) (y ∷ b) (cond t (behind x (meet a b)) (record { front = []; left = x ∷ a; right = y ∷ b }))
+met_more true x y a b e h = record {
+  first = ap (λ zs. x ∷ zs) h.first;
+  second = λ i. sym (same_byte x y e) i ∷ h.second i;
+  parted = h.parted;
+}
+met_more false x y a b e h = record { first = refl; second = refl; parted = other_byte x y e }
+
+pub met : (a b : List ℕ) → Met a b (meet a b)
+unfolding meet
+met [] b = record { first = refl; second = refl; parted = tt }
+met (x ∷ a) [] = record { first = refl; second = refl; parted = tt }
+met (x ∷ a) (y ∷ b) = met_more (eqb x y) x y a b refl (met a b)
 
 -- the first n elements are alike
 pub record Past (n : ℕ) (a b : List ℕ) : Type 0 where
   pub first : n ≤ length a
   pub second : n ≤ length b
   pub alike : take n a ≡ take n b
-
-abbrev pub IsEnd : ℕ → List ℕ → List ℕ → Type 0
-IsEnd n a b = meet a b ≡ record { front = take n a; left = drop n a; right = drop n b }
-
-differ : (x y : ℕ) → (x ≡ y → ⊥) → eqb x y ≡ false
-differ x y h = grind (arith, nat_tests)
-
-pub meets_at : (n : ℕ) (a b : List ℕ) → Past n a b → (n < length a → n < length b → get_or a n 0 ≡ get_or b n 0 → ⊥) → IsEnd n a b
-unfolding meet
-meets_at zero [] b p apart = refl
-meets_at zero (x ∷ a) [] p apart = refl
-meets_at zero (x ∷ a) (y ∷ b) p apart =
-    let e : eqb x y ≡ false = differ x y (apart (omega arith) (omega arith)) in
-    ap (λ t. cond t (behind x (meet a b)) (record { front = []; left = x ∷ a; right = y ∷ b })) e
-meets_at (suc n) [] b p apart = absurd (omega (arith, p.first))
-meets_at (suc n) (x ∷ a) [] p apart = absurd (omega (arith, p.second))
-meets_at (suc n) (x ∷ a) (y ∷ b) p apart =
-    let alike = p.alike in
-    let same : x ≡ y = cc in
-    let e : eqb x y ≡ true = eq-eqb x y same in
-    let tails : take n a ≡ take n b = cc in
-    let q : Past n a b = record { first = omega (arith, p.first); second = omega (arith, p.second); alike = tails } in
-    ap (λ t. cond t (behind x (meet a b)) (record { front = []; left = x ∷ a; right = y ∷ b })) e
-    ∙ ap (behind x) (meets_at n a b q (λ f s. apart (omega arith) (omega arith)))
 
 pub past_none : (a b : List ℕ) → Past 0 a b
 past_none a b = record { first = omega arith; second = omega arith; alike = refl }

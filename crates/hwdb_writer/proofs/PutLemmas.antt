@@ -5,10 +5,9 @@ use Rattle.hwdb_spec.specs.Tree.{Value, Tree, prefix_of, map_of, place_cmp, valu
 use Rattle.hwdb_spec.specs.Tree.Tree.{Node}
 use Rattle.hwdb_spec.specs.Tree.Children.{NoMore}
 use Rattle.hwdb_spec.specs.Assignment.{Assignment}
-use Rattle.hwdb_writer.specs.Internal.Setting.{set_at}
+use Rattle.hwdb_writer.specs.Internal.Setting.{IsSet}
 use Rattle.hwdb_writer.specs.Internal.ValueEntries.{at_place}
 use Rattle.hwdb_writer.specs.Internal.Storable.{IsSound, IsStorable, IsStorableValue, HasNoZero, IsText}
-use Rattle.hwdb_writer.proofs.MapLemmas.{map_set}
 
 pub empty_map : map_of (Node [] [] NoMore) ≡ empty
 unfolding map_of values_under
@@ -35,8 +34,9 @@ value_sound v k value path e f g nk nv np p q l = record {
   line_fits = l;
 }
 
-pub put_is : (t t' : Tree) (m : FinMap place_cmp Assignment) (p pattern : List ℕ) (v : Value) (k : List ℕ) → t' ≡ set_at p v t → p ≡ pattern → map_of t ≡ m → v.key ≡ 32 ∷ k →
-    map_of t' ≡ insert m (pattern, k) (at_place (pattern, k) v)
-put_is t t' m p pattern v k e ep em ek =
-    ap map_of e ∙ map_set p v k (ap key_of ek) t
-    ∙ (λ i. insert (em i) (ep i, k) (at_place (ep i, k) v))
+-- the tree's map, of a tree that has a value set
+pub put_is : (t u : Tree) (m : FinMap place_cmp Assignment) (pattern : List ℕ) (v : Value) (k : List ℕ) → IsSet pattern v t u → map_of t ≡ m → v.key ≡ 32 ∷ k →
+    map_of u ≡ insert m (pattern, k) (at_place (pattern, k) v)
+unfolding map_of
+put_is t u m pattern v k is same e =
+    is.map [] k (ap key_of e) ∙ ap (λ (n : FinMap place_cmp Assignment). insert n (pattern, k) (at_place (pattern, k) v)) same

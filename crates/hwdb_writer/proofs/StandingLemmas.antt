@@ -1,8 +1,8 @@
 -- The equations of `standing`.
 use Rattle.std.proofs.Common.{◌≡◌, ℕ, zero, suc, List, [], ◌∷◌, map, get_or, set, Result, Ok, Err, OnErr, ap, refl, sym, ◌∙◌}
-use Rattle.hwdb_spec.specs.Tree.{Value, Tree, values_of}
+use Rattle.hwdb_spec.specs.Tree.{Value, Tree}
 use Rattle.hwdb_spec.specs.Tree.Children.{Child}
-use Rattle.hwdb_writer.specs.Internal.Setting.{below_of}
+use Rattle.hwdb_writer.specs.Internal.Setting.{with_prefix}
 use Rattle.hwdb_spec.specs.Tree.Tree.{Node}
 use Rattle.hwdb_writer.specs.declared.trie.TrieNode.{TrieNode}
 use Rattle.hwdb_writer.specs.declared.trie.TrieNode.TheOpen.{TrieNode-F}
@@ -34,18 +34,15 @@ opened b = ap (λ x. x.1) (standing-out b)
 pub byte_opened : (b : TrieNode) → byte_of b ≡ (out-TrieNode b).byte
 byte_opened b = ap (λ x. x.0) (standing-out b)
 
-pub tree_byte : (b b' : TrieNode) → b ≡ b' → tree_of b ≡ tree_of b'
-tree_byte b b' e = ap tree_of e
-
 pub byte_kept : (n : TrieNode) (b : TrieNode-F TrieNode) → b.byte ≡ (out-TrieNode n).byte → byte_of (roll-TrieNode b) ≡ byte_of n
 byte_kept n b e = byte_rolled b ∙ e ∙ sym (byte_opened n)
 
 pub lowered : (x : TrieNode-F TrieNode) (n : TrieNode) → x.values ≡ (out-TrieNode n).values → x.children.items ≡ (out-TrieNode n).children.items →
-    standing (roll-TrieNode x) ≡ (x.byte, Node x.prefix (values_of (tree_of n)) (below_of (tree_of n)))
-unfolding values_of below_of
+    standing (roll-TrieNode x) ≡ (x.byte, with_prefix x.prefix (tree_of n))
+unfolding with_prefix
 lowered x n e f =
     standing-roll x ∙ (λ i. (x.byte, Node x.prefix (e i) (children_in (map standing (f i)))))
-    ∙ (λ i. (x.byte, Node x.prefix (values_of (sym (opened n) i)) (below_of (sym (opened n) i))))
+    ∙ (λ i. (x.byte, with_prefix x.prefix (sym (opened n) i)))
 
 pub kids_same : (bs : List TrieNode) (i : ℕ) (d b' : TrieNode) → byte_of b' ≡ byte_of (get_or bs i d) → tree_of b' ≡ tree_of (get_or bs i d) →
     children_in (map standing (set bs i b')) ≡ children_in (map standing bs)

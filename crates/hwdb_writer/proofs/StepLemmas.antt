@@ -1,20 +1,23 @@
 -- A set, or an insert, at the place that a search found.
-use Rattle.std.proofs.Common.{◌≡◌, ◌<◌, ℕ, zero, suc, List, [], ◌∷◌, map, get_or, set, Option, Some, None, refl, sym, ◌∙◌, ap, arith, Ordering}
+use Rattle.std.proofs.Common.{◌≡◌, ◌<◌, ℕ, zero, suc, List, [], ◌∷◌, map, get_or, set, Option, Some, None, refl, sym, ◌∙◌, ap, subst, arith}
 use Rattle.std.specs.List.{insert}
 use Rattle.std.specs.declared.cmp.Ordering.TheVariants.{Less}
 use Rattle.std.specs.Ordering.{nat_cmp}
+use Rattle.std.specs.FinMap.{nat_cmp-IsAntisymmetric}
 use Rattle.std.specs.Cmp.{tied_back, nat_cmp_total}
 use Rattle.std.specs.Cmp.Lexicographic.{slice_cmp, nat_list_cmp_total}
 use Rattle.std.specs.FinMap.Entries.{by_order}
 use Rattle.std.proofs.lemmas.Bool.Decides.{nat_tests}
-use Rattle.hwdb_spec.specs.Tree.{Value, Children, IsTree, BytesAscend, KeysAscend}
+use Rattle.std.proofs.lemmas.Cmp.{ranked}
+use Rattle.hwdb_spec.specs.Tree.{Value, Tree, IsTree, BytesAscend, KeysAscend}
 use Rattle.hwdb_spec.specs.Tree.Children.{NoMore, Child}
 use Rattle.hwdb_writer.specs.declared.value_entry.ValueEntry.{ValueEntry}
 use Rattle.hwdb_writer.specs.declared.trie.TrieNode.{TrieNode}
 use Rattle.hwdb_writer.specs.Internal.ValueEntries.{value_of}
 use Rattle.hwdb_writer.specs.Internal.Standing.{standing, children_in, byte_of, tree_of}
-use Rattle.hwdb_writer.specs.Internal.Setting.{set_value, set_below, set_at, single}
+use Rattle.hwdb_writer.specs.Internal.Setting.{IsSet, set_value, single}
 use Rattle.hwdb_writer.specs.Internal.Found.{key_in, HitsKey, MissesKey, HitsByte, MissesByte}
+use Rattle.hwdb_writer.proofs.SettingLemmas.{SetBelow, below_end, below_new, below_hit, below_more}
 use Rattle.hwdb_writer.proofs.SearchLemmas.{Up, hit_more, gap_more, turned, turned_back}
 
 pub up_keys : (before : Option (List ℕ)) (xs : List ValueEntry) → KeysAscend before (map value_of xs) → Up (slice_cmp nat_cmp) key_in before xs
@@ -54,31 +57,35 @@ value_gap v (x ∷ xs) (suc i) h =
     (turned (slice_cmp nat_cmp) key_in nat_list_cmp_total (key_in x) (key_in v) (h.before 0 x (omega arith)))
     ∙ ap (λ ws. value_of x ∷ ws) (value_gap v xs i (gap_more (slice_cmp nat_cmp) key_in x xs (key_in v) i h))
 
-module _ (c : ℕ) (more : List ℕ) (v : Value) where
-  abbrev pub steps : TrieNode → List TrieNode → Ordering → Children
-  steps b bs r =
-      by_order r (Child c (single more v) (children_in (map standing (b ∷ bs)))) (Child (byte_of b) (set_at more v (tree_of b)) (children_in (map standing bs)))
-      (Child (byte_of b) (tree_of b) (set_below c more v (children_in (map standing bs))))
+below_byte : (a b : ℕ) → nat_cmp a b ≡ Less → a < b
+below_byte a b e = ranked a b Less (sym e)
 
-  pub child_hit : (bs : List TrieNode) (i : ℕ) (d b' : TrieNode) → HitsByte bs c i → byte_of b' ≡ byte_of (get_or bs i d) → tree_of b' ≡ set_at more v (tree_of (get_or bs i d)) →
-      set_below c more v (children_in (map standing bs)) ≡ children_in (map standing (set bs i b'))
-  unfolding set_below
+module _ (c : ℕ) (more : List ℕ) (v : Value) where
+  pub child_hit : (bs : List TrieNode) (i : ℕ) (d b' : TrieNode) → HitsByte bs c i → byte_of b' ≡ byte_of (get_or bs i d) → IsSet more v (tree_of (get_or bs i d)) (tree_of b') →
+      SetBelow c more v (children_in (map standing bs)) (children_in (map standing (set bs i b')))
   child_hit [] i d b' h s t = absurd (omega (arith, h.in_range))
   child_hit (b ∷ bs) zero d b' h s t =
-      ap (steps b bs) (tied_back nat_cmp_total (byte_of b) c (h.here b))
-      ∙ (λ j. Child (sym s j) (sym t j) (children_in (map standing bs)))
+      let ks = children_in (map standing bs) in
+      let here : c ≡ byte_of b = sym (nat_cmp-IsAntisymmetric (byte_of b) c (h.here b)) in
+      let P : ℕ → Type 0 = λ n. SetBelow c more v (Child n (tree_of b) ks) (Child n (tree_of b') ks) in
+      let Q : ℕ → Type 0 = λ n. SetBelow c more v (Child (byte_of b) (tree_of b) ks) (Child n (tree_of b') ks) in
+      subst Q (sym s) (subst P here (below_hit c more v (tree_of b) (tree_of b') ks t))
   child_hit (b ∷ bs) (suc i) d b' h s t =
-      ap (steps b bs) (turned nat_cmp byte_of nat_cmp_total (byte_of b) c (h.before 0 b (omega arith)))
-      ∙ ap (Child (byte_of b) (tree_of b)) (child_hit bs i d b' (hit_more nat_cmp byte_of b bs c i h) s t)
+      below_more c more v (byte_of b) (tree_of b) _ _ (below_byte (byte_of b) c (h.before 0 b (omega arith)))
+      (child_hit bs i d b' (hit_more nat_cmp byte_of b bs c i h) s t)
 
   pub child_gap : (bs : List TrieNode) (i : ℕ) (b' : TrieNode) → MissesByte bs c i → byte_of b' ≡ c → tree_of b' ≡ single more v →
-      set_below c more v (children_in (map standing bs)) ≡ children_in (map standing (insert bs i b'))
-  unfolding set_below
-  child_gap [] zero b' h s t = λ j. Child (sym s j) (sym t j) NoMore
+      SetBelow c more v (children_in (map standing bs)) (children_in (map standing (insert bs i b')))
+  child_gap [] zero b' h s t =
+      let P : ℕ × Tree → Type 0 = λ n. SetBelow c more v NoMore (Child n.0 n.1 NoMore) in
+      subst P {x = (c, single more v)} {y = (byte_of b', tree_of b')} (λ j. (sym s j, sym t j)) (below_end c more v)
   child_gap [] (suc i) b' h s t = absurd (omega (arith, h.in_range))
   child_gap (b ∷ bs) zero b' h s t =
-      ap (steps b bs) (turned_back nat_cmp byte_of nat_cmp_total (byte_of b) c (h.behind 0 b (omega arith) (omega arith)))
-      ∙ (λ j. Child (sym s j) (sym t j) (children_in (map standing (b ∷ bs))))
+      let ks = children_in (map standing (b ∷ bs)) in
+      let less = turned_back nat_cmp byte_of nat_cmp_total (byte_of b) c (h.behind 0 b (omega arith) (omega arith)) in
+      let P : ℕ × Tree → Type 0 = λ n. SetBelow c more v ks (Child n.0 n.1 ks) in
+      subst P {x = (c, single more v)} {y = (byte_of b', tree_of b')} (λ j. (sym s j, sym t j))
+      (below_new c more v (byte_of b) (tree_of b) (children_in (map standing bs)) (below_byte c (byte_of b) less))
   child_gap (b ∷ bs) (suc i) b' h s t =
-      ap (steps b bs) (turned nat_cmp byte_of nat_cmp_total (byte_of b) c (h.before 0 b (omega arith)))
-      ∙ ap (Child (byte_of b) (tree_of b)) (child_gap bs i b' (gap_more nat_cmp byte_of b bs c i h) s t)
+      below_more c more v (byte_of b) (tree_of b) _ _ (below_byte (byte_of b) c (h.before 0 b (omega arith)))
+      (child_gap bs i b' (gap_more nat_cmp byte_of b bs c i h) s t)

@@ -20,8 +20,16 @@ impl Model for Prefix {
     ghost view = { λ p. p.bytes.items };
 }
 
+/// Bytes that were cut at one of them: what is before it, the byte, and what is behind it.
+#[derive(Drop)]
+pub struct Cut {
+    pub front: Prefix,
+    pub byte: u8,
+    pub back: Prefix,
+}
+
 impl Prefix {
-    ghost use Rattle.std.specs.Prelude.{◌≡◌, [], IfOk};
+    ghost use Rattle.std.specs.Prelude.{◌≡◌, ◌<◌, ◌∷◌, ◌++◌, [], take, length, IfOk};
 
     /// No bytes. Takes no memory.
     pub fn empty(alloc: Global) -> Prefix
@@ -46,5 +54,21 @@ impl Prefix {
         ensures { result.now ≡ self.now }
     {
         self.bytes.as_slice()
+    }
+
+    /// A copy of the bytes, cut at one of them.
+    pub fn cut(&self, alloc: Global, at: usize) -> Result<Cut, AllocError>
+        requires { at < length self.now }
+        ensures front { IfOk result (λ c. c.front ≡ take at self.now) }
+        ensures whole { IfOk result (λ c. self.now ≡ c.front ++ c.byte ∷ c.back) }
+    {
+        let text = self.text();
+        let front = Prefix::new(alloc, &text[..at])?;
+        let back = Prefix::new(alloc, &text[at + 1..])?;
+        Ok(Cut {
+            front,
+            byte: text[at],
+            back,
+        })
     }
 }

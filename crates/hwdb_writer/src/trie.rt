@@ -2,18 +2,16 @@
 //!
 //! A chain of single children is one node with a prefix. Children stand by byte, so that a search
 //! halves what is left. Each change asks for its memory first.
-ghost use Rattle.std.specs.Prelude.{◌≡◌, ◌≢◌, ◌≤◌, ◌<◌, ◌+◌, ◌^◌, ◌∷◌, [], map, take, drop, length, slice_index, None, vec_len, vec_capacity, IfOk, IfErr, OnOk, OnErr};
+ghost use Rattle.std.specs.Prelude.{◌≡◌, ◌≤◌, ◌<◌, map, length, vec_len, vec_capacity, IfOk, IfErr, OnOk, OnErr};
 ghost use Rattle.std.specs.List.{insert};
-ghost use Rattle.hwdb_spec.specs.Tree.{prefix_of, IsTree, BytesAscend};
-ghost use Rattle.hwdb_spec.specs.Tree.{values_of};
+ghost use Rattle.hwdb_spec.specs.Tree.{IsTree, BytesAscend};
 ghost use Rattle.hwdb_spec.specs.Tree.Tree.{Node};
-ghost use Rattle.hwdb_writer.specs.Internal.Setting.{meet, set_at, single, forked, below_of};
-ghost use Rattle.hwdb_writer.specs.declared.trie.TrieNode.TheViews.{out-TrieNode};
+ghost use Rattle.hwdb_writer.specs.Internal.Setting.{MeetAt, IsSet, single, with_prefix};
 ghost use Rattle.hwdb_writer.specs.Internal.Found.{HitsByte, MissesByte};
 ghost use Rattle.hwdb_writer.specs.Internal.ValueEntries.{value_of};
-ghost use Rattle.hwdb_writer.specs.Internal.Standing.{tree_of, byte_of, standing, children_in};
+ghost use Rattle.hwdb_writer.specs.Internal.Standing.{tree_of, byte_of, prefix_in, standing, children_in};
 
-use crate::prefix::Prefix;
+use crate::prefix::{Cut, Prefix};
 use crate::value_entry::ValueEntry;
 use crate::values::Values;
 use std::alloc::{AllocError, Global};
@@ -30,12 +28,7 @@ pub struct TrieNode {
 
 /// How long the longest common beginning is.
 pub fn common(a: &[u8], b: &[u8]) -> usize
-    ensures meeting { meet a.now b.now
-        ≡ record {
-          front = take result a.now;
-          left = drop result a.now;
-          right = drop result b.now;
-        } }
+    ensures meeting { MeetAt result a.now b.now }
     ensures first { result ≤ length a.now }
     ensures second { result ≤ length b.now }
 {
@@ -76,36 +69,29 @@ pub fn leaf(
     })
 }
 
-/// Makes the node a child of one with its byte, and with this prefix, these values and these other children.
-fn push_down(
-    node: &mut TrieNode,
-    front: Prefix,
-    values: Values,
-    others: Vec<TrieNode>,
-    place: usize,
-    byte: u8,
-    back: Prefix,
-)
+/// Puts a node in the place of this one: with the front of its cut prefix, these values, and these
+/// other children. It is among them, at this place, under the cut's byte and with what is behind.
+fn push_down(node: &mut TrieNode, cut: Cut, values: Values, others: Vec<TrieNode>, place: usize)
     requires room { vec_len others < vec_capacity others }
     requires place { place ≤ vec_len others }
     ensures same { byte_of node.new ≡ byte_of node.old }
-    ensures tree { tree_of node.new ≡ Node front values
-        (children_in (insert (map standing others.items) place
-        (byte, Node back (values_of (tree_of node.old)) (below_of (tree_of node.old))))) }
+    ensures tree { tree_of node.new ≡ Node cut.front values (children_in
+        (insert (map standing others.items) place
+        (cut.byte, with_prefix cut.back (tree_of node.old)))) }
 {
     let mut lower = TrieNode {
         byte: node.byte,
-        prefix: front,
+        prefix: cut.front,
         values,
         children: others,
     };
     mem::swap(node, &mut lower);
-    lower.byte = byte;
-    lower.prefix = back;
+    lower.byte = cut.byte;
+    lower.prefix = cut.back;
     node.children.insert(place, lower).unwrap();
 }
 
-/// Splits the node in its prefix, where the rest of the path leaves it.
+/// Puts the value at the rest of the path, which leaves the node's prefix: the node is split there.
 #[inline(never)]
 pub fn split_node(
     alloc: Global,
@@ -114,34 +100,29 @@ pub fn split_node(
     rest: &[u8],
     value: ValueEntry,
 ) -> Result<(), AllocError>
-    requires inside { at < length (out-TrieNode node.old).prefix }
+    requires inside { at < length (prefix_in node.old) }
     requires within { at ≤ length rest.now }
+    requires meeting { MeetAt at (prefix_in node.old) rest.now }
     ensures same { byte_of node.new ≡ byte_of node.old }
+    ensures ok { OnOk result
+        (IsSet rest.now (value_of value) (tree_of node.old) (tree_of node.new)) }
     ensures err { OnErr result (tree_of node.new ≡ tree_of node.old) }
-    ensures ok { OnOk result (let p = (out-TrieNode node.old).prefix in
-        tree_of node.new
-        ≡ forked (take at p) (slice_index p at)
-        (Node (drop (at + 1) p) (values_of (tree_of node.old)) (below_of (tree_of node.old)))
-        (drop at rest.now) (value_of value)) }
 {
-    let prefix = node.prefix.text();
-    let byte = prefix[at];
-    let front = Prefix::new(alloc, &prefix[..at])?;
-    let back = Prefix::new(alloc, &prefix[at + 1..])?;
+    let cut = node.prefix.cut(alloc, at)?;
     if at == rest.len() {
         let others = Vec::with_capacity(alloc, 1)?;
         let values = Values::one(alloc, value)?;
-        push_down(node, front, values, others, 0, byte, back);
+        push_down(node, cut, values, others, 0);
         return Ok(());
     }
     let other = rest[at];
     let mut others = Vec::with_capacity(alloc, 2)?;
     others.push(leaf(alloc, other, &rest[at + 1..], value)?)?;
     let values = Values::none(alloc);
-    if other < byte {
-        push_down(node, front, values, others, 1, byte, back);
+    if other < cut.byte {
+        push_down(node, cut, values, others, 1);
     } else {
-        push_down(node, front, values, others, 0, byte, back);
+        push_down(node, cut, values, others, 0);
     }
     Ok(())
 }
@@ -156,7 +137,7 @@ pub fn insert_below(
     requires { IsTree (tree_of node.old) }
     ensures same { byte_of node.new ≡ byte_of node.old }
     ensures ok { OnOk result
-        (tree_of node.new ≡ set_at rest.now (value_of value) (tree_of node.old)) }
+        (IsSet rest.now (value_of value) (tree_of node.old) (tree_of node.new)) }
     ensures err { OnErr result (tree_of node.new ≡ tree_of node.old) }
 {
     let prefix = node.prefix.text();

@@ -6,6 +6,7 @@ use Rattle.hwdb_writer.specs.declared.trie.TrieNode.TheOpen.{TrieNode-F}
 use Rattle.hwdb_spec.specs.Tree.Tree.{Node}
 use Rattle.hwdb_writer.specs.declared.trie.TrieNode.{TrieNode}
 use Rattle.hwdb_writer.specs.declared.trie.TrieNode.TheFolds.{fold-TrieNode}
+use Rattle.hwdb_writer.specs.declared.trie.TrieNode.TheViews.{out-TrieNode}
 
 -- the children, each under its byte
 abbrev pub children_in : List (ℕ × Tree) → Children
@@ -24,3 +25,7 @@ tree_of b = (standing b).1
 
 abbrev pub byte_of : TrieNode → ℕ
 byte_of b = (standing b).0
+
+-- the prefix of a node
+abbrev pub prefix_in : TrieNode → List ℕ
+prefix_in b = (out-TrieNode b).prefix

@@ -42,3 +42,15 @@ pub record IsSound (t : Tree) : Type 0 where
   pub ordered : IsTree t
   pub root : prefix_of t ≡ []
   pub storable : IsStorable 0 t
+
+-- a node of a sound tree, below a path of so many bytes
+pub record IsNode (used : ℕ) (t : Tree) : Type 0 where
+  pub ordered : IsTree t
+  pub forked : IsForked t
+  pub storable : IsStorable used t
+
+-- a value that can be stored at the rest of a path, behind so many bytes
+pub record CanStand (used : ℕ) (rest : List ℕ) (v : Value) : Type 0 where
+  pub text : IsText rest
+  pub short : used + length rest ≤ max_pattern
+  pub value : IsStorableValue v

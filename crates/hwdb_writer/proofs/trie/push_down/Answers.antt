@@ -18,7 +18,7 @@ returns-clause-tree c =
     let x = ap out-TrieNode c.swap.ensures.x_after ∙ out_rolled _ in
     let y = c.swap.ensures.y_after in
     let items = rw (c.unwrap.ensures, ap (λ r. r.children.items) x) at c.insert.ensures.items in
-    rolled _ c.args.front c.args.values _ (ap (λ r. r.prefix) x) (ap (λ r. r.values) x) items
-    ∙ ap (λ ks. Node c.args.front c.args.values (children_in ks))
+    rolled _ c.args.cut.front c.args.values _ (ap (λ r. r.prefix) x) (ap (λ r. r.values) x) items
+    ∙ ap (λ ks. Node c.args.cut.front c.args.values (children_in ks))
     (map-insert standing c.args.others.items c.args.place _
     ∙ ap (insert (map standing c.args.others.items) c.args.place) (lowered _ c.args.node.now (ap (λ b. (out-TrieNode b).values) y) (ap (λ b. (out-TrieNode b).children.items) y)))

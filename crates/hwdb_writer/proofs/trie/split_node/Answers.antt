@@ -1,39 +1,46 @@
-use Rattle.std.proofs.Common.{◌∙◌, ◌++◌, ◌∷◌, [], ap, get_or, arith}
+use Rattle.std.proofs.Common.{◌∙◌, ◌++◌, ◌∷◌, [], map, ap, ℕ, arith}
+use Rattle.std.specs.List.{insert}
 use Rattle.std.proofs.lemmas.List.{take_rest}
-use Rattle.hwdb_spec.specs.Tree.{values_of}
-use Rattle.hwdb_writer.specs.Internal.Setting.{below_of}
+use Rattle.hwdb_spec.specs.Tree.{Tree}
+use Rattle.hwdb_spec.specs.Tree.Tree.{Node}
+use Rattle.hwdb_spec.specs.Tree.Children.{Child, NoMore}
+use Rattle.hwdb_writer.specs.Internal.Setting.{with_prefix}
 use Rattle.hwdb_writer.specs.Internal.ValueEntries.{value_of}
-use Rattle.hwdb_writer.specs.Internal.Standing.{tree_of}
-use Rattle.hwdb_writer.specs.declared.trie.TrieNode.TheViews.{out-TrieNode}
-use Rattle.hwdb_writer.proofs.LevelLemmas.{split_before, split_behind}
+use Rattle.hwdb_writer.specs.Internal.Standing.{tree_of, standing, children_in}
+use Rattle.hwdb_writer.proofs.LevelLemmas.{leaves_here, leaves_before, leaves_behind}
 use Rattle.hwdb_writer.proofs.trie.split_node.Goals as goal
 
-pub returns-then-other-byte-clause-ok : goal.returns-then-other-byte-clause-ok
-returns-then-other-byte-clause-ok c =
-    let p = (out-TrieNode c.args.node.now).prefix in
-    let at = c.args.at in
-    let rest = c.args.rest.now in
-    let old = tree_of c.args.node.now in
-    let front = rw c.text-prefix.ensures at c.in_ok-front.ensures in
-    let back = rw c.text-prefix.ensures at (rw take_rest at c.in_ok-back.ensures) in
-    let tree = rw take_rest at c.in_ok-leaf.ensures.tree in
-    let order = rw c.text-prefix.ensures at c.if-other-byte.true in
-    split_before _ p rest at (value_of c.args.value) (values_of old) (below_of old) _ _ c.none-values.result c.push.new.self.items c.in_ok-leaf.field-0 _
-    c.push_down-then-other-byte.ensures.tree front back (ap (λ t. get_or t at 0) c.text-prefix.ensures) c.none-values.ensures
-    (c.in_ok-push.ensures.items ∙ ap (λ bs. bs ++ c.in_ok-leaf.field-0 ∷ []) c.in_ok-others-2.ensures.items)
-    c.in_ok-leaf.ensures.byte tree (omega (arith, c.requires.within, c.if-at-rest.false)) order
+pub returns-then-at-rest-clause-ok : goal.returns-then-at-rest-clause-ok
+returns-then-at-rest-clause-ok c =
+    let cut = c.in_ok-cut.cut in
+    let lower : ℕ × Tree = (cut.byte, with_prefix cut.back (tree_of c.args.node.now)) in
+    leaves_here c.args.node.now c.args.rest.now (value_of c.args.value) c.args.at c.requires.meeting
+    cut.front cut.byte cut.back c.requires.inside c.in_ok-cut.ensures.whole c.in_ok-cut.ensures.front (omega (arith, c.if-at-rest.true)) _
+    (c.push_down.ensures.tree ∙ (λ i. Node cut.front (c.in_ok-values.ensures i) (children_in (insert (map standing (c.in_ok-others.ensures.items i)) 0 lower))))
 
-pub returns-else-other-byte-clause-ok : goal.returns-else-other-byte-clause-ok
-returns-else-other-byte-clause-ok c =
-    let p = (out-TrieNode c.args.node.now).prefix in
-    let at = c.args.at in
-    let rest = c.args.rest.now in
-    let old = tree_of c.args.node.now in
-    let front = rw c.text-prefix.ensures at c.in_ok-front.ensures in
-    let back = rw c.text-prefix.ensures at (rw take_rest at c.in_ok-back.ensures) in
+pub returns-then-other-cut-clause-ok : goal.returns-then-other-cut-clause-ok
+returns-then-other-cut-clause-ok c =
+    let cut = c.in_ok-cut.cut in
+    let lower : ℕ × Tree = (cut.byte, with_prefix cut.back (tree_of c.args.node.now)) in
+    let leaf = c.in_ok-leaf.field-0 in
     let tree = rw take_rest at c.in_ok-leaf.ensures.tree in
-    let order = rw c.text-prefix.ensures at c.if-other-byte.false in
-    split_behind _ p rest at (value_of c.args.value) (values_of old) (below_of old) _ _ c.none-values.result c.push.new.self.items c.in_ok-leaf.field-0 _
-    c.push_down-else-other-byte.ensures.tree front back (ap (λ t. get_or t at 0) c.text-prefix.ensures) c.none-values.ensures
-    (c.in_ok-push.ensures.items ∙ ap (λ bs. bs ++ c.in_ok-leaf.field-0 ∷ []) c.in_ok-others-2.ensures.items)
-    c.in_ok-leaf.ensures.byte tree (omega (arith, c.requires.within, c.if-at-rest.false)) (omega (arith, order))
+    let others = c.in_ok-push.ensures.items ∙ ap (λ bs. bs ++ leaf ∷ []) c.in_ok-others-2.ensures.items in
+    leaves_before c.args.node.now c.args.rest.now (value_of c.args.value) c.args.at c.requires.meeting
+    cut.front cut.byte cut.back c.requires.inside c.in_ok-cut.ensures.whole c.in_ok-cut.ensures.front (omega (arith, c.requires.within, c.if-at-rest.false)) c.if-other-cut.true _
+    (c.push_down-then-other-cut.ensures.tree
+    ∙ (λ i. Node cut.front (c.none-values.ensures i) (children_in (insert (map standing (others i)) 1 lower)))
+    ∙ (λ i. Node cut.front [] (Child (c.in_ok-leaf.ensures.byte i) (tree i) (Child lower.0 lower.1 NoMore))))
+
+pub returns-else-other-cut-clause-ok : goal.returns-else-other-cut-clause-ok
+returns-else-other-cut-clause-ok c =
+    let cut = c.in_ok-cut.cut in
+    let lower : ℕ × Tree = (cut.byte, with_prefix cut.back (tree_of c.args.node.now)) in
+    let leaf = c.in_ok-leaf.field-0 in
+    let tree = rw take_rest at c.in_ok-leaf.ensures.tree in
+    let others = c.in_ok-push.ensures.items ∙ ap (λ bs. bs ++ leaf ∷ []) c.in_ok-others-2.ensures.items in
+    let order = c.if-other-cut.false in
+    leaves_behind c.args.node.now c.args.rest.now (value_of c.args.value) c.args.at c.requires.meeting
+    cut.front cut.byte cut.back c.requires.inside c.in_ok-cut.ensures.whole c.in_ok-cut.ensures.front (omega (arith, c.requires.within, c.if-at-rest.false)) (omega (arith, order)) _
+    (c.push_down-else-other-cut.ensures.tree
+    ∙ (λ i. Node cut.front (c.none-values.ensures i) (children_in (insert (map standing (others i)) 0 lower)))
+    ∙ (λ i. Node cut.front [] (Child lower.0 lower.1 (Child (c.in_ok-leaf.ensures.byte i) (tree i) NoMore))))
