@@ -346,3 +346,28 @@ fn short_writes(rt: HostRuntime) -> Result<(), Fail> {
     }
     Ok(())
 }
+
+/// A writer of the library that takes all, and whose flush fails.
+#[derive(Drop)]
+struct UnflushedWriter;
+
+impl Write for UnflushedWriter {
+    fn write(&mut self, buf: &[u8]) -> io::Result<usize> {
+        Ok(buf.len())
+    }
+
+    fn flush(&mut self) -> io::Result<()> {
+        Err(io::Error::from_raw_os_error(28))
+    }
+}
+
+/// The library's flush is called behind a text, and behind an empty one too: where it fails the call has failed.
+#[test]
+fn unflushed_writers(rt: HostRuntime) {
+    for text in [b"".as_slice(), b"abcde".as_slice()] {
+        let mut out = ToWrite::new(UnflushedWriter);
+        assert_eq!(rt; write_text(&mut out, text), Err(ToolError::Write));
+        assert_eq!(rt; out.failed, 1);
+        assert_eq!(rt; out.cause, Some(Cause::System(28)));
+    }
+}
