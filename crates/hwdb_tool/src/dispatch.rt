@@ -161,7 +161,9 @@ fn with_texts<'a>(
     ensures { IfOk result (λ files. All IsStorableChoice (map choice_in files.items)) }
 {
     let mut files = Vec::new(alloc);
-    for (choice, bytes) in chosen.iter().zip(texts) {
+    let mut texts = texts.iter();
+    for choice in chosen {
+        let Some(bytes) = texts.next() else { break };
         files.push(ChosenFile { choice, bytes })?;
     }
     Ok(files)
