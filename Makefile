@@ -1,7 +1,7 @@
 # `make` builds out/hwdb (and proves it on the way), `make demo` runs it on a file of our own,
 # `make check` is the whole gate, `make check-peer` compares with Debian's own files, `make bench` measures on them.
-# `make lib` builds the C library, out/libhwdb.so.0 and out/libhwdb.a.
-# `make install` and `make uninstall` go by the folders below, `make deb` makes a Debian package in out/, `make dist` an
+# `make lib` builds the C library, out/libhwdb.so.0 and out/libhwdb.a, and out/libhwdb-udev.so.0 with libudev's calls over it.
+# `make install` and `make uninstall` go by the folders below, `make deb` makes Debian packages in out/, `make dist` an
 # archive of the sources, and `make check-package` tries all but the last; it installs what it needs with apt-get.
 VERSION := $(shell cat VERSION)
 PREFIX ?= /usr/local
@@ -19,11 +19,13 @@ INCLUDEDIR ?= $(PREFIX)/include
 SYSTEMD_HWDB ?= no
 # What is installed and tested: the program that `make` built, or another one.
 PROGRAM ?= out/hwdb
-# The library that is installed, libhwdb.a beside it; none where this is empty.
+# The library that is installed, libhwdb.a and libhwdb-udev.so.0 beside it; none where this is empty.
 LIBRARY ?= out/libhwdb.so.0
 # What the library's C is compiled with.
 CC ?= cc
 CFLAGS ?= -O2
+WARNINGS := -std=c11 -Wall -Wextra -Werror
+HARDENED := -Wl,-z,relro -Wl,-z,now -Wl,-z,noexecstack -Wl,--no-undefined
 
 .PHONY: all lib demo check check-peer check-package bench install uninstall deb dist clean
 
@@ -32,18 +34,19 @@ all:
 	mkdir -p out
 	cp crates/hwdb/out/hwdb out/hwdb
 
-# The proved calls and c/hwdb.c as one object in which only the names of c/hwdb.map are left for others.
+# The proved calls and c/hwdb.c as one object in which only the names of c/hwdb.map are left for others; c/udev.c over it.
 lib:
 	cd crates/hwdb_c && rt lib
 	mkdir -p out
-	$(CC) -std=c11 -Wall -Wextra -Werror $(CFLAGS) -fPIC -c -o out/hwdb.o c/hwdb.c
+	$(CC) $(WARNINGS) $(CFLAGS) -fPIC -c -o out/hwdb.o c/hwdb.c
 	ld -r -o out/libhwdb.o out/hwdb.o --whole-archive crates/hwdb_c/out/libhwdb_c.a --no-whole-archive \
 		"$$(dirname "$$(rt doc)")/c/liblibc_c.a"
 	objcopy --wildcard --keep-global-symbol='sd_hwdb_*' out/libhwdb.o
 	rm -f out/libhwdb.a
 	ar rcsD out/libhwdb.a out/libhwdb.o
-	$(CC) -shared -Wl,-soname,libhwdb.so.0 -Wl,--version-script=c/hwdb.map -Wl,-z,relro -Wl,-z,now \
-		-Wl,-z,noexecstack -Wl,--no-undefined -o out/libhwdb.so.0 out/libhwdb.o
+	$(CC) -shared -Wl,-soname,libhwdb.so.0 -Wl,--version-script=c/hwdb.map $(HARDENED) -o out/libhwdb.so.0 out/libhwdb.o
+	$(CC) $(WARNINGS) $(CFLAGS) -fPIC -shared -Wl,-soname,libhwdb-udev.so.0 -Wl,--version-script=c/udev.map $(HARDENED) \
+		-o out/libhwdb-udev.so.0 c/udev.c out/libhwdb.a
 	rm -f out/hwdb.o out/libhwdb.o
 
 demo: all
@@ -68,11 +71,12 @@ check:
 	tests/memory out/hwdb
 	tests/random out/hwdb
 
-check-peer: all
+check-peer: all lib
 	tests/peer out/hwdb
 	tests/users out/hwdb
+	tests/clients out/hwdb
 
-bench: all
+bench: all lib
 	cd crates/hwdb_bench && rt run -- data/workshop.bin data/devices 1
 	cp crates/hwdb_bench/out/hwdb_bench out/hwdb_bench
 	tests/bench out/hwdb out/hwdb_bench
@@ -101,6 +105,7 @@ ifneq ($(LIBRARY),)
 	install -D -m 644 '$(LIBRARY)' '$(DESTDIR)$(LIBDIR)/libhwdb.so.0'
 	ln -sf libhwdb.so.0 '$(DESTDIR)$(LIBDIR)/libhwdb.so'
 	install -m 644 '$(dir $(LIBRARY))libhwdb.a' '$(DESTDIR)$(LIBDIR)/libhwdb.a'
+	install -m 644 '$(dir $(LIBRARY))libhwdb-udev.so.0' '$(DESTDIR)$(LIBDIR)/libhwdb-udev.so.0'
 	install -D -m 644 c/hwdb.h '$(DESTDIR)$(INCLUDEDIR)/hwdb.h'
 	install -d '$(DESTDIR)$(LIBDIR)/pkgconfig'
 	sed 's|@libdir@|$(LIBDIR)|; s|@includedir@|$(INCLUDEDIR)|; s|@version@|$(VERSION)|' c/hwdb.pc.in \
@@ -119,15 +124,16 @@ uninstall:
 	rm -f '$(DESTDIR)$(BASHDIR)/hwdb' '$(DESTDIR)$(ZSHDIR)/_hwdb' '$(DESTDIR)$(FISHDIR)/hwdb.fish'
 	rm -f '$(DESTDIR)$(DOCDIR)/README.md' '$(DESTDIR)$(DOCDIR)/CHANGELOG.md' '$(DESTDIR)$(DOCDIR)/LICENSE'
 	rm -f '$(DESTDIR)$(UNITDIR)/hwdb-update.service'
-	rm -f '$(DESTDIR)$(LIBDIR)/libhwdb.so.0' '$(DESTDIR)$(LIBDIR)/libhwdb.a' '$(DESTDIR)$(INCLUDEDIR)/hwdb.h'
+	rm -f '$(DESTDIR)$(LIBDIR)/libhwdb.so.0' '$(DESTDIR)$(LIBDIR)/libhwdb.a' '$(DESTDIR)$(LIBDIR)/libhwdb-udev.so.0'
+	rm -f '$(DESTDIR)$(INCLUDEDIR)/hwdb.h'
 	rm -f '$(DESTDIR)$(LIBDIR)/pkgconfig/hwdb.pc'
 	[ "$$(readlink '$(DESTDIR)$(LIBDIR)/libhwdb.so')" != libhwdb.so.0 ] || rm '$(DESTDIR)$(LIBDIR)/libhwdb.so'
 	[ ! -d '$(DESTDIR)$(DOCDIR)' ] || rmdir --ignore-fail-on-non-empty '$(DESTDIR)$(DOCDIR)'
 	[ "$$(readlink '$(DESTDIR)$(BINDIR)/systemd-hwdb')" != hwdb ] || rm '$(DESTDIR)$(BINDIR)/systemd-hwdb'
 
-# out/hwdb_VERSION_ARCHITECTURE.deb, of the same bytes for the same commit and program.
-deb: $(PROGRAM)
-	packaging/deb '$(PROGRAM)' out
+# out/NAME_VERSION_ARCHITECTURE.deb of hwdb, libhwdb0 and libhwdb-dev, of the same bytes for the same commit and program.
+deb: $(PROGRAM) out/libhwdb.so.0
+	packaging/deb '$(PROGRAM)' out/libhwdb.so.0 out
 
 # The sources of this commit.
 dist:
@@ -135,13 +141,13 @@ dist:
 	git archive --format=tar.gz --prefix='hwdb-$(VERSION)/' -o 'out/hwdb-$(VERSION).tar.gz' HEAD
 
 # Needs root, for apt-get and for a root of its own.
-check-package: $(PROGRAM)
+check-package: $(PROGRAM) out/libhwdb.so.0
 	tests/package-tools
 	tests/words '$(PROGRAM)'
 	tests/completions
 	tests/lint '$(PROGRAM)'
 	tests/installed '$(PROGRAM)'
-	tests/package '$(PROGRAM)'
+	tests/package '$(PROGRAM)' out/libhwdb.so.0
 
 clean:
 	rm -rf out crates/*/out

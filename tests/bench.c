@@ -9,7 +9,8 @@
  *   bench links FILE FOLDER COUNT               gives the file so many names in the folder, each ending in .hwdb
  *   bench read FILE                             reads a file into memory, 64 KiB at a time
  *   bench udev LIBRARY DEVICES ROUNDS           with libudev: opens the system's hardware database, looks up each line of
- *                 the file DEVICES, so many times, and prints how many properties came in all */
+ *                 the file DEVICES, so many times, and prints how many properties came in all
+ *   bench sd LIBRARY DEVICES ROUNDS             the same with the calls of sd-hwdb: seek and enumerate */
 #define _GNU_SOURCE
 #include <dlfcn.h>
 #include <fcntl.h>
@@ -46,6 +47,14 @@ static struct bytes bytes_of(const char *path) {
     close(file);
     bytes.at[bytes.length] = 0;
     return bytes;
+}
+
+/* The same, with byte 0 behind each line. */
+static struct bytes lines_of(const char *path) {
+    struct bytes text = bytes_of(path);
+    for (size_t i = 0; i < text.length; i++)
+        if (text.at[i] == '\n') text.at[i] = 0;
+    return text;
 }
 
 struct command { char **words; long times[MOST_RUNS]; long memory; int has_failed; };
@@ -115,11 +124,9 @@ static int look_up(const char *path, const char *devices, long rounds) {
     if (!library) return fprintf(stderr, "%s\n", dlerror()), 1;
     properties_of *properties = (properties_of *)named(library, "udev_hwdb_get_properties_list_entry");
     next_of *next = (next_of *)named(library, "udev_list_entry_get_next");
-    struct bytes text = bytes_of(devices);
+    struct bytes text = lines_of(devices);
     void *hwdb = ((new_hwdb *)named(library, "udev_hwdb_new"))(((new_udev *)named(library, "udev_new"))());
     if (!hwdb) return fprintf(stderr, "no hardware database\n"), 1;
-    for (size_t i = 0; i < text.length; i++)
-        if (text.at[i] == '\n') text.at[i] = 0;
     unsigned long found = 0;
     for (long round = 0; round < rounds; round++)
         for (char *device = text.at; device < text.at + text.length; device += strlen(device) + 1)
@@ -137,6 +144,26 @@ static int link_all(const char *file, const char *folder, unsigned long count) {
     return 0;
 }
 
+typedef int new_sd(void **);
+typedef int seek_sd(void *, const char *);
+typedef int enumerate_sd(void *, const char **, const char **);
+
+static int sd_look_up(const char *path, const char *devices, long rounds) {
+    void *library = dlopen(path, RTLD_NOW), *hwdb;
+    if (!library) return fprintf(stderr, "%s\n", dlerror()), 1;
+    seek_sd *seek = (seek_sd *)named(library, "sd_hwdb_seek");
+    enumerate_sd *enumerate = (enumerate_sd *)named(library, "sd_hwdb_enumerate");
+    struct bytes text = lines_of(devices);
+    if (((new_sd *)named(library, "sd_hwdb_new"))(&hwdb) < 0) return fprintf(stderr, "no hardware database\n"), 1;
+    unsigned long found = 0;
+    const char *key, *value;
+    for (long round = 0; round < rounds; round++)
+        for (char *device = text.at; device < text.at + text.length; device += strlen(device) + 1)
+            for (seek(hwdb, device); enumerate(hwdb, &key, &value) > 0;) found++;
+    printf("%lu properties\n", found);
+    return 0;
+}
+
 int main(int count, char **words) {
     if (count > 3 && !strcmp(words[1], "time")) return time_all(atoi(words[2]), words + 3);
     if (count > 4 && !strcmp(words[1], "processor")) {
@@ -146,5 +173,6 @@ int main(int count, char **words) {
     if (count == 5 && !strcmp(words[1], "links")) return link_all(words[2], words[3], strtoul(words[4], 0, 10));
     if (count == 3 && !strcmp(words[1], "read")) return bytes_of(words[2]).length == 0;
     if (count == 5 && !strcmp(words[1], "udev")) return look_up(words[2], words[3], atol(words[4]));
+    if (count == 5 && !strcmp(words[1], "sd")) return sd_look_up(words[2], words[3], atol(words[4]));
     return fprintf(stderr, "usage: see the source\n"), 1;
 }

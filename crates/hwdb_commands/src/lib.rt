@@ -7,11 +7,11 @@
 //! | `adapters` | std's readers and writers as devices |
 //! | `transfer` | a whole source is read, a whole text is written |
 //! | `texts` | the lines that are printed |
-//! | `lookup` | `query` and `list`: what a database answers |
-//! | `explanation` | `explain`: what a database answers, and where that comes from |
+//! | `lookup` | `query` and `list`: what a database has for a device |
+//! | `explanation` | `explain`: what a database has for a device, and where that comes from |
 //! | `device_texts` | the texts of several devices, one after another |
 //! | `hit_lines` | the hits of a cursor, one line after another |
-//! | `single_file` | `ask`: what one text file answers |
+//! | `single_file` | `ask`: what one text file has for a device |
 //! | `update` | `update`: the database of the files of two folders, put in its place |
 //! | `errors`, `causes` | why a call refuses, and why the system did |
 //! | `testing` | devices in memory |

@@ -137,7 +137,7 @@ pub fn compile_chosen(
 /// them in the order of their priorities, and writes what survives. Of several files of one name in one list
 /// the first counts.
 ///
-/// What a reader of the database answers for a device is, of all assignments of the files, the last one of each
+/// What a reader of the database returns for a device is, of all assignments of the files, the last one of each
 /// pattern and key whose pattern matches: by file priority, line, pattern and key.
 ///
 /// Refuses with [`CompileError::TooManyFiles`] before all, then with [`CompileError::TooManyLines`], then with

@@ -22,7 +22,7 @@ pub fn law_few_nodes()
     ensures { (bytes : List ℕ) (t : Tree) → IsDatabase bytes t → node_count t < length bytes }
 {}
 
-/// No fault stands in a database, so that bytes with a fault are a database of no tree.
+/// No fault applies to a database, so that bytes with a fault are a database of no tree.
 pub fn law_faultless()
     ensures { (bytes : List ℕ) (t : Tree) (e : DbFault)
         → IsDatabase bytes t → Applies bytes e → ⊥ }

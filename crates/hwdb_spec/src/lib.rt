@@ -13,7 +13,7 @@
 //! | `Last` | which assignments are the last ones, in words |
 //! | `Answers` | the last assignments, those that match, those after a position, and the effective list |
 //! | `Tree` | nodes, the map that they stand for, their answers, and live nodes |
-//! | `Format` | the header, a node's record, when bytes are a database of a tree, and which fault stands |
+//! | `Format` | the header, a node's record, when bytes are a database of a tree, and which fault applies |
 //! | `Written` | the tight tree of a map, and its bytes |
 //! | `Texts` | each line that is printed |
 //! | `Explanations` | for each key the answer that counts and those that it overrides, and their lines |
