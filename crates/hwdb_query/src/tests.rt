@@ -126,6 +126,22 @@ fn hits(rt: HostRuntime) -> Result<(), Fail> {
     Ok(())
 }
 
+/// A line for each property of a device, and how many there are.
+fn effective_lines(alloc: Global, hex: &str, device: &[u8]) -> Result<(Vec<u8>, usize), Fail> {
+    let bytes = bytes_of(alloc, hex)?;
+    let db = check(&bytes).map_err(|_| "refused")?;
+    let properties = effective(alloc, &db, device)?;
+    let count = properties.len();
+    let mut text = Vec::new(alloc);
+    for (key, value) in properties {
+        text.extend_from_slice(key)?;
+        text.push(b'=')?;
+        text.extend_from_slice(value)?;
+        text.push(b'\n')?;
+    }
+    Ok((text, count))
+}
+
 #[test]
 fn effective_lists(rt: HostRuntime) -> Result<(), Fail> {
     let rows = [
@@ -140,20 +156,11 @@ fn effective_lists(rt: HostRuntime) -> Result<(), Fail> {
         (ONE_LINE_GREATER, "xy", "K=K\n"),
     ];
     for (hex, device, wanted) in rows {
-        let bytes = bytes_of(rt.alloc(), hex)?;
-        let db = check(&bytes).map_err(|_| "refused")?;
-        let mut text = Vec::new(rt.alloc());
-        for (key, value) in effective(rt.alloc(), &db, device.as_bytes())? {
-            text.extend_from_slice(key)?;
-            text.push(b'=')?;
-            text.extend_from_slice(value)?;
-            text.push(b'\n')?;
-        }
+        let (text, _) = effective_lines(rt.alloc(), hex, device.as_bytes())?;
         assert_eq!(rt; text.as_slice(), wanted.as_bytes());
     }
-    let bytes = bytes_of(rt.alloc(), MANY_KEYS)?;
-    let db = check(&bytes).map_err(|_| "refused")?;
-    assert_eq!(rt; effective(rt.alloc(), &db, b"a")?.len(), 65);
+    let (_, count) = effective_lines(rt.alloc(), MANY_KEYS, b"a")?;
+    assert_eq!(rt; count, 65);
     Ok(())
 }
 
@@ -187,23 +194,39 @@ fn step(hits: &mut Cursor<'_, '_>) -> Result<(bool, usize), Fail> {
     Ok((found, hits.held()))
 }
 
+/// What 66 steps of a cursor over 65 hits tell, with pages of this size.
+fn steps_of(alloc: Global, page: usize) -> Result<Vec<(bool, usize)>, Fail> {
+    let bytes = bytes_of(alloc, MANY_KEYS)?;
+    let db = check(&bytes).map_err(|_| "refused")?;
+    let mut hits = cursor(alloc, &db, b"a", None, page).map_err(|_| "no cursor")?;
+    let mut steps = Vec::new(alloc);
+    for _ in 0..66 {
+        steps.push(step(&mut hits)?)?;
+    }
+    Ok(steps)
+}
+
 #[test]
 fn held_hits(rt: HostRuntime) -> Result<(), Fail> {
+    for page in [64usize, 1] {
+        let steps = steps_of(rt.alloc(), page)?;
+        assert_eq!(rt; steps.len(), 66);
+        for (i, seen) in steps.iter().enumerate() {
+            let held = if page == 64 && i < 64 { 63 - i } else { 0 };
+            assert_eq!(rt; *seen, (i < 65, held), "{page} {i}");
+        }
+    }
+    Ok(())
+}
+
+/// A cursor before its first step, and one that is refused.
+#[test]
+fn fresh_cursors(rt: HostRuntime) -> Result<(), Fail> {
     let bytes = bytes_of(rt.alloc(), MANY_KEYS)?;
     let db = check(&bytes).map_err(|_| "refused")?;
-    let mut hits = cursor(rt.alloc(), &db, b"a", None, 64).map_err(|_| "no cursor")?;
+    let hits = cursor(rt.alloc(), &db, b"a", None, 64).map_err(|_| "no cursor")?;
     assert_eq!(rt; hits.held(), 0);
     assert_eq!(rt; hits.entered(), 0);
-    for i in 0..66usize {
-        let (found, held) = step(&mut hits)?;
-        assert_eq!(rt; found, i < 65);
-        assert_eq!(rt; held, if i < 64 { 63 - i } else { 0 });
-    }
-    let mut hits = cursor(rt.alloc(), &db, b"a", None, 1).map_err(|_| "no cursor")?;
-    for i in 0..66usize {
-        let (found, held) = step(&mut hits)?;
-        assert!(rt; found == (i < 65) && held == 0);
-    }
     let none = cursor(rt.alloc(), &db, b"a", None, 0);
     assert!(rt; matches!(&none, Err(CursorError::PageZero)));
     Ok(())
@@ -249,20 +272,21 @@ fn long_device(alloc: Global, first: u8, length: usize) -> Result<Vec<u8>, Fail>
 
 #[test]
 fn long_devices(rt: HostRuntime) -> Result<(), Fail> {
-    let rows = [(b'a', "1:2:612a:4b\ta*\tK=1\n", "K=1"), (b'x', "", "")];
+    let rows = [(b'a', "1:2:612a:4b\ta*\tK=1\n", "K=1\n"), (b'x', "", "")];
     for (first, lines, pair) in rows {
         let device = long_device(rt.alloc(), first, 5000)?;
         let (seen, _) = listed(rt.alloc(), TWO_PATTERNS, &device, None, 64)?;
         assert_eq!(rt; seen.as_slice(), lines.as_bytes());
-        let bytes = bytes_of(rt.alloc(), TWO_PATTERNS)?;
-        let db = check(&bytes).map_err(|_| "refused")?;
-        let mut text = Vec::new(rt.alloc());
-        for (key, value) in effective(rt.alloc(), &db, &device)? {
-            text.extend_from_slice(key)?;
-            text.push(b'=')?;
-            text.extend_from_slice(value)?;
-        }
+        let (text, _) = effective_lines(rt.alloc(), TWO_PATTERNS, &device)?;
         assert_eq!(rt; text.as_slice(), pair.as_bytes());
+    }
+    Ok(())
+}
+
+/// Adds the line of the next hit, if there is one.
+fn add_next(alloc: Global, hits: &mut Cursor<'_, '_>, text: &mut Vec<u8>) -> Result<(), Fail> {
+    if let Some(hit) = hits.next()? {
+        add_line(alloc, &hit, text)?;
     }
     Ok(())
 }
@@ -279,12 +303,8 @@ fn two_databases(rt: HostRuntime) -> Result<(), Fail> {
     let mut of_other = cursor(alloc, &other, b"a", None, 1).map_err(|_| "no cursor")?;
     let mut text = Vec::new(alloc);
     for _ in 0..3 {
-        if let Some(hit) = of_one.next()? {
-            add_line(alloc, &hit, &mut text)?;
-        }
-        if let Some(hit) = of_other.next()? {
-            add_line(alloc, &hit, &mut text)?;
-        }
+        add_next(alloc, &mut of_one, &mut text)?;
+        add_next(alloc, &mut of_other, &mut text)?;
     }
     let lines =
         "1:2:612a:4b\ta*\tK=1\n1:2:61:4b\ta\tK=1\n1:5:6162:4b\tab\tK=2\n2:2:612a:4b\ta*\tK=2\n";

@@ -75,7 +75,7 @@ fn explanations(rt: HostRuntime) -> Result<(), Fail> {
 }
 
 #[test]
-fn many_keys_and_long_devices(rt: HostRuntime) -> Result<(), Fail> {
+fn many_keys(rt: HostRuntime) -> Result<(), Fail> {
     let bytes = bytes_of(rt.alloc(), MANY_KEYS)?;
     let db = check(&bytes).map_err(|_| "refused")?;
     let all = explain(rt.alloc(), &db, b"a")?;
@@ -85,6 +85,11 @@ fn many_keys_and_long_devices(rt: HostRuntime) -> Result<(), Fail> {
         assert_eq!(rt; one.key, key.as_str().as_bytes());
         assert_eq!(rt; one.answers.len(), 1);
     }
+    Ok(())
+}
+
+#[test]
+fn long_devices(rt: HostRuntime) -> Result<(), Fail> {
     let device = long_device(rt.alloc(), b'a', 5000)?;
     let seen = explained(rt.alloc(), TWO_PATTERNS, &device)?;
     let text = "K=1@1:2 a* /etc/udev/hwdb.d/1.hwdb\n";
