@@ -6,10 +6,10 @@ ghost use Rattle.hwdb_spec.specs.Texts.{query_text, queries_text};
 ghost use Rattle.hwdb_commands.specs.Devices.{AppendsPrefix};
 ghost use Rattle.hwdb_commands.specs.Lookups.{IsPrintRefusal, empty_line_unless};
 
-use crate::devices::Sink;
 use crate::errors::ToolError;
 use crate::texts::property_lines;
 use crate::transfer::write_text;
+use hwdb_devices::Sink;
 use hwdb_query::effective;
 use hwdb_reader::Db;
 use std::alloc::{AllocError, Global};

@@ -9,10 +9,10 @@ ghost use Rattle.hwdb_query.specs.Views.{assignment_of_answer, explained_values}
 ghost use Rattle.hwdb_commands.specs.Devices.{Wrote, WrotePrefix};
 ghost use Rattle.hwdb_commands.specs.Lookups.{IsTextOf, IsDatabaseRefusal, IsQueryRefusal};
 
-use crate::devices::Sink;
 use crate::errors::ToolError;
 use crate::texts::{push_place, push_property};
 use crate::transfer::write_text;
+use hwdb_devices::Sink;
 use hwdb_query::{Answer, Explained, compiled_answers_are_last, explain};
 use hwdb_reader::check;
 use std::alloc::{AllocError, Global};

@@ -6,10 +6,10 @@ ghost use Rattle.hwdb_commands.specs.Devices.{AppendsPrefix};
 ghost use Rattle.hwdb_commands.specs.Lookups.{AppendsLines, IsPrintRefusal, list_page, one_less};
 ghost use Rattle.hwdb_spec.specs.Texts.{hits_text, within_limit};
 
-use crate::devices::Sink;
 use crate::errors::ToolError;
 use crate::texts::set_hit_line;
 use crate::transfer::write_text;
+use hwdb_devices::Sink;
 use hwdb_query::Cursor;
 use std::alloc::Global;
 

@@ -1,10 +1,8 @@
 //! What the commands do with bytes: each reads a database or text files as bytes, and writes its text to a
-//! [`Sink`] that may fail at any byte.
+//! [`Sink`](hwdb_devices::Sink) that may fail at any byte.
 //!
 //! | Module | What it does |
 //! |---|---|
-//! | `devices` | where bytes come from and go to; each device counts its failed calls, and some tell their bytes |
-//! | `adapters` | std's readers and writers as devices |
 //! | `transfer` | a whole source is read, a whole text is written |
 //! | `texts` | the lines that are printed |
 //! | `lookup` | `query` and `list`: what a database has for a device |
@@ -13,29 +11,21 @@
 //! | `hit_lines` | the hits of a cursor, one line after another |
 //! | `single_file` | `ask`: what one text file has for a device |
 //! | `update` | `update`: the database of the files of two folders, put in its place |
-//! | `errors`, `causes` | why a call refuses, and why the system did |
-//! | `testing` | devices in memory |
+//! | `errors` | why a call refuses |
 #![tactic(auto)]
 
-mod adapters;
-mod causes;
 mod device_texts;
-mod devices;
 mod errors;
 mod explanation;
 mod hit_lines;
 mod lookup;
 mod single_file;
-pub mod testing;
 #[cfg(test)]
 mod tests;
 mod texts;
 mod transfer;
 mod update;
 
-pub use adapters::{FromRead, ToWrite, after_failure, write_on};
-pub use causes::{Cause, Message};
-pub use devices::{DeviceFailed, Sink, Source};
 pub use errors::ToolError;
 pub use explanation::run_explain;
 pub use lookup::{MAX_BYTES, run_list, run_queries, run_query};

@@ -11,11 +11,11 @@ ghost use Rattle.hwdb_commands.specs.Lookups.{IsTextOf, IsDatabaseRefusal, IsQue
 ghost use Rattle.hwdb_spec.specs.Written.{IsCompiled};
 
 use crate::device_texts::print_texts;
-use crate::devices::Sink;
 use crate::errors::ToolError;
 use crate::hit_lines::print_hits;
 use crate::texts::property_lines;
 use crate::transfer::write_text;
+use hwdb_devices::Sink;
 use hwdb_query::{Position, compiled_answers_are_last, cursor, effective};
 use hwdb_reader::check;
 use std::alloc::Global;

@@ -7,12 +7,12 @@ ghost use Rattle.hwdb_commands.specs.Devices.{OneOfTwoFailed, WroteTexts, WroteT
 ghost use Rattle.hwdb_spec.specs.Texts.{max_file, last_values_text};
 ghost use Rattle.hwdb_commands.specs.Updates.{lone, lone_choice, AreAskTexts, IsAskRefusal};
 
-use crate::devices::Sink;
 use crate::errors::ToolError;
 use crate::lookup::{MAX_BYTES, properties_of};
 use crate::texts::fault_lines_at;
 use crate::transfer::write_text;
 use hwdb_compile::{ChosenFile, compile_chosen};
+use hwdb_devices::Sink;
 use hwdb_text::Chosen;
 use std::alloc::{AllocError, Global};
 

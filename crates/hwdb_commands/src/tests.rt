@@ -1,29 +1,12 @@
 //! Worked examples of reading, writing and asking.
-mod commands;
-mod explanations;
-mod failing;
-mod hostile;
-mod vectors;
-
 use crate::errors::ToolError;
 use crate::single_file::ask;
-use crate::testing::{EndlessSource, MemorySink, MemorySource};
 use crate::transfer::{read_all, write_text};
+use hwdb_devices::testing::{EndlessSource, MemorySink, MemorySource};
 use hwdb_reader::DbFault;
-use hwdb_store::Memory;
-use hwdb_store::memory::state_of;
-use std::alloc::{AllocError, Global};
+use std::alloc::Global;
 use std::process::Abort;
 use std::test::Fail;
-
-/// The bytes of the database in the folder `/f` of a store; none where it has none.
-fn database_in(alloc: Global, store: &Memory) -> Result<Vec<u8>, AllocError> {
-    let state = state_of(alloc, &store.steps, b"/f/hwdb.bin")?;
-    match state.now {
-        Some(file) => file.bytes.to_vec(alloc),
-        None => Ok(Vec::new(alloc)),
-    }
-}
 
 /// Asks one file, and compares what was written to `out` and to `err`.
 fn asks(

@@ -5,8 +5,8 @@ ghost use Rattle.hwdb_spec.specs.Failures.{HasFailed, OneFailed};
 ghost use Rattle.hwdb_commands.specs.Devices.{AppendsPrefix};
 ghost use Rattle.hwdb_commands.specs.Refusals.{IsReadRefusal};
 
-use crate::devices::{Sink, Source};
 use crate::errors::ToolError;
+use hwdb_devices::{Sink, Source};
 use std::alloc::Global;
 
 /// Writes all of the text and flushes. Takes no memory. The first call that fails ends it, as

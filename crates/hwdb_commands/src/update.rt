@@ -10,11 +10,11 @@ ghost use Rattle.hwdb_spec.specs.Store.{InPlace, LeavesOnly};
 ghost use Rattle.hwdb_store.specs.Views.{failures_after};
 ghost use Rattle.hwdb_commands.specs.Updates.{Updated, UpdateUndone, OnUnreplaced, OldOrWritten, IsUpdateRefusal};
 
-use crate::devices::Sink;
 use crate::errors::ToolError;
 use crate::texts::fault_lines;
 use crate::transfer::write_text;
 use hwdb_compile::{ChosenFile, FileFault, SourceFile, choose, compile_chosen, with_bytes};
+use hwdb_devices::Sink;
 use hwdb_store::{Store, Unreplaced, replace};
 use std::alloc::Global;
 

@@ -6,7 +6,7 @@ use Rattle.std.specs.Io.KnownBytes.{Appends}
 use Rattle.std.proofs.KnownBytes.{Appends-trans}
 use Rattle.hwdb_commands.specs.Devices.{AppendsPrefix}
 use Rattle.hwdb_spec.specs.declared.DbFault.{DbFault}
-use Rattle.hwdb_commands.specs.declared.causes.Cause.{Cause}
+use Rattle.hwdb_devices.specs.declared.causes.Cause.{Cause}
 use Rattle.hwdb_commands.specs.declared.errors.ToolError.{ToolError}
 use Rattle.hwdb_commands.specs.declared.errors.ToolError.TheVariants.{Read, Write, TooLong, TooManyFiles, TooManyLines, TooLarge, BadPosition, PageZero, BadDatabase, Replace, Memory}
 use Rattle.hwdb_tool.specs.Refusals.{Refused, refusal_line, path_text}

@@ -5,7 +5,7 @@ use Rattle.std.specs.Io.KnownBytes.{Appends}
 use Rattle.hwdb_spec.specs.Lines.{byte}
 use Rattle.hwdb_commands.specs.Devices.{AppendsPrefix}
 use Rattle.hwdb_commands.specs.Refusals.{error_text}
-use Rattle.hwdb_commands.specs.declared.causes.Cause.{Cause}
+use Rattle.hwdb_devices.specs.declared.causes.Cause.{Cause}
 use Rattle.hwdb_commands.specs.declared.errors.ToolError.TheVariants.{Read, Write, TooLong}
 use Rattle.hwdb_commands.specs.declared.errors.ToolError.{ToolError}
 use Rattle.hwdb_tool.specs.declared.refusals.Refusal.{Refusal}

@@ -8,9 +8,10 @@ use crate::files::{SystemStore, any_bytes, database_bytes, joined, names_in, pat
 use crate::refusals::{Refusal, refuse_for, refuse_text};
 use hwdb_cli::{Job, Task, WordsFault, read_words};
 use hwdb_commands::{
-    MAX_BYTES, Sink, ToolError, ask, run_explain, run_list, run_queries, update_chosen, write_text,
+    MAX_BYTES, ToolError, ask, run_explain, run_list, run_queries, update_chosen, write_text,
 };
 use hwdb_compile::ChosenFile;
+use hwdb_devices::Sink;
 use hwdb_store::DATABASE;
 use hwdb_text::{Chosen, select};
 use std::alloc::{AllocError, Global};

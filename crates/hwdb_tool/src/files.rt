@@ -4,7 +4,8 @@ ghost use Rattle.hwdb_spec.specs.Failures.{after_failure, CountsFailures};
 ghost use Rattle.hwdb_spec.specs.Texts.{max_file};
 
 use crate::refusals::Refusal;
-use hwdb_commands::{Cause, FromRead, MAX_BYTES, ToolError, after_failure, read_all, write_on};
+use hwdb_commands::{MAX_BYTES, ToolError, read_all};
+use hwdb_devices::{Cause, FromRead, after_failure, write_on};
 use hwdb_store::{CallFailed, Store};
 use hwdb_text::counts;
 use std::alloc::{AllocError, Global};

@@ -6,7 +6,8 @@
 //! | `files` | files and folders, and the file system as a store |
 //! | `refusals` | the line of each refusal |
 //!
-//! What the commands do with bytes is in `hwdb_commands`; its calls are here too.
+//! What the commands do with bytes is in `hwdb_commands`, and their devices are in `hwdb_devices`; the calls of both are
+//! here too.
 #![tactic(auto)]
 
 mod dispatch;
@@ -18,6 +19,6 @@ mod tests;
 pub use dispatch::program;
 pub use hwdb_cli::{Job, Task, WordsFault, read_words};
 pub use hwdb_commands::{
-    Cause, DeviceFailed, FromRead, Sink, Source, ToWrite, ToolError, ask, read_all, run_explain,
-    run_list, run_queries, run_query, run_update, testing, write_text,
+    ToolError, ask, read_all, run_explain, run_list, run_queries, run_query, run_update, write_text,
 };
+pub use hwdb_devices::{Cause, DeviceFailed, FromRead, Sink, Source, ToWrite, testing};

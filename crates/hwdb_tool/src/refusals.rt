@@ -7,7 +7,8 @@ ghost use Rattle.hwdb_tool.specs.Refusals.{Refused, refusal_line, refusal_text, 
 ghost use Rattle.hwdb_commands.specs.declared.errors.ToolError.TheVariants.{Memory};
 ghost use Rattle.hwdb_tool.specs.declared.refusals.Refusal.TheVariants.{Plain};
 
-use hwdb_commands::{Cause, Sink, ToolError, write_text};
+use hwdb_commands::{ToolError, write_text};
+use hwdb_devices::{Cause, Sink};
 use hwdb_reader::DbFault;
 use std::alloc::{AllocError, Global};
 

@@ -1,7 +1,8 @@
 //! The line of each refusal.
 use crate::refusals::{Refusal, refuse_for};
-use hwdb_commands::testing::MemorySink;
-use hwdb_commands::{Cause, ToolError};
+use hwdb_commands::ToolError;
+use hwdb_devices::Cause;
+use hwdb_devices::testing::MemorySink;
 use hwdb_reader::DbFault;
 use std::alloc::Global;
 use std::process::Abort;

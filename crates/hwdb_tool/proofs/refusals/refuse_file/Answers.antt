@@ -1,6 +1,6 @@
 use Rattle.std.proofs.Common.{ap, sym, ◌∙◌, ◌++◌, List, ℕ, Option, Some}
 use Rattle.hwdb_tool.specs.Refusals.{refusal_line, file_text}
-use Rattle.hwdb_commands.specs.declared.causes.Cause.{Cause}
+use Rattle.hwdb_devices.specs.declared.causes.Cause.{Cause}
 use Rattle.hwdb_tool.proofs.LineLemmas.{refused_as, cause_line}
 use Rattle.hwdb_tool.proofs.refusals.refuse_file.Goals as goal
 

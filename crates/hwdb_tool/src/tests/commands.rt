@@ -1,10 +1,9 @@
 //! Worked examples of the commands over bytes.
-use crate::errors::ToolError;
-use crate::lookup::{MAX_BYTES, run_list, run_queries, run_query};
-use crate::testing::MemorySink;
+use crate::tests::calls::{add, list, queries, query, update};
 use crate::tests::database_in;
-use crate::update::run_update;
+use hwdb_commands::{MAX_BYTES, ToolError};
 use hwdb_compile::SourceFile;
+use hwdb_devices::testing::MemorySink;
 use hwdb_reader::DbFault;
 use hwdb_store::Memory;
 use std::alloc::{AllocError, Global};
@@ -35,11 +34,15 @@ fn usr<'t>(name: &'t str, text: &'t str) -> Text<'t> {
     }
 }
 
-fn add(alloc: Global, files: &mut Vec<SourceFile>, file: Text<'_>) -> Result<(), AllocError> {
-    let name = String::from_str(alloc, file.name)?;
-    let bytes = file.text.as_bytes().to_vec(alloc)?;
-    files.push(SourceFile { name, bytes })?;
-    Ok(())
+/// The files of one of the folders.
+fn folder(alloc: Global, files: &[Text<'_>], is_etc: bool) -> Result<Vec<SourceFile>, AllocError> {
+    let mut found = Vec::new(alloc);
+    for file in files {
+        if file.is_etc == is_etc {
+            add(alloc, &mut found, file.name, file.text)?;
+        }
+    }
+    Ok(found)
 }
 
 /// What `update` wrote: the database, the fault lines and the status.
@@ -56,24 +59,16 @@ fn update_of(
     max_bytes: u32,
     strict: bool,
 ) -> Result<Updated, ToolError> {
-    let mut etc = Vec::new(alloc);
-    let mut usr = Vec::new(alloc);
-    for file in files {
-        if file.is_etc {
-            add(alloc, &mut etc, *file)?;
-        } else {
-            add(alloc, &mut usr, *file)?;
-        }
-    }
+    let etc = folder(alloc, files, true)?;
+    let usr = folder(alloc, files, false)?;
     let mut store = Memory::new(alloc);
     let mut faults: MemorySink<1024> = MemorySink::new();
-    let status = run_update(
+    let status = update(
         alloc,
         &etc,
         &usr,
         max_bytes,
         strict,
-        "/f",
         &mut store,
         &mut faults,
     )?;
@@ -223,12 +218,12 @@ fn answered(
     listed: &str,
     printed: &str,
 ) -> Result<(), Fail> {
-    let mut list: MemorySink<256> = MemorySink::new();
-    run_list(alloc, database, device.as_bytes(), None, None, &mut list)?;
-    assert_eq!(rt; list.taken(), listed.as_bytes(), "list of {device}");
-    let mut query: MemorySink<256> = MemorySink::new();
-    run_query(alloc, database, device.as_bytes(), &mut query)?;
-    assert_eq!(rt; query.taken(), printed.as_bytes(), "query of {device}");
+    let mut out: MemorySink<256> = MemorySink::new();
+    list(alloc, database, device.as_bytes(), None, None, &mut out)?;
+    assert_eq!(rt; out.taken(), listed.as_bytes(), "list of {device}");
+    let mut out: MemorySink<256> = MemorySink::new();
+    query(alloc, database, device.as_bytes(), &mut out)?;
+    assert_eq!(rt; out.taken(), printed.as_bytes(), "query of {device}");
     Ok(())
 }
 
@@ -258,7 +253,7 @@ fn updates(rt: HostRuntime) -> Result<(), Fail> {
     Ok(())
 }
 
-/// Positions, limits, and texts that spell no position.
+/// Positions and limits.
 #[test]
 fn resumed(rt: HostRuntime) -> Result<(), Fail> {
     let made = update_of(rt.alloc(), &[OVERRIDES], MAX_BYTES, false)?;
@@ -275,17 +270,23 @@ fn resumed(rt: HostRuntime) -> Result<(), Fail> {
         ("9:0::", None, ""),
     ];
     for (after, limit, want) in rows {
-        let mut list: MemorySink<256> = MemorySink::new();
-        run_list(
+        let mut out: MemorySink<256> = MemorySink::new();
+        list(
             rt.alloc(),
             made.database.as_slice(),
             b"ab",
             Some(after),
             limit,
-            &mut list,
+            &mut out,
         )?;
-        assert_eq!(rt; list.taken(), want.as_bytes(), "after {after}");
+        assert_eq!(rt; out.taken(), want.as_bytes(), "after {after}");
     }
+    Ok(())
+}
+
+/// Texts that spell no position.
+#[test]
+fn no_positions(rt: HostRuntime) -> Result<(), Fail> {
     for after in [
         "",
         "1:2",
@@ -297,17 +298,17 @@ fn resumed(rt: HostRuntime) -> Result<(), Fail> {
         "1:2:zz:",
         "1:2:::",
     ] {
-        let mut list: MemorySink<256> = MemorySink::new();
-        let refused = run_list(
+        let mut out: MemorySink<256> = MemorySink::new();
+        let refused = list(
             rt.alloc(),
             b"no database",
             b"ab",
             Some(after),
             None,
-            &mut list,
+            &mut out,
         );
         assert_eq!(rt; refused, Err(ToolError::BadPosition), "after {after}");
-        assert_eq!(rt; list.taken(), b"".as_slice());
+        assert_eq!(rt; out.taken(), b"".as_slice());
     }
     Ok(())
 }
@@ -324,19 +325,17 @@ fn refused(rt: HostRuntime) -> Result<(), Fail> {
             DbFault::Lengths
         };
         let mut out: MemorySink<64> = MemorySink::new();
-        let refused = run_query(rt.alloc(), &bytes[..length], b"ab", &mut out);
-        assert_eq!(rt; refused, Err(ToolError::BadDatabase(fault)));
-        let refused = run_list(rt.alloc(), &bytes[..length], b"ab", None, None, &mut out);
-        assert_eq!(rt; refused, Err(ToolError::BadDatabase(fault)));
+        let queried = query(rt.alloc(), &bytes[..length], b"ab", &mut out);
+        assert_eq!(rt; queried, Err(ToolError::BadDatabase(fault)));
+        let listed = list(rt.alloc(), &bytes[..length], b"ab", None, None, &mut out);
+        assert_eq!(rt; listed, Err(ToolError::BadDatabase(fault)));
         assert_eq!(rt; out.taken(), b"".as_slice());
     }
     Ok(())
 }
 
-/// More hits than a page.
-#[test]
-fn pages(rt: HostRuntime) -> Result<(), Fail> {
-    let alloc = rt.alloc();
+/// A text file of one pattern with 65 properties.
+fn long_text(alloc: Global) -> Result<String, AllocError> {
     let mut text = String::from_str(alloc, "a\n")?;
     for tens in 0..7u8 {
         for ones in 0..10u8 {
@@ -346,37 +345,36 @@ fn pages(rt: HostRuntime) -> Result<(), Fail> {
             }
         }
     }
-    let mut store = Memory::new(alloc);
-    let mut faults: MemorySink<8> = MemorySink::new();
-    let mut files = Vec::new(alloc);
-    add(alloc, &mut files, etc("1.hwdb", text.as_str()))?;
-    run_update(
-        alloc,
-        &files,
-        &[],
-        MAX_BYTES,
-        true,
-        "/f",
-        &mut store,
-        &mut faults,
-    )?;
-    let database = database_in(alloc, &store)?;
+    Ok(text)
+}
+
+/// How many lines a text has.
+fn lines_in(text: &[u8]) -> usize {
+    let mut seen = 0;
+    for byte in text {
+        if *byte == b'\n' {
+            seen = 1usize.saturating_add(seen);
+        }
+    }
+    seen
+}
+
+/// More hits than a page.
+#[test]
+fn pages(rt: HostRuntime) -> Result<(), Fail> {
+    let alloc = rt.alloc();
+    let text = long_text(alloc)?;
+    let made = update_of(alloc, &[etc("1.hwdb", text.as_str())], MAX_BYTES, true)?;
     for (after, limit, lines) in [
         (None, None, 65usize),
         (None, Some(64u64), 64),
         (Some("1:65:61:4b3634"), None, 1),
     ] {
-        let mut list: MemorySink<4096> = MemorySink::new();
-        run_list(alloc, &database, b"a", after, limit, &mut list)?;
-        let mut seen = 0;
-        for byte in list.taken() {
-            if *byte == b'\n' {
-                seen = 1usize.saturating_add(seen);
-            }
-        }
-        assert_eq!(rt; seen, lines);
+        let mut out: MemorySink<4096> = MemorySink::new();
+        list(alloc, &made.database, b"a", after, limit, &mut out)?;
+        assert_eq!(rt; lines_in(out.taken()), lines);
         if lines == 1 {
-            assert_eq!(rt; list.taken(), b"1:66:61:4b3635\ta\tK65=v\n".as_slice());
+            assert_eq!(rt; out.taken(), b"1:66:61:4b3635\ta\tK65=v\n".as_slice());
         }
     }
     Ok(())
@@ -395,11 +393,7 @@ fn asks_all(
         devices.push(String::from_str(alloc, device)?)?;
     }
     let mut out: MemorySink<256> = MemorySink::new();
-    assert_eq!(rt;
-        run_queries(alloc, bytes, &devices, &mut out),
-        Ok(()),
-        "{line}"
-    );
+    assert_eq!(rt; queries(alloc, bytes, &devices, &mut out), Ok(()), "{line}");
     assert_eq!(rt; out.taken(), text.as_bytes(), "{line}");
     Ok(())
 }
@@ -423,10 +417,7 @@ fn several_devices(rt: HostRuntime) -> Result<(), Fail> {
         asks_all(&rt, alloc, &updated.database, line, text)?;
     }
     let mut out: MemorySink<16> = MemorySink::new();
-    assert_eq!(rt;
-        run_queries(alloc, &updated.database, &[], &mut out),
-        Ok(())
-    );
+    assert_eq!(rt; queries(alloc, &updated.database, &[], &mut out), Ok(()));
     assert_eq!(rt; out.taken(), b"".as_slice());
     Ok(())
 }
@@ -443,12 +434,12 @@ fn several_devices_cut_short(rt: HostRuntime) -> Result<(), Fail> {
     for room in 0..whole.len() {
         let mut out: MemorySink<256> = MemorySink::new();
         out.room = room;
-        let seen = run_queries(alloc, &updated.database, &devices, &mut out);
+        let seen = queries(alloc, &updated.database, &devices, &mut out);
         assert_eq!(rt; seen, Err(ToolError::Write), "{room}");
         assert_eq!(rt; out.taken(), &whole[..room], "{room}");
     }
     let mut out: MemorySink<256> = MemorySink::new();
-    let seen = run_queries(alloc, b"short", &devices, &mut out);
+    let seen = queries(alloc, b"short", &devices, &mut out);
     assert_eq!(rt; seen, Err(ToolError::BadDatabase(DbFault::Short)));
     assert_eq!(rt; out.taken(), b"".as_slice());
     Ok(())

@@ -1,18 +1,13 @@
 //! Sinks that fail at each byte or at the flush, that take one byte at a time, or none.
 ghost use Rattle.std.specs.Prelude.{Some, take};
 
-use crate::adapters::ToWrite;
-use crate::causes::Cause;
-use crate::devices::{DeviceFailed, Sink};
-use crate::errors::ToolError;
-use crate::lookup::{MAX_BYTES, run_list, run_query};
-use crate::single_file::ask;
-use crate::testing::MemorySink;
+use crate::tests::calls::{self, add, list, query};
 use crate::tests::database_in;
 use crate::tests::vectors::FAULTY;
-use crate::transfer::write_text;
-use crate::update::run_update;
+use hwdb_commands::{MAX_BYTES, ToolError, write_text};
 use hwdb_compile::SourceFile;
+use hwdb_devices::testing::MemorySink;
+use hwdb_devices::{Cause, DeviceFailed, Sink, ToWrite};
 use hwdb_store::{Memory, Unreplaced};
 use std::alloc::{AllocError, Global};
 use std::io::{self, Write};
@@ -44,9 +39,7 @@ const QUERY: Printing = Printing {
 
 fn files_of(alloc: Global, name: &str, text: &str) -> Result<Vec<SourceFile>, AllocError> {
     let mut files = Vec::new(alloc);
-    let name = String::from_str(alloc, name)?;
-    let bytes = text.as_bytes().to_vec(alloc)?;
-    files.push(SourceFile { name, bytes })?;
+    add(alloc, &mut files, name, text)?;
     Ok(files)
 }
 
@@ -59,17 +52,17 @@ fn database_of(alloc: Global, text: &str) -> Result<Vec<u8>, ToolError> {
     Ok(database_in(alloc, &store)?)
 }
 
-fn print(
+fn print<O: Sink>(
     alloc: Global,
     row: Printing,
     bytes: &[u8],
-    out: &mut MemorySink<64>,
+    out: &mut O,
 ) -> Result<(), ToolError> {
     let device = row.device.as_bytes();
     if row.lists {
-        run_list(alloc, bytes, device, None, None, out)
+        list(alloc, bytes, device, None, None, out)
     } else {
-        run_query(alloc, bytes, device, out)
+        query(alloc, bytes, device, out)
     }
 }
 
@@ -118,24 +111,20 @@ fn prints_by_bytes(rt: HostRuntime) -> Result<(), Fail> {
     Ok(())
 }
 
+/// What a sink took whose flush fails.
+fn unflushed(rt: &impl Abort, alloc: Global, row: Printing) -> Result<MemorySink<64>, ToolError> {
+    let bytes = database_of(alloc, row.text)?;
+    let mut out: MemorySink<64> = MemorySink::new();
+    out.flush_fails = true;
+    assert_eq!(rt; print(alloc, row, &bytes, &mut out), Err(ToolError::Write));
+    Ok(out)
+}
+
 #[test]
 fn prints_unflushed(rt: HostRuntime) -> Result<(), Fail> {
-    let bytes = database_of(rt.alloc(), QUERY.text)?;
-    let mut out: MemorySink<64> = MemorySink::new();
-    out.flush_fails = true;
-    assert_eq!(rt;
-        print(rt.alloc(), QUERY, &bytes, &mut out),
-        Err(ToolError::Write)
-    );
+    let out = unflushed(&rt, rt.alloc(), QUERY)?;
     assert_eq!(rt; out.taken(), QUERY.printed.as_bytes());
-
-    let bytes = database_of(rt.alloc(), LIST.text)?;
-    let mut out: MemorySink<64> = MemorySink::new();
-    out.flush_fails = true;
-    assert_eq!(rt;
-        print(rt.alloc(), LIST, &bytes, &mut out),
-        Err(ToolError::Write)
-    );
+    let out = unflushed(&rt, rt.alloc(), LIST)?;
     assert!(rt; LIST.printed.as_bytes().starts_with(out.taken()));
     Ok(())
 }
@@ -152,7 +141,7 @@ fn update<E: Sink>(
     store: &mut Memory,
     err: &mut E,
 ) -> Result<u8, ToolError> {
-    run_update(alloc, files, &[], MAX_BYTES, strict, "/f", store, err)
+    calls::update(alloc, files, &[], MAX_BYTES, strict, store, err)
 }
 
 /// The database is begun only once the fault lines are whole.
@@ -280,22 +269,26 @@ fn first_flush_fails(rt: HostRuntime) -> Result<(), Fail> {
     let mut out = FirstFlushFails::new();
     assert_eq!(rt; write_text(&mut out, b"abcde"), Err(ToolError::Write));
     assert_eq!(rt; out.sink.taken(), b"abcde".as_slice());
-    let bytes = database_of(alloc, QUERY.text)?;
-    let mut out = FirstFlushFails::new();
-    let seen = run_query(alloc, &bytes, QUERY.device.as_bytes(), &mut out);
-    assert_eq!(rt; seen, Err(ToolError::Write));
-    assert_eq!(rt; out.sink.taken(), QUERY.printed.as_bytes());
-    let bytes = database_of(alloc, LIST.text)?;
-    let mut out = FirstFlushFails::new();
-    let seen = run_list(alloc, &bytes, LIST.device.as_bytes(), None, None, &mut out);
-    assert_eq!(rt; seen, Err(ToolError::Write));
-    assert_eq!(rt; out.sink.taken(), b"1:2:612a:4b\ta*\tK=1\n".as_slice());
     let mut out = FirstFlushFails::new();
     let mut err: MemorySink<8> = MemorySink::new();
     let text = b"a\n K=1\n";
-    let seen = ask(alloc, "t.hwdb", text, b"a", &mut out, &mut err);
+    let seen = calls::ask(alloc, "t.hwdb", text, b"a", &mut out, &mut err);
     assert_eq!(rt; seen, Err(ToolError::Write));
     assert_eq!(rt; out.sink.taken(), b"K=1\n".as_slice());
+    Ok(())
+}
+
+/// `query` refuses it behind its text, and `list` behind its first line.
+#[test]
+fn first_flush_of_a_database_fails(rt: HostRuntime) -> Result<(), Fail> {
+    let rows = [(QUERY, QUERY.printed), (LIST, "1:2:612a:4b\ta*\tK=1\n")];
+    for (row, taken) in rows {
+        let bytes = database_of(rt.alloc(), row.text)?;
+        let mut out = FirstFlushFails::new();
+        let seen = print(rt.alloc(), row, &bytes, &mut out);
+        assert_eq!(rt; seen, Err(ToolError::Write));
+        assert_eq!(rt; out.sink.taken(), taken.as_bytes());
+    }
     Ok(())
 }
 
@@ -326,12 +319,7 @@ fn short_writes(rt: HostRuntime) -> Result<(), Fail> {
             sink.per_write = per_write;
             sink.room = room;
             let mut out = ToWrite::new(ShortWriter { sink });
-            let device = row.device.as_bytes();
-            let seen = if row.lists {
-                run_list(rt.alloc(), &bytes, device, None, None, &mut out)
-            } else {
-                run_query(rt.alloc(), &bytes, device, &mut out)
-            };
+            let seen = print(rt.alloc(), row, &bytes, &mut out);
             let is_whole = per_write > 0 && room == 64;
             let taken = if is_whole {
                 want

@@ -1,10 +1,10 @@
 //! Databases that no writer of ours gives: each is refused before anything is written, or answered.
 ghost use Rattle.std.specs.Prelude.{◌<◌};
 
-use crate::errors::ToolError;
-use crate::lookup::{run_list, run_query};
-use crate::testing::MemorySink;
+use crate::tests::calls::{list, query};
 use crate::tests::vectors::{EMPTY, LONGER_RECORDS, ONE, SHARED, TWO_KEYS};
+use hwdb_commands::ToolError;
+use hwdb_devices::testing::MemorySink;
 use hwdb_query::cursor;
 use hwdb_reader::{DbFault, check};
 use std::alloc::{AllocError, Global};
@@ -20,9 +20,9 @@ fn queried(
     want: Result<&str, DbFault>,
 ) {
     let mut out: MemorySink<64> = MemorySink::new();
-    let mut list: MemorySink<128> = MemorySink::new();
-    let seen = run_query(alloc, bytes, device, &mut out);
-    let listed = run_list(alloc, bytes, device, None, None, &mut list);
+    let mut lines: MemorySink<128> = MemorySink::new();
+    let seen = query(alloc, bytes, device, &mut out);
+    let listed = list(alloc, bytes, device, None, None, &mut lines);
     match want {
         Ok(text) => {
             assert_eq!(rt; seen, Ok(()));
@@ -33,7 +33,7 @@ fn queried(
             assert_eq!(rt; seen, Err(ToolError::BadDatabase(fault)));
             assert_eq!(rt; listed, Err(ToolError::BadDatabase(fault)));
             assert_eq!(rt; out.taken(), b"".as_slice());
-            assert_eq!(rt; list.taken(), b"".as_slice());
+            assert_eq!(rt; lines.taken(), b"".as_slice());
         }
     }
 }
@@ -121,7 +121,7 @@ fn queried_as_checked(rt: &impl Abort, alloc: Global, bytes: &[u8]) {
     };
     for device in [b"a".as_slice(), b"".as_slice()] {
         let mut out: MemorySink<64> = MemorySink::new();
-        assert_eq!(rt; run_query(alloc, bytes, device, &mut out), want);
+        assert_eq!(rt; query(alloc, bytes, device, &mut out), want);
         assert!(rt; want.is_ok() || out.taken().is_empty());
     }
 }
@@ -178,14 +178,8 @@ fn chain_of(alloc: Global, below: u64) -> Result<Vec<u8>, AllocError>
     Ok(bytes)
 }
 
-/// The deepest tree that is accepted: every node is entered for the device that its path spells, and one
-/// byte less is no match. One node more is refused. The descent recurses 4,097 times: as LLVM builds it
-/// that takes less than 4 MiB of stack, and under `rt try` more than 8 MiB.
-#[test]
-fn deepest(rt: HostRuntime) -> Result<(), Fail> {
-    let alloc = rt.alloc();
-    let bytes = chain_of(alloc, 4096)?;
-    let device = [b'a'; 4096];
+/// The line of `list` for such a chain of 4,096 nodes.
+fn chain_line(alloc: Global) -> Result<String, AllocError> {
     let mut line = String::from_str(alloc, "1:2:")?;
     for _ in 0..4096 {
         line.push_str("61")?;
@@ -195,20 +189,36 @@ fn deepest(rt: HostRuntime) -> Result<(), Fail> {
         line.push_str("a")?;
     }
     line.push_str("\tK=v\n")?;
-    let mut list: MemorySink<16384> = MemorySink::new();
-    run_list(alloc, &bytes, &device, None, None, &mut list)?;
-    assert_eq!(rt; list.taken(), line.as_str().as_bytes());
+    Ok(line)
+}
+
+/// How many nodes a cursor enters for its one hit.
+fn entered(rt: &impl Abort, alloc: Global, bytes: &[u8], device: &[u8]) -> Result<u64, Fail> {
+    let db = check(bytes).map_err(|_| "refused")?;
+    let mut hits = cursor(alloc, &db, device, None, 64)?;
+    assert!(rt; hits.next()?.is_some());
+    assert!(rt; hits.next()?.is_none());
+    Ok(hits.entered())
+}
+
+/// The deepest tree that is accepted: every node is entered for the device that its path spells, and one
+/// byte less is no match. One node more is refused. The descent recurses 4,097 times: as LLVM builds it
+/// that takes less than 4 MiB of stack, and under `rt try` more than 8 MiB.
+#[test]
+fn deepest(rt: HostRuntime) -> Result<(), Fail> {
+    let alloc = rt.alloc();
+    let bytes = chain_of(alloc, 4096)?;
+    let device = [b'a'; 4096];
+    let line = chain_line(alloc)?;
+    let mut lines: MemorySink<16384> = MemorySink::new();
+    list(alloc, &bytes, &device, None, None, &mut lines)?;
+    assert_eq!(rt; lines.taken(), line.as_str().as_bytes());
     queried(&rt, alloc, &bytes, &device[..4095], Ok(""));
 
     let mut out: MemorySink<64> = MemorySink::new();
-    run_query(alloc, &bytes, &device, &mut out)?;
+    query(alloc, &bytes, &device, &mut out)?;
     assert_eq!(rt; out.taken(), b"K=v\n".as_slice());
-
-    let db = check(&bytes).map_err(|_| "refused")?;
-    let mut hits = cursor(alloc, &db, &device, None, 64)?;
-    assert!(rt; hits.next()?.is_some());
-    assert!(rt; hits.next()?.is_none());
-    assert_eq!(rt; hits.entered(), 4097);
+    assert_eq!(rt; entered(&rt, alloc, &bytes, &device)?, 4097);
 
     let deeper = chain_of(alloc, 4097)?;
     queried(&rt, alloc, &deeper, &device, Err(DbFault::Depth(80)));

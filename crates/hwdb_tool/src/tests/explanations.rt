@@ -1,11 +1,10 @@
 //! Worked examples of `explain`.
-use crate::errors::ToolError;
-use crate::explanation::run_explain;
-use crate::lookup::{MAX_BYTES, run_query};
-use crate::testing::MemorySink;
-use hwdb_compile::{SourceFile, compile};
+use crate::tests::calls::{add, compiled, explain, query};
+use hwdb_commands::ToolError;
+use hwdb_compile::SourceFile;
+use hwdb_devices::testing::MemorySink;
 use hwdb_reader::DbFault;
-use std::alloc::Global;
+use std::alloc::{AllocError, Global};
 use std::test::Fail;
 
 /// A file of a folder; no text is no file.
@@ -14,9 +13,7 @@ fn folder(alloc: Global, name: &str, text: &str) -> Result<Vec<SourceFile>, Fail
     if text.is_empty() {
         return Ok(files);
     }
-    let name = String::from_str(alloc, name)?;
-    let bytes = text.as_bytes().to_vec(alloc)?;
-    files.push(SourceFile { name, bytes })?;
+    add(alloc, &mut files, name, text)?;
     Ok(files)
 }
 
@@ -24,8 +21,7 @@ fn folder(alloc: Global, name: &str, text: &str) -> Result<Vec<SourceFile>, Fail
 fn database_of(alloc: Global, etc: &str, usr: &str) -> Result<Vec<u8>, Fail> {
     let etc = folder(alloc, "10-a.hwdb", etc)?;
     let usr = folder(alloc, "20-b.hwdb", usr)?;
-    let compiled = compile(alloc, &etc, &usr, MAX_BYTES).map_err(|_| "refused")?;
-    Ok(compiled.database)
+    Ok(compiled(alloc, &etc, &usr)?)
 }
 
 const THREE_PATTERNS: &str = "a*\n K=1\n\nab*\n K=2\n\nabc\n K=3\n";
@@ -82,7 +78,7 @@ fn explanations(rt: HostRuntime) -> Result<(), Fail> {
     for (etc, usr, device, text) in rows {
         let database = database_of(rt.alloc(), etc, usr)?;
         let mut out: MemorySink<512> = MemorySink::new();
-        run_explain(rt.alloc(), &database, device.as_bytes(), &mut out)?;
+        explain(rt.alloc(), &database, device.as_bytes(), &mut out)?;
         assert_eq!(rt; out.taken(), text.as_bytes(), "{device} of {etc}");
     }
     Ok(())
@@ -94,7 +90,7 @@ fn long_device(rt: HostRuntime) -> Result<(), Fail> {
     let database = database_of(rt.alloc(), "a*\n K=1\n", "")?;
     let device = [b'a'; 5000];
     let mut out: MemorySink<512> = MemorySink::new();
-    run_explain(rt.alloc(), &database, &device, &mut out)?;
+    explain(rt.alloc(), &database, &device, &mut out)?;
     let text = "K=1\n    /etc/udev/hwdb.d/10-a.hwdb:2  a*\n";
     assert_eq!(rt; out.taken(), text.as_bytes());
     Ok(())
@@ -104,7 +100,7 @@ fn long_device(rt: HostRuntime) -> Result<(), Fail> {
 #[test]
 fn no_database(rt: HostRuntime) -> Result<(), Fail> {
     let mut out: MemorySink<16> = MemorySink::new();
-    let refused = run_explain(rt.alloc(), b"KSLP", b"a", &mut out);
+    let refused = explain(rt.alloc(), b"KSLP", b"a", &mut out);
     assert_eq!(rt; refused, Err(ToolError::BadDatabase(DbFault::Short)));
     assert!(rt; out.taken().is_empty());
     Ok(())
@@ -115,39 +111,51 @@ fn no_database(rt: HostRuntime) -> Result<(), Fail> {
 fn full_sink(rt: HostRuntime) -> Result<(), Fail> {
     let database = database_of(rt.alloc(), THREE_PATTERNS, "")?;
     let mut out: MemorySink<16> = MemorySink::new();
-    let refused = run_explain(rt.alloc(), &database, b"abc", &mut out);
+    let refused = explain(rt.alloc(), &database, b"abc", &mut out);
     assert_eq!(rt; refused, Err(ToolError::Write));
     let cut = "K=3\n    /etc/ude";
     assert_eq!(rt; out.taken(), cut.as_bytes());
     Ok(())
 }
 
-/// Many keys, each with two answers: as many lines as these have, and the properties that `query` prints.
-#[test]
-fn many_keys(rt: HostRuntime) -> Result<(), Fail> {
-    let mut text = String::new(rt.alloc());
+/// Two records with the same 100 keys.
+fn text_of_many_keys(alloc: Global) -> Result<String, Fail> {
+    let mut text = String::new(alloc);
     for pattern in ["a", "a*"] {
         text.push_str(pattern)?;
         text.push('\n')?;
         for i in 0..100u32 {
-            text.push_str(format!(in rt.alloc(); " K{}={}\n", 199 - i, i)?.as_str())?;
+            text.push_str(format!(in alloc; " K{}={}\n", 199 - i, i)?.as_str())?;
         }
         text.push('\n')?;
     }
-    let database = database_of(rt.alloc(), text.as_str(), "")?;
-    let mut out: MemorySink<16384> = MemorySink::new();
-    run_explain(rt.alloc(), &database, b"a", &mut out)?;
-    let mut query: MemorySink<2048> = MemorySink::new();
-    run_query(rt.alloc(), &database, b"a", &mut query)?;
-    let mut properties = Vec::new(rt.alloc());
-    for line in out.taken().split(|byte| *byte == b'\n') {
+    Ok(text)
+}
+
+/// The lines of a text that begin with no space.
+fn lines_of_properties(alloc: Global, text: &[u8]) -> Result<Vec<u8>, AllocError> {
+    let mut properties = Vec::new(alloc);
+    for line in text.split(|byte| *byte == b'\n') {
         if !line.is_empty() && line[0] != b' ' {
             properties.extend_from_slice(line)?;
             properties.push(b'\n')?;
         }
     }
+    Ok(properties)
+}
+
+/// Many keys, each with two answers: as many lines as these have, and the properties that `query` prints.
+#[test]
+fn many_keys(rt: HostRuntime) -> Result<(), Fail> {
+    let text = text_of_many_keys(rt.alloc())?;
+    let database = database_of(rt.alloc(), text.as_str(), "")?;
+    let mut out: MemorySink<16384> = MemorySink::new();
+    explain(rt.alloc(), &database, b"a", &mut out)?;
+    let mut queried: MemorySink<2048> = MemorySink::new();
+    query(rt.alloc(), &database, b"a", &mut queried)?;
     let lines = out.taken().split(|byte| *byte == b'\n').count();
     assert_eq!(rt; lines, 401);
-    assert_eq!(rt; properties.as_slice(), query.taken());
+    let properties = lines_of_properties(rt.alloc(), out.taken())?;
+    assert_eq!(rt; properties.as_slice(), queried.taken());
     Ok(())
 }
