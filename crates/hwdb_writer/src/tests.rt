@@ -4,7 +4,7 @@ ghost use Rattle.hwdb_writer.specs.Internal.Storable.{HasNoZero};
 
 use super::{StoreError, Tree, write};
 use hwdb_text::Assignment;
-use std::alloc::Global;
+use std::alloc::{AllocError, Global};
 use std::process::Abort;
 use std::test::Fail;
 
@@ -56,8 +56,8 @@ fn has_no_zero(text: &[u8]) -> bool
     }
 }
 
-/// Puts one assignment.
-fn put(
+/// Puts one assignment, and says whether memory for it was given.
+fn try_put(
     rt: &impl Abort,
     alloc: Global,
     tree: &mut Tree,
@@ -65,7 +65,7 @@ fn put(
     pattern: &[u8],
     key: &[u8],
     value: &[u8],
-) -> Result<(), Fail> {
+) -> Result<Result<(), AllocError>, Fail> {
     let path = b"/etc/udev/hwdb.d/1.hwdb".as_slice();
     assert!(rt; pattern.len() <= 4096);
     assert!(rt; has_no_zero(pattern));
@@ -80,7 +80,38 @@ fn put(
         value: Vec::from_slice(alloc, value)?,
         path: Vec::from_slice(alloc, path)?,
     };
-    tree.put(&assignment)?;
+    Ok(tree.put(&assignment))
+}
+
+/// Puts one assignment.
+fn put(
+    rt: &impl Abort,
+    alloc: Global,
+    tree: &mut Tree,
+    line: u32,
+    pattern: &[u8],
+    key: &[u8],
+    value: &[u8],
+) -> Result<(), Fail> {
+    try_put(rt, alloc, tree, line, pattern, key, value)??;
+    Ok(())
+}
+
+/// The database of a tree, where it has at most so many bytes.
+fn written(alloc: Global, tree: &Tree, max_bytes: u32) -> Result<Vec<u8>, StoreError> {
+    write(alloc, tree, max_bytes)
+}
+
+/// Compares the database of a tree, which may have so many bytes.
+fn writes(
+    rt: &impl Abort,
+    alloc: Global,
+    tree: &Tree,
+    max_bytes: u32,
+    wanted: &[u8],
+) -> Result<(), Fail> {
+    let bytes = written(alloc, tree, max_bytes)?;
+    assert_eq!(rt; bytes.as_slice(), wanted);
     Ok(())
 }
 
@@ -100,7 +131,7 @@ fn database(
             line = 3;
         }
     }
-    Ok(write(alloc, &tree, max_bytes))
+    Ok(written(alloc, &tree, max_bytes))
 }
 
 /// How many keys one pattern has in the tests of their order: enough for many runs.
@@ -133,7 +164,7 @@ fn put_stepping(
 fn stepping(rt: &impl Abort, alloc: Global, step: usize) -> Result<Vec<u8>, Fail> {
     let mut tree = Tree::new(alloc);
     put_stepping(rt, alloc, &mut tree, step, b"v")?;
-    Ok(write(alloc, &tree, COUNT_SIZE)?)
+    Ok(written(alloc, &tree, COUNT_SIZE)?)
 }
 
 #[test]
@@ -168,16 +199,15 @@ fn sizes(rt: HostRuntime) -> Result<(), Fail> {
 fn vectors(rt: HostRuntime) -> Result<(), Fail> {
     let alloc = rt.alloc();
     let mut tree = Tree::new(alloc);
-    assert_eq!(rt; write(alloc, &tree, 105)?.as_slice(), EMPTY.as_slice());
+    writes(&rt, alloc, &tree, 105, &EMPTY)?;
     put(&rt, alloc, &mut tree, 2, b"a", b"K", b"v")?;
-    assert_eq!(rt; write(alloc, &tree, 206)?.as_slice(), ONE.as_slice());
+    writes(&rt, alloc, &tree, 206, &ONE)?;
     put(&rt, alloc, &mut tree, 3, b"a", b"L", b"v")?;
-    assert_eq!(rt; write(alloc, &tree, 241)?.as_slice(), TWO.as_slice());
-    Ok(())
+    writes(&rt, alloc, &tree, 241, &TWO)
 }
 
 #[test]
-fn order_and_last_put(rt: HostRuntime) -> Result<(), Fail> {
+fn order(rt: HostRuntime) -> Result<(), Fail> {
     let alloc = rt.alloc();
     let k: &[&[u8]] = &[b"K"];
     let pairs: [(&[u8], &[u8]); 2] = [(b"abc", b"abd"), (b"abc", b"ab")];
@@ -186,29 +216,37 @@ fn order_and_last_put(rt: HostRuntime) -> Result<(), Fail> {
         let other_way = database(&rt, alloc, &[second, first], k, 320)??;
         assert_eq!(rt; one_way.as_slice(), other_way.as_slice());
     }
+    Ok(())
+}
+
+#[test]
+fn last_put(rt: HostRuntime) -> Result<(), Fail> {
+    let alloc = rt.alloc();
     let mut tree = Tree::new(alloc);
     put(&rt, alloc, &mut tree, 2, b"a", b"K", b"w")?;
     put(&rt, alloc, &mut tree, 3, b"a", b"L", b"v")?;
     put(&rt, alloc, &mut tree, 2, b"a", b"K", b"v")?;
-    assert_eq!(rt; write(alloc, &tree, 241)?.as_slice(), TWO.as_slice());
-    Ok(())
+    writes(&rt, alloc, &tree, 241, &TWO)
+}
+
+/// The database of two assignments of `K`, each its line, its pattern and its value.
+fn of_two(rt: &impl Abort, alloc: Global, puts: [(u32, &[u8], &[u8]); 2]) -> Result<Vec<u8>, Fail> {
+    let mut tree = Tree::new(alloc);
+    for (line, pattern, value) in puts {
+        put(rt, alloc, &mut tree, line, pattern, b"K", value)?;
+    }
+    Ok(written(alloc, &tree, 282)?)
 }
 
 #[test]
 fn path_and_its_beginning(rt: HostRuntime) -> Result<(), Fail> {
     let alloc = rt.alloc();
-    let mut longer_first = Tree::new(alloc);
-    put(&rt, alloc, &mut longer_first, 2, b"abc", b"K", b"1")?;
-    put(&rt, alloc, &mut longer_first, 5, b"ab", b"K", b"2")?;
-    let mut shorter_first = Tree::new(alloc);
-    put(&rt, alloc, &mut shorter_first, 5, b"ab", b"K", b"2")?;
-    put(&rt, alloc, &mut shorter_first, 2, b"abc", b"K", b"1")?;
-    let bytes = write(alloc, &longer_first, 282)?;
+    let longer: (u32, &[u8], &[u8]) = (2, b"abc", b"1");
+    let shorter: (u32, &[u8], &[u8]) = (5, b"ab", b"2");
+    let bytes = of_two(&rt, alloc, [longer, shorter])?;
     assert_eq!(rt; bytes.len(), 282);
-    assert_eq!(rt;
-        write(alloc, &shorter_first, 282)?.as_slice(),
-        bytes.as_slice()
-    );
+    let other_way = of_two(&rt, alloc, [shorter, longer])?;
+    assert_eq!(rt; other_way.as_slice(), bytes.as_slice());
     Ok(())
 }
 
@@ -218,7 +256,7 @@ fn long_value(rt: HostRuntime) -> Result<(), Fail> {
     let value = [b'x'; 300];
     let mut tree = Tree::new(alloc);
     put(&rt, alloc, &mut tree, 2, b"a", b"K", &value)?;
-    let bytes = write(alloc, &tree, 505)?;
+    let bytes = written(alloc, &tree, 505)?;
     assert_eq!(rt; bytes.len(), 505);
     assert_eq!(rt; bytes.iter().filter(|byte| **byte == b'x').count(), 300);
     Ok(())
@@ -242,7 +280,7 @@ fn many_keys_put_again(rt: HostRuntime) -> Result<(), Fail> {
     let mut tree = Tree::new(alloc);
     put_stepping(&rt, alloc, &mut tree, 1, b"u")?;
     put_stepping(&rt, alloc, &mut tree, 1237, b"v")?;
-    let again = write(alloc, &tree, COUNT_SIZE)?;
+    let again = written(alloc, &tree, COUNT_SIZE)?;
     let once = stepping(&rt, alloc, 1)?;
     assert_eq!(rt; again.as_slice(), once.as_slice());
     Ok(())
@@ -255,26 +293,11 @@ fn put_again(rt: HostRuntime) -> Result<(), Fail> {
     let alloc = rt.alloc();
     let mut tree = Tree::new(alloc);
     put(&rt, alloc, &mut tree, 2, b"abc", b"K", b"v")?;
-    let pattern = b"abd".as_slice();
-    let key = b"K".as_slice();
-    let value = b"v".as_slice();
-    let path = b"/etc/udev/hwdb.d/1.hwdb".as_slice();
-    assert!(rt;
-        has_no_zero(pattern) && has_no_zero(key) && has_no_zero(value) && has_no_zero(path)
-    );
-    let assignment = Assignment {
-        priority: 1,
-        line: 2,
-        pattern: Vec::from_slice(alloc, pattern)?,
-        key: Vec::from_slice(alloc, key)?,
-        value: Vec::from_slice(alloc, value)?,
-        path: Vec::from_slice(alloc, path)?,
-    };
-    if tree.put(&assignment).is_err() {
-        assert_eq!(rt; write(alloc, &tree, 320)?.len(), 209);
-        tree.put(&assignment)?;
+    if try_put(&rt, alloc, &mut tree, 2, b"abd", b"K", b"v")?.is_err() {
+        assert_eq!(rt; written(alloc, &tree, 320)?.len(), 209);
+        put(&rt, alloc, &mut tree, 2, b"abd", b"K", b"v")?;
     }
-    assert_eq!(rt; write(alloc, &tree, 320)?.len(), 320);
+    assert_eq!(rt; written(alloc, &tree, 320)?.len(), 320);
     Ok(())
 }
 
