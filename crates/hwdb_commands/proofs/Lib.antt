@@ -4,3 +4,5 @@ pub mod FailureLemmas
 pub mod HitLineLemmas
 pub mod RefusalLemmas
 pub mod UpdateLemmas
+pub mod JsonAnswerLemmas
+pub mod JsonLemmas

@@ -11,6 +11,10 @@
 //! | `explanation` | `explain`: what a database has for a device, and where that comes from |
 //! | `device_texts` | the texts of several devices, one after another |
 //! | `hit_lines` | the hits of a cursor, one line after another |
+//! | `json_values` | values of JSON, token by token |
+//! | `json_explanations` | the lines of JSON of `explain` |
+//! | `json_lines` | the lines of JSON of `query` and `list` |
+//! | `json_answers` | `query`, `list` and `explain` with `--json` |
 //! | `single_file` | `ask`: what one text file has for a device |
 //! | `update` | `update`: the database of the files of two folders, put in its place |
 //! | `errors`, `causes` | why a call refuses, and why the system did |
@@ -24,6 +28,10 @@ mod devices;
 mod errors;
 mod explanation;
 mod hit_lines;
+mod json_answers;
+mod json_explanations;
+mod json_lines;
+mod json_values;
 mod lookup;
 mod single_file;
 pub mod testing;
@@ -38,6 +46,7 @@ pub use causes::{Cause, Message};
 pub use devices::{DeviceFailed, Sink, Source};
 pub use errors::ToolError;
 pub use explanation::run_explain;
+pub use json_answers::{run_explain_json, run_list_json, run_queries_json};
 pub use lookup::{MAX_BYTES, run_list, run_queries, run_query};
 pub use single_file::ask;
 pub use transfer::{read_all, write_text};

@@ -3,6 +3,7 @@ mod commands;
 mod explanations;
 mod failing;
 mod hostile;
+mod json_rows;
 mod vectors;
 
 use crate::errors::ToolError;

@@ -8,7 +8,7 @@ use Rattle.hwdb_spec.specs.Tree.{answers_after}
 use Rattle.hwdb_query.specs.Views.{next_position, Progress}
 use Rattle.hwdb_commands.specs.Devices.{AppendsPrefix}
 use Rattle.hwdb_commands.specs.Lookups.{AppendsLines, list_page}
-use Rattle.hwdb_spec.specs.Texts.{hits_text, within_limit}
+use Rattle.hwdb_spec.specs.Texts.{hit_text, hits_text, within_limit}
 use Rattle.hwdb_commands.proofs.RefusalLemmas.{cursor_refused, lent_position, not_zero}
 use Rattle.hwdb_commands.proofs.lookup.run_list.Goals as goal
 
@@ -44,7 +44,7 @@ returns-clause-whole_lines g c = λ e.
     let tree = c.in_ok-db.db in
     let all : c.in_ok-hits.hits.to_come ≡ answers_after device (next_position c.in_ok-after.after) tree =
     ap (λ (p : Progress). p.to_come) begun ∙ ap (λ s. answers_after device s tree) (lent_position c.as_ref.result c.in_ok-after.after c.as_ref.ensures.value) in
-    let P : List Assignment → Type 0 = λ hits. AppendsLines (g.O.Sink.taken c.args.out.now) (g.O.Sink.taken c.print_hits.new.out) (within_limit c.args.limit hits) in
+    let P : List Assignment → Type 0 = λ hits. AppendsLines hit_text (g.O.Sink.taken c.args.out.now) (g.O.Sink.taken c.print_hits.new.out) (within_limit c.args.limit hits) in
     let first = subst P all lines in
     inr (record {
       text = _;
