@@ -5,4 +5,5 @@ pub mod HitLineLemmas
 pub mod RefusalLemmas
 pub mod UpdateLemmas
 pub mod JsonAnswerLemmas
+pub mod JsonLawLemmas
 pub mod JsonLemmas

@@ -18,6 +18,27 @@ returns-in_err-hits-clause-refusals g c =
     cursor_refused c.args.after c.args.bytes.now c.in_err-hits.field-0.0 _ c.from_residual-in_err-hits.ensures.1
     (λ e. not_zero list_page (c.in_err-hits.ensures.page e) (omega arith))
 
+pub returns-clause-printed : goal.returns-clause-printed
+returns-clause-printed g c =
+    on_ok_weaker c.print_hits.result
+    (λ printed.
+    let begun = c.in_ok-hits.ensures.begins in
+    let device = c.args.device.now in
+    let tree = c.in_ok-db.db in
+    let all : c.in_ok-hits.hits.to_come ≡ answers_after device (next_position c.in_ok-after.after) tree =
+    ap (λ (p : Progress). p.to_come) begun ∙ ap (λ s. answers_after device s tree) (lent_position c.as_ref.result c.in_ok-after.after c.as_ref.ensures.value) in
+    let P : List Assignment → Type 0 = λ hits. Appends (g.O.Sink.taken c.args.out.now) (g.O.Sink.taken c.print_hits.new.out) (hits_json (within_limit c.args.limit hits)) in
+    record {
+      text = _;
+      is = record {
+        from = next_position c.in_ok-after.after;
+        spelled = c.in_ok-after.ensures.spelled;
+        is = record { tree = tree; database = c.in_ok-db.ensures.accepted; is = refl };
+      };
+      taken = subst P all printed;
+    })
+    c.print_hits.ensures.printed
+
 pub returns-clause-cut_short : goal.returns-clause-cut_short
 returns-clause-cut_short g c = λ e.
     let part = c.print_hits.ensures.cut_short e in
