@@ -1,20 +1,18 @@
 -- What is read of JSON is what was written.
-use Rattle.std.proofs.Common.{◌≡◌, ◌∙◌, ◌<◌, ◌≤◌, ◌^◌, ℕ, suc, Bool, true, false, refl, ap, ap₂, arith, codes, List, [], ◌∷◌, ◌++◌, Some, filter, map, not, if◌then◌else◌}
+use Rattle.std.proofs.Common.{◌≡◌, ◌∙◌, ◌<◌, ◌≤◌, ◌^◌, ℕ, suc, Bool, true, false, refl, ap₂, arith, codes, List, [], ◌∷◌, ◌++◌, Some, filter, map, not, if◌then◌else◌}
 use Rattle.std.specs.Prelude.{All}
-use Rattle.std.specs.Fmt.{decimal}
 use Rattle.std.specs.Str.{is_utf8}
-use Rattle.std.specs.Str.Parse.{digits_value}
 use Rattle.std.proofs.Math.Nat.{max-le}
 use Rattle.std.proofs.lemmas.Fmt.{decimal_is_IsNumeral}
 use Rattle.std.proofs.lemmas.List.Elements.{All-filter}
 use Rattle.hex.specs.Hex.{IsBytes}
 use Rattle.json.specs.Find.{get}
-use Rattle.json.specs.Json.{Json, document, string}
+use Rattle.json.specs.Json.{Json, string}
 use Rattle.json.specs.Tree.{HasNumbers, ItemsHaveNumbers, MembersHaveNumbers, depth, items_depth, members_depth}
 use Rattle.json.proofs.Printed.Decimals.{IsNumber-decimal}
 use Rattle.json.proofs.Printed.Trees.{document-print}
-use Rattle.hwdb_spec.specs.Json.{array_of, bytes_in, device_json, has_name, items_of, json_text, members_in, members_of, named_in, number_json, object_of, pair_in, pair_json, pairs_in, properties_in, property_member, raw_in, raw_members, text_at, text_in, text_json}
-use Rattle.hwdb_commands.specs.JsonLaws.{ArePairBytes, DeviceIsReadBack, DevicesAreReadBack, TextsAreReadBack}
+use Rattle.hwdb_spec.specs.Json.{array_of, bytes_in, device_json, has_name, items_of, members_in, members_of, named_in, number_json, object_of, pair_in, pair_json, pairs_in, property_member, raw_in, raw_members, text_at, text_in, text_json}
+use Rattle.hwdb_commands.specs.JsonLaws.{ArePairBytes, DevicesAreReadBack, TextsAreReadBack}
 
 -- P holds of each
 abbrev Each : {X : Type 0} → (X → Type 0) → List X → Type 0

@@ -1,5 +1,5 @@
 -- The tokens of values, by those of their parts.
-use Rattle.std.proofs.Common.{◌≡◌, ◌∙◌, ◌<◌, Bool, true, false, ap, sym, subst, refl, zero, suc, ℕ, List, [], ◌∷◌, ◌++◌, append_assoc, arith, codes, filter, flat_map, get_or, length, map, not, take, if◌then◌else◌}
+use Rattle.std.proofs.Common.{◌≡◌, ◌∙◌, ◌<◌, Bool, true, false, ap, sym, refl, zero, suc, ℕ, List, [], ◌∷◌, ◌++◌, append_assoc, arith, codes, filter, flat_map, get_or, length, map, not, take, if◌then◌else◌}
 use Rattle.std.proofs.lemmas.Grind.{flat_map-append}
 use Rattle.std.specs.Str.{IsUtf8, is_utf8}
 use Rattle.std.proofs.lemmas.List.{append-nil}

@@ -3,7 +3,7 @@ use Rattle.std.specs.Prelude.{◌≡◌, ◌++◌, ◌<◌, ◌^◌, ℕ, List, 
 use Rattle.hex.specs.Hex.{IsBytes}
 use Rattle.json.specs.Json.{Json, document}
 use Rattle.hwdb_spec.specs.Assignment.{Assignment}
-use Rattle.hwdb_spec.specs.Json.{device_json, has_name, hit_json, json_text, properties_in, text_at, text_in, text_json}
+use Rattle.hwdb_spec.specs.Json.{device_json, has_name, json_text, properties_in, text_at, text_in, text_json}
 
 -- what is read of a text's value is the text
 abbrev pub TextsAreReadBack : Type 0
