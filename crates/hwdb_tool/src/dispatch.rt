@@ -8,8 +8,8 @@ use crate::files::{SystemStore, any_bytes, database_bytes, joined, names_in, pat
 use crate::refusals::{Refusal, refuse_for, refuse_text};
 use hwdb_cli::{Job, Task, WordsFault, read_words};
 use hwdb_commands::{
-    MAX_BYTES, Sink, ToolError, ask, run_explain, run_explain_json, run_list, run_list_json, run_queries,
-    run_queries_json, update_chosen, write_text,
+    MAX_BYTES, Sink, ToolError, ask, run_explain, run_explain_json, run_list, run_list_json,
+    run_queries, run_queries_json, update_chosen, write_text,
 };
 use hwdb_compile::ChosenFile;
 use hwdb_store::DATABASE;
