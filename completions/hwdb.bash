@@ -41,10 +41,10 @@ _hwdb() {
     local -A options=(
         [hwdb]='--usr -s --strict -r --root -h --help -V --version'
         [update]='--usr -s --strict -r --root -h --help'
-        [query]='--usr -s --strict -r --root -h --help'
-        [explain]='--usr -s --strict -r --root -h --help'
+        [query]='--usr -s --strict -r --root --json -h --help'
+        [explain]='--usr -s --strict -r --root --json -h --help'
         [ask]='--usr -s --strict -r --root -h --help'
-        [list]='--usr -s --strict -r --root --after --limit -h --help'
+        [list]='--usr -s --strict -r --root --after --limit --json -h --help'
     )
     local -A values=(
         [-r]='PATH' [--root]='PATH' [--after]='POS' [--limit]='N'

@@ -65,6 +65,9 @@ complete -c hwdb -s s -l strict -d 'With update: end with status 1 if a line had
 complete -c hwdb -s r -l root -x -a '(__fish_complete_directories)' -d 'Put PATH in front of the paths of folders and databases'
 complete -c hwdb -s h -l help -d 'Print help'
 complete -c hwdb -n __hwdb_none -s V -l version -d 'Print version'
+complete -c hwdb -n '__hwdb_at query' -l json -d 'Print JSON, one object a line'
+complete -c hwdb -n '__hwdb_at explain' -l json -d 'Print JSON, one object a line'
+complete -c hwdb -n '__hwdb_at list' -l json -d 'Print JSON, one object a line'
 complete -c hwdb -n '__hwdb_at list' -l after -x -d 'Print only what stands after this position, as list prints it'
 complete -c hwdb -n '__hwdb_at list' -l limit -x -d 'Print at most N lines; 0 prints nothing'
 

@@ -37,10 +37,13 @@ query_devices = record {
       (
         λ is. other_text (codes "root") (codes "MODALIAS") refl is,
         (
-          λ is. refl,
+          λ is. other_text (codes "json") (codes "MODALIAS") refl is,
           (
-            λ is. other_text (codes "help") (codes "MODALIAS") refl is,
-            tt,
+            λ is. refl,
+            (
+              λ is. other_text (codes "help") (codes "MODALIAS") refl is,
+              tt,
+            ),
           ),
         ),
       ),
@@ -60,10 +63,13 @@ explain_device = record {
       (
         λ is. other_text (codes "root") (codes "MODALIAS") refl is,
         (
-          λ is. refl,
+          λ is. other_text (codes "json") (codes "MODALIAS") refl is,
           (
-            λ is. other_text (codes "help") (codes "MODALIAS") refl is,
-            tt,
+            λ is. refl,
+            (
+              λ is. other_text (codes "help") (codes "MODALIAS") refl is,
+              tt,
+            ),
           ),
         ),
       ),
@@ -139,10 +145,13 @@ list_device = record {
           (
             λ is. other_text (codes "limit") (codes "MODALIAS") refl is,
             (
-              λ is. refl,
+              λ is. other_text (codes "json") (codes "MODALIAS") refl is,
               (
-                λ is. other_text (codes "help") (codes "MODALIAS") refl is,
-                tt,
+                λ is. refl,
+                (
+                  λ is. other_text (codes "help") (codes "MODALIAS") refl is,
+                  tt,
+                ),
               ),
             ),
           ),
@@ -168,10 +177,13 @@ list_limit = record {
           (
             λ is. refl,
             (
-              λ is. other_text (codes "MODALIAS") (codes "limit") refl is,
+              λ is. other_text (codes "json") (codes "limit") refl is,
               (
-                λ is. other_text (codes "help") (codes "limit") refl is,
-                tt,
+                λ is. other_text (codes "MODALIAS") (codes "limit") refl is,
+                (
+                  λ is. other_text (codes "help") (codes "limit") refl is,
+                  tt,
+                ),
               ),
             ),
           ),

@@ -29,10 +29,10 @@ IsLimit (Some text) (Some n) = ParsesUnsigned {E = ParseIntError} 64 10 text (Ok
 
 abbrev pub IsTask : Text → List Row → Task → Type 0
 IsTask name inner Update = name ≡ codes "update"
-IsTask name inner (Query devices) = (name ≡ codes "query") × AreValues (codes "MODALIAS") inner (map string_bytes devices.items)
-IsTask name inner (Explain device) = (name ≡ codes "explain") × IsValue (codes "MODALIAS") inner (string_bytes device)
+IsTask name inner (Query devices json) = (name ≡ codes "query") × (json ≡ has_flag (codes "json") inner) × AreValues (codes "MODALIAS") inner (map string_bytes devices.items)
+IsTask name inner (Explain device json) = (name ≡ codes "explain") × (json ≡ has_flag (codes "json") inner) × IsValue (codes "MODALIAS") inner (string_bytes device)
 IsTask name inner (Ask file device) = (name ≡ codes "ask") × IsValue (codes "FILE") inner (string_bytes file) × IsValue (codes "MODALIAS") inner (string_bytes device)
-IsTask name inner (ListHits after limit device) = (name ≡ codes "list") × (option_map string_bytes after ≡ first_of (codes "after") inner)
+IsTask name inner (ListHits after limit device json) = (name ≡ codes "list") × (json ≡ has_flag (codes "json") inner) × (option_map string_bytes after ≡ first_of (codes "after") inner)
     × IsLimit (one_of (codes "limit") inner) limit × IsValue (codes "MODALIAS") inner (string_bytes device)
 
 pub record IsJob (top : List Row) (name : Text) (inner : List Row) (job : Job) : Type 0 where

@@ -30,24 +30,31 @@ after_rule = record (new_rule (codes "after")) { value_names = 1; long = Some (c
 abbrev pub limit_rule : Rule
 limit_rule = record (new_rule (codes "limit")) { value_names = 1; long = Some (codes "limit"); action = Some Set; parser = Some (vp.Unsigned 0 18446744073709551615) }
 
+abbrev pub json_rule : Rule
+json_rule = record (new_rule (codes "json")) { long = Some (codes "json"); action = Some SetTrue }
+
 -- the options that stand before and behind the command's word
 abbrev pub with_shared : App → App
 with_shared a = with_rule (with_rule (with_rule a usr_rule) strict_rule) root_rule
+
+-- the options that say which hits are listed
+abbrev pub with_range : App → App
+with_range a = with_rule (with_rule a after_rule) limit_rule
 
 abbrev pub update_app : App
 update_app = with_shared (new_app (codes "update"))
 
 abbrev pub query_app : App
-query_app = with_rule (with_shared (new_app (codes "query"))) devices_rule
+query_app = with_rule (with_rule (with_shared (new_app (codes "query"))) json_rule) devices_rule
 
 abbrev pub explain_app : App
-explain_app = with_rule (with_shared (new_app (codes "explain"))) device_rule
+explain_app = with_rule (with_rule (with_shared (new_app (codes "explain"))) json_rule) device_rule
 
 abbrev pub ask_app : App
 ask_app = with_rule (with_rule (with_shared (new_app (codes "ask"))) file_rule) device_rule
 
 abbrev pub list_app : App
-list_app = with_rule (with_rule (with_rule (with_shared (new_app (codes "list"))) after_rule) limit_rule) device_rule
+list_app = with_rule (with_rule (with_range (with_shared (new_app (codes "list")))) json_rule) device_rule
 
 abbrev pub top_app : App
 top_app = on_top (λ (s : Shape). record s { has_version = true; subcommand_required = true; disable_help_subcommand = true }) (with_shared (new_app (codes "hwdb")))

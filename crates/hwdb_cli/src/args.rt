@@ -86,10 +86,12 @@ fn list_task(alloc: Global, inner: &ArgMatches<'_>) -> Result<Task, AllocError>
     let after = copied(alloc, text_of(inner, "after"))?;
     let limit = limit_of(inner);
     let device = value_of(alloc, inner, "MODALIAS")?;
+    let json = has_flag(inner, "json");
     Ok(Task::List {
         after,
         limit,
         device,
+        json,
     })
 }
 
@@ -100,10 +102,12 @@ fn task_of(alloc: Global, name: &str, inner: &ArgMatches<'_>) -> Result<Task, Al
 {
     if name == "query" {
         let devices = values_of(alloc, inner, "MODALIAS")?;
-        Ok(Task::Query { devices })
+        let json = has_flag(inner, "json");
+        Ok(Task::Query { devices, json })
     } else if name == "explain" {
         let device = value_of(alloc, inner, "MODALIAS")?;
-        Ok(Task::Explain { device })
+        let json = has_flag(inner, "json");
+        Ok(Task::Explain { device, json })
     } else if name == "ask" {
         let file = value_of(alloc, inner, "FILE")?;
         let device = value_of(alloc, inner, "MODALIAS")?;

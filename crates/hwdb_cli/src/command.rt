@@ -5,7 +5,7 @@ ghost use Rattle.std.specs.Prelude.{◌≡◌, IfOk, false, codes};
 ghost use Rattle.clap.specs.Walk.{rule_of};
 ghost use Rattle.clap.specs.Simple.{app_of, shape_of};
 ghost use Rattle.clap.specs.declared.builder.command.Command.TheViews.{out-Command as fields_of};
-ghost use Rattle.hwdb_cli.specs.Line.{usr_rule, strict_rule, root_rule, device_rule, devices_rule, file_rule, after_rule, limit_rule, with_shared, update_app, query_app, explain_app, ask_app, list_app, top_app, hwdb_app};
+ghost use Rattle.hwdb_cli.specs.Line.{usr_rule, strict_rule, root_rule, device_rule, devices_rule, file_rule, after_rule, limit_rule, json_rule, with_shared, with_range, update_app, query_app, explain_app, ask_app, list_app, top_app, hwdb_app};
 
 use clap::builder::ValueParser;
 use clap::{Arg, ArgAction, Command};
@@ -134,6 +134,16 @@ fn limit_option<'a>(alloc: Global) -> Arg<'a>
         .value_parser(ValueParser::unsigned(0, u64::MAX))
 }
 
+fn json_option<'a>(alloc: Global) -> Arg<'a>
+    ensures rule { rule_of result ≡ json_rule }
+    ensures local { result.global ≡ false }
+{
+    Arg::new(alloc, "json")
+        .long("json")
+        .help("Print JSON, one object a line")
+        .action(ArgAction::SetTrue)
+}
+
 fn add_shared<'a>(alloc: Global, command: Command<'a>) -> Result<Command<'a>, AllocError>
     ensures app { IfOk result (λ r. app_of r ≡ with_shared (app_of command.entry)) }
     ensures local { IfOk result
@@ -142,6 +152,15 @@ fn add_shared<'a>(alloc: Global, command: Command<'a>) -> Result<Command<'a>, Al
     let with_usr = command.arg(usr_option(alloc))?;
     let with_strict = with_usr.arg(strict_option(alloc))?;
     with_strict.arg(root_option(alloc))
+}
+
+fn add_range<'a>(alloc: Global, command: Command<'a>) -> Result<Command<'a>, AllocError>
+    ensures app { IfOk result (λ r. app_of r ≡ with_range (app_of command.entry)) }
+    ensures local { IfOk result
+        (λ r. (fields_of r).has_globals ≡ (fields_of command.entry).has_globals) }
+{
+    let with_after = command.arg(after_option(alloc))?;
+    with_after.arg(limit_option(alloc))
 }
 
 fn update_command<'a>(alloc: Global) -> Result<Command<'a>, AllocError>
@@ -166,7 +185,8 @@ fn query_command<'a>(alloc: Global) -> Result<Command<'a>, AllocError>
             .about(QUERY_ABOUT)
             .after_help(QUERY_AFTER),
     )?;
-    command.arg(devices_argument(alloc))
+    let with_json = command.arg(json_option(alloc))?;
+    with_json.arg(devices_argument(alloc))
 }
 
 fn explain_command<'a>(alloc: Global) -> Result<Command<'a>, AllocError>
@@ -179,7 +199,8 @@ fn explain_command<'a>(alloc: Global) -> Result<Command<'a>, AllocError>
             .about(EXPLAIN_ABOUT)
             .after_help(EXPLAIN_AFTER),
     )?;
-    command.arg(device_argument(alloc))
+    let with_json = command.arg(json_option(alloc))?;
+    with_json.arg(device_argument(alloc))
 }
 
 fn ask_command<'a>(alloc: Global) -> Result<Command<'a>, AllocError>
@@ -206,9 +227,9 @@ fn list_command<'a>(alloc: Global) -> Result<Command<'a>, AllocError>
             .about(LIST_ABOUT)
             .after_help(LIST_AFTER),
     )?;
-    let with_after = command.arg(after_option(alloc))?;
-    let with_limit = with_after.arg(limit_option(alloc))?;
-    with_limit.arg(device_argument(alloc))
+    let with_range = add_range(alloc, command)?;
+    let with_json = with_range.arg(json_option(alloc))?;
+    with_json.arg(device_argument(alloc))
 }
 
 fn top_command<'a>(alloc: Global) -> Result<Command<'a>, AllocError>

@@ -14,11 +14,15 @@ pub enum Task {
     Query {
         /// The device strings, one or more.
         devices: Vec<String>,
+        /// Whether as JSON.
+        json: bool,
     },
     /// Print the properties that the database gives the device, and where each comes from.
     Explain {
         /// The device string.
         device: String,
+        /// Whether as JSON.
+        json: bool,
     },
     /// Print the properties that one text file gives the device.
     Ask {
@@ -35,6 +39,8 @@ pub enum Task {
         limit: Option<u64>,
         /// The device string.
         device: String,
+        /// Whether as JSON.
+        json: bool,
     },
 }
 

@@ -19,29 +19,38 @@ fn optional(alloc: Global, text: &Option<String>) -> Result<String, AllocError> 
     }
 }
 
+/// What says that JSON is asked for.
+fn json_word(json: bool) -> &'static str {
+    if json { " as JSON" } else { "" }
+}
+
 /// A job as a line: its flags, its root and its task.
 fn shown(alloc: Global, job: &Job) -> Result<String, AllocError> {
     let root = optional(alloc, &job.root)?;
     let task = match &job.task {
         Task::Update => String::from_str(alloc, "update")?,
-        Task::Query { devices } => {
-            let mut line = String::from_str(alloc, "query")?;
+        Task::Query { devices, json } => {
+            let mut line = format!(in alloc; "query{}", json_word(*json))?;
             for device in devices {
                 write!(line, " {}", device)?;
             }
             line
         }
-        Task::Explain { device } => format!(in alloc; "explain {}", device)?,
+        Task::Explain { device, json } => {
+            format!(in alloc; "explain{} {}", json_word(*json), device)?
+        }
         Task::Ask { file, device } => format!(in alloc; "ask {} {}", file, device)?,
         Task::List {
             after,
             limit,
             device,
+            json,
         } => {
+            let json = json_word(*json);
             let after = optional(alloc, after)?;
             match limit {
-                Some(n) => format!(in alloc; "list {} {} {}", after, n, device)?,
-                None => format!(in alloc; "list {} all {}", after, device)?,
+                Some(n) => format!(in alloc; "list{} {} {} {}", json, after, n, device)?,
+                None => format!(in alloc; "list{} {} all {}", json, after, device)?,
             }
         }
     };
@@ -94,6 +103,26 @@ fn jobs(rt: HostRuntime) -> Result<(), Fail> {
             "usr=false strict=false root=[/x] query a b -c",
         ),
         (
+            "hwdb query --json a b",
+            "usr=false strict=false root=none query as JSON a b",
+        ),
+        (
+            "hwdb query a --json b",
+            "usr=false strict=false root=none query as JSON a b",
+        ),
+        (
+            "hwdb query a -- --json",
+            "usr=false strict=false root=none query a --json",
+        ),
+        (
+            "hwdb explain a --json",
+            "usr=false strict=false root=none explain as JSON a",
+        ),
+        (
+            "hwdb list --json --limit 2 a",
+            "usr=false strict=false root=none list as JSON none 2 a",
+        ),
+        (
             "hwdb explain -- -a",
             "usr=false strict=false root=none explain -a",
         ),
@@ -132,6 +161,10 @@ fn refusals(rt: HostRuntime) -> Result<(), Fail> {
         ("hwdb list --limit -1 a", "usage"),
         ("hwdb list --limit 18446744073709551616 a", "usage"),
         ("hwdb -s -s update", "usage"),
+        ("hwdb query --json --json a", "usage"),
+        ("hwdb --json query a", "usage"),
+        ("hwdb update --json", "usage"),
+        ("hwdb ask --json f a", "usage"),
         ("hwdb update -r /x -r /y", "usage"),
         ("hwdb frobnicate", "usage"),
         ("hwdb --help", "help"),
@@ -186,7 +219,7 @@ fn help_names_the_command(rt: HostRuntime) -> Result<(), Fail> {
         ),
         (
             "hwdb query -h",
-            ["hwdb query", "MODALIAS", "--root", "--help"],
+            ["hwdb query", "MODALIAS", "--json", "--help"],
         ),
         ("hwdb ask --help", ["hwdb ask", "FILE", "MODALIAS", "-r"]),
         (

@@ -4,3 +4,6 @@ pub mod FailureLemmas
 pub mod HitLineLemmas
 pub mod RefusalLemmas
 pub mod UpdateLemmas
+pub mod JsonAnswerLemmas
+pub mod JsonLawLemmas
+pub mod JsonLemmas

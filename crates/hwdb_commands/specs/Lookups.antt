@@ -1,5 +1,5 @@
 -- What the calls that read a database write, and what they refuse (systemd-hwdb(8)); `list` is our choice.
-use Rattle.std.specs.Prelude.{ℕ, List, [], ◌∷◌, Bool, true, false, ◌≡◌, Option, None, Some, take, option_map, ◌-◌}
+use Rattle.std.specs.Prelude.{ℕ, List, [], ◌∷◌, Bool, true, false, ◌≡◌, Option, None, Some, take, option_map, flat_map, ◌-◌}
 use Rattle.std.specs.Borrow.{Bor}
 use Rattle.std.specs.Io.KnownBytes.{Appends}
 use Rattle.hwdb_spec.specs.Lines.{byte}
@@ -8,8 +8,11 @@ use Rattle.hwdb_spec.specs.Tree.{Tree, answers_after}
 use Rattle.hwdb_spec.specs.declared.DbFault.{DbFault}
 use Rattle.hwdb_commands.specs.declared.errors.ToolError.TheVariants.{BadDatabase, Memory, Write, BadPosition}
 use Rattle.hwdb_commands.specs.declared.errors.ToolError.{ToolError}
+use Rattle.hwdb_commands.specs.declared.hit_lines.HitForm.TheVariants.{Text, Json}
+use Rattle.hwdb_commands.specs.declared.hit_lines.HitForm.{HitForm}
 use Rattle.hwdb_spec.specs.Folders.{Source}
-use Rattle.hwdb_spec.specs.Texts.{IsSpelling, list_text, hits_text, within_limit, last_lines_text}
+use Rattle.hwdb_spec.specs.Json.{hit_json, hits_json, json_line, last_lines_json, list_json}
+use Rattle.hwdb_spec.specs.Texts.{IsSpelling, list_text, hit_text, hits_text, within_limit, last_lines_text}
 use Rattle.hwdb_spec.specs.Assignment.{Position, Assignment}
 
 -- how many hits `list` holds at most
@@ -62,6 +65,27 @@ pub record IsListBeginning (device : List ℕ) (after : Option (Bor (List ℕ)))
   pub lines : ℕ
   pub is : text ≡ hits_text (take lines (within_limit limit (answers_after device from tree)))
 
+-- the same as JSON: what the bytes' tree gives
+pub record IsListJson (device : List ℕ) (after : Option (Bor (List ℕ))) (limit : Option ℕ) (bytes text : List ℕ) : Type 0 where
+  pub from : Option Position
+  pub spelled : IsAfter after from
+  pub is : IsTextOf (list_json device from limit) bytes text
+
+-- the first lines of it, whole
+pub record IsListJsonBeginning (device : List ℕ) (after : Option (Bor (List ℕ))) (limit : Option ℕ) (bytes text : List ℕ) : Type 0 where
+  pub from : Option Position
+  pub spelled : IsAfter after from
+  pub tree : Tree
+  pub database : IsDatabase bytes tree
+  pub lines : ℕ
+  pub is : text ≡ hits_json (take lines (within_limit limit (answers_after device from tree)))
+
+-- what `list --json` prints over the database of some files
+pub record IsLastJson (device : List ℕ) (after : Option (Bor (List ℕ))) (limit : Option ℕ) (etc usr : List Source) (text : List ℕ) : Type 0 where
+  pub from : Option Position
+  pub spelled : IsAfter after from
+  pub is : text ≡ last_lines_json device from limit etc usr
+
 -- what `list` prints over the database of some files
 pub record IsLastLines (device : List ℕ) (after : Option (Bor (List ℕ))) (limit : Option ℕ) (etc usr : List Source) (text : List ℕ) : Type 0 where
   pub from : Option Position
@@ -69,8 +93,13 @@ pub record IsLastLines (device : List ℕ) (after : Option (Bor (List ℕ))) (li
   pub is : text ≡ last_lines_text device from limit etc usr
 
 -- a sink took the lines of the first of some hits, whole
-abbrev pub AppendsLines : Option (List ℕ) → Option (List ℕ) → List Assignment → Type 0
-AppendsLines before now hits = (n : ℕ) × Appends before now (hits_text (take n hits))
+abbrev pub AppendsLines : (Assignment → List ℕ) → Option (List ℕ) → Option (List ℕ) → List Assignment → Type 0
+AppendsLines line before now hits = (n : ℕ) × Appends before now (flat_map line (take n hits))
+
+-- the line of a hit
+abbrev pub line_of : HitForm → Assignment → List ℕ
+line_of Text f = hit_text f
+line_of Json f = json_line (hit_json f)
 
 -- what printing may refuse
 abbrev pub IsPrintRefusal : ToolError → Type 0

@@ -34,8 +34,8 @@ fn device_text(
     Ok(text)
 }
 
-/// The first device, and those behind it.
-fn split_first(devices: &[String]) -> Option<(&String, &[String])>
+/// The first device, and those behind it; none where there is none.
+pub fn split_first(devices: &[String]) -> Option<(&String, &[String])>
     ensures some { IfSome result (λ parts. devices.now ≡ parts.0.now ∷ parts.1.now) }
     ensures none { IfNone result (devices.now ≡ []) }
 {

@@ -1,17 +1,48 @@
 //! Printing the hits of a cursor, one line after another.
-ghost use Rattle.std.specs.Prelude.{◌≡◌, ◌≢◌, ◌≤◌, OnOk, IfErr, IsErrOf};
+ghost use Rattle.std.specs.Prelude.{flat_map, ◌≡◌, ◌≢◌, ◌≤◌, OnOk, IfErr, IsErrOf};
 ghost use Rattle.std.specs.Io.KnownBytes.{Appends};
 ghost use Rattle.hwdb_spec.specs.Failures.{HasFailed, OneFailed};
 ghost use Rattle.hwdb_commands.specs.Devices.{AppendsPrefix};
-ghost use Rattle.hwdb_commands.specs.Lookups.{AppendsLines, IsPrintRefusal, list_page, one_less};
-ghost use Rattle.hwdb_spec.specs.Texts.{hits_text, within_limit};
+ghost use Rattle.hwdb_commands.specs.Lookups.{AppendsLines, IsPrintRefusal, line_of, list_page, one_less};
+ghost use Rattle.hwdb_query.specs.Views.{assignment_of_hit};
+ghost use Rattle.hwdb_spec.specs.Texts.{within_limit};
 
 use crate::errors::ToolError;
+use crate::json_lines::hit_json_line;
 use crate::texts::set_hit_line;
 use crate::transfer::write_text;
 use hwdb_devices::Sink;
-use hwdb_query::Cursor;
-use std::alloc::Global;
+use hwdb_query::{Cursor, Hit};
+use std::alloc::{AllocError, Global};
+
+/// How the line of a hit is printed.
+#[derive(Clone, Copy)]
+pub enum HitForm {
+    /// With tabs between its parts.
+    Text,
+    /// As an object of JSON.
+    Json,
+}
+
+/// Makes a text the line of a hit.
+///
+/// The only error is that memory is refused.
+fn set_line(
+    alloc: Global,
+    line: &mut Vec<u8>,
+    hit: &Hit<'_>,
+    form: HitForm,
+) -> Result<(), AllocError>
+    ensures { OnOk result (line.new.items ≡ line_of form (assignment_of_hit hit.now)) }
+{
+    match form {
+        HitForm::Text => set_hit_line(line, hit),
+        HitForm::Json => {
+            *line = hit_json_line(alloc, hit)?;
+            Ok(())
+        }
+    }
+}
 
 /// A limit after one more line.
 fn one_less(limit: Option<u64>) -> Option<u64>
@@ -29,12 +60,13 @@ pub fn print_hits<O: Sink>(
     alloc: Global,
     hits: &mut Cursor<'_, '_>,
     limit: Option<u64>,
+    form: HitForm,
     out: &mut O,
 ) -> Result<(), ToolError>
     requires page { hits.old.page ≡ list_page }
     ensures printed { OnOk result
         (Appends (O.taken out.old) (O.taken out.new)
-        (hits_text (within_limit limit hits.old.to_come))) }
+        (flat_map (line_of form) (within_limit limit hits.old.to_come))) }
     ensures refusals { IfErr result IsPrintRefusal }
     ensures cause { IsErrOf result ToolError.Write
         → HasFailed (O.failures out.old) (O.failures out.new) }
@@ -44,9 +76,10 @@ pub fn print_hits<O: Sink>(
     ensures refused { IsErrOf result ToolError.Memory → O.failures out.new ≡ O.failures out.old }
     ensures cut_short { IsErrOf result ToolError.Write
         → AppendsPrefix (O.taken out.old) (O.taken out.new)
-        (hits_text (within_limit limit hits.old.to_come)) }
+        (flat_map (line_of form) (within_limit limit hits.old.to_come)) }
     ensures whole_lines { IsErrOf result ToolError.Memory
-        → AppendsLines (O.taken out.old) (O.taken out.new) (within_limit limit hits.old.to_come) }
+        → AppendsLines (line_of form) (O.taken out.old) (O.taken out.new)
+        (within_limit limit hits.old.to_come) }
 {
     let mut line = Vec::new(alloc);
     let mut left = limit;
@@ -54,7 +87,7 @@ pub fn print_hits<O: Sink>(
         let Some(hit) = hits.next()? else {
             return Ok(());
         };
-        set_hit_line(&mut line, &hit)?;
+        set_line(alloc, &mut line, &hit, form)?;
         write_text(out, &line)?;
         left = one_less(left);
     }

@@ -9,6 +9,11 @@
 //! | `explanation` | `explain`: what a database has for a device, and where that comes from |
 //! | `device_texts` | the texts of several devices, one after another |
 //! | `hit_lines` | the hits of a cursor, one line after another |
+//! | `json_values` | values of JSON, token by token |
+//! | `json_explanations` | the lines of JSON of `explain` |
+//! | `json_lines` | the lines of JSON of `query` and `list` |
+//! | `json_laws` | what is read of JSON is what was written |
+//! | `json_answers` | `query`, `list` and `explain` with `--json` |
 //! | `single_file` | `ask`: what one text file has for a device |
 //! | `update` | `update`: the database of the files of two folders, put in its place |
 //! | `errors` | why a call refuses |
@@ -18,6 +23,11 @@ mod device_texts;
 mod errors;
 mod explanation;
 mod hit_lines;
+mod json_answers;
+mod json_explanations;
+mod json_laws;
+mod json_lines;
+mod json_values;
 mod lookup;
 mod single_file;
 #[cfg(test)]
@@ -28,6 +38,8 @@ mod update;
 
 pub use errors::ToolError;
 pub use explanation::run_explain;
+pub use json_answers::{run_explain_json, run_list_json, run_queries_json};
+pub use json_laws::json_is_read_back;
 pub use lookup::{MAX_BYTES, run_list, run_queries, run_query};
 pub use single_file::ask;
 pub use transfer::{read_all, write_text};

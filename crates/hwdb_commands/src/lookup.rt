@@ -12,7 +12,7 @@ ghost use Rattle.hwdb_spec.specs.Written.{IsCompiled};
 
 use crate::device_texts::print_texts;
 use crate::errors::ToolError;
-use crate::hit_lines::print_hits;
+use crate::hit_lines::{HitForm, print_hits};
 use crate::texts::property_lines;
 use crate::transfer::write_text;
 use hwdb_devices::Sink;
@@ -25,7 +25,7 @@ use std::alloc::Global;
 pub const MAX_BYTES: u32 = 268_435_456;
 
 /// How many hits `run_list` holds at most.
-const PAGE: usize = 64;
+pub(crate) const PAGE: usize = 64;
 
 /// The text of the properties that the database gives the device.
 pub fn properties_of(alloc: Global, bytes: &[u8], device: &[u8]) -> Result<Vec<u8>, ToolError>
@@ -104,7 +104,7 @@ pub fn run_queries<O: Sink>(
 }
 
 /// The position that a text spells, if there is a text.
-fn position_of(alloc: Global, after: Option<&str>) -> Result<Option<Position>, ToolError>
+pub(crate) fn position_of(alloc: Global, after: Option<&str>) -> Result<Option<Position>, ToolError>
     ensures spelled { IfOk result (λ p. IsAfter after.entry (next_position p)) }
     ensures refusals { IfErr result (IsPositionRefusal after.entry) }
 {
@@ -152,5 +152,5 @@ pub fn run_list<O: Sink>(
     let after = position_of(alloc, after)?;
     let db = check(bytes)?;
     let mut hits = cursor(alloc, &db, device, after.as_ref(), PAGE)?;
-    print_hits(alloc, &mut hits, limit, out)
+    print_hits(alloc, &mut hits, limit, HitForm::Text, out)
 }

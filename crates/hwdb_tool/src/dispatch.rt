@@ -8,7 +8,8 @@ use crate::files::{SystemStore, any_bytes, database_bytes, joined, names_in, pat
 use crate::refusals::{Refusal, refuse_for, refuse_text};
 use hwdb_cli::{Job, Task, WordsFault, read_words};
 use hwdb_commands::{
-    MAX_BYTES, ToolError, ask, run_explain, run_list, run_queries, update_chosen, write_text,
+    MAX_BYTES, ToolError, ask, run_explain, run_explain_json, run_list, run_list_json,
+    run_queries, run_queries_json, update_chosen, write_text,
 };
 use hwdb_compile::ChosenFile;
 use hwdb_devices::Sink;
@@ -93,13 +94,21 @@ where
     };
     match &job.task {
         Task::Update => return update(rt, alloc, root, job, err),
-        Task::Query { devices } => {
+        Task::Query { devices, json } => {
             let bytes = database(rt, alloc, root)?;
-            run_queries(alloc, &bytes, devices, out)?;
+            if *json {
+                run_queries_json(alloc, &bytes, devices, out)?;
+            } else {
+                run_queries(alloc, &bytes, devices, out)?;
+            }
         }
-        Task::Explain { device } => {
+        Task::Explain { device, json } => {
             let bytes = database(rt, alloc, root)?;
-            run_explain(alloc, &bytes, device.as_bytes(), out)?;
+            if *json {
+                run_explain_json(alloc, &bytes, device.as_bytes(), out)?;
+            } else {
+                run_explain(alloc, &bytes, device.as_bytes(), out)?;
+            }
         }
         Task::Ask { file, device } => {
             let bytes = any_bytes(alloc, rt, file.as_str())?;
@@ -109,10 +118,15 @@ where
             after,
             limit,
             device,
+            json,
         } => {
             let bytes = database(rt, alloc, root)?;
             let after = after.as_ref().map(|text| text.as_str());
-            run_list(alloc, &bytes, device.as_bytes(), after, *limit, out)?;
+            if *json {
+                run_list_json(alloc, &bytes, device.as_bytes(), after, *limit, out)?;
+            } else {
+                run_list(alloc, &bytes, device.as_bytes(), after, *limit, out)?;
+            }
         }
     }
     Ok(0)

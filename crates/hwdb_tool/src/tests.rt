@@ -4,6 +4,7 @@ mod commands;
 mod explanations;
 mod failing;
 mod hostile;
+mod json_rows;
 mod refusals;
 mod vectors;
 

@@ -8,7 +8,7 @@ use Rattle.hwdb_spec.specs.Tree.{answers_after}
 use Rattle.hwdb_query.specs.Views.{next_position, Progress}
 use Rattle.hwdb_commands.specs.Devices.{AppendsPrefix}
 use Rattle.hwdb_commands.specs.Lookups.{AppendsLines, list_page}
-use Rattle.hwdb_spec.specs.Texts.{hits_text, within_limit}
+use Rattle.hwdb_spec.specs.Texts.{hit_text, hits_text, within_limit}
 use Rattle.hwdb_commands.proofs.RefusalLemmas.{cursor_refused, lent_position, not_zero}
 use Rattle.hwdb_commands.proofs.lookup.run_list.Goals as goal
 
@@ -16,6 +16,27 @@ pub returns-in_err-hits-clause-refusals : goal.returns-in_err-hits-clause-refusa
 returns-in_err-hits-clause-refusals g c =
     cursor_refused c.args.after c.args.bytes.now c.in_err-hits.field-0.0 _ c.from_residual-in_err-hits.ensures.1
     (λ e. not_zero list_page (c.in_err-hits.ensures.page e) (omega arith))
+
+pub returns-clause-printed : goal.returns-clause-printed
+returns-clause-printed g c =
+    on_ok_weaker c.print_hits.result
+    (λ printed.
+    let begun = c.in_ok-hits.ensures.begins in
+    let device = c.args.device.now in
+    let tree = c.in_ok-db.db in
+    let all : c.in_ok-hits.hits.to_come ≡ answers_after device (next_position c.in_ok-after.after) tree =
+    ap (λ (p : Progress). p.to_come) begun ∙ ap (λ s. answers_after device s tree) (lent_position c.as_ref.result c.in_ok-after.after c.as_ref.ensures.value) in
+    let P : List Assignment → Type 0 = λ hits. Appends (g.O.Sink.taken c.args.out.now) (g.O.Sink.taken c.print_hits.new.out) (hits_text (within_limit c.args.limit hits)) in
+    record {
+      text = _;
+      is = record {
+        from = next_position c.in_ok-after.after;
+        spelled = c.in_ok-after.ensures.spelled;
+        is = record { tree = tree; database = c.in_ok-db.ensures.accepted; is = refl };
+      };
+      taken = subst P all printed;
+    })
+    c.print_hits.ensures.printed
 
 pub returns-clause-cut_short : goal.returns-clause-cut_short
 returns-clause-cut_short g c = λ e.
@@ -44,7 +65,7 @@ returns-clause-whole_lines g c = λ e.
     let tree = c.in_ok-db.db in
     let all : c.in_ok-hits.hits.to_come ≡ answers_after device (next_position c.in_ok-after.after) tree =
     ap (λ (p : Progress). p.to_come) begun ∙ ap (λ s. answers_after device s tree) (lent_position c.as_ref.result c.in_ok-after.after c.as_ref.ensures.value) in
-    let P : List Assignment → Type 0 = λ hits. AppendsLines (g.O.Sink.taken c.args.out.now) (g.O.Sink.taken c.print_hits.new.out) (within_limit c.args.limit hits) in
+    let P : List Assignment → Type 0 = λ hits. AppendsLines hit_text (g.O.Sink.taken c.args.out.now) (g.O.Sink.taken c.print_hits.new.out) (within_limit c.args.limit hits) in
     let first = subst P all lines in
     inr (record {
       text = _;
