@@ -12,4 +12,5 @@ pub mod Texts
 pub mod Explanations
 pub mod Failures
 pub mod Store
+pub mod System
 pub mod Library

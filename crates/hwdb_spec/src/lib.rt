@@ -19,6 +19,7 @@
 //! | `Explanations` | for each key the answer that counts and those that it overrides, and their lines |
 //! | `Failures` | how failed calls are counted |
 //! | `Store` | a store of files, what a crash may leave, and a database that is replaced |
+//! | `System` | a file system as the program sees it: text files of folders, and the database that is asked |
 //! | `Library` | what the C library is told |
 //!
 //! The types below are those that the definitions name.

@@ -1,7 +1,7 @@
 //! Worked examples of the program and of its refusal lines.
 mod refusals;
 
-use crate::program;
+use crate::{SystemStore, program};
 use hwdb_commands::testing::MemorySink;
 use std::test::Fail;
 
@@ -9,18 +9,22 @@ use std::test::Fail;
 #[test]
 fn program_cut_short(rt: HostRuntime) -> Result<(), Fail> {
     let alloc = rt.alloc();
+    let mut system = SystemStore::new(alloc, &rt);
     let mut words = Vec::new(alloc);
     words.push(String::from_str(alloc, "hwdb")?)?;
     words.push(String::from_str(alloc, "--help")?)?;
     let mut whole: MemorySink<4096> = MemorySink::new();
     let mut err: MemorySink<32> = MemorySink::new();
-    assert_eq!(rt; program(&rt, alloc, &words, &mut whole, &mut err), 0);
+    assert_eq!(rt;
+        program(alloc, &words, &mut system, &mut whole, &mut err),
+        0
+    );
     assert_eq!(rt; err.taken(), b"".as_slice());
     for room in 0..whole.taken().len() {
         let mut out: MemorySink<4096> = MemorySink::new();
         let mut err: MemorySink<32> = MemorySink::new();
         out.room = room;
-        assert_eq!(rt; program(&rt, alloc, &words, &mut out, &mut err), 1);
+        assert_eq!(rt; program(alloc, &words, &mut system, &mut out, &mut err), 1);
         assert_eq!(rt; out.taken(), &whole.taken()[..room]);
         assert_eq!(rt; err.taken(), b"hwdb: cannot write\n".as_slice());
     }

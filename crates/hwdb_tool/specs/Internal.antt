@@ -1,0 +1,27 @@
+-- What the steps of an update hold, and what a store in memory answers.
+use Rattle.std.specs.Prelude.{◌≡◌, ◌⊎◌, ℕ, List, [], ◌∷◌, ◌++◌, Option, Some, None, map}
+use Rattle.hwdb_spec.specs.Folders.{Choice, path_of}
+use Rattle.hwdb_spec.specs.Store.{Contents}
+use Rattle.hwdb_spec.specs.System.{bytes_at}
+use Rattle.hwdb_store.specs.Memory.{seen_of}
+use Rattle.hwdb_store.specs.declared.memory.Step.{Step}
+use Rattle.hwdb_store.specs.declared.memory.Step.TheVariants.{Changed, Moved}
+
+-- the texts are what is read of the chosen files below a root
+abbrev pub AreTexts : (root : List ℕ) (contents : Contents) → List Choice → (texts : List (List ℕ)) → Type 0
+AreTexts root contents chosen texts = map Some texts ≡ map (λ c. bytes_at contents (root ++ path_of c)) chosen
+
+-- what a read gives after some steps of a store in memory
+abbrev pub bytes_after : List Step → (path : List ℕ) → Option (List ℕ)
+bytes_after steps = bytes_at (seen_of steps)
+
+-- the path under which a step has a file stand
+abbrev pub made_by : Step → Option (List ℕ)
+made_by (Changed path file) = Some path.items
+made_by (Moved from to file loose) = Some to.items
+made_by _ = None
+
+-- one of the steps has a file stand under the path
+abbrev pub IsMade : List Step → (path : List ℕ) → Type 0
+IsMade [] path = ⊥
+IsMade (x ∷ steps) path = (made_by x ≡ Some path) ⊎ IsMade steps path
