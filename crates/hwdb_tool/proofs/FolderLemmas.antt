@@ -1,20 +1,19 @@
 -- The files of two folders, and those that were read of them.
-use Rattle.std.proofs.Common.{◌≡◌, ◌∙◌, ap, sym, refl, subst, ℕ, zero, suc, ◌≤◌, ◌<◌, ◌||◌, true, false, Bool, List, [], ◌∷◌, ◌++◌, map, length, get_or, take, arith, append_assoc, Option, Some, None, if◌then◌else◌, All}
-use Rattle.std.specs.Prelude.{Contains, codes, drop, is_some}
+use Rattle.std.proofs.Common.{◌≡◌, ◌∙◌, ap, sym, refl, subst, ℕ, zero, suc, ◌≤◌, true, false, Bool, List, [], ◌∷◌, ◌++◌, map, length, get_or, arith, append_assoc, Option, Some, None, if◌then◌else◌, All}
+use Rattle.std.specs.Prelude.{Contains, codes, drop, is_some, option_map}
 use Rattle.std.specs.Ordering.{is_eq}
 use Rattle.std.specs.FinMap as finite
-use Rattle.std.specs.List.{slice_index_or, list_any}
-use Rattle.std.specs.Option.{option_map_or}
+use Rattle.std.specs.Option.{option_map_or, option_or}
 use Rattle.std.specs.declared.cmp.Ordering.{Ordering}
 use Rattle.std.specs.declared.cmp.Ordering.TheVariants.{Less, Equal, Greater}
 use Rattle.std.proofs.lemmas.Bool.{or_parts}
 use Rattle.std.proofs.lemmas.Cmp.{nat_list_cmp_total, tied_itself}
-use Rattle.std.proofs.lemmas.List.{length-map, take_all}
+use Rattle.std.proofs.lemmas.List.{length-map}
 use Rattle.std.proofs.lemmas.List.Elements.{All-nil, All-cons, All-head, All-tail, All-map}
 use Rattle.hwdb_spec.specs.Assignment.{text_cmp}
 use Rattle.hwdb_spec.specs.Folders.{Choice, Source, same, lists, names, choice, chosen_of, contents, first_of, path_of, max_files}
-use Rattle.hwdb_spec.specs.Store.{Contents, path_in}
-use Rattle.hwdb_spec.specs.System.{bytes_at, AreNamesIn, AreFilesIn, etc_files, usr_files}
+use Rattle.hwdb_spec.specs.Store.{Contents, Stored, path_in, database_name, database_file}
+use Rattle.hwdb_spec.specs.System.{bytes_at, AreNamesIn, AreFilesIn, asked_database, database_folder, etc_files, usr_files}
 use Rattle.hwdb_text.specs.Views.{IsListed}
 use Rattle.hwdb_compile.specs.declared.sources.ChosenFile.{ChosenFile}
 use Rattle.hwdb_compile.specs.Views.{AreChosenOf, bytes_in, choice_in}
@@ -135,13 +134,11 @@ are_chosen root seen etc usr chosen texts files is few listed read choices bytes
           (subst (All (IsFrom etc)) (sym (choices ∙ is)) (all_from etc usr));
     }
 
--- ---- lists that grow
--- one more of a list, mapped
-pub mapped_more : {A B : Type 0} (f : A → B) (xs : List A) (i : ℕ) (x : A) → i < length xs → x ≡ get_or xs i x → map f (take (suc i) xs) ≡ map f (take i xs) ++ f x ∷ []
-mapped_more f [] i x lt e = absurd (omega arith)
-mapped_more f (y ∷ xs) zero x lt e = ap (λ z. f z ∷ []) (sym e)
-mapped_more f (y ∷ xs) (suc i) x lt e = ap (λ l. f y ∷ l) (mapped_more f xs i x (omega arith) e)
-
--- all of a list, mapped
-pub mapped_all : {A B : Type 0} (f : A → B) (xs : List A) (i : ℕ) → length xs ≤ i → map f (take i xs) ≡ map f xs
-mapped_all f xs i le = ap (map f) (take_all i xs le)
+-- ---- the database that is asked
+-- where one stands in /etc it is that one
+pub held_bytes : (root : List ℕ) (contents : Contents) (bytes database : List ℕ)
+    → contents (path_in (database_folder false root) database_name) ≡ Some (database_file database) → asked_database root contents ≡ Some bytes → bytes ≡ database
+held_bytes root contents bytes database stands asked =
+    let first : asked_database root contents ≡ Some database =
+    ap (λ o. option_or (option_map (λ (f : Stored). f.bytes) o) (bytes_at contents (path_in (database_folder true root) database_name))) stands in
+    ap value (sym asked ∙ first)

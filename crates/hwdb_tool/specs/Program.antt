@@ -1,7 +1,9 @@
 -- What the program does with a file system, by the job that its words ask for (systemd-hwdb(8); `explain`, `ask` and
 -- `list` are our choice).
-use Rattle.std.specs.Prelude.{◌≡◌, ◌⊎◌, ℕ, Bool, List, [], ◌∷◌, Option, Some, None, map, option_map, string_bytes}
+use Rattle.std.specs.Prelude.{◌≡◌, ℕ, Bool, List, [], Option, Some, None, map, option_map, string_bytes}
 use Rattle.std.specs.Option.{option_map_or}
+use Rattle.std.specs.Io.KnownBytes.{Appends}
+use Rattle.hwdb_cli.specs.Words.{AskFor, AskForText}
 use Rattle.hwdb_spec.specs.Assignment.{Position}
 use Rattle.hwdb_spec.specs.Folders.{Source}
 use Rattle.hwdb_spec.specs.Store.{Contents, Outcomes, Same, InPlace}
@@ -20,13 +22,13 @@ abbrev pub root_of : Job → List ℕ
 root_of job = option_map_or string_bytes job.root []
 
 -- The text files of both folders below the root are accepted, standard error took their fault lines, and their database is
--- in its place, which a crash leaves too; nothing else changed.
-pub record IsUpdated (root : List ℕ) (usr strict : Bool) (status : ℕ) (old new : Contents) (left : Outcomes) (err_before err_now : Option (List ℕ)) : Type 0 where
+-- in its place.
+pub record IsUpdated (root : List ℕ) (strict : Bool) (status : ℕ) (old : Contents) (err_before err_now : Option (List ℕ)) (in_place : List ℕ → Type 0) : Type 0 where
   pub of_etc : List Source
   pub of_usr : List Source
   pub in_etc : AreFilesIn (etc_files root) old of_etc
   pub in_usr : AreFilesIn (usr_files root) old of_usr
-  pub updated : Updated of_etc of_usr max_file strict status err_before err_now (λ database. InPlace (database_folder usr root) database old new left)
+  pub updated : Updated of_etc of_usr max_file strict status err_before err_now in_place
 
 -- standard output took what the database that is asked gives
 pub record IsAnswered (root : List ℕ) (Is : (bytes text : List ℕ) → Type 0) (contents : Contents) (out_before out_now : Option (List ℕ)) : Type 0 where
@@ -59,7 +61,8 @@ IsQuiet status old new err_before err_now = (status ≡ 0) × Same old new × (e
 -- what a task leaves that is done
 abbrev pub IsTaskDone : Task → (root : List ℕ) (usr strict : Bool) (status : ℕ) (old new : Contents) (left : Outcomes) (err_before err_now out_before out_now : Option (List ℕ)) → Type 0
 IsTaskDone Update root usr strict status old new left err_before err_now out_before out_now =
-    IsUpdated root usr strict status old new left err_before err_now × (out_now ≡ out_before)
+    IsUpdated root strict status old err_before err_now (λ database. InPlace (database_folder usr root) database old new left)
+    × (out_now ≡ out_before)
 IsTaskDone (Query devices) root usr strict status old new left err_before err_now out_before out_now =
     IsAnswered root (IsTextOf (queries_text (map string_bytes devices.items))) old out_before out_now × IsQuiet status old new err_before err_now
 IsTaskDone (Explain device) root usr strict status old new left err_before err_now out_before out_now =
@@ -72,3 +75,17 @@ IsTaskDone (Ask file device) root usr strict status old new left err_before err_
 -- what a job leaves that is done
 abbrev pub IsDone : Job → (status : ℕ) (old new : Contents) (left : Outcomes) (err_before err_now out_before out_now : Option (List ℕ)) → Type 0
 IsDone job = IsTaskDone job.task (root_of job) job.usr job.strict
+
+-- the words ask for a job, and it is done
+pub record IsJobDone (words : List (List ℕ)) (status : ℕ) (old new : Contents) (left : Outcomes) (err_before err_now out_before out_now : Option (List ℕ)) : Type 0 where
+  pub job : Job
+  pub asked : AskFor words job
+  pub done : IsDone job status old new left err_before err_now out_before out_now
+
+-- the words ask for help or the version, which standard output took; nothing else changed
+pub record IsTold (words : List (List ℕ)) (old new : Contents) (err_before err_now out_before out_now : Option (List ℕ)) : Type 0 where
+  pub asked : AskForText words
+  pub text : List ℕ
+  pub printed : Appends out_before out_now text
+  pub files : Same old new
+  pub err : err_now ≡ err_before

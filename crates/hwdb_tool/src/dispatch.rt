@@ -1,5 +1,5 @@
 //! The program: its words, its files, its status and its refusal lines.
-ghost use Rattle.std.specs.Prelude.{◌≡◌, ◌≤◌, ◌++◌, Some, map, option_map, string_bytes, IfOk, OnOk, length};
+ghost use Rattle.std.specs.Prelude.{◌≡◌, ◌≢◌, ◌≤◌, ◌⊎◌, ◌++◌, Some, map, option_map, string_bytes, IfOk, IfErr, OnOk, length};
 ghost use Rattle.hwdb_spec.specs.Store as spec;
 ghost use Rattle.hwdb_spec.specs.System as Folder;
 ghost use Rattle.hwdb_spec.specs.System.{asked_database, bytes_at, AreNamesIn};
@@ -9,7 +9,9 @@ ghost use Rattle.hwdb_commands.specs.Lookups.{IsTextOf, IsListText};
 ghost use Rattle.hwdb_text.specs.Views.{choice_of};
 ghost use Rattle.hwdb_compile.specs.Views.{choice_in, bytes_in};
 ghost use Rattle.hwdb_cli.specs.Refusals.{AreWrong};
-ghost use Rattle.hwdb_tool.specs.Program.{IsAnswered, IsAsked, IsUpdated, IsDone};
+ghost use Rattle.hwdb_tool.specs.Program.{IsAnswered, IsAsked, IsUpdated, IsDone, IsJobDone, IsTold};
+ghost use Rattle.hwdb_tool.specs.declared.refusals.Refusal.TheVariants.{Plain};
+ghost use Rattle.hwdb_spec.specs.Failures.{HasFailed};
 ghost use Rattle.hwdb_tool.specs.Internal.{AreTexts};
 
 use crate::files::{joined, path_in};
@@ -45,6 +47,13 @@ pub fn program<D: System, O: Sink, E: Sink>(
 ) -> u8
     ensures status { result ≤ 1 }
     ensures wrong_words { AreWrong (map string_bytes words.now) → result ≡ 1 }
+    ensures done { D.Store.tells → result ≡ 0 → IsJobDone (map string_bytes words.now) 0
+        (D.Store.seen system.old) (D.Store.seen system.new) (D.Store.may_leave system.new)
+        (E.taken err.old) (E.taken err.new) (O.taken out.old) (O.taken out.new)
+        ⊎ (IsTold (map string_bytes words.now) (D.Store.seen system.old) (D.Store.seen system.new)
+        (E.taken err.old) (E.taken err.new) (O.taken out.old) (O.taken out.new)
+        ⊎ (HasFailed (E.failures err.old) (E.failures err.new)
+        ⊎ HasFailed (O.failures out.old) (O.failures out.new))) }
 {
     match read_words(alloc, words) {
         Ok(job) => match run(alloc, &job, system, out, err) {
@@ -66,7 +75,9 @@ pub fn program<D: System, O: Sink, E: Sink>(
 /// Writes the line of the refusal, and returns the status. Where `out` failed the line says so; but where its
 /// reader went away, as `head` does, nothing is said, and the status is 0.
 fn refuse_job<O: Sink, E: Sink>(alloc: Global, refusal: Refusal, out: &O, err: &mut E) -> u8
-    ensures { result ≤ 1 }
+    ensures status { result ≤ 1 }
+    ensures said { result ≡ 0 → refusal ≡ Plain ToolError.Write }
+    ensures quiet { result ≡ 0 → err.new ≡ err.old }
 {
     match (refusal, out.cause()) {
         (Refusal::Plain(ToolError::Write), Some(cause)) => {
@@ -92,6 +103,9 @@ fn run<D: System, O: Sink, E: Sink>(
     ensures done { D.Store.tells → IfOk result (λ status. IsDone job.now status
         (D.Store.seen system.old) (D.Store.seen system.new) (D.Store.may_leave system.new)
         (E.taken err.old) (E.taken err.new) (O.taken out.old) (O.taken out.new)) }
+    ensures cause { IfErr result (λ r. r ≡ Plain ToolError.Write
+        → HasFailed (E.failures err.old) (E.failures err.new)
+        ⊎ HasFailed (O.failures out.old) (O.failures out.new)) }
 {
     let root = match &job.root {
         Some(root) => root.as_str(),
@@ -127,6 +141,8 @@ fn query<D: System, O: Sink>(
     ensures answered { D.Store.tells → OnOk result
         (IsAnswered root.now (IsTextOf (queries_text (map string_bytes devices.now)))
         (D.Store.seen system.now) (O.taken out.old) (O.taken out.new)) }
+    ensures cause { IfErr result (λ r. r ≡ Plain ToolError.Write
+        → HasFailed (O.failures out.old) (O.failures out.new)) }
 {
     let bytes = database(alloc, root, system)?;
     run_queries(alloc, &bytes, devices, out)?;
@@ -144,6 +160,8 @@ fn explain<D: System, O: Sink>(
     ensures answered { D.Store.tells → OnOk result
         (IsAnswered root.now (IsTextOf (explain_text device.now))
         (D.Store.seen system.now) (O.taken out.old) (O.taken out.new)) }
+    ensures cause { IfErr result (λ r. r ≡ Plain ToolError.Write
+        → HasFailed (O.failures out.old) (O.failures out.new)) }
 {
     let bytes = database(alloc, root, system)?;
     run_explain(alloc, &bytes, device, out)?;
@@ -163,6 +181,8 @@ fn list<D: System, O: Sink>(
     ensures answered { D.Store.tells → OnOk result
         (IsAnswered root.now (IsListText device.now after.entry limit)
         (D.Store.seen system.now) (O.taken out.old) (O.taken out.new)) }
+    ensures cause { IfErr result (λ r. r ≡ Plain ToolError.Write
+        → HasFailed (O.failures out.old) (O.failures out.new)) }
 {
     let bytes = database(alloc, root, system)?;
     run_list(alloc, &bytes, device, after, limit, out)?;
@@ -181,6 +201,9 @@ fn ask_file<D: System, O: Sink, E: Sink>(
     ensures asked { D.Store.tells → OnOk result
         (IsAsked file.now device.now (D.Store.seen system.now)
         (E.taken err.old) (E.taken err.new) (O.taken out.old) (O.taken out.new)) }
+    ensures cause { IfErr result (λ r. r ≡ Plain ToolError.Write
+        → HasFailed (E.failures err.old) (E.failures err.new)
+        ⊎ HasFailed (O.failures out.old) (O.failures out.new)) }
 {
     let bytes = system.input(alloc, file)?;
     ask(alloc, file, &bytes, device, out, err)?;
@@ -191,6 +214,7 @@ fn ask_file<D: System, O: Sink, E: Sink>(
 fn database<D: System>(alloc: Global, root: &str, system: &D) -> Result<Vec<u8>, Refusal>
     ensures asked { D.Store.tells → IfOk result
         (λ bytes. asked_database root.now (D.Store.seen system.now) ≡ Some bytes.items) }
+    ensures unread { IfErr result (λ r. r ≢ Plain ToolError.Write) }
 {
     if let Some(bytes) = database_in(alloc, root, ETC_FOLDER, system)? {
         return Ok(bytes);
@@ -211,6 +235,7 @@ fn database_in<D: System>(
     ensures found { D.Store.tells → IfOk result (λ found. option_map (λ b. b.items) found
         ≡ bytes_at (D.Store.seen system.now)
         (spec.path_in (root.now ++ folder.now) spec.database_name)) }
+    ensures unread { IfErr result (λ r. r ≢ Plain ToolError.Write) }
 {
     let folder = joined(alloc, root, folder)?;
     let path = path_in(alloc, folder.as_str(), DATABASE)?;
@@ -227,6 +252,7 @@ fn read_chosen<D: System>(
     ensures count { IfOk result (λ texts. length texts.items ≡ length chosen.now) }
     ensures read { D.Store.tells → IfOk result (λ texts. AreTexts root.now (D.Store.seen system.now)
         (map choice_of chosen.now) (map (λ t. t.items) texts.items)) }
+    ensures unread { IfErr result (λ r. r ≢ Plain ToolError.Write) }
 {
     let mut texts = Vec::new(alloc);
     for file in chosen {
@@ -266,6 +292,7 @@ fn listed<D: System>(
 ) -> Result<Vec<String>, Refusal>
     ensures names { D.Store.tells → IfOk result (λ names. AreNamesIn (root.now ++ folder.now)
         (D.Store.seen system.now) (map string_bytes names.items)) }
+    ensures unread { IfErr result (λ r. r ≢ Plain ToolError.Write) }
 {
     let path = joined(alloc, root, folder)?;
     system.names(alloc, path.as_str())
@@ -291,9 +318,13 @@ fn update<D: System, E: Sink>(
     err: &mut E,
 ) -> Result<u8, Refusal>
     ensures status { IfOk result (λ status. status ≤ 1) }
-    ensures updated { D.Store.tells → IfOk result (λ status. IsUpdated root.now usr strict status
-        (D.Store.seen system.old) (D.Store.seen system.new) (D.Store.may_leave system.new)
-        (E.taken err.old) (E.taken err.new)) }
+    ensures updated { D.Store.tells → IfOk result
+        (λ status. IsUpdated root.now strict status (D.Store.seen system.old)
+        (E.taken err.old) (E.taken err.new)
+        (λ database. spec.InPlace (Folder.database_folder usr root.now) database
+        (D.Store.seen system.old) (D.Store.seen system.new) (D.Store.may_leave system.new))) }
+    ensures cause { IfErr result (λ r. r ≡ Plain ToolError.Write
+        → HasFailed (E.failures err.old) (E.failures err.new)) }
 {
     let etc_names = listed(alloc, root, ETC_FILES, system)?;
     let usr_names = listed(alloc, root, USR_FILES, system)?;

@@ -45,6 +45,16 @@ fn names_in<R: Files>(alloc: Global, rt: &R, folder: &str) -> Result<Vec<String>
     Ok(names)
 }
 
+/// The path of a name in a folder, whatever its bytes are.
+fn bytes_of_path(alloc: Global, folder: &str, name: &[u8]) -> Result<Vec<u8>, AllocError>
+    ensures { IfOk result (λ path. path.items ≡ spec.path_in folder.now name.now) }
+{
+    let mut path = Vec::from_slice(alloc, folder.as_bytes())?;
+    path.push(b'/')?;
+    path.extend_from_slice(name)?;
+    Ok(path)
+}
+
 /// A name in a folder, as text. Refuses one that isn't UTF-8, with its path.
 pub fn text_of(alloc: Global, folder: &str, name: &[u8]) -> Result<String, Refusal>
     ensures text { IfOk result (λ text. string_bytes text ≡ name.now) }
@@ -53,9 +63,7 @@ pub fn text_of(alloc: Global, folder: &str, name: &[u8]) -> Result<String, Refus
     match from_utf8(name) {
         Ok(name) => Ok(String::from_str(alloc, name)?),
         Err(_) => {
-            let mut path = Vec::from_slice(alloc, folder.as_bytes())?;
-            path.extend_from_slice(b"/")?;
-            path.extend_from_slice(name)?;
+            let path = bytes_of_path(alloc, folder, name)?;
             Err(Refusal::At(ToolError::Read, path, Some(Cause::Name)))
         }
     }

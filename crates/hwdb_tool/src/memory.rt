@@ -1,9 +1,9 @@
 //! A store in memory as the program's file system, for tests: it tells its contents.
-ghost use Rattle.std.specs.Prelude.{◌≡◌, ◌≤◌, Some, None, List, ℕ, IfOk, IfErr, IfSome, MatchOption, option_map, vec_len, length};
+ghost use Rattle.std.specs.Prelude.{◌≡◌, ◌≤◌, Some, None, List, ℕ, IfOk, IfErr, IfSome, MatchOption, OnOk, map, option_map, string_bytes, vec_len, length};
 ghost use Rattle.hwdb_spec.specs.Store.{path_in};
 ghost use Rattle.hwdb_spec.specs.Texts.{max_file};
-ghost use Rattle.hwdb_tool.specs.Internal.{bytes_after, made_by};
-ghost use Rattle.hwdb_tool.specs.Refusals.{IsUnread};
+ghost use Rattle.hwdb_tool.specs.Internal.{IsNamedBy, IsPushed, bytes_after, is_text_file, made_by};
+ghost use Rattle.hwdb_tool.specs.Refusals.{IsUnlisted, IsUnread};
 
 use crate::files::text_of;
 use crate::refusals::Refusal;
@@ -33,7 +33,10 @@ fn name_in<'a>(folder: &str, path: &'a [u8]) -> Option<&'a [u8]>
     ensures { MatchOption result ((name : List ℕ) → path.now ≡ path_in folder.now name → ⊥)
         (λ name. path.now ≡ path_in folder.now name.now) }
 {
-    path.strip_prefix(folder.as_bytes())?.strip_prefix(b"/")
+    match path.strip_prefix(folder.as_bytes()) {
+        Some(rest) => rest.strip_prefix(b"/"),
+        None => None,
+    }
 }
 
 /// What stands under a path after these steps, unless it is too long.
@@ -65,37 +68,62 @@ fn read_after(alloc: Global, steps: &[Step], path: &[u8]) -> Result<Vec<u8>, Ref
     }
 }
 
+/// Whether a text file with this name stands in its folder, where its path is this one.
+fn is_text_file(alloc: Global, steps: &[Step], name: &[u8], path: &[u8]) -> Result<bool, AllocError>
+    ensures { IfOk result (λ b. b ≡ is_text_file steps.now name.now path.now) }
+{
+    if !counts(name) || name.contains(&b'/') {
+        return Ok(false);
+    }
+    let state = state_of(alloc, steps, path)?;
+    Ok(state.now.is_some())
+}
+
 /// The name of the text file that a step has stand in a folder, if one stands there after all steps.
 fn named_by<'a>(
     alloc: Global,
     steps: &[Step],
     folder: &str,
     step: &'a Step,
-) -> Result<Option<&'a [u8]>, Refusal> {
+) -> Result<Option<&'a [u8]>, AllocError>
+    ensures { IfOk result (λ found. IsNamedBy steps.now folder.now step.now (option_map (λ n. n.now) found)) }
+{
     let Some(path) = made_by(step) else {
         return Ok(None);
     };
-    match name_in(folder, path) {
-        Some(name) if counts(name) && !name.contains(&b'/') => {
-            let state = state_of(alloc, steps, path)?;
-            Ok(if state.now.is_some() {
-                Some(name)
-            } else {
-                None
-            })
-        }
-        _ => Ok(None),
+    let Some(name) = name_in(folder, path) else {
+        return Ok(None);
+    };
+    if is_text_file(alloc, steps, name, path)? {
+        return Ok(Some(name));
     }
+    Ok(None)
+}
+
+/// Puts the name of the text file that a step has stand in a folder behind the others.
+fn push_name(
+    alloc: Global,
+    steps: &[Step],
+    folder: &str,
+    step: &Step,
+    names: &mut Vec<String>,
+) -> Result<(), Refusal>
+    ensures pushed { OnOk result (IsPushed steps.now folder.now step.now
+        (map string_bytes names.old.items) (map string_bytes names.new.items)) }
+    ensures refused { IfErr result (IsUnlisted folder.now) }
+{
+    if let Some(name) = named_by(alloc, steps, folder, step)? {
+        let name = text_of(alloc, folder, name)?;
+        names.push(name).map_err(AllocError::from)?;
+    }
+    Ok(())
 }
 
 impl System for Memory {
     fn names(&self, alloc: Global, folder: &str) -> Result<Vec<String>, Refusal> {
         let mut names = Vec::new(alloc);
         for step in &self.steps {
-            if let Some(name) = named_by(alloc, &self.steps, folder, step)? {
-                let name = text_of(alloc, folder, name)?;
-                names.push(name).map_err(AllocError::from)?;
-            }
+            push_name(alloc, &self.steps, folder, step, &mut names)?;
         }
         Ok(names)
     }
