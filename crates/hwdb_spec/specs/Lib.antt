@@ -13,4 +13,5 @@ pub mod Explanations
 pub mod Json
 pub mod Failures
 pub mod Store
+pub mod System
 pub mod Library

@@ -1,1 +1,4 @@
 pub mod Refusals
+pub mod Program
+pub mod Internal
+pub mod Laws

@@ -1,12 +1,13 @@
 -- The line that is printed of each refusal. Our choice; the words of a cause are those of strerror(3).
 use Rattle.hwdb_spec.specs.Failures.{HasFailed}
-use Rattle.std.specs.Prelude.{◌⊎◌, ℕ, List, [], ◌∷◌, ◌++◌, Option, None, Some, codes}
+use Rattle.std.specs.Prelude.{◌≡◌, ◌⊎◌, ℕ, List, [], ◌∷◌, ◌++◌, Option, None, Some, codes}
 use Rattle.std.specs.Io.KnownBytes.{Appends}
 use Rattle.hwdb_spec.specs.Lines.{byte}
+use Rattle.hwdb_spec.specs.Store.{path_in}
 use Rattle.hwdb_commands.specs.Devices.{AppendsPrefix}
 use Rattle.hwdb_commands.specs.Refusals.{error_text}
 use Rattle.hwdb_devices.specs.declared.causes.Cause.{Cause}
-use Rattle.hwdb_commands.specs.declared.errors.ToolError.TheVariants.{Read, Write, TooLong}
+use Rattle.hwdb_commands.specs.declared.errors.ToolError.TheVariants.{Read, Write, TooLong, Memory}
 use Rattle.hwdb_commands.specs.declared.errors.ToolError.{ToolError}
 use Rattle.hwdb_tool.specs.declared.refusals.Refusal.{Refusal}
 use Rattle.hwdb_tool.specs.declared.refusals.Refusal.TheVariants.{Plain, At, NoDatabase}
@@ -37,3 +38,22 @@ refusal_line text = codes "hwdb: " ++ (text ++ byte "\n" ∷ [])
 pub record Refused (line : List ℕ) (before now : Option (List ℕ)) (failures_before failures_now : ℕ) : Type 0 where
   pub prefix : AppendsPrefix before now line
   pub whole : HasFailed failures_before failures_now ⊎ Appends before now line
+
+-- what reading a path may refuse: it names the path, but for memory
+abbrev pub IsUnread : (path : List ℕ) → Refusal → Type 0
+IsUnread path (Plain Memory) = Unit {0}
+IsUnread path (At Read at cause) = at.items ≡ path
+IsUnread path (At TooLong at cause) = at.items ≡ path
+IsUnread path (At Memory at cause) = at.items ≡ path
+IsUnread path _ = ⊥
+
+-- what listing a folder may refuse: the folder, or a name in it
+abbrev pub IsUnlisted : (folder : List ℕ) → Refusal → Type 0
+IsUnlisted folder (At Read at cause) = (at.items ≡ folder) ⊎ ((name : List ℕ) × (at.items ≡ path_in folder name))
+IsUnlisted folder refusal = IsUnread folder refusal
+
+-- a refusal of this error over this path, or of memory
+abbrev pub IsAt : ToolError → (path : List ℕ) → Refusal → Type 0
+IsAt error path (Plain e) = e ≡ Memory
+IsAt error path (At e at cause) = (e ≡ error) × (at.items ≡ path)
+IsAt error path NoDatabase = ⊥

@@ -1,11 +1,20 @@
 //! The program: its words, its files, its status and its refusal lines.
-ghost use Rattle.std.specs.Prelude.{◌≡◌, ◌≤◌, map, string_bytes, All, IfOk};
-ghost use Rattle.hwdb_text.specs.Views.{IsStorableChoice, choice_of};
-ghost use Rattle.hwdb_compile.specs.Views.{choice_in};
+ghost use Rattle.std.specs.Prelude.{◌≡◌, ◌≢◌, ◌≤◌, ◌⊎◌, ◌++◌, Some, map, option_map, string_bytes, IfOk, IfErr, OnOk, length};
+ghost use Rattle.hwdb_spec.specs.Store as spec;
+ghost use Rattle.hwdb_spec.specs.System as Folder;
+ghost use Rattle.hwdb_spec.specs.System.{asked_database, bytes_at, AreNamesIn};
+ghost use Rattle.hwdb_commands.specs.Lookups.{IsTextOf};
+ghost use Rattle.hwdb_text.specs.Views.{choice_of};
+ghost use Rattle.hwdb_compile.specs.Views.{choice_in, bytes_in};
 ghost use Rattle.hwdb_cli.specs.Refusals.{AreWrong};
+ghost use Rattle.hwdb_tool.specs.Program.{IsAnswered, IsAsked, IsUpdated, IsDone, IsJobDone, IsTold, IsListFrom, explain_form, queries_form};
+ghost use Rattle.hwdb_tool.specs.declared.refusals.Refusal.TheVariants.{Plain};
+ghost use Rattle.hwdb_spec.specs.Failures.{HasFailed};
+ghost use Rattle.hwdb_tool.specs.Internal.{AreTexts};
 
-use crate::files::{SystemStore, any_bytes, database_bytes, joined, names_in, path_in, text_bytes};
+use crate::files::{joined, path_in};
 use crate::refusals::{Refusal, refuse_for, refuse_text};
+use crate::system::System;
 use hwdb_cli::{Job, Task, WordsFault, read_words};
 use hwdb_commands::{
     MAX_BYTES, ToolError, ask, run_explain, run_explain_json, run_list, run_list_json,
@@ -16,7 +25,6 @@ use hwdb_devices::Sink;
 use hwdb_store::DATABASE;
 use hwdb_text::{Chosen, select};
 use std::alloc::{AllocError, Global};
-use std::rt::Files;
 
 const ETC_FILES: &str = "/etc/udev/hwdb.d";
 
@@ -30,20 +38,25 @@ const USR_FOLDER: &str = "/usr/lib/udev";
 /// after a refusal, whose line goes to `err`, and where `--strict` says so. Words that the command doesn't
 /// take, and that ask for no help, are refused. Where the reader of `out` went away the status is 0, and
 /// nothing is said.
-pub fn program<R: Files + Alloc + Clone + Drop, O: Sink, E: Sink>(
-    rt: &R,
+pub fn program<D: System, O: Sink, E: Sink>(
     alloc: Global,
     words: &[String],
+    system: &mut D,
     out: &mut O,
     err: &mut E,
 ) -> u8
-where
-    R::File: Drop,
     ensures status { result ≤ 1 }
     ensures wrong_words { AreWrong (map string_bytes words.now) → result ≡ 1 }
+    ensures done { D.Store.tells → result ≡ 0 → IsJobDone (map string_bytes words.now) 0
+        (D.Store.seen system.old) (D.Store.seen system.new) (D.Store.may_leave system.new)
+        (E.taken err.old) (E.taken err.new) (O.taken out.old) (O.taken out.new)
+        ⊎ (IsTold (map string_bytes words.now) (D.Store.seen system.old) (D.Store.seen system.new)
+        (E.taken err.old) (E.taken err.new) (O.taken out.old) (O.taken out.new)
+        ⊎ (HasFailed (E.failures err.old) (E.failures err.new)
+        ⊎ HasFailed (O.failures out.old) (O.failures out.new))) }
 {
     match read_words(alloc, words) {
-        Ok(job) => match run(rt, alloc, &job, out, err) {
+        Ok(job) => match run(alloc, &job, system, out, err) {
             Ok(status) => status,
             Err(refusal) => refuse_job(alloc, refusal, out, err),
         },
@@ -62,7 +75,9 @@ where
 /// Writes the line of the refusal, and returns the status. Where `out` failed the line says so; but where its
 /// reader went away, as `head` does, nothing is said, and the status is 0.
 fn refuse_job<O: Sink, E: Sink>(alloc: Global, refusal: Refusal, out: &O, err: &mut E) -> u8
-    ensures { result ≤ 1 }
+    ensures status { result ≤ 1 }
+    ensures said { result ≡ 0 → refusal ≡ Plain ToolError.Write }
+    ensures quiet { result ≡ 0 → err.new ≡ err.old }
 {
     match (refusal, out.cause()) {
         (Refusal::Plain(ToolError::Write), Some(cause)) => {
@@ -77,42 +92,33 @@ fn refuse_job<O: Sink, E: Sink>(alloc: Global, refusal: Refusal, out: &O, err: &
 }
 
 /// Does the job, and returns the status: 1 where `--strict` says so, else 0.
-fn run<R: Files + Alloc + Clone + Drop, O: Sink, E: Sink>(
-    rt: &R,
+fn run<D: System, O: Sink, E: Sink>(
     alloc: Global,
     job: &Job,
+    system: &mut D,
     out: &mut O,
     err: &mut E,
 ) -> Result<u8, Refusal>
-where
-    R::File: Drop,
-    ensures { IfOk result (λ status. status ≤ 1) }
+    ensures status { IfOk result (λ status. status ≤ 1) }
+    ensures done { D.Store.tells → IfOk result (λ status. IsDone job.now status
+        (D.Store.seen system.old) (D.Store.seen system.new) (D.Store.may_leave system.new)
+        (E.taken err.old) (E.taken err.new) (O.taken out.old) (O.taken out.new)) }
+    ensures cause { IfErr result (λ r. r ≡ Plain ToolError.Write
+        → HasFailed (E.failures err.old) (E.failures err.new)
+        ⊎ HasFailed (O.failures out.old) (O.failures out.new)) }
 {
     let root = match &job.root {
         Some(root) => root.as_str(),
         None => "",
     };
     match &job.task {
-        Task::Update => return update(rt, alloc, root, job, err),
-        Task::Query { devices, json } => {
-            let bytes = database(rt, alloc, root)?;
-            if *json {
-                run_queries_json(alloc, &bytes, devices, out)?;
-            } else {
-                run_queries(alloc, &bytes, devices, out)?;
-            }
-        }
+        Task::Update => return update(alloc, root, job.usr, job.strict, system, err),
+        Task::Query { devices, json } => query(alloc, root, devices, *json, system, out)?,
         Task::Explain { device, json } => {
-            let bytes = database(rt, alloc, root)?;
-            if *json {
-                run_explain_json(alloc, &bytes, device.as_bytes(), out)?;
-            } else {
-                run_explain(alloc, &bytes, device.as_bytes(), out)?;
-            }
+            explain(alloc, root, device.as_bytes(), *json, system, out)?
         }
         Task::Ask { file, device } => {
-            let bytes = any_bytes(alloc, rt, file.as_str())?;
-            ask(alloc, file.as_str(), &bytes, device.as_bytes(), out, err)?;
+            ask_file(alloc, file.as_str(), device.as_bytes(), system, out, err)?
         }
         Task::List {
             after,
@@ -120,47 +126,156 @@ where
             device,
             json,
         } => {
-            let bytes = database(rt, alloc, root)?;
             let after = after.as_ref().map(|text| text.as_str());
-            if *json {
-                run_list_json(alloc, &bytes, device.as_bytes(), after, *limit, out)?;
-            } else {
-                run_list(alloc, &bytes, device.as_bytes(), after, *limit, out)?;
-            }
+            list(alloc, root, device.as_bytes(), after, *limit, *json, system, out)?
         }
     }
     Ok(0)
 }
 
-/// The database below the root: the one of `/etc`, else the one of `/usr/lib`.
-fn database<R: Files>(rt: &R, alloc: Global, root: &str) -> Result<Vec<u8>, Refusal>
-where
-    R::File: Drop,
+/// Prints the properties that the database below the root gives each device.
+fn query<D: System, O: Sink>(
+    alloc: Global,
+    root: &str,
+    devices: &[String],
+    json: bool,
+    system: &D,
+    out: &mut O,
+) -> Result<(), Refusal>
+    ensures answered { D.Store.tells → OnOk result
+        (IsAnswered root.now (IsTextOf (queries_form json (map string_bytes devices.now)))
+        (D.Store.seen system.now) (O.taken out.old) (O.taken out.new)) }
+    ensures cause { IfErr result (λ r. r ≡ Plain ToolError.Write
+        → HasFailed (O.failures out.old) (O.failures out.new)) }
 {
-    for folder in [ETC_FOLDER, USR_FOLDER] {
-        let folder = joined(alloc, root, folder)?;
-        let path = path_in(alloc, folder.as_str(), DATABASE)?;
-        if let Some(bytes) = database_bytes(alloc, rt, path.as_str())? {
-            return Ok(bytes);
-        }
+    let bytes = database(alloc, root, system)?;
+    if json {
+        run_queries_json(alloc, &bytes, devices, out)?;
+    } else {
+        run_queries(alloc, &bytes, devices, out)?;
     }
-    Err(Refusal::NoDatabase)
+    Ok(())
 }
 
-/// What the chosen files hold: a masked one isn't read.
-fn read_chosen<R: Files>(
-    rt: &R,
+/// Prints the properties that the database below the root gives the device, and where each comes from.
+fn explain<D: System, O: Sink>(
+    alloc: Global,
+    root: &str,
+    device: &[u8],
+    json: bool,
+    system: &D,
+    out: &mut O,
+) -> Result<(), Refusal>
+    ensures answered { D.Store.tells → OnOk result
+        (IsAnswered root.now (IsTextOf (explain_form json device.now))
+        (D.Store.seen system.now) (O.taken out.old) (O.taken out.new)) }
+    ensures cause { IfErr result (λ r. r ≡ Plain ToolError.Write
+        → HasFailed (O.failures out.old) (O.failures out.new)) }
+{
+    let bytes = database(alloc, root, system)?;
+    if json {
+        run_explain_json(alloc, &bytes, device, out)?;
+    } else {
+        run_explain(alloc, &bytes, device, out)?;
+    }
+    Ok(())
+}
+
+/// Prints the hits that the database below the root has for the device.
+fn list<D: System, O: Sink>(
+    alloc: Global,
+    root: &str,
+    device: &[u8],
+    after: Option<&str>,
+    limit: Option<u64>,
+    json: bool,
+    system: &D,
+    out: &mut O,
+) -> Result<(), Refusal>
+    ensures answered { D.Store.tells → OnOk result
+        (IsAnswered root.now (IsListFrom json device.now (option_map (λ t. t.now) after.entry) limit)
+        (D.Store.seen system.now) (O.taken out.old) (O.taken out.new)) }
+    ensures cause { IfErr result (λ r. r ≡ Plain ToolError.Write
+        → HasFailed (O.failures out.old) (O.failures out.new)) }
+{
+    let bytes = database(alloc, root, system)?;
+    if json {
+        run_list_json(alloc, &bytes, device, after, limit, out)?;
+    } else {
+        run_list(alloc, &bytes, device, after, limit, out)?;
+    }
+    Ok(())
+}
+
+/// Prints the properties that one text file gives the device.
+fn ask_file<D: System, O: Sink, E: Sink>(
+    alloc: Global,
+    file: &str,
+    device: &[u8],
+    system: &D,
+    out: &mut O,
+    err: &mut E,
+) -> Result<(), Refusal>
+    ensures asked { D.Store.tells → OnOk result
+        (IsAsked file.now device.now (D.Store.seen system.now)
+        (E.taken err.old) (E.taken err.new) (O.taken out.old) (O.taken out.new)) }
+    ensures cause { IfErr result (λ r. r ≡ Plain ToolError.Write
+        → HasFailed (E.failures err.old) (E.failures err.new)
+        ⊎ HasFailed (O.failures out.old) (O.failures out.new)) }
+{
+    let bytes = system.input(alloc, file)?;
+    ask(alloc, file, &bytes, device, out, err)?;
+    Ok(())
+}
+
+/// The database below the root: the one of `/etc`, else the one of `/usr/lib`.
+fn database<D: System>(alloc: Global, root: &str, system: &D) -> Result<Vec<u8>, Refusal>
+    ensures asked { D.Store.tells → IfOk result
+        (λ bytes. asked_database root.now (D.Store.seen system.now) ≡ Some bytes.items) }
+    ensures unread { IfErr result (λ r. r ≢ Plain ToolError.Write) }
+{
+    if let Some(bytes) = database_in(alloc, root, ETC_FOLDER, system)? {
+        return Ok(bytes);
+    }
+    match database_in(alloc, root, USR_FOLDER, system)? {
+        Some(bytes) => Ok(bytes),
+        None => Err(Refusal::NoDatabase),
+    }
+}
+
+/// The database in a folder below the root, if something stands there.
+fn database_in<D: System>(
+    alloc: Global,
+    root: &str,
+    folder: &str,
+    system: &D,
+) -> Result<Option<Vec<u8>>, Refusal>
+    ensures found { D.Store.tells → IfOk result (λ found. option_map (λ b. b.items) found
+        ≡ bytes_at (D.Store.seen system.now)
+        (spec.path_in (root.now ++ folder.now) spec.database_name)) }
+    ensures unread { IfErr result (λ r. r ≢ Plain ToolError.Write) }
+{
+    let folder = joined(alloc, root, folder)?;
+    let path = path_in(alloc, folder.as_str(), DATABASE)?;
+    system.database(alloc, path.as_str())
+}
+
+/// What the chosen files hold, in their order: a masked one isn't read.
+fn read_chosen<D: System>(
     alloc: Global,
     root: &str,
     chosen: &[Chosen],
+    system: &D,
 ) -> Result<Vec<Vec<u8>>, Refusal>
-where
-    R::File: Drop,
+    ensures count { IfOk result (λ texts. length texts.items ≡ length chosen.now) }
+    ensures read { D.Store.tells → IfOk result (λ texts. AreTexts root.now (D.Store.seen system.now)
+        (map choice_of chosen.now) (map (λ t. t.items) texts.items)) }
+    ensures unread { IfErr result (λ r. r ≢ Plain ToolError.Write) }
 {
     let mut texts = Vec::new(alloc);
     for file in chosen {
         let path = joined(alloc, root, file.path(alloc)?.as_str())?;
-        let bytes = text_bytes(alloc, rt, path.as_str())?;
+        let bytes = system.text(alloc, path.as_str())?;
         texts.push(bytes).map_err(AllocError::from)?;
     }
     Ok(texts)
@@ -172,64 +287,75 @@ fn with_texts<'a>(
     chosen: &'a [Chosen],
     texts: &'a [Vec<u8>],
 ) -> Result<Vec<ChosenFile<'a>>, AllocError>
-    requires { All IsStorableChoice (map choice_of chosen.now) }
-    ensures { IfOk result (λ files. All IsStorableChoice (map choice_in files.items)) }
+    requires { length texts.now ≡ length chosen.now }
+    ensures choices { IfOk result
+        (λ files. map choice_in files.items ≡ map choice_of chosen.now) }
+    ensures bytes { IfOk result
+        (λ files. map bytes_in files.items ≡ map (λ t. t.items) texts.now) }
 {
     let mut files = Vec::new(alloc);
-    let mut texts = texts.iter();
     for choice in chosen {
-        let Some(bytes) = texts.next() else { break };
+        let bytes = &texts[files.len()];
         files.push(ChosenFile { choice, bytes })?;
     }
     Ok(files)
 }
 
 /// The names of the text files in a folder below the root.
-fn listed<R: Files>(
-    rt: &R,
+fn listed<D: System>(
     alloc: Global,
     root: &str,
     folder: &str,
-) -> Result<Vec<String>, Refusal> {
+    system: &D,
+) -> Result<Vec<String>, Refusal>
+    ensures names { D.Store.tells → IfOk result (λ names. AreNamesIn (root.now ++ folder.now)
+        (D.Store.seen system.now) (map string_bytes names.items)) }
+    ensures unread { IfErr result (λ r. r ≢ Plain ToolError.Write) }
+{
     let path = joined(alloc, root, folder)?;
-    names_in(alloc, rt, path.as_str())
+    system.names(alloc, path.as_str())
+}
+
+/// The folder of the database that is written.
+fn database_folder(alloc: Global, root: &str, usr: bool) -> Result<String, AllocError>
+    ensures { IfOk result (λ folder. string_bytes folder ≡ Folder.database_folder usr root.now) }
+{
+    let folder = if usr { USR_FOLDER } else { ETC_FOLDER };
+    joined(alloc, root, folder)
 }
 
 /// Compiles the text files of both folders into the database of one, which takes the old one's place once it
-/// is whole on the disk. Returns the status: 1 where `--strict` and there is a fault, else 0. After a refusal the old database
-/// stands as it was, and no new file.
-fn update<R: Files, E: Sink>(
-    rt: &R,
+/// is whole on the disk. Returns the status: 1 where `strict` and there is a fault, else 0. After a refusal the old
+/// database stands as it was, and no new file.
+fn update<D: System, E: Sink>(
     alloc: Global,
     root: &str,
-    job: &Job,
+    usr: bool,
+    strict: bool,
+    system: &mut D,
     err: &mut E,
 ) -> Result<u8, Refusal>
-where
-    R::File: Drop,
-    ensures { IfOk result (λ status. status ≤ 1) }
+    ensures status { IfOk result (λ status. status ≤ 1) }
+    ensures updated { D.Store.tells → IfOk result
+        (λ status. IsUpdated root.now strict status (D.Store.seen system.old)
+        (E.taken err.old) (E.taken err.new)
+        (λ database. spec.InPlace (Folder.database_folder usr root.now) database
+        (D.Store.seen system.old) (D.Store.seen system.new) (D.Store.may_leave system.new))) }
+    ensures cause { IfErr result (λ r. r ≡ Plain ToolError.Write
+        → HasFailed (E.failures err.old) (E.failures err.new)) }
 {
-    let etc = listed(rt, alloc, root, ETC_FILES)?;
-    let usr = listed(rt, alloc, root, USR_FILES)?;
-    let chosen = select(alloc, &etc, &usr).map_err(ToolError::from)?;
-    let texts = read_chosen(rt, alloc, root, &chosen)?;
+    let etc_names = listed(alloc, root, ETC_FILES, system)?;
+    let usr_names = listed(alloc, root, USR_FILES, system)?;
+    let chosen = select(alloc, &etc_names, &usr_names)?;
+    let texts = read_chosen(alloc, root, &chosen, system)?;
     let files = with_texts(alloc, &chosen, &texts)?;
-    let folder = joined(alloc, root, if job.usr { USR_FOLDER } else { ETC_FOLDER })?;
-    let mut store = SystemStore::new(alloc, rt);
-    let updated = update_chosen(
-        alloc,
-        &files,
-        MAX_BYTES,
-        job.strict,
-        folder.as_str(),
-        &mut store,
-        err,
-    );
-    match updated {
+    let folder = database_folder(alloc, root, usr)?;
+    let folder = folder.as_str();
+    match update_chosen(alloc, &files, MAX_BYTES, strict, folder, system, err) {
         Ok(status) => Ok(status),
         Err(ToolError::Replace(_)) => {
-            let path = path_in(alloc, folder.as_str(), DATABASE)?;
-            Err(Refusal::write(alloc, path.as_bytes(), store.cause))
+            let path = path_in(alloc, folder, DATABASE)?;
+            Err(Refusal::write(alloc, path.as_bytes(), system.cause()))
         }
         Err(error) => Err(Refusal::from(error)),
     }

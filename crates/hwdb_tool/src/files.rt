@@ -1,9 +1,12 @@
 //! Files and folders: what is read, and the file system as a store that is updated.
-ghost use Rattle.std.specs.Prelude.{◌≡◌, ◌≤◌, [], None, IfOk, vec_len};
+ghost use Rattle.std.specs.Prelude.{◌≡◌, ◌≤◌, ◌++◌, ◌∷◌, [], None, IfOk, IfErr, IfSome, vec_len, string_bytes};
 ghost use Rattle.hwdb_spec.specs.Failures.{after_failure, CountsFailures};
+ghost use Rattle.hwdb_spec.specs.Store as spec;
 ghost use Rattle.hwdb_spec.specs.Texts.{max_file};
+ghost use Rattle.hwdb_tool.specs.Refusals.{IsUnread, IsUnlisted};
 
 use crate::refusals::Refusal;
+use crate::system::System;
 use hwdb_commands::{MAX_BYTES, ToolError, read_all};
 use hwdb_devices::{Cause, FromRead, after_failure, write_on};
 use hwdb_store::{CallFailed, Store};
@@ -22,7 +25,9 @@ const NULL_DEVICE: u64 = 0x103;
 /// folder never matter.
 ///
 /// Refuses a folder that can't be listed, and a text file's name that isn't UTF-8, with its path.
-pub fn names_in<R: Files>(alloc: Global, rt: &R, folder: &str) -> Result<Vec<String>, Refusal> {
+fn names_in<R: Files>(alloc: Global, rt: &R, folder: &str) -> Result<Vec<String>, Refusal>
+    ensures refused { IfErr result (IsUnlisted folder.now) }
+{
     let mut names = Vec::new(alloc);
     // The slash has a link to a folder followed.
     let path = joined(alloc, folder, "/")?;
@@ -34,34 +39,50 @@ pub fn names_in<R: Files>(alloc: Global, rt: &R, folder: &str) -> Result<Vec<Str
     // The listing has byte 0 behind each name.
     for name in listing.split(|byte| *byte == 0) {
         if counts(name) {
-            let name = text_of(alloc, path.as_str(), name)?;
+            let name = text_of(alloc, folder, name)?;
             names.push(name).map_err(AllocError::from)?;
         }
     }
     Ok(names)
 }
 
-/// A name of the folder at a path, as text.
-fn text_of(alloc: Global, folder: &str, name: &[u8]) -> Result<String, Refusal> {
+/// The path of a name in a folder, whatever its bytes are.
+fn bytes_of_path(alloc: Global, folder: &str, name: &[u8]) -> Result<Vec<u8>, AllocError>
+    ensures { IfOk result (λ path. path.items ≡ spec.path_in folder.now name.now) }
+{
+    let mut path = Vec::from_slice(alloc, folder.as_bytes())?;
+    path.push(b'/')?;
+    path.extend_from_slice(name)?;
+    Ok(path)
+}
+
+/// A name in a folder, as text. Refuses one that isn't UTF-8, with its path.
+pub fn text_of(alloc: Global, folder: &str, name: &[u8]) -> Result<String, Refusal>
+    ensures text { IfOk result (λ text. string_bytes text ≡ name.now) }
+    ensures refused { IfErr result (IsUnlisted folder.now) }
+{
     match from_utf8(name) {
         Ok(name) => Ok(String::from_str(alloc, name)?),
         Err(_) => {
-            let mut path = Vec::from_slice(alloc, folder.as_bytes())?;
-            path.extend_from_slice(name)?;
+            let path = bytes_of_path(alloc, folder, name)?;
             Err(Refusal::At(ToolError::Read, path, Some(Cause::Name)))
         }
     }
 }
 
 /// Two texts as one path.
-pub fn joined(alloc: Global, front: &str, back: &str) -> Result<String, AllocError> {
+pub fn joined(alloc: Global, front: &str, back: &str) -> Result<String, AllocError>
+    ensures { IfOk result (λ path. string_bytes path ≡ front.now ++ back.now) }
+{
     let mut path = String::from_str(alloc, front)?;
     path.push_str(back)?;
     Ok(path)
 }
 
 /// The path of a name in a folder.
-pub fn path_in(alloc: Global, folder: &str, name: &str) -> Result<String, AllocError> {
+pub fn path_in(alloc: Global, folder: &str, name: &str) -> Result<String, AllocError>
+    ensures { IfOk result (λ path. string_bytes path ≡ spec.path_in folder.now name.now) }
+{
     let mut path = joined(alloc, folder, "/")?;
     path.push_str(name)?;
     Ok(path)
@@ -69,7 +90,8 @@ pub fn path_in(alloc: Global, folder: &str, name: &str) -> Result<String, AllocE
 
 /// All bytes that a reader has left, of which refusals say that they are those at the path.
 fn all_of<R: Read + Drop>(alloc: Global, reader: R, path: &str) -> Result<Vec<u8>, Refusal>
-    ensures { IfOk result (λ bytes. vec_len bytes ≤ max_file) }
+    ensures within { IfOk result (λ bytes. vec_len bytes ≤ max_file) }
+    ensures refused { IfErr result (IsUnread path.now) }
 {
     let mut source = FromRead::new(reader);
     match read_all(alloc, &mut source, MAX_BYTES) {
@@ -79,10 +101,11 @@ fn all_of<R: Read + Drop>(alloc: Global, reader: R, path: &str) -> Result<Vec<u8
 }
 
 /// All bytes of whatever can be read at a path: a file, a pipe, a device.
-pub fn any_bytes<R: Files>(alloc: Global, rt: &R, path: &str) -> Result<Vec<u8>, Refusal>
+fn any_bytes<R: Files>(alloc: Global, rt: &R, path: &str) -> Result<Vec<u8>, Refusal>
 where
     R::File: Drop,
-    ensures { IfOk result (λ bytes. vec_len bytes ≤ max_file) }
+    ensures within { IfOk result (λ bytes. vec_len bytes ≤ max_file) }
+    ensures refused { IfErr result (IsUnread path.now) }
 {
     match File::open(rt, path) {
         Ok(file) => all_of(alloc, file, path),
@@ -116,6 +139,8 @@ fn file_bytes<R: Files>(
 ) -> Result<Vec<u8>, Refusal>
 where
     R::File: Drop,
+    ensures within { IfOk result (λ bytes. vec_len bytes ≤ max_file) }
+    ensures refused { IfErr result (IsUnread path.now) }
 {
     match other_than_file(found) {
         None => any_bytes(alloc, rt, path),
@@ -124,9 +149,11 @@ where
 }
 
 /// All bytes of a text file that was chosen. /dev/null is an empty one: a link to it masks a file.
-pub fn text_bytes<R: Files>(alloc: Global, rt: &R, path: &str) -> Result<Vec<u8>, Refusal>
+fn text_bytes<R: Files>(alloc: Global, rt: &R, path: &str) -> Result<Vec<u8>, Refusal>
 where
     R::File: Drop,
+    ensures within { IfOk result (λ bytes. vec_len bytes ≤ max_file) }
+    ensures refused { IfErr result (IsUnread path.now) }
 {
     match fs::metadata(rt, path) {
         Ok(found) if found.file_type().is_char_device() && found.rdev() == NULL_DEVICE => {
@@ -138,13 +165,11 @@ where
 }
 
 /// All bytes of a database, or None where nothing stands at the path, not even a link.
-pub fn database_bytes<R: Files>(
-    alloc: Global,
-    rt: &R,
-    path: &str,
-) -> Result<Option<Vec<u8>>, Refusal>
+fn database_bytes<R: Files>(alloc: Global, rt: &R, path: &str) -> Result<Option<Vec<u8>>, Refusal>
 where
     R::File: Drop,
+    ensures within { IfOk result (λ found. IfSome found (λ b. vec_len b ≤ max_file)) }
+    ensures refused { IfErr result (IsUnread path.now) }
 {
     if let Err(error) = fs::symlink_metadata(rt, path) {
         if error.kind() == ErrorKind::NotFound {
@@ -175,7 +200,7 @@ pub struct SystemStore<'a, R: Files> {
     /// something has failed.
     failed: u64,
     /// Why the first of these did; or that the last name which was tried for the new file is taken.
-    pub cause: Option<Cause>,
+    cause: Option<Cause>,
 }
 
 impl<'a, R: Files> SystemStore<'a, R>
@@ -339,5 +364,30 @@ where
     fn remove(&mut self, folder: &str, name: &str) -> Result<(), CallFailed> {
         let removed = self.removed(folder, name);
         self.counted(removed)
+    }
+}
+
+impl<'a, R: Files> System for SystemStore<'a, R>
+where
+    R::File: Drop,
+{
+    fn names(&self, alloc: Global, folder: &str) -> Result<Vec<String>, Refusal> {
+        names_in(alloc, self.rt, folder)
+    }
+
+    fn text(&self, alloc: Global, path: &str) -> Result<Vec<u8>, Refusal> {
+        text_bytes(alloc, self.rt, path)
+    }
+
+    fn input(&self, alloc: Global, path: &str) -> Result<Vec<u8>, Refusal> {
+        any_bytes(alloc, self.rt, path)
+    }
+
+    fn database(&self, alloc: Global, path: &str) -> Result<Option<Vec<u8>>, Refusal> {
+        database_bytes(alloc, self.rt, path)
+    }
+
+    fn cause(&self) -> Option<Cause> {
+        self.cause
     }
 }

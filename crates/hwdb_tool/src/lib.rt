@@ -3,7 +3,10 @@
 //! | Module | What it does |
 //! |---|---|
 //! | `dispatch` | the program: what each command reads, and where its text goes |
-//! | `files` | files and folders, and the file system as a store |
+//! | `system` | what the program asks of a file system |
+//! | `files` | files and folders: the file system that the runtime reaches |
+//! | `laws` | what an update and a query after it say together |
+//! | `memory` | a store in memory as such a system, for tests |
 //! | `refusals` | the line of each refusal |
 //!
 //! What the commands do with bytes is in `hwdb_commands`, and their devices are in `hwdb_devices`; the calls of both are
@@ -12,13 +15,20 @@
 
 mod dispatch;
 mod files;
+mod laws;
+mod memory;
 mod refusals;
+mod system;
 #[cfg(test)]
 mod tests;
 
 pub use dispatch::program;
+pub use files::SystemStore;
 pub use hwdb_cli::{Job, Task, WordsFault, read_words};
 pub use hwdb_commands::{
     ToolError, ask, read_all, run_explain, run_list, run_queries, run_query, run_update, write_text,
 };
 pub use hwdb_devices::{Cause, DeviceFailed, FromRead, Sink, Source, ToWrite, testing};
+pub use laws::update_then_query;
+pub use refusals::Refusal;
+pub use system::System;

@@ -2,14 +2,15 @@
 ghost use Rattle.std.specs.Prelude.{◌≡◌, ◌++◌, ℕ, List, map, codes};
 ghost use Rattle.std.specs.List.{concat};
 ghost use Rattle.hwdb_spec.specs.Texts.{db_fault_name, db_fault_offset, at_offset};
-ghost use Rattle.hwdb_commands.specs.Refusals.{error_text};
-ghost use Rattle.hwdb_tool.specs.Refusals.{Refused, refusal_line, refusal_text, path_text, file_text};
+ghost use Rattle.hwdb_commands.specs.Refusals.{error_text, refusal_of_select};
+ghost use Rattle.hwdb_tool.specs.Refusals.{Refused, refusal_line, refusal_text, path_text, file_text, IsAt};
 ghost use Rattle.hwdb_commands.specs.declared.errors.ToolError.TheVariants.{Memory};
 ghost use Rattle.hwdb_tool.specs.declared.refusals.Refusal.TheVariants.{Plain};
 
 use hwdb_commands::{ToolError, write_text};
 use hwdb_devices::{Cause, Sink};
 use hwdb_reader::DbFault;
+use hwdb_text::SelectError;
 use std::alloc::{AllocError, Global};
 
 /// Why the program ends with status 1.
@@ -25,7 +26,9 @@ pub enum Refusal {
 
 impl Refusal {
     /// A refusal over a path.
-    pub fn at(alloc: Global, error: ToolError, path: &[u8], cause: Option<Cause>) -> Refusal {
+    pub fn at(alloc: Global, error: ToolError, path: &[u8], cause: Option<Cause>) -> Refusal
+        ensures { IsAt error path.now result }
+    {
         match Vec::from_slice(alloc, path) {
             Ok(path) => Refusal::At(error, path, cause),
             Err(refused) => Refusal::from(refused),
@@ -33,12 +36,16 @@ impl Refusal {
     }
 
     /// What stands at a path can't be read.
-    pub fn read(alloc: Global, path: &[u8], cause: Cause) -> Refusal {
+    pub fn read(alloc: Global, path: &[u8], cause: Cause) -> Refusal
+        ensures { IsAt ToolError.Read path.now result }
+    {
         Refusal::at(alloc, ToolError::Read, path, Some(cause))
     }
 
     /// What was to stand at a path can't be written.
-    pub fn write(alloc: Global, path: &[u8], cause: Option<Cause>) -> Refusal {
+    pub fn write(alloc: Global, path: &[u8], cause: Option<Cause>) -> Refusal
+        ensures { IsAt ToolError.Write path.now result }
+    {
         Refusal::at(alloc, ToolError::Write, path, cause)
     }
 }
@@ -56,6 +63,14 @@ impl From<ToolError> for Refusal {
 
     fn from(error: ToolError) -> Refusal {
         Refusal::Plain(error)
+    }
+}
+
+impl From<SelectError> for Refusal {
+    ghost from_gives = { λ error refusal. refusal ≡ Plain (refusal_of_select error) };
+
+    fn from(error: SelectError) -> Refusal {
+        Refusal::Plain(ToolError::from(error))
     }
 }
 

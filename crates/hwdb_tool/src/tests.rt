@@ -8,7 +8,7 @@ mod json_rows;
 mod refusals;
 mod vectors;
 
-use crate::program;
+use crate::{SystemStore, program};
 use hwdb_devices::testing::MemorySink;
 use hwdb_store::Memory;
 use hwdb_store::memory::state_of;
@@ -28,18 +28,22 @@ fn database_in(alloc: Global, store: &Memory) -> Result<Vec<u8>, AllocError> {
 #[test]
 fn program_cut_short(rt: HostRuntime) -> Result<(), Fail> {
     let alloc = rt.alloc();
+    let mut system = SystemStore::new(alloc, &rt);
     let mut words = Vec::new(alloc);
     words.push(String::from_str(alloc, "hwdb")?)?;
     words.push(String::from_str(alloc, "--help")?)?;
     let mut whole: MemorySink<4096> = MemorySink::new();
     let mut err: MemorySink<32> = MemorySink::new();
-    assert_eq!(rt; program(&rt, alloc, &words, &mut whole, &mut err), 0);
+    assert_eq!(rt;
+        program(alloc, &words, &mut system, &mut whole, &mut err),
+        0
+    );
     assert_eq!(rt; err.taken(), b"".as_slice());
     for room in 0..whole.taken().len() {
         let mut out: MemorySink<4096> = MemorySink::new();
         let mut err: MemorySink<32> = MemorySink::new();
         out.room = room;
-        assert_eq!(rt; program(&rt, alloc, &words, &mut out, &mut err), 1);
+        assert_eq!(rt; program(alloc, &words, &mut system, &mut out, &mut err), 1);
         assert_eq!(rt; out.taken(), &whole.taken()[..room]);
         assert_eq!(rt; err.taken(), b"hwdb: cannot write\n".as_slice());
     }

@@ -1,0 +1,31 @@
+-- What an update and a query after it say together.
+use Rattle.std.specs.Prelude.{◌≡◌, ℕ, Bool, false, List, [], ◌∷◌, Option, Some, None}
+use Rattle.std.specs.Io.KnownBytes.{Appends}
+use Rattle.hwdb_spec.specs.Assignment.{Assignment}
+use Rattle.hwdb_spec.specs.Answers.{effective_of}
+use Rattle.hwdb_spec.specs.Folders.{Source, all_assignments}
+use Rattle.hwdb_spec.specs.Last.{AreLast}
+use Rattle.hwdb_spec.specs.Store.{Contents, path_in, database_name, database_file}
+use Rattle.hwdb_spec.specs.System.{AreFilesIn, database_folder, etc_files, usr_files}
+use Rattle.hwdb_spec.specs.Texts.{properties_text, queries_text}
+use Rattle.hwdb_commands.specs.Lookups.{IsTextOf}
+use Rattle.hwdb_tool.specs.Program.{IsAnswered, IsUpdated}
+
+-- Standard output took for each key the value of the last assignment: of those that the text files of both folders have,
+-- the last of each pattern and key whose pattern matches the device.
+pub record PrintsLast (root : List ℕ) (contents : Contents) (device : List ℕ) (out_before out_now : Option (List ℕ)) : Type 0 where
+  pub of_etc : List Source
+  pub of_usr : List Source
+  pub in_etc : AreFilesIn (etc_files root) contents of_etc
+  pub in_usr : AreFilesIn (usr_files root) contents of_usr
+  pub last : List Assignment
+  pub are_last : AreLast device None (all_assignments of_etc of_usr) last
+  pub printed : Appends out_before out_now (properties_text (effective_of last))
+
+-- a query of a device, where the database of an update stands in its place in /etc
+abbrev pub UpdateThenQuery : Type 0
+UpdateThenQuery =
+    (root : List ℕ) (strict : Bool) (status : ℕ) (device : List ℕ) (old new : Contents) (err_before err_now out_before out_now : Option (List ℕ))
+    → IsUpdated root strict status old err_before err_now (λ database. new (path_in (database_folder false root) database_name) ≡ Some (database_file database))
+    → IsAnswered root (IsTextOf (queries_text (device ∷ []))) new out_before out_now
+    → PrintsLast root old device out_before out_now
