@@ -17,8 +17,8 @@ use crate::refusals::{Refusal, refuse_for, refuse_text};
 use crate::system::System;
 use hwdb_cli::{Job, Task, WordsFault, read_words};
 use hwdb_commands::{
-    MAX_BYTES, ToolError, ask, run_explain, run_explain_json, run_list, run_list_json,
-    run_queries, run_queries_json, update_chosen, write_text,
+    MAX_BYTES, ToolError, ask, run_explain, run_explain_json, run_list, run_list_json, run_queries,
+    run_queries_json, update_chosen, write_text,
 };
 use hwdb_compile::ChosenFile;
 use hwdb_devices::Sink;
@@ -127,7 +127,16 @@ fn run<D: System, O: Sink, E: Sink>(
             json,
         } => {
             let after = after.as_ref().map(|text| text.as_str());
-            list(alloc, root, device.as_bytes(), after, *limit, *json, system, out)?
+            list(
+                alloc,
+                root,
+                device.as_bytes(),
+                after,
+                *limit,
+                *json,
+                system,
+                out,
+            )?
         }
     }
     Ok(0)

@@ -5,6 +5,7 @@ mod explanations;
 mod failing;
 mod hostile;
 mod json_rows;
+mod programs;
 mod refusals;
 mod vectors;
 
