@@ -202,7 +202,8 @@ fn list<D: System, O: Sink>(
     out: &mut O,
 ) -> Result<(), Refusal>
     ensures answered { D.Store.tells → OnOk result
-        (IsAnswered root.now (IsListFrom json device.now (option_map (λ t. t.now) after.entry) limit)
+        (IsAnswered root.now
+        (IsListFrom json device.now (option_map (λ t. t.now) after.entry) limit)
         (D.Store.seen system.now) (O.taken out.old) (O.taken out.new)) }
     ensures cause { IfErr result (λ r. r ≡ Plain ToolError.Write
         → HasFailed (O.failures out.old) (O.failures out.new)) }

@@ -87,7 +87,8 @@ fn named_by<'a>(
     folder: &str,
     step: &'a Step,
 ) -> Result<Option<&'a [u8]>, AllocError>
-    ensures { IfOk result (λ found. IsNamedBy steps.now folder.now step.now (option_map (λ n. n.now) found)) }
+    ensures { IfOk result
+        (λ found. IsNamedBy steps.now folder.now step.now (option_map (λ n. n.now) found)) }
 {
     let Some(path) = made_by(step) else {
         return Ok(None);
