@@ -5,6 +5,7 @@ dictionaries, recursion. `tests/random` runs the program beside it. Nothing here
 
 Texts are `bytes` and are ordered by their bytes, a proper prefix first, which is how Python orders them.
 """
+import json
 import struct
 import sys
 from collections import namedtuple
@@ -539,7 +540,66 @@ def asked(file, text, device):
     return properties_text(surviving(assignments), device), errors
 
 
-def listed(assignments, device, after, limit):
+def listed(assignments, device, after, limit, line_of=list_line):
     """What `list` prints of the answers after a position (None: of all), as many as the limit says (None: all)."""
-    lines = [list_line(a) for a in answers(assignments, device) if after is None or position_of(a) > after]
+    lines = [line_of(a) for a in answers(assignments, device) if after is None or position_of(a) > after]
     return b"".join(lines if limit is None else lines[:limit])
+
+
+# What they print with `--json`: a text is a string where it is UTF-8, else the list of its bytes.
+
+
+def text_value(text):
+    try:
+        return text.decode()
+    except UnicodeDecodeError:
+        return list(text)
+
+
+def json_line(value):
+    return json.dumps(value, ensure_ascii=False, separators=(",", ":")).encode() + b"\n"
+
+
+def properties_json(assignments, device):
+    """A device and its properties; those whose keys aren't UTF-8 stand under `raw`, as pairs."""
+    value = {"device": text_value(device), "properties": {}}
+    raw = []
+    for key, text in effective(assignments, device):
+        if isinstance(text_value(key), str):
+            value["properties"][text_value(key)] = text_value(text)
+        else:
+            raw.append([text_value(key), text_value(text)])
+    if raw:
+        value["raw"] = raw
+    return json_line(value)
+
+
+def origin_values(a):
+    return {"value": text_value(a.value), "path": text_value(a.path), "line": a.line, "pattern": text_value(a.pattern)}
+
+
+def explained_json(assignments, device):
+    """A line for each key: its last answer, and the others, from the last to the first."""
+    found = {}
+    for a in answers(assignments, device):
+        found.setdefault(a.key, []).append(a)
+    text = b""
+    for key in sorted(found):
+        last, *others = reversed(found[key])
+        begins = {"device": text_value(device), "key": text_value(key)}
+        text += json_line({**begins, **origin_values(last), "overrides": [origin_values(a) for a in others]})
+    return text
+
+
+def list_line_json(a):
+    return json_line(
+        {
+            "position": text_value(position_text(position_of(a))),
+            "path": text_value(a.path),
+            "line": a.line,
+            "priority": a.priority,
+            "pattern": text_value(a.pattern),
+            "key": text_value(a.key),
+            "value": text_value(a.value),
+        }
+    )
