@@ -497,15 +497,20 @@ def origin_line(a):
     return b"    %s:%d  %s\n" % (a.path, a.line, a.pattern)
 
 
-def explained_text(assignments, device):
-    """What `explain` prints: for each key its last answer, and then the others, from the last to the first."""
+def answers_by_key(assignments, device):
+    """Each key, ascending, with its answers, from the last to the first."""
     found = {}
     for a in answers(assignments, device):
         found.setdefault(a.key, []).append(a)
+    return [(key, of_key[::-1]) for key, of_key in sorted(found.items())]
+
+
+def explained_text(assignments, device):
+    """What `explain` prints: for each key its last answer, and then the others, from the last to the first."""
     text = b""
-    for key in sorted(found):
+    for key, of_key in answers_by_key(assignments, device):
         begins = b""
-        for a in reversed(found[key]):
+        for a in of_key:
             text += begins + b"%s=%s\n" % (key, a.value) + origin_line(a)
             begins = b"  overrides "
     return text
@@ -580,12 +585,8 @@ def origin_values(a):
 
 def explained_json(assignments, device):
     """A line for each key: its last answer, and the others, from the last to the first."""
-    found = {}
-    for a in answers(assignments, device):
-        found.setdefault(a.key, []).append(a)
     text = b""
-    for key in sorted(found):
-        last, *others = reversed(found[key])
+    for key, (last, *others) in answers_by_key(assignments, device):
         begins = {"device": text_value(device), "key": text_value(key)}
         text += json_line({**begins, **origin_values(last), "overrides": [origin_values(a) for a in others]})
     return text
