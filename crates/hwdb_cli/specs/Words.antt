@@ -7,6 +7,8 @@ use Rattle.clap.specs.Faults.{fault_of}
 use Rattle.clap.specs.Simple.{matches_of, subcommand_of}
 use Rattle.hwdb_cli.specs.declared.job.Job.{Job}
 use Rattle.hwdb_cli.specs.Jobs.{IsJobOf}
+use Rattle.hwdb_cli.specs.Refusals.{IsToldOfOne}
+use Rattle.hwdb_cli.specs.declared.job.WordsFault.{WordsFault}
 use Rattle.hwdb_cli.specs.Line.{hwdb_app}
 
 -- the words, the first of which is the program's name, ask for the job
@@ -16,3 +18,7 @@ AskFor words = IsJobOf (matches_of hwdb_app words) (subcommand_of hwdb_app words
 -- they ask for help, or for the version
 abbrev pub AskForText : List Text → Type 0
 AskForText words = IsAmong DisplayHelp (fault_of hwdb_app words) ⊎ IsAmong DisplayVersion (fault_of hwdb_app words)
+
+-- they ask for no job, and this is told of them
+abbrev pub AreToldBy : List Text → WordsFault → Type 0
+AreToldBy words = IsToldOfOne (fault_of hwdb_app words)

@@ -17,7 +17,7 @@ use Rattle.hwdb_spec.specs.System.{bytes_at, AreNamesIn, AreFilesIn, asked_datab
 use Rattle.hwdb_text.specs.Views.{IsListed}
 use Rattle.hwdb_compile.specs.declared.sources.ChosenFile.{ChosenFile}
 use Rattle.hwdb_compile.specs.Views.{AreChosenOf, bytes_in, choice_in}
-use Rattle.hwdb_tool.specs.Internal.{AreTexts}
+use Rattle.hwdb_tool.specs.Internal.{AreReadOf, AreSelected, AreTexts}
 
 -- what an option holds, or nothing
 abbrev value : Option (List ℕ) → List ℕ
@@ -133,6 +133,17 @@ are_chosen root seen etc usr chosen texts files is few listed read choices bytes
           (subst (All (IsListed etc usr)) (sym choices) listed)
           (subst (All (IsFrom etc)) (sym (choices ∙ is)) (all_from etc usr));
     }
+
+-- so they are those of the folders' files
+pub are_read : (root : List ℕ) (seen : Contents) (chosen : List Choice) (texts : List (List ℕ)) (files : List ChosenFile)
+    → AreSelected root seen chosen texts → map choice_in files ≡ chosen → map bytes_in files ≡ texts → AreReadOf root seen files
+are_read root seen chosen texts files s choices bytes = record {
+  of_etc = files_at (etc_files root) seen s.etc;
+  of_usr = files_at (usr_files root) seen s.usr;
+  in_etc = are_files (etc_files root) seen s.etc s.in_etc;
+  in_usr = are_files (usr_files root) seen s.usr s.in_usr;
+  are = are_chosen root seen s.etc s.usr chosen texts files s.is s.few s.listed s.read choices bytes;
+}
 
 -- ---- the database that is asked
 -- where one stands in /etc it is that one

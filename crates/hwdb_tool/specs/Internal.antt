@@ -1,9 +1,12 @@
 -- What the steps of an update hold, and what a store in memory answers.
-use Rattle.std.specs.Prelude.{◌≡◌, ◌≢◌, ◌⊎◌, ℕ, Bool, false, if◌then◌else◌, not, ◌||◌, is_some, List, [], ◌∷◌, ◌++◌, Option, Some, None, map}
-use Rattle.hwdb_spec.specs.Folders.{Choice, path_of, counts}
+use Rattle.std.specs.Prelude.{◌≡◌, ◌≢◌, ◌≤◌, ◌⊎◌, All, length, ℕ, Bool, false, if◌then◌else◌, not, ◌||◌, is_some, List, [], ◌∷◌, ◌++◌, Option, Some, None, map}
+use Rattle.hwdb_spec.specs.Folders.{Choice, Source, choice, names, max_files, path_of, counts}
 use Rattle.hwdb_spec.specs.Lines.{has}
 use Rattle.hwdb_spec.specs.Store.{Contents, path_in}
-use Rattle.hwdb_spec.specs.System.{bytes_at, IsNameIn}
+use Rattle.hwdb_spec.specs.System.{AreFilesIn, AreNamesIn, bytes_at, etc_files, usr_files, IsNameIn}
+use Rattle.hwdb_text.specs.Views.{IsListed}
+use Rattle.hwdb_compile.specs.Views.{AreChosenOf}
+use Rattle.hwdb_compile.specs.declared.sources.ChosenFile.{ChosenFile}
 use Rattle.hwdb_store.specs.Memory.{seen_of}
 use Rattle.hwdb_store.specs.declared.memory.Step.{Step}
 use Rattle.hwdb_store.specs.declared.memory.Step.TheVariants.{Changed, Moved}
@@ -40,3 +43,22 @@ IsNamedBy steps folder step (Some name) = IsNameIn folder (seen_of steps) name �
 abbrev pub IsPushed : List Step → (folder : List ℕ) → Step → (old new : List (List ℕ)) → Type 0
 IsPushed steps folder step old new =
     (IsNamedBy steps folder step None × (new ≡ old)) ⊎ ((name : List ℕ) × IsNamedBy steps folder step (Some name) × (new ≡ old ++ name ∷ []))
+
+-- the chosen of the folders' text files, and what each holds
+pub record AreSelected (root : List ℕ) (contents : Contents) (chosen : List Choice) (texts : List (List ℕ)) : Type 0 where
+  pub etc : List (List ℕ)
+  pub usr : List (List ℕ)
+  pub in_etc : AreNamesIn (etc_files root) contents etc
+  pub in_usr : AreNamesIn (usr_files root) contents usr
+  pub is : chosen ≡ choice etc usr
+  pub few : length (names etc usr) ≤ max_files
+  pub listed : All (IsListed etc usr) chosen
+  pub read : AreTexts root contents chosen texts
+
+-- the files are the chosen ones of the folders' text files
+pub record AreReadOf (root : List ℕ) (contents : Contents) (files : List ChosenFile) : Type 0 where
+  pub of_etc : List Source
+  pub of_usr : List Source
+  pub in_etc : AreFilesIn (etc_files root) contents of_etc
+  pub in_usr : AreFilesIn (usr_files root) contents of_usr
+  pub are : AreChosenOf of_etc of_usr files

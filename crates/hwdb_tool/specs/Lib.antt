@@ -2,3 +2,4 @@ pub mod Refusals
 pub mod Program
 pub mod Internal
 pub mod Laws
+pub mod TaskRefusals

@@ -1,17 +1,18 @@
 -- What the program does with a file system, by the job that its words ask for (systemd-hwdb(8); `explain`, `ask` and
 -- `list` are our choice).
-use Rattle.std.specs.Prelude.{true, false, ◌≡◌, ℕ, Bool, List, [], Option, Some, None, map, option_map, string_bytes}
+use Rattle.std.specs.Prelude.{true, false, ◌≡◌, ℕ, Bool, List, [], ◌⊎◌, Option, Some, None, map, option_map, string_bytes}
 use Rattle.std.specs.Option.{option_map_or}
 use Rattle.std.specs.Io.KnownBytes.{Appends}
 use Rattle.hwdb_cli.specs.Words.{AskFor, AskForText}
 use Rattle.hwdb_spec.specs.Assignment.{Position}
 use Rattle.hwdb_spec.specs.Folders.{Source}
-use Rattle.hwdb_spec.specs.Store.{Contents, Outcomes, Same, InPlace}
+use Rattle.hwdb_spec.specs.Store.{Contents, Outcomes, Stored, Same, InPlace, IsPart, database_file, database_name, path_in}
 use Rattle.hwdb_spec.specs.System.{AreFilesIn, bytes_at, asked_database, database_folder, etc_files, usr_files}
 use Rattle.hwdb_spec.specs.Texts.{IsSpelling, list_text, max_file, queries_text}
 use Rattle.hwdb_spec.specs.Explanations.{explain_text}
 use Rattle.hwdb_spec.specs.Json.{explain_json, list_json, query_json}
-use Rattle.hwdb_spec.specs.Tree.{Tree}
+use Rattle.hwdb_spec.specs.Tree.{Tree, map_of_files}
+use Rattle.hwdb_spec.specs.Written.{IsWritten}
 use Rattle.hwdb_commands.specs.Devices.{Wrote, WroteTexts}
 use Rattle.hwdb_commands.specs.Lookups.{IsTextOf}
 use Rattle.hwdb_commands.specs.Updates.{Updated, AreAskTexts}
@@ -104,3 +105,25 @@ pub record IsTold (words : List (List ℕ)) (old new : Contents) (err_before err
   pub printed : Appends out_before out_now text
   pub files : Same old new
   pub err : err_now ≡ err_before
+
+-- an update leaves this under a path: the database of all text files of both folders, whole, in its place, or a new file
+pub record IsLeftByUpdate (root : List ℕ) (usr : Bool) (old : Contents) (p : List ℕ) (v : Option Stored) : Type 0 where
+  pub of_etc : List Source
+  pub of_usr : List Source
+  pub in_etc : AreFilesIn (etc_files root) old of_etc
+  pub in_usr : AreFilesIn (usr_files root) old of_usr
+  pub left : ((database : List ℕ) × IsWritten (map_of_files of_etc of_usr) database
+      × (p ≡ path_in (database_folder usr root) database_name) × (v ≡ Some (database_file database)))
+      ⊎ IsPart (database_folder usr root) old p
+
+-- what a crash may leave during an update: what it might have left before, or what the update leaves
+abbrev pub OldOrUpdated : (root : List ℕ) (usr : Bool) (old : Contents) (outcomes : Outcomes) → Outcomes
+OldOrUpdated root usr old outcomes p v = outcomes p v ⊎ IsLeftByUpdate root usr old p v
+
+-- during a job: only an update leaves anything new
+abbrev pub OldOrDone : Job → (old : Contents) (outcomes : Outcomes) → Outcomes
+OldOrDone job old outcomes p v = outcomes p v ⊎ ((job.task ≡ Update) × IsLeftByUpdate (root_of job) job.usr old p v)
+
+-- during a run of the program with these words
+abbrev pub OldOrAskedFor : (words : List (List ℕ)) (old : Contents) (outcomes : Outcomes) → Outcomes
+OldOrAskedFor words old outcomes p v = outcomes p v ⊎ ((job : Job) × AskFor words job × OldOrDone job old outcomes p v)

@@ -7,7 +7,7 @@ use Rattle.hwdb_spec.specs.Store.{path_in}
 use Rattle.hwdb_commands.specs.Devices.{AppendsPrefix}
 use Rattle.hwdb_commands.specs.Refusals.{error_text}
 use Rattle.hwdb_devices.specs.declared.causes.Cause.{Cause}
-use Rattle.hwdb_commands.specs.declared.errors.ToolError.TheVariants.{Read, Write, TooLong, Memory}
+use Rattle.hwdb_commands.specs.declared.errors.ToolError.TheVariants.{Read, Write, TooLong, Memory, Replace}
 use Rattle.hwdb_commands.specs.declared.errors.ToolError.{ToolError}
 use Rattle.hwdb_tool.specs.declared.refusals.Refusal.{Refusal}
 use Rattle.hwdb_tool.specs.declared.refusals.Refusal.TheVariants.{Plain, At, NoDatabase}
@@ -57,3 +57,13 @@ abbrev pub IsAt : ToolError → (path : List ℕ) → Refusal → Type 0
 IsAt error path (Plain e) = e ≡ Memory
 IsAt error path (At e at cause) = (e ≡ error) × (at.items ≡ path)
 IsAt error path NoDatabase = ⊥
+
+-- a refusal of this error over this path
+abbrev pub IsOver : ToolError → (path : List ℕ) → Refusal → Type 0
+IsOver error path (At e at cause) = (e ≡ error) × (at.items ≡ path)
+IsOver error path _ = ⊥
+
+-- what an update refuses of an error, once its files are read: with the path, where the database can't be replaced
+abbrev pub IsOfUpdate : ToolError → (path : List ℕ) → Refusal → Type 0
+IsOfUpdate (Replace u) path refusal = IsOver Write path refusal
+IsOfUpdate error path refusal = refusal ≡ Plain error

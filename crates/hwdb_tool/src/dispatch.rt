@@ -1,18 +1,18 @@
 //! The program: its words, its files, its status and its refusal lines.
-ghost use Rattle.std.specs.Prelude.{◌≡◌, ◌≢◌, ◌≤◌, ◌⊎◌, ◌++◌, Some, map, option_map, string_bytes, IfOk, IfErr, OnOk, length};
+ghost use Rattle.std.specs.Prelude.{◌≡◌, ◌≢◌, ◌≤◌, ◌⊎◌, ◌++◌, Some, map, option_map, string_bytes, IfOk, IfErr, OnOk};
 ghost use Rattle.hwdb_spec.specs.Store as spec;
 ghost use Rattle.hwdb_spec.specs.System as Folder;
-ghost use Rattle.hwdb_spec.specs.System.{asked_database, bytes_at, AreNamesIn};
-ghost use Rattle.hwdb_commands.specs.Lookups.{IsTextOf};
-ghost use Rattle.hwdb_text.specs.Views.{choice_of};
-ghost use Rattle.hwdb_compile.specs.Views.{choice_in, bytes_in};
-ghost use Rattle.hwdb_cli.specs.Refusals.{AreWrong};
-ghost use Rattle.hwdb_tool.specs.Program.{IsAnswered, IsAsked, IsUpdated, IsDone, IsJobDone, IsTold, IsListFrom, explain_form, queries_form};
-ghost use Rattle.hwdb_tool.specs.declared.refusals.Refusal.TheVariants.{Plain};
+ghost use Rattle.hwdb_spec.specs.System.{asked_database, bytes_at};
 ghost use Rattle.hwdb_spec.specs.Failures.{HasFailed};
-ghost use Rattle.hwdb_tool.specs.Internal.{AreTexts};
+ghost use Rattle.hwdb_commands.specs.Lookups.{IsQueryRefusal, IsTextOf};
+ghost use Rattle.hwdb_cli.specs.Refusals.{AreWrong};
+ghost use Rattle.hwdb_tool.specs.Program.{IsAnswered, IsAsked, IsUpdated, IsDone, IsJobDone, IsTold, IsListFrom, OldOrAskedFor, OldOrDone, OldOrUpdated, explain_form, queries_form, root_of};
+ghost use Rattle.hwdb_tool.specs.Refusals.{IsUnread};
+ghost use Rattle.hwdb_tool.specs.TaskRefusals.{AreRefused, IsAnswerRefused, IsAskRefused, IsJobRefused, IsListRefusedBy, IsSaid, IsTaskRefused, IsUnfound, IsUpdateRefused};
+ghost use Rattle.hwdb_tool.specs.declared.refusals.Refusal.TheVariants.{Plain};
 
 use crate::files::{joined, path_in};
+use crate::folders::{selected, with_texts};
 use crate::refusals::{Refusal, refuse_for, refuse_text};
 use crate::system::System;
 use hwdb_cli::{Job, Task, WordsFault, read_words};
@@ -20,15 +20,9 @@ use hwdb_commands::{
     MAX_BYTES, ToolError, ask, run_explain, run_explain_json, run_list, run_list_json, run_queries,
     run_queries_json, update_chosen, write_text,
 };
-use hwdb_compile::ChosenFile;
 use hwdb_devices::Sink;
 use hwdb_store::DATABASE;
-use hwdb_text::{Chosen, select};
 use std::alloc::{AllocError, Global};
-
-const ETC_FILES: &str = "/etc/udev/hwdb.d";
-
-const USR_FILES: &str = "/usr/lib/udev/hwdb.d";
 
 const ETC_FOLDER: &str = "/etc/udev";
 
@@ -47,6 +41,10 @@ pub fn program<D: System, O: Sink, E: Sink>(
 ) -> u8
     ensures status { result ≤ 1 }
     ensures wrong_words { AreWrong (map string_bytes words.now) → result ≡ 1 }
+    ensures any_moment { D.Store.tells
+        → spec.LeavesOnly D.Store.moment D.Store.left_since system.old system.new
+        (OldOrAskedFor (map string_bytes words.now)
+        (D.Store.seen system.old) (D.Store.may_leave system.old)) }
     ensures done { D.Store.tells → result ≡ 0 → IsJobDone (map string_bytes words.now) 0
         (D.Store.seen system.old) (D.Store.seen system.new) (D.Store.may_leave system.new)
         (E.taken err.old) (E.taken err.new) (O.taken out.old) (O.taken out.new)
@@ -54,6 +52,19 @@ pub fn program<D: System, O: Sink, E: Sink>(
         (E.taken err.old) (E.taken err.new) (O.taken out.old) (O.taken out.new)
         ⊎ (HasFailed (E.failures err.old) (E.failures err.new)
         ⊎ HasFailed (O.failures out.old) (O.failures out.new))) }
+    ensures refused { D.Store.tells → result ≡ 1 → IsJobDone (map string_bytes words.now) 1
+        (D.Store.seen system.old) (D.Store.seen system.new) (D.Store.may_leave system.new)
+        (E.taken err.old) (E.taken err.new) (O.taken out.old) (O.taken out.new)
+        ⊎ (IsJobRefused (map string_bytes words.now) (D.Store.seen system.old)
+        (D.Store.seen system.new) (D.Store.may_leave system.old) (D.Store.may_leave system.new)
+        (record { bytes = E.taken err.old; failures = E.failures err.old })
+        (record { bytes = E.taken err.new; failures = E.failures err.new })
+        (O.taken out.old) (O.taken out.new)
+        ⊎ AreRefused (map string_bytes words.now) (D.Store.seen system.old)
+        (D.Store.seen system.new) (D.Store.may_leave system.old) (D.Store.may_leave system.new)
+        (record { bytes = E.taken err.old; failures = E.failures err.old })
+        (record { bytes = E.taken err.new; failures = E.failures err.new })
+        (O.taken out.old) (O.taken out.new)) }
 {
     match read_words(alloc, words) {
         Ok(job) => match run(alloc, &job, system, out, err) {
@@ -78,6 +89,9 @@ fn refuse_job<O: Sink, E: Sink>(alloc: Global, refusal: Refusal, out: &O, err: &
     ensures status { result ≤ 1 }
     ensures said { result ≡ 0 → refusal ≡ Plain ToolError.Write }
     ensures quiet { result ≡ 0 → err.new ≡ err.old }
+    ensures line { result ≡ 1 → IsSaid refusal
+        (record { bytes = E.taken err.old; failures = E.failures err.old })
+        (record { bytes = E.taken err.new; failures = E.failures err.new }) }
 {
     match (refusal, out.cause()) {
         (Refusal::Plain(ToolError::Write), Some(cause)) => {
@@ -100,17 +114,23 @@ fn run<D: System, O: Sink, E: Sink>(
     err: &mut E,
 ) -> Result<u8, Refusal>
     ensures status { IfOk result (λ status. status ≤ 1) }
+    ensures any_moment { D.Store.tells
+        → spec.LeavesOnly D.Store.moment D.Store.left_since system.old system.new
+        (OldOrDone job.now (D.Store.seen system.old) (D.Store.may_leave system.old)) }
     ensures done { D.Store.tells → IfOk result (λ status. IsDone job.now status
         (D.Store.seen system.old) (D.Store.seen system.new) (D.Store.may_leave system.new)
         (E.taken err.old) (E.taken err.new) (O.taken out.old) (O.taken out.new)) }
+    ensures refused { D.Store.tells → IfErr result (λ r. IsTaskRefused job.now.task
+        (root_of job.now) job.now.usr r (D.Store.seen system.old) (D.Store.seen system.new)
+        (D.Store.may_leave system.old) (D.Store.may_leave system.new)
+        (E.taken err.old) (E.taken err.new) (O.taken out.old) (O.taken out.new)) }
+    ensures unfailed { IfErr result (λ r. r ≢ Plain ToolError.Write
+        → E.failures err.new ≡ E.failures err.old) }
     ensures cause { IfErr result (λ r. r ≡ Plain ToolError.Write
         → HasFailed (E.failures err.old) (E.failures err.new)
         ⊎ HasFailed (O.failures out.old) (O.failures out.new)) }
 {
-    let root = match &job.root {
-        Some(root) => root.as_str(),
-        None => "",
-    };
+    let root = root_of(job);
     match &job.task {
         Task::Update => return update(alloc, root, job.usr, job.strict, system, err),
         Task::Query { devices, json } => query(alloc, root, devices, *json, system, out)?,
@@ -126,7 +146,7 @@ fn run<D: System, O: Sink, E: Sink>(
             device,
             json,
         } => {
-            let after = after.as_ref().map(|text| text.as_str());
+            let after = text_of(after);
             list(
                 alloc,
                 root,
@@ -142,6 +162,26 @@ fn run<D: System, O: Sink, E: Sink>(
     Ok(0)
 }
 
+/// What stands in front of the paths of folders and databases.
+fn root_of(job: &Job) -> &str
+    ensures { result.now ≡ root_of job.now }
+{
+    match &job.root {
+        Some(root) => root.as_str(),
+        None => "",
+    }
+}
+
+/// The text of an option, if it was given.
+fn text_of(option: &Option<String>) -> Option<&str>
+    ensures { option_map (λ t. t.now) result ≡ option_map string_bytes option.now }
+{
+    match option {
+        Some(text) => Some(text.as_str()),
+        None => None,
+    }
+}
+
 /// Prints the properties that the database below the root gives each device.
 fn query<D: System, O: Sink>(
     alloc: Global,
@@ -154,6 +194,9 @@ fn query<D: System, O: Sink>(
     ensures answered { D.Store.tells → OnOk result
         (IsAnswered root.now (IsTextOf (queries_form json (map string_bytes devices.now)))
         (D.Store.seen system.now) (O.taken out.old) (O.taken out.new)) }
+    ensures refused { D.Store.tells → IfErr result (λ r. IsAnswerRefused root.now IsQueryRefusal
+        (IsTextOf (queries_form json (map string_bytes devices.now)))
+        (D.Store.seen system.now) r (O.taken out.old) (O.taken out.new)) }
     ensures cause { IfErr result (λ r. r ≡ Plain ToolError.Write
         → HasFailed (O.failures out.old) (O.failures out.new)) }
 {
@@ -178,6 +221,9 @@ fn explain<D: System, O: Sink>(
     ensures answered { D.Store.tells → OnOk result
         (IsAnswered root.now (IsTextOf (explain_form json device.now))
         (D.Store.seen system.now) (O.taken out.old) (O.taken out.new)) }
+    ensures refused { D.Store.tells → IfErr result (λ r. IsAnswerRefused root.now IsQueryRefusal
+        (IsTextOf (explain_form json device.now))
+        (D.Store.seen system.now) r (O.taken out.old) (O.taken out.new)) }
     ensures cause { IfErr result (λ r. r ≡ Plain ToolError.Write
         → HasFailed (O.failures out.old) (O.failures out.new)) }
 {
@@ -205,6 +251,10 @@ fn list<D: System, O: Sink>(
         (IsAnswered root.now
         (IsListFrom json device.now (option_map (λ t. t.now) after.entry) limit)
         (D.Store.seen system.now) (O.taken out.old) (O.taken out.new)) }
+    ensures refused { D.Store.tells → IfErr result (λ r. IsAnswerRefused root.now
+        (IsListRefusedBy (option_map (λ t. t.now) after.entry))
+        (IsListFrom json device.now (option_map (λ t. t.now) after.entry) limit)
+        (D.Store.seen system.now) r (O.taken out.old) (O.taken out.new)) }
     ensures cause { IfErr result (λ r. r ≡ Plain ToolError.Write
         → HasFailed (O.failures out.old) (O.failures out.new)) }
 {
@@ -229,6 +279,11 @@ fn ask_file<D: System, O: Sink, E: Sink>(
     ensures asked { D.Store.tells → OnOk result
         (IsAsked file.now device.now (D.Store.seen system.now)
         (E.taken err.old) (E.taken err.new) (O.taken out.old) (O.taken out.new)) }
+    ensures refused { D.Store.tells → IfErr result
+        (λ r. IsAskRefused file.now device.now (D.Store.seen system.now) r
+        (E.taken err.old) (E.taken err.new) (O.taken out.old) (O.taken out.new)) }
+    ensures unfailed { IfErr result (λ r. r ≢ Plain ToolError.Write
+        → E.failures err.new ≡ E.failures err.old) }
     ensures cause { IfErr result (λ r. r ≡ Plain ToolError.Write
         → HasFailed (E.failures err.old) (E.failures err.new)
         ⊎ HasFailed (O.failures out.old) (O.failures out.new)) }
@@ -242,6 +297,7 @@ fn ask_file<D: System, O: Sink, E: Sink>(
 fn database<D: System>(alloc: Global, root: &str, system: &D) -> Result<Vec<u8>, Refusal>
     ensures asked { D.Store.tells → IfOk result
         (λ bytes. asked_database root.now (D.Store.seen system.now) ≡ Some bytes.items) }
+    ensures refused { D.Store.tells → IfErr result (IsUnfound root.now (D.Store.seen system.now)) }
     ensures unread { IfErr result (λ r. r ≢ Plain ToolError.Write) }
 {
     if let Some(bytes) = database_in(alloc, root, ETC_FOLDER, system)? {
@@ -263,67 +319,13 @@ fn database_in<D: System>(
     ensures found { D.Store.tells → IfOk result (λ found. option_map (λ b. b.items) found
         ≡ bytes_at (D.Store.seen system.now)
         (spec.path_in (root.now ++ folder.now) spec.database_name)) }
+    ensures refused { IfErr result
+        (IsUnread (spec.path_in (root.now ++ folder.now) spec.database_name)) }
     ensures unread { IfErr result (λ r. r ≢ Plain ToolError.Write) }
 {
     let folder = joined(alloc, root, folder)?;
     let path = path_in(alloc, folder.as_str(), DATABASE)?;
     system.database(alloc, path.as_str())
-}
-
-/// What the chosen files hold, in their order: a masked one isn't read.
-fn read_chosen<D: System>(
-    alloc: Global,
-    root: &str,
-    chosen: &[Chosen],
-    system: &D,
-) -> Result<Vec<Vec<u8>>, Refusal>
-    ensures count { IfOk result (λ texts. length texts.items ≡ length chosen.now) }
-    ensures read { D.Store.tells → IfOk result (λ texts. AreTexts root.now (D.Store.seen system.now)
-        (map choice_of chosen.now) (map (λ t. t.items) texts.items)) }
-    ensures unread { IfErr result (λ r. r ≢ Plain ToolError.Write) }
-{
-    let mut texts = Vec::new(alloc);
-    for file in chosen {
-        let path = joined(alloc, root, file.path(alloc)?.as_str())?;
-        let bytes = system.text(alloc, path.as_str())?;
-        texts.push(bytes).map_err(AllocError::from)?;
-    }
-    Ok(texts)
-}
-
-/// The chosen files, each with the text that was read of it.
-fn with_texts<'a>(
-    alloc: Global,
-    chosen: &'a [Chosen],
-    texts: &'a [Vec<u8>],
-) -> Result<Vec<ChosenFile<'a>>, AllocError>
-    requires { length texts.now ≡ length chosen.now }
-    ensures choices { IfOk result
-        (λ files. map choice_in files.items ≡ map choice_of chosen.now) }
-    ensures bytes { IfOk result
-        (λ files. map bytes_in files.items ≡ map (λ t. t.items) texts.now) }
-{
-    let mut files = Vec::new(alloc);
-    for choice in chosen {
-        let bytes = &texts[files.len()];
-        files.push(ChosenFile { choice, bytes })?;
-    }
-    Ok(files)
-}
-
-/// The names of the text files in a folder below the root.
-fn listed<D: System>(
-    alloc: Global,
-    root: &str,
-    folder: &str,
-    system: &D,
-) -> Result<Vec<String>, Refusal>
-    ensures names { D.Store.tells → IfOk result (λ names. AreNamesIn (root.now ++ folder.now)
-        (D.Store.seen system.now) (map string_bytes names.items)) }
-    ensures unread { IfErr result (λ r. r ≢ Plain ToolError.Write) }
-{
-    let path = joined(alloc, root, folder)?;
-    system.names(alloc, path.as_str())
 }
 
 /// The folder of the database that is written.
@@ -346,27 +348,37 @@ fn update<D: System, E: Sink>(
     err: &mut E,
 ) -> Result<u8, Refusal>
     ensures status { IfOk result (λ status. status ≤ 1) }
+    ensures any_moment { D.Store.tells
+        → spec.LeavesOnly D.Store.moment D.Store.left_since system.old system.new
+        (OldOrUpdated root.now usr (D.Store.seen system.old) (D.Store.may_leave system.old)) }
     ensures updated { D.Store.tells → IfOk result
         (λ status. IsUpdated root.now strict status (D.Store.seen system.old)
         (E.taken err.old) (E.taken err.new)
         (λ database. spec.InPlace (Folder.database_folder usr root.now) database
         (D.Store.seen system.old) (D.Store.seen system.new) (D.Store.may_leave system.new))) }
+    ensures refused { D.Store.tells → IfErr result
+        (λ r. IsUpdateRefused root.now usr r (D.Store.seen system.old) (D.Store.seen system.new)
+        (D.Store.may_leave system.old) (D.Store.may_leave system.new)
+        (E.taken err.old) (E.taken err.new)) }
+    ensures unfailed { IfErr result (λ r. r ≢ Plain ToolError.Write
+        → E.failures err.new ≡ E.failures err.old) }
     ensures cause { IfErr result (λ r. r ≡ Plain ToolError.Write
         → HasFailed (E.failures err.old) (E.failures err.new)) }
 {
-    let etc_names = listed(alloc, root, ETC_FILES, system)?;
-    let usr_names = listed(alloc, root, USR_FILES, system)?;
-    let chosen = select(alloc, &etc_names, &usr_names)?;
-    let texts = read_chosen(alloc, root, &chosen, system)?;
-    let files = with_texts(alloc, &chosen, &texts)?;
+    let selection = selected(alloc, root, system)?;
+    let files = with_texts(alloc, &selection.chosen, &selection.texts)?;
     let folder = database_folder(alloc, root, usr)?;
-    let folder = folder.as_str();
-    match update_chosen(alloc, &files, MAX_BYTES, strict, folder, system, err) {
+    let path = path_in(alloc, folder.as_str(), DATABASE)?.into_bytes();
+    match update_chosen(
+        alloc,
+        &files,
+        MAX_BYTES,
+        strict,
+        folder.as_str(),
+        system,
+        err,
+    ) {
         Ok(status) => Ok(status),
-        Err(ToolError::Replace(_)) => {
-            let path = path_in(alloc, folder, DATABASE)?;
-            Err(Refusal::write(alloc, path.as_bytes(), system.cause()))
-        }
-        Err(error) => Err(Refusal::from(error)),
+        Err(error) => Err(Refusal::of_update(error, path, system.cause())),
     }
 }

@@ -4,6 +4,7 @@
 //! |---|---|
 //! | `dispatch` | the program: what each command reads, and where its text goes |
 //! | `system` | what the program asks of a file system |
+//! | `folders` | the text files of both folders, chosen and read |
 //! | `files` | files and folders: the file system that the runtime reaches |
 //! | `laws` | what an update and a query after it say together |
 //! | `memory` | a store in memory as such a system, for tests |
@@ -15,6 +16,7 @@
 
 mod dispatch;
 mod files;
+mod folders;
 mod laws;
 mod memory;
 mod refusals;

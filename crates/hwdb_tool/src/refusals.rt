@@ -3,7 +3,7 @@ ghost use Rattle.std.specs.Prelude.{◌≡◌, ◌++◌, ℕ, List, map, codes};
 ghost use Rattle.std.specs.List.{concat};
 ghost use Rattle.hwdb_spec.specs.Texts.{db_fault_name, db_fault_offset, at_offset};
 ghost use Rattle.hwdb_commands.specs.Refusals.{error_text, refusal_of_select};
-ghost use Rattle.hwdb_tool.specs.Refusals.{Refused, refusal_line, refusal_text, path_text, file_text, IsAt};
+ghost use Rattle.hwdb_tool.specs.Refusals.{Refused, refusal_line, refusal_text, path_text, file_text, IsAt, IsOfUpdate};
 ghost use Rattle.hwdb_commands.specs.declared.errors.ToolError.TheVariants.{Memory};
 ghost use Rattle.hwdb_tool.specs.declared.refusals.Refusal.TheVariants.{Plain};
 
@@ -47,6 +47,16 @@ impl Refusal {
         ensures { IsAt ToolError.Write path.now result }
     {
         Refusal::at(alloc, ToolError::Write, path, cause)
+    }
+
+    /// What an update refuses once its files are read: a database that can't be written with its path.
+    pub fn of_update(error: ToolError, path: Vec<u8>, cause: Option<Cause>) -> Refusal
+        ensures { IsOfUpdate error path.items result }
+    {
+        match error {
+            ToolError::Replace(_) => Refusal::At(ToolError::Write, path, cause),
+            error => Refusal::Plain(error),
+        }
     }
 }
 

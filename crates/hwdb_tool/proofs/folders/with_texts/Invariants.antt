@@ -1,7 +1,7 @@
 use Rattle.std.proofs.Common.{◌≡◌, map, length, take}
 use Rattle.hwdb_text.specs.Views.{choice_of}
 use Rattle.hwdb_compile.specs.Views.{choice_in, bytes_in}
-use Rattle.hwdb_tool.proofs.dispatch.with_texts.Given as goal
+use Rattle.hwdb_tool.proofs.folders.with_texts.Given as goal
 
 abbrev pub invariant-loop-choice : goal.invariant-loop-choice
 invariant-loop-choice l = record {

@@ -1,7 +1,7 @@
 use Rattle.std.proofs.Common.{◌≡◌, map, length, take}
 use Rattle.hwdb_text.specs.Views.{choice_of}
 use Rattle.hwdb_tool.specs.Internal.{AreTexts}
-use Rattle.hwdb_tool.proofs.dispatch.read_chosen.Given as goal
+use Rattle.hwdb_tool.proofs.folders.read_chosen.Given as goal
 
 abbrev pub invariant-loop-file : goal.invariant-loop-file
 invariant-loop-file g l = record {

@@ -1,0 +1,37 @@
+use Rattle.std.proofs.Common.{inl, inr, ⊎_elim, refl, string_bytes, subst, sym}
+use Rattle.std.specs.Prelude.{option_map}
+use Rattle.hwdb_tool.specs.Program.{IsListFrom, OldOrDone, OldOrUpdated, root_of}
+use Rattle.hwdb_tool.specs.TaskRefusals.{IsAnswerRefused, IsListRefusedBy, IsTaskRefused}
+use Rattle.hwdb_tool.specs.Program.{IsLeftByUpdate}
+use Rattle.hwdb_tool.proofs.MomentLemmas.{leaves_more}
+use Rattle.hwdb_tool.proofs.SelectionLemmas.{given_error}
+use Rattle.hwdb_tool.proofs.dispatch.run.Goals as goal
+
+pub returns-in-Update-clause-any_moment : goal.returns-in-Update-clause-any_moment
+returns-in-Update-clause-any_moment g c = λ tells.
+    let seen = g.D.Store.seen c.args.system.now in
+    let left = g.D.Store.may_leave c.args.system.now in
+    leaves_more g.D.Store.moment g.D.Store.left_since c.args.system.now c.update.new.system
+    (OldOrUpdated c.root_of-root.result.now c.args.job.now.usr seen left) (OldOrDone c.args.job.now seen left)
+    (λ p v now. ⊎_elim (λ was. inl was) (λ l. inr (c.in-Update.is, subst (λ r. IsLeftByUpdate r c.args.job.now.usr seen p v) c.root_of-root.ensures l)) now)
+    (c.update.ensures.any_moment tells)
+
+pub returns-in_err-list-in-List-clause-refused : goal.returns-in_err-list-in-List-clause-refused
+returns-in_err-list-in-List-clause-refused g c = λ tells.
+    let job = c.args.job.now in
+    let seen = g.D.Store.seen c.args.system.now in
+    let left = g.D.Store.may_leave c.args.system.now in
+    let err = g.E.Sink.taken c.args.err.now in
+    let before = g.O.Sink.taken c.args.out.now in
+    let now = g.O.Sink.taken c.list.new.out in
+    let refusal = c.in_err-list-in-List.field-0.0 in
+    given_error refusal (λ r. IsTaskRefused job.task (root_of job) job.usr r seen seen left left err err before now)
+    c.from_residual-in_err-list-in-List.result c.from_residual-in_err-list-in-List.ensures.1
+    (subst (λ t. IsTaskRefused t (root_of job) job.usr refusal seen seen left left err err before now) (sym c.in-List.is) (
+      subst (λ a. IsAnswerRefused (root_of job) (IsListRefusedBy a) (IsListFrom c.in-List.json (string_bytes c.in-List.device) a c.in-List.limit) seen refusal before now) c.text_of-after.ensures
+          (subst (λ d. IsAnswerRefused (root_of job) (IsListRefusedBy (option_map (λ t. t.now) c.text_of-after.result)) (IsListFrom c.in-List.json d (option_map (λ t. t.now) c.text_of-after.result) c.in-List.limit) seen refusal before now) c.as_bytes-in-List.ensures.value
+          (subst (λ r. IsAnswerRefused r (IsListRefusedBy (option_map (λ t. t.now) c.text_of-after.result)) (IsListFrom c.in-List.json c.as_bytes-in-List.result.now (option_map (λ t. t.now) c.text_of-after.result) c.in-List.limit) seen refusal before now) c.root_of-root.ensures
+          (c.in_err-list-in-List.ensures.refused tells))),
+      refl,
+      record { same = λ p. refl; no_more = λ p v l. l },
+    ))
