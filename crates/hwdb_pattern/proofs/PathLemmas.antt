@@ -240,7 +240,7 @@ alive_has r path s l = let c : Contains r.lengths l.0 = s.met.complete l.0 l.1 l
 whole_prefix : (ts : List Token) (device : List ℕ) → Matches ts device → Matches ts (take (length device) device)
 whole_prefix ts device m = subst (λ (d : List ℕ). Matches ts d) (sym (take_all (length device) device (omega arith))) m
 
-no_bytes : (l : List ℕ) → length l ≡ 0 → l ≡ []
+pub no_bytes : (l : List ℕ) → length l ≡ 0 → l ≡ []
 no_bytes [] h = refl
 no_bytes (x ∷ l) h = absurd (omega arith)
 

@@ -1,6 +1,7 @@
 //! Which of a device's prefixes some tokens match, as the prefixes' lengths.
 ghost use Rattle.std.specs.Prelude.{◌≡◌, ◌≢◌, ◌<◌, ◌≤◌, ◌+◌, ◌^◌, [], ◌∷◌, ◌++◌, length, slice_index, map, filter, All, Contains, IsTrue, OnOk, IfOk, IsOk, IsOkAnd};
-ghost use Rattle.hwdb_spec.specs.Patterns.{tokens, token_at};
+ghost use Rattle.std.specs.List.{list_any};
+ghost use Rattle.hwdb_spec.specs.Patterns.{tokens, token_at, literal};
 ghost use Rattle.hwdb_pattern.specs.Views.{takes, NoneTakes};
 ghost use Rattle.hwdb_pattern.specs.Internal.Prefixes.{AreAdmitted, stepped, Spread, Between, Follows, Within};
 
@@ -181,6 +182,29 @@ fn least_of(numbers: &[usize], above: usize) -> usize
         }
     }
     least
+}
+
+/// Whether the byte is the device's next one behind `n` bytes.
+fn is_next_behind(byte: u8, device: &[u8], n: usize) -> bool
+    ensures { result ≡ takes (literal byte) device.now n }
+{
+    if n < device.len() {
+        device[n] == byte
+    } else {
+        false
+    }
+}
+
+/// Whether the byte is the device's next one behind some length.
+pub(crate) fn is_next(lengths: &[usize], device: &[u8], byte: u8) -> bool
+    ensures { result ≡ list_any (takes (literal byte) device.now) lengths.now }
+{
+    for n in lengths {
+        if is_next_behind(byte, device, *n) {
+            return true;
+        }
+    }
+    false
 }
 
 /// Puts the lengths from the least one to the end into the vector, which held none.

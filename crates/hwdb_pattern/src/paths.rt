@@ -1,11 +1,11 @@
 //! A device on the way along a path that is fed piece by piece, as a tree of patterns is walked.
-ghost use Rattle.std.specs.Prelude.{◌≡◌, ◌↔◌, List, [], ℕ, ◌++◌, IsTrue, IfOk, IsOk};
+ghost use Rattle.std.specs.Prelude.{◌≡◌, ◌↔◌, List, [], ◌∷◌, ℕ, ◌++◌, false, IsTrue, IfOk, IsOk};
 ghost use Rattle.hwdb_spec.specs.Patterns.{Matches, tokens};
 ghost use Rattle.hwdb_pattern.specs.Internal.Prefixes.{Within};
 ghost use Rattle.hwdb_pattern.specs.Views.{Reached, StandsFor, IsLost};
 ghost use Rattle.hwdb_spec.specs.Tree.{IsLive};
 
-use crate::lengths::along;
+use crate::lengths::{along, is_next};
 use crate::search::glob;
 use crate::tokens::closed_end;
 use std::alloc::{AllocError, Global};
@@ -94,6 +94,22 @@ impl<'d> Reach<'d> {
     {
         let lengths: &[usize] = &self.lengths;
         !lengths.is_empty()
+    }
+
+    /// Whether the path may still be live behind one more byte, by a look at that byte alone: it isn't where the answer is no.
+    pub fn may_take(&self, byte: u8) -> bool
+        ensures { result ≡ false → (path : List ℕ) → StandsFor self.now path
+            → IsLive (path ++ byte ∷ []) self.now.device → ⊥ }
+    {
+        if byte == b'*' || byte == b'?' || byte == b'[' {
+            return true;
+        }
+        let kept: &[u8] = &self.kept;
+        if kept.is_empty() {
+            is_next(&self.lengths, self.device, byte)
+        } else {
+            true
+        }
     }
 
     /// Whether the path, read as a pattern, matches the whole device.
