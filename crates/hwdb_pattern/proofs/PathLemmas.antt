@@ -134,7 +134,7 @@ takes_admits t device n h = go (nat_lt n (length device)) _ h
     go true x h = h
     go false x h = cc
 
-takes_by : (t : Token) (device : List ℕ) (n : ℕ) → n < length device → IsTrue (admits_byte t (get_or device n 0)) → takes t device n ≡ true
+pub takes_by : (t : Token) (device : List ℕ) (n : ℕ) → n < length device → IsTrue (admits_byte t (get_or device n 0)) → takes t device n ≡ true
 takes_by t device n h a = ap (λ (c : Bool). cond c (admits_byte t (get_or device n 0)) false) (lt-ltb n (length device) h) ∙ a
 
 admits_piece : (t : Token) (b : ℕ) → IsTrue (admits_byte t b) → Admits t (b ∷ [])

@@ -114,7 +114,7 @@ pub(crate) fn descend<'a>(
     root.law_tree();
     let mut path = Vec::new(alloc);
     let mut entered = Entered::new();
-    let start = Reach::start(alloc, device)?;
+    let start = Reach::start(alloc, device);
     visit(alloc, root, &start, 0, &mut path, into, &mut entered)?;
     Ok(entered.count())
 }
