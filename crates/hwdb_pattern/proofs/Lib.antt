@@ -1,5 +1,6 @@
 pub mod MatchLemmas
 pub mod TokenLemmas
+pub mod TakenLemmas
 pub mod SearchLemmas
 pub mod BracketLemmas
 pub mod LongerPathLemmas

@@ -134,7 +134,7 @@ takes_admits t device n h = go (nat_lt n (length device)) _ h
     go true x h = h
     go false x h = cc
 
-takes_by : (t : Token) (device : List ℕ) (n : ℕ) → n < length device → IsTrue (admits_byte t (get_or device n 0)) → takes t device n ≡ true
+pub takes_by : (t : Token) (device : List ℕ) (n : ℕ) → n < length device → IsTrue (admits_byte t (get_or device n 0)) → takes t device n ≡ true
 takes_by t device n h a = ap (λ (c : Bool). cond c (admits_byte t (get_or device n 0)) false) (lt-ltb n (length device) h) ∙ a
 
 admits_piece : (t : Token) (b : ℕ) → IsTrue (admits_byte t b) → Admits t (b ∷ [])
@@ -240,7 +240,7 @@ alive_has r path s l = let c : Contains r.lengths l.0 = s.met.complete l.0 l.1 l
 whole_prefix : (ts : List Token) (device : List ℕ) → Matches ts device → Matches ts (take (length device) device)
 whole_prefix ts device m = subst (λ (d : List ℕ). Matches ts d) (sym (take_all (length device) device (omega arith))) m
 
-no_bytes : (l : List ℕ) → length l ≡ 0 → l ≡ []
+pub no_bytes : (l : List ℕ) → length l ≡ 0 → l ≡ []
 no_bytes [] h = refl
 no_bytes (x ∷ l) h = absurd (omega arith)
 

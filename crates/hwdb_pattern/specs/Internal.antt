@@ -1,4 +1,5 @@
 -- What the proofs of this crate speak of.
 pub mod Prefixes
+pub mod Met
 pub mod Parts
 pub mod Search

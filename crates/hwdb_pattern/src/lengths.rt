@@ -1,7 +1,8 @@
 //! Which of a device's prefixes some tokens match, as the prefixes' lengths.
-ghost use Rattle.std.specs.Prelude.{◌≡◌, ◌≢◌, ◌<◌, ◌≤◌, ◌+◌, ◌^◌, [], ◌∷◌, ◌++◌, length, slice_index, map, filter, All, Contains, IsTrue, OnOk, IfOk, IsOk, IsOkAnd};
-ghost use Rattle.hwdb_spec.specs.Patterns.{tokens, token_at};
-ghost use Rattle.hwdb_pattern.specs.Views.{takes, NoneTakes};
+ghost use Rattle.std.specs.Prelude.{◌≡◌, ◌≢◌, ◌<◌, ◌≤◌, ◌+◌, ◌^◌, [], ◌∷◌, ◌++◌, length, slice_index, map, filter, All, Contains, true, IsTrue, OnOk, IfOk, IsOk, IsOkAnd, IfSome};
+ghost use Rattle.std.specs.List.{list_any};
+ghost use Rattle.hwdb_spec.specs.Patterns.{tokens, token_at, literal};
+ghost use Rattle.hwdb_pattern.specs.Views.{takes, NoneTakes, open_part};
 ghost use Rattle.hwdb_pattern.specs.Internal.Prefixes.{AreAdmitted, stepped, Spread, Between, Follows, Within};
 
 use crate::tokens::{single_token, token_size};
@@ -183,6 +184,29 @@ fn least_of(numbers: &[usize], above: usize) -> usize
     least
 }
 
+/// Whether the byte is the device's next one behind `n` bytes.
+fn is_next_behind(byte: u8, device: &[u8], n: usize) -> bool
+    ensures { result ≡ takes (literal byte) device.now n }
+{
+    if n < device.len() {
+        device[n] == byte
+    } else {
+        false
+    }
+}
+
+/// Whether the byte is the device's next one behind some length.
+pub(crate) fn is_next(lengths: &[usize], device: &[u8], byte: u8) -> bool
+    ensures { result ≡ list_any (takes (literal byte) device.now) lengths.now }
+{
+    for n in lengths {
+        if is_next_behind(byte, device, *n) {
+            return true;
+        }
+    }
+    false
+}
+
 /// Puts the lengths from the least one to the end into the vector, which held none.
 fn fill(lengths: &mut Vec<usize>, least: usize, end: usize) -> Result<(), AllocError>
     requires room { end + 1 < 2 ^ 64 }
@@ -271,6 +295,37 @@ fn follow(lengths: &mut Vec<usize>, device: &[u8], text: &[u8]) -> Result<(), Al
         at += token_size(rest);
     }
     Ok(())
+}
+
+/// Whether the byte, at the beginning of a text, is a token that stands for that byte.
+pub(crate) fn stands_for_itself(byte: u8) -> bool
+    ensures no_star { result ≡ true → byte ≢ 42 }
+    ensures no_mark { result ≡ true → byte ≢ 63 }
+    ensures no_bracket { result ≡ true → byte ≢ 91 }
+{
+    byte != b'*' && byte != b'?' && byte != b'['
+}
+
+/// The length after all bytes of the text, if each stands for itself and is the device's next one behind `n` bytes.
+pub(crate) fn after_bytes(device: &[u8], n: usize, text: &[u8]) -> Option<usize>
+    requires { n ≤ length device.now }
+    ensures within { IfSome result (λ m. m ≤ length device.now) }
+    ensures closed { IfSome result (λ m. open_part text.now ≡ []) }
+    ensures follows { IfSome result (λ m.
+        Follows (tokens text.now) device.now (n ∷ []) (m ∷ [])) }
+{
+    if device.len() - n < text.len() {
+        return None;
+    }
+    let mut at = 0;
+    while at < text.len() {
+        let byte = text[at];
+        if !stands_for_itself(byte) || byte != device[n + at] {
+            return None;
+        }
+        at += 1;
+    }
+    Some(n + at)
 }
 
 /// The lengths after all tokens of the text. No memory is asked for where the first one, which isn't a

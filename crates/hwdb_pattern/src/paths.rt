@@ -1,15 +1,36 @@
 //! A device on the way along a path that is fed piece by piece, as a tree of patterns is walked.
-ghost use Rattle.std.specs.Prelude.{◌≡◌, ◌↔◌, List, [], ℕ, ◌++◌, IsTrue, IfOk, IsOk};
+ghost use Rattle.std.specs.Prelude.{◌≡◌, ◌≤◌, ◌↔◌, length, List, [], ◌∷◌, ℕ, ◌++◌, false, IsTrue, IfOk, IsOk, IfSome};
 ghost use Rattle.hwdb_spec.specs.Patterns.{Matches, tokens};
-ghost use Rattle.hwdb_pattern.specs.Internal.Prefixes.{Within};
-ghost use Rattle.hwdb_pattern.specs.Views.{Reached, StandsFor, IsLost};
+ghost use Rattle.hwdb_pattern.specs.Internal.Prefixes.{Within, Follows};
+ghost use Rattle.hwdb_pattern.specs.Internal.Met.{lengths_of};
+ghost use Rattle.hwdb_pattern.specs.Views.{Reached, StandsFor, IsLost, open_part};
 ghost use Rattle.hwdb_spec.specs.Tree.{IsLive};
 
-use crate::lengths::along;
+use crate::lengths::{after_bytes, along, is_next, stands_for_itself};
 use crate::search::glob;
 use crate::tokens::closed_end;
 use std::alloc::{AllocError, Global};
 use std::marker::Model;
+use std::slice::from_ref;
+
+/// The lengths of the prefixes that are met. A lone one, as there is along a path without stars, takes no memory.
+#[derive(Drop)]
+pub(crate) enum Met {
+    Lone(usize),
+    Many(Vec<usize>),
+}
+
+impl Met {
+    /// The lengths.
+    fn list(&self) -> &[usize]
+        ensures { result.now ≡ lengths_of self.now }
+    {
+        match self {
+            Met::Lone(length) => from_ref(length),
+            Met::Many(lengths) => lengths,
+        }
+    }
+}
 
 /// What is known of a device on the way along a path: which of its prefixes the path's closed part
 /// matches, and the bytes of the path that aren't decided yet.
@@ -18,7 +39,7 @@ use std::marker::Model;
 #[derive(Drop)]
 pub struct Reach<'d> {
     device: &'d [u8],
-    lengths: Vec<usize>,
+    lengths: Met,
     kept: Vec<u8>,
 }
 
@@ -26,26 +47,22 @@ impl<'d> Model for Reach<'d> {
     ghost Value = { Reached };
 
     ghost view = { λ r. record
-        { device = r.device.now; lengths = r.lengths.items; kept = r.kept.items } };
+        { device = r.device.now; lengths = lengths_of r.lengths; kept = r.kept.items } };
 
-    ghost invariant = { λ r. Within r.device.now r.lengths.items };
+    ghost invariant = { λ r. Within r.device.now (lengths_of r.lengths) };
 }
 
 impl<'d> Reach<'d> {
     /// The state of the empty path.
-    ///
-    /// The only error is that memory is refused.
-    pub fn start(alloc: Global, device: &'d [u8]) -> Result<Reach<'d>, AllocError>
-        ensures device { IfOk result (λ reach. reach.device ≡ device.now) }
-        ensures path { IfOk result (λ reach. StandsFor reach []) }
+    pub fn start(alloc: Global, device: &'d [u8]) -> Reach<'d>
+        ensures device { result.device ≡ device.now }
+        ensures path { StandsFor result [] }
     {
-        let lengths = vec![in alloc; 0]?;
-        let kept = Vec::new(alloc);
-        Ok(Reach {
+        Reach {
             device,
-            lengths,
-            kept,
-        })
+            lengths: Met::Lone(0),
+            kept: Vec::new(alloc),
+        }
     }
 
     /// The state of the path followed by the piece. The old state stays.
@@ -60,12 +77,33 @@ impl<'d> Reach<'d> {
     {
         let kept: &[u8] = &self.kept;
         if kept.is_empty() {
+            if let Some(length) = self.lone_after(piece) {
+                return Ok(Reach {
+                    device: self.device,
+                    lengths: Met::Lone(length),
+                    kept: Vec::new(alloc),
+                });
+            }
             return self.follow_text(alloc, piece);
         }
         let mut text = Vec::new(alloc);
         text.extend_from_slice(kept)?;
         text.extend_from_slice(piece)?;
         self.follow_text(alloc, &text)
+    }
+
+    /// The length that is met behind the piece, if there was one alone, and each byte of the piece stands for itself and
+    /// is the device's next one.
+    fn lone_after(&self, piece: &[u8]) -> Option<usize>
+        ensures within { IfSome result (λ n. n ≤ length self.now.device) }
+        ensures closed { IfSome result (λ n. open_part piece.now ≡ []) }
+        ensures follows { IfSome result (λ n.
+            Follows (tokens piece.now) self.now.device self.now.lengths (n ∷ [])) }
+    {
+        match &self.lengths {
+            Met::Lone(length) => after_bytes(self.device, *length, piece),
+            Met::Many(_) => None,
+        }
     }
 
     /// The state of the path followed by what the text has behind the kept bytes.
@@ -77,12 +115,12 @@ impl<'d> Reach<'d> {
         ensures free { IsLost self.now text.now → IsOk result }
     {
         let end = closed_end(text);
-        let lengths = along(alloc, &self.lengths, self.device, &text[..end])?;
+        let lengths = along(alloc, self.lengths.list(), self.device, &text[..end])?;
         let mut kept = Vec::new(alloc);
         kept.extend_from_slice(&text[end..])?;
         Ok(Reach {
             device: self.device,
-            lengths,
+            lengths: Met::Many(lengths),
             kept,
         })
     }
@@ -92,8 +130,24 @@ impl<'d> Reach<'d> {
         ensures { (path : List ℕ) → StandsFor self.now path
             → (IsTrue result ↔ IsLive path self.now.device) }
     {
-        let lengths: &[usize] = &self.lengths;
+        let lengths = self.lengths.list();
         !lengths.is_empty()
+    }
+
+    /// Whether the path may still be live behind one more byte, by a look at that byte alone: it isn't where the answer is no.
+    pub fn may_take(&self, byte: u8) -> bool
+        ensures { result ≡ false → (path : List ℕ) → StandsFor self.now path
+            → IsLive (path ++ byte ∷ []) self.now.device → ⊥ }
+    {
+        if !stands_for_itself(byte) {
+            return true;
+        }
+        let kept: &[u8] = &self.kept;
+        if kept.is_empty() {
+            is_next(self.lengths.list(), self.device, byte)
+        } else {
+            true
+        }
     }
 
     /// Whether the path, read as a pattern, matches the whole device.
@@ -103,7 +157,7 @@ impl<'d> Reach<'d> {
     {
         let kept: &[u8] = &self.kept;
         if kept.is_empty() {
-            self.lengths.contains(&self.device.len())
+            self.lengths.list().contains(&self.device.len())
         } else {
             glob(path, self.device)
         }

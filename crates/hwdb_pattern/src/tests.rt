@@ -233,7 +233,7 @@ fn walk(
     second: &[u8],
 ) -> Result<(bool, bool, bool), AllocError> {
     let mut path = Vec::new(alloc);
-    let start = Reach::start(alloc, device)?;
+    let start = Reach::start(alloc, device);
     path.extend_from_slice(first)?;
     let here = start.feed(alloc, first)?;
     path.extend_from_slice(second)?;

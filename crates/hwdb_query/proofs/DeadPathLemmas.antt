@@ -91,3 +91,11 @@ none_live device path (Node prefix values children) dead =
     let below : live_below device (q ++ []) children ≡ 0 = dead_nodes_below device q dead [] children in
     ap (λ r. (if is_live r device then 1 else 0) + live_below device r children) (sym (append-nil q))
     ∙ ap (λ b. (if b then 1 else 0) + live_below device (q ++ []) children) (dead.dead []) ∙ ap (λ n. 0 + n) below
+
+-- a node behind a dead path
+pub none_wanted_behind : (device path : List ℕ) (t : Tree) → Dead device path → filter (is_wanted device) (members_under path t) ≡ []
+none_wanted_behind device path t dead =
+    ap (λ r. filter (is_wanted device) (members_under r t)) (sym (append-nil path)) ∙ dead_values device path dead [] t
+
+pub none_live_behind : (device path : List ℕ) (t : Tree) → Dead device path → live_under device path t ≡ 0
+none_live_behind device path t dead = ap (λ r. live_under device r t) (sym (append-nil path)) ∙ dead_nodes device path dead [] t

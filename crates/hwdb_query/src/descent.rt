@@ -1,6 +1,7 @@
 //! One descent of the tree along the paths that are live for a device.
 //!
-//! A node whose path is dead isn't entered, and no pattern at or below it matches.
+//! A node whose path is dead isn't entered, and no pattern at or below it matches. A child whose byte the device can't
+//! take isn't looked at any further.
 ghost use Rattle.std.specs.Prelude.{◌≡◌, ◌<◌, ◌≤◌, ◌+◌, ◌++◌, ◌^◌, ℕ, List, [], length, take, filter, IfOk, OnOk};
 ghost use Rattle.hwdb_pattern.specs.Laws.{MatchesIsTested, LiveIsTested, DeadStaysDead, DeadMatchesNothing};
 ghost use Rattle.hwdb_pattern.specs.Views.{StandsFor};
@@ -87,6 +88,9 @@ fn visit<'a>(
         collect_matching(alloc, inside, &here, path, into)?;
         for i in 0..inside.children() {
             let child = inside.child(i);
+            if !here.may_take(child.byte) {
+                continue;
+            }
             path.push(child.byte)?;
             visit(alloc, child.node, &here, end, path, into, entered)?;
             path.truncate(end);
@@ -110,7 +114,7 @@ pub(crate) fn descend<'a>(
     root.law_tree();
     let mut path = Vec::new(alloc);
     let mut entered = Entered::new();
-    let start = Reach::start(alloc, device)?;
+    let start = Reach::start(alloc, device);
     visit(alloc, root, &start, 0, &mut path, into, &mut entered)?;
     Ok(entered.count())
 }

@@ -10,7 +10,7 @@ use Rattle.hwdb_query.specs.Internal.Live.{live_in, nodes_in}
 use Rattle.hwdb_query.proofs.PartLemmas.{node_and_below, kid_next, kid_behind, live_split, live_least}
 use Rattle.hwdb_query.proofs.StepLemmas.{stands_whole, cut_front, live_is, dead_is}
 use Rattle.hwdb_query.proofs.DescentLemmas.{collected_none, node_collected, child_collected}
-use Rattle.hwdb_query.proofs.DeadPathLemmas.{dead_path, none_wanted, none_live}
+use Rattle.hwdb_query.proofs.DeadPathLemmas.{dead_path, none_wanted, none_live, none_wanted_behind, none_live_behind}
 use Rattle.hwdb_query.proofs.descent.+visit.Goals as goal
 use Rattle.hwdb_query.proofs.descent.+visit.Goals.{then-is_alive+in_ok-collect_matching+else-loop-i-test, else-is_alive}
 
@@ -77,6 +77,40 @@ visit-requires t c =
     let front : take c.len-end.result c.push.new.self.items ≡ c.loop-i.path.items =
     ap (λ n. take n c.push.new.self.items) end ∙ ap (take (length c.loop-i.path.items)) pushed ∙ cut_front c.loop-i.path.items (c.child-child.result.byte ∷ []) in
     (omega (arith, nodes, size, d), (omega (arith, end, longer), (subst (StandsFor c.in_ok-here.here) (path ∙ sym front) stands, omega (arith, nodes, room, r))))
+
+pub loop-i-preserved-then-not-may_take : goal.loop-i-preserved-then-not-may_take
+loop-i-preserved-then-not-may_take t c =
+    let tree = tree_of c.args.node in
+    let device = c.args.above.now.device in
+    let kids = children_of (entered_tree c.enter-inside.result) in
+    let node = tree_of c.child-child.result.node in
+    let k : ℕ × Tree = (c.child-child.result.byte, node) in
+    let below = c.loop-i.path.items ++ c.child-child.result.byte ∷ [] in
+    let rest = drop (suc c.loop-i.i) kids in
+    let next : drop c.loop-i.i kids ≡ k ∷ rest = kid_next kids c.loop-i.i k c.child-child.ensures in
+    let nodes : nodes_in (drop c.loop-i.i kids) ≡ node_count node + nodes_in rest = ap nodes_in next in
+    let live : live_in device c.loop-i.path.items (drop c.loop-i.i kids) ≡ live_under device below node + live_in device c.loop-i.path.items rest = ap (live_in device c.loop-i.path.items) next in
+    let size = c.loop-i.invariant.size in
+    let room = c.loop-i.invariant.room in
+    let before = c.loop-i.invariant.counted in
+    let whole = c.in_ok-extend_from_slice.ensures.items in
+    let stands = stands_whole c.args.above.now c.in_ok-here.here c.args.from c.args.path.now.items c.prefix.result.now c.extend_from_slice.new.self.items c.deref.result.now _
+    c.requires.within whole c.deref.ensures.value refl c.requires.stands c.in_ok-here.ensures.path in
+    let path : c.extend_from_slice.new.self.items ≡ c.loop-i.path.items = whole ∙ ap (λ p. c.args.path.now.items ++ p) c.prefix.ensures ∙ sym c.loop-i.invariant.path in
+    let dev : c.in_ok-here.here.device ≡ device = c.in_ok-here.ensures.device in
+    let lost : IsLive below device → ⊥ =
+    subst (λ d. IsLive below d → ⊥) dev (c.may_take.ensures c.if-not-may_take.true c.loop-i.path.items (subst (StandsFor c.in_ok-here.here) path stands)) in
+    let dead = dead_path device below c.path_laws.ensures.matched c.path_laws.ensures.live c.path_laws.ensures.longer c.path_laws.ensures.below lost in
+    let none : filter (is_wanted device) (members_under below node) ≡ [] = none_wanted_behind device below node dead in
+    let zero_here : live_under device below node ≡ 0 = none_live_behind device below node dead in
+    record {
+      path = c.loop-i.invariant.path;
+      collected = rw add-one (λ end behind. c.loop-i.invariant.collected end
+          (child_collected device c.loop-i.path.items k (drop c.loop-i.i kids) rest c.loop-i.into c.loop-i.into end next (collected_none c.loop-i.into _ none) behind));
+      counted = rw add-one (let goal_is : c.loop-i.entered + live_in device c.loop-i.path.items rest ≡ c.args.entered.now + live_under device c.args.path.now.items tree = omega (arith, live, zero_here, before) in goal_is);
+      room = rw add-one (let goal_is : c.loop-i.entered + nodes_in rest ≤ c.args.entered.now + node_count tree = omega (arith, nodes, room) in goal_is);
+      size = rw (add-one c.loop-i.i) (let goal_is : nodes_in rest + 1 ≤ node_count tree = omega (arith, nodes, size) in goal_is);
+    }
 
 pub loop-i-preserved : goal.loop-i-preserved
 loop-i-preserved t c =

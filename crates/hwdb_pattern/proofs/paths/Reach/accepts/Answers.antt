@@ -5,8 +5,8 @@ use Rattle.hwdb_pattern.proofs.paths.Reach.accepts.Goals as goal
 
 pub returns-then-is_empty : goal.returns-then-is_empty
 returns-then-is_empty c =
-    accept_test c.args.self.now c.args.path.now c.deref.result.now c.self.inside.device.now c.contains.result
-    (c.deref.ensures.value ∙ ap (λ (r : Reached). r.lengths) c.self.view_is)
+    accept_test c.args.self.now c.args.path.now c.list.result.now c.self.inside.device.now c.contains.result
+    (c.list.ensures ∙ ap (λ (r : Reached). r.lengths) c.self.view_is)
     (ap (λ (r : Reached). r.device) c.self.view_is)
     (sym (ap (λ (r : Reached). length r.kept) c.self.view_is) ∙ sym (ap length c.deref-kept.ensures.value)
     ∙ eqb-true (length c.deref-kept.result.now) 0 (sym c.is_empty.ensures ∙ c.if-is_empty.true))

@@ -4,5 +4,5 @@ use Rattle.hwdb_pattern.proofs.PathLemmas.{alive_test}
 use Rattle.hwdb_pattern.proofs.paths.Reach.is_alive.Goals as goal
 
 pub returns : goal.returns
-returns c = alive_test c.args.self.now c.deref-lengths.result.now c.is_empty.result
-    (c.deref-lengths.ensures.value ∙ ap (λ (r : Reached). r.lengths) c.self.view_is) c.is_empty.ensures
+returns c = alive_test c.args.self.now c.list-lengths.result.now c.is_empty.result
+    (c.list-lengths.ensures ∙ ap (λ (r : Reached). r.lengths) c.self.view_is) c.is_empty.ensures

@@ -1,0 +1,99 @@
+-- A path that grows by bytes which stand for themselves.
+use Rattle.std.proofs.Common.{◌≡◌, ℕ, ◌+◌, ◌<◌, ◌≤◌, Bool, true, false, List, [], ◌∷◌, ◌++◌, drop, length, get_or, refl, ap, ◌∙◌, sym, subst, cond, arith, eq-eqb}
+use Rattle.std.specs.List.{list_any}
+use Rattle.std.specs.Prelude.{Contains, map}
+use Rattle.std.proofs.lemmas.List.{append-nil, drop_all, length-drop, get_or-drop}
+use Rattle.std.proofs.lemmas.List.Folds.{list_any_at}
+use Rattle.hwdb_spec.specs.Patterns.{Token, literal, token_at, token_size, tokens}
+use Rattle.hwdb_spec.specs.Tree.{closed_part, IsLive}
+use Rattle.hwdb_pattern.specs.Views.{takes, open_part, Reached, StandsFor}
+use Rattle.hwdb_pattern.specs.Internal.Prefixes.{stepped, Follows}
+use Rattle.hwdb_pattern.proofs.TokenLemmas.{not_star, token_byte}
+use Rattle.hwdb_pattern.proofs.ClosedPartLemmas.{ClosedTo, closed_start, closed_step, closed_ends, other_token, part_and_rest}
+use Rattle.hwdb_pattern.proofs.PathLemmas.{Along, alive_has, along_end, along_first, along_none, along_step, fed, follows_none, follows_one, no_bytes, stepped_none, takes_by}
+
+-- where no member passes, a member doesn't
+none_passes : (p : ℕ → Bool) (xs : List ℕ) (n : ℕ) → list_any p xs ≡ false → Contains xs n → p n ≡ false
+none_passes p xs n none c = go (p n) refl
+  where
+    go : (b : Bool) → p n ≡ b → p n ≡ false
+    go true e = let some : list_any p xs ≡ true = list_any_at p xs c.0 n c.1 (ap p c.2 ∙ e) in cc
+    go false e = e
+
+-- the closed part of a byte that isn't `[` is the byte
+pub closed_byte : (byte : ℕ) → (byte ≡ 91 → ⊥) → (byte ∷ [] ≡ closed_part (byte ∷ [])) × ([] ≡ open_part (byte ∷ []))
+closed_byte byte bracket =
+    let step : ClosedTo (byte ∷ []) 1 =
+    closed_step (byte ∷ []) (byte ∷ []) 0 1 refl (omega arith) (other_token (byte ∷ []) (omega arith) bracket) (closed_start (byte ∷ [])) in
+    closed_ends (byte ∷ []) 1 (omega arith) step
+
+-- behind a byte that isn't the device's next one no length is left
+lost_byte : (byte : ℕ) (device before : List ℕ) → (byte ≡ 42 → ⊥) → (byte ≡ 63 → ⊥) → (byte ≡ 91 → ⊥)
+    → list_any (takes (literal byte) device) before ≡ false → Follows (tokens (byte ∷ [])) device before []
+lost_byte byte device before star one bracket none =
+    let own : token_at (byte ∷ []) ≡ literal byte = token_byte (byte ∷ []) (omega arith) star one bracket in
+    let lost : stepped (literal byte) device before ≡ [] = stepped_none (literal byte) device before (λ n c. none_passes (takes (literal byte) device) before n none c) in
+    along_first device before [] [] (byte ∷ []) [] 1 refl (omega arith) (ap token_size (sym own))
+    (follows_one (token_at (byte ∷ [])) device before [] (not_star (byte ∷ []) star) (sym (ap (λ t. stepped t device before) own ∙ lost)))
+    (along_none device [] [] refl)
+
+pub not_taken : (r : Reached) (path device before : List ℕ) (byte : ℕ) → (byte ≡ 42 → ⊥) → (byte ≡ 63 → ⊥) → (byte ≡ 91 → ⊥)
+    → device ≡ r.device → before ≡ r.lengths → length r.kept ≡ 0 → list_any (takes (literal byte) device) before ≡ false
+    → StandsFor r path → IsLive (path ++ byte ∷ []) r.device → ⊥
+not_taken r path device before byte star one bracket d b k none stands live =
+    let closed : (byte ∷ [] ≡ closed_part (byte ∷ [])) × ([] ≡ open_part (byte ∷ [])) = closed_byte byte bracket in
+    let next : StandsFor (record { device = device; lengths = []; kept = [] }) (path ++ byte ∷ []) =
+    fed r device before [] (byte ∷ []) (byte ∷ []) [] path (byte ∷ []) d b (ap (λ l. l ++ byte ∷ []) (sym (no_bytes r.kept k)))
+    closed.0 closed.1 (lost_byte byte device before star one bracket none) stands in
+    absurd (omega (arith, alive_has (record { device = device; lengths = []; kept = [] }) (path ++ byte ∷ []) next (subst (IsLive (path ++ byte ∷ [])) (sym d) live)))
+
+-- one more byte that stands for itself and is the device's next one behind a lone length
+stepped_lone : (t : Token) (device : List ℕ) (m : ℕ) → takes t device m ≡ true → stepped t device (m ∷ []) ≡ (m + 1) ∷ []
+stepped_lone t device m e = ap (λ c. map (λ n. n + 1) (cond c (m ∷ []) [])) e
+
+follows_byte : (text device : List ℕ) (m : ℕ) → 0 < length text → (get_or text 0 0 ≡ 42 → ⊥) → (get_or text 0 0 ≡ 63 → ⊥) → (get_or text 0 0 ≡ 91 → ⊥)
+    → m < length device → get_or device m 0 ≡ get_or text 0 0 → Follows (token_at text ∷ []) device (m ∷ []) ((m + 1) ∷ [])
+follows_byte text device m some star one bracket h e =
+    let own : token_at text ≡ literal (get_or text 0 0) = token_byte text some star one bracket in
+    let taken : takes (literal (get_or text 0 0)) device m ≡ true = takes_by (literal (get_or text 0 0)) device m h (eq-eqb (get_or device m 0) (get_or text 0 0) e) in
+    follows_one (token_at text) device (m ∷ []) ((m + 1) ∷ []) (not_star text star) (sym (ap (λ t. stepped t device (m ∷ [])) own ∙ stepped_lone (literal (get_or text 0 0)) device m taken))
+
+-- the bytes before a place stand for themselves, and are the device's next ones
+pub record Shared (device text : List ℕ) (n at : ℕ) : Type 0 where
+  pub closed : ClosedTo text at
+  pub along : Along device (n ∷ []) ((n + at) ∷ []) text at
+
+pub shared_start : (device text : List ℕ) (n : ℕ) → Shared device text n 0
+shared_start device text n = record {
+  closed = closed_start text;
+  along = record { done = []; cut = refl; follows = subst (λ m. Follows [] device (n ∷ []) (m ∷ [])) (omega arith) (follows_none device (n ∷ [])) };
+}
+
+pub shared_more : (device text : List ℕ) (n at : ℕ) → at < length text → n + at < length device → (get_or text at 0 ≡ 42 → ⊥) → (get_or text at 0 ≡ 63 → ⊥)
+    → (get_or text at 0 ≡ 91 → ⊥) → get_or text at 0 ≡ get_or device (n + at) 0 → Shared device text n at → Shared device text n (at + 1)
+shared_more device text n at h k star one bracket e s =
+    let rest : List ℕ = drop at text in
+    let some : 0 < length rest = omega (arith, h, length-drop at text) in
+    let first : get_or rest 0 0 ≡ get_or text at 0 = get_or-drop at text 0 0 ∙ ap (λ i. get_or text i 0) (omega arith) in
+    let step = other_token rest some (λ f. bracket (sym first ∙ f)) in
+    record {
+      closed = closed_step text rest at 1 refl h step s.closed;
+      along = along_step device (n ∷ []) ((n + at) ∷ []) ((n + (at + 1)) ∷ []) text rest at 1 refl h step.1
+          (subst (λ m. Follows (token_at rest ∷ []) device ((n + at) ∷ []) (m ∷ [])) (omega arith)
+          (follows_byte rest device (n + at) some (λ f. star (sym first ∙ f)) (λ f. one (sym first ∙ f)) (λ f. bracket (sym first ∙ f)) k (sym e ∙ sym first)))
+          s.along;
+    }
+
+pub shared_closed : (device text : List ℕ) (n at : ℕ) → length text ≤ at → Shared device text n at → open_part text ≡ []
+shared_closed device text n at h s = sym (closed_ends text at h s.closed).1 ∙ drop_all at text h
+
+pub shared_follows : (device text : List ℕ) (n at : ℕ) → length text ≤ at → Shared device text n at → Follows (tokens text) device (n ∷ []) ((n + at) ∷ [])
+shared_follows device text n at h s = along_end device (n ∷ []) ((n + at) ∷ []) text at h s.along
+
+-- a path that grows by a text of which no part is open
+pub fed_closed : (r : Reached) (device after path piece kept : List ℕ) → device ≡ r.device → r.kept ≡ [] → kept ≡ [] → open_part piece ≡ []
+    → Follows (tokens piece) r.device r.lengths after → StandsFor r path → StandsFor (record { device = device; lengths = after; kept = kept }) (path ++ piece)
+fed_closed r device after path piece kept d k none closed follows stands =
+    let whole : piece ≡ closed_part piece = sym (sym (append-nil (closed_part piece)) ∙ ap (λ l. closed_part piece ++ l) (sym closed) ∙ part_and_rest piece) in
+    fed r device r.lengths after piece (closed_part piece) kept path piece d refl (ap (λ l. l ++ piece) (sym k)) refl (none ∙ sym closed)
+    (subst (λ l. Follows (tokens l) device r.lengths after) whole (subst (λ v. Follows (tokens piece) v r.lengths after) (sym d) follows)) stands
