@@ -10,6 +10,9 @@ pub mod Format
 pub mod Written
 pub mod Texts
 pub mod Explanations
+pub mod Differences
+pub mod Summary
+pub mod Dump
 pub mod Json
 pub mod Failures
 pub mod Store
