@@ -4,10 +4,13 @@
 //! |---|---|
 //! | `assigned` | an assignment of a database |
 //! | `walk` | all assignments of a database, by pattern and key |
+//! | `laws` | laws of the map of a database |
 #![tactic(auto)]
 
 mod assigned;
+mod laws;
 mod walk;
 
 pub use assigned::Assigned;
+pub use laws::members_are_the_map;
 pub use walk::assignments;
