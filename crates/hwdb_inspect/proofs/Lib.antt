@@ -1,3 +1,4 @@
 pub mod PartLemmas
 pub mod WalkLemmas
 pub mod OrderLemmas
+pub mod MergeLemmas
