@@ -2,3 +2,4 @@ pub mod PartLemmas
 pub mod WalkLemmas
 pub mod OrderLemmas
 pub mod MergeLemmas
+pub mod PairLemmas

@@ -8,9 +8,14 @@
 #![tactic(auto)]
 
 mod assigned;
+//mod difference;
+//mod errors;
 mod laws;
+mod lines;
+mod pairs;
 mod walk;
 
 pub use assigned::Assigned;
+//pub use errors::DiffError;
 pub use laws::members_are_the_map;
 pub use walk::assignments;
