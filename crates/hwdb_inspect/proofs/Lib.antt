@@ -3,3 +3,4 @@ pub mod WalkLemmas
 pub mod OrderLemmas
 pub mod MergeLemmas
 pub mod PairLemmas
+pub mod DiffLemmas
