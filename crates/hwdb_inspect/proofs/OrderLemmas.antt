@@ -128,10 +128,11 @@ byte_above (d ∷ path) r s b c h = ap (λ o. ordering_then o (text_cmp (path ++
 
 far_own : (path : List ℕ) (values : List Value) (qs : List (List ℕ × Value)) → AllByRecursion (λ (q : List ℕ × Value). Above path 0 q.0) qs → AllByRecursion (λ (p : List ℕ × Value). Below p qs) (map (λ v. (path, v)) values)
 far_own path [] qs a = tt
-far_own path (v ∷ vs) qs a =
-    (all_map (λ (q : List ℕ × Value). Above path 0 q.0) (λ (q : List ℕ × Value). place_cmp (path, v.key) (q.0, q.1.key) ≡ Less)
+far_own path (v ∷ vs) qs a = (
+  all_map (λ (q : List ℕ × Value). Above path 0 q.0) (λ (q : List ℕ × Value). place_cmp (path, v.key) (q.0, q.1.key) ≡ Less)
       (λ q b. ap (λ p. ordering_then (text_cmp path p) (text_cmp v.key q.1.key)) b.is ∙ ap (λ o. ordering_then o (text_cmp v.key q.1.key)) (longer_above path b.rest b.byte)) qs a,
-      far_own path vs qs a)
+  far_own path vs qs a,
+)
 
 far_kids : (path : List ℕ) (byte : ℕ) (ps qs : List (List ℕ × Value)) → AllByRecursion (λ (p : List ℕ × Value). From (path ++ byte ∷ []) p.0) ps → AllByRecursion (λ (q : List ℕ × Value). Above path byte q.0) qs → AllByRecursion (λ (p : List ℕ × Value). Below p qs) ps
 far_kids path byte [] qs a b = tt

@@ -74,7 +74,6 @@ some_left top below k at =
 module _ (path long : List ℕ) (top : Open) (before now : List Open) (k : ℕ × Tree)
     (at : slice_get (children_of (entered_tree top.inside)) top.done ≡ Some k) (within : top.length ≤ length path)
     (whole : long ≡ (take top.length path ++ k.0 ∷ []) ++ prefix_of k.1) (o : Opened (before ++ gone_on top ∷ []) now k.1 (length long)) where
-
   cut : take top.length long ≡ take top.length path
   cut = ap (take top.length) (whole ∙ append_assoc (take top.length path) (k.0 ∷ []) (prefix_of k.1))
       ∙ take_front top.length (take top.length path) (k.0 ∷ prefix_of k.1) (length-take-le top.length path within)

@@ -18,7 +18,7 @@ use crate::pairs::Pairs;
 use crate::walk::assignments;
 use hwdb_commands::write_text;
 use hwdb_devices::Sink;
-use hwdb_reader::{Db, check, law_one_tree};
+use hwdb_reader::{Db, check, law_ascending, law_one_tree};
 use std::alloc::Global;
 
 /// How many bytes of lines are held before they are written.
@@ -145,6 +145,7 @@ pub fn run_diff<O: Sink>(
         (λ e. e ≢ DiffError.Write → e ≢ DiffError.Memory → out.new ≡ out.old) }
 {
     law_one_tree();
+    law_ascending();
     let before = check_old(old)?;
     let after = check_new(new)?;
     let old_ones = assignments(alloc, &before)?;

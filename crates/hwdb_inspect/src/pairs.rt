@@ -45,11 +45,7 @@ fn at<'r, 'a>(list: &'r [Assigned<'a>], i: usize) -> Option<&'r Assigned<'a>>
     ensures within { OnSome result (i < length list.now) }
     ensures none { IfNone result (drop i list.now ≡ []) }
 {
-    if i < list.len() {
-        Some(&list[i])
-    } else {
-        None
-    }
+    if i < list.len() { Some(&list[i]) } else { None }
 }
 
 impl<'r, 'a> Pairs<'r, 'a> {
@@ -73,7 +69,10 @@ impl<'r, 'a> Pairs<'r, 'a> {
         ensures none { IfNone result (to_tell self.old ≡ []) }
         ensures fewer { OnSome result (size self.new < size self.old) }
     {
-        match (at(self.before, self.old_taken), at(self.after, self.new_taken)) {
+        match (
+            at(self.before, self.old_taken),
+            at(self.after, self.new_taken),
+        ) {
             (None, None) => None,
             (Some(old), None) => {
                 self.old_taken += 1;

@@ -14,6 +14,6 @@ loop-i-preserved c =
     let rest = own_members pattern (drop (suc c.loop-i.i) values) in
     let shown = entry_shows c.value.result in
     rw add-one (
-      ap (λ r. r ++ rest) c.in_ok-offer.ensures ∙ append_assoc before _ rest
-      ∙ ap (λ p. before ++ (assignment_shown p shown ++ rest)) c.in_ok-copy.ensures
-      ∙ ap (λ r. before ++ r) (sym (own_next pattern values c.loop-i.i shown c.value.ensures)) ∙ c.loop-i.invariant)
+    ap (λ r. r ++ rest) c.in_ok-offer.ensures ∙ append_assoc before _ rest
+    ∙ ap (λ p. before ++ (assignment_shown p shown ++ rest)) c.in_ok-copy.ensures
+    ∙ ap (λ r. before ++ r) (sym (own_next pattern values c.loop-i.i shown c.value.ensures)) ∙ c.loop-i.invariant)

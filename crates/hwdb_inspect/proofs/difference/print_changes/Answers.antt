@@ -27,12 +27,12 @@ returns-in_err-hand_on-clause-cut_short g c =
     let all = to_tell c.printing.left in
     let more = to_tell c.next.new.self in
     if_err_any c.from_residual-in_err-hand_on.result _ (c.printing.invariant.part _
-      (part_written _ _ next (changes_text more) (text ++ changes_text all)
-      (joined text next all (changes_of c.in-Some.pair) more c.in-Some.ensures.some c.in_ok-differ.ensures.text) c.hand_on.ensures.prefix))
+    (part_written _ _ next (changes_text more) (text ++ changes_text all)
+    (joined text next all (changes_of c.in-Some.pair) more c.in-Some.ensures.some c.in_ok-differ.ensures.text) c.hand_on.ensures.prefix))
 
 pub returns-in_err-write_whole-clause-cut_short : goal.returns-in_err-write_whole-clause-cut_short
 returns-in_err-write_whole-clause-cut_short g c =
     let text = c.printing.text.items in
     if_err_any c.from_residual-in_err-write_whole.result _ (c.printing.invariant.part _
-      (part_written _ _ c.deref.result.now (changes_text (to_tell c.printing.left)) (text ++ changes_text (to_tell c.printing.left))
-      (ap (λ l. l ++ changes_text (to_tell c.printing.left)) (sym c.deref.ensures.value)) c.write_whole.ensures.prefix))
+    (part_written _ _ c.deref.result.now (changes_text (to_tell c.printing.left)) (text ++ changes_text (to_tell c.printing.left))
+    (ap (λ l. l ++ changes_text (to_tell c.printing.left)) (sym c.deref.ensures.value)) c.write_whole.ensures.prefix))
