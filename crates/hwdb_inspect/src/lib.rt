@@ -17,6 +17,8 @@ mod errors;
 mod laws;
 mod lines;
 mod pairs;
+#[cfg(test)]
+mod tests;
 mod walk;
 
 pub use assigned::Assigned;

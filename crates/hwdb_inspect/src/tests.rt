@@ -78,6 +78,6 @@ fn refusals(rt: HostRuntime) -> Result<(), Fail> {
     assert!(&rt; old == Err(DiffError::Old(DbFault::Short)), "the old one first");
     let new = diff(rt.alloc(), &good, b"", &mut out);
     assert!(&rt; new == Err(DiffError::New(DbFault::Short)), "the new one");
-    assert_eq!(&rt; out.taken(), b"", "nothing is printed");
+    assert!(&rt; out.taken().is_empty(), "nothing is printed");
     Ok(())
 }
