@@ -75,7 +75,10 @@ fn refusals(rt: HostRuntime) -> Result<(), Fail> {
     let good = database_of(rt.alloc(), b"a\n K=1\n")?;
     let mut out: MemorySink<512> = MemorySink::new();
     let old = diff(rt.alloc(), b"", b"", &mut out);
-    assert!(&rt; old == Err(DiffError::Old(DbFault::Short)), "the old one first");
+    assert!(&rt;
+        old == Err(DiffError::Old(DbFault::Short)),
+        "the old one first"
+    );
     let new = diff(rt.alloc(), &good, b"", &mut out);
     assert!(&rt; new == Err(DiffError::New(DbFault::Short)), "the new one");
     assert!(&rt; out.taken().is_empty(), "nothing is printed");
