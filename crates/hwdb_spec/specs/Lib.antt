@@ -11,8 +11,6 @@ pub mod Written
 pub mod Texts
 pub mod Explanations
 pub mod Differences
-pub mod Summary
-pub mod Dump
 pub mod Json
 pub mod Failures
 pub mod Store
