@@ -1,6 +1,5 @@
 -- Lines of changes, handed on in pieces.
-use Rattle.std.proofs.Common.{◌≡◌, ◌∙◌, ℕ, zero, ◌+◌, ap, sym, refl, subst, List, [], ◌∷◌, ◌++◌, Bool, true, false, ◌||◌, length, take, Option, Result, Ok, Err, IfErr, append_assoc, arith, length-append}
-use Rattle.std.specs.Prelude.{flat_map}
+use Rattle.std.proofs.Common.{◌≡◌, ◌∙◌, ℕ, ◌+◌, ap, sym, refl, subst, List, [], ◌∷◌, ◌++◌, Bool, true, false, ◌||◌, length, Option, Result, Ok, Err, IfErr, append_assoc, arith, length-append}
 use Rattle.std.proofs.Math.Seq.{take-append-add}
 use Rattle.std.proofs.lemmas.List.{take-append-le}
 use Rattle.std.proofs.lemmas.Grind.{flat_map-append}

@@ -1,19 +1,18 @@
 -- Two ascending lists, gone through side by side, give the changes from the one map to the other.
-use Rattle.std.proofs.Common.{◌≡◌, ◌∙◌, ap, sym, refl, subst, ℕ, List, [], ◌∷◌, ◌++◌, map, Option, Some, None, Bool, true, false, cond, ◌&&◌, T, is_some, ◌||◌}
+use Rattle.std.proofs.Common.{◌≡◌, ◌∙◌, ap, sym, refl, subst, ℕ, List, [], ◌∷◌, ◌++◌, map, Option, Some, None, Bool, true, false, cond, T, is_some, ◌||◌}
 use Rattle.std.specs.Prelude.{flat_map}
 use Rattle.std.specs.FinMap as finite
 use Rattle.std.specs.FinMap.Entries.{is_sorted, below_all, find, same_entries}
-use Rattle.std.specs.Ordering.{match_ordering, is_lt, is_eq, eq_by_cmp, ordering_reverse}
+use Rattle.std.specs.Ordering.{match_ordering, is_lt, is_eq, ordering_reverse}
 use Rattle.std.specs.declared.cmp.Ordering.{Ordering}
 use Rattle.std.specs.declared.cmp.Ordering.TheVariants.{Less, Equal, Greater}
-use Rattle.std.proofs.lemmas.Cmp.{tied_itself, alike_right}
+use Rattle.std.proofs.lemmas.Cmp.{alike_right}
 use Rattle.hwdb_spec.specs.Assignment.{Assignment}
-use Rattle.hwdb_spec.specs.Folders.{same}
 use Rattle.hwdb_spec.specs.Tree.{Tree, IsTree, place_cmp, entry_of, map_of, Map, members_under}
-use Rattle.hwdb_spec.specs.Differences.{Change, change_between, change_at, joined, places, differences}
-use Rattle.hwdb_spec.specs.Differences.Change.{Came, Went, Changed}
+use Rattle.hwdb_spec.specs.Differences.{Change, change_between, change_at, joined, differences}
+use Rattle.hwdb_spec.specs.Differences.Change.{Came, Went}
 use Rattle.hwdb_inspect.specs.Internal.Merging.{place_of, by_place, merged, merged_from, Both, Pairs, paired, paired_from}
-use Rattle.hwdb_inspect.proofs.OrderLemmas.{place_total, place_same, and_of, and_first, and_second, is_less, members_sorted, entries_of_tree}
+use Rattle.hwdb_inspect.proofs.OrderLemmas.{place_total, place_same, and_of, and_first, and_second, is_less, entries_of_tree}
 
 abbrev Place : Type 0
 Place = List ℕ × List ℕ

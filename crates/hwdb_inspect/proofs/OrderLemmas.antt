@@ -5,13 +5,12 @@ use Rattle.std.specs.FinMap as finite
 use Rattle.std.specs.FinMap.Entries.{is_sorted, below_all}
 use Rattle.std.specs.List.{AllByRecursion}
 use Rattle.std.specs.Cmp.{IsTotalOrder, nat_cmp_is}
-use Rattle.std.specs.Cmp.Lexicographic.{slice_cmp}
-use Rattle.std.specs.Ordering.{nat_cmp, ordering_then, is_lt}
+use Rattle.std.specs.Ordering.{ordering_then, is_lt}
 use Rattle.std.specs.declared.cmp.Ordering.{Ordering}
 use Rattle.std.specs.declared.cmp.Ordering.TheVariants.{Less, Equal, Greater}
 use Rattle.std.proofs.lemmas.Cmp.{nat_list_cmp_total, nat_cmp_total, tied_itself, on_total, then_total}
 use Rattle.hwdb_spec.specs.Assignment.{Assignment, text_cmp}
-use Rattle.hwdb_spec.specs.Tree.{Tree, Children, Value, values_under, values_below, KeysAscend, IsTree, BytesAscend, members_under, place_cmp, entry_of, key_of, assigned_at, map_of, Map}
+use Rattle.hwdb_spec.specs.Tree.{Tree, Children, Value, values_under, values_below, KeysAscend, IsTree, BytesAscend, members_under, place_cmp, entry_of, key_of, assigned_at, map_of}
 use Rattle.hwdb_spec.specs.Tree.Tree.{Node}
 use Rattle.hwdb_spec.specs.Tree.Children.{NoMore, Child}
 use Rattle.hwdb_inspect.specs.Internal.Parts.{assigned_by}

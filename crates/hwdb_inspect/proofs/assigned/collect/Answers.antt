@@ -1,4 +1,4 @@
-use Rattle.std.proofs.Common.{◌≡◌, ◌∙◌, ap, sym, map, ◌++◌, drop, suc, add-one, append_assoc}
+use Rattle.std.proofs.Common.{◌∙◌, ap, sym, map, ◌++◌, drop, suc, add-one, append_assoc}
 use Rattle.hwdb_spec.specs.Tree.{values_of}
 use Rattle.hwdb_reader.specs.Views.{entered_tree, entry_shows}
 use Rattle.hwdb_inspect.specs.Views.{assignment_of}

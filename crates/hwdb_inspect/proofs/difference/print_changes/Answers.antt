@@ -1,4 +1,4 @@
-use Rattle.std.proofs.Common.{◌≡◌, ◌∙◌, ap, sym, refl, ◌++◌, ◌||◌}
+use Rattle.std.proofs.Common.{◌∙◌, ap, sym, refl, ◌++◌, ◌||◌}
 use Rattle.hwdb_spec.specs.Differences.{changes_text}
 use Rattle.hwdb_inspect.specs.Views.{changes_of}
 use Rattle.hwdb_inspect.specs.Internal.Pairing.{to_tell}

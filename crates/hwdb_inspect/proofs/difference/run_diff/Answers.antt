@@ -1,12 +1,10 @@
-use Rattle.std.proofs.Common.{◌≡◌, ◌∙◌, ap, sym, subst, List, ℕ, map, [], inr, Option}
+use Rattle.std.proofs.Common.{◌≡◌, ◌∙◌, ap, sym, subst, List, ℕ, map, inr}
 use Rattle.std.proofs.lemmas.Result.{on_ok_weaker, IfOk-weaker, IfErr-weaker, err_from_is_err_and}
 use Rattle.std.specs.Io.KnownBytes.{Appends}
-use Rattle.hwdb_spec.specs.Differences.{Change, changes_text, differences, are_some, files_diff_text}
-use Rattle.hwdb_spec.specs.Tree.{map_of, Map, members_under}
+use Rattle.hwdb_spec.specs.Differences.{changes_text, differences, are_some}
+use Rattle.hwdb_spec.specs.Tree.{map_of, Map}
 use Rattle.hwdb_spec.specs.Assignment.{Assignment}
-use Rattle.hwdb_commands.specs.Devices.{AppendsPrefix, Wrote, WrotePrefix}
 use Rattle.hwdb_inspect.specs.Views.{assignment_of}
-use Rattle.hwdb_inspect.specs.Diffs.{IsDiffText, IsDifferent, IsDiffRefusal}
 use Rattle.hwdb_inspect.specs.Internal.Merging.{merged}
 use Rattle.hwdb_inspect.specs.Internal.Pairing.{to_tell}
 use Rattle.hwdb_inspect.proofs.MergeLemmas.{merged_trees}

@@ -1,10 +1,9 @@
-use Rattle.std.proofs.Common.{◌≡◌, ◌∙◌, ap, sym, ◌++◌, ◌+◌, ◌<◌, ◌^◌, [], map, reverse, length, arith, subst, append-nil, List, ℕ}
+use Rattle.std.proofs.Common.{◌≡◌, ◌∙◌, ap, sym, ◌++◌, [], map, reverse, length, arith, subst, append-nil, List, ℕ}
 use Rattle.hwdb_spec.specs.Tree.{members_under, prefix_of, values_of}
-use Rattle.hwdb_reader.specs.Views.{node_count, children_of, tree_of}
+use Rattle.hwdb_reader.specs.Views.{children_of, tree_of}
 use Rattle.hwdb_inspect.specs.Views.{assignment_of}
 use Rattle.hwdb_inspect.specs.Internal.Parts.{own_members, members_in}
-use Rattle.hwdb_inspect.specs.Internal.Walks.{to_come, StandsOn, left, Opened}
-use Rattle.hwdb_inspect.specs.declared.walk.Open.{Open}
+use Rattle.hwdb_inspect.specs.Internal.Walks.{to_come, Opened}
 use Rattle.hwdb_inspect.proofs.PartLemmas.{members_split, node_and_below}
 use Rattle.hwdb_inspect.proofs.WalkLemmas.{opened_comes, opened_stands, opened_left}
 use Rattle.hwdb_inspect.proofs.walk.assignments.Goals as goal

@@ -1,9 +1,9 @@
-use Rattle.std.proofs.Common.{◌≡◌, ◌∙◌, ap, sym, subst, ◌++◌, ◌∷◌, ◌+◌, [], ℕ, List, map, reverse, take, length, arith, append_assoc}
+use Rattle.std.proofs.Common.{◌≡◌, ◌∙◌, ap, sym, subst, ◌++◌, ◌∷◌, [], ℕ, map, reverse, take, length, arith, append_assoc}
 use Rattle.hwdb_spec.specs.Tree.{Tree, prefix_of, values_of}
 use Rattle.hwdb_reader.specs.Views.{tree_of, children_of, entered_tree}
 use Rattle.hwdb_inspect.specs.Views.{assignment_of}
 use Rattle.hwdb_inspect.specs.Internal.Parts.{own_members}
-use Rattle.hwdb_inspect.specs.Internal.Walks.{to_come, left, Opened}
+use Rattle.hwdb_inspect.specs.Internal.Walks.{to_come, Opened}
 use Rattle.hwdb_inspect.proofs.PartLemmas.{kid_within}
 use Rattle.hwdb_inspect.proofs.WalkLemmas.{gone_on, some_left, child_comes, child_counted, child_steps, child_stands}
 use Rattle.hwdb_inspect.proofs.walk.Walk.go_on.Goals as goal
