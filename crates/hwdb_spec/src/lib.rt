@@ -17,6 +17,7 @@
 //! | `Written` | the tight tree of a map, and its bytes |
 //! | `Texts` | each line that is printed |
 //! | `Explanations` | for each key the answer that counts and those that it overrides, and their lines |
+//! | `Differences` | what came, went and changed between two databases, and its lines |
 //! | `Json` | each line of JSON that is printed, and what is read of one |
 //! | `Failures` | how failed calls are counted |
 //! | `Store` | a store of files, what a crash may leave, and a database that is replaced |

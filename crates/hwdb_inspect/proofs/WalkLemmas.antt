@@ -1,0 +1,125 @@
+-- The stack of a walk, and what its steps do to it.
+use Rattle.std.proofs.Common.{◌≡◌, ◌∙◌, ap, sym, subst, ℕ, suc, ◌+◌, ◌≤◌, ◌<◌, List, [], ◌∷◌, ◌++◌, take, drop, reverse, length, arith, append_assoc, add-one, Some, slice_get}
+use Rattle.std.proofs.lemmas.List.{reverse-append, take-append-le, length-take-le, length-append}
+use Rattle.std.proofs.Math.Seq.{take-length}
+use Rattle.hwdb_spec.specs.Tree.{Tree, prefix_of, values_of, members_under}
+use Rattle.hwdb_reader.specs.Views.{children_of, entered_tree, node_count}
+use Rattle.hwdb_inspect.specs.Internal.Parts.{members_in, own_members}
+use Rattle.hwdb_inspect.specs.Internal.Walks.{kids_of, nodes_in, to_come, StandsOn, left, steps, Opened}
+use Rattle.hwdb_inspect.specs.declared.walk.Open.{Open}
+use Rattle.hwdb_inspect.proofs.PartLemmas.{members_split, kid_next, kid_behind, node_and_below}
+
+-- the last member is the top
+pub on_top : {A : Type 0} (before : List A) (top : A) → reverse (before ++ top ∷ []) ≡ top ∷ reverse before
+on_top before top = reverse-append before (top ∷ [])
+
+take_front : (n : ℕ) (xs ys : List ℕ) → length xs ≡ n → take n (xs ++ ys) ≡ xs
+take_front n xs ys h = take-append-le n xs ys (omega (arith, h)) ∙ ap (λ k. take k xs) (sym h) ∙ take-length xs
+
+-- the children of a node that was put on top
+opened_kids : (before now : List Open) (t : Tree) (size : ℕ) (o : Opened before now t size) → kids_of o.top ≡ children_of t
+opened_kids before now t size o = ap (λ n. drop n (children_of (entered_tree o.top.inside))) o.none_done ∙ ap children_of o.tree
+
+opened_top : (before now : List Open) (t : Tree) (size : ℕ) (o : Opened before now t size) → reverse now ≡ o.top ∷ reverse before
+opened_top before now t size o = ap reverse o.stands ∙ on_top before o.top
+
+pub opened_comes : (before now : List Open) (t : Tree) (path : List ℕ) → Opened before now t (length path) → to_come path (reverse now) ≡ members_in path (children_of t) ++ to_come path (reverse before)
+opened_comes before now t path o =
+    ap (to_come path) (opened_top before now t (length path) o)
+    ∙ ap (λ n. members_in (take n path) (kids_of o.top) ++ to_come (take n path) (reverse before)) o.reach
+    ∙ ap (λ p. members_in p (kids_of o.top) ++ to_come p (reverse before)) (take-length path)
+    ∙ ap (λ ks. members_in path ks ++ to_come path (reverse before)) (opened_kids before now t (length path) o)
+
+pub opened_stands : (before now : List Open) (t : Tree) (path : List ℕ) → Opened before now t (length path) → StandsOn path (reverse before) → StandsOn path (reverse now)
+opened_stands before now t path o stands =
+    let reach = o.reach in
+    let done = o.none_done in
+    let same : path ≡ take o.top.length path = sym (ap (λ n. take n path) o.reach ∙ take-length path) in
+    subst (StandsOn path) (sym (opened_top before now t (length path) o)) (omega (arith, reach), omega (arith, done), subst (λ p. StandsOn p (reverse before)) same stands)
+
+pub opened_left : (before now : List Open) (t : Tree) (size : ℕ) → Opened before now t size → left (reverse now) ≡ nodes_in (children_of t) + left (reverse before)
+opened_left before now t size o = ap left (opened_top before now t size o) ∙ ap (λ ks. nodes_in ks + left (reverse before)) (opened_kids before now t size o)
+
+pub opened_steps : (before now : List Open) (t : Tree) (size : ℕ) → Opened before now t size → steps (reverse now) ≡ suc (nodes_in (children_of t) + nodes_in (children_of t)) + steps (reverse before)
+opened_steps before now t size o = ap steps (opened_top before now t size o) ∙ ap (λ ks. suc (nodes_in ks + nodes_in ks) + steps (reverse before)) (opened_kids before now t size o)
+
+-- ---- a node whose children are done
+
+pub done_comes : (path : List ℕ) (top : Open) (below : List Open) → length (children_of (entered_tree top.inside)) ≤ top.done → to_come path (top ∷ below) ≡ to_come (take top.length path) below
+done_comes path top below h =
+    ap (λ ks. members_in (take top.length path) ks ++ to_come (take top.length path) below) (kid_behind (children_of (entered_tree top.inside)) top.done h)
+
+pub done_left : (top : Open) (below : List Open) → length (children_of (entered_tree top.inside)) ≤ top.done → left (top ∷ below) ≡ left below
+done_left top below h = let none : nodes_in (kids_of top) ≡ 0 = ap nodes_in (kid_behind (children_of (entered_tree top.inside)) top.done h) in omega (arith, none)
+
+pub done_steps : (top : Open) (below : List Open) → steps below < steps (top ∷ below)
+done_steps top below = omega arith
+
+-- ---- a node with a child that isn't done
+
+-- the node, with one more child done
+abbrev pub gone_on : Open → Open
+gone_on top = record { inside = top.inside; done = top.done + 1; length = top.length }
+
+kids_next : (top : Open) (k : ℕ × Tree) → slice_get (children_of (entered_tree top.inside)) top.done ≡ Some k → kids_of top ≡ k ∷ kids_of (gone_on top)
+kids_next top k at = rw (add-one top.done) (kid_next (children_of (entered_tree top.inside)) top.done k at)
+
+pub some_left : (top : Open) (below : List Open) (k : ℕ × Tree) → slice_get (children_of (entered_tree top.inside)) top.done ≡ Some k → 0 < left (top ∷ below)
+some_left top below k at =
+    let next : nodes_in (kids_of top) ≡ node_count k.1 + nodes_in (kids_of (gone_on top)) = ap nodes_in (kids_next top k at) in
+    let nodes = node_and_below k.1 in
+    omega (arith, next, nodes)
+
+module _ (path long : List ℕ) (top : Open) (before now : List Open) (k : ℕ × Tree)
+    (at : slice_get (children_of (entered_tree top.inside)) top.done ≡ Some k) (within : top.length ≤ length path)
+    (whole : long ≡ (take top.length path ++ k.0 ∷ []) ++ prefix_of k.1) (o : Opened (before ++ gone_on top ∷ []) now k.1 (length long)) where
+  cut : take top.length long ≡ take top.length path
+  cut = ap (take top.length) (whole ∙ append_assoc (take top.length path) (k.0 ∷ []) (prefix_of k.1))
+      ∙ take_front top.length (take top.length path) (k.0 ∷ prefix_of k.1) (length-take-le top.length path within)
+
+  pub child_comes : own_members long (values_of k.1) ++ to_come long (reverse now) ≡ to_come path (top ∷ reverse before)
+  child_comes =
+      let base = take top.length path in
+      let rest = members_in base (kids_of (gone_on top)) in
+      let deep = to_come base (reverse before) in
+      let behind : to_come long (reverse (before ++ gone_on top ∷ [])) ≡ rest ++ deep =
+      ap (to_come long) (on_top before (gone_on top)) ∙ ap (λ p. members_in p (kids_of (gone_on top)) ++ to_come p (reverse before)) cut in
+      let here : own_members long (values_of k.1) ++ members_in long (children_of k.1) ≡ members_under (base ++ k.0 ∷ []) k.1 =
+      ap (λ p. own_members p (values_of k.1) ++ members_in p (children_of k.1)) whole ∙ sym (members_split (base ++ k.0 ∷ []) k.1) in
+      ap (λ r. own_members long (values_of k.1) ++ r) (opened_comes (before ++ gone_on top ∷ []) now k.1 long o)
+      ∙ sym (append_assoc (own_members long (values_of k.1)) (members_in long (children_of k.1)) (to_come long (reverse (before ++ gone_on top ∷ []))))
+      ∙ ap (λ r. r ++ to_come long (reverse (before ++ gone_on top ∷ []))) here
+      ∙ ap (λ r. members_under (base ++ k.0 ∷ []) k.1 ++ r) behind
+      ∙ sym (append_assoc (members_under (base ++ k.0 ∷ []) k.1) rest deep)
+      ∙ ap (λ ks. members_in base ks ++ deep) (sym (kids_next top k at))
+
+  pub child_left : node_count k.1 + left (reverse (before ++ gone_on top ∷ [])) ≡ left (top ∷ reverse before)
+  child_left =
+      let on : left (reverse (before ++ gone_on top ∷ [])) ≡ nodes_in (kids_of (gone_on top)) + left (reverse before) = ap left (on_top before (gone_on top)) in
+      let next : nodes_in (kids_of top) ≡ node_count k.1 + nodes_in (kids_of (gone_on top)) = ap nodes_in (kids_next top k at) in
+      omega (arith, on, next)
+
+  pub child_counted : suc (left (reverse now)) ≡ left (top ∷ reverse before)
+  child_counted =
+      let opened = opened_left (before ++ gone_on top ∷ []) now k.1 (length long) o in
+      let nodes = node_and_below k.1 in
+      let all = child_left in
+      omega (arith, opened, nodes, all)
+
+  pub child_steps : steps (reverse now) < steps (top ∷ reverse before)
+  child_steps =
+      let opened = opened_steps (before ++ gone_on top ∷ []) now k.1 (length long) o in
+      let nodes = node_and_below k.1 in
+      let on : steps (reverse (before ++ gone_on top ∷ [])) ≡ suc (nodes_in (kids_of (gone_on top)) + nodes_in (kids_of (gone_on top))) + steps (reverse before) = ap steps (on_top before (gone_on top)) in
+      let next : nodes_in (kids_of top) ≡ node_count k.1 + nodes_in (kids_of (gone_on top)) = ap nodes_in (kids_next top k at) in
+      omega (arith, opened, nodes, on, next)
+
+  pub child_stands : top.done < length (children_of (entered_tree top.inside)) → StandsOn path (top ∷ reverse before) → StandsOn long (reverse now)
+  child_stands more stands =
+      let base = take top.length path in
+      let rest : StandsOn (take top.length long) (reverse before) = subst (λ p. StandsOn p (reverse before)) (sym cut) stands.2 in
+      let size : length base ≡ top.length = length-take-le top.length path within in
+      let parts : length long ≡ length (base ++ k.0 ∷ []) + length (prefix_of k.1) = ap length whole ∙ length-append (base ++ k.0 ∷ []) (prefix_of k.1) in
+      let front : length (base ++ k.0 ∷ []) ≡ length base + 1 = length-append base (k.0 ∷ []) in
+      opened_stands (before ++ gone_on top ∷ []) now k.1 long o
+      (subst (StandsOn long) (sym (on_top before (gone_on top))) (omega (arith, size, parts, front), omega (arith, more), rest))

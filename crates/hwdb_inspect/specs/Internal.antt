@@ -1,0 +1,5 @@
+-- What the proofs of this crate speak of.
+pub mod Parts
+pub mod Walks
+pub mod Merging
+pub mod Pairing

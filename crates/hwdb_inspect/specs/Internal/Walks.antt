@@ -1,0 +1,45 @@
+-- The stack of a walk: what is still to come, and how many nodes are left. The list begins with the top.
+use Rattle.std.specs.Prelude.{List, ℕ, [], ◌∷◌, ◌++◌, ◌+◌, ◌≤◌, ◌≡◌, suc, take, drop, length}
+use Rattle.hwdb_spec.specs.Assignment.{Assignment}
+use Rattle.hwdb_spec.specs.Tree.{Tree}
+use Rattle.hwdb_reader.specs.Views.{node_count, children_of, entered_tree}
+use Rattle.hwdb_inspect.specs.Internal.Parts.{members_in}
+use Rattle.hwdb_inspect.specs.declared.walk.Open.{Open}
+
+-- the children of a node that aren't done
+abbrev pub kids_of : Open → List (ℕ × Tree)
+kids_of o = drop o.done (children_of (entered_tree o.inside))
+
+-- how many nodes the trees of children have
+abbrev pub nodes_in : List (ℕ × Tree) → ℕ
+nodes_in [] = 0
+nodes_in (k ∷ kids) = node_count k.1 + nodes_in kids
+
+-- what the children assign that aren't done, where the last node's path is this one
+abbrev pub to_come : List ℕ → List Open → List Assignment
+to_come path [] = []
+to_come path (o ∷ below) = members_in (take o.length path) (kids_of o) ++ to_come (take o.length path) below
+
+-- each node's path begins with the path of the one below it in the stack
+abbrev pub StandsOn : List ℕ → List Open → Type 0
+StandsOn path [] = Unit {0}
+StandsOn path (o ∷ below) =
+    (o.length ≤ length path) × (o.done ≤ length (children_of (entered_tree o.inside))) × StandsOn (take o.length path) below
+
+-- how many nodes weren't entered
+abbrev pub left : List Open → ℕ
+left [] = 0
+left (o ∷ below) = nodes_in (kids_of o) + left below
+
+-- how many steps the walk takes at most
+abbrev pub steps : List Open → ℕ
+steps [] = 0
+steps (o ∷ below) = suc (nodes_in (kids_of o) + nodes_in (kids_of o)) + steps below
+
+-- one node was put on top, with none of its children done
+pub record Opened (before now : List Open) (t : Tree) (size : ℕ) : Type 0 where
+  pub top : Open
+  pub stands : now ≡ before ++ top ∷ []
+  pub tree : entered_tree top.inside ≡ t
+  pub none_done : top.done ≡ 0
+  pub reach : top.length ≡ size

@@ -1,0 +1,4 @@
+pub mod Views
+pub mod Diffs
+pub mod Laws
+pub mod Internal

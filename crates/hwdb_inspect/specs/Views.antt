@@ -1,0 +1,21 @@
+-- What the types of this crate mean.
+use Rattle.std.specs.Prelude.{List, [], ◌∷◌}
+use Rattle.hwdb_spec.specs.Assignment.{Assignment}
+use Rattle.hwdb_spec.specs.Differences.{Change, change_between}
+use Rattle.hwdb_spec.specs.Differences.Change.{Came, Went}
+use Rattle.hwdb_inspect.specs.declared.assigned.Assigned.{Assigned}
+use Rattle.hwdb_inspect.specs.declared.pairs.Pair.{Pair}
+use Rattle.hwdb_inspect.specs.declared.pairs.Pair.TheVariants.{Old, New, Both}
+
+abbrev pub assignment_of : Assigned → Assignment
+assignment_of a = record {
+  position = record { priority = a.priority; line = a.line; pattern = a.pattern.value.items; key = a.key.now };
+  value = a.value.now;
+  path = a.path.now;
+}
+
+-- what happened at a pattern and key
+abbrev pub changes_of : Pair → List Change
+changes_of (Old old) = Went (assignment_of old.now) ∷ []
+changes_of (New new) = Came (assignment_of new.now) ∷ []
+changes_of (Both old new) = change_between (assignment_of old.now) (assignment_of new.now)

@@ -1,0 +1,28 @@
+//! A database as a whole: all that it assigns, and what changed from one database to another.
+//!
+//! | Module | What it does |
+//! |---|---|
+//! | `assigned` | an assignment of a database |
+//! | `pairs` | two ascending lists of assignments, gone through side by side |
+//! | `lines` | the lines of changes |
+//! | `difference` | `diff`: what changed from one database to another |
+//! | `errors` | why two databases weren't compared |
+//! | `walk` | all assignments of a database, by pattern and key |
+//! | `laws` | laws of the map of a database |
+#![tactic(auto)]
+
+mod assigned;
+mod difference;
+mod errors;
+mod laws;
+mod lines;
+mod pairs;
+#[cfg(test)]
+mod tests;
+mod walk;
+
+pub use assigned::Assigned;
+pub use difference::run_diff;
+pub use errors::DiffError;
+pub use laws::members_are_the_map;
+pub use walk::assignments;

@@ -1,0 +1,116 @@
+//! Two ascending lists of assignments, gone through side by side.
+ghost use Rattle.std.specs.Prelude.{◌≡◌, ◌<◌, ◌+◌, ◌++◌, ◌∷◌, [], map, drop, length, IfSome, IfNone, OnSome};
+ghost use Rattle.hwdb_inspect.specs.Views.{assignment_of, changes_of};
+ghost use Rattle.hwdb_inspect.specs.Internal.Merging.{by_place, merged};
+ghost use Rattle.hwdb_inspect.specs.Internal.Pairing.{to_tell, size};
+
+use crate::assigned::Assigned;
+use std::cmp::Ordering;
+
+/// What two databases have at a pattern and key.
+#[derive(Clone, Copy)]
+pub(crate) enum Pair<'r, 'a> {
+    /// The old one alone.
+    Old(&'r Assigned<'a>),
+    /// The new one alone.
+    New(&'r Assigned<'a>),
+    /// Both.
+    Both(&'r Assigned<'a>, &'r Assigned<'a>),
+}
+
+/// What is left of the assignments of two databases.
+#[derive(Clone, Copy)]
+pub(crate) struct Pairs<'r, 'a> {
+    before: &'r [Assigned<'a>],
+    after: &'r [Assigned<'a>],
+    /// How many of the old ones were taken.
+    old_taken: usize,
+    /// How many of the new ones were taken.
+    new_taken: usize,
+}
+
+/// Compares by pattern and then by key.
+fn by_place(x: &Assigned<'_>, y: &Assigned<'_>) -> Ordering
+    ensures { result ≡ by_place (assignment_of x.now) (assignment_of y.now) }
+{
+    match x.pattern.as_slice().cmp(y.pattern.as_slice()) {
+        Ordering::Equal => x.key.cmp(y.key),
+        other => other,
+    }
+}
+
+/// The member number `i`, if there is one.
+fn at<'r, 'a>(list: &'r [Assigned<'a>], i: usize) -> Option<&'r Assigned<'a>>
+    ensures some { IfSome result (λ x. drop i list.now ≡ x.now ∷ drop (i + 1) list.now) }
+    ensures within { OnSome result (i < length list.now) }
+    ensures none { IfNone result (drop i list.now ≡ []) }
+{
+    if i < list.len() { Some(&list[i]) } else { None }
+}
+
+impl<'r, 'a> Pairs<'r, 'a> {
+    /// Two lists, of which nothing was taken.
+    pub(crate) fn new(before: &'r [Assigned<'a>], after: &'r [Assigned<'a>]) -> Pairs<'r, 'a>
+        ensures { to_tell result
+            ≡ merged (map assignment_of before.entry.now) (map assignment_of after.entry.now) }
+    {
+        Pairs {
+            before,
+            after,
+            old_taken: 0,
+            new_taken: 0,
+        }
+    }
+
+    /// Takes the pair of the least pattern and key that are left.
+    pub(crate) fn next(&mut self) -> Option<Pair<'r, 'a>>
+        ensures some { IfSome result
+            (λ pair. to_tell self.old ≡ changes_of pair ++ to_tell self.new) }
+        ensures none { IfNone result (to_tell self.old ≡ []) }
+        ensures fewer { OnSome result (size self.new < size self.old) }
+    {
+        match (
+            at(self.before, self.old_taken),
+            at(self.after, self.new_taken),
+        ) {
+            (None, None) => None,
+            (Some(old), None) => {
+                self.old_taken += 1;
+                Some(Pair::Old(old))
+            }
+            (None, Some(new)) => {
+                self.new_taken += 1;
+                Some(Pair::New(new))
+            }
+            (Some(old), Some(new)) => Some(self.take_least(old, new)),
+        }
+    }
+
+    /// Takes the lesser of the first that are left of both, or both where they have one pattern and key.
+    fn take_least(&mut self, old: &'r Assigned<'a>, new: &'r Assigned<'a>) -> Pair<'r, 'a>
+        requires old { drop self.old.old_taken self.old.before.now
+            ≡ old.now ∷ drop (self.old.old_taken + 1) self.old.before.now }
+        requires new { drop self.old.new_taken self.old.after.now
+            ≡ new.now ∷ drop (self.old.new_taken + 1) self.old.after.now }
+        requires old_within { self.old.old_taken < length self.old.before.now }
+        requires new_within { self.old.new_taken < length self.old.after.now }
+        ensures told { to_tell self.old ≡ changes_of result ++ to_tell self.new }
+        ensures fewer { size self.new < size self.old }
+    {
+        match by_place(old, new) {
+            Ordering::Less => {
+                self.old_taken += 1;
+                Pair::Old(old)
+            }
+            Ordering::Equal => {
+                self.old_taken += 1;
+                self.new_taken += 1;
+                Pair::Both(old, new)
+            }
+            Ordering::Greater => {
+                self.new_taken += 1;
+                Pair::New(new)
+            }
+        }
+    }
+}

@@ -1,0 +1,125 @@
+//! The walk over all nodes of a database, each before its children.
+//!
+//! The nodes whose children aren't all done stand on a stack of its own, so that a deep tree takes no more of the thread's
+//! stack than a flat one.
+ghost use Rattle.std.specs.Prelude.{◌≡◌, ◌<◌, ◌≤◌, ◌+◌, ◌++◌, ◌∷◌, ◌^◌, [], map, reverse, length, IfOk, OnOk};
+ghost use Rattle.hwdb_spec.specs.Tree.{members_under, prefix_of, values_of};
+ghost use Rattle.hwdb_reader.specs.Views.{node_count, children_of, tree_of, entered_tree};
+ghost use Rattle.hwdb_inspect.specs.Views.{assignment_of};
+ghost use Rattle.hwdb_inspect.specs.Internal.Parts.{own_members};
+ghost use Rattle.hwdb_inspect.specs.Internal.Walks.{to_come, StandsOn, left, steps, Opened};
+
+use crate::assigned::{Assigned, collect};
+use hwdb_reader::{Db, Entered, Inside, Node};
+use std::alloc::{AllocError, Global};
+
+/// A node that was entered, of whose children some are done.
+#[derive(Clone, Copy)]
+struct Open<'a> {
+    inside: Inside<'a>,
+    /// How many of its children were entered.
+    done: usize,
+    /// How many bytes its path has.
+    length: usize,
+}
+
+/// How far a walk has come.
+#[derive(Drop)]
+struct Walk<'a> {
+    /// The path of the node that was entered last.
+    path: Vec<u8>,
+    /// The nodes that aren't done, each below the one before it.
+    stack: Vec<Open<'a>>,
+    found: Vec<Assigned<'a>>,
+    entered: Entered,
+}
+
+impl<'a> Walk<'a> {
+    fn new(alloc: Global) -> Walk<'a>
+        ensures path { result.path.items ≡ [] }
+        ensures stack { result.stack.items ≡ [] }
+        ensures found { result.found.items ≡ [] }
+        ensures entered { result.entered ≡ 0 }
+    {
+        Walk {
+            path: Vec::new(alloc),
+            stack: Vec::new(alloc),
+            found: Vec::new(alloc),
+            entered: Entered::new(),
+        }
+    }
+
+    /// Enters a node, whose path without its prefix is the walk's, and takes what its values assign.
+    fn enter(&mut self, alloc: Global, node: Node<'a>) -> Result<(), AllocError>
+        requires { self.old.entered + 1 < 2 ^ 64 }
+        ensures path { OnOk result
+            (self.new.path.items ≡ self.old.path.items ++ prefix_of (tree_of node.entry)) }
+        ensures found { OnOk result (map assignment_of self.new.found.items
+            ≡ map assignment_of self.old.found.items
+            ++ own_members (self.old.path.items ++ prefix_of (tree_of node.entry))
+            (values_of (tree_of node.entry))) }
+        ensures stack { OnOk result
+            (Opened self.old.stack.items self.new.stack.items (tree_of node.entry)
+            (length self.new.path.items)) }
+        ensures counted { OnOk result (self.new.entered ≡ self.old.entered + 1) }
+    {
+        self.path.extend_from_slice(node.prefix())?;
+        let inside = node.enter(&mut self.entered);
+        collect(alloc, inside, &self.path, &mut self.found)?;
+        let length = self.path.len();
+        self.stack.push(Open {
+            inside,
+            done: 0,
+            length,
+        })?;
+        Ok(())
+    }
+
+    /// Goes on from a node that was on top of the stack: enters its next child, if there is one.
+    fn go_on(&mut self, alloc: Global, top: Open<'a>) -> Result<(), AllocError>
+        requires stands { StandsOn self.old.path.items (top ∷ reverse self.old.stack.items) }
+        requires room { self.old.entered + left (top ∷ reverse self.old.stack.items) < 2 ^ 64 }
+        ensures found { OnOk result (map assignment_of self.new.found.items
+            ++ to_come self.new.path.items (reverse self.new.stack.items)
+            ≡ map assignment_of self.old.found.items
+            ++ to_come self.old.path.items (top.entry ∷ reverse self.old.stack.items)) }
+        ensures stands { OnOk result
+            (StandsOn self.new.path.items (reverse self.new.stack.items)) }
+        ensures counted { OnOk result
+            (self.new.entered + left (reverse self.new.stack.items)
+            ≡ self.old.entered + left (top.entry ∷ reverse self.old.stack.items)) }
+        ensures fewer { OnOk result
+            (steps (reverse self.new.stack.items)
+            < steps (top.entry ∷ reverse self.old.stack.items)) }
+    {
+        self.path.truncate(top.length);
+        if top.done == top.inside.children() {
+            return Ok(());
+        }
+        let child = top.inside.child(top.done);
+        self.path.push(child.byte)?;
+        self.stack.push(Open {
+            done: top.done + 1,
+            ..top
+        })?;
+        self.enter(alloc, child.node)?;
+        Ok(())
+    }
+}
+
+/// All that the database assigns, by pattern and then by key. Keys, values and paths are parts of the database's bytes.
+/// The time grows with the number of nodes and with the bytes of the patterns; no call goes deeper than another.
+///
+/// The only error is that memory is refused.
+pub fn assignments<'a>(alloc: Global, db: &Db<'a>) -> Result<Vec<Assigned<'a>>, AllocError>
+    ensures list { IfOk result (λ list. map assignment_of list.items ≡ members_under [] db.now) }
+{
+    let root = db.root();
+    root.law_tree();
+    let mut walk = Walk::new(alloc);
+    walk.enter(alloc, root)?;
+    while let Some(top) = walk.stack.pop() {
+        walk.go_on(alloc, top)?;
+    }
+    Ok(walk.found)
+}
