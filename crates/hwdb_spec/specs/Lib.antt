@@ -10,6 +10,7 @@ pub mod Format
 pub mod Written
 pub mod Texts
 pub mod Explanations
+pub mod Reports
 pub mod Json
 pub mod Failures
 pub mod Store

@@ -17,6 +17,7 @@
 //! | `Written` | the tight tree of a map, and its bytes |
 //! | `Texts` | each line that is printed |
 //! | `Explanations` | for each key the answer that counts and those that it overrides, and their lines |
+//! | `Reports` | the reports of a file's faults, and how much was found |
 //! | `Json` | each line of JSON that is printed, and what is read of one |
 //! | `Failures` | how failed calls are counted |
 //! | `Store` | a store of files, what a crash may leave, and a database that is replaced |
@@ -92,6 +93,19 @@ pub struct Fault {
     pub line: u32,
     /// What is wrong there.
     pub kind: FaultKind,
+}
+
+/// How many files were checked, and how much was found in them.
+#[derive(Clone, Copy, Debug, PartialEq, Eq)]
+pub struct Tally {
+    /// How many files were read.
+    pub files: u64,
+    /// What their properties give their patterns.
+    pub assignments: u64,
+    /// How many faults they have.
+    pub faults: u64,
+    /// How many warnings they get.
+    pub warnings: u64,
 }
 
 /// How large the records are, and where the parts of a database stand.
