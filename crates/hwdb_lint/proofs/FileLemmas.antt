@@ -4,7 +4,7 @@ use Rattle.std.specs.Prelude.{Any}
 use Rattle.std.proofs.lemmas.List.{append-nil}
 use Rattle.std.specs.Result.{IsErrAnd}
 use Rattle.hwdb_spec.specs.Folders.{Source}
-use Rattle.hwdb_spec.specs.Reports.{empty_tally, reports_text, tally_from, tally_of, tally_of_both}
+use Rattle.hwdb_spec.specs.Checks.{empty_tally, file_text, tally_from, tally_of, tally_of_both}
 use Rattle.hwdb_spec.specs.declared.Tally.{Tally}
 use Rattle.hwdb_commands.specs.declared.errors.ToolError.{ToolError}
 use Rattle.hwdb_commands.specs.declared.errors.ToolError.TheVariants.{Memory, TooManyLines, Write}
@@ -15,12 +15,12 @@ abbrev first_files : ℕ → List TextFile → List Source
 first_files i fs = map source_of (take i fs)
 
 one_more_text : (fs : List TextFile) (i : ℕ) (d : TextFile) → i < length fs
-    → files_text (first_files (suc i) fs) ≡ files_text (first_files i fs) ++ reports_text (get_or fs i d).path.now (get_or fs i d).bytes.now
+    → files_text (first_files (suc i) fs) ≡ files_text (first_files i fs) ++ file_text (get_or fs i d).path.now (get_or fs i d).bytes.now
 one_more_text [] i d h = absurd (omega arith)
-one_more_text (x ∷ xs) zero d h = append-nil (reports_text x.path.now x.bytes.now)
+one_more_text (x ∷ xs) zero d h = append-nil (file_text x.path.now x.bytes.now)
 one_more_text (x ∷ xs) (suc i) d h =
-    ap (λ l. reports_text x.path.now x.bytes.now ++ l) (one_more_text xs i d (omega arith))
-    ∙ sym (append_assoc (reports_text x.path.now x.bytes.now) (files_text (first_files i xs)) (reports_text (get_or xs i d).path.now (get_or xs i d).bytes.now))
+    ap (λ l. file_text x.path.now x.bytes.now ++ l) (one_more_text xs i d (omega arith))
+    ∙ sym (append_assoc (file_text x.path.now x.bytes.now) (files_text (first_files i xs)) (file_text (get_or xs i d).path.now (get_or xs i d).bytes.now))
 
 one_more_tally : (t : Tally) (fs : List TextFile) (i : ℕ) (d : TextFile) → i < length fs
     → tally_from t (first_files (suc i) fs) ≡ tally_of_both (tally_from t (first_files i fs)) (tally_of (get_or fs i d).bytes.now)
@@ -30,12 +30,12 @@ one_more_tally t (x ∷ xs) (suc i) d h = one_more_tally (tally_of_both t (tally
 
 -- the reports of one file more
 pub reports_step : (fs : List TextFile) (i : ℕ) (d : TextFile) (path found read before after : List ℕ) → i < length fs
-    → path ≡ (get_or fs i d).path.now → found ≡ reports_text path (get_or fs i d).bytes.now → read ≡ found → after ≡ before ++ read
+    → path ≡ (get_or fs i d).path.now → found ≡ file_text path (get_or fs i d).bytes.now → read ≡ found → after ≡ before ++ read
     → before ≡ files_text (map source_of (take i fs)) → after ≡ files_text (map source_of (take (i + 1) fs))
 reports_step fs i d path found read before after h named is same grown so_far =
     grown
-    ∙ ap (λ l. before ++ l) (same ∙ is ∙ ap (λ p. reports_text p (get_or fs i d).bytes.now) named)
-    ∙ ap (λ l. l ++ reports_text (get_or fs i d).path.now (get_or fs i d).bytes.now) so_far
+    ∙ ap (λ l. before ++ l) (same ∙ is ∙ ap (λ p. file_text p (get_or fs i d).bytes.now) named)
+    ∙ ap (λ l. l ++ file_text (get_or fs i d).path.now (get_or fs i d).bytes.now) so_far
     ∙ sym (one_more_text fs i d h)
     ∙ ap (λ n. files_text (map source_of (take n fs))) (let e : suc i ≡ i + 1 = omega arith in e)
 

@@ -2,7 +2,7 @@
 use Rattle.std.specs.Prelude.{ℕ, List, ◌<◌, Any, flat_map, length}
 use Rattle.hwdb_spec.specs.Lines.{lines}
 use Rattle.hwdb_spec.specs.Folders.{Source, max_lines}
-use Rattle.hwdb_spec.specs.Reports.{reports_text}
+use Rattle.hwdb_spec.specs.Checks.{file_text}
 use Rattle.hwdb_commands.specs.declared.errors.ToolError.{ToolError}
 use Rattle.hwdb_commands.specs.declared.errors.ToolError.TheVariants.{Memory, TooManyLines, Write}
 use Rattle.hwdb_lint.specs.declared.files.TextFile.{TextFile}
@@ -13,7 +13,7 @@ source_of f = record { name = f.path.now; bytes = f.bytes.now }
 
 -- the reports of some files, one after another
 abbrev pub files_text : List Source → List ℕ
-files_text files = flat_map (λ s. reports_text s.name s.bytes) files
+files_text files = flat_map (λ s. file_text s.name s.bytes) files
 
 -- what checking a file may refuse
 abbrev pub IsCheckRefusal : (bytes : List ℕ) → ToolError → Type 0

@@ -3,13 +3,15 @@ ghost use Rattle.std.specs.Prelude.{◌≡◌, ◌≢◌, ◌≤◌, flat_map, m
 ghost use Rattle.std.specs.Io.KnownBytes.{Appends};
 ghost use Rattle.hwdb_spec.specs.Failures.{HasFailed, OneFailed};
 ghost use Rattle.hwdb_spec.specs.Lines.{lines};
-ghost use Rattle.hwdb_spec.specs.Reports.{text_of_line, report, reports_text, tally_of, empty_tally, tally_from, check_text, check_status};
+ghost use Rattle.hwdb_spec.specs.Reports.{text_of_line, report, reports_text};
+ghost use Rattle.hwdb_spec.specs.Checks.{tally_of, empty_tally, tally_from, check_text, check_status, file_text};
 ghost use Rattle.hwdb_commands.specs.Devices.{AppendsPrefix};
 ghost use Rattle.hwdb_lint.specs.Checks.{source_of, files_text, IsCheckRefusal, IsChecksRefusal};
 
 use crate::line_texts::{find_line, first_start};
 use crate::reports::push_report;
 use crate::tallies::{empty_tally, status_of, tally_line, together};
+use crate::warnings::warnings_of;
 use hwdb_commands::{ToolError, write_text};
 use hwdb_devices::Sink;
 use hwdb_spec::{Fault, Tally};
@@ -58,18 +60,20 @@ fn reports_of(
 
 /// What is said of a file.
 fn look_over(alloc: Global, path: &[u8], bytes: &[u8]) -> Result<Checked, ToolError>
-    ensures reports { IfOk result (λ c. c.reports.items ≡ reports_text path.now bytes.now) }
+    ensures reports { IfOk result (λ c. c.reports.items ≡ file_text path.now bytes.now) }
     ensures found { IfOk result (λ c. c.tally ≡ tally_of bytes.now) }
     ensures refusals { IfErr result
         (λ e. (e ≢ ToolError.Write) × IsCheckRefusal bytes.now e) }
 {
     let scanned = scan(alloc, bytes)?;
-    let reports = reports_of(alloc, path, bytes, &scanned.faults)?;
+    let warned = warnings_of(alloc, path, bytes)?;
+    let mut reports = reports_of(alloc, path, bytes, &scanned.faults)?;
+    reports.extend_from_slice(&warned.text)?;
     let tally = Tally {
         files: 1,
         assignments: scanned.assignments.len() as u64,
         faults: scanned.faults.len() as u64,
-        warnings: 0,
+        warnings: warned.found.len() as u64,
     };
     Ok(Checked { reports, tally })
 }
@@ -84,7 +88,7 @@ pub fn check_file<O: Sink>(
     out: &mut O,
 ) -> Result<Tally, ToolError>
     ensures printed { IfOk result (λ _.
-        Appends (O.taken out.old) (O.taken out.new) (reports_text path.now bytes.now)) }
+        Appends (O.taken out.old) (O.taken out.new) (file_text path.now bytes.now)) }
     ensures found { IfOk result (λ tally. tally ≡ tally_of bytes.now) }
 
     ensures refusals { IfErr result (IsCheckRefusal bytes.now) }
@@ -94,7 +98,7 @@ pub fn check_file<O: Sink>(
     ensures last { IsErrOf result ToolError.Write
         → OneFailed (O.failures out.old) (O.failures out.new) }
     ensures cut_short { IsErrOf result ToolError.Write
-        → AppendsPrefix (O.taken out.old) (O.taken out.new) (reports_text path.now bytes.now) }
+        → AppendsPrefix (O.taken out.old) (O.taken out.new) (file_text path.now bytes.now) }
     ensures untouched { IfErr result (λ e. e ≢ ToolError.Write → out.new ≡ out.old) }
 {
     let checked = look_over(alloc, path.as_bytes(), bytes)?;

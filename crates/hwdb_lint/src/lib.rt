@@ -1,5 +1,5 @@
-//! What `check` says of text files: each fault with its line, the place in it and what to do about it, and how much was
-//! found. It writes no database.
+//! What `check` says of text files: each fault and each warning with its line, the place in it and what to do about it, and
+//! how much was found. It writes no database.
 //!
 //! | Module | What it does |
 //! |---|---|
@@ -7,6 +7,7 @@
 //! | `places` | where in its line a fault stands |
 //! | `reports` | the report of a fault |
 //! | `line_texts` | the text of a line, by its number |
+//! | `warnings` | the warnings of a file, and their reports |
 //! | `tallies` | how much was found: the last line, and the status |
 //! | `files` | text files that are checked, one after another |
 #![tactic(auto)]
@@ -19,5 +20,6 @@ mod shown;
 mod tallies;
 #[cfg(test)]
 mod tests;
+mod warnings;
 
 pub use files::{TextFile, check_file, check_files};

@@ -46,7 +46,7 @@ fn push_fault_line(text: &mut Vec<u8>, path: &[u8], fault: Fault) -> Result<(), 
 }
 
 /// Adds the line of what to do.
-fn push_hint_line(text: &mut Vec<u8>, hint: &str) -> Result<(), AllocError>
+pub fn push_hint_line(text: &mut Vec<u8>, hint: &str) -> Result<(), AllocError>
     ensures { OnOk result (text.new.items ≡ text.old.items ++ hint_line hint.now) }
 {
     text.extend_from_slice(b"    hint: ")?;

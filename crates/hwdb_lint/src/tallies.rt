@@ -1,6 +1,6 @@
 //! How much was found: the last line, and the status.
 ghost use Rattle.std.specs.Prelude.{◌≡◌, ◌≤◌, ◌++◌, codes, IfOk, OnOk};
-ghost use Rattle.hwdb_spec.specs.Reports.{both, tally_of_both, empty_tally, count_text, tally_line, check_status};
+ghost use Rattle.hwdb_spec.specs.Checks.{both, tally_of_both, empty_tally, count_text, tally_line, check_status};
 
 use hwdb_spec::Tally;
 use itoa::Buffer;

@@ -67,6 +67,51 @@ const ZERO: &str = "t.hwdb:1: byte 0 in the line, ignored
 1 file, 0 assignments, 1 fault, 0 warnings
 ";
 
+const MARKED: &str = "t.hwdb:1: warning: the pattern begins with a byte order mark
+    \\xef\\xbb\\xbfa
+    ^
+    hint: save the file without a byte order mark
+1 file, 1 assignment, 0 faults, 1 warning
+";
+
+const TABBED: &str = "t.hwdb:2: warning: a match line that begins with a tab
+    \\x09K=1
+    ^
+    hint: begin a property with a space
+1 file, 2 assignments, 0 faults, 1 warning
+";
+
+const RETURNED: &str = "t.hwdb:2: warning: a carriage return in the middle of the line
+     K=1\\x0dM=2\\x0d
+        ^
+    hint: end each line with a newline alone
+1 file, 1 assignment, 0 faults, 1 warning
+";
+
+#[test]
+fn warned_files(rt: HostRuntime) -> Result<(), Fail> {
+    checks(&rt, rt.alloc(), "\u{feff}a\n K=1\n", MARKED, 0)?;
+    checks(&rt, rt.alloc(), "a\n\tK=1\n L=1\n", TABBED, 0)?;
+    checks(&rt, rt.alloc(), "a\n K=1\rM=2\r\n", RETURNED, 0)?;
+    let plain = "1 file, 1 assignment, 0 faults, 0 warnings\n";
+    checks(&rt, rt.alloc(), "#\t\r.\n\t\na\r\n K=1\r\n", plain, 0)?;
+    Ok(())
+}
+
+/// A warning is a refusal with `strict` alone.
+#[test]
+fn strict(rt: HostRuntime) -> Result<(), Fail> {
+    let files = [TextFile {
+        path: "t.hwdb",
+        bytes: b"\ta\n K=1\n",
+    }];
+    let mut out: MemorySink<512> = MemorySink::new();
+    assert_eq!(rt; check_files(rt.alloc(), &files, true, &mut out)?, 1);
+    let mut again: MemorySink<512> = MemorySink::new();
+    assert_eq!(rt; check_files(rt.alloc(), &files, false, &mut again)?, 0);
+    Ok(())
+}
+
 #[test]
 fn one_file(rt: HostRuntime) -> Result<(), Fail> {
     let rows = [

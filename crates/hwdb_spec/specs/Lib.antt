@@ -11,6 +11,8 @@ pub mod Written
 pub mod Texts
 pub mod Explanations
 pub mod Reports
+pub mod Warnings
+pub mod Checks
 pub mod Json
 pub mod Failures
 pub mod Store

@@ -1,18 +1,15 @@
 -- What `check` prints of the faults of text files: for each where it stands, its line, the place in that line, and what to do
--- about it; and behind all files how much was found. Our choice.
+-- about it. Our choice.
 use Rattle.std.specs.Prelude.{Bool, true, false, ℕ, List, [], ◌∷◌, ◌++◌, ◌+◌, ◌-◌, ◌^◌, ◌==◌, if◌then◌else◌, codes, flat_map, length, map, nat_lt, take}
-use Rattle.std.specs.Fmt.{decimal}
 use Rattle.std.specs.List.{position_or_len, prefix_len}
 use Rattle.hex.specs.Hex.{encode_lower}
 use Rattle.hwdb_spec.specs.Lines.{Line, byte, is, is_indent, lines, max_pattern}
-use Rattle.hwdb_spec.specs.Records.{assignments, faults}
-use Rattle.hwdb_spec.specs.Folders.{Source}
+use Rattle.hwdb_spec.specs.Records.{faults}
 use Rattle.hwdb_spec.specs.Patterns.{in_span}
 use Rattle.hwdb_spec.specs.Texts.{fault_line}
 use Rattle.hwdb_spec.specs.declared.Fault.{Fault}
 use Rattle.hwdb_spec.specs.declared.FaultKind.{FaultKind}
 use Rattle.hwdb_spec.specs.declared.FaultKind.TheVariants.{EmptyKey, LongMatch, NoEquals, NoProperty, StrayMatch, StrayProperty, ZeroByte}
-use Rattle.hwdb_spec.specs.declared.Tally.{Tally}
 
 -- how many bytes of a line are shown
 abbrev pub max_shown : ℕ
@@ -78,55 +75,3 @@ text_of_line (l ∷ more) number = if l.number == number then l.text else text_o
 -- the reports of the faults of a file
 abbrev pub reports_text : (path file : List ℕ) → List ℕ
 reports_text path file = flat_map (λ f. report path (text_of_line (lines file) f.line) f) (faults file)
-
--- how many files were read, and how much was found in them: of one file
-abbrev pub tally_of : List ℕ → Tally
-tally_of file = record {
-  files = 1;
-  assignments = length (assignments (record { path = []; priority = 1 }) file);
-  faults = length (faults file);
-  warnings = 0;
-}
-
--- two counts together; a count stops at the greatest number of 64 bits
-abbrev pub both : ℕ → ℕ → ℕ
-both m n = if nat_lt (m + n) (2 ^ 64) then m + n else 2 ^ 64 - 1
-
--- what was found in some files, and in more
-abbrev pub tally_of_both : Tally → Tally → Tally
-tally_of_both s t = record {
-  files = both s.files t.files;
-  assignments = both s.assignments t.assignments;
-  faults = both s.faults t.faults;
-  warnings = both s.warnings t.warnings;
-}
-
--- what is found in no file
-abbrev pub empty_tally : Tally
-empty_tally = record { files = 0; assignments = 0; faults = 0; warnings = 0 }
-
--- what is found in some files, the later ones counted to the earlier ones
-abbrev pub tally_from : Tally → List Source → Tally
-tally_from so_far [] = so_far
-tally_from so_far (s ∷ more) = tally_from (tally_of_both so_far (tally_of s.bytes)) more
-
--- a count, and what is counted: `1 file`, `2 files`
-abbrev pub count_text : ℕ → (word : List ℕ) → List ℕ
-count_text n word = decimal n ++ byte " " ∷ (word ++ (if n == 1 then [] else codes "s"))
-
--- the last line
-abbrev pub tally_line : Tally → List ℕ
-tally_line t =
-    count_text t.files (codes "file") ++ codes ", "
-    ++ (count_text t.assignments (codes "assignment") ++ codes ", "
-    ++ (count_text t.faults (codes "fault") ++ codes ", "
-    ++ (count_text t.warnings (codes "warning") ++ codes "\n")))
-
--- what `check` prints of some files: the reports of each, and the last line; the name of each is the path that is printed
-abbrev pub check_text : List Source → List ℕ
-check_text files = flat_map (λ s. reports_text s.name s.bytes) files ++ tally_line (tally_from empty_tally files)
-
--- 1 where there is a fault, or `strict` and a warning, else 0
-abbrev pub check_status : (strict : Bool) → Tally → ℕ
-check_status true t = if t.faults == 0 then (if t.warnings == 0 then 0 else 1) else 1
-check_status false t = if t.faults == 0 then 0 else 1

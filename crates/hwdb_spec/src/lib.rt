@@ -17,7 +17,9 @@
 //! | `Written` | the tight tree of a map, and its bytes |
 //! | `Texts` | each line that is printed |
 //! | `Explanations` | for each key the answer that counts and those that it overrides, and their lines |
-//! | `Reports` | the reports of a file's faults, and how much was found |
+//! | `Reports` | the reports of a file's faults |
+//! | `Warnings` | the warnings of a file, and their reports |
+//! | `Checks` | what `check` prints, how much it finds, and its status |
 //! | `Json` | each line of JSON that is printed, and what is read of one |
 //! | `Failures` | how failed calls are counted |
 //! | `Store` | a store of files, what a crash may leave, and a database that is replaced |
@@ -93,6 +95,17 @@ pub struct Fault {
     pub line: u32,
     /// What is wrong there.
     pub kind: FaultKind,
+}
+
+/// What is unusual in a line that is read.
+#[derive(Clone, Copy, Debug, PartialEq, Eq)]
+pub enum WarningKind {
+    /// It begins with a UTF-8 byte order mark.
+    ByteOrderMark,
+    /// It begins with a tab, and so is a match line.
+    LeadingTab,
+    /// A carriage return stands in it, before its trailing blanks.
+    CarriageReturn,
 }
 
 /// How many files were checked, and how much was found in them.

@@ -1,5 +1,5 @@
 use Rattle.std.proofs.Common.{◌≡◌, map, take}
-use Rattle.hwdb_spec.specs.Reports.{empty_tally, tally_from}
+use Rattle.hwdb_spec.specs.Checks.{empty_tally, tally_from}
 use Rattle.hwdb_lint.specs.Checks.{files_text, source_of}
 use Rattle.hwdb_lint.proofs.files.look_over_all.Given as goal
 

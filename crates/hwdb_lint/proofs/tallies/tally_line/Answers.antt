@@ -1,5 +1,5 @@
 use Rattle.std.proofs.Common.{◌++◌, ◌∙◌, ap, append_assoc, codes}
-use Rattle.hwdb_spec.specs.Reports.{count_text}
+use Rattle.hwdb_spec.specs.Checks.{count_text}
 use Rattle.hwdb_lint.proofs.tallies.tally_line.Goals as goal
 
 pub returns : goal.returns
