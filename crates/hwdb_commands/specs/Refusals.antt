@@ -9,6 +9,8 @@ use Rattle.hwdb_query.specs.declared.errors.CursorError.{CursorError}
 use Rattle.hwdb_query.specs.declared.errors.CursorError.TheVariants as cursors
 use Rattle.hwdb_query.specs.declared.errors.PositionError.{PositionError}
 use Rattle.hwdb_query.specs.declared.errors.PositionError.TheVariants as positions
+use Rattle.hwdb_text.specs.declared.outcome.ScanError.{ScanError}
+use Rattle.hwdb_text.specs.declared.outcome.ScanError.TheVariants as scan
 use Rattle.hwdb_text.specs.declared.outcome.SelectError.{SelectError}
 use Rattle.hwdb_text.specs.declared.outcome.SelectError.TheVariants as select
 
@@ -16,6 +18,11 @@ use Rattle.hwdb_text.specs.declared.outcome.SelectError.TheVariants as select
 abbrev pub refusal_of_select : SelectError → ToolError
 refusal_of_select select.TooManyFiles = TooManyFiles
 refusal_of_select select.Memory = Memory
+
+-- a refusal of one file's reading
+abbrev pub refusal_of_scan : ScanError → ToolError
+refusal_of_scan scan.TooManyLines = TooManyLines
+refusal_of_scan scan.Memory = Memory
 
 -- a refusal of the compiler
 abbrev pub refusal_of_compile : CompileError → ToolError

@@ -1,13 +1,13 @@
 //! Why a call of this crate refuses.
 ghost use Rattle.std.specs.Prelude.{◌≡◌};
 ghost use Rattle.hwdb_commands.specs.declared.errors.ToolError.TheVariants.{Memory, BadDatabase, Replace};
-ghost use Rattle.hwdb_commands.specs.Refusals.{refusal_of_select, refusal_of_compile, refusal_of_cursor, refusal_of_position, error_words};
+ghost use Rattle.hwdb_commands.specs.Refusals.{refusal_of_select, refusal_of_scan, refusal_of_compile, refusal_of_cursor, refusal_of_position, error_words};
 
 use hwdb_compile::CompileError;
 use hwdb_query::{CursorError, PositionError};
 use hwdb_reader::DbFault;
 use hwdb_store::Unreplaced;
-use hwdb_text::SelectError;
+use hwdb_text::{ScanError, SelectError};
 use std::alloc::AllocError;
 use std::{error, fmt};
 
@@ -101,6 +101,17 @@ impl From<SelectError> for ToolError {
         match error {
             SelectError::TooManyFiles => ToolError::TooManyFiles,
             SelectError::Memory => ToolError::Memory,
+        }
+    }
+}
+
+impl From<ScanError> for ToolError {
+    ghost from_gives = { λ scan e. e ≡ refusal_of_scan scan };
+
+    fn from(error: ScanError) -> ToolError {
+        match error {
+            ScanError::TooManyLines => ToolError::TooManyLines,
+            ScanError::Memory => ToolError::Memory,
         }
     }
 }

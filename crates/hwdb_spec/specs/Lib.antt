@@ -11,6 +11,9 @@ pub mod Written
 pub mod Texts
 pub mod Explanations
 pub mod Differences
+pub mod Reports
+pub mod Warnings
+pub mod Checks
 pub mod Json
 pub mod Failures
 pub mod Store

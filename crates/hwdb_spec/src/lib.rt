@@ -18,6 +18,9 @@
 //! | `Texts` | each line that is printed |
 //! | `Explanations` | for each key the answer that counts and those that it overrides, and their lines |
 //! | `Differences` | what came, went and changed between two databases, and its lines |
+//! | `Reports` | the reports of a file's faults |
+//! | `Warnings` | the warnings of a file, and their reports |
+//! | `Checks` | what `check` prints, how much it finds, and its status |
 //! | `Json` | each line of JSON that is printed, and what is read of one |
 //! | `Failures` | how failed calls are counted |
 //! | `Store` | a store of files, what a crash may leave, and a database that is replaced |
@@ -93,6 +96,30 @@ pub struct Fault {
     pub line: u32,
     /// What is wrong there.
     pub kind: FaultKind,
+}
+
+/// What is unusual in a line that is read.
+#[derive(Clone, Copy, Debug, PartialEq, Eq)]
+pub enum WarningKind {
+    /// It begins with a UTF-8 byte order mark.
+    ByteOrderMark,
+    /// It begins with a tab, and so is a match line.
+    LeadingTab,
+    /// A carriage return stands in it, before its trailing blanks.
+    CarriageReturn,
+}
+
+/// How many files were checked, and how much was found in them.
+#[derive(Clone, Copy, Debug, PartialEq, Eq)]
+pub struct Tally {
+    /// How many files were read.
+    pub files: u64,
+    /// What their properties give their patterns.
+    pub assignments: u64,
+    /// How many faults they have.
+    pub faults: u64,
+    /// How many warnings they get.
+    pub warnings: u64,
 }
 
 /// How large the records are, and where the parts of a database stand.

@@ -16,6 +16,7 @@ mod records;
 mod tests;
 
 pub use crate::choice::{Chosen, counts, select};
+pub use crate::line::{Content, content_of};
 pub use crate::outcome::{Assignment, Given, Parsed, ScanError, Scanned, SelectError};
 pub use crate::parser::{next_line, parse, scan};
 pub use hwdb_spec::{Fault, FaultKind};

@@ -1,0 +1,71 @@
+-- Files, one after another.
+use Rattle.std.proofs.Common.{◌≡◌, ◌≢◌, ℕ, zero, suc, ◌+◌, ◌<◌, List, [], ◌∷◌, ◌++◌, map, take, length, get_or, Result, Ok, Err, IfErr, refl, ap, ◌∙◌, sym, subst, arith, append_assoc}
+use Rattle.std.specs.Prelude.{Any}
+use Rattle.std.proofs.lemmas.List.{append-nil}
+use Rattle.std.specs.Result.{IsErrAnd}
+use Rattle.hwdb_spec.specs.Folders.{Source}
+use Rattle.hwdb_spec.specs.Checks.{empty_tally, file_text, tally_from, tally_of, tally_of_both}
+use Rattle.hwdb_spec.specs.declared.Tally.{Tally}
+use Rattle.hwdb_commands.specs.declared.errors.ToolError.{ToolError}
+use Rattle.hwdb_commands.specs.declared.errors.ToolError.TheVariants.{Memory, TooManyLines, Write}
+use Rattle.hwdb_lint.specs.declared.files.TextFile.{TextFile}
+use Rattle.hwdb_lint.specs.Checks.{source_of, files_text, IsCheckRefusal, IsChecksRefusal}
+
+abbrev first_files : ℕ → List TextFile → List Source
+first_files i fs = map source_of (take i fs)
+
+one_more_text : (fs : List TextFile) (i : ℕ) (d : TextFile) → i < length fs
+    → files_text (first_files (suc i) fs) ≡ files_text (first_files i fs) ++ file_text (get_or fs i d).path.now (get_or fs i d).bytes.now
+one_more_text [] i d h = absurd (omega arith)
+one_more_text (x ∷ xs) zero d h = append-nil (file_text x.path.now x.bytes.now)
+one_more_text (x ∷ xs) (suc i) d h =
+    ap (λ l. file_text x.path.now x.bytes.now ++ l) (one_more_text xs i d (omega arith))
+    ∙ sym (append_assoc (file_text x.path.now x.bytes.now) (files_text (first_files i xs)) (file_text (get_or xs i d).path.now (get_or xs i d).bytes.now))
+
+one_more_tally : (t : Tally) (fs : List TextFile) (i : ℕ) (d : TextFile) → i < length fs
+    → tally_from t (first_files (suc i) fs) ≡ tally_of_both (tally_from t (first_files i fs)) (tally_of (get_or fs i d).bytes.now)
+one_more_tally t [] i d h = absurd (omega arith)
+one_more_tally t (x ∷ xs) zero d h = refl
+one_more_tally t (x ∷ xs) (suc i) d h = one_more_tally (tally_of_both t (tally_of x.bytes.now)) xs i d (omega arith)
+
+-- the reports of one file more
+pub reports_step : (fs : List TextFile) (i : ℕ) (d : TextFile) (path found read before after : List ℕ) → i < length fs
+    → path ≡ (get_or fs i d).path.now → found ≡ file_text path (get_or fs i d).bytes.now → read ≡ found → after ≡ before ++ read
+    → before ≡ files_text (map source_of (take i fs)) → after ≡ files_text (map source_of (take (i + 1) fs))
+reports_step fs i d path found read before after h named is same grown so_far =
+    grown
+    ∙ ap (λ l. before ++ l) (same ∙ is ∙ ap (λ p. file_text p (get_or fs i d).bytes.now) named)
+    ∙ ap (λ l. l ++ file_text (get_or fs i d).path.now (get_or fs i d).bytes.now) so_far
+    ∙ sym (one_more_text fs i d h)
+    ∙ ap (λ n. files_text (map source_of (take n fs))) (let e : suc i ≡ i + 1 = omega arith in e)
+
+-- what was found in one file more
+pub found_step : (fs : List TextFile) (i : ℕ) (d : TextFile) (before found after : Tally) → i < length fs
+    → found ≡ tally_of (get_or fs i d).bytes.now → after ≡ tally_of_both before found
+    → before ≡ tally_from empty_tally (map source_of (take i fs)) → after ≡ tally_from empty_tally (map source_of (take (i + 1) fs))
+found_step fs i d before found after h is both so_far =
+    both
+    ∙ ap (tally_of_both before) is
+    ∙ ap (λ t. tally_of_both t (tally_of (get_or fs i d).bytes.now)) so_far
+    ∙ sym (one_more_tally empty_tally fs i d h)
+    ∙ ap (λ n. tally_from empty_tally (map source_of (take n fs))) (let e : suc i ≡ i + 1 = omega arith in e)
+
+any_at : (P : Source → Type 0) (fs : List TextFile) (i : ℕ) (d : TextFile) → i < length fs → P (source_of (get_or fs i d)) → Any P (map source_of fs)
+any_at P [] i d h p = absurd (omega arith)
+any_at P (x ∷ xs) zero d h p = (0, source_of x, omega arith, refl, p)
+any_at P (x ∷ xs) (suc i) d h p =
+    let r = any_at P xs i d (omega arith) p in (suc r.0, r.1, omega (arith, r.2), r.3, r.4)
+
+refused_by : (fs : List TextFile) (i : ℕ) (d : TextFile) → i < length fs → (e : ToolError) → IsCheckRefusal (get_or fs i d).bytes.now e → IsChecksRefusal (map source_of fs) e
+refused_by fs i d h TooManyLines p = any_at _ fs i d h p
+refused_by fs i d h Write p = tt
+refused_by fs i d h Memory p = tt
+refused_by fs i d h _ p = absurd p
+
+-- a file that is refused is one of the files
+pub file_refused : {X : Type 0} (fs : List TextFile) (i : ℕ) (d : TextFile) (e : ToolError) (r : Result X ToolError) → i < length fs
+    → IsErrAnd r (λ x. x ≡ e) → (e ≢ Write) × IsCheckRefusal (get_or fs i d).bytes.now e → IfErr r (λ x. (x ≢ Write) × IsChecksRefusal (map source_of fs) x)
+file_refused fs i d e (Ok x) h same p = tt
+file_refused fs i d e (Err x) h same p =
+    let P : ToolError → Type 0 = λ y. (y ≢ Write) × IsChecksRefusal (map source_of fs) y in
+    subst P (sym same) (p.0, refused_by fs i d h e p.1)

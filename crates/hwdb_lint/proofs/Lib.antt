@@ -1,0 +1,4 @@
+pub mod FileLemmas
+pub mod LineLemmas
+pub mod ShownLemmas
+pub mod WarningLemmas

@@ -1,0 +1,103 @@
+-- A file, seen from the beginning of a line.
+use Rattle.std.proofs.Common.{◌≡◌, ℕ, suc, ◌+◌, ◌<◌, ◌≤◌, ◌⊎◌, ⊎_elim, Bool, true, false, cond, not, List, [], ◌∷◌, take, drop, length, refl, ap, ◌∙◌, sym, arith, ne_eqb, eq-eqb}
+use Rattle.std.proofs.lemmas.List.{drop-drop, drop_all, length-drop}
+use Rattle.std.specs.List.{position_or_len, onto_first}
+use Rattle.hwdb_spec.specs.Lines.{is, lines, numbered, pieces}
+use Rattle.hwdb_spec.specs.Reports.{text_of_line}
+use Rattle.hwdb_lint.specs.Internal.{IsStart}
+use Rattle.hwdb_lint.specs.declared.line_texts.LineStart.{LineStart}
+
+line_by : (t : Bool) (x : ℕ) (xs : List ℕ) (e : ℕ) (ps : List (List ℕ)) (more : List (List ℕ)) → (t ≡ false → onto_first x ps ≡ (x ∷ take e xs) ∷ more) → (t ≡ true → ps ≡ more)
+    → cond t ([] ∷ ps) (onto_first x ps) ≡ take (cond (not t) (1 + e) 0) (x ∷ xs) ∷ more
+line_by true x xs e ps more f g = ap (λ (r : List (List ℕ)). [] ∷ r) (g refl)
+line_by false x xs e ps more f g = f refl ∙ ap (λ (k : ℕ). take k (x ∷ xs) ∷ more) (let s : suc e ≡ 1 + e = omega arith in s)
+
+rest_by : (t : Bool) (x : ℕ) (xs : List ℕ) (e : ℕ) → t ≡ false → drop (cond (not t) (1 + e) 0 + 1) (x ∷ xs) ≡ drop (e + 1) xs
+rest_by true x xs e f = cc
+rest_by false x xs e f = ap (λ (k : ℕ). drop k (x ∷ xs)) (let s : 1 + e + 1 ≡ suc (e + 1) = omega arith in s)
+
+rest_here : (t : Bool) (x : ℕ) (xs : List ℕ) (e : ℕ) → t ≡ true → drop (cond (not t) (1 + e) 0 + 1) (x ∷ xs) ≡ xs
+rest_here true x xs e f = refl
+rest_here false x xs e f = cc
+
+no_pieces : pieces (is 10) [] ≡ []
+unfolding pieces
+no_pieces = refl
+
+-- the first line, and those behind it
+line_step : (text : List ℕ) → 0 < length text
+    → pieces (is 10) text ≡ take (position_or_len (is 10) text) text ∷ pieces (is 10) (drop (position_or_len (is 10) text + 1) text)
+unfolding pieces
+line_step [] h = absurd (omega arith)
+line_step (x ∷ []) h =
+    line_by (is 10 x) x [] 0 [] _
+    (λ f. ap (λ (r : List (List ℕ)). (x ∷ []) ∷ r) (sym (ap (pieces (is 10)) (rest_by (is 10 x) x [] 0 f) ∙ no_pieces)))
+    (λ f. sym (ap (pieces (is 10)) (rest_here (is 10 x) x [] 0 f) ∙ no_pieces))
+line_step (x ∷ y ∷ xs) h =
+    line_by (is 10 x) x (y ∷ xs) (position_or_len (is 10) (y ∷ xs)) (pieces (is 10) (y ∷ xs)) _
+    (λ f. ap (onto_first x) (line_step (y ∷ xs) (omega arith))
+    ∙ ap (λ (r : List ℕ). (x ∷ take (position_or_len (is 10) (y ∷ xs)) (y ∷ xs)) ∷ pieces (is 10) r) (sym (rest_by (is 10 x) x (y ∷ xs) (position_or_len (is 10) (y ∷ xs)) f)))
+    (λ f. ap (pieces (is 10)) (sym (rest_here (is 10 x) x (y ∷ xs) (position_or_len (is 10) (y ∷ xs)) f)))
+
+-- the line at a place, and those behind it
+pub line_at : (file : List ℕ) (at end : ℕ) (rest : List ℕ) → at < length file → rest ≡ drop at file → end ≡ position_or_len (is 10) rest
+    → pieces (is 10) (drop at file) ≡ take end rest ∷ pieces (is 10) (drop (at + end + 1) file)
+line_at file at end rest h r e =
+    let some : 0 < length (drop at file) = omega (arith, length-drop at file) in
+    let q : position_or_len (is 10) (drop at file) ≡ end = sym (e ∙ ap (position_or_len (is 10)) r) in
+    let far : at + (end + 1) ≡ at + end + 1 = omega arith in
+    line_step (drop at file) some
+    ∙ ap (λ (n : ℕ). take n (drop at file) ∷ pieces (is 10) (drop (n + 1) (drop at file))) q
+    ∙ ap (λ (x : List ℕ). take end x ∷ pieces (is 10) (drop (end + 1) (drop at file))) (sym r)
+    ∙ ap (λ (x : List ℕ). take end rest ∷ pieces (is 10) x) (drop-drop (end + 1) at file ∙ ap (λ (n : ℕ). drop n file) far)
+
+pub no_line_at : (file : List ℕ) (at : ℕ) → length file ≤ at → pieces (is 10) (drop at file) ≡ []
+no_line_at file at h = ap (pieces (is 10)) (drop_all at file h) ∙ no_pieces
+
+text_later : (ps : List (List ℕ)) (p : List ℕ) (number line : ℕ) → number < line → text_of_line (numbered number (p ∷ ps)) line ≡ text_of_line (numbered (number + 1) ps) line
+unfolding numbered
+text_later ps p number line h = rw (ne_eqb number line (λ e. omega (arith, e))) refl
+
+text_here : (ps : List (List ℕ)) (p : List ℕ) (number : ℕ) → text_of_line (numbered number (p ∷ ps)) number ≡ p
+unfolding numbered
+text_here ps p number = rw (eq-eqb number number refl) refl
+
+no_text : (number line : ℕ) → text_of_line (numbered number []) line ≡ []
+unfolding numbered
+no_text number line = refl
+
+-- no line is numbered lower than the first
+text_before : (ps : List (List ℕ)) (number line : ℕ) → line < number → text_of_line (numbered number ps) line ≡ []
+unfolding numbered
+text_before [] number line h = refl
+text_before (p ∷ ps) number line h = rw (ne_eqb number line (λ e. omega (arith, e))) (text_before ps (number + 1) line (omega arith))
+
+pub no_line_0 : (file : List ℕ) → text_of_line (lines file) 0 ≡ []
+no_line_0 file = text_before (pieces (is 10) file) 1 0 (omega arith)
+
+-- from the next line on
+pub next_is_start : (file : List ℕ) (s : LineStart) (end : ℕ) (rest : List ℕ) → s.at < length file → rest ≡ drop s.at file → end ≡ position_or_len (is 10) rest → end ≤ length rest
+    → IsStart file s → IsStart file (record { number = s.number + 1; at = s.at + end + 1 })
+next_is_start file s end rest h r e within starts = record {
+  within = omega (arith, ap length r, length-drop s.at file, within, h);
+  same = λ line after.
+      starts.same line (omega (arith, after))
+      ∙ ap (λ ps. text_of_line (numbered s.number ps) line) (line_at file s.at end rest h r e)
+      ∙ text_later (pieces (is 10) (drop (s.at + end + 1) file)) (take end rest) s.number line (omega (arith, after));
+}
+
+-- the text of the line that begins there
+pub text_at_start : (file : List ℕ) (s : LineStart) (end line : ℕ) (rest : List ℕ) → s.at < length file → rest ≡ drop s.at file → end ≡ position_or_len (is 10) rest
+    → IsStart file s → (s.number ≡ line) ⊎ (length file ≤ s.at) → take end rest ≡ text_of_line (lines file) line
+text_at_start file s end line rest h r e starts found =
+    ⊎_elim (λ (here : s.number ≡ line).
+    sym (text_here (pieces (is 10) (drop (s.at + end + 1) file)) (take end rest) s.number)
+    ∙ sym (ap (λ ps. text_of_line (numbered s.number ps) s.number) (line_at file s.at end rest h r e))
+    ∙ sym (starts.same s.number (omega arith))
+    ∙ ap (λ n. text_of_line (lines file) n) here)
+    (λ (over : length file ≤ s.at). absurd (omega (arith, over, h))) found
+
+-- nothing at the end
+pub text_at_end : (file : List ℕ) (s : LineStart) (line : ℕ) → length file ≤ s.at → s.number ≤ line → IsStart file s → [] ≡ text_of_line (lines file) line
+text_at_end file s line over before starts =
+    sym (starts.same line before ∙ ap (λ ps. text_of_line (numbered s.number ps) line) (no_line_at file s.at over) ∙ no_text s.number line)

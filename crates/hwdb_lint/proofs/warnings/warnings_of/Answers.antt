@@ -1,0 +1,23 @@
+use Rattle.std.proofs.Common.{ap, length, arith}
+use Rattle.std.proofs.lemmas.List.{take_rest, length-drop}
+use Rattle.hwdb_spec.specs.Warnings.{line_text, line_warnings}
+use Rattle.hwdb_lint.proofs.WarningLemmas.{lines_end, lines_step}
+use Rattle.hwdb_lint.proofs.warnings.warnings_of.Goals as goal
+
+pub loop-at-preserved : goal.loop-at-preserved
+loop-at-preserved c =
+    let rest = take_rest c.args.bytes.now c.loop-at.at in
+    record {
+      at_in = omega (arith, c.place_of-end.ensures.within, ap length rest, length-drop c.loop-at.at c.args.bytes.now);
+      near = omega arith;
+      text = lines_step (line_text c.args.path.now) c.args.bytes.now c.loop-at.at c.place_of-end.result c.loop-at.number _ _ _ _ c.loop-at-test.true rest c.place_of-end.ensures.place
+          c.in_ok-put_line.ensures.text c.loop-at.invariant.text;
+      found = lines_step line_warnings c.args.bytes.now c.loop-at.at c.place_of-end.result c.loop-at.number _ _ _ _ c.loop-at-test.true rest c.place_of-end.ensures.place
+          c.in_ok-put_line.ensures.found c.loop-at.invariant.found;
+    }
+
+pub returns-clause-text : goal.returns-clause-text
+returns-clause-text c = lines_end (line_text c.args.path.now) c.args.bytes.now c.loop-at.at c.loop-at.number _ _ c.loop-at-test.false c.loop-at.invariant.text
+
+pub returns-clause-found : goal.returns-clause-found
+returns-clause-found c = lines_end line_warnings c.args.bytes.now c.loop-at.at c.loop-at.number _ _ c.loop-at-test.false c.loop-at.invariant.found

@@ -1,0 +1,34 @@
+-- What checking text files may refuse, and what its types mean. Our choice.
+use Rattle.std.specs.Prelude.{ℕ, List, ◌<◌, Any, flat_map, length}
+use Rattle.hwdb_spec.specs.Lines.{lines}
+use Rattle.hwdb_spec.specs.Folders.{Source, max_lines}
+use Rattle.hwdb_spec.specs.Checks.{file_text}
+use Rattle.hwdb_commands.specs.declared.errors.ToolError.{ToolError}
+use Rattle.hwdb_commands.specs.declared.errors.ToolError.TheVariants.{Memory, TooManyLines, Write}
+use Rattle.hwdb_lint.specs.declared.files.TextFile.{TextFile}
+
+-- a file with the path that is printed of it
+abbrev pub source_of : TextFile → Source
+source_of f = record { name = f.path.now; bytes = f.bytes.now }
+
+-- the reports of some files, one after another
+abbrev pub files_text : List Source → List ℕ
+files_text files = flat_map (λ s. file_text s.name s.bytes) files
+
+-- what checking a file may refuse
+abbrev pub IsCheckRefusal : (bytes : List ℕ) → ToolError → Type 0
+IsCheckRefusal bytes TooManyLines = max_lines < length (lines bytes)
+IsCheckRefusal bytes Write = Unit {0}
+IsCheckRefusal bytes Memory = Unit {0}
+IsCheckRefusal bytes _ = ⊥
+
+-- one of the files has more lines than can be numbered
+abbrev pub HasLongFile : List Source → Type 0
+HasLongFile files = Any (λ (s : Source). max_lines < length (lines s.bytes)) files
+
+-- what checking some files may refuse
+abbrev pub IsChecksRefusal : List Source → ToolError → Type 0
+IsChecksRefusal files TooManyLines = HasLongFile files
+IsChecksRefusal files Write = Unit {0}
+IsChecksRefusal files Memory = Unit {0}
+IsChecksRefusal files _ = ⊥

@@ -1,0 +1,25 @@
+//! What `check` says of text files: each fault and each warning with its line, the place in it and what to do about it, and
+//! how much was found. It writes no database.
+//!
+//! | Module | What it does |
+//! |---|---|
+//! | `shown` | lines as they are shown, and the mark below them |
+//! | `places` | where in its line a fault stands |
+//! | `reports` | the report of a fault |
+//! | `line_texts` | the text of a line, by its number |
+//! | `warnings` | the warnings of a file, and their reports |
+//! | `tallies` | how much was found: the last line, and the status |
+//! | `files` | text files that are checked, one after another |
+#![tactic(auto)]
+
+mod files;
+mod line_texts;
+mod places;
+mod reports;
+mod shown;
+mod tallies;
+#[cfg(test)]
+mod tests;
+mod warnings;
+
+pub use files::{TextFile, check_file, check_files};

@@ -1,0 +1,91 @@
+//! The text of a line, by its number.
+ghost use Rattle.std.specs.Prelude.{◌≡◌, ◌⊎◌, ◌+◌, ◌<◌, ◌≤◌, length};
+ghost use Rattle.hwdb_spec.specs.Lines.{lines};
+ghost use Rattle.hwdb_spec.specs.Reports.{text_of_line};
+ghost use Rattle.hwdb_lint.specs.Internal.{IsStart};
+
+use crate::places::place_of;
+
+/// Where a line begins.
+#[derive(Clone, Copy)]
+pub struct LineStart {
+    /// The number of the line, from 1.
+    pub number: u32,
+    /// How many bytes of the file stand before it.
+    pub at: usize,
+}
+
+/// Where the first line begins.
+pub fn first_start(bytes: &[u8]) -> LineStart
+    ensures start { IsStart bytes.now result }
+    ensures first { result.number ≡ 1 }
+{
+    let _any = bytes;
+    LineStart { number: 1, at: 0 }
+}
+
+/// Where the next line begins.
+fn next_start(bytes: &[u8], start: LineStart) -> LineStart
+    requires start { IsStart bytes.now start }
+    requires inside { start.at < length bytes.now }
+    requires few { start.number < 4294967295 }
+    ensures start { IsStart bytes.now result }
+    ensures moves { start.at < result.at }
+    ensures next { result.number ≡ start.number + 1 }
+{
+    let rest = &bytes[start.at..];
+    let end = place_of(b'\n', rest);
+    LineStart {
+        number: start.number + 1,
+        at: start.at + end + 1,
+    }
+}
+
+/// Where the line with a number begins, or the file ends, from an earlier line on.
+fn seek(bytes: &[u8], from: LineStart, number: u32) -> LineStart
+    requires start { IsStart bytes.now from }
+    requires before { from.number ≤ number }
+    ensures start { IsStart bytes.now result }
+    ensures before { result.number ≤ number }
+    ensures found { (result.number ≡ number) ⊎ (length bytes.now ≤ result.at) }
+{
+    let mut start = from;
+    while start.number < number && start.at < bytes.len() {
+        start = next_start(bytes, start);
+    }
+    start
+}
+
+/// The text of the line that begins at a place; nothing at the end of the file.
+fn text_at(bytes: &[u8], start: LineStart, number: u32) -> &[u8]
+    requires start { IsStart bytes.now start }
+    requires before { start.number ≤ number }
+    requires found { (start.number ≡ number) ⊎ (length bytes.now ≤ start.at) }
+    ensures { result.now ≡ text_of_line (lines bytes.now) number }
+{
+    let _number = number;
+    if start.at >= bytes.len() {
+        return &[];
+    }
+    let rest = &bytes[start.at..];
+    &rest[..place_of(b'\n', rest)]
+}
+
+/// Where the line with a number begins, or the file ends, and the text of the line, or nothing. It reads on from where
+/// some line begins, and from the first line on where that one stands behind.
+pub fn find_line(bytes: &[u8], from: LineStart, number: u32) -> (LineStart, &[u8])
+    requires { IsStart bytes.now from }
+    ensures start { IsStart bytes.now result.0 }
+    ensures text { result.1.now ≡ text_of_line (lines bytes.now) number }
+{
+    if number == 0 {
+        return (from, &[]);
+    }
+    let from = if number < from.number {
+        first_start(bytes)
+    } else {
+        from
+    };
+    let start = seek(bytes, from, number);
+    (start, text_at(bytes, start, number))
+}

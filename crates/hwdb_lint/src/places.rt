@@ -1,0 +1,46 @@
+//! Where in its line a fault stands.
+ghost use Rattle.std.specs.Prelude.{◌≡◌, ◌≤◌, length};
+ghost use Rattle.std.specs.List.{position_or_len, prefix_len};
+ghost use Rattle.hwdb_spec.specs.Lines.{is, is_indent};
+ghost use Rattle.hwdb_spec.specs.Reports.{fault_place};
+
+use hwdb_spec::FaultKind;
+
+/// How many bytes a match line has at most.
+const LONGEST_MATCH: usize = 4096;
+
+/// How many spaces and tabs a line begins with.
+pub fn indent_of(line: &[u8]) -> usize
+    ensures place { result ≡ prefix_len is_indent line.now }
+    ensures within { result ≤ length line.now }
+{
+    let mut at = 0;
+    while at < line.len() && (line[at] == b' ' || line[at] == b'\t') {
+        at += 1;
+    }
+    at
+}
+
+/// Where a byte first stands; the line's length where it stands nowhere.
+pub fn place_of(byte: u8, line: &[u8]) -> usize
+    ensures place { result ≡ position_or_len (is byte) line.now }
+    ensures within { result ≤ length line.now }
+{
+    let mut at = 0;
+    while at < line.len() && line[at] != byte {
+        at += 1;
+    }
+    at
+}
+
+/// Behind how many bytes of its line a fault stands.
+pub fn fault_place(kind: FaultKind, line: &[u8]) -> usize
+    ensures { result ≡ fault_place kind line.now }
+{
+    match kind {
+        FaultKind::NoProperty | FaultKind::StrayMatch => 0,
+        FaultKind::StrayProperty | FaultKind::NoEquals | FaultKind::EmptyKey => indent_of(line),
+        FaultKind::ZeroByte => place_of(0, line),
+        FaultKind::LongMatch => LONGEST_MATCH,
+    }
+}

@@ -1,0 +1,72 @@
+//! The report of a fault.
+ghost use Rattle.std.specs.Prelude.{◌≡◌, ◌++◌, OnOk};
+ghost use Rattle.hwdb_spec.specs.Texts.{fault_line};
+ghost use Rattle.hwdb_spec.specs.Reports.{fault_hint, hint_line, report};
+
+use crate::places::fault_place;
+use crate::shown::{push_mark_line, push_shown_line};
+use hwdb_spec::{Fault, FaultKind};
+use itoa::Buffer;
+use std::alloc::{AllocError, Global};
+
+/// What to do about a fault.
+fn hint_of(kind: FaultKind) -> &'static str
+    ensures { result.now ≡ fault_hint kind }
+{
+    match kind {
+        FaultKind::StrayProperty => { "put a match line above it, with no empty line between them" }
+        FaultKind::NoProperty => {
+            "put a property below it, on a line that begins with a space, or take the match line away"
+        }
+        FaultKind::StrayMatch => "put an empty line above it, and its properties below it",
+        FaultKind::NoEquals => "write it as KEY=VALUE; a match line begins without a space",
+        FaultKind::EmptyKey => "put a key in front of the =",
+        FaultKind::ZeroByte => {
+            "take the byte away, or save the file as text without bytes 0, as UTF-8"
+        }
+        FaultKind::LongMatch => "shorten it, as by a * in place of what may differ",
+    }
+}
+
+/// Adds the line of a fault, as `update` prints it: where it stands, `: `, what is wrong.
+///
+/// The only error, here and below, is that memory is refused.
+fn push_fault_line(text: &mut Vec<u8>, path: &[u8], fault: Fault) -> Result<(), AllocError>
+    ensures { OnOk result (text.new.items ≡ text.old.items ++ fault_line path.now fault) }
+{
+    let mut number = Buffer::new();
+    text.extend_from_slice(path)?;
+    text.push(b':')?;
+    text.extend_from_slice(number.format(fault.line).as_bytes())?;
+    text.push(b':')?;
+    text.push(b' ')?;
+    text.extend_from_slice(fault.kind.text().as_bytes())?;
+    text.push(b'\n')?;
+    Ok(())
+}
+
+/// Adds the line of what to do.
+pub fn push_hint_line(text: &mut Vec<u8>, hint: &str) -> Result<(), AllocError>
+    ensures { OnOk result (text.new.items ≡ text.old.items ++ hint_line hint.now) }
+{
+    text.extend_from_slice(b"    hint: ")?;
+    text.extend_from_slice(hint.as_bytes())?;
+    text.push(b'\n')?;
+    Ok(())
+}
+
+/// Adds the report of a fault: its line, the text of its line, the mark, and what to do.
+pub fn push_report(
+    alloc: Global,
+    text: &mut Vec<u8>,
+    path: &[u8],
+    line: &[u8],
+    fault: Fault,
+) -> Result<(), AllocError>
+    ensures { OnOk result (text.new.items ≡ text.old.items ++ report path.now line.now fault) }
+{
+    push_fault_line(text, path, fault)?;
+    push_shown_line(text, line)?;
+    push_mark_line(alloc, text, line, fault_place(fault.kind, line))?;
+    push_hint_line(text, hint_of(fault.kind))
+}
