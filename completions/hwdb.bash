@@ -37,6 +37,7 @@ _hwdb() {
         [explain]='MODALIAS'
         [ask]='FILE MODALIAS'
         [list]='MODALIAS'
+        [check]='FILE..'
     )
     local -A options=(
         [hwdb]='--usr -s --strict -r --root -h --help -V --version'
@@ -45,6 +46,7 @@ _hwdb() {
         [explain]='--usr -s --strict -r --root --json -h --help'
         [ask]='--usr -s --strict -r --root -h --help'
         [list]='--usr -s --strict -r --root --after --limit --json -h --help'
+        [check]='--usr -s --strict -r --root -h --help'
     )
     local -A values=(
         [-r]='PATH' [--root]='PATH' [--after]='POS' [--limit]='N'

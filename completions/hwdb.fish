@@ -59,9 +59,10 @@ complete -c hwdb -n __hwdb_none -a query -d 'Prints the properties that the data
 complete -c hwdb -n __hwdb_none -a explain -d 'Prints the properties that the database gives a device, and where each comes from'
 complete -c hwdb -n __hwdb_none -a ask -d 'Prints the properties that one text file gives a device, as KEY=VALUE lines'
 complete -c hwdb -n __hwdb_none -a list -d 'Prints each assignment of the database that matches a device, with its position'
+complete -c hwdb -n __hwdb_none -a check -d 'Says what is wrong in text files, or hardly meant, and writes no database'
 
 complete -c hwdb -l usr -d 'With update: write /usr/lib/udev/hwdb.bin'
-complete -c hwdb -s s -l strict -d 'With update: end with status 1 if a line had a fault'
+complete -c hwdb -s s -l strict -d 'With update: end with status 1 if a line had a fault; with check: if there is a warning'
 complete -c hwdb -s r -l root -x -a '(__fish_complete_directories)' -d 'Put PATH in front of the paths of folders and databases'
 complete -c hwdb -s h -l help -d 'Print help'
 complete -c hwdb -n __hwdb_none -s V -l version -d 'Print version'
@@ -76,3 +77,4 @@ complete -c hwdb -n '__hwdb_at explain 1' -a '(__hwdb_modalias)' -d MODALIAS
 complete -c hwdb -n '__hwdb_at ask 1' -k -a '(__hwdb_file)' -d FILE
 complete -c hwdb -n '__hwdb_at ask 2' -a '(__hwdb_modalias)' -d MODALIAS
 complete -c hwdb -n '__hwdb_at list 1' -a '(__hwdb_modalias)' -d MODALIAS
+complete -c hwdb -n '__hwdb_at check' -k -a '(__hwdb_file)' -d FILE

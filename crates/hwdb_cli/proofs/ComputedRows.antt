@@ -1,6 +1,6 @@
 -- Command lines that the command takes.
-use Rattle.std.proofs.Common.{◌≡◌, refl, true, codes, List, [], ◌∷◌, Some, option_map}
-use Rattle.clap.specs.Walk.{Text, first_of}
+use Rattle.std.proofs.Common.{◌≡◌, refl, true, codes, List, [], ◌∷◌, Some, None, option_map}
+use Rattle.clap.specs.Walk.{Text, all_of, first_of}
 use Rattle.clap.specs.Takes.{takes}
 use Rattle.clap.specs.Simple.{subcommand_of}
 use Rattle.clap.proofs.OnLiterals.{clap_on_literals}
@@ -23,3 +23,25 @@ query_taken = refl
 pub query_device : option_map (λ p. first_of (codes "MODALIAS") p.1) (subcommand_of hwdb_app query_words) ≡ Some (Some (codes "-a"))
 unfolding clap_on_literals
 query_device = refl
+
+abbrev check_words : List Text
+check_words = codes "hwdb" ∷ codes "check" ∷ codes "b" ∷ codes "--strict" ∷ codes "a" ∷ codes "--" ∷ codes "-c" ∷ []
+
+pub check_taken : takes hwdb_app check_words ≡ true
+unfolding clap_on_literals
+check_taken = refl
+
+pub check_files : option_map (λ p. all_of (codes "FILE") p.1) (subcommand_of hwdb_app check_words) ≡ Some (Some (codes "b" ∷ codes "a" ∷ codes "-c" ∷ []))
+unfolding clap_on_literals
+check_files = refl
+
+abbrev check_all_words : List Text
+check_all_words = codes "hwdb" ∷ codes "check" ∷ []
+
+pub check_all_taken : takes hwdb_app check_all_words ≡ true
+unfolding clap_on_literals
+check_all_taken = refl
+
+pub check_no_files : option_map (λ p. all_of (codes "FILE") p.1) (subcommand_of hwdb_app check_all_words) ≡ Some None
+unfolding clap_on_literals
+check_no_files = refl

@@ -11,7 +11,7 @@ use Rattle.clap.specs.Walk.{Row, Rule, Text, answers_to, finished, nothing_held,
 use Rattle.clap.specs.Simple.{App, Shape, argument_words, built, built_leaf, entered, filled, inherited, label_of, marked_built, names_of, rows_at, subcommand_of, with_index, with_leaf_noted}
 use Rattle.clap.proofs.ValueTestLemmas.{accepts-Accepts}
 use Rattle.clap.specs.declared.builder.value_parser.ValueParser.TheVariants as vp
-use Rattle.hwdb_cli.specs.Line.{ask_app, device_rule, devices_rule, explain_app, file_rule, hwdb_app, limit_rule, list_app, query_app, update_app}
+use Rattle.hwdb_cli.specs.Line.{ask_app, check_app, device_rule, devices_rule, explain_app, file_rule, hwdb_app, limit_rule, list_app, query_app, update_app}
 use Rattle.hwdb_cli.specs.Jobs.{HasValue, IsCommand, IsNumber}
 use Rattle.hwdb_cli.proofs.WalkLemmas.{none_of_both}
 use Rattle.hwdb_cli.proofs.UseLemmas.{Each, RowFits, StandsAlone, found_each, required_value, rows_fit, text_read}
@@ -234,11 +234,14 @@ ask_gives words e = inr (inr (inr (inl (
 ))))
 
 list_gives : Gives (built_command list_app)
-list_gives words e = inr (inr (inr (inr (
+list_gives words e = inr (inr (inr (inr (inl (
   refl,
   value_of (built_command list_app) words (argument_at 1 device_rule) list_device refl refl refl e,
   limit_number _ (rows_fit (built_command list_app) words (argument_at 1 limit_rule) list_limit e),
-))))
+)))))
+
+check_gives : Gives (built_command check_app)
+check_gives words e = inr (inr (inr (inr (inr refl))))
 
 -- ---- the command line
 
@@ -274,4 +277,4 @@ command_taken words e =
     let settle = none_of_both (settle_fault a.top.rules a.top.args_override_self end.held) _ below.1 in
     let checks = none_of_both (defaults_fault (settled a.top.rules end.held).rows a.top.rules) _ settle.1 in
     let has = subcommand_there a.top (finished a.top.rules end.held) (is_some (entered a end.stopped)) refl checks.1 in
-    command_entered a end.stopped (update_gives, (query_gives, (explain_gives, (ask_gives, (list_gives, tt))))) below.0 has
+    command_entered a end.stopped (update_gives, (query_gives, (explain_gives, (ask_gives, (list_gives, (check_gives, tt)))))) below.0 has

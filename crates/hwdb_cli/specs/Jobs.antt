@@ -1,11 +1,11 @@
 -- What the matches of a command line ask for.
-use Rattle.std.specs.Prelude.{Bool, List, codes, false, Some, ◌≡◌, None, Option, Ok, ℕ, option_map, string_bytes, map, ◌||◌, is_some, true, ◌<◌, ◌^◌, IfSome, ◌⊎◌}
+use Rattle.std.specs.Prelude.{Bool, List, codes, false, Some, ◌≡◌, None, Option, Ok, ℕ, option_map, string_bytes, map, ◌||◌, is_some, true, ◌<◌, ◌^◌, IfSome, ◌⊎◌, unwrap_or, []}
 use Rattle.std.specs.Str.{bytes_eq}
 use Rattle.std.specs.Option.{option_map_or, option_or}
 use Rattle.std.specs.declared.num.ParseIntError.{ParseIntError}
 use Rattle.std.specs.Str.Parse.{ParsesUnsigned, IsNumeral, digits_value, without_leading_plus}
 use Rattle.clap.specs.Walk.{Row, Text, all_of, first_of, one_of}
-use Rattle.hwdb_cli.specs.declared.job.Task.TheVariants.{Ask, Explain, List as ListHits, Query, Update}
+use Rattle.hwdb_cli.specs.declared.job.Task.TheVariants.{Ask, Check, Explain, List as ListHits, Query, Update}
 use Rattle.hwdb_cli.specs.declared.job.Task.{Task}
 use Rattle.hwdb_cli.specs.declared.job.Job.{Job}
 
@@ -21,6 +21,10 @@ IsValue id rows text = Some text ≡ first_of id rows
 abbrev pub AreValues : Text → List Row → List Text → Type 0
 AreValues id rows texts = Some texts ≡ all_of id rows
 
+-- the texts are the argument's values, in the order in which they stand, and there are none where it has none
+abbrev pub AreAnyValues : Text → List Row → List Text → Type 0
+AreAnyValues id rows texts = texts ≡ unwrap_or (all_of id rows) []
+
 -- the limit is the number that the text writes, and there is none where there is no text
 abbrev pub IsLimit : Option Text → Option ℕ → Type 0
 IsLimit None limit = limit ≡ None
@@ -34,6 +38,7 @@ IsTask name inner (Explain device json) = (name ≡ codes "explain") × (json �
 IsTask name inner (Ask file device) = (name ≡ codes "ask") × IsValue (codes "FILE") inner (string_bytes file) × IsValue (codes "MODALIAS") inner (string_bytes device)
 IsTask name inner (ListHits after limit device json) = (name ≡ codes "list") × (json ≡ has_flag (codes "json") inner) × (option_map string_bytes after ≡ first_of (codes "after") inner)
     × IsLimit (one_of (codes "limit") inner) limit × IsValue (codes "MODALIAS") inner (string_bytes device)
+IsTask name inner (Check files) = (name ≡ codes "check") × AreAnyValues (codes "FILE") inner (map string_bytes files.items)
 
 pub record IsJob (top : List Row) (name : Text) (inner : List Row) (job : Job) : Type 0 where
   pub usr : job.usr ≡ (has_flag (codes "usr") inner || has_flag (codes "usr") top)
@@ -55,10 +60,11 @@ HasValue id rows = is_some (first_of id rows) ≡ true
 abbrev pub IsNumber : Text → Type 0
 IsNumber text = IsNumeral 10 (without_leading_plus text) × (digits_value 10 (without_leading_plus text) < 2 ^ 64)
 
--- it is one of the five commands, with each argument that this command needs
+-- it is one of the six commands, with each argument that this command needs
 abbrev pub IsCommand : Text → List Row → Type 0
 IsCommand name inner = (name ≡ codes "update")
     ⊎ (((name ≡ codes "query") × HasValue (codes "MODALIAS") inner)
     ⊎ (((name ≡ codes "explain") × HasValue (codes "MODALIAS") inner)
     ⊎ (((name ≡ codes "ask") × HasValue (codes "FILE") inner × HasValue (codes "MODALIAS") inner)
-    ⊎ ((name ≡ codes "list") × HasValue (codes "MODALIAS") inner × IfSome (one_of (codes "limit") inner) IsNumber))))
+    ⊎ (((name ≡ codes "list") × HasValue (codes "MODALIAS") inner × IfSome (one_of (codes "limit") inner) IsNumber)
+    ⊎ (name ≡ codes "check")))))

@@ -8,7 +8,7 @@ ghost use Rattle.clap.specs.Takes.{takes};
 ghost use Rattle.clap.specs.Faults.{fault_of};
 ghost use Rattle.clap.specs.Values.{kind_of};
 ghost use Rattle.hwdb_cli.specs.Line.{hwdb_app};
-ghost use Rattle.hwdb_cli.specs.Jobs.{AreValues, HasValue, IsCommand, IsJob, IsJobOf, IsLimit, IsNumber, IsTask, IsValue, has_flag};
+ghost use Rattle.hwdb_cli.specs.Jobs.{AreAnyValues, AreValues, HasValue, IsCommand, IsJob, IsJobOf, IsLimit, IsNumber, IsTask, IsValue, has_flag};
 ghost use Rattle.hwdb_cli.specs.Refusals.{IsToldOf, IsToldOfOne};
 ghost use Rattle.hwdb_cli.specs.declared.job.WordsFault.TheVariants.{Memory};
 
@@ -46,6 +46,17 @@ fn copied(alloc: Global, text: Option<&str>) -> Result<Option<String>, AllocErro
     }
 }
 
+/// Texts, copied.
+fn copies(alloc: Global, texts: &[&str]) -> Result<Vec<String>, AllocError>
+    ensures { IfOk result (λ r. map string_bytes r.items ≡ map (λ t. t.now) texts.now) }
+{
+    let mut values = Vec::new(alloc);
+    'copying: for text in texts {
+        values.push(String::from_str(alloc, text)?)?;
+    }
+    Ok(values)
+}
+
 /// The value of an argument that has one, copied.
 fn value_of(alloc: Global, matches: &ArgMatches<'_>, id: &str) -> Result<String, AllocError>
     requires { HasValue id.now (rows_of (found_of matches.now)) }
@@ -62,11 +73,22 @@ fn values_of(alloc: Global, matches: &ArgMatches<'_>, id: &str) -> Result<Vec<St
         (λ r. AreValues id.now (rows_of (found_of matches.now)) (map string_bytes r.items)) }
 {
     let texts = matches.get_strs(id).unwrap();
-    let mut values = Vec::new(alloc);
-    'copying: for text in texts {
-        values.push(String::from_str(alloc, text)?)?;
+    copies(alloc, texts)
+}
+
+/// The values of an argument, copied; none where it has none.
+fn any_values_of(
+    alloc: Global,
+    matches: &ArgMatches<'_>,
+    id: &str,
+) -> Result<Vec<String>, AllocError>
+    ensures { IfOk result
+        (λ r. AreAnyValues id.now (rows_of (found_of matches.now)) (map string_bytes r.items)) }
+{
+    match matches.get_strs(id) {
+        Some(texts) => copies(alloc, texts),
+        None => Ok(Vec::new(alloc)),
     }
-    Ok(values)
 }
 
 /// The number that `--limit` gives.
@@ -114,6 +136,9 @@ fn task_of(alloc: Global, name: &str, inner: &ArgMatches<'_>) -> Result<Task, Al
         Ok(Task::Ask { file, device })
     } else if name == "list" {
         Ok(list_task(alloc, inner)?)
+    } else if name == "check" {
+        let files = any_values_of(alloc, inner, "FILE")?;
+        Ok(Task::Check { files })
     } else {
         Ok(Task::Update)
     }

@@ -5,7 +5,7 @@ ghost use Rattle.std.specs.Prelude.{◌≡◌, IfOk, false, codes};
 ghost use Rattle.clap.specs.Walk.{rule_of};
 ghost use Rattle.clap.specs.Simple.{app_of, shape_of};
 ghost use Rattle.clap.specs.declared.builder.command.Command.TheViews.{out-Command as fields_of};
-ghost use Rattle.hwdb_cli.specs.Line.{usr_rule, strict_rule, root_rule, device_rule, devices_rule, file_rule, after_rule, limit_rule, json_rule, with_shared, with_range, update_app, query_app, explain_app, ask_app, list_app, top_app, hwdb_app};
+ghost use Rattle.hwdb_cli.specs.Line.{usr_rule, strict_rule, root_rule, device_rule, devices_rule, file_rule, files_rule, after_rule, limit_rule, json_rule, with_shared, with_range, update_app, query_app, explain_app, ask_app, list_app, check_app, top_app, hwdb_app};
 
 use clap::builder::ValueParser;
 use clap::{Arg, ArgAction, Command};
@@ -48,6 +48,12 @@ const LIST_ABOUT: &str =
 const LIST_AFTER: &str =
     "Status: 0, also if there are none; 1 after a refusal.\nExample: hwdb list --limit 10 --after 3:17:: usb:v1D6Bp0002";
 
+const CHECK_ABOUT: &str =
+    "Says what is wrong in text files, or hardly meant, and writes no database";
+
+const CHECK_AFTER: &str =
+    "Status: 0; 1 if there is a fault, with --strict also if there is a warning, and after a refusal.\nExample: hwdb check 60-keyboard.hwdb";
+
 fn usr_option<'a>(alloc: Global) -> Arg<'a>
     ensures rule { rule_of result ≡ usr_rule }
     ensures local { result.global ≡ false }
@@ -65,7 +71,9 @@ fn strict_option<'a>(alloc: Global) -> Arg<'a>
     Arg::new(alloc, "strict")
         .short('s')
         .long("strict")
-        .help("With update: end with status 1 if a line had a fault")
+        .help(
+            "With update: end with status 1 if a line had a fault; with check: if there is a warning",
+        )
         .action(ArgAction::SetTrue)
 }
 
@@ -109,6 +117,15 @@ fn file_argument<'a>(alloc: Global) -> Arg<'a>
         .help("A .hwdb text file; the root doesn't change its path")
         .required(true)
         .action(ArgAction::Set)
+}
+
+fn files_argument<'a>(alloc: Global) -> Arg<'a>
+    ensures rule { rule_of result ≡ files_rule }
+    ensures local { result.global ≡ false }
+{
+    Arg::new(alloc, "FILE")
+        .help("A text file; without one those of /etc/udev/hwdb.d and /usr/lib/udev/hwdb.d")
+        .action(ArgAction::Append)
 }
 
 fn after_option<'a>(alloc: Global) -> Arg<'a>
@@ -232,6 +249,19 @@ fn list_command<'a>(alloc: Global) -> Result<Command<'a>, AllocError>
     with_json.arg(device_argument(alloc))
 }
 
+fn check_command<'a>(alloc: Global) -> Result<Command<'a>, AllocError>
+    ensures shape { IfOk result (λ r. shape_of r ≡ check_app.top) }
+    ensures local { IfOk result (λ r. (fields_of r).has_globals ≡ false) }
+{
+    let command = add_shared(
+        alloc,
+        Command::new(alloc, "check")
+            .about(CHECK_ABOUT)
+            .after_help(CHECK_AFTER),
+    )?;
+    command.arg(files_argument(alloc))
+}
+
 fn top_command<'a>(alloc: Global) -> Result<Command<'a>, AllocError>
     ensures app { IfOk result (λ r. app_of r ≡ top_app) }
     ensures local { IfOk result (λ r. (fields_of r).has_globals ≡ false) }
@@ -264,6 +294,8 @@ pub fn hwdb_command<'a>(alloc: Global) -> Result<Command<'a>, AllocError>
     let ask = ask_command(alloc)?;
     let with_ask = with_explain.subcommand(ask)?;
     let list = list_command(alloc)?;
-    let whole = with_ask.subcommand(list)?;
+    let with_list = with_ask.subcommand(list)?;
+    let check = check_command(alloc)?;
+    let whole = with_list.subcommand(check)?;
     Ok(whole)
 }

@@ -42,6 +42,11 @@ pub enum Task {
         /// Whether as JSON.
         json: bool,
     },
+    /// Print what is wrong in text files, or hardly meant.
+    Check {
+        /// The text files' paths; none where both folders are meant.
+        files: Vec<String>,
+    },
 }
 
 /// What a command line asks for.
@@ -49,7 +54,7 @@ pub enum Task {
 pub struct Job {
     /// Whether `update` writes the database of `/usr/lib`.
     pub usr: bool,
-    /// Whether `update` ends with status 1 if a line had a fault.
+    /// Whether `update` ends with status 1 if a line had a fault, and `check` if there is a warning.
     pub strict: bool,
     /// What to put in front of the paths of folders and databases.
     pub root: Option<String>,

@@ -53,6 +53,13 @@ fn shown(alloc: Global, job: &Job) -> Result<String, AllocError> {
                 None => format!(in alloc; "list{} {} all {}", json, after, device)?,
             }
         }
+        Task::Check { files } => {
+            let mut line = String::from_str(alloc, "check")?;
+            for file in files {
+                write!(line, " {}", file)?;
+            }
+            line
+        }
     };
     format!(in alloc;
         "usr={} strict={} root={} {}",
@@ -139,6 +146,21 @@ fn jobs(rt: HostRuntime) -> Result<(), Fail> {
             "hwdb list --limit 18446744073709551615 a",
             "usr=false strict=false root=none list none 18446744073709551615 a",
         ),
+        ("hwdb check", "usr=false strict=false root=none check"),
+        ("hwdb check f", "usr=false strict=false root=none check f"),
+        (
+            "hwdb check b a b --strict",
+            "usr=false strict=true root=none check b a b",
+        ),
+        ("hwdb check -r /x", "usr=false strict=false root=[/x] check"),
+        (
+            "hwdb -s check a --usr b -- -c",
+            "usr=true strict=true root=none check a b -c",
+        ),
+        (
+            "hwdb check -- -f",
+            "usr=false strict=false root=none check -f",
+        ),
     ];
     for (line, want) in rows {
         let seen = read(rt.alloc(), line)?;
@@ -164,6 +186,9 @@ fn refusals(rt: HostRuntime) -> Result<(), Fail> {
         ("hwdb query --json --json a", "usage"),
         ("hwdb --json query a", "usage"),
         ("hwdb update --json", "usage"),
+        ("hwdb check --json", "usage"),
+        ("hwdb check --limit 1 a", "usage"),
+        ("hwdb check -a", "usage"),
         ("hwdb ask --json f a", "usage"),
         ("hwdb update -r /x -r /y", "usage"),
         ("hwdb frobnicate", "usage"),
@@ -199,6 +224,7 @@ fn help_names_the_command(rt: HostRuntime) -> Result<(), Fail> {
     let rows = [
         ("hwdb --help", ["update", "query", "ask", "list"]),
         ("hwdb --help", ["explain", "--root", "--version", "-V"]),
+        ("hwdb --help", ["check", "--usr", "--strict", "--help"]),
         (
             "hwdb explain --help",
             ["hwdb explain", "MODALIAS", "--root", "-r"],
@@ -222,6 +248,10 @@ fn help_names_the_command(rt: HostRuntime) -> Result<(), Fail> {
             ["hwdb query", "MODALIAS", "--json", "--help"],
         ),
         ("hwdb ask --help", ["hwdb ask", "FILE", "MODALIAS", "-r"]),
+        (
+            "hwdb check --help",
+            ["hwdb check", "FILE", "--strict", "/etc/udev/hwdb.d"],
+        ),
         (
             "hwdb -r /x list --help",
             ["hwdb list", "MODALIAS", "--after", "--limit"],

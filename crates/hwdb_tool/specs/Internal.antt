@@ -15,6 +15,10 @@ use Rattle.hwdb_store.specs.declared.memory.Step.TheVariants.{Changed, Moved}
 abbrev pub AreTexts : (root : List ℕ) (contents : Contents) → List Choice → (texts : List (List ℕ)) → Type 0
 AreTexts root contents chosen texts = map Some texts ≡ map (λ c. bytes_at contents (root ++ path_of c)) chosen
 
+-- the texts are what is read at the paths
+abbrev pub AreTextsAt : Contents → (paths texts : List (List ℕ)) → Type 0
+AreTextsAt contents paths texts = map Some texts ≡ map (bytes_at contents) paths
+
 -- what a read gives after some steps of a store in memory
 abbrev pub bytes_after : List Step → (path : List ℕ) → Option (List ℕ)
 bytes_after steps = bytes_at (seen_of steps)

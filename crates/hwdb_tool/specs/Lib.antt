@@ -1,4 +1,5 @@
 pub mod Refusals
+pub mod CheckedFiles
 pub mod Program
 pub mod Internal
 pub mod Laws

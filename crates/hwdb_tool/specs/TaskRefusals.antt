@@ -1,13 +1,14 @@
 -- Which refusals end a task, when each comes, and what it leaves: the files, what standard error had taken before the
 -- refusal's line, and standard output. Our choice.
-use Rattle.std.specs.Prelude.{◌≡◌, ◌≢◌, ◌⊎◌, ◌<◌, ℕ, Bool, true, false, List, ◌++◌, Option, Some, None, Contains, length, map, option_map, string_bytes, codes}
+use Rattle.std.specs.Prelude.{◌≡◌, ◌≢◌, ◌⊎◌, ◌<◌, ℕ, Bool, true, false, List, [], ◌∷◌, ◌++◌, Option, Some, None, Contains, length, map, option_map, string_bytes, codes}
 use Rattle.hwdb_cli.specs.Words.{AskFor, AreToldBy}
 use Rattle.hwdb_cli.specs.declared.job.Job.{Job}
-use Rattle.hwdb_cli.specs.declared.job.Task.TheVariants.{Ask, Explain, List as ListHits, Query, Update}
+use Rattle.hwdb_cli.specs.declared.job.Task.TheVariants.{Ask, Check, Explain, List as ListHits, Query, Update}
 use Rattle.hwdb_cli.specs.declared.job.Task.{Task}
 use Rattle.hwdb_cli.specs.declared.job.WordsFault.TheVariants as words_fault
 use Rattle.hwdb_cli.specs.declared.job.WordsFault.{WordsFault}
 use Rattle.hwdb_spec.specs.Assignment.{Position}
+use Rattle.hwdb_spec.specs.Checks.{check_text}
 use Rattle.hwdb_spec.specs.Folders.{Choice, Source, choice, faults_of_files, max_files, names, path_of}
 use Rattle.hwdb_spec.specs.Store.{Contents, Outcomes, NoMore, Same, database_name, path_in}
 use Rattle.hwdb_spec.specs.System.{AreFilesIn, AreNamesIn, asked_database, bytes_at, database_folder, etc_files, usr_files}
@@ -18,6 +19,8 @@ use Rattle.hwdb_commands.specs.Lookups.{IsNoDatabase, IsQueryRefusal, IsTextOf}
 use Rattle.hwdb_commands.specs.Updates.{AreAskTexts, IsAskRefusal, IsUpdateRefusal, UpdateUndone}
 use Rattle.hwdb_commands.specs.declared.errors.ToolError.TheVariants.{BadDatabase, BadPosition, Memory, TooManyFiles, Write}
 use Rattle.hwdb_commands.specs.declared.errors.ToolError.{ToolError}
+use Rattle.hwdb_lint.specs.Checks.{IsChecksRefusal}
+use Rattle.hwdb_tool.specs.CheckedFiles.{AreCheckedFiles}
 use Rattle.hwdb_tool.specs.Program.{IsFrom, IsListFrom, explain_form, queries_form, root_of}
 use Rattle.hwdb_tool.specs.Refusals.{IsAt, IsOver, IsUnlisted, IsUnread, Refused, refusal_line, refusal_text}
 use Rattle.hwdb_tool.specs.declared.refusals.Refusal.TheVariants.{NoDatabase, Plain}
@@ -101,6 +104,28 @@ AreUnread root contents refusal =
     (refusal ≡ Plain Memory)
     ⊎ (IsUnlisted (etc_files root) refusal ⊎ (IsUnlisted (usr_files root) refusal ⊎ IsChoiceRefused root contents refusal))
 
+-- reading one of the given files was refused
+abbrev pub IsGivenUnread : (given : List (List ℕ)) → Refusal → Type 0
+IsGivenUnread given refusal = (refusal ≡ Plain Memory) ⊎ ((path : List ℕ) × Contains given path × IsUnread path refusal)
+
+-- reading the files that are to be checked is refused: the given ones, or where none is given those of both folders
+abbrev pub AreUncheckable : (given : List (List ℕ)) (root : List ℕ) → Contents → Refusal → Type 0
+AreUncheckable [] root contents refusal = AreUnread root contents refusal
+AreUncheckable (path ∷ more) root contents refusal = IsGivenUnread (path ∷ more) refusal
+
+-- checking such files was refused, and standard output has what it had, or a prefix where it failed
+pub record IsUnchecked (Are : List Source → Type 0) (error : ToolError) (out_before out_now : Option (List ℕ)) : Type 0 where
+  pub sources : List Source
+  pub are : Are sources
+  pub refused : IsChecksRefusal sources error
+  pub untouched : error ≢ Write → out_now ≡ out_before
+  pub cut_short : error ≡ Write → AppendsPrefix out_before out_now (check_text sources)
+
+-- `check` is refused: its files can't be read, or not be checked
+abbrev pub IsCheckRefused : (Unread : Refusal → Type 0) (Are : List Source → Type 0) → Refusal → (out_before out_now : Option (List ℕ)) → Type 0
+IsCheckRefused Unread Are refusal out_before out_now =
+    (Unread refusal × (out_now ≡ out_before)) ⊎ ((error : ToolError) × (refusal ≡ Plain error) × IsUnchecked Are error out_before out_now)
+
 -- compiling the files is refused, or their fault lines can't be written: nothing of the files changed
 pub record IsUncompiled (of_etc of_usr : List Source) (refusal : Refusal) (old new : Contents) (left_before left : Outcomes) (err_before err_then : Option (List ℕ)) : Type 0 where
   pub error : ToolError
@@ -146,6 +171,9 @@ IsTaskRefused (ListHits after limit device json) root usr refusal old new left_b
     × (err_then ≡ err_before) × AreKept old new left_before left
 IsTaskRefused (Ask file device) root usr refusal old new left_before left err_before err_then out_before out_now =
     IsAskRefused (string_bytes file) (string_bytes device) old refusal err_before err_then out_before out_now × AreKept old new left_before left
+IsTaskRefused (Check files) root usr refusal old new left_before left err_before err_then out_before out_now =
+    IsCheckRefused (AreUncheckable (map string_bytes files.items) root old) (AreCheckedFiles (map string_bytes files.items) root old) refusal out_before out_now
+    × (err_then ≡ err_before) × AreKept old new left_before left
 
 -- what is said of a refusal: of standard output's, where the system tells why it failed, that it can't be written
 abbrev pub IsSaidOf : (refusal said : Refusal) → Type 0

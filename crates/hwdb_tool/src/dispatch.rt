@@ -11,6 +11,7 @@ ghost use Rattle.hwdb_tool.specs.Refusals.{IsUnread};
 ghost use Rattle.hwdb_tool.specs.TaskRefusals.{AreRefused, IsAnswerRefused, IsAskRefused, IsJobRefused, IsListRefusedBy, IsSaid, IsTaskRefused, IsUnfound, IsUpdateRefused};
 ghost use Rattle.hwdb_tool.specs.declared.refusals.Refusal.TheVariants.{Plain};
 
+use crate::checks::check;
 use crate::files::{joined, path_in};
 use crate::folders::{selected, with_texts};
 use crate::refusals::{Refusal, refuse_for, refuse_text};
@@ -29,7 +30,7 @@ const ETC_FOLDER: &str = "/etc/udev";
 const USR_FOLDER: &str = "/usr/lib/udev";
 
 /// Does what the words say, the first of which is the program's name, and returns the status: 0, or 1
-/// after a refusal, whose line goes to `err`, and where `--strict` says so. Words that the command doesn't
+/// after a refusal, whose line goes to `err`, and where `check` finds something or `--strict` says so. Words that the command doesn't
 /// take, and that ask for no help, are refused. Where the reader of `out` went away the status is 0, and
 /// nothing is said.
 pub fn program<D: System, O: Sink, E: Sink>(
@@ -105,7 +106,7 @@ fn refuse_job<O: Sink, E: Sink>(alloc: Global, refusal: Refusal, out: &O, err: &
     }
 }
 
-/// Does the job, and returns the status: 1 where `--strict` says so, else 0.
+/// Does the job, and returns the status: 1 where `check` finds something or `--strict` says so, else 0.
 fn run<D: System, O: Sink, E: Sink>(
     alloc: Global,
     job: &Job,
@@ -137,6 +138,7 @@ fn run<D: System, O: Sink, E: Sink>(
         Task::Explain { device, json } => {
             explain(alloc, root, device.as_bytes(), *json, system, out)?
         }
+        Task::Check { files } => return check(alloc, root, files, job.strict, system, out),
         Task::Ask { file, device } => {
             ask_file(alloc, file.as_str(), device.as_bytes(), system, out, err)?
         }

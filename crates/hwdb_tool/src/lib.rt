@@ -3,6 +3,7 @@
 //! | Module | What it does |
 //! |---|---|
 //! | `dispatch` | the program: what each command reads, and where its text goes |
+//! | `checks` | `check`: text files that are read and looked over |
 //! | `system` | what the program asks of a file system |
 //! | `folders` | the text files of both folders, chosen and read |
 //! | `files` | files and folders: the file system that the runtime reaches |
@@ -14,6 +15,7 @@
 //! here too.
 #![tactic(auto)]
 
+mod checks;
 mod dispatch;
 mod files;
 mod folders;

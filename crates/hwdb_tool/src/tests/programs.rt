@@ -18,8 +18,8 @@ fn run(
     alloc: Global,
     store: &mut Memory,
     line: &str,
-    out: &mut MemorySink<256>,
-    err: &mut MemorySink<256>,
+    out: &mut MemorySink<512>,
+    err: &mut MemorySink<512>,
 ) -> Result<u8, Fail> {
     let mut words = Vec::new(alloc);
     words.push(String::from_str(alloc, "hwdb")?)?;
@@ -37,8 +37,8 @@ fn expect(
     line: &str,
     expected: (u8, &str, &str),
 ) -> Result<(), Fail> {
-    let mut out: MemorySink<256> = MemorySink::new();
-    let mut err: MemorySink<256> = MemorySink::new();
+    let mut out: MemorySink<512> = MemorySink::new();
+    let mut err: MemorySink<512> = MemorySink::new();
     let status = run(alloc, store, line, &mut out, &mut err)?;
     assert_eq!(rt; out.taken(), expected.1.as_bytes());
     assert_eq!(rt; err.taken(), expected.2.as_bytes());
@@ -91,4 +91,60 @@ fn two_databases(rt: HostRuntime) -> Result<(), Fail> {
     expect(&rt, alloc, store, "query a", (0, "K=2\n", ""))?;
     let json = "{\"device\":\"a\",\"properties\":{\"K\":\"2\"}}\n";
     expect(&rt, alloc, store, "query --json a", (0, json, ""))
+}
+
+const STRAY: &str = "/etc/udev/hwdb.d/20-b.hwdb:1: property where a match is expected, ignored
+     S=1
+     ^
+    hint: put a match line above it, with no empty line between them
+2 files, 1 assignment, 1 fault, 0 warnings
+";
+
+const TABBED: &str = "/r/tabbed:1: warning: a match line that begins with a tab
+    \\x09a
+    ^
+    hint: begin a property with a space
+1 file, 1 assignment, 0 faults, 1 warning
+";
+
+/// The chosen files of both folders, and no masked one.
+#[test]
+fn check_of_both_folders(rt: HostRuntime) -> Result<(), Fail> {
+    let alloc = rt.alloc();
+    let mut store = Memory::new(alloc);
+    let store = &mut store;
+    let none = "0 files, 0 assignments, 0 faults, 0 warnings\n";
+    expect(&rt, alloc, store, "check -r /r", (0, none, ""))?;
+    put(store, "/r/etc/udev/hwdb.d", "20-b.hwdb", b" S=1\n")?;
+    put(store, "/r/usr/lib/udev/hwdb.d", "20-b.hwdb", b"a\n =v\n")?;
+    put(store, "/r/usr/lib/udev/hwdb.d", "10-a.hwdb", b"a\n K=1\n")?;
+    put(store, "/r/etc/udev/hwdb.d", "30-c.txt", b" T=1\n")?;
+    expect(&rt, alloc, store, "check -r /r", (1, STRAY, ""))?;
+    expect(&rt, alloc, store, "check -s -r /r", (1, STRAY, ""))?;
+    let refused = (1, "", "hwdb: no database\n");
+    expect(&rt, alloc, store, "query -r /r a", refused)
+}
+
+/// Given files alone, by the paths that are given; a warning counts with `--strict`.
+#[test]
+fn check_of_files(rt: HostRuntime) -> Result<(), Fail> {
+    let alloc = rt.alloc();
+    let mut store = Memory::new(alloc);
+    let store = &mut store;
+    put(store, "/r/etc/udev/hwdb.d", "20-b.hwdb", b" S=1\n")?;
+    put(store, "/r", "tabbed", b"\ta\n K=1\n")?;
+    put(store, "/r", "clean", b"a*\n K=1\n L=2\n")?;
+    let clean = "1 file, 2 assignments, 0 faults, 0 warnings\n";
+    expect(&rt, alloc, store, "check /r/clean", (0, clean, ""))?;
+    expect(&rt, alloc, store, "check -r /r -s /r/clean", (0, clean, ""))?;
+    let twice = "2 files, 4 assignments, 0 faults, 0 warnings\n";
+    expect(&rt, alloc, store, "check /r/clean /r/clean", (0, twice, ""))?;
+    expect(&rt, alloc, store, "check /r/tabbed", (0, TABBED, ""))?;
+    expect(
+        &rt,
+        alloc,
+        store,
+        "check --strict /r/tabbed",
+        (1, TABBED, ""),
+    )
 }

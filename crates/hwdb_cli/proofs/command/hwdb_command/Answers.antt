@@ -12,4 +12,5 @@ returns c =
     let three : app_of c.in_ok-with_explain.with_explain ≡ with_subcommand (with_subcommand (with_subcommand top_app update_app.top) query_app.top) explain_app.top =
     c.in_ok-with_explain.ensures.shape c.in_ok-explain.ensures.local ∙ ap₂ with_subcommand two c.in_ok-explain.ensures.shape in
     let four = c.in_ok-with_ask.ensures.shape c.in_ok-ask.ensures.local ∙ ap₂ with_subcommand three c.in_ok-ask.ensures.shape in
-    c.in_ok-whole.ensures.shape c.in_ok-list.ensures.local ∙ ap₂ with_subcommand four c.in_ok-list.ensures.shape
+    let five = c.in_ok-with_list.ensures.shape c.in_ok-list.ensures.local ∙ ap₂ with_subcommand four c.in_ok-list.ensures.shape in
+    c.in_ok-whole.ensures.shape c.in_ok-check.ensures.local ∙ ap₂ with_subcommand five c.in_ok-check.ensures.shape

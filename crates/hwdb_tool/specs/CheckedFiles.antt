@@ -1,0 +1,35 @@
+-- Which text files `check` reads, and what it leaves. Our choice.
+use Rattle.std.specs.Prelude.{◌≡◌, ◌≤◌, ℕ, Bool, List, [], ◌∷◌, ◌++◌, Option, Some, length, map}
+use Rattle.std.specs.Io.KnownBytes.{Appends}
+use Rattle.hwdb_spec.specs.Checks.{check_status, check_text, empty_tally, tally_from}
+use Rattle.hwdb_spec.specs.Folders.{Source, choice, max_files, names, path_of}
+use Rattle.hwdb_spec.specs.Store.{Contents}
+use Rattle.hwdb_spec.specs.System.{AreNamesIn, bytes_at, etc_files, usr_files}
+
+-- These are the chosen of both folders' text files below the root, by priority: each under its stored path, as `update` names
+-- it, with what it holds.
+pub record AreChosenFiles (root : List ℕ) (contents : Contents) (sources : List Source) : Type 0 where
+  pub etc : List (List ℕ)
+  pub usr : List (List ℕ)
+  pub in_etc : AreNamesIn (etc_files root) contents etc
+  pub in_usr : AreNamesIn (usr_files root) contents usr
+  pub few : length (names etc usr) ≤ max_files
+  pub named : map (λ (s : Source). s.name) sources ≡ map path_of (choice etc usr)
+  pub held : map (λ (s : Source). Some s.bytes) sources ≡ map (λ c. bytes_at contents (root ++ path_of c)) (choice etc usr)
+
+-- these are the files with the given paths, in their order, each with what it holds
+pub record AreGivenFiles (paths : List (List ℕ)) (contents : Contents) (sources : List Source) : Type 0 where
+  pub named : map (λ (s : Source). s.name) sources ≡ paths
+  pub held : map (λ (s : Source). Some s.bytes) sources ≡ map (bytes_at contents) paths
+
+-- the files that are checked: the given ones, or where none is given those of both folders
+abbrev pub AreCheckedFiles : (given : List (List ℕ)) (root : List ℕ) → Contents → List Source → Type 0
+AreCheckedFiles [] root contents sources = AreChosenFiles root contents sources
+AreCheckedFiles (path ∷ more) root contents sources = AreGivenFiles (path ∷ more) contents sources
+
+-- standard output took what is said of such files, and the status says whether something is wrong with one
+pub record IsChecked (Are : List Source → Type 0) (strict : Bool) (status : ℕ) (out_before out_now : Option (List ℕ)) : Type 0 where
+  pub sources : List Source
+  pub are : Are sources
+  pub printed : Appends out_before out_now (check_text sources)
+  pub says : status ≡ check_status strict (tally_from empty_tally sources)
