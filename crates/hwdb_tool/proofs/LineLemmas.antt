@@ -81,6 +81,24 @@ offset_line fault bad name between digits offset at begun named joined spelled i
     ∙ ap (λ (l : List ℕ). codes "hwdb: bad database: " ++ l) (sym (append_assoc (db_fault_name fault) (codes " at " ++ decimal at) (10 ∷ [])))
     ∙ ap (λ (o : Option ℕ). refusal_line (codes "bad database: " ++ at_offset (db_fault_name fault) o)) (sym some ∙ is)
 
+-- the same of the database at a path
+pub path_line : (path bad name text : List ℕ) → bad ≡ codes ": bad database: " → text ≡ name
+    → codes "hwdb: " ++ (path ++ (bad ++ (text ++ 10 ∷ []))) ≡ refusal_line (path ++ (codes ": " ++ (codes "bad database: " ++ name)))
+path_line path bad name text begun named =
+    ap (λ (b : List ℕ). codes "hwdb: " ++ (path ++ (b ++ (text ++ 10 ∷ [])))) begun
+    ∙ ap (λ (n : List ℕ). codes "hwdb: " ++ (path ++ (codes ": bad database: " ++ (n ++ 10 ∷ [])))) named
+    ∙ ap (λ (l : List ℕ). codes "hwdb: " ++ l) (sym (append_assoc path (codes ": bad database: " ++ name) (10 ∷ [])))
+
+pub path_offset_line : (path bad name text between digits : List ℕ) (at : ℕ) → bad ≡ codes ": bad database: " → text ≡ name → between ≡ codes " at " → digits ≡ decimal at
+    → codes "hwdb: " ++ (path ++ (bad ++ (text ++ (between ++ (digits ++ 10 ∷ []))))) ≡ refusal_line (path ++ (codes ": " ++ (codes "bad database: " ++ at_offset name (Some at))))
+path_offset_line path bad name text between digits at begun named joined spelled =
+    ap (λ (b : List ℕ). codes "hwdb: " ++ (path ++ (b ++ (text ++ (between ++ (digits ++ 10 ∷ [])))))) begun
+    ∙ ap (λ (n : List ℕ). codes "hwdb: " ++ (path ++ (codes ": bad database: " ++ (n ++ (between ++ (digits ++ 10 ∷ [])))))) named
+    ∙ ap (λ (b : List ℕ). codes "hwdb: " ++ (path ++ (codes ": bad database: " ++ (name ++ (b ++ (digits ++ 10 ∷ [])))))) joined
+    ∙ ap (λ (d : List ℕ). codes "hwdb: " ++ (path ++ (codes ": bad database: " ++ (name ++ (codes " at " ++ (d ++ 10 ∷ [])))))) spelled
+    ∙ ap (λ (l : List ℕ). codes "hwdb: " ++ (path ++ (codes ": bad database: " ++ l))) (sym (append_assoc name (codes " at " ++ decimal at) (10 ∷ [])))
+    ∙ ap (λ (l : List ℕ). codes "hwdb: " ++ l) (sym (append_assoc path (codes ": bad database: " ++ (name ++ (codes " at " ++ decimal at))) (10 ∷ [])))
+
 -- two texts, and a path with a cause
 pub two_line : (first second : List ℕ) → codes "hwdb: " ++ (first ++ (second ++ 10 ∷ [])) ≡ refusal_line (first ++ second)
 two_line first second = ap (λ (l : List ℕ). codes "hwdb: " ++ l) (sym (append_assoc first second (10 ∷ [])))
@@ -92,15 +110,15 @@ cause_line failed path colon words is =
     (ap (λ (l : List ℕ). failed ++ l) (sym (append_assoc path (codes ": " ++ words) (10 ∷ []))) ∙ sym (append_assoc failed (path ++ (codes ": " ++ words)) (10 ∷ [])))
 
 -- an error that has no text of its own over a path
-pub plain_text : (e : ToolError) (path words : List ℕ) (cause : Option Cause) → e ≢ Read → e ≢ Write → e ≢ TooLong → error_text e ≡ path_text e path cause words
-plain_text Read path words cause nr nw nl = absurd (nr refl)
-plain_text Write path words cause nr nw nl = absurd (nw refl)
-plain_text TooLong path words cause nr nw nl = absurd (nl refl)
-plain_text TooManyFiles path words cause nr nw nl = refl
-plain_text TooManyLines path words cause nr nw nl = refl
-plain_text TooLarge path words cause nr nw nl = refl
-plain_text BadPosition path words cause nr nw nl = refl
-plain_text PageZero path words cause nr nw nl = refl
-plain_text (BadDatabase fault) path words cause nr nw nl = refl
-plain_text (Replace u) path words cause nr nw nl = refl
-plain_text Memory path words cause nr nw nl = refl
+pub plain_text : (e : ToolError) (path words : List ℕ) (cause : Option Cause) → e ≢ Read → e ≢ Write → e ≢ TooLong → ((fault : DbFault) → e ≢ BadDatabase fault) → error_text e ≡ path_text e path cause words
+plain_text Read path words cause nr nw nl nb = absurd (nr refl)
+plain_text Write path words cause nr nw nl nb = absurd (nw refl)
+plain_text TooLong path words cause nr nw nl nb = absurd (nl refl)
+plain_text TooManyFiles path words cause nr nw nl nb = refl
+plain_text TooManyLines path words cause nr nw nl nb = refl
+plain_text TooLarge path words cause nr nw nl nb = refl
+plain_text BadPosition path words cause nr nw nl nb = refl
+plain_text PageZero path words cause nr nw nl nb = refl
+plain_text (BadDatabase fault) path words cause nr nw nl nb = absurd (nb fault refl)
+plain_text (Replace u) path words cause nr nw nl nb = refl
+plain_text Memory path words cause nr nw nl nb = refl

@@ -1,5 +1,5 @@
 -- What the program does with a file system, by the job that its words ask for (systemd-hwdb(8); `explain`, `ask`,
--- `list` and `check` are our choice).
+-- `list`, `check` and `diff` are our choice).
 use Rattle.std.specs.Prelude.{true, false, ◌≡◌, ℕ, Bool, List, [], ◌⊎◌, Option, Some, None, map, option_map, string_bytes}
 use Rattle.std.specs.Option.{option_map_or}
 use Rattle.std.specs.Io.KnownBytes.{Appends}
@@ -16,10 +16,11 @@ use Rattle.hwdb_spec.specs.Written.{IsWritten}
 use Rattle.hwdb_commands.specs.Devices.{Wrote, WroteTexts}
 use Rattle.hwdb_commands.specs.Lookups.{IsTextOf}
 use Rattle.hwdb_commands.specs.Updates.{Updated, AreAskTexts}
-use Rattle.hwdb_cli.specs.declared.job.Task.TheVariants.{Ask, Check, Explain, List as ListHits, Query, Update}
+use Rattle.hwdb_cli.specs.declared.job.Task.TheVariants.{Ask, Check, Diff, Explain, List as ListHits, Query, Update}
 use Rattle.hwdb_cli.specs.declared.job.Task.{Task}
 use Rattle.hwdb_cli.specs.declared.job.Job.{Job}
 use Rattle.hwdb_tool.specs.CheckedFiles.{AreCheckedFiles, IsChecked}
+use Rattle.hwdb_tool.specs.ComparedDatabases.{IsCompared}
 
 -- the root in front of each path; nothing where none was given
 abbrev pub root_of : Job → List ℕ
@@ -90,6 +91,8 @@ IsTaskDone (Ask file device) root usr strict status old new left err_before err_
     IsAsked (string_bytes file) (string_bytes device) old err_before err_now out_before out_now × (status ≡ 0) × Same old new
 IsTaskDone (Check files) root usr strict status old new left err_before err_now out_before out_now =
     IsChecked (AreCheckedFiles (map string_bytes files.items) root old) strict status out_before out_now × Same old new × (err_now ≡ err_before)
+IsTaskDone (Diff old_path new_path) root usr strict status old new left err_before err_now out_before out_now =
+    IsCompared (string_bytes old_path) (string_bytes new_path) status old out_before out_now × Same old new × (err_now ≡ err_before)
 
 -- what a job leaves that is done
 abbrev pub IsDone : Job → (status : ℕ) (old new : Contents) (left : Outcomes) (err_before err_now out_before out_now : Option (List ℕ)) → Type 0

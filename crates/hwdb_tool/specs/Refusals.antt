@@ -7,7 +7,7 @@ use Rattle.hwdb_spec.specs.Store.{path_in}
 use Rattle.hwdb_commands.specs.Devices.{AppendsPrefix}
 use Rattle.hwdb_commands.specs.Refusals.{error_text}
 use Rattle.hwdb_devices.specs.declared.causes.Cause.{Cause}
-use Rattle.hwdb_commands.specs.declared.errors.ToolError.TheVariants.{Read, Write, TooLong, Memory, Replace}
+use Rattle.hwdb_commands.specs.declared.errors.ToolError.TheVariants.{BadDatabase, Read, Write, TooLong, Memory, Replace}
 use Rattle.hwdb_commands.specs.declared.errors.ToolError.{ToolError}
 use Rattle.hwdb_tool.specs.declared.refusals.Refusal.{Refusal}
 use Rattle.hwdb_tool.specs.declared.refusals.Refusal.TheVariants.{Plain, At, NoDatabase}
@@ -22,6 +22,7 @@ abbrev pub path_text : ToolError → (path : List ℕ) → Option Cause → (wor
 path_text Read path cause words = codes "cannot read " ++ file_text path cause words
 path_text Write path cause words = codes "cannot write " ++ file_text path cause words
 path_text TooLong path cause words = path ++ codes " is longer than 268435456 bytes"
+path_text (BadDatabase fault) path cause words = path ++ (codes ": " ++ error_text (BadDatabase fault))
 path_text error path cause words = error_text error
 
 -- what is printed of a refusal

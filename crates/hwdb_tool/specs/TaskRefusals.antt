@@ -3,7 +3,7 @@
 use Rattle.std.specs.Prelude.{◌≡◌, ◌≢◌, ◌⊎◌, ◌<◌, ℕ, Bool, true, false, List, [], ◌∷◌, ◌++◌, Option, Some, None, Contains, length, map, option_map, string_bytes, codes}
 use Rattle.hwdb_cli.specs.Words.{AskFor, AreToldBy}
 use Rattle.hwdb_cli.specs.declared.job.Job.{Job}
-use Rattle.hwdb_cli.specs.declared.job.Task.TheVariants.{Ask, Check, Explain, List as ListHits, Query, Update}
+use Rattle.hwdb_cli.specs.declared.job.Task.TheVariants.{Ask, Check, Diff, Explain, List as ListHits, Query, Update}
 use Rattle.hwdb_cli.specs.declared.job.Task.{Task}
 use Rattle.hwdb_cli.specs.declared.job.WordsFault.TheVariants as words_fault
 use Rattle.hwdb_cli.specs.declared.job.WordsFault.{WordsFault}
@@ -21,6 +21,7 @@ use Rattle.hwdb_commands.specs.declared.errors.ToolError.TheVariants.{BadDatabas
 use Rattle.hwdb_commands.specs.declared.errors.ToolError.{ToolError}
 use Rattle.hwdb_lint.specs.Checks.{IsChecksRefusal}
 use Rattle.hwdb_tool.specs.CheckedFiles.{AreCheckedFiles}
+use Rattle.hwdb_tool.specs.ComparedDatabases.{IsDiffRefused}
 use Rattle.hwdb_tool.specs.Program.{IsFrom, IsListFrom, explain_form, queries_form, root_of}
 use Rattle.hwdb_tool.specs.Refusals.{IsAt, IsOver, IsUnlisted, IsUnread, Refused, refusal_line, refusal_text}
 use Rattle.hwdb_tool.specs.declared.refusals.Refusal.TheVariants.{NoDatabase, Plain}
@@ -174,6 +175,13 @@ IsTaskRefused (Ask file device) root usr refusal old new left_before left err_be
 IsTaskRefused (Check files) root usr refusal old new left_before left err_before err_then out_before out_now =
     IsCheckRefused (AreUncheckable (map string_bytes files.items) root old) (AreCheckedFiles (map string_bytes files.items) root old) refusal out_before out_now
     × (err_then ≡ err_before) × AreKept old new left_before left
+IsTaskRefused (Diff old_path new_path) root usr refusal old new left_before left err_before err_then out_before out_now =
+    IsDiffRefused (string_bytes old_path) (string_bytes new_path) old refusal out_before out_now × (err_then ≡ err_before) × AreKept old new left_before left
+
+-- the status where a task is refused: 2 of `diff`, whose 1 says that something changed, else 1
+abbrev pub refused_status : Task → ℕ
+refused_status (Diff old_path new_path) = 2
+refused_status _ = 1
 
 -- what is said of a refusal: of standard output's, where the system tells why it failed, that it can't be written
 abbrev pub IsSaidOf : (refusal said : Refusal) → Type 0
@@ -186,8 +194,8 @@ pub record IsSaid (refusal : Refusal) (before now : Taken) : Type 0 where
   pub words : List ℕ
   pub line : Refused (refusal_line (refusal_text said words)) before.bytes now.bytes before.failures now.failures
 
--- The words ask for a job, and it is refused. Standard error had failed by then only where the refusal is that it did.
-pub record IsJobRefused (words : List (List ℕ)) (old new : Contents) (left_before left : Outcomes) (err_before err_now : Taken) (out_before out_now : Option (List ℕ)) : Type 0 where
+-- The words ask for a job, and it is refused with this status. Standard error had failed by then only where the refusal is that it did.
+pub record IsJobRefused (words : List (List ℕ)) (status : ℕ) (old new : Contents) (left_before left : Outcomes) (err_before err_now : Taken) (out_before out_now : Option (List ℕ)) : Type 0 where
   pub job : Job
   pub asked : AskFor words job
   pub refusal : Refusal
@@ -195,6 +203,7 @@ pub record IsJobRefused (words : List (List ℕ)) (old new : Contents) (left_bef
   pub refused : IsTaskRefused job.task (root_of job) job.usr refusal old new left_before left err_before.bytes err_then.bytes out_before out_now
   pub unfailed : refusal ≢ Plain Write → err_then.failures ≡ err_before.failures
   pub said : IsSaid refusal err_then err_now
+  pub says : status ≡ refused_status job.task
 
 -- what is told of words that ask for no job; help and the version are told, but standard output failed
 abbrev pub IsWordsTold : WordsFault → (err_before err_now : Taken) (out_before out_now : Option (List ℕ)) → Type 0
@@ -205,9 +214,10 @@ IsWordsTold (words_fault.Usage text) err_before err_now out_before out_now =
 IsWordsTold words_fault.Memory err_before err_now out_before out_now =
     IsSaid (Plain Memory) err_before err_now × (out_now ≡ out_before)
 
--- the words ask for no job, and the files are as they were
-pub record AreRefused (words : List (List ℕ)) (old new : Contents) (left_before left : Outcomes) (err_before err_now : Taken) (out_before out_now : Option (List ℕ)) : Type 0 where
+-- the words ask for no job, the status is 1, and the files are as they were
+pub record AreRefused (words : List (List ℕ)) (status : ℕ) (old new : Contents) (left_before left : Outcomes) (err_before err_now : Taken) (out_before out_now : Option (List ℕ)) : Type 0 where
   pub fault : WordsFault
   pub of : AreToldBy words fault
   pub told : IsWordsTold fault err_before err_now out_before out_now
   pub kept : AreKept old new left_before left
+  pub says : status ≡ 1

@@ -1,5 +1,5 @@
 //! The program: its words, its files, its status and its refusal lines.
-ghost use Rattle.std.specs.Prelude.{◌≡◌, ◌≢◌, ◌≤◌, ◌⊎◌, ◌++◌, Some, map, option_map, string_bytes, IfOk, IfErr, OnOk};
+ghost use Rattle.std.specs.Prelude.{◌≡◌, ◌≢◌, ◌<◌, ◌≤◌, ◌⊎◌, ◌++◌, Some, map, option_map, string_bytes, IfOk, IfErr, OnOk};
 ghost use Rattle.hwdb_spec.specs.Store as spec;
 ghost use Rattle.hwdb_spec.specs.System as Folder;
 ghost use Rattle.hwdb_spec.specs.System.{asked_database, bytes_at};
@@ -8,10 +8,11 @@ ghost use Rattle.hwdb_commands.specs.Lookups.{IsQueryRefusal, IsTextOf};
 ghost use Rattle.hwdb_cli.specs.Refusals.{AreWrong};
 ghost use Rattle.hwdb_tool.specs.Program.{IsAnswered, IsAsked, IsUpdated, IsDone, IsJobDone, IsTold, IsListFrom, OldOrAskedFor, OldOrDone, OldOrUpdated, explain_form, queries_form, root_of};
 ghost use Rattle.hwdb_tool.specs.Refusals.{IsUnread};
-ghost use Rattle.hwdb_tool.specs.TaskRefusals.{AreRefused, IsAnswerRefused, IsAskRefused, IsJobRefused, IsListRefusedBy, IsSaid, IsTaskRefused, IsUnfound, IsUpdateRefused};
+ghost use Rattle.hwdb_tool.specs.TaskRefusals.{AreRefused, IsAnswerRefused, IsAskRefused, IsJobRefused, IsListRefusedBy, IsSaid, IsTaskRefused, IsUnfound, IsUpdateRefused, refused_status};
 ghost use Rattle.hwdb_tool.specs.declared.refusals.Refusal.TheVariants.{Plain};
 
 use crate::checks::check;
+use crate::differences::diff;
 use crate::files::{joined, path_in};
 use crate::folders::{selected, with_texts};
 use crate::refusals::{Refusal, refuse_for, refuse_text};
@@ -29,10 +30,10 @@ const ETC_FOLDER: &str = "/etc/udev";
 
 const USR_FOLDER: &str = "/usr/lib/udev";
 
-/// Does what the words say, the first of which is the program's name, and returns the status: 0, or 1
-/// after a refusal, whose line goes to `err`, and where `check` finds something or `--strict` says so. Words that the command doesn't
-/// take, and that ask for no help, are refused. Where the reader of `out` went away the status is 0, and
-/// nothing is said.
+/// Does what the words say, the first of which is the program's name, and returns the status: 0; 1 where `check` or
+/// `diff` finds something, or `--strict` says so, and after a refusal, whose line goes to `err`; 2 after one of `diff`.
+/// Words that the command doesn't take, and that ask for no help, are refused. Where the reader of `out` went away the
+/// status is 0, and nothing is said.
 pub fn program<D: System, O: Sink, E: Sink>(
     alloc: Global,
     words: &[String],
@@ -40,7 +41,7 @@ pub fn program<D: System, O: Sink, E: Sink>(
     out: &mut O,
     err: &mut E,
 ) -> u8
-    ensures status { result ≤ 1 }
+    ensures status { result ≤ 2 }
     ensures wrong_words { AreWrong (map string_bytes words.now) → result ≡ 1 }
     ensures any_moment { D.Store.tells
         → spec.LeavesOnly D.Store.moment D.Store.left_since system.old system.new
@@ -53,15 +54,15 @@ pub fn program<D: System, O: Sink, E: Sink>(
         (E.taken err.old) (E.taken err.new) (O.taken out.old) (O.taken out.new)
         ⊎ (HasFailed (E.failures err.old) (E.failures err.new)
         ⊎ HasFailed (O.failures out.old) (O.failures out.new))) }
-    ensures refused { D.Store.tells → result ≡ 1 → IsJobDone (map string_bytes words.now) 1
+    ensures refused { D.Store.tells → 0 < result → IsJobDone (map string_bytes words.now) result
         (D.Store.seen system.old) (D.Store.seen system.new) (D.Store.may_leave system.new)
         (E.taken err.old) (E.taken err.new) (O.taken out.old) (O.taken out.new)
-        ⊎ (IsJobRefused (map string_bytes words.now) (D.Store.seen system.old)
+        ⊎ (IsJobRefused (map string_bytes words.now) result (D.Store.seen system.old)
         (D.Store.seen system.new) (D.Store.may_leave system.old) (D.Store.may_leave system.new)
         (record { bytes = E.taken err.old; failures = E.failures err.old })
         (record { bytes = E.taken err.new; failures = E.failures err.new })
         (O.taken out.old) (O.taken out.new)
-        ⊎ AreRefused (map string_bytes words.now) (D.Store.seen system.old)
+        ⊎ AreRefused (map string_bytes words.now) result (D.Store.seen system.old)
         (D.Store.seen system.new) (D.Store.may_leave system.old) (D.Store.may_leave system.new)
         (record { bytes = E.taken err.old; failures = E.failures err.old })
         (record { bytes = E.taken err.new; failures = E.failures err.new })
@@ -70,27 +71,37 @@ pub fn program<D: System, O: Sink, E: Sink>(
     match read_words(alloc, words) {
         Ok(job) => match run(alloc, &job, system, out, err) {
             Ok(status) => status,
-            Err(refusal) => refuse_job(alloc, refusal, out, err),
+            Err(refusal) => refuse_job(alloc, refusal, refused_status(&job.task), out, err),
         },
         Err(WordsFault::Help { text }) => match write_text(out, text.as_bytes()) {
             Ok(()) => 0,
-            Err(error) => refuse_job(alloc, Refusal::from(error), out, err),
+            Err(error) => refuse_job(alloc, Refusal::from(error), 1, out, err),
         },
         Err(WordsFault::Usage { text }) => {
             let _ = write_text(err, text.as_bytes());
             1
         }
-        Err(WordsFault::Memory) => refuse_text(err, "out of memory"),
+        Err(WordsFault::Memory) => {
+            refuse_text(err, "out of memory");
+            1
+        }
     }
 }
 
 /// Writes the line of the refusal, and returns the status. Where `out` failed the line says so; but where its
 /// reader went away, as `head` does, nothing is said, and the status is 0.
-fn refuse_job<O: Sink, E: Sink>(alloc: Global, refusal: Refusal, out: &O, err: &mut E) -> u8
-    ensures status { result ≤ 1 }
+fn refuse_job<O: Sink, E: Sink>(
+    alloc: Global,
+    refusal: Refusal,
+    status: u8,
+    out: &O,
+    err: &mut E,
+) -> u8
+    requires { 0 < status }
+    ensures status { (result ≡ 0) ⊎ (result ≡ status) }
     ensures said { result ≡ 0 → refusal ≡ Plain ToolError.Write }
     ensures quiet { result ≡ 0 → err.new ≡ err.old }
-    ensures line { result ≡ 1 → IsSaid refusal
+    ensures line { 0 < result → IsSaid refusal
         (record { bytes = E.taken err.old; failures = E.failures err.old })
         (record { bytes = E.taken err.new; failures = E.failures err.new }) }
 {
@@ -100,13 +111,26 @@ fn refuse_job<O: Sink, E: Sink>(alloc: Global, refusal: Refusal, out: &O, err: &
                 return 0;
             }
             let refusal = Refusal::write(alloc, b"standard output", Some(cause));
-            refuse_for(&refusal, err)
+            refuse_for(&refusal, err);
         }
         (refusal, _) => refuse_for(&refusal, err),
     }
+    status
 }
 
-/// Does the job, and returns the status: 1 where `check` finds something or `--strict` says so, else 0.
+/// The status where the task is refused: 2 of `diff`, whose 1 says that something changed, else 1.
+fn refused_status(task: &Task) -> u8
+    ensures is { result ≡ refused_status task.now }
+    ensures small { result ≤ 2 }
+    ensures some { 0 < result }
+{
+    match task {
+        Task::Diff { .. } => 2,
+        _ => 1,
+    }
+}
+
+/// Does the job, and returns the status: 1 where `check` or `diff` finds something or `--strict` says so, else 0.
 fn run<D: System, O: Sink, E: Sink>(
     alloc: Global,
     job: &Job,
@@ -138,6 +162,7 @@ fn run<D: System, O: Sink, E: Sink>(
         Task::Explain { device, json } => {
             explain(alloc, root, device.as_bytes(), *json, system, out)?
         }
+        Task::Diff { old, new } => return diff(alloc, old.as_str(), new.as_str(), system, out),
         Task::Check { files } => return check(alloc, root, files, job.strict, system, out),
         Task::Ask { file, device } => {
             ask_file(alloc, file.as_str(), device.as_bytes(), system, out, err)?

@@ -3,6 +3,7 @@
 //! | Module | What it does |
 //! |---|---|
 //! | `dispatch` | the program: what each command reads, and where its text goes |
+//! | `differences` | `diff`: two databases that are read and compared |
 //! | `checks` | `check`: text files that are read and looked over |
 //! | `system` | what the program asks of a file system |
 //! | `folders` | the text files of both folders, chosen and read |
@@ -16,6 +17,7 @@
 #![tactic(auto)]
 
 mod checks;
+mod differences;
 mod dispatch;
 mod files;
 mod folders;

@@ -1,5 +1,5 @@
 //! The lines of refusals on standard error.
-ghost use Rattle.std.specs.Prelude.{◌≡◌, ◌++◌, ℕ, List, map, codes};
+ghost use Rattle.std.specs.Prelude.{◌≡◌, ◌++◌, ℕ, List, Some, map, codes};
 ghost use Rattle.std.specs.List.{concat};
 ghost use Rattle.hwdb_spec.specs.Texts.{db_fault_name, db_fault_offset, at_offset};
 ghost use Rattle.hwdb_commands.specs.Refusals.{error_text, refusal_of_select};
@@ -13,7 +13,7 @@ use hwdb_reader::DbFault;
 use hwdb_text::SelectError;
 use std::alloc::{AllocError, Global};
 
-/// Why the program ends with status 1.
+/// Why the program ends without having done what the words ask for.
 #[derive(Drop)]
 pub enum Refusal {
     /// A call refused.
@@ -89,11 +89,10 @@ const BEGIN: &[u8] = b"hwdb: ";
 
 const END: &[u8] = b"\n";
 
-/// Writes the line of the refusal, and returns the status. Takes no memory. Where `err` fails, nothing more can be
+/// Writes the line of the refusal. Takes no memory. Where `err` fails, nothing more can be
 /// said.
-pub fn refuse_for<E: Sink>(refusal: &Refusal, err: &mut E) -> u8
-    ensures status { result ≡ 1 }
-    ensures line { (words : List ℕ) × Refused (refusal_line (refusal_text refusal.now words))
+pub fn refuse_for<E: Sink>(refusal: &Refusal, err: &mut E)
+    ensures { (words : List ℕ) × Refused (refusal_line (refusal_text refusal.now words))
         (E.taken err.old) (E.taken err.new) (E.failures err.old) (E.failures err.new) }
 {
     match refusal {
@@ -104,9 +103,8 @@ pub fn refuse_for<E: Sink>(refusal: &Refusal, err: &mut E) -> u8
 }
 
 /// Writes the line of a refusal over a path.
-fn refuse_over<E: Sink>(error: ToolError, path: &[u8], cause: Option<Cause>, err: &mut E) -> u8
-    ensures status { result ≡ 1 }
-    ensures line { (words : List ℕ)
+fn refuse_over<E: Sink>(error: ToolError, path: &[u8], cause: Option<Cause>, err: &mut E)
+    ensures { (words : List ℕ)
         × Refused (refusal_line (path_text error path.now cause words))
         (E.taken err.old) (E.taken err.new) (E.failures err.old) (E.failures err.new) }
 {
@@ -117,14 +115,14 @@ fn refuse_over<E: Sink>(error: ToolError, path: &[u8], cause: Option<Cause>, err
             let words = b" is longer than 268435456 bytes".as_slice();
             refuse(err, &[BEGIN, path, words, END])
         }
+        ToolError::BadDatabase(fault) => refuse_database_at(path, fault, err),
         error => refuse_plainly(error, err),
     }
 }
 
 /// Writes the line of a refusal over a path: what failed, the path, and the cause where one is known.
-fn refuse_file<E: Sink>(failed: &str, path: &[u8], cause: Option<Cause>, err: &mut E) -> u8
-    ensures status { result ≡ 1 }
-    ensures line { (words : List ℕ)
+fn refuse_file<E: Sink>(failed: &str, path: &[u8], cause: Option<Cause>, err: &mut E)
+    ensures { (words : List ℕ)
         × Refused (refusal_line (failed.now ++ file_text path.now cause words))
         (E.taken err.old) (E.taken err.new) (E.failures err.old) (E.failures err.new) }
 {
@@ -140,9 +138,8 @@ fn refuse_file<E: Sink>(failed: &str, path: &[u8], cause: Option<Cause>, err: &m
 }
 
 /// Writes the line of a refusal that has no path.
-fn refuse_plainly<E: Sink>(error: ToolError, err: &mut E) -> u8
-    ensures status { result ≡ 1 }
-    ensures line { Refused (refusal_line (error_text error))
+fn refuse_plainly<E: Sink>(error: ToolError, err: &mut E)
+    ensures { Refused (refusal_line (error_text error))
         (E.taken err.old) (E.taken err.new) (E.failures err.old) (E.failures err.new) }
 {
     match error {
@@ -152,9 +149,8 @@ fn refuse_plainly<E: Sink>(error: ToolError, err: &mut E) -> u8
 }
 
 /// Writes the line of a fault of the database: its name, and where it has one its offset.
-fn refuse_database<E: Sink>(fault: DbFault, err: &mut E) -> u8
-    ensures status { result ≡ 1 }
-    ensures line { Refused (refusal_line
+fn refuse_database<E: Sink>(fault: DbFault, err: &mut E)
+    ensures { Refused (refusal_line
         (codes "bad database: " ++ at_offset (db_fault_name fault) (db_fault_offset fault)))
         (E.taken err.old) (E.taken err.new) (E.failures err.old) (E.failures err.new) }
 {
@@ -171,26 +167,57 @@ fn refuse_database<E: Sink>(fault: DbFault, err: &mut E) -> u8
     }
 }
 
-/// Writes a line, and returns the status of a refusal.
-pub fn refuse_text<E: Sink>(err: &mut E, line: &str) -> u8
-    ensures status { result ≡ 1 }
-    ensures line { Refused (refusal_line line.now)
+/// Writes the line of a fault of the database at a path.
+fn refuse_database_at<E: Sink>(path: &[u8], fault: DbFault, err: &mut E)
+    ensures { Refused (refusal_line (path.now ++ (codes ": "
+        ++ (codes "bad database: " ++ at_offset (db_fault_name fault) (db_fault_offset fault)))))
+        (E.taken err.old) (E.taken err.new) (E.failures err.old) (E.failures err.new) }
+{
+    match fault.offset() {
+        None => refuse_name_at(path, fault.name(), err),
+        Some(offset) => refuse_offset_at(path, fault.name(), offset, err),
+    }
+}
+
+/// The same of a fault that has a name alone.
+fn refuse_name_at<E: Sink>(path: &[u8], name: &str, err: &mut E)
+    ensures { Refused (refusal_line (path.now ++ (codes ": " ++ (codes "bad database: " ++ name.now))))
+        (E.taken err.old) (E.taken err.new) (E.failures err.old) (E.failures err.new) }
+{
+    let bad = b": bad database: ".as_slice();
+    refuse(err, &[BEGIN, path, bad, name.as_bytes(), END])
+}
+
+/// The same of a fault that has an offset.
+fn refuse_offset_at<E: Sink>(path: &[u8], name: &str, offset: u64, err: &mut E)
+    ensures { Refused (refusal_line (path.now ++ (codes ": "
+        ++ (codes "bad database: " ++ at_offset name.now (Some offset)))))
+        (E.taken err.old) (E.taken err.new) (E.failures err.old) (E.failures err.new) }
+{
+    let mut digits = itoa::Buffer::new();
+    let digits = digits.format(offset).as_bytes();
+    let bad = b": bad database: ".as_slice();
+    let at = b" at ".as_slice();
+    refuse(err, &[BEGIN, path, bad, name.as_bytes(), at, digits, END])
+}
+
+/// Writes a line.
+pub fn refuse_text<E: Sink>(err: &mut E, line: &str)
+    ensures { Refused (refusal_line line.now)
         (E.taken err.old) (E.taken err.new) (E.failures err.old) (E.failures err.new) }
 {
     refuse(err, &[BEGIN, line.as_bytes(), END])
 }
 
-/// Writes a line, given in pieces, and returns the status of a refusal.
-fn refuse<E: Sink>(err: &mut E, pieces: &[&[u8]]) -> u8
-    ensures status { result ≡ 1 }
-    ensures line { Refused (concat (map (λ piece. piece.now) pieces.now))
+/// Writes a line, given in pieces.
+fn refuse<E: Sink>(err: &mut E, pieces: &[&[u8]])
+    ensures { Refused (concat (map (λ piece. piece.now) pieces.now))
         (E.taken err.old) (E.taken err.new) (E.failures err.old) (E.failures err.new) }
 {
     for piece in pieces {
         match write_text(err, piece) {
             Ok(()) => {}
-            Err(_) => return 1,
+            Err(_) => return,
         }
     }
-    1
 }

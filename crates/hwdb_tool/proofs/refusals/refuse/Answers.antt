@@ -9,8 +9,8 @@ loop-piece-preserved g c = record {
   same = c.in-Ok.ensures.unfailed ∙ c.loop-piece.invariant.same;
 }
 
-pub returns-in-Err-clause-line : goal.returns-in-Err-clause-line
-returns-in-Err-clause-line g c =
+pub returns-in-Err : goal.returns-in-Err
+returns-in-Err g c =
     let failed : ℕ → Type 0 = λ n. HasFailed n (g.E.Sink.failures c.write_text.new.sink) in
     record {
       prefix = cut_text c.args.pieces.now c.loop-piece.piece-index _ _ _ _ c.loop-piece-test.true c.loop-piece.invariant.taken c.in-Err.ensures.prefix;

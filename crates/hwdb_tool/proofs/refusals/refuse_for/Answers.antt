@@ -4,9 +4,9 @@ use Rattle.hwdb_tool.specs.declared.refusals.Refusal.{Refusal}
 use Rattle.hwdb_tool.proofs.LineLemmas.{refused_as}
 use Rattle.hwdb_tool.proofs.refusals.refuse_for.Goals as goal
 
-pub returns-in-At-clause-line : goal.returns-in-At-clause-line
-returns-in-At-clause-line g c =
-    let line = c.refuse_over.ensures.line in
+pub returns-in-At : goal.returns-in-At
+returns-in-At g c =
+    let line = c.refuse_over.ensures in
     let words = line.0 in (
       words,
       refused_as _ _ _ _ _ _
@@ -15,8 +15,8 @@ returns-in-At-clause-line g c =
           line.1,
     )
 
-pub returns-in-NoDatabase-clause-line : goal.returns-in-NoDatabase-clause-line
-returns-in-NoDatabase-clause-line g c = (
+pub returns-in-NoDatabase : goal.returns-in-NoDatabase
+returns-in-NoDatabase g c = (
   [],
-  refused_as _ _ _ _ _ _ (ap (λ (r : Refusal). refusal_line (refusal_text r [])) (sym c.in-NoDatabase.is)) c.refuse_text.ensures.line,
+  refused_as _ _ _ _ _ _ (ap (λ (r : Refusal). refusal_line (refusal_text r [])) (sym c.in-NoDatabase.is)) c.refuse_text.ensures,
 )
