@@ -38,6 +38,7 @@ _hwdb() {
         [ask]='FILE MODALIAS'
         [list]='MODALIAS'
         [check]='FILE..'
+        [diff]='OLD NEW'
     )
     local -A options=(
         [hwdb]='--usr -s --strict -r --root -h --help -V --version'
@@ -47,6 +48,7 @@ _hwdb() {
         [ask]='--usr -s --strict -r --root -h --help'
         [list]='--usr -s --strict -r --root --after --limit --json -h --help'
         [check]='--usr -s --strict -r --root -h --help'
+        [diff]='--usr -s --strict -r --root -h --help'
     )
     local -A values=(
         [-r]='PATH' [--root]='PATH' [--after]='POS' [--limit]='N'

@@ -60,6 +60,7 @@ complete -c hwdb -n __hwdb_none -a explain -d 'Prints the properties that the da
 complete -c hwdb -n __hwdb_none -a ask -d 'Prints the properties that one text file gives a device, as KEY=VALUE lines'
 complete -c hwdb -n __hwdb_none -a list -d 'Prints each assignment of the database that matches a device, with its position'
 complete -c hwdb -n __hwdb_none -a check -d 'Says what is wrong in text files, or hardly meant, and writes no database'
+complete -c hwdb -n __hwdb_none -a diff -d 'Prints what changed from one database to another'
 
 complete -c hwdb -l usr -d 'With update: write /usr/lib/udev/hwdb.bin'
 complete -c hwdb -s s -l strict -d 'With update: end with status 1 if a line had a fault; with check: if there is a warning'
@@ -78,3 +79,5 @@ complete -c hwdb -n '__hwdb_at ask 1' -k -a '(__hwdb_file)' -d FILE
 complete -c hwdb -n '__hwdb_at ask 2' -a '(__hwdb_modalias)' -d MODALIAS
 complete -c hwdb -n '__hwdb_at list 1' -a '(__hwdb_modalias)' -d MODALIAS
 complete -c hwdb -n '__hwdb_at check' -k -a '(__hwdb_file)' -d FILE
+complete -c hwdb -n '__hwdb_at diff 1' -k -a '(__hwdb_database)' -d OLD
+complete -c hwdb -n '__hwdb_at diff 2' -k -a '(__hwdb_database)' -d NEW

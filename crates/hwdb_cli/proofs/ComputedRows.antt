@@ -45,3 +45,18 @@ check_all_taken = refl
 pub check_no_files : option_map (λ p. all_of (codes "FILE") p.1) (subcommand_of hwdb_app check_all_words) ≡ Some None
 unfolding clap_on_literals
 check_no_files = refl
+
+abbrev diff_words : List Text
+diff_words = codes "hwdb" ∷ codes "diff" ∷ codes "a" ∷ codes "-s" ∷ codes "b" ∷ []
+
+pub diff_taken : takes hwdb_app diff_words ≡ true
+unfolding clap_on_literals
+diff_taken = refl
+
+pub diff_old : option_map (λ p. first_of (codes "OLD") p.1) (subcommand_of hwdb_app diff_words) ≡ Some (Some (codes "a"))
+unfolding clap_on_literals
+diff_old = refl
+
+pub diff_new : option_map (λ p. first_of (codes "NEW") p.1) (subcommand_of hwdb_app diff_words) ≡ Some (Some (codes "b"))
+unfolding clap_on_literals
+diff_new = refl

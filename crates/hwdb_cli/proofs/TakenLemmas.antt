@@ -11,7 +11,7 @@ use Rattle.clap.specs.Walk.{Row, Rule, Text, answers_to, finished, nothing_held,
 use Rattle.clap.specs.Simple.{App, Shape, argument_words, built, built_leaf, entered, filled, inherited, label_of, marked_built, names_of, rows_at, subcommand_of, with_index, with_leaf_noted}
 use Rattle.clap.proofs.ValueTestLemmas.{accepts-Accepts}
 use Rattle.clap.specs.declared.builder.value_parser.ValueParser.TheVariants as vp
-use Rattle.hwdb_cli.specs.Line.{ask_app, check_app, device_rule, devices_rule, explain_app, file_rule, hwdb_app, limit_rule, list_app, query_app, update_app}
+use Rattle.hwdb_cli.specs.Line.{ask_app, check_app, device_rule, devices_rule, diff_app, explain_app, file_rule, hwdb_app, limit_rule, list_app, new_database_rule, old_database_rule, query_app, update_app}
 use Rattle.hwdb_cli.specs.Jobs.{HasValue, IsCommand, IsNumber}
 use Rattle.hwdb_cli.proofs.WalkLemmas.{none_of_both}
 use Rattle.hwdb_cli.proofs.UseLemmas.{Each, RowFits, StandsAlone, found_each, required_value, rows_fit, text_read}
@@ -196,6 +196,58 @@ list_limit = record {
   some = λ e. cc;
 }
 
+diff_old : StandsAlone (built_command diff_app).rules (argument_at 1 old_database_rule)
+diff_old = record {
+  alone = (
+    λ is. other_text (codes "usr") (codes "OLD") refl is,
+    (
+      λ is. other_text (codes "strict") (codes "OLD") refl is,
+      (
+        λ is. other_text (codes "root") (codes "OLD") refl is,
+        (
+          λ is. refl,
+          (
+            λ is. other_text (codes "NEW") (codes "OLD") refl is,
+            (
+              λ is. other_text (codes "help") (codes "OLD") refl is,
+              tt,
+            ),
+          ),
+        ),
+      ),
+    ),
+  );
+  set = refl;
+  defaults = refl;
+  some = λ e. cc;
+}
+
+diff_new : StandsAlone (built_command diff_app).rules (argument_at 2 new_database_rule)
+diff_new = record {
+  alone = (
+    λ is. other_text (codes "usr") (codes "NEW") refl is,
+    (
+      λ is. other_text (codes "strict") (codes "NEW") refl is,
+      (
+        λ is. other_text (codes "root") (codes "NEW") refl is,
+        (
+          λ is. other_text (codes "OLD") (codes "NEW") refl is,
+          (
+            λ is. refl,
+            (
+              λ is. other_text (codes "help") (codes "NEW") refl is,
+              tt,
+            ),
+          ),
+        ),
+      ),
+    ),
+  );
+  set = refl;
+  defaults = refl;
+  some = λ e. cc;
+}
+
 -- a limit that was read is a number
 limit_number : (rows : List Row) → Each (RowFits (argument_at 1 limit_rule)) rows → IfSome (one_of (codes "limit") rows) IsNumber
 limit_number rows each = go (one_of (codes "limit") rows) refl
@@ -241,7 +293,14 @@ list_gives words e = inr (inr (inr (inr (inl (
 )))))
 
 check_gives : Gives (built_command check_app)
-check_gives words e = inr (inr (inr (inr (inr refl))))
+check_gives words e = inr (inr (inr (inr (inr (inl refl)))))
+
+diff_gives : Gives (built_command diff_app)
+diff_gives words e = inr (inr (inr (inr (inr (inr (
+  refl,
+  value_of (built_command diff_app) words (argument_at 1 old_database_rule) diff_old refl refl refl e,
+  value_of (built_command diff_app) words (argument_at 2 new_database_rule) diff_new refl refl refl e,
+))))))
 
 -- ---- the command line
 
@@ -277,4 +336,4 @@ command_taken words e =
     let settle = none_of_both (settle_fault a.top.rules a.top.args_override_self end.held) _ below.1 in
     let checks = none_of_both (defaults_fault (settled a.top.rules end.held).rows a.top.rules) _ settle.1 in
     let has = subcommand_there a.top (finished a.top.rules end.held) (is_some (entered a end.stopped)) refl checks.1 in
-    command_entered a end.stopped (update_gives, (query_gives, (explain_gives, (ask_gives, (list_gives, (check_gives, tt)))))) below.0 has
+    command_entered a end.stopped (update_gives, (query_gives, (explain_gives, (ask_gives, (list_gives, (check_gives, (diff_gives, tt))))))) below.0 has

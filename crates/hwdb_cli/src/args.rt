@@ -139,6 +139,10 @@ fn task_of(alloc: Global, name: &str, inner: &ArgMatches<'_>) -> Result<Task, Al
     } else if name == "check" {
         let files = any_values_of(alloc, inner, "FILE")?;
         Ok(Task::Check { files })
+    } else if name == "diff" {
+        let old = value_of(alloc, inner, "OLD")?;
+        let new = value_of(alloc, inner, "NEW")?;
+        Ok(Task::Diff { old, new })
     } else {
         Ok(Task::Update)
     }

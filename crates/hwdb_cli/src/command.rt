@@ -5,7 +5,7 @@ ghost use Rattle.std.specs.Prelude.{◌≡◌, IfOk, false, codes};
 ghost use Rattle.clap.specs.Walk.{rule_of};
 ghost use Rattle.clap.specs.Simple.{app_of, shape_of};
 ghost use Rattle.clap.specs.declared.builder.command.Command.TheViews.{out-Command as fields_of};
-ghost use Rattle.hwdb_cli.specs.Line.{usr_rule, strict_rule, root_rule, device_rule, devices_rule, file_rule, files_rule, after_rule, limit_rule, json_rule, with_shared, with_range, update_app, query_app, explain_app, ask_app, list_app, check_app, top_app, hwdb_app};
+ghost use Rattle.hwdb_cli.specs.Line.{usr_rule, strict_rule, root_rule, device_rule, devices_rule, file_rule, files_rule, old_database_rule, new_database_rule, after_rule, limit_rule, json_rule, with_shared, with_range, update_app, query_app, explain_app, ask_app, list_app, check_app, diff_app, top_app, hwdb_app};
 
 use clap::builder::ValueParser;
 use clap::{Arg, ArgAction, Command};
@@ -53,6 +53,11 @@ const CHECK_ABOUT: &str =
 
 const CHECK_AFTER: &str =
     "Status: 0; 1 if there is a fault, with --strict also if there is a warning, and after a refusal.\nExample: hwdb check 60-keyboard.hwdb";
+
+const DIFF_ABOUT: &str = "Prints what changed from one database to another";
+
+const DIFF_AFTER: &str =
+    "Status: 0 if nothing changed, 1 if something did, 2 after a refusal.\nExample: hwdb diff hwdb.bin.old /etc/udev/hwdb.bin";
 
 fn usr_option<'a>(alloc: Global) -> Arg<'a>
     ensures rule { rule_of result ≡ usr_rule }
@@ -126,6 +131,26 @@ fn files_argument<'a>(alloc: Global) -> Arg<'a>
     Arg::new(alloc, "FILE")
         .help("A text file; without one those of /etc/udev/hwdb.d and /usr/lib/udev/hwdb.d")
         .action(ArgAction::Append)
+}
+
+fn old_argument<'a>(alloc: Global) -> Arg<'a>
+    ensures rule { rule_of result ≡ old_database_rule }
+    ensures local { result.global ≡ false }
+{
+    Arg::new(alloc, "OLD")
+        .help("The old database")
+        .required(true)
+        .action(ArgAction::Set)
+}
+
+fn new_argument<'a>(alloc: Global) -> Arg<'a>
+    ensures rule { rule_of result ≡ new_database_rule }
+    ensures local { result.global ≡ false }
+{
+    Arg::new(alloc, "NEW")
+        .help("The new database")
+        .required(true)
+        .action(ArgAction::Set)
 }
 
 fn after_option<'a>(alloc: Global) -> Arg<'a>
@@ -262,6 +287,20 @@ fn check_command<'a>(alloc: Global) -> Result<Command<'a>, AllocError>
     command.arg(files_argument(alloc))
 }
 
+fn diff_command<'a>(alloc: Global) -> Result<Command<'a>, AllocError>
+    ensures shape { IfOk result (λ r. shape_of r ≡ diff_app.top) }
+    ensures local { IfOk result (λ r. (fields_of r).has_globals ≡ false) }
+{
+    let command = add_shared(
+        alloc,
+        Command::new(alloc, "diff")
+            .about(DIFF_ABOUT)
+            .after_help(DIFF_AFTER),
+    )?;
+    let with_old = command.arg(old_argument(alloc))?;
+    with_old.arg(new_argument(alloc))
+}
+
 fn top_command<'a>(alloc: Global) -> Result<Command<'a>, AllocError>
     ensures app { IfOk result (λ r. app_of r ≡ top_app) }
     ensures local { IfOk result (λ r. (fields_of r).has_globals ≡ false) }
@@ -296,6 +335,8 @@ pub fn hwdb_command<'a>(alloc: Global) -> Result<Command<'a>, AllocError>
     let list = list_command(alloc)?;
     let with_list = with_ask.subcommand(list)?;
     let check = check_command(alloc)?;
-    let whole = with_list.subcommand(check)?;
+    let with_check = with_list.subcommand(check)?;
+    let diff = diff_command(alloc)?;
+    let whole = with_check.subcommand(diff)?;
     Ok(whole)
 }

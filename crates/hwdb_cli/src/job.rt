@@ -47,6 +47,13 @@ pub enum Task {
         /// The text files' paths; none where both folders are meant.
         files: Vec<String>,
     },
+    /// Print what changed from one database to another.
+    Diff {
+        /// The path of the old database.
+        old: String,
+        /// The path of the new one.
+        new: String,
+    },
 }
 
 /// What a command line asks for.

@@ -60,6 +60,7 @@ fn shown(alloc: Global, job: &Job) -> Result<String, AllocError> {
             }
             line
         }
+        Task::Diff { old, new } => format!(in alloc; "diff {} {}", old, new)?,
     };
     format!(in alloc;
         "usr={} strict={} root={} {}",
@@ -161,6 +162,16 @@ fn jobs(rt: HostRuntime) -> Result<(), Fail> {
             "hwdb check -- -f",
             "usr=false strict=false root=none check -f",
         ),
+        ("hwdb diff a b", "usr=false strict=false root=none diff a b"),
+        ("hwdb diff b a", "usr=false strict=false root=none diff b a"),
+        (
+            "hwdb --usr diff a -r /x b -s",
+            "usr=true strict=true root=[/x] diff a b",
+        ),
+        (
+            "hwdb diff a -- -b",
+            "usr=false strict=false root=none diff a -b",
+        ),
     ];
     for (line, want) in rows {
         let seen = read(rt.alloc(), line)?;
@@ -189,6 +200,11 @@ fn refusals(rt: HostRuntime) -> Result<(), Fail> {
         ("hwdb check --json", "usage"),
         ("hwdb check --limit 1 a", "usage"),
         ("hwdb check -a", "usage"),
+        ("hwdb diff", "usage"),
+        ("hwdb diff a", "usage"),
+        ("hwdb diff a b c", "usage"),
+        ("hwdb diff --json a b", "usage"),
+        ("hwdb diff -a b", "usage"),
         ("hwdb ask --json f a", "usage"),
         ("hwdb update -r /x -r /y", "usage"),
         ("hwdb frobnicate", "usage"),
@@ -225,6 +241,7 @@ fn help_names_the_command(rt: HostRuntime) -> Result<(), Fail> {
         ("hwdb --help", ["update", "query", "ask", "list"]),
         ("hwdb --help", ["explain", "--root", "--version", "-V"]),
         ("hwdb --help", ["check", "--usr", "--strict", "--help"]),
+        ("hwdb --help", ["diff", "--strict", "-s", "-h"]),
         (
             "hwdb explain --help",
             ["hwdb explain", "MODALIAS", "--root", "-r"],
@@ -252,6 +269,7 @@ fn help_names_the_command(rt: HostRuntime) -> Result<(), Fail> {
             "hwdb check --help",
             ["hwdb check", "FILE", "--strict", "/etc/udev/hwdb.d"],
         ),
+        ("hwdb diff --help", ["hwdb diff", "OLD", "NEW", "--root"]),
         (
             "hwdb -r /x list --help",
             ["hwdb list", "MODALIAS", "--after", "--limit"],
@@ -283,6 +301,9 @@ fn usage_names_what_is_wrong(rt: HostRuntime) -> Result<(), Fail> {
         ("hwdb ask", "FILE"),
         ("hwdb ask f", "MODALIAS"),
         ("hwdb list", "MODALIAS"),
+        ("hwdb diff", "OLD"),
+        ("hwdb diff a", "NEW"),
+        ("hwdb diff a b c", "'c'"),
         ("hwdb explain a b", "b"),
         ("hwdb query --limit 1 a", "--limit"),
         ("hwdb list --limit 1x a", "1x"),

@@ -13,4 +13,5 @@ returns c =
     c.in_ok-with_explain.ensures.shape c.in_ok-explain.ensures.local ∙ ap₂ with_subcommand two c.in_ok-explain.ensures.shape in
     let four = c.in_ok-with_ask.ensures.shape c.in_ok-ask.ensures.local ∙ ap₂ with_subcommand three c.in_ok-ask.ensures.shape in
     let five = c.in_ok-with_list.ensures.shape c.in_ok-list.ensures.local ∙ ap₂ with_subcommand four c.in_ok-list.ensures.shape in
-    c.in_ok-whole.ensures.shape c.in_ok-check.ensures.local ∙ ap₂ with_subcommand five c.in_ok-check.ensures.shape
+    let six = c.in_ok-with_check.ensures.shape c.in_ok-check.ensures.local ∙ ap₂ with_subcommand five c.in_ok-check.ensures.shape in
+    c.in_ok-whole.ensures.shape c.in_ok-diff.ensures.local ∙ ap₂ with_subcommand six c.in_ok-diff.ensures.shape
