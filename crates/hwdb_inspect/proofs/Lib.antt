@@ -4,3 +4,6 @@ pub mod OrderLemmas
 pub mod MergeLemmas
 pub mod PairLemmas
 pub mod DiffLemmas
+pub mod DepthLemmas
+pub mod AscendingLemmas
+pub mod DifferentLemmas

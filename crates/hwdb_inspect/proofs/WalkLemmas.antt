@@ -17,10 +17,10 @@ take_front : (n : ℕ) (xs ys : List ℕ) → length xs ≡ n → take n (xs ++ 
 take_front n xs ys h = take-append-le n xs ys (omega (arith, h)) ∙ ap (λ k. take k xs) (sym h) ∙ take-length xs
 
 -- the children of a node that was put on top
-opened_kids : (before now : List Open) (t : Tree) (size : ℕ) (o : Opened before now t size) → kids_of o.top ≡ children_of t
+pub opened_kids : (before now : List Open) (t : Tree) (size : ℕ) (o : Opened before now t size) → kids_of o.top ≡ children_of t
 opened_kids before now t size o = ap (λ n. drop n (children_of (entered_tree o.top.inside))) o.none_done ∙ ap children_of o.tree
 
-opened_top : (before now : List Open) (t : Tree) (size : ℕ) (o : Opened before now t size) → reverse now ≡ o.top ∷ reverse before
+pub opened_top : (before now : List Open) (t : Tree) (size : ℕ) (o : Opened before now t size) → reverse now ≡ o.top ∷ reverse before
 opened_top before now t size o = ap reverse o.stands ∙ on_top before o.top
 
 pub opened_comes : (before now : List Open) (t : Tree) (path : List ℕ) → Opened before now t (length path) → to_come path (reverse now) ≡ members_in path (children_of t) ++ to_come path (reverse before)
@@ -61,7 +61,7 @@ done_steps top below = omega arith
 abbrev pub gone_on : Open → Open
 gone_on top = record { inside = top.inside; done = top.done + 1; length = top.length }
 
-kids_next : (top : Open) (k : ℕ × Tree) → slice_get (children_of (entered_tree top.inside)) top.done ≡ Some k → kids_of top ≡ k ∷ kids_of (gone_on top)
+pub kids_next : (top : Open) (k : ℕ × Tree) → slice_get (children_of (entered_tree top.inside)) top.done ≡ Some k → kids_of top ≡ k ∷ kids_of (gone_on top)
 kids_next top k at = rw (add-one top.done) (kid_next (children_of (entered_tree top.inside)) top.done k at)
 
 pub some_left : (top : Open) (below : List Open) (k : ℕ × Tree) → slice_get (children_of (entered_tree top.inside)) top.done ≡ Some k → 0 < left (top ∷ below)

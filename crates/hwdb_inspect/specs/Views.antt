@@ -3,9 +3,11 @@ use Rattle.std.specs.Prelude.{List, [], ◌∷◌}
 use Rattle.hwdb_spec.specs.Assignment.{Assignment}
 use Rattle.hwdb_spec.specs.Differences.{Change, change_between}
 use Rattle.hwdb_spec.specs.Differences.Change.{Came, Went}
+use Rattle.hwdb_spec.specs.Summary.{Summary}
 use Rattle.hwdb_inspect.specs.declared.assigned.Assigned.{Assigned}
 use Rattle.hwdb_inspect.specs.declared.pairs.Pair.{Pair}
 use Rattle.hwdb_inspect.specs.declared.pairs.Pair.TheVariants.{Old, New, Both}
+use Rattle.hwdb_inspect.specs.declared.summary.Counts.{Counts}
 
 abbrev pub assignment_of : Assigned → Assignment
 assignment_of a = record {
@@ -19,3 +21,14 @@ abbrev pub changes_of : Pair → List Change
 changes_of (Old old) = Went (assignment_of old.now) ∷ []
 changes_of (New new) = Came (assignment_of new.now) ∷ []
 changes_of (Both old new) = change_between (assignment_of old.now) (assignment_of new.now)
+
+abbrev pub summary_shown : Counts → Summary
+summary_shown c = record {
+  files = c.files;
+  patterns = c.patterns;
+  keys = c.keys;
+  assignments = c.assignments;
+  nodes = c.nodes;
+  depth = c.depth;
+  bytes = c.bytes;
+}

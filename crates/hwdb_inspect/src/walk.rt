@@ -2,12 +2,13 @@
 //!
 //! The nodes whose children aren't all done stand on a stack of its own, so that a deep tree takes no more of the thread's
 //! stack than a flat one.
-ghost use Rattle.std.specs.Prelude.{◌≡◌, ◌<◌, ◌≤◌, ◌+◌, ◌++◌, ◌∷◌, ◌^◌, [], map, reverse, length, IfOk, OnOk};
+ghost use Rattle.std.specs.Prelude.{◌≡◌, ◌<◌, ◌≤◌, ◌+◌, ◌++◌, ◌∷◌, ◌^◌, [], map, max, reverse, length, IfOk, OnOk};
+ghost use Rattle.hwdb_spec.specs.Summary.{nodes, depth};
 ghost use Rattle.hwdb_spec.specs.Tree.{members_under, prefix_of, values_of};
 ghost use Rattle.hwdb_reader.specs.Views.{node_count, children_of, tree_of, entered_tree};
 ghost use Rattle.hwdb_inspect.specs.Views.{assignment_of};
 ghost use Rattle.hwdb_inspect.specs.Internal.Parts.{own_members};
-ghost use Rattle.hwdb_inspect.specs.Internal.Walks.{to_come, StandsOn, left, steps, Opened};
+ghost use Rattle.hwdb_inspect.specs.Internal.Walks.{to_come, StandsOn, left, steps, deepest_to_come, Opened};
 
 use crate::assigned::{Assigned, collect};
 use hwdb_reader::{Db, Entered, Inside, Node};
@@ -32,6 +33,17 @@ struct Walk<'a> {
     stack: Vec<Open<'a>>,
     found: Vec<Assigned<'a>>,
     entered: Entered,
+    /// How many nodes stood one below the other at most.
+    deepest: usize,
+}
+
+/// What a walk over a whole database found.
+#[derive(Drop)]
+pub(crate) struct Findings<'a> {
+    pub assignments: Vec<Assigned<'a>>,
+    pub nodes: u64,
+    /// How many nodes stand one below the other at most, the root counted.
+    pub depth: usize,
 }
 
 impl<'a> Walk<'a> {
@@ -40,12 +52,14 @@ impl<'a> Walk<'a> {
         ensures stack { result.stack.items ≡ [] }
         ensures found { result.found.items ≡ [] }
         ensures entered { result.entered ≡ 0 }
+        ensures deepest { result.deepest ≡ 0 }
     {
         Walk {
             path: Vec::new(alloc),
             stack: Vec::new(alloc),
             found: Vec::new(alloc),
             entered: Entered::new(),
+            deepest: 0,
         }
     }
 
@@ -62,6 +76,8 @@ impl<'a> Walk<'a> {
             (Opened self.old.stack.items self.new.stack.items (tree_of node.entry)
             (length self.new.path.items)) }
         ensures counted { OnOk result (self.new.entered ≡ self.old.entered + 1) }
+        ensures deepest { OnOk result
+            (self.new.deepest ≡ max self.old.deepest (length self.old.stack.items + 1)) }
     {
         self.path.extend_from_slice(node.prefix())?;
         let inside = node.enter(&mut self.entered);
@@ -72,6 +88,7 @@ impl<'a> Walk<'a> {
             done: 0,
             length,
         })?;
+        self.deepest = self.deepest.max(self.stack.len());
         Ok(())
     }
 
@@ -79,6 +96,7 @@ impl<'a> Walk<'a> {
     fn go_on(&mut self, alloc: Global, top: Open<'a>) -> Result<(), AllocError>
         requires stands { StandsOn self.old.path.items (top ∷ reverse self.old.stack.items) }
         requires room { self.old.entered + left (top ∷ reverse self.old.stack.items) < 2 ^ 64 }
+        requires reached { length self.old.stack.items < self.old.deepest }
         ensures found { OnOk result (map assignment_of self.new.found.items
             ++ to_come self.new.path.items (reverse self.new.stack.items)
             ≡ map assignment_of self.old.found.items
@@ -91,6 +109,10 @@ impl<'a> Walk<'a> {
         ensures fewer { OnOk result
             (steps (reverse self.new.stack.items)
             < steps (top.entry ∷ reverse self.old.stack.items)) }
+        ensures deepest { OnOk result
+            (max self.new.deepest (deepest_to_come (reverse self.new.stack.items))
+            ≡ max self.old.deepest (deepest_to_come (top.entry ∷ reverse self.old.stack.items))) }
+        ensures reached { OnOk result (length self.new.stack.items ≤ self.new.deepest) }
     {
         self.path.truncate(top.length);
         if top.done == top.inside.children() {
@@ -107,12 +129,14 @@ impl<'a> Walk<'a> {
     }
 }
 
-/// All that the database assigns, by pattern and then by key. Keys, values and paths are parts of the database's bytes.
-/// The time grows with the number of nodes and with the bytes of the patterns; no call goes deeper than another.
+/// All that the database assigns, by pattern and then by key, and how many nodes it has.
 ///
 /// The only error is that memory is refused.
-pub fn assignments<'a>(alloc: Global, db: &Db<'a>) -> Result<Vec<Assigned<'a>>, AllocError>
-    ensures list { IfOk result (λ list. map assignment_of list.items ≡ members_under [] db.now) }
+pub(crate) fn survey<'a>(alloc: Global, db: &Db<'a>) -> Result<Findings<'a>, AllocError>
+    ensures list { IfOk result
+        (λ found. map assignment_of found.assignments.items ≡ members_under [] db.now) }
+    ensures nodes { IfOk result (λ found. found.nodes ≡ nodes db.now) }
+    ensures depth { IfOk result (λ found. found.depth ≡ depth db.now) }
 {
     let root = db.root();
     root.law_tree();
@@ -121,5 +145,20 @@ pub fn assignments<'a>(alloc: Global, db: &Db<'a>) -> Result<Vec<Assigned<'a>>, 
     while let Some(top) = walk.stack.pop() {
         walk.go_on(alloc, top)?;
     }
-    Ok(walk.found)
+    Ok(Findings {
+        nodes: walk.entered.count(),
+        depth: walk.deepest,
+        assignments: walk.found,
+    })
+}
+
+/// All that the database assigns, by pattern and then by key. Keys, values and paths are parts of the database's bytes.
+/// The time grows with the number of nodes and with the bytes of the patterns; no call goes deeper than another.
+///
+/// The only error is that memory is refused.
+pub fn assignments<'a>(alloc: Global, db: &Db<'a>) -> Result<Vec<Assigned<'a>>, AllocError>
+    ensures list { IfOk result (λ list. map assignment_of list.items ≡ members_under [] db.now) }
+{
+    let found = survey(alloc, db)?;
+    Ok(found.assignments)
 }

@@ -11,6 +11,7 @@ pub mod Written
 pub mod Texts
 pub mod Explanations
 pub mod Differences
+pub mod Summary
 pub mod Reports
 pub mod Warnings
 pub mod Checks

@@ -1,6 +1,7 @@
 -- The stack of a walk: what is still to come, and how many nodes are left. The list begins with the top.
-use Rattle.std.specs.Prelude.{List, ℕ, [], ◌∷◌, ◌++◌, ◌+◌, ◌≤◌, ◌≡◌, suc, take, drop, length}
+use Rattle.std.specs.Prelude.{List, ℕ, [], ◌∷◌, ◌++◌, ◌+◌, ◌≤◌, ◌≡◌, suc, take, drop, length, max}
 use Rattle.hwdb_spec.specs.Assignment.{Assignment}
+use Rattle.hwdb_spec.specs.Summary.{depth}
 use Rattle.hwdb_spec.specs.Tree.{Tree}
 use Rattle.hwdb_reader.specs.Views.{node_count, children_of, entered_tree}
 use Rattle.hwdb_inspect.specs.Internal.Parts.{members_in}
@@ -14,6 +15,11 @@ kids_of o = drop o.done (children_of (entered_tree o.inside))
 abbrev pub nodes_in : List (ℕ × Tree) → ℕ
 nodes_in [] = 0
 nodes_in (k ∷ kids) = node_count k.1 + nodes_in kids
+
+-- how many nodes of the trees of children stand one below the other at most
+abbrev pub depth_in : List (ℕ × Tree) → ℕ
+depth_in [] = 0
+depth_in (k ∷ kids) = max (depth k.1) (depth_in kids)
 
 -- what the children assign that aren't done, where the last node's path is this one
 abbrev pub to_come : List ℕ → List Open → List Assignment
@@ -35,6 +41,11 @@ left (o ∷ below) = nodes_in (kids_of o) + left below
 abbrev pub steps : List Open → ℕ
 steps [] = 0
 steps (o ∷ below) = suc (nodes_in (kids_of o) + nodes_in (kids_of o)) + steps below
+
+-- how many nodes will stand one below the other at most, those of the stack counted
+abbrev pub deepest_to_come : List Open → ℕ
+deepest_to_come [] = 0
+deepest_to_come (o ∷ below) = max (suc (length below) + depth_in (kids_of o)) (deepest_to_come below)
 
 -- one node was put on top, with none of its children done
 pub record Opened (before now : List Open) (t : Tree) (size : ℕ) : Type 0 where

@@ -1,10 +1,11 @@
-use Rattle.std.proofs.Common.{◌≡◌, ◌∙◌, ap, sym, subst, ◌++◌, ◌∷◌, [], ℕ, map, reverse, take, length, arith, append_assoc}
+use Rattle.std.proofs.Common.{◌≡◌, ◌∙◌, ap, sym, subst, ◌++◌, ◌∷◌, ◌+◌, [], ℕ, List, map, max, reverse, take, length, arith, append_assoc}
 use Rattle.hwdb_spec.specs.Tree.{Tree, prefix_of, values_of}
 use Rattle.hwdb_reader.specs.Views.{tree_of, children_of, entered_tree}
 use Rattle.hwdb_inspect.specs.Views.{assignment_of}
 use Rattle.hwdb_inspect.specs.Internal.Parts.{own_members}
-use Rattle.hwdb_inspect.specs.Internal.Walks.{to_come, Opened}
+use Rattle.hwdb_inspect.specs.Internal.Walks.{to_come, deepest_to_come, Opened}
 use Rattle.hwdb_inspect.proofs.PartLemmas.{kid_within}
+use Rattle.hwdb_inspect.proofs.DepthLemmas.{child_deepest}
 use Rattle.hwdb_inspect.proofs.WalkLemmas.{gone_on, some_left, child_comes, child_counted, child_steps, child_stands}
 use Rattle.hwdb_inspect.proofs.walk.Walk.go_on.Goals as goal
 
@@ -53,3 +54,11 @@ pub returns-clause-fewer : goal.returns-clause-fewer
 returns-clause-fewer c =
     let k : ℕ × Tree = (c.child-child.result.byte, tree_of c.child-child.result.node) in
     child_steps c.args.self.now.path.items c.enter.new.self.path.items c.args.top c.args.self.now.stack.items c.enter.new.self.stack.items k c.child-child.ensures c.requires.stands.0 (whole c) (opened c)
+
+pub returns-clause-deepest : goal.returns-clause-deepest
+returns-clause-deepest c =
+    let k : ℕ × Tree = (c.child-child.result.byte, tree_of c.child-child.result.node) in
+    let grown = c.in_ok-enter.ensures.deepest in
+    let below : c.push-2.new.self.items ≡ c.args.self.now.stack.items ++ gone_on c.args.top ∷ [] = c.in_ok-push-2.ensures.items in
+    ap (λ d. max d (deepest_to_come (reverse c.enter.new.self.stack.items))) (grown ∙ ap (λ (b : List _). max c.args.self.now.deepest (length b + 1)) below)
+    ∙ child_deepest c.args.self.now.deepest (length c.enter.new.self.path.items) c.args.top c.args.self.now.stack.items c.enter.new.self.stack.items k c.child-child.ensures (opened c)

@@ -1,0 +1,11 @@
+use Rattle.std.proofs.Common.{arith}
+use Rattle.std.proofs.lemmas.List.Filters.{dedup_is}
+use Rattle.hwdb_inspect.proofs.DifferentLemmas.{different_are}
+use Rattle.hwdb_inspect.proofs.summary.count_different.Goals as goal
+
+pub returns : goal.returns
+returns c =
+    let same = different_are (λ t. t.now) c.args.texts.items c.sort.new.self.items c.dedup.new.self.items c.in_ok-sort.ensures.permutation c.in_ok-sort.ensures.sorted (dedup_is _ _ _ c.dedup.ensures.filtered) in
+    let read = c.len.ensures in
+    let size = c.dedup.new.self.ok in
+    omega (arith, same, read, size)

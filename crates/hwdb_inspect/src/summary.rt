@@ -1,0 +1,92 @@
+//! How much is in a database.
+ghost use Rattle.std.specs.Prelude.{◌≡◌, ℕ, map, IfOk};
+ghost use Rattle.hwdb_spec.specs.Summary.{different, summary_of};
+ghost use Rattle.hwdb_inspect.specs.Views.{assignment_of, summary_shown};
+ghost use Rattle.hwdb_inspect.specs.Internal.Counting.{part_of};
+
+use crate::assigned::Assigned;
+use crate::walk::survey;
+use hwdb_reader::Db;
+use std::alloc::{AllocError, Global};
+
+/// How much is in a database.
+#[derive(Clone, Copy)]
+pub(crate) struct Counts {
+    pub files: usize,
+    pub patterns: usize,
+    pub keys: usize,
+    pub assignments: usize,
+    pub nodes: u64,
+    pub depth: usize,
+    pub bytes: usize,
+}
+
+/// A text of an assignment.
+#[derive(Clone, Copy)]
+enum Part {
+    Path,
+    Pattern,
+    Key,
+}
+
+/// A part of an assignment.
+fn text_of<'l>(assigned: &'l Assigned<'_>, part: Part) -> &'l [u8]
+    ensures { result.now ≡ part_of part (assignment_of assigned.now) }
+{
+    match part {
+        Part::Path => assigned.path,
+        Part::Pattern => &assigned.pattern,
+        Part::Key => assigned.key,
+    }
+}
+
+/// The same part of each assignment.
+fn texts_of<'l>(
+    alloc: Global,
+    list: &'l [Assigned<'_>],
+    part: Part,
+) -> Result<Vec<&'l [u8]>, AllocError>
+    ensures { IfOk result (λ texts. map (λ t. t.now) texts.items
+        ≡ map (part_of part) (map assignment_of list.now)) }
+{
+    let mut texts = Vec::with_capacity(alloc, list.len())?;
+    for assigned in list {
+        texts.push(text_of(assigned, part))?;
+    }
+    Ok(texts)
+}
+
+/// How many of the texts differ from each other.
+fn count_different(texts: Vec<&[u8]>) -> Result<usize, AllocError>
+    ensures { IfOk result (λ n. n ≡ different (map (λ t. t.now) texts.entry.items)) }
+{
+    let mut ordered = texts;
+    ordered.sort()?;
+    ordered.dedup();
+    Ok(ordered.len())
+}
+
+/// How many different texts stand in one part of the assignments.
+fn count_parts(alloc: Global, list: &[Assigned<'_>], part: Part) -> Result<usize, AllocError>
+    ensures { IfOk result
+        (λ n. n ≡ different (map (part_of part) (map assignment_of list.now))) }
+{
+    count_different(texts_of(alloc, list, part)?)
+}
+
+/// How much is in the database that stands in so many bytes.
+pub(crate) fn summarize(alloc: Global, bytes: usize, db: &Db<'_>) -> Result<Counts, AllocError>
+    ensures { IfOk result (λ counts. summary_shown counts ≡ summary_of bytes db.now) }
+{
+    let found = survey(alloc, db)?;
+    let list = &found.assignments;
+    Ok(Counts {
+        files: count_parts(alloc, list, Part::Path)?,
+        patterns: count_parts(alloc, list, Part::Pattern)?,
+        keys: count_parts(alloc, list, Part::Key)?,
+        assignments: list.len(),
+        nodes: found.nodes,
+        depth: found.depth,
+        bytes,
+    })
+}
