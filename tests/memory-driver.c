@@ -190,13 +190,21 @@ static int is_whole(struct answer *is, struct answer *whole) {
            (!database || is_same(is->database, whole->database));
 }
 
+/* Whether a refusal may end with that status: 1; of `diff`, once its words are read, 2. */
+static int is_refused(int status) {
+    if (status == 1) return 1;
+    for (char **word = words; *word; word++)
+        if (!strcmp(*word, "diff")) return status == 2;
+    return 0;
+}
+
 /* The kind of an answer after a refusal, or null where there must be no such answer. `asks_in_vain`: the program's own
  * request was refused, and all behind it. */
 static const char *judge(struct answer *is, struct answer *whole, int asks_in_vain) {
     int is_old = !database || is_same(is->database, old);
     if (is->left) return 0;
     if (is_whole(is, whole)) return asks_in_vain ? 0 : "the whole answer";
-    if (is->status != 1 || !is_old || !is_untouched(is, whole)) return 0;
+    if (!is_refused(is->status) || !is_old || !is_untouched(is, whole)) return 0;
     if (is_text(is->err, "hwdb: out of memory\n")) return "out of memory";
     if (is->out.length) return 0;
     if (is_line(is->err.bytes)) return "a file call's line";

@@ -46,10 +46,20 @@ fn refusal_of(alloc: Global, error: DiffError, old_path: &str, new_path: &str) -
 {
     match error {
         DiffError::Old(fault) => {
-            Refusal::at(alloc, ToolError::BadDatabase(fault), old_path.as_bytes(), None)
+            Refusal::at(
+                alloc,
+                ToolError::BadDatabase(fault),
+                old_path.as_bytes(),
+                None,
+            )
         }
         DiffError::New(fault) => {
-            Refusal::at(alloc, ToolError::BadDatabase(fault), new_path.as_bytes(), None)
+            Refusal::at(
+                alloc,
+                ToolError::BadDatabase(fault),
+                new_path.as_bytes(),
+                None,
+            )
         }
         DiffError::Write => Refusal::from(ToolError::Write),
         DiffError::Memory => Refusal::from(ToolError::Memory),

@@ -181,7 +181,8 @@ fn refuse_database_at<E: Sink>(path: &[u8], fault: DbFault, err: &mut E)
 
 /// The same of a fault that has a name alone.
 fn refuse_name_at<E: Sink>(path: &[u8], name: &str, err: &mut E)
-    ensures { Refused (refusal_line (path.now ++ (codes ": " ++ (codes "bad database: " ++ name.now))))
+    ensures { Refused
+        (refusal_line (path.now ++ (codes ": " ++ (codes "bad database: " ++ name.now))))
         (E.taken err.old) (E.taken err.new) (E.failures err.old) (E.failures err.new) }
 {
     let bad = b": bad database: ".as_slice();

@@ -148,3 +148,27 @@ fn check_of_files(rt: HostRuntime) -> Result<(), Fail> {
         (1, TABBED, ""),
     )
 }
+
+/// What changed, with its status; a database that is none, with its path.
+#[test]
+fn diff_of_two_databases(rt: HostRuntime) -> Result<(), Fail> {
+    let alloc = rt.alloc();
+    let mut store = Memory::new(alloc);
+    let store = &mut store;
+    put(store, "/o/etc/udev/hwdb.d", "1.hwdb", b"a\n K=1\n L=1\n")?;
+    put(store, "/n/etc/udev/hwdb.d", "1.hwdb", b"a\n K=2\n")?;
+    put(store, "/x", "short", b"none")?;
+    expect(&rt, alloc, store, "update -r /o", (0, "", ""))?;
+    expect(&rt, alloc, store, "update -r /n", (0, "", ""))?;
+    let changes = "~\ta\tK=1\t/etc/udev/hwdb.d/1.hwdb:2\tK=2\t/etc/udev/hwdb.d/1.hwdb:2\n\
+                   -\ta\tL=1\t/etc/udev/hwdb.d/1.hwdb:3\n";
+    let line = "diff /o/etc/udev/hwdb.bin /n/etc/udev/hwdb.bin";
+    expect(&rt, alloc, store, line, (1, changes, ""))?;
+    let same = "diff -r /n /o/etc/udev/hwdb.bin /o/etc/udev/hwdb.bin";
+    expect(&rt, alloc, store, same, (0, "", ""))?;
+    let short = "hwdb: /x/short: bad database: B1\n";
+    let new = "diff /o/etc/udev/hwdb.bin /x/short";
+    expect(&rt, alloc, store, new, (2, "", short))?;
+    let old = "diff /x/short /o/etc/udev/hwdb.bin";
+    expect(&rt, alloc, store, old, (2, "", short))
+}
