@@ -11,12 +11,13 @@ _hwdb_reply() {
     done
 }
 
-# _hwdb_value KIND: completions of an argument, or of an option's value
+# _hwdb_value KIND: completions of an argument, of an option's value, or of the command, one of the table `arguments`
 _hwdb_value() {
     case $1 in
         FILE) _filedir hwdb ;;
         DATABASE | OLD | NEW) _filedir bin ;;
         PATH) _filedir -d ;;
+        COMMAND) mapfile -t COMPREPLY < <(compgen -W "${!arguments[*]}" -- "$cur") ;;
         MODALIAS)
             # udev's rules put a word in front of those of input devices.
             _hwdb_reply < <(find "$_hwdb_sys" -name modalias -type f -exec cat {} + 2>/dev/null |
@@ -39,6 +40,9 @@ _hwdb() {
         [list]='MODALIAS'
         [check]='FILE..'
         [diff]='OLD NEW'
+        [verify]='DATABASE'
+        [dump]='DATABASE'
+        [help]='COMMAND'
     )
     local -A options=(
         [hwdb]='--usr -s --strict -r --root -h --help -V --version'
@@ -49,6 +53,9 @@ _hwdb() {
         [list]='--usr -s --strict -r --root --after --limit --json -h --help'
         [check]='--usr -s --strict -r --root -h --help'
         [diff]='--usr -s --strict -r --root -h --help'
+        [verify]='--usr -s --strict -r --root -h --help'
+        [dump]='--usr -s --strict -r --root -h --help'
+        [help]=''
     )
     local -A values=(
         [-r]='PATH' [--root]='PATH' [--after]='POS' [--limit]='N'
@@ -74,7 +81,7 @@ _hwdb() {
     elif [[ -z $ended && $cur == -* ]]; then
         mapfile -t COMPREPLY < <(compgen -W "${options[$command]-}" -- "$cur")
     elif [[ $command == hwdb ]]; then
-        mapfile -t COMPREPLY < <(compgen -W "${!arguments[*]}" -- "$cur")
+        _hwdb_value COMMAND
     else
         local kinds=(${arguments[$command]-})
         local last=$((${#kinds[@]} - 1))

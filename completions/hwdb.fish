@@ -40,6 +40,11 @@ function __hwdb_at
     not set -q argv[2]; or test (count $words) -eq $argv[2]
 end
 
+# The words that `help` takes.
+function __hwdb_commands
+    printf '%s\n' update query explain ask list check diff verify dump help
+end
+
 # udev's rules put a word in front of those of input devices.
 function __hwdb_modalias
     find $_hwdb_sys -name modalias -type f -exec cat '{}' + 2>/dev/null | sed '/^input:/{p; s/^/evdev:/}' | sort -u
@@ -61,11 +66,14 @@ complete -c hwdb -n __hwdb_none -a ask -d 'Prints the properties that one text f
 complete -c hwdb -n __hwdb_none -a list -d 'Prints each assignment of the database that matches a device, with its position'
 complete -c hwdb -n __hwdb_none -a check -d 'Says what is wrong in text files, or hardly meant, and writes no database'
 complete -c hwdb -n __hwdb_none -a diff -d 'Prints what changed from one database to another'
+complete -c hwdb -n __hwdb_none -a verify -d 'Says whether a file is a database that can be read, and how much is in it'
+complete -c hwdb -n __hwdb_none -a dump -d 'Prints a database as a text file'
+complete -c hwdb -n __hwdb_none -a help -d 'Print this message or the help of the given subcommand(s)'
 
-complete -c hwdb -l usr -d 'With update: write /usr/lib/udev/hwdb.bin'
-complete -c hwdb -s s -l strict -d 'With update: end with status 1 if a line had a fault; with check: if there is a warning'
-complete -c hwdb -s r -l root -x -a '(__fish_complete_directories)' -d 'Put PATH in front of the paths of folders and databases'
-complete -c hwdb -s h -l help -d 'Print help'
+complete -c hwdb -n 'not __hwdb_at help' -l usr -d 'With update: write /usr/lib/udev/hwdb.bin'
+complete -c hwdb -n 'not __hwdb_at help' -s s -l strict -d 'With update: end with status 1 if a line had a fault; with check: if there is a warning'
+complete -c hwdb -n 'not __hwdb_at help' -s r -l root -x -a '(__fish_complete_directories)' -d 'Put PATH in front of the paths of folders and databases'
+complete -c hwdb -n 'not __hwdb_at help' -s h -l help -d 'Print help'
 complete -c hwdb -n __hwdb_none -s V -l version -d 'Print version'
 complete -c hwdb -n '__hwdb_at query' -l json -d 'Print JSON, one object a line'
 complete -c hwdb -n '__hwdb_at explain' -l json -d 'Print JSON, one object a line'
@@ -81,3 +89,6 @@ complete -c hwdb -n '__hwdb_at list 1' -a '(__hwdb_modalias)' -d MODALIAS
 complete -c hwdb -n '__hwdb_at check' -k -a '(__hwdb_file)' -d FILE
 complete -c hwdb -n '__hwdb_at diff 1' -k -a '(__hwdb_database)' -d OLD
 complete -c hwdb -n '__hwdb_at diff 2' -k -a '(__hwdb_database)' -d NEW
+complete -c hwdb -n '__hwdb_at verify 1' -k -a '(__hwdb_database)' -d DATABASE
+complete -c hwdb -n '__hwdb_at dump 1' -k -a '(__hwdb_database)' -d DATABASE
+complete -c hwdb -n '__hwdb_at help 1' -a '(__hwdb_commands)' -d COMMAND

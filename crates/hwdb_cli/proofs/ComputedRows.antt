@@ -1,7 +1,9 @@
 -- Command lines that the command takes.
 use Rattle.std.proofs.Common.{◌≡◌, refl, true, codes, List, [], ◌∷◌, Some, None, option_map}
 use Rattle.clap.specs.Walk.{Text, all_of, first_of}
+use Rattle.clap.specs.Faults.{fault_of}
 use Rattle.clap.specs.Takes.{takes}
+use Rattle.clap.specs.declared.error.kind.ErrorKind.TheVariants.{DisplayHelp, InvalidSubcommand}
 use Rattle.clap.specs.Simple.{subcommand_of}
 use Rattle.clap.proofs.OnLiterals.{clap_on_literals}
 use Rattle.hwdb_cli.specs.Line.{hwdb_app}
@@ -60,3 +62,39 @@ diff_old = refl
 pub diff_new : option_map (λ p. first_of (codes "NEW") p.1) (subcommand_of hwdb_app diff_words) ≡ Some (Some (codes "b"))
 unfolding clap_on_literals
 diff_new = refl
+
+abbrev verify_words : List Text
+verify_words = codes "hwdb" ∷ codes "verify" ∷ codes "--" ∷ codes "-a" ∷ []
+
+pub verify_taken : takes hwdb_app verify_words ≡ true
+unfolding clap_on_literals
+verify_taken = refl
+
+pub verify_database : option_map (λ p. first_of (codes "DATABASE") p.1) (subcommand_of hwdb_app verify_words) ≡ Some (Some (codes "-a"))
+unfolding clap_on_literals
+verify_database = refl
+
+abbrev dump_words : List Text
+dump_words = codes "hwdb" ∷ codes "dump" ∷ codes "-r" ∷ codes "/x" ∷ []
+
+pub dump_taken : takes hwdb_app dump_words ≡ true
+unfolding clap_on_literals
+dump_taken = refl
+
+pub dump_no_database : option_map (λ p. first_of (codes "DATABASE") p.1) (subcommand_of hwdb_app dump_words) ≡ Some None
+unfolding clap_on_literals
+dump_no_database = refl
+
+abbrev help_words : List Text
+help_words = codes "hwdb" ∷ codes "-r" ∷ codes "/x" ∷ codes "help" ∷ codes "query" ∷ []
+
+pub help_answers : fault_of hwdb_app help_words ≡ DisplayHelp ∷ InvalidSubcommand ∷ []
+unfolding clap_on_literals
+help_answers = refl
+
+abbrev help_device_words : List Text
+help_device_words = codes "hwdb" ∷ codes "query" ∷ codes "help" ∷ []
+
+pub help_device_taken : takes hwdb_app help_device_words ≡ true
+unfolding clap_on_literals
+help_device_taken = refl

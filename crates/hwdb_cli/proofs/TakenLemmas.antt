@@ -1,5 +1,5 @@
 -- What is found of words that the command takes: one of its commands, with each argument that this one needs.
-use Rattle.std.proofs.Common.{◌≡◌, ◌∙◌, ℕ, Bool, true, false, refl, sym, subst, inl, inr, List, [], Option, Some, None, is_some, codes, true≢false}
+use Rattle.std.proofs.Common.{◌≡◌, ◌∙◌, ◌⊎◌, ◌||◌, ℕ, Bool, true, false, refl, sym, subst, inl, inr, List, [], Option, Some, None, is_some, codes, true≢false}
 use Rattle.std.specs.Prelude.{IfSome, option_map}
 use Rattle.std.specs.List.{find}
 use Rattle.std.specs.Option.{option_map_or}
@@ -11,10 +11,10 @@ use Rattle.clap.specs.Walk.{Row, Rule, Text, answers_to, finished, nothing_held,
 use Rattle.clap.specs.Simple.{App, Shape, argument_words, built, built_leaf, entered, filled, inherited, label_of, marked_built, names_of, rows_at, subcommand_of, with_index, with_leaf_noted}
 use Rattle.clap.proofs.ValueTestLemmas.{accepts-Accepts}
 use Rattle.clap.specs.declared.builder.value_parser.ValueParser.TheVariants as vp
-use Rattle.hwdb_cli.specs.Line.{ask_app, check_app, device_rule, devices_rule, diff_app, explain_app, file_rule, hwdb_app, limit_rule, list_app, new_database_rule, old_database_rule, query_app, update_app}
+use Rattle.hwdb_cli.specs.Line.{ask_app, check_app, device_rule, devices_rule, diff_app, dump_app, explain_app, file_rule, hwdb_app, limit_rule, list_app, new_database_rule, old_database_rule, query_app, update_app, verify_app}
 use Rattle.hwdb_cli.specs.Jobs.{HasValue, IsCommand, IsNumber}
-use Rattle.hwdb_cli.proofs.WalkLemmas.{none_of_both}
-use Rattle.hwdb_cli.proofs.UseLemmas.{Each, RowFits, StandsAlone, found_each, required_value, rows_fit, text_read}
+use Rattle.hwdb_cli.proofs.WalkLemmas.{IsNotHelp, none_of_both, walk_not_help}
+use Rattle.hwdb_cli.proofs.UseLemmas.{Each, RowFits, StandsAlone, found_each, required_value, rows_fit, same_id, text_read}
 
 -- a command as it is built
 abbrev built_command : App → Shape
@@ -296,24 +296,49 @@ check_gives : Gives (built_command check_app)
 check_gives words e = inr (inr (inr (inr (inr (inl refl)))))
 
 diff_gives : Gives (built_command diff_app)
-diff_gives words e = inr (inr (inr (inr (inr (inr (
+diff_gives words e = inr (inr (inr (inr (inr (inr (inl (
   refl,
   value_of (built_command diff_app) words (argument_at 1 old_database_rule) diff_old refl refl refl e,
   value_of (built_command diff_app) words (argument_at 2 new_database_rule) diff_new refl refl refl e,
-))))))
+)))))))
+
+verify_gives : Gives (built_command verify_app)
+verify_gives words e = inr (inr (inr (inr (inr (inr (inr (inl refl)))))))
+
+dump_gives : Gives (built_command dump_app)
+dump_gives words e = inr (inr (inr (inr (inr (inr (inr (inr refl)))))))
 
 -- ---- the command line
 
+-- what the words at which a walk stopped don't name
+abbrev IsHelp : Shape → Type 0
+IsHelp s = label_of s ≡ (codes "help", [])
+
+-- the walk stopped at another one
+passed_over : {X : Type 0} (s : Shape) (name : Text) → IsHelp s → bytes_eq name (codes "help") ≡ false → answers_to name (label_of s) ≡ true → X
+passed_over s name help differ answers = go (bytes_eq (codes "help") name) refl (subst (λ l. answers_to name l ≡ true) help answers)
+  where
+    go : {X : Type 0} (b : Bool) → bytes_eq (codes "help") name ≡ b → (b || false) ≡ true → X
+    go true same is = other_text name (codes "help") differ (sym (same_id (codes "help") name same))
+    go false same is = absurd (true≢false (sym is))
+
+given_command : (s : Shape) (p : Text × List Text) → IsNotHelp (Some p) → answers_to p.0 (label_of s) ≡ true → Gives s ⊎ IsHelp s
+    → level_fault s [] nothing_held p.1 false [] ≡ [] → IsCommand s.name (rows_after s.rules [] p.1)
+given_command s p other answers (inl gives) e = gives p.1 e
+given_command s p other answers (inr help) e = passed_over s p.0 help other answers
+
 -- the subcommand at which a walk stopped, where it takes its words
-command_entered : (a : App) (stop : Option (Text × List Text)) → Each Gives a.subs → entered_fault a stop ≡ [] → is_some (entered a stop) ≡ true
+command_entered : (a : App) (stop : Option (Text × List Text)) → Each (λ s. Gives s ⊎ IsHelp s) a.subs → IsNotHelp stop → entered_fault a stop ≡ [] → is_some (entered a stop) ≡ true
     → (q : Text × List Row) × (entered a stop ≡ Some q) × IsCommand q.0 q.1
-command_entered a None each e some = absurd (true≢false (sym some))
-command_entered a (Some p) each e some = go (find (λ s. answers_to p.0 (label_of s)) a.subs) refl e some
+command_entered a None each other e some = absurd (true≢false (sym some))
+command_entered a (Some p) each other e some = go (find (λ s. answers_to p.0 (label_of s)) a.subs) refl e some
   where
     go : (o : Option Shape) → find (λ s. answers_to p.0 (label_of s)) a.subs ≡ o → option_map_or (λ s. level_fault s [] nothing_held p.1 false []) o [] ≡ []
         → is_some (option_map (λ s. rows_at s p.1) o) ≡ true → (q : Text × List Row) × (option_map (λ s. rows_at s p.1) o ≡ Some q) × IsCommand q.0 q.1
     go None at e some = absurd (true≢false (sym some))
-    go (Some s) at e some = (rows_at s p.1, refl, (found_each Gives (λ s. answers_to p.0 (label_of s)) a.subs s at each).1 p.1 e)
+    go (Some s) at e some =
+        let found = found_each (λ s. Gives s ⊎ IsHelp s) (λ s. answers_to p.0 (label_of s)) a.subs s at each in
+        (rows_at s p.1, refl, given_command s p other found.0 found.1 e)
 
 no_subcommand_missing : (x y z : Bool) → check_kinds x y z ≡ [] → y ≡ false
 no_subcommand_missing true y z e = cc
@@ -336,4 +361,7 @@ command_taken words e =
     let settle = none_of_both (settle_fault a.top.rules a.top.args_override_self end.held) _ below.1 in
     let checks = none_of_both (defaults_fault (settled a.top.rules end.held).rows a.top.rules) _ settle.1 in
     let has = subcommand_there a.top (finished a.top.rules end.held) (is_some (entered a end.stopped)) refl checks.1 in
-    command_entered a end.stopped (update_gives, (query_gives, (explain_gives, (ask_gives, (list_gives, (check_gives, (diff_gives, tt))))))) below.0 has
+    let other = walk_not_help a.top refl (names_of a) (walk_from nothing_held) left tt steps.0 in
+    command_entered a end.stopped
+    (inl update_gives, (inl query_gives, (inl explain_gives, (inl ask_gives, (inl list_gives, (inl check_gives, (inl diff_gives, (inl verify_gives, (inl dump_gives, (inr refl, tt))))))))))
+    other below.0 has

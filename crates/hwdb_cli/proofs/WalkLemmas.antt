@@ -1,6 +1,6 @@
--- What a walk over words that finds no fault keeps of the rows: all that each use of an argument keeps.
-use Rattle.std.proofs.Common.{◌≡◌, ◌&&◌, ℕ, Bool, true, false, zero, suc, cond, refl, List, [], ◌∷◌, length, drop, Option, Some, None, is_some}
-use Rattle.std.specs.Prelude.{encode_utf8, slice_get}
+-- What a walk over words that finds no fault keeps of the rows: all that each use of an argument keeps. It stops at no `help`.
+use Rattle.std.proofs.Common.{◌≡◌, ◌&&◌, ℕ, Bool, true, false, not, zero, suc, codes, cond, refl, List, [], ◌∷◌, length, drop, Option, Some, None, is_some, true≢false}
+use Rattle.std.specs.Prelude.{⊤, encode_utf8, slice_get}
 use Rattle.std.specs.List.{find, fold}
 use Rattle.std.specs.Option.{option_map_or}
 use Rattle.std.specs.Str.{bytes_eq, chars}
@@ -9,7 +9,7 @@ use Rattle.clap.specs.Kinds.{Kinds, or_else}
 use Rattle.clap.specs.Faults.{bundle_step_fault, flag_word_fault, flags_fault, long_fault, option_fault, other_fault, positional_fault, react_fault, settle_fault, short_fault, step_fault, stray_fault, turn_fault, use_fault, walk_fault, word_fault}
 use Rattle.clap.specs.Walk.{Held, Names, Outcome, Row, Rule, Step, Text, Waiting, Walk, after_flag, after_step, arg_by_id, arg_by_index, arg_by_long, arg_by_short, attached_value, bundle_met, bundle_step, done, flag_met, idle, is_pending, long_met, long_or_other, next, option, option_met, option_word, plain, plain_word, positional, positional_held, reacted, refused, settled, settled_rows, short_met, short_or_plain, subcommand, subcommand_met, subcommand_or_other, takes_several, takes_values, to_positional, trailing, used, used_by_id, value, waits, walked, walked_from, word_met}
 use Rattle.clap.specs.Simple.{Shape}
-use Rattle.clap.specs.declared.error.kind.ErrorKind.TheVariants.{TooManyValues}
+use Rattle.clap.specs.declared.error.kind.ErrorKind.TheVariants.{DisplayHelp, InvalidSubcommand, TooManyValues}
 
 -- no kind of two steps is no kind of each
 pub none_of_both : (a b : Kinds) → or_else a b ≡ [] → (a ≡ []) × (b ≡ [])
@@ -168,3 +168,88 @@ module _ (s : Shape) (K : List Row → Type 0) (step : (p : Rule → Bool) (a : 
   walk_keeps names w (x ∷ xs) k e =
       let both = none_of_both (turn_fault s names w x) _ e in
       walk_keeps names (walked s.rules names w x) xs (turn_keeps names w x k both.0) both.1
+
+-- ---- `help` answers at once: no walk that finds no fault stops at it
+
+abbrev pub IsNotHelp : Option (Text × List Text) → Type 0
+IsNotHelp None = ⊤
+IsNotHelp (Some p) = bytes_eq p.0 (codes "help") ≡ false
+
+-- the word was not for `help`
+abbrev IsNotHelpStep : Step → Type 0
+IsNotHelpStep (subcommand name) = bytes_eq name (codes "help") ≡ false
+IsNotHelpStep _ = ⊤
+
+name_is_not_help : (is_help disabled : Bool) → disabled ≡ false → cond (is_help && not disabled) (DisplayHelp ∷ InvalidSubcommand ∷ []) [] ≡ [] → is_help ≡ false
+name_is_not_help true true off e = absurd (true≢false off)
+name_is_not_help true false off e = cc
+name_is_not_help false disabled off e = refl
+
+module _ (s : Shape) (on : s.disable_help_subcommand ≡ false) where
+  plain_not_help : (waiting : Waiting) (word : Text) (h : Held) → IsNotHelpStep (plain_word s.rules waiting word h).1
+  plain_not_help idle word h = tt
+  plain_not_help positional word h = tt
+  plain_not_help (option id) word h = tt
+
+  after_not_help : (waiting : Waiting) (word : Text) (h : Held) (o : Outcome) → IsNotHelpStep (after_flag s.rules waiting word h o).1
+  after_not_help waiting word h done = tt
+  after_not_help waiting word h (waits id) = tt
+  after_not_help waiting word h plain = plain_not_help waiting word h
+  after_not_help waiting word h refused = plain_not_help waiting word h
+
+  short_not_help : (waiting : Waiting) (word : Text) (flags : Option Text) (h : Held) → IsNotHelpStep (short_or_plain s.rules waiting word flags h).1
+  short_not_help waiting word None h = plain_not_help waiting word h
+  short_not_help waiting word (Some f) h =
+      let met = bundle_met s.rules (length f) f h.skip plain (record h { skip = 0 }) in
+      after_not_help waiting word met.0 met.1
+
+  long_not_help : (waiting : Waiting) (word : Text) (name : Option (Text × Option Text)) (h : Held) → IsNotHelpStep (long_or_other s.rules waiting word name h).1
+  long_not_help waiting word None h = short_not_help waiting word (short_of word) h
+  long_not_help waiting word (Some p) h =
+      let met = long_met s.rules (arg_by_long s.rules p.0) p.1 h in
+      after_not_help waiting word met.0 met.1
+
+  other_not_help : (name : Option Text) (waiting : Waiting) (position : ℕ) (word : Text) (h : Held) → other_fault s name word h ≡ []
+      → IsNotHelpStep (subcommand_or_other s.rules name waiting position word h).1
+  other_not_help (Some name) waiting position word h e = name_is_not_help (bytes_eq name (codes "help")) s.disable_help_subcommand on e
+  other_not_help None waiting position word h e = go (bytes_eq word (45 ∷ 45 ∷ []))
+    where
+      go : (b : Bool) → IsNotHelpStep (cond b (h, trailing position) (long_or_other s.rules waiting word (long_of word) h)).1
+      go true = tt
+      go false = long_not_help waiting word (long_of word) h
+
+  word_not_help : (names : Names) (is_trailing : Bool) (waiting : Waiting) (position : ℕ) (word : Text) (h : Held)
+      → word_fault s names is_trailing waiting word h ≡ [] → IsNotHelpStep (word_met s.rules names is_trailing waiting position word h).1
+  word_not_help names true waiting position word h e = tt
+  word_not_help names false waiting position word h e = other_not_help (subcommand_met names waiting word) waiting position word h e
+
+  step_not_help : (word : Text) (w : Walk) (h : Held) (met : Step) → IsNotHelp w.stopped → IsNotHelpStep met → IsNotHelp (after_step s.rules word w h met).stopped
+  step_not_help word w h (next waiting) so_far is = so_far
+  step_not_help word w h (trailing position) so_far is = so_far
+  step_not_help word w h (subcommand name) so_far is = is
+  step_not_help word w h value so_far is = go (arg_by_index s.rules w.position)
+    where
+      go : (o : Option Rule) → IsNotHelp (to_positional s.rules o word w h).stopped
+      go None = so_far
+      go (Some a) = tt
+
+  turn_not_help : (names : Names) (w : Walk) (word : Text) → IsNotHelp w.stopped → turn_fault s names w word ≡ [] → IsNotHelp (walked s.rules names w word).stopped
+  unfolding walked
+  turn_not_help names w word so_far e = go w.stopped so_far e
+    where
+      go : (o : Option (Text × List Text)) → IsNotHelp o
+          → cond (is_some o) [] (or_else (word_fault s names w.is_trailing w.waiting word w.held)
+          (step_fault s w.position (word_met s.rules names w.is_trailing w.waiting w.position word w.held).0 (word_met s.rules names w.is_trailing w.waiting w.position word w.held).1)) ≡ []
+          → IsNotHelp (walked_from s.rules names o w word).stopped
+      go (Some p) is e = is
+      go None is e =
+          let met = word_met s.rules names w.is_trailing w.waiting w.position word w.held in
+          let both = none_of_both (word_fault s names w.is_trailing w.waiting word w.held) _ e in
+          step_not_help word w met.0 met.1 so_far (word_not_help names w.is_trailing w.waiting w.position word w.held both.0)
+
+  pub walk_not_help : (names : Names) (w : Walk) (words : List Text) → IsNotHelp w.stopped → walk_fault s names w words ≡ [] → IsNotHelp (fold (walked s.rules names) w words).stopped
+  unfolding walk_fault
+  walk_not_help names w [] so_far e = so_far
+  walk_not_help names w (x ∷ xs) so_far e =
+      let both = none_of_both (turn_fault s names w x) _ e in
+      walk_not_help names (walked s.rules names w x) xs (turn_not_help names w x so_far both.0) both.1

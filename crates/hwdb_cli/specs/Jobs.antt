@@ -5,7 +5,7 @@ use Rattle.std.specs.Option.{option_map_or, option_or}
 use Rattle.std.specs.declared.num.ParseIntError.{ParseIntError}
 use Rattle.std.specs.Str.Parse.{ParsesUnsigned, IsNumeral, digits_value, without_leading_plus}
 use Rattle.clap.specs.Walk.{Row, Text, all_of, first_of, one_of}
-use Rattle.hwdb_cli.specs.declared.job.Task.TheVariants.{Ask, Check, Diff, Explain, List as ListHits, Query, Update}
+use Rattle.hwdb_cli.specs.declared.job.Task.TheVariants.{Ask, Check, Diff, Dump, Explain, List as ListHits, Query, Update, Verify}
 use Rattle.hwdb_cli.specs.declared.job.Task.{Task}
 use Rattle.hwdb_cli.specs.declared.job.Job.{Job}
 
@@ -40,6 +40,8 @@ IsTask name inner (ListHits after limit device json) = (name ≡ codes "list") �
     × IsLimit (one_of (codes "limit") inner) limit × IsValue (codes "MODALIAS") inner (string_bytes device)
 IsTask name inner (Check files) = (name ≡ codes "check") × AreAnyValues (codes "FILE") inner (map string_bytes files.items)
 IsTask name inner (Diff old new) = (name ≡ codes "diff") × IsValue (codes "OLD") inner (string_bytes old) × IsValue (codes "NEW") inner (string_bytes new)
+IsTask name inner (Verify database) = (name ≡ codes "verify") × (option_map string_bytes database ≡ first_of (codes "DATABASE") inner)
+IsTask name inner (Dump database) = (name ≡ codes "dump") × (option_map string_bytes database ≡ first_of (codes "DATABASE") inner)
 
 pub record IsJob (top : List Row) (name : Text) (inner : List Row) (job : Job) : Type 0 where
   pub usr : job.usr ≡ (has_flag (codes "usr") inner || has_flag (codes "usr") top)
@@ -61,7 +63,7 @@ HasValue id rows = is_some (first_of id rows) ≡ true
 abbrev pub IsNumber : Text → Type 0
 IsNumber text = IsNumeral 10 (without_leading_plus text) × (digits_value 10 (without_leading_plus text) < 2 ^ 64)
 
--- it is one of the seven commands, with each argument that this command needs
+-- it is one of the nine commands, with each argument that this command needs
 abbrev pub IsCommand : Text → List Row → Type 0
 IsCommand name inner = (name ≡ codes "update")
     ⊎ (((name ≡ codes "query") × HasValue (codes "MODALIAS") inner)
@@ -69,4 +71,6 @@ IsCommand name inner = (name ≡ codes "update")
     ⊎ (((name ≡ codes "ask") × HasValue (codes "FILE") inner × HasValue (codes "MODALIAS") inner)
     ⊎ (((name ≡ codes "list") × HasValue (codes "MODALIAS") inner × IfSome (one_of (codes "limit") inner) IsNumber)
     ⊎ ((name ≡ codes "check")
-    ⊎ ((name ≡ codes "diff") × HasValue (codes "OLD") inner × HasValue (codes "NEW") inner))))))
+    ⊎ (((name ≡ codes "diff") × HasValue (codes "OLD") inner × HasValue (codes "NEW") inner)
+    ⊎ ((name ≡ codes "verify")
+    ⊎ (name ≡ codes "dump"))))))))

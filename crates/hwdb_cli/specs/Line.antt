@@ -1,4 +1,5 @@
--- The command line of hwdb, as the command that `clap` is given: systemd-hwdb(8), with `explain`, `ask`, `list`, `check` and `diff` of our own.
+-- The command line of hwdb, as the command that `clap` is given: systemd-hwdb(8), with `explain`, `ask`, `list`, `check`, `diff`, `verify` and `dump` of our own.
+-- `clap` adds the options for help and the version, and the command `help`.
 use Rattle.std.specs.Prelude.{Some, codes, true}
 use Rattle.clap.specs.Walk.{Rule}
 use Rattle.clap.specs.declared.builder.action.ArgAction.TheVariants.{SetTrue, Set, Append}
@@ -33,6 +34,10 @@ old_database_rule = record (new_rule (codes "OLD")) { required = true; action = 
 
 abbrev pub new_database_rule : Rule
 new_database_rule = record (new_rule (codes "NEW")) { required = true; action = Some Set }
+
+-- a database, or none
+abbrev pub database_rule : Rule
+database_rule = record (new_rule (codes "DATABASE")) { action = Some Set }
 
 abbrev pub after_rule : Rule
 after_rule = record (new_rule (codes "after")) { value_names = 1; long = Some (codes "after"); action = Some Set }
@@ -72,9 +77,15 @@ check_app = with_rule (with_shared (new_app (codes "check"))) files_rule
 abbrev pub diff_app : App
 diff_app = with_rule (with_rule (with_shared (new_app (codes "diff"))) old_database_rule) new_database_rule
 
+abbrev pub verify_app : App
+verify_app = with_rule (with_shared (new_app (codes "verify"))) database_rule
+
+abbrev pub dump_app : App
+dump_app = with_rule (with_shared (new_app (codes "dump"))) database_rule
+
 abbrev pub top_app : App
-top_app = on_top (λ (s : Shape). record s { has_version = true; subcommand_required = true; disable_help_subcommand = true }) (with_shared (new_app (codes "hwdb")))
+top_app = on_top (λ (s : Shape). record s { has_version = true; subcommand_required = true }) (with_shared (new_app (codes "hwdb")))
 
 abbrev pub hwdb_app : App
-hwdb_app = with_subcommand (with_subcommand (with_subcommand (with_subcommand (with_subcommand (with_subcommand (with_subcommand top_app update_app.top) query_app.top) explain_app.top)
-    ask_app.top) list_app.top) check_app.top) diff_app.top
+hwdb_app = with_subcommand (with_subcommand (with_subcommand (with_subcommand (with_subcommand (with_subcommand (with_subcommand (with_subcommand (with_subcommand top_app update_app.top)
+    query_app.top) explain_app.top) ask_app.top) list_app.top) check_app.top) diff_app.top) verify_app.top) dump_app.top

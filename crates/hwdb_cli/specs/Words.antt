@@ -15,7 +15,7 @@ use Rattle.hwdb_cli.specs.Line.{hwdb_app}
 abbrev pub AskFor : List Text → Job → Type 0
 AskFor words = IsJobOf (matches_of hwdb_app words) (subcommand_of hwdb_app words)
 
--- they ask for help, or for the version
+-- they ask for help, or for the version: by the options, or by the word `help`, which is refused where the next one names no command
 abbrev pub AskForText : List Text → Type 0
 AskForText words = IsAmong DisplayHelp (fault_of hwdb_app words) ⊎ IsAmong DisplayVersion (fault_of hwdb_app words)
 

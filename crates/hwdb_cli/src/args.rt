@@ -14,7 +14,7 @@ ghost use Rattle.hwdb_cli.specs.declared.job.WordsFault.TheVariants.{Memory};
 
 use crate::command::hwdb_command;
 use crate::job::{Job, Task, WordsFault};
-use crate::tips::with_fitting_tip;
+use crate::tips::{with_command_tip, with_fitting_tip};
 use clap::error::ErrorKind;
 use clap::{ArgMatches, Error};
 use std::alloc::{AllocError, Global};
@@ -143,6 +143,12 @@ fn task_of(alloc: Global, name: &str, inner: &ArgMatches<'_>) -> Result<Task, Al
         let old = value_of(alloc, inner, "OLD")?;
         let new = value_of(alloc, inner, "NEW")?;
         Ok(Task::Diff { old, new })
+    } else if name == "verify" {
+        let database = copied(alloc, text_of(inner, "DATABASE"))?;
+        Ok(Task::Verify { database })
+    } else if name == "dump" {
+        let database = copied(alloc, text_of(inner, "DATABASE"))?;
+        Ok(Task::Dump { database })
     } else {
         Ok(Task::Update)
     }
@@ -215,15 +221,16 @@ fn refusal_of(alloc: Global, error: &Error, words: &[String]) -> WordsFault
 /// The text of help, of the version, or of a fault of the words.
 fn text_of_fault(alloc: Global, error: &Error, words: &[String]) -> Result<String, AllocError> {
     let text = error.to_string(alloc)?;
-    if error.kind() == ErrorKind::UnknownArgument {
-        return with_fitting_tip(alloc, text.as_str(), words);
+    match error.kind() {
+        ErrorKind::UnknownArgument => with_fitting_tip(alloc, text.as_str(), words),
+        ErrorKind::InvalidSubcommand => with_command_tip(alloc, text.as_str()),
+        _ => Ok(text),
     }
-    Ok(text)
 }
 
 /// What the words ask for; the first is the program's name. Words that the command doesn't take give
-/// `WordsFault::Usage` with a text that says why, `--help` and `--version`
-/// give `WordsFault::Help`.
+/// `WordsFault::Usage` with a text that says why; `--help`, `help` and `--version` give `WordsFault::Help`, but
+/// `help` with a word that names no command gives `WordsFault::Usage`.
 pub fn read_words(alloc: Global, words: &[String]) -> Result<Job, WordsFault>
     ensures job { IfOk result
         (IsJobOf (matches_of hwdb_app (map string_bytes words.now))

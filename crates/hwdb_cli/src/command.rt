@@ -1,11 +1,11 @@
 //! The command line of `hwdb`, as `clap` is given it: one level of subcommands, each shared option declared
-//! at both levels. The definition of this command as data is what contracts speak of; help texts are
+//! at both levels; `clap` adds the subcommand `help`. The definition of this command as data is what contracts speak of; help texts are
 //! shown by tests.
 ghost use Rattle.std.specs.Prelude.{◌≡◌, IfOk, false, codes};
 ghost use Rattle.clap.specs.Walk.{rule_of};
 ghost use Rattle.clap.specs.Simple.{app_of, shape_of};
 ghost use Rattle.clap.specs.declared.builder.command.Command.TheViews.{out-Command as fields_of};
-ghost use Rattle.hwdb_cli.specs.Line.{usr_rule, strict_rule, root_rule, device_rule, devices_rule, file_rule, files_rule, old_database_rule, new_database_rule, after_rule, limit_rule, json_rule, with_shared, with_range, update_app, query_app, explain_app, ask_app, list_app, check_app, diff_app, top_app, hwdb_app};
+ghost use Rattle.hwdb_cli.specs.Line.{usr_rule, strict_rule, root_rule, device_rule, devices_rule, file_rule, files_rule, old_database_rule, new_database_rule, database_rule, after_rule, limit_rule, json_rule, with_shared, with_range, update_app, query_app, explain_app, ask_app, list_app, check_app, diff_app, verify_app, dump_app, top_app, hwdb_app};
 
 use clap::builder::ValueParser;
 use clap::{Arg, ArgAction, Command};
@@ -58,6 +58,16 @@ const DIFF_ABOUT: &str = "Prints what changed from one database to another";
 
 const DIFF_AFTER: &str =
     "Status: 0 if nothing changed, 1 if something did, 2 after a refusal.\nExample: hwdb diff hwdb.bin.old /etc/udev/hwdb.bin";
+
+const VERIFY_ABOUT: &str =
+    "Says whether a file is a database that can be read, and how much is in it";
+
+const VERIFY_AFTER: &str =
+    "Status: 0; 1 if it is none, and after a refusal.\nExample: hwdb verify /etc/udev/hwdb.bin";
+
+const DUMP_ABOUT: &str = "Prints a database as a text file";
+
+const DUMP_AFTER: &str = "Status: 0; 1 after a refusal.\nExample: hwdb dump > all.hwdb";
 
 fn usr_option<'a>(alloc: Global) -> Arg<'a>
     ensures rule { rule_of result ≡ usr_rule }
@@ -150,6 +160,15 @@ fn new_argument<'a>(alloc: Global) -> Arg<'a>
     Arg::new(alloc, "NEW")
         .help("The new database")
         .required(true)
+        .action(ArgAction::Set)
+}
+
+fn database_argument<'a>(alloc: Global) -> Arg<'a>
+    ensures rule { rule_of result ≡ database_rule }
+    ensures local { result.global ≡ false }
+{
+    Arg::new(alloc, "DATABASE")
+        .help("A database; without one that of /etc/udev, or of /usr/lib/udev")
         .action(ArgAction::Set)
 }
 
@@ -301,6 +320,32 @@ fn diff_command<'a>(alloc: Global) -> Result<Command<'a>, AllocError>
     with_old.arg(new_argument(alloc))
 }
 
+fn verify_command<'a>(alloc: Global) -> Result<Command<'a>, AllocError>
+    ensures shape { IfOk result (λ r. shape_of r ≡ verify_app.top) }
+    ensures local { IfOk result (λ r. (fields_of r).has_globals ≡ false) }
+{
+    let command = add_shared(
+        alloc,
+        Command::new(alloc, "verify")
+            .about(VERIFY_ABOUT)
+            .after_help(VERIFY_AFTER),
+    )?;
+    command.arg(database_argument(alloc))
+}
+
+fn dump_command<'a>(alloc: Global) -> Result<Command<'a>, AllocError>
+    ensures shape { IfOk result (λ r. shape_of r ≡ dump_app.top) }
+    ensures local { IfOk result (λ r. (fields_of r).has_globals ≡ false) }
+{
+    let command = add_shared(
+        alloc,
+        Command::new(alloc, "dump")
+            .about(DUMP_ABOUT)
+            .after_help(DUMP_AFTER),
+    )?;
+    command.arg(database_argument(alloc))
+}
+
 fn top_command<'a>(alloc: Global) -> Result<Command<'a>, AllocError>
     ensures app { IfOk result (λ r. app_of r ≡ top_app) }
     ensures local { IfOk result (λ r. (fields_of r).has_globals ≡ false) }
@@ -312,11 +357,7 @@ fn top_command<'a>(alloc: Global) -> Result<Command<'a>, AllocError>
             .about(HWDB_ABOUT)
             .after_help(HWDB_AFTER),
     )?;
-    Ok(
-        command
-            .subcommand_required(true)
-            .disable_help_subcommand(true),
-    )
+    Ok(command.subcommand_required(true))
 }
 
 /// The whole command.
@@ -337,6 +378,10 @@ pub fn hwdb_command<'a>(alloc: Global) -> Result<Command<'a>, AllocError>
     let check = check_command(alloc)?;
     let with_check = with_list.subcommand(check)?;
     let diff = diff_command(alloc)?;
-    let whole = with_check.subcommand(diff)?;
+    let with_diff = with_check.subcommand(diff)?;
+    let verify = verify_command(alloc)?;
+    let with_verify = with_diff.subcommand(verify)?;
+    let dump = dump_command(alloc)?;
+    let whole = with_verify.subcommand(dump)?;
     Ok(whole)
 }

@@ -54,6 +54,16 @@ pub enum Task {
         /// The path of the new one.
         new: String,
     },
+    /// Say whether a file is a database that can be read, and how much is in it.
+    Verify {
+        /// The database's path; none where that of `/etc/udev` or `/usr/lib/udev` is meant.
+        database: Option<String>,
+    },
+    /// Print a database as a text file.
+    Dump {
+        /// The database's path; none where that of `/etc/udev` or `/usr/lib/udev` is meant.
+        database: Option<String>,
+    },
 }
 
 /// What a command line asks for.

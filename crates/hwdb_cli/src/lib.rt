@@ -1,6 +1,6 @@
 //! The command line of `hwdb`: what its words ask for.
 //!
-//! `command` is the command as `clap` is given it, after systemd-hwdb(8) with five commands of our own;
+//! `command` is the command as `clap` is given it, after systemd-hwdb(8) with seven commands of our own;
 //! `args` reads a job off `clap`'s matches, and `tips` leaves out what misleads in the text of a fault.
 #![tactic(auto)]
 

@@ -61,6 +61,14 @@ fn shown(alloc: Global, job: &Job) -> Result<String, AllocError> {
             line
         }
         Task::Diff { old, new } => format!(in alloc; "diff {} {}", old, new)?,
+        Task::Verify { database } => {
+            let database = optional(alloc, database)?;
+            format!(in alloc; "verify {}", database)?
+        }
+        Task::Dump { database } => {
+            let database = optional(alloc, database)?;
+            format!(in alloc; "dump {}", database)?
+        }
     };
     format!(in alloc;
         "usr={} strict={} root={} {}",
@@ -169,8 +177,34 @@ fn jobs(rt: HostRuntime) -> Result<(), Fail> {
             "usr=true strict=true root=[/x] diff a b",
         ),
         (
+            "hwdb query help",
+            "usr=false strict=false root=none query help",
+        ),
+        (
             "hwdb diff a -- -b",
             "usr=false strict=false root=none diff a -b",
+        ),
+        (
+            "hwdb verify",
+            "usr=false strict=false root=none verify none",
+        ),
+        (
+            "hwdb verify a",
+            "usr=false strict=false root=none verify [a]",
+        ),
+        (
+            "hwdb -s verify a -r /x",
+            "usr=false strict=true root=[/x] verify [a]",
+        ),
+        (
+            "hwdb verify -- -a",
+            "usr=false strict=false root=none verify [-a]",
+        ),
+        ("hwdb dump", "usr=false strict=false root=none dump none"),
+        ("hwdb dump a", "usr=false strict=false root=none dump [a]"),
+        (
+            "hwdb --usr dump -- -a",
+            "usr=true strict=false root=none dump [-a]",
         ),
     ];
     for (line, want) in rows {
@@ -205,6 +239,12 @@ fn refusals(rt: HostRuntime) -> Result<(), Fail> {
         ("hwdb diff a b c", "usage"),
         ("hwdb diff --json a b", "usage"),
         ("hwdb diff -a b", "usage"),
+        ("hwdb verify a b", "usage"),
+        ("hwdb verify -a", "usage"),
+        ("hwdb verify --json a", "usage"),
+        ("hwdb dump a b", "usage"),
+        ("hwdb dump --json", "usage"),
+        ("hwdb dump --limit 1 a", "usage"),
         ("hwdb ask --json f a", "usage"),
         ("hwdb update -r /x -r /y", "usage"),
         ("hwdb frobnicate", "usage"),
@@ -214,6 +254,14 @@ fn refusals(rt: HostRuntime) -> Result<(), Fail> {
         ("hwdb --version", "help"),
         ("hwdb -V", "help"),
         ("hwdb -r /x -V update", "help"),
+        ("hwdb help", "help"),
+        ("hwdb help query", "help"),
+        ("hwdb -s -r /x help list", "help"),
+        ("hwdb help help", "help"),
+        ("hwdb help nothing", "usage"),
+        ("hwdb help query list", "usage"),
+        ("hwdb help --help", "usage"),
+        ("hwdb help -r /x", "usage"),
         ("hwdb update --version", "usage"),
         ("hwdb query -V", "usage"),
     ];
@@ -242,6 +290,11 @@ fn help_names_the_command(rt: HostRuntime) -> Result<(), Fail> {
         ("hwdb --help", ["explain", "--root", "--version", "-V"]),
         ("hwdb --help", ["check", "--usr", "--strict", "--help"]),
         ("hwdb --help", ["diff", "--strict", "-s", "-h"]),
+        ("hwdb --help", ["verify", "dump", "help", "-r"]),
+        (
+            "hwdb help help",
+            ["hwdb help", "COMMAND", "help", "subcommand"],
+        ),
         (
             "hwdb explain --help",
             ["hwdb explain", "MODALIAS", "--root", "-r"],
@@ -271,6 +324,14 @@ fn help_names_the_command(rt: HostRuntime) -> Result<(), Fail> {
         ),
         ("hwdb diff --help", ["hwdb diff", "OLD", "NEW", "--root"]),
         (
+            "hwdb verify --help",
+            ["hwdb verify", "DATABASE", "/etc/udev", "/usr/lib/udev"],
+        ),
+        (
+            "hwdb dump --help",
+            ["hwdb dump", "DATABASE", "all.hwdb", "--root"],
+        ),
+        (
             "hwdb -r /x list --help",
             ["hwdb list", "MODALIAS", "--after", "--limit"],
         ),
@@ -281,6 +342,25 @@ fn help_names_the_command(rt: HostRuntime) -> Result<(), Fail> {
         for want in wants {
             assert!(rt; seen.as_str().contains(want), "{line}: {want}");
         }
+    }
+    Ok(())
+}
+
+/// The word `help` prints what `--help` does.
+#[test]
+fn help_as_a_word(rt: HostRuntime) -> Result<(), Fail> {
+    let rows = [
+        ("hwdb help", "hwdb --help"),
+        ("hwdb -s help", "hwdb -h"),
+        ("hwdb help update", "hwdb update --help"),
+        ("hwdb help query", "hwdb query --help"),
+        ("hwdb -r /x help verify", "hwdb verify -h"),
+        ("hwdb help dump", "hwdb dump --help"),
+    ];
+    for (line, other) in rows {
+        let seen = told(rt.alloc(), line)?;
+        let want = told(rt.alloc(), other)?;
+        assert_eq!(rt; seen.as_str(), want.as_str(), "{line}");
     }
     Ok(())
 }
@@ -304,6 +384,8 @@ fn usage_names_what_is_wrong(rt: HostRuntime) -> Result<(), Fail> {
         ("hwdb diff", "OLD"),
         ("hwdb diff a", "NEW"),
         ("hwdb diff a b c", "'c'"),
+        ("hwdb verify a b", "'b'"),
+        ("hwdb dump a b", "'b'"),
         ("hwdb explain a b", "b"),
         ("hwdb query --limit 1 a", "--limit"),
         ("hwdb list --limit 1x a", "1x"),
@@ -311,7 +393,7 @@ fn usage_names_what_is_wrong(rt: HostRuntime) -> Result<(), Fail> {
         ("hwdb update --root", "--root"),
         ("hwdb --frob update", "--frob"),
         ("hwdb frobnicate", "frobnicate"),
-        ("hwdb help", "help"),
+        ("hwdb help nothing", "nothing"),
     ];
     for (line, want) in rows {
         let seen = told(rt.alloc(), line)?;
@@ -333,8 +415,8 @@ fn no_words(rt: HostRuntime) -> Result<(), Fail> {
     Ok(())
 }
 
-/// An unknown option is told what it is like only where it is much like it, and a value that begins with `-` how it is
-/// passed.
+/// An unknown option is told what it is like only where it is much like it, a value that begins with `-` how it is
+/// passed, and an unknown command where all of them stand.
 #[test]
 fn tips(rt: HostRuntime) -> Result<(), Fail> {
     let rows = [
@@ -361,6 +443,18 @@ fn tips(rt: HostRuntime) -> Result<(), Fail> {
         (
             "hwdb -r -x update",
             "usage: error: unexpected argument '-x' found\n\nUsage: hwdb [OPTIONS] <COMMAND>\n\nFor more information, try '--help'.\n",
+        ),
+        (
+            "hwdb help nothing",
+            "usage: error: unrecognized subcommand 'nothing'\n\n  tip: to see all commands, use 'hwdb help'\n\nUsage: hwdb [OPTIONS] <COMMAND>\n\nFor more information, try '--help'.\n",
+        ),
+        (
+            "hwdb nothing",
+            "usage: error: unrecognized subcommand 'nothing'\n\n  tip: to see all commands, use 'hwdb help'\n\nUsage: hwdb [OPTIONS] <COMMAND>\n\nFor more information, try '--help'.\n",
+        ),
+        (
+            "hwdb updat",
+            "usage: error: unrecognized subcommand 'updat'\n\n  tip: a similar subcommand exists: 'update'\n\nUsage: hwdb [OPTIONS] <COMMAND>\n\nFor more information, try '--help'.\n",
         ),
     ];
     for (line, want) in rows {

@@ -12,6 +12,12 @@ const VALUE_TIP: &str = "  tip: to pass ";
 
 const LIKE_TIP: &str = "  tip: a similar argument exists: ";
 
+/// How any advice begins.
+const TIP: &str = "  tip: ";
+
+/// Where the commands stand, for whoever named one that isn't there.
+const COMMANDS_TIP: &str = "  tip: to see all commands, use 'hwdb help'";
+
 /// The text of an unexpected argument's fault, with advice that fits: the known option that it is like, or how it is
 /// passed as a value. `words` are those of the command line. The usage that `clap` makes of a misleading tip goes
 /// with it.
@@ -34,9 +40,21 @@ pub fn with_fitting_tip(alloc: Global, text: &str, words: &[String]) -> Result<S
     Ok(advised)
 }
 
+/// The text of an unknown command's fault, with advice: the known command that it is like, or where all of them stand.
+///
+/// The only error is that memory is refused.
+pub fn with_command_tip(alloc: Global, text: &str) -> Result<String, AllocError> {
+    match text.split_once("\n\n") {
+        Some((fault, rest)) if !rest.starts_with(TIP) => {
+            format!(in alloc; "{fault}\n\n{COMMANDS_TIP}\n\n{rest}")
+        }
+        _ => String::from_str(alloc, text),
+    }
+}
+
 /// Whether a paragraph is a tip or the usage.
 fn is_advice(paragraph: &str) -> bool {
-    paragraph.starts_with("  tip: ") || paragraph.starts_with("Usage: ")
+    paragraph.starts_with(TIP) || paragraph.starts_with("Usage: ")
 }
 
 /// Adds a paragraph.

@@ -25,7 +25,7 @@ use std::alloc::{AllocError, Global};
 /// The line of what the database gives a device.
 ///
 /// The only error is that memory is refused.
-fn answer_line(alloc: Global, db: &Db<'_>, device: &[u8]) -> Result<Vec<u8>, AllocError>
+pub fn answer_line(alloc: Global, db: &Db<'_>, device: &[u8]) -> Result<Vec<u8>, AllocError>
     ensures { IfOk result (λ line. line.items
         ≡ json_line (device_json device.now (effective_of (answers device.now db.now)))) }
 {

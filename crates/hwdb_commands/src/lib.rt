@@ -38,9 +38,10 @@ mod update;
 
 pub use errors::ToolError;
 pub use explanation::run_explain;
-pub use json_answers::{run_explain_json, run_list_json, run_queries_json};
+pub use json_answers::{answer_line, run_explain_json, run_list_json, run_queries_json};
 pub use json_laws::json_is_read_back;
 pub use lookup::{MAX_BYTES, run_list, run_queries, run_query};
 pub use single_file::ask;
+pub use texts::property_lines;
 pub use transfer::{read_all, write_text};
 pub use update::{run_update, update_chosen};

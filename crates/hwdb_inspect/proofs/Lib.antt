@@ -7,3 +7,11 @@ pub mod DiffLemmas
 pub mod DepthLemmas
 pub mod AscendingLemmas
 pub mod DifferentLemmas
+pub mod MemberLemmas
+pub mod OrderedLemmas
+pub mod PieceLemmas
+pub mod SaidLemmas
+pub mod RecordLemmas
+pub mod ReadLemmas
+pub mod PlacedLemmas
+pub mod ToldLemmas

@@ -1,6 +1,5 @@
 -- What `diff` writes and refuses. Our choice.
-use Rattle.std.specs.Prelude.{List, ℕ, Bool, ◌≡◌, ◌++◌, Option}
-use Rattle.std.specs.Io.KnownBytes.{Appends}
+use Rattle.std.specs.Prelude.{List, ℕ, Bool, ◌≡◌}
 use Rattle.hwdb_spec.specs.Format.{IsDatabase}
 use Rattle.hwdb_spec.specs.Tree.{Tree}
 use Rattle.hwdb_spec.specs.Differences.{diff_text, differ}
@@ -53,9 +52,3 @@ refusal_of (Old fault) = BadDatabase fault
 refusal_of (New fault) = BadDatabase fault
 refusal_of NotWritten = Write
 refusal_of NoMemory = Memory
-
--- the sink took a part of the text at its beginning, and the rest is left
-pub record Moves (before now : Option (List ℕ)) (text left : List ℕ) : Type 0 where
-  pub front : List ℕ
-  pub is : text ≡ front ++ left
-  pub taken : Appends before now front

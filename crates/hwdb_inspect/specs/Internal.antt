@@ -4,3 +4,4 @@ pub mod Walks
 pub mod Merging
 pub mod Pairing
 pub mod Counting
+pub mod Printing

@@ -1,4 +1,5 @@
 pub mod Views
 pub mod Diffs
+pub mod Dumps
 pub mod Laws
 pub mod Internal

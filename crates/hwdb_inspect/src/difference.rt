@@ -1,5 +1,5 @@
 //! `diff`: what came, went and changed from one database to another.
-ghost use Rattle.std.specs.Prelude.{◌≡◌, ◌≢◌, ◌⊎◌, ◌≤◌, ℕ, List, OnOk, OnErr, IfOk, IfErr, IsErrOf};
+ghost use Rattle.std.specs.Prelude.{◌≡◌, ◌≢◌, ◌⊎◌, ℕ, List, OnOk, IfOk, IfErr, IsErrOf};
 ghost use Rattle.std.specs.Io.KnownBytes.{Appends};
 ghost use Rattle.hwdb_spec.specs.Folders.{Source};
 ghost use Rattle.hwdb_spec.specs.Failures.{HasFailed, OneFailed};
@@ -8,54 +8,17 @@ ghost use Rattle.hwdb_spec.specs.Tree.{Tree};
 ghost use Rattle.hwdb_spec.specs.Written.{IsCompiled};
 ghost use Rattle.hwdb_spec.specs.Differences.{changes_text, are_some, files_diff_text};
 ghost use Rattle.hwdb_commands.specs.Devices.{AppendsPrefix, Wrote, WrotePrefix};
-ghost use Rattle.hwdb_commands.specs.Lookups.{IsNoDatabase};
-ghost use Rattle.hwdb_inspect.specs.Diffs.{IsDiffText, IsDifferent, IsDiffRefusal, IsPrintRefusal, Moves};
+ghost use Rattle.hwdb_inspect.specs.Diffs.{IsDiffText, IsDifferent, IsDiffRefusal, IsPrintRefusal};
 ghost use Rattle.hwdb_inspect.specs.Internal.Pairing.{to_tell};
 
 use crate::errors::DiffError;
 use crate::lines::push_pair;
 use crate::pairs::Pairs;
+use crate::printing::{hand_on, write_whole};
 use crate::walk::assignments;
-use hwdb_commands::write_text;
 use hwdb_devices::Sink;
 use hwdb_reader::{Db, check, law_ascending, law_one_tree};
 use std::alloc::Global;
-
-/// How many bytes of lines are held before they are written.
-const PIECE: usize = 65536;
-
-/// Writes all of the text and flushes.
-fn write_whole<O: Sink>(text: &[u8], out: &mut O) -> Result<(), DiffError>
-    ensures whole { OnOk result (Appends (O.taken out.old) (O.taken out.new) text.now) }
-    ensures prefix { AppendsPrefix (O.taken out.old) (O.taken out.new) text.now }
-    ensures refusal { IfErr result (λ e. e ≡ DiffError.Write) }
-    ensures cause { IfErr result (λ _. HasFailed (O.failures out.old) (O.failures out.new)) }
-    ensures unfailed { OnOk result (O.failures out.new ≡ O.failures out.old) }
-    ensures last { OnErr result (OneFailed (O.failures out.old) (O.failures out.new)) }
-{
-    match write_text(out, text) {
-        Ok(()) => Ok(()),
-        Err(_) => Err(DiffError::Write),
-    }
-}
-
-/// Writes the text where it has become long, and empties it then.
-fn hand_on<O: Sink>(text: &mut Vec<u8>, out: &mut O) -> Result<(), DiffError>
-    ensures moved { OnOk result
-        (Moves (O.taken out.old) (O.taken out.new) text.old.items text.new.items) }
-    ensures prefix { AppendsPrefix (O.taken out.old) (O.taken out.new) text.old.items }
-    ensures refusal { IfErr result (λ e. e ≡ DiffError.Write) }
-    ensures cause { IfErr result (λ _. HasFailed (O.failures out.old) (O.failures out.new)) }
-    ensures unfailed { OnOk result (O.failures out.new ≡ O.failures out.old) }
-    ensures last { OnErr result (OneFailed (O.failures out.old) (O.failures out.new)) }
-{
-    if text.len() < PIECE {
-        return Ok(());
-    }
-    write_whole(text, out)?;
-    text.clear();
-    Ok(())
-}
 
 /// Prints a line for each change that is left, and answers whether there is one. At most 64 KiB and a line are held.
 ///

@@ -1,8 +1,8 @@
-//! Why two databases weren't compared.
+//! Why two databases weren't compared, or a database isn't dumped.
 ghost use Rattle.std.specs.Prelude.{◌≡◌};
-ghost use Rattle.hwdb_inspect.specs.declared.errors.DiffError.TheVariants.{Memory};
 ghost use Rattle.hwdb_inspect.specs.Diffs.{refusal_of};
 
+use crate::printing::Unwritten;
 use hwdb_commands::ToolError;
 use hwdb_reader::DbFault;
 use std::alloc::AllocError;
@@ -35,9 +35,54 @@ impl DiffError {
 }
 
 impl From<AllocError> for DiffError {
+    ghost use Rattle.hwdb_inspect.specs.declared.errors.DiffError.TheVariants.{Memory};
+
     ghost from_gives = { λ _ e. e ≡ Memory };
 
     fn from(_: AllocError) -> DiffError {
         DiffError::Memory
+    }
+}
+
+impl From<Unwritten> for DiffError {
+    ghost use Rattle.hwdb_inspect.specs.declared.errors.DiffError.TheVariants.{Write};
+
+    ghost from_gives = { λ _ e. e ≡ Write };
+
+    fn from(_: Unwritten) -> DiffError {
+        DiffError::Write
+    }
+}
+
+/// Why a database isn't dumped, or not to the end.
+#[derive(Debug, Drop, PartialEq, Eq)]
+pub enum DumpError {
+    /// The bytes are no database.
+    Database(DbFault),
+    /// A text can't say an assignment with this pattern, the first such one.
+    Unsayable(Vec<u8>),
+    /// A sink failed.
+    Write,
+    /// Memory was refused.
+    Memory,
+}
+
+impl From<AllocError> for DumpError {
+    ghost use Rattle.hwdb_inspect.specs.declared.errors.DumpError.TheVariants.{Memory};
+
+    ghost from_gives = { λ _ e. e ≡ Memory };
+
+    fn from(_: AllocError) -> DumpError {
+        DumpError::Memory
+    }
+}
+
+impl From<Unwritten> for DumpError {
+    ghost use Rattle.hwdb_inspect.specs.declared.errors.DumpError.TheVariants.{Write};
+
+    ghost from_gives = { λ _ e. e ≡ Write };
+
+    fn from(_: Unwritten) -> DumpError {
+        DumpError::Write
     }
 }

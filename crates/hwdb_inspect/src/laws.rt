@@ -1,7 +1,17 @@
 //! Laws of databases: each function holds no code, its contract is a law of the definitions of `hwdb_spec`.
-ghost use Rattle.hwdb_inspect.specs.Laws.{MembersAreTheMap};
+ghost use Rattle.hwdb_inspect.specs.Laws.{MembersAreTheMap, DumpSays, DumpTells};
 
 /// All that a tree assigns, in the order of its nodes and values, is the map that it stands for, by pattern and key.
 pub fn members_are_the_map()
     ensures { MembersAreTheMap }
+{}
+
+/// The text of a dump, read as a file, says what the database assigns, each assignment once and in the dump's order.
+pub fn dump_says()
+    ensures { DumpSays }
+{}
+
+/// `ask` over the text of a dump tells each device what `query` tells it over the database.
+pub fn dump_tells()
+    ensures { DumpTells }
 {}

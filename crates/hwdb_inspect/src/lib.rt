@@ -1,24 +1,30 @@
-//! A database as a whole: all that it assigns, how much that is, and what changed from one database to another.
+//! A database as a whole: all that it assigns, as text too, how much that is, and what changed from one database to another.
 //!
 //! | Module | What it does |
 //! |---|---|
 //! | `assigned` | an assignment of a database |
 //! | `pairs` | two ascending lists of assignments, gone through side by side |
 //! | `lines` | the lines of changes |
+//! | `dump` | `dump`: a database as text |
+//! | `records` | the records of a dump, and what a record says |
+//! | `printing` | text that is written in pieces |
 //! | `difference` | `diff`: what changed from one database to another |
 //! | `summary` | how much is in a database |
 //! | `verification` | `verify`: whether bytes are a database, and how much is in it |
-//! | `errors` | why two databases weren't compared |
+//! | `errors` | why two databases weren't compared, or a database isn't dumped |
 //! | `walk` | all assignments of a database, by pattern and key |
-//! | `laws` | laws of the map of a database |
+//! | `laws` | laws of the map of a database, and of its dump |
 #![tactic(auto)]
 
 mod assigned;
 mod difference;
+mod dump;
 mod errors;
 mod laws;
 mod lines;
 mod pairs;
+mod printing;
+mod records;
 mod summary;
 #[cfg(test)]
 mod tests;
@@ -27,7 +33,8 @@ mod walk;
 
 pub use assigned::Assigned;
 pub use difference::run_diff;
-pub use errors::DiffError;
-pub use laws::members_are_the_map;
+pub use dump::run_dump;
+pub use errors::{DiffError, DumpError};
+pub use laws::{dump_says, dump_tells, members_are_the_map};
 pub use verification::run_verify;
 pub use walk::assignments;

@@ -30,7 +30,7 @@ pub(crate) struct Pairs<'r, 'a> {
 }
 
 /// Compares by pattern and then by key.
-fn by_place(x: &Assigned<'_>, y: &Assigned<'_>) -> Ordering
+pub(crate) fn by_place(x: &Assigned<'_>, y: &Assigned<'_>) -> Ordering
     ensures { result ≡ by_place (assignment_of x.now) (assignment_of y.now) }
 {
     match x.pattern.as_slice().cmp(y.pattern.as_slice()) {

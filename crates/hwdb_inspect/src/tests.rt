@@ -1,6 +1,7 @@
-//! Worked examples of differences and of summaries.
+//! Worked examples of differences, of summaries and of dumps.
 use crate::difference::run_diff;
-use crate::errors::DiffError;
+use crate::dump::run_dump;
+use crate::errors::{DiffError, DumpError};
 use crate::verification::run_verify;
 use hwdb_commands::{MAX_BYTES, ToolError};
 use hwdb_compile::{SourceFile, compile};
@@ -184,6 +185,166 @@ fn summary_refusals(rt: HostRuntime) -> Result<(), Fail> {
     let longer = verify(rt.alloc(), &bytes, &mut out);
     assert!(&rt;
         longer == Err(ToolError::BadDatabase(DbFault::Lengths)),
+        "a byte too many"
+    );
+    assert!(&rt; out.taken().is_empty(), "nothing is printed");
+    Ok(())
+}
+
+/// What is dumped of a database.
+fn dump(alloc: Global, bytes: &[u8], out: &mut MemorySink<512>) -> Result<(), DumpError> {
+    run_dump(alloc, bytes, out)
+}
+
+const DUMPED: &str = "# /etc/udev/hwdb.d/a.hwdb:2
+b
+ K=1
+
+# /usr/lib/udev/hwdb.d/b.hwdb:3
+a
+ K=2
+
+";
+
+#[test]
+fn dumps(rt: HostRuntime) -> Result<(), Fail> {
+    let rows: [(&[u8], &[u8], &str); 5] = [
+        (b"", b"", ""),
+        (
+            b"a\n K=1\n",
+            b"",
+            "# /etc/udev/hwdb.d/a.hwdb:2\na\n K=1\n\n",
+        ),
+        // By priority, before the pattern.
+        (b"b\n K=1\n", b"\na\n K=2\n", DUMPED),
+        // By line, and then by pattern.
+        (
+            b"z\n L=\n K=x  y\n\nab*\nb?[c]\n M==\n",
+            b"",
+            "# /etc/udev/hwdb.d/a.hwdb:2\nz\n L=\n\n# /etc/udev/hwdb.d/a.hwdb:3\nz\n K=x  y\n\n# /etc/udev/hwdb.d/a.hwdb:7\nab*\n M==\n\n# /etc/udev/hwdb.d/a.hwdb:7\nb?[c]\n M==\n\n",
+        ),
+        // What a later file replaces isn't in the database.
+        (
+            b"a\n K=1\n",
+            b"a\n K=2\n",
+            "# /usr/lib/udev/hwdb.d/b.hwdb:2\na\n K=2\n\n",
+        ),
+    ];
+    for (etc, usr, text) in rows {
+        let database = database_of_both(rt.alloc(), etc, usr)?;
+        let mut out: MemorySink<512> = MemorySink::new();
+        let answer = dump(rt.alloc(), &database, &mut out);
+        assert!(&rt; answer == Ok(()), "{text}");
+        assert_eq!(&rt; out.taken(), text.as_bytes(), "{text}");
+    }
+    Ok(())
+}
+
+/// The pattern that is refused, if one is.
+fn refused(answer: Result<(), DumpError>) -> Option<Vec<u8>> {
+    match answer {
+        Err(DumpError::Unsayable(pattern)) => Some(pattern),
+        _ => None,
+    }
+}
+
+/// The place of a text in some bytes.
+fn place_of(bytes: &[u8], text: &[u8]) -> usize {
+    for at in 0..bytes.len().saturating_sub(text.len()) {
+        if &bytes[at..at + text.len()] == text {
+            return at;
+        }
+    }
+    0
+}
+
+/// A database in which a text stands in the place of another one of the same length.
+fn changed(alloc: Global, old: &[u8], new: &[u8]) -> Result<Vec<u8>, Fail> {
+    let bytes = database_of(alloc, b"a\n K=1\n\nxpatt\n KEYS=value\n L=1\n")?;
+    let at = place_of(&bytes, old);
+    let mut changed = Vec::new(alloc);
+    for i in 0..bytes.len() {
+        let other = new.get(i.wrapping_sub(at)).copied();
+        changed.push(other.unwrap_or(bytes[i]))?;
+    }
+    Ok(changed)
+}
+
+/// A pattern, a key or a value that no text file says is refused, with the pattern, and nothing is printed.
+#[test]
+fn unsayable(rt: HostRuntime) -> Result<(), Fail> {
+    let rows: [(&[u8], &[u8], Option<&[u8]>); 15] = [
+        (b"value", b"v=lue", None),
+        (b"value", b" alue", None),
+        (b"value", b"val e", None),
+        (b"value", b"v#lue", Some(b"xpatt")),
+        (b"value", b"v\nlue", Some(b"xpatt")),
+        (b"value", b"valu ", Some(b"xpatt")),
+        (b"value", b"valu\r", Some(b"xpatt")),
+        (b"KEYS", b"KE S", None),
+        (b"KEYS", b"\tEYS", Some(b"xpatt")),
+        (b"KEYS", b"K=YS", Some(b"xpatt")),
+        (b"KEYS", b"=EYS", Some(b"xpatt")),
+        (b"KEYS", b"#EYS", Some(b"xpatt")),
+        (b"patt", b"p tt", None),
+        (b"patt", b"pat\t", Some(b"xpat\t")),
+        (b"patt", b"p\ntt", Some(b"xp\ntt")),
+    ];
+    for (old, new, pattern) in rows {
+        let database = changed(rt.alloc(), old, new)?;
+        let mut out: MemorySink<512> = MemorySink::new();
+        let found = refused(dump(rt.alloc(), &database, &mut out));
+        assert!(&rt; found.as_deref() == pattern, "{new:?}");
+        assert!(&rt; out.taken().is_empty() == pattern.is_some(), "{new:?}");
+    }
+    Ok(())
+}
+
+/// The name of a file with a newline in it ends the comment.
+#[test]
+fn unsayable_path(rt: HostRuntime) -> Result<(), Fail> {
+    let own = folder_of(rt.alloc(), "a\nb.hwdb", b"p\n K=1\n")?;
+    let given = folder_of(rt.alloc(), "a.hwdb", b"q\n K=1\n")?;
+    let compiled = compile(rt.alloc(), &own, &given, MAX_BYTES).map_err(|_| "refused")?;
+    let mut out: MemorySink<512> = MemorySink::new();
+    let found = refused(dump(rt.alloc(), &compiled.database, &mut out));
+    assert!(&rt; found.as_deref() == Some(&b"p"[..]));
+    assert!(&rt; out.taken().is_empty());
+    Ok(())
+}
+
+/// What a sink that fails has taken.
+#[test]
+fn dump_cut_short(rt: HostRuntime) -> Result<(), Fail> {
+    let good = database_of_both(rt.alloc(), b"b\n K=1\n", b"\na\n K=2\n")?;
+    for room in 0..DUMPED.len() {
+        let mut out: MemorySink<512> = MemorySink::new();
+        out.room = room;
+        let answer = dump(rt.alloc(), &good, &mut out);
+        assert!(&rt; answer == Err(DumpError::Write), "{room}");
+        assert_eq!(&rt; out.taken(), &DUMPED.as_bytes()[..room], "{room}");
+    }
+    let mut out: MemorySink<512> = MemorySink::new();
+    out.flush_fails = true;
+    let answer = dump(rt.alloc(), &good, &mut out);
+    assert!(&rt; answer == Err(DumpError::Write), "a flush");
+    Ok(())
+}
+
+/// Nothing is printed of bytes that are no database.
+#[test]
+fn dump_refusals(rt: HostRuntime) -> Result<(), Fail> {
+    let mut bytes = database_of(rt.alloc(), b"a\n K=1\n")?;
+    bytes.push(0)?;
+    let mut out: MemorySink<512> = MemorySink::new();
+    let short = dump(rt.alloc(), b"", &mut out);
+    assert!(&rt;
+        short == Err(DumpError::Database(DbFault::Short)),
+        "no bytes"
+    );
+    let longer = dump(rt.alloc(), &bytes, &mut out);
+    assert!(&rt;
+        longer == Err(DumpError::Database(DbFault::Lengths)),
         "a byte too many"
     );
     assert!(&rt; out.taken().is_empty(), "nothing is printed");

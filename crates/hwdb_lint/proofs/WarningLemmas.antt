@@ -3,7 +3,9 @@ use Rattle.std.proofs.Common.{◌≡◌, ℕ, ◌+◌, ◌<◌, ◌≤◌, List,
 use Rattle.std.specs.Prelude.{flat_map}
 use Rattle.std.specs.List.{position_or_len}
 use Rattle.std.proofs.lemmas.List.{append-nil}
+use Rattle.std.proofs.lemmas.Grind.{flat_map-append}
 use Rattle.hwdb_spec.specs.Lines.{Line, is, numbered, pieces}
+use Rattle.hwdb_spec.specs.declared.WarningKind.{WarningKind}
 use Rattle.hwdb_lint.specs.Internal.{line_of}
 use Rattle.hwdb_lint.proofs.LineLemmas.{line_at, no_line_at}
 
@@ -28,3 +30,12 @@ module _ {X : Type 0} (f : Line → List X) where
   unfolding numbered
   lines_end file at number before whole h so_far =
       sym (append-nil before) ∙ ap (λ ps. before ++ flat_map f (numbered number ps)) (sym (no_line_at file at h)) ∙ so_far
+
+-- one warning more, and those behind it
+pub text_step : (f : WarningKind → List ℕ) (before after : List ℕ) (one more : List WarningKind) → after ≡ before ++ flat_map f one
+    → after ++ flat_map f more ≡ before ++ flat_map f (one ++ more)
+text_step f before after one more e =
+    ap (λ l. l ++ flat_map f more) e ∙ append_assoc before (flat_map f one) (flat_map f more) ∙ ap (λ l. before ++ l) (sym (flat_map-append f one more))
+
+pub found_step : (before after one more : List WarningKind) → after ≡ before ++ one → after ++ more ≡ before ++ (one ++ more)
+found_step before after one more e = ap (λ l. l ++ more) e ∙ append_assoc before one more

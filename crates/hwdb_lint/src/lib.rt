@@ -7,6 +7,8 @@
 //! | `places` | where in its line a fault stands |
 //! | `reports` | the report of a fault |
 //! | `line_texts` | the text of a line, by its number |
+//! | `line_warnings` | which warnings a line gets, by its clean text |
+//! | `repeats` | match lines that stand in their record already |
 //! | `warnings` | the warnings of a file, and their reports |
 //! | `tallies` | how much was found: the last line, and the status |
 //! | `files` | text files that are checked, one after another |
@@ -14,7 +16,9 @@
 
 mod files;
 mod line_texts;
+mod line_warnings;
 mod places;
+mod repeats;
 mod reports;
 mod shown;
 mod tallies;
@@ -23,3 +27,4 @@ mod tests;
 mod warnings;
 
 pub use files::{TextFile, check_file, check_files};
+pub use shown::push_shown;

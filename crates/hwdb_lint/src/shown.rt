@@ -46,7 +46,7 @@ fn push_byte(text: &mut Vec<u8>, byte: u8) -> Result<(), AllocError>
 }
 
 /// Adds some bytes, as they are shown.
-fn push_shown(text: &mut Vec<u8>, bytes: &[u8]) -> Result<(), AllocError>
+pub fn push_shown(text: &mut Vec<u8>, bytes: &[u8]) -> Result<(), AllocError>
     ensures { OnOk result (text.new.items ≡ text.old.items ++ shown bytes.now) }
 {
     for byte in bytes {

@@ -88,6 +88,93 @@ const RETURNED: &str = "t.hwdb:2: warning: a carriage return in the middle of th
 1 file, 1 assignment, 0 faults, 1 warning
 ";
 
+const OPEN: &str = "t.hwdb:1: warning: a [ that is never closed stands for itself
+    a[b]c[x#]
+         ^
+    hint: close it with a ], or write [[] for the byte
+1 file, 1 assignment, 0 faults, 1 warning
+";
+
+const EMPTY: &str = "t.hwdb:1: warning: a range without members
+    v[[:digit:]!z-a]*[b-a]
+                ^
+    hint: put the lower end of the range first
+1 file, 1 assignment, 0 faults, 1 warning
+";
+
+const SPACED: &str = "t.hwdb:2: warning: a blank beside the first =
+      K\\x09=1
+           ^
+    hint: take it away: it belongs to the key or to the value
+t.hwdb:3: warning: a blank beside the first =
+     L= 2=3
+      ^
+    hint: take it away: it belongs to the key or to the value
+1 file, 2 assignments, 0 faults, 2 warnings
+";
+
+/// Both at once: the `[` at its end is open, and before it a range has no members. What stands behind an open `[` isn't read.
+const TWICE: &str = "t.hwdb:1: warning: a [ that is never closed stands for itself
+    [!9-0][]
+          ^
+    hint: close it with a ], or write [[] for the byte
+t.hwdb:1: warning: a range without members
+    [!9-0][]
+      ^
+    hint: put the lower end of the range first
+1 file, 1 assignment, 0 faults, 2 warnings
+";
+
+#[test]
+fn warned_patterns(rt: HostRuntime) -> Result<(), Fail> {
+    checks(&rt, rt.alloc(), "a[b]c[x#]\n K=1\n", OPEN, 0)?;
+    checks(&rt, rt.alloc(), "v[[:digit:]!z-a]*[b-a]\n K=1\n", EMPTY, 0)?;
+    checks(&rt, rt.alloc(), "[!9-0][]\n K=1\n", TWICE, 0)?;
+    let plain = "1 file, 1 assignment, 0 faults, 0 warnings\n";
+    checks(
+        &rt,
+        rt.alloc(),
+        "[]-a][[]x]y[a-a--/]#[\n K=[z-a][\n",
+        plain,
+        0,
+    )?;
+    Ok(())
+}
+
+const REPEATED: &str = "t.hwdb:4: warning: a match line that stands in its record already
+    a\\x09# d
+    ^
+    hint: take one of the two away
+1 file, 5 assignments, 0 faults, 1 warning
+";
+
+const THRICE: &str = "t.hwdb:2: warning: a match line that stands in its record already
+    x
+    ^
+    hint: take one of the two away
+t.hwdb:3: warning: a match line that stands in its record already
+    x
+    ^
+    hint: take one of the two away
+1 file, 3 assignments, 0 faults, 2 warnings
+";
+
+#[test]
+fn repeated_match_lines(rt: HostRuntime) -> Result<(), Fail> {
+    let file = "a\nb\n# c\na\t# d\nc\n K=1\n\na\n K=2\n";
+    checks(&rt, rt.alloc(), file, REPEATED, 0)?;
+    checks(&rt, rt.alloc(), "x\nx\nx\n K=1\n", THRICE, 0)?;
+    Ok(())
+}
+
+#[test]
+fn spaced_properties(rt: HostRuntime) -> Result<(), Fail> {
+    checks(&rt, rt.alloc(), "a\n  K\t=1\n L= 2=3\n", SPACED, 0)?;
+    let plain = "1 file, 2 assignments, 0 faults, 0 warnings\n";
+    checks(&rt, rt.alloc(), "a = b\n \tK K=1 = 2\n L= # 3\n", plain, 0)?;
+    Ok(())
+}
+
 #[test]
 fn warned_files(rt: HostRuntime) -> Result<(), Fail> {
     checks(&rt, rt.alloc(), "\u{feff}a\n K=1\n", MARKED, 0)?;

@@ -1,47 +1,20 @@
 //! Warnings: lines that are read, but hardly as they were meant.
 ghost use Rattle.std.specs.Prelude.{◌≡◌, ◌++◌, flat_map, IfOk, OnOk};
-ghost use Rattle.hwdb_spec.specs.Warnings.{warns, warned, clean_warnings, line_warnings, warnings, warning_text, warning_place, warning_hint, warning_line, warning_report, line_text, warnings_text};
-ghost use Rattle.hwdb_lint.specs.Internal.{line_of};
+ghost use Rattle.hwdb_spec.specs.Lines.{clean_line};
+ghost use Rattle.hwdb_spec.specs.Warnings.{repeated_lines, warned, clean_warnings, line_warnings, warnings, warning_text, warning_place, warning_hint, warning_line, warning_report, line_text, warnings_text};
+ghost use Rattle.hwdb_lint.specs.Internal.{IsRead, IsSetOf, clean_of, line_of, read_line};
 
+use crate::line_warnings::{Read, closed, is_warned};
 use crate::places::place_of;
+use crate::repeats::repeated_lines;
 use crate::reports::push_hint_line;
 use crate::shown::{push_mark_line, push_shown_line};
+use hwdb_pattern::{open_place, range_place};
 use hwdb_spec::WarningKind;
 use hwdb_text::{Content, content_of};
 use itoa::Buffer;
 use std::alloc::{AllocError, Global};
-
-/// Whether a text begins with a byte order mark.
-fn begins_with_mark(text: &[u8]) -> bool
-    ensures { result ≡ warns WarningKind.ByteOrderMark text.now }
-{
-    text.len() > 2 && text[0] == 239 && text[1] == 187 && text[2] == 191
-}
-
-/// Whether a text begins with a tab.
-fn begins_with_tab(text: &[u8]) -> bool
-    ensures { result ≡ warns WarningKind.LeadingTab text.now }
-{
-    !text.is_empty() && text[0] == b'\t'
-}
-
-/// Whether a carriage return stands in a text.
-fn has_return(text: &[u8]) -> bool
-    ensures { result ≡ warns WarningKind.CarriageReturn text.now }
-{
-    text.iter().any(|byte| *byte == b'\r')
-}
-
-/// Whether a line with this clean text gets a warning.
-fn is_warned(kind: WarningKind, clean: &[u8]) -> bool
-    ensures { result ≡ warns kind clean.now }
-{
-    match kind {
-        WarningKind::ByteOrderMark => begins_with_mark(clean),
-        WarningKind::LeadingTab => begins_with_tab(clean),
-        WarningKind::CarriageReturn => has_return(clean),
-    }
-}
+use std::collections::BTreeSet;
 
 /// What is printed of a warning.
 fn text_of(kind: WarningKind) -> &'static str
@@ -51,6 +24,10 @@ fn text_of(kind: WarningKind) -> &'static str
         WarningKind::ByteOrderMark => "the pattern begins with a byte order mark",
         WarningKind::LeadingTab => "a match line that begins with a tab",
         WarningKind::CarriageReturn => "a carriage return in the middle of the line",
+        WarningKind::OpenBracket => "a [ that is never closed stands for itself",
+        WarningKind::EmptyRange => "a range without members",
+        WarningKind::SpacedEquals => "a blank beside the first =",
+        WarningKind::RepeatedMatch => "a match line that stands in its record already",
     }
 }
 
@@ -62,16 +39,23 @@ fn hint_of(kind: WarningKind) -> &'static str
         WarningKind::ByteOrderMark => "save the file without a byte order mark",
         WarningKind::LeadingTab => "begin a property with a space",
         WarningKind::CarriageReturn => "end each line with a newline alone",
+        WarningKind::OpenBracket => "close it with a ], or write [[] for the byte",
+        WarningKind::EmptyRange => "put the lower end of the range first",
+        WarningKind::SpacedEquals => "take it away: it belongs to the key or to the value",
+        WarningKind::RepeatedMatch => "take one of the two away",
     }
 }
 
 /// Behind how many bytes of its line a warning stands.
-fn warning_place(kind: WarningKind, line: &[u8]) -> usize
-    ensures { result ≡ warning_place kind line.now }
+fn warning_place(kind: WarningKind, line: &[u8], clean: &[u8]) -> usize
+    ensures { result ≡ warning_place kind line.now clean.now }
 {
     match kind {
-        WarningKind::ByteOrderMark | WarningKind::LeadingTab => 0,
+        WarningKind::ByteOrderMark | WarningKind::LeadingTab | WarningKind::RepeatedMatch => 0,
         WarningKind::CarriageReturn => place_of(b'\r', line),
+        WarningKind::OpenBracket => open_place(clean),
+        WarningKind::EmptyRange => range_place(closed(clean)),
+        WarningKind::SpacedEquals => place_of(b'=', line),
     }
 }
 
@@ -101,16 +85,21 @@ fn push_warning(
     alloc: Global,
     text: &mut Vec<u8>,
     path: &[u8],
-    number: u64,
-    line: &[u8],
+    line: &Read<'_>,
     kind: WarningKind,
 ) -> Result<(), AllocError>
+    requires { IsRead line.now }
     ensures { OnOk result (text.new.items
-        ≡ text.old.items ++ warning_report path.now (line_of number line.now) kind) }
+        ≡ text.old.items ++ warning_report path.now (read_line line.now) kind) }
 {
-    push_warning_line(text, path, number, kind)?;
-    push_shown_line(text, line)?;
-    push_mark_line(alloc, text, line, warning_place(kind, line))?;
+    push_warning_line(text, path, line.number, kind)?;
+    push_shown_line(text, line.text)?;
+    push_mark_line(
+        alloc,
+        text,
+        line.text,
+        warning_place(kind, line.text, line.clean),
+    )?;
     push_hint_line(text, hint_of(kind))
 }
 
@@ -129,70 +118,96 @@ impl Warned {
         &mut self,
         alloc: Global,
         path: &[u8],
-        number: u64,
-        line: &[u8],
-        clean: &[u8],
+        line: &Read<'_>,
         kind: WarningKind,
     ) -> Result<(), AllocError>
+        requires { IsRead line.now }
         ensures text { OnOk result (self.new.text.items ≡ self.old.text.items
-            ++ flat_map (warning_report path.now (line_of number line.now))
-            (warned kind clean.now)) }
+            ++ flat_map (warning_report path.now (read_line line.now))
+            (warned line.now.bytes.now kind (clean_of line.now))) }
         ensures found { OnOk result
-            (self.new.found.items ≡ self.old.found.items ++ warned kind clean.now) }
+            (self.new.found.items ≡ self.old.found.items
+            ++ warned line.now.bytes.now kind (clean_of line.now)) }
     {
-        if is_warned(kind, clean) {
-            push_warning(alloc, &mut self.text, path, number, line, kind)?;
+        if is_warned(kind, line) {
+            push_warning(alloc, &mut self.text, path, line, kind)?;
             self.found.push(kind)?;
         }
         Ok(())
     }
 
-    /// Adds the warnings of a line with this clean text.
-    fn put_clean(
+    /// Adds the warnings of a line with its clean text.
+    fn put_clean(&mut self, alloc: Global, path: &[u8], line: &Read<'_>) -> Result<(), AllocError>
+        requires { IsRead line.now }
+        ensures text { OnOk result (self.new.text.items ≡ self.old.text.items
+            ++ flat_map (warning_report path.now (read_line line.now))
+            (clean_warnings line.now.bytes.now (clean_of line.now))) }
+        ensures found { OnOk result
+            (self.new.found.items ≡ self.old.found.items
+            ++ clean_warnings line.now.bytes.now (clean_of line.now)) }
+    {
+        self.put_if(alloc, path, line, WarningKind::ByteOrderMark)?;
+        self.put_if(alloc, path, line, WarningKind::LeadingTab)?;
+        self.put_if(alloc, path, line, WarningKind::CarriageReturn)?;
+        self.put_if(alloc, path, line, WarningKind::OpenBracket)?;
+        self.put_if(alloc, path, line, WarningKind::EmptyRange)?;
+        self.put_if(alloc, path, line, WarningKind::SpacedEquals)?;
+        self.put_if(alloc, path, line, WarningKind::RepeatedMatch)
+    }
+
+    /// Adds the warnings of a line of a file with its clean text. Given are the lines that stand in their record already.
+    fn put_kept(
         &mut self,
         alloc: Global,
         path: &[u8],
+        bytes: &[u8],
+        repeated: &BTreeSet<u64>,
         number: u64,
-        line: &[u8],
+        text: &[u8],
         clean: &[u8],
     ) -> Result<(), AllocError>
+        requires repeated { IsSetOf (repeated_lines bytes.now) repeated.now }
+        requires clean { clean.now ≡ (clean_line (line_of number text.now)).text }
         ensures text { OnOk result (self.new.text.items ≡ self.old.text.items
-            ++ flat_map (warning_report path.now (line_of number line.now))
-            (clean_warnings clean.now)) }
-        ensures found { OnOk result
-            (self.new.found.items ≡ self.old.found.items ++ clean_warnings clean.now) }
+            ++ flat_map (warning_report path.now (line_of number text.now))
+            (clean_warnings bytes.now (clean_line (line_of number text.now)))) }
+        ensures found { OnOk result (self.new.found.items ≡ self.old.found.items
+            ++ clean_warnings bytes.now (clean_line (line_of number text.now))) }
     {
-        self.put_if(alloc, path, number, line, clean, WarningKind::ByteOrderMark)?;
-        self.put_if(alloc, path, number, line, clean, WarningKind::LeadingTab)?;
-        self.put_if(
-            alloc,
-            path,
+        let line = Read {
+            bytes,
             number,
-            line,
+            text,
             clean,
-            WarningKind::CarriageReturn,
-        )
+            repeated: repeated.contains(&number),
+        };
+        self.put_clean(alloc, path, &line)
     }
 
-    /// Adds the warnings of a line.
+    /// Adds the warnings of a line of a file.
+    #[tactic(auto, using(crate::proofs::RepeatLemmas::no_text))]
     fn put_line(
         &mut self,
         alloc: Global,
         path: &[u8],
+        bytes: &[u8],
+        repeated: &BTreeSet<u64>,
         number: u64,
-        line: &[u8],
+        text: &[u8],
     ) -> Result<(), AllocError>
+        requires { IsSetOf (repeated_lines bytes.now) repeated.now }
         ensures text { OnOk result (self.new.text.items
-            ≡ self.old.text.items ++ line_text path.now (line_of number line.now)) }
+            ≡ self.old.text.items ++ line_text path.now bytes.now (line_of number text.now)) }
         ensures found { OnOk result (self.new.found.items
-            ≡ self.old.found.items ++ line_warnings (line_of number line.now)) }
+            ≡ self.old.found.items ++ line_warnings bytes.now (line_of number text.now)) }
     {
-        match content_of(line) {
+        match content_of(text) {
             Content::Comment => Ok(()),
             Content::ZeroByte => Ok(()),
-            Content::Empty => Ok(()),
-            Content::Property(clean) => self.put_clean(alloc, path, number, line, clean),
-            Content::Match(clean) => self.put_clean(alloc, path, number, line, clean),
+            Content::Empty => self.put_kept(alloc, path, bytes, repeated, number, text, &[]),
+            Content::Property(clean) | Content::Match(clean) => {
+                self.put_kept(alloc, path, bytes, repeated, number, text, clean)
+            }
         }
     }
 }
@@ -202,6 +217,7 @@ pub fn warnings_of(alloc: Global, path: &[u8], bytes: &[u8]) -> Result<Warned, A
     ensures text { IfOk result (λ w. w.text.items ≡ warnings_text path.now bytes.now) }
     ensures found { IfOk result (λ w. w.found.items ≡ warnings bytes.now) }
 {
+    let repeated = repeated_lines(alloc, bytes)?;
     let mut warned = Warned {
         text: Vec::new(alloc),
         found: Vec::new(alloc),
@@ -211,7 +227,7 @@ pub fn warnings_of(alloc: Global, path: &[u8], bytes: &[u8]) -> Result<Warned, A
     while at < bytes.len() {
         let rest = &bytes[at..];
         let end = place_of(b'\n', rest);
-        warned.put_line(alloc, path, number, &rest[..end])?;
+        warned.put_line(alloc, path, bytes, &repeated, number, &rest[..end])?;
         number += 1;
         at = at + end + 1;
     }

@@ -11,3 +11,4 @@ pub mod LiveLemmas
 pub mod PathLemmas
 pub mod ComputedRows
 pub mod JoinLemmas
+pub mod RangeLemmas

@@ -38,7 +38,7 @@ fn plain_item(text: &[u8], byte: u8) -> Part
 }
 
 /// The item at the beginning of the text: a named class, else a range, else one byte.
-fn item(text: &[u8], byte: u8) -> Part
+pub(crate) fn item(text: &[u8], byte: u8) -> Part
     requires { 0 < length text.now }
     ensures part { result ≡ items_part byte (item_at text.now) }
     ensures moves { 0 < result.size }
@@ -75,7 +75,7 @@ fn items(text: &[u8], byte: u8) -> Option<Part>
 }
 
 /// Whether the byte, behind the `[`, inverts the bracket.
-fn is_inversion(byte: u8) -> bool
+pub(crate) fn is_inversion(byte: u8) -> bool
     ensures { result ≡ Patterns.is_inversion byte }
 {
     byte == b'!' || byte == b'^'

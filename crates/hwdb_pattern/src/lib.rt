@@ -10,6 +10,7 @@
 //! | `classes` | the named classes of bytes, as `[:digit:]` |
 //! | `brackets` | brackets and the items in them |
 //! | `tokens` | the tokens of a pattern |
+//! | `unusual` | a `[` that begins no closed bracket, a range without members |
 //! | `search` | whether a pattern matches a device |
 //! | `lengths` | which of a device's prefixes some tokens match |
 //! | `paths` | the same for a path that is fed piece by piece |
@@ -25,6 +26,7 @@ mod search;
 #[cfg(test)]
 mod tests;
 mod tokens;
+mod unusual;
 
 pub use brackets::bracket_end;
 pub use laws::{
@@ -33,3 +35,4 @@ pub use laws::{
 };
 pub use paths::Reach;
 pub use search::glob;
+pub use unusual::{open_place, range_place};

@@ -11,7 +11,9 @@ pub mod Written
 pub mod Texts
 pub mod Explanations
 pub mod Differences
+pub mod Dump
 pub mod Summary
+pub mod Verdicts
 pub mod Reports
 pub mod Warnings
 pub mod Checks

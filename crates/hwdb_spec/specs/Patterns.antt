@@ -1,7 +1,7 @@
 -- Patterns and what they match, from hwdb(7) and POSIX.1-2017 fnmatch without flags (XCU 2.13), over bytes in the C
 -- locale, without collating symbols and equivalence classes. A backslash, `/` and a leading `.` are ordinary bytes. That
 -- `^` inverts as `!` does, and that a reversed range has no members, is our choice where POSIX leaves it open.
-use Rattle.std.specs.Prelude.{ℕ, Bool, false, nat_le, if◌then◌else◌, List, codes, [], ◌∷◌, Option, find, nat_eq, ◌==◌, length, None, Some, ◌++◌, ◌+◌, suc, true, zero, ◌-◌, not, IsTrue, ⊤, ◌≡◌}
+use Rattle.std.specs.Prelude.{ℕ, Bool, false, nat_le, if◌then◌else◌, List, codes, [], ◌∷◌, Option, find, nat_eq, ◌==◌, length, None, Some, ◌++◌, ◌+◌, suc, true, zero, ◌-◌, nat_lt, not, IsTrue, ⊤, ◌≡◌}
 use Rattle.std.specs.List.{list_any, starts_with}
 use Rattle.std.specs.Option.{option_map_or}
 use Rattle.hwdb_spec.specs.Lines.{byte}
@@ -179,3 +179,49 @@ unfoldable pub matches : List Token → List ℕ → Bool
 matches [] [] = true
 matches [] (b ∷ rest) = false
 matches (token ∷ more) device = piece_then token (matches more) device
+
+-- whether some spans have one without members: its first byte is above its last
+abbrev pub has_reversed : List (ℕ × ℕ) → Bool
+has_reversed spans = list_any (λ span. nat_lt span.1 span.0) spans
+
+-- 0 where an item is a reversed range, else one more than a number
+abbrev pub one_more_unless : Items → ℕ → ℕ
+one_more_unless found more = if has_reversed found.spans then 0 else 1 + more
+
+-- Behind how many bytes of a bracket's items the first reversed range stands, or else the `]` that closes, read as
+-- `items_from` does.
+unfoldable pub reversed_from : (is_first : Bool) → (skip : ℕ) → List ℕ → ℕ
+reversed_from is_first skip [] = 0
+reversed_from is_first (suc skip) (b ∷ rest) = 1 + reversed_from is_first skip rest
+reversed_from true zero (b ∷ rest) =
+    one_more_unless (item_at (b ∷ rest)) (reversed_from false ((item_at (b ∷ rest)).size - 1) rest)
+reversed_from false zero (b ∷ rest) =
+    if b == byte "]" then 0
+    else one_more_unless (item_at (b ∷ rest)) (reversed_from false ((item_at (b ∷ rest)).size - 1) rest)
+
+-- the same in a text that a bracket begins
+abbrev pub reversed_in_bracket : List ℕ → ℕ
+reversed_in_bracket [] = 0
+reversed_in_bracket (first ∷ []) = 0
+reversed_in_bracket (first ∷ mark ∷ rest) =
+    if is_inversion mark then 2 + reversed_from true 0 rest else 1 + reversed_from true 0 (mark ∷ rest)
+
+-- whether a token is a bracket with a reversed range
+abbrev pub is_reversed : Token → Bool
+is_reversed star = false
+is_reversed one = false
+is_reversed (bracket found) = has_reversed found.spans
+is_reversed (literal own) = false
+
+-- Behind how many bytes of a text its first reversed range stands; its length where there is none. The first `skip`
+-- bytes belong to the token that was cut before.
+unfoldable pub range_from : (skip : ℕ) → List ℕ → ℕ
+range_from skip [] = 0
+range_from (suc skip) (b ∷ rest) = 1 + range_from skip rest
+range_from zero (b ∷ rest) =
+    if is_reversed (token_at (b ∷ rest)) then reversed_in_bracket (b ∷ rest)
+    else 1 + range_from (token_size (token_at (b ∷ rest)) - 1) rest
+
+-- behind how many bytes of a pattern its first reversed range stands
+abbrev pub range_place : List ℕ → ℕ
+range_place pattern = range_from 0 pattern

@@ -6,7 +6,7 @@ use Rattle.hwdb_spec.specs.Assignment.{Position, Assignment}
 use Rattle.hwdb_spec.specs.declared.Fault.{Fault}
 use Rattle.hwdb_spec.specs.declared.DbFault.{DbFault}
 use Rattle.hwdb_spec.specs.declared.DbFault.TheVariants.{Short, Signature, RecordSizes, Lengths, Strings, Place, Depth, ChildOrder, StringOffset, KeyOrder, Priority}
-use Rattle.hwdb_spec.specs.Lines.{byte}
+use Rattle.hwdb_spec.specs.Lines.{byte, is, pieces}
 use Rattle.hwdb_spec.specs.Records.{fault_text}
 use Rattle.hwdb_spec.specs.Folders.{FaultIn, Source, all_assignments}
 use Rattle.hwdb_spec.specs.Tree.{Tree, answers, answers_after}
@@ -126,6 +126,10 @@ with_empty_lines (text ∷ more) = text ++ (empty_line more ++ with_empty_lines 
 -- the properties that a database gives each of some devices, as text
 abbrev pub queries_text : List (List ℕ) → Tree → List ℕ
 queries_text devices t = with_empty_lines (map (λ device. query_text device t) devices)
+
+-- the devices that a text names: its lines
+abbrev pub devices_of : List ℕ → List (List ℕ)
+devices_of text = pieces (is (byte "\n")) text
 
 -- the lines of the first hits after a position
 abbrev pub list_text : List ℕ → Option Position → Option ℕ → Tree → List ℕ

@@ -1,52 +1,97 @@
 -- What `check` warns of: lines that are read, but hardly as they were meant. Our choice.
-use Rattle.std.specs.Prelude.{Bool, ℕ, List, [], ◌∷◌, ◌++◌, if◌then◌else◌, codes, flat_map, nat_eq}
-use Rattle.std.specs.List.{position_or_len, starts_with}
-use Rattle.hwdb_spec.specs.Lines.{Line, begins_with, byte, clean_line, has, is, is_dropped, lines}
+use Rattle.std.specs.Prelude.{Bool, true, false, ℕ, List, [], ◌∷◌, ◌++◌, ◌-◌, if◌then◌else◌, codes, drop, flat_map, length, nat_eq, take}
+use Rattle.std.specs.List.{list_any, position_or_len, starts_with}
+use Rattle.hwdb_spec.specs.Lines.{Line, begins_with, byte, clean, clean_line, has, has_equals, has_key, is, is_dropped, is_indent, is_match, is_property, key, lines, value}
+use Rattle.hwdb_spec.specs.Folders.{same}
+use Rattle.hwdb_spec.specs.Patterns.{is_reversed, range_place, tokens}
+use Rattle.hwdb_spec.specs.Tree.{closed_part, is_open}
 use Rattle.hwdb_spec.specs.Texts.{place_text}
 use Rattle.hwdb_spec.specs.Reports.{hint_line, mark_line, shown_line}
 use Rattle.hwdb_spec.specs.declared.WarningKind.{WarningKind}
-use Rattle.hwdb_spec.specs.declared.WarningKind.TheVariants.{ByteOrderMark, CarriageReturn, LeadingTab}
+use Rattle.hwdb_spec.specs.declared.WarningKind.TheVariants.{ByteOrderMark, CarriageReturn, EmptyRange, LeadingTab, OpenBracket, RepeatedMatch, SpacedEquals}
 
--- whether a line with this clean text gets a warning: it begins with the three bytes of a UTF-8 byte order mark; with a tab,
--- and so is a match line; a carriage return stands in it, which isn't among its trailing blanks
-abbrev pub warns : WarningKind → (clean : List ℕ) → Bool
-warns ByteOrderMark clean = starts_with nat_eq clean (239 ∷ 187 ∷ 191 ∷ [])
-warns LeadingTab clean = begins_with (byte "\t") clean
-warns CarriageReturn clean = has (byte "\r") clean
+-- whether the key of a property ends with a space or a tab, or its value begins with one
+abbrev pub is_spaced : Line → Bool
+is_spaced l = if list_any is_indent (drop (length (key l) - 1) (key l)) then true else list_any is_indent (take 1 (value l))
 
--- one warning of a line with this clean text, or none
-abbrev pub warned : WarningKind → (clean : List ℕ) → List WarningKind
-warned kind clean = if warns kind clean then kind ∷ [] else []
+-- the numbers of the match lines that repeat one of the match lines directly above, which have these texts
+unfoldable pub repeated_from : (above : List (List ℕ)) → List Line → List ℕ
+repeated_from above [] = []
+repeated_from above (l ∷ more) =
+    if is_match l then
+    (if list_any (same l.text) above then l.number ∷ repeated_from (l.text ∷ above) more
+    else repeated_from (l.text ∷ above) more)
+    else repeated_from [] more
 
--- all warnings of a line with this clean text
-abbrev pub clean_warnings : List ℕ → List WarningKind
-clean_warnings clean = warned ByteOrderMark clean ++ (warned LeadingTab clean ++ warned CarriageReturn clean)
+-- the numbers of the match lines of a file that stand in their record already
+abbrev pub repeated_lines : List ℕ → List ℕ
+repeated_lines file = repeated_from [] (clean (lines file))
 
--- the warnings of a line; none where the line is dropped
-abbrev pub line_warnings : Line → List WarningKind
-line_warnings l = if is_dropped l then [] else clean_warnings (clean_line l).text
+-- Whether a clean line of a file gets a warning: it begins with the three bytes of a UTF-8 byte order mark; with a tab, and so is
+-- a match line; a carriage return stands in it, which isn't among its trailing blanks. Of a match line: a `[` of it begins no
+-- closed bracket; before the first such `[` a range has no members. Of a property that has a key: a blank stands beside its first
+-- `=`. It is a match line that stands in its record already.
+abbrev pub warns : (file : List ℕ) → WarningKind → (clean : Line) → Bool
+warns file ByteOrderMark l = starts_with nat_eq l.text (239 ∷ 187 ∷ 191 ∷ [])
+warns file LeadingTab l = begins_with (byte "\t") l.text
+warns file CarriageReturn l = has (byte "\r") l.text
+warns file OpenBracket l = if is_match l then list_any is_open (tokens l.text) else false
+warns file EmptyRange l = if is_match l then list_any is_reversed (tokens (closed_part l.text)) else false
+warns file SpacedEquals l =
+    if is_property l then (if has_equals l then (if has_key l then is_spaced l else false) else false) else false
+warns file RepeatedMatch l = list_any (is l.number) (repeated_lines file)
+
+-- one warning of a clean line, or none
+abbrev pub warned : (file : List ℕ) → WarningKind → (clean : Line) → List WarningKind
+warned file kind l = if warns file kind l then kind ∷ [] else []
+
+-- all warnings of a clean line
+abbrev pub clean_warnings : (file : List ℕ) → (clean : Line) → List WarningKind
+clean_warnings file l =
+    warned file ByteOrderMark l
+    ++ (warned file LeadingTab l
+    ++ (warned file CarriageReturn l
+    ++ (warned file OpenBracket l
+    ++ (warned file EmptyRange l
+    ++ (warned file SpacedEquals l ++ warned file RepeatedMatch l)))))
+
+-- the warnings of a line of a file; none where the line is dropped
+abbrev pub line_warnings : (file : List ℕ) → Line → List WarningKind
+line_warnings file l = if is_dropped l then [] else clean_warnings file (clean_line l)
 
 -- the warnings of a file
 abbrev pub warnings : List ℕ → List WarningKind
-warnings file = flat_map line_warnings (lines file)
+warnings file = flat_map (line_warnings file) (lines file)
 
 -- what is printed of a warning
 abbrev pub warning_text : WarningKind → List ℕ
 warning_text ByteOrderMark = codes "the pattern begins with a byte order mark"
 warning_text LeadingTab = codes "a match line that begins with a tab"
 warning_text CarriageReturn = codes "a carriage return in the middle of the line"
+warning_text OpenBracket = codes "a [ that is never closed stands for itself"
+warning_text EmptyRange = codes "a range without members"
+warning_text SpacedEquals = codes "a blank beside the first ="
+warning_text RepeatedMatch = codes "a match line that stands in its record already"
 
--- behind how many bytes of its line a warning stands
-abbrev pub warning_place : WarningKind → List ℕ → ℕ
-warning_place ByteOrderMark text = 0
-warning_place LeadingTab text = 0
-warning_place CarriageReturn text = position_or_len (is (byte "\r")) text
+-- behind how many bytes of its line a warning stands, of a line with this text and this clean text
+abbrev pub warning_place : WarningKind → (text clean : List ℕ) → ℕ
+warning_place ByteOrderMark text clean = 0
+warning_place LeadingTab text clean = 0
+warning_place CarriageReturn text clean = position_or_len (is (byte "\r")) text
+warning_place OpenBracket text clean = length (closed_part clean)
+warning_place EmptyRange text clean = range_place (closed_part clean)
+warning_place SpacedEquals text clean = position_or_len (is (byte "=")) text
+warning_place RepeatedMatch text clean = 0
 
 -- what to do about a warning
 abbrev pub warning_hint : WarningKind → List ℕ
 warning_hint ByteOrderMark = codes "save the file without a byte order mark"
 warning_hint LeadingTab = codes "begin a property with a space"
 warning_hint CarriageReturn = codes "end each line with a newline alone"
+warning_hint OpenBracket = codes "close it with a ], or write [[] for the byte"
+warning_hint EmptyRange = codes "put the lower end of the range first"
+warning_hint SpacedEquals = codes "take it away: it belongs to the key or to the value"
+warning_hint RepeatedMatch = codes "take one of the two away"
 
 -- the line of a warning: where it stands, `: warning: `, what is unusual
 abbrev pub warning_line : (path : List ℕ) (number : ℕ) → WarningKind → List ℕ
@@ -54,12 +99,12 @@ warning_line path number kind = place_text path number ++ codes ": warning: " ++
 
 -- the report of a warning: its line, the text of the line, the mark, and what to do
 abbrev pub warning_report : (path : List ℕ) → Line → WarningKind → List ℕ
-warning_report path l kind = warning_line path l.number kind ++ (shown_line l.text ++ (mark_line l.text (warning_place kind l.text) ++ hint_line (warning_hint kind)))
+warning_report path l kind = warning_line path l.number kind ++ (shown_line l.text ++ (mark_line l.text (warning_place kind l.text (clean_line l).text) ++ hint_line (warning_hint kind)))
 
--- the reports of the warnings of a line
-abbrev pub line_text : (path : List ℕ) → Line → List ℕ
-line_text path l = flat_map (warning_report path l) (line_warnings l)
+-- the reports of the warnings of a line of a file
+abbrev pub line_text : (path file : List ℕ) → Line → List ℕ
+line_text path file l = flat_map (warning_report path l) (line_warnings file l)
 
 -- the reports of the warnings of a file, by line
 abbrev pub warnings_text : (path file : List ℕ) → List ℕ
-warnings_text path file = flat_map (line_text path) (lines file)
+warnings_text path file = flat_map (line_text path file) (lines file)

@@ -18,6 +18,8 @@
 //! | `Texts` | each line that is printed |
 //! | `Explanations` | for each key the answer that counts and those that it overrides, and their lines |
 //! | `Differences` | what came, went and changed between two databases, and its lines |
+//! | `Summary` | how much is in a database, and its lines |
+//! | `Verdicts` | what is said of bytes that are no database |
 //! | `Reports` | the reports of a file's faults |
 //! | `Warnings` | the warnings of a file, and their reports |
 //! | `Checks` | what `check` prints, how much it finds, and its status |
@@ -107,6 +109,14 @@ pub enum WarningKind {
     LeadingTab,
     /// A carriage return stands in it, before its trailing blanks.
     CarriageReturn,
+    /// A `[` of its pattern begins no closed bracket.
+    OpenBracket,
+    /// A range in a bracket of its pattern has no members.
+    EmptyRange,
+    /// A space or a tab stands beside the first `=` of its property.
+    SpacedEquals,
+    /// It is a match line that stands in its record already.
+    RepeatedMatch,
 }
 
 /// How many files were checked, and how much was found in them.

@@ -1,12 +1,6 @@
--- What a crash may leave while an update runs, in the words of the program.
-use Rattle.std.proofs.Common.{◌≡◌, inl, inr, ⊎_elim, ℕ, Bool, List, Option, subst}
-use Rattle.hwdb_spec.specs.Store.{Contents, LeavesOnly, Outcomes, Stored}
-use Rattle.hwdb_spec.specs.System.{database_folder}
-use Rattle.hwdb_compile.specs.declared.sources.ChosenFile.{ChosenFile}
-use Rattle.hwdb_compile.specs.Views.{ForFolders}
-use Rattle.hwdb_commands.specs.Updates.{OldOrWritten}
-use Rattle.hwdb_tool.specs.Internal.{AreReadOf}
-use Rattle.hwdb_tool.specs.Program.{OldOrUpdated}
+-- What a crash may leave while the program runs.
+use Rattle.std.proofs.Common.{inl, inr, ⊎_elim, ℕ, List, Option}
+use Rattle.hwdb_spec.specs.Store.{LeavesOnly, Outcomes, Stored}
 
 -- what leaves less leaves only that
 pub leaves_more : {D : Type 0} (moment : D → ℕ) (left_since : D → ℕ → Outcomes) (old new : D) (less more : Outcomes)
@@ -18,14 +12,3 @@ leaves_more moment left_since old new less more up h = record {
     nothing_else = λ t p v le l. ⊎_elim (λ was. inl was) (λ now. inr (up p v now)) (h.time.nothing_else t p v le l);
   };
 }
-
--- an update of the files that were read
-pub leaves_old_or_updated : {D : Type 0} (moment : D → ℕ) (left_since : D → ℕ → Outcomes) (old new : D) (root folder : List ℕ) (usr : Bool) (files : List ChosenFile)
-    (seen : Contents) (before : Outcomes) → folder ≡ database_folder usr root → AreReadOf root seen files
-    → ForFolders files (λ e u. LeavesOnly moment left_since old new (OldOrWritten e u folder seen before))
-    → LeavesOnly moment left_since old new (OldOrUpdated root usr seen before)
-leaves_old_or_updated moment left_since old new root folder usr files seen before at read holds =
-    leaves_more moment left_since old new (OldOrWritten read.of_etc read.of_usr (database_folder usr root) seen before) (OldOrUpdated root usr seen before)
-    (λ p v now. ⊎_elim (λ was. inl was)
-    (λ left. inr record { of_etc = read.of_etc; of_usr = read.of_usr; in_etc = read.in_etc; in_usr = read.in_usr; left = left }) now)
-    (subst (λ f. LeavesOnly moment left_since old new (OldOrWritten read.of_etc read.of_usr f seen before)) at (holds read.of_etc read.of_usr read.are))

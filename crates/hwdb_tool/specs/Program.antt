@@ -1,76 +1,23 @@
 -- What the program does with a file system, by the job that its words ask for (systemd-hwdb(8); `explain`, `ask`,
--- `list`, `check` and `diff` are our choice).
-use Rattle.std.specs.Prelude.{true, false, ◌≡◌, ℕ, Bool, List, [], ◌⊎◌, Option, Some, None, map, option_map, string_bytes}
+-- `list`, `check`, `diff`, `verify` and `dump` are our choice).
+use Rattle.std.specs.Prelude.{◌≡◌, ℕ, Bool, List, [], ◌⊎◌, Option, map, option_map, string_bytes}
 use Rattle.std.specs.Option.{option_map_or}
 use Rattle.std.specs.Io.KnownBytes.{Appends}
 use Rattle.hwdb_cli.specs.Words.{AskFor, AskForText}
-use Rattle.hwdb_spec.specs.Assignment.{Position}
-use Rattle.hwdb_spec.specs.Folders.{Source}
-use Rattle.hwdb_spec.specs.Store.{Contents, Outcomes, Stored, Same, InPlace, IsPart, database_file, database_name, path_in}
-use Rattle.hwdb_spec.specs.System.{AreFilesIn, bytes_at, asked_database, database_folder, etc_files, usr_files}
-use Rattle.hwdb_spec.specs.Texts.{IsSpelling, list_text, max_file, queries_text}
-use Rattle.hwdb_spec.specs.Explanations.{explain_text}
-use Rattle.hwdb_spec.specs.Json.{explain_json, list_json, query_json}
-use Rattle.hwdb_spec.specs.Tree.{Tree, map_of_files}
-use Rattle.hwdb_spec.specs.Written.{IsWritten}
-use Rattle.hwdb_commands.specs.Devices.{Wrote, WroteTexts}
+use Rattle.hwdb_spec.specs.Store.{Contents, Outcomes, Same, InPlace}
+use Rattle.hwdb_spec.specs.System.{database_folder}
 use Rattle.hwdb_commands.specs.Lookups.{IsTextOf}
-use Rattle.hwdb_commands.specs.Updates.{Updated, AreAskTexts}
-use Rattle.hwdb_cli.specs.declared.job.Task.TheVariants.{Ask, Check, Diff, Explain, List as ListHits, Query, Update}
+use Rattle.hwdb_cli.specs.declared.job.Task.TheVariants.{Ask, Check, Diff, Dump, Explain, List as ListHits, Query, Update, Verify}
 use Rattle.hwdb_cli.specs.declared.job.Task.{Task}
 use Rattle.hwdb_cli.specs.declared.job.Job.{Job}
-use Rattle.hwdb_tool.specs.CheckedFiles.{AreCheckedFiles, IsChecked}
-use Rattle.hwdb_tool.specs.ComparedDatabases.{IsCompared}
+use Rattle.hwdb_tasks.specs.CheckedFiles.{AreCheckedFiles, IsChecked}
+use Rattle.hwdb_tasks.specs.ComparedDatabases.{IsCompared}
+use Rattle.hwdb_tasks.specs.NamedDatabases.{IsDumped, IsPrinted, IsSummary}
+use Rattle.hwdb_tasks.specs.Done.{IsAnswered, IsAsked, IsLeftByUpdate, IsListFrom, IsUpdated, explain_form, queries_form}
 
 -- the root in front of each path; nothing where none was given
 abbrev pub root_of : Job → List ℕ
 root_of job = option_map_or string_bytes job.root []
-
--- The text files of both folders below the root are accepted, standard error took their fault lines, and their database is
--- in its place.
-pub record IsUpdated (root : List ℕ) (strict : Bool) (status : ℕ) (old : Contents) (err_before err_now : Option (List ℕ)) (in_place : List ℕ → Type 0) : Type 0 where
-  pub of_etc : List Source
-  pub of_usr : List Source
-  pub in_etc : AreFilesIn (etc_files root) old of_etc
-  pub in_usr : AreFilesIn (usr_files root) old of_usr
-  pub updated : Updated of_etc of_usr max_file strict status err_before err_now in_place
-
--- standard output took what the database that is asked gives
-pub record IsAnswered (root : List ℕ) (Is : (bytes text : List ℕ) → Type 0) (contents : Contents) (out_before out_now : Option (List ℕ)) : Type 0 where
-  pub bytes : List ℕ
-  pub asked : asked_database root contents ≡ Some bytes
-  pub printed : Wrote (Is bytes) out_before out_now
-
--- standard error took the fault lines of the one file, and standard output what it gives the device
-pub record IsAsked (file device : List ℕ) (contents : Contents) (err_before err_now out_before out_now : Option (List ℕ)) : Type 0 where
-  pub bytes : List ℕ
-  pub read : bytes_at contents file ≡ Some bytes
-  pub asked : WroteTexts (AreAskTexts file bytes device) err_before err_now out_before out_now
-
--- the text of the option, if there is one, spells the position
-abbrev pub IsFrom : (after : Option (List ℕ)) → Option Position → Type 0
-IsFrom None None = Unit {0}
-IsFrom (Some text) (Some p) = IsSpelling p text
-IsFrom _ _ = ⊥
-
--- what is printed, as text or with `--json`
-abbrev pub queries_form : (json : Bool) → List (List ℕ) → Tree → List ℕ
-queries_form false = queries_text
-queries_form true = query_json
-
-abbrev pub explain_form : (json : Bool) → List ℕ → Tree → List ℕ
-explain_form false = explain_text
-explain_form true = explain_json
-
-abbrev pub list_form : (json : Bool) → List ℕ → Option Position → Option ℕ → Tree → List ℕ
-list_form false = list_text
-list_form true = list_json
-
--- what `list` prints from there on
-pub record IsListFrom (json : Bool) (device : List ℕ) (after : Option (List ℕ)) (limit : Option ℕ) (bytes text : List ℕ) : Type 0 where
-  pub from : Option Position
-  pub spelled : IsFrom after from
-  pub is : IsTextOf (list_form json device from limit) bytes text
 
 -- nothing changed but standard output, and the status is 0
 abbrev pub IsQuiet : (status : ℕ) (old new : Contents) (err_before err_now : Option (List ℕ)) → Type 0
@@ -93,6 +40,10 @@ IsTaskDone (Check files) root usr strict status old new left err_before err_now 
     IsChecked (AreCheckedFiles (map string_bytes files.items) root old) strict status out_before out_now × Same old new × (err_now ≡ err_before)
 IsTaskDone (Diff old_path new_path) root usr strict status old new left err_before err_now out_before out_now =
     IsCompared (string_bytes old_path) (string_bytes new_path) status old out_before out_now × Same old new × (err_now ≡ err_before)
+IsTaskDone (Verify database) root usr strict status old new left err_before err_now out_before out_now =
+    IsPrinted (option_map string_bytes database) root IsSummary old out_before out_now × IsQuiet status old new err_before err_now
+IsTaskDone (Dump database) root usr strict status old new left err_before err_now out_before out_now =
+    IsDumped (option_map string_bytes database) root old out_before out_now × IsQuiet status old new err_before err_now
 
 -- what a job leaves that is done
 abbrev pub IsDone : Job → (status : ℕ) (old new : Contents) (left : Outcomes) (err_before err_now out_before out_now : Option (List ℕ)) → Type 0
@@ -111,20 +62,6 @@ pub record IsTold (words : List (List ℕ)) (old new : Contents) (err_before err
   pub printed : Appends out_before out_now text
   pub files : Same old new
   pub err : err_now ≡ err_before
-
--- an update leaves this under a path: the database of all text files of both folders, whole, in its place, or a new file
-pub record IsLeftByUpdate (root : List ℕ) (usr : Bool) (old : Contents) (p : List ℕ) (v : Option Stored) : Type 0 where
-  pub of_etc : List Source
-  pub of_usr : List Source
-  pub in_etc : AreFilesIn (etc_files root) old of_etc
-  pub in_usr : AreFilesIn (usr_files root) old of_usr
-  pub left : ((database : List ℕ) × IsWritten (map_of_files of_etc of_usr) database
-      × (p ≡ path_in (database_folder usr root) database_name) × (v ≡ Some (database_file database)))
-      ⊎ IsPart (database_folder usr root) old p
-
--- what a crash may leave during an update: what it might have left before, or what the update leaves
-abbrev pub OldOrUpdated : (root : List ℕ) (usr : Bool) (old : Contents) (outcomes : Outcomes) → Outcomes
-OldOrUpdated root usr old outcomes p v = outcomes p v ⊎ IsLeftByUpdate root usr old p v
 
 -- during a job: only an update leaves anything new
 abbrev pub OldOrDone : Job → (old : Contents) (outcomes : Outcomes) → Outcomes

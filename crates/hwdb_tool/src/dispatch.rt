@@ -1,34 +1,18 @@
 //! The program: its words, its files, its status and its refusal lines.
-ghost use Rattle.std.specs.Prelude.{◌≡◌, ◌≢◌, ◌<◌, ◌≤◌, ◌⊎◌, ◌++◌, Some, map, option_map, string_bytes, IfOk, IfErr, OnOk};
+ghost use Rattle.std.specs.Prelude.{◌≡◌, ◌≢◌, ◌<◌, ◌≤◌, ◌⊎◌, Some, map, option_map, string_bytes, IfOk, IfErr};
 ghost use Rattle.hwdb_spec.specs.Store as spec;
-ghost use Rattle.hwdb_spec.specs.System as Folder;
-ghost use Rattle.hwdb_spec.specs.System.{asked_database, bytes_at};
 ghost use Rattle.hwdb_spec.specs.Failures.{HasFailed};
-ghost use Rattle.hwdb_commands.specs.Lookups.{IsQueryRefusal, IsTextOf};
 ghost use Rattle.hwdb_cli.specs.Refusals.{AreWrong};
-ghost use Rattle.hwdb_tool.specs.Program.{IsAnswered, IsAsked, IsUpdated, IsDone, IsJobDone, IsTold, IsListFrom, OldOrAskedFor, OldOrDone, OldOrUpdated, explain_form, queries_form, root_of};
-ghost use Rattle.hwdb_tool.specs.Refusals.{IsUnread};
-ghost use Rattle.hwdb_tool.specs.TaskRefusals.{AreRefused, IsAnswerRefused, IsAskRefused, IsJobRefused, IsListRefusedBy, IsSaid, IsTaskRefused, IsUnfound, IsUpdateRefused, refused_status};
-ghost use Rattle.hwdb_tool.specs.declared.refusals.Refusal.TheVariants.{Plain};
+ghost use Rattle.hwdb_tool.specs.Program.{IsDone, IsJobDone, IsTold, OldOrAskedFor, OldOrDone, root_of};
+ghost use Rattle.hwdb_tool.specs.TaskRefusals.{AreRefused, IsJobRefused, IsSaid, IsTaskRefused, refused_status};
+ghost use Rattle.hwdb_system.specs.declared.refusals.Refusal.TheVariants.{Plain};
 
-use crate::checks::check;
-use crate::differences::diff;
-use crate::files::{joined, path_in};
-use crate::folders::{selected, with_texts};
-use crate::refusals::{Refusal, refuse_for, refuse_text};
-use crate::system::System;
 use hwdb_cli::{Job, Task, WordsFault, read_words};
-use hwdb_commands::{
-    MAX_BYTES, ToolError, ask, run_explain, run_explain_json, run_list, run_list_json, run_queries,
-    run_queries_json, update_chosen, write_text,
-};
+use hwdb_commands::{ToolError, write_text};
 use hwdb_devices::Sink;
-use hwdb_store::DATABASE;
-use std::alloc::{AllocError, Global};
-
-const ETC_FOLDER: &str = "/etc/udev";
-
-const USR_FOLDER: &str = "/usr/lib/udev";
+use hwdb_system::{Refusal, System, refuse_for, refuse_text};
+use hwdb_tasks::{ask_file, check, diff, dump, explain, list, query, update, verify};
+use std::alloc::Global;
 
 /// Does what the words say, the first of which is the program's name, and returns the status: 0; 1 where `check` or
 /// `diff` finds something, or `--strict` says so, and after a refusal, whose line goes to `err`; 2 after one of `diff`.
@@ -164,6 +148,8 @@ fn run<D: System, O: Sink, E: Sink>(
         }
         Task::Diff { old, new } => return diff(alloc, old.as_str(), new.as_str(), system, out),
         Task::Check { files } => return check(alloc, root, files, job.strict, system, out),
+        Task::Verify { database } => verify(alloc, root, text_of(database), system, out)?,
+        Task::Dump { database } => dump(alloc, root, text_of(database), system, out)?,
         Task::Ask { file, device } => {
             ask_file(alloc, file.as_str(), device.as_bytes(), system, out, err)?
         }
@@ -206,206 +192,5 @@ fn text_of(option: &Option<String>) -> Option<&str>
     match option {
         Some(text) => Some(text.as_str()),
         None => None,
-    }
-}
-
-/// Prints the properties that the database below the root gives each device.
-fn query<D: System, O: Sink>(
-    alloc: Global,
-    root: &str,
-    devices: &[String],
-    json: bool,
-    system: &D,
-    out: &mut O,
-) -> Result<(), Refusal>
-    ensures answered { D.Store.tells → OnOk result
-        (IsAnswered root.now (IsTextOf (queries_form json (map string_bytes devices.now)))
-        (D.Store.seen system.now) (O.taken out.old) (O.taken out.new)) }
-    ensures refused { D.Store.tells → IfErr result (λ r. IsAnswerRefused root.now IsQueryRefusal
-        (IsTextOf (queries_form json (map string_bytes devices.now)))
-        (D.Store.seen system.now) r (O.taken out.old) (O.taken out.new)) }
-    ensures cause { IfErr result (λ r. r ≡ Plain ToolError.Write
-        → HasFailed (O.failures out.old) (O.failures out.new)) }
-{
-    let bytes = database(alloc, root, system)?;
-    if json {
-        run_queries_json(alloc, &bytes, devices, out)?;
-    } else {
-        run_queries(alloc, &bytes, devices, out)?;
-    }
-    Ok(())
-}
-
-/// Prints the properties that the database below the root gives the device, and where each comes from.
-fn explain<D: System, O: Sink>(
-    alloc: Global,
-    root: &str,
-    device: &[u8],
-    json: bool,
-    system: &D,
-    out: &mut O,
-) -> Result<(), Refusal>
-    ensures answered { D.Store.tells → OnOk result
-        (IsAnswered root.now (IsTextOf (explain_form json device.now))
-        (D.Store.seen system.now) (O.taken out.old) (O.taken out.new)) }
-    ensures refused { D.Store.tells → IfErr result (λ r. IsAnswerRefused root.now IsQueryRefusal
-        (IsTextOf (explain_form json device.now))
-        (D.Store.seen system.now) r (O.taken out.old) (O.taken out.new)) }
-    ensures cause { IfErr result (λ r. r ≡ Plain ToolError.Write
-        → HasFailed (O.failures out.old) (O.failures out.new)) }
-{
-    let bytes = database(alloc, root, system)?;
-    if json {
-        run_explain_json(alloc, &bytes, device, out)?;
-    } else {
-        run_explain(alloc, &bytes, device, out)?;
-    }
-    Ok(())
-}
-
-/// Prints the hits that the database below the root has for the device.
-fn list<D: System, O: Sink>(
-    alloc: Global,
-    root: &str,
-    device: &[u8],
-    after: Option<&str>,
-    limit: Option<u64>,
-    json: bool,
-    system: &D,
-    out: &mut O,
-) -> Result<(), Refusal>
-    ensures answered { D.Store.tells → OnOk result
-        (IsAnswered root.now
-        (IsListFrom json device.now (option_map (λ t. t.now) after.entry) limit)
-        (D.Store.seen system.now) (O.taken out.old) (O.taken out.new)) }
-    ensures refused { D.Store.tells → IfErr result (λ r. IsAnswerRefused root.now
-        (IsListRefusedBy (option_map (λ t. t.now) after.entry))
-        (IsListFrom json device.now (option_map (λ t. t.now) after.entry) limit)
-        (D.Store.seen system.now) r (O.taken out.old) (O.taken out.new)) }
-    ensures cause { IfErr result (λ r. r ≡ Plain ToolError.Write
-        → HasFailed (O.failures out.old) (O.failures out.new)) }
-{
-    let bytes = database(alloc, root, system)?;
-    if json {
-        run_list_json(alloc, &bytes, device, after, limit, out)?;
-    } else {
-        run_list(alloc, &bytes, device, after, limit, out)?;
-    }
-    Ok(())
-}
-
-/// Prints the properties that one text file gives the device.
-fn ask_file<D: System, O: Sink, E: Sink>(
-    alloc: Global,
-    file: &str,
-    device: &[u8],
-    system: &D,
-    out: &mut O,
-    err: &mut E,
-) -> Result<(), Refusal>
-    ensures asked { D.Store.tells → OnOk result
-        (IsAsked file.now device.now (D.Store.seen system.now)
-        (E.taken err.old) (E.taken err.new) (O.taken out.old) (O.taken out.new)) }
-    ensures refused { D.Store.tells → IfErr result
-        (λ r. IsAskRefused file.now device.now (D.Store.seen system.now) r
-        (E.taken err.old) (E.taken err.new) (O.taken out.old) (O.taken out.new)) }
-    ensures unfailed { IfErr result (λ r. r ≢ Plain ToolError.Write
-        → E.failures err.new ≡ E.failures err.old) }
-    ensures cause { IfErr result (λ r. r ≡ Plain ToolError.Write
-        → HasFailed (E.failures err.old) (E.failures err.new)
-        ⊎ HasFailed (O.failures out.old) (O.failures out.new)) }
-{
-    let bytes = system.input(alloc, file)?;
-    ask(alloc, file, &bytes, device, out, err)?;
-    Ok(())
-}
-
-/// The database below the root: the one of `/etc`, else the one of `/usr/lib`.
-fn database<D: System>(alloc: Global, root: &str, system: &D) -> Result<Vec<u8>, Refusal>
-    ensures asked { D.Store.tells → IfOk result
-        (λ bytes. asked_database root.now (D.Store.seen system.now) ≡ Some bytes.items) }
-    ensures refused { D.Store.tells → IfErr result (IsUnfound root.now (D.Store.seen system.now)) }
-    ensures unread { IfErr result (λ r. r ≢ Plain ToolError.Write) }
-{
-    if let Some(bytes) = database_in(alloc, root, ETC_FOLDER, system)? {
-        return Ok(bytes);
-    }
-    match database_in(alloc, root, USR_FOLDER, system)? {
-        Some(bytes) => Ok(bytes),
-        None => Err(Refusal::NoDatabase),
-    }
-}
-
-/// The database in a folder below the root, if something stands there.
-fn database_in<D: System>(
-    alloc: Global,
-    root: &str,
-    folder: &str,
-    system: &D,
-) -> Result<Option<Vec<u8>>, Refusal>
-    ensures found { D.Store.tells → IfOk result (λ found. option_map (λ b. b.items) found
-        ≡ bytes_at (D.Store.seen system.now)
-        (spec.path_in (root.now ++ folder.now) spec.database_name)) }
-    ensures refused { IfErr result
-        (IsUnread (spec.path_in (root.now ++ folder.now) spec.database_name)) }
-    ensures unread { IfErr result (λ r. r ≢ Plain ToolError.Write) }
-{
-    let folder = joined(alloc, root, folder)?;
-    let path = path_in(alloc, folder.as_str(), DATABASE)?;
-    system.database(alloc, path.as_str())
-}
-
-/// The folder of the database that is written.
-fn database_folder(alloc: Global, root: &str, usr: bool) -> Result<String, AllocError>
-    ensures { IfOk result (λ folder. string_bytes folder ≡ Folder.database_folder usr root.now) }
-{
-    let folder = if usr { USR_FOLDER } else { ETC_FOLDER };
-    joined(alloc, root, folder)
-}
-
-/// Compiles the text files of both folders into the database of one, which takes the old one's place once it
-/// is whole on the disk. Returns the status: 1 where `strict` and there is a fault, else 0. After a refusal the old
-/// database stands as it was, and no new file.
-fn update<D: System, E: Sink>(
-    alloc: Global,
-    root: &str,
-    usr: bool,
-    strict: bool,
-    system: &mut D,
-    err: &mut E,
-) -> Result<u8, Refusal>
-    ensures status { IfOk result (λ status. status ≤ 1) }
-    ensures any_moment { D.Store.tells
-        → spec.LeavesOnly D.Store.moment D.Store.left_since system.old system.new
-        (OldOrUpdated root.now usr (D.Store.seen system.old) (D.Store.may_leave system.old)) }
-    ensures updated { D.Store.tells → IfOk result
-        (λ status. IsUpdated root.now strict status (D.Store.seen system.old)
-        (E.taken err.old) (E.taken err.new)
-        (λ database. spec.InPlace (Folder.database_folder usr root.now) database
-        (D.Store.seen system.old) (D.Store.seen system.new) (D.Store.may_leave system.new))) }
-    ensures refused { D.Store.tells → IfErr result
-        (λ r. IsUpdateRefused root.now usr r (D.Store.seen system.old) (D.Store.seen system.new)
-        (D.Store.may_leave system.old) (D.Store.may_leave system.new)
-        (E.taken err.old) (E.taken err.new)) }
-    ensures unfailed { IfErr result (λ r. r ≢ Plain ToolError.Write
-        → E.failures err.new ≡ E.failures err.old) }
-    ensures cause { IfErr result (λ r. r ≡ Plain ToolError.Write
-        → HasFailed (E.failures err.old) (E.failures err.new)) }
-{
-    let selection = selected(alloc, root, system)?;
-    let files = with_texts(alloc, &selection.chosen, &selection.texts)?;
-    let folder = database_folder(alloc, root, usr)?;
-    let path = path_in(alloc, folder.as_str(), DATABASE)?.into_bytes();
-    match update_chosen(
-        alloc,
-        &files,
-        MAX_BYTES,
-        strict,
-        folder.as_str(),
-        system,
-        err,
-    ) {
-        Ok(status) => Ok(status),
-        Err(error) => Err(Refusal::of_update(error, path, system.cause())),
     }
 }

@@ -9,11 +9,20 @@
 use clap::{Arg, Command};
 use hwdb_cli::hwdb_command;
 
+/// The name by which help and pages know an argument. `clap` has a name of its own for that of the command `help`.
+fn shown_name<'a>(command: &str, arg: &Arg<'a>) -> &'a str {
+    if command == "help" {
+        "COMMAND"
+    } else {
+        arg.get_id()
+    }
+}
+
 /// The line of an option or an argument of a command.
 fn print_argument(rt: &HostRuntime, command: &str, arg: &Arg<'_>) -> anyhow::Result<()> {
     let help = arg.get_help().unwrap_or("");
     let Some(long) = arg.get_long() else {
-        println!(rt; "argument\t{command}\t{}\t{help}", arg.get_id())?;
+        println!(rt; "argument\t{command}\t{}\t{help}", shown_name(command, arg))?;
         return Ok(());
     };
     let kind = if arg.get_action().takes_values() {
@@ -41,7 +50,7 @@ fn print_command(rt: &HostRuntime, command: &Command<'_>) -> anyhow::Result<()> 
 
 fn main(rt: HostRuntime) -> anyhow::Result<()> {
     let mut command = hwdb_command(rt.alloc())?;
-    // This adds --help, to each subcommand too.
+    // This adds --help, to each subcommand too, and the subcommand `help`.
     command.build()?;
     print_command(&rt, &command)?;
     for subcommand in command.get_subcommands() {

@@ -14,4 +14,6 @@ returns c =
     let four = c.in_ok-with_ask.ensures.shape c.in_ok-ask.ensures.local ∙ ap₂ with_subcommand three c.in_ok-ask.ensures.shape in
     let five = c.in_ok-with_list.ensures.shape c.in_ok-list.ensures.local ∙ ap₂ with_subcommand four c.in_ok-list.ensures.shape in
     let six = c.in_ok-with_check.ensures.shape c.in_ok-check.ensures.local ∙ ap₂ with_subcommand five c.in_ok-check.ensures.shape in
-    c.in_ok-whole.ensures.shape c.in_ok-diff.ensures.local ∙ ap₂ with_subcommand six c.in_ok-diff.ensures.shape
+    let seven = c.in_ok-with_diff.ensures.shape c.in_ok-diff.ensures.local ∙ ap₂ with_subcommand six c.in_ok-diff.ensures.shape in
+    let eight = c.in_ok-with_verify.ensures.shape c.in_ok-verify.ensures.local ∙ ap₂ with_subcommand seven c.in_ok-verify.ensures.shape in
+    c.in_ok-whole.ensures.shape c.in_ok-dump.ensures.local ∙ ap₂ with_subcommand eight c.in_ok-dump.ensures.shape

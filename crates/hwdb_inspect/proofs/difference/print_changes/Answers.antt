@@ -2,7 +2,8 @@ use Rattle.std.proofs.Common.{◌∙◌, ap, sym, refl, ◌++◌, ◌||◌}
 use Rattle.hwdb_spec.specs.Differences.{changes_text}
 use Rattle.hwdb_inspect.specs.Views.{changes_of}
 use Rattle.hwdb_inspect.specs.Internal.Pairing.{to_tell}
-use Rattle.hwdb_inspect.proofs.DiffLemmas.{whole_step, part_step, part_written, joined, differ_step, if_err_any}
+use Rattle.hwdb_inspect.proofs.DiffLemmas.{whole_step, part_step, joined, differ_step}
+use Rattle.hwdb_inspect.proofs.PieceLemmas.{part_written, if_err_any}
 use Rattle.hwdb_inspect.proofs.difference.print_changes.Goals as goal
 
 pub printing-preserved : goal.printing-preserved

@@ -10,14 +10,14 @@ loop-at-preserved c =
     record {
       at_in = omega (arith, c.place_of-end.ensures.within, ap length rest, length-drop c.loop-at.at c.args.bytes.now);
       near = omega arith;
-      text = lines_step (line_text c.args.path.now) c.args.bytes.now c.loop-at.at c.place_of-end.result c.loop-at.number _ _ _ _ c.loop-at-test.true rest c.place_of-end.ensures.place
+      text = lines_step (line_text c.args.path.now c.args.bytes.now) c.args.bytes.now c.loop-at.at c.place_of-end.result c.loop-at.number _ _ _ _ c.loop-at-test.true rest c.place_of-end.ensures.place
           c.in_ok-put_line.ensures.text c.loop-at.invariant.text;
-      found = lines_step line_warnings c.args.bytes.now c.loop-at.at c.place_of-end.result c.loop-at.number _ _ _ _ c.loop-at-test.true rest c.place_of-end.ensures.place
+      found = lines_step (line_warnings c.args.bytes.now) c.args.bytes.now c.loop-at.at c.place_of-end.result c.loop-at.number _ _ _ _ c.loop-at-test.true rest c.place_of-end.ensures.place
           c.in_ok-put_line.ensures.found c.loop-at.invariant.found;
     }
 
 pub returns-clause-text : goal.returns-clause-text
-returns-clause-text c = lines_end (line_text c.args.path.now) c.args.bytes.now c.loop-at.at c.loop-at.number _ _ c.loop-at-test.false c.loop-at.invariant.text
+returns-clause-text c = lines_end (line_text c.args.path.now c.args.bytes.now) c.args.bytes.now c.loop-at.at c.loop-at.number _ _ c.loop-at-test.false c.loop-at.invariant.text
 
 pub returns-clause-found : goal.returns-clause-found
-returns-clause-found c = lines_end line_warnings c.args.bytes.now c.loop-at.at c.loop-at.number _ _ c.loop-at-test.false c.loop-at.invariant.found
+returns-clause-found c = lines_end (line_warnings c.args.bytes.now) c.args.bytes.now c.loop-at.at c.loop-at.number _ _ c.loop-at-test.false c.loop-at.invariant.found

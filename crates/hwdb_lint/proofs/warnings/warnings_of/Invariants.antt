@@ -8,8 +8,8 @@ abbrev pub invariant-loop-at : goal.invariant-loop-at
 invariant-loop-at l = record {
   at_in : l.at ≤ length l.bytes + 1;
   near : l.number ≤ l.at + 1;
-  text : l.warned.text.items ++ flat_map (line_text l.path) (numbered l.number (pieces (is 10) (drop l.at l.bytes))) ≡ warnings_text l.path l.bytes;
-  found : l.warned.found.items ++ flat_map line_warnings (numbered l.number (pieces (is 10) (drop l.at l.bytes))) ≡ warnings l.bytes;
+  text : l.warned.text.items ++ flat_map (line_text l.path l.bytes) (numbered l.number (pieces (is 10) (drop l.at l.bytes))) ≡ warnings_text l.path l.bytes;
+  found : l.warned.found.items ++ flat_map (line_warnings l.bytes) (numbered l.number (pieces (is 10) (drop l.at l.bytes))) ≡ warnings l.bytes;
 }
 
 abbrev pub decreases-loop-at : goal.decreases-loop-at

@@ -1,10 +1,12 @@
 use Rattle.std.proofs.Common.{inl, inr, ⊎_elim, refl, string_bytes, subst, sym}
 use Rattle.std.specs.Prelude.{option_map}
-use Rattle.hwdb_tool.specs.Program.{IsListFrom, OldOrDone, OldOrUpdated, root_of}
-use Rattle.hwdb_tool.specs.TaskRefusals.{IsAnswerRefused, IsListRefusedBy, IsTaskRefused}
-use Rattle.hwdb_tool.specs.Program.{IsLeftByUpdate}
+use Rattle.hwdb_tasks.specs.Done.{IsListFrom, OldOrUpdated}
+use Rattle.hwdb_tool.specs.Program.{OldOrDone, root_of}
+use Rattle.hwdb_tasks.specs.Undone.{IsAnswerRefused, IsListRefusedBy}
+use Rattle.hwdb_tool.specs.TaskRefusals.{IsTaskRefused}
+use Rattle.hwdb_tasks.specs.Done.{IsLeftByUpdate}
 use Rattle.hwdb_tool.proofs.MomentLemmas.{leaves_more}
-use Rattle.hwdb_tool.proofs.SelectionLemmas.{given_error}
+use Rattle.hwdb_tool.proofs.ErrorLemmas.{given_error}
 use Rattle.hwdb_tool.proofs.dispatch.run.Goals as goal
 
 pub returns-in-Update-clause-any_moment : goal.returns-in-Update-clause-any_moment

@@ -1,0 +1,120 @@
+//! `dump`: a database as text of the form that hwdb(7) describes.
+ghost use Rattle.std.specs.Prelude.{◌≡◌, ◌≢◌, ◌⊎◌, None, List, ℕ, map, flat_map, OnOk, IfOk, IfErr, IsErrOf};
+ghost use Rattle.std.specs.Io.KnownBytes.{Appends};
+ghost use Rattle.hwdb_spec.specs.Assignment.{assignment_cmp};
+ghost use Rattle.hwdb_spec.specs.Dump.{dumped, dump_text, record_text, first_unsaid};
+ghost use Rattle.hwdb_spec.specs.Failures.{HasFailed, OneFailed};
+ghost use Rattle.hwdb_commands.specs.Devices.{AppendsPrefix, Wrote, WrotePrefix};
+ghost use Rattle.hwdb_commands.specs.Lookups.{IsTextOf};
+ghost use Rattle.hwdb_inspect.specs.Dumps.{IsSayable, IsDumpRefusal, IsUnsaidRefusal, IsRecordRefusal};
+ghost use Rattle.hwdb_inspect.specs.Views.{assignment_of};
+
+use crate::assigned::Assigned;
+use crate::errors::DumpError;
+use crate::pairs::by_place;
+use crate::printing::{hand_on, write_whole};
+use crate::records::{is_said, push_record};
+use crate::walk::assignments;
+use hwdb_devices::Sink;
+use hwdb_reader::{Db, check};
+use std::alloc::{AllocError, Global};
+use std::cmp::Ordering;
+
+/// Compares by priority, line, pattern and key.
+#[tactic(auto, unfolding(hwdb_spec::specs::Assignment::assignment_cmp, hwdb_spec::specs::Assignment::position_cmp))]
+fn by_position(x: &Assigned<'_>, y: &Assigned<'_>) -> Ordering
+    ensures { result ≡ assignment_cmp (assignment_of x.now) (assignment_of y.now) }
+{
+    match x.priority.cmp(&y.priority) {
+        Ordering::Equal => match x.line.cmp(&y.line) {
+            Ordering::Equal => by_place(x, y),
+            other => other,
+        },
+        other => other,
+    }
+}
+
+/// All that the database assigns, by priority, line, pattern and key.
+///
+/// The only error is that memory is refused.
+fn ordered<'a>(alloc: Global, db: &Db<'a>) -> Result<Vec<Assigned<'a>>, AllocError>
+    ensures { IfOk result (λ list. map assignment_of list.items ≡ dumped db.now) }
+{
+    let _root = db.root();
+    let mut list = assignments(alloc, db)?;
+    list.sort_unstable_by(|x, y| by_position(x, y));
+    Ok(list)
+}
+
+/// Refuses the first of some assignments that its record doesn't say.
+fn check_sayable(alloc: Global, list: &[Assigned<'_>]) -> Result<(), DumpError>
+    ensures said { OnOk result (first_unsaid (map assignment_of list.now) ≡ None) }
+    ensures unsaid { IfErr result (IsUnsaidRefusal (map assignment_of list.now)) }
+{
+    let mut text = Vec::new(alloc);
+    for f in list {
+        if !is_said(alloc, &mut text, f)? {
+            return Err(DumpError::Unsayable(f.pattern.to_vec(alloc)?));
+        }
+    }
+    Ok(())
+}
+
+/// Prints the record of each assignment. At most 64 KiB and a record are held.
+///
+/// Refuses a failed write, and memory; the sink took a prefix of the whole then.
+fn print_records<O: Sink>(
+    alloc: Global,
+    list: &[Assigned<'_>],
+    out: &mut O,
+) -> Result<(), DumpError>
+    ensures printed { OnOk result (Appends (O.taken out.old) (O.taken out.new)
+        (flat_map record_text (map assignment_of list.now))) }
+    ensures refusals { IfErr result IsRecordRefusal }
+    ensures cause { IsErrOf result DumpError.Write
+        → HasFailed (O.failures out.old) (O.failures out.new) }
+    ensures unfailed { OnOk result (O.failures out.new ≡ O.failures out.old) }
+    ensures last { IsErrOf result DumpError.Write
+        → OneFailed (O.failures out.old) (O.failures out.new) }
+    ensures cut_short { IfErr result (λ _. AppendsPrefix (O.taken out.old) (O.taken out.new)
+        (flat_map record_text (map assignment_of list.now))) }
+{
+    let mut text = Vec::new(alloc);
+    'printing: for f in list {
+        push_record(&mut text, f)?;
+        hand_on(&mut text, out)?;
+    }
+    write_whole(&text, out)?;
+    Ok(())
+}
+
+/// Checks the bytes, and prints the database to `out` as text of the form that hwdb(7) describes: for each assignment, by
+/// priority, line, pattern and key, a comment with its file and its line, its pattern, its property, and an empty line.
+///
+/// Refuses bytes that are no database, a failed write, and memory; and with the pattern of the first one a database with an
+/// assignment that its record, read as a file, doesn't say or not alone. Nothing is printed before this is known. All
+/// assignments are held, and of the text 64 KiB; the time is that of sorting the assignments and of reading their records.
+pub fn run_dump<O: Sink>(alloc: Global, bytes: &[u8], out: &mut O) -> Result<(), DumpError>
+    ensures printed { OnOk result
+        (Wrote (IsTextOf dump_text bytes.now) (O.taken out.old) (O.taken out.new)) }
+    ensures sayable { OnOk result (IsSayable bytes.now) }
+
+    ensures refusals { IfErr result (IsDumpRefusal bytes.now) }
+    ensures cause { IsErrOf result DumpError.Write
+        → HasFailed (O.failures out.old) (O.failures out.new) }
+    ensures unfailed { OnOk result (O.failures out.new ≡ O.failures out.old) }
+    ensures last { IsErrOf result DumpError.Write
+        → OneFailed (O.failures out.old) (O.failures out.new) }
+    ensures cut_short { IfErr result (λ e. (out.new ≡ out.old)
+        ⊎ WrotePrefix (IsTextOf dump_text bytes.now) (O.taken out.old) (O.taken out.new)) }
+    ensures untouched { IfErr result
+        (λ e. e ≢ DumpError.Write → e ≢ DumpError.Memory → out.new ≡ out.old) }
+{
+    let db = match check(bytes) {
+        Ok(db) => db,
+        Err(fault) => return Err(DumpError::Database(fault)),
+    };
+    let list = ordered(alloc, &db)?;
+    check_sayable(alloc, &list)?;
+    print_records(alloc, &list, out)
+}

@@ -1,0 +1,79 @@
+//! The records of a dump, and what a record says.
+ghost use Rattle.std.specs.Prelude.{◌≡◌, ◌++◌, ◌∷◌, [], if◌then◌else◌, false, OnOk, IfOk, map};
+ghost use Rattle.hwdb_spec.specs.Dump;
+ghost use Rattle.hwdb_spec.specs.Dump.{comment_text, record_text};
+ghost use Rattle.hwdb_spec.specs.Folders;
+ghost use Rattle.hwdb_spec.specs.Lines.{is_none};
+ghost use Rattle.hwdb_text.specs.Views.{given_in};
+ghost use Rattle.hwdb_inspect.specs.Views.{assignment_of};
+
+use crate::assigned::Assigned;
+use hwdb_text::{Given, ScanError, Scanned, scan};
+use itoa::Buffer;
+use std::alloc::{AllocError, Global};
+
+/// Adds `# `, the path, `:`, the line and a newline.
+fn push_comment(text: &mut Vec<u8>, f: &Assigned<'_>) -> Result<(), AllocError>
+    ensures { OnOk result (text.new.items ≡ text.old.items ++ comment_text (assignment_of f.now)) }
+{
+    let mut number = Buffer::new();
+    text.extend_from_slice(b"# ")?;
+    text.extend_from_slice(f.path)?;
+    text.push(b':')?;
+    text.extend_from_slice(number.format(f.line).as_bytes())?;
+    text.push(b'\n')?;
+    Ok(())
+}
+
+/// Adds the record of an assignment: a comment, its pattern, its property, and an empty line.
+pub(crate) fn push_record(text: &mut Vec<u8>, f: &Assigned<'_>) -> Result<(), AllocError>
+    ensures { OnOk result (text.new.items ≡ text.old.items ++ record_text (assignment_of f.now)) }
+{
+    push_comment(text, f)?;
+    text.extend_from_slice(&f.pattern)?;
+    text.extend_from_slice(b"\n ")?;
+    text.extend_from_slice(f.key)?;
+    text.push(b'=')?;
+    text.extend_from_slice(f.value)?;
+    text.extend_from_slice(b"\n\n")?;
+    Ok(())
+}
+
+/// Whether a file gives a pattern, a key and a value.
+fn gives(given: &Given<'_>, f: &Assigned<'_>) -> bool
+    ensures { result ≡ Dump.is_alone (assignment_of f.now)
+        (given_in (Dump.origin_of (assignment_of f.now)) given.now ∷ []) }
+{
+    given.pattern.cmp(f.pattern.as_slice()).is_eq()
+        && given.key.cmp(f.key).is_eq()
+        && given.value.cmp(f.value).is_eq()
+}
+
+/// Whether a file without faults gives a pattern, a key and a value, and nothing else.
+fn says(scanned: &Scanned<'_>, f: &Assigned<'_>) -> bool
+    ensures { result ≡ (if is_none scanned.now.faults.items
+        then Dump.is_alone (assignment_of f.now)
+        (map (given_in (Dump.origin_of (assignment_of f.now))) scanned.now.assignments.items)
+        else false) }
+{
+    scanned.faults.is_empty() && scanned.assignments.len() == 1 && gives(&scanned.assignments[0], f)
+}
+
+/// Whether the record of an assignment says it. What stands in `text` is dropped.
+///
+/// The only error is that memory is refused.
+pub(crate) fn is_said(
+    alloc: Global,
+    text: &mut Vec<u8>,
+    f: &Assigned<'_>,
+) -> Result<bool, AllocError>
+    ensures { IfOk result (λ said. said ≡ Dump.is_said (assignment_of f.now)) }
+{
+    text.clear();
+    push_record(text, f)?;
+    match scan(alloc, text) {
+        Ok(scanned) => Ok(says(&scanned, f)),
+        Err(ScanError::TooManyLines) => Ok(false),
+        Err(ScanError::Memory) => Err(AllocError),
+    }
+}

@@ -1,0 +1,70 @@
+-- A property, seen from the place of its first `=`.
+use Rattle.std.proofs.Common.{◌≡◌, ℕ, zero, suc, ◌-◌, ◌+◌, ◌≤◌, Bool, true, false, not, List, [], ◌∷◌, take, drop, length, refl, ap, ◌∙◌, sym, cond, arith, ◌||◌}
+use Rattle.std.proofs.lemmas.List.{take_rest}
+use Rattle.std.specs.List.{list_any, position_or_len}
+use Rattle.hwdb_spec.specs.Lines.{Line, has, has_equals, has_key, is, is_indent, is_none, is_property, key, property, value}
+use Rattle.hwdb_spec.specs.Warnings.{is_spaced, warns}
+use Rattle.hwdb_spec.specs.declared.WarningKind.TheVariants.{SpacedEquals}
+
+none_by : (t : Bool) (n k : ℕ) (r : Bool) → cond (not t) (1 + n) 0 ≡ suc k → (n ≡ k → r ≡ false) → (t || r) ≡ false
+none_by true n k r e f = absurd (omega arith)
+none_by false n k r e f = f (omega arith)
+
+some_by : (t : Bool) (n k : ℕ) (r : Bool) → (cond (not t) (1 + n) 0 ≡ suc k → ⊥) → ((n ≡ k → ⊥) → r ≡ true) → (t || r) ≡ true
+some_by true n k r e f = refl
+some_by false n k r e f = f (λ q. e (omega arith))
+
+has_none : (b : ℕ) (text : List ℕ) → position_or_len (is b) text ≡ length text → has b text ≡ false
+has_none b [] e = refl
+has_none b (x ∷ xs) e = none_by (is b x) (position_or_len (is b) xs) (length xs) (has b xs) e (has_none b xs)
+
+has_some : (b : ℕ) (text : List ℕ) → (position_or_len (is b) text ≡ length text → ⊥) → has b text ≡ true
+has_some b [] e = absurd (e refl)
+has_some b (x ∷ xs) e = some_by (is b x) (position_or_len (is b) xs) (length xs) (has b xs) e (has_some b xs)
+
+some_key : (n : ℕ) (text : List ℕ) → (n ≡ 0 → ⊥) → n ≤ length text → not (is_none (take n text)) ≡ true
+some_key zero text n h = absurd (n refl)
+some_key (suc k) [] n h = absurd (omega arith)
+some_key (suc k) (x ∷ xs) n h = refl
+
+no_key : (text : List ℕ) → not (is_none (take 0 text)) ≡ false
+no_key [] = refl
+no_key (x ∷ xs) = refl
+
+outer : (p h k s : Bool) → h ≡ false → false ≡ cond p (cond h (cond k s false) false) false
+outer true h k s e = rw e refl
+outer false h k s e = refl
+
+middle : (p h k s : Bool) → k ≡ false → false ≡ cond p (cond h (cond k s false) false) false
+middle true true k s e = rw e refl
+middle true false k s e = refl
+middle false h k s e = refl
+
+inner : (p h k s : Bool) → p ≡ true → h ≡ true → k ≡ true → s ≡ cond p (cond h (cond k s false) false) false
+inner p h k s e f g = rw e (rw f (rw g refl))
+
+-- the first `=` of a property stands behind so many bytes
+module _ (l : Line) (body : List ℕ) (equals : ℕ) (b : body ≡ property l) (e : equals ≡ position_or_len (is 61) body) where
+  before : take equals body ≡ key l
+  before = ap (λ (k : ℕ). take k body) e ∙ ap (λ (t : List ℕ). take (position_or_len (is 61) t) t) b
+
+  behind : drop (equals + 1) body ≡ value l
+  behind = ap (λ (k : ℕ). drop (k + 1) body) e ∙ ap (λ (t : List ℕ). drop (position_or_len (is 61) t + 1) t) b
+
+  pub without_equals : equals ≡ length body → false ≡ warns [] SpacedEquals l
+  without_equals f = outer (is_property l) (has_equals l) (has_key l) (is_spaced l) (ap (has 61) (sym b) ∙ has_none 61 body (sym e ∙ f))
+
+  pub without_key : equals ≡ 0 → false ≡ warns [] SpacedEquals l
+  without_key f =
+      middle (is_property l) (has_equals l) (has_key l) (is_spaced l)
+      (ap (λ (k : List ℕ). not (is_none k)) (sym before) ∙ ap (λ (n : ℕ). not (is_none (take n body))) f ∙ no_key body)
+
+  pub with_key : (r : Bool) (text rest : List ℕ) → is_property l ≡ true → (equals ≡ length body → ⊥) → (equals ≡ 0 → ⊥) → equals ≤ length body
+      → text ≡ take equals body → rest ≡ take (length body - (equals + 1)) (drop (equals + 1) body)
+      → r ≡ cond (list_any is_indent (drop (length text - 1) text)) true (list_any is_indent (take 1 rest)) → r ≡ warns [] SpacedEquals l
+  with_key r text rest p n z h t u is_r =
+      is_r
+      ∙ ap (λ (k : List ℕ). cond (list_any is_indent (drop (length k - 1) k)) true (list_any is_indent (take 1 rest))) (t ∙ before)
+      ∙ ap (λ (v : List ℕ). cond (list_any is_indent (drop (length (key l) - 1) (key l))) true (list_any is_indent (take 1 v))) (u ∙ take_rest body (equals + 1) ∙ behind)
+      ∙ inner (is_property l) (has_equals l) (has_key l) (is_spaced l) p (ap (has 61) (sym b) ∙ has_some 61 body (λ q. n (e ∙ q)))
+      (ap (λ (k : List ℕ). not (is_none k)) (sym before) ∙ some_key equals body z h)

@@ -1,0 +1,12 @@
+use Rattle.hwdb_lint.proofs.RepeatLemmas.{empty_no_match, no_match, property_no_match}
+use Rattle.hwdb_lint.proofs.repeats.Run.line.Goals as goal
+
+pub returns-in-Empty : goal.returns-in-Empty
+returns-in-Empty c = λ more.
+    no_match c.args.number c.args.text.now c.args.self.now.above.keys _ c.args.self.now.numbers.items more c.in-Empty.ensures.0 c.in-Empty.ensures.1
+    (empty_no_match _ _ c.in-Empty.ensures.2) c.clear.ensures.empty
+
+pub returns-in-Property : goal.returns-in-Property
+returns-in-Property c = λ more.
+    no_match c.args.number c.args.text.now c.args.self.now.above.keys _ c.args.self.now.numbers.items more c.in-Property.ensures.0 c.in-Property.ensures.1
+    (property_no_match _ _ c.in-Property.ensures.2.1) c.clear-in-Property.ensures.empty

@@ -1,0 +1,139 @@
+//! Which warnings a line gets, by its clean text.
+ghost use Rattle.std.specs.Prelude.{◌≡◌, ◌-◌, [], drop, length, take, true, if◌then◌else◌};
+ghost use Rattle.std.specs.List.{list_any};
+ghost use Rattle.hwdb_spec.specs.Lines;
+ghost use Rattle.hwdb_spec.specs.Lines.{is_indent};
+ghost use Rattle.hwdb_spec.specs.Tree.{closed_part};
+ghost use Rattle.hwdb_spec.specs.Warnings.{warns};
+ghost use Rattle.hwdb_lint.specs.Internal.{line_of, IsRead};
+
+use crate::places::{indent_of, place_of};
+use hwdb_pattern::{open_place, range_place};
+use hwdb_spec::WarningKind;
+
+/// A line that is read.
+#[derive(Clone, Copy)]
+pub struct Read<'a> {
+    /// What its file holds.
+    pub bytes: &'a [u8],
+    /// Its number, from 1.
+    pub number: u64,
+    /// Its text.
+    pub text: &'a [u8],
+    /// Its clean text.
+    pub clean: &'a [u8],
+    /// Whether it is a match line that stands in its record already.
+    pub repeated: bool,
+}
+
+/// Whether a text begins with a byte order mark.
+fn begins_with_mark(text: &[u8]) -> bool
+    ensures { result ≡ warns [] WarningKind.ByteOrderMark (line_of 0 text.now) }
+{
+    text.len() > 2 && text[0] == 239 && text[1] == 187 && text[2] == 191
+}
+
+/// Whether a text begins with a tab.
+fn begins_with_tab(text: &[u8]) -> bool
+    ensures { result ≡ warns [] WarningKind.LeadingTab (line_of 0 text.now) }
+{
+    !text.is_empty() && text[0] == b'\t'
+}
+
+/// Whether a carriage return stands in a text.
+fn has_return(text: &[u8]) -> bool
+    ensures { result ≡ warns [] WarningKind.CarriageReturn (line_of 0 text.now) }
+{
+    text.iter().any(|byte| *byte == b'\r')
+}
+
+/// Whether a clean line is a property.
+fn is_property(clean: &[u8]) -> bool
+    ensures { result ≡ Lines.is_property (line_of 0 clean.now) }
+{
+    !clean.is_empty() && clean[0] == b' '
+}
+
+/// Whether a clean line is a match line.
+fn is_match(clean: &[u8]) -> bool
+    ensures { result ≡ Lines.is_match (line_of 0 clean.now) }
+{
+    !clean.is_empty() && clean[0] != b' '
+}
+
+/// What stands before the first `[` of a pattern that begins no closed bracket.
+pub fn closed(pattern: &[u8]) -> &[u8]
+    ensures { result.now ≡ closed_part pattern.now }
+{
+    &pattern[..open_place(pattern)]
+}
+
+/// Whether a `[` of a match line begins no closed bracket.
+fn has_open_bracket(clean: &[u8]) -> bool
+    ensures { result ≡ warns [] WarningKind.OpenBracket (line_of 0 clean.now) }
+{
+    is_match(clean) && open_place(clean) < clean.len()
+}
+
+/// Whether a range of a match line has no members, before the first `[` that begins no closed bracket.
+fn has_empty_range(clean: &[u8]) -> bool
+    ensures { result ≡ warns [] WarningKind.EmptyRange (line_of 0 clean.now) }
+{
+    if !is_match(clean) {
+        return false;
+    }
+    let part = closed(clean);
+    range_place(part) < part.len()
+}
+
+/// Whether a space or a tab stands in a text.
+fn has_blank(text: &[u8]) -> bool
+    ensures { result ≡ list_any is_indent text.now }
+{
+    text.iter().any(|byte| *byte == b' ' || *byte == b'\t')
+}
+
+/// Whether a key ends with a blank, or a value begins with one.
+fn is_spaced(key: &[u8], value: &[u8]) -> bool
+    ensures { result
+        ≡ (if list_any is_indent (drop (length key.now - 1) key.now) then true
+        else list_any is_indent (take 1 value.now)) }
+{
+    let last = key.len().saturating_sub(1);
+    let first = value.len().min(1);
+    has_blank(&key[last..]) || has_blank(&value[..first])
+}
+
+/// Whether a blank stands beside the first `=` of a property that has a key.
+fn has_spaced_equals(clean: &[u8]) -> bool
+    ensures { result ≡ warns [] WarningKind.SpacedEquals (line_of 0 clean.now) }
+{
+    if !is_property(clean) {
+        return false;
+    }
+    let body = &clean[indent_of(clean)..];
+    let equals = place_of(b'=', body);
+    if equals == body.len() {
+        return false;
+    }
+    if equals == 0 {
+        return false;
+    }
+    is_spaced(&body[..equals], &body[equals + 1..])
+}
+
+/// Whether a line gets a warning.
+pub fn is_warned(kind: WarningKind, line: &Read<'_>) -> bool
+    requires { IsRead line.now }
+    ensures { result ≡ warns line.now.bytes.now kind (line_of line.now.number line.now.clean.now) }
+{
+    match kind {
+        WarningKind::ByteOrderMark => begins_with_mark(line.clean),
+        WarningKind::LeadingTab => begins_with_tab(line.clean),
+        WarningKind::CarriageReturn => has_return(line.clean),
+        WarningKind::OpenBracket => has_open_bracket(line.clean),
+        WarningKind::EmptyRange => has_empty_range(line.clean),
+        WarningKind::SpacedEquals => has_spaced_equals(line.clean),
+        WarningKind::RepeatedMatch => line.repeated,
+    }
+}

@@ -1,0 +1,100 @@
+//! Match lines that stand in their record already.
+ghost use Rattle.std.specs.Prelude.{◌≡◌, ℕ, List, ◌∷◌, true, IfOk, OnOk};
+ghost use Rattle.std.specs.List.{list_any};
+ghost use Rattle.std.specs.Ordering.{nat_cmp};
+ghost use Rattle.std.specs.BTreeSet as tree;
+ghost use Rattle.hwdb_spec.specs.Lines;
+ghost use Rattle.hwdb_spec.specs.Lines.{Line};
+ghost use Rattle.hwdb_spec.specs.Warnings.{repeated_lines};
+ghost use Rattle.hwdb_lint.specs.Internal.{found_with, line_of, IsSetOf};
+
+use crate::places::place_of;
+use hwdb_text::{Content, content_of};
+use std::alloc::{AllocError, Global};
+use std::collections::BTreeSet;
+
+/// What was read of the lines so far.
+#[derive(Drop)]
+pub struct Run<'b> {
+    /// The match lines directly above.
+    pub above: BTreeSet<&'b [u8]>,
+    /// The numbers of those that repeat one of their run.
+    pub numbers: Vec<u64>,
+}
+
+impl<'b> Run<'b> {
+    /// Reads a clean match line.
+    ///
+    /// The only error, here and below, is that memory is refused.
+    fn put(&mut self, number: u64, clean: &'b [u8]) -> Result<(), AllocError>
+        requires { Lines.is_match (line_of number clean.now) ≡ true }
+        ensures { OnOk result ((more : List Line) → found_with self.new more
+            ≡ found_with self.old (line_of number clean.now ∷ more)) }
+    {
+        let is_new = self.above.insert(clean)?;
+        if !is_new {
+            self.numbers.push(number)?;
+        }
+        Ok(())
+    }
+
+    /// Reads a line.
+    fn line(&mut self, number: u64, text: &'b [u8]) -> Result<(), AllocError>
+        ensures { OnOk result ((more : List Line) → found_with self.new (Lines.clean more)
+            ≡ found_with self.old (Lines.clean (line_of number text.now ∷ more))) }
+    {
+        match content_of(text) {
+            Content::Comment => Ok(()),
+            Content::ZeroByte => Ok(()),
+            Content::Empty => {
+                self.above.clear();
+                Ok(())
+            }
+            Content::Property(_) => {
+                self.above.clear();
+                Ok(())
+            }
+            Content::Match(clean) => self.put(number, clean),
+        }
+    }
+}
+
+/// The numbers of the match lines of a file that stand in their record already, ascending. It takes as many steps as the file
+/// has bytes, each as long as a look among the match lines of a record.
+fn repeated_numbers(alloc: Global, bytes: &[u8]) -> Result<Vec<u64>, AllocError>
+    ensures { IfOk result (λ numbers. numbers.items ≡ repeated_lines bytes.now) }
+{
+    let mut run = Run {
+        above: BTreeSet::new(alloc),
+        numbers: Vec::new(alloc),
+    };
+    let mut number = 1;
+    let mut at = 0;
+    while at < bytes.len() {
+        let rest = &bytes[at..];
+        let end = place_of(b'\n', rest);
+        run.line(number, &rest[..end])?;
+        number += 1;
+        at = at + end + 1;
+    }
+    Ok(run.numbers)
+}
+
+/// Some numbers as a set.
+fn set_of(alloc: Global, numbers: &[u64]) -> Result<BTreeSet<u64>, AllocError>
+    ensures { IfOk result (λ set. IsSetOf numbers.now set) }
+{
+    let mut set = BTreeSet::new(alloc);
+    for number in numbers {
+        set.insert(*number)?;
+    }
+    Ok(set)
+}
+
+/// The set of the numbers of the match lines of a file that stand in their record already.
+pub fn repeated_lines(alloc: Global, bytes: &[u8]) -> Result<BTreeSet<u64>, AllocError>
+    ensures { IfOk result (λ set. IsSetOf (repeated_lines bytes.now) set) }
+{
+    let numbers = repeated_numbers(alloc, bytes)?;
+    set_of(alloc, &numbers)
+}

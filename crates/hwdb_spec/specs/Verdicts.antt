@@ -1,0 +1,40 @@
+-- What `verify` says of bytes that are no database: which fault it is, in words, where it may come from, and what to do. Our
+-- choice.
+use Rattle.std.specs.Prelude.{codes, List, ℕ, ◌++◌}
+use Rattle.hwdb_spec.specs.declared.DbFault.{DbFault}
+use Rattle.hwdb_spec.specs.declared.DbFault.TheVariants.{Short, Signature, RecordSizes, Lengths, Strings, Place, Depth, ChildOrder, StringOffset, KeyOrder, Priority}
+use Rattle.hwdb_spec.specs.Texts.{at_offset, db_fault_name, db_fault_offset}
+
+-- what is wrong
+abbrev pub db_fault_words : DbFault → List ℕ
+db_fault_words Short = codes "it has fewer than the 80 bytes of a header"
+db_fault_words Signature = codes "it doesn't begin with the signature KSLPHHRH"
+db_fault_words RecordSizes = codes "its header or its records are shorter than their known fields"
+db_fault_words Lengths = codes "its length isn't the one that its header says"
+db_fault_words Strings = codes "it has no strings, or the last one has no end"
+db_fault_words (Place at) = codes "a node, or its children, isn't where the order of the nodes has it"
+db_fault_words (Depth at) = codes "a node is more than 4097 nodes deep"
+db_fault_words (ChildOrder at) = codes "a child of a node has byte 0, or one that isn't above that of the child before it"
+db_fault_words (StringOffset at) = codes "a string is said to be outside of the strings"
+db_fault_words (KeyOrder at) = codes "a key of a node isn't above the key before it"
+db_fault_words (Priority at) = codes "the file of an assignment has priority 0"
+
+-- where it may come from
+abbrev pub db_fault_cause : DbFault → List ℕ
+db_fault_cause Short = codes "the file was cut short, or is no hardware database"
+db_fault_cause Signature = codes "the file is no hardware database"
+db_fault_cause RecordSizes = codes "an old tool wrote the file, or it is damaged"
+db_fault_cause Lengths = codes "the file was cut short or written over"
+db_fault_cause Strings = codes "the file was cut short or written over"
+db_fault_cause fault = codes "the file is damaged, or a tool wrote it that orders its records otherwise"
+
+-- three lines on a fault: what is wrong, where it may come from, and what to do; the last one isn't ended
+abbrev pub explanation_text : DbFault → List ℕ
+explanation_text fault =
+    codes "\n    " ++ (db_fault_words fault
+    ++ (codes "\n    cause: " ++ (db_fault_cause fault ++ codes "\n    hint: write it anew with hwdb update")))
+
+-- the words of a fault of the database at a path: those of other commands, and below them what explains it
+abbrev pub verdict_text : (path : List ℕ) → DbFault → List ℕ
+verdict_text path fault =
+    path ++ (codes ": bad database: " ++ (at_offset (db_fault_name fault) (db_fault_offset fault) ++ explanation_text fault))

@@ -1,0 +1,100 @@
+//! The devices of a source, each answered as it comes.
+ghost use Rattle.std.specs.Prelude.{◌≡◌, ◌⊎◌, ◌<◌, ℕ, List, length, IfOk, IfErr, IfSome, OnOk, IsErrOf};
+ghost use Rattle.std.specs.Io.KnownBytes.{Appends};
+ghost use Rattle.hwdb_spec.specs.Failures.{HasFailed, OneFailed};
+ghost use Rattle.hwdb_spec.specs.Folders.{Source};
+ghost use Rattle.hwdb_spec.specs.Texts.{devices_of, max_file};
+ghost use Rattle.hwdb_spec.specs.Written.{IsCompiled};
+ghost use Rattle.hwdb_commands.specs.Devices.{AppendsPrefix, Wrote, WrotePrefix};
+ghost use Rattle.hwdb_commands.specs.Lookups.{IsTextOf};
+ghost use Rattle.hwdb_stream.specs.Streams.{IsAnswerRefusal, IsStreamRefusal, IfBadDatabase, texts_of, last_texts_of};
+
+use crate::chunk::LineReader;
+use crate::device_answers::text_of_device;
+use hwdb_commands::{MAX_BYTES, ToolError, write_text};
+use hwdb_devices::{Sink, Source};
+use hwdb_query::compiled_answers_are_last;
+use hwdb_reader::{Db, check};
+use std::alloc::Global;
+
+/// Answers each device that the input names. One line and one text are held at a time.
+fn answer_lines<I: Source, O: Sink>(
+    alloc: Global,
+    db: &Db<'_>,
+    json: bool,
+    input: &mut I,
+    out: &mut O,
+) -> Result<(), ToolError>
+    ensures printed { OnOk result (IfSome (I.left input.old) (λ text.
+        Appends (O.taken out.old) (O.taken out.new) (texts_of json (devices_of text) db.now))) }
+    ensures refusals { IfErr result IsAnswerRefusal }
+    ensures too_long { IsErrOf result ToolError.TooLong
+        → IfSome (I.left input.old) (λ text. max_file < length text) }
+    ensures unfailed { OnOk result ((I.failures input.new ≡ I.failures input.old)
+        × (O.failures out.new ≡ O.failures out.old)) }
+    ensures last_read { IsErrOf result ToolError.Read
+        → OneFailed (I.failures input.old) (I.failures input.new)
+        × (O.failures out.new ≡ O.failures out.old) }
+    ensures last_write { IsErrOf result ToolError.Write
+        → (I.failures input.new ≡ I.failures input.old)
+        × OneFailed (O.failures out.old) (O.failures out.new) }
+    ensures cut_short { IfErr result (λ _. IfSome (I.left input.old) (λ text.
+        AppendsPrefix (O.taken out.old) (O.taken out.new)
+        (texts_of json (devices_of text) db.now))) }
+{
+    let mut lines = LineReader::new();
+    let mut is_first = true;
+    'answering: for _ in 0..u64::MAX {
+        let Some(device) = lines.next_line(alloc, input, MAX_BYTES)? else {
+            return Ok(());
+        };
+        let text = text_of_device(alloc, db, &device, json, is_first)?;
+        write_text(out, &text)?;
+        is_first = false;
+    }
+    Err(ToolError::TooLong)
+}
+
+/// Checks the bytes, and then reads devices from `input`, one a line, and prints the properties of each to `out` as soon
+/// as its line is read: as `run_queries` does of the same devices, an empty line between two of them, or with `json` as
+/// `run_queries_json` does. Memory doesn't grow with their number.
+///
+/// Refuses bytes that are no database before anything is read; then a failed read, a failed write, a line of more bytes
+/// than `MAX_BYTES`, and memory: what was printed is then a prefix of the whole.
+pub fn run_stream<I: Source, O: Sink>(
+    alloc: Global,
+    bytes: &[u8],
+    json: bool,
+    input: &mut I,
+    out: &mut O,
+) -> Result<(), ToolError>
+    ensures printed { OnOk result (IfSome (I.left input.old) (λ text.
+        Wrote (IsTextOf (texts_of json (devices_of text)) bytes.now)
+        (O.taken out.old) (O.taken out.new))) }
+    ensures headline { OnOk result (IfSome (I.left input.old) (λ text.
+        (etc usr : List Source) → IsCompiled etc usr bytes.now
+        → Appends (O.taken out.old) (O.taken out.new)
+        (last_texts_of json (devices_of text) etc usr))) }
+
+    ensures refusals { IfErr result (IsStreamRefusal bytes.now) }
+    ensures too_long { IsErrOf result ToolError.TooLong
+        → IfSome (I.left input.old) (λ text. max_file < length text) }
+    ensures unfailed { OnOk result ((I.failures input.new ≡ I.failures input.old)
+        × (O.failures out.new ≡ O.failures out.old)) }
+    ensures last_read { IsErrOf result ToolError.Read
+        → OneFailed (I.failures input.old) (I.failures input.new)
+        × (O.failures out.new ≡ O.failures out.old) }
+    ensures last_write { IsErrOf result ToolError.Write
+        → (I.failures input.new ≡ I.failures input.old)
+        × OneFailed (O.failures out.old) (O.failures out.new) }
+    ensures cut_short { IfErr result (λ _. (out.new ≡ out.old)
+        ⊎ IfSome (I.left input.old) (λ text.
+        WrotePrefix (IsTextOf (texts_of json (devices_of text)) bytes.now)
+        (O.taken out.old) (O.taken out.new))) }
+    ensures untouched { IfErr result (IfBadDatabase
+        ((input.new ≡ input.old) × (out.new ≡ out.old))) }
+{
+    compiled_answers_are_last();
+    let db = check(bytes)?;
+    answer_lines(alloc, &db, json, input, out)
+}

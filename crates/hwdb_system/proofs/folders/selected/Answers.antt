@@ -1,0 +1,35 @@
+use Rattle.std.proofs.Common.{map, string_bytes, ◌∙◌, ap, sym, subst, Err}
+use Rattle.hwdb_text.specs.Views.{choice_of}
+use Rattle.hwdb_spec.specs.System.{etc_files, usr_files, AreNamesIn}
+use Rattle.hwdb_system.specs.Internal.{AreTexts}
+use Rattle.hwdb_system.specs.Reading.{AreUnread}
+use Rattle.hwdb_system.proofs.SelectionLemmas.{choice_refused, given_error, texts_refused}
+use Rattle.hwdb_system.proofs.folders.selected.Goals as goal
+
+pub returns-in_err-chosen-clause-refused : goal.returns-in_err-chosen-clause-refused
+returns-in_err-chosen-clause-refused g c = λ tells.
+    given_error _ (AreUnread c.args.root.now (g.D.Store.seen c.args.system.now)) c.from_residual-in_err-chosen.result c.from_residual-in_err-chosen.ensures.1
+    (choice_refused c.args.root.now (g.D.Store.seen c.args.system.now) _ _ c.in_err-chosen.field-0.0
+    (subst (λ l. AreNamesIn (etc_files c.args.root.now) (g.D.Store.seen c.args.system.now) (map string_bytes l)) (sym c.deref.ensures.value) (c.in_ok-etc_names.ensures.names tells))
+    (subst (λ l. AreNamesIn (usr_files c.args.root.now) (g.D.Store.seen c.args.system.now) (map string_bytes l)) (sym c.deref-2.ensures.value) (c.in_ok-usr_names.ensures.names tells))
+    (λ is. c.in_err-chosen.ensures.too_many (ap Err is)))
+
+pub returns-in_err-texts-clause-refused : goal.returns-in_err-texts-clause-refused
+returns-in_err-texts-clause-refused g c = λ tells.
+    given_error _ (AreUnread c.args.root.now (g.D.Store.seen c.args.system.now)) c.from_residual-in_err-texts.result c.from_residual-in_err-texts.ensures.1
+    (texts_refused c.args.root.now (g.D.Store.seen c.args.system.now) _ _ (map choice_of c.deref-3.result.now) c.in_err-texts.field-0.0
+    (subst (λ l. AreNamesIn (etc_files c.args.root.now) (g.D.Store.seen c.args.system.now) (map string_bytes l)) (sym c.deref.ensures.value) (c.in_ok-etc_names.ensures.names tells))
+    (subst (λ l. AreNamesIn (usr_files c.args.root.now) (g.D.Store.seen c.args.system.now) (map string_bytes l)) (sym c.deref-2.ensures.value) (c.in_ok-usr_names.ensures.names tells))
+    (ap (map choice_of) c.deref-3.ensures.value ∙ c.in_ok-chosen.ensures.chosen) c.in_err-texts.ensures.refused)
+
+pub returns-clause-selected : goal.returns-clause-selected
+returns-clause-selected g c = λ tells. record {
+  etc = map string_bytes c.deref.result.now;
+  usr = map string_bytes c.deref-2.result.now;
+  in_etc = subst (λ l. AreNamesIn (etc_files c.args.root.now) (g.D.Store.seen c.args.system.now) (map string_bytes l)) (sym c.deref.ensures.value) (c.in_ok-etc_names.ensures.names tells);
+  in_usr = subst (λ l. AreNamesIn (usr_files c.args.root.now) (g.D.Store.seen c.args.system.now) (map string_bytes l)) (sym c.deref-2.ensures.value) (c.in_ok-usr_names.ensures.names tells);
+  is = c.in_ok-chosen.ensures.chosen;
+  few = c.in_ok-chosen.ensures.few;
+  listed = c.in_ok-chosen.ensures.listed;
+  read = subst (λ l. AreTexts c.args.root.now (g.D.Store.seen c.args.system.now) (map choice_of l) (map (λ t. t.items) c.in_ok-texts.texts.items)) c.deref-3.ensures.value (c.in_ok-texts.ensures.read tells);
+}

@@ -1,0 +1,94 @@
+-- Commands that answer from the database, and are refused.
+use Rattle.std.proofs.Common.{◌≡◌, ◌≢◌, ◌⊎◌, inl, inr, ⊎_elim, ap, refl, ℕ, List, Option, None, Some, true, false, Result, IfErr, Bor}
+use Rattle.std.specs.Result.{IsErrAnd}
+use Rattle.std.specs.Prelude.{option_map}
+use Rattle.hwdb_spec.specs.Assignment.{Position}
+use Rattle.hwdb_spec.specs.Store.{Contents}
+use Rattle.hwdb_spec.specs.System.{asked_database}
+use Rattle.hwdb_commands.specs.Devices.{WrotePrefix}
+use Rattle.hwdb_commands.specs.Lookups.{IsAfter, IsListJson, IsListRefusal, IsListText}
+use Rattle.hwdb_commands.specs.declared.errors.ToolError.{ToolError}
+use Rattle.hwdb_commands.specs.declared.errors.ToolError.TheVariants.{Read, Write, TooLong, TooManyFiles, TooManyLines, TooLarge, BadPosition, PageZero, BadDatabase, Replace, Memory}
+use Rattle.hwdb_tasks.specs.Done.{IsFrom, IsListFrom}
+use Rattle.hwdb_system.specs.Refusals.{IsUnread}
+use Rattle.hwdb_tasks.specs.Undone.{IsAnswerRefused, IsAskedPath, IsListRefusedBy, IsUnfound}
+use Rattle.hwdb_system.specs.declared.refusals.Refusal.{Refusal}
+use Rattle.hwdb_system.specs.declared.refusals.Refusal.TheVariants.{At, InWords, NoDatabase, Plain}
+use Rattle.hwdb_tasks.proofs.ErrorLemmas.{given_error}
+
+-- reading the database that is asked
+pub unfound : (root : List ℕ) (contents : Contents) (path : List ℕ) (refusal : Refusal) → IsAskedPath root contents path → IsUnread path refusal → IsUnfound root contents refusal
+unfound root contents path (Plain error) asked h = (path, asked, h)
+unfound root contents path (At error at cause) asked h = (path, asked, h)
+unfound root contents path NoDatabase asked h = absurd h
+unfound root contents path (InWords text) asked h = (path, asked, h)
+
+module _ {T W : Type 0} (taken : W → Option (List ℕ)) (old new : W) (root : List ℕ) (Refuses : (bytes : List ℕ) → ToolError → Type 0) (Is : (bytes text : List ℕ) → Type 0)
+    (contents : Contents) (bytes : List ℕ) (error : ToolError) where
+  -- answering from its bytes
+  pub unanswered : asked_database root contents ≡ Some bytes → Refuses bytes error → (error ≢ Write → error ≢ Memory → new ≡ old)
+      → (error ≡ Write → (new ≡ old) ⊎ WrotePrefix (Is bytes) (taken old) (taken new))
+      → (result : Result T Refusal) → IsErrAnd result (λ r. r ≡ Plain error)
+      → IfErr result (λ r. IsAnswerRefused root Refuses Is contents r (taken old) (taken new))
+  unanswered asked refused untouched cut result is =
+      given_error (Plain error) (λ r. IsAnswerRefused root Refuses Is contents r (taken old) (taken new)) result is
+      (inr (
+        error,
+        refl,
+        record {
+          bytes = bytes;
+          asked = asked;
+          refused = refused;
+          untouched = λ w m. ap taken (untouched w m);
+          cut_short = λ w. ⊎_elim (λ same. inl (ap taken same)) (λ part. inr part) (cut w);
+        },
+      ))
+
+from_after : (after : Option (Bor (List ℕ))) (from : Option Position) → IsAfter after from → IsFrom (option_map (λ t. t.now) after) from
+from_after None None h = tt
+from_after None (Some p) h = absurd h
+from_after (Some text) None h = absurd h
+from_after (Some text) (Some p) h = h
+
+-- what `list` refuses over these bytes
+pub list_refused : (after : Option (Bor (List ℕ))) (bytes : List ℕ) (error : ToolError) → IsListRefusal after bytes error → IsListRefusedBy (option_map (λ t. t.now) after) bytes error
+list_refused None bytes Read h = h
+list_refused None bytes Write h = h
+list_refused None bytes TooLong h = h
+list_refused None bytes TooManyFiles h = h
+list_refused None bytes TooManyLines h = h
+list_refused None bytes TooLarge h = h
+list_refused None bytes BadPosition h = h
+list_refused None bytes PageZero h = h
+list_refused None bytes (BadDatabase fault) h = ((h.from, from_after None h.from h.spelled), h.no_database)
+list_refused None bytes (Replace u) h = h
+list_refused None bytes Memory h = h
+list_refused (Some text) bytes Read h = h
+list_refused (Some text) bytes Write h = h
+list_refused (Some text) bytes TooLong h = h
+list_refused (Some text) bytes TooManyFiles h = h
+list_refused (Some text) bytes TooManyLines h = h
+list_refused (Some text) bytes TooLarge h = h
+list_refused (Some text) bytes BadPosition h = h
+list_refused (Some text) bytes PageZero h = h
+list_refused (Some text) bytes (BadDatabase fault) h = ((h.from, from_after (Some text) h.from h.spelled), h.no_database)
+list_refused (Some text) bytes (Replace u) h = h
+list_refused (Some text) bytes Memory h = h
+
+-- a prefix of its lines
+pub list_cut : (device : List ℕ) (after : Option (Bor (List ℕ))) (limit : Option ℕ) (bytes : List ℕ) (before now : Option (List ℕ))
+    → WrotePrefix (IsListText device after limit bytes) before now → WrotePrefix (IsListFrom false device (option_map (λ t. t.now) after) limit bytes) before now
+list_cut device after limit bytes before now w = record {
+  text = w.text;
+  is = record { from = w.is.from; spelled = from_after after w.is.from w.is.spelled; is = w.is.is };
+  taken = w.taken;
+}
+
+-- the same as JSON
+pub list_json_cut : (device : List ℕ) (after : Option (Bor (List ℕ))) (limit : Option ℕ) (bytes : List ℕ) (before now : Option (List ℕ))
+    → WrotePrefix (IsListJson device after limit bytes) before now → WrotePrefix (IsListFrom true device (option_map (λ t. t.now) after) limit bytes) before now
+list_json_cut device after limit bytes before now w = record {
+  text = w.text;
+  is = record { from = w.is.from; spelled = from_after after w.is.from w.is.spelled; is = w.is.is };
+  taken = w.taken;
+}

@@ -1,0 +1,7 @@
+pub mod AnswerLemmas
+pub mod CheckLemmas
+pub mod ErrorLemmas
+pub mod FolderLemmas
+pub mod MomentLemmas
+pub mod UpdateLemmas
+pub mod VerdictLemmas

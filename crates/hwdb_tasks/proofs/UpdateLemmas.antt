@@ -1,0 +1,113 @@
+-- An update that is refused after its files were read.
+use Rattle.std.proofs.Common.{◌≡◌, ◌≢◌, inl, inr, ap, subst, refl, ℕ, Bool, List, Option}
+use Rattle.hwdb_spec.specs.Folders.{faults_of_files}
+use Rattle.hwdb_spec.specs.Store.{Contents, Outcomes}
+use Rattle.hwdb_spec.specs.System.{database_folder}
+use Rattle.hwdb_spec.specs.Texts.{faults_text, max_file}
+use Rattle.hwdb_store.specs.declared.replacement.Unreplaced.{Unreplaced}
+use Rattle.hwdb_compile.specs.declared.sources.ChosenFile.{ChosenFile}
+use Rattle.hwdb_compile.specs.Views.{ForFolders}
+use Rattle.hwdb_commands.specs.Devices.{AppendsPrefix}
+use Rattle.hwdb_commands.specs.Updates.{IsUpdateRefusal, OnUnreplaced, UpdateUndone}
+use Rattle.hwdb_commands.specs.declared.errors.ToolError.{ToolError}
+use Rattle.hwdb_commands.specs.declared.errors.ToolError.TheVariants.{Read, Write, TooLong, TooManyFiles, TooManyLines, TooLarge, BadPosition, PageZero, BadDatabase, Replace, Memory}
+use Rattle.hwdb_tasks.specs.Internal.{AreReadOf}
+use Rattle.hwdb_system.specs.Refusals.{IsOfUpdate}
+use Rattle.hwdb_tasks.specs.Undone.{AreKept, IsUpdateRefused, database_path}
+use Rattle.hwdb_system.specs.declared.refusals.Refusal.{Refusal}
+use Rattle.hwdb_system.specs.declared.refusals.Refusal.TheVariants.{Plain}
+
+is_write : ToolError → Type 0
+is_write Write = Unit {0}
+is_write _ = ⊥
+
+not_write : (e : ToolError) → (is_write e → ⊥) → e ≢ Write
+unfolding is_write
+not_write e other is = let P : ToolError → Type 0 = λ x. is_write x → ⊥ in subst P is other tt
+
+is_replace : ToolError → Type 0
+is_replace (Replace u) = Unit {0}
+is_replace _ = ⊥
+
+not_replace : (e : ToolError) (u : Unreplaced) → (is_replace e → ⊥) → e ≢ Replace u
+unfolding is_replace
+not_replace e u other is = let P : ToolError → Type 0 = λ x. is_replace x → ⊥ in subst P is other tt
+
+module _ {S W : Type 0} (seen : S → Contents) (left_by : S → Outcomes) (taken : W → Option (List ℕ)) (old new : S) (err_old err_new : W)
+    (root : List ℕ) (usr : Bool) (files : List ChosenFile) (tells : Type 0) where
+  -- a store that is the same keeps its files
+  pub kept : new ≡ old → AreKept (seen old) (seen new) (left_by old) (left_by new)
+  kept e = record { same = λ p. ap (λ s. seen s p) e; no_more = λ p v l. subst (λ s. left_by s p v) e l }
+
+  abbrev Refused : Refusal → Type 0
+  Refused refusal = IsUpdateRefused root usr refusal (seen old) (seen new) (left_by old) (left_by new) (taken err_old) (taken err_new)
+
+  -- an error of compiling
+  plain : AreReadOf root (seen old) files → (error : ToolError) (refusal : Refusal) → refusal ≡ Plain error
+      → ForFolders files (λ e u. IsUpdateRefusal e u max_file error) → error ≢ Write → (err_new ≡ err_old) × (new ≡ old) → Refused refusal
+  plain read error refusal is refused other same = inr record {
+    of_etc = read.of_etc;
+    of_usr = read.of_usr;
+    in_etc = read.in_etc;
+    in_usr = read.in_usr;
+    refused = inl record {
+      error = error;
+      is = is;
+      refused = refused read.of_etc read.of_usr read.are;
+      kept = kept same.1;
+      untouched = λ _. ap taken same.0;
+      cut_short = λ w. absurd (other w);
+    };
+  }
+
+  pub update_refused : tells → AreReadOf root (seen old) files → (error : ToolError) (refusal : Refusal) → IsOfUpdate error (database_path usr root) refusal
+      → ForFolders files (λ e u. IsUpdateRefusal e u max_file error)
+      → OnUnreplaced (λ u. ForFolders files (λ e r. UpdateUndone e r (database_folder usr root) (taken err_old) (taken err_new) tells (seen old) (seen new) (left_by old) (left_by new) u)) error
+      → (error ≡ Write → new ≡ old)
+      → (error ≡ Write → ForFolders files (λ e u. AppendsPrefix (taken err_old) (taken err_new) (faults_text (faults_of_files e u))))
+      → (error ≢ Write → ((u : Unreplaced) → error ≢ Replace u) → (err_new ≡ err_old) × (new ≡ old))
+      → Refused refusal
+  unfolding is_write is_replace
+  update_refused t read (Replace u) refusal is refused undone write cut same = inr record {
+    of_etc = read.of_etc;
+    of_usr = read.of_usr;
+    in_etc = read.in_etc;
+    in_usr = read.in_usr;
+    refused = inr (let un = undone read.of_etc read.of_usr read.are in record {
+      unreplaced = u;
+      is = is;
+      undone = record { database = un.database; written = un.written; faults = un.faults; seen = λ _. un.seen t; left = λ _. un.left t };
+    });
+  }
+  update_refused t read Write refusal is refused undone write cut same = inr record {
+    of_etc = read.of_etc;
+    of_usr = read.of_usr;
+    in_etc = read.in_etc;
+    in_usr = read.in_usr;
+    refused = inl record {
+      error = Write;
+      is = is;
+      refused = refused read.of_etc read.of_usr read.are;
+      kept = kept (write refl);
+      untouched = λ n. absurd (n refl);
+      cut_short = λ w. cut refl read.of_etc read.of_usr read.are;
+    };
+  }
+  update_refused t read Read refusal is refused undone write cut same =
+      plain read Read refusal is refused (not_write Read (λ x. x)) (same (not_write Read (λ x. x)) (λ u. not_replace Read u (λ x. x)))
+  update_refused t read TooLong refusal is refused undone write cut same =
+      plain read TooLong refusal is refused (not_write TooLong (λ x. x)) (same (not_write TooLong (λ x. x)) (λ u. not_replace TooLong u (λ x. x)))
+  update_refused t read TooManyFiles refusal is refused undone write cut same =
+      plain read TooManyFiles refusal is refused (not_write TooManyFiles (λ x. x)) (same (not_write TooManyFiles (λ x. x)) (λ u. not_replace TooManyFiles u (λ x. x)))
+  update_refused t read TooManyLines refusal is refused undone write cut same =
+      plain read TooManyLines refusal is refused (not_write TooManyLines (λ x. x)) (same (not_write TooManyLines (λ x. x)) (λ u. not_replace TooManyLines u (λ x. x)))
+  update_refused t read TooLarge refusal is refused undone write cut same =
+      plain read TooLarge refusal is refused (not_write TooLarge (λ x. x)) (same (not_write TooLarge (λ x. x)) (λ u. not_replace TooLarge u (λ x. x)))
+  update_refused t read BadPosition refusal is refused undone write cut same =
+      plain read BadPosition refusal is refused (not_write BadPosition (λ x. x)) (same (not_write BadPosition (λ x. x)) (λ u. not_replace BadPosition u (λ x. x)))
+  update_refused t read PageZero refusal is refused undone write cut same =
+      plain read PageZero refusal is refused (not_write PageZero (λ x. x)) (same (not_write PageZero (λ x. x)) (λ u. not_replace PageZero u (λ x. x)))
+  update_refused t read (BadDatabase fault) refusal is refused undone write cut same =
+      plain read (BadDatabase fault) refusal is refused (not_write (BadDatabase fault) (λ x. x)) (same (not_write (BadDatabase fault) (λ x. x)) (λ u. not_replace (BadDatabase fault) u (λ x. x)))
+  update_refused t read Memory refusal is refused undone write cut same =
+      plain read Memory refusal is refused (not_write Memory (λ x. x)) (same (not_write Memory (λ x. x)) (λ u. not_replace Memory u (λ x. x)))

@@ -1,0 +1,51 @@
+-- What `diff` leaves, and what it refuses. Our choice.
+use Rattle.std.specs.Prelude.{◌≡◌, ◌≢◌, ◌⊎◌, ℕ, Bool, List, Option, Some, if◌then◌else◌}
+use Rattle.hwdb_spec.specs.Store.{Contents}
+use Rattle.hwdb_spec.specs.System.{bytes_at}
+use Rattle.hwdb_commands.specs.Devices.{Wrote, WrotePrefix}
+use Rattle.hwdb_commands.specs.declared.errors.ToolError.TheVariants.{BadDatabase, Memory as OutOfMemory, Write as NotWritten}
+use Rattle.hwdb_inspect.specs.Diffs.{IsDiffRefusal, IsDiffText, IsDifferent}
+use Rattle.hwdb_inspect.specs.declared.errors.DiffError.{DiffError}
+use Rattle.hwdb_inspect.specs.declared.errors.DiffError.TheVariants.{Old, New, Write, Memory}
+use Rattle.hwdb_system.specs.Refusals.{IsAt, IsUnread}
+use Rattle.hwdb_system.specs.declared.refusals.Refusal.{Refusal}
+use Rattle.hwdb_system.specs.declared.refusals.Refusal.TheVariants.{Plain}
+
+-- the two files hold this
+pub record AreHeld (old_path new_path : List ℕ) (contents : Contents) (old new : List ℕ) : Type 0 where
+  pub of_old : bytes_at contents old_path ≡ Some old
+  pub of_new : bytes_at contents new_path ≡ Some new
+
+-- standard output took what changed from the one database to the other, and the status says whether something did
+pub record IsCompared (old_path new_path : List ℕ) (status : ℕ) (contents : Contents) (out_before out_now : Option (List ℕ)) : Type 0 where
+  pub old : List ℕ
+  pub new : List ℕ
+  pub held : AreHeld old_path new_path contents old new
+  pub printed : Wrote (IsDiffText old new) out_before out_now
+  pub answer : Bool
+  pub differ : IsDifferent old new answer
+  pub says : status ≡ (if answer then 1 else 0)
+
+-- the refusal of such an error: a fault of a database with its path
+abbrev pub IsOfDiff : DiffError → (old_path new_path : List ℕ) → Refusal → Type 0
+IsOfDiff (Old fault) old_path new_path refusal = IsAt (BadDatabase fault) old_path refusal
+IsOfDiff (New fault) old_path new_path refusal = IsAt (BadDatabase fault) new_path refusal
+IsOfDiff Write old_path new_path refusal = refusal ≡ Plain NotWritten
+IsOfDiff Memory old_path new_path refusal = refusal ≡ Plain OutOfMemory
+
+-- comparing what the files hold is refused, and standard output has what it had, or a prefix
+pub record IsUncompared (old_path new_path : List ℕ) (contents : Contents) (refusal : Refusal) (out_before out_now : Option (List ℕ)) : Type 0 where
+  pub old : List ℕ
+  pub new : List ℕ
+  pub held : AreHeld old_path new_path contents old new
+  pub error : DiffError
+  pub is : IsOfDiff error old_path new_path refusal
+  pub refused : IsDiffRefusal old new error
+  pub untouched : error ≢ Write → error ≢ Memory → out_now ≡ out_before
+  pub cut_short : (out_now ≡ out_before) ⊎ WrotePrefix (IsDiffText old new) out_before out_now
+
+-- `diff` is refused: one of the files can't be read, or they can't be compared
+abbrev pub IsDiffRefused : (old_path new_path : List ℕ) → Contents → Refusal → (out_before out_now : Option (List ℕ)) → Type 0
+IsDiffRefused old_path new_path contents refusal out_before out_now =
+    ((IsUnread old_path refusal ⊎ IsUnread new_path refusal) × (out_now ≡ out_before))
+    ⊎ IsUncompared old_path new_path contents refusal out_before out_now

@@ -1,0 +1,127 @@
+-- What each task may refuse, when, and what it leaves. Our choice.
+use Rattle.std.specs.Prelude.{◌≡◌, ◌≢◌, ◌⊎◌, ℕ, Bool, true, false, List, [], ◌∷◌, Option, Some, None, Contains}
+use Rattle.hwdb_spec.specs.Assignment.{Position}
+use Rattle.hwdb_spec.specs.Checks.{check_text}
+use Rattle.hwdb_spec.specs.Folders.{Source, faults_of_files}
+use Rattle.hwdb_spec.specs.Store.{Contents, Outcomes, NoMore, Same, database_name, path_in}
+use Rattle.hwdb_spec.specs.System.{AreFilesIn, asked_database, bytes_at, database_folder, etc_files, usr_files}
+use Rattle.hwdb_spec.specs.Texts.{IsSpelling, faults_text, max_file}
+use Rattle.hwdb_store.specs.declared.replacement.Unreplaced.{Unreplaced}
+use Rattle.hwdb_commands.specs.Devices.{AppendsPrefix, WroteTextsPrefix, WrotePrefix}
+use Rattle.hwdb_commands.specs.Lookups.{IsNoDatabase}
+use Rattle.hwdb_commands.specs.Updates.{AreAskTexts, IsAskRefusal, IsUpdateRefusal, UpdateUndone}
+use Rattle.hwdb_commands.specs.declared.errors.ToolError.TheVariants.{BadDatabase, BadPosition, Memory, Write}
+use Rattle.hwdb_commands.specs.declared.errors.ToolError.{ToolError}
+use Rattle.hwdb_lint.specs.Checks.{IsChecksRefusal}
+use Rattle.hwdb_tasks.specs.Done.{IsFrom}
+use Rattle.hwdb_system.specs.Refusals.{IsOver, IsUnread}
+use Rattle.hwdb_system.specs.declared.refusals.Refusal.TheVariants.{NoDatabase, Plain}
+use Rattle.hwdb_system.specs.declared.refusals.Refusal.{Refusal}
+use Rattle.hwdb_system.specs.Reading.{AreUnread}
+
+-- the files are as they were, and a crash leaves nothing else of them
+pub record AreKept (old new : Contents) (left_before left : Outcomes) : Type 0 where
+  pub same : Same old new
+  pub no_more : NoMore left_before left
+
+-- the path of the database in one of the folders below a root
+abbrev pub database_path : (usr : Bool) (root : List ℕ) → List ℕ
+database_path usr root = path_in (database_folder usr root) database_name
+
+-- the path of the database that is asked: /etc's, or where nothing stands there that of /usr/lib
+abbrev pub IsAskedPath : (root : List ℕ) → Contents → (path : List ℕ) → Type 0
+IsAskedPath root contents path =
+    (path ≡ database_path false root) ⊎ ((path ≡ database_path true root) × (bytes_at contents (database_path false root) ≡ None))
+
+-- what finding that database may refuse: there is none, or it can't be read
+abbrev pub IsUnfound : (root : List ℕ) → Contents → Refusal → Type 0
+IsUnfound root contents NoDatabase = asked_database root contents ≡ None
+IsUnfound root contents refusal = (path : List ℕ) × IsAskedPath root contents path × IsUnread path refusal
+
+-- answering from these bytes was refused, and standard output has what it had, or a prefix where it failed
+pub record IsUnanswered (root : List ℕ) (Refuses : (bytes : List ℕ) → ToolError → Type 0) (Is : (bytes text : List ℕ) → Type 0) (contents : Contents) (error : ToolError) (out_before out_now : Option (List ℕ)) : Type 0 where
+  pub bytes : List ℕ
+  pub asked : asked_database root contents ≡ Some bytes
+  pub refused : Refuses bytes error
+  pub untouched : error ≢ Write → error ≢ Memory → out_now ≡ out_before
+  pub cut_short : error ≡ Write → (out_now ≡ out_before) ⊎ WrotePrefix (Is bytes) out_before out_now
+
+-- a command that asks the database is refused
+abbrev pub IsAnswerRefused : (root : List ℕ) (Refuses : (bytes : List ℕ) → ToolError → Type 0) (Is : (bytes text : List ℕ) → Type 0) → Contents → Refusal → (out_before out_now : Option (List ℕ)) → Type 0
+IsAnswerRefused root Refuses Is contents refusal out_before out_now =
+    (IsUnfound root contents refusal × (out_now ≡ out_before))
+    ⊎ ((error : ToolError) × (refusal ≡ Plain error) × IsUnanswered root Refuses Is contents error out_before out_now)
+
+-- what `list` may refuse over these bytes: a text that spells no position before a fault of the database
+abbrev pub IsListRefusedBy : (after : Option (List ℕ)) (bytes : List ℕ) → ToolError → Type 0
+IsListRefusedBy (Some text) bytes BadPosition = (p : Position) → IsSpelling p text → ⊥
+IsListRefusedBy after bytes (BadDatabase fault) = ((from : Option Position) × IsFrom after from) × IsNoDatabase bytes fault
+IsListRefusedBy after bytes Memory = Unit {0}
+IsListRefusedBy after bytes Write = Unit {0}
+IsListRefusedBy after bytes _ = ⊥
+
+-- `ask` refused over these bytes, and both outputs have what they had, or a prefix of what they were to take
+pub record IsUnasked (file device : List ℕ) (contents : Contents) (error : ToolError) (err_before err_then out_before out_now : Option (List ℕ)) : Type 0 where
+  pub bytes : List ℕ
+  pub read : bytes_at contents file ≡ Some bytes
+  pub refused : IsAskRefusal bytes max_file error
+  pub untouched : error ≢ Write → (err_then ≡ err_before) × (out_now ≡ out_before)
+  pub cut_short : error ≡ Write → WroteTextsPrefix (AreAskTexts file bytes device) err_before err_then out_before out_now
+
+-- `ask` is refused
+abbrev pub IsAskRefused : (file device : List ℕ) → Contents → Refusal → (err_before err_then : Option (List ℕ)) (out_before out_now : Option (List ℕ)) → Type 0
+IsAskRefused file device contents refusal err_before err_then out_before out_now =
+    (IsUnread file refusal × (err_then ≡ err_before) × (out_now ≡ out_before))
+    ⊎ ((error : ToolError) × (refusal ≡ Plain error) × IsUnasked file device contents error err_before err_then out_before out_now)
+
+-- reading one of the given files was refused
+abbrev pub IsGivenUnread : (given : List (List ℕ)) → Refusal → Type 0
+IsGivenUnread given refusal = (refusal ≡ Plain Memory) ⊎ ((path : List ℕ) × Contains given path × IsUnread path refusal)
+
+-- reading the files that are to be checked is refused: the given ones, or where none is given those of both folders
+abbrev pub AreUncheckable : (given : List (List ℕ)) (root : List ℕ) → Contents → Refusal → Type 0
+AreUncheckable [] root contents refusal = AreUnread root contents refusal
+AreUncheckable (path ∷ more) root contents refusal = IsGivenUnread (path ∷ more) refusal
+
+-- checking such files was refused, and standard output has what it had, or a prefix where it failed
+pub record IsUnchecked (Are : List Source → Type 0) (error : ToolError) (out_before out_now : Option (List ℕ)) : Type 0 where
+  pub sources : List Source
+  pub are : Are sources
+  pub refused : IsChecksRefusal sources error
+  pub untouched : error ≢ Write → out_now ≡ out_before
+  pub cut_short : error ≡ Write → AppendsPrefix out_before out_now (check_text sources)
+
+-- `check` is refused: its files can't be read, or not be checked
+abbrev pub IsCheckRefused : (Unread : Refusal → Type 0) (Are : List Source → Type 0) → Refusal → (out_before out_now : Option (List ℕ)) → Type 0
+IsCheckRefused Unread Are refusal out_before out_now =
+    (Unread refusal × (out_now ≡ out_before)) ⊎ ((error : ToolError) × (refusal ≡ Plain error) × IsUnchecked Are error out_before out_now)
+
+-- compiling the files is refused, or their fault lines can't be written: nothing of the files changed
+pub record IsUncompiled (of_etc of_usr : List Source) (refusal : Refusal) (old new : Contents) (left_before left : Outcomes) (err_before err_then : Option (List ℕ)) : Type 0 where
+  pub error : ToolError
+  pub is : refusal ≡ Plain error
+  pub refused : IsUpdateRefusal of_etc of_usr max_file error
+  pub kept : AreKept old new left_before left
+  pub untouched : error ≢ Write → err_then ≡ err_before
+  pub cut_short : error ≡ Write → AppendsPrefix err_before err_then (faults_text (faults_of_files of_etc of_usr))
+
+-- the database can't be replaced, after standard error took the fault lines
+pub record IsUnwritten (root : List ℕ) (usr : Bool) (of_etc of_usr : List Source) (refusal : Refusal) (old new : Contents) (left_before left : Outcomes) (err_before err_then : Option (List ℕ)) : Type 0 where
+  pub unreplaced : Unreplaced
+  pub is : IsOver Write (database_path usr root) refusal
+  pub undone : UpdateUndone of_etc of_usr (database_folder usr root) err_before err_then (Unit {0}) old new left_before left unreplaced
+
+-- the text files of both folders were read, and compiling them or putting their database in its place is refused
+pub record IsUpdateUndone (root : List ℕ) (usr : Bool) (refusal : Refusal) (old new : Contents) (left_before left : Outcomes) (err_before err_then : Option (List ℕ)) : Type 0 where
+  pub of_etc : List Source
+  pub of_usr : List Source
+  pub in_etc : AreFilesIn (etc_files root) old of_etc
+  pub in_usr : AreFilesIn (usr_files root) old of_usr
+  pub refused : IsUncompiled of_etc of_usr refusal old new left_before left err_before err_then
+      ⊎ IsUnwritten root usr of_etc of_usr refusal old new left_before left err_before err_then
+
+-- `update` is refused
+abbrev pub IsUpdateRefused : (root : List ℕ) (usr : Bool) → Refusal → (old new : Contents) (left_before left : Outcomes) (err_before err_then : Option (List ℕ)) → Type 0
+IsUpdateRefused root usr refusal old new left_before left err_before err_then =
+    (AreUnread root old refusal × AreKept old new left_before left × (err_then ≡ err_before))
+    ⊎ IsUpdateUndone root usr refusal old new left_before left err_before err_then

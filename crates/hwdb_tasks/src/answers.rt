@@ -1,0 +1,127 @@
+//! What devices get: from the database, or from one text file.
+ghost use Rattle.std.specs.Prelude.{◌≡◌, ◌≢◌, ◌⊎◌, map, option_map, string_bytes, IfErr, OnOk};
+ghost use Rattle.hwdb_spec.specs.Failures.{HasFailed};
+ghost use Rattle.hwdb_commands.specs.Lookups.{IsQueryRefusal, IsTextOf};
+ghost use Rattle.hwdb_tasks.specs.Done.{IsAnswered, IsAsked, IsListFrom, explain_form, queries_form};
+ghost use Rattle.hwdb_tasks.specs.Undone.{IsAnswerRefused, IsAskRefused, IsListRefusedBy};
+ghost use Rattle.hwdb_system.specs.declared.refusals.Refusal.TheVariants.{Plain};
+
+use crate::databases::asked;
+use hwdb_commands::{
+    ToolError, ask, run_explain, run_explain_json, run_list, run_list_json, run_queries,
+    run_queries_json,
+};
+use hwdb_devices::Sink;
+use hwdb_system::{Refusal, System};
+use std::alloc::Global;
+
+/// Prints the properties that the database below the root gives each device.
+pub fn query<D: System, O: Sink>(
+    alloc: Global,
+    root: &str,
+    devices: &[String],
+    json: bool,
+    system: &D,
+    out: &mut O,
+) -> Result<(), Refusal>
+    ensures answered { D.Store.tells → OnOk result
+        (IsAnswered root.now (IsTextOf (queries_form json (map string_bytes devices.now)))
+        (D.Store.seen system.now) (O.taken out.old) (O.taken out.new)) }
+    ensures refused { D.Store.tells → IfErr result (λ r. IsAnswerRefused root.now IsQueryRefusal
+        (IsTextOf (queries_form json (map string_bytes devices.now)))
+        (D.Store.seen system.now) r (O.taken out.old) (O.taken out.new)) }
+    ensures cause { IfErr result (λ r. r ≡ Plain ToolError.Write
+        → HasFailed (O.failures out.old) (O.failures out.new)) }
+{
+    let found = asked(alloc, root, system)?;
+    if json {
+        run_queries_json(alloc, &found.bytes, devices, out)?;
+    } else {
+        run_queries(alloc, &found.bytes, devices, out)?;
+    }
+    Ok(())
+}
+
+/// Prints the properties that the database below the root gives the device, and where each comes from.
+pub fn explain<D: System, O: Sink>(
+    alloc: Global,
+    root: &str,
+    device: &[u8],
+    json: bool,
+    system: &D,
+    out: &mut O,
+) -> Result<(), Refusal>
+    ensures answered { D.Store.tells → OnOk result
+        (IsAnswered root.now (IsTextOf (explain_form json device.now))
+        (D.Store.seen system.now) (O.taken out.old) (O.taken out.new)) }
+    ensures refused { D.Store.tells → IfErr result (λ r. IsAnswerRefused root.now IsQueryRefusal
+        (IsTextOf (explain_form json device.now))
+        (D.Store.seen system.now) r (O.taken out.old) (O.taken out.new)) }
+    ensures cause { IfErr result (λ r. r ≡ Plain ToolError.Write
+        → HasFailed (O.failures out.old) (O.failures out.new)) }
+{
+    let found = asked(alloc, root, system)?;
+    if json {
+        run_explain_json(alloc, &found.bytes, device, out)?;
+    } else {
+        run_explain(alloc, &found.bytes, device, out)?;
+    }
+    Ok(())
+}
+
+/// Prints the hits that the database below the root has for the device.
+pub fn list<D: System, O: Sink>(
+    alloc: Global,
+    root: &str,
+    device: &[u8],
+    after: Option<&str>,
+    limit: Option<u64>,
+    json: bool,
+    system: &D,
+    out: &mut O,
+) -> Result<(), Refusal>
+    ensures answered { D.Store.tells → OnOk result
+        (IsAnswered root.now
+        (IsListFrom json device.now (option_map (λ t. t.now) after.entry) limit)
+        (D.Store.seen system.now) (O.taken out.old) (O.taken out.new)) }
+    ensures refused { D.Store.tells → IfErr result (λ r. IsAnswerRefused root.now
+        (IsListRefusedBy (option_map (λ t. t.now) after.entry))
+        (IsListFrom json device.now (option_map (λ t. t.now) after.entry) limit)
+        (D.Store.seen system.now) r (O.taken out.old) (O.taken out.new)) }
+    ensures cause { IfErr result (λ r. r ≡ Plain ToolError.Write
+        → HasFailed (O.failures out.old) (O.failures out.new)) }
+{
+    let found = asked(alloc, root, system)?;
+    if json {
+        run_list_json(alloc, &found.bytes, device, after, limit, out)?;
+    } else {
+        run_list(alloc, &found.bytes, device, after, limit, out)?;
+    }
+    Ok(())
+}
+
+/// Prints the properties that one text file gives the device.
+pub fn ask_file<D: System, O: Sink, E: Sink>(
+    alloc: Global,
+    file: &str,
+    device: &[u8],
+    system: &D,
+    out: &mut O,
+    err: &mut E,
+) -> Result<(), Refusal>
+    ensures asked { D.Store.tells → OnOk result
+        (IsAsked file.now device.now (D.Store.seen system.now)
+        (E.taken err.old) (E.taken err.new) (O.taken out.old) (O.taken out.new)) }
+    ensures refused { D.Store.tells → IfErr result
+        (λ r. IsAskRefused file.now device.now (D.Store.seen system.now) r
+        (E.taken err.old) (E.taken err.new) (O.taken out.old) (O.taken out.new)) }
+    ensures unfailed { IfErr result (λ r. r ≢ Plain ToolError.Write
+        → E.failures err.new ≡ E.failures err.old) }
+    ensures cause { IfErr result (λ r. r ≡ Plain ToolError.Write
+        → HasFailed (E.failures err.old) (E.failures err.new)
+        ⊎ HasFailed (O.failures out.old) (O.failures out.new)) }
+{
+    let bytes = system.input(alloc, file)?;
+    ask(alloc, file, &bytes, device, out, err)?;
+    Ok(())
+}
