@@ -54,10 +54,11 @@ demo: all
 
 check:
 	rt ci
+	mkdir -p out
+	cp crates/hwdb/out/hwdb out/hwdb
 	tests/documents
 	tests/definitions
 	tests/refused
-	$(MAKE) all
 	$(MAKE) lib
 	tests/words out/hwdb
 	tests/installed out/hwdb

@@ -7,8 +7,6 @@
 mod args;
 mod command;
 mod job;
-#[cfg(test)]
-mod tests;
 mod tips;
 
 pub use args::read_words;

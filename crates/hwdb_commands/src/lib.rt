@@ -30,8 +30,6 @@ mod json_lines;
 mod json_values;
 mod lookup;
 mod single_file;
-#[cfg(test)]
-mod tests;
 mod texts;
 mod transfer;
 mod update;

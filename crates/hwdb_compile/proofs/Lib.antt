@@ -1,12 +1,5 @@
-pub mod PutLemmas
 pub mod MemberLemmas
-pub mod OrderLemmas
-pub mod PlaceLemmas
-pub mod KeyLemmas
 pub mod GatherLemmas
 pub mod AcceptanceLemmas
 pub mod LatestLemmas
-pub mod PlainHitLemmas
-pub mod PlainLemmas
-pub mod PlainPairLemmas
 pub mod InWordsLemmas

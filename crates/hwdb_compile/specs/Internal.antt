@@ -1,4 +1,3 @@
 -- What the proofs of this crate speak of.
 pub mod Reading
 pub mod Conversions
-pub mod Plain

@@ -15,8 +15,6 @@ mod compiler;
 mod errors;
 mod laws;
 mod sources;
-#[cfg(test)]
-mod tests;
 
 pub use compiler::{compile, compile_chosen};
 pub use errors::CompileError;

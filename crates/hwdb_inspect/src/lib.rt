@@ -26,8 +26,6 @@ mod pairs;
 mod printing;
 mod records;
 mod summary;
-#[cfg(test)]
-mod tests;
 mod verification;
 mod walk;
 

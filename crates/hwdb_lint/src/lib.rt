@@ -22,8 +22,6 @@ mod repeats;
 mod reports;
 mod shown;
 mod tallies;
-#[cfg(test)]
-mod tests;
 mod warnings;
 
 pub use files::{TextFile, check_file, check_files};

@@ -23,8 +23,6 @@ mod laws;
 mod lengths;
 mod paths;
 mod search;
-#[cfg(test)]
-mod tests;
 mod tokens;
 mod unusual;
 

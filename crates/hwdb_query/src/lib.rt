@@ -44,8 +44,6 @@ mod properties;
 mod refill;
 mod spelling;
 mod start;
-#[cfg(test)]
-mod tests;
 
 pub use answer::{Answer, Explained};
 pub use cursors::Cursor;

@@ -20,8 +20,6 @@ mod header;
 mod laws;
 mod places;
 mod reopened;
-#[cfg(test)]
-mod tests;
 mod values;
 mod view;
 mod walk;

@@ -7,8 +7,6 @@
 pub mod calls;
 pub mod memory;
 pub mod replacement;
-#[cfg(test)]
-mod tests;
 
 pub use calls::{CallFailed, Store};
 pub use memory::{File, Memory, State, Step};

@@ -12,8 +12,6 @@ mod chunk;
 mod device_answers;
 mod line_reader;
 mod streaming;
-#[cfg(test)]
-mod tests;
 
 pub use chunk::LineReader;
 pub use streaming::run_stream;

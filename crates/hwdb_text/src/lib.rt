@@ -12,8 +12,6 @@ mod line;
 mod outcome;
 mod parser;
 mod records;
-#[cfg(test)]
-mod tests;
 
 pub use crate::choice::{Chosen, counts, select};
 pub use crate::line::{Content, content_of};

@@ -1,29 +1,10 @@
-//! Worked examples of the program, of its commands, and of its refusal lines.
-mod calls;
-mod commands;
-mod explanations;
-mod failing;
-mod hostile;
-mod json_rows;
+//! Worked examples of the program, and of its refusal lines.
 mod programs;
 mod refusals;
-mod vectors;
 
 use crate::{SystemStore, program};
 use hwdb_devices::testing::MemorySink;
-use hwdb_store::Memory;
-use hwdb_store::memory::state_of;
-use std::alloc::{AllocError, Global};
 use std::test::Fail;
-
-/// The bytes of the database in the folder `/f` of a store; none where it has none.
-fn database_in(alloc: Global, store: &Memory) -> Result<Vec<u8>, AllocError> {
-    let state = state_of(alloc, &store.steps, b"/f/hwdb.bin")?;
-    match state.now {
-        Some(file) => file.bytes.to_vec(alloc),
-        None => Ok(Vec::new(alloc)),
-    }
-}
 
 /// Help that can't be written whole is a refusal of the program.
 #[test]

@@ -6,6 +6,9 @@
 //! - `argument`, the command's name, the argument's name, its help.
 #![tactic(auto)]
 
+#[cfg(test)]
+mod tests;
+
 use clap::{Arg, Command};
 use hwdb_cli::hwdb_command;
 

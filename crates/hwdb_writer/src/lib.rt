@@ -13,8 +13,6 @@ mod prefix;
 mod records;
 mod registry;
 mod strings;
-#[cfg(test)]
-mod tests;
 mod trie;
 mod value_entry;
 mod values;
