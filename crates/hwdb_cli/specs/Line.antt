@@ -86,6 +86,13 @@ dump_app = with_rule (with_shared (new_app (codes "dump"))) database_rule
 abbrev pub top_app : App
 top_app = on_top (λ (s : Shape). record s { has_version = true; subcommand_required = true }) (with_shared (new_app (codes "hwdb")))
 
+-- the four commands that say what a device is told
+abbrev pub with_answers : App → App
+with_answers app = with_subcommand (with_subcommand (with_subcommand (with_subcommand app query_app.top) explain_app.top) ask_app.top) list_app.top
+
+-- the four commands that look at files and databases
+abbrev pub with_inspections : App → App
+with_inspections app = with_subcommand (with_subcommand (with_subcommand (with_subcommand app check_app.top) diff_app.top) verify_app.top) dump_app.top
+
 abbrev pub hwdb_app : App
-hwdb_app = with_subcommand (with_subcommand (with_subcommand (with_subcommand (with_subcommand (with_subcommand (with_subcommand (with_subcommand (with_subcommand top_app update_app.top)
-    query_app.top) explain_app.top) ask_app.top) list_app.top) check_app.top) diff_app.top) verify_app.top) dump_app.top
+hwdb_app = with_inspections (with_answers (with_subcommand top_app update_app.top))

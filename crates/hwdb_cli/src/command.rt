@@ -5,7 +5,7 @@ ghost use Rattle.std.specs.Prelude.{◌≡◌, IfOk, false, codes};
 ghost use Rattle.clap.specs.Walk.{rule_of};
 ghost use Rattle.clap.specs.Simple.{app_of, shape_of};
 ghost use Rattle.clap.specs.declared.builder.command.Command.TheViews.{out-Command as fields_of};
-ghost use Rattle.hwdb_cli.specs.Line.{usr_rule, strict_rule, root_rule, device_rule, devices_rule, file_rule, files_rule, old_database_rule, new_database_rule, database_rule, after_rule, limit_rule, json_rule, with_shared, with_range, update_app, query_app, explain_app, ask_app, list_app, check_app, diff_app, verify_app, dump_app, top_app, hwdb_app};
+ghost use Rattle.hwdb_cli.specs.Line.{usr_rule, strict_rule, root_rule, device_rule, devices_rule, file_rule, files_rule, old_database_rule, new_database_rule, database_rule, after_rule, limit_rule, json_rule, with_shared, with_range, update_app, query_app, explain_app, ask_app, list_app, check_app, diff_app, verify_app, dump_app, top_app, with_answers, with_inspections, hwdb_app};
 
 use clap::builder::ValueParser;
 use clap::{Arg, ArgAction, Command};
@@ -360,6 +360,34 @@ fn top_command<'a>(alloc: Global) -> Result<Command<'a>, AllocError>
     Ok(command.subcommand_required(true))
 }
 
+/// Adds the commands that say what a device is told.
+fn add_answers<'a>(alloc: Global, command: Command<'a>) -> Result<Command<'a>, AllocError>
+    ensures { IfOk result (λ r. app_of r ≡ with_answers (app_of command.entry)) }
+{
+    let query = query_command(alloc)?;
+    let with_query = command.subcommand(query)?;
+    let explain = explain_command(alloc)?;
+    let with_explain = with_query.subcommand(explain)?;
+    let ask = ask_command(alloc)?;
+    let with_ask = with_explain.subcommand(ask)?;
+    let list = list_command(alloc)?;
+    with_ask.subcommand(list)
+}
+
+/// Adds the commands that look at files and databases.
+fn add_inspections<'a>(alloc: Global, command: Command<'a>) -> Result<Command<'a>, AllocError>
+    ensures { IfOk result (λ r. app_of r ≡ with_inspections (app_of command.entry)) }
+{
+    let check = check_command(alloc)?;
+    let with_check = command.subcommand(check)?;
+    let diff = diff_command(alloc)?;
+    let with_diff = with_check.subcommand(diff)?;
+    let verify = verify_command(alloc)?;
+    let with_verify = with_diff.subcommand(verify)?;
+    let dump = dump_command(alloc)?;
+    with_verify.subcommand(dump)
+}
+
 /// The whole command.
 pub fn hwdb_command<'a>(alloc: Global) -> Result<Command<'a>, AllocError>
     ensures { IfOk result (λ r. app_of r ≡ hwdb_app) }
@@ -367,21 +395,6 @@ pub fn hwdb_command<'a>(alloc: Global) -> Result<Command<'a>, AllocError>
     let top = top_command(alloc)?;
     let update = update_command(alloc)?;
     let with_update = top.subcommand(update)?;
-    let query = query_command(alloc)?;
-    let with_query = with_update.subcommand(query)?;
-    let explain = explain_command(alloc)?;
-    let with_explain = with_query.subcommand(explain)?;
-    let ask = ask_command(alloc)?;
-    let with_ask = with_explain.subcommand(ask)?;
-    let list = list_command(alloc)?;
-    let with_list = with_ask.subcommand(list)?;
-    let check = check_command(alloc)?;
-    let with_check = with_list.subcommand(check)?;
-    let diff = diff_command(alloc)?;
-    let with_diff = with_check.subcommand(diff)?;
-    let verify = verify_command(alloc)?;
-    let with_verify = with_diff.subcommand(verify)?;
-    let dump = dump_command(alloc)?;
-    let whole = with_verify.subcommand(dump)?;
-    Ok(whole)
+    let with_all = add_answers(alloc, with_update)?;
+    add_inspections(alloc, with_all)
 }
