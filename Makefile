@@ -1,5 +1,5 @@
 # `make` builds out/hwdb (and proves it on the way), `make demo` runs it on a file of our own,
-# `make check` is the whole gate, `make check-peer` compares with Debian's own files, `make bench` measures on them.
+# `make check` is the whole gate, `make check-edits` tries more wrong bodies, `make check-peer` compares with Debian's own files, `make bench` measures on them.
 # `make lib` builds the C library, out/libhwdb.so.0 and out/libhwdb.a, and out/libhwdb-udev.so.0 with libudev's calls over it.
 # `make install` and `make uninstall` go by the folders below, `make deb` makes Debian packages in out/, `make dist` an
 # archive of the sources, and `make check-package` tries all but the last; it installs what it needs with apt-get.
@@ -27,7 +27,7 @@ CFLAGS ?= -O2
 WARNINGS := -std=c11 -Wall -Wextra -Werror
 HARDENED := -Wl,-z,relro -Wl,-z,now -Wl,-z,noexecstack -Wl,--no-undefined
 
-.PHONY: all lib demo check check-peer check-package bench install uninstall deb dist clean
+.PHONY: all lib demo check check-edits check-peer check-package bench install uninstall deb dist clean
 
 all:
 	cd crates/hwdb && rt run -- ask /dev/null none
@@ -71,6 +71,10 @@ check:
 	tests/hostile out/hwdb
 	tests/memory out/hwdb
 	tests/random out/hwdb
+
+# Wrong bodies beyond those of `make check`; CRATES="hwdb_query hwdb_text" tries those of some crates.
+check-edits:
+	tests/wrong-bodies $(CRATES)
 
 check-peer: all lib
 	tests/peer out/hwdb
