@@ -55,6 +55,7 @@ pub record IsUnverified (given : Option (List ℕ)) (root : List ℕ) (contents 
   pub bytes : List ℕ
   pub at : IsNamedPath given root contents path
   pub named : named_database given root contents ≡ Some bytes
+  pub held : bytes_at contents path ≡ Some bytes
   pub error : ToolError
   pub is : IsOfVerify error path refusal
   pub refused : IsQueryRefusal bytes error
@@ -91,6 +92,7 @@ pub record IsUndumped (given : Option (List ℕ)) (root : List ℕ) (contents : 
   pub bytes : List ℕ
   pub at : IsNamedPath given root contents path
   pub named : named_database given root contents ≡ Some bytes
+  pub held : bytes_at contents path ≡ Some bytes
   pub error : DumpError
   pub is : IsOfDump error path refusal
   pub refused : IsDumpRefusal bytes error

@@ -32,6 +32,8 @@ pub fn asked<D: System>(alloc: Global, root: &str, system: &D) -> Result<Found, 
         (λ f. asked_database root.now (D.Store.seen system.now) ≡ Some f.bytes.items) }
     ensures path { D.Store.tells → IfOk result
         (λ f. IsAskedPath root.now (D.Store.seen system.now) (string_bytes f.path)) }
+    ensures held { D.Store.tells → IfOk result
+        (λ f. bytes_at (D.Store.seen system.now) (string_bytes f.path) ≡ Some f.bytes.items) }
     ensures refused { D.Store.tells → IfErr result (IsUnfound root.now (D.Store.seen system.now)) }
     ensures unread { IfErr result (λ r. r ≢ Plain ToolError.Write) }
 {
@@ -56,6 +58,8 @@ fn found_in<D: System>(
         (spec.path_in (root.now ++ folder.now) spec.database_name)) }
     ensures path { IfOk result (λ found. IfSome found (λ f. string_bytes f.path
         ≡ spec.path_in (root.now ++ folder.now) spec.database_name)) }
+    ensures held { D.Store.tells → IfOk result (λ found. IfSome found
+        (λ f. bytes_at (D.Store.seen system.now) (string_bytes f.path) ≡ Some f.bytes.items)) }
     ensures refused { IfErr result
         (IsUnread (spec.path_in (root.now ++ folder.now) spec.database_name)) }
     ensures unread { IfErr result (λ r. r ≢ Plain ToolError.Write) }
@@ -81,6 +85,8 @@ pub fn named<D: System>(
     ensures path { D.Store.tells → IfOk result
         (λ f. IsNamedPath (option_map (λ t. t.now) given.entry) root.now (D.Store.seen system.now)
         (string_bytes f.path)) }
+    ensures held { D.Store.tells → IfOk result
+        (λ f. bytes_at (D.Store.seen system.now) (string_bytes f.path) ≡ Some f.bytes.items) }
     ensures refused { D.Store.tells → IfErr result (IsUnnamed (option_map (λ t. t.now) given.entry)
         root.now (D.Store.seen system.now)) }
     ensures unread { IfErr result (λ r. r ≢ Plain ToolError.Write) }
@@ -96,6 +102,8 @@ fn given_at<D: System>(alloc: Global, path: &str, system: &D) -> Result<Found, R
     ensures bytes { D.Store.tells → IfOk result
         (λ f. bytes_at (D.Store.seen system.now) path.now ≡ Some f.bytes.items) }
     ensures path { IfOk result (λ f. string_bytes f.path ≡ path.now) }
+    ensures held { D.Store.tells → IfOk result
+        (λ f. bytes_at (D.Store.seen system.now) (string_bytes f.path) ≡ Some f.bytes.items) }
     ensures refused { IfErr result (IsUnread path.now) }
     ensures unread { IfErr result (λ r. r ≢ Plain ToolError.Write) }
 {

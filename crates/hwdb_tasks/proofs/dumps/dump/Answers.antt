@@ -8,6 +8,7 @@ returns-clause-refused g c = λ tells. inr record {
   bytes = c.deref.result.now;
   at = c.in_ok-found.ensures.path tells;
   named = c.in_ok-found.ensures.named tells ∙ ap Some (sym c.deref.ensures.value);
+  held = c.in_ok-found.ensures.held tells ∙ ap Some (sym c.deref.ensures.value);
   error = c.in-Err.error;
   is = subst (λ p. IsOfDump c.in-Err.error p c.refusal_of.result) c.as_bytes.ensures.value c.refusal_of.ensures.is;
   refused = c.in-Err.ensures.refusals;
