@@ -1,7 +1,7 @@
-//! The program `hwdb`: hands its words, its files, standard output and standard error to `hwdb_tool::program`.
+//! The program `hwdb`: hands its words, its files, standard input, output and error to `hwdb_tool::program`.
 #![tactic(auto)]
 
-use hwdb_tool::{SystemStore, ToWrite, program, write_text};
+use hwdb_tool::{FromRead, SystemStore, ToWrite, program, write_text};
 use std::env;
 use std::io::{self, ErrorKind};
 use std::process::ExitCode;
@@ -13,11 +13,16 @@ fn words_of(rt: &HostRuntime) -> io::Result<Vec<String>> {
 }
 
 fn main(rt: HostRuntime) -> ExitCode {
+    let mut input = FromRead::new(rt.stdin());
     let mut out = ToWrite::new(rt.stdout());
     let mut err = ToWrite::new(rt.stderr());
     let mut system = SystemStore::new(rt.alloc(), &rt);
     match words_of(&rt) {
-        Ok(words) => ExitCode::from(program(rt.alloc(), &words, &mut system, &mut out, &mut err)),
+        Ok(words) => {
+            let alloc = rt.alloc();
+            let status = program(alloc, &words, &mut system, &mut input, &mut out, &mut err);
+            ExitCode::from(status)
+        }
         Err(error) => {
             let line = match error.kind() {
                 ErrorKind::OutOfMemory => "hwdb: out of memory\n",

@@ -88,6 +88,10 @@ impl<R: Read> Source for FromRead<R> {
             Err(error) => Err(self.fail(&error)),
         }
     }
+
+    fn cause(&self) -> Option<Cause> {
+        self.cause
+    }
 }
 
 /// A writer as a sink.

@@ -21,6 +21,11 @@ pub trait Source {
         ensures bound { IfOk result (λ n. n ≤ length buf.new) }
         ensures bytes { ReadConsumes (left self.old) (left self.new) result buf.new }
         ensures cause { CountsFailures (failures self.old) (failures self.new) result };
+
+    /// Why the last call that failed did, where the source knows it. For messages alone: no promise speaks of it.
+    fn cause(&self) -> Option<Cause> {
+        None
+    }
 }
 
 /// Where bytes go to, shaped as std's `Write`.

@@ -26,8 +26,8 @@ IsFirstLine line (Some before) (Some now) = (devices_of before ≡ line ∷ devi
 
 -- what a database gives each of some devices, as text or as JSON
 abbrev pub texts_of : (json : Bool) → List (List ℕ) → Tree → List ℕ
-texts_of true devices t = query_json devices t
-texts_of false devices t = queries_text devices t
+texts_of true = query_json
+texts_of false = queries_text
 
 -- the same, of what the files assign
 abbrev pub last_texts_of : (json : Bool) → List (List ℕ) → (etc usr : List Source) → List ℕ

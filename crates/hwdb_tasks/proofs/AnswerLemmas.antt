@@ -9,6 +9,7 @@ use Rattle.hwdb_commands.specs.Devices.{WrotePrefix}
 use Rattle.hwdb_commands.specs.Lookups.{IsAfter, IsListJson, IsListRefusal, IsListText}
 use Rattle.hwdb_commands.specs.declared.errors.ToolError.{ToolError}
 use Rattle.hwdb_commands.specs.declared.errors.ToolError.TheVariants.{Read, Write, TooLong, TooManyFiles, TooManyLines, TooLarge, BadPosition, PageZero, BadDatabase, Replace, Memory}
+use Rattle.hwdb_stream.specs.Streams.{IfBadDatabase}
 use Rattle.hwdb_tasks.specs.Done.{IsFrom, IsListFrom}
 use Rattle.hwdb_system.specs.Refusals.{IsUnread}
 use Rattle.hwdb_tasks.specs.Undone.{IsAnswerRefused, IsAskedPath, IsListRefusedBy, IsUnfound}
@@ -92,3 +93,17 @@ list_json_cut device after limit bytes before now w = record {
   is = record { from = w.is.from; spelled = from_after after w.is.from w.is.spelled; is = w.is.is };
   taken = w.taken;
 }
+
+-- what holds where bytes are no database, weaker
+pub if_bad : {P Q : Type 0} (error : ToolError) → (P → Q) → IfBadDatabase P error → IfBadDatabase Q error
+if_bad Read f h = tt
+if_bad Write f h = tt
+if_bad TooLong f h = tt
+if_bad TooManyFiles f h = tt
+if_bad TooManyLines f h = tt
+if_bad TooLarge f h = tt
+if_bad BadPosition f h = tt
+if_bad PageZero f h = tt
+if_bad (BadDatabase fault) f h = f h
+if_bad (Replace u) f h = tt
+if_bad Memory f h = tt

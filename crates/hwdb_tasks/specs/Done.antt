@@ -4,9 +4,9 @@ use Rattle.hwdb_spec.specs.Assignment.{Position}
 use Rattle.hwdb_spec.specs.Folders.{Source}
 use Rattle.hwdb_spec.specs.Store.{Contents, Outcomes, Stored, IsPart, database_file, database_name, path_in}
 use Rattle.hwdb_spec.specs.System.{AreFilesIn, bytes_at, asked_database, database_folder, etc_files, usr_files}
-use Rattle.hwdb_spec.specs.Texts.{IsSpelling, list_text, max_file, queries_text}
+use Rattle.hwdb_spec.specs.Texts.{IsSpelling, list_text, max_file}
 use Rattle.hwdb_spec.specs.Explanations.{explain_text}
-use Rattle.hwdb_spec.specs.Json.{explain_json, list_json, query_json}
+use Rattle.hwdb_spec.specs.Json.{explain_json, list_json}
 use Rattle.hwdb_spec.specs.Tree.{Tree, map_of_files}
 use Rattle.hwdb_spec.specs.Written.{IsWritten}
 use Rattle.hwdb_commands.specs.Devices.{Wrote, WroteTexts}
@@ -41,10 +41,6 @@ IsFrom (Some text) (Some p) = IsSpelling p text
 IsFrom _ _ = ⊥
 
 -- what is printed, as text or with `--json`
-abbrev pub queries_form : (json : Bool) → List (List ℕ) → Tree → List ℕ
-queries_form false = queries_text
-queries_form true = query_json
-
 abbrev pub explain_form : (json : Bool) → List ℕ → Tree → List ℕ
 explain_form false = explain_text
 explain_form true = explain_json

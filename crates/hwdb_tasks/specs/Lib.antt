@@ -1,5 +1,6 @@
 pub mod Done
 pub mod Undone
+pub mod Queries
 pub mod CheckedFiles
 pub mod ComparedDatabases
 pub mod Internal

@@ -1,46 +1,16 @@
 //! What devices get: from the database, or from one text file.
-ghost use Rattle.std.specs.Prelude.{◌≡◌, ◌≢◌, ◌⊎◌, map, option_map, string_bytes, IfErr, OnOk};
+ghost use Rattle.std.specs.Prelude.{◌≡◌, ◌≢◌, ◌⊎◌, option_map, IfErr, OnOk};
 ghost use Rattle.hwdb_spec.specs.Failures.{HasFailed};
 ghost use Rattle.hwdb_commands.specs.Lookups.{IsQueryRefusal, IsTextOf};
-ghost use Rattle.hwdb_tasks.specs.Done.{IsAnswered, IsAsked, IsListFrom, explain_form, queries_form};
+ghost use Rattle.hwdb_tasks.specs.Done.{IsAnswered, IsAsked, IsListFrom, explain_form};
 ghost use Rattle.hwdb_tasks.specs.Undone.{IsAnswerRefused, IsAskRefused, IsListRefusedBy};
 ghost use Rattle.hwdb_system.specs.declared.refusals.Refusal.TheVariants.{Plain};
 
 use crate::databases::asked;
-use hwdb_commands::{
-    ToolError, ask, run_explain, run_explain_json, run_list, run_list_json, run_queries,
-    run_queries_json,
-};
+use hwdb_commands::{ToolError, ask, run_explain, run_explain_json, run_list, run_list_json};
 use hwdb_devices::Sink;
 use hwdb_system::{Refusal, System};
 use std::alloc::Global;
-
-/// Prints the properties that the database below the root gives each device.
-pub fn query<D: System, O: Sink>(
-    alloc: Global,
-    root: &str,
-    devices: &[String],
-    json: bool,
-    system: &D,
-    out: &mut O,
-) -> Result<(), Refusal>
-    ensures answered { D.Store.tells → OnOk result
-        (IsAnswered root.now (IsTextOf (queries_form json (map string_bytes devices.now)))
-        (D.Store.seen system.now) (O.taken out.old) (O.taken out.new)) }
-    ensures refused { D.Store.tells → IfErr result (λ r. IsAnswerRefused root.now IsQueryRefusal
-        (IsTextOf (queries_form json (map string_bytes devices.now)))
-        (D.Store.seen system.now) r (O.taken out.old) (O.taken out.new)) }
-    ensures cause { IfErr result (λ r. r ≡ Plain ToolError.Write
-        → HasFailed (O.failures out.old) (O.failures out.new)) }
-{
-    let found = asked(alloc, root, system)?;
-    if json {
-        run_queries_json(alloc, &found.bytes, devices, out)?;
-    } else {
-        run_queries(alloc, &found.bytes, devices, out)?;
-    }
-    Ok(())
-}
 
 /// Prints the properties that the database below the root gives the device, and where each comes from.
 pub fn explain<D: System, O: Sink>(

@@ -3,7 +3,8 @@
 //! | Module | What it does |
 //! |---|---|
 //! | `updates` | `update`: the text files of both folders, compiled into the database of one |
-//! | `answers` | `query`, `explain`, `list` and `ask`: what devices get |
+//! | `queries` | `query`: what each of several devices gets, those of the words or those that standard input names |
+//! | `answers` | `explain`, `list` and `ask`: what a device gets |
 //! | `checks` | `check`: text files that are read and looked over |
 //! | `differences` | `diff`: two databases that are read and compared |
 //! | `verification` | `verify`: a database that is read whole |
@@ -17,13 +18,15 @@ mod checks;
 mod databases;
 mod differences;
 mod dumps;
+mod queries;
 mod updates;
 mod verdicts;
 mod verification;
 
-pub use answers::{ask_file, explain, list, query};
+pub use answers::{ask_file, explain, list};
 pub use checks::check;
 pub use differences::diff;
 pub use dumps::dump;
+pub use queries::query;
 pub use updates::update;
 pub use verification::verify;

@@ -1,6 +1,6 @@
 -- What the program does with a file system, by the job that its words ask for (systemd-hwdb(8); `explain`, `ask`,
 -- `list`, `check`, `diff`, `verify` and `dump` are our choice).
-use Rattle.std.specs.Prelude.{◌≡◌, ℕ, Bool, List, [], ◌⊎◌, Option, map, option_map, string_bytes}
+use Rattle.std.specs.Prelude.{◌≡◌, ℕ, Bool, false, List, [], ◌⊎◌, Option, map, option_map, string_bytes}
 use Rattle.std.specs.Option.{option_map_or}
 use Rattle.std.specs.Io.KnownBytes.{Appends}
 use Rattle.hwdb_cli.specs.Words.{AskFor, AskForText}
@@ -13,7 +13,8 @@ use Rattle.hwdb_cli.specs.declared.job.Job.{Job}
 use Rattle.hwdb_tasks.specs.CheckedFiles.{AreCheckedFiles, IsChecked}
 use Rattle.hwdb_tasks.specs.ComparedDatabases.{IsCompared}
 use Rattle.hwdb_tasks.specs.NamedDatabases.{IsDumped, IsPrinted, IsSummary}
-use Rattle.hwdb_tasks.specs.Done.{IsAnswered, IsAsked, IsLeftByUpdate, IsListFrom, IsUpdated, explain_form, queries_form}
+use Rattle.hwdb_tasks.specs.Queries.{AreAnswered, is_input}
+use Rattle.hwdb_tasks.specs.Done.{IsAnswered, IsAsked, IsLeftByUpdate, IsListFrom, IsUpdated, explain_form}
 
 -- the root in front of each path; nothing where none was given
 abbrev pub root_of : Job → List ℕ
@@ -24,36 +25,36 @@ abbrev pub IsQuiet : (status : ℕ) (old new : Contents) (err_before err_now : O
 IsQuiet status old new err_before err_now = (status ≡ 0) × Same old new × (err_now ≡ err_before)
 
 -- what a task leaves that is done
-abbrev pub IsTaskDone : Task → (root : List ℕ) (usr strict : Bool) (status : ℕ) (old new : Contents) (left : Outcomes) (err_before err_now out_before out_now : Option (List ℕ)) → Type 0
-IsTaskDone Update root usr strict status old new left err_before err_now out_before out_now =
+abbrev pub IsTaskDone : Task → (root : List ℕ) (usr strict : Bool) (status : ℕ) (input : Option (List ℕ)) (old new : Contents) (left : Outcomes) (err_before err_now out_before out_now : Option (List ℕ)) → Type 0
+IsTaskDone Update root usr strict status input old new left err_before err_now out_before out_now =
     IsUpdated root strict status old err_before err_now (λ database. InPlace (database_folder usr root) database old new left)
     × (out_now ≡ out_before)
-IsTaskDone (Query devices json) root usr strict status old new left err_before err_now out_before out_now =
-    IsAnswered root (IsTextOf (queries_form json (map string_bytes devices.items))) old out_before out_now × IsQuiet status old new err_before err_now
-IsTaskDone (Explain device json) root usr strict status old new left err_before err_now out_before out_now =
+IsTaskDone (Query devices json) root usr strict status input old new left err_before err_now out_before out_now =
+    AreAnswered root json (map string_bytes devices.items) input old out_before out_now × IsQuiet status old new err_before err_now
+IsTaskDone (Explain device json) root usr strict status input old new left err_before err_now out_before out_now =
     IsAnswered root (IsTextOf (explain_form json (string_bytes device))) old out_before out_now × IsQuiet status old new err_before err_now
-IsTaskDone (ListHits after limit device json) root usr strict status old new left err_before err_now out_before out_now =
+IsTaskDone (ListHits after limit device json) root usr strict status input old new left err_before err_now out_before out_now =
     IsAnswered root (IsListFrom json (string_bytes device) (option_map string_bytes after) limit) old out_before out_now × IsQuiet status old new err_before err_now
-IsTaskDone (Ask file device) root usr strict status old new left err_before err_now out_before out_now =
+IsTaskDone (Ask file device) root usr strict status input old new left err_before err_now out_before out_now =
     IsAsked (string_bytes file) (string_bytes device) old err_before err_now out_before out_now × (status ≡ 0) × Same old new
-IsTaskDone (Check files) root usr strict status old new left err_before err_now out_before out_now =
+IsTaskDone (Check files) root usr strict status input old new left err_before err_now out_before out_now =
     IsChecked (AreCheckedFiles (map string_bytes files.items) root old) strict status out_before out_now × Same old new × (err_now ≡ err_before)
-IsTaskDone (Diff old_path new_path) root usr strict status old new left err_before err_now out_before out_now =
+IsTaskDone (Diff old_path new_path) root usr strict status input old new left err_before err_now out_before out_now =
     IsCompared (string_bytes old_path) (string_bytes new_path) status old out_before out_now × Same old new × (err_now ≡ err_before)
-IsTaskDone (Verify database) root usr strict status old new left err_before err_now out_before out_now =
+IsTaskDone (Verify database) root usr strict status input old new left err_before err_now out_before out_now =
     IsPrinted (option_map string_bytes database) root IsSummary old out_before out_now × IsQuiet status old new err_before err_now
-IsTaskDone (Dump database) root usr strict status old new left err_before err_now out_before out_now =
+IsTaskDone (Dump database) root usr strict status input old new left err_before err_now out_before out_now =
     IsDumped (option_map string_bytes database) root old out_before out_now × IsQuiet status old new err_before err_now
 
 -- what a job leaves that is done
-abbrev pub IsDone : Job → (status : ℕ) (old new : Contents) (left : Outcomes) (err_before err_now out_before out_now : Option (List ℕ)) → Type 0
+abbrev pub IsDone : Job → (status : ℕ) (input : Option (List ℕ)) (old new : Contents) (left : Outcomes) (err_before err_now out_before out_now : Option (List ℕ)) → Type 0
 IsDone job = IsTaskDone job.task (root_of job) job.usr job.strict
 
 -- the words ask for a job, and it is done
-pub record IsJobDone (words : List (List ℕ)) (status : ℕ) (old new : Contents) (left : Outcomes) (err_before err_now out_before out_now : Option (List ℕ)) : Type 0 where
+pub record IsJobDone (words : List (List ℕ)) (status : ℕ) (input : Option (List ℕ)) (old new : Contents) (left : Outcomes) (err_before err_now out_before out_now : Option (List ℕ)) : Type 0 where
   pub job : Job
   pub asked : AskFor words job
-  pub done : IsDone job status old new left err_before err_now out_before out_now
+  pub done : IsDone job status input old new left err_before err_now out_before out_now
 
 -- the words ask for help or the version, which standard output took; nothing else changed
 pub record IsTold (words : List (List ℕ)) (old new : Contents) (err_before err_now out_before out_now : Option (List ℕ)) : Type 0 where
@@ -62,6 +63,11 @@ pub record IsTold (words : List (List ℕ)) (old new : Contents) (err_before err
   pub printed : Appends out_before out_now text
   pub files : Same old new
   pub err : err_now ≡ err_before
+
+-- the task reads standard input
+abbrev pub reads_input : Task → Bool
+reads_input (Query devices json) = is_input (map string_bytes devices.items)
+reads_input _ = false
 
 -- during a job: only an update leaves anything new
 abbrev pub OldOrDone : Job → (old : Contents) (outcomes : Outcomes) → Outcomes

@@ -14,7 +14,8 @@ use Rattle.hwdb_commands.specs.declared.errors.ToolError.TheVariants.{Memory, Wr
 use Rattle.hwdb_tasks.specs.CheckedFiles.{AreCheckedFiles}
 use Rattle.hwdb_tasks.specs.ComparedDatabases.{IsDiffRefused}
 use Rattle.hwdb_tasks.specs.NamedDatabases.{IsDumpRefused, IsVerifyRefused}
-use Rattle.hwdb_tasks.specs.Done.{IsListFrom, explain_form, queries_form}
+use Rattle.hwdb_tasks.specs.Done.{IsListFrom, explain_form}
+use Rattle.hwdb_tasks.specs.Queries.{AreUnanswered}
 use Rattle.hwdb_tool.specs.Program.{root_of}
 use Rattle.hwdb_system.specs.Refusals.{IsAt, Refused, refusal_line, refusal_text}
 use Rattle.hwdb_system.specs.declared.refusals.Refusal.TheVariants.{Plain}
@@ -27,28 +28,28 @@ pub record Taken : Type 0 where
   pub failures : ℕ
 
 -- a task is refused
-abbrev pub IsTaskRefused : Task → (root : List ℕ) (usr : Bool) → Refusal → (old new : Contents) (left_before left : Outcomes) (err_before err_then out_before out_now : Option (List ℕ)) → Type 0
-IsTaskRefused Update root usr refusal old new left_before left err_before err_then out_before out_now =
+abbrev pub IsTaskRefused : Task → (root : List ℕ) (usr : Bool) (input : Option (List ℕ)) → Refusal → (old new : Contents) (left_before left : Outcomes) (err_before err_then out_before out_now : Option (List ℕ)) → Type 0
+IsTaskRefused Update root usr input refusal old new left_before left err_before err_then out_before out_now =
     IsUpdateRefused root usr refusal old new left_before left err_before err_then × (out_now ≡ out_before)
-IsTaskRefused (Query devices json) root usr refusal old new left_before left err_before err_then out_before out_now =
-    IsAnswerRefused root IsQueryRefusal (IsTextOf (queries_form json (map string_bytes devices.items))) old refusal out_before out_now
+IsTaskRefused (Query devices json) root usr input refusal old new left_before left err_before err_then out_before out_now =
+    AreUnanswered root json (map string_bytes devices.items) input old refusal out_before out_now
     × (err_then ≡ err_before) × AreKept old new left_before left
-IsTaskRefused (Explain device json) root usr refusal old new left_before left err_before err_then out_before out_now =
+IsTaskRefused (Explain device json) root usr input refusal old new left_before left err_before err_then out_before out_now =
     IsAnswerRefused root IsQueryRefusal (IsTextOf (explain_form json (string_bytes device))) old refusal out_before out_now
     × (err_then ≡ err_before) × AreKept old new left_before left
-IsTaskRefused (ListHits after limit device json) root usr refusal old new left_before left err_before err_then out_before out_now =
+IsTaskRefused (ListHits after limit device json) root usr input refusal old new left_before left err_before err_then out_before out_now =
     IsAnswerRefused root (IsListRefusedBy (option_map string_bytes after)) (IsListFrom json (string_bytes device) (option_map string_bytes after) limit) old refusal out_before out_now
     × (err_then ≡ err_before) × AreKept old new left_before left
-IsTaskRefused (Ask file device) root usr refusal old new left_before left err_before err_then out_before out_now =
+IsTaskRefused (Ask file device) root usr input refusal old new left_before left err_before err_then out_before out_now =
     IsAskRefused (string_bytes file) (string_bytes device) old refusal err_before err_then out_before out_now × AreKept old new left_before left
-IsTaskRefused (Check files) root usr refusal old new left_before left err_before err_then out_before out_now =
+IsTaskRefused (Check files) root usr input refusal old new left_before left err_before err_then out_before out_now =
     IsCheckRefused (AreUncheckable (map string_bytes files.items) root old) (AreCheckedFiles (map string_bytes files.items) root old) refusal out_before out_now
     × (err_then ≡ err_before) × AreKept old new left_before left
-IsTaskRefused (Diff old_path new_path) root usr refusal old new left_before left err_before err_then out_before out_now =
+IsTaskRefused (Diff old_path new_path) root usr input refusal old new left_before left err_before err_then out_before out_now =
     IsDiffRefused (string_bytes old_path) (string_bytes new_path) old refusal out_before out_now × (err_then ≡ err_before) × AreKept old new left_before left
-IsTaskRefused (Verify database) root usr refusal old new left_before left err_before err_then out_before out_now =
+IsTaskRefused (Verify database) root usr input refusal old new left_before left err_before err_then out_before out_now =
     IsVerifyRefused (option_map string_bytes database) root old refusal out_before out_now × (err_then ≡ err_before) × AreKept old new left_before left
-IsTaskRefused (Dump database) root usr refusal old new left_before left err_before err_then out_before out_now =
+IsTaskRefused (Dump database) root usr input refusal old new left_before left err_before err_then out_before out_now =
     IsDumpRefused (option_map string_bytes database) root old refusal out_before out_now × (err_then ≡ err_before) × AreKept old new left_before left
 
 -- the status where a task is refused: 2 of `diff`, whose 1 says that something changed, else 1
@@ -68,12 +69,12 @@ pub record IsSaid (refusal : Refusal) (before now : Taken) : Type 0 where
   pub line : Refused (refusal_line (refusal_text said words)) before.bytes now.bytes before.failures now.failures
 
 -- The words ask for a job, and it is refused with this status. Standard error had failed by then only where the refusal is that it did.
-pub record IsJobRefused (words : List (List ℕ)) (status : ℕ) (old new : Contents) (left_before left : Outcomes) (err_before err_now : Taken) (out_before out_now : Option (List ℕ)) : Type 0 where
+pub record IsJobRefused (words : List (List ℕ)) (status : ℕ) (input : Option (List ℕ)) (old new : Contents) (left_before left : Outcomes) (err_before err_now : Taken) (out_before out_now : Option (List ℕ)) : Type 0 where
   pub job : Job
   pub asked : AskFor words job
   pub refusal : Refusal
   pub err_then : Taken
-  pub refused : IsTaskRefused job.task (root_of job) job.usr refusal old new left_before left err_before.bytes err_then.bytes out_before out_now
+  pub refused : IsTaskRefused job.task (root_of job) job.usr input refusal old new left_before left err_before.bytes err_then.bytes out_before out_now
   pub unfailed : refusal ≢ Plain Write → err_then.failures ≡ err_before.failures
   pub said : IsSaid refusal err_then err_now
   pub says : status ≡ refused_status job.task

@@ -1,15 +1,17 @@
 //! The program: its words, its files, its status and its refusal lines.
-ghost use Rattle.std.specs.Prelude.{◌≡◌, ◌≢◌, ◌<◌, ◌≤◌, ◌⊎◌, Some, map, option_map, string_bytes, IfOk, IfErr};
+ghost use Rattle.std.specs.Prelude.{◌≡◌, ◌≢◌, ◌<◌, ◌≤◌, ◌⊎◌, false, Some, map, option_map, string_bytes, IfOk, IfErr};
 ghost use Rattle.hwdb_spec.specs.Store as spec;
 ghost use Rattle.hwdb_spec.specs.Failures.{HasFailed};
 ghost use Rattle.hwdb_cli.specs.Refusals.{AreWrong};
-ghost use Rattle.hwdb_tool.specs.Program.{IsDone, IsJobDone, IsTold, OldOrAskedFor, OldOrDone, root_of};
+ghost use Rattle.hwdb_cli.specs.Words.{AskFor};
+ghost use Rattle.hwdb_cli.specs.declared.job.Job.{Job};
+ghost use Rattle.hwdb_tool.specs.Program.{IsDone, IsJobDone, IsTold, OldOrAskedFor, OldOrDone, reads_input, root_of};
 ghost use Rattle.hwdb_tool.specs.TaskRefusals.{AreRefused, IsJobRefused, IsSaid, IsTaskRefused, refused_status};
 ghost use Rattle.hwdb_system.specs.declared.refusals.Refusal.TheVariants.{Plain};
 
 use hwdb_cli::{Job, Task, WordsFault, read_words};
 use hwdb_commands::{ToolError, write_text};
-use hwdb_devices::Sink;
+use hwdb_devices::{Sink, Source};
 use hwdb_system::{Refusal, System, refuse_for, refuse_text};
 use hwdb_tasks::{ask_file, check, diff, dump, explain, list, query, update, verify};
 use std::alloc::Global;
@@ -17,11 +19,12 @@ use std::alloc::Global;
 /// Does what the words say, the first of which is the program's name, and returns the status: 0; 1 where `check` or
 /// `diff` finds something, or `--strict` says so, and after a refusal, whose line goes to `err`; 2 after one of `diff`.
 /// Words that the command doesn't take, and that ask for no help, are refused. Where the reader of `out` went away the
-/// status is 0, and nothing is said.
-pub fn program<D: System, O: Sink, E: Sink>(
+/// status is 0, and nothing is said. Of `input` only `query -` reads.
+pub fn program<D: System, I: Source, O: Sink, E: Sink>(
     alloc: Global,
     words: &[String],
     system: &mut D,
+    input: &mut I,
     out: &mut O,
     err: &mut E,
 ) -> u8
@@ -31,18 +34,23 @@ pub fn program<D: System, O: Sink, E: Sink>(
         → spec.LeavesOnly D.Store.moment D.Store.left_since system.old system.new
         (OldOrAskedFor (map string_bytes words.now)
         (D.Store.seen system.old) (D.Store.may_leave system.old)) }
+    ensures unread { ((job : Job) → AskFor (map string_bytes words.now) job
+        → reads_input job.task ≡ false) → input.new ≡ input.old }
     ensures done { D.Store.tells → result ≡ 0 → IsJobDone (map string_bytes words.now) 0
-        (D.Store.seen system.old) (D.Store.seen system.new) (D.Store.may_leave system.new)
+        (I.left input.old) (D.Store.seen system.old) (D.Store.seen system.new)
+        (D.Store.may_leave system.new)
         (E.taken err.old) (E.taken err.new) (O.taken out.old) (O.taken out.new)
         ⊎ (IsTold (map string_bytes words.now) (D.Store.seen system.old) (D.Store.seen system.new)
         (E.taken err.old) (E.taken err.new) (O.taken out.old) (O.taken out.new)
         ⊎ (HasFailed (E.failures err.old) (E.failures err.new)
         ⊎ HasFailed (O.failures out.old) (O.failures out.new))) }
     ensures refused { D.Store.tells → 0 < result → IsJobDone (map string_bytes words.now) result
-        (D.Store.seen system.old) (D.Store.seen system.new) (D.Store.may_leave system.new)
+        (I.left input.old) (D.Store.seen system.old) (D.Store.seen system.new)
+        (D.Store.may_leave system.new)
         (E.taken err.old) (E.taken err.new) (O.taken out.old) (O.taken out.new)
-        ⊎ (IsJobRefused (map string_bytes words.now) result (D.Store.seen system.old)
-        (D.Store.seen system.new) (D.Store.may_leave system.old) (D.Store.may_leave system.new)
+        ⊎ (IsJobRefused (map string_bytes words.now) result (I.left input.old)
+        (D.Store.seen system.old) (D.Store.seen system.new)
+        (D.Store.may_leave system.old) (D.Store.may_leave system.new)
         (record { bytes = E.taken err.old; failures = E.failures err.old })
         (record { bytes = E.taken err.new; failures = E.failures err.new })
         (O.taken out.old) (O.taken out.new)
@@ -53,7 +61,7 @@ pub fn program<D: System, O: Sink, E: Sink>(
         (O.taken out.old) (O.taken out.new)) }
 {
     match read_words(alloc, words) {
-        Ok(job) => match run(alloc, &job, system, out, err) {
+        Ok(job) => match run(alloc, &job, system, input, out, err) {
             Ok(status) => status,
             Err(refusal) => refuse_job(alloc, refusal, refused_status(&job.task), out, err),
         },
@@ -115,10 +123,11 @@ fn refused_status(task: &Task) -> u8
 }
 
 /// Does the job, and returns the status: 1 where `check` or `diff` finds something or `--strict` says so, else 0.
-fn run<D: System, O: Sink, E: Sink>(
+fn run<D: System, I: Source, O: Sink, E: Sink>(
     alloc: Global,
     job: &Job,
     system: &mut D,
+    input: &mut I,
     out: &mut O,
     err: &mut E,
 ) -> Result<u8, Refusal>
@@ -126,11 +135,14 @@ fn run<D: System, O: Sink, E: Sink>(
     ensures any_moment { D.Store.tells
         → spec.LeavesOnly D.Store.moment D.Store.left_since system.old system.new
         (OldOrDone job.now (D.Store.seen system.old) (D.Store.may_leave system.old)) }
+    ensures unread { reads_input job.now.task ≡ false → input.new ≡ input.old }
     ensures done { D.Store.tells → IfOk result (λ status. IsDone job.now status
-        (D.Store.seen system.old) (D.Store.seen system.new) (D.Store.may_leave system.new)
+        (I.left input.old) (D.Store.seen system.old) (D.Store.seen system.new)
+        (D.Store.may_leave system.new)
         (E.taken err.old) (E.taken err.new) (O.taken out.old) (O.taken out.new)) }
     ensures refused { D.Store.tells → IfErr result (λ r. IsTaskRefused job.now.task
-        (root_of job.now) job.now.usr r (D.Store.seen system.old) (D.Store.seen system.new)
+        (root_of job.now) job.now.usr (I.left input.old) r
+        (D.Store.seen system.old) (D.Store.seen system.new)
         (D.Store.may_leave system.old) (D.Store.may_leave system.new)
         (E.taken err.old) (E.taken err.new) (O.taken out.old) (O.taken out.new)) }
     ensures unfailed { IfErr result (λ r. r ≢ Plain ToolError.Write
@@ -142,7 +154,9 @@ fn run<D: System, O: Sink, E: Sink>(
     let root = root_of(job);
     match &job.task {
         Task::Update => return update(alloc, root, job.usr, job.strict, system, err),
-        Task::Query { devices, json } => query(alloc, root, devices, *json, system, out)?,
+        Task::Query { devices, json } => {
+            query(alloc, root, devices, *json, system, input, out)?
+        },
         Task::Explain { device, json } => {
             explain(alloc, root, device.as_bytes(), *json, system, out)?
         }

@@ -1,6 +1,6 @@
 //! The program over a store in memory: its words, its files, what it prints and its status.
 use crate::program;
-use hwdb_devices::testing::MemorySink;
+use hwdb_devices::testing::{MemorySink, MemorySource};
 use hwdb_store::{Memory, Store};
 use std::alloc::Global;
 use std::process::Abort;
@@ -13,7 +13,7 @@ fn put(store: &mut Memory, folder: &str, name: &str, bytes: &[u8]) -> Result<(),
     Ok(())
 }
 
-/// Runs the program, whose words are these after its name, and returns its status.
+/// Runs the program, whose words are these after its name, and returns its status. Standard input has the lines `ab` and `x`.
 fn run(
     alloc: Global,
     store: &mut Memory,
@@ -26,7 +26,8 @@ fn run(
     for word in line.split(' ') {
         words.push(String::from_str(alloc, word)?)?;
     }
-    Ok(program(alloc, &words, store, out, err))
+    let mut input = MemorySource::new(b"ab\nx\n");
+    Ok(program(alloc, &words, store, &mut input, out, err))
 }
 
 /// Asserts what the program answers: its status, and what it prints to standard output and to standard error.
@@ -73,6 +74,7 @@ fn update_then_query(rt: HostRuntime) -> Result<(), Fail> {
     expect(&rt, alloc, store, "update -r /r", (0, "", fault))?;
     expect(&rt, alloc, store, "query -r /r ab", (0, "K=2\nL=1\n", ""))?;
     expect(&rt, alloc, store, "query -r /r x", (0, "", ""))?;
+    expect(&rt, alloc, store, "query -r /r -", (0, "K=2\nL=1\n\n", ""))?;
     let file = "ask /r/usr/lib/udev/hwdb.d/20-b.hwdb ab";
     expect(&rt, alloc, store, file, (0, "K=3\n", ""))
 }

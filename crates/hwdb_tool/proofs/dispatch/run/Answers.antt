@@ -27,9 +27,10 @@ returns-in_err-list-in-List-clause-refused g c = λ tells.
     let before = g.O.Sink.taken c.args.out.now in
     let now = g.O.Sink.taken c.list.new.out in
     let refusal = c.in_err-list-in-List.field-0.0 in
-    given_error refusal (λ r. IsTaskRefused job.task (root_of job) job.usr r seen seen left left err err before now)
+    let input = g.I.Source.left c.args.input.now in
+    given_error refusal (λ r. IsTaskRefused job.task (root_of job) job.usr input r seen seen left left err err before now)
     c.from_residual-in_err-list-in-List.result c.from_residual-in_err-list-in-List.ensures.1
-    (subst (λ t. IsTaskRefused t (root_of job) job.usr refusal seen seen left left err err before now) (sym c.in-List.is) (
+    (subst (λ t. IsTaskRefused t (root_of job) job.usr input refusal seen seen left left err err before now) (sym c.in-List.is) (
       subst (λ a. IsAnswerRefused (root_of job) (IsListRefusedBy a) (IsListFrom c.in-List.json (string_bytes c.in-List.device) a c.in-List.limit) seen refusal before now) c.text_of-after.ensures
           (subst (λ d. IsAnswerRefused (root_of job) (IsListRefusedBy (option_map (λ t. t.now) c.text_of-after.result)) (IsListFrom c.in-List.json d (option_map (λ t. t.now) c.text_of-after.result) c.in-List.limit) seen refusal before now) c.as_bytes-in-List.ensures.value
           (subst (λ r. IsAnswerRefused r (IsListRefusedBy (option_map (λ t. t.now) c.text_of-after.result)) (IsListFrom c.in-List.json c.as_bytes-in-List.result.now (option_map (λ t. t.now) c.text_of-after.result) c.in-List.limit) seen refusal before now) c.root_of-root.ensures

@@ -1,0 +1,60 @@
+-- `query` of the devices of its words, or with a lone `-` of those that standard input names, one a line: what it leaves, and
+-- what it refuses. Our choice.
+use Rattle.std.specs.Prelude.{◌≡◌, ◌<◌, ◌⊎◌, ℕ, Bool, true, false, List, [], ◌∷◌, Option, Some, IfSome, codes, length}
+use Rattle.std.specs.Str.{bytes_eq}
+use Rattle.hwdb_spec.specs.Store.{Contents}
+use Rattle.hwdb_spec.specs.System.{asked_database}
+use Rattle.hwdb_spec.specs.Texts.{devices_of, max_file}
+use Rattle.hwdb_commands.specs.Devices.{WrotePrefix}
+use Rattle.hwdb_commands.specs.Lookups.{IsQueryRefusal, IsTextOf}
+use Rattle.hwdb_commands.specs.declared.errors.ToolError.TheVariants.{Read, TooLong}
+use Rattle.hwdb_commands.specs.declared.errors.ToolError.{ToolError}
+use Rattle.hwdb_stream.specs.Streams.{IfBadDatabase, IsStreamRefusal, texts_of}
+use Rattle.hwdb_system.specs.Refusals.{IsAt}
+use Rattle.hwdb_system.specs.declared.refusals.Refusal.TheVariants.{Plain}
+use Rattle.hwdb_system.specs.declared.refusals.Refusal.{Refusal}
+use Rattle.hwdb_tasks.specs.Done.{IsAnswered}
+use Rattle.hwdb_tasks.specs.Undone.{IsAnswerRefused, IsUnfound}
+
+-- the devices are those that standard input names
+abbrev pub is_input : (devices : List (List ℕ)) → Bool
+is_input [] = false
+is_input (device ∷ []) = bytes_eq device (codes "-")
+is_input (device ∷ next ∷ more) = false
+
+-- standard output took what the database gives these devices, or, where the input tells its bytes, those that it names
+abbrev pub AreAnsweredFrom : (from_input : Bool) (root : List ℕ) (json : Bool) (devices : List (List ℕ)) (input : Option (List ℕ)) → Contents → (out_before out_now : Option (List ℕ)) → Type 0
+AreAnsweredFrom false root json devices input contents out_before out_now = IsAnswered root (IsTextOf (texts_of json devices)) contents out_before out_now
+AreAnsweredFrom true root json devices input contents out_before out_now = IfSome input (λ text. IsAnswered root (IsTextOf (texts_of json (devices_of text))) contents out_before out_now)
+
+abbrev pub AreAnswered : (root : List ℕ) (json : Bool) (devices : List (List ℕ)) (input : Option (List ℕ)) → Contents → (out_before out_now : Option (List ℕ)) → Type 0
+AreAnswered root json devices = AreAnsweredFrom (is_input devices) root json devices
+
+-- the refusal of an error: one of the input says so
+abbrev pub IsOfInput : ToolError → Refusal → Type 0
+IsOfInput Read refusal = IsAt Read (codes "standard input") refusal
+IsOfInput TooLong refusal = IsAt TooLong (codes "a line of standard input") refusal
+IsOfInput error refusal = refusal ≡ Plain error
+
+-- answering the devices of the input was refused, and standard output has what it had, or a prefix
+pub record IsUnstreamed (root : List ℕ) (json : Bool) (input : Option (List ℕ)) (contents : Contents) (error : ToolError) (out_before out_now : Option (List ℕ)) : Type 0 where
+  pub bytes : List ℕ
+  pub asked : asked_database root contents ≡ Some bytes
+  pub refused : IsStreamRefusal bytes error
+  pub long : error ≡ TooLong → IfSome input (λ text. max_file < length text)
+  pub untouched : IfBadDatabase (out_now ≡ out_before) error
+  pub cut_short : (out_now ≡ out_before) ⊎ IfSome input (λ text. WrotePrefix (IsTextOf (texts_of json (devices_of text)) bytes) out_before out_now)
+
+-- the same, or the database can't be read
+abbrev pub IsStreamRefused : (root : List ℕ) (json : Bool) (input : Option (List ℕ)) → Contents → Refusal → (out_before out_now : Option (List ℕ)) → Type 0
+IsStreamRefused root json input contents refusal out_before out_now =
+    (IsUnfound root contents refusal × (out_now ≡ out_before))
+    ⊎ ((error : ToolError) × IsOfInput error refusal × IsUnstreamed root json input contents error out_before out_now)
+
+-- `query` is refused
+abbrev pub AreUnansweredFrom : (from_input : Bool) (root : List ℕ) (json : Bool) (devices : List (List ℕ)) (input : Option (List ℕ)) → Contents → Refusal → (out_before out_now : Option (List ℕ)) → Type 0
+AreUnansweredFrom false root json devices input contents refusal out_before out_now = IsAnswerRefused root IsQueryRefusal (IsTextOf (texts_of json devices)) contents refusal out_before out_now
+AreUnansweredFrom true root json devices input contents refusal out_before out_now = IsStreamRefused root json input contents refusal out_before out_now
+
+abbrev pub AreUnanswered : (root : List ℕ) (json : Bool) (devices : List (List ℕ)) (input : Option (List ℕ)) → Contents → Refusal → (out_before out_now : Option (List ℕ)) → Type 0
+AreUnanswered root json devices = AreUnansweredFrom (is_input devices) root json devices

@@ -1,0 +1,117 @@
+//! `query`: what each of several devices gets, those of the words or those that standard input names.
+ghost use Rattle.std.specs.Prelude.{◌≡◌, ◌≢◌, false, map, string_bytes, IfErr, IfSome, OnOk};
+ghost use Rattle.hwdb_spec.specs.Failures.{HasFailed};
+ghost use Rattle.hwdb_spec.specs.Texts.{devices_of};
+ghost use Rattle.hwdb_commands.specs.Lookups.{IsQueryRefusal, IsTextOf};
+ghost use Rattle.hwdb_stream.specs.Streams.{texts_of};
+ghost use Rattle.hwdb_tasks.specs.Done.{IsAnswered};
+ghost use Rattle.hwdb_tasks.specs.Queries.{AreAnswered, AreUnanswered, IsOfInput, IsStreamRefused, is_input};
+ghost use Rattle.hwdb_tasks.specs.Undone.{IsAnswerRefused};
+ghost use Rattle.hwdb_system.specs.declared.refusals.Refusal.TheVariants.{Plain};
+
+use crate::databases::asked;
+use hwdb_commands::{ToolError, run_queries, run_queries_json};
+use hwdb_devices::{Cause, Sink, Source};
+use hwdb_stream::run_stream;
+use hwdb_system::{Refusal, System};
+use std::alloc::Global;
+
+/// Prints the properties that the database below the root gives each device. Where the only device is `-`, they are those
+/// that `input` names, one a line, and each is answered as soon as its line is read; else nothing is read of `input`.
+pub fn query<D: System, I: Source, O: Sink>(
+    alloc: Global,
+    root: &str,
+    devices: &[String],
+    json: bool,
+    system: &D,
+    input: &mut I,
+    out: &mut O,
+) -> Result<(), Refusal>
+    ensures answered { D.Store.tells → OnOk result
+        (AreAnswered root.now json (map string_bytes devices.now) (I.left input.old)
+        (D.Store.seen system.now) (O.taken out.old) (O.taken out.new)) }
+    ensures refused { D.Store.tells → IfErr result (λ r. AreUnanswered root.now json
+        (map string_bytes devices.now) (I.left input.old) (D.Store.seen system.now) r
+        (O.taken out.old) (O.taken out.new)) }
+    ensures unread { is_input (map string_bytes devices.now) ≡ false → input.new ≡ input.old }
+    ensures cause { IfErr result (λ r. r ≡ Plain ToolError.Write
+        → HasFailed (O.failures out.old) (O.failures out.new)) }
+{
+    if is_input(devices) {
+        return query_input(alloc, root, json, system, input, out);
+    }
+    query_given(alloc, root, devices, json, system, out)
+}
+
+/// Whether standard input names the devices: a lone `-` stands in their place.
+fn is_input(devices: &[String]) -> bool
+    ensures { result ≡ is_input (map string_bytes devices.now) }
+{
+    match devices {
+        [device] => device.as_str() == "-",
+        _ => false,
+    }
+}
+
+/// Prints the properties that the database below the root gives each of these devices.
+fn query_given<D: System, O: Sink>(
+    alloc: Global,
+    root: &str,
+    devices: &[String],
+    json: bool,
+    system: &D,
+    out: &mut O,
+) -> Result<(), Refusal>
+    ensures answered { D.Store.tells → OnOk result
+        (IsAnswered root.now (IsTextOf (texts_of json (map string_bytes devices.now)))
+        (D.Store.seen system.now) (O.taken out.old) (O.taken out.new)) }
+    ensures refused { D.Store.tells → IfErr result (λ r. IsAnswerRefused root.now IsQueryRefusal
+        (IsTextOf (texts_of json (map string_bytes devices.now)))
+        (D.Store.seen system.now) r (O.taken out.old) (O.taken out.new)) }
+    ensures cause { IfErr result (λ r. r ≡ Plain ToolError.Write
+        → HasFailed (O.failures out.old) (O.failures out.new)) }
+{
+    let found = asked(alloc, root, system)?;
+    if json {
+        run_queries_json(alloc, &found.bytes, devices, out)?;
+    } else {
+        run_queries(alloc, &found.bytes, devices, out)?;
+    }
+    Ok(())
+}
+
+/// Prints the properties that the database below the root gives each device that `input` names, one a line.
+fn query_input<D: System, I: Source, O: Sink>(
+    alloc: Global,
+    root: &str,
+    json: bool,
+    system: &D,
+    input: &mut I,
+    out: &mut O,
+) -> Result<(), Refusal>
+    ensures answered { D.Store.tells → OnOk result (IfSome (I.left input.old)
+        (λ text. IsAnswered root.now (IsTextOf (texts_of json (devices_of text)))
+        (D.Store.seen system.now) (O.taken out.old) (O.taken out.new))) }
+    ensures refused { D.Store.tells → IfErr result (λ r. IsStreamRefused root.now json
+        (I.left input.old) (D.Store.seen system.now) r (O.taken out.old) (O.taken out.new)) }
+    ensures cause { IfErr result (λ r. r ≡ Plain ToolError.Write
+        → HasFailed (O.failures out.old) (O.failures out.new)) }
+{
+    let found = asked(alloc, root, system)?;
+    match run_stream(alloc, &found.bytes, json, input, out) {
+        Ok(()) => Ok(()),
+        Err(error) => Err(refusal_of(alloc, error, input.cause())),
+    }
+}
+
+/// What is refused where the devices of standard input can't be answered.
+fn refusal_of(alloc: Global, error: ToolError, cause: Option<Cause>) -> Refusal
+    ensures is { IsOfInput error result }
+    ensures write { result ≡ Plain ToolError.Write → error ≡ ToolError.Write }
+{
+    match error {
+        ToolError::Read => Refusal::at(alloc, error, b"standard input", cause),
+        ToolError::TooLong => Refusal::at(alloc, error, b"a line of standard input", None),
+        error => Refusal::from(error),
+    }
+}
