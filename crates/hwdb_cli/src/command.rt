@@ -119,7 +119,9 @@ fn devices_argument<'a>(alloc: Global) -> Arg<'a>
     ensures local { result.global ≡ false }
 {
     Arg::new(alloc, "MODALIAS")
-        .help("The device strings; one that begins with - stands after --")
+        .help(
+            "The device strings, or - for the lines of standard input; one that begins with - stands after --",
+        )
         .required(true)
         .action(ArgAction::Append)
 }
