@@ -114,7 +114,7 @@ def text_file(rng, pool):
         lines += rng.choice([[b""], [b""], [b"", b""], [b"\r"], []])
     if rng.random() < 0.1:
         lines = [soup_line(rng, pool) for _ in range(8)]
-    text = b"\n".join(lines)
+    text = rng.choice([b"", b"", b"", b"", b"\xef\xbb\xbf"]) + b"\n".join(lines)
     return text + rng.choice([b"\n", b"\n", b"", b"\n\n", b" ", b"\0"])
 
 

@@ -551,6 +551,257 @@ def listed(assignments, device, after, limit, line_of=list_line):
     return b"".join(lines if limit is None else lines[:limit])
 
 
+def several(texts):
+    """The texts of several devices, an empty line between two."""
+    return b"\n".join(texts)
+
+
+def devices_of(text):
+    """The devices that standard input names: its lines."""
+    return [line for _, line in lines_of(text)]
+
+
+# What `check` prints.
+
+FAULT_HINTS = {
+    1: b"put a match line above it, with no empty line between them",
+    2: b"put a property below it, on a line that begins with a space, or take the match line away",
+    3: b"put an empty line above it, and its properties below it",
+    4: b"write it as KEY=VALUE; a match line begins without a space",
+    5: b"put a key in front of the =",
+    6: b"take the byte away, or save the file as text without bytes 0, as UTF-8",
+    7: b"shorten it, as by a * in place of what may differ",
+}
+WARNINGS = {
+    "mark": (b"the pattern begins with a byte order mark", b"save the file without a byte order mark"),
+    "tab": (b"a match line that begins with a tab", b"begin a property with a space"),
+    "return": (b"a carriage return in the middle of the line", b"end each line with a newline alone"),
+    "open": (b"a [ that is never closed stands for itself", b"close it with a ], or write [[] for the byte"),
+    "empty": (b"a range without members", b"put the lower end of the range first"),
+    "blank": (b"a blank beside the first =", b"take it away: it belongs to the key or to the value"),
+    "repeated": (b"a match line that stands in its record already", b"take one of the two away"),
+}
+MOST_SHOWN = 160
+
+
+def shown(text):
+    """Bytes 32 to 126 as they stand, and the others in hexadecimal."""
+    return b"".join(b"%c" % byte if 32 <= byte <= 126 else b"\\x%02x" % byte for byte in text)
+
+
+def report(path, number, what, text, place, hint):
+    """A line and the place in it, counted in bytes from 0, between what is said of it and what to do."""
+    cut = b"..." if len(text) > MOST_SHOWN else b""
+    mark = b"    " + b" " * len(shown(text[:place])) + b"^\n" if place < MOST_SHOWN else b""
+    line = b"    " + shown(text[:MOST_SHOWN]) + cut + b"\n"
+    return b"%s:%d: %s\n" % (path, number, what) + line + mark + b"    hint: " + hint + b"\n"
+
+
+def indent_of(text):
+    return len(text) - len(text.lstrip(b" \t"))
+
+
+def fault_place(kind, text):
+    if kind in (1, 4, 5):
+        return indent_of(text)
+    return {6: text.find(b"\0"), 7: LONGEST_PATTERN}.get(kind, 0)
+
+
+def first_open(pattern):
+    """Where the first `[` stands that begins no closed bracket; the pattern's length where there is none."""
+    at = 0
+    while at < len(pattern):
+        if pattern[at : at + 1] == b"[":
+            bracket = bracket_at(pattern, at)
+            if bracket is None:
+                return at
+            at = bracket[1]
+        else:
+            at += 1
+    return at
+
+
+def empty_range(pattern):
+    """Where the first range stands whose first byte is above its last one, before any open `[`; None if there is none."""
+    at, end = 0, first_open(pattern)
+    while at < end:
+        if pattern[at : at + 1] != b"[":
+            at += 1
+            continue
+        behind = bracket_at(pattern, at)[1]
+        at += 2 if pattern[at + 1 : at + 2] in (b"!", b"^") else 1
+        while at < behind - 1:
+            members, after = item_at(pattern, at)
+            if not members:
+                return at
+            at = after
+        at = behind
+    return None
+
+
+def repeated_lines(text):
+    """The numbers of the match lines that repeat one of those directly above them."""
+    found, above = [], []
+    for number, line in lines_of(text):
+        if line.startswith(b"#") or b"\0" in line:
+            continue
+        if not is_match(clean(line)):
+            above = []
+            continue
+        if clean(line) in above:
+            found.append(number)
+        above.append(clean(line))
+    return found
+
+
+def warnings_of(text):
+    """The warnings of a file as (line, text of the line, kind, place), by line."""
+    found, repeated = [], set(repeated_lines(text))
+    for number, line in lines_of(text):
+        cleaned = clean(line)
+        if line.startswith(b"#") or b"\0" in line:
+            continue
+        key, equals, value = cleaned.lstrip(b" \t").partition(b"=")
+        kinds = [
+            ("mark", 0, cleaned.startswith(b"\xef\xbb\xbf")),
+            ("tab", 0, cleaned.startswith(b"\t")),
+            ("return", line.find(b"\r"), b"\r" in cleaned),
+            ("open", first_open(cleaned), is_match(cleaned) and first_open(cleaned) < len(cleaned)),
+            ("empty", empty_range(cleaned), is_match(cleaned) and empty_range(cleaned) is not None),
+            (
+                "blank",
+                line.find(b"="),
+                is_property(cleaned) and equals and key and (key[-1:] in b" \t" or value[:1] in (b" ", b"\t")),
+            ),
+            ("repeated", 0, number in repeated),
+        ]
+        found += [(number, line, kind, place) for kind, place, holds in kinds if holds]
+    return found
+
+
+def counted(number, word):
+    return b"%d %s%s" % (number, word, b"" if number == 1 else b"s")
+
+
+def checked(files, strict):
+    """What `check` prints of files, given as (path, bytes), and its status."""
+    printed, counts = b"", [len(files), 0, 0, 0]
+    for path, text in files:
+        texts = dict(lines_of(text))
+        assignments, faults = read_file(path, 1, text)
+        warnings = warnings_of(text)
+        for number, kind in faults:
+            line = texts[number]
+            printed += report(path, number, FAULT_TEXTS[kind], line, fault_place(kind, line), FAULT_HINTS[kind])
+        for number, line, kind, place in warnings:
+            what, hint = WARNINGS[kind]
+            printed += report(path, number, b"warning: " + what, line, place, hint)
+        counts[1] += len(assignments)
+        counts[2] += len(faults)
+        counts[3] += len(warnings)
+    words = [b"file", b"assignment", b"fault", b"warning"]
+    printed += b", ".join(counted(number, word) for number, word in zip(counts, words)) + b"\n"
+    return printed, 1 if counts[2] or strict and counts[3] else 0
+
+
+# What `dump`, `verify` and `diff` print.
+
+
+def record_text(a):
+    return b"# %s:%d\n%s\n %s=%s\n\n" % (a.path, a.line, a.pattern, a.key, a.value)
+
+
+def is_said(a):
+    """Whether the record, read as a file, says this assignment and nothing else."""
+    said, faults = read_file(a.path, a.priority, record_text(a))
+    return not faults and [(b.pattern, b.key, b.value) for b in said] == [(a.pattern, a.key, a.value)]
+
+
+def dumped(assignments):
+    """The text of a database, and None; or None, and the first pattern that no text can say."""
+    for a in sorted(assignments, key=position_of):
+        if not is_said(a):
+            return None, a.pattern
+    return b"".join(record_text(a) for a in sorted(assignments, key=position_of)), None
+
+
+def shape_in(data):
+    """How many nodes a database without a fault has, and how many stand one below the other at most."""
+    _, _, _, *sizes, root_at, _, _ = HEADER.unpack(data[:80])
+    return shape_at(data, Sizes(*sizes), root_at)
+
+
+def shape_at(data, sizes, node_at):
+    _, children, _ = NODE.unpack_from(data, node_at)
+    count, deepest = 1, 0
+    for number in range(children):
+        _, child_at = CHILD.unpack_from(data, node_at + sizes.node + number * sizes.child)
+        more, depth = shape_at(data, sizes, child_at)
+        count, deepest = count + more, max(deepest, depth)
+    return count, deepest + 1
+
+
+def verified(data):
+    assignments = assignments_in(data)
+    nodes, depth = shape_in(data)
+    counts = {
+        "files": len({a.path for a in assignments}),
+        "patterns": len({a.pattern for a in assignments}),
+        "keys": len({a.key for a in assignments}),
+        "assignments": len(assignments),
+        "nodes": nodes,
+        "depth": depth,
+        "bytes": len(data),
+    }
+    return b"".join(b"%s: %d\n" % (name.encode(), number) for name, number in counts.items())
+
+
+CUT = "the file was cut short or written over"
+DAMAGED = "the file is damaged, or a tool wrote it that orders its records otherwise"
+VERDICTS = {
+    "B1": ("it has fewer than the 80 bytes of a header", "the file was cut short, or is no hardware database"),
+    "B2": ("it doesn't begin with the signature KSLPHHRH", "the file is no hardware database"),
+    "B3": (
+        "its header or its records are shorter than their known fields",
+        "an old tool wrote the file, or it is damaged",
+    ),
+    "B4": ("its length isn't the one that its header says", CUT),
+    "B5": ("it has no strings, or the last one has no end", CUT),
+    "B6": ("a node, or its children, isn't where the order of the nodes has it", DAMAGED),
+    "B7": ("a node is more than 4097 nodes deep", DAMAGED),
+    "B8": ("a child of a node has byte 0, or one that isn't above that of the child before it", DAMAGED),
+    "B9": ("a string is said to be outside of the strings", DAMAGED),
+    "B10": ("a key of a node isn't above the key before it", DAMAGED),
+    "B11": ("the file of an assignment has priority 0", DAMAGED),
+}
+
+
+def verdict(fault):
+    """What `verify` says of a fault, behind the path of the database."""
+    what, cause = VERDICTS[fault.split()[0]]
+    hint = "write it anew with hwdb update"
+    return "bad database: %s\n    %s\n    cause: %s\n    hint: %s" % (fault, what, cause, hint)
+
+
+def differences(old, new):
+    """The lines of what came, went and changed, by pattern and key."""
+    was, now = ({(a.pattern, a.key): a for a in assignments} for assignments in (old, new))
+    text = b""
+    for place in sorted({*was, *now}):
+        before, after = was.get(place), now.get(place)
+        if before is None:
+            text += b"+\t%s\t%s\n" % (place[0], sourced(after))
+        elif after is None:
+            text += b"-\t%s\t%s\n" % (place[0], sourced(before))
+        elif before.value != after.value:
+            text += b"~\t%s\t%s\t%s\n" % (place[0], sourced(before), sourced(after))
+    return text
+
+
+def sourced(a):
+    return b"%s=%s\t%s:%d" % (a.key, a.value, a.path, a.line)
+
+
 # What they print with `--json`: a text is a string where it is UTF-8, else the list of its bytes.
 
 
