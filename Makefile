@@ -57,7 +57,7 @@ check:
 	mkdir -p out
 	cp crates/hwdb/out/hwdb out/hwdb
 	tests/documents
-	tests/definitions
+	tests/definitions hwdb_reader hwdb_pattern hwdb_text
 	tests/refused
 	$(MAKE) lib
 	tests/words out/hwdb
@@ -72,9 +72,10 @@ check:
 	tests/memory out/hwdb
 	tests/random out/hwdb
 
-# Wrong bodies beyond those of `make check`; CRATES="hwdb_query hwdb_text" tries those of some crates.
+# Wrong bodies and wrong definitions beyond those of `make check`; CRATES="hwdb_query hwdb_text" tries those of some crates.
 check-edits:
 	tests/wrong-bodies $(CRATES)
+	tests/definitions $(CRATES)
 
 check-peer: all lib
 	tests/peer out/hwdb
