@@ -6,4 +6,6 @@ pub mod WholeLemmas
 pub mod KeyOrderLemmas
 pub mod FaultlessLemmas
 pub mod NodeLemmas
+pub mod PathLemmas
+pub mod WalkLemmas
 pub mod ViewLemmas

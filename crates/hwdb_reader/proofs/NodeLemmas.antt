@@ -123,6 +123,12 @@ pub byte_before_next : (l : Layout) (b : List ℕ) (off i : ℕ) → byte_before
 unfolding byte_before
 byte_before_next l b off i = rw add-one refl
 
+-- the byte before is that of the entry before
+pub byte_before_some : (l : Layout) (b : List ℕ) (off i : ℕ) → 0 < i → byte_before l b off i ≡ child_byte b (child_entry l off (i - 1))
+unfolding byte_before
+byte_before_some l b off zero lt = absurd (omega (arith, lt))
+byte_before_some l b off (suc i) lt = ap (λ j. child_byte b (child_entry l off j)) (omega arith)
+
 pub children_begin : (l : Layout) (b : List ℕ) (from off : ℕ) → from ≡ child_from l b from off 0
 unfolding child_from
 children_begin l b from off = refl

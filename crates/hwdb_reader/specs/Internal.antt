@@ -1,4 +1,6 @@
 -- What the proofs of this crate speak of.
 pub mod Codes
+pub mod Paths
 pub mod Placed
 pub mod Read
+pub mod Walks

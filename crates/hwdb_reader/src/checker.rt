@@ -27,7 +27,7 @@ pub fn check(bytes: &[u8]) -> Result<Db<'_>, DbFault>
     let frame = check_header(bytes)?;
     let root = frame.sizes.root;
     let strings = frame.sizes.strings;
-    let end = walk(bytes, frame, MAX_LEVELS, frame.sizes.nodes, root, strings)?;
+    let end = walk(bytes, frame, frame.sizes.nodes, root, strings)?;
     if end != strings {
         return Err(DbFault::Place(root as u64));
     }

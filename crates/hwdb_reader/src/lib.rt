@@ -5,7 +5,8 @@
 //! What a database of a tree is, and what each fault is, stands in the definitions of `hwdb_spec`.
 //!
 //! - `header`: the faults B1 to B5, in this order;
-//! - `walk`: the nodes, by recursion that the depth limit bounds;
+//! - `walk`: the nodes, by a loop over the open ones of one path;
+//! - `path`: these, in a table of a fixed size on the thread's stack;
 //! - `values`: the value entries of a node;
 //! - `fields` and `places`: single fields, and where records stand;
 //! - `view`: the nodes, children and values of a database that was accepted;
@@ -18,6 +19,7 @@ mod fields;
 mod frame;
 mod header;
 mod laws;
+mod path;
 mod places;
 mod reopened;
 mod values;

@@ -8,6 +8,16 @@ use crate::fields::{text, u16_at, u32_at, u64_at};
 use crate::frame::Frame;
 use crate::view::{Entry, Origin};
 
+/// Where the record at `off` ends.
+#[tactic(auto, unfolding(hwdb_spec::specs::Format::record_end))]
+pub fn record_end_at(b: &[u8], f: Frame, off: usize) -> usize
+    requires { record_end f.sizes b.now off ≤ length b.now }
+    ensures { result ≡ record_end f.sizes b.now off }
+{
+    let children = f.sizes.child_size * b[off + 8] as usize;
+    off + f.sizes.node_size + children + f.sizes.value_size * u64_at(b, off + 16)
+}
+
 /// Where the child entry `i` of the node at `off` stands.
 #[tactic(auto, using(crate::proofs::BoundLemmas::entry_room), unfolding(hwdb_spec::specs::Format::record_end))]
 pub fn child_entry_at(b: &[u8], f: Frame, off: usize, i: usize) -> usize

@@ -8,6 +8,7 @@ use crate::frame::Frame;
 use hwdb_spec::DbFault;
 
 /// Tests one value entry: its three strings are inside the string section, its priority isn't 0.
+#[inline(always)]
 fn check_value(b: &[u8], l: Frame, entry: usize) -> Result<(), DbFault>
     requires { entry + 32 ≤ length b.now }
     ensures ok { OnOk result (IsValue l.sizes b.now entry) }
@@ -31,6 +32,7 @@ fn check_value(b: &[u8], l: Frame, entry: usize) -> Result<(), DbFault>
 
 /// Tests the `n` value entries from `first` on, whose stored keys have to ascend. A lone key, as nearly all
 /// are, isn't read.
+#[inline(always)]
 #[tactic(auto, unfolding(hwdb_spec::specs::Format::ValuesText, crate::specs::Internal::Read::values_at))]
 pub fn check_values(b: &[u8], l: Frame, first: usize, n: usize) -> Result<(), DbFault>
     requires { first + l.sizes.value_size * n ≤ length b.now }

@@ -1,10 +1,16 @@
 //! The walk over the nodes section: each node's text is its children's texts, in order, and its record.
-ghost use Rattle.std.specs.Prelude.{◌≡◌, ◌≤◌, ℕ, length, SomeIff, IfOk, OnOk, OnErr, IfErr, None};
-ghost use Rattle.hwdb_spec.specs.Format.{record_end, Visited, NodeFault, IsVisitFault};
+//!
+//! It is a loop over the open nodes of one path, so that a deep tree takes no more of the thread's stack than a flat one.
+ghost use Rattle.std.specs.Prelude.{◌≡◌, ◌≤◌, ◌<◌, ℕ, ◌∷◌, length, SomeIff, IfOk, OnOk, OnErr, IfErr};
+ghost use Rattle.hwdb_spec.specs.Format.{record_end, child_entry, children_count, child_byte, child_off, byte_before, max_levels, Visited, NodeFault, IsVisitFault};
 ghost use Rattle.hwdb_reader.specs.Internal.Placed.{visit, FieldsAreSound, IsSoundNode};
+ghost use Rattle.hwdb_reader.specs.Internal.Walks.{IsSoundRecord, AreOpen, ToCome, GoesOn};
 
+use crate::checker::MAX_LEVELS;
 use crate::fields::{is_place, u64_at};
 use crate::frame::Frame;
+use crate::path::{Open, Path};
+use crate::places::{child_entry_at, record_end_at};
 use crate::values::check_values;
 use hwdb_spec::DbFault;
 
@@ -36,6 +42,7 @@ fn record_end_within(b: &[u8], l: Frame, from: usize, off: usize, limit: usize) 
 }
 
 /// Tests the prefix and the values of a node whose record has room.
+#[inline(always)]
 #[tactic(auto, unfolding(hwdb_spec::specs::Format::record_end))]
 fn check_fields(b: &[u8], l: Frame, off: usize) -> Result<(), DbFault>
     requires { record_end l.sizes b.now off ≤ length b.now }
@@ -52,9 +59,10 @@ fn check_fields(b: &[u8], l: Frame, off: usize) -> Result<(), DbFault>
     check_values(b, l, entries, u64_at(b, off + 16))
 }
 
-/// Tests the node at `off`, whose text may begin at `from` and has to end at `limit`, and all below it.
-/// Answers where its record ends.
-pub fn walk(
+/// Tests the record of the node at `off`, whose text may begin at `from` and has to end at `limit`, where so many
+/// levels are left for it. Answers where the record ends. Inlined, since a call copies the frame for each node.
+#[inline(always)]
+fn check_record(
     b: &[u8],
     l: Frame,
     levels: usize,
@@ -64,9 +72,8 @@ pub fn walk(
 ) -> Result<usize, DbFault>
     requires inside { limit ≤ length b.now }
     requires visited { Visited l.sizes b.now (visit levels from off limit) }
-    ensures ok { IfOk result
-        (λ end. (end ≡ record_end l.sizes b.now off)
-        × IsSoundNode l.sizes b.now (visit levels from off limit)) }
+    ensures end { IfOk result (λ end. end ≡ record_end l.sizes b.now off) }
+    ensures ok { OnOk result (IsSoundRecord l.sizes b.now (visit levels from off limit)) }
     ensures err { OnErr result (IsSoundNode l.sizes b.now (visit levels from off limit) → ⊥) }
     ensures fault { IfErr result (λ e. IsVisitFault l.sizes b.now e) }
 {
@@ -77,20 +84,97 @@ pub fn walk(
         return Err(DbFault::Depth(off as u64));
     }
     check_fields(b, l, off)?;
-    let mut begin = from;
-    let mut byte = 0;
-    let mut entry = off + l.sizes.node_size;
-    for i in 0..b[off + 8] {
-        let c = b[entry];
-        if c <= byte {
-            return Err(DbFault::ChildOrder(entry as u64));
-        }
-        begin = walk(b, l, levels - 1, begin, u64_at(b, entry + 8), off)?;
-        byte = c;
-        entry += l.sizes.child_size;
-    }
-    if begin != off {
-        return Err(DbFault::Place(off as u64));
-    }
     Ok(end)
+}
+
+/// The byte of the child before child `i` of the node at `off`, or 0.
+fn byte_before_at(b: &[u8], l: Frame, off: usize, i: usize) -> u8
+    requires inside { record_end l.sizes b.now off ≤ length b.now }
+    requires below { i < children_count b.now off }
+    ensures { result ≡ byte_before l.sizes b.now off i }
+{
+    if i == 0 {
+        return 0;
+    }
+    b[child_entry_at(b, l, off, i - 1)]
+}
+
+/// Where child `i` of the node at `off` stands, whose byte has to be above the one of the child before it.
+fn next_child(b: &[u8], l: Frame, off: usize, i: usize) -> Result<usize, DbFault>
+    requires inside { record_end l.sizes b.now off ≤ length b.now }
+    requires below { i < children_count b.now off }
+    ensures place { IfOk result (λ child. child ≡ child_off b.now (child_entry l.sizes off i)) }
+    ensures ok { OnOk result
+        (byte_before l.sizes b.now off i < child_byte b.now (child_entry l.sizes off i)) }
+    ensures err { OnErr result
+        (byte_before l.sizes b.now off i < child_byte b.now (child_entry l.sizes off i) → ⊥) }
+    ensures fault { IfErr result
+        (λ e. (levels from limit : ℕ)
+        → NodeFault l.sizes b.now (visit levels from off limit) e) }
+{
+    let entry = child_entry_at(b, l, off, i);
+    let byte = byte_before_at(b, l, off, i);
+    if b[entry] <= byte {
+        return Err(DbFault::ChildOrder(entry as u64));
+    }
+    Ok(u64_at(b, entry + 8))
+}
+
+/// Goes on from the last open node: tests its children up to the first that has children itself, which is opened below
+/// it. If there is none, the node is done. Answers where the next text begins.
+fn go_on(b: &[u8], l: Frame, path: &mut Path, last: Open, begin: usize) -> Result<usize, DbFault>
+    requires { AreOpen l.sizes b.now ((last.off, last.done) ∷ path.old) begin }
+    ensures ok { IfOk result
+        (λ next. GoesOn l.sizes b.now ((last.off, last.done) ∷ path.old) begin path.new next) }
+    ensures err { OnErr result
+        (ToCome l.sizes b.now ((last.off, last.done) ∷ path.old) begin → ⊥) }
+    ensures fault { IfErr result (λ e. IsVisitFault l.sizes b.now e) }
+{
+    let levels = path.levels_left() - 1;
+    let mut next = begin;
+    for i in last.done..b[last.off + 8] {
+        let child = next_child(b, l, last.off, i as usize)?;
+        let end = check_record(b, l, levels, next, child, last.off)?;
+        if b[child + 8] != 0 {
+            path.push(Open {
+                off: last.off,
+                done: i + 1,
+            });
+            path.push(Open {
+                off: child,
+                done: 0,
+            });
+            return Ok(next);
+        }
+        if next != child {
+            return Err(DbFault::Place(child as u64));
+        }
+        next = end;
+    }
+    if next != last.off {
+        return Err(DbFault::Place(last.off as u64));
+    }
+    Ok(record_end_at(b, l, last.off))
+}
+
+/// Tests the node at `off`, whose text may begin at `from` and has to end at `limit`, and all below it.
+/// Answers where its record ends.
+pub fn walk(b: &[u8], l: Frame, from: usize, off: usize, limit: usize) -> Result<usize, DbFault>
+    requires inside { limit ≤ length b.now }
+    requires visited { Visited l.sizes b.now (visit max_levels from off limit) }
+    ensures ok { IfOk result
+        (λ end. (end ≡ record_end l.sizes b.now off)
+        × IsSoundNode l.sizes b.now (visit max_levels from off limit)) }
+    ensures err { OnErr result
+        (IsSoundNode l.sizes b.now (visit max_levels from off limit) → ⊥) }
+    ensures fault { IfErr result (λ e. IsVisitFault l.sizes b.now e) }
+{
+    check_record(b, l, MAX_LEVELS, from, off, limit)?;
+    let mut path = Path::new();
+    path.push(Open { off, done: 0 });
+    let mut begin = from;
+    while let Some(last) = path.pop() {
+        begin = go_on(b, l, &mut path, last, begin)?;
+    }
+    Ok(begin)
 }
