@@ -1,8 +1,8 @@
 /* libhwdb: lookups in the hardware database, under the names and with the meanings of systemd's sd-hwdb.h.
  *
  * Every call that can fail answers 0 or more, or a negative errno. A handle is for one thread at a time. Opening and looking
- * up go down the database by recursion: the deepest one that is accepted, 4,097 nodes one below another, takes 4 MB of stack,
- * those of distributions far less. A thread that opens files of others has to have these. */
+ * up take as much of the thread's stack whatever the database is: 256 KiB are enough, also for the deepest one that is
+ * accepted, 4,097 nodes one below another, and so for files of others. */
 #ifndef HWDB_H
 #define HWDB_H
 

@@ -1,5 +1,5 @@
 -- What is collected of a node, and of those below it.
-use Rattle.std.proofs.Common.{◌≡◌, ◌∙◌, ap, sym, subst, ℕ, List, [], ◌∷◌, ◌++◌, filter, true, false}
+use Rattle.std.proofs.Common.{◌≡◌, ◌∙◌, ap, sym, subst, ℕ, List, [], ◌++◌, filter, true, false}
 use Rattle.std.proofs.lemmas.List.Elements.{filter-append}
 use Rattle.hwdb_spec.specs.Tree.{Tree, Value, prefix_of, members_under, values_of}
 use Rattle.hwdb_reader.specs.Views.{children_of}
@@ -29,12 +29,3 @@ node_collected device path t a b c own below =
     subst (λ l. Collects a l c)
     (sym (ap (filter (is_wanted device)) (members_split path t) ∙ filter-append (is_wanted device) (own_members (path ++ prefix_of t) (values_of t)) (members_in (path ++ prefix_of t) (children_of t))))
     (collects_more a b c (filter (is_wanted device) (own_members (path ++ prefix_of t) (values_of t))) (filter (is_wanted device) (members_in (path ++ prefix_of t) (children_of t))) own below)
-
--- one child, and those behind it
-pub child_collected : (device path : List ℕ) (k : ℕ × Tree) (kids rest : List (ℕ × Tree)) (a b c : Collector) → kids ≡ k ∷ rest
-    → Collects a (filter (is_wanted device) (members_under (path ++ k.0 ∷ []) k.1)) b → Collects b (filter (is_wanted device) (members_in path rest)) c
-    → Collects a (filter (is_wanted device) (members_in path kids)) c
-child_collected device path k kids rest a b c cut here behind =
-    subst (λ l. Collects a l c)
-    (sym (ap (λ ks. filter (is_wanted device) (members_in path ks)) cut ∙ filter-append (is_wanted device) (members_under (path ++ k.0 ∷ []) k.1) (members_in path rest)))
-    (collects_more a b c (filter (is_wanted device) (members_under (path ++ k.0 ∷ []) k.1)) (filter (is_wanted device) (members_in path rest)) here behind)

@@ -11,7 +11,7 @@ use Rattle.hwdb_spec.specs.Assignment.{Assignment, Position, position_cmp, assig
 use Rattle.hwdb_spec.specs.Patterns.{tokens}
 use Rattle.hwdb_spec.specs.Folders.{same}
 use Rattle.hwdb_spec.specs.Answers.{is_wanted, is_after, is_behind, is_same_place, last_of_each, last_matching, last_assignments}
-use Rattle.hwdb_spec.specs.Last.{HaveOnePlace, IsLast, IsBehind, IsAnswer, AreLast}
+use Rattle.hwdb_spec.specs.Last.{HaveOnePlace, IsLast, IsBehind}
 use Rattle.hwdb_pattern.specs.Laws.{MatchesIsTested}
 use Rattle.hwdb_query.specs.Laws.{Among, LastAssignmentsAreLast, OneListIsLast}
 use Rattle.hwdb_query.proofs.PutLemmas.{ascends_all, ascends_filter}

@@ -9,6 +9,7 @@ pub mod StepLemmas
 pub mod AllHitsLemmas
 pub mod CollectionLemmas
 pub mod DescentLemmas
+pub mod StackLemmas
 pub mod ResumeLemmas
 pub mod DistinctLemmas
 pub mod MemberLemmas

@@ -1,5 +1,5 @@
 -- The assignments and live nodes of a tree, by the parts of its root.
-use Rattle.std.proofs.Common.{◌≡◌, ◌∙◌, ap, sym, refl, ℕ, zero, suc, ◌+◌, ◌≤◌, Bool, true, false, List, [], ◌∷◌, ◌++◌, take, drop, map, filter, length, arith, append_assoc, Option, Some, None, slice_get, option_map, if◌then◌else◌}
+use Rattle.std.proofs.Common.{◌≡◌, ◌∙◌, ap, sym, refl, ℕ, zero, suc, ◌+◌, ◌≤◌, true, false, List, [], ◌∷◌, ◌++◌, take, drop, map, filter, length, arith, append_assoc, Option, Some, None, slice_get, option_map, if◌then◌else◌}
 use Rattle.std.specs.Prelude.{flat_map}
 use Rattle.std.proofs.lemmas.Grind.{flat_map-append}
 use Rattle.std.proofs.lemmas.List.{append-nil}
@@ -125,21 +125,3 @@ nodes_listed (Child byte tree more) = ap (λ n. node_count tree + n) (nodes_list
 pub node_and_below : (t : Tree) → node_count t ≡ 1 + nodes_in (children_of t)
 unfolding node_count children_of
 node_and_below (Node prefix values children) = ap (λ n. 1 + n) (nodes_listed children)
-
-one_at_most : (b : Bool) → (if b then 1 else 0) ≤ 1
-one_at_most true = omega arith
-one_at_most false = omega arith
-
-mutual
-  unfolding live_under node_count
-
-  pub live_least : (device path : List ℕ) (t : Tree) → live_under device path t ≤ node_count t
-  live_least device path (Node prefix values children) =
-      let below = live_least_below device (path ++ prefix) children in
-      let here = one_at_most (is_live (path ++ prefix) device) in omega (arith, below, here)
-
-  live_least_below : (device path : List ℕ) (ks : Children) → live_below device path ks ≤ nodes_below ks
-  live_least_below device path NoMore = omega arith
-  live_least_below device path (Child byte t more) =
-      let here = live_least device (path ++ byte ∷ []) t in
-      let rest = live_least_below device path more in omega (arith, here, rest)

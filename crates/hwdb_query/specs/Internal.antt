@@ -4,5 +4,6 @@ pub mod Hits
 pub mod Explaining
 pub mod Collected
 pub mod Live
+pub mod Descents
 pub mod Pairs
 pub mod Members

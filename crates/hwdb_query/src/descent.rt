@@ -1,23 +1,26 @@
 //! One descent of the tree along the paths that are live for a device.
 //!
 //! A node whose path is dead isn't entered, and no pattern at or below it matches. A child whose byte the device can't
-//! take isn't looked at any further.
-ghost use Rattle.std.specs.Prelude.{◌≡◌, ◌<◌, ◌≤◌, ◌+◌, ◌++◌, ◌^◌, ℕ, List, [], length, take, filter, IfOk, OnOk};
+//! take isn't looked at any further. The nodes of which children may still be live stand on a stack of its own, so that a
+//! deep tree takes no more of the thread's stack than a flat one.
+ghost use Rattle.std.specs.Prelude.{◌≡◌, ◌<◌, ◌≤◌, ◌+◌, ◌++◌, ◌∷◌, ◌^◌, ℕ, List, [], length, take, filter, reverse, IfOk, OnOk};
 ghost use Rattle.hwdb_pattern.specs.Laws.{MatchesIsTested, LiveIsTested, DeadStaysDead, DeadMatchesNothing};
 ghost use Rattle.hwdb_pattern.specs.Views.{StandsFor};
-ghost use Rattle.hwdb_spec.specs.Tree.{members_under, live_under, live_nodes};
+ghost use Rattle.hwdb_spec.specs.Tree.{members_under, live_nodes};
 ghost use Rattle.hwdb_reader.specs.Views.{node_count};
 ghost use Rattle.hwdb_spec.specs.Tree.{values_of};
 ghost use Rattle.hwdb_reader.specs.Views.{tree_of, entered_tree};
 ghost use Rattle.hwdb_spec.specs.Answers.{is_wanted};
 ghost use Rattle.hwdb_query.specs.Internal.Members.{own_members};
 ghost use Rattle.hwdb_query.specs.Internal.Collected.{Collects};
+ghost use Rattle.hwdb_query.specs.Internal.Descents.{device_of, kids_of, to_come, live_to_come, left, steps, StandsAt, StandsOn, IsSeen, IsNext, IsSameNode, Opened};
+ghost use Rattle.hwdb_query.specs.declared.collector.Collector.{Collector};
 
 use crate::collector::Collector;
 use hwdb_pattern::{
     Reach, dead_matches_nothing, dead_stays_dead, live_is_tested, matches_is_tested,
 };
-use hwdb_reader::{Entered, Inside, Node};
+use hwdb_reader::{Child, Entered, Inside, Node};
 use std::alloc::{AllocError, Global};
 
 /// What is known of patterns and paths, for the proofs of the descent.
@@ -56,48 +59,217 @@ fn collect_matching<'a>(
     into.collect(alloc, inside, pattern)
 }
 
-/// Collects what the tree of a node assigns to the device, and counts the nodes whose path is live. The path
-/// is the node's without its prefix; `above` stands for its first `from` bytes.
-fn visit<'a>(
-    alloc: Global,
-    node: Node<'a>,
-    above: &Reach<'_>,
-    from: usize,
-    path: &mut Vec<u8>,
-    into: &mut Collector<'a, '_>,
-    entered: &mut Entered,
-) -> Result<(), AllocError>
-    requires within { from ≤ length path.old.items }
-    requires stands { StandsFor above.now (take from path.old.items) }
-    requires room { entered.old + node_count (tree_of node) < 2 ^ 64 }
-    ensures path { OnOk result (path.new.items ≡ path.old.items) }
-    ensures collected { OnOk result (Collects into.old
-        (filter (is_wanted above.now.device)
-        (members_under path.old.items (tree_of node.entry))) into.new) }
-    ensures counted { OnOk result
-        (entered.new
-        ≡ entered.old + live_under above.now.device path.old.items (tree_of node.entry)) }
-{
-    path_laws();
-    let start = path.len();
-    path.extend_from_slice(node.prefix())?;
-    let here = above.feed(alloc, &path[from..])?;
-    if here.is_alive() {
-        let inside = node.enter(entered);
-        let end = path.len();
-        collect_matching(alloc, inside, &here, path, into)?;
-        for i in 0..inside.children() {
-            let child = inside.child(i);
-            if !here.may_take(child.byte) {
-                continue;
-            }
-            path.push(child.byte)?;
-            visit(alloc, child.node, &here, end, path, into, entered)?;
-            path.truncate(end);
+/// A node that was entered, of whose children some are done.
+#[derive(Drop)]
+struct Open<'a, 'd> {
+    inside: Inside<'a>,
+    /// What is known of the device at its path.
+    reach: Reach<'d>,
+    /// How many of its children are done.
+    done: usize,
+    /// How many bytes its path has.
+    length: usize,
+}
+
+/// A child whose path is live, and what is known of the device there.
+#[derive(Drop)]
+struct Live<'a, 'd> {
+    child: Child<'a>,
+    reach: Reach<'d>,
+}
+
+/// For how many open nodes a descent asks memory at once, when it enters the root: few paths have more.
+const DEPTH: usize = 16;
+
+/// How far a descent has come.
+#[derive(Drop)]
+struct Descent<'a, 'd> {
+    /// The path of the node that was entered last.
+    path: Vec<u8>,
+    /// The nodes that aren't done, each below the one before it.
+    stack: Vec<Open<'a, 'd>>,
+    entered: Entered,
+}
+
+impl<'a, 'd> Open<'a, 'd> {
+    /// What is known of the device at a child's path, if that path is live; the path becomes the child's. Where it isn't
+    /// live, something stands behind the node's own path.
+    fn look_at(
+        &self,
+        alloc: Global,
+        child: Child<'a>,
+        path: &mut Vec<u8>,
+    ) -> Result<Option<Reach<'d>>, AllocError>
+        requires { StandsAt self.now.reach.device path.old.items self.now }
+        ensures path { OnOk result
+            (take self.now.length path.new.items ≡ take self.now.length path.old.items) }
+        ensures within { OnOk result (self.now.length ≤ length path.new.items) }
+        ensures seen { IfOk result (IsSeen self.now.reach.device
+            (take self.now.length path.old.items) (child.entry.byte, tree_of child.entry.node)
+            path.new.items) }
+    {
+        path_laws();
+        if !self.reach.may_take(child.byte) {
+            return Ok(None);
+        }
+        path.truncate(self.length);
+        path.push(child.byte)?;
+        path.extend_from_slice(child.node.prefix())?;
+        let reach = self.reach.feed(alloc, &path[self.length..])?;
+        if reach.is_alive() {
+            Ok(Some(reach))
+        } else {
+            Ok(None)
         }
     }
-    path.truncate(start);
-    Ok(())
+
+    /// The next child whose path is live, of those that aren't done. The path becomes the child's, or the node's own where
+    /// there is none.
+    fn next_live(
+        &mut self,
+        alloc: Global,
+        path: &mut Vec<u8>,
+    ) -> Result<Option<Live<'a, 'd>>, AllocError>
+        requires { StandsAt self.old.reach.device path.old.items self.old }
+        ensures same { OnOk result (IsSameNode self.old self.new) }
+        ensures found { IfOk result (IsNext self.old.reach.device
+            (take self.old.length path.old.items) (kids_of self.old) (kids_of self.new)
+            path.new.items) }
+    {
+        let inside = self.inside;
+        let children = inside.children();
+        let mut done = self.done;
+        while done < children {
+            let child = inside.child(done);
+            done += 1;
+            if let Some(reach) = self.look_at(alloc, child, path)? {
+                self.done = done;
+                return Ok(Some(Live { child, reach }));
+            }
+        }
+        self.done = done;
+        path.truncate(self.length);
+        Ok(None)
+    }
+}
+
+impl<'a, 'd> Descent<'a, 'd> {
+    fn new(alloc: Global) -> Self
+        ensures path { result.path.items ≡ [] }
+        ensures stack { result.stack.items ≡ [] }
+        ensures entered { result.entered ≡ 0 }
+    {
+        Descent {
+            path: Vec::new(alloc),
+            stack: Vec::new(alloc),
+            entered: Entered::new(),
+        }
+    }
+
+    /// Enters a node, whose path is the descent's, and collects what its values assign to the device. Puts it on the stack if
+    /// it has children.
+    fn enter(
+        &mut self,
+        alloc: Global,
+        node: Node<'a>,
+        reach: Reach<'d>,
+        into: &mut Collector<'a, '_>,
+    ) -> Result<(), AllocError>
+        requires stands { StandsFor reach self.old.path.items }
+        requires room { self.old.entered + 1 < 2 ^ 64 }
+        ensures path { OnOk result (self.new.path.items ≡ self.old.path.items) }
+        ensures stack { OnOk result
+            (Opened self.old.stack.items self.new.stack.items (tree_of node.entry) reach.entry
+            (length self.old.path.items)) }
+        ensures collected { OnOk result (Collects into.old
+            (filter (is_wanted reach.entry.device)
+            (own_members self.old.path.items (values_of (tree_of node.entry)))) into.new) }
+        ensures counted { OnOk result (self.new.entered ≡ self.old.entered + 1) }
+    {
+        let inside = node.enter(&mut self.entered);
+        collect_matching(alloc, inside, &reach, &self.path, into)?;
+        if inside.children() == 0 {
+            return Ok(());
+        }
+        let length = self.path.len();
+        self.stack.push(Open {
+            inside,
+            reach,
+            done: 0,
+            length,
+        })?;
+        Ok(())
+    }
+
+    /// Enters the root, if its path is live.
+    fn enter_root(
+        &mut self,
+        alloc: Global,
+        root: Node<'a>,
+        device: &'d [u8],
+        into: &mut Collector<'a, '_>,
+    ) -> Result<(), AllocError>
+        requires path { self.old.path.items ≡ [] }
+        requires stack { self.old.stack.items ≡ [] }
+        requires entered { self.old.entered ≡ 0 }
+        ensures stands { OnOk result
+            (StandsOn device.now self.new.path.items (reverse self.new.stack.items)) }
+        ensures collected { OnOk result ((end : Collector)
+            → Collects into.new (to_come device.now self.new.path.items
+            (reverse self.new.stack.items)) end
+            → Collects into.old (filter (is_wanted device.now)
+            (members_under [] (tree_of root.entry))) end) }
+        ensures counted { OnOk result (self.new.entered
+            + live_to_come device.now self.new.path.items (reverse self.new.stack.items)
+            ≡ live_nodes device.now (tree_of root.entry)) }
+        ensures room { OnOk result (self.new.entered + left (reverse self.new.stack.items)
+            ≤ node_count (tree_of root.entry)) }
+    {
+        path_laws();
+        self.path.extend_from_slice(root.prefix())?;
+        let start = Reach::start(alloc, device);
+        let reach = start.feed(alloc, &self.path)?;
+        if !reach.is_alive() {
+            return Ok(());
+        }
+        self.stack.reserve(DEPTH)?;
+        self.enter(alloc, root, reach, into)?;
+        Ok(())
+    }
+
+    /// Goes on from the node on top of the stack: enters its next child whose path is live, or takes it off the stack if there
+    /// is none.
+    fn go_on(&mut self, alloc: Global, into: &mut Collector<'a, '_>) -> Result<(), AllocError>
+        requires some { 0 < length self.old.stack.items }
+        requires stands { StandsOn (device_of (reverse self.old.stack.items)) self.old.path.items
+            (reverse self.old.stack.items) }
+        requires room { self.old.entered + left (reverse self.old.stack.items) < 2 ^ 64 }
+        ensures stands { OnOk result (StandsOn (device_of (reverse self.old.stack.items))
+            self.new.path.items (reverse self.new.stack.items)) }
+        ensures collected { OnOk result ((end : Collector)
+            → Collects into.new (to_come (device_of (reverse self.old.stack.items))
+            self.new.path.items (reverse self.new.stack.items)) end
+            → Collects into.old (to_come (device_of (reverse self.old.stack.items))
+            self.old.path.items (reverse self.old.stack.items)) end) }
+        ensures counted { OnOk result (self.new.entered
+            + live_to_come (device_of (reverse self.old.stack.items)) self.new.path.items
+            (reverse self.new.stack.items)
+            ≡ self.old.entered + live_to_come (device_of (reverse self.old.stack.items))
+            self.old.path.items (reverse self.old.stack.items)) }
+        ensures room { OnOk result (self.new.entered + left (reverse self.new.stack.items)
+            ≤ self.old.entered + left (reverse self.old.stack.items)) }
+        ensures fewer { OnOk result (steps (reverse self.new.stack.items)
+            < steps (reverse self.old.stack.items)) }
+    {
+        let last = self.stack.len() - 1;
+        let found = self.stack[last].next_live(alloc, &mut self.path)?;
+        let Some(live) = found else {
+            self.stack.pop();
+            return Ok(());
+        };
+        self.enter(alloc, live.child.node, live.reach, into)?;
+        Ok(())
+    }
 }
 
 /// Collects what the tree below the root assigns to the device, and gives how many nodes were entered.
@@ -112,9 +284,10 @@ pub(crate) fn descend<'a>(
     ensures entered { IfOk result (λ count. count ≡ live_nodes device.now (tree_of root.entry)) }
 {
     root.law_tree();
-    let mut path = Vec::new(alloc);
-    let mut entered = Entered::new();
-    let start = Reach::start(alloc, device);
-    visit(alloc, root, &start, 0, &mut path, into, &mut entered)?;
-    Ok(entered.count())
+    let mut descent = Descent::new(alloc);
+    descent.enter_root(alloc, root, device, into)?;
+    'descending: while !descent.stack.is_empty() {
+        descent.go_on(alloc, into)?;
+    }
+    Ok(descent.entered.count())
 }

@@ -1,4 +1,4 @@
-use Rattle.std.proofs.Common.{◌≡◌, ◌∙◌, ap, refl, not, eqb-true, ◌<◌, ℕ, ◌+◌, ◌-◌, ◌==◌, Bool, true, false, if◌then◌else◌, length, min, arith, inl, inr}
+use Rattle.std.proofs.Common.{◌≡◌, ◌∙◌, ap, refl, not, eqb-true, ◌+◌, ◌-◌, ◌==◌, Bool, true, false, if◌then◌else◌, length, min, arith, inl, inr}
 use Rattle.std.proofs.lemmas.Bool.{ne_eqb}
 use Rattle.hwdb_query.specs.Views.{Progress, fills}
 use Rattle.hwdb_query.proofs.FillLemmas.{fills_none, fills_now, held_fills_not}

@@ -1,4 +1,4 @@
-use Rattle.std.proofs.Common.{rules, ◌≡◌, ◌∙◌, ap, sym, Some, true, true≢false, string_bytes}
+use Rattle.std.proofs.Common.{◌≡◌, ◌∙◌, ap, sym, Some, true, true≢false}
 use Rattle.std.specs.Fmt.{decimal}
 use Rattle.std.specs.declared.num.ParseIntError.{ParseIntError}
 use Rattle.hwdb_query.proofs.NumberLemmas.{read_is, never_err, texts_equal}

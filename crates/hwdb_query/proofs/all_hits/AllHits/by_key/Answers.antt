@@ -1,6 +1,5 @@
-use Rattle.std.proofs.Common.{◌≡◌, ◌∙◌, ap, sym, subst, List, [], ◌∷◌, ◌++◌, map, append_assoc}
+use Rattle.std.proofs.Common.{ap, sym, subst, [], ◌∷◌, ◌++◌, map, append_assoc}
 use Rattle.std.proofs.lemmas.List.{append-nil}
-use Rattle.hwdb_spec.specs.Assignment.{Assignment}
 use Rattle.hwdb_query.specs.Internal.Explaining.{IsByKey, assignment_at_place}
 use Rattle.hwdb_query.proofs.GroupLemmas.{none_by_key}
 use Rattle.hwdb_query.proofs.all_hits.AllHits.by_key.Goals as goal

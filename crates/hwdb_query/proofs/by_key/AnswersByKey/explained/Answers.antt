@@ -1,4 +1,3 @@
-use Rattle.std.proofs.Common.{◌≡◌, ◌∙◌, ap}
 use Rattle.hwdb_query.proofs.GroupLemmas.{entry_step}
 use Rattle.hwdb_query.proofs.by_key.AnswersByKey.explained.Goals as goal
 
