@@ -4,3 +4,5 @@ pub mod ShownLemmas
 pub mod WarningLemmas
 pub mod SpacedLemmas
 pub mod RepeatLemmas
+pub mod RaiseLemmas
+pub mod ReplaceLemmas

@@ -188,7 +188,7 @@ equal_by true false h = refl
 equal_by false true h = refl
 equal_by false false h = refl
 
-equal_number : (k n : ℕ) → is_eq (nat_cmp k n) ≡ (k == n)
+pub equal_number : (k n : ℕ) → is_eq (nat_cmp k n) ≡ (k == n)
 equal_number k n = equal_by _ (k == n) (λ e. le-ltb k n (omega (arith, eqb-true k n e)))
 
 or_true : (b : Bool) → true ≡ (b || true)

@@ -1,11 +1,22 @@
 -- What the proofs of this crate speak of.
-use Rattle.std.specs.Prelude.{ℕ, List, ◌++◌, drop, length, map, ◌+◌, ◌≡◌, ◌≤◌}
+use Rattle.std.specs.Prelude.{Bool, false, ℕ, List, [], ◌++◌, codes, drop, filter, length, map, max, nat_lt, ◌+◌, ◌≡◌, ◌≤◌, if◌then◌else◌}
+use Rattle.std.specs.Borrow.{Bor}
+use Rattle.std.specs.Fmt.{decimal}
 use Rattle.std.specs.List.{list_any}
-use Rattle.std.specs.Ordering.{nat_cmp}
+use Rattle.std.specs.Option.{unwrap_or}
+use Rattle.std.specs.Ordering.{nat_cmp, ordering_then}
+use Rattle.std.specs.Cmp.Lexicographic.{slice_cmp}
+use Rattle.std.specs.BTreeMap.{BTreeMap, get, get_by}
 use Rattle.std.specs.BTreeSet.{BTreeSet, contains}
-use Rattle.hwdb_spec.specs.Warnings.{repeated_from, repeated_lines}
+use Rattle.hwdb_spec.specs.Assignment.{Assignment}
+use Rattle.hwdb_spec.specs.Folders.{same}
+use Rattle.hwdb_spec.specs.Records.{Origin}
+use Rattle.hwdb_spec.specs.Warnings.{greatest, repeated_from, repeated_lines, replaces, replacing}
+use Rattle.hwdb_spec.specs.declared.WarningKind.{WarningKind}
+use Rattle.hwdb_spec.specs.declared.WarningKind.TheVariants.{Replaced}
 use Rattle.hwdb_spec.specs.Lines.{Line, byte, clean_line, is, lines, numbered, pieces}
 use Rattle.hwdb_spec.specs.Reports.{text_of_line}
+use Rattle.hwdb_lint.specs.declared.known.Known.{Known}
 use Rattle.hwdb_lint.specs.declared.line_texts.LineStart.{LineStart}
 use Rattle.hwdb_lint.specs.declared.line_warnings.Read.{Read}
 use Rattle.hwdb_lint.specs.declared.repeats.Run.{Run}
@@ -21,10 +32,17 @@ read_line r = line_of r.number r.text.now
 abbrev pub clean_of : Read → Line
 clean_of r = clean_line (read_line r)
 
--- what is read of a line of a file: its clean text, and whether the line stands in its record already
+-- what is read of a line of a file: its clean text, whether the line stands in its record already, and the last line that
+-- replaces an assignment of it
 pub record IsRead (r : Read) : Type 0 where
   pub clean : r.clean.now ≡ (clean_of r).text
   pub repeated : r.repeated ≡ list_any (is r.number) (repeated_lines r.bytes.now)
+  pub replaced : r.replaced_by ≡ greatest (replacing r.bytes.now r.number)
+
+-- what is printed of a warning from the number in it on
+abbrev pub number_text : WarningKind → List ℕ
+number_text (Replaced by) = decimal by ++ codes " replaces"
+number_text _ = []
 
 -- the match lines that repeat one of their run: those found so far, and those of the clean lines behind
 abbrev pub found_with : Run → List Line → List ℕ
@@ -33,6 +51,62 @@ found_with r more = r.numbers.items ++ repeated_from (map (λ t. t.now) r.above.
 -- a set of these numbers
 abbrev pub IsSetOf : List ℕ → BTreeSet ℕ → Type 0
 IsSetOf numbers set = (n : ℕ) → contains nat_cmp set n ≡ list_any (is n) numbers
+
+-- where the assignments of a file are thought to come from
+abbrev pub own : Origin
+own = record { path = []; priority = 1 }
+
+-- whether an assignment gives a pattern a key
+abbrev pub gives : Assignment → (pattern key : List ℕ) → Bool
+gives a pattern key = if same a.position.pattern pattern then same a.position.key key else false
+
+-- the lines of those that give a pattern a key
+abbrev pub lines_with : (pattern key : List ℕ) → List Assignment → List ℕ
+lines_with pattern key all = map (λ a. a.position.line) (filter (λ a. gives a pattern key) all)
+
+-- the lines of `all` that replace one of the assignments `read` of a line
+abbrev pub replacing_of : (read all : List Assignment) → (line : ℕ) → List ℕ
+replacing_of read all line =
+    map (λ a. a.position.line) (filter (λ a. list_any (replaces a) (filter (λ b. is line b.position.line) read)) all)
+
+-- a number that is raised to another one, where a test holds
+abbrev pub raised : (test : Bool) (number old : ℕ) → ℕ
+raised test number old = if test then max old number else old
+
+-- a number, where it is above another one; else 0
+abbrev pub behind : (line number : ℕ) → ℕ
+behind line number = if nat_lt line number then number else 0
+
+-- what a map has at a pattern and a key, or at a number; 0 where it has nothing there
+abbrev pub last_at : BTreeMap (Bor (List ℕ) × Bor (List ℕ)) ℕ → (pattern key : Bor (List ℕ)) → ℕ
+last_at last pattern key =
+    unwrap_or (get_by (λ q. ordering_then (slice_cmp nat_cmp pattern.now q.0.now) (slice_cmp nat_cmp key.now q.1.now)) last) 0
+
+abbrev pub line_at : BTreeMap ℕ ℕ → ℕ → ℕ
+line_at lines number = unwrap_or (get nat_cmp lines number) 0
+
+-- the last line with each pattern and key
+abbrev pub IsLastOf : List Assignment → BTreeMap (Bor (List ℕ) × Bor (List ℕ)) ℕ → Type 0
+IsLastOf all last = (pattern key : Bor (List ℕ)) → last_at last pattern key ≡ greatest (lines_with pattern.now key.now all)
+
+-- the last line of `all` that replaces one of the assignments `read`, by the line of that one
+abbrev pub IsReplacedBy : (read all : List Assignment) → BTreeMap ℕ ℕ → Type 0
+IsReplacedBy read all replaced = (number : ℕ) → line_at replaced number ≡ greatest (replacing_of read all number)
+
+-- the map has read one assignment more
+abbrev pub RaisesLast : Assignment → (before after : BTreeMap (Bor (List ℕ) × Bor (List ℕ)) ℕ) → Type 0
+RaisesLast a before after =
+    (pattern key : Bor (List ℕ))
+    → last_at after pattern key ≡ raised (gives a pattern.now key.now) a.position.line (last_at before pattern key)
+
+-- the map has at a line a number that is raised to another one
+abbrev pub RaisesLine : (line by : ℕ) → (before after : BTreeMap ℕ ℕ) → Type 0
+RaisesLine line by before after = (number : ℕ) → line_at after number ≡ raised (is number line) by (line_at before number)
+
+-- what is known of a file
+pub record IsKnown (k : Known) : Type 0 where
+  pub repeated : IsSetOf (repeated_lines k.bytes.now) k.repeated
+  pub replaced : (number : ℕ) → line_at k.replaced number ≡ greatest (replacing k.bytes.now number)
 
 -- the texts of the lines from some place on, the first of which has this number
 abbrev pub text_from : (file : List ℕ) (number at line : ℕ) → List ℕ

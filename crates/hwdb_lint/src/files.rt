@@ -66,7 +66,7 @@ fn look_over(alloc: Global, path: &[u8], bytes: &[u8]) -> Result<Checked, ToolEr
         (λ e. (e ≢ ToolError.Write) × IsCheckRefusal bytes.now e) }
 {
     let scanned = scan(alloc, bytes)?;
-    let warned = warnings_of(alloc, path, bytes)?;
+    let warned = warnings_of(alloc, path, bytes, &scanned.assignments)?;
     let mut reports = reports_of(alloc, path, bytes, &scanned.faults)?;
     reports.extend_from_slice(&warned.text)?;
     let tally = Tally {

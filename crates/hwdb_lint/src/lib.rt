@@ -9,16 +9,20 @@
 //! | `line_texts` | the text of a line, by its number |
 //! | `line_warnings` | which warnings a line gets, by its clean text |
 //! | `repeats` | match lines that stand in their record already |
+//! | `replacements` | assignments that a later line of the same file replaces |
+//! | `known` | what is known of a file before its lines are read one by one |
 //! | `warnings` | the warnings of a file, and their reports |
 //! | `tallies` | how much was found: the last line, and the status |
 //! | `files` | text files that are checked, one after another |
 #![tactic(auto)]
 
 mod files;
+mod known;
 mod line_texts;
 mod line_warnings;
 mod places;
 mod repeats;
+mod replacements;
 mod reports;
 mod shown;
 mod tallies;
@@ -26,3 +30,4 @@ mod warnings;
 
 pub use files::{TextFile, check_file, check_files};
 pub use shown::push_shown;
+pub use tallies::push_count;

@@ -24,6 +24,8 @@ pub struct Read<'a> {
     pub clean: &'a [u8],
     /// Whether it is a match line that stands in its record already.
     pub repeated: bool,
+    /// The last line that replaces one of its assignments; 0 where none does.
+    pub replaced_by: u64,
 }
 
 /// Whether a text begins with a byte order mark.
@@ -135,5 +137,6 @@ pub fn is_warned(kind: WarningKind, line: &Read<'_>) -> bool
         WarningKind::EmptyRange => has_empty_range(line.clean),
         WarningKind::SpacedEquals => has_spaced_equals(line.clean),
         WarningKind::RepeatedMatch => line.repeated,
+        WarningKind::Replaced(_) => line.replaced_by > 0,
     }
 }

@@ -40,7 +40,7 @@ pub fn together(so_far: Tally, found: Tally) -> Tally
 /// Adds a count, and what is counted.
 ///
 /// The only error, here and below, is that memory is refused.
-fn push_count(text: &mut Vec<u8>, count: u64, word: &str) -> Result<(), AllocError>
+pub fn push_count(text: &mut Vec<u8>, count: u64, word: &str) -> Result<(), AllocError>
     ensures { OnOk result (text.new.items ≡ text.old.items ++ count_text count word.now) }
 {
     let mut number = Buffer::new();

@@ -1,24 +1,25 @@
 //! Warnings: lines that are read, but hardly as they were meant.
-ghost use Rattle.std.specs.Prelude.{◌≡◌, ◌++◌, flat_map, IfOk, OnOk};
+ghost use Rattle.std.specs.Prelude.{◌≡◌, ◌++◌, flat_map, map, IfOk, OnOk};
 ghost use Rattle.hwdb_spec.specs.Lines.{clean_line};
-ghost use Rattle.hwdb_spec.specs.Warnings.{repeated_lines, warned, clean_warnings, line_warnings, warnings, warning_text, warning_place, warning_hint, warning_line, warning_report, line_text, warnings_text};
-ghost use Rattle.hwdb_lint.specs.Internal.{IsRead, IsSetOf, clean_of, line_of, read_line};
+ghost use Rattle.hwdb_spec.specs.Records;
+ghost use Rattle.hwdb_spec.specs.Warnings.{warned, clean_warnings, line_warnings, warnings, warning_text, warning_place, warning_hint, warning_line, warning_report, line_text, warnings_text};
+ghost use Rattle.hwdb_text.specs.Views.{given_in};
+ghost use Rattle.hwdb_lint.specs.Internal.{IsKnown, IsRead, clean_of, line_of, number_text, own, read_line};
 
+use crate::known::{Known, known_of};
 use crate::line_warnings::{Read, closed, is_warned};
-use crate::places::place_of;
-use crate::repeats::repeated_lines;
+use crate::places::{indent_of, place_of};
 use crate::reports::push_hint_line;
 use crate::shown::{push_mark_line, push_shown_line};
 use hwdb_pattern::{open_place, range_place};
 use hwdb_spec::WarningKind;
-use hwdb_text::{Content, content_of};
+use hwdb_text::{Content, Given, content_of};
 use itoa::Buffer;
 use std::alloc::{AllocError, Global};
-use std::collections::BTreeSet;
 
-/// What is printed of a warning.
+/// What is printed of a warning, up to the number in it.
 fn text_of(kind: WarningKind) -> &'static str
-    ensures { result.now ≡ warning_text kind }
+    ensures { warning_text kind ≡ result.now ++ number_text kind }
 {
     match kind {
         WarningKind::ByteOrderMark => "the pattern begins with a byte order mark",
@@ -28,7 +29,22 @@ fn text_of(kind: WarningKind) -> &'static str
         WarningKind::EmptyRange => "a range without members",
         WarningKind::SpacedEquals => "a blank beside the first =",
         WarningKind::RepeatedMatch => "a match line that stands in its record already",
+        WarningKind::Replaced(_) => "an assignment that line ",
     }
+}
+
+/// Adds what is printed of a warning from the number in it on; nothing where it has none.
+///
+/// The only error, here and below, is that memory is refused.
+fn push_number(text: &mut Vec<u8>, kind: WarningKind) -> Result<(), AllocError>
+    ensures { OnOk result (text.new.items ≡ text.old.items ++ number_text kind) }
+{
+    if let WarningKind::Replaced(by) = kind {
+        let mut digits = Buffer::new();
+        text.extend_from_slice(digits.format(by).as_bytes())?;
+        text.extend_from_slice(b" replaces")?;
+    }
+    Ok(())
 }
 
 /// What to do about a warning.
@@ -42,7 +58,7 @@ fn hint_of(kind: WarningKind) -> &'static str
         WarningKind::OpenBracket => "close it with a ], or write [[] for the byte",
         WarningKind::EmptyRange => "put the lower end of the range first",
         WarningKind::SpacedEquals => "take it away: it belongs to the key or to the value",
-        WarningKind::RepeatedMatch => "take one of the two away",
+        WarningKind::RepeatedMatch | WarningKind::Replaced(_) => "take one of the two away",
     }
 }
 
@@ -56,12 +72,11 @@ fn warning_place(kind: WarningKind, line: &[u8], clean: &[u8]) -> usize
         WarningKind::OpenBracket => open_place(clean),
         WarningKind::EmptyRange => range_place(closed(clean)),
         WarningKind::SpacedEquals => place_of(b'=', line),
+        WarningKind::Replaced(_) => indent_of(line),
     }
 }
 
 /// Adds the line of a warning.
-///
-/// The only error, here and below, is that memory is refused.
 fn push_warning_line(
     text: &mut Vec<u8>,
     path: &[u8],
@@ -76,6 +91,7 @@ fn push_warning_line(
     text.extend_from_slice(digits.format(number).as_bytes())?;
     text.extend_from_slice(b": warning: ")?;
     text.extend_from_slice(text_of(kind).as_bytes())?;
+    push_number(text, kind)?;
     text.push(b'\n')?;
     Ok(())
 }
@@ -152,34 +168,35 @@ impl Warned {
         self.put_if(alloc, path, line, WarningKind::OpenBracket)?;
         self.put_if(alloc, path, line, WarningKind::EmptyRange)?;
         self.put_if(alloc, path, line, WarningKind::SpacedEquals)?;
-        self.put_if(alloc, path, line, WarningKind::RepeatedMatch)
+        self.put_if(alloc, path, line, WarningKind::RepeatedMatch)?;
+        self.put_if(alloc, path, line, WarningKind::Replaced(line.replaced_by))
     }
 
-    /// Adds the warnings of a line of a file with its clean text. Given are the lines that stand in their record already.
+    /// Adds the warnings of a line of a file with its clean text.
     fn put_kept(
         &mut self,
         alloc: Global,
         path: &[u8],
-        bytes: &[u8],
-        repeated: &BTreeSet<u64>,
+        known: &Known<'_>,
         number: u64,
         text: &[u8],
         clean: &[u8],
     ) -> Result<(), AllocError>
-        requires repeated { IsSetOf (repeated_lines bytes.now) repeated.now }
+        requires known { IsKnown known.now }
         requires clean { clean.now ≡ (clean_line (line_of number text.now)).text }
         ensures text { OnOk result (self.new.text.items ≡ self.old.text.items
             ++ flat_map (warning_report path.now (line_of number text.now))
-            (clean_warnings bytes.now (clean_line (line_of number text.now)))) }
+            (clean_warnings known.now.bytes.now (clean_line (line_of number text.now)))) }
         ensures found { OnOk result (self.new.found.items ≡ self.old.found.items
-            ++ clean_warnings bytes.now (clean_line (line_of number text.now))) }
+            ++ clean_warnings known.now.bytes.now (clean_line (line_of number text.now))) }
     {
         let line = Read {
-            bytes,
+            bytes: known.bytes,
             number,
             text,
             clean,
-            repeated: repeated.contains(&number),
+            repeated: known.repeated.contains(&number),
+            replaced_by: known.replaced.get(&number).copied().unwrap_or(0),
         };
         self.put_clean(alloc, path, &line)
     }
@@ -190,34 +207,39 @@ impl Warned {
         &mut self,
         alloc: Global,
         path: &[u8],
-        bytes: &[u8],
-        repeated: &BTreeSet<u64>,
+        known: &Known<'_>,
         number: u64,
         text: &[u8],
     ) -> Result<(), AllocError>
-        requires { IsSetOf (repeated_lines bytes.now) repeated.now }
-        ensures text { OnOk result (self.new.text.items
-            ≡ self.old.text.items ++ line_text path.now bytes.now (line_of number text.now)) }
-        ensures found { OnOk result (self.new.found.items
-            ≡ self.old.found.items ++ line_warnings bytes.now (line_of number text.now)) }
+        requires { IsKnown known.now }
+        ensures text { OnOk result (self.new.text.items ≡ self.old.text.items
+            ++ line_text path.now known.now.bytes.now (line_of number text.now)) }
+        ensures found { OnOk result (self.new.found.items ≡ self.old.found.items
+            ++ line_warnings known.now.bytes.now (line_of number text.now)) }
     {
         match content_of(text) {
             Content::Comment => Ok(()),
             Content::ZeroByte => Ok(()),
-            Content::Empty => self.put_kept(alloc, path, bytes, repeated, number, text, &[]),
+            Content::Empty => self.put_kept(alloc, path, known, number, text, &[]),
             Content::Property(clean) | Content::Match(clean) => {
-                self.put_kept(alloc, path, bytes, repeated, number, text, clean)
+                self.put_kept(alloc, path, known, number, text, clean)
             }
         }
     }
 }
 
-/// The warnings of a file, and their reports, by line.
-pub fn warnings_of(alloc: Global, path: &[u8], bytes: &[u8]) -> Result<Warned, AllocError>
+/// The warnings of a file with these assignments, and their reports, by line.
+pub fn warnings_of(
+    alloc: Global,
+    path: &[u8],
+    bytes: &[u8],
+    assignments: &[Given<'_>],
+) -> Result<Warned, AllocError>
+    requires { map (given_in own) assignments.now ≡ Records.assignments own bytes.now }
     ensures text { IfOk result (λ w. w.text.items ≡ warnings_text path.now bytes.now) }
     ensures found { IfOk result (λ w. w.found.items ≡ warnings bytes.now) }
 {
-    let repeated = repeated_lines(alloc, bytes)?;
+    let known = known_of(alloc, bytes, assignments)?;
     let mut warned = Warned {
         text: Vec::new(alloc),
         found: Vec::new(alloc),
@@ -227,7 +249,7 @@ pub fn warnings_of(alloc: Global, path: &[u8], bytes: &[u8]) -> Result<Warned, A
     while at < bytes.len() {
         let rest = &bytes[at..];
         let end = place_of(b'\n', rest);
-        warned.put_line(alloc, path, bytes, &repeated, number, &rest[..end])?;
+        warned.put_line(alloc, path, &known, number, &rest[..end])?;
         number += 1;
         at = at + end + 1;
     }

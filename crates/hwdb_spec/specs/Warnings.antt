@@ -1,14 +1,17 @@
 -- What `check` warns of: lines that are read, but hardly as they were meant. Our choice.
-use Rattle.std.specs.Prelude.{Bool, true, false, ℕ, List, [], ◌∷◌, ◌++◌, ◌-◌, if◌then◌else◌, codes, drop, flat_map, length, nat_eq, take}
-use Rattle.std.specs.List.{list_any, position_or_len, starts_with}
-use Rattle.hwdb_spec.specs.Lines.{Line, begins_with, byte, clean, clean_line, has, has_equals, has_key, is, is_dropped, is_indent, is_match, is_property, key, lines, value}
+use Rattle.std.specs.Prelude.{Bool, true, false, ℕ, List, [], ◌∷◌, ◌++◌, ◌-◌, if◌then◌else◌, codes, drop, filter, flat_map, length, map, max, nat_eq, nat_lt, not, take}
+use Rattle.std.specs.Fmt.{decimal}
+use Rattle.std.specs.List.{list_any, position_or_len, prefix_len, starts_with}
+use Rattle.hwdb_spec.specs.Lines.{Line, begins_with, byte, clean, clean_line, has, has_equals, has_key, is, is_dropped, is_indent, is_match, is_none, is_property, key, lines, value}
+use Rattle.hwdb_spec.specs.Assignment.{Assignment}
+use Rattle.hwdb_spec.specs.Records.{assignments}
 use Rattle.hwdb_spec.specs.Folders.{same}
 use Rattle.hwdb_spec.specs.Patterns.{is_reversed, range_place, tokens}
 use Rattle.hwdb_spec.specs.Tree.{closed_part, is_open}
 use Rattle.hwdb_spec.specs.Texts.{place_text}
 use Rattle.hwdb_spec.specs.Reports.{hint_line, mark_line, shown_line}
 use Rattle.hwdb_spec.specs.declared.WarningKind.{WarningKind}
-use Rattle.hwdb_spec.specs.declared.WarningKind.TheVariants.{ByteOrderMark, CarriageReturn, EmptyRange, LeadingTab, OpenBracket, RepeatedMatch, SpacedEquals}
+use Rattle.hwdb_spec.specs.declared.WarningKind.TheVariants.{ByteOrderMark, CarriageReturn, EmptyRange, LeadingTab, OpenBracket, RepeatedMatch, Replaced, SpacedEquals}
 
 -- whether the key of a property ends with a space or a tab, or its value begins with one
 abbrev pub is_spaced : Line → Bool
@@ -27,10 +30,29 @@ repeated_from above (l ∷ more) =
 abbrev pub repeated_lines : List ℕ → List ℕ
 repeated_lines file = repeated_from [] (clean (lines file))
 
+-- whether an assignment of a file stands behind another one, and has its pattern and its key
+abbrev pub replaces : (later earlier : Assignment) → Bool
+replaces later earlier =
+    if nat_lt earlier.position.line later.position.line then
+    (if same later.position.pattern earlier.position.pattern then same later.position.key earlier.position.key else false)
+    else false
+
+-- the numbers of the lines behind a line of a file that give one of its patterns the same key
+abbrev pub replacing : (file : List ℕ) → (line : ℕ) → List ℕ
+replacing file line =
+    let all = assignments (record { path = []; priority = 1 }) file in
+    let own = filter (λ a. is line a.position.line) all in
+    map (λ a. a.position.line) (filter (λ a. list_any (replaces a) own) all)
+
+-- the greatest of some numbers; 0 where there are none
+abbrev pub greatest : List ℕ → ℕ
+greatest [] = 0
+greatest (n ∷ more) = max n (greatest more)
+
 -- Whether a clean line of a file gets a warning: it begins with the three bytes of a UTF-8 byte order mark; with a tab, and so is
 -- a match line; a carriage return stands in it, which isn't among its trailing blanks. Of a match line: a `[` of it begins no
 -- closed bracket; before the first such `[` a range has no members. Of a property that has a key: a blank stands beside its first
--- `=`. It is a match line that stands in its record already.
+-- `=`. It is a match line that stands in its record already. Lines behind it give one of its patterns the same key.
 abbrev pub warns : (file : List ℕ) → WarningKind → (clean : Line) → Bool
 warns file ByteOrderMark l = starts_with nat_eq l.text (239 ∷ 187 ∷ 191 ∷ [])
 warns file LeadingTab l = begins_with (byte "\t") l.text
@@ -40,12 +62,13 @@ warns file EmptyRange l = if is_match l then list_any is_reversed (tokens (close
 warns file SpacedEquals l =
     if is_property l then (if has_equals l then (if has_key l then is_spaced l else false) else false) else false
 warns file RepeatedMatch l = list_any (is l.number) (repeated_lines file)
+warns file (Replaced by) l = not (is_none (replacing file l.number))
 
 -- one warning of a clean line, or none
 abbrev pub warned : (file : List ℕ) → WarningKind → (clean : Line) → List WarningKind
 warned file kind l = if warns file kind l then kind ∷ [] else []
 
--- all warnings of a clean line
+-- all warnings of a clean line; the last one names the last line that replaces
 abbrev pub clean_warnings : (file : List ℕ) → (clean : Line) → List WarningKind
 clean_warnings file l =
     warned file ByteOrderMark l
@@ -53,7 +76,9 @@ clean_warnings file l =
     ++ (warned file CarriageReturn l
     ++ (warned file OpenBracket l
     ++ (warned file EmptyRange l
-    ++ (warned file SpacedEquals l ++ warned file RepeatedMatch l)))))
+    ++ (warned file SpacedEquals l
+    ++ (warned file RepeatedMatch l
+    ++ warned file (Replaced (greatest (replacing file l.number))) l))))))
 
 -- the warnings of a line of a file; none where the line is dropped
 abbrev pub line_warnings : (file : List ℕ) → Line → List WarningKind
@@ -72,6 +97,7 @@ warning_text OpenBracket = codes "a [ that is never closed stands for itself"
 warning_text EmptyRange = codes "a range without members"
 warning_text SpacedEquals = codes "a blank beside the first ="
 warning_text RepeatedMatch = codes "a match line that stands in its record already"
+warning_text (Replaced by) = codes "an assignment that line " ++ (decimal by ++ codes " replaces")
 
 -- behind how many bytes of its line a warning stands, of a line with this text and this clean text
 abbrev pub warning_place : WarningKind → (text clean : List ℕ) → ℕ
@@ -82,6 +108,7 @@ warning_place OpenBracket text clean = length (closed_part clean)
 warning_place EmptyRange text clean = range_place (closed_part clean)
 warning_place SpacedEquals text clean = position_or_len (is (byte "=")) text
 warning_place RepeatedMatch text clean = 0
+warning_place (Replaced by) text clean = prefix_len is_indent text
 
 -- what to do about a warning
 abbrev pub warning_hint : WarningKind → List ℕ
@@ -92,6 +119,7 @@ warning_hint OpenBracket = codes "close it with a ], or write [[] for the byte"
 warning_hint EmptyRange = codes "put the lower end of the range first"
 warning_hint SpacedEquals = codes "take it away: it belongs to the key or to the value"
 warning_hint RepeatedMatch = codes "take one of the two away"
+warning_hint (Replaced by) = codes "take one of the two away"
 
 -- the line of a warning: where it stands, `: warning: `, what is unusual
 abbrev pub warning_line : (path : List ℕ) (number : ℕ) → WarningKind → List ℕ

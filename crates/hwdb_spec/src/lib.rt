@@ -117,6 +117,8 @@ pub enum WarningKind {
     SpacedEquals,
     /// It is a match line that stands in its record already.
     RepeatedMatch,
+    /// Later lines give one of its patterns the same key; the last of them has this number.
+    Replaced(u64),
 }
 
 /// How many files were checked, and how much was found in them.

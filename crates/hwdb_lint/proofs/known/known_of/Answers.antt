@@ -1,0 +1,13 @@
+use Rattle.std.proofs.Common.{◌∙◌, ap, refl}
+use Rattle.hwdb_spec.specs.Warnings.{greatest}
+use Rattle.hwdb_lint.specs.Internal.{replacing_of}
+use Rattle.hwdb_lint.proofs.known.known_of.Goals as goal
+
+pub returns : goal.returns
+returns c = (
+  record {
+    repeated = c.in_ok-repeated_lines.ensures;
+    replaced = λ n. c.in_ok-replaced_lines.ensures n ∙ ap (λ all. greatest (replacing_of all all n)) c.requires;
+  },
+  refl,
+)

@@ -1,0 +1,40 @@
+//! What is known of a file before its lines are read one by one.
+ghost use Rattle.std.specs.Prelude.{◌≡◌, map, IfOk};
+ghost use Rattle.hwdb_spec.specs.Records;
+ghost use Rattle.hwdb_text.specs.Views.{given_in};
+ghost use Rattle.hwdb_lint.specs.Internal.{IsKnown, own};
+
+use crate::repeats::repeated_lines;
+use crate::replacements::replaced_lines;
+use hwdb_text::Given;
+use std::alloc::{AllocError, Global};
+use std::collections::{BTreeMap, BTreeSet};
+
+/// What is known of a file.
+#[derive(Drop)]
+pub struct Known<'a> {
+    /// What it holds.
+    pub bytes: &'a [u8],
+    /// The numbers of the match lines that stand in their record already.
+    pub repeated: BTreeSet<u64>,
+    /// For the number of a line that of the last line that replaces one of its assignments.
+    pub replaced: BTreeMap<u64, u64>,
+}
+
+/// What is known of a file with these assignments.
+///
+/// The only error is that memory is refused.
+pub fn known_of<'a>(
+    alloc: Global,
+    bytes: &'a [u8],
+    assignments: &[Given<'_>],
+) -> Result<Known<'a>, AllocError>
+    requires { map (given_in own) assignments.now ≡ Records.assignments own bytes.now }
+    ensures { IfOk result (λ known. IsKnown known × (known.bytes.now ≡ bytes.now)) }
+{
+    Ok(Known {
+        bytes,
+        repeated: repeated_lines(alloc, bytes)?,
+        replaced: replaced_lines(alloc, assignments)?,
+    })
+}

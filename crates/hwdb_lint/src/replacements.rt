@@ -1,0 +1,80 @@
+//! Assignments that a later line of the same file replaces.
+ghost use Rattle.std.specs.Prelude.{◌≡◌, [], map, IfOk, OnOk};
+ghost use Rattle.std.specs.Borrow.{Bor};
+ghost use Rattle.hwdb_text.specs.Views.{given_in};
+ghost use Rattle.hwdb_lint.specs.Internal.{IsLastOf, IsReplacedBy, RaisesLast, RaisesLine, behind, last_at, own};
+
+use hwdb_text::Given;
+use std::alloc::{AllocError, Global};
+use std::collections::BTreeMap;
+
+/// A pattern and a key.
+type Place<'b> = (&'b [u8], &'b [u8]);
+
+/// Reads an assignment: its line counts as the last one with its pattern and key, where none behind it was read. One look is
+/// enough where assignments come by line.
+///
+/// The only error, here and below, is that memory is refused.
+fn put_last<'b>(last: &mut BTreeMap<Place<'b>, u64>, given: &Given<'b>) -> Result<(), AllocError>
+    ensures { OnOk result (RaisesLast (given_in own given.now) last.old last.new) }
+{
+    let place = (given.pattern, given.key);
+    let line = given.line as u64;
+    let before = last.insert(place, line)?.unwrap_or(0);
+    if line < before {
+        last.insert(place, before)?;
+    }
+    Ok(())
+}
+
+/// The last line of some assignments with each pattern and key.
+fn last_lines<'b>(alloc: Global, all: &[Given<'b>]) -> Result<BTreeMap<Place<'b>, u64>, AllocError>
+    ensures { IfOk result (IsLastOf (map (given_in own) all.now)) }
+{
+    let mut last = BTreeMap::new(alloc);
+    for given in all {
+        put_last(&mut last, given)?;
+    }
+    Ok(last)
+}
+
+/// A line is replaced by another one: that counts, where none behind it replaces the line too.
+fn put_line(replaced: &mut BTreeMap<u64, u64>, line: u64, by: u64) -> Result<(), AllocError>
+    ensures { OnOk result (RaisesLine line by replaced.old replaced.new) }
+{
+    let last = replaced.entry(line)?.or_insert(0);
+    *last = (*last).max(by);
+    Ok(())
+}
+
+/// Reads an assignment: where the last line with its pattern and key stands behind it, that one replaces its line.
+fn put_given<'b>(
+    replaced: &mut BTreeMap<u64, u64>,
+    last: &BTreeMap<Place<'b>, u64>,
+    given: &Given<'b>,
+) -> Result<(), AllocError>
+    ensures { OnOk result
+        (RaisesLine given.now.line (behind given.now.line
+        (last_at last.now given.now.pattern given.now.key)) replaced.old replaced.new) }
+{
+    let line = given.line as u64;
+    let by = last.get(&(given.pattern, given.key)).copied().unwrap_or(0);
+    if line < by {
+        put_line(replaced, line, by)?;
+    }
+    Ok(())
+}
+
+/// For the number of each line the number of the last line that replaces one of its assignments. It takes a few looks among
+/// the assignments for each of them.
+pub fn replaced_lines(alloc: Global, all: &[Given<'_>]) -> Result<BTreeMap<u64, u64>, AllocError>
+    ensures { IfOk result
+        (IsReplacedBy (map (given_in own) all.now) (map (given_in own) all.now)) }
+{
+    let last = last_lines(alloc, all)?;
+    let mut replaced = BTreeMap::new(alloc);
+    for given in all {
+        put_given(&mut replaced, &last, given)?;
+    }
+    Ok(replaced)
+}
