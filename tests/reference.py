@@ -580,6 +580,7 @@ WARNINGS = {
     "empty": (b"a range without members", b"put the lower end of the range first"),
     "blank": (b"a blank beside the first =", b"take it away: it belongs to the key or to the value"),
     "repeated": (b"a match line that stands in its record already", b"take one of the two away"),
+    "replaced": (b"an assignment that line %d replaces", b"take one of the two away"),
 }
 MOST_SHOWN = 160
 
@@ -654,9 +655,22 @@ def repeated_lines(text):
     return found
 
 
+def replaced_lines(text):
+    """For each line of which a later line gives one of the patterns the same key, the last one that does."""
+    assignments, _ = read_file(b"", 1, text)
+    last, found = {}, {}
+    for a in assignments:
+        last[a.pattern, a.key] = max(a.line, last.get((a.pattern, a.key), 0))
+    for a in assignments:
+        by = last[a.pattern, a.key]
+        if by > a.line:
+            found[a.line] = max(by, found.get(a.line, 0))
+    return found
+
+
 def warnings_of(text):
-    """The warnings of a file as (line, text of the line, kind, place), by line."""
-    found, repeated = [], set(repeated_lines(text))
+    """The warnings of a file as (line, text of the line, what is said, place, hint), by line."""
+    found, repeated, replaced = [], set(repeated_lines(text)), replaced_lines(text)
     for number, line in lines_of(text):
         cleaned = clean(line)
         if line.startswith(b"#") or b"\0" in line:
@@ -674,8 +688,12 @@ def warnings_of(text):
                 is_property(cleaned) and equals and key and (key[-1:] in b" \t" or value[:1] in (b" ", b"\t")),
             ),
             ("repeated", 0, number in repeated),
+            ("replaced", indent_of(line), number in replaced),
         ]
-        found += [(number, line, kind, place) for kind, place, holds in kinds if holds]
+        for kind, place, holds in kinds:
+            if holds:
+                what, hint = WARNINGS[kind]
+                found.append((number, line, what % replaced[number] if kind == "replaced" else what, place, hint))
     return found
 
 
@@ -693,8 +711,7 @@ def checked(files, strict):
         for number, kind in faults:
             line = texts[number]
             printed += report(path, number, FAULT_TEXTS[kind], line, fault_place(kind, line), FAULT_HINTS[kind])
-        for number, line, kind, place in warnings:
-            what, hint = WARNINGS[kind]
+        for number, line, what, place, hint in warnings:
             printed += report(path, number, b"warning: " + what, line, place, hint)
         counts[1] += len(assignments)
         counts[2] += len(faults)
@@ -702,6 +719,21 @@ def checked(files, strict):
     words = [b"file", b"assignment", b"fault", b"warning"]
     printed += b", ".join(counted(number, word) for number, word in zip(counts, words)) + b"\n"
     return printed, 1 if counts[2] or strict and counts[3] else 0
+
+
+# What `update --verbose` says before the fault lines.
+
+
+def progress(etc, usr):
+    """A line for each file that is read, and one that counts."""
+    text, given = b"", []
+    for priority, path, content in chosen(etc, usr):
+        name = path.split(b"/")[-1]
+        is_masking = path == ETC + b"/" + name and name in usr
+        text += path + (b" masks " + USR + b"/" + name if is_masking else b"") + b"\n"
+        given += read_file(path, priority, content)[0]
+    files = counted(len(chosen(etc, usr)), b"file")
+    return text + b"%s, %s, %d kept\n" % (files, counted(len(given), b"assignment"), len(surviving(given)))
 
 
 # What `dump`, `verify` and `diff` print.

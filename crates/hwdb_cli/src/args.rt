@@ -150,7 +150,8 @@ fn task_of(alloc: Global, name: &str, inner: &ArgMatches<'_>) -> Result<Task, Al
         let database = copied(alloc, text_of(inner, "DATABASE"))?;
         Ok(Task::Dump { database })
     } else {
-        Ok(Task::Update)
+        let verbose = has_flag(inner, "verbose");
+        Ok(Task::Update { verbose })
     }
 }
 

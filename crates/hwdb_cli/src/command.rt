@@ -5,7 +5,7 @@ ghost use Rattle.std.specs.Prelude.{◌≡◌, IfOk, false, codes};
 ghost use Rattle.clap.specs.Walk.{rule_of};
 ghost use Rattle.clap.specs.Simple.{app_of, shape_of};
 ghost use Rattle.clap.specs.declared.builder.command.Command.TheViews.{out-Command as fields_of};
-ghost use Rattle.hwdb_cli.specs.Line.{usr_rule, strict_rule, root_rule, device_rule, devices_rule, file_rule, files_rule, old_database_rule, new_database_rule, database_rule, after_rule, limit_rule, json_rule, with_shared, with_range, update_app, query_app, explain_app, ask_app, list_app, check_app, diff_app, verify_app, dump_app, top_app, with_answers, with_inspections, hwdb_app};
+ghost use Rattle.hwdb_cli.specs.Line.{usr_rule, strict_rule, root_rule, device_rule, devices_rule, file_rule, files_rule, old_database_rule, new_database_rule, database_rule, after_rule, limit_rule, json_rule, verbose_rule, with_shared, with_range, update_app, query_app, explain_app, ask_app, list_app, check_app, diff_app, verify_app, dump_app, top_app, with_answers, with_inspections, hwdb_app};
 
 use clap::builder::ValueParser;
 use clap::{Arg, ArgAction, Command};
@@ -197,6 +197,16 @@ fn limit_option<'a>(alloc: Global) -> Arg<'a>
         .value_parser(ValueParser::unsigned(0, u64::MAX))
 }
 
+fn verbose_option<'a>(alloc: Global) -> Arg<'a>
+    ensures rule { rule_of result ≡ verbose_rule }
+    ensures local { result.global ≡ false }
+{
+    Arg::new(alloc, "verbose")
+        .long("verbose")
+        .help("Say which files are taken, and how many assignments they have")
+        .action(ArgAction::SetTrue)
+}
+
 fn json_option<'a>(alloc: Global) -> Arg<'a>
     ensures rule { rule_of result ≡ json_rule }
     ensures local { result.global ≡ false }
@@ -230,12 +240,13 @@ fn update_command<'a>(alloc: Global) -> Result<Command<'a>, AllocError>
     ensures shape { IfOk result (λ r. shape_of r ≡ update_app.top) }
     ensures local { IfOk result (λ r. (fields_of r).has_globals ≡ false) }
 {
-    add_shared(
+    let command = add_shared(
         alloc,
         Command::new(alloc, "update")
             .about(UPDATE_ABOUT)
             .after_help(UPDATE_AFTER),
-    )
+    )?;
+    command.arg(verbose_option(alloc))
 }
 
 fn query_command<'a>(alloc: Global) -> Result<Command<'a>, AllocError>

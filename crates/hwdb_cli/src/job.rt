@@ -9,7 +9,10 @@ use thiserror::Error;
 #[derive(Debug, Drop)]
 pub enum Task {
     /// Compile the text files of both folders.
-    Update,
+    Update {
+        /// Whether to say which files are compiled, and how much they assign.
+        verbose: bool,
+    },
     /// Print the properties that the database gives each device.
     Query {
         /// The device strings, one or more.

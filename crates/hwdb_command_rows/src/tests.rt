@@ -1,12 +1,7 @@
-//! Worked examples of the calls of the commands, over bytes and over a store in memory.
+//! Rows that only a call of a library shows; those of the built program are in tests/rows.
 mod calls;
-mod checks;
-mod commands;
-mod explanations;
 mod failing;
 mod hostile;
-mod inspections;
-mod json_rows;
+mod refusals;
 mod streams;
 mod transfers;
-mod vectors;

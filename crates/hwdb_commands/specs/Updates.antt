@@ -3,7 +3,8 @@ use Rattle.std.specs.Prelude.{Bool, true, List, Option, Some, length, ℕ, ◌�
 use Rattle.std.specs.Io.KnownBytes.{Appends}
 use Rattle.hwdb_spec.specs.Folders.{AreAccepted, Choice, Source, faults_of_files, HaveManyLines}
 use Rattle.hwdb_spec.specs.Written.{IsCompiled, IsWritten, IsTooLarge}
-use Rattle.hwdb_spec.specs.Texts.{faults_text, status_of, faults_text_at, query_text}
+use Rattle.hwdb_spec.specs.Progress.{update_text}
+use Rattle.hwdb_spec.specs.Texts.{status_of, faults_text_at, query_text}
 use Rattle.hwdb_spec.specs.Tree.{map_of_files}
 use Rattle.hwdb_spec.specs.Store.{Contents, Outcomes, IsPart, path_in, database_name, database_file}
 use Rattle.hwdb_store.specs.Views.{IsSeen, IsLeft}
@@ -15,14 +16,15 @@ use Rattle.hwdb_commands.specs.declared.errors.ToolError.{ToolError}
 use Rattle.hwdb_commands.specs.Lookups.{IsTextOf}
 use Rattle.hwdb_compile.specs.declared.errors.CompileError.TheVariants as compiling
 
--- the files are accepted, `err` took their fault lines, and their database is in its place
-pub record Updated (etc usr : List Source) (max_bytes : ℕ) (strict : Bool) (status : ℕ) (err_before err_now : Option (List ℕ)) (in_place : List ℕ → Type 0) : Type 0 where
+-- The files are accepted, `err` took what is said of them, with the names of /usr/lib's files where they are given, and their
+-- database is in its place.
+pub record Updated (etc usr : List Source) (listed : Option (List (List ℕ))) (max_bytes : ℕ) (strict : Bool) (status : ℕ) (err_before err_now : Option (List ℕ)) (in_place : List ℕ → Type 0) : Type 0 where
   pub accepted : AreAccepted etc usr
   pub database : List ℕ
   pub written : IsWritten (map_of_files etc usr) database
   pub compiled : IsCompiled etc usr database
   pub within : length database ≤ max_bytes
-  pub faults : Appends err_before err_now (faults_text (faults_of_files etc usr))
+  pub told : Appends err_before err_now (update_text listed etc usr)
   pub stored : in_place database
   pub answer : status ≡ status_of strict (faults_of_files etc usr)
 
@@ -37,13 +39,20 @@ abbrev pub OnUnreplaced : (Unreplaced → Type 0) → ToolError → Type 0
 OnUnreplaced P (Replace u) = P u
 OnUnreplaced P _ = Unit {0}
 
--- `err` took the fault lines, and this is what the replacement left
-pub record UpdateUndone (etc usr : List Source) (folder : List ℕ) (err_before err_now : Option (List ℕ)) (tells : Type 0) (old new : Contents) (before now : Outcomes) (u : Unreplaced) : Type 0 where
+-- `err` took what is said of the files, and this is what the replacement left
+pub record UpdateUndone (etc usr : List Source) (listed : Option (List (List ℕ))) (folder : List ℕ) (err_before err_now : Option (List ℕ)) (tells : Type 0) (old new : Contents) (before now : Outcomes) (u : Unreplaced) : Type 0 where
   pub database : List ℕ
   pub written : IsWritten (map_of_files etc usr) database
-  pub faults : Appends err_before err_now (faults_text (faults_of_files etc usr))
+  pub told : Appends err_before err_now (update_text listed etc usr)
   pub seen : tells → IsSeen folder database old new u
   pub left : tells → IsLeft folder database old before now u
+
+-- what putting a database in its place may refuse
+abbrev pub IsPlaceRefusal : ToolError → Type 0
+IsPlaceRefusal Write = Unit {0}
+IsPlaceRefusal Memory = Unit {0}
+IsPlaceRefusal (Replace _) = Unit {0}
+IsPlaceRefusal _ = ⊥
 
 -- what `update` may refuse
 abbrev pub IsUpdateRefusal : (etc usr : List Source) (max_bytes : ℕ) → ToolError → Type 0

@@ -42,4 +42,4 @@ pub use lookup::{MAX_BYTES, run_list, run_queries, run_query};
 pub use single_file::ask;
 pub use texts::property_lines;
 pub use transfer::{read_all, write_text};
-pub use update::{run_update, update_chosen};
+pub use update::{put_in_place, run_update, update_chosen};

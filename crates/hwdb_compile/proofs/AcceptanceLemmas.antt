@@ -7,7 +7,7 @@ use Rattle.std.specs.Borrow.{Bor}
 use Rattle.std.specs.BTreeMap.{BTreeMap}
 use Rattle.std.proofs.lemmas.List.Elements.{All-nil, All-cons, All-head, All-tail}
 use Rattle.hwdb_spec.specs.Records.{assignments, faults}
-use Rattle.hwdb_spec.specs.Folders.{Choice, path_of, Source, first_of, contents, file_assignments, file_faults, fault_in, faults_of_files, AreAccepted, FaultIn}
+use Rattle.hwdb_spec.specs.Folders.{Choice, path_of, Source, first_of, all_assignments, contents, file_assignments, file_faults, fault_in, faults_of_files, AreAccepted, FaultIn}
 use Rattle.hwdb_compile.specs.declared.sources.ChosenFile.{ChosenFile}
 use Rattle.hwdb_compile.specs.Views.{FewLines, ManyLines, AreChosenOf, IsRefusal, bytes_in, choice_in}
 use Rattle.hwdb_spec.specs.Tree.{Map, surviving, map_of_files}
@@ -58,13 +58,18 @@ one_read P read files is one =
     same_at : All (λ x. bytes_in x ≡ read (choice_in x)) files → (i : ℕ) (x : ChosenFile) → i < length files → x ≡ get_or files i x → bytes_in x ≡ read (choice_in x)
     same_at is i x lt e = subst (λ y. bytes_in y ≡ read (choice_in y)) (sym e) (is i x lt)
 
+-- what the chosen files assign is what those of the folders assign
+pub same_assignments : (etc usr : List Source) (files : List ChosenFile) → AreChosenOf etc usr files → flat_map assignments_in files ≡ all_assignments etc usr
+same_assignments etc usr files of =
+    all_read (λ c b. assignments (record { path = path_of c; priority = c.priority }) b) (contents etc usr) files of.bytes
+    ∙ ap (flat_map (file_assignments (contents etc usr))) of.choices
+
 -- the tree that was filled has the files' map
 pub same_map : (etc usr : List Source) (files : List ChosenFile) (before after : Map) → AreChosenOf etc usr files → before ≡ finite.empty
     → (before ≡ surviving [] → after ≡ surviving ([] ++ flat_map assignments_in files)) → after ≡ map_of_files etc usr
 same_map etc usr files before after of empty filled =
     filled (empty ∙ none_surviving)
-    ∙ ap surviving (all_read (λ c b. assignments (record { path = path_of c; priority = c.priority }) b) (contents etc usr) files of.bytes
-    ∙ ap (flat_map (file_assignments (contents etc usr))) of.choices)
+    ∙ ap surviving (same_assignments etc usr files of)
 
 pub same_faults : (etc usr : List Source) (files : List ChosenFile) (before after : List FaultIn) → AreChosenOf etc usr files → before ≡ []
     → after ≡ before ++ flat_map faults_in files → after ≡ faults_of_files etc usr

@@ -1,16 +1,17 @@
 -- Files, assignments and faults, gathered one after another.
-use Rattle.std.proofs.Common.{◌≡◌, ◌∙◌, ap, sym, refl, subst, ℕ, zero, suc, ◌≤◌, ◌<◌, ◌==◌, ◌||◌, true, false, List, [], ◌∷◌, ◌++◌, map, length, take, get_or, arith, append_assoc, Option, Some, cond, if◌then◌else◌, All}
+use Rattle.std.proofs.Common.{◌≡◌, ◌∙◌, ◌+◌, ◌-◌, ◌^◌, min, ap, sym, refl, subst, ℕ, zero, suc, ◌≤◌, ◌<◌, ◌==◌, ◌||◌, true, false, List, [], ◌∷◌, ◌++◌, map, length, take, get_or, arith, append_assoc, Option, Some, cond, if◌then◌else◌, All}
 use Rattle.std.specs.Prelude.{Any, flat_map}
 use Rattle.std.specs.List.{slice_index_or}
 use Rattle.std.specs.FinMap as finite
 use Rattle.std.specs.Ordering.{is_eq, nat_cmp, ordering_reverse}
 use Rattle.std.specs.Cmp.Lexicographic.{slice_cmp}
-use Rattle.std.proofs.lemmas.List.{reverse-append, append-nil, take_all}
+use Rattle.std.proofs.lemmas.List.{length-append, reverse-append, append-nil, take_all}
 use Rattle.std.proofs.lemmas.List.Elements.{All-nil, All-cons, All-head, All-tail, All-append}
 use Rattle.hwdb_spec.specs.Lines.{Line, lines, clean, has_equals, has_key, has}
 use Rattle.hwdb_spec.specs.Records.{sections, Origin, assign, patterns, property_assignments, section_assignments, assignments}
 use Rattle.hwdb_spec.specs.Assignment.{Assignment}
 use Rattle.hwdb_spec.specs.Folders.{same, Source, first_of}
+use Rattle.hwdb_spec.specs.Progress.{within_64_bits}
 use Rattle.hwdb_text.specs.Views.{IsStorable, HasNoZero}
 use Rattle.hwdb_compile.specs.Views.{name_of, source_of, sources}
 use Rattle.hwdb_writer.specs.Internal.Storable as writer
@@ -139,6 +140,14 @@ pub list_step : {A B : Type 0} (old mid new given : List B) (f : A → List B) (
 list_step old mid new given f files more file is before own next =
     is ∙ ap (λ l. l ++ given) before ∙ append_assoc old (flat_map f files) given
     ∙ ap (λ l. old ++ l) (ap (λ l. flat_map f files ++ l) own ∙ sym (gathered_more f files file) ∙ sym (ap (flat_map f) next))
+
+-- the count of one more file's assignments
+pub counted_more : {A B : Type 0} (f : A → List B) (files more : List A) (file : A) (so_far own sum : ℕ) → so_far ≡ within_64_bits (length (flat_map f files))
+    → own ≡ length (f file) → sum ≡ min (so_far + own) (2 ^ 64 - 1) → more ≡ files ++ file ∷ [] → sum ≡ within_64_bits (length (flat_map f more))
+counted_more f files more file so_far own sum before is added next =
+    let all : length (flat_map f more) ≡ length (flat_map f files) + length (f file) =
+    ap (λ l. length (flat_map f l)) next ∙ ap length (gathered_more f files file) ∙ length-append (flat_map f files) (f file) in
+    omega (arith, before, is, added, all)
 
 -- one more assignment is put
 pub put_step : (done xs more : List Assignment) (a : Assignment) (before after : Map) → before ≡ surviving (done ++ xs)

@@ -1,10 +1,11 @@
 //! The compiler: the files of two folders, made into one database.
 ghost use Rattle.std.specs.Prelude.{◌≡◌, ◌≤◌, ◌++◌, ℕ, List, map, length, All, IfOk, IfErr, OnOk, flat_map};
+ghost use Rattle.hwdb_spec.specs.Progress.{within_64_bits};
 ghost use Rattle.hwdb_spec.specs.Written.{IsDatabaseOf, IsWritten};
 ghost use Rattle.hwdb_spec.specs.Assignment.{Assignment};
 ghost use Rattle.hwdb_text.specs.Views.{origin};
 ghost use Rattle.hwdb_text.specs.Views.{given_in, choice_of};
-ghost use Rattle.hwdb_spec.specs.Folders.{file_assignments, file_faults, faults_of_files, fault_in, AreAccepted};
+ghost use Rattle.hwdb_spec.specs.Folders.{all_assignments, file_assignments, file_faults, faults_of_files, fault_in, AreAccepted};
 ghost use Rattle.hwdb_text.specs.Views.{IsStorableChoice};
 ghost use Rattle.hwdb_compile.specs.Views.{FewLines, ForFolders, bytes_in, choice_in};
 ghost use Rattle.hwdb_compile.specs.Views.{sources, fault_of, IsRefusal};
@@ -52,20 +53,23 @@ fn add_faults(
     Ok(())
 }
 
-/// Reads a chosen file: its assignments into the tree, and its faults behind the others.
+/// Reads a chosen file: its assignments into the tree, and its faults behind the others. Returns how many assignments it
+/// has.
 fn add_file(
     alloc: Global,
     file: &Chosen,
     bytes: &[u8],
     tree: &mut Tree,
     faults: &mut Vec<FileFault>,
-) -> Result<(), CompileError>
+) -> Result<usize, CompileError>
     requires { IsStorableChoice (choice_of file.now) }
     ensures tree { OnOk result
         (TakesUp tree.old (file_assignments (λ _. bytes.now) (choice_of file.now)) tree.new) }
     ensures faults { OnOk result
         (map fault_of faults.new.items
         ≡ map fault_of faults.old.items ++ file_faults (λ _. bytes.now) (choice_of file.now)) }
+    ensures given { IfOk result
+        (λ n. n ≡ length (file_assignments (λ _. bytes.now) (choice_of file.now))) }
     ensures few { OnOk result (FewLines bytes.now) }
     ensures refused { IfErr result (IsFileRefusal bytes.now) }
 {
@@ -74,29 +78,34 @@ fn add_file(
     let scanned = scan(alloc, bytes)?;
     put_all(tree, path, file.priority, &scanned.assignments)?;
     add_faults(alloc, path, &scanned.faults, faults)?;
-    Ok(())
+    Ok(scanned.assignments.len())
 }
 
-/// Reads the chosen files, in the order of their priorities.
+/// Reads the chosen files, in the order of their priorities. Returns how many assignments they have, or the greatest
+/// number where they have more.
 fn add_files(
     alloc: Global,
     files: &[ChosenFile<'_>],
     tree: &mut Tree,
     faults: &mut Vec<FileFault>,
-) -> Result<(), CompileError>
+) -> Result<usize, CompileError>
     requires { All IsStorableChoice (map choice_in files.now) }
     ensures tree { OnOk result
         (TakesUp tree.old (flat_map assignments_in files.now) tree.new) }
     ensures faults { OnOk result
         (map fault_of faults.new.items
         ≡ map fault_of faults.old.items ++ flat_map faults_in files.now) }
+    ensures given { IfOk result
+        (λ n. n ≡ within_64_bits (length (flat_map assignments_in files.now))) }
     ensures few { OnOk result (All (λ f. FewLines (bytes_in f)) files.now) }
     ensures refused { IfErr result (IsFilesRefusal files.now) }
 {
+    let mut given = 0usize;
     for file in files {
-        add_file(alloc, file.choice, file.bytes, tree, faults)?;
+        let own = add_file(alloc, file.choice, file.bytes, tree, faults)?;
+        given = given.saturating_add(own);
     }
-    Ok(())
+    Ok(given)
 }
 
 /// Makes a database of chosen files, which stand in the order of their priorities: what [`compile`] makes of any two
@@ -121,6 +130,8 @@ pub fn compile_chosen(
     ensures within { IfOk result (λ c. length c.database.items ≤ max_bytes) }
     ensures faults { IfOk result (λ c. ForFolders files.now
         (λ etc usr. map fault_of c.faults.items ≡ faults_of_files etc usr)) }
+    ensures given { IfOk result (λ c. ForFolders files.now
+        (λ etc usr. c.given ≡ within_64_bits (length (all_assignments etc usr)))) }
     ensures accepted { OnOk result (ForFolders files.now AreAccepted) }
     ensures refused { IfErr result (λ e. ForFolders files.now
         (λ etc usr. IsRefusal etc usr max_bytes e)) }
@@ -128,9 +139,13 @@ pub fn compile_chosen(
     compiled_answers_are_last();
     let mut tree = Tree::new(alloc);
     let mut faults = Vec::new(alloc);
-    add_files(alloc, files, &mut tree, &mut faults)?;
+    let given = add_files(alloc, files, &mut tree, &mut faults)?;
     let database = write(alloc, &tree, max_bytes)?;
-    Ok(Compiled { database, faults })
+    Ok(Compiled {
+        database,
+        faults,
+        given,
+    })
 }
 
 /// Makes a database of the files of the folders in /etc and in /usr/lib: chooses them by their names, reads
@@ -158,6 +173,8 @@ pub fn compile(
     ensures within { IfOk result (λ c. length c.database.items ≤ max_bytes) }
     ensures faults { IfOk result
         (λ c. map fault_of c.faults.items ≡ faults_of_files (sources etc.now) (sources usr.now)) }
+    ensures given { IfOk result (λ c. c.given
+        ≡ within_64_bits (length (all_assignments (sources etc.now) (sources usr.now)))) }
     ensures accepted { OnOk result (AreAccepted (sources etc.now) (sources usr.now)) }
     ensures refused { IfErr result (IsRefusal (sources etc.now) (sources usr.now) max_bytes) }
 {

@@ -45,6 +45,8 @@ pub struct Compiled {
     pub database: Vec<u8>,
     /// The faults, by the priority of their files, then by line, then by number.
     pub faults: Vec<FileFault>,
+    /// How many assignments the files have, or the greatest number where they have more.
+    pub given: usize,
 }
 
 /// The names of the files.

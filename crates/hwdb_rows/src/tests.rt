@@ -1,14 +1,9 @@
-//! Worked rows of each crate from the patterns to the store.
+//! Rows that only a call of a library shows; those of the built program are in tests/rows.
 mod beside;
-mod checked;
-mod compiled;
 mod cursors;
-mod databases;
-mod deep;
-mod explanations;
+mod errors;
 mod limits;
 mod patterns;
 mod stores;
 mod texts;
-mod vectors;
-mod written;
+mod trees;

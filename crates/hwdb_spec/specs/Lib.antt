@@ -17,6 +17,7 @@ pub mod Verdicts
 pub mod Reports
 pub mod Warnings
 pub mod Checks
+pub mod Progress
 pub mod Json
 pub mod Failures
 pub mod Store

@@ -42,10 +42,9 @@ abbrev pub IsPushed : List Step → (folder : List ℕ) → Step → (old new : 
 IsPushed steps folder step old new =
     (IsNamedBy steps folder step None × (new ≡ old)) ⊎ ((name : List ℕ) × IsNamedBy steps folder step (Some name) × (new ≡ old ++ name ∷ []))
 
--- the chosen of the folders' text files, and what each holds
-pub record AreSelected (root : List ℕ) (contents : Contents) (chosen : List Choice) (texts : List (List ℕ)) : Type 0 where
+-- the chosen of the folders' text files, and what each holds; `usr` are the names in /usr/lib
+pub record AreSelected (root : List ℕ) (contents : Contents) (usr : List (List ℕ)) (chosen : List Choice) (texts : List (List ℕ)) : Type 0 where
   pub etc : List (List ℕ)
-  pub usr : List (List ℕ)
   pub in_etc : AreNamesIn (etc_files root) contents etc
   pub in_usr : AreNamesIn (usr_files root) contents usr
   pub is : chosen ≡ choice etc usr

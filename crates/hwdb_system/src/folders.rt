@@ -21,9 +21,10 @@ const ETC_FILES: &str = "/etc/udev/hwdb.d";
 
 const USR_FILES: &str = "/usr/lib/udev/hwdb.d";
 
-/// The chosen files of both folders, by priority, and what each holds.
+/// The chosen files of both folders, by priority, what each holds, and the names of all text files in /usr/lib.
 #[derive(Drop)]
 pub struct Selection {
+    pub listed: Vec<String>,
     pub chosen: Vec<Chosen>,
     pub texts: Vec<Vec<u8>>,
 }
@@ -33,7 +34,7 @@ pub fn selected<D: System>(alloc: Global, root: &str, system: &D) -> Result<Sele
     ensures count { IfOk result (λ s. length s.texts.items ≡ length s.chosen.items) }
     ensures storable { IfOk result (λ s. All IsStorableChoice (map choice_of s.chosen.items)) }
     ensures selected { D.Store.tells → IfOk result
-        (λ s. AreSelected root.now (D.Store.seen system.now)
+        (λ s. AreSelected root.now (D.Store.seen system.now) (map string_bytes s.listed.items)
         (map choice_of s.chosen.items) (map (λ t. t.items) s.texts.items)) }
     ensures refused { D.Store.tells → IfErr result (AreUnread root.now (D.Store.seen system.now)) }
     ensures unread { IfErr result (λ r. r ≢ Plain ToolError.Write) }
@@ -42,7 +43,11 @@ pub fn selected<D: System>(alloc: Global, root: &str, system: &D) -> Result<Sele
     let usr_names = listed(alloc, root, USR_FILES, system)?;
     let chosen = select(alloc, &etc_names, &usr_names)?;
     let texts = read_chosen(alloc, root, &chosen, system)?;
-    Ok(Selection { chosen, texts })
+    Ok(Selection {
+        listed: usr_names,
+        chosen,
+        texts,
+    })
 }
 
 /// The names of the text files in a folder below the root.

@@ -45,11 +45,11 @@ given_sources contents given texts files read named held = record {
 }
 
 -- those of both folders
-pub chosen_sources : (root : List ℕ) (contents : Contents) (chosen : List Choice) (texts : List (List ℕ)) (files : List TextFile) → AreSelected root contents chosen texts
+pub chosen_sources : (root : List ℕ) (contents : Contents) (usr : List (List ℕ)) (chosen : List Choice) (texts : List (List ℕ)) (files : List TextFile) → AreSelected root contents usr chosen texts
     → map (λ f. f.path.now) files ≡ map path_of chosen → map (λ f. f.bytes.now) files ≡ texts → AreChosenFiles root contents (map source_of files)
-chosen_sources root contents chosen texts files are named held = record {
+chosen_sources root contents usr chosen texts files are named held = record {
   etc = are.etc;
-  usr = are.usr;
+  usr = usr;
   in_etc = are.in_etc;
   in_usr = are.in_usr;
   few = are.few;

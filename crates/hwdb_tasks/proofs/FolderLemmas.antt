@@ -136,12 +136,13 @@ are_chosen root seen etc usr chosen texts files is few listed read choices bytes
     }
 
 -- so they are those of the folders' files
-pub are_read : (root : List ℕ) (seen : Contents) (chosen : List Choice) (texts : List (List ℕ)) (files : List ChosenFile)
-    → AreSelected root seen chosen texts → map choice_in files ≡ chosen → map bytes_in files ≡ texts → AreReadOf root seen files
-are_read root seen chosen texts files s choices bytes = record {
+pub are_read : (root : List ℕ) (seen : Contents) (usr : List (List ℕ)) (chosen : List Choice) (texts : List (List ℕ)) (files : List ChosenFile)
+    → AreSelected root seen usr chosen texts → map choice_in files ≡ chosen → map bytes_in files ≡ texts → AreReadOf root seen usr files
+are_read root seen usr chosen texts files s choices bytes = record {
   of_etc = files_at (etc_files root) seen s.etc;
-  of_usr = files_at (usr_files root) seen s.usr;
+  of_usr = files_at (usr_files root) seen usr;
   in_etc = are_files (etc_files root) seen s.etc s.in_etc;
-  in_usr = are_files (usr_files root) seen s.usr s.in_usr;
-  are = are_chosen root seen s.etc s.usr chosen texts files s.is s.few s.listed s.read choices bytes;
+  in_usr = are_files (usr_files root) seen usr s.in_usr;
+  named = names_back (usr_files root) seen usr;
+  are = are_chosen root seen s.etc usr chosen texts files s.is s.few s.listed s.read choices bytes;
 }

@@ -3,5 +3,6 @@ pub mod CheckLemmas
 pub mod ErrorLemmas
 pub mod FolderLemmas
 pub mod MomentLemmas
+pub mod ProgressLemmas
 pub mod UpdateLemmas
 pub mod VerdictLemmas

@@ -20,11 +20,11 @@ leaves_more moment left_since old new less more up h = record {
 }
 
 -- an update of the files that were read
-pub leaves_old_or_updated : {D : Type 0} (moment : D → ℕ) (left_since : D → ℕ → Outcomes) (old new : D) (root folder : List ℕ) (usr : Bool) (files : List ChosenFile)
-    (seen : Contents) (before : Outcomes) → folder ≡ database_folder usr root → AreReadOf root seen files
+pub leaves_old_or_updated : {D : Type 0} (moment : D → ℕ) (left_since : D → ℕ → Outcomes) (old new : D) (root folder : List ℕ) (usr : Bool) (listed : List (List ℕ)) (files : List ChosenFile)
+    (seen : Contents) (before : Outcomes) → folder ≡ database_folder usr root → AreReadOf root seen listed files
     → ForFolders files (λ e u. LeavesOnly moment left_since old new (OldOrWritten e u folder seen before))
     → LeavesOnly moment left_since old new (OldOrUpdated root usr seen before)
-leaves_old_or_updated moment left_since old new root folder usr files seen before at read holds =
+leaves_old_or_updated moment left_since old new root folder usr listed files seen before at read holds =
     leaves_more moment left_since old new (OldOrWritten read.of_etc read.of_usr (database_folder usr root) seen before) (OldOrUpdated root usr seen before)
     (λ p v now. ⊎_elim (λ was. inl was)
     (λ left. inr record { of_etc = read.of_etc; of_usr = read.of_usr; in_etc = read.in_etc; in_usr = read.in_usr; left = left }) now)

@@ -1,9 +1,10 @@
 -- An update that is refused after its files were read.
-use Rattle.std.proofs.Common.{◌≡◌, ◌≢◌, inl, inr, ap, subst, refl, ℕ, Bool, List, Option}
-use Rattle.hwdb_spec.specs.Folders.{faults_of_files}
+use Rattle.std.specs.Io.KnownBytes.{Appends}
+use Rattle.std.proofs.Common.{◌≡◌, ◌≢◌, inl, inr, ap, subst, sym, refl, ℕ, Bool, List, Option, Result, Ok, Err, IfErr}
 use Rattle.hwdb_spec.specs.Store.{Contents, Outcomes}
 use Rattle.hwdb_spec.specs.System.{database_folder}
-use Rattle.hwdb_spec.specs.Texts.{faults_text, max_file}
+use Rattle.hwdb_spec.specs.Progress.{given_where, update_text}
+use Rattle.hwdb_spec.specs.Texts.{max_file}
 use Rattle.hwdb_store.specs.declared.replacement.Unreplaced.{Unreplaced}
 use Rattle.hwdb_compile.specs.declared.sources.ChosenFile.{ChosenFile}
 use Rattle.hwdb_compile.specs.Views.{ForFolders}
@@ -33,17 +34,33 @@ not_replace : (e : ToolError) (u : Unreplaced) → (is_replace e → ⊥) → e 
 unfolding is_replace
 not_replace e u other is = let P : ToolError → Type 0 = λ x. is_replace x → ⊥ in subst P is other tt
 
+-- what a replacement that failed leaves
+pub unreplaced_of : {X : Type 0} (r : Result X ToolError) (tells told : Type 0) (seen left P : Unreplaced → Type 0) → IfErr r (OnUnreplaced (λ _. told))
+    → (tells → IfErr r (OnUnreplaced seen)) → (tells → IfErr r (OnUnreplaced left)) → ((u : Unreplaced) → told → (tells → seen u) → (tells → left u) → P u) → IfErr r (OnUnreplaced P)
+unreplaced_of (Ok x) tells told seen left P a b c so = tt
+unreplaced_of (Err (Replace u)) tells told seen left P a b c so = so u a b c
+unreplaced_of (Err Read) tells told seen left P a b c so = tt
+unreplaced_of (Err Write) tells told seen left P a b c so = tt
+unreplaced_of (Err TooLong) tells told seen left P a b c so = tt
+unreplaced_of (Err TooManyFiles) tells told seen left P a b c so = tt
+unreplaced_of (Err TooManyLines) tells told seen left P a b c so = tt
+unreplaced_of (Err TooLarge) tells told seen left P a b c so = tt
+unreplaced_of (Err BadPosition) tells told seen left P a b c so = tt
+unreplaced_of (Err PageZero) tells told seen left P a b c so = tt
+unreplaced_of (Err (BadDatabase fault)) tells told seen left P a b c so = tt
+unreplaced_of (Err Memory) tells told seen left P a b c so = tt
+
 module _ {S W : Type 0} (seen : S → Contents) (left_by : S → Outcomes) (taken : W → Option (List ℕ)) (old new : S) (err_old err_new : W)
-    (root : List ℕ) (usr : Bool) (files : List ChosenFile) (tells : Type 0) where
+    (root : List ℕ) (usr verbose : Bool) (listed : List (List ℕ)) (files : List ChosenFile) (tells : Type 0) where
   -- a store that is the same keeps its files
   pub kept : new ≡ old → AreKept (seen old) (seen new) (left_by old) (left_by new)
   kept e = record { same = λ p. ap (λ s. seen s p) e; no_more = λ p v l. subst (λ s. left_by s p v) e l }
 
   abbrev Refused : Refusal → Type 0
-  Refused refusal = IsUpdateRefused root usr refusal (seen old) (seen new) (left_by old) (left_by new) (taken err_old) (taken err_new)
+  Refused refusal = IsUpdateRefused root usr verbose refusal (seen old) (seen new) (left_by old) (left_by new) (taken err_old) (taken err_new)
 
   -- an error of compiling
-  plain : AreReadOf root (seen old) files → (error : ToolError) (refusal : Refusal) → refusal ≡ Plain error
+  plain : AreReadOf root (seen old) listed files → (error : ToolError) (refusal : Refusal) → refusal ≡ Plain error
       → ForFolders files (λ e u. IsUpdateRefusal e u max_file error) → error ≢ Write → (err_new ≡ err_old) × (new ≡ old) → Refused refusal
   plain read error refusal is refused other same = inr record {
     of_etc = read.of_etc;
@@ -60,11 +77,11 @@ module _ {S W : Type 0} (seen : S → Contents) (left_by : S → Outcomes) (take
     };
   }
 
-  pub update_refused : tells → AreReadOf root (seen old) files → (error : ToolError) (refusal : Refusal) → IsOfUpdate error (database_path usr root) refusal
+  pub update_refused : tells → AreReadOf root (seen old) listed files → (error : ToolError) (refusal : Refusal) → IsOfUpdate error (database_path usr root) refusal
       → ForFolders files (λ e u. IsUpdateRefusal e u max_file error)
-      → OnUnreplaced (λ u. ForFolders files (λ e r. UpdateUndone e r (database_folder usr root) (taken err_old) (taken err_new) tells (seen old) (seen new) (left_by old) (left_by new) u)) error
+      → OnUnreplaced (λ u. ForFolders files (λ e r. UpdateUndone e r (given_where verbose listed) (database_folder usr root) (taken err_old) (taken err_new) tells (seen old) (seen new) (left_by old) (left_by new) u)) error
       → (error ≡ Write → new ≡ old)
-      → (error ≡ Write → ForFolders files (λ e u. AppendsPrefix (taken err_old) (taken err_new) (faults_text (faults_of_files e u))))
+      → (error ≡ Write → ForFolders files (λ e u. AppendsPrefix (taken err_old) (taken err_new) (update_text (given_where verbose listed) e u)))
       → (error ≢ Write → ((u : Unreplaced) → error ≢ Replace u) → (err_new ≡ err_old) × (new ≡ old))
       → Refused refusal
   unfolding is_write is_replace
@@ -76,7 +93,7 @@ module _ {S W : Type 0} (seen : S → Contents) (left_by : S → Outcomes) (take
     refused = inr (let un = undone read.of_etc read.of_usr read.are in record {
       unreplaced = u;
       is = is;
-      undone = record { database = un.database; written = un.written; faults = un.faults; seen = λ _. un.seen t; left = λ _. un.left t };
+      undone = record { database = un.database; written = un.written; told = subst (λ l. Appends (taken err_old) (taken err_new) (update_text l read.of_etc read.of_usr)) (ap (given_where verbose) (sym read.named)) un.told; seen = λ _. un.seen t; left = λ _. un.left t };
     });
   }
   update_refused t read Write refusal is refused undone write cut same = inr record {
@@ -90,7 +107,7 @@ module _ {S W : Type 0} (seen : S → Contents) (left_by : S → Outcomes) (take
       refused = refused read.of_etc read.of_usr read.are;
       kept = kept (write refl);
       untouched = λ n. absurd (n refl);
-      cut_short = λ w. cut refl read.of_etc read.of_usr read.are;
+      cut_short = λ w. subst (λ l. AppendsPrefix (taken err_old) (taken err_new) (update_text l read.of_etc read.of_usr)) (ap (given_where verbose) (sym read.named)) (cut refl read.of_etc read.of_usr read.are);
     };
   }
   update_refused t read Read refusal is refused undone write cut same =

@@ -2,6 +2,7 @@
 use Rattle.std.specs.Prelude.{true, false, ◌≡◌, ℕ, Bool, List, ◌⊎◌, Option, Some, None}
 use Rattle.hwdb_spec.specs.Assignment.{Position}
 use Rattle.hwdb_spec.specs.Folders.{Source}
+use Rattle.hwdb_spec.specs.Progress.{listing}
 use Rattle.hwdb_spec.specs.Store.{Contents, Outcomes, Stored, IsPart, database_file, database_name, path_in}
 use Rattle.hwdb_spec.specs.System.{AreFilesIn, bytes_at, asked_database, database_folder, etc_files, usr_files}
 use Rattle.hwdb_spec.specs.Texts.{IsSpelling, list_text, max_file}
@@ -13,14 +14,14 @@ use Rattle.hwdb_commands.specs.Devices.{Wrote, WroteTexts}
 use Rattle.hwdb_commands.specs.Lookups.{IsTextOf}
 use Rattle.hwdb_commands.specs.Updates.{Updated, AreAskTexts}
 
--- The text files of both folders below the root are accepted, standard error took their fault lines, and their database is
+-- The text files of both folders below the root are accepted, standard error took what is said of them, and their database is
 -- in its place.
-pub record IsUpdated (root : List ℕ) (strict : Bool) (status : ℕ) (old : Contents) (err_before err_now : Option (List ℕ)) (in_place : List ℕ → Type 0) : Type 0 where
+pub record IsUpdated (root : List ℕ) (verbose strict : Bool) (status : ℕ) (old : Contents) (err_before err_now : Option (List ℕ)) (in_place : List ℕ → Type 0) : Type 0 where
   pub of_etc : List Source
   pub of_usr : List Source
   pub in_etc : AreFilesIn (etc_files root) old of_etc
   pub in_usr : AreFilesIn (usr_files root) old of_usr
-  pub updated : Updated of_etc of_usr max_file strict status err_before err_now in_place
+  pub updated : Updated of_etc of_usr (listing verbose of_usr) max_file strict status err_before err_now in_place
 
 -- standard output took what the database that is asked gives
 pub record IsAnswered (root : List ℕ) (Is : (bytes text : List ℕ) → Type 0) (contents : Contents) (out_before out_now : Option (List ℕ)) : Type 0 where

@@ -1,19 +1,35 @@
 -- What the steps of a task hold.
-use Rattle.std.specs.Prelude.{◌≡◌, ℕ, List, Some, map}
-use Rattle.hwdb_spec.specs.Folders.{Source}
+use Rattle.std.specs.Prelude.{◌≡◌, ℕ, List, Some, length, map}
+use Rattle.std.specs.Borrow.{Bor}
+use Rattle.std.specs.BTreeSet.{BTreeSet}
+use Rattle.std.specs.List.{list_any}
+use Rattle.hwdb_spec.specs.Progress.{within_64_bits}
+use Rattle.hwdb_spec.specs.Written.{IsCompiled}
+use Rattle.hwdb_compile.specs.declared.sources.Compiled.{Compiled}
+use Rattle.hwdb_spec.specs.Folders.{Source, all_assignments, lists, same}
 use Rattle.hwdb_spec.specs.Store.{Contents}
 use Rattle.hwdb_spec.specs.System.{AreFilesIn, bytes_at, etc_files, usr_files}
 use Rattle.hwdb_compile.specs.Views.{AreChosenOf}
 use Rattle.hwdb_compile.specs.declared.sources.ChosenFile.{ChosenFile}
 
+-- a set of these names
+abbrev pub IsNameSet : (names : List (List ℕ)) → BTreeSet (Bor (List ℕ)) → Type 0
+IsNameSet names set = (name : Bor (List ℕ)) → list_any (λ (k : Bor (List ℕ)). same name.now k.now) set.keys ≡ lists name.now names
+
+-- a database of the files, and how many assignments they have
+pub record IsCompiledOf (etc usr : List Source) (c : Compiled) : Type 0 where
+  pub database : IsCompiled etc usr c.database.items
+  pub given : c.given ≡ within_64_bits (length (all_assignments etc usr))
+
 -- the texts are what is read at the paths
 abbrev pub AreTextsAt : Contents → (paths texts : List (List ℕ)) → Type 0
 AreTextsAt contents paths texts = map Some texts ≡ map (bytes_at contents) paths
 
--- the files are the chosen ones of the folders' text files
-pub record AreReadOf (root : List ℕ) (contents : Contents) (files : List ChosenFile) : Type 0 where
+-- the files are the chosen ones of the folders' text files; /usr/lib's have these names
+pub record AreReadOf (root : List ℕ) (contents : Contents) (listed : List (List ℕ)) (files : List ChosenFile) : Type 0 where
   pub of_etc : List Source
   pub of_usr : List Source
   pub in_etc : AreFilesIn (etc_files root) contents of_etc
   pub in_usr : AreFilesIn (usr_files root) contents of_usr
+  pub named : map (λ (s : Source). s.name) of_usr ≡ listed
   pub are : AreChosenOf of_etc of_usr files

@@ -2,10 +2,11 @@
 use Rattle.std.specs.Prelude.{◌≡◌, ◌≢◌, ◌⊎◌, ℕ, Bool, true, false, List, [], ◌∷◌, Option, Some, None, Contains}
 use Rattle.hwdb_spec.specs.Assignment.{Position}
 use Rattle.hwdb_spec.specs.Checks.{check_text}
-use Rattle.hwdb_spec.specs.Folders.{Source, faults_of_files}
+use Rattle.hwdb_spec.specs.Folders.{Source}
+use Rattle.hwdb_spec.specs.Progress.{listing, update_text}
 use Rattle.hwdb_spec.specs.Store.{Contents, Outcomes, NoMore, Same, database_name, path_in}
 use Rattle.hwdb_spec.specs.System.{AreFilesIn, asked_database, bytes_at, database_folder, etc_files, usr_files}
-use Rattle.hwdb_spec.specs.Texts.{IsSpelling, faults_text, max_file}
+use Rattle.hwdb_spec.specs.Texts.{IsSpelling, max_file}
 use Rattle.hwdb_store.specs.declared.replacement.Unreplaced.{Unreplaced}
 use Rattle.hwdb_commands.specs.Devices.{AppendsPrefix, WroteTextsPrefix, WrotePrefix}
 use Rattle.hwdb_commands.specs.Lookups.{IsNoDatabase}
@@ -96,32 +97,32 @@ abbrev pub IsCheckRefused : (Unread : Refusal → Type 0) (Are : List Source →
 IsCheckRefused Unread Are refusal out_before out_now =
     (Unread refusal × (out_now ≡ out_before)) ⊎ ((error : ToolError) × (refusal ≡ Plain error) × IsUnchecked Are error out_before out_now)
 
--- compiling the files is refused, or their fault lines can't be written: nothing of the files changed
-pub record IsUncompiled (of_etc of_usr : List Source) (refusal : Refusal) (old new : Contents) (left_before left : Outcomes) (err_before err_then : Option (List ℕ)) : Type 0 where
+-- compiling the files is refused, or what is said of them can't be written: nothing of the files changed
+pub record IsUncompiled (of_etc of_usr : List Source) (listed : Option (List (List ℕ))) (refusal : Refusal) (old new : Contents) (left_before left : Outcomes) (err_before err_then : Option (List ℕ)) : Type 0 where
   pub error : ToolError
   pub is : refusal ≡ Plain error
   pub refused : IsUpdateRefusal of_etc of_usr max_file error
   pub kept : AreKept old new left_before left
   pub untouched : error ≢ Write → err_then ≡ err_before
-  pub cut_short : error ≡ Write → AppendsPrefix err_before err_then (faults_text (faults_of_files of_etc of_usr))
+  pub cut_short : error ≡ Write → AppendsPrefix err_before err_then (update_text listed of_etc of_usr)
 
--- the database can't be replaced, after standard error took the fault lines
-pub record IsUnwritten (root : List ℕ) (usr : Bool) (of_etc of_usr : List Source) (refusal : Refusal) (old new : Contents) (left_before left : Outcomes) (err_before err_then : Option (List ℕ)) : Type 0 where
+-- the database can't be replaced, after standard error took what is said of the files
+pub record IsUnwritten (root : List ℕ) (usr : Bool) (of_etc of_usr : List Source) (listed : Option (List (List ℕ))) (refusal : Refusal) (old new : Contents) (left_before left : Outcomes) (err_before err_then : Option (List ℕ)) : Type 0 where
   pub unreplaced : Unreplaced
   pub is : IsOver Write (database_path usr root) refusal
-  pub undone : UpdateUndone of_etc of_usr (database_folder usr root) err_before err_then (Unit {0}) old new left_before left unreplaced
+  pub undone : UpdateUndone of_etc of_usr listed (database_folder usr root) err_before err_then (Unit {0}) old new left_before left unreplaced
 
 -- the text files of both folders were read, and compiling them or putting their database in its place is refused
-pub record IsUpdateUndone (root : List ℕ) (usr : Bool) (refusal : Refusal) (old new : Contents) (left_before left : Outcomes) (err_before err_then : Option (List ℕ)) : Type 0 where
+pub record IsUpdateUndone (root : List ℕ) (usr verbose : Bool) (refusal : Refusal) (old new : Contents) (left_before left : Outcomes) (err_before err_then : Option (List ℕ)) : Type 0 where
   pub of_etc : List Source
   pub of_usr : List Source
   pub in_etc : AreFilesIn (etc_files root) old of_etc
   pub in_usr : AreFilesIn (usr_files root) old of_usr
-  pub refused : IsUncompiled of_etc of_usr refusal old new left_before left err_before err_then
-      ⊎ IsUnwritten root usr of_etc of_usr refusal old new left_before left err_before err_then
+  pub refused : IsUncompiled of_etc of_usr (listing verbose of_usr) refusal old new left_before left err_before err_then
+      ⊎ IsUnwritten root usr of_etc of_usr (listing verbose of_usr) refusal old new left_before left err_before err_then
 
 -- `update` is refused
-abbrev pub IsUpdateRefused : (root : List ℕ) (usr : Bool) → Refusal → (old new : Contents) (left_before left : Outcomes) (err_before err_then : Option (List ℕ)) → Type 0
-IsUpdateRefused root usr refusal old new left_before left err_before err_then =
+abbrev pub IsUpdateRefused : (root : List ℕ) (usr verbose : Bool) → Refusal → (old new : Contents) (left_before left : Outcomes) (err_before err_then : Option (List ℕ)) → Type 0
+IsUpdateRefused root usr verbose refusal old new left_before left err_before err_then =
     (AreUnread root old refusal × AreKept old new left_before left × (err_then ≡ err_before))
-    ⊎ IsUpdateUndone root usr refusal old new left_before left err_before err_then
+    ⊎ IsUpdateUndone root usr verbose refusal old new left_before left err_before err_then

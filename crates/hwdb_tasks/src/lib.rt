@@ -3,6 +3,7 @@
 //! | Module | What it does |
 //! |---|---|
 //! | `updates` | `update`: the text files of both folders, compiled into the database of one |
+//! | `progress` | what `update --verbose` says of the files that it compiles |
 //! | `queries` | `query`: what each of several devices gets, those of the words or those that standard input names |
 //! | `answers` | `explain`, `list` and `ask`: what a device gets |
 //! | `checks` | `check`: text files that are read and looked over |
@@ -18,6 +19,7 @@ mod checks;
 mod databases;
 mod differences;
 mod dumps;
+mod progress;
 mod queries;
 mod updates;
 mod verdicts;

@@ -1,27 +1,95 @@
 //! `update`: the text files of both folders, compiled into the database of one.
-ghost use Rattle.std.specs.Prelude.{◌≡◌, ◌≢◌, ◌≤◌, IfOk, IfErr};
+ghost use Rattle.std.specs.Prelude.{◌≡◌, ◌≢◌, ◌≤◌, map, option_map, string_bytes, All, IfOk, IfErr, OnOk, IsErrOf};
+ghost use Rattle.hwdb_spec.specs.Progress.{given_where, update_text};
 ghost use Rattle.hwdb_spec.specs.Store as spec;
 ghost use Rattle.hwdb_spec.specs.System as Folder;
-ghost use Rattle.hwdb_spec.specs.Failures.{HasFailed};
+ghost use Rattle.hwdb_spec.specs.Failures.{HasFailed, OneFailed};
+ghost use Rattle.hwdb_spec.specs.Texts.{max_file};
+ghost use Rattle.hwdb_text.specs.Views.{IsStorableChoice};
+ghost use Rattle.hwdb_compile.specs.Views.{ForFolders, choice_in};
+ghost use Rattle.hwdb_store.specs.Views.{failures_after};
+ghost use Rattle.hwdb_commands.specs.Devices.{AppendsPrefix};
+ghost use Rattle.hwdb_commands.specs.Updates.{IsUpdateRefusal, OldOrWritten, OnUnreplaced, UpdateUndone, Updated};
 ghost use Rattle.hwdb_tasks.specs.Done.{IsUpdated, OldOrUpdated};
 ghost use Rattle.hwdb_tasks.specs.Undone.{IsUpdateRefused};
 ghost use Rattle.hwdb_system.specs.declared.refusals.Refusal.TheVariants.{Plain};
 
 use crate::databases::database_folder;
-use hwdb_commands::{MAX_BYTES, ToolError, update_chosen};
+use crate::progress::progress;
+use hwdb_commands::{MAX_BYTES, ToolError, put_in_place};
+use hwdb_compile::{ChosenFile, compile_chosen};
 use hwdb_devices::Sink;
-use hwdb_store::DATABASE;
+use hwdb_store::{DATABASE, Store, Unreplaced};
 use hwdb_system::{Refusal, System, path_in, selected, with_texts};
 use std::alloc::Global;
 
+/// Compiles chosen files, says of them what is to be said, and puts their database in its place in a folder of the
+/// store. What is said are their fault lines, and before these, where the names of /usr/lib's files are given, which files
+/// they are and how much they assign. Returns the status: 1 where `strict` and there is a fault line, else 0.
+fn update_files<S: Store, E: Sink>(
+    alloc: Global,
+    files: &[ChosenFile<'_>],
+    listed: Option<&[String]>,
+    strict: bool,
+    folder: &str,
+    store: &mut S,
+    err: &mut E,
+) -> Result<u8, ToolError>
+    requires { All IsStorableChoice (map choice_in files.now) }
+    ensures updated { let names = option_map (λ l. map string_bytes l.now) listed.entry in
+        IfOk result (λ status. ForFolders files.now (λ etc usr.
+        Updated etc usr names max_file strict status
+        (E.taken err.old) (E.taken err.new) (λ database. S.tells → spec.InPlace folder.now database
+        (S.seen store.old) (S.seen store.new) (S.may_leave store.new)))) }
+    ensures status { IfOk result (λ status. status ≤ 1) }
+    ensures any_moment { S.tells → ForFolders files.now (λ etc usr.
+        spec.LeavesOnly S.moment S.left_since store.old store.new
+        (OldOrWritten etc usr folder.now (S.seen store.old) (S.may_leave store.old))) }
+
+    ensures refusals { IfErr result
+        (λ e. ForFolders files.now (λ etc usr. IsUpdateRefusal etc usr max_file e)) }
+    ensures unreplaced { let names = option_map (λ l. map string_bytes l.now) listed.entry in
+        IfErr result (OnUnreplaced (λ u. ForFolders files.now (λ etc usr.
+        UpdateUndone etc usr names folder.now
+        (E.taken err.old) (E.taken err.new) S.tells (S.seen store.old) (S.seen store.new)
+        (S.may_leave store.old) (S.may_leave store.new) u))) }
+    ensures counted { IfErr result (OnUnreplaced
+        (λ u. (E.failures err.new ≡ E.failures err.old)
+        × (S.failures store.new ≡ failures_after u (S.failures store.old)))) }
+    ensures last { IsErrOf result ToolError.Write
+        → OneFailed (E.failures err.old) (E.failures err.new) × (store.new ≡ store.old) }
+    ensures cause { IsErrOf result ToolError.Write
+        → HasFailed (E.failures err.old) (E.failures err.new) }
+    ensures cut_short { let names = option_map (λ l. map string_bytes l.now) listed.entry in
+        IsErrOf result ToolError.Write → ForFolders files.now (λ etc usr.
+        AppendsPrefix (E.taken err.old) (E.taken err.new) (update_text names etc usr)) }
+    ensures untouched { IfErr result
+        (λ e. e ≢ ToolError.Write → ((u : Unreplaced) → e ≢ ToolError.Replace u)
+        → (err.new ≡ err.old) × (store.new ≡ store.old)) }
+{
+    let compiled = compile_chosen(alloc, files, MAX_BYTES)?;
+    let told = progress(alloc, files, listed, &compiled)?;
+    put_in_place(alloc, &compiled, &told, strict, folder, store, err)
+}
+
+/// The names of /usr/lib's files, where `verbose`.
+fn listing(verbose: bool, listed: &[String]) -> Option<&[String]>
+    ensures { option_map (λ l. map string_bytes l.now) result
+        ≡ given_where verbose (map string_bytes listed.now) }
+{
+    if verbose { Some(listed) } else { None }
+}
+
 /// Compiles the text files of both folders into the database of one, which takes the old one's place once it
-/// is whole on the disk. Returns the status: 1 where `strict` and there is a fault, else 0. After a refusal the old
-/// database stands as it was, and no new file.
+/// is whole on the disk. Their fault lines go to `err`, and before these, where `verbose`, which files they are, which of
+/// them mask others, and how much they assign. Returns the status: 1 where `strict` and there is a fault, else 0. After a
+/// refusal the old database stands as it was, and no new file.
 pub fn update<D: System, E: Sink>(
     alloc: Global,
     root: &str,
     usr: bool,
     strict: bool,
+    verbose: bool,
     system: &mut D,
     err: &mut E,
 ) -> Result<u8, Refusal>
@@ -30,12 +98,13 @@ pub fn update<D: System, E: Sink>(
         → spec.LeavesOnly D.Store.moment D.Store.left_since system.old system.new
         (OldOrUpdated root.now usr (D.Store.seen system.old) (D.Store.may_leave system.old)) }
     ensures updated { D.Store.tells → IfOk result
-        (λ status. IsUpdated root.now strict status (D.Store.seen system.old)
+        (λ status. IsUpdated root.now verbose strict status (D.Store.seen system.old)
         (E.taken err.old) (E.taken err.new)
         (λ database. spec.InPlace (Folder.database_folder usr root.now) database
         (D.Store.seen system.old) (D.Store.seen system.new) (D.Store.may_leave system.new))) }
     ensures refused { D.Store.tells → IfErr result
-        (λ r. IsUpdateRefused root.now usr r (D.Store.seen system.old) (D.Store.seen system.new)
+        (λ r. IsUpdateRefused root.now usr verbose r
+        (D.Store.seen system.old) (D.Store.seen system.new)
         (D.Store.may_leave system.old) (D.Store.may_leave system.new)
         (E.taken err.old) (E.taken err.new)) }
     ensures unfailed { IfErr result (λ r. r ≢ Plain ToolError.Write
@@ -47,10 +116,10 @@ pub fn update<D: System, E: Sink>(
     let files = with_texts(alloc, &selection.chosen, &selection.texts)?;
     let folder = database_folder(alloc, root, usr)?;
     let path = path_in(alloc, folder.as_str(), DATABASE)?.into_bytes();
-    match update_chosen(
+    match update_files(
         alloc,
         &files,
-        MAX_BYTES,
+        listing(verbose, &selection.listed),
         strict,
         folder.as_str(),
         system,

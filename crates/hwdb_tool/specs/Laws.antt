@@ -25,7 +25,7 @@ pub record PrintsLast (root : List ℕ) (contents : Contents) (device : List ℕ
 -- a query of a device, where the database of an update stands in its place in /etc
 abbrev pub UpdateThenQuery : Type 0
 UpdateThenQuery =
-    (root : List ℕ) (strict : Bool) (status : ℕ) (device : List ℕ) (old new : Contents) (err_before err_now out_before out_now : Option (List ℕ))
-    → IsUpdated root strict status old err_before err_now (λ database. new (path_in (database_folder false root) database_name) ≡ Some (database_file database))
+    (root : List ℕ) (verbose strict : Bool) (status : ℕ) (device : List ℕ) (old new : Contents) (err_before err_now out_before out_now : Option (List ℕ))
+    → IsUpdated root verbose strict status old err_before err_now (λ database. new (path_in (database_folder false root) database_name) ≡ Some (database_file database))
     → IsAnswered root (IsTextOf (queries_text (device ∷ []))) new out_before out_now
     → PrintsLast root old device out_before out_now

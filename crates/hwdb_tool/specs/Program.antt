@@ -26,8 +26,8 @@ IsQuiet status old new err_before err_now = (status ≡ 0) × Same old new × (e
 
 -- what a task leaves that is done
 abbrev pub IsTaskDone : Task → (root : List ℕ) (usr strict : Bool) (status : ℕ) (input : Option (List ℕ)) (old new : Contents) (left : Outcomes) (err_before err_now out_before out_now : Option (List ℕ)) → Type 0
-IsTaskDone Update root usr strict status input old new left err_before err_now out_before out_now =
-    IsUpdated root strict status old err_before err_now (λ database. InPlace (database_folder usr root) database old new left)
+IsTaskDone (Update verbose) root usr strict status input old new left err_before err_now out_before out_now =
+    IsUpdated root verbose strict status old err_before err_now (λ database. InPlace (database_folder usr root) database old new left)
     × (out_now ≡ out_before)
 IsTaskDone (Query devices json) root usr strict status input old new left err_before err_now out_before out_now =
     AreAnswered root json (map string_bytes devices.items) input old out_before out_now × IsQuiet status old new err_before err_now
@@ -69,9 +69,13 @@ abbrev pub reads_input : Task → Bool
 reads_input (Query devices json) = is_input (map string_bytes devices.items)
 reads_input _ = false
 
+-- the task is an update
+abbrev pub IsUpdate : Task → Type 0
+IsUpdate task = (verbose : Bool) × (task ≡ Update verbose)
+
 -- during a job: only an update leaves anything new
 abbrev pub OldOrDone : Job → (old : Contents) (outcomes : Outcomes) → Outcomes
-OldOrDone job old outcomes p v = outcomes p v ⊎ ((job.task ≡ Update) × IsLeftByUpdate (root_of job) job.usr old p v)
+OldOrDone job old outcomes p v = outcomes p v ⊎ (IsUpdate job.task × IsLeftByUpdate (root_of job) job.usr old p v)
 
 -- during a run of the program with these words
 abbrev pub OldOrAskedFor : (words : List (List ℕ)) (old : Contents) (outcomes : Outcomes) → Outcomes

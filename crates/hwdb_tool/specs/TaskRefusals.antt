@@ -29,8 +29,8 @@ pub record Taken : Type 0 where
 
 -- a task is refused
 abbrev pub IsTaskRefused : Task → (root : List ℕ) (usr : Bool) (input : Option (List ℕ)) → Refusal → (old new : Contents) (left_before left : Outcomes) (err_before err_then out_before out_now : Option (List ℕ)) → Type 0
-IsTaskRefused Update root usr input refusal old new left_before left err_before err_then out_before out_now =
-    IsUpdateRefused root usr refusal old new left_before left err_before err_then × (out_now ≡ out_before)
+IsTaskRefused (Update verbose) root usr input refusal old new left_before left err_before err_then out_before out_now =
+    IsUpdateRefused root usr verbose refusal old new left_before left err_before err_then × (out_now ≡ out_before)
 IsTaskRefused (Query devices json) root usr input refusal old new left_before left err_before err_then out_before out_now =
     AreUnanswered root json (map string_bytes devices.items) input old refusal out_before out_now
     × (err_then ≡ err_before) × AreKept old new left_before left

@@ -153,7 +153,9 @@ fn run<D: System, I: Source, O: Sink, E: Sink>(
 {
     let root = root_of(job);
     match &job.task {
-        Task::Update => return update(alloc, root, job.usr, job.strict, system, err),
+        Task::Update { verbose } => {
+            return update(alloc, root, job.usr, job.strict, *verbose, system, err);
+        }
         Task::Query { devices, json } => {
             query(alloc, root, devices, *json, system, input, out)?
         },

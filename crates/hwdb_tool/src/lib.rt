@@ -11,8 +11,6 @@
 
 mod dispatch;
 mod laws;
-#[cfg(test)]
-mod tests;
 
 pub use dispatch::program;
 pub use hwdb_cli::{Job, Task, WordsFault, read_words};

@@ -28,7 +28,7 @@ fn json_word(json: bool) -> &'static str {
 fn shown(alloc: Global, job: &Job) -> Result<String, AllocError> {
     let root = optional(alloc, &job.root)?;
     let task = match &job.task {
-        Task::Update => String::from_str(alloc, "update")?,
+        Task::Update { verbose } => format!(in alloc; "update verbose={verbose}")?,
         Task::Query { devices, json } => {
             let mut line = format!(in alloc; "query{}", json_word(*json))?;
             for device in devices {

@@ -38,16 +38,6 @@ pub fn list<O: Sink>(
     hwdb_commands::run_list(alloc, bytes, device, after, limit, out)
 }
 
-/// What `explain` prints.
-pub fn explain<O: Sink>(
-    alloc: Global,
-    bytes: &[u8],
-    device: &[u8],
-    out: &mut O,
-) -> Result<(), ToolError> {
-    hwdb_commands::run_explain(alloc, bytes, device, out)
-}
-
 /// What `ask` prints of a text file.
 pub fn ask<O: Sink, E: Sink>(
     alloc: Global,

@@ -1,13 +1,13 @@
-//! Sinks that fail at each byte or at the flush, that take one byte at a time, or none.
+//! Sinks whose flush fails, that take one byte at a time, or none; and stores that fail at each call.
 ghost use Rattle.std.specs.Prelude.{Some, take};
 
 use crate::fixtures::database_in;
-use crate::tests::calls::{self, add, list, query};
-use crate::tests::vectors::FAULTY;
+use crate::tests::calls::{self, add, compiled, list, query};
 use hwdb_commands::{MAX_BYTES, ToolError, write_text};
 use hwdb_compile::SourceFile;
 use hwdb_devices::testing::MemorySink;
 use hwdb_devices::{Cause, DeviceFailed, Sink, ToWrite};
+use hwdb_inspect::{DumpError, run_dump};
 use hwdb_store::{Memory, Unreplaced};
 use std::alloc::{AllocError, Global};
 use std::io::{self, Write};
@@ -46,10 +46,7 @@ fn files_of(alloc: Global, name: &str, text: &str) -> Result<Vec<SourceFile>, Al
 /// The database of one text file.
 fn database_of(alloc: Global, text: &str) -> Result<Vec<u8>, ToolError> {
     let files = files_of(alloc, "1.hwdb", text)?;
-    let mut store = Memory::new(alloc);
-    let mut err: MemorySink<8> = MemorySink::new();
-    update(alloc, &files, true, &mut store, &mut err)?;
-    Ok(database_in(alloc, &store)?)
+    compiled(alloc, &files, &[])
 }
 
 fn print<O: Sink>(
@@ -64,31 +61,6 @@ fn print<O: Sink>(
     } else {
         query(alloc, bytes, device, out)
     }
-}
-
-/// A sink that fails after so many bytes has taken just these.
-#[test]
-fn prints_cut_short(rt: HostRuntime) -> Result<(), Fail> {
-    assert_eq!(rt; LIST.printed.len(), 38);
-    for row in [LIST, QUERY] {
-        let bytes = database_of(rt.alloc(), row.text)?;
-        let want = row.printed.as_bytes();
-        for room in 0..want.len() {
-            let mut out: MemorySink<64> = MemorySink::new();
-            out.room = room;
-            assert_eq!(rt;
-                print(rt.alloc(), row, &bytes, &mut out),
-                Err(ToolError::Write)
-            );
-            assert_eq!(rt; out.taken(), &want[..room]);
-            assert_eq!(rt; out.failed, 1);
-        }
-        let mut out: MemorySink<64> = MemorySink::new();
-        out.room = want.len();
-        assert_eq!(rt; print(rt.alloc(), row, &bytes, &mut out), Ok(()));
-        assert_eq!(rt; out.taken(), want);
-    }
-    Ok(())
 }
 
 #[test]
@@ -111,21 +83,19 @@ fn prints_by_bytes(rt: HostRuntime) -> Result<(), Fail> {
     Ok(())
 }
 
-/// What a sink took whose flush fails.
-fn unflushed(rt: &impl Abort, alloc: Global, row: Printing) -> Result<MemorySink<64>, ToolError> {
-    let bytes = database_of(alloc, row.text)?;
-    let mut out: MemorySink<64> = MemorySink::new();
-    out.flush_fails = true;
-    assert_eq!(rt; print(alloc, row, &bytes, &mut out), Err(ToolError::Write));
-    Ok(out)
-}
-
+/// `query` flushes behind its text, and `list` behind each line; both refuse where that fails.
 #[test]
 fn prints_unflushed(rt: HostRuntime) -> Result<(), Fail> {
-    let out = unflushed(&rt, rt.alloc(), QUERY)?;
-    assert_eq!(rt; out.taken(), QUERY.printed.as_bytes());
-    let out = unflushed(&rt, rt.alloc(), LIST)?;
-    assert!(rt; LIST.printed.as_bytes().starts_with(out.taken()));
+    let rows = [(QUERY, QUERY.printed), (LIST, "1:2:612a:4b\ta*\tK=1\n")];
+    for (row, taken) in rows {
+        let bytes = database_of(rt.alloc(), row.text)?;
+        let mut out: MemorySink<64> = MemorySink::new();
+        out.flush_fails = true;
+        let seen = print(rt.alloc(), row, &bytes, &mut out);
+        assert_eq!(rt; seen, Err(ToolError::Write));
+        assert_eq!(rt; out.failed, 1);
+        assert_eq!(rt; out.taken(), taken.as_bytes());
+    }
     Ok(())
 }
 
@@ -144,39 +114,13 @@ fn update<E: Sink>(
     calls::update(alloc, files, &[], MAX_BYTES, strict, store, err)
 }
 
-/// The database is begun only once the fault lines are whole.
-#[test]
-fn updates_cut_short(rt: HostRuntime) -> Result<(), Fail> {
-    let alloc = rt.alloc();
-    let files = files_of(alloc, "t.hwdb", FAULTY_TEXT)?;
-    let lines = FAULT_LINES.as_bytes();
-    for room in 0..lines.len() {
-        let mut store = Memory::new(alloc);
-        let mut err: MemorySink<512> = MemorySink::new();
-        err.room = room;
-        let seen = update(alloc, &files, room % 2 == 0, &mut store, &mut err);
-        assert_eq!(rt; seen, Err(ToolError::Write));
-        assert_eq!(rt; err.taken(), &lines[..room]);
-        assert_eq!(rt; store.calls, 0);
-    }
-    for strict in [false, true] {
-        let mut store = Memory::new(alloc);
-        let mut err: MemorySink<512> = MemorySink::new();
-        err.room = lines.len();
-        let seen = update(alloc, &files, strict, &mut store, &mut err);
-        assert_eq!(rt; seen, Ok(u8::from(strict)));
-        assert_eq!(rt; err.taken(), lines);
-        assert_eq!(rt; database_in(alloc, &store)?.as_slice(), FAULTY.as_slice());
-    }
-    Ok(())
-}
-
 /// Each call of the store fails in turn: the folder's, the new file's, two writes, its mode, its sync, its rename, and
 /// the folder's sync, after which the new database stands all the same.
 #[test]
 fn updates_refused(rt: HostRuntime) -> Result<(), Fail> {
     let alloc = rt.alloc();
     let files = files_of(alloc, "t.hwdb", FAULTY_TEXT)?;
+    let whole = compiled(alloc, &files, &[])?;
     for call in 0..8u64 {
         let mut store = Memory::new(alloc);
         let mut err: MemorySink<512> = MemorySink::new();
@@ -184,7 +128,7 @@ fn updates_refused(rt: HostRuntime) -> Result<(), Fail> {
         store.fails = [Some(call), None];
         let seen = update(alloc, &files, true, &mut store, &mut err);
         let (want, database) = if call == 7 {
-            (Unreplaced::Unsynced, FAULTY.as_slice())
+            (Unreplaced::Unsynced, whole.as_slice())
         } else {
             (Unreplaced::Undone, b"".as_slice())
         };
@@ -201,8 +145,9 @@ fn updates_by_bytes(rt: HostRuntime) -> Result<(), Fail> {
     let files = files_of(alloc, "t.hwdb", FAULTY_TEXT)?;
     let lines = FAULT_LINES.as_bytes();
     let nothing = b"".as_slice();
+    let whole = compiled(alloc, &files, &[])?;
     let rows = [
-        (1usize, Ok(0u8), FAULTY.as_slice(), lines),
+        (1usize, Ok(0u8), whole.as_slice(), lines),
         (0, Err(ToolError::Write), nothing, nothing),
     ];
     for (of_lines, want, database, fault_lines) in rows {
@@ -358,4 +303,15 @@ fn unflushed_writers(rt: HostRuntime) {
         assert_eq!(rt; out.failed, 1);
         assert_eq!(rt; out.cause, Some(Cause::System(28)));
     }
+}
+
+/// A dump whose flush fails is refused.
+#[test]
+fn unflushed_dump(rt: HostRuntime) -> Result<(), Fail> {
+    let bytes = database_of(rt.alloc(), "b\n K=1\n")?;
+    let mut out: MemorySink<64> = MemorySink::new();
+    out.flush_fails = true;
+    let answer = run_dump(rt.alloc(), &bytes, &mut out);
+    assert!(&rt; answer == Err(DumpError::Write));
+    Ok(())
 }

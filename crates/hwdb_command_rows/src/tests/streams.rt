@@ -1,11 +1,9 @@
-//! Worked examples of devices that are read, one a line.
+//! Sources of devices, one a line, that give a byte at a time, or fail.
 use hwdb_commands::{MAX_BYTES, ToolError};
 use hwdb_compile::{SourceFile, compile};
 use hwdb_devices::testing::{EndlessSource, MemorySink, MemorySource};
-use hwdb_reader::DbFault;
 use hwdb_stream::{LineReader, run_stream};
 use std::alloc::Global;
-use std::process::Abort;
 use std::test::Fail;
 
 /// What a test's file assigns.
@@ -22,21 +20,7 @@ fn database(alloc: Global) -> Result<Vec<u8>, Fail> {
     Ok(compiled.database)
 }
 
-/// Answers an input, and compares what was written.
-fn answers(
-    rt: &impl Abort,
-    alloc: Global,
-    database: &[u8],
-    json: bool,
-    input: &mut MemorySource<'_>,
-    want: &str,
-) {
-    let mut out: MemorySink<512> = MemorySink::new();
-    let answer = run_stream(alloc, database, json, input, &mut out);
-    assert_eq!(rt; answer, Ok(()), "{want}");
-    assert_eq!(rt; out.taken(), want.as_bytes(), "{want}");
-}
-
+/// What standard input has, and what is printed.
 const ROWS: [(&str, &str); 9] = [
     ("", ""),
     ("ab\n", "K=1\nL=2\n"),
@@ -49,66 +33,17 @@ const ROWS: [(&str, &str); 9] = [
     ("\nax", "\nK=1\n"),
 ];
 
+/// The bytes come one by one.
 #[test]
-fn devices(rt: HostRuntime) -> Result<(), Fail> {
+fn devices_by_bytes(rt: HostRuntime) -> Result<(), Fail> {
     let database = database(rt.alloc())?;
     for (input, want) in ROWS {
         let mut source = MemorySource::new(input.as_bytes());
-        answers(&rt, rt.alloc(), &database, false, &mut source, want);
-        let mut source = MemorySource::new(input.as_bytes());
         source.per_read = 1;
-        answers(&rt, rt.alloc(), &database, false, &mut source, want);
-    }
-    Ok(())
-}
-
-#[test]
-fn devices_as_json(rt: HostRuntime) -> Result<(), Fail> {
-    let database = database(rt.alloc())?;
-    let ab = "{\"device\":\"ab\",\"properties\":{\"K\":\"1\",\"L\":\"2\"}}\n";
-    let both =
-        "{\"device\":\"\",\"properties\":{}}\n{\"device\":\"ab\",\"properties\":{\"K\":\"1\",\"L\":\"2\"}}\n";
-    for (input, want) in [
-        ("", ""),
-        ("ab", ab),
-        ("ab\n", ab),
-        ("\nab", both),
-        ("\nab\n", both),
-    ] {
-        let mut source = MemorySource::new(input.as_bytes());
-        answers(&rt, rt.alloc(), &database, true, &mut source, want);
-    }
-    Ok(())
-}
-
-/// Whether the next line has so many bytes.
-fn next_has(
-    alloc: Global,
-    lines: &mut LineReader,
-    source: &mut MemorySource<'_>,
-    length: usize,
-) -> Result<bool, ToolError> {
-    match lines.next_line(alloc, source, 65_537)? {
-        Some(line) => Ok(line.len() == length),
-        None => Ok(false),
-    }
-}
-
-/// A line that ends with a chunk, one that ends behind it, and one that begins before it.
-#[test]
-fn chunk_borders(rt: HostRuntime) -> Result<(), Fail> {
-    let alloc = rt.alloc();
-    for length in [65_534usize, 65_535, 65_536, 65_537] {
-        let mut text = vec![in alloc; b'a'; length]?;
-        text.extend_from_slice(b"\nbcd\n\nlast")?;
-        let mut source = MemorySource::new(&text);
-        let mut lines = LineReader::new();
-        for want in [length, 3, 0, 4] {
-            let has = next_has(alloc, &mut lines, &mut source, want)?;
-            assert!(&rt; has, "{length} {want}");
-        }
-        let end = lines.next_line(alloc, &mut source, 65_537)?;
-        assert!(&rt; end.is_none(), "{length}");
+        let mut out: MemorySink<64> = MemorySink::new();
+        let answer = run_stream(rt.alloc(), &database, false, &mut source, &mut out);
+        assert_eq!(rt; answer, Ok(()), "{want}");
+        assert_eq!(rt; out.taken(), want.as_bytes(), "{want}");
     }
     Ok(())
 }
@@ -162,36 +97,17 @@ fn failing_reads(rt: HostRuntime) -> Result<(), Fail> {
     Ok(())
 }
 
-/// A sink that fails took a prefix, and nothing is read behind the line that was answered.
+/// Nothing is read behind the line that was answered where its flush fails.
 #[test]
-fn failing_sinks(rt: HostRuntime) -> Result<(), Fail> {
+fn failing_flush(rt: HostRuntime) -> Result<(), Fail> {
     let database = database(rt.alloc())?;
-    let whole = b"K=1\nL=2\n\nK=1\n";
-    for room in 0..13usize {
-        let mut input = MemorySource::new(b"ab\nax\n");
-        let mut out: MemorySink<64> = MemorySink::new();
-        out.room = room;
-        let answer = run_stream(rt.alloc(), &database, false, &mut input, &mut out);
-        assert_eq!(&rt; answer, Err(ToolError::Write), "{room}");
-        assert_eq!(&rt; out.failed, 1, "{room}");
-        assert_eq!(&rt; out.taken(), &whole[..room], "{room}");
-    }
     let mut input = MemorySource::new(b"ab\nax\n");
+    input.per_read = 3;
     let mut out: MemorySink<64> = MemorySink::new();
     out.flush_fails = true;
     let answer = run_stream(rt.alloc(), &database, false, &mut input, &mut out);
-    assert_eq!(&rt; answer, Err(ToolError::Write));
-    assert_eq!(&rt; out.taken(), &whole[..8]);
+    assert_eq!(rt; answer, Err(ToolError::Write));
+    assert_eq!(rt; out.taken(), b"K=1\nL=2\n".as_slice());
+    assert_eq!(rt; input.reads, 1);
     Ok(())
-}
-
-/// Nothing is read where the bytes are no database.
-#[test]
-fn bad_database(rt: HostRuntime) {
-    let mut input = MemorySource::new(b"ab\n");
-    let mut out: MemorySink<64> = MemorySink::new();
-    let answer = run_stream(rt.alloc(), b"", false, &mut input, &mut out);
-    assert_eq!(&rt; answer, Err(ToolError::BadDatabase(DbFault::Short)));
-    assert_eq!(&rt; input.reads, 0);
-    assert_eq!(&rt; out.len, 0);
 }

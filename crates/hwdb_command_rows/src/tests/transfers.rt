@@ -1,156 +1,28 @@
-//! Worked examples of reading, writing and asking.
-use hwdb_commands::{ToolError, ask, read_all, write_text};
+//! Sources and sinks that give and take less than is asked, or fail; the limits of the calls; and the texts of errors.
+use crate::tests::calls::{add, compiled, queries, update};
+use hwdb_commands::{ToolError, read_all, write_text};
 use hwdb_devices::testing::{EndlessSource, MemorySink, MemorySource};
 use hwdb_reader::DbFault;
-use std::alloc::Global;
-use std::process::Abort;
+use hwdb_store::Memory;
 use std::test::Fail;
 
-/// Asks one file, and compares what was written to `out` and to `err`.
-fn asks(
-    rt: &impl Abort,
-    alloc: Global,
-    text: &str,
-    device: &str,
-    out: &str,
-    err: &str,
-) -> Result<(), ToolError> {
-    let mut answer: MemorySink<256> = MemorySink::new();
-    let mut faults: MemorySink<512> = MemorySink::new();
-    ask(
-        alloc,
-        "t.hwdb",
-        text.as_bytes(),
-        device.as_bytes(),
-        &mut answer,
-        &mut faults,
-    )?;
-    assert_eq!(rt; answer.taken(), out.as_bytes(), "{device} of {text}");
-    assert_eq!(rt; faults.taken(), err.as_bytes(), "{device} of {text}");
-    Ok(())
-}
-
-const OVERRIDES: &str = "a*\n K=1\n\nab\n K=2\n";
-
-const BRACKETS: &str = "a[b*\n A=1\n\na[bc]x\n B=1\n\na[b\n C=1\n";
-
-const BACKSLASH: &str = "*\n A=1\n\n\\*\n B=1\n";
-
-const SPACES: &str = "a\n  K= v  # note\n L=\n M=1\r\n";
-
-const FAULTY: &str = " S=1\na\n K=1\n NOEQ\n =v\nb\n\nc\n";
-/// Three records after hwdb(7)'s own example: a family of devices, one model of it, and a later record
-/// for all of them that overrides one property and adds another.
-const MANUAL: &str =
-    "evdev:atkbd:dmi:bvn*:bvr*:bd*:svnAcme*:pn*\n KEY_a1=help\n KEY_a2=setup\n KEY_a3=battery\n\n# one model\nevdev:atkbd:dmi:bvn*:bvr*:bd*:svnAcme:pnZ123*\n KEY_a2=wlan\n\nevdev:atkbd:*\n KEY_a2=reserved\n SPACED=some string\n";
-
+/// A database by one byte larger than it may be isn't written; and of no device nothing is printed.
 #[test]
-fn properties(rt: HostRuntime) -> Result<(), Fail> {
-    let rows = [
-        ("usb:v1234*\n ID_X=1\n", "usb:v1234p5", "ID_X=1\n"),
-        ("usb:v1234*\n ID_X=1\n", "usb:v123", ""),
-        (OVERRIDES, "ab", "K=2\n"),
-        (OVERRIDES, "ac", "K=1\n"),
-        (BRACKETS, "a[bzz", "A=1\n"),
-        (BRACKETS, "abzz", ""),
-        (BRACKETS, "abx", "B=1\n"),
-        (BRACKETS, "a[b", "A=1\nC=1\n"),
-        (BACKSLASH, "*", "A=1\n"),
-        (BACKSLASH, "\\q", "A=1\nB=1\n"),
-        (SPACES, "a", "K= v\nL=\nM=1\n"),
-        ("a\n K=1\n# note\n L=2\n", "a", "K=1\nL=2\n"),
-        ("x\nx\n K=1\n", "x", "K=1\n"),
-        ("b\n B=1\n A=1\n", "b", "A=1\nB=1\n"),
-        (
-            MANUAL,
-            "evdev:atkbd:dmi:bvnAcme:bvr1:bd08/05/2010:svnAcme:pnZ123",
-            "KEY_a1=help\nKEY_a2=reserved\nKEY_a3=battery\nSPACED=some string\n",
-        ),
-        ("", "a", ""),
-    ];
-    for (text, device, out) in rows {
-        asks(&rt, rt.alloc(), text, device, out, "")?;
-    }
-    Ok(())
-}
-
-#[test]
-fn faults(rt: HostRuntime) -> Result<(), Fail> {
-    let rows = [
-        (
-            FAULTY,
-            "a",
-            "K=1\n",
-            "t.hwdb:1: property where a match is expected, ignored\nt.hwdb:4: property without =, ignored\nt.hwdb:5: empty key, ignored\nt.hwdb:6: match line inside a record, ignored; the record ends here\nt.hwdb:8: record without properties, ignored\n",
-        ),
-        (
-            "a\n K=1\n # note\n L=2\n",
-            "a",
-            "K=1\n",
-            "t.hwdb:4: property where a match is expected, ignored\n",
-        ),
-        (
-            "a\n K=1\x00\n",
-            "a",
-            "",
-            "t.hwdb:1: record without properties, ignored\nt.hwdb:2: byte 0 in the line, ignored\n",
-        ),
-        (
-            "a\nb\n",
-            "a",
-            "",
-            "t.hwdb:1: record without properties, ignored\n",
-        ),
-    ];
-    for (text, device, out, err) in rows {
-        asks(&rt, rt.alloc(), text, device, out, err)?;
-    }
-    Ok(())
-}
-
-/// A match line of 4,096 bytes is a pattern, one of 4,097 is too long.
-#[test]
-fn long_match_lines(rt: HostRuntime) -> Result<(), Fail> {
+fn limits(rt: HostRuntime) -> Result<(), Fail> {
     let alloc = rt.alloc();
-    let mut device = String::new(alloc);
-    for _ in 0..4096 {
-        device.push_str("a")?;
+    let mut files = Vec::new(alloc);
+    add(alloc, &mut files, "1.hwdb", "a\n K=v\n")?;
+    for (max_bytes, want) in [(206, Ok(0)), (205, Err(ToolError::TooLarge))] {
+        let mut store = Memory::new(alloc);
+        let mut err: MemorySink<8> = MemorySink::new();
+        let seen = update(alloc, &files, &[], max_bytes, true, &mut store, &mut err);
+        assert_eq!(rt; seen, want);
     }
-    let text = format!(in alloc; "{device}\n K=1\n")?;
-    asks(&rt, alloc, text.as_str(), device.as_str(), "K=1\n", "")?;
-    device.push_str("a")?;
-    let text = format!(in alloc; "{device}\n K=1\n")?;
-    let err = "t.hwdb:1: match line longer than 4096 bytes, ignored\n";
-    asks(&rt, alloc, text.as_str(), device.as_str(), "", err)?;
+    let database = compiled(alloc, &files, &[])?;
+    let mut out: MemorySink<8> = MemorySink::new();
+    assert_eq!(rt; queries(alloc, &database, &[], &mut out), Ok(()));
+    assert_eq!(rt; out.taken(), b"".as_slice());
     Ok(())
-}
-
-/// Nothing goes to `out` before the fault lines are whole, and a sink that fails is reported.
-#[test]
-fn failing_sinks(rt: HostRuntime) {
-    let alloc = rt.alloc();
-    let text = FAULTY.as_bytes();
-    for room in 0..234usize {
-        let mut out: MemorySink<8> = MemorySink::new();
-        let mut err: MemorySink<512> = MemorySink::new();
-        err.room = room;
-        assert_eq!(rt;
-            ask(alloc, "t.hwdb", text, b"a", &mut out, &mut err),
-            Err(ToolError::Write)
-        );
-        assert_eq!(rt; err.taken().len(), room);
-        assert_eq!(rt; out.taken(), b"".as_slice());
-    }
-    for room in 0..4usize {
-        let mut out: MemorySink<8> = MemorySink::new();
-        let mut err: MemorySink<512> = MemorySink::new();
-        out.room = room;
-        assert_eq!(rt;
-            ask(alloc, "t.hwdb", text, b"a", &mut out, &mut err),
-            Err(ToolError::Write)
-        );
-        assert_eq!(rt; out.taken(), &b"K=1\n"[..room]);
-    }
 }
 
 #[test]

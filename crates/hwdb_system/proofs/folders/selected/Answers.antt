@@ -1,5 +1,6 @@
-use Rattle.std.proofs.Common.{map, string_bytes, ◌∙◌, ap, sym, subst, Err}
-use Rattle.hwdb_text.specs.Views.{choice_of}
+use Rattle.std.proofs.Common.{◌≡◌, ◌≤◌, All, length, map, string_bytes, ◌∙◌, ap, sym, subst, Err}
+use Rattle.hwdb_text.specs.Views.{IsListed, choice_of}
+use Rattle.hwdb_spec.specs.Folders.{choice, max_files, names}
 use Rattle.hwdb_spec.specs.System.{etc_files, usr_files, AreNamesIn}
 use Rattle.hwdb_system.specs.Internal.{AreTexts}
 use Rattle.hwdb_system.specs.Reading.{AreUnread}
@@ -25,11 +26,10 @@ returns-in_err-texts-clause-refused g c = λ tells.
 pub returns-clause-selected : goal.returns-clause-selected
 returns-clause-selected g c = λ tells. record {
   etc = map string_bytes c.deref.result.now;
-  usr = map string_bytes c.deref-2.result.now;
   in_etc = subst (λ l. AreNamesIn (etc_files c.args.root.now) (g.D.Store.seen c.args.system.now) (map string_bytes l)) (sym c.deref.ensures.value) (c.in_ok-etc_names.ensures.names tells);
-  in_usr = subst (λ l. AreNamesIn (usr_files c.args.root.now) (g.D.Store.seen c.args.system.now) (map string_bytes l)) (sym c.deref-2.ensures.value) (c.in_ok-usr_names.ensures.names tells);
-  is = c.in_ok-chosen.ensures.chosen;
-  few = c.in_ok-chosen.ensures.few;
-  listed = c.in_ok-chosen.ensures.listed;
+  in_usr = c.in_ok-usr_names.ensures.names tells;
+  is = subst (λ l. map choice_of c.in_ok-chosen.chosen.items ≡ choice (map string_bytes c.deref.result.now) (map string_bytes l)) c.deref-2.ensures.value c.in_ok-chosen.ensures.chosen;
+  few = subst (λ l. length (names (map string_bytes c.deref.result.now) (map string_bytes l)) ≤ max_files) c.deref-2.ensures.value c.in_ok-chosen.ensures.few;
+  listed = subst (λ l. All (IsListed (map string_bytes c.deref.result.now) (map string_bytes l)) (map choice_of c.in_ok-chosen.chosen.items)) c.deref-2.ensures.value c.in_ok-chosen.ensures.listed;
   read = subst (λ l. AreTexts c.args.root.now (g.D.Store.seen c.args.system.now) (map choice_of l) (map (λ t. t.items) c.in_ok-texts.texts.items)) c.deref-3.ensures.value (c.in_ok-texts.ensures.read tells);
 }

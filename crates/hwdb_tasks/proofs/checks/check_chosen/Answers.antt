@@ -19,7 +19,7 @@ returns-in_err-check_files-clause-refused g c = λ tells.
     let held : map (λ f. f.bytes.now) files ≡ map (λ t. t.items) c.in_ok-selection.selection.texts.items =
     ap (map (λ f. f.bytes.now)) c.deref-4.ensures.value ∙ c.in_ok-files.ensures.bytes ∙ ap (map (λ t. t.items)) c.deref-3.ensures.value in
     unchecked g.O.Sink.taken c.args.out.now c.check_files.new.out (AreUnread root seen) (AreChosenFiles root seen) files c.in_err-check_files.field-0.0
-    (chosen_sources root seen chosen _ files (c.in_ok-selection.ensures.selected tells) named held)
+    (chosen_sources root seen _ chosen _ files (c.in_ok-selection.ensures.selected tells) named held)
     c.in_err-check_files.ensures.refusals c.in_err-check_files.ensures.untouched (λ w. c.in_err-check_files.ensures.cut_short (ap Err w))
     c.from_residual-in_err-check_files.result c.from_residual-in_err-check_files.ensures.1
 
@@ -36,7 +36,7 @@ returns-clause-checked g c = λ tells.
     ap (map (λ f. f.bytes.now)) c.deref-4.ensures.value ∙ c.in_ok-files.ensures.bytes ∙ ap (map (λ t. t.items)) c.deref-3.ensures.value in
     record {
       sources = map source_of files;
-      are = chosen_sources root seen chosen _ files (c.in_ok-selection.ensures.selected tells) named held;
+      are = chosen_sources root seen _ chosen _ files (c.in_ok-selection.ensures.selected tells) named held;
       printed = c.in_ok-check_files.ensures.printed;
       says = c.in_ok-check_files.ensures.status;
     }

@@ -15,7 +15,7 @@ returns-in-Update-clause-any_moment g c = λ tells.
     let left = g.D.Store.may_leave c.args.system.now in
     leaves_more g.D.Store.moment g.D.Store.left_since c.args.system.now c.update.new.system
     (OldOrUpdated c.root_of-root.result.now c.args.job.now.usr seen left) (OldOrDone c.args.job.now seen left)
-    (λ p v now. ⊎_elim (λ was. inl was) (λ l. inr (c.in-Update.is, subst (λ r. IsLeftByUpdate r c.args.job.now.usr seen p v) c.root_of-root.ensures l)) now)
+    (λ p v now. ⊎_elim (λ was. inl was) (λ l. inr ((c.in-Update.verbose, c.in-Update.is), subst (λ r. IsLeftByUpdate r c.args.job.now.usr seen p v) c.root_of-root.ensures l)) now)
     (c.update.ensures.any_moment tells)
 
 pub returns-in_err-list-in-List-clause-refused : goal.returns-in_err-list-in-List-clause-refused

@@ -12,7 +12,7 @@ use Rattle.hwdb_tool.proofs.FolderLemmas.{held_bytes}
 
 pub returns : goal.returns
 unfolding texts.with_empty_lines effective_of
-returns c = λ root strict status device old new err_before err_now out_before out_now updated answered.
+returns c = λ root verbose strict status device old new err_before err_now out_before out_now updated answered.
     let done = updated.updated in
     let text = answered.printed.is in
     let same : answered.bytes ≡ done.database = held_bytes root new answered.bytes done.database done.stored answered.asked in

@@ -1,0 +1,118 @@
+//! Trees that are filled by hand, with the path `/etc/udev/hwdb.d/1.hwdb` and priority 1.
+ghost use Rattle.std.specs.Bool.{OnTrue};
+ghost use Rattle.hwdb_writer.specs.Internal.Storable.{HasNoZero};
+
+use hwdb_text::Assignment;
+use hwdb_writer::{StoreError, Tree, write};
+use std::alloc::{AllocError, Global};
+use std::process::Abort;
+use std::test::Fail;
+
+/// Whether there is no byte 0.
+fn has_no_zero(text: &[u8]) -> bool
+    ensures { OnTrue result (HasNoZero text.now) }
+{
+    match text {
+        [] => true,
+        [first, rest @ ..] => {
+            if *first == 0 {
+                return false;
+            }
+            has_no_zero(rest)
+        }
+    }
+}
+
+/// Puts one assignment with the value `v`, and says whether memory for it was given.
+fn put(
+    rt: &impl Abort,
+    alloc: Global,
+    tree: &mut Tree,
+    line: u32,
+    pattern: &[u8],
+    key: &[u8],
+) -> Result<Result<(), AllocError>, Fail> {
+    let path = b"/etc/udev/hwdb.d/1.hwdb".as_slice();
+    let value = b"v".as_slice();
+    assert!(rt; pattern.len() <= 4096);
+    assert!(rt; has_no_zero(pattern));
+    assert!(rt; has_no_zero(key));
+    assert!(rt; has_no_zero(value));
+    assert!(rt; has_no_zero(path));
+    let assignment = Assignment {
+        priority: 1,
+        line,
+        pattern: Vec::from_slice(alloc, pattern)?,
+        key: Vec::from_slice(alloc, key)?,
+        value: Vec::from_slice(alloc, value)?,
+        path: Vec::from_slice(alloc, path)?,
+    };
+    Ok(tree.put(&assignment))
+}
+
+/// The database of a tree, where it has at most so many bytes.
+fn written(alloc: Global, tree: &Tree, max_bytes: u32) -> Result<Vec<u8>, StoreError> {
+    write(alloc, tree, max_bytes)
+}
+
+/// The database of the patterns, each with the keys from line 2 on.
+fn database(
+    rt: &impl Abort,
+    alloc: Global,
+    patterns: &[&[u8]],
+    keys: &[&[u8]],
+    max_bytes: u32,
+) -> Result<Result<Vec<u8>, StoreError>, Fail> {
+    let mut tree = Tree::new(alloc);
+    for pattern in patterns {
+        let mut line = 2;
+        for key in keys {
+            put(rt, alloc, &mut tree, line, pattern, key)??;
+            line = 3;
+        }
+    }
+    Ok(written(alloc, &tree, max_bytes))
+}
+
+/// A database is refused by one byte, and below the header alone, and below the nodes.
+#[test]
+fn sizes(rt: HostRuntime) -> Result<(), Fail> {
+    let alloc = rt.alloc();
+    let k: &[&[u8]] = &[b"K"];
+    let k_and_l: &[&[u8]] = &[b"K", b"L"];
+    let cases: [(&[&[u8]], &[&[u8]], u32); 9] = [
+        (&[], k, 105),
+        (&[b"a"], k, 206),
+        (&[b""], k, 166),
+        (&[b"ab"], k, 208),
+        (&[b"abc", b"abd"], k, 320),
+        (&[b"abd", b"abc"], k, 320),
+        (&[b"abc", b"ab"], k, 280),
+        (&[b"ab", b"abc"], k, 280),
+        (&[b"a"], k_and_l, 241),
+    ];
+    for (patterns, keys, size) in &cases {
+        let bytes = database(&rt, alloc, patterns, keys, *size)??;
+        assert_eq!(rt; bytes.len(), *size as usize);
+        for limit in [size.saturating_sub(1), 90, 0] {
+            let refused = database(&rt, alloc, patterns, keys, limit)?;
+            assert!(rt; matches!(&refused, Err(StoreError::TooLarge)));
+        }
+    }
+    Ok(())
+}
+
+/// A tree of which a `put` was refused memory is what it was, and takes the same assignment the next time. Memory is
+/// refused under `rt try --test --fail-alloc N` alone; without it the first `put` is the one that counts.
+#[test]
+fn put_again(rt: HostRuntime) -> Result<(), Fail> {
+    let alloc = rt.alloc();
+    let mut tree = Tree::new(alloc);
+    put(&rt, alloc, &mut tree, 2, b"abc", b"K")??;
+    if put(&rt, alloc, &mut tree, 2, b"abd", b"K")?.is_err() {
+        assert_eq!(rt; written(alloc, &tree, 320)?.len(), 209);
+        put(&rt, alloc, &mut tree, 2, b"abd", b"K")??;
+    }
+    assert_eq!(rt; written(alloc, &tree, 320)?.len(), 320);
+    Ok(())
+}
