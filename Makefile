@@ -69,6 +69,7 @@ check:
 	tests/growth out/hwdb
 	tests/folders out/hwdb
 	tests/hostile out/hwdb
+	tests/rows out/hwdb
 	tests/memory out/hwdb
 	tests/random out/hwdb
 
