@@ -24,11 +24,20 @@ fn json_word(json: bool) -> &'static str {
     if json { " as JSON" } else { "" }
 }
 
+/// What says that an update tells what it does.
+fn update_words(verbose: bool) -> &'static str {
+    if verbose {
+        "update verbosely"
+    } else {
+        "update"
+    }
+}
+
 /// A job as a line: its flags, its root and its task.
 fn shown(alloc: Global, job: &Job) -> Result<String, AllocError> {
     let root = optional(alloc, &job.root)?;
     let task = match &job.task {
-        Task::Update { verbose } => format!(in alloc; "update verbose={verbose}")?,
+        Task::Update { verbose } => String::from_str(alloc, update_words(*verbose))?,
         Task::Query { devices, json } => {
             let mut line = format!(in alloc; "query{}", json_word(*json))?;
             for device in devices {
