@@ -117,38 +117,93 @@ fn list_task(alloc: Global, inner: &ArgMatches<'_>) -> Result<Task, AllocError>
     })
 }
 
+/// The task of `query`.
+fn query_task(alloc: Global, inner: &ArgMatches<'_>) -> Result<Task, AllocError>
+    requires { HasValue (codes "MODALIAS") (rows_of (found_of inner.now)) }
+    ensures { IfOk result (IsTask (codes "query") (rows_of (found_of inner.now))) }
+{
+    let devices = values_of(alloc, inner, "MODALIAS")?;
+    let json = has_flag(inner, "json");
+    Ok(Task::Query { devices, json })
+}
+
+/// The task of `explain`.
+fn explain_task(alloc: Global, inner: &ArgMatches<'_>) -> Result<Task, AllocError>
+    requires { HasValue (codes "MODALIAS") (rows_of (found_of inner.now)) }
+    ensures { IfOk result (IsTask (codes "explain") (rows_of (found_of inner.now))) }
+{
+    let device = value_of(alloc, inner, "MODALIAS")?;
+    let json = has_flag(inner, "json");
+    Ok(Task::Explain { device, json })
+}
+
+/// The task of `ask`.
+fn ask_task(alloc: Global, inner: &ArgMatches<'_>) -> Result<Task, AllocError>
+    requires file { HasValue (codes "FILE") (rows_of (found_of inner.now)) }
+    requires device { HasValue (codes "MODALIAS") (rows_of (found_of inner.now)) }
+    ensures { IfOk result (IsTask (codes "ask") (rows_of (found_of inner.now))) }
+{
+    let file = value_of(alloc, inner, "FILE")?;
+    let device = value_of(alloc, inner, "MODALIAS")?;
+    Ok(Task::Ask { file, device })
+}
+
+/// The task of `check`.
+fn check_task(alloc: Global, inner: &ArgMatches<'_>) -> Result<Task, AllocError>
+    ensures { IfOk result (IsTask (codes "check") (rows_of (found_of inner.now))) }
+{
+    let files = any_values_of(alloc, inner, "FILE")?;
+    Ok(Task::Check { files })
+}
+
+/// The task of `diff`.
+fn diff_task(alloc: Global, inner: &ArgMatches<'_>) -> Result<Task, AllocError>
+    requires old { HasValue (codes "OLD") (rows_of (found_of inner.now)) }
+    requires new { HasValue (codes "NEW") (rows_of (found_of inner.now)) }
+    ensures { IfOk result (IsTask (codes "diff") (rows_of (found_of inner.now))) }
+{
+    let old = value_of(alloc, inner, "OLD")?;
+    let new = value_of(alloc, inner, "NEW")?;
+    Ok(Task::Diff { old, new })
+}
+
+/// The task of `verify`.
+fn verify_task(alloc: Global, inner: &ArgMatches<'_>) -> Result<Task, AllocError>
+    ensures { IfOk result (IsTask (codes "verify") (rows_of (found_of inner.now))) }
+{
+    let database = copied(alloc, text_of(inner, "DATABASE"))?;
+    Ok(Task::Verify { database })
+}
+
+/// The task of `dump`.
+fn dump_task(alloc: Global, inner: &ArgMatches<'_>) -> Result<Task, AllocError>
+    ensures { IfOk result (IsTask (codes "dump") (rows_of (found_of inner.now))) }
+{
+    let database = copied(alloc, text_of(inner, "DATABASE"))?;
+    Ok(Task::Dump { database })
+}
+
 /// The task of the subcommand with its matches.
 fn task_of(alloc: Global, name: &str, inner: &ArgMatches<'_>) -> Result<Task, AllocError>
     requires { IsCommand name.now (rows_of (found_of inner.now)) }
     ensures { IfOk result (IsTask name.now (rows_of (found_of inner.now))) }
 {
     if name == "query" {
-        let devices = values_of(alloc, inner, "MODALIAS")?;
-        let json = has_flag(inner, "json");
-        Ok(Task::Query { devices, json })
+        query_task(alloc, inner)
     } else if name == "explain" {
-        let device = value_of(alloc, inner, "MODALIAS")?;
-        let json = has_flag(inner, "json");
-        Ok(Task::Explain { device, json })
+        explain_task(alloc, inner)
     } else if name == "ask" {
-        let file = value_of(alloc, inner, "FILE")?;
-        let device = value_of(alloc, inner, "MODALIAS")?;
-        Ok(Task::Ask { file, device })
+        ask_task(alloc, inner)
     } else if name == "list" {
-        Ok(list_task(alloc, inner)?)
+        list_task(alloc, inner)
     } else if name == "check" {
-        let files = any_values_of(alloc, inner, "FILE")?;
-        Ok(Task::Check { files })
+        check_task(alloc, inner)
     } else if name == "diff" {
-        let old = value_of(alloc, inner, "OLD")?;
-        let new = value_of(alloc, inner, "NEW")?;
-        Ok(Task::Diff { old, new })
+        diff_task(alloc, inner)
     } else if name == "verify" {
-        let database = copied(alloc, text_of(inner, "DATABASE"))?;
-        Ok(Task::Verify { database })
+        verify_task(alloc, inner)
     } else if name == "dump" {
-        let database = copied(alloc, text_of(inner, "DATABASE"))?;
-        Ok(Task::Dump { database })
+        dump_task(alloc, inner)
     } else {
         let verbose = has_flag(inner, "verbose");
         Ok(Task::Update { verbose })

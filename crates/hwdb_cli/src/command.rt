@@ -1,11 +1,11 @@
 //! The command line of `hwdb`, as `clap` is given it: one level of subcommands, each shared option declared
 //! at both levels; `clap` adds the subcommand `help`. The definition of this command as data is what contracts speak of; help texts are
 //! shown by tests.
-ghost use Rattle.std.specs.Prelude.{◌≡◌, IfOk, false, codes};
-ghost use Rattle.clap.specs.Walk.{rule_of};
-ghost use Rattle.clap.specs.Simple.{app_of, shape_of};
-ghost use Rattle.clap.specs.declared.builder.command.Command.TheViews.{out-Command as fields_of};
-ghost use Rattle.hwdb_cli.specs.Line.{usr_rule, strict_rule, root_rule, device_rule, devices_rule, file_rule, files_rule, old_database_rule, new_database_rule, database_rule, after_rule, limit_rule, json_rule, verbose_rule, with_shared, with_range, update_app, query_app, explain_app, ask_app, list_app, check_app, diff_app, verify_app, dump_app, top_app, with_answers, with_inspections, hwdb_app};
+ghost use Rattle.std.specs.Prelude.{◌≡◌, IfOk, Some, true};
+ghost use Rattle.clap.specs.Walk.{Rule};
+ghost use Rattle.clap.specs.Simple.{App, app_of, new_app, new_rule, with_rule, with_subcommand};
+ghost use Rattle.hwdb_cli.specs.Line.{strict_rule, root_rule, device_rule, database_rule, limit_rule, json_rule, with_shared, update_app, query_app, explain_app, ask_app, list_app, check_app, diff_app, verify_app, dump_app, top_app, hwdb_app};
+ghost use Rattle.hwdb_cli.specs.Drafts.{IsArgument, IsDraft};
 
 use clap::builder::ValueParser;
 use clap::{Arg, ArgAction, Command};
@@ -69,345 +69,229 @@ const DUMP_ABOUT: &str = "Prints a database as a text file";
 
 const DUMP_AFTER: &str = "Status: 0; 1 after a refusal.\nExample: hwdb dump > all.hwdb";
 
-fn usr_option<'a>(alloc: Global) -> Arg<'a>
-    ensures rule { rule_of result ≡ usr_rule }
-    ensures local { result.global ≡ false }
+/// A command, or that memory was refused while it was made. What is added to one that wasn't made is let go: so
+/// a command is written down without a way out behind each of its parts.
+type Draft<'a> = Result<Command<'a>, AllocError>;
+
+/// The command with one more argument.
+fn with_argument<'a>(draft: Draft<'a>, argument: Arg<'a>) -> Draft<'a>
+    ensures { (a : App) (r : Rule) → IsDraft a draft.entry → IsArgument r argument.entry
+        → IsDraft (with_rule a r) result }
 {
-    Arg::new(alloc, "usr")
-        .long("usr")
-        .help("With update: write /usr/lib/udev/hwdb.bin")
+    match draft {
+        Ok(command) => command.arg(argument),
+        Err(refused) => Err(refused),
+    }
+}
+
+/// The command with one more subcommand.
+fn with_command<'a>(draft: Draft<'a>, subcommand: Draft<'a>) -> Draft<'a>
+    ensures { (a : App) (b : App) → IsDraft a draft.entry → IsDraft b subcommand.entry
+        → IsDraft (with_subcommand a b.top) result }
+{
+    let command = draft?;
+    command.subcommand(subcommand?)
+}
+
+/// An option without a value, `--name`.
+fn flag<'a>(alloc: Global, name: &'a str, help: &'a str) -> Arg<'a>
+    ensures { IsArgument
+        (record (new_rule name.entry.now) {
+          long = Some name.entry.now;
+          action = Some ArgAction.SetTrue;
+        }) result }
+{
+    Arg::new(alloc, name)
+        .long(name)
+        .help(help)
         .action(ArgAction::SetTrue)
+}
+
+/// An option with a value, `--name`; help calls its value `value`.
+fn option<'a>(alloc: Global, name: &'a str, value: &'a str, help: &'a str) -> Arg<'a>
+    ensures { IsArgument
+        (record (new_rule name.entry.now) {
+          value_names = 1;
+          long = Some name.entry.now;
+          action = Some ArgAction.Set;
+        }) result }
+{
+    Arg::new(alloc, name)
+        .long(name)
+        .value_name(value)
+        .help(help)
+        .action(ArgAction::Set)
+}
+
+/// A word with a place, which may be left out.
+fn word<'a>(alloc: Global, name: &'a str, help: &'a str, action: ArgAction) -> Arg<'a>
+    ensures { IsArgument (record (new_rule name.entry.now) { action = Some action }) result }
+{
+    Arg::new(alloc, name).help(help).action(action)
+}
+
+/// A word that has to stand there.
+fn needed_word<'a>(alloc: Global, name: &'a str, help: &'a str, action: ArgAction) -> Arg<'a>
+    ensures { IsArgument
+        (record (new_rule name.entry.now) { required = true; action = Some action }) result }
+{
+    Arg::new(alloc, name)
+        .help(help)
+        .required(true)
+        .action(action)
 }
 
 fn strict_option<'a>(alloc: Global) -> Arg<'a>
-    ensures rule { rule_of result ≡ strict_rule }
-    ensures local { result.global ≡ false }
+    ensures { IsArgument strict_rule result }
 {
-    Arg::new(alloc, "strict")
-        .short('s')
-        .long("strict")
-        .help(
-            "With update: end with status 1 if a line had a fault; with check: if there is a warning",
-        )
-        .action(ArgAction::SetTrue)
+    let help =
+        "With update: end with status 1 if a line had a fault; with check: if there is a warning";
+    flag(alloc, "strict", help).short('s')
 }
 
 fn root_option<'a>(alloc: Global) -> Arg<'a>
-    ensures rule { rule_of result ≡ root_rule }
-    ensures local { result.global ≡ false }
+    ensures { IsArgument root_rule result }
 {
-    Arg::new(alloc, "root")
-        .short('r')
-        .long("root")
-        .value_name("PATH")
-        .help("Put PATH in front of the paths of folders and databases")
-        .action(ArgAction::Set)
-}
-
-fn device_argument<'a>(alloc: Global) -> Arg<'a>
-    ensures rule { rule_of result ≡ device_rule }
-    ensures local { result.global ≡ false }
-{
-    Arg::new(alloc, "MODALIAS")
-        .help("The device string; one that begins with - stands after --")
-        .required(true)
-        .action(ArgAction::Set)
-}
-
-fn devices_argument<'a>(alloc: Global) -> Arg<'a>
-    ensures rule { rule_of result ≡ devices_rule }
-    ensures local { result.global ≡ false }
-{
-    Arg::new(alloc, "MODALIAS")
-        .help(
-            "The device strings, or - for the lines of standard input; one that begins with - stands after --",
-        )
-        .required(true)
-        .action(ArgAction::Append)
-}
-
-fn file_argument<'a>(alloc: Global) -> Arg<'a>
-    ensures rule { rule_of result ≡ file_rule }
-    ensures local { result.global ≡ false }
-{
-    Arg::new(alloc, "FILE")
-        .help("A .hwdb text file; the root doesn't change its path")
-        .required(true)
-        .action(ArgAction::Set)
-}
-
-fn files_argument<'a>(alloc: Global) -> Arg<'a>
-    ensures rule { rule_of result ≡ files_rule }
-    ensures local { result.global ≡ false }
-{
-    Arg::new(alloc, "FILE")
-        .help("A text file; without one those of /etc/udev/hwdb.d and /usr/lib/udev/hwdb.d")
-        .action(ArgAction::Append)
-}
-
-fn old_argument<'a>(alloc: Global) -> Arg<'a>
-    ensures rule { rule_of result ≡ old_database_rule }
-    ensures local { result.global ≡ false }
-{
-    Arg::new(alloc, "OLD")
-        .help("The old database")
-        .required(true)
-        .action(ArgAction::Set)
-}
-
-fn new_argument<'a>(alloc: Global) -> Arg<'a>
-    ensures rule { rule_of result ≡ new_database_rule }
-    ensures local { result.global ≡ false }
-{
-    Arg::new(alloc, "NEW")
-        .help("The new database")
-        .required(true)
-        .action(ArgAction::Set)
-}
-
-fn database_argument<'a>(alloc: Global) -> Arg<'a>
-    ensures rule { rule_of result ≡ database_rule }
-    ensures local { result.global ≡ false }
-{
-    Arg::new(alloc, "DATABASE")
-        .help("A database; without one that of /etc/udev, or of /usr/lib/udev")
-        .action(ArgAction::Set)
-}
-
-fn after_option<'a>(alloc: Global) -> Arg<'a>
-    ensures rule { rule_of result ≡ after_rule }
-    ensures local { result.global ≡ false }
-{
-    Arg::new(alloc, "after")
-        .long("after")
-        .value_name("POS")
-        .help("Print only what stands after this position, as list prints it")
-        .action(ArgAction::Set)
+    let help = "Put PATH in front of the paths of folders and databases";
+    option(alloc, "root", "PATH", help).short('r')
 }
 
 fn limit_option<'a>(alloc: Global) -> Arg<'a>
-    ensures rule { rule_of result ≡ limit_rule }
-    ensures local { result.global ≡ false }
+    ensures { IsArgument limit_rule result }
 {
-    Arg::new(alloc, "limit")
-        .long("limit")
-        .value_name("N")
-        .help("Print at most N lines; 0 prints nothing")
-        .action(ArgAction::Set)
-        .value_parser(ValueParser::unsigned(0, u64::MAX))
-}
-
-fn verbose_option<'a>(alloc: Global) -> Arg<'a>
-    ensures rule { rule_of result ≡ verbose_rule }
-    ensures local { result.global ≡ false }
-{
-    Arg::new(alloc, "verbose")
-        .long("verbose")
-        .help("Say which files are taken, and how many assignments they have")
-        .action(ArgAction::SetTrue)
+    let help = "Print at most N lines; 0 prints nothing";
+    option(alloc, "limit", "N", help).value_parser(ValueParser::unsigned(0, u64::MAX))
 }
 
 fn json_option<'a>(alloc: Global) -> Arg<'a>
-    ensures rule { rule_of result ≡ json_rule }
-    ensures local { result.global ≡ false }
+    ensures { IsArgument json_rule result }
 {
-    Arg::new(alloc, "json")
-        .long("json")
-        .help("Print JSON, one object a line")
-        .action(ArgAction::SetTrue)
+    flag(alloc, "json", "Print JSON, one object a line")
 }
 
-fn add_shared<'a>(alloc: Global, command: Command<'a>) -> Result<Command<'a>, AllocError>
-    ensures app { IfOk result (λ r. app_of r ≡ with_shared (app_of command.entry)) }
-    ensures local { IfOk result
-        (λ r. (fields_of r).has_globals ≡ (fields_of command.entry).has_globals) }
+fn device_argument<'a>(alloc: Global) -> Arg<'a>
+    ensures { IsArgument device_rule result }
 {
-    let with_usr = command.arg(usr_option(alloc))?;
-    let with_strict = with_usr.arg(strict_option(alloc))?;
-    with_strict.arg(root_option(alloc))
+    let help = "The device string; one that begins with - stands after --";
+    needed_word(alloc, "MODALIAS", help, ArgAction::Set)
 }
 
-fn add_range<'a>(alloc: Global, command: Command<'a>) -> Result<Command<'a>, AllocError>
-    ensures app { IfOk result (λ r. app_of r ≡ with_range (app_of command.entry)) }
-    ensures local { IfOk result
-        (λ r. (fields_of r).has_globals ≡ (fields_of command.entry).has_globals) }
+fn database_argument<'a>(alloc: Global) -> Arg<'a>
+    ensures { IsArgument database_rule result }
 {
-    let with_after = command.arg(after_option(alloc))?;
-    with_after.arg(limit_option(alloc))
+    let help = "A database; without one that of /etc/udev, or of /usr/lib/udev";
+    word(alloc, "DATABASE", help, ArgAction::Set)
 }
 
-fn update_command<'a>(alloc: Global) -> Result<Command<'a>, AllocError>
-    ensures shape { IfOk result (λ r. shape_of r ≡ update_app.top) }
-    ensures local { IfOk result (λ r. (fields_of r).has_globals ≡ false) }
+/// A command with the options that stand before and behind its word; help begins with `about` and ends with `after`.
+fn shared<'a>(alloc: Global, name: &'a str, about: &'a str, after: &'a str) -> Draft<'a>
+    ensures { IsDraft (with_shared (new_app name.entry.now)) result }
 {
-    let command = add_shared(
-        alloc,
-        Command::new(alloc, "update")
-            .about(UPDATE_ABOUT)
-            .after_help(UPDATE_AFTER),
-    )?;
-    command.arg(verbose_option(alloc))
+    let command = Command::new(alloc, name).about(about).after_help(after);
+    let usr = flag(alloc, "usr", "With update: write /usr/lib/udev/hwdb.bin");
+    let with_usr = with_argument(Ok(command), usr);
+    let with_strict = with_argument(with_usr, strict_option(alloc));
+    with_argument(with_strict, root_option(alloc))
 }
 
-fn query_command<'a>(alloc: Global) -> Result<Command<'a>, AllocError>
-    ensures shape { IfOk result (λ r. shape_of r ≡ query_app.top) }
-    ensures local { IfOk result (λ r. (fields_of r).has_globals ≡ false) }
+fn update_command<'a>(alloc: Global) -> Draft<'a>
+    ensures { IsDraft update_app result }
 {
-    let command = add_shared(
-        alloc,
-        Command::new(alloc, "query")
-            .about(QUERY_ABOUT)
-            .after_help(QUERY_AFTER),
-    )?;
-    let with_json = command.arg(json_option(alloc))?;
-    with_json.arg(devices_argument(alloc))
+    let help = "Say which files are taken, and how many assignments they have";
+    let command = shared(alloc, "update", UPDATE_ABOUT, UPDATE_AFTER);
+    with_argument(command, flag(alloc, "verbose", help))
 }
 
-fn explain_command<'a>(alloc: Global) -> Result<Command<'a>, AllocError>
-    ensures shape { IfOk result (λ r. shape_of r ≡ explain_app.top) }
-    ensures local { IfOk result (λ r. (fields_of r).has_globals ≡ false) }
+fn query_command<'a>(alloc: Global) -> Draft<'a>
+    ensures { IsDraft query_app result }
 {
-    let command = add_shared(
-        alloc,
-        Command::new(alloc, "explain")
-            .about(EXPLAIN_ABOUT)
-            .after_help(EXPLAIN_AFTER),
-    )?;
-    let with_json = command.arg(json_option(alloc))?;
-    with_json.arg(device_argument(alloc))
+    let help =
+        "The device strings, or - for the lines of standard input; one that begins with - stands after --";
+    let command = shared(alloc, "query", QUERY_ABOUT, QUERY_AFTER);
+    let with_json = with_argument(command, json_option(alloc));
+    let devices = needed_word(alloc, "MODALIAS", help, ArgAction::Append);
+    with_argument(with_json, devices)
 }
 
-fn ask_command<'a>(alloc: Global) -> Result<Command<'a>, AllocError>
-    ensures shape { IfOk result (λ r. shape_of r ≡ ask_app.top) }
-    ensures local { IfOk result (λ r. (fields_of r).has_globals ≡ false) }
+fn explain_command<'a>(alloc: Global) -> Draft<'a>
+    ensures { IsDraft explain_app result }
 {
-    let command = add_shared(
-        alloc,
-        Command::new(alloc, "ask")
-            .about(ASK_ABOUT)
-            .after_help(ASK_AFTER),
-    )?;
-    let with_file = command.arg(file_argument(alloc))?;
-    with_file.arg(device_argument(alloc))
+    let command = shared(alloc, "explain", EXPLAIN_ABOUT, EXPLAIN_AFTER);
+    let with_json = with_argument(command, json_option(alloc));
+    with_argument(with_json, device_argument(alloc))
 }
 
-fn list_command<'a>(alloc: Global) -> Result<Command<'a>, AllocError>
-    ensures shape { IfOk result (λ r. shape_of r ≡ list_app.top) }
-    ensures local { IfOk result (λ r. (fields_of r).has_globals ≡ false) }
+fn ask_command<'a>(alloc: Global) -> Draft<'a>
+    ensures { IsDraft ask_app result }
 {
-    let command = add_shared(
-        alloc,
-        Command::new(alloc, "list")
-            .about(LIST_ABOUT)
-            .after_help(LIST_AFTER),
-    )?;
-    let with_range = add_range(alloc, command)?;
-    let with_json = with_range.arg(json_option(alloc))?;
-    with_json.arg(device_argument(alloc))
+    let help = "A .hwdb text file; the root doesn't change its path";
+    let command = shared(alloc, "ask", ASK_ABOUT, ASK_AFTER);
+    let file = needed_word(alloc, "FILE", help, ArgAction::Set);
+    let with_file = with_argument(command, file);
+    with_argument(with_file, device_argument(alloc))
 }
 
-fn check_command<'a>(alloc: Global) -> Result<Command<'a>, AllocError>
-    ensures shape { IfOk result (λ r. shape_of r ≡ check_app.top) }
-    ensures local { IfOk result (λ r. (fields_of r).has_globals ≡ false) }
+fn list_command<'a>(alloc: Global) -> Draft<'a>
+    ensures { IsDraft list_app result }
 {
-    let command = add_shared(
-        alloc,
-        Command::new(alloc, "check")
-            .about(CHECK_ABOUT)
-            .after_help(CHECK_AFTER),
-    )?;
-    command.arg(files_argument(alloc))
+    let help = "Print only what stands after this position, as list prints it";
+    let command = shared(alloc, "list", LIST_ABOUT, LIST_AFTER);
+    let with_after = with_argument(command, option(alloc, "after", "POS", help));
+    let with_limit = with_argument(with_after, limit_option(alloc));
+    let with_json = with_argument(with_limit, json_option(alloc));
+    with_argument(with_json, device_argument(alloc))
 }
 
-fn diff_command<'a>(alloc: Global) -> Result<Command<'a>, AllocError>
-    ensures shape { IfOk result (λ r. shape_of r ≡ diff_app.top) }
-    ensures local { IfOk result (λ r. (fields_of r).has_globals ≡ false) }
+fn check_command<'a>(alloc: Global) -> Draft<'a>
+    ensures { IsDraft check_app result }
 {
-    let command = add_shared(
-        alloc,
-        Command::new(alloc, "diff")
-            .about(DIFF_ABOUT)
-            .after_help(DIFF_AFTER),
-    )?;
-    let with_old = command.arg(old_argument(alloc))?;
-    with_old.arg(new_argument(alloc))
+    let help = "A text file; without one those of /etc/udev/hwdb.d and /usr/lib/udev/hwdb.d";
+    let command = shared(alloc, "check", CHECK_ABOUT, CHECK_AFTER);
+    with_argument(command, word(alloc, "FILE", help, ArgAction::Append))
 }
 
-fn verify_command<'a>(alloc: Global) -> Result<Command<'a>, AllocError>
-    ensures shape { IfOk result (λ r. shape_of r ≡ verify_app.top) }
-    ensures local { IfOk result (λ r. (fields_of r).has_globals ≡ false) }
+fn diff_command<'a>(alloc: Global) -> Draft<'a>
+    ensures { IsDraft diff_app result }
 {
-    let command = add_shared(
-        alloc,
-        Command::new(alloc, "verify")
-            .about(VERIFY_ABOUT)
-            .after_help(VERIFY_AFTER),
-    )?;
-    command.arg(database_argument(alloc))
+    let command = shared(alloc, "diff", DIFF_ABOUT, DIFF_AFTER);
+    let old = needed_word(alloc, "OLD", "The old database", ArgAction::Set);
+    let with_old = with_argument(command, old);
+    let new = needed_word(alloc, "NEW", "The new database", ArgAction::Set);
+    with_argument(with_old, new)
 }
 
-fn dump_command<'a>(alloc: Global) -> Result<Command<'a>, AllocError>
-    ensures shape { IfOk result (λ r. shape_of r ≡ dump_app.top) }
-    ensures local { IfOk result (λ r. (fields_of r).has_globals ≡ false) }
+fn verify_command<'a>(alloc: Global) -> Draft<'a>
+    ensures { IsDraft verify_app result }
 {
-    let command = add_shared(
-        alloc,
-        Command::new(alloc, "dump")
-            .about(DUMP_ABOUT)
-            .after_help(DUMP_AFTER),
-    )?;
-    command.arg(database_argument(alloc))
+    let command = shared(alloc, "verify", VERIFY_ABOUT, VERIFY_AFTER);
+    with_argument(command, database_argument(alloc))
 }
 
-fn top_command<'a>(alloc: Global) -> Result<Command<'a>, AllocError>
-    ensures app { IfOk result (λ r. app_of r ≡ top_app) }
-    ensures local { IfOk result (λ r. (fields_of r).has_globals ≡ false) }
+fn dump_command<'a>(alloc: Global) -> Draft<'a>
+    ensures { IsDraft dump_app result }
 {
-    let command = add_shared(
-        alloc,
-        Command::new(alloc, "hwdb")
-            .version(VERSION)
-            .about(HWDB_ABOUT)
-            .after_help(HWDB_AFTER),
-    )?;
-    Ok(command.subcommand_required(true))
+    let command = shared(alloc, "dump", DUMP_ABOUT, DUMP_AFTER);
+    with_argument(command, database_argument(alloc))
 }
 
-/// Adds the commands that say what a device is told.
-fn add_answers<'a>(alloc: Global, command: Command<'a>) -> Result<Command<'a>, AllocError>
-    ensures { IfOk result (λ r. app_of r ≡ with_answers (app_of command.entry)) }
+fn top_command<'a>(alloc: Global) -> Draft<'a>
+    ensures { IsDraft top_app result }
 {
-    let query = query_command(alloc)?;
-    let with_query = command.subcommand(query)?;
-    let explain = explain_command(alloc)?;
-    let with_explain = with_query.subcommand(explain)?;
-    let ask = ask_command(alloc)?;
-    let with_ask = with_explain.subcommand(ask)?;
-    let list = list_command(alloc)?;
-    with_ask.subcommand(list)
-}
-
-/// Adds the commands that look at files and databases.
-fn add_inspections<'a>(alloc: Global, command: Command<'a>) -> Result<Command<'a>, AllocError>
-    ensures { IfOk result (λ r. app_of r ≡ with_inspections (app_of command.entry)) }
-{
-    let check = check_command(alloc)?;
-    let with_check = command.subcommand(check)?;
-    let diff = diff_command(alloc)?;
-    let with_diff = with_check.subcommand(diff)?;
-    let verify = verify_command(alloc)?;
-    let with_verify = with_diff.subcommand(verify)?;
-    let dump = dump_command(alloc)?;
-    with_verify.subcommand(dump)
+    let command = shared(alloc, "hwdb", HWDB_ABOUT, HWDB_AFTER)?;
+    Ok(command.version(VERSION).subcommand_required(true))
 }
 
 /// The whole command.
 pub fn hwdb_command<'a>(alloc: Global) -> Result<Command<'a>, AllocError>
     ensures { IfOk result (λ r. app_of r ≡ hwdb_app) }
 {
-    let top = top_command(alloc)?;
-    let update = update_command(alloc)?;
-    let with_update = top.subcommand(update)?;
-    let with_all = add_answers(alloc, with_update)?;
-    add_inspections(alloc, with_all)
+    let update = with_command(top_command(alloc), update_command(alloc));
+    let query = with_command(update, query_command(alloc));
+    let explain = with_command(query, explain_command(alloc));
+    let ask = with_command(explain, ask_command(alloc));
+    let list = with_command(ask, list_command(alloc));
+    let check = with_command(list, check_command(alloc));
+    let diff = with_command(check, diff_command(alloc));
+    let verify = with_command(diff, verify_command(alloc));
+    with_command(verify, dump_command(alloc))
 }
