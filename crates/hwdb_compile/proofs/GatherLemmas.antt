@@ -5,7 +5,7 @@ use Rattle.std.specs.List.{slice_index_or}
 use Rattle.std.specs.FinMap as finite
 use Rattle.std.specs.Ordering.{is_eq, nat_cmp, ordering_reverse}
 use Rattle.std.specs.Cmp.Lexicographic.{slice_cmp}
-use Rattle.std.proofs.lemmas.List.{length-append, reverse-append, append-nil, take_all}
+use Rattle.std.proofs.lemmas.List.{get_or_default, length-append, reverse-append, append-nil, take_all}
 use Rattle.std.proofs.lemmas.List.Elements.{All-nil, All-cons, All-head, All-tail, All-append}
 use Rattle.hwdb_spec.specs.Lines.{Line, lines, clean, has_equals, has_key, has}
 use Rattle.hwdb_spec.specs.Records.{sections, Origin, assign, patterns, property_assignments, section_assignments, assignments}
@@ -50,6 +50,26 @@ pub all_at : {A B : Type 0} (P : B → Type 0) (f : A → B) (xs : List A) (i : 
 all_at P f [] i x all lt e = absurd (omega arith)
 all_at P f (y ∷ xs) zero x all lt e = subst (λ z. P (f z)) (sym e) (All-head P (f y) (map f xs) all)
 all_at P f (y ∷ xs) (suc i) x all lt e = all_at P f xs i x (All-tail P (f y) (map f xs) all) (omega arith) e
+
+mapped_at : {A C : Type 0} (f : A → C) (xs : List A) (i : ℕ) (x : A) → get_or (map f xs) i (f x) ≡ f (get_or xs i x)
+mapped_at f [] i x = refl
+mapped_at f (y ∷ xs) zero x = refl
+mapped_at f (y ∷ xs) (suc i) x = mapped_at f xs i x
+
+length_mapped : {A C : Type 0} (f : A → C) (xs : List A) → length (map f xs) ≡ length xs
+length_mapped f [] = refl
+length_mapped f (x ∷ xs) = ap suc (length_mapped f xs)
+
+-- two lists that are one when they are mapped
+pub as_long : {A B C : Type 0} (f : A → C) (g : B → C) (xs : List A) (ys : List B) → map f xs ≡ map g ys → length xs ≡ length ys
+as_long f g xs ys e = sym (length_mapped f xs) ∙ ap length e ∙ length_mapped g ys
+
+-- what stands at one place of two such lists
+pub same_at : {A B C : Type 0} (f : A → C) (g : B → C) (xs : List A) (ys : List B) (i : ℕ) (x : A) (y : B) → map f xs ≡ map g ys → i < length ys
+    → x ≡ get_or xs i x → y ≡ get_or ys i y → f x ≡ g y
+same_at f g xs ys i x y e lt of_x of_y =
+    let long = length_mapped g ys in
+    ap f of_x ∙ sym (mapped_at f xs i x) ∙ ap (λ l. get_or l i (f x)) e ∙ get_or_default (map g ys) i (f x) (g y) (omega (arith, long, lt)) ∙ mapped_at g ys i y ∙ ap g (sym of_y)
 
 -- it holds of one of them
 pub any_at : {A B : Type 0} (P : B → Type 0) (f : A → B) (xs : List A) (i : ℕ) (x : A) → i < length xs → x ≡ get_or xs i x → P (f x) → Any P (map f xs)

@@ -5,13 +5,14 @@ ghost use Rattle.hwdb_spec.specs.Written.{IsDatabaseOf, IsWritten};
 ghost use Rattle.hwdb_spec.specs.Assignment.{Assignment};
 ghost use Rattle.hwdb_text.specs.Views.{origin};
 ghost use Rattle.hwdb_text.specs.Views.{given_in, choice_of};
-ghost use Rattle.hwdb_spec.specs.Folders.{all_assignments, file_assignments, file_faults, faults_of_files, fault_in, AreAccepted};
+ghost use Rattle.std.specs.String.{string_bytes};
+ghost use Rattle.hwdb_spec.specs.Folders.{path_of, all_assignments, file_assignments, file_faults, faults_of_files, fault_in, AreAccepted};
 ghost use Rattle.hwdb_text.specs.Views.{IsStorableChoice};
 ghost use Rattle.hwdb_compile.specs.Views.{FewLines, ForFolders, bytes_in, choice_in};
 ghost use Rattle.hwdb_compile.specs.Views.{sources, fault_of, IsRefusal};
 ghost use Rattle.hwdb_spec.specs.Tree.{surviving, map_of_files};
 ghost use Rattle.hwdb_query.specs.Laws.{AnswersAreLast};
-ghost use Rattle.hwdb_compile.specs.Internal.Reading.{assignments_in, faults_in, IsPuttable, TakesUp, IsFileRefusal, IsFilesRefusal};
+ghost use Rattle.hwdb_compile.specs.Internal.Reading.{path_in, assignments_in, faults_in, IsPuttable, TakesUp, IsFileRefusal, IsFilesRefusal};
 
 use crate::errors::CompileError;
 use crate::sources::{ChosenFile, Compiled, FileFault, SourceFile, choose, with_bytes};
@@ -21,7 +22,12 @@ use hwdb_writer::{Tree, write};
 use std::alloc::{AllocError, Global};
 
 /// Puts what a file with this path and priority gives into the tree, one after another.
-fn put_all(tree: &mut Tree, path: &[u8], priority: u16, all: &[Given<'_>]) -> Result<(), AllocError>
+fn put_all<'t>(
+    tree: &mut Tree<'t>,
+    path: &'t [u8],
+    priority: u16,
+    all: &[Given<'t>],
+) -> Result<(), AllocError>
     requires { All IsPuttable (map (given_in (origin path.now priority)) all.now) }
     ensures { OnOk result
         (TakesUp tree.old (map (given_in (origin path.now priority)) all.now) tree.new) }
@@ -53,16 +59,30 @@ fn add_faults(
     Ok(())
 }
 
-/// Reads a chosen file: its assignments into the tree, and its faults behind the others. Returns how many assignments it
-/// has.
-fn add_file(
+/// The stored paths of the files, in their order.
+fn paths_of(alloc: Global, files: &[ChosenFile<'_>]) -> Result<Vec<String>, AllocError>
+    ensures { IfOk result (λ paths. map string_bytes paths.items ≡ map path_in files.now) }
+{
+    let mut paths = Vec::new(alloc);
+    for file in files {
+        let path = file.choice.path(alloc)?;
+        paths.push(path)?;
+    }
+    Ok(paths)
+}
+
+/// Reads a chosen file, of which the stored path is given: its assignments into the tree, and its faults behind the others.
+/// Returns how many assignments it has.
+fn add_file<'t>(
     alloc: Global,
     file: &Chosen,
-    bytes: &[u8],
-    tree: &mut Tree,
+    path: &'t [u8],
+    bytes: &'t [u8],
+    tree: &mut Tree<'t>,
     faults: &mut Vec<FileFault>,
 ) -> Result<usize, CompileError>
-    requires { IsStorableChoice (choice_of file.now) }
+    requires storable { IsStorableChoice (choice_of file.now) }
+    requires path { path.now ≡ path_of (choice_of file.now) }
     ensures tree { OnOk result
         (TakesUp tree.old (file_assignments (λ _. bytes.now) (choice_of file.now)) tree.new) }
     ensures faults { OnOk result
@@ -73,23 +93,23 @@ fn add_file(
     ensures few { OnOk result (FewLines bytes.now) }
     ensures refused { IfErr result (IsFileRefusal bytes.now) }
 {
-    let path = file.path(alloc)?;
-    let path = path.as_bytes();
     let scanned = scan(alloc, bytes)?;
     put_all(tree, path, file.priority, &scanned.assignments)?;
     add_faults(alloc, path, &scanned.faults, faults)?;
     Ok(scanned.assignments.len())
 }
 
-/// Reads the chosen files, in the order of their priorities. Returns how many assignments they have, or the greatest
-/// number where they have more.
-fn add_files(
+/// Reads the chosen files, of which the stored paths are given, in the order of their priorities. Returns how many
+/// assignments they have, or the greatest number where they have more.
+fn add_files<'t>(
     alloc: Global,
-    files: &[ChosenFile<'_>],
-    tree: &mut Tree,
+    files: &[ChosenFile<'t>],
+    paths: &'t [String],
+    tree: &mut Tree<'t>,
     faults: &mut Vec<FileFault>,
 ) -> Result<usize, CompileError>
-    requires { All IsStorableChoice (map choice_in files.now) }
+    requires storable { All IsStorableChoice (map choice_in files.now) }
+    requires paths { map string_bytes paths.now ≡ map path_in files.now }
     ensures tree { OnOk result
         (TakesUp tree.old (flat_map assignments_in files.now) tree.new) }
     ensures faults { OnOk result
@@ -101,8 +121,9 @@ fn add_files(
     ensures refused { IfErr result (IsFilesRefusal files.now) }
 {
     let mut given = 0usize;
-    for file in files {
-        let own = add_file(alloc, file.choice, file.bytes, tree, faults)?;
+    for (i, file) in files.iter().enumerate() {
+        let path = paths[i].as_bytes();
+        let own = add_file(alloc, file.choice, path, file.bytes, tree, faults)?;
         given = given.saturating_add(own);
     }
     Ok(given)
@@ -137,9 +158,11 @@ pub fn compile_chosen(
         (λ etc usr. IsRefusal etc usr max_bytes e)) }
 {
     compiled_answers_are_last();
+    let made = paths_of(alloc, files)?;
+    let paths = made.as_slice();
     let mut tree = Tree::new(alloc);
     let mut faults = Vec::new(alloc);
-    let given = add_files(alloc, files, &mut tree, &mut faults)?;
+    let given = add_files(alloc, files, paths, &mut tree, &mut faults)?;
     let database = write(alloc, &tree, max_bytes)?;
     Ok(Compiled {
         database,

@@ -1,17 +1,16 @@
 -- To set a place of a tree is to set it in the map.
-use Rattle.std.proofs.Common.{◌≡◌, ℕ, List, [], ◌∷◌, ◌++◌, map, flat_map, Bool, true, false, cond, Option, Some, None, refl, sym, ◌∙◌, ap, subst, arith, append_assoc, eqb, Ordering, option_map}
+use Rattle.std.proofs.Common.{◌≡◌, ℕ, List, [], ◌∷◌, ◌++◌, map, flat_map, Bool, true, false, cond, Option, Some, None, refl, sym, ◌∙◌, ap, arith, append_assoc, eqb, Ordering, option_map}
 use Rattle.std.specs.declared.cmp.Ordering.TheVariants.{Less, Equal, Greater}
 use Rattle.std.specs.Ordering.{nat_cmp, eq_by_cmp, is_eq, ordering_then}
-use Rattle.std.specs.Cmp.{IsTotalOrder, then_total, on_total, tied_itself}
+use Rattle.std.specs.Cmp.{IsTotalOrder, then_total, on_total}
 use Rattle.std.specs.Cmp.Lexicographic.{slice_cmp, nat_list_cmp_total}
-use Rattle.std.specs.FinMap.{FinMap, IsAntisymmetric, slice_cmp-IsAntisymmetric, nat_cmp-IsAntisymmetric, get, get-from_entries, get-insert, same_map, insert}
-use Rattle.std.specs.FinMap.Entries.{by_order, find}
+use Rattle.std.specs.FinMap.{IsAntisymmetric, slice_cmp-IsAntisymmetric, nat_cmp-IsAntisymmetric}
+use Rattle.std.specs.FinMap.Entries.{find}
 use Rattle.std.proofs.lemmas.Bool.Decides.{nat_tests}
 use Rattle.hwdb_spec.specs.Assignment.{Assignment}
 use Rattle.hwdb_spec.specs.Tree.{Value, Tree, Children, place_cmp, entry_of, assigned_at, values_under, values_below, key_of}
 use Rattle.hwdb_spec.specs.Tree.Tree.{Node}
 use Rattle.hwdb_spec.specs.Tree.Children.{NoMore, Child}
-use Rattle.hwdb_writer.specs.Internal.Setting.{set_value, single, map_under}
 
 abbrev pub Place : Type 0
 Place = List ℕ × List ℕ
@@ -153,10 +152,6 @@ mutual
       found_both q (values_under (path ++ b ∷ []) t) (values_below path ks)
       ∙ (λ i. either (off_tree q (path ++ b ∷ []) t (off_deeper path (b ∷ []) q.0 h) i) (off_children q path ks h i))
 
--- `q` is found where it was set, before what was there
-abbrev pub Sets : Place → Place → Value → List Entry → List Entry → Type 0
-Sets q p v new old = found q new ≡ cond (is_at q p) (Some (given v)) (found q old)
-
 pub is_place : (q p : Place) → is_at q p ≡ true → q ≡ p
 is_place q p e = yes (place_cmp q p) refl e
   where
@@ -164,12 +159,6 @@ is_place q p e = yes (place_cmp q p) refl e
     yes Less h t = absurd (cc)
     yes Equal h t = place_same q p h
     yes Greater h t = absurd (cc)
-
--- a set behind entries that don't have the place
-behind_sets : (b : Bool) (x y : Option Assigned) (z : Assigned) → (b ≡ true → x ≡ None) → either x (cond b (Some z) y) ≡ cond b (Some z) (either x y)
-unfolding either
-behind_sets true x y z none = ap (λ o. either o (Some z)) (none refl)
-behind_sets false x y z none = refl
 
 pub one_is : (q : Place) (path : List ℕ) (v : Value) (k : List ℕ) → key_of v.key ≡ Some k → one q path v ≡ cond (is_at q (path, k)) (Some (given v)) None
 unfolding one
@@ -197,15 +186,6 @@ stored_is (c ∷ key) k e = by (eqb c 32) refl e
     by true h g = let a = alike c 32 h in cc
     by false h g = absurd (cc)
 
-front_sets : (q : Place) (path : List ℕ) (v : Value) (k : List ℕ) → key_of v.key ≡ Some k → (xs : List Entry) → Sets q (path, k) v ((path, v) ∷ xs) xs
-unfolding either
-front_sets q path v k e xs =
-    found_cons q path v xs ∙ ap (λ o. either o (found q xs)) (one_is q path v k e) ∙ either_cond (is_at q (path, k)) None (found q xs) (given v)
-
-shadow : (b : Bool) (z z' : Assigned) (y : Option Assigned) → cond b (Some z) y ≡ cond b (Some z) (cond b (Some z') y)
-shadow true z z' y = refl
-shadow false z z' y = refl
-
 pub one_other : (q : Place) (path : List ℕ) (k : List ℕ) (w : Value) → q ≡ (path, k) → (key_of w.key ≡ Some k → ⊥) → one q path w ≡ None
 unfolding one
 one_other q path k w is other = by (key_of w.key) refl
@@ -214,31 +194,6 @@ one_other q path k w is other = by (key_of w.key) refl
     by None h = refl
     by (Some k') h =
         ap (λ b. cond b (Some (given w)) None) (differs q (path, k') (λ same. other (h ∙ ap (λ (x : Place). Some x.1) (sym same ∙ is))))
-
-value_step : (q : Place) (path : List ℕ) (v : Value) (k : List ℕ) → key_of v.key ≡ Some k → (w : Value) (vs : List Value) (r : Ordering) → slice_cmp nat_cmp v.key w.key ≡ r →
-    Sets q (path, k) v (map (λ x. (path, x)) (set_value v vs)) (map (λ x. (path, x)) vs) →
-    Sets q (path, k) v (map (λ x. (path, x)) (by_order r (v ∷ w ∷ vs) (v ∷ vs) (w ∷ set_value v vs))) (map (λ x. (path, x)) (w ∷ vs))
-value_step q path v k e w vs Less h ih = front_sets q path v k e (map (λ x. (path, x)) (w ∷ vs))
-value_step q path v k e w vs Equal h ih =
-    let same : w.key ≡ v.key = sym (key_same v.key w.key h) in
-    let xs = map (λ (x : Value). (path, x)) vs in
-    front_sets q path v k e xs ∙ shadow (is_at q (path, k)) (given v) (given w) (found q xs)
-    ∙ ap (cond (is_at q (path, k)) (Some (given v))) (sym (front_sets q path w k (ap key_of same ∙ e) xs))
-value_step q path v k e w vs Greater h ih =
-    let xs = map (λ (x : Value). (path, x)) vs in
-    let other : key_of w.key ≡ Some k → ⊥ = λ g.
-    let same : v.key ≡ w.key = stored_is v.key k e ∙ sym (stored_is w.key k g) in
-    let eq : slice_cmp nat_cmp v.key w.key ≡ Equal = ap (slice_cmp nat_cmp v.key) (sym same) ∙ tied_itself bytes_total v.key in
-    cc in
-    found_cons q path w (map (λ x. (path, x)) (set_value v vs)) ∙ ap (either (one q path w)) ih
-    ∙ behind_sets (is_at q (path, k)) (one q path w) (found q xs) (given v) (λ b. one_other q path k w (is_place q (path, k) b) other)
-    ∙ ap (cond (is_at q (path, k)) (Some (given v))) (sym (found_cons q path w xs))
-
-values_set : (q : Place) (path : List ℕ) (v : Value) (k : List ℕ) → key_of v.key ≡ Some k → (vs : List Value) →
-    Sets q (path, k) v (map (λ w. (path, w)) (set_value v vs)) (map (λ w. (path, w)) vs)
-unfolding set_value
-values_set q path v k e [] = front_sets q path v k e []
-values_set q path v k e (w ∷ vs) = value_step q path v k e w vs (slice_cmp nat_cmp v.key w.key) refl (values_set q path v k e vs)
 
 pub cancel : (path xs ys : List ℕ) → path ++ xs ≡ path ++ ys → xs ≡ ys
 cancel [] xs ys e = e
@@ -249,98 +204,10 @@ fork_off path b d more ne r e =
     let h = cancel path (d ∷ more) (b ∷ r) (e ∙ append_assoc path (b ∷ []) r) in
     ne (cc)
 
-off_place : (q : Place) (path pattern k : List ℕ) → q ≡ (pattern, k) → Off path pattern → Off path q.0
-off_place q path pattern k e h r g = h r (ap (λ (x : Place). x.0) (sym e) ∙ g)
-
-leaf_sets : (q : Place) (path : List ℕ) (d : ℕ) (more : List ℕ) (v : Value) (k : List ℕ) → key_of v.key ≡ Some k → (xs : List Entry) →
-    Sets q (path ++ d ∷ more, k) v (((path ++ d ∷ []) ++ more, v) ∷ xs) xs
-leaf_sets q path d more v k e xs =
-    let P : List ℕ → Type 0 = λ p. Sets q (p, k) v (((path ++ d ∷ []) ++ more, v) ∷ xs) xs in
-    subst P (append_assoc path (d ∷ []) more) (front_sets q ((path ++ d ∷ []) ++ more) v k e xs)
-
--- children of which one is new, one has the value set below it, or one stands before it
-pub sets_new : (q : Place) (path : List ℕ) (d : ℕ) (more : List ℕ) (v : Value) (k : List ℕ) → key_of v.key ≡ Some k → (ks : Children) →
-    Sets q (path ++ d ∷ more, k) v (values_below path (Child d (single more v) ks)) (values_below path ks)
-unfolding values_under
-sets_new q path d more v k e ks = leaf_sets q path d more v k e (values_below path ks)
-
-pub sets_hit : (q : Place) (path : List ℕ) (d : ℕ) (more : List ℕ) (v : Value) (k : List ℕ) (t u : Tree) (ks : Children) →
-    Sets q ((path ++ d ∷ []) ++ more, k) v (values_under (path ++ d ∷ []) u) (values_under (path ++ d ∷ []) t) →
-    Sets q (path ++ d ∷ more, k) v (values_below path (Child d u ks)) (values_below path (Child d t ks))
-unfolding values_under
-sets_hit q path d more v k t u ks it =
-    let here = path ++ d ∷ [] in
-    let old = values_under here t in
-    let new = values_under here u in
-    let rest = values_below path ks in
-    let P : List ℕ → Type 0 = λ p. Sets q (p, k) v (new ++ rest) (old ++ rest) in
-    subst P (append_assoc path (d ∷ []) more)
-    (found_both q new rest ∙ ap (λ o. either o (found q rest)) it
-    ∙ either_cond (is_at q (here ++ more, k)) (found q old) (found q rest) (given v)
-    ∙ ap (cond (is_at q (here ++ more, k)) (Some (given v))) (sym (found_both q old rest)))
-
-pub sets_more : (q : Place) (path : List ℕ) (d : ℕ) (more : List ℕ) (v : Value) (k : List ℕ) (b : ℕ) (t : Tree) (ks ls : Children) → (d ≡ b → ⊥) →
-    Sets q (path ++ d ∷ more, k) v (values_below path ls) (values_below path ks) →
-    Sets q (path ++ d ∷ more, k) v (values_below path (Child b t ls)) (values_below path (Child b t ks))
-unfolding values_under
-sets_more q path d more v k b t ks ls ne ik =
-    let old = values_under (path ++ b ∷ []) t in
-    found_both q old (values_below path ls) ∙ ap (either (found q old)) ik
-    ∙ behind_sets (is_at q (path ++ d ∷ more, k)) (found q old) (found q (values_below path ks)) (given v)
-    (λ y. off_tree q (path ++ b ∷ []) t (off_place q (path ++ b ∷ []) (path ++ d ∷ more) k (is_place q (path ++ d ∷ more, k) y) (fork_off path b d more ne)))
-    ∙ ap (cond (is_at q (path ++ d ∷ more, k)) (Some (given v))) (sym (found_both q old (values_below path ks)))
-
 -- a place behind a path that goes on is not the path
 pub longer : (path : List ℕ) (d : ℕ) (more : List ℕ) → path ++ d ∷ more ≡ path → ⊥
 longer [] d more e = absurd (cc)
 longer (c ∷ path) d more e = longer path d more (cc)
-
--- a node that has the value set in its values, or below it
-module _ (q : Place) (path : List ℕ) (v : Value) (k : List ℕ) (prefix : List ℕ) (values : List Value) (children : Children) where
-  abbrev here : List ℕ
-  here = path ++ prefix
-
-  abbrev vals : List Entry
-  vals = map (λ w. (here, w)) values
-
-  pub sets_here : key_of v.key ≡ Some k → Sets q (here, k) v (values_under path (Node prefix (set_value v values) children)) (values_under path (Node prefix values children))
-  unfolding values_under
-  sets_here e =
-      found_both q (map (λ w. (here, w)) (set_value v values)) (values_below here children)
-      ∙ ap (λ o. either o (found q (values_below here children))) (values_set q here v k e values)
-      ∙ either_cond (is_at q (here, k)) (found q vals) (found q (values_below here children)) (given v)
-      ∙ ap (cond (is_at q (here, k)) (Some (given v))) (sym (found_both q vals (values_below here children)))
-
-  children_case : (kids : Children) (d : ℕ) (more : List ℕ) → Sets q (here ++ d ∷ more, k) v (values_below here kids) (values_below here children) →
-      Sets q (here ++ d ∷ more, k) v (vals ++ values_below here kids) (vals ++ values_below here children)
-  children_case kids d more ih =
-      found_both q vals (values_below here kids) ∙ ap (either (found q vals)) ih
-      ∙ behind_sets (is_at q (here ++ d ∷ more, k)) (found q vals) (found q (values_below here children)) (given v)
-      (λ y. values_off q here values (λ g. longer here d more (ap (λ (x : Place). x.0) (sym (is_place q (here ++ d ∷ more, k) y)) ∙ g)))
-      ∙ ap (cond (is_at q (here ++ d ∷ more, k)) (Some (given v))) (sym (found_both q vals (values_below here children)))
-
-  pub sets_deeper : (kids : Children) (d : ℕ) (more : List ℕ) → Sets q (here ++ d ∷ more, k) v (values_below here kids) (values_below here children) →
-      Sets q (path ++ (prefix ++ d ∷ more), k) v (values_under path (Node prefix values kids)) (values_under path (Node prefix values children))
-  unfolding values_under
-  sets_deeper kids d more ih =
-      let P : List ℕ → Type 0 = λ p. Sets q (p, k) v (vals ++ values_below here kids) (vals ++ values_below here children) in
-      subst P (append_assoc path prefix (d ∷ more)) (children_case kids d more ih)
-
-nil_right : (xs : List Entry) → xs ++ [] ≡ xs
-nil_right [] = refl
-nil_right (x ∷ xs) = ap (λ ys. x ∷ ys) (nil_right xs)
-
--- a node that is cut in its prefix has the values that it had
-pub cut_same : (path front : List ℕ) (c : ℕ) (back : List ℕ) (values : List Value) (children : Children) →
-    values_under path (Node front [] (Child c (Node back values children) NoMore)) ≡ values_under path (Node (front ++ c ∷ back) values children)
-unfolding values_under
-cut_same path front c back values children =
-    let same : ((path ++ front) ++ c ∷ []) ++ back ≡ path ++ (front ++ c ∷ back) = append_assoc (path ++ front) (c ∷ []) back ∙ append_assoc path front (c ∷ back) in
-    nil_right _ ∙ ap (λ z. map (λ w. (z, w)) values ++ values_below z children) same
-
-full_cond : (q : Place) (b : Bool) (x : Option Assigned) (z : Assigned) → option_map (full q) (cond b (Some z) x) ≡ cond b (Some (full q z)) (option_map (full q) x)
-full_cond q true x z = refl
-full_cond q false x z = refl
 
 -- an entry in front of others
 got_at : (q p : Place) (v : Value) (b : Bool) → is_at q p ≡ b → (x : Option Assignment) (y : Option Assigned) → x ≡ option_map (full q) y →
@@ -358,48 +225,3 @@ pub got : (q : Place) (xs : List Entry) → find place_cmp q (map entry_of (flat
 unfolding found entries
 got q [] = refl
 got q (x ∷ xs) = got_by q x.0 x.1 (key_of x.1.key) (flat_map assignment_of xs) (entries xs) (got q xs)
-
-same_at : (q p : Place) (a : Assigned) (x : Option Assignment) → cond (is_at q p) (Some (full q a)) x ≡ cond (is_at q p) (Some (full p a)) x
-same_at q p a x = by (is_at q p) refl
-  where
-    by : (b : Bool) → is_at q p ≡ b → cond b (Some (full q a)) x ≡ cond b (Some (full p a)) x
-    by true e = ap (λ r. Some (full r a)) (is_place q p e)
-    by false e = refl
-
--- what an assignment holds beside its place
-abbrev assigned : Assignment → Assigned
-assigned a = record { priority = a.position.priority; line = a.position.line; value = a.value; path = a.path }
-
-bare : (q : Place) (x : Option Assigned) → option_map assigned (option_map (full q) x) ≡ x
-bare q None = refl
-bare q (Some x) = refl
-
--- entries with the value found first have the map with the value set, and the other way
-module _ (path rest : List ℕ) (v : Value) (k : List ℕ) (t u : Tree) where
-  abbrev place : Place
-  place = (path ++ rest, k)
-
-  abbrev old : List Entry
-  old = values_under path t
-
-  abbrev new : List Entry
-  new = values_under path u
-
-  gotten : (q : Place) (t : Tree) → get (map_under path t) q ≡ option_map (full q) (found q (values_under path t))
-  gotten q t = get-from_entries place_total _ q ∙ got q (values_under path t)
-
-  inserted : (q : Place) → get (insert (map_under path t) place (full place (given v))) q ≡ option_map (full q) (cond (is_at q place) (Some (given v)) (found q old))
-  inserted q =
-      get-insert place_total (map_under path t) place (full place (given v)) q
-      ∙ sym (same_at q place (given v) (get (map_under path t) q))
-      ∙ ap (cond (is_at q place) (Some (full q (given v)))) (gotten q t)
-      ∙ sym (full_cond q (is_at q place) (found q old) (given v))
-
-  pub map_set : ((q : Place) → Sets q place v new old) → map_under path u ≡ insert (map_under path t) place (full place (given v))
-  map_set h = same_map place_total place_same _ _ (λ q. gotten q u ∙ ap (option_map (full q)) (h q) ∙ sym (inserted q))
-
-  pub map_sets : map_under path u ≡ insert (map_under path t) place (full place (given v)) → (q : Place) → Sets q place v new old
-  map_sets m q =
-      sym (bare q (found q new))
-      ∙ ap (option_map assigned) (sym (gotten q u) ∙ ap (λ (w : FinMap place_cmp Assignment). get w q) m ∙ inserted q)
-      ∙ bare q (cond (is_at q place) (Some (given v)) (found q old))

@@ -22,7 +22,7 @@ mutual
   tight_kids used NoMore s = tt
   tight_kids used (Child b t more) s = (s.1, tight used t s.2, tight_kids used more s.3)
 
-few : (used before : ℕ) (ks : Children) → before < 256 → AreStorable used ks → BytesAscend before ks → count ks + before < 256
+pub few : (used before : ℕ) (ks : Children) → before < 256 → AreStorable used ks → BytesAscend before ks → count ks + before < 256
 unfolding IsStorable IsTree count
 few used before NoMore lt s a = omega (arith, lt)
 few used before (Child b t more) lt s a = let h = few used b more s.0 s.3 a.2 in omega (arith, h, a.0)

@@ -1,24 +1,26 @@
 //! A string that is ordered by its bytes, with its first eight as one number that is compared first.
-ghost use Rattle.std.specs.Prelude.{◌≡◌, ℕ, List, Some, nat_eq, refl};
+ghost use Rattle.std.specs.Prelude.{◌≡◌, ◌∷◌, ◌++◌, ◌-◌, ◌^◌, ℕ, List, Some, OnOk, length, min, nat_eq, refl};
 ghost use Rattle.std.specs.Ordering.{nat_cmp};
 ghost use Rattle.std.specs.Cmp.{partial_equiv_from_equiv};
 ghost use Rattle.std.specs.Cmp.Lexicographic.{slice_cmp, pointwise, nat_list_eq_equiv, nat_list_cmp_total, texts_po, texts_ties};
 ghost use Rattle.byteorder.specs.Endian.{big_number};
 ghost use Rattle.hwdb_writer.specs.Internal.Codes.{coded_bytes};
-ghost use Rattle.hwdb_writer.specs.Internal.Keyed.{IsHeaded};
+ghost use Rattle.hwdb_writer.specs.Internal.Keyed.{IsHeaded, spaced_text};
 
 use byteorder::{BigEndian, ByteOrder};
+use std::alloc::AllocError;
 use std::cmp::Ordering;
 use std::marker::Model;
 
 /// How many bytes stand beside a string as a number.
 const HEAD: usize = 8;
 
-/// A string. Its first eight bytes stand beside it as a number, so that few comparisons look at the
-/// string.
+/// A string: a text, or a space and a text. Its first eight bytes stand beside it as a number, so that few comparisons look
+/// at the text.
 #[derive(Drop)]
 pub struct KeyedStr<'t> {
     head: u64,
+    is_spaced: bool,
     text: &'t [u8],
 }
 
@@ -27,9 +29,9 @@ impl<'t> Model for KeyedStr<'t> {
 
     ghost coded = { coded_bytes };
 
-    ghost view = { λ w. w.text.now };
+    ghost view = { λ w. spaced_text w.is_spaced w.text.now };
 
-    ghost invariant = { λ w. IsHeaded w.head w.text.now };
+    ghost invariant = { λ w. IsHeaded w.head (spaced_text w.is_spaced w.text.now) };
 }
 
 /// What spreads numbers: odd, and near 2^64 by the golden ratio.
@@ -47,13 +49,35 @@ fn head_of(text: &[u8]) -> u64
     BigEndian::read_u64(&bytes)
 }
 
+/// What a space counts as the first of eight bytes.
+const SPACE: u64 = 0x2000_0000_0000_0000;
+
+/// The same of a space and a text.
+fn spaced_head_of(text: &[u8]) -> u64
+    ensures { result ≡ big_number 8 (32 ∷ text.now) }
+{
+    SPACE + head_of(text) / 256
+}
+
 impl<'t> KeyedStr<'t> {
-    /// The word of a string.
+    /// A text.
     pub fn new(text: &'t [u8]) -> KeyedStr<'t>
         ensures { result ≡ text.now }
     {
         KeyedStr {
             head: head_of(text),
+            is_spaced: false,
+            text,
+        }
+    }
+
+    /// A space and a text.
+    pub fn spaced(text: &'t [u8]) -> KeyedStr<'t>
+        ensures { result ≡ 32 ∷ text.now }
+    {
+        KeyedStr {
+            head: spaced_head_of(text),
+            is_spaced: true,
             text,
         }
     }
@@ -72,12 +96,48 @@ impl<'t> KeyedStr<'t> {
         number.wrapping_mul(FACTOR)
     }
 
-    /// Its string.
-    pub fn text(&self) -> &'t [u8]
-        ensures { result.now ≡ self.now }
+    /// How long it is, or the greatest number where it is longer.
+    pub fn len(&self) -> usize
+        ensures { result ≡ min (length self.now) (2 ^ 64 - 1) }
     {
-        self.text
+        self.text.len().saturating_add(self.is_spaced as usize)
     }
+
+    /// Appends it.
+    pub fn push_on(&self, out: &mut Vec<u8>) -> Result<(), AllocError>
+        ensures { OnOk result (out.new.items ≡ out.old.items ++ self.now) }
+    {
+        if self.is_spaced {
+            out.push(b' ')?;
+        }
+        out.extend_from_slice(self.text)
+    }
+}
+
+/// The order of a space and a text, and a text.
+fn cmp_spaced(spaced: &[u8], text: &[u8]) -> Ordering
+    ensures { result ≡ slice_cmp nat_cmp (32 ∷ spaced.now) text.now }
+{
+    match text {
+        [] => Ordering::Greater,
+        [first, rest @ ..] => match b' '.cmp(first) {
+            Ordering::Equal => spaced.cmp(rest),
+            unequal => unequal,
+        },
+    }
+}
+
+/// The order of strings.
+fn cmp_texts(a: &KeyedStr<'_>, b: &KeyedStr<'_>) -> Ordering
+    ensures { result ≡ slice_cmp nat_cmp a.now b.now }
+{
+    if a.is_spaced == b.is_spaced {
+        return a.text.cmp(b.text);
+    }
+    if a.is_spaced {
+        return cmp_spaced(a.text, b.text);
+    }
+    cmp_spaced(b.text, a.text).reverse()
 }
 
 impl<'t> PartialEq for KeyedStr<'t> {
@@ -86,7 +146,13 @@ impl<'t> PartialEq for KeyedStr<'t> {
     ghost laws = { partial_equiv_from_equiv nat_list_eq_equiv };
 
     fn eq(&self, other: &Self) -> bool {
-        self.text == other.text
+        if self.head != other.head {
+            return false;
+        }
+        if self.is_spaced == other.is_spaced {
+            return self.text == other.text;
+        }
+        cmp_texts(self, other).is_eq()
     }
 }
 
@@ -120,9 +186,9 @@ impl<'t> Ord for KeyedStr<'t> {
         if self.head > other.head {
             return Ordering::Greater;
         }
-        if self.text.len() <= HEAD && other.text.len() <= HEAD {
-            return self.text.len().cmp(&other.text.len());
+        if self.len() <= HEAD && other.len() <= HEAD {
+            return self.len().cmp(&other.len());
         }
-        self.text.cmp(other.text)
+        cmp_texts(self, other)
     }
 }

@@ -5,17 +5,15 @@
 #![tactic(auto)]
 
 mod assignments;
+mod builder;
+mod entries;
 mod keyed;
 mod laws;
 mod nodes;
 mod output;
-mod prefix;
 mod records;
 mod registry;
 mod strings;
-mod trie;
-mod value_entry;
-mod values;
 
 pub use crate::assignments::Tree;
 pub use crate::laws::{law_one_tight_tree, law_one_written_form};

@@ -1,13 +1,14 @@
-//! The nodes section: each node's record, behind the texts of its children.
-ghost use Rattle.std.specs.Prelude.{◌≡◌, ◌<◌, ◌++◌, ◌∷◌, ◌+◌, ◌*◌, ◌-◌, ◌^◌, OnOk, map, flat_map, min, length};
+//! The nodes of a tree, each behind its children, and their records.
+ghost use Rattle.std.specs.Prelude.{◌≡◌, ◌≤◌, ◌<◌, ◌++◌, ◌∷◌, ◌+◌, ◌*◌, ◌-◌, ◌^◌, OnOk, map, flat_map, min, length, take, drop};
 ghost use Rattle.byteorder.specs.Endian.{little_bytes};
-ghost use Rattle.hwdb_spec.specs.Written.{strings_of, strings_of_value, text_size, node_text, value_text, record_at, padding};
-ghost use Rattle.hwdb_writer.specs.Internal.ValueEntries.{value_of};
-ghost use Rattle.hwdb_writer.specs.Internal.Standing.{tree_of, byte_of};
+ghost use Rattle.hwdb_spec.specs.Written.{strings_of, strings_of_value, text_size, node_text, value_text, padding};
+ghost use Rattle.hwdb_writer.specs.Internal.Entries.{value_of};
+ghost use Rattle.hwdb_writer.specs.Internal.PostOrder.{tree_of, IsPostOrder};
 ghost use Rattle.hwdb_writer.specs.Internal.Narrow.{IsNarrow};
 ghost use Rattle.hwdb_writer.specs.Internal.Membership.{SameMembers};
 ghost use Rattle.hwdb_writer.specs.Internal.Places.{IsTable, place_in};
 
+use crate::entries::Entry;
 use crate::keyed::KeyedStr;
 use crate::records::{
     CHILD_SIZE, NODE_SIZE, VALUE_SIZE, push_child, push_node, push_rest, push_u16, push_u32,
@@ -15,56 +16,70 @@ use crate::records::{
 };
 use crate::registry::Registry;
 use crate::strings::{Table, place, push_new};
-use crate::trie::TrieNode;
-use crate::value_entry::ValueEntry;
-use crate::values::Values;
-use std::alloc::AllocError;
+use std::alloc::{AllocError, Global};
 
-/// Appends the strings of the values of a run, but those that are known to stand there.
-fn collect_run<'t>(
-    values: &'t [ValueEntry],
+/// A node, in a list in which each stands behind its children: the byte that it stands under, what follows it, its values
+/// by key, which are so many of the entries from the first on, and how many children it has.
+#[derive(Clone, Copy)]
+pub struct Node<'t> {
+    pub byte: u8,
+    pub prefix: &'t [u8],
+    pub first: usize,
+    pub count: usize,
+    pub children: usize,
+}
+
+impl<'t> Node<'t> {
+    /// A node without children, whose values begin with this entry.
+    pub fn new(byte: u8, prefix: &'t [u8], first: usize) -> Node<'t>
+        ensures byte { result.byte ≡ byte }
+        ensures prefix { result.prefix.now ≡ prefix.now }
+        ensures first { result.first ≡ first }
+        ensures count { result.count ≡ 0 }
+        ensures children { result.children ≡ 0 }
+    {
+        Node {
+            byte,
+            prefix,
+            first,
+            count: 0,
+            children: 0,
+        }
+    }
+}
+
+/// Appends the strings of the values, but those that are known to stand there.
+fn collect_values<'t>(
+    values: &[Entry<'t>],
     words: &mut Vec<KeyedStr<'t>>,
     registry: &mut Registry,
 ) -> Result<(), AllocError>
     ensures { OnOk result (SameMembers words.new.items
         (words.old.items ++ flat_map strings_of_value (map value_of values.now))) }
 {
-    for v in values {
-        push_new(words, registry, v.key())?;
-        push_new(words, registry, v.value())?;
-        push_new(words, registry, v.path())?;
+    for entry in values {
+        push_new(words, registry, KeyedStr::spaced(entry.key))?;
+        push_new(words, registry, KeyedStr::new(entry.value))?;
+        push_new(words, registry, KeyedStr::new(entry.path))?;
     }
     Ok(())
 }
 
-/// Appends the strings of the values, but those that are known to stand there.
-fn collect_values<'t>(
-    values: &'t Values,
-    words: &mut Vec<KeyedStr<'t>>,
-    registry: &mut Registry,
-) -> Result<(), AllocError>
-    ensures { OnOk result
-        (SameMembers words.new.items (words.old.items ++ flat_map strings_of_value values.now)) }
-{
-    for run in values.runs() {
-        collect_run(run, words, registry)?;
-    }
-    Ok(())
-}
-
-/// Appends the strings of the node and of all below it, but those that are known to stand there.
+/// Appends the strings of the nodes, but those that are known to stand there.
 pub fn collect<'t>(
-    node: &'t TrieNode,
+    entries: &[Entry<'t>],
+    nodes: &[Node<'t>],
     words: &mut Vec<KeyedStr<'t>>,
     registry: &mut Registry,
 ) -> Result<(), AllocError>
-    ensures { OnOk result
-        (SameMembers words.new.items (words.old.items ++ strings_of (tree_of node.now))) }
+    requires { IsPostOrder entries.now nodes.now }
+    ensures { OnOk result (SameMembers words.new.items
+        (words.old.items ++ strings_of (tree_of entries.now nodes.now))) }
 {
-    push_new(words, registry, node.prefix.text())?;
-    collect_values(&node.values, words, registry)?;
-    for child in &node.children {
-        collect(child, words, registry)?;
+    for node in nodes {
+        let values = &entries[node.first..node.first + node.count];
+        push_new(words, registry, KeyedStr::new(node.prefix))?;
+        collect_values(values, words, registry)?;
     }
     Ok(())
 }
@@ -78,21 +93,21 @@ pub fn record_length(children: usize, values: usize) -> usize
     children.saturating_add(values).saturating_add(NODE_SIZE)
 }
 
-/// How long the node's text is, or the greatest number where it is longer.
-pub fn text_length(node: &TrieNode) -> usize
-    ensures { result ≡ min (text_size (tree_of node.now)) (2 ^ 64 - 1) }
+/// How long the text of the nodes is, or the greatest number where it is longer.
+pub fn text_length(entries: &[Entry<'_>], nodes: &[Node<'_>]) -> usize
+    requires { IsPostOrder entries.now nodes.now }
+    ensures { result ≡ min (text_size (tree_of entries.now nodes.now)) (2 ^ 64 - 1) }
 {
-    let children: &[TrieNode] = &node.children;
     let mut total = 0usize;
-    for child in children {
-        total = total.saturating_add(text_length(child));
+    for node in nodes {
+        total = total.saturating_add(record_length(node.children, node.count));
     }
-    total.saturating_add(record_length(children.len(), node.values.len()))
+    total
 }
 
-/// Appends the value entries of a run.
-fn push_run(
-    values: &[ValueEntry],
+/// Appends the value entries.
+fn push_values(
+    values: &[Entry<'_>],
     table: &Table<'_, '_>,
     registry: &mut Registry,
     out: &mut Vec<u8>,
@@ -101,63 +116,68 @@ fn push_run(
     ensures { OnOk result (out.new.items
         ≡ out.old.items ++ flat_map (value_text (place_in table.now)) (map value_of values.now)) }
 {
-    for v in values {
-        push_u64(out, place(table, registry, v.key()))?;
-        push_u64(out, place(table, registry, v.value()))?;
-        push_u64(out, place(table, registry, v.path()))?;
-        push_u32(out, v.line)?;
-        push_u16(out, v.priority)?;
+    for entry in values {
+        push_u64(out, place(table, registry, KeyedStr::spaced(entry.key)))?;
+        push_u64(out, place(table, registry, KeyedStr::new(entry.value)))?;
+        push_u64(out, place(table, registry, KeyedStr::new(entry.path)))?;
+        push_u32(out, entry.line)?;
+        push_u16(out, entry.priority)?;
         out.extend_from_slice(&[0; 2])?;
     }
     Ok(())
 }
 
-/// Appends the value entries.
-fn push_values(
-    values: &Values,
+/// Appends the record of a node with these values to the records before it. The last of the child entries are those of its
+/// children: its own takes their place.
+fn push_record(
+    node: &Node<'_>,
+    values: &[Entry<'_>],
     table: &Table<'_, '_>,
     registry: &mut Registry,
-    out: &mut Vec<u8>,
-) -> Result<(), AllocError>
-    requires { IsTable table.now }
-    ensures { OnOk result (out.new.items
-        ≡ out.old.items ++ flat_map (value_text (place_in table.now)) values.now) }
-{
-    for run in values.runs() {
-        push_run(run, table, registry, out)?;
-    }
-    Ok(())
-}
-
-/// Appends the node's text to the bytes before it, and its child entry to its parent's.
-pub fn push_text(
-    node: &TrieNode,
-    table: &Table<'_, '_>,
-    registry: &mut Registry,
-    entries: &mut Vec<u8>,
+    children: &mut Vec<u8>,
     out: &mut Vec<u8>,
 ) -> Result<(), AllocError>
     requires table { IsTable table.now }
-    requires narrow { IsNarrow (tree_of node.now) }
-    requires fits { text_size (tree_of node.now) < 2 ^ 64 }
-    ensures text { OnOk result (out.new.items
-        ≡ out.old.items
-        ++ node_text (place_in table.now) (length out.old.items) (tree_of node.now)) }
-    ensures entry { OnOk result (entries.new.items ≡ entries.old.items
-        ++ (byte_of node.now ∷ padding 7
-        ++ little_bytes 8 (record_at (length out.old.items) (tree_of node.now)))) }
+    requires room { 16 * node.now.children ≤ length children.old.items }
+    requires few { node.now.children < 256 }
+    ensures record { OnOk result (out.new.items ≡ out.old.items
+        ++ (little_bytes 8 (place_in table.now node.now.prefix.now)
+        ++ node.now.children ∷ padding 7 ++ little_bytes 8 (length values.now)
+        ++ drop (length children.old.items - 16 * node.now.children) children.old.items
+        ++ flat_map (value_text (place_in table.now)) (map value_of values.now))) }
+    ensures entry { OnOk result (children.new.items
+        ≡ take (length children.old.items - 16 * node.now.children) children.old.items
+        ++ (node.now.byte ∷ padding 7 ++ little_bytes 8 (length out.old.items))) }
 {
-    let children: &[TrieNode] = &node.children;
-    let first = entries.as_slice().len();
-    for child in children {
-        push_text(child, table, registry, entries, out)?;
-    }
+    let first = children.as_slice().len() - CHILD_SIZE * node.children;
     let at = out.as_slice().len();
-    let prefix = place(table, registry, node.prefix.text());
-    push_node(out, prefix, children.len() as u8, node.values.len())?;
-    push_rest(out, entries, first)?;
-    push_values(&node.values, table, registry, out)?;
-    entries.truncate(first);
-    push_child(entries, node.byte, at)?;
+    let prefix = place(table, registry, KeyedStr::new(node.prefix));
+    push_node(out, prefix, node.children as u8, values.len())?;
+    push_rest(out, children, first)?;
+    push_values(values, table, registry, out)?;
+    children.truncate(first);
+    push_child(children, node.byte, at)
+}
+
+/// Appends the records of the nodes.
+pub fn push_records(
+    alloc: Global,
+    entries: &[Entry<'_>],
+    nodes: &[Node<'_>],
+    table: &Table<'_, '_>,
+    registry: &mut Registry,
+    out: &mut Vec<u8>,
+) -> Result<(), AllocError>
+    requires table { IsTable table.now }
+    requires order { IsPostOrder entries.now nodes.now }
+    requires narrow { IsNarrow (tree_of entries.now nodes.now) }
+    ensures { OnOk result (out.new.items ≡ out.old.items
+        ++ node_text (place_in table.now) (length out.old.items) (tree_of entries.now nodes.now)) }
+{
+    let mut children = Vec::new(alloc);
+    for node in nodes {
+        let values = &entries[node.first..node.first + node.count];
+        push_record(node, values, table, registry, &mut children, out)?;
+    }
     Ok(())
 }

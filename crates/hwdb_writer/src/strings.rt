@@ -17,15 +17,14 @@ pub struct Table<'a, 't> {
     pub first: usize,
 }
 
-/// Appends the text, unless it stands where it was remembered.
+/// Appends the string, unless it stands where it was remembered.
 pub fn push_new<'t>(
     words: &mut Vec<KeyedStr<'t>>,
     registry: &mut Registry,
-    text: &'t [u8],
+    word: KeyedStr<'t>,
 ) -> Result<(), AllocError>
-    ensures { OnOk result (SameMembers words.new.items (words.old.items ++ text.now ∷ [])) }
+    ensures { OnOk result (SameMembers words.new.items (words.old.items ++ word.entry ∷ [])) }
 {
-    let word = KeyedStr::new(text);
     let known: &[KeyedStr<'_>] = words;
     let count = known.len();
     let place = registry.lookup(&word);
@@ -54,7 +53,7 @@ pub fn section_length(words: &[KeyedStr<'_>]) -> usize
 {
     let mut total = 0usize;
     for word in words {
-        total = total.saturating_add(word.text().len()).saturating_add(1);
+        total = total.saturating_add(word.len()).saturating_add(1);
     }
     total
 }
@@ -68,20 +67,19 @@ pub fn starts(alloc: Global, words: &[KeyedStr<'_>], first: usize) -> Result<Vec
     let mut end = first;
     for word in words {
         starts.push(end)?;
-        end += word.text().len() + 1;
+        end += word.len() + 1;
     }
     starts.push(end)?;
     Ok(starts)
 }
 
 /// Where the string stands, or would belong. It is looked for where it was remembered, and remembered where it was found.
-pub fn place(table: &Table<'_, '_>, registry: &mut Registry, s: &[u8]) -> usize
+pub fn place(table: &Table<'_, '_>, registry: &mut Registry, word: KeyedStr<'_>) -> usize
     requires { IsTable table.now }
-    ensures { result ≡ place_in table.now s.now }
+    ensures { result ≡ place_in table.now word.entry }
 {
     let words = table.words;
     let starts = table.starts;
-    let word = KeyedStr::new(s);
     let remembered = registry.lookup(&word);
     if remembered < words.len() {
         if words[remembered] == word {

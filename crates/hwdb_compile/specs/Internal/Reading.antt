@@ -5,7 +5,7 @@ use Rattle.std.specs.Borrow.{Bor}
 use Rattle.std.specs.Ordering.{nat_cmp}
 use Rattle.std.specs.Option.{option_map_or}
 use Rattle.std.specs.Cmp.Lexicographic.{slice_cmp}
-use Rattle.hwdb_spec.specs.Folders.{FaultIn, file_assignments, file_faults}
+use Rattle.hwdb_spec.specs.Folders.{FaultIn, file_assignments, file_faults, path_of}
 use Rattle.hwdb_text.specs.Views.{HasNoZero, IsStorable}
 use Rattle.hwdb_compile.specs.Views.{ManyLines, bytes_in, choice_in}
 use Rattle.hwdb_compile.specs.declared.sources.ChosenFile.{ChosenFile}
@@ -17,6 +17,10 @@ use Rattle.hwdb_compile.specs.declared.errors.CompileError.TheVariants.{Memory, 
 -- the bytes of a file in the index; none where its name isn't there
 abbrev pub bytes_at : BTreeMap (Bor (List ℕ)) (Bor (List ℕ)) → List ℕ → List ℕ
 bytes_at index name = option_map_or (λ b. b.now) (get_by (λ k. slice_cmp nat_cmp name k.now) index) []
+
+-- the stored path of a chosen file
+abbrev pub path_in : ChosenFile → List ℕ
+path_in f = path_of (choice_in f)
 
 -- what a chosen file assigns, and its faults
 abbrev pub assignments_in : ChosenFile → List Assignment

@@ -23,35 +23,54 @@ fn has_no_zero(text: &[u8]) -> bool
     }
 }
 
-/// Puts one assignment with the value `v`, and says whether memory for it was given.
-fn put(
-    rt: &impl Abort,
+/// An assignment with the value `v`.
+fn assignment(
     alloc: Global,
-    tree: &mut Tree,
     line: u32,
     pattern: &[u8],
     key: &[u8],
-) -> Result<Result<(), AllocError>, Fail> {
-    let path = b"/etc/udev/hwdb.d/1.hwdb".as_slice();
-    let value = b"v".as_slice();
-    assert!(rt; pattern.len() <= 4096);
-    assert!(rt; has_no_zero(pattern));
-    assert!(rt; has_no_zero(key));
-    assert!(rt; has_no_zero(value));
-    assert!(rt; has_no_zero(path));
-    let assignment = Assignment {
+) -> Result<Assignment, AllocError> {
+    Ok(Assignment {
         priority: 1,
         line,
         pattern: Vec::from_slice(alloc, pattern)?,
         key: Vec::from_slice(alloc, key)?,
-        value: Vec::from_slice(alloc, value)?,
-        path: Vec::from_slice(alloc, path)?,
-    };
-    Ok(tree.put(&assignment))
+        value: Vec::from_slice(alloc, b"v")?,
+        path: Vec::from_slice(alloc, b"/etc/udev/hwdb.d/1.hwdb")?,
+    })
+}
+
+/// The assignments of the patterns, each with the keys from line 2 on.
+fn assignments(
+    alloc: Global,
+    patterns: &[&[u8]],
+    keys: &[&[u8]],
+) -> Result<Vec<Assignment>, AllocError> {
+    let mut all = Vec::new(alloc);
+    for pattern in patterns {
+        let mut line = 2;
+        for key in keys {
+            let one = assignment(alloc, line, pattern, key)?;
+            all.push(one)?;
+            line = 3;
+        }
+    }
+    Ok(all)
+}
+
+/// Puts one assignment, and says whether memory for it was given.
+fn put<'t>(rt: &impl Abort, tree: &mut Tree<'t>, a: &'t Assignment) -> Result<(), AllocError> {
+    assert!(rt; a.priority > 0);
+    assert!(rt; a.pattern.len() <= 4096);
+    assert!(rt; has_no_zero(&a.pattern));
+    assert!(rt; has_no_zero(&a.key));
+    assert!(rt; has_no_zero(&a.value));
+    assert!(rt; has_no_zero(&a.path));
+    tree.put(a)
 }
 
 /// The database of a tree, where it has at most so many bytes.
-fn written(alloc: Global, tree: &Tree, max_bytes: u32) -> Result<Vec<u8>, StoreError> {
+fn written(alloc: Global, tree: &Tree<'_>, max_bytes: u32) -> Result<Vec<u8>, StoreError> {
     write(alloc, tree, max_bytes)
 }
 
@@ -63,13 +82,10 @@ fn database(
     keys: &[&[u8]],
     max_bytes: u32,
 ) -> Result<Result<Vec<u8>, StoreError>, Fail> {
+    let all = assignments(alloc, patterns, keys)?;
     let mut tree = Tree::new(alloc);
-    for pattern in patterns {
-        let mut line = 2;
-        for key in keys {
-            put(rt, alloc, &mut tree, line, pattern, key)??;
-            line = 3;
-        }
+    for one in &all {
+        put(rt, &mut tree, one)?;
     }
     Ok(written(alloc, &tree, max_bytes))
 }
@@ -107,11 +123,15 @@ fn sizes(rt: HostRuntime) -> Result<(), Fail> {
 #[test]
 fn put_again(rt: HostRuntime) -> Result<(), Fail> {
     let alloc = rt.alloc();
+    let all = assignments(alloc, &[b"abc", b"abd"], &[b"K"])?;
     let mut tree = Tree::new(alloc);
-    put(&rt, alloc, &mut tree, 2, b"abc", b"K")??;
-    if put(&rt, alloc, &mut tree, 2, b"abd", b"K")?.is_err() {
-        assert_eq!(rt; written(alloc, &tree, 320)?.len(), 209);
-        put(&rt, alloc, &mut tree, 2, b"abd", b"K")??;
+    let mut size = 105;
+    for one in &all {
+        if put(&rt, &mut tree, one).is_err() {
+            assert_eq!(rt; written(alloc, &tree, 320)?.len(), size);
+            put(&rt, &mut tree, one)?;
+        }
+        size = 209;
     }
     assert_eq!(rt; written(alloc, &tree, 320)?.len(), 320);
     Ok(())

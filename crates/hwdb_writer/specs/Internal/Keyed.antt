@@ -1,6 +1,11 @@
 -- A string with its first eight bytes as a number (our choice: numbers are compared before strings).
-use Rattle.std.specs.Prelude.{List, get_or, ℕ, ◌<◌, ◌≡◌}
+use Rattle.std.specs.Prelude.{List, get_or, ℕ, ◌<◌, ◌≡◌, ◌∷◌, Bool, true, false}
 use Rattle.byteorder.specs.Endian.{big_number}
+
+-- the bytes of a text, behind a space where it is spaced
+abbrev pub spaced_text : Bool → List ℕ → List ℕ
+spaced_text true text = 32 ∷ text
+spaced_text false text = text
 
 -- the number is that of the first eight bytes, the highest first
 pub record IsHeaded (head : ℕ) (text : List ℕ) : Type 0 where

@@ -5,8 +5,8 @@ use Rattle.hwdb_compile.proofs.compiler.add_file.Goals as goal
 
 pub put_all-requires : goal.put_all-requires
 put_all-requires c =
-    let o = origin c.as_bytes-path.result.now c.args.file.now.priority in
+    let o = origin c.args.path.now c.args.file.now.priority in
     let same = ap (map (given_in o)) c.deref.ensures.value in
     puttable o c.args.bytes.now _ (same ∙ c.in_ok-scanned.ensures.assignments o)
     (subst (All IsStorable) (sym same) (c.in_ok-scanned.ensures.storable o))
-    (subst HasNoZero (sym (c.as_bytes-path.ensures.value ∙ c.in_ok-path.ensures)) c.requires.path) c.requires.priority
+    (subst HasNoZero (sym c.requires.path) c.requires.storable.path) c.requires.storable.priority

@@ -7,7 +7,7 @@ use Rattle.hwdb_compile.proofs.compiler.compile_chosen.Goals as goal
 
 pub returns-in_err-given-clause-refused : goal.returns-in_err-given-clause-refused
 returns-in_err-given-clause-refused c =
-    error_given _ (λ e. ForFolders c.args.files.now (λ etc usr. IsRefusal etc usr c.args.max_bytes e)) c.from_residual.result c.from_residual.ensures.1
+    error_given _ (λ e. ForFolders c.args.files.now (λ etc usr. IsRefusal etc usr c.args.max_bytes e)) c.from_residual-in_err-given.result c.from_residual-in_err-given.ensures.1
     (λ e is etc usr of. subst (IsRefusal etc usr c.args.max_bytes) (sym is)
     (refusal etc usr c.args.max_bytes c.args.files.now c.in_err-given.field-0.0 of c.in_err-given.ensures.refused))
 

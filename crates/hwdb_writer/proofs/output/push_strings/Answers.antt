@@ -7,10 +7,10 @@ use Rattle.hwdb_writer.proofs.output.push_strings.Goals as goal
 
 pub loop-word-preserved : goal.loop-word-preserved
 loop-word-preserved c =
-    let t = c.text.ensures ∙ c.word-item.is ∙ get_or_default c.args.words.now c.loop-word.word-index c.word-item.result nothing c.loop-word-test.true in
+    let t = c.word-item.is ∙ get_or_default c.args.words.now c.loop-word.word-index c.word-item.result nothing c.loop-word-test.true in
     made_more section_of ended (λ s ss. refl) c.args.words.now c.loop-word.word-index _
     (get_or_default c.args.words.now c.loop-word.word-index nothing _ c.loop-word-test.true) c.loop-word-test.true _ _ _
-    (c.in_ok-push.ensures.items ∙ ap (λ l. l ++ 0 ∷ []) (c.in_ok-extend_from_slice.ensures.items ∙ ap (λ l. c.loop-word.out.items ++ l) t)
+    (c.in_ok-push.ensures.items ∙ ap (λ l. l ++ 0 ∷ []) (c.in_ok-push_on.ensures ∙ ap (λ l. c.loop-word.out.items ++ l) t)
     ∙ append_assoc c.loop-word.out.items (text_in c.args.words.now c.loop-word.word-index) (0 ∷ []))
     c.loop-word.invariant
 

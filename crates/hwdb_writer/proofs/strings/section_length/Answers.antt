@@ -1,4 +1,4 @@
-use Rattle.std.proofs.Common.{◌+◌, ◌-◌, ◌^◌, min, length, sym, ap, ◌∙◌, arith, List, ℕ}
+use Rattle.std.proofs.Common.{◌+◌, ◌-◌, ◌^◌, min, length, sym, ap, ◌∙◌, arith}
 use Rattle.std.proofs.lemmas.List.{get_or_default}
 use Rattle.hwdb_spec.specs.Written.{section_of}
 use Rattle.hwdb_writer.proofs.PlaceLemmas.{section_left, none_left, saturated, nothing}
@@ -9,11 +9,11 @@ loop-word-init c = record { sum = omega arith; small = omega arith }
 
 pub loop-word-preserved : goal.loop-word-preserved
 loop-word-preserved c =
-    let t = c.text.ensures ∙ c.word-item.is ∙ get_or_default c.args.words.now c.loop-word.word-index c.word-item.result nothing c.loop-word-test.true in
+    let t = c.word-item.is ∙ get_or_default c.args.words.now c.loop-word.word-index c.word-item.result nothing c.loop-word-test.true in
     let e = section_left c.args.words.now c.loop-word.word-index c.loop-word-test.true in
     record {
       sum = saturated c.loop-word.total _ _ _ c.saturating_add.result _ (ap (λ n. min (c.loop-word.total + n) (2 ^ 64 - 1)) (sym e) ∙ c.loop-word.invariant.sum)
-          (c.saturating_add.ensures ∙ ap (λ (l : List ℕ). min (c.loop-word.total + length l) (2 ^ 64 - 1)) t) c.saturating_add-total.ensures;
+          (omega (arith, c.saturating_add.ensures, c.len.ensures, ap length t)) c.saturating_add-total.ensures;
       small = c.saturating_add-total.type_inv;
     }
 

@@ -1,5 +1,6 @@
 use Rattle.std.proofs.Common.{arith, ◌∙◌}
 use Rattle.hwdb_writer.proofs.HeadLemmas.{less_head, greater_head, same_head}
+use Rattle.hwdb_writer.proofs.SpacedLemmas.{is_short, short_lengths}
 use Rattle.hwdb_writer.proofs.keyed.KeyedStrOrd.cmp.Goals as goal
 
 pub returns-then-self-other : goal.returns-then-self-other
@@ -8,7 +9,10 @@ returns-then-self-other c = rw (← c.self.view_is, ← c.other.view_is) (less_h
 pub returns-then-self-other-2 : goal.returns-then-self-other-2
 returns-then-self-other-2 c = rw (← c.self.view_is, ← c.other.view_is) (greater_head _ _ _ _ c.self.invariant.is c.other.invariant.is c.self.invariant.bytes c.other.invariant.bytes (omega (arith, c.if-self-other-2.true)))
 
-pub returns-then-other-le-HEAD : goal.returns-then-other-le-HEAD
-returns-then-other-le-HEAD c =
-    c.cmp.ensures
-    ∙ rw (← c.self.view_is, ← c.other.view_is) (same_head _ _ _ _ c.self.invariant.is c.other.invariant.is c.self.invariant.bytes c.other.invariant.bytes (omega (arith, c.if-self-other.false, c.if-self-other-2.false)) c.if-self-le-HEAD.true c.if-other-le-HEAD.true)
+pub returns-then-len-le-HEAD-2 : goal.returns-then-len-le-HEAD-2
+returns-then-len-le-HEAD-2 c =
+    let short_self = is_short _ _ c.len.ensures c.if-len-le-HEAD.true in
+    let short_other = is_short _ _ c.len-then-len-le-HEAD.ensures c.if-len-le-HEAD-2.true in
+    short_lengths _ _ _ _ _ c.len-then-len-le-HEAD-2.ensures (omega (arith, short_self, c.len-then-len-le-HEAD-2.ensures)) c.len-then-len-le-HEAD-2-2.ensures (omega (arith, short_other, c.len-then-len-le-HEAD-2-2.ensures)) c.cmp.ensures
+    ∙ rw (← c.self.view_is, ← c.other.view_is) (same_head _ _ _ _ c.self.invariant.is c.other.invariant.is c.self.invariant.bytes c.other.invariant.bytes (omega (arith, c.if-self-other.false, c.if-self-other-2.false))
+    (rw c.self.view_is short_self) (rw c.other.view_is short_other))

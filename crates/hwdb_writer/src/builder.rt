@@ -1,0 +1,213 @@
+//! The nodes of the tight tree of entries in order, made from the left to the right: what is open is the path to the pattern
+//! that was added last (the builder of BurntSushi's fst).
+ghost use Rattle.std.specs.Prelude.{◌≡◌, ◌≤◌, ◌<◌, ◌++◌, ◌∷◌, [], ◌+◌, ◌-◌, ◌^◌, List, ℕ, length, map, take, drop, reverse, slice_index, All, IfOk, OnOk};
+ghost use Rattle.std.specs.Bool.{OnTrue, OnFalse};
+ghost use Rattle.std.specs.List.{AllByRecursion};
+ghost use Rattle.std.specs.List.Sorted.{IsStrictlySortedBy};
+ghost use Rattle.hwdb_spec.specs.Tree.{values_under};
+ghost use Rattle.hwdb_writer.specs.declared.entries.Entry.{Entry as EntryRecord};
+ghost use Rattle.hwdb_writer.specs.Internal.Storable.{IsSound};
+ghost use Rattle.hwdb_writer.specs.Internal.Entries.{by_place, placed, IsStorableEntry};
+ghost use Rattle.hwdb_writer.specs.Internal.PostOrder.{IsPostOrder, tree_of};
+ghost use Rattle.hwdb_writer.specs.Internal.Spine.{Frame, IsClosable, IsClosedTo, IsBuilt, IsNext, IsFinished, MeetAt, Closes, Cuts, Opens, Counts};
+ghost use Rattle.hwdb_writer.specs.declared.builder.Open.{Open as OpenRecord};
+
+use crate::entries::Entry;
+use crate::nodes::Node;
+use std::alloc::{AllocError, Global};
+
+/// A node that isn't closed yet, and where its path ends in the pattern that was added last.
+#[derive(Clone, Copy)]
+struct Open<'t> {
+    node: Node<'t>,
+    end: usize,
+}
+
+/// The nodes so far.
+#[derive(Drop)]
+struct Builder<'t> {
+    /// The pattern that was added last.
+    path: &'t [u8],
+    /// The node where that pattern ends.
+    top: Open<'t>,
+    /// The nodes above it, from the root on.
+    above: Vec<Open<'t>>,
+    /// The nodes that are closed, each behind its children.
+    closed: Vec<Node<'t>>,
+}
+
+/// How long the longest common beginning is.
+fn common(a: &[u8], b: &[u8]) -> usize
+    ensures meeting { MeetAt result a.now b.now }
+    ensures first { result ≤ length a.now }
+    ensures second { result ≤ length b.now }
+{
+    let mut n = 0;
+    while n < a.len() && n < b.len() && a[n] == b[n] {
+        n += 1;
+    }
+    n
+}
+
+impl<'t> Builder<'t> {
+    /// A root alone.
+    fn new(alloc: Global) -> Builder<'t>
+        ensures { (es : List EntryRecord) → (fs : List Frame) × IsBuilt es 0 result fs }
+    {
+        Builder {
+            path: &[],
+            top: Open {
+                node: Node::new(0, &[], 0),
+                end: 0,
+            },
+            above: Vec::new(alloc),
+            closed: Vec::new(alloc),
+        }
+    }
+
+    /// Closes the top node: it is one more child of the node above it, which is the top node then.
+    fn close(&mut self) -> Result<(), AllocError>
+        requires few { (above : List OpenRecord) (g : OpenRecord)
+            → self.old.above.items ≡ above ++ g ∷ [] → g.node.children < 256 }
+        ensures { OnOk result (Closes self.old self.new) }
+    {
+        self.closed.push(self.top.node)?;
+        if let Some(parent) = self.above.pop() {
+            self.top = parent;
+            self.top.node.children += 1;
+        }
+        Ok(())
+    }
+
+    /// Cuts the top node where its path has so many bytes: what is behind the byte there is a closed node, the only child
+    /// of the node that is left.
+    fn cut(&mut self, at: usize) -> Result<(), AllocError>
+        requires inside { at < self.old.top.end }
+        requires prefix { self.old.top.end ≤ at + length self.old.top.node.prefix.now }
+        ensures { OnOk result (Cuts at self.old self.new) }
+    {
+        let node = self.top.node;
+        let (front, back) = node
+            .prefix
+            .split_at(node.prefix.len() - (self.top.end - at));
+        self.closed.push(Node {
+            byte: back[0],
+            prefix: &back[1..],
+            first: node.first,
+            count: node.count,
+            children: node.children,
+        })?;
+        self.top = Open {
+            node: Node {
+                byte: node.byte,
+                prefix: front,
+                first: 0,
+                count: 0,
+                children: 1,
+            },
+            end: at,
+        };
+        Ok(())
+    }
+
+    /// Whether the path of the node above the top node has so many bytes.
+    fn reaches(&self, at: usize) -> bool
+        ensures yes { OnTrue result ((above : List OpenRecord) × (g : OpenRecord)
+            × (self.now.above.items ≡ above ++ g ∷ []) × (at ≤ g.end)) }
+        ensures no { OnFalse result ((above : List OpenRecord) (g : OpenRecord)
+            → self.now.above.items ≡ above ++ g ∷ [] → g.end < at) }
+    {
+        match self.above.last() {
+            Some(parent) => at <= parent.end,
+            None => false,
+        }
+    }
+
+    /// Closes or cuts what is open, until the path of the top node has so many bytes.
+    fn close_to(&mut self, at: usize) -> Result<(), AllocError>
+        requires closable { (es : List EntryRecord) × (fs : List Frame)
+            × IsClosable es self.old fs }
+        requires within { at ≤ self.old.top.end }
+        ensures { OnOk result ((es : List EntryRecord) (fs : List Frame)
+            → IsClosable es self.old fs
+            → (gs : List Frame) × IsClosedTo es at self.old self.new fs gs) }
+    {
+        while at < self.top.end {
+            if self.reaches(at) {
+                self.close()?;
+            } else {
+                self.cut(at)?;
+            }
+        }
+        Ok(())
+    }
+
+    /// Opens a node below the top node, where the path of that one ends in the pattern. Its values begin with this entry.
+    fn open(&mut self, pattern: &'t [u8], first: usize) -> Result<(), AllocError>
+        requires { self.old.top.end < length pattern.now }
+        ensures { OnOk result (Opens pattern.now first self.old self.new) }
+    {
+        let rest = &pattern[self.top.end..];
+        self.above.push(self.top)?;
+        self.path = pattern;
+        self.top = Open {
+            node: Node::new(rest[0], &rest[1..], first),
+            end: pattern.len(),
+        };
+        Ok(())
+    }
+
+    /// The next entry is one more value of the top node.
+    fn add_value(&mut self)
+        requires { self.old.top.node.count + 1 < 2 ^ 64 }
+        ensures { Counts self.old self.new }
+    {
+        self.top.node.count += 1;
+    }
+
+    /// Adds the entry with this number and this pattern.
+    fn add(&mut self, pattern: &'t [u8], number: usize) -> Result<(), AllocError>
+        requires fits { number + 1 < 2 ^ 64 }
+        requires next { (es : List EntryRecord) × (fs : List Frame) × (e : EntryRecord)
+            × IsBuilt es number self.old fs × IsNext es number e × (e.pattern.now ≡ pattern.now) }
+        ensures { OnOk result ((es : List EntryRecord) (fs : List Frame) (e : EntryRecord)
+            → IsBuilt es number self.old fs → IsNext es number e → e.pattern.now ≡ pattern.now
+            → (gs : List Frame) × IsBuilt es (number + 1) self.new gs) }
+    {
+        let at = common(self.path, pattern);
+        if at < pattern.len() {
+            self.close_to(at)?;
+            self.open(pattern, number)?;
+        }
+        self.add_value();
+        Ok(())
+    }
+
+    /// Closes all nodes.
+    fn finish(mut self) -> Result<Vec<Node<'t>>, AllocError>
+        requires { (es : List EntryRecord) × (fs : List Frame) × IsClosable es self fs }
+        ensures { IfOk result (λ nodes. (es : List EntryRecord) (fs : List Frame)
+            → IsClosable es self.entry fs → IsFinished es fs nodes.items) }
+    {
+        self.close_to(0)?;
+        self.close()?;
+        Ok(self.closed)
+    }
+}
+
+/// The nodes of the tree of the entries, each behind its children. The entries stand in order, and no two have one pattern
+/// and one key.
+pub fn post_order<'t>(alloc: Global, entries: &[Entry<'t>]) -> Result<Vec<Node<'t>>, AllocError>
+    requires ascending { IsStrictlySortedBy by_place entries.now }
+    requires storable { AllByRecursion IsStorableEntry entries.now }
+    ensures order { IfOk result (λ nodes. IsPostOrder entries.now nodes.items) }
+    ensures sound { IfOk result (λ nodes. IsSound (tree_of entries.now nodes.items)) }
+    ensures values { IfOk result (λ nodes. values_under [] (tree_of entries.now nodes.items)
+        ≡ map placed entries.now) }
+{
+    let mut builder = Builder::new(alloc);
+    for (number, entry) in entries.iter().enumerate() {
+        builder.add(entry.pattern, number)?;
+    }
+    builder.finish()
+}

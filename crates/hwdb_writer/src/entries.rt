@@ -1,0 +1,89 @@
+//! The assignments that were set, and the last one of each pattern and key among them.
+ghost use Rattle.std.specs.Prelude.{◌≡◌, ◌∷◌, refl, map, reverse, IfOk};
+ghost use Rattle.std.specs.Ordering.{eq_by_cmp, as_partial_cmp};
+ghost use Rattle.std.specs.Cmp.{eq_by_cmp_equiv, partial_equiv_from_equiv, partial_order_from_total};
+ghost use Rattle.std.specs.List.Sorted.{IsStrictlySortedBy};
+ghost use Rattle.hwdb_spec.specs.Tree.{surviving, entry_of};
+ghost use Rattle.std.specs.FinMap.{from_entries};
+ghost use Rattle.hwdb_writer.specs.Internal.Entries.{by_place, by_place_total, assignment_of, IsStorableEntry};
+ghost use Rattle.std.specs.List.{AllByRecursion};
+
+use std::alloc::{AllocError, Global};
+use std::cmp::Ordering;
+
+/// An assignment that was set. Its texts stand in the bytes of its file, and its path where the caller has it.
+#[derive(Clone, Copy)]
+pub struct Entry<'t> {
+    pub pattern: &'t [u8],
+    pub key: &'t [u8],
+    pub value: &'t [u8],
+    pub path: &'t [u8],
+    pub line: u32,
+    pub priority: u16,
+}
+
+/// Entries are alike where they have one pattern and one key.
+impl<'t> PartialEq for Entry<'t> {
+    ghost eq = { eq_by_cmp by_place };
+
+    ghost laws = { partial_equiv_from_equiv (eq_by_cmp_equiv by_place_total) };
+
+    fn eq(&self, other: &Self) -> bool {
+        self.cmp(other).is_eq()
+    }
+}
+
+impl<'t> Eq for Entry<'t> {
+    ghost laws = { eq_by_cmp_equiv by_place_total };
+}
+
+impl<'t> PartialOrd for Entry<'t> {
+    ghost partial_cmp = { as_partial_cmp by_place };
+
+    ghost laws = { partial_order_from_total by_place_total };
+
+    fn partial_cmp(&self, other: &Self) -> Option<Ordering> {
+        Some(self.cmp(other))
+    }
+}
+
+/// By pattern, and then by key.
+impl<'t> Ord for Entry<'t> {
+    ghost cmp = { by_place };
+
+    ghost total = { by_place_total };
+
+    ghost matches_partial_cmp = { λ x y. refl };
+
+    ghost matches_eq = { λ x y. refl };
+
+    fn cmp(&self, other: &Self) -> Ordering {
+        match self.pattern.cmp(other.pattern) {
+            Ordering::Equal => self.key.cmp(other.key),
+            unequal => unequal,
+        }
+    }
+}
+
+/// A copy of the entries, the last one first.
+fn newest_first<'t>(alloc: Global, all: &[Entry<'t>]) -> Result<Vec<Entry<'t>>, AllocError>
+    ensures { IfOk result (λ v. v.items ≡ reverse all.now) }
+{
+    let mut entries = Vec::from_slice(alloc, all)?;
+    entries.reverse();
+    Ok(entries)
+}
+
+/// The entries by pattern and key; of those with one pattern and key the last.
+pub fn last_of_each<'t>(alloc: Global, all: &[Entry<'t>]) -> Result<Vec<Entry<'t>>, AllocError>
+    ensures ascending { IfOk result (λ v. IsStrictlySortedBy by_place v.items) }
+    ensures storable { AllByRecursion IsStorableEntry all.now
+        → IfOk result (λ v. AllByRecursion IsStorableEntry v.items) }
+    ensures same { IfOk result (λ v. from_entries (map entry_of (map assignment_of v.items))
+        ≡ surviving (map assignment_of all.now)) }
+{
+    let mut entries = newest_first(alloc, all)?;
+    entries.sort()?;
+    entries.dedup();
+    Ok(entries)
+}
