@@ -18,7 +18,7 @@ use crate::errors::CompileError;
 use crate::sources::{ChosenFile, Compiled, FileFault, SourceFile, choose, with_bytes};
 use hwdb_query::compiled_answers_are_last;
 use hwdb_text::{Chosen, Fault, Given, scan};
-use hwdb_writer::{Tree, write};
+use hwdb_writer::{Tree, into_database};
 use std::alloc::{AllocError, Global};
 
 /// Puts what a file with this path and priority gives into the tree, one after another.
@@ -163,7 +163,7 @@ pub fn compile_chosen(
     let mut tree = Tree::new(alloc);
     let mut faults = Vec::new(alloc);
     let given = add_files(alloc, files, paths, &mut tree, &mut faults)?;
-    let database = write(alloc, &tree, max_bytes)?;
+    let database = into_database(alloc, tree, max_bytes)?;
     Ok(Compiled {
         database,
         faults,

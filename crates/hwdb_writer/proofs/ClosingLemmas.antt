@@ -1,7 +1,7 @@
 -- What is open is closed or cut, until a path has so many bytes.
 use Rattle.std.proofs.Common.{◌≡◌, ◌<◌, ◌≤◌, ℕ, zero, suc, ◌+◌, ◌-◌, List, [], ◌∷◌, ◌++◌, length, length-append, take, drop, reverse, get_or, refl, sym, ◌∙◌, ap, subst, arith, append_assoc}
 use Rattle.hwdb_spec.specs.Written.{IsForked}
-use Rattle.hwdb_writer.specs.Internal.Spine.{Frame, node_of, under, full_path, spine_values, AllBelow, IsFilled, IsForkedTop, IsSpine, AreStanding, IsOpen, lowest_done, IsClosed, IsClosable, IsClosedTo, IsClosing, Closes, Cuts}
+use Rattle.hwdb_writer.specs.Internal.Spine.{Frame, node_of, under, full_path, spine_values, AllBelow, IsFilled, IsForkedTop, IsSpine, AreStanding, IsOpen, lowest_done, IsClosed, IsClosable, IsClosing, Closes, Cuts}
 use Rattle.hwdb_writer.specs.declared.entries.Entry.{Entry}
 use Rattle.hwdb_writer.specs.declared.builder.Open.{Open}
 use Rattle.hwdb_writer.specs.declared.builder.Builder.{Builder}
@@ -177,10 +177,3 @@ module _ (es : List Entry) (at : ℕ) (old now next : Builder) (fs gs : List Fra
           node_forked : (f : Frame) (rest : List Frame) → IsForkedTop (f ∷ rest) → 0 < length (under rest f.byte) → IsForked (node_of f)
           node_forked f [] h deep = absurd (omega (arith, deep))
           node_forked f (g ∷ gs) h deep = h
-
-      pub cut_shorter : next.top.end < now.top.end
-      cut_shorter = let t = cuts.end in omega (arith, t, lt)
-
--- nothing is left to be closed
-pub closed_to : (es : List Entry) (at : ℕ) (old new : Builder) (fs gs : List Frame) → IsClosing es at old new fs gs → new.top.end ≤ at → IsClosedTo es at old new fs gs
-closed_to es at old new fs gs is le = record { nodes = is.nodes; closed = is.closed; end = let w = is.within in omega (arith, w, le); path = is.path }

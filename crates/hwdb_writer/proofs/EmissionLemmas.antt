@@ -57,8 +57,9 @@ pub six : (o a b d e f g p q r s t u : List ℕ) → a ≡ o ++ p → b ≡ a ++
 six o a b d e f g p q r s t u h i j k l m =
     m ∙ ap (λ x. x ++ u) (l ∙ ap (λ x. x ++ t) (k ∙ ap (λ x. x ++ s) (j ∙ ap (λ x. x ++ r) (i ∙ ap (λ x. x ++ q) h)))) ∙ (simp append_assoc)
 
-pub at_place : (place : List ℕ → ℕ) (n : ℕ) (s t : List ℕ) → n ≡ place s → s ≡ t → little_bytes 8 n ≡ little_bytes 8 (place t)
-at_place place n s t e f = ap (little_bytes 8) (e ∙ ap place f)
+-- three pieces
+pub three : (o a b d p q r : List ℕ) → a ≡ o ++ p → b ≡ a ++ q → d ≡ b ++ r → d ≡ o ++ (p ++ (q ++ r))
+three o a b d p q r e f g = g ∙ ap (λ x. x ++ r) (f ∙ ap (λ x. x ++ q) e) ∙ (simp append_assoc)
 
 abbrev pub M : ℕ
 M = 2 ^ 64 - 1
@@ -68,13 +69,6 @@ value_strings es = flat_map strings_of_value (map value_of es)
 
 pub value_strings-cons : (e : Entry) (es : List Entry) → value_strings (e ∷ es) ≡ strings_of_value (value_of e) ++ value_strings es
 value_strings-cons e es = refl
-
-module _ (place : List ℕ → ℕ) where
-  abbrev pub vals_text : List Entry → List ℕ
-  vals_text es = flat_map (value_text place) (map value_of es)
-
-  pub vals_text-cons : (e : Entry) (es : List Entry) → vals_text (e ∷ es) ≡ value_text place (value_of e) ++ vals_text es
-  vals_text-cons e es = refl
 
 -- trees side by side
 count-trees : (ts : List Sub) → count (children_in ts) ≡ length ts

@@ -7,6 +7,8 @@ pub mod OpenLemmas
 pub mod ClosingLemmas
 pub mod BuildLemmas
 pub mod LastLemmas
+pub mod StoredLemmas
+pub mod RecordLemmas
 pub mod StorableLemmas
 pub mod SpacedLemmas
 pub mod DistinctLemmas

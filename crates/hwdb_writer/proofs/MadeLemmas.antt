@@ -7,6 +7,7 @@ use Rattle.hwdb_spec.specs.Tree.{Tree, Map, values_under, assigned_at, key_of, e
 use Rattle.hwdb_writer.specs.Internal.Entries.{placed, assignment_of}
 use Rattle.hwdb_writer.specs.Internal.PostOrder.{tree_of}
 use Rattle.hwdb_writer.specs.Internal.Storable.{IsSound}
+use Rattle.hwdb_writer.specs.Internal.Stored.{IsMade}
 use Rattle.hwdb_writer.specs.declared.entries.Entry.{Entry}
 use Rattle.hwdb_writer.specs.declared.nodes.Node.{Node as NodeRecord}
 
@@ -20,13 +21,8 @@ unfolding map_of
 map_made t es all m v s e =
     ap (λ (l : List Assignment). finite.from_entries (map entry_of l)) (ap (flat_map (λ p. assigned_at p.0 p.1 (key_of p.1.key))) v ∙ members es) ∙ s ∙ e
 
--- a sound tree of a map
-pub record Made (m : Map) (t : Tree) : Type 0 where
-  pub sound : IsSound t
-  pub same : map_of t ≡ m
-
 pub made : (es es' own read all : List Entry) (ns ns' : List NodeRecord) (m : Map) → es ≡ es' → ns ≡ ns' → own ≡ es → read ≡ all → IsSound (tree_of es ns) → values_under [] (tree_of es ns) ≡ map placed es
-    → finite.from_entries (map entry_of (map assignment_of own)) ≡ surviving (map assignment_of read) → surviving (map assignment_of all) ≡ m → Made m (tree_of es' ns')
+    → finite.from_entries (map entry_of (map assignment_of own)) ≡ surviving (map assignment_of read) → surviving (map assignment_of all) ≡ m → IsMade m (tree_of es' ns')
 made es es' own read all ns ns' m e n o r sound values same view =
     let p : tree_of es ns ≡ tree_of es' ns' = λ i. tree_of (e i) (n i) in
     record {

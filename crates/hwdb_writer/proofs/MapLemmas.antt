@@ -22,9 +22,6 @@ Entry = List ℕ × Value
 abbrev pub assignment_of : Entry → List Assignment
 assignment_of p = assigned_at p.0 p.1 (key_of p.1.key)
 
-bytes_total : IsTotalOrder (slice_cmp nat_cmp)
-bytes_total = nat_list_cmp_total
-
 pub place_total : IsTotalOrder place_cmp
 place_total = then_total (on_total (λ (p : Place). p.0) nat_list_cmp_total) (on_total (λ (p : Place). p.1) nat_list_cmp_total)
 
@@ -163,9 +160,6 @@ is_place q p e = yes (place_cmp q p) refl e
 pub one_is : (q : Place) (path : List ℕ) (v : Value) (k : List ℕ) → key_of v.key ≡ Some k → one q path v ≡ cond (is_at q (path, k)) (Some (given v)) None
 unfolding one
 one_is q path v k e = ap (λ o. find place_cmp q (kept_at path v o)) e
-
-key_same : (xs ys : List ℕ) → slice_cmp nat_cmp xs ys ≡ Equal → xs ≡ ys
-key_same = bytes_same
 
 pub differs : (q p : Place) → (q ≡ p → ⊥) → is_at q p ≡ false
 differs q p h = no (place_cmp q p) refl

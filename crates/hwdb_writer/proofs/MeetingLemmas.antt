@@ -1,8 +1,7 @@
 -- What two lists begin with, found from the front.
-use Rattle.std.proofs.Common.{◌≡◌, ◌≤◌, ◌<◌, ℕ, ◌+◌, List, [], ◌∷◌, ◌++◌, length, take, get_or, Bool, true, false, cond, refl, sym, ap, arith, eqb}
+use Rattle.std.proofs.Common.{◌≡◌, ◌≤◌, ℕ, List, [], ◌∷◌, ◌++◌, length, take, Bool, true, false, cond, refl, sym, ap, arith, eqb}
 use Rattle.std.specs.Prelude.{nat_eq}
 use Rattle.std.proofs.lemmas.Bool.Decides.{nat_tests}
-use Rattle.std.proofs.lemmas.List.{take_more_same}
 
 -- what two lists begin with, and what is left of each
 pub record Meeting : Type 0 where
@@ -54,9 +53,3 @@ pub record Past (n : ℕ) (a b : List ℕ) : Type 0 where
   pub first : n ≤ length a
   pub second : n ≤ length b
   pub alike : take n a ≡ take n b
-
-pub past_none : (a b : List ℕ) → Past 0 a b
-past_none a b = record { first = omega arith; second = omega arith; alike = refl }
-
-pub past_more : (n : ℕ) (a b : List ℕ) → Past n a b → n < length a → n < length b → get_or a n 0 ≡ get_or b n 0 → Past (n + 1) a b
-past_more n a b p f s e = record { first = omega arith; second = omega arith; alike = take_more_same a b n 0 f s p.alike e }

@@ -63,14 +63,6 @@ same_end now whole a = same_trans now (now ++ []) whole (same_path _ _ (sym (nil
     nil [] = refl
     nil (x ∷ xs) = ap (λ ys. x ∷ ys) (nil xs)
 
--- a prefix, then the values' strings, then those below
-pub same_parts : (start one two end : List (List ℕ)) (p : List ℕ) (vs ks : List (List ℕ)) → SameMembers one (start ++ p ∷ []) → SameMembers two (one ++ vs) → SameMembers end (two ++ ks) → SameMembers end (start ++ ((p ∷ vs) ++ ks))
-same_parts start one two end p vs ks a b c =
-    same_trans end (two ++ ks) _ c
-    (same_trans (two ++ ks) ((one ++ vs) ++ ks) _ (same_both two (one ++ vs) ks ks b (same_refl ks))
-    (same_trans ((one ++ vs) ++ ks) (((start ++ p ∷ []) ++ vs) ++ ks) _ (same_both (one ++ vs) ((start ++ p ∷ []) ++ vs) ks ks (same_both one (start ++ p ∷ []) vs vs a (same_refl vs)) (same_refl ks))
-    (same_path _ _ (simp append_assoc))))
-
 pub held_at : (xs : List (List ℕ)) (i : ℕ) (d : List ℕ) → i < length xs → Holds xs (get_or xs i d)
 held_at [] i d lt = absurd (omega (arith, lt))
 held_at (x ∷ xs) zero d lt = inl refl

@@ -53,10 +53,6 @@ last_is xs x rest e = record {
   back = reverse-reverse rest;
 }
 
--- the open node that stands for a frame
-abbrev pub stands_path : {es : List Entry} {o : Open} {f : Frame} → StandsFor es o f → Sub
-stands_path {es} {o} {f} s = (f.byte, node_of f)
-
 -- a node that stands for a frame has its tree
 tree_of_frame : (es : List Entry) (n : NodeRecord) (f : Frame) → n.byte ≡ f.byte → n.prefix.now ≡ f.prefix → values_at es n ≡ f.values →
     ◌≡◌ {A = Sub} (n.byte, Node n.prefix.now (values_at es n) (children_in f.done)) (f.byte, node_of f)

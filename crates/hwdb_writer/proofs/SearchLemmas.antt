@@ -1,7 +1,6 @@
 -- What a binary search finds in a list whose keys rise.
-use Rattle.std.proofs.Common.{◌≡◌, ◌≤◌, ◌<◌, ℕ, zero, suc, ◌+◌, List, [], ◌∷◌, length, get_or, Option, Some, None, Result, Ok, Err, IfOk, IfErr, sym, ◌∙◌, ap, subst, arith, Ordering, ◌⊎◌, inl, inr, ⊎_elim}
-use Rattle.std.proofs.lemmas.Bool.{cases_lt}
-use Rattle.std.specs.declared.cmp.Ordering.TheVariants.{Less, Equal, Greater}
+use Rattle.std.proofs.Common.{◌≡◌, ◌<◌, ℕ, zero, suc, ◌+◌, List, [], ◌∷◌, length, get_or, Option, Some, None, Result, Ok, Err, IfOk, IfErr, sym, ◌∙◌, ap, arith, Ordering}
+use Rattle.std.specs.declared.cmp.Ordering.TheVariants.{Less, Greater}
 use Rattle.std.specs.Ordering.{ordering_index, ordering_reverse, is_lt}
 use Rattle.std.specs.Cmp.{IsTotalOrder, alike_right}
 use Rattle.std.specs.List.Sorted.{IsSearchInRange, IsBinarySearchResult, IsNonDecreasingBy}
@@ -72,45 +71,3 @@ module _ {X K : Type 0} (R : K → K → Ordering) (key : X → K) where
         behind = λ j d le lt. (is (searchable before xs u k)).1 j d le lt;
       };
     }
-
-  -- the keys before `low` are below k, those from `high` on above it
-  pub record Between (xs : List X) (k : K) (low high : ℕ) : Type 0 where
-    pub ordered : low ≤ high
-    pub in_range : high ≤ length xs
-    pub before : (j : ℕ) (d : X) → j < low → R (key (get_or xs j d)) k ≡ Less
-    pub behind : (j : ℕ) (d : X) → high ≤ j → j < length xs → R (key (get_or xs j d)) k ≡ Greater
-
-  pub between_all : (xs : List X) (k : K) → Between xs k 0 (length xs)
-  between_all xs k = record { ordered = omega arith; in_range = omega arith; before = λ j d lt. absurd (omega (arith, lt)); behind = λ j d le lt. absurd (omega (arith, le, lt)) }
-
-  module _ (o : IsTotalOrder R) (b : Option K) (xs : List X) (u : Up b xs) (k : K) (low high middle : ℕ) (h : Between xs k low high) (m : middle < length xs) where
-    pub between_hit : ((d : X) → R (key (get_or xs middle d)) k ≡ Equal) → IsHit R key xs k middle
-    between_hit e = record { in_range = m; before = λ j d lt. sym (alike_right o _ _ _ (e d)) ∙ rises o b xs u j middle d lt m; here = e }
-
-    pub between_less : ((d : X) → R (key (get_or xs middle d)) k ≡ Less) → middle < high → Between xs k (middle + 1) high
-    between_less e lt = record {
-      ordered = omega arith;
-      in_range = h.in_range;
-      before = λ j d below. ⊎_elim {C = R (key (get_or xs j d)) k ≡ Less} (λ less. o.trans _ _ _ (rises o b xs u j middle d less m) (e d)) (λ same. let P : ℕ → Type 0 = λ n. R (key (get_or xs n d)) k ≡ Less in subst P same (e d)) (split j middle below);
-      behind = h.behind;
-    }
-      where
-        split : (j n : ℕ) → j < n + 1 → (j < n) ⊎ (n ≡ j)
-        split j n lt = ⊎_elim {C = (j < n) ⊎ (n ≡ j)} (λ a. inl a) (λ a. inr (omega (arith, a, lt))) (cases_lt j n)
-
-    pub between_greater : ((d : X) → R (key (get_or xs middle d)) k ≡ Greater) → low ≤ middle → Between xs k low middle
-    between_greater e le = record {
-      ordered = le;
-      in_range = omega arith;
-      before = h.before;
-      behind = λ j d above lt. ⊎_elim {C = R (key (get_or xs j d)) k ≡ Greater}
-          (λ less. turned o _ _ (o.trans _ _ _ (turned_back o _ _ (e d)) (rises o b xs u middle j d less lt)))
-          (λ same. let P : ℕ → Type 0 = λ n. R (key (get_or xs n d)) k ≡ Greater in subst P {x = middle} (omega (arith, same, above)) (e d)) (cases_lt middle j);
-    }
-
-  pub between_gap : (xs : List X) (k : K) (low high : ℕ) → Between xs k low high → high ≤ low → IsGap R key xs k low
-  between_gap xs k low high h le = record {
-    in_range = omega (arith, h.in_range, h.ordered);
-    before = h.before;
-    behind = λ j d a lt. h.behind j d (omega (arith, a, le)) lt;
-  }

@@ -1,14 +1,11 @@
 -- The whole of a database.
-use Rattle.std.proofs.Common.{◌≡◌, ◌≤◌, ◌<◌, ℕ, ◌+◌, ◌-◌, ◌^◌, List, [], ◌∷◌, ◌++◌, length, min, refl, sym, ◌∙◌, ap, subst, arith, length-append, append_assoc}
+use Rattle.std.proofs.Common.{◌≡◌, ◌≤◌, ◌<◌, ℕ, ◌+◌, ◌-◌, ◌^◌, List, [], ◌∷◌, ◌++◌, length, min, sym, ◌∙◌, ap, subst, arith, length-append, append_assoc}
 use Rattle.std.specs.Prelude.{codes, flat_map}
 use Rattle.byteorder.specs.Endian.{little_bytes}
 use Rattle.hwdb_spec.specs.Tree.{Tree}
 use Rattle.hwdb_spec.specs.Written.{text_size, record_at, node_text, place_of, table_of, section_of, header_text, written}
 use Rattle.hwdb_writer.proofs.LengthLemmas.{length-node}
 use Rattle.hwdb_writer.proofs.DistinctLemmas.{IsOrdered, ascending_ordered}
-
-pub length-header : (t : Tree) → length (header_text t) ≡ 80
-length-header t = refl
 
 pub length-written : (t : Tree) → length (written t) ≡ 80 + text_size t + length (section_of (table_of t))
 unfolding written

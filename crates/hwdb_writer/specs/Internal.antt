@@ -1,6 +1,7 @@
 -- What the proofs of this crate speak of.
 pub mod Entries
 pub mod PostOrder
+pub mod Stored
 pub mod Spine
 pub mod Storable
 pub mod Codes

@@ -56,6 +56,15 @@ impl<'t> Tree<'t> {
         }
     }
 
+    /// A copy.
+    pub fn copied(&self, alloc: Global) -> Result<Tree<'t>, AllocError>
+        ensures { IfOk result (λ tree. tree ≡ self.now) }
+    {
+        Ok(Tree {
+            entries: Vec::from_slice(alloc, &self.entries)?,
+        })
+    }
+
     /// Sets the map at one place, the pattern and the key of what a file with this priority and this stored path gives. The
     /// last that is set there stays.
     ///

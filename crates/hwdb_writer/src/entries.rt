@@ -1,5 +1,5 @@
 //! The assignments that were set, and the last one of each pattern and key among them.
-ghost use Rattle.std.specs.Prelude.{◌≡◌, ◌∷◌, refl, map, reverse, IfOk};
+ghost use Rattle.std.specs.Prelude.{◌≡◌, ◌∷◌, refl, map, IfOk};
 ghost use Rattle.std.specs.Ordering.{eq_by_cmp, as_partial_cmp};
 ghost use Rattle.std.specs.Cmp.{eq_by_cmp_equiv, partial_equiv_from_equiv, partial_order_from_total};
 ghost use Rattle.std.specs.List.Sorted.{IsStrictlySortedBy};
@@ -8,7 +8,7 @@ ghost use Rattle.std.specs.FinMap.{from_entries};
 ghost use Rattle.hwdb_writer.specs.Internal.Entries.{by_place, by_place_total, assignment_of, IsStorableEntry};
 ghost use Rattle.std.specs.List.{AllByRecursion};
 
-use std::alloc::{AllocError, Global};
+use std::alloc::AllocError;
 use std::cmp::Ordering;
 
 /// An assignment that was set. Its texts stand in the bytes of its file, and its path where the caller has it.
@@ -65,24 +65,16 @@ impl<'t> Ord for Entry<'t> {
     }
 }
 
-/// A copy of the entries, the last one first.
-fn newest_first<'t>(alloc: Global, all: &[Entry<'t>]) -> Result<Vec<Entry<'t>>, AllocError>
-    ensures { IfOk result (λ v. v.items ≡ reverse all.now) }
-{
-    let mut entries = Vec::from_slice(alloc, all)?;
-    entries.reverse();
-    Ok(entries)
-}
-
-/// The entries by pattern and key; of those with one pattern and key the last.
-pub fn last_of_each<'t>(alloc: Global, all: &[Entry<'t>]) -> Result<Vec<Entry<'t>>, AllocError>
+/// The entries by pattern and key; of those with one pattern and key the last. It takes the entries as they were set.
+pub fn last_of_each(all: Vec<Entry<'_>>) -> Result<Vec<Entry<'_>>, AllocError>
     ensures ascending { IfOk result (λ v. IsStrictlySortedBy by_place v.items) }
-    ensures storable { AllByRecursion IsStorableEntry all.now
+    ensures storable { AllByRecursion IsStorableEntry all.entry.items
         → IfOk result (λ v. AllByRecursion IsStorableEntry v.items) }
     ensures same { IfOk result (λ v. from_entries (map entry_of (map assignment_of v.items))
-        ≡ surviving (map assignment_of all.now)) }
+        ≡ surviving (map assignment_of all.entry.items)) }
 {
-    let mut entries = newest_first(alloc, all)?;
+    let mut entries = all;
+    entries.reverse();
     entries.sort()?;
     entries.dedup();
     Ok(entries)

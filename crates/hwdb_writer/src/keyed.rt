@@ -82,6 +82,17 @@ impl<'t> KeyedStr<'t> {
         }
     }
 
+    /// The same string.
+    pub fn copied(&self) -> KeyedStr<'t>
+        ensures { result ≡ self.now }
+    {
+        KeyedStr {
+            head: self.head,
+            is_spaced: self.is_spaced,
+            text: self.text,
+        }
+    }
+
     /// A number made of its first, middle and last bytes. Equal strings have one number; others can.
     pub fn number(&self) -> u64 {
         let text = self.text;

@@ -7,14 +7,16 @@
 mod assignments;
 mod builder;
 mod entries;
+mod interner;
 mod keyed;
 mod laws;
 mod nodes;
 mod output;
 mod records;
 mod registry;
+mod stored;
 mod strings;
 
 pub use crate::assignments::Tree;
 pub use crate::laws::{law_one_tight_tree, law_one_written_form};
-pub use crate::output::{StoreError, write};
+pub use crate::output::{StoreError, into_database, write};

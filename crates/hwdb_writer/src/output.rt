@@ -1,20 +1,25 @@
 //! The written form of a tree: its header, nodes section and string section.
-ghost use Rattle.std.specs.Prelude.{◌≡◌, ◌<◌, ◌≤◌, ◌++◌, ◌+◌, ◌^◌, OnOk, IfOk, map, flat_map, length, MatchOption, List, ℕ};
+ghost use Rattle.std.specs.Prelude.{◌≡◌, ◌<◌, ◌≤◌, ◌++◌, ◌+◌, ◌^◌, OnOk, IfOk, MatchOption, flat_map, length, List, ℕ};
 ghost use Rattle.std.specs.Result.{IsErrOf};
 ghost use Rattle.byteorder.specs.Endian.{little_bytes};
-ghost use Rattle.hwdb_spec.specs.Written.{table_of, text_size, record_at, section_of, written, IsWritten, IsLonger, IsDatabaseOf};
+ghost use Rattle.hwdb_spec.specs.Written.{text_size, record_at, section_of, written, IsWritten, IsLonger, IsDatabaseOf};
+ghost use Rattle.hwdb_writer.specs.declared.entries.Entry.{Entry};
+ghost use Rattle.hwdb_writer.specs.declared.nodes.Node.{Node};
 ghost use Rattle.hwdb_writer.specs.Internal.Narrow.{IsNarrow};
 ghost use Rattle.hwdb_writer.specs.Internal.PostOrder.{tree_of, IsPostOrder};
+ghost use Rattle.hwdb_writer.specs.Internal.Stored.{IsAt, AreNodes, IsStored, IsLaidOut, IsMade};
 ghost use Rattle.hwdb_writer.specs.declared.output.StoreError.TheVariants.{Memory};
 
 use crate::assignments::Tree;
 use crate::builder::post_order;
-use crate::entries::{Entry, last_of_each};
+use crate::entries::last_of_each;
 use crate::keyed::KeyedStr;
-use crate::nodes::{Node, collect, push_records, record_length, text_length};
-use crate::records::{CHILD_SIZE, HEADER_SIZE, NODE_SIZE, VALUE_SIZE, push_u64};
-use crate::registry::Registry;
-use crate::strings::{Table, order, section_length, starts};
+use crate::records::{
+    CHILD_SIZE, HEADER_SIZE, NODE_SIZE, VALUE_SIZE, push_records, push_u64, record_length,
+    text_length,
+};
+use crate::stored::{Stored, StoredNode, StoredValue, store};
+use crate::strings::{in_order, places_of, section_length};
 use std::alloc::{AllocError, Global};
 use thiserror::Error;
 
@@ -40,27 +45,6 @@ impl From<AllocError> for StoreError {
 /// The version of the tool that the header names.
 const TOOL_VERSION: usize = 1;
 
-/// For how many bytes of the nodes section there is an entry of the registry (our choice: some three for a string).
-const NODE_BYTES_AN_ENTRY: usize = 32;
-
-/// The distinct strings of the tree, the empty one among them, in order; each is remembered.
-fn distinct_strings<'t>(
-    alloc: Global,
-    entries: &[Entry<'t>],
-    nodes: &[Node<'t>],
-    registry: &mut Registry,
-) -> Result<Vec<KeyedStr<'t>>, AllocError>
-    requires { IsPostOrder entries.now nodes.now }
-    ensures { IfOk result (λ v. v.items ≡ table_of (tree_of entries.now nodes.now)) }
-{
-    let mut words: Vec<KeyedStr<'_>> = Vec::new(alloc);
-    words.push(KeyedStr::new(&[]))?;
-    collect(entries, nodes, &mut words, registry)?;
-    order(&mut words)?;
-    registry.remember_all(&words);
-    Ok(words)
-}
-
 /// Appends numbers, each in 8 bytes.
 fn push_numbers(out: &mut Vec<u8>, numbers: &[usize]) -> Result<(), AllocError>
     ensures { OnOk result (out.new.items ≡ out.old.items ++ flat_map (little_bytes 8) numbers.now) }
@@ -83,11 +67,13 @@ fn push_strings(out: &mut Vec<u8>, words: &[KeyedStr<'_>]) -> Result<(), AllocEr
 }
 
 /// Where the root's record stands, in a nodes section of so many bytes.
-fn root_place(entries: &[Entry<'_>], nodes: &[Node<'_>], size: usize) -> usize
-    requires order { IsPostOrder entries.now nodes.now }
-    requires size { size ≡ text_size (tree_of entries.now nodes.now) }
-    requires fits { 80 + size < 2 ^ 64 }
-    ensures { result ≡ record_at 80 (tree_of entries.now nodes.now) }
+fn root_place(nodes: &[StoredNode], size: usize) -> usize
+    requires { (place : List ℕ → ℕ) × (places : List ℕ) × (es : List Entry) × (ns : List Node)
+        × IsPostOrder es ns × AreNodes (IsAt place places) nodes.now ns
+        × (size ≡ text_size (tree_of es ns)) × (80 + size < 2 ^ 64) }
+    ensures { (place : List ℕ → ℕ) (places : List ℕ) (es : List Entry) (ns : List Node)
+        → IsPostOrder es ns → AreNodes (IsAt place places) nodes.now ns
+        → size ≡ text_size (tree_of es ns) → result ≡ record_at 80 (tree_of es ns) }
 {
     match nodes.last() {
         Some(root) => HEADER_SIZE + size - record_length(root.children, root.count),
@@ -95,66 +81,89 @@ fn root_place(entries: &[Entry<'_>], nodes: &[Node<'_>], size: usize) -> usize
     }
 }
 
-/// The database of the nodes, whose strings and parts are these and so long.
+/// The database of the nodes, whose values, strings in order, places of strings and parts are these and so long.
 fn database(
     alloc: Global,
-    entries: &[Entry<'_>],
-    nodes: &[Node<'_>],
-    words: &[KeyedStr<'_>],
-    registry: &mut Registry,
+    nodes: &[StoredNode],
+    values: &[StoredValue],
+    ordered: &[KeyedStr<'_>],
+    places: &[usize],
     size: usize,
     section: usize,
 ) -> Result<Vec<u8>, AllocError>
-    requires order { IsPostOrder entries.now nodes.now }
-    requires narrow { IsNarrow (tree_of entries.now nodes.now) }
-    requires words { words.now ≡ table_of (tree_of entries.now nodes.now) }
-    requires size { size ≡ text_size (tree_of entries.now nodes.now) }
-    requires section { section ≡ length (section_of (table_of (tree_of entries.now nodes.now))) }
-    requires fits { 80 + size + section < 2 ^ 64 }
-    ensures { IfOk result (λ v. v.items ≡ written (tree_of entries.now nodes.now)) }
+    requires { (es : List Entry) × (ns : List Node)
+        × IsLaidOut es ns nodes.now values.now ordered.now places.now size section }
+    ensures { IfOk result (λ v. (es : List Entry) (ns : List Node)
+        → IsLaidOut es ns nodes.now values.now ordered.now places.now size section
+        → v.items ≡ written (tree_of es ns)) }
 {
-    let first = HEADER_SIZE + size;
-    let end = first + section;
-    let places = starts(alloc, words, first)?;
-    let table = Table {
-        words,
-        starts: &places,
-        first,
-    };
+    let end = HEADER_SIZE + size + section;
     let mut out = Vec::with_capacity(alloc, end)?;
     out.extend_from_slice(b"KSLPHHRH")?;
-    let root_at = root_place(entries, nodes, size);
+    let root_at = root_place(nodes, size);
     push_numbers(&mut out, &[TOOL_VERSION, end, HEADER_SIZE])?;
     push_numbers(&mut out, &[NODE_SIZE, CHILD_SIZE, VALUE_SIZE])?;
     push_numbers(&mut out, &[root_at, size, section])?;
-    push_records(alloc, entries, nodes, &table, registry, &mut out)?;
-    push_strings(&mut out, words)?;
+    push_records(alloc, nodes, values, places, &mut out)?;
+    push_strings(&mut out, ordered)?;
     Ok(out)
 }
 
-/// The database of the nodes, if it has at most so many bytes.
+/// The database of the nodes, if it has at most so many bytes. It lets go of what it is made of.
 fn database_within(
     alloc: Global,
-    entries: &[Entry<'_>],
-    nodes: &[Node<'_>],
+    stored: Stored<'_>,
     max_bytes: u32,
 ) -> Result<Option<Vec<u8>>, AllocError>
-    requires order { IsPostOrder entries.now nodes.now }
-    requires narrow { IsNarrow (tree_of entries.now nodes.now) }
-    ensures { let bytes = written (tree_of entries.now nodes.now) in IfOk result (λ o.
-        MatchOption o (max_bytes < length bytes)
+    requires { (es : List Entry) × (ns : List Node) × IsStored es ns stored
+        × IsNarrow (tree_of es ns) }
+    ensures { IfOk result (λ o. (es : List Entry) (ns : List Node) → IsStored es ns stored.entry
+        → IsNarrow (tree_of es ns)
+        → let bytes = written (tree_of es ns) in MatchOption o (max_bytes < length bytes)
         (λ v. (v.items ≡ bytes) × (length bytes ≤ max_bytes))) }
 {
-    let size = text_length(entries, nodes);
-    let mut registry = Registry::new(alloc, size / NODE_BYTES_AN_ENTRY)?;
-    let words = distinct_strings(alloc, entries, nodes, &mut registry)?;
-    let section = section_length(&words);
+    let nodes = stored.nodes;
+    let values = stored.values;
+    let interner = stored.interner;
+    let size = text_length(&nodes);
+    let ordered = in_order(alloc, &interner.words)?;
+    let section = section_length(&ordered);
     let end = size.saturating_add(section).saturating_add(HEADER_SIZE);
     if end > max_bytes as usize {
         return Ok(None);
     }
-    let bytes = database(alloc, entries, nodes, &words, &mut registry, size, section)?;
+    let places = places_of(alloc, interner, &ordered, HEADER_SIZE + size)?;
+    let bytes = database(alloc, &nodes, &values, &ordered, &places, size, section)?;
     Ok(Some(bytes))
+}
+
+/// The nodes of the tight tree of what was set, with strings by number. It lets go of what was set.
+fn stored_nodes<'t>(alloc: Global, tree: Tree<'t>) -> Result<Stored<'t>, AllocError>
+    ensures { IfOk result (λ s. (es : List Entry) × (ns : List Node) × IsStored es ns s
+        × IsMade tree.entry (tree_of es ns)) }
+{
+    let entries = last_of_each(tree.entries)?;
+    let nodes = post_order(alloc, &entries)?;
+    store(alloc, &entries, &nodes)
+}
+
+/// The database of the tree's map, of at most `max_bytes` bytes. It lets go of the tree, so that it takes less memory than
+/// [`write`].
+///
+/// Refuses with `TooLarge` where the database is longer, and with `Memory`.
+pub fn into_database(alloc: Global, tree: Tree<'_>, max_bytes: u32) -> Result<Vec<u8>, StoreError>
+    // The bytes are the written form of the map, which is a database of a tree with that map.
+    ensures written { IfOk result (λ v. IsWritten tree.entry v.items) }
+    ensures database { IfOk result (λ v. IsDatabaseOf tree.entry v.items) }
+    // They are as few as that, and are refused as too many only where they would be more.
+    ensures within { IfOk result (λ v. length v.items ≤ max_bytes) }
+    ensures too_large { IsErrOf result StoreError.TooLarge → IsLonger tree.entry max_bytes }
+{
+    let stored = stored_nodes(alloc, tree)?;
+    match database_within(alloc, stored, max_bytes)? {
+        Some(bytes) => Ok(bytes),
+        None => Err(StoreError::TooLarge),
+    }
 }
 
 /// The database of the tree's map, of at most `max_bytes` bytes.
@@ -168,10 +177,6 @@ pub fn write(alloc: Global, tree: &Tree<'_>, max_bytes: u32) -> Result<Vec<u8>, 
     ensures within { IfOk result (λ v. length v.items ≤ max_bytes) }
     ensures too_large { IsErrOf result StoreError.TooLarge → IsLonger tree.now max_bytes }
 {
-    let entries = last_of_each(alloc, &tree.entries)?;
-    let nodes = post_order(alloc, &entries)?;
-    match database_within(alloc, &entries, &nodes, max_bytes)? {
-        Some(bytes) => Ok(bytes),
-        None => Err(StoreError::TooLarge),
-    }
+    let copy = tree.copied(alloc)?;
+    into_database(alloc, copy, max_bytes)
 }

@@ -1,10 +1,16 @@
 //! The numbers and records of the nodes section, lowest byte first.
-ghost use Rattle.std.specs.Prelude.{◌≡◌, ◌≤◌, ◌++◌, ◌∷◌, OnOk, length, drop};
+ghost use Rattle.std.specs.Prelude.{◌≡◌, ◌≤◌, ◌<◌, ◌++◌, ◌∷◌, ◌+◌, ◌*◌, ◌-◌, ◌^◌, List, ℕ, OnOk, length, min, take, drop, flat_map, slice_index_or};
 ghost use Rattle.byteorder.specs.Endian.{little_bytes};
-ghost use Rattle.hwdb_spec.specs.Written.{padding};
+ghost use Rattle.hwdb_spec.specs.Tree.{Value};
+ghost use Rattle.hwdb_spec.specs.Written.{padding, text_size, node_text, value_text};
+ghost use Rattle.hwdb_writer.specs.declared.entries.Entry.{Entry};
+ghost use Rattle.hwdb_writer.specs.declared.nodes.Node.{Node};
+ghost use Rattle.hwdb_writer.specs.Internal.PostOrder.{IsPostOrder, tree_of};
+ghost use Rattle.hwdb_writer.specs.Internal.Stored.{IsUnder, IsAt, AreNodes, AreValues, AreRecords};
 
+use crate::stored::{StoredNode, StoredValue};
 use byteorder::{ByteOrder, LittleEndian};
-use std::alloc::AllocError;
+use std::alloc::{AllocError, Global};
 
 /// How long the header is, in bytes.
 pub const HEADER_SIZE: usize = 80;
@@ -78,4 +84,117 @@ pub fn push_rest(out: &mut Vec<u8>, bytes: &[u8], from: usize) -> Result<(), All
     ensures { OnOk result (out.new.items ≡ out.old.items ++ drop from bytes.now) }
 {
     out.extend_from_slice(&bytes[from..])
+}
+
+/// How long a record with so many entries is, or the greatest number where it is longer.
+pub fn record_length(children: usize, values: usize) -> usize
+    ensures { result ≡ min (24 + 16 * children + 32 * values) (2 ^ 64 - 1) }
+{
+    let children = children.saturating_mul(CHILD_SIZE);
+    let values = values.saturating_mul(VALUE_SIZE);
+    children.saturating_add(values).saturating_add(NODE_SIZE)
+}
+
+/// How long the records of the nodes are, or the greatest number where they are longer.
+pub fn text_length(nodes: &[StoredNode]) -> usize
+    ensures { (words : List (List ℕ)) (es : List Entry) (ns : List Node) → IsPostOrder es ns
+        → AreNodes (IsUnder words) nodes.now ns
+        → result ≡ min (text_size (tree_of es ns)) (2 ^ 64 - 1) }
+{
+    let mut total = 0usize;
+    for node in nodes {
+        total = total.saturating_add(record_length(node.children, node.count));
+    }
+    total
+}
+
+/// Appends the place of the string with this number.
+fn push_place(places: &[usize], number: usize, out: &mut Vec<u8>) -> Result<(), AllocError>
+    requires { number < length places.now }
+    ensures { OnOk result (out.new.items
+        ≡ out.old.items ++ little_bytes 8 (slice_index_or places.now number 0)) }
+{
+    push_u64(out, places[number])
+}
+
+/// Appends the value entries, whose strings stand at these places.
+fn push_values(
+    values: &[StoredValue],
+    places: &[usize],
+    out: &mut Vec<u8>,
+) -> Result<(), AllocError>
+    requires { (place : List ℕ → ℕ) × (xs : List Value)
+        × AreValues (IsAt place places.now) values.now xs }
+    ensures { OnOk result ((place : List ℕ → ℕ) (xs : List Value)
+        → AreValues (IsAt place places.now) values.now xs
+        → out.new.items ≡ out.old.items ++ flat_map (value_text place) xs) }
+{
+    for value in values {
+        push_place(places, value.key, out)?;
+        push_place(places, value.value, out)?;
+        push_place(places, value.path, out)?;
+        push_u32(out, value.line)?;
+        push_u16(out, value.priority)?;
+        out.extend_from_slice(&[0; 2])?;
+    }
+    Ok(())
+}
+
+/// Appends the record of a node with these values to the records before it. The last of the child entries are those of its
+/// children: its own takes their place.
+fn push_record(
+    node: &StoredNode,
+    values: &[StoredValue],
+    places: &[usize],
+    children: &mut Vec<u8>,
+    out: &mut Vec<u8>,
+) -> Result<(), AllocError>
+    requires known { node.now.prefix < length places.now }
+    requires values { (place : List ℕ → ℕ) × (xs : List Value)
+        × AreValues (IsAt place places.now) values.now xs }
+    requires room { 16 * node.now.children ≤ length children.old.items }
+    requires few { node.now.children < 256 }
+    ensures record { OnOk result ((place : List ℕ → ℕ) (xs : List Value)
+        → AreValues (IsAt place places.now) values.now xs
+        → out.new.items ≡ out.old.items
+        ++ (little_bytes 8 (slice_index_or places.now node.now.prefix 0)
+        ++ node.now.children ∷ padding 7 ++ little_bytes 8 (length values.now)
+        ++ drop (length children.old.items - 16 * node.now.children) children.old.items
+        ++ flat_map (value_text place) xs)) }
+    ensures entry { OnOk result (children.new.items
+        ≡ take (length children.old.items - 16 * node.now.children) children.old.items
+        ++ (node.now.byte ∷ padding 7 ++ little_bytes 8 (length out.old.items))) }
+{
+    let first = children.as_slice().len() - CHILD_SIZE * node.children;
+    let at = out.as_slice().len();
+    push_node(out, places[node.prefix], node.children as u8, values.len())?;
+    push_rest(out, children, first)?;
+    push_values(values, places, out)?;
+    children.truncate(first);
+    push_child(children, node.byte, at)
+}
+
+/// Appends the records of the nodes, whose values these are, one node's after another's.
+pub fn push_records(
+    alloc: Global,
+    nodes: &[StoredNode],
+    values: &[StoredValue],
+    places: &[usize],
+    out: &mut Vec<u8>,
+) -> Result<(), AllocError>
+    requires { (place : List ℕ → ℕ) × (es : List Entry) × (ns : List Node)
+        × AreRecords place places.now es ns nodes.now values.now }
+    ensures { OnOk result ((place : List ℕ → ℕ) (es : List Entry) (ns : List Node)
+        → AreRecords place places.now es ns nodes.now values.now
+        → out.new.items ≡ out.old.items
+        ++ node_text place (length out.old.items) (tree_of es ns)) }
+{
+    let mut children = Vec::new(alloc);
+    let mut rest = values;
+    for node in nodes {
+        let (own, behind) = rest.split_at(node.count);
+        push_record(node, own, places, &mut children, out)?;
+        rest = behind;
+    }
+    Ok(())
 }

@@ -1,10 +1,13 @@
 //! The string section: the distinct strings in order, and where each stands.
-ghost use Rattle.std.specs.Prelude.{◌≡◌, ◌<◌, ◌++◌, ◌∷◌, [], ◌+◌, ◌^◌, ◌-◌, OnOk, IfOk, min, length};
-ghost use Rattle.hwdb_spec.specs.Written.{section_of};
+ghost use Rattle.std.specs.Prelude.{◌≡◌, ◌<◌, ◌+◌, ◌^◌, ◌-◌, IfOk, min, map, length};
+ghost use Rattle.std.specs.Ordering.{nat_cmp};
+ghost use Rattle.std.specs.Cmp.Lexicographic.{slice_cmp};
+ghost use Rattle.std.specs.List.Sorted.{IsStrictlySortedBy};
+ghost use Rattle.hwdb_spec.specs.Written.{section_of, place_of};
 ghost use Rattle.hwdb_spec.specs.Assignment.{ascending};
-ghost use Rattle.hwdb_writer.specs.Internal.Membership.{SameMembers};
 ghost use Rattle.hwdb_writer.specs.Internal.Places.{starts_from, IsTable, place_in};
 
+use crate::interner::Interner;
 use crate::keyed::KeyedStr;
 use crate::registry::Registry;
 use std::alloc::{AllocError, Global};
@@ -17,34 +20,25 @@ pub struct Table<'a, 't> {
     pub first: usize,
 }
 
-/// Appends the string, unless it stands where it was remembered.
-pub fn push_new<'t>(
-    words: &mut Vec<KeyedStr<'t>>,
-    registry: &mut Registry,
-    word: KeyedStr<'t>,
-) -> Result<(), AllocError>
-    ensures { OnOk result (SameMembers words.new.items (words.old.items ++ word.entry ∷ [])) }
+/// Copies of the strings.
+fn copies<'t>(alloc: Global, words: &[KeyedStr<'t>]) -> Result<Vec<KeyedStr<'t>>, AllocError>
+    ensures { IfOk result (λ v. v.items ≡ words.now) }
 {
-    let known: &[KeyedStr<'_>] = words;
-    let count = known.len();
-    let place = registry.lookup(&word);
-    if place < count {
-        if known[place] == word {
-            return Ok(());
-        }
+    let mut copies = Vec::with_capacity(alloc, words.len())?;
+    for word in words {
+        copies.push(word.copied())?;
     }
-    registry.remember(&word, count);
-    words.push(word)?;
-    Ok(())
+    Ok(copies)
 }
 
-/// Puts the strings in order, each once.
-pub fn order(words: &mut Vec<KeyedStr<'_>>) -> Result<(), AllocError>
-    ensures { OnOk result (words.new.items ≡ ascending words.old.items) }
+/// The strings in order, each once.
+pub fn in_order<'t>(alloc: Global, words: &[KeyedStr<'t>]) -> Result<Vec<KeyedStr<'t>>, AllocError>
+    ensures { IfOk result (λ v. v.items ≡ ascending words.now) }
 {
-    words.sort()?;
-    words.dedup();
-    Ok(())
+    let mut ordered = copies(alloc, words)?;
+    ordered.sort()?;
+    ordered.dedup();
+    Ok(ordered)
 }
 
 /// How long the section of the strings is, or the greatest number where it is longer.
@@ -73,24 +67,63 @@ pub fn starts(alloc: Global, words: &[KeyedStr<'_>], first: usize) -> Result<Vec
     Ok(starts)
 }
 
-/// Where the string stands, or would belong. It is looked for where it was remembered, and remembered where it was found.
-pub fn place(table: &Table<'_, '_>, registry: &mut Registry, word: KeyedStr<'_>) -> usize
+/// Where the string stands, or would belong. It is looked for where it was remembered.
+fn place(table: &Table<'_, '_>, registry: &Registry, word: &KeyedStr<'_>) -> usize
     requires { IsTable table.now }
-    ensures { result ≡ place_in table.now word.entry }
+    ensures { result ≡ place_in table.now word.now }
 {
     let words = table.words;
     let starts = table.starts;
-    let remembered = registry.lookup(&word);
+    let remembered = registry.lookup(word);
     if remembered < words.len() {
-        if words[remembered] == word {
+        if words[remembered] == *word {
             return starts[remembered];
         }
     }
-    match words.binary_search(&word) {
-        Ok(i) => {
-            registry.remember(&word, i);
-            starts[i]
-        }
+    match words.binary_search(word) {
+        Ok(i) => starts[i],
         Err(i) => starts[i],
     }
+}
+
+/// Where each of the strings stands by the table.
+fn places_in(
+    alloc: Global,
+    table: &Table<'_, '_>,
+    registry: &Registry,
+    words: &[KeyedStr<'_>],
+) -> Result<Vec<usize>, AllocError>
+    requires { IsTable table.now }
+    ensures { IfOk result (λ places. places.items ≡ map (place_in table.now) words.now) }
+{
+    let mut places = Vec::with_capacity(alloc, words.len())?;
+    for word in words {
+        places.push(place(table, registry, word))?;
+    }
+    Ok(places)
+}
+
+/// Where each string of the interner stands, where all of them in order are these, the first at `first`. It lets go of the
+/// interner.
+pub fn places_of(
+    alloc: Global,
+    interner: Interner<'_>,
+    ordered: &[KeyedStr<'_>],
+    first: usize,
+) -> Result<Vec<usize>, AllocError>
+    requires ordered { IsStrictlySortedBy (slice_cmp nat_cmp) ordered.now }
+    requires fits { first + length (section_of ordered.now) < 2 ^ 64 }
+    ensures { IfOk result (λ places.
+        places.items ≡ map (place_of first ordered.now) interner.entry.words.items) }
+{
+    let words = interner.words;
+    let mut registry = interner.registry;
+    registry.remember_all(ordered);
+    let starts = starts(alloc, ordered, first)?;
+    let table = Table {
+        words: ordered,
+        starts: &starts,
+        first,
+    };
+    places_in(alloc, &table, &registry, &words)
 }

@@ -1,0 +1,14 @@
+use Rattle.std.proofs.Common.{◌++◌, List, drop, take, map}
+use Rattle.hwdb_spec.specs.Tree.{Value}
+use Rattle.hwdb_writer.specs.Internal.Entries.{value_of}
+use Rattle.hwdb_writer.specs.Internal.Membership.{SameMembers}
+use Rattle.hwdb_writer.specs.Internal.Stored.{Grows, IsUnder, AreValues}
+use Rattle.hwdb_writer.proofs.EmissionLemmas.{value_strings}
+use Rattle.hwdb_writer.proofs.stored.push_values.Given as goal
+
+abbrev pub invariant-loop-entry : goal.invariant-loop-entry
+invariant-loop-entry l = record {
+  grows : Grows l.initial.interner.words.items l.interner.words.items;
+  members : SameMembers (l.interner.words.items ++ value_strings (drop l.entry-index l.entries)) (l.initial.interner.words.items ++ value_strings l.entries);
+  values : (xs : List Value) → AreValues (IsUnder l.initial.interner.words.items) l.initial.out.items xs → AreValues (IsUnder l.interner.words.items) l.out.items (xs ++ map value_of (take l.entry-index l.entries));
+}

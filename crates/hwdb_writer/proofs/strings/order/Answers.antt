@@ -1,7 +1,0 @@
-use Rattle.std.proofs.lemmas.List.Filters.{dedup_is}
-use Rattle.hwdb_writer.proofs.DistinctLemmas.{ordered_is}
-use Rattle.hwdb_writer.proofs.strings.order.Goals as goal
-
-pub returns : goal.returns
-returns c =
-    ordered_is c.args.words.now.items c.sort.new.self.items c.dedup.new.self.items c.in_ok-sort.ensures.permutation c.in_ok-sort.ensures.sorted (dedup_is _ _ _ c.dedup.ensures.filtered)

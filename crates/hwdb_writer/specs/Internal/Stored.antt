@@ -1,0 +1,80 @@
+-- Nodes and values with strings by number, and what they stand for.
+use Rattle.std.specs.Prelude.{List, [], ℕ, ◌+◌, ◌^◌, ◌<◌, ◌≡◌, length, flat_map, slice_index_or}
+use Rattle.std.specs.List.{AllZip}
+use Rattle.hwdb_spec.specs.Assignment.{ascending}
+use Rattle.hwdb_spec.specs.Tree.{Map, Tree, Value, map_of}
+use Rattle.hwdb_spec.specs.Written.{table_of, text_size, section_of, place_of}
+use Rattle.hwdb_writer.specs.Internal.Narrow.{IsNarrow}
+use Rattle.hwdb_writer.specs.Internal.PostOrder.{IsPostOrder, tree_of, values_at}
+use Rattle.hwdb_writer.specs.Internal.Storable.{IsSound}
+use Rattle.hwdb_writer.specs.declared.entries.Entry.{Entry}
+use Rattle.hwdb_writer.specs.declared.nodes.Node.{Node}
+use Rattle.hwdb_writer.specs.declared.stored.Stored.{Stored}
+use Rattle.hwdb_writer.specs.declared.stored.StoredNode.{StoredNode}
+use Rattle.hwdb_writer.specs.declared.stored.StoredValue.{StoredValue}
+
+-- the string has the number
+pub record IsUnder (words : List (List ℕ)) (number : ℕ) (s : List ℕ) : Type 0 where
+  pub known : number < length words
+  pub is : slice_index_or words number [] ≡ s
+
+-- each string keeps its number
+abbrev pub Grows : List (List ℕ) → List (List ℕ) → Type 0
+Grows old new = (number : ℕ) (s : List ℕ) → IsUnder old number s → IsUnder new number s
+
+-- the string's place stands under the number
+pub record IsAt (place : List ℕ → ℕ) (places : List ℕ) (number : ℕ) (s : List ℕ) : Type 0 where
+  pub known : number < length places
+  pub is : slice_index_or places number 0 ≡ place s
+
+-- what stands for a value, by what a number stands for
+pub record IsValue (By : ℕ → List ℕ → Type 0) (v : StoredValue) (x : Value) : Type 0 where
+  pub key : By v.key x.key
+  pub value : By v.value x.value
+  pub path : By v.path x.path
+  pub line : v.line ≡ x.line
+  pub priority : v.priority ≡ x.priority
+
+abbrev pub AreValues : (ℕ → List ℕ → Type 0) → List StoredValue → List Value → Type 0
+AreValues By = AllZip (IsValue By)
+
+-- what stands for a node
+pub record IsNode (By : ℕ → List ℕ → Type 0) (s : StoredNode) (n : Node) : Type 0 where
+  pub prefix : By s.prefix n.prefix.now
+  pub byte : s.byte ≡ n.byte
+  pub count : s.count ≡ n.count
+  pub children : s.children ≡ n.children
+
+abbrev pub AreNodes : (ℕ → List ℕ → Type 0) → List StoredNode → List Node → Type 0
+AreNodes By = AllZip (IsNode By)
+
+-- the values of the nodes, one node's after another's
+abbrev pub all_values : List Entry → List Node → List Value
+all_values es ns = flat_map (values_at es) ns
+
+-- the nodes and values of entries, and their strings
+pub record IsStored (es : List Entry) (ns : List Node) (s : Stored) : Type 0 where
+  pub order : IsPostOrder es ns
+  pub nodes : AreNodes (IsUnder s.interner.words.items) s.nodes.items ns
+  pub values : AreValues (IsUnder s.interner.words.items) s.values.items (all_values es ns)
+  pub strings : ascending s.interner.words.items ≡ table_of (tree_of es ns)
+
+-- what the records of entries are made of
+pub record AreRecords (place : List ℕ → ℕ) (places : List ℕ) (es : List Entry) (ns : List Node) (ss : List StoredNode) (vs : List StoredValue) : Type 0 where
+  pub order : IsPostOrder es ns
+  pub narrow : IsNarrow (tree_of es ns)
+  pub nodes : AreNodes (IsAt place places) ss ns
+  pub values : AreValues (IsAt place places) vs (all_values es ns)
+
+-- what a database is made of
+pub record IsLaidOut (es : List Entry) (ns : List Node) (ss : List StoredNode) (vs : List StoredValue) (words : List (List ℕ)) (places : List ℕ) (size section : ℕ) : Type 0 where
+  pub records : AreRecords (place_of (80 + size) words) places es ns ss vs
+  pub ordered : words ≡ table_of (tree_of es ns)
+  pub sized : size ≡ text_size (tree_of es ns)
+  pub ended : section ≡ length (section_of (table_of (tree_of es ns)))
+  pub fits : 80 + size + section < 2 ^ 64
+
+-- a sound tree of the map
+pub record IsMade (m : Map) (t : Tree) : Type 0 where
+  pub sound : IsSound t
+  pub same : map_of t ≡ m

@@ -1,0 +1,68 @@
+//! Strings by number (an interner): each that comes has the number of an equal one that came before, where that one is
+//! remembered.
+ghost use Rattle.std.specs.Prelude.{◌≡◌, ◌++◌, ◌∷◌, [], IfOk, OnOk, IfSome};
+ghost use Rattle.hwdb_writer.specs.Internal.Membership.{SameMembers};
+ghost use Rattle.hwdb_writer.specs.Internal.Stored.{Grows, IsUnder};
+
+use crate::keyed::KeyedStr;
+use crate::registry::Registry;
+use std::alloc::{AllocError, Global};
+
+/// The strings so far, each under its place in the list. A string can stand there more than once.
+#[derive(Drop)]
+pub struct Interner<'t> {
+    pub words: Vec<KeyedStr<'t>>,
+    pub registry: Registry,
+}
+
+impl<'t> Interner<'t> {
+    /// The empty string alone, and a registry of so many entries.
+    pub fn new(alloc: Global, entries: usize) -> Result<Interner<'t>, AllocError>
+        ensures { IfOk result (λ interner. interner.words.items ≡ [] ∷ []) }
+    {
+        let mut words = Vec::new(alloc);
+        words.push(KeyedStr::new(&[]))?;
+        Ok(Interner {
+            words,
+            registry: Registry::new(alloc, entries)?,
+        })
+    }
+
+    /// The number of an equal string, if one is remembered.
+    fn remembered(&self, word: &KeyedStr<'t>) -> Option<usize>
+        ensures { IfSome result (λ n. IsUnder self.now.words.items n word.now) }
+    {
+        let known: &[KeyedStr<'_>] = &self.words;
+        let number = self.registry.lookup(word);
+        if number < known.len() && known[number] == *word {
+            return Some(number);
+        }
+        None
+    }
+
+    /// Adds the string, and remembers it. Returns its number.
+    fn add(&mut self, word: KeyedStr<'t>) -> Result<usize, AllocError>
+        ensures grows { OnOk result (Grows self.old.words.items self.new.words.items) }
+        ensures members { OnOk result (SameMembers self.new.words.items
+            (self.old.words.items ++ word.entry ∷ [])) }
+        ensures number { IfOk result (λ n. IsUnder self.new.words.items n word.entry) }
+    {
+        let number = self.words.as_slice().len();
+        self.registry.remember(&word, number);
+        self.words.push(word)?;
+        Ok(number)
+    }
+
+    /// The number of the string, which is added where none like it is remembered.
+    pub fn intern(&mut self, word: KeyedStr<'t>) -> Result<usize, AllocError>
+        ensures grows { OnOk result (Grows self.old.words.items self.new.words.items) }
+        ensures members { OnOk result (SameMembers self.new.words.items
+            (self.old.words.items ++ word.entry ∷ [])) }
+        ensures number { IfOk result (λ n. IsUnder self.new.words.items n word.entry) }
+    {
+        match self.remembered(&word) {
+            Some(number) => Ok(number),
+            None => self.add(word),
+        }
+    }
+}

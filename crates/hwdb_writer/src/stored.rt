@@ -1,0 +1,123 @@
+//! Nodes and their values as a database has them, but for the places of strings and records: strings stand there by number.
+ghost use Rattle.std.specs.Prelude.{◌++◌, ◌∷◌, [], List, OnOk, IfOk, map, flat_map};
+ghost use Rattle.hwdb_spec.specs.Tree.{Value};
+ghost use Rattle.hwdb_spec.specs.Written.{strings_of_value};
+ghost use Rattle.hwdb_writer.specs.Internal.Entries.{value_of};
+ghost use Rattle.hwdb_writer.specs.Internal.PostOrder.{IsPostOrder};
+ghost use Rattle.hwdb_writer.specs.Internal.Membership.{SameMembers};
+ghost use Rattle.hwdb_writer.specs.Internal.Stored.{Grows, AreValues, IsUnder, IsStored};
+
+use crate::entries::Entry;
+use crate::interner::Interner;
+use crate::keyed::KeyedStr;
+use crate::nodes::Node;
+use std::alloc::{AllocError, Global};
+
+/// A value of a node, with its strings by number.
+#[derive(Clone, Copy)]
+pub struct StoredValue {
+    pub key: usize,
+    pub value: usize,
+    pub path: usize,
+    pub line: u32,
+    pub priority: u16,
+}
+
+/// A node, in a list in which each stands behind its children: the byte that it stands under, the number of what follows
+/// it, how many values it has, and how many children.
+#[derive(Clone, Copy)]
+pub struct StoredNode {
+    pub byte: u8,
+    pub prefix: usize,
+    pub count: usize,
+    pub children: usize,
+}
+
+/// The nodes of a tree, the values of all of them one after another, and their strings.
+#[derive(Drop)]
+pub struct Stored<'t> {
+    pub nodes: Vec<StoredNode>,
+    pub values: Vec<StoredValue>,
+    pub interner: Interner<'t>,
+}
+
+/// For how many strings there is an entry of the registry, for each assignment (our choice: some three strings come for one).
+const ENTRIES_AN_ASSIGNMENT: usize = 2;
+
+/// Appends an entry's value.
+fn push_value<'t>(
+    entry: &Entry<'t>,
+    interner: &mut Interner<'t>,
+    out: &mut Vec<StoredValue>,
+) -> Result<(), AllocError>
+    ensures grows { OnOk result (Grows interner.old.words.items interner.new.words.items) }
+    ensures members { OnOk result (SameMembers interner.new.words.items
+        (interner.old.words.items ++ strings_of_value (value_of entry.now))) }
+    ensures values { OnOk result ((xs : List Value)
+        → AreValues (IsUnder interner.old.words.items) out.old.items xs
+        → AreValues (IsUnder interner.new.words.items) out.new.items
+        (xs ++ value_of entry.now ∷ [])) }
+{
+    let key = interner.intern(KeyedStr::spaced(entry.key))?;
+    let value = interner.intern(KeyedStr::new(entry.value))?;
+    let path = interner.intern(KeyedStr::new(entry.path))?;
+    out.push(StoredValue {
+        key,
+        value,
+        path,
+        line: entry.line,
+        priority: entry.priority,
+    })?;
+    Ok(())
+}
+
+/// Appends the values of the entries.
+fn push_values<'t>(
+    entries: &[Entry<'t>],
+    interner: &mut Interner<'t>,
+    out: &mut Vec<StoredValue>,
+) -> Result<(), AllocError>
+    ensures grows { OnOk result (Grows interner.old.words.items interner.new.words.items) }
+    ensures members { OnOk result (SameMembers interner.new.words.items
+        (interner.old.words.items ++ flat_map strings_of_value (map value_of entries.now))) }
+    ensures values { OnOk result ((xs : List Value)
+        → AreValues (IsUnder interner.old.words.items) out.old.items xs
+        → AreValues (IsUnder interner.new.words.items) out.new.items
+        (xs ++ map value_of entries.now)) }
+{
+    for entry in entries {
+        push_value(entry, interner, out)?;
+    }
+    Ok(())
+}
+
+/// The nodes, each behind its children, and the values that they have among the entries.
+pub fn store<'t>(
+    alloc: Global,
+    entries: &[Entry<'t>],
+    nodes: &[Node<'t>],
+) -> Result<Stored<'t>, AllocError>
+    requires { IsPostOrder entries.now nodes.now }
+    ensures { IfOk result (IsStored entries.now nodes.now) }
+{
+    let room = entries.len().saturating_mul(ENTRIES_AN_ASSIGNMENT);
+    let mut interner = Interner::new(alloc, room)?;
+    let mut stored = Vec::with_capacity(alloc, nodes.len())?;
+    let mut values = Vec::with_capacity(alloc, entries.len())?;
+    for node in nodes {
+        let own = &entries[node.first..node.first + node.count];
+        let prefix = interner.intern(KeyedStr::new(node.prefix))?;
+        stored.push(StoredNode {
+            byte: node.byte,
+            prefix,
+            count: node.count,
+            children: node.children,
+        })?;
+        push_values(own, &mut interner, &mut values)?;
+    }
+    Ok(Stored {
+        nodes: stored,
+        values,
+        interner,
+    })
+}
