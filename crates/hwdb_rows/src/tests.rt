@@ -1,6 +1,7 @@
 //! Rows that only a call of a library shows; those of the built program are in tests/rows.
-mod beside;
+mod compiling;
 mod cursors;
+mod entered;
 mod errors;
 mod limits;
 mod patterns;

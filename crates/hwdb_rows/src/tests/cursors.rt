@@ -1,7 +1,7 @@
 //! What a cursor holds and enters, two of them at once, and the texts of positions.
 ghost use Rattle.std.specs.Prelude.{◌<◌};
 
-use crate::tests::beside::{add_line, compiled, many_keys};
+use crate::tests::compiling::{add_line, compiled, many_keys};
 use hwdb_query::{Cursor, CursorError, Position, cursor};
 use hwdb_reader::check;
 use std::alloc::{AllocError, Global};

@@ -1,5 +1,5 @@
 //! Limits other than the program's.
-use crate::tests::beside::files;
+use crate::tests::compiling::files;
 use hwdb_compile::{CompileError, SourceFile, compile};
 use std::alloc::Global;
 use std::test::Fail;

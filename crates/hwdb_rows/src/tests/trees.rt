@@ -1,27 +1,10 @@
 //! Trees that are filled by hand, with the path `/etc/udev/hwdb.d/1.hwdb` and priority 1.
-ghost use Rattle.std.specs.Bool.{OnTrue};
-ghost use Rattle.hwdb_writer.specs.Internal.Storable.{HasNoZero};
-
+use crate::fixtures::has_no_zero;
 use hwdb_text::Assignment;
 use hwdb_writer::{StoreError, Tree, write};
 use std::alloc::{AllocError, Global};
 use std::process::Abort;
 use std::test::Fail;
-
-/// Whether there is no byte 0.
-fn has_no_zero(text: &[u8]) -> bool
-    ensures { OnTrue result (HasNoZero text.now) }
-{
-    match text {
-        [] => true,
-        [first, rest @ ..] => {
-            if *first == 0 {
-                return false;
-            }
-            has_no_zero(rest)
-        }
-    }
-}
 
 /// An assignment with the value `v`.
 fn assignment(
