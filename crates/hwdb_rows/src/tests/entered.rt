@@ -150,7 +150,11 @@ fn nodes_entered(rt: HostRuntime) -> Result<(), Fail> {
         let bytes = database_of(rt.alloc(), row)?;
         for (device, nodes) in row.devices {
             assert_eq!(rt; entered(rt.alloc(), &bytes, device, 1)?, *nodes, "row {i}");
-            assert_eq!(rt; entered(rt.alloc(), &bytes, device, 1000)?, *nodes, "row {i}");
+            assert_eq!(rt;
+                entered(rt.alloc(), &bytes, device, 1000)?,
+                *nodes,
+                "row {i}"
+            );
         }
     }
     Ok(())
