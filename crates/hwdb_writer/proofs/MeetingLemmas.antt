@@ -1,6 +1,7 @@
 -- What two lists begin with, found from the front.
-use Rattle.std.proofs.Common.{◌≡◌, ◌≤◌, ℕ, List, [], ◌∷◌, ◌++◌, length, take, Bool, true, false, cond, refl, sym, ap, arith, eqb}
-use Rattle.std.specs.Prelude.{nat_eq}
+use Rattle.std.proofs.Common.{◌≡◌, ◌≤◌, ◌+◌, ◌-◌, ℕ, List, [], ◌∷◌, ◌++◌, length, take, drop, ◌∙◌, subst, Bool, true, false, cond, refl, sym, ap, arith, eqb}
+use Rattle.std.proofs.Math.Seq.{take-add}
+use Rattle.std.specs.Prelude.{nat_eq, slice_range}
 use Rattle.std.proofs.lemmas.Bool.Decides.{nat_tests}
 
 -- what two lists begin with, and what is left of each
@@ -53,3 +54,14 @@ pub record Past (n : ℕ) (a b : List ℕ) : Type 0 where
   pub first : n ≤ length a
   pub second : n ≤ length b
   pub alike : take n a ≡ take n b
+
+-- the next eight as well
+pub past_word : (n : ℕ) (a b : List ℕ) → Past n a b → n + 8 ≤ length a → n + 8 ≤ length b → slice_range a n (n + 8) ≡ slice_range b n (n + 8) → Past (n + 8) a b
+past_word n a b p first second same =
+    let eight : n + 8 - n ≡ 8 = omega arith in
+    let word : take 8 (drop n a) ≡ take 8 (drop n b) = subst (λ m. take m (drop n a) ≡ take m (drop n b)) eight same in
+    record {
+      first = first;
+      second = second;
+      alike = take-add n 8 a ∙ (λ i. p.alike i ++ word i) ∙ sym (take-add n 8 b);
+    }

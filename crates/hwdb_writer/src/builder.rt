@@ -14,6 +14,7 @@ ghost use Rattle.hwdb_writer.specs.declared.builder.Open.{Open as OpenRecord};
 
 use crate::entries::Entry;
 use crate::nodes::Node;
+use byteorder::{BigEndian, ByteOrder};
 use std::alloc::{AllocError, Global};
 
 /// A node that isn't closed yet, and where its path ends in the pattern that was added last.
@@ -36,13 +37,39 @@ struct Builder<'t> {
     closed: Vec<Node<'t>>,
 }
 
+/// How many bytes are compared at once, as one number.
+const WORD: usize = 8;
+
+/// Whether both, of eight bytes each, are the same.
+fn same_words(a: &[u8], b: &[u8]) -> bool
+    requires first { length a.now ≡ 8 }
+    requires second { length b.now ≡ 8 }
+    ensures { OnTrue result (a.now ≡ b.now) }
+{
+    BigEndian::read_u64(a) == BigEndian::read_u64(b)
+}
+
+/// How long the longest common beginning of whole words is.
+fn common_words(a: &[u8], b: &[u8]) -> usize
+    ensures alike { take result a.now ≡ take result b.now }
+    ensures first { result ≤ length a.now }
+    ensures second { result ≤ length b.now }
+{
+    let both = a.len().min(b.len());
+    let mut n = 0;
+    while both - n >= WORD && same_words(&a[n..n + WORD], &b[n..n + WORD]) {
+        n += WORD;
+    }
+    n
+}
+
 /// How long the longest common beginning is.
 fn common(a: &[u8], b: &[u8]) -> usize
     ensures meeting { MeetAt result a.now b.now }
     ensures first { result ≤ length a.now }
     ensures second { result ≤ length b.now }
 {
-    let mut n = 0;
+    let mut n = common_words(a, b);
     while n < a.len() && n < b.len() && a[n] == b[n] {
         n += 1;
     }

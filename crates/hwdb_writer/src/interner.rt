@@ -1,6 +1,7 @@
 //! Strings by number (an interner): each that comes has the number of an equal one that came before, where that one is
 //! remembered.
 ghost use Rattle.std.specs.Prelude.{◌≡◌, ◌++◌, ◌∷◌, [], IfOk, OnOk, IfSome};
+ghost use Rattle.std.specs.Bool.{OnTrue};
 ghost use Rattle.hwdb_writer.specs.Internal.Membership.{SameMembers};
 ghost use Rattle.hwdb_writer.specs.Internal.Stored.{Grows, IsUnder};
 
@@ -28,13 +29,21 @@ impl<'t> Interner<'t> {
         })
     }
 
+    /// Whether the string has the number.
+    #[inline(always)]
+    fn is_under(&self, number: usize, word: &KeyedStr<'t>) -> bool
+        ensures { OnTrue result (IsUnder self.now.words.items number word.now) }
+    {
+        let known: &[KeyedStr<'_>] = &self.words;
+        number < known.len() && known[number] == *word
+    }
+
     /// The number of an equal string, if one is remembered.
     fn remembered(&self, word: &KeyedStr<'t>) -> Option<usize>
         ensures { IfSome result (λ n. IsUnder self.now.words.items n word.now) }
     {
-        let known: &[KeyedStr<'_>] = &self.words;
         let number = self.registry.lookup(word);
-        if number < known.len() && known[number] == *word {
+        if self.is_under(number, word) {
             return Some(number);
         }
         None
@@ -63,6 +72,22 @@ impl<'t> Interner<'t> {
         match self.remembered(&word) {
             Some(number) => Ok(number),
             None => self.add(word),
+        }
+    }
+
+    /// The number of the string, as [`Interner::intern`] gives one. The string with the number `near` is compared first,
+    /// without a look-up.
+    #[inline(always)]
+    pub fn intern_near(&mut self, word: KeyedStr<'t>, near: usize) -> Result<usize, AllocError>
+        ensures grows { OnOk result (Grows self.old.words.items self.new.words.items) }
+        ensures members { OnOk result (SameMembers self.new.words.items
+            (self.old.words.items ++ word.entry ∷ [])) }
+        ensures number { IfOk result (λ n. IsUnder self.new.words.items n word.entry) }
+    {
+        if self.is_under(near, &word) {
+            Ok(near)
+        } else {
+            self.intern(word)
         }
     }
 }

@@ -150,6 +150,10 @@ fn stored_nodes<'t>(alloc: Global, tree: Tree<'t>) -> Result<Stored<'t>, AllocEr
 /// The database of the tree's map, of at most `max_bytes` bytes. It lets go of the tree, so that it takes less memory than
 /// [`write`].
 ///
+/// For n assignments it takes some n log n comparisons of strings, and beyond these time in proportion to n and to the bytes of
+/// their texts and of the database. Their texts are copied into the database alone: beside it, it takes memory in proportion
+/// to n, however long they are.
+///
 /// Refuses with `TooLarge` where the database is longer, and with `Memory`.
 pub fn into_database(alloc: Global, tree: Tree<'_>, max_bytes: u32) -> Result<Vec<u8>, StoreError>
     // The bytes are the written form of the map, which is a database of a tree with that map.

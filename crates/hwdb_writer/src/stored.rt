@@ -44,6 +44,14 @@ pub struct Stored<'t> {
 /// For how many strings there is an entry of the registry, for each assignment (our choice: some three strings come for one).
 const ENTRIES_AN_ASSIGNMENT: usize = 2;
 
+/// The numbers of the last value's key and path: most values have the same as the value before them. 0 where there is none.
+fn last_key_and_path(values: &[StoredValue]) -> (usize, usize) {
+    match values.last() {
+        Some(last) => (last.key, last.path),
+        None => (0, 0),
+    }
+}
+
 /// Appends an entry's value.
 fn push_value<'t>(
     entry: &Entry<'t>,
@@ -58,9 +66,10 @@ fn push_value<'t>(
         → AreValues (IsUnder interner.new.words.items) out.new.items
         (xs ++ value_of entry.now ∷ [])) }
 {
-    let key = interner.intern(KeyedStr::spaced(entry.key))?;
+    let (near_key, near_path) = last_key_and_path(out);
+    let key = interner.intern_near(KeyedStr::spaced(entry.key), near_key)?;
     let value = interner.intern(KeyedStr::new(entry.value))?;
-    let path = interner.intern(KeyedStr::new(entry.path))?;
+    let path = interner.intern_near(KeyedStr::new(entry.path), near_path)?;
     out.push(StoredValue {
         key,
         value,

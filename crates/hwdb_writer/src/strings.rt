@@ -36,7 +36,7 @@ pub fn in_order<'t>(alloc: Global, words: &[KeyedStr<'t>]) -> Result<Vec<KeyedSt
     ensures { IfOk result (λ v. v.items ≡ ascending words.now) }
 {
     let mut ordered = copies(alloc, words)?;
-    ordered.sort()?;
+    ordered.sort_unstable();
     ordered.dedup();
     Ok(ordered)
 }

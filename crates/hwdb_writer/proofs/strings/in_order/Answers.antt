@@ -6,5 +6,5 @@ use Rattle.hwdb_writer.proofs.strings.in_order.Goals as goal
 
 pub returns : goal.returns
 returns c =
-    ordered_is c.in_ok-ordered.ordered.items c.sort.new.self.items c.dedup.new.self.items c.in_ok-sort.ensures.permutation c.in_ok-sort.ensures.sorted (dedup_is _ _ _ c.dedup.ensures.filtered)
+    ordered_is c.in_ok-ordered.ordered.items c.sort_unstable.new.self.items c.dedup.new.self.items c.sort_unstable.ensures.permutation c.sort_unstable.ensures.sorted (dedup_is _ _ _ c.dedup.ensures.filtered)
     ∙ ap ascending c.in_ok-ordered.ensures
