@@ -1,7 +1,5 @@
 -- The values of a node, entry by entry.
-use Rattle.std.proofs.Common.{◌≡◌, ◌<◌, ◌-◌, ℕ, suc, ◌+◌, List, Option, Some, refl, sym, ap, arith, subst, is_ge, false, true}
-use Rattle.std.specs.declared.cmp.Ordering.{Ordering}
-use Rattle.std.specs.declared.cmp.Ordering.TheVariants.{Less, Equal, Greater}
+use Rattle.std.proofs.Common.{◌≡◌, ◌<◌, ◌-◌, ℕ, suc, ◌+◌, List, Option, Some, refl, sym, arith, subst}
 use Rattle.hwdb_spec.specs.declared.Layout.{Layout}
 use Rattle.hwdb_spec.specs.Format.{ValuesText, value_at, number_at, text_at, IsValue}
 use Rattle.hwdb_reader.specs.Internal.Read.{values_at}
@@ -20,9 +18,3 @@ module _ (l : Layout) (b : List ℕ) (e : ℕ) (before : Option (List ℕ)) (n i
   values_back v a rest =
       let k : n - i ≡ suc (n - (i + 1)) = omega arith in
       subst (λ m. ValuesText l b e before (values_at l b e m)) (sym k) (v, refl, a, rest)
-
-pub less_of : (r : Ordering) → is_ge r ≡ false → r ≡ Less
-less_of r h = elim r as (λ r. is_ge r ≡ false → r ≡ Less) [ Less ↦ λ _. refl | Equal ↦ λ h. absurd (cc) | Greater ↦ λ h. absurd (cc) ] h
-
-pub not_less : (r : Ordering) → is_ge r ≡ true → r ≡ Less → ⊥
-not_less r h e = let k : is_ge r ≡ false = ap is_ge e in cc

@@ -9,3 +9,8 @@ pub mod NodeLemmas
 pub mod PathLemmas
 pub mod WalkLemmas
 pub mod ViewLemmas
+pub mod CopyLemmas
+pub mod RunLemmas
+pub mod JoinLemmas
+pub mod TextLemmas
+pub mod AgreeLemmas

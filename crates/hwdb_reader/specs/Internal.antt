@@ -4,3 +4,4 @@ pub mod Paths
 pub mod Placed
 pub mod Read
 pub mod Walks
+pub mod Repeats

@@ -8,6 +8,7 @@
 //! - `walk`: the nodes, by a loop over the open ones of one path;
 //! - `path`: these, in a table of a fixed size on the thread's stack;
 //! - `values`: the value entries of a node;
+//! - `repeats`: which of two strings stands first, in a text in which long stretches stand more than once;
 //! - `fields` and `places`: single fields, and where records stand;
 //! - `view`: the nodes, children and values of a database that was accepted;
 //! - `reopened`: the view of a database that was accepted before;
@@ -22,6 +23,7 @@ mod laws;
 mod path;
 mod places;
 mod reopened;
+mod repeats;
 mod values;
 mod view;
 mod walk;

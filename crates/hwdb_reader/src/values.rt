@@ -1,10 +1,11 @@
 //! The value entries of a node, tested.
-ghost use Rattle.std.specs.Prelude.{◌≤◌, ◌+◌, ◌*◌, length, OnOk, OnErr, IfErr, None};
+ghost use Rattle.std.specs.Prelude.{◌≡◌, ◌≤◌, ◌+◌, ◌*◌, length, OnOk, OnErr, IfErr, None};
 ghost use Rattle.hwdb_spec.specs.Format.{IsValue, ValuesText, EntryFault, ValuesFault};
 ghost use Rattle.hwdb_reader.specs.Internal.Read.{values_at};
 
-use crate::fields::{is_place, text, u16_at, u64_at};
+use crate::fields::{is_place, u16_at, u64_at};
 use crate::frame::Frame;
+use crate::repeats::Repeats;
 use hwdb_spec::DbFault;
 
 /// Tests one value entry: its three strings are inside the string section, its priority isn't 0.
@@ -34,8 +35,16 @@ fn check_value(b: &[u8], l: Frame, entry: usize) -> Result<(), DbFault>
 /// are, isn't read.
 #[inline(always)]
 #[tactic(auto, unfolding(hwdb_spec::specs::Format::ValuesText, crate::specs::Internal::Read::values_at))]
-pub fn check_values(b: &[u8], l: Frame, first: usize, n: usize) -> Result<(), DbFault>
-    requires { first + l.sizes.value_size * n ≤ length b.now }
+pub fn check_values(
+    b: &[u8],
+    l: Frame,
+    repeats: &mut Repeats<'_>,
+    first: usize,
+    n: usize,
+) -> Result<(), DbFault>
+    requires room { first + l.sizes.value_size * n ≤ length b.now }
+    requires text { repeats.old ≡ b.now }
+    ensures same { repeats.new ≡ repeats.old }
     ensures ok { OnOk result
         (ValuesText l.sizes b.now first None (values_at l.sizes b.now first n)) }
     ensures err { OnErr result
@@ -45,13 +54,13 @@ pub fn check_values(b: &[u8], l: Frame, first: usize, n: usize) -> Result<(), Db
     if n == 1 {
         return check_value(b, l, first);
     }
-    let mut before: Option<&[u8]> = None;
+    let mut before: Option<usize> = None;
     let mut entry = first;
     for i in 0..n {
         check_value(b, l, entry)?;
-        let key = text(b, u64_at(b, entry));
+        let key = u64_at(b, entry);
         if let Some(other) = before {
-            if other.cmp(key).is_ge() {
+            if !repeats.is_less(other, key) {
                 return Err(DbFault::KeyOrder(entry as u64));
             }
         }

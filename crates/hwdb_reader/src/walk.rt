@@ -11,6 +11,7 @@ use crate::fields::{is_place, u64_at};
 use crate::frame::Frame;
 use crate::path::{Open, Path};
 use crate::places::{child_entry_at, record_end_at};
+use crate::repeats::Repeats;
 use crate::values::check_values;
 use hwdb_spec::DbFault;
 
@@ -44,8 +45,10 @@ fn record_end_within(b: &[u8], l: Frame, from: usize, off: usize, limit: usize) 
 /// Tests the prefix and the values of a node whose record has room.
 #[inline(always)]
 #[tactic(auto, unfolding(hwdb_spec::specs::Format::record_end))]
-fn check_fields(b: &[u8], l: Frame, off: usize) -> Result<(), DbFault>
-    requires { record_end l.sizes b.now off ≤ length b.now }
+fn check_fields(b: &[u8], l: Frame, repeats: &mut Repeats<'_>, off: usize) -> Result<(), DbFault>
+    requires inside { record_end l.sizes b.now off ≤ length b.now }
+    requires text { repeats.old ≡ b.now }
+    ensures same { repeats.new ≡ repeats.old }
     ensures ok { OnOk result (FieldsAreSound l.sizes b.now off) }
     ensures err { OnErr result (FieldsAreSound l.sizes b.now off → ⊥) }
     ensures fault { IfErr result
@@ -56,7 +59,7 @@ fn check_fields(b: &[u8], l: Frame, off: usize) -> Result<(), DbFault>
         return Err(DbFault::StringOffset(off as u64));
     }
     let entries = off + l.sizes.node_size + l.sizes.child_size * b[off + 8] as usize;
-    check_values(b, l, entries, u64_at(b, off + 16))
+    check_values(b, l, repeats, entries, u64_at(b, off + 16))
 }
 
 /// Tests the record of the node at `off`, whose text may begin at `from` and has to end at `limit`, where so many
@@ -65,6 +68,7 @@ fn check_fields(b: &[u8], l: Frame, off: usize) -> Result<(), DbFault>
 fn check_record(
     b: &[u8],
     l: Frame,
+    repeats: &mut Repeats<'_>,
     levels: usize,
     from: usize,
     off: usize,
@@ -72,6 +76,8 @@ fn check_record(
 ) -> Result<usize, DbFault>
     requires inside { limit ≤ length b.now }
     requires visited { Visited l.sizes b.now (visit levels from off limit) }
+    requires text { repeats.old ≡ b.now }
+    ensures same { repeats.new ≡ repeats.old }
     ensures end { IfOk result (λ end. end ≡ record_end l.sizes b.now off) }
     ensures ok { OnOk result (IsSoundRecord l.sizes b.now (visit levels from off limit)) }
     ensures err { OnErr result (IsSoundNode l.sizes b.now (visit levels from off limit) → ⊥) }
@@ -83,7 +89,7 @@ fn check_record(
     if levels == 0 {
         return Err(DbFault::Depth(off as u64));
     }
-    check_fields(b, l, off)?;
+    check_fields(b, l, repeats, off)?;
     Ok(end)
 }
 
@@ -122,8 +128,17 @@ fn next_child(b: &[u8], l: Frame, off: usize, i: usize) -> Result<usize, DbFault
 
 /// Goes on from the last open node: tests its children up to the first that has children itself, which is opened below
 /// it. If there is none, the node is done. Answers where the next text begins.
-fn go_on(b: &[u8], l: Frame, path: &mut Path, last: Open, begin: usize) -> Result<usize, DbFault>
-    requires { AreOpen l.sizes b.now ((last.off, last.done) ∷ path.old) begin }
+fn go_on(
+    b: &[u8],
+    l: Frame,
+    repeats: &mut Repeats<'_>,
+    path: &mut Path,
+    last: Open,
+    begin: usize,
+) -> Result<usize, DbFault>
+    requires open { AreOpen l.sizes b.now ((last.off, last.done) ∷ path.old) begin }
+    requires text { repeats.old ≡ b.now }
+    ensures same { repeats.new ≡ repeats.old }
     ensures ok { IfOk result
         (λ next. GoesOn l.sizes b.now ((last.off, last.done) ∷ path.old) begin path.new next) }
     ensures err { OnErr result
@@ -134,7 +149,7 @@ fn go_on(b: &[u8], l: Frame, path: &mut Path, last: Open, begin: usize) -> Resul
     let mut next = begin;
     for i in last.done..b[last.off + 8] {
         let child = next_child(b, l, last.off, i as usize)?;
-        let end = check_record(b, l, levels, next, child, last.off)?;
+        let end = check_record(b, l, repeats, levels, next, child, last.off)?;
         if b[child + 8] != 0 {
             path.push(Open {
                 off: last.off,
@@ -169,12 +184,13 @@ pub fn walk(b: &[u8], l: Frame, from: usize, off: usize, limit: usize) -> Result
         (IsSoundNode l.sizes b.now (visit max_levels from off limit) → ⊥) }
     ensures fault { IfErr result (λ e. IsVisitFault l.sizes b.now e) }
 {
-    check_record(b, l, MAX_LEVELS, from, off, limit)?;
+    let mut repeats = Repeats::new(b);
+    check_record(b, l, &mut repeats, MAX_LEVELS, from, off, limit)?;
     let mut path = Path::new();
     path.push(Open { off, done: 0 });
     let mut begin = from;
     while let Some(last) = path.pop() {
-        begin = go_on(b, l, &mut path, last, begin)?;
+        begin = go_on(b, l, &mut repeats, &mut path, last, begin)?;
     }
     Ok(begin)
 }

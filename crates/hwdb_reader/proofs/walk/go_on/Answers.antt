@@ -8,12 +8,12 @@ use Rattle.hwdb_reader.proofs.walk.go_on.Goals as goal
 
 pub overflow_add-i-end : goal.overflow_add-i-end
 overflow_add-i-end c =
-    let inside = record_inside c.args.l.sizes c.args.b.now _ c.args.last.off c.args.last.done c.args.begin c.requires.0 in
+    let inside = record_inside c.args.l.sizes c.args.b.now _ c.args.last.off c.args.last.done c.args.begin c.requires.open.0 in
     omega (arith, inside, record_fields c.args.l.sizes c.args.b.now c.args.last.off c.args.l.node_fields)
 
 pub bounds-b-last : goal.bounds-b-last
 bounds-b-last c =
-    let inside = record_inside c.args.l.sizes c.args.b.now _ c.args.last.off c.args.last.done c.args.begin c.requires.0 in
+    let inside = record_inside c.args.l.sizes c.args.b.now _ c.args.last.off c.args.last.done c.args.begin c.requires.open.0 in
     omega (arith, inside, record_fields c.args.l.sizes c.args.b.now c.args.last.off c.args.l.node_fields)
 
 pub returns-in_err-child-clause-err : goal.returns-in_err-child-clause-err
@@ -46,13 +46,13 @@ returns-in_err-end-clause-err c =
 
 pub overflow_add-child : goal.overflow_add-child
 overflow_add-child c =
-    let inside = record_inside c.args.l.sizes c.args.b.now _ c.args.last.off c.args.last.done c.args.begin c.requires.0 in
+    let inside = record_inside c.args.l.sizes c.args.b.now _ c.args.last.off c.args.last.done c.args.begin c.requires.open.0 in
     let fits = c.in_ok-end.ensures.ok.fits.1 in
     omega (arith, inside, fits, record_fields c.args.l.sizes c.args.b.now c.in_ok-child.child c.args.l.node_fields, record_fields c.args.l.sizes c.args.b.now c.args.last.off c.args.l.node_fields)
 
 pub bounds-b-child : goal.bounds-b-child
 bounds-b-child c =
-    let inside = record_inside c.args.l.sizes c.args.b.now _ c.args.last.off c.args.last.done c.args.begin c.requires.0 in
+    let inside = record_inside c.args.l.sizes c.args.b.now _ c.args.last.off c.args.last.done c.args.begin c.requires.open.0 in
     let fits = c.in_ok-end.ensures.ok.fits.1 in
     omega (arith, inside, fits, record_fields c.args.l.sizes c.args.b.now c.in_ok-child.child c.args.l.node_fields, record_fields c.args.l.sizes c.args.b.now c.args.last.off c.args.l.node_fields)
 
@@ -96,6 +96,7 @@ loop-i-preserved c =
     let grown = c.loop-i.invariant.grown in
     let at = c.if-next-child.false in
     record {
+      kept = c.in_ok-end.ensures.same ∙ c.loop-i.invariant.kept;
       same = c.loop-i.invariant.same;
       stand = passed.stand;
       sound = (λ x. c.loop-i.invariant.sound.0 (passed.sound.0 x), λ x. passed.sound.1 (c.loop-i.invariant.sound.1 x));

@@ -10,6 +10,7 @@ loop-last-init c =
     let nodes : c.push.new.self ≡ (c.args.off, 0) ∷ [] = c.push.ensures ∙ ap (λ (rest : List (ℕ × ℕ)). (c.args.off, 0) ∷ rest) c.new-path.ensures in
     let sound = c.in_ok-check_record.ensures.ok in
     record {
+      kept = c.in_ok-check_record.ensures.same ∙ c.new-repeats.ensures;
       stand = subst (λ (now : List (ℕ × ℕ)). AreOpen c.args.l.sizes c.args.b.now now c.args.from) (sym nodes)
           (first_opens c.args.l.sizes c.args.b.now c.args.from c.args.off c.args.limit sound c.requires.visited c.requires.inside);
       sound = subst (λ (now : List (ℕ × ℕ)). ToCome c.args.l.sizes c.args.b.now now c.args.from ↔ IsSoundNode c.args.l.sizes c.args.b.now (visit max_levels c.args.from c.args.off c.args.limit)) (sym nodes)

@@ -6,6 +6,7 @@ use Rattle.hwdb_reader.proofs.walk.walk.Given as goal
 
 abbrev pub invariant-loop-last : goal.invariant-loop-last
 invariant-loop-last l = record {
+  kept : l.repeats ≡ l.b;
   stand : AreOpen l.l.sizes l.b l.path l.begin;
   sound : ToCome l.l.sizes l.b l.path l.begin ↔ IsSoundNode l.l.sizes l.b (visit max_levels l.from l.off l.limit);
   end : last_end l.l.sizes l.b l.path l.begin ≡ record_end l.l.sizes l.b l.off;
