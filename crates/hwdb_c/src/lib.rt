@@ -23,8 +23,6 @@ mod answer;
 mod faults;
 mod room;
 mod strings;
-#[cfg(test)]
-mod tests;
 
 use answer::strings_for;
 use faults::{number_of, place_of};

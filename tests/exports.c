@@ -1,0 +1,94 @@
+/* What the two calls of crates/hwdb_c answer for two small databases, with any room, and for damages of the empty one. C alone
+ * sees how much room is given: the calls of the library give enough. Says what is wrong, and ends with the number of rows.
+ * What is expected comes from the description of the format (hwdb-internal.h) and of the two calls. */
+#include <stdint.h>
+#include <stdio.h>
+#include <string.h>
+
+uint32_t hwdb_c_check(const uint8_t *bytes, size_t length, uint64_t *place);
+uint32_t hwdb_c_properties(const uint8_t *bytes, size_t length, const uint8_t *device, size_t device_length, uint8_t *out,
+                           size_t room, size_t *needed);
+
+static const char EMPTY[] =
+    "4b534c50484852480100000000000000690000000000000050000000000000001800000000000000100000000000000020000000000000"
+    "0050000000000000001800000000000000010000000000000068000000000000000000000000000000000000000000000000";
+
+/* `a` with `L=1` and `K=2`, `a*` with `L=3` on a later line. */
+static const char LATER_KEY[] =
+    "4b534c504848524801000000000000003d0100000000000050000000000000001800000000000000100000000000000020000000000000"
+    "00f000000000000000c80000000000000025000000000000001801000000000000000000000000000001000000000000001c0100000000"
+    "00003b010000000000001f0100000000000006000000010000001801000000000000010000000000000002000000000000002a00000000"
+    "0000005000000000000000190100000000000039010000000000001f0100000000000003000000010000001c0100000000000037010000"
+    "000000001f0100000000000002000000010000001801000000000000010000000000000000000000000000006100000000000000880000"
+    "000000000000204b00204c002f6574632f756465762f687764622e642f312e6877646200310032003300";
+
+static int failed;
+
+static void judge(int holds, const char *what, size_t row) {
+    if (!holds) {
+        printf("FAILED: %s, row %zu\n", what, row);
+        failed = 1;
+    }
+}
+
+/* The bytes of a hexadecimal text, and how many they are. */
+static size_t bytes_of(const char *hex, uint8_t *bytes) {
+    size_t length = strlen(hex) / 2;
+    for (size_t i = 0; i < length; i++) {
+        unsigned byte = 0;
+        sscanf(hex + 2 * i, "%2x", &byte);
+        bytes[i] = (uint8_t)byte;
+    }
+    return length;
+}
+
+/* A database, a device and how much room there is; the answer, what it needs, and the buffer, which was full of `.`. */
+struct lookup {
+    const char *hex, *device;
+    size_t room;
+    uint32_t answer;
+    size_t needed;
+    const char *out;
+};
+
+static const struct lookup LOOKUPS[] = {
+    {EMPTY, "a", 3, 0, 0, "..."},          {LATER_KEY, "a", 9, 0, 8, "K\0002\0L\0003\0."},
+    {LATER_KEY, "a", 8, 0, 8, "K\0002\0L\0003\0"}, {LATER_KEY, "a", 7, 1, 8, "......."},
+    {LATER_KEY, "a", 0, 1, 8, ""},         {LATER_KEY, "", 2, 0, 0, ".."},
+    {LATER_KEY, "", 0, 0, 0, ""},
+};
+
+/* The byte at a place becomes another: the number of the fault, and its offset. */
+struct damage {
+    size_t at;
+    uint8_t byte;
+    uint32_t number;
+    uint64_t offset;
+};
+
+static const struct damage DAMAGES[] = {
+    {0, 'k', 2, 0}, {24, 0, 3, 0}, {16, 0, 4, 0}, {56, 81, 6, 81}, {80, 0, 9, 80},
+};
+
+int main(void) {
+    uint8_t bytes[4096] = {0}, out[16];
+    uint64_t place = 7;
+    size_t lookups = sizeof LOOKUPS / sizeof *LOOKUPS, damages = sizeof DAMAGES / sizeof *DAMAGES;
+    judge(hwdb_c_check(bytes, 0, &place) == 1 && place == 0, "no bytes", 0);
+    for (size_t i = 0; i < lookups; i++) {
+        const struct lookup *row = &LOOKUPS[i];
+        size_t length = bytes_of(row->hex, bytes), needed = 0;
+        memset(out, '.', sizeof out);
+        judge(hwdb_c_check(bytes, length, &place) == 0, "a database", i);
+        uint32_t answer = hwdb_c_properties(bytes, length, (const uint8_t *)row->device, strlen(row->device), out, row->room, &needed);
+        judge(answer == row->answer && needed == row->needed, "an answer", i);
+        judge(memcmp(out, row->out, row->room) == 0 && out[row->room] == '.', "what is written", i);
+    }
+    for (size_t i = 0; i < damages; i++) {
+        size_t length = bytes_of(EMPTY, bytes);
+        bytes[DAMAGES[i].at] = DAMAGES[i].byte;
+        judge(hwdb_c_check(bytes, length, &place) == DAMAGES[i].number && place == DAMAGES[i].offset, "a fault", i);
+    }
+    printf("%zu rows\n", 1 + lookups + damages);
+    return failed;
+}
