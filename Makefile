@@ -61,6 +61,7 @@ check:
 	tests/refused
 	$(MAKE) lib
 	tests/words out/hwdb
+	tests/command-line out/hwdb
 	tests/installed out/hwdb
 	tests/library out/hwdb
 	tests/readme out/hwdb
@@ -151,7 +152,7 @@ dist:
 check-package: $(PROGRAM) out/libhwdb.so.0
 	tests/package-tools
 	tests/words '$(PROGRAM)'
-	tests/completions
+	tests/completions '$(PROGRAM)'
 	tests/lint '$(PROGRAM)'
 	tests/installed '$(PROGRAM)'
 	tests/package '$(PROGRAM)' out/libhwdb.so.0

@@ -1,4 +1,4 @@
-//! What only calls of the crates from the patterns to the store show.
+//! What only calls of the crates from the patterns to the commands show.
 //!
 //! | Module | What it has |
 //! |---|---|

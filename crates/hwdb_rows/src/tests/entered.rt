@@ -144,18 +144,28 @@ fn entered(alloc: Global, bytes: &[u8], device: &str, page: usize) -> Result<u64
     Ok(hits.entered())
 }
 
+/// Whether so many nodes are entered for a device, with pages of one hit and with one page for all.
+fn enters(alloc: Global, bytes: &[u8], device: &str, nodes: u64) -> Result<bool, Fail> {
+    let one_by_one = entered(alloc, bytes, device, 1)?;
+    let at_once = entered(alloc, bytes, device, 1000)?;
+    Ok(one_by_one == nodes && at_once == nodes)
+}
+
+/// Whether each device of a row enters as many nodes as it says.
+fn holds(alloc: Global, row: &Row<'_>) -> Result<bool, Fail> {
+    let bytes = database_of(alloc, row)?;
+    for (device, nodes) in row.devices {
+        if !enters(alloc, &bytes, device, *nodes)? {
+            return Ok(false);
+        }
+    }
+    Ok(true)
+}
+
 #[test]
 fn nodes_entered(rt: HostRuntime) -> Result<(), Fail> {
     for (i, row) in ROWS.iter().enumerate() {
-        let bytes = database_of(rt.alloc(), row)?;
-        for (device, nodes) in row.devices {
-            assert_eq!(rt; entered(rt.alloc(), &bytes, device, 1)?, *nodes, "row {i}");
-            assert_eq!(rt;
-                entered(rt.alloc(), &bytes, device, 1000)?,
-                *nodes,
-                "row {i}"
-            );
-        }
+        assert!(rt; holds(rt.alloc(), row)?, "row {i}");
     }
     Ok(())
 }
