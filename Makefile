@@ -27,7 +27,7 @@ CFLAGS ?= -O2
 WARNINGS := -std=c11 -Wall -Wextra -Werror
 HARDENED := -Wl,-z,relro -Wl,-z,now -Wl,-z,noexecstack -Wl,--no-undefined
 
-.PHONY: all lib demo check check-edits check-peer check-package bench install uninstall deb dist clean
+.PHONY: all lib linked-lib demo check check-edits check-peer check-package bench install uninstall deb dist clean
 
 all:
 	cd crates/hwdb && rt run -- ask /dev/null none
@@ -37,6 +37,9 @@ all:
 # The proved calls and c/hwdb.c as one object in which only the names of c/hwdb.map are left for others; c/udev.c over it.
 lib:
 	cd crates/hwdb_c && rt lib
+	$(MAKE) linked-lib
+
+linked-lib:
 	mkdir -p out
 	$(CC) $(WARNINGS) $(CFLAGS) -fPIC -c -o out/hwdb.o c/hwdb.c
 	ld -r -o out/libhwdb.o out/hwdb.o --whole-archive crates/hwdb_c/out/libhwdb_c.a --no-whole-archive \
@@ -57,9 +60,10 @@ check:
 	mkdir -p out
 	cp crates/hwdb/out/hwdb out/hwdb
 	tests/documents
-	tests/definitions hwdb_reader hwdb_pattern hwdb_text
+	tests/definitions hwdb_reader::laws::law_faultless hwdb_pattern hwdb_text::laws::lines_are_the_file
 	tests/refused
-	$(MAKE) lib
+	c/over-proved
+	$(MAKE) linked-lib
 	tests/words out/hwdb
 	tests/command-line out/hwdb
 	tests/installed out/hwdb
