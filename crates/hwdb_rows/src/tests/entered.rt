@@ -144,10 +144,10 @@ fn entered(alloc: Global, bytes: &[u8], device: &str, page: usize) -> Result<u64
     Ok(hits.entered())
 }
 
-/// Whether so many nodes are entered for a device, with pages of one hit and with one page for all.
+/// Whether so many nodes are entered for a device, with pages of one hit and with the largest page.
 fn enters(alloc: Global, bytes: &[u8], device: &str, nodes: u64) -> Result<bool, Fail> {
     let one_by_one = entered(alloc, bytes, device, 1)?;
-    let at_once = entered(alloc, bytes, device, 1000)?;
+    let at_once = entered(alloc, bytes, device, usize::MAX)?;
     Ok(one_by_one == nodes && at_once == nodes)
 }
 
