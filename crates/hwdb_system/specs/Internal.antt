@@ -1,13 +1,16 @@
 -- What the steps of an update hold, and what a store in memory answers.
-use Rattle.std.specs.Prelude.{◌≡◌, ◌≢◌, ◌≤◌, ◌⊎◌, All, length, ℕ, Bool, false, if◌then◌else◌, not, ◌||◌, is_some, List, [], ◌∷◌, ◌++◌, Option, Some, None, map}
+use Rattle.std.specs.Prelude.{IsUtf8, ◌≡◌, ◌≢◌, ◌≤◌, ◌⊎◌, All, length, ℕ, Bool, false, if◌then◌else◌, not, ◌||◌, is_some, List, [], ◌∷◌, ◌++◌, Option, Some, None, map}
 use Rattle.hwdb_spec.specs.Folders.{Choice, choice, names, max_files, path_of, counts}
 use Rattle.hwdb_spec.specs.Lines.{has}
 use Rattle.hwdb_spec.specs.Store.{Contents, path_in}
 use Rattle.hwdb_spec.specs.System.{AreNamesIn, bytes_at, etc_files, usr_files, IsNameIn}
 use Rattle.hwdb_text.specs.Views.{IsListed}
+use Rattle.hwdb_commands.specs.declared.errors.ToolError.TheVariants.{Memory, Read}
 use Rattle.hwdb_store.specs.Memory.{seen_of}
 use Rattle.hwdb_store.specs.declared.memory.Step.{Step}
 use Rattle.hwdb_store.specs.declared.memory.Step.TheVariants.{Changed, Moved}
+use Rattle.hwdb_system.specs.declared.refusals.Refusal.TheVariants.{At, Plain}
+use Rattle.hwdb_system.specs.declared.refusals.Refusal.{Refusal}
 
 -- the texts are what is read of the chosen files below a root
 abbrev pub AreTexts : (root : List ℕ) (contents : Contents) → List Choice → (texts : List (List ℕ)) → Type 0
@@ -22,6 +25,16 @@ abbrev pub made_by : Step → Option (List ℕ)
 made_by (Changed path file) = Some path.items
 made_by (Moved from to file loose) = Some to.items
 made_by _ = None
+
+-- the path is that of a name that isn't UTF-8
+abbrev pub IsMisnamed : (path : List ℕ) → Type 0
+IsMisnamed path = (folder name : List ℕ) × (path ≡ path_in folder name) × (IsUtf8 name → ⊥)
+
+-- a refusal that says so, or one of memory
+abbrev pub IsOfName : Refusal → Type 0
+IsOfName (At Read at cause) = IsMisnamed at.items
+IsOfName (Plain Memory) = Unit {0}
+IsOfName _ = ⊥
 
 -- one of the steps has a file stand under the path
 abbrev pub IsMade : List Step → (path : List ℕ) → Type 0

@@ -1,9 +1,11 @@
 -- The line that is printed of each refusal. Our choice; the words of a cause are those of strerror(3).
 use Rattle.hwdb_spec.specs.Failures.{HasFailed}
-use Rattle.std.specs.Prelude.{◌≡◌, ◌⊎◌, ℕ, List, [], ◌∷◌, ◌++◌, Option, None, Some, codes}
+use Rattle.std.specs.Prelude.{◌≡◌, ◌⊎◌, ◌<◌, ℕ, List, [], ◌∷◌, ◌++◌, Option, None, Some, IfSome, codes, length}
 use Rattle.std.specs.Io.KnownBytes.{Appends}
 use Rattle.hwdb_spec.specs.Lines.{byte}
-use Rattle.hwdb_spec.specs.Store.{path_in}
+use Rattle.hwdb_spec.specs.Store.{Contents, path_in}
+use Rattle.hwdb_spec.specs.System.{bytes_at}
+use Rattle.hwdb_spec.specs.Texts.{max_file}
 use Rattle.hwdb_commands.specs.Devices.{AppendsPrefix}
 use Rattle.hwdb_commands.specs.Refusals.{error_text}
 use Rattle.hwdb_devices.specs.declared.causes.Cause.{Cause}
@@ -53,6 +55,17 @@ IsUnread path _ = ⊥
 abbrev pub IsUnlisted : (folder : List ℕ) → Refusal → Type 0
 IsUnlisted folder (At Read at cause) = (at.items ≡ folder) ⊎ ((name : List ℕ) × (at.items ≡ path_in folder name))
 IsUnlisted folder refusal = IsUnread folder refusal
+
+-- a file can't be read: nothing stands at its path, or reading that may fail
+abbrev pub IsUnreadable : (MayFail : (path : List ℕ) → Type 0) → Contents → (path : List ℕ) → Type 0
+IsUnreadable MayFail contents path = (bytes_at contents path ≡ None) ⊎ MayFail path
+
+-- what a refusal says of a path is so: that it can't be read, that it can't be written, or that what stands there is too long
+abbrev pub HasReason : (Unreadable : (path : List ℕ) → Type 0) (Unwritable : Type 0) → Contents → Refusal → Type 0
+HasReason Unreadable Unwritable contents (At Read at cause) = Unreadable at.items
+HasReason Unreadable Unwritable contents (At Write at cause) = Unwritable
+HasReason Unreadable Unwritable contents (At TooLong at cause) = IfSome (bytes_at contents at.items) (λ bytes. max_file < length bytes)
+HasReason Unreadable Unwritable contents refusal = Unit {0}
 
 -- a refusal of this error over this path, or of memory
 abbrev pub IsAt : ToolError → (path : List ℕ) → Refusal → Type 0

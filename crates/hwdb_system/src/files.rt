@@ -3,6 +3,7 @@ ghost use Rattle.std.specs.Prelude.{◌≡◌, ◌≤◌, ◌++◌, [], None, If
 ghost use Rattle.hwdb_spec.specs.Failures.{after_failure, CountsFailures};
 ghost use Rattle.hwdb_spec.specs.Store as spec;
 ghost use Rattle.hwdb_spec.specs.Texts.{max_file};
+ghost use Rattle.hwdb_system.specs.Internal.{IsOfName};
 ghost use Rattle.hwdb_system.specs.Refusals.{IsUnread, IsUnlisted};
 
 use crate::refusals::Refusal;
@@ -60,6 +61,7 @@ fn bytes_of_path(alloc: Global, folder: &str, name: &[u8]) -> Result<Vec<u8>, Al
 pub fn text_of(alloc: Global, folder: &str, name: &[u8]) -> Result<String, Refusal>
     ensures text { IfOk result (λ text. string_bytes text ≡ name.now) }
     ensures refused { IfErr result (IsUnlisted folder.now) }
+    ensures reason { IfErr result IsOfName }
 {
     match from_utf8(name) {
         Ok(name) => Ok(String::from_str(alloc, name)?),
@@ -371,6 +373,8 @@ impl<'a, R: Files> System for SystemStore<'a, R>
 where
     R::File: Drop,
 {
+    ghost may_fail = { λ _ _. Unit {0} };
+
     fn names(&self, alloc: Global, folder: &str) -> Result<Vec<String>, Refusal> {
         names_in(alloc, self.rt, folder)
     }

@@ -5,7 +5,7 @@ ghost use Rattle.hwdb_spec.specs.System.{AreNamesIn, bytes_at};
 ghost use Rattle.hwdb_text.specs.Views.{IsStorableChoice, choice_of};
 ghost use Rattle.hwdb_compile.specs.Views.{bytes_in, choice_in};
 ghost use Rattle.hwdb_system.specs.Internal.{AreSelected, AreTexts};
-ghost use Rattle.hwdb_system.specs.Refusals.{IsUnlisted, IsUnread};
+ghost use Rattle.hwdb_system.specs.Refusals.{HasReason, IsUnlisted, IsUnread, IsUnreadable};
 ghost use Rattle.hwdb_system.specs.Reading.{AreUnread, IsChosenUnread};
 ghost use Rattle.hwdb_system.specs.declared.refusals.Refusal.TheVariants.{Plain};
 
@@ -37,6 +37,8 @@ pub fn selected<D: System>(alloc: Global, root: &str, system: &D) -> Result<Sele
         (λ s. AreSelected root.now (D.Store.seen system.now) (map string_bytes s.listed.items)
         (map choice_of s.chosen.items) (map (λ t. t.items) s.texts.items)) }
     ensures refused { D.Store.tells → IfErr result (AreUnread root.now (D.Store.seen system.now)) }
+    ensures reason { D.Store.tells → IfErr result
+        (HasReason (D.System.may_fail system.now) ⊥ (D.Store.seen system.now)) }
     ensures unread { IfErr result (λ r. r ≢ Plain ToolError.Write) }
 {
     let etc_names = listed(alloc, root, ETC_FILES, system)?;
@@ -60,6 +62,8 @@ fn listed<D: System>(
     ensures names { D.Store.tells → IfOk result (λ names. AreNamesIn (root.now ++ folder.now)
         (D.Store.seen system.now) (map string_bytes names.items)) }
     ensures refused { IfErr result (IsUnlisted (root.now ++ folder.now)) }
+    ensures reason { IfErr result
+        (HasReason (D.System.may_fail system.now) ⊥ (D.Store.seen system.now)) }
     ensures unread { IfErr result (λ r. r ≢ Plain ToolError.Write) }
 {
     let path = joined(alloc, root, folder)?;
@@ -76,6 +80,9 @@ fn read_file<D: System>(
     ensures read { D.Store.tells → IfOk result (λ bytes. bytes_at (D.Store.seen system.now)
         (root.now ++ path_of (choice_of file.now)) ≡ Some bytes.items) }
     ensures refused { IfErr result (IsUnread (root.now ++ path_of (choice_of file.now))) }
+    ensures reason { IfErr result (HasReason
+        (IsUnreadable (D.System.may_fail system.now) (D.Store.seen system.now)) ⊥
+        (D.Store.seen system.now)) }
     ensures unread { IfErr result (λ r. r ≢ Plain ToolError.Write) }
 {
     let stored = file.path(alloc)?;
@@ -95,6 +102,9 @@ fn read_chosen<D: System>(
         (map choice_of chosen.now) (map (λ t. t.items) texts.items)) }
     ensures refused { IfErr result (λ r. (r ≡ Plain ToolError.Memory)
         ⊎ IsChosenUnread root.now (map choice_of chosen.now) r) }
+    ensures reason { IfErr result (HasReason
+        (IsUnreadable (D.System.may_fail system.now) (D.Store.seen system.now)) ⊥
+        (D.Store.seen system.now)) }
     ensures unread { IfErr result (λ r. r ≢ Plain ToolError.Write) }
 {
     let mut texts = Vec::new(alloc);

@@ -2,8 +2,9 @@
 ghost use Rattle.std.specs.Prelude.{◌≡◌, ◌≤◌, Some, None, List, ℕ, IfOk, IfErr, IfSome, MatchOption, OnOk, map, option_map, string_bytes, vec_len};
 ghost use Rattle.hwdb_spec.specs.Store.{path_in};
 ghost use Rattle.hwdb_spec.specs.Texts.{max_file};
-ghost use Rattle.hwdb_system.specs.Internal.{IsNamedBy, IsPushed, bytes_after, is_text_file, made_by};
-ghost use Rattle.hwdb_system.specs.Refusals.{IsUnlisted, IsUnread};
+ghost use Rattle.hwdb_store.specs.Memory.{seen_of};
+ghost use Rattle.hwdb_system.specs.Internal.{IsMisnamed, IsNamedBy, IsOfName, IsPushed, bytes_after, is_text_file, made_by};
+ghost use Rattle.hwdb_system.specs.Refusals.{HasReason, IsUnlisted, IsUnread, IsUnreadable};
 
 use crate::files::text_of;
 use crate::refusals::Refusal;
@@ -46,6 +47,7 @@ fn file_after(alloc: Global, steps: &[Step], path: &[u8]) -> Result<Option<Vec<u
         (λ found. bytes_after steps.now path.now ≡ option_map (λ b. b.items) found) }
     ensures within { IfOk result (λ found. IfSome found (λ b. vec_len b ≤ max_file)) }
     ensures refused { IfErr result (IsUnread path.now) }
+    ensures reason { IfErr result (HasReason IsMisnamed ⊥ (seen_of steps.now)) }
 {
     let state = state_of(alloc, steps, path)?;
     match state.now {
@@ -62,6 +64,8 @@ fn read_after(alloc: Global, steps: &[Step], path: &[u8]) -> Result<Vec<u8>, Ref
     ensures bytes { IfOk result (λ b. bytes_after steps.now path.now ≡ Some b.items) }
     ensures within { IfOk result (λ b. vec_len b ≤ max_file) }
     ensures refused { IfErr result (IsUnread path.now) }
+    ensures reason { IfErr result
+        (HasReason (IsUnreadable IsMisnamed (seen_of steps.now)) ⊥ (seen_of steps.now)) }
 {
     match file_after(alloc, steps, path)? {
         Some(bytes) => Ok(bytes),
@@ -113,6 +117,7 @@ fn push_name(
     ensures pushed { OnOk result (IsPushed steps.now folder.now step.now
         (map string_bytes names.old.items) (map string_bytes names.new.items)) }
     ensures refused { IfErr result (IsUnlisted folder.now) }
+    ensures reason { IfErr result IsOfName }
 {
     if let Some(name) = named_by(alloc, steps, folder, step)? {
         let name = text_of(alloc, folder, name)?;
@@ -122,6 +127,8 @@ fn push_name(
 }
 
 impl System for Memory {
+    ghost may_fail = { λ _ path. IsMisnamed path };
+
     fn names(&self, alloc: Global, folder: &str) -> Result<Vec<String>, Refusal> {
         let mut names = Vec::new(alloc);
         for step in &self.steps {

@@ -13,10 +13,10 @@ use Rattle.hwdb_commands.specs.Updates.{IsUpdateRefusal, OnUnreplaced, UpdateUnd
 use Rattle.hwdb_commands.specs.declared.errors.ToolError.{ToolError}
 use Rattle.hwdb_commands.specs.declared.errors.ToolError.TheVariants.{Read, Write, TooLong, TooManyFiles, TooManyLines, TooLarge, BadPosition, PageZero, BadDatabase, Replace, Memory}
 use Rattle.hwdb_tasks.specs.Internal.{AreReadOf}
-use Rattle.hwdb_system.specs.Refusals.{IsOfUpdate}
+use Rattle.hwdb_system.specs.Refusals.{HasReason, IsOfUpdate}
 use Rattle.hwdb_tasks.specs.Undone.{AreKept, IsUpdateRefused, database_path}
 use Rattle.hwdb_system.specs.declared.refusals.Refusal.{Refusal}
-use Rattle.hwdb_system.specs.declared.refusals.Refusal.TheVariants.{Plain}
+use Rattle.hwdb_system.specs.declared.refusals.Refusal.TheVariants.{At, InWords, NoDatabase, Plain}
 
 is_write : ToolError → Type 0
 is_write Write = Unit {0}
@@ -49,6 +49,24 @@ unreplaced_of (Err BadPosition) tells told seen left P a b c so = tt
 unreplaced_of (Err PageZero) tells told seen left P a b c so = tt
 unreplaced_of (Err (BadDatabase fault)) tells told seen left P a b c so = tt
 unreplaced_of (Err Memory) tells told seen left P a b c so = tt
+
+-- a database that can't be replaced has its reason, and no other refusal needs one
+pub update_reason : (P : List ℕ → Type 0) (W : Type 0) (contents : Contents) (error : ToolError) (path : List ℕ) (refusal : Refusal) → IsOfUpdate error path refusal → OnUnreplaced (λ _. W) error
+    → HasReason P W contents refusal
+update_reason P W contents (Replace u) path (Plain e) is w = absurd is
+update_reason P W contents (Replace u) path NoDatabase is w = absurd is
+update_reason P W contents (Replace u) path (InWords text) is w = absurd is
+update_reason P W contents (Replace u) path (At e at cause) is w = subst (λ x. HasReason P W contents (At x at cause)) (sym is.0) w
+update_reason P W contents Read path refusal is w = subst (HasReason P W contents) (sym is) tt
+update_reason P W contents Write path refusal is w = subst (HasReason P W contents) (sym is) tt
+update_reason P W contents TooLong path refusal is w = subst (HasReason P W contents) (sym is) tt
+update_reason P W contents TooManyFiles path refusal is w = subst (HasReason P W contents) (sym is) tt
+update_reason P W contents TooManyLines path refusal is w = subst (HasReason P W contents) (sym is) tt
+update_reason P W contents TooLarge path refusal is w = subst (HasReason P W contents) (sym is) tt
+update_reason P W contents BadPosition path refusal is w = subst (HasReason P W contents) (sym is) tt
+update_reason P W contents PageZero path refusal is w = subst (HasReason P W contents) (sym is) tt
+update_reason P W contents (BadDatabase fault) path refusal is w = subst (HasReason P W contents) (sym is) tt
+update_reason P W contents Memory path refusal is w = subst (HasReason P W contents) (sym is) tt
 
 module _ {S W : Type 0} (seen : S → Contents) (left_by : S → Outcomes) (taken : W → Option (List ℕ)) (old new : S) (err_old err_new : W)
     (root : List ℕ) (usr verbose : Bool) (listed : List (List ℕ)) (files : List ChosenFile) (tells : Type 0) where

@@ -2,6 +2,7 @@
 -- what it refuses. Our choice.
 use Rattle.std.specs.Prelude.{◌≡◌, ◌<◌, ◌⊎◌, ℕ, Bool, true, false, List, [], ◌∷◌, Option, Some, IfSome, codes, length}
 use Rattle.std.specs.Str.{bytes_eq}
+use Rattle.hwdb_spec.specs.Failures.{HasFailed}
 use Rattle.hwdb_spec.specs.Store.{Contents}
 use Rattle.hwdb_spec.specs.System.{asked_database}
 use Rattle.hwdb_spec.specs.Texts.{devices_of, max_file}
@@ -11,7 +12,7 @@ use Rattle.hwdb_commands.specs.declared.errors.ToolError.TheVariants.{Read, TooL
 use Rattle.hwdb_commands.specs.declared.errors.ToolError.{ToolError}
 use Rattle.hwdb_stream.specs.Streams.{IfBadDatabase, IsStreamRefusal, texts_of}
 use Rattle.hwdb_system.specs.Refusals.{IsAt}
-use Rattle.hwdb_system.specs.declared.refusals.Refusal.TheVariants.{Plain}
+use Rattle.hwdb_system.specs.declared.refusals.Refusal.TheVariants.{At, Plain}
 use Rattle.hwdb_system.specs.declared.refusals.Refusal.{Refusal}
 use Rattle.hwdb_tasks.specs.Done.{IsAnswered}
 use Rattle.hwdb_tasks.specs.Undone.{IsAnswerRefused, IsUnfound}
@@ -35,6 +36,12 @@ abbrev pub IsOfInput : ToolError → Refusal → Type 0
 IsOfInput Read refusal = IsAt Read (codes "standard input") refusal
 IsOfInput TooLong refusal = IsAt TooLong (codes "a line of standard input") refusal
 IsOfInput error refusal = refusal ≡ Plain error
+
+-- what a refusal says of the input is so: that it can't be read, where a call of it failed, or that a line of it is too long
+abbrev pub IsInputUnread : (failures_before failures_now : ℕ) → Refusal → Type 0
+IsInputUnread before now (At Read at cause) = (at.items ≡ codes "standard input") × HasFailed before now
+IsInputUnread before now (At TooLong at cause) = at.items ≡ codes "a line of standard input"
+IsInputUnread before now refusal = ⊥
 
 -- answering the devices of the input was refused, and standard output has what it had, or a prefix
 pub record IsUnstreamed (root : List ℕ) (json : Bool) (input : Option (List ℕ)) (contents : Contents) (error : ToolError) (out_before out_now : Option (List ℕ)) : Type 0 where

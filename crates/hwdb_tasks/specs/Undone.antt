@@ -4,7 +4,8 @@ use Rattle.hwdb_spec.specs.Assignment.{Position}
 use Rattle.hwdb_spec.specs.Checks.{check_text}
 use Rattle.hwdb_spec.specs.Folders.{Source}
 use Rattle.hwdb_spec.specs.Progress.{listing, update_text}
-use Rattle.hwdb_spec.specs.Store.{Contents, Outcomes, NoMore, Same, database_name, path_in}
+use Rattle.hwdb_spec.specs.Failures.{HasFailed}
+use Rattle.hwdb_spec.specs.Store.{AreTaken, Contents, Outcomes, NoMore, Same, database_name, most_parts, path_in}
 use Rattle.hwdb_spec.specs.System.{AreFilesIn, asked_database, bytes_at, database_folder, etc_files, usr_files}
 use Rattle.hwdb_spec.specs.Texts.{IsSpelling, max_file}
 use Rattle.hwdb_store.specs.declared.replacement.Unreplaced.{Unreplaced}
@@ -111,6 +112,10 @@ pub record IsUnwritten (root : List ℕ) (usr : Bool) (of_etc of_usr : List Sour
   pub unreplaced : Unreplaced
   pub is : IsOver Write (database_path usr root) refusal
   pub undone : UpdateUndone of_etc of_usr listed (database_folder usr root) err_before err_then (Unit {0}) old new left_before left unreplaced
+
+-- the database of a folder can't be written: a call failed, or each name for the new file is taken
+abbrev pub IsUnwritable : (folder : List ℕ) → Contents → (failures_before failures_now : ℕ) → Type 0
+IsUnwritable folder contents before now = HasFailed before now ⊎ AreTaken folder most_parts contents
 
 -- the text files of both folders were read, and compiling them or putting their database in its place is refused
 pub record IsUpdateUndone (root : List ℕ) (usr verbose : Bool) (refusal : Refusal) (old new : Contents) (left_before left : Outcomes) (err_before err_then : Option (List ℕ)) : Type 0 where

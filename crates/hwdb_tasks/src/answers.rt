@@ -2,6 +2,7 @@
 ghost use Rattle.std.specs.Prelude.{◌≡◌, ◌≢◌, ◌⊎◌, option_map, IfErr, OnOk};
 ghost use Rattle.hwdb_spec.specs.Failures.{HasFailed};
 ghost use Rattle.hwdb_commands.specs.Lookups.{IsQueryRefusal, IsTextOf};
+ghost use Rattle.hwdb_system.specs.Refusals.{HasReason, IsUnreadable};
 ghost use Rattle.hwdb_tasks.specs.Done.{IsAnswered, IsAsked, IsListFrom, explain_form};
 ghost use Rattle.hwdb_tasks.specs.Undone.{IsAnswerRefused, IsAskRefused, IsListRefusedBy};
 ghost use Rattle.hwdb_system.specs.declared.refusals.Refusal.TheVariants.{Plain};
@@ -27,6 +28,8 @@ pub fn explain<D: System, O: Sink>(
     ensures refused { D.Store.tells → IfErr result (λ r. IsAnswerRefused root.now IsQueryRefusal
         (IsTextOf (explain_form json device.now))
         (D.Store.seen system.now) r (O.taken out.old) (O.taken out.new)) }
+    ensures reason { IfErr result
+        (HasReason (D.System.may_fail system.now) ⊥ (D.Store.seen system.now)) }
     ensures cause { IfErr result (λ r. r ≡ Plain ToolError.Write
         → HasFailed (O.failures out.old) (O.failures out.new)) }
 {
@@ -58,6 +61,8 @@ pub fn list<D: System, O: Sink>(
         (IsListRefusedBy (option_map (λ t. t.now) after.entry))
         (IsListFrom json device.now (option_map (λ t. t.now) after.entry) limit)
         (D.Store.seen system.now) r (O.taken out.old) (O.taken out.new)) }
+    ensures reason { IfErr result
+        (HasReason (D.System.may_fail system.now) ⊥ (D.Store.seen system.now)) }
     ensures cause { IfErr result (λ r. r ≡ Plain ToolError.Write
         → HasFailed (O.failures out.old) (O.failures out.new)) }
 {
@@ -85,6 +90,9 @@ pub fn ask_file<D: System, O: Sink, E: Sink>(
     ensures refused { D.Store.tells → IfErr result
         (λ r. IsAskRefused file.now device.now (D.Store.seen system.now) r
         (E.taken err.old) (E.taken err.new) (O.taken out.old) (O.taken out.new)) }
+    ensures reason { IfErr result (HasReason
+        (IsUnreadable (D.System.may_fail system.now) (D.Store.seen system.now)) ⊥
+        (D.Store.seen system.now)) }
     ensures unfailed { IfErr result (λ r. r ≢ Plain ToolError.Write
         → E.failures err.new ≡ E.failures err.old) }
     ensures cause { IfErr result (λ r. r ≡ Plain ToolError.Write

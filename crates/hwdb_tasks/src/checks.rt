@@ -3,6 +3,7 @@ ghost use Rattle.std.specs.Prelude.{◌≡◌, ◌≢◌, ◌≤◌, map, string
 ghost use Rattle.hwdb_spec.specs.Failures.{HasFailed};
 ghost use Rattle.hwdb_spec.specs.Folders.{path_of};
 ghost use Rattle.hwdb_text.specs.Views.{choice_of};
+ghost use Rattle.hwdb_system.specs.Refusals.{HasReason, IsUnreadable};
 ghost use Rattle.hwdb_tasks.specs.CheckedFiles.{AreCheckedFiles, AreChosenFiles, AreGivenFiles, IsChecked};
 ghost use Rattle.hwdb_tasks.specs.Internal.{AreTextsAt};
 ghost use Rattle.hwdb_tasks.specs.Undone.{AreUncheckable, IsCheckRefused, IsGivenUnread};
@@ -35,6 +36,9 @@ pub fn check<D: System, O: Sink>(
         (AreUncheckable (map string_bytes given.now) root.now (D.Store.seen system.now))
         (AreCheckedFiles (map string_bytes given.now) root.now (D.Store.seen system.now))
         r (O.taken out.old) (O.taken out.new)) }
+    ensures reason { D.Store.tells → IfErr result (HasReason
+        (IsUnreadable (D.System.may_fail system.now) (D.Store.seen system.now)) ⊥
+        (D.Store.seen system.now)) }
     ensures cause { IfErr result (λ r. r ≡ Plain ToolError.Write
         → HasFailed (O.failures out.old) (O.failures out.new)) }
 {
@@ -61,6 +65,9 @@ fn check_given<D: System, O: Sink>(
         (IsGivenUnread (map string_bytes given.now))
         (AreGivenFiles (map string_bytes given.now) (D.Store.seen system.now))
         r (O.taken out.old) (O.taken out.new)) }
+    ensures reason { IfErr result (HasReason
+        (IsUnreadable (D.System.may_fail system.now) (D.Store.seen system.now)) ⊥
+        (D.Store.seen system.now)) }
     ensures cause { IfErr result (λ r. r ≡ Plain ToolError.Write
         → HasFailed (O.failures out.old) (O.failures out.new)) }
 {
@@ -85,6 +92,9 @@ fn check_chosen<D: System, O: Sink>(
         (AreUnread root.now (D.Store.seen system.now))
         (AreChosenFiles root.now (D.Store.seen system.now))
         r (O.taken out.old) (O.taken out.new)) }
+    ensures reason { D.Store.tells → IfErr result (HasReason
+        (IsUnreadable (D.System.may_fail system.now) (D.Store.seen system.now)) ⊥
+        (D.Store.seen system.now)) }
     ensures cause { IfErr result (λ r. r ≡ Plain ToolError.Write
         → HasFailed (O.failures out.old) (O.failures out.new)) }
 {
@@ -104,6 +114,9 @@ fn read_given<D: System>(
     ensures read { D.Store.tells → IfOk result (λ texts. AreTextsAt (D.Store.seen system.now)
         (map string_bytes given.now) (map (λ t. t.items) texts.items)) }
     ensures refused { IfErr result (IsGivenUnread (map string_bytes given.now)) }
+    ensures reason { IfErr result (HasReason
+        (IsUnreadable (D.System.may_fail system.now) (D.Store.seen system.now)) ⊥
+        (D.Store.seen system.now)) }
     ensures unread { IfErr result (λ r. r ≢ Plain ToolError.Write) }
 {
     let mut texts = Vec::new(alloc);

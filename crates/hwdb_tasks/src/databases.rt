@@ -3,7 +3,7 @@ ghost use Rattle.std.specs.Prelude.{◌≡◌, ◌≢◌, ◌++◌, Some, option
 ghost use Rattle.hwdb_spec.specs.Store as spec;
 ghost use Rattle.hwdb_spec.specs.System as Folder;
 ghost use Rattle.hwdb_spec.specs.System.{asked_database, bytes_at};
-ghost use Rattle.hwdb_system.specs.Refusals.{IsUnread};
+ghost use Rattle.hwdb_system.specs.Refusals.{HasReason, IsUnread, IsUnreadable};
 ghost use Rattle.hwdb_tasks.specs.NamedDatabases.{IsNamedPath, IsUnnamed, named_database};
 ghost use Rattle.hwdb_tasks.specs.Undone.{IsAskedPath, IsUnfound};
 ghost use Rattle.hwdb_system.specs.declared.refusals.Refusal.TheVariants.{Plain};
@@ -35,6 +35,8 @@ pub fn asked<D: System>(alloc: Global, root: &str, system: &D) -> Result<Found, 
     ensures held { D.Store.tells → IfOk result
         (λ f. bytes_at (D.Store.seen system.now) (string_bytes f.path) ≡ Some f.bytes.items) }
     ensures refused { D.Store.tells → IfErr result (IsUnfound root.now (D.Store.seen system.now)) }
+    ensures reason { IfErr result
+        (HasReason (D.System.may_fail system.now) ⊥ (D.Store.seen system.now)) }
     ensures unread { IfErr result (λ r. r ≢ Plain ToolError.Write) }
 {
     if let Some(found) = found_in(alloc, root, ETC_FOLDER, system)? {
@@ -62,6 +64,8 @@ fn found_in<D: System>(
         (λ f. bytes_at (D.Store.seen system.now) (string_bytes f.path) ≡ Some f.bytes.items)) }
     ensures refused { IfErr result
         (IsUnread (spec.path_in (root.now ++ folder.now) spec.database_name)) }
+    ensures reason { IfErr result
+        (HasReason (D.System.may_fail system.now) ⊥ (D.Store.seen system.now)) }
     ensures unread { IfErr result (λ r. r ≢ Plain ToolError.Write) }
 {
     let folder = joined(alloc, root, folder)?;
@@ -89,6 +93,9 @@ pub fn named<D: System>(
         (λ f. bytes_at (D.Store.seen system.now) (string_bytes f.path) ≡ Some f.bytes.items) }
     ensures refused { D.Store.tells → IfErr result (IsUnnamed (option_map (λ t. t.now) given.entry)
         root.now (D.Store.seen system.now)) }
+    ensures reason { IfErr result (HasReason
+        (IsUnreadable (D.System.may_fail system.now) (D.Store.seen system.now)) ⊥
+        (D.Store.seen system.now)) }
     ensures unread { IfErr result (λ r. r ≢ Plain ToolError.Write) }
 {
     match given {
@@ -105,6 +112,9 @@ fn given_at<D: System>(alloc: Global, path: &str, system: &D) -> Result<Found, R
     ensures held { D.Store.tells → IfOk result
         (λ f. bytes_at (D.Store.seen system.now) (string_bytes f.path) ≡ Some f.bytes.items) }
     ensures refused { IfErr result (IsUnread path.now) }
+    ensures reason { IfErr result (HasReason
+        (IsUnreadable (D.System.may_fail system.now) (D.Store.seen system.now)) ⊥
+        (D.Store.seen system.now)) }
     ensures unread { IfErr result (λ r. r ≢ Plain ToolError.Write) }
 {
     let bytes = system.input(alloc, path)?;

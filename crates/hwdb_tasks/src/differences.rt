@@ -1,6 +1,7 @@
 //! `diff`: two databases that are read and compared.
 ghost use Rattle.std.specs.Prelude.{◌≡◌, ◌≤◌, IfOk, IfErr};
 ghost use Rattle.hwdb_spec.specs.Failures.{HasFailed};
+ghost use Rattle.hwdb_system.specs.Refusals.{HasReason, IsUnreadable};
 ghost use Rattle.hwdb_tasks.specs.ComparedDatabases.{IsCompared, IsDiffRefused, IsOfDiff};
 ghost use Rattle.hwdb_system.specs.declared.refusals.Refusal.TheVariants.{Plain};
 
@@ -26,6 +27,9 @@ pub fn diff<D: System, O: Sink>(
     ensures refused { D.Store.tells → IfErr result
         (λ r. IsDiffRefused old_path.now new_path.now (D.Store.seen system.now) r
         (O.taken out.old) (O.taken out.new)) }
+    ensures reason { IfErr result (HasReason
+        (IsUnreadable (D.System.may_fail system.now) (D.Store.seen system.now)) ⊥
+        (D.Store.seen system.now)) }
     ensures cause { IfErr result (λ r. r ≡ Plain ToolError.Write
         → HasFailed (O.failures out.old) (O.failures out.new)) }
 {

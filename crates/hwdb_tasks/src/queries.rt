@@ -1,11 +1,12 @@
 //! `query`: what each of several devices gets, those of the words or those that standard input names.
-ghost use Rattle.std.specs.Prelude.{◌≡◌, ◌≢◌, false, map, string_bytes, IfErr, IfSome, OnOk};
+ghost use Rattle.std.specs.Prelude.{◌≡◌, ◌≢◌, ◌⊎◌, true, false, map, string_bytes, IfErr, IfSome, OnOk};
 ghost use Rattle.hwdb_spec.specs.Failures.{HasFailed};
 ghost use Rattle.hwdb_spec.specs.Texts.{devices_of};
 ghost use Rattle.hwdb_commands.specs.Lookups.{IsQueryRefusal, IsTextOf};
 ghost use Rattle.hwdb_stream.specs.Streams.{texts_of};
+ghost use Rattle.hwdb_system.specs.Refusals.{HasReason};
 ghost use Rattle.hwdb_tasks.specs.Done.{IsAnswered};
-ghost use Rattle.hwdb_tasks.specs.Queries.{AreAnswered, AreUnanswered, IsOfInput, IsStreamRefused, is_input};
+ghost use Rattle.hwdb_tasks.specs.Queries.{AreAnswered, AreUnanswered, IsInputUnread, IsOfInput, IsStreamRefused, is_input};
 ghost use Rattle.hwdb_tasks.specs.Undone.{IsAnswerRefused};
 ghost use Rattle.hwdb_system.specs.declared.refusals.Refusal.TheVariants.{Plain};
 
@@ -34,6 +35,10 @@ pub fn query<D: System, I: Source, O: Sink>(
         (map string_bytes devices.now) (I.left input.old) (D.Store.seen system.now) r
         (O.taken out.old) (O.taken out.new)) }
     ensures unread { is_input (map string_bytes devices.now) ≡ false → input.new ≡ input.old }
+    ensures reason { IfErr result (λ r.
+        HasReason (D.System.may_fail system.now) ⊥ (D.Store.seen system.now) r
+        ⊎ ((is_input (map string_bytes devices.now) ≡ true)
+        × IsInputUnread (I.failures input.old) (I.failures input.new) r)) }
     ensures cause { IfErr result (λ r. r ≡ Plain ToolError.Write
         → HasFailed (O.failures out.old) (O.failures out.new)) }
 {
@@ -68,6 +73,8 @@ fn query_given<D: System, O: Sink>(
     ensures refused { D.Store.tells → IfErr result (λ r. IsAnswerRefused root.now IsQueryRefusal
         (IsTextOf (texts_of json (map string_bytes devices.now)))
         (D.Store.seen system.now) r (O.taken out.old) (O.taken out.new)) }
+    ensures reason { IfErr result
+        (HasReason (D.System.may_fail system.now) ⊥ (D.Store.seen system.now)) }
     ensures cause { IfErr result (λ r. r ≡ Plain ToolError.Write
         → HasFailed (O.failures out.old) (O.failures out.new)) }
 {
@@ -94,6 +101,9 @@ fn query_input<D: System, I: Source, O: Sink>(
         (D.Store.seen system.now) (O.taken out.old) (O.taken out.new))) }
     ensures refused { D.Store.tells → IfErr result (λ r. IsStreamRefused root.now json
         (I.left input.old) (D.Store.seen system.now) r (O.taken out.old) (O.taken out.new)) }
+    ensures reason { IfErr result (λ r.
+        HasReason (D.System.may_fail system.now) ⊥ (D.Store.seen system.now) r
+        ⊎ IsInputUnread (I.failures input.old) (I.failures input.new) r) }
     ensures cause { IfErr result (λ r. r ≡ Plain ToolError.Write
         → HasFailed (O.failures out.old) (O.failures out.new)) }
 {

@@ -11,7 +11,8 @@ ghost use Rattle.hwdb_store.specs.Views.{failures_after};
 ghost use Rattle.hwdb_commands.specs.Devices.{AppendsPrefix};
 ghost use Rattle.hwdb_commands.specs.Updates.{IsUpdateRefusal, OldOrWritten, OnUnreplaced, UpdateUndone, Updated};
 ghost use Rattle.hwdb_tasks.specs.Done.{IsUpdated, OldOrUpdated};
-ghost use Rattle.hwdb_tasks.specs.Undone.{IsUpdateRefused};
+ghost use Rattle.hwdb_system.specs.Refusals.{HasReason};
+ghost use Rattle.hwdb_tasks.specs.Undone.{IsUnwritable, IsUpdateRefused};
 ghost use Rattle.hwdb_system.specs.declared.refusals.Refusal.TheVariants.{Plain};
 
 use crate::databases::database_folder;
@@ -56,6 +57,9 @@ fn update_files<S: Store, E: Sink>(
     ensures counted { IfErr result (OnUnreplaced
         (λ u. (E.failures err.new ≡ E.failures err.old)
         × (S.failures store.new ≡ failures_after u (S.failures store.old)))) }
+    ensures unwritten { S.tells → IfErr result (OnUnreplaced
+        (λ _. IsUnwritable folder.now (S.seen store.old)
+        (S.failures store.old) (S.failures store.new))) }
     ensures last { IsErrOf result ToolError.Write
         → OneFailed (E.failures err.old) (E.failures err.new) × (store.new ≡ store.old) }
     ensures cause { IsErrOf result ToolError.Write
@@ -107,6 +111,9 @@ pub fn update<D: System, E: Sink>(
         (D.Store.seen system.old) (D.Store.seen system.new)
         (D.Store.may_leave system.old) (D.Store.may_leave system.new)
         (E.taken err.old) (E.taken err.new)) }
+    ensures reason { D.Store.tells → IfErr result (HasReason (D.System.may_fail system.old)
+        (IsUnwritable (Folder.database_folder usr root.now) (D.Store.seen system.old)
+        (D.Store.failures system.old) (D.Store.failures system.new)) (D.Store.seen system.old)) }
     ensures unfailed { IfErr result (λ r. r ≢ Plain ToolError.Write
         → E.failures err.new ≡ E.failures err.old) }
     ensures cause { IfErr result (λ r. r ≡ Plain ToolError.Write

@@ -6,3 +6,8 @@ use Rattle.std.specs.Result.{IsErrAnd}
 pub given_error : {T E : Type 0} (e : E) (P : E → Type 0) (r : Result T E) → IsErrAnd r (λ x. x ≡ e) → P e → IfErr r P
 given_error e P (Ok x) is p = tt
 given_error e P (Err x) is p = subst P (sym is) p
+
+-- of an error what follows from a property
+pub each_error : {T E : Type 0} (P Q : E → Type 0) (r : Result T E) → ((e : E) → P e → Q e) → IfErr r P → IfErr r Q
+each_error P Q (Ok x) f p = tt
+each_error P Q (Err x) f p = f x p

@@ -1,6 +1,6 @@
 -- Which refusals end a task, when each comes, and what it leaves: the files, what standard error had taken before the
 -- refusal's line, and standard output. Our choice.
-use Rattle.std.specs.Prelude.{◌≡◌, ◌≢◌, ◌⊎◌, ℕ, Bool, List, Option, map, option_map, string_bytes, codes}
+use Rattle.std.specs.Prelude.{◌≡◌, ◌≢◌, ◌⊎◌, ℕ, Bool, true, List, Option, map, option_map, string_bytes, codes}
 use Rattle.hwdb_cli.specs.Words.{AskFor, AreToldBy}
 use Rattle.hwdb_cli.specs.declared.job.Job.{Job}
 use Rattle.hwdb_cli.specs.declared.job.Task.TheVariants.{Ask, Check, Diff, Dump, Explain, List as ListHits, Query, Update, Verify}
@@ -8,6 +8,7 @@ use Rattle.hwdb_cli.specs.declared.job.Task.{Task}
 use Rattle.hwdb_cli.specs.declared.job.WordsFault.TheVariants as words_fault
 use Rattle.hwdb_cli.specs.declared.job.WordsFault.{WordsFault}
 use Rattle.hwdb_spec.specs.Store.{Contents, Outcomes}
+use Rattle.hwdb_spec.specs.System.{database_folder}
 use Rattle.hwdb_commands.specs.Devices.{AppendsPrefix}
 use Rattle.hwdb_commands.specs.Lookups.{IsQueryRefusal, IsTextOf}
 use Rattle.hwdb_commands.specs.declared.errors.ToolError.TheVariants.{Memory, Write}
@@ -15,12 +16,12 @@ use Rattle.hwdb_tasks.specs.CheckedFiles.{AreCheckedFiles}
 use Rattle.hwdb_tasks.specs.ComparedDatabases.{IsDiffRefused}
 use Rattle.hwdb_tasks.specs.NamedDatabases.{IsDumpRefused, IsVerifyRefused}
 use Rattle.hwdb_tasks.specs.Done.{IsListFrom, explain_form}
-use Rattle.hwdb_tasks.specs.Queries.{AreUnanswered}
-use Rattle.hwdb_tool.specs.Program.{root_of}
-use Rattle.hwdb_system.specs.Refusals.{IsAt, Refused, refusal_line, refusal_text}
+use Rattle.hwdb_tasks.specs.Queries.{AreUnanswered, IsInputUnread}
+use Rattle.hwdb_tool.specs.Program.{reads_input, root_of}
+use Rattle.hwdb_system.specs.Refusals.{HasReason, IsAt, IsUnreadable, Refused, refusal_line, refusal_text}
 use Rattle.hwdb_system.specs.declared.refusals.Refusal.TheVariants.{Plain}
 use Rattle.hwdb_system.specs.declared.refusals.Refusal.{Refusal}
-use Rattle.hwdb_tasks.specs.Undone.{AreKept, AreUncheckable, IsAnswerRefused, IsAskRefused, IsCheckRefused, IsListRefusedBy, IsUpdateRefused}
+use Rattle.hwdb_tasks.specs.Undone.{AreKept, AreUncheckable, IsAnswerRefused, IsAskRefused, IsCheckRefused, IsListRefusedBy, IsUnwritable, IsUpdateRefused}
 
 -- a sink as it tells: what it took, and how many of its calls failed
 pub record Taken : Type 0 where
@@ -52,6 +53,26 @@ IsTaskRefused (Verify database) root usr input refusal old new left_before left 
 IsTaskRefused (Dump database) root usr input refusal old new left_before left err_before err_then out_before out_now =
     IsDumpRefused (option_map string_bytes database) root old refusal out_before out_now × (err_then ≡ err_before) × AreKept old new left_before left
 
+-- a path that the task asks for can't be read: nothing stands under one that its words name, or reading may fail
+abbrev pub IsUnreadableFor : Task → (MayFail : (path : List ℕ) → Type 0) → Contents → (path : List ℕ) → Type 0
+IsUnreadableFor (Ask file device) MayFail contents = IsUnreadable MayFail contents
+IsUnreadableFor (Check files) MayFail contents = IsUnreadable MayFail contents
+IsUnreadableFor (Diff old_path new_path) MayFail contents = IsUnreadable MayFail contents
+IsUnreadableFor (Verify database) MayFail contents = IsUnreadable MayFail contents
+IsUnreadableFor (Dump database) MayFail contents = IsUnreadable MayFail contents
+IsUnreadableFor _ MayFail contents = MayFail
+
+-- counts of failed calls: how many there were before, and how many there are now
+pub record Counts : Type 0 where
+  pub before : ℕ
+  pub now : ℕ
+
+-- what the refusal of a job says of a path, or of standard input, is so
+abbrev pub IsJobReason : (MayFail : (path : List ℕ) → Type 0) → Contents → (files input : Counts) → Job → Refusal → Type 0
+IsJobReason MayFail old files input job refusal =
+    HasReason (IsUnreadableFor job.task MayFail old) (IsUnwritable (database_folder job.usr (root_of job)) old files.before files.now) old refusal
+    ⊎ ((reads_input job.task ≡ true) × IsInputUnread input.before input.now refusal)
+
 -- the status where a task is refused: 2 of `diff`, whose 1 says that something changed, else 1
 abbrev pub refused_status : Task → ℕ
 refused_status (Diff old_path new_path) = 2
@@ -68,13 +89,15 @@ pub record IsSaid (refusal : Refusal) (before now : Taken) : Type 0 where
   pub words : List ℕ
   pub line : Refused (refusal_line (refusal_text said words)) before.bytes now.bytes before.failures now.failures
 
--- The words ask for a job, and it is refused with this status. Standard error had failed by then only where the refusal is that it did.
-pub record IsJobRefused (words : List (List ℕ)) (status : ℕ) (input : Option (List ℕ)) (old new : Contents) (left_before left : Outcomes) (err_before err_now : Taken) (out_before out_now : Option (List ℕ)) : Type 0 where
+-- The words ask for a job, and it is refused with this status, for its reason. Standard error had failed by then only where
+-- the refusal is that it did.
+pub record IsJobRefused (IsReason : Job → Refusal → Type 0) (words : List (List ℕ)) (status : ℕ) (input : Option (List ℕ)) (old new : Contents) (left_before left : Outcomes) (err_before err_now : Taken) (out_before out_now : Option (List ℕ)) : Type 0 where
   pub job : Job
   pub asked : AskFor words job
   pub refusal : Refusal
   pub err_then : Taken
   pub refused : IsTaskRefused job.task (root_of job) job.usr input refusal old new left_before left err_before.bytes err_then.bytes out_before out_now
+  pub reason : IsReason job refusal
   pub unfailed : refusal ≢ Plain Write → err_then.failures ≡ err_before.failures
   pub said : IsSaid refusal err_then err_now
   pub says : status ≡ refused_status job.task

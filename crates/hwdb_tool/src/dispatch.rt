@@ -6,7 +6,7 @@ ghost use Rattle.hwdb_cli.specs.Refusals.{AreWrong};
 ghost use Rattle.hwdb_cli.specs.Words.{AskFor};
 ghost use Rattle.hwdb_cli.specs.declared.job.Job.{Job};
 ghost use Rattle.hwdb_tool.specs.Program.{IsDone, IsJobDone, IsTold, OldOrAskedFor, OldOrDone, reads_input, root_of};
-ghost use Rattle.hwdb_tool.specs.TaskRefusals.{AreRefused, IsJobRefused, IsSaid, IsTaskRefused, refused_status};
+ghost use Rattle.hwdb_tool.specs.TaskRefusals.{AreRefused, IsJobReason, IsJobRefused, IsSaid, IsTaskRefused, refused_status};
 ghost use Rattle.hwdb_system.specs.declared.refusals.Refusal.TheVariants.{Plain};
 
 use hwdb_cli::{Job, Task, WordsFault, read_words};
@@ -48,7 +48,10 @@ pub fn program<D: System, I: Source, O: Sink, E: Sink>(
         (I.left input.old) (D.Store.seen system.old) (D.Store.seen system.new)
         (D.Store.may_leave system.new)
         (E.taken err.old) (E.taken err.new) (O.taken out.old) (O.taken out.new)
-        ⊎ (IsJobRefused (map string_bytes words.now) result (I.left input.old)
+        ⊎ (IsJobRefused (IsJobReason (D.System.may_fail system.old) (D.Store.seen system.old)
+        (record { before = D.Store.failures system.old; now = D.Store.failures system.new })
+        (record { before = I.failures input.old; now = I.failures input.new }))
+        (map string_bytes words.now) result (I.left input.old)
         (D.Store.seen system.old) (D.Store.seen system.new)
         (D.Store.may_leave system.old) (D.Store.may_leave system.new)
         (record { bytes = E.taken err.old; failures = E.failures err.old })
@@ -145,6 +148,11 @@ fn run<D: System, I: Source, O: Sink, E: Sink>(
         (D.Store.seen system.old) (D.Store.seen system.new)
         (D.Store.may_leave system.old) (D.Store.may_leave system.new)
         (E.taken err.old) (E.taken err.new) (O.taken out.old) (O.taken out.new)) }
+    ensures reason { D.Store.tells → IfErr result
+        (IsJobReason (D.System.may_fail system.old) (D.Store.seen system.old)
+        (record { before = D.Store.failures system.old; now = D.Store.failures system.new })
+        (record { before = I.failures input.old; now = I.failures input.new })
+        job.now) }
     ensures unfailed { IfErr result (λ r. r ≢ Plain ToolError.Write
         → E.failures err.new ≡ E.failures err.old) }
     ensures cause { IfErr result (λ r. r ≡ Plain ToolError.Write

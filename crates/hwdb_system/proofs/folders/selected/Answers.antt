@@ -4,6 +4,8 @@ use Rattle.hwdb_spec.specs.Folders.{choice, max_files, names}
 use Rattle.hwdb_spec.specs.System.{etc_files, usr_files, AreNamesIn}
 use Rattle.hwdb_system.specs.Internal.{AreTexts}
 use Rattle.hwdb_system.specs.Reading.{AreUnread}
+use Rattle.hwdb_system.specs.Refusals.{HasReason}
+use Rattle.hwdb_system.proofs.ReasonLemmas.{chosen_reason}
 use Rattle.hwdb_system.proofs.SelectionLemmas.{choice_refused, given_error, texts_refused}
 use Rattle.hwdb_system.proofs.folders.selected.Goals as goal
 
@@ -22,6 +24,17 @@ returns-in_err-texts-clause-refused g c = λ tells.
     (subst (λ l. AreNamesIn (etc_files c.args.root.now) (g.D.Store.seen c.args.system.now) (map string_bytes l)) (sym c.deref.ensures.value) (c.in_ok-etc_names.ensures.names tells))
     (subst (λ l. AreNamesIn (usr_files c.args.root.now) (g.D.Store.seen c.args.system.now) (map string_bytes l)) (sym c.deref-2.ensures.value) (c.in_ok-usr_names.ensures.names tells))
     (ap (map choice_of) c.deref-3.ensures.value ∙ c.in_ok-chosen.ensures.chosen) c.in_err-texts.ensures.refused)
+
+pub returns-in_err-texts-clause-reason : goal.returns-in_err-texts-clause-reason
+returns-in_err-texts-clause-reason g c = λ tells.
+    let seen = g.D.Store.seen c.args.system.now in
+    let fails = g.D.System.may_fail c.args.system.now in
+    given_error _ (HasReason fails ⊥ seen) c.from_residual-in_err-texts.result c.from_residual-in_err-texts.ensures.1
+    (chosen_reason fails c.args.root.now seen (map string_bytes c.deref.result.now) (map string_bytes c.deref-2.result.now) (map choice_of c.deref-3.result.now) c.in_err-texts.field-0.0
+    (subst (λ l. AreNamesIn (etc_files c.args.root.now) seen (map string_bytes l)) (sym c.deref.ensures.value) (c.in_ok-etc_names.ensures.names tells))
+    (subst (λ l. AreNamesIn (usr_files c.args.root.now) seen (map string_bytes l)) (sym c.deref-2.ensures.value) (c.in_ok-usr_names.ensures.names tells))
+    (subst (λ l. All (IsListed (map string_bytes c.deref.result.now) (map string_bytes c.deref-2.result.now)) (map choice_of l)) (sym c.deref-3.ensures.value) c.in_ok-chosen.ensures.listed)
+    c.in_err-texts.ensures.refused c.in_err-texts.ensures.reason)
 
 pub returns-clause-selected : goal.returns-clause-selected
 returns-clause-selected g c = λ tells. record {

@@ -10,12 +10,12 @@ use Rattle.hwdb_spec.specs.Store.{InPlace, database_name, path_in}
 use Rattle.hwdb_spec.specs.System.{database_folder}
 use Rattle.hwdb_tasks.specs.Internal.{AreReadOf}
 use Rattle.hwdb_system.specs.Refusals.{IsOfUpdate}
-use Rattle.hwdb_tasks.specs.Undone.{IsUpdateRefused, database_path}
+use Rattle.hwdb_tasks.specs.Undone.{IsUnwritable, IsUpdateRefused, database_path}
 use Rattle.hwdb_system.specs.declared.refusals.Refusal.TheVariants.{Plain}
 use Rattle.hwdb_tasks.proofs.FolderLemmas.{are_read}
 use Rattle.hwdb_tasks.proofs.MomentLemmas.{leaves_old_or_updated}
 use Rattle.hwdb_tasks.proofs.ErrorLemmas.{given_error}
-use Rattle.hwdb_tasks.proofs.UpdateLemmas.{update_refused}
+use Rattle.hwdb_tasks.proofs.UpdateLemmas.{update_reason, update_refused}
 use Rattle.hwdb_tasks.proofs.updates.update.Goals as goal
 
 pub returns-in_err-selection-clause-refused : goal.returns-in_err-selection-clause-refused
@@ -133,3 +133,11 @@ returns-clause-refused g c = λ tells.
     (λ is. (c.in-Err.ensures.last (ap Err is)).1)
     (λ is. subst (λ n. ForFolders c.deref-3.result.now (λ e u. AppendsPrefix (g.E.Sink.taken c.args.err.now) (g.E.Sink.taken c.update_files.new.err) (update_text n e u))) names (c.in-Err.ensures.cut_short (ap Err is)))
     c.in-Err.ensures.untouched
+
+pub returns-clause-reason : goal.returns-clause-reason
+returns-clause-reason g c = λ tells.
+    let seen = g.D.Store.seen c.args.system.now in
+    let before = g.D.Store.failures c.args.system.now in
+    let now = g.D.Store.failures c.update_files.new.store in
+    update_reason (g.D.System.may_fail c.args.system.now) (IsUnwritable (database_folder c.args.usr c.args.root.now) seen before now) seen c.in-Err.error _ c.of_update.result c.of_update.ensures
+    (subst (λ f. OnUnreplaced (λ _. IsUnwritable f seen before now) c.in-Err.error) (c.as_str-2.ensures.value ∙ c.in_ok-folder.ensures) (c.in-Err.ensures.unwritten tells))

@@ -11,6 +11,7 @@ returns-in-Ok-clause-refused g c = λ tells is. inr (inl record {
   refusal = c.in-Err.refusal;
   err_then = record { bytes = g.E.Sink.taken c.run.new.err; failures = g.E.Sink.failures c.run.new.err };
   refused = c.in-Err.ensures.refused tells;
+  reason = c.in-Err.ensures.reason tells;
   unfailed = c.in-Err.ensures.unfailed;
   said = c.refuse_job.ensures.line is;
   says = ⊎_elim (λ none. absurd (let h = none in omega (arith, is, h))) (λ same. same ∙ c.refused_status.ensures.is) c.refuse_job.ensures.status;

@@ -2,11 +2,13 @@ use Rattle.std.proofs.Common.{inl, inr, ⊎_elim, refl, string_bytes, subst, sym
 use Rattle.std.specs.Prelude.{option_map}
 use Rattle.hwdb_tasks.specs.Done.{IsListFrom, OldOrUpdated}
 use Rattle.hwdb_tool.specs.Program.{OldOrDone, root_of}
-use Rattle.hwdb_tasks.specs.Undone.{IsAnswerRefused, IsListRefusedBy}
-use Rattle.hwdb_tool.specs.TaskRefusals.{IsTaskRefused}
+use Rattle.hwdb_spec.specs.System.{database_folder}
+use Rattle.hwdb_system.specs.Refusals.{HasReason}
+use Rattle.hwdb_tasks.specs.Undone.{IsAnswerRefused, IsListRefusedBy, IsUnwritable}
+use Rattle.hwdb_tool.specs.TaskRefusals.{Counts, IsJobReason, IsTaskRefused, IsUnreadableFor}
 use Rattle.hwdb_tasks.specs.Done.{IsLeftByUpdate}
 use Rattle.hwdb_tool.proofs.MomentLemmas.{leaves_more}
-use Rattle.hwdb_tool.proofs.ErrorLemmas.{given_error}
+use Rattle.hwdb_tool.proofs.ErrorLemmas.{each_error, given_error}
 use Rattle.hwdb_tool.proofs.dispatch.run.Goals as goal
 
 pub returns-in-Update-clause-any_moment : goal.returns-in-Update-clause-any_moment
@@ -17,6 +19,18 @@ returns-in-Update-clause-any_moment g c = λ tells.
     (OldOrUpdated c.root_of-root.result.now c.args.job.now.usr seen left) (OldOrDone c.args.job.now seen left)
     (λ p v now. ⊎_elim (λ was. inl was) (λ l. inr ((c.in-Update.verbose, c.in-Update.is), subst (λ r. IsLeftByUpdate r c.args.job.now.usr seen p v) c.root_of-root.ensures l)) now)
     (c.update.ensures.any_moment tells)
+
+pub returns-in-Update-clause-reason : goal.returns-in-Update-clause-reason
+returns-in-Update-clause-reason g c = λ tells.
+    let job = c.args.job.now in
+    let seen = g.D.Store.seen c.args.system.now in
+    let fails = g.D.System.may_fail c.args.system.now in
+    let files : Counts = record { before = g.D.Store.failures c.args.system.now; now = g.D.Store.failures c.update.new.system } in
+    let input : Counts = record { before = g.I.Source.failures c.args.input.now; now = g.I.Source.failures c.args.input.now } in
+    each_error _ (IsJobReason fails seen files input job) c.update.result
+    (λ r has. inl (subst (λ t. HasReason (IsUnreadableFor t fails seen) (IsUnwritable (database_folder job.usr (root_of job)) seen files.before files.now) seen r) (sym c.in-Update.is)
+    (subst (λ root. HasReason fails (IsUnwritable (database_folder job.usr root) seen files.before files.now) seen r) c.root_of-root.ensures has)))
+    (c.update.ensures.reason tells)
 
 pub returns-in_err-list-in-List-clause-refused : goal.returns-in_err-list-in-List-clause-refused
 returns-in_err-list-in-List-clause-refused g c = λ tells.
