@@ -27,7 +27,7 @@ CFLAGS ?= -O2
 WARNINGS := -std=c11 -Wall -Wextra -Werror
 HARDENED := -Wl,-z,relro -Wl,-z,now -Wl,-z,noexecstack -Wl,--no-undefined
 
-.PHONY: all lib linked-lib demo check check-edits check-peer check-package bench install uninstall deb dist clean
+.PHONY: all lib linked-lib demo check scripts check-edits check-peer check-package bench install uninstall deb dist clean
 
 all:
 	cd crates/hwdb && rt run -- ask /dev/null none
@@ -59,26 +59,31 @@ check:
 	rt ci
 	mkdir -p out
 	cp crates/hwdb/out/hwdb out/hwdb
-	tests/documents
+	$(MAKE) --no-print-directory --jobs=4 --output-sync=target scripts
+	tests/growth out/hwdb
+	tests/hostile out/hwdb
+
+# What tries the built program and library, in lanes, the longest first; growth and hostile, which look at times, stand by
+# themselves.
+scripts: try-memory try-definitions try-over-proved try-random try-rows try-crash try-documents try-refused try-words \
+	try-command-line try-installed try-library try-readme try-runs try-folders
+
+try-definitions:
 	tests/definitions hwdb_reader::laws::law_faultless hwdb_pattern hwdb_text::laws::lines_are_the_file
-	tests/refused
+
+# The C library, over what `rt ci` proved.
+try-over-proved:
 	c/over-proved
 	$(MAKE) linked-lib
-	tests/words out/hwdb
-	tests/command-line out/hwdb
-	tests/installed out/hwdb
-	tests/library out/hwdb
-	tests/readme out/hwdb
-	tests/runs out/hwdb
-	tests/crash out/hwdb
-	tests/growth out/hwdb
-	tests/folders out/hwdb
-	tests/hostile out/hwdb
-	tests/rows out/hwdb
-	tests/memory out/hwdb
-	tests/random out/hwdb
 
-# Wrong bodies and wrong definitions beyond those of `make check`; CRATES="hwdb_query hwdb_text" tries those of some crates.
+try-installed try-library: try-over-proved
+
+try-documents try-refused: try-%:
+	tests/$*
+
+try-%:
+	tests/$* out/hwdb
+
 check-edits:
 	tests/wrong-bodies $(CRATES)
 	tests/definitions $(CRATES)

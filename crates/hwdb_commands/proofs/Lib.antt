@@ -1,6 +1,5 @@
 pub mod DeviceTextLemmas
 pub mod ExplanationLemmas
-pub mod FailureLemmas
 pub mod HitLineLemmas
 pub mod RefusalLemmas
 pub mod UpdateLemmas

@@ -1,5 +1,3 @@
-pub mod Devices
-pub mod Refusals
 pub mod Lookups
 pub mod Updates
 pub mod JsonTokens

@@ -3,11 +3,12 @@ use Rattle.std.specs.Prelude.{ℕ, List, [], ◌∷◌, Bool, true, false, ◌�
 use Rattle.std.specs.Borrow.{Bor}
 use Rattle.std.specs.Io.KnownBytes.{Appends}
 use Rattle.hwdb_spec.specs.Lines.{byte}
-use Rattle.hwdb_spec.specs.Format.{IsDatabase, Applies}
+use Rattle.hwdb_spec.specs.Format.{IsDatabase}
 use Rattle.hwdb_spec.specs.Tree.{Tree, answers_after}
 use Rattle.hwdb_spec.specs.declared.DbFault.{DbFault}
-use Rattle.hwdb_commands.specs.declared.errors.ToolError.TheVariants.{BadDatabase, Memory, Write, BadPosition}
-use Rattle.hwdb_commands.specs.declared.errors.ToolError.{ToolError}
+use Rattle.hwdb_transfer.specs.Databases.{IsNoDatabase, IsTextOf}
+use Rattle.hwdb_transfer.specs.declared.errors.ToolError.TheVariants.{BadDatabase, Memory, Write, BadPosition}
+use Rattle.hwdb_transfer.specs.declared.errors.ToolError.{ToolError}
 use Rattle.hwdb_commands.specs.declared.hit_lines.HitForm.TheVariants.{Text, Json}
 use Rattle.hwdb_commands.specs.declared.hit_lines.HitForm.{HitForm}
 use Rattle.hwdb_spec.specs.Folders.{Source}
@@ -18,30 +19,6 @@ use Rattle.hwdb_spec.specs.Assignment.{Position, Assignment}
 -- how many hits `list` holds at most
 abbrev pub list_page : ℕ
 list_page = 64
-
--- the bytes are a database, and the text is what its tree gives
-pub record IsTextOf (of : Tree → List ℕ) (bytes text : List ℕ) : Type 0 where
-  pub tree : Tree
-  pub database : IsDatabase bytes tree
-  pub is : text ≡ of tree
-
--- the fault stands, and the bytes are a database of no tree
-pub record IsNoDatabase (bytes : List ℕ) (fault : DbFault) : Type 0 where
-  pub stands : Applies bytes fault
-  pub no_tree : (t : Tree) → IsDatabase bytes t → ⊥
-
--- what answering from a database may refuse, before anything is written
-abbrev pub IsDatabaseRefusal : (bytes : List ℕ) → ToolError → Type 0
-IsDatabaseRefusal bytes (BadDatabase fault) = IsNoDatabase bytes fault
-IsDatabaseRefusal bytes Memory = Unit {0}
-IsDatabaseRefusal bytes _ = ⊥
-
--- what `query` and `explain` may refuse
-abbrev pub IsQueryRefusal : (bytes : List ℕ) → ToolError → Type 0
-IsQueryRefusal bytes (BadDatabase fault) = IsNoDatabase bytes fault
-IsQueryRefusal bytes Memory = Unit {0}
-IsQueryRefusal bytes Write = Unit {0}
-IsQueryRefusal bytes _ = ⊥
 
 -- the text handed in as `after`, if there is one, spells the position
 abbrev pub IsAfter : Option (Bor (List ℕ)) → Option Position → Type 0

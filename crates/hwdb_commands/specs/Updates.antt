@@ -1,7 +1,7 @@
 -- What `update` and `ask` write and return, as functions of the files (systemd-hwdb(8); `ask` is our choice).
-use Rattle.std.specs.Prelude.{Bool, true, List, Option, Some, length, ℕ, ◌≡◌, ◌≤◌, ◌⊎◌, [], codes, ◌∷◌}
+use Rattle.std.specs.Prelude.{Bool, List, Option, Some, length, ℕ, ◌≡◌, ◌≤◌, ◌⊎◌, []}
 use Rattle.std.specs.Io.KnownBytes.{Appends}
-use Rattle.hwdb_spec.specs.Folders.{AreAccepted, Choice, Source, faults_of_files, HaveManyLines}
+use Rattle.hwdb_spec.specs.Folders.{AreAccepted, Source, faults_of_files, HaveManyLines}
 use Rattle.hwdb_spec.specs.Written.{IsCompiled, IsWritten, IsTooLarge}
 use Rattle.hwdb_spec.specs.Progress.{update_text}
 use Rattle.hwdb_spec.specs.Texts.{status_of, faults_text_at, query_text}
@@ -9,11 +9,12 @@ use Rattle.hwdb_spec.specs.Tree.{map_of_files}
 use Rattle.hwdb_spec.specs.Store.{Contents, Outcomes, IsPart, path_in, database_name, database_file}
 use Rattle.hwdb_store.specs.Views.{IsSeen, IsLeft}
 use Rattle.hwdb_store.specs.declared.replacement.Unreplaced.{Unreplaced}
-use Rattle.hwdb_commands.specs.Devices.{Texts}
+use Rattle.hwdb_transfer.specs.Devices.{Texts}
+use Rattle.hwdb_transfer.specs.LoneFile.{lone}
 use Rattle.hwdb_compile.specs.Views.{IsRefusal}
-use Rattle.hwdb_commands.specs.declared.errors.ToolError.TheVariants.{Memory, TooLarge, TooManyFiles, TooManyLines, Write, Replace}
-use Rattle.hwdb_commands.specs.declared.errors.ToolError.{ToolError}
-use Rattle.hwdb_commands.specs.Lookups.{IsTextOf}
+use Rattle.hwdb_transfer.specs.declared.errors.ToolError.TheVariants.{Memory, TooLarge, TooManyFiles, TooManyLines, Write, Replace}
+use Rattle.hwdb_transfer.specs.declared.errors.ToolError.{ToolError}
+use Rattle.hwdb_transfer.specs.Databases.{IsTextOf}
 use Rattle.hwdb_compile.specs.declared.errors.CompileError.TheVariants as compiling
 
 -- The files are accepted, `err` took what is said of them, with the names of /usr/lib's files where they are given, and their
@@ -63,14 +64,6 @@ IsUpdateRefusal etc usr max_bytes Write = Unit {0}
 IsUpdateRefusal etc usr max_bytes Memory = Unit {0}
 IsUpdateRefusal etc usr max_bytes (Replace _) = Unit {0}
 IsUpdateRefusal etc usr max_bytes _ = ⊥
-
--- the one file that `ask` reads, as a file of etc
-abbrev pub lone : List ℕ → List Source
-lone bytes = record { name = codes "1.hwdb"; bytes = bytes } ∷ []
-
--- its choice: the first file, of etc
-abbrev pub lone_choice : Choice
-lone_choice = record { from_etc = true; name = codes "1.hwdb"; priority = 1 }
 
 -- what `ask` writes: the fault lines of the one file, and the properties that its database gives the device
 pub record AreAskTexts (file bytes device : List ℕ) (texts : Texts) : Type 0 where

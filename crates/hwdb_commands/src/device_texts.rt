@@ -1,17 +1,16 @@
 //! The texts of several devices, one after another.
-ghost use Rattle.std.specs.Prelude.{◌≡◌, ◌++◌, ◌∷◌, [], List, OnOk, IfOk, IfErr, IfSome, IfNone, IsErrOf, map, string_bytes};
+ghost use Rattle.std.specs.Prelude.{◌≡◌, ◌++◌, ◌∷◌, [], OnOk, IfOk, IfErr, IfSome, IfNone, IsErrOf, map, string_bytes};
 ghost use Rattle.std.specs.Io.KnownBytes.{Appends};
 ghost use Rattle.hwdb_spec.specs.Failures.{HasFailed, OneFailed};
 ghost use Rattle.hwdb_spec.specs.Texts.{query_text, queries_text};
-ghost use Rattle.hwdb_commands.specs.Devices.{AppendsPrefix};
+ghost use Rattle.hwdb_transfer.specs.Devices.{AppendsPrefix};
 ghost use Rattle.hwdb_commands.specs.Lookups.{IsPrintRefusal, empty_line_unless};
 
-use crate::errors::ToolError;
 use crate::texts::property_lines;
-use crate::transfer::write_text;
 use hwdb_devices::Sink;
 use hwdb_query::effective;
 use hwdb_reader::Db;
+use hwdb_transfer::{ToolError, write_text};
 use std::alloc::{AllocError, Global};
 
 /// The text of a device's properties, and behind it an empty line where the device isn't the last.

@@ -6,15 +6,14 @@ ghost use Rattle.hwdb_spec.specs.Failures.{HasFailed, OneFailed};
 ghost use Rattle.hwdb_spec.specs.Written.{IsCompiled};
 ghost use Rattle.hwdb_spec.specs.Explanations.{origin_line, overridden_text, explanation_text, explanations_text, explain_text, explained_text};
 ghost use Rattle.hwdb_query.specs.Views.{assignment_of_answer, explained_values};
-ghost use Rattle.hwdb_commands.specs.Devices.{Wrote, WrotePrefix};
-ghost use Rattle.hwdb_commands.specs.Lookups.{IsTextOf, IsDatabaseRefusal, IsQueryRefusal};
+ghost use Rattle.hwdb_transfer.specs.Devices.{Wrote, WrotePrefix};
+ghost use Rattle.hwdb_transfer.specs.Databases.{IsTextOf, IsDatabaseRefusal, IsQueryRefusal};
 
-use crate::errors::ToolError;
 use crate::texts::{push_place, push_property};
-use crate::transfer::write_text;
 use hwdb_devices::Sink;
 use hwdb_query::{Answer, Explained, compiled_answers_are_last, explain};
 use hwdb_reader::check;
+use hwdb_transfer::{ToolError, write_text};
 use std::alloc::{AllocError, Global};
 
 /// Adds where an answer comes from: four spaces, its path, `:`, its line, two spaces, its pattern.

@@ -1,18 +1,17 @@
 //! Printing the hits of a cursor, one line after another.
-ghost use Rattle.std.specs.Prelude.{flat_map, ◌≡◌, ◌≢◌, ◌≤◌, OnOk, IfErr, IsErrOf};
+ghost use Rattle.std.specs.Prelude.{flat_map, ◌≡◌, OnOk, IfErr, IsErrOf};
 ghost use Rattle.std.specs.Io.KnownBytes.{Appends};
 ghost use Rattle.hwdb_spec.specs.Failures.{HasFailed, OneFailed};
-ghost use Rattle.hwdb_commands.specs.Devices.{AppendsPrefix};
+ghost use Rattle.hwdb_transfer.specs.Devices.{AppendsPrefix};
 ghost use Rattle.hwdb_commands.specs.Lookups.{AppendsLines, IsPrintRefusal, line_of, list_page, one_less};
 ghost use Rattle.hwdb_query.specs.Views.{assignment_of_hit};
 ghost use Rattle.hwdb_spec.specs.Texts.{within_limit};
 
-use crate::errors::ToolError;
 use crate::json_lines::hit_json_line;
 use crate::texts::set_hit_line;
-use crate::transfer::write_text;
 use hwdb_devices::Sink;
 use hwdb_query::{Cursor, Hit};
+use hwdb_transfer::{ToolError, write_text};
 use std::alloc::{AllocError, Global};
 
 /// How the line of a hit is printed.

@@ -7,19 +7,19 @@ ghost use Rattle.hwdb_spec.specs.Failures.{HasFailed, OneFailed};
 ghost use Rattle.hwdb_spec.specs.Json.{device_json, json_line, query_json, last_values_json, explain_json, explained_json};
 ghost use Rattle.hwdb_spec.specs.Tree.{answers};
 ghost use Rattle.hwdb_spec.specs.Written.{IsCompiled};
-ghost use Rattle.hwdb_commands.specs.Devices.{AppendsPrefix, Wrote, WrotePrefix};
-ghost use Rattle.hwdb_commands.specs.Lookups.{IsTextOf, IsDatabaseRefusal, IsQueryRefusal, IsPrintRefusal, IsListJson, IsListJsonBeginning, IsLastJson, IsListRefusal};
+ghost use Rattle.hwdb_transfer.specs.Devices.{AppendsPrefix, Wrote, WrotePrefix};
+ghost use Rattle.hwdb_commands.specs.Lookups.{IsPrintRefusal, IsListJson, IsListJsonBeginning, IsLastJson, IsListRefusal};
+ghost use Rattle.hwdb_transfer.specs.Databases.{IsTextOf, IsDatabaseRefusal, IsQueryRefusal};
 
 use crate::device_texts::split_first;
-use crate::errors::ToolError;
 use crate::hit_lines::{HitForm, print_hits};
 use crate::json_explanations::explanation_lines_json;
 use crate::json_lines::device_line;
 use crate::lookup::{PAGE, position_of};
-use crate::transfer::write_text;
 use hwdb_devices::Sink;
 use hwdb_query::{compiled_answers_are_last, cursor, effective, explain};
 use hwdb_reader::{Db, check};
+use hwdb_transfer::{ToolError, write_text};
 use std::alloc::{AllocError, Global};
 
 /// The line of what the database gives a device.

@@ -1,5 +1,5 @@
 //! The lines of JSON that are printed. Each is an object.
-ghost use Rattle.std.specs.Prelude.{◌≡◌, ◌++◌, ◌∷◌, [], codes, filter, flat_map, map, not, IfOk, OnOk};
+ghost use Rattle.std.specs.Prelude.{◌≡◌, ◌++◌, ◌∷◌, [], filter, map, not, IfOk, OnOk};
 ghost use Rattle.json.specs.Tree.{json_tokens};
 ghost use Rattle.hwdb_query.specs.Views.{assignment_of_hit, pairs_bytes};
 ghost use Rattle.hwdb_spec.specs.Texts.{canonical};

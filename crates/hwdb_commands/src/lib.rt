@@ -3,7 +3,6 @@
 //!
 //! | Module | What it does |
 //! |---|---|
-//! | `transfer` | a whole source is read, a whole text is written |
 //! | `texts` | the lines that are printed |
 //! | `lookup` | `query` and `list`: what a database has for a device |
 //! | `explanation` | `explain`: what a database has for a device, and where that comes from |
@@ -16,11 +15,9 @@
 //! | `json_answers` | `query`, `list` and `explain` with `--json` |
 //! | `single_file` | `ask`: what one text file has for a device |
 //! | `update` | `update`: the database of the files of two folders, put in its place |
-//! | `errors` | why a call refuses |
 #![tactic(auto)]
 
 mod device_texts;
-mod errors;
 mod explanation;
 mod hit_lines;
 mod json_answers;
@@ -31,15 +28,12 @@ mod json_values;
 mod lookup;
 mod single_file;
 mod texts;
-mod transfer;
 mod update;
 
-pub use errors::ToolError;
 pub use explanation::run_explain;
 pub use json_answers::{answer_line, run_explain_json, run_list_json, run_queries_json};
 pub use json_laws::json_is_read_back;
-pub use lookup::{MAX_BYTES, run_list, run_queries, run_query};
+pub use lookup::{run_list, run_queries, run_query};
 pub use single_file::ask;
 pub use texts::property_lines;
-pub use transfer::{read_all, write_text};
 pub use update::{put_in_place, run_update, update_chosen};

@@ -6,23 +6,19 @@ ghost use Rattle.hwdb_spec.specs.Folders.{Source};
 ghost use Rattle.hwdb_query.specs.Views.{next_position};
 ghost use Rattle.hwdb_spec.specs.Failures.{HasFailed, OneFailed};
 ghost use Rattle.hwdb_spec.specs.Texts.{query_text, queries_text, last_values_text, last_values_texts};
-ghost use Rattle.hwdb_commands.specs.Devices.{Wrote, WrotePrefix};
-ghost use Rattle.hwdb_commands.specs.Lookups.{IsTextOf, IsDatabaseRefusal, IsQueryRefusal, IsAfter, IsPositionRefusal, IsListText, IsListBeginning, IsLastLines, IsListRefusal};
+ghost use Rattle.hwdb_transfer.specs.Devices.{Wrote, WrotePrefix};
+ghost use Rattle.hwdb_commands.specs.Lookups.{IsAfter, IsPositionRefusal, IsListText, IsListBeginning, IsLastLines, IsListRefusal};
+ghost use Rattle.hwdb_transfer.specs.Databases.{IsTextOf, IsDatabaseRefusal, IsQueryRefusal};
 ghost use Rattle.hwdb_spec.specs.Written.{IsCompiled};
 
 use crate::device_texts::print_texts;
-use crate::errors::ToolError;
 use crate::hit_lines::{HitForm, print_hits};
 use crate::texts::property_lines;
-use crate::transfer::write_text;
 use hwdb_devices::Sink;
 use hwdb_query::{Position, compiled_answers_are_last, cursor, effective};
 use hwdb_reader::check;
+use hwdb_transfer::{ToolError, write_text};
 use std::alloc::Global;
-
-/// The program's limit: a text file or database that it reads, and the database that it writes, has at
-/// most so many bytes.
-pub const MAX_BYTES: u32 = 268_435_456;
 
 /// How many hits `run_list` holds at most.
 pub(crate) const PAGE: usize = 64;

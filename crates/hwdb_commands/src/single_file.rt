@@ -1,19 +1,19 @@
 //! What `ask` does with one text file.
-ghost use Rattle.std.specs.Prelude.{◌≡◌, ◌≢◌, ◌⊎◌, ◌∷◌, [], IfOk, IfErr, OnOk, IsErrOf};
+ghost use Rattle.std.specs.Prelude.{◌≡◌, ◌≢◌, ◌⊎◌, [], IfOk, IfErr, OnOk, IsErrOf};
 ghost use Rattle.std.specs.Io.KnownBytes.{Appends};
 ghost use Rattle.hwdb_text.specs.Views.{choice_of};
 ghost use Rattle.hwdb_spec.specs.Failures.{HasFailed};
-ghost use Rattle.hwdb_commands.specs.Devices.{OneOfTwoFailed, WroteTexts, WroteTextsPrefix};
+ghost use Rattle.hwdb_transfer.specs.Devices.{OneOfTwoFailed, WroteTexts, WroteTextsPrefix};
 ghost use Rattle.hwdb_spec.specs.Texts.{max_file, last_values_text};
-ghost use Rattle.hwdb_commands.specs.Updates.{lone, lone_choice, AreAskTexts, IsAskRefusal};
+ghost use Rattle.hwdb_commands.specs.Updates.{AreAskTexts, IsAskRefusal};
+ghost use Rattle.hwdb_transfer.specs.LoneFile.{lone, lone_choice};
 
-use crate::errors::ToolError;
-use crate::lookup::{MAX_BYTES, properties_of};
+use crate::lookup::properties_of;
 use crate::texts::fault_lines_at;
-use crate::transfer::write_text;
 use hwdb_compile::{ChosenFile, compile_chosen};
 use hwdb_devices::Sink;
 use hwdb_text::Chosen;
+use hwdb_transfer::{MAX_BYTES, ToolError, write_text};
 use std::alloc::{AllocError, Global};
 
 /// The texts that one file gives: its fault lines, and the properties of a device.

@@ -4,21 +4,20 @@ ghost use Rattle.std.specs.Io.KnownBytes.{Appends};
 ghost use Rattle.hwdb_text.specs.Views.{IsStorableChoice};
 ghost use Rattle.hwdb_compile.specs.Views.{sources, fault_of, choice_in, ForFolders};
 ghost use Rattle.hwdb_spec.specs.Failures.{HasFailed, OneFailed};
-ghost use Rattle.hwdb_commands.specs.Devices.{AppendsPrefix};
+ghost use Rattle.hwdb_transfer.specs.Devices.{AppendsPrefix};
 ghost use Rattle.hwdb_spec.specs.Texts.{status_of, faults_text};
 ghost use Rattle.hwdb_spec.specs.Folders.{faults_of_files};
 ghost use Rattle.hwdb_spec.specs.Store.{InPlace, LeavesOnly, OldOrNew};
 ghost use Rattle.hwdb_store.specs.Views.{IsLeft, IsSeen, failures_after};
 ghost use Rattle.hwdb_commands.specs.Updates.{Updated, UpdateUndone, OnUnreplaced, OldOrWritten, IsPlaceRefusal, IsUpdateRefusal};
 
-use crate::errors::ToolError;
 use crate::texts::fault_lines;
-use crate::transfer::write_text;
 use hwdb_compile::{
     ChosenFile, Compiled, FileFault, SourceFile, choose, compile_chosen, with_bytes,
 };
 use hwdb_devices::Sink;
 use hwdb_store::{Store, Unreplaced, replace};
+use hwdb_transfer::{ToolError, write_text};
 use std::alloc::{AllocError, Global};
 
 /// The status of an update: 1 where `strict` and there is a fault, else 0.

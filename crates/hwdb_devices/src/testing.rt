@@ -1,6 +1,6 @@
 //! Devices over fixed memory, for tests: they tell their bytes, take no memory and fail where they are
 //! told to.
-ghost use Rattle.std.specs.Prelude.{◌≡◌, ◌≤◌, ◌+◌, ℕ, List, None, Some, drop, take, length};
+ghost use Rattle.std.specs.Prelude.{◌≡◌, ◌≤◌, ◌+◌, Some, take};
 
 use crate::adapters::after_failure;
 use crate::devices::{DeviceFailed, Sink, Source};
@@ -52,24 +52,6 @@ impl<'a> Source for MemorySource<'a> {
         buf[..n].copy_from_slice(&self.rest[..n]);
         self.rest = &self.rest[n..];
         Ok(n)
-    }
-}
-
-/// A source that never ends. It tells nothing of its bytes.
-#[derive(Drop)]
-pub struct EndlessSource {
-    /// How many reads have failed: none.
-    pub failed: u64,
-}
-
-impl Source for EndlessSource {
-    ghost left = { λ _. None };
-
-    ghost failures = { λ s. s.failed };
-
-    fn read(&mut self, buf: &mut [u8]) -> Result<usize, DeviceFailed> {
-        buf.fill(b'a');
-        Ok(buf.len())
     }
 }
 

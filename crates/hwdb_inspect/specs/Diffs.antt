@@ -4,9 +4,9 @@ use Rattle.hwdb_spec.specs.Format.{IsDatabase}
 use Rattle.hwdb_spec.specs.Tree.{Tree}
 use Rattle.hwdb_spec.specs.Differences.{diff_text, differ}
 use Rattle.hwdb_spec.specs.declared.DbFault.{DbFault}
-use Rattle.hwdb_commands.specs.Lookups.{IsNoDatabase}
-use Rattle.hwdb_commands.specs.declared.errors.ToolError.{ToolError}
-use Rattle.hwdb_commands.specs.declared.errors.ToolError.TheVariants.{BadDatabase, Write, Memory}
+use Rattle.hwdb_transfer.specs.Databases.{IsNoDatabase}
+use Rattle.hwdb_transfer.specs.declared.errors.ToolError.{ToolError}
+use Rattle.hwdb_transfer.specs.declared.errors.ToolError.TheVariants.{BadDatabase, Write, Memory}
 use Rattle.hwdb_inspect.specs.declared.errors.DiffError.{DiffError}
 use Rattle.hwdb_inspect.specs.declared.errors.DiffError.TheVariants.{Old, New, Write as NotWritten, Memory as NoMemory}
 

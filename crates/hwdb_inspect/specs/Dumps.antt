@@ -4,7 +4,7 @@ use Rattle.hwdb_spec.specs.Assignment.{Assignment}
 use Rattle.hwdb_spec.specs.Dump.{dumped, first_unsaid}
 use Rattle.hwdb_spec.specs.Format.{IsDatabase}
 use Rattle.hwdb_spec.specs.Tree.{Tree}
-use Rattle.hwdb_commands.specs.Lookups.{IsNoDatabase}
+use Rattle.hwdb_transfer.specs.Databases.{IsNoDatabase}
 use Rattle.hwdb_inspect.specs.declared.errors.DumpError.{DumpError}
 use Rattle.hwdb_inspect.specs.declared.errors.DumpError.TheVariants.{Database, Unsayable, Write, Memory}
 

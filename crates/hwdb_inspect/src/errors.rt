@@ -3,8 +3,8 @@ ghost use Rattle.std.specs.Prelude.{◌≡◌};
 ghost use Rattle.hwdb_inspect.specs.Diffs.{refusal_of};
 
 use crate::printing::Unwritten;
-use hwdb_commands::ToolError;
 use hwdb_reader::DbFault;
+use hwdb_transfer::ToolError;
 use std::alloc::AllocError;
 
 /// Why two databases weren't compared, or not to the end.

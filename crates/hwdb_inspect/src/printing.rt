@@ -2,11 +2,11 @@
 ghost use Rattle.std.specs.Prelude.{◌≡◌, OnOk, OnErr, IfErr};
 ghost use Rattle.std.specs.Io.KnownBytes.{Appends};
 ghost use Rattle.hwdb_spec.specs.Failures.{HasFailed, OneFailed};
-ghost use Rattle.hwdb_commands.specs.Devices.{AppendsPrefix};
+ghost use Rattle.hwdb_transfer.specs.Devices.{AppendsPrefix};
 ghost use Rattle.hwdb_inspect.specs.Internal.Printing.{Moves};
 
-use hwdb_commands::write_text;
 use hwdb_devices::Sink;
+use hwdb_transfer::write_text;
 
 /// How many bytes of text are held before they are written.
 const PIECE: usize = 65536;

@@ -2,14 +2,14 @@
 ghost use Rattle.std.specs.Prelude.{◌≡◌, ◌≢◌, ◌++◌, length, IfOk, IfErr, OnOk, IsErrOf};
 ghost use Rattle.hwdb_spec.specs.Failures.{HasFailed, OneFailed};
 ghost use Rattle.hwdb_spec.specs.Summary.{count_line, summary_of, summary_text};
-ghost use Rattle.hwdb_commands.specs.Devices.{Wrote, WrotePrefix};
-ghost use Rattle.hwdb_commands.specs.Lookups.{IsTextOf, IsDatabaseRefusal, IsQueryRefusal};
+ghost use Rattle.hwdb_transfer.specs.Devices.{Wrote, WrotePrefix};
+ghost use Rattle.hwdb_transfer.specs.Databases.{IsTextOf, IsDatabaseRefusal, IsQueryRefusal};
 ghost use Rattle.hwdb_inspect.specs.Views.{summary_shown};
 
 use crate::summary::{Counts, summarize};
-use hwdb_commands::{ToolError, write_text};
 use hwdb_devices::Sink;
 use hwdb_reader::check;
+use hwdb_transfer::{ToolError, write_text};
 use itoa::Buffer;
 use std::alloc::{AllocError, Global};
 

@@ -6,8 +6,8 @@ use Rattle.std.specs.Result.{IsErrAnd}
 use Rattle.hwdb_spec.specs.Folders.{Source}
 use Rattle.hwdb_spec.specs.Checks.{empty_tally, file_text, tally_from, tally_of, tally_of_both}
 use Rattle.hwdb_spec.specs.declared.Tally.{Tally}
-use Rattle.hwdb_commands.specs.declared.errors.ToolError.{ToolError}
-use Rattle.hwdb_commands.specs.declared.errors.ToolError.TheVariants.{Memory, TooManyLines, Write}
+use Rattle.hwdb_transfer.specs.declared.errors.ToolError.{ToolError}
+use Rattle.hwdb_transfer.specs.declared.errors.ToolError.TheVariants.{Memory, TooManyLines, Write}
 use Rattle.hwdb_lint.specs.declared.files.TextFile.{TextFile}
 use Rattle.hwdb_lint.specs.Checks.{source_of, files_text, IsCheckRefusal, IsChecksRefusal}
 

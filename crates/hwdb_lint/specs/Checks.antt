@@ -3,8 +3,8 @@ use Rattle.std.specs.Prelude.{ℕ, List, ◌<◌, Any, flat_map, length}
 use Rattle.hwdb_spec.specs.Lines.{lines}
 use Rattle.hwdb_spec.specs.Folders.{Source, max_lines}
 use Rattle.hwdb_spec.specs.Checks.{file_text}
-use Rattle.hwdb_commands.specs.declared.errors.ToolError.{ToolError}
-use Rattle.hwdb_commands.specs.declared.errors.ToolError.TheVariants.{Memory, TooManyLines, Write}
+use Rattle.hwdb_transfer.specs.declared.errors.ToolError.{ToolError}
+use Rattle.hwdb_transfer.specs.declared.errors.ToolError.TheVariants.{Memory, TooManyLines, Write}
 use Rattle.hwdb_lint.specs.declared.files.TextFile.{TextFile}
 
 -- a file with the path that is printed of it

@@ -5,17 +5,17 @@ ghost use Rattle.hwdb_spec.specs.Failures.{HasFailed, OneFailed};
 ghost use Rattle.hwdb_spec.specs.Lines.{lines};
 ghost use Rattle.hwdb_spec.specs.Reports.{text_of_line, report, reports_text};
 ghost use Rattle.hwdb_spec.specs.Checks.{tally_of, empty_tally, tally_from, check_text, check_status, file_text};
-ghost use Rattle.hwdb_commands.specs.Devices.{AppendsPrefix};
+ghost use Rattle.hwdb_transfer.specs.Devices.{AppendsPrefix};
 ghost use Rattle.hwdb_lint.specs.Checks.{source_of, files_text, IsCheckRefusal, IsChecksRefusal};
 
 use crate::line_texts::{find_line, first_start};
 use crate::reports::push_report;
 use crate::tallies::{empty_tally, status_of, tally_line, together};
 use crate::warnings::warnings_of;
-use hwdb_commands::{ToolError, write_text};
 use hwdb_devices::Sink;
 use hwdb_spec::{Fault, Tally};
 use hwdb_text::scan;
+use hwdb_transfer::{ToolError, write_text};
 use std::alloc::{AllocError, Global};
 
 /// A text file that is checked.

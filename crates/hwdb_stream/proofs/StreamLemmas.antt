@@ -9,7 +9,7 @@ use Rattle.hwdb_spec.specs.Answers.{last_assignments}
 use Rattle.hwdb_spec.specs.Lines.{is}
 use Rattle.hwdb_spec.specs.Texts.{devices_of, empty_line, query_text, with_empty_lines}
 use Rattle.hwdb_spec.specs.Tree.{Tree, answers}
-use Rattle.hwdb_commands.specs.Devices.{AppendsPrefix}
+use Rattle.hwdb_transfer.specs.Devices.{AppendsPrefix}
 use Rattle.hwdb_stream.proofs.TextLemmas.{part_text, part_texts, same_lines, same_texts, whole_texts}
 use Rattle.hwdb_stream.proofs.LineLemmas.{no_lines}
 use Rattle.hwdb_stream.specs.Internal.{answer_text, texts_from}

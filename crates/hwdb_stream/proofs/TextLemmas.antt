@@ -10,7 +10,7 @@ use Rattle.hwdb_spec.specs.Answers.{effective_of, last_assignments}
 use Rattle.hwdb_spec.specs.Json.{device_json, json_line, last_values_json, query_json}
 use Rattle.hwdb_spec.specs.Texts.{last_values_text, last_values_texts, properties_text, queries_text, query_text, with_empty_lines}
 use Rattle.hwdb_spec.specs.Tree.{Tree, answers}
-use Rattle.hwdb_commands.specs.Devices.{AppendsPrefix}
+use Rattle.hwdb_transfer.specs.Devices.{AppendsPrefix}
 
 -- a text was taken, and then the rest
 pub whole_texts : (a b c : Option (List ℕ)) (text rest all : List ℕ) → all ≡ text ++ rest → Appends a b text → Appends b c rest → Appends a c all

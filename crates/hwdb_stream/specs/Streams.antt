@@ -5,9 +5,9 @@ use Rattle.hwdb_spec.specs.Folders.{Source}
 use Rattle.hwdb_spec.specs.Json.{last_values_json, query_json}
 use Rattle.hwdb_spec.specs.Texts.{devices_of, last_values_texts, queries_text}
 use Rattle.hwdb_spec.specs.Tree.{Tree}
-use Rattle.hwdb_commands.specs.Lookups.{IsNoDatabase}
-use Rattle.hwdb_commands.specs.declared.errors.ToolError.{ToolError}
-use Rattle.hwdb_commands.specs.declared.errors.ToolError.TheVariants.{BadDatabase, Memory, Read, TooLong, Write}
+use Rattle.hwdb_transfer.specs.Databases.{IsNoDatabase}
+use Rattle.hwdb_transfer.specs.declared.errors.ToolError.{ToolError}
+use Rattle.hwdb_transfer.specs.declared.errors.ToolError.TheVariants.{BadDatabase, Memory, Read, TooLong, Write}
 use Rattle.hwdb_stream.specs.declared.chunk.LineReader.{LineReader}
 
 -- the bytes that were read and not handed on

@@ -4,13 +4,13 @@ ghost use Rattle.std.specs.Io.KnownBytes.{IsAtEnd, Keeps, prepend_known};
 ghost use Rattle.std.specs.List.{position_or_len};
 ghost use Rattle.hwdb_spec.specs.Failures.{HasFailed, OneFailed};
 ghost use Rattle.hwdb_spec.specs.Lines.{byte, is};
-ghost use Rattle.hwdb_commands.specs.Refusals.{IsReadRefusal};
+ghost use Rattle.hwdb_transfer.specs.Refusals.{IsReadRefusal};
 ghost use Rattle.hwdb_stream.specs.Streams.{IsFirstLine, IsTakeRefusal, held, to_come};
 ghost use Rattle.hwdb_stream.specs.Internal.{IsTaken, IsRefilled};
 
 use crate::chunk::{CHUNK, LineReader};
-use hwdb_commands::ToolError;
 use hwdb_devices::Source;
+use hwdb_transfer::ToolError;
 use memchr::memchr;
 use std::alloc::Global;
 

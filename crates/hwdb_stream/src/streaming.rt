@@ -5,16 +5,16 @@ ghost use Rattle.hwdb_spec.specs.Failures.{HasFailed, OneFailed};
 ghost use Rattle.hwdb_spec.specs.Folders.{Source};
 ghost use Rattle.hwdb_spec.specs.Texts.{devices_of, max_file};
 ghost use Rattle.hwdb_spec.specs.Written.{IsCompiled};
-ghost use Rattle.hwdb_commands.specs.Devices.{AppendsPrefix, Wrote, WrotePrefix};
-ghost use Rattle.hwdb_commands.specs.Lookups.{IsTextOf};
+ghost use Rattle.hwdb_transfer.specs.Devices.{AppendsPrefix, Wrote, WrotePrefix};
+ghost use Rattle.hwdb_transfer.specs.Databases.{IsTextOf};
 ghost use Rattle.hwdb_stream.specs.Streams.{IsAnswerRefusal, IsStreamRefusal, IfBadDatabase, texts_of, last_texts_of};
 
 use crate::chunk::LineReader;
 use crate::device_answers::text_of_device;
-use hwdb_commands::{MAX_BYTES, ToolError, write_text};
 use hwdb_devices::{Sink, Source};
 use hwdb_query::compiled_answers_are_last;
 use hwdb_reader::{Db, check};
+use hwdb_transfer::{MAX_BYTES, ToolError, write_text};
 use std::alloc::Global;
 
 /// Answers each device that the input names. One line and one text are held at a time.

@@ -4,13 +4,13 @@ use Rattle.std.proofs.lemmas.List.{append-nil, take-append-le}
 use Rattle.std.specs.List.{concat}
 use Rattle.std.specs.Io.KnownBytes.{Appends}
 use Rattle.std.proofs.KnownBytes.{Appends-trans}
-use Rattle.hwdb_commands.specs.Devices.{AppendsPrefix}
+use Rattle.hwdb_transfer.specs.Devices.{AppendsPrefix}
 use Rattle.hwdb_spec.specs.declared.DbFault.{DbFault}
 use Rattle.hwdb_devices.specs.declared.causes.Cause.{Cause}
-use Rattle.hwdb_commands.specs.declared.errors.ToolError.{ToolError}
-use Rattle.hwdb_commands.specs.declared.errors.ToolError.TheVariants.{Read, Write, TooLong, TooManyFiles, TooManyLines, TooLarge, BadPosition, PageZero, BadDatabase, Replace, Memory}
+use Rattle.hwdb_transfer.specs.declared.errors.ToolError.{ToolError}
+use Rattle.hwdb_transfer.specs.declared.errors.ToolError.TheVariants.{Read, Write, TooLong, TooManyFiles, TooManyLines, TooLarge, BadPosition, PageZero, BadDatabase, Replace, Memory}
 use Rattle.hwdb_system.specs.Refusals.{Refused, refusal_line, path_text}
-use Rattle.hwdb_commands.specs.Refusals.{error_text}
+use Rattle.hwdb_transfer.specs.Refusals.{error_text}
 use Rattle.hwdb_spec.specs.Texts.{at_offset, db_fault_name, db_fault_offset}
 
 abbrev Pieces : Type 0

@@ -3,10 +3,10 @@ use Rattle.std.proofs.Common.{◌≡◌, ◌⊎◌, ◌∙◌, ◌++◌, inl, in
 use Rattle.std.specs.Prelude.{Contains, codes, is_some}
 use Rattle.std.proofs.lemmas.List.Elements.{All-contains}
 use Rattle.hwdb_spec.specs.Folders.{Choice, path_of}
-use Rattle.hwdb_spec.specs.Store.{Contents, path_in}
+use Rattle.hwdb_spec.specs.Store.{Contents}
 use Rattle.hwdb_spec.specs.System.{AreNamesIn, IsNameIn, bytes_at, etc_files, usr_files}
 use Rattle.hwdb_text.specs.Views.{IsListed}
-use Rattle.hwdb_commands.specs.declared.errors.ToolError.TheVariants.{Read, Write, TooLong, TooManyFiles, TooManyLines, TooLarge, BadPosition, PageZero, BadDatabase, Replace, Memory}
+use Rattle.hwdb_transfer.specs.declared.errors.ToolError.TheVariants.{Read, Write, TooLong, TooManyFiles, TooManyLines, TooLarge, BadPosition, PageZero, BadDatabase, Replace, Memory}
 use Rattle.hwdb_system.specs.Reading.{IsChosenUnread}
 use Rattle.hwdb_system.specs.Refusals.{HasReason, IsUnread, IsUnreadable}
 use Rattle.hwdb_system.specs.declared.refusals.Refusal.{Refusal}

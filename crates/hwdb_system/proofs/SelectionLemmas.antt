@@ -9,8 +9,8 @@ use Rattle.hwdb_text.specs.Views.{choice_of}
 use Rattle.hwdb_text.specs.declared.choice.Chosen.{Chosen}
 use Rattle.hwdb_text.specs.declared.outcome.SelectError.{SelectError}
 use Rattle.hwdb_text.specs.declared.outcome.SelectError.TheVariants as select
-use Rattle.hwdb_commands.specs.Refusals.{refusal_of_select}
-use Rattle.hwdb_commands.specs.declared.errors.ToolError.TheVariants.{Memory}
+use Rattle.hwdb_transfer.specs.Refusals.{refusal_of_select}
+use Rattle.hwdb_transfer.specs.declared.errors.ToolError.TheVariants.{Memory}
 use Rattle.hwdb_system.specs.Refusals.{IsUnread}
 use Rattle.hwdb_system.specs.Reading.{AreUnread, IsChosenUnread}
 use Rattle.hwdb_system.specs.declared.refusals.Refusal.{Refusal}

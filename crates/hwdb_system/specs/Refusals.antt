@@ -6,11 +6,11 @@ use Rattle.hwdb_spec.specs.Lines.{byte}
 use Rattle.hwdb_spec.specs.Store.{Contents, path_in}
 use Rattle.hwdb_spec.specs.System.{bytes_at}
 use Rattle.hwdb_spec.specs.Texts.{max_file}
-use Rattle.hwdb_commands.specs.Devices.{AppendsPrefix}
-use Rattle.hwdb_commands.specs.Refusals.{error_text}
+use Rattle.hwdb_transfer.specs.Devices.{AppendsPrefix}
+use Rattle.hwdb_transfer.specs.Refusals.{error_text}
 use Rattle.hwdb_devices.specs.declared.causes.Cause.{Cause}
-use Rattle.hwdb_commands.specs.declared.errors.ToolError.TheVariants.{BadDatabase, Read, Write, TooLong, Memory, Replace}
-use Rattle.hwdb_commands.specs.declared.errors.ToolError.{ToolError}
+use Rattle.hwdb_transfer.specs.declared.errors.ToolError.TheVariants.{BadDatabase, Read, Write, TooLong, Memory, Replace}
+use Rattle.hwdb_transfer.specs.declared.errors.ToolError.{ToolError}
 use Rattle.hwdb_system.specs.declared.refusals.Refusal.{Refusal}
 use Rattle.hwdb_system.specs.declared.refusals.Refusal.TheVariants.{Plain, At, NoDatabase, InWords}
 

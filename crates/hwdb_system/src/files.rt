@@ -8,10 +8,10 @@ ghost use Rattle.hwdb_system.specs.Refusals.{IsUnread, IsUnlisted};
 
 use crate::refusals::Refusal;
 use crate::system::System;
-use hwdb_commands::{MAX_BYTES, ToolError, read_all};
 use hwdb_devices::{Cause, FromRead, after_failure, write_on};
 use hwdb_store::{CallFailed, Store};
 use hwdb_text::counts;
+use hwdb_transfer::{MAX_BYTES, ToolError, read_all};
 use std::alloc::{AllocError, Global};
 use std::fs::{self, File, Metadata, OpenFile, OpenOptions, Permissions};
 use std::io::{self, ErrorKind, Read};

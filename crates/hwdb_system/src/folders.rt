@@ -12,9 +12,9 @@ ghost use Rattle.hwdb_system.specs.declared.refusals.Refusal.TheVariants.{Plain}
 use crate::files::joined;
 use crate::refusals::Refusal;
 use crate::system::System;
-use hwdb_commands::ToolError;
 use hwdb_compile::ChosenFile;
 use hwdb_text::{Chosen, select};
+use hwdb_transfer::ToolError;
 use std::alloc::{AllocError, Global};
 
 const ETC_FILES: &str = "/etc/udev/hwdb.d";

@@ -9,11 +9,11 @@ ghost use Rattle.hwdb_system.specs.Refusals.{HasReason, IsUnlisted, IsUnread, Is
 use crate::files::text_of;
 use crate::refusals::Refusal;
 use crate::system::System;
-use hwdb_commands::{MAX_BYTES, ToolError};
 use hwdb_devices::Cause;
 use hwdb_store::memory::state_of;
 use hwdb_store::{Memory, Step};
 use hwdb_text::counts;
+use hwdb_transfer::{MAX_BYTES, ToolError};
 use std::alloc::{AllocError, Global};
 
 /// The number of the error of a path where nothing stands (errno, on Linux).

@@ -2,15 +2,15 @@
 ghost use Rattle.std.specs.Prelude.{◌≡◌, ◌++◌, ℕ, List, Some, map, codes};
 ghost use Rattle.std.specs.List.{concat};
 ghost use Rattle.hwdb_spec.specs.Texts.{db_fault_name, db_fault_offset, at_offset};
-ghost use Rattle.hwdb_commands.specs.Refusals.{error_text, refusal_of_select};
+ghost use Rattle.hwdb_transfer.specs.Refusals.{error_text, refusal_of_select};
 ghost use Rattle.hwdb_system.specs.Refusals.{Refused, refusal_line, refusal_text, path_text, file_text, IsAt, IsOfUpdate};
-ghost use Rattle.hwdb_commands.specs.declared.errors.ToolError.TheVariants.{Memory};
+ghost use Rattle.hwdb_transfer.specs.declared.errors.ToolError.TheVariants.{Memory};
 ghost use Rattle.hwdb_system.specs.declared.refusals.Refusal.TheVariants.{Plain};
 
-use hwdb_commands::{ToolError, write_text};
 use hwdb_devices::{Cause, Sink};
 use hwdb_reader::DbFault;
 use hwdb_text::SelectError;
+use hwdb_transfer::{ToolError, write_text};
 use std::alloc::{AllocError, Global};
 
 /// Why the program ends without having done what the words ask for.

@@ -5,10 +5,10 @@ use Rattle.std.specs.Prelude.{option_map}
 use Rattle.hwdb_spec.specs.Assignment.{Position}
 use Rattle.hwdb_spec.specs.Store.{Contents}
 use Rattle.hwdb_spec.specs.System.{asked_database}
-use Rattle.hwdb_commands.specs.Devices.{WrotePrefix}
+use Rattle.hwdb_transfer.specs.Devices.{WrotePrefix}
 use Rattle.hwdb_commands.specs.Lookups.{IsAfter, IsListJson, IsListRefusal, IsListText}
-use Rattle.hwdb_commands.specs.declared.errors.ToolError.{ToolError}
-use Rattle.hwdb_commands.specs.declared.errors.ToolError.TheVariants.{Read, Write, TooLong, TooManyFiles, TooManyLines, TooLarge, BadPosition, PageZero, BadDatabase, Replace, Memory}
+use Rattle.hwdb_transfer.specs.declared.errors.ToolError.{ToolError}
+use Rattle.hwdb_transfer.specs.declared.errors.ToolError.TheVariants.{Read, Write, TooLong, TooManyFiles, TooManyLines, TooLarge, BadPosition, PageZero, BadDatabase, Replace, Memory}
 use Rattle.hwdb_stream.specs.Streams.{IfBadDatabase}
 use Rattle.hwdb_tasks.specs.Done.{IsFrom, IsListFrom}
 use Rattle.hwdb_system.specs.Refusals.{IsUnread}

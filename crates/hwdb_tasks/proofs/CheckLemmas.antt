@@ -7,9 +7,9 @@ use Rattle.hwdb_spec.specs.Checks.{check_text}
 use Rattle.hwdb_spec.specs.Folders.{Choice, Source, path_of}
 use Rattle.hwdb_spec.specs.Store.{Contents}
 use Rattle.hwdb_spec.specs.System.{bytes_at}
-use Rattle.hwdb_commands.specs.Devices.{AppendsPrefix}
-use Rattle.hwdb_commands.specs.declared.errors.ToolError.{ToolError}
-use Rattle.hwdb_commands.specs.declared.errors.ToolError.TheVariants.{Write}
+use Rattle.hwdb_transfer.specs.Devices.{AppendsPrefix}
+use Rattle.hwdb_transfer.specs.declared.errors.ToolError.{ToolError}
+use Rattle.hwdb_transfer.specs.declared.errors.ToolError.TheVariants.{Write}
 use Rattle.hwdb_lint.specs.Checks.{IsChecksRefusal, source_of}
 use Rattle.hwdb_lint.specs.declared.files.TextFile.{TextFile}
 use Rattle.hwdb_tasks.specs.CheckedFiles.{AreCheckedFiles, AreChosenFiles, AreGivenFiles}

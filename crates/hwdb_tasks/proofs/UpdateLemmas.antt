@@ -8,10 +8,10 @@ use Rattle.hwdb_spec.specs.Texts.{max_file}
 use Rattle.hwdb_store.specs.declared.replacement.Unreplaced.{Unreplaced}
 use Rattle.hwdb_compile.specs.declared.sources.ChosenFile.{ChosenFile}
 use Rattle.hwdb_compile.specs.Views.{ForFolders}
-use Rattle.hwdb_commands.specs.Devices.{AppendsPrefix}
+use Rattle.hwdb_transfer.specs.Devices.{AppendsPrefix}
 use Rattle.hwdb_commands.specs.Updates.{IsUpdateRefusal, OnUnreplaced, UpdateUndone}
-use Rattle.hwdb_commands.specs.declared.errors.ToolError.{ToolError}
-use Rattle.hwdb_commands.specs.declared.errors.ToolError.TheVariants.{Read, Write, TooLong, TooManyFiles, TooManyLines, TooLarge, BadPosition, PageZero, BadDatabase, Replace, Memory}
+use Rattle.hwdb_transfer.specs.declared.errors.ToolError.{ToolError}
+use Rattle.hwdb_transfer.specs.declared.errors.ToolError.TheVariants.{Read, Write, TooLong, TooManyFiles, TooManyLines, TooLarge, BadPosition, PageZero, BadDatabase, Replace, Memory}
 use Rattle.hwdb_tasks.specs.Internal.{AreReadOf}
 use Rattle.hwdb_system.specs.Refusals.{HasReason, IsOfUpdate}
 use Rattle.hwdb_tasks.specs.Undone.{AreKept, IsUpdateRefused, database_path}

@@ -2,8 +2,8 @@
 use Rattle.std.specs.Prelude.{◌≡◌, ◌≢◌, ◌⊎◌, ℕ, Bool, List, Option, Some, if◌then◌else◌}
 use Rattle.hwdb_spec.specs.Store.{Contents}
 use Rattle.hwdb_spec.specs.System.{bytes_at}
-use Rattle.hwdb_commands.specs.Devices.{Wrote, WrotePrefix}
-use Rattle.hwdb_commands.specs.declared.errors.ToolError.TheVariants.{BadDatabase, Memory as OutOfMemory, Write as NotWritten}
+use Rattle.hwdb_transfer.specs.Devices.{Wrote, WrotePrefix}
+use Rattle.hwdb_transfer.specs.declared.errors.ToolError.TheVariants.{BadDatabase, Memory as OutOfMemory, Write as NotWritten}
 use Rattle.hwdb_inspect.specs.Diffs.{IsDiffRefusal, IsDiffText, IsDifferent}
 use Rattle.hwdb_inspect.specs.declared.errors.DiffError.{DiffError}
 use Rattle.hwdb_inspect.specs.declared.errors.DiffError.TheVariants.{Old, New, Write, Memory}

@@ -10,8 +10,8 @@ use Rattle.hwdb_spec.specs.Explanations.{explain_text}
 use Rattle.hwdb_spec.specs.Json.{explain_json, list_json}
 use Rattle.hwdb_spec.specs.Tree.{Tree, map_of_files}
 use Rattle.hwdb_spec.specs.Written.{IsWritten}
-use Rattle.hwdb_commands.specs.Devices.{Wrote, WroteTexts}
-use Rattle.hwdb_commands.specs.Lookups.{IsTextOf}
+use Rattle.hwdb_transfer.specs.Devices.{Wrote, WroteTexts}
+use Rattle.hwdb_transfer.specs.Databases.{IsTextOf}
 use Rattle.hwdb_commands.specs.Updates.{Updated, AreAskTexts}
 
 -- The text files of both folders below the root are accepted, standard error took what is said of them, and their database is

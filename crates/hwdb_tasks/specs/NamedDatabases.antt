@@ -7,10 +7,10 @@ use Rattle.hwdb_spec.specs.Store.{Contents}
 use Rattle.hwdb_spec.specs.Summary.{summary_of, summary_text}
 use Rattle.hwdb_spec.specs.System.{asked_database, bytes_at}
 use Rattle.hwdb_spec.specs.Verdicts.{verdict_text}
-use Rattle.hwdb_commands.specs.Devices.{Wrote, WrotePrefix}
-use Rattle.hwdb_commands.specs.Lookups.{IsQueryRefusal, IsTextOf}
-use Rattle.hwdb_commands.specs.declared.errors.ToolError.TheVariants.{BadDatabase, Memory as OutOfMemory, Write}
-use Rattle.hwdb_commands.specs.declared.errors.ToolError.{ToolError}
+use Rattle.hwdb_transfer.specs.Devices.{Wrote, WrotePrefix}
+use Rattle.hwdb_transfer.specs.Databases.{IsQueryRefusal, IsTextOf}
+use Rattle.hwdb_transfer.specs.declared.errors.ToolError.TheVariants.{BadDatabase, Memory as OutOfMemory, Write}
+use Rattle.hwdb_transfer.specs.declared.errors.ToolError.{ToolError}
 use Rattle.hwdb_inspect.specs.Dumps.{IsDumpRefusal, IsSayable}
 use Rattle.hwdb_inspect.specs.declared.errors.DumpError.TheVariants as dumping
 use Rattle.hwdb_inspect.specs.declared.errors.DumpError.{DumpError}

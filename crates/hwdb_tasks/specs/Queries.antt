@@ -6,10 +6,10 @@ use Rattle.hwdb_spec.specs.Failures.{HasFailed}
 use Rattle.hwdb_spec.specs.Store.{Contents}
 use Rattle.hwdb_spec.specs.System.{asked_database}
 use Rattle.hwdb_spec.specs.Texts.{devices_of, max_file}
-use Rattle.hwdb_commands.specs.Devices.{WrotePrefix}
-use Rattle.hwdb_commands.specs.Lookups.{IsQueryRefusal, IsTextOf}
-use Rattle.hwdb_commands.specs.declared.errors.ToolError.TheVariants.{Read, TooLong}
-use Rattle.hwdb_commands.specs.declared.errors.ToolError.{ToolError}
+use Rattle.hwdb_transfer.specs.Devices.{WrotePrefix}
+use Rattle.hwdb_transfer.specs.Databases.{IsQueryRefusal, IsTextOf}
+use Rattle.hwdb_transfer.specs.declared.errors.ToolError.TheVariants.{Read, TooLong}
+use Rattle.hwdb_transfer.specs.declared.errors.ToolError.{ToolError}
 use Rattle.hwdb_stream.specs.Streams.{IfBadDatabase, IsStreamRefusal, texts_of}
 use Rattle.hwdb_system.specs.Refusals.{IsAt}
 use Rattle.hwdb_system.specs.declared.refusals.Refusal.TheVariants.{At, Plain}

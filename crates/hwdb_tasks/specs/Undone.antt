@@ -9,11 +9,11 @@ use Rattle.hwdb_spec.specs.Store.{AreTaken, Contents, Outcomes, NoMore, Same, da
 use Rattle.hwdb_spec.specs.System.{AreFilesIn, asked_database, bytes_at, database_folder, etc_files, usr_files}
 use Rattle.hwdb_spec.specs.Texts.{IsSpelling, max_file}
 use Rattle.hwdb_store.specs.declared.replacement.Unreplaced.{Unreplaced}
-use Rattle.hwdb_commands.specs.Devices.{AppendsPrefix, WroteTextsPrefix, WrotePrefix}
-use Rattle.hwdb_commands.specs.Lookups.{IsNoDatabase}
+use Rattle.hwdb_transfer.specs.Devices.{AppendsPrefix, WroteTextsPrefix, WrotePrefix}
+use Rattle.hwdb_transfer.specs.Databases.{IsNoDatabase}
 use Rattle.hwdb_commands.specs.Updates.{AreAskTexts, IsAskRefusal, IsUpdateRefusal, UpdateUndone}
-use Rattle.hwdb_commands.specs.declared.errors.ToolError.TheVariants.{BadDatabase, BadPosition, Memory, Write}
-use Rattle.hwdb_commands.specs.declared.errors.ToolError.{ToolError}
+use Rattle.hwdb_transfer.specs.declared.errors.ToolError.TheVariants.{BadDatabase, BadPosition, Memory, Write}
+use Rattle.hwdb_transfer.specs.declared.errors.ToolError.{ToolError}
 use Rattle.hwdb_lint.specs.Checks.{IsChecksRefusal}
 use Rattle.hwdb_tasks.specs.Done.{IsFrom}
 use Rattle.hwdb_system.specs.Refusals.{IsOver, IsUnread}

@@ -1,16 +1,17 @@
 //! What devices get: from the database, or from one text file.
 ghost use Rattle.std.specs.Prelude.{◌≡◌, ◌≢◌, ◌⊎◌, option_map, IfErr, OnOk};
 ghost use Rattle.hwdb_spec.specs.Failures.{HasFailed};
-ghost use Rattle.hwdb_commands.specs.Lookups.{IsQueryRefusal, IsTextOf};
+ghost use Rattle.hwdb_transfer.specs.Databases.{IsQueryRefusal, IsTextOf};
 ghost use Rattle.hwdb_system.specs.Refusals.{HasReason, IsUnreadable};
 ghost use Rattle.hwdb_tasks.specs.Done.{IsAnswered, IsAsked, IsListFrom, explain_form};
 ghost use Rattle.hwdb_tasks.specs.Undone.{IsAnswerRefused, IsAskRefused, IsListRefusedBy};
 ghost use Rattle.hwdb_system.specs.declared.refusals.Refusal.TheVariants.{Plain};
 
 use crate::databases::asked;
-use hwdb_commands::{ToolError, ask, run_explain, run_explain_json, run_list, run_list_json};
+use hwdb_commands::{ask, run_explain, run_explain_json, run_list, run_list_json};
 use hwdb_devices::Sink;
 use hwdb_system::{Refusal, System};
+use hwdb_transfer::ToolError;
 use std::alloc::Global;
 
 /// Prints the properties that the database below the root gives the device, and where each comes from.

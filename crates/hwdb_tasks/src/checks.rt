@@ -10,11 +10,11 @@ ghost use Rattle.hwdb_tasks.specs.Undone.{AreUncheckable, IsCheckRefused, IsGive
 ghost use Rattle.hwdb_system.specs.Reading.{AreUnread};
 ghost use Rattle.hwdb_system.specs.declared.refusals.Refusal.TheVariants.{Plain};
 
-use hwdb_commands::ToolError;
 use hwdb_devices::Sink;
 use hwdb_lint::{TextFile, check_files};
 use hwdb_system::{Refusal, System, selected};
 use hwdb_text::Chosen;
+use hwdb_transfer::ToolError;
 use std::alloc::{AllocError, Global};
 
 /// Says of the given text files, or where none is given of those of both folders below the root, what is wrong in them.

@@ -8,9 +8,9 @@ ghost use Rattle.hwdb_tasks.specs.NamedDatabases.{IsNamedPath, IsUnnamed, named_
 ghost use Rattle.hwdb_tasks.specs.Undone.{IsAskedPath, IsUnfound};
 ghost use Rattle.hwdb_system.specs.declared.refusals.Refusal.TheVariants.{Plain};
 
-use hwdb_commands::ToolError;
 use hwdb_store::DATABASE;
 use hwdb_system::{Refusal, System, joined, path_in};
+use hwdb_transfer::ToolError;
 use std::alloc::{AllocError, Global};
 
 const ETC_FOLDER: &str = "/etc/udev";

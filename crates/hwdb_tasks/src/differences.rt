@@ -5,10 +5,10 @@ ghost use Rattle.hwdb_system.specs.Refusals.{HasReason, IsUnreadable};
 ghost use Rattle.hwdb_tasks.specs.ComparedDatabases.{IsCompared, IsDiffRefused, IsOfDiff};
 ghost use Rattle.hwdb_system.specs.declared.refusals.Refusal.TheVariants.{Plain};
 
-use hwdb_commands::ToolError;
 use hwdb_devices::Sink;
 use hwdb_inspect::{DiffError, run_diff};
 use hwdb_system::{Refusal, System};
+use hwdb_transfer::ToolError;
 use std::alloc::Global;
 
 /// Prints what changed from the database at one path to that at another: a line for each pattern and key where the two

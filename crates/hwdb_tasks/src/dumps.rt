@@ -1,16 +1,16 @@
 //! `dump`: a database that is read and printed as a text file.
-ghost use Rattle.std.specs.Prelude.{◌≡◌, ◌++◌, option_map, IfOk, IfErr, OnOk};
+ghost use Rattle.std.specs.Prelude.{◌≡◌, option_map, IfOk, IfErr, OnOk};
 ghost use Rattle.hwdb_spec.specs.Failures.{HasFailed};
 ghost use Rattle.hwdb_system.specs.Refusals.{HasReason, IsInWords, IsUnreadable};
 ghost use Rattle.hwdb_tasks.specs.NamedDatabases.{IsDumpRefused, IsDumped, IsOfDump, unsayable_text};
 ghost use Rattle.hwdb_system.specs.declared.refusals.Refusal.TheVariants.{Plain};
 
 use crate::databases::named;
-use hwdb_commands::ToolError;
 use hwdb_devices::Sink;
 use hwdb_inspect::{DumpError, run_dump};
 use hwdb_lint::push_shown;
 use hwdb_system::{Refusal, System};
+use hwdb_transfer::ToolError;
 use std::alloc::{AllocError, Global};
 
 /// Prints the database at the path, or where none is given the one that is asked, as a text file. Refuses bytes that are no

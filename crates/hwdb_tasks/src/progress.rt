@@ -4,7 +4,7 @@ ghost use Rattle.std.specs.Fmt.{decimal};
 ghost use Rattle.std.specs.FinMap as finite;
 ghost use Rattle.hwdb_spec.specs.Checks.{count_text};
 ghost use Rattle.hwdb_spec.specs.Progress.{chosen_line, kept_line, masks, progress_text};
-ghost use Rattle.hwdb_spec.specs.Tree.{Map, map_of_files};
+ghost use Rattle.hwdb_spec.specs.Tree.{Map};
 ghost use Rattle.hwdb_spec.specs.Written.{IsDatabaseOf};
 ghost use Rattle.hwdb_text.specs.Views.{choice_of};
 ghost use Rattle.hwdb_compile.specs.Views.{ForFolders, choice_in};

@@ -1,8 +1,8 @@
 //! `query`: what each of several devices gets, those of the words or those that standard input names.
-ghost use Rattle.std.specs.Prelude.{◌≡◌, ◌≢◌, ◌⊎◌, true, false, map, string_bytes, IfErr, IfSome, OnOk};
+ghost use Rattle.std.specs.Prelude.{◌≡◌, ◌⊎◌, true, false, map, string_bytes, IfErr, IfSome, OnOk};
 ghost use Rattle.hwdb_spec.specs.Failures.{HasFailed};
 ghost use Rattle.hwdb_spec.specs.Texts.{devices_of};
-ghost use Rattle.hwdb_commands.specs.Lookups.{IsQueryRefusal, IsTextOf};
+ghost use Rattle.hwdb_transfer.specs.Databases.{IsQueryRefusal, IsTextOf};
 ghost use Rattle.hwdb_stream.specs.Streams.{texts_of};
 ghost use Rattle.hwdb_system.specs.Refusals.{HasReason};
 ghost use Rattle.hwdb_tasks.specs.Done.{IsAnswered};
@@ -11,10 +11,11 @@ ghost use Rattle.hwdb_tasks.specs.Undone.{IsAnswerRefused};
 ghost use Rattle.hwdb_system.specs.declared.refusals.Refusal.TheVariants.{Plain};
 
 use crate::databases::asked;
-use hwdb_commands::{ToolError, run_queries, run_queries_json};
+use hwdb_commands::{run_queries, run_queries_json};
 use hwdb_devices::{Cause, Sink, Source};
 use hwdb_stream::run_stream;
 use hwdb_system::{Refusal, System};
+use hwdb_transfer::ToolError;
 use std::alloc::Global;
 
 /// Prints the properties that the database below the root gives each device. Where the only device is `-`, they are those

@@ -1,5 +1,5 @@
 //! `update`: the text files of both folders, compiled into the database of one.
-ghost use Rattle.std.specs.Prelude.{◌≡◌, ◌≢◌, ◌≤◌, map, option_map, string_bytes, All, IfOk, IfErr, OnOk, IsErrOf};
+ghost use Rattle.std.specs.Prelude.{◌≡◌, ◌≢◌, ◌≤◌, map, option_map, string_bytes, All, IfOk, IfErr, IsErrOf};
 ghost use Rattle.hwdb_spec.specs.Progress.{given_where, update_text};
 ghost use Rattle.hwdb_spec.specs.Store as spec;
 ghost use Rattle.hwdb_spec.specs.System as Folder;
@@ -8,7 +8,7 @@ ghost use Rattle.hwdb_spec.specs.Texts.{max_file};
 ghost use Rattle.hwdb_text.specs.Views.{IsStorableChoice};
 ghost use Rattle.hwdb_compile.specs.Views.{ForFolders, choice_in};
 ghost use Rattle.hwdb_store.specs.Views.{failures_after};
-ghost use Rattle.hwdb_commands.specs.Devices.{AppendsPrefix};
+ghost use Rattle.hwdb_transfer.specs.Devices.{AppendsPrefix};
 ghost use Rattle.hwdb_commands.specs.Updates.{IsUpdateRefusal, OldOrWritten, OnUnreplaced, UpdateUndone, Updated};
 ghost use Rattle.hwdb_tasks.specs.Done.{IsUpdated, OldOrUpdated};
 ghost use Rattle.hwdb_system.specs.Refusals.{HasReason};
@@ -17,11 +17,12 @@ ghost use Rattle.hwdb_system.specs.declared.refusals.Refusal.TheVariants.{Plain}
 
 use crate::databases::database_folder;
 use crate::progress::progress;
-use hwdb_commands::{MAX_BYTES, ToolError, put_in_place};
+use hwdb_commands::put_in_place;
 use hwdb_compile::{ChosenFile, compile_chosen};
 use hwdb_devices::Sink;
 use hwdb_store::{DATABASE, Store, Unreplaced};
 use hwdb_system::{Refusal, System, path_in, selected, with_texts};
+use hwdb_transfer::{MAX_BYTES, ToolError};
 use std::alloc::Global;
 
 /// Compiles chosen files, says of them what is to be said, and puts their database in its place in a folder of the

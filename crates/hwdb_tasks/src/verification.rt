@@ -8,11 +8,11 @@ ghost use Rattle.hwdb_system.specs.declared.refusals.Refusal.TheVariants.{Plain}
 
 use crate::databases::named;
 use crate::verdicts::verdict;
-use hwdb_commands::ToolError;
 use hwdb_devices::Sink;
 use hwdb_inspect::run_verify;
 use hwdb_reader::DbFault;
 use hwdb_system::{Refusal, System};
+use hwdb_transfer::ToolError;
 use std::alloc::Global;
 
 /// Prints how much is in the database at the path, or where none is given in the one that is asked. Refuses bytes that are

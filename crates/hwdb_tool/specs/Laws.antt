@@ -8,7 +8,7 @@ use Rattle.hwdb_spec.specs.Last.{AreLast}
 use Rattle.hwdb_spec.specs.Store.{Contents, path_in, database_name, database_file}
 use Rattle.hwdb_spec.specs.System.{AreFilesIn, database_folder, etc_files, usr_files}
 use Rattle.hwdb_spec.specs.Texts.{properties_text, queries_text}
-use Rattle.hwdb_commands.specs.Lookups.{IsTextOf}
+use Rattle.hwdb_transfer.specs.Databases.{IsTextOf}
 use Rattle.hwdb_tasks.specs.Done.{IsAnswered, IsUpdated}
 
 -- Standard output took for each key the value of the last assignment: of those that the text files of both folders have,

@@ -6,7 +6,7 @@ use Rattle.std.specs.Io.KnownBytes.{Appends}
 use Rattle.hwdb_cli.specs.Words.{AskFor, AskForText}
 use Rattle.hwdb_spec.specs.Store.{Contents, Outcomes, Same, InPlace}
 use Rattle.hwdb_spec.specs.System.{database_folder}
-use Rattle.hwdb_commands.specs.Lookups.{IsTextOf}
+use Rattle.hwdb_transfer.specs.Databases.{IsTextOf}
 use Rattle.hwdb_cli.specs.declared.job.Task.TheVariants.{Ask, Check, Diff, Dump, Explain, List as ListHits, Query, Update, Verify}
 use Rattle.hwdb_cli.specs.declared.job.Task.{Task}
 use Rattle.hwdb_cli.specs.declared.job.Job.{Job}

@@ -9,9 +9,9 @@ use Rattle.hwdb_cli.specs.declared.job.WordsFault.TheVariants as words_fault
 use Rattle.hwdb_cli.specs.declared.job.WordsFault.{WordsFault}
 use Rattle.hwdb_spec.specs.Store.{Contents, Outcomes}
 use Rattle.hwdb_spec.specs.System.{database_folder}
-use Rattle.hwdb_commands.specs.Devices.{AppendsPrefix}
-use Rattle.hwdb_commands.specs.Lookups.{IsQueryRefusal, IsTextOf}
-use Rattle.hwdb_commands.specs.declared.errors.ToolError.TheVariants.{Memory, Write}
+use Rattle.hwdb_transfer.specs.Devices.{AppendsPrefix}
+use Rattle.hwdb_transfer.specs.Databases.{IsQueryRefusal, IsTextOf}
+use Rattle.hwdb_transfer.specs.declared.errors.ToolError.TheVariants.{Memory, Write}
 use Rattle.hwdb_tasks.specs.CheckedFiles.{AreCheckedFiles}
 use Rattle.hwdb_tasks.specs.ComparedDatabases.{IsDiffRefused}
 use Rattle.hwdb_tasks.specs.NamedDatabases.{IsDumpRefused, IsVerifyRefused}

@@ -10,10 +10,10 @@ ghost use Rattle.hwdb_tool.specs.TaskRefusals.{AreRefused, IsJobReason, IsJobRef
 ghost use Rattle.hwdb_system.specs.declared.refusals.Refusal.TheVariants.{Plain};
 
 use hwdb_cli::{Job, Task, WordsFault, read_words};
-use hwdb_commands::{ToolError, write_text};
 use hwdb_devices::{Sink, Source};
 use hwdb_system::{Refusal, System, refuse_for, refuse_text};
 use hwdb_tasks::{ask_file, check, diff, dump, explain, list, query, update, verify};
+use hwdb_transfer::{ToolError, write_text};
 use std::alloc::Global;
 
 /// Does what the words say, the first of which is the program's name, and returns the status: 0; 1 where `check` or

@@ -14,9 +14,8 @@ mod laws;
 
 pub use dispatch::program;
 pub use hwdb_cli::{Job, Task, WordsFault, read_words};
-pub use hwdb_commands::{
-    ToolError, ask, read_all, run_explain, run_list, run_queries, run_query, run_update, write_text,
-};
+pub use hwdb_commands::{ask, run_explain, run_list, run_queries, run_query, run_update};
 pub use hwdb_devices::{Cause, DeviceFailed, FromRead, Sink, Source, ToWrite, testing};
 pub use hwdb_system::{Refusal, System, SystemStore};
+pub use hwdb_transfer::{ToolError, read_all, write_text};
 pub use laws::update_then_query;

@@ -1,9 +1,9 @@
 //! The texts of the errors that the program says in words of its own.
-use hwdb_commands::ToolError;
 use hwdb_compile::CompileError;
 use hwdb_query::{CursorError, PositionError};
 use hwdb_reader::DbFault;
 use hwdb_text::{ScanError, SelectError};
+use hwdb_transfer::ToolError;
 use hwdb_writer::StoreError;
 use std::test::Fail;
 

@@ -1,9 +1,9 @@
 //! The line of each refusal.
-use hwdb_commands::ToolError;
 use hwdb_devices::Cause;
 use hwdb_devices::testing::MemorySink;
 use hwdb_reader::DbFault;
 use hwdb_system::{Refusal, refuse_for};
+use hwdb_transfer::ToolError;
 use std::alloc::Global;
 use std::process::Abort;
 use std::test::Fail;

@@ -3,9 +3,9 @@ ghost use Rattle.std.specs.Prelude.{Some, take};
 
 use crate::tests::calls::{ask, list, query};
 use crate::tests::compiling::compiled;
-use hwdb_commands::{ToolError, write_text};
 use hwdb_devices::testing::MemorySink;
 use hwdb_devices::{Cause, DeviceFailed, Sink, ToWrite};
+use hwdb_transfer::{ToolError, write_text};
 use std::alloc::Global;
 use std::io::{self, Write};
 use std::test::Fail;

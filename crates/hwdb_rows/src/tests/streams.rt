@@ -1,8 +1,8 @@
 //! Sources of devices, one a line, that give a byte at a time, or fail.
 use crate::tests::compiling::compiled;
-use hwdb_commands::ToolError;
 use hwdb_devices::testing::{MemorySink, MemorySource};
 use hwdb_stream::{LineReader, run_stream};
+use hwdb_transfer::ToolError;
 use std::test::Fail;
 
 /// A line may have so many bytes, and no more.

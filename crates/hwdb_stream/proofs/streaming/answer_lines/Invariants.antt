@@ -1,6 +1,6 @@
 use Rattle.std.proofs.Common.{◌≡◌, ◌≤◌, ◌+◌, List, ℕ, Option, IfSome, length}
 use Rattle.std.specs.Io.KnownBytes.{Appends}
-use Rattle.hwdb_commands.specs.Devices.{AppendsPrefix}
+use Rattle.hwdb_transfer.specs.Devices.{AppendsPrefix}
 use Rattle.hwdb_spec.specs.Texts.{devices_of}
 use Rattle.hwdb_stream.specs.Internal.{texts_from}
 use Rattle.hwdb_stream.specs.Streams.{texts_of, to_come}

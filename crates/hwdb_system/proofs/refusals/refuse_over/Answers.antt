@@ -1,6 +1,6 @@
 use Rattle.std.proofs.Common.{ap, sym, ◌∙◌, ◌++◌, List, [], ℕ}
 use Rattle.hwdb_system.specs.Refusals.{refusal_line, path_text}
-use Rattle.hwdb_commands.specs.declared.errors.ToolError.{ToolError}
+use Rattle.hwdb_transfer.specs.declared.errors.ToolError.{ToolError}
 use Rattle.hwdb_system.proofs.LineLemmas.{refused_as, two_line, plain_text}
 use Rattle.hwdb_system.proofs.refusals.refuse_over.Goals as goal
 

@@ -1,5 +1,5 @@
 use Rattle.std.proofs.Common.{◌∙◌, ap, inr, subst, sym, true, false, Err, IfErr, Some}
-use Rattle.hwdb_commands.specs.Lookups.{IsQueryRefusal, IsTextOf}
+use Rattle.hwdb_transfer.specs.Databases.{IsQueryRefusal, IsTextOf}
 use Rattle.hwdb_tasks.specs.Done.{explain_form}
 use Rattle.hwdb_tasks.specs.Undone.{IsAnswerRefused}
 use Rattle.hwdb_tasks.proofs.AnswerLemmas.{unanswered}

@@ -1,5 +1,5 @@
 use Rattle.std.proofs.Common.{◌∙◌, ap, map, string_bytes, subst, sym, true, false, IfErr, Some}
-use Rattle.hwdb_commands.specs.Lookups.{IsQueryRefusal, IsTextOf}
+use Rattle.hwdb_transfer.specs.Databases.{IsQueryRefusal, IsTextOf}
 use Rattle.hwdb_stream.specs.Streams.{texts_of}
 use Rattle.hwdb_tasks.specs.Undone.{IsAnswerRefused}
 use Rattle.hwdb_tasks.proofs.AnswerLemmas.{unanswered}

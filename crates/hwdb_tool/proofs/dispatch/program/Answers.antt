@@ -1,6 +1,6 @@
 use Rattle.std.proofs.Common.{inl, inr, ⊎_elim, ◌∙◌, arith, refl, []}
 use Rattle.hwdb_cli.specs.declared.job.WordsFault.TheVariants as words_fault
-use Rattle.hwdb_commands.specs.declared.errors.ToolError.TheVariants.{Memory}
+use Rattle.hwdb_transfer.specs.declared.errors.ToolError.TheVariants.{Memory}
 use Rattle.hwdb_system.specs.declared.refusals.Refusal.TheVariants.{Plain}
 use Rattle.hwdb_tool.proofs.dispatch.program.Goals as goal
 

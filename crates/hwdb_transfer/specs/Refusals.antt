@@ -1,8 +1,8 @@
 -- Which refusals the calls below become, and the words of each. Our choice.
 use Rattle.std.specs.Prelude.{ℕ, List, ◌++◌, codes}
 use Rattle.hwdb_spec.specs.Texts.{db_fault_name, db_fault_offset, at_offset}
-use Rattle.hwdb_commands.specs.declared.errors.ToolError.TheVariants.{Memory, TooManyFiles, TooManyLines, TooLarge, BadPosition, PageZero, BadDatabase, Replace, Read, Write, TooLong}
-use Rattle.hwdb_commands.specs.declared.errors.ToolError.{ToolError}
+use Rattle.hwdb_transfer.specs.declared.errors.ToolError.TheVariants.{Memory, TooManyFiles, TooManyLines, TooLarge, BadPosition, PageZero, BadDatabase, Replace, Read, Write, TooLong}
+use Rattle.hwdb_transfer.specs.declared.errors.ToolError.{ToolError}
 use Rattle.hwdb_compile.specs.declared.errors.CompileError.{CompileError}
 use Rattle.hwdb_compile.specs.declared.errors.CompileError.TheVariants as compiling
 use Rattle.hwdb_query.specs.declared.errors.CursorError.{CursorError}

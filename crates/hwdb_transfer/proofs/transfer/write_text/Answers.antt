@@ -1,8 +1,8 @@
 use Rattle.std.proofs.Common.{rules, arith, ◌∙◌}
 use Rattle.std.proofs.lemmas.Grind.{common_steps}
 use Rattle.std.proofs.lemmas.List.{take_rest}
-use Rattle.hwdb_commands.proofs.FailureLemmas.{failed_call, later_call, written_more}
-use Rattle.hwdb_commands.proofs.transfer.write_text.Goals as goal
+use Rattle.hwdb_transfer.proofs.FailureLemmas.{failed_call, later_call, written_more}
+use Rattle.hwdb_transfer.proofs.transfer.write_text.Goals as goal
 
 pub loop-written-preserved : goal.loop-written-preserved
 loop-written-preserved g c = record {

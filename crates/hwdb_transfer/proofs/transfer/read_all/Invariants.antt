@@ -1,6 +1,6 @@
 use Rattle.std.proofs.Common.{◌≡◌, ◌≤◌, ◌-◌, ◌+◌, length, vec_len}
 use Rattle.std.specs.Io.KnownBytes.{Consumes}
-use Rattle.hwdb_commands.proofs.transfer.read_all.Given as goal
+use Rattle.hwdb_transfer.proofs.transfer.read_all.Given as goal
 
 abbrev pub invariant-filling : goal.invariant-filling
 invariant-filling g l = record {

@@ -1,13 +1,17 @@
 //! Reading a whole source and writing a whole text.
-ghost use Rattle.std.specs.Prelude.{◌≡◌, ◌≢◌, ◌<◌, ◌≤◌, ℕ, List, Option, length, IfOk, IfErr, IfSome, OnOk, OnErr, vec_len, IsErrOf};
+ghost use Rattle.std.specs.Prelude.{◌≡◌, ◌<◌, ◌≤◌, length, IfOk, IfErr, IfSome, OnOk, OnErr, vec_len, IsErrOf};
 ghost use Rattle.std.specs.Io.KnownBytes.{Appends, IsAtEnd};
 ghost use Rattle.hwdb_spec.specs.Failures.{HasFailed, OneFailed};
-ghost use Rattle.hwdb_commands.specs.Devices.{AppendsPrefix};
-ghost use Rattle.hwdb_commands.specs.Refusals.{IsReadRefusal};
+ghost use Rattle.hwdb_transfer.specs.Devices.{AppendsPrefix};
+ghost use Rattle.hwdb_transfer.specs.Refusals.{IsReadRefusal};
 
 use crate::errors::ToolError;
 use hwdb_devices::{Sink, Source};
 use std::alloc::Global;
+
+/// The program's limit: a text file or database that it reads, and the database that it writes, has at
+/// most so many bytes.
+pub const MAX_BYTES: u32 = 268_435_456;
 
 /// Writes all of the text and flushes. Takes no memory. The first call that fails ends it, as
 /// `ToolError::Write`; a prefix of the text was taken then.

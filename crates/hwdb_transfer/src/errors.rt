@@ -1,7 +1,7 @@
 //! Why a call of this crate refuses.
 ghost use Rattle.std.specs.Prelude.{◌≡◌};
-ghost use Rattle.hwdb_commands.specs.declared.errors.ToolError.TheVariants.{Memory, BadDatabase, Replace};
-ghost use Rattle.hwdb_commands.specs.Refusals.{refusal_of_select, refusal_of_scan, refusal_of_compile, refusal_of_cursor, refusal_of_position, error_words};
+ghost use Rattle.hwdb_transfer.specs.declared.errors.ToolError.TheVariants.{Memory, BadDatabase, Replace};
+ghost use Rattle.hwdb_transfer.specs.Refusals.{refusal_of_select, refusal_of_scan, refusal_of_compile, refusal_of_cursor, refusal_of_position, error_words};
 
 use hwdb_compile::CompileError;
 use hwdb_query::{CursorError, PositionError};

@@ -1,0 +1,4 @@
+pub mod Devices
+pub mod Refusals
+pub mod Databases
+pub mod LoneFile

@@ -1,0 +1,13 @@
+//! How commands read and write, and why a call of one refuses.
+//!
+//! | Module | What it does |
+//! |---|---|
+//! | `transfer` | a whole source is read, a whole text is written |
+//! | `errors` | why a call refuses |
+#![tactic(auto)]
+
+mod errors;
+mod transfer;
+
+pub use errors::ToolError;
+pub use transfer::{MAX_BYTES, read_all, write_text};
