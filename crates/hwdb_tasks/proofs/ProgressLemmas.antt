@@ -1,5 +1,5 @@
 -- What is said of the files of an update.
-use Rattle.std.proofs.Common.{◌≡◌, ◌∙◌, ◌+◌, ◌<◌, ◌++◌, ◌||◌, ap, append_assoc, arith, sym, refl, cond, get_or, map, length, string_bytes, take, ℕ, zero, suc, Bool, Global, String, true, false, List, [], ◌∷◌, Some}
+use Rattle.std.proofs.Common.{◌≡◌, ◌∙◌, ◌<◌, ◌++◌, ◌||◌, ap, append_assoc, arith, sym, refl, cond, get_or, map, length, string_bytes, take, ℕ, zero, suc, Bool, Global, String, true, false, List, [], ◌∷◌, Some}
 use Rattle.std.specs.Borrow.{Bor}
 use Rattle.std.specs.BTreeSet.{BTreeSet, contains}
 use Rattle.std.specs.Cmp.Lexicographic.{slice_cmp}

@@ -16,7 +16,7 @@ use Rattle.hwdb_transfer.specs.declared.errors.ToolError.TheVariants.{BadDatabas
 use Rattle.hwdb_transfer.specs.declared.errors.ToolError.{ToolError}
 use Rattle.hwdb_lint.specs.Checks.{IsChecksRefusal}
 use Rattle.hwdb_tasks.specs.Done.{IsFrom}
-use Rattle.hwdb_system.specs.Refusals.{IsOver, IsUnread}
+use Rattle.hwdb_system.specs.Refusals.{IsOver, IsUnread, IsUnreadable}
 use Rattle.hwdb_system.specs.declared.refusals.Refusal.TheVariants.{NoDatabase, Plain}
 use Rattle.hwdb_system.specs.declared.refusals.Refusal.{Refusal}
 use Rattle.hwdb_system.specs.Reading.{AreUnread}
@@ -75,6 +75,11 @@ abbrev pub IsAskRefused : (file device : List ℕ) → Contents → Refusal → 
 IsAskRefused file device contents refusal err_before err_then out_before out_now =
     (IsUnread file refusal × (err_then ≡ err_before) × (out_now ≡ out_before))
     ⊎ ((error : ToolError) × (refusal ≡ Plain error) × IsUnasked file device contents error err_before err_then out_before out_now)
+
+-- a path can't be read: where it is given, also where nothing stands there, else only where reading it may fail
+abbrev pub IsUnreadableIf : (is_given : Bool) (MayFail : (path : List ℕ) → Type 0) → Contents → (path : List ℕ) → Type 0
+IsUnreadableIf true MayFail contents = IsUnreadable MayFail contents
+IsUnreadableIf false MayFail contents = MayFail
 
 -- reading one of the given files was refused
 abbrev pub IsGivenUnread : (given : List (List ℕ)) → Refusal → Type 0

@@ -1,12 +1,12 @@
 //! `check`: text files that are read and looked over. Nothing is written but what is said of them.
-ghost use Rattle.std.specs.Prelude.{◌≡◌, ◌≢◌, ◌≤◌, map, string_bytes, IfOk, IfErr, length};
+ghost use Rattle.std.specs.Prelude.{◌≡◌, ◌≢◌, ◌≤◌, ◌==◌, not, map, string_bytes, IfOk, IfErr, length};
 ghost use Rattle.hwdb_spec.specs.Failures.{HasFailed};
 ghost use Rattle.hwdb_spec.specs.Folders.{path_of};
 ghost use Rattle.hwdb_text.specs.Views.{choice_of};
 ghost use Rattle.hwdb_system.specs.Refusals.{HasReason, IsUnreadable};
 ghost use Rattle.hwdb_tasks.specs.CheckedFiles.{AreCheckedFiles, AreChosenFiles, AreGivenFiles, IsChecked};
 ghost use Rattle.hwdb_tasks.specs.Internal.{AreTextsAt};
-ghost use Rattle.hwdb_tasks.specs.Undone.{AreUncheckable, IsCheckRefused, IsGivenUnread};
+ghost use Rattle.hwdb_tasks.specs.Undone.{AreUncheckable, IsCheckRefused, IsGivenUnread, IsUnreadableIf};
 ghost use Rattle.hwdb_system.specs.Reading.{AreUnread};
 ghost use Rattle.hwdb_system.specs.declared.refusals.Refusal.TheVariants.{Plain};
 
@@ -37,8 +37,8 @@ pub fn check<D: System, O: Sink>(
         (AreCheckedFiles (map string_bytes given.now) root.now (D.Store.seen system.now))
         r (O.taken out.old) (O.taken out.new)) }
     ensures reason { D.Store.tells → IfErr result (HasReason
-        (IsUnreadable (D.System.may_fail system.now) (D.Store.seen system.now)) ⊥
-        (D.Store.seen system.now)) }
+        (IsUnreadableIf (not (length given.now == 0))
+        (D.System.may_fail system.now) (D.Store.seen system.now)) ⊥ (D.Store.seen system.now)) }
     ensures cause { IfErr result (λ r. r ≡ Plain ToolError.Write
         → HasFailed (O.failures out.old) (O.failures out.new)) }
 {
@@ -92,9 +92,8 @@ fn check_chosen<D: System, O: Sink>(
         (AreUnread root.now (D.Store.seen system.now))
         (AreChosenFiles root.now (D.Store.seen system.now))
         r (O.taken out.old) (O.taken out.new)) }
-    ensures reason { D.Store.tells → IfErr result (HasReason
-        (IsUnreadable (D.System.may_fail system.now) (D.Store.seen system.now)) ⊥
-        (D.Store.seen system.now)) }
+    ensures reason { D.Store.tells → IfErr result
+        (HasReason (D.System.may_fail system.now) ⊥ (D.Store.seen system.now)) }
     ensures cause { IfErr result (λ r. r ≡ Plain ToolError.Write
         → HasFailed (O.failures out.old) (O.failures out.new)) }
 {

@@ -1,11 +1,11 @@
 //! The databases of both folders: where each stands, and what is asked.
-ghost use Rattle.std.specs.Prelude.{◌≡◌, ◌≢◌, ◌++◌, Some, option_map, string_bytes, IfOk, IfErr, IfSome};
+ghost use Rattle.std.specs.Prelude.{◌≡◌, ◌≢◌, ◌++◌, Some, is_some, option_map, string_bytes, IfOk, IfErr, IfSome};
 ghost use Rattle.hwdb_spec.specs.Store as spec;
 ghost use Rattle.hwdb_spec.specs.System as Folder;
 ghost use Rattle.hwdb_spec.specs.System.{asked_database, bytes_at};
 ghost use Rattle.hwdb_system.specs.Refusals.{HasReason, IsUnread, IsUnreadable};
 ghost use Rattle.hwdb_tasks.specs.NamedDatabases.{IsNamedPath, IsUnnamed, named_database};
-ghost use Rattle.hwdb_tasks.specs.Undone.{IsAskedPath, IsUnfound};
+ghost use Rattle.hwdb_tasks.specs.Undone.{IsAskedPath, IsUnfound, IsUnreadableIf};
 ghost use Rattle.hwdb_system.specs.declared.refusals.Refusal.TheVariants.{Plain};
 
 use hwdb_store::DATABASE;
@@ -94,8 +94,8 @@ pub fn named<D: System>(
     ensures refused { D.Store.tells → IfErr result (IsUnnamed (option_map (λ t. t.now) given.entry)
         root.now (D.Store.seen system.now)) }
     ensures reason { IfErr result (HasReason
-        (IsUnreadable (D.System.may_fail system.now) (D.Store.seen system.now)) ⊥
-        (D.Store.seen system.now)) }
+        (IsUnreadableIf (is_some (option_map (λ t. t.now) given.entry))
+        (D.System.may_fail system.now) (D.Store.seen system.now)) ⊥ (D.Store.seen system.now)) }
     ensures unread { IfErr result (λ r. r ≢ Plain ToolError.Write) }
 {
     match given {

@@ -1,8 +1,9 @@
 //! `dump`: a database that is read and printed as a text file.
-ghost use Rattle.std.specs.Prelude.{◌≡◌, option_map, IfOk, IfErr, OnOk};
+ghost use Rattle.std.specs.Prelude.{◌≡◌, is_some, option_map, IfOk, IfErr, OnOk};
 ghost use Rattle.hwdb_spec.specs.Failures.{HasFailed};
-ghost use Rattle.hwdb_system.specs.Refusals.{HasReason, IsInWords, IsUnreadable};
+ghost use Rattle.hwdb_system.specs.Refusals.{HasReason, IsInWords};
 ghost use Rattle.hwdb_tasks.specs.NamedDatabases.{IsDumpRefused, IsDumped, IsOfDump, unsayable_text};
+ghost use Rattle.hwdb_tasks.specs.Undone.{IsUnreadableIf};
 ghost use Rattle.hwdb_system.specs.declared.refusals.Refusal.TheVariants.{Plain};
 
 use crate::databases::named;
@@ -29,8 +30,8 @@ pub fn dump<D: System, O: Sink>(
         (λ r. IsDumpRefused (option_map (λ t. t.now) given.entry) root.now
         (D.Store.seen system.now) r (O.taken out.old) (O.taken out.new)) }
     ensures reason { IfErr result (HasReason
-        (IsUnreadable (D.System.may_fail system.now) (D.Store.seen system.now)) ⊥
-        (D.Store.seen system.now)) }
+        (IsUnreadableIf (is_some (option_map (λ t. t.now) given.entry))
+        (D.System.may_fail system.now) (D.Store.seen system.now)) ⊥ (D.Store.seen system.now)) }
     ensures cause { IfErr result (λ r. r ≡ Plain ToolError.Write
         → HasFailed (O.failures out.old) (O.failures out.new)) }
 {

@@ -1,9 +1,10 @@
 //! `verify`: a database that is read whole.
-ghost use Rattle.std.specs.Prelude.{◌≡◌, option_map, OnOk, IfErr};
+ghost use Rattle.std.specs.Prelude.{◌≡◌, is_some, option_map, OnOk, IfErr};
 ghost use Rattle.hwdb_spec.specs.Failures.{HasFailed};
 ghost use Rattle.hwdb_spec.specs.Verdicts.{verdict_text};
-ghost use Rattle.hwdb_system.specs.Refusals.{HasReason, IsInWords, IsUnreadable};
+ghost use Rattle.hwdb_system.specs.Refusals.{HasReason, IsInWords};
 ghost use Rattle.hwdb_tasks.specs.NamedDatabases.{IsOfVerify, IsPrinted, IsSummary, IsVerifyRefused};
+ghost use Rattle.hwdb_tasks.specs.Undone.{IsUnreadableIf};
 ghost use Rattle.hwdb_system.specs.declared.refusals.Refusal.TheVariants.{Plain};
 
 use crate::databases::named;
@@ -31,8 +32,8 @@ pub fn verify<D: System, O: Sink>(
         (λ r. IsVerifyRefused (option_map (λ t. t.now) given.entry) root.now
         (D.Store.seen system.now) r (O.taken out.old) (O.taken out.new)) }
     ensures reason { IfErr result (HasReason
-        (IsUnreadable (D.System.may_fail system.now) (D.Store.seen system.now)) ⊥
-        (D.Store.seen system.now)) }
+        (IsUnreadableIf (is_some (option_map (λ t. t.now) given.entry))
+        (D.System.may_fail system.now) (D.Store.seen system.now)) ⊥ (D.Store.seen system.now)) }
     ensures cause { IfErr result (λ r. r ≡ Plain ToolError.Write
         → HasFailed (O.failures out.old) (O.failures out.new)) }
 {

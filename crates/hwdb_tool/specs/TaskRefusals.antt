@@ -1,6 +1,6 @@
 -- Which refusals end a task, when each comes, and what it leaves: the files, what standard error had taken before the
 -- refusal's line, and standard output. Our choice.
-use Rattle.std.specs.Prelude.{◌≡◌, ◌≢◌, ◌⊎◌, ℕ, Bool, true, List, Option, map, option_map, string_bytes, codes}
+use Rattle.std.specs.Prelude.{◌≡◌, ◌≢◌, ◌⊎◌, ◌==◌, ℕ, Bool, true, false, not, is_some, length, List, Option, map, option_map, string_bytes, codes}
 use Rattle.hwdb_cli.specs.Words.{AskFor, AreToldBy}
 use Rattle.hwdb_cli.specs.declared.job.Job.{Job}
 use Rattle.hwdb_cli.specs.declared.job.Task.TheVariants.{Ask, Check, Diff, Dump, Explain, List as ListHits, Query, Update, Verify}
@@ -21,7 +21,7 @@ use Rattle.hwdb_tool.specs.Program.{reads_input, root_of}
 use Rattle.hwdb_system.specs.Refusals.{HasReason, IsAt, IsUnreadable, Refused, refusal_line, refusal_text}
 use Rattle.hwdb_system.specs.declared.refusals.Refusal.TheVariants.{Plain}
 use Rattle.hwdb_system.specs.declared.refusals.Refusal.{Refusal}
-use Rattle.hwdb_tasks.specs.Undone.{AreKept, AreUncheckable, IsAnswerRefused, IsAskRefused, IsCheckRefused, IsListRefusedBy, IsUnwritable, IsUpdateRefused}
+use Rattle.hwdb_tasks.specs.Undone.{AreKept, AreUncheckable, IsAnswerRefused, IsAskRefused, IsCheckRefused, IsListRefusedBy, IsUnreadableIf, IsUnwritable, IsUpdateRefused}
 
 -- a sink as it tells: what it took, and how many of its calls failed
 pub record Taken : Type 0 where
@@ -53,14 +53,14 @@ IsTaskRefused (Verify database) root usr input refusal old new left_before left 
 IsTaskRefused (Dump database) root usr input refusal old new left_before left err_before err_then out_before out_now =
     IsDumpRefused (option_map string_bytes database) root old refusal out_before out_now × (err_then ≡ err_before) × AreKept old new left_before left
 
--- a path that the task asks for can't be read: nothing stands under one that its words name, or reading may fail
+-- a path that the task asks for can't be read: reading it may fail, or it is one that the words name, and nothing stands there
 abbrev pub IsUnreadableFor : Task → (MayFail : (path : List ℕ) → Type 0) → Contents → (path : List ℕ) → Type 0
-IsUnreadableFor (Ask file device) MayFail contents = IsUnreadable MayFail contents
-IsUnreadableFor (Check files) MayFail contents = IsUnreadable MayFail contents
-IsUnreadableFor (Diff old_path new_path) MayFail contents = IsUnreadable MayFail contents
-IsUnreadableFor (Verify database) MayFail contents = IsUnreadable MayFail contents
-IsUnreadableFor (Dump database) MayFail contents = IsUnreadable MayFail contents
-IsUnreadableFor _ MayFail contents = MayFail
+IsUnreadableFor (Ask file device) = IsUnreadable
+IsUnreadableFor (Check files) = IsUnreadableIf (not (length files.items == 0))
+IsUnreadableFor (Diff old_path new_path) = IsUnreadable
+IsUnreadableFor (Verify database) = IsUnreadableIf (is_some (option_map string_bytes database))
+IsUnreadableFor (Dump database) = IsUnreadableIf (is_some (option_map string_bytes database))
+IsUnreadableFor _ = IsUnreadableIf false
 
 -- counts of failed calls: how many there were before, and how many there are now
 pub record Counts : Type 0 where
