@@ -69,7 +69,7 @@ scripts: try-memory try-definitions try-over-proved try-random try-rows try-cras
 	try-command-line try-installed try-library try-readme try-runs try-folders
 
 try-definitions:
-	tests/definitions hwdb_reader::laws::law_faultless hwdb_pattern hwdb_text::laws::lines_are_the_file
+	tests/definitions hwdb_reader::laws::law_faultless
 
 # The C library, over what `rt ci` proved.
 try-over-proved:
@@ -94,9 +94,7 @@ check-peer: all lib
 	tests/clients out/hwdb
 
 bench: all lib
-	cd crates/hwdb_bench && rt run -- data/workshop.bin data/devices 1
-	cp crates/hwdb_bench/out/hwdb_bench out/hwdb_bench
-	tests/bench out/hwdb out/hwdb_bench
+	tests/bench out/hwdb
 
 # Only where there is no program yet, so that root needs no toolchain to install what a user built.
 out/hwdb:

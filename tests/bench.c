@@ -8,7 +8,7 @@
  *                 command, its own and the system's, in place of wall time; a run that takes more than SECONDS of it has failed
  *   bench links FILE FOLDER COUNT               gives the file so many names in the folder, each ending in .hwdb
  *   bench read FILE                             reads a file into memory, 64 KiB at a time
- *   bench udev LIBRARY DEVICES ROUNDS           with libudev: opens the system's hardware database, looks up each line of
+ *   bench udev LIBRARY DEVICES ROUNDS           with libudev's calls: opens the system's hardware database, looks up each line of
  *                 the file DEVICES, so many times, and prints how many properties came in all
  *   bench sd LIBRARY DEVICES ROUNDS             the same with the calls of sd-hwdb: seek and enumerate */
 #define _GNU_SOURCE
@@ -125,7 +125,9 @@ static int look_up(const char *path, const char *devices, long rounds) {
     properties_of *properties = (properties_of *)named(library, "udev_hwdb_get_properties_list_entry");
     next_of *next = (next_of *)named(library, "udev_list_entry_get_next");
     struct bytes text = lines_of(devices);
-    void *hwdb = ((new_hwdb *)named(library, "udev_hwdb_new"))(((new_udev *)named(library, "udev_new"))());
+    /* Ours has the calls on the database alone, and libudev.so.1 looks at no argument there. */
+    new_udev *new = (new_udev *)dlsym(library, "udev_new");
+    void *hwdb = ((new_hwdb *)named(library, "udev_hwdb_new"))(new ? new() : NULL);
     if (!hwdb) return fprintf(stderr, "no hardware database\n"), 1;
     unsigned long found = 0;
     for (long round = 0; round < rounds; round++)

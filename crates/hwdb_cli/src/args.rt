@@ -188,25 +188,18 @@ fn task_of(alloc: Global, name: &str, inner: &ArgMatches<'_>) -> Result<Task, Al
     requires { IsCommand name.now (rows_of (found_of inner.now)) }
     ensures { IfOk result (IsTask name.now (rows_of (found_of inner.now))) }
 {
-    if name == "query" {
-        query_task(alloc, inner)
-    } else if name == "explain" {
-        explain_task(alloc, inner)
-    } else if name == "ask" {
-        ask_task(alloc, inner)
-    } else if name == "list" {
-        list_task(alloc, inner)
-    } else if name == "check" {
-        check_task(alloc, inner)
-    } else if name == "diff" {
-        diff_task(alloc, inner)
-    } else if name == "verify" {
-        verify_task(alloc, inner)
-    } else if name == "dump" {
-        dump_task(alloc, inner)
-    } else {
-        let verbose = has_flag(inner, "verbose");
-        Ok(Task::Update { verbose })
+    match name {
+        "query" => query_task(alloc, inner),
+        "explain" => explain_task(alloc, inner),
+        "ask" => ask_task(alloc, inner),
+        "list" => list_task(alloc, inner),
+        "check" => check_task(alloc, inner),
+        "diff" => diff_task(alloc, inner),
+        "verify" => verify_task(alloc, inner),
+        "dump" => dump_task(alloc, inner),
+        _ => Ok(Task::Update {
+            verbose: has_flag(inner, "verbose"),
+        }),
     }
 }
 

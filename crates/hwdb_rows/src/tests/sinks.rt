@@ -93,21 +93,7 @@ fn first_flush_fails(rt: HostRuntime) -> Result<(), Fail> {
     Ok(())
 }
 
-/// `query` refuses it behind its text, and `list` behind its first line.
-#[test]
-fn first_flush_of_a_database_fails(rt: HostRuntime) -> Result<(), Fail> {
-    let rows = [(QUERY, QUERY.printed), (LIST, "1:2:612a:4b\ta*\tK=1\n")];
-    for (row, taken) in rows {
-        let bytes = compiled(rt.alloc(), &[("1.hwdb", row.text)], &[])?;
-        let mut out = FirstFlushFails::new();
-        let seen = print(rt.alloc(), row, &bytes, &mut out);
-        assert_eq!(rt; seen, Err(ToolError::Write));
-        assert_eq!(rt; out.sink.taken(), taken.as_bytes());
-    }
-    Ok(())
-}
-
-/// A writer of the library that takes so many bytes at a time, and nothing more once it is full.
+/// A writer of the library that takes so many bytes at a time.
 #[derive(Drop)]
 struct ShortWriter {
     sink: MemorySink<64>,
@@ -129,11 +115,9 @@ fn written(
     row: Printing,
     bytes: &[u8],
     per_write: usize,
-    room: usize,
 ) -> (ToWrite<ShortWriter>, Result<(), ToolError>) {
     let mut sink: MemorySink<64> = MemorySink::new();
     sink.per_write = per_write;
-    sink.room = room;
     let mut out = ToWrite::new(ShortWriter { sink });
     let seen = print(alloc, row, bytes, &mut out);
     (out, seen)
@@ -145,7 +129,7 @@ fn short_writes(rt: HostRuntime) -> Result<(), Fail> {
     for row in [LIST, QUERY] {
         let bytes = compiled(rt.alloc(), &[("1.hwdb", row.text)], &[])?;
         for per_write in [1usize, 3, 64] {
-            let (out, seen) = written(rt.alloc(), row, &bytes, per_write, 64);
+            let (out, seen) = written(rt.alloc(), row, &bytes, per_write);
             assert_eq!(rt; seen, Ok(()));
             assert_eq!(rt; out.inner.sink.taken(), row.printed.as_bytes());
         }
@@ -153,18 +137,13 @@ fn short_writes(rt: HostRuntime) -> Result<(), Fail> {
     Ok(())
 }
 
-/// One that takes nothing more has failed.
+/// One that takes nothing has failed.
 #[test]
-fn full_writers(rt: HostRuntime) -> Result<(), Fail> {
-    for row in [LIST, QUERY] {
-        let bytes = compiled(rt.alloc(), &[("1.hwdb", row.text)], &[])?;
-        for (per_write, room, taken) in [(3usize, 5usize, 5usize), (0, 64, 0)] {
-            let (out, seen) = written(rt.alloc(), row, &bytes, per_write, room);
-            assert_eq!(rt; seen, Err(ToolError::Write));
-            assert_eq!(rt; out.inner.sink.taken(), &row.printed.as_bytes()[..taken]);
-            assert_eq!(rt; out.cause, Some(Cause::Nothing));
-        }
-    }
+fn full_writer(rt: HostRuntime) -> Result<(), Fail> {
+    let bytes = compiled(rt.alloc(), &[("1.hwdb", QUERY.text)], &[])?;
+    let (out, seen) = written(rt.alloc(), QUERY, &bytes, 0);
+    assert_eq!(rt; seen, Err(ToolError::Write));
+    assert_eq!(rt; out.cause, Some(Cause::Nothing));
     Ok(())
 }
 
