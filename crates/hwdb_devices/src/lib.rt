@@ -4,7 +4,7 @@
 //! |---|---|
 //! | `devices` | a source and a sink, and what they promise |
 //! | `adapters` | std's readers and writers as devices |
-//! | `testing` | devices in memory |
+//! | `testing` | a sink in memory |
 //! | `causes` | why the system failed, in its words |
 #![tactic(auto)]
 

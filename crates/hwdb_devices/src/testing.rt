@@ -1,59 +1,8 @@
-//! Devices over fixed memory, for tests: they tell their bytes, take no memory and fail where they are
-//! told to.
-ghost use Rattle.std.specs.Prelude.{◌≡◌, ◌≤◌, ◌+◌, Some, take};
+//! A sink over fixed memory, for tests: it tells its bytes, takes no memory and fails where it is told to.
+ghost use Rattle.std.specs.Prelude.{◌≡◌, ◌≤◌, Some, take};
 
 use crate::adapters::after_failure;
-use crate::devices::{DeviceFailed, Sink, Source};
-
-/// A source of the given bytes.
-#[derive(Drop)]
-pub struct MemorySource<'a> {
-    /// The bytes that are left.
-    pub rest: &'a [u8],
-    /// How many bytes a read gives at most; 0 counts as 1.
-    pub per_read: usize,
-    /// The number of the read that fails, counted from 0.
-    pub fails_at: Option<u64>,
-    /// How many reads there were.
-    pub reads: u64,
-    /// How many reads have failed.
-    pub failed: u64,
-}
-
-impl<'a> MemorySource<'a> {
-    /// The bytes in one piece, without a failure.
-    pub fn new(bytes: &'a [u8]) -> MemorySource<'a>
-        ensures bytes { result.rest.now ≡ bytes.now }
-        ensures failed { result.failed ≡ 0 }
-    {
-        MemorySource {
-            rest: bytes,
-            per_read: usize::MAX,
-            fails_at: None,
-            reads: 0,
-            failed: 0,
-        }
-    }
-}
-
-impl<'a> Source for MemorySource<'a> {
-    ghost left = { λ s. Some s.rest.now };
-
-    ghost failures = { λ s. s.failed };
-
-    fn read(&mut self, buf: &mut [u8]) -> Result<usize, DeviceFailed> {
-        let number = self.reads;
-        self.reads = self.reads.saturating_add(1);
-        if self.fails_at == Some(number) {
-            self.failed = after_failure(self.failed);
-            return Err(DeviceFailed);
-        }
-        let n = self.per_read.max(1).min(buf.len()).min(self.rest.len());
-        buf[..n].copy_from_slice(&self.rest[..n]);
-        self.rest = &self.rest[n..];
-        Ok(n)
-    }
-}
+use crate::devices::{DeviceFailed, Sink};
 
 /// A sink into an array.
 #[derive(Drop)]

@@ -1,4 +1,4 @@
-//! What only calls of the crates from the patterns to the commands show.
+//! What only calls of the crates from the text files to the program's refusals show.
 //!
 //! | Module | What it has |
 //! |---|---|
