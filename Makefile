@@ -27,7 +27,7 @@ CFLAGS ?= -O2
 WARNINGS := -std=c11 -Wall -Wextra -Werror
 HARDENED := -Wl,-z,relro -Wl,-z,now -Wl,-z,noexecstack -Wl,--no-undefined
 
-.PHONY: all lib linked-lib demo check scripts check-edits check-peer check-package bench install uninstall deb dist clean
+.PHONY: all lib linked-lib demo check scripts timed check-edits check-peer check-package bench install uninstall deb dist clean
 
 all:
 	cd crates/hwdb && rt run -- ask /dev/null none
@@ -60,13 +60,14 @@ check:
 	mkdir -p out
 	cp crates/hwdb/out/hwdb out/hwdb
 	$(MAKE) --no-print-directory --jobs=4 --output-sync=target scripts
-	tests/growth out/hwdb
-	tests/hostile out/hwdb
+	$(MAKE) --no-print-directory --jobs=2 --output-sync=target timed
 
-# What tries the built program and library, in lanes, the longest first; growth and hostile, which look at times, stand by
-# themselves.
+# What tries the built program and library, in lanes, the longest first.
 scripts: try-memory try-definitions try-over-proved try-random try-rows try-crash try-documents try-refused try-words \
 	try-command-line try-installed try-library try-readme try-runs try-folders
+
+# What looks at the processor's times, behind all others.
+timed: try-growth try-hostile
 
 try-definitions:
 	tests/definitions hwdb_reader::laws::law_faultless
