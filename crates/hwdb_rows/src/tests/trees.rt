@@ -41,7 +41,7 @@ fn assignments(
     Ok(all)
 }
 
-/// Puts one assignment, and says whether memory for it was given.
+/// Puts one assignment.
 fn put<'t>(rt: &impl Abort, tree: &mut Tree<'t>, a: &'t Assignment) -> Result<(), AllocError> {
     assert!(rt; a.priority > 0);
     assert!(rt; a.pattern.len() <= 4096);
@@ -50,11 +50,6 @@ fn put<'t>(rt: &impl Abort, tree: &mut Tree<'t>, a: &'t Assignment) -> Result<()
     assert!(rt; has_no_zero(&a.value));
     assert!(rt; has_no_zero(&a.path));
     tree.put(a)
-}
-
-/// The database of a tree, where it has at most so many bytes.
-fn written(alloc: Global, tree: &Tree<'_>, max_bytes: u32) -> Result<Vec<u8>, StoreError> {
-    write(alloc, tree, max_bytes)
 }
 
 /// The database of the patterns, each with the keys from line 2 on.
@@ -70,7 +65,7 @@ fn database(
     for one in &all {
         put(rt, &mut tree, one)?;
     }
-    Ok(written(alloc, &tree, max_bytes))
+    Ok(write(alloc, &tree, max_bytes))
 }
 
 /// A database is refused by one byte, and below the header alone, and below the nodes.
@@ -98,24 +93,5 @@ fn sizes(rt: HostRuntime) -> Result<(), Fail> {
             assert!(rt; matches!(&refused, Err(StoreError::TooLarge)));
         }
     }
-    Ok(())
-}
-
-/// A tree of which a `put` was refused memory is what it was, and takes the same assignment the next time. Memory is
-/// refused under `rt try --test --fail-alloc N` alone; without it the first `put` is the one that counts.
-#[test]
-fn put_again(rt: HostRuntime) -> Result<(), Fail> {
-    let alloc = rt.alloc();
-    let all = assignments(alloc, &[b"abc", b"abd"], &[b"K"])?;
-    let mut tree = Tree::new(alloc);
-    let mut size = 105;
-    for one in &all {
-        if put(&rt, &mut tree, one).is_err() {
-            assert_eq!(rt; written(alloc, &tree, 320)?.len(), size);
-            put(&rt, &mut tree, one)?;
-        }
-        size = 209;
-    }
-    assert_eq!(rt; written(alloc, &tree, 320)?.len(), 320);
     Ok(())
 }
