@@ -10,13 +10,18 @@
 #include <stdint.h>
 #include <stdlib.h>
 #include <string.h>
+#include <sys/mman.h>
 #include <sys/stat.h>
 #include <unistd.h>
 
-/* Where sd_hwdb_new looks, in this order. Tests have others. */
+/* Where sd_hwdb_new looks, in this order: where `hwdb query` does, and then where systemd's library looks too. Tests have others. */
 #ifndef HWDB_PATHS
-#define HWDB_PATHS "/etc/udev/hwdb.bin", "/usr/lib/udev/hwdb.bin"
+#define HWDB_PATHS                                                                                       \
+    "/etc/udev/hwdb.bin", "/usr/lib/udev/hwdb.bin", "/etc/systemd/hwdb/hwdb.bin", "/usr/lib/systemd/hwdb/hwdb.bin"
 #endif
+
+/* How often a name is opened that isn't there at first, and is there when it is looked at. */
+#define TRIES 3
 
 /* A file that is read has at most so many bytes, as the program has it. */
 #define MAX_BYTES (256 << 20)
@@ -33,11 +38,18 @@ uint32_t hwdb_c_check(const uint8_t *bytes, size_t length, uint64_t *place);
 uint32_t hwdb_c_properties(const uint8_t *bytes, size_t length, const uint8_t *device, size_t device_length, uint8_t *out,
                            size_t room, size_t *needed);
 
+/* What was read of a file. It has a mapping of its own, since malloc(3) may keep what is freed. */
+struct contents {
+    uint8_t *bytes;
+    size_t length;
+    /* how long the mapping is */
+    size_t room;
+};
+
 struct sd_hwdb {
     size_t references;
     /* the database, which was accepted */
-    uint8_t *bytes;
-    size_t length;
+    struct contents database;
     /* the last lookup: key, byte 0, value, byte 0 for each property, `used` bytes in all */
     char *strings;
     size_t room;
@@ -54,8 +66,37 @@ static int compare(const void *a, const void *b) {
     return strcmp(a, b);
 }
 
-/* All bytes of a file: *ret is never NULL on success. */
-static int read_file(int fd, uint8_t **ret, size_t *ret_length) {
+/* Memory for a file of so many bytes and one more, by which a file that grows meanwhile isn't taken for the shorter one.
+ * Large pages halve the time to fill it. */
+static int reserve(size_t size, struct contents *file) {
+    void *bytes = mmap(NULL, size + 1, PROT_READ | PROT_WRITE, MAP_PRIVATE | MAP_ANONYMOUS, -1, 0);
+    if (bytes == MAP_FAILED)
+        return -ENOMEM;
+    madvise(bytes, size + 1, MADV_HUGEPAGE);
+    *file = (struct contents){bytes, 0, size + 1};
+    return 0;
+}
+
+static void release(struct contents *file) {
+    munmap(file->bytes, file->room);
+}
+
+/* Reads up to the file's end, or until there is no more room. */
+static int fill(int fd, struct contents *file) {
+    while (file->length < file->room) {
+        ssize_t n = read(fd, file->bytes + file->length, file->room - file->length);
+        if (n == 0)
+            break;
+        if (n > 0)
+            file->length += (size_t)n;
+        else if (errno != EINTR)
+            return -errno;
+    }
+    return 0;
+}
+
+/* All bytes of a file, to be released where 0 is answered. */
+static int read_file(int fd, struct contents *file) {
     struct stat status;
 
     if (fstat(fd, &status) < 0)
@@ -66,36 +107,20 @@ static int read_file(int fd, uint8_t **ret, size_t *ret_length) {
         return -EINVAL;
     if (status.st_size > MAX_BYTES)
         return -EFBIG;
-
-    /* One byte more than there are: a file that grows meanwhile isn't taken for the shorter one. */
-    size_t room = (size_t)status.st_size + 1;
-    uint8_t *bytes = malloc(room);
-    if (!bytes)
-        return -ENOMEM;
-    size_t length = 0;
-    while (length < room) {
-        ssize_t n = read(fd, bytes + length, room - length);
-        if (n < 0 && errno == EINTR)
-            continue;
-        if (n < 0) {
-            int error = errno;
-            free(bytes);
-            return -error;
-        }
-        if (n == 0)
-            break;
-        length += (size_t)n;
-    }
-    *ret = bytes;
-    *ret_length = length;
-    return 0;
+    int r = reserve((size_t)status.st_size, file);
+    if (r < 0)
+        return r;
+    r = fill(fd, file);
+    if (r < 0)
+        release(file);
+    return r;
 }
 
-/* A handle over bytes, which it takes over on success. */
-static int new_from_bytes(uint8_t *bytes, size_t length, sd_hwdb **ret) {
+/* A handle over a file's bytes, which it takes over where 0 is answered. */
+static int new_from_contents(const struct contents *file, sd_hwdb **ret) {
     uint64_t place;
 
-    if (hwdb_c_check(bytes, length, &place) != 0)
+    if (hwdb_c_check(file->bytes, file->length, &place) != 0)
         return -EUCLEAN;
     sd_hwdb *hwdb = calloc(1, sizeof *hwdb);
     if (!hwdb)
@@ -107,22 +132,20 @@ static int new_from_bytes(uint8_t *bytes, size_t length, sd_hwdb **ret) {
     }
     hwdb->room = FIRST_ROOM;
     hwdb->references = 1;
-    hwdb->bytes = bytes;
-    hwdb->length = length;
+    hwdb->database = *file;
     *ret = hwdb;
     return 0;
 }
 
 static int new_from_file(int fd, sd_hwdb **ret) {
-    uint8_t *bytes = NULL;
-    size_t length = 0;
+    struct contents file;
 
-    int r = read_file(fd, &bytes, &length);
+    int r = read_file(fd, &file);
     if (r < 0)
         return r;
-    r = new_from_bytes(bytes, length, ret);
+    r = new_from_contents(&file, ret);
     if (r < 0)
-        free(bytes);
+        release(&file);
     return r;
 }
 
@@ -137,14 +160,34 @@ int sd_hwdb_new_from_path(const char *path, sd_hwdb **ret) {
     return r;
 }
 
+/* The same, and whether the name is there: a link to nothing is. What comes after it was looked for is opened; if it goes each
+ * time, it isn't there. */
+static int new_from_place(const char *path, sd_hwdb **ret, bool *is_there) {
+    struct stat status;
+    int r;
+
+    *is_there = true;
+    for (int tries = 0; tries < TRIES; tries++) {
+        r = sd_hwdb_new_from_path(path, ret);
+        if (r != -ENOENT)
+            return r;
+        if (lstat(path, &status) < 0) {
+            *is_there = errno != ENOENT;
+            return -errno;
+        }
+    }
+    *is_there = S_ISLNK(status.st_mode);
+    return r;
+}
+
 int sd_hwdb_new(sd_hwdb **ret) {
     static const char *const paths[] = {HWDB_PATHS};
 
     for (size_t i = 0; i < sizeof paths / sizeof *paths; i++) {
-        struct stat status;
-        int r = sd_hwdb_new_from_path(paths[i], ret);
-        /* A link to nothing is a name that is there: no other database stands in for it. */
-        if (r != -ENOENT || lstat(paths[i], &status) == 0)
+        bool is_there;
+        int r = new_from_place(paths[i], ret, &is_there);
+        /* No other database stands in for a name that is there. */
+        if (is_there)
             return r;
     }
     return -ENOENT;
@@ -161,7 +204,7 @@ sd_hwdb *sd_hwdb_unref(sd_hwdb *hwdb) {
         return NULL;
     tdestroy(hwdb->given, free);
     free(hwdb->strings);
-    free(hwdb->bytes);
+    release(&hwdb->database);
     free(hwdb);
     return NULL;
 }
@@ -181,7 +224,7 @@ static const char *keep(sd_hwdb *hwdb, const char *string) {
 
 /* Asks for the properties of a device, into the room that there is. */
 static uint32_t ask(sd_hwdb *hwdb, const char *modalias, size_t *needed) {
-    return hwdb_c_properties(hwdb->bytes, hwdb->length, (const uint8_t *)modalias, strlen(modalias),
+    return hwdb_c_properties(hwdb->database.bytes, hwdb->database.length, (const uint8_t *)modalias, strlen(modalias),
                              (uint8_t *)hwdb->strings, hwdb->room, needed);
 }
 

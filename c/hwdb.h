@@ -13,8 +13,8 @@ extern "C" {
 /* A database that was read and checked whole, and the properties of the last lookup. */
 typedef struct sd_hwdb sd_hwdb;
 
-/* Reads and checks /etc/udev/hwdb.bin, or where no such name is there /usr/lib/udev/hwdb.bin. *ret gets a handle with
- * one reference.
+/* Reads and checks the first of these whose name is there: /etc/udev/hwdb.bin, /usr/lib/udev/hwdb.bin,
+ * /etc/systemd/hwdb/hwdb.bin, /usr/lib/systemd/hwdb/hwdb.bin. *ret gets a handle with one reference.
  * -EINVAL: ret is NULL, or the name is that of something other than a file. -EISDIR: it is a folder's.
  * -ENOENT: there is none. -EUCLEAN: it isn't a database. -EFBIG: it has more than 256 MiB. -ENOMEM.
  * What opening and reading may fail with. */
@@ -41,6 +41,10 @@ int sd_hwdb_seek(sd_hwdb *hwdb, const char *modalias);
  * -EAGAIN: sd_hwdb_get came behind the last sd_hwdb_seek, or that one failed. -EINVAL: an argument is NULL. -ENOMEM. */
 int sd_hwdb_enumerate(sd_hwdb *hwdb, const char **key, const char **value);
 
+/* The two below are in systemd's <systemd/sd-hwdb.h> too. Its guard leaves them to whichever header comes first. */
+#ifndef foosdhwdbhfoo
+#define foosdhwdbhfoo
+
 /* A loop over the properties of a device: `SD_HWDB_FOREACH_PROPERTY(hwdb, modalias, key, value) { .. }`. */
 #define SD_HWDB_FOREACH_PROPERTY(hwdb, modalias, key, value) \
     if (sd_hwdb_seek((hwdb), (modalias)) < 0) {              \
@@ -52,6 +56,8 @@ static inline void sd_hwdb_unrefp(sd_hwdb **hwdb) {
     if (*hwdb)
         sd_hwdb_unref(*hwdb);
 }
+
+#endif
 
 #ifdef __cplusplus
 }

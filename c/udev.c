@@ -118,9 +118,18 @@ static int is_ours(const struct udev_list_entry *entry) {
     return entry->mark == &mark;
 }
 
-/* libudev's own call of a name, for its own lists; or NULL. */
+/* libudev's own call of a name, for its own lists; or NULL. It isn't next where libudev was loaded for one library alone
+ * (RTLD_LOCAL), as by a Python module: the entry that is asked about holds it. */
 static void *theirs(const char *name) {
-    return dlsym(RTLD_NEXT, name);
+    void *call = dlsym(RTLD_NEXT, name);
+    if (call)
+        return call;
+    void *libudev = dlopen("libudev.so.1", RTLD_NOLOAD | RTLD_LAZY);
+    if (!libudev)
+        return NULL;
+    call = dlsym(libudev, name);
+    dlclose(libudev);
+    return call;
 }
 
 struct udev_list_entry *udev_list_entry_get_next(struct udev_list_entry *entry) {

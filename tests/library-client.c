@@ -5,16 +5,16 @@
  *   client damaged                  for each line `PATH DEVICE` of standard input: `refused` with the fault, or how many
  *                                   bytes the device's properties have as text, and this text
  *   client calls DATABASE OTHER     what each call answers, where no other test says it
- *   client new                      sd_hwdb_new: what it answers, and the properties of device `a`
- *   client refused DATABASE DEVICE  all of it under refused memory: an answer that was not refused is printed
  *
- * WITH_FAULTS: linked with the proved calls too, it says which fault a refused file has. */
+ * WITH_FAULTS: linked with the proved calls too, it says which fault a refused file has; and what the library maps is a block
+ * of memory of just that length. */
 #define _GNU_SOURCE
 #include <errno.h>
 #include <stdint.h>
 #include <stdio.h>
 #include <stdlib.h>
 #include <string.h>
+#include <sys/mman.h>
 #include <sys/stat.h>
 #include <unistd.h>
 
@@ -111,6 +111,27 @@ static void seeks(const char *path) {
 }
 
 #ifdef WITH_FAULTS
+void *__wrap_mmap(void *at, size_t length, int protection, int flags, int fd, off_t offset);
+int __wrap_munmap(void *at, size_t length);
+int __wrap_madvise(void *at, size_t length, int advice);
+
+void *__wrap_mmap(void *at, size_t length, int protection, int flags, int fd, off_t offset) {
+    (void)at, (void)protection, (void)flags, (void)fd, (void)offset;
+    void *block = malloc(length);
+    return block ? block : MAP_FAILED;
+}
+
+int __wrap_munmap(void *at, size_t length) {
+    (void)length;
+    free(at);
+    return 0;
+}
+
+int __wrap_madvise(void *at, size_t length, int advice) {
+    (void)at, (void)length, (void)advice;
+    return 0;
+}
+
 uint32_t hwdb_c_check(const uint8_t *bytes, size_t length, uint64_t *place);
 
 /* The fault of a file, as the program prints it. */
@@ -286,38 +307,6 @@ static void calls(const char *path, const char *other) {
     refuses("changed", -EUCLEAN);
 }
 
-static void made_new(void) {
-    sd_hwdb *hwdb = NULL;
-    int r = sd_hwdb_new(&hwdb);
-
-    printf("%s\n", named(r));
-    EXPECT((r == 0) == (hwdb != NULL) && r <= 0);
-    if (r == 0)
-        print_properties(stdout, hwdb, "a");
-    sd_hwdb_unref(hwdb);
-}
-
-/* A refused call changes nothing but that there is nothing to enumerate; made again, it has what it would have had. */
-static void refused(const char *path, const char *device) {
-    const char *key, *value;
-    sd_hwdb *hwdb = NULL;
-    int r, times = 0;
-
-    while ((r = sd_hwdb_new_from_path(path, &hwdb)) == -ENOMEM && times++ < 3)
-        EXPECT(hwdb == NULL);
-    EXPECT(r == 0);
-    if (r < 0)
-        return;
-    while ((r = sd_hwdb_seek(hwdb, device)) == -ENOMEM && times++ < 3)
-        EXPECT(sd_hwdb_enumerate(hwdb, &key, &value) == -EAGAIN);
-    EXPECT(r == 0);
-    while ((r = sd_hwdb_enumerate(hwdb, &key, &value)) > 0 || (r == -ENOMEM && times++ < 3))
-        if (r > 0)
-            printf("%s=%s\n", key, value);
-    EXPECT(r == 0);
-    sd_hwdb_unref(hwdb);
-}
-
 int main(int argc, char **argv) {
     const char *what = argc > 1 ? argv[1] : "";
 
@@ -329,10 +318,6 @@ int main(int argc, char **argv) {
         damaged();
     else if (!strcmp(what, "calls") && argc == 4)
         calls(argv[2], argv[3]);
-    else if (!strcmp(what, "new") && argc == 2)
-        made_new();
-    else if (!strcmp(what, "refused") && argc == 4)
-        refused(argv[2], argv[3]);
     else
         return 2;
     return failed ? 1 : 0;

@@ -45,6 +45,7 @@ pub extern "C" fn hwdb_c_check(bytes: &[u8], place: &mut u64) -> u32
     ensures accepted { result ≡ 0 → (t : Tree) × IsDatabase bytes.now t }
     ensures refused { result ≢ 0 → (t : Tree) → IsDatabase bytes.now t → ⊥ }
     ensures fault { result ≢ 0 → IsFault bytes.now result place.new }
+    ensures no_place { result ≡ 0 → place.new ≡ 0 }
 {
     match check(bytes) {
         Ok(_) => {
