@@ -12,3 +12,4 @@ pub mod PathLemmas
 pub mod ComputedRows
 pub mod JoinLemmas
 pub mod RangeLemmas
+pub mod OpenLemmas

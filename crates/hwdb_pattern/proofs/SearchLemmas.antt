@@ -1,7 +1,7 @@
 -- The steps of a search for a match.
-use Rattle.std.proofs.Common.{◌≡◌, nat_eq, nat_lt, eq-eqb, lt-ltb, None, ℕ, ◌+◌, ◌<◌, ◌≤◌, Bool, not, IsTrue, true, false, List, [], ◌∷◌, drop, length, get_or, refl, sym, ap, subst, ◌∙◌, inl, inr, arith, slice_set, replicate}
+use Rattle.std.proofs.Common.{◌≡◌, nat_eq, nat_lt, eq-eqb, lt-ltb, None, ℕ, ◌+◌, ◌<◌, ◌≤◌, Bool, not, IsTrue, true, false, List, [], ◌∷◌, drop, length, get_or, refl, sym, ap, subst, ◌∙◌, inl, inr, arith}
 use Rattle.std.proofs.lemmas.Bool.{cases_eq, cases_lt}
-use Rattle.std.proofs.lemmas.List.{drop-drop, drop_more, length-drop, drop_all, get_or-drop, length-set, get_or-set_other, get_or-replicate, length-replicate}
+use Rattle.std.proofs.lemmas.List.{drop-drop, drop_more, length-drop, drop_all, get_or-drop}
 use Rattle.hwdb_spec.specs.Patterns.{bracket_at, Token, star, token_at, token_size, tokens, admits_byte, Matches}
 use Rattle.hwdb_pattern.proofs.LongerPathLemmas.{none_closes}
 use Rattle.hwdb_pattern.specs.Internal.Search.{AreOpen, Reaches, Remains}
@@ -200,18 +200,3 @@ pub open_behind : (pattern : List ℕ) (opens : List Bool) (at : ℕ) → AreOpe
 open_behind pattern opens at h k lt e =
     ap bracket_at (drop-drop k at pattern)
     ∙ h (at + k) (omega (arith, length-drop at opens, lt)) (sym (get_or-drop at opens k false) ∙ e)
-
--- one more place where no closed bracket begins
-pub open_more : (pattern : List ℕ) (opens : List Bool) (at : ℕ) → AreOpen pattern opens → bracket_at (drop at pattern) ≡ None → AreOpen pattern (slice_set opens at true)
-open_more pattern opens at h none k lt e = elim (cases_eq k at) [
-  | inl same ↦ ap (λ n. bracket_at (drop n pattern)) same ∙ none
-  | inr other ↦ h k (omega (arith, length-set opens at true, lt)) (sym (get_or-set_other opens at k true false other) ∙ e)
-]
-
--- a table that says nothing
-pub none_open : (pattern : List ℕ) (n : ℕ) → AreOpen pattern (replicate n false)
-none_open pattern n k lt e =
-    absurd (let w : true ≡ false = sym e ∙ get_or-replicate n k false false (omega (arith, lt, length-replicate n none)) in cc)
-  where
-    none : Bool
-    none = false

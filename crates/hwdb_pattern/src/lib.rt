@@ -10,6 +10,7 @@
 //! | `classes` | the named classes of bytes, as `[:digit:]` |
 //! | `brackets` | brackets and the items in them |
 //! | `tokens` | the tokens of a pattern |
+//! | `opens` | where a `[` begins no closed bracket |
 //! | `unusual` | a `[` that begins no closed bracket, a range without members |
 //! | `search` | whether a pattern matches a device |
 //! | `lengths` | which of a device's prefixes some tokens match |
@@ -21,6 +22,7 @@ mod brackets;
 mod classes;
 mod laws;
 mod lengths;
+mod opens;
 mod paths;
 mod search;
 mod tokens;

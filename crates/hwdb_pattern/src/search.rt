@@ -3,7 +3,7 @@ ghost use Rattle.std.specs.Prelude.{◌≡◌, ◌<◌, ◌≤◌, ◌↔◌, No
 ghost use Rattle.hwdb_spec.specs.Patterns.{Matches, bracket_at, tokens};
 ghost use Rattle.hwdb_pattern.specs.Internal.Search.{AreOpen, NoneCloses, Reaches};
 
-use crate::brackets::bracket_end;
+use crate::opens::open_brackets;
 use crate::tokens::single_token;
 
 /// A place in the pattern and in the device.
@@ -15,11 +15,8 @@ struct Place {
     met: usize,
 }
 
-/// How many places of a pattern a search remembers: as many as the longest pattern of a text file has.
-const PLACES: usize = 4096;
-
-/// Whether a closed bracket may begin at a place: not from `close` on, since no `]` stands there, and not where none was
-/// found before.
+/// Whether a closed bracket may begin at a place: not from `close` on, since no `]` stands there, and not where the table
+/// says that none begins.
 fn may_close(pattern: &[u8], at: usize, close: usize, opens: &[bool]) -> bool
     requires closes { NoneCloses pattern.now close }
     requires opens { AreOpen pattern.now opens.now }
@@ -34,20 +31,6 @@ fn may_close(pattern: &[u8], at: usize, close: usize, opens: &[bool]) -> bool
     true
 }
 
-/// The places at which a `[` begins no closed bracket, of those that a search remembers.
-fn open_brackets(pattern: &[u8]) -> [bool; PLACES]
-    ensures { AreOpen pattern.now result }
-{
-    let mut opens = [false; PLACES];
-    let places = pattern.len().min(PLACES);
-    for at in 0..places {
-        if pattern[at] == b'[' && bracket_end(&pattern[at..]).is_none() {
-            opens[at] = true;
-        }
-    }
-    opens
-}
-
 /// The table from a place on; empty behind its end.
 fn opens_from(opens: &[bool], at: usize) -> &[bool]
     ensures { result.now ≡ drop at opens.now }
@@ -57,7 +40,7 @@ fn opens_from(opens: &[bool], at: usize) -> &[bool]
 
 /// Takes the tokens before the first star, and for each the next byte of the device. Answers how far
 /// that led: to a star, or to the pattern's end. None where a token isn't met. No bracket is looked for
-/// from `close` on, since no `]` stands there, nor where none was found before.
+/// from `close` on, since no `]` stands there, nor where the table says that none begins.
 fn run(pattern: &[u8], device: &[u8], close: usize, opens: &[bool]) -> Option<Place>
     requires closes { NoneCloses pattern.now close }
     requires opens { AreOpen pattern.now opens.now }
@@ -100,20 +83,20 @@ fn last_close(pattern: &[u8]) -> usize
 }
 
 /// Whether the pattern matches the whole device. Takes no memory, and at most as many steps as pattern and device have
-/// bytes, multiplied; for each `[` of its first 4,096 bytes that begins no closed bracket one look at what is behind it,
-/// and for one further behind a look each time.
+/// bytes, multiplied; and for each `[` that begins no closed bracket, further in it than 4,096 bytes, a look at what is
+/// behind it each time.
 #[inline(never)]
 pub fn glob(pattern: &[u8], device: &[u8]) -> bool
     ensures { IsTrue result ↔ Matches (tokens pattern.now) device.now }
 {
     let close = last_close(pattern);
-    let Some(first) = run(pattern, device, close, &[]) else {
+    let opens = open_brackets(pattern);
+    let Some(first) = run(pattern, device, close, &opens) else {
         return false;
     };
     if first.at == pattern.len() {
         return first.met == device.len();
     }
-    let opens = open_brackets(pattern);
     let mut at = first.at + 1;
     let mut met = first.met;
     while met <= device.len() {

@@ -138,7 +138,7 @@ module _ (l : Layout) (b : List ℕ) where
   visited_sound big v e s (inl f) = node_sound big v.levels v.from v.off s.tree s.text v.limit e f.1
   visited_sound big v e s (inr f) = f.0 (begins_before l b big v.levels v.from v.off s.tree s.text, s.inside)
 
-header_sound : (b : List ℕ) (e : DbFault) → IsHeader b → HeaderFault b e → ⊥
+pub header_sound : (b : List ℕ) (e : DbFault) → IsHeader b → HeaderFault b e → ⊥
 header_sound b Short h f = f h.long
 header_sound b Signature h f = f.1 h.signed
 header_sound b RecordSizes h f = f.2 h.sizes

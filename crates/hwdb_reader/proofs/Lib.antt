@@ -5,6 +5,7 @@ pub mod EntryLemmas
 pub mod WholeLemmas
 pub mod KeyOrderLemmas
 pub mod FaultlessLemmas
+pub mod FaultLemmas
 pub mod NodeLemmas
 pub mod PathLemmas
 pub mod WalkLemmas

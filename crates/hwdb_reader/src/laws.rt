@@ -2,7 +2,8 @@
 ghost use Rattle.std.specs.Prelude.{◌≡◌, ◌<◌, ℕ, List, length};
 ghost use Rattle.hwdb_spec.specs.Tree.{Tree, IsTree};
 ghost use Rattle.hwdb_reader.specs.Views.{node_count};
-ghost use Rattle.hwdb_spec.specs.Format.{IsDatabase, Applies};
+ghost use Rattle.hwdb_spec.specs.Format.{Applies, IsDatabase, IsHeader, Visit, Visited, layout_of};
+ghost use Rattle.hwdb_reader.specs.Laws.{IsOfHeader, IsRightBefore, IsThere};
 ghost use Rattle.hwdb_spec.specs.declared.DbFault.{DbFault};
 ghost use Rattle.hwdb_spec.specs.Written.{written};
 ghost use Rattle.hwdb_reader.specs.Samples.{empty_tree, empty_bytes, one_tree, one_bytes, two_tree, two_bytes};
@@ -26,6 +27,20 @@ pub fn law_few_nodes()
 pub fn law_faultless()
     ensures { (bytes : List ℕ) (t : Tree) (e : DbFault)
         → IsDatabase bytes t → Applies bytes e → ⊥ }
+{}
+
+/// Where one of B1 to B5 applies no other fault does. Each applies only where what is looked at before it is right: B2 where the
+/// bytes are long enough, B3 where they have the signature too, and so on to B5; the others only behind a header.
+pub fn law_header_faults()
+    ensures one { (bytes : List ℕ) (e f : DbFault) → IsOfHeader e
+        → Applies bytes e → Applies bytes f → e ≡ f }
+    ensures order { (bytes : List ℕ) (e : DbFault) → Applies bytes e → IsRightBefore bytes e }
+{}
+
+/// Of B6 to B11 each is that of a node that is visited, and what is at fault stands at its offset.
+pub fn law_offsets()
+    ensures { (bytes : List ℕ) (e : DbFault) → IsHeader bytes → Applies bytes e → (v : Visit)
+        × Visited (layout_of bytes) bytes v × IsThere (layout_of bytes) bytes v e }
 {}
 
 /// The written form, byte for byte, of the empty tree, of one value and of two.

@@ -30,6 +30,9 @@ mod walk;
 
 pub use checker::check;
 pub use hwdb_spec::DbFault;
-pub use laws::{law_ascending, law_faultless, law_few_nodes, law_one_tree, law_samples};
+pub use laws::{
+    law_ascending, law_faultless, law_few_nodes, law_header_faults, law_offsets, law_one_tree,
+    law_samples,
+};
 pub use reopened::reopen;
 pub use view::{Child, Db, Entered, Entry, Inside, Node, Origin};

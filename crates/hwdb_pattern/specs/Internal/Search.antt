@@ -1,7 +1,7 @@
 -- Our own words: how far a search has come, as what is left to match from a place in the pattern and
 -- in the device.
 use Rattle.std.specs.Prelude.{Bool, List, None, false, true, slice_index, slice_index_or, ℕ, ◌≡◌, ◌≢◌, ◌<◌, ◌≤◌, drop, ◌∷◌, length}
-use Rattle.hwdb_spec.specs.Patterns.{Matches, bracket_at, star, tokens}
+use Rattle.hwdb_spec.specs.Patterns.{Matches, bracket_at, items_from, star, tokens}
 
 -- no `]` stands from `close` on; `]` is 93
 abbrev pub NoneCloses : List ℕ → ℕ → Type 0
@@ -11,6 +11,10 @@ NoneCloses pattern close = (k : ℕ) → close ≤ k → slice_index pattern k �
 abbrev pub AreOpen : List ℕ → List Bool → Type 0
 AreOpen pattern opens =
     (k : ℕ) → k < length opens → slice_index_or opens k false ≡ true → bracket_at (drop k pattern) ≡ None
+
+-- where the table says so, no `]` closes the items from that place on
+abbrev pub NeverClose : List ℕ → List Bool → Type 0
+NeverClose text table = (k : ℕ) → slice_index_or table k false ≡ true → items_from false 0 (drop k text) ≡ None
 
 -- The tokens before `at` are no stars and take the first `met` bytes of the device.
 pub record Reaches (pattern device : List ℕ) (at met : ℕ) : Type 0 where
