@@ -13,7 +13,7 @@ use Rattle.std.proofs.lemmas.Bool.{eqb-true}
 use Rattle.std.proofs.Math.Nat.{max-eq_left, max-eq_right}
 use Rattle.hwdb_spec.specs.Folders.{same}
 use Rattle.hwdb_spec.specs.Lines.{is}
-use Rattle.hwdb_lint.specs.Internal.{last_at, line_at, raised}
+use Rattle.hwdb_lint.specs.Internal.{last_at, line_at, raised, same_at}
 use Rattle.hwdb_lint.proofs.RepeatLemmas.{equal_number}
 
 -- a look-up, and what it gives, by whether it is at the key
@@ -89,3 +89,50 @@ pub raise_once : (old new : BTreeMap (Bor (List ℕ) × Bor (List ℕ)) ℕ) (p 
     → (x y : Bor (List ℕ)) → last_at new x y ≡ raised (cond (same p.now x.now) (same k.now y.now) false) line (last_at old x y)
 raise_once old new p k line before e h put =
     raise_last old new p k line line (sym (ap (λ n. max n line) (sym e) ∙ max-eq_right h)) put
+
+-- a pattern and a key, and a value
+abbrev pub Three : Type 0
+Three = (Bor (List ℕ) × Bor (List ℕ)) × Bor (List ℕ)
+
+abbrev pub by_three : Three → Three → Ordering
+by_three x y =
+    ordering_then (ordering_then (slice_cmp nat_cmp x.0.0.now y.0.0.now) (slice_cmp nat_cmp x.0.1.now y.0.1.now)) (slice_cmp nat_cmp x.1.now y.1.now)
+
+abbrev at_three : BTreeMap Three ℕ → (p k v : List ℕ) → ℕ
+at_three m p k v =
+    unwrap_or (get_by (λ q. ordering_then (ordering_then (slice_cmp nat_cmp p q.0.0.now) (slice_cmp nat_cmp k q.0.1.now)) (slice_cmp nat_cmp v q.1.now)) m) 0
+
+-- a map with a number put there
+abbrev pub PutsThree : (at : Three) (n : ℕ) (old new : BTreeMap Three ℕ) → Type 0
+PutsThree at n old new = (q : Three) → get by_three new q ≡ cond (is_eq (by_three at q)) (Some n) (get by_three old q)
+
+equal_three : (a b c : Ordering) → is_eq (ordering_then (ordering_then a b) c) ≡ cond (is_eq a) (cond (is_eq b) (is_eq c) false) false
+equal_three Less b c = refl
+equal_three Equal b c = equal_pair b c
+equal_three Greater b c = refl
+
+raise_three : (old new : BTreeMap Three ℕ) (p k w : Bor (List ℕ)) (line n : ℕ) → n ≡ max (same_at old p k w) line → PutsThree ((p, k), w) n old new
+    → (x y z : Bor (List ℕ)) → same_at new x y z ≡ raised (cond (same p.now x.now) (cond (same k.now y.now) (same w.now z.now) false) false) line (same_at old x y z)
+raise_three old new p k w line n e h x y z =
+    let all = equal_three (slice_cmp nat_cmp p.now x.now) (slice_cmp nat_cmp k.now y.now) (slice_cmp nat_cmp w.now z.now) in
+    by_test (is_eq (by_three ((p, k), w) ((x, y), z))) _ _ _ n line (h ((x, y), z)) all
+    (λ t.
+    let u = sym all ∙ t in
+    let later = right (same p.now x.now) (cond (same k.now y.now) (same w.now z.now) false) u in
+    e
+    ∙ ap (λ q. max (at_three old q k.now w.now) line) (same_text p.now x.now (left (same p.now x.now) (cond (same k.now y.now) (same w.now z.now) false) u))
+    ∙ ap (λ q. max (at_three old x.now q w.now) line) (same_text k.now y.now (left (same k.now y.now) (same w.now z.now) later))
+    ∙ ap (λ q. max (at_three old x.now y.now q) line) (same_text w.now z.now (right (same k.now y.now) (same w.now z.now) later)))
+
+pub three_twice : (old mid new : BTreeMap Three ℕ) (p k w : Bor (List ℕ)) (line before : ℕ) → before ≡ same_at old p k w → line < before
+    → PutsThree ((p, k), w) line old mid → PutsThree ((p, k), w) before mid new
+    → (x y z : Bor (List ℕ)) → same_at new x y z ≡ raised (cond (same p.now x.now) (cond (same k.now y.now) (same w.now z.now) false) false) line (same_at old x y z)
+three_twice old mid new p k w line before e h first then =
+    raise_three old new p k w line before (sym (ap (λ n. max n line) (sym e) ∙ max-eq_left (omega (arith, h))))
+    (λ q. then q ∙ twice (is_eq (by_three ((p, k), w) q)) (Some before) (Some line) _ _ (first q))
+
+pub three_once : (old new : BTreeMap Three ℕ) (p k w : Bor (List ℕ)) (line before : ℕ) → before ≡ same_at old p k w → before ≤ line
+    → PutsThree ((p, k), w) line old new
+    → (x y z : Bor (List ℕ)) → same_at new x y z ≡ raised (cond (same p.now x.now) (cond (same k.now y.now) (same w.now z.now) false) false) line (same_at old x y z)
+three_once old new p k w line before e h put =
+    raise_three old new p k w line line (sym (ap (λ n. max n line) (sym e) ∙ max-eq_right h)) put

@@ -5,20 +5,19 @@ use Rattle.std.specs.Borrow.{Bor}
 use Rattle.std.specs.BTreeMap.{BTreeMap, is_at}
 use Rattle.std.specs.Map.{lookup}
 use Rattle.std.specs.Option.{unwrap_or}
-use Rattle.std.specs.Ordering.{nat_cmp, ordering_then}
-use Rattle.std.specs.Cmp.Lexicographic.{slice_cmp}
+use Rattle.std.specs.Ordering.{nat_cmp}
 use Rattle.std.specs.List.{list_any}
 use Rattle.std.proofs.Math.Nat.{max_comm, max-zero, zero-max, max-eq_left, max-eq_right}
-use Rattle.std.proofs.lemmas.Bool.{cases_lt, le-ltb, lt-ltb, ltb-true}
+use Rattle.std.proofs.lemmas.Bool.{cases_lt, lt-ltb, ltb-true}
 use Rattle.hwdb_spec.specs.Assignment.{Assignment}
 use Rattle.hwdb_spec.specs.Lines.{is, is_none}
-use Rattle.hwdb_spec.specs.Warnings.{greatest, replaces}
+use Rattle.hwdb_spec.specs.Warnings.{gives_value, greatest, last_with, replaces}
 use Rattle.std.proofs.lemmas.List.{map-append, take_more}
 use Rattle.hwdb_spec.specs.Records.{assignments}
 use Rattle.hwdb_spec.specs.Warnings.{replacing}
 use Rattle.hwdb_text.specs.declared.outcome.Given.{Given}
 use Rattle.hwdb_text.specs.Views.{given_in}
-use Rattle.hwdb_lint.specs.Internal.{IsLastOf, IsReplacedBy, RaisesLast, RaisesLine, behind, gives, last_at, line_at, lines_with, own, raised, replacing_of}
+use Rattle.hwdb_lint.specs.Internal.{IsLastOf, IsReplacedBy, IsSameOf, RaisesLast, RaisesLine, RaisesSame, behind, gives, last_at, line_at, lines_with, own, raised, replacing_of, same_at}
 
 max_three : (a b c : ℕ) → max a (max b c) ≡ max (max a b) c
 max_three a b c = omega arith
@@ -117,6 +116,11 @@ pub with_more : (p k : List ℕ) (all : List Assignment) (a : Assignment)
     → greatest (lines_with p k (all ++ a ∷ [])) ≡ raised (gives a p k) a.position.line (greatest (lines_with p k all))
 with_more p k all a = one_more (λ b. b.position.line) (λ b. gives b p k) all a
 
+-- the same with a value too
+pub same_more : (p k v : List ℕ) (all : List Assignment) (a : Assignment)
+    → last_with (all ++ a ∷ []) p k v ≡ raised (gives_value p k v a) a.position.line (last_with all p k v)
+same_more p k v all a = one_more (λ b. b.position.line) (λ b. gives_value p k v b) all a
+
 any_more : {A : Type 0} (u t : A → Bool) (xs : List A) (a : A) → list_any u (filter t (xs ++ a ∷ [])) ≡ (list_any u (filter t xs) || cond (t a) (u a) false)
 any_more u t [] a = go (t a)
   where
@@ -141,13 +145,16 @@ any_more u t (x ∷ xs) a = go (t x) (any_more u t xs a)
 -- the lines that replace, of one assignment more that is read
 pub replacing_more : (read all : List Assignment) (a : Assignment) (n : ℕ)
     → greatest (replacing_of (read ++ a ∷ []) all n)
-    ≡ raised (is n a.position.line) (behind a.position.line (greatest (lines_with a.position.pattern a.position.key all))) (greatest (replacing_of read all n))
+    ≡ raised (is n a.position.line) (behind (last_with all a.position.pattern a.position.key a.value) (greatest (lines_with a.position.pattern a.position.key all))) (greatest (replacing_of read all n))
 replacing_more read all a n =
-    alike line (λ b. list_any (replaces b) (filter own (read ++ a ∷ []))) (λ b. list_any (replaces b) (filter own read) || cond (own a) (replaces b a) false)
-    (λ b. any_more (replaces b) own read a) all
-    ∙ either line (λ b. list_any (replaces b) (filter own read)) (λ b. cond (own a) (replaces b a) false) all
+    alike line (λ b. list_any (replaces all b) (filter own (read ++ a ∷ []))) (λ b. list_any (replaces all b) (filter own read) || cond (own a) (replaces all b a) false)
+    (λ b. any_more (replaces all b) own read a) all
+    ∙ either line (λ b. list_any (replaces all b) (filter own read)) (λ b. cond (own a) (replaces all b a) false) all
     ∙ go (own a)
   where
+    kept : ℕ
+    kept = last_with all a.position.pattern a.position.key a.value
+
     line : Assignment → ℕ
     line b = b.position.line
 
@@ -157,8 +164,8 @@ replacing_more read all a n =
     old : ℕ
     old = greatest (replacing_of read all n)
 
-    go : (t : Bool) → max old (greatest (map line (filter (λ b. cond t (replaces b a) false) all))) ≡ raised t (behind (line a) (greatest (lines_with a.position.pattern a.position.key all))) old
-    go true = ap (max old) (most_behind line (line a) (λ b. gives b a.position.pattern a.position.key) all)
+    go : (t : Bool) → max old (greatest (map line (filter (λ b. cond t (replaces all b a) false) all))) ≡ raised t (behind kept (greatest (lines_with a.position.pattern a.position.key all))) old
+    go true = ap (max old) (most_behind line kept (λ b. gives b a.position.pattern a.position.key) all)
     go false = ap (max old) (none line (λ b. false) (λ b. refl) all) ∙ max-zero old
 
 -- nothing is read
@@ -175,25 +182,22 @@ some_by f t h (x ∷ xs) = go (t x) refl (some_by f t h xs)
     go true e g = sym (lt-ltb 0 (max (f x) (greatest (map f (filter t xs)))) (omega (arith, h x e)))
     go false e g = g
 
-any_above : (b : Assignment) (own : List Assignment) → list_any (replaces b) own ≡ true → 0 < b.position.line
-any_above b [] e = cc
-any_above b (a ∷ own) e = go (nat_lt a.position.line b.position.line) refl e (any_above b own)
+any_above : (all : List Assignment) (b : Assignment) (own : List Assignment) → list_any (replaces all b) own ≡ true → 0 < b.position.line
+any_above all b [] e = cc
+any_above all b (a ∷ own) e = go (nat_lt (last_with all a.position.pattern a.position.key a.value) b.position.line) refl e (any_above all b own)
   where
-    go : (t : Bool) → nat_lt a.position.line b.position.line ≡ t → (cond t (gives b a.position.pattern a.position.key) false || list_any (replaces b) own) ≡ true → (list_any (replaces b) own ≡ true → 0 < b.position.line) → 0 < b.position.line
-    go true f g r = omega (arith, ltb-true a.position.line b.position.line f)
+    go : (t : Bool) → nat_lt (last_with all a.position.pattern a.position.key a.value) b.position.line ≡ t
+        → (cond t (gives b a.position.pattern a.position.key) false || list_any (replaces all b) own) ≡ true → (list_any (replaces all b) own ≡ true → 0 < b.position.line) → 0 < b.position.line
+    go true f g r = let h = ltb-true (last_with all a.position.pattern a.position.key a.value) b.position.line f in omega (arith, h)
     go false f g r = r g
 
 pub some_replace : (read all : List Assignment) (n : ℕ) → not (is_none (replacing_of read all n)) ≡ nat_lt 0 (greatest (replacing_of read all n))
 some_replace read all n =
-    some_by (λ b. b.position.line) (λ b. list_any (replaces b) (filter (λ a. is n a.position.line) read)) (λ b e. any_above b (filter (λ a. is n a.position.line) read) e) all
+    some_by (λ b. b.position.line) (λ b. list_any (replaces all b) (filter (λ a. is n a.position.line) read)) (λ b e. any_above all b (filter (λ a. is n a.position.line) read) e) all
 
 -- one assignment more
 more : (all : List Given) (i : ℕ) (d : Given) → i < length all → map (given_in own) (take (i + 1) all) ≡ map (given_in own) (take i all) ++ given_in own (get_or all i d) ∷ []
 more all i d h = ap (map (given_in own)) (take_more all i d h) ∙ map-append (given_in own) (take i all) (get_or all i d ∷ [])
-
-pub no_last : (last : BTreeMap (Bor (List ℕ) × Bor (List ℕ)) ℕ) → last.entries ≡ [] → IsLastOf [] last
-no_last last e = λ p k.
-    ap (λ es. unwrap_or (lookup (is_at (λ (q : Bor (List ℕ) × Bor (List ℕ)). ordering_then (slice_cmp nat_cmp p.now q.0.now) (slice_cmp nat_cmp k.now q.1.now))) es) 0) e
 
 pub last_step : (all : List Given) (i : ℕ) (d : Given) (old new : BTreeMap (Bor (List ℕ) × Bor (List ℕ)) ℕ) → i < length all → IsLastOf (map (given_in own) (take i all)) old
     → RaisesLast (given_in own (get_or all i d)) old new → IsLastOf (map (given_in own) (take (i + 1) all)) new
@@ -203,31 +207,30 @@ last_step all i d old new h so_far put = λ p k.
     ∙ ap (raised (gives a p.now k.now) a.position.line) (so_far p k)
     ∙ sym (ap (λ l. greatest (lines_with p.now k.now l)) (more all i d h) ∙ with_more p.now k.now (map (given_in own) (take i all)) a)
 
+pub same_step : (all : List Given) (i : ℕ) (d : Given) (old new : BTreeMap ((Bor (List ℕ) × Bor (List ℕ)) × Bor (List ℕ)) ℕ) → i < length all → IsSameOf (map (given_in own) (take i all)) old
+    → RaisesSame (given_in own (get_or all i d)) old new → IsSameOf (map (given_in own) (take (i + 1) all)) new
+same_step all i d old new h so_far put = λ p k v.
+    let a = given_in own (get_or all i d) in
+    put p k v
+    ∙ ap (raised (gives_value p.now k.now v.now a) a.position.line) (so_far p k v)
+    ∙ sym (ap (λ l. last_with l p.now k.now v.now) (more all i d h) ∙ same_more p.now k.now v.now (map (given_in own) (take i all)) a)
+
 pub no_line : (all : List Assignment) (replaced : BTreeMap ℕ ℕ) → replaced.entries ≡ [] → IsReplacedBy [] all replaced
 no_line all replaced e = λ n. ap (λ es. unwrap_or (lookup (is_at (nat_cmp n)) es) 0) e ∙ sym (replacing_none all n)
 
-pub line_step : (all : List Given) (i : ℕ) (d : Given) (last : BTreeMap (Bor (List ℕ) × Bor (List ℕ)) ℕ) (old new : BTreeMap ℕ ℕ) → i < length all → IsLastOf (map (given_in own) all) last
+pub line_step : (all : List Given) (i : ℕ) (d : Given) (last : BTreeMap (Bor (List ℕ) × Bor (List ℕ)) ℕ) (same : BTreeMap ((Bor (List ℕ) × Bor (List ℕ)) × Bor (List ℕ)) ℕ) (old new : BTreeMap ℕ ℕ) → i < length all
+    → IsLastOf (map (given_in own) all) last → IsSameOf (map (given_in own) all) same
     → IsReplacedBy (map (given_in own) (take i all)) (map (given_in own) all) old
-    → RaisesLine (get_or all i d).line (behind (get_or all i d).line (last_at last (get_or all i d).pattern (get_or all i d).key)) old new
+    → RaisesLine (get_or all i d).line (behind (same_at same (get_or all i d).pattern (get_or all i d).key (get_or all i d).value) (last_at last (get_or all i d).pattern (get_or all i d).key)) old new
     → IsReplacedBy (map (given_in own) (take (i + 1) all)) (map (given_in own) all) new
-line_step all i d last old new h lasts so_far put = λ n.
+line_step all i d last same old new h lasts sames so_far put = λ n.
     let g = get_or all i d in
+    let whole = map (given_in own) all in
     put n
-    ∙ ap (λ m. raised (is n g.line) (behind g.line m) (line_at old n)) (lasts g.pattern g.key)
-    ∙ ap (raised (is n g.line) (behind g.line (greatest (lines_with g.pattern.now g.key.now (map (given_in own) all))))) (so_far n)
-    ∙ sym (ap (λ l. greatest (replacing_of l (map (given_in own) all) n)) (more all i d h) ∙ replacing_more (map (given_in own) (take i all)) (map (given_in own) all) (given_in own g) n)
-
--- a line behind, and one that isn't
-pub put_behind : (line m by : ℕ) (old new : BTreeMap ℕ ℕ) → by ≡ m → line < by → RaisesLine line by old new → RaisesLine line (behind line m) old new
-put_behind line m by old new e h put = λ n.
-    put n ∙ ap (λ b. raised (is n line) b (line_at old n)) (e ∙ sym (ap (λ t. cond t m 0) (lt-ltb line m (omega (arith, h, e)))))
-
-pub put_none : (line m by : ℕ) (old : BTreeMap ℕ ℕ) → by ≡ m → by ≤ line → RaisesLine line (behind line m) old old
-put_none line m by old e h = λ n. sym (ap (λ t. raised (is n line) (cond t m 0) (line_at old n)) (le-ltb line m (omega (arith, h, e))) ∙ go (is n line) (line_at old n))
-  where
-    go : (t : Bool) (k : ℕ) → raised t 0 k ≡ k
-    go true k = max-zero k
-    go false k = refl
+    ∙ ap (λ m. raised (is n g.line) (behind m (last_at last g.pattern g.key)) (line_at old n)) (sames g.pattern g.key g.value)
+    ∙ ap (λ m. raised (is n g.line) (behind (last_with whole g.pattern.now g.key.now g.value.now) m) (line_at old n)) (lasts g.pattern g.key)
+    ∙ ap (raised (is n g.line) (behind (last_with whole g.pattern.now g.key.now g.value.now) (greatest (lines_with g.pattern.now g.key.now whole)))) (so_far n)
+    ∙ sym (ap (λ l. greatest (replacing_of l whole n)) (more all i d h) ∙ replacing_more (map (given_in own) (take i all)) whole (given_in own g) n)
 
 -- whether a line is replaced
 pub some_replaces : (file : List ℕ) (n : ℕ) → not (is_none (replacing file n)) ≡ nat_lt 0 (greatest (replacing file n))

@@ -4,6 +4,7 @@ use Rattle.std.proofs.lemmas.List.{take_rest}
 use Rattle.std.specs.List.{list_any, position_or_len}
 use Rattle.hwdb_spec.specs.Lines.{Line, has, has_equals, has_key, is, is_indent, is_none, is_property, key, property, value}
 use Rattle.hwdb_spec.specs.Warnings.{is_spaced, warns}
+use Rattle.hwdb_lint.specs.Internal.{line_of}
 use Rattle.hwdb_spec.specs.declared.WarningKind.TheVariants.{SpacedEquals}
 
 none_by : (t : Bool) (n k : ℕ) (r : Bool) → cond (not t) (1 + n) 0 ≡ suc k → (n ≡ k → r ≡ false) → (t || r) ≡ false
@@ -51,17 +52,17 @@ module _ (l : Line) (body : List ℕ) (equals : ℕ) (b : body ≡ property l) (
   behind : drop (equals + 1) body ≡ value l
   behind = ap (λ (k : ℕ). drop (k + 1) body) e ∙ ap (λ (t : List ℕ). drop (position_or_len (is 61) t + 1) t) b
 
-  pub without_equals : equals ≡ length body → false ≡ warns [] SpacedEquals l
+  pub without_equals : equals ≡ length body → false ≡ warns [] SpacedEquals (line_of 0 []) l
   without_equals f = outer (is_property l) (has_equals l) (has_key l) (is_spaced l) (ap (has 61) (sym b) ∙ has_none 61 body (sym e ∙ f))
 
-  pub without_key : equals ≡ 0 → false ≡ warns [] SpacedEquals l
+  pub without_key : equals ≡ 0 → false ≡ warns [] SpacedEquals (line_of 0 []) l
   without_key f =
       middle (is_property l) (has_equals l) (has_key l) (is_spaced l)
       (ap (λ (k : List ℕ). not (is_none k)) (sym before) ∙ ap (λ (n : ℕ). not (is_none (take n body))) f ∙ no_key body)
 
   pub with_key : (r : Bool) (text rest : List ℕ) → is_property l ≡ true → (equals ≡ length body → ⊥) → (equals ≡ 0 → ⊥) → equals ≤ length body
       → text ≡ take equals body → rest ≡ take (length body - (equals + 1)) (drop (equals + 1) body)
-      → r ≡ cond (list_any is_indent (drop (length text - 1) text)) true (list_any is_indent (take 1 rest)) → r ≡ warns [] SpacedEquals l
+      → r ≡ cond (list_any is_indent (drop (length text - 1) text)) true (list_any is_indent (take 1 rest)) → r ≡ warns [] SpacedEquals (line_of 0 []) l
   with_key r text rest p n z h t u is_r =
       is_r
       ∙ ap (λ (k : List ℕ). cond (list_any is_indent (drop (length k - 1) k)) true (list_any is_indent (take 1 rest))) (t ∙ before)

@@ -11,7 +11,7 @@ use Rattle.std.specs.BTreeSet.{BTreeSet, contains}
 use Rattle.hwdb_spec.specs.Assignment.{Assignment}
 use Rattle.hwdb_spec.specs.Folders.{same}
 use Rattle.hwdb_spec.specs.Records.{Origin}
-use Rattle.hwdb_spec.specs.Warnings.{greatest, repeated_from, repeated_lines, replaces, replacing}
+use Rattle.hwdb_spec.specs.Warnings.{gives_value, greatest, last_with, repeated_from, repeated_lines, replaces, replacing}
 use Rattle.hwdb_spec.specs.declared.WarningKind.{WarningKind}
 use Rattle.hwdb_spec.specs.declared.WarningKind.TheVariants.{Replaced}
 use Rattle.hwdb_spec.specs.Lines.{Line, byte, clean_line, is, lines, numbered, pieces}
@@ -67,7 +67,7 @@ lines_with pattern key all = map (λ a. a.position.line) (filter (λ a. gives a 
 -- the lines of `all` that replace one of the assignments `read` of a line
 abbrev pub replacing_of : (read all : List Assignment) → (line : ℕ) → List ℕ
 replacing_of read all line =
-    map (λ a. a.position.line) (filter (λ a. list_any (replaces a) (filter (λ b. is line b.position.line) read)) all)
+    map (λ a. a.position.line) (filter (λ a. list_any (replaces all a) (filter (λ b. is line b.position.line) read)) all)
 
 -- a number that is raised to another one, where a test holds
 abbrev pub raised : (test : Bool) (number old : ℕ) → ℕ
@@ -77,10 +77,14 @@ raised test number old = if test then max old number else old
 abbrev pub behind : (line number : ℕ) → ℕ
 behind line number = if nat_lt line number then number else 0
 
--- what a map has at a pattern and a key, or at a number; 0 where it has nothing there
+-- what a map has at a pattern and a key, at these and a value, or at a number; 0 where it has nothing there
 abbrev pub last_at : BTreeMap (Bor (List ℕ) × Bor (List ℕ)) ℕ → (pattern key : Bor (List ℕ)) → ℕ
 last_at last pattern key =
     unwrap_or (get_by (λ q. ordering_then (slice_cmp nat_cmp pattern.now q.0.now) (slice_cmp nat_cmp key.now q.1.now)) last) 0
+
+abbrev pub same_at : BTreeMap ((Bor (List ℕ) × Bor (List ℕ)) × Bor (List ℕ)) ℕ → (pattern key value : Bor (List ℕ)) → ℕ
+same_at last pattern key value =
+    unwrap_or (get_by (λ q. ordering_then (ordering_then (slice_cmp nat_cmp pattern.now q.0.0.now) (slice_cmp nat_cmp key.now q.0.1.now)) (slice_cmp nat_cmp value.now q.1.now)) last) 0
 
 abbrev pub line_at : BTreeMap ℕ ℕ → ℕ → ℕ
 line_at lines number = unwrap_or (get nat_cmp lines number) 0
@@ -88,6 +92,10 @@ line_at lines number = unwrap_or (get nat_cmp lines number) 0
 -- the last line with each pattern and key
 abbrev pub IsLastOf : List Assignment → BTreeMap (Bor (List ℕ) × Bor (List ℕ)) ℕ → Type 0
 IsLastOf all last = (pattern key : Bor (List ℕ)) → last_at last pattern key ≡ greatest (lines_with pattern.now key.now all)
+
+-- the last line with each pattern, key and value
+abbrev pub IsSameOf : List Assignment → BTreeMap ((Bor (List ℕ) × Bor (List ℕ)) × Bor (List ℕ)) ℕ → Type 0
+IsSameOf all last = (pattern key value : Bor (List ℕ)) → same_at last pattern key value ≡ last_with all pattern.now key.now value.now
 
 -- the last line of `all` that replaces one of the assignments `read`, by the line of that one
 abbrev pub IsReplacedBy : (read all : List Assignment) → BTreeMap ℕ ℕ → Type 0
@@ -98,6 +106,11 @@ abbrev pub RaisesLast : Assignment → (before after : BTreeMap (Bor (List ℕ) 
 RaisesLast a before after =
     (pattern key : Bor (List ℕ))
     → last_at after pattern key ≡ raised (gives a pattern.now key.now) a.position.line (last_at before pattern key)
+
+abbrev pub RaisesSame : Assignment → (before after : BTreeMap ((Bor (List ℕ) × Bor (List ℕ)) × Bor (List ℕ)) ℕ) → Type 0
+RaisesSame a before after =
+    (pattern key value : Bor (List ℕ))
+    → same_at after pattern key value ≡ raised (gives_value pattern.now key.now value.now a) a.position.line (same_at before pattern key value)
 
 -- the map has at a line a number that is raised to another one
 abbrev pub RaisesLine : (line by : ℕ) → (before after : BTreeMap ℕ ℕ) → Type 0

@@ -17,7 +17,7 @@ pub struct Known<'a> {
     pub bytes: &'a [u8],
     /// The numbers of the match lines that stand in their record already.
     pub repeated: BTreeSet<u64>,
-    /// For the number of a line that of the last line that replaces one of its assignments.
+    /// For the number of a line that of the last line that replaces one of its assignments by another value.
     pub replaced: BTreeMap<u64, u64>,
 }
 

@@ -4,8 +4,9 @@ ghost use Rattle.std.specs.List.{list_any};
 ghost use Rattle.hwdb_spec.specs.Lines;
 ghost use Rattle.hwdb_spec.specs.Lines.{is_indent};
 ghost use Rattle.hwdb_spec.specs.Tree.{closed_part};
+ghost use Rattle.hwdb_spec.specs.Warnings;
 ghost use Rattle.hwdb_spec.specs.Warnings.{warns};
-ghost use Rattle.hwdb_lint.specs.Internal.{line_of, IsRead};
+ghost use Rattle.hwdb_lint.specs.Internal.{line_of, read_line, IsRead};
 
 use crate::places::{indent_of, place_of};
 use hwdb_pattern::{open_place, range_place};
@@ -24,27 +25,27 @@ pub struct Read<'a> {
     pub clean: &'a [u8],
     /// Whether it is a match line that stands in its record already.
     pub repeated: bool,
-    /// The last line that replaces one of its assignments; 0 where none does.
+    /// The last line that replaces one of its assignments by another value; 0 where none does.
     pub replaced_by: u64,
 }
 
 /// Whether a text begins with a byte order mark.
 fn begins_with_mark(text: &[u8]) -> bool
-    ensures { result ≡ warns [] WarningKind.ByteOrderMark (line_of 0 text.now) }
+    ensures { result ≡ warns [] WarningKind.ByteOrderMark (line_of 0 []) (line_of 0 text.now) }
 {
     text.len() > 2 && text[0] == 239 && text[1] == 187 && text[2] == 191
 }
 
 /// Whether a text begins with a tab.
 fn begins_with_tab(text: &[u8]) -> bool
-    ensures { result ≡ warns [] WarningKind.LeadingTab (line_of 0 text.now) }
+    ensures { result ≡ warns [] WarningKind.LeadingTab (line_of 0 []) (line_of 0 text.now) }
 {
     !text.is_empty() && text[0] == b'\t'
 }
 
 /// Whether a carriage return stands in a text.
 fn has_return(text: &[u8]) -> bool
-    ensures { result ≡ warns [] WarningKind.CarriageReturn (line_of 0 text.now) }
+    ensures { result ≡ warns [] WarningKind.CarriageReturn (line_of 0 []) (line_of 0 text.now) }
 {
     text.iter().any(|byte| *byte == b'\r')
 }
@@ -72,14 +73,14 @@ pub fn closed(pattern: &[u8]) -> &[u8]
 
 /// Whether a `[` of a match line begins no closed bracket.
 fn has_open_bracket(clean: &[u8]) -> bool
-    ensures { result ≡ warns [] WarningKind.OpenBracket (line_of 0 clean.now) }
+    ensures { result ≡ warns [] WarningKind.OpenBracket (line_of 0 []) (line_of 0 clean.now) }
 {
     is_match(clean) && open_place(clean) < clean.len()
 }
 
 /// Whether a range of a match line has no members, before the first `[` that begins no closed bracket.
 fn has_empty_range(clean: &[u8]) -> bool
-    ensures { result ≡ warns [] WarningKind.EmptyRange (line_of 0 clean.now) }
+    ensures { result ≡ warns [] WarningKind.EmptyRange (line_of 0 []) (line_of 0 clean.now) }
 {
     if !is_match(clean) {
         return false;
@@ -108,7 +109,7 @@ fn is_spaced(key: &[u8], value: &[u8]) -> bool
 
 /// Whether a blank stands beside the first `=` of a property that has a key.
 fn has_spaced_equals(clean: &[u8]) -> bool
-    ensures { result ≡ warns [] WarningKind.SpacedEquals (line_of 0 clean.now) }
+    ensures { result ≡ warns [] WarningKind.SpacedEquals (line_of 0 []) (line_of 0 clean.now) }
 {
     if !is_property(clean) {
         return false;
@@ -124,10 +125,40 @@ fn has_spaced_equals(clean: &[u8]) -> bool
     is_spaced(&body[..equals], &body[equals + 1..])
 }
 
+/// Whether a `=` stands in a text.
+fn holds_equals(text: &[u8]) -> bool
+    ensures { result ≡ Lines.has 61 text.now }
+{
+    text.iter().any(|byte| *byte == b'=')
+}
+
+/// Whether a `=` stands in a property.
+fn has_equals(clean: &[u8]) -> bool
+    ensures { result ≡ Lines.has_equals (line_of 0 clean.now) }
+{
+    holds_equals(&clean[indent_of(clean)..])
+}
+
+/// Whether a `#` stands in a text right behind its first bytes, the clean text.
+fn is_cut(text: &[u8], clean: &[u8]) -> bool
+    ensures { result ≡ Warnings.is_cut (line_of 0 text.now) (line_of 0 clean.now) }
+{
+    clean.len() < text.len() && text[clean.len()] == b'#'
+}
+
+/// Whether a `#` cuts the value of a property, and no blank stands before it.
+fn has_cut_value(text: &[u8], clean: &[u8]) -> bool
+    ensures { result
+        ≡ warns [] WarningKind.CutValue (line_of 0 text.now) (line_of 0 clean.now) }
+{
+    is_property(clean) && has_equals(clean) && is_cut(text, clean)
+}
+
 /// Whether a line gets a warning.
 pub fn is_warned(kind: WarningKind, line: &Read<'_>) -> bool
     requires { IsRead line.now }
-    ensures { result ≡ warns line.now.bytes.now kind (line_of line.now.number line.now.clean.now) }
+    ensures { result ≡ warns line.now.bytes.now kind (read_line line.now)
+        (line_of line.now.number line.now.clean.now) }
 {
     match kind {
         WarningKind::ByteOrderMark => begins_with_mark(line.clean),
@@ -136,6 +167,7 @@ pub fn is_warned(kind: WarningKind, line: &Read<'_>) -> bool
         WarningKind::OpenBracket => has_open_bracket(line.clean),
         WarningKind::EmptyRange => has_empty_range(line.clean),
         WarningKind::SpacedEquals => has_spaced_equals(line.clean),
+        WarningKind::CutValue => has_cut_value(line.text, line.clean),
         WarningKind::RepeatedMatch => line.repeated,
         WarningKind::Replaced(_) => line.replaced_by > 0,
     }

@@ -1,8 +1,8 @@
-//! Assignments that a later line of the same file replaces.
+//! Assignments that a later line of the same file replaces by another value.
 ghost use Rattle.std.specs.Prelude.{◌≡◌, [], map, IfOk, OnOk};
 ghost use Rattle.std.specs.Borrow.{Bor};
 ghost use Rattle.hwdb_text.specs.Views.{given_in};
-ghost use Rattle.hwdb_lint.specs.Internal.{IsLastOf, IsReplacedBy, RaisesLast, RaisesLine, behind, last_at, own};
+ghost use Rattle.hwdb_lint.specs.Internal.{IsLastOf, IsReplacedBy, IsSameOf, RaisesLast, RaisesLine, RaisesSame, behind, last_at, own, same_at};
 
 use hwdb_text::Given;
 use std::alloc::{AllocError, Global};
@@ -10,6 +10,9 @@ use std::collections::BTreeMap;
 
 /// A pattern and a key.
 type Place<'b> = (&'b [u8], &'b [u8]);
+
+/// A pattern and a key, and the value that they are given.
+type Valued<'b> = (Place<'b>, &'b [u8]);
 
 /// Reads an assignment: its line counts as the last one with its pattern and key, where none behind it was read. One look is
 /// enough where assignments come by line.
@@ -38,6 +41,30 @@ fn last_lines<'b>(alloc: Global, all: &[Given<'b>]) -> Result<BTreeMap<Place<'b>
     Ok(last)
 }
 
+/// The same for its pattern, its key and its value.
+fn put_same<'b>(same: &mut BTreeMap<Valued<'b>, u64>, given: &Given<'b>) -> Result<(), AllocError>
+    ensures { OnOk result (RaisesSame (given_in own given.now) same.old same.new) }
+{
+    let place = ((given.pattern, given.key), given.value);
+    let line = given.line as u64;
+    let before = same.insert(place, line)?.unwrap_or(0);
+    if line < before {
+        same.insert(place, before)?;
+    }
+    Ok(())
+}
+
+/// The last line of some assignments with each pattern, key and value.
+fn same_lines<'b>(alloc: Global, all: &[Given<'b>]) -> Result<BTreeMap<Valued<'b>, u64>, AllocError>
+    ensures { IfOk result (IsSameOf (map (given_in own) all.now)) }
+{
+    let mut same = BTreeMap::new(alloc);
+    for given in all {
+        put_same(&mut same, given)?;
+    }
+    Ok(same)
+}
+
 /// A line is replaced by another one: that counts, where none behind it replaces the line too.
 fn put_line(replaced: &mut BTreeMap<u64, u64>, line: u64, by: u64) -> Result<(), AllocError>
     ensures { OnOk result (RaisesLine line by replaced.old replaced.new) }
@@ -47,20 +74,24 @@ fn put_line(replaced: &mut BTreeMap<u64, u64>, line: u64, by: u64) -> Result<(),
     Ok(())
 }
 
-/// Reads an assignment: where the last line with its pattern and key stands behind it, that one replaces its line.
+/// Reads an assignment: where the last line with its pattern and key stands behind the last one that gives its value too, it
+/// gives another value, and replaces the line.
 fn put_given<'b>(
     replaced: &mut BTreeMap<u64, u64>,
     last: &BTreeMap<Place<'b>, u64>,
+    same: &BTreeMap<Valued<'b>, u64>,
     given: &Given<'b>,
 ) -> Result<(), AllocError>
     ensures { OnOk result
-        (RaisesLine given.now.line (behind given.now.line
+        (RaisesLine given.now.line
+        (behind (same_at same.now given.now.pattern given.now.key given.now.value)
         (last_at last.now given.now.pattern given.now.key)) replaced.old replaced.new) }
 {
-    let line = given.line as u64;
-    let by = last.get(&(given.pattern, given.key)).copied().unwrap_or(0);
-    if line < by {
-        put_line(replaced, line, by)?;
+    let place = (given.pattern, given.key);
+    let by = last.get(&place).copied().unwrap_or(0);
+    let kept = same.get(&(place, given.value)).copied().unwrap_or(0);
+    if kept < by {
+        put_line(replaced, given.line as u64, by)?;
     }
     Ok(())
 }
@@ -72,9 +103,10 @@ pub fn replaced_lines(alloc: Global, all: &[Given<'_>]) -> Result<BTreeMap<u64, 
         (IsReplacedBy (map (given_in own) all.now) (map (given_in own) all.now)) }
 {
     let last = last_lines(alloc, all)?;
+    let same = same_lines(alloc, all)?;
     let mut replaced = BTreeMap::new(alloc);
     for given in all {
-        put_given(&mut replaced, &last, given)?;
+        put_given(&mut replaced, &last, &same, given)?;
     }
     Ok(replaced)
 }

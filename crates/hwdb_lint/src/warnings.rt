@@ -2,7 +2,7 @@
 ghost use Rattle.std.specs.Prelude.{◌≡◌, ◌++◌, flat_map, map, IfOk, OnOk};
 ghost use Rattle.hwdb_spec.specs.Lines.{clean_line};
 ghost use Rattle.hwdb_spec.specs.Records;
-ghost use Rattle.hwdb_spec.specs.Warnings.{warned, clean_warnings, line_warnings, warnings, warning_text, warning_place, warning_hint, warning_line, warning_report, line_text, warnings_text};
+ghost use Rattle.hwdb_spec.specs.Warnings.{all_warnings, warned, line_warnings, warnings, warning_text, warning_place, warning_hint, warning_line, warning_report, line_text, warnings_text};
 ghost use Rattle.hwdb_text.specs.Views.{given_in};
 ghost use Rattle.hwdb_lint.specs.Internal.{IsKnown, IsRead, clean_of, line_of, number_text, own, read_line};
 
@@ -28,6 +28,7 @@ fn text_of(kind: WarningKind) -> &'static str
         WarningKind::OpenBracket => "a [ that is never closed stands for itself",
         WarningKind::EmptyRange => "a range without members",
         WarningKind::SpacedEquals => "a blank beside the first =",
+        WarningKind::CutValue => "a # without a blank before it cuts the value",
         WarningKind::RepeatedMatch => "a match line that stands in its record already",
         WarningKind::Replaced(_) => "an assignment that line ",
     }
@@ -58,6 +59,7 @@ fn hint_of(kind: WarningKind) -> &'static str
         WarningKind::OpenBracket => "close it with a ], or write [[] for the byte",
         WarningKind::EmptyRange => "put the lower end of the range first",
         WarningKind::SpacedEquals => "take it away: it belongs to the key or to the value",
+        WarningKind::CutValue => "put a blank before a comment; a value can't hold a #",
         WarningKind::RepeatedMatch | WarningKind::Replaced(_) => "take one of the two away",
     }
 }
@@ -72,6 +74,7 @@ fn warning_place(kind: WarningKind, line: &[u8], clean: &[u8]) -> usize
         WarningKind::OpenBracket => open_place(clean),
         WarningKind::EmptyRange => range_place(closed(clean)),
         WarningKind::SpacedEquals => place_of(b'=', line),
+        WarningKind::CutValue => place_of(b'#', line),
         WarningKind::Replaced(_) => indent_of(line),
     }
 }
@@ -140,10 +143,10 @@ impl Warned {
         requires { IsRead line.now }
         ensures text { OnOk result (self.new.text.items ≡ self.old.text.items
             ++ flat_map (warning_report path.now (read_line line.now))
-            (warned line.now.bytes.now kind (clean_of line.now))) }
+            (warned line.now.bytes.now kind (read_line line.now) (clean_of line.now))) }
         ensures found { OnOk result
             (self.new.found.items ≡ self.old.found.items
-            ++ warned line.now.bytes.now kind (clean_of line.now)) }
+            ++ warned line.now.bytes.now kind (read_line line.now) (clean_of line.now)) }
     {
         if is_warned(kind, line) {
             push_warning(alloc, &mut self.text, path, line, kind)?;
@@ -153,14 +156,14 @@ impl Warned {
     }
 
     /// Adds the warnings of a line with its clean text.
-    fn put_clean(&mut self, alloc: Global, path: &[u8], line: &Read<'_>) -> Result<(), AllocError>
+    fn put_all(&mut self, alloc: Global, path: &[u8], line: &Read<'_>) -> Result<(), AllocError>
         requires { IsRead line.now }
         ensures text { OnOk result (self.new.text.items ≡ self.old.text.items
             ++ flat_map (warning_report path.now (read_line line.now))
-            (clean_warnings line.now.bytes.now (clean_of line.now))) }
+            (all_warnings line.now.bytes.now (read_line line.now) (clean_of line.now))) }
         ensures found { OnOk result
             (self.new.found.items ≡ self.old.found.items
-            ++ clean_warnings line.now.bytes.now (clean_of line.now)) }
+            ++ all_warnings line.now.bytes.now (read_line line.now) (clean_of line.now)) }
     {
         self.put_if(alloc, path, line, WarningKind::ByteOrderMark)?;
         self.put_if(alloc, path, line, WarningKind::LeadingTab)?;
@@ -168,6 +171,7 @@ impl Warned {
         self.put_if(alloc, path, line, WarningKind::OpenBracket)?;
         self.put_if(alloc, path, line, WarningKind::EmptyRange)?;
         self.put_if(alloc, path, line, WarningKind::SpacedEquals)?;
+        self.put_if(alloc, path, line, WarningKind::CutValue)?;
         self.put_if(alloc, path, line, WarningKind::RepeatedMatch)?;
         self.put_if(alloc, path, line, WarningKind::Replaced(line.replaced_by))
     }
@@ -186,9 +190,11 @@ impl Warned {
         requires clean { clean.now ≡ (clean_line (line_of number text.now)).text }
         ensures text { OnOk result (self.new.text.items ≡ self.old.text.items
             ++ flat_map (warning_report path.now (line_of number text.now))
-            (clean_warnings known.now.bytes.now (clean_line (line_of number text.now)))) }
+            (all_warnings known.now.bytes.now (line_of number text.now)
+            (clean_line (line_of number text.now)))) }
         ensures found { OnOk result (self.new.found.items ≡ self.old.found.items
-            ++ clean_warnings known.now.bytes.now (clean_line (line_of number text.now))) }
+            ++ all_warnings known.now.bytes.now (line_of number text.now)
+            (clean_line (line_of number text.now))) }
     {
         let line = Read {
             bytes: known.bytes,
@@ -198,7 +204,7 @@ impl Warned {
             repeated: known.repeated.contains(&number),
             replaced_by: known.replaced.get(&number).copied().unwrap_or(0),
         };
-        self.put_clean(alloc, path, &line)
+        self.put_all(alloc, path, &line)
     }
 
     /// Adds the warnings of a line of a file.

@@ -11,11 +11,15 @@ use Rattle.hwdb_spec.specs.Tree.{closed_part, is_open}
 use Rattle.hwdb_spec.specs.Texts.{place_text}
 use Rattle.hwdb_spec.specs.Reports.{hint_line, mark_line, shown_line}
 use Rattle.hwdb_spec.specs.declared.WarningKind.{WarningKind}
-use Rattle.hwdb_spec.specs.declared.WarningKind.TheVariants.{ByteOrderMark, CarriageReturn, EmptyRange, LeadingTab, OpenBracket, RepeatedMatch, Replaced, SpacedEquals}
+use Rattle.hwdb_spec.specs.declared.WarningKind.TheVariants.{ByteOrderMark, CarriageReturn, CutValue, EmptyRange, LeadingTab, OpenBracket, RepeatedMatch, Replaced, SpacedEquals}
 
 -- whether the key of a property ends with a space or a tab, or its value begins with one
 abbrev pub is_spaced : Line → Bool
 is_spaced l = if list_any is_indent (drop (length (key l) - 1) (key l)) then true else list_any is_indent (take 1 (value l))
+
+-- whether a `#` stands right behind the clean text of a line, so that it cuts the line, and no blank stands before it
+abbrev pub is_cut : (line clean : Line) → Bool
+is_cut line clean = begins_with (byte "#") (drop (length clean.text) line.text)
 
 -- the numbers of the match lines that repeat one of the match lines directly above, which have these texts
 unfoldable pub repeated_from : (above : List (List ℕ)) → List Line → List ℕ
@@ -30,59 +34,73 @@ repeated_from above (l ∷ more) =
 abbrev pub repeated_lines : List ℕ → List ℕ
 repeated_lines file = repeated_from [] (clean (lines file))
 
--- whether an assignment of a file stands behind another one, and has its pattern and its key
-abbrev pub replaces : (later earlier : Assignment) → Bool
-replaces later earlier =
-    if nat_lt earlier.position.line later.position.line then
-    (if same later.position.pattern earlier.position.pattern then same later.position.key earlier.position.key else false)
-    else false
-
--- the numbers of the lines behind a line of a file that give one of its patterns the same key
-abbrev pub replacing : (file : List ℕ) → (line : ℕ) → List ℕ
-replacing file line =
-    let all = assignments (record { path = []; priority = 1 }) file in
-    let own = filter (λ a. is line a.position.line) all in
-    map (λ a. a.position.line) (filter (λ a. list_any (replaces a) own) all)
-
 -- the greatest of some numbers; 0 where there are none
 abbrev pub greatest : List ℕ → ℕ
 greatest [] = 0
 greatest (n ∷ more) = max n (greatest more)
 
--- Whether a clean line of a file gets a warning: it begins with the three bytes of a UTF-8 byte order mark; with a tab, and so is
--- a match line; a carriage return stands in it, which isn't among its trailing blanks. Of a match line: a `[` of it begins no
--- closed bracket; before the first such `[` a range has no members. Of a property that has a key: a blank stands beside its first
--- `=`. It is a match line that stands in its record already. Lines behind it give one of its patterns the same key.
-abbrev pub warns : (file : List ℕ) → WarningKind → (clean : Line) → Bool
-warns file ByteOrderMark l = starts_with nat_eq l.text (239 ∷ 187 ∷ 191 ∷ [])
-warns file LeadingTab l = begins_with (byte "\t") l.text
-warns file CarriageReturn l = has (byte "\r") l.text
-warns file OpenBracket l = if is_match l then list_any is_open (tokens l.text) else false
-warns file EmptyRange l = if is_match l then list_any is_reversed (tokens (closed_part l.text)) else false
-warns file SpacedEquals l =
+-- whether an assignment gives a pattern a key, and this value
+abbrev pub gives_value : (pattern key value : List ℕ) → Assignment → Bool
+gives_value pattern key value a =
+    if same a.position.pattern pattern then (if same a.position.key key then same a.value value else false) else false
+
+-- the last line of some assignments that gives a pattern a key, and this value; 0 where none does
+abbrev pub last_with : (all : List Assignment) → (pattern key value : List ℕ) → ℕ
+last_with all pattern key value = greatest (map (λ a. a.position.line) (filter (gives_value pattern key value) all))
+
+-- Whether an assignment of a file replaces another one, which has its pattern and its key: it stands behind each line that gives
+-- these the value of the other one. So an assignment is replaced exactly if the last line with its pattern and its key, which
+-- counts, gives another value.
+abbrev pub replaces : (all : List Assignment) → (later earlier : Assignment) → Bool
+replaces all later earlier =
+    if nat_lt (last_with all earlier.position.pattern earlier.position.key earlier.value) later.position.line then
+    (if same later.position.pattern earlier.position.pattern then same later.position.key earlier.position.key else false)
+    else false
+
+-- the numbers of the lines of a file that replace what a line of it gives one of its patterns
+abbrev pub replacing : (file : List ℕ) → (line : ℕ) → List ℕ
+replacing file line =
+    let all = assignments (record { path = []; priority = 1 }) file in
+    let own = filter (λ a. is line a.position.line) all in
+    map (λ a. a.position.line) (filter (λ a. list_any (replaces all a) own) all)
+
+-- Whether a line of a file, of which this is the clean line, gets a warning: its clean text begins with the three bytes of a UTF-8
+-- byte order mark; with a tab, and so is a match line; a carriage return stands in it, which isn't among its trailing blanks. Of a
+-- match line: a `[` of it begins no closed bracket; before the first such `[` a range has no members. Of a property that has a key:
+-- a blank stands beside its first `=`. Of a property with a `=`: a `#` cuts it, before which no blank stands. It is a match line that
+-- stands in its record already. Lines behind it replace what it gives.
+abbrev pub warns : (file : List ℕ) → WarningKind → (line clean : Line) → Bool
+warns file ByteOrderMark line l = starts_with nat_eq l.text (239 ∷ 187 ∷ 191 ∷ [])
+warns file LeadingTab line l = begins_with (byte "\t") l.text
+warns file CarriageReturn line l = has (byte "\r") l.text
+warns file OpenBracket line l = if is_match l then list_any is_open (tokens l.text) else false
+warns file EmptyRange line l = if is_match l then list_any is_reversed (tokens (closed_part l.text)) else false
+warns file SpacedEquals line l =
     if is_property l then (if has_equals l then (if has_key l then is_spaced l else false) else false) else false
-warns file RepeatedMatch l = list_any (is l.number) (repeated_lines file)
-warns file (Replaced by) l = not (is_none (replacing file l.number))
+warns file CutValue line l = if is_property l then (if has_equals l then is_cut line l else false) else false
+warns file RepeatedMatch line l = list_any (is l.number) (repeated_lines file)
+warns file (Replaced by) line l = not (is_none (replacing file l.number))
 
--- one warning of a clean line, or none
-abbrev pub warned : (file : List ℕ) → WarningKind → (clean : Line) → List WarningKind
-warned file kind l = if warns file kind l then kind ∷ [] else []
+-- one warning of a line, or none
+abbrev pub warned : (file : List ℕ) → WarningKind → (line clean : Line) → List WarningKind
+warned file kind line clean = if warns file kind line clean then kind ∷ [] else []
 
--- all warnings of a clean line; the last one names the last line that replaces
-abbrev pub clean_warnings : (file : List ℕ) → (clean : Line) → List WarningKind
-clean_warnings file l =
-    warned file ByteOrderMark l
-    ++ (warned file LeadingTab l
-    ++ (warned file CarriageReturn l
-    ++ (warned file OpenBracket l
-    ++ (warned file EmptyRange l
-    ++ (warned file SpacedEquals l
-    ++ (warned file RepeatedMatch l
-    ++ warned file (Replaced (greatest (replacing file l.number))) l))))))
+-- all warnings of a line; the last one names the last line that replaces
+abbrev pub all_warnings : (file : List ℕ) → (line clean : Line) → List WarningKind
+all_warnings file line clean =
+    warned file ByteOrderMark line clean
+    ++ (warned file LeadingTab line clean
+    ++ (warned file CarriageReturn line clean
+    ++ (warned file OpenBracket line clean
+    ++ (warned file EmptyRange line clean
+    ++ (warned file SpacedEquals line clean
+    ++ (warned file CutValue line clean
+    ++ (warned file RepeatedMatch line clean
+    ++ warned file (Replaced (greatest (replacing file clean.number))) line clean)))))))
 
 -- the warnings of a line of a file; none where the line is dropped
 abbrev pub line_warnings : (file : List ℕ) → Line → List WarningKind
-line_warnings file l = if is_dropped l then [] else clean_warnings file (clean_line l)
+line_warnings file l = if is_dropped l then [] else all_warnings file l (clean_line l)
 
 -- the warnings of a file
 abbrev pub warnings : List ℕ → List WarningKind
@@ -96,6 +114,7 @@ warning_text CarriageReturn = codes "a carriage return in the middle of the line
 warning_text OpenBracket = codes "a [ that is never closed stands for itself"
 warning_text EmptyRange = codes "a range without members"
 warning_text SpacedEquals = codes "a blank beside the first ="
+warning_text CutValue = codes "a # without a blank before it cuts the value"
 warning_text RepeatedMatch = codes "a match line that stands in its record already"
 warning_text (Replaced by) = codes "an assignment that line " ++ (decimal by ++ codes " replaces")
 
@@ -107,6 +126,7 @@ warning_place CarriageReturn text clean = position_or_len (is (byte "\r")) text
 warning_place OpenBracket text clean = length (closed_part clean)
 warning_place EmptyRange text clean = range_place (closed_part clean)
 warning_place SpacedEquals text clean = position_or_len (is (byte "=")) text
+warning_place CutValue text clean = position_or_len (is (byte "#")) text
 warning_place RepeatedMatch text clean = 0
 warning_place (Replaced by) text clean = prefix_len is_indent text
 
@@ -118,6 +138,7 @@ warning_hint CarriageReturn = codes "end each line with a newline alone"
 warning_hint OpenBracket = codes "close it with a ], or write [[] for the byte"
 warning_hint EmptyRange = codes "put the lower end of the range first"
 warning_hint SpacedEquals = codes "take it away: it belongs to the key or to the value"
+warning_hint CutValue = codes "put a blank before a comment; a value can't hold a #"
 warning_hint RepeatedMatch = codes "take one of the two away"
 warning_hint (Replaced by) = codes "take one of the two away"
 

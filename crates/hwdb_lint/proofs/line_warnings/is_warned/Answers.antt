@@ -1,6 +1,6 @@
 use Rattle.std.proofs.Common.{◌∙◌, ap, nat_lt, sym}
 use Rattle.hwdb_spec.specs.Warnings.{warns}
-use Rattle.hwdb_lint.specs.Internal.{line_of}
+use Rattle.hwdb_lint.specs.Internal.{line_of, read_line}
 use Rattle.hwdb_lint.proofs.ReplaceLemmas.{some_replaces}
 use Rattle.hwdb_lint.proofs.line_warnings.is_warned.Goals as goal
 
@@ -8,4 +8,4 @@ pub returns-in-Replaced : goal.returns-in-Replaced
 returns-in-Replaced c =
     ap (nat_lt 0) c.requires.replaced
     ∙ sym (some_replaces c.args.line.now.bytes.now c.args.line.now.number)
-    ∙ ap (λ k. warns c.args.line.now.bytes.now k (line_of c.args.line.now.number c.args.line.now.clean.now)) (sym c.in-Replaced.is)
+    ∙ ap (λ k. warns c.args.line.now.bytes.now k (read_line c.args.line.now) (line_of c.args.line.now.number c.args.line.now.clean.now)) (sym c.in-Replaced.is)

@@ -9,5 +9,5 @@ loop-given-init c = no_line (map (given_in own) c.args.all.now) c.new-replaced.r
 
 pub loop-given-preserved : goal.loop-given-preserved
 loop-given-preserved c =
-    line_step c.args.all.now c.loop-given.given-index _ c.in_ok-last.last c.loop-given.replaced c.put_given.new.replaced c.loop-given-test.true c.in_ok-last.ensures
+    line_step c.args.all.now c.loop-given.given-index _ c.in_ok-last.last c.in_ok-same.same c.loop-given.replaced c.put_given.new.replaced c.loop-given-test.true c.in_ok-last.ensures c.in_ok-same.ensures
     c.loop-given.invariant c.in_ok-put_given.ensures
