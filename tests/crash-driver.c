@@ -1,6 +1,8 @@
 /* Runs one `update` of the program again and again, each time ended, or refused, at another of its file calls, and
  * judges what it leaves. See tests/crash and tests/crash-library.c.
  *
+ * Each of them once more beside a file that a killed update left, if a database stands there before.
+ *
  * usage: crash-driver LIBRARY NAME ROOT DATABASE OLD NEW PROGRAM WORD..
  *   LIBRARY    what tests/crash-library.c was compiled to
  *   NAME       of the update, for what is printed
@@ -27,6 +29,7 @@
 enum { SECONDS = 20, MOST_CALLS = 2000, MOST_NAMES = 64, MOST_KINDS = 32, MOST_SHOWN = 5, OLD_MODE = 0640, NEW_MODE = 0444 };
 #define PIECE "4000"
 #define PART_NAME ".#hwdb.bin"
+#define LEFTOVER ".#hwdb.bin7"
 
 /* A file's bytes, ended by a byte 0 that isn't counted. */
 struct text { char *bytes; size_t length; int is_there; };
@@ -35,6 +38,8 @@ struct answer { int status; struct text out, err; };
 static const char *library, *name, *root, *database;
 static char folder[PATH_MAX], first_names[MOST_NAMES][NAME_MAX + 1];
 static int count_of_first, was_folder_there;
+/* Whether a killed update's file stands in the folder before each run. */
+static int has_leftover;
 static struct text old, new, faults;
 static struct answer answer_of_old, answer_of_new;
 static char **words;
@@ -69,9 +74,12 @@ static int is_first(const char *entry) {
     return 0;
 }
 
+/* Which names may stand beside the database. */
+enum may { NOTHING, A_LEFTOVER, A_PART };
+
 /* Goes over the database's folder: each name that wasn't there at first, but for the database, is deleted, or else is
  * looked at. Answers a name that must not be there, or null. */
-static const char *look_at_folder(int deletes, int may_be_part) {
+static const char *look_at_folder(int deletes, enum may may) {
     static char found[PATH_MAX];
     int has_found = 0;
     DIR *entries = opendir(folder);
@@ -82,7 +90,7 @@ static const char *look_at_folder(int deletes, int may_be_part) {
         if (is_first(entry->d_name) || !strcmp(entry->d_name, ".") || !strcmp(entry->d_name, "..")) continue;
         snprintf(path, sizeof path, "%s/%s", folder, entry->d_name);
         if (deletes) { unlink(path); continue; }
-        if (!strcmp(path, database) || (is_part && may_be_part)) continue;
+        if (!strcmp(path, database) || (is_part && may == A_PART) || (may == A_LEFTOVER && !strcmp(entry->d_name, LEFTOVER))) continue;
         snprintf(found, sizeof found, "%s", entry->d_name);
         has_found = 1;
     }
@@ -92,8 +100,8 @@ static const char *look_at_folder(int deletes, int may_be_part) {
 
 /* Makes the database and its folder what they were before the first run. */
 static void put_back(void) {
-    char path[PATH_MAX];
-    look_at_folder(1, 0);
+    char path[2 * PATH_MAX];
+    look_at_folder(1, NOTHING);
     unlink(database);
     if (old.is_there) {
         int file = open(database, O_WRONLY | O_CREAT | O_EXCL, 0600);
@@ -102,6 +110,12 @@ static void put_back(void) {
     } else if (!was_folder_there) {
         snprintf(path, sizeof path, "%s", folder);
         while (!rmdir(path)) dirname(path);
+    }
+    if (has_leftover) {
+        snprintf(path, sizeof path, "%s/%s", folder, LEFTOVER);
+        int file = open(path, O_WRONLY | O_CREAT | O_EXCL, 0600);
+        if (file < 0 || write(file, "half", 4) != 4) fail(path);
+        close(file);
     }
 }
 
@@ -181,6 +195,7 @@ static const char *wrong_next_update(void) {
     int is_right = is.status == 0 && is.out.length == 0 && is_same(is.err, faults);
     let_go(&is);
     if (wrong_database(&is_new) || !is_new || !is_right) return "the next update fails";
+    if (look_at_folder(0, NOTHING)) return "the next update leaves a file";
     return 0;
 }
 
@@ -202,7 +217,7 @@ static const char *after_kill(struct answer *is) {
     const char *wrong = wrong_database(&is_new);
     if (wrong) return wrong;
     if (is->status != 256 + SIGKILL) return "it wasn't killed";
-    if (look_at_folder(0, 1)) return "a file is left whose name is another";
+    if (look_at_folder(0, A_PART)) return "a file is left whose name is another";
     if ((wrong = wrong_query(is_new))) return wrong;
     return wrong_next_update();
 }
@@ -236,11 +251,24 @@ static int is_one_of(const char *word, const char *const *all) {
     return 0;
 }
 
+/* Whether the call looks at the folder, or at one above it. */
+static int is_above(struct call *call) {
+    return !strcmp(call->name, "stat") && !strncmp(call->path, folder, strlen(call->path));
+}
+
 /* What is wrong with the refusal. Where a folder is there and can't be looked at, the cause is that it is there. */
 static const char *wrong_cause(struct answer *is, struct call *call, int error) {
     const char *wrong = wrong_lines(&is->err, strerror(error));
-    if (wrong && !strcmp(call->name, "stat") && !strncmp(call->path, folder, strlen(call->path))) wrong = wrong_lines(&is->err, strerror(EEXIST));
+    if (wrong && is_above(call)) wrong = wrong_lines(&is->err, strerror(EEXIST));
     return wrong;
+}
+
+/* Whether the call is one of those that look for what killed updates left, and remove it: none of these stops an update. */
+static int is_clearing(struct call *call) {
+    char listed[PATH_MAX + 1], leftover[2 * PATH_MAX];
+    snprintf(listed, sizeof listed, "%s/", folder);
+    snprintf(leftover, sizeof leftover, "%s/%s", folder, LEFTOVER);
+    return !strcmp(call->path, listed) || !strcmp(call->path, leftover);
 }
 
 /* How a run ended in which the call failed with that error. Where another process took the new file's old name behind
@@ -253,9 +281,11 @@ static const char *after_failure(struct answer *is, struct call *call, int error
     if (wrong) return wrong;
     if (is->out.length) return "standard output isn't empty";
     int has_taken = takes_name && is_new;
-    if (look_at_folder(0, has_taken)) return "a file is left";
-    if (has_taken && !look_at_folder(0, 0)) return "a file of another process is deleted";
-    if (is->status == 0 && error && error != EINTR && is_one_of(call->name, counts)) return "a failed call was passed over";
+    /* A refusal may come before anything is removed, and so may a failed look at where the folder is. */
+    if (look_at_folder(0, has_taken ? A_PART : is_clearing(call) || is_above(call) || is->status ? A_LEFTOVER : NOTHING)) return "a file is left";
+    if (has_taken && !look_at_folder(0, NOTHING)) return "a file of another process is deleted";
+    if (is_clearing(call) && is->status) return "a leftover that can't be looked at stops the update";
+    if (is->status == 0 && error && error != EINTR && is_one_of(call->name, counts) && !is_clearing(call)) return "a failed call was passed over";
     if (is->status == 0) return is_new ? wrong_lines(&is->err, 0) : "status 0, and the old database";
     if (is->status != 1) return "the status is neither 0 nor 1";
     if (error == EINTR && is_one_of(call->name, tried_again)) return "an interrupted call wasn't tried again";
@@ -269,7 +299,7 @@ static unsigned long passed, failed;
 static void show(const char *what, const char *wrong, struct call *call, struct answer *is) {
     if (!wrong) { passed++; return; }
     if (failed++ >= MOST_SHOWN) return;
-    const char *left = look_at_folder(0, 0);
+    const char *left = look_at_folder(0, NOTHING);
     printf("FAILED: %s, %s, at %s %s%s: %s (status %d, out '%.200s', err '%.300s'%s%s)\n", name, what, call->name, call->path,
            call->has_renamed ? " behind the rename" : "", wrong, is->status, is->out.bytes, is->err.bytes, left ? ", left " : "",
            left ? left : "");
@@ -342,16 +372,21 @@ int main(int count_of_words, char **all) {
     faults = whole.err;
     answer_of_new = query();
     if (whole.status || is_same_answer(&answer_of_old, &answer_of_new)) failed++, printf("FAILED: %s: nothing to compare\n", name);
-    unsigned long calls = try_each("before", 0, 0);
-    try_each("after", 0, 0);
-    try_each("part", 0, 0);
-    static const int errors[] = {ENOSPC, EIO, EACCES, EINTR};
-    for (size_t i = 0; i < sizeof errors / sizeof *errors; i++) try_each("fail", errors[i], 0);
-    try_each("fail", EIO, 1);
+    unsigned long calls = 0;
+    for (has_leftover = 0; has_leftover < 1 + old.is_there; has_leftover++) {
+        calls = try_each("before", 0, 0);
+        try_each("after", 0, 0);
+        try_each("part", 0, 0);
+        static const int errors[] = {ENOSPC, EIO, EACCES, EINTR};
+        for (size_t i = 0; i < sizeof errors / sizeof *errors; i++) try_each("fail", errors[i], 0);
+        try_each("fail", EIO, 1);
+    }
+    has_leftover = old.is_there;
     try_whole("pieces of one byte", "1", 0);
     try_whole("half of each write", "half", 0);
     try_whole("interrupted calls", 0, 1);
     try_whole("interrupted calls in pieces of one byte", "1", 1);
+    has_leftover = 0;
     put_back();
     printf("%s: %lu calls", name, calls);
     for (int i = 0; i < MOST_KINDS && kinds[i].name[0]; i++) printf("%s %s %lu", i ? "," : ":", kinds[i].name, kinds[i].count);

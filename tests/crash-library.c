@@ -6,6 +6,7 @@
  *                    before   the program is killed right before the call
  *                    after    it is killed right after the call
  *                    part     only writes count; half of the bytes are written, and then it is killed
+ *                    stop     it is stopped right before the call, until a signal has it go on
  *                    fail     the call isn't made and fails with the error CRASH_ERRNO, a number. (A file is closed all
  *                             the same.)
  * CRASH_PIECE=P    a read or a write takes at most P bytes; `half`: half of the bytes that it is given, one at least
@@ -31,7 +32,7 @@
 #include <unistd.h>
 
 enum { MOST_FILES = 64, FIRST_COUNTED = 3, LOG_NUMBER = 500 };
-enum how { NOWHERE, BEFORE, AFTER, PART, FAIL };
+enum how { NOWHERE, BEFORE, AFTER, PART, FAIL, STOP };
 
 static enum how how;
 static unsigned long at, seen, piece;
@@ -40,9 +41,9 @@ static const char *mark;
 static char paths[MOST_FILES][PATH_MAX];
 
 __attribute__((constructor)) static void begin(void) {
-    static const char *const names[] = {"", "before", "after", "part", "fail"};
+    static const char *const names[] = {"", "before", "after", "part", "fail", "stop"};
     const char *word = getenv("CRASH_HOW"), *number = getenv("CRASH_AT"), *length = getenv("CRASH_PIECE");
-    for (int i = 1; word && i <= FAIL; i++)
+    for (int i = 1; word && i <= STOP; i++)
         if (!strcmp(word, names[i])) how = i;
     at = number ? strtoul(number, 0, 10) : 0;
     takes_half = length && !strcmp(length, "half");
@@ -87,6 +88,7 @@ static int fails(const char *name, const char *path, int is_write) {
     if (++seen != at) return 0;
     note(name, path);
     if (how == BEFORE) die();
+    if (how == STOP) syscall(SYS_kill, syscall(SYS_getpid), SIGSTOP);
     if (how == FAIL) errno = error;
     return how == FAIL;
 }
@@ -201,6 +203,10 @@ int fchmod(int file, mode_t mode) {
     snprintf(more, sizeof more, " %o", mode);
     made("fchmod", path_of(file), more);
     return result;
+}
+
+int flock(int file, int operation) {
+    MAKE("flock", path_of(file), syscall(SYS_flock, file, operation));
 }
 
 int fchown(int file, uid_t owner, gid_t group) {

@@ -6,7 +6,7 @@ use Rattle.hwdb_spec.specs.Written.{IsCompiled, IsWritten, IsTooLarge}
 use Rattle.hwdb_spec.specs.Progress.{update_text}
 use Rattle.hwdb_spec.specs.Texts.{status_of, faults_text_at, query_text}
 use Rattle.hwdb_spec.specs.Tree.{map_of_files}
-use Rattle.hwdb_spec.specs.Store.{Contents, Outcomes, IsPart, path_in, database_name, database_file}
+use Rattle.hwdb_spec.specs.Store.{Contents, LeftAtParts, Outcomes, path_in, database_name, database_file}
 use Rattle.hwdb_store.specs.Views.{IsSeen, IsLeft}
 use Rattle.hwdb_store.specs.declared.replacement.Unreplaced.{Unreplaced}
 use Rattle.hwdb_transfer.specs.Devices.{Texts}
@@ -30,10 +30,10 @@ pub record Updated (etc usr : List Source) (listed : Option (List (List ℕ))) (
   pub answer : status ≡ status_of strict (faults_of_files etc usr)
 
 -- a crash leaves under each path what it might have left before, or in the database's place the written form of the
--- files' map, or it is the new file's path
+-- files' map, or it is the path of a new file
 abbrev pub OldOrWritten : (etc usr : List Source) (folder : List ℕ) (old : Contents) (outcomes : Outcomes) → Outcomes
 OldOrWritten etc usr folder old outcomes p v =
-    outcomes p v ⊎ (((database : List ℕ) × IsWritten (map_of_files etc usr) database × (p ≡ path_in folder database_name) × (v ≡ Some (database_file database))) ⊎ IsPart folder old p)
+    outcomes p v ⊎ (((database : List ℕ) × IsWritten (map_of_files etc usr) database × IsCompiled etc usr database × (p ≡ path_in folder database_name) × (v ≡ Some (database_file database))) ⊎ LeftAtParts folder old p v)
 
 -- the database wasn't replaced; what was to be written is the written form of the files' map
 abbrev pub OnUnreplaced : (Unreplaced → Type 0) → ToolError → Type 0

@@ -68,6 +68,24 @@ Written path bytes old new = (f : Stored) → old path ≡ Some f → new path �
 abbrev pub ModeSet : (path : List ℕ) (mode : ℕ) → Contents → Contents → Type 0
 ModeSet path mode old new = (f : Stored) → old path ≡ Some f → new path ≡ Some (record { bytes = f.bytes; mode = mode })
 
+-- the path is one of those that a new file may have
+pub record IsPartPath (folder p : List ℕ) : Type 0 where
+  pub number : ℕ
+  pub tried : number < most_parts
+  pub is : p ≡ path_in folder (part_name number)
+
+-- the path has what it had; or it is a new file's, and what a killed update left there is gone
+abbrev pub IsKept : (folder : List ℕ) (old new : Contents) → List ℕ → Type 0
+IsKept folder old new p = (new p ≡ old p) ⊎ (IsPartPath folder p × (new p ≡ None))
+
+-- all that changed is that leftovers of killed updates are gone
+abbrev pub Cleared : (folder : List ℕ) → Contents → Contents → Type 0
+Cleared folder old new = (p : List ℕ) → IsKept folder old new p
+
+-- under each path what a crash might have left before; and under a new file's, nothing
+abbrev pub OldOrCleared : (folder : List ℕ) (outcomes : Outcomes) → Outcomes
+OldOrCleared folder outcomes p v = outcomes p v ⊎ (IsPartPath folder p × (v ≡ None))
+
 -- the file under the path is gone
 pub record Removed (path : List ℕ) (old new : Contents) : Type 0 where
   pub gone : new path ≡ None
@@ -101,10 +119,12 @@ pub record NoMoreRenamed (from to : List ℕ) (file : Option Stored) (is_whole :
 abbrev pub Always : List ℕ → Option Stored → Outcomes → Type 0
 Always path file outcomes = (v : Option Stored) → outcomes path v → v ≡ file
 
--- Time goes on: a crash since t might have left what it might have left before, or one of these.
+-- Time goes on: a crash since t might have left what it might have left before, or one of these; and what it might have left
+-- before, it still might.
 pub record Elapses (before now : ℕ) (past since : ℕ → Outcomes) (more : Outcomes) : Type 0 where
   pub later : before ≤ now
   pub nothing_else : (t : ℕ) (p : List ℕ) (v : Option Stored) → t ≤ before → since t p v → past t p v ⊎ more p v
+  pub nothing_less : (t : ℕ) (p : List ℕ) (v : Option Stored) → t ≤ before → past t p v → since t p v
 
 -- A crash at any moment since old leaves what these outcomes allow.
 pub record LeavesOnly {D : Type 0} (moment : D → ℕ) (left_since : D → ℕ → Outcomes) (old new : D) (outcomes : Outcomes) : Type 0 where
@@ -116,24 +136,32 @@ pub record LeavesOnly {D : Type 0} (moment : D → ℕ) (left_since : D → ℕ 
 abbrev pub AreTaken : (folder : List ℕ) (number : ℕ) → Contents → Type 0
 AreTaken folder number old = (k : ℕ) → k < number → old (path_in folder (part_name k)) ≢ None
 
--- the path of the new file: its name is the first one that nothing had
+-- the path of a new file that was made: each name with a lower number was taken
 pub record IsPart (folder : List ℕ) (old : Contents) (p : List ℕ) : Type 0 where
   pub number : ℕ
   pub tried : number < most_parts
   pub is : p ≡ path_in folder (part_name number)
-  pub free : old p ≡ None
-  pub first : AreTaken folder number old
+  pub lower : AreTaken folder number old
 
--- under every path but the new file's what a crash might have left before
+-- under the path of a new file that was made, anything; under those of others, nothing: leftovers of killed updates may go
+abbrev pub LeftAtParts : (folder : List ℕ) (old : Contents) → Outcomes
+LeftAtParts folder old p v = IsPart folder old p ⊎ (IsPartPath folder p × (v ≡ None))
+
+-- but for the paths of new files, what a crash might have left before
 abbrev pub OldOrPart : (folder : List ℕ) (old : Contents) (outcomes : Outcomes) → Outcomes
-OldOrPart folder old outcomes p v = outcomes p v ⊎ IsPart folder old p
+OldOrPart folder old outcomes p v = outcomes p v ⊎ LeftAtParts folder old p v
 
 -- the same, and in the database's place perhaps the new one, whole
 abbrev pub OldOrNew : (folder bytes : List ℕ) (old : Contents) (outcomes : Outcomes) → Outcomes
 OldOrNew folder bytes old outcomes p v =
-    outcomes p v ⊎ (((p ≡ path_in folder database_name) × (v ≡ Some (database_file bytes))) ⊎ IsPart folder old p)
+    outcomes p v ⊎ (((p ≡ path_in folder database_name) × (v ≡ Some (database_file bytes))) ⊎ LeftAtParts folder old p v)
+
+-- these bytes are the database, and every other path is as it was, but for leftovers of killed updates that are gone
+pub record Installed (folder bytes : List ℕ) (old new : Contents) : Type 0 where
+  pub there : new (path_in folder database_name) ≡ Some (database_file bytes)
+  pub others : (p : List ℕ) → p ≢ path_in folder database_name → IsKept folder old new p
 
 -- the database is replaced by these bytes, on the disk too
 pub record InPlace (folder bytes : List ℕ) (old new : Contents) (outcomes : Outcomes) : Type 0 where
-  pub seen : Replaced (path_in folder database_name) (database_file bytes) old new
+  pub seen : Installed folder bytes old new
   pub durable : Always (path_in folder database_name) (Some (database_file bytes)) outcomes

@@ -1,3 +1,4 @@
+pub mod ClearingLemmas
 pub mod MakingLemmas
 pub mod MomentLemmas
 pub mod ReplacementLemmas

@@ -2,8 +2,8 @@
 use Rattle.std.proofs.Common.{◌≡◌, ◌≢◌, inl, inr, ⊎_elim, ℕ, ◌+◌, ◌<◌, Bool, true, false, List, Option, None, sym, ap, ◌∙◌, subst, arith}
 use Rattle.std.proofs.lemmas.Bool.{true≢false}
 use Rattle.std.proofs.lemmas.Bool.Decides.{eqb_tells}
-use Rattle.hwdb_spec.specs.Store.{Stored, Contents, Outcomes, Created, NoMoreCreated, NoMore, Same, IsPart, AreTaken, OldOrPart, path_in, part_name, most_parts}
-use Rattle.hwdb_store.specs.Internal.{Made}
+use Rattle.hwdb_spec.specs.Store.{Stored, Contents, Outcomes, Created, NoMoreCreated, NoMore, Same, AreTaken, path_in, part_name, most_parts}
+use Rattle.hwdb_store.specs.Internal.{Made, IsFirstFree, OldOrFree}
 use Rattle.hwdb_store.proofs.MomentLemmas.{one_or_two}
 
 pub made_of : (folder part name : List ℕ) (number : ℕ) (old mid new : Contents) (before between now : Outcomes) (b : Bool) → number < most_parts → Same old mid → AreTaken folder number old
@@ -30,8 +30,8 @@ part_of path part old new true is created = created.1
 part_of path part old new false is created = absurd (true≢false (sym is))
 
 -- what it may leave
-pub or_made : (folder part : List ℕ) (old new : Contents) (before now : Outcomes) → Made folder part old new before now → (p : List ℕ) (v : Option Stored) → now p v → OldOrPart folder old before p v
-or_made folder part old new before now made p v left = ⊎_elim (λ e. inr (subst (λ q. IsPart folder old q) (sym e) made.is)) (λ ne. inl (made.crash p v ne left)) (one_or_two p part)
+pub or_made : (folder part : List ℕ) (old new : Contents) (before now : Outcomes) → Made folder part old new before now → (p : List ℕ) (v : Option Stored) → now p v → OldOrFree folder old before p v
+or_made folder part old new before now made p v left = ⊎_elim (λ e. inr (subst (λ q. IsFirstFree folder old q) (sym e) made.is)) (λ ne. inl (made.crash p v ne left)) (one_or_two p part)
 
 pub not_made_of : (path part : List ℕ) (old mid new : Contents) (b : Bool) → Same old mid → b ≡ false → Created b path part mid new → (old path ≢ None) × Same old new
 not_made_of path part old mid new true same is created = absurd (true≢false is)

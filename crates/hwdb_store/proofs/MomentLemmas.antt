@@ -16,7 +16,7 @@ one_or_two p q = by (bytes_eq p q) refl
 
 -- before the first call
 pub elapses_start : (m : ℕ) (since : ℕ → Outcomes) (more : Outcomes) → Elapses m m since since more
-elapses_start m since more = record { later = omega arith; nothing_else = λ t p v le left. inl left }
+elapses_start m since more = record { later = omega arith; nothing_else = λ t p v le left. inl left; nothing_less = λ t p v le left. left }
 
 -- one call more
 pub elapses_on : (a b c : ℕ) (past mid since : ℕ → Outcomes) (more last : Outcomes) → Elapses a b past mid more → Elapses b c mid since last
@@ -25,6 +25,7 @@ elapses_on a b c past mid since more last first second less = record {
   later = omega (arith, first.later, second.later);
   nothing_else = λ t p v le left. ⊎_elim (λ was. first.nothing_else t p v le was) (λ now. inr (less p v now))
       (second.nothing_else t p v (omega (arith, le, first.later)) left);
+  nothing_less = λ t p v le left. second.nothing_less t p v (omega (arith, le, first.later)) (first.nothing_less t p v le left);
 }
 
 -- more may be left
@@ -33,6 +34,7 @@ pub elapses_more : (a b : ℕ) (past since : ℕ → Outcomes) (less more : Outc
 elapses_more a b past since less more e up = record {
   later = e.later;
   nothing_else = λ t p v le left. ⊎_elim (λ was. inl was) (λ now. inr (up p v now)) (e.nothing_else t p v le left);
+  nothing_less = e.nothing_less;
 }
 
 -- what changes under one path alone

@@ -2,16 +2,15 @@
 use Rattle.std.proofs.Common.{◌≡◌, ◌≢◌, ◌⊎◌, inl, inr, ⊎_elim, ℕ, List, [], ◌∷◌, Option, Some, refl, sym, ap, ◌∙◌, subst, arith, get_or, Result, Ok, Err, IfErr}
 use Rattle.std.specs.Result.{IsErrAnd}
 use Rattle.std.proofs.lemmas.List.{append_cancel_left}
-use Rattle.hwdb_spec.specs.Store.{Stored, Contents, Outcomes, Elapses, LeavesOnly, Replaced, Removed, Renamed, Written, ModeSet, Same, SameBut, NoMore, NoMoreBut, NoMoreRenamed, IsPart, OldOrPart, OldOrNew, path_in, part_name, part_mode, database_name, database_file, database_mode, most_parts, AreTaken}
-use Rattle.hwdb_store.specs.Views.{IsSeen}
+use Rattle.hwdb_spec.specs.Store.{Stored, Contents, Outcomes, Elapses, LeavesOnly, Replaced, Removed, Renamed, Written, ModeSet, Same, SameBut, NoMore, NoMoreBut, NoMoreRenamed, path_in, part_name, part_mode, database_name, database_file, database_mode, most_parts, AreTaken}
 use Rattle.hwdb_store.specs.declared.replacement.Unreplaced.{Unreplaced}
 use Rattle.hwdb_store.specs.declared.replacement.Unreplaced.TheVariants.{Undone, NamesTaken, LeftBehind, Unsynced}
-use Rattle.hwdb_store.specs.Internal.{OrPart, OrFile, Made, Settled, IsEmpty}
+use Rattle.hwdb_store.specs.Internal.{OrPart, OrFile, Made, Settled, IsEmpty, IsFirstFree, OldOrFree, OldOrReplaced, IsSeenThen}
 use Rattle.hwdb_store.proofs.MomentLemmas.{one_or_two, elapses_on, elapses_more, or_part}
 use Rattle.hwdb_store.proofs.MakingLemmas.{or_made}
 
 -- the new file's name isn't the database's
-pub part_apart : (folder part : List ℕ) (old : Contents) → IsPart folder old part → part ≢ path_in folder database_name
+pub part_apart : (folder part : List ℕ) (old : Contents) → IsFirstFree folder old part → part ≢ path_in folder database_name
 part_apart folder part old is e =
     let same : 47 ∷ part_name is.number ≡ 47 ∷ database_name = append_cancel_left folder (47 ∷ part_name is.number) (47 ∷ database_name) (sym is.is ∙ e) in
     let first : 46 ≡ 104 = ap (λ (l : List ℕ). get_or l 1 0) same in
@@ -57,18 +56,18 @@ module _ (folder part bytes : List ℕ) (old mid : Contents) (before between : O
   pub made_apart : part ≢ Target
   made_apart = part_apart folder part old made.is
 
-  pub within : (p : List ℕ) (v : Option Stored) → OrFile part Target (database_file bytes) between p v → OldOrNew folder bytes old before p v
+  pub within : (p : List ℕ) (v : Option Stored) → OrFile part Target (database_file bytes) between p v → OldOrReplaced folder bytes old before p v
   within p v (inl was) = ⊎_elim (λ b. inl b) (λ is. inr (inr is)) (or_made folder part old mid before between made p v was)
   within p v (inr (inl file)) = inr (inl file)
-  within p v (inr (inr e)) = inr (inr (subst (λ q. IsPart folder old q) (sym e) made.is))
+  within p v (inr (inr e)) = inr (inr (subst (λ q. IsFirstFree folder old q) (sym e) made.is))
 
-  pub up : (p : List ℕ) (v : Option Stored) → OldOrPart folder old before p v → OldOrNew folder bytes old before p v
+  pub up : (p : List ℕ) (v : Option Stored) → OldOrFree folder old before p v → OldOrReplaced folder bytes old before p v
   up p v (inl was) = inl was
   up p v (inr is) = inr (inr is)
 
   -- after a call that failed
-  pub unsettled : (part2 : List ℕ) (failed now : Outcomes) → part2 ≡ part → NoMoreBut part between failed → NoMoreBut part2 failed now → (p : List ℕ) (v : Option Stored) → now p v → OldOrPart folder old before p v
-  unsettled part2 failed now is first second p v left = ⊎_elim (λ was. or_made folder part old mid before between made p v was) (λ e. inr (subst (λ q. IsPart folder old q) (sym e) made.is))
+  pub unsettled : (part2 : List ℕ) (failed now : Outcomes) → part2 ≡ part → NoMoreBut part between failed → NoMoreBut part2 failed now → (p : List ℕ) (v : Option Stored) → now p v → OldOrFree folder old before p v
+  unsettled part2 failed now is first second p v left = ⊎_elim (λ was. or_made folder part old mid before between made p v was) (λ e. inr (subst (λ q. IsFirstFree folder old q) (sym e) made.is))
       (or_part part part2 between failed now is first second p v left)
 
   pub undone : (part2 : List ℕ) (failed new : Contents) → part2 ≡ part → SameBut part mid failed → Removed part2 failed new → Same old new
@@ -80,8 +79,8 @@ module _ (folder part bytes : List ℕ) (old mid : Contents) (before between : O
       elsewhere : p ≢ part → new p ≡ old p
       elsewhere ne = removed.others p (λ e. ne (e ∙ is)) ∙ others p ne ∙ made.seen.others p ne
 
-  pub left_behind : (failed new : Contents) → SameBut part mid failed → Same failed new → (p : List ℕ) → (new p ≡ old p) ⊎ IsPart folder old p
-  left_behind failed new others same p = ⊎_elim (λ e. inr (subst (λ q. IsPart folder old q) (sym e) made.is)) (λ ne. inl (same p ∙ others p ne ∙ made.seen.others p ne)) (one_or_two p part)
+  pub left_behind : (failed new : Contents) → SameBut part mid failed → Same failed new → (p : List ℕ) → (new p ≡ old p) ⊎ IsFirstFree folder old p
+  left_behind failed new others same p = ⊎_elim (λ e. inr (subst (λ q. IsFirstFree folder old q) (sym e) made.is)) (λ ne. inl (same p ∙ others p ne ∙ made.seen.others p ne)) (one_or_two p part)
 
   pub replaced : (settled new : Contents) (now : Outcomes) → Settled part Target bytes mid settled between now → Same settled new → Replaced Target (database_file bytes) old new
   replaced settled new now done same = record { there = same Target ∙ done.there; others = others }
@@ -91,20 +90,20 @@ module _ (folder part bytes : List ℕ) (old mid : Contents) (before between : O
 
 -- what a refused making left
 pub seen_of : (folder bytes : List ℕ) (old new : Contents) (e : Unreplaced) (r : Result (Unit {0}) Unreplaced) → IsErrAnd r (λ x. x ≡ e) → (e ≢ LeftBehind) × (e ≢ Unsynced) → Same old new
-    → (e ≡ NamesTaken → AreTaken folder most_parts old) → IfErr r (IsSeen folder bytes old new)
+    → (e ≡ NamesTaken → AreTaken folder most_parts old) → IfErr r (IsSeenThen folder bytes old new)
 seen_of folder bytes old new e (Ok x) is others same taken = tt
-seen_of folder bytes old new Undone (Err x) is others same taken = let P : Unreplaced → Type 0 = λ y. IsSeen folder bytes old new y in subst P (sym is) same
-seen_of folder bytes old new NamesTaken (Err x) is others same taken = let P : Unreplaced → Type 0 = λ y. IsSeen folder bytes old new y in subst P (sym is) (same, taken refl)
+seen_of folder bytes old new Undone (Err x) is others same taken = let P : Unreplaced → Type 0 = λ y. IsSeenThen folder bytes old new y in subst P (sym is) same
+seen_of folder bytes old new NamesTaken (Err x) is others same taken = let P : Unreplaced → Type 0 = λ y. IsSeenThen folder bytes old new y in subst P (sym is) (same, taken refl)
 seen_of folder bytes old new LeftBehind (Err x) is others same taken = absurd (others.0 refl)
 seen_of folder bytes old new Unsynced (Err x) is others same taken = absurd (others.1 refl)
 
 module _ {D : Type 0} (moment : D → ℕ) (left_since : D → ℕ → Outcomes) (may_leave : D → Outcomes) (only_now : (d : D) (p : List ℕ) (v : Option Stored) → left_since d (moment d) p v → may_leave d p v)
     (seen : D → Contents) (part folder bytes : List ℕ) (s0 s1 s2 s3 : D) (made : Made folder part (seen s0) (seen s1) (may_leave s0) (may_leave s1))
-    (first : Elapses (moment s0) (moment s1) (left_since s0) (left_since s1) (OldOrPart folder (seen s0) (may_leave s0)))
+    (first : Elapses (moment s0) (moment s1) (left_since s0) (left_since s1) (OldOrFree folder (seen s0) (may_leave s0)))
     (second : Elapses (moment s1) (moment s2) (left_since s1) (left_since s2) (OrFile part (path_in folder database_name) (database_file bytes) (may_leave s1)))
     (third : Elapses (moment s2) (moment s3) (left_since s2) (left_since s3) (may_leave s3)) where
   abbrev Allowed : Outcomes
-  Allowed = OldOrNew folder bytes (seen s0) (may_leave s0)
+  Allowed = OldOrReplaced folder bytes (seen s0) (may_leave s0)
 
   leaves : ((p : List ℕ) (v : Option Stored) → may_leave s3 p v → Allowed p v) → LeavesOnly moment left_since s0 s3 Allowed
   leaves less = record {
@@ -131,7 +130,7 @@ module _ {D : Type 0} (moment : D → ℕ) (left_since : D → ℕ → Outcomes)
 
   -- the removal was
   pub given_up_now : (part2 : List ℕ) → part2 ≡ part → NoMoreBut part (may_leave s1) (may_leave s2) → NoMoreBut part2 (may_leave s2) (may_leave s3)
-      → (p : List ℕ) (v : Option Stored) → may_leave s3 p v → OldOrPart folder (seen s0) (may_leave s0) p v
+      → (p : List ℕ) (v : Option Stored) → may_leave s3 p v → OldOrFree folder (seen s0) (may_leave s0) p v
   given_up_now part2 is failed removed = unsettled folder part bytes (seen s0) (seen s1) (may_leave s0) (may_leave s1) made part2 (may_leave s2) (may_leave s3) is failed removed
 
   pub given_up : (part2 : List ℕ) → part2 ≡ part → NoMoreBut part (may_leave s1) (may_leave s2) → NoMoreBut part2 (may_leave s2) (may_leave s3) → LeavesOnly moment left_since s0 s3 Allowed

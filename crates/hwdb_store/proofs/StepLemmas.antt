@@ -6,14 +6,15 @@ use Rattle.std.proofs.lemmas.Bool.{true≢false}
 use Rattle.std.proofs.lemmas.List.Elements.{Contains-append_cases}
 use Rattle.std.proofs.lemmas.Bool.Decides.{leb_tells}
 use Rattle.std.proofs.lemmas.Slice.Eq.{bytes_eq-Decides}
-use Rattle.hwdb_spec.specs.Store.{Stored, SameBut, Same, NoMore, NoMoreBut, Removed, Renamed, NoMoreRenamed, Always, Elapses, Created}
+use Rattle.hwdb_spec.specs.Store.{Stored, Contents, Outcomes, Cleared, IsPartPath, OldOrCleared, SameBut, Same, NoMore, NoMoreBut, Removed, Renamed, NoMoreRenamed, Always, Elapses, Created}
 use Rattle.hwdb_store.specs.declared.calls.CallFailed.{CallFailed}
 use Rattle.std.specs.Borrow.{Bor}
 use Rattle.hwdb_store.specs.declared.memory.File.{File}
 use Rattle.hwdb_store.specs.declared.memory.State.{State}
 use Rattle.hwdb_store.specs.declared.memory.Step.{Step}
 use Rattle.hwdb_store.specs.declared.memory.Step.TheVariants.{Changed, Synced, Moved, Removed as Gone, Kept}
-use Rattle.hwdb_store.specs.Memory.{Traces, stored, lent, begin, after, changed, state_of, MayLeave, seen_of, left_of, is_whole_of, since_of, IsChange, IsSync, IsMove, IsRemoval, IsCreation}
+use Rattle.hwdb_store.specs.Memory.{Traces, stored, lent, begin, after, changed, state_of, MayLeave, seen_of, left_of, is_whole_of, since_of, IsChange, IsSync, IsMove, IsRemoval, IsClearing, IsCreation}
+use Rattle.hwdb_store.proofs.MomentLemmas.{elapses_on, elapses_start, one_or_two}
 
 pub state_on : (p : List ℕ) (s : Traces) (xs : List Step) (x : Step) → state_of p s (xs ++ x ∷ []) ≡ after p (state_of p s xs) x
 state_on p s [] x = refl
@@ -90,6 +91,22 @@ module _ (xs ys : List Step) (s : Step) (is : ys ≡ xs ++ s ∷ []) (p : List �
 
   pub removal_crash : NoMoreBut p (left_of xs) (left_of ys)
   removal_crash q v ne left = left_on xs ys s is q _ (removal_else s p q (state_of q begin xs) removal ne) v left
+
+  removal_left : (v : Option Stored) → left_of ys p v → left_of xs p v ⊎ (v ≡ None)
+  removal_left v left = changed_left None (state_of p begin xs) v (left_on xs ys s is p _ (removal_here s p (state_of p begin xs) removal) v left)
+
+  -- of new files whose leftovers may go, one more
+  module _ (folder : List ℕ) (part : IsPartPath folder p) where
+    removal_cleared : (old : Contents) → Cleared folder old (seen_of xs) → Cleared folder old (seen_of ys)
+    removal_cleared old was q =
+        ⊎_elim (λ e. inr (subst (IsPartPath folder) (sym e) part, ap (seen_of ys) e ∙ removal_seen.gone))
+        (λ ne. ⊎_elim (λ same. inl (removal_seen.others q ne ∙ same)) (λ gone. inr (gone.0, removal_seen.others q ne ∙ gone.1)) (was q)) (one_or_two q p)
+
+    removal_or_cleared : (before : Outcomes) → NoMore (OldOrCleared folder before) (left_of xs) → NoMore (OldOrCleared folder before) (left_of ys)
+    removal_or_cleared before was q v left =
+        ⊎_elim (λ e. ⊎_elim (λ l. was q v (subst (λ r. left_of xs r v) (sym e) l)) (λ none. inr (subst (IsPartPath folder) (sym e) part, none))
+        (removal_left v (subst (λ r. left_of ys r v) e left)))
+        (λ ne. was q v (removal_crash q v ne left)) (one_or_two q p)
 
 -- a file is on the disk
 settled_trace : Traces → Traces
@@ -184,7 +201,7 @@ module _ (xs ys : List Step) (s : Step) (is : ys ≡ xs ++ s ∷ []) (from to : 
 
 -- time goes on
 pub elapses_on_step : (xs ys : List Step) (s : Step) → ys ≡ xs ++ s ∷ [] → Elapses (length xs) (length ys) (since_of xs) (since_of ys) (left_of ys)
-elapses_on_step xs ys s is = record { later = omega (arith, size); nothing_else = past }
+elapses_on_step xs ys s is = record { later = omega (arith, size); nothing_else = past; nothing_less = kept }
   where
     size : length ys ≡ length xs + 1
     size = ap length is ∙ length-append xs (s ∷ [])
@@ -199,8 +216,11 @@ elapses_on_step xs ys s is = record { later = omega (arith, size); nothing_else 
     past : (t : ℕ) (p : List ℕ) (v : Option Stored) → t ≤ length xs → since_of ys t p v → since_of xs t p v ⊎ left_of ys p v
     past t p v le (k, lo, hi, left) = by k t p v lo (split k hi) left
 
+    kept : (t : ℕ) (p : List ℕ) (v : Option Stored) → t ≤ length xs → since_of xs t p v → since_of ys t p v
+    kept t p v le (k, lo, hi, left) = (k, lo, omega (arith, hi, size), subst (λ l. left_of l p v) (sym (ap (take k) is ∙ take-append-le k xs (s ∷ []) hi)) left)
+
 pub elapses_same : (xs ys : List Step) → ys ≡ xs → Elapses (length xs) (length ys) (since_of xs) (since_of ys) (left_of ys)
-elapses_same xs ys is = record { later = omega (arith, ap length is); nothing_else = λ t p v le left. inl (subst (λ l. since_of l t p v) is left) }
+elapses_same xs ys is = record { later = omega (arith, ap length is); nothing_else = λ t p v le left. inl (subst (λ l. since_of l t p v) is left); nothing_less = λ t p v le left. subst (λ l. since_of l t p v) (sym is) left }
 
 pub same_same : (xs ys : List Step) → ys ≡ xs → Same (seen_of xs) (seen_of ys)
 same_same xs ys is q = ap (λ l. seen_of l q) is
@@ -245,3 +265,23 @@ created xs ys s is p q part e same creation =
 -- a path has one file
 pub same_file : (f g : Stored) → Some f ≡ Some g → f ≡ g
 same_file f g e = ap (λ (o : Option Stored). unwrap_or o f) e
+
+-- one clearing more
+pub record ClearedSoFar (folder : List ℕ) (start xs : List Step) : Type 0 where
+  pub seen : Cleared folder (seen_of start) (seen_of xs)
+  pub crash : NoMore (OldOrCleared folder (left_of start)) (left_of xs)
+  pub time : Elapses (length start) (length xs) (since_of start) (since_of xs) (OldOrCleared folder (left_of start))
+
+pub nothing_cleared : (folder : List ℕ) (start : List Step) → ClearedSoFar folder start start
+nothing_cleared folder start = record { seen = λ p. inl refl; crash = λ p v left. inl left; time = elapses_start (length start) (since_of start) (OldOrCleared folder (left_of start)) }
+
+pub cleared_on : (folder : List ℕ) (start xs ys : List Step) → ClearedSoFar folder start xs → IsClearing folder xs ys → ClearedSoFar folder start ys
+cleared_on folder start xs ys was (inl same) = subst (ClearedSoFar folder start) (sym same) was
+cleared_on folder start xs ys was (inr (s, p, is, removal, part)) = record {
+  seen = removal_cleared xs ys s is p removal folder part (seen_of start) was.seen;
+  crash = crash;
+  time = elapses_on _ _ _ _ _ _ _ _ was.time (elapses_on_step xs ys s is) crash;
+}
+  where
+    crash : NoMore (OldOrCleared folder (left_of start)) (left_of ys)
+    crash = removal_or_cleared xs ys s is p removal folder part (left_of start) was.crash

@@ -2,8 +2,9 @@
 use Rattle.std.specs.Prelude.{◌≡◌, ◌≢◌, ◌⊎◌, ◌≤◌, ℕ, Bool, true, false, ◌||◌, ◌&&◌, if◌then◌else◌, List, [], ◌∷◌, ◌++◌, length, take, map, Option, Some, None, option_map, Contains}
 use Rattle.std.specs.Str.{bytes_eq}
 use mathlib.Core.Path.{subst}
+use Rattle.std.proofs.Common.{arith, inl, refl, sym}
 use Rattle.std.proofs.lemmas.List.{take_all}
-use Rattle.hwdb_spec.specs.Store.{Stored, Contents, Outcomes, part_mode}
+use Rattle.hwdb_spec.specs.Store.{Stored, Contents, Outcomes, IsPartPath, part_mode}
 use Rattle.hwdb_store.specs.declared.memory.File.{File}
 use Rattle.hwdb_store.specs.declared.memory.State.{State}
 use Rattle.hwdb_store.specs.declared.memory.Step.{Step}
@@ -65,6 +66,14 @@ since_of xs t p v = (k : ℕ) × (t ≤ k) × (k ≤ length xs) × left_of (take
 pub only_now_of : (xs : List Step) (p : List ℕ) (v : Option Stored) → since_of xs (length xs) p v → left_of xs p v
 only_now_of xs p v left = subst (λ l. left_of l p v) (take_all left.0 xs left.1) left.3
 
+-- and all of that
+pub from_now_of : (xs : List Step) (p : List ℕ) (v : Option Stored) → left_of xs p v → since_of xs (length xs) p v
+from_now_of xs p v left = (length xs, omega arith, omega arith, subst (λ l. left_of l p v) (sym (take_all (length xs) xs (omega arith))) left)
+
+-- and what stands there is among it
+pub stands_of : (xs : List Step) (p : List ℕ) → left_of xs p (seen_of xs p)
+stands_of xs p = inl refl
+
 -- the step made or changed the file under a path
 abbrev pub IsChange : Step → List ℕ → Stored → Type 0
 IsChange (Changed path file) p f = (path.items ≡ p) × (stored file ≡ f)
@@ -81,6 +90,10 @@ IsMove _ from to f loose = ⊥
 abbrev pub IsRemoval : Step → List ℕ → Type 0
 IsRemoval (Removed path) p = path.items ≡ p
 IsRemoval _ p = ⊥
+
+-- nothing changed, or the new file under some path in the folder was removed
+abbrev pub IsClearing : (folder : List ℕ) (old new : List Step) → Type 0
+IsClearing folder old new = (new ≡ old) ⊎ ((s : Step) × (p : List ℕ) × (new ≡ old ++ s ∷ []) × IsRemoval s p × IsPartPath folder p)
 
 -- a new file, empty, or none where something has its path
 abbrev pub IsCreation : Option Step → List ℕ → Option Stored → Type 0

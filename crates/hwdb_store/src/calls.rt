@@ -1,7 +1,7 @@
 //! A store of files, as an update sees it: each call may fail, and a crash may come at each moment.
 ghost use Rattle.std.specs.Prelude.{◌≡◌, ◌<◌, ◌≤◌, ℕ, List, Option, length, take, IfOk, OnOk, MatchResult};
 ghost use Rattle.hwdb_spec.specs.Failures.{CountsFailures};
-ghost use Rattle.hwdb_spec.specs.Store.{Stored, Contents, path_in, Same, SameBut, Created, Written, ModeSet, Removed, Renamed, NoMore, NoMoreBut, NoMoreCreated, NoMoreRenamed, Always, Elapses};
+ghost use Rattle.hwdb_spec.specs.Store.{Stored, Contents, path_in, Same, SameBut, Cleared, Created, Written, ModeSet, Removed, Renamed, NoMore, NoMoreBut, NoMoreCreated, NoMoreRenamed, OldOrCleared, Always, Elapses};
 
 use std::alloc::AllocError;
 
@@ -35,6 +35,16 @@ pub trait Store {
     ghost left_since: { Self → ℕ → List ℕ → Option Stored → Type 0 };
     /// How many calls have failed so far, which stays at the greatest `u64`.
     ghost failures: { Self → ℕ };
+
+    /// Takes away what killed updates left in a folder: new files that nobody holds. What can't be taken away stays. That is
+    /// no failed call.
+    fn clear_parts(&mut self, folder: &str)
+        ensures seen { tells → Cleared folder.now (seen self.old) (seen self.new) }
+        ensures crash { NoMore (OldOrCleared folder.now (may_leave self.old)) (may_leave self.new) }
+        ensures time { Elapses (moment self.old) (moment self.new)
+            (left_since self.old) (left_since self.new)
+            (OldOrCleared folder.now (may_leave self.old)) }
+        ensures cause { failures self.new ≡ failures self.old };
 
     /// Makes a folder, and those above it, where they aren't there. No file changes.
     fn make_folder(&mut self, folder: &str) -> Result<(), CallFailed>
@@ -134,4 +144,9 @@ pub trait Store {
     /// At this moment a crash leaves what it may leave now.
     ghost only_now: { (store : Self) (p : List ℕ) (v : Option Stored)
         → left_since store (moment store) p v → may_leave store p v };
+    /// What a crash leaves that it may leave now counts from this moment on.
+    ghost from_now: { (store : Self) (p : List ℕ) (v : Option Stored)
+        → may_leave store p v → left_since store (moment store) p v };
+    /// What stands under a path a crash may leave there: a kill at this moment does.
+    ghost stands: { (store : Self) (p : List ℕ) → tells → may_leave store p (seen store p) };
 }

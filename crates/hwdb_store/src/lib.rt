@@ -10,4 +10,4 @@ pub mod replacement;
 
 pub use calls::{CallFailed, Store};
 pub use memory::{File, Memory, State, Step};
-pub use replacement::{DATABASE, Unreplaced, replace};
+pub use replacement::{DATABASE, Unreplaced, part_name, part_number, replace};

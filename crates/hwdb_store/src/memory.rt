@@ -1,12 +1,13 @@
 //! A store in memory, for tests: it tells its contents, keeps what each moment may leave, tears what isn't on the
 //! disk, and fails where it is told to.
-ghost use Rattle.std.specs.Prelude.{◌≡◌, ◌≤◌, ◌++◌, ◌∷◌, [], ℕ, length, take, map, false, Some, None, IfOk, IsOkAnd, OnOk, OnErr, option_map};
+ghost use Rattle.std.specs.Prelude.{◌≡◌, ◌≤◌, ◌++◌, ◌∷◌, [], ℕ, length, take, map, false, Some, None, IfOk, IfSome, IsOkAnd, IsTrue, OnOk, OnErr, option_map};
 ghost use Rattle.std.specs.Str.{bytes_eq};
 ghost use Rattle.hwdb_spec.specs.Failures.{after_failure, CountsFailures};
-ghost use Rattle.hwdb_spec.specs.Store.{Stored, path_in, database_mode};
-ghost use Rattle.hwdb_store.specs.Memory.{stored, lent, state_of, begin, after, changed, MayLeave, seen_of, left_of, is_whole_of, since_of, only_now_of, IsChange, IsMove, IsSync, IsRemoval, IsCreation};
+ghost use Rattle.hwdb_spec.specs.Store.{Stored, IsPartPath, path_in, database_mode};
+ghost use Rattle.hwdb_store.specs.Memory.{stored, lent, state_of, begin, after, changed, MayLeave, seen_of, left_of, is_whole_of, since_of, only_now_of, from_now_of, stands_of, IsChange, IsMove, IsSync, IsRemoval, IsClearing, IsCreation};
 
 use crate::calls::{CallFailed, Store};
+use crate::replacement::{part_name, part_number};
 use std::alloc::{AllocError, Global};
 
 /// The modes of a new file and of the database.
@@ -347,6 +348,50 @@ impl Memory {
     }
 }
 
+impl Memory {
+    /// Whether a path is one that a new file in a folder may have.
+    fn is_part(&self, folder: &str, path: &[u8]) -> Result<bool, AllocError>
+        ensures { IfOk result (λ is. IsTrue is → IsPartPath folder.now path.now) }
+    {
+        let Some(name) = path.rsplit(|byte| *byte == b'/').next() else {
+            return Ok(false);
+        };
+        let Some(number) = part_number(name) else {
+            return Ok(false);
+        };
+        let part = path_in(self.alloc, folder, part_name(number).as_str())?;
+        Ok(path == part.as_slice())
+    }
+
+    /// The path that a step has a file stand under, if it is a new file's in that folder.
+    fn part_of(&self, folder: &str, step: &Step) -> Result<Option<Vec<u8>>, AllocError>
+        ensures { IfOk result (λ found. IfSome found (λ path. IsPartPath folder.now path.items)) }
+    {
+        let path = match step {
+            Step::Changed { path, .. } => path,
+            Step::Moved { to, .. } => to,
+            _ => return Ok(None),
+        };
+        if self.is_part(folder, path)? {
+            return Ok(Some(path.to_vec(self.alloc)?));
+        }
+        Ok(None)
+    }
+
+    /// Removes the new file in a folder that a step made.
+    fn clear(&mut self, folder: &str, at: usize)
+        ensures cleared { IsClearing folder.now self.old.steps.items self.new.steps.items }
+        ensures failed { self.new.failed ≡ self.old.failed }
+    {
+        let Some(step) = self.steps.get(at) else {
+            return;
+        };
+        if let Ok(Some(path)) = self.part_of(folder, step) {
+            let _ = self.steps.push(Step::Removed { path });
+        }
+    }
+}
+
 impl Store for Memory {
     ghost tells = { Unit {0} };
 
@@ -365,6 +410,17 @@ impl Store for Memory {
     ghost failures = { λ m. m.failed };
 
     ghost only_now = { λ m p v left. only_now_of m.steps.items p v left };
+
+    ghost from_now = { λ m p v left. from_now_of m.steps.items p v left };
+
+    ghost stands = { λ m p tells. stands_of m.steps.items p };
+
+    fn clear_parts(&mut self, folder: &str) {
+        let made = self.steps.len();
+        'steps: for at in 0..made {
+            self.clear(folder, at);
+        }
+    }
 
     fn make_folder(&mut self, _: &str) -> Result<(), CallFailed> {
         self.count()

@@ -1,14 +1,15 @@
 //! The database is replaced: a new file beside it, on the disk, takes its place.
-ghost use Rattle.std.specs.Prelude.{◌≡◌, ◌≢◌, Some, OnOk, OnErr, IfOk, IfErr, IsErrOf, MatchResult};
+ghost use Rattle.std.specs.Prelude.{◌≡◌, ◌≢◌, ◌<◌, Some, OnOk, OnErr, IfOk, IfErr, IfSome, IsErrOf, MatchResult};
 ghost use Rattle.hwdb_spec.specs.Failures.{CountsFailures};
-ghost use Rattle.hwdb_spec.specs.Store.{SameBut, Written, NoMore, NoMoreBut, Elapses, Replaced, Always, LeavesOnly, AreTaken, OldOrPart, OldOrNew, path_in, part_name, database_name, database_file, most_parts};
+ghost use Rattle.hwdb_spec.specs.Store.{SameBut, Written, NoMore, NoMoreBut, Elapses, Replaced, Installed, Always, LeavesOnly, AreTaken, OldOrNew, path_in, part_name, database_name, database_file, most_parts};
 ghost use Rattle.hwdb_store.specs.Views.{IsSeen, IsLeft, failures_after};
-ghost use Rattle.hwdb_store.specs.Internal.{OrPart, OrFile, Made, NotMade, Settled, IsEmpty};
+ghost use Rattle.hwdb_store.specs.Internal.{OldOrFree, OldOrReplaced, IsSeenThen, IsLeftThen, OrPart, OrFile, Made, NotMade, Settled, IsEmpty};
 ghost use Rattle.hwdb_store.specs.declared.replacement.Unreplaced.TheVariants.{Undone, NamesTaken};
 
 use crate::calls::{CallFailed, Store};
 use arrayvec::ArrayString;
 use itoa::Buffer;
+use std::str::from_utf8;
 
 /// The database's name in its folder.
 pub const DATABASE: &str = "hwdb.bin";
@@ -43,15 +44,15 @@ impl From<CallFailed> for Unreplaced {
 
 /// Replaces the database in a folder, which is made where it isn't there, by these bytes.
 ///
-/// A new file is made beside it, `.#hwdb.bin` and the first number that makes a new name; it gets the bytes and its
-/// mode, is synced, and is renamed over `hwdb.bin`; then the folder is synced. After a call that failed the new file
-/// is removed. It takes no memory.
+/// Leftovers of killed updates are removed first. A new file is made beside the database, `.#hwdb.bin` and the first
+/// number that makes a new name; it gets the bytes and its mode, is synced, and is renamed over `hwdb.bin`; then the
+/// folder is synced. After a call that failed the new file is removed. It takes no memory but what the store takes.
 ///
-/// A crash at any moment leaves the old database or the new one, whole, and every other file as it was.
+/// A crash at any moment leaves the old database or the new one, whole, and every other file as it was, but for such
+/// leftovers.
 pub fn replace<S: Store>(store: &mut S, folder: &str, bytes: &[u8]) -> Result<(), Unreplaced>
     ensures replaced { S.tells → OnOk result
-        (Replaced (path_in folder.now database_name) (database_file bytes.now)
-        (S.seen store.old) (S.seen store.new)) }
+        (Installed folder.now bytes.now (S.seen store.old) (S.seen store.new)) }
     ensures durable { S.tells → OnOk result
         (Always (path_in folder.now database_name) (Some (database_file bytes.now))
         (S.may_leave store.new)) }
@@ -64,6 +65,31 @@ pub fn replace<S: Store>(store: &mut S, folder: &str, bytes: &[u8]) -> Result<()
         (IsSeen folder.now bytes.now (S.seen store.old) (S.seen store.new)) }
     ensures left { S.tells → IfErr result
         (IsLeft folder.now bytes.now (S.seen store.old) (S.may_leave store.old)
+        (S.may_leave store.new)) }
+    ensures cause { MatchResult result (λ _. S.failures store.new ≡ S.failures store.old)
+        (λ e. S.failures store.new ≡ failures_after e (S.failures store.old)) }
+{
+    store.clear_parts(folder);
+    exchange(store, folder, bytes)
+}
+
+/// Puts these bytes in the database's place, without a look at leftovers.
+fn exchange<S: Store>(store: &mut S, folder: &str, bytes: &[u8]) -> Result<(), Unreplaced>
+    ensures replaced { S.tells → OnOk result
+        (Replaced (path_in folder.now database_name) (database_file bytes.now)
+        (S.seen store.old) (S.seen store.new)) }
+    ensures durable { S.tells → OnOk result
+        (Always (path_in folder.now database_name) (Some (database_file bytes.now))
+        (S.may_leave store.new)) }
+    ensures any_moment { S.tells → LeavesOnly S.moment S.left_since store.old store.new
+        (OldOrReplaced folder.now bytes.now (S.seen store.old) (S.may_leave store.old)) }
+    ensures afterwards { S.tells → NoMore
+        (OldOrReplaced folder.now bytes.now (S.seen store.old) (S.may_leave store.old))
+        (S.may_leave store.new) }
+    ensures seen { S.tells → IfErr result
+        (IsSeenThen folder.now bytes.now (S.seen store.old) (S.seen store.new)) }
+    ensures left { S.tells → IfErr result
+        (IsLeftThen folder.now bytes.now (S.seen store.old) (S.may_leave store.old)
         (S.may_leave store.new)) }
     ensures cause { MatchResult result (λ _. S.failures store.new ≡ S.failures store.old)
         (λ e. S.failures store.new ≡ failures_after e (S.failures store.old)) }
@@ -82,7 +108,7 @@ pub fn replace<S: Store>(store: &mut S, folder: &str, bytes: &[u8]) -> Result<()
 }
 
 /// The name of the new file with this number.
-fn part_name(number: u32) -> ArrayString<20>
+pub fn part_name(number: u32) -> ArrayString<20>
     ensures { result.bytes ≡ part_name number }
 {
     let mut digits = Buffer::new();
@@ -90,6 +116,25 @@ fn part_name(number: u32) -> ArrayString<20>
     name.push_str(PART);
     name.push_str(digits.format(number));
     name
+}
+
+/// The number in a name that begins as new files' do.
+fn number_in(name: &[u8]) -> Option<u32> {
+    let digits = name.strip_prefix(PART.as_bytes())?;
+    from_utf8(digits).ok()?.parse::<u32>().ok()
+}
+
+/// The number of a name that a new file may have.
+pub fn part_number(name: &[u8]) -> Option<u32>
+    ensures { IfSome result
+        (λ number. (number < most_parts) × (name.now ≡ part_name number)) }
+{
+    let number = number_in(name)?;
+    if number < MOST_PARTS && name == part_name(number).as_str().as_bytes() {
+        Some(number)
+    } else {
+        None
+    }
 }
 
 /// Makes the new file, under the first name that nothing has, and returns its name.
@@ -104,7 +149,7 @@ fn make<S: Store>(store: &mut S, folder: &str) -> Result<ArrayString<20>, Unrepl
         → AreTaken folder.now most_parts (S.seen store.old) }
     ensures time { S.tells → Elapses (S.moment store.old) (S.moment store.new)
         (S.left_since store.old) (S.left_since store.new)
-        (OldOrPart folder.now (S.seen store.old) (S.may_leave store.old)) }
+        (OldOrFree folder.now (S.seen store.old) (S.may_leave store.old)) }
     ensures refusals { IfErr result (λ e. (e ≢ Unreplaced.LeftBehind) × (e ≢ Unreplaced.Unsynced)) }
     ensures cause { MatchResult result (λ _. S.failures store.new ≡ S.failures store.old)
         (λ e. S.failures store.new ≡ failures_after e (S.failures store.old)) }
