@@ -1,9 +1,14 @@
 //! The program `hwdb`: hands its words, its files, standard input, output and error to `hwdb_tool::program`.
 #![tactic(auto)]
 
+mod bypass;
+
+use bypass::status_of_bypass;
 use hwdb_tool::{FromRead, SystemStore, ToWrite, program, write_text};
 use std::env;
+use std::fs::{File, OpenOptions};
 use std::io::{self, ErrorKind};
+use std::os::fd::AsFd;
 use std::process::ExitCode;
 
 /// The words of the command line, the first of which is the program's name.
@@ -12,13 +17,43 @@ fn words_of(rt: &HostRuntime) -> io::Result<Vec<String>> {
     Ok(words)
 }
 
+/// What holds the number of a standard stream that is closed, so that no file of ours gets it: a line for standard
+/// error would be written into the database. It is opened for the other direction: each use of the stream still fails.
+fn held<S: AsFd>(rt: &HostRuntime, stream: &S, is_output: bool) -> io::Result<Option<File>> {
+    if stream.as_fd().try_clone_to_owned().is_ok() {
+        return Ok(None);
+    }
+    let mut options = OpenOptions::new();
+    options.read(is_output).write(!is_output);
+    // A new file gets the lowest number that is free.
+    let null = options.open(rt, "/dev/null")?;
+    Ok(Some(null))
+}
+
+/// What holds the numbers of all standard streams that are closed.
+fn held_streams(rt: &HostRuntime) -> io::Result<[Option<File>; 3]> {
+    let input = held(rt, &rt.stdin(), false)?;
+    let output = held(rt, &rt.stdout(), true)?;
+    let error = held(rt, &rt.stderr(), true)?;
+    Ok([input, output, error])
+}
+
 fn main(rt: HostRuntime) -> ExitCode {
+    let held = held_streams(&rt);
     let mut input = FromRead::new(rt.stdin());
     let mut out = ToWrite::new(rt.stdout());
     let mut err = ToWrite::new(rt.stderr());
+    if held.is_err() {
+        let line = "hwdb: a standard stream is closed, and /dev/null cannot be opened\n";
+        let _ = write_text(&mut err, line.as_bytes());
+        return ExitCode::from(1);
+    }
     let mut system = SystemStore::new(rt.alloc(), &rt);
     match words_of(&rt) {
         Ok(words) => {
+            if let Some(status) = status_of_bypass(&rt, &words, &mut err) {
+                return ExitCode::from(status);
+            }
             let alloc = rt.alloc();
             let status = program(alloc, &words, &mut system, &mut input, &mut out, &mut err);
             ExitCode::from(status)

@@ -23,3 +23,4 @@ pub mod Failures
 pub mod Store
 pub mod System
 pub mod Library
+pub mod Hiding

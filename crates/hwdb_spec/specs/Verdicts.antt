@@ -1,6 +1,7 @@
--- What `verify` says of bytes that are no database: which fault it is, in words, where it may come from, and what to do. Our
--- choice.
-use Rattle.std.specs.Prelude.{codes, List, ℕ, ◌++◌}
+-- What is said of bytes that are no database: which fault it is, where they are, and what to do; `verify` says more words of
+-- it, and where it may come from. Our choice.
+use Rattle.std.specs.Prelude.{codes, List, ℕ, ◌++◌, if◌then◌else◌, nat_eq}
+use Rattle.std.specs.List.{ends_with}
 use Rattle.hwdb_spec.specs.declared.DbFault.{DbFault}
 use Rattle.hwdb_spec.specs.declared.DbFault.TheVariants.{Short, Signature, RecordSizes, Lengths, Strings, Place, Depth, ChildOrder, StringOffset, KeyOrder, Priority}
 use Rattle.hwdb_spec.specs.Texts.{at_offset, db_fault_name, db_fault_offset}
@@ -28,13 +29,24 @@ db_fault_cause Lengths = codes "the file was cut short or written over"
 db_fault_cause Strings = codes "the file was cut short or written over"
 db_fault_cause fault = codes "the file is damaged, or a tool wrote it that orders its records otherwise"
 
--- three lines on a fault: what is wrong, where it may come from, and what to do; the last one isn't ended
-abbrev pub explanation_text : DbFault → List ℕ
-explanation_text fault =
-    codes "\n    " ++ (db_fault_words fault
-    ++ (codes "\n    cause: " ++ (db_fault_cause fault ++ codes "\n    hint: write it anew with hwdb update")))
+-- what to do: a text file is one for `check`, by the end of its name; every other file is written anew
+abbrev pub remedy : (path : List ℕ) → List ℕ
+remedy path = if ends_with nat_eq path (codes ".hwdb") then codes "'hwdb check' is for text files" else codes "make it anew with 'hwdb update'"
 
--- the words of a fault of the database at a path: those of other commands, and below them what explains it
+-- a fault of the database at a path
+abbrev pub fault_text : (path : List ℕ) → DbFault → List ℕ
+fault_text path fault = codes "bad database: " ++ (at_offset (db_fault_name fault) (db_fault_offset fault) ++ (codes ": " ++ path))
+
+-- the same in one line, with what to do
+abbrev pub fault_line : (path : List ℕ) → DbFault → List ℕ
+fault_line path fault =
+    codes "bad database: " ++ (at_offset (db_fault_name fault) (db_fault_offset fault) ++ (codes ": " ++ (path ++ (codes ": " ++ remedy path))))
+
+-- three lines on a fault: what is wrong, where it may come from, and what to do; the last one isn't ended
+abbrev pub explanation_text : (path : List ℕ) → DbFault → List ℕ
+explanation_text path fault =
+    codes "\n    " ++ (db_fault_words fault ++ (codes "\n    cause: " ++ (db_fault_cause fault ++ (codes "\n    hint: " ++ remedy path))))
+
+-- the words of a fault of the database at a path, and below them what explains it
 abbrev pub verdict_text : (path : List ℕ) → DbFault → List ℕ
-verdict_text path fault =
-    path ++ (codes ": bad database: " ++ (at_offset (db_fault_name fault) (db_fault_offset fault) ++ explanation_text fault))
+verdict_text path fault = fault_text path fault ++ explanation_text path fault

@@ -115,9 +115,11 @@ pub enum WarningKind {
     EmptyRange,
     /// A space or a tab stands beside the first `=` of its property.
     SpacedEquals,
+    /// A `#` cuts its property, and no blank stands before that.
+    CutValue,
     /// It is a match line that stands in its record already.
     RepeatedMatch,
-    /// Later lines give one of its patterns the same key; the last of them has this number.
+    /// Later lines give one of its patterns the same key, the last of them another value; that one has this number.
     Replaced(u64),
 }
 

@@ -9,9 +9,11 @@ use Rattle.hwdb_spec.specs.declared.DbFault.{DbFault}
 use Rattle.hwdb_devices.specs.declared.causes.Cause.{Cause}
 use Rattle.hwdb_transfer.specs.declared.errors.ToolError.{ToolError}
 use Rattle.hwdb_transfer.specs.declared.errors.ToolError.TheVariants.{Read, Write, TooLong, TooManyFiles, TooManyLines, TooLarge, BadPosition, PageZero, BadDatabase, Replace, Memory}
+use Rattle.hwdb_system.specs.Internal.{line_at}
 use Rattle.hwdb_system.specs.Refusals.{Refused, refusal_line, path_text}
 use Rattle.hwdb_transfer.specs.Refusals.{error_text}
 use Rattle.hwdb_spec.specs.Texts.{at_offset, db_fault_name, db_fault_offset}
+use Rattle.hwdb_spec.specs.Verdicts.{fault_line, remedy}
 
 abbrev Pieces : Type 0
 Pieces = List (Bor (List ℕ))
@@ -63,41 +65,51 @@ pub refused_as : (line other : List ℕ) (a b : Option (List ℕ)) (m n : ℕ) �
 refused_as line other a b m n is r = subst (λ l. Refused l a b m n) is r
 
 -- a fault of the database, without an offset and with one
-pub database_line : (fault : DbFault) (bad name : List ℕ) (offset : Option ℕ) → bad ≡ codes "bad database: " → name ≡ db_fault_name fault → offset ≡ db_fault_offset fault → offset ≡ None
-    → codes "hwdb: " ++ (bad ++ (name ++ 10 ∷ [])) ≡ refusal_line (codes "bad database: " ++ at_offset (db_fault_name fault) (db_fault_offset fault))
-database_line fault bad name offset begun named is none =
-    ap (λ (b : List ℕ). codes "hwdb: " ++ (b ++ (name ++ 10 ∷ []))) begun
-    ∙ ap (λ (n : List ℕ). codes "hwdb: bad database: " ++ (n ++ 10 ∷ [])) named
+pub database_line : (fault : DbFault) (name : List ℕ) (offset : Option ℕ) → name ≡ db_fault_name fault → offset ≡ db_fault_offset fault → offset ≡ None
+    → codes "hwdb: bad database: " ++ (name ++ 10 ∷ []) ≡ refusal_line (codes "bad database: " ++ at_offset (db_fault_name fault) (db_fault_offset fault))
+database_line fault name offset named is none =
+    ap (λ (n : List ℕ). codes "hwdb: bad database: " ++ (n ++ 10 ∷ [])) named
     ∙ ap (λ (o : Option ℕ). refusal_line (codes "bad database: " ++ at_offset (db_fault_name fault) o)) (sym none ∙ is)
 
-pub offset_line : (fault : DbFault) (bad name between digits : List ℕ) (offset : Option ℕ) (at : ℕ) → bad ≡ codes "bad database: " → name ≡ db_fault_name fault → between ≡ codes " at " → digits ≡ decimal at
+pub offset_line : (fault : DbFault) (name digits : List ℕ) (offset : Option ℕ) (at : ℕ) → name ≡ db_fault_name fault → digits ≡ decimal at
     → offset ≡ db_fault_offset fault → offset ≡ Some at
-    → codes "hwdb: " ++ (bad ++ (name ++ (between ++ (digits ++ 10 ∷ [])))) ≡ refusal_line (codes "bad database: " ++ at_offset (db_fault_name fault) (db_fault_offset fault))
-offset_line fault bad name between digits offset at begun named joined spelled is some =
-    ap (λ (b : List ℕ). codes "hwdb: " ++ (b ++ (name ++ (between ++ (digits ++ 10 ∷ []))))) begun
-    ∙ ap (λ (n : List ℕ). codes "hwdb: bad database: " ++ (n ++ (between ++ (digits ++ 10 ∷ [])))) named
-    ∙ ap (λ (b : List ℕ). codes "hwdb: bad database: " ++ (db_fault_name fault ++ (b ++ (digits ++ 10 ∷ [])))) joined
+    → codes "hwdb: bad database: " ++ (name ++ (codes " at " ++ (digits ++ 10 ∷ []))) ≡ refusal_line (codes "bad database: " ++ at_offset (db_fault_name fault) (db_fault_offset fault))
+offset_line fault name digits offset at named spelled is some =
+    ap (λ (n : List ℕ). codes "hwdb: bad database: " ++ (n ++ (codes " at " ++ (digits ++ 10 ∷ [])))) named
     ∙ ap (λ (d : List ℕ). codes "hwdb: bad database: " ++ (db_fault_name fault ++ (codes " at " ++ (d ++ 10 ∷ [])))) spelled
     ∙ ap (λ (l : List ℕ). codes "hwdb: bad database: " ++ l) (sym (append_assoc (db_fault_name fault) (codes " at " ++ decimal at) (10 ∷ [])))
     ∙ ap (λ (o : Option ℕ). refusal_line (codes "bad database: " ++ at_offset (db_fault_name fault) o)) (sym some ∙ is)
 
--- the same of the database at a path
-pub path_line : (path bad name text : List ℕ) → bad ≡ codes ": bad database: " → text ≡ name
-    → codes "hwdb: " ++ (path ++ (bad ++ (text ++ 10 ∷ []))) ≡ refusal_line (path ++ (codes ": " ++ (codes "bad database: " ++ name)))
-path_line path bad name text begun named =
-    ap (λ (b : List ℕ). codes "hwdb: " ++ (path ++ (b ++ (text ++ 10 ∷ [])))) begun
-    ∙ ap (λ (n : List ℕ). codes "hwdb: " ++ (path ++ (codes ": bad database: " ++ (n ++ 10 ∷ [])))) named
-    ∙ ap (λ (l : List ℕ). codes "hwdb: " ++ l) (sym (append_assoc path (codes ": bad database: " ++ name) (10 ∷ [])))
+-- the same of the database at a path, and what to do
+line_end : (fault path what : List ℕ)
+    → codes "hwdb: bad database: " ++ (fault ++ (codes ": " ++ (path ++ (codes ": " ++ (what ++ 10 ∷ [])))))
+    ≡ refusal_line (codes "bad database: " ++ (fault ++ (codes ": " ++ (path ++ (codes ": " ++ what)))))
+line_end fault path what =
+    ap (λ (l : List ℕ). codes "hwdb: bad database: " ++ (fault ++ (codes ": " ++ l))) (sym (append_assoc path (codes ": " ++ what) (10 ∷ [])))
+    ∙ ap (λ (l : List ℕ). codes "hwdb: bad database: " ++ l) (sym (append_assoc fault (codes ": " ++ (path ++ (codes ": " ++ what))) (10 ∷ [])))
 
-pub path_offset_line : (path bad name text between digits : List ℕ) (at : ℕ) → bad ≡ codes ": bad database: " → text ≡ name → between ≡ codes " at " → digits ≡ decimal at
-    → codes "hwdb: " ++ (path ++ (bad ++ (text ++ (between ++ (digits ++ 10 ∷ []))))) ≡ refusal_line (path ++ (codes ": " ++ (codes "bad database: " ++ at_offset name (Some at))))
-path_offset_line path bad name text between digits at begun named joined spelled =
-    ap (λ (b : List ℕ). codes "hwdb: " ++ (path ++ (b ++ (text ++ (between ++ (digits ++ 10 ∷ [])))))) begun
-    ∙ ap (λ (n : List ℕ). codes "hwdb: " ++ (path ++ (codes ": bad database: " ++ (n ++ (between ++ (digits ++ 10 ∷ [])))))) named
-    ∙ ap (λ (b : List ℕ). codes "hwdb: " ++ (path ++ (codes ": bad database: " ++ (name ++ (b ++ (digits ++ 10 ∷ [])))))) joined
-    ∙ ap (λ (d : List ℕ). codes "hwdb: " ++ (path ++ (codes ": bad database: " ++ (name ++ (codes " at " ++ (d ++ 10 ∷ [])))))) spelled
-    ∙ ap (λ (l : List ℕ). codes "hwdb: " ++ (path ++ (codes ": bad database: " ++ l))) (sym (append_assoc name (codes " at " ++ decimal at) (10 ∷ [])))
-    ∙ ap (λ (l : List ℕ). codes "hwdb: " ++ l) (sym (append_assoc path (codes ": bad database: " ++ (name ++ (codes " at " ++ decimal at))) (10 ∷ [])))
+pub path_line : (path name name_text what what_text : List ℕ) → name ≡ name_text → what ≡ what_text
+    → codes "hwdb: bad database: " ++ (name ++ (codes ": " ++ (path ++ (codes ": " ++ (what ++ 10 ∷ []))))) ≡ refusal_line (line_at path name_text None what_text)
+path_line path name name_text what what_text named remedied =
+    line_end name path what
+    ∙ ap (λ (w : List ℕ). refusal_line (line_at path name None w)) remedied
+    ∙ ap (λ (n : List ℕ). refusal_line (line_at path n None what_text)) named
+
+pub path_offset_line : (path name name_text digits what what_text : List ℕ) (at : ℕ) → name ≡ name_text → digits ≡ decimal at → what ≡ what_text
+    → codes "hwdb: bad database: " ++ (name ++ (codes " at " ++ (digits ++ (codes ": " ++ (path ++ (codes ": " ++ (what ++ 10 ∷ []))))))) ≡ refusal_line (line_at path name_text (Some at) what_text)
+path_offset_line path name name_text digits what what_text at named spelled remedied =
+    ap (λ (l : List ℕ). codes "hwdb: bad database: " ++ l) (sym (append_assoc name (codes " at " ++ digits) (codes ": " ++ (path ++ (codes ": " ++ (what ++ 10 ∷ []))))))
+    ∙ line_end (name ++ (codes " at " ++ digits)) path what
+    ∙ ap (λ (d : List ℕ). refusal_line (codes "bad database: " ++ ((name ++ (codes " at " ++ d)) ++ (codes ": " ++ (path ++ (codes ": " ++ what)))))) spelled
+    ∙ ap (λ (w : List ℕ). refusal_line (line_at path name (Some at) w)) remedied
+    ∙ ap (λ (n : List ℕ). refusal_line (line_at path n (Some at) what_text)) named
+
+pub fault_line_is : (fault : DbFault) (path name what : List ℕ) (offset found : Option ℕ) → name ≡ db_fault_name fault → what ≡ remedy path → found ≡ db_fault_offset fault → found ≡ offset
+    → refusal_line (line_at path name offset what) ≡ refusal_line (fault_line path fault)
+fault_line_is fault path name what offset found named remedied is same =
+    ap (λ (n : List ℕ). refusal_line (line_at path n offset what)) named
+    ∙ ap (λ (w : List ℕ). refusal_line (line_at path (db_fault_name fault) offset w)) remedied
+    ∙ ap (λ (o : Option ℕ). refusal_line (line_at path (db_fault_name fault) o (remedy path))) (sym same ∙ is)
 
 -- two texts, and a path with a cause
 pub two_line : (first second : List ℕ) → codes "hwdb: " ++ (first ++ (second ++ 10 ∷ [])) ≡ refusal_line (first ++ second)
@@ -122,3 +134,7 @@ plain_text PageZero path words cause nr nw nl nb = refl
 plain_text (BadDatabase fault) path words cause nr nw nl nb = absurd (nb fault refl)
 plain_text (Replace u) path words cause nr nw nl nb = refl
 plain_text Memory path words cause nr nw nl nb = refl
+
+-- the parts so far, with the next one
+pub joined_next : (ps : Pieces) (i : ℕ) (d : Bor (List ℕ)) (old new : List ℕ) → i < length ps → old ≡ text_of (take i ps) → new ≡ old ++ (get_or ps i d).now → new ≡ text_of (take (i + 1) ps)
+joined_next ps i d old new lt so_far added = added ∙ ap (λ (l : List ℕ). l ++ (get_or ps i d).now) so_far ∙ sym (text_next ps i d lt)

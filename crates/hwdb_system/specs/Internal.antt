@@ -1,8 +1,9 @@
 -- What the steps of an update hold, and what a store in memory answers.
-use Rattle.std.specs.Prelude.{IsUtf8, ◌≡◌, ◌≢◌, ◌≤◌, ◌⊎◌, All, length, ℕ, Bool, false, if◌then◌else◌, not, ◌||◌, is_some, List, [], ◌∷◌, ◌++◌, Option, Some, None, map}
+use Rattle.std.specs.Prelude.{IsUtf8, ◌≡◌, ◌≢◌, ◌≤◌, ◌⊎◌, All, length, ℕ, Bool, false, if◌then◌else◌, not, ◌||◌, is_some, List, [], ◌∷◌, ◌++◌, Option, Some, None, codes, map}
 use Rattle.hwdb_spec.specs.Folders.{Choice, choice, names, max_files, path_of, counts}
 use Rattle.hwdb_spec.specs.Lines.{has}
 use Rattle.hwdb_spec.specs.Store.{Contents, path_in}
+use Rattle.hwdb_spec.specs.Texts.{at_offset}
 use Rattle.hwdb_spec.specs.System.{AreNamesIn, bytes_at, etc_files, usr_files, IsNameIn}
 use Rattle.hwdb_text.specs.Views.{IsListed}
 use Rattle.hwdb_transfer.specs.declared.errors.ToolError.TheVariants.{Memory, Read}
@@ -64,3 +65,7 @@ pub record AreSelected (root : List ℕ) (contents : Contents) (usr : List (List
   pub few : length (names etc usr) ≤ max_files
   pub listed : All (IsListed etc usr) chosen
   pub read : AreTexts root contents chosen texts
+
+-- a fault of the database at a path: its name, its offset if it has one, the path, and what to do
+abbrev pub line_at : (path name : List ℕ) → (offset : Option ℕ) → (what : List ℕ) → List ℕ
+line_at path name offset what = codes "bad database: " ++ (at_offset name offset ++ (codes ": " ++ (path ++ (codes ": " ++ what))))

@@ -1,3 +1,4 @@
 pub mod Refusals
 pub mod Reading
+pub mod Roots
 pub mod Internal

@@ -6,6 +6,7 @@ use Rattle.hwdb_spec.specs.Lines.{byte}
 use Rattle.hwdb_spec.specs.Store.{Contents, path_in}
 use Rattle.hwdb_spec.specs.System.{bytes_at}
 use Rattle.hwdb_spec.specs.Texts.{max_file}
+use Rattle.hwdb_spec.specs.Verdicts.{fault_line}
 use Rattle.hwdb_transfer.specs.Devices.{AppendsPrefix}
 use Rattle.hwdb_transfer.specs.Refusals.{error_text}
 use Rattle.hwdb_devices.specs.declared.causes.Cause.{Cause}
@@ -24,7 +25,7 @@ abbrev pub path_text : ToolError → (path : List ℕ) → Option Cause → (wor
 path_text Read path cause words = codes "cannot read " ++ file_text path cause words
 path_text Write path cause words = codes "cannot write " ++ file_text path cause words
 path_text TooLong path cause words = path ++ codes " is longer than 268435456 bytes"
-path_text (BadDatabase fault) path cause words = path ++ (codes ": " ++ error_text (BadDatabase fault))
+path_text (BadDatabase fault) path cause words = fault_line path fault
 path_text error path cause words = error_text error
 
 -- what is printed of a refusal
@@ -88,3 +89,8 @@ IsOver error path _ = ⊥
 abbrev pub IsOfUpdate : ToolError → (path : List ℕ) → Refusal → Type 0
 IsOfUpdate (Replace u) path refusal = IsOver Write path refusal
 IsOfUpdate error path refusal = refusal ≡ Plain error
+
+-- what a command refuses of an error over the bytes of a database: a fault with the path where they are
+abbrev pub IsOfDatabase : ToolError → (path : List ℕ) → Refusal → Type 0
+IsOfDatabase (BadDatabase fault) path refusal = IsAt (BadDatabase fault) path refusal
+IsOfDatabase error path refusal = refusal ≡ Plain error

@@ -6,7 +6,10 @@ ghost use Rattle.hwdb_spec.specs.Texts.{max_file};
 ghost use Rattle.hwdb_system.specs.Internal.{IsOfName};
 ghost use Rattle.hwdb_system.specs.Refusals.{IsUnread, IsUnlisted};
 
+use crate::parts::{Lockable, clear_parts, is_ours};
 use crate::refusals::Refusal;
+use crate::rooted::Rooted;
+use crate::roots::Root;
 use crate::system::System;
 use hwdb_devices::{Cause, FromRead, after_failure, write_on};
 use hwdb_store::{CallFailed, Store};
@@ -26,13 +29,16 @@ const NULL_DEVICE: u64 = 0x103;
 /// folder never matter.
 ///
 /// Refuses a folder that can't be listed, and a text file's name that isn't UTF-8, with its path.
-fn names_in<R: Files>(alloc: Global, rt: &R, folder: &str) -> Result<Vec<String>, Refusal>
+fn names_in<R: Files>(
+    alloc: Global,
+    rt: &R,
+    root: &Root,
+    folder: &str,
+) -> Result<Vec<String>, Refusal>
     ensures refused { IfErr result (IsUnlisted folder.now) }
 {
     let mut names = Vec::new(alloc);
-    // The slash has a link to a folder followed.
-    let path = joined(alloc, folder, "/")?;
-    let listing = match rt.open_dir(path.as_str()) {
+    let listing = match open_folder(rt, root, folder) {
         Ok(entries) => all_of(alloc, entries, folder)?,
         Err(error) if error.kind() == ErrorKind::NotFound => return Ok(names),
         Err(error) => return Err(Refusal::read(alloc, folder.as_bytes(), Cause::of(&error))),
@@ -45,6 +51,14 @@ fn names_in<R: Files>(alloc: Global, rt: &R, folder: &str) -> Result<Vec<String>
         }
     }
     Ok(names)
+}
+
+/// Opens a folder.
+fn open_folder<R: Files>(rt: &R, root: &Root, folder: &str) -> io::Result<R::Dir> {
+    let mut path = root.place_of(rt, folder)?;
+    // The slash has a link to a folder followed.
+    path.push_str("/")?;
+    rt.open_dir(path.as_str())
 }
 
 /// The path of a name in a folder, whatever its bytes are.
@@ -91,7 +105,7 @@ pub fn path_in(alloc: Global, folder: &str, name: &str) -> Result<String, AllocE
 }
 
 /// All bytes that a reader has left, of which refusals say that they are those at the path.
-fn all_of<R: Read + Drop>(alloc: Global, reader: R, path: &str) -> Result<Vec<u8>, Refusal>
+pub fn all_of<R: Read + Drop>(alloc: Global, reader: R, path: &str) -> Result<Vec<u8>, Refusal>
     ensures within { IfOk result (λ bytes. vec_len bytes ≤ max_file) }
     ensures refused { IfErr result (IsUnread path.now) }
 {
@@ -102,14 +116,14 @@ fn all_of<R: Read + Drop>(alloc: Global, reader: R, path: &str) -> Result<Vec<u8
     }
 }
 
-/// All bytes of whatever can be read at a path: a file, a pipe, a device.
-fn any_bytes<R: Files>(alloc: Global, rt: &R, path: &str) -> Result<Vec<u8>, Refusal>
+/// All bytes of whatever can be read at a place: a file, a pipe, a device. Refusals name the path that leads there.
+fn any_bytes<R: Files>(alloc: Global, rt: &R, place: &str, path: &str) -> Result<Vec<u8>, Refusal>
 where
     R::File: Drop,
     ensures within { IfOk result (λ bytes. vec_len bytes ≤ max_file) }
     ensures refused { IfErr result (IsUnread path.now) }
 {
-    match File::open(rt, path) {
+    match File::open(rt, place) {
         Ok(file) => all_of(alloc, file, path),
         Err(error) => Err(Refusal::read(alloc, path.as_bytes(), Cause::of(&error))),
     }
@@ -136,6 +150,7 @@ fn other_than_file(found: &Metadata) -> Option<Cause> {
 fn file_bytes<R: Files>(
     alloc: Global,
     rt: &R,
+    place: &str,
     path: &str,
     found: &Metadata,
 ) -> Result<Vec<u8>, Refusal>
@@ -145,41 +160,69 @@ where
     ensures refused { IfErr result (IsUnread path.now) }
 {
     match other_than_file(found) {
-        None => any_bytes(alloc, rt, path),
+        None => any_bytes(alloc, rt, place, path),
         Some(cause) => Err(Refusal::read(alloc, path.as_bytes(), cause)),
     }
 }
 
 /// All bytes of a text file that was chosen. /dev/null is an empty one: a link to it masks a file.
-fn text_bytes<R: Files>(alloc: Global, rt: &R, path: &str) -> Result<Vec<u8>, Refusal>
+fn text_bytes<R: Files>(alloc: Global, rt: &R, root: &Root, path: &str) -> Result<Vec<u8>, Refusal>
 where
     R::File: Drop,
     ensures within { IfOk result (λ bytes. vec_len bytes ≤ max_file) }
     ensures refused { IfErr result (IsUnread path.now) }
 {
-    match fs::metadata(rt, path) {
+    let place = match root.place_of(rt, path) {
+        Ok(place) => place,
+        Err(error) => return Err(Refusal::read(alloc, path.as_bytes(), Cause::of(&error))),
+    };
+    if root.is_null(place.as_str()) {
+        return Ok(Vec::new(alloc));
+    }
+    match fs::metadata(rt, place.as_str()) {
         Ok(found) if found.file_type().is_char_device() && found.rdev() == NULL_DEVICE => {
             Ok(Vec::new(alloc))
         }
-        Ok(found) => file_bytes(alloc, rt, path, &found),
+        Ok(found) => file_bytes(alloc, rt, place.as_str(), path, &found),
         Err(error) => Err(Refusal::read(alloc, path.as_bytes(), Cause::of(&error))),
     }
 }
 
+/// What stands at a path, which may be a link, isn't there.
+fn is_missing<R: Files>(rt: &R, root: &Root, path: &str) -> bool {
+    match entry(rt, root, path) {
+        Ok(_) => false,
+        Err(error) => error.kind() == ErrorKind::NotFound,
+    }
+}
+
+/// What stands at a path: of a link, the link itself.
+fn entry<R: Files>(rt: &R, root: &Root, path: &str) -> io::Result<Metadata> {
+    let entry = root.entry_of(rt, path)?;
+    fs::symlink_metadata(rt, entry.as_str())
+}
+
 /// All bytes of a database, or None where nothing stands at the path, not even a link.
-fn database_bytes<R: Files>(alloc: Global, rt: &R, path: &str) -> Result<Option<Vec<u8>>, Refusal>
+fn database_bytes<R: Files>(
+    alloc: Global,
+    rt: &R,
+    root: &Root,
+    path: &str,
+) -> Result<Option<Vec<u8>>, Refusal>
 where
     R::File: Drop,
     ensures within { IfOk result (λ found. IfSome found (λ b. vec_len b ≤ max_file)) }
     ensures refused { IfErr result (IsUnread path.now) }
 {
-    if let Err(error) = fs::symlink_metadata(rt, path) {
-        if error.kind() == ErrorKind::NotFound {
-            return Ok(None);
-        }
+    if is_missing(rt, root, path) {
+        return Ok(None);
     }
-    match fs::metadata(rt, path) {
-        Ok(found) => Ok(Some(file_bytes(alloc, rt, path, &found)?)),
+    let place = match root.place_of(rt, path) {
+        Ok(place) => place,
+        Err(error) => return Err(Refusal::read(alloc, path.as_bytes(), Cause::of(&error))),
+    };
+    match fs::metadata(rt, place.as_str()) {
+        Ok(found) => Ok(Some(file_bytes(alloc, rt, place.as_str(), path, &found)?)),
         Err(error) => Err(Refusal::read(alloc, path.as_bytes(), Cause::of(&error))),
     }
 }
@@ -195,7 +238,8 @@ const DATABASE_MODE: u32 = 0o444;
 pub struct SystemStore<'a, R: Files> {
     alloc: Global,
     rt: &'a R,
-    /// The path that was spelled last, and the file that was made last.
+    root: Root,
+    /// The path that was spelled last, and the file that was made last, while it is under its first name.
     path: String,
     file: Option<R::File>,
     /// How many calls have failed; a write that a signal interrupted is made again, and one that took nothing of
@@ -207,13 +251,14 @@ pub struct SystemStore<'a, R: Files> {
 
 impl<'a, R: Files> SystemStore<'a, R>
 where
-    R::File: Drop,
+    R::File: Drop + Lockable,
 {
     /// The files that the runtime reaches.
     pub fn new(alloc: Global, rt: &'a R) -> Self {
         SystemStore {
             alloc,
             rt,
+            root: Root::none(alloc),
             path: String::new(alloc),
             file: None,
             failed: 0,
@@ -222,11 +267,12 @@ where
     }
 
     /// Spells the path of a name in a folder. For a name that was spelled before it takes no memory.
-    fn spell(&mut self, folder: &str, name: &str) -> Result<(), AllocError>
+    fn spell(&mut self, folder: &str, name: &str) -> io::Result<()>
         ensures { self.new.failed ≡ self.old.failed }
     {
+        let place = self.root.folder_of(self.rt, folder)?;
         self.path.clear();
-        self.path.push_str(folder)?;
+        self.path.push_str(place)?;
         self.path.push_str("/")?;
         self.path.push_str(name)?;
         Ok(())
@@ -242,11 +288,25 @@ where
         options.open(self.rt, self.path.as_str())
     }
 
+    /// A new file, unless another process locked it or removed it before.
+    fn ours(&self, opened: io::Result<R::File>) -> io::Result<Option<R::File>> {
+        let file = opened?;
+        match is_ours(self.rt, &file, self.path.as_str()) {
+            Ok(true) => Ok(Some(file)),
+            Ok(false) => Ok(None),
+            Err(error) => {
+                let _ = fs::remove_file(self.rt, self.path.as_str());
+                Err(error)
+            }
+        }
+    }
+
     /// Renames a file in its folder.
     fn renamed(&mut self, folder: &str, from: &str, to: &str) -> io::Result<()>
         ensures { self.new.failed ≡ self.old.failed }
     {
-        let to = path_in(self.alloc, folder, to)?;
+        self.spell(folder, to)?;
+        let to = String::from_str(self.alloc, self.path.as_str())?;
         self.spell(folder, from)?;
         fs::rename(self.rt, self.path.as_str(), to.as_str())
     }
@@ -257,6 +317,32 @@ where
     {
         self.spell(folder, name)?;
         fs::remove_file(self.rt, self.path.as_str())
+    }
+
+    /// Makes a folder, and those above it, where they aren't there.
+    fn made(&mut self, folder: &str) -> io::Result<()>
+        ensures { self.new.failed ≡ self.old.failed }
+    {
+        let place = self.root.folder_of(self.rt, folder)?;
+        fs::create_dir_all(self.rt, place)
+    }
+
+    /// Removes what killed updates left in a folder. What can't be removed stays.
+    fn cleared(&mut self, folder: &str) -> Result<(), Refusal>
+        ensures { self.new.failed ≡ self.old.failed }
+    {
+        match self.root.folder_of(self.rt, folder) {
+            Ok(place) => clear_parts(self.alloc, self.rt, place),
+            Err(error) => Err(Refusal::read(self.alloc, folder.as_bytes(), Cause::of(&error))),
+        }
+    }
+
+    /// Has what stands in a folder last.
+    fn synced(&mut self, folder: &str) -> io::Result<()>
+        ensures { self.new.failed ≡ self.old.failed }
+    {
+        let place = self.root.folder_of(self.rt, folder)?;
+        File::open(self.rt, place)?.sync_all()
     }
 
     /// Counts a call if it failed, and notes why the first one did.
@@ -283,7 +369,7 @@ where
 
 impl<'a, R: Files> Store for SystemStore<'a, R>
 where
-    R::File: Drop,
+    R::File: Drop + Lockable,
 {
     ghost tells = { ⊥ };
 
@@ -303,8 +389,16 @@ where
 
     ghost only_now = { λ s p v left. left };
 
+    ghost from_now = { λ s p v left. left };
+
+    ghost stands = { λ s p tells. absurd tells };
+
+    fn clear_parts(&mut self, folder: &str) {
+        let _ = self.cleared(folder);
+    }
+
     fn make_folder(&mut self, folder: &str) -> Result<(), CallFailed> {
-        let made = fs::create_dir_all(self.rt, folder);
+        let made = self.made(folder);
         self.counted(made)
     }
 
@@ -315,9 +409,9 @@ where
                 Ok(false)
             }
             opened => {
-                let file = self.counted(opened)?;
-                self.file = Some(file);
-                Ok(true)
+                let made = self.ours(opened);
+                self.file = self.counted(made)?;
+                Ok(self.file.is_some())
             }
         }
     }
@@ -352,46 +446,65 @@ where
 
     fn rename(&mut self, folder: &str, from: &str, to: &str) -> Result<(), CallFailed> {
         let renamed = self.renamed(folder, from, to);
+        // The lock on the file ends with the name that it is for.
+        if renamed.is_ok() {
+            self.file = None;
+        }
         self.counted(renamed)
     }
 
     fn sync_folder(&mut self, folder: &str) -> Result<(), CallFailed> {
-        let synced = match File::open(self.rt, folder) {
-            Ok(file) => file.sync_all(),
-            Err(error) => Err(error),
-        };
+        let synced = self.synced(folder);
         self.counted(synced)
     }
 
     fn remove(&mut self, folder: &str, name: &str) -> Result<(), CallFailed> {
         let removed = self.removed(folder, name);
+        self.file = None;
         self.counted(removed)
     }
 }
 
 impl<'a, R: Files> System for SystemStore<'a, R>
 where
-    R::File: Drop,
+    R::File: Drop + Lockable,
 {
     ghost may_fail = { λ _ _. Unit {0} };
 
     fn names(&self, alloc: Global, folder: &str) -> Result<Vec<String>, Refusal> {
-        names_in(alloc, self.rt, folder)
+        names_in(alloc, self.rt, &self.root, folder)
     }
 
     fn text(&self, alloc: Global, path: &str) -> Result<Vec<u8>, Refusal> {
-        text_bytes(alloc, self.rt, path)
+        text_bytes(alloc, self.rt, &self.root, path)
     }
 
     fn input(&self, alloc: Global, path: &str) -> Result<Vec<u8>, Refusal> {
-        any_bytes(alloc, self.rt, path)
+        any_bytes(alloc, self.rt, path, path)
     }
 
     fn database(&self, alloc: Global, path: &str) -> Result<Option<Vec<u8>>, Refusal> {
-        database_bytes(alloc, self.rt, path)
+        database_bytes(alloc, self.rt, &self.root, path)
+    }
+
+    fn is_there(&self, _: Global, path: &str) -> Result<bool, AllocError> {
+        match entry(self.rt, &self.root, path) {
+            Err(error) if error.kind() == ErrorKind::NotFound => Ok(false),
+            Err(error) if error.kind() == ErrorKind::OutOfMemory => Err(AllocError),
+            _ => Ok(true),
+        }
     }
 
     fn cause(&self) -> Option<Cause> {
         self.cause
+    }
+}
+
+impl<'a, R: Files> Rooted for SystemStore<'a, R>
+where
+    R::File: Drop + Lockable,
+{
+    fn enter(&mut self, root: &str) -> Result<(), Refusal> {
+        self.root.enter(self.rt, root)
     }
 }

@@ -2,9 +2,11 @@
 //!
 //! | Module | What it does |
 //! |---|---|
-//! | `system` | what the program asks of a file system |
+//! | `system` | what the program asks of a file system; `rooted`: of one that may go below a root |
 //! | `folders` | the text files of both folders, chosen and read |
 //! | `files` | files and folders: the file system that the runtime reaches |
+//! | `parts` | new files of updates: whose they are, and what killed updates left |
+//! | `roots` | where a path below a root leads; `place` is such a place |
 //! | `memory` | a store in memory as such a system, for tests |
 //! | `refusals` | the line of each refusal |
 #![tactic(auto)]
@@ -12,10 +14,16 @@
 mod files;
 mod folders;
 mod memory;
+mod parts;
+mod place;
 mod refusals;
+mod rooted;
+mod roots;
 mod system;
 
 pub use files::{SystemStore, joined, path_in};
 pub use folders::{Selection, selected, with_texts};
-pub use refusals::{Refusal, refuse_for, refuse_text};
+pub use parts::Lockable;
+pub use refusals::{Refusal, refuse_for, refuse_memory, remedy};
+pub use rooted::Rooted;
 pub use system::System;

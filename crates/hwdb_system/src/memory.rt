@@ -8,6 +8,7 @@ ghost use Rattle.hwdb_system.specs.Refusals.{HasReason, IsUnlisted, IsUnread, Is
 
 use crate::files::text_of;
 use crate::refusals::Refusal;
+use crate::rooted::Rooted;
 use crate::system::System;
 use hwdb_devices::Cause;
 use hwdb_store::memory::state_of;
@@ -147,5 +148,16 @@ impl System for Memory {
 
     fn database(&self, alloc: Global, path: &str) -> Result<Option<Vec<u8>>, Refusal> {
         file_after(alloc, &self.steps, path.as_bytes())
+    }
+
+    fn is_there(&self, alloc: Global, path: &str) -> Result<bool, AllocError> {
+        let state = state_of(alloc, &self.steps, path.as_bytes())?;
+        Ok(state.now.is_some())
+    }
+}
+
+impl Rooted for Memory {
+    fn enter(&mut self, _root: &str) -> Result<(), Refusal> {
+        Ok(())
     }
 }

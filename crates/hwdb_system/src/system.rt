@@ -1,5 +1,5 @@
 //! What the program asks of a file system.
-ghost use Rattle.std.specs.Prelude.{◌≡◌, ◌≤◌, ℕ, List, Some, IfOk, IfErr, IfSome, map, option_map, string_bytes, vec_len};
+ghost use Rattle.std.specs.Prelude.{◌≡◌, ◌≤◌, ℕ, List, Some, IfOk, IfErr, IfSome, is_some, map, option_map, string_bytes, vec_len};
 ghost use Rattle.hwdb_spec.specs.Texts.{max_file};
 ghost use Rattle.hwdb_spec.specs.System.{AreNamesIn, bytes_at};
 ghost use Rattle.hwdb_system.specs.Refusals.{HasReason, IsUnlisted, IsUnread, IsUnreadable};
@@ -7,7 +7,7 @@ ghost use Rattle.hwdb_system.specs.Refusals.{HasReason, IsUnlisted, IsUnread, Is
 use crate::refusals::Refusal;
 use hwdb_devices::Cause;
 use hwdb_store::Store;
-use std::alloc::Global;
+use std::alloc::{AllocError, Global};
 
 /// Files that the program reads, in a [`Store`] whose database it replaces.
 ///
@@ -52,6 +52,12 @@ pub trait System: Store {
         ensures refused { IfErr result (IsUnread path.now) }
         ensures reason { IfErr result
             (HasReason (may_fail self.now) ⊥ (Self.seen self.now)) };
+
+    /// Whether something is at the path of a database, so that it is read; a link is something. Where that can't be told,
+    /// something is. The only error is that memory is refused.
+    fn is_there(&self, alloc: Global, path: &str) -> Result<bool, AllocError>
+        ensures { Self.tells → IfOk result
+            (λ there. there ≡ is_some (bytes_at (Self.seen self.now) path.now)) };
 
     /// Why the first call that failed did, where the system knows it. For messages alone: no promise speaks of it.
     fn cause(&self) -> Option<Cause> {

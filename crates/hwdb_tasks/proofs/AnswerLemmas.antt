@@ -1,10 +1,8 @@
 -- Commands that answer from the database, and are refused.
-use Rattle.std.proofs.Common.{◌≡◌, ◌≢◌, ◌⊎◌, inl, inr, ⊎_elim, ap, refl, ℕ, List, Option, None, Some, true, false, Result, IfErr, Bor}
-use Rattle.std.specs.Result.{IsErrAnd}
+use Rattle.std.proofs.Common.{ℕ, List, Option, None, Some, true, false, Bor}
 use Rattle.std.specs.Prelude.{option_map}
 use Rattle.hwdb_spec.specs.Assignment.{Position}
 use Rattle.hwdb_spec.specs.Store.{Contents}
-use Rattle.hwdb_spec.specs.System.{asked_database}
 use Rattle.hwdb_transfer.specs.Devices.{WrotePrefix}
 use Rattle.hwdb_commands.specs.Lookups.{IsAfter, IsListJson, IsListRefusal, IsListText}
 use Rattle.hwdb_transfer.specs.declared.errors.ToolError.{ToolError}
@@ -12,10 +10,9 @@ use Rattle.hwdb_transfer.specs.declared.errors.ToolError.TheVariants.{Read, Writ
 use Rattle.hwdb_stream.specs.Streams.{IfBadDatabase}
 use Rattle.hwdb_tasks.specs.Done.{IsFrom, IsListFrom}
 use Rattle.hwdb_system.specs.Refusals.{IsUnread}
-use Rattle.hwdb_tasks.specs.Undone.{IsAnswerRefused, IsAskedPath, IsListRefusedBy, IsUnfound}
+use Rattle.hwdb_tasks.specs.Undone.{IsAskedPath, IsListRefusedBy, IsUnfound}
 use Rattle.hwdb_system.specs.declared.refusals.Refusal.{Refusal}
 use Rattle.hwdb_system.specs.declared.refusals.Refusal.TheVariants.{At, InWords, NoDatabase, Plain}
-use Rattle.hwdb_tasks.proofs.ErrorLemmas.{given_error}
 
 -- reading the database that is asked
 pub unfound : (root : List ℕ) (contents : Contents) (path : List ℕ) (refusal : Refusal) → IsAskedPath root contents path → IsUnread path refusal → IsUnfound root contents refusal
@@ -23,27 +20,6 @@ unfound root contents path (Plain error) asked h = (path, asked, h)
 unfound root contents path (At error at cause) asked h = (path, asked, h)
 unfound root contents path NoDatabase asked h = absurd h
 unfound root contents path (InWords text) asked h = (path, asked, h)
-
-module _ {T W : Type 0} (taken : W → Option (List ℕ)) (old new : W) (root : List ℕ) (Refuses : (bytes : List ℕ) → ToolError → Type 0) (Is : (bytes text : List ℕ) → Type 0)
-    (contents : Contents) (bytes : List ℕ) (error : ToolError) where
-  -- answering from its bytes
-  pub unanswered : asked_database root contents ≡ Some bytes → Refuses bytes error → (error ≢ Write → error ≢ Memory → new ≡ old)
-      → (error ≡ Write → (new ≡ old) ⊎ WrotePrefix (Is bytes) (taken old) (taken new))
-      → (result : Result T Refusal) → IsErrAnd result (λ r. r ≡ Plain error)
-      → IfErr result (λ r. IsAnswerRefused root Refuses Is contents r (taken old) (taken new))
-  unanswered asked refused untouched cut result is =
-      given_error (Plain error) (λ r. IsAnswerRefused root Refuses Is contents r (taken old) (taken new)) result is
-      (inr (
-        error,
-        refl,
-        record {
-          bytes = bytes;
-          asked = asked;
-          refused = refused;
-          untouched = λ w m. ap taken (untouched w m);
-          cut_short = λ w. ⊎_elim (λ same. inl (ap taken same)) (λ part. inr part) (cut w);
-        },
-      ))
 
 from_after : (after : Option (Bor (List ℕ))) (from : Option Position) → IsAfter after from → IsFrom (option_map (λ t. t.now) after) from
 from_after None None h = tt

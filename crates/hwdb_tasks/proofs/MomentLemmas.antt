@@ -16,6 +16,7 @@ leaves_more moment left_since old new less more up h = record {
   time = record {
     later = h.time.later;
     nothing_else = λ t p v le l. ⊎_elim (λ was. inl was) (λ now. inr (up p v now)) (h.time.nothing_else t p v le l);
+    nothing_less = h.time.nothing_less;
   };
 }
 

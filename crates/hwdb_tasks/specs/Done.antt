@@ -3,13 +3,13 @@ use Rattle.std.specs.Prelude.{true, false, ◌≡◌, ℕ, Bool, List, ◌⊎◌
 use Rattle.hwdb_spec.specs.Assignment.{Position}
 use Rattle.hwdb_spec.specs.Folders.{Source}
 use Rattle.hwdb_spec.specs.Progress.{listing}
-use Rattle.hwdb_spec.specs.Store.{Contents, Outcomes, Stored, IsPart, database_file, database_name, path_in}
+use Rattle.hwdb_spec.specs.Store.{Contents, Outcomes, LeftAtParts, Stored, database_file, database_name, path_in}
 use Rattle.hwdb_spec.specs.System.{AreFilesIn, bytes_at, asked_database, database_folder, etc_files, usr_files}
 use Rattle.hwdb_spec.specs.Texts.{IsSpelling, list_text, max_file}
 use Rattle.hwdb_spec.specs.Explanations.{explain_text}
 use Rattle.hwdb_spec.specs.Json.{explain_json, list_json}
 use Rattle.hwdb_spec.specs.Tree.{Tree, map_of_files}
-use Rattle.hwdb_spec.specs.Written.{IsWritten}
+use Rattle.hwdb_spec.specs.Written.{IsCompiled, IsWritten}
 use Rattle.hwdb_transfer.specs.Devices.{Wrote, WroteTexts}
 use Rattle.hwdb_transfer.specs.Databases.{IsTextOf}
 use Rattle.hwdb_commands.specs.Updates.{Updated, AreAskTexts}
@@ -56,15 +56,16 @@ pub record IsListFrom (json : Bool) (device : List ℕ) (after : Option (List �
   pub spelled : IsFrom after from
   pub is : IsTextOf (list_form json device from limit) bytes text
 
--- an update leaves this under a path: the database of all text files of both folders, whole, in its place, or a new file
+-- an update leaves this under a path: the database of all text files of both folders, whole, in its place; or what may stand
+-- under the path of a new file
 pub record IsLeftByUpdate (root : List ℕ) (usr : Bool) (old : Contents) (p : List ℕ) (v : Option Stored) : Type 0 where
   pub of_etc : List Source
   pub of_usr : List Source
   pub in_etc : AreFilesIn (etc_files root) old of_etc
   pub in_usr : AreFilesIn (usr_files root) old of_usr
-  pub left : ((database : List ℕ) × IsWritten (map_of_files of_etc of_usr) database
+  pub left : ((database : List ℕ) × IsWritten (map_of_files of_etc of_usr) database × IsCompiled of_etc of_usr database
       × (p ≡ path_in (database_folder usr root) database_name) × (v ≡ Some (database_file database)))
-      ⊎ IsPart (database_folder usr root) old p
+      ⊎ LeftAtParts (database_folder usr root) old p v
 
 -- what a crash may leave during an update: what it might have left before, or what the update leaves
 abbrev pub OldOrUpdated : (root : List ℕ) (usr : Bool) (old : Contents) (outcomes : Outcomes) → Outcomes

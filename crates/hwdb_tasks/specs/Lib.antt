@@ -5,3 +5,4 @@ pub mod CheckedFiles
 pub mod ComparedDatabases
 pub mod Internal
 pub mod NamedDatabases
+pub mod Hiding

@@ -11,11 +11,11 @@ use Rattle.hwdb_transfer.specs.Databases.{IsQueryRefusal, IsTextOf}
 use Rattle.hwdb_transfer.specs.declared.errors.ToolError.TheVariants.{Read, TooLong}
 use Rattle.hwdb_transfer.specs.declared.errors.ToolError.{ToolError}
 use Rattle.hwdb_stream.specs.Streams.{IfBadDatabase, IsStreamRefusal, texts_of}
-use Rattle.hwdb_system.specs.Refusals.{IsAt}
-use Rattle.hwdb_system.specs.declared.refusals.Refusal.TheVariants.{At, Plain}
+use Rattle.hwdb_system.specs.Refusals.{IsAt, IsOfDatabase}
+use Rattle.hwdb_system.specs.declared.refusals.Refusal.TheVariants.{At}
 use Rattle.hwdb_system.specs.declared.refusals.Refusal.{Refusal}
 use Rattle.hwdb_tasks.specs.Done.{IsAnswered}
-use Rattle.hwdb_tasks.specs.Undone.{IsAnswerRefused, IsUnfound}
+use Rattle.hwdb_tasks.specs.Undone.{IsAnswerRefused, IsAskedPath, IsUnfound}
 
 -- the devices are those that standard input names
 abbrev pub is_input : (devices : List (List ℕ)) → Bool
@@ -31,11 +31,11 @@ AreAnsweredFrom true root json devices input contents out_before out_now = IfSom
 abbrev pub AreAnswered : (root : List ℕ) (json : Bool) (devices : List (List ℕ)) (input : Option (List ℕ)) → Contents → (out_before out_now : Option (List ℕ)) → Type 0
 AreAnswered root json devices = AreAnsweredFrom (is_input devices) root json devices
 
--- the refusal of an error: one of the input says so
-abbrev pub IsOfInput : ToolError → Refusal → Type 0
-IsOfInput Read refusal = IsAt Read (codes "standard input") refusal
-IsOfInput TooLong refusal = IsAt TooLong (codes "a line of standard input") refusal
-IsOfInput error refusal = refusal ≡ Plain error
+-- the refusal of an error: one of the input says so, and one of the database has its path
+abbrev pub IsOfInput : ToolError → (path : List ℕ) → Refusal → Type 0
+IsOfInput Read path refusal = IsAt Read (codes "standard input") refusal
+IsOfInput TooLong path refusal = IsAt TooLong (codes "a line of standard input") refusal
+IsOfInput error path refusal = IsOfDatabase error path refusal
 
 -- what a refusal says of the input is so: that it can't be read, where a call of it failed, or that a line of it is too long
 abbrev pub IsInputUnread : (failures_before failures_now : ℕ) → Refusal → Type 0
@@ -44,9 +44,13 @@ IsInputUnread before now (At TooLong at cause) = at.items ≡ codes "a line of s
 IsInputUnread before now refusal = ⊥
 
 -- answering the devices of the input was refused, and standard output has what it had, or a prefix
-pub record IsUnstreamed (root : List ℕ) (json : Bool) (input : Option (List ℕ)) (contents : Contents) (error : ToolError) (out_before out_now : Option (List ℕ)) : Type 0 where
+pub record IsUnstreamed (root : List ℕ) (json : Bool) (input : Option (List ℕ)) (contents : Contents) (refusal : Refusal) (out_before out_now : Option (List ℕ)) : Type 0 where
+  pub path : List ℕ
   pub bytes : List ℕ
+  pub at : IsAskedPath root contents path
   pub asked : asked_database root contents ≡ Some bytes
+  pub error : ToolError
+  pub is : IsOfInput error path refusal
   pub refused : IsStreamRefusal bytes error
   pub long : error ≡ TooLong → IfSome input (λ text. max_file < length text)
   pub untouched : IfBadDatabase (out_now ≡ out_before) error
@@ -56,7 +60,7 @@ pub record IsUnstreamed (root : List ℕ) (json : Bool) (input : Option (List �
 abbrev pub IsStreamRefused : (root : List ℕ) (json : Bool) (input : Option (List ℕ)) → Contents → Refusal → (out_before out_now : Option (List ℕ)) → Type 0
 IsStreamRefused root json input contents refusal out_before out_now =
     (IsUnfound root contents refusal × (out_now ≡ out_before))
-    ⊎ ((error : ToolError) × IsOfInput error refusal × IsUnstreamed root json input contents error out_before out_now)
+    ⊎ IsUnstreamed root json input contents refusal out_before out_now
 
 -- `query` is refused
 abbrev pub AreUnansweredFrom : (from_input : Bool) (root : List ℕ) (json : Bool) (devices : List (List ℕ)) (input : Option (List ℕ)) → Contents → Refusal → (out_before out_now : Option (List ℕ)) → Type 0

@@ -16,7 +16,7 @@ use Rattle.hwdb_transfer.specs.declared.errors.ToolError.TheVariants.{BadDatabas
 use Rattle.hwdb_transfer.specs.declared.errors.ToolError.{ToolError}
 use Rattle.hwdb_lint.specs.Checks.{IsChecksRefusal}
 use Rattle.hwdb_tasks.specs.Done.{IsFrom}
-use Rattle.hwdb_system.specs.Refusals.{IsOver, IsUnread, IsUnreadable}
+use Rattle.hwdb_system.specs.Refusals.{IsOfDatabase, IsOver, IsUnread, IsUnreadable}
 use Rattle.hwdb_system.specs.declared.refusals.Refusal.TheVariants.{NoDatabase, Plain}
 use Rattle.hwdb_system.specs.declared.refusals.Refusal.{Refusal}
 use Rattle.hwdb_system.specs.Reading.{AreUnread}
@@ -40,10 +40,14 @@ abbrev pub IsUnfound : (root : List ℕ) → Contents → Refusal → Type 0
 IsUnfound root contents NoDatabase = asked_database root contents ≡ None
 IsUnfound root contents refusal = (path : List ℕ) × IsAskedPath root contents path × IsUnread path refusal
 
--- answering from these bytes was refused, and standard output has what it had, or a prefix where it failed
-pub record IsUnanswered (root : List ℕ) (Refuses : (bytes : List ℕ) → ToolError → Type 0) (Is : (bytes text : List ℕ) → Type 0) (contents : Contents) (error : ToolError) (out_before out_now : Option (List ℕ)) : Type 0 where
+-- answering from the bytes at the asked path was refused, and standard output has what it had, or a prefix where it failed
+pub record IsUnanswered (root : List ℕ) (Refuses : (bytes : List ℕ) → ToolError → Type 0) (Is : (bytes text : List ℕ) → Type 0) (contents : Contents) (refusal : Refusal) (out_before out_now : Option (List ℕ)) : Type 0 where
+  pub path : List ℕ
   pub bytes : List ℕ
+  pub at : IsAskedPath root contents path
   pub asked : asked_database root contents ≡ Some bytes
+  pub error : ToolError
+  pub is : IsOfDatabase error path refusal
   pub refused : Refuses bytes error
   pub untouched : error ≢ Write → error ≢ Memory → out_now ≡ out_before
   pub cut_short : error ≡ Write → (out_now ≡ out_before) ⊎ WrotePrefix (Is bytes) out_before out_now
@@ -52,7 +56,7 @@ pub record IsUnanswered (root : List ℕ) (Refuses : (bytes : List ℕ) → Tool
 abbrev pub IsAnswerRefused : (root : List ℕ) (Refuses : (bytes : List ℕ) → ToolError → Type 0) (Is : (bytes text : List ℕ) → Type 0) → Contents → Refusal → (out_before out_now : Option (List ℕ)) → Type 0
 IsAnswerRefused root Refuses Is contents refusal out_before out_now =
     (IsUnfound root contents refusal × (out_now ≡ out_before))
-    ⊎ ((error : ToolError) × (refusal ≡ Plain error) × IsUnanswered root Refuses Is contents error out_before out_now)
+    ⊎ IsUnanswered root Refuses Is contents refusal out_before out_now
 
 -- what `list` may refuse over these bytes: a text that spells no position before a fault of the database
 abbrev pub IsListRefusedBy : (after : Option (List ℕ)) (bytes : List ℕ) → ToolError → Type 0

@@ -2,6 +2,7 @@
 ghost use Rattle.std.specs.Prelude.{◌≡◌, ◌≢◌, ◌⊎◌, option_map, IfErr, OnOk};
 ghost use Rattle.hwdb_spec.specs.Failures.{HasFailed};
 ghost use Rattle.hwdb_transfer.specs.Databases.{IsQueryRefusal, IsTextOf};
+ghost use Rattle.hwdb_transfer.specs.Devices.{Wrote, WrotePrefix};
 ghost use Rattle.hwdb_system.specs.Refusals.{HasReason, IsUnreadable};
 ghost use Rattle.hwdb_tasks.specs.Done.{IsAnswered, IsAsked, IsListFrom, explain_form};
 ghost use Rattle.hwdb_tasks.specs.Undone.{IsAnswerRefused, IsAskRefused, IsListRefusedBy};
@@ -35,10 +36,34 @@ pub fn explain<D: System, O: Sink>(
         → HasFailed (O.failures out.old) (O.failures out.new)) }
 {
     let found = asked(alloc, root, system)?;
+    match explain_from(alloc, &found.bytes, device, json, out) {
+        Ok(()) => Ok(()),
+        Err(error) => Err(Refusal::of_database(alloc, error, found.path.as_bytes())),
+    }
+}
+
+/// The same of the database that these bytes are, as text or as JSON.
+fn explain_from<O: Sink>(
+    alloc: Global,
+    bytes: &[u8],
+    device: &[u8],
+    json: bool,
+    out: &mut O,
+) -> Result<(), ToolError>
+    ensures printed { OnOk result (Wrote (IsTextOf (explain_form json device.now) bytes.now)
+        (O.taken out.old) (O.taken out.new)) }
+    ensures refusals { IfErr result (IsQueryRefusal bytes.now) }
+    ensures cause { IfErr result (λ e. e ≡ ToolError.Write
+        → HasFailed (O.failures out.old) (O.failures out.new)) }
+    ensures cut_short { IfErr result (λ e. e ≡ ToolError.Write
+        → WrotePrefix (IsTextOf (explain_form json device.now) bytes.now)
+        (O.taken out.old) (O.taken out.new)) }
+    ensures untouched { IfErr result (λ e. e ≢ ToolError.Write → out.new ≡ out.old) }
+{
     if json {
-        run_explain_json(alloc, &found.bytes, device, out)?;
+        run_explain_json(alloc, bytes, device, out)?;
     } else {
-        run_explain(alloc, &found.bytes, device, out)?;
+        run_explain(alloc, bytes, device, out)?;
     }
     Ok(())
 }
@@ -68,10 +93,39 @@ pub fn list<D: System, O: Sink>(
         → HasFailed (O.failures out.old) (O.failures out.new)) }
 {
     let found = asked(alloc, root, system)?;
+    match list_from(alloc, &found.bytes, device, after, limit, json, out) {
+        Ok(()) => Ok(()),
+        Err(error) => Err(Refusal::of_database(alloc, error, found.path.as_bytes())),
+    }
+}
+
+/// The same of the database that these bytes are, as text or as JSON.
+fn list_from<O: Sink>(
+    alloc: Global,
+    bytes: &[u8],
+    device: &[u8],
+    after: Option<&str>,
+    limit: Option<u64>,
+    json: bool,
+    out: &mut O,
+) -> Result<(), ToolError>
+    ensures printed { OnOk result (Wrote
+        (IsListFrom json device.now (option_map (λ t. t.now) after.entry) limit bytes.now)
+        (O.taken out.old) (O.taken out.new)) }
+    ensures refusals { IfErr result
+        (IsListRefusedBy (option_map (λ t. t.now) after.entry) bytes.now) }
+    ensures cause { IfErr result (λ e. e ≡ ToolError.Write
+        → HasFailed (O.failures out.old) (O.failures out.new)) }
+    ensures cut_short { IfErr result (λ e. e ≡ ToolError.Write → WrotePrefix
+        (IsListFrom json device.now (option_map (λ t. t.now) after.entry) limit bytes.now)
+        (O.taken out.old) (O.taken out.new)) }
+    ensures untouched { IfErr result
+        (λ e. e ≢ ToolError.Write → e ≢ ToolError.Memory → out.new ≡ out.old) }
+{
     if json {
-        run_list_json(alloc, &found.bytes, device, after, limit, out)?;
+        run_list_json(alloc, bytes, device, after, limit, out)?;
     } else {
-        run_list(alloc, &found.bytes, device, after, limit, out)?;
+        run_list(alloc, bytes, device, after, limit, out)?;
     }
     Ok(())
 }

@@ -3,6 +3,7 @@
 //! | Module | What it does |
 //! |---|---|
 //! | `updates` | `update`: the text files of both folders, compiled into the database of one |
+//! | `hiding` | where the database of /etc hides the new one: what is said of it before an update |
 //! | `progress` | what `update --verbose` says of the files that it compiles |
 //! | `queries` | `query`: what each of several devices gets, those of the words or those that standard input names |
 //! | `answers` | `explain`, `list` and `ask`: what a device gets |
@@ -19,6 +20,7 @@ mod checks;
 mod databases;
 mod differences;
 mod dumps;
+mod hiding;
 mod progress;
 mod queries;
 mod updates;
@@ -29,6 +31,6 @@ pub use answers::{ask_file, explain, list};
 pub use checks::check;
 pub use differences::diff;
 pub use dumps::dump;
+pub use hiding::update_telling;
 pub use queries::query;
-pub use updates::update;
 pub use verification::verify;

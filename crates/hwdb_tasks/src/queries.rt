@@ -1,8 +1,9 @@
 //! `query`: what each of several devices gets, those of the words or those that standard input names.
-ghost use Rattle.std.specs.Prelude.{◌≡◌, ◌⊎◌, true, false, map, string_bytes, IfErr, IfSome, OnOk};
+ghost use Rattle.std.specs.Prelude.{◌≡◌, ◌≢◌, ◌⊎◌, true, false, map, string_bytes, IfErr, IfSome, OnOk};
 ghost use Rattle.hwdb_spec.specs.Failures.{HasFailed};
 ghost use Rattle.hwdb_spec.specs.Texts.{devices_of};
 ghost use Rattle.hwdb_transfer.specs.Databases.{IsQueryRefusal, IsTextOf};
+ghost use Rattle.hwdb_transfer.specs.Devices.{Wrote, WrotePrefix};
 ghost use Rattle.hwdb_stream.specs.Streams.{texts_of};
 ghost use Rattle.hwdb_system.specs.Refusals.{HasReason};
 ghost use Rattle.hwdb_tasks.specs.Done.{IsAnswered};
@@ -80,10 +81,36 @@ fn query_given<D: System, O: Sink>(
         → HasFailed (O.failures out.old) (O.failures out.new)) }
 {
     let found = asked(alloc, root, system)?;
+    match query_from(alloc, &found.bytes, devices, json, out) {
+        Ok(()) => Ok(()),
+        Err(error) => Err(Refusal::of_database(alloc, error, found.path.as_bytes())),
+    }
+}
+
+/// The same of the database that these bytes are, as text or as JSON.
+fn query_from<O: Sink>(
+    alloc: Global,
+    bytes: &[u8],
+    devices: &[String],
+    json: bool,
+    out: &mut O,
+) -> Result<(), ToolError>
+    ensures printed { OnOk result
+        (Wrote (IsTextOf (texts_of json (map string_bytes devices.now)) bytes.now)
+        (O.taken out.old) (O.taken out.new)) }
+    ensures refusals { IfErr result (IsQueryRefusal bytes.now) }
+    ensures cause { IfErr result (λ e. e ≡ ToolError.Write
+        → HasFailed (O.failures out.old) (O.failures out.new)) }
+    ensures cut_short { IfErr result (λ e. (out.new ≡ out.old)
+        ⊎ WrotePrefix (IsTextOf (texts_of json (map string_bytes devices.now)) bytes.now)
+        (O.taken out.old) (O.taken out.new)) }
+    ensures untouched { IfErr result
+        (λ e. e ≢ ToolError.Write → e ≢ ToolError.Memory → out.new ≡ out.old) }
+{
     if json {
-        run_queries_json(alloc, &found.bytes, devices, out)?;
+        run_queries_json(alloc, bytes, devices, out)?;
     } else {
-        run_queries(alloc, &found.bytes, devices, out)?;
+        run_queries(alloc, bytes, devices, out)?;
     }
     Ok(())
 }
@@ -111,18 +138,21 @@ fn query_input<D: System, I: Source, O: Sink>(
     let found = asked(alloc, root, system)?;
     match run_stream(alloc, &found.bytes, json, input, out) {
         Ok(()) => Ok(()),
-        Err(error) => Err(refusal_of(alloc, error, input.cause())),
+        Err(error) => {
+            let path = found.path.as_bytes();
+            Err(refusal_of(alloc, error, path, input.cause()))
+        }
     }
 }
 
-/// What is refused where the devices of standard input can't be answered.
-fn refusal_of(alloc: Global, error: ToolError, cause: Option<Cause>) -> Refusal
-    ensures is { IsOfInput error result }
+/// What is refused where the devices of standard input can't be answered from the database at the path.
+fn refusal_of(alloc: Global, error: ToolError, path: &[u8], cause: Option<Cause>) -> Refusal
+    ensures is { IsOfInput error path.now result }
     ensures write { result ≡ Plain ToolError.Write → error ≡ ToolError.Write }
 {
     match error {
         ToolError::Read => Refusal::at(alloc, error, b"standard input", cause),
         ToolError::TooLong => Refusal::at(alloc, error, b"a line of standard input", None),
-        error => Refusal::from(error),
+        error => Refusal::of_database(alloc, error, path),
     }
 }

@@ -1,9 +1,10 @@
 //! What is said of bytes that are no database.
-ghost use Rattle.std.specs.Prelude.{◌≡◌, ◌++◌, IfOk, OnOk};
+ghost use Rattle.std.specs.Prelude.{◌≡◌, ◌++◌, codes, IfOk, OnOk};
 ghost use Rattle.hwdb_spec.specs.Texts.{at_offset, db_fault_name, db_fault_offset};
-ghost use Rattle.hwdb_spec.specs.Verdicts.{db_fault_cause, db_fault_words, explanation_text, verdict_text};
+ghost use Rattle.hwdb_spec.specs.Verdicts.{db_fault_cause, db_fault_words, explanation_text, fault_text, remedy, verdict_text};
 
 use hwdb_reader::DbFault;
+use hwdb_system::remedy;
 use itoa::Buffer;
 use std::alloc::{AllocError, Global};
 
@@ -62,26 +63,45 @@ fn push_name(text: &mut Vec<u8>, fault: DbFault) -> Result<(), AllocError>
     Ok(())
 }
 
-/// Adds what explains a fault.
-fn push_explanation(text: &mut Vec<u8>, fault: DbFault) -> Result<(), AllocError>
-    ensures { OnOk result (text.new.items ≡ text.old.items ++ explanation_text fault) }
+/// Adds what to do.
+fn push_hint(text: &mut Vec<u8>, path: &[u8]) -> Result<(), AllocError>
+    ensures { OnOk result
+        (text.new.items ≡ text.old.items ++ (codes "\n    hint: " ++ remedy path.now)) }
+{
+    text.extend_from_slice(b"\n    hint: ")?;
+    text.extend_from_slice(remedy(path).as_bytes())?;
+    Ok(())
+}
+
+/// Adds what explains a fault of the database at a path.
+fn push_explanation(text: &mut Vec<u8>, path: &[u8], fault: DbFault) -> Result<(), AllocError>
+    ensures { OnOk result (text.new.items ≡ text.old.items ++ explanation_text path.now fault) }
 {
     text.extend_from_slice(b"\n    ")?;
     text.extend_from_slice(words_of(fault).as_bytes())?;
     text.extend_from_slice(b"\n    cause: ")?;
     text.extend_from_slice(cause_of(fault).as_bytes())?;
-    text.extend_from_slice(b"\n    hint: write it anew with hwdb update")?;
+    push_hint(text, path)?;
     Ok(())
 }
 
-/// The words of a fault of the database at a path: its name, and below it what is wrong, where that may come from, and what
-/// to do.
+/// The fault of the database at a path.
+fn fault_at(alloc: Global, path: &[u8], fault: DbFault) -> Result<Vec<u8>, AllocError>
+    ensures { IfOk result (λ text. text.items ≡ fault_text path.now fault) }
+{
+    let mut text = Vec::from_slice(alloc, b"bad database: ")?;
+    push_name(&mut text, fault)?;
+    text.extend_from_slice(b": ")?;
+    text.extend_from_slice(path)?;
+    Ok(text)
+}
+
+/// The words of a fault of the database at a path: its name and the path, and below them what is wrong, where that may come
+/// from, and what to do.
 pub fn verdict(alloc: Global, path: &[u8], fault: DbFault) -> Result<Vec<u8>, AllocError>
     ensures { IfOk result (λ text. text.items ≡ verdict_text path.now fault) }
 {
-    let mut text = Vec::from_slice(alloc, path)?;
-    text.extend_from_slice(b": bad database: ")?;
-    push_name(&mut text, fault)?;
-    push_explanation(&mut text, fault)?;
+    let mut text = fault_at(alloc, path, fault)?;
+    push_explanation(&mut text, path, fault)?;
     Ok(text)
 }

@@ -1,8 +1,10 @@
 -- What the program does with a file system, by the job that its words ask for (systemd-hwdb(8); `explain`, `ask`,
 -- `list`, `check`, `diff`, `verify` and `dump` are our choice).
-use Rattle.std.specs.Prelude.{◌≡◌, ℕ, Bool, false, List, [], ◌⊎◌, Option, map, option_map, string_bytes}
+use Rattle.std.specs.Prelude.{◌≡◌, ◌⊎◌, ◌==◌, ℕ, Bool, true, false, not, is_some, length, List, [], Option, map, option_map, string_bytes}
 use Rattle.std.specs.Option.{option_map_or}
 use Rattle.std.specs.Io.KnownBytes.{Appends}
+use Rattle.clap.specs.Faults.{fault_of}
+use Rattle.hwdb_cli.specs.Line.{hwdb_app}
 use Rattle.hwdb_cli.specs.Words.{AskFor, AskForText}
 use Rattle.hwdb_spec.specs.Store.{Contents, Outcomes, Same, InPlace}
 use Rattle.hwdb_spec.specs.System.{database_folder}
@@ -14,11 +16,21 @@ use Rattle.hwdb_tasks.specs.CheckedFiles.{AreCheckedFiles, IsChecked}
 use Rattle.hwdb_tasks.specs.ComparedDatabases.{IsCompared}
 use Rattle.hwdb_tasks.specs.NamedDatabases.{IsDumped, IsPrinted, IsSummary}
 use Rattle.hwdb_tasks.specs.Queries.{AreAnswered, is_input}
-use Rattle.hwdb_tasks.specs.Done.{IsAnswered, IsAsked, IsLeftByUpdate, IsListFrom, IsUpdated, explain_form}
+use Rattle.hwdb_tasks.specs.Done.{IsAnswered, IsAsked, IsLeftByUpdate, IsListFrom, explain_form}
+use Rattle.hwdb_tasks.specs.Hiding.{IsUpdatedTelling}
 
 -- the root in front of each path; nothing where none was given
 abbrev pub root_of : Job → List ℕ
 root_of job = option_map_or string_bytes job.root []
+
+-- the task looks for files below the root: it is one that isn't told by name which it reads
+abbrev pub looks_below_root : Task → Bool
+looks_below_root (Ask file device) = false
+looks_below_root (Diff old_path new_path) = false
+looks_below_root (Check files) = length files.items == 0
+looks_below_root (Verify database) = not (is_some database)
+looks_below_root (Dump database) = not (is_some database)
+looks_below_root _ = true
 
 -- nothing changed but standard output, and the status is 0
 abbrev pub IsQuiet : (status : ℕ) (old new : Contents) (err_before err_now : Option (List ℕ)) → Type 0
@@ -27,7 +39,7 @@ IsQuiet status old new err_before err_now = (status ≡ 0) × Same old new × (e
 -- what a task leaves that is done
 abbrev pub IsTaskDone : Task → (root : List ℕ) (usr strict : Bool) (status : ℕ) (input : Option (List ℕ)) (old new : Contents) (left : Outcomes) (err_before err_now out_before out_now : Option (List ℕ)) → Type 0
 IsTaskDone (Update verbose) root usr strict status input old new left err_before err_now out_before out_now =
-    IsUpdated root verbose strict status old err_before err_now (λ database. InPlace (database_folder usr root) database old new left)
+    IsUpdatedTelling root usr verbose strict status old err_before err_now (λ database. InPlace (database_folder usr root) database old new left)
     × (out_now ≡ out_before)
 IsTaskDone (Query devices json) root usr strict status input old new left err_before err_now out_before out_now =
     AreAnswered root json (map string_bytes devices.items) input old out_before out_now × IsQuiet status old new err_before err_now
@@ -54,6 +66,7 @@ IsDone job = IsTaskDone job.task (root_of job) job.usr job.strict
 pub record IsJobDone (words : List (List ℕ)) (status : ℕ) (input : Option (List ℕ)) (old new : Contents) (left : Outcomes) (err_before err_now out_before out_now : Option (List ℕ)) : Type 0 where
   pub job : Job
   pub asked : AskFor words job
+  pub faultless : fault_of hwdb_app words ≡ []
   pub done : IsDone job status input old new left err_before err_now out_before out_now
 
 -- the words ask for help or the version, which standard output took; nothing else changed
@@ -79,4 +92,4 @@ OldOrDone job old outcomes p v = outcomes p v ⊎ (IsUpdate job.task × IsLeftBy
 
 -- during a run of the program with these words
 abbrev pub OldOrAskedFor : (words : List (List ℕ)) (old : Contents) (outcomes : Outcomes) → Outcomes
-OldOrAskedFor words old outcomes p v = outcomes p v ⊎ ((job : Job) × AskFor words job × OldOrDone job old outcomes p v)
+OldOrAskedFor words old outcomes p v = outcomes p v ⊎ ((job : Job) × AskFor words job × (fault_of hwdb_app words ≡ []) × OldOrDone job old outcomes p v)

@@ -1,13 +1,13 @@
 -- Which refusals end a task, when each comes, and what it leaves: the files, what standard error had taken before the
 -- refusal's line, and standard output. Our choice.
-use Rattle.std.specs.Prelude.{◌≡◌, ◌≢◌, ◌⊎◌, ◌==◌, ℕ, Bool, true, false, not, is_some, length, List, Option, map, option_map, string_bytes, codes}
-use Rattle.hwdb_cli.specs.Words.{AskFor, AreToldBy}
+use Rattle.std.specs.Prelude.{◌≡◌, ◌≢◌, ◌⊎◌, ◌==◌, ℕ, Bool, true, false, not, is_some, length, List, Option, Some, map, option_map, string_bytes, codes}
+use Rattle.hwdb_cli.specs.Words.{AskFor, AskForText, AreToldBy}
 use Rattle.hwdb_cli.specs.declared.job.Job.{Job}
 use Rattle.hwdb_cli.specs.declared.job.Task.TheVariants.{Ask, Check, Diff, Dump, Explain, List as ListHits, Query, Update, Verify}
 use Rattle.hwdb_cli.specs.declared.job.Task.{Task}
 use Rattle.hwdb_cli.specs.declared.job.WordsFault.TheVariants as words_fault
 use Rattle.hwdb_cli.specs.declared.job.WordsFault.{WordsFault}
-use Rattle.hwdb_spec.specs.Store.{Contents, Outcomes}
+use Rattle.hwdb_spec.specs.Store.{Contents, Outcomes, Same}
 use Rattle.hwdb_spec.specs.System.{database_folder}
 use Rattle.hwdb_transfer.specs.Devices.{AppendsPrefix}
 use Rattle.hwdb_transfer.specs.Databases.{IsQueryRefusal, IsTextOf}
@@ -17,11 +17,12 @@ use Rattle.hwdb_tasks.specs.ComparedDatabases.{IsDiffRefused}
 use Rattle.hwdb_tasks.specs.NamedDatabases.{IsDumpRefused, IsVerifyRefused}
 use Rattle.hwdb_tasks.specs.Done.{IsListFrom, explain_form}
 use Rattle.hwdb_tasks.specs.Queries.{AreUnanswered, IsInputUnread}
-use Rattle.hwdb_tool.specs.Program.{reads_input, root_of}
-use Rattle.hwdb_system.specs.Refusals.{HasReason, IsAt, IsUnreadable, Refused, refusal_line, refusal_text}
+use Rattle.hwdb_tool.specs.Program.{IsUpdate, looks_below_root, reads_input, root_of}
+use Rattle.hwdb_system.specs.Refusals.{HasReason, IsAt, IsUnread, IsUnreadable, Refused, refusal_line, refusal_text}
 use Rattle.hwdb_system.specs.declared.refusals.Refusal.TheVariants.{Plain}
 use Rattle.hwdb_system.specs.declared.refusals.Refusal.{Refusal}
-use Rattle.hwdb_tasks.specs.Undone.{AreKept, AreUncheckable, IsAnswerRefused, IsAskRefused, IsCheckRefused, IsListRefusedBy, IsUnreadableIf, IsUnwritable, IsUpdateRefused}
+use Rattle.hwdb_tasks.specs.Undone.{AreKept, AreUncheckable, IsAnswerRefused, IsAskRefused, IsCheckRefused, IsListRefusedBy, IsUnreadableIf, IsUnwritable}
+use Rattle.hwdb_tasks.specs.Hiding.{IsTellingUpdateRefused}
 
 -- a sink as it tells: what it took, and how many of its calls failed
 pub record Taken : Type 0 where
@@ -31,7 +32,7 @@ pub record Taken : Type 0 where
 -- a task is refused
 abbrev pub IsTaskRefused : Task → (root : List ℕ) (usr : Bool) (input : Option (List ℕ)) → Refusal → (old new : Contents) (left_before left : Outcomes) (err_before err_then out_before out_now : Option (List ℕ)) → Type 0
 IsTaskRefused (Update verbose) root usr input refusal old new left_before left err_before err_then out_before out_now =
-    IsUpdateRefused root usr verbose refusal old new left_before left err_before err_then × (out_now ≡ out_before)
+    IsTellingUpdateRefused root usr verbose refusal old new left_before left err_before err_then × (out_now ≡ out_before)
 IsTaskRefused (Query devices json) root usr input refusal old new left_before left err_before err_then out_before out_now =
     AreUnanswered root json (map string_bytes devices.items) input old refusal out_before out_now
     × (err_then ≡ err_before) × AreKept old new left_before left
@@ -118,3 +119,39 @@ pub record AreRefused (words : List (List ℕ)) (status : ℕ) (old new : Conten
   pub told : IsWordsTold fault err_before err_now out_before out_now
   pub kept : AreKept old new left_before left
   pub says : status ≡ 1
+
+-- the root that was given, below which the task looks for files, can't be read
+abbrev pub IsRootUnread : Job → Refusal → Type 0
+IsRootUnread job refusal = (root : List ℕ) × (option_map string_bytes job.root ≡ Some root) × (looks_below_root job.task ≡ true) × IsUnread root refusal
+
+-- the words ask for a job below such a root: the status is 1, the files are as they were, and standard error took the line
+pub record IsRootRefused (MayFail : (path : List ℕ) → Type 0) (words : List (List ℕ)) (status : ℕ) (old new : Contents) (left_before left : Outcomes) (err_before err_now : Taken) (out_before out_now : Option (List ℕ)) : Type 0 where
+  pub job : Job
+  pub asked : AskFor words job
+  pub refusal : Refusal
+  pub unread : IsRootUnread job refusal
+  pub reason : HasReason MayFail ⊥ old refusal
+  pub kept : AreKept old new left_before left
+  pub said : IsSaid refusal err_before err_now
+  pub out : out_now ≡ out_before
+  pub says : status ≡ 1
+
+-- The words ask for a job, and while it wrote to standard output the reader of that went away: nothing is said of it, the files
+-- are as they were, and standard output took what it does where it can't be written.
+pub record IsCutShort (gone_before gone : Type 0) (words : List (List ℕ)) (input : Option (List ℕ)) (old new : Contents) (left_before left : Outcomes) (err_before err_now out_before out_now : Option (List ℕ)) : Type 0 where
+  pub job : Job
+  pub asked : AskFor words job
+  pub refused : IsTaskRefused job.task (root_of job) job.usr input (Plain Write) old new left_before left err_before err_now out_before out_now
+  pub files : AreKept old new left_before left
+  pub reader : gone
+  -- an update writes nothing there
+  pub writes : IsUpdate job.task → gone_before
+
+-- the same of help or the version
+pub record IsTextCutShort (gone : Type 0) (words : List (List ℕ)) (old new : Contents) (err_before err_now out_before out_now : Option (List ℕ)) : Type 0 where
+  pub asked : AskForText words
+  pub text : List ℕ
+  pub prefix : AppendsPrefix out_before out_now text
+  pub files : Same old new
+  pub err : err_now ≡ err_before
+  pub reader : gone

@@ -5,14 +5,16 @@ ghost use Rattle.hwdb_spec.specs.Failures.{HasFailed};
 ghost use Rattle.hwdb_cli.specs.Refusals.{AreWrong};
 ghost use Rattle.hwdb_cli.specs.Words.{AskFor};
 ghost use Rattle.hwdb_cli.specs.declared.job.Job.{Job};
-ghost use Rattle.hwdb_tool.specs.Program.{IsDone, IsJobDone, IsTold, OldOrAskedFor, OldOrDone, reads_input, root_of};
-ghost use Rattle.hwdb_tool.specs.TaskRefusals.{AreRefused, IsJobReason, IsJobRefused, IsSaid, IsTaskRefused, refused_status};
+ghost use Rattle.hwdb_tool.specs.Program.{IsDone, IsJobDone, IsTold, IsUpdate, OldOrAskedFor, OldOrDone, looks_below_root, reads_input, root_of};
+ghost use Rattle.hwdb_tool.specs.TaskRefusals.{AreRefused, IsCutShort, IsTextCutShort, IsJobReason, IsJobRefused, IsRootRefused, IsRootUnread, IsSaid, IsTaskRefused, refused_status};
+ghost use Rattle.hwdb_system.specs.Refusals.{HasReason};
 ghost use Rattle.hwdb_system.specs.declared.refusals.Refusal.TheVariants.{Plain};
 
+use crate::outlet::Outlet;
 use hwdb_cli::{Job, Task, WordsFault, read_words};
 use hwdb_devices::{Sink, Source};
-use hwdb_system::{Refusal, System, refuse_for, refuse_text};
-use hwdb_tasks::{ask_file, check, diff, dump, explain, list, query, update, verify};
+use hwdb_system::{Refusal, Rooted, System, refuse_for, refuse_memory};
+use hwdb_tasks::{ask_file, check, diff, dump, explain, list, query, update_telling, verify};
 use hwdb_transfer::{ToolError, write_text};
 use std::alloc::Global;
 
@@ -20,7 +22,7 @@ use std::alloc::Global;
 /// `diff` finds something, or `--strict` says so, and after a refusal, whose line goes to `err`; 2 after one of `diff`.
 /// Words that the command doesn't take, and that ask for no help, are refused. Where the reader of `out` went away the
 /// status is 0, and nothing is said. Of `input` only `query -` reads.
-pub fn program<D: System, I: Source, O: Sink, E: Sink>(
+pub fn program<D: Rooted, I: Source, O: Outlet, E: Sink>(
     alloc: Global,
     words: &[String],
     system: &mut D,
@@ -39,15 +41,21 @@ pub fn program<D: System, I: Source, O: Sink, E: Sink>(
     ensures done { D.Store.tells → result ≡ 0 → IsJobDone (map string_bytes words.now) 0
         (I.left input.old) (D.Store.seen system.old) (D.Store.seen system.new)
         (D.Store.may_leave system.new)
-        (E.taken err.old) (E.taken err.new) (O.taken out.old) (O.taken out.new)
+        (E.taken err.old) (E.taken err.new) (O.Sink.taken out.old) (O.Sink.taken out.new)
         ⊎ (IsTold (map string_bytes words.now) (D.Store.seen system.old) (D.Store.seen system.new)
-        (E.taken err.old) (E.taken err.new) (O.taken out.old) (O.taken out.new)
-        ⊎ (HasFailed (E.failures err.old) (E.failures err.new)
-        ⊎ HasFailed (O.failures out.old) (O.failures out.new))) }
+        (E.taken err.old) (E.taken err.new) (O.Sink.taken out.old) (O.Sink.taken out.new)
+        ⊎ (IsCutShort (O.Outlet.reader_gone out.old) (O.Outlet.reader_gone out.new)
+        (map string_bytes words.now) (I.left input.old)
+        (D.Store.seen system.old) (D.Store.seen system.new)
+        (D.Store.may_leave system.old) (D.Store.may_leave system.new)
+        (E.taken err.old) (E.taken err.new) (O.Sink.taken out.old) (O.Sink.taken out.new)
+        ⊎ IsTextCutShort (O.Outlet.reader_gone out.new) (map string_bytes words.now)
+        (D.Store.seen system.old) (D.Store.seen system.new)
+        (E.taken err.old) (E.taken err.new) (O.Sink.taken out.old) (O.Sink.taken out.new))) }
     ensures refused { D.Store.tells → 0 < result → IsJobDone (map string_bytes words.now) result
         (I.left input.old) (D.Store.seen system.old) (D.Store.seen system.new)
         (D.Store.may_leave system.new)
-        (E.taken err.old) (E.taken err.new) (O.taken out.old) (O.taken out.new)
+        (E.taken err.old) (E.taken err.new) (O.Sink.taken out.old) (O.Sink.taken out.new)
         ⊎ (IsJobRefused (IsJobReason (D.System.may_fail system.old) (D.Store.seen system.old)
         (record { before = D.Store.failures system.old; now = D.Store.failures system.new })
         (record { before = I.failures input.old; now = I.failures input.new }))
@@ -56,17 +64,29 @@ pub fn program<D: System, I: Source, O: Sink, E: Sink>(
         (D.Store.may_leave system.old) (D.Store.may_leave system.new)
         (record { bytes = E.taken err.old; failures = E.failures err.old })
         (record { bytes = E.taken err.new; failures = E.failures err.new })
-        (O.taken out.old) (O.taken out.new)
-        ⊎ AreRefused (map string_bytes words.now) result (D.Store.seen system.old)
+        (O.Sink.taken out.old) (O.Sink.taken out.new)
+        ⊎ (AreRefused (map string_bytes words.now) result (D.Store.seen system.old)
         (D.Store.seen system.new) (D.Store.may_leave system.old) (D.Store.may_leave system.new)
         (record { bytes = E.taken err.old; failures = E.failures err.old })
         (record { bytes = E.taken err.new; failures = E.failures err.new })
-        (O.taken out.old) (O.taken out.new)) }
+        (O.Sink.taken out.old) (O.Sink.taken out.new)
+        ⊎ IsRootRefused (D.System.may_fail system.old) (map string_bytes words.now) result
+        (D.Store.seen system.old) (D.Store.seen system.new)
+        (D.Store.may_leave system.old) (D.Store.may_leave system.new)
+        (record { bytes = E.taken err.old; failures = E.failures err.old })
+        (record { bytes = E.taken err.new; failures = E.failures err.new })
+        (O.Sink.taken out.old) (O.Sink.taken out.new))) }
 {
     match read_words(alloc, words) {
-        Ok(job) => match run(alloc, &job, system, input, out, err) {
-            Ok(status) => status,
-            Err(refusal) => refuse_job(alloc, refusal, refused_status(&job.task), out, err),
+        Ok(job) => match enter_root(&job, system) {
+            Ok(()) => match run(alloc, &job, system, input, out, err) {
+                Ok(status) => status,
+                Err(refusal) => refuse_job(alloc, refusal, refused_status(&job.task), out, err),
+            },
+            Err(refusal) => {
+                refuse_for(alloc, &refusal, err);
+                1
+            }
         },
         Err(WordsFault::Help { text }) => match write_text(out, text.as_bytes()) {
             Ok(()) => 0,
@@ -77,15 +97,41 @@ pub fn program<D: System, I: Source, O: Sink, E: Sink>(
             1
         }
         Err(WordsFault::Memory) => {
-            refuse_text(err, "out of memory");
+            refuse_memory(err);
             1
         }
     }
 }
 
+/// Has the system find its files below the root that was given, if the task looks for any there. Refuses a root that
+/// can't be read.
+fn enter_root<D: Rooted>(job: &Job, system: &mut D) -> Result<(), Refusal>
+    ensures same { D.Store.tells → system.new ≡ system.old }
+    ensures refused { IfErr result (IsRootUnread job.now) }
+    ensures reason { IfErr result
+        (HasReason (D.System.may_fail system.old) ⊥ (D.Store.seen system.old)) }
+{
+    match &job.root {
+        Some(root) if looks_below_root(&job.task) => system.enter(root.as_str()),
+        _ => Ok(()),
+    }
+}
+
+/// Whether the task looks for files below the root.
+fn looks_below_root(task: &Task) -> bool
+    ensures { result ≡ looks_below_root task.now }
+{
+    match task {
+        Task::Ask { .. } | Task::Diff { .. } => false,
+        Task::Check { files } => files.is_empty(),
+        Task::Verify { database } | Task::Dump { database } => database.is_none(),
+        _ => true,
+    }
+}
+
 /// Writes the line of the refusal, and returns the status. Where `out` failed the line says so; but where its
 /// reader went away, as `head` does, nothing is said, and the status is 0.
-fn refuse_job<O: Sink, E: Sink>(
+fn refuse_job<O: Outlet, E: Sink>(
     alloc: Global,
     refusal: Refusal,
     status: u8,
@@ -95,6 +141,7 @@ fn refuse_job<O: Sink, E: Sink>(
     requires { 0 < status }
     ensures status { (result ≡ 0) ⊎ (result ≡ status) }
     ensures said { result ≡ 0 → refusal ≡ Plain ToolError.Write }
+    ensures gone { result ≡ 0 → O.reader_gone out.now }
     ensures quiet { result ≡ 0 → err.new ≡ err.old }
     ensures line { 0 < result → IsSaid refusal
         (record { bytes = E.taken err.old; failures = E.failures err.old })
@@ -102,13 +149,13 @@ fn refuse_job<O: Sink, E: Sink>(
 {
     match (refusal, out.cause()) {
         (Refusal::Plain(ToolError::Write), Some(cause)) => {
-            if cause.is_broken_pipe() {
+            if out.is_reader_gone() {
                 return 0;
             }
             let refusal = Refusal::write(alloc, b"standard output", Some(cause));
-            refuse_for(&refusal, err);
+            refuse_for(alloc, &refusal, err);
         }
-        (refusal, _) => refuse_for(&refusal, err),
+        (refusal, _) => refuse_for(alloc, &refusal, err),
     }
     status
 }
@@ -139,6 +186,7 @@ fn run<D: System, I: Source, O: Sink, E: Sink>(
         → spec.LeavesOnly D.Store.moment D.Store.left_since system.old system.new
         (OldOrDone job.now (D.Store.seen system.old) (D.Store.may_leave system.old)) }
     ensures unread { reads_input job.now.task ≡ false → input.new ≡ input.old }
+    ensures update { IsUpdate job.now.task → out.new ≡ out.old }
     ensures done { D.Store.tells → IfOk result (λ status. IsDone job.now status
         (I.left input.old) (D.Store.seen system.old) (D.Store.seen system.new)
         (D.Store.may_leave system.new)
@@ -162,7 +210,7 @@ fn run<D: System, I: Source, O: Sink, E: Sink>(
     let root = root_of(job);
     match &job.task {
         Task::Update { verbose } => {
-            return update(alloc, root, job.usr, job.strict, *verbose, system, err);
+            return update_telling(alloc, root, job.usr, job.strict, *verbose, system, err);
         }
         Task::Query { devices, json } => {
             query(alloc, root, devices, *json, system, input, out)?

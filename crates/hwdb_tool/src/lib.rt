@@ -11,6 +11,7 @@
 
 mod dispatch;
 mod laws;
+mod outlet;
 
 pub use dispatch::program;
 pub use hwdb_cli::{Job, Task, WordsFault, read_words};
@@ -19,3 +20,4 @@ pub use hwdb_devices::{Cause, DeviceFailed, FromRead, Sink, Source, ToWrite, tes
 pub use hwdb_system::{Refusal, System, SystemStore};
 pub use hwdb_transfer::{ToolError, read_all, write_text};
 pub use laws::update_then_query;
+pub use outlet::Outlet;

@@ -9,9 +9,9 @@ use std::process::Abort;
 use std::test::Fail;
 
 /// Compares the line of a refusal.
-fn says(rt: &impl Abort, refusal: &Refusal, line: &str) {
+fn says(rt: &impl Abort, alloc: Global, refusal: &Refusal, line: &str) {
     let mut err: MemorySink<256> = MemorySink::new();
-    refuse_for(refusal, &mut err);
+    refuse_for(alloc, refusal, &mut err);
     assert_eq!(rt; err.taken(), line.as_bytes(), "{line}");
 }
 
@@ -38,9 +38,9 @@ fn without_a_path(rt: HostRuntime) {
         (ToolError::Memory, "hwdb: out of memory\n"),
     ];
     for (error, line) in rows {
-        says(&rt, &Refusal::from(error), line);
+        says(&rt, rt.alloc(), &Refusal::from(error), line);
     }
-    says(&rt, &Refusal::NoDatabase, "hwdb: no database\n");
+    says(&rt, rt.alloc(), &Refusal::NoDatabase, "hwdb: no database\n");
 }
 
 #[test]
@@ -62,7 +62,12 @@ fn of_a_database(rt: HostRuntime) {
         ),
     ];
     for (fault, line) in rows {
-        says(&rt, &Refusal::from(ToolError::BadDatabase(fault)), line);
+        says(
+            &rt,
+            rt.alloc(),
+            &Refusal::from(ToolError::BadDatabase(fault)),
+            line,
+        );
     }
 }
 
@@ -75,7 +80,7 @@ fn says_of(
     cause: Option<Cause>,
     line: &str,
 ) {
-    says(rt, &Refusal::at(alloc, error, path, cause), line);
+    says(rt, alloc, &Refusal::at(alloc, error, path, cause), line);
 }
 
 /// Of a path, with its cause; and which cause is that of a pipe whose reader went away.
@@ -143,12 +148,12 @@ fn over_a_path(rt: HostRuntime) -> Result<(), Fail> {
         (
             ToolError::BadDatabase(DbFault::KeyOrder(7)),
             None,
-            "hwdb: /x/y: bad database: B10 at 7\n",
+            "hwdb: bad database: B10 at 7: /x/y: make it anew with 'hwdb update'\n",
         ),
         (
             ToolError::BadDatabase(DbFault::Signature),
             None,
-            "hwdb: /x/y: bad database: B2\n",
+            "hwdb: bad database: B2: /x/y: make it anew with 'hwdb update'\n",
         ),
         // Of this the path isn't said.
         (ToolError::BadPosition, None, "hwdb: bad position\n"),

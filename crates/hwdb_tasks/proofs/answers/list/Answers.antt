@@ -1,26 +1,16 @@
-use Rattle.std.proofs.Common.{◌∙◌, ap, inr, subst, sym, true, false, Err, IfErr, Some}
-use Rattle.std.specs.Prelude.{option_map}
-use Rattle.hwdb_tasks.specs.Done.{IsListFrom}
-use Rattle.hwdb_tasks.specs.Undone.{IsAnswerRefused, IsListRefusedBy}
-use Rattle.hwdb_tasks.proofs.AnswerLemmas.{list_cut, list_json_cut, list_refused, unanswered}
+use Rattle.std.proofs.Common.{◌∙◌, ap, inr, string_bytes, subst, sym, Some}
+use Rattle.hwdb_system.specs.Refusals.{IsOfDatabase}
 use Rattle.hwdb_tasks.proofs.answers.list.Goals as goal
 
-pub returns-in_err-run_list_json-clause-refused : goal.returns-in_err-run_list_json-clause-refused
-returns-in_err-run_list_json-clause-refused g c = λ tells.
-    let root = c.args.root.now in
-    let seen = g.D.Store.seen c.args.system.now in
-    subst (λ b. IfErr c.from_residual-in_err-run_list_json.result (λ r. IsAnswerRefused root (IsListRefusedBy (option_map (λ t. t.now) c.args.after)) (IsListFrom b c.args.device.now (option_map (λ t. t.now) c.args.after) c.args.limit) seen r (g.O.Sink.taken c.args.out.now) (g.O.Sink.taken c.run_list_json.new.out))) (sym c.if-json.true)
-    (unanswered g.O.Sink.taken c.args.out.now c.run_list_json.new.out root (IsListRefusedBy (option_map (λ t. t.now) c.args.after)) (IsListFrom true c.args.device.now (option_map (λ t. t.now) c.args.after) c.args.limit) seen c.deref.result.now c.in_err-run_list_json.field-0.0
-    (c.in_ok-found.ensures.asked tells ∙ ap Some (sym c.deref.ensures.value)) (list_refused c.args.after c.deref.result.now _ c.in_err-run_list_json.ensures.refusals) c.in_err-run_list_json.ensures.untouched
-    (λ w. inr (list_json_cut _ _ _ _ _ _ (c.in_err-run_list_json.ensures.cut_short (ap Err w))))
-    c.from_residual-in_err-run_list_json.result c.from_residual-in_err-run_list_json.ensures.1)
-
-pub returns-in_err-run_list-clause-refused : goal.returns-in_err-run_list-clause-refused
-returns-in_err-run_list-clause-refused g c = λ tells.
-    let root = c.args.root.now in
-    let seen = g.D.Store.seen c.args.system.now in
-    subst (λ b. IfErr c.from_residual-in_err-run_list.result (λ r. IsAnswerRefused root (IsListRefusedBy (option_map (λ t. t.now) c.args.after)) (IsListFrom b c.args.device.now (option_map (λ t. t.now) c.args.after) c.args.limit) seen r (g.O.Sink.taken c.args.out.now) (g.O.Sink.taken c.run_list.new.out))) (sym c.if-json.false)
-    (unanswered g.O.Sink.taken c.args.out.now c.run_list.new.out root (IsListRefusedBy (option_map (λ t. t.now) c.args.after)) (IsListFrom false c.args.device.now (option_map (λ t. t.now) c.args.after) c.args.limit) seen c.deref-else-json.result.now c.in_err-run_list.field-0.0
-    (c.in_ok-found.ensures.asked tells ∙ ap Some (sym c.deref-else-json.ensures.value)) (list_refused c.args.after c.deref-else-json.result.now _ c.in_err-run_list.ensures.refusals) c.in_err-run_list.ensures.untouched
-    (λ w. inr (list_cut _ _ _ _ _ _ (c.in_err-run_list.ensures.cut_short (ap Err w))))
-    c.from_residual-in_err-run_list.result c.from_residual-in_err-run_list.ensures.1)
+pub returns-clause-refused : goal.returns-clause-refused
+returns-clause-refused g c = λ tells. inr record {
+  path = string_bytes c.in_ok-found.found.path;
+  bytes = c.deref.result.now;
+  at = c.in_ok-found.ensures.path tells;
+  asked = c.in_ok-found.ensures.asked tells ∙ ap Some (sym c.deref.ensures.value);
+  error = c.in-Err.error;
+  is = subst (λ p. IsOfDatabase c.in-Err.error p c.of_database.result) c.as_bytes.ensures.value c.of_database.ensures.is;
+  refused = c.in-Err.ensures.refusals;
+  untouched = λ w m. ap g.O.Sink.taken (c.in-Err.ensures.untouched w m);
+  cut_short = λ w. inr (c.in-Err.ensures.cut_short w);
+}

@@ -1,8 +1,11 @@
-use Rattle.std.proofs.Common.{◌≡◌, ◌∙◌, ◌++◌, ap, subst, map, option_map, string_bytes, List, ℕ}
+use Rattle.std.proofs.Common.{◌≡◌, ◌∙◌, ◌++◌, ap, subst, map, option_map, string_bytes, List, ℕ, inl, inr, ⊎_elim}
 use Rattle.std.specs.Io.KnownBytes.{Appends}
 use Rattle.hwdb_compile.specs.Views.{fault_of}
 use Rattle.hwdb_spec.specs.Progress.{progress_text, update_text}
 use Rattle.hwdb_spec.specs.Texts.{faults_text}
+use Rattle.hwdb_commands.specs.Updates.{OldOrWritten}
+use Rattle.hwdb_spec.specs.Store.{OldOrNew}
+use Rattle.hwdb_tasks.proofs.MomentLemmas.{leaves_more}
 use Rattle.hwdb_tasks.proofs.UpdateLemmas.{unreplaced_of}
 use Rattle.hwdb_tasks.proofs.updates.update_files.Goals as goal
 
@@ -24,3 +27,15 @@ returns-clause-unreplaced g c =
       seen = seen;
       left = left;
     })
+
+pub returns-clause-any_moment : goal.returns-clause-any_moment
+returns-clause-any_moment g c = λ tells etc usr of.
+    let seen = g.S.Store.seen c.args.store.now in
+    let left = g.S.Store.may_leave c.args.store.now in
+    let database = c.in_ok-compiled.compiled.database.items in
+    leaves_more g.S.Store.moment g.S.Store.left_since c.args.store.now c.put_in_place.new.store
+    (OldOrNew c.args.folder.now database seen left) (OldOrWritten etc usr c.args.folder.now seen left)
+    (λ p v now. ⊎_elim (λ old. inl old) (λ other. ⊎_elim
+    (λ new. inr (inl (database, c.in_ok-compiled.ensures.database etc usr of, c.in_ok-compiled.ensures.checked etc usr of, new.0, new.1)))
+    (λ part. inr (inr part)) other) now)
+    (c.put_in_place.ensures.any_moment tells)

@@ -1,27 +1,102 @@
-use Rattle.std.proofs.Common.{inl, inr, ⊎_elim, ◌∙◌, arith, refl, []}
+use Rattle.std.proofs.Common.{inl, inr, ⊎_elim, ◌∙◌, arith, refl, [], subst, sym, map, string_bytes}
 use Rattle.hwdb_cli.specs.declared.job.WordsFault.TheVariants as words_fault
-use Rattle.hwdb_transfer.specs.declared.errors.ToolError.TheVariants.{Memory}
+use Rattle.hwdb_spec.specs.Store.{LeavesOnly}
+use Rattle.hwdb_transfer.specs.declared.errors.ToolError.TheVariants.{Memory, Write}
 use Rattle.hwdb_system.specs.declared.refusals.Refusal.TheVariants.{Plain}
+use Rattle.hwdb_system.specs.declared.refusals.Refusal.{Refusal}
+use Rattle.hwdb_tasks.specs.Undone.{AreKept}
+use Rattle.hwdb_tool.specs.Program.{OldOrAskedFor, OldOrDone, root_of}
+use Rattle.hwdb_tool.specs.TaskRefusals.{IsJobReason, IsTaskRefused}
+use Rattle.hwdb_tool.proofs.MomentLemmas.{leaves_more, leaves_old}
+use Rattle.hwdb_tool.proofs.CutLemmas.{cut_keeps}
 use Rattle.hwdb_tool.proofs.dispatch.program.Goals as goal
 
+pub returns-in-Ok-enter_root-clause-refused : goal.returns-in-Ok-enter_root-clause-refused
+returns-in-Ok-enter_root-clause-refused g c = λ tells is.
+    let job = c.in-Ok.job in
+    let refusal = c.in-Err-run.refusal in
+    inr (inl record {
+      job = job;
+      asked = c.in-Ok.ensures.job;
+      refusal = refusal;
+      err_then = record { bytes = g.E.Sink.taken c.run.new.err; failures = g.E.Sink.failures c.run.new.err };
+      refused = subst (λ (s : g.row.D.Denot). IsTaskRefused job.task (root_of job) job.usr (g.I.Source.left c.args.input.now) refusal
+          (g.D.Store.seen s) (g.D.Store.seen c.run.new.system) (g.D.Store.may_leave s) (g.D.Store.may_leave c.run.new.system)
+          (g.E.Sink.taken c.args.err.now) (g.E.Sink.taken c.run.new.err) (g.O.Sink.taken c.args.out.now) (g.O.Sink.taken c.run.new.out)) (c.enter_root.ensures.same tells) (c.in-Err-run.ensures.refused tells);
+      reason = subst (λ (s : g.row.D.Denot). IsJobReason (g.D.System.may_fail s) (g.D.Store.seen s)
+          (record { before = g.D.Store.failures s; now = g.D.Store.failures c.run.new.system })
+          (record { before = g.I.Source.failures c.args.input.now; now = g.I.Source.failures c.run.new.input }) job refusal) (c.enter_root.ensures.same tells) (c.in-Err-run.ensures.reason tells);
+      unfailed = c.in-Err-run.ensures.unfailed;
+      said = c.refuse_job.ensures.line is;
+      says = ⊎_elim (λ none. absurd (let h = none in omega (arith, is, h))) (λ same. same ∙ c.refused_status.ensures.is) c.refuse_job.ensures.status;
+    })
+
 pub returns-in-Ok-clause-refused : goal.returns-in-Ok-clause-refused
-returns-in-Ok-clause-refused g c = λ tells is. inr (inl record {
+returns-in-Ok-clause-refused g c = λ tells is. inr (inr (inr record {
   job = c.in-Ok.job;
   asked = c.in-Ok.ensures.job;
   refusal = c.in-Err.refusal;
-  err_then = record { bytes = g.E.Sink.taken c.run.new.err; failures = g.E.Sink.failures c.run.new.err };
-  refused = c.in-Err.ensures.refused tells;
-  reason = c.in-Err.ensures.reason tells;
-  unfailed = c.in-Err.ensures.unfailed;
-  said = c.refuse_job.ensures.line is;
-  says = ⊎_elim (λ none. absurd (let h = none in omega (arith, is, h))) (λ same. same ∙ c.refused_status.ensures.is) c.refuse_job.ensures.status;
-})
+  unread = c.in-Err.ensures.refused;
+  reason = c.in-Err.ensures.reason;
+  kept = subst (λ (s : g.row.D.Denot). AreKept (g.D.Store.seen c.args.system.now) (g.D.Store.seen s) (g.D.Store.may_leave c.args.system.now) (g.D.Store.may_leave s))
+      (sym (c.enter_root.ensures.same tells)) (record { same = λ p. refl; no_more = λ p v l. l });
+  said = record { said = c.in-Err.refusal; of = inl refl; words = c.refuse_for.ensures.0; line = c.refuse_for.ensures.1 };
+  out = refl;
+  says = refl;
+}))
 
 pub returns-clause-refused : goal.returns-clause-refused
-returns-clause-refused g c = λ tells is. inr (inr record {
+returns-clause-refused g c = λ tells is. inr (inr (inl record {
   fault = words_fault.Memory;
   of = tt;
-  told = (record { said = Plain Memory; of = inl refl; words = []; line = c.refuse_text.ensures }, refl);
+  told = (record { said = Plain Memory; of = inl refl; words = []; line = c.refuse_memory.ensures }, refl);
   kept = record { same = λ p. refl; no_more = λ p v l. l };
   says = refl;
-})
+}))
+
+pub returns-in-Ok-enter_root-clause-done : goal.returns-in-Ok-enter_root-clause-done
+returns-in-Ok-enter_root-clause-done g c = λ tells is.
+    let job = c.in-Ok.job in
+    let plain = subst (λ (r : Refusal). IsTaskRefused job.task (root_of job) job.usr (g.I.Source.left c.args.input.now) r
+    (g.D.Store.seen c.enter_root.new.system) (g.D.Store.seen c.run.new.system) (g.D.Store.may_leave c.enter_root.new.system) (g.D.Store.may_leave c.run.new.system)
+    (g.E.Sink.taken c.args.err.now) (g.E.Sink.taken c.run.new.err) (g.O.Sink.taken c.args.out.now) (g.O.Sink.taken c.run.new.out)) (c.refuse_job.ensures.said is) (c.in-Err-run.ensures.refused tells) in
+    let same = subst (λ (s : g.row.D.Denot). IsTaskRefused job.task (root_of job) job.usr (g.I.Source.left c.args.input.now) (Plain Write)
+    (g.D.Store.seen s) (g.D.Store.seen c.run.new.system) (g.D.Store.may_leave s) (g.D.Store.may_leave c.run.new.system)
+    (g.E.Sink.taken c.args.err.now) (g.E.Sink.taken c.run.new.err) (g.O.Sink.taken c.args.out.now) (g.O.Sink.taken c.run.new.out)) (c.enter_root.ensures.same tells) plain in
+    inr (inr (inl record {
+      job = job;
+      asked = c.in-Ok.ensures.job;
+      refused = subst (λ (e : _). IsTaskRefused job.task (root_of job) job.usr (g.I.Source.left c.args.input.now) (Plain Write)
+          (g.D.Store.seen c.args.system.now) (g.D.Store.seen c.run.new.system) (g.D.Store.may_leave c.args.system.now) (g.D.Store.may_leave c.run.new.system)
+          (g.E.Sink.taken c.args.err.now) (g.E.Sink.taken e) (g.O.Sink.taken c.args.out.now) (g.O.Sink.taken c.run.new.out)) (sym (c.refuse_job.ensures.quiet is)) same;
+      files = cut_keeps _ _ _ _ _ _ _ _ _ _ _ job.task same;
+      reader = c.refuse_job.ensures.gone is;
+      writes = λ update. subst g.O.Outlet.reader_gone (c.run.ensures.update update) (c.refuse_job.ensures.gone is);
+    }))
+
+pub returns-in-Ok-run-clause-any_moment : goal.returns-in-Ok-run-clause-any_moment
+returns-in-Ok-run-clause-any_moment g c = λ tells.
+    let words = map string_bytes c.args.words.now in
+    let seen = g.D.Store.seen c.enter_root.new.system in
+    let left = g.D.Store.may_leave c.enter_root.new.system in
+    subst (λ (s : g.row.D.Denot). LeavesOnly g.D.Store.moment g.D.Store.left_since s c.run.new.system (OldOrAskedFor words (g.D.Store.seen s) (g.D.Store.may_leave s))) (c.enter_root.ensures.same tells)
+    (leaves_more g.D.Store.moment g.D.Store.left_since c.enter_root.new.system c.run.new.system
+    (OldOrDone c.in-Ok.job seen left) (OldOrAskedFor words seen left)
+    (λ p v now. inr (c.in-Ok.job, c.in-Ok.ensures.job, c.in-Ok.ensures.whole, now)) (c.run.ensures.any_moment tells))
+
+pub returns-in-Ok-enter_root-clause-any_moment : goal.returns-in-Ok-enter_root-clause-any_moment
+returns-in-Ok-enter_root-clause-any_moment g c = λ tells.
+    let words = map string_bytes c.args.words.now in
+    let seen = g.D.Store.seen c.enter_root.new.system in
+    let left = g.D.Store.may_leave c.enter_root.new.system in
+    subst (λ (s : g.row.D.Denot). LeavesOnly g.D.Store.moment g.D.Store.left_since s c.run.new.system (OldOrAskedFor words (g.D.Store.seen s) (g.D.Store.may_leave s))) (c.enter_root.ensures.same tells)
+    (leaves_more g.D.Store.moment g.D.Store.left_since c.enter_root.new.system c.run.new.system
+    (OldOrDone c.in-Ok.job seen left) (OldOrAskedFor words seen left)
+    (λ p v now. inr (c.in-Ok.job, c.in-Ok.ensures.job, c.in-Ok.ensures.whole, now)) (c.run.ensures.any_moment tells))
+
+pub returns-in-Ok-clause-any_moment : goal.returns-in-Ok-clause-any_moment
+returns-in-Ok-clause-any_moment g c = λ tells.
+    let before = c.args.system.now in
+    let outcomes = OldOrAskedFor (map string_bytes c.args.words.now) (g.D.Store.seen before) (g.D.Store.may_leave before) in
+    subst (λ (s : g.row.D.Denot). LeavesOnly g.D.Store.moment g.D.Store.left_since before s outcomes) (sym (c.enter_root.ensures.same tells))
+    (leaves_old g.D.Store.moment g.D.Store.left_since before outcomes (λ p v l. inl (g.met.D.Store.only_now before p v l)))

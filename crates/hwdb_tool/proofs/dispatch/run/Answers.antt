@@ -15,22 +15,22 @@ pub returns-in-Update-clause-any_moment : goal.returns-in-Update-clause-any_mome
 returns-in-Update-clause-any_moment g c = λ tells.
     let seen = g.D.Store.seen c.args.system.now in
     let left = g.D.Store.may_leave c.args.system.now in
-    leaves_more g.D.Store.moment g.D.Store.left_since c.args.system.now c.update.new.system
+    leaves_more g.D.Store.moment g.D.Store.left_since c.args.system.now c.update_telling.new.system
     (OldOrUpdated c.root_of-root.result.now c.args.job.now.usr seen left) (OldOrDone c.args.job.now seen left)
     (λ p v now. ⊎_elim (λ was. inl was) (λ l. inr ((c.in-Update.verbose, c.in-Update.is), subst (λ r. IsLeftByUpdate r c.args.job.now.usr seen p v) c.root_of-root.ensures l)) now)
-    (c.update.ensures.any_moment tells)
+    (c.update_telling.ensures.any_moment tells)
 
 pub returns-in-Update-clause-reason : goal.returns-in-Update-clause-reason
 returns-in-Update-clause-reason g c = λ tells.
     let job = c.args.job.now in
     let seen = g.D.Store.seen c.args.system.now in
     let fails = g.D.System.may_fail c.args.system.now in
-    let files : Counts = record { before = g.D.Store.failures c.args.system.now; now = g.D.Store.failures c.update.new.system } in
+    let files : Counts = record { before = g.D.Store.failures c.args.system.now; now = g.D.Store.failures c.update_telling.new.system } in
     let input : Counts = record { before = g.I.Source.failures c.args.input.now; now = g.I.Source.failures c.args.input.now } in
-    each_error _ (IsJobReason fails seen files input job) c.update.result
+    each_error _ (IsJobReason fails seen files input job) c.update_telling.result
     (λ r has. inl (subst (λ t. HasReason (IsUnreadableFor t fails seen) (IsUnwritable (database_folder job.usr (root_of job)) seen files.before files.now) seen r) (sym c.in-Update.is)
     (subst (λ root. HasReason fails (IsUnwritable (database_folder job.usr root) seen files.before files.now) seen r) c.root_of-root.ensures has)))
-    (c.update.ensures.reason tells)
+    (c.update_telling.ensures.reason tells)
 
 pub returns-in_err-list-in-List-clause-refused : goal.returns-in_err-list-in-List-clause-refused
 returns-in_err-list-in-List-clause-refused g c = λ tells.

@@ -1,0 +1,24 @@
+-- A task that is refused since an output failed changes nothing.
+use Rattle.std.proofs.Common.{⊎_elim, ℕ, Bool, List, Option}
+use Rattle.hwdb_cli.specs.declared.job.Task.{Task}
+use Rattle.hwdb_cli.specs.declared.job.Task.TheVariants.{Ask, Check, Diff, Dump, Explain, List as ListHits, Query, Update, Verify}
+use Rattle.hwdb_spec.specs.Store.{Contents, Outcomes}
+use Rattle.hwdb_system.specs.declared.refusals.Refusal.TheVariants.{Plain}
+use Rattle.hwdb_tasks.specs.Undone.{AreKept}
+use Rattle.hwdb_tool.specs.TaskRefusals.{IsTaskRefused}
+use Rattle.hwdb_transfer.specs.declared.errors.ToolError.TheVariants.{Write}
+
+module _ (root : List ℕ) (usr : Bool) (input : Option (List ℕ)) (old new : Contents) (left_before left : Outcomes) (err_before err_then out_before out_now : Option (List ℕ)) where
+  abbrev Refused : Task → Type 0
+  Refused task = IsTaskRefused task root usr input (Plain Write) old new left_before left err_before err_then out_before out_now
+
+  pub cut_keeps : (task : Task) → Refused task → AreKept old new left_before left
+  cut_keeps (Update verbose) r = ⊎_elim (λ untold. untold.1) (λ told. ⊎_elim (λ unread. unread.1) (λ undone. ⊎_elim (λ uncompiled. uncompiled.kept) (λ unwritten. absurd unwritten.is) undone.refused) told.refused) r.0
+  cut_keeps (Query devices json) r = r.2
+  cut_keeps (Explain device json) r = r.2
+  cut_keeps (ListHits after limit device json) r = r.2
+  cut_keeps (Ask file device) r = r.1
+  cut_keeps (Check files) r = r.2
+  cut_keeps (Diff old_path new_path) r = r.2
+  cut_keeps (Verify database) r = r.2
+  cut_keeps (Dump database) r = r.2
