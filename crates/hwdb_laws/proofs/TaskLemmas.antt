@@ -1,0 +1,194 @@
+-- Each task is a function.
+use Rattle.std.proofs.Common.{◌≡◌, ◌∙◌, ap, refl, sym, subst, Bool, true, false, if◌then◌else◌, List, [], ◌∷◌, ◌++◌, map, length, ℕ, Option, Some, None, string_bytes}
+use Rattle.std.specs.Prelude.{option_map}
+use Rattle.std.specs.Option.{option_map_or}
+use Rattle.std.specs.Io.KnownBytes.{Appends}
+use Rattle.hwdb_cli.specs.declared.job.Task.{Task}
+use Rattle.hwdb_cli.specs.declared.job.Task.TheVariants.{Ask, Check, Diff, Dump, Explain, List as ListHits, Query, Update, Verify}
+use Rattle.hwdb_commands.specs.Updates.{AreAskTexts}
+use Rattle.hwdb_inspect.specs.Diffs.{IsDiffText, IsDifferent}
+use Rattle.hwdb_spec.specs.Assignment.{Position}
+use Rattle.hwdb_spec.specs.Checks.{check_status, check_text, empty_tally, tally_from}
+use Rattle.hwdb_spec.specs.Differences.{diff_text, differ}
+use Rattle.hwdb_spec.specs.Dump.{dump_text}
+use Rattle.hwdb_spec.specs.Folders.{Choice, Source, choice, faults_of_files, path_of}
+use Rattle.hwdb_spec.specs.Format.{IsDatabase}
+use Rattle.hwdb_spec.specs.Hiding.{hiding_text}
+use Rattle.hwdb_spec.specs.Progress.{listing, update_text}
+use Rattle.hwdb_spec.specs.Store.{Contents, Outcomes}
+use Rattle.hwdb_spec.specs.System.{asked_database, bytes_at, database_folder}
+use Rattle.hwdb_spec.specs.Texts.{devices_of, faults_text_at, query_text}
+use Rattle.hwdb_spec.specs.Tree.{Map, Tree, map_of_files}
+use Rattle.hwdb_spec.specs.Written.{IsWritten}
+use Rattle.hwdb_query.specs.Laws.{SpellsOne}
+use Rattle.hwdb_stream.specs.Streams.{texts_of}
+use Rattle.hwdb_tasks.specs.CheckedFiles.{AreCheckedFiles}
+use Rattle.hwdb_tasks.specs.ComparedDatabases.{IsCompared}
+use Rattle.hwdb_tasks.specs.Done.{IsAnswered, IsAsked, IsFrom, IsListFrom, explain_form, list_form}
+use Rattle.hwdb_tasks.specs.NamedDatabases.{IsPrinted, IsSummary, named_database}
+use Rattle.hwdb_tasks.specs.Queries.{AreAnsweredFrom, is_input}
+use Rattle.hwdb_transfer.specs.Databases.{IsTextOf}
+use Rattle.hwdb_transfer.specs.LoneFile.{lone}
+use Rattle.hwdb_laws.specs.Laws.{IsFunction, ListingsGiveOneChoice, ListingsGiveOneReading}
+use Rattle.hwdb_laws.proofs.OutcomeLemmas.{one_answer, one_held, one_kept, one_map, one_place, one_said, one_status, one_taken, one_taken_then, one_text}
+
+first_or : {X : Type 0} → X → List X → X
+first_or d [] = d
+first_or d (x ∷ xs) = x
+
+rest_of : {X : Type 0} → List X → List X
+rest_of [] = []
+rest_of (x ∷ xs) = xs
+
+inside : Option (List ℕ) → List ℕ
+inside o = option_map_or (λ (b : List ℕ). b) o []
+
+one_sources : (xs ys : List Source) → map (λ (s : Source). s.name) xs ≡ map (λ (s : Source). s.name) ys → map (λ (s : Source). Some s.bytes) xs ≡ map (λ (s : Source). Some s.bytes) ys → xs ≡ ys
+unfolding inside first_or rest_of
+one_sources [] [] n b = refl
+one_sources [] (y ∷ ys) n b = cc
+one_sources (x ∷ xs) [] n b = cc
+one_sources (x ∷ xs) (y ∷ ys) n b =
+    let name : x.name ≡ y.name = ap (λ (l : List (List ℕ)). first_or [] l) n in
+    let bytes : x.bytes ≡ y.bytes = ap (λ (l : List (Option (List ℕ))). inside (first_or None l)) b in
+    let one : Source = record { name = x.name; bytes = x.bytes } in
+    let more : xs ≡ ys = one_sources xs ys (ap (λ (l : List (List ℕ)). rest_of l) n) (ap (λ (l : List (Option (List ℕ))). rest_of l) b) in
+    ap (λ (m : List ℕ). (let s : Source = record { name = m; bytes = x.bytes } in s ∷ xs)) name
+    ∙ ap (λ (m : List ℕ). (let s : Source = record { name = y.name; bytes = m } in s ∷ xs)) bytes
+    ∙ ap (λ (l : List Source). y ∷ l) more
+
+module _ (tree : (bytes : List ℕ) (t u : Tree) → IsDatabase bytes t → IsDatabase bytes u → t ≡ u)
+    (form : (m : Map) (a b : List ℕ) → IsWritten m a → IsWritten m b → a ≡ b)
+    (spells : SpellsOne) (one_choice : ListingsGiveOneChoice) (one_reading : ListingsGiveOneReading) where
+  output : (from_input : Bool) (root : List ℕ) (json : Bool) (devices : List (List ℕ)) (input : List ℕ) (files : Contents)
+      (before : List ℕ) (now now2 : Option (List ℕ)) → AreAnsweredFrom from_input root json devices (Some input) files (Some before) now
+      → AreAnsweredFrom from_input root json devices (Some input) files (Some before) now2 → now ≡ now2
+  output false root json devices input files before now now2 one two = one_answer tree root (texts_of json devices) files before now now2 one two
+  output true root json devices input files before now now2 one two = one_answer tree root (texts_of json (devices_of input)) files before now now2 one two
+
+  from : (after : Option (List ℕ)) (p q : Option Position) → IsFrom after p → IsFrom after q → p ≡ q
+  from None None None one two = refl
+  from None None (Some q) one two = absurd two
+  from None (Some p) q one two = absurd one
+  from (Some text) None q one two = absurd one
+  from (Some text) (Some p) None one two = absurd two
+  from (Some text) (Some p) (Some q) one two = ap Some (spells p q text one two)
+
+  hits : (root : List ℕ) (json : Bool) (device : List ℕ) (after : Option (List ℕ)) (limit : Option ℕ) (files : Contents) (before : List ℕ) (now now2 : Option (List ℕ))
+      → IsAnswered root (IsListFrom json device after limit) files (Some before) now → IsAnswered root (IsListFrom json device after limit) files (Some before) now2 → now ≡ now2
+  hits root json device after limit files before now now2 one two =
+      let a = one.printed.is in
+      let b = two.printed.is in
+      let here = from after b.from a.from b.spelled a.spelled in
+      one_taken before now now2 one.printed.text two.printed.text
+      (one_text tree (list_form json device a.from limit) one.bytes two.bytes one.printed.text two.printed.text
+      (one_held (asked_database root files) one.bytes two.bytes one.asked two.asked) a.is
+      (subst (λ (p : Option Position). IsTextOf (list_form json device p limit) two.bytes two.printed.text) here b.is)) one.printed.taken two.printed.taken
+
+  sources : (given : List (List ℕ)) (root : List ℕ) (files : Contents) (xs ys : List Source) → AreCheckedFiles given root files xs → AreCheckedFiles given root files ys → xs ≡ ys
+  sources [] root files xs ys one two =
+      let same : choice one.etc one.usr ≡ choice two.etc two.usr = one_choice root files one.etc one.usr two.etc two.usr one.in_etc one.in_usr two.in_etc two.in_usr in
+      one_sources xs ys (one.named ∙ ap (λ (cs : List Choice). map path_of cs) same ∙ sym two.named)
+      (one.held ∙ ap (λ (cs : List Choice). map (λ c. bytes_at files (root ++ path_of c)) cs) same ∙ sym two.held)
+  sources (path ∷ more) root files xs ys one two = one_sources xs ys (one.named ∙ sym two.named) (one.held ∙ sym two.held)
+
+  module _ (left left2 : Outcomes) where
+    pub each : (task : Task) → IsFunction left left2 task
+    each (Update verbose) = λ root usr strict status status2 input old new new2 err_before out_before err err2 out out2 one two.
+        let a = one.0.updated in
+        let b = two.0.updated in
+        let reading = one_reading root old a.of_etc a.of_usr b.of_etc b.of_usr a.in_etc a.in_usr b.in_etc b.in_usr in
+        let same = form (map_of_files a.of_etc a.of_usr) a.updated.database b.updated.database a.updated.written
+        (subst (λ m. IsWritten m b.updated.database) (sym (one_map a.of_etc a.of_usr b.of_etc b.of_usr reading)) b.updated.written) in
+        record {
+          one_status = a.updated.answer ∙ one_status a.of_etc a.of_usr b.of_etc b.of_usr reading strict ∙ sym b.updated.answer;
+          one_files = one_place (database_folder usr root) a.updated.database b.updated.database old new new2 left left2 same a.updated.stored b.updated.stored;
+          one_err = one_taken_then err_before one.0.err_then two.0.err_then err err2 (hiding_text usr verbose root old)
+              (update_text (listing verbose a.of_usr) a.of_etc a.of_usr) (update_text (listing verbose b.of_usr) b.of_etc b.of_usr)
+              (one_said a.of_etc a.of_usr b.of_etc b.of_usr reading verbose) one.0.told two.0.told a.updated.told b.updated.told;
+          one_out = one.1 ∙ sym two.1;
+        }
+    each (Query devices json) = λ root usr strict status status2 input old new new2 err_before out_before err err2 out out2 one two. record {
+      one_status = one.1.0 ∙ sym two.1.0;
+      one_files = one_kept (database_folder usr root) old new new2 one.1.1 two.1.1;
+      one_err = one.1.2 ∙ sym two.1.2;
+      one_out = output (is_input (map string_bytes devices.items)) root json (map string_bytes devices.items) input old out_before out out2 one.0 two.0;
+    }
+    each (Explain device json) = λ root usr strict status status2 input old new new2 err_before out_before err err2 out out2 one two. record {
+      one_status = one.1.0 ∙ sym two.1.0;
+      one_files = one_kept (database_folder usr root) old new new2 one.1.1 two.1.1;
+      one_err = one.1.2 ∙ sym two.1.2;
+      one_out = one_answer tree root (explain_form json (string_bytes device)) old out_before out out2 one.0 two.0;
+    }
+    each (ListHits after limit device json) = λ root usr strict status status2 input old new new2 err_before out_before err err2 out out2 one two. record {
+      one_status = one.1.0 ∙ sym two.1.0;
+      one_files = one_kept (database_folder usr root) old new new2 one.1.1 two.1.1;
+      one_err = one.1.2 ∙ sym two.1.2;
+      one_out = hits root json (string_bytes device) (option_map string_bytes after) limit old out_before out out2 one.0 two.0;
+    }
+    each (Ask file device) = λ root usr strict status status2 input old new new2 err_before out_before err err2 out out2 one two.
+        let a = one.0 in
+        let b = two.0 in
+        let same = one_held (bytes_at old (string_bytes file)) b.bytes a.bytes b.read a.read in
+        let x = a.asked.are in
+        let y = subst (λ (bs : List ℕ). AreAskTexts (string_bytes file) bs (string_bytes device) b.asked.texts) same b.asked.are in
+        record {
+          one_status = one.1 ∙ sym two.1;
+          one_files = one_kept (database_folder usr root) old new new2 one.2 two.2;
+          one_err = one_taken err_before err err2 a.asked.texts.err b.asked.texts.err (x.faults ∙ sym y.faults) a.asked.err b.asked.err;
+          one_out = one_taken out_before out out2 a.asked.texts.out b.asked.texts.out
+              (one_text tree (query_text (string_bytes device)) x.database y.database a.asked.texts.out b.asked.texts.out
+              (form (map_of_files (lone a.bytes) []) x.database y.database x.written y.written) x.properties y.properties) a.asked.out b.asked.out;
+        }
+    each (Check files) = λ root usr strict status status2 input old new new2 err_before out_before err err2 out out2 one two.
+        let a = one.0 in
+        let b = two.0 in
+        let same : a.sources ≡ b.sources = sources (map string_bytes files.items) root old a.sources b.sources a.are b.are in
+        record {
+          one_status = a.says ∙ ap (λ (xs : List Source). check_status strict (tally_from empty_tally xs)) same ∙ sym b.says;
+          one_files = one_kept (database_folder usr root) old new new2 one.1 two.1;
+          one_err = one.2 ∙ sym two.2;
+          one_out = one_taken out_before out out2 (check_text a.sources) (check_text b.sources) (ap check_text same) a.printed b.printed;
+        }
+    each (Diff old_path new_path) = λ root usr strict status status2 input old new new2 err_before out_before err err2 out out2 one two.
+        let a = one.0 in
+        let b = two.0 in
+        let olds = one_held (bytes_at old (string_bytes old_path)) b.old a.old b.held.of_old a.held.of_old in
+        let news = one_held (bytes_at old (string_bytes new_path)) b.new a.new b.held.of_new a.held.of_new in
+        let x = a.printed.is in
+        let y = subst (λ (bs : List ℕ). IsDiffText a.old bs b.printed.text) news (subst (λ (bs : List ℕ). IsDiffText bs b.new b.printed.text) olds b.printed.is) in
+        let v = a.differ in
+        let w = subst (λ (bs : List ℕ). IsDifferent a.old bs b.answer) news (subst (λ (bs : List ℕ). IsDifferent bs b.new b.answer) olds b.differ) in
+        let text : a.printed.text ≡ b.printed.text = x.is ∙ ap (λ (t : Tree). diff_text t x.new_tree) (tree a.old x.old_tree y.old_tree x.old_database y.old_database)
+        ∙ ap (λ (t : Tree). diff_text y.old_tree t) (tree a.new x.new_tree y.new_tree x.new_database y.new_database) ∙ sym y.is in
+        let answer : a.answer ≡ b.answer = v.is ∙ ap (λ (t : Tree). differ t v.new_tree) (tree a.old v.old_tree w.old_tree v.old_database w.old_database)
+        ∙ ap (λ (t : Tree). differ w.old_tree t) (tree a.new v.new_tree w.new_tree v.new_database w.new_database) ∙ sym w.is in
+        record {
+          one_status = a.says ∙ ap (λ (d : Bool). if d then 1 else 0) answer ∙ sym b.says;
+          one_files = one_kept (database_folder usr root) old new new2 one.1 two.1;
+          one_err = one.2 ∙ sym two.2;
+          one_out = one_taken out_before out out2 a.printed.text b.printed.text text a.printed.taken b.printed.taken;
+        }
+    each (Verify database) = λ root usr strict status status2 input old new new2 err_before out_before err err2 out out2 one two.
+        let a = one.0 in
+        let b = two.0 in
+        let same = one_held (named_database (option_map string_bytes database) root old) b.bytes a.bytes b.named a.named in
+        let x = a.printed.is in
+        let y = subst (λ (bs : List ℕ). IsSummary bs b.printed.text) same b.printed.is in
+        record {
+          one_status = one.1.0 ∙ sym two.1.0;
+          one_files = one_kept (database_folder usr root) old new new2 one.1.1 two.1.1;
+          one_err = one.1.2 ∙ sym two.1.2;
+          one_out = one_taken out_before out out2 a.printed.text b.printed.text (one_text tree _ a.bytes a.bytes a.printed.text b.printed.text refl x y) a.printed.taken b.printed.taken;
+        }
+    each (Dump database) = λ root usr strict status status2 input old new new2 err_before out_before err err2 out out2 one two.
+        let a = one.0 in
+        let b = two.0 in
+        record {
+          one_status = one.1.0 ∙ sym two.1.0;
+          one_files = one_kept (database_folder usr root) old new new2 one.1.1 two.1.1;
+          one_err = one.1.2 ∙ sym two.1.2;
+          one_out = one_taken out_before out out2 a.printed.text b.printed.text
+              (one_text tree dump_text a.bytes b.bytes a.printed.text b.printed.text (one_held (named_database (option_map string_bytes database) root old) a.bytes b.bytes a.named b.named) a.printed.is b.printed.is)
+              a.printed.taken b.printed.taken;
+        }

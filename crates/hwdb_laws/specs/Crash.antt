@@ -1,0 +1,42 @@
+-- What a query finds after a crash, or a kill, at any moment of a run, and a start.
+use Rattle.std.specs.Prelude.{◌≡◌, ◌≢◌, ◌⊎◌, ℕ, false, List, [], ◌∷◌, Option}
+use Rattle.clap.specs.Faults.{fault_of}
+use Rattle.hwdb_cli.specs.Line.{hwdb_app}
+use Rattle.hwdb_cli.specs.Words.{AskFor}
+use Rattle.hwdb_cli.specs.declared.job.Job.{Job}
+use Rattle.hwdb_spec.specs.Store.{Contents, LeavesOnly, Outcomes, database_name, path_in}
+use Rattle.hwdb_spec.specs.System.{database_folder}
+use Rattle.hwdb_spec.specs.Texts.{queries_text}
+use Rattle.hwdb_tasks.specs.Done.{IsAnswered}
+use Rattle.hwdb_tool.specs.Laws.{PrintsLast}
+use Rattle.hwdb_tool.specs.Program.{OldOrAskedFor, root_of}
+use Rattle.hwdb_transfer.specs.Databases.{IsTextOf}
+
+-- what stands after a start: under each path something that the crash may have left
+abbrev pub Booted : Outcomes → Contents → Type 0
+Booted outcomes contents = (p : List ℕ) → outcomes p (contents p)
+
+-- A query of a device over these files prints what the text files of the others assign it last.
+abbrev pub AnswersFrom : (root : List ℕ) (old after : Contents) → Type 0
+AnswersFrom root old after = (device : List ℕ) (out_before out_now : Option (List ℕ))
+    → IsAnswered root (IsTextOf (queries_text (device ∷ []))) after out_before out_now → PrintsLast root old device out_before out_now
+
+-- The words ask for a job below a root whose database is /etc's. Its place has what a crash might have left there before the
+-- run, or a query over what stands prints what the text files assign last.
+abbrev pub CrashThenQuery : (before : Outcomes) → Type 0
+CrashThenQuery before = (words : List (List ℕ)) (job : Job) → AskFor words job → job.usr ≡ false
+    → (old after : Contents) → Booted (OldOrAskedFor words old before) after
+    → before (path_in (database_folder false (root_of job)) database_name) (after (path_in (database_folder false (root_of job)) database_name))
+    ⊎ AnswersFrom (root_of job) old after
+
+-- the same of a run of which a crash leaves only that, as `program` promises
+abbrev pub CrashOfRunThenQuery : {D : Type 0} (moment : D → ℕ) (left_since : D → ℕ → Outcomes) (seen : D → Contents) (may_leave : D → Outcomes) (old new : D) → Type 0
+CrashOfRunThenQuery moment left_since seen may_leave old new = (words : List (List ℕ)) (job : Job) → AskFor words job → job.usr ≡ false
+    → LeavesOnly moment left_since old new (OldOrAskedFor words (seen old) (may_leave old))
+    → (after : Contents) → Booted (left_since new (moment old)) after
+    → may_leave old (path_in (database_folder false (root_of job)) database_name) (after (path_in (database_folder false (root_of job)) database_name))
+    ⊎ AnswersFrom (root_of job) (seen old) after
+
+-- Words with a fault leave what was there.
+abbrev pub FaultsLeaveAll : (before : Outcomes) → Type 0
+FaultsLeaveAll before = (words : List (List ℕ)) → fault_of hwdb_app words ≢ [] → (old after : Contents) → Booted (OldOrAskedFor words old before) after → Booted before after

@@ -1,0 +1,3 @@
+pub mod Crash
+pub mod Failures
+pub mod Laws
