@@ -1,8 +1,9 @@
-# `make` builds out/hwdb (and proves it on the way), `make demo` runs it on a file of our own,
-# `make check` is the whole gate, `make check-edits` tries more wrong bodies, `make check-peer` compares with Debian's own files, `make bench` measures on them.
-# `make lib` builds the C library, out/libhwdb.so.0 and out/libhwdb.a, and out/libhwdb-udev.so.0 with libudev's calls over it.
-# `make install` and `make uninstall` go by the folders below, `make deb` makes Debian packages in out/, `make dist` an
-# archive of the sources, and `make check-package` tries all but the last; it installs what it needs with apt-get.
+# `make` builds what `make install` installs, and proves it on the way: `make program` out/hwdb, `make lib` the C library,
+# out/libhwdb.so.0 and out/libhwdb.a, and out/libhwdb-udev.so.0 with libudev's calls over it.
+# `make demo` runs the program on a file of our own, `make check` is the whole gate, `make check-edits` tries more wrong bodies,
+# `make check-survivors` those that the prover accepts, `make check-peer` compares with Debian's own files, `make bench` measures on them.
+# `make install` and `make uninstall` go by the folders below and need no toolchain, `make deb` makes Debian packages in out/, `make
+# dist` an archive of the sources, and `make check-package` tries all but the last; it installs what it needs with apt-get.
 VERSION := $(shell cat VERSION)
 PREFIX ?= /usr/local
 DESTDIR ?=
@@ -17,45 +18,65 @@ LIBDIR ?= $(PREFIX)/lib
 INCLUDEDIR ?= $(PREFIX)/include
 # `yes` also installs the program under the name systemd-hwdb, as a link.
 SYSTEMD_HWDB ?= no
+# What README has its readers look at.
+CITED := $(wildcard docs/*.md docs/screen.* examples/*)
 # What is installed and tested: the program that `make` built, or another one.
 PROGRAM ?= out/hwdb
 # The library that is installed, libhwdb.a and libhwdb-udev.so.0 beside it; none where this is empty.
 LIBRARY ?= out/libhwdb.so.0
-# What the library's C is compiled with.
+# What the library's C is compiled with, and where the libraries are put.
 CC ?= cc
 CFLAGS ?= -O2
+LIBRARIES ?= out
 WARNINGS := -std=c11 -Wall -Wextra -Werror
 HARDENED := -Wl,-z,relro -Wl,-z,now -Wl,-z,noexecstack -Wl,--no-undefined
 
-.PHONY: all lib linked-lib demo check scripts timed check-edits check-peer check-package bench install uninstall deb dist clean
+.PHONY: all program lib linked-lib hardened-lib kit demo check scripts timed check-edits check-survivors check-peer check-package bench install \
+	uninstall deb dist clean
 
-all:
+# The library over what the program's proofs built; c/over-proved proves its calls.
+all: program
+	c/over-proved
+	$(MAKE) linked-lib
+
+kit:
+	@command -v rt >/dev/null || { echo "make: building needs the Rattle toolchain: the kit rattle-kit-13f, with its command rt on" \
+		"the path (README.md, 'Get it')" >&2; exit 1; }
+
+program: kit
 	cd crates/hwdb && rt run -- ask /dev/null none
 	mkdir -p out
 	cp crates/hwdb/out/hwdb out/hwdb
 
-# The proved calls and c/hwdb.c as one object in which only the names of c/hwdb.map are left for others; c/udev.c over it.
-lib:
+lib: kit
 	cd crates/hwdb_c && rt lib
+	cp "$$(dirname "$$(rt doc)")/c/liblibc_c.a" crates/hwdb_c/out
 	$(MAKE) linked-lib
 
+# The proved calls and c/hwdb.c as one object in which only the names of c/hwdb.map are left for others; c/udev.c over it. On an
+# older processor than the proved calls were compiled for, the loader refuses what this object is linked into.
 linked-lib:
-	mkdir -p out
-	$(CC) $(WARNINGS) $(CFLAGS) -fPIC -c -o out/hwdb.o c/hwdb.c
-	ld -r -o out/libhwdb.o out/hwdb.o --whole-archive crates/hwdb_c/out/libhwdb_c.a --no-whole-archive \
-		"$$(dirname "$$(rt doc)")/c/liblibc_c.a"
-	objcopy --wildcard --keep-global-symbol='sd_hwdb_*' out/libhwdb.o
-	rm -f out/libhwdb.a
-	ar rcsD out/libhwdb.a out/libhwdb.o
-	$(CC) -shared -Wl,-soname,libhwdb.so.0 -Wl,--version-script=c/hwdb.map $(HARDENED) -o out/libhwdb.so.0 out/libhwdb.o
-	$(CC) $(WARNINGS) $(CFLAGS) -fPIC -shared -Wl,-soname,libhwdb-udev.so.0 -Wl,--version-script=c/udev.map $(HARDENED) \
-		-o out/libhwdb-udev.so.0 c/udev.c out/libhwdb.a
-	rm -f out/hwdb.o out/libhwdb.o
+	mkdir -p $(LIBRARIES)
+	$(CC) $(WARNINGS) $(CPPFLAGS) $(CFLAGS) -fPIC -c -o $(LIBRARIES)/hwdb.o c/hwdb.c
+	ld -r -z x86-64-v2 -o $(LIBRARIES)/libhwdb.o $(LIBRARIES)/hwdb.o --whole-archive crates/hwdb_c/out/libhwdb_c.a --no-whole-archive \
+		crates/hwdb_c/out/liblibc_c.a
+	objcopy --wildcard --keep-global-symbol='sd_hwdb_*' $(LIBRARIES)/libhwdb.o
+	rm -f $(LIBRARIES)/libhwdb.a
+	ar rcsD $(LIBRARIES)/libhwdb.a $(LIBRARIES)/libhwdb.o
+	$(CC) -shared -Wl,-soname,libhwdb.so.0 -Wl,--version-script=c/hwdb.map $(LDFLAGS) $(HARDENED) -o $(LIBRARIES)/libhwdb.so.0 \
+		$(LIBRARIES)/libhwdb.o
+	$(CC) $(WARNINGS) $(CPPFLAGS) $(CFLAGS) -fPIC -shared -Wl,-soname,libhwdb-udev.so.0 -Wl,--version-script=c/udev.map \
+		$(LDFLAGS) $(HARDENED) -o $(LIBRARIES)/libhwdb-udev.so.0 c/udev.c $(LIBRARIES)/libhwdb.a
+	rm -f $(LIBRARIES)/hwdb.o $(LIBRARIES)/libhwdb.o
 
-demo: all
+# The same as Debian has C compiled.
+hardened-lib: out/libhwdb.so.0
+	eval "$$(dpkg-buildflags --export=sh)" && $(MAKE) linked-lib LIBRARIES=out/hardened
+
+demo: program
 	out/hwdb ask examples/workshop.hwdb usb:v1209p0007d0101
 
-check:
+check: kit
 	rt ci
 	mkdir -p out
 	cp crates/hwdb/out/hwdb out/hwdb
@@ -63,14 +84,15 @@ check:
 	$(MAKE) --no-print-directory --jobs=2 --output-sync=target timed
 
 # What tries the built program and library, in lanes, the longest first.
-scripts: try-memory try-definitions try-over-proved try-random try-rows try-crash try-documents try-refused try-words \
-	try-command-line try-installed try-library try-readme try-runs try-folders
+scripts: try-memory try-definitions try-reading try-over-proved try-random try-rows try-crash try-documents try-refused try-words \
+	try-command-line try-installed try-library try-readme try-runs try-folders try-refusals try-footprint \
+	try-streams
 
 # What looks at the processor's times, behind all others.
 timed: try-growth try-hostile
 
 try-definitions:
-	tests/definitions hwdb_reader::laws::law_faultless
+	tests/definitions hwdb_reader::laws::law_faultless hwdb_laws::laws::listings_give_one_reading
 
 # The C library, over what `rt ci` proved.
 try-over-proved:
@@ -79,7 +101,7 @@ try-over-proved:
 
 try-installed try-library: try-over-proved
 
-try-documents try-refused: try-%:
+try-documents try-reading try-refused: try-%:
 	tests/$*
 
 try-%:
@@ -89,17 +111,21 @@ check-edits:
 	tests/wrong-bodies $(CRATES)
 	tests/definitions $(CRATES)
 
-check-peer: all lib
+# Wrong bodies that are proved: a script of tests/ sees each.
+check-survivors:
+	tests/caught $(EDITS)
+
+check-peer: all
 	tests/peer out/hwdb
 	tests/users out/hwdb
 	tests/clients out/hwdb
 
-bench: all lib
+bench: all
 	tests/bench out/hwdb
 
 # Only where there is no program yet, so that root needs no toolchain to install what a user built.
 out/hwdb:
-	$(MAKE) all
+	$(MAKE) program
 
 out/libhwdb.so.0:
 	$(MAKE) lib
@@ -111,9 +137,9 @@ install: $(PROGRAM) $(LIBRARY)
 	install -D -m 644 completions/hwdb.bash '$(DESTDIR)$(BASHDIR)/hwdb'
 	install -D -m 644 completions/_hwdb '$(DESTDIR)$(ZSHDIR)/_hwdb'
 	install -D -m 644 completions/hwdb.fish '$(DESTDIR)$(FISHDIR)/hwdb.fish'
-	install -D -m 644 README.md '$(DESTDIR)$(DOCDIR)/README.md'
-	install -D -m 644 CHANGELOG.md '$(DESTDIR)$(DOCDIR)/CHANGELOG.md'
-	install -D -m 644 LICENSE '$(DESTDIR)$(DOCDIR)/LICENSE'
+	for file in README.md CHANGELOG.md LICENSE $(CITED); do \
+		install -D -m 644 "$$file" '$(DESTDIR)$(DOCDIR)'"/$$file" || exit; \
+	done
 	install -d '$(DESTDIR)$(UNITDIR)'
 	sed 's|@bindir@|$(BINDIR)|' packaging/hwdb-update.service.in >'$(DESTDIR)$(UNITDIR)/hwdb-update.service'
 	chmod 644 '$(DESTDIR)$(UNITDIR)/hwdb-update.service'
@@ -123,33 +149,43 @@ ifneq ($(LIBRARY),)
 	install -m 644 '$(dir $(LIBRARY))libhwdb.a' '$(DESTDIR)$(LIBDIR)/libhwdb.a'
 	install -m 644 '$(dir $(LIBRARY))libhwdb-udev.so.0' '$(DESTDIR)$(LIBDIR)/libhwdb-udev.so.0'
 	install -D -m 644 c/hwdb.h '$(DESTDIR)$(INCLUDEDIR)/hwdb.h'
+	install -D -m 644 man/libhwdb.3 '$(DESTDIR)$(MANDIR)/man3/libhwdb.3'
 	install -d '$(DESTDIR)$(LIBDIR)/pkgconfig'
-	sed 's|@libdir@|$(LIBDIR)|; s|@includedir@|$(INCLUDEDIR)|; s|@version@|$(VERSION)|' c/hwdb.pc.in \
+	sed 's|@prefix@|$(PREFIX)|; s|@libdir@|$(LIBDIR)|; s|@includedir@|$(INCLUDEDIR)|; s|@version@|$(VERSION)|' c/hwdb.pc.in \
 		>'$(DESTDIR)$(LIBDIR)/pkgconfig/hwdb.pc'
 	chmod 644 '$(DESTDIR)$(LIBDIR)/pkgconfig/hwdb.pc'
 endif
 ifeq ($(SYSTEMD_HWDB),yes)
 	ln -sf hwdb '$(DESTDIR)$(BINDIR)/systemd-hwdb'
 endif
+ifeq ($(DESTDIR),)
+ifneq ($(LIBRARY),)
+	@PATH="$$PATH:/usr/sbin:/sbin"; [ "$$(id -u)" -ne 0 ] || ldconfig; ldconfig -p | grep -qF '$(LIBDIR)/libhwdb.so.0' || \
+		echo 'Programs find libhwdb.so.0 with LD_LIBRARY_PATH=$(LIBDIR), or once root has put this folder into a file of' \
+			'/etc/ld.so.conf.d and has called ldconfig.'
+endif
+endif
 
 # Takes away what `make install` put there, with its own folder, and leaves folders that others use too. A systemd-hwdb or
 # libhwdb.so that isn't the link to ours stays.
 uninstall:
 	rm -f '$(DESTDIR)$(BINDIR)/hwdb'
-	rm -f '$(DESTDIR)$(MANDIR)/man8/hwdb.8' '$(DESTDIR)$(MANDIR)/man7/hwdb-format.7'
+	rm -f '$(DESTDIR)$(MANDIR)/man8/hwdb.8' '$(DESTDIR)$(MANDIR)/man7/hwdb-format.7' '$(DESTDIR)$(MANDIR)/man3/libhwdb.3'
 	rm -f '$(DESTDIR)$(BASHDIR)/hwdb' '$(DESTDIR)$(ZSHDIR)/_hwdb' '$(DESTDIR)$(FISHDIR)/hwdb.fish'
-	rm -f '$(DESTDIR)$(DOCDIR)/README.md' '$(DESTDIR)$(DOCDIR)/CHANGELOG.md' '$(DESTDIR)$(DOCDIR)/LICENSE'
+	rm -f $(patsubst %,'$(DESTDIR)$(DOCDIR)/%',README.md CHANGELOG.md LICENSE $(CITED))
 	rm -f '$(DESTDIR)$(UNITDIR)/hwdb-update.service'
 	rm -f '$(DESTDIR)$(LIBDIR)/libhwdb.so.0' '$(DESTDIR)$(LIBDIR)/libhwdb.a' '$(DESTDIR)$(LIBDIR)/libhwdb-udev.so.0'
 	rm -f '$(DESTDIR)$(INCLUDEDIR)/hwdb.h'
 	rm -f '$(DESTDIR)$(LIBDIR)/pkgconfig/hwdb.pc'
 	[ "$$(readlink '$(DESTDIR)$(LIBDIR)/libhwdb.so')" != libhwdb.so.0 ] || rm '$(DESTDIR)$(LIBDIR)/libhwdb.so'
-	[ ! -d '$(DESTDIR)$(DOCDIR)' ] || rmdir --ignore-fail-on-non-empty '$(DESTDIR)$(DOCDIR)'
+	for folder in docs examples .; do \
+		[ ! -d '$(DESTDIR)$(DOCDIR)'"/$$folder" ] || rmdir --ignore-fail-on-non-empty '$(DESTDIR)$(DOCDIR)'"/$${folder%.}" || exit; \
+	done
 	[ "$$(readlink '$(DESTDIR)$(BINDIR)/systemd-hwdb')" != hwdb ] || rm '$(DESTDIR)$(BINDIR)/systemd-hwdb'
 
 # out/NAME_VERSION_ARCHITECTURE.deb of hwdb, libhwdb0 and libhwdb-dev, of the same bytes for the same commit and program.
-deb: $(PROGRAM) out/libhwdb.so.0
-	packaging/deb '$(PROGRAM)' out/libhwdb.so.0 out
+deb: $(PROGRAM) hardened-lib
+	packaging/deb '$(PROGRAM)' out/hardened/libhwdb.so.0 out
 
 # The sources of this commit.
 dist:
@@ -159,11 +195,12 @@ dist:
 # Needs root, for apt-get and for a root of its own.
 check-package: $(PROGRAM) out/libhwdb.so.0
 	tests/package-tools
+	$(MAKE) hardened-lib
 	tests/words '$(PROGRAM)'
 	tests/completions '$(PROGRAM)'
 	tests/lint '$(PROGRAM)'
 	tests/installed '$(PROGRAM)'
-	tests/package '$(PROGRAM)' out/libhwdb.so.0
+	tests/package '$(PROGRAM)' out/hardened/libhwdb.so.0
 
 clean:
 	rm -rf out crates/*/out

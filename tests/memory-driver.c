@@ -198,12 +198,17 @@ static int is_refused(int status) {
     return 0;
 }
 
+/* Whether an answer ends in the line of an error: without memory for that line it is written in parts. */
+static int ends_in_error(struct answer *is) {
+    return is_refused(is->status) && (!strncmp(is->err.bytes, "hwdb: ", 6) || strstr(is->err.bytes, "\nhwdb: "));
+}
+
 /* The kind of an answer after a refusal, or null where there must be no such answer. `asks_in_vain`: the program's own
  * request was refused, and all behind it. */
 static const char *judge(struct answer *is, struct answer *whole, int asks_in_vain) {
     int is_old = !database || is_same(is->database, old);
     if (is->left) return 0;
-    if (is_whole(is, whole)) return asks_in_vain ? 0 : "the whole answer";
+    if (is_whole(is, whole)) return asks_in_vain && !ends_in_error(whole) ? 0 : "the whole answer";
     if (!is_refused(is->status) || !is_old || !is_untouched(is, whole)) return 0;
     if (is_text(is->err, "hwdb: out of memory\n")) return "out of memory";
     if (is->out.length) return 0;

@@ -579,6 +579,7 @@ WARNINGS = {
     "open": (b"a [ that is never closed stands for itself", b"close it with a ], or write [[] for the byte"),
     "empty": (b"a range without members", b"put the lower end of the range first"),
     "blank": (b"a blank beside the first =", b"take it away: it belongs to the key or to the value"),
+    "cut": (b"a # without a blank before it cuts the value", b"put a blank before a comment; a value can't hold a #"),
     "repeated": (b"a match line that stands in its record already", b"take one of the two away"),
     "replaced": (b"an assignment that line %d replaces", b"take one of the two away"),
 }
@@ -656,15 +657,15 @@ def repeated_lines(text):
 
 
 def replaced_lines(text):
-    """For each line of which a later line gives one of the patterns the same key, the last one that does."""
+    """For each line the last one that gives one of its patterns the same key, if that one gives it another value."""
     assignments, _ = read_file(b"", 1, text)
     last, found = {}, {}
-    for a in assignments:
-        last[a.pattern, a.key] = max(a.line, last.get((a.pattern, a.key), 0))
+    for a in sorted(assignments, key=lambda a: a.line):
+        last[a.pattern, a.key] = a
     for a in assignments:
         by = last[a.pattern, a.key]
-        if by > a.line:
-            found[a.line] = max(by, found.get(a.line, 0))
+        if by.line > a.line and by.value != a.value:
+            found[a.line] = max(by.line, found.get(a.line, 0))
     return found
 
 
@@ -686,6 +687,11 @@ def warnings_of(text):
                 "blank",
                 line.find(b"="),
                 is_property(cleaned) and equals and key and (key[-1:] in b" \t" or value[:1] in (b" ", b"\t")),
+            ),
+            (
+                "cut",
+                line.find(b"#"),
+                is_property(cleaned) and equals and line[len(cleaned) : len(cleaned) + 1] == b"#",
             ),
             ("repeated", 0, number in repeated),
             ("replaced", indent_of(line), number in replaced),
@@ -808,11 +814,20 @@ VERDICTS = {
 }
 
 
-def verdict(fault):
-    """What `verify` says of a fault, behind the path of the database."""
+def remedy(path):
+    """What to do about a file that is no database."""
+    return "'hwdb check' is for text files" if path.endswith(".hwdb") else "make it anew with 'hwdb update'"
+
+
+def bad_database(fault, path):
+    """What commands say of a fault of the database at a path."""
+    return "bad database: %s: %s: %s" % (fault, path, remedy(path))
+
+
+def verdict(fault, path):
+    """What `verify` says of it."""
     what, cause = VERDICTS[fault.split()[0]]
-    hint = "write it anew with hwdb update"
-    return "bad database: %s\n    %s\n    cause: %s\n    hint: %s" % (fault, what, cause, hint)
+    return "bad database: %s: %s\n    %s\n    cause: %s\n    hint: %s" % (fault, path, what, cause, remedy(path))
 
 
 def differences(old, new):
