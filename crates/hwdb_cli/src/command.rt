@@ -224,7 +224,7 @@ fn explain_command<'a>(alloc: Global) -> Draft<'a>
 fn ask_command<'a>(alloc: Global) -> Draft<'a>
     ensures { IsDraft ask_app result }
 {
-    let help = "A .hwdb text file; the root doesn't change its path";
+    let help = "A text file, or - for standard input; the root doesn't change its path";
     let command = shared(alloc, "ask", ASK_ABOUT, ASK_AFTER);
     let file = needed_word(alloc, "FILE", help, ArgAction::Set);
     let with_file = with_argument(command, file);
@@ -245,7 +245,8 @@ fn list_command<'a>(alloc: Global) -> Draft<'a>
 fn check_command<'a>(alloc: Global) -> Draft<'a>
     ensures { IsDraft check_app result }
 {
-    let help = "A text file; without one those of /etc/udev/hwdb.d and /usr/lib/udev/hwdb.d";
+    let help =
+        "A text file, or - for standard input; without one those of /etc/udev/hwdb.d and /usr/lib/udev/hwdb.d";
     let command = shared(alloc, "check", CHECK_ABOUT, CHECK_AFTER);
     with_argument(command, word(alloc, "FILE", help, ArgAction::Append))
 }

@@ -98,8 +98,8 @@ module _ (name : Text) (inner : List Row) (root : List ℕ) (usr strict : Bool) 
   same_task (Ask file1 device1) (Explain device2 json2) t u done = absurd (apart (codes "ask") (codes "explain") (sym t.0 ∙ u.0) (λ (e : 97115 ≡ 101120). omega (arith, e)))
   same_task (Ask file1 device1) (ListHits after2 limit2 device2 json2) t u done = absurd (apart (codes "ask") (codes "list") (sym t.0 ∙ u.0) (λ (e : 97115 ≡ 108105). omega (arith, e)))
   same_task (Ask file1 device1) (Ask file2 device2) t u done =
-      subst (λ (f : List ℕ). IsAsked f (string_bytes device1) old err_before err out_before out × (status ≡ 0) × Same old new) (one_value (first_of (codes "FILE") inner) _ _ u.1 t.1)
-      (subst (λ (d : List ℕ). IsAsked (string_bytes file2) d old err_before err out_before out × (status ≡ 0) × Same old new) (one_value (first_of (codes "MODALIAS") inner) _ _ u.2 t.2) done)
+      subst (λ (f : List ℕ). IsAsked f (string_bytes device1) input old err_before err out_before out × (status ≡ 0) × Same old new) (one_value (first_of (codes "FILE") inner) _ _ u.1 t.1)
+      (subst (λ (d : List ℕ). IsAsked (string_bytes file2) d input old err_before err out_before out × (status ≡ 0) × Same old new) (one_value (first_of (codes "MODALIAS") inner) _ _ u.2 t.2) done)
   same_task (Ask file1 device1) (Check files2) t u done = absurd (apart (codes "ask") (codes "check") (sym t.0 ∙ u.0) (λ (e : 97115 ≡ 99104). omega (arith, e)))
   same_task (Ask file1 device1) (Diff old2 new2) t u done = absurd (apart (codes "ask") (codes "diff") (sym t.0 ∙ u.0) (λ (e : 97115 ≡ 100105). omega (arith, e)))
   same_task (Ask file1 device1) (Verify database2) t u done = absurd (apart (codes "ask") (codes "verify") (sym t.0 ∙ u.0) (λ (e : 97115 ≡ 118101). omega (arith, e)))
@@ -110,7 +110,7 @@ module _ (name : Text) (inner : List Row) (root : List ℕ) (usr strict : Bool) 
   same_task (Check files1) (ListHits after2 limit2 device2 json2) t u done = absurd (apart (codes "check") (codes "list") (sym t.0 ∙ u.0) (λ (e : 99104 ≡ 108105). omega (arith, e)))
   same_task (Check files1) (Ask file2 device2) t u done = absurd (apart (codes "check") (codes "ask") (sym t.0 ∙ u.0) (λ (e : 99104 ≡ 97115). omega (arith, e)))
   same_task (Check files1) (Check files2) t u done =
-      subst (λ (fs : List (List ℕ)). IsChecked (AreCheckedFiles fs root old) strict status out_before out × Same old new × (err ≡ err_before)) (u.1 ∙ sym t.1) done
+      subst (λ (fs : List (List ℕ)). IsChecked (AreCheckedFiles fs root input old) strict status out_before out × Same old new × (err ≡ err_before)) (u.1 ∙ sym t.1) done
   same_task (Check files1) (Diff old2 new2) t u done = absurd (apart (codes "check") (codes "diff") (sym t.0 ∙ u.0) (λ (e : 99104 ≡ 100105). omega (arith, e)))
   same_task (Check files1) (Verify database2) t u done = absurd (apart (codes "check") (codes "verify") (sym t.0 ∙ u.0) (λ (e : 99104 ≡ 118101). omega (arith, e)))
   same_task (Check files1) (Dump database2) t u done = absurd (apart (codes "check") (codes "dump") (sym t.0 ∙ u.0) (λ (e : 99104 ≡ 100117). omega (arith, e)))

@@ -1,5 +1,5 @@
 -- Each task is a function.
-use Rattle.std.proofs.Common.{◌≡◌, ◌∙◌, ap, refl, sym, subst, Bool, true, false, if◌then◌else◌, List, [], ◌∷◌, ◌++◌, map, length, ℕ, Option, Some, None, string_bytes}
+use Rattle.std.proofs.Common.{◌≡◌, ◌∙◌, ap, refl, sym, subst, Bool, true, false, if◌then◌else◌, List, [], ◌∷◌, ◌++◌, map, length, ℕ, Option, Some, None, string_bytes, All}
 use Rattle.std.specs.Prelude.{option_map}
 use Rattle.std.specs.Option.{option_map_or}
 use Rattle.std.specs.Io.KnownBytes.{Appends}
@@ -13,6 +13,8 @@ use Rattle.hwdb_spec.specs.Differences.{diff_text, differ}
 use Rattle.hwdb_spec.specs.Dump.{dump_text}
 use Rattle.hwdb_spec.specs.Folders.{Choice, Source, choice, faults_of_files, path_of}
 use Rattle.hwdb_spec.specs.Format.{IsDatabase}
+use Rattle.std.proofs.lemmas.List.Elements.{All-head, All-tail}
+use Rattle.hwdb_tasks.specs.Given.{IsContent, IsGiven, is_dash}
 use Rattle.hwdb_spec.specs.Hiding.{hiding_text}
 use Rattle.hwdb_spec.specs.Progress.{listing, update_text}
 use Rattle.hwdb_spec.specs.Store.{Contents, Outcomes}
@@ -57,6 +59,29 @@ one_sources (x ∷ xs) (y ∷ ys) n b =
     ∙ ap (λ (m : List ℕ). (let s : Source = record { name = y.name; bytes = m } in s ∷ xs)) bytes
     ∙ ap (λ (l : List Source). y ∷ l) more
 
+-- a given file has one content
+one_given : (dash : Bool) (path input : List ℕ) (files : Contents) (a b : List ℕ) → IsContent dash path (Some input) files a → IsContent dash path (Some input) files b → a ≡ b
+one_given true path input files a b one two = one ∙ sym two
+one_given false path input files a b one two = one_held (bytes_at files path) a b one two
+
+abbrev IsHeld : (input : List ℕ) (files : Contents) → Source → Type 0
+IsHeld input files s = IsGiven s.name (Some input) files s.bytes
+
+one_given_sources : (input : List ℕ) (files : Contents) (xs ys : List Source) → map (λ (s : Source). s.name) xs ≡ map (λ (s : Source). s.name) ys
+    → All (IsHeld input files) xs → All (IsHeld input files) ys → xs ≡ ys
+unfolding first_or rest_of
+one_given_sources input files [] [] n p q = refl
+one_given_sources input files [] (y ∷ ys) n p q = cc
+one_given_sources input files (x ∷ xs) [] n p q = cc
+one_given_sources input files (x ∷ xs) (y ∷ ys) n p q =
+    let name : x.name ≡ y.name = ap (λ (l : List (List ℕ)). first_or [] l) n in
+    let bytes : x.bytes ≡ y.bytes = one_given (is_dash y.name) y.name input files x.bytes y.bytes
+    (subst (λ (m : List ℕ). IsGiven m (Some input) files x.bytes) name (All-head (IsHeld input files) x xs p)) (All-head (IsHeld input files) y ys q) in
+    let more : xs ≡ ys = one_given_sources input files xs ys (ap (λ (l : List (List ℕ)). rest_of l) n) (All-tail (IsHeld input files) x xs p) (All-tail (IsHeld input files) y ys q) in
+    ap (λ (m : List ℕ). (let s : Source = record { name = m; bytes = x.bytes } in s ∷ xs)) name
+    ∙ ap (λ (m : List ℕ). (let s : Source = record { name = y.name; bytes = m } in s ∷ xs)) bytes
+    ∙ ap (λ (l : List Source). y ∷ l) more
+
 module _ (tree : (bytes : List ℕ) (t u : Tree) → IsDatabase bytes t → IsDatabase bytes u → t ≡ u)
     (form : (m : Map) (a b : List ℕ) → IsWritten m a → IsWritten m b → a ≡ b)
     (spells : SpellsOne) (one_choice : ListingsGiveOneChoice) (one_reading : ListingsGiveOneReading) where
@@ -85,12 +110,12 @@ module _ (tree : (bytes : List ℕ) (t u : Tree) → IsDatabase bytes t → IsDa
       (one_held (asked_database root files) one.bytes two.bytes one.asked two.asked) a.is
       (subst (λ (p : Option Position). IsTextOf (list_form json device p limit) two.bytes two.printed.text) here b.is)) one.printed.taken two.printed.taken
 
-  sources : (given : List (List ℕ)) (root : List ℕ) (files : Contents) (xs ys : List Source) → AreCheckedFiles given root files xs → AreCheckedFiles given root files ys → xs ≡ ys
-  sources [] root files xs ys one two =
+  sources : (given : List (List ℕ)) (root input : List ℕ) (files : Contents) (xs ys : List Source) → AreCheckedFiles given root (Some input) files xs → AreCheckedFiles given root (Some input) files ys → xs ≡ ys
+  sources [] root input files xs ys one two =
       let same : choice one.etc one.usr ≡ choice two.etc two.usr = one_choice root files one.etc one.usr two.etc two.usr one.in_etc one.in_usr two.in_etc two.in_usr in
       one_sources xs ys (one.named ∙ ap (λ (cs : List Choice). map path_of cs) same ∙ sym two.named)
       (one.held ∙ ap (λ (cs : List Choice). map (λ c. bytes_at files (root ++ path_of c)) cs) same ∙ sym two.held)
-  sources (path ∷ more) root files xs ys one two = one_sources xs ys (one.named ∙ sym two.named) (one.held ∙ sym two.held)
+  sources (path ∷ more) root input files xs ys one two = one_given_sources input files xs ys (one.named ∙ sym two.named) one.held two.held
 
   module _ (left left2 : Outcomes) where
     pub each : (task : Task) → IsFunction left left2 task
@@ -129,7 +154,7 @@ module _ (tree : (bytes : List ℕ) (t u : Tree) → IsDatabase bytes t → IsDa
     each (Ask file device) = λ root usr strict status status2 input old new new2 err_before out_before err err2 out out2 one two.
         let a = one.0 in
         let b = two.0 in
-        let same = one_held (bytes_at old (string_bytes file)) b.bytes a.bytes b.read a.read in
+        let same = one_given (is_dash (string_bytes file)) (string_bytes file) input old b.bytes a.bytes b.read a.read in
         let x = a.asked.are in
         let y = subst (λ (bs : List ℕ). AreAskTexts (string_bytes file) bs (string_bytes device) b.asked.texts) same b.asked.are in
         record {
@@ -143,7 +168,7 @@ module _ (tree : (bytes : List ℕ) (t u : Tree) → IsDatabase bytes t → IsDa
     each (Check files) = λ root usr strict status status2 input old new new2 err_before out_before err err2 out out2 one two.
         let a = one.0 in
         let b = two.0 in
-        let same : a.sources ≡ b.sources = sources (map string_bytes files.items) root old a.sources b.sources a.are b.are in
+        let same : a.sources ≡ b.sources = sources (map string_bytes files.items) root input old a.sources b.sources a.are b.are in
         record {
           one_status = a.says ∙ ap (λ (xs : List Source). check_status strict (tally_from empty_tally xs)) same ∙ sym b.says;
           one_files = one_kept (database_folder usr root) old new new2 one.1 two.1;

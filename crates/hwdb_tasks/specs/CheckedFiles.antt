@@ -1,8 +1,9 @@
 -- Which text files `check` reads, and what it leaves. Our choice.
-use Rattle.std.specs.Prelude.{◌≡◌, ◌≤◌, ℕ, Bool, List, [], ◌∷◌, ◌++◌, Option, Some, length, map}
+use Rattle.std.specs.Prelude.{◌≡◌, ◌≤◌, ℕ, Bool, List, [], ◌∷◌, ◌++◌, Option, Some, All, length, map}
 use Rattle.std.specs.Io.KnownBytes.{Appends}
 use Rattle.hwdb_spec.specs.Checks.{check_status, check_text, empty_tally, tally_from}
 use Rattle.hwdb_spec.specs.Folders.{Source, choice, max_files, names, path_of}
+use Rattle.hwdb_tasks.specs.Given.{IsGiven}
 use Rattle.hwdb_spec.specs.Store.{Contents}
 use Rattle.hwdb_spec.specs.System.{AreNamesIn, bytes_at, etc_files, usr_files}
 
@@ -17,15 +18,15 @@ pub record AreChosenFiles (root : List ℕ) (contents : Contents) (sources : Lis
   pub named : map (λ (s : Source). s.name) sources ≡ map path_of (choice etc usr)
   pub held : map (λ (s : Source). Some s.bytes) sources ≡ map (λ c. bytes_at contents (root ++ path_of c)) (choice etc usr)
 
--- these are the files with the given paths, in their order, each with what it holds
-pub record AreGivenFiles (paths : List (List ℕ)) (contents : Contents) (sources : List Source) : Type 0 where
+-- these are the files with the given paths, in their order, each with what it has
+pub record AreGivenFiles (paths : List (List ℕ)) (input : Option (List ℕ)) (contents : Contents) (sources : List Source) : Type 0 where
   pub named : map (λ (s : Source). s.name) sources ≡ paths
-  pub held : map (λ (s : Source). Some s.bytes) sources ≡ map (bytes_at contents) paths
+  pub held : All (λ (s : Source). IsGiven s.name input contents s.bytes) sources
 
 -- the files that are checked: the given ones, or where none is given those of both folders
-abbrev pub AreCheckedFiles : (given : List (List ℕ)) (root : List ℕ) → Contents → List Source → Type 0
-AreCheckedFiles [] root contents sources = AreChosenFiles root contents sources
-AreCheckedFiles (path ∷ more) root contents sources = AreGivenFiles (path ∷ more) contents sources
+abbrev pub AreCheckedFiles : (given : List (List ℕ)) (root : List ℕ) (input : Option (List ℕ)) → Contents → List Source → Type 0
+AreCheckedFiles [] root input contents sources = AreChosenFiles root contents sources
+AreCheckedFiles (path ∷ more) root input contents sources = AreGivenFiles (path ∷ more) input contents sources
 
 -- standard output took what is said of such files, and the status says whether something is wrong with one
 pub record IsChecked (Are : List Source → Type 0) (strict : Bool) (status : ℕ) (out_before out_now : Option (List ℕ)) : Type 0 where

@@ -2,9 +2,10 @@
 use Rattle.std.specs.Prelude.{true, false, ◌≡◌, ℕ, Bool, List, ◌⊎◌, Option, Some, None}
 use Rattle.hwdb_spec.specs.Assignment.{Position}
 use Rattle.hwdb_spec.specs.Folders.{Source}
+use Rattle.hwdb_tasks.specs.Given.{IsGiven}
 use Rattle.hwdb_spec.specs.Progress.{listing}
 use Rattle.hwdb_spec.specs.Store.{Contents, Outcomes, LeftAtParts, Stored, database_file, database_name, path_in}
-use Rattle.hwdb_spec.specs.System.{AreFilesIn, bytes_at, asked_database, database_folder, etc_files, usr_files}
+use Rattle.hwdb_spec.specs.System.{AreFilesIn, asked_database, database_folder, etc_files, usr_files}
 use Rattle.hwdb_spec.specs.Texts.{IsSpelling, list_text, max_file}
 use Rattle.hwdb_spec.specs.Explanations.{explain_text}
 use Rattle.hwdb_spec.specs.Json.{explain_json, list_json}
@@ -30,9 +31,9 @@ pub record IsAnswered (root : List ℕ) (Is : (bytes text : List ℕ) → Type 0
   pub printed : Wrote (Is bytes) out_before out_now
 
 -- standard error took the fault lines of the one file, and standard output what it gives the device
-pub record IsAsked (file device : List ℕ) (contents : Contents) (err_before err_now out_before out_now : Option (List ℕ)) : Type 0 where
+pub record IsAsked (file device : List ℕ) (input : Option (List ℕ)) (contents : Contents) (err_before err_now out_before out_now : Option (List ℕ)) : Type 0 where
   pub bytes : List ℕ
-  pub read : bytes_at contents file ≡ Some bytes
+  pub read : IsGiven file input contents bytes
   pub asked : WroteTexts (AreAskTexts file bytes device) err_before err_now out_before out_now
 
 -- the text of the option, if there is one, spells the position

@@ -1,8 +1,9 @@
 -- What the steps of a task hold.
-use Rattle.std.specs.Prelude.{◌≡◌, ℕ, List, Some, length, map}
+use Rattle.std.specs.Prelude.{◌≡◌, ℕ, Bool, true, false, List, Option, Some, length, map}
 use Rattle.std.specs.Borrow.{Bor}
 use Rattle.std.specs.BTreeSet.{BTreeSet}
 use Rattle.std.specs.List.{list_any}
+use Rattle.hwdb_tasks.specs.Given.{is_dash}
 use Rattle.hwdb_spec.specs.Progress.{within_64_bits}
 use Rattle.hwdb_spec.specs.Written.{IsCompiled}
 use Rattle.hwdb_compile.specs.declared.sources.Compiled.{Compiled}
@@ -21,9 +22,17 @@ pub record IsCompiledOf (etc usr : List Source) (c : Compiled) : Type 0 where
   pub database : IsCompiled etc usr c.database.items
   pub given : c.given ≡ within_64_bits (length (all_assignments etc usr))
 
--- the texts are what is read at the paths
-abbrev pub AreTextsAt : Contents → (paths texts : List (List ℕ)) → Type 0
-AreTextsAt contents paths texts = map Some texts ≡ map (bytes_at contents) paths
+-- what is read of a path, where standard input has a text
+abbrev pub bytes_if : (dash : Bool) (text : List ℕ) → Contents → (path : List ℕ) → Option (List ℕ)
+bytes_if true text contents path = Some text
+bytes_if false text contents path = bytes_at contents path
+
+abbrev pub bytes_given : (text : List ℕ) → Contents → (path : List ℕ) → Option (List ℕ)
+bytes_given text contents path = bytes_if (is_dash path) text contents path
+
+-- the texts are what is read of the paths
+abbrev pub AreTextsGiven : (text : List ℕ) → Contents → (paths texts : List (List ℕ)) → Type 0
+AreTextsGiven text contents paths texts = map Some texts ≡ map (bytes_given text contents) paths
 
 -- the files are the chosen ones of the folders' text files; /usr/lib's have these names
 pub record AreReadOf (root : List ℕ) (contents : Contents) (listed : List (List ℕ)) (files : List ChosenFile) : Type 0 where

@@ -6,3 +6,4 @@ pub mod ComparedDatabases
 pub mod Internal
 pub mod NamedDatabases
 pub mod Hiding
+pub mod Given

@@ -1,8 +1,10 @@
 -- `query` of the devices of its words, or with a lone `-` of those that standard input names, one a line: what it leaves, and
 -- what it refuses. Our choice.
 use Rattle.std.specs.Prelude.{◌≡◌, ◌<◌, ◌⊎◌, ℕ, Bool, true, false, List, [], ◌∷◌, Option, Some, IfSome, codes, length}
+use Rattle.std.specs.List.{list_any}
 use Rattle.std.specs.Str.{bytes_eq}
 use Rattle.hwdb_spec.specs.Failures.{HasFailed}
+use Rattle.hwdb_tasks.specs.Given.{is_dash}
 use Rattle.hwdb_spec.specs.Store.{Contents}
 use Rattle.hwdb_spec.specs.System.{asked_database}
 use Rattle.hwdb_spec.specs.Texts.{devices_of, max_file}
@@ -12,7 +14,7 @@ use Rattle.hwdb_transfer.specs.declared.errors.ToolError.TheVariants.{Read, TooL
 use Rattle.hwdb_transfer.specs.declared.errors.ToolError.{ToolError}
 use Rattle.hwdb_stream.specs.Streams.{IfBadDatabase, IsStreamRefusal, texts_of}
 use Rattle.hwdb_system.specs.Refusals.{IsAt, IsOfDatabase}
-use Rattle.hwdb_system.specs.declared.refusals.Refusal.TheVariants.{At}
+use Rattle.hwdb_system.specs.declared.refusals.Refusal.TheVariants.{At, Plain}
 use Rattle.hwdb_system.specs.declared.refusals.Refusal.{Refusal}
 use Rattle.hwdb_tasks.specs.Done.{IsAnswered}
 use Rattle.hwdb_tasks.specs.Undone.{IsAnswerRefused, IsAskedPath, IsUnfound}
@@ -22,6 +24,10 @@ abbrev pub is_input : (devices : List (List ℕ)) → Bool
 is_input [] = false
 is_input (device ∷ []) = bytes_eq device (codes "-")
 is_input (device ∷ next ∷ more) = false
+
+-- one of the paths stands for standard input
+abbrev pub any_dash : (given : List (List ℕ)) → Bool
+any_dash given = list_any is_dash given
 
 -- standard output took what the database gives these devices, or, where the input tells its bytes, those that it names
 abbrev pub AreAnsweredFrom : (from_input : Bool) (root : List ℕ) (json : Bool) (devices : List (List ℕ)) (input : Option (List ℕ)) → Contents → (out_before out_now : Option (List ℕ)) → Type 0
@@ -37,10 +43,16 @@ IsOfInput Read path refusal = IsAt Read (codes "standard input") refusal
 IsOfInput TooLong path refusal = IsAt TooLong (codes "a line of standard input") refusal
 IsOfInput error path refusal = IsOfDatabase error path refusal
 
--- what a refusal says of the input is so: that it can't be read, where a call of it failed, or that a line of it is too long
+-- the same of the input as a whole
+abbrev pub IsOfWholeInput : ToolError → Refusal → Type 0
+IsOfWholeInput Read refusal = IsAt Read (codes "standard input") refusal
+IsOfWholeInput TooLong refusal = IsAt TooLong (codes "standard input") refusal
+IsOfWholeInput error refusal = refusal ≡ Plain error
+
+-- what a refusal says of the input is so: that it can't be read, where a call of it failed, or that it, or a line of it, is too long
 abbrev pub IsInputUnread : (failures_before failures_now : ℕ) → Refusal → Type 0
 IsInputUnread before now (At Read at cause) = (at.items ≡ codes "standard input") × HasFailed before now
-IsInputUnread before now (At TooLong at cause) = at.items ≡ codes "a line of standard input"
+IsInputUnread before now (At TooLong at cause) = (at.items ≡ codes "a line of standard input") ⊎ (at.items ≡ codes "standard input")
 IsInputUnread before now refusal = ⊥
 
 -- answering the devices of the input was refused, and standard output has what it had, or a prefix

@@ -1,8 +1,9 @@
 -- What each task may refuse, when, and what it leaves. Our choice.
-use Rattle.std.specs.Prelude.{◌≡◌, ◌≢◌, ◌⊎◌, ℕ, Bool, true, false, List, [], ◌∷◌, Option, Some, None, Contains}
+use Rattle.std.specs.Prelude.{◌≡◌, ◌≢◌, ◌⊎◌, ℕ, Bool, true, false, List, [], ◌∷◌, Option, Some, None, Contains, codes}
 use Rattle.hwdb_spec.specs.Assignment.{Position}
 use Rattle.hwdb_spec.specs.Checks.{check_text}
 use Rattle.hwdb_spec.specs.Folders.{Source}
+use Rattle.hwdb_tasks.specs.Given.{IsGiven, is_dash}
 use Rattle.hwdb_spec.specs.Progress.{listing, update_text}
 use Rattle.hwdb_spec.specs.Failures.{HasFailed}
 use Rattle.hwdb_spec.specs.Store.{AreTaken, Contents, Outcomes, NoMore, Same, database_name, most_parts, path_in}
@@ -66,19 +67,27 @@ IsListRefusedBy after bytes Memory = Unit {0}
 IsListRefusedBy after bytes Write = Unit {0}
 IsListRefusedBy after bytes _ = ⊥
 
+-- how a refusal names a file that is given: `-` is standard input
+abbrev pub told_as : (dash : Bool) (path : List ℕ) → List ℕ
+told_as true path = codes "standard input"
+told_as false path = path
+
+abbrev pub told_path : (path : List ℕ) → List ℕ
+told_path path = told_as (is_dash path) path
+
 -- `ask` refused over these bytes, and both outputs have what they had, or a prefix of what they were to take
-pub record IsUnasked (file device : List ℕ) (contents : Contents) (error : ToolError) (err_before err_then out_before out_now : Option (List ℕ)) : Type 0 where
+pub record IsUnasked (file device : List ℕ) (input : Option (List ℕ)) (contents : Contents) (error : ToolError) (err_before err_then out_before out_now : Option (List ℕ)) : Type 0 where
   pub bytes : List ℕ
-  pub read : bytes_at contents file ≡ Some bytes
+  pub read : IsGiven file input contents bytes
   pub refused : IsAskRefusal bytes max_file error
   pub untouched : error ≢ Write → (err_then ≡ err_before) × (out_now ≡ out_before)
   pub cut_short : error ≡ Write → WroteTextsPrefix (AreAskTexts file bytes device) err_before err_then out_before out_now
 
 -- `ask` is refused
-abbrev pub IsAskRefused : (file device : List ℕ) → Contents → Refusal → (err_before err_then : Option (List ℕ)) (out_before out_now : Option (List ℕ)) → Type 0
-IsAskRefused file device contents refusal err_before err_then out_before out_now =
-    (IsUnread file refusal × (err_then ≡ err_before) × (out_now ≡ out_before))
-    ⊎ ((error : ToolError) × (refusal ≡ Plain error) × IsUnasked file device contents error err_before err_then out_before out_now)
+abbrev pub IsAskRefused : (file device : List ℕ) (input : Option (List ℕ)) → Contents → Refusal → (err_before err_then : Option (List ℕ)) (out_before out_now : Option (List ℕ)) → Type 0
+IsAskRefused file device input contents refusal err_before err_then out_before out_now =
+    (IsUnread (told_path file) refusal × (err_then ≡ err_before) × (out_now ≡ out_before))
+    ⊎ ((error : ToolError) × (refusal ≡ Plain error) × IsUnasked file device input contents error err_before err_then out_before out_now)
 
 -- a path can't be read: where it is given, also where nothing stands there, else only where reading it may fail
 abbrev pub IsUnreadableIf : (is_given : Bool) (MayFail : (path : List ℕ) → Type 0) → Contents → (path : List ℕ) → Type 0
@@ -87,7 +96,7 @@ IsUnreadableIf false MayFail contents = MayFail
 
 -- reading one of the given files was refused
 abbrev pub IsGivenUnread : (given : List (List ℕ)) → Refusal → Type 0
-IsGivenUnread given refusal = (refusal ≡ Plain Memory) ⊎ ((path : List ℕ) × Contains given path × IsUnread path refusal)
+IsGivenUnread given refusal = (refusal ≡ Plain Memory) ⊎ ((path : List ℕ) × Contains given path × IsUnread (told_path path) refusal)
 
 -- reading the files that are to be checked is refused: the given ones, or where none is given those of both folders
 abbrev pub AreUncheckable : (given : List (List ℕ)) (root : List ℕ) → Contents → Refusal → Type 0

@@ -1,16 +1,19 @@
 //! What devices get: from the database, or from one text file.
-ghost use Rattle.std.specs.Prelude.{◌≡◌, ◌≢◌, ◌⊎◌, option_map, IfErr, OnOk};
+ghost use Rattle.std.specs.Prelude.{◌≡◌, ◌≢◌, ◌⊎◌, true, false, option_map, IfErr, OnOk};
 ghost use Rattle.hwdb_spec.specs.Failures.{HasFailed};
 ghost use Rattle.hwdb_transfer.specs.Databases.{IsQueryRefusal, IsTextOf};
 ghost use Rattle.hwdb_transfer.specs.Devices.{Wrote, WrotePrefix};
 ghost use Rattle.hwdb_system.specs.Refusals.{HasReason, IsUnreadable};
 ghost use Rattle.hwdb_tasks.specs.Done.{IsAnswered, IsAsked, IsListFrom, explain_form};
+ghost use Rattle.hwdb_tasks.specs.Given.{is_dash};
+ghost use Rattle.hwdb_tasks.specs.Queries.{IsInputUnread};
 ghost use Rattle.hwdb_tasks.specs.Undone.{IsAnswerRefused, IsAskRefused, IsListRefusedBy};
 ghost use Rattle.hwdb_system.specs.declared.refusals.Refusal.TheVariants.{Plain};
 
 use crate::databases::asked;
+use crate::given::read;
 use hwdb_commands::{ask, run_explain, run_explain_json, run_list, run_list_json};
-use hwdb_devices::Sink;
+use hwdb_devices::{Sink, Source};
 use hwdb_system::{Refusal, System};
 use hwdb_transfer::ToolError;
 use std::alloc::Global;
@@ -130,31 +133,34 @@ fn list_from<O: Sink>(
     Ok(())
 }
 
-/// Prints the properties that one text file gives the device.
-pub fn ask_file<D: System, O: Sink, E: Sink>(
+/// Prints the properties that one text file gives the device; `-` is the one that `input` has left.
+pub fn ask_file<D: System, I: Source, O: Sink, E: Sink>(
     alloc: Global,
     file: &str,
     device: &[u8],
     system: &D,
+    input: &mut I,
     out: &mut O,
     err: &mut E,
 ) -> Result<(), Refusal>
     ensures asked { D.Store.tells → OnOk result
-        (IsAsked file.now device.now (D.Store.seen system.now)
+        (IsAsked file.now device.now (I.left input.old) (D.Store.seen system.now)
         (E.taken err.old) (E.taken err.new) (O.taken out.old) (O.taken out.new)) }
     ensures refused { D.Store.tells → IfErr result
-        (λ r. IsAskRefused file.now device.now (D.Store.seen system.now) r
+        (λ r. IsAskRefused file.now device.now (I.left input.old) (D.Store.seen system.now) r
         (E.taken err.old) (E.taken err.new) (O.taken out.old) (O.taken out.new)) }
-    ensures reason { IfErr result (HasReason
+    ensures unread { is_dash file.now ≡ false → input.new ≡ input.old }
+    ensures reason { IfErr result (λ r. HasReason
         (IsUnreadable (D.System.may_fail system.now) (D.Store.seen system.now)) ⊥
-        (D.Store.seen system.now)) }
+        (D.Store.seen system.now) r ⊎ ((is_dash file.now ≡ true)
+        × IsInputUnread (I.failures input.old) (I.failures input.new) r)) }
     ensures unfailed { IfErr result (λ r. r ≢ Plain ToolError.Write
         → E.failures err.new ≡ E.failures err.old) }
     ensures cause { IfErr result (λ r. r ≡ Plain ToolError.Write
         → HasFailed (E.failures err.old) (E.failures err.new)
         ⊎ HasFailed (O.failures out.old) (O.failures out.new)) }
 {
-    let bytes = system.input(alloc, file)?;
+    let bytes = read(alloc, file, system, input)?;
     ask(alloc, file, &bytes, device, out, err)?;
     Ok(())
 }

@@ -7,6 +7,7 @@
 //! | `progress` | what `update --verbose` says of the files that it compiles |
 //! | `queries` | `query`: what each of several devices gets, those of the words or those that standard input names |
 //! | `answers` | `explain`, `list` and `ask`: what a device gets |
+//! | `given` | the files that words name, of which `-` is standard input |
 //! | `checks` | `check`: text files that are read and looked over |
 //! | `differences` | `diff`: two databases that are read and compared |
 //! | `verification` | `verify`: a database that is read whole |
@@ -20,6 +21,7 @@ mod checks;
 mod databases;
 mod differences;
 mod dumps;
+mod given;
 mod hiding;
 mod progress;
 mod queries;

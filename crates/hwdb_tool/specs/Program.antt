@@ -6,6 +6,7 @@ use Rattle.std.specs.Io.KnownBytes.{Appends}
 use Rattle.clap.specs.Faults.{fault_of}
 use Rattle.hwdb_cli.specs.Line.{hwdb_app}
 use Rattle.hwdb_cli.specs.Words.{AskFor, AskForText}
+use Rattle.hwdb_tasks.specs.Given.{is_dash}
 use Rattle.hwdb_spec.specs.Store.{Contents, Outcomes, Same, InPlace}
 use Rattle.hwdb_spec.specs.System.{database_folder}
 use Rattle.hwdb_transfer.specs.Databases.{IsTextOf}
@@ -15,7 +16,7 @@ use Rattle.hwdb_cli.specs.declared.job.Job.{Job}
 use Rattle.hwdb_tasks.specs.CheckedFiles.{AreCheckedFiles, IsChecked}
 use Rattle.hwdb_tasks.specs.ComparedDatabases.{IsCompared}
 use Rattle.hwdb_tasks.specs.NamedDatabases.{IsDumped, IsPrinted, IsSummary}
-use Rattle.hwdb_tasks.specs.Queries.{AreAnswered, is_input}
+use Rattle.hwdb_tasks.specs.Queries.{AreAnswered, any_dash, is_input}
 use Rattle.hwdb_tasks.specs.Done.{IsAnswered, IsAsked, IsLeftByUpdate, IsListFrom, explain_form}
 use Rattle.hwdb_tasks.specs.Hiding.{IsUpdatedTelling}
 
@@ -48,9 +49,9 @@ IsTaskDone (Explain device json) root usr strict status input old new left err_b
 IsTaskDone (ListHits after limit device json) root usr strict status input old new left err_before err_now out_before out_now =
     IsAnswered root (IsListFrom json (string_bytes device) (option_map string_bytes after) limit) old out_before out_now × IsQuiet status old new err_before err_now
 IsTaskDone (Ask file device) root usr strict status input old new left err_before err_now out_before out_now =
-    IsAsked (string_bytes file) (string_bytes device) old err_before err_now out_before out_now × (status ≡ 0) × Same old new
+    IsAsked (string_bytes file) (string_bytes device) input old err_before err_now out_before out_now × (status ≡ 0) × Same old new
 IsTaskDone (Check files) root usr strict status input old new left err_before err_now out_before out_now =
-    IsChecked (AreCheckedFiles (map string_bytes files.items) root old) strict status out_before out_now × Same old new × (err_now ≡ err_before)
+    IsChecked (AreCheckedFiles (map string_bytes files.items) root input old) strict status out_before out_now × Same old new × (err_now ≡ err_before)
 IsTaskDone (Diff old_path new_path) root usr strict status input old new left err_before err_now out_before out_now =
     IsCompared (string_bytes old_path) (string_bytes new_path) status old out_before out_now × Same old new × (err_now ≡ err_before)
 IsTaskDone (Verify database) root usr strict status input old new left err_before err_now out_before out_now =
@@ -80,6 +81,8 @@ pub record IsTold (words : List (List ℕ)) (old new : Contents) (err_before err
 -- the task reads standard input
 abbrev pub reads_input : Task → Bool
 reads_input (Query devices json) = is_input (map string_bytes devices.items)
+reads_input (Ask file device) = is_dash (string_bytes file)
+reads_input (Check files) = any_dash (map string_bytes files.items)
 reads_input _ = false
 
 -- the task is an update

@@ -43,9 +43,9 @@ IsTaskRefused (ListHits after limit device json) root usr input refusal old new 
     IsAnswerRefused root (IsListRefusedBy (option_map string_bytes after)) (IsListFrom json (string_bytes device) (option_map string_bytes after) limit) old refusal out_before out_now
     × (err_then ≡ err_before) × AreKept old new left_before left
 IsTaskRefused (Ask file device) root usr input refusal old new left_before left err_before err_then out_before out_now =
-    IsAskRefused (string_bytes file) (string_bytes device) old refusal err_before err_then out_before out_now × AreKept old new left_before left
+    IsAskRefused (string_bytes file) (string_bytes device) input old refusal err_before err_then out_before out_now × AreKept old new left_before left
 IsTaskRefused (Check files) root usr input refusal old new left_before left err_before err_then out_before out_now =
-    IsCheckRefused (AreUncheckable (map string_bytes files.items) root old) (AreCheckedFiles (map string_bytes files.items) root old) refusal out_before out_now
+    IsCheckRefused (AreUncheckable (map string_bytes files.items) root old) (AreCheckedFiles (map string_bytes files.items) root input old) refusal out_before out_now
     × (err_then ≡ err_before) × AreKept old new left_before left
 IsTaskRefused (Diff old_path new_path) root usr input refusal old new left_before left err_before err_then out_before out_now =
     IsDiffRefused (string_bytes old_path) (string_bytes new_path) old refusal out_before out_now × (err_then ≡ err_before) × AreKept old new left_before left

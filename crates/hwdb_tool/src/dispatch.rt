@@ -21,7 +21,7 @@ use std::alloc::Global;
 /// Does what the words say, the first of which is the program's name, and returns the status: 0; 1 where `check` or
 /// `diff` finds something, or `--strict` says so, and after a refusal, whose line goes to `err`; 2 after one of `diff`.
 /// Words that the command doesn't take, and that ask for no help, are refused. Where the reader of `out` went away the
-/// status is 0, and nothing is said. Of `input` only `query -` reads.
+/// status is 0, and nothing is said. Of `input` only a command reads that is given `-`.
 pub fn program<D: Rooted, I: Source, O: Outlet, E: Sink>(
     alloc: Global,
     words: &[String],
@@ -219,11 +219,19 @@ fn run<D: System, I: Source, O: Sink, E: Sink>(
             explain(alloc, root, device.as_bytes(), *json, system, out)?
         }
         Task::Diff { old, new } => return diff(alloc, old.as_str(), new.as_str(), system, out),
-        Task::Check { files } => return check(alloc, root, files, job.strict, system, out),
+        Task::Check { files } => return check(alloc, root, files, job.strict, system, input, out),
         Task::Verify { database } => verify(alloc, root, text_of(database), system, out)?,
         Task::Dump { database } => dump(alloc, root, text_of(database), system, out)?,
         Task::Ask { file, device } => {
-            ask_file(alloc, file.as_str(), device.as_bytes(), system, out, err)?
+            ask_file(
+                alloc,
+                file.as_str(),
+                device.as_bytes(),
+                system,
+                input,
+                out,
+                err,
+            )?
         }
         Task::List {
             after,

@@ -1,0 +1,6 @@
+use Rattle.std.proofs.Common.{◌≡◌, drop, map, string_bytes}
+use Rattle.hwdb_tasks.specs.Queries.{any_dash}
+use Rattle.hwdb_tasks.proofs.given.any_dash.Given as goal
+
+abbrev pub invariant-loop-path : goal.invariant-loop-path
+invariant-loop-path l = any_dash (map string_bytes (drop l.path-index l.given)) ≡ any_dash (map string_bytes l.given)

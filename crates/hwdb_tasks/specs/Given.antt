@@ -1,0 +1,18 @@
+-- Files that the words of `ask` and `check` name: the path `-` has what standard input has left, every other path what is there
+-- (POSIX, Utility Syntax Guidelines, 13). Our choice.
+use Rattle.std.specs.Prelude.{◌≡◌, ℕ, Bool, true, false, List, Option, Some, IfSome, codes}
+use Rattle.std.specs.Str.{bytes_eq}
+use Rattle.hwdb_spec.specs.Store.{Contents}
+use Rattle.hwdb_spec.specs.System.{bytes_at}
+
+-- the path stands for standard input
+abbrev pub is_dash : (path : List ℕ) → Bool
+is_dash path = bytes_eq path (codes "-")
+
+-- a path has these bytes: `-` those that standard input tells, where it tells them
+abbrev pub IsContent : (dash : Bool) (path : List ℕ) (input : Option (List ℕ)) → Contents → (bytes : List ℕ) → Type 0
+IsContent true path input contents bytes = IfSome input (λ told. bytes ≡ told)
+IsContent false path input contents bytes = bytes_at contents path ≡ Some bytes
+
+abbrev pub IsGiven : (path : List ℕ) (input : Option (List ℕ)) → Contents → (bytes : List ℕ) → Type 0
+IsGiven path = IsContent (is_dash path) path
