@@ -56,7 +56,7 @@ fn for_update(rt: &HostRuntime, words: &[String], switch: Switch) -> Switch {
 }
 
 /// What the variable says to these words.
-fn switch(rt: &HostRuntime, words: &[String]) -> Switch {
+fn switch_for(rt: &HostRuntime, words: &[String]) -> Switch {
     match env::var(rt, NAME) {
         Ok(text) => match switch_of(text.as_str()) {
             Switch::Off => Switch::Off,
@@ -71,7 +71,7 @@ fn switch(rt: &HostRuntime, words: &[String]) -> Switch {
 /// The status of a run that ends here: of an update that the environment has do nothing, or if memory is refused. What it
 /// comes from is said on standard error.
 pub fn status_of_bypass<E: Sink>(rt: &HostRuntime, words: &[String], err: &mut E) -> Option<u8> {
-    let (line, status) = match switch(rt, words) {
+    let (line, status) = match switch_for(rt, words) {
         Switch::Off => return None,
         Switch::On => (SKIPPED, Some(0)),
         Switch::Unclear => (UNCLEAR, None),
