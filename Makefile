@@ -19,7 +19,7 @@ INCLUDEDIR ?= $(PREFIX)/include
 # `yes` also installs the program under the name systemd-hwdb, as a link.
 SYSTEMD_HWDB ?= no
 # What README has its readers look at.
-CITED := $(wildcard docs/*.md docs/screen.* examples/*)
+CITED := CONTRIBUTING.md SECURITY.md $(wildcard docs/*.md docs/screen.* examples/*)
 # What is installed and tested: the program that `make` built, or another one.
 PROGRAM ?= out/hwdb
 # The library that is installed, libhwdb.a and libhwdb-udev.so.0 beside it; none where this is empty.
@@ -41,7 +41,7 @@ all: program
 
 kit:
 	@command -v rt >/dev/null || { echo "make: building needs the Rattle toolchain: the kit rattle-kit-13f, with its command rt on" \
-		"the path (README.md, 'Get it')" >&2; exit 1; }
+		"the path (README.md, 'Install')" >&2; exit 1; }
 
 program: kit
 	cd crates/hwdb && rt run -- ask /dev/null none
