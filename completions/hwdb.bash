@@ -47,14 +47,14 @@ _hwdb() {
     local -A options=(
         [hwdb]='--usr -s --strict -r --root -h --help -V --version'
         [update]='--usr -s --strict -r --root --verbose -h --help'
-        [query]='--usr -s --strict -r --root --json -h --help'
-        [explain]='--usr -s --strict -r --root --json -h --help'
-        [ask]='--usr -s --strict -r --root -h --help'
-        [list]='--usr -s --strict -r --root --after --limit --json -h --help'
-        [check]='--usr -s --strict -r --root -h --help'
-        [diff]='--usr -s --strict -r --root -h --help'
-        [verify]='--usr -s --strict -r --root -h --help'
-        [dump]='--usr -s --strict -r --root -h --help'
+        [query]='-r --root --json -h --help'
+        [explain]='-r --root --json -h --help'
+        [ask]='-r --root -h --help'
+        [list]='-r --root --after --limit --json -h --help'
+        [check]='-s --strict -r --root -h --help'
+        [diff]='-r --root -h --help'
+        [verify]='-r --root -h --help'
+        [dump]='-r --root -h --help'
         [help]=''
     )
     local -A values=(

@@ -70,8 +70,11 @@ complete -c hwdb -n __hwdb_none -a verify -d 'Says whether a file is a database 
 complete -c hwdb -n __hwdb_none -a dump -d 'Prints a database as a text file'
 complete -c hwdb -n __hwdb_none -a help -d 'Print this message or the help of the given subcommand(s)'
 
-complete -c hwdb -n 'not __hwdb_at help' -l usr -d 'With update: write /usr/lib/udev/hwdb.bin'
-complete -c hwdb -n 'not __hwdb_at help' -s s -l strict -d 'With update: end with status 1 if a line had a fault; with check: if there is a warning'
+complete -c hwdb -n __hwdb_none -l usr -d 'With update: write /usr/lib/udev/hwdb.bin'
+complete -c hwdb -n '__hwdb_at update' -l usr -d 'With update: write /usr/lib/udev/hwdb.bin'
+complete -c hwdb -n __hwdb_none -s s -l strict -d 'With update: end with status 1 if a line had a fault; with check: if there is a warning'
+complete -c hwdb -n '__hwdb_at update' -s s -l strict -d 'With update: end with status 1 if a line had a fault; with check: if there is a warning'
+complete -c hwdb -n '__hwdb_at check' -s s -l strict -d 'With update: end with status 1 if a line had a fault; with check: if there is a warning'
 complete -c hwdb -n 'not __hwdb_at help' -s r -l root -x -a '(__fish_complete_directories)' -d 'Put PATH in front of the paths of folders and databases'
 complete -c hwdb -n 'not __hwdb_at help' -s h -l help -d 'Print help'
 complete -c hwdb -n __hwdb_none -s V -l version -d 'Print version'

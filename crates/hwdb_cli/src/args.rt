@@ -13,6 +13,7 @@ ghost use Rattle.hwdb_cli.specs.Refusals.{IsToldOf, IsToldOfOne};
 ghost use Rattle.hwdb_cli.specs.declared.job.WordsFault.TheVariants.{Memory};
 
 use crate::command::hwdb_command;
+use crate::help::{fitting_help, short_help};
 use crate::job::{Job, Task, WordsFault};
 use crate::tips::{with_command_tip, with_fitting_tip};
 use clap::error::ErrorKind;
@@ -271,6 +272,8 @@ fn refusal_of(alloc: Global, error: &Error, words: &[String]) -> WordsFault
 fn text_of_fault(alloc: Global, error: &Error, words: &[String]) -> Result<String, AllocError> {
     let text = error.to_string(alloc)?;
     match error.kind() {
+        ErrorKind::DisplayHelp => fitting_help(alloc, text.as_str()),
+        ErrorKind::MissingSubcommand => short_help(alloc),
         ErrorKind::UnknownArgument => with_fitting_tip(alloc, text.as_str(), words),
         ErrorKind::InvalidSubcommand => with_command_tip(alloc, text.as_str()),
         _ => Ok(text),

@@ -16,58 +16,59 @@ const VERSION: &str = "1.0.0";
 
 const HWDB_ABOUT: &str = "Compiles and queries the hardware database of udev";
 
-const HWDB_AFTER: &str = "Status: 0; 1 after a refusal.\nExample: hwdb query usb:v1D6Bp0002";
+const HWDB_AFTER: &str =
+    "Exit status: 0 on success, 1 on errors.\nExample: hwdb query usb:v1D6Bp0002";
 
 const UPDATE_ABOUT: &str =
     "Compiles the text files of /etc/udev/hwdb.d and /usr/lib/udev/hwdb.d into /etc/udev/hwdb.bin";
 
 const UPDATE_AFTER: &str =
-    "Status: 0; 1 after a refusal, or with --strict if a line had a fault.\nExample: hwdb --root /mnt update --strict";
+    "Exit status: 0 on success, 1 on errors, and with --strict if a line had a fault.\nExample: hwdb --root /mnt update --strict";
 
 const QUERY_ABOUT: &str =
     "Prints the properties that the database gives each device, as KEY=VALUE lines";
 
 const QUERY_AFTER: &str =
-    "Status: 0, also if there are none; 1 after a refusal.\nExample: hwdb query usb:v1D6Bp0002";
+    "Exit status: 0 on success, even if nothing matches; 1 on errors.\nExample: hwdb query usb:v1D6Bp0002";
 
 const EXPLAIN_ABOUT: &str =
     "Prints the properties that the database gives a device, and where each comes from";
 
 const EXPLAIN_AFTER: &str =
-    "Status: 0, also if there are none; 1 after a refusal.\nExample: hwdb explain usb:v1D6Bp0002";
+    "Exit status: 0 on success, even if nothing matches; 1 on errors.\nExample: hwdb explain usb:v1D6Bp0002";
 
 const ASK_ABOUT: &str =
     "Prints the properties that one text file gives a device, as KEY=VALUE lines";
 
 const ASK_AFTER: &str =
-    "Status: 0, also if there are none; 1 after a refusal.\nExample: hwdb ask 60-keyboard.hwdb evdev:input:b0003v04B3p3018";
+    "Exit status: 0 on success, even if nothing matches; 1 on errors.\nExample: hwdb ask 60-keyboard.hwdb evdev:input:b0003v04B3p3018";
 
 const LIST_ABOUT: &str =
     "Prints each assignment of the database that matches a device, with its position";
 
 const LIST_AFTER: &str =
-    "Status: 0, also if there are none; 1 after a refusal.\nExample: hwdb list --limit 10 --after 3:17:: usb:v1D6Bp0002";
+    "Exit status: 0 on success, even if nothing matches; 1 on errors.\nExample: hwdb list --limit 10 --after 3:17:: usb:v1D6Bp0002";
 
 const CHECK_ABOUT: &str =
     "Says what is wrong in text files, or hardly meant, and writes no database";
 
 const CHECK_AFTER: &str =
-    "Status: 0; 1 if there is a fault, with --strict also if there is a warning, and after a refusal.\nExample: hwdb check 60-keyboard.hwdb";
+    "Exit status: 0 if nothing is wrong; 1 if there is a fault, with --strict also if there is a warning, and on errors.\nExample: hwdb check 60-keyboard.hwdb";
 
 const DIFF_ABOUT: &str = "Prints what changed from one database to another";
 
 const DIFF_AFTER: &str =
-    "Status: 0 if nothing changed, 1 if something did, 2 after a refusal.\nExample: hwdb diff hwdb.bin.old /etc/udev/hwdb.bin";
+    "Exit status: 0 if nothing changed, 1 if something did, 2 on errors.\nExample: hwdb diff hwdb.bin.old /etc/udev/hwdb.bin";
 
 const VERIFY_ABOUT: &str =
     "Says whether a file is a database that can be read, and how much is in it";
 
 const VERIFY_AFTER: &str =
-    "Status: 0; 1 if it is none, and after a refusal.\nExample: hwdb verify /etc/udev/hwdb.bin";
+    "Exit status: 0 if it is a database; 1 if it is none, and on errors.\nExample: hwdb verify /etc/udev/hwdb.bin";
 
 const DUMP_ABOUT: &str = "Prints a database as a text file";
 
-const DUMP_AFTER: &str = "Status: 0; 1 after a refusal.\nExample: hwdb dump > all.hwdb";
+const DUMP_AFTER: &str = "Exit status: 0 on success, 1 on errors.\nExample: hwdb dump > all.hwdb";
 
 /// A command, or that memory was refused while it was made. What is added to one that wasn't made is let go: so
 /// a command is written down without a way out behind each of its parts.

@@ -1,0 +1,73 @@
+//! Help: what `clap` says of a command, without options that do nothing for it; and a short one for a line without a
+//! command.
+use std::alloc::{AllocError, Global};
+
+/// What is said if no command is given.
+const SHORT_HELP: &str = "error: a command is missing
+
+Usage: hwdb [OPTIONS] <COMMAND>
+
+  update   compiles the text files into the database
+  query    prints the properties that a device gets
+  explain  prints them, and where each comes from
+  list     prints each assignment that matches a device
+  ask      prints the properties that one text file gives
+  check    says what is wrong in text files
+  diff     prints what changed between two databases
+  verify   says whether a file is a database
+  dump     prints a database as a text file
+
+For more information, try 'hwdb help', or 'hwdb help COMMAND'.
+";
+
+/// How the usage of a command begins, before its name.
+const USAGE: &str = "Usage: hwdb ";
+
+/// How the lines of the two options begin that each command takes, but that do something for few.
+const USR_LINE: &str = "      --usr ";
+
+const STRICT_LINE: &str = "  -s, --strict ";
+
+/// The short help.
+///
+/// The only error is that memory is refused.
+pub fn short_help(alloc: Global) -> Result<String, AllocError> {
+    String::from_str(alloc, SHORT_HELP)
+}
+
+/// A command's help without the options that do nothing for it.
+///
+/// The only error is that memory is refused.
+pub fn fitting_help(alloc: Global, text: &str) -> Result<String, AllocError> {
+    let command = command_of(text);
+    let mut shown = String::new(alloc);
+    for line in text.split("\n") {
+        if !is_idle(line, command) {
+            shown.push_str(line)?;
+            shown.push_str("\n")?;
+        }
+    }
+    // The text ends in a newline, behind which there is an empty line.
+    let _ = shown.pop();
+    Ok(shown)
+}
+
+/// The command that the usage names; `[OPTIONS]` in the help of the whole program.
+fn command_of(text: &str) -> &str {
+    match text.split_once(USAGE) {
+        Some((_, usage)) => match usage.split_once(' ') {
+            Some((command, _)) => command,
+            None => usage,
+        },
+        None => "",
+    }
+}
+
+/// Whether a line of help shows an option that does nothing for the command.
+fn is_idle(line: &str, command: &str) -> bool {
+    match command {
+        "[OPTIONS]" | "update" => false,
+        "check" => line.starts_with(USR_LINE),
+        _ => line.starts_with(USR_LINE) || line.starts_with(STRICT_LINE),
+    }
+}
