@@ -1,4 +1,4 @@
--- What `diff` writes and refuses. Our choice.
+-- What `diff` writes, and its errors. Our choice.
 use Rattle.std.specs.Prelude.{List, ℕ, Bool, ◌≡◌}
 use Rattle.hwdb_spec.specs.Format.{IsDatabase}
 use Rattle.hwdb_spec.specs.Tree.{Tree}
@@ -32,21 +32,21 @@ pub record IsNewRefused (old new : List ℕ) (fault : DbFault) : Type 0 where
   pub old_database : IsDatabase old tree
   pub refused : IsNoDatabase new fault
 
--- what `diff` may refuse: a fault of the old database before one of the new
+-- when each error of `diff` comes: a fault of the old database before one of the new
 abbrev pub IsDiffRefusal : (old new : List ℕ) → DiffError → Type 0
 IsDiffRefusal old new (Old fault) = IsNoDatabase old fault
 IsDiffRefusal old new (New fault) = IsNewRefused old new fault
 IsDiffRefusal old new NotWritten = Unit {0}
 IsDiffRefusal old new NoMemory = Unit {0}
 
--- what printing may refuse
+-- when each error of printing comes
 abbrev pub IsPrintRefusal : DiffError → Type 0
 IsPrintRefusal (Old fault) = ⊥
 IsPrintRefusal (New fault) = ⊥
 IsPrintRefusal NotWritten = Unit {0}
 IsPrintRefusal NoMemory = Unit {0}
 
--- the same without a word on which of the two it was
+-- as an error of one database, without a word on which of the two it is
 abbrev pub refusal_of : DiffError → ToolError
 refusal_of (Old fault) = BadDatabase fault
 refusal_of (New fault) = BadDatabase fault

@@ -16,12 +16,12 @@ pub enum DiffError {
     New(DbFault),
     /// A sink failed.
     Write,
-    /// Memory was refused.
+    /// An allocation failed.
     Memory,
 }
 
 impl DiffError {
-    /// The same without a word on which of the two it was.
+    /// As an error of one database, without a word on which of the two it is.
     pub fn refusal(self) -> ToolError
         ensures { result ≡ refusal_of self }
     {
@@ -63,7 +63,7 @@ pub enum DumpError {
     Unsayable(Vec<u8>),
     /// A sink failed.
     Write,
-    /// Memory was refused.
+    /// An allocation failed.
     Memory,
 }
 
