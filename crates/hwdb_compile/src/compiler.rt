@@ -1,7 +1,7 @@
 //! The compiler: the files of two folders, made into one database.
 //!
 //! The time is a pass over the files' bytes, and a sort of their assignments. Beside the files the memory is an entry
-//! for each assignment, the nodes of the tree, and the database: no text is copied before it is written. An entry
+//! for each assignment, the nodes of the tree, and the database. No text is copied before it is written. An entry
 //! borrows its texts from a file's bytes, and its path from a list that is made first. So all files are in memory at
 //! once.
 ghost use Rattle.std.specs.Prelude.{◌≡◌, ◌≤◌, ◌++◌, ℕ, List, map, length, All, IfOk, IfErr, OnOk, flat_map};

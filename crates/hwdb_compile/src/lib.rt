@@ -1,7 +1,7 @@
 //! The compiler: text files of two folders, made into one database.
 //!
 //! Of the assignments of the files with one pattern and key the last one survives (hwdb(7)). The database is the
-//! written form of the map of those that do. Lines that hwdb(7) doesn't allow are skipped, and told as faults.
+//! written form of the map of those that do. Lines that hwdb(7) doesn't allow are skipped, and reported as faults.
 //!
 //! | Module | What it does |
 //! |---|---|

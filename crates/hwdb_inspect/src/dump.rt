@@ -87,12 +87,12 @@ fn print_records<O: Sink>(
 }
 
 /// Checks the bytes, and prints the database to `out` as text of the form that hwdb(7) describes. There is a record for
-/// each assignment, by priority, line, pattern and key: a comment with its file and its line, its pattern, its
+/// each assignment, by priority, line, pattern and key. It is a comment with the file and the line, the pattern, the
 /// property, and an empty line.
 ///
 /// It is an error if the bytes are no database, if a write fails, or if an allocation does. It is one too if the record
-/// of an assignment, read as a file, doesn't say that assignment alone: the error has the first one's pattern. Nothing
-/// is printed before this is known.
+/// of an assignment, read as a file, doesn't say that assignment alone. The error then has the first one's pattern.
+/// Nothing is printed before this is known.
 ///
 /// The memory is all assignments, and 64 KiB of the text. The time is that of sorting the assignments and of reading
 /// their records.

@@ -79,7 +79,7 @@ fn put_line(replaced: &mut BTreeMap<u64, u64>, line: u64, by: u64) -> Result<(),
 }
 
 /// Reads an assignment. Its line is replaced if the last line with its pattern and key comes after the last one that
-/// gives its value too: that line gives another value.
+/// gives its value too. That line gives another value.
 fn put_given<'b>(
     replaced: &mut BTreeMap<u64, u64>,
     last: &BTreeMap<Place<'b>, u64>,

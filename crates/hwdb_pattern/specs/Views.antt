@@ -28,8 +28,7 @@ open_from zero (first ∷ rest) =
 abbrev pub open_part : List ℕ → List ℕ
 open_part path = open_from 0 path
 
--- what a reach shows: the device, the lengths of the prefixes that are met, and the bytes of the path from
--- the first open `[` on
+-- what a reach shows: the device, the lengths of the matched prefixes, and the path's bytes from the first open `[` on
 pub record Reached : Type 0 where
   pub device : List ℕ
   pub lengths : List ℕ

@@ -13,9 +13,9 @@
 //!   matched once, and a subtree that can match nothing is left early. That costs memory: a number for each prefix, but
 //!   none as long as the path's bytes are the device's own.
 //!
-//! Neither tries all ways to match. `glob` takes at most the pattern's length times the device's in steps, and a feed
-//! of `Reach` that of the bytes that are kept and fed. There is one exception: if a pattern has an open `[` after its
-//! first 4,096 bytes, `glob` looks for its end each time.
+//! Neither tries all ways to match. `glob` takes at most as many steps as the pattern's length times the device's. A
+//! feed of `Reach` takes at most the bytes kept and fed, times the device's length. There is one exception: if a
+//! pattern has an open `[` after its first 4,096 bytes, `glob` looks for its end each time.
 //!
 //! | Module | What it does |
 //! |---|---|

@@ -35,8 +35,8 @@ impl Met {
     }
 }
 
-/// What is known of a device on the way along a path: which of its prefixes the path's closed part matches, and the
-/// path's open part.
+/// What is known of a device on the way along a path. That is which of its prefixes the path's closed part matches, and
+/// the path's open part.
 ///
 /// The closed part ends before the first `[` that begins no closed bracket in the path. Bytes from there on are kept,
 /// since a later `]` may still close that bracket.

@@ -1,13 +1,12 @@
 //! Whether a pattern matches a device: a greedy search from star to star.
 //!
 //! Between two stars each token takes one byte. So it is enough to find, for each stretch, the first place that it
-//! matches, and never to go back before it: a later star takes whatever an earlier one could. The last stretch has to
-//! end at the device's end.
+//! matches. The search never goes back before it: a later star takes whatever an earlier one could. The last stretch
+//! has to end at the device's end.
 //!
 //! A stretch is tried at each place of the device at most, so the steps are at most the pattern's length times the
 //! device's. Such a search would read an open `[` anew each time, up to the pattern's end. So two things are found out
-//! before: the place after the last `]`, and a table of the open `[` among the first 4,096 bytes (`opens`). Both take
-//! one pass.
+//! before: the place after the last `]`, and the open `[` among the first 4,096 bytes (`opens`). Both take one pass.
 ghost use Rattle.std.specs.Prelude.{◌≡◌, ◌<◌, ◌≤◌, ◌↔◌, None, drop, false, length, slice_index, IsTrue, IfSome, IfNone};
 ghost use Rattle.hwdb_spec.specs.Patterns.{Matches, bracket_at, tokens};
 ghost use Rattle.hwdb_pattern.specs.Internal.Search.{AreOpen, NoneCloses, Reaches};

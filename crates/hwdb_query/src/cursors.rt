@@ -1,9 +1,9 @@
 //! A cursor over the answers of a database for a device.
 //!
 //! It gives the answers in order, and holds at most a page of them. So a reader of a few lines pays for these, and an
-//! answer of any size takes bounded memory. A tree of patterns isn't in the order of the answers: a descent finds them
-//! all, and keeps the least ones after the last one that was given. So each page costs a descent, and one more finds
-//! the end. A run to the end over many hits takes pages times values: [`effective`](crate::effective) and
+//! answer of any size takes bounded memory. A tree of patterns isn't in the order of the answers. So a descent finds
+//! them all, and keeps the least ones after the last one that was given. So each page costs a descent, and one more
+//! finds the end. A run to the end over many hits takes pages times values: [`effective`](crate::effective) and
 //! [`explain`](crate::explain) take one descent for all, and memory for all.
 //!
 //! A page is resumed by a position and not by a place in the tree. So an answer can go on in another process, after

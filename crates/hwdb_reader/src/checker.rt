@@ -1,7 +1,7 @@
 //! Whether bytes are a database.
 //!
-//! The check reads the header, and then walks the nodes from the root. It is done once, before any answer: a query
-//! reads the whole file, since an answer from a part of it could be an answer of no database. After it no read tests an
+//! The check reads the header, and then walks the nodes from the root. It is done once, before any answer. So a query
+//! reads the whole file: an answer from a part of it could be an answer of no database. After it no read tests an
 //! offset again, and none can fail.
 //!
 //! Each node is visited once. Of the strings only the keys of nodes with two values or more are read. Offsets are

@@ -2,7 +2,7 @@
 ghost use Rattle.hwdb_text.specs.Rows.{FaultRows, AssignmentRows, ChoiceRows, PathRows};
 ghost use Rattle.hwdb_text.specs.Laws.{LinesAreTheFile, LinesHoldNoNewline, LinesCountUp, SectionsAreTheBlock, SectionsAreTheLines, NamesAreThoseThatCount, NamesAscend, OneAscendingList, FaultsAreAll, FaultsAscend, OneListOfFaults, PrioritiesCountUp, AssignmentsStandByLine, OneValueALine};
 
-/// The lines of a file are all of it: each with a newline after it, they are the file, with a newline after its last
+/// The lines of a file are all of it. Each with a newline after it, they are the file, with a newline after its last
 /// line.
 #[tactic(auto, using(crate::proofs::JoinLemmas::lines_are_the_file, crate::proofs::JoinLemmas::lines_hold_no_newline, crate::proofs::JoinLemmas::lines_count_up))]
 pub fn lines_are_the_file()

@@ -1,7 +1,7 @@
 //! The assignments, seen as a finite map.
 //!
-//! A list in the order in which they were set, and not a map: setting is one push, and the list is sorted once, when
-//! the database is made. The price is that an assignment which a later one replaces takes memory until then.
+//! It is a list, in the order in which they were set, and no map. Setting is one push, and the list is sorted once,
+//! when the database is made. The price is that an assignment which a later one replaces takes memory until then.
 ghost use Rattle.std.specs.Prelude.{◌≡◌};
 ghost use Rattle.hwdb_writer.specs.Internal.Storable.{HasNoZero, IsText};
 

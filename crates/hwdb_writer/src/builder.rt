@@ -9,7 +9,7 @@
 //! no node is moved. Each pattern is compared with the one before it, and each node is opened once and closed once. So
 //! the time is that of one look at the patterns' bytes.
 //!
-//! The memory is a list of nodes of a fixed size: a node borrows its bytes from a pattern, and its values are a range
+//! The memory is a list of nodes of a fixed size. A node borrows its bytes from a pattern, and its values are a range
 //! of the entries. The open nodes are on a stack of their own, not the thread's: long patterns need no deep recursion.
 //! The price is the sort before it, and that no pattern can be added later.
 ghost use Rattle.std.specs.Prelude.{◌≡◌, ◌≤◌, ◌<◌, ◌++◌, ◌∷◌, [], ◌+◌, ◌-◌, ◌^◌, List, ℕ, length, map, take, drop, reverse, slice_index, All, IfOk, OnOk};

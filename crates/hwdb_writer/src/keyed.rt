@@ -1,7 +1,7 @@
 //! A string that is ordered by its bytes, with its first eight bytes as one number that is compared first.
 //!
 //! Most comparisons of a sort are decided by that number, without a look at the text, which is elsewhere in memory. A
-//! key is stored with a space before it: it is kept as the text and a mark, so that no copy with a space is made.
+//! key is stored with a space before it. It is kept as the text and a mark, so that no copy with a space is made.
 ghost use Rattle.std.specs.Prelude.{◌≡◌, ◌∷◌, ◌++◌, ◌-◌, ◌^◌, ℕ, List, Some, OnOk, length, min, nat_eq, refl};
 ghost use Rattle.std.specs.Ordering.{nat_cmp};
 ghost use Rattle.std.specs.Cmp.{partial_equiv_from_equiv};

@@ -23,8 +23,8 @@ pub struct StoredValue {
     pub priority: u16,
 }
 
-/// A node, in a list in which each comes after its children: the byte that leads to it, the number of the string after
-/// that byte, how many values it has, and how many children.
+/// A node, in a list in which each comes after its children. It has the byte that leads to it, the number of the string
+/// after that byte, and how many values and children it has.
 #[derive(Clone, Copy)]
 pub struct StoredNode {
     pub byte: u8,

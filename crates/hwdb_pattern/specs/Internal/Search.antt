@@ -22,8 +22,8 @@ pub record Reaches (pattern device : List ℕ) (at met : ℕ) : Type 0 where
   pub back : Matches (tokens (drop at pattern)) (drop met device) → Matches (tokens pattern) device
   pub later : Matches (star ∷ tokens pattern) device → Matches (star ∷ tokens (drop at pattern)) (drop met device)
 
--- The pattern matches the device exactly if two things hold: at least `met` bytes are there, and a star and the tokens
--- from `at` match what comes after them.
+-- The pattern matches the device exactly if two things hold. At least `met` bytes are there. A star and the tokens from
+-- `at` match what comes after them.
 pub record Remains (pattern device : List ℕ) (at met : ℕ) : Type 0 where
   pub forth : Matches (tokens pattern) device → (met ≤ length device) × Matches (star ∷ tokens (drop at pattern)) (drop met device)
   pub back : met ≤ length device → Matches (star ∷ tokens (drop at pattern)) (drop met device) → Matches (tokens pattern) device

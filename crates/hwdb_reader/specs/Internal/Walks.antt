@@ -1,5 +1,5 @@
--- A walk over the nodes: what is known of the open ones, and what has to hold of the bytes from the next text's
--- beginning on. An open node is its offset and how many of its children were entered; a list begins with the last.
+-- A walk over the nodes: what is known of the open ones, and what has to hold of the bytes that are to come. An open
+-- node is its offset and how many of its children were entered; a list begins with the last.
 use Rattle.std.specs.Prelude.{List, ℕ, suc, [], ◌∷◌, ◌+◌, ◌-◌, ◌≤◌, ◌<◌, ◌≡◌, ◌↔◌, length}
 use Rattle.hwdb_spec.specs.declared.Layout.{Layout}
 use Rattle.hwdb_spec.specs.Format.{ChildrenText, Visit, Visited, Fits, ChildrenFit, max_levels, record_end, child_entry, children_count, child_from, byte_before}
