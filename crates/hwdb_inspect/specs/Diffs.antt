@@ -1,4 +1,4 @@
--- What `diff` writes, and its errors. Our choice.
+-- What `diff` writes and refuses. Our choice.
 use Rattle.std.specs.Prelude.{List, ℕ, Bool, ◌≡◌}
 use Rattle.hwdb_spec.specs.Format.{IsDatabase}
 use Rattle.hwdb_spec.specs.Tree.{Tree}
@@ -46,7 +46,7 @@ IsPrintRefusal (New fault) = ⊥
 IsPrintRefusal NotWritten = Unit {0}
 IsPrintRefusal NoMemory = Unit {0}
 
--- as an error of one database, without a word on which of the two it is
+-- the same without a word on which of the two it was
 abbrev pub refusal_of : DiffError → ToolError
 refusal_of (Old fault) = BadDatabase fault
 refusal_of (New fault) = BadDatabase fault

@@ -1,4 +1,4 @@
--- What `dump` writes, and its errors. Our choice.
+-- What `dump` writes and refuses. Our choice.
 use Rattle.std.specs.Prelude.{List, ℕ, ◌≡◌, Some, None}
 use Rattle.hwdb_spec.specs.Assignment.{Assignment}
 use Rattle.hwdb_spec.specs.Dump.{dumped, first_unsaid}

@@ -21,7 +21,7 @@ pub enum DiffError {
 }
 
 impl DiffError {
-    /// As an error of one database, without a word on which of the two it is.
+    /// The same without a word on which of the two it was.
     pub fn refusal(self) -> ToolError
         ensures { result ≡ refusal_of self }
     {

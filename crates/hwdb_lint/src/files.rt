@@ -78,12 +78,9 @@ fn look_over(alloc: Global, path: &[u8], bytes: &[u8]) -> Result<Checked, ToolEr
     Ok(Checked { reports, tally })
 }
 
-/// Prints the reports of a file's faults to `out`, by line, with `path` as the file's path. A report is the fault's
-/// line as `update` prints it, the text of its line, a mark below the place, and what to do. Answers how much was
-/// found. Nothing is written before the reports are whole.
-///
-/// The memory is the reports, and a record for each assignment and each match line of the file. The errors are a file
-/// with more than 4,294,967,295 lines, a failed allocation, and a failed write to `out`.
+/// Prints the reports of a file's faults to `out`, by line, with `path` as the file's path: the fault's line as `update`
+/// prints it, the text of its line, a mark below the place, and what to do. Answers how much was found. Nothing is
+/// written before the reports are whole.
 pub fn check_file<O: Sink>(
     alloc: Global,
     path: &str,
@@ -148,8 +145,10 @@ fn sum_up(alloc: Global, files: &[TextFile<'_>]) -> Result<Checked, ToolError>
 /// Prints the reports of each file to `out`, one file after another, and a last line with how much was found in all.
 /// Nothing is written before the whole text is known.
 ///
-/// Answers the status: 1 if there is a fault, or `strict` and a warning, else 0. The errors are those of [`check_file`],
-/// for the first file that has one.
+/// Answers the status: 1 if there is a fault, or `strict` and a warning, else 0. The errors are a file with more than
+/// 4,294,967,295 lines, a failed allocation, and a failed write to `out`.
+///
+/// The memory is the whole text, and for one file at a time a record for each assignment and each match line.
 pub fn check_files<O: Sink>(
     alloc: Global,
     files: &[TextFile<'_>],
