@@ -1,5 +1,8 @@
-/* The calls of hwdb.h over the proved calls of crates/hwdb_c. What stands here isn't proved: it opens and reads the file,
- * counts references, and keeps strings. */
+/* The calls of hwdb.h over the proved calls of crates/hwdb_c. The code of this file isn't proved, and does little: it opens and
+ * reads the file, counts references, and keeps strings. Tests call it (tests/library).
+ *
+ * A file is read whole and not mapped. The proof needs bytes that never change, and a mapping shows what others write to the
+ * file. A lookup gives the strings of all properties of a device at once: `get` looks for its key among them. */
 #define _GNU_SOURCE
 #include "hwdb.h"
 
@@ -14,31 +17,31 @@
 #include <sys/stat.h>
 #include <unistd.h>
 
-/* Where sd_hwdb_new looks, in this order: where `hwdb query` does, and then where systemd's library looks too. Tests have others. */
+/* Where sd_hwdb_new looks, in this order: first as `hwdb query`, and then as systemd's library. Tests set others. */
 #ifndef HWDB_PATHS
 #define HWDB_PATHS                                                                                       \
     "/etc/udev/hwdb.bin", "/usr/lib/udev/hwdb.bin", "/etc/systemd/hwdb/hwdb.bin", "/usr/lib/systemd/hwdb/hwdb.bin"
 #endif
 
-/* How often a name is opened that isn't there at first, and is there when it is looked at. */
+/* How often a name is opened that isn't there at first, but is there at the look after that. */
 #define TRIES 3
 
-/* A file that is read has at most so many bytes, as the program has it. */
+/* The most bytes that a file may have, as in the program. */
 #define MAX_BYTES (256 << 20)
 
-/* How much room there is at first for the strings of one lookup. */
+/* The room, in bytes, that there is at first for the strings of one lookup. */
 #define FIRST_ROOM 1024
 
 /* What hwdb_c_properties answers. */
 enum { WRITTEN = 0, TOO_SHORT = 1, NO_MEMORY = 2 };
 
-/* crates/hwdb_c/src/lib.rt. The first is total. The second is for bytes for which the first answered 0; these are read
- * into memory that nobody else has, and never change. No pointer that is handed to them is NULL. */
+/* crates/hwdb_c/src/lib.rt. The first is for any bytes. The second is for bytes for which the first answered 0. These are in
+ * memory that nobody else has, and never change. No pointer that is handed to either is NULL. */
 uint32_t hwdb_c_check(const uint8_t *bytes, size_t length, uint64_t *place);
 uint32_t hwdb_c_properties(const uint8_t *bytes, size_t length, const uint8_t *device, size_t device_length, uint8_t *out,
                            size_t room, size_t *needed);
 
-/* What was read of a file. It has a mapping of its own, since malloc(3) may keep what is freed. */
+/* What was read of a file. It has a mapping of its own, since malloc(3) may keep what is freed: a database can be large. */
 struct contents {
     uint8_t *bytes;
     size_t length;
@@ -54,9 +57,9 @@ struct sd_hwdb {
     char *strings;
     size_t room;
     size_t used;
-    /* where the next property stands in it */
+    /* the place of the next property in it */
     size_t next;
-    /* no property may be enumerated: `get` came behind the last `seek`, or that one failed */
+    /* no property may be enumerated: `get` came after the last `seek`, or that one failed */
     bool is_spent;
     /* every string that was given so far, each once: a tree of tsearch(3). Their number is at most the database's. */
     void *given;
@@ -66,7 +69,7 @@ static int compare(const void *a, const void *b) {
     return strcmp(a, b);
 }
 
-/* Memory for a file of so many bytes and one more, by which a file that grows meanwhile isn't taken for the shorter one.
+/* Memory for a file of so many bytes and one more. By that one a file that grows meanwhile isn't taken for the shorter one.
  * Large pages halve the time to fill it. */
 static int reserve(size_t size, struct contents *file) {
     void *bytes = mmap(NULL, size + 1, PROT_READ | PROT_WRITE, MAP_PRIVATE | MAP_ANONYMOUS, -1, 0);
@@ -95,7 +98,7 @@ static int fill(int fd, struct contents *file) {
     return 0;
 }
 
-/* All bytes of a file, to be released where 0 is answered. */
+/* All bytes of a file. If the answer is 0, the caller has to release them. */
 static int read_file(int fd, struct contents *file) {
     struct stat status;
 
@@ -116,7 +119,7 @@ static int read_file(int fd, struct contents *file) {
     return r;
 }
 
-/* A handle over a file's bytes, which it takes over where 0 is answered. */
+/* A handle over a file's bytes. If the answer is 0, the handle owns them. */
 static int new_from_contents(const struct contents *file, sd_hwdb **ret) {
     uint64_t place;
 
@@ -160,8 +163,8 @@ int sd_hwdb_new_from_path(const char *path, sd_hwdb **ret) {
     return r;
 }
 
-/* The same, and whether the name is there: a link to nothing is. What comes after it was looked for is opened; if it goes each
- * time, it isn't there. */
+/* As sd_hwdb_new_from_path, and whether the name is there: a link to nothing is. A name that comes after it was looked for is
+ * opened. If it goes again each time, it isn't there. */
 static int new_from_place(const char *path, sd_hwdb **ret, bool *is_there) {
     struct stat status;
     int r;
@@ -186,7 +189,7 @@ int sd_hwdb_new(sd_hwdb **ret) {
     for (size_t i = 0; i < sizeof paths / sizeof *paths; i++) {
         bool is_there;
         int r = new_from_place(paths[i], ret, &is_there);
-        /* No other database stands in for a name that is there. */
+        /* If a name is there, no other database takes its place. */
         if (is_there)
             return r;
     }
@@ -209,7 +212,7 @@ sd_hwdb *sd_hwdb_unref(sd_hwdb *hwdb) {
     return NULL;
 }
 
-/* The handle's own copy of a string, which stays as long as the handle; NULL where memory is refused. */
+/* The handle's own copy of a string, which stays as long as the handle; NULL if an allocation fails. */
 static const char *keep(sd_hwdb *hwdb, const char *string) {
     char **found = tfind(string, &hwdb->given, compare);
     if (found)
@@ -222,13 +225,13 @@ static const char *keep(sd_hwdb *hwdb, const char *string) {
     return copy;
 }
 
-/* Asks for the properties of a device, into the room that there is. */
+/* Asks for the properties of a device, with the room that there is. */
 static uint32_t ask(sd_hwdb *hwdb, const char *modalias, size_t *needed) {
     return hwdb_c_properties(hwdb->database.bytes, hwdb->database.length, (const uint8_t *)modalias, strlen(modalias),
                              (uint8_t *)hwdb->strings, hwdb->room, needed);
 }
 
-/* The properties of a device, as the last lookup. */
+/* Makes the properties of a device the last lookup. Answers 0 or -ENOMEM. */
 static int look_up(sd_hwdb *hwdb, const char *modalias) {
     size_t needed = 0;
 
@@ -251,7 +254,7 @@ static int look_up(sd_hwdb *hwdb, const char *modalias) {
     return 0;
 }
 
-/* The property at a place of the last lookup, and the place behind it. */
+/* The property at a place of the last lookup, and the place after it. */
 static size_t property_at(const sd_hwdb *hwdb, size_t place, const char **key, const char **value) {
     *key = hwdb->strings + place;
     *value = *key + strlen(*key) + 1;

@@ -1,8 +1,11 @@
 /* libhwdb: lookups in the hardware database, under the names and with the meanings of systemd's sd-hwdb.h.
  *
- * Every call that can fail answers 0 or more, or a negative errno. A handle is for one thread at a time. Opening and looking
- * up take as much of the thread's stack whatever the database is: 256 KiB are enough, also for the deepest one that is
- * accepted, 4,097 nodes one below another, and so for files of others. */
+ * Every call that can fail answers 0 or more, or a negative errno. A handle is for one thread at a time.
+ *
+ * Cost: opening reads the whole file and checks it once. A lookup takes one descent of the database's tree, and no look at the
+ * file again. A handle holds the file in memory, the properties of its last lookup, and each string that it gave, once.
+ *
+ * Stack use is bounded: 256 KiB are enough for any database that is accepted, trusted or not. */
 #ifndef HWDB_H
 #define HWDB_H
 
@@ -15,30 +18,37 @@ typedef struct sd_hwdb sd_hwdb;
 
 /* Reads and checks the first of these whose name is there: /etc/udev/hwdb.bin, /usr/lib/udev/hwdb.bin,
  * /etc/systemd/hwdb/hwdb.bin, /usr/lib/systemd/hwdb/hwdb.bin. *ret gets a handle with one reference.
- * -EINVAL: ret is NULL, or the name is that of something other than a file. -EISDIR: it is a folder's.
- * -ENOENT: there is none. -EUCLEAN: it isn't a database. -EFBIG: it has more than 256 MiB. -ENOMEM.
- * What opening and reading may fail with. */
+ *
+ * Errors: -EINVAL if ret is NULL, or the name is of something other than a file. -EISDIR if it is a folder's. -ENOENT if
+ * there is none. -EUCLEAN if the file isn't a database. -EFBIG if it has more than 256 MiB. -ENOMEM if an allocation
+ * fails. And the errors of open(2) and read(2). */
 int sd_hwdb_new(sd_hwdb **ret);
 
-/* The same of the file at a path. -EINVAL too where the path is NULL or empty. */
+/* As sd_hwdb_new, of the file at a path alone. It answers -EINVAL too if the path is NULL or empty. */
 int sd_hwdb_new_from_path(const char *path, sd_hwdb **ret);
 
-/* One more reference to the handle, which is answered. NULL stays NULL. */
+/* Adds a reference to the handle, and answers the handle. NULL stays NULL. */
 sd_hwdb *sd_hwdb_ref(sd_hwdb *hwdb);
 
-/* One reference fewer; without any the handle is freed, and every string that it gave. Answers NULL. */
+/* Takes a reference away. After the last one the handle is freed, and every string that it gave. Answers NULL. */
 sd_hwdb *sd_hwdb_unref(sd_hwdb *hwdb);
 
-/* The value that the device has under a key. The string belongs to the handle, and stays while it does.
- * -ENOENT: the device has no such key. -EINVAL: an argument is NULL. -ENOMEM. */
+/* The value that the device has under a key. The string belongs to the handle, and stays until the handle is freed. Each call
+ * is a lookup: for more than one key, sd_hwdb_seek takes one for all.
+ *
+ * Errors: -ENOENT if the device has no such key. -EINVAL if an argument is NULL. -ENOMEM if an allocation fails. */
 int sd_hwdb_get(sd_hwdb *hwdb, const char *modalias, const char *key, const char **value);
 
-/* Looks a device up: sd_hwdb_enumerate gives its properties from the first one on.
- * -EINVAL: an argument is NULL. -ENOMEM. */
+/* Looks a device up. After it sd_hwdb_enumerate gives the device's properties, from the first one on.
+ *
+ * Errors: -EINVAL if an argument is NULL. -ENOMEM if an allocation fails. */
 int sd_hwdb_seek(sd_hwdb *hwdb, const char *modalias);
 
-/* The next property, ascending by key: 1, or 0 behind the last. The strings belong to the handle, and stay while it does.
- * -EAGAIN: sd_hwdb_get came behind the last sd_hwdb_seek, or that one failed. -EINVAL: an argument is NULL. -ENOMEM. */
+/* The next property, ascending by key. Answers 1, or 0 after the last. The strings belong to the handle, and stay until
+ * the handle is freed.
+ *
+ * Errors: -EAGAIN if sd_hwdb_get came after the last sd_hwdb_seek, or that one failed. -EINVAL if an argument is NULL.
+ * -ENOMEM if an allocation fails. */
 int sd_hwdb_enumerate(sd_hwdb *hwdb, const char **key, const char **value);
 
 /* The two below are in systemd's <systemd/sd-hwdb.h> too. Its guard leaves them to whichever header comes first. */

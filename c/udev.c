@@ -1,8 +1,9 @@
-/* libudev's calls on the hardware database, over the calls of hwdb.h: a program that asks libudev for a device's properties
- * runs on it unchanged, with this library in front (LD_PRELOAD=libhwdb-udev.so.0). Its other calls stay libudev's.
+/* libudev's calls on the hardware database, over the calls of hwdb.h. A program that asks libudev for a device's
+ * properties runs on it unchanged, if this library is loaded first (LD_PRELOAD=libhwdb-udev.so.0). Its other calls stay
+ * libudev's.
  *
- * As there, a call that fails gives NULL and sets errno, a list is ascending by name and stays until the handle's next lookup,
- * and a handle is for one thread at a time. */
+ * As in libudev, a call that fails gives NULL and sets errno. A list ascends by name, and stays until the handle's next
+ * lookup. A handle is for one thread at a time. */
 #define _GNU_SOURCE
 #include "hwdb.h"
 
@@ -24,7 +25,7 @@ struct udev_list_entry *udev_list_entry_get_by_name(struct udev_list_entry *entr
 const char *udev_list_entry_get_name(struct udev_list_entry *entry);
 const char *udev_list_entry_get_value(struct udev_list_entry *entry);
 
-/* What an entry of ours begins with. One of libudev's lists of other things begins with a pointer too, to something else. */
+/* What an entry of ours begins with. An entry of libudev's own lists begins with a pointer too, to something else. */
 static const char mark;
 
 struct udev_list_entry {
@@ -113,13 +114,13 @@ struct udev_list_entry *udev_hwdb_get_properties_list_entry(struct udev_hwdb *hw
     return hwdb->entries;
 }
 
-/* Whether an entry is one of ours, and not of another list of libudev's. */
+/* Whether an entry is one of ours, and not one of libudev's own lists. */
 static int is_ours(const struct udev_list_entry *entry) {
     return entry->mark == &mark;
 }
 
-/* libudev's own call of a name, for its own lists; or NULL. It isn't next where libudev was loaded for one library alone
- * (RTLD_LOCAL), as by a Python module: the entry that is asked about holds it. */
+/* libudev's own call of a name, for its own lists; or NULL. If libudev was loaded for one library alone (RTLD_LOCAL), as by a
+ * Python module, RTLD_NEXT doesn't find it. It is loaded all the same, since an entry of its lists came from it. */
 static void *theirs(const char *name) {
     void *call = dlsym(RTLD_NEXT, name);
     if (call)

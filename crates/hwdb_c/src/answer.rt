@@ -9,7 +9,7 @@ use hwdb_query::effective;
 use hwdb_reader::reopen;
 use std::alloc::{AllocError, Global};
 
-/// The strings of the properties that a database gives a device. The only error is that memory is refused.
+/// The strings of the properties that a database gives a device. The only error is `AllocError`.
 pub fn strings_for(alloc: Global, bytes: &[u8], device: &[u8]) -> Result<Vec<u8>, AllocError>
     requires { (t : Tree) × IsDatabase bytes.now t }
     ensures { IfOk result (λ text. (t : Tree) → IsDatabase bytes.now t

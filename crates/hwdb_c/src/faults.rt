@@ -23,7 +23,7 @@ pub fn number_of(fault: DbFault) -> u32
     }
 }
 
-/// The offset at which it stands, or 0 where it has none.
+/// The offset of what is at fault, in bytes, or 0 if the fault has none.
 pub fn place_of(fault: DbFault) -> u64
     ensures { result ≡ fault_place fault }
 {

@@ -1,8 +1,11 @@
 //! What the C library `libhwdb` calls: whether bytes are a database, and the properties of a device.
 //!
-//! C owns all memory that goes in and out. Each call is total, but that [`hwdb_c_properties`] is for bytes that
-//! [`hwdb_c_check`] has accepted: c/hwdb.c calls it for no others. Both restate what `hwdb_reader::check` and
-//! `hwdb_query::effective` promise, over what C sees.
+//! C owns all memory that goes in and out. [`hwdb_c_check`] is for any bytes. [`hwdb_c_properties`] is for bytes that
+//! it has accepted: c/hwdb.c calls it for no others. Both promise, over what C sees, what `hwdb_reader::check` and
+//! `hwdb_query::effective` do.
+//!
+//! No view of the database is kept between two calls, since C can't hold one. So each lookup reads the header again,
+//! which is 80 bytes, and checks nothing twice.
 //!
 //! | Module | What it does |
 //! |---|---|
@@ -35,11 +38,13 @@ use std::alloc::Global;
 const WRITTEN: u32 = 0;
 /// The buffer is too short for them.
 const TOO_SHORT: u32 = 1;
-/// Memory was refused.
+/// An allocation failed.
 const NO_MEMORY: u32 = 2;
 
-/// Whether the bytes are a database: 0, or the number of a fault (1 for B1, to 11 for B11), with its offset in
-/// `place` (0 where it has none). Takes no memory, and one pass over the bytes.
+/// Whether the bytes are a database: 0, or the number of a fault, 1 for B1 to 11 for B11. `place` gets the fault's
+/// offset in bytes, or 0 if it has none.
+///
+/// Takes no memory. The time is that of `hwdb_reader::check`: one visit of each node.
 #[unsafe(no_mangle)]
 pub extern "C" fn hwdb_c_check(bytes: &[u8], place: &mut u64) -> u32
     ensures accepted { result ≡ 0 → (t : Tree) × IsDatabase bytes.now t }
@@ -59,9 +64,13 @@ pub extern "C" fn hwdb_c_check(bytes: &[u8], place: &mut u64) -> u32
     }
 }
 
-/// Writes the properties of the device to the front of `out`: key, byte 0, value, byte 0 for each key, ascending
-/// by key. Answers 0, and in `needed` how many bytes these are; 1 where `out` has less room than `needed` says; 2
-/// where memory was refused. Where it doesn't answer 0, `out` stays.
+/// Writes the properties of the device to the front of `out`: key, byte 0, value, byte 0 for each key, ascending by
+/// key.
+///
+/// Answers 0, and in `needed` how many bytes these are. Answers 1 if `out` has less room than `needed` says, and 2 if
+/// an allocation failed. If it doesn't answer 0, `out` stays as it was.
+///
+/// One descent, as `hwdb_query::effective`. The memory that it takes is freed before it answers.
 #[unsafe(no_mangle)]
 pub extern "C" fn hwdb_c_properties(
     alloc: Global,

@@ -5,7 +5,7 @@ ghost use Rattle.hwdb_spec.specs.Library.{property_strings, strings_of};
 
 use std::alloc::{AllocError, Global};
 
-/// The key and the value of each property, a byte 0 behind each.
+/// The key and the value of each property, a byte 0 after each.
 pub fn write_strings(alloc: Global, properties: &[(&[u8], &[u8])]) -> Result<Vec<u8>, AllocError>
     ensures { IfOk result (λ text. text.items ≡ strings_of (pairs_bytes properties.now)) }
 {
@@ -16,7 +16,7 @@ pub fn write_strings(alloc: Global, properties: &[(&[u8], &[u8])]) -> Result<Vec
     Ok(text)
 }
 
-/// Adds a key and a value, with a byte 0 behind each.
+/// Adds a key and a value, with a byte 0 after each.
 fn push_strings(text: &mut Vec<u8>, key: &[u8], value: &[u8]) -> Result<(), AllocError>
     ensures { OnOk result
         (text.new.items ≡ text.old.items ++ property_strings (key.now, value.now)) }

@@ -1,4 +1,4 @@
--- What was read is what the chosen files hold, and when files are refused.
+-- What was read is what the chosen files hold, and when files give an error.
 use Rattle.std.proofs.Common.{◌≡◌, ◌∙◌, ap, sym, refl, subst, ℕ, List, [], ◌∷◌, ◌++◌, map, length, Result, Ok, Err, All, get_or, ◌<◌}
 use Rattle.std.specs.Prelude.{Any, IfErr, flat_map}
 use Rattle.std.specs.Result.{IsErrAnd}

@@ -64,7 +64,7 @@ length_mapped f (x ∷ xs) = ap suc (length_mapped f xs)
 pub as_long : {A B C : Type 0} (f : A → C) (g : B → C) (xs : List A) (ys : List B) → map f xs ≡ map g ys → length xs ≡ length ys
 as_long f g xs ys e = sym (length_mapped f xs) ∙ ap length e ∙ length_mapped g ys
 
--- what stands at one place of two such lists
+-- the members at one place of two such lists
 pub same_at : {A B C : Type 0} (f : A → C) (g : B → C) (xs : List A) (ys : List B) (i : ℕ) (x : A) (y : B) → map f xs ≡ map g ys → i < length ys
     → x ≡ get_or xs i x → y ≡ get_or ys i y → f x ≡ g y
 same_at f g xs ys i x y e lt of_x of_y =
@@ -103,7 +103,7 @@ no_zero (c ∷ text) h =
     some zero e = absurd (cc)
     some (suc n) e = omega arith
 
--- the first of some files with a name, when one more stands behind them
+-- the first of some files with a name, when one more comes after them
 pub first_behind : (name : List ℕ) (before : List Source) (s : Source) (others : List ℕ)
     → first_of name before (if same name s.name then s.bytes else others) ≡ first_of name (before ++ s ∷ []) others
 unfolding first_of

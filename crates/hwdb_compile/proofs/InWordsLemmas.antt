@@ -20,7 +20,7 @@ use Rattle.hwdb_compile.specs.Laws.{LastIsLatest}
 use Rattle.hwdb_compile.proofs.GatherLemmas.{From, from_file}
 use Rattle.hwdb_compile.proofs.LatestLemmas.{Rising, Counts, counts, rising_files}
 
--- what stands before a member isn't later
+-- what comes before a member isn't later
 none_later : (done before : List Assignment) (a : Assignment) (behind : List Assignment) → Rising done (before ++ a ∷ behind) → All (λ b. IsNoLater b a) (done ++ before)
 none_later done [] a behind up = subst (All (λ b. IsNoLater b a)) (sym (append-nil done)) up.0
 none_later done (x ∷ before) a behind up = subst (All (λ b. IsNoLater b a)) (append_assoc done (x ∷ []) before) (none_later (done ++ x ∷ []) before a behind up.1)
@@ -93,7 +93,7 @@ last_at a (x ∷ more) = elim (last_at a more) [
   ] refl
 ]
 
--- two of which neither is later stand at one line
+-- if neither of two is later, they have one line
 one_origin : (a b : Assignment) → IsNoLater a b → IsNoLater b a → (a.position.priority ≡ b.position.priority) × (a.position.line ≡ b.position.line)
 one_origin a b h k = elim h [
   | inl x ↦ elim k [ inl y ↦ absurd (omega (arith, x, y)) | inr y ↦ absurd (let e = y.0 in omega (arith, x, e)) ]

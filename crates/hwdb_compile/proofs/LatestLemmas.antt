@@ -48,7 +48,7 @@ latest_all done (a ∷ more) before up = subst Latest (append_assoc done (a ∷ 
 none_latest : Latest []
 none_latest place s is = All-nil _
 
--- of a file of a smaller priority, or of one with this and no line behind this
+-- of a file of a smaller priority, or of one with this and a line that is no greater
 abbrev Before : ℕ → ℕ → Assignment → Type 0
 Before n m b = (b.position.priority < n) ⊎ ((b.position.priority ≡ n) × (b.position.line ≤ m))
 

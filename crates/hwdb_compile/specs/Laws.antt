@@ -6,7 +6,7 @@ use Rattle.hwdb_spec.specs.Folders.{Source, all_assignments}
 use Rattle.hwdb_spec.specs.Last.{IsLast, IsLatest}
 use Rattle.std.specs.FinMap as finite
 
--- it comes no later: its file has a smaller priority, or the same one and its line isn't behind
+-- it comes no later: its file has a smaller priority, or an equal one and its line is no greater
 abbrev pub IsEarlier : Assignment → Assignment → Type 0
 IsEarlier a s =
     (a.position.priority < s.position.priority) ⊎ ((a.position.priority ≡ s.position.priority) × (a.position.line ≤ s.position.line))

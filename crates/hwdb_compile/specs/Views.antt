@@ -1,4 +1,4 @@
--- What the types of this crate mean: files and faults as contracts see them, and when each refusal comes.
+-- What the types of this crate mean: files and faults as contracts see them, and when each error comes.
 use Rattle.std.specs.Prelude.{List, map, length, ℕ, ◌<◌, ◌≤◌, ◌≡◌, All}
 use Rattle.std.specs.String.{string_bytes}
 use Rattle.hwdb_spec.specs.Folders.{Choice, Source, FaultIn, contents, fault_in, HaveManyLines, chosen_of, max_files, max_lines}
@@ -37,7 +37,7 @@ pub record AreChosenOf (etc usr : List Source) (files : List ChosenFile) : Type 
   pub choices : map choice_in files ≡ chosen_of etc usr
   pub bytes : All (λ f. bytes_in f ≡ contents etc usr (choice_in f)) files
 
--- it holds for any two folders of which these are the chosen files
+-- it holds for any two folders whose chosen files these are
 abbrev pub ForFolders : List ChosenFile → (List Source → List Source → Type 0) → Type 0
 ForFolders files Holds = (etc usr : List Source) → AreChosenOf etc usr files → Holds etc usr
 
@@ -49,14 +49,14 @@ FewLines bytes = length (lines bytes) ≤ max_lines
 abbrev pub ManyLines : List ℕ → Type 0
 ManyLines bytes = max_lines < length (lines bytes)
 
--- when the choice is refused
+-- when the choice fails
 abbrev pub IsChoiceRefusal : (etc usr : List Source) → CompileError → Type 0
 IsChoiceRefusal etc usr TooManyFiles = max_files < length (chosen_of etc usr)
 IsChoiceRefusal etc usr TooManyLines = ⊥
 IsChoiceRefusal etc usr TooLarge = ⊥
 IsChoiceRefusal etc usr Memory = Unit {0}
 
--- when each refusal comes: too many files before all, then too many lines, then a database that is too large
+-- when each error comes: too many files before all, then too many lines, then a database that is too large
 abbrev pub IsRefusal : (etc usr : List Source) (max_bytes : ℕ) → CompileError → Type 0
 IsRefusal etc usr max_bytes TooManyFiles = max_files < length (chosen_of etc usr)
 IsRefusal etc usr max_bytes TooManyLines = HaveManyLines etc usr

@@ -1,4 +1,9 @@
 //! The compiler: the files of two folders, made into one database.
+//!
+//! The time is a pass over the files' bytes, and a sort of their assignments. Beside the files the memory is an entry
+//! for each assignment, the nodes of the tree, and the database. No text is copied before it is written. An entry
+//! borrows its texts from a file's bytes, and its path from a list that is made first. So all files are in memory at
+//! once.
 ghost use Rattle.std.specs.Prelude.{◌≡◌, ◌≤◌, ◌++◌, ℕ, List, map, length, All, IfOk, IfErr, OnOk, flat_map};
 ghost use Rattle.hwdb_spec.specs.Progress.{within_64_bits};
 ghost use Rattle.hwdb_spec.specs.Written.{IsDatabaseOf, IsWritten};
@@ -38,7 +43,7 @@ fn put_all<'t>(
     Ok(())
 }
 
-/// Adds the faults of a file.
+/// Adds the faults of a file, each with a copy of the file's path.
 fn add_faults(
     alloc: Global,
     path: &[u8],
@@ -71,7 +76,7 @@ fn paths_of(alloc: Global, files: &[ChosenFile<'_>]) -> Result<Vec<String>, Allo
     Ok(paths)
 }
 
-/// Reads a chosen file, of which the stored path is given: its assignments into the tree, and its faults behind the others.
+/// Reads a chosen file with this stored path. Puts its assignments into the tree, and its faults after the others.
 /// Returns how many assignments it has.
 fn add_file<'t>(
     alloc: Global,
@@ -99,8 +104,8 @@ fn add_file<'t>(
     Ok(scanned.assignments.len())
 }
 
-/// Reads the chosen files, of which the stored paths are given, in the order of their priorities. Returns how many
-/// assignments they have, or the greatest number where they have more.
+/// Reads the chosen files, with these stored paths, in the order of their priorities. Returns how many assignments they
+/// have, or the greatest number if they have more.
 fn add_files<'t>(
     alloc: Global,
     files: &[ChosenFile<'t>],
@@ -129,13 +134,14 @@ fn add_files<'t>(
     Ok(given)
 }
 
-/// Makes a database of chosen files, which stand in the order of their priorities: what [`compile`] makes of any two
-/// folders of which these are the chosen files.
+/// Makes a database of chosen files, in the order of their priorities. It is what [`compile`] makes of any two folders
+/// whose chosen files these are. `max_bytes` limits the database's size, in bytes.
 ///
 /// # Errors
 ///
-/// [`CompileError::TooManyLines`] before [`CompileError::TooLarge`], where the database has more than `max_bytes`
-/// bytes; [`CompileError::Memory`] wherever memory is refused.
+/// - [`CompileError::TooManyLines`] if a file has more than 4,294,967,295 lines.
+/// - [`CompileError::TooLarge`] if the database has more than `max_bytes` bytes, and no file has too many lines.
+/// - [`CompileError::Memory`] at any allocation that fails.
 pub fn compile_chosen(
     alloc: Global,
     files: &[ChosenFile<'_>],
@@ -171,16 +177,21 @@ pub fn compile_chosen(
     })
 }
 
-/// Makes a database of the files of the folders in /etc and in /usr/lib: chooses them by their names, reads
-/// them in the order of their priorities, and writes what survives. Of several files of one name in one list
-/// the first counts.
+/// Makes a database of the files of the folders in /etc and in /usr/lib. It chooses them by their names, reads them in
+/// the order of their priorities, and writes what survives. Of several files of one name in one list the first counts.
 ///
-/// What a reader of the database returns for a device is, of all assignments of the files, the last one of each
-/// pattern and key whose pattern matches: by file priority, line, pattern and key.
+/// A reader of the database returns for a device the last assignment of each pattern and key whose pattern matches.
+/// Last is by file priority and line; the answer is ordered by file priority, line, pattern and key. hwdb(7) has the
+/// rules.
 ///
-/// Refuses with [`CompileError::TooManyFiles`] before all, then with [`CompileError::TooManyLines`], then with
-/// [`CompileError::TooLarge`] where the database has more than `max_bytes` bytes; with
-/// [`CompileError::Memory`] wherever memory is refused.
+/// `max_bytes` limits the database's size, in bytes.
+///
+/// # Errors
+///
+/// - [`CompileError::TooManyFiles`] if more than 65,535 files are chosen. It comes before the others.
+/// - [`CompileError::TooManyLines`] if a file has more than 4,294,967,295 lines.
+/// - [`CompileError::TooLarge`] if the database has more than `max_bytes` bytes, and no file has too many lines.
+/// - [`CompileError::Memory`] at any allocation that fails.
 pub fn compile(
     alloc: Global,
     etc: &[SourceFile],

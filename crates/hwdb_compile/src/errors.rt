@@ -1,4 +1,4 @@
-//! What the compiler refuses.
+//! The compiler's errors.
 ghost use Rattle.std.specs.Prelude.{◌≡◌};
 ghost use Rattle.hwdb_compile.specs.declared.errors.CompileError.TheVariants.{Memory};
 
@@ -10,16 +10,16 @@ use thiserror::Error;
 /// Why files are not compiled.
 #[derive(Clone, Copy, Debug, PartialEq, Eq, Error)]
 pub enum CompileError {
-    /// More files are chosen than there are priorities.
+    /// More than 65,535 files are chosen: there are no more priorities.
     #[error("more than 65535 files")]
     TooManyFiles,
-    /// A file has more lines than can be numbered.
+    /// A file has more than 4,294,967,295 lines: a database has no more numbers for them.
     #[error("a file has more than 4294967295 lines")]
     TooManyLines,
-    /// The database would have more bytes than the limit.
+    /// The database would have more bytes than the limit of the call.
     #[error("the database would be larger than the limit")]
     TooLarge,
-    /// Memory was refused.
+    /// An allocation failed.
     #[error("out of memory")]
     Memory,
 }

@@ -3,8 +3,8 @@ ghost use Rattle.hwdb_compile.specs.Laws.{EachPlaceSurvives, LastIsLatest, Survi
 
 use hwdb_text::laws::{assignments_stand_by_line, one_value_a_line, priorities_count_up};
 
-/// Of the assignments of all files with one pattern and key, one is compiled, and none of them comes after it:
-/// by the priority of its file, and then by its line.
+/// Of the assignments of all files with one pattern and key, one is compiled. None of them comes after it, by the
+/// priority of its file, and then by its line.
 pub fn survivors_are_latest()
     ensures assigned { SurvivorsAreAssigned }
     ensures each { EachPlaceSurvives }
@@ -14,8 +14,8 @@ pub fn survivors_are_latest()
     assignments_stand_by_line();
 }
 
-/// Of the assignments of all files the last one of a pattern and key in their list, which goes file by file and line
-/// by line, is the one than which none with its pattern and key is later, by the priority of its file and its line.
+/// The list of all assignments goes file by file and line by line. In it the last one with a pattern and key is also
+/// the latest with these, by the priority of its file and its line.
 pub fn last_is_latest()
     ensures { LastIsLatest }
 {

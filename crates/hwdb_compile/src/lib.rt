@@ -1,14 +1,14 @@
 //! The compiler: text files of two folders, made into one database.
 //!
-//! Of the assignments of the files with one pattern and key the last one survives (hwdb(7)), and the database is
-//! the written form of the map of those that do. Lines that aren't read as hwdb(7) says are told as faults.
+//! Of the assignments of the files with one pattern and key the last one survives (hwdb(7)). The database is the
+//! written form of the map of those that do. Lines that hwdb(7) doesn't allow are skipped, and reported as faults.
 //!
 //! | Module | What it does |
 //! |---|---|
 //! | `sources` | the files of two folders, and the chosen ones among them |
 //! | `compiler` | the files of two folders, made into one database |
 //! | `laws` | what is proved of the definitions alone |
-//! | `errors` | what the compiler refuses |
+//! | `errors` | the compiler's errors |
 #![tactic(auto)]
 
 mod compiler;

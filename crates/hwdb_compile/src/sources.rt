@@ -14,7 +14,7 @@ use std::collections::BTreeMap;
 /// A text file of a folder.
 #[derive(Drop)]
 pub struct SourceFile {
-    /// Its name in the folder.
+    /// Its name in the folder, as `20-usb.hwdb`.
     pub name: String,
     /// What it holds.
     pub bytes: Vec<u8>,
@@ -29,7 +29,7 @@ pub struct ChosenFile<'a> {
     pub bytes: &'a [u8],
 }
 
-/// A fault, and the file that it stands in.
+/// A fault, and the file that has it.
 #[derive(Drop)]
 pub struct FileFault {
     /// The stored path of the file.
@@ -45,7 +45,7 @@ pub struct Compiled {
     pub database: Vec<u8>,
     /// The faults, by the priority of their files, then by line, then by number.
     pub faults: Vec<FileFault>,
-    /// How many assignments the files have, or the greatest number where they have more.
+    /// How many assignments the files have, or the greatest number if they have more.
     pub given: usize,
 }
 
@@ -62,8 +62,8 @@ pub(crate) fn names(alloc: Global, files: &[SourceFile]) -> Result<Vec<String>, 
     Ok(names)
 }
 
-/// Puts the files into the index of names: each takes the place of others with its name, and the first of one
-/// name stays.
+/// Puts the files into the index of names. Each takes the place of an earlier one with its name, and of several in this
+/// list the first counts.
 fn put_files<'a>(
     index: &mut BTreeMap<&'a str, &'a [u8]>,
     files: &'a [SourceFile],
@@ -80,7 +80,7 @@ fn put_files<'a>(
     Ok(())
 }
 
-/// The bytes of a file in the index.
+/// The bytes of a file in the index; none if its name isn't there.
 fn bytes_of<'a>(index: &BTreeMap<&str, &'a [u8]>, name: &str) -> &'a [u8]
     ensures { result.now ≡ bytes_at index.now name.now }
 {
@@ -90,12 +90,15 @@ fn bytes_of<'a>(index: &BTreeMap<&str, &'a [u8]>, name: &str) -> &'a [u8]
     }
 }
 
-/// The chosen files by priority, of the files that the folders in /etc and in /usr/lib hold, in any order.
+/// The chosen files by priority, among the files of the folders in /etc and in /usr/lib, which are in any order
+/// (hwdb(7)).
+///
+/// Takes time and memory by the names alone, not by what the files hold.
 ///
 /// # Errors
 ///
-/// [`CompileError::TooManyFiles`] where more than 65,535 files are chosen; [`CompileError::Memory`] where memory is
-/// refused.
+/// - [`CompileError::TooManyFiles`] if more than 65,535 files are chosen.
+/// - [`CompileError::Memory`] at any allocation that fails.
 pub fn choose(
     alloc: Global,
     etc: &[SourceFile],
@@ -113,11 +116,12 @@ pub fn choose(
     Ok(select(alloc, &etc_names, &usr_names)?)
 }
 
-/// Each of the files that [`choose`] gave, with what it holds. Of several files of one name in one list the first counts.
+/// Each of the files that [`choose`] gave, with what it holds. Of several files of one name in one list the first
+/// counts. The bytes are borrowed, not copied.
 ///
 /// # Errors
 ///
-/// Where memory is refused.
+/// The only error is `AllocError`.
 pub fn with_bytes<'a>(
     alloc: Global,
     chosen: &'a [Chosen],

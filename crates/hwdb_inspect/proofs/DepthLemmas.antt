@@ -1,4 +1,4 @@
--- How many nodes a walk meets, and how many of them stand one below the other.
+-- How many nodes a walk meets, and how many of them are on one path.
 use Rattle.std.proofs.Common.{◌≡◌, ◌∙◌, ap, refl, ℕ, suc, ◌+◌, List, [], ◌∷◌, ◌++◌, reverse, length, arith, max, Some, slice_get, length-append}
 use Rattle.std.proofs.lemmas.List.{length-reverse}
 use Rattle.hwdb_spec.specs.Summary.{nodes, nodes_of, depth, depth_of}

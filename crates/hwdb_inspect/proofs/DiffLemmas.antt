@@ -10,7 +10,7 @@ use Rattle.hwdb_inspect.proofs.PieceLemmas.{behind_piece, whole_behind, part_aft
 texts_of : (all changes more : List Change) → all ≡ changes ++ more → changes_text all ≡ changes_text changes ++ changes_text more
 texts_of all changes more is = ap (λ cs. changes_text cs) is ∙ flat_map-append change_text changes more
 
--- the text so far, the next changes and those behind them
+-- the text so far, the next changes and those after them
 pub joined : (text next : List ℕ) (all changes more : List Change) → all ≡ changes ++ more → next ≡ text ++ changes_text changes → text ++ changes_text all ≡ next ++ changes_text more
 joined text next all changes more is n = behind_piece text next (changes_text all) (changes_text changes) (changes_text more) (texts_of all changes more is) n
 
@@ -32,7 +32,7 @@ or_assoc : (a b c : Bool) → ((a || b) || c) ≡ (a || (b || c))
 or_assoc true b c = refl
 or_assoc false b c = refl
 
--- whether there was a change, and whether there is one behind it
+-- whether there was a change, and whether there is one after it
 pub differ_step : (so_far here now : Bool) (all changes more : List Change) → all ≡ changes ++ more → here ≡ are_some changes → now ≡ (so_far || here)
     → (now || are_some more) ≡ (so_far || are_some all)
 differ_step so_far here now all changes more is h n =

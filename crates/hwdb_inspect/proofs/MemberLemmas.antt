@@ -117,7 +117,7 @@ module _ {A : Type 0} (cmp : A → A → Ordering) (total : IsTotalOrder cmp) wh
       ⊎_elim {C = Holds (t ∷ put cmp s ts) u} (λ is. inr (ih (inl is)))
       (λ r. ⊎_elim {C = Holds (t ∷ put cmp s ts) u} (λ a. inl a) (λ b. inr (ih (inr b))) r) h
 
-  -- what had no member of the same place before is held
+  -- what had no other member of its place before is held
   pub held_behind : (s : A) (ts : List A) (u : A) → ((t : A) → Holds ts t → cmp s t ≡ Equal → s ≡ t) → Holds (s ∷ ts) u → Holds (put cmp s ts) u
   unfolding put
   held_behind s [] u same h = h

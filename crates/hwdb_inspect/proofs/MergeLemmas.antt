@@ -135,7 +135,7 @@ both_of (Some x) b = Some (Some x, b)
 abbrev look : Place → List Assignment → Option Assignment
 look q xs = find place_cmp q (entries_of xs)
 
--- nothing stands at a place that is below all, or ties with one that is
+-- a place that is below all, or ties with one that is, has nothing
 look_below : (p q : Place) (xs : List Assignment) → place_cmp q p ≡ Equal → T (below_all place_cmp p (entries_of xs)) → look q xs ≡ None
 look_below p q [] e h = refl
 look_below p q (x ∷ xs) e h =
@@ -171,7 +171,7 @@ both_came y b c e f = ap (λ o. both_of o c) e ∙ ap (λ o. both_of None o) f
 abbrev Looks : List Assignment → (List Assignment → Pairs) → Type 0
 Looks xs pairs = (ys : List Assignment) → T (is_sorted place_cmp (entries_of ys)) → (q : Place) → find place_cmp q (pairs ys) ≡ both_of (look q xs) (look q ys)
 
--- a pair in front, at a place that is no place of one of the two lists behind it
+-- a pair in front, at a place that is no place of one of the two lists after it
 front : (q : Place) (p : Place) (b : Both) (pairs : Pairs) (old new old_rest new_rest : Option Assignment)
     → (is_eq (place_cmp q p) ≡ true → both_of old new ≡ Some b)
     → (is_eq (place_cmp q p) ≡ false → (old ≡ old_rest) × (new ≡ new_rest))

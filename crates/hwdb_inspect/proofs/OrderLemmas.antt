@@ -31,9 +31,9 @@ place_same x y e =
     let key : x.1 ≡ y.1 = text x.1 y.1 both.1 in
     λ i. (pattern i, key i)
 
--- ---- what stands below the nodes
+-- ---- what is below the nodes
 
--- one entry stands before all of a list, by path and stored key
+-- one entry comes before all of a list, by path and stored key
 abbrev pub Below : List ℕ × Value → List (List ℕ × Value) → Type 0
 Below p ps = AllByRecursion (λ (q : List ℕ × Value). place_cmp (p.0, p.1.key) (q.0, q.1.key) ≡ Less) ps
 
@@ -115,12 +115,12 @@ mutual
       (all_map (λ (p : List ℕ × Value). From (path ++ byte ∷ []) p.0) (λ (p : List ℕ × Value). Above path low p.0) (λ p f. record { byte = byte; rest = f.rest; is = f.is ∙ append_assoc path (byte ∷ []) f.rest; above = more_than }) _ here)
       (all_map (λ (p : List ℕ × Value). Above path byte p.0) (λ (p : List ℕ × Value). Above path low p.0) (λ p a. let b = a.above in record { byte = a.byte; rest = a.rest; is = a.is; above = omega arith }) _ rest)
 
--- a text stands before each that goes on from it
+-- a text comes before each that goes on from it
 longer_above : (path rest : List ℕ) (byte : ℕ) → text_cmp path (path ++ byte ∷ rest) ≡ Less
 longer_above [] rest byte = refl
 longer_above (b ∷ path) rest byte = ap (λ o. ordering_then o (text_cmp path (path ++ byte ∷ rest))) (tied_itself nat_cmp_total b) ∙ longer_above path rest byte
 
--- the smaller of two bytes behind one text decides
+-- the smaller of two bytes after one text decides
 byte_above : (path r s : List ℕ) (b c : ℕ) → b < c → text_cmp (path ++ b ∷ r) (path ++ c ∷ s) ≡ Less
 byte_above [] r s b c h = ap (λ o. ordering_then o (text_cmp r s)) (sym (nat_cmp_is b c Less h))
 byte_above (d ∷ path) r s b c h = ap (λ o. ordering_then o (text_cmp (path ++ b ∷ r) (path ++ c ∷ s))) (tied_itself nat_cmp_total d) ∙ byte_above path r s b c h

@@ -22,7 +22,7 @@ assignment_total = on_total (λ (f : Assignment). f.position)
     (then_total (on_total (λ (s : Position). s.line) nat_cmp_total)
     (then_total (on_total (λ (s : Position). s.pattern) nat_list_cmp_total) (on_total (λ (s : Position). s.key) nat_list_cmp_total))))
 
--- where the last of two orders decides against a tie, the two together don't tie
+-- if the last of two orders decides against a tie, the two together don't tie
 then_apart : (a b : Ordering) → is_eq b ≡ false → is_eq (ordering_then a b) ≡ false
 then_apart Less b h = refl
 then_apart Equal b h = h

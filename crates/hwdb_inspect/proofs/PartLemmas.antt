@@ -43,7 +43,7 @@ pub shown_some : (pattern key : List ℕ) (s : Shown) → s.key ≡ Some key →
 unfolding assignment_shown
 shown_some pattern key s e = ap (λ o. one_assignment pattern s o) e
 
--- the value at a place, and those behind it
+-- the value at a place, and those after it
 pub own_next : (pattern : List ℕ) (values : List Value) (i : ℕ) (s : Shown) → option_map shown (slice_get values i) ≡ Some s
     → own_members pattern (drop i values) ≡ assignment_shown pattern s ++ own_members pattern (drop (suc i) values)
 own_next pattern [] i s h = absurd (cc)
@@ -56,7 +56,7 @@ own_behind pattern [] (suc i) h = refl
 own_behind pattern (v ∷ values) zero h = absurd (omega arith)
 own_behind pattern (v ∷ values) (suc i) h = own_behind pattern values i (omega arith)
 
--- the child at a place, and those behind it
+-- the child at a place, and those after it
 pub kid_next : (kids : List (ℕ × Tree)) (i : ℕ) (k : ℕ × Tree) → slice_get kids i ≡ Some k → drop i kids ≡ k ∷ drop (suc i) kids
 kid_next [] i k h = absurd (cc)
 kid_next (j ∷ kids) zero k h = let e : j ≡ k = cc in ap (λ q. q ∷ kids) e

@@ -34,7 +34,7 @@ not_moved a text = record { front = []; is = refl; taken = Appends-nil a }
 moved : (text left rest : List ℕ) (front : List ℕ) → text ≡ front ++ left → text ++ rest ≡ front ++ (left ++ rest)
 moved text left rest front is = ap (λ l. l ++ rest) is ∙ append_assoc front left rest
 
--- the text so far, the next piece and what is behind it
+-- the text so far, the next piece and what comes after it
 pub behind_piece : (text next all piece more : List ℕ) → all ≡ piece ++ more → next ≡ text ++ piece → text ++ all ≡ next ++ more
 behind_piece text next all piece more is n = ap (λ l. text ++ l) is ∙ sym (append_assoc text piece more) ∙ ap (λ l. l ++ more) (sym n)
 

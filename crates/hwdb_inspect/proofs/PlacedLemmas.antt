@@ -137,7 +137,7 @@ record_alone f h =
     let q = if_both (is_none (faults (record_text f))) (is_alone f (assignments (origin_of f) (record_text f))) p.1 in
     alone_one f (assignments (origin_of f) (record_text f)) q.1
 
--- the assignments of a text whose lines stand behind `k`
+-- the assignments of a text whose lines come after `k`
 pub record Placed (o : Origin) (k : ℕ) (fs all : List Assignment) : Type 0 where
   pub rises : IsStrictlySortedBy assignment_cmp all
   pub above : AllByRecursion (λ (a : Assignment). (a.position.priority ≡ o.priority) × (k < a.position.line)) all

@@ -33,7 +33,7 @@ module _ {A : Type 0} (cuts : A → Bool) where
   onto_append z [] qs h = cc
   onto_append z (p ∷ ps) qs h = refl
 
-  -- what stands behind a member that cuts is cut by itself
+  -- what comes after a member that cuts is cut by itself
   cut_behind : (xs : List A) (x : A) (ys : List A) → cuts x ≡ true → pieces cuts (xs ++ x ∷ ys) ≡ pieces cuts (xs ++ x ∷ []) ++ pieces cuts ys
   unfolding pieces
   cut_behind [] x ys h = rw h refl
@@ -75,7 +75,7 @@ flat_map-same : {X Y : Type 0} (f g : X → List Y) → ((x : X) → f x ≡ g x
 flat_map-same f g h [] = refl
 flat_map-same f g h (x ∷ xs) = ap (λ l. l ++ flat_map f xs) (h x) ∙ ap (λ l. g x ++ l) (flat_map-same f g h xs)
 
--- ---- lines that stand further on
+-- ---- lines further on
 
 module _ (n : ℕ) where
   abbrev on : Line → Line
@@ -182,7 +182,7 @@ module _ (n : ℕ) where
       ]
 
   module _ (o p : Origin) where
-    -- what stands further on, in another file
+    -- an assignment further on, in another file
     abbrev pub moved : Assignment → Assignment
     moved a = record {
       position = record { priority = o.priority; line = n + a.position.line; pattern = a.position.pattern; key = a.position.key };
@@ -222,7 +222,7 @@ module _ (n : ℕ) where
 abbrev pub read_from : Origin → ℕ → List ℕ → List Assignment
 read_from o k text = flat_map (section_assignments o) (sections (clean (numbered k (pieces (is 10) text))))
 
--- it assigns the same wherever it stands
+-- a text assigns what it does wherever it begins
 pub read_on : (o p : Origin) (n : ℕ) (text : List ℕ) → read_from o (n + 1) text ≡ map (moved n o p) (assignments p text)
 read_on o p n text =
     ap (λ ls. flat_map (section_assignments o) (sections (clean ls))) (numbered_on n 1 (pieces (is 10) text))

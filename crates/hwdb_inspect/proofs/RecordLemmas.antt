@@ -15,7 +15,7 @@ module _ {X : Type 0} (of : X → Assignment) (xs : List X) (i : ℕ) (x : X) (i
   abbrev more : List ℕ
   more = flat_map record_text (map of (drop (i + 1) xs))
 
-  -- the next record, and those behind it
+  -- the next record, and those after it
   next_record : rest ≡ record_text (of x) ++ more
   next_record =
       let left : drop i xs ≡ get_or xs i x ∷ drop (i + 1) xs = rw (add-one) (drop-cons xs i x lt) in

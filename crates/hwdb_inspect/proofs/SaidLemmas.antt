@@ -27,7 +27,7 @@ unsaid_is f text is many =
     sym (ap (λ (c : Bool). if c then says (record_text f) f else false)
     (ap (λ t. nat_le (length (lines t)) max_lines) (sym is) ∙ lt-leb (length (lines text)) max_lines many))
 
--- the first is said: what is unsaid first stands behind it
+-- the first is said: what is unsaid first comes after it
 pub said_first : (f : Assignment) (more : List Assignment) → is_said f ≡ true → first_unsaid (f ∷ more) ≡ first_unsaid more
 said_first f more h = rw h refl
 

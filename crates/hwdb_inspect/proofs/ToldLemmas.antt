@@ -25,7 +25,7 @@ use Rattle.hwdb_inspect.proofs.PlacedLemmas.{Placed, placed}
 use Rattle.hwdb_inspect.specs.Laws.{said_of}
 use Rattle.hwdb_inspect.proofs.ReadLemmas.{if_both, same_is}
 
--- ---- assignments of which no two have one place
+-- ---- assignments without a place in common
 
 abbrev Apart : List Assignment → Type 0
 Apart [] = Unit {0}
@@ -183,7 +183,7 @@ map_same : {X Y : Type 0} (f g : X → Y) → ((x : X) → f x ≡ g x) → (xs 
 map_same f g h [] = refl
 map_same f g h (x ∷ xs) = λ i. h x i ∷ map_same f g h xs i
 
--- the same said, the same told
+-- if as much is said, as much is told
 told_said : (xs ys : List Assignment) → map said_of xs ≡ map said_of ys → effective_of xs ≡ effective_of ys
 unfolding effective_of
 told_said xs ys h =
@@ -198,7 +198,7 @@ unfolding is_after
 all_behind [] = refl
 all_behind (x ∷ xs) = ap (λ l. x ∷ l) (all_behind xs)
 
--- of assignments that rise and of which no two have one place
+-- of assignments that rise, without a place in common
 last_are : (device : List ℕ) (xs : List Assignment) → IsStrictlySortedBy assignment_cmp xs → Apart xs → last_assignments device None xs ≡ filter (is_wanted device) xs
 unfolding last_assignments last_matching
 last_are device xs up apart =
@@ -211,7 +211,7 @@ unfolding answers dumped
 answers_are device t ascends =
     kept_in_order assignment_cmp assignment_total (is_wanted device) (members_under [] t) (distinct (members_under [] t) (members_sorted t ascends))
 
--- a device is told the same of the text as of the tree
+-- a device is told of the text what it is told of the tree
 pub told_same : (t : Tree) (o : Origin) (device : List ℕ) → IsTree t → first_unsaid (dumped t) ≡ None
     → effective_of (last_assignments device None (assignments o (dump_text t))) ≡ effective_of (answers device t)
 told_same t o device ascends h =
@@ -231,7 +231,7 @@ held_alone : (bytes : List ℕ) → contents (lone bytes) [] lone_choice ≡ byt
 unfolding first_of
 held_alone bytes = refl
 
--- where the file of `ask` stands
+-- the origin of the file of `ask`
 abbrev lone_origin : Origin
 lone_origin = record { path = path_of lone_choice; priority = 1 }
 

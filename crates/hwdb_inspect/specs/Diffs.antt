@@ -32,14 +32,14 @@ pub record IsNewRefused (old new : List ℕ) (fault : DbFault) : Type 0 where
   pub old_database : IsDatabase old tree
   pub refused : IsNoDatabase new fault
 
--- what `diff` may refuse: a fault of the old database before one of the new
+-- when each error of `diff` comes: a fault of the old database before one of the new
 abbrev pub IsDiffRefusal : (old new : List ℕ) → DiffError → Type 0
 IsDiffRefusal old new (Old fault) = IsNoDatabase old fault
 IsDiffRefusal old new (New fault) = IsNewRefused old new fault
 IsDiffRefusal old new NotWritten = Unit {0}
 IsDiffRefusal old new NoMemory = Unit {0}
 
--- what printing may refuse
+-- when each error of printing comes
 abbrev pub IsPrintRefusal : DiffError → Type 0
 IsPrintRefusal (Old fault) = ⊥
 IsPrintRefusal (New fault) = ⊥

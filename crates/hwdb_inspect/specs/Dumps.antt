@@ -26,21 +26,21 @@ pub record IsUnsayable (bytes pattern : List ℕ) : Type 0 where
   pub database : IsDatabase bytes tree
   pub unsaid : IsFirstUnsaid (dumped tree) pattern
 
--- what `dump` may refuse
+-- when each error of `dump` comes
 abbrev pub IsDumpRefusal : (bytes : List ℕ) → DumpError → Type 0
 IsDumpRefusal bytes (Database fault) = IsNoDatabase bytes fault
 IsDumpRefusal bytes (Unsayable pattern) = IsUnsayable bytes pattern.items
 IsDumpRefusal bytes Write = Unit {0}
 IsDumpRefusal bytes Memory = Unit {0}
 
--- what the check of some assignments may refuse
+-- when each error of the check of some assignments comes
 abbrev pub IsUnsaidRefusal : List Assignment → DumpError → Type 0
 IsUnsaidRefusal all (Database fault) = ⊥
 IsUnsaidRefusal all (Unsayable pattern) = IsFirstUnsaid all pattern.items
 IsUnsaidRefusal all Write = ⊥
 IsUnsaidRefusal all Memory = Unit {0}
 
--- what printing records may refuse
+-- when each error of printing records comes
 abbrev pub IsRecordRefusal : DumpError → Type 0
 IsRecordRefusal (Database fault) = ⊥
 IsRecordRefusal (Unsayable pattern) = ⊥

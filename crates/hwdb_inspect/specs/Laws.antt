@@ -20,7 +20,7 @@ said_of f = (f.position.pattern, (f.position.key, f.value))
 abbrev pub DumpSays : Type 0
 DumpSays = (t : Tree) (o : Origin) → first_unsaid (dumped t) ≡ None → map said_of (assignments o (dump_text t)) ≡ map said_of (dumped t)
 
--- `ask` tells a device the same of that text as `query` of the database.
+-- `ask` tells a device of that text what `query` tells it of the database.
 abbrev pub DumpTells : Type 0
 DumpTells = (t : Tree) (device : List ℕ) → IsTree t → first_unsaid (dumped t) ≡ None
     → last_values_text device (lone (dump_text t)) [] ≡ query_text device t

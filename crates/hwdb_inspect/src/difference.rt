@@ -22,7 +22,7 @@ use std::alloc::Global;
 
 /// Prints a line for each change that is left, and answers whether there is one. At most 64 KiB and a line are held.
 ///
-/// Refuses a failed write, and memory; the sink took a prefix of the whole then.
+/// The errors are a failed write, and a failed allocation: then the sink took a prefix of the whole.
 fn print_changes<O: Sink>(
     alloc: Global,
     pairs: Pairs<'_, '_>,
@@ -77,11 +77,12 @@ fn check_new(new: &[u8]) -> Result<Db<'_>, DiffError>
     }
 }
 
-/// Checks the bytes of both, and prints to `out` what came, went and changed from the old database to the new one: a line
-/// for each pattern and key where the two differ, by pattern and then by key; answers whether there is one. Over the
-/// databases of an old and a new state of two folders that is what their files differ in.
+/// Checks the bytes of both, and prints to `out` what came, went and changed from the old database to the new one.
+/// There is a line for each pattern and key for which the two differ, by pattern and then by key. Answers whether there
+/// is one. Over the databases of an old and a new state of two folders that is what their files differ in.
 ///
-/// All assignments of both are held, and of the lines 64 KiB.
+/// The memory is all assignments of both, and 64 KiB of the lines. Each database is walked once; as both ascend, one
+/// pass goes over the two lists side by side. Bytes that are no database give an error before anything is printed.
 pub fn run_diff<O: Sink>(
     alloc: Global,
     old: &[u8],

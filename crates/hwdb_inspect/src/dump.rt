@@ -34,9 +34,7 @@ fn by_position(x: &Assigned<'_>, y: &Assigned<'_>) -> Ordering
     }
 }
 
-/// All that the database assigns, by priority, line, pattern and key.
-///
-/// The only error is that memory is refused.
+/// All that the database assigns, by priority, line, pattern and key. The only error is `AllocError`.
 fn ordered<'a>(alloc: Global, db: &Db<'a>) -> Result<Vec<Assigned<'a>>, AllocError>
     ensures { IfOk result (λ list. map assignment_of list.items ≡ dumped db.now) }
 {
@@ -46,7 +44,7 @@ fn ordered<'a>(alloc: Global, db: &Db<'a>) -> Result<Vec<Assigned<'a>>, AllocErr
     Ok(list)
 }
 
-/// Refuses the first of some assignments that its record doesn't say.
+/// The first of some assignments that its record doesn't say is an error.
 fn check_sayable(alloc: Global, list: &[Assigned<'_>]) -> Result<(), DumpError>
     ensures said { OnOk result (first_unsaid (map assignment_of list.now) ≡ None) }
     ensures unsaid { IfErr result (IsUnsaidRefusal (map assignment_of list.now)) }
@@ -62,7 +60,7 @@ fn check_sayable(alloc: Global, list: &[Assigned<'_>]) -> Result<(), DumpError>
 
 /// Prints the record of each assignment. At most 64 KiB and a record are held.
 ///
-/// Refuses a failed write, and memory; the sink took a prefix of the whole then.
+/// The errors are a failed write, and a failed allocation: then the sink took a prefix of the whole.
 fn print_records<O: Sink>(
     alloc: Global,
     list: &[Assigned<'_>],
@@ -88,12 +86,16 @@ fn print_records<O: Sink>(
     Ok(())
 }
 
-/// Checks the bytes, and prints the database to `out` as text of the form that hwdb(7) describes: for each assignment, by
-/// priority, line, pattern and key, a comment with its file and its line, its pattern, its property, and an empty line.
+/// Checks the bytes, and prints the database to `out` as text of the form that hwdb(7) describes. There is a record for
+/// each assignment, by priority, line, pattern and key. It is a comment with the file and the line, the pattern, the
+/// property, and an empty line.
 ///
-/// Refuses bytes that are no database, a failed write, and memory; and with the pattern of the first one a database with an
-/// assignment that its record, read as a file, doesn't say or not alone. Nothing is printed before this is known. All
-/// assignments are held, and of the text 64 KiB; the time is that of sorting the assignments and of reading their records.
+/// It is an error if the bytes are no database, if a write fails, or if an allocation does. It is one too if the record
+/// of an assignment, read as a file, doesn't say that assignment alone. The error then has the first one's pattern.
+/// Nothing is printed before this is known.
+///
+/// The memory is all assignments, and 64 KiB of the text. The time is that of sorting the assignments and of reading
+/// their records.
 pub fn run_dump<O: Sink>(alloc: Global, bytes: &[u8], out: &mut O) -> Result<(), DumpError>
     ensures printed { OnOk result
         (Wrote (IsTextOf dump_text bytes.now) (O.taken out.old) (O.taken out.new)) }

@@ -16,7 +16,7 @@ pub enum DiffError {
     New(DbFault),
     /// A sink failed.
     Write,
-    /// Memory was refused.
+    /// An allocation failed.
     Memory,
 }
 
@@ -63,7 +63,7 @@ pub enum DumpError {
     Unsayable(Vec<u8>),
     /// A sink failed.
     Write,
-    /// Memory was refused.
+    /// An allocation failed.
     Memory,
 }
 

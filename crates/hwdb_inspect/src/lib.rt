@@ -1,4 +1,8 @@
-//! A database as a whole: all that it assigns, as text too, how much that is, and what changed from one database to another.
+//! A database as a whole: all that it assigns, as text too, how much that is, and what changed from one database to
+//! another.
+//!
+//! Each of these walks the whole tree, without a device. The time is that of one look at each node, and of the bytes of
+//! the patterns. All assignments are held at once: `dump` and `verify` sort them, and `diff` goes through two lists.
 //!
 //! | Module | What it does |
 //! |---|---|

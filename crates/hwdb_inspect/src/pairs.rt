@@ -49,7 +49,7 @@ fn at<'r, 'a>(list: &'r [Assigned<'a>], i: usize) -> Option<&'r Assigned<'a>>
 }
 
 impl<'r, 'a> Pairs<'r, 'a> {
-    /// Two lists, of which nothing was taken.
+    /// Two lists, before anything was taken.
     pub(crate) fn new(before: &'r [Assigned<'a>], after: &'r [Assigned<'a>]) -> Pairs<'r, 'a>
         ensures { to_tell result
             ≡ merged (map assignment_of before.entry.now) (map assignment_of after.entry.now) }
@@ -86,7 +86,7 @@ impl<'r, 'a> Pairs<'r, 'a> {
         }
     }
 
-    /// Takes the lesser of the first that are left of both, or both where they have one pattern and key.
+    /// Takes the lesser of the first that are left of both, or both if they have one pattern and key.
     fn take_least(&mut self, old: &'r Assigned<'a>, new: &'r Assigned<'a>) -> Pair<'r, 'a>
         requires old { drop self.old.old_taken self.old.before.now
             ≡ old.now ∷ drop (self.old.old_taken + 1) self.old.before.now }

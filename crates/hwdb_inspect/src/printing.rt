@@ -29,7 +29,7 @@ pub(crate) fn write_whole<O: Sink>(text: &[u8], out: &mut O) -> Result<(), Unwri
     }
 }
 
-/// Writes the text where it has become long, and empties it then.
+/// Writes the text if it has become long, and empties it then.
 pub(crate) fn hand_on<O: Sink>(text: &mut Vec<u8>, out: &mut O) -> Result<(), Unwritten>
     ensures moved { OnOk result
         (Moves (O.taken out.old) (O.taken out.new) text.old.items text.new.items) }

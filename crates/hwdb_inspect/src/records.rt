@@ -59,9 +59,7 @@ fn says(scanned: &Scanned<'_>, f: &Assigned<'_>) -> bool
     scanned.faults.is_empty() && scanned.assignments.len() == 1 && gives(&scanned.assignments[0], f)
 }
 
-/// Whether the record of an assignment says it. What stands in `text` is dropped.
-///
-/// The only error is that memory is refused.
+/// Whether the record of an assignment says it. What is in `text` before is dropped. The only error is `AllocError`.
 pub(crate) fn is_said(
     alloc: Global,
     text: &mut Vec<u8>,

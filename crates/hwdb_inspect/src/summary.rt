@@ -40,7 +40,7 @@ fn text_of<'l>(assigned: &'l Assigned<'_>, part: Part) -> &'l [u8]
     }
 }
 
-/// The same part of each assignment.
+/// This part of each assignment.
 fn texts_of<'l>(
     alloc: Global,
     list: &'l [Assigned<'_>],
@@ -66,7 +66,7 @@ fn count_different(texts: Vec<&[u8]>) -> Result<usize, AllocError>
     Ok(ordered.len())
 }
 
-/// How many different texts stand in one part of the assignments.
+/// How many different texts there are in one part of the assignments.
 fn count_parts(alloc: Global, list: &[Assigned<'_>], part: Part) -> Result<usize, AllocError>
     ensures { IfOk result
         (λ n. n ≡ different (map (part_of part) (map assignment_of list.now))) }
@@ -74,7 +74,7 @@ fn count_parts(alloc: Global, list: &[Assigned<'_>], part: Part) -> Result<usize
     count_different(texts_of(alloc, list, part)?)
 }
 
-/// How much is in the database that stands in so many bytes.
+/// How much is in the database of so many bytes.
 pub(crate) fn summarize(alloc: Global, bytes: usize, db: &Db<'_>) -> Result<Counts, AllocError>
     ensures { IfOk result (λ counts. summary_shown counts ≡ summary_of bytes db.now) }
 {

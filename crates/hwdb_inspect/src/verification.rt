@@ -40,7 +40,7 @@ fn lines_of(alloc: Global, counts: Counts) -> Result<Vec<u8>, AllocError>
     Ok(text)
 }
 
-/// The summary of the database that the bytes are.
+/// The summary of the database in the bytes.
 fn summary_lines(alloc: Global, bytes: &[u8]) -> Result<Vec<u8>, ToolError>
     ensures text { IfOk result
         (λ text. IsTextOf (λ t. summary_text (summary_of (length bytes.now) t))
@@ -52,12 +52,13 @@ fn summary_lines(alloc: Global, bytes: &[u8]) -> Result<Vec<u8>, ToolError>
     Ok(lines_of(alloc, counts)?)
 }
 
-/// Checks the bytes, and prints to `out` how much is in the database: a line for each of the numbers of its files,
-/// patterns, keys, assignments and nodes, for how many of its nodes stand one below the other at most, and for its bytes.
-/// A file, pattern or key counts where it has an assignment.
+/// Checks the bytes, and prints to `out` how much is in the database. There is a line for each of these numbers: its
+/// files, patterns, keys, assignments and nodes, the most nodes on one path, and its bytes. A file, pattern or key
+/// counts if it has an assignment.
 ///
-/// Refuses bytes that are no database, a failed write, and memory; nothing is printed before all is known. All
-/// assignments are held, and one of their texts each; the time is that of sorting these three times.
+/// It is an error if the bytes are no database, if a write fails, or if an allocation does. Nothing is printed before
+/// all is known. The memory is all assignments, and one of their texts each. The time is that of sorting these three
+/// times.
 pub fn run_verify<O: Sink>(alloc: Global, bytes: &[u8], out: &mut O) -> Result<(), ToolError>
     ensures printed { OnOk result
         (Wrote (IsTextOf (λ t. summary_text (summary_of (length bytes.now) t)) bytes.now)

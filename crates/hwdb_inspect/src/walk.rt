@@ -1,7 +1,8 @@
-//! The walk over all nodes of a database, each before its children.
+//! The walk over all nodes of a database, each before its children: so what they assign comes by pattern and then by
+//! key.
 //!
-//! The nodes whose children aren't all done stand on a stack of its own, so that a deep tree takes no more of the thread's
-//! stack than a flat one.
+//! The nodes whose children aren't all done are on a stack of its own, on the heap. So a deep tree takes no more of the
+//! thread's stack than a flat one. Each node is entered once.
 ghost use Rattle.std.specs.Prelude.{◌≡◌, ◌<◌, ◌≤◌, ◌+◌, ◌++◌, ◌∷◌, ◌^◌, [], map, max, reverse, length, IfOk, OnOk};
 ghost use Rattle.hwdb_spec.specs.Summary.{nodes, depth};
 ghost use Rattle.hwdb_spec.specs.Tree.{members_under, prefix_of, values_of};
@@ -14,7 +15,7 @@ use crate::assigned::{Assigned, collect};
 use hwdb_reader::{Db, Entered, Inside, Node};
 use std::alloc::{AllocError, Global};
 
-/// A node that was entered, of whose children some are done.
+/// A node that was entered. Some of its children are done.
 #[derive(Clone, Copy)]
 struct Open<'a> {
     inside: Inside<'a>,
@@ -33,7 +34,7 @@ struct Walk<'a> {
     stack: Vec<Open<'a>>,
     found: Vec<Assigned<'a>>,
     entered: Entered,
-    /// How many nodes stood one below the other at most.
+    /// The most nodes that were on one path so far.
     deepest: usize,
 }
 
@@ -42,7 +43,7 @@ struct Walk<'a> {
 pub(crate) struct Findings<'a> {
     pub assignments: Vec<Assigned<'a>>,
     pub nodes: u64,
-    /// How many nodes stand one below the other at most, the root counted.
+    /// The most nodes on one path, the root counted.
     pub depth: usize,
 }
 
@@ -63,7 +64,7 @@ impl<'a> Walk<'a> {
         }
     }
 
-    /// Enters a node, whose path without its prefix is the walk's, and takes what its values assign.
+    /// Enters a node, and takes what its values assign. The walk's path is the node's without its prefix.
     fn enter(&mut self, alloc: Global, node: Node<'a>) -> Result<(), AllocError>
         requires { self.old.entered + 1 < 2 ^ 64 }
         ensures path { OnOk result
@@ -129,9 +130,8 @@ impl<'a> Walk<'a> {
     }
 }
 
-/// All that the database assigns, by pattern and then by key, and how many nodes it has.
-///
-/// The only error is that memory is refused.
+/// All that the database assigns, by pattern and then by key, and how many nodes it has. The only error is
+/// `AllocError`.
 pub(crate) fn survey<'a>(alloc: Global, db: &Db<'a>) -> Result<Findings<'a>, AllocError>
     ensures list { IfOk result
         (λ found. map assignment_of found.assignments.items ≡ members_under [] db.now) }
@@ -153,9 +153,9 @@ pub(crate) fn survey<'a>(alloc: Global, db: &Db<'a>) -> Result<Findings<'a>, All
 }
 
 /// All that the database assigns, by pattern and then by key. Keys, values and paths are parts of the database's bytes.
-/// The time grows with the number of nodes and with the bytes of the patterns; no call goes deeper than another.
 ///
-/// The only error is that memory is refused.
+/// The time grows with the number of nodes and with the bytes of the patterns. The memory is a record for each
+/// assignment, and a copy of each pattern that has one. The only error is `AllocError`.
 pub fn assignments<'a>(alloc: Global, db: &Db<'a>) -> Result<Vec<Assigned<'a>>, AllocError>
     ensures list { IfOk result (λ list. map assignment_of list.items ≡ members_under [] db.now) }
 {

@@ -62,7 +62,7 @@ refused_by fs i d h Write p = tt
 refused_by fs i d h Memory p = tt
 refused_by fs i d h _ p = absurd p
 
--- a file that is refused is one of the files
+-- a file that gives an error is one of the files
 pub file_refused : {X : Type 0} (fs : List TextFile) (i : ℕ) (d : TextFile) (e : ToolError) (r : Result X ToolError) → i < length fs
     → IsErrAnd r (λ x. x ≡ e) → (e ≢ Write) × IsCheckRefusal (get_or fs i d).bytes.now e → IfErr r (λ x. (x ≢ Write) × IsChecksRefusal (map source_of fs) x)
 file_refused fs i d e (Ok x) h same p = tt

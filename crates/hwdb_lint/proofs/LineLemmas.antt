@@ -24,7 +24,7 @@ no_pieces : pieces (is 10) [] ≡ []
 unfolding pieces
 no_pieces = refl
 
--- the first line, and those behind it
+-- the first line, and those after it
 line_step : (text : List ℕ) → 0 < length text
     → pieces (is 10) text ≡ take (position_or_len (is 10) text) text ∷ pieces (is 10) (drop (position_or_len (is 10) text + 1) text)
 unfolding pieces
@@ -39,7 +39,7 @@ line_step (x ∷ y ∷ xs) h =
     ∙ ap (λ (r : List ℕ). (x ∷ take (position_or_len (is 10) (y ∷ xs)) (y ∷ xs)) ∷ pieces (is 10) r) (sym (rest_by (is 10 x) x (y ∷ xs) (position_or_len (is 10) (y ∷ xs)) f)))
     (λ f. ap (pieces (is 10)) (sym (rest_here (is 10 x) x (y ∷ xs) (position_or_len (is 10) (y ∷ xs)) f)))
 
--- the line at a place, and those behind it
+-- the line at a place, and those after it
 pub line_at : (file : List ℕ) (at end : ℕ) (rest : List ℕ) → at < length file → rest ≡ drop at file → end ≡ position_or_len (is 10) rest
     → pieces (is 10) (drop at file) ≡ take end rest ∷ pieces (is 10) (drop (at + end + 1) file)
 line_at file at end rest h r e =

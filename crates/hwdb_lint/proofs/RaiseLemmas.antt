@@ -72,7 +72,7 @@ raise_last old new p k line v e h x y =
     ∙ ap (λ q. max (at old q k.now) line) (same_text p.now x.now (left (same p.now x.now) (same k.now y.now) u))
     ∙ ap (λ q. max (at old x.now q) line) (same_text k.now y.now (right (same p.now x.now) (same k.now y.now) u)))
 
--- the greater of both, where the lesser one was put first
+-- the greater of both, if the lesser one was put first
 twice : (t : Bool) (a b c new : Option ℕ) → new ≡ cond t b c → cond t a new ≡ cond t a c
 twice true a b c new e = refl
 twice false a b c new e = e

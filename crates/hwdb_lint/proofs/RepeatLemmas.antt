@@ -49,7 +49,7 @@ put_member t k (x ∷ xs) = go (order k x) refl (put_member t k xs)
     go Equal e h = absorbed (same t k.now) (same t x.now) (list_any (same t) (texts xs)) (same_as t k.now x.now e)
     go Greater e h = ap (λ (b : Bool). same t x.now || b) h ∙ swapped (same t k.now) (same t x.now) (list_any (same t) (texts xs))
 
--- only which texts stand above matters
+-- only the set of the texts above matters
 abbrev pub Alike : List (List ℕ) → List (List ℕ) → Type 0
 Alike a b = (t : List ℕ) → list_any (same t) a ≡ list_any (same t) b
 

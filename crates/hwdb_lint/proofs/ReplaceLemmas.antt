@@ -116,7 +116,7 @@ pub with_more : (p k : List ℕ) (all : List Assignment) (a : Assignment)
     → greatest (lines_with p k (all ++ a ∷ [])) ≡ raised (gives a p k) a.position.line (greatest (lines_with p k all))
 with_more p k all a = one_more (λ b. b.position.line) (λ b. gives b p k) all a
 
--- the same with a value too
+-- as `with_more`, with a value too
 pub same_more : (p k v : List ℕ) (all : List Assignment) (a : Assignment)
     → last_with (all ++ a ∷ []) p k v ≡ raised (gives_value p k v a) a.position.line (last_with all p k v)
 same_more p k v all a = one_more (λ b. b.position.line) (λ b. gives_value p k v b) all a

@@ -44,7 +44,7 @@ middle false h k s e = refl
 inner : (p h k s : Bool) → p ≡ true → h ≡ true → k ≡ true → s ≡ cond p (cond h (cond k s false) false) false
 inner p h k s e f g = rw e (rw f (rw g refl))
 
--- the first `=` of a property stands behind so many bytes
+-- the first `=` of a property comes after so many bytes
 module _ (l : Line) (body : List ℕ) (equals : ℕ) (b : body ≡ property l) (e : equals ≡ position_or_len (is 61) body) where
   before : take equals body ≡ key l
   before = ap (λ (k : ℕ). take k body) e ∙ ap (λ (t : List ℕ). take (position_or_len (is 61) t) t) b

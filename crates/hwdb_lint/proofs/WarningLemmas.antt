@@ -9,7 +9,7 @@ use Rattle.hwdb_spec.specs.declared.WarningKind.{WarningKind}
 use Rattle.hwdb_lint.specs.Internal.{line_of}
 use Rattle.hwdb_lint.proofs.LineLemmas.{line_at, no_line_at}
 
--- what the lines from a place on give, where each line gives its own
+-- what the lines from a place on give, if each line gives its own
 module _ {X : Type 0} (f : Line → List X) where
   cut : (file : List ℕ) (at end number : ℕ) (rest : List ℕ) → at < length file → rest ≡ drop at file → end ≡ position_or_len (is 10) rest
       → flat_map f (numbered number (pieces (is 10) (drop at file))) ≡ f (line_of number (take end rest)) ++ flat_map f (numbered (number + 1) (pieces (is 10) (drop (at + end + 1) file)))
@@ -31,7 +31,7 @@ module _ {X : Type 0} (f : Line → List X) where
   lines_end file at number before whole h so_far =
       sym (append-nil before) ∙ ap (λ ps. before ++ flat_map f (numbered number ps)) (sym (no_line_at file at h)) ∙ so_far
 
--- one warning more, and those behind it
+-- one warning more, and those after it
 pub text_step : (f : WarningKind → List ℕ) (before after : List ℕ) (one more : List WarningKind) → after ≡ before ++ flat_map f one
     → after ++ flat_map f more ≡ before ++ flat_map f (one ++ more)
 text_step f before after one more e =

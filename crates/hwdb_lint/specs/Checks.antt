@@ -1,4 +1,4 @@
--- What checking text files may refuse, and what its types mean. Our choice.
+-- The errors of checking text files, and what its types mean. Our choice.
 use Rattle.std.specs.Prelude.{ℕ, List, ◌<◌, Any, flat_map, length}
 use Rattle.hwdb_spec.specs.Lines.{lines}
 use Rattle.hwdb_spec.specs.Folders.{Source, max_lines}
@@ -15,7 +15,7 @@ source_of f = record { name = f.path.now; bytes = f.bytes.now }
 abbrev pub files_text : List Source → List ℕ
 files_text files = flat_map (λ s. file_text s.name s.bytes) files
 
--- what checking a file may refuse
+-- when each error of checking a file comes
 abbrev pub IsCheckRefusal : (bytes : List ℕ) → ToolError → Type 0
 IsCheckRefusal bytes TooManyLines = max_lines < length (lines bytes)
 IsCheckRefusal bytes Write = Unit {0}
@@ -26,7 +26,7 @@ IsCheckRefusal bytes _ = ⊥
 abbrev pub HasLongFile : List Source → Type 0
 HasLongFile files = Any (λ (s : Source). max_lines < length (lines s.bytes)) files
 
--- what checking some files may refuse
+-- when each error of checking some files comes
 abbrev pub IsChecksRefusal : List Source → ToolError → Type 0
 IsChecksRefusal files TooManyLines = HasLongFile files
 IsChecksRefusal files Write = Unit {0}

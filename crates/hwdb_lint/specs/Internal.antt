@@ -32,8 +32,8 @@ read_line r = line_of r.number r.text.now
 abbrev pub clean_of : Read → Line
 clean_of r = clean_line (read_line r)
 
--- what is read of a line of a file: its clean text, whether the line stands in its record already, and the last line that
--- replaces an assignment of it
+-- What is read of a line: its clean text, whether its record has it already, and the last line that replaces an
+-- assignment of it.
 pub record IsRead (r : Read) : Type 0 where
   pub clean : r.clean.now ≡ (clean_of r).text
   pub repeated : r.repeated ≡ list_any (is r.number) (repeated_lines r.bytes.now)
@@ -44,7 +44,7 @@ abbrev pub number_text : WarningKind → List ℕ
 number_text (Replaced by) = decimal by ++ codes " replaces"
 number_text _ = []
 
--- the match lines that repeat one of their run: those found so far, and those of the clean lines behind
+-- the match lines that repeat one of their run: those found so far, and those of the clean lines after them
 abbrev pub found_with : Run → List Line → List ℕ
 found_with r more = r.numbers.items ++ repeated_from (map (λ t. t.now) r.above.keys) more
 
@@ -52,7 +52,7 @@ found_with r more = r.numbers.items ++ repeated_from (map (λ t. t.now) r.above.
 abbrev pub IsSetOf : List ℕ → BTreeSet ℕ → Type 0
 IsSetOf numbers set = (n : ℕ) → contains nat_cmp set n ≡ list_any (is n) numbers
 
--- where the assignments of a file are thought to come from
+-- the origin that the assignments of a file are given
 abbrev pub own : Origin
 own = record { path = []; priority = 1 }
 
@@ -69,15 +69,15 @@ abbrev pub replacing_of : (read all : List Assignment) → (line : ℕ) → List
 replacing_of read all line =
     map (λ a. a.position.line) (filter (λ a. list_any (replaces all a) (filter (λ b. is line b.position.line) read)) all)
 
--- a number that is raised to another one, where a test holds
+-- a number that is raised to another one, if a test holds
 abbrev pub raised : (test : Bool) (number old : ℕ) → ℕ
 raised test number old = if test then max old number else old
 
--- a number, where it is above another one; else 0
+-- a number, if it is above another one; else 0
 abbrev pub behind : (line number : ℕ) → ℕ
 behind line number = if nat_lt line number then number else 0
 
--- what a map has at a pattern and a key, at these and a value, or at a number; 0 where it has nothing there
+-- what a map has at a pattern and a key, at these and a value, or at a number; 0 if it has nothing there
 abbrev pub last_at : BTreeMap (Bor (List ℕ) × Bor (List ℕ)) ℕ → (pattern key : Bor (List ℕ)) → ℕ
 last_at last pattern key =
     unwrap_or (get_by (λ q. ordering_then (slice_cmp nat_cmp pattern.now q.0.now) (slice_cmp nat_cmp key.now q.1.now)) last) 0
@@ -121,7 +121,7 @@ pub record IsKnown (k : Known) : Type 0 where
   pub repeated : IsSetOf (repeated_lines k.bytes.now) k.repeated
   pub replaced : (number : ℕ) → line_at k.replaced number ≡ greatest (replacing k.bytes.now number)
 
--- the texts of the lines from some place on, the first of which has this number
+-- the texts of the lines from some place on, if the first one has this number
 abbrev pub text_from : (file : List ℕ) (number at line : ℕ) → List ℕ
 text_from file number at line = text_of_line (numbered number (pieces (is (byte "\n")) (drop at file))) line
 

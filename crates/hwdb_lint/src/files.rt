@@ -21,7 +21,7 @@ use std::alloc::{AllocError, Global};
 /// A text file that is checked.
 #[derive(Clone, Copy)]
 pub struct TextFile<'a> {
-    /// The path that is printed of it.
+    /// The path that is printed for it.
     pub path: &'a str,
     /// What it holds.
     pub bytes: &'a [u8],
@@ -36,9 +36,9 @@ struct Checked {
     tally: Tally,
 }
 
-/// The reports of some faults of a file. It takes a step for each byte of the file where the faults ascend by line.
+/// The reports of some faults of a file. If the faults ascend by line, it takes a step for each byte of the file.
 ///
-/// The only error is that memory is refused.
+/// The only error is `AllocError`.
 fn reports_of(
     alloc: Global,
     path: &[u8],
@@ -124,7 +124,7 @@ fn look_over_all(alloc: Global, files: &[TextFile<'_>]) -> Result<Checked, ToolE
     Ok(Checked { reports, tally })
 }
 
-/// What is said of each file, and behind that how much was found in all.
+/// What is said of each file, and after that how much was found in all.
 fn sum_up(alloc: Global, files: &[TextFile<'_>]) -> Result<Checked, ToolError>
     ensures reports { IfOk result (λ c. c.reports.items ≡ check_text (map source_of files.now)) }
     ensures found { IfOk result
@@ -143,8 +143,12 @@ fn sum_up(alloc: Global, files: &[TextFile<'_>]) -> Result<Checked, ToolError>
 }
 
 /// Prints the reports of each file to `out`, one file after another, and a last line with how much was found in all.
-/// Answers the status: 1 where there is a fault, or `strict` and a warning, else 0. Nothing is written before the whole
-/// text is known.
+/// Nothing is written before the whole text is known.
+///
+/// Answers the status: 1 if there is a fault, or `strict` and a warning, else 0. The errors are a file with more than
+/// 4,294,967,295 lines, a failed allocation, and a failed write to `out`.
+///
+/// The memory is the whole text, and for one file at a time a record for each assignment and each match line.
 pub fn check_files<O: Sink>(
     alloc: Global,
     files: &[TextFile<'_>],

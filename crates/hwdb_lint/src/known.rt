@@ -15,15 +15,13 @@ use std::collections::{BTreeMap, BTreeSet};
 pub struct Known<'a> {
     /// What it holds.
     pub bytes: &'a [u8],
-    /// The numbers of the match lines that stand in their record already.
+    /// The numbers of the match lines that their record has already.
     pub repeated: BTreeSet<u64>,
     /// For the number of a line that of the last line that replaces one of its assignments by another value.
     pub replaced: BTreeMap<u64, u64>,
 }
 
-/// What is known of a file with these assignments.
-///
-/// The only error is that memory is refused.
+/// What is known of a file with these assignments. The only error is `AllocError`.
 pub fn known_of<'a>(
     alloc: Global,
     bytes: &'a [u8],

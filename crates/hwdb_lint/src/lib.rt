@@ -1,14 +1,18 @@
-//! What `check` says of text files: each fault and each warning with its line, the place in it and what to do about it, and
-//! how much was found. It writes no database.
+//! Checks text files for errors and likely mistakes: what `check` prints. Each fault and each warning comes with its
+//! line, the place in it and what to do about it. At the end comes how much was found. It writes no database.
+//!
+//! The faults are those that `update` prints. A warning is for a line that is read, but likely not as it was meant (our
+//! choice). A file is read three times: for its assignments, for repeated match lines, and line by line for the
+//! reports.
 //!
 //! | Module | What it does |
 //! |---|---|
 //! | `shown` | lines as they are shown, and the mark below them |
-//! | `places` | where in its line a fault stands |
+//! | `places` | the place of a fault in its line |
 //! | `reports` | the report of a fault |
 //! | `line_texts` | the text of a line, by its number |
 //! | `line_warnings` | which warnings a line gets, by its clean text |
-//! | `repeats` | match lines that stand in their record already |
+//! | `repeats` | match lines that their record has already |
 //! | `replacements` | assignments that a later line of the same file replaces |
 //! | `known` | what is known of a file before its lines are read one by one |
 //! | `warnings` | the warnings of a file, and their reports |

@@ -6,16 +6,16 @@ ghost use Rattle.hwdb_lint.specs.Internal.{IsStart};
 
 use crate::places::place_of;
 
-/// Where a line begins.
+/// The beginning of a line.
 #[derive(Clone, Copy)]
 pub struct LineStart {
     /// The number of the line, from 1.
     pub number: u32,
-    /// How many bytes of the file stand before it.
+    /// How many bytes of the file come before it.
     pub at: usize,
 }
 
-/// Where the first line begins.
+/// The beginning of the first line.
 pub fn first_start(bytes: &[u8]) -> LineStart
     ensures start { IsStart bytes.now result }
     ensures first { result.number ≡ 1 }
@@ -24,7 +24,7 @@ pub fn first_start(bytes: &[u8]) -> LineStart
     LineStart { number: 1, at: 0 }
 }
 
-/// Where the next line begins.
+/// The beginning of the next line.
 fn next_start(bytes: &[u8], start: LineStart) -> LineStart
     requires start { IsStart bytes.now start }
     requires inside { start.at < length bytes.now }
@@ -41,7 +41,7 @@ fn next_start(bytes: &[u8], start: LineStart) -> LineStart
     }
 }
 
-/// Where the line with a number begins, or the file ends, from an earlier line on.
+/// The beginning of the line with a number, or the end of the file, from an earlier line on.
 fn seek(bytes: &[u8], from: LineStart, number: u32) -> LineStart
     requires start { IsStart bytes.now from }
     requires before { from.number ≤ number }
@@ -71,8 +71,9 @@ fn text_at(bytes: &[u8], start: LineStart, number: u32) -> &[u8]
     &rest[..place_of(b'\n', rest)]
 }
 
-/// Where the line with a number begins, or the file ends, and the text of the line, or nothing. It reads on from where
-/// some line begins, and from the first line on where that one stands behind.
+/// The text of the line with a number, or nothing, and the beginning of that line, or the end of the file. It reads on
+/// from `from`, which is the beginning of some line. If that line comes after the wanted one, it reads from the first
+/// line on. So lines in order take one pass in all.
 pub fn find_line(bytes: &[u8], from: LineStart, number: u32) -> (LineStart, &[u8])
     requires { IsStart bytes.now from }
     ensures start { IsStart bytes.now result.0 }

@@ -23,9 +23,9 @@ pub struct Read<'a> {
     pub text: &'a [u8],
     /// Its clean text.
     pub clean: &'a [u8],
-    /// Whether it is a match line that stands in its record already.
+    /// Whether it is a match line that its record has already.
     pub repeated: bool,
-    /// The last line that replaces one of its assignments by another value; 0 where none does.
+    /// The last line that replaces one of its assignments by another value; 0 if none does.
     pub replaced_by: u64,
 }
 
@@ -43,7 +43,7 @@ fn begins_with_tab(text: &[u8]) -> bool
     !text.is_empty() && text[0] == b'\t'
 }
 
-/// Whether a carriage return stands in a text.
+/// Whether a text has a carriage return.
 fn has_return(text: &[u8]) -> bool
     ensures { result ≡ warns [] WarningKind.CarriageReturn (line_of 0 []) (line_of 0 text.now) }
 {
@@ -64,7 +64,7 @@ fn is_match(clean: &[u8]) -> bool
     !clean.is_empty() && clean[0] != b' '
 }
 
-/// What stands before the first `[` of a pattern that begins no closed bracket.
+/// The text before the first `[` of a pattern that begins no closed bracket.
 pub fn closed(pattern: &[u8]) -> &[u8]
     ensures { result.now ≡ closed_part pattern.now }
 {
@@ -89,7 +89,7 @@ fn has_empty_range(clean: &[u8]) -> bool
     range_place(part) < part.len()
 }
 
-/// Whether a space or a tab stands in a text.
+/// Whether a text has a space or a tab.
 fn has_blank(text: &[u8]) -> bool
     ensures { result ≡ list_any is_indent text.now }
 {
@@ -107,7 +107,7 @@ fn is_spaced(key: &[u8], value: &[u8]) -> bool
     has_blank(&key[last..]) || has_blank(&value[..first])
 }
 
-/// Whether a blank stands beside the first `=` of a property that has a key.
+/// Whether a blank is beside the first `=` of a property that has a key.
 fn has_spaced_equals(clean: &[u8]) -> bool
     ensures { result ≡ warns [] WarningKind.SpacedEquals (line_of 0 []) (line_of 0 clean.now) }
 {
@@ -125,28 +125,28 @@ fn has_spaced_equals(clean: &[u8]) -> bool
     is_spaced(&body[..equals], &body[equals + 1..])
 }
 
-/// Whether a `=` stands in a text.
+/// Whether a text has a `=`.
 fn holds_equals(text: &[u8]) -> bool
     ensures { result ≡ Lines.has 61 text.now }
 {
     text.iter().any(|byte| *byte == b'=')
 }
 
-/// Whether a `=` stands in a property.
+/// Whether a property has a `=`.
 fn has_equals(clean: &[u8]) -> bool
     ensures { result ≡ Lines.has_equals (line_of 0 clean.now) }
 {
     holds_equals(&clean[indent_of(clean)..])
 }
 
-/// Whether a `#` stands in a text right behind its first bytes, the clean text.
+/// Whether a `#` comes in a text right after its first bytes, the clean text.
 fn is_cut(text: &[u8], clean: &[u8]) -> bool
     ensures { result ≡ Warnings.is_cut (line_of 0 text.now) (line_of 0 clean.now) }
 {
     clean.len() < text.len() && text[clean.len()] == b'#'
 }
 
-/// Whether a `#` cuts the value of a property, and no blank stands before it.
+/// Whether a `#` cuts the value of a property, and no blank comes before it.
 fn has_cut_value(text: &[u8], clean: &[u8]) -> bool
     ensures { result
         ≡ warns [] WarningKind.CutValue (line_of 0 text.now) (line_of 0 clean.now) }

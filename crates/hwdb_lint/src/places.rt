@@ -1,4 +1,4 @@
-//! Where in its line a fault stands.
+//! The place of a fault in its line.
 ghost use Rattle.std.specs.Prelude.{◌≡◌, ◌≤◌, length};
 ghost use Rattle.std.specs.List.{position_or_len, prefix_len};
 ghost use Rattle.hwdb_spec.specs.Lines.{is, is_indent};
@@ -6,7 +6,7 @@ ghost use Rattle.hwdb_spec.specs.Reports.{fault_place};
 
 use hwdb_spec::FaultKind;
 
-/// How many bytes a match line has at most.
+/// At most how many bytes a match line has.
 const LONGEST_MATCH: usize = 4096;
 
 /// How many spaces and tabs a line begins with.
@@ -21,7 +21,7 @@ pub fn indent_of(line: &[u8]) -> usize
     at
 }
 
-/// Where a byte first stands; the line's length where it stands nowhere.
+/// The place of the first such byte, from 0; the line's length if there is none.
 pub fn place_of(byte: u8, line: &[u8]) -> usize
     ensures place { result ≡ position_or_len (is byte) line.now }
     ensures within { result ≤ length line.now }
@@ -33,7 +33,7 @@ pub fn place_of(byte: u8, line: &[u8]) -> usize
     at
 }
 
-/// Behind how many bytes of its line a fault stands.
+/// The place of a fault in its line, in bytes from 0.
 pub fn fault_place(kind: FaultKind, line: &[u8]) -> usize
     ensures { result ≡ fault_place kind line.now }
 {

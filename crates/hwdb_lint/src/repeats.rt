@@ -1,4 +1,4 @@
-//! Match lines that stand in their record already.
+//! Match lines that their record has already.
 ghost use Rattle.std.specs.Prelude.{◌≡◌, ℕ, List, ◌∷◌, true, IfOk, OnOk};
 ghost use Rattle.std.specs.List.{list_any};
 ghost use Rattle.std.specs.Ordering.{nat_cmp};
@@ -23,9 +23,7 @@ pub struct Run<'b> {
 }
 
 impl<'b> Run<'b> {
-    /// Reads a clean match line.
-    ///
-    /// The only error, here and below, is that memory is refused.
+    /// Reads a clean match line. The only error, here and below, is `AllocError`.
     fn put(&mut self, number: u64, clean: &'b [u8]) -> Result<(), AllocError>
         requires { Lines.is_match (line_of number clean.now) ≡ true }
         ensures { OnOk result ((more : List Line) → found_with self.new more
@@ -59,8 +57,8 @@ impl<'b> Run<'b> {
     }
 }
 
-/// The numbers of the match lines of a file that stand in their record already, ascending. It takes as many steps as the file
-/// has bytes, each as long as a look among the match lines of a record.
+/// The numbers of the match lines of a file that their record has already, ascending. It takes a look among the match
+/// lines of a record for each of these, and else a pass over the bytes.
 fn repeated_numbers(alloc: Global, bytes: &[u8]) -> Result<Vec<u64>, AllocError>
     ensures { IfOk result (λ numbers. numbers.items ≡ repeated_lines bytes.now) }
 {
@@ -91,7 +89,7 @@ fn set_of(alloc: Global, numbers: &[u64]) -> Result<BTreeSet<u64>, AllocError>
     Ok(set)
 }
 
-/// The set of the numbers of the match lines of a file that stand in their record already.
+/// The set of the numbers of the match lines of a file that their record has already.
 pub fn repeated_lines(alloc: Global, bytes: &[u8]) -> Result<BTreeSet<u64>, AllocError>
     ensures { IfOk result (λ set. IsSetOf (repeated_lines bytes.now) set) }
 {

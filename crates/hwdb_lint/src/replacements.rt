@@ -1,4 +1,8 @@
 //! Assignments that a later line of the same file replaces by another value.
+//!
+//! Two maps are made first: the last line with each pattern and key, and the last with each pattern, key and value. An
+//! assignment is replaced if the first of these is later than the second: then the last value is another one. So no two
+//! assignments are compared, and the time is that of a few looks in a map for each.
 ghost use Rattle.std.specs.Prelude.{◌≡◌, [], map, IfOk, OnOk};
 ghost use Rattle.std.specs.Borrow.{Bor};
 ghost use Rattle.hwdb_text.specs.Views.{given_in};
@@ -14,10 +18,10 @@ type Place<'b> = (&'b [u8], &'b [u8]);
 /// A pattern and a key, and the value that they are given.
 type Valued<'b> = (Place<'b>, &'b [u8]);
 
-/// Reads an assignment: its line counts as the last one with its pattern and key, where none behind it was read. One look is
-/// enough where assignments come by line.
+/// Reads an assignment. If none after it was read, its line counts as the last one with its pattern and key. One look
+/// is enough if assignments come by line.
 ///
-/// The only error, here and below, is that memory is refused.
+/// The only error, here and below, is `AllocError`.
 fn put_last<'b>(last: &mut BTreeMap<Place<'b>, u64>, given: &Given<'b>) -> Result<(), AllocError>
     ensures { OnOk result (RaisesLast (given_in own given.now) last.old last.new) }
 {
@@ -41,7 +45,7 @@ fn last_lines<'b>(alloc: Global, all: &[Given<'b>]) -> Result<BTreeMap<Place<'b>
     Ok(last)
 }
 
-/// The same for its pattern, its key and its value.
+/// As `put_last`, for its pattern, its key and its value.
 fn put_same<'b>(same: &mut BTreeMap<Valued<'b>, u64>, given: &Given<'b>) -> Result<(), AllocError>
     ensures { OnOk result (RaisesSame (given_in own given.now) same.old same.new) }
 {
@@ -65,7 +69,7 @@ fn same_lines<'b>(alloc: Global, all: &[Given<'b>]) -> Result<BTreeMap<Valued<'b
     Ok(same)
 }
 
-/// A line is replaced by another one: that counts, where none behind it replaces the line too.
+/// A line is replaced by another one. That counts if no later line replaces it too.
 fn put_line(replaced: &mut BTreeMap<u64, u64>, line: u64, by: u64) -> Result<(), AllocError>
     ensures { OnOk result (RaisesLine line by replaced.old replaced.new) }
 {
@@ -74,8 +78,8 @@ fn put_line(replaced: &mut BTreeMap<u64, u64>, line: u64, by: u64) -> Result<(),
     Ok(())
 }
 
-/// Reads an assignment: where the last line with its pattern and key stands behind the last one that gives its value too, it
-/// gives another value, and replaces the line.
+/// Reads an assignment. Its line is replaced if the last line with its pattern and key comes after the last one that
+/// gives its value too. That line gives another value.
 fn put_given<'b>(
     replaced: &mut BTreeMap<u64, u64>,
     last: &BTreeMap<Place<'b>, u64>,
@@ -96,8 +100,8 @@ fn put_given<'b>(
     Ok(())
 }
 
-/// For the number of each line the number of the last line that replaces one of its assignments. It takes a few looks among
-/// the assignments for each of them.
+/// For the number of each line the number of the last line that replaces one of its assignments. It takes a few looks
+/// among the assignments for each of them.
 pub fn replaced_lines(alloc: Global, all: &[Given<'_>]) -> Result<BTreeMap<u64, u64>, AllocError>
     ensures { IfOk result
         (IsReplacedBy (map (given_in own) all.now) (map (given_in own) all.now)) }

@@ -28,9 +28,8 @@ fn hint_of(kind: FaultKind) -> &'static str
     }
 }
 
-/// Adds the line of a fault, as `update` prints it: where it stands, `: `, what is wrong.
-///
-/// The only error, here and below, is that memory is refused.
+/// Adds the line of a fault, as `update` prints it: its path and line, `: `, what is wrong. The only error, here and
+/// below, is `AllocError`.
 fn push_fault_line(text: &mut Vec<u8>, path: &[u8], fault: Fault) -> Result<(), AllocError>
     ensures { OnOk result (text.new.items ≡ text.old.items ++ fault_line path.now fault) }
 {

@@ -6,7 +6,7 @@ ghost use Rattle.hwdb_spec.specs.Reports.{shown_byte, shown, max_shown, shown_li
 
 use std::alloc::{AllocError, Global};
 
-/// How many bytes of a line are shown.
+/// At most how many bytes of a line are shown (our choice).
 const SHOWN: usize = 160;
 
 /// The digits of a byte that isn't printable.
@@ -19,9 +19,7 @@ fn is_printed(byte: u8) -> bool
     matches!(byte, 32..=126)
 }
 
-/// Adds `\x` and a byte's two hexadecimal digits.
-///
-/// The only error, here and below, is that memory is refused.
+/// Adds `\x` and a byte's two hexadecimal digits. The only error, here and below, is `AllocError`.
 #[tactic(auto, unfolding(hex::specs::Hex::encode_with))]
 fn push_digits(text: &mut Vec<u8>, byte: u8) -> Result<(), AllocError>
     ensures { OnOk result
@@ -76,7 +74,7 @@ fn first_bytes(line: &[u8]) -> &[u8]
     }
 }
 
-/// Adds the line that shows a line: four spaces, its first bytes, and `...` where it goes on.
+/// Adds the line that shows a line: four spaces, its first bytes, and `...` if it goes on.
 pub fn push_shown_line(text: &mut Vec<u8>, line: &[u8]) -> Result<(), AllocError>
     ensures { OnOk result (text.new.items ≡ text.old.items ++ shown_line line.now) }
 {
@@ -89,7 +87,7 @@ pub fn push_shown_line(text: &mut Vec<u8>, line: &[u8]) -> Result<(), AllocError
     Ok(())
 }
 
-/// What stands above the mark, as it is shown: the line's bytes before a place.
+/// What is above and before the mark, as it is shown: the line's bytes before a place.
 fn shown_before(alloc: Global, line: &[u8], at: usize) -> Result<Vec<u8>, AllocError>
     ensures { IfOk result (λ above. above.items ≡ shown (take at line.now)) }
 {
@@ -98,7 +96,7 @@ fn shown_before(alloc: Global, line: &[u8], at: usize) -> Result<Vec<u8>, AllocE
     Ok(above)
 }
 
-/// Adds the mark below a line's byte at a place, where that byte is shown.
+/// Adds the mark below a line's byte at a place, if that byte is shown.
 pub fn push_mark_line(
     alloc: Global,
     text: &mut Vec<u8>,

@@ -37,9 +37,7 @@ pub fn together(so_far: Tally, found: Tally) -> Tally
     }
 }
 
-/// Adds a count, and what is counted.
-///
-/// The only error, here and below, is that memory is refused.
+/// Adds a count, and what is counted. The only error, here and below, is `AllocError`.
 pub fn push_count(text: &mut Vec<u8>, count: u64, word: &str) -> Result<(), AllocError>
     ensures { OnOk result (text.new.items ≡ text.old.items ++ count_text count word.now) }
 {
@@ -86,7 +84,7 @@ pub fn tally_line(alloc: Global, tally: Tally) -> Result<Vec<u8>, AllocError>
     Ok(text)
 }
 
-/// The status: 1 where there is a fault, or `strict` and a warning, else 0.
+/// The status: 1 if there is a fault, or `strict` and a warning, else 0.
 pub fn status_of(strict: bool, tally: Tally) -> u8
     ensures status { result ≡ check_status strict tally }
     ensures small { result ≤ 1 }

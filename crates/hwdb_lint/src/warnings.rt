@@ -1,4 +1,4 @@
-//! Warnings: lines that are read, but hardly as they were meant.
+//! Warnings: lines that are read, but likely not as they were meant.
 ghost use Rattle.std.specs.Prelude.{◌≡◌, ◌++◌, flat_map, map, IfOk, OnOk};
 ghost use Rattle.hwdb_spec.specs.Lines.{clean_line};
 ghost use Rattle.hwdb_spec.specs.Records;
@@ -34,9 +34,8 @@ fn text_of(kind: WarningKind) -> &'static str
     }
 }
 
-/// Adds what is printed of a warning from the number in it on; nothing where it has none.
-///
-/// The only error, here and below, is that memory is refused.
+/// Adds what is printed of a warning from the number in it on; nothing if it has none. The only error, here and below,
+/// is `AllocError`.
 fn push_number(text: &mut Vec<u8>, kind: WarningKind) -> Result<(), AllocError>
     ensures { OnOk result (text.new.items ≡ text.old.items ++ number_text kind) }
 {
@@ -64,7 +63,7 @@ fn hint_of(kind: WarningKind) -> &'static str
     }
 }
 
-/// Behind how many bytes of its line a warning stands.
+/// The place of a warning in its line, in bytes from 0.
 fn warning_place(kind: WarningKind, line: &[u8], clean: &[u8]) -> usize
     ensures { result ≡ warning_place kind line.now clean.now }
 {
@@ -132,7 +131,7 @@ pub struct Warned {
 }
 
 impl Warned {
-    /// Adds a warning, where the line gets it.
+    /// Adds a warning, if the line gets it.
     fn put_if(
         &mut self,
         alloc: Global,

@@ -65,7 +65,7 @@ test_open byte x y n = rw (ne_eqb byte 93 n) refl
 test_close : (byte : ℕ) (x y : Option Items) → byte ≡ 93 → cond (byte == 93) x y ≡ x
 test_close byte x y e = rw (eq-eqb byte 93 e) refl
 
--- an item at its place, and what is behind it
+-- an item at its place, and what comes after it
 pub items_next : (f : Bool) (text : List ℕ) → 0 < length text → (f ≡ false → get_or text 0 0 ≡ 93 → ⊥)
     → items_from f 0 text ≡ joined (item_at text) (items_from false 0 (drop (item_at text).size text))
 unfolding items_from

@@ -26,7 +26,7 @@ closed_tokens_from zero (first ∷ rest) =
 abbrev pub closed_tokens : List ℕ → List Token
 closed_tokens path = closed_tokens_from 0 path
 
--- a token that isn't an open `[` is the same in every longer text
+-- a token that isn't an open `[` is the same token in every longer text
 bracket_kept : (text more : List ℕ) (o : Option Bracket) → bracket_at text ≡ o → is_open (bracket_or_byte o) ≡ false → bracket_at (text ++ more) ≡ o
 bracket_kept text more None e h = cc
 bracket_kept text more (Some b) e h = bracket_longer text more b e
@@ -177,7 +177,7 @@ closed_skipped_bytes zero path = refl
 closed_skipped_bytes (suc skip) [] = refl
 closed_skipped_bytes (suc skip) (first ∷ rest) = ap (λ (l : List ℕ). first ∷ l) (closed_skipped_bytes skip rest)
 
--- a closed bracket is the same in its own bytes
+-- a closed bracket is the same bracket in its own bytes
 bracket_of_some : (start : ℕ) (inverted : Bool) (o : Option Items) (b : Bracket) → bracket_of start inverted o ≡ Some b
     → (i : Items) × (o ≡ Some i) × (b.size ≡ start + i.size)
 bracket_of_some start inverted None b h = cc
@@ -266,7 +266,7 @@ bracket_in text more b h =
     let f : take b.size text ≡ r.front = ap (take b.size) r.whole ∙ take_at r.front r.rest b.size r.size in
     bracket_longer (take b.size text) more b (ap bracket_at f ∙ r.same)
 
--- a token that isn't an open `[` is the same in every text that begins with its bytes
+-- a token that isn't an open `[` is the same token in every text that begins with its bytes
 token_in : (first : ℕ) (rest more : List ℕ) → is_open (token_at (first ∷ rest)) ≡ false
     → token_at (first ∷ take (token_size (token_at (first ∷ rest)) - 1) rest ++ more) ≡ token_at (first ∷ rest)
 token_in first rest more h = elim (cases_eq first 42) [

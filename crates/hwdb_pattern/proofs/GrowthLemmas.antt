@@ -41,7 +41,7 @@ tokens_grow zero (first ∷ rest) more =
     (λ h. let same : token_at (first ∷ rest ++ more) ≡ token_at (first ∷ rest) = token_longer first rest more h in
     ap (λ u. u ∷ tokens_from (token_size u - 1) (rest ++ more)) same)
 
--- a device that tokens match, cut behind the first ones
+-- a device that tokens match, cut after the first ones
 pub record Front (front : List Token) (device : List ℕ) : Type 0 where
   pub piece : List ℕ
   pub rest : List ℕ

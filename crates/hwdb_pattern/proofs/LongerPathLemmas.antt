@@ -100,7 +100,7 @@ class_same text more h =
     find_same (λ c. starts_with nat_eq (text ++ more) (class_text c)) (λ c. starts_with nat_eq text (class_text c)) classes
     (λ c. same_start (class_text c) text more (class_at_end c) h)
 
--- what closes behind one byte begins with it, so a range doesn't reach farther
+-- what closes after one byte begins with it, so a range doesn't reach farther
 close_alone : (skip d : ℕ) (j : Items) → items_from false skip (d ∷ []) ≡ Some j → d ≡ 93
 unfolding items_from
 close_alone (suc skip) d j h = cc
@@ -262,7 +262,7 @@ token_within first rest = elim (cases_eq first 42) [
     one_byte : token_size (token_at (first ∷ rest)) ≡ 1 → token_size (token_at (first ∷ rest)) ≤ length (first ∷ rest)
     one_byte e = omega (arith, e)
 
--- where no `]` stands, no bracket is closed
+-- if no `]` comes, no bracket is closed
 holds_none : (text : List ℕ) → ((k : ℕ) → get_or text k 0 ≡ 93 → ⊥) → has text ≡ true → ⊥
 holds_none [] n h = cc
 holds_none (b ∷ rest) n h = holds_none rest (λ k e. n (suc k) e) (later (b == 93) (has rest) (ne_eqb b 93 (n 0)) h)

@@ -7,12 +7,12 @@ use Rattle.hwdb_pattern.specs.Internal.Search.{AreOpen, NeverClose}
 use Rattle.hwdb_pattern.specs.declared.brackets.Part.{Part}
 use Rattle.hwdb_pattern.proofs.BracketLemmas.{bracket_inverted, bracket_upright, items_next, items_none}
 
--- no item stands behind the end
+-- no item comes after the end
 pub never_at_end : (text : List ℕ) (at : ℕ) (table : List Bool) → length text ≤ at → NeverClose (drop at text) table
 never_at_end text at table h k e =
     ap (λ (t : List ℕ). items_from false 0 t) (drop-drop k at text ∙ drop_all (at + k) text (omega (arith, h))) ∙ items_none false
 
--- an item of so many bytes, behind which the items are never closed
+-- an item of so many bytes, after which the items are never closed
 pub never_behind : (first : Bool) (text : List ℕ) (size : ℕ) → 0 < length text → (first ≡ false → get_or text 0 0 ≡ 93 → ⊥) → size ≡ (item_at text).size
     → items_from false 0 (drop size text) ≡ None → items_from first 0 text ≡ None
 never_behind first text size h n e none =
@@ -23,7 +23,7 @@ never_behind first text size h n e none =
 pub size_of_part : (text : List ℕ) (b : ℕ) (p : Part) → p ≡ items_part b (item_at text) → p.size ≡ (item_at text).size
 size_of_part text b p e = ap (λ (q : Part). q.size) e
 
--- a table of the places behind the first byte, asked for a place of the text
+-- a table of the places after the first byte, asked for a place of the text
 pub told : (text : List ℕ) (table : List Bool) (k : ℕ) → NeverClose (drop 1 text) table → get_or table k false ≡ true → items_from false 0 (drop (k + 1) text) ≡ None
 told text table k h e =
     ap (λ (t : List ℕ). items_from false 0 t) (ap (λ (n : ℕ). drop n text) (omega arith) ∙ sym (drop-drop k 1 text)) ∙ h k e
@@ -40,7 +40,7 @@ open_upright text h e i none = bracket_upright text h e i ∙ ap (bracket_of 1 f
 open_inverted : (text : List ℕ) → 2 ≤ length text → get_or text 0 0 ≡ 91 → is_inversion (get_or text 1 0) ≡ true → items_from true 0 (drop 2 text) ≡ None → bracket_at text ≡ None
 open_inverted text h e i none = bracket_inverted text h e i ∙ ap (bracket_of 2 true) none
 
--- a bracket that is never closed, by what is known behind its first item
+-- a bracket that is never closed, by what is known after its first item
 pub open_by_table : (text here : List ℕ) (table : List Bool) (b : ℕ) (p : Part) → here ≡ drop 1 text → 2 ≤ length text → get_or text 0 0 ≡ 91 → is_inversion (get_or text 1 0) ≡ false
     → NeverClose (drop 1 text) table → p ≡ items_part b (item_at here) → get_or table p.size false ≡ true → bracket_at text ≡ None
 open_by_table text here table b p t h e i known q found =
@@ -71,7 +71,7 @@ never_more text table next first known f e others (suc k) found =
     place : (n : ℕ) → n ≡ suc k → drop n text ≡ drop (suc k) text
     place n e = ap (λ (m : ℕ). drop m text) e
 
--- what is known of the places behind the first byte, one place to the left
+-- what is known of the places after the first byte, one place to the left
 pub known_left : (pattern here : List ℕ) (table : List Bool) (at : ℕ) → here ≡ drop (at - 1) pattern → 0 < at → NeverClose (drop at pattern) table → NeverClose (drop 1 here) table
 known_left pattern here table at t pos known k e =
     ap (λ (d : List ℕ). items_from false 0 (drop k d)) (ap (λ (d : List ℕ). drop 1 d) t ∙ drop-drop 1 (at - 1) pattern ∙ ap (λ (n : ℕ). drop n pattern) (omega (arith, pos)))

@@ -244,7 +244,7 @@ pub no_bytes : (l : List ℕ) → length l ≡ 0 → l ≡ []
 no_bytes [] h = refl
 no_bytes (x ∷ l) h = absurd (omega arith)
 
--- where no byte is kept, the closed part is the path
+-- if no byte is kept, the closed part is the path
 whole_closed : (r : Reached) (path : List ℕ) → StandsFor r path → length r.kept ≡ 0 → tokens (closed_part path) ≡ tokens path
 whole_closed r path s k =
     ap tokens (sym (s.rest ∙ ap (λ (l : List ℕ). closed_part path ++ l) (no_bytes r.kept k) ∙ append-nil (closed_part path)))
@@ -279,7 +279,7 @@ starts device lengths kept e k = record {
     is_zero : (n : ℕ) → n ≤ length device → n ≡ 0 → Contains (0 ∷ []) n
     is_zero n h z = (0, omega arith, sym z)
 
--- where the token takes no next byte, no length is left
+-- if the token takes no next byte, no length is left
 pub stepped_none : (t : Token) (device xs : List ℕ) → NoneTakes t device xs → stepped t device xs ≡ []
 stepped_none t device [] n = refl
 stepped_none t device (x ∷ xs) n =
@@ -314,7 +314,7 @@ pub first_star : (text device before after : List ℕ) → get_or text 0 0 ≡ 4
 first_star text device before after e s =
     subst (λ (t : Token). Follows (t ∷ []) device before after) (sym (star_at text e)) (follows_star device before after s)
 
--- where no length is left, none comes back
+-- if no length is left, none comes back
 none_more : (ts more : List Token) (device : List ℕ) → Lengths ts device [] → Lengths (ts ++ more) device []
 none_more ts more device l = record {
   sound = λ n c. absurd (contains_none n c);

@@ -1,4 +1,4 @@
--- Where in a pattern the first reversed range stands, seen from any place where an item or a token begins.
+-- The place of a pattern's first reversed range, seen from any place where an item or a token begins.
 use Rattle.std.proofs.Common.{◌≡◌, ℕ, zero, suc, ◌-◌, ◌+◌, ◌<◌, ◌≤◌, Bool, true, false, List, [], ◌∷◌, ◌++◌, take, drop, length, get_or, nat_lt, refl, ap, ◌∙◌, sym, Option, Some, None, cond, ◌==◌, ◌||◌, if◌then◌else◌, nat_eq, arith, inl, inr, ne_eqb, eq-eqb, subst}
 use Rattle.std.proofs.lemmas.Bool.{cases_eq, false≢true, ltb_from_iff, le-ltb}
 use Rattle.std.proofs.lemmas.List.{length-take, length-drop, get_or-drop, drop-drop, drop_all}
@@ -165,7 +165,7 @@ before_at b place size place' size' p s h = subst (λ (n : ℕ). IsBefore b n si
 before_is_same : (b c : Bool) (place size : ℕ) → b ≡ c → IsBefore b place size → IsBefore c place size
 before_is_same b c place size e h = subst (λ (t : Bool). IsBefore t place size) e h
 
--- what is known of the items from a place on, where a `]` closes
+-- what is known of the items from a place on, if a `]` closes
 abbrev Found : Bool → ℕ → List ℕ → Option Items → Type 0
 Found f skip text None = Unit {0}
 Found f skip text (Some found) = (0 < found.size) × IsBefore (has_reversed found.spans) (reversed_from f skip text) (found.size + skip)
@@ -344,7 +344,7 @@ range_stands zero (first ∷ rest) h =
 pub range_found : (text : List ℕ) → nat_lt (range_from 0 text) (length text) ≡ list_any is_reversed (tokens_from 0 text)
 range_found text = stands_is _ _ _ (range_stands 0 text (omega arith))
 
--- the same of an open `[`
+-- one more byte before an open `[`
 one_longer : (b : Bool) (place size : ℕ) → Stands b place size → Stands b (suc place) (suc size)
 one_longer true place size h = omega (arith, h)
 one_longer false place size h = omega (arith, h)

@@ -38,7 +38,7 @@ reaches_step pattern device at met size h k e s a r =
       later = λ m. star_absorbs t ts x d s (along _ _ _ _ (ap (λ us. star ∷ us) p) q (r.later m));
     }
 
--- where the next token doesn't take the next byte, nothing matches
+-- if the next token doesn't take the next byte, nothing matches
 pub reaches_refused : (pattern device : List ℕ) (at met : ℕ) → at < length pattern → met < length device
     → is_star (token_at (drop at pattern)) ≡ false
     → (IsTrue (admits_byte (token_at (drop at pattern)) (get_or device met 0)) → ⊥)
@@ -48,7 +48,7 @@ reaches_refused pattern device at met h k s n r m =
     let q : drop met device ≡ get_or device met 0 ∷ drop (met + 1) device = drop_more device met 0 k in
     n (single_admits _ _ _ _ s (along _ _ _ _ p q (r.forth m)))
 
--- nor where no byte is left for it
+-- nor if no byte is left for it
 pub reaches_short : (pattern device : List ℕ) (at met : ℕ) → at < length pattern → length device ≤ met
     → is_star (token_at (drop at pattern)) ≡ false
     → Reaches pattern device at met → Matches (tokens pattern) device → ⊥
@@ -61,7 +61,7 @@ not_star_at pattern at n =
     let e : get_or (drop at pattern) 0 0 ≡ get_or pattern at 0 = get_or-drop at pattern 0 0 ∙ ap (λ (k : ℕ). get_or pattern k 0) (omega arith) in
     not_star (drop at pattern) (λ h. n (sym e ∙ h))
 
--- the same, by what the code read of the token
+-- one more token, by what the code read of it
 pub run_step : (pattern device text : List ℕ) (at met : ℕ) (p : Part) → text ≡ drop at pattern → at < length pattern → met < length device
     → p ≡ token_part (get_or device met 0) (token_at text) → (get_or pattern at 0 ≡ 42 → ⊥)
     → not p.admits ≡ false
@@ -180,7 +180,7 @@ pub remains_end : (pattern device text left : List ℕ) (at met : ℕ)
 remains_end pattern device text left at met t l k m r =
     r.back k (star_nothing _ _ (along (tokens text) (tokens (drop at pattern)) left (drop met device) (ap tokens t) l m))
 
--- where no `]` stands from a place on, no bracket is closed there
+-- if no `]` comes from a place on, no bracket is closed there
 get_behind : (pattern text : List ℕ) (at k : ℕ) → text ≡ drop at pattern → get_or text k 0 ≡ get_or pattern (at + k) 0
 get_behind pattern text at k t = ap (λ (l : List ℕ). get_or l k 0) t ∙ get_or-drop at pattern k 0 ∙ ap (λ (n : ℕ). get_or pattern n 0) (omega arith)
 

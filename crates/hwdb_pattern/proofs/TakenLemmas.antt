@@ -1,4 +1,4 @@
--- A path that grows by bytes which stand for themselves.
+-- A path that grows by bytes which are tokens for themselves.
 use Rattle.std.proofs.Common.{◌≡◌, ℕ, ◌+◌, ◌<◌, ◌≤◌, Bool, true, false, List, [], ◌∷◌, ◌++◌, drop, length, get_or, refl, ap, ◌∙◌, sym, subst, cond, arith, eq-eqb}
 use Rattle.std.specs.List.{list_any}
 use Rattle.std.specs.Prelude.{Contains, map}
@@ -12,7 +12,7 @@ use Rattle.hwdb_pattern.proofs.TokenLemmas.{not_star, token_byte}
 use Rattle.hwdb_pattern.proofs.ClosedPartLemmas.{ClosedTo, closed_start, closed_step, closed_ends, other_token, part_and_rest}
 use Rattle.hwdb_pattern.proofs.PathLemmas.{Along, alive_has, along_end, along_first, along_none, along_step, fed, follows_none, follows_one, no_bytes, stepped_none, takes_by}
 
--- where no member passes, a member doesn't
+-- if no member passes, a member doesn't
 none_passes : (p : ℕ → Bool) (xs : List ℕ) (n : ℕ) → list_any p xs ≡ false → Contains xs n → p n ≡ false
 none_passes p xs n none c = go (p n) refl
   where
@@ -27,7 +27,7 @@ closed_byte byte bracket =
     closed_step (byte ∷ []) (byte ∷ []) 0 1 refl (omega arith) (other_token (byte ∷ []) (omega arith) bracket) (closed_start (byte ∷ [])) in
     closed_ends (byte ∷ []) 1 (omega arith) step
 
--- behind a byte that isn't the device's next one no length is left
+-- after a byte that isn't the device's next one no length is left
 lost_byte : (byte : ℕ) (device before : List ℕ) → (byte ≡ 42 → ⊥) → (byte ≡ 63 → ⊥) → (byte ≡ 91 → ⊥)
     → list_any (takes (literal byte) device) before ≡ false → Follows (tokens (byte ∷ [])) device before []
 lost_byte byte device before star one bracket none =
@@ -47,7 +47,7 @@ not_taken r path device before byte star one bracket d b k none stands live =
     closed.0 closed.1 (lost_byte byte device before star one bracket none) stands in
     absurd (omega (arith, alive_has (record { device = device; lengths = []; kept = [] }) (path ++ byte ∷ []) next (subst (IsLive (path ++ byte ∷ [])) (sym d) live)))
 
--- one more byte that stands for itself and is the device's next one behind a lone length
+-- one more byte that is a token for itself and the device's next one after a lone length
 stepped_lone : (t : Token) (device : List ℕ) (m : ℕ) → takes t device m ≡ true → stepped t device (m ∷ []) ≡ (m + 1) ∷ []
 stepped_lone t device m e = ap (λ c. map (λ n. n + 1) (cond c (m ∷ []) [])) e
 
@@ -58,7 +58,7 @@ follows_byte text device m some star one bracket h e =
     let taken : takes (literal (get_or text 0 0)) device m ≡ true = takes_by (literal (get_or text 0 0)) device m h (eq-eqb (get_or device m 0) (get_or text 0 0) e) in
     follows_one (token_at text) device (m ∷ []) ((m + 1) ∷ []) (not_star text star) (sym (ap (λ t. stepped t device (m ∷ [])) own ∙ stepped_lone (literal (get_or text 0 0)) device m taken))
 
--- the bytes before a place stand for themselves, and are the device's next ones
+-- the bytes before a place are tokens for themselves, and are the device's next ones
 pub record Shared (device text : List ℕ) (n at : ℕ) : Type 0 where
   pub closed : ClosedTo text at
   pub along : Along device (n ∷ []) ((n + at) ∷ []) text at
@@ -90,7 +90,7 @@ shared_closed device text n at h s = sym (closed_ends text at h s.closed).1 ∙ 
 pub shared_follows : (device text : List ℕ) (n at : ℕ) → length text ≤ at → Shared device text n at → Follows (tokens text) device (n ∷ []) ((n + at) ∷ [])
 shared_follows device text n at h s = along_end device (n ∷ []) ((n + at) ∷ []) text at h s.along
 
--- a path that grows by a text of which no part is open
+-- a path that grows by a text without an open part
 pub fed_closed : (r : Reached) (device after path piece kept : List ℕ) → device ≡ r.device → r.kept ≡ [] → kept ≡ [] → open_part piece ≡ []
     → Follows (tokens piece) r.device r.lengths after → StandsFor r path → StandsFor (record { device = device; lengths = after; kept = kept }) (path ++ piece)
 fed_closed r device after path piece kept d k none closed follows stands =

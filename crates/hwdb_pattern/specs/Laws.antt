@@ -4,8 +4,8 @@ use Rattle.hwdb_spec.specs.Patterns.{Token, token_at, token_size, tokens, Matche
 use Rattle.hwdb_spec.specs.Tree.{closed_part, is_open, IsLive, is_live}
 use Rattle.hwdb_pattern.specs.Views.{open_part}
 
--- The text is a concatenation of as many pieces as there are tokens, in order: each token stands at the
--- beginning of what is left, and its piece has its size.
+-- The text is a concatenation of as many pieces as there are tokens, in order. Each token begins what is left of the
+-- text, and its piece has its size.
 abbrev pub AreCutFrom : List Token → List ℕ → Type 0
 AreCutFrom [] text = text ≡ []
 AreCutFrom (token ∷ more) text =
@@ -16,7 +16,7 @@ AreCutFrom (token ∷ more) text =
 abbrev pub TokensAreThePattern : Type 0
 TokensAreThePattern = (pattern : List ℕ) → AreCutFrom (tokens pattern) pattern
 
--- the test is true exactly where the tokens match
+-- the test is true exactly if the tokens match
 abbrev pub MatchesIsTested : Type 0
 MatchesIsTested = (ts : List Token) (device : List ℕ) → IsTrue (matches ts device) ↔ Matches ts device
 
@@ -28,7 +28,7 @@ ClosedPartIsCutAlike = (path : List ℕ) → tokens (closed_part path) ≡ take_
 abbrev pub ClosedPartAndRest : Type 0
 ClosedPartAndRest = (path : List ℕ) → closed_part path ++ open_part path ≡ path
 
--- Dead stays dead: where a longer path is live, each path that it begins with is live.
+-- Dead stays dead: if a longer path is live, each path that it begins with is live.
 abbrev pub DeadStaysDead : Type 0
 DeadStaysDead = (path more device : List ℕ) → IsLive (path ++ more) device → IsLive path device
 
@@ -36,7 +36,7 @@ DeadStaysDead = (path more device : List ℕ) → IsLive (path ++ more) device �
 abbrev pub DeadMatchesNothing : Type 0
 DeadMatchesNothing = (path more device : List ℕ) → Matches (tokens (path ++ more)) device → IsLive path device
 
--- the test is true exactly where the path is live
+-- the test is true exactly if the path is live
 abbrev pub LiveIsTested : Type 0
 LiveIsTested = (path device : List ℕ) → IsTrue (is_live path device) ↔ IsLive path device
 

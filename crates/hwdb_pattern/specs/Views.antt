@@ -12,11 +12,11 @@ pub record Lengths (ts : List Token) (device lengths : List ℕ) : Type 0 where
 abbrev pub takes : Token → List ℕ → ℕ → Bool
 takes t device n = if nat_lt n (length device) then admits_byte t (slice_index device n) else false
 
--- the token takes the device's next byte behind none of the prefixes
+-- the token takes the device's next byte after none of the prefixes
 abbrev pub NoneTakes : Token → List ℕ → List ℕ → Type 0
 NoneTakes t device lengths = (n : ℕ) → Contains lengths n → takes t device n ≡ false
 
--- what stands from the first open `[` on
+-- the text from the first open `[` on
 unfoldable pub open_from : (skip : ℕ) → List ℕ → List ℕ
 open_from skip [] = []
 open_from (suc skip) (first ∷ rest) = open_from skip rest
@@ -24,25 +24,24 @@ open_from zero (first ∷ rest) =
     if is_open (token_at (first ∷ rest)) then first ∷ rest
     else open_from (token_size (token_at (first ∷ rest)) - 1) rest
 
--- the rest of a path, behind its closed part
+-- the rest of a path, after its closed part
 abbrev pub open_part : List ℕ → List ℕ
 open_part path = open_from 0 path
 
--- what a reach shows: the device, the lengths of the prefixes that are met, and the bytes of the path from
--- the first open `[` on
+-- what a reach shows: the device, the lengths of the matched prefixes, and the path's bytes from the first open `[` on
 pub record Reached : Type 0 where
   pub device : List ℕ
   pub lengths : List ℕ
   pub kept : List ℕ
 
--- A reach stands for a path if its lengths are exactly those of the device's prefixes that the closed part
--- matches, and its kept bytes are the rest of the path.
+-- A reach is the state of a path. Its lengths are exactly those of the device's prefixes that the closed part matches.
+-- Its kept bytes are the rest of the path.
 pub record StandsFor (reach : Reached) (path : List ℕ) : Type 0 where
   pub met : Lengths (tokens (closed_part path)) reach.device reach.lengths
   pub rest : path ≡ closed_part path ++ reach.kept
 
--- A text leads nowhere at once: no `[` is open in it, and its first token isn't a star and takes the device's
--- next byte behind none of the prefixes that are met.
+-- A text leads nowhere at once. No `[` is open in it. Its first token isn't a star, and takes the device's next byte
+-- after none of the prefixes that are matched.
 pub record IsLost (reach : Reached) (text : List ℕ) : Type 0 where
   pub some : 0 < length text
   pub closed : open_part text ≡ []

@@ -1,4 +1,8 @@
 //! Brackets, and the items in them: named classes, ranges and single bytes.
+//!
+//! The rules are those of POSIX.1-2017 fnmatch (XCU 2.13), over bytes. A `]` right after the `[`, or after its `!`, is
+//! an ordinary item. A bracket that no `]` closes is no bracket: its `[` is an ordinary byte. That `^` inverts as `!`
+//! does is our choice, since POSIX leaves it open.
 ghost use Rattle.std.specs.Prelude.{◌≡◌, ◌<◌, ◌≤◌, length, true, IfSome};
 ghost use Rattle.std.specs.Option.{option_map};
 ghost use Rattle.hwdb_spec.specs.Patterns;
@@ -7,7 +11,7 @@ ghost use Rattle.hwdb_pattern.specs.Internal.Parts.{bracket_size, items_part, br
 
 use crate::classes::{holds, named_class, text_of};
 
-/// A part of a pattern, weighed against one byte of a device.
+/// A part of a pattern, compared with one byte of a device.
 #[derive(Clone, Copy)]
 pub(crate) struct Part {
     /// How many bytes of the pattern it takes.
@@ -16,7 +20,7 @@ pub(crate) struct Part {
     pub(crate) admits: bool,
 }
 
-/// A range where one stands, else one byte.
+/// The range at the beginning of the text, or its first byte if no range begins there.
 fn plain_item(text: &[u8], byte: u8) -> Part
     requires { 0 < length text.now }
     ensures part { result ≡ items_part byte (Patterns.plain_item text.now) }
@@ -53,7 +57,7 @@ pub(crate) fn item(text: &[u8], byte: u8) -> Part
     plain_item(text, byte)
 }
 
-/// The items from the first one to the `]` that closes, with it. None where no `]` closes.
+/// The items up to and including the `]` that closes. None if no `]` closes.
 fn items(text: &[u8], byte: u8) -> Option<Part>
     ensures part { result ≡ option_map (items_part byte) (items_from true 0 text.now) }
     ensures within { IfSome result (λ part. part.size ≤ length text.now) }
@@ -74,7 +78,7 @@ fn items(text: &[u8], byte: u8) -> Option<Part>
     None
 }
 
-/// Whether the byte, behind the `[`, inverts the bracket.
+/// Whether the byte right after a `[` inverts the bracket.
 pub(crate) fn is_inversion(byte: u8) -> bool
     ensures { result ≡ Patterns.is_inversion byte }
 {
@@ -112,8 +116,10 @@ pub(crate) fn bracket(text: &[u8], byte: u8) -> Option<Part>
     }
 }
 
-/// The length in bytes of the closed bracket that begins the text, both ends counted. None where none
-/// is closed in the text, also where the text doesn't begin with `[`.
+/// The length in bytes of the closed bracket that begins the text, both ends counted.
+///
+/// Answers None if the text doesn't begin with `[`, or if no `]` closes that bracket. Reads each byte a fixed number of
+/// times, and takes no memory.
 pub fn bracket_end(text: &[u8]) -> Option<usize>
     ensures { result ≡ option_map bracket_size (bracket_at text.now) }
 {

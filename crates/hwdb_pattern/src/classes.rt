@@ -1,4 +1,4 @@
-//! The named classes of bytes, which may stand in a bracket.
+//! The named classes of bytes that a bracket may have, as in the POSIX locale.
 ghost use Rattle.std.specs.Prelude.{◌≡◌, ◌≤◌, length, IfSome};
 ghost use Rattle.hwdb_spec.specs.Patterns.{class_text, class_spans};
 ghost use Rattle.hwdb_pattern.specs.Internal.Parts.{class_at, in_spans};
@@ -60,7 +60,7 @@ pub(crate) fn text_of(class: Class) -> &'static [u8]
     }
 }
 
-/// The named class at the beginning of the text, if one stands there.
+/// The named class at the beginning of the text, if there is one.
 pub(crate) fn named_class(text: &[u8]) -> Option<Class>
     ensures class { result ≡ class_at text.now }
     ensures within { IfSome result (λ class. length (class_text class) ≤ length text.now) }

@@ -1,9 +1,9 @@
-//! Laws over the definitions alone. Each function does nothing: its contract is the law, for callers
-//! whose proofs need it.
+//! Laws over the definitions alone. Each function does nothing: its contract is the law, for callers whose proofs need
+//! it.
 ghost use Rattle.hwdb_pattern.specs.Laws.{StaysClosed, ClosedPartAndRest, ClosedPartIsCutAlike, DeadMatchesNothing, DeadStaysDead, LiveIsTested, MatchesIsTested, TokensAreThePattern};
 ghost use Rattle.hwdb_pattern.specs.Rows.{BracketRows, ClosedRows, LiveRows, MatchRows, StarRows, TokenRows};
 
-/// A bracket that is closed in a text is the same bracket in every longer text that begins with it.
+/// A closed bracket of a text is the same bracket in every longer text that begins with it.
 #[tactic(auto, using(crate::proofs::LongerPathLemmas::bracket_longer))]
 pub fn closed_bracket_stays()
     ensures { StaysClosed }
@@ -15,32 +15,32 @@ pub fn tokens_are_the_pattern()
     ensures { TokensAreThePattern }
 {}
 
-/// The closed part of a path, cut again as a pattern, has exactly the path's tokens before the first
-/// `[` that begins no closed bracket; the path goes on with its open part.
+/// The closed part of a path, read as a pattern, has exactly the path's tokens before the first open `[`. After it
+/// comes the path's open part.
 #[tactic(auto, using(crate::proofs::ClosedPartLemmas::closed_is_cut_alike, crate::proofs::ClosedPartLemmas::part_and_rest))]
 pub fn closed_part_is_cut_alike()
     ensures tokens { ClosedPartIsCutAlike }
     ensures rest { ClosedPartAndRest }
 {}
 
-/// Where a path isn't live for a device, no longer path is.
+/// If a path isn't live for a device, no longer path is.
 pub fn dead_stays_dead()
     ensures { DeadStaysDead }
 {}
 
-/// Where a path isn't live for a device, no pattern that begins with it matches the device.
+/// If a path isn't live for a device, no pattern that begins with it matches the device.
 #[tactic(auto, using(crate::proofs::GrowthLemmas::match_front))]
 pub fn dead_matches_nothing()
     ensures { DeadMatchesNothing }
 {}
 
-/// The computing test `matches` is true exactly where the tokens match.
+/// The computing test `matches` is true exactly if the tokens match.
 #[tactic(auto, using(crate::proofs::LiveLemmas::matches_tested))]
 pub fn matches_is_tested()
     ensures { MatchesIsTested }
 {}
 
-/// The computing test `is_live` is true exactly where the path is live.
+/// The computing test `is_live` is true exactly if the path is live.
 #[tactic(auto, using(crate::proofs::LiveLemmas::live_tested))]
 pub fn live_is_tested()
     ensures { LiveIsTested }

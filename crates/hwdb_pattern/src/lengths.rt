@@ -1,4 +1,11 @@
 //! Which of a device's prefixes some tokens match, as the prefixes' lengths.
+//!
+//! This is the simulation of an automaton: each token turns the set of lengths before it into the set after it. The
+//! lengths ascend, so a set has at most one more member than the device has bytes. A star makes the set all lengths
+//! from its least one on. Each other token keeps the lengths whose next byte it takes, one further.
+//!
+//! So each token takes at most as many steps as the device has bytes, and one more. The memory is one vector of that
+//! many numbers. A step reads its token, and a bracket is read at most `FEW` times a token.
 ghost use Rattle.std.specs.Prelude.{◌≡◌, ◌≢◌, ◌<◌, ◌≤◌, ◌+◌, ◌^◌, [], ◌∷◌, ◌++◌, length, slice_index, map, filter, All, Contains, true, IsTrue, OnOk, IfOk, IsOk, IsOkAnd, IfSome};
 ghost use Rattle.std.specs.List.{list_any};
 ghost use Rattle.hwdb_spec.specs.Patterns.{tokens, token_at, literal};
@@ -8,7 +15,7 @@ ghost use Rattle.hwdb_pattern.specs.Internal.Prefixes.{AreAdmitted, stepped, Spr
 use crate::tokens::{single_token, token_size};
 use std::alloc::{AllocError, Global};
 
-/// From how many lengths on a bracket is read for each byte that there is, in place of once for each length.
+/// If there are more lengths than this, a bracket is read once for each of the 256 bytes, not once for each length.
 const FEW: usize = 256;
 
 /// Whether the token at the beginning of the text takes the device's byte after `n` bytes.
@@ -24,8 +31,8 @@ fn takes_next(text: &[u8], device: &[u8], n: usize) -> bool
     }
 }
 
-/// Which bytes the token at the beginning of the text admits: a bracket is read once for each, and not once for each
-/// place of a device.
+/// Which bytes the token at the beginning of the text admits. So a bracket is read once for each byte that there is,
+/// and not once for each place of a device.
 fn admitted_bytes(text: &[u8]) -> [bool; 256]
     requires some { 0 < length text.now }
     requires no_star { slice_index text.now 0 ≢ 42 }
@@ -50,8 +57,8 @@ fn takes_one_of(admitted: &[bool; 256], device: &[u8], n: usize, text: &[u8]) ->
     }
 }
 
-/// The lengths after one token that isn't a star: one look at the token for each length. No memory is asked for where it
-/// takes no byte.
+/// The lengths after one token that isn't a star, by one look at the token for each length. If the token takes no byte,
+/// no memory is asked for.
 fn take_by_token(
     alloc: Global,
     before: &[usize],
@@ -73,7 +80,7 @@ fn take_by_token(
     Ok(after)
 }
 
-/// The same, by the bytes that the token admits.
+/// As `take_by_token`, by the bytes that the token admits.
 fn take_by_byte(
     alloc: Global,
     before: &[usize],
@@ -96,7 +103,7 @@ fn take_by_byte(
     Ok(after)
 }
 
-/// The lengths after one token that isn't a star. No memory is asked for where it takes no byte.
+/// The lengths after one token that isn't a star. If the token takes no byte, no memory is asked for.
 fn take_single(
     alloc: Global,
     before: &[usize],
@@ -116,7 +123,7 @@ fn take_single(
     }
 }
 
-/// Keeps the lengths after which the token takes the device's next byte: one look at the token for each length.
+/// Keeps the lengths after which the token takes the device's next byte, by one look at the token for each length.
 fn keep_by_token(lengths: &mut Vec<usize>, device: &[u8], text: &[u8])
     requires some { 0 < length text.now }
     requires no_star { slice_index text.now 0 ≢ 42 }
@@ -125,7 +132,7 @@ fn keep_by_token(lengths: &mut Vec<usize>, device: &[u8], text: &[u8])
     lengths.retain(|n| takes_next(text, device, *n));
 }
 
-/// The same, by the bytes that the token admits.
+/// As `keep_by_token`, by the bytes that the token admits.
 fn keep_by_byte(lengths: &mut Vec<usize>, device: &[u8], text: &[u8])
     requires some { 0 < length text.now }
     requires no_star { slice_index text.now 0 ≢ 42 }
@@ -184,7 +191,7 @@ fn least_of(numbers: &[usize], above: usize) -> usize
     least
 }
 
-/// Whether the byte is the device's next one behind `n` bytes.
+/// Whether the byte is the device's next one after `n` bytes.
 fn is_next_behind(byte: u8, device: &[u8], n: usize) -> bool
     ensures { result ≡ takes (literal byte) device.now n }
 {
@@ -195,7 +202,7 @@ fn is_next_behind(byte: u8, device: &[u8], n: usize) -> bool
     }
 }
 
-/// Whether the byte is the device's next one behind some length.
+/// Whether the byte is the device's next one after some of the lengths.
 pub(crate) fn is_next(lengths: &[usize], device: &[u8], byte: u8) -> bool
     ensures { result ≡ list_any (takes (literal byte) device.now) lengths.now }
 {
@@ -207,7 +214,7 @@ pub(crate) fn is_next(lengths: &[usize], device: &[u8], byte: u8) -> bool
     false
 }
 
-/// Puts the lengths from the least one to the end into the vector, which held none.
+/// Puts the lengths from the least one to the end into the vector, which is empty before.
 fn fill(lengths: &mut Vec<usize>, least: usize, end: usize) -> Result<(), AllocError>
     requires room { end + 1 < 2 ^ 64 }
     requires empty { lengths.old.items ≡ [] }
@@ -297,7 +304,7 @@ fn follow(lengths: &mut Vec<usize>, device: &[u8], text: &[u8]) -> Result<(), Al
     Ok(())
 }
 
-/// Whether the byte, at the beginning of a text, is a token that stands for that byte.
+/// Whether the byte, at the beginning of a text, is a token that matches that byte alone.
 pub(crate) fn stands_for_itself(byte: u8) -> bool
     ensures no_star { result ≡ true → byte ≢ 42 }
     ensures no_mark { result ≡ true → byte ≢ 63 }
@@ -306,7 +313,7 @@ pub(crate) fn stands_for_itself(byte: u8) -> bool
     byte != b'*' && byte != b'?' && byte != b'['
 }
 
-/// The length after all bytes of the text, if each stands for itself and is the device's next one behind `n` bytes.
+/// The length after all bytes of the text, if each is a token for itself and is the device's next byte after `n` bytes.
 pub(crate) fn after_bytes(device: &[u8], n: usize, text: &[u8]) -> Option<usize>
     requires { n ≤ length device.now }
     ensures within { IfSome result (λ m. m ≤ length device.now) }
@@ -328,8 +335,8 @@ pub(crate) fn after_bytes(device: &[u8], n: usize, text: &[u8]) -> Option<usize>
     Some(n + at)
 }
 
-/// The lengths after all tokens of the text. No memory is asked for where the first one, which isn't a
-/// star, takes no byte of the device.
+/// The lengths after all tokens of the text. If the first token isn't a star and takes no byte of the device, no memory
+/// is asked for.
 pub(crate) fn along(
     alloc: Global,
     before: &[usize],

@@ -1,9 +1,21 @@
 //! The patterns of hardware database files, and what they match.
 //!
-//! A pattern is read as hwdb(7) says: by POSIX.1-2017 fnmatch without flags (XCU 2.13), over bytes.
-//! `*` stands for any bytes, `?` for any one byte, and a closed bracket, with the twelve named classes,
-//! for one of its bytes. There are no escapes, collating symbols and equivalence classes; `/` and a
-//! leading `.` are ordinary bytes, and so is a `[` that begins no closed bracket.
+//! A pattern is read as hwdb(7) says: by POSIX.1-2017 fnmatch without flags (XCU 2.13), over bytes. `*` matches any
+//! bytes, and `?` any one byte. A closed bracket, with the twelve named classes, matches one of its bytes. There are no
+//! escapes, collating symbols and equivalence classes. `/` and a leading `.` are ordinary bytes, and so is a `[` that
+//! begins no closed bracket.
+//!
+//! There are two matchers, for two questions:
+//!
+//! - [`glob`] answers whether one pattern matches one device. It searches from star to star and takes no memory.
+//! - [`Reach`] goes along a path of a tree of patterns, piece by piece. It keeps all prefixes of the device that the
+//!   path matches so far, since each child of a node goes on from them. So a common beginning of many patterns is
+//!   matched once, and a subtree that can match nothing is left early. That costs memory: a number for each prefix, but
+//!   none as long as the path's bytes are the device's own.
+//!
+//! Neither tries all ways to match. `glob` takes at most as many steps as the pattern's length times the device's. A
+//! feed of `Reach` takes at most the bytes kept and fed, times the device's length. There is one exception: if a
+//! pattern has an open `[` after its first 4,096 bytes, `glob` looks for its end each time.
 //!
 //! | Module | What it does |
 //! |---|---|
@@ -14,7 +26,7 @@
 //! | `unusual` | a `[` that begins no closed bracket, a range without members |
 //! | `search` | whether a pattern matches a device |
 //! | `lengths` | which of a device's prefixes some tokens match |
-//! | `paths` | the same for a path that is fed piece by piece |
+//! | `paths` | which prefixes a path matches that is fed piece by piece |
 //! | `laws` | what is proved of the definitions alone |
 #![tactic(auto)]
 

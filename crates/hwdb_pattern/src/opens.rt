@@ -1,24 +1,28 @@
-//! The places of a pattern at which a `[` begins no closed bracket, found in one pass from the right to the left.
+//! The places of a pattern at which a `[` begins no closed bracket.
+//!
+//! Looking for the `]` after each `[` would take the square of the pattern's length, if many are open. So one pass goes
+//! from the end to the beginning, and takes a fixed number of steps a byte. An item has at most ten bytes, so the next
+//! `AHEAD` places tell about the one before them. The table is an array on the stack: a search takes no memory.
 ghost use Rattle.std.specs.Prelude.{◌≡◌, ◌<◌, length, slice_index_or, None, ℕ, suc, drop, true, false};
 ghost use Rattle.hwdb_spec.specs.Patterns.{bracket_at, items_from};
 ghost use Rattle.hwdb_pattern.specs.Internal.Search.{AreOpen, NeverClose};
 
 use crate::brackets::{is_inversion, item};
 
-/// How many places of a pattern a search remembers: as many as the longest pattern of a text file has.
+/// For how many places of a pattern a search keeps this: as many as the longest pattern of a text file has.
 const PLACES: usize = 4096;
 
-/// How many places are looked ahead at: as far as the first item behind a `[` leads, at most a `!` and `[:xdigit:]`.
+/// How many places ahead are known. The first item after a `[` reaches so far: at most a `!` and `[:xdigit:]`.
 const AHEAD: usize = 12;
 
-/// Whether the table says so of a place; not where it ends before that.
+/// What the table says of a place; no if the table ends before it.
 fn says(table: &[bool; AHEAD], k: usize) -> bool
     ensures { result ≡ slice_index_or table.now k false }
 {
     if k < AHEAD { table[k] } else { false }
 }
 
-/// The table of a place further to the left, which has this member there.
+/// The table of the place one further to the left, with this first member.
 fn shifted(first: bool, table: &[bool; AHEAD]) -> [bool; AHEAD]
     ensures first { slice_index_or result 0 false ≡ first }
     ensures others { (k : ℕ) → slice_index_or result (suc k) false ≡ true
@@ -32,8 +36,8 @@ fn shifted(first: bool, table: &[bool; AHEAD]) -> [bool; AHEAD]
     next
 }
 
-/// Whether no `]` closes items that begin the text behind the first item of a bracket, by what is known of the places
-/// behind its first byte.
+/// Whether no `]` closes the items that begin the text, after the first item of a bracket. `ahead` tells of the places
+/// after the text's first byte.
 fn never_close(text: &[u8], ahead: &[bool; AHEAD]) -> bool
     requires some { 0 < length text.now }
     requires ahead { NeverClose (drop 1 text.now) ahead.now }
@@ -42,7 +46,7 @@ fn never_close(text: &[u8], ahead: &[bool; AHEAD]) -> bool
     text[0] != b']' && says(ahead, item(text, 0).size - 1)
 }
 
-/// Whether no closed bracket begins the text, by what is known of the places behind its first byte.
+/// Whether no closed bracket begins the text. `ahead` tells of the places after its first byte.
 fn begins_none(text: &[u8], ahead: &[bool; AHEAD]) -> bool
     requires some { 0 < length text.now }
     requires ahead { NeverClose (drop 1 text.now) ahead.now }
@@ -60,7 +64,8 @@ fn begins_none(text: &[u8], ahead: &[bool; AHEAD]) -> bool
     says(ahead, item(&text[2..], 0).size + 1)
 }
 
-/// The places at which a `[` begins no closed bracket, of those that a search remembers. It takes a step for each byte.
+/// At which of the first `PLACES` places a `[` begins no closed bracket. Takes a fixed number of steps for each byte of
+/// the pattern.
 pub(crate) fn open_brackets(pattern: &[u8]) -> [bool; PLACES]
     ensures { AreOpen pattern.now result }
 {

@@ -1,4 +1,7 @@
 //! A device on the way along a path that is fed piece by piece, as a tree of patterns is walked.
+//!
+//! The state of a node's path is the beginning of each of its children's. So a feed makes a new state, and leaves the
+//! old one to the next child. Most children are dead by their first byte: `may_take` finds that out without a feed.
 ghost use Rattle.std.specs.Prelude.{◌≡◌, ◌≤◌, ◌↔◌, length, List, [], ◌∷◌, ℕ, ◌++◌, false, IsTrue, IfOk, IsOk, IfSome};
 ghost use Rattle.hwdb_spec.specs.Patterns.{Matches, tokens};
 ghost use Rattle.hwdb_pattern.specs.Internal.Prefixes.{Within, Follows};
@@ -13,7 +16,7 @@ use std::alloc::{AllocError, Global};
 use std::marker::Model;
 use std::slice::from_ref;
 
-/// The lengths of the prefixes that are met. A lone one, as there is along a path without stars, takes no memory.
+/// The lengths of the prefixes that are matched. A lone one, as most paths have at first, takes no memory.
 #[derive(Drop)]
 pub(crate) enum Met {
     Lone(usize),
@@ -32,10 +35,14 @@ impl Met {
     }
 }
 
-/// What is known of a device on the way along a path: which of its prefixes the path's closed part
-/// matches, and the bytes of the path that aren't decided yet.
+/// What is known of a device on the way along a path. That is which of its prefixes the path's closed part matches, and
+/// the path's open part.
 ///
-/// The closed part is what stands before the first `[` that begins no closed bracket in the path.
+/// The closed part ends before the first `[` that begins no closed bracket in the path. Bytes from there on are kept,
+/// since a later `]` may still close that bracket.
+///
+/// It holds one number for each matched prefix, and the kept bytes. As long as the path's bytes are the device's own,
+/// it holds no memory.
 #[derive(Drop)]
 pub struct Reach<'d> {
     device: &'d [u8],
@@ -53,7 +60,7 @@ impl<'d> Model for Reach<'d> {
 }
 
 impl<'d> Reach<'d> {
-    /// The state of the empty path.
+    /// The state of the empty path. Takes no memory.
     pub fn start(alloc: Global, device: &'d [u8]) -> Reach<'d>
         ensures device { result.device ≡ device.now }
         ensures path { StandsFor result [] }
@@ -65,10 +72,12 @@ impl<'d> Reach<'d> {
         }
     }
 
-    /// The state of the path followed by the piece. The old state stays.
+    /// The state of the path followed by the piece. The old state stays as it is, since each child of a node goes on
+    /// from it.
     ///
-    /// The only error is that memory is refused. None is asked for where no `[` is open and the piece's
-    /// first token takes no byte of the device.
+    /// The only error is `AllocError`. No memory is asked for if no `[` is open and the piece's first token, not a
+    /// star, takes no byte of the device. Takes at most as many steps as the bytes that are kept and fed, times the
+    /// device's length.
     pub fn feed(&self, alloc: Global, piece: &[u8]) -> Result<Reach<'d>, AllocError>
         ensures device { IfOk result (λ next. next.device ≡ self.now.device) }
         ensures path { IfOk result (λ next. (path : List ℕ)
@@ -92,8 +101,8 @@ impl<'d> Reach<'d> {
         self.follow_text(alloc, &text)
     }
 
-    /// The length that is met behind the piece, if there was one alone, and each byte of the piece stands for itself and
-    /// is the device's next one.
+    /// The length that is matched after the piece, if one alone was matched before it. Each byte of the piece has to be
+    /// a token for itself, and the device's next byte.
     fn lone_after(&self, piece: &[u8]) -> Option<usize>
         ensures within { IfSome result (λ n. n ≤ length self.now.device) }
         ensures closed { IfSome result (λ n. open_part piece.now ≡ []) }
@@ -106,7 +115,7 @@ impl<'d> Reach<'d> {
         }
     }
 
-    /// The state of the path followed by what the text has behind the kept bytes.
+    /// The state of the path followed by what the text has after the kept bytes.
     fn follow_text(&self, alloc: Global, text: &[u8]) -> Result<Reach<'d>, AllocError>
         ensures device { IfOk result (λ next. next.device ≡ self.now.device) }
         ensures path { IfOk result (λ next. (path piece : List ℕ)
@@ -125,7 +134,7 @@ impl<'d> Reach<'d> {
         })
     }
 
-    /// Whether the path is live for the device: its closed part matches some prefix of the device.
+    /// Whether the path is live for the device: its closed part matches some prefix of the device. Takes one step.
     pub fn is_alive(&self) -> bool
         ensures { (path : List ℕ) → StandsFor self.now path
             → (IsTrue result ↔ IsLive path self.now.device) }
@@ -134,7 +143,10 @@ impl<'d> Reach<'d> {
         !lengths.is_empty()
     }
 
-    /// Whether the path may still be live behind one more byte, by a look at that byte alone: it isn't where the answer is no.
+    /// Whether the path may still be live after one more byte, by a look at that byte alone. If the answer is no, it
+    /// isn't.
+    ///
+    /// Takes no memory, and at most a step for each prefix that is matched. A walk asks this before it feeds a child.
     pub fn may_take(&self, byte: u8) -> bool
         ensures { result ≡ false → (path : List ℕ) → StandsFor self.now path
             → IsLive (path ++ byte ∷ []) self.now.device → ⊥ }
@@ -150,7 +162,8 @@ impl<'d> Reach<'d> {
         }
     }
 
-    /// Whether the path, read as a pattern, matches the whole device.
+    /// Whether the path, read as a pattern, matches the whole device. Takes no memory. If a `[` is open, this is a
+    /// search by [`glob`].
     pub fn accepts(&self, path: &[u8]) -> bool
         requires { StandsFor self.now path.now }
         ensures { IsTrue result ↔ Matches (tokens path.now) self.now.device }

@@ -1,4 +1,12 @@
 //! Whether a pattern matches a device: a greedy search from star to star.
+//!
+//! Between two stars each token takes one byte. So it is enough to find, for each stretch, the first place that it
+//! matches. The search never goes back before it: a later star takes whatever an earlier one could. The last stretch
+//! has to end at the device's end.
+//!
+//! A stretch is tried at each place of the device at most, so the steps are at most the pattern's length times the
+//! device's. Such a search would read an open `[` anew each time, up to the pattern's end. So two things are found out
+//! before: the place after the last `]`, and the open `[` among the first 4,096 bytes (`opens`). Both take one pass.
 ghost use Rattle.std.specs.Prelude.{◌≡◌, ◌<◌, ◌≤◌, ◌↔◌, None, drop, false, length, slice_index, IsTrue, IfSome, IfNone};
 ghost use Rattle.hwdb_spec.specs.Patterns.{Matches, bracket_at, tokens};
 ghost use Rattle.hwdb_pattern.specs.Internal.Search.{AreOpen, NoneCloses, Reaches};
@@ -11,12 +19,12 @@ use crate::tokens::single_token;
 struct Place {
     /// How many bytes of the pattern were taken.
     at: usize,
-    /// How many bytes of the device they met.
+    /// How many bytes of the device they matched.
     met: usize,
 }
 
-/// Whether a closed bracket may begin at a place: not from `close` on, since no `]` stands there, and not where the table
-/// says that none begins.
+/// Whether a closed bracket may begin at a place. None can from `close` on, since no `]` comes there, nor if the table
+/// says so.
 fn may_close(pattern: &[u8], at: usize, close: usize, opens: &[bool]) -> bool
     requires closes { NoneCloses pattern.now close }
     requires opens { AreOpen pattern.now opens.now }
@@ -31,16 +39,16 @@ fn may_close(pattern: &[u8], at: usize, close: usize, opens: &[bool]) -> bool
     true
 }
 
-/// The table from a place on; empty behind its end.
+/// The table from a place on; empty after its end.
 fn opens_from(opens: &[bool], at: usize) -> &[bool]
     ensures { result.now ≡ drop at opens.now }
 {
     if at < opens.len() { &opens[at..] } else { &[] }
 }
 
-/// Takes the tokens before the first star, and for each the next byte of the device. Answers how far
-/// that led: to a star, or to the pattern's end. None where a token isn't met. No bracket is looked for
-/// from `close` on, since no `]` stands there, nor where the table says that none begins.
+/// Takes the tokens before the first star, and for each the next byte of the device. Answers how far that led: to a
+/// star, or to the pattern's end. None if a token doesn't take its byte. `close` and `opens` tell at which places no
+/// bracket begins.
 fn run(pattern: &[u8], device: &[u8], close: usize, opens: &[bool]) -> Option<Place>
     requires closes { NoneCloses pattern.now close }
     requires opens { AreOpen pattern.now opens.now }
@@ -68,8 +76,7 @@ fn run(pattern: &[u8], device: &[u8], close: usize, opens: &[bool]) -> Option<Pl
     Some(Place { at, met })
 }
 
-/// The place behind the last `]`. From there on each `[` is an ordinary byte, which a search that comes
-/// by again and again needn't find out each time.
+/// The place after the last `]`. From there on each `[` is an ordinary byte.
 fn last_close(pattern: &[u8]) -> usize
     ensures { NoneCloses pattern.now result }
 {
@@ -82,9 +89,10 @@ fn last_close(pattern: &[u8]) -> usize
     close
 }
 
-/// Whether the pattern matches the whole device. Takes no memory, and at most as many steps as pattern and device have
-/// bytes, multiplied; and for each `[` that begins no closed bracket, further in it than 4,096 bytes, a look at what is
-/// behind it each time.
+/// Whether the pattern matches the whole device, as fnmatch without flags.
+///
+/// Takes no memory, and at most as many steps as the pattern's length times the device's, in bytes. There is one
+/// exception: for each open `[` after the pattern's first 4,096 bytes, the rest of the pattern is looked at each time.
 #[inline(never)]
 pub fn glob(pattern: &[u8], device: &[u8]) -> bool
     ensures { IsTrue result ↔ Matches (tokens pattern.now) device.now }

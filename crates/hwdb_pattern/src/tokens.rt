@@ -8,8 +8,8 @@ ghost use Rattle.hwdb_pattern.specs.Views.{open_part};
 
 use crate::brackets::{Part, bracket};
 
-/// The token at the beginning of the text, which isn't a star. Where the caller knows that no bracket is
-/// closed there, `may_close` is false, and none is looked for.
+/// The token at the beginning of the text, which isn't a star. If the caller knows that no bracket is closed there,
+/// `may_close` is false, and none is looked for.
 pub(crate) fn single_token(text: &[u8], byte: u8, may_close: bool) -> Part
     requires some { 0 < length text.now }
     requires no_star { slice_index text.now 0 ≢ 42 }
@@ -49,7 +49,7 @@ pub(crate) fn token_size(text: &[u8]) -> usize
     }
 }
 
-/// Where the first `[` stands that begins no closed bracket. The text's length where there is none.
+/// The place of the first `[` that begins no closed bracket; the text's length if there is none.
 pub(crate) fn closed_end(text: &[u8]) -> usize
     ensures within { result ≤ length text.now }
     ensures before { take result text.now ≡ closed_part text.now }

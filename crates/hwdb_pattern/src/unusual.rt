@@ -1,4 +1,4 @@
-//! What is hardly meant in a pattern: a `[` that begins no closed bracket, and a range without members.
+//! Likely mistakes in a pattern: a `[` that begins no closed bracket, and a range without members.
 ghost use Rattle.std.specs.Prelude.{◌≡◌, ◌<◌, ◌≤◌, length, nat_lt, take, true, IfSome, Some, None, if◌then◌else◌};
 ghost use Rattle.std.specs.List.{list_any};
 ghost use Rattle.hwdb_spec.specs.Patterns;
@@ -8,8 +8,9 @@ ghost use Rattle.hwdb_spec.specs.Tree.{closed_part, is_open};
 use crate::brackets::{is_inversion, item};
 use crate::tokens::{closed_end, token_size};
 
-/// Where the first `[` stands that begins no closed bracket; the pattern's length where there is none. Reads each byte of the
-/// pattern a fixed number of times.
+/// The place, in bytes from 0, of the first `[` that begins no closed bracket; the pattern's length if there is none.
+///
+/// Reads each byte of the pattern a fixed number of times, and takes no memory.
 pub fn open_place(pattern: &[u8]) -> usize
     ensures within { result ≤ length pattern.now }
     ensures before { take result pattern.now ≡ closed_part pattern.now }
@@ -19,7 +20,7 @@ pub fn open_place(pattern: &[u8]) -> usize
     closed_end(pattern)
 }
 
-/// Whether a reversed range stands at the beginning of a text, at which an item begins.
+/// Whether the text, at whose beginning an item begins, begins with a reversed range.
 fn begins_reversed(text: &[u8]) -> bool
     ensures { result ≡ has_reversed (item_at text.now).spans }
 {
@@ -35,7 +36,7 @@ fn begins_reversed(text: &[u8]) -> bool
     text[2] < text[0]
 }
 
-/// Where the first reversed range of a bracket's items stands, or else the `]` that closes.
+/// The place of the first reversed range among a bracket's items, or of the `]` that closes if there is none.
 fn reversed_item(text: &[u8]) -> usize
     ensures place { result ≡ reversed_from true 0 text.now }
     ensures within { result ≤ length text.now }
@@ -54,7 +55,7 @@ fn reversed_item(text: &[u8]) -> usize
     at
 }
 
-/// The same in a text that a bracket begins.
+/// As `reversed_item`, in a text that begins with the bracket.
 fn reversed_in_bracket(text: &[u8]) -> usize
     ensures place { result ≡ Patterns.reversed_in_bracket text.now }
     ensures within { result ≤ length text.now }
@@ -69,7 +70,7 @@ fn reversed_in_bracket(text: &[u8]) -> usize
     }
 }
 
-/// Where the first reversed range of a text's first token stands, which takes `size` bytes; None where it has none.
+/// The place of the first reversed range in a text's first token, which takes `size` bytes. None if it has none.
 fn range_in_token(text: &[u8], size: usize) -> Option<usize>
     requires some { 0 < length text.now }
     requires size { size ≡ Patterns.token_size (token_at text.now) }
@@ -85,8 +86,10 @@ fn range_in_token(text: &[u8], size: usize) -> Option<usize>
     if range + 1 < size { Some(range) } else { None }
 }
 
-/// Where the first reversed range of a pattern stands; the pattern's length where there is none. Reads each byte a fixed
-/// number of times where each `[` begins a closed bracket; for one that doesn't it looks at what is behind it.
+/// The place, in bytes from 0, of the first reversed range of a pattern; the pattern's length if there is none.
+///
+/// Takes no memory. Reads each byte a fixed number of times if each `[` begins a closed bracket. For one that doesn't,
+/// it looks through the rest of the pattern.
 pub fn range_place(pattern: &[u8]) -> usize
     ensures place { result ≡ Patterns.range_place pattern.now }
     ensures found { nat_lt result (length pattern.now)

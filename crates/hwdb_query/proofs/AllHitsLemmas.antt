@@ -75,7 +75,7 @@ place_is : (p q : Place) (c d : Content) → place_order p q ≡ assignment_cmp 
 unfolding assignment_cmp position_cmp
 place_is p q c d = regrouped (nat_cmp p.0 q.0) (nat_cmp p.1 q.1) (text_cmp p.2.value.items q.2.value.items) (text_cmp p.3.now q.3.now)
 
--- where two places tie, what stands at the one is what would stand at the other
+-- if two places tie, either makes one assignment of what it has
 tied : (p q : Place) (c d : Content) → assignment_cmp (assignment_at_place (p, c)) (assignment_at_place (q, d)) ≡ Equal → assignment_at_place (q, c) ≡ assignment_at_place (p, c)
 unfolding assignment_cmp
 tied p q c d e =
@@ -140,7 +140,7 @@ wanted_single device t tree x y mx my e =
     let all = members_under [] t in
     members_single (values_under [] t) (under_distinct [] t tree) x y (filter_sound x (is_wanted device) all mx).0 (filter_sound y (is_wanted device) all my).0 e
 
--- all that match, from nothing on, stand in order
+-- all that match, from nothing on, are in order
 pub all_in_order : (a b : AllHits) (device : List ℕ) (t : Tree) → IsTree t → a.hits.entries ≡ [] → AllCollects a (filter (is_wanted device) (members_under [] t)) b
     → all_shown b ≡ in_order assignment_cmp (filter (is_wanted device) (members_under [] t))
 unfolding AllCollects

@@ -31,7 +31,7 @@ same_key x y h =
     let c = then_equal (slice_cmp nat_cmp x.position.pattern y.position.pattern) (slice_cmp nat_cmp x.position.key y.position.key) b.1 in
     same_text x.position.key y.position.key c.1
 
--- what a value assigns stands elsewhere than what values of greater keys assign
+-- what a value assigns has another place than what values of greater keys assign
 value_apart : (pattern key : List ℕ) (v : Value) (values : List Value) → key_of v.key ≡ Some key → AllByRecursion (λ w. slice_cmp nat_cmp v.key w.key ≡ Less) values
     → (x : Assignment) → x.position.key ≡ key → AllByRecursion (λ y. assignment_cmp x y ≡ Equal → ⊥) (own_members pattern values)
 unfolding assignment_shown
@@ -49,7 +49,7 @@ value_apart pattern key v (w ∷ values) at above x is =
       )
     ] refl
 
--- one value and those behind it
+-- one value and those after it
 one_apart : (pattern : List ℕ) (before : Option (List ℕ)) (values : List Value) (i : ℕ) → KeysAscend before values
     → PlacesApart assignment_cmp (own_members pattern (take 1 (drop i values))) (own_members pattern (drop (suc i) values))
 unfolding assignment_shown
@@ -66,7 +66,7 @@ keys_ascend : (t : Tree) → IsTree t → KeysAscend None (values_of t)
 unfolding IsTree values_of
 keys_ascend (Node prefix values children) h = h.0
 
--- two lists that stand apart are taken in either order
+-- two lists without a place in common are taken in either order
 page_both_ways : (a b : NextPage) (xs ys : List Assignment) → PlacesApart assignment_cmp xs ys → PageCollects a (ys ++ xs) b → PageCollects a (xs ++ ys) b
 page_both_ways a b xs ys apart p =
     let most = a.held.most in

@@ -115,7 +115,7 @@ none_below : (x : Assignment) (l : List Assignment) → AllByRecursion (λ z. as
 none_below x [] all = tt
 none_below x (z ∷ l) all = (greater_not x z all.0, none_below x l all.1)
 
--- hits of which none is below: the last of them with a key stays
+-- none of the hits is below: the last of them with a key stays
 all_stay : (key : List ℕ) (x : Assignment) (l : List Assignment) (o : Option Assignment) → AllByRecursion (λ z. is_lt (assignment_cmp z x) ≡ false) l → last_at key l ≡ o
     → (o ≡ None → one key x ≡ None) → o ≡ newer key x o
 all_stay key x l None all e none = sym (is_newer key x ∙ none refl)
@@ -129,7 +129,7 @@ same_key_of x y h =
     let c = then_equal (slice_cmp nat_cmp x.position.pattern y.position.pattern) (slice_cmp nat_cmp x.position.key y.position.key) b.1 in
     same_text x.position.key y.position.key c.1
 
--- where the first has the key, there is a last one
+-- if the first has the key, there is a last one
 some_there : (key : List ℕ) (x y : Assignment) (ys : List Assignment) → assignment_cmp x y ≡ Equal → last_at key (y ∷ ys) ≡ None → one key x ≡ None
 unfolding last_at
 some_there key x y ys h none =
@@ -185,7 +185,7 @@ with_put key x hits up = with_is_at key (put assignment_cmp x hits) ∙ last_put
 key_is : (key : List ℕ) (x : Assignment) → has_key key x ≡ true → key ≡ x.position.key
 key_is key x h = same_text key x.position.key (equal_of _ h)
 
--- a hit that doesn't come after the one that stands at its key
+-- a hit that doesn't come after the one that its key has
 pub left_there : (m : Hits) (hits : List Assignment) (x : Assignment) → IsStrictlySortedBy assignment_cmp hits → Shows m hits → is_after (position_at m x.position.key) x.position ≡ false → Shows m (put assignment_cmp x hits)
 left_there m hits x up shows early = λ key.
     shows key ∙ ap (option_map told)
@@ -196,7 +196,7 @@ left_there m hits x up shows early = λ key.
       | false ↦ λ e. refl
     ] refl))
 
--- a hit that stands at its key from now on
+-- a hit that its key has from now on
 pub put_there : (m n : Hits) (hits : List Assignment) (x : Assignment) → IsStrictlySortedBy assignment_cmp hits → Shows m hits → is_after (position_at m x.position.key) x.position ≡ true
     → ((key : List ℕ) → told_at n key ≡ cond (has_key key x) (Some (told x)) (told_at m key)) → Shows n (put assignment_cmp x hits)
 put_there m n hits x up shows late now = λ key.
@@ -334,7 +334,7 @@ unfolding value_told value_found
 values_same None = refl
 values_same (Some f) = refl
 
--- ---- lists of entries, ascending by key, with the same value at each key
+-- ---- lists of entries, ascending by key, with equal values at each key
 
 abbrev Entries : Type 0
 Entries = List (List ℕ × List ℕ)

@@ -213,7 +213,7 @@ last_at_end a xs (Page b) last none taken is = absurd taken
 last_at_end a xs (AllOnes b) last none taken is = absurd taken
 last_at_end a xs (LastOnes b) last none taken is = subst (λ (l : LastHits). Shows l.hits (in_order assignment_cmp xs)) (sym is) (taken [] none_ascends none)
 
--- a value of which no hit is kept
+-- a value without a hit that is kept
 one_skipped : (a : NextPage) (pattern : List ℕ) (s : Shown) → ((key : List ℕ) → PageCollects a (assignment_at pattern key s ∷ []) a) → PageCollects a (assignment_shown pattern s) a
 unfolding assignment_shown
 one_skipped a pattern s skipped = elim s.key as (λ o. PageCollects a (one_assignment pattern s o) a) [ None ↦ page_none a | Some key ↦ skipped key ]
@@ -231,7 +231,7 @@ page_one_skipped a pattern (v ∷ values) zero p l at on skipped =
     page_more a a a (assignment_shown pattern (shown v)) [] (one_skipped a pattern (shown v) (λ key. skipped (assignment_at pattern key (shown v)) (same_p, same_l))) (page_none a)
 page_one_skipped a pattern (v ∷ values) (suc i) p l at on skipped = page_one_skipped a pattern values i p l at on skipped
 
--- no hit of an origin is kept: it stands before the position, or behind a full page
+-- no hit of an origin is kept: it comes before the position, or after a full page
 pub skipped_before : (a : NextPage) (after : Position) (x : Assignment) → after_position a.after ≡ Some after → position_cmp x.position after ≡ Less → PageCollects a (x ∷ []) a
 unfolding is_after
 skipped_before a after x given less =

@@ -92,7 +92,7 @@ none_live device path (Node prefix values children) dead =
     ap (λ r. (if is_live r device then 1 else 0) + live_below device r children) (sym (append-nil q))
     ∙ ap (λ b. (if b then 1 else 0) + live_below device (q ++ []) children) (dead.dead []) ∙ ap (λ n. 0 + n) below
 
--- a node behind a dead path
+-- a node after a dead path
 pub none_wanted_behind : (device path : List ℕ) (t : Tree) → Dead device path → filter (is_wanted device) (members_under path t) ≡ []
 none_wanted_behind device path t dead =
     ap (λ r. filter (is_wanted device) (members_under r t)) (sym (append-nil path)) ∙ dead_values device path dead [] t

@@ -47,7 +47,7 @@ append_none : {A : Type 0} (xs ys : List A) → xs ++ ys ≡ [] → (xs ≡ []) 
 append_none [] ys e = (refl, e)
 append_none (x ∷ xs) ys e = absurd (cc)
 
--- each answer stands among those of its key
+-- each answer is among those of its key
 all_stand : (xs : List Assignment) → AllByRecursion (λ f. answers_with f.position.key xs ≡ [] → ⊥) xs
 all_stand [] = tt
 all_stand (x ∷ xs) = (here, lift xs (all_stand xs))

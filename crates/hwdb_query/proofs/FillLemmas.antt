@@ -11,7 +11,7 @@ use Rattle.hwdb_query.specs.Laws.{fillings, FillingsOfARun}
 not_none : (n : ℕ) → 0 < n → (n == 0) ≡ false
 not_none n some = ne_eqb n 0 (λ is. omega (arith, some, is))
 
--- a page is held; where nothing was to come, the end is reached
+-- a page is held; if nothing was to come, the end is reached
 abbrev pub filled : Progress → Progress
 filled p = record p { held = min p.page (length p.to_come); ended = length p.to_come == 0; entered = p.live }
 

@@ -36,7 +36,7 @@ sorted (h ∷ g ∷ hits) up (suc k) d le lt =
     let next : suc (k + 1) ≡ suc k + 1 = omega arith in
     subst P next (sorted (g ∷ hits) up.1 k d (omega arith) (omega arith))
 
--- where a hit ties with one of them, its place is taken
+-- if a hit ties with one of them, its place is taken
 tied : (x : Assignment) (hits : List Hit) (i : ℕ) → IsStrictlySortedBy assignment_cmp (assignments_of_hits hits) → i < length hits → HoldsAt (λ y. assignment_cmp (assignment_of_hit y) x ≡ Equal) hits i → put assignment_cmp x (assignments_of_hits hits) ≡ assignments_of_hits hits
 unfolding IsStrictlySortedBy
 tied x [] i up lt at = absurd (omega arith)
@@ -50,7 +50,7 @@ tied x (h ∷ hits) (suc i) up lt at =
     reach (g ∷ hits) zero lt all at = sym (alike_right assignment_total (assignment_of_hit g) x (assignment_of_hit h) (at g)) ∙ all.0
     reach (g ∷ hits) (suc i) lt all at = reach hits i (omega arith) all.1 (λ d. at d)
 
--- where those before a place are below it, and those behind above it, it is put there
+-- if those before a place are below it, and those after above it, it is put there
 between : (x : Assignment) (hits : List Hit) (i : ℕ) → i ≤ length hits → IsPartitionPoint (λ y. assignment_cmp (assignment_of_hit y) x ≡ Less) (λ y. assignment_cmp (assignment_of_hit y) x ≡ Greater) hits i
     → put assignment_cmp x (assignments_of_hits hits) ≡ take i (assignments_of_hits hits) ++ x ∷ drop i (assignments_of_hits hits)
 unfolding put
@@ -99,14 +99,14 @@ cut_behind x [] (suc most) e = absurd (omega (arith, e))
 cut_behind x (y ∷ l) zero e = absurd (omega (arith, e))
 cut_behind x (y ∷ l) (suc most) e = ap (λ r. y ∷ r) (cut_behind x l most (omega (arith, e)))
 
--- a full list stays as it is where a hit comes behind its last
+-- a full list stays as it is if a hit comes after its last
 pub full_stays : (x : Assignment) (hits : List Hit) (last : Hit) (most : ℕ) → IsLastOfFull last hits most → length hits ≤ most → IsStrictlySortedBy assignment_cmp (assignments_of_hits hits) → assignment_cmp (assignment_of_hit last) x ≡ Less
     → take most (put assignment_cmp x (assignments_of_hits hits)) ≡ assignments_of_hits hits
 full_stays x hits last most full le up less =
     let size : most ≡ length (assignments_of_hits hits) = omega (arith, full.full, le, founds_length hits) in
     ap (take most) (put_behind x (assignments_of_hits hits) (all_below x hits full.index last full.end full.is up less)) ∙ cut_behind x (assignments_of_hits hits) most size
 
--- the same, of a list as contracts see it
+-- as `full_stays`, of a list as contracts see it
 pub full_page : (x : Assignment) (hits seen : List Hit) (last : Hit) (most : ℕ) (page : Page) → seen ≡ hits → record { hits = assignments_of_hits hits; most = most } ≡ page → length hits ≤ most → IsLastOfFull last seen most
     → IsStrictlySortedBy assignment_cmp page.hits → assignment_cmp (assignment_of_hit last) x ≡ Less → take page.most (put assignment_cmp x page.hits) ≡ page.hits
 full_page x hits seen last most page same view le full up less =

@@ -103,7 +103,7 @@ kept_at f (x ∷ before) behind none = kept_behind f x (before ++ f ∷ behind) 
 in_last : (f : Assignment) (all : List Assignment) → IsLast all f → Among f (last_of_each all)
 in_last f all h = subst (λ l. Among f (last_of_each l)) (sym h.stands) (kept_at f h.before h.behind h.last)
 
--- behind a position, as a test and as a claim
+-- after a position, as a test and as a claim
 behind_is : (after : Option Position) (f : Assignment) → is_behind after f ≡ true → IsBehind after f
 unfolding is_after
 behind_is None f h = tt

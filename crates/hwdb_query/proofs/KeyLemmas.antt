@@ -21,7 +21,7 @@ use Rattle.hwdb_query.proofs.PutLemmas.{ascends_all, all_above}
 key_total : IsTotalOrder text_cmp
 key_total = nat_list_cmp_total
 
--- what stands at a key when something more has come
+-- what a key has after something more has come
 abbrev pub after_one : {A : Type 0} → List ℕ → A → (List ℕ → A) → List ℕ → A
 after_one k v g key = if is_eq (text_cmp key k) then v else g key
 

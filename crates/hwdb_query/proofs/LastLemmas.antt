@@ -80,7 +80,7 @@ one_there None s false = refl
 one_there (Some t) s true = refl
 one_there (Some t) s false = refl
 
--- an assignment is followed where the last one at its place is another
+-- an assignment is followed if the last one at its place is another
 is_followed : (a : Assignment) (more : List Assignment) → list_any (is_same_place a) more ≡ is_some (last_at (entry_of a).0 more)
 unfolding last_at
 is_followed a [] = refl
@@ -114,7 +114,7 @@ last_sound f (a ∷ more) m =
 answer_is : (a : Assignment) (f : Assignment) → (entry_of a).0 ≡ place_of f → (entry_of a).1 ≡ f → a ≡ f
 answer_is a f p v = v
 
--- the assignment is kept, where it's the last at its place
+-- the assignment is kept, if it is the last at its place
 kept_last : (f : Assignment) (a : Assignment) (more : List Assignment) → last_at (place_of f) more ≡ None → put_there (place_of f) a ≡ Some f
     → Among f (last_of_each (a ∷ more))
 unfolding Among last_of_each
@@ -158,7 +158,7 @@ same_answer x y all hx hy h =
     let v : x ≡ y = cc in
     v
 
--- two that are the last of their places stand at two positions
+-- two that are the last of their places have two positions
 pub single_place : (x y : Assignment) (all : List Assignment) → Among x (last_of_each all) → Among y (last_of_each all) → assignment_cmp x y ≡ Equal → x ≡ y
 single_place x y all mx my h = same_answer x y all (last_sound x all mx) (last_sound y all my) h
 
@@ -174,7 +174,7 @@ never_less x y less is =
 crossed : (x y : Assignment) → assignment_cmp x y ≡ Less → assignment_cmp y x ≡ Less → ⊥
 crossed x y a b = never_less x x (assignment_total.trans x y x a b) refl
 
--- two ascending lists with the same members have the same first one
+-- two ascending lists with the same members have one first member
 same_first : (x y : Assignment) (xs ys : List Assignment) → IsStrictlySortedBy assignment_cmp (x ∷ xs) → IsStrictlySortedBy assignment_cmp (y ∷ ys) → Among x (y ∷ ys) → Among y (x ∷ xs) → x ≡ y
 unfolding IsStrictlySortedBy Among
 same_first x y xs ys up vp mx my =
@@ -186,7 +186,7 @@ same_first x y xs ys up vp mx my =
       ]
     ]
 
--- what stands behind the first is no first one
+-- what comes after the first is no first one
 behind_first : (x y f : Assignment) (xs ys : List Assignment) → IsStrictlySortedBy assignment_cmp (x ∷ xs) → x ≡ y → Among f xs → Among f (y ∷ ys) → Among f ys
 unfolding IsStrictlySortedBy Among
 behind_first x y f xs ys up is m k =

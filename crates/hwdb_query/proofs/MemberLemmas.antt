@@ -42,7 +42,7 @@ put_keeps f x (y ∷ ys) m =
       | Greater ↦ elim m [ inl e ↦ inl e | inr r ↦ inr (again r) ]
     ]
 
--- it stands in the list, where its place is no other's
+-- it is in the list, if its place is no other's
 put_has : (x : Assignment) (l : List Assignment) → ((y : Assignment) → Among y l → assignment_cmp x y ≡ Equal → x ≡ y) → Among x (put assignment_cmp x l)
 unfolding put Among
 put_has x [] free = inl refl
@@ -65,7 +65,7 @@ unfolding put_all
 all_keeps f [] l m = m
 all_keeps f (x ∷ xs) l m = all_keeps f xs (put assignment_cmp x l) (put_keeps f x l m)
 
--- where no place is taken twice, all are there
+-- if no place is taken twice, all are there
 pub all_has : (f : Assignment) (xs l : List Assignment) → Among f xs → ((x y : Assignment) → Among x xs → Among y l → assignment_cmp x y ≡ Equal → x ≡ y)
     → ((x y : Assignment) → Among x xs → Among y xs → assignment_cmp x y ≡ Equal → x ≡ y) → Among f (put_all assignment_cmp xs l)
 unfolding put_all Among

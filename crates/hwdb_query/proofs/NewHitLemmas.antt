@@ -39,7 +39,7 @@ self_equal Less e = cc
 self_equal Equal e = refl
 self_equal Greater e = cc
 
--- a list that keeps all it may hold isn't the one before, where the new hit stands below the most
+-- a list that keeps all it may hold isn't the one before, if the new hit is below the most
 pub not_kept : (x : Assignment) (hits : List Hit) (i most : ℕ) → IsStrictlySortedBy assignment_cmp (assignments_of_hits hits) → i ≤ length hits → i < most
     → put assignment_cmp x (assignments_of_hits hits) ≡ take i (assignments_of_hits hits) ++ x ∷ drop i (assignments_of_hits hits)
     → take most (put assignment_cmp x (assignments_of_hits hits)) ≡ assignments_of_hits hits → ⊥

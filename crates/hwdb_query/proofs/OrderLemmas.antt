@@ -43,7 +43,7 @@ after_other a p s Less e h n = absurd (n refl)
 after_other a p s Equal e h n = ap is_lt h ∙ sym (ap (λ o. is_after o s) e)
 after_other a p s Greater e h n = ap is_lt h ∙ sym (ap (λ o. is_after o s) e)
 
--- what is behind a position stays behind it further on
+-- what comes after a position comes after it further on
 pub behind_upward : (after : Option Position) → Upward assignment_cmp (is_behind after)
 unfolding assignment_cmp is_after
 behind_upward None = record { less = λ x y h e. refl; same = λ x y h e. refl }

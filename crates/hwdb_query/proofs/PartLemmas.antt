@@ -62,21 +62,21 @@ own_unwanted device pattern (v ∷ values) h =
     ∙ ap (λ r. r ++ filter (is_wanted device) (own_members pattern values)) (one_unwanted device pattern (shown v) (shown v).key h)
     ∙ own_unwanted device pattern values h
 
--- the value at a place, and those behind it
+-- the value at a place, and those after it
 pub own_next : (pattern : List ℕ) (values : List Value) (i : ℕ) (s : Shown) → option_map shown (slice_get values i) ≡ Some s
     → own_members pattern (drop i values) ≡ assignment_shown pattern s ++ own_members pattern (drop (suc i) values)
 own_next pattern [] i s h = absurd (cc)
 own_next pattern (v ∷ values) zero s h = let e : shown v ≡ s = cc in ap (λ q. assignment_shown pattern q ++ own_members pattern values) e
 own_next pattern (v ∷ values) (suc i) s h = own_next pattern values i s h
 
--- what one value assigns, and what those behind it assign
+-- what one value assigns, and what those after it assign
 pub own_split : (pattern : List ℕ) (values : List Value) (i : ℕ) → own_members pattern (drop i values) ≡ own_members pattern (take 1 (drop i values)) ++ own_members pattern (drop (suc i) values)
 own_split pattern [] zero = refl
 own_split pattern [] (suc i) = refl
 own_split pattern (v ∷ values) zero = ap (λ r. r ++ own_members pattern values) (sym (append-nil (assignment_shown pattern (shown v))))
 own_split pattern (v ∷ values) (suc i) = own_split pattern values i
 
--- what the first values assign, and what the one behind them assigns
+-- what the first values assign, and what the one after them assigns
 pub own_taken : (pattern : List ℕ) (values : List Value) (i : ℕ) → own_members pattern (take (suc i) values) ≡ own_members pattern (take i values) ++ own_members pattern (take 1 (drop i values))
 own_taken pattern [] zero = refl
 own_taken pattern [] (suc i) = refl
@@ -96,7 +96,7 @@ own_behind pattern [] (suc i) h = refl
 own_behind pattern (v ∷ values) zero h = absurd (omega arith)
 own_behind pattern (v ∷ values) (suc i) h = own_behind pattern values i (omega arith)
 
--- the child at a place, and those behind it
+-- the child at a place, and those after it
 pub kid_next : (kids : List (ℕ × Tree)) (i : ℕ) (k : ℕ × Tree) → slice_get kids i ≡ Some k → drop i kids ≡ k ∷ drop (suc i) kids
 kid_next [] i k h = absurd (cc)
 kid_next (j ∷ kids) zero k h = let e : j ≡ k = cc in ap (λ q. q ∷ kids) e

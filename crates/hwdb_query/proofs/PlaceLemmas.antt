@@ -19,7 +19,7 @@ founds_put zero h hits = refl
 founds_put (suc i) h [] = refl
 founds_put (suc i) h (k ∷ hits) = ap (λ r. assignment_of_hit k ∷ r) (founds_put i h hits)
 
--- a list cut before or after one more stands in it
+-- a list cut before or after one more member
 pub cut_put : {A : Type 0} (i k : ℕ) (x : A) (l : List A) → i ≤ k → i ≤ length l → take i (take k l) ++ x ∷ drop i (take k l) ≡ take (suc k) (take i l ++ x ∷ drop i l)
 cut_put zero k x l m n = refl
 cut_put (suc i) zero x l m n = absurd (omega arith)

@@ -24,7 +24,7 @@ take_behind : {A : Type 0} (n : ℕ) (y : A) (ys : List A) → take n (y ∷ tak
 take_behind zero y ys = refl
 take_behind (suc n) y ys = ap (λ l. y ∷ l) (take_shorter n ys)
 
--- what a cut list has lost is lost behind a new member too
+-- what a cut list has lost is lost after a new member too
 pub take_put : {A : Type 0} (cmp : A → A → Ordering) (n : ℕ) (x : A) (l : List A) → take n (put cmp x (take n l)) ≡ take n (put cmp x l)
 unfolding put
 take_put cmp zero x l = refl
@@ -55,7 +55,7 @@ unfolding keep_all
 keep_all_append cmp n [] ys l = refl
 keep_all_append cmp n (x ∷ xs) ys l = keep_all_append cmp n xs ys (take n (put cmp x l))
 
--- what passes goes on passing behind it
+-- what passes goes on passing after it
 pub record Upward {A : Type 0} (cmp : A → A → Ordering) (p : A → Bool) : Type 0 where
   pub less : (x y : A) → p x ≡ true → cmp x y ≡ Less → p y ≡ true
   pub same : (x y : A) → p x ≡ true → cmp x y ≡ Equal → p y ≡ true
@@ -235,7 +235,7 @@ apart_filter {A = A} cmp p xs ys apart = all_filter (λ x. AllByRecursion (λ y.
 above : {A : Type 0} → (A → A → Ordering) → A → A → Bool
 above cmp x y = is_lt (cmp x y)
 
--- all that are behind a member pass the test of being above it
+-- all that come after a member pass the test of being above it
 all_pass : {A : Type 0} (cmp : A → A → Ordering) (x : A) (zs : List A) → AllByRecursion (λ y. cmp x y ≡ Less) zs → filter (λ y. is_lt (cmp x y)) zs ≡ zs
 all_pass cmp x [] all = refl
 all_pass cmp x (z ∷ zs) all = filter_in (λ y. is_lt (cmp x y)) z zs (ap is_lt all.0) ∙ ap (λ l. z ∷ l) (all_pass cmp x zs all.1)
@@ -250,7 +250,7 @@ not_above cmp total x y h = let e : cmp x y ≡ Greater = total.antisymm x y ∙
 not_itself : {A : Type 0} (cmp : A → A → Ordering) → IsTotalOrder cmp → (x : A) → is_lt (cmp x x) ≡ false
 not_itself cmp total x = ap is_lt (tied_itself total x)
 
--- those above a member of an ascending list are those behind it
+-- those above a member of an ascending list are those after it
 pub behind_last : {A : Type 0} (cmp : A → A → Ordering) → IsTotalOrder cmp → (x : A) (ys zs : List A) → IsStrictlySortedBy cmp (ys ++ x ∷ zs) → filter (λ y. is_lt (cmp x y)) (ys ++ x ∷ zs) ≡ zs
 unfolding IsStrictlySortedBy
 behind_last cmp total x [] zs up = filter_out (λ y. is_lt (cmp x y)) x zs (not_itself cmp total x) ∙ all_pass cmp x zs up.0

@@ -48,7 +48,7 @@ filter_again p q h (x ∷ l) =
           ] refl)
     ] refl
 
--- the answers behind the last of a page are those that the page left
+-- the answers after the last of a page are those that the page left
 pub answers_left : (page : ℕ) (device : List ℕ) (after : Option Position) (t : Tree) (x : Assignment) (more : List Assignment)
     → reverse (take page (answers_after device after t)) ≡ x ∷ more → answers_after device (Some x.position) t ≡ drop page (answers_after device after t)
 unfolding answers_after is_after assignment_cmp

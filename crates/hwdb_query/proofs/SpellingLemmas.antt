@@ -7,7 +7,7 @@ use Rattle.hex.proofs.HexLemmas.{decode_of-same, decode_of-encode_lower}
 use Rattle.hwdb_query.specs.Laws.{SpellsOne, CanonicalSpells}
 use Rattle.hwdb_query.proofs.NumberLemmas.{NoColon, no_colon_decimal, no_colon_hex}
 
--- a text without a colon ends where the first colon stands
+-- a text without a colon ends at the first colon
 cut_once : (xs ys us vs : List ℕ) → NoColon xs → NoColon us → xs ++ 58 ∷ ys ≡ us ++ 58 ∷ vs → (xs ≡ us) × (ys ≡ vs)
 cut_once [] ys [] vs n m e = (refl, cc)
 cut_once [] ys (u ∷ us) vs n m e = let lt : 0 < length (u ∷ us) = omega arith in let colon : u ≡ 58 = cc in absurd (m 0 lt colon)

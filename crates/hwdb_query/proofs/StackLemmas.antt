@@ -19,7 +19,7 @@ use Rattle.hwdb_query.proofs.PartLemmas.{members_split, kid_behind, node_and_bel
 use Rattle.hwdb_query.proofs.StepLemmas.{cut_front, stands_whole}
 use Rattle.hwdb_query.proofs.DeadPathLemmas.{Dead, none_wanted, none_live, none_wanted_behind, none_live_behind}
 
--- ---- the path of a child, and the reach that was fed with what stands behind the node's own path
+-- ---- the path of a child, and the reach that was fed with what comes after the node's own path
 
 pub take_front : (n : ℕ) (xs ys : List ℕ) → length xs ≡ n → take n (xs ++ ys) ≡ xs
 take_front n xs ys h = ap (λ k. take k (xs ++ ys)) (sym h) ∙ cut_front xs ys
@@ -300,7 +300,7 @@ root_lost device t a end dead rest = subst (λ l. Collects a l end) (sym (none_w
 pub root_dead : (device : List ℕ) (t : Tree) → Dead device (prefix_of t) → live_under device [] t ≡ 0
 root_dead device t dead = none_live device [] t dead
 
--- ---- the last member, and what stands before it
+-- ---- the last member, and what comes before it
 
 pub last_is : {A : Type 0} (items : List A) (i : ℕ) (d : A) → suc i ≡ length items → items ≡ take i items ++ get_or items i d ∷ []
 last_is [] i d h = absurd (omega (arith, h))

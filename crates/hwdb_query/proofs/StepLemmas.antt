@@ -21,7 +21,7 @@ pub cut_front : (whole more : List ℕ) → take (length whole) (whole ++ more) 
 cut_front [] more = refl
 cut_front (b ∷ whole) more = ap (λ l. b ∷ l) (cut_front whole more)
 
--- the reach that was fed stands for the whole path
+-- the reach that was fed is the state of the whole path
 pub stands_whole : (above here : Reached) (from : ℕ) (path prefix whole seen piece : List ℕ) → from ≤ length path → whole ≡ path ++ prefix → seen ≡ whole
     → piece ≡ take (length seen - from) (drop from seen) → StandsFor above (take from path)
     → ((p : List ℕ) → StandsFor above p → StandsFor here (p ++ piece)) → StandsFor here whole

@@ -60,7 +60,7 @@ unfoldable pub fillings : (calls : ℕ) → Progress → ℕ
 fillings zero p = 0
 fillings (suc calls) p = (if fills p then 1 else 0) + fillings calls (after_next p)
 
--- Read from its start to its end, and further, a cursor fills a page for each `page` hits, the last one perhaps
+-- A cursor is read from its start to its end, and further. It fills a page for each `page` hits, the last one perhaps
 -- not whole, and once more to find the end.
 abbrev pub FillingsOfARun : Type 0
 FillingsOfARun =
@@ -82,12 +82,12 @@ SpellsOne = (p q : Position) (bytes : List ℕ) → IsSpelling p bytes → IsSpe
 abbrev pub CanonicalSpells : Type 0
 CanonicalSpells = (p : Position) → IsPosition p → IsSpelling p (canonical p)
 
--- the value of the first of some answers; nothing where there is none
+-- the value of the first of some answers; nothing if there is none
 abbrev pub first_value : List Assignment → List ℕ
 first_value [] = []
 first_value (f ∷ more) = f.value
 
--- The first of a key's answers has the value that the effective list has for it, and no key but those of that list is told.
+-- The first of a key's answers has the value that the effective list has for it. No key but those of that list is told.
 abbrev pub ExplainedAreEffective : Type 0
 ExplainedAreEffective = (answers : List Assignment) → map (λ p. (p.0, first_value p.1)) (explained answers) ≡ effective_of answers
 

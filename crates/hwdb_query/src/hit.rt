@@ -40,7 +40,7 @@ pub(crate) struct Parts<'p> {
 }
 
 impl<'p> Parts<'p> {
-    /// The origin among them.
+    /// The priority and line among them.
     pub(crate) fn origin(self) -> Origin
         ensures { IsPositionOf result (parts_position self.entry) }
     {
@@ -64,7 +64,7 @@ impl<'a> Hit<'a> {
         }
     }
 
-    /// Where the hit comes from.
+    /// The priority and line of the hit.
     pub(crate) fn origin(&self) -> Origin
         ensures { IsOf result (assignment_of_hit self.now) }
     {
@@ -74,10 +74,10 @@ impl<'a> Hit<'a> {
         }
     }
 
-    /// Adds the one text of the hit's position, as [`Position::write`] gives it: `P:L:HP:HK`, the priority and the line
-    /// in decimal digits, the pattern and the key in hexadecimal digits of lower case.
+    /// Adds the one text of the hit's position, as [`Position::write`] gives it: `P:L:HP:HK`. These are the priority
+    /// and the line in decimal digits, the pattern and the key in hexadecimal digits of lower case.
     ///
-    /// The only error is that memory is refused; it is asked for the text alone.
+    /// The only error is `AllocError`. Memory is asked for the text alone.
     pub fn push_position(&self, text: &mut Vec<u8>) -> Result<(), AllocError>
         ensures { OnOk result (text.new.items
             ≡ text.old.items ++ canonical (assignment_of_hit self.now).position) }
@@ -92,9 +92,7 @@ impl<'a> Hit<'a> {
         Ok(())
     }
 
-    /// The position of the hit: its priority, line, pattern and key.
-    ///
-    /// The only error is that memory is refused.
+    /// The position of the hit: its priority, line, pattern and key, copied. The only error is `AllocError`.
     pub fn position(&self, alloc: Global) -> Result<Position, AllocError>
         ensures { IfOk result (λ p. position_value p ≡ (assignment_of_hit self.now).position) }
     {

@@ -1,4 +1,7 @@
 //! The one list of hits of a cursor.
+//!
+//! It ascends while a page is filled. So the place of a hit is found by halving, and the greatest is dropped from the
+//! end. Then it is turned once, so that each hit is taken from the end too, and no other hit moves.
 ghost use Rattle.std.specs.Prelude.{◌≡◌, ◌≢◌, ◌<◌, ◌≤◌, ◌+◌, ◌++◌, ℕ, List, [], ◌∷◌, length, take, drop, reverse, map, IfSome, IfOk, IsOk, OnOk, OnErr, Option, Some, None, true, false};
 ghost use Rattle.hwdb_spec.specs.Assignment.{Position, Assignment, position_cmp, assignment_cmp, put};
 ghost use Rattle.std.specs.List.Sorted.{IsStrictlySortedBy};
@@ -13,7 +16,7 @@ use std::cmp::Ordering;
 use std::marker::Model;
 use std::mem;
 
-/// Where a hit stands among others, or would.
+/// The place of a hit among others, or the one that it would have.
 #[derive(Clone, Copy)]
 pub(crate) struct Place {
     pub index: usize,
@@ -112,8 +115,8 @@ impl<'a> HitPage<'a> {
         }
     }
 
-    /// Where a hit with a position is put, if it is kept: not where its place is taken, and not behind as many
-    /// as may be held. Takes no memory.
+    /// The place for a hit with a position, if it is kept. It isn't if its place is taken, or comes after as many as
+    /// may be held. Takes no memory.
     fn place_for(&self, parts: Parts<'_>) -> Option<usize>
         ensures within { IfSome result (λ i. (i ≤ length self.now.hits) × (i < self.now.most)) }
         ensures put { IfSome result (λ i. IsStrictlySortedBy assignment_cmp self.now.hits
@@ -133,7 +136,7 @@ impl<'a> HitPage<'a> {
         Some(place.index)
     }
 
-    /// Puts a hit in its place, and keeps the least of them. What isn't kept takes no memory.
+    /// Puts a hit in its place, and keeps the least of them. If it isn't kept, it takes no memory.
     pub(crate) fn keep(
         &mut self,
         alloc: Global,
@@ -179,7 +182,7 @@ impl<'a> HitPage<'a> {
         self.hits.reverse();
     }
 
-    /// Takes all hits out, with the memory that they stand in.
+    /// Takes all hits out, with their memory.
     pub(crate) fn take(&mut self, alloc: Global) -> HitPage<'a>
         ensures taken { result ≡ self.old }
         ensures left { self.new ≡ record self.old { hits = [] } }

@@ -1,4 +1,4 @@
-//! The last hit of each key.
+//! The last hit of each key: a map from keys, without an order among the others.
 ghost use Rattle.std.specs.Prelude.{◌≡◌, List, [], IfOk, OnOk};
 ghost use Rattle.hwdb_query.specs.Internal.Members.{assignment_shown};
 ghost use Rattle.hwdb_spec.specs.Tree.{values_of};
@@ -67,7 +67,7 @@ impl<'a> LastHits<'a> {
         }
     }
 
-    /// Whether a hit of a key comes after the one that stands there, if one does.
+    /// Whether a hit of a key comes after the one that the key has, if it has one.
     fn is_last(&self, parts: Parts<'_>) -> bool
         ensures { result
             ≡ is_after (position_at self.now.hits parts.entry.key.now)

@@ -19,15 +19,15 @@ pub fn answers_are_the_maps(db: &Db<'_>)
     let _root = db.root();
 }
 
-/// The text that is written of a position spells it, and a text spells one position at most: so it spells
-/// no other, and reading it gives the position again.
+/// The text that is written of a position spells it, and a text spells one position at most. So it spells no other, and
+/// reading it gives the position again.
 pub fn positions_are_read_back()
     ensures one { SpellsOne }
     ensures canonical { CanonicalSpells }
 {}
 
-/// Bytes that are a database of a map show this map and no other: so a reader that accepts compiled bytes sees
-/// the map that was compiled.
+/// Bytes that are a database of a map show this map and no other. So a reader that accepts compiled bytes sees the map
+/// that was compiled.
 pub fn databases_show_one_map()
     ensures { (m : Map) (bytes : List ℕ) (t : Tree) → IsDatabaseOf m bytes → IsDatabase bytes t
         → map_of t ≡ m }
@@ -35,8 +35,8 @@ pub fn databases_show_one_map()
     law_one_tree();
 }
 
-/// The answers in a database of some files' map are the last assignments that the files have: so a reader that
-/// accepts compiled bytes, whatever it does then, has these to answer.
+/// The answers in a database of some files' map are the last assignments that the files have. So a reader that accepts
+/// compiled bytes, whatever it does then, has these to answer.
 pub fn compiled_answers_are_last()
     ensures after { CompiledAnswersAreLast }
     ensures all { AllCompiledAnswersAreLast }
@@ -46,9 +46,9 @@ pub fn compiled_answers_are_last()
     law_ascending();
 }
 
-/// `last_assignments`, by which contracts compute, is the list that `AreLast` tells in words: strictly ascending,
-/// and of exactly those assignments that are the last of their pattern and key, match the device and lie behind
-/// the position. No other list is so.
+/// `last_assignments`, by which contracts compute, is the list that `AreLast` tells in words. It ascends strictly. Its
+/// members are exactly the assignments that are the last of their pattern and key, match the device and come after the
+/// position. No other list is so.
 pub fn last_assignments_are_last()
     ensures are { LastAssignmentsAreLast }
     ensures one { OneListIsLast }
@@ -64,16 +64,16 @@ pub fn last_rows()
     ensures explained { ExplainedRow }
 {}
 
-/// The explanation of some answers tells the effective list of them: in order, its keys, each with the value of the
-/// first of its answers, and each key has one.
+/// The explanation of some answers tells the effective list of them. In order it has the list's keys, each with the
+/// value of its first answer, and each key has one.
 #[tactic(auto, using(crate::proofs::ExplainedLemmas::explained_are_effective, crate::proofs::ExplainedLemmas::all_are_explained))]
 pub fn explained_are_effective()
     ensures properties { ExplainedAreEffective }
     ensures present { AllAreExplained }
 {}
 
-/// What a call of `next` changes of a cursor: with a hit held, or at the end, nothing is entered; a page that is
-/// filled holds what is to come, as much as it may, but for the hit that is given, and the live nodes were entered.
+/// What a call of `next` changes of a cursor. With a hit held, or at the end, nothing is entered. A page that is filled
+/// holds what is to come, as much as it may, but for the hit that is given. And the live nodes were entered.
 pub fn after_each_next()
     ensures held { (p : Progress) → 0 < p.held → (after_next p).held + 1 ≡ p.held }
     ensures filled { (p : Progress) → p.held ≡ 0 → p.ended ≡ false
@@ -88,8 +88,8 @@ pub fn after_each_next()
         → (after_next p).entered ≡ p.live }
 {}
 
-/// How many fillings a cursor takes that is read to its end: as many as there are pages, the last one perhaps
-/// not whole, and one more that finds the end.
+/// How many fillings a cursor takes that is read to its end. It is one for each page, the last one perhaps not whole,
+/// and one more that finds the end.
 #[tactic(auto, using(crate::proofs::FillLemmas::fillings_of_a_run))]
 pub fn fillings_of_a_run()
     ensures { FillingsOfARun }

@@ -1,8 +1,11 @@
 //! What a checked hardware database answers for a device.
 //!
-//! The answers are the assignments that survived in the database and whose pattern matches the device, by
-//! file priority, line, pattern and key (hwdb(7); that the order goes on by pattern and key is our choice).
+//! The answers are the assignments that survived in the database and whose pattern matches the device. They are in
+//! order by file priority, line, pattern and key (hwdb(7); that the order goes on by pattern and key is our choice).
 //! `specs/Answers` defines them as a filter and an order over all assignments of the database's tree.
+//!
+//! There are three ways to have them: [`cursor`] by pages, [`effective`] as one value a key, [`explain`] as all answers
+//! of each key. All take memory for what they hold. Beside a page of 0 hits, their only error is a failed allocation.
 //!
 //! | Module | What it does |
 //! |---|---|
@@ -23,7 +26,7 @@
 //! | `by_key` | answers by key |
 //! | `explanations` | for each key its answers |
 //! | `laws` | what is proved of the definitions alone |
-//! | `errors` | what the calls refuse |
+//! | `errors` | the errors of the calls |
 #![tactic(auto)]
 
 mod all_hits;

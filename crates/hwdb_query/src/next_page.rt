@@ -60,7 +60,7 @@ impl<'a, 'p> NextPage<'a, 'p> {
         Ok(())
     }
 
-    /// Whether no hit of an origin is kept: it comes before the position's, or behind a full page.
+    /// Whether no hit of an origin is kept: it comes before the position's, or after a full page.
     fn skips(&self, origin: Origin) -> bool
         ensures { result ≡ true → (x : Assignment) → IsOf origin x
             → PageCollects self.now (x ∷ []) self.now }
@@ -73,8 +73,8 @@ impl<'a, 'p> NextPage<'a, 'p> {
         self.held.is_full_before(origin)
     }
 
-    /// Takes what one value of a node assigns at a pattern. Of a value that isn't kept for its origin no
-    /// text is looked at.
+    /// Takes what one value of a node assigns at a pattern. If a value isn't kept for its origin, its texts aren't
+    /// looked at.
     fn collect_one(
         &mut self,
         alloc: Global,
@@ -94,9 +94,9 @@ impl<'a, 'p> NextPage<'a, 'p> {
         self.offer(alloc, pattern, inside.value(i))
     }
 
-    /// Takes what the values of a node assign at a pattern. The values stand by key, and are gone over
-    /// from the end whose origin comes first: a value that comes before all so far is put into the page,
-    /// and one behind a full page is passed over by its origin.
+    /// Takes what the values of a node assign at a pattern. The values are ordered by key. Iterates from whichever end
+    /// has the smaller (priority, line). So a full page is full of the least ones early, and a value after it is passed
+    /// over by its origin alone.
     pub(crate) fn collect(
         &mut self,
         alloc: Global,

@@ -1,4 +1,5 @@
-//! Positions: the places of assignments in the order of the answers.
+//! Positions: the places of assignments in the order of the answers. A position is what a page ends with, and what the
+//! next one begins after.
 ghost use Rattle.std.specs.Prelude.{◌≡◌, ◌≢◌, ◌<◌, ℕ, List, ◌∷◌, ◌++◌, length, slice_index, IfOk, IfErr, OnErr, IfSome, MatchOption, string_bytes};
 ghost use Rattle.hwdb_spec.specs.Assignment;
 ghost use Rattle.hwdb_query.specs.Internal.Hits.{parts_position};
@@ -84,10 +85,10 @@ impl Position {
         }
     }
 
-    /// The one text of the position: `P:L:HP:HK`, the priority and the line in decimal digits, the pattern
+    /// The one text of the position: `P:L:HP:HK`. These are the priority and the line in decimal digits, the pattern
     /// and the key in hexadecimal digits of lower case.
     ///
-    /// The only error is that memory is refused.
+    /// The only error is `AllocError`.
     pub fn write(&self, alloc: Global) -> Result<String, AllocError>
         ensures { IfOk result (λ r. string_bytes r ≡ canonical (position_value self.now)) }
     {
@@ -131,9 +132,9 @@ impl Position {
 
     /// The position that the text spells, with hexadecimal digits in either case.
     ///
-    /// [`PositionError::BadPosition`] where it spells none, as with a sign, a leading zero or a field more;
-    /// [`PositionError::Memory`] where memory is refused,
-    /// which is asked for the pattern and the key alone: behind numbers that are none it isn't.
+    /// [`PositionError::BadPosition`] if it spells none: it has a sign, a leading zero or a field more.
+    /// [`PositionError::Memory`] if an allocation fails. Memory is asked for the pattern and the key alone, and only
+    /// after both numbers are sound.
     pub fn read(alloc: Global, text: &str) -> Result<Position, PositionError>
         ensures spelled { IfOk result (λ p. IsSpelling (position_value p) text.now) }
         ensures refused { IfErr result

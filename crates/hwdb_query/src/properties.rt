@@ -12,13 +12,13 @@ use hwdb_pattern::matches_is_tested;
 use hwdb_reader::Db;
 use std::alloc::{AllocError, Global};
 
-/// For each key among the answers for the device its value, ascending by key: the value of the last answer
-/// with that key. Keys and values are parts of the database's bytes. One descent of the tree.
+/// For each key among the answers for the device the value of the last answer with that key, ascending by key. Keys and
+/// values are parts of the database's bytes.
 ///
-/// Over the database of some files the answers are the last assignments of each pattern and key that the files
-/// have.
+/// Over the database of some files the answers are the last assignments of each pattern and key that the files have.
 ///
-/// The only error is that memory is refused.
+/// One descent of the tree. The memory is a pair for each key, and a copy of each pattern that has the last answer of
+/// one. The only error is `AllocError`.
 pub fn effective<'a>(
     alloc: Global,
     db: &Db<'a>,

@@ -1,4 +1,4 @@
-//! One filling of a page: one descent of the tree, of which the least hits after a position are kept.
+//! One filling of a page: one descent of the tree, which keeps the least hits after a position.
 ghost use Rattle.std.specs.Prelude.{◌≡◌, List, [], take, reverse, IfOk, OnOk, OnErr};
 ghost use Rattle.hwdb_reader.specs.Views.{tree_of};
 ghost use Rattle.hwdb_spec.specs.Tree.{answers_after, live_nodes};

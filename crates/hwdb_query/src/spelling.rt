@@ -7,7 +7,7 @@ use hex::FromHexError;
 use itoa::Buffer;
 use std::alloc::{AllocError, Global};
 
-/// What stands before and behind the first colon.
+/// The texts before and after the first colon.
 pub(crate) fn cut(text: &str) -> Option<(&str, &str)>
     ensures parts { IfSome result (λ x. text.now ≡ x.0.now ++ 58 ∷ x.1.now) }
     ensures found { (xs ys : List ℕ) → text.now ≡ xs ++ 58 ∷ ys

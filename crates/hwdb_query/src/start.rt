@@ -14,14 +14,14 @@ use hwdb_pattern::matches_is_tested;
 use hwdb_reader::Db;
 use std::alloc::Global;
 
-/// A cursor over the answers of the database for the device, after a position if one is given. It holds
-/// nothing yet, and then at most `page` hits at a time.
+/// A cursor over the answers of the database for the device, after a position if one is given. It holds nothing yet,
+/// and then at most `page` hits at a time.
 ///
-/// Over the database of some files it yields the last assignment of each pattern and key that the files have,
-/// where the pattern matches the device: by file priority, line, pattern and key.
+/// Over the database of some files it yields the last assignment of each pattern and key, if the pattern matches the
+/// device. They come by file priority, line, pattern and key.
 ///
-/// [`CursorError::PageZero`] where `page` is 0, before memory is asked for; [`CursorError::Memory`] where memory
-/// is refused.
+/// [`CursorError::PageZero`] if `page` is 0, before memory is asked for. [`CursorError::Memory`] if an allocation
+/// fails: a position is copied.
 pub fn cursor<'a, 'd>(
     alloc: Global,
     db: &Db<'a>,

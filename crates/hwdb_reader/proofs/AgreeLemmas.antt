@@ -10,7 +10,7 @@ use Rattle.hwdb_reader.specs.Internal.Repeats.{Agree, AgreeInside, Ends, StandFo
 use Rattle.hwdb_reader.proofs.RunLemmas.{lt_or}
 use Rattle.hwdb_reader.proofs.TextLemmas.{below, not_below}
 
--- behind the bytes there are none but 0
+-- after the bytes there are none but 0
 pub beyond : (b : List ℕ) (i : ℕ) → length b ≤ i → get_or b i 0 ≡ 0
 beyond b i h = get_or-eq_default b 0 h
 
@@ -21,7 +21,7 @@ within b i h = ⊎_elim (λ lt. lt) (λ le. absurd (h (beyond b i le))) (lt_or i
 pub none_agree : (b : List ℕ) (x y : ℕ) → x ≤ length b → y ≤ length b → AgreeInside b x y 0
 none_agree b x y lx ly = record { agree = λ j lt. absurd (omega (arith, lt)); left = omega (arith, lx); right = omega (arith, ly) }
 
--- some bytes, and some behind them
+-- some bytes, and some after them
 pub agree_on : (b : List ℕ) (p q n m : ℕ) → AgreeInside b p q n → AgreeInside b (p + n) (q + n) m → AgreeInside b p q (n + m)
 agree_on b p q n m first next = record {
   agree = λ j lt.
@@ -50,7 +50,7 @@ agree_one b p q n h same some =
       right = omega (arith, within b (q + n) (λ z. some (same ∙ z)));
     })
 
--- what agrees at the places that stand for others agrees there
+-- what agrees at the places that were exchanged for others agrees there
 pub agree_there : (b : List ℕ) (p q x y n m : ℕ) → StandFor b p q x y n → m ≤ n → Agree b x y m → AgreeInside b p q m
 agree_there b p q x y n m h le same = record {
   agree = λ j lt.
@@ -78,7 +78,7 @@ ends_there b p q x y n m h one differ same =
     (λ le. omega (arith, le))
     (lt_or 0 (get_or b p 0))
 
--- the first places stand for themselves
+-- the first places, in exchange for themselves
 pub stand_first : (b : List ℕ) (p q n : ℕ) → (p ≡ q → ⊥) → n ≡ length b - max p q → p < length b → q < length b → StandFor b p q p q n
 stand_first b p q n differ is lp lq = record {
   left = λ j lt. refl;
@@ -91,7 +91,7 @@ stand_first b p q n differ is lp lq = record {
   from_right = omega (arith, is, lp, lq);
 }
 
--- which text is less, by the bytes behind what agrees
+-- which text is less, by the bytes after what agrees
 pub less_is : (b : List ℕ) (p q n : ℕ) → AgreeInside b p q n → Ends b (p + n) (q + n) → (get_or b (p + n) 0 < get_or b (q + n) 0) ↔ (text_cmp (text_at b p) (text_at b q) ≡ Less)
 less_is b p q n h ends = (
   λ lt. below b p q n h.agree lt,
@@ -101,7 +101,7 @@ less_is b p q n h ends = (
 pub not_less_itself : (s : List ℕ) → text_cmp s s ≡ Less → ⊥
 not_less_itself s e = let k = tied_itself nat_list_cmp_total s in cc
 
--- the same of two bytes that were read
+-- as `less_is`, of two bytes that were read
 pub less_of_bytes : (b : List ℕ) (p q n x y : ℕ) → AgreeInside b p q n → x ≡ get_or b (p + n) 0 → y ≡ get_or b (q + n) 0 → Ends b (p + n) (q + n)
     → IsTrue (nat_lt x y) ↔ (text_cmp (text_at b p) (text_at b q) ≡ Less)
 less_of_bytes b p q n x y h is_x is_y ends =

@@ -6,7 +6,7 @@ use Rattle.std.proofs.Math.Nat.{div-add-mod}
 use Rattle.std.specs.Cmp.Lexicographic.{pointwise, same_text, other_text}
 use Rattle.hwdb_reader.specs.Internal.Repeats.{HasPeriod, Agree, AgreeInside, IsRepeat, AreRepeats}
 
--- a byte stands again behind each multiple of a period
+-- a byte occurs again after each multiple of a period
 pub multiple : (at : ℕ → ℕ) (s e g m i : ℕ) → HasPeriod at s e g → s ≤ i → i + g * m < e → at i ≡ at (i + g * m)
 multiple at s e g zero i h le lt = ap at (omega arith)
 multiple at s e g (suc m) i h le lt =
@@ -24,7 +24,7 @@ nothing b = record {
   inside = omega arith;
 }
 
--- a table in which nothing stands
+-- an empty table
 pub fresh : (b : List ℕ) (n : ℕ) → AreRepeats b (replicate n 0) (replicate n 0) (replicate n 0)
 fresh b n k =
     let e = sym (zero_row n k) in

@@ -1,4 +1,4 @@
--- Which faults apply beside each other, and where each stands.
+-- Which faults apply together, and at which offset each is.
 use Rattle.std.proofs.Common.{◌≡◌, ℕ, List, refl, sym, subst, inl, inr}
 use Rattle.hwdb_spec.specs.declared.Layout.{Layout}
 use Rattle.hwdb_spec.specs.declared.DbFault.{DbFault}
@@ -143,7 +143,7 @@ unfolding Applies
 right_before b e (inl f) = right_first b e f
 right_before b e (inr f) = right_of_header b e f.0
 
--- what is wrong with a node stands at the offset
+-- what is wrong with a node is at the offset
 there : (l : Layout) (b : List ℕ) (v : Visit) (e : DbFault) → NodeFault l b v e → IsThere l b v e
 there l b v (Place at) f = f.0
 there l b v (Depth at) f = f

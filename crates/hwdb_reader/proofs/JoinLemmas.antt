@@ -88,7 +88,7 @@ runs b f x e h y z from to long short g one other x_some x_run y_some y_run is_f
       inside = omega (arith, fits, one.inside, other.inside);
     }
 
--- the same, for a beginning and an end that have names
+-- as `runs`, for a beginning and an end that have names
 pub runs_from : (b : List ℕ) (f x e h y z a w g : ℕ) → a ≡ min f h → w ≡ max (e + x) (z + y) → IsRepeat b (min f h) g (max (e + x) (z + y) - g) → IsRepeat b a g (w - g)
 runs_from b f x e h y z a w g low high r =
     subst (λ (p : ℕ). IsRepeat b p g (w - g)) (sym low) (subst (λ (p : ℕ). IsRepeat b (min f h) g (p - g)) (sym high) r)

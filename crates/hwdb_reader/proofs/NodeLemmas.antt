@@ -69,7 +69,7 @@ child_fits l b big levels from e byte end n p =
     let after = children_room l b big levels (record_end l b (child_off b e)) (e + l.child_size) (child_byte b e) end (children_at (tree_at l b levels) l b (e + l.child_size) n) p.more in
     (omega arith, omega arith)
 
--- the child of a visited node that fits is visited, where all before it fit
+-- the child of a visited node that fits is visited, if all before it fit
 pub child_visited : (l : Layout) (b : List ℕ) (v : Visit) (i : ℕ) → 0 < v.levels → Visited l b v → Fits l b v → i < children_count b v.off → ChildrenFit l b v i → Visited l b (visit (v.levels - 1) (child_from l b v.from v.off i) (child_off b (child_entry l v.off i)) v.off)
 child_visited l b v i some r f lt fits = Below i r some f lt fits
 
@@ -97,7 +97,7 @@ pub place_stands : (l : Layout) (b : List ℕ) (v : Visit) → Visited l b v →
 unfolding IsVisitFault
 place_stands l b v r f = (v, r, inr (f, refl))
 
--- behind the last child its text ends
+-- after the last child its text ends
 pub children_done : (l : Layout) (b : List ℕ) (levels from e byte end n i : ℕ) → n ≤ i → ChildrenText l b levels from e byte end (children_at (tree_at l b levels) l b e (n - i)) → from ≡ end
 unfolding ChildrenText children_at
 children_done l b levels from e byte end n i le h =

@@ -8,7 +8,7 @@ unfolding open_nodes
 length-open_nodes xs ds zero = refl
 length-open_nodes xs ds (suc n) = ap suc (length-open_nodes xs ds n)
 
--- what stands behind the first n doesn't matter
+-- what comes after the first n doesn't matter
 pub open_nodes-set : (xs ds : List ℕ) (i x d n : ℕ) → n ≤ i → open_nodes (set xs i x) (set ds i d) n ≡ open_nodes xs ds n
 unfolding open_nodes
 open_nodes-set xs ds i x d zero le = refl

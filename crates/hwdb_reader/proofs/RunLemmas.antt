@@ -21,7 +21,7 @@ difference at s e x y hx hy le room i low lt =
     ∙ hx (i - y) (omega (arith, behind, room)) (omega (arith, on, lt)) ∙ ap at on)
     (lt_or (i + x) e)
 
--- and what is left of the one behind multiples of the other
+-- and what is left of the one after multiples of the other
 pub remainder : (at : ℕ → ℕ) (s e x y q r : ℕ) → x ≡ y * q + r → HasPeriod at s e x → HasPeriod at s e y → s + x + y ≤ e → HasPeriod at s e r
 remainder at s e x y zero r is hx hy room = subst (λ (p : ℕ). HasPeriod at s e p) (omega (arith, is)) hx
 remainder at s e x y (suc q) r is hx hy room =
@@ -81,7 +81,7 @@ together at s e f h a z g one other left right from to =
     to)
     from
 
--- the same of stretches without a 0
+-- two overlapping stretches without a 0 are one
 pub full_together : (at : ℕ → ℕ) (s e f h a z : ℕ) → IsFull at s e → IsFull at f h → f ≤ e → s ≤ h → (a ≡ s) ⊎ (a ≡ f) → (z ≡ e) ⊎ (z ≡ h) → IsFull at a z
 full_together at s e f h a z one other left right from to i low lt =
     ⊎_elim

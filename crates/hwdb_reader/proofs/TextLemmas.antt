@@ -77,14 +77,14 @@ goes_on b p q n same =
     let here = same 0 (omega arith) in
     same_head b p q (sym (at_first b p) ∙ here.0 ∙ at_first b q) (λ z. here.1 (at_first b p ∙ z))
 
--- n bytes agree and aren't 0, and behind them the first text has the lesser byte, or the end
+-- n bytes agree and aren't 0, and after them the first text has the lesser byte, or the end
 pub below : (b : List ℕ) (p q n : ℕ) → ((j : ℕ) → j < n → (get_or b (p + j) 0 ≡ get_or b (q + j) 0) × (get_or b (p + j) 0 ≡ 0 → ⊥))
     → get_or b (p + n) 0 < get_or b (q + n) 0 → text_cmp (text_at b p) (text_at b q) ≡ Less
 below b p q zero same lt = first_below b p q (omega (arith, at_first b p, at_first b q, lt))
 below b p q (suc n) same lt =
     goes_on b p q n same ∙ below b (suc p) (suc q) n (moved b p q n same) (omega (arith, at_next b p n, at_next b q n, lt))
 
--- behind them it hasn't, or both texts end
+-- after them it hasn't, or both texts end
 pub not_below : (b : List ℕ) (p q n : ℕ) → ((j : ℕ) → j < n → (get_or b (p + j) 0 ≡ get_or b (q + j) 0) × (get_or b (p + j) 0 ≡ 0 → ⊥))
     → (get_or b (p + n) 0 < get_or b (q + n) 0 → ⊥) → (get_or b (p + n) 0 ≡ get_or b (q + n) 0 → get_or b (p + n) 0 ≡ 0)
     → text_cmp (text_at b p) (text_at b q) ≡ Less → ⊥

@@ -1,4 +1,4 @@
--- What is known behind a node of a checked database.
+-- What is known of the values and children of a node of a checked database.
 use Rattle.std.proofs.Common.{◌≡◌, ◌≤◌, ◌<◌, ◌-◌, ◌^◌, ℕ, zero, suc, ◌+◌, ◌*◌, List, length, Option, Some, refl, sym, ◌∙◌, ap, arith, subst, slice_get}
 use Rattle.std.proofs.Math.Logic.{∥∥₁_elim, ∥∥₁_map}
 use Rattle.std.specs.Coded.{le_prop}
@@ -54,7 +54,7 @@ unfolding children_at list_of
 length-children read l b e zero = refl
 length-children read l b e (suc n) = ap suc (length-children read l b (e + l.child_size) n)
 
--- the value and the child that stand at a place
+-- the value and the child at a place
 pub value_number : (l : Layout) (b : List ℕ) (e n i : ℕ) → i < n → slice_get (values_at l b e n) i ≡ Some (value_at b (e + l.value_size * i))
 unfolding values_at
 value_number l b e zero i lt = absurd (omega arith)

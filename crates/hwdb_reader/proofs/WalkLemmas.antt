@@ -47,7 +47,7 @@ module _ (l : Layout) (b : List ℕ) where
 
   -- ---- a child of a node that is open
 
-  -- where its entry and its byte stand, as the definitions of its parent's children go on
+  -- the places of its entry and its byte, as the definitions of its parent's children go on
   module _ (levels off i begin : ℕ) (lt : i < children_count b off) where
     next_entry : child_entry l off i + l.child_size ≡ child_entry l off (i + 1)
     next_entry = omega arith
@@ -77,7 +77,7 @@ module _ (l : Layout) (b : List ℕ) where
     pub open_fault : (e : DbFault) → ((levels from limit : ℕ) → NodeFault l b (visit levels from off limit) e) → IsVisitFault l b e
     open_fault e h = fault_stands l b (visit levels o.from off o.limit) e o.visited o.fits (h levels o.from o.limit)
 
-    -- its children are done, and don't end where its record begins
+    -- its children are done, and don't end at the beginning of its record
     pub gap_stands : i ≡ children_count b off → (begin ≡ off → ⊥) → IsVisitFault l b (Place off)
     gap_stands all gap =
         let v = visit levels o.from off o.limit in
@@ -131,7 +131,7 @@ module _ (l : Layout) (b : List ℕ) where
         let one_less : max_levels - length above - 1 ≡ max_levels - suc (length above) = omega arith in
         subst (λ n. Visited l b (visit n begin (child_off b (child_entry l off i)) off)) one_less (visits (max_levels - length above) off i begin stand.0 lt)
 
-    -- it is sound where all that is to come is
+    -- it is sound if all that is to come is
     pub next_sound : 24 ≤ l.node_size → i < children_count b off → ToCome l b ((off, i) ∷ above) begin → IsSoundNode l b (visit (max_levels - suc (length above)) begin (child_off b (child_entry l off i)) off)
     next_sound big lt h =
         let levels = max_levels - suc (length above) in
@@ -172,7 +172,7 @@ module _ (l : Layout) (b : List ℕ) where
         subst (λ (v : ℕ × ℕ). IsSoundRecord l b (visit v.0 begin v.1 off) → GoesOn l b ((off, i) ∷ above) begin ((v.1, 0) ∷ (off, i + 1) ∷ above) begin)
         (λ j. (sym levels j, sym at j)) (below lt higher)
 
-  -- a step behind a step
+  -- a step after a step
   goes_twice : (first second third : List (ℕ × ℕ)) (begin next after : ℕ) → GoesOn l b first begin second next → GoesOn l b second next third after → GoesOn l b first begin third after
   goes_twice first second third begin next after g h =
       let fewer = g.fewer in
@@ -190,7 +190,7 @@ module _ (l : Layout) (b : List ℕ) where
       goes_twice ((off, i) ∷ above) ((child, 0) ∷ (off, i + 1) ∷ above) ((off, i + 1) ∷ above) begin begin (record_end l b child) g
       (node_done ((off, i + 1) ∷ above) child 0 begin g.stand big none at)
 
-  -- a step behind children that were passed over
+  -- a step after children that were passed over
   pub goes_behind : (above : List (ℕ × ℕ)) (off before i begin next : ℕ) (now : List (ℕ × ℕ)) (after : ℕ) → (ToCome l b ((off, i) ∷ above) next ↔ ToCome l b ((off, before) ∷ above) begin) → begin ≤ next → GoesOn l b ((off, i) ∷ above) next now after → GoesOn l b ((off, before) ∷ above) begin now after
   goes_behind above off before i begin next now after same grown g =
       let fewer = g.fewer in

@@ -61,7 +61,7 @@ root_stands_at b l e h s =
     let goal = λ (m : Layout). record_end m b m.root ≢ m.strings → Applies b (Place m.root) in
     subst goal (sym e) (root_stands b h) s
 
--- what is read of a database where its layout is given
+-- what is read of a database whose layout is given
 pub text_of_layout : (b : List ℕ) (l : Layout) → l ≡ layout_of b → (t : Tree) → IsDatabase b t → NodeText l b max_levels l.nodes l.root (tree_at l b max_levels l.root)
 text_of_layout b l e t h =
     let goal = λ (m : Layout). NodeText m b max_levels m.nodes m.root (tree_at m b max_levels m.root) in

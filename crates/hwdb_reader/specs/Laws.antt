@@ -14,8 +14,8 @@ IsOfHeader Lengths = Unit {0}
 IsOfHeader Strings = Unit {0}
 IsOfHeader _ = ⊥
 
--- What is looked at before a fault is right: the number of bytes, the signature, the sizes of the records, the lengths of the file
--- and its parts, the strings, in this order; and all of the header before any node.
+-- What is looked at before a fault is right. In this order: the number of bytes, the signature, the sizes of the
+-- records, the lengths of the file and its parts, the strings. All of the header comes before any node.
 abbrev pub IsRightBefore : List ℕ → DbFault → Type 0
 IsRightBefore b Short = Unit {0}
 IsRightBefore b Signature = IsLong b
@@ -24,13 +24,16 @@ IsRightBefore b Lengths = IsLong b × IsSigned b × HasSizes b
 IsRightBefore b Strings = IsLong b × IsSigned b × HasSizes b × HasLengths b
 IsRightBefore b _ = IsHeader b
 
--- where value entry i of a node stands
+-- the offset of value entry i of a node
 abbrev pub value_entry : Layout → List ℕ → (off i : ℕ) → ℕ
 value_entry l b off i = value_entries l b off + l.value_size * i
 
--- What is at fault stands at the fault's offset: the record of the visited node; one of its child entries, whose byte isn't above the
--- one before; a string offset of its own or of one of its value entries, which is no place of a string; a value entry, whose key isn't
--- above the one before; or one whose priority is 0.
+-- What is at fault is at the fault's offset. That is one of five:
+-- - the record of the visited node;
+-- - one of its child entries, whose byte isn't above the one before;
+-- - a string offset of its own or of one of its value entries, which is no place of a string;
+-- - one of its value entries, whose key isn't above the one before;
+-- - one of its value entries, whose priority is 0.
 abbrev pub IsThere : Layout → List ℕ → Visit → DbFault → Type 0
 IsThere l b v (Place at) = at ≡ v.off
 IsThere l b v (Depth at) = (at ≡ v.off) × (v.levels ≡ 0)

@@ -33,7 +33,7 @@ pub fn u32_at(b: &[u8], i: usize) -> u32
     LittleEndian::read_u32(&b[i..])
 }
 
-/// The string that stands at `i`: up to the next byte 0.
+/// The string at `i`: up to the next byte 0.
 #[tactic(auto, unfolding(hwdb_spec::specs::Format::text_at))]
 pub fn text(b: &[u8], i: usize) -> &[u8]
     requires { i < length b.now }
@@ -46,8 +46,8 @@ pub fn text(b: &[u8], i: usize) -> &[u8]
     }
 }
 
-/// Whether the offset is inside the string section. That a string ends there follows from the section's
-/// last byte, so none is scanned.
+/// Whether the offset is inside the string section. The section's last byte is 0, so a string ends there. So none is
+/// scanned.
 pub fn is_place(b: &[u8], f: Frame, i: usize) -> bool
     ensures { IsTrue result ↔ IsPlace f.sizes b.now i }
 {

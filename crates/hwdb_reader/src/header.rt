@@ -1,4 +1,4 @@
-//! The header of a database.
+//! The header of a database, 80 bytes as in systemd's `hwdb-internal.h`.
 ghost use Rattle.std.specs.Prelude.{◌≡◌, IfOk, OnErr, IfErr};
 ghost use Rattle.hwdb_spec.specs.Format.{layout_of, IsHeader, HeaderFault};
 
@@ -6,7 +6,7 @@ use crate::fields::u64_at;
 use crate::frame::Frame;
 use hwdb_spec::{DbFault, Layout};
 
-/// Tests all that stands in the header, and the last byte. The first of B1 to B5 that stands is answered.
+/// Tests each field of the header, and the last byte. The error is the first of B1 to B5 that applies.
 #[tactic(auto, unfolding(hwdb_spec::specs::Format::layout_of))]
 pub fn check_header(b: &[u8]) -> Result<Frame, DbFault>
     ensures ok { IfOk result (λ f. (f.sizes ≡ layout_of b.now) × IsHeader b.now) }
@@ -49,7 +49,7 @@ pub fn check_header(b: &[u8]) -> Result<Frame, DbFault>
     Ok(Frame { sizes })
 }
 
-/// The layout that the header says, where all that stands in it was tested before.
+/// The layout that the header says, if all of the header was tested before.
 #[tactic(auto, unfolding(hwdb_spec::specs::Format::layout_of))]
 pub fn frame_of(b: &[u8]) -> Frame
     requires { IsHeader b.now }

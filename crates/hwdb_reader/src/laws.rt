@@ -1,4 +1,4 @@
-//! Laws of the format: each function holds no code, its contract is a law of the definitions of `hwdb_spec`.
+//! Laws of the format. Each function holds no code: its contract is a law of the definitions of `hwdb_spec`.
 ghost use Rattle.std.specs.Prelude.{◌≡◌, ◌<◌, ℕ, List, length};
 ghost use Rattle.hwdb_spec.specs.Tree.{Tree, IsTree};
 ghost use Rattle.hwdb_reader.specs.Views.{node_count};
@@ -23,21 +23,21 @@ pub fn law_few_nodes()
     ensures { (bytes : List ℕ) (t : Tree) → IsDatabase bytes t → node_count t < length bytes }
 {}
 
-/// No fault applies to a database, so that bytes with a fault are a database of no tree.
+/// No fault applies to a database: bytes with a fault are a database of no tree.
 pub fn law_faultless()
     ensures { (bytes : List ℕ) (t : Tree) (e : DbFault)
         → IsDatabase bytes t → Applies bytes e → ⊥ }
 {}
 
-/// Where one of B1 to B5 applies no other fault does. Each applies only where what is looked at before it is right: B2 where the
-/// bytes are long enough, B3 where they have the signature too, and so on to B5; the others only behind a header.
+/// If one of B1 to B5 applies, no other fault does. Each applies only if what is looked at before it is right. So B2
+/// needs bytes that are long enough, B3 the signature too, and so on to B5. The others need a sound header.
 pub fn law_header_faults()
     ensures one { (bytes : List ℕ) (e f : DbFault) → IsOfHeader e
         → Applies bytes e → Applies bytes f → e ≡ f }
     ensures order { (bytes : List ℕ) (e : DbFault) → Applies bytes e → IsRightBefore bytes e }
 {}
 
-/// Of B6 to B11 each is that of a node that is visited, and what is at fault stands at its offset.
+/// Each of B6 to B11 is the fault of a node that is visited, and what is at fault is at its offset.
 pub fn law_offsets()
     ensures { (bytes : List ℕ) (e : DbFault) → IsHeader bytes → Applies bytes e → (v : Visit)
         × Visited (layout_of bytes) bytes v × IsThere (layout_of bytes) bytes v e }

@@ -1,15 +1,15 @@
-//! The checked reader of a hardware database: [`check`] accepts exactly the databases, in one pass and
-//! without memory, and answers a view whose reads never test an offset again.
+//! The checked reader of a hardware database. [`check`] accepts exactly the databases, in one pass and without memory.
+//! It answers a view whose reads never test an offset again.
 //!
-//! The layout is that of systemd's `hwdb-internal.h`, with the record sizes that the header announces.
-//! What a database of a tree is, and what each fault is, stands in the definitions of `hwdb_spec`.
+//! The layout is that of systemd's `hwdb-internal.h`, with the record sizes that the header announces. `hwdb_spec`
+//! defines what a database of a tree is, and what each fault is.
 //!
 //! - `header`: the faults B1 to B5, in this order;
 //! - `walk`: the nodes, by a loop over the open ones of one path;
-//! - `path`: these, in a table of a fixed size on the thread's stack;
+//! - `path`: the open nodes, in a table of a fixed size on the thread's stack;
 //! - `values`: the value entries of a node;
-//! - `repeats`: which of two strings stands first, in a text in which long stretches stand more than once;
-//! - `fields` and `places`: single fields, and where records stand;
+//! - `repeats`: which of two strings is less, in a text in which long stretches occur more than once;
+//! - `fields` and `places`: single fields, and the offsets of records;
 //! - `view`: the nodes, children and values of a database that was accepted;
 //! - `reopened`: the view of a database that was accepted before;
 //! - `laws`: laws of the format, on the definitions alone.

@@ -1,6 +1,7 @@
 //! The nodes of one path, from the root down, whose children aren't all done.
 //!
-//! They stand in a table of a fixed size, on the thread's stack: as many as a database may have levels.
+//! They are in a table of a fixed size, on the thread's stack: as many as a database may have levels, 9 bytes each. So
+//! the check asks for no memory, and the deepest database takes no more stack than a flat one.
 ghost use Rattle.std.specs.Prelude.{◌≡◌, ◌-◌, ◌<◌, [], ◌∷◌, length, MatchOption};
 ghost use Rattle.hwdb_spec.specs.Format.{max_levels};
 
@@ -10,14 +11,14 @@ use std::marker::Model;
 /// A node whose record was tested.
 #[derive(Clone, Copy)]
 pub struct Open {
-    /// Where its record stands.
+    /// The offset of its record.
     pub off: usize,
     /// How many of its children were entered.
     pub done: u8,
 }
 
-/// The open nodes, each below the one before it. To contracts: where they stand and how many of their children
-/// were entered, the last first.
+/// The open nodes, each below the one before it. To contracts: their offsets and how many of their children were
+/// entered, the last first.
 #[derive(Drop)]
 pub struct Path {
     offsets: [usize; MAX_LEVELS],

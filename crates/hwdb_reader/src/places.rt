@@ -1,4 +1,4 @@
-//! Where the entries of a node that was tested stand, and what they show.
+//! The offsets of the entries of a node that was tested, and what the entries show.
 ghost use Rattle.std.specs.Prelude.{◌≡◌, ◌≤◌, ◌<◌, ◌+◌, ◌*◌, ◌^◌, length};
 ghost use Rattle.hwdb_spec.specs.Format.{record_end, child_entry, children_count, value_entries, values_count, value_at, IsValue};
 ghost use Rattle.hwdb_reader.specs.Views.{shown};
@@ -8,7 +8,7 @@ use crate::fields::{text, u16_at, u32_at, u64_at};
 use crate::frame::Frame;
 use crate::view::{Entry, Origin};
 
-/// Where the record at `off` ends.
+/// The offset at which the record at `off` ends.
 #[tactic(auto, unfolding(hwdb_spec::specs::Format::record_end))]
 pub fn record_end_at(b: &[u8], f: Frame, off: usize) -> usize
     requires { record_end f.sizes b.now off ≤ length b.now }
@@ -18,7 +18,7 @@ pub fn record_end_at(b: &[u8], f: Frame, off: usize) -> usize
     off + f.sizes.node_size + children + f.sizes.value_size * u64_at(b, off + 16)
 }
 
-/// Where the child entry `i` of the node at `off` stands.
+/// The offset of the child entry `i` of the node at `off`.
 #[tactic(auto, using(crate::proofs::BoundLemmas::entry_room), unfolding(hwdb_spec::specs::Format::record_end))]
 pub fn child_entry_at(b: &[u8], f: Frame, off: usize, i: usize) -> usize
     requires inside { record_end f.sizes b.now off ≤ length b.now }
@@ -30,7 +30,7 @@ pub fn child_entry_at(b: &[u8], f: Frame, off: usize, i: usize) -> usize
     off + f.sizes.node_size + f.sizes.child_size * i
 }
 
-/// Where the value entry `i` of the node at `off` stands.
+/// The offset of the value entry `i` of the node at `off`.
 #[tactic(auto, using(crate::proofs::BoundLemmas::value_entry_room), unfolding(hwdb_spec::specs::Format::record_end))]
 pub fn value_entry_at(b: &[u8], f: Frame, off: usize, i: usize) -> usize
     requires inside { record_end f.sizes b.now off ≤ length b.now }
@@ -63,7 +63,7 @@ pub fn read_value(b: &[u8], f: Frame, entry: usize) -> Entry<'_>
     }
 }
 
-/// Where the value at a value entry comes from.
+/// The priority and line of the value at a value entry.
 #[tactic(auto, unfolding(hwdb_spec::specs::Format::value_at))]
 pub fn read_origin(b: &[u8], entry: usize) -> Origin
     requires { entry + 32 ≤ length b.now }

@@ -7,7 +7,8 @@ use crate::checker::MAX_LEVELS;
 use crate::header::frame_of;
 use crate::view::{Db, Node};
 
-/// The view of bytes that [`check`](crate::check) accepted before, without a second pass: the header alone is read.
+/// The view of bytes that [`check`](crate::check) accepted before. Reads the header alone, and takes no memory. For
+/// callers that keep the bytes and not the view, as the C library does.
 pub fn reopen(bytes: &[u8]) -> Db<'_>
     requires { (t : Tree) × IsDatabase bytes.now t }
     ensures { (t : Tree) → IsDatabase bytes.now t → result ≡ t }

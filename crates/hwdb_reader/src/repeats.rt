@@ -1,10 +1,15 @@
-//! Which of two strings stands first, in a text in which long stretches stand more than once.
+//! Which of two strings is less, in a text in which long stretches occur more than once.
 //!
-//! Keys can share their endings, so that comparing each with the next one, byte by byte, would take the square of the text's
-//! length. Stretches that were found equal are remembered in a table of a fixed size, on the thread's stack, and passed over
-//! when they are met again: where both strings lie in one, or where one lies in a copy of what is near the other. Stretches
-//! that overlap themselves are runs of a period; two runs that share enough bytes have the greatest common divisor of their
-//! periods (the theorem of Fine and Wilf), and become one.
+//! Keys can share their endings. To compare each key with the next one, byte by byte, would then take the square of the
+//! text's length. So stretches that were found equal are remembered, and passed over when they are met again. They are
+//! in a table of a fixed size, on the thread's stack.
+//!
+//! - If both strings are in a stretch and its copy, their bytes there are equal.
+//! - If one string is in a copy of something nearer to the other one, the two nearer places are compared instead.
+//! - A stretch that overlaps its copy is a run of a period. Two runs that share enough bytes have the greatest common
+//!   divisor of their periods (Fine and Wilf), and become one.
+//!
+//! The contract is that of a comparison byte by byte. Which stretch is forgotten changes the time alone.
 ghost use Rattle.std.specs.Prelude.{◌≡◌, ◌≢◌, ◌≤◌, ◌<◌, ◌+◌, ◌↔◌, ℕ, length, get_or, IsTrue, IfSome, OnSome};
 ghost use Rattle.std.specs.declared.cmp.Ordering.TheVariants.{Less};
 ghost use Rattle.hwdb_spec.specs.Assignment.{text_cmp};
@@ -20,13 +25,13 @@ const ROOM: usize = 64;
 /// How many bytes are compared before the table is looked at.
 const SHORT: usize = 64;
 
-/// How many bytes are compared at once at most.
+/// At most how many bytes are compared at once.
 const LONG: usize = 8192;
 
 /// How often a pair of places is exchanged for a nearer one.
 const EXCHANGES: usize = 4;
 
-/// Bytes that stand twice: those from `first` to `end`, of which none is 0, stand again `gap` bytes behind.
+/// Bytes that occur twice: those from `first` to `end`, without a 0, and again `gap` bytes after.
 #[derive(Clone, Copy)]
 struct Repeat {
     first: usize,
@@ -34,7 +39,7 @@ struct Repeat {
     end: usize,
 }
 
-/// So many bytes at two places.
+/// Two places, and how many bytes are compared there.
 #[derive(Clone, Copy)]
 struct Pair {
     left: usize,
@@ -42,7 +47,7 @@ struct Pair {
     count: usize,
 }
 
-/// So many bytes that stand at a place too, and the repeat that says so.
+/// A place that has so many of the bytes of another place, and the number of the repeat that says so.
 #[derive(Clone, Copy)]
 struct Copied {
     place: usize,
@@ -50,7 +55,7 @@ struct Copied {
     by: usize,
 }
 
-/// The byte at a place, 0 behind the last.
+/// The byte at a place; 0 after the last.
 fn byte_at(b: &[u8], i: usize) -> u8
     ensures { result ≡ get_or b.now i 0 }
 {
@@ -93,7 +98,7 @@ fn common_period(long: usize, short: usize) -> usize
     b
 }
 
-/// Two runs as one, if they share as many bytes as both of their periods have.
+/// Two runs as one, if they share as many bytes as the sum of their periods.
 fn joined_runs(b: &[u8], one: Repeat, other: Repeat) -> Option<Repeat>
     requires one { IsRepeat b.now one.first one.gap one.end }
     requires other { IsRepeat b.now other.first other.gap other.end }
@@ -164,7 +169,7 @@ impl<'b> Model for Repeats<'b> {
 }
 
 impl<'b> Repeats<'b> {
-    /// None of a text.
+    /// No repeats yet, of a text.
     pub fn new(bytes: &'b [u8]) -> Repeats<'b>
         ensures { result ≡ bytes.now }
     {
@@ -190,7 +195,7 @@ impl<'b> Repeats<'b> {
         }
     }
 
-    /// A repeat under a number was of use.
+    /// Notes that the repeat under a number was of use.
     fn touch(&mut self, k: usize)
         requires { k < 64 }
         ensures { self.new ≡ self.old }
@@ -211,8 +216,8 @@ impl<'b> Repeats<'b> {
         self.touch(k);
     }
 
-    /// Remembers that bytes agree: with a repeat that they touch, or in place of the one that wasn't used for the longest
-    /// time.
+    /// Remembers that bytes agree. They join a repeat that they touch, or replace the one that wasn't used for the
+    /// longest time.
     fn remember(&mut self, pair: Pair)
         requires { AgreeInside self.old pair.left pair.right pair.count }
         ensures { self.new ≡ self.old }
@@ -238,8 +243,8 @@ impl<'b> Repeats<'b> {
         self.put(oldest, repeat);
     }
 
-    /// Where the bytes at `place` stand too, by the repeat under a number: as near to `other`, which is before them, as it
-    /// says.
+    /// Another place with the bytes at `place`, by the repeat under a number. It is as near to `other`, which is before
+    /// `place`, as the repeat allows.
     fn copied_by(&self, k: usize, other: usize, place: usize) -> Option<Copied>
         requires below { k < 64 }
         requires before { other < place }
@@ -294,7 +299,7 @@ impl<'b> Repeats<'b> {
         best
     }
 
-    /// A pair of nearer places at which the same bytes stand, of which there are so many at least.
+    /// A pair of nearer places that have these bytes too, at least so many.
     fn exchanged(&mut self, pair: Pair, least: usize) -> Option<Pair>
         ensures same { self.new ≡ self.old }
         ensures stands { IfSome result (λ now. (p q : ℕ)
@@ -370,7 +375,7 @@ impl<'b> Repeats<'b> {
         pair.count
     }
 
-    /// How many bytes at two places agree, of which so many are known to.
+    /// How many bytes at two places agree, if so many are known to.
     fn agreeing(&mut self, left: usize, right: usize, known: usize) -> usize
         requires differ { left ≢ right }
         requires known { AgreeInside self.old left right known }
@@ -393,7 +398,7 @@ impl<'b> Repeats<'b> {
         count
     }
 
-    /// Whether the string at `left` stands before the one at `right`.
+    /// Whether the string at `left` is less than the one at `right`.
     pub fn is_less(&mut self, left: usize, right: usize) -> bool
         requires left { left < length self.old }
         requires right { right < length self.old }

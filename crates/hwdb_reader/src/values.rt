@@ -31,8 +31,8 @@ fn check_value(b: &[u8], l: Frame, entry: usize) -> Result<(), DbFault>
     Ok(())
 }
 
-/// Tests the `n` value entries from `first` on, whose stored keys have to ascend. A lone key, as nearly all
-/// are, isn't read.
+/// Tests the `n` value entries from `first` on, whose stored keys have to ascend. A lone key, as nearly all are, isn't
+/// read.
 #[inline(always)]
 #[tactic(auto, unfolding(hwdb_spec::specs::Format::ValuesText, crate::specs::Internal::Read::values_at))]
 pub fn check_values(

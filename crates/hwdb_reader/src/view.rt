@@ -1,5 +1,8 @@
-//! The view of a database that was accepted. That its bytes are a database stands in the types'
-//! invariants: no read tests an offset again or copies a text, and each slice is a part of the bytes.
+//! The view of a database that was accepted. The types' invariants say that its bytes are a database. So no read tests
+//! an offset again or copies a text, and each slice is a part of the bytes.
+//!
+//! A value's texts take as many steps as they have bytes, up to the 0 that ends each. All other reads take a fixed
+//! number of steps. None takes memory, and none fails.
 ghost use Rattle.std.specs.Prelude.{◌<◌};
 ghost use Rattle.hwdb_reader.specs.Internal.Placed.{Placed};
 
@@ -8,7 +11,7 @@ use crate::frame::Frame;
 use crate::places::{child_entry_at, read_origin, read_value, value_entry_at};
 use std::marker::Model;
 
-/// Counts the nodes that were entered, from 0 on.
+/// Counts the nodes that were entered, from 0 on. By it a contract can say that a walk reads a part of the tree alone.
 #[derive(Drop)]
 pub struct Entered {
     count: u64,
@@ -77,7 +80,7 @@ impl<'a> Model for Db<'a> {
 /// A child of a node.
 #[derive(Clone, Copy)]
 pub struct Child<'a> {
-    /// The byte that the child stands under, never 0.
+    /// The byte by which the node leads to the child, never 0.
     pub byte: u8,
     /// The child itself.
     pub node: Node<'a>,
@@ -90,8 +93,8 @@ pub struct Entry<'a> {
     pub priority: u16,
     /// The line of its property.
     pub line: u32,
-    /// The stored key without its one leading space; None where it doesn't begin with one, and then the
-    /// entry is no assignment.
+    /// The stored key without its one leading space. None if it doesn't begin with one: then the entry is no
+    /// assignment.
     pub key: Option<&'a [u8]>,
     /// The value.
     pub value: &'a [u8],
@@ -199,7 +202,7 @@ impl<'a> Inside<'a> {
         u64_at(self.node.bytes, self.node.offset + 16)
     }
 
-    /// Where the value number `i` comes from, without a look at its texts.
+    /// The priority and line of the value number `i`, counted from 0, without a look at its texts.
     pub fn origin(&self, i: usize) -> Origin
         requires { i < length (values_of (entered_tree self.now)) }
         ensures priority { option_map (λ v. v.priority)

@@ -1,6 +1,8 @@
 //! The walk over the nodes section: each node's text is its children's texts, in order, and its record.
 //!
-//! It is a loop over the open nodes of one path, so that a deep tree takes no more of the thread's stack than a flat one.
+//! So a record comes after all below it, the root last, and the texts fill the section without gaps. By that each node
+//! has one parent, none is entered twice, and the walk ends. It is a loop over the open nodes of one path: a deep tree
+//! takes no more of the thread's stack than a flat one.
 ghost use Rattle.std.specs.Prelude.{◌≡◌, ◌≤◌, ◌<◌, ℕ, ◌∷◌, length, SomeIff, IfOk, OnOk, OnErr, IfErr};
 ghost use Rattle.hwdb_spec.specs.Format.{record_end, child_entry, children_count, child_byte, child_off, byte_before, max_levels, Visited, NodeFault, IsVisitFault};
 ghost use Rattle.hwdb_reader.specs.Internal.Placed.{visit, FieldsAreSound, IsSoundNode};
@@ -15,7 +17,7 @@ use crate::repeats::Repeats;
 use crate::values::check_values;
 use hwdb_spec::DbFault;
 
-/// Where the record at `off` ends, if it lies between `from` and `limit`. No sum wraps.
+/// The offset at which the record at `off` ends, if it lies between `from` and `limit`. No sum wraps.
 #[tactic(auto, unfolding(hwdb_spec::specs::Format::record_end))]
 fn record_end_within(b: &[u8], l: Frame, from: usize, off: usize, limit: usize) -> Option<usize>
     requires { limit ≤ length b.now }
@@ -62,8 +64,8 @@ fn check_fields(b: &[u8], l: Frame, repeats: &mut Repeats<'_>, off: usize) -> Re
     check_values(b, l, repeats, entries, u64_at(b, off + 16))
 }
 
-/// Tests the record of the node at `off`, whose text may begin at `from` and has to end at `limit`, where so many
-/// levels are left for it. Answers where the record ends. Inlined, since a call copies the frame for each node.
+/// Tests the record of the node at `off`. Its text may begin at `from` and has to end at `limit`, and so many levels
+/// are left for it. Answers the offset at which the record ends. Inlined, since a call copies the frame for each node.
 #[inline(always)]
 fn check_record(
     b: &[u8],
@@ -105,7 +107,7 @@ fn byte_before_at(b: &[u8], l: Frame, off: usize, i: usize) -> u8
     b[child_entry_at(b, l, off, i - 1)]
 }
 
-/// Where child `i` of the node at `off` stands, whose byte has to be above the one of the child before it.
+/// The offset of child `i` of the node at `off`. Its byte has to be above that of the child before it.
 fn next_child(b: &[u8], l: Frame, off: usize, i: usize) -> Result<usize, DbFault>
     requires inside { record_end l.sizes b.now off ≤ length b.now }
     requires below { i < children_count b.now off }
@@ -126,8 +128,8 @@ fn next_child(b: &[u8], l: Frame, off: usize, i: usize) -> Result<usize, DbFault
     Ok(u64_at(b, entry + 8))
 }
 
-/// Goes on from the last open node: tests its children up to the first that has children itself, which is opened below
-/// it. If there is none, the node is done. Answers where the next text begins.
+/// Goes on from the last open node. Tests its children up to the first that has children itself, and opens that below
+/// it. If there is none, the node is done. Answers the offset at which the next text begins.
 fn go_on(
     b: &[u8],
     l: Frame,
@@ -172,8 +174,8 @@ fn go_on(
     Ok(record_end_at(b, l, last.off))
 }
 
-/// Tests the node at `off`, whose text may begin at `from` and has to end at `limit`, and all below it.
-/// Answers where its record ends.
+/// Tests the node at `off` and all below it. Its text may begin at `from` and has to end at `limit`. Answers the offset
+/// at which its record ends.
 pub fn walk(b: &[u8], l: Frame, from: usize, off: usize, limit: usize) -> Result<usize, DbFault>
     requires inside { limit ≤ length b.now }
     requires visited { Visited l.sizes b.now (visit max_levels from off limit) }

@@ -152,7 +152,7 @@ pub no_pieces : pieces (is 10) [] ≡ []
 unfolding pieces
 no_pieces = refl
 
--- the first line, and those behind it
+-- the first line, and those after it
 pub line_step : (text : List ℕ) → 0 < length text
     → pieces (is 10) text ≡ take (position_or_len (is 10) text) text ∷ pieces (is 10) (drop (position_or_len (is 10) text + 1) text)
 unfolding pieces

@@ -74,7 +74,7 @@ up_of (f ∷ more) s = (
   up_of more (sorted_rest f more s),
 )
 
--- how often a fault stands in a list
+-- how often a list has a fault
 abbrev is_it : Fault → Fault → ℕ
 is_it f g = cond (is_eq (fault_cmp f g)) 1 0
 

@@ -1,4 +1,4 @@
--- Faults as sets: none stands twice in a file, and a set of faults has one ascending list.
+-- Faults as sets: a file has none twice, and a set of faults has one ascending list.
 use Rattle.std.proofs.Common.{◌≡◌, ℕ, zero, suc, ◌+◌, ◌<◌, ◌≤◌, ◌==◌, ◌⊎◌, Bool, true, false, not, List, [], ◌∷◌, ◌++◌, map, filter, refl, ap, ◌∙◌, sym, subst, cond, inl, inr, arith, eq-eqb, ne_eqb, eqb-true}
 use Rattle.std.proofs.lemmas.Bool.{cases_Bool}
 use Rattle.std.proofs.lemmas.Cmp.{tied_itself}
@@ -18,7 +18,7 @@ use Rattle.hwdb_text.proofs.FaultOrderLemmas.{AllFrom, Up, fault_equal, fault_to
 use Rattle.hwdb_text.proofs.JoinLemmas.{sections_are_the_lines}
 use Rattle.hwdb_text.proofs.NameSetLemmas.{less_of, greater_of}
 
--- whether it is the fault, and how often the fault stands in a list
+-- whether it is the fault, and how often the list has the fault
 abbrev once : Fault → Fault → ℕ
 once f g = cond (is_eq (fault_cmp f g)) 1 0
 
@@ -44,7 +44,7 @@ unfolding many
 many_append n [] ys = omega arith
 many_append n (x ∷ xs) ys = let i = many_append n xs ys in omega (arith, i)
 
--- m where the fault has the kind, else 0
+-- m if the fault has the kind, else 0
 abbrev most : Fault → FaultKind → ℕ → ℕ
 most f kind m = cond (fault_number f.kind == fault_number kind) m 0
 
@@ -212,7 +212,7 @@ clean_fewer n (l ∷ more) =
     let i = clean_fewer n more in
     elim (cases_Bool (is_dropped l)) [ inl e ↦ rw e (omega (arith, i)) | inr e ↦ rw e (omega (arith, i)) ]
 
--- no number stands twice among the lines of a file
+-- no two lines of a file have one number
 number_below : (n k : ℕ) → n < k → (k == n) ≡ false
 number_below n k h = ne_eqb k n (λ e. absurd (omega (arith, h, e)))
 
@@ -239,7 +239,7 @@ rest_less : (b : Bool) (m k : ℕ) → m ≤ k → cond b 0 m ≤ cond b 0 k
 rest_less true m k h = omega arith
 rest_less false m k h = h
 
--- a fault stands in a file at most once
+-- a file has a fault at most once
 all_once : (f : Fault) (file : List ℕ) → often f (all_faults file) ≤ 1
 all_once f file =
     let n = f.line in
@@ -330,7 +330,7 @@ first_is_same x y xs ys a b c d = elim (of_front y x ys c) [
   ]
 ]
 
--- what stands behind the first of one list stands behind the same first of the other
+-- what comes after the first of one list comes after this first in the other
 rest_has : (x y f : Fault) (xs ys : List Fault) → AllByRecursion (λ g. fault_cmp x g ≡ Less) xs → x ≡ y → Contains xs f → Contains (y ∷ ys) f → Contains ys f
 rest_has x y f xs ys a e c d = elim (of_front y f ys d) [
   | inl s ↦

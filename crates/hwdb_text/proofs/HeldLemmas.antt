@@ -1,4 +1,4 @@
--- What one more line does, at the stage where the reader is.
+-- What one more line does, at each stage of the reader.
 use Rattle.std.proofs.Common.{◌≡◌, ℕ, true, List, [], ◌∷◌, ◌++◌, drop, map, refl, ap, ◌∙◌, sym, subst, Result, Ok, Err, append-nil, ◌<◌, ◌≤◌, length, arith}
 use Rattle.std.specs.Result.{OnOk}
 use Rattle.hwdb_spec.specs.declared.FaultKind.TheVariants.{StrayProperty, NoProperty, StrayMatch, LongMatch}
@@ -89,7 +89,7 @@ long_yes l h = grind arith
 pub long_no : (l : Line) → length l.text ≤ 4096 → long_faults l ≡ []
 long_no l h = grind arith
 
--- behind the last line
+-- after the last line
 pub finished : (o : Origin) (whole : List Line) (r s : Reader) → Reads o whole [] r → s.spoilt ≡ r.spoilt
     → ((o : Origin) → (whole rest : List Line) → Closes rest → Holds o whole rest r → AtStart o whole (drop 1 rest) s)
     → (map (given_in o) s.assignments.items ≡ gives (section_assignments o) (clean whole)) × (s.spoilt.items ++ s.faults.items ≡ spoilt_faults whole ++ gives section_faults (clean whole))

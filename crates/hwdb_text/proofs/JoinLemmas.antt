@@ -23,7 +23,7 @@ take_front zero ls = refl
 take_front (suc n) [] = refl
 take_front (suc n) (l ∷ more) = ap (λ r. l ∷ r) (take_front n more)
 
--- the first section's lines, and those behind it
+-- the first section's lines, and those after it
 section_then : (ls : List Line) → lines_of (first_section ls) ++ drop (size (first_section ls)) ls ≡ ls
 unfolding first_section
 section_then ls =
@@ -81,7 +81,7 @@ blocks_joined (p ∷ more) =
 pub sections_are_the_lines : SectionsAreTheLines
 sections_are_the_lines ls = blocks_joined (pieces is_empty ls) ∙ pieces_joined ls
 
--- each text, with a newline behind it
+-- each text, with a newline after it
 abbrev ends_joined : List (List ℕ) → List ℕ
 ends_joined ps = flat_map (λ p. p ++ 10 ∷ []) ps
 

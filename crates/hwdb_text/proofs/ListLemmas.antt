@@ -1,4 +1,4 @@
--- A chosen file stands in the folder that it is taken from.
+-- A chosen file is in the folder that it is taken from.
 use Rattle.std.proofs.Common.{◌≡◌, ℕ, suc, ◌<◌, Bool, true, false, List, [], ◌∷◌, refl, ap, ◌∙◌, sym, cond, ◌||◌, inl, inr, length, arith, All, Contains}
 use Rattle.std.specs.List.{AllByRecursion as Each}
 use Rattle.std.proofs.lemmas.Bool.{cases_Bool}

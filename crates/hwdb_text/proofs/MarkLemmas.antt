@@ -52,7 +52,7 @@ unmarked text content n k =
     (ap (λ (m : ℕ). take m text) (no_place (is 35) text (λ j h e. n j h (or_right (get_or text j 0 == 0) (get_or text j 0 == 35) e))) ∙ take_whole text)
     k
 
--- no comment, since byte 0 stands before the first `#` or `#` not at the beginning
+-- no comment, since a byte 0 comes before the first `#`, or `#` is not at the beginning
 begins_later : (text : List ℕ) (k : ℕ) → Unmarked text k → ((get_or text 0 0 == 35) ≡ true → k ≡ 0 → ⊥) → begins_with 35 text ≡ false
 begins_later text zero n z = begins_not text (λ h e. z e refl)
 begins_later text (suc k) n z = begins_not text (λ h e. n 0 (omega arith) (or_right (get_or text 0 0 == 0) (get_or text 0 0 == 35) e))

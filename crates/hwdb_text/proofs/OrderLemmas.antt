@@ -67,7 +67,7 @@ rises_drop n zero low xs high r = r
 rises_drop n (suc k) low [] high r = r
 rises_drop n (suc k) low (x ∷ xs) high r = rises_more n low (n x) (drop k xs) high r.0 (rises_drop n k (n x) xs high r.1)
 
--- what is behind the first section
+-- what comes after the first section
 pub behind_section : (ls : List Line) → drop (size (first_section ls)) ls ≡ drop (length (first_section ls).stray) (behind is_property (behind is_match (behind is_property ls)))
 unfolding first_section
 behind_section ls =
@@ -80,7 +80,7 @@ behind_section ls =
     sym (drop-drop w (x + y + z) ls)
     ∙ ap (drop w) (sym (drop-drop z (x + y) ls) ∙ ap (drop z) (sym (drop-drop y x ls) ∙ ap (drop y) (drop_run is_property ls) ∙ drop_run is_match a) ∙ drop_run is_property b)
 
--- it rises from where the properties of the section end
+-- it rises from the end of the section's properties
 section_meets : (low : ℕ) (ls : List Line) (high : ℕ) → Rises at_line low ls high → Meet low (first_section ls).properties (drop (size (first_section ls)) ls) high
 unfolding first_section
 section_meets low ls high r =

@@ -219,7 +219,7 @@ none_empty_matches : (ms ps : List Line) → AllPass is_match ms → AllPass is_
 none_empty_matches [] ps am ap1 = none_empty_properties ps ap1
 none_empty_matches (m ∷ ms) ps am ap1 = (match_no_empty m am.0, none_empty_matches ms ps am.1 ap1)
 
--- a section that has begun, and the lines behind it
+-- a section that has begun, and the lines after it
 begun : (m : Line) (ms ps ls : List Line) → AllPass is_match (m ∷ ms) → AllPass is_property ps
     → sections (m ∷ (ms ++ (ps ++ ls))) ≡ sections_from 0 (m ∷ (ms ++ (ps ++ head_piece (pieces is_empty ls)))) ++ flat_map (sections_from 0) (other_pieces (pieces is_empty ls))
 begun m ms ps ls am ap1 =
@@ -269,7 +269,7 @@ gives_last out m ms ps am ap1 =
     ∙ ap (λ (r : List Section). r ++ []) (one_section m ms ps [] am ap1 tt (stops_match ps ap1) ∙ ap (λ (r : List Section). section [] (m ∷ ms) ps [] ∷ r) none_left))
     ∙ append-nil (out (section [] (m ∷ ms) ps []))
 
--- a match line behind a property
+-- a match line after a property
 pub gives_stray : {X : Type 0} (out : Section → List X) (m : Line) (ms : List Line) (p : Line) (ps : List Line) (x : Line) (ls : List Line)
     → AllPass is_match (m ∷ ms) → AllPass is_property (p ∷ ps) → is_match x ≡ true
     → gives out (m ∷ (ms ++ ((p ∷ ps) ++ x ∷ ls))) ≡ out (section [] (m ∷ ms) (p ∷ ps) (x ∷ [])) ++ gives out ls

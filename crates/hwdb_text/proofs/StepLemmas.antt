@@ -44,7 +44,7 @@ section_faults_are m ms (p ∷ ps) =
 four : {X : Type 0} (a b c d : List X) → a ++ ((b ++ c) ++ d) ≡ ((a ++ b) ++ c) ++ d
 four a b c d = ap (λ r. a ++ r) (append_assoc b c d) ∙ sym (append_assoc a b (c ++ d)) ∙ sym (append_assoc (a ++ b) c d)
 
--- an end where nothing has begun
+-- an end, if nothing has begun
 pub end_start : (o : Origin) (whole rest : List Line) (r s : Reader) → Closes rest → AtStart o whole rest r
     → s.assignments ≡ r.assignments → s.faults ≡ r.faults → AtStart o whole (drop 1 rest) s
 end_start o whole rest r s e h ea ef = record {
@@ -52,7 +52,7 @@ end_start o whole rest r s e h ea ef = record {
   faults = h.faults ∙ ap (λ f. f.items ++ gives section_faults rest) (sym ef) ∙ ap (λ g. s.faults.items ++ g) (passed section_faults rest e);
 }
 
--- an end where a section has begun
+-- an end, if a section has begun
 pub end_section : (o : Origin) (whole rest : List Line) (r s : Reader) (m : Line) (ms ps : List Line) → Closes rest → InSection o whole rest r m ms ps
     → s.assignments ≡ r.assignments → s.faults.items ≡ r.faults.items ++ lonely_faults (m ∷ ms) ps → AtStart o whole (drop 1 rest) s
 end_section o whole rest r s m ms ps e h ea ef = record {
@@ -67,7 +67,7 @@ end_section o whole rest r s m ms ps e h ea ef = record {
       ∙ ap (λ g. g ++ gives section_faults (drop 1 rest)) (ap (λ g. g ++ lonely_faults (m ∷ ms) ps) (sym h.faults.now) ∙ sym ef);
 }
 
--- a property where nothing has begun
+-- a property, if nothing has begun
 pub property_start : (o : Origin) (whole rest : List Line) (x : Line) (r s : Reader) → is_property x ≡ true → AtStart o whole (x ∷ rest) r
     → s.assignments ≡ r.assignments → s.faults.items ≡ r.faults.items ++ fault StrayProperty x ∷ [] → AtStart o whole rest s
 property_start o whole rest x r s p h ea ef = record {
@@ -115,7 +115,7 @@ property_section o whole rest x r s m ms ps p h e1 ep ea ef = record {
   };
 }
 
--- a match line where nothing has begun
+-- a match line, if nothing has begun
 pub match_start : (o : Origin) (whole rest : List Line) (x : Line) (r s : Reader) → is_match x ≡ true → AtStart o whole (x ∷ rest) r
     → s.first ≡ x.number → map text_of s.patterns.items ≡ patterns (x ∷ []) → s.assignments ≡ r.assignments
     → s.faults.items ≡ r.faults.items ++ long_faults x → InSection o whole rest s x [] []
@@ -178,7 +178,7 @@ stray_faults_are m ms p ps x =
     sym (append_assoc (flat_map long_faults (m ∷ ms)) (flat_map property_faults (p ∷ ps)) ((fault StrayMatch x ∷ long_faults x) ++ []))
     ∙ ap (λ g. (flat_map long_faults (m ∷ ms) ++ flat_map property_faults (p ∷ ps)) ++ g) (append-nil (fault StrayMatch x ∷ long_faults x))
 
--- a match line behind a property
+-- a match line after a property
 pub match_stray : (o : Origin) (whole rest : List Line) (x : Line) (r s : Reader) (m : Line) (ms : List Line) (p : Line) (ps : List Line) → is_match x ≡ true
     → InSection o whole (x ∷ rest) r m ms (p ∷ ps) → s.assignments ≡ r.assignments
     → s.faults.items ≡ r.faults.items ++ (fault StrayMatch x ∷ long_faults x) → AtStart o whole rest s

@@ -79,7 +79,7 @@ all_ascend etc usr = ascends_put true etc (put_all false usr []) (ascends_put fa
 all_firsts : (etc usr : List (List ℕ)) → firsts (all_names etc usr) ≡ names etc usr
 all_firsts etc usr = one_ascending_list (firsts (all_names etc usr)) (names etc usr) (all_ascend etc usr) (names_ascend etc usr) (listed_all etc usr)
 
--- where a name is taken from, if it is held
+-- the folder that a name is taken from, if it is held
 abbrev taken : List ℕ → List (List ℕ × Bool) → Option Bool
 taken name [] = None
 taken name (n ∷ more) = cond (same n.0 name) (Some (n.1)) (taken name more)
@@ -133,7 +133,7 @@ taken_put n f (m ∷ more) es = elim (cases_Bool (counts m)) [
       ∙ ap (λ (b : Bool). cond (lists n (cond b (m ∷ filter counts more) (filter counts more))) (Some f) (taken n es)) (sym c)
 ]
 
--- each is taken from etc exactly where etc lists it
+-- each is taken from etc exactly if etc lists it
 abbrev FromEtc : List (List ℕ) → List (List ℕ × Bool) → Type 0
 FromEtc etc [] = Unit {0}
 FromEtc etc (e ∷ more) = (e.1 ≡ lists e.0 etc) × FromEtc etc more

@@ -8,7 +8,7 @@ use Rattle.hwdb_spec.specs.Folders.{counts, lists, names, choice}
 use Rattle.hwdb_spec.specs.Records.{all_faults, faults, fault_cmp, Origin, assignments, Section, sections_from, sections}
 use Rattle.hwdb_spec.specs.declared.Fault.{Fault}
 
--- no newline stands in a line
+-- a line has no newline
 abbrev pub LinesHoldNoNewline : Type 0
 LinesHoldNoNewline = (file : List ℕ) → All (λ l. has 10 l.text ≡ false) (lines file)
 
@@ -34,7 +34,7 @@ abbrev pub Ascends : List (List ℕ) → Type 0
 Ascends [] = Unit {0}
 Ascends (n ∷ more) = IsBelow n more × Ascends more
 
--- the chosen names ascend by their bytes, so that none stands twice
+-- the chosen names ascend by their bytes, so that none is there twice
 abbrev pub NamesAscend : Type 0
 NamesAscend = (etc usr : List (List ℕ)) → Ascends (names etc usr)
 
@@ -42,11 +42,11 @@ NamesAscend = (etc usr : List (List ℕ)) → Ascends (names etc usr)
 abbrev pub OneAscendingList : Type 0
 OneAscendingList = (xs ys : List (List ℕ)) → Ascends xs → Ascends ys → ((name : List ℕ) → lists name xs ≡ lists name ys) → xs ≡ ys
 
--- the faults of a file are all that its lines and records have, each as often as it stands there
+-- the faults of a file are all that its lines and records have, each as often as they have it
 abbrev pub FaultsAreAll : Type 0
 FaultsAreAll = (file : List ℕ) → IsPermutation (all_faults file) (faults file)
 
--- they ascend by line and then by number, each below those after it, so that none stands twice
+-- they ascend by line and then by number, each below those after it, so that none is there twice
 abbrev pub FaultsAscend : Type 0
 FaultsAscend = (file : List ℕ) → IsStrictlySortedBy fault_cmp (faults file)
 
@@ -59,7 +59,7 @@ OneListOfFaults = (fs gs : List Fault)
 abbrev pub PrioritiesCountUp : Type 0
 PrioritiesCountUp = (etc usr : List (List ℕ)) (k : ℕ) → k < length (choice etc usr) → slice_index (map (λ c. c.priority) (choice etc usr)) k ≡ k + 1
 
--- the assignments of a file stand by the lines of their properties
+-- the assignments of a file are in the order of their properties' lines
 abbrev pub AssignmentsStandByLine : Type 0
 AssignmentsStandByLine = (o : Origin) (file : List ℕ) → IsNonDecreasingBy (λ a. a.position.line) (assignments o file)
 
@@ -81,12 +81,12 @@ SectionsAreTheBlock = (block : List Line) → flat_map lines_of (sections_from 0
 abbrev pub SectionsAreTheLines : Type 0
 SectionsAreTheLines = (ls : List Line) → flat_map lines_of (sections ls) ≡ filter (λ l. not (is_empty l)) ls
 
--- a file, with a newline behind its last line if none stands there
+-- a file, with a newline after its last line if it has none there
 unfoldable pub ended : List ℕ → List ℕ
 ended [] = []
 ended (b ∷ []) = if b == 10 then b ∷ [] else b ∷ (10 ∷ [])
 ended (b ∷ next ∷ rest) = b ∷ ended (next ∷ rest)
 
--- the lines of a file, with a newline behind each, are the file, with one behind its last line
+-- the lines of a file, each with a newline after it, are the file, with a newline after its last line
 abbrev pub LinesAreTheFile : Type 0
 LinesAreTheFile = (file : List ℕ) → flat_map (λ l. l.text ++ 10 ∷ []) (lines file) ≡ ended file

@@ -52,7 +52,7 @@ pub record IsStorableChoice (c : Choice) : Type 0 where
   pub path : HasNoZero (path_of c)
   pub priority : 0 < c.priority
 
--- a chosen file stands in the folder that it is taken from
+-- a chosen file is in the folder that it is taken from
 abbrev pub IsListed : (etc usr : List (List ℕ)) → Choice → Type 0
 IsListed etc usr c = Contains (if c.from_etc then etc else usr) c.name
 

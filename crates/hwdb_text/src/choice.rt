@@ -1,4 +1,7 @@
-//! The choice of files: which names count, which folder each is taken from, and their priorities.
+//! The choice of files: which names count, from which folder each is taken, and their priorities.
+//!
+//! hwdb(7): the files of both folders are taken together by their names, and one in /etc replaces one of its name in
+//! /usr/lib. An index by name gives both, and their order.
 ghost use Rattle.std.specs.Prelude.{◌≡◌, ◌<◌, ◌≤◌, [], length, map, All, IfOk, IsOk, OnOk};
 ghost use Rattle.std.specs.Result.{IsErrOf};
 ghost use Rattle.std.specs.String.{string_bytes};
@@ -19,7 +22,7 @@ const MOST_FILES: usize = 65535;
 /// A file that was chosen.
 #[derive(Debug, Drop, PartialEq, Eq)]
 pub struct Chosen {
-    /// Whether it stands in /etc; else it stands in /usr/lib.
+    /// Whether it is in /etc; else it is in /usr/lib.
     pub from_etc: bool,
     /// Its name in its folder.
     pub name: String,
@@ -44,8 +47,8 @@ impl Chosen {
     }
 }
 
-/// Whether a name counts: it ends in `.hwdb`, doesn't begin with `.` and holds no byte 0 (hwdb(7), but for
-/// the last two). Doesn't allocate; reads the name once.
+/// Whether a name counts. It ends in `.hwdb` (hwdb(7)), doesn't begin with `.` and has no byte 0 (our choice). Reads
+/// the name once, and takes no memory.
 pub fn counts(name: &[u8]) -> bool
     ensures { result ≡ Folders.counts name.now }
 {
@@ -58,7 +61,7 @@ pub fn counts(name: &[u8]) -> bool
     end_of(0, name) == name.len()
 }
 
-/// Puts the names of a folder that count among the others; a name that is there already is taken from this folder.
+/// Puts the names of a folder that count among the others. A name that is there already is taken from this folder.
 fn put<'a>(
     names: &mut BTreeMap<&'a str, bool>,
     list: &'a [String],
@@ -78,10 +81,11 @@ fn put<'a>(
 
 /// The chosen files by priority (hwdb(7)), of the names that the folders in /etc and in /usr/lib list, in any order.
 ///
+/// The time is that of a sort of the names. Two empty lists take no memory.
+///
 /// # Errors
 ///
-/// `TooManyFiles` where more than 65,535 files are chosen; `Memory` where memory is refused.
-/// Two empty lists take no memory.
+/// `TooManyFiles` if more than 65,535 files are chosen; `Memory` at any allocation that fails.
 pub fn select(alloc: Global, etc: &[String], usr: &[String]) -> Result<Vec<Chosen>, SelectError>
     ensures chosen { IfOk result (λ chosen. map choice_of chosen.items
         ≡ Folders.choice (map string_bytes etc.now) (map string_bytes usr.now)) }

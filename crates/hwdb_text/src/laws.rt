@@ -2,7 +2,8 @@
 ghost use Rattle.hwdb_text.specs.Rows.{FaultRows, AssignmentRows, ChoiceRows, PathRows};
 ghost use Rattle.hwdb_text.specs.Laws.{LinesAreTheFile, LinesHoldNoNewline, LinesCountUp, SectionsAreTheBlock, SectionsAreTheLines, NamesAreThoseThatCount, NamesAscend, OneAscendingList, FaultsAreAll, FaultsAscend, OneListOfFaults, PrioritiesCountUp, AssignmentsStandByLine, OneValueALine};
 
-/// The lines of a file are all of it: with a newline behind each, they are the file, with one behind its last line.
+/// The lines of a file are all of it. Each with a newline after it, they are the file, with a newline after its last
+/// line.
 #[tactic(auto, using(crate::proofs::JoinLemmas::lines_are_the_file, crate::proofs::JoinLemmas::lines_hold_no_newline, crate::proofs::JoinLemmas::lines_count_up))]
 pub fn lines_are_the_file()
     ensures joined { LinesAreTheFile }
@@ -16,8 +17,7 @@ pub fn sections_are_the_block()
     ensures { SectionsAreTheBlock }
 {}
 
-/// The sections of clean lines, joined, are those of them that aren't empty: each stands in one section,
-/// in its order.
+/// The sections of clean lines, joined, are the lines that aren't empty: each is in one section, in its order.
 #[tactic(auto, using(crate::proofs::JoinLemmas::sections_are_the_lines))]
 pub fn sections_are_the_lines()
     ensures { SectionsAreTheLines }
@@ -29,7 +29,7 @@ pub fn names_are_those_that_count()
     ensures { NamesAreThoseThatCount }
 {}
 
-/// The chosen names ascend by their bytes, so that none stands twice.
+/// The chosen names ascend by their bytes, so that none is there twice.
 #[tactic(auto, using(crate::proofs::NameSetLemmas::names_ascend))]
 pub fn names_ascend()
     ensures { NamesAscend }
@@ -41,13 +41,13 @@ pub fn one_ascending_list()
     ensures { OneAscendingList }
 {}
 
-/// The faults of a file are all that its lines and records have, each as often as it stands there.
+/// The faults of a file are all that its lines and records have, each as often as they have it.
 #[tactic(auto, using(crate::proofs::FaultOrderLemmas::faults_are_all))]
 pub fn faults_are_all()
     ensures { FaultsAreAll }
 {}
 
-/// They ascend by line and then by number, so that none stands twice.
+/// They ascend by line and then by number, so that none is there twice.
 #[tactic(auto, using(crate::proofs::FaultSetLemmas::faults_ascend))]
 pub fn faults_ascend()
     ensures { FaultsAscend }
@@ -65,7 +65,7 @@ pub fn priorities_count_up()
     ensures { PrioritiesCountUp }
 {}
 
-/// The assignments of a file stand by the lines of their properties.
+/// The assignments of a file are in the order of their properties' lines.
 #[tactic(auto, using(crate::proofs::OrderLemmas::assignments_stand_by_line))]
 pub fn assignments_stand_by_line()
     ensures { AssignmentsStandByLine }

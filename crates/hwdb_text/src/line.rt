@@ -11,7 +11,7 @@ use memchr::{memchr, memchr2};
 pub enum Content<'b> {
     /// The line begins with `#`.
     Comment,
-    /// The line is no comment, and holds byte 0.
+    /// The line is no comment, and has a byte 0.
     ZeroByte,
     /// The clean line is empty.
     Empty,
@@ -21,7 +21,7 @@ pub enum Content<'b> {
     Match(&'b [u8]),
 }
 
-/// What the line says that has this text.
+/// What the line with this text says.
 pub fn content_of(text: &[u8]) -> Content<'_>
     ensures { IsContent text.now result }
 {
@@ -40,7 +40,7 @@ pub fn content_of(text: &[u8]) -> Content<'_>
     }
 }
 
-/// The kind of a line that isn't dropped, of what stands before its first `#`.
+/// The kind of a line that isn't dropped, by its text before the first `#`.
 fn kind_of(text: &[u8]) -> Content<'_>
     ensures { IsKind (trimmed text.now) result }
 {
@@ -54,7 +54,7 @@ fn kind_of(text: &[u8]) -> Content<'_>
     }
 }
 
-/// Where the byte first stands; the length of the text if it stands nowhere.
+/// The place of the first such byte, from 0; the length of the text if there is none. One search by memchr.
 pub fn end_of(needle: u8, text: &[u8]) -> usize
     ensures place { result ≡ position_or_len (is needle) text.now }
     ensures within { result ≤ length text.now }

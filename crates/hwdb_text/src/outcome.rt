@@ -14,31 +14,31 @@ pub struct Assignment {
     pub line: u32,
     /// The match line.
     pub pattern: Vec<u8>,
-    /// What stands before the first `=` of the property.
+    /// The text before the first `=` of the property.
     pub key: Vec<u8>,
-    /// What stands behind the first `=` of the property.
+    /// The text after the first `=` of the property.
     pub value: Vec<u8>,
     /// The stored path of the file.
     pub path: Vec<u8>,
 }
 
-/// What one property line gives one pattern, as it stands in the bytes of its file.
+/// What one property line gives one pattern, in the bytes of its file.
 #[derive(Clone, Copy, Debug, PartialEq, Eq)]
 pub struct Given<'b> {
     /// The line of the property, from 1.
     pub line: u32,
     /// The match line.
     pub pattern: &'b [u8],
-    /// What stands before the first `=` of the property.
+    /// The text before the first `=` of the property.
     pub key: &'b [u8],
-    /// What stands behind the first `=` of the property.
+    /// The text after the first `=` of the property.
     pub value: &'b [u8],
 }
 
 /// What a file says.
 #[derive(Debug, Drop, PartialEq, Eq)]
 pub struct Parsed {
-    /// By line, and within a line by the place of the match line. Equal ones may stand more than once.
+    /// By line, and within a line by the place of the match line. Equal ones may come more than once.
     pub assignments: Vec<Assignment>,
     /// By line, and then by number.
     pub faults: Vec<Fault>,
@@ -47,7 +47,7 @@ pub struct Parsed {
 /// What a file says, in its own bytes.
 #[derive(Debug, Drop, PartialEq, Eq)]
 pub struct Scanned<'b> {
-    /// By line, and within a line by the place of the match line. Equal ones may stand more than once.
+    /// By line, and within a line by the place of the match line. Equal ones may come more than once.
     pub assignments: Vec<Given<'b>>,
     /// By line, and then by number.
     pub faults: Vec<Fault>,
@@ -56,10 +56,10 @@ pub struct Scanned<'b> {
 /// Why no files are chosen.
 #[derive(Clone, Copy, Debug, Error, PartialEq, Eq)]
 pub enum SelectError {
-    /// More files would be chosen than there are priorities.
+    /// More than 65,535 files would be chosen: there are no more priorities.
     #[error("more than 65535 files")]
     TooManyFiles,
-    /// Memory was refused.
+    /// An allocation failed.
     #[error("out of memory")]
     Memory,
 }
@@ -77,10 +77,10 @@ impl From<AllocError> for SelectError {
 /// Why a file isn't read.
 #[derive(Clone, Copy, Debug, Error, PartialEq, Eq)]
 pub enum ScanError {
-    /// It has more lines than can be numbered.
+    /// It has more than 4,294,967,295 lines: a database has no more numbers for them.
     #[error("a file has more than 4294967295 lines")]
     TooManyLines,
-    /// Memory was refused.
+    /// An allocation failed.
     #[error("out of memory")]
     Memory,
 }

@@ -14,11 +14,11 @@ use crate::outcome::{Assignment, Given, Parsed, ScanError, Scanned};
 use crate::records::Reader;
 use std::alloc::{AllocError, Global};
 
-/// The number of the line behind line `before`, where 0 stands before the first line. Takes no memory.
+/// The number of the line after line `before`, which is 0 before the first line. Takes no memory.
 ///
 /// # Errors
 ///
-/// `TooManyLines` where `before` is 4,294,967,295, the greatest number that a line can have.
+/// `TooManyLines` if `before` is 4,294,967,295, the greatest number that a line can have.
 pub fn next_line(before: u32) -> Result<u32, ScanError>
     ensures next { IfOk result (λ number. number ≡ before + 1) }
     ensures fits { IfOk result (λ number. number ≤ max_lines) }
@@ -34,10 +34,11 @@ pub fn next_line(before: u32) -> Result<u32, ScanError>
 
 /// What a `.hwdb` file says (hwdb(7)), by one pass over its bytes, which it borrows from.
 ///
+/// The memory is a record for each assignment and each fault, and the patterns of one record. An empty file takes none.
+///
 /// # Errors
 ///
-/// `TooManyLines` where the file has more than 4,294,967,295 lines; `Memory` where memory is refused.
-/// An empty file takes no memory.
+/// `TooManyLines` if the file has more than 4,294,967,295 lines; `Memory` at any allocation that fails.
 pub fn scan(alloc: Global, bytes: &[u8]) -> Result<Scanned<'_>, ScanError>
     ensures assignments { IfOk result (λ scanned. (o : Origin)
         → map (given_in o) scanned.assignments.items ≡ Records.assignments o bytes.now) }
@@ -100,12 +101,14 @@ fn copies(
     Ok(copied)
 }
 
-/// What a `.hwdb` file says, as [`scan`] reads it, in copies. `path` is its stored path, `priority` its place among the chosen files.
+/// What a `.hwdb` file says, as [`scan`] reads it, in copies. `path` is its stored path, `priority` its place among the
+/// chosen files.
+///
+/// Each assignment has four texts of its own. An empty file takes no memory.
 ///
 /// # Errors
 ///
-/// `TooManyLines` where the file has more than 4,294,967,295 lines; `Memory` where memory is refused.
-/// An empty file takes no memory.
+/// `TooManyLines` if the file has more than 4,294,967,295 lines; `Memory` at any allocation that fails.
 pub fn parse(alloc: Global, path: &[u8], priority: u16, bytes: &[u8]) -> Result<Parsed, ScanError>
     ensures assignments { IfOk result (λ parsed. map assigned parsed.assignments.items
         ≡ Records.assignments (origin path.now priority) bytes.now) }

@@ -15,7 +15,7 @@ use crate::outcome::{Given, Scanned};
 use hwdb_spec::{Fault, FaultKind};
 use std::alloc::{AllocError, Global};
 
-/// How long a match line may be, in bytes.
+/// The greatest length of a match line, in bytes.
 const LONGEST_MATCH: usize = 4096;
 
 /// What was read last in the block.
@@ -240,7 +240,7 @@ impl<'b> Reader<'b> {
         }
     }
 
-    /// What the file gives, behind its last line. Takes no memory where nothing was read.
+    /// What the file gives, after its last line. If nothing was read, it takes no memory.
     pub fn finish(mut self) -> Result<Scanned<'b>, AllocError>
         ensures assignments { IfOk result (λ scanned. (o : Origin) → (whole : List Lines.Line)
             → Reads o whole [] self.entry

@@ -36,7 +36,7 @@ front5 : (b : List ℕ) (i : ℕ) (n p q r x y : List ℕ) → Stands b i (n ++ 
 front5 b i n p q r x y st =
     stands_front b i n p (stands_front b i (n ++ p) q (stands_front b i (n ++ p ++ q) r (stands_front b i (n ++ p ++ q ++ r) x (stands_front b i (n ++ p ++ q ++ r ++ x) y st))))
 
--- Bytes b of which the string section begins at `strings`, with the table there; fewer than 2 ^ 64.
+-- Bytes b, fewer than 2 ^ 64. Their string section begins at `strings`, with the table there.
 module _ (b : List ℕ) (root strings : ℕ) (table : List (List ℕ)) (o : IsOrdered table) (section : Stands b strings (section_of table)) (small : length b < 2 ^ 64) where
   abbrev L : Layout
   L = sizes root strings

@@ -108,7 +108,7 @@ parts [] n less = absurd (omega (arith, less))
 parts (x ∷ xs) zero less = refl
 parts (x ∷ xs) (suc n) less = ap (λ l. x ∷ l) (parts xs n (omega (arith, less)))
 
--- where two lists part, the less has the less byte
+-- if two lists part, the less has the less byte
 fork_less : (front : List ℕ) (c b : ℕ) (r s : List ℕ) (o : Ordering) → (c ≡ b → ⊥) → ordering_then (slice_cmp nat_cmp (front ++ c ∷ r) (front ++ b ∷ s)) o ≡ Less → c < b
 fork_less [] c b r s o apart e = by (nat_cmp c b) refl e
   where
@@ -360,7 +360,7 @@ next_is es n e less is sorted storable = record {
 pub all_values : (es : List Entry) (n : ℕ) (fs : List Frame) → length es ≤ n → spine_values fs ≡ map placed (take n es) → spine_values fs ≡ map placed es
 all_values es n fs le e = e ∙ ap (map placed) (take_all n es le)
 
--- what a loop reads behind the end
+-- what a loop reads after the end
 abbrev pub blank : Entry
 blank = record {
   pattern = record { ref_ptr = (0, 0); now = [] };

@@ -17,7 +17,7 @@ use Rattle.hwdb_writer.proofs.LengthLemmas.{length-nodes, length-entries}
 use Rattle.hwdb_writer.proofs.MembershipLemmas.{same_refl, same_trans, same_path, same_both, same_swap}
 use Rattle.hwdb_writer.specs.Internal.Membership.{SameMembers}
 
--- one more element of a list, of which something is made piece by piece
+-- one more element of a list, from whose elements something is made piece by piece
 pub made_more : {X A : Type 0} (G : List X → List A) (g : X → List A) (cons : (y : X) (ys : List X) → G (y ∷ ys) ≡ g y ++ G ys) (xs : List X) (i : ℕ) (x : X) → x ≡ get_or xs i x → i < length xs →
     (done next whole : List A) → next ≡ done ++ g x → done ++ G (drop i xs) ≡ whole → next ++ G (drop (i + 1) xs) ≡ whole
 made_more G g cons xs i x is lt done next whole e h =
@@ -234,7 +234,7 @@ module _ (es : List Entry) (ts : List Sub) (n : NodeRecord) (le : n.children ≤
       alone [] e = let c = counted in let d = values_counted most in omega (arith, c, d)
       alone (k ∷ ks) e = absurd (omega (arith, e))
 
--- the trees behind so many of the nodes
+-- the trees after so many of the nodes
 abbrev pub trees_at : List Entry → List NodeRecord → ℕ → List Sub
 trees_at es ns i = trees_after es [] (take i ns)
 
@@ -339,7 +339,7 @@ few_after es ts (x ∷ ns) (suc i) n is lt w h = few_after es (joined es ts x) n
 pub few_at : (es : List Entry) (ns : List NodeRecord) → IsPostOrder es ns → IsNarrow (tree_of es ns) → (i : ℕ) (n : NodeRecord) → n ≡ get_or ns i n → i < length ns → n.children < 256
 few_at es ns p h i n is lt = few_after es [] ns i n is lt p.whole (one_narrow _ p.one h)
 
--- what stands behind the last node
+-- what an index reads after the last node
 abbrev pub no_node : NodeRecord
 no_node = record { byte = 0; prefix = record { ref_ptr = (0, 0); now = [] }; first = 0; count = 0; children = 0 }
 
@@ -433,7 +433,7 @@ pub entries_begin : (es : List Entry) (ns : List NodeRecord) (place : List ℕ �
 unfolding trees_after entries_text
 entries_begin es ns place at = refl
 
--- where the root's record stands
+-- the offset of the root's record
 pub root_at : (es : List Entry) (ns : List NodeRecord) (p : IsPostOrder es ns) (i : ℕ) (d : NodeRecord) → i < length ns → length ns ≤ i + 1 → (from : ℕ) →
     record_at from (tree_of es ns) + (24 + 16 * (get_or ns i d).children + 32 * (get_or ns i d).count) ≡ from + text_size (tree_of es ns)
 root_at es ns p i d lt le from =
@@ -450,7 +450,7 @@ unfolding trees_after
 has_nodes es [] p = absurd (omega (arith, p.one))
 has_nodes es (n ∷ ns) p = omega arith
 
--- the same of the last node by name
+-- as `root_at`, of the last node by name
 pub root_is : (es : List Entry) (ns : List NodeRecord) → IsPostOrder es ns → (n : NodeRecord) → n ≡ get_or ns (length ns - 1) n → (from : ℕ) →
     record_at from (tree_of es ns) + (24 + 16 * n.children + 32 * n.count) ≡ from + text_size (tree_of es ns)
 root_is es ns p n e from =

@@ -1,4 +1,4 @@
--- Strings are compared as their first bytes are, as a number, where these differ.
+-- Strings are compared as their first bytes are, as a number, if these differ.
 use Rattle.std.proofs.Common.{◌≡◌, ◌<◌, ◌≤◌, ℕ, zero, suc, ◌+◌, ◌*◌, ◌^◌, List, [], ◌∷◌, length, get_or, refl, sym, ◌∙◌, ap, subst, arith, Ordering}
 use Rattle.std.specs.declared.cmp.Ordering.TheVariants.{Less, Equal, Greater}
 use Rattle.std.specs.Ordering.{MatchOrdering, nat_cmp, ordering_then, ordering_reverse}
@@ -23,7 +23,7 @@ none : (i n : ℕ) → big_from i n [] ≡ 0
 none i zero = refl
 none i (suc n) = omega (arith, none (suc i) n)
 
--- a greater first byte outweighs all bytes behind it
+-- a greater first byte outweighs all bytes after it
 outweighs : (n x y : ℕ) (xs ys : List ℕ) → AreBytes ys → y < x → big_from 0 (suc n) (x ∷ xs) ≤ big_from 0 (suc n) (y ∷ ys) → ⊥
 outweighs n x y xs ys b lt less =
     let rest : big_from 0 n ys < 256 ^ n = big_from-lt 0 n ys b in

@@ -46,7 +46,7 @@ either (Some x) y = Some x
 abbrev pub is_at : Place → Place → Bool
 is_at q p = eq_by_cmp place_cmp q p
 
--- what stands beside a key
+-- what is assigned to a key
 pub record Assigned : Type 0 where
   pub priority : ℕ
   pub line : ℕ
@@ -198,7 +198,7 @@ fork_off path b d more ne r e =
     let h = cancel path (d ∷ more) (b ∷ r) (e ∙ append_assoc path (b ∷ []) r) in
     ne (cc)
 
--- a place behind a path that goes on is not the path
+-- a path that goes on is not the path
 pub longer : (path : List ℕ) (d : ℕ) (more : List ℕ) → path ++ d ∷ more ≡ path → ⊥
 longer [] d more e = absurd (cc)
 longer (c ∷ path) d more e = longer path d more (cc)

@@ -73,7 +73,7 @@ same_known xs ys i d t e lt is =
     let P : List (List ℕ) → Type 0 = λ zs. Holds zs t in
     same_again ys t (subst P e (subst (Holds xs) is (held_at xs i d lt)))
 
--- a step where the rest is one piece and what is left then
+-- a step, if the rest is one piece and what is left then
 pub same_step : (now next piece left rest whole : List (List ℕ)) → SameMembers next (now ++ piece) → rest ≡ piece ++ left → SameMembers (now ++ rest) whole → SameMembers (next ++ left) whole
 same_step now next piece left rest whole a e b =
     let P : List (List ℕ) → Type 0 = λ z. SameMembers (now ++ z) whole in

@@ -27,7 +27,7 @@ unfolding either
 either_none None y e = e
 either_none (Some x) y e = refl
 
--- a key that begins with a space, and what is behind the space
+-- a key that begins with a space, and what comes after the space
 key_is : (s : List ℕ) → IsSome (key_of s) → (k : List ℕ) × (key_of s ≡ Some k)
 key_is s h = by (key_of s) h
   where
@@ -62,7 +62,7 @@ value_apart c path v vs xs s =
       other = λ r e. absurd (cc);
     }
 
--- what is apart in a child is apart in the node, where the child's byte isn't c
+-- what is apart in a child is apart in the node, if the child's byte isn't c
 child_apart : (c b : ℕ) (path : List ℕ) (prefix : List ℕ) (xs before after : List Entry) → (b ≡ c → ⊥) → Apart 0 ((path ++ b ∷ []) ++ prefix) xs → ((q : Place) (more : List ℕ) → q.0 ≡ path ++ b ∷ more → found q before ≡ None) →
     Apart c path (before ++ (xs ++ after))
 child_apart c b path prefix xs before after ne a none =
@@ -132,11 +132,11 @@ off_prefix q path prefix values ks off =
     ∙ either_second _ _ (values_off q (path ++ prefix) values (off_here _ _ off))
     ∙ off_children q (path ++ prefix) ks off
 
--- two trees give the same
+-- two trees give equal entries at each place
 abbrev Same : List Entry → List Entry → Type 0
 Same xs ys = (q : Place) → found q xs ≡ found q ys
 
--- a prefix that goes on where the other tree's ends, or parts from it
+-- a prefix that goes on after the other tree's end, or parts from it
 parted : (path front : List ℕ) (c : ℕ) (l right : List ℕ) (values : List Value) (ks : Children) (u : Tree) → IsTree u → IsTight u → IsForked u → prefix_of u ≡ front ++ right → Differ (c ∷ l) right →
     Same (values_under path (Node (front ++ c ∷ l) values ks)) (values_under path u) → ⊥
 parted path front c l right values ks u o h f e df same = by right e df
@@ -165,7 +165,7 @@ parted path front c l right values ks u o h f e df same = by right e df
 same_back : (xs ys : List Entry) → Same xs ys → Same ys xs
 same_back xs ys s q = sym (s q)
 
--- so two trees that give the same have one prefix
+-- so two trees that give equal entries have one prefix
 one_prefix : (path p : List ℕ) (vs : List Value) (ks : Children) (q : List ℕ) (ws : List Value) (ls : Children) → IsTree (Node p vs ks) → IsTight (Node p vs ks) → IsForked (Node p vs ks) → IsTree (Node q ws ls) → IsTight (Node q ws ls) → IsForked (Node q ws ls) →
     Same (values_under path (Node p vs ks)) (values_under path (Node q ws ls)) → p ≡ q
 unfolding prefix_of
@@ -249,7 +249,7 @@ only_here path v vs w ws h lt b same =
     let s = same k.0 in
     cc
 
--- lists of values that give the same at each key
+-- lists of values that give equal entries at each key
 one_values : (path : List ℕ) (c d : Option (List ℕ)) (vs ws : List Value) → AllKeys vs → AllKeys ws → KeysAscend c vs → KeysAscend d ws → ((k : List ℕ) → found (path, k) (vals path vs) ≡ found (path, k) (vals path ws)) → vs ≡ ws
 one_values path c d [] [] h g a b same = refl
 one_values path c d [] (w ∷ ws) h g a b same =

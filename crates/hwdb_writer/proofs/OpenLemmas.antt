@@ -53,12 +53,12 @@ last_is xs x rest e = record {
   back = reverse-reverse rest;
 }
 
--- a node that stands for a frame has its tree
+-- the node of a frame has the frame's tree
 tree_of_frame : (es : List Entry) (n : NodeRecord) (f : Frame) → n.byte ≡ f.byte → n.prefix.now ≡ f.prefix → values_at es n ≡ f.values →
     ◌≡◌ {A = Sub} (n.byte, Node n.prefix.now (values_at es n) (children_in f.done)) (f.byte, node_of f)
 tree_of_frame es n f b p v = λ i. (b i, Node (p i) (v i) (children_in f.done))
 
--- a node is closed behind others
+-- a node is closed after others
 pub record Grown (es : List Entry) (new : List NodeRecord) (made : List Sub) : Type 0 where
   pub whole : AreWhole es [] new
   pub trees : trees_after es [] new ≡ made
@@ -227,7 +227,7 @@ few_children es b fs is above g e =
     let k = count-in a.h.done in
     omega (arith, n, c, k)
 
--- where the path of the lowest ends
+-- the end of the lowest one's path
 pub lowest_end : (es : List Entry) (b : Builder) (fs : List Frame) → IsOpen es b fs → b.top.end ≡ length (full_path fs)
 lowest_end es b [] is = absurd is.standing
 lowest_end es b (f ∷ fs) is = is.standing.1

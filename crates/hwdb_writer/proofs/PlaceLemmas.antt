@@ -1,4 +1,4 @@
--- Where the strings of a table stand.
+-- The offsets of the strings of a table.
 use Rattle.std.proofs.Common.{◌≡◌, ◌≤◌, ◌<◌, ℕ, zero, suc, ◌+◌, ◌-◌, ◌^◌, List, [], ◌∷◌, ◌++◌, length, get_or, drop, min, refl, sym, ◌∙◌, ap, arith, add-one, Ordering, Some, None, length-append, append_assoc, Ok, Err}
 use Rattle.std.proofs.Math.Seq.{drop-cons}
 use Rattle.std.proofs.lemmas.List.{drop_all}
@@ -18,7 +18,7 @@ use Rattle.hwdb_writer.proofs.DistinctLemmas.{IsOrdered}
 pub length-section : (s : List ℕ) (ss : List (List ℕ)) → length (section_of (s ∷ ss)) ≡ length s + 1 + length (section_of ss)
 length-section s ss = length-append (ended s) (section_of ss) ∙ ap (λ n. n + length (section_of ss)) (length-append s (0 ∷ []))
 
--- what a loop reads behind the end
+-- what a loop reads after the end
 abbrev pub nothing : List ℕ
 nothing = []
 
@@ -110,7 +110,7 @@ among t [] i lt a = absurd (omega (arith, lt))
 among t (x ∷ xs) zero lt a = a.0
 among t (x ∷ xs) (suc i) lt a = among t xs i (omega (arith, lt)) a.1
 
--- the place of a string that stands at i
+-- the offset of the string at i
 pub place_at : (from : ℕ) (xs : List (List ℕ)) (k : List ℕ) (i : ℕ) → i < length xs → text_in xs i ≡ k → IsOrdered xs → get_or (starts_from from xs) i 0 ≡ place_of from xs k
 unfolding starts_from place_of IsStrictlySortedBy
 place_at from [] k i lt e o = absurd (omega (arith, lt))

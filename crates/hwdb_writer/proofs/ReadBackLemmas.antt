@@ -18,7 +18,7 @@ use Rattle.hwdb_writer.specs.Internal.Membership.{Holds}
 use Rattle.hwdb_writer.specs.Internal.Storable.{HasNoZero}
 use Rattle.hwdb_writer.proofs.DistinctLemmas.{IsOrdered}
 
--- the text stands in b at i
+-- the text is in b at i
 pub record Stands (b : List ℕ) (i : ℕ) (text : List ℕ) : Type 0 where
   pub rest : List ℕ
   pub is : drop i b ≡ text ++ rest
@@ -67,7 +67,7 @@ byte_read b i c ys s = get-drop b i ∙ ap (λ z. get_or z 0 0) s.is
 not_zero : (c : ℕ) → 0 < c → not (c == 0) ≡ true
 not_zero c lt = grind (arith, nat_tests)
 
--- a string without byte 0 ends where the next byte 0 stands
+-- a string without byte 0 ends at the next byte 0
 cut : (s rest : List ℕ) → HasNoZero s → take_while (λ x. not (x == 0)) (s ++ 0 ∷ rest) ≡ s
 cut [] rest n = take_while-cons (λ x. not (x == 0)) 0 rest
 cut (c ∷ s) rest n =
@@ -81,7 +81,7 @@ above : (t : List ℕ) (ts : List (List ℕ)) (s : List ℕ) → AllByRecursion 
 above t [] s a h = absurd h
 above t (u ∷ us) s a h = ⊎_elim {C = slice_cmp nat_cmp t s ≡ Less} (λ e. ap (slice_cmp nat_cmp t) e ∙ a.0) (λ r. above t us s a.1 r) h
 
--- each string of an ascending table stands at its place
+-- each string of an ascending table is at its place
 place_step : (b : List ℕ) (from : ℕ) (t : List ℕ) (ts : List (List ℕ)) (s : List ℕ) (r : Ordering) → slice_cmp nat_cmp s t ≡ r → AllByRecursion (λ y. slice_cmp nat_cmp t y ≡ Less) ts → Holds (t ∷ ts) s → Stands b from (section_of (t ∷ ts)) →
     (Holds ts s → Stands b (from + length t + 1) (section_of ts) → Stands b (place_of (from + length t + 1) ts s) (ended s)) →
     Stands b (by_order r from from (place_of (from + length t + 1) ts s)) (ended s)

@@ -1,4 +1,4 @@
--- A node's record, behind those of the nodes before it.
+-- A node's record, after those of the nodes before it.
 use Rattle.std.proofs.Common.{◌≡◌, ◌≤◌, ◌<◌, ℕ, ◌+◌, ◌-◌, ◌*◌, ◌^◌, List, [], ◌∷◌, ◌++◌, map, length, get_or, take, drop, refl, sym, ◌∙◌, ap, subst, arith, length-append}
 use Rattle.std.proofs.Math.Seq.{take-append_seam, drop-append_seam}
 use Rattle.std.proofs.lemmas.List.{length-map, length-take-le, length-drop, get_or_default}
@@ -17,7 +17,7 @@ use Rattle.hwdb_writer.specs.Internal.Stored.{IsUnder, IsAt, IsValue, AreValues,
 use Rattle.hwdb_writer.proofs.EmissionLemmas.{trees_at, no_node, fits_here, few_here, roomy_here, texts_step, entries_step, texts_begin, entries_begin, texts_end, root_is, has_nodes}
 use Rattle.hwdb_writer.proofs.StoredLemmas.{pairs_length, pairs_at, pairs_take, pairs_drop, values_left, placed_at, nodes_by, values_by}
 
--- what stands there once so many nodes have their records
+-- what there is once so many nodes have their records
 pub record AreDone (place : List ℕ → ℕ) (places : List ℕ) (es : List Entry) (ns : List Node) (i : ℕ) (old out ch : List ℕ) (rest : List StoredValue) : Type 0 where
   pub texts : out ≡ old ++ nodes_text place (length old) (children_in (trees_at es ns i))
   pub entries : ch ≡ entries_text place (length old) (children_in (trees_at es ns i))
@@ -110,7 +110,7 @@ all_done place places es ns ss vs r i le old out ch rest done =
     let long = pairs_length (IsNode (IsAt place places)) ss ns r.nodes in
     done.texts ∙ ap (λ l. old ++ l) (texts_end es ns r.order i (omega (arith, long, le)) place (length old))
 
--- where the root's record stands, by the last of the nodes
+-- the offset of the root's record, by the last of the nodes
 pub root_at_end : (place : List ℕ → ℕ) (places : List ℕ) (es : List Entry) (ns : List Node) (ss : List StoredNode) → IsPostOrder es ns → AreNodes (IsAt place places) ss ns → (s : StoredNode) → 0 < length ss → s ≡ get_or ss (length ss - 1) s → (from : ℕ) →
     record_at from (tree_of es ns) + (24 + 16 * s.children + 32 * s.count) ≡ from + text_size (tree_of es ns)
 root_at_end place places es ns ss order p s some e from =
@@ -128,7 +128,7 @@ some_node place places es ns ss order p =
     let some = has_nodes es ns order in
     omega (arith, long, some)
 
--- what a database is made of, where each part has the value that it was given
+-- what a database is made of, if each part has the value that it was given
 pub laid_out : (es : List Entry) (ns : List Node) (s : Stored) → IsStored es ns s → IsNarrow (tree_of es ns) → (ss : List StoredNode) (vs : List StoredValue) (read words : List (List ℕ)) (places : List ℕ) (size section : ℕ) →
     ss ≡ s.nodes.items → vs ≡ s.values.items → read ≡ table_of (tree_of es ns) → words ≡ table_of (tree_of es ns) → places ≡ map (place_of (80 + size) read) s.interner.words.items → size ≡ text_size (tree_of es ns) →
     section ≡ length (section_of (table_of (tree_of es ns))) → 80 + size + section < 2 ^ 64 → IsLaidOut es ns ss vs words places size section

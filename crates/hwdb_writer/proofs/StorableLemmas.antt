@@ -6,7 +6,7 @@ use Rattle.hwdb_writer.specs.Internal.Storable.{IsStorableValue, HasNoZero, IsTe
 use Rattle.hwdb_writer.specs.Internal.Entries.{IsStorableEntry}
 use Rattle.hwdb_writer.specs.declared.entries.Entry.{Entry}
 
--- bytes of which none is 0
+-- bytes without a 0
 pub is_text : (xs : List ℕ) → HasNoZero xs → ((i : ℕ) → get_or xs i 0 < 256) → IsText xs
 is_text [] n b = tt
 is_text (x ∷ xs) n b = (n.0, b 0, is_text xs n.1 (λ i. b (suc i)))

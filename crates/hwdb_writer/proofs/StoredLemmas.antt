@@ -77,7 +77,7 @@ last_under old new s n e l =
 pub under_same : (words : List (List ℕ)) (n : ℕ) (s t : List ℕ) → s ≡ t → IsUnder words n s → IsUnder words n t
 under_same words n s t e u = subst (IsUnder words n) e u
 
--- by other things that numbers stand for
+-- by another meaning of numbers
 pub values_by : (By To : ℕ → List ℕ → Type 0) → ((n : ℕ) (s : List ℕ) → By n s → To n s) → (vs : List StoredValue) (xs : List Value) → AreValues By vs xs → AreValues To vs xs
 values_by By To f vs xs p =
     pairs_map (IsValue By) (IsValue To) (λ v x h. record { key = f _ _ h.key; value = f _ _ h.value; path = f _ _ h.path; line = h.line; priority = h.priority }) vs xs p
@@ -121,6 +121,6 @@ found_under words known n s e lt is =
 pub again : (words : List (List ℕ)) (n : ℕ) (s : List ℕ) → IsUnder words n s → SameMembers words (words ++ s ∷ [])
 again words n s u = same_known words words n [] s refl u.known u.is
 
--- what stands behind the last value
+-- what an index reads after the last value
 abbrev pub no_value : Value
 no_value = record { priority = 0; line = 0; key = []; value = []; path = [] }

@@ -1,4 +1,7 @@
 //! The assignments, seen as a finite map.
+//!
+//! It is a list, in the order in which they were set, and no map. Setting is one push, and the list is sorted once,
+//! when the database is made. The price is that an assignment which a later one replaces takes memory until then.
 ghost use Rattle.std.specs.Prelude.{◌≡◌};
 ghost use Rattle.hwdb_writer.specs.Internal.Storable.{HasNoZero, IsText};
 
@@ -7,14 +10,15 @@ use hwdb_text::{Assignment, Given};
 use std::alloc::{AllocError, Global};
 use std::marker::Model;
 
-/// The assignments, by pattern and key: from these to priority, line, value and path. Their texts stay where they are.
+/// The assignments, by pattern and key: from these to priority, line, value and path. Their texts are borrowed, not
+/// copied.
 #[derive(Drop)]
 pub struct Tree<'t> {
     /// What was set, one after another.
     pub(crate) entries: Vec<Entry<'t>>,
 }
 
-/// The same bytes, of which none is 0.
+/// These bytes, none of them 0.
 fn text_of(bytes: &[u8]) -> &[u8]
     requires { HasNoZero bytes.now }
     ensures same { result.now ≡ bytes.now }
@@ -56,7 +60,7 @@ impl<'t> Tree<'t> {
         }
     }
 
-    /// A copy.
+    /// A copy of the list. The texts stay borrowed.
     pub fn copied(&self, alloc: Global) -> Result<Tree<'t>, AllocError>
         ensures { IfOk result (λ tree. tree ≡ self.now) }
     {
@@ -65,10 +69,11 @@ impl<'t> Tree<'t> {
         })
     }
 
-    /// Sets the map at one place, the pattern and the key of what a file with this priority and this stored path gives. The
-    /// last that is set there stays.
+    /// Sets the map at one place: the pattern and the key of what a file with this priority and this stored path gives.
+    /// The last that is set there stays.
     ///
-    /// Patterns have at most 4,096 bytes. Where memory is refused, the map is what it was.
+    /// Patterns have at most 4,096 bytes. Takes a fixed number of steps, on average over the calls. The only error is
+    /// `AllocError`: after it the map is what it was.
     pub fn set(&mut self, priority: u16, path: &'t [u8], given: Given<'t>) -> Result<(), AllocError>
         requires short { length given.pattern.now ≤ max_pattern }
         requires pattern { HasNoZero given.pattern.now }
@@ -92,9 +97,9 @@ impl<'t> Tree<'t> {
         Ok(())
     }
 
-    /// Sets the map at one place, the assignment's pattern and key. The last assignment put there stays.
+    /// Sets the map at one place: the assignment's pattern and key. The last assignment put there stays.
     ///
-    /// Patterns have at most 4,096 bytes. Where memory is refused, the map is what it was.
+    /// As [`Tree::set`], of an assignment by itself.
     pub fn put(&mut self, a: &'t Assignment) -> Result<(), AllocError>
         requires short { length a.now.pattern.items ≤ max_pattern }
         requires pattern { HasNoZero a.now.pattern.items }

@@ -1,5 +1,17 @@
-//! The nodes of the tight tree of entries in order, made from the left to the right: what is open is the path to the pattern
-//! that was added last (the builder of BurntSushi's fst).
+//! The nodes of the tight tree of entries in order, made from the left to the right (the builder of BurntSushi's fst).
+//!
+//! A tight tree has a node at each place at which patterns part or end, and at no other. A map has one such tree at
+//! most, so that its database is one byte string. As the entries are sorted, nothing to the left of the last pattern
+//! changes any more. So open are only the nodes on the path to that pattern. The next pattern shares a beginning with
+//! it. What is below that beginning is closed. A node that the beginning ends inside is cut in two.
+//!
+//! The closed nodes come in the order of the database, each after its children. So the file is written in one pass, and
+//! no node is moved. Each pattern is compared with the one before it, and each node is opened once and closed once. So
+//! the time is that of one look at the patterns' bytes.
+//!
+//! The memory is a list of nodes of a fixed size. A node borrows its bytes from a pattern, and its values are a range
+//! of the entries. The open nodes are on a stack of their own, not the thread's: long patterns need no deep recursion.
+//! The price is the sort before it, and that no pattern can be added later.
 ghost use Rattle.std.specs.Prelude.{◌≡◌, ◌≤◌, ◌<◌, ◌++◌, ◌∷◌, [], ◌+◌, ◌-◌, ◌^◌, List, ℕ, length, map, take, drop, reverse, slice_index, All, IfOk, OnOk};
 ghost use Rattle.std.specs.Bool.{OnTrue, OnFalse};
 ghost use Rattle.std.specs.List.{AllByRecursion};
@@ -17,7 +29,7 @@ use crate::nodes::Node;
 use byteorder::{BigEndian, ByteOrder};
 use std::alloc::{AllocError, Global};
 
-/// A node that isn't closed yet, and where its path ends in the pattern that was added last.
+/// A node that isn't closed yet, and the length of its path in the pattern that was added last.
 #[derive(Clone, Copy)]
 struct Open<'t> {
     node: Node<'t>,
@@ -29,18 +41,18 @@ struct Open<'t> {
 struct Builder<'t> {
     /// The pattern that was added last.
     path: &'t [u8],
-    /// The node where that pattern ends.
+    /// The node at the end of that pattern.
     top: Open<'t>,
     /// The nodes above it, from the root on.
     above: Vec<Open<'t>>,
-    /// The nodes that are closed, each behind its children.
+    /// The nodes that are closed, each after its children.
     closed: Vec<Node<'t>>,
 }
 
 /// How many bytes are compared at once, as one number.
 const WORD: usize = 8;
 
-/// Whether both, of eight bytes each, are the same.
+/// Whether both, of eight bytes each, are equal.
 fn same_words(a: &[u8], b: &[u8]) -> bool
     requires first { length a.now ≡ 8 }
     requires second { length b.now ≡ 8 }
@@ -92,7 +104,7 @@ impl<'t> Builder<'t> {
         }
     }
 
-    /// Closes the top node: it is one more child of the node above it, which is the top node then.
+    /// Closes the top node: it is one more child of the node above it, which then is the top node.
     fn close(&mut self) -> Result<(), AllocError>
         requires few { (above : List OpenRecord) (g : OpenRecord)
             → self.old.above.items ≡ above ++ g ∷ [] → g.node.children < 256 }
@@ -106,8 +118,8 @@ impl<'t> Builder<'t> {
         Ok(())
     }
 
-    /// Cuts the top node where its path has so many bytes: what is behind the byte there is a closed node, the only child
-    /// of the node that is left.
+    /// Cuts the top node after so many bytes of its path. The rest from the next byte on is a closed node, the only
+    /// child of the node that is left.
     fn cut(&mut self, at: usize) -> Result<(), AllocError>
         requires inside { at < self.old.top.end }
         requires prefix { self.old.top.end ≤ at + length self.old.top.node.prefix.now }
@@ -169,7 +181,8 @@ impl<'t> Builder<'t> {
         Ok(())
     }
 
-    /// Opens a node below the top node, where the path of that one ends in the pattern. Its values begin with this entry.
+    /// Opens a node below the top node, for the rest of the pattern after the top node's path. Its values begin with
+    /// this entry.
     fn open(&mut self, pattern: &'t [u8], first: usize) -> Result<(), AllocError>
         requires { self.old.top.end < length pattern.now }
         ensures { OnOk result (Opens pattern.now first self.old self.new) }
@@ -222,8 +235,10 @@ impl<'t> Builder<'t> {
     }
 }
 
-/// The nodes of the tree of the entries, each behind its children. The entries stand in order, and no two have one pattern
+/// The nodes of the tree of the entries, each after its children. The entries are in order, and no two have one pattern
 /// and one key.
+///
+/// One pass over the entries' patterns. The only error is `AllocError`.
 pub fn post_order<'t>(alloc: Global, entries: &[Entry<'t>]) -> Result<Vec<Node<'t>>, AllocError>
     requires ascending { IsStrictlySortedBy by_place entries.now }
     requires storable { AllByRecursion IsStorableEntry entries.now }

@@ -11,7 +11,7 @@ ghost use Rattle.std.specs.List.{AllByRecursion};
 use std::alloc::AllocError;
 use std::cmp::Ordering;
 
-/// An assignment that was set. Its texts stand in the bytes of its file, and its path where the caller has it.
+/// An assignment that was set. Its texts are borrowed from the bytes of its file, and its path from the caller.
 #[derive(Clone, Copy)]
 pub struct Entry<'t> {
     pub pattern: &'t [u8],
@@ -22,7 +22,7 @@ pub struct Entry<'t> {
     pub priority: u16,
 }
 
-/// Entries are alike where they have one pattern and one key.
+/// Entries are alike if they have one pattern and one key.
 impl<'t> PartialEq for Entry<'t> {
     ghost eq = { eq_by_cmp by_place };
 
@@ -66,6 +66,9 @@ impl<'t> Ord for Entry<'t> {
 }
 
 /// The entries by pattern and key; of those with one pattern and key the last. It takes the entries as they were set.
+///
+/// Reversed first, so that a stable sort has the last one of each pattern and key in front, and the others are left
+/// out.
 pub fn last_of_each(all: Vec<Entry<'_>>) -> Result<Vec<Entry<'_>>, AllocError>
     ensures ascending { IfOk result (λ v. IsStrictlySortedBy by_place v.items) }
     ensures storable { AllByRecursion IsStorableEntry all.entry.items

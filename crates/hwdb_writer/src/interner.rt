@@ -1,5 +1,8 @@
-//! Strings by number (an interner): each that comes has the number of an equal one that came before, where that one is
+//! Strings by number (an interner): each that comes has the number of an equal one before it, if that one is
 //! remembered.
+//!
+//! What is forgotten gets a second number, which costs a little memory. In return the registry has a fixed size, and a
+//! string is compared with at most two others. The contract says only that a string's number gives that string.
 ghost use Rattle.std.specs.Prelude.{◌≡◌, ◌++◌, ◌∷◌, [], IfOk, OnOk, IfSome};
 ghost use Rattle.std.specs.Bool.{OnTrue};
 ghost use Rattle.hwdb_writer.specs.Internal.Membership.{SameMembers};
@@ -9,7 +12,7 @@ use crate::keyed::KeyedStr;
 use crate::registry::Registry;
 use std::alloc::{AllocError, Global};
 
-/// The strings so far, each under its place in the list. A string can stand there more than once.
+/// The strings so far, each at its number. A string can be there more than once.
 #[derive(Drop)]
 pub struct Interner<'t> {
     pub words: Vec<KeyedStr<'t>>,
@@ -62,7 +65,7 @@ impl<'t> Interner<'t> {
         Ok(number)
     }
 
-    /// The number of the string, which is added where none like it is remembered.
+    /// The number of the string, which is added if none like it is remembered.
     pub fn intern(&mut self, word: KeyedStr<'t>) -> Result<usize, AllocError>
         ensures grows { OnOk result (Grows self.old.words.items self.new.words.items) }
         ensures members { OnOk result (SameMembers self.new.words.items

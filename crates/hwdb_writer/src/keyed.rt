@@ -1,4 +1,7 @@
-//! A string that is ordered by its bytes, with its first eight as one number that is compared first.
+//! A string that is ordered by its bytes, with its first eight bytes as one number that is compared first.
+//!
+//! Most comparisons of a sort are decided by that number, without a look at the text, which is elsewhere in memory. A
+//! key is stored with a space before it. It is kept as the text and a mark, so that no copy with a space is made.
 ghost use Rattle.std.specs.Prelude.{◌≡◌, ◌∷◌, ◌++◌, ◌-◌, ◌^◌, ℕ, List, Some, OnOk, length, min, nat_eq, refl};
 ghost use Rattle.std.specs.Ordering.{nat_cmp};
 ghost use Rattle.std.specs.Cmp.{partial_equiv_from_equiv};
@@ -12,11 +15,11 @@ use std::alloc::AllocError;
 use std::cmp::Ordering;
 use std::marker::Model;
 
-/// How many bytes stand beside a string as a number.
+/// How many of a string's first bytes are kept beside it as a number.
 const HEAD: usize = 8;
 
-/// A string: a text, or a space and a text. Its first eight bytes stand beside it as a number, so that few comparisons look
-/// at the text.
+/// A string: a text, or a space and a text. Its first eight bytes are beside it as a number, so that few comparisons
+/// look at the text.
 #[derive(Drop)]
 pub struct KeyedStr<'t> {
     head: u64,
@@ -52,7 +55,7 @@ fn head_of(text: &[u8]) -> u64
 /// What a space counts as the first of eight bytes.
 const SPACE: u64 = 0x2000_0000_0000_0000;
 
-/// The same of a space and a text.
+/// As `head_of`, of a space and a text.
 fn spaced_head_of(text: &[u8]) -> u64
     ensures { result ≡ big_number 8 (32 ∷ text.now) }
 {
@@ -82,7 +85,7 @@ impl<'t> KeyedStr<'t> {
         }
     }
 
-    /// The same string.
+    /// This string once more: the text stays borrowed.
     pub fn copied(&self) -> KeyedStr<'t>
         ensures { result ≡ self.now }
     {
@@ -93,7 +96,7 @@ impl<'t> KeyedStr<'t> {
         }
     }
 
-    /// A number made of its first, middle and last bytes. Equal strings have one number; others can.
+    /// A number made of its first, middle and last bytes. Equal strings have one number, and so can different ones.
     pub fn number(&self) -> u64 {
         let text = self.text;
         let last = text.len().saturating_sub(8);
@@ -107,7 +110,7 @@ impl<'t> KeyedStr<'t> {
         number.wrapping_mul(FACTOR)
     }
 
-    /// How long it is, or the greatest number where it is longer.
+    /// Its length in bytes, or the greatest number if it is longer.
     pub fn len(&self) -> usize
         ensures { result ≡ min (length self.now) (2 ^ 64 - 1) }
     {

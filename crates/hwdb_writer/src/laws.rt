@@ -1,4 +1,4 @@
-//! Laws of the written form. The functions hold no code: each is a law, its contract.
+//! Laws of the written form. The functions hold no code: the contract of each is a law.
 ghost use Rattle.std.specs.Prelude.{◌≡◌, ℕ, List};
 ghost use Rattle.hwdb_spec.specs.Tree.{Map, Tree};
 ghost use Rattle.hwdb_spec.specs.Written.{IsTightTree, IsWritten};

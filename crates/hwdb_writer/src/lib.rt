@@ -1,7 +1,11 @@
 //! The back end of the compiler: assignments put in any order, and the database of their map.
 //!
-//! A `Tree` holds assignments by pattern and key; `put` sets one place. `write` gives the one byte
-//! string that the layout and the map determine, whatever order the assignments were put in.
+//! A `Tree` holds assignments by pattern and key; `put` sets one place. `write` gives the one byte string that the
+//! layout (`hwdb-internal.h`) and the map determine, whatever order the assignments were put in.
+//!
+//! The steps of a database, each a module: `assignments` are sorted by `entries`. `builder` makes `nodes` of them.
+//! `stored` puts the numbers of an `interner` in place of texts. `strings` sorts these and places them. `records` and
+//! `output` write the bytes.
 #![tactic(auto)]
 
 mod assignments;

@@ -1,8 +1,8 @@
-//! The nodes of a tree, each behind its children.
+//! The nodes of a tree, each after its children.
 ghost use Rattle.std.specs.Prelude.{◌≡◌};
 
-/// A node, in a list in which each stands behind its children: the byte that it stands under, what follows it, its values
-/// by key, which are so many of the entries from the first on, and how many children it has.
+/// A node, in a list in which each comes after its children. It has the byte that leads to it, and the bytes after that
+/// one. Its values, by key, are `count` of the entries from `first` on.
 #[derive(Clone, Copy)]
 pub struct Node<'t> {
     pub byte: u8,

@@ -29,7 +29,7 @@ pub enum StoreError {
     /// The database would have more bytes than the limit.
     #[error("the database would be larger than the limit")]
     TooLarge,
-    /// Memory was refused.
+    /// An allocation failed.
     #[error("out of memory")]
     Memory,
 }
@@ -42,7 +42,7 @@ impl From<AllocError> for StoreError {
     }
 }
 
-/// The version of the tool that the header names.
+/// The version of the tool in the header: our choice.
 const TOOL_VERSION: usize = 1;
 
 /// Appends numbers, each in 8 bytes.
@@ -66,7 +66,7 @@ fn push_strings(out: &mut Vec<u8>, words: &[KeyedStr<'_>]) -> Result<(), AllocEr
     Ok(())
 }
 
-/// Where the root's record stands, in a nodes section of so many bytes.
+/// The offset of the root's record, after a nodes section of so many bytes.
 fn root_place(nodes: &[StoredNode], size: usize) -> usize
     requires { (place : List ℕ → ℕ) × (places : List ℕ) × (es : List Entry) × (ns : List Node)
         × IsPostOrder es ns × AreNodes (IsAt place places) nodes.now ns
@@ -81,7 +81,8 @@ fn root_place(nodes: &[StoredNode], size: usize) -> usize
     }
 }
 
-/// The database of the nodes, whose values, strings in order, places of strings and parts are these and so long.
+/// The database of the nodes, with these values, strings in order and places of strings. The nodes section has `size`
+/// bytes, and the string section `section`.
 fn database(
     alloc: Global,
     nodes: &[StoredNode],
@@ -109,7 +110,8 @@ fn database(
     Ok(out)
 }
 
-/// The database of the nodes, if it has at most so many bytes. It lets go of what it is made of.
+/// The database of the nodes, if it has at most so many bytes. It consumes what it is made of, and frees each part
+/// early.
 fn database_within(
     alloc: Global,
     stored: Stored<'_>,
@@ -137,7 +139,7 @@ fn database_within(
     Ok(Some(bytes))
 }
 
-/// The nodes of the tight tree of what was set, with strings by number. It lets go of what was set.
+/// The nodes of the tight tree of what was set, with strings by number. It consumes the tree, and frees what was set.
 fn stored_nodes<'t>(alloc: Global, tree: Tree<'t>) -> Result<Stored<'t>, AllocError>
     ensures { IfOk result (λ s. (es : List Entry) × (ns : List Node) × IsStored es ns s
         × IsMade tree.entry (tree_of es ns)) }
@@ -147,19 +149,19 @@ fn stored_nodes<'t>(alloc: Global, tree: Tree<'t>) -> Result<Stored<'t>, AllocEr
     store(alloc, &entries, &nodes)
 }
 
-/// The database of the tree's map, of at most `max_bytes` bytes. It lets go of the tree, so that it takes less memory than
-/// [`write`].
+/// The database of the tree's map, of at most `max_bytes` bytes. It consumes the tree, so that it takes less memory
+/// than [`write`].
 ///
-/// For n assignments it takes some n log n comparisons of strings, and beyond these time in proportion to n and to the bytes of
-/// their texts and of the database. Their texts are copied into the database alone: beside it, it takes memory in proportion
-/// to n, however long they are.
+/// For n assignments it takes some n log n comparisons of strings. Beyond these the time is in proportion to n, and to
+/// the bytes of their texts and of the database. Their texts are copied into the database alone. So the memory beside
+/// it is in proportion to n, however long they are.
 ///
-/// Refuses with `TooLarge` where the database is longer, and with `Memory`.
+/// The errors are `TooLarge` if the database would be longer, and `Memory` at any allocation that fails.
 pub fn into_database(alloc: Global, tree: Tree<'_>, max_bytes: u32) -> Result<Vec<u8>, StoreError>
     // The bytes are the written form of the map, which is a database of a tree with that map.
     ensures written { IfOk result (λ v. IsWritten tree.entry v.items) }
     ensures database { IfOk result (λ v. IsDatabaseOf tree.entry v.items) }
-    // They are as few as that, and are refused as too many only where they would be more.
+    // They are no more than that, and `TooLarge` is answered only if they would be more.
     ensures within { IfOk result (λ v. length v.items ≤ max_bytes) }
     ensures too_large { IsErrOf result StoreError.TooLarge → IsLonger tree.entry max_bytes }
 {
@@ -170,14 +172,15 @@ pub fn into_database(alloc: Global, tree: Tree<'_>, max_bytes: u32) -> Result<Ve
     }
 }
 
-/// The database of the tree's map, of at most `max_bytes` bytes.
+/// The database of the tree's map, of at most `max_bytes` bytes. The tree stays: this is [`into_database`] of a copy of
+/// its list.
 ///
-/// Refuses with `TooLarge` where the database is longer, and with `Memory`.
+/// The errors are `TooLarge` if the database would be longer, and `Memory` at any allocation that fails.
 pub fn write(alloc: Global, tree: &Tree<'_>, max_bytes: u32) -> Result<Vec<u8>, StoreError>
     // The bytes are the written form of the map, which is a database of a tree with that map.
     ensures written { IfOk result (λ v. IsWritten tree.now v.items) }
     ensures database { IfOk result (λ v. IsDatabaseOf tree.now v.items) }
-    // They are as few as that, and are refused as too many only where they would be more.
+    // They are no more than that, and `TooLarge` is answered only if they would be more.
     ensures within { IfOk result (λ v. length v.items ≤ max_bytes) }
     ensures too_large { IsErrOf result StoreError.TooLarge → IsLonger tree.now max_bytes }
 {

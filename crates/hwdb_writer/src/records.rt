@@ -1,4 +1,4 @@
-//! The numbers and records of the nodes section, lowest byte first.
+//! The numbers and records of the nodes section, lowest byte first, as in `hwdb-internal.h`.
 ghost use Rattle.std.specs.Prelude.{◌≡◌, ◌≤◌, ◌<◌, ◌++◌, ◌∷◌, ◌+◌, ◌*◌, ◌-◌, ◌^◌, List, ℕ, OnOk, length, min, take, drop, flat_map, slice_index_or};
 ghost use Rattle.byteorder.specs.Endian.{little_bytes};
 ghost use Rattle.hwdb_spec.specs.Tree.{Value};
@@ -15,13 +15,13 @@ use std::alloc::{AllocError, Global};
 /// How long the header is, in bytes.
 pub const HEADER_SIZE: usize = 80;
 
-/// How long a node is, without its entries.
+/// How long a node is, in bytes, without its entries.
 pub const NODE_SIZE: usize = 24;
 
-/// How long a child entry is.
+/// How long a child entry is, in bytes.
 pub const CHILD_SIZE: usize = 16;
 
-/// How long a value entry is.
+/// How long a value entry is, in bytes.
 pub const VALUE_SIZE: usize = 32;
 
 /// Appends a number in 8 bytes.
@@ -51,7 +51,7 @@ pub fn push_u16(out: &mut Vec<u8>, n: u16) -> Result<(), AllocError>
     out.extend_from_slice(&bytes)
 }
 
-/// Appends the fixed fields of a node: where its prefix stands, and how many entries follow.
+/// Appends the fixed fields of a node: the offset of its prefix, and how many entries follow.
 pub fn push_node(
     out: &mut Vec<u8>,
     prefix: usize,
@@ -68,7 +68,7 @@ pub fn push_node(
     push_u64(out, values)
 }
 
-/// Appends a child entry: the child's byte, and where its record stands.
+/// Appends a child entry: the child's byte, and the offset of its record.
 pub fn push_child(entries: &mut Vec<u8>, byte: u8, place: usize) -> Result<(), AllocError>
     ensures { OnOk result
         (entries.new.items ≡ entries.old.items ++ (byte ∷ padding 7 ++ little_bytes 8 place)) }
@@ -86,7 +86,7 @@ pub fn push_rest(out: &mut Vec<u8>, bytes: &[u8], from: usize) -> Result<(), All
     out.extend_from_slice(&bytes[from..])
 }
 
-/// How long a record with so many entries is, or the greatest number where it is longer.
+/// The length in bytes of a record with so many entries, or the greatest number if it is longer.
 pub fn record_length(children: usize, values: usize) -> usize
     ensures { result ≡ min (24 + 16 * children + 32 * values) (2 ^ 64 - 1) }
 {
@@ -95,7 +95,7 @@ pub fn record_length(children: usize, values: usize) -> usize
     children.saturating_add(values).saturating_add(NODE_SIZE)
 }
 
-/// How long the records of the nodes are, or the greatest number where they are longer.
+/// The length in bytes of the records of the nodes, or the greatest number if they are longer.
 pub fn text_length(nodes: &[StoredNode]) -> usize
     ensures { (words : List (List ℕ)) (es : List Entry) (ns : List Node) → IsPostOrder es ns
         → AreNodes (IsUnder words) nodes.now ns
@@ -117,7 +117,7 @@ fn push_place(places: &[usize], number: usize, out: &mut Vec<u8>) -> Result<(), 
     push_u64(out, places[number])
 }
 
-/// Appends the value entries, whose strings stand at these places.
+/// Appends the value entries, with these offsets of strings by number.
 fn push_values(
     values: &[StoredValue],
     places: &[usize],
@@ -140,8 +140,8 @@ fn push_values(
     Ok(())
 }
 
-/// Appends the record of a node with these values to the records before it. The last of the child entries are those of its
-/// children: its own takes their place.
+/// Appends the record of a node with these values to the records before it. The last of the child entries are those of
+/// its children. Its own takes their place.
 fn push_record(
     node: &StoredNode,
     values: &[StoredValue],
@@ -174,7 +174,7 @@ fn push_record(
     push_child(children, node.byte, at)
 }
 
-/// Appends the records of the nodes, whose values these are, one node's after another's.
+/// Appends the records of the nodes. The values are those of all nodes, one node's after another's.
 pub fn push_records(
     alloc: Global,
     nodes: &[StoredNode],

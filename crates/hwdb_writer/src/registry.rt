@@ -1,17 +1,18 @@
-//! A registry of where strings stand in a list: a cache that forgets, as fst's.
+//! A registry of the places of strings in a list: a cache that forgets, as fst's.
 //!
-//! A lookup promises nothing: who takes one looks there, and searches where another string stands.
+//! A lookup promises nothing. Who asks looks at that place, and searches if another string is there. So no contract
+//! speaks of this module, and its numbers can change without a proof.
 use crate::keyed::KeyedStr;
 use std::alloc::{AllocError, Global};
 
-/// Where strings were remembered, by their numbers. Two strings can have one entry.
+/// The places that were remembered, by the strings' numbers. Two strings can have one entry.
 #[derive(Drop)]
 pub struct Registry {
     places: Vec<u32>,
 }
 
 impl Registry {
-    /// So many entries, of which none is remembered.
+    /// So many entries, none of them used.
     pub fn new(alloc: Global, entries: usize) -> Result<Registry, AllocError> {
         Ok(Registry {
             places: Vec::from_elem(alloc, 0, entries)?,
@@ -24,7 +25,7 @@ impl Registry {
         ((word.number() >> 32).wrapping_mul(entries) >> 32) as usize
     }
 
-    /// Where the string may stand.
+    /// The place at which the string may be.
     pub fn lookup(&self, word: &KeyedStr<'_>) -> usize {
         match self.places.get(self.entry_of(word)) {
             Some(place) => *place as usize,
@@ -32,7 +33,7 @@ impl Registry {
         }
     }
 
-    /// Remembers where the string stands; nothing where the place is greater than 4,294,967,295.
+    /// Remembers the place of the string. Does nothing if the place is greater than 4,294,967,295.
     pub fn remember(&mut self, word: &KeyedStr<'_>, place: usize) {
         let entry = self.entry_of(word);
         if let (Some(remembered), Ok(place)) = (self.places.get_mut(entry), u32::try_from(place)) {
@@ -40,7 +41,7 @@ impl Registry {
         }
     }
 
-    /// Remembers where each of the strings stands.
+    /// Remembers the place of each of the strings.
     pub fn remember_all(&mut self, words: &[KeyedStr<'_>]) {
         for (place, word) in words.iter().enumerate() {
             self.remember(word, place);

@@ -1,4 +1,4 @@
-//! Nodes and their values as a database has them, but for the places of strings and records: strings stand there by number.
+//! Nodes and their values as a database has them, but for offsets: strings have numbers, and records have none yet.
 ghost use Rattle.std.specs.Prelude.{◌++◌, ◌∷◌, [], List, OnOk, IfOk, map, flat_map};
 ghost use Rattle.hwdb_spec.specs.Tree.{Value};
 ghost use Rattle.hwdb_spec.specs.Written.{strings_of_value};
@@ -23,8 +23,8 @@ pub struct StoredValue {
     pub priority: u16,
 }
 
-/// A node, in a list in which each stands behind its children: the byte that it stands under, the number of what follows
-/// it, how many values it has, and how many children.
+/// A node, in a list in which each comes after its children. It has the byte that leads to it, the number of the string
+/// after that byte, and how many values and children it has.
 #[derive(Clone, Copy)]
 pub struct StoredNode {
     pub byte: u8,
@@ -41,10 +41,11 @@ pub struct Stored<'t> {
     pub interner: Interner<'t>,
 }
 
-/// For how many strings there is an entry of the registry, for each assignment (our choice: some three strings come for one).
+/// How many entries the registry has for each assignment (our choice: some three strings come for one).
 const ENTRIES_AN_ASSIGNMENT: usize = 2;
 
-/// The numbers of the last value's key and path: most values have the same as the value before them. 0 where there is none.
+/// The numbers of the last value's key and path, or 0 if there is none. Most values have the key and path of the value
+/// before them.
 fn last_key_and_path(values: &[StoredValue]) -> (usize, usize) {
     match values.last() {
         Some(last) => (last.key, last.path),
@@ -100,7 +101,8 @@ fn push_values<'t>(
     Ok(())
 }
 
-/// The nodes, each behind its children, and the values that they have among the entries.
+/// The nodes, each after its children, and the values that they have among the entries. Each string of these is looked
+/// up once.
 pub fn store<'t>(
     alloc: Global,
     entries: &[Entry<'t>],

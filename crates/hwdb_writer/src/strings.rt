@@ -1,4 +1,4 @@
-//! The string section: the distinct strings in order, and where each stands.
+//! The string section: the distinct strings in order, and the offset of each.
 ghost use Rattle.std.specs.Prelude.{◌≡◌, ◌<◌, ◌+◌, ◌^◌, ◌-◌, IfOk, min, map, length};
 ghost use Rattle.std.specs.Ordering.{nat_cmp};
 ghost use Rattle.std.specs.Cmp.Lexicographic.{slice_cmp};
@@ -12,7 +12,7 @@ use crate::keyed::KeyedStr;
 use crate::registry::Registry;
 use std::alloc::{AllocError, Global};
 
-/// The strings in order, where each stands, and where the first of them stands.
+/// The strings in order, the offset of each, and that of the first one.
 #[derive(Clone, Copy)]
 pub struct Table<'a, 't> {
     pub words: &'a [KeyedStr<'t>],
@@ -41,7 +41,7 @@ pub fn in_order<'t>(alloc: Global, words: &[KeyedStr<'t>]) -> Result<Vec<KeyedSt
     Ok(ordered)
 }
 
-/// How long the section of the strings is, or the greatest number where it is longer.
+/// The length in bytes of the section of the strings, or the greatest number if it is longer.
 pub fn section_length(words: &[KeyedStr<'_>]) -> usize
     ensures { result ≡ min (length (section_of words.now)) (2 ^ 64 - 1) }
 {
@@ -52,7 +52,7 @@ pub fn section_length(words: &[KeyedStr<'_>]) -> usize
     total
 }
 
-/// Where each string stands, the first of them at `first`, and where they end.
+/// The offset of each string, the first of them at `first`, and the offset at which they end.
 pub fn starts(alloc: Global, words: &[KeyedStr<'_>], first: usize) -> Result<Vec<usize>, AllocError>
     requires { first + length (section_of words.now) < 2 ^ 64 }
     ensures { IfOk result (λ v. v.items ≡ starts_from first words.now) }
@@ -67,7 +67,8 @@ pub fn starts(alloc: Global, words: &[KeyedStr<'_>], first: usize) -> Result<Vec
     Ok(starts)
 }
 
-/// Where the string stands, or would belong. It is looked for where it was remembered.
+/// The offset of the string, or the one at which it would belong. It is looked for first at the remembered place, and
+/// then by halving.
 fn place(table: &Table<'_, '_>, registry: &Registry, word: &KeyedStr<'_>) -> usize
     requires { IsTable table.now }
     ensures { result ≡ place_in table.now word.now }
@@ -86,7 +87,7 @@ fn place(table: &Table<'_, '_>, registry: &Registry, word: &KeyedStr<'_>) -> usi
     }
 }
 
-/// Where each of the strings stands by the table.
+/// The offset of each of the strings by the table.
 fn places_in(
     alloc: Global,
     table: &Table<'_, '_>,
@@ -103,8 +104,8 @@ fn places_in(
     Ok(places)
 }
 
-/// Where each string of the interner stands, where all of them in order are these, the first at `first`. It lets go of the
-/// interner.
+/// Returns each interned string's offset. `ordered` is the sorted table of all of them, starting at `first`. Consumes
+/// the interner.
 pub fn places_of(
     alloc: Global,
     interner: Interner<'_>,

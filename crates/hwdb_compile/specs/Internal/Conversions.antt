@@ -1,4 +1,4 @@
--- Our own words: what the refusals of the crates below become.
+-- Our own words: what the errors of the crates below become.
 use Rattle.hwdb_compile.specs.declared.errors.CompileError.{CompileError}
 use Rattle.hwdb_compile.specs.declared.errors.CompileError.TheVariants.{Memory, TooManyFiles, TooManyLines, TooLarge}
 use Rattle.hwdb_text.specs.declared.outcome.ScanError.{ScanError}

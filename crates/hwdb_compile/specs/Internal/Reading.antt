@@ -14,7 +14,7 @@ use Rattle.hwdb_spec.specs.Tree.{Map, surviving}
 use Rattle.hwdb_compile.specs.declared.errors.CompileError.{CompileError}
 use Rattle.hwdb_compile.specs.declared.errors.CompileError.TheVariants.{Memory, TooLarge, TooManyFiles, TooManyLines}
 
--- the bytes of a file in the index; none where its name isn't there
+-- the bytes of a file in the index; none if its name isn't there
 abbrev pub bytes_at : BTreeMap (Bor (List ℕ)) (Bor (List ℕ)) → List ℕ → List ℕ
 bytes_at index name = option_map_or (λ b. b.now) (get_by (λ k. slice_cmp nat_cmp name k.now) index) []
 
@@ -29,7 +29,7 @@ assignments_in f = file_assignments (λ _. bytes_in f) (choice_in f)
 abbrev pub faults_in : ChosenFile → List FaultIn
 faults_in f = file_faults (λ _. bytes_in f) (choice_in f)
 
--- the map takes up more assignments: where it had what survives of some, it has what survives of these and more
+-- the map takes up more assignments: if it had what survives of some, it has what survives of these and more
 abbrev pub TakesUp : Map → List Assignment → Map → Type 0
 TakesUp old more new = (done : List Assignment) → old ≡ surviving done → new ≡ surviving (done ++ more)
 
@@ -39,14 +39,14 @@ pub record IsPuttable (a : Assignment) : Type 0 where
   pub path : HasNoZero a.path
   pub priority : 0 < a.position.priority
 
--- why one file is refused
+-- why one file gives an error
 abbrev pub IsFileRefusal : (bytes : List ℕ) → CompileError → Type 0
 IsFileRefusal bytes TooManyFiles = ⊥
 IsFileRefusal bytes TooManyLines = ManyLines bytes
 IsFileRefusal bytes TooLarge = ⊥
 IsFileRefusal bytes Memory = Unit {0}
 
--- why one of some files is refused
+-- why one of some files gives an error
 abbrev pub IsFilesRefusal : List ChosenFile → CompileError → Type 0
 IsFilesRefusal files TooManyFiles = ⊥
 IsFilesRefusal files TooManyLines = Any (λ f. ManyLines (bytes_in f)) files

@@ -15,7 +15,7 @@ place_of a = (entry_of a).0
 abbrev pub by_place : Assignment → Assignment → Ordering
 by_place a b = place_cmp (place_of a) (place_of b)
 
--- an old assignment, those behind it, and the new ones
+-- an old assignment, those after it, and the new ones
 unfoldable pub merged_from : Assignment → (List Assignment → List Change) → List Assignment → List Change
 merged_from x rest [] = Went x ∷ rest []
 merged_from x rest (y ∷ ys) =

@@ -16,12 +16,12 @@ abbrev pub nodes_in : List (ℕ × Tree) → ℕ
 nodes_in [] = 0
 nodes_in (k ∷ kids) = node_count k.1 + nodes_in kids
 
--- how many nodes of the trees of children stand one below the other at most
+-- the most nodes on one path of the trees of children
 abbrev pub depth_in : List (ℕ × Tree) → ℕ
 depth_in [] = 0
 depth_in (k ∷ kids) = max (depth k.1) (depth_in kids)
 
--- what the children assign that aren't done, where the last node's path is this one
+-- what the children assign that aren't done, if the last node's path is this one
 abbrev pub to_come : List ℕ → List Open → List Assignment
 to_come path [] = []
 to_come path (o ∷ below) = members_in (take o.length path) (kids_of o) ++ to_come (take o.length path) below
@@ -42,7 +42,7 @@ abbrev pub steps : List Open → ℕ
 steps [] = 0
 steps (o ∷ below) = suc (nodes_in (kids_of o) + nodes_in (kids_of o)) + steps below
 
--- how many nodes will stand one below the other at most, those of the stack counted
+-- the most nodes that will be on one path, those of the stack counted
 abbrev pub deepest_to_come : List Open → ℕ
 deepest_to_come [] = 0
 deepest_to_come (o ∷ below) = max (suc (length below) + depth_in (kids_of o)) (deepest_to_come below)

@@ -14,7 +14,7 @@ part size admits = record { size = size; admits = admits }
 abbrev pub in_spans : List (ℕ × ℕ) → ℕ → Bool
 in_spans spans b = list_any (in_span b) spans
 
--- the named class that stands at the beginning of a text
+-- the named class at the beginning of a text
 abbrev pub class_at : List ℕ → Option Class
 class_at text = find (λ c. starts_with nat_eq text (class_text c)) classes
 

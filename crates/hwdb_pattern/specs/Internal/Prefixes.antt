@@ -7,7 +7,7 @@ use Rattle.hwdb_spec.specs.Patterns.{Token, admits_byte}
 abbrev pub Within : List ℕ → List ℕ → Type 0
 Within device lengths = All (λ n. n ≤ length device) lengths
 
--- whatever tokens led to the lengths before, these tokens behind them lead to those after
+-- whatever tokens led to the lengths before, those and then these tokens lead to the lengths after
 pub record Follows (more : List Token) (device before after : List ℕ) : Type 0 where
   pub lengths : (ts : List Token) → Lengths ts device before → Lengths (ts ++ more) device after
 

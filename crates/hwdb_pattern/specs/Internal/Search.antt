@@ -3,16 +3,16 @@
 use Rattle.std.specs.Prelude.{Bool, List, None, false, true, slice_index, slice_index_or, ℕ, ◌≡◌, ◌≢◌, ◌<◌, ◌≤◌, drop, ◌∷◌, length}
 use Rattle.hwdb_spec.specs.Patterns.{Matches, bracket_at, items_from, star, tokens}
 
--- no `]` stands from `close` on; `]` is 93
+-- no `]` comes from `close` on; `]` is 93
 abbrev pub NoneCloses : List ℕ → ℕ → Type 0
 NoneCloses pattern close = (k : ℕ) → close ≤ k → slice_index pattern k ≢ 93
 
--- where the table says so, no closed bracket begins
+-- at each place for which the table says so, no closed bracket begins
 abbrev pub AreOpen : List ℕ → List Bool → Type 0
 AreOpen pattern opens =
     (k : ℕ) → k < length opens → slice_index_or opens k false ≡ true → bracket_at (drop k pattern) ≡ None
 
--- where the table says so, no `]` closes the items from that place on
+-- at each place for which the table says so, no `]` closes the items from there on
 abbrev pub NeverClose : List ℕ → List Bool → Type 0
 NeverClose text table = (k : ℕ) → slice_index_or table k false ≡ true → items_from false 0 (drop k text) ≡ None
 
@@ -22,8 +22,8 @@ pub record Reaches (pattern device : List ℕ) (at met : ℕ) : Type 0 where
   pub back : Matches (tokens (drop at pattern)) (drop met device) → Matches (tokens pattern) device
   pub later : Matches (star ∷ tokens pattern) device → Matches (star ∷ tokens (drop at pattern)) (drop met device)
 
--- The pattern matches the device exactly if at least `met` bytes are there, and a star and the tokens
--- from `at` match what is behind them.
+-- The pattern matches the device exactly if two things hold. At least `met` bytes are there. A star and the tokens from
+-- `at` match what comes after them.
 pub record Remains (pattern device : List ℕ) (at met : ℕ) : Type 0 where
   pub forth : Matches (tokens pattern) device → (met ≤ length device) × Matches (star ∷ tokens (drop at pattern)) (drop met device)
   pub back : met ≤ length device → Matches (star ∷ tokens (drop at pattern)) (drop met device) → Matches (tokens pattern) device

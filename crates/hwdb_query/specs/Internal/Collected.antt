@@ -17,7 +17,7 @@ use Rattle.hwdb_query.specs.declared.collector.Collector.{Collector}
 use Rattle.hwdb_query.specs.declared.collector.Collector.TheVariants.{Last as LastOnes, Page, All as AllOnes}
 use Rattle.hwdb_query.specs.Views.{Page as HeldHits}
 
--- those of them that are behind the position were put in their places, and the least are kept
+-- those of them that come after the position were put in their places, and the least are kept
 pub record PageCollects (a : NextPage) (xs : List Assignment) (b : NextPage) : Type 0 where
   pub after : b.after ≡ a.after
   pub most : b.held.most ≡ a.held.most
@@ -38,7 +38,7 @@ told_last key h = (
   h.value.now,
 )
 
--- what stands at a key
+-- what a key has
 abbrev pub told_at : BTreeMap (Bor (List ℕ)) Last → List ℕ → Option Told
 told_at m key = option_map (told_last key) (get_by (λ k. text_cmp key k.now) m)
 
@@ -49,7 +49,7 @@ position_at m key = option_map (λ t. t.0) (told_at m key)
 abbrev pub last_with : List ℕ → List Assignment → Option Assignment
 last_with key hits = find (has_key key) (reverse hits)
 
--- at each key stands the last of the hits with that key
+-- each key has the last of the hits with that key
 abbrev pub Shows : BTreeMap (Bor (List ℕ)) Last → List Assignment → Type 0
 Shows m hits = (key : List ℕ) → told_at m key ≡ option_map told (last_with key hits)
 

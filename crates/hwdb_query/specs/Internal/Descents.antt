@@ -18,17 +18,17 @@ kids_of o = drop o.done (children_of (entered_tree o.inside))
 abbrev pub wanted_in : (device path : List ℕ) → List (ℕ × Tree) → List Assignment
 wanted_in device path kids = filter (is_wanted device) (members_in path kids)
 
--- what the children assign that aren't done, where the path begins with that of the top
+-- what the children assign that aren't done, if the path begins with that of the top
 abbrev pub to_come : (device path : List ℕ) → List Open → List Assignment
 to_come device path [] = []
 to_come device path (o ∷ below) = wanted_in device (take o.length path) (kids_of o) ++ to_come device (take o.length path) below
 
--- how many live nodes stand at and below them
+-- how many live nodes there are at and below them
 abbrev pub live_to_come : (device path : List ℕ) → List Open → ℕ
 live_to_come device path [] = 0
 live_to_come device path (o ∷ below) = live_in device (take o.length path) (kids_of o) + live_to_come device (take o.length path) below
 
--- how many nodes stand at and below them
+-- how many nodes there are at and below them
 abbrev pub left : List Open → ℕ
 left [] = 0
 left (o ∷ below) = nodes_in (kids_of o) + left below
@@ -38,7 +38,7 @@ abbrev pub steps : List Open → ℕ
 steps [] = 0
 steps (o ∷ below) = suc (nodes_in (kids_of o) + nodes_in (kids_of o)) + steps below
 
--- the path begins with the node's, and the node's reach stands for that
+-- the path begins with the node's, and the node's reach is the state of that
 pub record StandsAt (device path : List ℕ) (o : Open) : Type 0 where
   pub within : o.length ≤ length path
   pub reach : StandsFor o.reach (take o.length path)
@@ -75,7 +75,7 @@ IsSeen device base k path (Some reach) = IsAt device base k path reach
 abbrev pub child_of : Live → ℕ × Tree
 child_of l = (l.child.byte, tree_of l.child.node)
 
--- the next child whose path is live, and those behind it
+-- the next child whose path is live, and those after it
 abbrev pub IsNext : (device base : List ℕ) (kids rest : List (ℕ × Tree)) (path : List ℕ) → Option Live → Type 0
 IsNext device base kids rest path None = Passes device base kids [] × (path ≡ base)
 IsNext device base kids rest path (Some l) = Passes device base kids (child_of l ∷ rest) × IsAt device base (child_of l) path l.reach

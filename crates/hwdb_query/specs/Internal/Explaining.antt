@@ -27,7 +27,7 @@ set_all (x ∷ xs) kept = set_all xs (set x kept)
 abbrev pub Place : Type 0
 Place = ℕ × ℕ × Rc (Vec ℕ Global) Global × Bor (List ℕ)
 
--- what stands at a place
+-- the assignment of a place and what it has
 abbrev pub assignment_at_place : Place × Content → Assignment
 assignment_at_place e = record {
   position = record { priority = e.0.0; line = e.0.1; pattern = e.0.2.value.items; key = e.0.3.now };
@@ -35,7 +35,7 @@ assignment_at_place e = record {
   path = e.1.path.now;
 }
 
--- the hits as they stand, by position
+-- the hits in their order, by position
 abbrev pub all_shown : AllHits → List Assignment
 all_shown a = map assignment_at_place a.hits.entries
 
@@ -55,7 +55,7 @@ abbrev pub backwards_or_none : Option (Vec Answer Global) → List Assignment
 backwards_or_none None = []
 backwards_or_none (Some answers) = answers_backwards answers
 
--- the answers that stand at a key
+-- the answers of a key
 abbrev pub answers_at : AnswersByKey → List ℕ → List Assignment
 answers_at m key = backwards_or_none (get_by (λ k. text_cmp key k.now) m.answers)
 

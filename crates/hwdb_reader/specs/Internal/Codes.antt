@@ -22,7 +22,7 @@ abbrev pub steps_code : Coded (List Step)
 steps_code = coded_list (coded× (coded× coded_ℕ coded_ℕ) (coded× coded_bytes (coded_list value_code)))
 
 unfoldable mutual
-  -- the steps that build a tree, and those behind them
+  -- the steps that build a tree, and those after them
   pub steps : Tree → List Step → List Step
   steps (Node prefix values children) rest = steps_below children (((1, 0), (prefix, values)) ∷ rest)
 
@@ -30,7 +30,7 @@ unfoldable mutual
   steps_below NoMore rest = ((0, 0), ([], [])) ∷ rest
   steps_below (Child byte tree more) rest = steps_below more (steps tree (((2, byte), ([], [])) ∷ rest))
 
--- the tree that stands first behind all steps
+-- the first tree after all steps
 unfoldable pub built : List Step → List Children → List Tree → Tree
 built [] ks [] = Node [] [] NoMore
 built [] ks (t ∷ ts) = t

@@ -1,7 +1,7 @@
--- Bytes that stand twice. `at` gives the byte at a place.
+-- Bytes that occur twice. `at` gives the byte at a place.
 use Rattle.std.specs.Prelude.{◌≡◌, ◌≤◌, ◌<◌, ◌+◌, ℕ, List, get_or, length}
 
--- as far as it lies in the stretch from s to e, each byte stands again `gap` places behind
+-- as far as it lies in the stretch from s to e, each byte occurs again `gap` places after
 abbrev pub HasPeriod : (ℕ → ℕ) → (s e gap : ℕ) → Type 0
 HasPeriod at s e gap = (i : ℕ) → s ≤ i → i + gap < e → at i ≡ at (i + gap)
 
@@ -13,7 +13,7 @@ IsFull at s e = (i : ℕ) → s ≤ i → i < e → at i ≡ 0 → ⊥
 abbrev pub Agree : List ℕ → (x y n : ℕ) → Type 0
 Agree b x y n = (j : ℕ) → j < n → (get_or b (x + j) 0 ≡ get_or b (y + j) 0) × (get_or b (x + j) 0 ≡ 0 → ⊥)
 
--- from x and y on stand n bytes, which agree
+-- from x and y on there are n bytes, which agree
 pub record AgreeInside (b : List ℕ) (x y n : ℕ) : Type 0 where
   pub agree : Agree b x y n
   pub left : x + n ≤ length b
@@ -23,7 +23,7 @@ pub record AgreeInside (b : List ℕ) (x y n : ℕ) : Type 0 where
 abbrev pub Ends : List ℕ → (x y : ℕ) → Type 0
 Ends b x y = get_or b x 0 ≡ get_or b y 0 → get_or b x 0 ≡ 0
 
--- the bytes from `first` to `end`, of which none is 0, stand again `gap` places behind
+-- the bytes from `first` to `end`, none of them 0, occur again `gap` places after
 pub record IsRepeat (b : List ℕ) (first gap end : ℕ) : Type 0 where
   pub again : HasPeriod (λ i. get_or b i 0) first (end + gap) gap
   pub full : IsFull (λ i. get_or b i 0) first end
@@ -33,7 +33,7 @@ pub record IsRepeat (b : List ℕ) (first gap end : ℕ) : Type 0 where
 abbrev pub AreRepeats : List ℕ → (first gap end : List ℕ) → Type 0
 AreRepeats b first gap end = (k : ℕ) → IsRepeat b (get_or first k 0) (get_or gap k 0) (get_or end k 0)
 
--- n bytes stand at p as at x, and at q as at y; where x is y none of them is 0
+-- The n bytes at p are those at x, and the n bytes at q are those at y. If x is y, none of them is 0.
 pub record StandFor (b : List ℕ) (p q x y n : ℕ) : Type 0 where
   pub left : (j : ℕ) → j < n → get_or b (p + j) 0 ≡ get_or b (x + j) 0
   pub right : (j : ℕ) → j < n → get_or b (q + j) 0 ≡ get_or b (y + j) 0

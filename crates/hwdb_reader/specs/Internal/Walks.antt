@@ -1,5 +1,5 @@
--- A walk over the nodes: what is known of the open ones, and what has to hold of the bytes from where the next text
--- begins. An open node is where it stands and how many of its children were entered; a list begins with the last.
+-- A walk over the nodes: what is known of the open ones, and what has to hold of the bytes that are to come. An open
+-- node is its offset and how many of its children were entered; a list begins with the last.
 use Rattle.std.specs.Prelude.{List, ℕ, suc, [], ◌∷◌, ◌+◌, ◌-◌, ◌≤◌, ◌<◌, ◌≡◌, ◌↔◌, length}
 use Rattle.hwdb_spec.specs.declared.Layout.{Layout}
 use Rattle.hwdb_spec.specs.Format.{ChildrenText, Visit, Visited, Fits, ChildrenFit, max_levels, record_end, child_entry, children_count, child_from, byte_before}
@@ -24,22 +24,22 @@ pub record IsOpen (l : Layout) (b : List ℕ) (levels : ℕ) (node : ℕ × ℕ)
   pub fit : ChildrenFit l b (visit levels from node.0 limit) node.1
   pub begins : begin ≡ child_from l b from node.0 node.1
 
--- the nodes are open, where the next text begins at `begin`
+-- the nodes are open, and the next text begins at `begin`
 abbrev pub AreOpen : Layout → List ℕ → List (ℕ × ℕ) → (begin : ℕ) → Type 0
 AreOpen l b [] begin = Unit {0}
 AreOpen l b (node ∷ above) begin = IsOpen l b (max_levels - length above) node begin × AreOpen l b above (record_end l b node.0)
 
--- from `begin` on stand the texts of a node's children that weren't entered, of so many levels
+-- from `begin` on come the texts of a node's children that weren't entered, of so many levels
 abbrev pub ChildrenToCome : Layout → List ℕ → (levels : ℕ) → ℕ × ℕ → (begin : ℕ) → Type 0
 ChildrenToCome l b levels node begin =
     ChildrenText l b levels begin (child_entry l node.0 node.1) (byte_before l b node.0 node.1) node.0 (children_at (tree_at l b levels) l b (child_entry l node.0 node.1) (children_count b node.0 - node.1))
 
--- so they do for each of the open nodes, behind the record of the one below it
+-- so they do for each of the open nodes, after the record of the one below it
 abbrev pub ToCome : Layout → List ℕ → List (ℕ × ℕ) → (begin : ℕ) → Type 0
 ToCome l b [] begin = Unit {0}
 ToCome l b (node ∷ above) begin = ChildrenToCome l b (max_levels - suc (length above)) node begin × ToCome l b above (record_end l b node.0)
 
--- where the record of the first of the open nodes ends
+-- the offset at which the record of the first of the open nodes ends
 abbrev pub last_end : Layout → List ℕ → List (ℕ × ℕ) → (begin : ℕ) → ℕ
 last_end l b [] begin = begin
 last_end l b (node ∷ above) begin = last_end l b above (record_end l b node.0)

@@ -11,7 +11,8 @@ use Rattle.hwdb_text.specs.Laws.{is_smaller}
 abbrev pub entry_of : Bor (List ℕ) × Bool → List ℕ × Bool
 entry_of e = (e.0.now, e.1)
 
--- The names of a list that count, put among those that are held. A name that is held already stays where it is and takes the new answer.
+-- The names of a list that count, put among those that are held. A name that is held already keeps its place and takes
+-- the new answer.
 abbrev pub put_all : Bool → List (List ℕ) → List (List ℕ × Bool) → List (List ℕ × Bool)
 put_all from_etc [] held = held
 put_all from_etc (name ∷ more) held = put_all from_etc more (if counts name then insert_entry (slice_cmp nat_cmp) held name from_etc else held)

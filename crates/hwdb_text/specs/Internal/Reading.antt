@@ -52,7 +52,7 @@ pub record InSection (o : Origin) (whole rest : List Line) (r : Reader) (m : Lin
   pub faults : IsGiven section_faults whole (m ∷ (ms ++ (ps ++ rest)))
       (flat_map long_faults (m ∷ ms) ++ flat_map property_faults ps) r.faults.items
 
--- what was read of the clean lines `whole`, where `rest` is left of them
+-- what was read of the clean lines `whole`, if `rest` is left of them
 abbrev pub HoldsAt : Stage → Origin → List Line → List Line → Reader → Type 0
 HoldsAt Start o whole rest r = AtStart o whole rest r
 HoldsAt Matches o whole rest r = (m : Line) × (ms : List Line) × InSection o whole rest r m ms []
@@ -66,7 +66,7 @@ abbrev pub Closes : List Line → Type 0
 Closes [] = Unit {0}
 Closes (l ∷ more) = is_empty l ≡ true
 
--- what was read of the lines `whole`, where `rest` is left of them
+-- what was read of the lines `whole`, if `rest` is left of them
 pub record Reads (o : Origin) (whole rest : List Line) (r : Reader) : Type 0 where
   pub spoilt : spoilt_faults whole ≡ r.spoilt.items ++ spoilt_faults rest
   pub clean : Holds o (clean whole) (clean rest) r

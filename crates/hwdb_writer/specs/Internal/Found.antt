@@ -1,4 +1,4 @@
--- Where a key stands in a list, or where it belongs.
+-- The place of a key in a list, or the one at which it belongs.
 use Rattle.std.specs.Prelude.{List, length, slice_index_or, ℕ, ◌<◌, ◌≡◌, ◌≤◌}
 use Rattle.std.specs.declared.cmp.Ordering.TheVariants.{Equal, Greater, Less}
 use Rattle.std.specs.declared.cmp.Ordering.{Ordering}

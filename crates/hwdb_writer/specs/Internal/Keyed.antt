@@ -2,7 +2,7 @@
 use Rattle.std.specs.Prelude.{List, get_or, ℕ, ◌<◌, ◌≡◌, ◌∷◌, Bool, true, false}
 use Rattle.byteorder.specs.Endian.{big_number}
 
--- the bytes of a text, behind a space where it is spaced
+-- the bytes of a text, after a space if it is spaced
 abbrev pub spaced_text : Bool → List ℕ → List ℕ
 spaced_text true text = 32 ∷ text
 spaced_text false text = text

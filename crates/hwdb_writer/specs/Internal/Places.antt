@@ -1,4 +1,4 @@
--- Where the strings of a table stand (our choice: a search in the strings, in order).
+-- The offsets of the strings of a table (our choice: a search in the strings, in order).
 use Rattle.std.specs.Prelude.{List, [], length, ℕ, ◌+◌, ◌∷◌, ◌≡◌}
 use Rattle.std.specs.List.Sorted.{IsStrictlySortedBy}
 use Rattle.std.specs.Ordering.{nat_cmp}
@@ -6,12 +6,12 @@ use Rattle.std.specs.Cmp.Lexicographic.{slice_cmp}
 use Rattle.hwdb_writer.specs.declared.strings.Table.{Table}
 use Rattle.hwdb_spec.specs.Written.{place_of}
 
--- where each string stands, the first of them at `from`, and where they end
+-- the offset of each string, the first of them at `from`, and the offset at which they end
 unfoldable pub starts_from : ℕ → List (List ℕ) → List ℕ
 starts_from from [] = from ∷ []
 starts_from from (s ∷ ss) = from ∷ starts_from (from + length s + 1) ss
 
--- where a string stands by a table
+-- the offset of a string by a table
 abbrev pub place_in : Table → List ℕ → ℕ
 place_in t = place_of t.first t.words.now
 

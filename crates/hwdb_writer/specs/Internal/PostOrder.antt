@@ -1,4 +1,4 @@
--- The tree that a list of nodes stands for, in which each stands behind its children.
+-- The tree of a list of nodes, each after its children.
 use Rattle.std.specs.Prelude.{List, [], ℕ, ◌∷◌, ◌++◌, ◌+◌, ◌-◌, ◌≤◌, ◌≡◌, length, take, drop, map}
 use Rattle.hwdb_spec.specs.Tree.Children.{Child, NoMore}
 use Rattle.hwdb_spec.specs.Tree.{Children, Tree, Value}
@@ -28,11 +28,11 @@ staying trees n = length trees - n.children
 abbrev pub over : List Entry → List Sub → NodeRecord → Tree
 over es trees n = Node n.prefix.now (values_at es n) (children_in (drop (staying trees n) trees))
 
--- the trees behind a node, which takes the place of its children
+-- the trees after a node, which takes the place of its children
 abbrev pub joined : List Entry → List Sub → NodeRecord → List Sub
 joined es trees n = take (staying trees n) trees ++ (n.byte, over es trees n) ∷ []
 
--- the trees behind nodes
+-- the trees after nodes
 unfoldable pub trees_after : List Entry → List Sub → List NodeRecord → List Sub
 trees_after es trees [] = trees
 trees_after es trees (n ∷ ns) = trees_after es (joined es trees n) ns
@@ -42,7 +42,7 @@ unfoldable pub AreWhole : List Entry → List Sub → List NodeRecord → Type 0
 AreWhole es trees [] = Unit {0}
 AreWhole es trees (n ∷ ns) = (n.children ≤ length trees) × (n.first + n.count ≤ length es) × AreWhole es (joined es trees n) ns
 
--- the first of the trees; an empty one where there is none
+-- the first of the trees; an empty one if there is none
 abbrev pub first_tree : List Sub → Tree
 first_tree [] = Node [] [] NoMore
 first_tree (p ∷ ps) = p.1
@@ -51,7 +51,7 @@ first_tree (p ∷ ps) = p.1
 abbrev pub tree_of : List Entry → List NodeRecord → Tree
 tree_of es ns = first_tree (trees_after es [] ns)
 
--- the nodes are those of one tree, each behind its children
+-- the nodes are those of one tree, each after its children
 pub record IsPostOrder (es : List Entry) (ns : List NodeRecord) : Type 0 where
   pub whole : AreWhole es [] ns
   pub one : length (trees_after es [] ns) ≡ 1

@@ -22,14 +22,14 @@ pub record Frame : Type 0 where
 abbrev pub node_of : Frame → Tree
 node_of f = TreeNode f.prefix f.values (children_in f.done)
 
--- Below, the frames of a path stand with the lowest first and the root last.
+-- Below, the frames of a path are in order from the lowest to the root.
 
 -- the trees that are closed, from the left
 unfoldable pub stack : List Frame → List Sub
 stack [] = []
 stack (f ∷ fs) = stack fs ++ f.done
 
--- the path to a child of the lowest under a byte; to the root where there is none
+-- the path to a child of the lowest under a byte; to the root if there is none
 unfoldable pub under : List Frame → ℕ → List ℕ
 under [] b = []
 under (g ∷ gs) b = (under gs g.byte ++ g.prefix) ++ b ∷ []
@@ -61,7 +61,7 @@ IsForkedTop [] = Unit {0}
 IsForkedTop (f ∷ []) = Unit {0}
 IsForkedTop (f ∷ g ∷ gs) = IsForked (node_of f)
 
--- the lowest is the root, or stands under a byte above those of its parent's children
+-- the lowest is the root, or its byte is above those of its parent's children
 abbrev pub Hangs : Frame → List Frame → Type 0
 Hangs f [] = f.prefix ≡ []
 Hangs f (g ∷ gs) = (0 < f.byte) × (f.byte < 256) × AllBelow f.byte g.done × IsFilled (g ∷ gs)
@@ -158,7 +158,7 @@ pub record Closes (old new : Builder) : Type 0 where
   pub parent : (above : List Open) (g : Open) → old.above.items ≡ above ++ g ∷ [] → (new.above.items ≡ above) × (new.top ≡ one_more g)
   pub path : new.path ≡ old.path
 
--- a cut node: its byte, what is behind it, and the values and children of the whole
+-- a cut node: its byte, what comes after it, and the values and children of the whole
 pub record IsBack (front : ℕ) (whole back : Node) : Type 0 where
   pub byte : back.byte ≡ get_or whole.prefix.now front 0
   pub prefix : back.prefix.now ≡ drop (front + 1) whole.prefix.now
@@ -174,7 +174,7 @@ pub record IsFront (front : ℕ) (whole left : Node) : Type 0 where
   pub count : left.count ≡ 0
   pub children : left.children ≡ 1
 
--- the top node is cut where its path has so many bytes
+-- the top node is cut after so many bytes of its path
 pub record Cuts (at : ℕ) (old new : Builder) : Type 0 where
   pub back : Node
   pub closed : new.closed.items ≡ old.closed.items ++ back ∷ []
@@ -208,7 +208,7 @@ pub record Counts (old new : Builder) : Type 0 where
   pub count : new.top.node.count ≡ old.top.node.count + 1
   pub children : new.top.node.children ≡ old.top.node.children
 
--- what comes next: an entry behind so many, in order, that can be stored
+-- what comes next: an entry after so many, in order, that can be stored
 pub record IsNext (es : List Entry) (n : ℕ) (e : Entry) : Type 0 where
   pub in_range : n < length es
   pub taken : take (n + 1) es ≡ take n es ++ e ∷ []

@@ -49,7 +49,7 @@ pub record IsNode (used : ℕ) (t : Tree) : Type 0 where
   pub forked : IsForked t
   pub storable : IsStorable used t
 
--- a value that can be stored at the rest of a path, behind so many bytes
+-- a value that can be stored at the rest of a path, after so many bytes
 pub record CanStand (used : ℕ) (rest : List ℕ) (v : Value) : Type 0 where
   pub text : IsText rest
   pub short : used + length rest ≤ max_pattern

@@ -1,4 +1,4 @@
--- Nodes and values with strings by number, and what they stand for.
+-- Nodes and values with strings by number, and which nodes and values these are.
 use Rattle.std.specs.Prelude.{List, [], ℕ, ◌+◌, ◌^◌, ◌<◌, ◌≡◌, length, flat_map, slice_index_or}
 use Rattle.std.specs.List.{AllZip}
 use Rattle.hwdb_spec.specs.Assignment.{ascending}
@@ -22,12 +22,12 @@ pub record IsUnder (words : List (List ℕ)) (number : ℕ) (s : List ℕ) : Typ
 abbrev pub Grows : List (List ℕ) → List (List ℕ) → Type 0
 Grows old new = (number : ℕ) (s : List ℕ) → IsUnder old number s → IsUnder new number s
 
--- the string's place stands under the number
+-- the string's offset is at the number
 pub record IsAt (place : List ℕ → ℕ) (places : List ℕ) (number : ℕ) (s : List ℕ) : Type 0 where
   pub known : number < length places
   pub is : slice_index_or places number 0 ≡ place s
 
--- what stands for a value, by what a number stands for
+-- a stored value is this value, if `By` says which string a number means
 pub record IsValue (By : ℕ → List ℕ → Type 0) (v : StoredValue) (x : Value) : Type 0 where
   pub key : By v.key x.key
   pub value : By v.value x.value
@@ -38,7 +38,7 @@ pub record IsValue (By : ℕ → List ℕ → Type 0) (v : StoredValue) (x : Val
 abbrev pub AreValues : (ℕ → List ℕ → Type 0) → List StoredValue → List Value → Type 0
 AreValues By = AllZip (IsValue By)
 
--- what stands for a node
+-- a stored node is this node
 pub record IsNode (By : ℕ → List ℕ → Type 0) (s : StoredNode) (n : Node) : Type 0 where
   pub prefix : By s.prefix n.prefix.now
   pub byte : s.byte ≡ n.byte

@@ -7,7 +7,7 @@ use Rattle.hwdb_compile.specs.Internal.Reading.{IsPuttable}
 use Rattle.hwdb_compile.proofs.GatherLemmas.{all_at, no_zero, mapped_more, mapped_all, put_step}
 use Rattle.hwdb_compile.proofs.compiler.put_all.Goals as goal
 
--- what an index reads behind the end of the list
+-- what an index reads after the end of the list
 abbrev none : Given
 none = record { line = 0; pattern = record { ref_ptr = (0, 0); now = [] }; key = record { ref_ptr = (0, 0); now = [] }; value = record { ref_ptr = (0, 0); now = [] } }
 

@@ -10,7 +10,7 @@ use Rattle.hwdb_inspect.specs.Internal.Pairing.{to_tell}
 use Rattle.hwdb_inspect.proofs.MergeLemmas.{merged_trees}
 use Rattle.hwdb_inspect.proofs.difference.run_diff.Goals as goal
 
--- the old bytes are refused, whatever the new ones are
+-- the old bytes give an error, whatever the new ones are
 pub returns-in_err-before-clause-refusals : goal.returns-in_err-before-clause-refusals
 returns-in_err-before-clause-refusals g c =
     let p = err_from_is_err_and c.from_residual.result c.from_residual.ensures.1 in rw (p.1, p.2) (c.in_err-before.ensures.refused c.args.new.now)

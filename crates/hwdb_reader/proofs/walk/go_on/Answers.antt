@@ -56,7 +56,7 @@ bounds-b-child c =
     let fits = c.in_ok-end.ensures.ok.fits.1 in
     omega (arith, inside, fits, record_fields c.args.l.sizes c.args.b.now c.in_ok-child.child c.args.l.node_fields, record_fields c.args.l.sizes c.args.b.now c.args.last.off c.args.l.node_fields)
 
--- what stands on the path, with a node put on it
+-- the nodes on the path, with a node put on it
 on_top : (above path now : List (ℕ × ℕ)) (node : ℕ × ℕ) → now ≡ node ∷ path → path ≡ above → now ≡ node ∷ above
 on_top above path now node is same = is ∙ ap (λ (nodes : List (ℕ × ℕ)). node ∷ nodes) same
 
