@@ -89,7 +89,7 @@ check: kit
 	$(MAKE) --no-print-directory --jobs=2 --output-sync=target timed
 
 # What tries the built program and library, in lanes, the longest first.
-scripts: try-memory try-definitions try-reading try-over-proved try-random try-rows try-crash try-documents try-refused try-words \
+scripts: try-memory try-definitions try-reading try-over-proved try-random try-rows try-crash try-documents try-definitions-page try-refused try-words \
 	try-command-line try-installed try-library try-readme try-runs try-folders try-refusals try-footprint \
 	try-streams
 
@@ -106,7 +106,7 @@ try-over-proved:
 
 try-installed try-library: try-over-proved
 
-try-documents try-reading try-refused: try-%:
+try-documents try-definitions-page try-reading try-refused: try-%:
 	tests/$*
 
 try-%:
