@@ -89,15 +89,19 @@ check: kit
 	$(MAKE) --no-print-directory --jobs=2 --output-sync=target timed
 
 # What tries the built program and library, in lanes, the longest first.
-scripts: try-memory try-definitions try-reading try-over-proved try-random try-rows try-crash try-documents try-definitions-page try-refused try-words \
-	try-command-line try-installed try-library try-readme try-runs try-folders try-refusals try-footprint \
-	try-streams
+scripts: try-memory try-wrong-bodies try-definitions try-reading try-over-proved try-random try-rows try-crash try-documents \
+	try-definitions-page try-refused try-words try-command-line try-installed try-library try-readme try-runs try-folders \
+	try-refusals try-footprint try-streams
 
 # What looks at the processor's times, behind all others.
 timed: try-growth try-hostile
 
 try-definitions:
 	tests/definitions hwdb_reader::laws::law_faultless hwdb_laws::laws::listings_give_one_reading
+
+# One round of the wrong bodies, another one after each commit.
+try-wrong-bodies:
+	tests/wrong-bodies --some
 
 # The C library, over what `rt ci` proved.
 try-over-proved:
