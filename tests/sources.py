@@ -52,8 +52,6 @@ def over_sources(lines, crate, functions):
     for name in ordered[:-1]:
         below = ",".join(sorted({"core", "std", *stands_on[name]}))
         words += ["--lib", f"{name}:{below}={os.path.join('..', name, 'src', 'lib.rt')}"]
-    if "staticlib" in lines[crate].split(":")[0].split():
-        words += ["--crate-type", "staticlib"]
     words += ["--antt-project", f"{kit}/rattle/logic/antt-project.json", "--logic-built", f"{kit}/logic_built"]
     words += ["--links", f"{crate}=", "--jobs", "1"]
     for name in functions:
