@@ -1,5 +1,6 @@
 # `make` builds what `make install` installs, and proves it on the way: `make program` out/hwdb, `make lib` the C library,
 # out/libhwdb.so.0 and out/libhwdb.a, and out/libhwdb-udev.so.0 with libudev's calls over it.
+# `make unproved` builds out/hwdb-unproved in a minute or two, without a proof, and runs it; it says of itself that it isn't proved.
 # `make demo` runs the program on a file of our own, `make check` is the whole gate, `make check-edits` tries more wrong bodies,
 # `make check-survivors` those that the prover accepts, `make check-peer` compares with Debian's own files, `make bench` measures on them.
 # `make install` and `make uninstall` go by the folders below and need no toolchain, `make deb` makes Debian packages in out/, `make
@@ -31,8 +32,8 @@ LIBRARIES ?= out
 WARNINGS := -std=c11 -Wall -Wextra -Werror
 HARDENED := -Wl,-z,relro -Wl,-z,now -Wl,-z,noexecstack -Wl,--no-undefined
 
-.PHONY: all program lib linked-lib hardened-lib kit demo check scripts timed check-edits check-survivors check-peer check-package bench install \
-	uninstall deb dist clean
+.PHONY: all program lib linked-lib hardened-lib kit unproved demo check scripts timed check-edits check-survivors check-peer check-package \
+	bench install uninstall deb dist clean
 
 # The library over what the program's proofs built; c/over-proved proves its calls.
 all: program
@@ -73,6 +74,10 @@ linked-lib:
 hardened-lib: out/libhwdb.so.0
 	eval "$$(dpkg-buildflags --export=sh)" && $(MAKE) linked-lib LIBRARIES=out/hardened
 
+unproved: kit
+	tests/unproved out/hwdb-unproved
+	out/hwdb-unproved ask examples/workshop.hwdb usb:v1209p0007d0101
+
 demo: program
 	out/hwdb ask examples/workshop.hwdb usb:v1209p0007d0101
 
@@ -84,15 +89,19 @@ check: kit
 	$(MAKE) --no-print-directory --jobs=2 --output-sync=target timed
 
 # What tries the built program and library, in lanes, the longest first.
-scripts: try-memory try-definitions try-reading try-over-proved try-random try-rows try-crash try-documents try-refused try-words \
-	try-command-line try-installed try-library try-readme try-runs try-folders try-refusals try-footprint \
-	try-streams
+scripts: try-memory try-wrong-bodies try-definitions try-reading try-over-proved try-random try-rows try-crash try-documents \
+	try-definitions-page try-refused try-words try-command-line try-installed try-library try-readme try-runs try-folders \
+	try-refusals try-footprint try-streams
 
 # What looks at the processor's times, behind all others.
 timed: try-growth try-hostile
 
 try-definitions:
 	tests/definitions hwdb_reader::laws::law_faultless hwdb_laws::laws::listings_give_one_reading
+
+# One round of the wrong bodies, another one after each commit.
+try-wrong-bodies:
+	tests/wrong-bodies --some
 
 # The C library, over what `rt ci` proved.
 try-over-proved:
@@ -101,7 +110,7 @@ try-over-proved:
 
 try-installed try-library: try-over-proved
 
-try-documents try-reading try-refused: try-%:
+try-documents try-definitions-page try-reading try-refused: try-%:
 	tests/$*
 
 try-%:
@@ -111,8 +120,9 @@ check-edits:
 	tests/wrong-bodies $(CRATES)
 	tests/definitions $(CRATES)
 
-# Wrong bodies that are proved: a script of tests/ sees each.
+# Wrong bodies that are proved: a script of tests/ sees each. And what `make unproved` builds.
 check-survivors:
+	tests/unproved --judge
 	tests/caught $(EDITS)
 
 check-peer: all

@@ -33,6 +33,36 @@ same() {
     if cmp -s "$2" "$3"; then passes; else fails "$1" "$(head -c 300 "$2")" "$(head -c 300 "$3")"; fi
 }
 
+# holds NAME STATUS [SEEN]: passes where the status is 0
+holds() {
+    if [ "$2" -eq 0 ]; then passes; else fails "$1" "${3:-status $2}" 'status 0'; fi
+    words=()
+}
+
+# expect NAME: passes where the last command did. A command in NAME would be the last one. Of a failing row the script's lines are
+# shown, and what the command wrote into `log` or `err`
+expect() {
+    local status=$? at=${BASH_LINENO[0]} file
+    if [ $status -eq 0 ]; then
+        passes
+        return
+    fi
+    fails "$1" "status $status" 'status 0'
+    printf '  line %s:\n' "$at"
+    sed -n "$((at > 2 ? at - 2 : 1)),${at}p" "$(find "$top/tests" -type f -name "${0##*/}" | head -n 1)" | cut -c 1-200 | sed 's/^/    /'
+    for file in log err; do
+        [ ! -s $file ] || { printf '  %s:\n' $file && tail -n 20 $file | cut -c 1-300 | sed 's/^/    /'; }
+    done
+    words=()
+    return 1
+}
+
+# ends_here: prints the last line, and the script ends
+ends_here() {
+    finish
+    exit
+}
+
 # finish: prints the last line; the status is 0 where all rows passed
 finish() {
     printf '%d passed, %d failed\n' "$passed" "$failed"

@@ -29,7 +29,7 @@ is_behind after f = is_after after f.position
 abbrev pub is_same_place : Assignment → Assignment → Bool
 is_same_place a b = if same a.position.pattern b.position.pattern then same a.position.key b.position.key else false
 
--- the assignments that no later one of the list with the same pattern and key follows
+-- the assignments that no later one of the list with the same pattern and key follows (hwdb(7))
 unfoldable pub last_of_each : List Assignment → List Assignment
 last_of_each [] = []
 last_of_each (a ∷ more) = if list_any (is_same_place a) more then last_of_each more else a ∷ last_of_each more

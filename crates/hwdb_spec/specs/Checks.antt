@@ -8,7 +8,7 @@ use Rattle.hwdb_spec.specs.Reports.{reports_text}
 use Rattle.hwdb_spec.specs.Warnings.{warnings, warnings_text}
 use Rattle.hwdb_spec.specs.declared.Tally.{Tally}
 
--- how many files were read, and how much was found in them: of one file
+-- of one file how many assignments, faults and warnings it has
 abbrev pub tally_of : List ℕ → Tally
 tally_of file = record {
   files = 1;
@@ -43,7 +43,7 @@ tally_from so_far (s ∷ more) = tally_from (tally_of_both so_far (tally_of s.by
 abbrev pub count_text : ℕ → (word : List ℕ) → List ℕ
 count_text n word = decimal n ++ byte " " ∷ (word ++ (if n == 1 then [] else codes "s"))
 
--- the last line
+-- the last line, with the files, assignments, faults and warnings
 abbrev pub tally_line : Tally → List ℕ
 tally_line t =
     count_text t.files (codes "file") ++ codes ", "

@@ -10,7 +10,7 @@ use Rattle.hwdb_spec.specs.Records.{Origin, assignments, faults}
 use Rattle.hwdb_spec.specs.Texts.{place_text, property_text}
 use Rattle.hwdb_spec.specs.Tree.{Tree, members_under}
 
--- the comment: `# `, the path, `:`, the line
+-- the comment above a record of `dump`: `# `, the path, `:`, the line
 abbrev pub comment_text : Assignment → List ℕ
 comment_text f = codes "# " ++ (place_text f.path f.position.line ++ byte "\n" ∷ [])
 
@@ -23,7 +23,7 @@ record_text f =
 unfoldable pub dumped : Tree → List Assignment
 dumped t = in_order assignment_cmp (members_under [] t)
 
--- a database as text
+-- a database as text: the records of its assignments, one after another
 abbrev pub dump_text : Tree → List ℕ
 dump_text t = flat_map record_text (dumped t)
 

@@ -12,7 +12,8 @@ use Rattle.hwdb_spec.specs.Texts.{property_text, place_text}
 abbrev pub answers_with : List ℕ → List Assignment → List Assignment
 answers_with key answers = filter (has_key key) (reverse answers)
 
--- for each key among the answers the answers with that key, the last first, ascending by key
+-- For each key among the answers the answers with that key, the last first, ascending by key. `ExplainedAreEffective` says
+-- that the first of them are the effective list.
 unfoldable pub explained : List Assignment → List (List ℕ × List Assignment)
 explained answers = map (λ key. (key, answers_with key answers)) (in_order text_cmp (map key_of_answer answers))
 

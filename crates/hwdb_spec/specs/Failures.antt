@@ -13,6 +13,6 @@ CountsFailures before now result = MatchResult result (λ _. now ≡ before) (λ
 abbrev pub HasFailed : ℕ → ℕ → Type 0
 HasFailed before now = (before < now) ⊎ (before ≡ 2 ^ 64 - 1)
 
--- one call has failed meanwhile, and was the last one of those that were made
+-- one call has failed meanwhile, and was the last one that was made
 abbrev pub OneFailed : ℕ → ℕ → Type 0
 OneFailed before now = now ≡ after_failure before

@@ -9,7 +9,7 @@ use Rattle.hwdb_spec.specs.Assignment.{Assignment, text_cmp, ascending}
 use Rattle.hwdb_spec.specs.Records.{assignments, faults}
 use Rattle.hwdb_spec.specs.declared.Fault.{Fault}
 
--- a name that counts
+-- a name that counts: it ends in `.hwdb`, doesn't begin with `.`, and has no byte 0
 abbrev pub counts : List ℕ → Bool
 counts name = if ends_with nat_eq name (codes ".hwdb") then (if begins_with (byte ".") name then false else not (has 0 name)) else false
 
@@ -31,8 +31,8 @@ pub record Choice : Type 0 where
   pub name : List ℕ
   pub priority : ℕ
 
--- The chosen files, by priority. A name of the set is taken from etc if etc has it, else from usr. Its priority is one
--- plus the number of smaller names.
+-- The chosen files, by priority. A name of the set is taken from etc if etc has it, else from usr. Its priority is one plus
+-- the number of smaller names (hwdb(7)).
 abbrev pub choice : (etc usr : List (List ℕ)) → List Choice
 choice etc usr =
     map (λ name. record {
@@ -41,7 +41,7 @@ choice etc usr =
       priority = 1 + count_by (λ n. is_lt (text_cmp n name)) (names etc usr);
     }) (names etc usr)
 
--- the stored path
+-- the stored path: `/etc/udev/hwdb.d/` or `/usr/lib/udev/hwdb.d/`, then the name
 abbrev pub path_of : Choice → List ℕ
 path_of c = (if c.from_etc then codes "/etc/udev/hwdb.d/" else codes "/usr/lib/udev/hwdb.d/") ++ c.name
 
@@ -80,7 +80,7 @@ fault_in path f = record { path = path; fault = f }
 abbrev pub file_faults : (read : Choice → List ℕ) → Choice → List FaultIn
 file_faults read c = map (fault_in (path_of c)) (faults (read c))
 
--- the faults of all chosen files, by priority, line and number
+-- the faults of all chosen files with their stored paths, by priority, line and number
 abbrev pub faults_of_files : (etc usr : List Source) → List FaultIn
 faults_of_files etc usr = flat_map (file_faults (contents etc usr)) (chosen_of etc usr)
 
@@ -96,7 +96,7 @@ max_files = 65535
 abbrev pub max_lines : ℕ
 max_lines = 4294967295
 
--- no more files are chosen, and none has more lines
+-- at most 65,535 files are chosen, and none has more than 4,294,967,295 lines
 pub record AreAccepted (etc usr : List Source) : Type 0 where
   pub files : length (chosen_of etc usr) ≤ max_files
   pub lines : All (λ c. length (lines (contents etc usr c)) ≤ max_lines) (chosen_of etc usr)

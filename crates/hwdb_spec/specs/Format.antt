@@ -203,7 +203,8 @@ pub record HasStrings (b : List ℕ) : Type 0 where
   pub some : 0 < (header_of b).strings_len
   pub ended : slice_index b (length b - 1) ≡ 0
 
--- the bytes begin with a header
+-- The bytes begin with a header: signature, record sizes of at least 80, 24, 16 and 32, lengths that add up to the file, a
+-- string section that ends in byte 0 (`hwdb-internal.h`).
 pub record IsHeader (b : List ℕ) : Type 0 where
   pub long : IsLong b
   pub signed : IsSigned b
@@ -211,7 +212,9 @@ pub record IsHeader (b : List ℕ) : Type 0 where
   pub lengths : HasLengths b
   pub strings : HasStrings b
 
--- the bytes are a database of the tree
+-- The bytes are a database of the tree: the nodes section is exactly the root's text. A node's text is its children's
+-- texts, in order, and then its record. Each record has the node's fields, each string offset is inside the string section,
+-- no priority is 0, and no node is deeper than 4,097.
 pub record IsDatabase (b : List ℕ) (t : Tree) : Type 0 where
   pub header : IsHeader b
   -- the nodes section is the root's text
@@ -306,7 +309,8 @@ HeaderFault b Lengths = IsLong b × IsSigned b × HasSizes b × ¬ HasLengths b
 HeaderFault b Strings = IsLong b × IsSigned b × HasSizes b × HasLengths b × ¬ HasStrings b
 HeaderFault b _ = ⊥
 
--- the fault applies to the bytes
+-- The fault B1 to B11 applies to the bytes, at its offset. In a database none does (`law_faultless`). Of B1 to B5 one at
+-- most does (`law_header_faults`), and what is at fault stands at the offset (`law_offsets`).
 unfoldable pub Applies : List ℕ → DbFault → Type 0
 Applies b fault =
     HeaderFault b fault

@@ -12,7 +12,7 @@ path_of_database usr root = path_in (database_folder usr root) database_name
 abbrev pub hiding_line : (root : List ℕ) → List ℕ
 hiding_line root = path_of_database false root ++ (codes " hides " ++ (path_of_database true root ++ codes ": it is asked first\n"))
 
--- that line, where it is to be said
+-- what `update --usr --verbose` says first: that line, where it is to be said
 abbrev pub hiding_text : (usr verbose : Bool) (root : List ℕ) → Contents → List ℕ
 hiding_text false verbose root contents = []
 hiding_text true false root contents = []

@@ -19,10 +19,12 @@ use Rattle.hwdb_spec.specs.Explanations.{explained}
 
 -- ---- values
 
+-- values as the items of an array
 unfoldable pub items_of : List Json → Items
 items_of [] = no_items
 items_of (value ∷ more) = item value (items_of more)
 
+-- values under names as the members of an object
 unfoldable pub members_of : List (List ℕ × Json) → Members
 members_of [] = no_members
 members_of (m ∷ more) = member m.0 m.1 (members_of more)
@@ -35,6 +37,7 @@ array_of values = array (items_of values)
 abbrev pub object_of : List (List ℕ × Json) → Json
 object_of members = object (members_of members)
 
+-- a number
 abbrev pub number_json : ℕ → Json
 number_json n = number (decimal n)
 
@@ -64,7 +67,7 @@ property_member p = (p.0, text_json p.1)
 abbrev pub pair_json : List ℕ × List ℕ → Json
 pair_json p = array_of (text_json p.0 ∷ text_json p.1 ∷ [])
 
--- properties whose keys are no names stand under `raw`, if there are any
+-- properties whose keys aren't UTF-8, as pairs under `raw`, if there are any
 abbrev pub raw_members : List (List ℕ × List ℕ) → List (List ℕ × Json)
 raw_members [] = []
 raw_members (p ∷ more) = (codes "raw", array_of (map pair_json (p ∷ more))) ∷ []
@@ -75,11 +78,12 @@ device_json device properties =
     object_of ((codes "device", text_json device) ∷ (codes "properties", object_of (map property_member (filter has_name properties)))
     ∷ raw_members (filter (λ p. not (has_name p)) properties))
 
--- the properties that a database gives each of some devices, a line for each device
+-- what `query --json` prints: the properties that a database gives each of some devices, a line for each device
 abbrev pub query_json : List (List ℕ) → Tree → List ℕ
 query_json devices t = flat_map (λ device. json_line (device_json device (effective_of (answers device t)))) devices
 
--- the same, of what the files assign: for each key the value of the last assignment among those that match
+-- the properties of `query --json`, said of the files' plain list: for each key the value of the last assignment among
+-- those that match
 abbrev pub last_values_json : (devices : List (List ℕ)) (etc usr : List Source) → List ℕ
 last_values_json devices etc usr =
     flat_map (λ device. json_line (device_json device (effective_of (last_assignments device None (all_assignments etc usr))))) devices
@@ -97,11 +101,11 @@ hit_json f =
 abbrev pub hits_json : List Assignment → List ℕ
 hits_json hits = flat_map (λ f. json_line (hit_json f)) hits
 
--- the first hits after a position
+-- what `list --json` prints: the first hits after a position
 abbrev pub list_json : List ℕ → Option Position → Option ℕ → Tree → List ℕ
 list_json device after limit t = hits_json (within_limit limit (answers_after device after t))
 
--- the first of the last assignments after a position
+-- the lines of `list --json`, said of the files' plain list: the first of the last assignments after a position
 abbrev pub last_lines_json : (device : List ℕ) (from : Option Position) (limit : Option ℕ) (etc usr : List Source) → List ℕ
 last_lines_json device from limit etc usr = hits_json (within_limit limit (last_assignments device from (all_assignments etc usr)))
 
@@ -132,27 +136,27 @@ explanation_json device key (f ∷ overridden) = json_line (explained_key_json d
 abbrev pub explanations_json : List ℕ → List (List ℕ × List Assignment) → List ℕ
 explanations_json device explanations = flat_map (λ p. explanation_json device p.0 p.1) explanations
 
--- what a database gives a device, and where it comes from
+-- what `explain --json` prints: what a database gives a device, and where it comes from
 abbrev pub explain_json : List ℕ → Tree → List ℕ
 explain_json device t = explanations_json device (explained (answers device t))
 
--- the same, of what the files assign
+-- the lines of `explain --json`, said of the files' plain list
 abbrev pub explained_json : (device : List ℕ) (etc usr : List Source) → List ℕ
 explained_json device etc usr = explanations_json device (explained (last_assignments device None (all_assignments etc usr)))
 
 -- ---- what is read of it
 
--- the number that stands there; 0 where none does
+-- what is read of a value as a number; 0 if it is none
 abbrev pub number_in : Json → ℕ
 number_in (number digits) = digits_value 10 digits
 number_in _ = 0
 
--- the bytes that stand there as numbers
+-- what is read of an array of numbers as bytes
 abbrev pub bytes_in : Items → List ℕ
 bytes_in no_items = []
 bytes_in (item value more) = number_in value ∷ bytes_in more
 
--- the text that stands there, as a string or as its bytes; an empty one where none does
+-- what is read of a value as a text, as a string or as its bytes; an empty one if it is none
 abbrev pub text_in : Json → List ℕ
 text_in (string text) = text
 text_in (array bytes) = bytes_in bytes

@@ -10,7 +10,7 @@ use Rattle.hwdb_spec.specs.Patterns.{Matches, tokens}
 abbrev pub HaveOnePlace : Assignment → Assignment → Type 0
 HaveOnePlace a b = (a.position.pattern ≡ b.position.pattern) × (a.position.key ≡ b.position.key)
 
--- it is one of some assignments, and none that stands behind it in their list has its pattern and its key
+-- it is one of some assignments, and none that stands behind it in their list has its pattern and its key (hwdb(7))
 pub record IsLast (all : List Assignment) (a : Assignment) : Type 0 where
   pub before : List Assignment
   pub behind : List Assignment

@@ -26,7 +26,7 @@ fault_number (Priority at) = 11
 abbrev pub fault_place : DbFault → ℕ
 fault_place fault = unwrap_or (db_fault_offset fault) 0
 
--- a fault stands that has this number and this place
+-- a fault stands in the bytes that has this number and this place
 pub record IsFault (bytes : List ℕ) (number place : ℕ) : Type 0 where
   pub fault : DbFault
   pub stands : Applies bytes fault

@@ -27,7 +27,8 @@ unfoldable pub numbered : ℕ → List (List ℕ) → List Line
 numbered number [] = []
 numbered number (text ∷ more) = record { number = number; text = text } ∷ numbered (number + 1) more
 
--- the lines of a file, from the number 1 on
+-- the lines of a file: cut at byte 10 and numbered from 1; a last piece that is empty is none. `LinesAreTheFile` says that
+-- the lines, each with a newline after it, are the file.
 abbrev pub lines : List ℕ → List Line
 lines file = numbered 1 (pieces (is (byte "\n")) file)
 
@@ -70,7 +71,7 @@ trimmed (b ∷ rest) = if (if is_none (trimmed rest) then is_blank b else false)
 abbrev pub clean_line : Line → Line
 clean_line l = record { number = l.number; text = trimmed (before_first (is (byte "#")) l.text) }
 
--- the clean lines of those that aren't dropped
+-- the clean lines of those that aren't dropped (hwdb(7))
 abbrev pub clean : List Line → List Line
 clean [] = []
 clean (l ∷ more) = if is_dropped l then clean more else clean_line l ∷ clean more
@@ -91,7 +92,7 @@ is_match l = if is_empty l then false else not (is_property l)
 abbrev pub max_pattern : ℕ
 max_pattern = 4096
 
--- a match line that is longer
+-- a match line of more than 4,096 bytes
 abbrev pub is_long : Line → Bool
 is_long l = nat_lt max_pattern (length l.text)
 

@@ -12,7 +12,7 @@ use Rattle.hwdb_spec.specs.declared.Class.{Class}
 abbrev pub in_span : ℕ → ℕ × ℕ → Bool
 in_span b span = if nat_le span.0 b then nat_le b span.1 else false
 
--- how a named class is written in a bracket
+-- how a named class is written in a bracket (XCU 2.13)
 abbrev pub class_text : Class → List ℕ
 class_text Alnum = codes "[:alnum:]"
 class_text Alpha = codes "[:alpha:]"
@@ -27,7 +27,7 @@ class_text Space = codes "[:space:]"
 class_text Upper = codes "[:upper:]"
 class_text Xdigit = codes "[:xdigit:]"
 
--- the bytes of a named class
+-- the bytes of a named class (XCU 2.13)
 abbrev pub class_spans : Class → List (ℕ × ℕ)
 class_spans Alnum = (48, 57) ∷ (65, 90) ∷ (97, 122) ∷ []
 class_spans Alpha = (65, 90) ∷ (97, 122) ∷ []
@@ -97,7 +97,7 @@ bracket_of start inverted (Some found) =
 abbrev pub is_inversion : ℕ → Bool
 is_inversion b = if b == byte "!" then true else b == byte "^"
 
--- the closed bracket at the beginning of a text, if one begins there
+-- The closed bracket at the beginning of a text, if one begins there: `[`, an optional `!` or `^`, one or more items, `]`.
 unfoldable pub bracket_at : List ℕ → Option Bracket
 bracket_at [] = None
 bracket_at (first ∷ []) = None
@@ -135,7 +135,7 @@ tokens_from (suc skip) (first ∷ rest) = tokens_from skip rest
 tokens_from zero (first ∷ rest) =
     token_at (first ∷ rest) ∷ tokens_from (token_size (token_at (first ∷ rest)) - 1) rest
 
--- the tokens of a pattern
+-- The tokens of a pattern, cut from the left. A `[` from which no bracket is closed is a byte (hwdb(7), XCU 2.13).
 abbrev pub tokens : List ℕ → List Token
 tokens pattern = tokens_from 0 pattern
 
@@ -174,7 +174,7 @@ piece_then one test device = byte_then one test device
 piece_then (bracket found) test device = byte_then (bracket found) test device
 piece_then (literal own) test device = byte_then (literal own) test device
 
--- `Matches` as a test that computes
+-- `Matches` as a test that computes; `MatchesIsTested` says that the two agree
 unfoldable pub matches : List Token → List ℕ → Bool
 matches [] [] = true
 matches [] (b ∷ rest) = false

@@ -17,7 +17,7 @@ masks listed c = if c.from_etc then lists c.name listed else false
 abbrev pub chosen_line : (listed : List (List ℕ)) → Choice → List ℕ
 chosen_line listed c = path_of c ++ ((if masks listed c then codes " masks /usr/lib/udev/hwdb.d/" ++ c.name else []) ++ byte "\n" ∷ [])
 
--- the number, or the greatest one of 64 bits where it is larger
+-- a number, or the greatest one of 64 bits where it is larger
 abbrev pub within_64_bits : ℕ → ℕ
 within_64_bits n = min n (2 ^ 64 - 1)
 
@@ -26,8 +26,8 @@ abbrev pub kept_line : (files given kept : ℕ) → List ℕ
 kept_line files given kept =
     count_text files (codes "file") ++ (codes ", " ++ (count_text given (codes "assignment") ++ (codes ", " ++ (decimal kept ++ codes " kept\n"))))
 
--- Where the names of /usr/lib's files are given, a line for each chosen file, and how much they assign; what survives of it is
--- kept. Else nothing.
+-- What `update --verbose` says before the fault lines. Where the names of /usr/lib's files are given, a line for each
+-- chosen file, and how much they assign; what survives of it is kept. Else nothing.
 abbrev pub progress_text : (listed : Option (List (List ℕ))) (etc usr : List Source) → List ℕ
 progress_text None etc usr = []
 progress_text (Some listed) etc usr =

@@ -45,7 +45,9 @@ sections_from skip [] = []
 sections_from (suc skip) (l ∷ more) = sections_from skip more
 sections_from zero (l ∷ more) = first_section (l ∷ more) ∷ sections_from (size (first_section (l ∷ more)) - 1) more
 
--- the blocks of the clean lines, and the sections of each
+-- The clean lines, cut at the empty ones into blocks, and these into sections: leading properties, the longest run of match
+-- lines, the longest run of properties, and a match line that is left. `SectionsAreTheBlock` says that they are the whole
+-- block.
 abbrev pub sections : List Line → List Section
 sections ls = flat_map (sections_from 0) (pieces is_empty ls)
 
@@ -75,7 +77,8 @@ property_assignments o ps l = if has_equals l then (if has_key l then map (assig
 abbrev pub section_assignments : Origin → Section → List Assignment
 section_assignments o s = flat_map (property_assignments o (patterns s.matches)) s.properties
 
--- the assignments of a file: by property line, and then by match line
+-- The assignments of a file: each property with a key goes with each match line of its run that has at most 4,096 bytes. By
+-- property line, and then by match line (hwdb(7)).
 abbrev pub assignments : Origin → List ℕ → List Assignment
 assignments o file = flat_map (section_assignments o) (sections (clean (lines file)))
 
@@ -149,6 +152,7 @@ abbrev pub by_line : List Fault → List Fault
 by_line [] = []
 by_line (f ∷ more) = with_fault f (by_line more)
 
--- the faults of a file, by line and then by number
+-- The faults F1 to F7 of a file, by line and then by number. `FaultsAreAll` and `FaultsAscend` say that these are all, each
+-- once, in order, and `OneListOfFaults` that a set of faults has one such list.
 abbrev pub faults : List ℕ → List Fault
 faults file = by_line (all_faults file)

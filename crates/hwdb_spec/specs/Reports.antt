@@ -11,7 +11,7 @@ use Rattle.hwdb_spec.specs.declared.Fault.{Fault}
 use Rattle.hwdb_spec.specs.declared.FaultKind.{FaultKind}
 use Rattle.hwdb_spec.specs.declared.FaultKind.TheVariants.{EmptyKey, LongMatch, NoEquals, NoProperty, StrayMatch, StrayProperty, ZeroByte}
 
--- how many bytes of a line are shown
+-- how many bytes of a line are shown at most: 160
 abbrev pub max_shown : ℕ
 max_shown = 160
 
@@ -35,11 +35,13 @@ shown_line text = codes "    " ++ (shown (take max_shown text) ++ (cut_text text
 abbrev pub spaces : List ℕ → List ℕ
 spaces text = map (λ b. byte " ") text
 
--- the line below it, with a `^` below the byte that stands behind so many others; no line where that byte isn't shown
+-- the line below a shown line, with a `^` below the byte that stands behind so many others; no line where that byte isn't
+-- shown
 abbrev pub mark_line : List ℕ → ℕ → List ℕ
 mark_line text at = if nat_lt at max_shown then codes "    " ++ (spaces (shown (take at text)) ++ codes "^\n") else []
 
--- behind how many bytes of its line a fault stands
+-- After how many bytes of its line a fault stands: where the property begins, at the line's first byte, at the first byte
+-- 0, at the first byte that is too much.
 abbrev pub fault_place : FaultKind → List ℕ → ℕ
 fault_place StrayProperty text = prefix_len is_indent text
 fault_place NoProperty text = 0
@@ -49,7 +51,7 @@ fault_place EmptyKey text = prefix_len is_indent text
 fault_place ZeroByte text = position_or_len (is 0) text
 fault_place LongMatch text = max_pattern
 
--- what to do about a fault
+-- what to do about a fault, one text for each kind
 abbrev pub fault_hint : FaultKind → List ℕ
 fault_hint StrayProperty = codes "put a match line above it, with no empty line between them"
 fault_hint NoProperty = codes "put a property below it, on a line that begins with a space, or take the match line away"
@@ -72,6 +74,6 @@ abbrev pub text_of_line : List Line → ℕ → List ℕ
 text_of_line [] number = []
 text_of_line (l ∷ more) number = if l.number == number then l.text else text_of_line more number
 
--- the reports of the faults of a file
+-- the reports of all faults of a file, by line and number
 abbrev pub reports_text : (path file : List ℕ) → List ℕ
 reports_text path file = flat_map (λ f. report path (text_of_line (lines file) f.line) f) (faults file)

@@ -3,7 +3,7 @@
 use Rattle.std.specs.Prelude.{◌≡◌, ◌≢◌, ◌⊎◌, ◌<◌, ◌≤◌, ℕ, Bool, true, false, List, [], ◌++◌, ◌∷◌, Option, Some, None, codes}
 use Rattle.std.specs.Fmt.{decimal}
 
--- a file: its bytes, and who may read and write it
+-- a file: its bytes, and its mode, which says who may read and write it
 pub record Stored : Type 0 where
   pub bytes : List ℕ
   pub mode : ℕ
@@ -16,14 +16,15 @@ Contents = List ℕ → Option Stored
 abbrev pub Outcomes : Type 1
 Outcomes = List ℕ → Option Stored → Type 0
 
+-- a folder, a slash and a name
 abbrev pub path_in : (folder name : List ℕ) → List ℕ
 path_in folder name = folder ++ 47 ∷ name
 
--- the database's name in its folder
+-- the database's name in its folder, `hwdb.bin` (systemd-hwdb's)
 abbrev pub database_name : List ℕ
 database_name = codes "hwdb.bin"
 
--- the name of the new file: this and a number
+-- the name of a new file: `.#hwdb.bin` and a number (systemd-hwdb's)
 abbrev pub part_name : ℕ → List ℕ
 part_name number = codes ".#hwdb.bin" ++ decimal number
 
@@ -31,10 +32,11 @@ part_name number = codes ".#hwdb.bin" ++ decimal number
 abbrev pub most_parts : ℕ
 most_parts = 65536
 
--- its mode while it is written, and the database's, in octal digits 600 and 444
+-- the mode of a new file while it is written, in octal digits 600 (systemd-hwdb's)
 abbrev pub part_mode : ℕ
 part_mode = 384
 
+-- the mode of the database, in octal digits 444 (systemd-hwdb's)
 abbrev pub database_mode : ℕ
 database_mode = 292
 
@@ -55,16 +57,16 @@ pub record Replaced (path : List ℕ) (file : Stored) (old new : Contents) : Typ
   pub there : new path ≡ Some file
   pub others : SameBut path old new
 
--- a new file was made under the path, empty; or something has the name already, and nothing changed
+-- a new file was made under the path, empty; or something has the name already, and nothing changed (POSIX)
 abbrev pub Created : Bool → (path part : List ℕ) → Contents → Contents → Type 0
 Created true path part old new = (old path ≡ None) × (part ≡ path) × Replaced path record { bytes = []; mode = part_mode } old new
 Created false path part old new = (old path ≢ None) × Same old new
 
--- a write put the bytes behind those of the file under the path
+-- a write put the bytes after those of the file under the path (POSIX)
 abbrev pub Written : (path bytes : List ℕ) → Contents → Contents → Type 0
 Written path bytes old new = (f : Stored) → old path ≡ Some f → new path ≡ Some (record { bytes = f.bytes ++ bytes; mode = f.mode })
 
--- the file under the path has another mode
+-- the file under the path has another mode (POSIX)
 abbrev pub ModeSet : (path : List ℕ) (mode : ℕ) → Contents → Contents → Type 0
 ModeSet path mode old new = (f : Stored) → old path ≡ Some f → new path ≡ Some (record { bytes = f.bytes; mode = mode })
 
@@ -78,7 +80,7 @@ pub record IsPartPath (folder p : List ℕ) : Type 0 where
 abbrev pub IsKept : (folder : List ℕ) (old new : Contents) → List ℕ → Type 0
 IsKept folder old new p = (new p ≡ old p) ⊎ (IsPartPath folder p × (new p ≡ None))
 
--- all that changed is that leftovers of killed updates are gone
+-- all that changed is that leftovers of killed updates are gone (our choice)
 abbrev pub Cleared : (folder : List ℕ) → Contents → Contents → Type 0
 Cleared folder old new = (p : List ℕ) → IsKept folder old new p
 
@@ -86,12 +88,12 @@ Cleared folder old new = (p : List ℕ) → IsKept folder old new p
 abbrev pub OldOrCleared : (folder : List ℕ) (outcomes : Outcomes) → Outcomes
 OldOrCleared folder outcomes p v = outcomes p v ⊎ (IsPartPath folder p × (v ≡ None))
 
--- the file under the path is gone
+-- the file under the path is gone (POSIX)
 pub record Removed (path : List ℕ) (old new : Contents) : Type 0 where
   pub gone : new path ≡ None
   pub others : SameBut path old new
 
--- the one path has what the other one had, and the other one nothing
+-- the one path has what the other one had, and the other one nothing (POSIX)
 pub record Renamed (from to : List ℕ) (old new : Contents) : Type 0 where
   pub there : new to ≡ old from
   pub gone : from ≢ to → new from ≡ None
@@ -101,21 +103,23 @@ pub record Renamed (from to : List ℕ) (old new : Contents) : Type 0 where
 abbrev pub NoMore : Outcomes → Outcomes → Type 0
 NoMore old new = (p : List ℕ) (v : Option Stored) → new p v → old p v
 
--- nor under every path but one
+-- a crash leaves nothing that it might not have left before, except under one path
 abbrev pub NoMoreBut : List ℕ → Outcomes → Outcomes → Type 0
 NoMoreBut path old new = (p : List ℕ) (v : Option Stored) → p ≢ path → new p v → old p v
 
--- nor but under the path of a file that was made
+-- A crash leaves nothing that it might not have left before, except at the path of a file that was made. If none was made,
+-- it leaves nothing new at all.
 abbrev pub NoMoreCreated : Bool → (path : List ℕ) → Outcomes → Outcomes → Type 0
 NoMoreCreated true path old new = NoMoreBut path old new
 NoMoreCreated false path old new = NoMore old new
 
--- nor after a rename, but under the second path the file that stood under the first, as it stood there if it is whole
+-- A crash leaves nothing that it might not have left before, except at the two paths of a rename. If the file was whole on the
+-- disk, then under the second path nothing is new but that file.
 pub record NoMoreRenamed (from to : List ℕ) (file : Option Stored) (is_whole : Type 0) (old new : Outcomes) : Type 0 where
   pub there : is_whole → (v : Option Stored) → new to v → old to v ⊎ (v ≡ file)
   pub others : (p : List ℕ) (v : Option Stored) → p ≢ from → p ≢ to → new p v → old p v
 
--- a crash leaves this under the path
+-- whatever a crash leaves under the path, it is this
 abbrev pub Always : List ℕ → Option Stored → Outcomes → Type 0
 Always path file outcomes = (v : Option Stored) → outcomes path v → v ≡ file
 
@@ -147,7 +151,7 @@ pub record IsPart (folder : List ℕ) (old : Contents) (p : List ℕ) : Type 0 w
 abbrev pub LeftAtParts : (folder : List ℕ) (old : Contents) → Outcomes
 LeftAtParts folder old p v = IsPart folder old p ⊎ (IsPartPath folder p × (v ≡ None))
 
--- but for the paths of new files, what a crash might have left before
+-- under each path but those of new files, a crash leaves what it might have left before
 abbrev pub OldOrPart : (folder : List ℕ) (old : Contents) (outcomes : Outcomes) → Outcomes
 OldOrPart folder old outcomes p v = outcomes p v ⊎ LeftAtParts folder old p v
 

@@ -31,8 +31,8 @@ unfoldable mutual
 abbrev pub different : List (List ℕ) → ℕ
 different texts = length (ascending texts)
 
--- How much is in a database: the files that its assignments come from, patterns, keys, assignments, nodes, how many of
--- them stand one below the other, and its bytes.
+-- How much is in a database: the files that its assignments come from, patterns, keys, assignments, nodes, how many of them
+-- stand one below the other, the root counted, and its bytes.
 pub record Summary : Type 0 where
   pub files : ℕ
   pub patterns : ℕ
@@ -58,7 +58,7 @@ summary_of bytes t = record {
 abbrev pub count_line : (name : List ℕ) → ℕ → List ℕ
 count_line name n = name ++ (codes ": " ++ (decimal n ++ byte "\n" ∷ []))
 
--- a line for each number of a summary
+-- what `verify` prints of a database: a line for each number of its summary
 abbrev pub summary_text : Summary → List ℕ
 summary_text s =
     count_line (codes "files") s.files

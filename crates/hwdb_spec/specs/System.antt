@@ -26,18 +26,19 @@ pub record AreFilesIn (folder : List ℕ) (contents : Contents) (files : List So
   pub names : AreNamesIn folder contents (map (λ (s : Source). s.name) files)
   pub bytes : All (λ (s : Source). bytes_at contents (path_in folder s.name) ≡ Some s.bytes) files
 
--- the folders of the text files below a root
+-- the folder of the text files of /etc, below a root (systemd-hwdb(8))
 abbrev pub etc_files : (root : List ℕ) → List ℕ
 etc_files root = root ++ codes "/etc/udev/hwdb.d"
 
+-- the folder of the text files of /usr/lib, below a root (systemd-hwdb(8))
 abbrev pub usr_files : (root : List ℕ) → List ℕ
 usr_files root = root ++ codes "/usr/lib/udev/hwdb.d"
 
--- the folder of a database below a root: that of /usr/lib, or that of /etc
+-- the folder of a database below a root: that of /usr/lib, or that of /etc (systemd-hwdb(8))
 abbrev pub database_folder : (usr : Bool) (root : List ℕ) → List ℕ
 database_folder usr root = root ++ (if usr then codes "/usr/lib/udev" else codes "/etc/udev")
 
--- the database below a root that is asked: /etc's, or where nothing stands there that of /usr/lib
+-- the database below a root that is asked: /etc's, or, if nothing stands there, that of /usr/lib (libudev's order)
 abbrev pub asked_database : (root : List ℕ) → Contents → Option (List ℕ)
 asked_database root contents =
     option_or (bytes_at contents (path_in (database_folder false root) database_name)) (bytes_at contents (path_in (database_folder true root) database_name))

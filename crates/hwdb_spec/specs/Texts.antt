@@ -26,7 +26,7 @@ pub record IsSpelling (p : Position) (bytes : List ℕ) : Type 0 where
   pub key : decode_of key_text ≡ Ok p.key
   pub text : bytes ≡ position_text p.priority p.line pattern_text key_text
 
--- it begins with the two numbers of a position, each with its colon
+-- a text begins with the two numbers of a position, each with its colon
 pub record HasNumbers (bytes : List ℕ) : Type 0 where
   pub priority : ℕ
   pub line : ℕ
@@ -35,7 +35,7 @@ pub record HasNumbers (bytes : List ℕ) : Type 0 where
   pub small_line : line < 2 ^ 32
   pub text : bytes ≡ decimal priority ++ 58 ∷ (decimal line ++ 58 ∷ rest)
 
--- the one text that is written of a position: its hexadecimal digits stand in lower case
+-- the one text that is written of a position: its hexadecimal digits are in lower case
 abbrev pub canonical : Position → List ℕ
 canonical p = position_text p.priority p.line (encode_lower p.pattern) (encode_lower p.key)
 
@@ -90,7 +90,7 @@ db_fault_name (StringOffset at) = codes "B9"
 db_fault_name (KeyOrder at) = codes "B10"
 db_fault_name (Priority at) = codes "B11"
 
--- the offset at which it stands, if it has one
+-- the offset at which a fault of the database stands, if it has one
 abbrev pub db_fault_offset : DbFault → Option ℕ
 db_fault_offset (Place at) = Some at
 db_fault_offset (Depth at) = Some at
@@ -100,7 +100,7 @@ db_fault_offset (KeyOrder at) = Some at
 db_fault_offset (Priority at) = Some at
 db_fault_offset _ = None
 
--- its name, and behind that its offset
+-- the name of a fault of the database, and after it the offset, as they are printed
 abbrev pub at_offset : List ℕ → Option ℕ → List ℕ
 at_offset name None = name
 at_offset name (Some at) = name ++ (codes " at " ++ decimal at)
@@ -127,7 +127,7 @@ with_empty_lines (text ∷ more) = text ++ (empty_line more ++ with_empty_lines 
 abbrev pub queries_text : List (List ℕ) → Tree → List ℕ
 queries_text devices t = with_empty_lines (map (λ device. query_text device t) devices)
 
--- the devices that a text names: its lines
+-- The devices that a text names: its lines. An empty line is the empty device, and a last line without a newline counts.
 abbrev pub devices_of : List ℕ → List (List ℕ)
 devices_of text = pieces (is (byte "\n")) text
 
@@ -139,7 +139,7 @@ list_text device after limit t = hits_text (within_limit limit (answers_after de
 abbrev pub last_values_text : (device : List ℕ) (etc usr : List Source) → List ℕ
 last_values_text device etc usr = properties_text (effective_of (last_assignments device None (all_assignments etc usr)))
 
--- the same of each of some devices
+-- the same for each of some devices
 abbrev pub last_values_texts : (devices : List (List ℕ)) (etc usr : List Source) → List ℕ
 last_values_texts devices etc usr = with_empty_lines (map (λ device. last_values_text device etc usr) devices)
 

@@ -86,7 +86,8 @@ Map = finite.FinMap place_cmp Assignment
 abbrev pub entry_of : Assignment → (List ℕ × List ℕ) × Assignment
 entry_of a = ((a.position.pattern, a.position.key), a)
 
--- the map that a tree stands for
+-- The map that a tree stands for: for a pattern and a key the priority, line, value and path of the value with the stored
+-- key 'space, key' at the node with that path.
 unfoldable pub map_of : Tree → Map
 map_of t = finite.from_entries (map entry_of (members_under [] t))
 
@@ -96,7 +97,7 @@ KeysAscend before [] = Unit {0}
 KeysAscend before (v ∷ vs) = IsAbove before v.key × KeysAscend (Some v.key) vs
 
 unfoldable mutual
-  -- at each node the stored keys ascend, and so do the children's bytes, which aren't 0
+  -- at each node the stored keys ascend and the children's bytes ascend from 1
   pub IsTree : Tree → Type 0
   IsTree (Node prefix values children) = KeysAscend None values × BytesAscend 0 children
 
@@ -105,7 +106,7 @@ unfoldable mutual
   BytesAscend before NoMore = Unit {0}
   BytesAscend before (Child byte tree more) = (before < byte) × IsTree tree × BytesAscend byte more
 
--- the map of those that survive: of the assignments with one pattern and key the last
+-- the map of those that survive: of the assignments with one pattern and key the last, by priority and line (hwdb(7))
 abbrev pub surviving : List Assignment → Map
 surviving all = finite.from_entries (map entry_of (reverse all))
 
@@ -117,11 +118,11 @@ map_of_files etc usr = surviving (all_assignments etc usr)
 abbrev pub IsTreeOfFiles : (etc usr : List Source) → Tree → Type 0
 IsTreeOfFiles etc usr t = map_of t ≡ surviving (all_assignments etc usr)
 
--- the answers, ascending
+-- the answers: the assignments of a tree whose pattern matches the device, ascending
 unfoldable pub answers : List ℕ → Tree → List Assignment
 answers device t = in_order assignment_cmp (filter (is_wanted device) (members_under [] t))
 
--- the answers after a position
+-- the answers after a position, which are strictly greater
 unfoldable pub answers_after : List ℕ → Option Position → Tree → List Assignment
 answers_after device after t = filter (is_behind after) (answers device t)
 
@@ -145,7 +146,8 @@ closed_from zero (first ∷ rest) =
 abbrev pub closed_part : List ℕ → List ℕ
 closed_part path = closed_from 0 path
 
--- A path is live for a device if its closed part, read as a pattern, matches some prefix of the device.
+-- A path is live for a device if its closed part, read as a pattern, matches some prefix of the device. `is_live` is the
+-- test.
 abbrev pub IsLive : List ℕ → List ℕ → Type 0
 IsLive path device = (n : ℕ) × (n ≤ length device) × Matches (tokens (closed_part path)) (take n device)
 

@@ -6,7 +6,7 @@ use Rattle.hwdb_spec.specs.declared.DbFault.{DbFault}
 use Rattle.hwdb_spec.specs.declared.DbFault.TheVariants.{Short, Signature, RecordSizes, Lengths, Strings, Place, Depth, ChildOrder, StringOffset, KeyOrder, Priority}
 use Rattle.hwdb_spec.specs.Texts.{at_offset, db_fault_name, db_fault_offset}
 
--- what is wrong
+-- what is wrong with bytes that have a fault of a database
 abbrev pub db_fault_words : DbFault → List ℕ
 db_fault_words Short = codes "it has fewer than the 80 bytes of a header"
 db_fault_words Signature = codes "it doesn't begin with the signature KSLPHHRH"
@@ -20,7 +20,7 @@ db_fault_words (StringOffset at) = codes "a string is said to be outside of the 
 db_fault_words (KeyOrder at) = codes "a key of a node isn't above the key before it"
 db_fault_words (Priority at) = codes "the file of an assignment has priority 0"
 
--- where it may come from
+-- where a fault of a database may come from
 abbrev pub db_fault_cause : DbFault → List ℕ
 db_fault_cause Short = codes "the file was cut short, or is no hardware database"
 db_fault_cause Signature = codes "the file is no hardware database"
@@ -29,7 +29,8 @@ db_fault_cause Lengths = codes "the file was cut short or written over"
 db_fault_cause Strings = codes "the file was cut short or written over"
 db_fault_cause fault = codes "the file is damaged, or a tool wrote it that orders its records otherwise"
 
--- what to do: a text file is one for `check`, by the end of its name; every other file is written anew
+-- what to do about a file that is no database: a text file is one for `check`, by the end `.hwdb` of its name; every other
+-- file is made anew
 abbrev pub remedy : (path : List ℕ) → List ℕ
 remedy path = if ends_with nat_eq path (codes ".hwdb") then codes "'hwdb check' is for text files" else codes "make it anew with 'hwdb update'"
 
@@ -47,6 +48,6 @@ abbrev pub explanation_text : (path : List ℕ) → DbFault → List ℕ
 explanation_text path fault =
     codes "\n    " ++ (db_fault_words fault ++ (codes "\n    cause: " ++ (db_fault_cause fault ++ (codes "\n    hint: " ++ remedy path))))
 
--- the words of a fault of the database at a path, and below them what explains it
+-- the words of `verify`: a fault of the database at a path, and below it what explains it
 abbrev pub verdict_text : (path : List ℕ) → DbFault → List ℕ
 verdict_text path fault = fault_text path fault ++ explanation_text path fault

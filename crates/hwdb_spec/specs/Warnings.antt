@@ -102,7 +102,7 @@ all_warnings file line clean =
 abbrev pub line_warnings : (file : List ℕ) → Line → List WarningKind
 line_warnings file l = if is_dropped l then [] else all_warnings file l (clean_line l)
 
--- the warnings of a file
+-- the warnings of a file, by line
 abbrev pub warnings : List ℕ → List WarningKind
 warnings file = flat_map (line_warnings file) (lines file)
 

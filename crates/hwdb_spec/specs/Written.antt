@@ -94,7 +94,8 @@ header_text t =
     codes "KSLPHHRH" ++ flat_map (little_bytes 8)
     (1 ∷ (header_bytes + text_size t + strings) ∷ header_bytes ∷ node_bytes ∷ child_bytes ∷ value_bytes ∷ record_at header_bytes t ∷ text_size t ∷ strings ∷ [])
 
--- the database of a tree
+-- The database of a tree: records of 80, 24, 16 and 32 bytes, children first; each distinct string once, ascending; tool
+-- version 1, padding 0.
 unfoldable pub written : Tree → List ℕ
 written t = header_text t ++ node_text (place_of (header_bytes + text_size t) (table_of t)) header_bytes t ++ section_of (table_of t)
 
@@ -117,18 +118,19 @@ unfoldable mutual
   pub IsForked : Tree → Type 0
   IsForked (Node prefix values children) = 0 < length values + (count children - 1)
 
--- the tree stands for the map, the root has no prefix, and no node is there without need
+-- The tree stands for the map, the root has no prefix, and no node is there without need: each other one has a value or at
+-- least two children. A map has one such tree.
 pub record IsTightTree (m : Map) (t : Tree) : Type 0 where
   pub ordered : IsTree t
   pub root : prefix_of t ≡ []
   pub tight : IsTight t
   pub same : map_of t ≡ m
 
--- the bytes are the written form of the map
+-- the bytes are the written form of the map: `written` of its tight tree
 abbrev pub IsWritten : Map → List ℕ → Type 0
 IsWritten m bytes = (t : Tree) × IsTightTree m t × (bytes ≡ written t)
 
--- the written form of the map has more bytes than that
+-- the written form of the map has more bytes than a limit
 abbrev pub IsLonger : Map → ℕ → Type 0
 IsLonger m most = (bytes : List ℕ) × IsWritten m bytes × (most < length bytes)
 

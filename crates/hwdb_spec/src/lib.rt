@@ -18,16 +18,19 @@
 //! | `Texts` | each line that is printed |
 //! | `Explanations` | for each key the answer that counts and those that it overrides, and their lines |
 //! | `Differences` | what came, went and changed between two databases, and its lines |
+//! | `Dump` | a database as text of the form that hwdb(7) describes, and whether the text says what the database assigns |
 //! | `Summary` | how much is in a database, and its lines |
 //! | `Verdicts` | what is said of bytes that are no database |
 //! | `Reports` | the reports of a file's faults |
 //! | `Warnings` | the warnings of a file, and their reports |
 //! | `Checks` | what `check` prints, how much it finds, and its status |
+//! | `Progress` | what `update` says of its work |
 //! | `Json` | each line of JSON that is printed, and what is read of one |
 //! | `Failures` | how failed calls are counted |
 //! | `Store` | a store of files, what a crash may leave, and a database that is replaced |
 //! | `System` | a file system as the program sees it: text files of folders, and the database that is asked |
 //! | `Library` | what the C library is told |
+//! | `Hiding` | what `update --usr --verbose` says where /etc's database hides the new one |
 //!
 //! The types below are those that the definitions name.
 #![tactic(auto)]
