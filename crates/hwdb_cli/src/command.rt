@@ -217,9 +217,12 @@ fn query_command<'a>(alloc: Global) -> Draft<'a>
 fn explain_command<'a>(alloc: Global) -> Draft<'a>
     ensures { IsDraft explain_app result }
 {
+    let help =
+        "The device string, or - for the lines of standard input; one that begins with - stands after --";
     let command = shared(alloc, "explain", EXPLAIN_ABOUT, EXPLAIN_AFTER);
     let with_json = with_argument(command, json_option(alloc));
-    with_argument(with_json, device_argument(alloc))
+    let device = needed_word(alloc, "MODALIAS", help, ArgAction::Set);
+    with_argument(with_json, device)
 }
 
 fn ask_command<'a>(alloc: Global) -> Draft<'a>

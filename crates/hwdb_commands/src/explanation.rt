@@ -65,7 +65,10 @@ fn push_explanation(text: &mut Vec<u8>, explained: &Explained<'_>) -> Result<(),
 }
 
 /// What is told of each key, one after another.
-fn explanation_lines(alloc: Global, explanations: &[Explained<'_>]) -> Result<Vec<u8>, AllocError>
+pub fn explanation_lines(
+    alloc: Global,
+    explanations: &[Explained<'_>],
+) -> Result<Vec<u8>, AllocError>
     ensures { IfOk result
         (λ text. text.items ≡ explanations_text (explained_values explanations.now)) }
 {

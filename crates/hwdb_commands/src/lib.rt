@@ -30,8 +30,9 @@ mod single_file;
 mod texts;
 mod update;
 
-pub use explanation::run_explain;
+pub use explanation::{explanation_lines, run_explain};
 pub use json_answers::{answer_line, run_explain_json, run_list_json, run_queries_json};
+pub use json_explanations::explanation_lines_json;
 pub use json_laws::json_is_read_back;
 pub use lookup::{run_list, run_queries, run_query};
 pub use single_file::ask;

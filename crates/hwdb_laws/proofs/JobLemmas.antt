@@ -16,10 +16,10 @@ use Rattle.hwdb_cli.specs.declared.job.Task.TheVariants.{Ask, Check, Diff, Dump,
 use Rattle.hwdb_spec.specs.Store.{Contents, Outcomes, Same}
 use Rattle.hwdb_tasks.specs.CheckedFiles.{AreCheckedFiles, IsChecked}
 use Rattle.hwdb_tasks.specs.ComparedDatabases.{IsCompared}
-use Rattle.hwdb_tasks.specs.Done.{IsAnswered, IsAsked, IsListFrom, explain_form}
+use Rattle.hwdb_tasks.specs.Done.{IsAnswered, IsAsked, IsListFrom}
 use Rattle.hwdb_tasks.specs.NamedDatabases.{IsDumped, IsPrinted, IsSummary}
 use Rattle.hwdb_tasks.specs.Queries.{AreAnswered}
-use Rattle.hwdb_transfer.specs.Databases.{IsTextOf}
+use Rattle.hwdb_stream.specs.declared.form.Form.TheVariants as form
 use Rattle.hwdb_tool.specs.Program.{IsDone, IsJobDone, IsQuiet, IsTaskDone, root_of}
 use Rattle.hwdb_laws.specs.Laws.{DoneIsNotTold, IsFunction, IsOneOutcome, JobsAreOne, TasksAreOne}
 
@@ -60,8 +60,8 @@ module _ (name : Text) (inner : List Row) (root : List ℕ) (usr strict : Bool) 
   same_task (Update v1) (Dump database2) t u done = absurd (apart (codes "update") (codes "dump") (sym t.0 ∙ u.0) (λ (e : 117112 ≡ 100117). omega (arith, e)))
   same_task (Query devices1 json1) (Update v2) t u done = absurd (apart (codes "query") (codes "update") (sym t.0 ∙ u.0) (λ (e : 113117 ≡ 117112). omega (arith, e)))
   same_task (Query devices1 json1) (Query devices2 json2) t u done =
-      subst (λ (ds : List (List ℕ)). AreAnswered root json1 ds input old out_before out × IsQuiet status old new err_before err) (one_values (all_of (codes "MODALIAS") inner) _ _ u.2 t.2)
-      (subst (λ (j : Bool). AreAnswered root j (map string_bytes devices2.items) input old out_before out × IsQuiet status old new err_before err) (u.1 ∙ sym t.1) done)
+      subst (λ (ds : List (List ℕ)). AreAnswered root (form.Query json1) ds input old out_before out × IsQuiet status old new err_before err) (one_values (all_of (codes "MODALIAS") inner) _ _ u.2 t.2)
+      (subst (λ (j : Bool). AreAnswered root (form.Query j) (map string_bytes devices2.items) input old out_before out × IsQuiet status old new err_before err) (u.1 ∙ sym t.1) done)
   same_task (Query devices1 json1) (Explain device2 json2) t u done = absurd (apart (codes "query") (codes "explain") (sym t.0 ∙ u.0) (λ (e : 113117 ≡ 101120). omega (arith, e)))
   same_task (Query devices1 json1) (ListHits after2 limit2 device2 json2) t u done = absurd (apart (codes "query") (codes "list") (sym t.0 ∙ u.0) (λ (e : 113117 ≡ 108105). omega (arith, e)))
   same_task (Query devices1 json1) (Ask file2 device2) t u done = absurd (apart (codes "query") (codes "ask") (sym t.0 ∙ u.0) (λ (e : 113117 ≡ 97115). omega (arith, e)))
@@ -72,8 +72,8 @@ module _ (name : Text) (inner : List Row) (root : List ℕ) (usr strict : Bool) 
   same_task (Explain device1 json1) (Update v2) t u done = absurd (apart (codes "explain") (codes "update") (sym t.0 ∙ u.0) (λ (e : 101120 ≡ 117112). omega (arith, e)))
   same_task (Explain device1 json1) (Query devices2 json2) t u done = absurd (apart (codes "explain") (codes "query") (sym t.0 ∙ u.0) (λ (e : 101120 ≡ 113117). omega (arith, e)))
   same_task (Explain device1 json1) (Explain device2 json2) t u done =
-      subst (λ (d : List ℕ). IsAnswered root (IsTextOf (explain_form json1 d)) old out_before out × IsQuiet status old new err_before err) (one_value (first_of (codes "MODALIAS") inner) _ _ u.2 t.2)
-      (subst (λ (j : Bool). IsAnswered root (IsTextOf (explain_form j (string_bytes device2))) old out_before out × IsQuiet status old new err_before err) (u.1 ∙ sym t.1) done)
+      subst (λ (d : List ℕ). AreAnswered root (form.Explain json1) (d ∷ []) input old out_before out × IsQuiet status old new err_before err) (one_value (first_of (codes "MODALIAS") inner) _ _ u.2 t.2)
+      (subst (λ (j : Bool). AreAnswered root (form.Explain j) (string_bytes device2 ∷ []) input old out_before out × IsQuiet status old new err_before err) (u.1 ∙ sym t.1) done)
   same_task (Explain device1 json1) (ListHits after2 limit2 device2 json2) t u done = absurd (apart (codes "explain") (codes "list") (sym t.0 ∙ u.0) (λ (e : 101120 ≡ 108105). omega (arith, e)))
   same_task (Explain device1 json1) (Ask file2 device2) t u done = absurd (apart (codes "explain") (codes "ask") (sym t.0 ∙ u.0) (λ (e : 101120 ≡ 97115). omega (arith, e)))
   same_task (Explain device1 json1) (Check files2) t u done = absurd (apart (codes "explain") (codes "check") (sym t.0 ∙ u.0) (λ (e : 101120 ≡ 99104). omega (arith, e)))

@@ -23,10 +23,12 @@ use Rattle.hwdb_spec.specs.Texts.{devices_of, faults_text_at, query_text}
 use Rattle.hwdb_spec.specs.Tree.{Map, Tree, map_of_files}
 use Rattle.hwdb_spec.specs.Written.{IsWritten}
 use Rattle.hwdb_query.specs.Laws.{SpellsOne}
+use Rattle.hwdb_stream.specs.declared.form.Form.{Form}
+use Rattle.hwdb_stream.specs.declared.form.Form.TheVariants as forms
 use Rattle.hwdb_stream.specs.Streams.{texts_of}
 use Rattle.hwdb_tasks.specs.CheckedFiles.{AreCheckedFiles}
 use Rattle.hwdb_tasks.specs.ComparedDatabases.{IsCompared}
-use Rattle.hwdb_tasks.specs.Done.{IsAnswered, IsAsked, IsFrom, IsListFrom, explain_form, list_form}
+use Rattle.hwdb_tasks.specs.Done.{IsAnswered, IsAsked, IsFrom, IsListFrom, list_form}
 use Rattle.hwdb_tasks.specs.NamedDatabases.{IsPrinted, IsSummary, named_database}
 use Rattle.hwdb_tasks.specs.Queries.{AreAnsweredFrom, is_input}
 use Rattle.hwdb_transfer.specs.Databases.{IsTextOf}
@@ -85,11 +87,11 @@ one_given_sources input files (x ∷ xs) (y ∷ ys) n p q =
 module _ (tree : (bytes : List ℕ) (t u : Tree) → IsDatabase bytes t → IsDatabase bytes u → t ≡ u)
     (form : (m : Map) (a b : List ℕ) → IsWritten m a → IsWritten m b → a ≡ b)
     (spells : SpellsOne) (one_choice : ListingsGiveOneChoice) (one_reading : ListingsGiveOneReading) where
-  output : (from_input : Bool) (root : List ℕ) (json : Bool) (devices : List (List ℕ)) (input : List ℕ) (files : Contents)
-      (before : List ℕ) (now now2 : Option (List ℕ)) → AreAnsweredFrom from_input root json devices (Some input) files (Some before) now
-      → AreAnsweredFrom from_input root json devices (Some input) files (Some before) now2 → now ≡ now2
-  output false root json devices input files before now now2 one two = one_answer tree root (texts_of json devices) files before now now2 one two
-  output true root json devices input files before now now2 one two = one_answer tree root (texts_of json (devices_of input)) files before now now2 one two
+  output : (from_input : Bool) (root : List ℕ) (kind : Form) (devices : List (List ℕ)) (input : List ℕ) (files : Contents)
+      (before : List ℕ) (now now2 : Option (List ℕ)) → AreAnsweredFrom from_input root kind devices (Some input) files (Some before) now
+      → AreAnsweredFrom from_input root kind devices (Some input) files (Some before) now2 → now ≡ now2
+  output false root kind devices input files before now now2 one two = one_answer tree root (texts_of kind devices) files before now now2 one two
+  output true root kind devices input files before now now2 one two = one_answer tree root (texts_of kind (devices_of input)) files before now now2 one two
 
   from : (after : Option (List ℕ)) (p q : Option Position) → IsFrom after p → IsFrom after q → p ≡ q
   from None None None one two = refl
@@ -137,13 +139,13 @@ module _ (tree : (bytes : List ℕ) (t u : Tree) → IsDatabase bytes t → IsDa
       one_status = one.1.0 ∙ sym two.1.0;
       one_files = one_kept (database_folder usr root) old new new2 one.1.1 two.1.1;
       one_err = one.1.2 ∙ sym two.1.2;
-      one_out = output (is_input (map string_bytes devices.items)) root json (map string_bytes devices.items) input old out_before out out2 one.0 two.0;
+      one_out = output (is_input (map string_bytes devices.items)) root (forms.Query json) (map string_bytes devices.items) input old out_before out out2 one.0 two.0;
     }
     each (Explain device json) = λ root usr strict status status2 input old new new2 err_before out_before err err2 out out2 one two. record {
       one_status = one.1.0 ∙ sym two.1.0;
       one_files = one_kept (database_folder usr root) old new new2 one.1.1 two.1.1;
       one_err = one.1.2 ∙ sym two.1.2;
-      one_out = one_answer tree root (explain_form json (string_bytes device)) old out_before out out2 one.0 two.0;
+      one_out = output (is_input (string_bytes device ∷ [])) root (forms.Explain json) (string_bytes device ∷ []) input old out_before out out2 one.0 two.0;
     }
     each (ListHits after limit device json) = λ root usr strict status status2 input old new new2 err_before out_before err err2 out out2 one two. record {
       one_status = one.1.0 ∙ sym two.1.0;

@@ -19,6 +19,7 @@ pub mod Warnings
 pub mod Checks
 pub mod Progress
 pub mod Json
+pub mod ManyDevices
 pub mod Failures
 pub mod Store
 pub mod System

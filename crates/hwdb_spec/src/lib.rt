@@ -26,6 +26,7 @@
 //! | `Checks` | what `check` prints, how much it finds, and its status |
 //! | `Progress` | what `update` says of its work |
 //! | `Json` | each line of JSON that is printed, and what is read of one |
+//! | `ManyDevices` | what `explain` prints of several devices, and a line of devices that is too long |
 //! | `Failures` | how failed calls are counted |
 //! | `Store` | a store of files, what a crash may leave, and a database that is replaced |
 //! | `System` | a file system as the program sees it: text files of folders, and the database that is asked |

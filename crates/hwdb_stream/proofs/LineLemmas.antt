@@ -5,9 +5,10 @@ use Rattle.std.proofs.lemmas.List.{drop-drop, drop-take, take_all}
 use Rattle.std.specs.Io.KnownBytes.{Consumes, IsAtEnd, Keeps, prepend_known}
 use Rattle.std.specs.List.{onto_first, position_or_len}
 use Rattle.hwdb_spec.specs.Lines.{has, is, pieces}
+use Rattle.hwdb_spec.specs.ManyDevices.{HasLongLine}
 use Rattle.hwdb_transfer.specs.declared.errors.ToolError.{ToolError}
 use Rattle.hwdb_stream.specs.Internal.{IsRefilled, IsTaken}
-use Rattle.std.specs.Prelude.{IsErrOf}
+use Rattle.std.specs.Prelude.{Any, IsErrOf}
 use Rattle.std.specs.Result.{IsErrAnd}
 use Rattle.hwdb_stream.specs.Streams.{IsFirstLine}
 
@@ -172,6 +173,44 @@ line_too_long (Some x) None line held limit p f h = absurd p
 line_too_long (Some x) (Some y) line held limit p f h =
     let P : List ℕ → Type 0 = λ l. limit < position_or_len (is 10) l in
     subst P (sym p) (let far = past line held y f in omega (arith, far, h))
+
+-- ---- a line that is too long
+
+-- the first of some lines is longer
+abbrev IsFirstLong : ℕ → List (List ℕ) → Type 0
+IsFirstLong limit [] = ⊥
+IsFirstLong limit (l ∷ ls) = limit < length l
+
+onto_none : (x : ℕ) (ls : List (List ℕ)) → IsFirstLong 0 (onto_first x ls)
+onto_none x [] = omega arith
+onto_none x (l ∷ ls) = omega arith
+
+onto_long : (x limit : ℕ) (ls : List (List ℕ)) → IsFirstLong limit ls → IsFirstLong (suc limit) (onto_first x ls)
+onto_long x limit [] h = absurd h
+onto_long x limit (l ∷ ls) h = omega (arith, h)
+
+long_by : (t : Bool) (x n limit : ℕ) (ls : List (List ℕ)) → ((m : ℕ) → m < n → IsFirstLong m ls) → limit < cond (not t) (1 + n) 0
+    → IsFirstLong limit (cond t ([] ∷ ls) (onto_first x ls))
+long_by true x n limit ls f h = absurd (let g : limit < 0 = h in omega (arith, g))
+long_by false x n zero ls f h = onto_none x ls
+long_by false x n (suc m) ls f h = onto_long x m ls (f m (let g : suc m < 1 + n = h in omega (arith, g)))
+
+first_long : (xs : List ℕ) (limit : ℕ) → limit < position_or_len (is 10) xs → IsFirstLong limit (pieces (is 10) xs)
+unfolding pieces
+first_long [] limit h = absurd (omega (arith, h))
+first_long (x ∷ xs) limit h = long_by (is 10 x) x (position_or_len (is 10) xs) limit (pieces (is 10) xs) (first_long xs) h
+
+any_long : (limit : ℕ) (ls : List (List ℕ)) → IsFirstLong limit ls → Any (λ (l : List ℕ). limit < length l) ls
+any_long limit [] h = absurd h
+any_long limit (l ∷ ls) h = (0, l, omega arith, refl, h)
+
+-- the first newline stands too far behind
+pub long_line : (limit : ℕ) (xs : List ℕ) → limit < position_or_len (is 10) xs → HasLongLine limit xs
+long_line limit xs h = any_long limit (pieces (is 10) xs) (first_long xs limit h)
+
+-- a line behind the first
+pub long_behind : (limit : ℕ) (line : List ℕ) (ls : List (List ℕ)) → Any (λ (l : List ℕ). limit < length l) ls → Any (λ (l : List ℕ). limit < length l) (line ∷ ls)
+long_behind limit line ls a = (suc a.0, a.1, omega (arith, a.2), a.3, a.4)
 
 -- ---- what is held
 

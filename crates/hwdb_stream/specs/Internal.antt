@@ -2,10 +2,13 @@
 use Rattle.std.specs.Prelude.{ℕ, List, [], Bool, true, false, ◌≡◌, ◌<◌, ◌∷◌, ◌++◌, Option, flat_map, length}
 use Rattle.std.specs.Io.KnownBytes.{IsAtEnd, Keeps, prepend_known}
 use Rattle.hwdb_spec.specs.Answers.{effective_of}
-use Rattle.hwdb_spec.specs.Json.{device_json, json_line}
+use Rattle.hwdb_spec.specs.Explanations.{explain_text}
+use Rattle.hwdb_spec.specs.Json.{device_json, explain_json, json_line}
 use Rattle.hwdb_spec.specs.Lines.{byte, has}
 use Rattle.hwdb_spec.specs.Texts.{query_text}
 use Rattle.hwdb_spec.specs.Tree.{Tree, answers}
+use Rattle.hwdb_stream.specs.declared.form.Form.{Form}
+use Rattle.hwdb_stream.specs.declared.form.Form.TheVariants.{Explain, Query}
 use Rattle.hwdb_stream.specs.Streams.{texts_of}
 
 -- a text, and in front of it an empty line where it isn't the first
@@ -14,14 +17,16 @@ text_behind true text = text
 text_behind false text = byte "\n" ∷ text
 
 -- what is printed of a device behind others
-abbrev pub answer_text : (json is_first : Bool) → List ℕ → Tree → List ℕ
-answer_text true is_first device t = json_line (device_json device (effective_of (answers device t)))
-answer_text false is_first device t = text_behind is_first (query_text device t)
+abbrev pub answer_text : Form → (is_first : Bool) → List ℕ → Tree → List ℕ
+answer_text (Query false) is_first device t = text_behind is_first (query_text device t)
+answer_text (Query true) is_first device t = json_line (device_json device (effective_of (answers device t)))
+answer_text (Explain false) is_first device t = text_behind is_first (explain_text device t)
+answer_text (Explain true) is_first device t = explain_json device t
 
 -- what is printed of some devices, behind others where they aren't the first
-abbrev pub texts_from : (json is_first : Bool) → List (List ℕ) → Tree → List ℕ
-texts_from json true devices t = texts_of json devices t
-texts_from json false devices t = flat_map (λ device. answer_text json false device t) devices
+abbrev pub texts_from : Form → (is_first : Bool) → List (List ℕ) → Tree → List ℕ
+texts_from form true devices t = texts_of form devices t
+texts_from form false devices t = flat_map (λ device. answer_text form false device t) devices
 
 -- what was read is held, and none only at the end
 pub record IsRefilled (before : Option (List ℕ)) (held : List ℕ) (now : Option (List ℕ)) (more : Bool) : Type 0 where

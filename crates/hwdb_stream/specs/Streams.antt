@@ -1,14 +1,17 @@
 -- What answering the devices of a text means, and what it refuses. Our choice.
-use Rattle.std.specs.Prelude.{ℕ, List, Bool, true, false, ◌≡◌, ◌<◌, ◌-◌, ◌∷◌, length, Option, None, Some, drop, take}
+use Rattle.std.specs.Prelude.{ℕ, List, true, false, ◌≡◌, ◌<◌, ◌-◌, ◌∷◌, length, Option, None, Some, drop, take}
 use Rattle.std.specs.Io.KnownBytes.{prepend_known}
 use Rattle.hwdb_spec.specs.Folders.{Source}
 use Rattle.hwdb_spec.specs.Json.{last_values_json, query_json}
+use Rattle.hwdb_spec.specs.ManyDevices.{explained_lines_json, explained_texts, explains_json, explains_text}
 use Rattle.hwdb_spec.specs.Texts.{devices_of, last_values_texts, queries_text}
 use Rattle.hwdb_spec.specs.Tree.{Tree}
 use Rattle.hwdb_transfer.specs.Databases.{IsNoDatabase}
 use Rattle.hwdb_transfer.specs.declared.errors.ToolError.{ToolError}
-use Rattle.hwdb_transfer.specs.declared.errors.ToolError.TheVariants.{BadDatabase, Memory, Read, TooLong, Write}
+use Rattle.hwdb_transfer.specs.declared.errors.ToolError.TheVariants.{BadDatabase, Memory, Read, TooLong, TooManyLines, Write}
 use Rattle.hwdb_stream.specs.declared.chunk.LineReader.{LineReader}
+use Rattle.hwdb_stream.specs.declared.form.Form.{Form}
+use Rattle.hwdb_stream.specs.declared.form.Form.TheVariants.{Explain, Query}
 
 -- the bytes that were read and not handed on
 abbrev pub held : LineReader → List ℕ
@@ -24,15 +27,19 @@ IsFirstLine line None now = Unit {0}
 IsFirstLine line (Some before) None = ⊥
 IsFirstLine line (Some before) (Some now) = (devices_of before ≡ line ∷ devices_of now) × (length now < length before)
 
--- what a database gives each of some devices, as text or as JSON
-abbrev pub texts_of : (json : Bool) → List (List ℕ) → Tree → List ℕ
-texts_of true = query_json
-texts_of false = queries_text
+-- what is printed of some devices
+abbrev pub texts_of : Form → List (List ℕ) → Tree → List ℕ
+texts_of (Query false) = queries_text
+texts_of (Query true) = query_json
+texts_of (Explain false) = explains_text
+texts_of (Explain true) = explains_json
 
 -- the same, of what the files assign
-abbrev pub last_texts_of : (json : Bool) → List (List ℕ) → (etc usr : List Source) → List ℕ
-last_texts_of true devices etc usr = last_values_json devices etc usr
-last_texts_of false devices etc usr = last_values_texts devices etc usr
+abbrev pub last_texts_of : Form → List (List ℕ) → (etc usr : List Source) → List ℕ
+last_texts_of (Query false) = last_values_texts
+last_texts_of (Query true) = last_values_json
+last_texts_of (Explain false) = explained_texts
+last_texts_of (Explain true) = explained_lines_json
 
 -- what handing on a part of a line may refuse
 abbrev pub IsTakeRefusal : ToolError → Type 0
@@ -45,6 +52,7 @@ abbrev pub IsAnswerRefusal : ToolError → Type 0
 IsAnswerRefusal Read = Unit {0}
 IsAnswerRefusal Write = Unit {0}
 IsAnswerRefusal TooLong = Unit {0}
+IsAnswerRefusal TooManyLines = Unit {0}
 IsAnswerRefusal Memory = Unit {0}
 IsAnswerRefusal _ = ⊥
 
@@ -54,6 +62,7 @@ IsStreamRefusal bytes (BadDatabase fault) = IsNoDatabase bytes fault
 IsStreamRefusal bytes Read = Unit {0}
 IsStreamRefusal bytes Write = Unit {0}
 IsStreamRefusal bytes TooLong = Unit {0}
+IsStreamRefusal bytes TooManyLines = Unit {0}
 IsStreamRefusal bytes Memory = Unit {0}
 IsStreamRefusal bytes _ = ⊥
 

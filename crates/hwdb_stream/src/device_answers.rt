@@ -1,27 +1,20 @@
 //! The text of one device.
 ghost use Rattle.std.specs.Prelude.{◌≡◌, IfOk};
+ghost use Rattle.hwdb_spec.specs.Explanations.{explain_text};
+ghost use Rattle.hwdb_spec.specs.Json.{explain_json};
 ghost use Rattle.hwdb_spec.specs.Texts.{query_text};
 ghost use Rattle.hwdb_stream.specs.Internal.{answer_text, text_behind};
 
-use hwdb_commands::{answer_line, property_lines};
-use hwdb_query::effective;
+use crate::form::Form;
+use hwdb_commands::{answer_line, explanation_lines, explanation_lines_json, property_lines};
+use hwdb_query::{effective, explain};
 use hwdb_reader::Db;
 use std::alloc::{AllocError, Global};
 
-/// The properties of a device, and in front of them an empty line where the device isn't the first.
-///
-/// The only error is that memory is refused.
-fn properties_behind(
-    alloc: Global,
-    db: &Db<'_>,
-    device: &[u8],
-    is_first: bool,
-) -> Result<Vec<u8>, AllocError>
-    ensures { IfOk result
-        (λ text. text.items ≡ text_behind is_first (query_text device.now db.now)) }
+/// A text, and in front of it an empty line where it isn't the first.
+fn behind(alloc: Global, lines: Vec<u8>, is_first: bool) -> Result<Vec<u8>, AllocError>
+    ensures { IfOk result (λ text. text.items ≡ text_behind is_first lines.items) }
 {
-    let properties = effective(alloc, db, device)?;
-    let lines = property_lines(alloc, &properties)?;
     if is_first {
         return Ok(lines);
     }
@@ -31,6 +24,30 @@ fn properties_behind(
     Ok(text)
 }
 
+/// The properties of a device.
+fn properties_of(alloc: Global, db: &Db<'_>, device: &[u8]) -> Result<Vec<u8>, AllocError>
+    ensures { IfOk result (λ text. text.items ≡ query_text device.now db.now) }
+{
+    let properties = effective(alloc, db, device)?;
+    property_lines(alloc, &properties)
+}
+
+/// The properties of a device, and where each comes from.
+fn explanation_of(alloc: Global, db: &Db<'_>, device: &[u8]) -> Result<Vec<u8>, AllocError>
+    ensures { IfOk result (λ text. text.items ≡ explain_text device.now db.now) }
+{
+    let explanations = explain(alloc, db, device)?;
+    explanation_lines(alloc, &explanations)
+}
+
+/// The same as JSON.
+fn explanation_json(alloc: Global, db: &Db<'_>, device: &[u8]) -> Result<Vec<u8>, AllocError>
+    ensures { IfOk result (λ text. text.items ≡ explain_json device.now db.now) }
+{
+    let explanations = explain(alloc, db, device)?;
+    explanation_lines_json(alloc, device, &explanations)
+}
+
 /// What is printed of a device, behind those before it.
 ///
 /// The only error is that memory is refused.
@@ -38,13 +55,17 @@ pub fn text_of_device(
     alloc: Global,
     db: &Db<'_>,
     device: &[u8],
-    json: bool,
+    form: Form,
     is_first: bool,
 ) -> Result<Vec<u8>, AllocError>
-    ensures { IfOk result (λ text. text.items ≡ answer_text json is_first device.now db.now) }
+    ensures { IfOk result (λ text. text.items ≡ answer_text form is_first device.now db.now) }
 {
-    if json {
-        return answer_line(alloc, db, device);
+    match form {
+        Form::Query { json: false } => behind(alloc, properties_of(alloc, db, device)?, is_first),
+        Form::Query { json: true } => answer_line(alloc, db, device),
+        Form::Explain { json: false } => {
+            behind(alloc, explanation_of(alloc, db, device)?, is_first)
+        }
+        Form::Explain { json: true } => explanation_json(alloc, db, device),
     }
-    properties_behind(alloc, db, device, is_first)
 }

@@ -5,13 +5,16 @@
 //! | `chunk` | what a reader of lines holds |
 //! | `line_reader` | the lines of a source, one after another |
 //! | `device_answers` | the text of one device |
-//! | `streaming` | `query -`: the devices of a source, one after another |
+//! | `form` | what is printed of devices |
+//! | `streaming` | `query -` and `explain -`: the devices of a source, one after another |
 #![tactic(auto)]
 
 mod chunk;
 mod device_answers;
+mod form;
 mod line_reader;
 mod streaming;
 
 pub use chunk::LineReader;
+pub use form::Form;
 pub use streaming::run_stream;

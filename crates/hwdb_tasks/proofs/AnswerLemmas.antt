@@ -1,14 +1,18 @@
 -- Commands that answer from the database, and are refused.
-use Rattle.std.proofs.Common.{ℕ, List, Option, None, Some, true, false, Bor}
+use Rattle.std.proofs.Common.{◌∙◌, sym, append-nil, ℕ, List, [], ◌∷◌, Bool, Option, None, Some, true, false, Bor}
 use Rattle.std.specs.Prelude.{option_map}
 use Rattle.hwdb_spec.specs.Assignment.{Position}
 use Rattle.hwdb_spec.specs.Store.{Contents}
-use Rattle.hwdb_transfer.specs.Devices.{WrotePrefix}
+use Rattle.hwdb_spec.specs.Texts.{with_empty_lines}
+use Rattle.hwdb_transfer.specs.Databases.{IsTextOf}
+use Rattle.hwdb_transfer.specs.Devices.{Wrote, WrotePrefix}
 use Rattle.hwdb_commands.specs.Lookups.{IsAfter, IsListJson, IsListRefusal, IsListText}
 use Rattle.hwdb_transfer.specs.declared.errors.ToolError.{ToolError}
 use Rattle.hwdb_transfer.specs.declared.errors.ToolError.TheVariants.{Read, Write, TooLong, TooManyFiles, TooManyLines, TooLarge, BadPosition, PageZero, BadDatabase, Replace, Memory}
-use Rattle.hwdb_stream.specs.Streams.{IfBadDatabase}
+use Rattle.hwdb_stream.specs.declared.form.Form.TheVariants.{Explain}
+use Rattle.hwdb_stream.specs.Streams.{IfBadDatabase, texts_of}
 use Rattle.hwdb_tasks.specs.Done.{IsFrom, IsListFrom}
+use Rattle.hwdb_tasks.specs.Internal.{explain_form}
 use Rattle.hwdb_system.specs.Refusals.{IsUnread}
 use Rattle.hwdb_tasks.specs.Undone.{IsAskedPath, IsListRefusedBy, IsUnfound}
 use Rattle.hwdb_system.specs.declared.refusals.Refusal.{Refusal}
@@ -83,3 +87,18 @@ if_bad PageZero f h = tt
 if_bad (BadDatabase fault) f h = f h
 if_bad (Replace u) f h = tt
 if_bad Memory f h = tt
+
+-- what is printed of one device is what is printed of a list of it
+one_explained : (json : Bool) (device bytes text : List ℕ) → IsTextOf (explain_form json device) bytes text → IsTextOf (texts_of (Explain json) (device ∷ [])) bytes text
+unfolding with_empty_lines
+one_explained true device bytes text is = record { tree = is.tree; database = is.database; is = is.is ∙ sym (append-nil _) }
+one_explained false device bytes text is = record { tree = is.tree; database = is.database; is = is.is ∙ sym (append-nil _) }
+
+pub explained_alone : (json : Bool) (device bytes : List ℕ) (before now : Option (List ℕ))
+    → Wrote (IsTextOf (explain_form json device) bytes) before now → Wrote (IsTextOf (texts_of (Explain json) (device ∷ [])) bytes) before now
+explained_alone json device bytes before now w = record { text = w.text; is = one_explained json device bytes w.text w.is; taken = w.taken }
+
+-- a prefix of it
+pub explained_cut : (json : Bool) (device bytes : List ℕ) (before now : Option (List ℕ))
+    → WrotePrefix (IsTextOf (explain_form json device) bytes) before now → WrotePrefix (IsTextOf (texts_of (Explain json) (device ∷ [])) bytes) before now
+explained_cut json device bytes before now w = record { text = w.text; is = one_explained json device bytes w.text w.is; taken = w.taken }

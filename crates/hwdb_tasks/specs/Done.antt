@@ -7,8 +7,7 @@ use Rattle.hwdb_spec.specs.Progress.{listing}
 use Rattle.hwdb_spec.specs.Store.{Contents, Outcomes, LeftAtParts, Stored, database_file, database_name, path_in}
 use Rattle.hwdb_spec.specs.System.{AreFilesIn, asked_database, database_folder, etc_files, usr_files}
 use Rattle.hwdb_spec.specs.Texts.{IsSpelling, list_text, max_file}
-use Rattle.hwdb_spec.specs.Explanations.{explain_text}
-use Rattle.hwdb_spec.specs.Json.{explain_json, list_json}
+use Rattle.hwdb_spec.specs.Json.{list_json}
 use Rattle.hwdb_spec.specs.Tree.{Tree, map_of_files}
 use Rattle.hwdb_spec.specs.Written.{IsCompiled, IsWritten}
 use Rattle.hwdb_transfer.specs.Devices.{Wrote, WroteTexts}
@@ -43,10 +42,6 @@ IsFrom (Some text) (Some p) = IsSpelling p text
 IsFrom _ _ = ⊥
 
 -- what is printed, as text or with `--json`
-abbrev pub explain_form : (json : Bool) → List ℕ → Tree → List ℕ
-explain_form false = explain_text
-explain_form true = explain_json
-
 abbrev pub list_form : (json : Bool) → List ℕ → Option Position → Option ℕ → Tree → List ℕ
 list_form false = list_text
 list_form true = list_json

@@ -8,8 +8,11 @@ use Rattle.hwdb_spec.specs.Progress.{within_64_bits}
 use Rattle.hwdb_spec.specs.Written.{IsCompiled}
 use Rattle.hwdb_compile.specs.declared.sources.Compiled.{Compiled}
 use Rattle.hwdb_spec.specs.Folders.{Source, all_assignments, lists, same}
+use Rattle.hwdb_spec.specs.Explanations.{explain_text}
+use Rattle.hwdb_spec.specs.Json.{explain_json}
 use Rattle.hwdb_spec.specs.Store.{Contents}
 use Rattle.hwdb_spec.specs.System.{AreFilesIn, bytes_at, etc_files, usr_files}
+use Rattle.hwdb_spec.specs.Tree.{Tree}
 use Rattle.hwdb_compile.specs.Views.{AreChosenOf}
 use Rattle.hwdb_compile.specs.declared.sources.ChosenFile.{ChosenFile}
 
@@ -42,3 +45,8 @@ pub record AreReadOf (root : List ℕ) (contents : Contents) (listed : List (Lis
   pub in_usr : AreFilesIn (usr_files root) contents of_usr
   pub named : map (λ (s : Source). s.name) of_usr ≡ listed
   pub are : AreChosenOf of_etc of_usr files
+
+-- what is printed of one device
+abbrev pub explain_form : (json : Bool) → List ℕ → Tree → List ℕ
+explain_form false = explain_text
+explain_form true = explain_json

@@ -1,17 +1,20 @@
--- `query` of the devices of its words, or with a lone `-` of those that standard input names, one a line: what it leaves, and
--- what it refuses. Our choice.
+-- `query` and `explain` of the devices of their words, or with a lone `-` of those that standard input names, one a line: what
+-- they leave, and what they refuse. Our choice.
 use Rattle.std.specs.Prelude.{◌≡◌, ◌<◌, ◌⊎◌, ℕ, Bool, true, false, List, [], ◌∷◌, Option, Some, IfSome, codes, length}
 use Rattle.std.specs.List.{list_any}
 use Rattle.std.specs.Str.{bytes_eq}
 use Rattle.hwdb_spec.specs.Failures.{HasFailed}
+use Rattle.hwdb_spec.specs.Folders.{max_lines}
 use Rattle.hwdb_tasks.specs.Given.{is_dash}
 use Rattle.hwdb_spec.specs.Store.{Contents}
 use Rattle.hwdb_spec.specs.System.{asked_database}
+use Rattle.hwdb_spec.specs.ManyDevices.{HasLongLine}
 use Rattle.hwdb_spec.specs.Texts.{devices_of, max_file}
 use Rattle.hwdb_transfer.specs.Devices.{WrotePrefix}
 use Rattle.hwdb_transfer.specs.Databases.{IsQueryRefusal, IsTextOf}
-use Rattle.hwdb_transfer.specs.declared.errors.ToolError.TheVariants.{Read, TooLong}
+use Rattle.hwdb_transfer.specs.declared.errors.ToolError.TheVariants.{Read, TooLong, TooManyLines}
 use Rattle.hwdb_transfer.specs.declared.errors.ToolError.{ToolError}
+use Rattle.hwdb_stream.specs.declared.form.Form.{Form}
 use Rattle.hwdb_stream.specs.Streams.{IfBadDatabase, IsStreamRefusal, texts_of}
 use Rattle.hwdb_system.specs.Refusals.{IsAt, IsOfDatabase}
 use Rattle.hwdb_system.specs.declared.refusals.Refusal.TheVariants.{At, Plain}
@@ -30,12 +33,12 @@ abbrev pub any_dash : (given : List (List ℕ)) → Bool
 any_dash given = list_any is_dash given
 
 -- standard output took what the database gives these devices, or, where the input tells its bytes, those that it names
-abbrev pub AreAnsweredFrom : (from_input : Bool) (root : List ℕ) (json : Bool) (devices : List (List ℕ)) (input : Option (List ℕ)) → Contents → (out_before out_now : Option (List ℕ)) → Type 0
-AreAnsweredFrom false root json devices input contents out_before out_now = IsAnswered root (IsTextOf (texts_of json devices)) contents out_before out_now
-AreAnsweredFrom true root json devices input contents out_before out_now = IfSome input (λ text. IsAnswered root (IsTextOf (texts_of json (devices_of text))) contents out_before out_now)
+abbrev pub AreAnsweredFrom : (from_input : Bool) (root : List ℕ) (form : Form) (devices : List (List ℕ)) (input : Option (List ℕ)) → Contents → (out_before out_now : Option (List ℕ)) → Type 0
+AreAnsweredFrom false root form devices input contents out_before out_now = IsAnswered root (IsTextOf (texts_of form devices)) contents out_before out_now
+AreAnsweredFrom true root form devices input contents out_before out_now = IfSome input (λ text. IsAnswered root (IsTextOf (texts_of form (devices_of text))) contents out_before out_now)
 
-abbrev pub AreAnswered : (root : List ℕ) (json : Bool) (devices : List (List ℕ)) (input : Option (List ℕ)) → Contents → (out_before out_now : Option (List ℕ)) → Type 0
-AreAnswered root json devices = AreAnsweredFrom (is_input devices) root json devices
+abbrev pub AreAnswered : (root : List ℕ) (form : Form) (devices : List (List ℕ)) (input : Option (List ℕ)) → Contents → (out_before out_now : Option (List ℕ)) → Type 0
+AreAnswered root form devices = AreAnsweredFrom (is_input devices) root form devices
 
 -- the refusal of an error: one of the input says so, and one of the database has its path
 abbrev pub IsOfInput : ToolError → (path : List ℕ) → Refusal → Type 0
@@ -56,7 +59,7 @@ IsInputUnread before now (At TooLong at cause) = (at.items ≡ codes "a line of 
 IsInputUnread before now refusal = ⊥
 
 -- answering the devices of the input was refused, and standard output has what it had, or a prefix
-pub record IsUnstreamed (root : List ℕ) (json : Bool) (input : Option (List ℕ)) (contents : Contents) (refusal : Refusal) (out_before out_now : Option (List ℕ)) : Type 0 where
+pub record IsUnstreamed (root : List ℕ) (form : Form) (input : Option (List ℕ)) (contents : Contents) (refusal : Refusal) (out_before out_now : Option (List ℕ)) : Type 0 where
   pub path : List ℕ
   pub bytes : List ℕ
   pub at : IsAskedPath root contents path
@@ -64,20 +67,21 @@ pub record IsUnstreamed (root : List ℕ) (json : Bool) (input : Option (List �
   pub error : ToolError
   pub is : IsOfInput error path refusal
   pub refused : IsStreamRefusal bytes error
-  pub long : error ≡ TooLong → IfSome input (λ text. max_file < length text)
+  pub long : error ≡ TooLong → IfSome input (HasLongLine max_file)
+  pub many : error ≡ TooManyLines → IfSome input (λ text. max_lines < length (devices_of text))
   pub untouched : IfBadDatabase (out_now ≡ out_before) error
-  pub cut_short : (out_now ≡ out_before) ⊎ IfSome input (λ text. WrotePrefix (IsTextOf (texts_of json (devices_of text)) bytes) out_before out_now)
+  pub cut_short : (out_now ≡ out_before) ⊎ IfSome input (λ text. WrotePrefix (IsTextOf (texts_of form (devices_of text)) bytes) out_before out_now)
 
 -- the same, or the database can't be read
-abbrev pub IsStreamRefused : (root : List ℕ) (json : Bool) (input : Option (List ℕ)) → Contents → Refusal → (out_before out_now : Option (List ℕ)) → Type 0
-IsStreamRefused root json input contents refusal out_before out_now =
+abbrev pub IsStreamRefused : (root : List ℕ) (form : Form) (input : Option (List ℕ)) → Contents → Refusal → (out_before out_now : Option (List ℕ)) → Type 0
+IsStreamRefused root form input contents refusal out_before out_now =
     (IsUnfound root contents refusal × (out_now ≡ out_before))
-    ⊎ IsUnstreamed root json input contents refusal out_before out_now
+    ⊎ IsUnstreamed root form input contents refusal out_before out_now
 
--- `query` is refused
-abbrev pub AreUnansweredFrom : (from_input : Bool) (root : List ℕ) (json : Bool) (devices : List (List ℕ)) (input : Option (List ℕ)) → Contents → Refusal → (out_before out_now : Option (List ℕ)) → Type 0
-AreUnansweredFrom false root json devices input contents refusal out_before out_now = IsAnswerRefused root IsQueryRefusal (IsTextOf (texts_of json devices)) contents refusal out_before out_now
-AreUnansweredFrom true root json devices input contents refusal out_before out_now = IsStreamRefused root json input contents refusal out_before out_now
+-- the command is refused
+abbrev pub AreUnansweredFrom : (from_input : Bool) (root : List ℕ) (form : Form) (devices : List (List ℕ)) (input : Option (List ℕ)) → Contents → Refusal → (out_before out_now : Option (List ℕ)) → Type 0
+AreUnansweredFrom false root form devices input contents refusal out_before out_now = IsAnswerRefused root IsQueryRefusal (IsTextOf (texts_of form devices)) contents refusal out_before out_now
+AreUnansweredFrom true root form devices input contents refusal out_before out_now = IsStreamRefused root form input contents refusal out_before out_now
 
-abbrev pub AreUnanswered : (root : List ℕ) (json : Bool) (devices : List (List ℕ)) (input : Option (List ℕ)) → Contents → Refusal → (out_before out_now : Option (List ℕ)) → Type 0
-AreUnanswered root json devices = AreUnansweredFrom (is_input devices) root json devices
+abbrev pub AreUnanswered : (root : List ℕ) (form : Form) (devices : List (List ℕ)) (input : Option (List ℕ)) → Contents → Refusal → (out_before out_now : Option (List ℕ)) → Type 0
+AreUnanswered root form devices = AreUnansweredFrom (is_input devices) root form devices

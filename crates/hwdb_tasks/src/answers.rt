@@ -1,25 +1,61 @@
 //! What devices get: from the database, or from one text file.
-ghost use Rattle.std.specs.Prelude.{◌≡◌, ◌≢◌, ◌⊎◌, true, false, option_map, IfErr, OnOk};
+ghost use Rattle.std.specs.Prelude.{[], ◌∷◌, ◌≡◌, ◌≢◌, ◌⊎◌, true, false, option_map, IfErr, OnOk};
 ghost use Rattle.hwdb_spec.specs.Failures.{HasFailed};
 ghost use Rattle.hwdb_transfer.specs.Databases.{IsQueryRefusal, IsTextOf};
 ghost use Rattle.hwdb_transfer.specs.Devices.{Wrote, WrotePrefix};
+ghost use Rattle.hwdb_stream.specs.Streams.{texts_of};
 ghost use Rattle.hwdb_system.specs.Refusals.{HasReason, IsUnreadable};
-ghost use Rattle.hwdb_tasks.specs.Done.{IsAnswered, IsAsked, IsListFrom, explain_form};
+ghost use Rattle.hwdb_tasks.specs.Done.{IsAnswered, IsAsked, IsListFrom};
 ghost use Rattle.hwdb_tasks.specs.Given.{is_dash};
-ghost use Rattle.hwdb_tasks.specs.Queries.{IsInputUnread};
+ghost use Rattle.hwdb_tasks.specs.Internal.{explain_form};
+ghost use Rattle.hwdb_tasks.specs.Queries.{AreAnswered, AreUnanswered, IsInputUnread};
 ghost use Rattle.hwdb_tasks.specs.Undone.{IsAnswerRefused, IsAskRefused, IsListRefusedBy};
 ghost use Rattle.hwdb_system.specs.declared.refusals.Refusal.TheVariants.{Plain};
 
 use crate::databases::asked;
-use crate::given::read;
+use crate::given::{is_dash, read};
+use crate::input_devices::answer_input;
 use hwdb_commands::{ask, run_explain, run_explain_json, run_list, run_list_json};
 use hwdb_devices::{Sink, Source};
+use hwdb_stream::Form;
 use hwdb_system::{Refusal, System};
 use hwdb_transfer::ToolError;
 use std::alloc::Global;
 
-/// Prints the properties that the database below the root gives the device, and where each comes from.
-pub fn explain<D: System, O: Sink>(
+/// Prints the properties that the database below the root gives the device, and where each comes from. Where the device
+/// is `-`, they are those of the devices that `input` names, one a line, and each is answered as soon as its line is read;
+/// else nothing is read of `input`.
+pub fn explain<D: System, I: Source, O: Sink>(
+    alloc: Global,
+    root: &str,
+    device: &str,
+    json: bool,
+    system: &D,
+    input: &mut I,
+    out: &mut O,
+) -> Result<(), Refusal>
+    ensures answered { D.Store.tells → OnOk result
+        (AreAnswered root.now (Form.Explain json) (device.now ∷ []) (I.left input.old)
+        (D.Store.seen system.now) (O.taken out.old) (O.taken out.new)) }
+    ensures refused { D.Store.tells → IfErr result (λ r. AreUnanswered root.now (Form.Explain json)
+        (device.now ∷ []) (I.left input.old) (D.Store.seen system.now) r
+        (O.taken out.old) (O.taken out.new)) }
+    ensures unread { is_dash device.now ≡ false → input.new ≡ input.old }
+    ensures reason { IfErr result (λ r.
+        HasReason (D.System.may_fail system.now) ⊥ (D.Store.seen system.now) r
+        ⊎ ((is_dash device.now ≡ true)
+        × IsInputUnread (I.failures input.old) (I.failures input.new) r)) }
+    ensures cause { IfErr result (λ r. r ≡ Plain ToolError.Write
+        → HasFailed (O.failures out.old) (O.failures out.new)) }
+{
+    if is_dash(device) {
+        return answer_input(alloc, root, Form::Explain { json }, system, input, out);
+    }
+    explain_given(alloc, root, device.as_bytes(), json, system, out)
+}
+
+/// Prints the properties that the database below the root gives this device, and where each comes from.
+fn explain_given<D: System, O: Sink>(
     alloc: Global,
     root: &str,
     device: &[u8],
@@ -28,10 +64,10 @@ pub fn explain<D: System, O: Sink>(
     out: &mut O,
 ) -> Result<(), Refusal>
     ensures answered { D.Store.tells → OnOk result
-        (IsAnswered root.now (IsTextOf (explain_form json device.now))
+        (IsAnswered root.now (IsTextOf (texts_of (Form.Explain json) (device.now ∷ [])))
         (D.Store.seen system.now) (O.taken out.old) (O.taken out.new)) }
     ensures refused { D.Store.tells → IfErr result (λ r. IsAnswerRefused root.now IsQueryRefusal
-        (IsTextOf (explain_form json device.now))
+        (IsTextOf (texts_of (Form.Explain json) (device.now ∷ [])))
         (D.Store.seen system.now) r (O.taken out.old) (O.taken out.new)) }
     ensures reason { IfErr result
         (HasReason (D.System.may_fail system.now) ⊥ (D.Store.seen system.now)) }

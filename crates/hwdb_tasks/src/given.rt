@@ -12,8 +12,8 @@ use hwdb_system::{Refusal, System};
 use hwdb_transfer::{MAX_BYTES, ToolError, read_all};
 use std::alloc::Global;
 
-/// Whether a path stands for standard input.
-fn is_dash(path: &str) -> bool
+/// Whether a word stands for standard input.
+pub fn is_dash(path: &str) -> bool
     ensures { result ≡ is_dash path.now }
 {
     path == "-"

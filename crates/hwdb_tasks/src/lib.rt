@@ -5,7 +5,8 @@
 //! | `updates` | `update`: the text files of both folders, compiled into the database of one |
 //! | `hiding` | where the database of /etc hides the new one: what is said of it before an update |
 //! | `progress` | what `update --verbose` says of the files that it compiles |
-//! | `queries` | `query`: what each of several devices gets, those of the words or those that standard input names |
+//! | `queries` | `query`: what each of several devices gets |
+//! | `input_devices` | `query -` and `explain -`: the devices that standard input names |
 //! | `answers` | `explain`, `list` and `ask`: what a device gets |
 //! | `given` | the files that words name, of which `-` is standard input |
 //! | `checks` | `check`: text files that are read and looked over |
@@ -23,6 +24,7 @@ mod differences;
 mod dumps;
 mod given;
 mod hiding;
+mod input_devices;
 mod progress;
 mod queries;
 mod updates;

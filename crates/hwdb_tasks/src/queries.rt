@@ -1,20 +1,20 @@
 //! `query`: what each of several devices gets, those of the words or those that standard input names.
-ghost use Rattle.std.specs.Prelude.{◌≡◌, ◌≢◌, ◌⊎◌, true, false, map, string_bytes, IfErr, IfSome, OnOk};
+ghost use Rattle.std.specs.Prelude.{◌≡◌, ◌≢◌, ◌⊎◌, true, false, map, string_bytes, IfErr, OnOk};
 ghost use Rattle.hwdb_spec.specs.Failures.{HasFailed};
-ghost use Rattle.hwdb_spec.specs.Texts.{devices_of};
 ghost use Rattle.hwdb_transfer.specs.Databases.{IsQueryRefusal, IsTextOf};
 ghost use Rattle.hwdb_transfer.specs.Devices.{Wrote, WrotePrefix};
 ghost use Rattle.hwdb_stream.specs.Streams.{texts_of};
 ghost use Rattle.hwdb_system.specs.Refusals.{HasReason};
 ghost use Rattle.hwdb_tasks.specs.Done.{IsAnswered};
-ghost use Rattle.hwdb_tasks.specs.Queries.{AreAnswered, AreUnanswered, IsInputUnread, IsOfInput, IsStreamRefused, is_input};
+ghost use Rattle.hwdb_tasks.specs.Queries.{AreAnswered, AreUnanswered, IsInputUnread, is_input};
 ghost use Rattle.hwdb_tasks.specs.Undone.{IsAnswerRefused};
 ghost use Rattle.hwdb_system.specs.declared.refusals.Refusal.TheVariants.{Plain};
 
 use crate::databases::asked;
+use crate::input_devices::answer_input;
 use hwdb_commands::{run_queries, run_queries_json};
-use hwdb_devices::{Cause, Sink, Source};
-use hwdb_stream::run_stream;
+use hwdb_devices::{Sink, Source};
+use hwdb_stream::Form;
 use hwdb_system::{Refusal, System};
 use hwdb_transfer::ToolError;
 use std::alloc::Global;
@@ -31,9 +31,9 @@ pub fn query<D: System, I: Source, O: Sink>(
     out: &mut O,
 ) -> Result<(), Refusal>
     ensures answered { D.Store.tells → OnOk result
-        (AreAnswered root.now json (map string_bytes devices.now) (I.left input.old)
+        (AreAnswered root.now (Form.Query json) (map string_bytes devices.now) (I.left input.old)
         (D.Store.seen system.now) (O.taken out.old) (O.taken out.new)) }
-    ensures refused { D.Store.tells → IfErr result (λ r. AreUnanswered root.now json
+    ensures refused { D.Store.tells → IfErr result (λ r. AreUnanswered root.now (Form.Query json)
         (map string_bytes devices.now) (I.left input.old) (D.Store.seen system.now) r
         (O.taken out.old) (O.taken out.new)) }
     ensures unread { is_input (map string_bytes devices.now) ≡ false → input.new ≡ input.old }
@@ -45,7 +45,7 @@ pub fn query<D: System, I: Source, O: Sink>(
         → HasFailed (O.failures out.old) (O.failures out.new)) }
 {
     if is_input(devices) {
-        return query_input(alloc, root, json, system, input, out);
+        return answer_input(alloc, root, Form::Query { json }, system, input, out);
     }
     query_given(alloc, root, devices, json, system, out)
 }
@@ -70,10 +70,10 @@ fn query_given<D: System, O: Sink>(
     out: &mut O,
 ) -> Result<(), Refusal>
     ensures answered { D.Store.tells → OnOk result
-        (IsAnswered root.now (IsTextOf (texts_of json (map string_bytes devices.now)))
+        (IsAnswered root.now (IsTextOf (texts_of (Form.Query json) (map string_bytes devices.now)))
         (D.Store.seen system.now) (O.taken out.old) (O.taken out.new)) }
     ensures refused { D.Store.tells → IfErr result (λ r. IsAnswerRefused root.now IsQueryRefusal
-        (IsTextOf (texts_of json (map string_bytes devices.now)))
+        (IsTextOf (texts_of (Form.Query json) (map string_bytes devices.now)))
         (D.Store.seen system.now) r (O.taken out.old) (O.taken out.new)) }
     ensures reason { IfErr result
         (HasReason (D.System.may_fail system.now) ⊥ (D.Store.seen system.now)) }
@@ -96,13 +96,14 @@ fn query_from<O: Sink>(
     out: &mut O,
 ) -> Result<(), ToolError>
     ensures printed { OnOk result
-        (Wrote (IsTextOf (texts_of json (map string_bytes devices.now)) bytes.now)
+        (Wrote (IsTextOf (texts_of (Form.Query json) (map string_bytes devices.now)) bytes.now)
         (O.taken out.old) (O.taken out.new)) }
     ensures refusals { IfErr result (IsQueryRefusal bytes.now) }
     ensures cause { IfErr result (λ e. e ≡ ToolError.Write
         → HasFailed (O.failures out.old) (O.failures out.new)) }
     ensures cut_short { IfErr result (λ e. (out.new ≡ out.old)
-        ⊎ WrotePrefix (IsTextOf (texts_of json (map string_bytes devices.now)) bytes.now)
+        ⊎ WrotePrefix
+        (IsTextOf (texts_of (Form.Query json) (map string_bytes devices.now)) bytes.now)
         (O.taken out.old) (O.taken out.new)) }
     ensures untouched { IfErr result
         (λ e. e ≢ ToolError.Write → e ≢ ToolError.Memory → out.new ≡ out.old) }
@@ -113,46 +114,4 @@ fn query_from<O: Sink>(
         run_queries(alloc, bytes, devices, out)?;
     }
     Ok(())
-}
-
-/// Prints the properties that the database below the root gives each device that `input` names, one a line.
-fn query_input<D: System, I: Source, O: Sink>(
-    alloc: Global,
-    root: &str,
-    json: bool,
-    system: &D,
-    input: &mut I,
-    out: &mut O,
-) -> Result<(), Refusal>
-    ensures answered { D.Store.tells → OnOk result (IfSome (I.left input.old)
-        (λ text. IsAnswered root.now (IsTextOf (texts_of json (devices_of text)))
-        (D.Store.seen system.now) (O.taken out.old) (O.taken out.new))) }
-    ensures refused { D.Store.tells → IfErr result (λ r. IsStreamRefused root.now json
-        (I.left input.old) (D.Store.seen system.now) r (O.taken out.old) (O.taken out.new)) }
-    ensures reason { IfErr result (λ r.
-        HasReason (D.System.may_fail system.now) ⊥ (D.Store.seen system.now) r
-        ⊎ IsInputUnread (I.failures input.old) (I.failures input.new) r) }
-    ensures cause { IfErr result (λ r. r ≡ Plain ToolError.Write
-        → HasFailed (O.failures out.old) (O.failures out.new)) }
-{
-    let found = asked(alloc, root, system)?;
-    match run_stream(alloc, &found.bytes, json, input, out) {
-        Ok(()) => Ok(()),
-        Err(error) => {
-            let path = found.path.as_bytes();
-            Err(refusal_of(alloc, error, path, input.cause()))
-        }
-    }
-}
-
-/// What is refused where the devices of standard input can't be answered from the database at the path.
-fn refusal_of(alloc: Global, error: ToolError, path: &[u8], cause: Option<Cause>) -> Refusal
-    ensures is { IsOfInput error path.now result }
-    ensures write { result ≡ Plain ToolError.Write → error ≡ ToolError.Write }
-{
-    match error {
-        ToolError::Read => Refusal::at(alloc, error, b"standard input", cause),
-        ToolError::TooLong => Refusal::at(alloc, error, b"a line of standard input", None),
-        error => Refusal::of_database(alloc, error, path),
-    }
 }

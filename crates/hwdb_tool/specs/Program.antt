@@ -1,6 +1,6 @@
 -- What the program does with a file system, by the job that its words ask for (systemd-hwdb(8); `explain`, `ask`,
 -- `list`, `check`, `diff`, `verify` and `dump` are our choice).
-use Rattle.std.specs.Prelude.{◌≡◌, ◌⊎◌, ◌==◌, ℕ, Bool, true, false, not, is_some, length, List, [], Option, map, option_map, string_bytes}
+use Rattle.std.specs.Prelude.{◌≡◌, ◌⊎◌, ◌==◌, ℕ, Bool, true, false, not, is_some, length, List, [], ◌∷◌, Option, map, option_map, string_bytes}
 use Rattle.std.specs.Option.{option_map_or}
 use Rattle.std.specs.Io.KnownBytes.{Appends}
 use Rattle.clap.specs.Faults.{fault_of}
@@ -9,7 +9,7 @@ use Rattle.hwdb_cli.specs.Words.{AskFor, AskForText}
 use Rattle.hwdb_tasks.specs.Given.{is_dash}
 use Rattle.hwdb_spec.specs.Store.{Contents, Outcomes, Same, InPlace}
 use Rattle.hwdb_spec.specs.System.{database_folder}
-use Rattle.hwdb_transfer.specs.Databases.{IsTextOf}
+use Rattle.hwdb_stream.specs.declared.form.Form.TheVariants as form
 use Rattle.hwdb_cli.specs.declared.job.Task.TheVariants.{Ask, Check, Diff, Dump, Explain, List as ListHits, Query, Update, Verify}
 use Rattle.hwdb_cli.specs.declared.job.Task.{Task}
 use Rattle.hwdb_cli.specs.declared.job.Job.{Job}
@@ -17,7 +17,7 @@ use Rattle.hwdb_tasks.specs.CheckedFiles.{AreCheckedFiles, IsChecked}
 use Rattle.hwdb_tasks.specs.ComparedDatabases.{IsCompared}
 use Rattle.hwdb_tasks.specs.NamedDatabases.{IsDumped, IsPrinted, IsSummary}
 use Rattle.hwdb_tasks.specs.Queries.{AreAnswered, any_dash, is_input}
-use Rattle.hwdb_tasks.specs.Done.{IsAnswered, IsAsked, IsLeftByUpdate, IsListFrom, explain_form}
+use Rattle.hwdb_tasks.specs.Done.{IsAnswered, IsAsked, IsLeftByUpdate, IsListFrom}
 use Rattle.hwdb_tasks.specs.Hiding.{IsUpdatedTelling}
 
 -- the root in front of each path; nothing where none was given
@@ -43,9 +43,9 @@ IsTaskDone (Update verbose) root usr strict status input old new left err_before
     IsUpdatedTelling root usr verbose strict status old err_before err_now (λ database. InPlace (database_folder usr root) database old new left)
     × (out_now ≡ out_before)
 IsTaskDone (Query devices json) root usr strict status input old new left err_before err_now out_before out_now =
-    AreAnswered root json (map string_bytes devices.items) input old out_before out_now × IsQuiet status old new err_before err_now
+    AreAnswered root (form.Query json) (map string_bytes devices.items) input old out_before out_now × IsQuiet status old new err_before err_now
 IsTaskDone (Explain device json) root usr strict status input old new left err_before err_now out_before out_now =
-    IsAnswered root (IsTextOf (explain_form json (string_bytes device))) old out_before out_now × IsQuiet status old new err_before err_now
+    AreAnswered root (form.Explain json) (string_bytes device ∷ []) input old out_before out_now × IsQuiet status old new err_before err_now
 IsTaskDone (ListHits after limit device json) root usr strict status input old new left err_before err_now out_before out_now =
     IsAnswered root (IsListFrom json (string_bytes device) (option_map string_bytes after) limit) old out_before out_now × IsQuiet status old new err_before err_now
 IsTaskDone (Ask file device) root usr strict status input old new left err_before err_now out_before out_now =
@@ -81,6 +81,7 @@ pub record IsTold (words : List (List ℕ)) (old new : Contents) (err_before err
 -- the task reads standard input
 abbrev pub reads_input : Task → Bool
 reads_input (Query devices json) = is_input (map string_bytes devices.items)
+reads_input (Explain device json) = is_dash (string_bytes device)
 reads_input (Ask file device) = is_dash (string_bytes file)
 reads_input (Check files) = any_dash (map string_bytes files.items)
 reads_input _ = false

@@ -1,6 +1,6 @@
 -- Which refusals end a task, when each comes, and what it leaves: the files, what standard error had taken before the
 -- refusal's line, and standard output. Our choice.
-use Rattle.std.specs.Prelude.{◌≡◌, ◌≢◌, ◌⊎◌, ◌==◌, ℕ, Bool, true, false, not, is_some, length, List, Option, Some, map, option_map, string_bytes, codes}
+use Rattle.std.specs.Prelude.{◌≡◌, ◌≢◌, ◌⊎◌, ◌==◌, ℕ, Bool, true, false, not, is_some, length, List, [], ◌∷◌, Option, Some, map, option_map, string_bytes, codes}
 use Rattle.hwdb_cli.specs.Words.{AskFor, AskForText, AreToldBy}
 use Rattle.hwdb_cli.specs.declared.job.Job.{Job}
 use Rattle.hwdb_cli.specs.declared.job.Task.TheVariants.{Ask, Check, Diff, Dump, Explain, List as ListHits, Query, Update, Verify}
@@ -10,12 +10,12 @@ use Rattle.hwdb_cli.specs.declared.job.WordsFault.{WordsFault}
 use Rattle.hwdb_spec.specs.Store.{Contents, Outcomes, Same}
 use Rattle.hwdb_spec.specs.System.{database_folder}
 use Rattle.hwdb_transfer.specs.Devices.{AppendsPrefix}
-use Rattle.hwdb_transfer.specs.Databases.{IsQueryRefusal, IsTextOf}
+use Rattle.hwdb_stream.specs.declared.form.Form.TheVariants as form
 use Rattle.hwdb_transfer.specs.declared.errors.ToolError.TheVariants.{Memory, Write}
 use Rattle.hwdb_tasks.specs.CheckedFiles.{AreCheckedFiles}
 use Rattle.hwdb_tasks.specs.ComparedDatabases.{IsDiffRefused}
 use Rattle.hwdb_tasks.specs.NamedDatabases.{IsDumpRefused, IsVerifyRefused}
-use Rattle.hwdb_tasks.specs.Done.{IsListFrom, explain_form}
+use Rattle.hwdb_tasks.specs.Done.{IsListFrom}
 use Rattle.hwdb_tasks.specs.Queries.{AreUnanswered, IsInputUnread}
 use Rattle.hwdb_tool.specs.Program.{IsUpdate, looks_below_root, reads_input, root_of}
 use Rattle.hwdb_system.specs.Refusals.{HasReason, IsAt, IsUnread, IsUnreadable, Refused, refusal_line, refusal_text}
@@ -34,10 +34,10 @@ abbrev pub IsTaskRefused : Task → (root : List ℕ) (usr : Bool) (input : Opti
 IsTaskRefused (Update verbose) root usr input refusal old new left_before left err_before err_then out_before out_now =
     IsTellingUpdateRefused root usr verbose refusal old new left_before left err_before err_then × (out_now ≡ out_before)
 IsTaskRefused (Query devices json) root usr input refusal old new left_before left err_before err_then out_before out_now =
-    AreUnanswered root json (map string_bytes devices.items) input old refusal out_before out_now
+    AreUnanswered root (form.Query json) (map string_bytes devices.items) input old refusal out_before out_now
     × (err_then ≡ err_before) × AreKept old new left_before left
 IsTaskRefused (Explain device json) root usr input refusal old new left_before left err_before err_then out_before out_now =
-    IsAnswerRefused root IsQueryRefusal (IsTextOf (explain_form json (string_bytes device))) old refusal out_before out_now
+    AreUnanswered root (form.Explain json) (string_bytes device ∷ []) input old refusal out_before out_now
     × (err_then ≡ err_before) × AreKept old new left_before left
 IsTaskRefused (ListHits after limit device json) root usr input refusal old new left_before left err_before err_then out_before out_now =
     IsAnswerRefused root (IsListRefusedBy (option_map string_bytes after)) (IsListFrom json (string_bytes device) (option_map string_bytes after) limit) old refusal out_before out_now

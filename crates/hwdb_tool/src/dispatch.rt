@@ -216,7 +216,7 @@ fn run<D: System, I: Source, O: Sink, E: Sink>(
             query(alloc, root, devices, *json, system, input, out)?
         },
         Task::Explain { device, json } => {
-            explain(alloc, root, device.as_bytes(), *json, system, out)?
+            explain(alloc, root, device.as_str(), *json, system, input, out)?
         }
         Task::Diff { old, new } => return diff(alloc, old.as_str(), new.as_str(), system, out),
         Task::Check { files } => return check(alloc, root, files, job.strict, system, input, out),

@@ -12,7 +12,7 @@ returns-clause-headline g c =
     some_weaker (g.I.Source.left c.args.input.now) _ _
     (λ text p etc usr compiled.
     let P : List ℕ → Type 0 = λ l. Appends (g.O.Sink.taken c.args.out.now) (g.O.Sink.taken c.answer_lines.new.out) l in
-    subst P (same_answers c.args.json (devices_of text) etc usr c.in_ok-db.db
+    subst P (same_answers c.args.form (devices_of text) etc usr c.in_ok-db.db
     (λ device. c.compiled_answers_are_last.ensures.all etc usr c.args.bytes.now compiled c.in_ok-db.db c.in_ok-db.ensures.accepted device)) p)
     printed)
     c.answer_lines.ensures.printed

@@ -2,7 +2,7 @@ use Rattle.std.proofs.Common.{◌≡◌, ap, subst, sym, true, false, Err}
 use Rattle.hwdb_transfer.specs.Databases.{IsTextOf}
 use Rattle.hwdb_transfer.specs.Devices.{WrotePrefix}
 use Rattle.hwdb_transfer.specs.declared.errors.ToolError.TheVariants.{Write}
-use Rattle.hwdb_tasks.specs.Done.{explain_form}
+use Rattle.hwdb_tasks.specs.Internal.{explain_form}
 use Rattle.hwdb_tasks.proofs.ErrorLemmas.{given_error}
 use Rattle.hwdb_tasks.proofs.answers.explain_from.Goals as goal
 

@@ -1,7 +1,7 @@
 use Rattle.std.proofs.Common.{◌∙◌, ap, inl, inr, ⊎_elim, string_bytes, subst, sym, Err, Some}
 use Rattle.hwdb_tasks.specs.Queries.{IsOfInput}
 use Rattle.hwdb_tasks.proofs.AnswerLemmas.{if_bad}
-use Rattle.hwdb_tasks.proofs.queries.query_input.Goals as goal
+use Rattle.hwdb_tasks.proofs.input_devices.answer_input.Goals as goal
 
 pub returns-clause-refused : goal.returns-clause-refused
 returns-clause-refused g c = λ tells. inr record {
@@ -13,6 +13,7 @@ returns-clause-refused g c = λ tells. inr record {
   is = subst (λ p. IsOfInput c.in-Err.error p c.refusal_of.result) c.as_bytes-path.ensures.value c.refusal_of.ensures.is;
   refused = c.in-Err.ensures.refusals;
   long = λ w. c.in-Err.ensures.too_long (ap Err w);
+  many = λ w. c.in-Err.ensures.too_many (ap Err w);
   untouched = if_bad c.in-Err.error (λ both. ap g.O.Sink.taken both.1) c.in-Err.ensures.untouched;
   cut_short = ⊎_elim (λ same. inl (ap g.O.Sink.taken same)) (λ part. inr part) c.in-Err.ensures.cut_short;
 }
