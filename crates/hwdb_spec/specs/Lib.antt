@@ -21,6 +21,7 @@ pub mod Progress
 pub mod Json
 pub mod Failures
 pub mod Store
+pub mod Crashes
 pub mod System
 pub mod Library
 pub mod Hiding

@@ -26,6 +26,7 @@
 //! | `Json` | each line of JSON that is printed, and what is read of one |
 //! | `Failures` | how failed calls are counted |
 //! | `Store` | a store of files, what a crash may leave, and a database that is replaced |
+//! | `Crashes` | what a crash may leave of files, call by call |
 //! | `System` | a file system as the program sees it: text files of folders, and the database that is asked |
 //! | `Library` | what the C library is told |
 //!
