@@ -1,5 +1,5 @@
 -- What is told of words that ask for nothing, by the kinds of error that `clap` may give at them.
-use Rattle.std.specs.Prelude.{⊤, ◌≡◌, ◌≢◌, ◌⊎◌, List, []}
+use Rattle.std.specs.Prelude.{⊤, ◌≡◌, ◌≢◌, ◌⊎◌, List, [], string_bytes}
 use Rattle.clap.specs.declared.error.kind.ErrorKind.TheVariants.{DisplayHelp, DisplayVersion, OutOfMemory}
 use Rattle.clap.specs.declared.error.kind.ErrorKind.{ErrorKind}
 use Rattle.clap.specs.Kinds.{IsAmong, Kinds}
@@ -9,16 +9,16 @@ use Rattle.hwdb_cli.specs.declared.job.WordsFault.TheVariants.{Help, Memory, Usa
 use Rattle.hwdb_cli.specs.declared.job.WordsFault.{WordsFault}
 use Rattle.hwdb_cli.specs.Line.{hwdb_app}
 
--- help or the version is told where it was asked for, and usage at any other error of the words
+-- help or the version is told where it was asked for, and usage at any other error of the words; the text isn't empty
 abbrev pub IsToldOf : ErrorKind → WordsFault → Type 0
-IsToldOf kind (Help text) = (kind ≡ DisplayHelp) ⊎ (kind ≡ DisplayVersion)
-IsToldOf kind (Usage text) = (kind ≢ DisplayHelp) × (kind ≢ DisplayVersion) × (kind ≢ OutOfMemory)
+IsToldOf kind (Help text) = ((kind ≡ DisplayHelp) ⊎ (kind ≡ DisplayVersion)) × (string_bytes text ≢ [])
+IsToldOf kind (Usage text) = ((kind ≢ DisplayHelp) × (kind ≢ DisplayVersion) × (kind ≢ OutOfMemory)) × (string_bytes text ≢ [])
 IsToldOf kind Memory = ⊤
 
 -- the same, of one of the kinds that may come
 abbrev pub IsToldOfOne : Kinds → WordsFault → Type 0
-IsToldOfOne kinds (Help text) = IsAmong DisplayHelp kinds ⊎ IsAmong DisplayVersion kinds
-IsToldOfOne kinds (Usage text) = (kind : ErrorKind) × (kind ≢ DisplayHelp) × (kind ≢ DisplayVersion) × IsAmong kind kinds
+IsToldOfOne kinds (Help text) = (IsAmong DisplayHelp kinds ⊎ IsAmong DisplayVersion kinds) × (string_bytes text ≢ [])
+IsToldOfOne kinds (Usage text) = ((kind : ErrorKind) × (kind ≢ DisplayHelp) × (kind ≢ DisplayVersion) × IsAmong kind kinds) × (string_bytes text ≢ [])
 IsToldOfOne kinds Memory = ⊤
 
 -- the command doesn't take the words, and they ask neither for help nor for the version

@@ -269,15 +269,28 @@ fn refusal_of(alloc: Global, error: &Error, words: &[String]) -> WordsFault
 }
 
 /// The text of help, of the version, or of a fault of the words.
-fn text_of_fault(alloc: Global, error: &Error, words: &[String]) -> Result<String, AllocError> {
+fn text_of_fault(alloc: Global, error: &Error, words: &[String]) -> Result<String, AllocError>
+    ensures { IfOk result (λ text. string_bytes text ≢ []) }
+{
     let text = error.to_string(alloc)?;
-    match error.kind() {
-        ErrorKind::DisplayHelp => fitting_help(alloc, text.as_str()),
-        ErrorKind::MissingSubcommand => short_help(alloc),
-        ErrorKind::UnknownArgument => with_fitting_tip(alloc, text.as_str(), words),
-        ErrorKind::InvalidSubcommand => with_command_tip(alloc, text.as_str()),
-        _ => Ok(text),
+    let told = match error.kind() {
+        ErrorKind::DisplayHelp => fitting_help(alloc, text.as_str())?,
+        ErrorKind::MissingSubcommand => short_help(alloc)?,
+        ErrorKind::UnknownArgument => with_fitting_tip(alloc, text.as_str(), words)?,
+        ErrorKind::InvalidSubcommand => with_command_tip(alloc, text.as_str())?,
+        _ => text,
+    };
+    some_text(alloc, told)
+}
+
+/// The text, or where help is if it is empty: `clap` promises no text.
+fn some_text(alloc: Global, text: String) -> Result<String, AllocError>
+    ensures { IfOk result (λ text. string_bytes text ≢ []) }
+{
+    if text.is_empty() {
+        return String::from_str(alloc, "For more information, try '--help'.\n");
     }
+    Ok(text)
 }
 
 /// What the words ask for; the first is the program's name. Words that the command doesn't take give

@@ -1,5 +1,6 @@
 //! Why a file or folder can't be read or written, in the system's words.
 ghost use Rattle.std.specs.Prelude.{◌≤◌};
+ghost use Rattle.hwdb_spec.specs.Failures.{IsOneLine};
 
 use std::fmt::{self, Write};
 use std::io::{self, ErrorKind};
@@ -67,6 +68,17 @@ impl Cause {
     }
 }
 
+/// The front of a text, as far as its first newline.
+fn first_line(text: &[u8]) -> &[u8]
+    ensures { IsOneLine result.now }
+{
+    let mut end = 0;
+    while end < text.len() && text[end] != b'\n' {
+        end += 1;
+    }
+    &text[..end]
+}
+
 /// How many bytes of a message are kept.
 const ROOM: usize = 128;
 
@@ -86,8 +98,15 @@ impl Message {
         }
     }
 
-    /// The words.
-    pub fn as_bytes(&self) -> &[u8] {
+    /// The words, as far as the first newline: they are printed on one line.
+    pub fn as_bytes(&self) -> &[u8]
+        ensures { IsOneLine result.now }
+    {
+        first_line(self.kept())
+    }
+
+    /// What is kept of them.
+    fn kept(&self) -> &[u8] {
         let bytes = &self.bytes[..];
         &bytes[..self.len]
     }
@@ -96,7 +115,7 @@ impl Message {
     fn drop_number(&mut self) {
         let number = b" (os error ".as_slice();
         let cut = self
-            .as_bytes()
+            .kept()
             .windows(number.len())
             .position(|part| part == number);
         if let Some(len) = cut {

@@ -1,5 +1,5 @@
 //! Where bytes come from and where they go to.
-ghost use Rattle.std.specs.Prelude.{◌≡◌, ◌<◌, ◌≤◌, ℕ, List, Option, length, IfOk};
+ghost use Rattle.std.specs.Prelude.{◌≡◌, ◌<◌, ◌≤◌, ℕ, List, Option, length, IfOk, OnOk};
 ghost use Rattle.std.specs.Io.KnownBytes.{Keeps, ReadConsumes, WriteAppends};
 ghost use Rattle.hwdb_spec.specs.Failures.{CountsFailures};
 
@@ -32,6 +32,8 @@ pub trait Source {
 pub trait Sink {
     /// The bytes that were taken, where the sink tells them.
     ghost taken: { Self → Option (List ℕ) };
+    /// All bytes that were taken were handed on, and none is held back. After a write that need not be.
+    ghost is_flushed: { Self → Type 0 };
     /// How many calls have failed so far, which stays at the greatest `u64`.
     ghost failures: { Self → ℕ };
 
@@ -45,6 +47,7 @@ pub trait Sink {
     /// Hands on what was taken but is still held back.
     fn flush(&mut self) -> Result<(), DeviceFailed>
         ensures bytes { Keeps (taken self.old) (taken self.new) }
+        ensures flushed { OnOk result (is_flushed self.new) }
         ensures cause { CountsFailures (failures self.old) (failures self.new) result };
 
     /// Why the last call that failed did, where the sink knows it. For messages alone: no promise speaks of it.

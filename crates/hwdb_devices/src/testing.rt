@@ -1,5 +1,5 @@
 //! A sink over fixed memory, for tests: it tells its bytes, takes no memory and fails where it is told to.
-ghost use Rattle.std.specs.Prelude.{◌≡◌, ◌≤◌, Some, take};
+ghost use Rattle.std.specs.Prelude.{◌≡◌, ◌≤◌, Some, take, true};
 
 use crate::adapters::after_failure;
 use crate::devices::{DeviceFailed, Sink};
@@ -11,6 +11,8 @@ pub struct MemorySink<const N: usize> {
     pub bytes: [u8; N],
     /// How many bytes of it were taken.
     pub len: usize,
+    /// Whether nothing was taken since the last flush.
+    pub flushed: bool,
     /// After how many bytes each further write fails.
     pub room: usize,
     /// How many bytes a write takes at most.
@@ -31,6 +33,7 @@ impl<const N: usize> MemorySink<N> {
         MemorySink {
             bytes: [0; N],
             len: 0,
+            flushed: true,
             room: N,
             per_write: N,
             flush_fails: false,
@@ -50,6 +53,8 @@ impl<const N: usize> MemorySink<N> {
 impl<const N: usize> Sink for MemorySink<N> {
     ghost taken = { λ s. Some (take s.len s.bytes) };
 
+    ghost is_flushed = { λ s. s.flushed ≡ true };
+
     ghost failures = { λ s. s.failed };
 
     fn write(&mut self, buf: &[u8]) -> Result<usize, DeviceFailed> {
@@ -63,6 +68,7 @@ impl<const N: usize> Sink for MemorySink<N> {
         let all = &mut self.bytes[..];
         all[self.len..end].copy_from_slice(&buf[..n]);
         self.len = end;
+        self.flushed = false;
         Ok(n)
     }
 
@@ -71,6 +77,7 @@ impl<const N: usize> Sink for MemorySink<N> {
             self.failed = after_failure(self.failed);
             return Err(DeviceFailed);
         }
+        self.flushed = true;
         Ok(())
     }
 }

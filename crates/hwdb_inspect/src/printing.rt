@@ -20,6 +20,7 @@ pub(crate) fn write_whole<O: Sink>(text: &[u8], out: &mut O) -> Result<(), Unwri
     ensures whole { OnOk result (Appends (O.taken out.old) (O.taken out.new) text.now) }
     ensures prefix { AppendsPrefix (O.taken out.old) (O.taken out.new) text.now }
     ensures cause { IfErr result (λ _. HasFailed (O.failures out.old) (O.failures out.new)) }
+    ensures flushed { OnOk result (O.is_flushed out.new) }
     ensures unfailed { OnOk result (O.failures out.new ≡ O.failures out.old) }
     ensures last { OnErr result (OneFailed (O.failures out.old) (O.failures out.new)) }
 {

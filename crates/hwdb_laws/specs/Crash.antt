@@ -1,10 +1,10 @@
 -- What a query finds after a crash, or a kill, at any moment of a run, and a start.
-use Rattle.std.specs.Prelude.{◌≡◌, ◌≢◌, ◌⊎◌, ℕ, false, List, [], ◌∷◌, Option}
+use Rattle.std.specs.Prelude.{◌≡◌, ◌≢◌, ◌⊎◌, ◌≤◌, ℕ, false, List, [], ◌∷◌, Option}
 use Rattle.clap.specs.Faults.{fault_of}
 use Rattle.hwdb_cli.specs.Line.{hwdb_app}
 use Rattle.hwdb_cli.specs.Words.{AskFor}
 use Rattle.hwdb_cli.specs.declared.job.Job.{Job}
-use Rattle.hwdb_spec.specs.Store.{Contents, LeavesOnly, Outcomes, database_name, path_in}
+use Rattle.hwdb_spec.specs.Store.{Contents, LeavesOnly, Outcomes, Stored, database_name, path_in}
 use Rattle.hwdb_spec.specs.System.{database_folder}
 use Rattle.hwdb_spec.specs.Texts.{queries_text}
 use Rattle.hwdb_tasks.specs.Done.{IsAnswered}
@@ -36,6 +36,26 @@ CrashOfRunThenQuery moment left_since seen may_leave old new = (words : List (Li
     → (after : Contents) → Booted (left_since new (moment old)) after
     → may_leave old (path_in (database_folder false (root_of job)) database_name) (after (path_in (database_folder false (root_of job)) database_name))
     ⊎ AnswersFrom (root_of job) (seen old) after
+
+-- A moment of a run between two of its calls: it isn't before the run, and what a crash might have left by then, it still might
+-- have at the run's end. Each call sees to both (`Elapses`, the first and the last part).
+pub record IsBetween {D : Type 0} (moment : D → ℕ) (left_since : D → ℕ → Outcomes) (old middle new : D) : Type 0 where
+  pub begun : moment old ≤ moment middle
+  pub kept : (t : ℕ) (p : List ℕ) (v : Option Stored) → t ≤ moment middle → left_since middle t p v → left_since new t p v
+
+-- A kill leaves what stood at some such moment: it is among what a crash during the run may leave.
+abbrev pub KillLeavesWhatStood : (tells : Type 0) {D : Type 0} (moment : D → ℕ) (left_since : D → ℕ → Outcomes) (seen : D → Contents) (old middle new : D) → Type 0
+KillLeavesWhatStood tells moment left_since seen old middle new =
+    tells → IsBetween moment left_since old middle new → Booted (left_since new (moment old)) (seen middle)
+
+-- So after a kill the database's place has what a crash might have left there before the run, or a query prints what the text
+-- files assign last.
+abbrev pub KillThenQuery : (tells : Type 0) {D : Type 0} (moment : D → ℕ) (left_since : D → ℕ → Outcomes) (seen : D → Contents) (may_leave : D → Outcomes) (old middle new : D) → Type 0
+KillThenQuery tells moment left_since seen may_leave old middle new = tells → IsBetween moment left_since old middle new
+    → (words : List (List ℕ)) (job : Job) → AskFor words job → job.usr ≡ false
+    → LeavesOnly moment left_since old new (OldOrAskedFor words (seen old) (may_leave old))
+    → may_leave old (path_in (database_folder false (root_of job)) database_name) (seen middle (path_in (database_folder false (root_of job)) database_name))
+    ⊎ AnswersFrom (root_of job) (seen old) (seen middle)
 
 -- Words with a fault leave what was there.
 abbrev pub FaultsLeaveAll : (before : Outcomes) → Type 0

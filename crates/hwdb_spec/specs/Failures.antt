@@ -1,5 +1,6 @@
--- Failed calls: how a device or a store counts them. Our choice.
-use Rattle.std.specs.Prelude.{ℕ, if◌then◌else◌, ◌+◌, ◌-◌, ◌==◌, ◌^◌, MatchResult, Result, ◌≡◌, ◌<◌, ◌⊎◌}
+-- Failed calls: how a device or a store counts them, and how it says why. Our choice.
+use Rattle.std.specs.Prelude.{ℕ, if◌then◌else◌, ◌+◌, ◌-◌, ◌==◌, ◌^◌, List, false, MatchResult, Result, ◌≡◌, ◌<◌, ◌⊎◌}
+use Rattle.hwdb_spec.specs.Lines.{byte, has}
 
 -- the count after one more failed call: once at its greatest value, it stays there
 abbrev pub after_failure : ℕ → ℕ
@@ -16,3 +17,7 @@ HasFailed before now = (before < now) ⊎ (before ≡ 2 ^ 64 - 1)
 -- one call has failed meanwhile, and was the last one that was made
 abbrev pub OneFailed : ℕ → ℕ → Type 0
 OneFailed before now = now ≡ after_failure before
+
+-- the words of a cause are one line
+abbrev pub IsOneLine : List ℕ → Type 0
+IsOneLine words = has (byte "\n") words ≡ false

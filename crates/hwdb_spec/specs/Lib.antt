@@ -22,6 +22,7 @@ pub mod Json
 pub mod ManyDevices
 pub mod Failures
 pub mod Store
+pub mod Crashes
 pub mod System
 pub mod Library
 pub mod Hiding

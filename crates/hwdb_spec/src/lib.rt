@@ -29,6 +29,7 @@
 //! | `ManyDevices` | what `explain` prints of several devices, and a line of devices that is too long |
 //! | `Failures` | how failed calls are counted |
 //! | `Store` | a store of files, what a crash may leave, and a database that is replaced |
+//! | `Crashes` | what a crash may leave of files, call by call |
 //! | `System` | a file system as the program sees it: text files of folders, and the database that is asked |
 //! | `Library` | what the C library is told |
 //! | `Hiding` | what `update --usr --verbose` says where /etc's database hides the new one |

@@ -3,3 +3,4 @@ pub mod MakingLemmas
 pub mod MomentLemmas
 pub mod ReplacementLemmas
 pub mod StepLemmas
+pub mod TearingLemmas

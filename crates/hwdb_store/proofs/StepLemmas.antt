@@ -13,7 +13,8 @@ use Rattle.hwdb_store.specs.declared.memory.File.{File}
 use Rattle.hwdb_store.specs.declared.memory.State.{State}
 use Rattle.hwdb_store.specs.declared.memory.Step.{Step}
 use Rattle.hwdb_store.specs.declared.memory.Step.TheVariants.{Changed, Synced, Moved, Removed as Gone, Kept}
-use Rattle.hwdb_store.specs.Memory.{Traces, stored, lent, begin, after, changed, state_of, MayLeave, seen_of, left_of, is_whole_of, since_of, IsChange, IsSync, IsMove, IsRemoval, IsClearing, IsCreation}
+use Rattle.hwdb_spec.specs.Crashes.{Traces, begin, changed, MayLeave}
+use Rattle.hwdb_store.specs.Memory.{stored, lent, after, state_of, seen_of, left_of, is_whole_of, since_of, IsChange, IsSync, IsMove, IsRemoval, IsClearing, IsCreation}
 use Rattle.hwdb_store.proofs.MomentLemmas.{elapses_on, elapses_start, one_or_two}
 
 pub state_on : (p : List ℕ) (s : Traces) (xs : List Step) (x : Step) → state_of p s (xs ++ x ∷ []) ≡ after p (state_of p s xs) x
@@ -33,9 +34,17 @@ elsewhere p q r e ne = by (bytes_eq p q) refl
 no_member : (v : Option Stored) → Contains [] v → ⊥
 no_member v c = omega (arith, c.1)
 
+last_member : (vs : List (Option Stored)) (v : Option Stored) → Contains (vs ++ v ∷ []) v
+last_member [] v = (0, omega arith, refl)
+last_member (w ∷ vs) v = let rest = last_member vs v in (suc rest.0, omega (arith, rest.1), rest.2)
+
 only_member : (x v : Option Stored) → Contains (x ∷ []) v → v ≡ x
 only_member x v (zero, lt, e) = sym e
 only_member x v (suc k, lt, e) = absurd (omega (arith, lt))
+
+or_true : (b : Bool) → (b || true) ≡ true
+or_true true = refl
+or_true false = refl
 
 -- what may be left once something else stands there
 changed_left : (now : Option Stored) (s : Traces) (v : Option Stored) → MayLeave (changed now false s) v → MayLeave s v ⊎ (v ≡ now)
@@ -69,6 +78,9 @@ module _ (xs ys : List Step) (s : Step) (is : ys ≡ xs ++ s ∷ []) (p : List �
 
   pub change_others : SameBut p (seen_of xs) (seen_of ys)
   change_others q ne = ap (λ (t : Traces). t.now) (on xs ys s is q ∙ change_else s p q f (state_of q begin xs) change ne)
+
+  pub change_torn : (v : Option Stored) → left_of ys p v
+  change_torn v = inr (inr (ap (λ (t : Traces). t.torn) (on xs ys s is p ∙ change_here s p f (state_of p begin xs) change) ∙ or_true (state_of p begin xs).torn))
 
   pub change_crash : NoMoreBut p (left_of xs) (left_of ys)
   change_crash q v ne left = left_on xs ys s is q _ (change_else s p q f (state_of q begin xs) change ne) v left
@@ -187,6 +199,10 @@ module _ (xs ys : List Step) (s : Step) (is : ys ≡ xs ++ s ∷ []) (from to : 
     gone = λ ne. ap (λ (t : Traces). t.now) (on xs ys s is from ∙ move_from s from to f _ (state_of from begin xs) move ne);
     others = λ q nf nt. ap (λ (t : Traces). t.now) (on xs ys s is q ∙ move_else s from to q f _ (state_of q begin xs) move nf nt);
   }
+
+  pub move_undone : left_of ys to (seen_of xs to)
+  move_undone = inr (inl (subst (λ (t : Traces). Contains t.before (seen_of xs to)) (sym (on xs ys s is to ∙ move_to s from to f _ (state_of to begin xs) move))
+      (last_member (state_of to begin xs).before (seen_of xs to))))
 
   pub move_whole : is_whole_of xs from → is_whole_of ys to
   move_whole whole = ap (λ (t : Traces). t.loose) (on xs ys s is to ∙ move_to s from to f _ (state_of to begin xs) move) ∙ whole

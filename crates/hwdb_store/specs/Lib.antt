@@ -1,3 +1,4 @@
 pub mod Views
 pub mod Internal
 pub mod Memory
+pub mod Laws

@@ -1,9 +1,9 @@
--- A store in memory: what its steps make of a path, and what a crash may leave there.
-use Rattle.std.specs.Prelude.{◌≡◌, ◌≢◌, ◌⊎◌, ◌≤◌, ℕ, Bool, true, false, ◌||◌, ◌&&◌, if◌then◌else◌, List, [], ◌∷◌, ◌++◌, length, take, map, Option, Some, None, option_map, Contains}
-use Rattle.std.specs.Str.{bytes_eq}
+-- A store in memory: the steps that it keeps, as calls of which a crash may leave this or that.
+use Rattle.std.specs.Prelude.{◌≡◌, ◌≢◌, ◌⊎◌, ◌≤◌, ℕ, Bool, false, List, [], ◌∷◌, ◌++◌, length, take, map, Option, Some, None, option_map}
 use mathlib.Core.Path.{subst}
 use Rattle.std.proofs.Common.{arith, inl, refl, sym}
 use Rattle.std.proofs.lemmas.List.{take_all}
+use Rattle.hwdb_spec.specs.Crashes.{Event, put, synced, moved, removed, names_synced, Traces, begin, after_event, after_events, contents_after, outcomes_after}
 use Rattle.hwdb_spec.specs.Store.{Stored, Contents, Outcomes, IsPartPath, part_mode}
 use Rattle.hwdb_store.specs.declared.memory.File.{File}
 use Rattle.hwdb_store.specs.declared.memory.State.{State}
@@ -13,47 +13,30 @@ use Rattle.hwdb_store.specs.declared.memory.Step.TheVariants.{Changed, Synced, M
 abbrev pub stored : File → Stored
 stored f = record { bytes = f.bytes.items; mode = f.mode }
 
--- what stands under a path, whether that isn't on the disk, what stood there since the names were, and whether some of
--- that wasn't on the disk
-pub record Traces : Type 0 where
-  pub now : Option Stored
-  pub loose : Bool
-  pub before : List (Option Stored)
-  pub torn : Bool
+-- the call that a step stands for
+abbrev pub event : Step → Event
+event (Changed path file) = put path.items (stored file)
+event (Synced path) = synced path.items
+event (Moved from to file loose) = moved from.items to.items (stored file) loose
+event (Removed path) = removed path.items
+event Kept = names_synced
 
 abbrev pub lent : State → Traces
 lent s = record { now = option_map (λ f. stored f.now) s.now; loose = s.loose; before = map (λ o. option_map (λ f. stored f.now) o) s.before.items; torn = s.torn }
 
-abbrev pub begin : Traces
-begin = record { now = None; loose = false; before = []; torn = false }
-
--- something else stands under the path
-abbrev pub changed : Option Stored → Bool → Traces → Traces
-changed now loose s = record { now = now; loose = loose; before = s.before ++ s.now ∷ []; torn = s.torn || loose }
-
 abbrev pub after : (p : List ℕ) → Traces → Step → Traces
-after p s (Changed path file) = if bytes_eq p path.items then changed (Some (stored file)) true s else s
-after p s (Synced path) = if bytes_eq p path.items then record { now = s.now; loose = false; before = s.before; torn = s.torn } else s
-after p s (Moved from to file loose) = if bytes_eq p to.items then changed (Some (stored file)) loose s
-    else (if bytes_eq p from.items then changed None false s else s)
-after p s (Removed path) = if bytes_eq p path.items then changed None false s else s
-after p s Kept = record { now = s.now; loose = s.loose; before = []; torn = s.torn && s.loose }
+after p s step = after_event p s (event step)
 
 -- what the steps make of a path
 abbrev pub state_of : (p : List ℕ) → Traces → List Step → Traces
-state_of p s [] = s
-state_of p s (x ∷ xs) = state_of p (after p s x) xs
-
--- what a crash may leave: what stands there, what stood there, and anything if some of that wasn't on the disk
-abbrev pub MayLeave : Traces → Option Stored → Type 0
-MayLeave s v = (v ≡ s.now) ⊎ (Contains s.before v ⊎ (s.torn ≡ true))
+state_of p s steps = after_events p s (map event steps)
 
 -- the contents after the steps, what a crash may leave then, and whether a file is on the disk
 abbrev pub seen_of : List Step → Contents
-seen_of xs p = (state_of p begin xs).now
+seen_of steps = contents_after (map event steps)
 
 abbrev pub left_of : List Step → Outcomes
-left_of xs p v = MayLeave (state_of p begin xs) v
+left_of steps = outcomes_after (map event steps)
 
 abbrev pub is_whole_of : List Step → List ℕ → Type 0
 is_whole_of xs p = (state_of p begin xs).loose ≡ false
@@ -69,6 +52,10 @@ only_now_of xs p v left = subst (λ l. left_of l p v) (take_all left.0 xs left.1
 -- and all of that
 pub from_now_of : (xs : List Step) (p : List ℕ) (v : Option Stored) → left_of xs p v → since_of xs (length xs) p v
 from_now_of xs p v left = (length xs, omega arith, omega arith, subst (λ l. left_of l p v) (sym (take_all (length xs) xs (omega arith))) left)
+
+-- and a crash since an earlier moment might leave it, too
+pub earlier_of : (xs : List Step) (t u : ℕ) (p : List ℕ) (v : Option Stored) → t ≤ u → since_of xs u p v → since_of xs t p v
+earlier_of xs t u p v le left = (left.0, omega (arith, le, left.1), left.2, left.3)
 
 -- and what stands there is among it
 pub stands_of : (xs : List Step) (p : List ℕ) → left_of xs p (seen_of xs p)

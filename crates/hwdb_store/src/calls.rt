@@ -21,12 +21,16 @@ impl From<AllocError> for CallFailed {
 pub trait Store {
     /// Whether the store tells its contents.
     ghost tells: { Type 0 };
+    /// Whether a crash tears what isn't on the disk: it may leave anything of it.
+    ghost tears: { Type 0 };
     /// What a read of each path gives.
     ghost seen: { Self → Contents };
     /// What a crash at this moment may leave under a path.
     ghost may_leave: { Self → List ℕ → Option Stored → Type 0 };
     /// The file that stands under a path is on the disk, its bytes and its mode; its name may not be.
     ghost is_whole: { Self → List ℕ → Type 0 };
+    /// A folder is there, so that files can be made in it.
+    ghost is_folder: { Self → List ℕ → Type 0 };
     /// The path of the file that was made last: what is written goes there.
     ghost part: { Self → List ℕ };
     /// The moment, as a number that doesn't fall.
@@ -46,17 +50,20 @@ pub trait Store {
             (OldOrCleared folder.now (may_leave self.old)) }
         ensures cause { failures self.new ≡ failures self.old };
 
-    /// Makes a folder, and those above it, where they aren't there. No file changes.
+    /// Makes a folder, and those above it, where they aren't there: files can be made in it. No file changes.
     fn make_folder(&mut self, folder: &str) -> Result<(), CallFailed>
+        ensures there { OnOk result (is_folder self.new folder.now) }
         ensures seen { tells → Same (seen self.old) (seen self.new) }
         ensures crash { NoMore (may_leave self.old) (may_leave self.new) }
         ensures time { Elapses (moment self.old) (moment self.new)
             (left_since self.old) (left_since self.new) (may_leave self.new) }
         ensures cause { CountsFailures (failures self.old) (failures self.new) result };
 
-    /// Makes a new file with this name, unless something has it, and returns whether it did. The file is empty, and its
-    /// owner's alone.
+    /// Makes a new file with this name in a folder that is there, unless something has it, and returns whether it did. The
+    /// file is empty, and its owner's alone.
     fn create_new(&mut self, folder: &str, name: &str) -> Result<bool, CallFailed>
+        requires { is_folder self.old folder.now }
+        ensures folder { is_folder self.new folder.now }
         ensures seen { tells → MatchResult result
             (λ made. Created made (path_in folder.now name.now) (part self.new)
             (seen self.old) (seen self.new)) (λ _. Same (seen self.old) (seen self.new)) }
@@ -74,6 +81,8 @@ pub trait Store {
         ensures progress { IfOk result (λ n. 0 < length buf.now → 0 < n) }
         ensures written { tells → IfOk result
             (λ n. Written (part self.old) (take n buf.now) (seen self.old) (seen self.new)) }
+        ensures torn { tears → OnOk result
+            ((left : Option Stored) → may_leave self.new (part self.old) left) }
         ensures others { tells → SameBut (part self.old) (seen self.old) (seen self.new) }
         ensures part { part self.new ≡ part self.old }
         ensures crash { NoMoreBut (part self.old) (may_leave self.old) (may_leave self.new) }
@@ -109,6 +118,9 @@ pub trait Store {
             (seen self.old) (seen self.new)) (λ _. Same (seen self.old) (seen self.new)) }
         ensures whole { OnOk result (is_whole self.old (path_in folder.now from.now)
             → is_whole self.new (path_in folder.now to.now)) }
+        ensures undone { tears → OnOk result
+            (may_leave self.new (path_in folder.now to.now)
+            (seen self.old (path_in folder.now to.now))) }
         ensures crash { MatchResult result
             (λ _. NoMoreRenamed (path_in folder.now from.now) (path_in folder.now to.now)
             (seen self.old (path_in folder.now from.now))
@@ -147,6 +159,9 @@ pub trait Store {
     /// What a crash leaves that it may leave now counts from this moment on.
     ghost from_now: { (store : Self) (p : List ℕ) (v : Option Stored)
         → may_leave store p v → left_since store (moment store) p v };
+    /// What a crash since some moment might have left, one since an earlier moment might, too.
+    ghost earlier: { (store : Self) (t u : ℕ) (p : List ℕ) (v : Option Stored)
+        → t ≤ u → left_since store u p v → left_since store t p v };
     /// What stands under a path a crash may leave there: a kill at this moment does.
     ghost stands: { (store : Self) (p : List ℕ) → tells → may_leave store p (seen store p) };
 }

@@ -5,9 +5,11 @@
 #![tactic(auto)]
 
 pub mod calls;
+pub mod laws;
 pub mod memory;
 pub mod replacement;
 
 pub use calls::{CallFailed, Store};
+pub use laws::{memory_tears, unsynced_files_tear};
 pub use memory::{File, Memory, State, Step};
 pub use replacement::{DATABASE, Unreplaced, part_name, part_number, replace};

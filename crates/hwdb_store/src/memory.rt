@@ -4,7 +4,8 @@ ghost use Rattle.std.specs.Prelude.{◌≡◌, ◌≤◌, ◌++◌, ◌∷◌, [
 ghost use Rattle.std.specs.Str.{bytes_eq};
 ghost use Rattle.hwdb_spec.specs.Failures.{after_failure, CountsFailures};
 ghost use Rattle.hwdb_spec.specs.Store.{Stored, IsPartPath, path_in, database_mode};
-ghost use Rattle.hwdb_store.specs.Memory.{stored, lent, state_of, begin, after, changed, MayLeave, seen_of, left_of, is_whole_of, since_of, only_now_of, from_now_of, stands_of, IsChange, IsMove, IsSync, IsRemoval, IsClearing, IsCreation};
+ghost use Rattle.hwdb_spec.specs.Crashes.{begin, changed};
+ghost use Rattle.hwdb_store.specs.Memory.{stored, lent, state_of, after, seen_of, left_of, is_whole_of, since_of, only_now_of, from_now_of, earlier_of, stands_of, IsChange, IsMove, IsSync, IsRemoval, IsClearing, IsCreation};
 
 use crate::calls::{CallFailed, Store};
 use crate::replacement::{part_name, part_number};
@@ -395,11 +396,16 @@ impl Memory {
 impl Store for Memory {
     ghost tells = { Unit {0} };
 
+    ghost tears = { Unit {0} };
+
     ghost seen = { λ m p. seen_of m.steps.items p };
 
     ghost may_leave = { λ m p v. left_of m.steps.items p v };
 
     ghost is_whole = { λ m p. is_whole_of m.steps.items p };
+
+    // It has no folders: a file can be made under each path.
+    ghost is_folder = { λ _ _. Unit {0} };
 
     ghost part = { λ m. m.part.items };
 
@@ -412,6 +418,8 @@ impl Store for Memory {
     ghost only_now = { λ m p v left. only_now_of m.steps.items p v left };
 
     ghost from_now = { λ m p v left. from_now_of m.steps.items p v left };
+
+    ghost earlier = { λ m t u p v le left. earlier_of m.steps.items t u p v le left };
 
     ghost stands = { λ m p tells. stands_of m.steps.items p };
 

@@ -10,7 +10,8 @@ use Rattle.hwdb_spec.specs.Store.{path_in}
 use Rattle.hwdb_spec.specs.System.{IsNameIn}
 use Rattle.std.proofs.lemmas.Slice.Eq.{bytes_eq-Decides}
 use Rattle.hwdb_spec.specs.Store.{Stored}
-use Rattle.hwdb_store.specs.Memory.{Traces, state_of, after, begin, seen_of, changed, stored}
+use Rattle.hwdb_spec.specs.Crashes.{Traces, begin, changed}
+use Rattle.hwdb_store.specs.Memory.{state_of, after, seen_of, stored}
 use Rattle.hwdb_store.specs.declared.memory.Step.{Step}
 use Rattle.hwdb_store.specs.declared.memory.Step.TheVariants.{Changed, Synced, Moved, Removed, Kept}
 use Rattle.hwdb_system.specs.Internal.{made_by, IsMade, IsPushed, bytes_after, is_text_file}

@@ -373,11 +373,15 @@ where
 {
     ghost tells = { ⊥ };
 
+    ghost tears = { ⊥ };
+
     ghost seen = { λ _ _. None };
 
     ghost may_leave = { λ _ _ _. ⊥ };
 
     ghost is_whole = { λ _ _. Unit {0} };
+
+    ghost is_folder = { λ _ _. Unit {0} };
 
     ghost part = { λ _. [] };
 
@@ -390,6 +394,8 @@ where
     ghost only_now = { λ s p v left. left };
 
     ghost from_now = { λ s p v left. left };
+
+    ghost earlier = { λ s t u p v le left. left };
 
     ghost stands = { λ s p tells. absurd tells };
 
@@ -470,6 +476,8 @@ where
     R::File: Drop + Lockable,
 {
     ghost may_fail = { λ _ _. Unit {0} };
+
+    ghost is_regular = { λ _ _. Unit {0} };
 
     fn names(&self, alloc: Global, folder: &str) -> Result<Vec<String>, Refusal> {
         names_in(alloc, self.rt, &self.root, folder)

@@ -130,6 +130,9 @@ fn push_name(
 impl System for Memory {
     ghost may_fail = { λ _ path. IsMisnamed path };
 
+    // It has files alone.
+    ghost is_regular = { λ _ _. Unit {0} };
+
     fn names(&self, alloc: Global, folder: &str) -> Result<Vec<String>, Refusal> {
         let mut names = Vec::new(alloc);
         for step in &self.steps {

@@ -2,6 +2,7 @@
 ghost use Rattle.std.specs.Prelude.{◌≡◌, ◌++◌, ℕ, List, None, Some, map, codes, IfOk};
 ghost use Rattle.std.specs.Fmt.{decimal};
 ghost use Rattle.std.specs.List.{concat};
+ghost use Rattle.hwdb_spec.specs.Failures.{IsOneLine};
 ghost use Rattle.hwdb_spec.specs.Verdicts.{fault_line, remedy};
 ghost use Rattle.hwdb_spec.specs.Texts.{db_fault_name, db_fault_offset, at_offset};
 ghost use Rattle.hwdb_transfer.specs.Refusals.{error_text, refusal_of_select};
@@ -111,10 +112,11 @@ const COLON: &[u8] = b": ";
 
 const END: &[u8] = b"\n";
 
-/// Writes the line of the refusal, at once; without memory for the whole line, in parts. Where `err` fails, nothing more
-/// can be said.
+/// Writes the line of the refusal, at once; without memory for the whole line, in parts. Its path is as it was given, and the
+/// words of its cause have no newline. Where `err` fails, nothing more can be said.
 pub fn refuse_for<E: Sink>(alloc: Global, refusal: &Refusal, err: &mut E)
-    ensures { (words : List ℕ) × Refused (refusal_line (refusal_text refusal.now words))
+    ensures { (words : List ℕ) × IsOneLine words
+        × Refused (refusal_line (refusal_text refusal.now words))
         (E.taken err.old) (E.taken err.new) (E.failures err.old) (E.failures err.new) }
 {
     match refusal {
@@ -133,7 +135,7 @@ fn refuse_over<E: Sink>(
     cause: Option<Cause>,
     err: &mut E,
 )
-    ensures { (words : List ℕ)
+    ensures { (words : List ℕ) × IsOneLine words
         × Refused (refusal_line (path_text error path.now cause words))
         (E.taken err.old) (E.taken err.new) (E.failures err.old) (E.failures err.new) }
 {
@@ -151,7 +153,7 @@ fn refuse_over<E: Sink>(
 
 /// Writes the line of a refusal over a path: what failed, the path, and the cause where one is known.
 fn refuse_file<E: Sink>(alloc: Global, failed: &str, path: &[u8], cause: Option<Cause>, err: &mut E)
-    ensures { (words : List ℕ)
+    ensures { (words : List ℕ) × IsOneLine words
         × Refused (refusal_line (failed.now ++ file_text path.now cause words))
         (E.taken err.old) (E.taken err.new) (E.failures err.old) (E.failures err.new) }
 {

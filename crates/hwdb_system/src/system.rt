@@ -1,5 +1,5 @@
 //! What the program asks of a file system.
-ghost use Rattle.std.specs.Prelude.{◌≡◌, ◌≤◌, ℕ, List, Some, IfOk, IfErr, IfSome, is_some, map, option_map, string_bytes, vec_len};
+ghost use Rattle.std.specs.Prelude.{◌≡◌, ◌≤◌, ℕ, List, Some, IfOk, IfErr, IfSome, OnOk, is_some, map, option_map, string_bytes, vec_len};
 ghost use Rattle.hwdb_spec.specs.Texts.{max_file};
 ghost use Rattle.hwdb_spec.specs.System.{AreNamesIn, bytes_at};
 ghost use Rattle.hwdb_system.specs.Refusals.{HasReason, IsUnlisted, IsUnread, IsUnreadable};
@@ -17,6 +17,9 @@ pub trait System: Store {
     /// Reading what stands at a path, or listing it, may fail, for whatever reason.
     ghost may_fail: { Self → List ℕ → Type 0 };
 
+    /// A regular file is at the path, or the null device: no folder, pipe, socket or other device. A link is followed.
+    ghost is_regular: { Self → List ℕ → Type 0 };
+
     /// The names of a folder's text files, in no order; none where the folder isn't there. Other entries of the
     /// folder never matter. Refuses a text file's name that isn't UTF-8, too.
     fn names(&self, alloc: Global, folder: &str) -> Result<Vec<String>, Refusal>
@@ -26,8 +29,9 @@ pub trait System: Store {
         ensures reason { IfErr result
             (HasReason (may_fail self.now) ⊥ (Self.seen self.now)) };
 
-    /// The bytes of a text file that was chosen.
+    /// The bytes of a text file that was chosen. Refuses what is no regular file: an open of a pipe would wait.
     fn text(&self, alloc: Global, path: &str) -> Result<Vec<u8>, Refusal>
+        ensures regular { OnOk result (is_regular self.now path.now) }
         ensures bytes { Self.tells → IfOk result
             (λ bytes. bytes_at (Self.seen self.now) path.now ≡ Some bytes.items) }
         ensures within { IfOk result (λ bytes. vec_len bytes ≤ max_file) }
@@ -44,8 +48,9 @@ pub trait System: Store {
         ensures reason { IfErr result (HasReason
             (IsUnreadable (may_fail self.now) (Self.seen self.now)) ⊥ (Self.seen self.now)) };
 
-    /// The bytes of a database, or None where nothing stands at the path.
+    /// The bytes of a database, or None where nothing stands at the path. Refuses what is no regular file.
     fn database(&self, alloc: Global, path: &str) -> Result<Option<Vec<u8>>, Refusal>
+        ensures regular { IfOk result (λ found. IfSome found (λ _. is_regular self.now path.now)) }
         ensures bytes { Self.tells → IfOk result
             (λ found. bytes_at (Self.seen self.now) path.now ≡ option_map (λ b. b.items) found) }
         ensures within { IfOk result (λ found. IfSome found (λ b. vec_len b ≤ max_file)) }

@@ -1,6 +1,6 @@
 -- What the program does with a file system, by the job that its words ask for (systemd-hwdb(8); `explain`, `ask`,
 -- `list`, `check`, `diff`, `verify` and `dump` are our choice).
-use Rattle.std.specs.Prelude.{◌≡◌, ◌⊎◌, ◌==◌, ℕ, Bool, true, false, not, is_some, length, List, [], ◌∷◌, Option, map, option_map, string_bytes}
+use Rattle.std.specs.Prelude.{◌≡◌, ◌≢◌, ◌⊎◌, ◌==◌, ℕ, Bool, true, false, not, is_some, length, List, [], ◌∷◌, Option, map, option_map, string_bytes}
 use Rattle.std.specs.Option.{option_map_or}
 use Rattle.std.specs.Io.KnownBytes.{Appends}
 use Rattle.clap.specs.Faults.{fault_of}
@@ -70,10 +70,11 @@ pub record IsJobDone (words : List (List ℕ)) (status : ℕ) (input : Option (L
   pub faultless : fault_of hwdb_app words ≡ []
   pub done : IsDone job status input old new left err_before err_now out_before out_now
 
--- the words ask for help or the version, which standard output took; nothing else changed
+-- the words ask for help or the version, a text that standard output took; nothing else changed
 pub record IsTold (words : List (List ℕ)) (old new : Contents) (err_before err_now out_before out_now : Option (List ℕ)) : Type 0 where
   pub asked : AskForText words
   pub text : List ℕ
+  pub some : text ≢ []
   pub printed : Appends out_before out_now text
   pub files : Same old new
   pub err : err_now ≡ err_before

@@ -7,6 +7,7 @@ use Rattle.hwdb_cli.specs.declared.job.Task.TheVariants.{Ask, Check, Diff, Dump,
 use Rattle.hwdb_cli.specs.declared.job.Task.{Task}
 use Rattle.hwdb_cli.specs.declared.job.WordsFault.TheVariants as words_fault
 use Rattle.hwdb_cli.specs.declared.job.WordsFault.{WordsFault}
+use Rattle.hwdb_spec.specs.Failures.{IsOneLine}
 use Rattle.hwdb_spec.specs.Store.{Contents, Outcomes, Same}
 use Rattle.hwdb_spec.specs.System.{database_folder}
 use Rattle.hwdb_transfer.specs.Devices.{AppendsPrefix}
@@ -83,11 +84,12 @@ refused_status _ = 1
 abbrev pub IsSaidOf : (refusal said : Refusal) → Type 0
 IsSaidOf refusal said = (said ≡ refusal) ⊎ ((refusal ≡ Plain Write) × IsAt Write (codes "standard output") said)
 
--- standard error took the line of a refusal, or, where it failed, a prefix of it
+-- standard error took the line of a refusal, or, where it failed, a prefix of it; the words of its cause are on that line
 pub record IsSaid (refusal : Refusal) (before now : Taken) : Type 0 where
   pub said : Refusal
   pub of : IsSaidOf refusal said
   pub words : List ℕ
+  pub one_line : IsOneLine words
   pub line : Refused (refusal_line (refusal_text said words)) before.bytes now.bytes before.failures now.failures
 
 -- The words ask for a job, and it is refused with this status, for its reason. Standard error had failed by then only where

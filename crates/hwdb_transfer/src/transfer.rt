@@ -13,7 +13,7 @@ use std::alloc::Global;
 /// most so many bytes.
 pub const MAX_BYTES: u32 = 268_435_456;
 
-/// Writes all of the text and flushes. Takes no memory. The first call that fails ends it, as
+/// Writes all of the text and flushes, so that the sink holds nothing back. Takes no memory. The first call that fails ends it, as
 /// `ToolError::Write`; a prefix of the text was taken then.
 pub fn write_text<W: Sink>(sink: &mut W, text: &[u8]) -> Result<(), ToolError>
     ensures whole { OnOk result (Appends (W.taken sink.old) (W.taken sink.new) text.now) }
@@ -21,6 +21,7 @@ pub fn write_text<W: Sink>(sink: &mut W, text: &[u8]) -> Result<(), ToolError>
     ensures later { W.failures sink.old ≤ W.failures sink.new }
     ensures refusal { IfErr result (λ e. e ≡ ToolError.Write) }
     ensures cause { IfErr result (λ _. HasFailed (W.failures sink.old) (W.failures sink.new)) }
+    ensures flushed { OnOk result (W.is_flushed sink.new) }
     ensures unfailed { OnOk result (W.failures sink.new ≡ W.failures sink.old) }
     ensures last { OnErr result (OneFailed (W.failures sink.old) (W.failures sink.new)) }
 {

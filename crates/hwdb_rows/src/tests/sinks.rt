@@ -64,6 +64,8 @@ impl FirstFlushFails {
 impl Sink for FirstFlushFails {
     ghost taken = { λ s. Some (take s.sink.len s.sink.bytes) };
 
+    ghost is_flushed = { λ s. s.sink.flushed ≡ true };
+
     ghost failures = { λ s. s.sink.failed };
 
     fn write(&mut self, buf: &[u8]) -> Result<usize, DeviceFailed> {
@@ -84,6 +86,9 @@ fn first_flush_fails(rt: HostRuntime) -> Result<(), Fail> {
     let mut out = FirstFlushFails::new();
     assert_eq!(rt; write_text(&mut out, b"abcde"), Err(ToolError::Write));
     assert_eq!(rt; out.sink.taken(), b"abcde".as_slice());
+    assert_eq!(rt; out.sink.flushed, false);
+    assert_eq!(rt; write_text(&mut out, b""), Ok(()));
+    assert_eq!(rt; out.sink.flushed, true);
     let mut out = FirstFlushFails::new();
     let mut err: MemorySink<8> = MemorySink::new();
     let text = b"a\n K=1\n";

@@ -1,5 +1,6 @@
 use Rattle.std.proofs.Common.{◌≡◌, drop}
-use Rattle.hwdb_store.specs.Memory.{lent, state_of, begin}
+use Rattle.hwdb_spec.specs.Crashes.{begin}
+use Rattle.hwdb_store.specs.Memory.{lent, state_of}
 use Rattle.hwdb_store.proofs.memory.state_of.Given as goal
 
 abbrev pub invariant-loop-step : goal.invariant-loop-step

@@ -57,6 +57,7 @@ numbers-preserved g c =
       taken = λ t. one_more_taken _ _ _ old (i.taken t) named (not_made_of _ _ old mid new b (i.seen t) c.if-branch.false (e.seen t)).0;
       crash = no_more_made _ before between now b i.crash c.if-branch.false e.crash;
       time = elapses_on _ _ _ _ _ _ before now i.time e.time (no_more_made _ before between now b i.crash c.if-branch.false e.crash);
+      folder = e.folder;
       same = e.cause ∙ i.same;
     }
 

@@ -9,5 +9,6 @@ invariant-numbers g l = record {
   crash : NoMore (g.S.Store.may_leave l.fn.store) (g.S.Store.may_leave l.store);
   time : Elapses (g.S.Store.moment l.fn.store) (g.S.Store.moment l.store) (g.S.Store.left_since l.fn.store) (g.S.Store.left_since l.store)
       (g.S.Store.may_leave l.fn.store);
+  folder : g.S.Store.is_folder l.store l.folder;
   same : g.S.Store.failures l.store ≡ g.S.Store.failures l.fn.store;
 }

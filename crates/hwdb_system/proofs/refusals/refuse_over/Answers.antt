@@ -1,4 +1,4 @@
-use Rattle.std.proofs.Common.{ap, sym, ◌∙◌, ◌++◌, List, [], ℕ}
+use Rattle.std.proofs.Common.{ap, refl, sym, ◌∙◌, ◌++◌, List, [], ℕ}
 use Rattle.hwdb_system.specs.Refusals.{refusal_line, path_text}
 use Rattle.hwdb_transfer.specs.declared.errors.ToolError.{ToolError}
 use Rattle.hwdb_system.proofs.LineLemmas.{refused_as, two_line, plain_text}
@@ -9,7 +9,8 @@ returns-in-Read g c =
     let line = c.refuse_file.ensures in
     let words = line.0 in (
       words,
-      refused_as _ _ _ _ _ _ (ap (λ (e : ToolError). refusal_line (path_text e c.args.path.now c.args.cause words)) (sym c.in-Read.is)) line.1,
+      line.1,
+      refused_as _ _ _ _ _ _ (ap (λ (e : ToolError). refusal_line (path_text e c.args.path.now c.args.cause words)) (sym c.in-Read.is)) line.2,
     )
 
 pub returns-in-Write : goal.returns-in-Write
@@ -17,12 +18,14 @@ returns-in-Write g c =
     let line = c.refuse_file-in-Write.ensures in
     let words = line.0 in (
       words,
-      refused_as _ _ _ _ _ _ (ap (λ (e : ToolError). refusal_line (path_text e c.args.path.now c.args.cause words)) (sym c.in-Write.is)) line.1,
+      line.1,
+      refused_as _ _ _ _ _ _ (ap (λ (e : ToolError). refusal_line (path_text e c.args.path.now c.args.cause words)) (sym c.in-Write.is)) line.2,
     )
 
 pub returns-in-TooLong : goal.returns-in-TooLong
 returns-in-TooLong g c = (
   [],
+  refl,
   refused_as _ _ _ _ _ _
       (two_line c.args.path.now c.as_slice-words.result.now
       ∙ ap (λ (w : List ℕ). refusal_line (c.args.path.now ++ w)) c.as_slice-words.ensures
@@ -33,6 +36,7 @@ returns-in-TooLong g c = (
 pub returns-in_default : goal.returns-in_default
 returns-in_default g c = (
   [],
+  refl,
   refused_as _ _ _ _ _ _
       (ap refusal_line (plain_text c.args.error c.args.path.now [] c.args.cause c.in_default.not-Read c.in_default.not-Write c.in_default.not-TooLong c.in_default.not-BadDatabase))
       c.refuse_plainly.ensures,
@@ -41,6 +45,7 @@ returns-in_default g c = (
 pub returns-in-BadDatabase : goal.returns-in-BadDatabase
 returns-in-BadDatabase g c = (
   [],
+  refl,
   refused_as _ _ _ _ _ _
       (ap (λ (e : ToolError). refusal_line (path_text e c.args.path.now c.args.cause [])) (sym c.in-BadDatabase.is))
       c.refuse_database_at.ensures,

@@ -40,7 +40,7 @@ returns-in-Ok-clause-refused g c = λ tells is. inr (inr (inr record {
   reason = c.in-Err.ensures.reason;
   kept = subst (λ (s : g.row.D.Denot). AreKept (g.D.Store.seen c.args.system.now) (g.D.Store.seen s) (g.D.Store.may_leave c.args.system.now) (g.D.Store.may_leave s))
       (sym (c.enter_root.ensures.same tells)) (record { same = λ p. refl; no_more = λ p v l. l });
-  said = record { said = c.in-Err.refusal; of = inl refl; words = c.refuse_for.ensures.0; line = c.refuse_for.ensures.1 };
+  said = record { said = c.in-Err.refusal; of = inl refl; words = c.refuse_for.ensures.0; one_line = c.refuse_for.ensures.1; line = c.refuse_for.ensures.2 };
   out = refl;
   says = refl;
 }))
@@ -49,7 +49,7 @@ pub returns-clause-refused : goal.returns-clause-refused
 returns-clause-refused g c = λ tells is. inr (inr (inl record {
   fault = words_fault.Memory;
   of = tt;
-  told = (record { said = Plain Memory; of = inl refl; words = []; line = c.refuse_memory.ensures }, refl);
+  told = (record { said = Plain Memory; of = inl refl; words = []; one_line = refl; line = c.refuse_memory.ensures }, refl);
   kept = record { same = λ p. refl; no_more = λ p v l. l };
   says = refl;
 }))

@@ -1,7 +1,7 @@
 use Rattle.std.proofs.Common.{◌≡◌, ◌++◌, Some, sym, ap, ◌∙◌, take}
 use Rattle.hwdb_spec.specs.Store.{Stored}
 use Rattle.hwdb_store.specs.Memory.{IsChange, seen_of}
-use Rattle.hwdb_store.proofs.StepLemmas.{Took, took, time_of, elapses_same, change_seen, change_others, change_crash, same_file}
+use Rattle.hwdb_store.proofs.StepLemmas.{Took, took, time_of, elapses_same, change_seen, change_others, change_torn, change_crash, same_file}
 use Rattle.hwdb_store.proofs.memory.MemoryStore.write.Goals as goal
 
 pub returns-in_err-take-clause-time : goal.returns-in_err-take-clause-time
@@ -24,6 +24,12 @@ returns-clause-crash c =
     let s : Took c.args.self.now.steps.items c.take.new.self.steps.items (λ s. (f : Stored) × (seen_of c.args.self.now.steps.items c.args.self.now.part.items ≡ Some f) × IsChange s c.args.self.now.part.items (record { bytes = f.bytes ++ take c.min-n.result c.args.buf.now; mode = f.mode })) =
     took _ _ _ _ c.in_ok-take.ensures.taken c.longer-step.ensures in
     change_crash _ _ s.0 s.1 _ _ s.2.2
+
+pub returns-clause-torn : goal.returns-clause-torn
+returns-clause-torn c = λ _ left.
+    let s : Took c.args.self.now.steps.items c.take.new.self.steps.items (λ s. (f : Stored) × (seen_of c.args.self.now.steps.items c.args.self.now.part.items ≡ Some f) × IsChange s c.args.self.now.part.items (record { bytes = f.bytes ++ take c.min-n.result c.args.buf.now; mode = f.mode })) =
+    took _ _ _ _ c.in_ok-take.ensures.taken c.longer-step.ensures in
+    change_torn _ _ s.0 s.1 _ _ s.2.2 left
 
 pub returns-clause-time : goal.returns-clause-time
 returns-clause-time c = time_of c.args.self.now.steps.items c.take.new.self.steps.items c.longer-step.result c.in_ok-take.ensures.taken
