@@ -2,7 +2,7 @@
 passed = 0
 failed = 0
 # A failing row's values are cut at so many characters.
-SHOWN = 1000
+SHOWN = 3000
 
 
 def shown(value):

@@ -19,16 +19,7 @@
 #include <unistd.h>
 
 #include "hwdb.h"
-
-static int failed;
-
-#define EXPECT(what)                                             \
-    do {                                                         \
-        if (!(what)) {                                           \
-            printf("FAILED: line %d: %s\n", __LINE__, #what);    \
-            failed++;                                            \
-        }                                                        \
-    } while (0)
+#include "library-expect.h"
 
 /* An errno by its name, where the tests meet it. */
 static const char *named(int r) {
@@ -61,23 +52,6 @@ static void print_properties(FILE *out, sd_hwdb *hwdb, const char *device) {
 
     SD_HWDB_FOREACH_PROPERTY(hwdb, device, key, value)
         fprintf(out, "%s=%s\n", key, value);
-}
-
-/* A line without its newline, or NULL. */
-static char *next_line(void) {
-    static char *line;
-    static size_t room;
-
-    ssize_t n = getline(&line, &room, stdin);
-    if (n < 0) {
-        free(line);
-        line = NULL;
-        room = 0;
-        return NULL;
-    }
-    if (n > 0 && line[n - 1] == '\n')
-        line[n - 1] = 0;
-    return line;
 }
 
 static void devices(const char *path) {

@@ -15,32 +15,13 @@
 #include <unistd.h>
 
 #include "hwdb.h"
+#include "library-expect.h"
 #include "library-libc.h"
 
 #define ETC "root/etc/udev/hwdb.bin"
 #define USR "root/usr/lib/udev/hwdb.bin"
 /* More requests for memory than any call here makes. */
 #define MANY 2000
-
-struct udev;
-struct udev_hwdb;
-struct udev_list_entry;
-struct udev_hwdb *udev_hwdb_new(struct udev *udev);
-struct udev_hwdb *udev_hwdb_unref(struct udev_hwdb *hwdb);
-struct udev_list_entry *udev_hwdb_get_properties_list_entry(struct udev_hwdb *hwdb, const char *modalias, unsigned flags);
-struct udev_list_entry *udev_list_entry_get_next(struct udev_list_entry *entry);
-const char *udev_list_entry_get_name(struct udev_list_entry *entry);
-const char *udev_list_entry_get_value(struct udev_list_entry *entry);
-
-static int failed;
-
-#define EXPECT(what)                                          \
-    do {                                                      \
-        if (!(what)) {                                        \
-            printf("FAILED: line %d: %s\n", __LINE__, #what); \
-            failed++;                                         \
-        }                                                     \
-    } while (0)
 
 /* Copies a file, by calls that libc_* don't count. */
 static void copy(const char *from, const char *to) {

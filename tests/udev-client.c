@@ -10,32 +10,7 @@
 #include <string.h>
 #include <sys/types.h>
 
-#ifdef WITH_LIBUDEV
-#include <libudev.h>
-#else
-struct udev;
-struct udev_hwdb;
-struct udev_list_entry;
-struct udev_hwdb *udev_hwdb_new(struct udev *udev);
-struct udev_hwdb *udev_hwdb_ref(struct udev_hwdb *hwdb);
-struct udev_hwdb *udev_hwdb_unref(struct udev_hwdb *hwdb);
-struct udev_list_entry *udev_hwdb_get_properties_list_entry(struct udev_hwdb *hwdb, const char *modalias, unsigned flags);
-struct udev_list_entry *udev_list_entry_get_next(struct udev_list_entry *entry);
-struct udev_list_entry *udev_list_entry_get_by_name(struct udev_list_entry *entry, const char *name);
-const char *udev_list_entry_get_name(struct udev_list_entry *entry);
-const char *udev_list_entry_get_value(struct udev_list_entry *entry);
-#define udev_list_entry_foreach(entry, first) for (entry = first; entry; entry = udev_list_entry_get_next(entry))
-#endif
-
-static int failed;
-
-#define EXPECT(what)                                          \
-    do {                                                      \
-        if (!(what)) {                                        \
-            printf("FAILED: line %d: %s\n", __LINE__, #what); \
-            failed++;                                         \
-        }                                                     \
-    } while (0)
+#include "library-expect.h"
 
 static struct udev_hwdb *opened(void) {
     struct udev_hwdb *hwdb = udev_hwdb_new(NULL);
@@ -48,13 +23,8 @@ static struct udev_hwdb *opened(void) {
 
 static void devices(void) {
     struct udev_hwdb *hwdb = opened();
-    char *line = NULL;
-    size_t room = 0;
-    ssize_t n;
-
-    while ((n = getline(&line, &room, stdin)) > 0) {
+    for (char *line; (line = next_line());) {
         struct udev_list_entry *first, *entry;
-        line[strcspn(line, "\n")] = 0;
         printf("> %s\n", line);
         errno = 0;
         first = udev_hwdb_get_properties_list_entry(hwdb, line, 0);
@@ -65,7 +35,6 @@ static void devices(void) {
             EXPECT(udev_list_entry_get_by_name(first, name) == entry);
         }
     }
-    free(line);
     udev_hwdb_unref(hwdb);
 }
 
