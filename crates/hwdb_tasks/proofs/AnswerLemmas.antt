@@ -6,7 +6,7 @@ use Rattle.hwdb_spec.specs.Store.{Contents}
 use Rattle.hwdb_transfer.specs.Devices.{WrotePrefix}
 use Rattle.hwdb_commands.specs.Lookups.{IsAfter, IsListJson, IsListRefusal, IsListText}
 use Rattle.hwdb_transfer.specs.declared.errors.ToolError.{ToolError}
-use Rattle.hwdb_transfer.specs.declared.errors.ToolError.TheVariants.{Read, Write, TooLong, TooManyFiles, TooManyLines, TooLarge, BadPosition, PageZero, BadDatabase, Replace, Memory}
+use Rattle.hwdb_transfer.specs.declared.errors.ToolError.TheVariants.{Read, Write, TooLong, TooManyFiles, TooManyLines, TooLarge, BadPosition, BadDatabase, Replace, Memory}
 use Rattle.hwdb_stream.specs.Streams.{IfBadDatabase}
 use Rattle.hwdb_tasks.specs.Done.{IsFrom, IsListFrom}
 use Rattle.hwdb_system.specs.Refusals.{IsUnread}
@@ -36,7 +36,6 @@ list_refused None bytes TooManyFiles h = h
 list_refused None bytes TooManyLines h = h
 list_refused None bytes TooLarge h = h
 list_refused None bytes BadPosition h = h
-list_refused None bytes PageZero h = h
 list_refused None bytes (BadDatabase fault) h = ((h.from, from_after None h.from h.spelled), h.no_database)
 list_refused None bytes (Replace u) h = h
 list_refused None bytes Memory h = h
@@ -47,7 +46,6 @@ list_refused (Some text) bytes TooManyFiles h = h
 list_refused (Some text) bytes TooManyLines h = h
 list_refused (Some text) bytes TooLarge h = h
 list_refused (Some text) bytes BadPosition h = h
-list_refused (Some text) bytes PageZero h = h
 list_refused (Some text) bytes (BadDatabase fault) h = ((h.from, from_after (Some text) h.from h.spelled), h.no_database)
 list_refused (Some text) bytes (Replace u) h = h
 list_refused (Some text) bytes Memory h = h
@@ -79,7 +77,6 @@ if_bad TooManyFiles f h = tt
 if_bad TooManyLines f h = tt
 if_bad TooLarge f h = tt
 if_bad BadPosition f h = tt
-if_bad PageZero f h = tt
 if_bad (BadDatabase fault) f h = f h
 if_bad (Replace u) f h = tt
 if_bad Memory f h = tt
