@@ -2,7 +2,6 @@
 //!
 //! | Module | What it does |
 //! |---|---|
-//! | `assigned` | an assignment of a database |
 //! | `pairs` | two ascending lists of assignments, gone through side by side |
 //! | `lines` | the lines of changes |
 //! | `dump` | `dump`: a database as text |
@@ -16,7 +15,6 @@
 //! | `laws` | laws of the map of a database, and of its dump |
 #![tactic(auto)]
 
-mod assigned;
 mod difference;
 mod dump;
 mod errors;
@@ -29,7 +27,6 @@ mod summary;
 mod verification;
 mod walk;
 
-pub use assigned::Assigned;
 pub use difference::run_diff;
 pub use dump::run_dump;
 pub use errors::{DiffError, DumpError};
