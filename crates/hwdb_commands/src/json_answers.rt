@@ -15,9 +15,9 @@ use crate::device_texts::split_first;
 use crate::hit_lines::{HitForm, print_hits};
 use crate::json_explanations::explanation_lines_json;
 use crate::json_lines::device_line;
-use crate::lookup::{hits_after, position_of};
+use crate::lookup::{PAGE, position_of};
 use hwdb_devices::Sink;
-use hwdb_query::{compiled_answers_are_last, effective, explain};
+use hwdb_query::{compiled_answers_are_last, effective, explain, paged_cursor};
 use hwdb_reader::{Db, check};
 use hwdb_transfer::{ToolError, write_text};
 use std::alloc::{AllocError, Global};
@@ -132,7 +132,7 @@ pub fn run_list_json<O: Sink>(
     compiled_answers_are_last();
     let after = position_of(alloc, after)?;
     let db = check(bytes)?;
-    let mut hits = hits_after(alloc, &db, device, after.as_ref())?;
+    let mut hits = paged_cursor(alloc, &db, device, after.as_ref(), PAGE)?;
     print_hits(alloc, &mut hits, limit, HitForm::Json, out)
 }
 

@@ -3,12 +3,11 @@
 ghost use Rattle.std.specs.Prelude.{◌≡◌, ◌≢◌, ◌⊎◌, List, IfOk, IfErr, OnOk, IsErrOf, map, string_bytes};
 ghost use Rattle.std.specs.Io.KnownBytes.{Appends};
 ghost use Rattle.hwdb_spec.specs.Folders.{Source};
-ghost use Rattle.hwdb_query.specs.Views.{given_position, next_position};
+ghost use Rattle.hwdb_query.specs.Views.{next_position};
 ghost use Rattle.hwdb_spec.specs.Failures.{HasFailed, OneFailed};
-ghost use Rattle.hwdb_spec.specs.Tree.{answers_after};
 ghost use Rattle.hwdb_spec.specs.Texts.{query_text, queries_text, last_values_text, last_values_texts};
 ghost use Rattle.hwdb_transfer.specs.Devices.{Wrote, WrotePrefix};
-ghost use Rattle.hwdb_commands.specs.Lookups.{IsAfter, IsPositionRefusal, IsListText, IsListBeginning, IsLastLines, IsListRefusal, list_page};
+ghost use Rattle.hwdb_commands.specs.Lookups.{IsAfter, IsPositionRefusal, IsListText, IsListBeginning, IsLastLines, IsListRefusal};
 ghost use Rattle.hwdb_transfer.specs.Databases.{IsTextOf, IsDatabaseRefusal, IsQueryRefusal};
 ghost use Rattle.hwdb_spec.specs.Written.{IsCompiled};
 
@@ -16,13 +15,13 @@ use crate::device_texts::print_texts;
 use crate::hit_lines::{HitForm, print_hits};
 use crate::texts::property_lines;
 use hwdb_devices::Sink;
-use hwdb_query::{Cursor, Position, compiled_answers_are_last, cursor, effective};
-use hwdb_reader::{Db, check};
+use hwdb_query::{Position, compiled_answers_are_last, effective, paged_cursor};
+use hwdb_reader::check;
 use hwdb_transfer::{ToolError, write_text};
-use std::alloc::{AllocError, Global};
+use std::alloc::Global;
 
 /// How many hits `run_list` holds at most.
-const PAGE: usize = 64;
+pub(crate) const PAGE: usize = 64;
 
 /// The text of the properties that the database gives the device.
 pub fn properties_of(alloc: Global, bytes: &[u8], device: &[u8]) -> Result<Vec<u8>, ToolError>
@@ -111,25 +110,6 @@ pub(crate) fn position_of(alloc: Global, after: Option<&str>) -> Result<Option<P
     }
 }
 
-/// A cursor over the hits after a position, or over all without one.
-///
-/// The only error is that memory is refused: a page of 64 hits isn't.
-pub(crate) fn hits_after<'a, 'd>(
-    alloc: Global,
-    db: &Db<'a>,
-    device: &'d [u8],
-    after: Option<&Position>,
-) -> Result<Cursor<'a, 'd>, AllocError>
-    ensures to_come { IfOk result
-        (λ c. c.to_come ≡ answers_after device.now (given_position after.entry) db.now) }
-    ensures page { IfOk result (λ c. c.page ≡ list_page) }
-{
-    match cursor(alloc, db, device, after, PAGE) {
-        Ok(hits) => Ok(hits),
-        Err(_) => Err(AllocError),
-    }
-}
-
 /// Prints a line for each of the first `limit` hits after the position that `after` spells (from the
 /// first on without one; all of them without a limit). At most a page of 64 hits is held. Over the database
 /// of some files the hits are exactly the last assignments of each pattern and key that the files have.
@@ -167,6 +147,6 @@ pub fn run_list<O: Sink>(
     compiled_answers_are_last();
     let after = position_of(alloc, after)?;
     let db = check(bytes)?;
-    let mut hits = hits_after(alloc, &db, device, after.as_ref())?;
+    let mut hits = paged_cursor(alloc, &db, device, after.as_ref(), PAGE)?;
     print_hits(alloc, &mut hits, limit, HitForm::Text, out)
 }

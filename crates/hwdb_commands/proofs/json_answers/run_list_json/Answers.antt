@@ -5,7 +5,7 @@ use Rattle.hwdb_spec.specs.Folders.{all_assignments}
 use Rattle.hwdb_spec.specs.Answers.{last_assignments}
 use Rattle.hwdb_spec.specs.Assignment.{Assignment}
 use Rattle.hwdb_spec.specs.Tree.{answers_after}
-use Rattle.hwdb_query.specs.Views.{next_position}
+use Rattle.hwdb_query.specs.Views.{next_position, Progress}
 use Rattle.hwdb_transfer.specs.Devices.{AppendsPrefix}
 use Rattle.hwdb_commands.specs.Lookups.{AppendsLines}
 use Rattle.hwdb_spec.specs.Json.{hit_json, hits_json, json_line}
@@ -24,7 +24,7 @@ returns-clause-printed g c =
     let device = c.args.device.now in
     let tree = c.in_ok-db.db in
     let all : c.in_ok-hits.hits.to_come ≡ answers_after device (next_position c.in_ok-after.after) tree =
-    c.in_ok-hits.ensures.to_come ∙ ap (λ s. answers_after device s tree) (lent_position c.as_ref.result c.in_ok-after.after c.as_ref.ensures.value) in
+    ap (λ (p : Progress). p.to_come) c.in_ok-hits.ensures.begins ∙ ap (λ s. answers_after device s tree) (lent_position c.as_ref.result c.in_ok-after.after c.as_ref.ensures.value) in
     let P : List Assignment → Type 0 = λ hits. Appends (g.O.Sink.taken c.args.out.now) (g.O.Sink.taken c.print_hits.new.out) (hits_json (within_limit c.args.limit hits)) in
     record {
       text = _;
@@ -43,7 +43,7 @@ returns-clause-cut_short g c = λ e.
     let device = c.args.device.now in
     let tree = c.in_ok-db.db in
     let all : c.in_ok-hits.hits.to_come ≡ answers_after device (next_position c.in_ok-after.after) tree =
-    c.in_ok-hits.ensures.to_come ∙ ap (λ s. answers_after device s tree) (lent_position c.as_ref.result c.in_ok-after.after c.as_ref.ensures.value) in
+    ap (λ (p : Progress). p.to_come) c.in_ok-hits.ensures.begins ∙ ap (λ s. answers_after device s tree) (lent_position c.as_ref.result c.in_ok-after.after c.as_ref.ensures.value) in
     let P : List Assignment → Type 0 = λ hits. AppendsPrefix (g.O.Sink.taken c.args.out.now) (g.O.Sink.taken c.print_hits.new.out) (hits_json (within_limit c.args.limit hits)) in
     record {
       text = _;
@@ -61,7 +61,7 @@ returns-clause-whole_lines g c = λ e.
     let device = c.args.device.now in
     let tree = c.in_ok-db.db in
     let all : c.in_ok-hits.hits.to_come ≡ answers_after device (next_position c.in_ok-after.after) tree =
-    c.in_ok-hits.ensures.to_come ∙ ap (λ s. answers_after device s tree) (lent_position c.as_ref.result c.in_ok-after.after c.as_ref.ensures.value) in
+    ap (λ (p : Progress). p.to_come) c.in_ok-hits.ensures.begins ∙ ap (λ s. answers_after device s tree) (lent_position c.as_ref.result c.in_ok-after.after c.as_ref.ensures.value) in
     let P : List Assignment → Type 0 = λ hits. AppendsLines (λ f. json_line (hit_json f)) (g.O.Sink.taken c.args.out.now) (g.O.Sink.taken c.print_hits.new.out) (within_limit c.args.limit hits) in
     let first = subst P all lines in
     inr (record {
@@ -85,7 +85,7 @@ returns-clause-headline g c =
     let from = next_position c.in_ok-after.after in
     let tree = c.in_ok-db.db in
     let all : c.in_ok-hits.hits.to_come ≡ last_assignments device from (all_assignments etc usr) =
-    c.in_ok-hits.ensures.to_come ∙ ap (λ s. answers_after device s tree) (lent_position c.as_ref.result c.in_ok-after.after c.as_ref.ensures.value)
+    ap (λ (p : Progress). p.to_come) c.in_ok-hits.ensures.begins ∙ ap (λ s. answers_after device s tree) (lent_position c.as_ref.result c.in_ok-after.after c.as_ref.ensures.value)
     ∙ c.compiled_answers_are_last.ensures.after etc usr c.args.bytes.now compiled tree c.in_ok-db.ensures.accepted device from in
     let P : List Assignment → Type 0 = λ hits. Appends (g.O.Sink.taken c.args.out.now) (g.O.Sink.taken c.print_hits.new.out) (hits_json (within_limit c.args.limit hits)) in
     record { text = _; is = record { from = from; spelled = c.in_ok-after.ensures.spelled; is = refl }; taken = subst P all printed })
