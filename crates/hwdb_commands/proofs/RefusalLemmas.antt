@@ -1,5 +1,5 @@
 -- Which refusal an error of a crate below becomes.
-use Rattle.std.proofs.Common.{◌≡◌, ◌≢◌, ◌<◌, ℕ, List, [], Option, None, Some, refl, ap, arith, sym, subst, Result, Ok, Err, IfErr}
+use Rattle.std.proofs.Common.{◌≡◌, ◌≢◌, ℕ, List, [], Option, None, Some, refl, ap, arith, sym, subst, Result, Ok, Err, IfErr}
 use Rattle.std.specs.Option.{option_copied}
 use Rattle.hwdb_query.specs.Views.{given_position, next_position}
 use Rattle.hwdb_query.specs.declared.position.Position.{Position as OwnedPosition}
@@ -7,12 +7,10 @@ use Rattle.std.specs.Result.{IsErrAnd}
 use Rattle.std.specs.Borrow.{Bor}
 use Rattle.hwdb_spec.specs.Assignment.{Position}
 use Rattle.hwdb_spec.specs.Texts.{IsSpelling}
-use Rattle.hwdb_query.specs.declared.errors.CursorError.{CursorError}
-use Rattle.hwdb_query.specs.declared.errors.CursorError.TheVariants as cursors
 use Rattle.hwdb_query.specs.declared.errors.PositionError.{PositionError}
 use Rattle.hwdb_query.specs.declared.errors.PositionError.TheVariants as positions
 use Rattle.hwdb_transfer.specs.declared.errors.ToolError.{ToolError}
-use Rattle.hwdb_transfer.specs.Refusals.{refusal_of_compile, refusal_of_cursor, refusal_of_position}
+use Rattle.hwdb_transfer.specs.Refusals.{refusal_of_compile, refusal_of_position}
 use Rattle.hwdb_spec.specs.Assignment.{ascending, put}
 use Rattle.hwdb_compile.specs.Views.{IsRefusal}
 use Rattle.hwdb_compile.specs.declared.errors.CompileError.{CompileError}
@@ -33,20 +31,15 @@ module _ {X : Type 0} where
   position_refused text positions.BadPosition (Err e) h bad = let P : ToolError → Type 0 = λ x. IsPositionRefusal (Some text) x in subst P (sym h) (bad refl)
   position_refused text positions.Memory (Err e) h bad = let P : ToolError → Type 0 = λ x. IsPositionRefusal (Some text) x in subst P (sym h) tt
 
-  pub cursor_refused : (after : Option (Bor (List ℕ))) (bytes : List ℕ) (q : CursorError) (r : Result X ToolError) → IsErrAnd r (λ e. e ≡ refusal_of_cursor q)
-      → q ≢ cursors.PageZero → IfErr r (IsListRefusal after bytes)
-  cursor_refused after bytes q (Ok x) h page = tt
-  cursor_refused after bytes cursors.PageZero (Err e) h page = absurd (page refl)
-  cursor_refused None bytes cursors.Memory (Err e) h page = let P : ToolError → Type 0 = λ x. IsListRefusal None bytes x in subst P (sym h) tt
-  cursor_refused (Some text) bytes cursors.Memory (Err e) h page = let P : ToolError → Type 0 = λ x. IsListRefusal (Some text) bytes x in subst P (sym h) tt
+  pub list_without_memory : (after : Option (Bor (List ℕ))) (bytes : List ℕ) (r : Result X ToolError) → IsErrAnd r (λ e. e ≡ Memory) → IfErr r (IsListRefusal after bytes)
+  list_without_memory after bytes (Ok x) h = tt
+  list_without_memory None bytes (Err e) h = let P : ToolError → Type 0 = λ x. IsListRefusal None bytes x in subst P (sym h) tt
+  list_without_memory (Some text) bytes (Err e) h = let P : ToolError → Type 0 = λ x. IsListRefusal (Some text) bytes x in subst P (sym h) tt
 
 -- the position that a caller lends
 pub lent_position : (lent : Option (Bor OwnedPosition)) (own : Option OwnedPosition) → option_copied lent ≡ own → given_position lent ≡ next_position own
 lent_position None own e = ap next_position e
 lent_position (Some p) own e = ap next_position e
-
-pub not_zero : (page : ℕ) → page ≡ 0 → 0 < page → ⊥
-not_zero page e some = omega (arith, e, some)
 
 is_write : ToolError → Type 0
 is_write Write = Unit {0}

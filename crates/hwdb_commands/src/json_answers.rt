@@ -17,7 +17,7 @@ use crate::json_explanations::explanation_lines_json;
 use crate::json_lines::device_line;
 use crate::lookup::{PAGE, position_of};
 use hwdb_devices::Sink;
-use hwdb_query::{compiled_answers_are_last, cursor, effective, explain};
+use hwdb_query::{compiled_answers_are_last, effective, explain, paged_cursor};
 use hwdb_reader::{Db, check};
 use hwdb_transfer::{ToolError, write_text};
 use std::alloc::{AllocError, Global};
@@ -132,7 +132,7 @@ pub fn run_list_json<O: Sink>(
     compiled_answers_are_last();
     let after = position_of(alloc, after)?;
     let db = check(bytes)?;
-    let mut hits = cursor(alloc, &db, device, after.as_ref(), PAGE)?;
+    let mut hits = paged_cursor(alloc, &db, device, after.as_ref(), PAGE)?;
     print_hits(alloc, &mut hits, limit, HitForm::Json, out)
 }
 

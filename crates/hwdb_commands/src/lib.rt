@@ -37,4 +37,4 @@ pub use json_laws::json_is_read_back;
 pub use lookup::{run_list, run_queries, run_query};
 pub use single_file::ask;
 pub use texts::property_lines;
-pub use update::{put_in_place, run_update, update_chosen};
+pub use update::{put_in_place, run_update};

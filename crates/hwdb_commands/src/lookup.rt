@@ -15,7 +15,7 @@ use crate::device_texts::print_texts;
 use crate::hit_lines::{HitForm, print_hits};
 use crate::texts::property_lines;
 use hwdb_devices::Sink;
-use hwdb_query::{Position, compiled_answers_are_last, cursor, effective};
+use hwdb_query::{Position, compiled_answers_are_last, effective, paged_cursor};
 use hwdb_reader::check;
 use hwdb_transfer::{ToolError, write_text};
 use std::alloc::Global;
@@ -147,6 +147,6 @@ pub fn run_list<O: Sink>(
     compiled_answers_are_last();
     let after = position_of(alloc, after)?;
     let db = check(bytes)?;
-    let mut hits = cursor(alloc, &db, device, after.as_ref(), PAGE)?;
+    let mut hits = paged_cursor(alloc, &db, device, after.as_ref(), PAGE)?;
     print_hits(alloc, &mut hits, limit, HitForm::Text, out)
 }

@@ -1,8 +1,7 @@
 //! What `update` does with the files of both folders.
-ghost use Rattle.std.specs.Prelude.{◌≡◌, ◌≢◌, ◌≤◌, ◌++◌, None, map, All, IfOk, IfErr, OnOk, IsErrOf};
+ghost use Rattle.std.specs.Prelude.{◌≡◌, ◌≢◌, ◌++◌, None, map, IfOk, IfErr, OnOk, IsErrOf};
 ghost use Rattle.std.specs.Io.KnownBytes.{Appends};
-ghost use Rattle.hwdb_text.specs.Views.{IsStorableChoice};
-ghost use Rattle.hwdb_compile.specs.Views.{sources, fault_of, choice_in, ForFolders};
+ghost use Rattle.hwdb_compile.specs.Views.{sources, fault_of};
 ghost use Rattle.hwdb_spec.specs.Failures.{HasFailed, OneFailed};
 ghost use Rattle.hwdb_transfer.specs.Devices.{AppendsPrefix};
 ghost use Rattle.hwdb_spec.specs.Texts.{status_of, faults_text};
@@ -12,9 +11,7 @@ ghost use Rattle.hwdb_store.specs.Views.{IsLeft, IsSeen, failures_after};
 ghost use Rattle.hwdb_commands.specs.Updates.{Updated, UpdateUndone, OnUnreplaced, OldOrWritten, IsPlaceRefusal, IsUpdateRefusal};
 
 use crate::texts::fault_lines;
-use hwdb_compile::{
-    ChosenFile, Compiled, FileFault, SourceFile, choose, compile_chosen, with_bytes,
-};
+use hwdb_compile::{Compiled, FileFault, SourceFile, compile};
 use hwdb_devices::Sink;
 use hwdb_store::{Store, Unreplaced, replace};
 use hwdb_transfer::{ToolError, write_text};
@@ -95,56 +92,12 @@ pub fn put_in_place<S: Store, E: Sink>(
     Ok(status_of(strict, &compiled.faults))
 }
 
-/// Compiles chosen files, writes the fault lines to `err`, and replaces the database in a folder of the store: what
-/// [`run_update`] does with any two folders of which these are the chosen files. Returns the status: 1 where `strict`
-/// and there is a fault line, else 0. Nothing of the store changes before the fault lines are whole.
-pub fn update_chosen<S: Store, E: Sink>(
-    alloc: Global,
-    files: &[ChosenFile<'_>],
-    max_bytes: u32,
-    strict: bool,
-    folder: &str,
-    store: &mut S,
-    err: &mut E,
-) -> Result<u8, ToolError>
-    requires { All IsStorableChoice (map choice_in files.now) }
-    ensures updated { IfOk result
-        (λ status. ForFolders files.now (λ etc usr. Updated etc usr None max_bytes strict status
-        (E.taken err.old) (E.taken err.new) (λ database. S.tells → InPlace folder.now database
-        (S.seen store.old) (S.seen store.new) (S.may_leave store.new)))) }
-    ensures status { IfOk result (λ status. status ≤ 1) }
-    ensures any_moment { S.tells → ForFolders files.now (λ etc usr.
-        LeavesOnly S.moment S.left_since store.old store.new
-        (OldOrWritten etc usr folder.now (S.seen store.old) (S.may_leave store.old))) }
-
-    ensures refusals { IfErr result
-        (λ e. ForFolders files.now (λ etc usr. IsUpdateRefusal etc usr max_bytes e)) }
-    ensures unreplaced { IfErr result (OnUnreplaced (λ u. ForFolders files.now (λ etc usr.
-        UpdateUndone etc usr None folder.now
-        (E.taken err.old) (E.taken err.new) S.tells (S.seen store.old) (S.seen store.new)
-        (S.may_leave store.old) (S.may_leave store.new) u))) }
-    ensures counted { IfErr result (OnUnreplaced
-        (λ u. (E.failures err.new ≡ E.failures err.old)
-        × (S.failures store.new ≡ failures_after u (S.failures store.old)))) }
-    ensures unfailed { OnOk result ((E.failures err.new ≡ E.failures err.old)
-        × (S.failures store.new ≡ S.failures store.old)) }
-    ensures last { IsErrOf result ToolError.Write
-        → OneFailed (E.failures err.old) (E.failures err.new) × (store.new ≡ store.old) }
-    ensures cause { IsErrOf result ToolError.Write
-        → HasFailed (E.failures err.old) (E.failures err.new) }
-    ensures cut_short { IsErrOf result ToolError.Write → ForFolders files.now (λ etc usr.
-        AppendsPrefix (E.taken err.old) (E.taken err.new)
-        (faults_text (faults_of_files etc usr))) }
-    ensures untouched { IfErr result
-        (λ e. e ≢ ToolError.Write → ((u : Unreplaced) → e ≢ ToolError.Replace u)
-        → (err.new ≡ err.old) × (store.new ≡ store.old)) }
-{
-    let compiled = compile_chosen(alloc, files, max_bytes)?;
-    put_in_place(alloc, &compiled, &[], strict, folder, store, err)
-}
-
 /// Compiles the files of the folders in /etc and in /usr/lib, writes the fault lines to `err`, and replaces the database
-/// in a folder of the store, as [`update_chosen`] does.
+/// in a folder of the store. Returns the status: 1 where `strict` and there is a fault line, else 0. Nothing of the store
+/// changes before the fault lines are whole.
+///
+/// This is the library's call, for who has the files' bytes. The program reads the files itself and calls
+/// [`put_in_place`].
 pub fn run_update<S: Store, E: Sink>(
     alloc: Global,
     etc: &[SourceFile],
@@ -185,7 +138,6 @@ pub fn run_update<S: Store, E: Sink>(
         (λ e. e ≢ ToolError.Write → ((u : Unreplaced) → e ≢ ToolError.Replace u)
         → (err.new ≡ err.old) × (store.new ≡ store.old)) }
 {
-    let chosen = choose(alloc, etc, usr)?;
-    let files = with_bytes(alloc, &chosen, etc, usr)?;
-    update_chosen(alloc, &files, max_bytes, strict, folder, store, err)
+    let compiled = compile(alloc, etc, usr, max_bytes)?;
+    put_in_place(alloc, &compiled, &[], strict, folder, store, err)
 }

@@ -13,7 +13,7 @@ use Rattle.hwdb_spec.specs.Assignment.{Assignment, text_cmp}
 use Rattle.hwdb_spec.specs.Tree.{Tree, Children, Value, values_under, values_below, KeysAscend, IsTree, BytesAscend, members_under, place_cmp, entry_of, key_of, assigned_at, map_of}
 use Rattle.hwdb_spec.specs.Tree.Tree.{Node}
 use Rattle.hwdb_spec.specs.Tree.Children.{NoMore, Child}
-use Rattle.hwdb_inspect.specs.Internal.Parts.{assigned_by}
+use Rattle.hwdb_query.specs.Internal.Members.{assignment_of as assigned_by}
 
 pub place_total : IsTotalOrder place_cmp
 place_total = then_total (on_total (λ (p : List ℕ × List ℕ). p.0) nat_list_cmp_total) (on_total (λ (p : List ℕ × List ℕ). p.1) nat_list_cmp_total)

@@ -1,12 +1,12 @@
 -- What a tree assigns, by the parts of its root.
-use Rattle.std.proofs.Common.{◌≡◌, ◌∙◌, ap, refl, ℕ, zero, suc, ◌+◌, ◌≤◌, ◌<◌, List, [], ◌∷◌, ◌++◌, drop, map, length, arith, Option, Some, None, slice_get, option_map}
+use Rattle.std.proofs.Common.{◌≡◌, ◌∙◌, ap, refl, ℕ, zero, suc, ◌+◌, ◌≤◌, ◌<◌, List, [], ◌∷◌, ◌++◌, drop, map, length, arith, Option, Some, None, slice_get}
 use Rattle.std.specs.Prelude.{flat_map}
 use Rattle.std.proofs.lemmas.Grind.{flat_map-append}
 use Rattle.hwdb_spec.specs.Tree.{Tree, Children, Value, prefix_of, values_under, values_below, assigned_at, key_of, members_under, values_of}
 use Rattle.hwdb_spec.specs.Tree.Tree.{Node}
 use Rattle.hwdb_spec.specs.Tree.Children.{NoMore, Child}
-use Rattle.hwdb_reader.specs.Views.{children_of, list_of, node_count, nodes_below, Shown, shown}
-use Rattle.hwdb_inspect.specs.Internal.Parts.{assigned_by, one_assignment, assignment_shown, members_in, own_members}
+use Rattle.hwdb_reader.specs.Views.{children_of, list_of, node_count, nodes_below, shown}
+use Rattle.hwdb_query.specs.Internal.Members.{assignment_of as assigned_by, one_assignment, assignment_shown, members_in, own_members}
 use Rattle.hwdb_inspect.specs.Internal.Walks.{nodes_in}
 
 -- what a value assigns, and what it is shown to assign
@@ -33,28 +33,6 @@ members_split path (Node prefix values children) =
     flat_map-append assigned_by (map (λ v. (path ++ prefix, v)) values) (values_below (path ++ prefix) children)
     ∙ ap (λ r. r ++ flat_map assigned_by (values_below (path ++ prefix) children)) (own_listed (path ++ prefix) values)
     ∙ ap (λ r. own_members (path ++ prefix) values ++ r) (below_listed (path ++ prefix) children)
-
--- what a value with no key assigns, and one with a key
-pub shown_none : (pattern : List ℕ) (s : Shown) → s.key ≡ None → assignment_shown pattern s ≡ []
-unfolding assignment_shown
-shown_none pattern s e = ap (λ o. one_assignment pattern s o) e
-
-pub shown_some : (pattern key : List ℕ) (s : Shown) → s.key ≡ Some key → assignment_shown pattern s ≡ one_assignment pattern s (Some key)
-unfolding assignment_shown
-shown_some pattern key s e = ap (λ o. one_assignment pattern s o) e
-
--- the value at a place, and those after it
-pub own_next : (pattern : List ℕ) (values : List Value) (i : ℕ) (s : Shown) → option_map shown (slice_get values i) ≡ Some s
-    → own_members pattern (drop i values) ≡ assignment_shown pattern s ++ own_members pattern (drop (suc i) values)
-own_next pattern [] i s h = absurd (cc)
-own_next pattern (v ∷ values) zero s h = let e : shown v ≡ s = cc in ap (λ q. assignment_shown pattern q ++ own_members pattern values) e
-own_next pattern (v ∷ values) (suc i) s h = own_next pattern values i s h
-
-pub own_behind : (pattern : List ℕ) (values : List Value) (i : ℕ) → length values ≤ i → own_members pattern (drop i values) ≡ []
-own_behind pattern [] zero h = refl
-own_behind pattern [] (suc i) h = refl
-own_behind pattern (v ∷ values) zero h = absurd (omega arith)
-own_behind pattern (v ∷ values) (suc i) h = own_behind pattern values i (omega arith)
 
 -- the child at a place, and those after it
 pub kid_next : (kids : List (ℕ × Tree)) (i : ℕ) (k : ℕ × Tree) → slice_get kids i ≡ Some k → drop i kids ≡ k ∷ drop (suc i) kids

@@ -4,7 +4,7 @@ use Rattle.std.proofs.lemmas.List.{reverse-append, take-append-le, length-take-l
 use Rattle.std.proofs.Math.Seq.{take-length}
 use Rattle.hwdb_spec.specs.Tree.{Tree, prefix_of, values_of, members_under}
 use Rattle.hwdb_reader.specs.Views.{children_of, entered_tree, node_count}
-use Rattle.hwdb_inspect.specs.Internal.Parts.{members_in, own_members}
+use Rattle.hwdb_query.specs.Internal.Members.{members_in, own_members}
 use Rattle.hwdb_inspect.specs.Internal.Walks.{kids_of, nodes_in, to_come, StandsOn, left, steps, Opened}
 use Rattle.hwdb_inspect.specs.declared.walk.Open.{Open}
 use Rattle.hwdb_inspect.proofs.PartLemmas.{members_split, kid_next, kid_behind, node_and_below}

@@ -5,8 +5,6 @@ use Rattle.hwdb_spec.specs.Tree.{Tree}
 use Rattle.hwdb_spec.specs.Differences.{diff_text, differ}
 use Rattle.hwdb_spec.specs.declared.DbFault.{DbFault}
 use Rattle.hwdb_transfer.specs.Databases.{IsNoDatabase}
-use Rattle.hwdb_transfer.specs.declared.errors.ToolError.{ToolError}
-use Rattle.hwdb_transfer.specs.declared.errors.ToolError.TheVariants.{BadDatabase, Write, Memory}
 use Rattle.hwdb_inspect.specs.declared.errors.DiffError.{DiffError}
 use Rattle.hwdb_inspect.specs.declared.errors.DiffError.TheVariants.{Old, New, Write as NotWritten, Memory as NoMemory}
 
@@ -45,10 +43,3 @@ IsPrintRefusal (Old fault) = ⊥
 IsPrintRefusal (New fault) = ⊥
 IsPrintRefusal NotWritten = Unit {0}
 IsPrintRefusal NoMemory = Unit {0}
-
--- the same without a word on which of the two it was
-abbrev pub refusal_of : DiffError → ToolError
-refusal_of (Old fault) = BadDatabase fault
-refusal_of (New fault) = BadDatabase fault
-refusal_of NotWritten = Write
-refusal_of NoMemory = Memory

@@ -1,5 +1,4 @@
 -- What the proofs of this crate speak of.
-pub mod Parts
 pub mod Walks
 pub mod Merging
 pub mod Pairing

@@ -4,17 +4,14 @@ use Rattle.hwdb_spec.specs.Assignment.{Assignment}
 use Rattle.hwdb_spec.specs.Differences.{Change, change_between}
 use Rattle.hwdb_spec.specs.Differences.Change.{Came, Went}
 use Rattle.hwdb_spec.specs.Summary.{Summary}
-use Rattle.hwdb_inspect.specs.declared.assigned.Assigned.{Assigned}
+use Rattle.hwdb_query.specs.Views.{assignment_of_answer}
+use Rattle.hwdb_query.specs.declared.answer.Answer.{Answer}
 use Rattle.hwdb_inspect.specs.declared.pairs.Pair.{Pair}
 use Rattle.hwdb_inspect.specs.declared.pairs.Pair.TheVariants.{Old, New, Both}
 use Rattle.hwdb_inspect.specs.declared.summary.Counts.{Counts}
 
-abbrev pub assignment_of : Assigned → Assignment
-assignment_of a = record {
-  position = record { priority = a.priority; line = a.line; pattern = a.pattern.value.items; key = a.key.now };
-  value = a.value.now;
-  path = a.path.now;
-}
+abbrev pub assignment_of : Answer → Assignment
+assignment_of a = assignment_of_answer a
 
 -- what happened at a pattern and key
 abbrev pub changes_of : Pair → List Change

@@ -9,20 +9,20 @@ ghost use Rattle.hwdb_transfer.specs.Databases.{IsTextOf};
 ghost use Rattle.hwdb_inspect.specs.Dumps.{IsSayable, IsDumpRefusal, IsUnsaidRefusal, IsRecordRefusal};
 ghost use Rattle.hwdb_inspect.specs.Views.{assignment_of};
 
-use crate::assigned::Assigned;
 use crate::errors::DumpError;
 use crate::pairs::by_place;
 use crate::printing::{hand_on, write_whole};
 use crate::records::{is_said, push_record};
 use crate::walk::assignments;
 use hwdb_devices::Sink;
+use hwdb_query::Answer;
 use hwdb_reader::{Db, check};
 use std::alloc::{AllocError, Global};
 use std::cmp::Ordering;
 
 /// Compares by priority, line, pattern and key.
 #[tactic(auto, unfolding(hwdb_spec::specs::Assignment::assignment_cmp, hwdb_spec::specs::Assignment::position_cmp))]
-fn by_position(x: &Assigned<'_>, y: &Assigned<'_>) -> Ordering
+fn by_position(x: &Answer<'_>, y: &Answer<'_>) -> Ordering
     ensures { result ≡ assignment_cmp (assignment_of x.now) (assignment_of y.now) }
 {
     match x.priority.cmp(&y.priority) {
@@ -35,7 +35,7 @@ fn by_position(x: &Assigned<'_>, y: &Assigned<'_>) -> Ordering
 }
 
 /// All that the database assigns, by priority, line, pattern and key. The only error is `AllocError`.
-fn ordered<'a>(alloc: Global, db: &Db<'a>) -> Result<Vec<Assigned<'a>>, AllocError>
+fn ordered<'a>(alloc: Global, db: &Db<'a>) -> Result<Vec<Answer<'a>>, AllocError>
     ensures { IfOk result (λ list. map assignment_of list.items ≡ dumped db.now) }
 {
     let _root = db.root();
@@ -45,7 +45,7 @@ fn ordered<'a>(alloc: Global, db: &Db<'a>) -> Result<Vec<Assigned<'a>>, AllocErr
 }
 
 /// The first of some assignments that its record doesn't say is an error.
-fn check_sayable(alloc: Global, list: &[Assigned<'_>]) -> Result<(), DumpError>
+fn check_sayable(alloc: Global, list: &[Answer<'_>]) -> Result<(), DumpError>
     ensures said { OnOk result (first_unsaid (map assignment_of list.now) ≡ None) }
     ensures unsaid { IfErr result (IsUnsaidRefusal (map assignment_of list.now)) }
 {
@@ -61,11 +61,7 @@ fn check_sayable(alloc: Global, list: &[Assigned<'_>]) -> Result<(), DumpError>
 /// Prints the record of each assignment. At most 64 KiB and a record are held.
 ///
 /// The errors are a failed write, and a failed allocation: then the sink took a prefix of the whole.
-fn print_records<O: Sink>(
-    alloc: Global,
-    list: &[Assigned<'_>],
-    out: &mut O,
-) -> Result<(), DumpError>
+fn print_records<O: Sink>(alloc: Global, list: &[Answer<'_>], out: &mut O) -> Result<(), DumpError>
     ensures printed { OnOk result (Appends (O.taken out.old) (O.taken out.new)
         (flat_map record_text (map assignment_of list.now))) }
     ensures refusals { IfErr result IsRecordRefusal }

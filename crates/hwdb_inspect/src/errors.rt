@@ -1,10 +1,8 @@
 //! Why two databases weren't compared, or a database isn't dumped.
 ghost use Rattle.std.specs.Prelude.{◌≡◌};
-ghost use Rattle.hwdb_inspect.specs.Diffs.{refusal_of};
 
 use crate::printing::Unwritten;
 use hwdb_reader::DbFault;
-use hwdb_transfer::ToolError;
 use std::alloc::AllocError;
 
 /// Why two databases weren't compared, or not to the end.
@@ -18,20 +16,6 @@ pub enum DiffError {
     Write,
     /// An allocation failed.
     Memory,
-}
-
-impl DiffError {
-    /// The same without a word on which of the two it was.
-    pub fn refusal(self) -> ToolError
-        ensures { result ≡ refusal_of self }
-    {
-        match self {
-            DiffError::Old(fault) => ToolError::BadDatabase(fault),
-            DiffError::New(fault) => ToolError::BadDatabase(fault),
-            DiffError::Write => ToolError::Write,
-            DiffError::Memory => ToolError::Memory,
-        }
-    }
 }
 
 impl From<AllocError> for DiffError {

@@ -6,7 +6,6 @@
 //!
 //! | Module | What it does |
 //! |---|---|
-//! | `assigned` | an assignment of a database |
 //! | `pairs` | two ascending lists of assignments, gone through side by side |
 //! | `lines` | the lines of changes |
 //! | `dump` | `dump`: a database as text |
@@ -20,7 +19,6 @@
 //! | `laws` | laws of the map of a database, and of its dump |
 #![tactic(auto)]
 
-mod assigned;
 mod difference;
 mod dump;
 mod errors;
@@ -33,7 +31,6 @@ mod summary;
 mod verification;
 mod walk;
 
-pub use assigned::Assigned;
 pub use difference::run_diff;
 pub use dump::run_dump;
 pub use errors::{DiffError, DumpError};

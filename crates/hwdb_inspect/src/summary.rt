@@ -4,8 +4,8 @@ ghost use Rattle.hwdb_spec.specs.Summary.{different, summary_of};
 ghost use Rattle.hwdb_inspect.specs.Views.{assignment_of, summary_shown};
 ghost use Rattle.hwdb_inspect.specs.Internal.Counting.{part_of};
 
-use crate::assigned::Assigned;
 use crate::walk::survey;
+use hwdb_query::Answer;
 use hwdb_reader::Db;
 use std::alloc::{AllocError, Global};
 
@@ -30,7 +30,7 @@ enum Part {
 }
 
 /// A part of an assignment.
-fn text_of<'l>(assigned: &'l Assigned<'_>, part: Part) -> &'l [u8]
+fn text_of<'l>(assigned: &'l Answer<'_>, part: Part) -> &'l [u8]
     ensures { result.now ≡ part_of part (assignment_of assigned.now) }
 {
     match part {
@@ -43,7 +43,7 @@ fn text_of<'l>(assigned: &'l Assigned<'_>, part: Part) -> &'l [u8]
 /// This part of each assignment.
 fn texts_of<'l>(
     alloc: Global,
-    list: &'l [Assigned<'_>],
+    list: &'l [Answer<'_>],
     part: Part,
 ) -> Result<Vec<&'l [u8]>, AllocError>
     ensures { IfOk result (λ texts. map (λ t. t.now) texts.items
@@ -67,7 +67,7 @@ fn count_different(texts: Vec<&[u8]>) -> Result<usize, AllocError>
 }
 
 /// How many different texts there are in one part of the assignments.
-fn count_parts(alloc: Global, list: &[Assigned<'_>], part: Part) -> Result<usize, AllocError>
+fn count_parts(alloc: Global, list: &[Answer<'_>], part: Part) -> Result<usize, AllocError>
     ensures { IfOk result
         (λ n. n ≡ different (map (part_of part) (map assignment_of list.now))) }
 {

@@ -3,15 +3,19 @@
 //!
 //! The nodes whose children aren't all done are on a stack of its own, on the heap. So a deep tree takes no more of the
 //! thread's stack than a flat one. Each node is entered once.
+//!
+//! A node's own assignments are those of `hwdb_query`, by one call. The loop isn't: the descent there keeps at each open node what
+//! is known of the device, which takes memory, and passes over what can't match. This one enters all nodes and counts how deep
+//! they stand.
 ghost use Rattle.std.specs.Prelude.{◌≡◌, ◌<◌, ◌≤◌, ◌+◌, ◌++◌, ◌∷◌, ◌^◌, [], map, max, reverse, length, IfOk, OnOk};
 ghost use Rattle.hwdb_spec.specs.Summary.{nodes, depth};
 ghost use Rattle.hwdb_spec.specs.Tree.{members_under, prefix_of, values_of};
 ghost use Rattle.hwdb_reader.specs.Views.{node_count, children_of, tree_of, entered_tree};
 ghost use Rattle.hwdb_inspect.specs.Views.{assignment_of};
-ghost use Rattle.hwdb_inspect.specs.Internal.Parts.{own_members};
+ghost use Rattle.hwdb_query.specs.Internal.Members.{own_members};
 ghost use Rattle.hwdb_inspect.specs.Internal.Walks.{to_come, StandsOn, left, steps, deepest_to_come, Opened};
 
-use crate::assigned::{Assigned, collect};
+use hwdb_query::{Answer, push_answers};
 use hwdb_reader::{Db, Entered, Inside, Node};
 use std::alloc::{AllocError, Global};
 
@@ -32,7 +36,7 @@ struct Walk<'a> {
     path: Vec<u8>,
     /// The nodes that aren't done, each below the one before it.
     stack: Vec<Open<'a>>,
-    found: Vec<Assigned<'a>>,
+    found: Vec<Answer<'a>>,
     entered: Entered,
     /// The most nodes that were on one path so far.
     deepest: usize,
@@ -41,7 +45,7 @@ struct Walk<'a> {
 /// What a walk over a whole database found.
 #[derive(Drop)]
 pub(crate) struct Findings<'a> {
-    pub assignments: Vec<Assigned<'a>>,
+    pub assignments: Vec<Answer<'a>>,
     pub nodes: u64,
     /// The most nodes on one path, the root counted.
     pub depth: usize,
@@ -82,7 +86,7 @@ impl<'a> Walk<'a> {
     {
         self.path.extend_from_slice(node.prefix())?;
         let inside = node.enter(&mut self.entered);
-        collect(alloc, inside, &self.path, &mut self.found)?;
+        push_answers(alloc, inside, &self.path, &mut self.found)?;
         let length = self.path.len();
         self.stack.push(Open {
             inside,
@@ -156,7 +160,7 @@ pub(crate) fn survey<'a>(alloc: Global, db: &Db<'a>) -> Result<Findings<'a>, All
 ///
 /// The time grows with the number of nodes and with the bytes of the patterns. The memory is a record for each
 /// assignment, and a copy of each pattern that has one. The only error is `AllocError`.
-pub fn assignments<'a>(alloc: Global, db: &Db<'a>) -> Result<Vec<Assigned<'a>>, AllocError>
+pub fn assignments<'a>(alloc: Global, db: &Db<'a>) -> Result<Vec<Answer<'a>>, AllocError>
     ensures list { IfOk result (λ list. map assignment_of list.items ≡ members_under [] db.now) }
 {
     let found = survey(alloc, db)?;

@@ -78,34 +78,6 @@ fn look_over(alloc: Global, path: &[u8], bytes: &[u8]) -> Result<Checked, ToolEr
     Ok(Checked { reports, tally })
 }
 
-/// Prints the reports of a file's faults to `out`, by line, with `path` as the file's path: the fault's line as `update`
-/// prints it, the text of its line, a mark below the place, and what to do. Answers how much was found. Nothing is
-/// written before the reports are whole.
-pub fn check_file<O: Sink>(
-    alloc: Global,
-    path: &str,
-    bytes: &[u8],
-    out: &mut O,
-) -> Result<Tally, ToolError>
-    ensures printed { IfOk result (λ _.
-        Appends (O.taken out.old) (O.taken out.new) (file_text path.now bytes.now)) }
-    ensures found { IfOk result (λ tally. tally ≡ tally_of bytes.now) }
-
-    ensures refusals { IfErr result (IsCheckRefusal bytes.now) }
-    ensures cause { IsErrOf result ToolError.Write
-        → HasFailed (O.failures out.old) (O.failures out.new) }
-    ensures unfailed { IfOk result (λ _. O.failures out.new ≡ O.failures out.old) }
-    ensures last { IsErrOf result ToolError.Write
-        → OneFailed (O.failures out.old) (O.failures out.new) }
-    ensures cut_short { IsErrOf result ToolError.Write
-        → AppendsPrefix (O.taken out.old) (O.taken out.new) (file_text path.now bytes.now) }
-    ensures untouched { IfErr result (λ e. e ≢ ToolError.Write → out.new ≡ out.old) }
-{
-    let checked = look_over(alloc, path.as_bytes(), bytes)?;
-    write_text(out, &checked.reports)?;
-    Ok(checked.tally)
-}
-
 /// What is said of each file, one after another.
 fn look_over_all(alloc: Global, files: &[TextFile<'_>]) -> Result<Checked, ToolError>
     ensures reports { IfOk result (λ c. c.reports.items ≡ files_text (map source_of files.now)) }

@@ -12,15 +12,9 @@ use Rattle.std.specs.List.Sorted.{IsStrictlySortedBy}
 use Rattle.hwdb_spec.specs.Answers.{is_after, is_behind, is_wanted}
 use Rattle.hwdb_query.specs.Internal.Lists.{keep_all}
 use Rattle.hwdb_query.specs.Internal.Hits.{after_position}
-use Rattle.hwdb_query.specs.Views.{Page as HeldHits}
-use Rattle.hwdb_query.specs.Internal.Collected.{PageCollects, LastCollects, Collects, Shows, IsPage, IsLast, IsAll, IsOfPage, IsOfLast, IsOfAll}
-use Rattle.hwdb_query.specs.Internal.Explaining.{AllCollects}
-use Rattle.hwdb_query.specs.declared.all_hits.AllHits.{AllHits}
-use Rattle.hwdb_query.proofs.AllHitsLemmas.{all_none, all_more}
+use Rattle.hwdb_query.specs.Internal.Collected.{PageCollects, LastCollects, Shows}
 use Rattle.hwdb_query.specs.declared.next_page.NextPage.{NextPage}
 use Rattle.hwdb_query.specs.declared.last_hits.LastHits.{LastHits}
-use Rattle.hwdb_query.specs.declared.collector.Collector.{Collector}
-use Rattle.hwdb_query.specs.declared.collector.Collector.TheVariants.{Page, Last as LastOnes, All as AllOnes}
 use Rattle.hwdb_query.proofs.PutLemmas.{keep_all_append, ascends_put, ascends_all, filter_in, filter_out}
 use Rattle.hwdb_query.proofs.OrderLemmas.{position_total, assignment_total}
 use Rattle.hwdb_query.proofs.PartLemmas.{own_next, own_one, own_behind}
@@ -125,93 +119,24 @@ page_offered a b pattern key s some late after most kept =
       kept = λ up. offered_some a.held.most (after_position a.after) pattern key s x a.held.hits b.held.hits some refl late (kept up);
     }
 
--- nothing is taken
-pub collects_none : (a : Collector) → Collects a [] a
-unfolding Collects
-collects_none (Page a) = page_none a
-collects_none (LastOnes a) = last_none a
-collects_none (AllOnes a) = all_none a
-
--- one list is taken, and then another
-pub collects_more : (a b c : Collector) (xs ys : List Assignment) → Collects a xs b → Collects b ys c → Collects a (xs ++ ys) c
-unfolding Collects
-collects_more (Page a) (Page b) (Page c) xs ys p q = page_more a b c xs ys p q
-collects_more (Page a) (Page b) (LastOnes c) xs ys p q = q
-collects_more (Page a) (Page b) (AllOnes c) xs ys p q = q
-collects_more (Page a) (LastOnes b) c xs ys p q = absurd p
-collects_more (Page a) (AllOnes b) c xs ys p q = absurd p
-collects_more (LastOnes a) (Page b) c xs ys p q = absurd p
-collects_more (LastOnes a) (LastOnes b) (Page c) xs ys p q = q
-collects_more (LastOnes a) (LastOnes b) (LastOnes c) xs ys p q = last_more a b c xs ys p q
-collects_more (LastOnes a) (LastOnes b) (AllOnes c) xs ys p q = q
-collects_more (LastOnes a) (AllOnes b) c xs ys p q = absurd p
-collects_more (AllOnes a) (Page b) c xs ys p q = absurd p
-collects_more (AllOnes a) (LastOnes b) c xs ys p q = absurd p
-collects_more (AllOnes a) (AllOnes b) (Page c) xs ys p q = q
-collects_more (AllOnes a) (AllOnes b) (LastOnes c) xs ys p q = q
-collects_more (AllOnes a) (AllOnes b) (AllOnes c) xs ys p q = all_more a b c xs ys p q
-
-pub page_collected : (a : NextPage) (xs : List Assignment) (b : NextPage) → PageCollects a xs b → Collects (Page a) xs (Page b)
-unfolding Collects
-page_collected a xs b taken = taken
-
-pub last_collected : (a : LastHits) (xs : List Assignment) (b : LastHits) → LastCollects a xs b → Collects (LastOnes a) xs (LastOnes b)
-unfolding Collects
-last_collected a xs b taken = taken
-
-pub all_collected : (a : AllHits) (xs : List Assignment) (b : AllHits) → AllCollects a xs b → Collects (AllOnes a) xs (AllOnes b)
-unfolding Collects
-all_collected a xs b taken = taken
-
--- it stays the one of the three that it is
-pub still_page : (a : NextPage) (xs : List Assignment) (b : Collector) → Collects (Page a) xs b → IsPage b
-unfolding Collects
-still_page a xs (Page b) taken = tt
-still_page a xs (LastOnes b) taken = taken
-still_page a xs (AllOnes b) taken = taken
-
-pub still_last : (a : LastHits) (xs : List Assignment) (b : Collector) → Collects (LastOnes a) xs b → IsLast b
-unfolding Collects
-still_last a xs (Page b) taken = taken
-still_last a xs (LastOnes b) taken = tt
-still_last a xs (AllOnes b) taken = taken
-
-pub still_all : (a : AllHits) (xs : List Assignment) (b : Collector) → Collects (AllOnes a) xs b → IsAll b
-unfolding Collects
-still_all a xs (Page b) taken = taken
-still_all a xs (LastOnes b) taken = taken
-still_all a xs (AllOnes b) taken = tt
-
--- and what it was made of was taken
-pub all_at_end : (a : AllHits) (xs : List Assignment) (b : Collector) (all : AllHits) → Collects (AllOnes a) xs b → IsOfAll b all → AllCollects a xs all
-unfolding Collects
-all_at_end a xs (Page b) all taken is = absurd taken
-all_at_end a xs (LastOnes b) all taken is = absurd taken
-all_at_end a xs (AllOnes b) all taken is = subst (λ (h : AllHits). AllCollects a xs h) (sym is) taken
-
 none_ascends : let none : List Assignment = [] in IsStrictlySortedBy assignment_cmp none
 unfolding IsStrictlySortedBy
 none_ascends = tt
 
 -- a page that was empty, after all
-pub page_at_end : (a : NextPage) (members : List Assignment) (device : List ℕ) (b : Collector) (held : HeldHits) → a.held.hits ≡ [] → Collects (Page a) (filter (is_wanted device) members) b → IsOfPage b held
-    → (held.most ≡ a.held.most) × (held.hits ≡ keep_all assignment_cmp a.held.most (wanted device (after_position a.after) members) [])
-unfolding Collects wanted
-page_at_end a members device (Page b) held none taken is =
+pub page_at_end : (a : NextPage) (members : List Assignment) (device : List ℕ) (b : NextPage) → a.held.hits ≡ [] → PageCollects a (filter (is_wanted device) members) b
+    → (b.held.most ≡ a.held.most) × (b.held.hits ≡ keep_all assignment_cmp a.held.most (wanted device (after_position a.after) members) [])
+unfolding wanted
+page_at_end a members device b none taken =
     let up : IsStrictlySortedBy assignment_cmp a.held.hits = subst (IsStrictlySortedBy assignment_cmp) (sym none) none_ascends in (
-      ap (λ (p : HeldHits). p.most) is ∙ taken.most,
-      ap (λ (p : HeldHits). p.hits) is ∙ taken.kept up
-          ∙ ap (keep_all assignment_cmp a.held.most (filter (is_behind (after_position a.after)) (filter (is_wanted device) members))) none,
+      taken.most,
+      taken.kept up ∙ ap (keep_all assignment_cmp a.held.most (filter (is_behind (after_position a.after)) (filter (is_wanted device) members))) none,
     )
-page_at_end a members device (LastOnes b) held none taken is = absurd taken
-page_at_end a members device (AllOnes b) held none taken is = absurd taken
 
 -- what showed nothing shows the last of all
-pub last_at_end : (a : LastHits) (xs : List Assignment) (b : Collector) (last : LastHits) → Shows a.hits [] → Collects (LastOnes a) xs b → IsOfLast b last → Shows last.hits (in_order assignment_cmp xs)
-unfolding Collects LastCollects
-last_at_end a xs (Page b) last none taken is = absurd taken
-last_at_end a xs (AllOnes b) last none taken is = absurd taken
-last_at_end a xs (LastOnes b) last none taken is = subst (λ (l : LastHits). Shows l.hits (in_order assignment_cmp xs)) (sym is) (taken [] none_ascends none)
+pub last_at_end : (a : LastHits) (xs : List Assignment) (b : LastHits) → Shows a.hits [] → LastCollects a xs b → Shows b.hits (in_order assignment_cmp xs)
+unfolding LastCollects
+last_at_end a xs b none taken = taken [] none_ascends none
 
 -- a value without a hit that is kept
 one_skipped : (a : NextPage) (pattern : List ℕ) (s : Shown) → ((key : List ℕ) → PageCollects a (assignment_at pattern key s ∷ []) a) → PageCollects a (assignment_shown pattern s) a

@@ -69,6 +69,15 @@ own_next pattern [] i s h = absurd (cc)
 own_next pattern (v ∷ values) zero s h = let e : shown v ≡ s = cc in ap (λ q. assignment_shown pattern q ++ own_members pattern values) e
 own_next pattern (v ∷ values) (suc i) s h = own_next pattern values i s h
 
+-- what a value with no key assigns, and one with a key
+pub shown_none : (pattern : List ℕ) (s : Shown) → s.key ≡ None → assignment_shown pattern s ≡ []
+unfolding assignment_shown
+shown_none pattern s e = ap (λ o. one_assignment pattern s o) e
+
+pub shown_some : (pattern key : List ℕ) (s : Shown) → s.key ≡ Some key → assignment_shown pattern s ≡ one_assignment pattern s (Some key)
+unfolding assignment_shown
+shown_some pattern key s e = ap (λ o. one_assignment pattern s o) e
+
 -- what one value assigns, and what those after it assign
 pub own_split : (pattern : List ℕ) (values : List Value) (i : ℕ) → own_members pattern (drop i values) ≡ own_members pattern (take 1 (drop i values)) ++ own_members pattern (drop (suc i) values)
 own_split pattern [] zero = refl

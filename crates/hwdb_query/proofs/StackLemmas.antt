@@ -4,17 +4,15 @@ use Rattle.std.proofs.lemmas.List.{reverse-append, length-take-le, length-append
 use Rattle.std.proofs.lemmas.List.Elements.{filter-append}
 use Rattle.std.proofs.Math.Seq.{take-length}
 use Rattle.hwdb_pattern.specs.Views.{Reached, StandsFor}
+use Rattle.hwdb_spec.specs.Assignment.{Assignment}
 use Rattle.hwdb_spec.specs.Answers.{is_wanted}
 use Rattle.hwdb_spec.specs.Tree.{Tree, prefix_of, values_of, members_under, live_under, is_live}
 use Rattle.hwdb_reader.specs.Views.{children_of, entered_tree, node_count}
 use Rattle.hwdb_query.specs.Internal.Members.{members_in, own_members}
 use Rattle.hwdb_query.specs.Internal.Live.{live_in, nodes_in}
-use Rattle.hwdb_query.specs.Internal.Collected.{Collects}
 use Rattle.hwdb_query.specs.Internal.Descents.{kids_of, wanted_in, to_come, live_to_come, left, steps, StandsOn, Passes, IsAt, IsSameNode, OnTop, Opened}
-use Rattle.hwdb_query.specs.declared.collector.Collector.{Collector}
 use Rattle.hwdb_query.specs.declared.descent.Open.{Open}
-use Rattle.hwdb_query.proofs.CollectionLemmas.{collects_more}
-use Rattle.hwdb_query.proofs.DescentLemmas.{node_collected}
+use Rattle.hwdb_query.proofs.DescentLemmas.{TakesMore, node_collected}
 use Rattle.hwdb_query.proofs.PartLemmas.{members_split, kid_behind, node_and_below, live_split}
 use Rattle.hwdb_query.proofs.StepLemmas.{cut_front, stands_whole}
 use Rattle.hwdb_query.proofs.DeadPathLemmas.{Dead, none_wanted, none_live, none_wanted_behind, none_live_behind}
@@ -201,9 +199,9 @@ module _ (device path long : List ℕ) (top gone : Open) (before now : List Open
         subst (λ p. StandsOn device p (reverse before)) (sym cut) stands.1,
       ))
 
-  pub child_collected_on : (a b end : Collector) → Collects a (filter (is_wanted device) (own_members long (values_of k.1))) b
+  pub child_collected_on : {C : Type 0} (Collects : C → List Assignment → C → Type 0) → TakesMore Collects → (a b end : C) → Collects a (filter (is_wanted device) (own_members long (values_of k.1))) b
       → Collects b (to_come device long (reverse now)) end → Collects a (to_come device path (top ∷ reverse before)) end
-  child_collected_on a b end own rest =
+  child_collected_on {C} Collects takes a b end own rest =
       let under = take top.length path ++ k.0 ∷ [] in
       let mine = filter (is_wanted device) (own_members long (values_of k.1)) in
       let kids = wanted_in device long (children_of k.1) in
@@ -218,7 +216,7 @@ module _ (device path long : List ℕ) (top gone : Open) (before now : List Open
       let all : to_come device path (top ∷ reverse before) ≡ mine ++ to_come device long (reverse now) =
       ap (λ r. r ++ deep) (passes.wanted ∙ wanted_first device (take top.length path) k (kids_of gone) ∙ ap (λ r. r ++ more) child)
       ∙ append_assoc (mine ++ kids) more deep ∙ append_assoc mine kids (more ++ deep) ∙ ap (λ r. mine ++ r) (sym come) in
-      subst (λ l. Collects a l end) (sym all) (collects_more a b end mine (to_come device long (reverse now)) own rest)
+      subst (λ l. Collects a l end) (sym all) (takes a b end mine (to_come device long (reverse now)) own rest)
 
   pub child_live : suc (live_to_come device long (reverse now)) ≡ live_to_come device path (top ∷ reverse before)
   child_live =
@@ -273,12 +271,12 @@ some_left device path top below k rest passes =
     omega (arith, fewer, count)
 
 module _ (device path : List ℕ) (t : Tree) (reach : Reached) (now : List Open) (is : path ≡ prefix_of t) (o : Opened [] now t reach (length path)) where
-  pub root_collected : (a b end : Collector) → Collects a (filter (is_wanted device) (own_members path (values_of t))) b
+  pub root_collected : {C : Type 0} (Collects : C → List Assignment → C → Type 0) → TakesMore Collects → (a b end : C) → Collects a (filter (is_wanted device) (own_members path (values_of t))) b
       → Collects b (to_come device path (reverse now)) end → Collects a (filter (is_wanted device) (members_under [] t)) end
-  root_collected a b end own rest =
+  root_collected {C} Collects takes a b end own rest =
       let come : to_come device path (reverse now) ≡ wanted_in device (prefix_of t) (children_of t) =
       opened_comes [] now t reach path o device ∙ append-nil (wanted_in device path (children_of t)) ∙ ap (λ p. wanted_in device p (children_of t)) is in
-      node_collected device [] t a b end (subst (λ p. Collects a (filter (is_wanted device) (own_members p (values_of t))) b) is own) (subst (λ l. Collects b l end) come rest)
+      node_collected Collects takes device [] t a b end (subst (λ p. Collects a (filter (is_wanted device) (own_members p (values_of t))) b) is own) (subst (λ l. Collects b l end) come rest)
 
   pub root_live : is_live path device ≡ true → suc (live_to_come device path (reverse now)) ≡ live_under device [] t
   root_live live =
@@ -294,8 +292,8 @@ module _ (device path : List ℕ) (t : Tree) (reach : Reached) (now : List Open)
       omega (arith, opened, count)
 
 -- a root whose path leads nowhere
-pub root_lost : (device : List ℕ) (t : Tree) (a end : Collector) → Dead device (prefix_of t) → Collects a [] end → Collects a (filter (is_wanted device) (members_under [] t)) end
-root_lost device t a end dead rest = subst (λ l. Collects a l end) (sym (none_wanted device [] t dead)) rest
+pub root_lost : {C : Type 0} (Collects : C → List Assignment → C → Type 0) (device : List ℕ) (t : Tree) (a end : C) → Dead device (prefix_of t) → Collects a [] end → Collects a (filter (is_wanted device) (members_under [] t)) end
+root_lost {C} Collects device t a end dead rest = subst (λ l. Collects a l end) (sym (none_wanted device [] t dead)) rest
 
 pub root_dead : (device : List ℕ) (t : Tree) → Dead device (prefix_of t) → live_under device [] t ≡ 0
 root_dead device t dead = none_live device [] t dead

@@ -1,12 +1,12 @@
 //! All hits, each at its position: a sorted map, so that a hit costs the logarithm of their number.
 ghost use Rattle.std.specs.Prelude.{◌≡◌, [], IfOk, OnOk};
-ghost use Rattle.hwdb_query.specs.Internal.Members.{assignment_shown, own_members};
-ghost use Rattle.hwdb_spec.specs.Tree.{values_of};
-ghost use Rattle.hwdb_reader.specs.Views.{entered_tree, entry_shows};
+ghost use Rattle.hwdb_query.specs.Internal.Members.{assignment_shown};
+ghost use Rattle.hwdb_reader.specs.Views.{entry_shows};
 
 use crate::answer::Answer;
 use crate::by_key::AnswersByKey;
-use crate::last_hits::shared;
+use crate::collector::Collector;
+use crate::node_answers::shared;
 use hwdb_reader::{Entry, Inside};
 use std::alloc::{AllocError, Global};
 use std::collections::BTreeMap;
@@ -58,24 +58,6 @@ impl<'a> AllHits<'a> {
         Ok(())
     }
 
-    /// Takes what the values of a node assign at a pattern.
-    pub(crate) fn collect(
-        &mut self,
-        alloc: Global,
-        inside: Inside<'a>,
-        pattern: &[u8],
-    ) -> Result<(), AllocError>
-        ensures { OnOk result
-            (AllCollects self.old
-            (own_members pattern.now (values_of (entered_tree inside.entry))) self.new) }
-    {
-        let shared = shared(alloc, pattern)?;
-        for i in 0..inside.values() {
-            self.offer(&shared, inside.value(i))?;
-        }
-        Ok(())
-    }
-
     /// The hits by key.
     pub(crate) fn by_key(self, alloc: Global) -> Result<AnswersByKey<'a>, AllocError>
         ensures { IfOk result (λ by_key. IsByKey by_key (all_shown self.entry)) }
@@ -95,4 +77,25 @@ impl<'a> AllHits<'a> {
         }
         Ok(by_key)
     }
+}
+
+impl<'a> Collector<'a> for AllHits<'a> {
+    ghost use Rattle.hwdb_query.specs.Internal.Explaining.{AllCollects};
+
+    ghost collects = { AllCollects };
+
+    fn collect(
+        &mut self,
+        alloc: Global,
+        inside: Inside<'a>,
+        pattern: &[u8],
+    ) -> Result<(), AllocError> {
+        let shared = shared(alloc, pattern)?;
+        for i in 0..inside.values() {
+            self.offer(&shared, inside.value(i))?;
+        }
+        Ok(())
+    }
+
+    fn law_collects(&self) {}
 }

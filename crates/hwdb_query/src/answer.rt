@@ -1,7 +1,7 @@
 //! Answers, and those of one key.
 use std::rc::Rc;
 
-/// An answer for a device: an assignment that survived and whose pattern matches.
+/// An assignment of a database: one that is told to a device whose name its pattern matches, or one of all.
 #[derive(Drop)]
 pub struct Answer<'a> {
     /// The priority of its file: 1 for the first that was chosen.

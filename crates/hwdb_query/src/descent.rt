@@ -20,9 +20,7 @@ ghost use Rattle.hwdb_spec.specs.Tree.{values_of};
 ghost use Rattle.hwdb_reader.specs.Views.{tree_of, entered_tree};
 ghost use Rattle.hwdb_spec.specs.Answers.{is_wanted};
 ghost use Rattle.hwdb_query.specs.Internal.Members.{own_members};
-ghost use Rattle.hwdb_query.specs.Internal.Collected.{Collects};
 ghost use Rattle.hwdb_query.specs.Internal.Descents.{device_of, kids_of, to_come, live_to_come, left, steps, StandsAt, StandsOn, IsSeen, IsNext, IsSameNode, Opened};
-ghost use Rattle.hwdb_query.specs.declared.collector.Collector.{Collector};
 
 use crate::collector::Collector;
 use hwdb_pattern::{
@@ -45,18 +43,19 @@ fn path_laws()
 }
 
 /// Collects what the values of a node assign at its path, if it matches the device.
-fn collect_matching<'a>(
+fn collect_matching<'a, C: Collector<'a>>(
     alloc: Global,
     inside: Inside<'a>,
     reach: &Reach<'_>,
     pattern: &[u8],
-    into: &mut Collector<'a, '_>,
+    into: &mut C,
 ) -> Result<(), AllocError>
     requires { StandsFor reach.now pattern.now }
-    ensures { OnOk result (Collects into.old
+    ensures { OnOk result (C.collects into.old
         (filter (is_wanted reach.now.device)
         (own_members pattern.now (values_of (entered_tree inside.entry)))) into.new) }
 {
+    into.law_collects();
     if inside.values() == 0 {
         return Ok(());
     }
@@ -176,12 +175,12 @@ impl<'a, 'd> Descent<'a, 'd> {
 
     /// Enters the node at the descent's path, and collects what its values assign to the device. Puts it on the stack
     /// if it has children.
-    fn enter(
+    fn enter<C: Collector<'a>>(
         &mut self,
         alloc: Global,
         node: Node<'a>,
         reach: Reach<'d>,
-        into: &mut Collector<'a, '_>,
+        into: &mut C,
     ) -> Result<(), AllocError>
         requires stands { StandsFor reach self.old.path.items }
         requires room { self.old.entered + 1 < 2 ^ 64 }
@@ -189,7 +188,7 @@ impl<'a, 'd> Descent<'a, 'd> {
         ensures stack { OnOk result
             (Opened self.old.stack.items self.new.stack.items (tree_of node.entry) reach.entry
             (length self.old.path.items)) }
-        ensures collected { OnOk result (Collects into.old
+        ensures collected { OnOk result (C.collects into.old
             (filter (is_wanted reach.entry.device)
             (own_members self.old.path.items (values_of (tree_of node.entry)))) into.new) }
         ensures counted { OnOk result (self.new.entered ≡ self.old.entered + 1) }
@@ -210,22 +209,22 @@ impl<'a, 'd> Descent<'a, 'd> {
     }
 
     /// Enters the root, if its path is live.
-    fn enter_root(
+    fn enter_root<C: Collector<'a>>(
         &mut self,
         alloc: Global,
         root: Node<'a>,
         device: &'d [u8],
-        into: &mut Collector<'a, '_>,
+        into: &mut C,
     ) -> Result<(), AllocError>
         requires path { self.old.path.items ≡ [] }
         requires stack { self.old.stack.items ≡ [] }
         requires entered { self.old.entered ≡ 0 }
         ensures stands { OnOk result
             (StandsOn device.now self.new.path.items (reverse self.new.stack.items)) }
-        ensures collected { OnOk result ((end : Collector)
-            → Collects into.new (to_come device.now self.new.path.items
+        ensures collected { OnOk result ((end : C)
+            → C.collects into.new (to_come device.now self.new.path.items
             (reverse self.new.stack.items)) end
-            → Collects into.old (filter (is_wanted device.now)
+            → C.collects into.old (filter (is_wanted device.now)
             (members_under [] (tree_of root.entry))) end) }
         ensures counted { OnOk result (self.new.entered
             + live_to_come device.now self.new.path.items (reverse self.new.stack.items)
@@ -234,6 +233,7 @@ impl<'a, 'd> Descent<'a, 'd> {
             ≤ node_count (tree_of root.entry)) }
     {
         path_laws();
+        into.law_collects();
         self.path.extend_from_slice(root.prefix())?;
         let start = Reach::start(alloc, device);
         let reach = start.feed(alloc, &self.path)?;
@@ -247,17 +247,17 @@ impl<'a, 'd> Descent<'a, 'd> {
 
     /// Goes on from the node on top of the stack. Enters its next child whose path is live, or takes it off the stack
     /// if there is none.
-    fn go_on(&mut self, alloc: Global, into: &mut Collector<'a, '_>) -> Result<(), AllocError>
+    fn go_on<C: Collector<'a>>(&mut self, alloc: Global, into: &mut C) -> Result<(), AllocError>
         requires some { 0 < length self.old.stack.items }
         requires stands { StandsOn (device_of (reverse self.old.stack.items)) self.old.path.items
             (reverse self.old.stack.items) }
         requires room { self.old.entered + left (reverse self.old.stack.items) < 2 ^ 64 }
         ensures stands { OnOk result (StandsOn (device_of (reverse self.old.stack.items))
             self.new.path.items (reverse self.new.stack.items)) }
-        ensures collected { OnOk result ((end : Collector)
-            → Collects into.new (to_come (device_of (reverse self.old.stack.items))
+        ensures collected { OnOk result ((end : C)
+            → C.collects into.new (to_come (device_of (reverse self.old.stack.items))
             self.new.path.items (reverse self.new.stack.items)) end
-            → Collects into.old (to_come (device_of (reverse self.old.stack.items))
+            → C.collects into.old (to_come (device_of (reverse self.old.stack.items))
             self.old.path.items (reverse self.old.stack.items)) end) }
         ensures counted { OnOk result (self.new.entered
             + live_to_come (device_of (reverse self.old.stack.items)) self.new.path.items
@@ -269,6 +269,7 @@ impl<'a, 'd> Descent<'a, 'd> {
         ensures fewer { OnOk result (steps (reverse self.new.stack.items)
             < steps (reverse self.old.stack.items)) }
     {
+        into.law_collects();
         let last = self.stack.len() - 1;
         let found = self.stack[last].next_live(alloc, &mut self.path)?;
         let Some(live) = found else {
@@ -281,17 +282,18 @@ impl<'a, 'd> Descent<'a, 'd> {
 }
 
 /// Collects what the tree below the root assigns to the device. Answers how many nodes were entered.
-pub(crate) fn descend<'a>(
+pub(crate) fn descend<'a, C: Collector<'a>>(
     alloc: Global,
     root: Node<'a>,
     device: &[u8],
-    into: &mut Collector<'a, '_>,
+    into: &mut C,
 ) -> Result<u64, AllocError>
-    ensures collected { OnOk result (Collects into.old
+    ensures collected { OnOk result (C.collects into.old
         (filter (is_wanted device.now) (members_under [] (tree_of root.entry))) into.new) }
     ensures entered { IfOk result (λ count. count ≡ live_nodes device.now (tree_of root.entry)) }
 {
     root.law_tree();
+    into.law_collects();
     let mut descent = Descent::new(alloc);
     descent.enter_root(alloc, root, device, into)?;
     'descending: while !descent.stack.is_empty() {

@@ -8,7 +8,6 @@ ghost use Rattle.hwdb_query.specs.Views.{explained_values};
 
 use crate::all_hits::AllHits;
 use crate::answer::Explained;
-use crate::collector::Collector;
 use crate::descent::descend;
 use hwdb_pattern::matches_is_tested;
 use hwdb_reader::Db;
@@ -35,7 +34,7 @@ pub fn explain<'a>(
 {
     matches_is_tested();
     let root = db.root();
-    let mut collector = Collector::All(AllHits::new(alloc));
-    descend(alloc, root, device, &mut collector)?;
-    collector.into_all().by_key(alloc)?.explained(alloc)
+    let mut all = AllHits::new(alloc);
+    descend(alloc, root, device, &mut all)?;
+    all.by_key(alloc)?.explained(alloc)
 }

@@ -1,15 +1,15 @@
 //! The last hit of each key: a map from keys, without an order among the others.
 ghost use Rattle.std.specs.Prelude.{◌≡◌, List, [], IfOk, OnOk};
 ghost use Rattle.hwdb_query.specs.Internal.Members.{assignment_shown};
-ghost use Rattle.hwdb_spec.specs.Tree.{values_of};
-ghost use Rattle.hwdb_reader.specs.Views.{entered_tree, entry_shows};
+ghost use Rattle.hwdb_reader.specs.Views.{entry_shows};
 ghost use Rattle.hwdb_spec.specs.Assignment.{Assignment};
 ghost use Rattle.hwdb_spec.specs.Answers.{is_after, effective_of};
-ghost use Rattle.hwdb_query.specs.Internal.Members.{own_members};
 ghost use Rattle.hwdb_query.specs.Internal.Hits.{parts_position};
 ghost use Rattle.hwdb_query.specs.Views.{pairs_bytes};
 
+use crate::collector::Collector;
 use crate::hit::{Parts, order};
+use crate::node_answers::shared;
 use hwdb_reader::{Entry, Inside};
 use std::alloc::{AllocError, Global};
 use std::cmp::Ordering;
@@ -39,14 +39,6 @@ impl<'a> Last<'a> {
             key,
         }
     }
-}
-
-/// A copy of a pattern, which hits can share.
-pub(crate) fn shared(alloc: Global, pattern: &[u8]) -> Result<Rc<Vec<u8>>, AllocError>
-    ensures { IfOk result (λ copy. copy.value.items ≡ pattern.now) }
-{
-    let copy = Rc::new(alloc, pattern.to_vec(alloc)?)?;
-    Ok(copy)
 }
 
 /// The last hit of each key so far.
@@ -109,24 +101,6 @@ impl<'a> LastHits<'a> {
         Ok(())
     }
 
-    /// Takes what the values of a node assign at a pattern.
-    pub(crate) fn collect(
-        &mut self,
-        alloc: Global,
-        inside: Inside<'a>,
-        pattern: &[u8],
-    ) -> Result<(), AllocError>
-        ensures { OnOk result
-            (LastCollects self.old
-            (own_members pattern.now (values_of (entered_tree inside.entry))) self.new) }
-    {
-        let shared = shared(alloc, pattern)?;
-        for i in 0..inside.values() {
-            self.offer(&shared, inside.value(i))?;
-        }
-        Ok(())
-    }
-
     /// The keys and their values, ascending by key.
     pub(crate) fn pairs(self, alloc: Global) -> Result<Vec<(&'a [u8], &'a [u8])>, AllocError>
         ensures { IfOk result (λ list. (hits : List Assignment) → Shows self.entry.hits hits
@@ -138,4 +112,25 @@ impl<'a> LastHits<'a> {
         }
         Ok(pairs)
     }
+}
+
+impl<'a> Collector<'a> for LastHits<'a> {
+    ghost use Rattle.hwdb_query.specs.Internal.Collected.{LastCollects};
+
+    ghost collects = { LastCollects };
+
+    fn collect(
+        &mut self,
+        alloc: Global,
+        inside: Inside<'a>,
+        pattern: &[u8],
+    ) -> Result<(), AllocError> {
+        let shared = shared(alloc, pattern)?;
+        for i in 0..inside.values() {
+            self.offer(&shared, inside.value(i))?;
+        }
+        Ok(())
+    }
+
+    fn law_collects(&self) {}
 }

@@ -23,6 +23,7 @@
 //! | `properties` | the effective list |
 //! | `all_hits` | all hits, each at its position |
 //! | `answer` | answers, and those of one key |
+//! | `node_answers` | what the values of a node assign, as answers |
 //! | `by_key` | answers by key |
 //! | `explanations` | for each key its answers |
 //! | `laws` | what is proved of the definitions alone |
@@ -42,6 +43,7 @@ mod hit_page;
 mod last_hits;
 mod laws;
 mod next_page;
+mod node_answers;
 mod position;
 mod properties;
 mod refill;
@@ -58,6 +60,7 @@ pub use laws::{
     explained_are_effective, fillings_of_a_run, last_assignments_are_last, last_rows,
     positions_are_read_back,
 };
+pub use node_answers::push_answers;
 pub use position::Position;
 pub use properties::effective;
-pub use start::cursor;
+pub use start::{cursor, paged_cursor};

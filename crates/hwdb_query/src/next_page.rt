@@ -10,6 +10,7 @@ ghost use Rattle.hwdb_spec.specs.Answers.{is_after};
 ghost use Rattle.hwdb_query.specs.Internal.Members.{own_members};
 ghost use Rattle.hwdb_query.specs.Internal.Hits.{parts_position, after_position, IsOf};
 
+use crate::collector::Collector;
 use crate::hit::{Parts, is_earlier, order};
 use crate::hit_page::HitPage;
 use hwdb_reader::{Entry, Inside, Origin};
@@ -93,20 +94,21 @@ impl<'a, 'p> NextPage<'a, 'p> {
         }
         self.offer(alloc, pattern, inside.value(i))
     }
+}
 
-    /// Takes what the values of a node assign at a pattern. The values are ordered by key. Iterates from whichever end
-    /// has the smaller (priority, line). So a full page is full of the least ones early, and a value after it is passed
-    /// over by its origin alone.
-    pub(crate) fn collect(
+impl<'a, 'p> Collector<'a> for NextPage<'a, 'p> {
+    ghost use Rattle.hwdb_query.specs.Internal.Collected.{PageCollects};
+
+    ghost collects = { PageCollects };
+
+    /// The values stand by key, and are gone over from the end whose origin comes first: a value that comes before all so far
+    /// is put into the page, and one behind a full page is passed over by its origin.
+    fn collect(
         &mut self,
         alloc: Global,
         inside: Inside<'a>,
         pattern: &[u8],
-    ) -> Result<(), AllocError>
-        ensures { OnOk result
-            (PageCollects self.old
-            (own_members pattern.now (values_of (entered_tree inside.entry))) self.new) }
-    {
+    ) -> Result<(), AllocError> {
         inside.law_ascending();
         let count = inside.values();
         let falls = count > 1 && is_earlier(inside.origin(count - 1), inside.origin(0));
@@ -116,4 +118,6 @@ impl<'a, 'p> NextPage<'a, 'p> {
         }
         Ok(())
     }
+
+    fn law_collects(&self) {}
 }

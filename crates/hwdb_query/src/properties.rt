@@ -5,7 +5,6 @@ ghost use Rattle.hwdb_spec.specs.Folders.{Source, all_assignments};
 ghost use Rattle.hwdb_spec.specs.Answers.{last_assignments, effective_of};
 ghost use Rattle.hwdb_query.specs.Views.{pairs_bytes};
 
-use crate::collector::Collector;
 use crate::descent::descend;
 use crate::last_hits::LastHits;
 use hwdb_pattern::matches_is_tested;
@@ -33,7 +32,7 @@ pub fn effective<'a>(
 {
     matches_is_tested();
     let root = db.root();
-    let mut collector = Collector::Last(LastHits::new(alloc));
-    descend(alloc, root, device, &mut collector)?;
-    collector.into_last().pairs(alloc)
+    let mut last = LastHits::new(alloc);
+    descend(alloc, root, device, &mut last)?;
+    last.pairs(alloc)
 }

@@ -4,7 +4,6 @@ ghost use Rattle.hwdb_reader.specs.Views.{tree_of};
 ghost use Rattle.hwdb_spec.specs.Tree.{answers_after, live_nodes};
 ghost use Rattle.hwdb_query.specs.Internal.Hits.{after_position, IsFirst};
 
-use crate::collector::Collector;
 use crate::descent::descend;
 use crate::hit::Parts;
 use crate::hit_page::HitPage;
@@ -38,12 +37,12 @@ pub(crate) fn fill<'a>(
     ensures last { IfOk result (λ f. IsFirst held.new.hits f.last) }
     ensures entered { IfOk result (λ f. f.entered ≡ live_nodes device.now (tree_of root.entry)) }
 {
-    let mut collector = Collector::Page(NextPage {
+    let mut next = NextPage {
         after,
         held: held.take(alloc),
-    });
-    let entered = descend(alloc, root, device, &mut collector)?;
-    let mut filled = collector.into_held();
+    };
+    let entered = descend(alloc, root, device, &mut next)?;
+    let mut filled = next.held;
     filled.turn();
     let last = filled.first_position(alloc)?;
     held.set(filled);

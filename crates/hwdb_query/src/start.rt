@@ -12,7 +12,43 @@ use crate::errors::CursorError;
 use crate::position::Position;
 use hwdb_pattern::matches_is_tested;
 use hwdb_reader::Db;
-use std::alloc::Global;
+use std::alloc::{AllocError, Global};
+
+/// A cursor as [`cursor`] makes it, for a caller whose page isn't 0.
+///
+/// The only error is that memory is refused.
+pub fn paged_cursor<'a, 'd>(
+    alloc: Global,
+    db: &Db<'a>,
+    device: &'d [u8],
+    after: Option<&Position>,
+    page: usize,
+) -> Result<Cursor<'a, 'd>, AllocError>
+    requires { 0 < page }
+    ensures begins { IfOk result (λ c. c ≡ record {
+      to_come = answers_after device.now (given_position after.entry) db.now;
+      held = 0;
+      page = page;
+      ended = false;
+      entered = 0;
+      live = live_nodes device.now db.now;
+    }) }
+    ensures headline { IfOk result
+        (λ c. (etc usr : List Source) → IsTreeOfFiles etc usr db.now
+        → AreLast device.now (given_position after.entry) (all_assignments etc usr) c.to_come) }
+    ensures list { IfOk result
+        (λ c. (etc usr : List Source) → IsTreeOfFiles etc usr db.now
+        → c.to_come ≡ last_assignments device.now (given_position after.entry)
+        (all_assignments etc usr)) }
+{
+    matches_is_tested();
+    let root = db.root();
+    let after = match after {
+        None => None,
+        Some(position) => Some(position.copy(alloc)?),
+    };
+    Ok(Cursor::start(alloc, root, device, after, page))
+}
 
 /// A cursor over the answers of the database for the device, after a position if one is given. It holds nothing yet,
 /// and then at most `page` hits at a time.
@@ -51,11 +87,5 @@ pub fn cursor<'a, 'd>(
     if page == 0 {
         return Err(CursorError::PageZero);
     }
-    matches_is_tested();
-    let root = db.root();
-    let after = match after {
-        None => None,
-        Some(position) => Some(position.copy(alloc)?),
-    };
-    Ok(Cursor::start(alloc, root, device, after, page))
+    Ok(paged_cursor(alloc, db, device, after, page)?)
 }

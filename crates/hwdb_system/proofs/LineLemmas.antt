@@ -8,7 +8,7 @@ use Rattle.hwdb_transfer.specs.Devices.{AppendsPrefix}
 use Rattle.hwdb_spec.specs.declared.DbFault.{DbFault}
 use Rattle.hwdb_devices.specs.declared.causes.Cause.{Cause}
 use Rattle.hwdb_transfer.specs.declared.errors.ToolError.{ToolError}
-use Rattle.hwdb_transfer.specs.declared.errors.ToolError.TheVariants.{Read, Write, TooLong, TooManyFiles, TooManyLines, TooLarge, BadPosition, PageZero, BadDatabase, Replace, Memory}
+use Rattle.hwdb_transfer.specs.declared.errors.ToolError.TheVariants.{Read, Write, TooLong, TooManyFiles, TooManyLines, TooLarge, BadPosition, BadDatabase, Replace, Memory}
 use Rattle.hwdb_system.specs.Internal.{line_at}
 use Rattle.hwdb_system.specs.Refusals.{Refused, refusal_line, path_text}
 use Rattle.hwdb_transfer.specs.Refusals.{error_text}
@@ -130,7 +130,6 @@ plain_text TooManyFiles path words cause nr nw nl nb = refl
 plain_text TooManyLines path words cause nr nw nl nb = refl
 plain_text TooLarge path words cause nr nw nl nb = refl
 plain_text BadPosition path words cause nr nw nl nb = refl
-plain_text PageZero path words cause nr nw nl nb = refl
 plain_text (BadDatabase fault) path words cause nr nw nl nb = absurd (nb fault refl)
 plain_text (Replace u) path words cause nr nw nl nb = refl
 plain_text Memory path words cause nr nw nl nb = refl

@@ -6,7 +6,7 @@ use Rattle.hwdb_spec.specs.Folders.{Choice, path_of}
 use Rattle.hwdb_spec.specs.Store.{Contents}
 use Rattle.hwdb_spec.specs.System.{AreNamesIn, IsNameIn, bytes_at, etc_files, usr_files}
 use Rattle.hwdb_text.specs.Views.{IsListed}
-use Rattle.hwdb_transfer.specs.declared.errors.ToolError.TheVariants.{Read, Write, TooLong, TooManyFiles, TooManyLines, TooLarge, BadPosition, PageZero, BadDatabase, Replace, Memory}
+use Rattle.hwdb_transfer.specs.declared.errors.ToolError.TheVariants.{Read, Write, TooLong, TooManyFiles, TooManyLines, TooLarge, BadPosition, BadDatabase, Replace, Memory}
 use Rattle.hwdb_system.specs.Reading.{IsChosenUnread}
 use Rattle.hwdb_system.specs.Refusals.{HasReason, IsUnread, IsUnreadable}
 use Rattle.hwdb_system.specs.declared.refusals.Refusal.{Refusal}
@@ -40,7 +40,6 @@ one_reason MayFail contents path (At TooManyFiles at cause) there h r = r
 one_reason MayFail contents path (At TooManyLines at cause) there h r = r
 one_reason MayFail contents path (At TooLarge at cause) there h r = r
 one_reason MayFail contents path (At BadPosition at cause) there h r = r
-one_reason MayFail contents path (At PageZero at cause) there h r = r
 one_reason MayFail contents path (At (BadDatabase fault) at cause) there h r = r
 one_reason MayFail contents path (At (Replace u) at cause) there h r = r
 one_reason MayFail contents path (At Memory at cause) there h r = r

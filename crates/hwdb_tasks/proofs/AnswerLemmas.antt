@@ -8,7 +8,7 @@ use Rattle.hwdb_transfer.specs.Databases.{IsTextOf}
 use Rattle.hwdb_transfer.specs.Devices.{Wrote, WrotePrefix}
 use Rattle.hwdb_commands.specs.Lookups.{IsAfter, IsListJson, IsListRefusal, IsListText}
 use Rattle.hwdb_transfer.specs.declared.errors.ToolError.{ToolError}
-use Rattle.hwdb_transfer.specs.declared.errors.ToolError.TheVariants.{Read, Write, TooLong, TooManyFiles, TooManyLines, TooLarge, BadPosition, PageZero, BadDatabase, Replace, Memory}
+use Rattle.hwdb_transfer.specs.declared.errors.ToolError.TheVariants.{Read, Write, TooLong, TooManyFiles, TooManyLines, TooLarge, BadPosition, BadDatabase, Replace, Memory}
 use Rattle.hwdb_stream.specs.declared.form.Form.TheVariants.{Explain}
 use Rattle.hwdb_stream.specs.Streams.{IfBadDatabase, texts_of}
 use Rattle.hwdb_tasks.specs.Done.{IsFrom, IsListFrom}
@@ -40,7 +40,6 @@ list_refused None bytes TooManyFiles h = h
 list_refused None bytes TooManyLines h = h
 list_refused None bytes TooLarge h = h
 list_refused None bytes BadPosition h = h
-list_refused None bytes PageZero h = h
 list_refused None bytes (BadDatabase fault) h = ((h.from, from_after None h.from h.spelled), h.no_database)
 list_refused None bytes (Replace u) h = h
 list_refused None bytes Memory h = h
@@ -51,7 +50,6 @@ list_refused (Some text) bytes TooManyFiles h = h
 list_refused (Some text) bytes TooManyLines h = h
 list_refused (Some text) bytes TooLarge h = h
 list_refused (Some text) bytes BadPosition h = h
-list_refused (Some text) bytes PageZero h = h
 list_refused (Some text) bytes (BadDatabase fault) h = ((h.from, from_after (Some text) h.from h.spelled), h.no_database)
 list_refused (Some text) bytes (Replace u) h = h
 list_refused (Some text) bytes Memory h = h
@@ -83,7 +81,6 @@ if_bad TooManyFiles f h = tt
 if_bad TooManyLines f h = tt
 if_bad TooLarge f h = tt
 if_bad BadPosition f h = tt
-if_bad PageZero f h = tt
 if_bad (BadDatabase fault) f h = f h
 if_bad (Replace u) f h = tt
 if_bad Memory f h = tt

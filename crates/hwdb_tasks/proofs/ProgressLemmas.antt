@@ -10,6 +10,7 @@ use Rattle.std.proofs.lemmas.List.Folds.{list_any-append}
 use Rattle.std.specs.FinMap as finite
 use Rattle.std.specs.Prelude.{flat_map}
 use Rattle.std.proofs.lemmas.List.{append-nil, length-map}
+use Rattle.hwdb_spec.specs.Assignment.{Assignment}
 use Rattle.hwdb_spec.specs.Folders.{Choice, Source, chosen_of, lists, same}
 use Rattle.hwdb_spec.specs.Format.{IsDatabase}
 use Rattle.hwdb_spec.specs.Progress.{chosen_line, kept_line, progress_text}
@@ -19,8 +20,6 @@ use Rattle.hwdb_compile.specs.Views.{AreChosenOf, choice_in}
 use Rattle.hwdb_compile.specs.declared.sources.ChosenFile.{ChosenFile}
 use Rattle.hwdb_compile.specs.declared.sources.Compiled.{Compiled}
 use Rattle.hwdb_inspect.specs.Laws.{MembersAreTheMap}
-use Rattle.hwdb_inspect.specs.Views.{assignment_of}
-use Rattle.hwdb_inspect.specs.declared.assigned.Assigned.{Assigned}
 use Rattle.hwdb_tasks.specs.Internal.{IsCompiledOf, IsNameSet}
 
 -- one more of a list, mapped
@@ -75,11 +74,11 @@ lines_more f files i x old new lt is so_far added =
     ∙ sym (ap (flat_map f) (mapped_more choice_in files i x lt is) ∙ gathered_more f (map choice_in (take i files)) (choice_in x))
 
 -- how many assignments a database keeps
-pub kept_count : (bytes : List ℕ) (db : Tree) (list : List Assigned) (n : ℕ) → MembersAreTheMap
+pub kept_count : {A : Type 0} (shown : A → Assignment) (bytes : List ℕ) (db : Tree) (list : List A) (n : ℕ) → MembersAreTheMap
     → ((bytes : List ℕ) (t : Tree) → IsDatabase bytes t → IsTree t) → ((bytes : List ℕ) (t u : Tree) → IsDatabase bytes t → IsDatabase bytes u → t ≡ u)
-    → IsDatabase bytes db → map assignment_of list ≡ members_under [] db → n ≡ length list → (m : Map) → IsDatabaseOf m bytes → n ≡ finite.len m
-kept_count bytes db list n laws ascends one is all many m (t, stands, same) =
-    many ∙ sym (length-map list assignment_of) ∙ ap length all ∙ sym (length-map (members_under [] db) entry_of)
+    → IsDatabase bytes db → map shown list ≡ members_under [] db → n ≡ length list → (m : Map) → IsDatabaseOf m bytes → n ≡ finite.len m
+kept_count {A} shown bytes db list n laws ascends one is all many m (t, stands, same) =
+    many ∙ sym (length-map list shown) ∙ ap length all ∙ sym (length-map (members_under [] db) entry_of)
     ∙ ap length (sym (laws db (ascends bytes db is))) ∙ sym (finite.len-entries (map_of db)) ∙ ap (λ u. finite.len (map_of u)) (one bytes db t is stands) ∙ ap finite.len same
 
 -- the lines of the chosen files, and the one that counts

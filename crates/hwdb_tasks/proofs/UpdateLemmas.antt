@@ -11,7 +11,7 @@ use Rattle.hwdb_compile.specs.Views.{ForFolders}
 use Rattle.hwdb_transfer.specs.Devices.{AppendsPrefix}
 use Rattle.hwdb_commands.specs.Updates.{IsUpdateRefusal, OnUnreplaced, UpdateUndone}
 use Rattle.hwdb_transfer.specs.declared.errors.ToolError.{ToolError}
-use Rattle.hwdb_transfer.specs.declared.errors.ToolError.TheVariants.{Read, Write, TooLong, TooManyFiles, TooManyLines, TooLarge, BadPosition, PageZero, BadDatabase, Replace, Memory}
+use Rattle.hwdb_transfer.specs.declared.errors.ToolError.TheVariants.{Read, Write, TooLong, TooManyFiles, TooManyLines, TooLarge, BadPosition, BadDatabase, Replace, Memory}
 use Rattle.hwdb_tasks.specs.Internal.{AreReadOf}
 use Rattle.hwdb_system.specs.Refusals.{HasReason, IsOfUpdate}
 use Rattle.hwdb_tasks.specs.Undone.{AreKept, IsUpdateRefused, database_path}
@@ -46,7 +46,6 @@ unreplaced_of (Err TooManyFiles) tells told seen left P a b c so = tt
 unreplaced_of (Err TooManyLines) tells told seen left P a b c so = tt
 unreplaced_of (Err TooLarge) tells told seen left P a b c so = tt
 unreplaced_of (Err BadPosition) tells told seen left P a b c so = tt
-unreplaced_of (Err PageZero) tells told seen left P a b c so = tt
 unreplaced_of (Err (BadDatabase fault)) tells told seen left P a b c so = tt
 unreplaced_of (Err Memory) tells told seen left P a b c so = tt
 
@@ -64,7 +63,6 @@ update_reason P W contents TooManyFiles path refusal is w = subst (HasReason P W
 update_reason P W contents TooManyLines path refusal is w = subst (HasReason P W contents) (sym is) tt
 update_reason P W contents TooLarge path refusal is w = subst (HasReason P W contents) (sym is) tt
 update_reason P W contents BadPosition path refusal is w = subst (HasReason P W contents) (sym is) tt
-update_reason P W contents PageZero path refusal is w = subst (HasReason P W contents) (sym is) tt
 update_reason P W contents (BadDatabase fault) path refusal is w = subst (HasReason P W contents) (sym is) tt
 update_reason P W contents Memory path refusal is w = subst (HasReason P W contents) (sym is) tt
 
@@ -140,8 +138,6 @@ module _ {S W : Type 0} (seen : S → Contents) (left_by : S → Outcomes) (take
       plain read TooLarge refusal is refused (not_write TooLarge (λ x. x)) (same (not_write TooLarge (λ x. x)) (λ u. not_replace TooLarge u (λ x. x)))
   update_refused t read BadPosition refusal is refused undone write cut same =
       plain read BadPosition refusal is refused (not_write BadPosition (λ x. x)) (same (not_write BadPosition (λ x. x)) (λ u. not_replace BadPosition u (λ x. x)))
-  update_refused t read PageZero refusal is refused undone write cut same =
-      plain read PageZero refusal is refused (not_write PageZero (λ x. x)) (same (not_write PageZero (λ x. x)) (λ u. not_replace PageZero u (λ x. x)))
   update_refused t read (BadDatabase fault) refusal is refused undone write cut same =
       plain read (BadDatabase fault) refusal is refused (not_write (BadDatabase fault) (λ x. x)) (same (not_write (BadDatabase fault) (λ x. x)) (λ u. not_replace (BadDatabase fault) u (λ x. x)))
   update_refused t read Memory refusal is refused undone write cut same =

@@ -1,12 +1,10 @@
 -- Which refusals the calls below become, and the words of each. Our choice.
 use Rattle.std.specs.Prelude.{ℕ, List, ◌++◌, codes}
 use Rattle.hwdb_spec.specs.Texts.{db_fault_name, db_fault_offset, at_offset}
-use Rattle.hwdb_transfer.specs.declared.errors.ToolError.TheVariants.{Memory, TooManyFiles, TooManyLines, TooLarge, BadPosition, PageZero, BadDatabase, Replace, Read, Write, TooLong}
+use Rattle.hwdb_transfer.specs.declared.errors.ToolError.TheVariants.{Memory, TooManyFiles, TooManyLines, TooLarge, BadPosition, BadDatabase, Replace, Read, Write, TooLong}
 use Rattle.hwdb_transfer.specs.declared.errors.ToolError.{ToolError}
 use Rattle.hwdb_compile.specs.declared.errors.CompileError.{CompileError}
 use Rattle.hwdb_compile.specs.declared.errors.CompileError.TheVariants as compiling
-use Rattle.hwdb_query.specs.declared.errors.CursorError.{CursorError}
-use Rattle.hwdb_query.specs.declared.errors.CursorError.TheVariants as cursors
 use Rattle.hwdb_query.specs.declared.errors.PositionError.{PositionError}
 use Rattle.hwdb_query.specs.declared.errors.PositionError.TheVariants as positions
 use Rattle.hwdb_text.specs.declared.outcome.ScanError.{ScanError}
@@ -31,11 +29,6 @@ refusal_of_compile compiling.TooManyLines = TooManyLines
 refusal_of_compile compiling.TooLarge = TooLarge
 refusal_of_compile compiling.Memory = Memory
 
--- a refusal of a cursor
-abbrev pub refusal_of_cursor : CursorError → ToolError
-refusal_of_cursor cursors.PageZero = PageZero
-refusal_of_cursor cursors.Memory = Memory
-
 -- a refusal of a position's text
 abbrev pub refusal_of_position : PositionError → ToolError
 refusal_of_position positions.BadPosition = BadPosition
@@ -50,7 +43,6 @@ error_words TooManyFiles = codes "more than 65535 files"
 error_words TooManyLines = codes "a file has more than 4294967295 lines"
 error_words TooLarge = codes "the database would be larger than 268435456 bytes"
 error_words BadPosition = codes "bad position"
-error_words PageZero = codes "page of 0 hits"
 error_words (BadDatabase fault) = codes "bad database: "
 error_words (Replace _) = codes "cannot write"
 error_words Memory = codes "out of memory"

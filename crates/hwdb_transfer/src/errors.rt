@@ -1,10 +1,10 @@
 //! Why a call of this crate refuses.
 ghost use Rattle.std.specs.Prelude.{◌≡◌};
 ghost use Rattle.hwdb_transfer.specs.declared.errors.ToolError.TheVariants.{Memory, BadDatabase, Replace};
-ghost use Rattle.hwdb_transfer.specs.Refusals.{refusal_of_select, refusal_of_scan, refusal_of_compile, refusal_of_cursor, refusal_of_position, error_words};
+ghost use Rattle.hwdb_transfer.specs.Refusals.{refusal_of_select, refusal_of_scan, refusal_of_compile, refusal_of_position, error_words};
 
 use hwdb_compile::CompileError;
-use hwdb_query::{CursorError, PositionError};
+use hwdb_query::PositionError;
 use hwdb_reader::DbFault;
 use hwdb_store::Unreplaced;
 use hwdb_text::{ScanError, SelectError};
@@ -28,8 +28,6 @@ pub enum ToolError {
     TooLarge,
     /// A text spells no position.
     BadPosition,
-    /// A cursor's page was 0; the engines don't make such a cursor.
-    PageZero,
     /// Bytes are no database.
     BadDatabase(DbFault),
     /// The database wasn't replaced.
@@ -51,7 +49,6 @@ impl ToolError {
             Self::TooManyLines => "a file has more than 4294967295 lines",
             Self::TooLarge => "the database would be larger than 268435456 bytes",
             Self::BadPosition => "bad position",
-            Self::PageZero => "page of 0 hits",
             Self::BadDatabase(_) => "bad database: ",
             Self::Memory => "out of memory",
         }
@@ -125,17 +122,6 @@ impl From<CompileError> for ToolError {
             CompileError::TooManyLines => ToolError::TooManyLines,
             CompileError::TooLarge => ToolError::TooLarge,
             CompileError::Memory => ToolError::Memory,
-        }
-    }
-}
-
-impl From<CursorError> for ToolError {
-    ghost from_gives = { λ cursors e. e ≡ refusal_of_cursor cursors };
-
-    fn from(error: CursorError) -> ToolError {
-        match error {
-            CursorError::PageZero => ToolError::PageZero,
-            CursorError::Memory => ToolError::Memory,
         }
     }
 }

@@ -4,7 +4,7 @@ use Rattle.hwdb_spec.specs.Assignment.{Assignment}
 use Rattle.hwdb_spec.specs.Summary.{depth}
 use Rattle.hwdb_spec.specs.Tree.{Tree}
 use Rattle.hwdb_reader.specs.Views.{node_count, children_of, entered_tree}
-use Rattle.hwdb_inspect.specs.Internal.Parts.{members_in}
+use Rattle.hwdb_query.specs.Internal.Members.{members_in}
 use Rattle.hwdb_inspect.specs.declared.walk.Open.{Open}
 
 -- the children of a node that aren't done

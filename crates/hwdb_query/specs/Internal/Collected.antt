@@ -1,4 +1,4 @@
--- Our own words: what a page, the last hits of keys, and all hits are after a list of assignments was taken.
+-- Our own words: what a page and the last hits of keys are after a list of assignments was taken.
 use Rattle.std.specs.Prelude.{List, filter, ◌≡◌, ℕ, Option, option_map, find, reverse}
 use Rattle.std.specs.BTreeMap.{BTreeMap, get_by}
 use Rattle.std.specs.Borrow.{Bor}
@@ -11,11 +11,6 @@ use Rattle.hwdb_spec.specs.Assignment.{text_cmp}
 use Rattle.hwdb_query.specs.Internal.Lists.{keep_all}
 use Rattle.hwdb_query.specs.declared.last_hits.Last.{Last}
 use Rattle.hwdb_query.specs.declared.last_hits.LastHits.{LastHits}
-use Rattle.hwdb_query.specs.declared.all_hits.AllHits.{AllHits}
-use Rattle.hwdb_query.specs.Internal.Explaining.{AllCollects}
-use Rattle.hwdb_query.specs.declared.collector.Collector.{Collector}
-use Rattle.hwdb_query.specs.declared.collector.Collector.TheVariants.{Last as LastOnes, Page, All as AllOnes}
-use Rattle.hwdb_query.specs.Views.{Page as HeldHits}
 
 -- those of them that come after the position were put in their places, and the least are kept
 pub record PageCollects (a : NextPage) (xs : List Assignment) (b : NextPage) : Type 0 where
@@ -57,46 +52,3 @@ Shows m hits = (key : List ℕ) → told_at m key ≡ option_map told (last_with
 unfoldable pub LastCollects : LastHits → List Assignment → LastHits → Type 0
 LastCollects a xs b =
     (hits : List Assignment) → IsStrictlySortedBy assignment_cmp hits → Shows a.hits hits → Shows b.hits (put_all assignment_cmp xs hits)
-
-unfoldable pub Collects : Collector → List Assignment → Collector → Type 0
-Collects (Page a) xs (Page b) = PageCollects a xs b
-Collects (Page a) xs (LastOnes b) = ⊥
-Collects (Page a) xs (AllOnes b) = ⊥
-Collects (LastOnes a) xs (Page b) = ⊥
-Collects (LastOnes a) xs (LastOnes b) = LastCollects a xs b
-Collects (LastOnes a) xs (AllOnes b) = ⊥
-Collects (AllOnes a) xs (Page b) = ⊥
-Collects (AllOnes a) xs (LastOnes b) = ⊥
-Collects (AllOnes a) xs (AllOnes b) = AllCollects a xs b
-
--- which of the three it is
-abbrev pub IsPage : Collector → Type 0
-IsPage (Page a) = Unit {0}
-IsPage (LastOnes a) = ⊥
-IsPage (AllOnes a) = ⊥
-
-abbrev pub IsLast : Collector → Type 0
-IsLast (Page a) = ⊥
-IsLast (LastOnes a) = Unit {0}
-IsLast (AllOnes a) = ⊥
-
-abbrev pub IsAll : Collector → Type 0
-IsAll (Page a) = ⊥
-IsAll (LastOnes a) = ⊥
-IsAll (AllOnes a) = Unit {0}
-
--- and what it holds
-abbrev pub IsOfPage : Collector → HeldHits → Type 0
-IsOfPage (Page a) held = held ≡ a.held
-IsOfPage (LastOnes a) held = ⊥
-IsOfPage (AllOnes a) held = ⊥
-
-abbrev pub IsOfLast : Collector → LastHits → Type 0
-IsOfLast (Page a) last = ⊥
-IsOfLast (LastOnes a) last = last ≡ a
-IsOfLast (AllOnes a) last = ⊥
-
-abbrev pub IsOfAll : Collector → AllHits → Type 0
-IsOfAll (Page a) all = ⊥
-IsOfAll (LastOnes a) all = ⊥
-IsOfAll (AllOnes a) all = all ≡ a

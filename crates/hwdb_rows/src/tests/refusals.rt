@@ -28,7 +28,6 @@ fn without_a_path(rt: HostRuntime) {
             "hwdb: the database would be larger than 268435456 bytes\n",
         ),
         (ToolError::BadPosition, "hwdb: bad position\n"),
-        (ToolError::PageZero, "hwdb: page of 0 hits\n"),
         (ToolError::Read, "hwdb: cannot read\n"),
         (
             ToolError::TooLong,

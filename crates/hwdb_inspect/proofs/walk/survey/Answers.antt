@@ -3,7 +3,7 @@ use Rattle.hwdb_spec.specs.Summary.{depth}
 use Rattle.hwdb_spec.specs.Tree.{members_under, prefix_of, values_of}
 use Rattle.hwdb_reader.specs.Views.{children_of, tree_of, node_count}
 use Rattle.hwdb_inspect.specs.Views.{assignment_of}
-use Rattle.hwdb_inspect.specs.Internal.Parts.{own_members, members_in}
+use Rattle.hwdb_query.specs.Internal.Members.{own_members, members_in}
 use Rattle.hwdb_inspect.specs.Internal.Walks.{to_come, left, deepest_to_come, Opened}
 use Rattle.hwdb_inspect.specs.declared.walk.Open.{Open}
 use Rattle.hwdb_inspect.proofs.PartLemmas.{members_split, node_and_below}

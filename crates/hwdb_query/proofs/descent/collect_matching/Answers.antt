@@ -9,18 +9,18 @@ use Rattle.hwdb_query.proofs.DescentLemmas.{collected_none, own_collected, own_l
 use Rattle.hwdb_query.proofs.descent.collect_matching.Goals as goal
 
 pub returns-then-values-eq0 : goal.returns-then-values-eq0
-returns-then-values-eq0 c =
+returns-then-values-eq0 g c =
     let n = c.values.ensures in
     let z = c.if-values-eq0.true in
-    collected_none c.args.into.now _ (ap (filter (is_wanted c.args.reach.now.device)) (own_behind c.args.pattern.now (values_of (entered_tree c.args.inside)) 0 (omega (arith, n, z))))
+    collected_none g.C.Collector.collects c.law_collects.ensures.none c.args.into.now _ (ap (filter (is_wanted c.args.reach.now.device)) (own_behind c.args.pattern.now (values_of (entered_tree c.args.inside)) 0 (omega (arith, n, z))))
 
 pub returns-then-not-accepts : goal.returns-then-not-accepts
-returns-then-not-accepts c =
-    own_left c.args.reach.now.device c.args.pattern.now (values_of (entered_tree c.args.inside)) c.args.into.now
+returns-then-not-accepts g c =
+    own_left g.C.Collector.collects c.law_collects.ensures.none c.args.reach.now.device c.args.pattern.now (values_of (entered_tree c.args.inside)) c.args.into.now
     (mismatch_is c.matches_is_tested.ensures c.args.reach.now.device c.args.pattern.now _ c.if-not-accepts.true c.accepts.ensures)
 
 pub returns : goal.returns
-returns c =
+returns g c =
     on_ok_weaker c.collect.result
-    (λ taken. own_collected c.args.reach.now.device c.args.pattern.now (values_of (entered_tree c.args.inside)) c.args.into.now c.collect.new.self
+    (λ taken. own_collected g.C.Collector.collects c.args.reach.now.device c.args.pattern.now (values_of (entered_tree c.args.inside)) c.args.into.now c.collect.new.self
     (match_is c.matches_is_tested.ensures c.args.reach.now.device c.args.pattern.now _ c.if-not-accepts.false c.accepts.ensures) taken) c.collect.ensures

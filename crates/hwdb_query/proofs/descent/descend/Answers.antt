@@ -6,9 +6,9 @@ use Rattle.hwdb_query.proofs.StackLemmas.{none_open}
 use Rattle.hwdb_query.proofs.descent.descend.Goals as goal
 
 pub returns-clause-collected : goal.returns-clause-collected
-returns-clause-collected c =
+returns-clause-collected g c =
     let ok = c.descending.descent.stack.ok in
     let none : vec_len c.descending.descent.stack ≡ 0 = eqb-true _ 0 (sym c.is_empty.ensures ∙ c.descending-test.false) in
     let ended : c.descending.descent.stack.items ≡ [] = none_open c.descending.descent.stack.items (omega (arith, none, ok)) in
     c.descending.invariant.collected c.descending.into
-    (collected_none c.descending.into _ (ap (λ (b : List Open). to_come c.args.device.now c.descending.descent.path.items (reverse b)) ended))
+    (collected_none g.C.Collector.collects c.law_collects.ensures.none c.descending.into _ (ap (λ (b : List Open). to_come c.args.device.now c.descending.descent.path.items (reverse b)) ended))

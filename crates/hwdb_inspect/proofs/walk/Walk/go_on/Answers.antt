@@ -2,7 +2,7 @@ use Rattle.std.proofs.Common.{◌≡◌, ◌∙◌, ap, sym, subst, ◌++◌, �
 use Rattle.hwdb_spec.specs.Tree.{Tree, prefix_of, values_of}
 use Rattle.hwdb_reader.specs.Views.{tree_of, children_of, entered_tree}
 use Rattle.hwdb_inspect.specs.Views.{assignment_of}
-use Rattle.hwdb_inspect.specs.Internal.Parts.{own_members}
+use Rattle.hwdb_query.specs.Internal.Members.{own_members}
 use Rattle.hwdb_inspect.specs.Internal.Walks.{to_come, deepest_to_come, Opened}
 use Rattle.hwdb_inspect.proofs.PartLemmas.{kid_within}
 use Rattle.hwdb_inspect.proofs.DepthLemmas.{child_deepest}

@@ -4,7 +4,7 @@ use Rattle.hwdb_query.proofs.StackLemmas.{no_kids}
 use Rattle.hwdb_query.proofs.descent.Descent.enter.Goals as goal
 
 pub returns-clause-stack : goal.returns-clause-stack
-returns-clause-stack c = inl (record {
+returns-clause-stack g c = inl (record {
   top = _;
   stands = c.in_ok-push.ensures.items;
   tree = c.enter-inside.ensures.same;
@@ -14,7 +14,7 @@ returns-clause-stack c = inl (record {
 })
 
 pub returns-then-children-eq0-clause-stack : goal.returns-then-children-eq0-clause-stack
-returns-then-children-eq0-clause-stack c =
+returns-then-children-eq0-clause-stack g c =
     let count = c.children.ensures in
     let zero_is = c.if-children-eq0.true in
     inr (refl, ap children_of (sym c.enter-inside.ensures.same) ∙ no_kids _ (omega (arith, count, zero_is)))

@@ -4,7 +4,6 @@ use Rattle.hwdb_spec.specs.Tree.{IsLive, is_live, prefix_of, values_of, live_und
 use Rattle.hwdb_spec.specs.Answers.{is_wanted}
 use Rattle.hwdb_reader.specs.Views.{tree_of}
 use Rattle.hwdb_query.specs.Internal.Members.{own_members}
-use Rattle.hwdb_query.specs.Internal.Collected.{Collects}
 use Rattle.hwdb_query.specs.Internal.Descents.{to_come, live_to_come, StandsOn, Opened}
 use Rattle.hwdb_query.specs.declared.descent.Open.{Open}
 use Rattle.hwdb_query.proofs.StepLemmas.{live_is, dead_is}
@@ -13,7 +12,7 @@ use Rattle.hwdb_query.proofs.StackLemmas.{root_path, root_collected, root_live, 
 use Rattle.hwdb_query.proofs.descent.Descent.enter_root.Goals as goal
 
 pub returns-then-not-is_alive-clause-collected : goal.returns-then-not-is_alive-clause-collected
-returns-then-not-is_alive-clause-collected c =
+returns-then-not-is_alive-clause-collected g c =
     let tree = tree_of c.args.root in
     let device = c.args.device.now in
     let path = c.extend_from_slice.new.self.items in
@@ -23,10 +22,10 @@ returns-then-not-is_alive-clause-collected c =
     let lost = dead_is c.in_ok-reach.reach.device path _ c.if-not-is_alive.true (c.is_alive.ensures path stands) in
     let dead = dead_path device (prefix_of tree) c.path_laws.ensures.matched c.path_laws.ensures.live c.path_laws.ensures.longer c.path_laws.ensures.below
     (subst (λ (g : List ℕ × List ℕ). IsLive g.0 g.1 → ⊥) (λ i. (is i, dev i)) lost) in
-    λ end rest. root_lost device tree c.args.into.now end dead (subst (λ (b : List Open). Collects c.args.into.now (to_come device path (reverse b)) end) c.requires.stack rest)
+    λ end rest. root_lost g.C.Collector.collects device tree c.args.into.now end dead (subst (λ (b : List Open). g.C.Collector.collects c.args.into.now (to_come device path (reverse b)) end) c.requires.stack rest)
 
 pub returns-then-not-is_alive-clause-counted : goal.returns-then-not-is_alive-clause-counted
-returns-then-not-is_alive-clause-counted c =
+returns-then-not-is_alive-clause-counted g c =
     let tree = tree_of c.args.root in
     let device = c.args.device.now in
     let path = c.extend_from_slice.new.self.items in
@@ -43,7 +42,7 @@ returns-then-not-is_alive-clause-counted c =
     goal_is
 
 pub returns-clause-stands : goal.returns-clause-stands
-returns-clause-stands c =
+returns-clause-stands g c =
     let tree = tree_of c.args.root in
     let device = c.args.device.now in
     let path = c.extend_from_slice.new.self.items in
@@ -55,7 +54,7 @@ returns-clause-stands c =
     subst (λ p. StandsOn device p (reverse now)) (sym c.in_ok-enter.ensures.path) (opened_stands [] now tree reach path opened device stands dev tt)
 
 pub returns-clause-collected : goal.returns-clause-collected
-returns-clause-collected c =
+returns-clause-collected g c =
     let tree = tree_of c.args.root in
     let device = c.args.device.now in
     let path = c.extend_from_slice.new.self.items in
@@ -64,13 +63,13 @@ returns-clause-collected c =
     let is = root_path c.args.self.now.path.items c.prefix.result.now path tree c.requires.path c.in_ok-extend_from_slice.ensures.items c.prefix.ensures in
     let dev : reach.device ≡ device = c.in_ok-reach.ensures.device ∙ c.start-start.ensures.device in
     let opened : Opened [] now tree reach (length path) = subst (λ b. Opened b now tree reach (length path)) (c.reserve.ensures.items ∙ c.requires.stack) c.in_ok-enter.ensures.stack in
-    let own : Collects c.args.into.now (filter (is_wanted device) (own_members path (values_of tree))) c.enter.new.into =
-    subst (λ d. Collects c.args.into.now (filter (is_wanted d) (own_members path (values_of tree))) c.enter.new.into) dev c.in_ok-enter.ensures.collected in
-    λ end rest. root_collected device path tree reach now is opened c.args.into.now c.enter.new.into end own
-    (subst (λ p. Collects c.enter.new.into (to_come device p (reverse now)) end) c.in_ok-enter.ensures.path rest)
+    let own : g.C.Collector.collects c.args.into.now (filter (is_wanted device) (own_members path (values_of tree))) c.enter.new.into =
+    subst (λ d. g.C.Collector.collects c.args.into.now (filter (is_wanted d) (own_members path (values_of tree))) c.enter.new.into) dev c.in_ok-enter.ensures.collected in
+    λ end rest. root_collected device path tree reach now is opened g.C.Collector.collects c.law_collects.ensures.more c.args.into.now c.enter.new.into end own
+    (subst (λ p. g.C.Collector.collects c.enter.new.into (to_come device p (reverse now)) end) c.in_ok-enter.ensures.path rest)
 
 pub returns-clause-counted : goal.returns-clause-counted
-returns-clause-counted c =
+returns-clause-counted g c =
     let tree = tree_of c.args.root in
     let device = c.args.device.now in
     let path = c.extend_from_slice.new.self.items in
@@ -89,7 +88,7 @@ returns-clause-counted c =
     goal_is
 
 pub returns-clause-room : goal.returns-clause-room
-returns-clause-room c =
+returns-clause-room g c =
     let tree = tree_of c.args.root in
     let path = c.extend_from_slice.new.self.items in
     let now = c.enter.new.self.stack.items in

@@ -4,8 +4,8 @@ use Rattle.hwdb_spec.specs.Tree.{values_of}
 use Rattle.hwdb_query.specs.Internal.Members.{own_members}
 use Rattle.hwdb_query.specs.Internal.Collected.{PageCollects}
 use Rattle.hwdb_query.proofs.BackwardsLemmas.{walked_to, none_walked, one_walked}
-use Rattle.hwdb_query.proofs.next_page.NextPage.collect.Goals as goal
-use Rattle.hwdb_query.proofs.next_page.NextPage.collect.Goals.{then-falls, else-falls}
+use Rattle.hwdb_query.proofs.next_page.NextPageCollector.collect.Goals as goal
+use Rattle.hwdb_query.proofs.next_page.NextPageCollector.collect.Goals.{then-falls, else-falls}
 
 pub loop-step-init : goal.loop-step-init
 loop-step-init c = none_walked c.args.self.now c.args.pattern.now c.if-count-gt1.falls (values_of (entered_tree c.args.inside))

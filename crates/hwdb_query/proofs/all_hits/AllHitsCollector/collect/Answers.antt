@@ -4,7 +4,7 @@ use Rattle.hwdb_reader.specs.Views.{entered_tree, entry_shows}
 use Rattle.hwdb_spec.specs.Tree.{values_of}
 use Rattle.hwdb_query.specs.Internal.Explaining.{AllCollects}
 use Rattle.hwdb_query.proofs.AllHitsLemmas.{all_values_next, all_values_over}
-use Rattle.hwdb_query.proofs.all_hits.AllHits.collect.Goals as goal
+use Rattle.hwdb_query.proofs.all_hits.AllHitsCollector.collect.Goals as goal
 
 pub loop-i-preserved : goal.loop-i-preserved
 loop-i-preserved c =

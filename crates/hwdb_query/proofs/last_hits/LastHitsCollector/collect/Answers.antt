@@ -4,7 +4,7 @@ use Rattle.hwdb_reader.specs.Views.{entered_tree, entry_shows}
 use Rattle.hwdb_spec.specs.Tree.{values_of}
 use Rattle.hwdb_query.specs.Internal.Collected.{LastCollects}
 use Rattle.hwdb_query.proofs.CollectionLemmas.{last_values_next, last_values_over}
-use Rattle.hwdb_query.proofs.last_hits.LastHits.collect.Goals as goal
+use Rattle.hwdb_query.proofs.last_hits.LastHitsCollector.collect.Goals as goal
 
 pub loop-i-preserved : goal.loop-i-preserved
 loop-i-preserved c =

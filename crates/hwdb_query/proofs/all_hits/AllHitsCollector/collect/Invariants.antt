@@ -4,7 +4,7 @@ use Rattle.hwdb_spec.specs.Tree.{values_of}
 use Rattle.hwdb_query.specs.Internal.Members.{own_members}
 use Rattle.hwdb_query.specs.Internal.Explaining.{AllCollects}
 use Rattle.hwdb_query.specs.declared.all_hits.AllHits.{AllHits}
-use Rattle.hwdb_query.proofs.all_hits.AllHits.collect.Given as goal
+use Rattle.hwdb_query.proofs.all_hits.AllHitsCollector.collect.Given as goal
 
 abbrev pub invariant-loop-i : goal.invariant-loop-i
 invariant-loop-i l =

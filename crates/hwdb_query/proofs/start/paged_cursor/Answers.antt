@@ -6,8 +6,8 @@ use Rattle.hwdb_spec.specs.Last.{AreLast}
 use Rattle.hwdb_query.specs.Views.{Progress, next_position, given_position}
 use Rattle.hwdb_query.proofs.InWordsLemmas.{last_assignments_are_last}
 use Rattle.hwdb_query.proofs.LastLemmas.{last_are_answers}
-use Rattle.hwdb_query.proofs.start.cursor.Goals as goal
-use Rattle.hwdb_query.proofs.start.cursor.Goals.{in-None, in-Some+in_ok-copy-in-Some}
+use Rattle.hwdb_query.proofs.start.paged_cursor.Goals as goal
+use Rattle.hwdb_query.proofs.start.paged_cursor.Goals.{in-None, in-Some+in_ok-copy-in-Some}
 
 pub returns-clause-list : goal.returns-clause-list
 returns-clause-list c = λ etc usr files.

@@ -4,7 +4,7 @@ use Rattle.hwdb_spec.specs.Tree.{values_of}
 use Rattle.hwdb_query.specs.Internal.Members.{own_members}
 use Rattle.hwdb_query.specs.Internal.Collected.{LastCollects}
 use Rattle.hwdb_query.specs.declared.last_hits.LastHits.{LastHits}
-use Rattle.hwdb_query.proofs.last_hits.LastHits.collect.Given as goal
+use Rattle.hwdb_query.proofs.last_hits.LastHitsCollector.collect.Given as goal
 
 abbrev pub invariant-loop-i : goal.invariant-loop-i
 invariant-loop-i l =

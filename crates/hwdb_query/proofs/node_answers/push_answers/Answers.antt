@@ -1,16 +1,16 @@
 use Rattle.std.proofs.Common.{◌∙◌, ap, sym, map, ◌++◌, drop, suc, add-one, append_assoc}
 use Rattle.hwdb_spec.specs.Tree.{values_of}
 use Rattle.hwdb_reader.specs.Views.{entered_tree, entry_shows}
-use Rattle.hwdb_inspect.specs.Views.{assignment_of}
-use Rattle.hwdb_inspect.specs.Internal.Parts.{own_members, assignment_shown}
-use Rattle.hwdb_inspect.proofs.PartLemmas.{own_next}
-use Rattle.hwdb_inspect.proofs.assigned.collect.Goals as goal
+use Rattle.hwdb_query.specs.Views.{assignment_of_answer}
+use Rattle.hwdb_query.specs.Internal.Members.{own_members, assignment_shown}
+use Rattle.hwdb_query.proofs.PartLemmas.{own_next}
+use Rattle.hwdb_query.proofs.node_answers.push_answers.Goals as goal
 
 pub loop-i-preserved : goal.loop-i-preserved
 loop-i-preserved c =
     let values = values_of (entered_tree c.args.inside) in
     let pattern = c.args.pattern.now in
-    let before = map assignment_of c.loop-i.into.items in
+    let before = map assignment_of_answer c.loop-i.into.items in
     let rest = own_members pattern (drop (suc c.loop-i.i) values) in
     let shown = entry_shows c.value.result in
     rw add-one (
