@@ -1,6 +1,7 @@
 -- An update that is refused after its files were read.
 use Rattle.std.specs.Io.KnownBytes.{Appends}
-use Rattle.std.proofs.Common.{◌≡◌, ◌≢◌, inl, inr, ap, subst, sym, refl, ℕ, Bool, List, Option, Result, Ok, Err, IfErr}
+use Rattle.std.proofs.Common.{◌≡◌, ◌≢◌, inl, inr, ap, subst, sym, refl, arith, ◌++◌, if◌then◌else◌, length, ℕ, Bool, List, [], ◌∷◌, Option, Result, Ok, Err, IfErr}
+use Rattle.hwdb_spec.specs.Folders.{Choice, path_of}
 use Rattle.hwdb_spec.specs.Store.{Contents, Outcomes}
 use Rattle.hwdb_spec.specs.System.{database_folder}
 use Rattle.hwdb_spec.specs.Progress.{given_where, update_text}
@@ -13,8 +14,10 @@ use Rattle.hwdb_commands.specs.Updates.{IsUpdateRefusal, OnUnreplaced, UpdateUnd
 use Rattle.hwdb_transfer.specs.declared.errors.ToolError.{ToolError}
 use Rattle.hwdb_transfer.specs.declared.errors.ToolError.TheVariants.{Read, Write, TooLong, TooManyFiles, TooManyLines, TooLarge, BadPosition, PageZero, BadDatabase, Replace, Memory}
 use Rattle.hwdb_tasks.specs.Internal.{AreReadOf}
+use Rattle.hwdb_system.specs.LeftOut.{AreTold, left_out_line}
 use Rattle.hwdb_system.specs.Refusals.{HasReason, IsOfUpdate}
-use Rattle.hwdb_tasks.specs.Undone.{AreKept, IsUpdateRefused, database_path}
+use Rattle.hwdb_tasks.specs.Readable.{status_less}
+use Rattle.hwdb_tasks.specs.Undone.{AreKept, IsSelectedRefused, database_path}
 use Rattle.hwdb_system.specs.declared.refusals.Refusal.{Refusal}
 use Rattle.hwdb_system.specs.declared.refusals.Refusal.TheVariants.{At, InWords, NoDatabase, Plain}
 
@@ -69,16 +72,16 @@ update_reason P W contents (BadDatabase fault) path refusal is w = subst (HasRea
 update_reason P W contents Memory path refusal is w = subst (HasReason P W contents) (sym is) tt
 
 module _ {S W : Type 0} (seen : S → Contents) (left_by : S → Outcomes) (taken : W → Option (List ℕ)) (old new : S) (err_old err_new : W)
-    (root : List ℕ) (usr verbose : Bool) (listed : List (List ℕ)) (files : List ChosenFile) (tells : Type 0) where
+    (root : List ℕ) (usr verbose : Bool) (read_from : Contents) (listed : List (List ℕ)) (files : List ChosenFile) (tells : Type 0) where
   -- a store that is the same keeps its files
   pub kept : new ≡ old → AreKept (seen old) (seen new) (left_by old) (left_by new)
   kept e = record { same = λ p. ap (λ s. seen s p) e; no_more = λ p v l. subst (λ s. left_by s p v) e l }
 
   abbrev Refused : Refusal → Type 0
-  Refused refusal = IsUpdateRefused root usr verbose refusal (seen old) (seen new) (left_by old) (left_by new) (taken err_old) (taken err_new)
+  Refused refusal = IsSelectedRefused root usr verbose read_from refusal (seen old) (seen new) (left_by old) (left_by new) (taken err_old) (taken err_new)
 
   -- an error of compiling
-  plain : AreReadOf root (seen old) listed files → (error : ToolError) (refusal : Refusal) → refusal ≡ Plain error
+  plain : AreReadOf root read_from listed files → (error : ToolError) (refusal : Refusal) → refusal ≡ Plain error
       → ForFolders files (λ e u. IsUpdateRefusal e u max_file error) → error ≢ Write → (err_new ≡ err_old) × (new ≡ old) → Refused refusal
   plain read error refusal is refused other same = inr record {
     of_etc = read.of_etc;
@@ -95,7 +98,7 @@ module _ {S W : Type 0} (seen : S → Contents) (left_by : S → Outcomes) (take
     };
   }
 
-  pub update_refused : tells → AreReadOf root (seen old) listed files → (error : ToolError) (refusal : Refusal) → IsOfUpdate error (database_path usr root) refusal
+  pub update_refused : tells → AreReadOf root read_from listed files → (error : ToolError) (refusal : Refusal) → IsOfUpdate error (database_path usr root) refusal
       → ForFolders files (λ e u. IsUpdateRefusal e u max_file error)
       → OnUnreplaced (λ u. ForFolders files (λ e r. UpdateUndone e r (given_where verbose listed) (database_folder usr root) (taken err_old) (taken err_new) tells (seen old) (seen new) (left_by old) (left_by new) u)) error
       → (error ≡ Write → new ≡ old)
@@ -146,3 +149,12 @@ module _ {S W : Type 0} (seen : S → Contents) (left_by : S → Outcomes) (take
       plain read (BadDatabase fault) refusal is refused (not_write (BadDatabase fault) (λ x. x)) (same (not_write (BadDatabase fault) (λ x. x)) (λ u. not_replace (BadDatabase fault) u (λ x. x)))
   update_refused t read Memory refusal is refused undone write cut same =
       plain read Memory refusal is refused (not_write Memory (λ x. x)) (same (not_write Memory (λ x. x)) (λ u. not_replace Memory u (λ x. x)))
+
+-- ---- files that are left out
+pub none_out : (strict : Bool) (root : List ℕ) (left_out : List Choice) (said : List ℕ) (status : ℕ) → AreTold root left_out said → said ≡ [] → status ≡ status_less strict left_out status
+none_out strict root [] said status told none = refl
+none_out strict root (c ∷ more) said status told none = absurd (let h : 0 ≡ length (left_out_line (root ++ path_of c) told.0 told.1 ++ told.2) = ap length (sym none ∙ told.3) in omega (arith, h))
+
+pub some_out : (strict : Bool) (root : List ℕ) (left_out : List Choice) (said : List ℕ) (status : ℕ) → AreTold root left_out said → (said ≡ [] → ⊥) → (if strict then 1 else status) ≡ status_less strict left_out status
+some_out strict root [] said status told some = absurd (some told)
+some_out strict root (c ∷ more) said status told some = refl
