@@ -1,5 +1,5 @@
 -- Files that are left out, and those that are left.
-use Rattle.std.proofs.Common.{◌≡◌, ◌⊎◌, ◌∙◌, ◌<◌, ◌++◌, ◌||◌, inl, inr, ap, sym, subst, refl, arith, append_assoc, ℕ, List, [], ◌∷◌, Bool, true, false, Option, None, Result, Ok, Err, IfErr, All, Contains, bytes_eq, filter, get_or, if◌then◌else◌, length, map, not}
+use Rattle.std.proofs.Common.{◌≡◌, ◌⊎◌, ◌∙◌, ◌<◌, ◌++◌, ◌||◌, inl, inr, ap, sym, subst, refl, arith, append_assoc, ℕ, List, [], ◌∷◌, Bool, true, false, Option, Some, None, Result, Ok, Err, IfErr, All, Contains, bytes_eq, filter, get_or, if◌then◌else◌, length, map, not}
 use Rattle.std.specs.Prelude.{codes, is_some, option_map}
 use Rattle.std.specs.List.{list_any}
 use Rattle.std.proofs.lemmas.Bool.{or_left, or_right}
@@ -15,12 +15,12 @@ use Rattle.hwdb_text.specs.declared.choice.Chosen.{Chosen}
 use Rattle.hwdb_system.specs.Internal.{AreNamed, AreSelected, IsPartOf}
 use Rattle.hwdb_system.specs.LeftOut.{AreFound, AreLeftOut, AreSelectedLess, AreTold, AreToldOf, AreUnreadLess, IsLeftOut, IsNoted, IsNotedOf, is_named, left_out_line, less}
 use Rattle.hwdb_system.specs.Reading.{AreUnread, IsChosenUnread}
-use Rattle.hwdb_system.specs.Refusals.{HasReason, IsUnread, IsUnreadable}
+use Rattle.hwdb_system.specs.Refusals.{HasReason, IsUnread, IsUnreadable, file_text}
 use Rattle.hwdb_system.specs.declared.refusals.Refusal.{Refusal}
 use Rattle.hwdb_system.specs.declared.refusals.Refusal.TheVariants.{At, InWords, NoDatabase, Plain}
 use Rattle.hwdb_transfer.specs.declared.errors.ToolError.TheVariants.{Read, Write, TooLong, TooManyFiles, TooManyLines, TooLarge, BadPosition, PageZero, BadDatabase, Replace, Memory}
 use Rattle.hwdb_system.proofs.NameLemmas.{contains_filter, same_itself, same_name}
-use Rattle.hwdb_system.proofs.ReasonLemmas.{chosen_fails}
+use Rattle.hwdb_system.proofs.ReasonLemmas.{chosen_fails, chosen_reason}
 use Rattle.hwdb_system.proofs.SelectionLemmas.{chosen_unread}
 
 -- ---- what is left is a part
@@ -217,6 +217,13 @@ line_pieces old front mid end nl a b d first second third =
     ∙ append_assoc (old ++ front) mid (end ++ nl) ∙ append_assoc old front (mid ++ (end ++ nl))
     ∙ ap (λ l. old ++ (front ++ l)) (sym (append_assoc mid end nl))
 
+-- a path and the words of its cause
+pub caused : (old path words a b d : List ℕ) (cause : Option Cause) (known : Cause) → cause ≡ Some known → a ≡ old ++ path → b ≡ a ++ codes ": " → d ≡ b ++ words → d ≡ old ++ file_text path cause words
+caused old path words a b d cause known is first second third =
+    third ∙ ap (λ l. l ++ words) (second ∙ ap (λ l. l ++ codes ": ") first)
+    ∙ append_assoc (old ++ path) (codes ": ") words ∙ append_assoc old path (codes ": " ++ words)
+    ∙ ap (λ (o : Option Cause). old ++ file_text path o words) (sym is)
+
 -- ---- together
 pub are_found : (MayFail : List ℕ → Type 0) (root : List ℕ) (contents : Contents) (etc usr : List (List ℕ)) (chosen : List Choice) (names : List (List ℕ)) (said : List ℕ)
     → AreNamed root contents contents etc usr → chosen ≡ choice etc usr → All (IsListed etc usr) chosen
@@ -250,6 +257,13 @@ selected_among MayFail root contents names names2 usr2 chosen2 texts said found 
   told = found.told;
   selected = subst (λ (l : List (List ℕ)). AreSelected root (less l root contents) usr2 chosen2 texts) (same ∙ sym found.named) selected;
 }
+
+-- what is said of a chosen file is so
+pub chosen_reason_of : {T : Type 0} (MayFail : List ℕ → Type 0) (root : List ℕ) (contents : Contents) (etc usr : List (List ℕ)) (chosen : List Choice) (r : Result T Refusal)
+    → AreNamed root contents contents etc usr → All (IsListed etc usr) chosen
+    → IfErr r (λ e. (e ≡ Plain Memory) ⊎ IsChosenUnread root chosen e) → IfErr r (HasReason (IsUnreadable MayFail contents) ⊥ contents) → IfErr r (HasReason MayFail ⊥ contents)
+chosen_reason_of MayFail root contents etc usr chosen (Ok x) named listed unread has = tt
+chosen_reason_of MayFail root contents etc usr chosen (Err e) named listed unread has = chosen_reason MayFail root contents contents etc usr chosen e named listed unread has
 
 pub none_left_out : (skip : Bool) (MayFail : List ℕ → Type 0) (root : List ℕ) (contents : Contents) → AreLeftOut skip MayFail root contents []
 none_left_out skip MayFail root contents = record { each = All-nil (IsLeftOut MayFail root contents); asked_for = λ e. refl }

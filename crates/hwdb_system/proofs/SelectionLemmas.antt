@@ -63,3 +63,9 @@ all_named root contents etc etc2 usr same in_etc in_usr = record {
   in_etc = subst (λ l. AreNamesIn (etc_files root) contents (map string_bytes l)) (sym same) in_etc;
   in_usr = in_usr;
 }
+
+pub both_named : (root : List ℕ) (contents : Contents) (etc etc2 usr usr2 : List (String Global)) → etc2 ≡ etc → usr2 ≡ usr
+    → AreNamesIn (etc_files root) contents (map string_bytes etc) → AreNamesIn (usr_files root) contents (map string_bytes usr)
+    → AreNamed root contents contents (map string_bytes etc2) (map string_bytes usr2)
+both_named root contents etc etc2 usr usr2 same same2 in_etc in_usr =
+    all_named root contents etc etc2 usr2 same in_etc (subst (λ l. AreNamesIn (usr_files root) contents (map string_bytes l)) (sym same2) in_usr)

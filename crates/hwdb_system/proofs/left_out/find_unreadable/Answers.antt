@@ -16,12 +16,12 @@ loop-file-init g c =
 pub loop-file-preserved : goal.loop-file-preserved
 loop-file-preserved g c =
     told_more (IsUnreadable (g.D.System.may_fail c.args.system.now) (g.D.Store.seen c.args.system.now)) (g.D.Store.seen c.args.system.now) c.args.root.now (map choice_of c.args.chosen.now) _ _ _ _
-    (choice_of c.file-item.result) c.read_file.result c.loop-file.invariant
+    (choice_of c.file-item.result) c.read_file-read.result c.loop-file.invariant
     (chosen_at c.args.chosen.now c.loop-file.file-index c.file-item.result c.file-item.is c.loop-file-test.true)
-    c.read_file.ensures.refused c.read_file.ensures.reason c.in_ok-push_unread.ensures.noted
+    c.read_file-read.ensures.refused c.read_file-read.ensures.reason c.in_ok-push_unread.ensures.noted
 
 pub returns-in_err-push_unread-clause-refused : goal.returns-in_err-push_unread-clause-refused
 returns-in_err-push_unread-clause-refused g c =
     given_error c.in_err-push_unread.field-0.0 (λ r. (r ≡ Plain Memory) ⊎ IsChosenUnread c.args.root.now (map choice_of c.args.chosen.now) r) c.from_residual.result c.from_residual.ensures.1
-    (handed_unread c.args.root.now c.args.chosen.now c.loop-file.file-index c.file-item.result c.read_file.result c.in_err-push_unread.field-0.0 c.file-item.is c.loop-file-test.true
-    c.read_file.ensures.refused c.in_err-push_unread.ensures.refused)
+    (handed_unread c.args.root.now c.args.chosen.now c.loop-file.file-index c.file-item.result c.read_file-read.result c.in_err-push_unread.field-0.0 c.file-item.is c.loop-file-test.true
+    c.read_file-read.ensures.refused c.in_err-push_unread.ensures.refused)
