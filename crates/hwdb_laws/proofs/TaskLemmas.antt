@@ -81,21 +81,24 @@ none_status : (strict : Bool) (left_out : List Choice) (status : ℕ) → left_o
 none_status strict [] status none = refl
 none_status strict (c ∷ more) status none = cc
 
-nothing_taken : (before then_ : Option (List ℕ)) (said : List ℕ) → said ≡ [] → Appends before then_ said → then_ ≡ before
-nothing_taken None None said none told = refl
-nothing_taken None (Some ys) said none told = absurd told
-nothing_taken (Some xs) None said none told = absurd told
-nothing_taken (Some xs) (Some ys) said none told = ap Some (told ∙ ap (λ (t : List ℕ). xs ++ t) none ∙ append-nil xs)
+-- what was said first is all that was said then
+all_said : (first : List ℕ) (before then_ : Option (List ℕ)) (hid said : List ℕ) → said ≡ [] → Appends (Some first) before hid → Appends before then_ said → Appends (Some first) then_ hid
+all_said first None then_ hid said none told more = absurd told
+all_said first (Some xs) None hid said none told more = absurd more
+all_said first (Some xs) (Some ys) hid said none told more = more ∙ ap (λ (t : List ℕ). xs ++ t) none ∙ append-nil xs ∙ told
 
 all_read : (fails : List ℕ → Type 0) (root : List ℕ) (verbose strict skip : Bool) (status : ℕ) (old : Contents) (before now : Option (List ℕ)) (in_place : List ℕ → Type 0)
-    → LeavesNothingOut fails (Update verbose skip) → IsUpdatedLess fails root verbose strict skip status old before now in_place → IsUpdated root verbose strict status old before now in_place
+    → LeavesNothingOut fails (Update verbose skip) → (less : IsUpdatedLess fails root verbose strict skip status old before now in_place) → IsUpdated root verbose strict status old less.err_then now in_place
 all_read fails root verbose strict skip status old before now in_place nothing less =
     let none = nothing_out fails verbose skip root old less.left_out nothing less.are in
-    let err = nothing_taken before less.err_then less.said (none_said root less.left_out less.said none less.lines) less.told in
     let answer : less.plainly ≡ status = sym (less.answer ∙ none_status strict less.left_out less.plainly none) in
-    subst (λ (s : ℕ). IsUpdated root verbose strict s old before now in_place) answer
-    (subst (λ (e : Option (List ℕ)). IsUpdated root verbose strict less.plainly old e now in_place) err
-    (subst (λ (l : List Choice). IsUpdated root verbose strict less.plainly (without l root old) less.err_then now in_place) none less.updated))
+    subst (λ (s : ℕ). IsUpdated root verbose strict s old less.err_then now in_place) answer
+    (subst (λ (l : List Choice). IsUpdated root verbose strict less.plainly (without l root old) less.err_then now in_place) none less.updated)
+
+all_told : (fails : List ℕ → Type 0) (root : List ℕ) (verbose strict skip : Bool) (status : ℕ) (old : Contents) (first : List ℕ) (before now : Option (List ℕ)) (hid : List ℕ) (in_place : List ℕ → Type 0)
+    → LeavesNothingOut fails (Update verbose skip) → Appends (Some first) before hid → (less : IsUpdatedLess fails root verbose strict skip status old before now in_place) → Appends (Some first) less.err_then hid
+all_told fails root verbose strict skip status old first before now hid in_place nothing told less =
+    all_said first before less.err_then hid less.said (none_said root less.left_out less.said (nothing_out fails verbose skip root old less.left_out nothing less.are) less.lines) told less.told
 
 abbrev IsHeld : (input : List ℕ) (files : Contents) → Source → Type 0
 IsHeld input files s = IsGiven s.name (Some input) files s.bytes
@@ -173,10 +176,15 @@ module _ (tree : (bytes : List ℕ) (t u : Tree) → IsDatabase bytes t → IsDa
   module _ (fails fails2 : List ℕ → Type 0) (left left2 : Outcomes) where
     pub each : (task : Task) → IsFunction fails fails2 left left2 task
     each (Update verbose skip) = λ root usr strict status status2 input old new new2 err_before out_before err err2 out out2 nothing nothing2 one two.
-        one_update left left2 root usr verbose strict status status2 old new new2 err_before one.0.err_then two.0.err_then err err2 out_before out out2
-        (all_read fails root verbose strict skip status old one.0.err_then err (λ database. InPlace (database_folder usr root) database old new left) nothing one.0.updated)
-        (all_read fails2 root verbose strict skip status2 old two.0.err_then err2 (λ database. InPlace (database_folder usr root) database old new2 left2) nothing2 two.0.updated)
-        one.0.told two.0.told one.1 two.1
+        let place : List ℕ → Type 0 = λ database. InPlace (database_folder usr root) database old new left in
+        let place2 : List ℕ → Type 0 = λ database. InPlace (database_folder usr root) database old new2 left2 in
+        let hid = hiding_text usr verbose root old in
+        one_update left left2 root usr verbose strict status status2 old new new2 err_before one.0.updated.err_then two.0.updated.err_then err err2 out_before out out2
+        (all_read fails root verbose strict skip status old one.0.err_then err place nothing one.0.updated)
+        (all_read fails2 root verbose strict skip status2 old two.0.err_then err2 place2 nothing2 two.0.updated)
+        (all_told fails root verbose strict skip status old err_before one.0.err_then err hid place nothing one.0.told one.0.updated)
+        (all_told fails2 root verbose strict skip status2 old err_before two.0.err_then err2 hid place2 nothing2 two.0.told two.0.updated)
+        one.1 two.1
     each (Query devices json) = λ root usr strict status status2 input old new new2 err_before out_before err err2 out out2 nothing nothing2 one two. record {
       one_status = one.1.0 ∙ sym two.1.0;
       one_files = one_kept (database_folder usr root) old new new2 one.1.1 two.1.1;

@@ -9,7 +9,7 @@ use Rattle.std.proofs.lemmas.Slice.Eq.{bytes_eq-Decides}
 use Rattle.hwdb_devices.specs.declared.causes.Cause.{Cause}
 use Rattle.hwdb_spec.specs.Folders.{Choice, choice, lists, path_of, same}
 use Rattle.hwdb_spec.specs.Store.{Contents, Stored, path_in}
-use Rattle.hwdb_spec.specs.System.{AreNamesIn, IsNameIn, bytes_at, etc_files, usr_files}
+use Rattle.hwdb_spec.specs.System.{AreNamesIn, IsNameIn, etc_files, usr_files}
 use Rattle.hwdb_text.specs.Views.{IsListed, choice_of}
 use Rattle.hwdb_text.specs.declared.choice.Chosen.{Chosen}
 use Rattle.hwdb_system.specs.Internal.{AreNamed, AreSelected, IsPartOf}

@@ -1,5 +1,5 @@
 -- Names as a set, and those of some names that aren't in it.
-use Rattle.std.proofs.Common.{◌≡◌, ◌∙◌, ◌<◌, ◌++◌, ◌||◌, ap, arith, sym, refl, cond, not, filter, get_or, map, length, string_bytes, take, ℕ, zero, suc, Bool, Global, String, true, false, List, [], ◌∷◌, Contains}
+use Rattle.std.proofs.Common.{◌≡◌, ◌∙◌, ◌<◌, ◌++◌, ◌||◌, ap, arith, sym, refl, cond, filter, get_or, map, length, string_bytes, take, ℕ, zero, suc, Bool, Global, String, true, false, List, [], ◌∷◌, Contains}
 use Rattle.std.specs.Borrow.{Bor}
 use Rattle.std.specs.BTreeSet.{BTreeSet, contains}
 use Rattle.std.specs.Cmp.Lexicographic.{slice_cmp}

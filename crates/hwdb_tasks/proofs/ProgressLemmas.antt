@@ -1,16 +1,9 @@
 -- What is said of the files of an update.
-use Rattle.std.proofs.Common.{◌≡◌, ◌∙◌, ◌<◌, ◌++◌, ◌||◌, ap, append_assoc, arith, sym, refl, cond, get_or, map, length, string_bytes, take, ℕ, zero, suc, Bool, Global, String, true, false, List, [], ◌∷◌, Some}
-use Rattle.std.specs.Borrow.{Bor}
-use Rattle.std.specs.BTreeSet.{BTreeSet, contains}
-use Rattle.std.specs.Cmp.Lexicographic.{slice_cmp}
-use Rattle.std.specs.List.{list_any}
-use Rattle.std.specs.Ordering.{is_eq, nat_cmp}
-use Rattle.std.specs.declared.cmp.Ordering.{Ordering}
-use Rattle.std.proofs.lemmas.List.Folds.{list_any-append}
+use Rattle.std.proofs.Common.{◌≡◌, ◌∙◌, ◌<◌, ◌++◌, ap, append_assoc, arith, sym, get_or, map, length, take, ℕ, zero, suc, List, [], ◌∷◌, Some}
 use Rattle.std.specs.FinMap as finite
 use Rattle.std.specs.Prelude.{flat_map}
 use Rattle.std.proofs.lemmas.List.{append-nil, length-map}
-use Rattle.hwdb_spec.specs.Folders.{Choice, Source, chosen_of, lists, same}
+use Rattle.hwdb_spec.specs.Folders.{Choice, Source, chosen_of}
 use Rattle.hwdb_spec.specs.Format.{IsDatabase}
 use Rattle.hwdb_spec.specs.Progress.{chosen_line, kept_line, progress_text}
 use Rattle.hwdb_spec.specs.Tree.{IsTree, Map, Tree, entry_of, map_of, map_of_files, members_under}
@@ -21,7 +14,7 @@ use Rattle.hwdb_compile.specs.declared.sources.Compiled.{Compiled}
 use Rattle.hwdb_inspect.specs.Laws.{MembersAreTheMap}
 use Rattle.hwdb_inspect.specs.Views.{assignment_of}
 use Rattle.hwdb_inspect.specs.declared.assigned.Assigned.{Assigned}
-use Rattle.hwdb_tasks.specs.Internal.{IsCompiledOf, IsNameSet}
+use Rattle.hwdb_tasks.specs.Internal.{IsCompiledOf}
 
 -- one more of a list, mapped
 mapped_more : {A B : Type 0} (f : A → B) (xs : List A) (i : ℕ) (x : A) → i < length xs → x ≡ get_or xs i x → map f (take (suc i) xs) ≡ map f (take i xs) ++ f x ∷ []

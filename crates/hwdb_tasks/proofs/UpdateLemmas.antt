@@ -1,7 +1,6 @@
 -- An update that is refused after its files were read.
 use Rattle.std.specs.Io.KnownBytes.{Appends}
-use Rattle.std.proofs.Common.{◌≡◌, ◌≢◌, inl, inr, ap, subst, sym, refl, arith, ◌++◌, if◌then◌else◌, length, ℕ, Bool, List, [], ◌∷◌, Option, Result, Ok, Err, IfErr}
-use Rattle.hwdb_spec.specs.Folders.{Choice, path_of}
+use Rattle.std.proofs.Common.{◌≡◌, ◌≢◌, inl, inr, ap, subst, sym, refl, ℕ, Bool, List, Option, Result, Ok, Err, IfErr}
 use Rattle.hwdb_spec.specs.Store.{Contents, Outcomes}
 use Rattle.hwdb_spec.specs.System.{database_folder}
 use Rattle.hwdb_spec.specs.Progress.{given_where, update_text}
@@ -14,9 +13,7 @@ use Rattle.hwdb_commands.specs.Updates.{IsUpdateRefusal, OnUnreplaced, UpdateUnd
 use Rattle.hwdb_transfer.specs.declared.errors.ToolError.{ToolError}
 use Rattle.hwdb_transfer.specs.declared.errors.ToolError.TheVariants.{Read, Write, TooLong, TooManyFiles, TooManyLines, TooLarge, BadPosition, PageZero, BadDatabase, Replace, Memory}
 use Rattle.hwdb_tasks.specs.Internal.{AreReadOf}
-use Rattle.hwdb_system.specs.LeftOut.{AreTold, left_out_line}
 use Rattle.hwdb_system.specs.Refusals.{HasReason, IsOfUpdate}
-use Rattle.hwdb_tasks.specs.Readable.{status_less}
 use Rattle.hwdb_tasks.specs.Undone.{AreKept, IsSelectedRefused, database_path}
 use Rattle.hwdb_system.specs.declared.refusals.Refusal.{Refusal}
 use Rattle.hwdb_system.specs.declared.refusals.Refusal.TheVariants.{At, InWords, NoDatabase, Plain}
@@ -149,12 +146,3 @@ module _ {S W : Type 0} (seen : S → Contents) (left_by : S → Outcomes) (take
       plain read (BadDatabase fault) refusal is refused (not_write (BadDatabase fault) (λ x. x)) (same (not_write (BadDatabase fault) (λ x. x)) (λ u. not_replace (BadDatabase fault) u (λ x. x)))
   update_refused t read Memory refusal is refused undone write cut same =
       plain read Memory refusal is refused (not_write Memory (λ x. x)) (same (not_write Memory (λ x. x)) (λ u. not_replace Memory u (λ x. x)))
-
--- ---- files that are left out
-pub none_out : (strict : Bool) (root : List ℕ) (left_out : List Choice) (said : List ℕ) (status : ℕ) → AreTold root left_out said → said ≡ [] → status ≡ status_less strict left_out status
-none_out strict root [] said status told none = refl
-none_out strict root (c ∷ more) said status told none = absurd (let h : 0 ≡ length (left_out_line (root ++ path_of c) told.0 told.1 ++ told.2) = ap length (sym none ∙ told.3) in omega (arith, h))
-
-pub some_out : (strict : Bool) (root : List ℕ) (left_out : List Choice) (said : List ℕ) (status : ℕ) → AreTold root left_out said → (said ≡ [] → ⊥) → (if strict then 1 else status) ≡ status_less strict left_out status
-some_out strict root [] said status told some = absurd (some told)
-some_out strict root (c ∷ more) said status told some = refl

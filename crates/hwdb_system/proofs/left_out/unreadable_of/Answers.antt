@@ -1,7 +1,6 @@
-use Rattle.std.proofs.Common.{◌≡◌, ◌∙◌, All, Err, ap, map, string_bytes, subst, sym}
+use Rattle.std.proofs.Common.{◌∙◌, All, Err, ap, map, string_bytes, subst, sym}
 use Rattle.hwdb_text.specs.Views.{IsListed, choice_of}
 use Rattle.hwdb_system.specs.Reading.{AreUnread}
-use Rattle.hwdb_system.specs.Refusals.{HasReason}
 use Rattle.hwdb_system.proofs.LeftOutLemmas.{are_found, chosen_reason_of}
 use Rattle.hwdb_system.proofs.SelectionLemmas.{choice_refused, each_error, each_value, given_error, texts_refused}
 use Rattle.hwdb_system.proofs.left_out.unreadable_of.Goals as goal

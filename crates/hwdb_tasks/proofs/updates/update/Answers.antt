@@ -6,7 +6,7 @@ use Rattle.hwdb_system.specs.declared.refusals.Refusal.TheVariants.{Plain}
 use Rattle.hwdb_transfer.specs.Devices.{AppendsPrefix}
 use Rattle.hwdb_transfer.specs.declared.errors.ToolError.TheVariants.{Write}
 use Rattle.hwdb_tasks.specs.Readable.{IsUpdateRefused}
-use Rattle.hwdb_tasks.proofs.ErrorLemmas.{each_error, given_error}
+use Rattle.hwdb_tasks.proofs.ErrorLemmas.{given_error}
 use Rattle.hwdb_tasks.proofs.MomentLemmas.{leaves_less}
 use Rattle.hwdb_tasks.proofs.updates.update.Goals as goal
 
