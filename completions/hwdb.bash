@@ -46,7 +46,7 @@ _hwdb() {
     )
     local -A options=(
         [hwdb]='--usr -s --strict -r --root -h --help -V --version'
-        [update]='--usr -s --strict -r --root --verbose -h --help'
+        [update]='--usr -s --strict -r --root --verbose --skip-unreadable -h --help'
         [query]='-r --root --json -h --help'
         [explain]='-r --root --json -h --help'
         [ask]='-r --root -h --help'

@@ -32,7 +32,7 @@ IsLimit (Some text) None = ⊥
 IsLimit (Some text) (Some n) = ParsesUnsigned {E = ParseIntError} 64 10 text (Ok n)
 
 abbrev pub IsTask : Text → List Row → Task → Type 0
-IsTask name inner (Update verbose) = (name ≡ codes "update") × (verbose ≡ has_flag (codes "verbose") inner)
+IsTask name inner (Update verbose skip) = (name ≡ codes "update") × (verbose ≡ has_flag (codes "verbose") inner) × (skip ≡ has_flag (codes "skip-unreadable") inner)
 IsTask name inner (Query devices json) = (name ≡ codes "query") × (json ≡ has_flag (codes "json") inner) × AreValues (codes "MODALIAS") inner (map string_bytes devices.items)
 IsTask name inner (Explain device json) = (name ≡ codes "explain") × (json ≡ has_flag (codes "json") inner) × IsValue (codes "MODALIAS") inner (string_bytes device)
 IsTask name inner (Ask file device) = (name ≡ codes "ask") × IsValue (codes "FILE") inner (string_bytes file) × IsValue (codes "MODALIAS") inner (string_bytes device)

@@ -48,6 +48,9 @@ limit_rule = record (new_rule (codes "limit")) { value_names = 1; long = Some (c
 abbrev pub verbose_rule : Rule
 verbose_rule = record (new_rule (codes "verbose")) { long = Some (codes "verbose"); action = Some SetTrue }
 
+abbrev pub skip_rule : Rule
+skip_rule = record (new_rule (codes "skip-unreadable")) { long = Some (codes "skip-unreadable"); action = Some SetTrue }
+
 abbrev pub json_rule : Rule
 json_rule = record (new_rule (codes "json")) { long = Some (codes "json"); action = Some SetTrue }
 
@@ -60,7 +63,7 @@ abbrev pub with_range : App → App
 with_range a = with_rule (with_rule a after_rule) limit_rule
 
 abbrev pub update_app : App
-update_app = with_rule (with_shared (new_app (codes "update"))) verbose_rule
+update_app = with_rule (with_rule (with_shared (new_app (codes "update"))) verbose_rule) skip_rule
 
 abbrev pub query_app : App
 query_app = with_rule (with_rule (with_shared (new_app (codes "query"))) json_rule) devices_rule

@@ -200,6 +200,7 @@ fn task_of(alloc: Global, name: &str, inner: &ArgMatches<'_>) -> Result<Task, Al
         "dump" => dump_task(alloc, inner),
         _ => Ok(Task::Update {
             verbose: has_flag(inner, "verbose"),
+            skip_unreadable: has_flag(inner, "skip-unreadable"),
         }),
     }
 }

@@ -23,7 +23,7 @@ const UPDATE_ABOUT: &str =
     "Compiles the text files of /etc/udev/hwdb.d and /usr/lib/udev/hwdb.d into /etc/udev/hwdb.bin";
 
 const UPDATE_AFTER: &str =
-    "Exit status: 0 on success, 1 on errors, and with --strict if a line had a fault.\nExample: hwdb --root /mnt update --strict";
+    "Exit status: 0 on success, 1 on errors, and with --strict if a line had a fault or a file was left out.\nExample: hwdb --root /mnt update --strict";
 
 const QUERY_ABOUT: &str =
     "Prints the properties that the database gives each device, as KEY=VALUE lines";
@@ -146,7 +146,7 @@ fn strict_option<'a>(alloc: Global) -> Arg<'a>
     ensures { IsArgument strict_rule result }
 {
     let help =
-        "With update: end with status 1 if a line had a fault; with check: if there is a warning";
+        "With update: end with status 1 if a line had a fault or a file was left out; with check: if there is a warning";
     flag(alloc, "strict", help).short('s')
 }
 
@@ -199,8 +199,10 @@ fn update_command<'a>(alloc: Global) -> Draft<'a>
     ensures { IsDraft update_app result }
 {
     let help = "Say which files are taken, and how many assignments they have";
+    let skip_help = "Leave out a text file that can't be read, and say so";
     let command = shared(alloc, "update", UPDATE_ABOUT, UPDATE_AFTER);
-    with_argument(command, flag(alloc, "verbose", help))
+    let with_verbose = with_argument(command, flag(alloc, "verbose", help));
+    with_argument(with_verbose, flag(alloc, "skip-unreadable", skip_help))
 }
 
 fn query_command<'a>(alloc: Global) -> Draft<'a>

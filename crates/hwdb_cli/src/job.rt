@@ -12,6 +12,8 @@ pub enum Task {
     Update {
         /// Whether to say which files are compiled, and how much they assign.
         verbose: bool,
+        /// Whether a text file that can't be read is left out.
+        skip_unreadable: bool,
     },
     /// Print the properties that the database gives each device.
     Query {

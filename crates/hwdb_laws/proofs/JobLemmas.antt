@@ -43,22 +43,22 @@ apart : (m n : List ℕ) → m ≡ n → (tag m ≡ tag n → ⊥) → ⊥
 apart m n e differ = differ (ap tag e)
 
 -- what is done of the one task is done of the other
-module _ (name : Text) (inner : List Row) (root : List ℕ) (usr strict : Bool) (status : ℕ) (input : Option (List ℕ)) (old new : Contents) (left : Outcomes) (err_before err out_before out : Option (List ℕ)) where
+module _ (name : Text) (inner : List Row) (fails : List ℕ → Type 0) (root : List ℕ) (usr strict : Bool) (status : ℕ) (input : Option (List ℕ)) (old new : Contents) (left : Outcomes) (err_before err out_before out : Option (List ℕ)) where
   abbrev Out : Task → Type 0
-  Out task = IsTaskDone task root usr strict status input old new left err_before err out_before out
+  Out task = IsTaskDone task fails root usr strict status input old new left err_before err out_before out
 
   pub same_task : (t u : Task) → IsTask name inner t → IsTask name inner u → Out u → Out t
-  same_task (Update v1) (Update v2) t u done =
-      subst (λ (b : Bool). Out (Update b)) (u.1 ∙ sym t.1) done
-  same_task (Update v1) (Query devices2 json2) t u done = absurd (apart (codes "update") (codes "query") (sym t.0 ∙ u.0) (λ (e : 117112 ≡ 113117). omega (arith, e)))
-  same_task (Update v1) (Explain device2 json2) t u done = absurd (apart (codes "update") (codes "explain") (sym t.0 ∙ u.0) (λ (e : 117112 ≡ 101120). omega (arith, e)))
-  same_task (Update v1) (ListHits after2 limit2 device2 json2) t u done = absurd (apart (codes "update") (codes "list") (sym t.0 ∙ u.0) (λ (e : 117112 ≡ 108105). omega (arith, e)))
-  same_task (Update v1) (Ask file2 device2) t u done = absurd (apart (codes "update") (codes "ask") (sym t.0 ∙ u.0) (λ (e : 117112 ≡ 97115). omega (arith, e)))
-  same_task (Update v1) (Check files2) t u done = absurd (apart (codes "update") (codes "check") (sym t.0 ∙ u.0) (λ (e : 117112 ≡ 99104). omega (arith, e)))
-  same_task (Update v1) (Diff old2 new2) t u done = absurd (apart (codes "update") (codes "diff") (sym t.0 ∙ u.0) (λ (e : 117112 ≡ 100105). omega (arith, e)))
-  same_task (Update v1) (Verify database2) t u done = absurd (apart (codes "update") (codes "verify") (sym t.0 ∙ u.0) (λ (e : 117112 ≡ 118101). omega (arith, e)))
-  same_task (Update v1) (Dump database2) t u done = absurd (apart (codes "update") (codes "dump") (sym t.0 ∙ u.0) (λ (e : 117112 ≡ 100117). omega (arith, e)))
-  same_task (Query devices1 json1) (Update v2) t u done = absurd (apart (codes "query") (codes "update") (sym t.0 ∙ u.0) (λ (e : 113117 ≡ 117112). omega (arith, e)))
+  same_task (Update v1 k1) (Update v2 k2) t u done =
+      subst (λ (b : Bool). Out (Update b k1)) (u.1 ∙ sym t.1) (subst (λ (b : Bool). Out (Update v2 b)) (u.2 ∙ sym t.2) done)
+  same_task (Update v1 k1) (Query devices2 json2) t u done = absurd (apart (codes "update") (codes "query") (sym t.0 ∙ u.0) (λ (e : 117112 ≡ 113117). omega (arith, e)))
+  same_task (Update v1 k1) (Explain device2 json2) t u done = absurd (apart (codes "update") (codes "explain") (sym t.0 ∙ u.0) (λ (e : 117112 ≡ 101120). omega (arith, e)))
+  same_task (Update v1 k1) (ListHits after2 limit2 device2 json2) t u done = absurd (apart (codes "update") (codes "list") (sym t.0 ∙ u.0) (λ (e : 117112 ≡ 108105). omega (arith, e)))
+  same_task (Update v1 k1) (Ask file2 device2) t u done = absurd (apart (codes "update") (codes "ask") (sym t.0 ∙ u.0) (λ (e : 117112 ≡ 97115). omega (arith, e)))
+  same_task (Update v1 k1) (Check files2) t u done = absurd (apart (codes "update") (codes "check") (sym t.0 ∙ u.0) (λ (e : 117112 ≡ 99104). omega (arith, e)))
+  same_task (Update v1 k1) (Diff old2 new2) t u done = absurd (apart (codes "update") (codes "diff") (sym t.0 ∙ u.0) (λ (e : 117112 ≡ 100105). omega (arith, e)))
+  same_task (Update v1 k1) (Verify database2) t u done = absurd (apart (codes "update") (codes "verify") (sym t.0 ∙ u.0) (λ (e : 117112 ≡ 118101). omega (arith, e)))
+  same_task (Update v1 k1) (Dump database2) t u done = absurd (apart (codes "update") (codes "dump") (sym t.0 ∙ u.0) (λ (e : 117112 ≡ 100117). omega (arith, e)))
+  same_task (Query devices1 json1) (Update v2 k2) t u done = absurd (apart (codes "query") (codes "update") (sym t.0 ∙ u.0) (λ (e : 113117 ≡ 117112). omega (arith, e)))
   same_task (Query devices1 json1) (Query devices2 json2) t u done =
       subst (λ (ds : List (List ℕ)). AreAnswered root (form.Query json1) ds input old out_before out × IsQuiet status old new err_before err) (one_values (all_of (codes "MODALIAS") inner) _ _ u.2 t.2)
       (subst (λ (j : Bool). AreAnswered root (form.Query j) (map string_bytes devices2.items) input old out_before out × IsQuiet status old new err_before err) (u.1 ∙ sym t.1) done)
@@ -69,7 +69,7 @@ module _ (name : Text) (inner : List Row) (root : List ℕ) (usr strict : Bool) 
   same_task (Query devices1 json1) (Diff old2 new2) t u done = absurd (apart (codes "query") (codes "diff") (sym t.0 ∙ u.0) (λ (e : 113117 ≡ 100105). omega (arith, e)))
   same_task (Query devices1 json1) (Verify database2) t u done = absurd (apart (codes "query") (codes "verify") (sym t.0 ∙ u.0) (λ (e : 113117 ≡ 118101). omega (arith, e)))
   same_task (Query devices1 json1) (Dump database2) t u done = absurd (apart (codes "query") (codes "dump") (sym t.0 ∙ u.0) (λ (e : 113117 ≡ 100117). omega (arith, e)))
-  same_task (Explain device1 json1) (Update v2) t u done = absurd (apart (codes "explain") (codes "update") (sym t.0 ∙ u.0) (λ (e : 101120 ≡ 117112). omega (arith, e)))
+  same_task (Explain device1 json1) (Update v2 k2) t u done = absurd (apart (codes "explain") (codes "update") (sym t.0 ∙ u.0) (λ (e : 101120 ≡ 117112). omega (arith, e)))
   same_task (Explain device1 json1) (Query devices2 json2) t u done = absurd (apart (codes "explain") (codes "query") (sym t.0 ∙ u.0) (λ (e : 101120 ≡ 113117). omega (arith, e)))
   same_task (Explain device1 json1) (Explain device2 json2) t u done =
       subst (λ (d : List ℕ). AreAnswered root (form.Explain json1) (d ∷ []) input old out_before out × IsQuiet status old new err_before err) (one_value (first_of (codes "MODALIAS") inner) _ _ u.2 t.2)
@@ -80,7 +80,7 @@ module _ (name : Text) (inner : List Row) (root : List ℕ) (usr strict : Bool) 
   same_task (Explain device1 json1) (Diff old2 new2) t u done = absurd (apart (codes "explain") (codes "diff") (sym t.0 ∙ u.0) (λ (e : 101120 ≡ 100105). omega (arith, e)))
   same_task (Explain device1 json1) (Verify database2) t u done = absurd (apart (codes "explain") (codes "verify") (sym t.0 ∙ u.0) (λ (e : 101120 ≡ 118101). omega (arith, e)))
   same_task (Explain device1 json1) (Dump database2) t u done = absurd (apart (codes "explain") (codes "dump") (sym t.0 ∙ u.0) (λ (e : 101120 ≡ 100117). omega (arith, e)))
-  same_task (ListHits after1 limit1 device1 json1) (Update v2) t u done = absurd (apart (codes "list") (codes "update") (sym t.0 ∙ u.0) (λ (e : 108105 ≡ 117112). omega (arith, e)))
+  same_task (ListHits after1 limit1 device1 json1) (Update v2 k2) t u done = absurd (apart (codes "list") (codes "update") (sym t.0 ∙ u.0) (λ (e : 108105 ≡ 117112). omega (arith, e)))
   same_task (ListHits after1 limit1 device1 json1) (Query devices2 json2) t u done = absurd (apart (codes "list") (codes "query") (sym t.0 ∙ u.0) (λ (e : 108105 ≡ 113117). omega (arith, e)))
   same_task (ListHits after1 limit1 device1 json1) (Explain device2 json2) t u done = absurd (apart (codes "list") (codes "explain") (sym t.0 ∙ u.0) (λ (e : 108105 ≡ 101120). omega (arith, e)))
   same_task (ListHits after1 limit1 device1 json1) (ListHits after2 limit2 device2 json2) t u done =
@@ -93,7 +93,7 @@ module _ (name : Text) (inner : List Row) (root : List ℕ) (usr strict : Bool) 
   same_task (ListHits after1 limit1 device1 json1) (Diff old2 new2) t u done = absurd (apart (codes "list") (codes "diff") (sym t.0 ∙ u.0) (λ (e : 108105 ≡ 100105). omega (arith, e)))
   same_task (ListHits after1 limit1 device1 json1) (Verify database2) t u done = absurd (apart (codes "list") (codes "verify") (sym t.0 ∙ u.0) (λ (e : 108105 ≡ 118101). omega (arith, e)))
   same_task (ListHits after1 limit1 device1 json1) (Dump database2) t u done = absurd (apart (codes "list") (codes "dump") (sym t.0 ∙ u.0) (λ (e : 108105 ≡ 100117). omega (arith, e)))
-  same_task (Ask file1 device1) (Update v2) t u done = absurd (apart (codes "ask") (codes "update") (sym t.0 ∙ u.0) (λ (e : 97115 ≡ 117112). omega (arith, e)))
+  same_task (Ask file1 device1) (Update v2 k2) t u done = absurd (apart (codes "ask") (codes "update") (sym t.0 ∙ u.0) (λ (e : 97115 ≡ 117112). omega (arith, e)))
   same_task (Ask file1 device1) (Query devices2 json2) t u done = absurd (apart (codes "ask") (codes "query") (sym t.0 ∙ u.0) (λ (e : 97115 ≡ 113117). omega (arith, e)))
   same_task (Ask file1 device1) (Explain device2 json2) t u done = absurd (apart (codes "ask") (codes "explain") (sym t.0 ∙ u.0) (λ (e : 97115 ≡ 101120). omega (arith, e)))
   same_task (Ask file1 device1) (ListHits after2 limit2 device2 json2) t u done = absurd (apart (codes "ask") (codes "list") (sym t.0 ∙ u.0) (λ (e : 97115 ≡ 108105). omega (arith, e)))
@@ -104,7 +104,7 @@ module _ (name : Text) (inner : List Row) (root : List ℕ) (usr strict : Bool) 
   same_task (Ask file1 device1) (Diff old2 new2) t u done = absurd (apart (codes "ask") (codes "diff") (sym t.0 ∙ u.0) (λ (e : 97115 ≡ 100105). omega (arith, e)))
   same_task (Ask file1 device1) (Verify database2) t u done = absurd (apart (codes "ask") (codes "verify") (sym t.0 ∙ u.0) (λ (e : 97115 ≡ 118101). omega (arith, e)))
   same_task (Ask file1 device1) (Dump database2) t u done = absurd (apart (codes "ask") (codes "dump") (sym t.0 ∙ u.0) (λ (e : 97115 ≡ 100117). omega (arith, e)))
-  same_task (Check files1) (Update v2) t u done = absurd (apart (codes "check") (codes "update") (sym t.0 ∙ u.0) (λ (e : 99104 ≡ 117112). omega (arith, e)))
+  same_task (Check files1) (Update v2 k2) t u done = absurd (apart (codes "check") (codes "update") (sym t.0 ∙ u.0) (λ (e : 99104 ≡ 117112). omega (arith, e)))
   same_task (Check files1) (Query devices2 json2) t u done = absurd (apart (codes "check") (codes "query") (sym t.0 ∙ u.0) (λ (e : 99104 ≡ 113117). omega (arith, e)))
   same_task (Check files1) (Explain device2 json2) t u done = absurd (apart (codes "check") (codes "explain") (sym t.0 ∙ u.0) (λ (e : 99104 ≡ 101120). omega (arith, e)))
   same_task (Check files1) (ListHits after2 limit2 device2 json2) t u done = absurd (apart (codes "check") (codes "list") (sym t.0 ∙ u.0) (λ (e : 99104 ≡ 108105). omega (arith, e)))
@@ -114,7 +114,7 @@ module _ (name : Text) (inner : List Row) (root : List ℕ) (usr strict : Bool) 
   same_task (Check files1) (Diff old2 new2) t u done = absurd (apart (codes "check") (codes "diff") (sym t.0 ∙ u.0) (λ (e : 99104 ≡ 100105). omega (arith, e)))
   same_task (Check files1) (Verify database2) t u done = absurd (apart (codes "check") (codes "verify") (sym t.0 ∙ u.0) (λ (e : 99104 ≡ 118101). omega (arith, e)))
   same_task (Check files1) (Dump database2) t u done = absurd (apart (codes "check") (codes "dump") (sym t.0 ∙ u.0) (λ (e : 99104 ≡ 100117). omega (arith, e)))
-  same_task (Diff old1 new1) (Update v2) t u done = absurd (apart (codes "diff") (codes "update") (sym t.0 ∙ u.0) (λ (e : 100105 ≡ 117112). omega (arith, e)))
+  same_task (Diff old1 new1) (Update v2 k2) t u done = absurd (apart (codes "diff") (codes "update") (sym t.0 ∙ u.0) (λ (e : 100105 ≡ 117112). omega (arith, e)))
   same_task (Diff old1 new1) (Query devices2 json2) t u done = absurd (apart (codes "diff") (codes "query") (sym t.0 ∙ u.0) (λ (e : 100105 ≡ 113117). omega (arith, e)))
   same_task (Diff old1 new1) (Explain device2 json2) t u done = absurd (apart (codes "diff") (codes "explain") (sym t.0 ∙ u.0) (λ (e : 100105 ≡ 101120). omega (arith, e)))
   same_task (Diff old1 new1) (ListHits after2 limit2 device2 json2) t u done = absurd (apart (codes "diff") (codes "list") (sym t.0 ∙ u.0) (λ (e : 100105 ≡ 108105). omega (arith, e)))
@@ -125,7 +125,7 @@ module _ (name : Text) (inner : List Row) (root : List ℕ) (usr strict : Bool) 
       (subst (λ (p : List ℕ). IsCompared (string_bytes old2) p status old out_before out × Same old new × (err ≡ err_before)) (one_value (first_of (codes "NEW") inner) _ _ u.2 t.2) done)
   same_task (Diff old1 new1) (Verify database2) t u done = absurd (apart (codes "diff") (codes "verify") (sym t.0 ∙ u.0) (λ (e : 100105 ≡ 118101). omega (arith, e)))
   same_task (Diff old1 new1) (Dump database2) t u done = absurd (apart (codes "diff") (codes "dump") (sym t.0 ∙ u.0) (λ (e : 100105 ≡ 100117). omega (arith, e)))
-  same_task (Verify database1) (Update v2) t u done = absurd (apart (codes "verify") (codes "update") (sym t.0 ∙ u.0) (λ (e : 118101 ≡ 117112). omega (arith, e)))
+  same_task (Verify database1) (Update v2 k2) t u done = absurd (apart (codes "verify") (codes "update") (sym t.0 ∙ u.0) (λ (e : 118101 ≡ 117112). omega (arith, e)))
   same_task (Verify database1) (Query devices2 json2) t u done = absurd (apart (codes "verify") (codes "query") (sym t.0 ∙ u.0) (λ (e : 118101 ≡ 113117). omega (arith, e)))
   same_task (Verify database1) (Explain device2 json2) t u done = absurd (apart (codes "verify") (codes "explain") (sym t.0 ∙ u.0) (λ (e : 118101 ≡ 101120). omega (arith, e)))
   same_task (Verify database1) (ListHits after2 limit2 device2 json2) t u done = absurd (apart (codes "verify") (codes "list") (sym t.0 ∙ u.0) (λ (e : 118101 ≡ 108105). omega (arith, e)))
@@ -135,7 +135,7 @@ module _ (name : Text) (inner : List Row) (root : List ℕ) (usr strict : Bool) 
   same_task (Verify database1) (Verify database2) t u done =
       subst (λ (d : Option (List ℕ)). IsPrinted d root IsSummary old out_before out × IsQuiet status old new err_before err) (u.1 ∙ sym t.1) done
   same_task (Verify database1) (Dump database2) t u done = absurd (apart (codes "verify") (codes "dump") (sym t.0 ∙ u.0) (λ (e : 118101 ≡ 100117). omega (arith, e)))
-  same_task (Dump database1) (Update v2) t u done = absurd (apart (codes "dump") (codes "update") (sym t.0 ∙ u.0) (λ (e : 100117 ≡ 117112). omega (arith, e)))
+  same_task (Dump database1) (Update v2 k2) t u done = absurd (apart (codes "dump") (codes "update") (sym t.0 ∙ u.0) (λ (e : 100117 ≡ 117112). omega (arith, e)))
   same_task (Dump database1) (Query devices2 json2) t u done = absurd (apart (codes "dump") (codes "query") (sym t.0 ∙ u.0) (λ (e : 100117 ≡ 113117). omega (arith, e)))
   same_task (Dump database1) (Explain device2 json2) t u done = absurd (apart (codes "dump") (codes "explain") (sym t.0 ∙ u.0) (λ (e : 100117 ≡ 101120). omega (arith, e)))
   same_task (Dump database1) (ListHits after2 limit2 device2 json2) t u done = absurd (apart (codes "dump") (codes "list") (sym t.0 ∙ u.0) (λ (e : 100117 ≡ 108105). omega (arith, e)))
@@ -153,25 +153,25 @@ one_option f (Some s) = refl
 pub one_root : (j : Job) → root_of j ≡ option_map_or (λ (x : List ℕ). x) (option_map string_bytes j.root) []
 one_root j = one_option string_bytes j.root
 
-module _ (status : ℕ) (input : Option (List ℕ)) (old new : Contents) (left : Outcomes) (err_before err out_before out : Option (List ℕ)) where
+module _ (fails : List ℕ → Type 0) (status : ℕ) (input : Option (List ℕ)) (old new : Contents) (left : Outcomes) (err_before err out_before out : Option (List ℕ)) where
   abbrev Done : Task → List ℕ → Bool → Bool → Type 0
-  Done task root usr strict = IsTaskDone task root usr strict status input old new left err_before err out_before out
+  Done task root usr strict = IsTaskDone task fails root usr strict status input old new left err_before err out_before out
 
   same_job : (top : List Row) (found : Option (Text × List Row)) (j k : Job) → IsJobOf top found j → IsJobOf top found k
-      → IsDone k status input old new left err_before err out_before out → IsDone j status input old new left err_before err out_before out
+      → IsDone k fails status input old new left err_before err out_before out → IsDone j fails status input old new left err_before err out_before out
   same_job top None j k one two done = absurd one
   same_job top (Some p) j k one two done =
       let roots : root_of k ≡ root_of j = one_root k ∙ ap (λ (o : Option (List ℕ)). option_map_or (λ (x : List ℕ). x) o []) (two.root ∙ sym one.root) ∙ sym (one_root j) in
-      same_task p.0 p.1 (root_of j) j.usr j.strict status input old new left err_before err out_before out j.task k.task one.task two.task
+      same_task p.0 p.1 fails (root_of j) j.usr j.strict status input old new left err_before err out_before out j.task k.task one.task two.task
       (subst (λ (r : List ℕ). Done k.task r j.usr j.strict) roots
       (subst (λ (b : Bool). Done k.task (root_of k) b j.strict) (two.usr ∙ sym one.usr)
       (subst (λ (b : Bool). Done k.task (root_of k) k.usr b) (two.strict ∙ sym one.strict) done)))
 
-pub one_job : (left left2 : Outcomes) → TasksAreOne left left2 → JobsAreOne left left2
-one_job left left2 tasks = λ words status status2 input old new new2 err_before out_before err err2 out out2 one two.
-    tasks one.job.task (root_of one.job) one.job.usr one.job.strict status status2 input old new new2 err_before out_before err err2 out out2 one.done
-    (same_job status2 (Some input) old new2 left2 (Some err_before) err2 (Some out_before) out2 (matches_of hwdb_app words) (subcommand_of hwdb_app words) one.job two.job one.asked two.asked two.done)
+pub one_job : (fails fails2 : List ℕ → Type 0) (left left2 : Outcomes) → TasksAreOne fails fails2 left left2 → JobsAreOne fails fails2 left left2
+one_job fails fails2 left left2 tasks = λ words status status2 input old new new2 err_before out_before err err2 out out2 one two nothing nothing2.
+    tasks one.job.task (root_of one.job) one.job.usr one.job.strict status status2 input old new new2 err_before out_before err err2 out out2 nothing nothing2 one.done
+    (same_job fails2 status2 (Some input) old new2 left2 (Some err_before) err2 (Some out_before) out2 (matches_of hwdb_app words) (subcommand_of hwdb_app words) one.job two.job one.asked two.asked two.done)
 
-pub not_told : (left : Outcomes) → DoneIsNotTold left
-not_told left words status input old new new2 err_before err err2 out_before out out2 done told =
+pub not_told : (fails : List ℕ → Type 0) (left : Outcomes) → DoneIsNotTold fails left
+not_told fails left words status input old new new2 err_before err err2 out_before out out2 done told =
     ⊎_elim (λ help. subst (IsAmong DisplayHelp) done.faultless help) (λ version. subst (IsAmong DisplayVersion) done.faultless version) told.asked

@@ -14,5 +14,5 @@ abbrev pub words_with_one_too_many : List (List ℕ)
 words_with_one_too_many = codes "hwdb" ∷ (codes "update" ∷ (codes "--usr" ∷ (codes "extra" ∷ [])))
 
 -- after a crash during that update, and a start, each path has something that a crash might have left before
-abbrev pub FaultyUpdateLeavesAll : (before : Outcomes) → Type 0
-FaultyUpdateLeavesAll before = (old after : Contents) → Booted (OldOrAskedFor words_with_one_too_many old before) after → Booted before after
+abbrev pub FaultyUpdateLeavesAll : (MayFail : (path : List ℕ) → Type 0) (before : Outcomes) → Type 0
+FaultyUpdateLeavesAll MayFail before = (old after : Contents) → Booted (OldOrAskedFor MayFail words_with_one_too_many old before) after → Booted before after

@@ -1,10 +1,10 @@
 -- What two outcomes over one input have in common.
-use Rattle.std.specs.Prelude.{◌≡◌, ◌⊎◌, ℕ, Bool, List, Option, Some, map}
+use Rattle.std.specs.Prelude.{◌≡◌, ◌⊎◌, ℕ, Bool, false, List, Option, Some, map}
 use Rattle.hwdb_cli.specs.declared.job.Task.{Task}
 use Rattle.hwdb_spec.specs.Folders.{Source, Choice, choice, chosen_of, contents, lists}
 use Rattle.hwdb_spec.specs.Store.{Contents, IsPartPath, Outcomes}
 use Rattle.hwdb_spec.specs.System.{AreFilesIn, AreNamesIn, database_folder, etc_files, usr_files}
-use Rattle.hwdb_tool.specs.Program.{IsJobDone, IsTaskDone, IsTold, root_of}
+use Rattle.hwdb_tool.specs.Program.{IsJobDone, IsTaskDone, IsTold, root_of, skips}
 
 -- two readings of both folders are one: which names each folder has, which files are chosen, and what each of them holds
 pub record IsOneReading (etc usr etc2 usr2 : List Source) : Type 0 where
@@ -33,27 +33,33 @@ pub record IsOneOutcome (folder : List ℕ) (status status2 : ℕ) (new new2 : C
   pub one_err : err ≡ err2
   pub one_out : out ≡ out2
 
--- A task that is done is a function of the files, of standard input and of what both outputs had taken. What a crash may
--- leave then is only bounded; it is of two stores.
-abbrev pub IsFunction : (left left2 : Outcomes) → Task → Type 0
-IsFunction left left2 task = (root : List ℕ) (usr strict : Bool) (status status2 : ℕ) (input : List ℕ) (old new new2 : Contents)
+-- a task leaves out no file: it isn't asked to leave out what can't be read, or no reading fails
+abbrev pub LeavesNothingOut : (MayFail : (path : List ℕ) → Type 0) → Task → Type 0
+LeavesNothingOut MayFail task = (skips task ≡ false) ⊎ ((path : List ℕ) → MayFail path → ⊥)
+
+-- A task that is done is a function of the files, of standard input and of what both outputs had taken, if it leaves out no
+-- file: which readings fail is no input. What a crash may leave then is only bounded; it is of two stores.
+abbrev pub IsFunction : (fails fails2 : (path : List ℕ) → Type 0) (left left2 : Outcomes) → Task → Type 0
+IsFunction fails fails2 left left2 task = (root : List ℕ) (usr strict : Bool) (status status2 : ℕ) (input : List ℕ) (old new new2 : Contents)
     (err_before out_before : List ℕ) (err err2 out out2 : Option (List ℕ))
-    → IsTaskDone task root usr strict status (Some input) old new left (Some err_before) err (Some out_before) out
-    → IsTaskDone task root usr strict status2 (Some input) old new2 left2 (Some err_before) err2 (Some out_before) out2
+    → LeavesNothingOut fails task → LeavesNothingOut fails2 task
+    → IsTaskDone task fails root usr strict status (Some input) old new left (Some err_before) err (Some out_before) out
+    → IsTaskDone task fails2 root usr strict status2 (Some input) old new2 left2 (Some err_before) err2 (Some out_before) out2
     → IsOneOutcome (database_folder usr root) status status2 new new2 err err2 out out2
 
-abbrev pub TasksAreOne : (left left2 : Outcomes) → Type 0
-TasksAreOne left left2 = (task : Task) → IsFunction left left2 task
+abbrev pub TasksAreOne : (fails fails2 : (path : List ℕ) → Type 0) (left left2 : Outcomes) → Type 0
+TasksAreOne fails fails2 left left2 = (task : Task) → IsFunction fails fails2 left left2 task
 
 -- A job that words ask for and that is done is a function of the words and of the same.
-abbrev pub JobsAreOne : (left left2 : Outcomes) → Type 0
-JobsAreOne left left2 = (words : List (List ℕ)) (status status2 : ℕ) (input : List ℕ) (old new new2 : Contents)
+abbrev pub JobsAreOne : (fails fails2 : (path : List ℕ) → Type 0) (left left2 : Outcomes) → Type 0
+JobsAreOne fails fails2 left left2 = (words : List (List ℕ)) (status status2 : ℕ) (input : List ℕ) (old new new2 : Contents)
     (err_before out_before : List ℕ) (err err2 out out2 : Option (List ℕ))
-    → (done : IsJobDone words status (Some input) old new left (Some err_before) err (Some out_before) out)
-    → IsJobDone words status2 (Some input) old new2 left2 (Some err_before) err2 (Some out_before) out2
+    → (done : IsJobDone fails words status (Some input) old new left (Some err_before) err (Some out_before) out)
+    → IsJobDone fails2 words status2 (Some input) old new2 left2 (Some err_before) err2 (Some out_before) out2
+    → LeavesNothingOut fails done.job.task → LeavesNothingOut fails2 done.job.task
     → IsOneOutcome (database_folder done.job.usr (root_of done.job)) status status2 new new2 err err2 out out2
 
 -- What is done isn't told: where the words ask for a job, they ask for no help.
-abbrev pub DoneIsNotTold : (left : Outcomes) → Type 0
-DoneIsNotTold left = (words : List (List ℕ)) (status : ℕ) (input : Option (List ℕ)) (old new new2 : Contents) (err_before err err2 out_before out out2 : Option (List ℕ))
-    → IsJobDone words status input old new left err_before err out_before out → IsTold words old new2 err_before err2 out_before out2 → ⊥
+abbrev pub DoneIsNotTold : (fails : (path : List ℕ) → Type 0) (left : Outcomes) → Type 0
+DoneIsNotTold fails left = (words : List (List ℕ)) (status : ℕ) (input : Option (List ℕ)) (old new new2 : Contents) (err_before err err2 out_before out out2 : Option (List ℕ))
+    → IsJobDone fails words status input old new left err_before err out_before out → IsTold words old new2 err_before err2 out_before out2 → ⊥

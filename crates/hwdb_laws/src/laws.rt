@@ -3,7 +3,7 @@ ghost use Rattle.hwdb_laws.specs.Laws.{DoneIsNotTold, JobsAreOne, ListingsGiveOn
 
 use hwdb_query::positions_are_read_back;
 use hwdb_reader::law_one_tree;
-use hwdb_store::Store;
+use hwdb_system::System;
 use hwdb_text::laws::{names_are_those_that_count, names_ascend, one_ascending_list};
 use hwdb_writer::law_one_written_form;
 
@@ -18,9 +18,11 @@ pub fn listings_give_one_reading()
     one_ascending_list();
 }
 
-/// Two outcomes that a task may have over one input are the same, where both are done, but for leftovers of killed updates.
-pub fn tasks_are_one<D: Store>(first: &D, second: &D)
-    ensures { TasksAreOne (D.may_leave first.now) (D.may_leave second.now) }
+/// Two outcomes that a task may have over one input are the same, where both are done and leave out no file, but for leftovers
+/// of killed updates.
+pub fn tasks_are_one<D: System>(first: &D, second: &D)
+    ensures { TasksAreOne (D.may_fail first.now) (D.may_fail second.now)
+        (D.Store.may_leave first.now) (D.Store.may_leave second.now) }
 {
     listings_give_one_reading();
     law_one_tree();
@@ -28,10 +30,12 @@ pub fn tasks_are_one<D: Store>(first: &D, second: &D)
     positions_are_read_back();
 }
 
-/// Two outcomes that words may have over one input are the same, where what they ask for is done, but for such leftovers.
-pub fn jobs_are_one<D: Store>(first: &D, second: &D)
-    ensures one { JobsAreOne (D.may_leave first.now) (D.may_leave second.now) }
-    ensures told { DoneIsNotTold (D.may_leave first.now) }
+/// Two outcomes that words may have over one input are the same, where what they ask for is done and leaves out no file, but
+/// for such leftovers.
+pub fn jobs_are_one<D: System>(first: &D, second: &D)
+    ensures one { JobsAreOne (D.may_fail first.now) (D.may_fail second.now)
+        (D.Store.may_leave first.now) (D.Store.may_leave second.now) }
+    ensures told { DoneIsNotTold (D.may_fail first.now) (D.Store.may_leave first.now) }
 {
     tasks_are_one(first, second);
 }

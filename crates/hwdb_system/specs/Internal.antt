@@ -1,6 +1,9 @@
 -- What the steps of an update hold, and what a store in memory answers.
-use Rattle.std.specs.Prelude.{IsUtf8, ◌≡◌, ◌≢◌, ◌≤◌, ◌⊎◌, All, length, ℕ, Bool, false, if◌then◌else◌, not, ◌||◌, is_some, List, [], ◌∷◌, ◌++◌, Option, Some, None, codes, map}
-use Rattle.hwdb_spec.specs.Folders.{Choice, choice, names, max_files, path_of, counts}
+use Rattle.std.specs.Prelude.{IsUtf8, ◌≡◌, ◌≢◌, ◌≤◌, ◌⊎◌, All, length, ℕ, Bool, true, false, if◌then◌else◌, not, ◌||◌, is_some, List, [], ◌∷◌, ◌++◌, Option, Some, None, codes, map}
+use Rattle.std.specs.Borrow.{Bor}
+use Rattle.std.specs.BTreeSet.{BTreeSet}
+use Rattle.std.specs.List.{list_any}
+use Rattle.hwdb_spec.specs.Folders.{Choice, choice, names, max_files, path_of, counts, lists, same}
 use Rattle.hwdb_spec.specs.Lines.{has}
 use Rattle.hwdb_spec.specs.Store.{Contents, path_in}
 use Rattle.hwdb_spec.specs.Texts.{at_offset}
@@ -56,6 +59,16 @@ abbrev pub IsPushed : List Step → (folder : List ℕ) → Step → (old new : 
 IsPushed steps folder step old new =
     (IsNamedBy steps folder step None × (new ≡ old)) ⊎ ((name : List ℕ) × IsNamedBy steps folder step (Some name) × (new ≡ old ++ name ∷ []))
 
+-- what stands under a path of the part stands there in the whole
+abbrev pub IsPartOf : (whole part : Contents) → Type 0
+IsPartOf whole part = (path : List ℕ) → is_some (bytes_at part path) ≡ true → bytes_at part path ≡ bytes_at whole path
+
+-- the names of the text files of both folders, among some of all files
+pub record AreNamed (root : List ℕ) (all files : Contents) (etc usr : List (List ℕ)) : Type 0 where
+  pub part : IsPartOf all files
+  pub in_etc : AreNamesIn (etc_files root) files etc
+  pub in_usr : AreNamesIn (usr_files root) files usr
+
 -- the chosen of the folders' text files, and what each holds; `usr` are the names in /usr/lib
 pub record AreSelected (root : List ℕ) (contents : Contents) (usr : List (List ℕ)) (chosen : List Choice) (texts : List (List ℕ)) : Type 0 where
   pub etc : List (List ℕ)
@@ -69,3 +82,7 @@ pub record AreSelected (root : List ℕ) (contents : Contents) (usr : List (List
 -- a fault of the database at a path: its name, its offset if it has one, the path, and what to do
 abbrev pub line_at : (path name : List ℕ) → (offset : Option ℕ) → (what : List ℕ) → List ℕ
 line_at path name offset what = codes "bad database: " ++ (at_offset name offset ++ (codes ": " ++ (path ++ (codes ": " ++ what))))
+
+-- a set of these names
+abbrev pub IsNameSet : (names : List (List ℕ)) → BTreeSet (Bor (List ℕ)) → Type 0
+IsNameSet names set = (name : Bor (List ℕ)) → list_any (λ (k : Bor (List ℕ)). same name.now k.now) set.keys ≡ lists name.now names

@@ -2,3 +2,4 @@ pub mod Refusals
 pub mod Reading
 pub mod Roots
 pub mod Internal
+pub mod LeftOut

@@ -4,7 +4,8 @@ ghost use Rattle.hwdb_spec.specs.Folders.{path_of};
 ghost use Rattle.hwdb_spec.specs.System.{AreNamesIn, bytes_at};
 ghost use Rattle.hwdb_text.specs.Views.{IsStorableChoice, choice_of};
 ghost use Rattle.hwdb_compile.specs.Views.{bytes_in, choice_in};
-ghost use Rattle.hwdb_system.specs.Internal.{AreSelected, AreTexts};
+ghost use Rattle.hwdb_spec.specs.Store.{Contents};
+ghost use Rattle.hwdb_system.specs.Internal.{AreNamed, AreSelected, AreTexts};
 ghost use Rattle.hwdb_system.specs.Refusals.{HasReason, IsUnlisted, IsUnread, IsUnreadable};
 ghost use Rattle.hwdb_system.specs.Reading.{AreUnread, IsChosenUnread};
 ghost use Rattle.hwdb_system.specs.declared.refusals.Refusal.TheVariants.{Plain};
@@ -17,9 +18,9 @@ use hwdb_text::{Chosen, select};
 use hwdb_transfer::ToolError;
 use std::alloc::{AllocError, Global};
 
-const ETC_FILES: &str = "/etc/udev/hwdb.d";
+pub const ETC_FILES: &str = "/etc/udev/hwdb.d";
 
-const USR_FILES: &str = "/usr/lib/udev/hwdb.d";
+pub const USR_FILES: &str = "/usr/lib/udev/hwdb.d";
 
 /// The chosen files of both folders, by priority, what each holds, and the names of all text files in /usr/lib.
 #[derive(Drop)]
@@ -43,17 +44,46 @@ pub fn selected<D: System>(alloc: Global, root: &str, system: &D) -> Result<Sele
 {
     let etc_names = listed(alloc, root, ETC_FILES, system)?;
     let usr_names = listed(alloc, root, USR_FILES, system)?;
-    let chosen = select(alloc, &etc_names, &usr_names)?;
+    selected_of(alloc, root, &etc_names, usr_names, system)
+}
+
+/// Chooses among the text files with these names, and reads the chosen ones.
+pub fn selected_of<D: System>(
+    alloc: Global,
+    root: &str,
+    etc: &[String],
+    usr: Vec<String>,
+    system: &D,
+) -> Result<Selection, Refusal>
+    ensures count { IfOk result (λ s. length s.texts.items ≡ length s.chosen.items) }
+    ensures storable { IfOk result (λ s. All IsStorableChoice (map choice_of s.chosen.items)) }
+    ensures selected { (files : Contents)
+        → AreNamed root.now (D.Store.seen system.now) files
+        (map string_bytes etc.now) (map string_bytes usr.items)
+        → D.Store.tells → IfOk result
+        (λ s. AreSelected root.now files (map string_bytes s.listed.items)
+        (map choice_of s.chosen.items) (map (λ t. t.items) s.texts.items)) }
+    ensures refused { (files : Contents)
+        → AreNamed root.now (D.Store.seen system.now) files
+        (map string_bytes etc.now) (map string_bytes usr.items)
+        → IfErr result (AreUnread root.now files) }
+    ensures reason { (files : Contents)
+        → AreNamed root.now (D.Store.seen system.now) files
+        (map string_bytes etc.now) (map string_bytes usr.items)
+        → IfErr result (HasReason (D.System.may_fail system.now) ⊥ (D.Store.seen system.now)) }
+    ensures unread { IfErr result (λ r. r ≢ Plain ToolError.Write) }
+{
+    let chosen = select(alloc, etc, &usr)?;
     let texts = read_chosen(alloc, root, &chosen, system)?;
     Ok(Selection {
-        listed: usr_names,
+        listed: usr,
         chosen,
         texts,
     })
 }
 
 /// The names of the text files in a folder below the root.
-fn listed<D: System>(
+pub fn listed<D: System>(
     alloc: Global,
     root: &str,
     folder: &str,
@@ -71,7 +101,7 @@ fn listed<D: System>(
 }
 
 /// What a chosen file holds.
-fn read_file<D: System>(
+pub fn read_file<D: System>(
     alloc: Global,
     root: &str,
     file: &Chosen,

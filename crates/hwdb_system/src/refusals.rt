@@ -48,6 +48,11 @@ impl Refusal {
         Refusal::at(alloc, ToolError::Read, path, Some(cause))
     }
 
+    /// Whether what stands at a path can't be read.
+    pub fn is_unread(&self) -> bool {
+        matches!(self, Refusal::At(ToolError::Read, _, _))
+    }
+
     /// What was to stand at a path can't be written.
     pub fn write(alloc: Global, path: &[u8], cause: Option<Cause>) -> Refusal
         ensures { IsAt ToolError.Write path.now result }

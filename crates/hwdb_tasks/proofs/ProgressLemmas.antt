@@ -1,17 +1,10 @@
 -- What is said of the files of an update.
-use Rattle.std.proofs.Common.{◌≡◌, ◌∙◌, ◌<◌, ◌++◌, ◌||◌, ap, append_assoc, arith, sym, refl, cond, get_or, map, length, string_bytes, take, ℕ, zero, suc, Bool, Global, String, true, false, List, [], ◌∷◌, Some}
-use Rattle.std.specs.Borrow.{Bor}
-use Rattle.std.specs.BTreeSet.{BTreeSet, contains}
-use Rattle.std.specs.Cmp.Lexicographic.{slice_cmp}
-use Rattle.std.specs.List.{list_any}
-use Rattle.std.specs.Ordering.{is_eq, nat_cmp}
-use Rattle.std.specs.declared.cmp.Ordering.{Ordering}
-use Rattle.std.proofs.lemmas.List.Folds.{list_any-append}
+use Rattle.std.proofs.Common.{◌≡◌, ◌∙◌, ◌<◌, ◌++◌, ap, append_assoc, arith, sym, get_or, map, length, take, ℕ, zero, suc, List, [], ◌∷◌, Some}
 use Rattle.std.specs.FinMap as finite
 use Rattle.std.specs.Prelude.{flat_map}
 use Rattle.std.proofs.lemmas.List.{append-nil, length-map}
 use Rattle.hwdb_spec.specs.Assignment.{Assignment}
-use Rattle.hwdb_spec.specs.Folders.{Choice, Source, chosen_of, lists, same}
+use Rattle.hwdb_spec.specs.Folders.{Choice, Source, chosen_of}
 use Rattle.hwdb_spec.specs.Format.{IsDatabase}
 use Rattle.hwdb_spec.specs.Progress.{chosen_line, kept_line, progress_text}
 use Rattle.hwdb_spec.specs.Tree.{IsTree, Map, Tree, entry_of, map_of, map_of_files, members_under}
@@ -20,40 +13,13 @@ use Rattle.hwdb_compile.specs.Views.{AreChosenOf, choice_in}
 use Rattle.hwdb_compile.specs.declared.sources.ChosenFile.{ChosenFile}
 use Rattle.hwdb_compile.specs.declared.sources.Compiled.{Compiled}
 use Rattle.hwdb_inspect.specs.Laws.{MembersAreTheMap}
-use Rattle.hwdb_tasks.specs.Internal.{IsCompiledOf, IsNameSet}
+use Rattle.hwdb_tasks.specs.Internal.{IsCompiledOf}
 
 -- one more of a list, mapped
 mapped_more : {A B : Type 0} (f : A → B) (xs : List A) (i : ℕ) (x : A) → i < length xs → x ≡ get_or xs i x → map f (take (suc i) xs) ≡ map f (take i xs) ++ f x ∷ []
 mapped_more f [] i x lt e = absurd (omega arith)
 mapped_more f (y ∷ xs) zero x lt e = ap (λ z. f z ∷ []) (sym e)
 mapped_more f (y ∷ xs) (suc i) x lt e = ap (λ l. f y ∷ l) (mapped_more f xs i x (omega arith) e)
-
-abbrev order : Bor (List ℕ) → Bor (List ℕ) → Ordering
-order x y = slice_cmp nat_cmp x.now y.now
-
-or_true : (b : Bool) → true ≡ (b || true)
-or_true true = refl
-or_true false = refl
-
-or_false : (b : Bool) → b ≡ (b || false)
-or_false true = refl
-or_false false = refl
-
-one_more : (c : Bool) (a b : Bool) → a ≡ b → cond c true a ≡ (b || (c || false))
-one_more true a b e = or_true b
-one_more false a b e = e ∙ or_false b
-
--- one more name in the set
-pub name_step : (names : List (String Global)) (i : ℕ) (x : String Global) (old new : BTreeSet (Bor (List ℕ))) (k : Bor (List ℕ)) → i < length names → x ≡ get_or names i x
-    → k.now ≡ string_bytes x → IsNameSet (map string_bytes (take i names)) old
-    → ((q : Bor (List ℕ)) → contains order new q ≡ cond (is_eq (order k q)) true (contains order old q)) → IsNameSet (map string_bytes (take (suc i) names)) new
-name_step names i x old new k lt is own so_far put = λ q.
-    let before = map string_bytes (take i names) in
-    let next : map string_bytes (take (suc i) names) ≡ before ++ string_bytes x ∷ [] = mapped_more string_bytes names i x lt is in
-    put q
-    ∙ one_more (is_eq (order k q)) _ _ (so_far q)
-    ∙ ap (λ (t : List ℕ). lists q.now before || (same t q.now || false)) own
-    ∙ sym (ap (list_any (λ n. same n q.now)) next ∙ list_any-append (λ n. same n q.now) before (string_bytes x ∷ []))
 
 -- the pieces of the line that counts, added one after another
 pub kept_pieces : (o a s b k t u y : List ℕ) → t ≡ o ++ (a ++ s) → u ≡ t ++ (b ++ s) → y ≡ u ++ k → y ≡ o ++ (a ++ (s ++ (b ++ (s ++ k))))

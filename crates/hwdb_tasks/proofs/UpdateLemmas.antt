@@ -14,7 +14,7 @@ use Rattle.hwdb_transfer.specs.declared.errors.ToolError.{ToolError}
 use Rattle.hwdb_transfer.specs.declared.errors.ToolError.TheVariants.{Read, Write, TooLong, TooManyFiles, TooManyLines, TooLarge, BadPosition, BadDatabase, Replace, Memory}
 use Rattle.hwdb_tasks.specs.Internal.{AreReadOf}
 use Rattle.hwdb_system.specs.Refusals.{HasReason, IsOfUpdate}
-use Rattle.hwdb_tasks.specs.Undone.{AreKept, IsUpdateRefused, database_path}
+use Rattle.hwdb_tasks.specs.Undone.{AreKept, IsSelectedRefused, database_path}
 use Rattle.hwdb_system.specs.declared.refusals.Refusal.{Refusal}
 use Rattle.hwdb_system.specs.declared.refusals.Refusal.TheVariants.{At, InWords, NoDatabase, Plain}
 
@@ -67,16 +67,16 @@ update_reason P W contents (BadDatabase fault) path refusal is w = subst (HasRea
 update_reason P W contents Memory path refusal is w = subst (HasReason P W contents) (sym is) tt
 
 module _ {S W : Type 0} (seen : S → Contents) (left_by : S → Outcomes) (taken : W → Option (List ℕ)) (old new : S) (err_old err_new : W)
-    (root : List ℕ) (usr verbose : Bool) (listed : List (List ℕ)) (files : List ChosenFile) (tells : Type 0) where
+    (root : List ℕ) (usr verbose : Bool) (read_from : Contents) (listed : List (List ℕ)) (files : List ChosenFile) (tells : Type 0) where
   -- a store that is the same keeps its files
   pub kept : new ≡ old → AreKept (seen old) (seen new) (left_by old) (left_by new)
   kept e = record { same = λ p. ap (λ s. seen s p) e; no_more = λ p v l. subst (λ s. left_by s p v) e l }
 
   abbrev Refused : Refusal → Type 0
-  Refused refusal = IsUpdateRefused root usr verbose refusal (seen old) (seen new) (left_by old) (left_by new) (taken err_old) (taken err_new)
+  Refused refusal = IsSelectedRefused root usr verbose read_from refusal (seen old) (seen new) (left_by old) (left_by new) (taken err_old) (taken err_new)
 
   -- an error of compiling
-  plain : AreReadOf root (seen old) listed files → (error : ToolError) (refusal : Refusal) → refusal ≡ Plain error
+  plain : AreReadOf root read_from listed files → (error : ToolError) (refusal : Refusal) → refusal ≡ Plain error
       → ForFolders files (λ e u. IsUpdateRefusal e u max_file error) → error ≢ Write → (err_new ≡ err_old) × (new ≡ old) → Refused refusal
   plain read error refusal is refused other same = inr record {
     of_etc = read.of_etc;
@@ -93,7 +93,7 @@ module _ {S W : Type 0} (seen : S → Contents) (left_by : S → Outcomes) (take
     };
   }
 
-  pub update_refused : tells → AreReadOf root (seen old) listed files → (error : ToolError) (refusal : Refusal) → IsOfUpdate error (database_path usr root) refusal
+  pub update_refused : tells → AreReadOf root read_from listed files → (error : ToolError) (refusal : Refusal) → IsOfUpdate error (database_path usr root) refusal
       → ForFolders files (λ e u. IsUpdateRefusal e u max_file error)
       → OnUnreplaced (λ u. ForFolders files (λ e r. UpdateUndone e r (given_where verbose listed) (database_folder usr root) (taken err_old) (taken err_new) tells (seen old) (seen new) (left_by old) (left_by new) u)) error
       → (error ≡ Write → new ≡ old)

@@ -52,17 +52,17 @@ pub record IsListFrom (json : Bool) (device : List ℕ) (after : Option (List �
   pub spelled : IsFrom after from
   pub is : IsTextOf (list_form json device from limit) bytes text
 
--- an update leaves this under a path: the database of all text files of both folders, whole, in its place; or what may stand
--- under the path of a new file
-pub record IsLeftByUpdate (root : List ℕ) (usr : Bool) (old : Contents) (p : List ℕ) (v : Option Stored) : Type 0 where
+-- an update that read these files leaves this under a path: the database of all text files of both folders, whole, in its place;
+-- or what may stand under the path of a new file
+pub record IsLeftByUpdate (root : List ℕ) (usr : Bool) (files old : Contents) (p : List ℕ) (v : Option Stored) : Type 0 where
   pub of_etc : List Source
   pub of_usr : List Source
-  pub in_etc : AreFilesIn (etc_files root) old of_etc
-  pub in_usr : AreFilesIn (usr_files root) old of_usr
+  pub in_etc : AreFilesIn (etc_files root) files of_etc
+  pub in_usr : AreFilesIn (usr_files root) files of_usr
   pub left : ((database : List ℕ) × IsWritten (map_of_files of_etc of_usr) database × IsCompiled of_etc of_usr database
       × (p ≡ path_in (database_folder usr root) database_name) × (v ≡ Some (database_file database)))
       ⊎ LeftAtParts (database_folder usr root) old p v
 
--- what a crash may leave during an update: what it might have left before, or what the update leaves
-abbrev pub OldOrUpdated : (root : List ℕ) (usr : Bool) (old : Contents) (outcomes : Outcomes) → Outcomes
-OldOrUpdated root usr old outcomes p v = outcomes p v ⊎ IsLeftByUpdate root usr old p v
+-- what a crash may leave during an update of these files: what it might have left before, or what the update leaves
+abbrev pub OldOrUpdated : (root : List ℕ) (usr : Bool) (files old : Contents) (outcomes : Outcomes) → Outcomes
+OldOrUpdated root usr files old outcomes p v = outcomes p v ⊎ IsLeftByUpdate root usr files old p v

@@ -1,24 +1,20 @@
 -- What the steps of a task hold.
-use Rattle.std.specs.Prelude.{◌≡◌, ℕ, Bool, true, false, List, Option, Some, length, map}
-use Rattle.std.specs.Borrow.{Bor}
-use Rattle.std.specs.BTreeSet.{BTreeSet}
-use Rattle.std.specs.List.{list_any}
+use Rattle.std.specs.Prelude.{◌≡◌, ℕ, Bool, true, false, List, Option, Some, length, map, string_bytes}
 use Rattle.hwdb_tasks.specs.Given.{is_dash}
 use Rattle.hwdb_spec.specs.Progress.{within_64_bits}
 use Rattle.hwdb_spec.specs.Written.{IsCompiled}
 use Rattle.hwdb_compile.specs.declared.sources.Compiled.{Compiled}
-use Rattle.hwdb_spec.specs.Folders.{Source, all_assignments, lists, same}
+use Rattle.hwdb_spec.specs.Folders.{Source, all_assignments}
 use Rattle.hwdb_spec.specs.Explanations.{explain_text}
 use Rattle.hwdb_spec.specs.Json.{explain_json}
 use Rattle.hwdb_spec.specs.Store.{Contents}
 use Rattle.hwdb_spec.specs.System.{AreFilesIn, bytes_at, etc_files, usr_files}
 use Rattle.hwdb_spec.specs.Tree.{Tree}
+use Rattle.hwdb_text.specs.Views.{choice_of}
 use Rattle.hwdb_compile.specs.Views.{AreChosenOf}
+use Rattle.hwdb_system.specs.Internal.{AreSelected}
+use Rattle.hwdb_system.specs.declared.folders.Selection.{Selection}
 use Rattle.hwdb_compile.specs.declared.sources.ChosenFile.{ChosenFile}
-
--- a set of these names
-abbrev pub IsNameSet : (names : List (List ℕ)) → BTreeSet (Bor (List ℕ)) → Type 0
-IsNameSet names set = (name : Bor (List ℕ)) → list_any (λ (k : Bor (List ℕ)). same name.now k.now) set.keys ≡ lists name.now names
 
 -- a database of the files, and how many assignments they have
 pub record IsCompiledOf (etc usr : List Source) (c : Compiled) : Type 0 where
@@ -50,3 +46,7 @@ pub record AreReadOf (root : List ℕ) (contents : Contents) (listed : List (Lis
 abbrev pub explain_form : (json : Bool) → List ℕ → Tree → List ℕ
 explain_form false = explain_text
 explain_form true = explain_json
+
+-- a selection among these files
+abbrev pub IsOfSelection : (root : List ℕ) (files : Contents) → Selection → Type 0
+IsOfSelection root files s = AreSelected root files (map string_bytes s.listed.items) (map choice_of s.chosen.items) (map (λ t. t.items) s.texts.items)

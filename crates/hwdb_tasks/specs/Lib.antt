@@ -1,5 +1,6 @@
 pub mod Done
 pub mod Undone
+pub mod Readable
 pub mod Queries
 pub mod CheckedFiles
 pub mod ComparedDatabases

@@ -135,17 +135,22 @@ pub record IsUnwritten (root : List ℕ) (usr : Bool) (of_etc of_usr : List Sour
 abbrev pub IsUnwritable : (folder : List ℕ) → Contents → (failures_before failures_now : ℕ) → Type 0
 IsUnwritable folder contents before now = HasFailed before now ⊎ AreTaken folder most_parts contents
 
--- the text files of both folders were read, and compiling them or putting their database in its place is refused
-pub record IsUpdateUndone (root : List ℕ) (usr verbose : Bool) (refusal : Refusal) (old new : Contents) (left_before left : Outcomes) (err_before err_then : Option (List ℕ)) : Type 0 where
+-- these text files of both folders were read, and compiling them or putting their database in its place is refused
+pub record IsUpdateUndone (root : List ℕ) (usr verbose : Bool) (files : Contents) (refusal : Refusal) (old new : Contents) (left_before left : Outcomes) (err_before err_then : Option (List ℕ)) : Type 0 where
   pub of_etc : List Source
   pub of_usr : List Source
-  pub in_etc : AreFilesIn (etc_files root) old of_etc
-  pub in_usr : AreFilesIn (usr_files root) old of_usr
+  pub in_etc : AreFilesIn (etc_files root) files of_etc
+  pub in_usr : AreFilesIn (usr_files root) files of_usr
   pub refused : IsUncompiled of_etc of_usr (listing verbose of_usr) refusal old new left_before left err_before err_then
       ⊎ IsUnwritten root usr of_etc of_usr (listing verbose of_usr) refusal old new left_before left err_before err_then
 
--- `update` is refused
-abbrev pub IsUpdateRefused : (root : List ℕ) (usr verbose : Bool) → Refusal → (old new : Contents) (left_before left : Outcomes) (err_before err_then : Option (List ℕ)) → Type 0
-IsUpdateRefused root usr verbose refusal old new left_before left err_before err_then =
-    (AreUnread root old refusal × AreKept old new left_before left × (err_then ≡ err_before))
-    ⊎ IsUpdateUndone root usr verbose refusal old new left_before left err_before err_then
+-- an update of files that were read is refused: memory, or one of these
+abbrev pub IsSelectedRefused : (root : List ℕ) (usr verbose : Bool) (files : Contents) → Refusal → (old new : Contents) (left_before left : Outcomes) (err_before err_then : Option (List ℕ)) → Type 0
+IsSelectedRefused root usr verbose files refusal old new left_before left err_before err_then =
+    ((refusal ≡ Plain Memory) × AreKept old new left_before left × (err_then ≡ err_before))
+    ⊎ IsUpdateUndone root usr verbose files refusal old new left_before left err_before err_then
+
+-- saying lines was refused: memory, or standard error, which took a prefix
+abbrev pub IsUntold : (text : List ℕ) → Refusal → (err_before err_then : Option (List ℕ)) → Type 0
+IsUntold text refusal err_before err_then =
+    ((refusal ≡ Plain Memory) × (err_then ≡ err_before)) ⊎ ((refusal ≡ Plain Write) × AppendsPrefix err_before err_then text)

@@ -5,10 +5,10 @@ ghost use Rattle.hwdb_spec.specs.Failures.{HasFailed};
 ghost use Rattle.hwdb_spec.specs.Hiding.{hiding_line, hiding_text};
 ghost use Rattle.hwdb_spec.specs.Store as spec;
 ghost use Rattle.hwdb_spec.specs.System as Folder;
-ghost use Rattle.hwdb_tasks.specs.Done.{OldOrUpdated};
-ghost use Rattle.hwdb_tasks.specs.Hiding.{IsTellingUpdateRefused, IsUntold, IsUpdatedTelling};
+ghost use Rattle.hwdb_tasks.specs.Hiding.{IsTellingUpdateRefused, IsUpdatedTelling};
+ghost use Rattle.hwdb_tasks.specs.Readable.{OldOrUpdatedLess};
 ghost use Rattle.hwdb_system.specs.Refusals.{HasReason};
-ghost use Rattle.hwdb_tasks.specs.Undone.{IsUnwritable, database_path};
+ghost use Rattle.hwdb_tasks.specs.Undone.{IsUntold, IsUnwritable, database_path};
 ghost use Rattle.hwdb_system.specs.declared.refusals.Refusal.TheVariants.{Plain};
 
 use crate::databases::database_folder;
@@ -95,20 +95,23 @@ pub fn update_telling<D: System, E: Sink>(
     usr: bool,
     strict: bool,
     verbose: bool,
+    skip: bool,
     system: &mut D,
     err: &mut E,
 ) -> Result<u8, Refusal>
     ensures status { IfOk result (λ status. status ≤ 1) }
     ensures any_moment { D.Store.tells
         → spec.LeavesOnly D.Store.moment D.Store.left_since system.old system.new
-        (OldOrUpdated root.now usr (D.Store.seen system.old) (D.Store.may_leave system.old)) }
+        (OldOrUpdatedLess (D.System.may_fail system.old) root.now usr skip
+        (D.Store.seen system.old) (D.Store.may_leave system.old)) }
     ensures updated { D.Store.tells → IfOk result
-        (λ status. IsUpdatedTelling root.now usr verbose strict status (D.Store.seen system.old)
+        (λ status. IsUpdatedTelling (D.System.may_fail system.old)
+        root.now usr verbose strict skip status (D.Store.seen system.old)
         (E.taken err.old) (E.taken err.new)
         (λ database. spec.InPlace (Folder.database_folder usr root.now) database
         (D.Store.seen system.old) (D.Store.seen system.new) (D.Store.may_leave system.new))) }
     ensures refused { D.Store.tells → IfErr result
-        (λ r. IsTellingUpdateRefused root.now usr verbose r
+        (λ r. IsTellingUpdateRefused (D.System.may_fail system.old) root.now usr verbose skip r
         (D.Store.seen system.old) (D.Store.seen system.new)
         (D.Store.may_leave system.old) (D.Store.may_leave system.new)
         (E.taken err.old) (E.taken err.new)) }
@@ -121,5 +124,5 @@ pub fn update_telling<D: System, E: Sink>(
         → HasFailed (E.failures err.old) (E.failures err.new)) }
 {
     tell_hiding(alloc, root, usr, verbose, system, err)?;
-    update(alloc, root, usr, strict, verbose, system, err)
+    update(alloc, root, usr, strict, verbose, skip, system, err)
 }

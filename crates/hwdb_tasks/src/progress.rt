@@ -8,29 +8,18 @@ ghost use Rattle.hwdb_spec.specs.Tree.{Map};
 ghost use Rattle.hwdb_spec.specs.Written.{IsDatabaseOf};
 ghost use Rattle.hwdb_text.specs.Views.{choice_of};
 ghost use Rattle.hwdb_compile.specs.Views.{ForFolders, choice_in};
-ghost use Rattle.hwdb_tasks.specs.Internal.{IsCompiledOf, IsNameSet};
+ghost use Rattle.hwdb_system.specs.Internal.{IsNameSet};
+ghost use Rattle.hwdb_tasks.specs.Internal.{IsCompiledOf};
 
 use hwdb_compile::{ChosenFile, Compiled};
 use hwdb_inspect::{assignments, members_are_the_map};
 use hwdb_lint::push_count;
 use hwdb_reader::{check, law_ascending, law_one_tree};
+use hwdb_system::name_set;
 use hwdb_text::Chosen;
 use itoa::Buffer;
 use std::alloc::{AllocError, Global};
 use std::collections::BTreeSet;
-
-/// Some names as a set.
-///
-/// The only error, here and below, is that memory is refused.
-fn name_set<'a>(alloc: Global, names: &'a [String]) -> Result<BTreeSet<&'a str>, AllocError>
-    ensures { IfOk result (IsNameSet (map string_bytes names.now)) }
-{
-    let mut set = BTreeSet::new(alloc);
-    for name in names {
-        set.insert(name.as_str())?;
-    }
-    Ok(set)
-}
 
 /// Whether a chosen file masks one of /usr/lib, whose names are in the set.
 fn masks(file: &Chosen, set: &BTreeSet<&str>) -> bool

@@ -1,18 +1,23 @@
 //! `update`: the text files of both folders, compiled into the database of one.
-ghost use Rattle.std.specs.Prelude.{◌≡◌, ◌≢◌, ◌≤◌, map, option_map, string_bytes, All, IfOk, IfErr, IsErrOf};
+ghost use Rattle.std.specs.Prelude.{◌≡◌, ◌≢◌, ◌≤◌, ℕ, List, length, map, option_map, string_bytes, All, IfOk, IfErr, IsErrOf, OnOk};
+ghost use Rattle.std.specs.Io.KnownBytes.{Appends};
 ghost use Rattle.hwdb_spec.specs.Progress.{given_where, update_text};
 ghost use Rattle.hwdb_spec.specs.Store as spec;
 ghost use Rattle.hwdb_spec.specs.System as Folder;
 ghost use Rattle.hwdb_spec.specs.Failures.{HasFailed, OneFailed};
 ghost use Rattle.hwdb_spec.specs.Texts.{max_file};
-ghost use Rattle.hwdb_text.specs.Views.{IsStorableChoice};
+ghost use Rattle.hwdb_spec.specs.Folders.{Choice};
+ghost use Rattle.hwdb_text.specs.Views.{IsStorableChoice, choice_of};
 ghost use Rattle.hwdb_compile.specs.Views.{ForFolders, choice_in};
 ghost use Rattle.hwdb_store.specs.Views.{failures_after};
 ghost use Rattle.hwdb_transfer.specs.Devices.{AppendsPrefix};
 ghost use Rattle.hwdb_commands.specs.Updates.{IsUpdateRefusal, OldOrWritten, OnUnreplaced, UpdateUndone, Updated};
 ghost use Rattle.hwdb_tasks.specs.Done.{IsUpdated, OldOrUpdated};
+ghost use Rattle.hwdb_system.specs.LeftOut.{AreTold};
 ghost use Rattle.hwdb_system.specs.Refusals.{HasReason};
-ghost use Rattle.hwdb_tasks.specs.Undone.{IsUnwritable, IsUpdateRefused};
+ghost use Rattle.hwdb_tasks.specs.Internal.{IsOfSelection};
+ghost use Rattle.hwdb_tasks.specs.Readable.{IsUpdateRefused, IsUpdatedLess, OldOrUpdatedLess, status_less};
+ghost use Rattle.hwdb_tasks.specs.Undone.{IsSelectedRefused, IsUnwritable};
 ghost use Rattle.hwdb_system.specs.declared.refusals.Refusal.TheVariants.{Plain};
 
 use crate::databases::database_folder;
@@ -21,8 +26,8 @@ use hwdb_commands::put_in_place;
 use hwdb_compile::{ChosenFile, compile_chosen};
 use hwdb_devices::Sink;
 use hwdb_store::{DATABASE, Store, Unreplaced};
-use hwdb_system::{Refusal, System, path_in, selected, with_texts};
-use hwdb_transfer::{MAX_BYTES, ToolError};
+use hwdb_system::{Refusal, Selection, System, path_in, selected_readable, with_texts};
+use hwdb_transfer::{MAX_BYTES, ToolError, write_text};
 use std::alloc::Global;
 
 /// Compiles chosen files, says of them what is to be said, and puts their database in its place in a folder of the
@@ -85,30 +90,33 @@ fn listing(verbose: bool, listed: &[String]) -> Option<&[String]>
     if verbose { Some(listed) } else { None }
 }
 
-/// Compiles the text files of both folders into the database of one, which takes the old one's place once it
-/// is whole on the disk. Their fault lines go to `err`, and before these, where `verbose`, which files they are, which of
-/// them mask others, and how much they assign. Returns the status: 1 where `strict` and there is a fault, else 0. After a
-/// refusal the old database stands as it was, and no new file.
-pub fn update<D: System, E: Sink>(
+/// Compiles chosen text files of both folders into the database of one, which takes the old one's place once it is whole
+/// on the disk. Their fault lines go to `err`, and before these, where `verbose`, which files they are, which of them mask
+/// others, and how much they assign. Returns the status: 1 where `strict` and there is a fault, else 0. After a refusal the
+/// old database stands as it was, and no new file.
+fn update_selected<D: System, E: Sink>(
     alloc: Global,
     root: &str,
+    selection: &Selection,
     usr: bool,
     strict: bool,
     verbose: bool,
     system: &mut D,
     err: &mut E,
 ) -> Result<u8, Refusal>
+    requires whole { length selection.now.texts.items ≡ length selection.now.chosen.items }
+    requires storable { All IsStorableChoice (map choice_of selection.now.chosen.items) }
     ensures status { IfOk result (λ status. status ≤ 1) }
-    ensures any_moment { D.Store.tells
-        → spec.LeavesOnly D.Store.moment D.Store.left_since system.old system.new
-        (OldOrUpdated root.now usr (D.Store.seen system.old) (D.Store.may_leave system.old)) }
-    ensures updated { D.Store.tells → IfOk result
-        (λ status. IsUpdated root.now verbose strict status (D.Store.seen system.old)
+    ensures any_moment { (files : spec.Contents) → IsOfSelection root.now files selection.now
+        → D.Store.tells → spec.LeavesOnly D.Store.moment D.Store.left_since system.old system.new
+        (OldOrUpdated root.now usr files (D.Store.seen system.old) (D.Store.may_leave system.old)) }
+    ensures updated { (files : spec.Contents) → IsOfSelection root.now files selection.now
+        → D.Store.tells → IfOk result (λ status. IsUpdated root.now verbose strict status files
         (E.taken err.old) (E.taken err.new)
         (λ database. spec.InPlace (Folder.database_folder usr root.now) database
         (D.Store.seen system.old) (D.Store.seen system.new) (D.Store.may_leave system.new))) }
-    ensures refused { D.Store.tells → IfErr result
-        (λ r. IsUpdateRefused root.now usr verbose r
+    ensures refused { (files : spec.Contents) → IsOfSelection root.now files selection.now
+        → D.Store.tells → IfErr result (λ r. IsSelectedRefused root.now usr verbose files r
         (D.Store.seen system.old) (D.Store.seen system.new)
         (D.Store.may_leave system.old) (D.Store.may_leave system.new)
         (E.taken err.old) (E.taken err.new)) }
@@ -120,7 +128,6 @@ pub fn update<D: System, E: Sink>(
     ensures cause { IfErr result (λ r. r ≡ Plain ToolError.Write
         → HasFailed (E.failures err.old) (E.failures err.new)) }
 {
-    let selection = selected(alloc, root, system)?;
     let files = with_texts(alloc, &selection.chosen, &selection.texts)?;
     let folder = database_folder(alloc, root, usr)?;
     let path = path_in(alloc, folder.as_str(), DATABASE)?.into_bytes();
@@ -136,4 +143,70 @@ pub fn update<D: System, E: Sink>(
         Ok(status) => Ok(status),
         Err(error) => Err(Refusal::of_update(error, path, system.cause())),
     }
+}
+
+/// The status where this was said of files that are left out, if it would be this one for the others alone.
+fn status_less(strict: bool, said: &[u8], status: u8) -> u8
+    ensures is { (root : List ℕ) (left_out : List Choice) → AreTold root left_out said.now
+        → result ≡ status_less strict left_out status }
+    ensures small { status ≤ 1 → result ≤ 1 }
+{
+    if said.is_empty() {
+        return status;
+    }
+    if strict { 1 } else { status }
+}
+
+/// Says lines.
+fn say<E: Sink>(text: &[u8], err: &mut E) -> Result<(), Refusal>
+    ensures told { OnOk result (Appends (E.taken err.old) (E.taken err.new) text.now) }
+    ensures refused { IfErr result (λ r. (r ≡ Plain ToolError.Write)
+        × AppendsPrefix (E.taken err.old) (E.taken err.new) text.now) }
+    ensures unfailed { OnOk result (E.failures err.new ≡ E.failures err.old) }
+    ensures cause { IfErr result (λ _. HasFailed (E.failures err.old) (E.failures err.new)) }
+{
+    write_text(err, text)?;
+    Ok(())
+}
+
+/// Compiles the text files of both folders into the database of one, as `update_selected` does. Where `skip`, a chosen one
+/// that can't be read is left out: its line goes to `err` first, and where `strict` the status is 1.
+pub fn update<D: System, E: Sink>(
+    alloc: Global,
+    root: &str,
+    usr: bool,
+    strict: bool,
+    verbose: bool,
+    skip: bool,
+    system: &mut D,
+    err: &mut E,
+) -> Result<u8, Refusal>
+    ensures status { IfOk result (λ status. status ≤ 1) }
+    ensures any_moment { D.Store.tells
+        → spec.LeavesOnly D.Store.moment D.Store.left_since system.old system.new
+        (OldOrUpdatedLess (D.System.may_fail system.old) root.now usr skip
+        (D.Store.seen system.old) (D.Store.may_leave system.old)) }
+    ensures updated { D.Store.tells → IfOk result
+        (λ status. IsUpdatedLess (D.System.may_fail system.old) root.now verbose strict skip status
+        (D.Store.seen system.old) (E.taken err.old) (E.taken err.new)
+        (λ database. spec.InPlace (Folder.database_folder usr root.now) database
+        (D.Store.seen system.old) (D.Store.seen system.new) (D.Store.may_leave system.new))) }
+    ensures refused { D.Store.tells → IfErr result
+        (λ r. IsUpdateRefused (D.System.may_fail system.old) root.now usr verbose skip r
+        (D.Store.seen system.old) (D.Store.seen system.new)
+        (D.Store.may_leave system.old) (D.Store.may_leave system.new)
+        (E.taken err.old) (E.taken err.new)) }
+    ensures reason { D.Store.tells → IfErr result (HasReason (D.System.may_fail system.old)
+        (IsUnwritable (Folder.database_folder usr root.now) (D.Store.seen system.old)
+        (D.Store.failures system.old) (D.Store.failures system.new)) (D.Store.seen system.old)) }
+    ensures unfailed { IfErr result (λ r. r ≢ Plain ToolError.Write
+        → E.failures err.new ≡ E.failures err.old) }
+    ensures cause { IfErr result (λ r. r ≡ Plain ToolError.Write
+        → HasFailed (E.failures err.old) (E.failures err.new)) }
+{
+    let readable = selected_readable(alloc, root, skip, system)?;
+    say(&readable.said, err)?;
+    let selection = &readable.selection;
+    let status = update_selected(alloc, root, selection, usr, strict, verbose, system, err)?;
+    Ok(status_less(strict, &readable.said, status))
 }

@@ -8,12 +8,17 @@ use Rattle.hwdb_tasks.specs.Undone.{AreKept}
 use Rattle.hwdb_tool.specs.TaskRefusals.{IsTaskRefused}
 use Rattle.hwdb_transfer.specs.declared.errors.ToolError.TheVariants.{Write}
 
-module _ (root : List ℕ) (usr : Bool) (input : Option (List ℕ)) (old new : Contents) (left_before left : Outcomes) (err_before err_then out_before out_now : Option (List ℕ)) where
+module _ (MayFail : List ℕ → Type 0) (root : List ℕ) (usr : Bool) (input : Option (List ℕ)) (old new : Contents) (left_before left : Outcomes) (err_before err_then out_before out_now : Option (List ℕ)) where
   abbrev Refused : Task → Type 0
-  Refused task = IsTaskRefused task root usr input (Plain Write) old new left_before left err_before err_then out_before out_now
+  Refused task = IsTaskRefused task MayFail root usr input (Plain Write) old new left_before left err_before err_then out_before out_now
 
   pub cut_keeps : (task : Task) → Refused task → AreKept old new left_before left
-  cut_keeps (Update verbose) r = ⊎_elim (λ untold. untold.1) (λ told. ⊎_elim (λ unread. unread.1) (λ undone. ⊎_elim (λ uncompiled. uncompiled.kept) (λ unwritten. absurd unwritten.is) undone.refused) told.refused) r.0
+  cut_keeps (Update verbose skip) r =
+      ⊎_elim (λ untold. untold.1)
+      (λ told. ⊎_elim (λ unread. unread.1)
+      (λ less. ⊎_elim (λ unsaid. unsaid.1)
+      (λ said. ⊎_elim (λ memory. memory.1)
+      (λ undone. ⊎_elim (λ uncompiled. uncompiled.kept) (λ unwritten. absurd unwritten.is) undone.refused) said.2) less.refused) told.refused) r.0
   cut_keeps (Query devices json) r = r.2
   cut_keeps (Explain device json) r = r.2
   cut_keeps (ListHits after limit device json) r = r.2

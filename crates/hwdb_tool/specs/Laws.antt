@@ -22,10 +22,11 @@ pub record PrintsLast (root : List ℕ) (contents : Contents) (device : List ℕ
   pub are_last : AreLast device None (all_assignments of_etc of_usr) last
   pub printed : Appends out_before out_now (properties_text (effective_of last))
 
--- a query of a device, where the database of an update stands in its place in /etc
+-- A query of a device, where the database of an update stands in its place in /etc: it prints what the files assign last that the
+-- update read.
 abbrev pub UpdateThenQuery : Type 0
 UpdateThenQuery =
-    (root : List ℕ) (verbose strict : Bool) (status : ℕ) (device : List ℕ) (old new : Contents) (err_before err_now out_before out_now : Option (List ℕ))
-    → IsUpdated root verbose strict status old err_before err_now (λ database. new (path_in (database_folder false root) database_name) ≡ Some (database_file database))
+    (root : List ℕ) (verbose strict : Bool) (status : ℕ) (device : List ℕ) (files new : Contents) (err_before err_now out_before out_now : Option (List ℕ))
+    → IsUpdated root verbose strict status files err_before err_now (λ database. new (path_in (database_folder false root) database_name) ≡ Some (database_file database))
     → IsAnswered root (IsTextOf (queries_text (device ∷ []))) new out_before out_now
-    → PrintsLast root old device out_before out_now
+    → PrintsLast root files device out_before out_now

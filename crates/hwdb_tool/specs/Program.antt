@@ -17,8 +17,9 @@ use Rattle.hwdb_tasks.specs.CheckedFiles.{AreCheckedFiles, IsChecked}
 use Rattle.hwdb_tasks.specs.ComparedDatabases.{IsCompared}
 use Rattle.hwdb_tasks.specs.NamedDatabases.{IsDumped, IsPrinted, IsSummary}
 use Rattle.hwdb_tasks.specs.Queries.{AreAnswered, any_dash, is_input}
-use Rattle.hwdb_tasks.specs.Done.{IsAnswered, IsAsked, IsLeftByUpdate, IsListFrom}
+use Rattle.hwdb_tasks.specs.Done.{IsAnswered, IsAsked, IsListFrom}
 use Rattle.hwdb_tasks.specs.Hiding.{IsUpdatedTelling}
+use Rattle.hwdb_tasks.specs.Readable.{IsLeftByUpdateLess}
 
 -- the root in front of each path; nothing where none was given
 abbrev pub root_of : Job → List ℕ
@@ -38,37 +39,37 @@ abbrev pub IsQuiet : (status : ℕ) (old new : Contents) (err_before err_now : O
 IsQuiet status old new err_before err_now = (status ≡ 0) × Same old new × (err_now ≡ err_before)
 
 -- what a task leaves that is done
-abbrev pub IsTaskDone : Task → (root : List ℕ) (usr strict : Bool) (status : ℕ) (input : Option (List ℕ)) (old new : Contents) (left : Outcomes) (err_before err_now out_before out_now : Option (List ℕ)) → Type 0
-IsTaskDone (Update verbose) root usr strict status input old new left err_before err_now out_before out_now =
-    IsUpdatedTelling root usr verbose strict status old err_before err_now (λ database. InPlace (database_folder usr root) database old new left)
+abbrev pub IsTaskDone : Task → (MayFail : (path : List ℕ) → Type 0) (root : List ℕ) (usr strict : Bool) (status : ℕ) (input : Option (List ℕ)) (old new : Contents) (left : Outcomes) (err_before err_now out_before out_now : Option (List ℕ)) → Type 0
+IsTaskDone (Update verbose skip) MayFail root usr strict status input old new left err_before err_now out_before out_now =
+    IsUpdatedTelling MayFail root usr verbose strict skip status old err_before err_now (λ database. InPlace (database_folder usr root) database old new left)
     × (out_now ≡ out_before)
-IsTaskDone (Query devices json) root usr strict status input old new left err_before err_now out_before out_now =
+IsTaskDone (Query devices json) MayFail root usr strict status input old new left err_before err_now out_before out_now =
     AreAnswered root (form.Query json) (map string_bytes devices.items) input old out_before out_now × IsQuiet status old new err_before err_now
-IsTaskDone (Explain device json) root usr strict status input old new left err_before err_now out_before out_now =
+IsTaskDone (Explain device json) MayFail root usr strict status input old new left err_before err_now out_before out_now =
     AreAnswered root (form.Explain json) (string_bytes device ∷ []) input old out_before out_now × IsQuiet status old new err_before err_now
-IsTaskDone (ListHits after limit device json) root usr strict status input old new left err_before err_now out_before out_now =
+IsTaskDone (ListHits after limit device json) MayFail root usr strict status input old new left err_before err_now out_before out_now =
     IsAnswered root (IsListFrom json (string_bytes device) (option_map string_bytes after) limit) old out_before out_now × IsQuiet status old new err_before err_now
-IsTaskDone (Ask file device) root usr strict status input old new left err_before err_now out_before out_now =
+IsTaskDone (Ask file device) MayFail root usr strict status input old new left err_before err_now out_before out_now =
     IsAsked (string_bytes file) (string_bytes device) input old err_before err_now out_before out_now × (status ≡ 0) × Same old new
-IsTaskDone (Check files) root usr strict status input old new left err_before err_now out_before out_now =
+IsTaskDone (Check files) MayFail root usr strict status input old new left err_before err_now out_before out_now =
     IsChecked (AreCheckedFiles (map string_bytes files.items) root input old) strict status out_before out_now × Same old new × (err_now ≡ err_before)
-IsTaskDone (Diff old_path new_path) root usr strict status input old new left err_before err_now out_before out_now =
+IsTaskDone (Diff old_path new_path) MayFail root usr strict status input old new left err_before err_now out_before out_now =
     IsCompared (string_bytes old_path) (string_bytes new_path) status old out_before out_now × Same old new × (err_now ≡ err_before)
-IsTaskDone (Verify database) root usr strict status input old new left err_before err_now out_before out_now =
+IsTaskDone (Verify database) MayFail root usr strict status input old new left err_before err_now out_before out_now =
     IsPrinted (option_map string_bytes database) root IsSummary old out_before out_now × IsQuiet status old new err_before err_now
-IsTaskDone (Dump database) root usr strict status input old new left err_before err_now out_before out_now =
+IsTaskDone (Dump database) MayFail root usr strict status input old new left err_before err_now out_before out_now =
     IsDumped (option_map string_bytes database) root old out_before out_now × IsQuiet status old new err_before err_now
 
 -- what a job leaves that is done
-abbrev pub IsDone : Job → (status : ℕ) (input : Option (List ℕ)) (old new : Contents) (left : Outcomes) (err_before err_now out_before out_now : Option (List ℕ)) → Type 0
-IsDone job = IsTaskDone job.task (root_of job) job.usr job.strict
+abbrev pub IsDone : Job → (MayFail : (path : List ℕ) → Type 0) (status : ℕ) (input : Option (List ℕ)) (old new : Contents) (left : Outcomes) (err_before err_now out_before out_now : Option (List ℕ)) → Type 0
+IsDone job MayFail = IsTaskDone job.task MayFail (root_of job) job.usr job.strict
 
 -- the words ask for a job, and it is done
-pub record IsJobDone (words : List (List ℕ)) (status : ℕ) (input : Option (List ℕ)) (old new : Contents) (left : Outcomes) (err_before err_now out_before out_now : Option (List ℕ)) : Type 0 where
+pub record IsJobDone (MayFail : (path : List ℕ) → Type 0) (words : List (List ℕ)) (status : ℕ) (input : Option (List ℕ)) (old new : Contents) (left : Outcomes) (err_before err_now out_before out_now : Option (List ℕ)) : Type 0 where
   pub job : Job
   pub asked : AskFor words job
   pub faultless : fault_of hwdb_app words ≡ []
-  pub done : IsDone job status input old new left err_before err_now out_before out_now
+  pub done : IsDone job MayFail status input old new left err_before err_now out_before out_now
 
 -- the words ask for help or the version, a text that standard output took; nothing else changed
 pub record IsTold (words : List (List ℕ)) (old new : Contents) (err_before err_now out_before out_now : Option (List ℕ)) : Type 0 where
@@ -89,12 +90,18 @@ reads_input _ = false
 
 -- the task is an update
 abbrev pub IsUpdate : Task → Type 0
-IsUpdate task = (verbose : Bool) × (task ≡ Update verbose)
+IsUpdate task = (verbose skip : Bool) × (task ≡ Update verbose skip)
+
+-- it leaves out what can't be read
+abbrev pub skips : Task → Bool
+skips (Update verbose skip) = skip
+skips _ = false
 
 -- during a job: only an update leaves anything new
-abbrev pub OldOrDone : Job → (old : Contents) (outcomes : Outcomes) → Outcomes
-OldOrDone job old outcomes p v = outcomes p v ⊎ (IsUpdate job.task × IsLeftByUpdate (root_of job) job.usr old p v)
+abbrev pub OldOrDone : (MayFail : (path : List ℕ) → Type 0) → Job → (old : Contents) (outcomes : Outcomes) → Outcomes
+OldOrDone MayFail job old outcomes p v = outcomes p v ⊎ (IsUpdate job.task × IsLeftByUpdateLess MayFail (root_of job) job.usr (skips job.task) old p v)
 
 -- during a run of the program with these words
-abbrev pub OldOrAskedFor : (words : List (List ℕ)) (old : Contents) (outcomes : Outcomes) → Outcomes
-OldOrAskedFor words old outcomes p v = outcomes p v ⊎ ((job : Job) × AskFor words job × (fault_of hwdb_app words ≡ []) × OldOrDone job old outcomes p v)
+abbrev pub OldOrAskedFor : (MayFail : (path : List ℕ) → Type 0) (words : List (List ℕ)) (old : Contents) (outcomes : Outcomes) → Outcomes
+OldOrAskedFor MayFail words old outcomes p v =
+    outcomes p v ⊎ ((job : Job) × AskFor words job × (fault_of hwdb_app words ≡ []) × OldOrDone MayFail job old outcomes p v)

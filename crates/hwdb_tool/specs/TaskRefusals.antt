@@ -31,28 +31,28 @@ pub record Taken : Type 0 where
   pub failures : ℕ
 
 -- a task is refused
-abbrev pub IsTaskRefused : Task → (root : List ℕ) (usr : Bool) (input : Option (List ℕ)) → Refusal → (old new : Contents) (left_before left : Outcomes) (err_before err_then out_before out_now : Option (List ℕ)) → Type 0
-IsTaskRefused (Update verbose) root usr input refusal old new left_before left err_before err_then out_before out_now =
-    IsTellingUpdateRefused root usr verbose refusal old new left_before left err_before err_then × (out_now ≡ out_before)
-IsTaskRefused (Query devices json) root usr input refusal old new left_before left err_before err_then out_before out_now =
+abbrev pub IsTaskRefused : Task → (MayFail : (path : List ℕ) → Type 0) (root : List ℕ) (usr : Bool) (input : Option (List ℕ)) → Refusal → (old new : Contents) (left_before left : Outcomes) (err_before err_then out_before out_now : Option (List ℕ)) → Type 0
+IsTaskRefused (Update verbose skip) MayFail root usr input refusal old new left_before left err_before err_then out_before out_now =
+    IsTellingUpdateRefused MayFail root usr verbose skip refusal old new left_before left err_before err_then × (out_now ≡ out_before)
+IsTaskRefused (Query devices json) MayFail root usr input refusal old new left_before left err_before err_then out_before out_now =
     AreUnanswered root (form.Query json) (map string_bytes devices.items) input old refusal out_before out_now
     × (err_then ≡ err_before) × AreKept old new left_before left
-IsTaskRefused (Explain device json) root usr input refusal old new left_before left err_before err_then out_before out_now =
+IsTaskRefused (Explain device json) MayFail root usr input refusal old new left_before left err_before err_then out_before out_now =
     AreUnanswered root (form.Explain json) (string_bytes device ∷ []) input old refusal out_before out_now
     × (err_then ≡ err_before) × AreKept old new left_before left
-IsTaskRefused (ListHits after limit device json) root usr input refusal old new left_before left err_before err_then out_before out_now =
+IsTaskRefused (ListHits after limit device json) MayFail root usr input refusal old new left_before left err_before err_then out_before out_now =
     IsAnswerRefused root (IsListRefusedBy (option_map string_bytes after)) (IsListFrom json (string_bytes device) (option_map string_bytes after) limit) old refusal out_before out_now
     × (err_then ≡ err_before) × AreKept old new left_before left
-IsTaskRefused (Ask file device) root usr input refusal old new left_before left err_before err_then out_before out_now =
+IsTaskRefused (Ask file device) MayFail root usr input refusal old new left_before left err_before err_then out_before out_now =
     IsAskRefused (string_bytes file) (string_bytes device) input old refusal err_before err_then out_before out_now × AreKept old new left_before left
-IsTaskRefused (Check files) root usr input refusal old new left_before left err_before err_then out_before out_now =
+IsTaskRefused (Check files) MayFail root usr input refusal old new left_before left err_before err_then out_before out_now =
     IsCheckRefused (AreUncheckable (map string_bytes files.items) root old) (AreCheckedFiles (map string_bytes files.items) root input old) refusal out_before out_now
     × (err_then ≡ err_before) × AreKept old new left_before left
-IsTaskRefused (Diff old_path new_path) root usr input refusal old new left_before left err_before err_then out_before out_now =
+IsTaskRefused (Diff old_path new_path) MayFail root usr input refusal old new left_before left err_before err_then out_before out_now =
     IsDiffRefused (string_bytes old_path) (string_bytes new_path) old refusal out_before out_now × (err_then ≡ err_before) × AreKept old new left_before left
-IsTaskRefused (Verify database) root usr input refusal old new left_before left err_before err_then out_before out_now =
+IsTaskRefused (Verify database) MayFail root usr input refusal old new left_before left err_before err_then out_before out_now =
     IsVerifyRefused (option_map string_bytes database) root old refusal out_before out_now × (err_then ≡ err_before) × AreKept old new left_before left
-IsTaskRefused (Dump database) root usr input refusal old new left_before left err_before err_then out_before out_now =
+IsTaskRefused (Dump database) MayFail root usr input refusal old new left_before left err_before err_then out_before out_now =
     IsDumpRefused (option_map string_bytes database) root old refusal out_before out_now × (err_then ≡ err_before) × AreKept old new left_before left
 
 -- a path that the task asks for can't be read: reading it may fail, or it is one that the words name, and nothing stands there
@@ -94,12 +94,12 @@ pub record IsSaid (refusal : Refusal) (before now : Taken) : Type 0 where
 
 -- The words ask for a job, and it is refused with this status, for its reason. Standard error had failed by then only where
 -- the refusal is that it did.
-pub record IsJobRefused (IsReason : Job → Refusal → Type 0) (words : List (List ℕ)) (status : ℕ) (input : Option (List ℕ)) (old new : Contents) (left_before left : Outcomes) (err_before err_now : Taken) (out_before out_now : Option (List ℕ)) : Type 0 where
+pub record IsJobRefused (MayFail : (path : List ℕ) → Type 0) (IsReason : Job → Refusal → Type 0) (words : List (List ℕ)) (status : ℕ) (input : Option (List ℕ)) (old new : Contents) (left_before left : Outcomes) (err_before err_now : Taken) (out_before out_now : Option (List ℕ)) : Type 0 where
   pub job : Job
   pub asked : AskFor words job
   pub refusal : Refusal
   pub err_then : Taken
-  pub refused : IsTaskRefused job.task (root_of job) job.usr input refusal old new left_before left err_before.bytes err_then.bytes out_before out_now
+  pub refused : IsTaskRefused job.task MayFail (root_of job) job.usr input refusal old new left_before left err_before.bytes err_then.bytes out_before out_now
   pub reason : IsReason job refusal
   pub unfailed : refusal ≢ Plain Write → err_then.failures ≡ err_before.failures
   pub said : IsSaid refusal err_then err_now
@@ -140,10 +140,10 @@ pub record IsRootRefused (MayFail : (path : List ℕ) → Type 0) (words : List 
 
 -- The words ask for a job, and while it wrote to standard output the reader of that went away: nothing is said of it, the files
 -- are as they were, and standard output took what it does where it can't be written.
-pub record IsCutShort (gone_before gone : Type 0) (words : List (List ℕ)) (input : Option (List ℕ)) (old new : Contents) (left_before left : Outcomes) (err_before err_now out_before out_now : Option (List ℕ)) : Type 0 where
+pub record IsCutShort (MayFail : (path : List ℕ) → Type 0) (gone_before gone : Type 0) (words : List (List ℕ)) (input : Option (List ℕ)) (old new : Contents) (left_before left : Outcomes) (err_before err_now out_before out_now : Option (List ℕ)) : Type 0 where
   pub job : Job
   pub asked : AskFor words job
-  pub refused : IsTaskRefused job.task (root_of job) job.usr input (Plain Write) old new left_before left err_before err_now out_before out_now
+  pub refused : IsTaskRefused job.task MayFail (root_of job) job.usr input (Plain Write) old new left_before left err_before err_now out_before out_now
   pub files : AreKept old new left_before left
   pub reader : gone
   -- an update writes nothing there

@@ -34,17 +34,19 @@ pub fn program<D: Rooted, I: Source, O: Outlet, E: Sink>(
     ensures wrong_words { AreWrong (map string_bytes words.now) → result ≡ 1 }
     ensures any_moment { D.Store.tells
         → spec.LeavesOnly D.Store.moment D.Store.left_since system.old system.new
-        (OldOrAskedFor (map string_bytes words.now)
+        (OldOrAskedFor (D.System.may_fail system.old) (map string_bytes words.now)
         (D.Store.seen system.old) (D.Store.may_leave system.old)) }
     ensures unread { ((job : Job) → AskFor (map string_bytes words.now) job
         → reads_input job.task ≡ false) → input.new ≡ input.old }
-    ensures done { D.Store.tells → result ≡ 0 → IsJobDone (map string_bytes words.now) 0
+    ensures done { D.Store.tells → result ≡ 0 → IsJobDone (D.System.may_fail system.old)
+        (map string_bytes words.now) 0
         (I.left input.old) (D.Store.seen system.old) (D.Store.seen system.new)
         (D.Store.may_leave system.new)
         (E.taken err.old) (E.taken err.new) (O.Sink.taken out.old) (O.Sink.taken out.new)
         ⊎ (IsTold (map string_bytes words.now) (D.Store.seen system.old) (D.Store.seen system.new)
         (E.taken err.old) (E.taken err.new) (O.Sink.taken out.old) (O.Sink.taken out.new)
-        ⊎ (IsCutShort (O.Outlet.reader_gone out.old) (O.Outlet.reader_gone out.new)
+        ⊎ (IsCutShort (D.System.may_fail system.old)
+        (O.Outlet.reader_gone out.old) (O.Outlet.reader_gone out.new)
         (map string_bytes words.now) (I.left input.old)
         (D.Store.seen system.old) (D.Store.seen system.new)
         (D.Store.may_leave system.old) (D.Store.may_leave system.new)
@@ -52,11 +54,13 @@ pub fn program<D: Rooted, I: Source, O: Outlet, E: Sink>(
         ⊎ IsTextCutShort (O.Outlet.reader_gone out.new) (map string_bytes words.now)
         (D.Store.seen system.old) (D.Store.seen system.new)
         (E.taken err.old) (E.taken err.new) (O.Sink.taken out.old) (O.Sink.taken out.new))) }
-    ensures refused { D.Store.tells → 0 < result → IsJobDone (map string_bytes words.now) result
+    ensures refused { D.Store.tells → 0 < result → IsJobDone (D.System.may_fail system.old)
+        (map string_bytes words.now) result
         (I.left input.old) (D.Store.seen system.old) (D.Store.seen system.new)
         (D.Store.may_leave system.new)
         (E.taken err.old) (E.taken err.new) (O.Sink.taken out.old) (O.Sink.taken out.new)
-        ⊎ (IsJobRefused (IsJobReason (D.System.may_fail system.old) (D.Store.seen system.old)
+        ⊎ (IsJobRefused (D.System.may_fail system.old)
+        (IsJobReason (D.System.may_fail system.old) (D.Store.seen system.old)
         (record { before = D.Store.failures system.old; now = D.Store.failures system.new })
         (record { before = I.failures input.old; now = I.failures input.new }))
         (map string_bytes words.now) result (I.left input.old)
@@ -184,15 +188,17 @@ fn run<D: System, I: Source, O: Sink, E: Sink>(
     ensures status { IfOk result (λ status. status ≤ 1) }
     ensures any_moment { D.Store.tells
         → spec.LeavesOnly D.Store.moment D.Store.left_since system.old system.new
-        (OldOrDone job.now (D.Store.seen system.old) (D.Store.may_leave system.old)) }
+        (OldOrDone (D.System.may_fail system.old) job.now
+        (D.Store.seen system.old) (D.Store.may_leave system.old)) }
     ensures unread { reads_input job.now.task ≡ false → input.new ≡ input.old }
     ensures update { IsUpdate job.now.task → out.new ≡ out.old }
-    ensures done { D.Store.tells → IfOk result (λ status. IsDone job.now status
+    ensures done { D.Store.tells → IfOk result (λ status. IsDone job.now
+        (D.System.may_fail system.old) status
         (I.left input.old) (D.Store.seen system.old) (D.Store.seen system.new)
         (D.Store.may_leave system.new)
         (E.taken err.old) (E.taken err.new) (O.taken out.old) (O.taken out.new)) }
     ensures refused { D.Store.tells → IfErr result (λ r. IsTaskRefused job.now.task
-        (root_of job.now) job.now.usr (I.left input.old) r
+        (D.System.may_fail system.old) (root_of job.now) job.now.usr (I.left input.old) r
         (D.Store.seen system.old) (D.Store.seen system.new)
         (D.Store.may_leave system.old) (D.Store.may_leave system.new)
         (E.taken err.old) (E.taken err.new) (O.taken out.old) (O.taken out.new)) }
@@ -209,8 +215,20 @@ fn run<D: System, I: Source, O: Sink, E: Sink>(
 {
     let root = root_of(job);
     match &job.task {
-        Task::Update { verbose } => {
-            return update_telling(alloc, root, job.usr, job.strict, *verbose, system, err);
+        Task::Update {
+            verbose,
+            skip_unreadable,
+        } => {
+            return update_telling(
+                alloc,
+                root,
+                job.usr,
+                job.strict,
+                *verbose,
+                *skip_unreadable,
+                system,
+                err,
+            );
         }
         Task::Query { devices, json } => {
             query(alloc, root, devices, *json, system, input, out)?

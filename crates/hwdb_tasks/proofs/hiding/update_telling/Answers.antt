@@ -13,7 +13,7 @@ returns-in_err-tell_hiding-clause-refused g c = λ tells.
     let seen = g.D.Store.seen c.args.system.now in
     let left = g.D.Store.may_leave c.args.system.now in
     given_error c.in_err-tell_hiding.field-0.0
-    (λ r. IsTellingUpdateRefused c.args.root.now c.args.usr c.args.verbose r seen seen left left (g.E.Sink.taken c.args.err.now) (g.E.Sink.taken c.tell_hiding.new.err))
+    (λ r. IsTellingUpdateRefused (g.D.System.may_fail c.args.system.now) c.args.root.now c.args.usr c.args.verbose c.args.skip r seen seen left left (g.E.Sink.taken c.args.err.now) (g.E.Sink.taken c.tell_hiding.new.err))
     c.from_residual.result c.from_residual.ensures.1
     (inl (c.in_err-tell_hiding.ensures.refused tells, record { same = λ p. refl; no_more = λ p v l. l }))
 
@@ -22,7 +22,7 @@ returns-clause-refused g c = λ tells.
     let seen = g.D.Store.seen c.args.system.now in
     let left = g.D.Store.may_leave c.args.system.now in
     each_error _
-    (λ r. IsTellingUpdateRefused c.args.root.now c.args.usr c.args.verbose r seen (g.D.Store.seen c.update.new.system) left (g.D.Store.may_leave c.update.new.system) (g.E.Sink.taken c.args.err.now) (g.E.Sink.taken c.update.new.err))
+    (λ r. IsTellingUpdateRefused (g.D.System.may_fail c.args.system.now) c.args.root.now c.args.usr c.args.verbose c.args.skip r seen (g.D.Store.seen c.update.new.system) left (g.D.Store.may_leave c.update.new.system) (g.E.Sink.taken c.args.err.now) (g.E.Sink.taken c.update.new.err))
     c.update.result
     (λ r refused. inr record { err_then = g.E.Sink.taken c.tell_hiding.new.err; told = c.in_ok-tell_hiding.ensures.told tells; refused = refused })
     (c.update.ensures.refused tells)
@@ -31,7 +31,7 @@ pub returns-clause-updated : goal.returns-clause-updated
 returns-clause-updated g c = λ tells.
     let seen = g.D.Store.seen c.args.system.now in
     each_value _
-    (λ status. IsUpdatedTelling c.args.root.now c.args.usr c.args.verbose c.args.strict status seen (g.E.Sink.taken c.args.err.now) (g.E.Sink.taken c.update.new.err)
+    (λ status. IsUpdatedTelling (g.D.System.may_fail c.args.system.now) c.args.root.now c.args.usr c.args.verbose c.args.strict c.args.skip status seen (g.E.Sink.taken c.args.err.now) (g.E.Sink.taken c.update.new.err)
     (λ database. spec.InPlace (database_folder c.args.usr c.args.root.now) database seen (g.D.Store.seen c.update.new.system) (g.D.Store.may_leave c.update.new.system)))
     c.update.result
     (λ status updated. record { err_then = g.E.Sink.taken c.tell_hiding.new.err; told = c.in_ok-tell_hiding.ensures.told tells; updated = updated })

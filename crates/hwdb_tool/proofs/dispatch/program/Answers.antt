@@ -20,7 +20,7 @@ returns-in-Ok-enter_root-clause-refused g c = λ tells is.
       asked = c.in-Ok.ensures.job;
       refusal = refusal;
       err_then = record { bytes = g.E.Sink.taken c.run.new.err; failures = g.E.Sink.failures c.run.new.err };
-      refused = subst (λ (s : g.row.D.Denot). IsTaskRefused job.task (root_of job) job.usr (g.I.Source.left c.args.input.now) refusal
+      refused = subst (λ (s : g.row.D.Denot). IsTaskRefused job.task (g.D.System.may_fail s) (root_of job) job.usr (g.I.Source.left c.args.input.now) refusal
           (g.D.Store.seen s) (g.D.Store.seen c.run.new.system) (g.D.Store.may_leave s) (g.D.Store.may_leave c.run.new.system)
           (g.E.Sink.taken c.args.err.now) (g.E.Sink.taken c.run.new.err) (g.O.Sink.taken c.args.out.now) (g.O.Sink.taken c.run.new.out)) (c.enter_root.ensures.same tells) (c.in-Err-run.ensures.refused tells);
       reason = subst (λ (s : g.row.D.Denot). IsJobReason (g.D.System.may_fail s) (g.D.Store.seen s)
@@ -57,19 +57,19 @@ returns-clause-refused g c = λ tells is. inr (inr (inl record {
 pub returns-in-Ok-enter_root-clause-done : goal.returns-in-Ok-enter_root-clause-done
 returns-in-Ok-enter_root-clause-done g c = λ tells is.
     let job = c.in-Ok.job in
-    let plain = subst (λ (r : Refusal). IsTaskRefused job.task (root_of job) job.usr (g.I.Source.left c.args.input.now) r
+    let plain = subst (λ (r : Refusal). IsTaskRefused job.task (g.D.System.may_fail c.enter_root.new.system) (root_of job) job.usr (g.I.Source.left c.args.input.now) r
     (g.D.Store.seen c.enter_root.new.system) (g.D.Store.seen c.run.new.system) (g.D.Store.may_leave c.enter_root.new.system) (g.D.Store.may_leave c.run.new.system)
     (g.E.Sink.taken c.args.err.now) (g.E.Sink.taken c.run.new.err) (g.O.Sink.taken c.args.out.now) (g.O.Sink.taken c.run.new.out)) (c.refuse_job.ensures.said is) (c.in-Err-run.ensures.refused tells) in
-    let same = subst (λ (s : g.row.D.Denot). IsTaskRefused job.task (root_of job) job.usr (g.I.Source.left c.args.input.now) (Plain Write)
+    let same = subst (λ (s : g.row.D.Denot). IsTaskRefused job.task (g.D.System.may_fail s) (root_of job) job.usr (g.I.Source.left c.args.input.now) (Plain Write)
     (g.D.Store.seen s) (g.D.Store.seen c.run.new.system) (g.D.Store.may_leave s) (g.D.Store.may_leave c.run.new.system)
     (g.E.Sink.taken c.args.err.now) (g.E.Sink.taken c.run.new.err) (g.O.Sink.taken c.args.out.now) (g.O.Sink.taken c.run.new.out)) (c.enter_root.ensures.same tells) plain in
     inr (inr (inl record {
       job = job;
       asked = c.in-Ok.ensures.job;
-      refused = subst (λ (e : _). IsTaskRefused job.task (root_of job) job.usr (g.I.Source.left c.args.input.now) (Plain Write)
+      refused = subst (λ (e : _). IsTaskRefused job.task (g.D.System.may_fail c.args.system.now) (root_of job) job.usr (g.I.Source.left c.args.input.now) (Plain Write)
           (g.D.Store.seen c.args.system.now) (g.D.Store.seen c.run.new.system) (g.D.Store.may_leave c.args.system.now) (g.D.Store.may_leave c.run.new.system)
           (g.E.Sink.taken c.args.err.now) (g.E.Sink.taken e) (g.O.Sink.taken c.args.out.now) (g.O.Sink.taken c.run.new.out)) (sym (c.refuse_job.ensures.quiet is)) same;
-      files = cut_keeps _ _ _ _ _ _ _ _ _ _ _ job.task same;
+      files = cut_keeps _ _ _ _ _ _ _ _ _ _ _ _ job.task same;
       reader = c.refuse_job.ensures.gone is;
       writes = λ update. subst g.O.Outlet.reader_gone (c.run.ensures.update update) (c.refuse_job.ensures.gone is);
     }))
@@ -79,9 +79,10 @@ returns-in-Ok-run-clause-any_moment g c = λ tells.
     let words = map string_bytes c.args.words.now in
     let seen = g.D.Store.seen c.enter_root.new.system in
     let left = g.D.Store.may_leave c.enter_root.new.system in
-    subst (λ (s : g.row.D.Denot). LeavesOnly g.D.Store.moment g.D.Store.left_since s c.run.new.system (OldOrAskedFor words (g.D.Store.seen s) (g.D.Store.may_leave s))) (c.enter_root.ensures.same tells)
+    let fails = g.D.System.may_fail c.enter_root.new.system in
+    subst (λ (s : g.row.D.Denot). LeavesOnly g.D.Store.moment g.D.Store.left_since s c.run.new.system (OldOrAskedFor (g.D.System.may_fail s) words (g.D.Store.seen s) (g.D.Store.may_leave s))) (c.enter_root.ensures.same tells)
     (leaves_more g.D.Store.moment g.D.Store.left_since c.enter_root.new.system c.run.new.system
-    (OldOrDone c.in-Ok.job seen left) (OldOrAskedFor words seen left)
+    (OldOrDone fails c.in-Ok.job seen left) (OldOrAskedFor fails words seen left)
     (λ p v now. inr (c.in-Ok.job, c.in-Ok.ensures.job, c.in-Ok.ensures.whole, now)) (c.run.ensures.any_moment tells))
 
 pub returns-in-Ok-enter_root-clause-any_moment : goal.returns-in-Ok-enter_root-clause-any_moment
@@ -89,14 +90,15 @@ returns-in-Ok-enter_root-clause-any_moment g c = λ tells.
     let words = map string_bytes c.args.words.now in
     let seen = g.D.Store.seen c.enter_root.new.system in
     let left = g.D.Store.may_leave c.enter_root.new.system in
-    subst (λ (s : g.row.D.Denot). LeavesOnly g.D.Store.moment g.D.Store.left_since s c.run.new.system (OldOrAskedFor words (g.D.Store.seen s) (g.D.Store.may_leave s))) (c.enter_root.ensures.same tells)
+    let fails = g.D.System.may_fail c.enter_root.new.system in
+    subst (λ (s : g.row.D.Denot). LeavesOnly g.D.Store.moment g.D.Store.left_since s c.run.new.system (OldOrAskedFor (g.D.System.may_fail s) words (g.D.Store.seen s) (g.D.Store.may_leave s))) (c.enter_root.ensures.same tells)
     (leaves_more g.D.Store.moment g.D.Store.left_since c.enter_root.new.system c.run.new.system
-    (OldOrDone c.in-Ok.job seen left) (OldOrAskedFor words seen left)
+    (OldOrDone fails c.in-Ok.job seen left) (OldOrAskedFor fails words seen left)
     (λ p v now. inr (c.in-Ok.job, c.in-Ok.ensures.job, c.in-Ok.ensures.whole, now)) (c.run.ensures.any_moment tells))
 
 pub returns-in-Ok-clause-any_moment : goal.returns-in-Ok-clause-any_moment
 returns-in-Ok-clause-any_moment g c = λ tells.
     let before = c.args.system.now in
-    let outcomes = OldOrAskedFor (map string_bytes c.args.words.now) (g.D.Store.seen before) (g.D.Store.may_leave before) in
+    let outcomes = OldOrAskedFor (g.D.System.may_fail before) (map string_bytes c.args.words.now) (g.D.Store.seen before) (g.D.Store.may_leave before) in
     subst (λ (s : g.row.D.Denot). LeavesOnly g.D.Store.moment g.D.Store.left_since before s outcomes) (sym (c.enter_root.ensures.same tells))
     (leaves_old g.D.Store.moment g.D.Store.left_since before outcomes (λ p v l. inl (g.met.D.Store.only_now before p v l)))

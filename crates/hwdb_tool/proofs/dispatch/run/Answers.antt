@@ -1,12 +1,12 @@
-use Rattle.std.proofs.Common.{inl, inr, ⊎_elim, refl, string_bytes, subst, sym}
+use Rattle.std.proofs.Common.{ap, inl, inr, ⊎_elim, refl, string_bytes, subst, sym}
 use Rattle.std.specs.Prelude.{option_map}
-use Rattle.hwdb_tasks.specs.Done.{IsListFrom, OldOrUpdated}
-use Rattle.hwdb_tool.specs.Program.{OldOrDone, root_of}
+use Rattle.hwdb_tasks.specs.Done.{IsListFrom}
+use Rattle.hwdb_tasks.specs.Readable.{IsLeftByUpdateLess, OldOrUpdatedLess}
+use Rattle.hwdb_tool.specs.Program.{OldOrDone, root_of, skips}
 use Rattle.hwdb_spec.specs.System.{database_folder}
 use Rattle.hwdb_system.specs.Refusals.{HasReason}
 use Rattle.hwdb_tasks.specs.Undone.{IsAnswerRefused, IsListRefusedBy, IsUnwritable}
 use Rattle.hwdb_tool.specs.TaskRefusals.{Counts, IsJobReason, IsTaskRefused, IsUnreadableFor}
-use Rattle.hwdb_tasks.specs.Done.{IsLeftByUpdate}
 use Rattle.hwdb_tool.proofs.MomentLemmas.{leaves_more}
 use Rattle.hwdb_tool.proofs.ErrorLemmas.{each_error, given_error}
 use Rattle.hwdb_tool.proofs.dispatch.run.Goals as goal
@@ -15,9 +15,14 @@ pub returns-in-Update-clause-any_moment : goal.returns-in-Update-clause-any_mome
 returns-in-Update-clause-any_moment g c = λ tells.
     let seen = g.D.Store.seen c.args.system.now in
     let left = g.D.Store.may_leave c.args.system.now in
+    let fails = g.D.System.may_fail c.args.system.now in
+    let job = c.args.job.now in
+    let skip = c.in-Update.skip_unreadable in
     leaves_more g.D.Store.moment g.D.Store.left_since c.args.system.now c.update_telling.new.system
-    (OldOrUpdated c.root_of-root.result.now c.args.job.now.usr seen left) (OldOrDone c.args.job.now seen left)
-    (λ p v now. ⊎_elim (λ was. inl was) (λ l. inr ((c.in-Update.verbose, c.in-Update.is), subst (λ r. IsLeftByUpdate r c.args.job.now.usr seen p v) c.root_of-root.ensures l)) now)
+    (OldOrUpdatedLess fails c.root_of-root.result.now job.usr skip seen left) (OldOrDone fails job seen left)
+    (λ p v now. ⊎_elim (λ was. inl was) (λ l. inr ((c.in-Update.verbose, skip, c.in-Update.is),
+    subst (λ b. IsLeftByUpdateLess fails (root_of job) job.usr b seen p v) (sym (ap skips c.in-Update.is))
+    (subst (λ r. IsLeftByUpdateLess fails r job.usr skip seen p v) c.root_of-root.ensures l))) now)
     (c.update_telling.ensures.any_moment tells)
 
 pub returns-in-Update-clause-reason : goal.returns-in-Update-clause-reason
@@ -42,9 +47,10 @@ returns-in_err-list-in-List-clause-refused g c = λ tells.
     let now = g.O.Sink.taken c.list.new.out in
     let refusal = c.in_err-list-in-List.field-0.0 in
     let input = g.I.Source.left c.args.input.now in
-    given_error refusal (λ r. IsTaskRefused job.task (root_of job) job.usr input r seen seen left left err err before now)
+    let fails = g.D.System.may_fail c.args.system.now in
+    given_error refusal (λ r. IsTaskRefused job.task fails (root_of job) job.usr input r seen seen left left err err before now)
     c.from_residual-in_err-list-in-List.result c.from_residual-in_err-list-in-List.ensures.1
-    (subst (λ t. IsTaskRefused t (root_of job) job.usr input refusal seen seen left left err err before now) (sym c.in-List.is) (
+    (subst (λ t. IsTaskRefused t fails (root_of job) job.usr input refusal seen seen left left err err before now) (sym c.in-List.is) (
       subst (λ a. IsAnswerRefused (root_of job) (IsListRefusedBy a) (IsListFrom c.in-List.json (string_bytes c.in-List.device) a c.in-List.limit) seen refusal before now) c.text_of-after.ensures
           (subst (λ d. IsAnswerRefused (root_of job) (IsListRefusedBy (option_map (λ t. t.now) c.text_of-after.result)) (IsListFrom c.in-List.json d (option_map (λ t. t.now) c.text_of-after.result) c.in-List.limit) seen refusal before now) c.as_bytes-in-List.ensures.value
           (subst (λ r. IsAnswerRefused r (IsListRefusedBy (option_map (λ t. t.now) c.text_of-after.result)) (IsListFrom c.in-List.json c.as_bytes-in-List.result.now (option_map (λ t. t.now) c.text_of-after.result) c.in-List.limit) seen refusal before now) c.root_of-root.ensures

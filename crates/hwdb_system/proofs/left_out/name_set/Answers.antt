@@ -1,6 +1,6 @@
 use Rattle.std.proofs.Common.{add-one}
-use Rattle.hwdb_tasks.proofs.ProgressLemmas.{name_step}
-use Rattle.hwdb_tasks.proofs.progress.name_set.Goals as goal
+use Rattle.hwdb_system.proofs.NameLemmas.{name_step}
+use Rattle.hwdb_system.proofs.left_out.name_set.Goals as goal
 
 pub loop-name-preserved : goal.loop-name-preserved
 loop-name-preserved c = rw add-one (

@@ -1,0 +1,88 @@
+-- Chosen text files that can't be read, and that an update leaves out with `--skip-unreadable`: which these may be, what is said
+-- of them, and which files are left. Our choice.
+use Rattle.std.specs.Prelude.{◌≡◌, ℕ, Bool, true, false, List, [], ◌∷◌, ◌++◌, ◌||◌, Option, None, Result, Ok, Err, if◌then◌else◌, All, Contains, codes, map}
+use Rattle.std.specs.List.{list_any}
+use Rattle.std.specs.Str.{bytes_eq}
+use Rattle.hwdb_devices.specs.declared.causes.Cause.{Cause}
+use Rattle.hwdb_spec.specs.Folders.{Choice, choice, path_of}
+use Rattle.hwdb_spec.specs.Store.{Contents, path_in}
+use Rattle.hwdb_spec.specs.System.{AreNamesIn, etc_files, usr_files}
+use Rattle.hwdb_system.specs.Internal.{AreSelected}
+use Rattle.hwdb_system.specs.Reading.{AreUnread}
+use Rattle.hwdb_system.specs.Refusals.{path_text, refusal_line}
+use Rattle.hwdb_system.specs.declared.refusals.Refusal.{Refusal}
+use Rattle.hwdb_system.specs.declared.refusals.Refusal.TheVariants.{At}
+use Rattle.hwdb_transfer.specs.declared.errors.ToolError.TheVariants.{Read}
+
+-- the path is that of the name in one of the two folders
+abbrev pub is_named : (root path name : List ℕ) → Bool
+is_named root path name = bytes_eq path (path_in (etc_files root) name) || bytes_eq path (path_in (usr_files root) name)
+
+-- the files as if none of these names stood in either folder: what it would mask is left out too
+abbrev pub less : (names : List (List ℕ)) (root : List ℕ) → Contents → Contents
+less names root contents path = if list_any (is_named root path) names then None else contents path
+
+-- the same, of chosen files that are left out
+abbrev pub without : List Choice → (root : List ℕ) → Contents → Contents
+without left_out = less (map (λ (c : Choice). c.name) left_out)
+
+-- the file is one of the chosen ones, and reading it may fail
+pub record IsLeftOut (MayFail : (path : List ℕ) → Type 0) (root : List ℕ) (contents : Contents) (c : Choice) : Type 0 where
+  pub etc : List (List ℕ)
+  pub usr : List (List ℕ)
+  pub in_etc : AreNamesIn (etc_files root) contents etc
+  pub in_usr : AreNamesIn (usr_files root) contents usr
+  pub chosen : Contains (choice etc usr) c
+  pub unreadable : MayFail (root ++ path_of c)
+
+-- such files are left out, and only with the option
+pub record AreLeftOut (skip : Bool) (MayFail : (path : List ℕ) → Type 0) (root : List ℕ) (contents : Contents) (left_out : List Choice) : Type 0 where
+  pub each : All (IsLeftOut MayFail root contents) left_out
+  pub asked_for : skip ≡ false → left_out ≡ []
+
+-- the line of a file that is left out: that of the refusal that it would be, and an ending
+abbrev pub left_out_line : (path : List ℕ) → Option Cause → (words : List ℕ) → List ℕ
+left_out_line path cause words = refusal_line (path_text Read path cause words ++ codes "; left out")
+
+-- the text has a line for each of them, in their order
+abbrev pub AreTold : (root : List ℕ) → List Choice → (text : List ℕ) → Type 0
+AreTold root [] text = text ≡ []
+AreTold root (c ∷ more) text = (cause : Option Cause) × (words rest : List ℕ) × (text ≡ left_out_line (root ++ path_of c) cause words ++ rest) × AreTold root more rest
+
+-- the chosen of the files that are left, what each holds, and what is said of the others; `usr` are the names in /usr/lib
+pub record AreSelectedLess (skip : Bool) (MayFail : (path : List ℕ) → Type 0) (root : List ℕ) (contents : Contents) (usr : List (List ℕ)) (chosen : List Choice) (texts : List (List ℕ)) (said : List ℕ) : Type 0 where
+  pub left_out : List Choice
+  pub are : AreLeftOut skip MayFail root contents left_out
+  pub told : AreTold root left_out said
+  pub selected : AreSelected root (without left_out root contents) usr chosen texts
+
+-- reading the files that are left is refused
+abbrev pub AreUnreadLess : (skip : Bool) (MayFail : (path : List ℕ) → Type 0) (root : List ℕ) → Contents → Refusal → Type 0
+AreUnreadLess skip MayFail root contents refusal =
+    (left_out : List Choice) × AreLeftOut skip MayFail root contents left_out × AreUnread root (without left_out root contents) refusal
+
+-- ---- steps
+-- some names, the files that have them among the chosen ones, none of which can be read, and what is said of these
+pub record AreToldOf (Unreadable : (path : List ℕ) → Type 0) (root : List ℕ) (chosen : List Choice) (names : List (List ℕ)) (said : List ℕ) : Type 0 where
+  pub left_out : List Choice
+  pub named : map (λ (c : Choice). c.name) left_out ≡ names
+  pub among : All (Contains chosen) left_out
+  pub unreadable : All (λ (c : Choice). Unreadable (root ++ path_of c)) left_out
+  pub told : AreTold root left_out said
+
+-- the line of a refusal to read a file was added
+abbrev pub IsNoted : Refusal → (old new : List ℕ) → Type 0
+IsNoted (At Read path cause) old new = (words : List ℕ) × (new ≡ old ++ left_out_line path.items cause words)
+IsNoted _ old new = ⊥
+
+-- and if reading a file of this name was refused, the name too; else nothing
+abbrev pub IsNotedOf : {T : Type 0} → Result T Refusal → (name : List ℕ) (names names2 : List (List ℕ)) (said said2 : List ℕ) → Type 0
+IsNotedOf (Ok bytes) name names names2 said said2 = (names2 ≡ names) × (said2 ≡ said)
+IsNotedOf (Err refusal) name names names2 said said2 = IsNoted refusal said said2 × (names2 ≡ names ++ name ∷ [])
+
+-- files that may be left out have these names, and this is said of them
+pub record AreFound (MayFail : (path : List ℕ) → Type 0) (root : List ℕ) (contents : Contents) (names : List (List ℕ)) (said : List ℕ) : Type 0 where
+  pub left_out : List Choice
+  pub are : AreLeftOut true MayFail root contents left_out
+  pub named : map (λ (c : Choice). c.name) left_out ≡ names
+  pub told : AreTold root left_out said
