@@ -16,7 +16,7 @@ use hwdb_spec::{Fault, FaultKind};
 use std::alloc::{AllocError, Global};
 
 /// How long a match line may be, in bytes.
-const LONGEST_MATCH: usize = 4096;
+pub const LONGEST_MATCH: usize = 4096;
 
 /// What was read last in the block.
 #[derive(Clone, Copy)]
