@@ -6,10 +6,7 @@ ghost use Rattle.hwdb_transfer.specs.Devices.{AppendsPrefix};
 ghost use Rattle.hwdb_inspect.specs.Internal.Printing.{Moves};
 
 use hwdb_devices::Sink;
-use hwdb_transfer::write_text;
-
-/// How many bytes of text are held before they are written.
-const PIECE: usize = 65536;
+use hwdb_transfer::{CHUNK, write_text};
 
 /// A sink failed.
 #[derive(Clone, Copy)]
@@ -39,7 +36,7 @@ pub(crate) fn hand_on<O: Sink>(text: &mut Vec<u8>, out: &mut O) -> Result<(), Un
     ensures unfailed { OnOk result (O.failures out.new ≡ O.failures out.old) }
     ensures last { OnErr result (OneFailed (O.failures out.old) (O.failures out.new)) }
 {
-    if text.len() < PIECE {
+    if text.len() < CHUNK {
         return Ok(());
     }
     write_whole(text, out)?;

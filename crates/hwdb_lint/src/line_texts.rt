@@ -4,7 +4,7 @@ ghost use Rattle.hwdb_spec.specs.Lines.{lines};
 ghost use Rattle.hwdb_spec.specs.Reports.{text_of_line};
 ghost use Rattle.hwdb_lint.specs.Internal.{IsStart};
 
-use crate::places::place_of;
+use hwdb_text::end_of;
 
 /// The beginning of a line.
 #[derive(Clone, Copy)]
@@ -34,7 +34,7 @@ fn next_start(bytes: &[u8], start: LineStart) -> LineStart
     ensures next { result.number ≡ start.number + 1 }
 {
     let rest = &bytes[start.at..];
-    let end = place_of(b'\n', rest);
+    let end = end_of(b'\n', rest);
     LineStart {
         number: start.number + 1,
         at: start.at + end + 1,
@@ -68,7 +68,7 @@ fn text_at(bytes: &[u8], start: LineStart, number: u32) -> &[u8]
         return &[];
     }
     let rest = &bytes[start.at..];
-    &rest[..place_of(b'\n', rest)]
+    &rest[..end_of(b'\n', rest)]
 }
 
 /// The text of the line with a number, or nothing, and the beginning of that line, or the end of the file. It reads on

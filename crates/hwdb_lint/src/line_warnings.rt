@@ -8,9 +8,10 @@ ghost use Rattle.hwdb_spec.specs.Warnings;
 ghost use Rattle.hwdb_spec.specs.Warnings.{warns};
 ghost use Rattle.hwdb_lint.specs.Internal.{line_of, read_line, IsRead};
 
-use crate::places::{indent_of, place_of};
+use crate::places::indent_of;
 use hwdb_pattern::{open_place, range_place};
 use hwdb_spec::WarningKind;
+use hwdb_text::end_of;
 
 /// A line that is read.
 #[derive(Clone, Copy)]
@@ -115,7 +116,7 @@ fn has_spaced_equals(clean: &[u8]) -> bool
         return false;
     }
     let body = &clean[indent_of(clean)..];
-    let equals = place_of(b'=', body);
+    let equals = end_of(b'=', body);
     if equals == body.len() {
         return false;
     }

@@ -1,13 +1,11 @@
 //! The place of a fault in its line.
 ghost use Rattle.std.specs.Prelude.{◌≡◌, ◌≤◌, length};
-ghost use Rattle.std.specs.List.{position_or_len, prefix_len};
-ghost use Rattle.hwdb_spec.specs.Lines.{is, is_indent};
+ghost use Rattle.std.specs.List.{prefix_len};
+ghost use Rattle.hwdb_spec.specs.Lines.{is_indent};
 ghost use Rattle.hwdb_spec.specs.Reports.{fault_place};
 
 use hwdb_spec::FaultKind;
-
-/// At most how many bytes a match line has.
-const LONGEST_MATCH: usize = 4096;
+use hwdb_text::{LONGEST_MATCH, end_of};
 
 /// How many spaces and tabs a line begins with.
 pub fn indent_of(line: &[u8]) -> usize
@@ -21,18 +19,6 @@ pub fn indent_of(line: &[u8]) -> usize
     at
 }
 
-/// The place of the first such byte, from 0; the line's length if there is none.
-pub fn place_of(byte: u8, line: &[u8]) -> usize
-    ensures place { result ≡ position_or_len (is byte) line.now }
-    ensures within { result ≤ length line.now }
-{
-    let mut at = 0;
-    while at < line.len() && line[at] != byte {
-        at += 1;
-    }
-    at
-}
-
 /// The place of a fault in its line, in bytes from 0.
 pub fn fault_place(kind: FaultKind, line: &[u8]) -> usize
     ensures { result ≡ fault_place kind line.now }
@@ -40,7 +26,7 @@ pub fn fault_place(kind: FaultKind, line: &[u8]) -> usize
     match kind {
         FaultKind::NoProperty | FaultKind::StrayMatch => 0,
         FaultKind::StrayProperty | FaultKind::NoEquals | FaultKind::EmptyKey => indent_of(line),
-        FaultKind::ZeroByte => place_of(0, line),
+        FaultKind::ZeroByte => end_of(0, line),
         FaultKind::LongMatch => LONGEST_MATCH,
     }
 }

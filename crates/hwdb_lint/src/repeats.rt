@@ -8,8 +8,7 @@ ghost use Rattle.hwdb_spec.specs.Lines.{Line};
 ghost use Rattle.hwdb_spec.specs.Warnings.{repeated_lines};
 ghost use Rattle.hwdb_lint.specs.Internal.{found_with, line_of, IsSetOf};
 
-use crate::places::place_of;
-use hwdb_text::{Content, content_of};
+use hwdb_text::{Content, content_of, end_of};
 use std::alloc::{AllocError, Global};
 use std::collections::BTreeSet;
 
@@ -70,7 +69,7 @@ fn repeated_numbers(alloc: Global, bytes: &[u8]) -> Result<Vec<u64>, AllocError>
     let mut at = 0;
     while at < bytes.len() {
         let rest = &bytes[at..];
-        let end = place_of(b'\n', rest);
+        let end = end_of(b'\n', rest);
         run.line(number, &rest[..end])?;
         number += 1;
         at = at + end + 1;

@@ -8,12 +8,12 @@ ghost use Rattle.hwdb_lint.specs.Internal.{IsKnown, IsRead, clean_of, line_of, n
 
 use crate::known::{Known, known_of};
 use crate::line_warnings::{Read, closed, is_warned};
-use crate::places::{indent_of, place_of};
+use crate::places::indent_of;
 use crate::reports::push_hint_line;
 use crate::shown::{push_mark_line, push_shown_line};
 use hwdb_pattern::{open_place, range_place};
 use hwdb_spec::WarningKind;
-use hwdb_text::{Content, Given, content_of};
+use hwdb_text::{Content, Given, content_of, end_of};
 use itoa::Buffer;
 use std::alloc::{AllocError, Global};
 
@@ -69,11 +69,11 @@ fn warning_place(kind: WarningKind, line: &[u8], clean: &[u8]) -> usize
 {
     match kind {
         WarningKind::ByteOrderMark | WarningKind::LeadingTab | WarningKind::RepeatedMatch => 0,
-        WarningKind::CarriageReturn => place_of(b'\r', line),
+        WarningKind::CarriageReturn => end_of(b'\r', line),
         WarningKind::OpenBracket => open_place(clean),
         WarningKind::EmptyRange => range_place(closed(clean)),
-        WarningKind::SpacedEquals => place_of(b'=', line),
-        WarningKind::CutValue => place_of(b'#', line),
+        WarningKind::SpacedEquals => end_of(b'=', line),
+        WarningKind::CutValue => end_of(b'#', line),
         WarningKind::Replaced(_) => indent_of(line),
     }
 }
@@ -253,7 +253,7 @@ pub fn warnings_of(
     let mut at = 0;
     while at < bytes.len() {
         let rest = &bytes[at..];
-        let end = place_of(b'\n', rest);
+        let end = end_of(b'\n', rest);
         warned.put_line(alloc, path, &known, number, &rest[..end])?;
         number += 1;
         at = at + end + 1;

@@ -18,7 +18,8 @@ mod parser;
 mod records;
 
 pub use crate::choice::{Chosen, counts, select};
-pub use crate::line::{Content, content_of};
+pub use crate::line::{Content, content_of, end_of};
 pub use crate::outcome::{Assignment, Given, Parsed, ScanError, Scanned, SelectError};
 pub use crate::parser::{next_line, parse, scan};
+pub use crate::records::LONGEST_MATCH;
 pub use hwdb_spec::{Fault, FaultKind};

@@ -16,7 +16,7 @@ use hwdb_spec::{Fault, FaultKind};
 use std::alloc::{AllocError, Global};
 
 /// The greatest length of a match line, in bytes.
-const LONGEST_MATCH: usize = 4096;
+pub const LONGEST_MATCH: usize = 4096;
 
 /// What was read last in the block.
 #[derive(Clone, Copy)]

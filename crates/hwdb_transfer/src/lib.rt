@@ -10,4 +10,4 @@ mod errors;
 mod transfer;
 
 pub use errors::ToolError;
-pub use transfer::{MAX_BYTES, read_all, write_text};
+pub use transfer::{CHUNK, MAX_BYTES, read_all, write_text};

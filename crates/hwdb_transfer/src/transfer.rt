@@ -38,8 +38,8 @@ pub fn write_text<W: Sink>(sink: &mut W, text: &[u8]) -> Result<(), ToolError>
     }
 }
 
-/// How many bytes are asked for at once.
-const CHUNK: usize = 65536;
+/// How many bytes are asked for, or kept until they are written, at once.
+pub const CHUNK: usize = 65536;
 
 /// Reads all bytes up to the end, at most `max_bytes`. Each read that doesn't end it brings at least one
 /// byte, so that it returns also on a source that never ends: as `ToolError::TooLong`.

@@ -7,4 +7,4 @@ returns-then-start-bytes c = text_at_end c.args.bytes.now c.args.start c.args.nu
 
 pub returns : goal.returns
 returns c =
-    text_at_start c.args.bytes.now c.args.start c.place_of.result c.args.number _ c.if-start-bytes.false (take_rest c.args.bytes.now c.args.start.at) c.place_of.ensures.place c.requires.start c.requires.found
+    text_at_start c.args.bytes.now c.args.start c.end_of.result c.args.number _ c.if-start-bytes.false (take_rest c.args.bytes.now c.args.start.at) c.end_of.ensures.place c.requires.start c.requires.found

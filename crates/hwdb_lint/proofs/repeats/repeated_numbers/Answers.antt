@@ -9,11 +9,11 @@ pub loop-at-preserved : goal.loop-at-preserved
 loop-at-preserved c =
     let rest = take_rest c.args.bytes.now c.loop-at.at in
     record {
-      at_in = omega (arith, c.place_of-end.ensures.within, ap length rest, length-drop c.loop-at.at c.args.bytes.now);
+      at_in = omega (arith, c.end_of-end.ensures.within, ap length rest, length-drop c.loop-at.at c.args.bytes.now);
       near = omega arith;
       found =
-          c.in_ok-line.ensures (numbered (c.loop-at.number + 1) (pieces (is 10) (drop (c.loop-at.at + c.place_of-end.result + 1) c.args.bytes.now)))
-          ∙ sym (ap (λ ls. found_with c.loop-at.run (clean ls)) (first_line c.args.bytes.now c.loop-at.at c.place_of-end.result c.loop-at.number _ c.loop-at-test.true rest c.place_of-end.ensures.place))
+          c.in_ok-line.ensures (numbered (c.loop-at.number + 1) (pieces (is 10) (drop (c.loop-at.at + c.end_of-end.result + 1) c.args.bytes.now)))
+          ∙ sym (ap (λ ls. found_with c.loop-at.run (clean ls)) (first_line c.args.bytes.now c.loop-at.at c.end_of-end.result c.loop-at.number _ c.loop-at-test.true rest c.end_of-end.ensures.place))
           ∙ c.loop-at.invariant.found;
     }
 

@@ -8,13 +8,13 @@ use Rattle.hwdb_lint.proofs.warnings.warnings_of.Goals as goal
 pub loop-at-preserved : goal.loop-at-preserved
 loop-at-preserved c =
     let rest = take_rest c.args.bytes.now c.loop-at.at in
-    let line = line_of c.loop-at.number (take c.place_of-end.result (take (length c.args.bytes.now - c.loop-at.at) (drop c.loop-at.at c.args.bytes.now))) in
+    let line = line_of c.loop-at.number (take c.end_of-end.result (take (length c.args.bytes.now - c.loop-at.at) (drop c.loop-at.at c.args.bytes.now))) in
     record {
-      at_in = omega (arith, c.place_of-end.ensures.within, ap length rest, length-drop c.loop-at.at c.args.bytes.now);
+      at_in = omega (arith, c.end_of-end.ensures.within, ap length rest, length-drop c.loop-at.at c.args.bytes.now);
       near = omega arith;
-      text = lines_step (line_text c.args.path.now c.args.bytes.now) c.args.bytes.now c.loop-at.at c.place_of-end.result c.loop-at.number _ _ _ _ c.loop-at-test.true rest c.place_of-end.ensures.place
+      text = lines_step (line_text c.args.path.now c.args.bytes.now) c.args.bytes.now c.loop-at.at c.end_of-end.result c.loop-at.number _ _ _ _ c.loop-at-test.true rest c.end_of-end.ensures.place
           (c.in_ok-put_line.ensures.text ∙ ap (λ b. c.loop-at.warned.text.items ++ line_text c.args.path.now b line) c.in_ok-known.ensures.1) c.loop-at.invariant.text;
-      found = lines_step (line_warnings c.args.bytes.now) c.args.bytes.now c.loop-at.at c.place_of-end.result c.loop-at.number _ _ _ _ c.loop-at-test.true rest c.place_of-end.ensures.place
+      found = lines_step (line_warnings c.args.bytes.now) c.args.bytes.now c.loop-at.at c.end_of-end.result c.loop-at.number _ _ _ _ c.loop-at-test.true rest c.end_of-end.ensures.place
           (c.in_ok-put_line.ensures.found ∙ ap (λ b. c.loop-at.warned.found.items ++ line_warnings b line) c.in_ok-known.ensures.1) c.loop-at.invariant.found;
     }
 
