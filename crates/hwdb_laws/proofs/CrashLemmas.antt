@@ -96,9 +96,13 @@ module _ (all_last : AllCompiledAnswersAreLast) (are : LastAssignmentsAreLast) w
       let less = done.1 in
       let are = subst (λ (b : Bool). AreLeftOut b fails (root_of job) old less.left_out) one.2
       (subst (λ (r : List ℕ). AreLeftOut (skips asks.0.task) fails r old less.left_out) one.0 less.are) in
-      inr (less.left_out, are, answers (root_of job) (without less.left_out (root_of job) old) old after
-      (subst (λ (r : List ℕ). IsLeftByUpdate r false (without less.left_out r old) old place (after place)) one.0
-      (subst (λ (b : Bool). IsLeftByUpdate (root_of asks.0) b (without less.left_out (root_of asks.0) old) old place (after place)) (one.1 ∙ etc) less.left)))) asks.3)
+      inr (
+        less.left_out,
+        are,
+        answers (root_of job) (without less.left_out (root_of job) old) old after
+            (subst (λ (r : List ℕ). IsLeftByUpdate r false (without less.left_out r old) old place (after place)) one.0
+            (subst (λ (b : Bool). IsLeftByUpdate (root_of asks.0) b (without less.left_out (root_of asks.0) old) old place (after place)) (one.1 ∙ etc) less.left)),
+      )) asks.3)
       (booted place)
 
   pub crashed_of_all : (fails : List ℕ → Type 0) (before : Outcomes) → CrashThenQueryOfAll fails before

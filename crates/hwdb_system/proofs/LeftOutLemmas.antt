@@ -140,10 +140,13 @@ lines_more : (root : List ℕ) (cs : List Choice) (text : List ℕ) (c : Choice)
     → AreTold root (cs ++ c ∷ []) (text ++ left_out_line (root ++ path_of c) cause words)
 lines_more root [] text c cause words told =
     (cause, words, [], ap (λ l. l ++ left_out_line (root ++ path_of c) cause words) told ∙ sym (append-nil (left_out_line (root ++ path_of c) cause words)), refl)
-lines_more root (x ∷ cs) text c cause words told =
-    (told.0, told.1, told.2 ++ left_out_line (root ++ path_of c) cause words,
-    ap (λ l. l ++ left_out_line (root ++ path_of c) cause words) told.3 ∙ append_assoc (left_out_line (root ++ path_of x) told.0 told.1) told.2 (left_out_line (root ++ path_of c) cause words),
-    lines_more root cs told.2 c cause words told.4)
+lines_more root (x ∷ cs) text c cause words told = (
+  told.0,
+  told.1,
+  told.2 ++ left_out_line (root ++ path_of c) cause words,
+  ap (λ l. l ++ left_out_line (root ++ path_of c) cause words) told.3 ∙ append_assoc (left_out_line (root ++ path_of x) told.0 told.1) told.2 (left_out_line (root ++ path_of c) cause words),
+  lines_more root cs told.2 c cause words told.4,
+)
 
 -- a refusal that was noted is that of the file
 module _ (Unreadable : List ℕ → Type 0) (contents : Contents) (path old new : List ℕ) where

@@ -20,9 +20,11 @@ returns-in-Update-clause-any_moment g c = λ tells.
     let skip = c.in-Update.skip_unreadable in
     leaves_more g.D.Store.moment g.D.Store.left_since c.args.system.now c.update_telling.new.system
     (OldOrUpdatedLess fails c.root_of-root.result.now job.usr skip seen left) (OldOrDone fails job seen left)
-    (λ p v now. ⊎_elim (λ was. inl was) (λ l. inr ((c.in-Update.verbose, skip, c.in-Update.is),
-    subst (λ b. IsLeftByUpdateLess fails (root_of job) job.usr b seen p v) (sym (ap skips c.in-Update.is))
-    (subst (λ r. IsLeftByUpdateLess fails r job.usr skip seen p v) c.root_of-root.ensures l))) now)
+    (λ p v now. ⊎_elim (λ was. inl was) (λ l. inr (
+      (c.in-Update.verbose, skip, c.in-Update.is),
+      subst (λ b. IsLeftByUpdateLess fails (root_of job) job.usr b seen p v) (sym (ap skips c.in-Update.is))
+          (subst (λ r. IsLeftByUpdateLess fails r job.usr skip seen p v) c.root_of-root.ensures l),
+    )) now)
     (c.update_telling.ensures.any_moment tells)
 
 pub returns-in-Update-clause-reason : goal.returns-in-Update-clause-reason
