@@ -21,6 +21,7 @@ pub record Traces : Type 0 where
   pub before : List (Option Stored)
   pub torn : Bool
 
+-- before any call
 abbrev pub begin : Traces
 begin = record { now = None; loose = false; before = []; torn = false }
 
@@ -46,9 +47,10 @@ after_events p s (x ∷ xs) = after_events p (after_event p s x) xs
 abbrev pub MayLeave : Traces → Option Stored → Type 0
 MayLeave s v = (v ≡ s.now) ⊎ (Contains s.before v ⊎ (s.torn ≡ true))
 
--- the contents after these calls on no files, and what a crash may leave then
+-- what stands under each path after calls on no files
 abbrev pub contents_after : List Event → Contents
 contents_after xs p = (after_events p begin xs).now
 
+-- what a crash may leave there
 abbrev pub outcomes_after : List Event → Outcomes
 outcomes_after xs p v = MayLeave (after_events p begin xs) v

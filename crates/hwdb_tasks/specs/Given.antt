@@ -14,5 +14,6 @@ abbrev pub IsContent : (dash : Bool) (path : List ℕ) (input : Option (List ℕ
 IsContent true path input contents bytes = IfSome input (λ told. bytes ≡ told)
 IsContent false path input contents bytes = bytes_at contents path ≡ Some bytes
 
+-- the path that words give has these bytes
 abbrev pub IsGiven : (path : List ℕ) (input : Option (List ℕ)) → Contents → (bytes : List ℕ) → Type 0
 IsGiven path = IsContent (is_dash path) path
