@@ -6,7 +6,7 @@ use Rattle.hwdb_spec.specs.Folders.{Source, all_assignments}
 use Rattle.hwdb_spec.specs.Answers.{effective_of, last_assignments}
 use Rattle.hwdb_spec.specs.Tree.{Tree, answers}
 use Rattle.hwdb_spec.specs.Texts.{empty_line, last_values_text, last_values_texts, properties_text, queries_text, query_text, with_empty_lines}
-use Rattle.hwdb_transfer.specs.Devices.{AppendsPrefix}
+use Rattle.hwdb_spec.specs.Outputs.{AppendsPrefix}
 use Rattle.hwdb_commands.specs.Lookups.{empty_line_unless}
 use Rattle.hwdb_commands.proofs.HitLineLemmas.{whole_behind, part_behind, part_in_front}
 use Rattle.std.proofs.KnownBytes.{Appends-nil}

@@ -9,7 +9,7 @@ use Rattle.std.specs.Io.KnownBytes.{Appends}
 use Rattle.hwdb_spec.specs.Assignment.{Assignment}
 use Rattle.hwdb_query.specs.Views.{Gives, assignment_of_hit}
 use Rattle.hwdb_query.specs.declared.hit.Hit.{Hit}
-use Rattle.hwdb_transfer.specs.Devices.{AppendsPrefix}
+use Rattle.hwdb_spec.specs.Outputs.{AppendsPrefix}
 use Rattle.hwdb_commands.specs.Lookups.{AppendsLines, one_less}
 use Rattle.hwdb_spec.specs.Texts.{within_limit}
 

@@ -5,20 +5,19 @@ use Rattle.hwdb_query.specs.Views.{given_position, next_position}
 use Rattle.hwdb_query.specs.declared.position.Position.{Position as OwnedPosition}
 use Rattle.std.specs.Result.{IsErrAnd}
 use Rattle.std.specs.Borrow.{Bor}
-use Rattle.hwdb_spec.specs.Assignment.{Position}
+use Rattle.hwdb_spec.specs.Assignment.{Position, ascending, put}
 use Rattle.hwdb_spec.specs.Texts.{IsSpelling}
 use Rattle.hwdb_query.specs.declared.errors.PositionError.{PositionError}
 use Rattle.hwdb_query.specs.declared.errors.PositionError.TheVariants as positions
 use Rattle.hwdb_transfer.specs.declared.errors.ToolError.{ToolError}
 use Rattle.hwdb_transfer.specs.Refusals.{refusal_of_compile, refusal_of_position}
-use Rattle.hwdb_spec.specs.Assignment.{ascending, put}
 use Rattle.hwdb_compile.specs.Views.{IsRefusal}
 use Rattle.hwdb_compile.specs.declared.errors.CompileError.{CompileError}
 use Rattle.hwdb_compile.specs.declared.errors.CompileError.TheVariants as compiling
 use Rattle.hwdb_commands.specs.Lookups.{IsPositionRefusal, IsListRefusal}
 use Rattle.hwdb_transfer.specs.Databases.{IsDatabaseRefusal}
 use Rattle.hwdb_commands.specs.Updates.{IsAskRefusal, OnUnreplaced}
-use Rattle.hwdb_transfer.specs.LoneFile.{lone}
+use Rattle.hwdb_spec.specs.LoneFile.{lone}
 use Rattle.hwdb_store.specs.declared.replacement.Unreplaced.{Unreplaced}
 use Rattle.hwdb_transfer.specs.declared.errors.ToolError.TheVariants.{Write, BadDatabase, Memory, Replace, TooLarge, TooManyLines}
 use Rattle.hwdb_spec.specs.Tree.{Map}

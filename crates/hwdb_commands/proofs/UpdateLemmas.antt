@@ -8,8 +8,8 @@ use Rattle.hwdb_spec.specs.Tree.{map_of_files}
 use Rattle.hwdb_spec.specs.Written.{IsCompiled, IsWritten}
 use Rattle.hwdb_compile.specs.declared.sources.ChosenFile.{ChosenFile}
 use Rattle.hwdb_compile.specs.Views.{AreChosenOf, bytes_in, choice_in}
-use Rattle.hwdb_commands.specs.Updates.{OldOrWritten}
-use Rattle.hwdb_transfer.specs.LoneFile.{lone, lone_choice}
+use Rattle.hwdb_spec.specs.Done.{OldOrWritten}
+use Rattle.hwdb_spec.specs.LoneFile.{lone, lone_choice}
 
 -- what the written form may leave
 or_written : (etc usr : List Source) (folder database : List ℕ) (seen : Contents) (before : Outcomes) → IsWritten (map_of_files etc usr) database → IsCompiled etc usr database

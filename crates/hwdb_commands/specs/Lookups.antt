@@ -6,7 +6,7 @@ use Rattle.hwdb_spec.specs.Lines.{byte}
 use Rattle.hwdb_spec.specs.Format.{IsDatabase}
 use Rattle.hwdb_spec.specs.Tree.{Tree, answers_after}
 use Rattle.hwdb_spec.specs.declared.DbFault.{DbFault}
-use Rattle.hwdb_transfer.specs.Databases.{IsNoDatabase, IsTextOf}
+use Rattle.hwdb_spec.specs.Databases.{IsNoDatabase, IsTextOf}
 use Rattle.hwdb_transfer.specs.declared.errors.ToolError.TheVariants.{BadDatabase, Memory, Write, BadPosition}
 use Rattle.hwdb_transfer.specs.declared.errors.ToolError.{ToolError}
 use Rattle.hwdb_commands.specs.declared.hit_lines.HitForm.TheVariants.{Text, Json}

@@ -3,7 +3,7 @@ ghost use Rattle.std.specs.Prelude.{◌≡◌, ◌++◌, ◌∷◌, [], OnOk, If
 ghost use Rattle.std.specs.Io.KnownBytes.{Appends};
 ghost use Rattle.hwdb_spec.specs.Failures.{HasFailed, OneFailed};
 ghost use Rattle.hwdb_spec.specs.Texts.{query_text, queries_text};
-ghost use Rattle.hwdb_transfer.specs.Devices.{AppendsPrefix};
+ghost use Rattle.hwdb_spec.specs.Outputs.{AppendsPrefix};
 ghost use Rattle.hwdb_commands.specs.Lookups.{IsPrintRefusal, empty_line_unless};
 
 use crate::texts::property_lines;

@@ -6,8 +6,9 @@ ghost use Rattle.hwdb_spec.specs.Failures.{HasFailed, OneFailed};
 ghost use Rattle.hwdb_spec.specs.Written.{IsCompiled};
 ghost use Rattle.hwdb_spec.specs.Explanations.{origin_line, overridden_text, explanation_text, explanations_text, explain_text, explained_text};
 ghost use Rattle.hwdb_query.specs.Views.{assignment_of_answer, explained_values};
-ghost use Rattle.hwdb_transfer.specs.Devices.{Wrote, WrotePrefix};
-ghost use Rattle.hwdb_transfer.specs.Databases.{IsTextOf, IsDatabaseRefusal, IsQueryRefusal};
+ghost use Rattle.hwdb_spec.specs.Outputs.{Wrote, WrotePrefix};
+ghost use Rattle.hwdb_spec.specs.Databases.{IsTextOf};
+ghost use Rattle.hwdb_transfer.specs.Databases.{IsDatabaseRefusal, IsQueryRefusal};
 
 use crate::texts::{push_place, push_property};
 use hwdb_devices::Sink;

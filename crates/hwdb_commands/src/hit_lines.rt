@@ -2,7 +2,7 @@
 ghost use Rattle.std.specs.Prelude.{flat_map, ◌≡◌, OnOk, IfErr, IsErrOf};
 ghost use Rattle.std.specs.Io.KnownBytes.{Appends};
 ghost use Rattle.hwdb_spec.specs.Failures.{HasFailed, OneFailed};
-ghost use Rattle.hwdb_transfer.specs.Devices.{AppendsPrefix};
+ghost use Rattle.hwdb_spec.specs.Outputs.{AppendsPrefix};
 ghost use Rattle.hwdb_commands.specs.Lookups.{AppendsLines, IsPrintRefusal, line_of, list_page, one_less};
 ghost use Rattle.hwdb_query.specs.Views.{assignment_of_hit};
 ghost use Rattle.hwdb_spec.specs.Texts.{within_limit};

@@ -7,9 +7,10 @@ ghost use Rattle.hwdb_spec.specs.Failures.{HasFailed, OneFailed};
 ghost use Rattle.hwdb_spec.specs.Json.{device_json, json_line, query_json, last_values_json, explain_json, explained_json};
 ghost use Rattle.hwdb_spec.specs.Tree.{answers};
 ghost use Rattle.hwdb_spec.specs.Written.{IsCompiled};
-ghost use Rattle.hwdb_transfer.specs.Devices.{AppendsPrefix, Wrote, WrotePrefix};
+ghost use Rattle.hwdb_spec.specs.Outputs.{AppendsPrefix, Wrote, WrotePrefix};
 ghost use Rattle.hwdb_commands.specs.Lookups.{IsPrintRefusal, IsListJson, IsListJsonBeginning, IsLastJson, IsListRefusal};
-ghost use Rattle.hwdb_transfer.specs.Databases.{IsTextOf, IsDatabaseRefusal, IsQueryRefusal};
+ghost use Rattle.hwdb_spec.specs.Databases.{IsTextOf};
+ghost use Rattle.hwdb_transfer.specs.Databases.{IsDatabaseRefusal, IsQueryRefusal};
 
 use crate::device_texts::split_first;
 use crate::hit_lines::{HitForm, print_hits};

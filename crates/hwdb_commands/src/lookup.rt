@@ -6,9 +6,10 @@ ghost use Rattle.hwdb_spec.specs.Folders.{Source};
 ghost use Rattle.hwdb_query.specs.Views.{next_position};
 ghost use Rattle.hwdb_spec.specs.Failures.{HasFailed, OneFailed};
 ghost use Rattle.hwdb_spec.specs.Texts.{query_text, queries_text, last_values_text, last_values_texts};
-ghost use Rattle.hwdb_transfer.specs.Devices.{Wrote, WrotePrefix};
+ghost use Rattle.hwdb_spec.specs.Outputs.{Wrote, WrotePrefix};
 ghost use Rattle.hwdb_commands.specs.Lookups.{IsAfter, IsPositionRefusal, IsListText, IsListBeginning, IsLastLines, IsListRefusal};
-ghost use Rattle.hwdb_transfer.specs.Databases.{IsTextOf, IsDatabaseRefusal, IsQueryRefusal};
+ghost use Rattle.hwdb_spec.specs.Databases.{IsTextOf};
+ghost use Rattle.hwdb_transfer.specs.Databases.{IsDatabaseRefusal, IsQueryRefusal};
 ghost use Rattle.hwdb_spec.specs.Written.{IsCompiled};
 
 use crate::device_texts::print_texts;

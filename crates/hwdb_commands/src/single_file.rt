@@ -3,10 +3,11 @@ ghost use Rattle.std.specs.Prelude.{◌≡◌, ◌≢◌, ◌⊎◌, [], IfOk, I
 ghost use Rattle.std.specs.Io.KnownBytes.{Appends};
 ghost use Rattle.hwdb_text.specs.Views.{choice_of};
 ghost use Rattle.hwdb_spec.specs.Failures.{HasFailed};
-ghost use Rattle.hwdb_transfer.specs.Devices.{OneOfTwoFailed, WroteTexts, WroteTextsPrefix};
+ghost use Rattle.hwdb_spec.specs.Outputs.{OneOfTwoFailed, WroteTexts, WroteTextsPrefix};
 ghost use Rattle.hwdb_spec.specs.Texts.{max_file, last_values_text};
-ghost use Rattle.hwdb_commands.specs.Updates.{AreAskTexts, IsAskRefusal};
-ghost use Rattle.hwdb_transfer.specs.LoneFile.{lone, lone_choice};
+ghost use Rattle.hwdb_spec.specs.Done.{AreAskTexts};
+ghost use Rattle.hwdb_commands.specs.Updates.{IsAskRefusal};
+ghost use Rattle.hwdb_spec.specs.LoneFile.{lone, lone_choice};
 
 use crate::lookup::properties_of;
 use crate::texts::fault_lines_at;

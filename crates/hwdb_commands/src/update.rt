@@ -3,12 +3,13 @@ ghost use Rattle.std.specs.Prelude.{◌≡◌, ◌≢◌, ◌++◌, None, map, I
 ghost use Rattle.std.specs.Io.KnownBytes.{Appends};
 ghost use Rattle.hwdb_compile.specs.Views.{sources, fault_of};
 ghost use Rattle.hwdb_spec.specs.Failures.{HasFailed, OneFailed};
-ghost use Rattle.hwdb_transfer.specs.Devices.{AppendsPrefix};
+ghost use Rattle.hwdb_spec.specs.Outputs.{AppendsPrefix};
 ghost use Rattle.hwdb_spec.specs.Texts.{status_of, faults_text};
 ghost use Rattle.hwdb_spec.specs.Folders.{faults_of_files};
 ghost use Rattle.hwdb_spec.specs.Store.{InPlace, LeavesOnly, OldOrNew};
 ghost use Rattle.hwdb_store.specs.Views.{IsLeft, IsSeen, failures_after};
-ghost use Rattle.hwdb_commands.specs.Updates.{Updated, UpdateUndone, OnUnreplaced, OldOrWritten, IsPlaceRefusal, IsUpdateRefusal};
+ghost use Rattle.hwdb_spec.specs.Done.{Updated, OldOrWritten};
+ghost use Rattle.hwdb_commands.specs.Updates.{UpdateUndone, OnUnreplaced, IsPlaceRefusal, IsUpdateRefusal};
 
 use crate::texts::fault_lines;
 use hwdb_compile::{Compiled, FileFault, SourceFile, compile};

@@ -4,7 +4,7 @@ use Rattle.std.proofs.Math.Seq.{take-append-add}
 use Rattle.std.proofs.lemmas.List.{take-append-le}
 use Rattle.std.proofs.KnownBytes.{Appends-trans, Appends-nil}
 use Rattle.std.specs.Io.KnownBytes.{Appends}
-use Rattle.hwdb_transfer.specs.Devices.{AppendsPrefix}
+use Rattle.hwdb_spec.specs.Outputs.{AppendsPrefix}
 use Rattle.hwdb_inspect.specs.Internal.Printing.{Moves}
 
 part_behind : (a b c : Option (List ℕ)) (front rest : List ℕ) → Appends a b front → AppendsPrefix b c rest → AppendsPrefix a c (front ++ rest)

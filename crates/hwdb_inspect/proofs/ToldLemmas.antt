@@ -16,7 +16,7 @@ use Rattle.hwdb_spec.specs.Dump.{dumped, dump_text, first_unsaid}
 use Rattle.hwdb_spec.specs.Folders.{same, path_of, chosen_of, contents, first_of, file_assignments, all_assignments}
 use Rattle.hwdb_spec.specs.Records.{Origin, assignments}
 use Rattle.hwdb_spec.specs.Texts.{properties_text, query_text, last_values_text}
-use Rattle.hwdb_transfer.specs.LoneFile.{lone, lone_choice}
+use Rattle.hwdb_spec.specs.LoneFile.{lone, lone_choice}
 use Rattle.hwdb_spec.specs.Tree.{Tree, IsTree, members_under, place_cmp, entry_of, answers}
 use Rattle.hwdb_inspect.proofs.MemberLemmas.{Holds, distinct_single, not_above_itself, ordered_again, kept_in_order, in_order_from, in_order_rises}
 use Rattle.hwdb_inspect.proofs.OrderLemmas.{place_total, members_sorted, and_first, and_second}

@@ -5,7 +5,7 @@ use Rattle.hwdb_spec.specs.Assignment.{Assignment}
 use Rattle.hwdb_spec.specs.Dump.{dumped, dump_text, first_unsaid}
 use Rattle.hwdb_spec.specs.Records.{Origin, assignments}
 use Rattle.hwdb_spec.specs.Texts.{query_text, last_values_text}
-use Rattle.hwdb_transfer.specs.LoneFile.{lone}
+use Rattle.hwdb_spec.specs.LoneFile.{lone}
 use Rattle.hwdb_spec.specs.Tree.{Tree, IsTree, members_under, map_of, entry_of}
 
 -- What a tree assigns, from its root on, is its map from the first entry to the last.

@@ -7,8 +7,9 @@ ghost use Rattle.hwdb_spec.specs.Format.{IsDatabase};
 ghost use Rattle.hwdb_spec.specs.Tree.{Tree};
 ghost use Rattle.hwdb_spec.specs.Written.{IsCompiled};
 ghost use Rattle.hwdb_spec.specs.Differences.{changes_text, are_some, files_diff_text};
-ghost use Rattle.hwdb_transfer.specs.Devices.{AppendsPrefix, Wrote, WrotePrefix};
-ghost use Rattle.hwdb_inspect.specs.Diffs.{IsDiffText, IsDifferent, IsDiffRefusal, IsPrintRefusal};
+ghost use Rattle.hwdb_spec.specs.Outputs.{AppendsPrefix, Wrote, WrotePrefix};
+ghost use Rattle.hwdb_spec.specs.Databases.{IsDiffText, IsDifferent};
+ghost use Rattle.hwdb_inspect.specs.Diffs.{IsDiffRefusal, IsPrintRefusal};
 ghost use Rattle.hwdb_inspect.specs.Internal.Pairing.{to_tell};
 
 use crate::errors::DiffError;

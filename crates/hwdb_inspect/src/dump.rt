@@ -4,9 +4,9 @@ ghost use Rattle.std.specs.Io.KnownBytes.{Appends};
 ghost use Rattle.hwdb_spec.specs.Assignment.{assignment_cmp};
 ghost use Rattle.hwdb_spec.specs.Dump.{dumped, dump_text, record_text, first_unsaid};
 ghost use Rattle.hwdb_spec.specs.Failures.{HasFailed, OneFailed};
-ghost use Rattle.hwdb_transfer.specs.Devices.{AppendsPrefix, Wrote, WrotePrefix};
-ghost use Rattle.hwdb_transfer.specs.Databases.{IsTextOf};
-ghost use Rattle.hwdb_inspect.specs.Dumps.{IsSayable, IsDumpRefusal, IsUnsaidRefusal, IsRecordRefusal};
+ghost use Rattle.hwdb_spec.specs.Outputs.{AppendsPrefix, Wrote, WrotePrefix};
+ghost use Rattle.hwdb_spec.specs.Databases.{IsTextOf, IsSayable};
+ghost use Rattle.hwdb_inspect.specs.Dumps.{IsDumpRefusal, IsUnsaidRefusal, IsRecordRefusal};
 ghost use Rattle.hwdb_inspect.specs.Views.{assignment_of};
 
 use crate::errors::DumpError;

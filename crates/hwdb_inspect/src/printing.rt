@@ -2,7 +2,7 @@
 ghost use Rattle.std.specs.Prelude.{◌≡◌, OnOk, OnErr, IfErr};
 ghost use Rattle.std.specs.Io.KnownBytes.{Appends};
 ghost use Rattle.hwdb_spec.specs.Failures.{HasFailed, OneFailed};
-ghost use Rattle.hwdb_transfer.specs.Devices.{AppendsPrefix};
+ghost use Rattle.hwdb_spec.specs.Outputs.{AppendsPrefix};
 ghost use Rattle.hwdb_inspect.specs.Internal.Printing.{Moves};
 
 use hwdb_devices::Sink;

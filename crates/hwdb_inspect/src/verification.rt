@@ -2,8 +2,9 @@
 ghost use Rattle.std.specs.Prelude.{◌≡◌, ◌≢◌, ◌++◌, length, IfOk, IfErr, OnOk, IsErrOf};
 ghost use Rattle.hwdb_spec.specs.Failures.{HasFailed, OneFailed};
 ghost use Rattle.hwdb_spec.specs.Summary.{count_line, summary_of, summary_text};
-ghost use Rattle.hwdb_transfer.specs.Devices.{Wrote, WrotePrefix};
-ghost use Rattle.hwdb_transfer.specs.Databases.{IsTextOf, IsDatabaseRefusal, IsQueryRefusal};
+ghost use Rattle.hwdb_spec.specs.Outputs.{Wrote, WrotePrefix};
+ghost use Rattle.hwdb_spec.specs.Databases.{IsTextOf};
+ghost use Rattle.hwdb_transfer.specs.Databases.{IsDatabaseRefusal, IsQueryRefusal};
 ghost use Rattle.hwdb_inspect.specs.Views.{summary_shown};
 
 use crate::summary::{Counts, summarize};

@@ -21,8 +21,8 @@ use Rattle.hwdb_spec.specs.Store.{Contents, IsPartPath, LeftAtParts, Outcomes, S
 use Rattle.hwdb_spec.specs.System.{asked_database, bytes_at, database_folder}
 use Rattle.hwdb_spec.specs.Texts as texts
 use Rattle.hwdb_spec.specs.Texts.{properties_text}
-use Rattle.hwdb_tasks.specs.Done.{IsLeftByUpdate}
-use Rattle.hwdb_system.specs.LeftOut.{AreLeftOut, without}
+use Rattle.hwdb_spec.specs.Done.{IsLeftByUpdate}
+use Rattle.hwdb_spec.specs.LeftOut.{AreLeftOut, without}
 use Rattle.hwdb_tool.specs.Program.{OldOrAskedFor, root_of, skips}
 use Rattle.hwdb_laws.specs.Crash.{AnswersFrom, CrashThenQuery, CrashThenQueryOfAll, FaultsLeaveAll}
 use Rattle.hwdb_laws.proofs.JobLemmas.{one_root}

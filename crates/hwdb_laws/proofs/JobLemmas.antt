@@ -14,10 +14,10 @@ use Rattle.hwdb_cli.specs.declared.job.Job.{Job}
 use Rattle.hwdb_cli.specs.declared.job.Task.{Task}
 use Rattle.hwdb_cli.specs.declared.job.Task.TheVariants.{Ask, Check, Diff, Dump, Explain, List as ListHits, Query, Update, Verify}
 use Rattle.hwdb_spec.specs.Store.{Contents, Outcomes, Same}
-use Rattle.hwdb_tasks.specs.CheckedFiles.{AreCheckedFiles, IsChecked}
-use Rattle.hwdb_tasks.specs.ComparedDatabases.{IsCompared}
-use Rattle.hwdb_tasks.specs.Done.{IsAnswered, IsAsked, IsListFrom}
-use Rattle.hwdb_tasks.specs.NamedDatabases.{IsDumped, IsPrinted, IsSummary}
+use Rattle.hwdb_spec.specs.CheckedFiles.{AreCheckedFiles, IsChecked}
+use Rattle.hwdb_spec.specs.Asked.{IsCompared, IsAnswered, IsListFrom, IsDumped, IsPrinted}
+use Rattle.hwdb_spec.specs.Done.{IsAsked}
+use Rattle.hwdb_spec.specs.Databases.{IsSummary}
 use Rattle.hwdb_tasks.specs.Queries.{AreAnswered}
 use Rattle.hwdb_stream.specs.declared.form.Form.TheVariants as form
 use Rattle.hwdb_tool.specs.Program.{IsDone, IsJobDone, IsQuiet, IsTaskDone, root_of}

@@ -16,8 +16,8 @@ use Rattle.hwdb_spec.specs.Store.{Contents, InPlace, IsKept, IsPartPath, Outcome
 use Rattle.hwdb_spec.specs.System.{asked_database}
 use Rattle.hwdb_spec.specs.Tree.{Tree, map_of_files, surviving}
 use Rattle.hwdb_spec.specs.Texts.{faults_text, status_of}
-use Rattle.hwdb_tasks.specs.Done.{IsAnswered}
-use Rattle.hwdb_transfer.specs.Databases.{IsTextOf}
+use Rattle.hwdb_spec.specs.Asked.{IsAnswered}
+use Rattle.hwdb_spec.specs.Databases.{IsTextOf}
 use Rattle.hwdb_laws.specs.Laws.{IsOneReading}
 
 -- a sink that took one text, and another time another one, which is the same

@@ -5,8 +5,8 @@ use Rattle.std.specs.Option.{option_map_or}
 use Rattle.std.specs.Io.KnownBytes.{Appends}
 use Rattle.hwdb_cli.specs.declared.job.Task.{Task}
 use Rattle.hwdb_cli.specs.declared.job.Task.TheVariants.{Ask, Check, Diff, Dump, Explain, List as ListHits, Query, Update, Verify}
-use Rattle.hwdb_commands.specs.Updates.{AreAskTexts}
-use Rattle.hwdb_inspect.specs.Diffs.{IsDiffText, IsDifferent}
+use Rattle.hwdb_spec.specs.Done.{AreAskTexts, IsAsked, IsUpdated}
+use Rattle.hwdb_spec.specs.Databases.{IsDiffText, IsDifferent, IsSummary, IsTextOf}
 use Rattle.hwdb_spec.specs.Assignment.{Position}
 use Rattle.hwdb_spec.specs.Checks.{check_status, check_text, empty_tally, tally_from}
 use Rattle.hwdb_spec.specs.Differences.{diff_text, differ}
@@ -15,7 +15,7 @@ use Rattle.hwdb_spec.specs.Folders.{Choice, Source, choice, faults_of_files, pat
 use Rattle.hwdb_spec.specs.Format.{IsDatabase}
 use Rattle.std.proofs.lemmas.List.{append-nil}
 use Rattle.std.proofs.lemmas.List.Elements.{All-head, All-tail}
-use Rattle.hwdb_tasks.specs.Given.{IsContent, IsGiven, is_dash}
+use Rattle.hwdb_spec.specs.Given.{IsContent, IsGiven, is_dash, is_input}
 use Rattle.hwdb_spec.specs.Hiding.{hiding_text}
 use Rattle.hwdb_spec.specs.Progress.{listing, update_text}
 use Rattle.hwdb_spec.specs.Store.{Contents, InPlace, Outcomes}
@@ -27,15 +27,13 @@ use Rattle.hwdb_query.specs.Laws.{SpellsOne}
 use Rattle.hwdb_stream.specs.declared.form.Form.{Form}
 use Rattle.hwdb_stream.specs.declared.form.Form.TheVariants as forms
 use Rattle.hwdb_stream.specs.Streams.{texts_of}
-use Rattle.hwdb_tasks.specs.CheckedFiles.{AreCheckedFiles}
-use Rattle.hwdb_tasks.specs.ComparedDatabases.{IsCompared}
-use Rattle.hwdb_tasks.specs.Done.{IsAnswered, IsAsked, IsFrom, IsListFrom, list_form, IsUpdated}
-use Rattle.hwdb_system.specs.LeftOut.{AreLeftOut, AreTold, IsLeftOut, without}
-use Rattle.hwdb_tasks.specs.Readable.{IsUpdatedLess, status_less}
-use Rattle.hwdb_tasks.specs.NamedDatabases.{IsPrinted, IsSummary, named_database}
-use Rattle.hwdb_tasks.specs.Queries.{AreAnsweredFrom, is_input}
-use Rattle.hwdb_transfer.specs.Databases.{IsTextOf}
-use Rattle.hwdb_transfer.specs.LoneFile.{lone}
+use Rattle.hwdb_spec.specs.CheckedFiles.{AreCheckedFiles}
+use Rattle.hwdb_spec.specs.Asked.{IsCompared, IsAnswered, IsFrom, IsListFrom, list_form, IsPrinted, named_database}
+use Rattle.hwdb_spec.specs.LeftOut.{AreLeftOut, IsLeftOut, without, status_less}
+use Rattle.hwdb_system.specs.LeftOut.{AreTold}
+use Rattle.hwdb_tasks.specs.Readable.{IsUpdatedLess}
+use Rattle.hwdb_tasks.specs.Queries.{AreAnsweredFrom}
+use Rattle.hwdb_spec.specs.LoneFile.{lone}
 use Rattle.hwdb_laws.specs.Laws.{IsFunction, IsOneOutcome, LeavesNothingOut, ListingsGiveOneChoice, ListingsGiveOneReading}
 use Rattle.hwdb_laws.proofs.OutcomeLemmas.{one_answer, one_held, one_kept, one_map, one_place, one_said, one_status, one_taken, one_taken_then, one_text}
 

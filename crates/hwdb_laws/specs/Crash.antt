@@ -8,11 +8,11 @@ use Rattle.hwdb_spec.specs.Store.{Contents, LeavesOnly, Outcomes, Stored, databa
 use Rattle.hwdb_spec.specs.Folders.{Choice}
 use Rattle.hwdb_spec.specs.System.{database_folder}
 use Rattle.hwdb_spec.specs.Texts.{queries_text}
-use Rattle.hwdb_tasks.specs.Done.{IsAnswered}
+use Rattle.hwdb_spec.specs.Asked.{IsAnswered}
 use Rattle.hwdb_tool.specs.Laws.{PrintsLast}
-use Rattle.hwdb_system.specs.LeftOut.{AreLeftOut, without}
+use Rattle.hwdb_spec.specs.LeftOut.{AreLeftOut, without}
 use Rattle.hwdb_tool.specs.Program.{OldOrAskedFor, root_of, skips}
-use Rattle.hwdb_transfer.specs.Databases.{IsTextOf}
+use Rattle.hwdb_spec.specs.Databases.{IsTextOf}
 
 -- what stands after a start: under each path something that the crash may have left
 abbrev pub Booted : Outcomes → Contents → Type 0

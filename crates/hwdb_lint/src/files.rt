@@ -5,7 +5,7 @@ ghost use Rattle.hwdb_spec.specs.Failures.{HasFailed, OneFailed};
 ghost use Rattle.hwdb_spec.specs.Lines.{lines};
 ghost use Rattle.hwdb_spec.specs.Reports.{text_of_line, report, reports_text};
 ghost use Rattle.hwdb_spec.specs.Checks.{tally_of, empty_tally, tally_from, check_text, check_status, file_text};
-ghost use Rattle.hwdb_transfer.specs.Devices.{AppendsPrefix};
+ghost use Rattle.hwdb_spec.specs.Outputs.{AppendsPrefix};
 ghost use Rattle.hwdb_lint.specs.Checks.{source_of, files_text, IsCheckRefusal, IsChecksRefusal};
 
 use crate::line_texts::{find_line, first_start};

@@ -20,9 +20,17 @@ pub mod Checks
 pub mod Progress
 pub mod Json
 pub mod ManyDevices
+pub mod LoneFile
+pub mod Databases
 pub mod Failures
+pub mod Outputs
 pub mod Store
 pub mod Crashes
 pub mod System
+pub mod Given
+pub mod CheckedFiles
+pub mod LeftOut
+pub mod Asked
 pub mod Library
 pub mod Hiding
+pub mod Done

@@ -27,12 +27,20 @@
 //! | `Progress` | what `update` says of its work |
 //! | `Json` | each line of JSON that is printed, and what is read of one |
 //! | `ManyDevices` | what `explain` prints of several devices, and a line of devices that is too long |
+//! | `LoneFile` | one text file alone, as `ask` reads it and `dump` writes it |
+//! | `Databases` | what bytes of databases give, and what is so of bytes that are none |
 //! | `Failures` | how failed calls are counted |
+//! | `Outputs` | what commands write: how the bytes that a sink tells grow |
 //! | `Store` | a store of files, what a crash may leave, and a database that is replaced |
 //! | `Crashes` | what a crash may leave of files, call by call |
 //! | `System` | a file system as the program sees it: text files of folders, and the database that is asked |
+//! | `Given` | what the words' paths and devices stand for, `-` too |
+//! | `CheckedFiles` | which text files `check` reads, and what it leaves |
+//! | `LeftOut` | text files that can't be read, and that an update leaves out |
+//! | `Asked` | the database that a command asks for, and what is printed of it |
 //! | `Library` | what the C library is told |
 //! | `Hiding` | what `update --usr --verbose` says where /etc's database hides the new one |
+//! | `Done` | what `update` and `ask` leave, and what a crash leaves during an update |
 //!
 //! The types below are those that the definitions name.
 #![tactic(auto)]

@@ -13,7 +13,7 @@ use Rattle.hwdb_spec.specs.Lines.{is}
 use Rattle.hwdb_spec.specs.ManyDevices.{HasLongLine}
 use Rattle.hwdb_spec.specs.Texts.{devices_of, empty_line, last_values_text, properties_text, query_text, with_empty_lines}
 use Rattle.hwdb_spec.specs.Tree.{Tree, answers}
-use Rattle.hwdb_transfer.specs.Devices.{AppendsPrefix}
+use Rattle.hwdb_spec.specs.Outputs.{AppendsPrefix}
 use Rattle.hwdb_stream.proofs.TextLemmas.{part_text, part_texts, same_lines, same_texts, whole_texts}
 use Rattle.hwdb_stream.proofs.LineLemmas.{long_behind, long_line, no_lines}
 use Rattle.hwdb_stream.specs.declared.form.Form.{Form}

@@ -6,7 +6,7 @@ use Rattle.std.proofs.KnownBytes.{Appends-trans}
 use Rattle.std.specs.Io.KnownBytes.{Appends}
 use Rattle.std.specs.Prelude.{flat_map}
 use Rattle.hwdb_spec.specs.Texts.{with_empty_lines}
-use Rattle.hwdb_transfer.specs.Devices.{AppendsPrefix}
+use Rattle.hwdb_spec.specs.Outputs.{AppendsPrefix}
 
 -- a text was taken, and then the rest
 pub whole_texts : (a b c : Option (List ℕ)) (text rest all : List ℕ) → all ≡ text ++ rest → Appends a b text → Appends b c rest → Appends a c all

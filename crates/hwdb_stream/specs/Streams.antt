@@ -6,7 +6,7 @@ use Rattle.hwdb_spec.specs.Json.{last_values_json, query_json}
 use Rattle.hwdb_spec.specs.ManyDevices.{explained_lines_json, explained_texts, explains_json, explains_text}
 use Rattle.hwdb_spec.specs.Texts.{devices_of, last_values_texts, queries_text}
 use Rattle.hwdb_spec.specs.Tree.{Tree}
-use Rattle.hwdb_transfer.specs.Databases.{IsNoDatabase}
+use Rattle.hwdb_spec.specs.Databases.{IsNoDatabase}
 use Rattle.hwdb_transfer.specs.declared.errors.ToolError.{ToolError}
 use Rattle.hwdb_transfer.specs.declared.errors.ToolError.TheVariants.{BadDatabase, Memory, Read, TooLong, TooManyLines, Write}
 use Rattle.hwdb_stream.specs.declared.chunk.LineReader.{LineReader}

@@ -13,7 +13,8 @@ use Rattle.hwdb_spec.specs.System.{AreNamesIn, IsNameIn, etc_files, usr_files}
 use Rattle.hwdb_text.specs.Views.{IsListed, choice_of}
 use Rattle.hwdb_text.specs.declared.choice.Chosen.{Chosen}
 use Rattle.hwdb_system.specs.Internal.{AreNamed, AreSelected, IsPartOf}
-use Rattle.hwdb_system.specs.LeftOut.{AreFound, AreLeftOut, AreSelectedLess, AreTold, AreToldOf, AreUnreadLess, IsLeftOut, IsNoted, IsNotedOf, is_named, left_out_line, less}
+use Rattle.hwdb_system.specs.LeftOut.{AreFound, AreSelectedLess, AreTold, AreToldOf, AreUnreadLess, IsNoted, IsNotedOf, left_out_line}
+use Rattle.hwdb_spec.specs.LeftOut.{AreLeftOut, IsLeftOut, is_named, less}
 use Rattle.hwdb_system.specs.Reading.{AreUnread, IsChosenUnread}
 use Rattle.hwdb_system.specs.Refusals.{HasReason, IsUnread, IsUnreadable, file_text}
 use Rattle.hwdb_system.specs.declared.refusals.Refusal.{Refusal}

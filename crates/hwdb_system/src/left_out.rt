@@ -3,7 +3,8 @@ ghost use Rattle.std.specs.Prelude.{◌≡◌, ◌≢◌, ◌⊎◌, ◌++◌, �
 ghost use Rattle.hwdb_spec.specs.Folders.{lists};
 ghost use Rattle.hwdb_text.specs.Views.{IsStorableChoice, choice_of};
 ghost use Rattle.hwdb_system.specs.Internal.{AreNamed, AreSelected, IsNameSet};
-ghost use Rattle.hwdb_system.specs.LeftOut.{AreFound, AreSelectedLess, AreToldOf, AreUnreadLess, IsNoted, IsNotedOf, left_out_line, less};
+ghost use Rattle.hwdb_system.specs.LeftOut.{AreFound, AreSelectedLess, AreToldOf, AreUnreadLess, IsNoted, IsNotedOf, left_out_line};
+ghost use Rattle.hwdb_spec.specs.LeftOut.{less};
 ghost use Rattle.hwdb_system.specs.Reading.{AreUnread, IsChosenUnread};
 ghost use Rattle.hwdb_system.specs.Refusals.{HasReason, IsUnreadable, file_text};
 ghost use Rattle.hwdb_system.specs.declared.refusals.Refusal.TheVariants.{Plain};

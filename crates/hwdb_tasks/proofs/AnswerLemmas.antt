@@ -4,17 +4,17 @@ use Rattle.std.specs.Prelude.{option_map}
 use Rattle.hwdb_spec.specs.Assignment.{Position}
 use Rattle.hwdb_spec.specs.Store.{Contents}
 use Rattle.hwdb_spec.specs.Texts.{with_empty_lines}
-use Rattle.hwdb_transfer.specs.Databases.{IsTextOf}
-use Rattle.hwdb_transfer.specs.Devices.{Wrote, WrotePrefix}
+use Rattle.hwdb_spec.specs.Databases.{IsTextOf}
+use Rattle.hwdb_spec.specs.Outputs.{Wrote, WrotePrefix}
 use Rattle.hwdb_commands.specs.Lookups.{IsAfter, IsListJson, IsListRefusal, IsListText}
 use Rattle.hwdb_transfer.specs.declared.errors.ToolError.{ToolError}
 use Rattle.hwdb_transfer.specs.declared.errors.ToolError.TheVariants.{Read, Write, TooLong, TooManyFiles, TooManyLines, TooLarge, BadPosition, BadDatabase, Replace, Memory}
 use Rattle.hwdb_stream.specs.declared.form.Form.TheVariants.{Explain}
 use Rattle.hwdb_stream.specs.Streams.{IfBadDatabase, texts_of}
-use Rattle.hwdb_tasks.specs.Done.{IsFrom, IsListFrom}
+use Rattle.hwdb_spec.specs.Asked.{IsFrom, IsListFrom, IsAskedPath}
 use Rattle.hwdb_tasks.specs.Internal.{explain_form}
 use Rattle.hwdb_system.specs.Refusals.{IsUnread}
-use Rattle.hwdb_tasks.specs.Undone.{IsAskedPath, IsListRefusedBy, IsUnfound}
+use Rattle.hwdb_tasks.specs.Undone.{IsListRefusedBy, IsUnfound}
 use Rattle.hwdb_system.specs.declared.refusals.Refusal.{Refusal}
 use Rattle.hwdb_system.specs.declared.refusals.Refusal.TheVariants.{At, InWords, NoDatabase, Plain}
 

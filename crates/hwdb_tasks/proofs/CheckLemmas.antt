@@ -8,18 +8,17 @@ use Rattle.std.proofs.lemmas.List.{length-map, get_or-map, drop_all}
 use Rattle.hwdb_spec.specs.Checks.{check_text}
 use Rattle.hwdb_spec.specs.Folders.{Choice, Source, path_of}
 use Rattle.std.proofs.lemmas.List.Elements.{All-nil, All-cons}
-use Rattle.hwdb_tasks.specs.Given.{IsContent, IsGiven, is_dash}
+use Rattle.hwdb_spec.specs.Given.{IsContent, IsGiven, is_dash, any_dash}
 use Rattle.hwdb_spec.specs.Store.{Contents}
 use Rattle.hwdb_spec.specs.System.{bytes_at}
-use Rattle.hwdb_transfer.specs.Devices.{AppendsPrefix}
+use Rattle.hwdb_spec.specs.Outputs.{AppendsPrefix}
 use Rattle.hwdb_transfer.specs.declared.errors.ToolError.{ToolError}
 use Rattle.hwdb_transfer.specs.declared.errors.ToolError.TheVariants.{Write}
 use Rattle.hwdb_lint.specs.Checks.{IsChecksRefusal, source_of}
 use Rattle.hwdb_lint.specs.declared.files.TextFile.{TextFile}
-use Rattle.hwdb_tasks.specs.CheckedFiles.{AreCheckedFiles, AreChosenFiles, AreGivenFiles}
+use Rattle.hwdb_spec.specs.CheckedFiles.{AreCheckedFiles, AreChosenFiles, AreGivenFiles}
 use Rattle.hwdb_system.specs.Internal.{AreSelected}
 use Rattle.hwdb_tasks.specs.Internal.{AreTextsGiven, bytes_given, bytes_if}
-use Rattle.hwdb_tasks.specs.Queries.{any_dash}
 use Rattle.hwdb_system.specs.Refusals.{IsUnread}
 use Rattle.hwdb_tasks.specs.Undone.{AreUncheckable, IsCheckRefused, IsGivenUnread, told_as, told_path}
 use Rattle.hwdb_system.specs.declared.refusals.Refusal.{Refusal}

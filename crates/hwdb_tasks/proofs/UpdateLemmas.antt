@@ -8,13 +8,15 @@ use Rattle.hwdb_spec.specs.Texts.{max_file}
 use Rattle.hwdb_store.specs.declared.replacement.Unreplaced.{Unreplaced}
 use Rattle.hwdb_compile.specs.declared.sources.ChosenFile.{ChosenFile}
 use Rattle.hwdb_compile.specs.Views.{ForFolders}
-use Rattle.hwdb_transfer.specs.Devices.{AppendsPrefix}
+use Rattle.hwdb_spec.specs.Outputs.{AppendsPrefix}
 use Rattle.hwdb_commands.specs.Updates.{IsUpdateRefusal, OnUnreplaced, UpdateUndone}
 use Rattle.hwdb_transfer.specs.declared.errors.ToolError.{ToolError}
 use Rattle.hwdb_transfer.specs.declared.errors.ToolError.TheVariants.{Read, Write, TooLong, TooManyFiles, TooManyLines, TooLarge, BadPosition, BadDatabase, Replace, Memory}
 use Rattle.hwdb_tasks.specs.Internal.{AreReadOf}
 use Rattle.hwdb_system.specs.Refusals.{HasReason, IsOfUpdate}
-use Rattle.hwdb_tasks.specs.Undone.{AreKept, IsSelectedRefused, database_path}
+use Rattle.hwdb_spec.specs.Done.{AreKept}
+use Rattle.hwdb_tasks.specs.Undone.{IsSelectedRefused}
+use Rattle.hwdb_spec.specs.Asked.{database_path}
 use Rattle.hwdb_system.specs.declared.refusals.Refusal.{Refusal}
 use Rattle.hwdb_system.specs.declared.refusals.Refusal.TheVariants.{At, InWords, NoDatabase, Plain}
 

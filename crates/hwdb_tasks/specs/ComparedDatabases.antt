@@ -1,30 +1,16 @@
 -- What `diff` leaves, and what it refuses. Our choice.
-use Rattle.std.specs.Prelude.{◌≡◌, ◌≢◌, ◌⊎◌, ℕ, Bool, List, Option, Some, if◌then◌else◌}
-use Rattle.hwdb_spec.specs.Store.{Contents}
-use Rattle.hwdb_spec.specs.System.{bytes_at}
-use Rattle.hwdb_transfer.specs.Devices.{Wrote, WrotePrefix}
-use Rattle.hwdb_transfer.specs.declared.errors.ToolError.TheVariants.{BadDatabase, Memory as OutOfMemory, Write as NotWritten}
-use Rattle.hwdb_inspect.specs.Diffs.{IsDiffRefusal, IsDiffText, IsDifferent}
+use Rattle.std.specs.Prelude.{◌≡◌, ◌≢◌, ◌⊎◌, List, Option, ℕ}
+use Rattle.hwdb_inspect.specs.Diffs.{IsDiffRefusal}
 use Rattle.hwdb_inspect.specs.declared.errors.DiffError.{DiffError}
-use Rattle.hwdb_inspect.specs.declared.errors.DiffError.TheVariants.{Old, New, Write, Memory}
+use Rattle.hwdb_inspect.specs.declared.errors.DiffError.TheVariants.{Memory, New, Old, Write}
+use Rattle.hwdb_spec.specs.Asked.{AreHeld}
+use Rattle.hwdb_spec.specs.Databases.{IsDiffText}
+use Rattle.hwdb_spec.specs.Outputs.{WrotePrefix}
+use Rattle.hwdb_spec.specs.Store.{Contents}
 use Rattle.hwdb_system.specs.Refusals.{IsAt, IsUnread}
 use Rattle.hwdb_system.specs.declared.refusals.Refusal.{Refusal}
 use Rattle.hwdb_system.specs.declared.refusals.Refusal.TheVariants.{Plain}
-
--- the two files hold this
-pub record AreHeld (old_path new_path : List ℕ) (contents : Contents) (old new : List ℕ) : Type 0 where
-  pub of_old : bytes_at contents old_path ≡ Some old
-  pub of_new : bytes_at contents new_path ≡ Some new
-
--- standard output took what changed from the one database to the other, and the status says whether something did
-pub record IsCompared (old_path new_path : List ℕ) (status : ℕ) (contents : Contents) (out_before out_now : Option (List ℕ)) : Type 0 where
-  pub old : List ℕ
-  pub new : List ℕ
-  pub held : AreHeld old_path new_path contents old new
-  pub printed : Wrote (IsDiffText old new) out_before out_now
-  pub answer : Bool
-  pub differ : IsDifferent old new answer
-  pub says : status ≡ (if answer then 1 else 0)
+use Rattle.hwdb_transfer.specs.declared.errors.ToolError.TheVariants.{BadDatabase, Memory as OutOfMemory, Write as NotWritten}
 
 -- the refusal of such an error: a fault of a database with its path
 abbrev pub IsOfDiff : DiffError → (old_path new_path : List ℕ) → Refusal → Type 0

@@ -6,7 +6,8 @@ use Rattle.hwdb_spec.specs.Hiding.{hiding_text}
 use Rattle.hwdb_spec.specs.Store.{Contents, Outcomes}
 use Rattle.hwdb_system.specs.declared.refusals.Refusal.{Refusal}
 use Rattle.hwdb_tasks.specs.Readable.{IsUpdateRefused, IsUpdatedLess}
-use Rattle.hwdb_tasks.specs.Undone.{AreKept, IsUntold}
+use Rattle.hwdb_spec.specs.Done.{AreKept}
+use Rattle.hwdb_tasks.specs.Undone.{IsUntold}
 
 -- standard error took that line, if there is one, and then what an update says that is done
 pub record IsUpdatedTelling (MayFail : (path : List ℕ) → Type 0) (root : List ℕ) (usr verbose strict skip : Bool) (status : ℕ) (old : Contents) (err_before err_now : Option (List ℕ)) (in_place : List ℕ → Type 0) : Type 0 where

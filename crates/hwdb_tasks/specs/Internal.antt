@@ -1,6 +1,6 @@
 -- What the steps of a task hold.
 use Rattle.std.specs.Prelude.{◌≡◌, ℕ, Bool, true, false, List, Option, Some, length, map, string_bytes}
-use Rattle.hwdb_tasks.specs.Given.{is_dash}
+use Rattle.hwdb_spec.specs.Given.{is_dash}
 use Rattle.hwdb_spec.specs.Progress.{within_64_bits}
 use Rattle.hwdb_spec.specs.Written.{IsCompiled}
 use Rattle.hwdb_compile.specs.declared.sources.Compiled.{Compiled}

@@ -1,10 +1,7 @@
-pub mod Done
 pub mod Undone
 pub mod Readable
 pub mod Queries
-pub mod CheckedFiles
 pub mod ComparedDatabases
 pub mod Internal
 pub mod NamedDatabases
 pub mod Hiding
-pub mod Given

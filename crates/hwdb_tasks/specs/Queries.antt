@@ -1,36 +1,25 @@
 -- `query` and `explain` of the devices of their words, or with a lone `-` of those that standard input names, one a line: what
 -- they leave, and what they refuse. Our choice.
-use Rattle.std.specs.Prelude.{◌≡◌, ◌<◌, ◌⊎◌, ℕ, Bool, true, false, List, [], ◌∷◌, Option, Some, IfSome, codes, length}
-use Rattle.std.specs.List.{list_any}
-use Rattle.std.specs.Str.{bytes_eq}
+use Rattle.std.specs.Prelude.{◌<◌, ◌≡◌, ◌⊎◌, Bool, IfSome, List, Option, Some, codes, false, length, true, ℕ}
+use Rattle.hwdb_spec.specs.Asked.{IsAnswered, IsAskedPath}
+use Rattle.hwdb_spec.specs.Databases.{IsTextOf}
 use Rattle.hwdb_spec.specs.Failures.{HasFailed}
 use Rattle.hwdb_spec.specs.Folders.{max_lines}
-use Rattle.hwdb_tasks.specs.Given.{is_dash}
+use Rattle.hwdb_spec.specs.Given.{is_input}
+use Rattle.hwdb_spec.specs.ManyDevices.{HasLongLine}
+use Rattle.hwdb_spec.specs.Outputs.{WrotePrefix}
 use Rattle.hwdb_spec.specs.Store.{Contents}
 use Rattle.hwdb_spec.specs.System.{asked_database}
-use Rattle.hwdb_spec.specs.ManyDevices.{HasLongLine}
 use Rattle.hwdb_spec.specs.Texts.{devices_of, max_file}
-use Rattle.hwdb_transfer.specs.Devices.{WrotePrefix}
-use Rattle.hwdb_transfer.specs.Databases.{IsQueryRefusal, IsTextOf}
-use Rattle.hwdb_transfer.specs.declared.errors.ToolError.TheVariants.{Read, TooLong, TooManyLines}
-use Rattle.hwdb_transfer.specs.declared.errors.ToolError.{ToolError}
-use Rattle.hwdb_stream.specs.declared.form.Form.{Form}
 use Rattle.hwdb_stream.specs.Streams.{IfBadDatabase, IsStreamRefusal, texts_of}
+use Rattle.hwdb_stream.specs.declared.form.Form.{Form}
 use Rattle.hwdb_system.specs.Refusals.{IsAt, IsOfDatabase}
-use Rattle.hwdb_system.specs.declared.refusals.Refusal.TheVariants.{At, Plain}
 use Rattle.hwdb_system.specs.declared.refusals.Refusal.{Refusal}
-use Rattle.hwdb_tasks.specs.Done.{IsAnswered}
-use Rattle.hwdb_tasks.specs.Undone.{IsAnswerRefused, IsAskedPath, IsUnfound}
-
--- the devices are those that standard input names
-abbrev pub is_input : (devices : List (List ℕ)) → Bool
-is_input [] = false
-is_input (device ∷ []) = bytes_eq device (codes "-")
-is_input (device ∷ next ∷ more) = false
-
--- one of the paths stands for standard input
-abbrev pub any_dash : (given : List (List ℕ)) → Bool
-any_dash given = list_any is_dash given
+use Rattle.hwdb_system.specs.declared.refusals.Refusal.TheVariants.{At, Plain}
+use Rattle.hwdb_tasks.specs.Undone.{IsAnswerRefused, IsUnfound}
+use Rattle.hwdb_transfer.specs.Databases.{IsQueryRefusal}
+use Rattle.hwdb_transfer.specs.declared.errors.ToolError.{ToolError}
+use Rattle.hwdb_transfer.specs.declared.errors.ToolError.TheVariants.{Read, TooLong, TooManyLines}
 
 -- standard output took what the database gives these devices, or, where the input tells its bytes, those that it names
 abbrev pub AreAnsweredFrom : (from_input : Bool) (root : List ℕ) (form : Form) (devices : List (List ℕ)) (input : Option (List ℕ)) → Contents → (out_before out_now : Option (List ℕ)) → Type 0

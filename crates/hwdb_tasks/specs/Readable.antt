@@ -1,18 +1,14 @@
 -- An update of the text files that can be read: the others are left out with `--skip-unreadable`, which standard error is told
 -- first. What it leaves, and what it refuses. Our choice.
-use Rattle.std.specs.Prelude.{◌≡◌, ◌⊎◌, ℕ, Bool, List, [], ◌∷◌, Option, if◌then◌else◌}
 use Rattle.std.specs.Io.KnownBytes.{Appends}
+use Rattle.std.specs.Prelude.{◌≡◌, ◌⊎◌, Bool, List, Option, ℕ}
+use Rattle.hwdb_spec.specs.Done.{AreKept, IsUpdated}
 use Rattle.hwdb_spec.specs.Folders.{Choice}
-use Rattle.hwdb_spec.specs.Store.{Contents, Outcomes, Stored}
-use Rattle.hwdb_system.specs.LeftOut.{AreLeftOut, AreTold, AreUnreadLess, without}
+use Rattle.hwdb_spec.specs.LeftOut.{AreLeftOut, status_less, without}
+use Rattle.hwdb_spec.specs.Store.{Contents, Outcomes}
+use Rattle.hwdb_system.specs.LeftOut.{AreTold, AreUnreadLess}
 use Rattle.hwdb_system.specs.declared.refusals.Refusal.{Refusal}
-use Rattle.hwdb_tasks.specs.Done.{IsLeftByUpdate, IsUpdated}
-use Rattle.hwdb_tasks.specs.Undone.{AreKept, IsSelectedRefused, IsUntold}
-
--- the status of an update that left out these files, where it would be this one for the others alone
-abbrev pub status_less : (strict : Bool) (left_out : List Choice) (status : ℕ) → ℕ
-status_less strict [] status = status
-status_less strict (c ∷ more) status = if strict then 1 else status
+use Rattle.hwdb_tasks.specs.Undone.{IsSelectedRefused, IsUntold}
 
 -- standard error took the lines of the files that are left out, and then what an update of the others says that is done
 pub record IsUpdatedLess (MayFail : (path : List ℕ) → Type 0) (root : List ℕ) (verbose strict skip : Bool) (status : ℕ) (old : Contents) (err_before err_now : Option (List ℕ)) (in_place : List ℕ → Type 0) : Type 0 where
@@ -45,13 +41,3 @@ abbrev pub IsUpdateRefused : (MayFail : (path : List ℕ) → Type 0) (root : Li
 IsUpdateRefused MayFail root usr verbose skip refusal old new left_before left err_before err_then =
     (AreUnreadLess skip MayFail root old refusal × AreKept old new left_before left × (err_then ≡ err_before))
     ⊎ IsRefusedLess MayFail root usr verbose skip refusal old new left_before left err_before err_then
-
--- an update leaves this under a path, where it may have left files out
-pub record IsLeftByUpdateLess (MayFail : (path : List ℕ) → Type 0) (root : List ℕ) (usr skip : Bool) (old : Contents) (p : List ℕ) (v : Option Stored) : Type 0 where
-  pub left_out : List Choice
-  pub are : AreLeftOut skip MayFail root old left_out
-  pub left : IsLeftByUpdate root usr (without left_out root old) old p v
-
--- what a crash may leave during an update
-abbrev pub OldOrUpdatedLess : (MayFail : (path : List ℕ) → Type 0) (root : List ℕ) (usr skip : Bool) (old : Contents) (outcomes : Outcomes) → Outcomes
-OldOrUpdatedLess MayFail root usr skip old outcomes p v = outcomes p v ⊎ IsLeftByUpdateLess MayFail root usr skip old p v

@@ -1,40 +1,27 @@
 -- What each task may refuse, when, and what it leaves. Our choice.
-use Rattle.std.specs.Prelude.{◌≡◌, ◌≢◌, ◌⊎◌, ℕ, Bool, true, false, List, [], ◌∷◌, Option, Some, None, Contains, codes}
+use Rattle.std.specs.Prelude.{◌∷◌, ◌≡◌, ◌≢◌, ◌⊎◌, Bool, Contains, List, None, Option, Some, [], codes, false, true, ℕ}
+use Rattle.hwdb_commands.specs.Updates.{IsAskRefusal, IsUpdateRefusal, UpdateUndone}
+use Rattle.hwdb_lint.specs.Checks.{IsChecksRefusal}
+use Rattle.hwdb_spec.specs.Asked.{IsAskedPath, IsFrom, database_path}
 use Rattle.hwdb_spec.specs.Assignment.{Position}
 use Rattle.hwdb_spec.specs.Checks.{check_text}
-use Rattle.hwdb_spec.specs.Folders.{Source}
-use Rattle.hwdb_tasks.specs.Given.{IsGiven, is_dash}
-use Rattle.hwdb_spec.specs.Progress.{listing, update_text}
+use Rattle.hwdb_spec.specs.Databases.{IsNoDatabase}
+use Rattle.hwdb_spec.specs.Done.{AreAskTexts, AreKept}
 use Rattle.hwdb_spec.specs.Failures.{HasFailed}
-use Rattle.hwdb_spec.specs.Store.{AreTaken, Contents, Outcomes, NoMore, Same, database_name, most_parts, path_in}
-use Rattle.hwdb_spec.specs.System.{AreFilesIn, asked_database, bytes_at, database_folder, etc_files, usr_files}
+use Rattle.hwdb_spec.specs.Folders.{Source}
+use Rattle.hwdb_spec.specs.Given.{IsGiven, is_dash}
+use Rattle.hwdb_spec.specs.Outputs.{AppendsPrefix, WrotePrefix, WroteTextsPrefix}
+use Rattle.hwdb_spec.specs.Progress.{listing, update_text}
+use Rattle.hwdb_spec.specs.Store.{AreTaken, Contents, Outcomes, most_parts}
+use Rattle.hwdb_spec.specs.System.{AreFilesIn, asked_database, database_folder, etc_files, usr_files}
 use Rattle.hwdb_spec.specs.Texts.{IsSpelling, max_file}
 use Rattle.hwdb_store.specs.declared.replacement.Unreplaced.{Unreplaced}
-use Rattle.hwdb_transfer.specs.Devices.{AppendsPrefix, WroteTextsPrefix, WrotePrefix}
-use Rattle.hwdb_transfer.specs.Databases.{IsNoDatabase}
-use Rattle.hwdb_commands.specs.Updates.{AreAskTexts, IsAskRefusal, IsUpdateRefusal, UpdateUndone}
-use Rattle.hwdb_transfer.specs.declared.errors.ToolError.TheVariants.{BadDatabase, BadPosition, Memory, Write}
-use Rattle.hwdb_transfer.specs.declared.errors.ToolError.{ToolError}
-use Rattle.hwdb_lint.specs.Checks.{IsChecksRefusal}
-use Rattle.hwdb_tasks.specs.Done.{IsFrom}
-use Rattle.hwdb_system.specs.Refusals.{IsOfDatabase, IsOver, IsUnread, IsUnreadable}
-use Rattle.hwdb_system.specs.declared.refusals.Refusal.TheVariants.{NoDatabase, Plain}
-use Rattle.hwdb_system.specs.declared.refusals.Refusal.{Refusal}
 use Rattle.hwdb_system.specs.Reading.{AreUnread}
-
--- the files are as they were, and a crash leaves nothing else of them
-pub record AreKept (old new : Contents) (left_before left : Outcomes) : Type 0 where
-  pub same : Same old new
-  pub no_more : NoMore left_before left
-
--- the path of the database in one of the folders below a root
-abbrev pub database_path : (usr : Bool) (root : List ℕ) → List ℕ
-database_path usr root = path_in (database_folder usr root) database_name
-
--- the path of the database that is asked: /etc's, or where nothing stands there that of /usr/lib
-abbrev pub IsAskedPath : (root : List ℕ) → Contents → (path : List ℕ) → Type 0
-IsAskedPath root contents path =
-    (path ≡ database_path false root) ⊎ ((path ≡ database_path true root) × (bytes_at contents (database_path false root) ≡ None))
+use Rattle.hwdb_system.specs.Refusals.{IsOfDatabase, IsOver, IsUnread, IsUnreadable}
+use Rattle.hwdb_system.specs.declared.refusals.Refusal.{Refusal}
+use Rattle.hwdb_system.specs.declared.refusals.Refusal.TheVariants.{NoDatabase, Plain}
+use Rattle.hwdb_transfer.specs.declared.errors.ToolError.{ToolError}
+use Rattle.hwdb_transfer.specs.declared.errors.ToolError.TheVariants.{BadDatabase, BadPosition, Memory, Write}
 
 -- what finding that database may refuse: there is none, or it can't be read
 abbrev pub IsUnfound : (root : List ℕ) → Contents → Refusal → Type 0

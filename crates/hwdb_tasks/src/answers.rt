@@ -1,12 +1,14 @@
 //! What devices get: from the database, or from one text file.
 ghost use Rattle.std.specs.Prelude.{[], ◌∷◌, ◌≡◌, ◌≢◌, ◌⊎◌, true, false, option_map, IfErr, OnOk};
 ghost use Rattle.hwdb_spec.specs.Failures.{HasFailed};
-ghost use Rattle.hwdb_transfer.specs.Databases.{IsQueryRefusal, IsTextOf};
-ghost use Rattle.hwdb_transfer.specs.Devices.{Wrote, WrotePrefix};
+ghost use Rattle.hwdb_transfer.specs.Databases.{IsQueryRefusal};
+ghost use Rattle.hwdb_spec.specs.Databases.{IsTextOf};
+ghost use Rattle.hwdb_spec.specs.Outputs.{Wrote, WrotePrefix};
 ghost use Rattle.hwdb_stream.specs.Streams.{texts_of};
 ghost use Rattle.hwdb_system.specs.Refusals.{HasReason, IsUnreadable};
-ghost use Rattle.hwdb_tasks.specs.Done.{IsAnswered, IsAsked, IsListFrom};
-ghost use Rattle.hwdb_tasks.specs.Given.{is_dash};
+ghost use Rattle.hwdb_spec.specs.Asked.{IsAnswered, IsListFrom};
+ghost use Rattle.hwdb_spec.specs.Done.{IsAsked};
+ghost use Rattle.hwdb_spec.specs.Given.{is_dash};
 ghost use Rattle.hwdb_tasks.specs.Internal.{explain_form};
 ghost use Rattle.hwdb_tasks.specs.Queries.{AreAnswered, AreUnanswered, IsInputUnread};
 ghost use Rattle.hwdb_tasks.specs.Undone.{IsAnswerRefused, IsAskRefused, IsListRefusedBy};

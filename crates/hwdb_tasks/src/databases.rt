@@ -4,8 +4,9 @@ ghost use Rattle.hwdb_spec.specs.Store as spec;
 ghost use Rattle.hwdb_spec.specs.System as Folder;
 ghost use Rattle.hwdb_spec.specs.System.{asked_database, bytes_at};
 ghost use Rattle.hwdb_system.specs.Refusals.{HasReason, IsUnread, IsUnreadable};
-ghost use Rattle.hwdb_tasks.specs.NamedDatabases.{IsNamedPath, IsUnnamed, named_database};
-ghost use Rattle.hwdb_tasks.specs.Undone.{IsAskedPath, IsUnfound, IsUnreadableIf};
+ghost use Rattle.hwdb_spec.specs.Asked.{IsNamedPath, named_database, IsAskedPath};
+ghost use Rattle.hwdb_tasks.specs.NamedDatabases.{IsUnnamed};
+ghost use Rattle.hwdb_tasks.specs.Undone.{IsUnfound, IsUnreadableIf};
 ghost use Rattle.hwdb_system.specs.declared.refusals.Refusal.TheVariants.{Plain};
 
 use hwdb_store::DATABASE;

@@ -2,7 +2,8 @@
 ghost use Rattle.std.specs.Prelude.{◌≡◌, ◌≤◌, IfOk, IfErr};
 ghost use Rattle.hwdb_spec.specs.Failures.{HasFailed};
 ghost use Rattle.hwdb_system.specs.Refusals.{HasReason, IsUnreadable};
-ghost use Rattle.hwdb_tasks.specs.ComparedDatabases.{IsCompared, IsDiffRefused, IsOfDiff};
+ghost use Rattle.hwdb_spec.specs.Asked.{IsCompared};
+ghost use Rattle.hwdb_tasks.specs.ComparedDatabases.{IsDiffRefused, IsOfDiff};
 ghost use Rattle.hwdb_system.specs.declared.refusals.Refusal.TheVariants.{Plain};
 
 use hwdb_devices::Sink;

@@ -2,7 +2,8 @@
 ghost use Rattle.std.specs.Prelude.{◌≡◌, is_some, option_map, IfOk, IfErr, OnOk};
 ghost use Rattle.hwdb_spec.specs.Failures.{HasFailed};
 ghost use Rattle.hwdb_system.specs.Refusals.{HasReason, IsInWords};
-ghost use Rattle.hwdb_tasks.specs.NamedDatabases.{IsDumpRefused, IsDumped, IsOfDump, unsayable_text};
+ghost use Rattle.hwdb_tasks.specs.NamedDatabases.{IsDumpRefused, IsOfDump};
+ghost use Rattle.hwdb_spec.specs.Asked.{IsDumped, unsayable_text};
 ghost use Rattle.hwdb_tasks.specs.Undone.{IsUnreadableIf};
 ghost use Rattle.hwdb_system.specs.declared.refusals.Refusal.TheVariants.{Plain};
 

@@ -1,9 +1,9 @@
 //! The files that words name: `-` is standard input, which is read once.
 ghost use Rattle.std.specs.Prelude.{◌≡◌, ◌≢◌, ◌⊎◌, Some, true, false, codes, map, string_bytes, IfOk, IfErr, IfSome};
-ghost use Rattle.hwdb_tasks.specs.Given.{IsGiven, is_dash};
+ghost use Rattle.hwdb_spec.specs.Given.{IsGiven, is_dash, any_dash};
 ghost use Rattle.hwdb_system.specs.Refusals.{HasReason, IsUnread, IsUnreadable};
 ghost use Rattle.hwdb_tasks.specs.Internal.{bytes_given};
-ghost use Rattle.hwdb_tasks.specs.Queries.{IsInputUnread, IsOfWholeInput, any_dash};
+ghost use Rattle.hwdb_tasks.specs.Queries.{IsInputUnread, IsOfWholeInput};
 ghost use Rattle.hwdb_tasks.specs.Undone.{IsGivenUnread, told_path};
 ghost use Rattle.hwdb_system.specs.declared.refusals.Refusal.TheVariants.{Plain};
 

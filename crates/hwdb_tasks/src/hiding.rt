@@ -6,9 +6,10 @@ ghost use Rattle.hwdb_spec.specs.Hiding.{hiding_line, hiding_text};
 ghost use Rattle.hwdb_spec.specs.Store as spec;
 ghost use Rattle.hwdb_spec.specs.System as Folder;
 ghost use Rattle.hwdb_tasks.specs.Hiding.{IsTellingUpdateRefused, IsUpdatedTelling};
-ghost use Rattle.hwdb_tasks.specs.Readable.{OldOrUpdatedLess};
+ghost use Rattle.hwdb_spec.specs.Done.{OldOrUpdatedLess};
 ghost use Rattle.hwdb_system.specs.Refusals.{HasReason};
-ghost use Rattle.hwdb_tasks.specs.Undone.{IsUntold, IsUnwritable, database_path};
+ghost use Rattle.hwdb_tasks.specs.Undone.{IsUntold, IsUnwritable};
+ghost use Rattle.hwdb_spec.specs.Asked.{database_path};
 ghost use Rattle.hwdb_system.specs.declared.refusals.Refusal.TheVariants.{Plain};
 
 use crate::databases::database_folder;

@@ -2,10 +2,10 @@
 ghost use Rattle.std.specs.Prelude.{◌≡◌, ◌⊎◌, IfErr, IfSome, OnOk};
 ghost use Rattle.hwdb_spec.specs.Failures.{HasFailed};
 ghost use Rattle.hwdb_spec.specs.Texts.{devices_of};
-ghost use Rattle.hwdb_transfer.specs.Databases.{IsTextOf};
+ghost use Rattle.hwdb_spec.specs.Databases.{IsTextOf};
 ghost use Rattle.hwdb_stream.specs.Streams.{texts_of};
 ghost use Rattle.hwdb_system.specs.Refusals.{HasReason};
-ghost use Rattle.hwdb_tasks.specs.Done.{IsAnswered};
+ghost use Rattle.hwdb_spec.specs.Asked.{IsAnswered};
 ghost use Rattle.hwdb_tasks.specs.Queries.{IsInputUnread, IsOfInput, IsStreamRefused};
 ghost use Rattle.hwdb_system.specs.declared.refusals.Refusal.TheVariants.{Plain};
 

@@ -1,12 +1,14 @@
 //! `query`: what each of several devices gets, those of the words or those that standard input names.
 ghost use Rattle.std.specs.Prelude.{◌≡◌, ◌≢◌, ◌⊎◌, true, false, map, string_bytes, IfErr, OnOk};
 ghost use Rattle.hwdb_spec.specs.Failures.{HasFailed};
-ghost use Rattle.hwdb_transfer.specs.Databases.{IsQueryRefusal, IsTextOf};
-ghost use Rattle.hwdb_transfer.specs.Devices.{Wrote, WrotePrefix};
+ghost use Rattle.hwdb_transfer.specs.Databases.{IsQueryRefusal};
+ghost use Rattle.hwdb_spec.specs.Databases.{IsTextOf};
+ghost use Rattle.hwdb_spec.specs.Outputs.{Wrote, WrotePrefix};
 ghost use Rattle.hwdb_stream.specs.Streams.{texts_of};
 ghost use Rattle.hwdb_system.specs.Refusals.{HasReason};
-ghost use Rattle.hwdb_tasks.specs.Done.{IsAnswered};
-ghost use Rattle.hwdb_tasks.specs.Queries.{AreAnswered, AreUnanswered, IsInputUnread, is_input};
+ghost use Rattle.hwdb_spec.specs.Asked.{IsAnswered};
+ghost use Rattle.hwdb_tasks.specs.Queries.{AreAnswered, AreUnanswered, IsInputUnread};
+ghost use Rattle.hwdb_spec.specs.Given.{is_input};
 ghost use Rattle.hwdb_tasks.specs.Undone.{IsAnswerRefused};
 ghost use Rattle.hwdb_system.specs.declared.refusals.Refusal.TheVariants.{Plain};
 

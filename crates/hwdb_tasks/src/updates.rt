@@ -10,13 +10,14 @@ ghost use Rattle.hwdb_spec.specs.Folders.{Choice};
 ghost use Rattle.hwdb_text.specs.Views.{IsStorableChoice, choice_of};
 ghost use Rattle.hwdb_compile.specs.Views.{ForFolders, choice_in};
 ghost use Rattle.hwdb_store.specs.Views.{failures_after};
-ghost use Rattle.hwdb_transfer.specs.Devices.{AppendsPrefix};
-ghost use Rattle.hwdb_commands.specs.Updates.{IsUpdateRefusal, OldOrWritten, OnUnreplaced, UpdateUndone, Updated};
-ghost use Rattle.hwdb_tasks.specs.Done.{IsUpdated, OldOrUpdated};
+ghost use Rattle.hwdb_spec.specs.Outputs.{AppendsPrefix};
+ghost use Rattle.hwdb_commands.specs.Updates.{IsUpdateRefusal, OnUnreplaced, UpdateUndone};
+ghost use Rattle.hwdb_spec.specs.Done.{OldOrWritten, Updated, IsUpdated, OldOrUpdated, OldOrUpdatedLess};
 ghost use Rattle.hwdb_system.specs.LeftOut.{AreTold};
 ghost use Rattle.hwdb_system.specs.Refusals.{HasReason};
 ghost use Rattle.hwdb_tasks.specs.Internal.{IsOfSelection};
-ghost use Rattle.hwdb_tasks.specs.Readable.{IsUpdateRefused, IsUpdatedLess, OldOrUpdatedLess, status_less};
+ghost use Rattle.hwdb_tasks.specs.Readable.{IsUpdateRefused, IsUpdatedLess};
+ghost use Rattle.hwdb_spec.specs.LeftOut.{status_less};
 ghost use Rattle.hwdb_tasks.specs.Undone.{IsSelectedRefused, IsUnwritable};
 ghost use Rattle.hwdb_system.specs.declared.refusals.Refusal.TheVariants.{Plain};
 

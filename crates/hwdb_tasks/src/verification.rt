@@ -3,7 +3,9 @@ ghost use Rattle.std.specs.Prelude.{◌≡◌, is_some, option_map, OnOk, IfErr}
 ghost use Rattle.hwdb_spec.specs.Failures.{HasFailed};
 ghost use Rattle.hwdb_spec.specs.Verdicts.{verdict_text};
 ghost use Rattle.hwdb_system.specs.Refusals.{HasReason, IsInWords};
-ghost use Rattle.hwdb_tasks.specs.NamedDatabases.{IsOfVerify, IsPrinted, IsSummary, IsVerifyRefused};
+ghost use Rattle.hwdb_tasks.specs.NamedDatabases.{IsOfVerify, IsVerifyRefused};
+ghost use Rattle.hwdb_spec.specs.Asked.{IsPrinted};
+ghost use Rattle.hwdb_spec.specs.Databases.{IsSummary};
 ghost use Rattle.hwdb_tasks.specs.Undone.{IsUnreadableIf};
 ghost use Rattle.hwdb_system.specs.declared.refusals.Refusal.TheVariants.{Plain};
 

@@ -8,8 +8,9 @@ use Rattle.hwdb_spec.specs.Last.{AreLast}
 use Rattle.hwdb_spec.specs.Store.{Contents, path_in, database_name, database_file}
 use Rattle.hwdb_spec.specs.System.{AreFilesIn, database_folder, etc_files, usr_files}
 use Rattle.hwdb_spec.specs.Texts.{properties_text, queries_text}
-use Rattle.hwdb_transfer.specs.Databases.{IsTextOf}
-use Rattle.hwdb_tasks.specs.Done.{IsAnswered, IsUpdated}
+use Rattle.hwdb_spec.specs.Databases.{IsTextOf}
+use Rattle.hwdb_spec.specs.Asked.{IsAnswered}
+use Rattle.hwdb_spec.specs.Done.{IsUpdated}
 
 -- Standard output took for each key the value of the last assignment: of those that the text files of both folders have,
 -- the last of each pattern and key whose pattern matches the device.

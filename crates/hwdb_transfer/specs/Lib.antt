@@ -1,4 +1,2 @@
-pub mod Devices
 pub mod Refusals
 pub mod Databases
-pub mod LoneFile

@@ -1,7 +1,7 @@
 use Rattle.std.proofs.Common.{◌≡◌, List, ℕ, Option, length}
 use Rattle.std.specs.Prelude.{flat_map}
 use Rattle.std.specs.Io.KnownBytes.{Appends}
-use Rattle.hwdb_transfer.specs.Devices.{AppendsPrefix}
+use Rattle.hwdb_spec.specs.Outputs.{AppendsPrefix}
 use Rattle.hwdb_commands.specs.Lookups.{AppendsLines, line_of}
 use Rattle.hwdb_spec.specs.Texts.{within_limit}
 use Rattle.hwdb_commands.proofs.hit_lines.print_hits.Given as goal

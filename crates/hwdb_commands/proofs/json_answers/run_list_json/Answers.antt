@@ -6,7 +6,7 @@ use Rattle.hwdb_spec.specs.Answers.{last_assignments}
 use Rattle.hwdb_spec.specs.Assignment.{Assignment}
 use Rattle.hwdb_spec.specs.Tree.{answers_after}
 use Rattle.hwdb_query.specs.Views.{next_position, Progress}
-use Rattle.hwdb_transfer.specs.Devices.{AppendsPrefix}
+use Rattle.hwdb_spec.specs.Outputs.{AppendsPrefix}
 use Rattle.hwdb_commands.specs.Lookups.{AppendsLines}
 use Rattle.hwdb_spec.specs.Json.{hit_json, hits_json, json_line}
 use Rattle.hwdb_spec.specs.Texts.{within_limit}

@@ -6,7 +6,7 @@ use Rattle.hwdb_spec.specs.Answers.{last_assignments}
 use Rattle.hwdb_spec.specs.Assignment.{Assignment}
 use Rattle.hwdb_spec.specs.Tree.{answers_after}
 use Rattle.hwdb_query.specs.Views.{next_position, Progress}
-use Rattle.hwdb_transfer.specs.Devices.{AppendsPrefix}
+use Rattle.hwdb_spec.specs.Outputs.{AppendsPrefix}
 use Rattle.hwdb_commands.specs.Lookups.{AppendsLines}
 use Rattle.hwdb_spec.specs.Texts.{hit_text, hits_text, within_limit}
 use Rattle.hwdb_commands.proofs.RefusalLemmas.{list_without_memory, lent_position}

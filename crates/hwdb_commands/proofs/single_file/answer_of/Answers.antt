@@ -4,8 +4,8 @@ use Rattle.hwdb_spec.specs.Folders.{faults_of_files}
 use Rattle.hwdb_spec.specs.Texts.{max_file, faults_text_at, query_text}
 use Rattle.hwdb_spec.specs.Written.{IsDatabaseOf}
 use Rattle.hwdb_compile.specs.Views.{fault_of}
-use Rattle.hwdb_transfer.specs.Databases.{IsTextOf}
-use Rattle.hwdb_transfer.specs.LoneFile.{lone}
+use Rattle.hwdb_spec.specs.Databases.{IsTextOf}
+use Rattle.hwdb_spec.specs.LoneFile.{lone}
 use Rattle.hwdb_commands.proofs.RefusalLemmas.{asked_refused, lone_refused}
 use Rattle.hwdb_commands.proofs.UpdateLemmas.{lone_chosen}
 use Rattle.hwdb_commands.proofs.single_file.answer_of.Goals as goal

@@ -1,7 +1,7 @@
 use Rattle.std.proofs.Common.{◌≡◌, ◌++◌, ◌||◌, List, ℕ, Option}
 use Rattle.std.specs.Io.KnownBytes.{Appends}
 use Rattle.hwdb_spec.specs.Differences.{changes_text, are_some}
-use Rattle.hwdb_transfer.specs.Devices.{AppendsPrefix}
+use Rattle.hwdb_spec.specs.Outputs.{AppendsPrefix}
 use Rattle.hwdb_inspect.specs.Internal.Pairing.{to_tell, size}
 use Rattle.hwdb_inspect.proofs.difference.print_changes.Given as goal
 

@@ -1,6 +1,6 @@
 use Rattle.std.proofs.Common.{◌≡◌, ◌++◌, List, ℕ, Option, map, drop, flat_map}
 use Rattle.std.specs.Io.KnownBytes.{Appends}
-use Rattle.hwdb_transfer.specs.Devices.{AppendsPrefix}
+use Rattle.hwdb_spec.specs.Outputs.{AppendsPrefix}
 use Rattle.hwdb_spec.specs.Dump.{record_text}
 use Rattle.hwdb_inspect.specs.Views.{assignment_of}
 use Rattle.hwdb_inspect.proofs.dump.print_records.Given as goal

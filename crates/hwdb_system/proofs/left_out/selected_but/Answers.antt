@@ -1,5 +1,5 @@
 use Rattle.std.proofs.Common.{◌∙◌, ap, map, string_bytes}
-use Rattle.hwdb_system.specs.LeftOut.{less}
+use Rattle.hwdb_spec.specs.LeftOut.{less}
 use Rattle.hwdb_system.proofs.LeftOutLemmas.{named_less}
 use Rattle.hwdb_system.proofs.left_out.selected_but.Goals as goal
 

@@ -1,6 +1,6 @@
 use Rattle.std.proofs.Common.{◌≡◌, ap, subst, sym, true, false, Err}
-use Rattle.hwdb_transfer.specs.Databases.{IsTextOf}
-use Rattle.hwdb_transfer.specs.Devices.{WrotePrefix}
+use Rattle.hwdb_spec.specs.Databases.{IsTextOf}
+use Rattle.hwdb_spec.specs.Outputs.{WrotePrefix}
 use Rattle.hwdb_transfer.specs.declared.errors.ToolError.TheVariants.{Write}
 use Rattle.hwdb_tasks.specs.Internal.{explain_form}
 use Rattle.hwdb_tasks.proofs.ErrorLemmas.{given_error}

@@ -1,8 +1,8 @@
 use Rattle.std.proofs.Common.{◌≡◌, ap, subst, sym, true, false, Err}
 use Rattle.std.specs.Prelude.{option_map}
-use Rattle.hwdb_transfer.specs.Devices.{WrotePrefix}
+use Rattle.hwdb_spec.specs.Outputs.{WrotePrefix}
 use Rattle.hwdb_transfer.specs.declared.errors.ToolError.TheVariants.{Write}
-use Rattle.hwdb_tasks.specs.Done.{IsListFrom}
+use Rattle.hwdb_spec.specs.Asked.{IsListFrom}
 use Rattle.hwdb_tasks.specs.Undone.{IsListRefusedBy}
 use Rattle.hwdb_tasks.proofs.AnswerLemmas.{list_cut, list_json_cut, list_refused}
 use Rattle.hwdb_tasks.proofs.ErrorLemmas.{given_error}

@@ -2,7 +2,7 @@ use Rattle.std.proofs.Common.{Err, map, string_bytes, ap, ◌∙◌, ◌≡◌}
 use Rattle.hwdb_spec.specs.Folders.{path_of}
 use Rattle.hwdb_text.specs.Views.{choice_of}
 use Rattle.hwdb_lint.specs.Checks.{source_of}
-use Rattle.hwdb_tasks.specs.CheckedFiles.{AreChosenFiles}
+use Rattle.hwdb_spec.specs.CheckedFiles.{AreChosenFiles}
 use Rattle.hwdb_system.specs.Reading.{AreUnread}
 use Rattle.hwdb_tasks.proofs.CheckLemmas.{chosen_sources, unchecked}
 use Rattle.hwdb_tasks.proofs.checks.check_chosen.Goals as goal

@@ -1,6 +1,6 @@
 use Rattle.std.proofs.Common.{Err, map, string_bytes, ap, ◌∙◌, ◌≡◌}
 use Rattle.hwdb_lint.specs.Checks.{source_of}
-use Rattle.hwdb_tasks.specs.CheckedFiles.{AreGivenFiles}
+use Rattle.hwdb_spec.specs.CheckedFiles.{AreGivenFiles}
 use Rattle.hwdb_tasks.specs.Undone.{IsGivenUnread}
 use Rattle.hwdb_tasks.proofs.CheckLemmas.{given_sources, told_of, unchecked}
 use Rattle.hwdb_tasks.proofs.checks.check_given.Goals as goal

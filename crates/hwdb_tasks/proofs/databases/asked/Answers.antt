@@ -1,6 +1,7 @@
 use Rattle.std.proofs.Common.{◌∙◌, ap, inl, inr, refl, sym, true, false}
 use Rattle.std.specs.Prelude.{option_map}
-use Rattle.hwdb_tasks.specs.Undone.{IsUnfound, database_path}
+use Rattle.hwdb_tasks.specs.Undone.{IsUnfound}
+use Rattle.hwdb_spec.specs.Asked.{database_path}
 use Rattle.hwdb_tasks.proofs.AnswerLemmas.{unfound}
 use Rattle.hwdb_tasks.proofs.ErrorLemmas.{given_error}
 use Rattle.hwdb_tasks.proofs.databases.asked.Goals as goal

@@ -1,6 +1,6 @@
 use Rattle.std.proofs.Common.{◌≡◌, ◌⊎◌, map, string_bytes, subst, sym, true, false}
-use Rattle.hwdb_transfer.specs.Databases.{IsTextOf}
-use Rattle.hwdb_transfer.specs.Devices.{WrotePrefix}
+use Rattle.hwdb_spec.specs.Databases.{IsTextOf}
+use Rattle.hwdb_spec.specs.Outputs.{WrotePrefix}
 use Rattle.hwdb_stream.specs.declared.form.Form.TheVariants.{Query}
 use Rattle.hwdb_stream.specs.Streams.{texts_of}
 use Rattle.hwdb_tasks.proofs.ErrorLemmas.{given_error}

@@ -1,9 +1,10 @@
 use Rattle.std.proofs.Common.{◌≡◌, ◌≢◌, ◌∙◌, inl, inr, ℕ, refl, subst, sym}
 use Rattle.std.specs.Io.KnownBytes.{Appends}
 use Rattle.hwdb_spec.specs.Failures.{HasFailed}
-use Rattle.hwdb_system.specs.LeftOut.{AreTold, without}
+use Rattle.hwdb_system.specs.LeftOut.{AreTold}
+use Rattle.hwdb_spec.specs.LeftOut.{without}
 use Rattle.hwdb_system.specs.declared.refusals.Refusal.TheVariants.{Plain}
-use Rattle.hwdb_transfer.specs.Devices.{AppendsPrefix}
+use Rattle.hwdb_spec.specs.Outputs.{AppendsPrefix}
 use Rattle.hwdb_transfer.specs.declared.errors.ToolError.TheVariants.{Write}
 use Rattle.hwdb_tasks.specs.Readable.{IsUpdateRefused}
 use Rattle.hwdb_tasks.proofs.ErrorLemmas.{given_error}

@@ -3,7 +3,7 @@ use Rattle.std.specs.Io.KnownBytes.{Appends}
 use Rattle.hwdb_compile.specs.Views.{fault_of}
 use Rattle.hwdb_spec.specs.Progress.{progress_text, update_text}
 use Rattle.hwdb_spec.specs.Texts.{faults_text}
-use Rattle.hwdb_commands.specs.Updates.{OldOrWritten}
+use Rattle.hwdb_spec.specs.Done.{OldOrWritten}
 use Rattle.hwdb_spec.specs.Store.{OldOrNew}
 use Rattle.hwdb_tasks.proofs.MomentLemmas.{leaves_more}
 use Rattle.hwdb_tasks.proofs.UpdateLemmas.{unreplaced_of}

@@ -4,13 +4,14 @@ use Rattle.hwdb_spec.specs.Progress.{given_where, update_text}
 use Rattle.hwdb_text.specs.Views.{choice_of}
 use Rattle.hwdb_compile.specs.Views.{ForFolders}
 use Rattle.hwdb_transfer.specs.declared.errors.ToolError.TheVariants.{Memory}
-use Rattle.hwdb_transfer.specs.Devices.{AppendsPrefix}
+use Rattle.hwdb_spec.specs.Outputs.{AppendsPrefix}
 use Rattle.hwdb_commands.specs.Updates.{OnUnreplaced, UpdateUndone}
 use Rattle.hwdb_spec.specs.Store.{InPlace, database_name, path_in}
 use Rattle.hwdb_spec.specs.System.{database_folder}
 use Rattle.hwdb_tasks.specs.Internal.{AreReadOf}
 use Rattle.hwdb_system.specs.Refusals.{IsOfUpdate}
-use Rattle.hwdb_tasks.specs.Undone.{IsSelectedRefused, IsUnwritable, database_path}
+use Rattle.hwdb_tasks.specs.Undone.{IsSelectedRefused, IsUnwritable}
+use Rattle.hwdb_spec.specs.Asked.{database_path}
 use Rattle.hwdb_system.specs.declared.refusals.Refusal.TheVariants.{Plain}
 use Rattle.hwdb_tasks.proofs.FolderLemmas.{are_read}
 use Rattle.hwdb_tasks.proofs.MomentLemmas.{leaves_old_or_updated}

@@ -1,6 +1,5 @@
 use Rattle.std.proofs.Common.{[], sym, ◌∙◌, ◌++◌, ap, map, append-nil, ◌+◌}
 use Rattle.std.proofs.lemmas.List.{take_rest}
-use Rattle.hwdb_spec.specs.Lines.{}
 use Rattle.hwdb_text.specs.Internal.Contents.{line}
 use Rattle.hwdb_text.specs.Views.{origin, given_in, text_of}
 use Rattle.hwdb_text.proofs.ByteLemmas.{without_equals, without_key, with_key}

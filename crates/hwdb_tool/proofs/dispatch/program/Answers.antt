@@ -4,7 +4,7 @@ use Rattle.hwdb_spec.specs.Store.{LeavesOnly}
 use Rattle.hwdb_transfer.specs.declared.errors.ToolError.TheVariants.{Memory, Write}
 use Rattle.hwdb_system.specs.declared.refusals.Refusal.TheVariants.{Plain}
 use Rattle.hwdb_system.specs.declared.refusals.Refusal.{Refusal}
-use Rattle.hwdb_tasks.specs.Undone.{AreKept}
+use Rattle.hwdb_spec.specs.Done.{AreKept}
 use Rattle.hwdb_tool.specs.Program.{OldOrAskedFor, OldOrDone, root_of}
 use Rattle.hwdb_tool.specs.TaskRefusals.{IsJobReason, IsTaskRefused}
 use Rattle.hwdb_tool.proofs.MomentLemmas.{leaves_more, leaves_old}

@@ -1,7 +1,7 @@
 use Rattle.std.proofs.Common.{ap, inl, inr, ⊎_elim, refl, string_bytes, subst, sym}
 use Rattle.std.specs.Prelude.{option_map}
-use Rattle.hwdb_tasks.specs.Done.{IsListFrom}
-use Rattle.hwdb_tasks.specs.Readable.{IsLeftByUpdateLess, OldOrUpdatedLess}
+use Rattle.hwdb_spec.specs.Asked.{IsListFrom}
+use Rattle.hwdb_spec.specs.Done.{IsLeftByUpdateLess, OldOrUpdatedLess}
 use Rattle.hwdb_tool.specs.Program.{OldOrDone, root_of, skips}
 use Rattle.hwdb_spec.specs.System.{database_folder}
 use Rattle.hwdb_system.specs.Refusals.{HasReason}

@@ -1,6 +1,5 @@
 use Rattle.std.proofs.Common.{sym, ◌∙◌, ◌++◌, [], ◌∷◌, refl, ap, map, append_assoc}
 use Rattle.hwdb_spec.specs.declared.FaultKind.TheVariants.{StrayMatch, LongMatch}
-use Rattle.hwdb_spec.specs.Lines.{}
 use Rattle.hwdb_text.specs.Internal.Contents.{line}
 use Rattle.hwdb_text.specs.Views.{text_of}
 use Rattle.hwdb_spec.specs.Records.{patterns, fault}

@@ -1,5 +1,4 @@
 use Rattle.std.proofs.Common.{◌∙◌, ◌++◌, refl, ap, map}
-use Rattle.hwdb_spec.specs.Lines.{}
 use Rattle.hwdb_text.specs.Internal.Contents.{line}
 use Rattle.hwdb_text.specs.Views.{given_in, text_of}
 use Rattle.hwdb_spec.specs.Records.{property_assignments}

@@ -1,7 +1,6 @@
--- Devices: what a run of calls does to the counts of failed calls, and to the bytes that a device tells; and what commands
--- write to them. Our choice.
-use Rattle.std.specs.Prelude.{ℕ, ◌≡◌, ◌⊎◌, List, Option, length, take, ◌≤◌}
+-- What commands write: how the bytes that a sink tells grow, and which of two sinks failed. Our choice.
 use Rattle.std.specs.Io.KnownBytes.{Appends}
+use Rattle.std.specs.Prelude.{◌≡◌, ◌≤◌, ◌⊎◌, List, Option, length, take, ℕ}
 use Rattle.hwdb_spec.specs.Failures.{OneFailed}
 
 -- of two devices, used one after the other, one call has failed, and was the last one

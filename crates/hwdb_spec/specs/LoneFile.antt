@@ -1,5 +1,5 @@
 -- One text file alone, as `ask` reads it and as `dump` writes it. Our choice.
-use Rattle.std.specs.Prelude.{ℕ, List, [], ◌∷◌, true, codes}
+use Rattle.std.specs.Prelude.{◌∷◌, List, [], codes, true, ℕ}
 use Rattle.hwdb_spec.specs.Folders.{Choice, Source}
 
 -- the one file that `ask` reads, as a file of etc

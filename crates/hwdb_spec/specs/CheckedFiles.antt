@@ -1,9 +1,9 @@
 -- Which text files `check` reads, and what it leaves. Our choice.
-use Rattle.std.specs.Prelude.{◌≡◌, ◌≤◌, ℕ, Bool, List, [], ◌∷◌, ◌++◌, Option, Some, All, length, map}
 use Rattle.std.specs.Io.KnownBytes.{Appends}
+use Rattle.std.specs.Prelude.{◌++◌, ◌∷◌, ◌≡◌, ◌≤◌, All, Bool, List, Option, Some, [], length, map, ℕ}
 use Rattle.hwdb_spec.specs.Checks.{check_status, check_text, empty_tally, tally_from}
 use Rattle.hwdb_spec.specs.Folders.{Source, choice, max_files, names, path_of}
-use Rattle.hwdb_tasks.specs.Given.{IsGiven}
+use Rattle.hwdb_spec.specs.Given.{IsGiven}
 use Rattle.hwdb_spec.specs.Store.{Contents}
 use Rattle.hwdb_spec.specs.System.{AreNamesIn, bytes_at, etc_files, usr_files}
 

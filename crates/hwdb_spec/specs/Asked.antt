@@ -1,0 +1,87 @@
+-- The database that a command reads: that at a path, or the one below a root that is asked; and what `query`, `explain`, `list`,
+-- `verify`, `dump` and `diff` leave of it. `query` is systemd-hwdb(8)'s; the others are our choice.
+use Rattle.std.specs.Prelude.{◌++◌, ◌≡◌, ◌⊎◌, Bool, List, None, Option, Some, codes, false, if◌then◌else◌, true, ℕ}
+use Rattle.hwdb_spec.specs.Assignment.{Position}
+use Rattle.hwdb_spec.specs.Databases.{IsDiffText, IsDifferent, IsSayable, IsTextOf}
+use Rattle.hwdb_spec.specs.Dump.{dump_text}
+use Rattle.hwdb_spec.specs.Json.{list_json}
+use Rattle.hwdb_spec.specs.Outputs.{Wrote}
+use Rattle.hwdb_spec.specs.Reports.{shown}
+use Rattle.hwdb_spec.specs.Store.{Contents, database_name, path_in}
+use Rattle.hwdb_spec.specs.System.{asked_database, bytes_at, database_folder}
+use Rattle.hwdb_spec.specs.Texts.{IsSpelling, list_text}
+use Rattle.hwdb_spec.specs.Tree.{Tree}
+
+-- the path of the database in one of the folders below a root
+abbrev pub database_path : (usr : Bool) (root : List ℕ) → List ℕ
+database_path usr root = path_in (database_folder usr root) database_name
+
+-- the path of the database that is asked: /etc's, or where nothing stands there that of /usr/lib
+abbrev pub IsAskedPath : (root : List ℕ) → Contents → (path : List ℕ) → Type 0
+IsAskedPath root contents path =
+    (path ≡ database_path false root) ⊎ ((path ≡ database_path true root) × (bytes_at contents (database_path false root) ≡ None))
+
+-- what the database holds: that at the given path, or where none is given the one that is asked
+abbrev pub named_database : (given : Option (List ℕ)) (root : List ℕ) → Contents → Option (List ℕ)
+named_database None root contents = asked_database root contents
+named_database (Some path) root contents = bytes_at contents path
+
+-- where it stands
+abbrev pub IsNamedPath : (given : Option (List ℕ)) (root : List ℕ) → Contents → (path : List ℕ) → Type 0
+IsNamedPath None root contents path = IsAskedPath root contents path
+IsNamedPath (Some given) root contents path = path ≡ given
+
+-- standard output took what its bytes give
+pub record IsPrinted (given : Option (List ℕ)) (root : List ℕ) (Is : (bytes text : List ℕ) → Type 0) (contents : Contents) (out_before out_now : Option (List ℕ)) : Type 0 where
+  pub bytes : List ℕ
+  pub named : named_database given root contents ≡ Some bytes
+  pub printed : Wrote (Is bytes) out_before out_now
+
+-- its assignments are all said by their records, and standard output took these
+pub record IsDumped (given : Option (List ℕ)) (root : List ℕ) (contents : Contents) (out_before out_now : Option (List ℕ)) : Type 0 where
+  pub bytes : List ℕ
+  pub named : named_database given root contents ≡ Some bytes
+  pub sayable : IsSayable bytes
+  pub printed : Wrote (IsTextOf dump_text bytes) out_before out_now
+
+-- the words of a database with an assignment that no text says: its path, and the pattern, as `check` shows bytes
+abbrev pub unsayable_text : (path pattern : List ℕ) → List ℕ
+unsayable_text path pattern = path ++ (codes ": no text file can say an assignment of the pattern " ++ shown pattern)
+
+-- the two files hold this
+pub record AreHeld (old_path new_path : List ℕ) (contents : Contents) (old new : List ℕ) : Type 0 where
+  pub of_old : bytes_at contents old_path ≡ Some old
+  pub of_new : bytes_at contents new_path ≡ Some new
+
+-- standard output took what changed from the one database to the other, and the status says whether something did
+pub record IsCompared (old_path new_path : List ℕ) (status : ℕ) (contents : Contents) (out_before out_now : Option (List ℕ)) : Type 0 where
+  pub old : List ℕ
+  pub new : List ℕ
+  pub held : AreHeld old_path new_path contents old new
+  pub printed : Wrote (IsDiffText old new) out_before out_now
+  pub answer : Bool
+  pub differ : IsDifferent old new answer
+  pub says : status ≡ (if answer then 1 else 0)
+
+-- standard output took what the database that is asked gives
+pub record IsAnswered (root : List ℕ) (Is : (bytes text : List ℕ) → Type 0) (contents : Contents) (out_before out_now : Option (List ℕ)) : Type 0 where
+  pub bytes : List ℕ
+  pub asked : asked_database root contents ≡ Some bytes
+  pub printed : Wrote (Is bytes) out_before out_now
+
+-- the text of the option, if there is one, spells the position
+abbrev pub IsFrom : (after : Option (List ℕ)) → Option Position → Type 0
+IsFrom None None = Unit {0}
+IsFrom (Some text) (Some p) = IsSpelling p text
+IsFrom _ _ = ⊥
+
+-- what is printed, as text or with `--json`
+abbrev pub list_form : (json : Bool) → List ℕ → Option Position → Option ℕ → Tree → List ℕ
+list_form false = list_text
+list_form true = list_json
+
+-- what `list` prints from there on
+pub record IsListFrom (json : Bool) (device : List ℕ) (after : Option (List ℕ)) (limit : Option ℕ) (bytes text : List ℕ) : Type 0 where
+  pub from : Option Position
+  pub spelled : IsFrom after from
+  pub is : IsTextOf (list_form json device from limit) bytes text
