@@ -97,7 +97,7 @@ scripts: try-memory try-wrong-bodies try-definitions try-reading try-over-proved
 timed: try-growth try-hostile
 
 try-definitions:
-	tests/definitions hwdb_reader::laws::law_faultless hwdb_laws::laws::listings_give_one_reading
+	tests/definitions hwdb_reader::laws::law_faultless hwdb_tool::one_outcome::listings_give_one_reading
 
 # One round of the wrong bodies, another one after each commit.
 try-wrong-bodies:

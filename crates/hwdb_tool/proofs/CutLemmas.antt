@@ -3,7 +3,7 @@ use Rattle.std.proofs.Common.{⊎_elim, ℕ, Bool, List, Option}
 use Rattle.hwdb_cli.specs.declared.job.Task.{Task}
 use Rattle.hwdb_cli.specs.declared.job.Task.TheVariants.{Ask, Check, Diff, Dump, Explain, List as ListHits, Query, Update, Verify}
 use Rattle.hwdb_spec.specs.Store.{Contents, Outcomes}
-use Rattle.hwdb_system.specs.declared.refusals.Refusal.TheVariants.{Plain}
+use Rattle.hwdb_fs.specs.declared.refusals.Refusal.TheVariants.{Plain}
 use Rattle.hwdb_spec.specs.Done.{AreKept}
 use Rattle.hwdb_tool.specs.TaskRefusals.{IsTaskRefused}
 use Rattle.hwdb_transfer.specs.declared.errors.ToolError.TheVariants.{Write}

@@ -1,3 +1,13 @@
 pub mod Program
 pub mod Laws
 pub mod TaskRefusals
+pub mod Undone
+pub mod Readable
+pub mod Queries
+pub mod ComparedDatabases
+pub mod Internal
+pub mod NamedDatabases
+pub mod Hiding
+pub mod Crash
+pub mod Failures
+pub mod OneOutcome

@@ -9,16 +9,16 @@ use Rattle.hwdb_cli.specs.Words.{AskFor, AskForText}
 use Rattle.hwdb_spec.specs.Given.{is_dash, any_dash, is_input}
 use Rattle.hwdb_spec.specs.Store.{Contents, Outcomes, Same, InPlace}
 use Rattle.hwdb_spec.specs.System.{database_folder}
-use Rattle.hwdb_stream.specs.declared.form.Form.TheVariants as form
+use Rattle.hwdb_print.specs.declared.form.Form.TheVariants as form
 use Rattle.hwdb_cli.specs.declared.job.Task.TheVariants.{Ask, Check, Diff, Dump, Explain, List as ListHits, Query, Update, Verify}
 use Rattle.hwdb_cli.specs.declared.job.Task.{Task}
 use Rattle.hwdb_cli.specs.declared.job.Job.{Job}
 use Rattle.hwdb_spec.specs.CheckedFiles.{AreCheckedFiles, IsChecked}
 use Rattle.hwdb_spec.specs.Asked.{IsCompared, IsDumped, IsPrinted, IsAnswered, IsListFrom}
 use Rattle.hwdb_spec.specs.Databases.{IsSummary}
-use Rattle.hwdb_tasks.specs.Queries.{AreAnswered}
+use Rattle.hwdb_tool.specs.Queries.{AreAnswered}
 use Rattle.hwdb_spec.specs.Done.{IsAsked, IsLeftByUpdateLess}
-use Rattle.hwdb_tasks.specs.Hiding.{IsUpdatedTelling}
+use Rattle.hwdb_tool.specs.Hiding.{IsUpdatedTelling}
 
 -- the root in front of each path; nothing where none was given
 abbrev pub root_of : Job → List ℕ

@@ -11,20 +11,20 @@ use Rattle.hwdb_spec.specs.Failures.{IsOneLine}
 use Rattle.hwdb_spec.specs.Store.{Contents, Outcomes, Same}
 use Rattle.hwdb_spec.specs.System.{database_folder}
 use Rattle.hwdb_spec.specs.Outputs.{AppendsPrefix}
-use Rattle.hwdb_stream.specs.declared.form.Form.TheVariants as form
+use Rattle.hwdb_print.specs.declared.form.Form.TheVariants as form
 use Rattle.hwdb_transfer.specs.declared.errors.ToolError.TheVariants.{Memory, Write}
 use Rattle.hwdb_spec.specs.CheckedFiles.{AreCheckedFiles}
-use Rattle.hwdb_tasks.specs.ComparedDatabases.{IsDiffRefused}
-use Rattle.hwdb_tasks.specs.NamedDatabases.{IsDumpRefused, IsVerifyRefused}
+use Rattle.hwdb_tool.specs.ComparedDatabases.{IsDiffRefused}
+use Rattle.hwdb_tool.specs.NamedDatabases.{IsDumpRefused, IsVerifyRefused}
 use Rattle.hwdb_spec.specs.Asked.{IsListFrom}
-use Rattle.hwdb_tasks.specs.Queries.{AreUnanswered, IsInputUnread}
+use Rattle.hwdb_tool.specs.Queries.{AreUnanswered, IsInputUnread}
 use Rattle.hwdb_tool.specs.Program.{IsUpdate, looks_below_root, reads_input, root_of}
-use Rattle.hwdb_system.specs.Refusals.{HasReason, IsAt, IsUnread, IsUnreadable, Refused, refusal_line, refusal_text}
-use Rattle.hwdb_system.specs.declared.refusals.Refusal.TheVariants.{Plain}
-use Rattle.hwdb_system.specs.declared.refusals.Refusal.{Refusal}
+use Rattle.hwdb_fs.specs.Refusals.{HasReason, IsAt, IsUnread, IsUnreadable, Refused, refusal_line, refusal_text}
+use Rattle.hwdb_fs.specs.declared.refusals.Refusal.TheVariants.{Plain}
+use Rattle.hwdb_fs.specs.declared.refusals.Refusal.{Refusal}
 use Rattle.hwdb_spec.specs.Done.{AreKept}
-use Rattle.hwdb_tasks.specs.Undone.{AreUncheckable, IsAnswerRefused, IsAskRefused, IsCheckRefused, IsListRefusedBy, IsUnreadableIf, IsUnwritable}
-use Rattle.hwdb_tasks.specs.Hiding.{IsTellingUpdateRefused}
+use Rattle.hwdb_tool.specs.Undone.{AreUncheckable, IsAnswerRefused, IsAskRefused, IsCheckRefused, IsListRefusedBy, IsUnreadableIf, IsUnwritable}
+use Rattle.hwdb_tool.specs.Hiding.{IsTellingUpdateRefused}
 
 -- a sink as it tells: what it took, and how many of its calls failed
 pub record Taken : Type 0 where

@@ -7,14 +7,20 @@ ghost use Rattle.hwdb_cli.specs.Words.{AskFor};
 ghost use Rattle.hwdb_cli.specs.declared.job.Job.{Job};
 ghost use Rattle.hwdb_tool.specs.Program.{IsDone, IsJobDone, IsTold, IsUpdate, OldOrAskedFor, OldOrDone, looks_below_root, reads_input, root_of};
 ghost use Rattle.hwdb_tool.specs.TaskRefusals.{AreRefused, IsCutShort, IsTextCutShort, IsJobReason, IsJobRefused, IsRootRefused, IsRootUnread, IsSaid, IsTaskRefused, refused_status};
-ghost use Rattle.hwdb_system.specs.Refusals.{HasReason};
-ghost use Rattle.hwdb_system.specs.declared.refusals.Refusal.TheVariants.{Plain};
+ghost use Rattle.hwdb_fs.specs.Refusals.{HasReason};
+ghost use Rattle.hwdb_fs.specs.declared.refusals.Refusal.TheVariants.{Plain};
 
 use crate::outlet::Outlet;
 use hwdb_cli::{Job, Task, WordsFault, read_words};
 use hwdb_devices::{Sink, Source};
-use hwdb_system::{Refusal, Rooted, System, refuse_for, refuse_memory};
-use hwdb_tasks::{ask_file, check, diff, dump, explain, list, query, update_telling, verify};
+use hwdb_fs::{Refusal, Rooted, System, refuse_for, refuse_memory};
+use crate::answers::{ask_file, explain, list};
+use crate::checks::check;
+use crate::differences::diff;
+use crate::dumps::dump;
+use crate::hiding::update_telling;
+use crate::queries::query;
+use crate::verification::verify;
 use hwdb_transfer::{ToolError, write_text};
 use std::alloc::Global;
 

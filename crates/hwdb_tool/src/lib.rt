@@ -1,23 +1,62 @@
-//! The program `hwdb`: its words, its files, its statuses and its refusal lines.
+//! The program `hwdb`: a module for each command, and `program`, which does what the words ask for.
 //!
 //! | Module | What it does |
 //! |---|---|
-//! | `dispatch` | the program: which task its words ask for, its status and its refusal lines |
+//! | `dispatch` | the program: which task its words ask for, its status and its error lines |
+//! | `outlet` | where standard output goes to: a sink whose reader may go away |
+//! | `updates` | `update`; `progress`: what it says of its files; `hiding`: of a database that hides the new one |
+//! | `queries` | `query`, of the devices of the words or of standard input |
+//! | `answers` | `explain`, `list` and `ask` |
+//! | `checks` | `check` |
+//! | `differences` | `diff` |
+//! | `verification` | `verify`; `verdicts`: its words on bytes that are no database |
+//! | `dumps` | `dump` |
+//! | `databases` | the database that a command asks for |
+//! | `given` | files that words name, or standard input |
 //! | `laws` | what an update and a query after it say together |
+//! | `one_outcome` | two runs over one input end alike |
+//! | `crash` | what a crash, a start and a query make of a run |
+//! | `failures` | what failed calls and faulty words leave undone |
 //!
-//! The tasks are in `hwdb_tasks`, what they ask of a file system is in `hwdb_system`, what they do with bytes in
-//! `hwdb_commands`, and their devices in `hwdb_devices`; the calls of these are here too.
+//! What the tasks ask of a file system is in `hwdb_fs`, what they print in `hwdb_print`, and their devices are in `hwdb_devices`; the
+//! calls of these are here too.
 #![tactic(auto)]
 
+mod answers;
+mod checks;
+mod crash;
+mod databases;
+mod differences;
 mod dispatch;
+mod dumps;
+mod failures;
+mod given;
+mod hiding;
+mod input_devices;
 mod laws;
+mod one_outcome;
 mod outlet;
+mod progress;
+mod queries;
+mod updates;
+mod verdicts;
+mod verification;
 
+pub use answers::{ask_file, explain, list};
+pub use checks::check;
+pub use crash::{crash_then_query, kill_then_query};
+pub use differences::diff;
 pub use dispatch::program;
+pub use dumps::dump;
+pub use failures::{counts_tell_failures, faulty_update_leaves_all};
+pub use hiding::update_telling;
 pub use hwdb_cli::{Job, Task, WordsFault, read_words};
-pub use hwdb_commands::{ask, run_explain, run_list, run_queries, run_query, run_update};
 pub use hwdb_devices::{Cause, DeviceFailed, FromRead, Sink, Source, ToWrite, testing};
-pub use hwdb_system::{Refusal, System, SystemStore};
+pub use hwdb_fs::{Refusal, System, SystemStore};
+pub use hwdb_print::{ask, run_explain, run_list, run_queries, run_query, run_update};
 pub use hwdb_transfer::{ToolError, read_all, write_text};
 pub use laws::update_then_query;
+pub use one_outcome::{jobs_are_one, listings_give_one_reading, tasks_are_one};
 pub use outlet::Outlet;
+pub use queries::query;
+pub use verification::verify;

@@ -6,7 +6,7 @@ ghost use Rattle.hwdb_transfer.specs.Refusals.{refusal_of_select, refusal_of_sca
 use hwdb_compile::CompileError;
 use hwdb_query::PositionError;
 use hwdb_reader::DbFault;
-use hwdb_store::Unreplaced;
+use hwdb_replace::Unreplaced;
 use hwdb_text::{ScanError, SelectError};
 use std::alloc::AllocError;
 use std::{error, fmt};

@@ -2,12 +2,12 @@ use Rattle.std.proofs.Common.{inl, inr, ⊎_elim, ◌∙◌, arith, refl, [], su
 use Rattle.hwdb_cli.specs.declared.job.WordsFault.TheVariants as words_fault
 use Rattle.hwdb_spec.specs.Store.{LeavesOnly}
 use Rattle.hwdb_transfer.specs.declared.errors.ToolError.TheVariants.{Memory, Write}
-use Rattle.hwdb_system.specs.declared.refusals.Refusal.TheVariants.{Plain}
-use Rattle.hwdb_system.specs.declared.refusals.Refusal.{Refusal}
+use Rattle.hwdb_fs.specs.declared.refusals.Refusal.TheVariants.{Plain}
+use Rattle.hwdb_fs.specs.declared.refusals.Refusal.{Refusal}
 use Rattle.hwdb_spec.specs.Done.{AreKept}
 use Rattle.hwdb_tool.specs.Program.{OldOrAskedFor, OldOrDone, root_of}
 use Rattle.hwdb_tool.specs.TaskRefusals.{IsJobReason, IsTaskRefused}
-use Rattle.hwdb_tool.proofs.MomentLemmas.{leaves_more, leaves_old}
+use Rattle.hwdb_tool.proofs.RunLemmas.{leaves_more, leaves_old}
 use Rattle.hwdb_tool.proofs.CutLemmas.{cut_keeps}
 use Rattle.hwdb_tool.proofs.dispatch.program.Goals as goal
 

@@ -8,7 +8,7 @@ use Rattle.hwdb_spec.specs.Format.{IsDatabase}
 use Rattle.hwdb_spec.specs.Texts as texts
 use Rattle.hwdb_spec.specs.Texts.{properties_text}
 use Rattle.hwdb_tool.proofs.laws.update_then_query.Goals as goal
-use Rattle.hwdb_tool.proofs.FolderLemmas.{held_bytes}
+use Rattle.hwdb_tool.proofs.HeldLemmas.{held_bytes}
 
 pub returns : goal.returns
 unfolding texts.with_empty_lines effective_of

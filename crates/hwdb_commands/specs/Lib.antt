@@ -1,4 +1,0 @@
-pub mod Lookups
-pub mod Updates
-pub mod JsonTokens
-pub mod JsonLaws

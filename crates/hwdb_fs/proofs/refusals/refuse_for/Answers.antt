@@ -1,0 +1,31 @@
+use Rattle.std.proofs.Common.{ap, refl, sym, ◌∙◌, List, [], ℕ}
+use Rattle.hwdb_fs.specs.Refusals.{refusal_line, refusal_text, path_text}
+use Rattle.hwdb_fs.specs.declared.refusals.Refusal.{Refusal}
+use Rattle.hwdb_fs.proofs.LineLemmas.{refused_as}
+use Rattle.hwdb_fs.proofs.refusals.refuse_for.Goals as goal
+
+pub returns-in-At : goal.returns-in-At
+returns-in-At g c =
+    let line = c.refuse_over.ensures in
+    let words = line.0 in (
+      words,
+      line.1,
+      refused_as _ _ _ _ _ _
+          (ap (λ (p : List ℕ). refusal_line (path_text c.in-At.error p c.in-At.cause words)) c.deref.ensures.value
+          ∙ ap (λ (r : Refusal). refusal_line (refusal_text r words)) (sym c.in-At.is))
+          line.2,
+    )
+
+pub returns-in-NoDatabase : goal.returns-in-NoDatabase
+returns-in-NoDatabase g c = (
+  [],
+  refl,
+  refused_as _ _ _ _ _ _ (ap (λ (r : Refusal). refusal_line (refusal_text r [])) (sym c.in-NoDatabase.is)) c.refuse_text.ensures,
+)
+
+pub returns-in-Plain : goal.returns-in-Plain
+returns-in-Plain g c = (
+  [],
+  refl,
+  refused_as _ _ _ _ _ _ (ap (λ (r : Refusal). refusal_line (refusal_text r [])) (sym c.in-Plain.is)) c.refuse_plainly.ensures,
+)

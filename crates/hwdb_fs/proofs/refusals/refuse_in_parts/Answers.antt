@@ -1,0 +1,18 @@
+use Rattle.std.proofs.Common.{◌∙◌, inl, subst, ℕ}
+use Rattle.hwdb_spec.specs.Failures.{HasFailed}
+use Rattle.hwdb_fs.proofs.LineLemmas.{next_taken, cut_text}
+use Rattle.hwdb_fs.proofs.refusals.refuse_in_parts.Goals as goal
+
+pub loop-part-preserved : goal.loop-part-preserved
+loop-part-preserved g c = record {
+  taken = next_taken c.args.parts.now c.loop-part.part-index _ _ _ _ c.loop-part-test.true c.loop-part.invariant.taken c.in-Ok.ensures.whole;
+  same = c.in-Ok.ensures.unfailed ∙ c.loop-part.invariant.same;
+}
+
+pub returns-in-Err : goal.returns-in-Err
+returns-in-Err g c =
+    let failed : ℕ → Type 0 = λ n. HasFailed n (g.E.Sink.failures c.write_text.new.sink) in
+    record {
+      prefix = cut_text c.args.parts.now c.loop-part.part-index _ _ _ _ c.loop-part-test.true c.loop-part.invariant.taken c.in-Err.ensures.prefix;
+      whole = inl (subst failed c.loop-part.invariant.same c.in-Err.ensures.cause);
+    }

@@ -1,0 +1,52 @@
+use Rattle.std.proofs.Common.{ap, refl, sym, ◌∙◌, ◌++◌, List, [], ℕ}
+use Rattle.hwdb_fs.specs.Refusals.{refusal_line, path_text}
+use Rattle.hwdb_transfer.specs.declared.errors.ToolError.{ToolError}
+use Rattle.hwdb_fs.proofs.LineLemmas.{refused_as, two_line, plain_text}
+use Rattle.hwdb_fs.proofs.refusals.refuse_over.Goals as goal
+
+pub returns-in-Read : goal.returns-in-Read
+returns-in-Read g c =
+    let line = c.refuse_file.ensures in
+    let words = line.0 in (
+      words,
+      line.1,
+      refused_as _ _ _ _ _ _ (ap (λ (e : ToolError). refusal_line (path_text e c.args.path.now c.args.cause words)) (sym c.in-Read.is)) line.2,
+    )
+
+pub returns-in-Write : goal.returns-in-Write
+returns-in-Write g c =
+    let line = c.refuse_file-in-Write.ensures in
+    let words = line.0 in (
+      words,
+      line.1,
+      refused_as _ _ _ _ _ _ (ap (λ (e : ToolError). refusal_line (path_text e c.args.path.now c.args.cause words)) (sym c.in-Write.is)) line.2,
+    )
+
+pub returns-in-TooLong : goal.returns-in-TooLong
+returns-in-TooLong g c = (
+  [],
+  refl,
+  refused_as _ _ _ _ _ _
+      (two_line c.args.path.now c.as_slice-words.result.now
+      ∙ ap (λ (w : List ℕ). refusal_line (c.args.path.now ++ w)) c.as_slice-words.ensures
+      ∙ ap (λ (e : ToolError). refusal_line (path_text e c.args.path.now c.args.cause [])) (sym c.in-TooLong.is))
+      c.refuse.ensures,
+)
+
+pub returns-in_default : goal.returns-in_default
+returns-in_default g c = (
+  [],
+  refl,
+  refused_as _ _ _ _ _ _
+      (ap refusal_line (plain_text c.args.error c.args.path.now [] c.args.cause c.in_default.not-Read c.in_default.not-Write c.in_default.not-TooLong c.in_default.not-BadDatabase))
+      c.refuse_plainly.ensures,
+)
+
+pub returns-in-BadDatabase : goal.returns-in-BadDatabase
+returns-in-BadDatabase g c = (
+  [],
+  refl,
+  refused_as _ _ _ _ _ _
+      (ap (λ (e : ToolError). refusal_line (path_text e c.args.path.now c.args.cause [])) (sym c.in-BadDatabase.is))
+      c.refuse_database_at.ensures,
+)

@@ -1,0 +1,10 @@
+use Rattle.std.proofs.Common.{ap, sym}
+use Rattle.hwdb_fs.specs.Refusals.{refusal_line}
+use Rattle.hwdb_transfer.specs.Refusals.{error_text}
+use Rattle.hwdb_transfer.specs.declared.errors.ToolError.{ToolError}
+use Rattle.hwdb_fs.proofs.LineLemmas.{refused_as}
+use Rattle.hwdb_fs.proofs.refusals.refuse_plainly.Goals as goal
+
+pub returns-in-BadDatabase : goal.returns-in-BadDatabase
+returns-in-BadDatabase g c =
+    refused_as _ _ _ _ _ _ (ap (λ (e : ToolError). refusal_line (error_text e)) (sym c.in-BadDatabase.is)) c.refuse_database.ensures

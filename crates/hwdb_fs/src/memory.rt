@@ -1,0 +1,166 @@
+//! A store in memory as the program's file system, for tests: it tells its contents.
+ghost use Rattle.std.specs.Prelude.{◌≡◌, ◌≤◌, Some, None, List, ℕ, IfOk, IfErr, IfSome, MatchOption, OnOk, map, option_map, string_bytes, vec_len};
+ghost use Rattle.hwdb_spec.specs.Store.{path_in};
+ghost use Rattle.hwdb_spec.specs.Texts.{max_file};
+ghost use Rattle.hwdb_replace.specs.Memory.{seen_of};
+ghost use Rattle.hwdb_fs.specs.Internal.{IsMisnamed, IsNamedBy, IsOfName, IsPushed, bytes_after, is_text_file, made_by};
+ghost use Rattle.hwdb_fs.specs.Refusals.{HasReason, IsUnlisted, IsUnread, IsUnreadable};
+
+use crate::files::text_of;
+use crate::refusals::Refusal;
+use crate::rooted::Rooted;
+use crate::system::System;
+use hwdb_devices::Cause;
+use hwdb_replace::memory::state_of;
+use hwdb_replace::{Memory, Step};
+use hwdb_text::counts;
+use hwdb_transfer::{MAX_BYTES, ToolError};
+use std::alloc::{AllocError, Global};
+
+/// The number of the error of a path where nothing stands (errno, on Linux).
+const NO_ENTRY: i32 = 2;
+
+/// The path under which a step has a file stand.
+fn made_by(step: &Step) -> Option<&[u8]>
+    ensures { option_map (λ p. p.now) result ≡ made_by step.now }
+{
+    match step {
+        Step::Changed { path, .. } => Some(path),
+        Step::Moved { to, .. } => Some(to),
+        _ => None,
+    }
+}
+
+/// The name of a path in a folder.
+fn name_in<'a>(folder: &str, path: &'a [u8]) -> Option<&'a [u8]>
+    ensures { MatchOption result ((name : List ℕ) → path.now ≡ path_in folder.now name → ⊥)
+        (λ name. path.now ≡ path_in folder.now name.now) }
+{
+    match path.strip_prefix(folder.as_bytes()) {
+        Some(rest) => rest.strip_prefix(b"/"),
+        None => None,
+    }
+}
+
+/// What stands under a path after these steps, unless it is too long.
+fn file_after(alloc: Global, steps: &[Step], path: &[u8]) -> Result<Option<Vec<u8>>, Refusal>
+    ensures bytes { IfOk result
+        (λ found. bytes_after steps.now path.now ≡ option_map (λ b. b.items) found) }
+    ensures within { IfOk result (λ found. IfSome found (λ b. vec_len b ≤ max_file)) }
+    ensures refused { IfErr result (IsUnread path.now) }
+    ensures reason { IfErr result (HasReason IsMisnamed ⊥ (seen_of steps.now)) }
+{
+    let state = state_of(alloc, steps, path)?;
+    match state.now {
+        None => Ok(None),
+        Some(file) if file.bytes.len() > MAX_BYTES as usize => {
+            Err(Refusal::at(alloc, ToolError::TooLong, path, None))
+        }
+        Some(file) => Ok(Some(file.bytes.to_vec(alloc)?)),
+    }
+}
+
+/// A file that has to stand there.
+fn read_after(alloc: Global, steps: &[Step], path: &[u8]) -> Result<Vec<u8>, Refusal>
+    ensures bytes { IfOk result (λ b. bytes_after steps.now path.now ≡ Some b.items) }
+    ensures within { IfOk result (λ b. vec_len b ≤ max_file) }
+    ensures refused { IfErr result (IsUnread path.now) }
+    ensures reason { IfErr result
+        (HasReason (IsUnreadable IsMisnamed (seen_of steps.now)) ⊥ (seen_of steps.now)) }
+{
+    match file_after(alloc, steps, path)? {
+        Some(bytes) => Ok(bytes),
+        None => Err(Refusal::read(alloc, path, Cause::System(NO_ENTRY))),
+    }
+}
+
+/// Whether a text file with this name stands in its folder, where its path is this one.
+fn is_text_file(alloc: Global, steps: &[Step], name: &[u8], path: &[u8]) -> Result<bool, AllocError>
+    ensures { IfOk result (λ b. b ≡ is_text_file steps.now name.now path.now) }
+{
+    if !counts(name) || name.contains(&b'/') {
+        return Ok(false);
+    }
+    let state = state_of(alloc, steps, path)?;
+    Ok(state.now.is_some())
+}
+
+/// The name of the text file that a step has stand in a folder, if one stands there after all steps.
+fn named_by<'a>(
+    alloc: Global,
+    steps: &[Step],
+    folder: &str,
+    step: &'a Step,
+) -> Result<Option<&'a [u8]>, AllocError>
+    ensures { IfOk result
+        (λ found. IsNamedBy steps.now folder.now step.now (option_map (λ n. n.now) found)) }
+{
+    let Some(path) = made_by(step) else {
+        return Ok(None);
+    };
+    let Some(name) = name_in(folder, path) else {
+        return Ok(None);
+    };
+    if is_text_file(alloc, steps, name, path)? {
+        return Ok(Some(name));
+    }
+    Ok(None)
+}
+
+/// Puts the name of the text file that a step has stand in a folder behind the others.
+fn push_name(
+    alloc: Global,
+    steps: &[Step],
+    folder: &str,
+    step: &Step,
+    names: &mut Vec<String>,
+) -> Result<(), Refusal>
+    ensures pushed { OnOk result (IsPushed steps.now folder.now step.now
+        (map string_bytes names.old.items) (map string_bytes names.new.items)) }
+    ensures refused { IfErr result (IsUnlisted folder.now) }
+    ensures reason { IfErr result IsOfName }
+{
+    if let Some(name) = named_by(alloc, steps, folder, step)? {
+        let name = text_of(alloc, folder, name)?;
+        names.push(name).map_err(AllocError::from)?;
+    }
+    Ok(())
+}
+
+impl System for Memory {
+    ghost may_fail = { λ _ path. IsMisnamed path };
+
+    // It has files alone.
+    ghost is_regular = { λ _ _. Unit {0} };
+
+    fn names(&self, alloc: Global, folder: &str) -> Result<Vec<String>, Refusal> {
+        let mut names = Vec::new(alloc);
+        for step in &self.steps {
+            push_name(alloc, &self.steps, folder, step, &mut names)?;
+        }
+        Ok(names)
+    }
+
+    fn text(&self, alloc: Global, path: &str) -> Result<Vec<u8>, Refusal> {
+        read_after(alloc, &self.steps, path.as_bytes())
+    }
+
+    fn input(&self, alloc: Global, path: &str) -> Result<Vec<u8>, Refusal> {
+        read_after(alloc, &self.steps, path.as_bytes())
+    }
+
+    fn database(&self, alloc: Global, path: &str) -> Result<Option<Vec<u8>>, Refusal> {
+        file_after(alloc, &self.steps, path.as_bytes())
+    }
+
+    fn is_there(&self, alloc: Global, path: &str) -> Result<bool, AllocError> {
+        let state = state_of(alloc, &self.steps, path.as_bytes())?;
+        Ok(state.now.is_some())
+    }
+}
+
+impl Rooted for Memory {
+    fn enter(&mut self, _root: &str) -> Result<(), Refusal> {
+        Ok(())
+    }
+}

@@ -1,0 +1,355 @@
+//! The lines of refusals on standard error.
+ghost use Rattle.std.specs.Prelude.{◌≡◌, ◌++◌, ℕ, List, None, Some, map, codes, IfOk};
+ghost use Rattle.std.specs.Fmt.{decimal};
+ghost use Rattle.std.specs.List.{concat};
+ghost use Rattle.hwdb_spec.specs.Failures.{IsOneLine};
+ghost use Rattle.hwdb_spec.specs.Verdicts.{fault_line, remedy};
+ghost use Rattle.hwdb_spec.specs.Texts.{db_fault_name, db_fault_offset, at_offset};
+ghost use Rattle.hwdb_transfer.specs.Refusals.{error_text, refusal_of_select};
+ghost use Rattle.hwdb_fs.specs.Internal.{line_at};
+ghost use Rattle.hwdb_fs.specs.Refusals.{Refused, refusal_line, refusal_text, path_text, file_text, IsAt, IsOfDatabase, IsOfUpdate};
+ghost use Rattle.hwdb_transfer.specs.declared.errors.ToolError.TheVariants.{Memory};
+ghost use Rattle.hwdb_fs.specs.declared.refusals.Refusal.TheVariants.{Plain};
+
+use hwdb_devices::{Cause, Sink};
+use hwdb_reader::DbFault;
+use hwdb_text::SelectError;
+use hwdb_transfer::{ToolError, write_text};
+use std::alloc::{AllocError, Global};
+
+/// Why the program ends without having done what the words ask for.
+#[derive(Drop)]
+pub enum Refusal {
+    /// A call refused.
+    Plain(ToolError),
+    /// A call refused over the file or folder with this path, for this cause where one is known.
+    At(ToolError, Vec<u8>, Option<Cause>),
+    /// Neither database is there.
+    NoDatabase,
+    /// What is refused, in words.
+    InWords(Vec<u8>),
+}
+
+impl Refusal {
+    /// A refusal over a path.
+    pub fn at(alloc: Global, error: ToolError, path: &[u8], cause: Option<Cause>) -> Refusal
+        ensures { IsAt error path.now result }
+    {
+        match Vec::from_slice(alloc, path) {
+            Ok(path) => Refusal::At(error, path, cause),
+            Err(refused) => Refusal::from(refused),
+        }
+    }
+
+    /// What stands at a path can't be read.
+    pub fn read(alloc: Global, path: &[u8], cause: Cause) -> Refusal
+        ensures { IsAt ToolError.Read path.now result }
+    {
+        Refusal::at(alloc, ToolError::Read, path, Some(cause))
+    }
+
+    /// Whether what stands at a path can't be read.
+    pub fn is_unread(&self) -> bool {
+        matches!(self, Refusal::At(ToolError::Read, _, _))
+    }
+
+    /// What was to stand at a path can't be written.
+    pub fn write(alloc: Global, path: &[u8], cause: Option<Cause>) -> Refusal
+        ensures { IsAt ToolError.Write path.now result }
+    {
+        Refusal::at(alloc, ToolError::Write, path, cause)
+    }
+
+    /// What an update refuses once its files are read: a database that can't be written with its path.
+    pub fn of_update(error: ToolError, path: Vec<u8>, cause: Option<Cause>) -> Refusal
+        ensures { IsOfUpdate error path.items result }
+    {
+        match error {
+            ToolError::Replace(_) => Refusal::At(ToolError::Write, path, cause),
+            error => Refusal::Plain(error),
+        }
+    }
+
+    /// What a command refuses over the bytes of a database: a fault with the path where they are.
+    pub fn of_database(alloc: Global, error: ToolError, path: &[u8]) -> Refusal
+        ensures is { IsOfDatabase error path.now result }
+        ensures write { result ≡ Plain ToolError.Write → error ≡ ToolError.Write }
+    {
+        match error {
+            ToolError::BadDatabase(_) => Refusal::at(alloc, error, path, None),
+            error => Refusal::Plain(error),
+        }
+    }
+}
+
+impl From<AllocError> for Refusal {
+    ghost from_gives = { λ _ refusal. refusal ≡ Plain Memory };
+
+    fn from(_: AllocError) -> Refusal {
+        Refusal::Plain(ToolError::Memory)
+    }
+}
+
+impl From<ToolError> for Refusal {
+    ghost from_gives = { λ error refusal. refusal ≡ Plain error };
+
+    fn from(error: ToolError) -> Refusal {
+        Refusal::Plain(error)
+    }
+}
+
+impl From<SelectError> for Refusal {
+    ghost from_gives = { λ error refusal. refusal ≡ Plain (refusal_of_select error) };
+
+    fn from(error: SelectError) -> Refusal {
+        Refusal::Plain(ToolError::from(error))
+    }
+}
+
+/// How each line begins, what is between its parts, and how it ends.
+const BEGIN: &[u8] = b"hwdb: ";
+
+const BAD: &[u8] = b"bad database: ";
+
+const AT: &[u8] = b" at ";
+
+const COLON: &[u8] = b": ";
+
+const END: &[u8] = b"\n";
+
+/// Writes the line of the refusal, at once; without memory for the whole line, in parts. Its path is as it was given, and the
+/// words of its cause have no newline. Where `err` fails, nothing more can be said.
+pub fn refuse_for<E: Sink>(alloc: Global, refusal: &Refusal, err: &mut E)
+    ensures { (words : List ℕ) × IsOneLine words
+        × Refused (refusal_line (refusal_text refusal.now words))
+        (E.taken err.old) (E.taken err.new) (E.failures err.old) (E.failures err.new) }
+{
+    match refusal {
+        Refusal::At(error, path, cause) => refuse_over(alloc, *error, path, *cause, err),
+        Refusal::Plain(error) => refuse_plainly(alloc, *error, err),
+        Refusal::NoDatabase => refuse_text(alloc, err, "no database"),
+        Refusal::InWords(text) => refuse_words(alloc, err, text),
+    }
+}
+
+/// Writes the line of a refusal over a path.
+fn refuse_over<E: Sink>(
+    alloc: Global,
+    error: ToolError,
+    path: &[u8],
+    cause: Option<Cause>,
+    err: &mut E,
+)
+    ensures { (words : List ℕ) × IsOneLine words
+        × Refused (refusal_line (path_text error path.now cause words))
+        (E.taken err.old) (E.taken err.new) (E.failures err.old) (E.failures err.new) }
+{
+    match error {
+        ToolError::Read => refuse_file(alloc, "cannot read ", path, cause, err),
+        ToolError::Write => refuse_file(alloc, "cannot write ", path, cause, err),
+        ToolError::TooLong => {
+            let words = b" is longer than 268435456 bytes".as_slice();
+            refuse(alloc, err, &[BEGIN, path, words, END])
+        }
+        ToolError::BadDatabase(fault) => refuse_database_at(alloc, path, fault, err),
+        error => refuse_plainly(alloc, error, err),
+    }
+}
+
+/// Writes the line of a refusal over a path: what failed, the path, and the cause where one is known.
+fn refuse_file<E: Sink>(alloc: Global, failed: &str, path: &[u8], cause: Option<Cause>, err: &mut E)
+    ensures { (words : List ℕ) × IsOneLine words
+        × Refused (refusal_line (failed.now ++ file_text path.now cause words))
+        (E.taken err.old) (E.taken err.new) (E.failures err.old) (E.failures err.new) }
+{
+    let failed = failed.as_bytes();
+    match cause {
+        None => refuse(alloc, err, &[BEGIN, failed, path, END]),
+        Some(cause) => {
+            let message = cause.message();
+            let colon = b": ".as_slice();
+            refuse(
+                alloc,
+                err,
+                &[BEGIN, failed, path, colon, message.as_bytes(), END],
+            )
+        }
+    }
+}
+
+/// Writes the line of a refusal that has no path.
+fn refuse_plainly<E: Sink>(alloc: Global, error: ToolError, err: &mut E)
+    ensures { Refused (refusal_line (error_text error))
+        (E.taken err.old) (E.taken err.new) (E.failures err.old) (E.failures err.new) }
+{
+    match error {
+        ToolError::BadDatabase(fault) => refuse_database(alloc, fault, err),
+        ToolError::Memory => refuse_memory(err),
+        error => refuse_text(alloc, err, error.words()),
+    }
+}
+
+/// Writes the line of a fault of the database: its name, and where it has one its offset.
+fn refuse_database<E: Sink>(alloc: Global, fault: DbFault, err: &mut E)
+    ensures { Refused (refusal_line
+        (codes "bad database: " ++ at_offset (db_fault_name fault) (db_fault_offset fault)))
+        (E.taken err.old) (E.taken err.new) (E.failures err.old) (E.failures err.new) }
+{
+    let name = fault.name().as_bytes();
+    match fault.offset() {
+        None => refuse(alloc, err, &[BEGIN, BAD, name, END]),
+        Some(offset) => {
+            let mut digits = itoa::Buffer::new();
+            let digits = digits.format(offset).as_bytes();
+            refuse(alloc, err, &[BEGIN, BAD, name, AT, digits, END])
+        }
+    }
+}
+
+/// What to do about a file that is no database.
+pub fn remedy(path: &[u8]) -> &'static str
+    ensures { result.now ≡ remedy path.now }
+{
+    if path.ends_with(b".hwdb") {
+        "'hwdb check' is for text files"
+    } else {
+        "make it anew with 'hwdb update'"
+    }
+}
+
+/// Writes the line of a fault of the database at a path: its name, where it has one its offset, the path, and what to do.
+fn refuse_database_at<E: Sink>(alloc: Global, path: &[u8], fault: DbFault, err: &mut E)
+    ensures { Refused (refusal_line (fault_line path.now fault))
+        (E.taken err.old) (E.taken err.new) (E.failures err.old) (E.failures err.new) }
+{
+    match fault.offset() {
+        None => refuse_name_at(alloc, path, fault.name(), remedy(path), err),
+        Some(offset) => refuse_offset_at(alloc, path, fault.name(), offset, remedy(path), err),
+    }
+}
+
+/// The same of a fault that has a name alone.
+fn refuse_name_at<E: Sink>(alloc: Global, path: &[u8], name: &str, remedy: &str, err: &mut E)
+    ensures { Refused (refusal_line (line_at path.now name.now None remedy.now))
+        (E.taken err.old) (E.taken err.new) (E.failures err.old) (E.failures err.new) }
+{
+    let name = name.as_bytes();
+    let remedy = remedy.as_bytes();
+    refuse(
+        alloc,
+        err,
+        &[BEGIN, BAD, name, COLON, path, COLON, remedy, END],
+    )
+}
+
+/// The same of a fault that has an offset.
+fn refuse_offset_at<E: Sink>(
+    alloc: Global,
+    path: &[u8],
+    name: &str,
+    offset: u64,
+    remedy: &str,
+    err: &mut E,
+)
+    ensures { Refused (refusal_line (line_at path.now name.now (Some offset) remedy.now))
+        (E.taken err.old) (E.taken err.new) (E.failures err.old) (E.failures err.new) }
+{
+    let mut digits = itoa::Buffer::new();
+    refuse_digits_at(alloc, path, name, digits.format(offset), remedy, err)
+}
+
+/// The same, where these are its digits.
+fn refuse_digits_at<E: Sink>(
+    alloc: Global,
+    path: &[u8],
+    name: &str,
+    digits: &str,
+    remedy: &str,
+    err: &mut E,
+)
+    ensures { (offset : ℕ) → digits.now ≡ decimal offset
+        → Refused (refusal_line (line_at path.now name.now (Some offset) remedy.now))
+        (E.taken err.old) (E.taken err.new) (E.failures err.old) (E.failures err.new) }
+{
+    let name = name.as_bytes();
+    let digits = digits.as_bytes();
+    let remedy = remedy.as_bytes();
+    refuse(
+        alloc,
+        err,
+        &[
+            BEGIN, BAD, name, AT, digits, COLON, path, COLON, remedy, END,
+        ],
+    )
+}
+
+/// Writes a line.
+fn refuse_text<E: Sink>(alloc: Global, err: &mut E, line: &str)
+    ensures { Refused (refusal_line line.now)
+        (E.taken err.old) (E.taken err.new) (E.failures err.old) (E.failures err.new) }
+{
+    refuse(alloc, err, &[BEGIN, line.as_bytes(), END])
+}
+
+/// Writes lines that may be no text.
+fn refuse_words<E: Sink>(alloc: Global, err: &mut E, words: &[u8])
+    ensures { Refused (refusal_line words.now)
+        (E.taken err.old) (E.taken err.new) (E.failures err.old) (E.failures err.new) }
+{
+    refuse(alloc, err, &[BEGIN, words, END])
+}
+
+/// Writes the line of refused memory. Takes none.
+pub fn refuse_memory<E: Sink>(err: &mut E)
+    ensures { Refused (refusal_line (codes "out of memory"))
+        (E.taken err.old) (E.taken err.new) (E.failures err.old) (E.failures err.new) }
+{
+    refuse_whole(err, b"hwdb: out of memory\n")
+}
+
+/// Writes a line, given in parts: at once, so that nothing of another process gets into it; in parts without memory for
+/// the whole.
+fn refuse<E: Sink>(alloc: Global, err: &mut E, parts: &[&[u8]])
+    ensures { Refused (concat (map (λ part. part.now) parts.now))
+        (E.taken err.old) (E.taken err.new) (E.failures err.old) (E.failures err.new) }
+{
+    match whole(alloc, parts) {
+        Ok(line) => refuse_whole(err, &line),
+        Err(_) => refuse_in_parts(err, parts),
+    }
+}
+
+/// The parts as one line.
+fn whole(alloc: Global, parts: &[&[u8]]) -> Result<Vec<u8>, AllocError>
+    ensures { IfOk result (λ line. line.items ≡ concat (map (λ part. part.now) parts.now)) }
+{
+    let mut line = Vec::new(alloc);
+    for part in parts {
+        line.extend_from_slice(part)?;
+    }
+    Ok(line)
+}
+
+/// Writes a whole line.
+fn refuse_whole<E: Sink>(err: &mut E, line: &[u8])
+    ensures { Refused line.now
+        (E.taken err.old) (E.taken err.new) (E.failures err.old) (E.failures err.new) }
+{
+    match write_text(err, line) {
+        Ok(()) => {}
+        Err(_) => {}
+    }
+}
+
+/// Writes the parts of a line, one after another.
+fn refuse_in_parts<E: Sink>(err: &mut E, parts: &[&[u8]])
+    ensures { Refused (concat (map (λ part. part.now) parts.now))
+        (E.taken err.old) (E.taken err.new) (E.failures err.old) (E.failures err.new) }
+{
+    for part in parts {
+        match write_text(err, part) {
+            Ok(()) => {}
+            Err(_) => return,
+        }
+    }
+}

@@ -1,0 +1,17 @@
+//! A file system that may be looked at from a root below its own.
+ghost use Rattle.std.specs.Prelude.{◌≡◌, IfErr};
+ghost use Rattle.hwdb_fs.specs.Refusals.{HasReason, IsUnread};
+
+use crate::refusals::Refusal;
+use crate::system::System;
+
+/// A [`System`] that may go below a root.
+pub trait Rooted: System {
+    /// Goes below a root. The paths of folders and databases, and those of the store, which all begin with it from now on,
+    /// lead on inside it, as if it were `/`, whatever links are on the way. Changes no file. Refuses what is no folder.
+    fn enter(&mut self, root: &str) -> Result<(), Refusal>
+        ensures same { Self.tells → self.new ≡ self.old }
+        ensures refused { IfErr result (IsUnread root.now) }
+        ensures reason { IfErr result
+            (HasReason (Self.may_fail self.old) ⊥ (Self.seen self.old)) };
+}

@@ -1,0 +1,71 @@
+//! What the program asks of a file system.
+ghost use Rattle.std.specs.Prelude.{◌≡◌, ◌≤◌, ℕ, List, Some, IfOk, IfErr, IfSome, OnOk, is_some, map, option_map, string_bytes, vec_len};
+ghost use Rattle.hwdb_spec.specs.Texts.{max_file};
+ghost use Rattle.hwdb_spec.specs.System.{AreNamesIn, bytes_at};
+ghost use Rattle.hwdb_fs.specs.Refusals.{HasReason, IsUnlisted, IsUnread, IsUnreadable};
+
+use crate::refusals::Refusal;
+use hwdb_devices::Cause;
+use hwdb_replace::Store;
+use std::alloc::{AllocError, Global};
+
+/// Files that the program reads, in a [`Store`] whose database it replaces.
+///
+/// Each call reads, and changes nothing. Refuses what can't be read, with its path and the cause, and where memory is
+/// refused.
+pub trait System: Store {
+    /// Reading what stands at a path, or listing it, may fail, for whatever reason.
+    ghost may_fail: { Self → List ℕ → Type 0 };
+
+    /// A regular file is at the path, or the null device: no folder, pipe, socket or other device. A link is followed.
+    ghost is_regular: { Self → List ℕ → Type 0 };
+
+    /// The names of a folder's text files, in no order; none where the folder isn't there. Other entries of the
+    /// folder never matter. Refuses a text file's name that isn't UTF-8, too.
+    fn names(&self, alloc: Global, folder: &str) -> Result<Vec<String>, Refusal>
+        ensures names { Self.tells → IfOk result
+            (λ names. AreNamesIn folder.now (Self.seen self.now) (map string_bytes names.items)) }
+        ensures refused { IfErr result (IsUnlisted folder.now) }
+        ensures reason { IfErr result
+            (HasReason (may_fail self.now) ⊥ (Self.seen self.now)) };
+
+    /// The bytes of a text file that was chosen. Refuses what is no regular file: an open of a pipe would wait.
+    fn text(&self, alloc: Global, path: &str) -> Result<Vec<u8>, Refusal>
+        ensures regular { OnOk result (is_regular self.now path.now) }
+        ensures bytes { Self.tells → IfOk result
+            (λ bytes. bytes_at (Self.seen self.now) path.now ≡ Some bytes.items) }
+        ensures within { IfOk result (λ bytes. vec_len bytes ≤ max_file) }
+        ensures refused { IfErr result (IsUnread path.now) }
+        ensures reason { IfErr result (HasReason
+            (IsUnreadable (may_fail self.now) (Self.seen self.now)) ⊥ (Self.seen self.now)) };
+
+    /// The bytes of whatever can be read at a path: a file, a pipe, a device.
+    fn input(&self, alloc: Global, path: &str) -> Result<Vec<u8>, Refusal>
+        ensures bytes { Self.tells → IfOk result
+            (λ bytes. bytes_at (Self.seen self.now) path.now ≡ Some bytes.items) }
+        ensures within { IfOk result (λ bytes. vec_len bytes ≤ max_file) }
+        ensures refused { IfErr result (IsUnread path.now) }
+        ensures reason { IfErr result (HasReason
+            (IsUnreadable (may_fail self.now) (Self.seen self.now)) ⊥ (Self.seen self.now)) };
+
+    /// The bytes of a database, or None where nothing stands at the path. Refuses what is no regular file.
+    fn database(&self, alloc: Global, path: &str) -> Result<Option<Vec<u8>>, Refusal>
+        ensures regular { IfOk result (λ found. IfSome found (λ _. is_regular self.now path.now)) }
+        ensures bytes { Self.tells → IfOk result
+            (λ found. bytes_at (Self.seen self.now) path.now ≡ option_map (λ b. b.items) found) }
+        ensures within { IfOk result (λ found. IfSome found (λ b. vec_len b ≤ max_file)) }
+        ensures refused { IfErr result (IsUnread path.now) }
+        ensures reason { IfErr result
+            (HasReason (may_fail self.now) ⊥ (Self.seen self.now)) };
+
+    /// Whether something is at the path of a database, so that it is read; a link is something. Where that can't be told,
+    /// something is. The only error is that memory is refused.
+    fn is_there(&self, alloc: Global, path: &str) -> Result<bool, AllocError>
+        ensures { Self.tells → IfOk result
+            (λ there. there ≡ is_some (bytes_at (Self.seen self.now) path.now)) };
+
+    /// Why the first call that failed did, where the system knows it. For messages alone: no promise speaks of it.
+    fn cause(&self) -> Option<Cause> {
+        None
+    }
+}

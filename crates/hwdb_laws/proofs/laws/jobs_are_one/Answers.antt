@@ -1,8 +1,0 @@
-use Rattle.hwdb_laws.proofs.JobLemmas.{not_told, one_job}
-use Rattle.hwdb_laws.proofs.laws.jobs_are_one.Goals as goal
-
-pub returns-clause-one : goal.returns-clause-one
-returns-clause-one g c = one_job _ _ _ _ c.tasks_are_one.ensures
-
-pub returns-clause-told : goal.returns-clause-told
-returns-clause-told g c = not_told (g.D.System.may_fail c.args.first.now) (g.D.Store.may_leave c.args.first.now)

@@ -1,0 +1,6 @@
+pub mod Lookups
+pub mod Updates
+pub mod JsonTokens
+pub mod JsonLaws
+pub mod Streams
+pub mod Internal

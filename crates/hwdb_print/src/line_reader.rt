@@ -1,0 +1,132 @@
+//! The lines of a source, one after another.
+ghost use Rattle.std.specs.Prelude.{[], ◌≡◌, ◌≢◌, ◌<◌, ◌≤◌, ◌+◌, ℕ, true, false, length, IfOk, IfErr, IfSome, IfNone, OnOk, IsErrOf, vec_len};
+ghost use Rattle.std.specs.Io.KnownBytes.{IsAtEnd, Keeps, prepend_known};
+ghost use Rattle.std.specs.List.{position_or_len};
+ghost use Rattle.hwdb_spec.specs.Failures.{HasFailed, OneFailed};
+ghost use Rattle.hwdb_spec.specs.Lines.{byte, is};
+ghost use Rattle.hwdb_transfer.specs.Refusals.{IsReadRefusal};
+ghost use Rattle.hwdb_print.specs.Streams.{IsFirstLine, IsTakeRefusal, held, to_come};
+ghost use Rattle.hwdb_print.specs.Internal.{IsTaken, IsRefilled};
+
+use crate::chunk::{CHUNK, LineReader};
+use hwdb_devices::Source;
+use hwdb_transfer::ToolError;
+use memchr::memchr;
+use std::alloc::Global;
+
+/// Where the byte first stands; the length of the text if it stands nowhere.
+fn end_of(needle: u8, text: &[u8]) -> usize
+    ensures place { result ≡ position_or_len (is needle) text.now }
+    ensures within { result ≤ length text.now }
+{
+    match memchr(needle, text) {
+        Some(place) => place,
+        None => text.len(),
+    }
+}
+
+impl LineReader {
+    /// Nothing was read.
+    pub fn new() -> LineReader
+        ensures { held result ≡ [] }
+    {
+        LineReader {
+            chunk: [0; CHUNK],
+            at: 0,
+            end: 0,
+        }
+    }
+
+    /// Reads on, where all was handed on, and answers whether there was more.
+    ///
+    /// Refuses a source that fails.
+    fn refill<I: Source>(&mut self, source: &mut I) -> Result<bool, ToolError>
+        requires handed { held self.old ≡ [] }
+        ensures read { IfOk result
+            (IsRefilled (I.left source.old) (held self.new) (I.left source.new)) }
+        ensures refusals { IfErr result (λ e. e ≡ ToolError.Read) }
+        ensures unfailed { OnOk result (I.failures source.new ≡ I.failures source.old) }
+        ensures last { IfErr result
+            (λ _. OneFailed (I.failures source.old) (I.failures source.new)) }
+    {
+        self.at = 0;
+        self.end = 0;
+        match source.read(&mut self.chunk) {
+            Ok(n) => {
+                self.end = n;
+                Ok(n > 0)
+            }
+            Err(_) => Err(ToolError::Read),
+        }
+    }
+
+    /// Hands on what is held up to a newline, or all, behind a line's beginning, and answers whether that was the whole
+    /// line.
+    ///
+    /// Refuses a line of more bytes than `max_bytes`, and memory.
+    fn take_line(&mut self, line: &mut Vec<u8>, max_bytes: u32) -> Result<bool, ToolError>
+        requires begun { vec_len line.old ≤ max_bytes }
+        ensures taken { IfOk result
+            (IsTaken line.old.items (held self.old) line.new.items (held self.new)) }
+        ensures fits { OnOk result (vec_len line.new ≤ max_bytes) }
+        ensures refusals { IfErr result IsTakeRefusal }
+        ensures too_long { IsErrOf result ToolError.TooLong
+            → max_bytes < vec_len line.old + position_or_len (is (byte "\n")) (held self.old) }
+    {
+        let all = &self.chunk[..];
+        let part = &all[self.at..self.end];
+        let end = end_of(b'\n', part);
+        if end > max_bytes as usize - line.len() {
+            return Err(ToolError::TooLong);
+        }
+        line.extend_from_slice(&part[..end])?;
+        if end < part.len() {
+            self.at = self.at + end + 1;
+            return Ok(true);
+        }
+        self.at = self.end;
+        Ok(false)
+    }
+
+    /// The next line, without its newline, if there is one; the last may have none. It reads on only where no whole line
+    /// is held. Each byte is searched once and copied once.
+    ///
+    /// Refuses a source that fails, a line of more bytes than `max_bytes` (so that it returns also on a source that
+    /// never ends), and memory.
+    pub fn next_line<I: Source>(
+        &mut self,
+        alloc: Global,
+        source: &mut I,
+        max_bytes: u32,
+    ) -> Result<Option<Vec<u8>>, ToolError>
+        ensures line { IfOk result (λ found. IfSome found (λ line. IsFirstLine line.items
+            (to_come self.old (I.left source.old)) (to_come self.new (I.left source.new)))) }
+        ensures end { IfOk result (λ found. IfNone found
+            (IsAtEnd (to_come self.old (I.left source.old)))) }
+        ensures fits { IfOk result (λ found. IfSome found (λ line. vec_len line ≤ max_bytes)) }
+
+        ensures refusals { IfErr result IsReadRefusal }
+        ensures too_long { IsErrOf result ToolError.TooLong
+            → IfSome (to_come self.old (I.left source.old))
+            (λ bytes. max_bytes < position_or_len (is (byte "\n")) bytes) }
+        ensures unfailed { IfErr result (λ e. e ≢ ToolError.Read
+            → I.failures source.new ≡ I.failures source.old) }
+        ensures unfailed_ok { OnOk result (I.failures source.new ≡ I.failures source.old) }
+        ensures last { IsErrOf result ToolError.Read
+            → OneFailed (I.failures source.old) (I.failures source.new) }
+    {
+        let mut line = Vec::new(alloc);
+        'reading: while line.len() <= max_bytes as usize {
+            if self.take_line(&mut line, max_bytes)? {
+                return Ok(Some(line));
+            }
+            if !self.refill(source)? {
+                if line.is_empty() {
+                    return Ok(None);
+                }
+                return Ok(Some(line));
+            }
+        }
+        Err(ToolError::TooLong)
+    }
+}

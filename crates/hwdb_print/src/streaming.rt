@@ -1,0 +1,107 @@
+//! The devices of a source, each answered as it comes.
+ghost use Rattle.std.specs.Prelude.{◌≡◌, ◌⊎◌, ◌<◌, ℕ, List, length, IfOk, IfErr, IfSome, OnOk, IsErrOf};
+ghost use Rattle.std.specs.Io.KnownBytes.{Appends};
+ghost use Rattle.hwdb_spec.specs.Failures.{HasFailed, OneFailed};
+ghost use Rattle.hwdb_spec.specs.Folders.{Source, max_lines};
+ghost use Rattle.hwdb_spec.specs.ManyDevices.{HasLongLine};
+ghost use Rattle.hwdb_spec.specs.Texts.{devices_of, max_file};
+ghost use Rattle.hwdb_spec.specs.Written.{IsCompiled};
+ghost use Rattle.hwdb_spec.specs.Outputs.{AppendsPrefix, Wrote, WrotePrefix};
+ghost use Rattle.hwdb_spec.specs.Databases.{IsTextOf};
+ghost use Rattle.hwdb_print.specs.Streams.{IsAnswerRefusal, IsStreamRefusal, IfBadDatabase, texts_of, last_texts_of};
+
+use crate::chunk::LineReader;
+use crate::device_answers::text_of_device;
+use crate::form::Form;
+use hwdb_devices::{Sink, Source};
+use hwdb_query::compiled_answers_are_last;
+use hwdb_reader::{Db, check};
+use hwdb_transfer::{MAX_BYTES, ToolError, write_text};
+use std::alloc::Global;
+
+/// Answers each device that the input names. One line and one text are held at a time.
+fn answer_lines<I: Source, O: Sink>(
+    alloc: Global,
+    db: &Db<'_>,
+    form: Form,
+    input: &mut I,
+    out: &mut O,
+) -> Result<(), ToolError>
+    ensures printed { OnOk result (IfSome (I.left input.old) (λ text.
+        Appends (O.taken out.old) (O.taken out.new) (texts_of form (devices_of text) db.now))) }
+    ensures refusals { IfErr result IsAnswerRefusal }
+    ensures too_long { IsErrOf result ToolError.TooLong
+        → IfSome (I.left input.old) (HasLongLine max_file) }
+    ensures too_many { IsErrOf result ToolError.TooManyLines
+        → IfSome (I.left input.old) (λ text. max_lines < length (devices_of text)) }
+    ensures unfailed { OnOk result ((I.failures input.new ≡ I.failures input.old)
+        × (O.failures out.new ≡ O.failures out.old)) }
+    ensures last_read { IsErrOf result ToolError.Read
+        → OneFailed (I.failures input.old) (I.failures input.new)
+        × (O.failures out.new ≡ O.failures out.old) }
+    ensures last_write { IsErrOf result ToolError.Write
+        → (I.failures input.new ≡ I.failures input.old)
+        × OneFailed (O.failures out.old) (O.failures out.new) }
+    ensures cut_short { IfErr result (λ _. IfSome (I.left input.old) (λ text.
+        AppendsPrefix (O.taken out.old) (O.taken out.new)
+        (texts_of form (devices_of text) db.now))) }
+{
+    let mut lines = LineReader::new();
+    let mut is_first = true;
+    'answering: for _ in 0..u64::MAX {
+        let Some(device) = lines.next_line(alloc, input, MAX_BYTES)? else {
+            return Ok(());
+        };
+        let text = text_of_device(alloc, db, &device, form, is_first)?;
+        write_text(out, &text)?;
+        is_first = false;
+    }
+    Err(ToolError::TooManyLines)
+}
+
+/// Checks the bytes, and then reads devices from `input`, one a line, and prints each to `out` as soon as its line is
+/// read: with `Form::Query` its properties, as `run_queries` and `run_queries_json` do, with `Form::Explain` also where
+/// they come from, as `run_explain` and `run_explain_json` do. As text an empty line stands between two devices. Memory
+/// doesn't grow with their number.
+///
+/// Refuses bytes that are no database before anything is read; then a failed read, a failed write, a line of more bytes
+/// than `MAX_BYTES`, more lines than can be counted, and memory: what was printed is then a prefix of the whole.
+pub fn run_stream<I: Source, O: Sink>(
+    alloc: Global,
+    bytes: &[u8],
+    form: Form,
+    input: &mut I,
+    out: &mut O,
+) -> Result<(), ToolError>
+    ensures printed { OnOk result (IfSome (I.left input.old) (λ text.
+        Wrote (IsTextOf (texts_of form (devices_of text)) bytes.now)
+        (O.taken out.old) (O.taken out.new))) }
+    ensures headline { OnOk result (IfSome (I.left input.old) (λ text.
+        (etc usr : List Source) → IsCompiled etc usr bytes.now
+        → Appends (O.taken out.old) (O.taken out.new)
+        (last_texts_of form (devices_of text) etc usr))) }
+
+    ensures refusals { IfErr result (IsStreamRefusal bytes.now) }
+    ensures too_long { IsErrOf result ToolError.TooLong
+        → IfSome (I.left input.old) (HasLongLine max_file) }
+    ensures too_many { IsErrOf result ToolError.TooManyLines
+        → IfSome (I.left input.old) (λ text. max_lines < length (devices_of text)) }
+    ensures unfailed { OnOk result ((I.failures input.new ≡ I.failures input.old)
+        × (O.failures out.new ≡ O.failures out.old)) }
+    ensures last_read { IsErrOf result ToolError.Read
+        → OneFailed (I.failures input.old) (I.failures input.new)
+        × (O.failures out.new ≡ O.failures out.old) }
+    ensures last_write { IsErrOf result ToolError.Write
+        → (I.failures input.new ≡ I.failures input.old)
+        × OneFailed (O.failures out.old) (O.failures out.new) }
+    ensures cut_short { IfErr result (λ _. (out.new ≡ out.old)
+        ⊎ IfSome (I.left input.old) (λ text.
+        WrotePrefix (IsTextOf (texts_of form (devices_of text)) bytes.now)
+        (O.taken out.old) (O.taken out.new))) }
+    ensures untouched { IfErr result (IfBadDatabase
+        ((input.new ≡ input.old) × (out.new ≡ out.old))) }
+{
+    compiled_answers_are_last();
+    let db = check(bytes)?;
+    answer_lines(alloc, &db, form, input, out)
+}

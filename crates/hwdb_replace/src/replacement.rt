@@ -1,0 +1,230 @@
+//! The database is replaced: a new file beside it, on the disk, takes its place.
+ghost use Rattle.std.specs.Prelude.{◌≡◌, ◌≢◌, ◌<◌, Some, OnOk, OnErr, IfOk, IfErr, IfSome, IsErrOf, MatchResult};
+ghost use Rattle.hwdb_spec.specs.Failures.{CountsFailures};
+ghost use Rattle.hwdb_spec.specs.Store.{SameBut, Written, NoMore, NoMoreBut, Elapses, Replaced, Installed, Always, LeavesOnly, AreTaken, OldOrNew, path_in, part_name, database_name, database_file, most_parts};
+ghost use Rattle.hwdb_replace.specs.Views.{IsSeen, IsLeft, failures_after};
+ghost use Rattle.hwdb_replace.specs.Internal.{OldOrFree, OldOrReplaced, IsSeenThen, IsLeftThen, OrPart, OrFile, Made, NotMade, Settled, IsEmpty};
+ghost use Rattle.hwdb_replace.specs.declared.replacement.Unreplaced.TheVariants.{Undone, NamesTaken};
+
+use crate::calls::{CallFailed, Store};
+use arrayvec::ArrayString;
+use itoa::Buffer;
+use std::str::from_utf8;
+
+/// The database's name in its folder.
+pub const DATABASE: &str = "hwdb.bin";
+
+/// How the name of the new file begins, before its number.
+const PART: &str = ".#hwdb.bin";
+
+/// How many names are tried for the new file.
+const MOST_PARTS: u32 = 65536;
+
+/// Why a replacement failed, and what it left.
+#[derive(Clone, Copy, Debug, PartialEq, Eq)]
+pub enum Unreplaced {
+    /// A call failed: the database is as it was, and no new file stands beside it.
+    Undone,
+    /// Each name for the new file is taken: all is as it was.
+    NamesTaken,
+    /// A call failed, and then the new file couldn't be removed: it stands beside the database, which is as it was.
+    LeftBehind,
+    /// The new file stands in the database's place, but the folder couldn't be synced: a crash may bring the old
+    /// one back.
+    Unsynced,
+}
+
+impl From<CallFailed> for Unreplaced {
+    ghost from_gives = { λ _ e. e ≡ Undone };
+
+    fn from(_: CallFailed) -> Unreplaced {
+        Unreplaced::Undone
+    }
+}
+
+/// Replaces the database in a folder, which is made where it isn't there, by these bytes.
+///
+/// Leftovers of killed updates are removed first. A new file is made beside the database, `.#hwdb.bin` and the first
+/// number that makes a new name; it gets the bytes and its mode, is synced, and is renamed over `hwdb.bin`; then the
+/// folder is synced. After a call that failed the new file is removed. It takes no memory but what the store takes.
+///
+/// A crash at any moment leaves the old database or the new one, whole, and every other file as it was, but for such
+/// leftovers.
+pub fn replace<S: Store>(store: &mut S, folder: &str, bytes: &[u8]) -> Result<(), Unreplaced>
+    ensures replaced { S.tells → OnOk result
+        (Installed folder.now bytes.now (S.seen store.old) (S.seen store.new)) }
+    ensures durable { S.tells → OnOk result
+        (Always (path_in folder.now database_name) (Some (database_file bytes.now))
+        (S.may_leave store.new)) }
+    ensures any_moment { S.tells → LeavesOnly S.moment S.left_since store.old store.new
+        (OldOrNew folder.now bytes.now (S.seen store.old) (S.may_leave store.old)) }
+    ensures afterwards { S.tells → NoMore
+        (OldOrNew folder.now bytes.now (S.seen store.old) (S.may_leave store.old))
+        (S.may_leave store.new) }
+    ensures seen { S.tells → IfErr result
+        (IsSeen folder.now bytes.now (S.seen store.old) (S.seen store.new)) }
+    ensures left { S.tells → IfErr result
+        (IsLeft folder.now bytes.now (S.seen store.old) (S.may_leave store.old)
+        (S.may_leave store.new)) }
+    ensures cause { MatchResult result (λ _. S.failures store.new ≡ S.failures store.old)
+        (λ e. S.failures store.new ≡ failures_after e (S.failures store.old)) }
+{
+    store.clear_parts(folder);
+    exchange(store, folder, bytes)
+}
+
+/// Puts these bytes in the database's place, without a look at leftovers.
+fn exchange<S: Store>(store: &mut S, folder: &str, bytes: &[u8]) -> Result<(), Unreplaced>
+    ensures replaced { S.tells → OnOk result
+        (Replaced (path_in folder.now database_name) (database_file bytes.now)
+        (S.seen store.old) (S.seen store.new)) }
+    ensures durable { S.tells → OnOk result
+        (Always (path_in folder.now database_name) (Some (database_file bytes.now))
+        (S.may_leave store.new)) }
+    ensures any_moment { S.tells → LeavesOnly S.moment S.left_since store.old store.new
+        (OldOrReplaced folder.now bytes.now (S.seen store.old) (S.may_leave store.old)) }
+    ensures afterwards { S.tells → NoMore
+        (OldOrReplaced folder.now bytes.now (S.seen store.old) (S.may_leave store.old))
+        (S.may_leave store.new) }
+    ensures seen { S.tells → IfErr result
+        (IsSeenThen folder.now bytes.now (S.seen store.old) (S.seen store.new)) }
+    ensures left { S.tells → IfErr result
+        (IsLeftThen folder.now bytes.now (S.seen store.old) (S.may_leave store.old)
+        (S.may_leave store.new)) }
+    ensures cause { MatchResult result (λ _. S.failures store.new ≡ S.failures store.old)
+        (λ e. S.failures store.new ≡ failures_after e (S.failures store.old)) }
+{
+    let part = make(store, folder)?;
+    match settle(store, folder, part.as_str(), bytes) {
+        Ok(()) => match store.sync_folder(folder) {
+            Ok(()) => Ok(()),
+            Err(_) => Err(Unreplaced::Unsynced),
+        },
+        Err(_) => match store.remove(folder, part.as_str()) {
+            Ok(()) => Err(Unreplaced::Undone),
+            Err(_) => Err(Unreplaced::LeftBehind),
+        },
+    }
+}
+
+/// The name of the new file with this number.
+pub fn part_name(number: u32) -> ArrayString<20>
+    ensures { result.bytes ≡ part_name number }
+{
+    let mut digits = Buffer::new();
+    let mut name = ArrayString::new();
+    name.push_str(PART);
+    name.push_str(digits.format(number));
+    name
+}
+
+/// The number in a name that begins as new files' do.
+fn number_in(name: &[u8]) -> Option<u32> {
+    let digits = name.strip_prefix(PART.as_bytes())?;
+    from_utf8(digits).ok()?.parse::<u32>().ok()
+}
+
+/// The number of a name that a new file may have.
+pub fn part_number(name: &[u8]) -> Option<u32>
+    ensures { IfSome result
+        (λ number. (number < most_parts) × (name.now ≡ part_name number)) }
+{
+    let number = number_in(name)?;
+    if number < MOST_PARTS && name == part_name(number).as_str().as_bytes() {
+        Some(number)
+    } else {
+        None
+    }
+}
+
+/// Makes the new file, under the first name that nothing has, and returns its name.
+fn make<S: Store>(store: &mut S, folder: &str) -> Result<ArrayString<20>, Unreplaced>
+    ensures made { S.tells → IfOk result (λ name.
+        (S.part store.new ≡ path_in folder.now name.bytes)
+        × Made folder.now (path_in folder.now name.bytes) (S.seen store.old) (S.seen store.new)
+        (S.may_leave store.old) (S.may_leave store.new)) }
+    ensures not_made { S.tells → OnErr result (NotMade (S.seen store.old) (S.seen store.new)
+        (S.may_leave store.old) (S.may_leave store.new)) }
+    ensures taken { S.tells → IsErrOf result Unreplaced.NamesTaken
+        → AreTaken folder.now most_parts (S.seen store.old) }
+    ensures time { S.tells → Elapses (S.moment store.old) (S.moment store.new)
+        (S.left_since store.old) (S.left_since store.new)
+        (OldOrFree folder.now (S.seen store.old) (S.may_leave store.old)) }
+    ensures refusals { IfErr result (λ e. (e ≢ Unreplaced.LeftBehind) × (e ≢ Unreplaced.Unsynced)) }
+    ensures cause { MatchResult result (λ _. S.failures store.new ≡ S.failures store.old)
+        (λ e. S.failures store.new ≡ failures_after e (S.failures store.old)) }
+{
+    store.make_folder(folder)?;
+    'numbers: for number in 0..MOST_PARTS {
+        let name = part_name(number);
+        if store.create_new(folder, name.as_str())? {
+            return Ok(name);
+        }
+    }
+    Err(Unreplaced::NamesTaken)
+}
+
+/// Gives the new file all of the bytes, has it on the disk, and renames it.
+fn settle<S: Store>(store: &mut S, folder: &str, part: &str, bytes: &[u8]) -> Result<(), CallFailed>
+    ensures settled { S.tells → S.part store.old ≡ path_in folder.now part.now
+        → IsEmpty (path_in folder.now part.now) (S.seen store.old)
+        → path_in folder.now part.now ≢ path_in folder.now database_name
+        → OnOk result (Settled (path_in folder.now part.now) (path_in folder.now database_name)
+        bytes.now (S.seen store.old) (S.seen store.new)
+        (S.may_leave store.old) (S.may_leave store.new)) }
+    ensures others { S.tells → S.part store.old ≡ path_in folder.now part.now → OnErr result
+        (SameBut (path_in folder.now part.now) (S.seen store.old) (S.seen store.new)) }
+    ensures crash { S.part store.old ≡ path_in folder.now part.now → OnErr result
+        (NoMoreBut (path_in folder.now part.now) (S.may_leave store.old) (S.may_leave store.new)) }
+    ensures whole { S.part store.old ≡ path_in folder.now part.now
+        → OnOk result (S.is_whole store.new (path_in folder.now database_name)) }
+    ensures time { S.tells → S.part store.old ≡ path_in folder.now part.now
+        → IsEmpty (path_in folder.now part.now) (S.seen store.old)
+        → Elapses (S.moment store.old) (S.moment store.new)
+        (S.left_since store.old) (S.left_since store.new)
+        (OrFile (path_in folder.now part.now) (path_in folder.now database_name)
+        (database_file bytes.now) (S.may_leave store.old)) }
+    ensures cause { CountsFailures (S.failures store.old) (S.failures store.new) result }
+{
+    fill(store, bytes)?;
+    store.rename(folder, part, DATABASE)?;
+    Ok(())
+}
+
+/// Gives the new file all of the bytes and its mode, and has it on the disk.
+fn fill<S: Store>(store: &mut S, bytes: &[u8]) -> Result<(), CallFailed>
+    ensures filled { S.tells → IsEmpty (S.part store.old) (S.seen store.old) → OnOk result
+        (S.seen store.new (S.part store.old) ≡ Some (database_file bytes.now)) }
+    ensures whole { OnOk result (S.is_whole store.new (S.part store.old)) }
+    ensures others { S.tells → SameBut (S.part store.old) (S.seen store.old) (S.seen store.new) }
+    ensures part { S.part store.new ≡ S.part store.old }
+    ensures crash { NoMoreBut (S.part store.old) (S.may_leave store.old) (S.may_leave store.new) }
+    ensures time { Elapses (S.moment store.old) (S.moment store.new)
+        (S.left_since store.old) (S.left_since store.new)
+        (OrPart (S.part store.old) (S.may_leave store.old)) }
+    ensures cause { CountsFailures (S.failures store.old) (S.failures store.new) result }
+{
+    write_all(store, bytes)?;
+    store.set_mode()?;
+    store.sync()?;
+    Ok(())
+}
+
+/// Adds all of the bytes to the new file.
+fn write_all<S: Store>(store: &mut S, bytes: &[u8]) -> Result<(), CallFailed>
+    ensures written { S.tells → OnOk result
+        (Written (S.part store.old) bytes.now (S.seen store.old) (S.seen store.new)) }
+    ensures others { S.tells → SameBut (S.part store.old) (S.seen store.old) (S.seen store.new) }
+    ensures part { S.part store.new ≡ S.part store.old }
+    ensures crash { NoMoreBut (S.part store.old) (S.may_leave store.old) (S.may_leave store.new) }
+    ensures time { Elapses (S.moment store.old) (S.moment store.new)
+        (S.left_since store.old) (S.left_since store.new)
+        (OrPart (S.part store.old) (S.may_leave store.old)) }
+    ensures cause { CountsFailures (S.failures store.old) (S.failures store.new) result }
+{
+    let mut written = 0;
+    while written < bytes.len() {
+        written += store.write(&bytes[written..])?;
+    }
+    Ok(())
+}

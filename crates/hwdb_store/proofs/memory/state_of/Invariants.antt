@@ -1,7 +1,0 @@
-use Rattle.std.proofs.Common.{◌≡◌, drop}
-use Rattle.hwdb_spec.specs.Crashes.{begin}
-use Rattle.hwdb_store.specs.Memory.{lent, state_of}
-use Rattle.hwdb_store.proofs.memory.state_of.Given as goal
-
-abbrev pub invariant-loop-step : goal.invariant-loop-step
-invariant-loop-step l = state_of l.path (lent l.state) (drop l.step-index l.steps) ≡ state_of l.path begin l.steps

@@ -1,6 +1,0 @@
-use Rattle.hwdb_system.proofs.LineLemmas.{joined_next}
-use Rattle.hwdb_system.proofs.refusals.whole.Goals as goal
-
-pub loop-part-preserved : goal.loop-part-preserved
-loop-part-preserved c =
-    joined_next c.args.parts.now c.loop-part.part-index _ _ _ c.loop-part-test.true c.loop-part.invariant c.in_ok-extend_from_slice.ensures.items

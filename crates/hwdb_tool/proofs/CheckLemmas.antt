@@ -1,0 +1,164 @@
+-- The files that `check` reads, and what it refuses of them.
+use Rattle.std.proofs.Common.{◌≡◌, ◌≢◌, ◌<◌, ◌≤◌, ◌+◌, ◌++◌, ◌∙◌, ◌||◌, inr, ap, sym, subst, refl, arith, ℕ, suc, Bool, true, false, List, [], ◌∷◌, length, map, drop, zero, get_or, string_bytes, codes, Global, Option, Some, None, Result, IfErr, String, All}
+use Rattle.std.specs.Bool.{◌==◌}
+use Rattle.std.specs.Prelude.{Contains, IfSome}
+use Rattle.std.specs.Option.{option_map_or}
+use Rattle.std.specs.Result.{IsErrAnd}
+use Rattle.std.proofs.lemmas.List.{length-map, get_or-map, drop_all}
+use Rattle.hwdb_spec.specs.Checks.{check_text}
+use Rattle.hwdb_spec.specs.Folders.{Choice, Source, path_of}
+use Rattle.std.proofs.lemmas.List.Elements.{All-nil, All-cons}
+use Rattle.hwdb_spec.specs.Given.{IsContent, IsGiven, is_dash, any_dash}
+use Rattle.hwdb_spec.specs.Store.{Contents}
+use Rattle.hwdb_spec.specs.System.{bytes_at}
+use Rattle.hwdb_spec.specs.Outputs.{AppendsPrefix}
+use Rattle.hwdb_transfer.specs.declared.errors.ToolError.{ToolError}
+use Rattle.hwdb_transfer.specs.declared.errors.ToolError.TheVariants.{Write}
+use Rattle.hwdb_lint.specs.Checks.{IsChecksRefusal, source_of}
+use Rattle.hwdb_lint.specs.declared.files.TextFile.{TextFile}
+use Rattle.hwdb_spec.specs.CheckedFiles.{AreCheckedFiles, AreChosenFiles, AreGivenFiles}
+use Rattle.hwdb_fs.specs.Internal.{AreSelected}
+use Rattle.hwdb_tool.specs.Internal.{AreTextsGiven, bytes_given, bytes_if}
+use Rattle.hwdb_fs.specs.Refusals.{IsUnread}
+use Rattle.hwdb_tool.specs.Undone.{AreUncheckable, IsCheckRefused, IsGivenUnread, told_as, told_path}
+use Rattle.hwdb_fs.specs.declared.refusals.Refusal.{Refusal}
+use Rattle.hwdb_fs.specs.declared.refusals.Refusal.TheVariants.{Plain}
+use Rattle.hwdb_tool.proofs.ErrorLemmas.{given_error}
+
+-- a given file, by its place
+pub given_unread : (given : List (String Global)) (k : ℕ) (path : String Global) (refusal : Refusal) → path ≡ get_or given k path → k < length given
+    → IsUnread (told_path (string_bytes path)) refusal → IsGivenUnread (map string_bytes given) refusal
+given_unread given k path refusal is lt unread =
+    inr (string_bytes path, (k, subst (λ n. k < n) (sym (length-map given string_bytes)) lt, get_or-map string_bytes given k path (string_bytes path) lt ∙ ap string_bytes (sym is)), unread)
+
+-- ---- what the files are
+names_of : (files : List TextFile) → map (λ (s : Source). s.name) (map source_of files) ≡ map (λ f. f.path.now) files
+names_of [] = refl
+names_of (f ∷ files) = ap (λ l. f.path.now ∷ l) (names_of files)
+
+bytes_of : (files : List TextFile) → map (λ (s : Source). Some s.bytes) (map source_of files) ≡ map Some (map (λ f. f.bytes.now) files)
+bytes_of [] = refl
+bytes_of (f ∷ files) = ap (λ l. Some f.bytes.now ∷ l) (bytes_of files)
+
+-- the given ones
+is_from : (dash : Bool) (path bytes text : List ℕ) (input : Option (List ℕ)) (contents : Contents) → bytes_if dash text contents path ≡ Some bytes
+    → (dash ≡ true → IfSome input (λ told. text ≡ told)) → IsContent dash path input contents bytes
+is_from true path bytes text input contents read told =
+    let same : text ≡ bytes = ap (λ (o : Option (List ℕ)). option_map_or (λ (b : List ℕ). b) o []) read in
+    subst (λ (b : List ℕ). IfSome input (λ told. b ≡ told)) same (told refl)
+is_from false path bytes text input contents read told = read
+
+first_of : List (Option (List ℕ)) → Option (List ℕ)
+first_of [] = None
+first_of (o ∷ more) = o
+
+rest_of : List (Option (List ℕ)) → List (Option (List ℕ))
+rest_of [] = []
+rest_of (o ∷ more) = more
+
+true_or : (a b : Bool) → a ≡ true → (a || b) ≡ true
+true_or true b e = refl
+true_or false b e = absurd (cc)
+
+or_true : (a b : Bool) → b ≡ true → (a || b) ≡ true
+or_true true b e = refl
+or_true false b e = e
+
+abbrev IsHeld : (input : Option (List ℕ)) (contents : Contents) → Source → Type 0
+IsHeld input contents s = IsGiven s.name input contents s.bytes
+
+all_given : (input : Option (List ℕ)) (contents : Contents) (text : List ℕ) (files : List TextFile)
+    → map Some (map (λ f. f.bytes.now) files) ≡ map (bytes_given text contents) (map (λ f. f.path.now) files)
+    → (any_dash (map (λ f. f.path.now) files) ≡ true → IfSome input (λ told. text ≡ told)) → All (IsHeld input contents) (map source_of files)
+unfolding first_of rest_of
+all_given input contents text [] read told = All-nil (IsHeld input contents)
+all_given input contents text (f ∷ files) read told =
+    let dash = is_dash f.path.now in
+    let others = any_dash (map (λ f. f.path.now) files) in
+    All-cons (IsHeld input contents) (source_of f) (map source_of files)
+    (is_from dash f.path.now f.bytes.now text input contents (sym (ap first_of read)) (λ e. told (true_or dash others e)))
+    (all_given input contents text files (ap rest_of read) (λ e. told (or_true dash others e)))
+
+pub given_sources : (input : Option (List ℕ)) (contents : Contents) (text : List ℕ) (given texts : List (List ℕ)) (files : List TextFile) → AreTextsGiven text contents given texts
+    → (any_dash given ≡ true → IfSome input (λ told. text ≡ told))
+    → map (λ f. f.path.now) files ≡ given → map (λ f. f.bytes.now) files ≡ texts → AreGivenFiles given input contents (map source_of files)
+given_sources input contents text given texts files read told named held = record {
+  named = names_of files ∙ named;
+  held = all_given input contents text files
+      (ap (map Some) held ∙ read ∙ ap (map (bytes_given text contents)) (sym named))
+      (λ e. told (ap any_dash (sym named) ∙ e));
+}
+
+-- a look for a dash among some strings goes on by one
+pub any_step : {X : Type 0} (f : X → List ℕ) (xs : List X) (i : ℕ) (x : X) → x ≡ get_or xs i x → i < length xs
+    → any_dash (map f (drop i xs)) ≡ (is_dash (f x) || any_dash (map f (drop (suc i) xs)))
+any_step f [] i x is lt = absurd (omega (arith, lt))
+any_step f (y ∷ more) zero x is lt = ap (λ p. is_dash (f p) || any_dash (map f more)) (sym is)
+any_step f (y ∷ more) (suc i) x is lt = any_step f more i x is (omega (arith, lt))
+
+-- none is found in front of the place that has been reached
+pub any_from : {X : Type 0} (f : X → List ℕ) (xs : List X) (i : ℕ) (x : X) (d : Bool) → x ≡ get_or xs i x → i < length xs → d ≡ is_dash (f x) → d ≡ false
+    → any_dash (map f (drop i xs)) ≡ any_dash (map f xs) → any_dash (map f (drop (i + 1) xs)) ≡ any_dash (map f xs)
+any_from f xs i x d is lt dash none before =
+    let next : suc i ≡ i + 1 = omega arith in
+    subst (λ n. any_dash (map f (drop n xs)) ≡ any_dash (map f xs)) next
+    (sym (ap (λ b. b || any_dash (map f (drop (suc i) xs))) (sym dash ∙ none)) ∙ sym (any_step f xs i x is lt) ∙ before)
+
+-- one is found at that place
+pub any_at : {X : Type 0} (f : X → List ℕ) (xs : List X) (i : ℕ) (x : X) (d : Bool) → x ≡ get_or xs i x → i < length xs → d ≡ is_dash (f x) → d ≡ true
+    → any_dash (map f (drop i xs)) ≡ any_dash (map f xs) → true ≡ any_dash (map f xs)
+any_at f xs i x d is lt dash some before =
+    sym (ap (λ b. b || any_dash (map f (drop (suc i) xs))) (sym dash ∙ some)) ∙ sym (any_step f xs i x is lt) ∙ before
+
+-- none is found
+pub any_behind : {X : Type 0} (f : X → List ℕ) (xs : List X) (n : ℕ) → length xs ≤ n → any_dash (map f (drop n xs)) ≡ any_dash (map f xs) → false ≡ any_dash (map f xs)
+any_behind f xs n le before = sym (ap (λ l. any_dash (map f l)) (drop_all n xs le)) ∙ before
+
+-- the text of standard input, behind a borrow
+pub told_of : (given : List (List ℕ)) (input : Option (List ℕ)) (text read : List ℕ) → text ≡ read → (any_dash given ≡ true → IfSome input (λ told. read ≡ told))
+    → any_dash given ≡ true → IfSome input (λ told. text ≡ told)
+told_of given input text read same told e = subst (λ (t : List ℕ). IfSome input (λ told. t ≡ told)) (sym same) (told e)
+
+-- standard input, among them
+found_dash : (given : List (List ℕ)) → any_dash given ≡ true → (path : List ℕ) × Contains given path × (is_dash path ≡ true)
+found_dash [] e = absurd (cc)
+found_dash (path ∷ given) e =
+    elim (is_dash path) as (λ d. is_dash path ≡ d → (d || any_dash given) ≡ true → (p : List ℕ) × Contains (path ∷ given) p × (is_dash p ≡ true)) [
+      | true ↦ λ is e. (path, (0, omega arith, refl), is)
+      | false ↦ λ is e. let found = found_dash given e in (found.0, (suc found.1.0, omega (arith, found.1.1), found.1.2), found.2)
+    ] refl e
+
+pub dash_unread : (given : List (List ℕ)) (refusal : Refusal) → any_dash given ≡ true → IsUnread (codes "standard input") refusal → IsGivenUnread given refusal
+dash_unread given refusal e unread =
+    let found = found_dash given e in
+    inr (found.0, found.1, subst (λ d. IsUnread (told_as d found.0) refusal) (sym found.2) unread)
+
+-- those of both folders
+pub chosen_sources : (root : List ℕ) (contents : Contents) (usr : List (List ℕ)) (chosen : List Choice) (texts : List (List ℕ)) (files : List TextFile) → AreSelected root contents usr chosen texts
+    → map (λ f. f.path.now) files ≡ map path_of chosen → map (λ f. f.bytes.now) files ≡ texts → AreChosenFiles root contents (map source_of files)
+chosen_sources root contents usr chosen texts files are named held = record {
+  etc = are.etc;
+  usr = usr;
+  in_etc = are.in_etc;
+  in_usr = are.in_usr;
+  few = are.few;
+  named = names_of files ∙ named ∙ ap (map path_of) are.is;
+  held = bytes_of files ∙ ap (map Some) held ∙ are.read ∙ ap (map (λ c. bytes_at contents (root ++ path_of c))) are.is;
+}
+
+-- ---- what is said of them
+module _ {T W : Type 0} (taken : W → Option (List ℕ)) (old new : W) (Unread : Refusal → Type 0) (Are : List Source → Type 0) (files : List TextFile) (error : ToolError) where
+  -- checking them is refused
+  pub unchecked : Are (map source_of files) → IsChecksRefusal (map source_of files) error → (error ≢ Write → new ≡ old)
+      → (error ≡ Write → AppendsPrefix (taken old) (taken new) (check_text (map source_of files)))
+      → (result : Result T Refusal) → IsErrAnd result (λ r. r ≡ Plain error) → IfErr result (λ r. IsCheckRefused Unread Are r (taken old) (taken new))
+  unchecked are refused untouched cut result is =
+      given_error (Plain error) (λ r. IsCheckRefused Unread Are r (taken old) (taken new)) result is
+      (inr (error, refl, record { sources = map source_of files; are = are; refused = refused; untouched = λ w. ap taken (untouched w); cut_short = cut }))
+
+-- where some are given
+pub some_given : (root : List ℕ) (input : Option (List ℕ)) (contents : Contents) (given : List (String Global)) (P : (Refusal → Type 0) → (List Source → Type 0) → Type 0) → (length given == 0) ≡ false
+    → P (IsGivenUnread (map string_bytes given)) (AreGivenFiles (map string_bytes given) input contents)
+    → P (AreUncheckable (map string_bytes given) root contents) (AreCheckedFiles (map string_bytes given) root input contents)
+some_given root input contents [] P some p = absurd (cc)
+some_given root input contents (path ∷ more) P some p = p

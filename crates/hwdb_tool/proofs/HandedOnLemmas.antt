@@ -1,0 +1,13 @@
+-- An error that is handed on.
+use Rattle.std.proofs.Common.{◌≡◌, subst, sym, Result, Ok, Err, IfErr}
+use Rattle.std.specs.Result.{IsErrAnd}
+
+-- a property of the error that is handed on
+pub given_error : {T E : Type 0} (e : E) (P : E → Type 0) (r : Result T E) → IsErrAnd r (λ x. x ≡ e) → P e → IfErr r P
+given_error e P (Ok x) is p = tt
+given_error e P (Err x) is p = subst P (sym is) p
+
+-- of an error what follows from a property
+pub each_error : {T E : Type 0} (P Q : E → Type 0) (r : Result T E) → ((e : E) → P e → Q e) → IfErr r P → IfErr r Q
+each_error P Q (Ok x) f p = tt
+each_error P Q (Err x) f p = f x p

@@ -1,0 +1,146 @@
+-- An update that is refused after its files were read.
+use Rattle.std.specs.Io.KnownBytes.{Appends}
+use Rattle.std.proofs.Common.{◌≡◌, ◌≢◌, inl, inr, ap, subst, sym, refl, ℕ, Bool, List, Option, Result, Ok, Err, IfErr}
+use Rattle.hwdb_spec.specs.Store.{Contents, Outcomes}
+use Rattle.hwdb_spec.specs.System.{database_folder}
+use Rattle.hwdb_spec.specs.Progress.{given_where, update_text}
+use Rattle.hwdb_spec.specs.Texts.{max_file}
+use Rattle.hwdb_replace.specs.declared.replacement.Unreplaced.{Unreplaced}
+use Rattle.hwdb_compile.specs.declared.sources.ChosenFile.{ChosenFile}
+use Rattle.hwdb_compile.specs.Views.{ForFolders}
+use Rattle.hwdb_spec.specs.Outputs.{AppendsPrefix}
+use Rattle.hwdb_print.specs.Updates.{IsUpdateRefusal, OnUnreplaced, UpdateUndone}
+use Rattle.hwdb_transfer.specs.declared.errors.ToolError.{ToolError}
+use Rattle.hwdb_transfer.specs.declared.errors.ToolError.TheVariants.{Read, Write, TooLong, TooManyFiles, TooManyLines, TooLarge, BadPosition, BadDatabase, Replace, Memory}
+use Rattle.hwdb_tool.specs.Internal.{AreReadOf}
+use Rattle.hwdb_fs.specs.Refusals.{HasReason, IsOfUpdate}
+use Rattle.hwdb_spec.specs.Done.{AreKept}
+use Rattle.hwdb_tool.specs.Undone.{IsSelectedRefused}
+use Rattle.hwdb_spec.specs.Asked.{database_path}
+use Rattle.hwdb_fs.specs.declared.refusals.Refusal.{Refusal}
+use Rattle.hwdb_fs.specs.declared.refusals.Refusal.TheVariants.{At, InWords, NoDatabase, Plain}
+
+is_write : ToolError → Type 0
+is_write Write = Unit {0}
+is_write _ = ⊥
+
+not_write : (e : ToolError) → (is_write e → ⊥) → e ≢ Write
+unfolding is_write
+not_write e other is = let P : ToolError → Type 0 = λ x. is_write x → ⊥ in subst P is other tt
+
+is_replace : ToolError → Type 0
+is_replace (Replace u) = Unit {0}
+is_replace _ = ⊥
+
+not_replace : (e : ToolError) (u : Unreplaced) → (is_replace e → ⊥) → e ≢ Replace u
+unfolding is_replace
+not_replace e u other is = let P : ToolError → Type 0 = λ x. is_replace x → ⊥ in subst P is other tt
+
+-- what a replacement that failed leaves
+pub unreplaced_of : {X : Type 0} (r : Result X ToolError) (tells told : Type 0) (seen left P : Unreplaced → Type 0) → IfErr r (OnUnreplaced (λ _. told))
+    → (tells → IfErr r (OnUnreplaced seen)) → (tells → IfErr r (OnUnreplaced left)) → ((u : Unreplaced) → told → (tells → seen u) → (tells → left u) → P u) → IfErr r (OnUnreplaced P)
+unreplaced_of (Ok x) tells told seen left P a b c so = tt
+unreplaced_of (Err (Replace u)) tells told seen left P a b c so = so u a b c
+unreplaced_of (Err Read) tells told seen left P a b c so = tt
+unreplaced_of (Err Write) tells told seen left P a b c so = tt
+unreplaced_of (Err TooLong) tells told seen left P a b c so = tt
+unreplaced_of (Err TooManyFiles) tells told seen left P a b c so = tt
+unreplaced_of (Err TooManyLines) tells told seen left P a b c so = tt
+unreplaced_of (Err TooLarge) tells told seen left P a b c so = tt
+unreplaced_of (Err BadPosition) tells told seen left P a b c so = tt
+unreplaced_of (Err (BadDatabase fault)) tells told seen left P a b c so = tt
+unreplaced_of (Err Memory) tells told seen left P a b c so = tt
+
+-- a database that can't be replaced has its reason, and no other refusal needs one
+pub update_reason : (P : List ℕ → Type 0) (W : Type 0) (contents : Contents) (error : ToolError) (path : List ℕ) (refusal : Refusal) → IsOfUpdate error path refusal → OnUnreplaced (λ _. W) error
+    → HasReason P W contents refusal
+update_reason P W contents (Replace u) path (Plain e) is w = absurd is
+update_reason P W contents (Replace u) path NoDatabase is w = absurd is
+update_reason P W contents (Replace u) path (InWords text) is w = absurd is
+update_reason P W contents (Replace u) path (At e at cause) is w = subst (λ x. HasReason P W contents (At x at cause)) (sym is.0) w
+update_reason P W contents Read path refusal is w = subst (HasReason P W contents) (sym is) tt
+update_reason P W contents Write path refusal is w = subst (HasReason P W contents) (sym is) tt
+update_reason P W contents TooLong path refusal is w = subst (HasReason P W contents) (sym is) tt
+update_reason P W contents TooManyFiles path refusal is w = subst (HasReason P W contents) (sym is) tt
+update_reason P W contents TooManyLines path refusal is w = subst (HasReason P W contents) (sym is) tt
+update_reason P W contents TooLarge path refusal is w = subst (HasReason P W contents) (sym is) tt
+update_reason P W contents BadPosition path refusal is w = subst (HasReason P W contents) (sym is) tt
+update_reason P W contents (BadDatabase fault) path refusal is w = subst (HasReason P W contents) (sym is) tt
+update_reason P W contents Memory path refusal is w = subst (HasReason P W contents) (sym is) tt
+
+module _ {S W : Type 0} (seen : S → Contents) (left_by : S → Outcomes) (taken : W → Option (List ℕ)) (old new : S) (err_old err_new : W)
+    (root : List ℕ) (usr verbose : Bool) (read_from : Contents) (listed : List (List ℕ)) (files : List ChosenFile) (tells : Type 0) where
+  -- a store that is the same keeps its files
+  pub kept : new ≡ old → AreKept (seen old) (seen new) (left_by old) (left_by new)
+  kept e = record { same = λ p. ap (λ s. seen s p) e; no_more = λ p v l. subst (λ s. left_by s p v) e l }
+
+  abbrev Refused : Refusal → Type 0
+  Refused refusal = IsSelectedRefused root usr verbose read_from refusal (seen old) (seen new) (left_by old) (left_by new) (taken err_old) (taken err_new)
+
+  -- an error of compiling
+  plain : AreReadOf root read_from listed files → (error : ToolError) (refusal : Refusal) → refusal ≡ Plain error
+      → ForFolders files (λ e u. IsUpdateRefusal e u max_file error) → error ≢ Write → (err_new ≡ err_old) × (new ≡ old) → Refused refusal
+  plain read error refusal is refused other same = inr record {
+    of_etc = read.of_etc;
+    of_usr = read.of_usr;
+    in_etc = read.in_etc;
+    in_usr = read.in_usr;
+    refused = inl record {
+      error = error;
+      is = is;
+      refused = refused read.of_etc read.of_usr read.are;
+      kept = kept same.1;
+      untouched = λ _. ap taken same.0;
+      cut_short = λ w. absurd (other w);
+    };
+  }
+
+  pub update_refused : tells → AreReadOf root read_from listed files → (error : ToolError) (refusal : Refusal) → IsOfUpdate error (database_path usr root) refusal
+      → ForFolders files (λ e u. IsUpdateRefusal e u max_file error)
+      → OnUnreplaced (λ u. ForFolders files (λ e r. UpdateUndone e r (given_where verbose listed) (database_folder usr root) (taken err_old) (taken err_new) tells (seen old) (seen new) (left_by old) (left_by new) u)) error
+      → (error ≡ Write → new ≡ old)
+      → (error ≡ Write → ForFolders files (λ e u. AppendsPrefix (taken err_old) (taken err_new) (update_text (given_where verbose listed) e u)))
+      → (error ≢ Write → ((u : Unreplaced) → error ≢ Replace u) → (err_new ≡ err_old) × (new ≡ old))
+      → Refused refusal
+  unfolding is_write is_replace
+  update_refused t read (Replace u) refusal is refused undone write cut same = inr record {
+    of_etc = read.of_etc;
+    of_usr = read.of_usr;
+    in_etc = read.in_etc;
+    in_usr = read.in_usr;
+    refused = inr (let un = undone read.of_etc read.of_usr read.are in record {
+      unreplaced = u;
+      is = is;
+      undone = record { database = un.database; written = un.written; told = subst (λ l. Appends (taken err_old) (taken err_new) (update_text l read.of_etc read.of_usr)) (ap (given_where verbose) (sym read.named)) un.told; seen = λ _. un.seen t; left = λ _. un.left t };
+    });
+  }
+  update_refused t read Write refusal is refused undone write cut same = inr record {
+    of_etc = read.of_etc;
+    of_usr = read.of_usr;
+    in_etc = read.in_etc;
+    in_usr = read.in_usr;
+    refused = inl record {
+      error = Write;
+      is = is;
+      refused = refused read.of_etc read.of_usr read.are;
+      kept = kept (write refl);
+      untouched = λ n. absurd (n refl);
+      cut_short = λ w. subst (λ l. AppendsPrefix (taken err_old) (taken err_new) (update_text l read.of_etc read.of_usr)) (ap (given_where verbose) (sym read.named)) (cut refl read.of_etc read.of_usr read.are);
+    };
+  }
+  update_refused t read Read refusal is refused undone write cut same =
+      plain read Read refusal is refused (not_write Read (λ x. x)) (same (not_write Read (λ x. x)) (λ u. not_replace Read u (λ x. x)))
+  update_refused t read TooLong refusal is refused undone write cut same =
+      plain read TooLong refusal is refused (not_write TooLong (λ x. x)) (same (not_write TooLong (λ x. x)) (λ u. not_replace TooLong u (λ x. x)))
+  update_refused t read TooManyFiles refusal is refused undone write cut same =
+      plain read TooManyFiles refusal is refused (not_write TooManyFiles (λ x. x)) (same (not_write TooManyFiles (λ x. x)) (λ u. not_replace TooManyFiles u (λ x. x)))
+  update_refused t read TooManyLines refusal is refused undone write cut same =
+      plain read TooManyLines refusal is refused (not_write TooManyLines (λ x. x)) (same (not_write TooManyLines (λ x. x)) (λ u. not_replace TooManyLines u (λ x. x)))
+  update_refused t read TooLarge refusal is refused undone write cut same =
+      plain read TooLarge refusal is refused (not_write TooLarge (λ x. x)) (same (not_write TooLarge (λ x. x)) (λ u. not_replace TooLarge u (λ x. x)))
+  update_refused t read BadPosition refusal is refused undone write cut same =
+      plain read BadPosition refusal is refused (not_write BadPosition (λ x. x)) (same (not_write BadPosition (λ x. x)) (λ u. not_replace BadPosition u (λ x. x)))
+  update_refused t read (BadDatabase fault) refusal is refused undone write cut same =
+      plain read (BadDatabase fault) refusal is refused (not_write (BadDatabase fault) (λ x. x)) (same (not_write (BadDatabase fault) (λ x. x)) (λ u. not_replace (BadDatabase fault) u (λ x. x)))
+  update_refused t read Memory refusal is refused undone write cut same =
+      plain read Memory refusal is refused (not_write Memory (λ x. x)) (same (not_write Memory (λ x. x)) (λ u. not_replace Memory u (λ x. x)))

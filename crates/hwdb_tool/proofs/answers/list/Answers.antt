@@ -1,0 +1,16 @@
+use Rattle.std.proofs.Common.{◌∙◌, ap, inr, string_bytes, subst, sym, Some}
+use Rattle.hwdb_fs.specs.Refusals.{IsOfDatabase}
+use Rattle.hwdb_tool.proofs.answers.list.Goals as goal
+
+pub returns-clause-refused : goal.returns-clause-refused
+returns-clause-refused g c = λ tells. inr record {
+  path = string_bytes c.in_ok-found.found.path;
+  bytes = c.deref.result.now;
+  at = c.in_ok-found.ensures.path tells;
+  asked = c.in_ok-found.ensures.asked tells ∙ ap Some (sym c.deref.ensures.value);
+  error = c.in-Err.error;
+  is = subst (λ p. IsOfDatabase c.in-Err.error p c.of_database.result) c.as_bytes.ensures.value c.of_database.ensures.is;
+  refused = c.in-Err.ensures.refusals;
+  untouched = λ w m. ap g.O.Sink.taken (c.in-Err.ensures.untouched w m);
+  cut_short = λ w. inr (c.in-Err.ensures.cut_short w);
+}

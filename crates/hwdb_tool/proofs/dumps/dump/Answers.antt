@@ -1,0 +1,17 @@
+use Rattle.std.proofs.Common.{◌∙◌, ap, inl, inr, ⊎_elim, string_bytes, subst, sym, Some}
+use Rattle.hwdb_tool.specs.NamedDatabases.{IsOfDump}
+use Rattle.hwdb_tool.proofs.dumps.dump.Goals as goal
+
+pub returns-clause-refused : goal.returns-clause-refused
+returns-clause-refused g c = λ tells. inr record {
+  path = string_bytes c.in_ok-found.found.path;
+  bytes = c.deref.result.now;
+  at = c.in_ok-found.ensures.path tells;
+  named = c.in_ok-found.ensures.named tells ∙ ap Some (sym c.deref.ensures.value);
+  held = c.in_ok-found.ensures.held tells ∙ ap Some (sym c.deref.ensures.value);
+  error = c.in-Err.error;
+  is = subst (λ p. IsOfDump c.in-Err.error p c.refusal_of.result) c.as_bytes.ensures.value c.refusal_of.ensures.is;
+  refused = c.in-Err.ensures.refusals;
+  untouched = λ w m. ap g.O.Sink.taken (c.in-Err.ensures.untouched w m);
+  cut_short = ⊎_elim (λ same. inl (ap g.O.Sink.taken same)) (λ part. inr part) c.in-Err.ensures.cut_short;
+}

@@ -1,0 +1,6 @@
+use Rattle.std.proofs.Common.{◌≡◌, drop, map, string_bytes}
+use Rattle.hwdb_spec.specs.Given.{any_dash}
+use Rattle.hwdb_tool.proofs.given.any_dash.Given as goal
+
+abbrev pub invariant-loop-path : goal.invariant-loop-path
+invariant-loop-path l = any_dash (map string_bytes (drop l.path-index l.given)) ≡ any_dash (map string_bytes l.given)

@@ -1,0 +1,41 @@
+use Rattle.std.proofs.Common.{◌≡◌, ◌∙◌, ◌++◌, ap, subst, map, option_map, string_bytes, List, ℕ, inl, inr, ⊎_elim}
+use Rattle.std.specs.Io.KnownBytes.{Appends}
+use Rattle.hwdb_compile.specs.Views.{fault_of}
+use Rattle.hwdb_spec.specs.Progress.{progress_text, update_text}
+use Rattle.hwdb_spec.specs.Texts.{faults_text}
+use Rattle.hwdb_spec.specs.Done.{OldOrWritten}
+use Rattle.hwdb_spec.specs.Store.{OldOrNew}
+use Rattle.hwdb_tool.proofs.MomentLemmas.{leaves_more}
+use Rattle.hwdb_tool.proofs.UpdateLemmas.{unreplaced_of}
+use Rattle.hwdb_tool.proofs.updates.update_files.Goals as goal
+
+pub returns-clause-unreplaced : goal.returns-clause-unreplaced
+returns-clause-unreplaced g c =
+    let names = option_map (λ l. map string_bytes l.now) c.args.listed in
+    let compiled = c.in_ok-compiled.compiled in
+    let taken : List ℕ → Type 0 = λ t. Appends (g.E.Sink.taken c.args.err.now) (g.E.Sink.taken c.put_in_place.new.err) t in
+    unreplaced_of c.put_in_place.result g.S.Store.tells _ _ _ _ c.put_in_place.ensures.unreplaced c.put_in_place.ensures.seen c.put_in_place.ensures.left
+    (λ u told seen left etc usr of.
+    let text : c.deref.result.now ++ faults_text (map fault_of compiled.faults.items) ≡ update_text names etc usr =
+    ap (λ l. l ++ faults_text (map fault_of compiled.faults.items))
+    (c.deref.ensures.value ∙ c.in_ok-told.ensures etc usr of (record { database = c.in_ok-compiled.ensures.checked etc usr of; given = c.in_ok-compiled.ensures.given etc usr of }))
+    ∙ ap (λ fs. progress_text names etc usr ++ faults_text fs) (c.in_ok-compiled.ensures.faults etc usr of) in
+    record {
+      database = compiled.database.items;
+      written = c.in_ok-compiled.ensures.database etc usr of;
+      told = subst taken text told;
+      seen = seen;
+      left = left;
+    })
+
+pub returns-clause-any_moment : goal.returns-clause-any_moment
+returns-clause-any_moment g c = λ tells etc usr of.
+    let seen = g.S.Store.seen c.args.store.now in
+    let left = g.S.Store.may_leave c.args.store.now in
+    let database = c.in_ok-compiled.compiled.database.items in
+    leaves_more g.S.Store.moment g.S.Store.left_since c.args.store.now c.put_in_place.new.store
+    (OldOrNew c.args.folder.now database seen left) (OldOrWritten etc usr c.args.folder.now seen left)
+    (λ p v now. ⊎_elim (λ old. inl old) (λ other. ⊎_elim
+    (λ new. inr (inl (database, c.in_ok-compiled.ensures.database etc usr of, c.in_ok-compiled.ensures.checked etc usr of, new.0, new.1)))
+    (λ part. inr (inr part)) other) now)
+    (c.put_in_place.ensures.any_moment tells)

@@ -1,0 +1,137 @@
+use Rattle.std.proofs.Common.{◌≡◌, ◌∙◌, ap, inl, map, option_map, string_bytes, refl, subst, sym, Err}
+use Rattle.std.specs.Io.KnownBytes.{Appends}
+use Rattle.hwdb_spec.specs.Progress.{given_where, update_text}
+use Rattle.hwdb_text.specs.Views.{choice_of}
+use Rattle.hwdb_compile.specs.Views.{ForFolders}
+use Rattle.hwdb_transfer.specs.declared.errors.ToolError.TheVariants.{Memory}
+use Rattle.hwdb_spec.specs.Outputs.{AppendsPrefix}
+use Rattle.hwdb_print.specs.Updates.{OnUnreplaced, UpdateUndone}
+use Rattle.hwdb_spec.specs.Store.{InPlace, database_name, path_in}
+use Rattle.hwdb_spec.specs.System.{database_folder}
+use Rattle.hwdb_tool.specs.Internal.{AreReadOf}
+use Rattle.hwdb_fs.specs.Refusals.{IsOfUpdate}
+use Rattle.hwdb_tool.specs.Undone.{IsSelectedRefused, IsUnwritable}
+use Rattle.hwdb_spec.specs.Asked.{database_path}
+use Rattle.hwdb_fs.specs.declared.refusals.Refusal.TheVariants.{Plain}
+use Rattle.hwdb_tool.proofs.FolderLemmas.{are_read}
+use Rattle.hwdb_tool.proofs.MomentLemmas.{leaves_old_or_updated}
+use Rattle.hwdb_tool.proofs.ErrorLemmas.{given_error}
+use Rattle.hwdb_tool.proofs.UpdateLemmas.{update_reason, update_refused}
+use Rattle.hwdb_tool.proofs.updates.update_selected.Goals as goal
+
+pub returns-in_err-files-clause-refused : goal.returns-in_err-files-clause-refused
+returns-in_err-files-clause-refused g c = λ files selected tells.
+    given_error (Plain Memory)
+    (λ r. IsSelectedRefused c.args.root.now c.args.usr c.args.verbose files r (g.D.Store.seen c.args.system.now) (g.D.Store.seen c.args.system.now) (g.D.Store.may_leave c.args.system.now) (g.D.Store.may_leave c.args.system.now) (g.E.Sink.taken c.args.err.now) (g.E.Sink.taken c.args.err.now))
+    c.from_residual.result c.from_residual.ensures.1
+    (inl (refl, record { same = λ p. refl; no_more = λ p v l. l }, refl))
+
+pub returns-in_err-folder-clause-refused : goal.returns-in_err-folder-clause-refused
+returns-in_err-folder-clause-refused g c = λ files selected tells.
+    given_error (Plain Memory)
+    (λ r. IsSelectedRefused c.args.root.now c.args.usr c.args.verbose files r (g.D.Store.seen c.args.system.now) (g.D.Store.seen c.args.system.now) (g.D.Store.may_leave c.args.system.now) (g.D.Store.may_leave c.args.system.now) (g.E.Sink.taken c.args.err.now) (g.E.Sink.taken c.args.err.now))
+    c.from_residual-in_err-folder.result c.from_residual-in_err-folder.ensures.1
+    (inl (refl, record { same = λ p. refl; no_more = λ p v l. l }, refl))
+
+pub returns-in_err-path_in-clause-refused : goal.returns-in_err-path_in-clause-refused
+returns-in_err-path_in-clause-refused g c = λ files selected tells.
+    given_error (Plain Memory)
+    (λ r. IsSelectedRefused c.args.root.now c.args.usr c.args.verbose files r (g.D.Store.seen c.args.system.now) (g.D.Store.seen c.args.system.now) (g.D.Store.may_leave c.args.system.now) (g.D.Store.may_leave c.args.system.now) (g.E.Sink.taken c.args.err.now) (g.E.Sink.taken c.args.err.now))
+    c.from_residual-in_err-path_in.result c.from_residual-in_err-path_in.ensures.1
+    (inl (refl, record { same = λ p. refl; no_more = λ p v l. l }, refl))
+
+pub returns-in-Ok-clause-updated : goal.returns-in-Ok-clause-updated
+returns-in-Ok-clause-updated g c = λ files selected tells.
+    let root = c.args.root.now in
+    let seen = g.D.Store.seen c.args.system.now in
+    let chosen = c.args.selection.now.chosen.items in
+    let texts = c.args.selection.now.texts.items in
+    let listed = map string_bytes c.args.selection.now.listed.items in
+    let names : option_map (λ l. map string_bytes l.now) c.listing.result ≡ given_where c.args.verbose listed =
+    c.listing.ensures ∙ ap (λ l. given_where c.args.verbose (map string_bytes l)) c.deref-4.ensures.value in
+    let folder : c.as_str-2.result.now ≡ database_folder c.args.usr root = c.as_str-2.ensures.value ∙ c.in_ok-folder.ensures in
+    let read : AreReadOf root files listed c.in_ok-files.files.items =
+    are_read root files listed (map choice_of chosen) (map (λ t. t.items) texts) c.in_ok-files.files.items selected
+    (c.in_ok-files.ensures.choices ∙ ap (map choice_of) c.deref.ensures.value) (c.in_ok-files.ensures.bytes ∙ ap (map (λ t. t.items)) c.deref-2.ensures.value) in
+    let given : AreReadOf root files listed c.deref-3.result.now = subst (AreReadOf root files listed) (sym c.deref-3.ensures.value) read in
+    let done = c.in-Ok.ensures.updated given.of_etc given.of_usr given.are in
+    record {
+      of_etc = given.of_etc;
+      of_usr = given.of_usr;
+      in_etc = given.in_etc;
+      in_usr = given.in_usr;
+      updated = record {
+        accepted = done.accepted;
+        database = done.database;
+        written = done.written;
+        compiled = done.compiled;
+        within = done.within;
+        told = subst (λ l. Appends (g.E.Sink.taken c.args.err.now) (g.E.Sink.taken c.update_files.new.err) (update_text l given.of_etc given.of_usr)) (names ∙ ap (given_where c.args.verbose) (sym given.named)) done.told;
+        stored = subst (λ f. InPlace f done.database seen (g.D.Store.seen c.update_files.new.store) (g.D.Store.may_leave c.update_files.new.store)) folder (done.stored tells);
+        answer = done.answer;
+      };
+    }
+
+pub returns-in-Ok-clause-any_moment : goal.returns-in-Ok-clause-any_moment
+returns-in-Ok-clause-any_moment g c = λ files selected tells.
+    let root = c.args.root.now in
+    let seen = g.D.Store.seen c.args.system.now in
+    let chosen = c.args.selection.now.chosen.items in
+    let texts = c.args.selection.now.texts.items in
+    let listed = map string_bytes c.args.selection.now.listed.items in
+    let folder : c.as_str-2.result.now ≡ database_folder c.args.usr root = c.as_str-2.ensures.value ∙ c.in_ok-folder.ensures in
+    let read : AreReadOf root files listed c.in_ok-files.files.items =
+    are_read root files listed (map choice_of chosen) (map (λ t. t.items) texts) c.in_ok-files.files.items selected
+    (c.in_ok-files.ensures.choices ∙ ap (map choice_of) c.deref.ensures.value) (c.in_ok-files.ensures.bytes ∙ ap (map (λ t. t.items)) c.deref-2.ensures.value) in
+    let given : AreReadOf root files listed c.deref-3.result.now = subst (AreReadOf root files listed) (sym c.deref-3.ensures.value) read in
+    leaves_old_or_updated g.D.Store.moment g.D.Store.left_since c.args.system.now c.update_files.new.store root c.as_str-2.result.now c.args.usr listed c.deref-3.result.now
+    files seen (g.D.Store.may_leave c.args.system.now) folder given (c.update_files.ensures.any_moment tells)
+
+pub returns-clause-any_moment : goal.returns-clause-any_moment
+returns-clause-any_moment g c = λ files selected tells.
+    let root = c.args.root.now in
+    let seen = g.D.Store.seen c.args.system.now in
+    let chosen = c.args.selection.now.chosen.items in
+    let texts = c.args.selection.now.texts.items in
+    let listed = map string_bytes c.args.selection.now.listed.items in
+    let folder : c.as_str-2.result.now ≡ database_folder c.args.usr root = c.as_str-2.ensures.value ∙ c.in_ok-folder.ensures in
+    let read : AreReadOf root files listed c.in_ok-files.files.items =
+    are_read root files listed (map choice_of chosen) (map (λ t. t.items) texts) c.in_ok-files.files.items selected
+    (c.in_ok-files.ensures.choices ∙ ap (map choice_of) c.deref.ensures.value) (c.in_ok-files.ensures.bytes ∙ ap (map (λ t. t.items)) c.deref-2.ensures.value) in
+    let given : AreReadOf root files listed c.deref-3.result.now = subst (AreReadOf root files listed) (sym c.deref-3.ensures.value) read in
+    leaves_old_or_updated g.D.Store.moment g.D.Store.left_since c.args.system.now c.update_files.new.store root c.as_str-2.result.now c.args.usr listed c.deref-3.result.now
+    files seen (g.D.Store.may_leave c.args.system.now) folder given (c.update_files.ensures.any_moment tells)
+
+pub returns-clause-refused : goal.returns-clause-refused
+returns-clause-refused g c = λ files selected tells.
+    let root = c.args.root.now in
+    let seen = g.D.Store.seen c.args.system.now in
+    let chosen = c.args.selection.now.chosen.items in
+    let texts = c.args.selection.now.texts.items in
+    let listed = map string_bytes c.args.selection.now.listed.items in
+    let names : option_map (λ l. map string_bytes l.now) c.listing.result ≡ given_where c.args.verbose listed =
+    c.listing.ensures ∙ ap (λ l. given_where c.args.verbose (map string_bytes l)) c.deref-4.ensures.value in
+    let folder : c.as_str-2.result.now ≡ database_folder c.args.usr root = c.as_str-2.ensures.value ∙ c.in_ok-folder.ensures in
+    let read : AreReadOf root files listed c.in_ok-files.files.items =
+    are_read root files listed (map choice_of chosen) (map (λ t. t.items) texts) c.in_ok-files.files.items selected
+    (c.in_ok-files.ensures.choices ∙ ap (map choice_of) c.deref.ensures.value) (c.in_ok-files.ensures.bytes ∙ ap (map (λ t. t.items)) c.deref-2.ensures.value) in
+    let given : AreReadOf root files listed c.deref-3.result.now = subst (AreReadOf root files listed) (sym c.deref-3.ensures.value) read in
+    let at : c.into_bytes-path.result.items ≡ database_path c.args.usr root =
+    ap (λ v. v.items) c.into_bytes-path.ensures.value ∙ c.in_ok-path_in.ensures ∙ ap (λ f. path_in f database_name) (c.as_str.ensures.value ∙ c.in_ok-folder.ensures) in
+    update_refused g.D.Store.seen g.D.Store.may_leave g.E.Sink.taken c.args.system.now c.update_files.new.store c.args.err.now c.update_files.new.err root c.args.usr c.args.verbose files listed c.deref-3.result.now
+    g.D.Store.tells tells given c.in-Err.error c.of_update.result
+    (subst (λ p. IsOfUpdate c.in-Err.error p c.of_update.result) at c.of_update.ensures)
+    c.in-Err.ensures.refusals
+    (subst (λ n. OnUnreplaced (λ u. ForFolders c.deref-3.result.now (λ e r. UpdateUndone e r n (database_folder c.args.usr root) (g.E.Sink.taken c.args.err.now) (g.E.Sink.taken c.update_files.new.err) g.D.Store.tells seen (g.D.Store.seen c.update_files.new.store) (g.D.Store.may_leave c.args.system.now) (g.D.Store.may_leave c.update_files.new.store) u)) c.in-Err.error) names
+    (subst (λ f. OnUnreplaced (λ u. ForFolders c.deref-3.result.now (λ e r. UpdateUndone e r (option_map (λ l. map string_bytes l.now) c.listing.result) f (g.E.Sink.taken c.args.err.now) (g.E.Sink.taken c.update_files.new.err) g.D.Store.tells seen (g.D.Store.seen c.update_files.new.store) (g.D.Store.may_leave c.args.system.now) (g.D.Store.may_leave c.update_files.new.store) u)) c.in-Err.error) folder c.in-Err.ensures.unreplaced))
+    (λ is. (c.in-Err.ensures.last (ap Err is)).1)
+    (λ is. subst (λ n. ForFolders c.deref-3.result.now (λ e u. AppendsPrefix (g.E.Sink.taken c.args.err.now) (g.E.Sink.taken c.update_files.new.err) (update_text n e u))) names (c.in-Err.ensures.cut_short (ap Err is)))
+    c.in-Err.ensures.untouched
+
+pub returns-clause-reason : goal.returns-clause-reason
+returns-clause-reason g c = λ tells.
+    let seen = g.D.Store.seen c.args.system.now in
+    let before = g.D.Store.failures c.args.system.now in
+    let now = g.D.Store.failures c.update_files.new.store in
+    update_reason (g.D.System.may_fail c.args.system.now) (IsUnwritable (database_folder c.args.usr c.args.root.now) seen before now) seen c.in-Err.error _ c.of_update.result c.of_update.ensures
+    (subst (λ f. OnUnreplaced (λ _. IsUnwritable f seen before now) c.in-Err.error) (c.as_str-2.ensures.value ∙ c.in_ok-folder.ensures) (c.in-Err.ensures.unwritten tells))

@@ -1,0 +1,52 @@
+-- What the steps of a task hold.
+use Rattle.std.specs.Prelude.{◌≡◌, ℕ, Bool, true, false, List, Option, Some, length, map, string_bytes}
+use Rattle.hwdb_spec.specs.Given.{is_dash}
+use Rattle.hwdb_spec.specs.Progress.{within_64_bits}
+use Rattle.hwdb_spec.specs.Written.{IsCompiled}
+use Rattle.hwdb_compile.specs.declared.sources.Compiled.{Compiled}
+use Rattle.hwdb_spec.specs.Folders.{Source, all_assignments}
+use Rattle.hwdb_spec.specs.Explanations.{explain_text}
+use Rattle.hwdb_spec.specs.Json.{explain_json}
+use Rattle.hwdb_spec.specs.Store.{Contents}
+use Rattle.hwdb_spec.specs.System.{AreFilesIn, bytes_at, etc_files, usr_files}
+use Rattle.hwdb_spec.specs.Tree.{Tree}
+use Rattle.hwdb_text.specs.Views.{choice_of}
+use Rattle.hwdb_compile.specs.Views.{AreChosenOf}
+use Rattle.hwdb_fs.specs.Internal.{AreSelected}
+use Rattle.hwdb_fs.specs.declared.folders.Selection.{Selection}
+use Rattle.hwdb_compile.specs.declared.sources.ChosenFile.{ChosenFile}
+
+-- a database of the files, and how many assignments they have
+pub record IsCompiledOf (etc usr : List Source) (c : Compiled) : Type 0 where
+  pub database : IsCompiled etc usr c.database.items
+  pub given : c.given ≡ within_64_bits (length (all_assignments etc usr))
+
+-- what is read of a path, where standard input has a text
+abbrev pub bytes_if : (dash : Bool) (text : List ℕ) → Contents → (path : List ℕ) → Option (List ℕ)
+bytes_if true text contents path = Some text
+bytes_if false text contents path = bytes_at contents path
+
+abbrev pub bytes_given : (text : List ℕ) → Contents → (path : List ℕ) → Option (List ℕ)
+bytes_given text contents path = bytes_if (is_dash path) text contents path
+
+-- the texts are what is read of the paths
+abbrev pub AreTextsGiven : (text : List ℕ) → Contents → (paths texts : List (List ℕ)) → Type 0
+AreTextsGiven text contents paths texts = map Some texts ≡ map (bytes_given text contents) paths
+
+-- the files are the chosen ones of the folders' text files; /usr/lib's have these names
+pub record AreReadOf (root : List ℕ) (contents : Contents) (listed : List (List ℕ)) (files : List ChosenFile) : Type 0 where
+  pub of_etc : List Source
+  pub of_usr : List Source
+  pub in_etc : AreFilesIn (etc_files root) contents of_etc
+  pub in_usr : AreFilesIn (usr_files root) contents of_usr
+  pub named : map (λ (s : Source). s.name) of_usr ≡ listed
+  pub are : AreChosenOf of_etc of_usr files
+
+-- what is printed of one device
+abbrev pub explain_form : (json : Bool) → List ℕ → Tree → List ℕ
+explain_form false = explain_text
+explain_form true = explain_json
+
+-- a selection among these files
+abbrev pub IsOfSelection : (root : List ℕ) (files : Contents) → Selection → Type 0
+IsOfSelection root files s = AreSelected root files (map string_bytes s.listed.items) (map choice_of s.chosen.items) (map (λ t. t.items) s.texts.items)

@@ -1,0 +1,76 @@
+-- `query` and `explain` of the devices of their words, or with a lone `-` of those that standard input names, one a line: what
+-- they leave, and what they refuse. Our choice.
+use Rattle.std.specs.Prelude.{◌<◌, ◌≡◌, ◌⊎◌, Bool, IfSome, List, Option, Some, codes, false, length, true, ℕ}
+use Rattle.hwdb_spec.specs.Asked.{IsAnswered, IsAskedPath}
+use Rattle.hwdb_spec.specs.Databases.{IsTextOf}
+use Rattle.hwdb_spec.specs.Failures.{HasFailed}
+use Rattle.hwdb_spec.specs.Folders.{max_lines}
+use Rattle.hwdb_spec.specs.Given.{is_input}
+use Rattle.hwdb_spec.specs.ManyDevices.{HasLongLine}
+use Rattle.hwdb_spec.specs.Outputs.{WrotePrefix}
+use Rattle.hwdb_spec.specs.Store.{Contents}
+use Rattle.hwdb_spec.specs.System.{asked_database}
+use Rattle.hwdb_spec.specs.Texts.{devices_of, max_file}
+use Rattle.hwdb_print.specs.Streams.{IfBadDatabase, IsStreamRefusal, texts_of}
+use Rattle.hwdb_print.specs.declared.form.Form.{Form}
+use Rattle.hwdb_fs.specs.Refusals.{IsAt, IsOfDatabase}
+use Rattle.hwdb_fs.specs.declared.refusals.Refusal.{Refusal}
+use Rattle.hwdb_fs.specs.declared.refusals.Refusal.TheVariants.{At, Plain}
+use Rattle.hwdb_tool.specs.Undone.{IsAnswerRefused, IsUnfound}
+use Rattle.hwdb_transfer.specs.Databases.{IsQueryRefusal}
+use Rattle.hwdb_transfer.specs.declared.errors.ToolError.{ToolError}
+use Rattle.hwdb_transfer.specs.declared.errors.ToolError.TheVariants.{Read, TooLong, TooManyLines}
+
+-- standard output took what the database gives these devices, or, where the input tells its bytes, those that it names
+abbrev pub AreAnsweredFrom : (from_input : Bool) (root : List ℕ) (form : Form) (devices : List (List ℕ)) (input : Option (List ℕ)) → Contents → (out_before out_now : Option (List ℕ)) → Type 0
+AreAnsweredFrom false root form devices input contents out_before out_now = IsAnswered root (IsTextOf (texts_of form devices)) contents out_before out_now
+AreAnsweredFrom true root form devices input contents out_before out_now = IfSome input (λ text. IsAnswered root (IsTextOf (texts_of form (devices_of text))) contents out_before out_now)
+
+abbrev pub AreAnswered : (root : List ℕ) (form : Form) (devices : List (List ℕ)) (input : Option (List ℕ)) → Contents → (out_before out_now : Option (List ℕ)) → Type 0
+AreAnswered root form devices = AreAnsweredFrom (is_input devices) root form devices
+
+-- the refusal of an error: one of the input says so, and one of the database has its path
+abbrev pub IsOfInput : ToolError → (path : List ℕ) → Refusal → Type 0
+IsOfInput Read path refusal = IsAt Read (codes "standard input") refusal
+IsOfInput TooLong path refusal = IsAt TooLong (codes "a line of standard input") refusal
+IsOfInput error path refusal = IsOfDatabase error path refusal
+
+-- the same of the input as a whole
+abbrev pub IsOfWholeInput : ToolError → Refusal → Type 0
+IsOfWholeInput Read refusal = IsAt Read (codes "standard input") refusal
+IsOfWholeInput TooLong refusal = IsAt TooLong (codes "standard input") refusal
+IsOfWholeInput error refusal = refusal ≡ Plain error
+
+-- what a refusal says of the input is so: that it can't be read, where a call of it failed, or that it, or a line of it, is too long
+abbrev pub IsInputUnread : (failures_before failures_now : ℕ) → Refusal → Type 0
+IsInputUnread before now (At Read at cause) = (at.items ≡ codes "standard input") × HasFailed before now
+IsInputUnread before now (At TooLong at cause) = (at.items ≡ codes "a line of standard input") ⊎ (at.items ≡ codes "standard input")
+IsInputUnread before now refusal = ⊥
+
+-- answering the devices of the input was refused, and standard output has what it had, or a prefix
+pub record IsUnstreamed (root : List ℕ) (form : Form) (input : Option (List ℕ)) (contents : Contents) (refusal : Refusal) (out_before out_now : Option (List ℕ)) : Type 0 where
+  pub path : List ℕ
+  pub bytes : List ℕ
+  pub at : IsAskedPath root contents path
+  pub asked : asked_database root contents ≡ Some bytes
+  pub error : ToolError
+  pub is : IsOfInput error path refusal
+  pub refused : IsStreamRefusal bytes error
+  pub long : error ≡ TooLong → IfSome input (HasLongLine max_file)
+  pub many : error ≡ TooManyLines → IfSome input (λ text. max_lines < length (devices_of text))
+  pub untouched : IfBadDatabase (out_now ≡ out_before) error
+  pub cut_short : (out_now ≡ out_before) ⊎ IfSome input (λ text. WrotePrefix (IsTextOf (texts_of form (devices_of text)) bytes) out_before out_now)
+
+-- the same, or the database can't be read
+abbrev pub IsStreamRefused : (root : List ℕ) (form : Form) (input : Option (List ℕ)) → Contents → Refusal → (out_before out_now : Option (List ℕ)) → Type 0
+IsStreamRefused root form input contents refusal out_before out_now =
+    (IsUnfound root contents refusal × (out_now ≡ out_before))
+    ⊎ IsUnstreamed root form input contents refusal out_before out_now
+
+-- the command is refused
+abbrev pub AreUnansweredFrom : (from_input : Bool) (root : List ℕ) (form : Form) (devices : List (List ℕ)) (input : Option (List ℕ)) → Contents → Refusal → (out_before out_now : Option (List ℕ)) → Type 0
+AreUnansweredFrom false root form devices input contents refusal out_before out_now = IsAnswerRefused root IsQueryRefusal (IsTextOf (texts_of form devices)) contents refusal out_before out_now
+AreUnansweredFrom true root form devices input contents refusal out_before out_now = IsStreamRefused root form input contents refusal out_before out_now
+
+abbrev pub AreUnanswered : (root : List ℕ) (form : Form) (devices : List (List ℕ)) (input : Option (List ℕ)) → Contents → Refusal → (out_before out_now : Option (List ℕ)) → Type 0
+AreUnanswered root form devices = AreUnansweredFrom (is_input devices) root form devices

@@ -1,0 +1,132 @@
+//! The databases of both folders: where each stands, and what is asked.
+ghost use Rattle.std.specs.Prelude.{◌≡◌, ◌≢◌, ◌++◌, Some, is_some, option_map, string_bytes, IfOk, IfErr, IfSome};
+ghost use Rattle.hwdb_spec.specs.Store as spec;
+ghost use Rattle.hwdb_spec.specs.System as Folder;
+ghost use Rattle.hwdb_spec.specs.System.{asked_database, bytes_at};
+ghost use Rattle.hwdb_fs.specs.Refusals.{HasReason, IsUnread, IsUnreadable};
+ghost use Rattle.hwdb_spec.specs.Asked.{IsNamedPath, named_database, IsAskedPath};
+ghost use Rattle.hwdb_tool.specs.NamedDatabases.{IsUnnamed};
+ghost use Rattle.hwdb_tool.specs.Undone.{IsUnfound, IsUnreadableIf};
+ghost use Rattle.hwdb_fs.specs.declared.refusals.Refusal.TheVariants.{Plain};
+
+use hwdb_replace::DATABASE;
+use hwdb_fs::{Refusal, System, joined, path_in};
+use hwdb_transfer::ToolError;
+use std::alloc::{AllocError, Global};
+
+const ETC_FOLDER: &str = "/etc/udev";
+
+const USR_FOLDER: &str = "/usr/lib/udev";
+
+/// A database that was read, and where it stands.
+#[derive(Drop)]
+pub struct Found {
+    /// Its path, with the root in front.
+    pub path: String,
+    /// What it holds.
+    pub bytes: Vec<u8>,
+}
+
+/// The database that is asked: the one of `/etc` below the root, else the one of `/usr/lib`.
+pub fn asked<D: System>(alloc: Global, root: &str, system: &D) -> Result<Found, Refusal>
+    ensures asked { D.Store.tells → IfOk result
+        (λ f. asked_database root.now (D.Store.seen system.now) ≡ Some f.bytes.items) }
+    ensures path { D.Store.tells → IfOk result
+        (λ f. IsAskedPath root.now (D.Store.seen system.now) (string_bytes f.path)) }
+    ensures held { D.Store.tells → IfOk result
+        (λ f. bytes_at (D.Store.seen system.now) (string_bytes f.path) ≡ Some f.bytes.items) }
+    ensures refused { D.Store.tells → IfErr result (IsUnfound root.now (D.Store.seen system.now)) }
+    ensures reason { IfErr result
+        (HasReason (D.System.may_fail system.now) ⊥ (D.Store.seen system.now)) }
+    ensures unread { IfErr result (λ r. r ≢ Plain ToolError.Write) }
+{
+    if let Some(found) = found_in(alloc, root, ETC_FOLDER, system)? {
+        return Ok(found);
+    }
+    match found_in(alloc, root, USR_FOLDER, system)? {
+        Some(found) => Ok(found),
+        None => Err(Refusal::NoDatabase),
+    }
+}
+
+/// The database in a folder below the root, if something stands there.
+fn found_in<D: System>(
+    alloc: Global,
+    root: &str,
+    folder: &str,
+    system: &D,
+) -> Result<Option<Found>, Refusal>
+    ensures found { D.Store.tells → IfOk result (λ found. option_map (λ f. f.bytes.items) found
+        ≡ bytes_at (D.Store.seen system.now)
+        (spec.path_in (root.now ++ folder.now) spec.database_name)) }
+    ensures path { IfOk result (λ found. IfSome found (λ f. string_bytes f.path
+        ≡ spec.path_in (root.now ++ folder.now) spec.database_name)) }
+    ensures held { D.Store.tells → IfOk result (λ found. IfSome found
+        (λ f. bytes_at (D.Store.seen system.now) (string_bytes f.path) ≡ Some f.bytes.items)) }
+    ensures refused { IfErr result
+        (IsUnread (spec.path_in (root.now ++ folder.now) spec.database_name)) }
+    ensures reason { IfErr result
+        (HasReason (D.System.may_fail system.now) ⊥ (D.Store.seen system.now)) }
+    ensures unread { IfErr result (λ r. r ≢ Plain ToolError.Write) }
+{
+    let folder = joined(alloc, root, folder)?;
+    let path = path_in(alloc, folder.as_str(), DATABASE)?;
+    match system.database(alloc, path.as_str())? {
+        Some(bytes) => Ok(Some(Found { path, bytes })),
+        None => Ok(None),
+    }
+}
+
+/// The database at the path, or where none is given the one that is asked.
+pub fn named<D: System>(
+    alloc: Global,
+    root: &str,
+    given: Option<&str>,
+    system: &D,
+) -> Result<Found, Refusal>
+    ensures named { D.Store.tells → IfOk result
+        (λ f. named_database (option_map (λ t. t.now) given.entry) root.now
+        (D.Store.seen system.now) ≡ Some f.bytes.items) }
+    ensures path { D.Store.tells → IfOk result
+        (λ f. IsNamedPath (option_map (λ t. t.now) given.entry) root.now (D.Store.seen system.now)
+        (string_bytes f.path)) }
+    ensures held { D.Store.tells → IfOk result
+        (λ f. bytes_at (D.Store.seen system.now) (string_bytes f.path) ≡ Some f.bytes.items) }
+    ensures refused { D.Store.tells → IfErr result (IsUnnamed (option_map (λ t. t.now) given.entry)
+        root.now (D.Store.seen system.now)) }
+    ensures reason { IfErr result (HasReason
+        (IsUnreadableIf (is_some (option_map (λ t. t.now) given.entry))
+        (D.System.may_fail system.now) (D.Store.seen system.now)) ⊥ (D.Store.seen system.now)) }
+    ensures unread { IfErr result (λ r. r ≢ Plain ToolError.Write) }
+{
+    match given {
+        None => asked(alloc, root, system),
+        Some(path) => given_at(alloc, path, system),
+    }
+}
+
+/// What stands at a path.
+fn given_at<D: System>(alloc: Global, path: &str, system: &D) -> Result<Found, Refusal>
+    ensures bytes { D.Store.tells → IfOk result
+        (λ f. bytes_at (D.Store.seen system.now) path.now ≡ Some f.bytes.items) }
+    ensures path { IfOk result (λ f. string_bytes f.path ≡ path.now) }
+    ensures held { D.Store.tells → IfOk result
+        (λ f. bytes_at (D.Store.seen system.now) (string_bytes f.path) ≡ Some f.bytes.items) }
+    ensures refused { IfErr result (IsUnread path.now) }
+    ensures reason { IfErr result (HasReason
+        (IsUnreadable (D.System.may_fail system.now) (D.Store.seen system.now)) ⊥
+        (D.Store.seen system.now)) }
+    ensures unread { IfErr result (λ r. r ≢ Plain ToolError.Write) }
+{
+    let bytes = system.input(alloc, path)?;
+    let path = String::from_str(alloc, path)?;
+    Ok(Found { path, bytes })
+}
+
+/// The folder of the database that is written.
+pub fn database_folder(alloc: Global, root: &str, usr: bool) -> Result<String, AllocError>
+    ensures { IfOk result (λ folder. string_bytes folder ≡ Folder.database_folder usr root.now) }
+{
+    let folder = if usr { USR_FOLDER } else { ETC_FOLDER };
+    joined(alloc, root, folder)
+}

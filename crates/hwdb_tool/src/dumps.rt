@@ -1,0 +1,79 @@
+//! `dump`: a database that is read and printed as a text file.
+ghost use Rattle.std.specs.Prelude.{◌≡◌, is_some, option_map, IfOk, IfErr, OnOk};
+ghost use Rattle.hwdb_spec.specs.Failures.{HasFailed};
+ghost use Rattle.hwdb_fs.specs.Refusals.{HasReason, IsInWords};
+ghost use Rattle.hwdb_tool.specs.NamedDatabases.{IsDumpRefused, IsOfDump};
+ghost use Rattle.hwdb_spec.specs.Asked.{IsDumped, unsayable_text};
+ghost use Rattle.hwdb_tool.specs.Undone.{IsUnreadableIf};
+ghost use Rattle.hwdb_fs.specs.declared.refusals.Refusal.TheVariants.{Plain};
+
+use crate::databases::named;
+use hwdb_devices::Sink;
+use hwdb_inspect::{DumpError, run_dump};
+use hwdb_lint::push_shown;
+use hwdb_fs::{Refusal, System};
+use hwdb_transfer::ToolError;
+use std::alloc::{AllocError, Global};
+
+/// Prints the database at the path, or where none is given the one that is asked, as a text file. Refuses bytes that are no
+/// database, and one with an assignment that no text file can say.
+pub fn dump<D: System, O: Sink>(
+    alloc: Global,
+    root: &str,
+    given: Option<&str>,
+    system: &D,
+    out: &mut O,
+) -> Result<(), Refusal>
+    ensures dumped { D.Store.tells → OnOk result
+        (IsDumped (option_map (λ t. t.now) given.entry) root.now
+        (D.Store.seen system.now) (O.taken out.old) (O.taken out.new)) }
+    ensures refused { D.Store.tells → IfErr result
+        (λ r. IsDumpRefused (option_map (λ t. t.now) given.entry) root.now
+        (D.Store.seen system.now) r (O.taken out.old) (O.taken out.new)) }
+    ensures reason { IfErr result (HasReason
+        (IsUnreadableIf (is_some (option_map (λ t. t.now) given.entry))
+        (D.System.may_fail system.now) (D.Store.seen system.now)) ⊥ (D.Store.seen system.now)) }
+    ensures cause { IfErr result (λ r. r ≡ Plain ToolError.Write
+        → HasFailed (O.failures out.old) (O.failures out.new)) }
+{
+    let found = named(alloc, root, given, system)?;
+    match run_dump(alloc, &found.bytes, out) {
+        Ok(()) => Ok(()),
+        Err(error) => Err(refusal_of(alloc, error, found.path.as_bytes())),
+    }
+}
+
+/// What is refused where the bytes at the path can't be dumped.
+fn refusal_of(alloc: Global, error: DumpError, path: &[u8]) -> Refusal
+    ensures is { IsOfDump error path.now result }
+    ensures write { result ≡ Plain ToolError.Write → error ≡ DumpError.Write }
+{
+    match error {
+        DumpError::Database(fault) => {
+            Refusal::at(alloc, ToolError::BadDatabase(fault), path, None)
+        }
+        DumpError::Unsayable(pattern) => refused_pattern(alloc, path, &pattern),
+        DumpError::Write => Refusal::from(ToolError::Write),
+        DumpError::Memory => Refusal::from(ToolError::Memory),
+    }
+}
+
+/// The refusal of a database with an assignment of this pattern that no text says.
+fn refused_pattern(alloc: Global, path: &[u8], pattern: &[u8]) -> Refusal
+    ensures { IsInWords (unsayable_text path.now pattern.now) result }
+{
+    match unsayable(alloc, path, pattern) {
+        Ok(text) => Refusal::InWords(text),
+        Err(refused) => Refusal::from(refused),
+    }
+}
+
+/// The words of it.
+fn unsayable(alloc: Global, path: &[u8], pattern: &[u8]) -> Result<Vec<u8>, AllocError>
+    ensures { IfOk result (λ text. text.items ≡ unsayable_text path.now pattern.now) }
+{
+    let mut text = Vec::from_slice(alloc, path)?;
+    text.extend_from_slice(b": no text file can say an assignment of the pattern ")?;
+    push_shown(&mut text, pattern)?;
+    Ok(text)
+}

@@ -1,0 +1,126 @@
+//! The files that words name: `-` is standard input, which is read once.
+ghost use Rattle.std.specs.Prelude.{◌≡◌, ◌≢◌, ◌⊎◌, Some, true, false, codes, map, string_bytes, IfOk, IfErr, IfSome};
+ghost use Rattle.hwdb_spec.specs.Given.{IsGiven, is_dash, any_dash};
+ghost use Rattle.hwdb_fs.specs.Refusals.{HasReason, IsUnread, IsUnreadable};
+ghost use Rattle.hwdb_tool.specs.Internal.{bytes_given};
+ghost use Rattle.hwdb_tool.specs.Queries.{IsInputUnread, IsOfWholeInput};
+ghost use Rattle.hwdb_tool.specs.Undone.{IsGivenUnread, told_path};
+ghost use Rattle.hwdb_fs.specs.declared.refusals.Refusal.TheVariants.{Plain};
+
+use hwdb_devices::{Cause, Source};
+use hwdb_fs::{Refusal, System};
+use hwdb_transfer::{MAX_BYTES, ToolError, read_all};
+use std::alloc::Global;
+
+/// Whether a word stands for standard input.
+pub fn is_dash(path: &str) -> bool
+    ensures { result ≡ is_dash path.now }
+{
+    path == "-"
+}
+
+/// Whether one of the paths does.
+fn any_dash(given: &[String]) -> bool
+    ensures { result ≡ any_dash (map string_bytes given.now) }
+{
+    for path in given {
+        if is_dash(path.as_str()) {
+            return true;
+        }
+    }
+    false
+}
+
+/// What is refused where standard input can't be read.
+fn refusal_of(alloc: Global, error: ToolError, cause: Option<Cause>) -> Refusal
+    ensures { IsOfWholeInput error result }
+{
+    match error {
+        ToolError::Read => Refusal::at(alloc, error, b"standard input", cause),
+        ToolError::TooLong => Refusal::at(alloc, error, b"standard input", None),
+        error => Refusal::from(error),
+    }
+}
+
+/// All that standard input has left.
+fn read_input<I: Source>(alloc: Global, input: &mut I) -> Result<Vec<u8>, Refusal>
+    ensures whole { IfOk result
+        (λ text. IfSome (I.left input.old) (λ told. text.items ≡ told)) }
+    ensures refused { IfErr result (IsUnread (codes "standard input")) }
+    ensures reason { IfErr result (λ r. (r ≡ Plain ToolError.Memory)
+        ⊎ IsInputUnread (I.failures input.old) (I.failures input.new) r) }
+    ensures unread { IfErr result (λ r. r ≢ Plain ToolError.Write) }
+{
+    match read_all(alloc, input, MAX_BYTES) {
+        Ok(text) => Ok(text),
+        Err(error) => Err(refusal_of(alloc, error, input.cause())),
+    }
+}
+
+/// All that a path has.
+pub fn read<D: System, I: Source>(
+    alloc: Global,
+    path: &str,
+    system: &D,
+    input: &mut I,
+) -> Result<Vec<u8>, Refusal>
+    ensures read { D.Store.tells → IfOk result (λ bytes.
+        IsGiven path.now (I.left input.old) (D.Store.seen system.now) bytes.items) }
+    ensures refused { IfErr result (IsUnread (told_path path.now)) }
+    ensures untouched { is_dash path.now ≡ false → input.new ≡ input.old }
+    ensures reason { IfErr result (λ r. HasReason
+        (IsUnreadable (D.System.may_fail system.now) (D.Store.seen system.now)) ⊥
+        (D.Store.seen system.now) r ⊎ ((is_dash path.now ≡ true)
+        × IsInputUnread (I.failures input.old) (I.failures input.new) r)) }
+    ensures unread { IfErr result (λ r. r ≢ Plain ToolError.Write) }
+{
+    if is_dash(path) {
+        read_input(alloc, input)
+    } else {
+        system.input(alloc, path)
+    }
+}
+
+/// What standard input has left, if one of the paths stands for it; else nothing of it is read.
+pub fn input_text<I: Source>(
+    alloc: Global,
+    given: &[String],
+    input: &mut I,
+) -> Result<Vec<u8>, Refusal>
+    ensures whole { IfOk result (λ text. any_dash (map string_bytes given.now) ≡ true
+        → IfSome (I.left input.old) (λ told. text.items ≡ told)) }
+    ensures refused { IfErr result (IsGivenUnread (map string_bytes given.now)) }
+    ensures untouched { any_dash (map string_bytes given.now) ≡ false → input.new ≡ input.old }
+    ensures reason { IfErr result (λ r. (r ≡ Plain ToolError.Memory)
+        ⊎ ((any_dash (map string_bytes given.now) ≡ true)
+        × IsInputUnread (I.failures input.old) (I.failures input.new) r)) }
+    ensures unread { IfErr result (λ r. r ≢ Plain ToolError.Write) }
+{
+    if any_dash(given) {
+        read_input(alloc, input)
+    } else {
+        Ok(Vec::new(alloc))
+    }
+}
+
+/// What a path has, where standard input had this text.
+pub fn bytes_given<D: System>(
+    alloc: Global,
+    path: &str,
+    text: &[u8],
+    system: &D,
+) -> Result<Vec<u8>, Refusal>
+    ensures read { D.Store.tells → IfOk result (λ bytes.
+        bytes_given text.now (D.Store.seen system.now) path.now ≡ Some bytes.items) }
+    ensures refused { IfErr result (IsUnread (told_path path.now)) }
+    ensures reason { IfErr result (HasReason
+        (IsUnreadable (D.System.may_fail system.now) (D.Store.seen system.now)) ⊥
+        (D.Store.seen system.now)) }
+    ensures unread { IfErr result (λ r. r ≢ Plain ToolError.Write) }
+{
+    if is_dash(path) {
+        Ok(text.to_vec(alloc)?)
+    } else {
+        system.input(alloc, path)
+    }
+}

@@ -1,0 +1,129 @@
+//! What `update --usr --verbose` says before it updates: where /etc's database, which is asked first, hides the new one.
+ghost use Rattle.std.specs.Prelude.{◌≡◌, ◌≢◌, ◌≤◌, IfOk, IfErr, OnOk, string_bytes};
+ghost use Rattle.std.specs.Io.KnownBytes.{Appends};
+ghost use Rattle.hwdb_spec.specs.Failures.{HasFailed};
+ghost use Rattle.hwdb_spec.specs.Hiding.{hiding_line, hiding_text};
+ghost use Rattle.hwdb_spec.specs.Store as spec;
+ghost use Rattle.hwdb_spec.specs.System as Folder;
+ghost use Rattle.hwdb_tool.specs.Hiding.{IsTellingUpdateRefused, IsUpdatedTelling};
+ghost use Rattle.hwdb_spec.specs.Done.{OldOrUpdatedLess};
+ghost use Rattle.hwdb_fs.specs.Refusals.{HasReason};
+ghost use Rattle.hwdb_tool.specs.Undone.{IsUntold, IsUnwritable};
+ghost use Rattle.hwdb_spec.specs.Asked.{database_path};
+ghost use Rattle.hwdb_fs.specs.declared.refusals.Refusal.TheVariants.{Plain};
+
+use crate::databases::database_folder;
+use crate::updates::update;
+use hwdb_devices::Sink;
+use hwdb_replace::DATABASE;
+use hwdb_fs::{Refusal, System, path_in};
+use hwdb_transfer::{ToolError, write_text};
+use std::alloc::{AllocError, Global};
+
+/// The path of the database of a folder below the root.
+fn database_path(alloc: Global, root: &str, usr: bool) -> Result<String, AllocError>
+    ensures { IfOk result (λ path. string_bytes path ≡ database_path usr root.now) }
+{
+    let folder = database_folder(alloc, root, usr)?;
+    path_in(alloc, folder.as_str(), DATABASE)
+}
+
+/// The line of a database of /usr/lib that one of /etc hides.
+fn hiding_line(alloc: Global, root: &str) -> Result<Vec<u8>, AllocError>
+    ensures { IfOk result (λ line. line.items ≡ hiding_line root.now) }
+{
+    let usr = database_path(alloc, root, true)?;
+    let mut line = database_path(alloc, root, false)?.into_bytes();
+    line.extend_from_slice(b" hides ")?;
+    line.extend_from_slice(usr.as_bytes())?;
+    line.extend_from_slice(b": it is asked first\n")?;
+    Ok(line)
+}
+
+/// That line, where it is to be said; else nothing.
+fn hiding_text<D: System>(
+    alloc: Global,
+    root: &str,
+    usr: bool,
+    verbose: bool,
+    system: &D,
+) -> Result<Vec<u8>, AllocError>
+    ensures { D.Store.tells → IfOk result
+        (λ text. text.items ≡ hiding_text usr verbose root.now (D.Store.seen system.now)) }
+{
+    if !usr || !verbose {
+        return Ok(Vec::new(alloc));
+    }
+    let path = database_path(alloc, root, false)?;
+    if system.is_there(alloc, path.as_str())? {
+        hiding_line(alloc, root)
+    } else {
+        Ok(Vec::new(alloc))
+    }
+}
+
+/// Says it.
+fn tell_hiding<D: System, E: Sink>(
+    alloc: Global,
+    root: &str,
+    usr: bool,
+    verbose: bool,
+    system: &D,
+    err: &mut E,
+) -> Result<(), Refusal>
+    ensures told { D.Store.tells → OnOk result (Appends (E.taken err.old) (E.taken err.new)
+        (hiding_text usr verbose root.now (D.Store.seen system.now))) }
+    ensures refused { D.Store.tells → IfErr result (λ r.
+        IsUntold (hiding_text usr verbose root.now (D.Store.seen system.now)) r
+        (E.taken err.old) (E.taken err.new)) }
+    ensures reason { IfErr result
+        (HasReason (D.System.may_fail system.now) ⊥ (D.Store.seen system.now)) }
+    ensures unfailed { OnOk result (E.failures err.new ≡ E.failures err.old) }
+    ensures unfailed_err { IfErr result (λ r. r ≢ Plain ToolError.Write
+        → E.failures err.new ≡ E.failures err.old) }
+    ensures cause { IfErr result (λ r. r ≡ Plain ToolError.Write
+        → HasFailed (E.failures err.old) (E.failures err.new)) }
+{
+    let text = hiding_text(alloc, root, usr, verbose, system)?;
+    write_text(err, &text)?;
+    Ok(())
+}
+
+/// Says it, and then updates, as [`update`] does. After a refusal the old database stands as it was, and no new file.
+pub fn update_telling<D: System, E: Sink>(
+    alloc: Global,
+    root: &str,
+    usr: bool,
+    strict: bool,
+    verbose: bool,
+    skip: bool,
+    system: &mut D,
+    err: &mut E,
+) -> Result<u8, Refusal>
+    ensures status { IfOk result (λ status. status ≤ 1) }
+    ensures any_moment { D.Store.tells
+        → spec.LeavesOnly D.Store.moment D.Store.left_since system.old system.new
+        (OldOrUpdatedLess (D.System.may_fail system.old) root.now usr skip
+        (D.Store.seen system.old) (D.Store.may_leave system.old)) }
+    ensures updated { D.Store.tells → IfOk result
+        (λ status. IsUpdatedTelling (D.System.may_fail system.old)
+        root.now usr verbose strict skip status (D.Store.seen system.old)
+        (E.taken err.old) (E.taken err.new)
+        (λ database. spec.InPlace (Folder.database_folder usr root.now) database
+        (D.Store.seen system.old) (D.Store.seen system.new) (D.Store.may_leave system.new))) }
+    ensures refused { D.Store.tells → IfErr result
+        (λ r. IsTellingUpdateRefused (D.System.may_fail system.old) root.now usr verbose skip r
+        (D.Store.seen system.old) (D.Store.seen system.new)
+        (D.Store.may_leave system.old) (D.Store.may_leave system.new)
+        (E.taken err.old) (E.taken err.new)) }
+    ensures reason { D.Store.tells → IfErr result (HasReason (D.System.may_fail system.old)
+        (IsUnwritable (Folder.database_folder usr root.now) (D.Store.seen system.old)
+        (D.Store.failures system.old) (D.Store.failures system.new)) (D.Store.seen system.old)) }
+    ensures unfailed { IfErr result (λ r. r ≢ Plain ToolError.Write
+        → E.failures err.new ≡ E.failures err.old) }
+    ensures cause { IfErr result (λ r. r ≡ Plain ToolError.Write
+        → HasFailed (E.failures err.old) (E.failures err.new)) }
+{
+    tell_hiding(alloc, root, usr, verbose, system, err)?;
+    update(alloc, root, usr, strict, verbose, skip, system, err)
+}

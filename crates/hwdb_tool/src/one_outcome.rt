@@ -1,0 +1,41 @@
+//! Laws over the definitions alone. Each function does nothing: its contract is the law.
+ghost use Rattle.hwdb_tool.specs.OneOutcome.{DoneIsNotTold, JobsAreOne, ListingsGiveOneChoice, ListingsGiveOneReading, TasksAreOne};
+
+use hwdb_query::positions_are_read_back;
+use hwdb_reader::law_one_tree;
+use hwdb_fs::System;
+use hwdb_text::laws::{names_are_those_that_count, names_ascend, one_ascending_list};
+use hwdb_writer::law_one_written_form;
+
+/// Two listings of the text files of both folders, whatever order each has them in, give one choice of files, one reading
+/// of each, and so one list of assignments and one of faults.
+pub fn listings_give_one_reading()
+    ensures choice { ListingsGiveOneChoice }
+    ensures reading { ListingsGiveOneReading }
+{
+    names_are_those_that_count();
+    names_ascend();
+    one_ascending_list();
+}
+
+/// Two outcomes that a task may have over one input are the same, where both are done and leave out no file, but for leftovers
+/// of killed updates.
+pub fn tasks_are_one<D: System>(first: &D, second: &D)
+    ensures { TasksAreOne (D.may_fail first.now) (D.may_fail second.now)
+        (D.Store.may_leave first.now) (D.Store.may_leave second.now) }
+{
+    listings_give_one_reading();
+    law_one_tree();
+    law_one_written_form();
+    positions_are_read_back();
+}
+
+/// Two outcomes that words may have over one input are the same, where what they ask for is done and leaves out no file, but
+/// for such leftovers.
+pub fn jobs_are_one<D: System>(first: &D, second: &D)
+    ensures one { JobsAreOne (D.may_fail first.now) (D.may_fail second.now)
+        (D.Store.may_leave first.now) (D.Store.may_leave second.now) }
+    ensures told { DoneIsNotTold (D.may_fail first.now) (D.Store.may_leave first.now) }
+{
+    tasks_are_one(first, second);
+}

@@ -1,0 +1,213 @@
+//! `update`: the text files of both folders, compiled into the database of one.
+ghost use Rattle.std.specs.Prelude.{◌≡◌, ◌≢◌, ◌≤◌, ℕ, List, length, map, option_map, string_bytes, All, IfOk, IfErr, IsErrOf, OnOk};
+ghost use Rattle.std.specs.Io.KnownBytes.{Appends};
+ghost use Rattle.hwdb_spec.specs.Progress.{given_where, update_text};
+ghost use Rattle.hwdb_spec.specs.Store as spec;
+ghost use Rattle.hwdb_spec.specs.System as Folder;
+ghost use Rattle.hwdb_spec.specs.Failures.{HasFailed, OneFailed};
+ghost use Rattle.hwdb_spec.specs.Texts.{max_file};
+ghost use Rattle.hwdb_spec.specs.Folders.{Choice};
+ghost use Rattle.hwdb_text.specs.Views.{IsStorableChoice, choice_of};
+ghost use Rattle.hwdb_compile.specs.Views.{ForFolders, choice_in};
+ghost use Rattle.hwdb_replace.specs.Views.{failures_after};
+ghost use Rattle.hwdb_spec.specs.Outputs.{AppendsPrefix};
+ghost use Rattle.hwdb_print.specs.Updates.{IsUpdateRefusal, OnUnreplaced, UpdateUndone};
+ghost use Rattle.hwdb_spec.specs.Done.{OldOrWritten, Updated, IsUpdated, OldOrUpdated, OldOrUpdatedLess};
+ghost use Rattle.hwdb_fs.specs.LeftOut.{AreTold};
+ghost use Rattle.hwdb_fs.specs.Refusals.{HasReason};
+ghost use Rattle.hwdb_tool.specs.Internal.{IsOfSelection};
+ghost use Rattle.hwdb_tool.specs.Readable.{IsUpdateRefused, IsUpdatedLess};
+ghost use Rattle.hwdb_spec.specs.LeftOut.{status_less};
+ghost use Rattle.hwdb_tool.specs.Undone.{IsSelectedRefused, IsUnwritable};
+ghost use Rattle.hwdb_fs.specs.declared.refusals.Refusal.TheVariants.{Plain};
+
+use crate::databases::database_folder;
+use crate::progress::progress;
+use hwdb_print::put_in_place;
+use hwdb_compile::{ChosenFile, compile_chosen};
+use hwdb_devices::Sink;
+use hwdb_replace::{DATABASE, Store, Unreplaced};
+use hwdb_fs::{Refusal, Selection, System, path_in, selected_readable, with_texts};
+use hwdb_transfer::{MAX_BYTES, ToolError, write_text};
+use std::alloc::Global;
+
+/// Compiles chosen files, says of them what is to be said, and puts their database in its place in a folder of the
+/// store. What is said are their fault lines, and before these, where the names of /usr/lib's files are given, which files
+/// they are and how much they assign. Returns the status: 1 where `strict` and there is a fault line, else 0.
+fn update_files<S: Store, E: Sink>(
+    alloc: Global,
+    files: &[ChosenFile<'_>],
+    listed: Option<&[String]>,
+    strict: bool,
+    folder: &str,
+    store: &mut S,
+    err: &mut E,
+) -> Result<u8, ToolError>
+    requires { All IsStorableChoice (map choice_in files.now) }
+    ensures updated { let names = option_map (λ l. map string_bytes l.now) listed.entry in
+        IfOk result (λ status. ForFolders files.now (λ etc usr.
+        Updated etc usr names max_file strict status
+        (E.taken err.old) (E.taken err.new) (λ database. S.tells → spec.InPlace folder.now database
+        (S.seen store.old) (S.seen store.new) (S.may_leave store.new)))) }
+    ensures status { IfOk result (λ status. status ≤ 1) }
+    ensures any_moment { S.tells → ForFolders files.now (λ etc usr.
+        spec.LeavesOnly S.moment S.left_since store.old store.new
+        (OldOrWritten etc usr folder.now (S.seen store.old) (S.may_leave store.old))) }
+
+    ensures refusals { IfErr result
+        (λ e. ForFolders files.now (λ etc usr. IsUpdateRefusal etc usr max_file e)) }
+    ensures unreplaced { let names = option_map (λ l. map string_bytes l.now) listed.entry in
+        IfErr result (OnUnreplaced (λ u. ForFolders files.now (λ etc usr.
+        UpdateUndone etc usr names folder.now
+        (E.taken err.old) (E.taken err.new) S.tells (S.seen store.old) (S.seen store.new)
+        (S.may_leave store.old) (S.may_leave store.new) u))) }
+    ensures counted { IfErr result (OnUnreplaced
+        (λ u. (E.failures err.new ≡ E.failures err.old)
+        × (S.failures store.new ≡ failures_after u (S.failures store.old)))) }
+    ensures unwritten { S.tells → IfErr result (OnUnreplaced
+        (λ _. IsUnwritable folder.now (S.seen store.old)
+        (S.failures store.old) (S.failures store.new))) }
+    ensures last { IsErrOf result ToolError.Write
+        → OneFailed (E.failures err.old) (E.failures err.new) × (store.new ≡ store.old) }
+    ensures cause { IsErrOf result ToolError.Write
+        → HasFailed (E.failures err.old) (E.failures err.new) }
+    ensures cut_short { let names = option_map (λ l. map string_bytes l.now) listed.entry in
+        IsErrOf result ToolError.Write → ForFolders files.now (λ etc usr.
+        AppendsPrefix (E.taken err.old) (E.taken err.new) (update_text names etc usr)) }
+    ensures untouched { IfErr result
+        (λ e. e ≢ ToolError.Write → ((u : Unreplaced) → e ≢ ToolError.Replace u)
+        → (err.new ≡ err.old) × (store.new ≡ store.old)) }
+{
+    let compiled = compile_chosen(alloc, files, MAX_BYTES)?;
+    let told = progress(alloc, files, listed, &compiled)?;
+    put_in_place(alloc, &compiled, &told, strict, folder, store, err)
+}
+
+/// The names of /usr/lib's files, where `verbose`.
+fn listing(verbose: bool, listed: &[String]) -> Option<&[String]>
+    ensures { option_map (λ l. map string_bytes l.now) result
+        ≡ given_where verbose (map string_bytes listed.now) }
+{
+    if verbose { Some(listed) } else { None }
+}
+
+/// Compiles chosen text files of both folders into the database of one, which takes the old one's place once it is whole
+/// on the disk. Their fault lines go to `err`, and before these, where `verbose`, which files they are, which of them mask
+/// others, and how much they assign. Returns the status: 1 where `strict` and there is a fault, else 0. After a refusal the
+/// old database stands as it was, and no new file.
+fn update_selected<D: System, E: Sink>(
+    alloc: Global,
+    root: &str,
+    selection: &Selection,
+    usr: bool,
+    strict: bool,
+    verbose: bool,
+    system: &mut D,
+    err: &mut E,
+) -> Result<u8, Refusal>
+    requires whole { length selection.now.texts.items ≡ length selection.now.chosen.items }
+    requires storable { All IsStorableChoice (map choice_of selection.now.chosen.items) }
+    ensures status { IfOk result (λ status. status ≤ 1) }
+    ensures any_moment { (files : spec.Contents) → IsOfSelection root.now files selection.now
+        → D.Store.tells → spec.LeavesOnly D.Store.moment D.Store.left_since system.old system.new
+        (OldOrUpdated root.now usr files (D.Store.seen system.old) (D.Store.may_leave system.old)) }
+    ensures updated { (files : spec.Contents) → IsOfSelection root.now files selection.now
+        → D.Store.tells → IfOk result (λ status. IsUpdated root.now verbose strict status files
+        (E.taken err.old) (E.taken err.new)
+        (λ database. spec.InPlace (Folder.database_folder usr root.now) database
+        (D.Store.seen system.old) (D.Store.seen system.new) (D.Store.may_leave system.new))) }
+    ensures refused { (files : spec.Contents) → IsOfSelection root.now files selection.now
+        → D.Store.tells → IfErr result (λ r. IsSelectedRefused root.now usr verbose files r
+        (D.Store.seen system.old) (D.Store.seen system.new)
+        (D.Store.may_leave system.old) (D.Store.may_leave system.new)
+        (E.taken err.old) (E.taken err.new)) }
+    ensures reason { D.Store.tells → IfErr result (HasReason (D.System.may_fail system.old)
+        (IsUnwritable (Folder.database_folder usr root.now) (D.Store.seen system.old)
+        (D.Store.failures system.old) (D.Store.failures system.new)) (D.Store.seen system.old)) }
+    ensures unfailed { IfErr result (λ r. r ≢ Plain ToolError.Write
+        → E.failures err.new ≡ E.failures err.old) }
+    ensures cause { IfErr result (λ r. r ≡ Plain ToolError.Write
+        → HasFailed (E.failures err.old) (E.failures err.new)) }
+{
+    let files = with_texts(alloc, &selection.chosen, &selection.texts)?;
+    let folder = database_folder(alloc, root, usr)?;
+    let path = path_in(alloc, folder.as_str(), DATABASE)?.into_bytes();
+    match update_files(
+        alloc,
+        &files,
+        listing(verbose, &selection.listed),
+        strict,
+        folder.as_str(),
+        system,
+        err,
+    ) {
+        Ok(status) => Ok(status),
+        Err(error) => Err(Refusal::of_update(error, path, system.cause())),
+    }
+}
+
+/// The status where this was said of files that are left out, if it would be this one for the others alone.
+fn status_less(strict: bool, said: &[u8], status: u8) -> u8
+    ensures is { (root : List ℕ) (left_out : List Choice) → AreTold root left_out said.now
+        → result ≡ status_less strict left_out status }
+    ensures small { status ≤ 1 → result ≤ 1 }
+{
+    if said.is_empty() {
+        return status;
+    }
+    if strict { 1 } else { status }
+}
+
+/// Says lines.
+fn say<E: Sink>(text: &[u8], err: &mut E) -> Result<(), Refusal>
+    ensures told { OnOk result (Appends (E.taken err.old) (E.taken err.new) text.now) }
+    ensures refused { IfErr result (λ r. (r ≡ Plain ToolError.Write)
+        × AppendsPrefix (E.taken err.old) (E.taken err.new) text.now) }
+    ensures unfailed { OnOk result (E.failures err.new ≡ E.failures err.old) }
+    ensures cause { IfErr result (λ _. HasFailed (E.failures err.old) (E.failures err.new)) }
+{
+    write_text(err, text)?;
+    Ok(())
+}
+
+/// Compiles the text files of both folders into the database of one, as `update_selected` does. Where `skip`, a chosen one
+/// that can't be read is left out: its line goes to `err` first, and where `strict` the status is 1.
+pub fn update<D: System, E: Sink>(
+    alloc: Global,
+    root: &str,
+    usr: bool,
+    strict: bool,
+    verbose: bool,
+    skip: bool,
+    system: &mut D,
+    err: &mut E,
+) -> Result<u8, Refusal>
+    ensures status { IfOk result (λ status. status ≤ 1) }
+    ensures any_moment { D.Store.tells
+        → spec.LeavesOnly D.Store.moment D.Store.left_since system.old system.new
+        (OldOrUpdatedLess (D.System.may_fail system.old) root.now usr skip
+        (D.Store.seen system.old) (D.Store.may_leave system.old)) }
+    ensures updated { D.Store.tells → IfOk result
+        (λ status. IsUpdatedLess (D.System.may_fail system.old) root.now verbose strict skip status
+        (D.Store.seen system.old) (E.taken err.old) (E.taken err.new)
+        (λ database. spec.InPlace (Folder.database_folder usr root.now) database
+        (D.Store.seen system.old) (D.Store.seen system.new) (D.Store.may_leave system.new))) }
+    ensures refused { D.Store.tells → IfErr result
+        (λ r. IsUpdateRefused (D.System.may_fail system.old) root.now usr verbose skip r
+        (D.Store.seen system.old) (D.Store.seen system.new)
+        (D.Store.may_leave system.old) (D.Store.may_leave system.new)
+        (E.taken err.old) (E.taken err.new)) }
+    ensures reason { D.Store.tells → IfErr result (HasReason (D.System.may_fail system.old)
+        (IsUnwritable (Folder.database_folder usr root.now) (D.Store.seen system.old)
+        (D.Store.failures system.old) (D.Store.failures system.new)) (D.Store.seen system.old)) }
+    ensures unfailed { IfErr result (λ r. r ≢ Plain ToolError.Write
+        → E.failures err.new ≡ E.failures err.old) }
+    ensures cause { IfErr result (λ r. r ≡ Plain ToolError.Write
+        → HasFailed (E.failures err.old) (E.failures err.new)) }
+{
+    let readable = selected_readable(alloc, root, skip, system)?;
+    say(&readable.said, err)?;
+    let selection = &readable.selection;
+    let status = update_selected(alloc, root, selection, usr, strict, verbose, system, err)?;
+    Ok(status_less(strict, &readable.said, status))
+}
