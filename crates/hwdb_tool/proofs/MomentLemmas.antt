@@ -1,5 +1,5 @@
 -- What a crash may leave while an update runs, in the words of the program.
-use Rattle.std.proofs.Common.{◌≡◌, inl, inr, ⊎_elim, ℕ, Bool, List, Option, subst}
+use Rattle.std.proofs.Common.{◌≡◌, inl, inr, ⊎_elim, ℕ, Bool, List, Option, subst, arith}
 use Rattle.hwdb_spec.specs.Store.{Contents, LeavesOnly, Outcomes, Stored}
 use Rattle.hwdb_spec.specs.System.{database_folder}
 use Rattle.hwdb_compile.specs.declared.sources.ChosenFile.{ChosenFile}
@@ -40,3 +40,15 @@ pub leaves_less : {D : Type 0} (moment : D → ℕ) (left_since : D → ℕ → 
 leaves_less moment left_since old new MayFail root usr skip seen before left_out are holds =
     leaves_more moment left_since old new (OldOrUpdated root usr (without left_out root seen) seen before) (OldOrUpdatedLess MayFail root usr skip seen before)
     (λ p v now. ⊎_elim (λ was. inl was) (λ left. inr record { left_out = left_out; are = are; left = left }) now) holds
+
+-- where nothing happens nothing new is left
+pub leaves_old : {D : Type 0} (moment : D → ℕ) (left_since : D → ℕ → Outcomes) (s : D) (outcomes : Outcomes)
+    → ((p : List ℕ) (v : Option Stored) → left_since s (moment s) p v → outcomes p v) → LeavesOnly moment left_since s s outcomes
+leaves_old moment left_since s outcomes up = record {
+  each = up;
+  time = record {
+    later = omega arith;
+    nothing_else = λ t p v le l. inl l;
+    nothing_less = λ t p v le l. l;
+  };
+}

@@ -7,7 +7,7 @@ use Rattle.hwdb_fs.specs.declared.refusals.Refusal.{Refusal}
 use Rattle.hwdb_spec.specs.Done.{AreKept}
 use Rattle.hwdb_tool.specs.Program.{OldOrAskedFor, OldOrDone, root_of}
 use Rattle.hwdb_tool.specs.TaskRefusals.{IsJobReason, IsTaskRefused}
-use Rattle.hwdb_tool.proofs.RunLemmas.{leaves_more, leaves_old}
+use Rattle.hwdb_tool.proofs.MomentLemmas.{leaves_more, leaves_old}
 use Rattle.hwdb_tool.proofs.CutLemmas.{cut_keeps}
 use Rattle.hwdb_tool.proofs.dispatch.program.Goals as goal
 

@@ -7,8 +7,8 @@ use Rattle.hwdb_spec.specs.System.{database_folder}
 use Rattle.hwdb_fs.specs.Refusals.{HasReason}
 use Rattle.hwdb_tool.specs.Undone.{IsAnswerRefused, IsListRefusedBy, IsUnwritable}
 use Rattle.hwdb_tool.specs.TaskRefusals.{Counts, IsJobReason, IsTaskRefused, IsUnreadableFor}
-use Rattle.hwdb_tool.proofs.RunLemmas.{leaves_more}
-use Rattle.hwdb_tool.proofs.HandedOnLemmas.{each_error, given_error}
+use Rattle.hwdb_tool.proofs.MomentLemmas.{leaves_more}
+use Rattle.hwdb_tool.proofs.ErrorLemmas.{each_error, given_error}
 use Rattle.hwdb_tool.proofs.dispatch.run.Goals as goal
 
 pub returns-in-Update-clause-any_moment : goal.returns-in-Update-clause-any_moment
