@@ -75,7 +75,7 @@ hardened-lib: out/libhwdb.so.0
 	eval "$$(dpkg-buildflags --export=sh)" && $(MAKE) linked-lib LIBRARIES=out/hardened
 
 unproved: kit
-	tests/unproved out/hwdb-unproved
+	tests/proofs/unproved out/hwdb-unproved
 	out/hwdb-unproved ask examples/workshop.hwdb usb:v1209p0007d0101
 
 demo: program
@@ -97,11 +97,11 @@ scripts: try-memory try-wrong-bodies try-definitions try-reading try-over-proved
 timed: try-growth try-hostile
 
 try-definitions:
-	tests/definitions hwdb_reader::laws::law_faultless hwdb_tool::one_outcome::listings_give_one_reading
+	tests/proofs/definitions hwdb_reader::laws::law_faultless hwdb_tool::one_outcome::listings_give_one_reading
 
 # One round of the wrong bodies, another one after each commit.
 try-wrong-bodies:
-	tests/wrong-bodies --some
+	tests/proofs/wrong-bodies --some
 
 # The C library, over what `rt ci` proved.
 try-over-proved:
@@ -111,27 +111,27 @@ try-over-proved:
 try-installed try-library: try-over-proved
 
 try-documents try-definitions-page try-reading try-refused: try-%:
-	tests/$*
+	tests/*/$*
 
 try-%:
-	tests/$* out/hwdb
+	tests/*/$* out/hwdb
 
 check-edits:
-	tests/wrong-bodies $(CRATES)
-	tests/definitions $(CRATES)
+	tests/proofs/wrong-bodies $(CRATES)
+	tests/proofs/definitions $(CRATES)
 
 # Wrong bodies that are proved: a script of tests/ sees each. And what `make unproved` builds.
 check-survivors:
-	tests/unproved --judge
-	tests/caught $(EDITS)
+	tests/proofs/unproved --judge
+	tests/proofs/caught $(EDITS)
 
 check-peer: all
-	tests/peer out/hwdb
-	tests/users out/hwdb
-	tests/clients out/hwdb
+	tests/peer/peer out/hwdb
+	tests/peer/users out/hwdb
+	tests/peer/clients out/hwdb
 
 bench: all
-	tests/bench out/hwdb
+	tests/peer/bench out/hwdb
 
 # Only where there is no program yet, so that root needs no toolchain to install what a user built.
 out/hwdb:
@@ -204,13 +204,13 @@ dist:
 
 # Needs root, for apt-get and for a root of its own.
 check-package: $(PROGRAM) out/libhwdb.so.0
-	tests/package-tools
+	tests/package/package-tools
 	$(MAKE) hardened-lib
-	tests/words '$(PROGRAM)'
-	tests/completions '$(PROGRAM)'
-	tests/lint '$(PROGRAM)'
-	tests/installed '$(PROGRAM)'
-	tests/package '$(PROGRAM)' out/hardened/libhwdb.so.0
+	tests/run/words '$(PROGRAM)'
+	tests/package/completions '$(PROGRAM)'
+	tests/package/lint '$(PROGRAM)'
+	tests/package/installed '$(PROGRAM)'
+	tests/package/package '$(PROGRAM)' out/hardened/libhwdb.so.0
 
 clean:
 	rm -rf out crates/*/out

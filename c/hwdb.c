@@ -1,5 +1,5 @@
 /* The calls of hwdb.h over the proved calls of crates/hwdb_c. The code of this file isn't proved, and does little: it opens and
- * reads the file, counts references, and keeps strings. Tests call it (tests/library).
+ * reads the file, counts references, and keeps strings. Tests call it (tests/c/library).
  *
  * A file is read whole and not mapped. The proof needs bytes that never change, and a mapping shows what others write to the
  * file. A lookup gives the strings of all properties of a device at once: `get` looks for its key among them. */

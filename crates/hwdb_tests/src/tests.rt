@@ -1,4 +1,4 @@
-//! Rows that only a call of a library shows; those of the built program are in tests/rows.
+//! Rows that only a call of a library shows; those of the built program are in tests/run/rows.
 mod calls;
 mod compiling;
 mod entered;

@@ -1,0 +1,59 @@
+"""What the scripts that try wrong sources share: copies of the crates, and checks of one crate over the sources of those below it."""
+import os
+import shutil
+import subprocess
+
+TOP = os.path.dirname(os.path.dirname(os.path.dirname(os.path.abspath(__file__))))
+
+
+def lines_of(crate):
+    """The lines of crates.txt of a crate and of the crates of this repository that it stands on, by their names."""
+    with open(os.path.join(TOP, "crates.txt"), encoding="utf-8") as file:
+        lines = {line.split(":")[0].split()[0]: line for line in file if ":" in line}
+    if crate not in lines:
+        raise SystemExit(f"no {crate} in crates.txt")
+    below = {crate}
+    for name in reversed(lines):
+        if name in below:
+            below.update(word for word in lines[name].split(":")[1].split() if word in lines)
+    return {name: line for name, line in lines.items() if name in below}
+
+
+def copied(lines, scratch, with_built=False):
+    """Copies these crates into a folder, with a crates.txt of these lines."""
+    for name in lines:
+        place = os.path.join(TOP, "crates", name)
+        passed_over = None if with_built else (lambda folder, names, place=place: {"out"} if folder == place else ())
+        shutil.copytree(place, os.path.join(scratch, "crates", name), symlinks=True, ignore=passed_over)
+    shutil.copy(os.path.join(TOP, "HANDLES"), scratch)
+    with open(os.path.join(scratch, "crates.txt"), "w", encoding="utf-8") as file:
+        file.write("".join(lines.values()))
+    subprocess.run(["git", "init", "-q", scratch], check=True)
+
+
+def over_sources(lines, crate, functions):
+    """The words that check functions of a crate, in its folder, over the sources of the crates below it, which aren't proved."""
+    kit = os.path.dirname(subprocess.run(["rt", "doc"], check=True, capture_output=True, text=True).stdout.strip())
+    stands_on = {name: line.split(":")[1].split() for name, line in lines.items()}
+    ordered = []
+
+    def visit(name):
+        if name not in ordered:
+            for below in stands_on[name]:
+                if below in stands_on:
+                    visit(below)
+            ordered.append(name)
+
+    visit(crate)
+    of_kit = sorted({"core", "std"}.union(*stands_on.values()) - set(stands_on))
+    words = [f"{kit}/bin/rattle", "check", "--crate-name", crate, "src/lib.rt", "-L", f"dependency={kit}/rlibs"]
+    for name in of_kit:
+        words += ["--extern", f"{name}={kit}/rlibs/{name}.rlib"]
+    for name in ordered[:-1]:
+        below = ",".join(sorted({"core", "std", *stands_on[name]}))
+        words += ["--lib", f"{name}:{below}={os.path.join('..', name, 'src', 'lib.rt')}"]
+    words += ["--antt-project", f"{kit}/rattle/logic/antt-project.json", "--logic-built", f"{kit}/logic_built"]
+    words += ["--links", f"{crate}=", "--jobs", "1"]
+    for name in functions:
+        words += ["--only", name]
+    return words
