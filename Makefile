@@ -93,7 +93,7 @@ scripts: try-memory try-wrong-bodies try-definitions try-reading try-over-proved
 	try-definitions-page try-refused try-words try-command-line try-installed try-library try-readme try-runs try-folders \
 	try-refusals try-footprint try-streams
 
-# What looks at the processor's times, behind all others.
+# What looks at the processor's times, after all others.
 timed: try-growth try-hostile
 
 try-definitions:

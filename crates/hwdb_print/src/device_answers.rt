@@ -5,8 +5,8 @@ ghost use Rattle.hwdb_spec.specs.Json.{explain_json};
 ghost use Rattle.hwdb_spec.specs.Texts.{query_text};
 ghost use Rattle.hwdb_print.specs.Internal.{answer_text, text_behind};
 
-use crate::form::Form;
 use crate::explanation::explanation_lines;
+use crate::form::Form;
 use crate::json_answers::answer_line;
 use crate::json_explanations::explanation_lines_json;
 use crate::texts::property_lines;

@@ -17,10 +17,9 @@ ghost use Rattle.hwdb_fs.specs.declared.refusals.Refusal.TheVariants.{Plain};
 use crate::databases::asked;
 use crate::given::{is_dash, read};
 use crate::input_devices::answer_input;
-use hwdb_print::{ask, run_explain, run_explain_json, run_list, run_list_json};
 use hwdb_devices::{Sink, Source};
-use hwdb_print::Form;
 use hwdb_fs::{Refusal, System};
+use hwdb_print::{Form, ask, run_explain, run_explain_json, run_list, run_list_json};
 use hwdb_transfer::ToolError;
 use std::alloc::Global;
 

@@ -14,8 +14,8 @@ ghost use Rattle.hwdb_fs.specs.declared.refusals.Refusal.TheVariants.{Plain};
 
 use crate::given::{bytes_given, input_text};
 use hwdb_devices::{Sink, Source};
-use hwdb_lint::{TextFile, check_files};
 use hwdb_fs::{Refusal, System, selected};
+use hwdb_lint::{TextFile, check_files};
 use hwdb_text::Chosen;
 use hwdb_transfer::ToolError;
 use std::alloc::{AllocError, Global};

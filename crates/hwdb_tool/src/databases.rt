@@ -9,8 +9,8 @@ ghost use Rattle.hwdb_tool.specs.NamedDatabases.{IsUnnamed};
 ghost use Rattle.hwdb_tool.specs.Undone.{IsUnfound, IsUnreadableIf};
 ghost use Rattle.hwdb_fs.specs.declared.refusals.Refusal.TheVariants.{Plain};
 
-use hwdb_replace::DATABASE;
 use hwdb_fs::{Refusal, System, joined, path_in};
+use hwdb_replace::DATABASE;
 use hwdb_transfer::ToolError;
 use std::alloc::{AllocError, Global};
 

@@ -7,8 +7,8 @@ ghost use Rattle.hwdb_tool.specs.ComparedDatabases.{IsDiffRefused, IsOfDiff};
 ghost use Rattle.hwdb_fs.specs.declared.refusals.Refusal.TheVariants.{Plain};
 
 use hwdb_devices::Sink;
-use hwdb_inspect::{DiffError, run_diff};
 use hwdb_fs::{Refusal, System};
+use hwdb_inspect::{DiffError, run_diff};
 use hwdb_transfer::ToolError;
 use std::alloc::Global;
 

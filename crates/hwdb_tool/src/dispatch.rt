@@ -10,17 +10,17 @@ ghost use Rattle.hwdb_tool.specs.TaskRefusals.{AreRefused, IsCutShort, IsTextCut
 ghost use Rattle.hwdb_fs.specs.Refusals.{HasReason};
 ghost use Rattle.hwdb_fs.specs.declared.refusals.Refusal.TheVariants.{Plain};
 
-use crate::outlet::Outlet;
-use hwdb_cli::{Job, Task, WordsFault, read_words};
-use hwdb_devices::{Sink, Source};
-use hwdb_fs::{Refusal, Rooted, System, refuse_for, refuse_memory};
 use crate::answers::{ask_file, explain, list};
 use crate::checks::check;
 use crate::differences::diff;
 use crate::dumps::dump;
 use crate::hiding::update_telling;
+use crate::outlet::Outlet;
 use crate::queries::query;
 use crate::verification::verify;
+use hwdb_cli::{Job, Task, WordsFault, read_words};
+use hwdb_devices::{Sink, Source};
+use hwdb_fs::{Refusal, Rooted, System, refuse_for, refuse_memory};
 use hwdb_transfer::{ToolError, write_text};
 use std::alloc::Global;
 

@@ -9,9 +9,9 @@ ghost use Rattle.hwdb_fs.specs.declared.refusals.Refusal.TheVariants.{Plain};
 
 use crate::databases::named;
 use hwdb_devices::Sink;
+use hwdb_fs::{Refusal, System};
 use hwdb_inspect::{DumpError, run_dump};
 use hwdb_lint::push_shown;
-use hwdb_fs::{Refusal, System};
 use hwdb_transfer::ToolError;
 use std::alloc::{AllocError, Global};
 

@@ -15,8 +15,8 @@ ghost use Rattle.hwdb_fs.specs.declared.refusals.Refusal.TheVariants.{Plain};
 use crate::databases::database_folder;
 use crate::updates::update;
 use hwdb_devices::Sink;
-use hwdb_replace::DATABASE;
 use hwdb_fs::{Refusal, System, path_in};
+use hwdb_replace::DATABASE;
 use hwdb_transfer::{ToolError, write_text};
 use std::alloc::{AllocError, Global};
 

@@ -11,8 +11,8 @@ ghost use Rattle.hwdb_fs.specs.declared.refusals.Refusal.TheVariants.{Plain};
 
 use crate::databases::asked;
 use hwdb_devices::{Cause, Sink, Source};
-use hwdb_print::{Form, run_stream};
 use hwdb_fs::{Refusal, System};
+use hwdb_print::{Form, run_stream};
 use hwdb_transfer::ToolError;
 use std::alloc::Global;
 

@@ -12,10 +12,10 @@ ghost use Rattle.hwdb_fs.specs.Internal.{IsNameSet};
 ghost use Rattle.hwdb_tool.specs.Internal.{IsCompiledOf};
 
 use hwdb_compile::{ChosenFile, Compiled};
+use hwdb_fs::name_set;
 use hwdb_inspect::{assignments, members_are_the_map};
 use hwdb_lint::push_count;
 use hwdb_reader::{check, law_ascending, law_one_tree};
-use hwdb_fs::name_set;
 use hwdb_text::Chosen;
 use itoa::Buffer;
 use std::alloc::{AllocError, Global};

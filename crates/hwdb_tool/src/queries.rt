@@ -14,10 +14,9 @@ ghost use Rattle.hwdb_fs.specs.declared.refusals.Refusal.TheVariants.{Plain};
 
 use crate::databases::asked;
 use crate::input_devices::answer_input;
-use hwdb_print::{run_queries, run_queries_json};
 use hwdb_devices::{Sink, Source};
-use hwdb_print::Form;
 use hwdb_fs::{Refusal, System};
+use hwdb_print::{Form, run_queries, run_queries_json};
 use hwdb_transfer::ToolError;
 use std::alloc::Global;
 

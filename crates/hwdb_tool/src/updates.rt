@@ -23,11 +23,11 @@ ghost use Rattle.hwdb_fs.specs.declared.refusals.Refusal.TheVariants.{Plain};
 
 use crate::databases::database_folder;
 use crate::progress::progress;
-use hwdb_print::put_in_place;
 use hwdb_compile::{ChosenFile, compile_chosen};
 use hwdb_devices::Sink;
-use hwdb_replace::{DATABASE, Store, Unreplaced};
 use hwdb_fs::{Refusal, Selection, System, path_in, selected_readable, with_texts};
+use hwdb_print::put_in_place;
+use hwdb_replace::{DATABASE, Store, Unreplaced};
 use hwdb_transfer::{MAX_BYTES, ToolError, write_text};
 use std::alloc::Global;
 

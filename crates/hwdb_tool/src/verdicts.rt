@@ -3,8 +3,8 @@ ghost use Rattle.std.specs.Prelude.{◌≡◌, ◌++◌, codes, IfOk, OnOk};
 ghost use Rattle.hwdb_spec.specs.Texts.{at_offset, db_fault_name, db_fault_offset};
 ghost use Rattle.hwdb_spec.specs.Verdicts.{db_fault_cause, db_fault_words, explanation_text, fault_text, remedy, verdict_text};
 
-use hwdb_reader::DbFault;
 use hwdb_fs::remedy;
+use hwdb_reader::DbFault;
 use itoa::Buffer;
 use std::alloc::{AllocError, Global};
 

@@ -12,9 +12,9 @@ ghost use Rattle.hwdb_fs.specs.declared.refusals.Refusal.TheVariants.{Plain};
 use crate::databases::named;
 use crate::verdicts::verdict;
 use hwdb_devices::Sink;
+use hwdb_fs::{Refusal, System};
 use hwdb_inspect::run_verify;
 use hwdb_reader::DbFault;
-use hwdb_fs::{Refusal, System};
 use hwdb_transfer::ToolError;
 use std::alloc::Global;
 
