@@ -1,14 +1,15 @@
 use Rattle.std.proofs.Common.{ap, inl, inr, ⊎_elim, refl, string_bytes, subst, sym}
 use Rattle.std.specs.Prelude.{option_map}
+use Rattle.hwdb_cli.specs.declared.job.Task.TheVariants.{Update}
 use Rattle.hwdb_spec.specs.Asked.{IsListFrom}
 use Rattle.hwdb_spec.specs.Done.{IsLeftByUpdateLess, OldOrUpdatedLess}
-use Rattle.hwdb_tool.specs.Program.{OldOrDone, root_of, skips}
+use Rattle.hwdb_tool.specs.Program.{IsDone, IsTaskDone, OldOrDone, root_of, skips}
 use Rattle.hwdb_spec.specs.System.{database_folder}
 use Rattle.hwdb_fs.specs.Refusals.{HasReason}
 use Rattle.hwdb_tool.specs.Undone.{IsAnswerRefused, IsListRefusedBy, IsUnwritable}
 use Rattle.hwdb_tool.specs.TaskRefusals.{Counts, IsJobReason, IsTaskRefused, IsUnreadableFor}
 use Rattle.hwdb_tool.proofs.MomentLemmas.{leaves_more}
-use Rattle.hwdb_tool.proofs.ErrorLemmas.{each_error, given_error}
+use Rattle.hwdb_tool.proofs.ErrorLemmas.{each_error, each_value, given_error}
 use Rattle.hwdb_tool.proofs.dispatch.run.Goals as goal
 
 pub returns-in-Update-clause-any_moment : goal.returns-in-Update-clause-any_moment
@@ -26,6 +27,23 @@ returns-in-Update-clause-any_moment g c = λ tells.
           (subst (λ r. IsLeftByUpdateLess fails r job.usr skip seen p v) c.root_of-root.ensures l),
     )) now)
     (c.update_telling.ensures.any_moment tells)
+
+pub returns-in-Update-clause-done : goal.returns-in-Update-clause-done
+returns-in-Update-clause-done g c = λ tells.
+    let job = c.args.job.now in
+    let fails = g.D.System.may_fail c.args.system.now in
+    let seen = g.D.Store.seen c.args.system.now in
+    let now = g.D.Store.seen c.update_telling.new.system in
+    let left = g.D.Store.may_leave c.update_telling.new.system in
+    let input = g.I.Source.left c.args.input.now in
+    let err = g.E.Sink.taken c.args.err.now in
+    let err_now = g.E.Sink.taken c.update_telling.new.err in
+    let out = g.O.Sink.taken c.args.out.now in
+    let task = Update c.in-Update.verbose c.in-Update.skip_unreadable in
+    each_value _ (λ status. IsDone job fails status input seen now left err err_now out out) c.update_telling.result
+    (λ status done. subst (λ t. IsTaskDone t fails (root_of job) job.usr job.strict status input seen now left err err_now out out) (sym c.in-Update.is)
+    (subst (λ r. IsTaskDone task fails r job.usr job.strict status input seen now left err err_now out out) c.root_of-root.ensures (done, refl)))
+    (c.update_telling.ensures.updated tells)
 
 pub returns-in-Update-clause-reason : goal.returns-in-Update-clause-reason
 returns-in-Update-clause-reason g c = λ tells.
