@@ -79,7 +79,7 @@ complete -c hwdb -n 'not __hwdb_at help' -s r -l root -x -a '(__fish_complete_di
 complete -c hwdb -n 'not __hwdb_at help' -s h -l help -d 'Print help'
 complete -c hwdb -n __hwdb_none -s V -l version -d 'Print version'
 complete -c hwdb -n '__hwdb_at update' -l verbose -d 'Say which files are taken, and how many assignments they have'
-complete -c hwdb -n '__hwdb_at update' -l skip-unreadable -d 'Leave out a text file that can\'t be read, and say so'
+complete -c hwdb -n '__hwdb_at update' -l skip-unreadable -d "Leave out a text file that can't be read, and say so"
 complete -c hwdb -n '__hwdb_at query' -l json -d 'Print JSON, one object a line'
 complete -c hwdb -n '__hwdb_at explain' -l json -d 'Print JSON, one object a line'
 complete -c hwdb -n '__hwdb_at list' -l json -d 'Print JSON, one object a line'
