@@ -1,5 +1,5 @@
 -- Texts of devices that a sink takes one after another.
-use Rattle.std.proofs.Common.{◌≡◌, ◌∙◌, ◌+◌, ℕ, ap, sym, subst, refl, List, [], ◌∷◌, ◌++◌, map, length, take, Option, Result, Ok, Err, IfErr, arith, length-append}
+use Rattle.std.proofs.Common.{◌≡◌, ◌∙◌, ◌+◌, ℕ, ap, sym, subst, refl, List, [], ◌∷◌, ◌++◌, map, length, Option, Result, Ok, Err, IfErr, arith, length-append}
 use Rattle.std.proofs.Math.Seq.{take-append-add}
 use Rattle.std.proofs.lemmas.List.{take-append-le}
 use Rattle.std.proofs.KnownBytes.{Appends-trans}

@@ -1,5 +1,5 @@
 -- A query over what an update leaves at any moment.
-use Rattle.std.proofs.Common.{◌≡◌, ◌≢◌, ◌⊎◌, ◌∙◌, inl, inr, ⊎_elim, ap, sym, subst, ℕ, Bool, true, false, List, [], ◌∷◌, Option, Some, None, bytes_eq, codes, if◌then◌else◌, get_or, arith, string_bytes}
+use Rattle.std.proofs.Common.{◌≡◌, ◌⊎◌, ◌∙◌, inl, inr, ⊎_elim, ap, sym, subst, ℕ, Bool, true, false, List, [], ◌∷◌, Option, Some, None, bytes_eq, codes, if◌then◌else◌, get_or, arith}
 use Rattle.std.specs.Prelude.{option_map}
 use Rattle.std.specs.Option.{option_map_or, option_or}
 use Rattle.std.specs.Io.KnownBytes.{Appends}
@@ -8,7 +8,6 @@ use Rattle.clap.specs.Walk.{Row, Text}
 use Rattle.clap.specs.Simple.{matches_of, subcommand_of}
 use Rattle.hwdb_cli.specs.Jobs.{IsJobOf, IsTask, has_flag}
 use Rattle.hwdb_cli.specs.Line.{hwdb_app}
-use Rattle.hwdb_cli.specs.Words.{AskFor}
 use Rattle.hwdb_cli.specs.declared.job.Job.{Job}
 use Rattle.hwdb_cli.specs.declared.job.Task.{Task}
 use Rattle.hwdb_cli.specs.declared.job.Task.TheVariants.{Ask, Check, Diff, Dump, Explain, List as ListHits, Query, Update, Verify}
@@ -17,13 +16,13 @@ use Rattle.hwdb_spec.specs.Answers.{effective_of, last_assignments}
 use Rattle.hwdb_spec.specs.Assignment.{Assignment}
 use Rattle.hwdb_spec.specs.Folders.{Choice, all_assignments}
 use Rattle.hwdb_spec.specs.Format.{IsDatabase}
-use Rattle.hwdb_spec.specs.Store.{Contents, IsPartPath, LeftAtParts, Outcomes, Stored, database_file, database_name, part_name, path_in}
+use Rattle.hwdb_spec.specs.Store.{Contents, IsPartPath, LeftAtParts, Outcomes, Stored, database_name, part_name, path_in}
 use Rattle.hwdb_spec.specs.System.{asked_database, bytes_at, database_folder}
 use Rattle.hwdb_spec.specs.Texts as texts
 use Rattle.hwdb_spec.specs.Texts.{properties_text}
 use Rattle.hwdb_spec.specs.Done.{IsLeftByUpdate}
 use Rattle.hwdb_spec.specs.LeftOut.{AreLeftOut, without}
-use Rattle.hwdb_tool.specs.Program.{OldOrAskedFor, root_of, skips}
+use Rattle.hwdb_tool.specs.Program.{root_of, skips}
 use Rattle.hwdb_tool.specs.Crash.{AnswersFrom, CrashThenQuery, CrashThenQueryOfAll, FaultsLeaveAll}
 use Rattle.hwdb_tool.proofs.JobLemmas.{one_root}
 use Rattle.hwdb_tool.proofs.OutcomeLemmas.{one_held}

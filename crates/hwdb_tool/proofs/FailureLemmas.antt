@@ -1,5 +1,5 @@
 -- What a count of failed calls tells, and that a word too many is a fault.
-use Rattle.std.proofs.Common.{◌≡◌, ◌≢◌, ◌⊎◌, ◌∙◌, ◌<◌, ◌-◌, ⊎_elim, ap, sym, refl, ℕ, List, [], ◌∷◌, length, arith, ne_of_lt}
+use Rattle.std.proofs.Common.{◌≡◌, ◌≢◌, ◌⊎◌, ◌∙◌, ◌<◌, ◌-◌, ⊎_elim, ap, sym, refl, ℕ, [], length, arith, ne_of_lt}
 use Rattle.std.specs.Prelude.{◌^◌}
 use Rattle.clap.specs.Faults.{fault_of}
 use Rattle.clap.proofs.OnLiterals.{clap_on_literals}

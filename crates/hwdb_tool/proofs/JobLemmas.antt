@@ -1,14 +1,12 @@
 -- Words ask for one job.
-use Rattle.std.proofs.Common.{◌≡◌, ◌∙◌, ap, refl, sym, subst, Bool, true, false, List, [], ◌∷◌, ◌+◌, ◌*◌, map, ℕ, Option, Some, None, string_bytes, arith, get_or, ⊎_elim}
-use Rattle.std.specs.Prelude.{codes, option_map, Ok}
+use Rattle.std.proofs.Common.{◌≡◌, ◌∙◌, ap, refl, sym, subst, Bool, List, [], ◌∷◌, ◌+◌, ◌*◌, map, ℕ, Option, Some, None, string_bytes, arith, get_or, ⊎_elim}
+use Rattle.std.specs.Prelude.{codes, option_map}
 use Rattle.std.specs.Option.{option_map_or}
-use Rattle.std.specs.Str.Parse.{ParsesUnsigned}
-use Rattle.std.specs.declared.num.ParseIntError.{ParseIntError}
 use Rattle.clap.specs.declared.error.kind.ErrorKind.TheVariants.{DisplayHelp, DisplayVersion}
 use Rattle.clap.specs.Kinds.{IsAmong}
 use Rattle.clap.specs.Walk.{Row, Text, all_of, first_of, one_of}
 use Rattle.clap.specs.Simple.{matches_of, subcommand_of}
-use Rattle.hwdb_cli.specs.Jobs.{IsJob, IsJobOf, IsLimit, IsTask}
+use Rattle.hwdb_cli.specs.Jobs.{IsJobOf, IsLimit, IsTask}
 use Rattle.hwdb_cli.specs.Line.{hwdb_app}
 use Rattle.hwdb_cli.specs.declared.job.Job.{Job}
 use Rattle.hwdb_cli.specs.declared.job.Task.{Task}
@@ -20,8 +18,8 @@ use Rattle.hwdb_spec.specs.Done.{IsAsked}
 use Rattle.hwdb_spec.specs.Databases.{IsSummary}
 use Rattle.hwdb_tool.specs.Queries.{AreAnswered}
 use Rattle.hwdb_print.specs.declared.form.Form.TheVariants as form
-use Rattle.hwdb_tool.specs.Program.{IsDone, IsJobDone, IsQuiet, IsTaskDone, root_of}
-use Rattle.hwdb_tool.specs.OneOutcome.{DoneIsNotTold, IsFunction, IsOneOutcome, JobsAreOne, TasksAreOne}
+use Rattle.hwdb_tool.specs.Program.{IsDone, IsQuiet, IsTaskDone, root_of}
+use Rattle.hwdb_tool.specs.OneOutcome.{DoneIsNotTold, JobsAreOne, TasksAreOne}
 
 one_value : (o : Option (List ℕ)) (a b : List ℕ) → Some a ≡ o → Some b ≡ o → a ≡ b
 one_value o a b one two = ap (λ (p : Option (List ℕ)). option_map_or (λ (x : List ℕ). x) p []) (one ∙ sym two)

@@ -8,7 +8,7 @@ use Rattle.std.specs.FinMap as finite
 use Rattle.std.specs.Io.KnownBytes.{Appends}
 use Rattle.std.specs.Option.{option_map_or}
 use Rattle.hwdb_spec.specs.Assignment.{Assignment}
-use Rattle.hwdb_spec.specs.Folders.{Source, Choice, FaultIn, all_assignments, chosen_of, contents, faults_of_files, file_assignments, file_faults, lists, path_of}
+use Rattle.hwdb_spec.specs.Folders.{Source, Choice, FaultIn, all_assignments, chosen_of, contents, faults_of_files, file_assignments, file_faults, path_of}
 use Rattle.hwdb_spec.specs.Format.{IsDatabase}
 use Rattle.hwdb_spec.specs.Lines.{byte}
 use Rattle.hwdb_spec.specs.Progress.{chosen_line, kept_line, listing, progress_text, update_text, within_64_bits}

@@ -1,5 +1,5 @@
 -- A folder's listing, in whatever order.
-use Rattle.std.proofs.Common.{◌≡◌, ℕ, zero, suc, ◌<◌, Bool, true, false, List, [], ◌∷◌, ◌++◌, refl, ap, ◌∙◌, sym, subst, cond, ◌||◌, inl, inr, length, map, arith, All, Contains, Option, Some, None, bytes_eq}
+use Rattle.std.proofs.Common.{◌≡◌, ℕ, zero, suc, ◌<◌, Bool, true, false, List, [], ◌∷◌, refl, ap, ◌∙◌, sym, cond, ◌||◌, inl, inr, length, map, arith, Contains, Option, Some}
 use Rattle.std.proofs.Math.Path.{fun_ext}
 use Rattle.std.proofs.lemmas.Bool.{cases_Bool}
 use Rattle.std.proofs.lemmas.List.Elements.{All-contains}
@@ -9,7 +9,7 @@ use Rattle.std.specs.Prelude.{count_by, ◌+◌, if◌then◌else◌}
 use Rattle.std.specs.Option.{option_map_or}
 use Rattle.std.specs.Ordering.{is_lt}
 use Rattle.hwdb_spec.specs.Assignment.{text_cmp}
-use Rattle.hwdb_spec.specs.Folders.{Source, Choice, choice, chosen_of, contents, counts, first_of, lists, names, same}
+use Rattle.hwdb_spec.specs.Folders.{Source, Choice, choice, counts, first_of, lists, names, same}
 use Rattle.hwdb_spec.specs.Store.{Contents, path_in}
 use Rattle.hwdb_spec.specs.System.{AreFilesIn, AreNamesIn, IsNameIn, bytes_at, etc_files, usr_files}
 use Rattle.hwdb_text.specs.Laws.{NamesAreThoseThatCount, NamesAscend, OneAscendingList}

@@ -1,17 +1,17 @@
 -- Each task is a function.
-use Rattle.std.proofs.Common.{◌≡◌, ◌∙◌, inl, inr, ap, refl, sym, subst, Bool, true, false, if◌then◌else◌, List, [], ◌∷◌, ◌++◌, map, length, ℕ, Option, Some, None, string_bytes, All}
+use Rattle.std.proofs.Common.{◌≡◌, ◌∙◌, inl, inr, ap, refl, sym, subst, Bool, true, false, if◌then◌else◌, List, [], ◌∷◌, ◌++◌, map, ℕ, Option, Some, None, string_bytes, All}
 use Rattle.std.specs.Prelude.{option_map}
 use Rattle.std.specs.Option.{option_map_or}
 use Rattle.std.specs.Io.KnownBytes.{Appends}
 use Rattle.hwdb_cli.specs.declared.job.Task.{Task}
 use Rattle.hwdb_cli.specs.declared.job.Task.TheVariants.{Ask, Check, Diff, Dump, Explain, List as ListHits, Query, Update, Verify}
-use Rattle.hwdb_spec.specs.Done.{AreAskTexts, IsAsked, IsUpdated}
+use Rattle.hwdb_spec.specs.Done.{AreAskTexts, IsUpdated}
 use Rattle.hwdb_spec.specs.Databases.{IsDiffText, IsDifferent, IsSummary, IsTextOf}
 use Rattle.hwdb_spec.specs.Assignment.{Position}
 use Rattle.hwdb_spec.specs.Checks.{check_status, check_text, empty_tally, tally_from}
 use Rattle.hwdb_spec.specs.Differences.{diff_text, differ}
 use Rattle.hwdb_spec.specs.Dump.{dump_text}
-use Rattle.hwdb_spec.specs.Folders.{Choice, Source, choice, faults_of_files, path_of}
+use Rattle.hwdb_spec.specs.Folders.{Choice, Source, choice, path_of}
 use Rattle.hwdb_spec.specs.Format.{IsDatabase}
 use Rattle.std.proofs.lemmas.List.{append-nil}
 use Rattle.std.proofs.lemmas.List.Elements.{All-head, All-tail}
@@ -20,7 +20,7 @@ use Rattle.hwdb_spec.specs.Hiding.{hiding_text}
 use Rattle.hwdb_spec.specs.Progress.{listing, update_text}
 use Rattle.hwdb_spec.specs.Store.{Contents, InPlace, Outcomes}
 use Rattle.hwdb_spec.specs.System.{asked_database, bytes_at, database_folder}
-use Rattle.hwdb_spec.specs.Texts.{devices_of, faults_text_at, query_text}
+use Rattle.hwdb_spec.specs.Texts.{devices_of, query_text}
 use Rattle.hwdb_spec.specs.Tree.{Map, Tree, map_of_files}
 use Rattle.hwdb_spec.specs.Written.{IsWritten}
 use Rattle.hwdb_query.specs.Laws.{SpellsOne}
@@ -28,7 +28,7 @@ use Rattle.hwdb_print.specs.declared.form.Form.{Form}
 use Rattle.hwdb_print.specs.declared.form.Form.TheVariants as forms
 use Rattle.hwdb_print.specs.Streams.{texts_of}
 use Rattle.hwdb_spec.specs.CheckedFiles.{AreCheckedFiles}
-use Rattle.hwdb_spec.specs.Asked.{IsCompared, IsAnswered, IsFrom, IsListFrom, list_form, IsPrinted, named_database}
+use Rattle.hwdb_spec.specs.Asked.{IsAnswered, IsFrom, IsListFrom, list_form, named_database}
 use Rattle.hwdb_spec.specs.LeftOut.{AreLeftOut, IsLeftOut, without, status_less}
 use Rattle.hwdb_fs.specs.LeftOut.{AreTold}
 use Rattle.hwdb_tool.specs.Readable.{IsUpdatedLess}

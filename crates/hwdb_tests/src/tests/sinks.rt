@@ -1,5 +1,5 @@
 //! Sinks that take a few bytes at a time, or none, or whose flush fails.
-ghost use Rattle.std.specs.Prelude.{Some, take};
+ghost use Rattle.std.specs.Prelude.{◌≡◌, true, Some, take};
 
 use crate::tests::calls::{ask, list, query};
 use crate::tests::compiling::compiled;
