@@ -7,6 +7,7 @@
 //! | `updates` | `update`; `progress`: what it says of its files; `hiding`: of a database that hides the new one |
 //! | `queries` | `query`, of the devices of the words or of standard input |
 //! | `answers` | `explain`, `list` and `ask` |
+//! | `input_devices` | `query -` and `explain -`: the devices that standard input names |
 //! | `checks` | `check` |
 //! | `differences` | `diff` |
 //! | `verification` | `verify`; `verdicts`: its words on bytes that are no database |
