@@ -1,5 +1,5 @@
 -- What `diff` leaves, and what it refuses. Our choice.
-use Rattle.std.specs.Prelude.{◌≡◌, ◌≢◌, ◌⊎◌, List, Option, ℕ}
+use Rattle.std.specs.Prelude.{◌≡◌, ◌≢◌, ◌⊎◌, ◌≤◌, List, Option, Some, length, ℕ}
 use Rattle.hwdb_inspect.specs.Diffs.{IsDiffRefusal}
 use Rattle.hwdb_inspect.specs.declared.errors.DiffError.{DiffError}
 use Rattle.hwdb_inspect.specs.declared.errors.DiffError.TheVariants.{Memory, New, Old, Write}
@@ -7,6 +7,8 @@ use Rattle.hwdb_spec.specs.Asked.{AreHeld}
 use Rattle.hwdb_spec.specs.Databases.{IsDiffText}
 use Rattle.hwdb_spec.specs.Outputs.{WrotePrefix}
 use Rattle.hwdb_spec.specs.Store.{Contents}
+use Rattle.hwdb_spec.specs.System.{bytes_at}
+use Rattle.hwdb_spec.specs.Texts.{max_file}
 use Rattle.hwdb_fs.specs.Refusals.{IsAt, IsUnread}
 use Rattle.hwdb_fs.specs.declared.refusals.Refusal.{Refusal}
 use Rattle.hwdb_fs.specs.declared.refusals.Refusal.TheVariants.{Plain}
@@ -30,8 +32,14 @@ pub record IsUncompared (old_path new_path : List ℕ) (contents : Contents) (re
   pub untouched : error ≢ Write → error ≢ Memory → out_now ≡ out_before
   pub cut_short : (out_now ≡ out_before) ⊎ WrotePrefix (IsDiffText old new) out_before out_now
 
--- `diff` is refused: one of the files can't be read, or they can't be compared
+-- what a path holds was read: it isn't longer than a file may be
+pub record WasRead (path : List ℕ) (contents : Contents) : Type 0 where
+  pub bytes : List ℕ
+  pub held : bytes_at contents path ≡ Some bytes
+  pub within : length bytes ≤ max_file
+
+-- `diff` is refused: the old file can't be read, or after it the new one, or they can't be compared
 abbrev pub IsDiffRefused : (old_path new_path : List ℕ) → Contents → Refusal → (out_before out_now : Option (List ℕ)) → Type 0
 IsDiffRefused old_path new_path contents refusal out_before out_now =
-    ((IsUnread old_path refusal ⊎ IsUnread new_path refusal) × (out_now ≡ out_before))
+    ((IsUnread old_path refusal ⊎ (WasRead old_path contents × IsUnread new_path refusal)) × (out_now ≡ out_before))
     ⊎ IsUncompared old_path new_path contents refusal out_before out_now
