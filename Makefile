@@ -125,7 +125,7 @@ check-survivors:
 	tests/proofs/unproved --judge
 	tests/proofs/caught $(EDITS)
 
-check-peer: all
+check-peer: $(PROGRAM) out/libhwdb.so.0
 	tests/peer/peer out/hwdb
 	tests/peer/users out/hwdb
 	tests/peer/clients out/hwdb
