@@ -12,10 +12,12 @@ def lines_of(crate):
         lines = {line.split(":")[0].split()[0]: line for line in file if ":" in line}
     if crate not in lines:
         raise SystemExit(f"no {crate} in crates.txt")
-    below = {crate}
-    for name in reversed(lines):
-        if name in below:
-            below.update(word for word in lines[name].split(":")[1].split() if word in lines)
+    below, open_ = set(), [crate]
+    while open_:
+        name = open_.pop()
+        if name not in below:
+            below.add(name)
+            open_ += [word for word in lines[name].split(":")[1].split() if word in lines]
     return {name: line for name, line in lines.items() if name in below}
 
 
