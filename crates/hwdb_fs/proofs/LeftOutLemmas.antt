@@ -15,14 +15,14 @@ use Rattle.hwdb_text.specs.declared.choice.Chosen.{Chosen}
 use Rattle.hwdb_fs.specs.Internal.{AreNamed, AreSelected, IsPartOf}
 use Rattle.hwdb_fs.specs.LeftOut.{AreFound, AreSelectedLess, AreTold, AreToldOf, AreUnreadLess, IsNoted, IsNotedOf, left_out_line}
 use Rattle.hwdb_spec.specs.LeftOut.{AreLeftOut, IsLeftOut, is_named, less}
-use Rattle.hwdb_fs.specs.Reading.{AreUnread, IsChosenUnread}
+use Rattle.hwdb_fs.specs.Reading.{AreUnread, AreUnreadIn, IsChosenUnread}
 use Rattle.hwdb_fs.specs.Refusals.{HasReason, IsUnread, IsUnreadable, file_text}
 use Rattle.hwdb_fs.specs.declared.refusals.Refusal.{Refusal}
 use Rattle.hwdb_fs.specs.declared.refusals.Refusal.TheVariants.{At, InWords, NoDatabase, Plain}
 use Rattle.hwdb_transfer.specs.declared.errors.ToolError.TheVariants.{Read, Write, TooLong, TooManyFiles, TooManyLines, TooLarge, BadPosition, BadDatabase, Replace, Memory}
 use Rattle.hwdb_fs.proofs.NameLemmas.{contains_filter, same_itself, same_name}
 use Rattle.hwdb_fs.proofs.ReasonLemmas.{chosen_fails, chosen_reason}
-use Rattle.hwdb_fs.proofs.SelectionLemmas.{chosen_unread}
+use Rattle.hwdb_fs.proofs.SelectionLemmas.{any_unread, chosen_unread}
 
 -- ---- what is left is a part
 abbrev bytes_of : Stored → List ℕ
@@ -281,11 +281,15 @@ whole_selected skip MayFail root contents usr chosen texts selected = record {
   selected = selected;
 }
 
-pub whole_unread : (skip : Bool) (MayFail : List ℕ → Type 0) (root : List ℕ) (contents : Contents) (refusal : Refusal) → AreUnread root contents refusal → AreUnreadLess skip MayFail root contents refusal
+pub whole_unread : (skip : Bool) (MayFail : List ℕ → Type 0) (root : List ℕ) (contents : Contents) (refusal : Refusal) → AreUnreadIn skip root contents refusal → AreUnreadLess skip MayFail root contents refusal
 whole_unread skip MayFail root contents refusal unread = ([], none_left_out skip MayFail root contents, unread)
 
 pub less_unread : (MayFail : List ℕ → Type 0) (root : List ℕ) (contents : Contents) (names names2 : List (List ℕ)) (said : List ℕ) (refusal : Refusal)
     → AreFound MayFail root contents names said → names2 ≡ names
     → AreUnread root (less names2 root contents) refusal → AreUnreadLess true MayFail root contents refusal
-less_unread MayFail root contents names names2 said refusal found same unread =
-    (found.left_out, found.are, subst (λ (l : List (List ℕ)). AreUnread root (less l root contents) refusal) (same ∙ sym found.named) unread)
+less_unread MayFail root contents names names2 said refusal found same unread = (
+  found.left_out,
+  found.are,
+  any_unread true root (less (map (λ (c : Choice). c.name) found.left_out) root contents) refusal
+      (subst (λ (l : List (List ℕ)). AreUnread root (less l root contents) refusal) (same ∙ sym found.named) unread),
+)

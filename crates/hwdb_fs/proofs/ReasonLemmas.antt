@@ -1,14 +1,15 @@
 -- What a refusal says of a path is so.
-use Rattle.std.proofs.Common.{◌≡◌, ◌⊎◌, ◌∙◌, ◌++◌, inl, inr, ap, refl, sym, subst, ℕ, List, [], ◌∷◌, map, Bool, true, false, All, if◌then◌else◌, append_assoc}
+use Rattle.std.proofs.Common.{get_or, length, ◌≡◌, ◌⊎◌, ◌∙◌, ◌++◌, inl, inr, ap, refl, sym, subst, ℕ, List, [], ◌∷◌, map, Bool, true, false, All, if◌then◌else◌, append_assoc}
+use Rattle.std.proofs.Math.Seq.{take-append_seam}
 use Rattle.std.specs.Prelude.{Contains, codes, is_some}
-use Rattle.std.proofs.lemmas.List.Elements.{All-contains, All-head, All-tail}
+use Rattle.std.proofs.lemmas.List.Elements.{All-contains, All-head, All-tail, All-take}
 use Rattle.hwdb_spec.specs.Folders.{Choice, path_of}
 use Rattle.hwdb_spec.specs.Store.{Contents}
 use Rattle.hwdb_spec.specs.System.{AreNamesIn, IsNameIn, bytes_at, etc_files, usr_files}
 use Rattle.hwdb_text.specs.Views.{IsListed}
 use Rattle.hwdb_transfer.specs.declared.errors.ToolError.TheVariants.{Read, Write, TooLong, TooManyFiles, TooManyLines, TooLarge, BadPosition, BadDatabase, Replace, Memory}
 use Rattle.hwdb_fs.specs.Internal.{AreNamed, IsPartOf}
-use Rattle.hwdb_fs.specs.Reading.{IsChosenUnread}
+use Rattle.hwdb_fs.specs.Reading.{IsChosenUnread, IsFirstUnread, IsText}
 use Rattle.hwdb_fs.specs.Refusals.{HasReason, IsUnread, IsUnreadable}
 use Rattle.hwdb_fs.specs.declared.refusals.Refusal.{Refusal}
 use Rattle.hwdb_fs.specs.declared.refusals.Refusal.TheVariants.{At, InWords, NoDatabase, Plain}
@@ -67,6 +68,30 @@ texts_in_part root all files etc usr (c ∷ chosen) named listed =
     ap (λ o. o ∷ map (λ (x : Choice). bytes_at all (root ++ path_of x)) chosen)
     (sym (named.part (root ++ path_of c) (there_at root files etc usr c.from_etc c.name named.in_etc named.in_usr (All-head (IsListed etc usr) c chosen listed))))
     ∙ ap (λ l. bytes_at files (root ++ path_of c) ∷ l) (texts_in_part root all files etc usr chosen named (All-tail (IsListed etc usr) c chosen listed))
+
+-- and so is the first of them that can't be read
+text_in_part : (root : List ℕ) (all files : Contents) (etc usr : List (List ℕ)) (c : Choice) → AreNamed root all files etc usr → IsListed etc usr c
+    → IsText all (root ++ path_of c) → IsText files (root ++ path_of c)
+text_in_part root all files etc usr c named listed text = record {
+  bytes = text.bytes;
+  there = named.part (root ++ path_of c) (there_at root files etc usr c.from_etc c.name named.in_etc named.in_usr listed) ∙ text.there;
+  within = text.within;
+}
+
+pub first_in_part : (root : List ℕ) (all files : Contents) (etc usr : List (List ℕ)) (chosen : List Choice) (refusal : Refusal) → AreNamed root all files etc usr → All (IsListed etc usr) chosen
+    → IsFirstUnread root all chosen refusal → IsFirstUnread root files chosen refusal
+first_in_part root all files etc usr chosen refusal named listed unread =
+    let whole = subst (All (IsListed etc usr)) unread.are listed in
+    let before = subst (All (IsListed etc usr)) (take-append_seam unread.before (unread.first ∷ unread.after))
+    (All-take (IsListed etc usr) (length unread.before) (unread.before ++ unread.first ∷ unread.after) whole) in
+    record {
+      before = unread.before;
+      first = unread.first;
+      after = unread.after;
+      are = unread.are;
+      read = λ k d lt. text_in_part root all files etc usr (get_or unread.before k d) named (before k d lt) (unread.read k d lt);
+      unread = unread.unread;
+    }
 
 -- one of the chosen that can't be read
 pub chosen_fails : (MayFail : List ℕ → Type 0) (root : List ℕ) (contents : Contents) (etc usr : List (List ℕ)) (c : Choice)

@@ -6,7 +6,7 @@ use Rattle.hwdb_spec.specs.Folders.{Choice, path_of}
 use Rattle.hwdb_spec.specs.LeftOut.{AreLeftOut, without}
 use Rattle.hwdb_spec.specs.Store.{Contents}
 use Rattle.hwdb_fs.specs.Internal.{AreSelected}
-use Rattle.hwdb_fs.specs.Reading.{AreUnread}
+use Rattle.hwdb_fs.specs.Reading.{AreUnreadIn}
 use Rattle.hwdb_fs.specs.Refusals.{path_text, refusal_line}
 use Rattle.hwdb_fs.specs.declared.refusals.Refusal.{Refusal}
 use Rattle.hwdb_fs.specs.declared.refusals.Refusal.TheVariants.{At}
@@ -31,7 +31,7 @@ pub record AreSelectedLess (skip : Bool) (MayFail : (path : List ℕ) → Type 0
 -- reading the files that are left is refused
 abbrev pub AreUnreadLess : (skip : Bool) (MayFail : (path : List ℕ) → Type 0) (root : List ℕ) → Contents → Refusal → Type 0
 AreUnreadLess skip MayFail root contents refusal =
-    (left_out : List Choice) × AreLeftOut skip MayFail root contents left_out × AreUnread root (without left_out root contents) refusal
+    (left_out : List Choice) × AreLeftOut skip MayFail root contents left_out × AreUnreadIn skip root (without left_out root contents) refusal
 
 -- ---- steps
 -- some names, the files that have them among the chosen ones, none of which can be read, and what is said of these

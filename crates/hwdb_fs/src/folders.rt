@@ -1,13 +1,14 @@
 //! The text files of both folders, chosen and read.
-ghost use Rattle.std.specs.Prelude.{◌≡◌, ◌≢◌, ◌⊎◌, ◌++◌, Some, All, map, string_bytes, IfOk, IfErr, length};
+ghost use Rattle.std.specs.Prelude.{◌≡◌, ◌≢◌, ◌≤◌, ◌⊎◌, ◌++◌, Some, All, map, string_bytes, IfOk, IfErr, length, vec_len};
 ghost use Rattle.hwdb_spec.specs.Folders.{path_of};
 ghost use Rattle.hwdb_spec.specs.System.{AreNamesIn, bytes_at};
+ghost use Rattle.hwdb_spec.specs.Texts.{max_file};
 ghost use Rattle.hwdb_text.specs.Views.{IsStorableChoice, choice_of};
 ghost use Rattle.hwdb_compile.specs.Views.{bytes_in, choice_in};
 ghost use Rattle.hwdb_spec.specs.Store.{Contents};
 ghost use Rattle.hwdb_fs.specs.Internal.{AreNamed, AreSelected, AreTexts};
 ghost use Rattle.hwdb_fs.specs.Refusals.{HasReason, IsUnlisted, IsUnread, IsUnreadable};
-ghost use Rattle.hwdb_fs.specs.Reading.{AreUnread, IsChosenUnread};
+ghost use Rattle.hwdb_fs.specs.Reading.{AreUnread, IsChosenUnread, IsFirstUnread};
 ghost use Rattle.hwdb_fs.specs.declared.refusals.Refusal.TheVariants.{Plain};
 
 use crate::files::joined;
@@ -66,7 +67,7 @@ pub fn selected_of<D: System>(
     ensures refused { (files : Contents)
         → AreNamed root.now (D.Store.seen system.now) files
         (map string_bytes etc.now) (map string_bytes usr.items)
-        → IfErr result (AreUnread root.now files) }
+        → D.Store.tells → IfErr result (AreUnread root.now files) }
     ensures reason { (files : Contents)
         → AreNamed root.now (D.Store.seen system.now) files
         (map string_bytes etc.now) (map string_bytes usr.items)
@@ -109,6 +110,7 @@ pub fn read_file<D: System>(
 ) -> Result<Vec<u8>, Refusal>
     ensures read { D.Store.tells → IfOk result (λ bytes. bytes_at (D.Store.seen system.now)
         (root.now ++ path_of (choice_of file.now)) ≡ Some bytes.items) }
+    ensures within { IfOk result (λ bytes. vec_len bytes ≤ max_file) }
     ensures refused { IfErr result (IsUnread (root.now ++ path_of (choice_of file.now))) }
     ensures reason { IfErr result (HasReason
         (IsUnreadable (D.System.may_fail system.now) (D.Store.seen system.now)) ⊥
@@ -132,6 +134,8 @@ fn read_chosen<D: System>(
         (map choice_of chosen.now) (map (λ t. t.items) texts.items)) }
     ensures refused { IfErr result (λ r. (r ≡ Plain ToolError.Memory)
         ⊎ IsChosenUnread root.now (map choice_of chosen.now) r) }
+    ensures first { D.Store.tells → IfErr result (λ r. (r ≡ Plain ToolError.Memory)
+        ⊎ IsFirstUnread root.now (D.Store.seen system.now) (map choice_of chosen.now) r) }
     ensures reason { IfErr result (HasReason
         (IsUnreadable (D.System.may_fail system.now) (D.Store.seen system.now)) ⊥
         (D.Store.seen system.now)) }

@@ -5,7 +5,7 @@ ghost use Rattle.hwdb_text.specs.Views.{IsStorableChoice, choice_of};
 ghost use Rattle.hwdb_fs.specs.Internal.{AreNamed, AreSelected, IsNameSet};
 ghost use Rattle.hwdb_fs.specs.LeftOut.{AreFound, AreSelectedLess, AreToldOf, AreUnreadLess, IsNoted, IsNotedOf, left_out_line};
 ghost use Rattle.hwdb_spec.specs.LeftOut.{less};
-ghost use Rattle.hwdb_fs.specs.Reading.{AreUnread, IsChosenUnread};
+ghost use Rattle.hwdb_fs.specs.Reading.{AreUnread, AreUnreadIn, IsChosenUnread};
 ghost use Rattle.hwdb_fs.specs.Refusals.{HasReason, IsUnreadable, file_text};
 ghost use Rattle.hwdb_fs.specs.declared.refusals.Refusal.TheVariants.{Plain};
 
@@ -186,7 +186,7 @@ fn unreadable_of<D: System>(
         (D.Store.seen system.now) (map string_bytes u.names.items) u.said.items) }
     ensures refused { AreNamed root.now (D.Store.seen system.now) (D.Store.seen system.now)
         (map string_bytes etc.now) (map string_bytes usr.now)
-        → IfErr result (AreUnread root.now (D.Store.seen system.now)) }
+        → IfErr result (AreUnreadIn true root.now (D.Store.seen system.now)) }
     ensures reason { AreNamed root.now (D.Store.seen system.now) (D.Store.seen system.now)
         (map string_bytes etc.now) (map string_bytes usr.now)
         → IfErr result (HasReason (D.System.may_fail system.now) ⊥ (D.Store.seen system.now)) }
@@ -214,7 +214,8 @@ fn selected_but<D: System>(
         (map string_bytes s.listed.items) (map choice_of s.chosen.items)
         (map (λ t. t.items) s.texts.items)) }
     ensures refused { AreNamed root.now (D.Store.seen system.now) (D.Store.seen system.now)
-        (map string_bytes etc.now) (map string_bytes usr.now) → IfErr result (AreUnread root.now
+        (map string_bytes etc.now) (map string_bytes usr.now)
+        → D.Store.tells → IfErr result (AreUnread root.now
         (less (map string_bytes names.now) root.now (D.Store.seen system.now))) }
     ensures reason { AreNamed root.now (D.Store.seen system.now) (D.Store.seen system.now)
         (map string_bytes etc.now) (map string_bytes usr.now)

@@ -5,6 +5,7 @@
 //! | `system` | what the program asks of a file system; `rooted`: of one that may go below a root |
 //! | `folders` | the text files of both folders, chosen and read |
 //! | `left_out` | chosen text files that can't be read, and are left out |
+//! | `laws` | which of the chosen files an error names
 //! | `files` | files and folders: the file system that the runtime reaches |
 //! | `parts` | new files of updates: whose they are, and what killed updates left |
 //! | `roots` | where a path below a root leads; `place` is such a place |
@@ -14,6 +15,7 @@
 
 mod files;
 mod folders;
+mod laws;
 mod left_out;
 mod memory;
 mod parts;
@@ -25,6 +27,7 @@ mod system;
 
 pub use files::{SystemStore, joined, path_in};
 pub use folders::{Selection, selected, with_texts};
+pub use laws::first_long_file_is_named;
 pub use left_out::{ReadableSelection, name_set, selected_readable};
 pub use parts::Lockable;
 pub use refusals::{Refusal, refuse_for, refuse_memory, remedy};

@@ -77,6 +77,10 @@ pub record Progress : Type 0 where
   pub entered : ℕ
   pub live : ℕ
 
+-- before its first filling, if these are its answers and that many nodes have a live path
+abbrev pub fresh : (to_come : List Assignment) (page live : ℕ) → Progress
+fresh to_come page live = record { to_come = to_come; held = 0; page = page; ended = false; entered = 0; live = live }
+
 -- whether `next` fills a page: no hit is held, and the end wasn't answered
 abbrev pub fills : Progress → Bool
 fills p = if p.held == 0 then not p.ended else false

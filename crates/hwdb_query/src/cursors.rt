@@ -11,7 +11,7 @@
 ghost use Rattle.std.specs.Prelude.{◌≡◌, ◌<◌, ◌≤◌, ◌+◌, ◌⊎◌, ◌↔◌, ℕ, List, [], ◌∷◌, length, reverse, min, IfOk, IfSome, IsSome, IsOk, OnOk, OnErr, OnSome, IfErr, Option, Some, None, true, false, option_map, option_copied};
 ghost use Rattle.hwdb_reader.specs.Views.{tree_of};
 ghost use Rattle.hwdb_spec.specs.Tree.{answers_after, live_nodes};
-ghost use Rattle.hwdb_query.specs.Views.{after_next, assignment_of_hit, position_value, next_position, given_position, still_to_come, Progress, Gives};
+ghost use Rattle.hwdb_query.specs.Views.{after_next, assignment_of_hit, fresh, position_value, next_position, given_position, still_to_come, Progress, Gives};
 
 use crate::hit::{Hit, Parts};
 use crate::hit_page::HitPage;
@@ -62,14 +62,9 @@ impl<'a, 'd> Cursor<'a, 'd> {
         page: usize,
     ) -> Cursor<'a, 'd>
         requires { 0 < page }
-        ensures { result ≡ record {
-          to_come = answers_after device.entry.now (next_position after) (tree_of root.entry);
-          held = 0;
-          page = page;
-          ended = false;
-          entered = 0;
-          live = live_nodes device.entry.now (tree_of root.entry);
-        } }
+        ensures { result
+            ≡ fresh (answers_after device.entry.now (next_position after) (tree_of root.entry)) page
+            (live_nodes device.entry.now (tree_of root.entry)) }
     {
         Cursor {
             alloc,

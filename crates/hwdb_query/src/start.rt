@@ -1,10 +1,10 @@
 //! The start of a cursor.
-ghost use Rattle.std.specs.Prelude.{◌≡◌, ◌<◌, List, IfOk, IfErr, false};
+ghost use Rattle.std.specs.Prelude.{◌≡◌, ◌<◌, List, IfOk, IfErr};
 ghost use Rattle.hwdb_spec.specs.Tree.{answers_after, IsTreeOfFiles, live_nodes};
 ghost use Rattle.hwdb_spec.specs.Folders.{Source, all_assignments};
 ghost use Rattle.hwdb_spec.specs.Answers.{last_assignments};
 ghost use Rattle.hwdb_spec.specs.Last.{AreLast};
-ghost use Rattle.hwdb_query.specs.Views.{given_position, Progress};
+ghost use Rattle.hwdb_query.specs.Views.{fresh, given_position};
 ghost use Rattle.hwdb_query.specs.declared.errors.CursorError.TheVariants.{PageZero};
 
 use crate::cursors::Cursor;
@@ -25,14 +25,9 @@ pub fn paged_cursor<'a, 'd>(
     page: usize,
 ) -> Result<Cursor<'a, 'd>, AllocError>
     requires { 0 < page }
-    ensures begins { IfOk result (λ c. c ≡ record {
-      to_come = answers_after device.now (given_position after.entry) db.now;
-      held = 0;
-      page = page;
-      ended = false;
-      entered = 0;
-      live = live_nodes device.now db.now;
-    }) }
+    ensures begins { IfOk result (λ c. c ≡ fresh
+        (answers_after device.now (given_position after.entry) db.now) page
+        (live_nodes device.now db.now)) }
     ensures headline { IfOk result
         (λ c. (etc usr : List Source) → IsTreeOfFiles etc usr db.now
         → AreLast device.now (given_position after.entry) (all_assignments etc usr) c.to_come) }
@@ -65,14 +60,9 @@ pub fn cursor<'a, 'd>(
     after: Option<&Position>,
     page: usize,
 ) -> Result<Cursor<'a, 'd>, CursorError>
-    ensures begins { IfOk result (λ c. c ≡ record {
-      to_come = answers_after device.now (given_position after.entry) db.now;
-      held = 0;
-      page = page;
-      ended = false;
-      entered = 0;
-      live = live_nodes device.now db.now;
-    }) }
+    ensures begins { IfOk result (λ c. c ≡ fresh
+        (answers_after device.now (given_position after.entry) db.now) page
+        (live_nodes device.now db.now)) }
     ensures headline { IfOk result
         (λ c. (etc usr : List Source) → IsTreeOfFiles etc usr db.now
         → AreLast device.now (given_position after.entry) (all_assignments etc usr) c.to_come) }

@@ -6,7 +6,7 @@ ghost use Rattle.hwdb_spec.specs.Written.{padding, text_size, node_text, value_t
 ghost use Rattle.hwdb_writer.specs.declared.entries.Entry.{Entry};
 ghost use Rattle.hwdb_writer.specs.declared.nodes.Node.{Node};
 ghost use Rattle.hwdb_writer.specs.Internal.PostOrder.{IsPostOrder, tree_of};
-ghost use Rattle.hwdb_writer.specs.Internal.Stored.{IsUnder, IsAt, AreNodes, AreValues, AreRecords};
+ghost use Rattle.hwdb_writer.specs.Internal.Stored.{IsUnder, IsAt, AreNodes, AreValues, AreRecords, record_text};
 
 use crate::stored::{StoredNode, StoredValue};
 use byteorder::{ByteOrder, LittleEndian};
@@ -157,10 +157,9 @@ fn push_record(
     ensures record { OnOk result ((place : List ℕ → ℕ) (xs : List Value)
         → AreValues (IsAt place places.now) values.now xs
         → out.new.items ≡ out.old.items
-        ++ (little_bytes 8 (slice_index_or places.now node.now.prefix 0)
-        ++ node.now.children ∷ padding 7 ++ little_bytes 8 (length values.now)
-        ++ drop (length children.old.items - 16 * node.now.children) children.old.items
-        ++ flat_map (value_text place) xs)) }
+        ++ record_text place (slice_index_or places.now node.now.prefix 0) node.now.children
+        (length values.now)
+        (drop (length children.old.items - 16 * node.now.children) children.old.items) xs) }
     ensures entry { OnOk result (children.new.items
         ≡ take (length children.old.items - 16 * node.now.children) children.old.items
         ++ (node.now.byte ∷ padding 7 ++ little_bytes 8 (length out.old.items))) }

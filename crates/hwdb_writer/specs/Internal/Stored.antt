@@ -1,9 +1,10 @@
 -- Nodes and values with strings by number, and which nodes and values these are.
-use Rattle.std.specs.Prelude.{List, [], ℕ, ◌+◌, ◌^◌, ◌<◌, ◌≡◌, length, flat_map, slice_index_or}
+use Rattle.std.specs.Prelude.{List, [], ℕ, ◌+◌, ◌++◌, ◌∷◌, ◌^◌, ◌<◌, ◌≡◌, length, flat_map, slice_index_or}
+use Rattle.byteorder.specs.Endian.{little_bytes}
 use Rattle.std.specs.List.{AllZip}
 use Rattle.hwdb_spec.specs.Assignment.{ascending}
 use Rattle.hwdb_spec.specs.Tree.{Map, Tree, Value, map_of}
-use Rattle.hwdb_spec.specs.Written.{table_of, text_size, section_of, place_of}
+use Rattle.hwdb_spec.specs.Written.{padding, table_of, text_size, section_of, place_of, value_text}
 use Rattle.hwdb_writer.specs.Internal.Narrow.{IsNarrow}
 use Rattle.hwdb_writer.specs.Internal.PostOrder.{IsPostOrder, tree_of, values_at}
 use Rattle.hwdb_writer.specs.Internal.Storable.{IsSound}
@@ -65,6 +66,11 @@ pub record AreRecords (place : List ℕ → ℕ) (places : List ℕ) (es : List 
   pub narrow : IsNarrow (tree_of es ns)
   pub nodes : AreNodes (IsAt place places) ss ns
   pub values : AreValues (IsAt place places) vs (all_values es ns)
+
+-- the record of a node: the place of its prefix, how many children and values it has, its child entries, and its values
+abbrev pub record_text : (place : List ℕ → ℕ) (prefix children values : ℕ) (entries : List ℕ) → List Value → List ℕ
+record_text place prefix children values entries xs =
+    little_bytes 8 prefix ++ children ∷ padding 7 ++ little_bytes 8 values ++ entries ++ flat_map (value_text place) xs
 
 -- what a database is made of
 pub record IsLaidOut (es : List Entry) (ns : List Node) (ss : List StoredNode) (vs : List StoredValue) (words : List (List ℕ)) (places : List ℕ) (size section : ℕ) : Type 0 where

@@ -11,7 +11,7 @@ pub returns-clause-refused : goal.returns-clause-refused
 returns-clause-refused g c = λ tells.
     let seen = g.D.Store.seen c.args.system.now in
     c.selected_of.ensures.refused seen
-    (all_named c.args.root.now seen _ _ _ c.deref.ensures.value (c.in_ok-etc_names.ensures.names tells) (c.in_ok-usr_names.ensures.names tells))
+    (all_named c.args.root.now seen _ _ _ c.deref.ensures.value (c.in_ok-etc_names.ensures.names tells) (c.in_ok-usr_names.ensures.names tells)) tells
 
 pub returns-clause-reason : goal.returns-clause-reason
 returns-clause-reason g c = λ tells.

@@ -1,27 +1,34 @@
-use Rattle.std.proofs.Common.{◌≡◌, ◌≤◌, All, length, map, string_bytes, ◌∙◌, ap, sym, subst, Err}
+use Rattle.std.proofs.Common.{⊎_elim, inl, inr, ◌≡◌, ◌≤◌, All, length, map, string_bytes, ◌∙◌, ap, sym, subst, Err}
 use Rattle.hwdb_text.specs.Views.{IsListed, choice_of}
 use Rattle.hwdb_spec.specs.Folders.{choice, max_files, names}
 use Rattle.hwdb_spec.specs.System.{usr_files, AreNamesIn}
 use Rattle.hwdb_fs.specs.Internal.{AreNamed, AreTexts}
-use Rattle.hwdb_fs.specs.Reading.{AreUnread}
+use Rattle.hwdb_fs.specs.Reading.{AreUnread, IsFirstUnread}
 use Rattle.hwdb_fs.specs.Refusals.{HasReason}
-use Rattle.hwdb_fs.proofs.ReasonLemmas.{chosen_reason, texts_in_part}
+use Rattle.hwdb_fs.proofs.ReasonLemmas.{chosen_reason, first_in_part, texts_in_part}
 use Rattle.hwdb_fs.proofs.SelectionLemmas.{choice_refused, given_error, texts_refused}
 use Rattle.hwdb_fs.proofs.folders.selected_of.Goals as goal
 
 pub returns-in_err-chosen-clause-refused : goal.returns-in_err-chosen-clause-refused
-returns-in_err-chosen-clause-refused g c = λ files named.
+returns-in_err-chosen-clause-refused g c = λ files named tells.
     given_error _ (AreUnread c.args.root.now files) c.from_residual.result c.from_residual.ensures.1
-    (choice_refused c.args.root.now files _ _ c.in_err-chosen.field-0.0 named.in_etc
+    (choice_refused (IsFirstUnread c.args.root.now files) c.args.root.now files _ _ c.in_err-chosen.field-0.0 named.in_etc
     (subst (λ l. AreNamesIn (usr_files c.args.root.now) files (map string_bytes l)) (sym c.deref.ensures.value) named.in_usr)
     (λ is. c.in_err-chosen.ensures.too_many (ap Err is)))
 
 pub returns-in_err-texts-clause-refused : goal.returns-in_err-texts-clause-refused
-returns-in_err-texts-clause-refused g c = λ files named.
-    given_error _ (AreUnread c.args.root.now files) c.from_residual-in_err-texts.result c.from_residual-in_err-texts.ensures.1
-    (texts_refused c.args.root.now files _ _ (map choice_of c.deref-2.result.now) c.in_err-texts.field-0.0 named.in_etc
-    (subst (λ l. AreNamesIn (usr_files c.args.root.now) files (map string_bytes l)) (sym c.deref.ensures.value) named.in_usr)
-    (ap (map choice_of) c.deref-2.ensures.value ∙ c.in_ok-chosen.ensures.chosen) c.in_err-texts.ensures.refused)
+returns-in_err-texts-clause-refused g c = λ files named tells.
+    let root = c.args.root.now in
+    let seen = g.D.Store.seen c.args.system.now in
+    let etc = map string_bytes c.args.etc.now in
+    let usr = map string_bytes c.deref.result.now in
+    let chosen = map choice_of c.deref-2.result.now in
+    let all_named = subst (λ l. AreNamed root seen files etc (map string_bytes l)) (sym c.deref.ensures.value) named in
+    let listed = subst (λ l. All (IsListed etc usr) (map choice_of l)) (sym c.deref-2.ensures.value) c.in_ok-chosen.ensures.listed in
+    given_error _ (AreUnread root files) c.from_residual-in_err-texts.result c.from_residual-in_err-texts.ensures.1
+    (texts_refused (IsFirstUnread root files) root files _ _ chosen c.in_err-texts.field-0.0 named.in_etc all_named.in_usr
+    (ap (map choice_of) c.deref-2.ensures.value ∙ c.in_ok-chosen.ensures.chosen) c.in_ok-chosen.ensures.few
+    (⊎_elim inl (λ first. inr (first_in_part root seen files etc usr chosen c.in_err-texts.field-0.0 all_named listed first)) (c.in_err-texts.ensures.first tells)))
 
 pub returns-in_err-texts-clause-reason : goal.returns-in_err-texts-clause-reason
 returns-in_err-texts-clause-reason g c = λ files named.

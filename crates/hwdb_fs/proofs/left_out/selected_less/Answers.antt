@@ -32,7 +32,7 @@ returns-in_err-selection-clause-refused g c = λ tells.
     (less_unread fails root seen _ _ _ c.in_err-selection.field-0.0
     (c.in_ok-found.ensures.found (both_named root seen _ _ _ _ c.deref.ensures.value c.deref-2.ensures.value in_etc in_usr))
     (ap (map string_bytes) c.deref-5.ensures.value)
-    (c.in_err-selection.ensures.refused (both_named root seen _ _ _ _ c.deref-3.ensures.value c.deref-4.ensures.value in_etc in_usr)))
+    (c.in_err-selection.ensures.refused (both_named root seen _ _ _ _ c.deref-3.ensures.value c.deref-4.ensures.value in_etc in_usr) tells))
 
 pub returns-in_err-selection-clause-reason : goal.returns-in_err-selection-clause-reason
 returns-in_err-selection-clause-reason g c = λ tells.

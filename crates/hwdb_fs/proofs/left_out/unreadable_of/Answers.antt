@@ -1,6 +1,6 @@
-use Rattle.std.proofs.Common.{◌∙◌, All, Err, ap, map, string_bytes, subst, sym}
+use Rattle.std.proofs.Common.{◌∙◌, All, Err, ap, map, string_bytes, subst, sym, true}
 use Rattle.hwdb_text.specs.Views.{IsListed, choice_of}
-use Rattle.hwdb_fs.specs.Reading.{AreUnread}
+use Rattle.hwdb_fs.specs.Reading.{AreUnreadIn, IsChosenUnread}
 use Rattle.hwdb_fs.proofs.LeftOutLemmas.{are_found, chosen_reason_of}
 use Rattle.hwdb_fs.proofs.SelectionLemmas.{choice_refused, each_error, each_value, given_error, texts_refused}
 use Rattle.hwdb_fs.proofs.left_out.unreadable_of.Goals as goal
@@ -8,15 +8,15 @@ use Rattle.hwdb_fs.proofs.left_out.unreadable_of.Goals as goal
 pub returns-in_err-chosen-clause-refused : goal.returns-in_err-chosen-clause-refused
 returns-in_err-chosen-clause-refused g c = λ named.
     let seen = g.D.Store.seen c.args.system.now in
-    given_error _ (AreUnread c.args.root.now seen) c.from_residual.result c.from_residual.ensures.1
-    (choice_refused c.args.root.now seen _ _ c.in_err-chosen.field-0.0 named.in_etc named.in_usr (λ is. c.in_err-chosen.ensures.too_many (ap Err is)))
+    given_error _ (AreUnreadIn true c.args.root.now seen) c.from_residual.result c.from_residual.ensures.1
+    (choice_refused (IsChosenUnread c.args.root.now) c.args.root.now seen _ _ c.in_err-chosen.field-0.0 named.in_etc named.in_usr (λ is. c.in_err-chosen.ensures.too_many (ap Err is)))
 
 pub returns-clause-refused : goal.returns-clause-refused
 returns-clause-refused g c = λ named.
     let seen = g.D.Store.seen c.args.system.now in
-    each_error _ (AreUnread c.args.root.now seen) c.find_unreadable.result
-    (λ r unread. texts_refused c.args.root.now seen _ _ (map choice_of c.deref.result.now) r named.in_etc named.in_usr
-    (ap (map choice_of) c.deref.ensures.value ∙ c.in_ok-chosen.ensures.chosen) unread) c.find_unreadable.ensures.refused
+    each_error _ (AreUnreadIn true c.args.root.now seen) c.find_unreadable.result
+    (λ r unread. texts_refused (IsChosenUnread c.args.root.now) c.args.root.now seen _ _ (map choice_of c.deref.result.now) r named.in_etc named.in_usr
+    (ap (map choice_of) c.deref.ensures.value ∙ c.in_ok-chosen.ensures.chosen) c.in_ok-chosen.ensures.few unread) c.find_unreadable.ensures.refused
 
 pub returns-clause-reason : goal.returns-clause-reason
 returns-clause-reason g c = λ named.
