@@ -2,5 +2,6 @@ pub mod ClearingLemmas
 pub mod MakingLemmas
 pub mod MomentLemmas
 pub mod ReplacementLemmas
+pub mod SharingLemmas
 pub mod StepLemmas
 pub mod TearingLemmas

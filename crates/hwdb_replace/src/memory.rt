@@ -396,6 +396,15 @@ impl Memory {
 impl Store for Memory {
     ghost tells = { Unit {0} };
 
+    ghost tells_own = { Unit {0} };
+
+    // Nobody else is there.
+    ghost theirs = { λ _ _. ⊥ };
+
+    ghost is_own = { λ m p. m.part.items ≡ p };
+
+    ghost tells_more = { λ tells. tells };
+
     ghost tears = { Unit {0} };
 
     ghost seen = { λ m p. seen_of m.steps.items p };
