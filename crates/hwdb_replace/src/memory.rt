@@ -5,7 +5,7 @@ ghost use Rattle.std.specs.Str.{bytes_eq};
 ghost use Rattle.hwdb_spec.specs.Failures.{after_failure, CountsFailures};
 ghost use Rattle.hwdb_spec.specs.Store.{Stored, IsPartPath, path_in, database_mode};
 ghost use Rattle.hwdb_spec.specs.Crashes.{begin, changed};
-ghost use Rattle.hwdb_replace.specs.Memory.{stored, lent, state_of, after, seen_of, left_of, is_whole_of, since_of, only_now_of, from_now_of, earlier_of, stands_of, IsChange, IsMove, IsSync, IsRemoval, IsClearing, IsCreation};
+ghost use Rattle.hwdb_replace.specs.Memory.{stored, lent, state_of, after, seen_of, left_of, is_whole_of, since_of, only_now_of, from_now_of, earlier_of, stands_of, IsChange, IsMove, IsSync, IsRemoval, IsClearing, IsCreation, IsPassed};
 
 use crate::calls::{CallFailed, Store};
 use crate::replacement::{part_name, part_number};
@@ -84,7 +84,7 @@ pub struct Memory {
     /// What happened, one step a call.
     pub steps: Vec<Step>,
     /// The path of the file that was made last.
-    part: Vec<u8>,
+    pub part: Vec<u8>,
     /// How many bytes a write takes at most; 0 counts as 1.
     pub per_write: usize,
     /// The numbers of the calls that fail, counted from 0.
@@ -226,6 +226,15 @@ impl Memory {
             },
             _ => Err(self.fail()),
         }
+    }
+
+    /// Another one's step happens, unless memory for it is refused.
+    pub fn pass(&mut self, step: Step)
+        ensures steps { IsPassed self.old.steps.items self.new.steps.items step }
+        ensures part { self.new.part.items ≡ self.old.part.items }
+        ensures failed { self.new.failed ≡ self.old.failed }
+    {
+        let _ = self.steps.push(step);
     }
 
     /// Counts a call, and returns whether it is to fail.
