@@ -1,17 +1,18 @@
 -- What others make of the files.
-use Rattle.std.proofs.Common.{◌≡◌, ◌≢◌, ◌⊎◌, ◌≤◌, ◌+◌, ◌<◌, inl, inr, ⊎_elim, ℕ, Bool, true, false, cond, ◌||◌, ◌&&◌, bytes_eq, List, [], ◌∷◌, ◌++◌, length, Option, Some, None, Contains, get_or, refl, sym, ap, ◌∙◌, subst, arith, decimal}
+use Rattle.std.proofs.Common.{◌≡◌, ◌≢◌, ◌⊎◌, ◌≤◌, ◌+◌, ◌<◌, inl, inr, ⊎_elim, ℕ, Bool, true, false, cond, ◌||◌, ◌&&◌, bytes_eq, List, [], ◌∷◌, ◌++◌, length, Option, Some, None, Contains, get_or, Result, Ok, Err, MatchResult, refl, sym, ap, ◌∙◌, subst, arith, decimal}
 use Rattle.std.proofs.lemmas.Fmt.{decimal_is_IsNumeral}
 use Rattle.std.proofs.lemmas.Str.Parse.{digit_at}
 use Rattle.std.specs.Int.{IsInRange}
 use Rattle.std.proofs.lemmas.Slice.Eq.{bytes_eq-Decides}
 use Rattle.hwdb_spec.specs.Crashes.{Event, put, synced, moved, removed, names_synced, Traces, begin, after_event, changed, MayLeave}
-use Rattle.hwdb_spec.specs.Store.{Stored, Contents, Outcomes, Always, Elapses, IsPartPath, NoMore, NoMoreBut, NoMoreCreated, NoMoreRenamed, OldOrCleared, database_name, most_parts, part_name, path_in}
-use Rattle.hwdb_spec.specs.Sharing.{AreTheirs, IsAnyPart, MayDo}
+use Rattle.hwdb_spec.specs.Store.{Stored, Contents, Outcomes, Always, database_file, Elapses, IsPartPath, NoMore, NoMoreBut, NoMoreCreated, NoMoreRenamed, OldOrCleared, database_name, most_parts, part_name, path_in}
+use Rattle.hwdb_spec.specs.Sharing.{AreTheirs, IsAnyPart, MayDo, OldOrOurs, OldOursOrTheirs, OursOrTheirs}
+use Rattle.hwdb_replace.specs.declared.calls.CallFailed.{CallFailed}
 use Rattle.hwdb_replace.specs.declared.memory.Step.{Step}
 use Rattle.hwdb_replace.specs.Memory.{IsPassed, event, state_of, seen_of, left_of, is_whole_of, since_of, from_now_of, earlier_of}
 use Rattle.hwdb_replace.specs.Sharing.{WentOn, left_with, since_with}
 use Rattle.hwdb_replace.proofs.MomentLemmas.{one_or_two}
-use Rattle.hwdb_replace.proofs.StepLemmas.{changed_left, elapses_on_step, kept_left, both, state_on}
+use Rattle.hwdb_replace.proofs.StepLemmas.{changed_left, same_file, elapses_on_step, kept_left, both, state_on}
 
 -- no new file has the database's name: its own ends with a digit
 end_of : ℕ → List ℕ → ℕ
@@ -198,6 +199,11 @@ module _ (whole : Stored → Type 0) (own : List ℕ) (xs ys : List Step) (went 
   no_more_created_with true path zs less = no_more_but_with path zs less
   no_more_created_with false path zs less = no_more_with zs less
 
+  pub made_with : (path : List ℕ) (zs : List Step) (r : Result Bool CallFailed) → MatchResult r (λ made. NoMoreCreated made path (left_of ys) (left_of zs)) (λ _. NoMore (left_of ys) (left_of zs))
+      → MatchResult r (λ made. NoMoreCreated made path (left_with whole xs) (left_with whole zs)) (λ _. NoMore (left_with whole xs) (left_with whole zs))
+  made_with path zs (Ok made) less = no_more_created_with made path zs less
+  made_with path zs (Err e) less = no_more_with zs less
+
   pub cleared_with : (folder : List ℕ) (zs : List Step) → NoMore (OldOrCleared folder (left_of ys)) (left_of zs) → NoMore (OldOrCleared folder (left_with whole xs)) (left_with whole zs)
   cleared_with folder zs less p v = ⊎_elim (λ l. ⊎_elim (λ was. inl (went.left p v was)) (λ gone. inr gone) (less p v l)) (λ theirs. inl (inr theirs))
 
@@ -222,3 +228,26 @@ module _ (whole : Stored → Type 0) (own : List ℕ) (xs ys : List Step) (went 
     where
       at : v ≡ seen_of ys p → (v ≡ seen_of xs p) ⊎ AreTheirs whole p v
       at e = ⊎_elim (λ same. inl (e ∙ same)) (λ theirs. inr (subst (AreTheirs whole p) (sym e) theirs)) (went.seen p)
+
+-- what may be in the database's place
+module _ (whole : Stored → Type 0) (folder bytes : List ℕ) (xs : List Step) where
+  abbrev Target : List ℕ
+  Target = path_in folder database_name
+
+  pub theirs_there : (v : Option Stored) → AreTheirs whole Target v → (file : Stored) × whole file × (v ≡ Some file)
+  theirs_there v (inl part) = absurd (database_is_no_part folder part)
+  theirs_there v (inr (other, file, at, is, e)) = (file, is, e)
+
+  pub old_ours_or_theirs : (v : Option Stored) → OldOrOurs folder bytes (left_with whole xs) Target v → OldOursOrTheirs whole (database_file bytes) (left_of xs Target) v
+  old_ours_or_theirs v (inl (inl was)) = inl was
+  old_ours_or_theirs v (inl (inr theirs)) = inr (inr (theirs_there v theirs))
+  old_ours_or_theirs v (inr (inl ours)) = inr (inl ours.1)
+  old_ours_or_theirs v (inr (inr part)) = absurd (database_is_no_part folder (folder, part))
+
+  pub ours_or_theirs : (v : Option Stored) → (v ≡ Some (database_file bytes)) ⊎ AreTheirs whole Target v → OursOrTheirs whole (database_file bytes) v
+  ours_or_theirs v (inl ours) = inl ours
+  ours_or_theirs v (inr theirs) = inr (theirs_there v theirs)
+
+  pub was_put : (start : ℕ) (file : Stored) → since_with whole xs start Target (Some file) → since_of xs start Target (Some file) ⊎ whole file
+  was_put start file (inl left) = inl left
+  was_put start file (inr theirs) = let theirs = theirs_there (Some file) theirs in inr (subst whole (sym (same_file file theirs.0 theirs.2)) theirs.1)

@@ -14,7 +14,7 @@ use std::alloc::{AllocError, Global};
 /// The modes of a new file and of the database.
 const PART_MODE: u32 = 0o600;
 
-const DATABASE_MODE: u32 = 0o444;
+pub const DATABASE_MODE: u32 = 0o444;
 
 /// A file of the store.
 #[derive(Drop)]
@@ -175,7 +175,7 @@ pub fn state_of<'a>(alloc: Global, steps: &'a [Step], path: &[u8]) -> Result<Sta
 }
 
 /// The path of a name in a folder.
-fn path_in(alloc: Global, folder: &str, name: &str) -> Result<Vec<u8>, AllocError>
+pub fn path_in(alloc: Global, folder: &str, name: &str) -> Result<Vec<u8>, AllocError>
     ensures { IfOk result (λ path. path.items ≡ path_in folder.now name.now) }
 {
     let mut path = Vec::from_slice(alloc, folder.as_bytes())?;

@@ -2,12 +2,12 @@
 ghost use Rattle.std.specs.Prelude.{◌≡◌, ◌⊎◌, List, Option, Some, [], length, IfOk, IfSome, OnOk};
 ghost use Rattle.hwdb_spec.specs.Failures.{CountsFailures};
 ghost use Rattle.hwdb_spec.specs.Store.{Stored, Contents, IsPartPath, path_in, database_name, database_file, database_mode};
-ghost use Rattle.hwdb_spec.specs.Sharing.{AreTheirs, MayDo};
+ghost use Rattle.hwdb_spec.specs.Sharing.{AreTheirs, MayDo, OldOursOrTheirs, OursOrTheirs};
 ghost use Rattle.hwdb_replace.specs.Memory.{event, seen_of, left_of, is_whole_of, since_of};
 ghost use Rattle.hwdb_replace.specs.Sharing.{WentOn, left_with, since_with, only_now_with, from_now_with, earlier_with};
 
 use crate::calls::{CallFailed, Store};
-use crate::memory::{File, Memory, Step};
+use crate::memory::{DATABASE_MODE, File, Memory, Step, path_in};
 use crate::replacement::{DATABASE, Unreplaced, part_name, replace};
 use std::alloc::{AllocError, Global};
 
@@ -137,9 +137,13 @@ impl<O: Others> Store for Shared<O> {
 
     fn rename(&mut self, folder: &str, from: &str, to: &str) -> Result<(), CallFailed> {
         self.wait();
-        self.memory.rename(folder, from, to)?;
-        self.let_go();
-        Ok(())
+        match self.memory.rename(folder, from, to) {
+            Ok(()) => {
+                self.let_go();
+                Ok(())
+            }
+            Err(error) => Err(error),
+        }
     }
 
     fn sync_folder(&mut self, folder: &str) -> Result<(), CallFailed> {
@@ -152,5 +156,87 @@ impl<O: Others> Store for Shared<O> {
         let removed = self.memory.remove(folder, name);
         self.let_go();
         removed
+    }
+}
+
+/// Replaces the database while others go on.
+///
+/// At each moment, theirs too, the old file is in its place, ours, or one of theirs, whole; and a crash leaves one of these. After
+/// Ok the old one doesn't come back.
+pub fn replace_beside<O: Others>(
+    store: &mut Shared<O>,
+    folder: &str,
+    bytes: &[u8],
+) -> Result<(), Unreplaced>
+    ensures moments { (v : Option Stored)
+        → since_of store.new.memory.steps.items (length store.old.memory.steps.items)
+        (path_in folder.now database_name) v
+        → OldOursOrTheirs O.whole (database_file bytes.now)
+        (left_of store.old.memory.steps.items (path_in folder.now database_name)) v }
+    ensures last { OnOk result ((v : Option Stored)
+        → left_of store.new.memory.steps.items (path_in folder.now database_name) v
+        → OursOrTheirs O.whole (database_file bytes.now) v) }
+    ensures put { OnOk result (since_of store.new.memory.steps.items
+        (length store.old.memory.steps.items) (path_in folder.now database_name)
+        (Some (database_file bytes.now)) ⊎ O.whole (database_file bytes.now)) }
+{
+    replace(store, folder, bytes)
+}
+
+/// Others that put a file in the database's place, before each call.
+#[derive(Drop)]
+pub struct Rival {
+    alloc: Global,
+    /// The database's folder.
+    pub folder: String,
+    /// The bytes of their file.
+    pub bytes: Vec<u8>,
+}
+
+impl Rival {
+    /// Who puts these bytes in the database's place of a folder.
+    pub fn new(alloc: Global, folder: String, bytes: Vec<u8>) -> Rival {
+        Rival {
+            alloc,
+            folder,
+            bytes,
+        }
+    }
+
+    /// The rename of their new file, unless its path is somebody's own.
+    fn rename(&self, own: &[u8]) -> Result<Option<Step>, AllocError>
+        ensures { IfOk result (λ found. IfSome found
+            (λ step. MayDo (λ file. file.mode ≡ database_mode) own.now (event step))) }
+    {
+        let from = path_in(self.alloc, self.folder.as_str(), part_name(0).as_str())?;
+        let to = path_in(self.alloc, self.folder.as_str(), DATABASE)?;
+        if from.as_slice() == own || to.as_slice() == own {
+            return Ok(None);
+        }
+        let file = File {
+            bytes: self.bytes.to_vec(self.alloc)?,
+            mode: DATABASE_MODE,
+        };
+        Ok(Some(Step::Moved {
+            from,
+            to,
+            file,
+            loose: false,
+        }))
+    }
+}
+
+impl Others for Rival {
+    ghost whole = { λ file. file.mode ≡ database_mode };
+
+    fn pace(&self) -> u32 {
+        1
+    }
+
+    fn next(&mut self, own: &[u8]) -> Option<Step> {
+        match self.rename(own) {
+            Ok(found) => found,
+            Err(_) => None,
+        }
     }
 }

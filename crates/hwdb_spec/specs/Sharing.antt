@@ -28,3 +28,11 @@ AreTheirs whole p v =
 abbrev pub OldOrOurs : (folder bytes : List ℕ) (outcomes : Outcomes) → Outcomes
 OldOrOurs folder bytes outcomes p v =
     outcomes p v ⊎ (((p ≡ path_in folder database_name) × (v ≡ Some (database_file bytes))) ⊎ IsPartPath folder p)
+
+-- in the database's place is ours, or one of theirs
+abbrev pub OursOrTheirs : (whole : Stored → Type 0) (ours : Stored) → Option Stored → Type 0
+OursOrTheirs whole ours v = (v ≡ Some ours) ⊎ ((file : Stored) × whole file × (v ≡ Some file))
+
+-- in the database's place is what might have been there before, ours, or one of theirs
+abbrev pub OldOursOrTheirs : (whole : Stored → Type 0) (ours : Stored) (old : Option Stored → Type 0) → Option Stored → Type 0
+OldOursOrTheirs whole ours old v = old v ⊎ OursOrTheirs whole ours v
