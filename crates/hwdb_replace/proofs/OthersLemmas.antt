@@ -1,17 +1,16 @@
 -- What others make of the files.
-use Rattle.std.proofs.Common.{◌≡◌, ◌≢◌, ◌⊎◌, ◌≤◌, ◌+◌, ◌<◌, inl, inr, ⊎_elim, ℕ, Bool, true, false, cond, ◌||◌, ◌&&◌, bytes_eq, List, [], ◌∷◌, ◌++◌, length, Option, Some, None, Contains, get_or, Result, Ok, Err, MatchResult, refl, sym, ap, ◌∙◌, subst, arith, decimal}
+use Rattle.std.proofs.Common.{◌≡◌, ◌≢◌, ◌⊎◌, ◌≤◌, ◌<◌, inl, inr, ⊎_elim, ℕ, Bool, true, false, cond, bytes_eq, List, [], ◌∷◌, ◌++◌, length, Option, Some, None, get_or, Result, Ok, Err, MatchResult, refl, sym, ap, ◌∙◌, subst, arith, decimal}
 use Rattle.std.proofs.lemmas.Fmt.{decimal_is_IsNumeral}
 use Rattle.std.proofs.lemmas.Str.Parse.{digit_at}
 use Rattle.std.specs.Int.{IsInRange}
 use Rattle.std.proofs.lemmas.Slice.Eq.{bytes_eq-Decides}
 use Rattle.hwdb_spec.specs.Crashes.{Event, put, synced, moved, removed, names_synced, Traces, begin, after_event, changed, MayLeave}
-use Rattle.hwdb_spec.specs.Store.{Stored, Contents, Outcomes, Always, database_file, Elapses, IsPartPath, NoMore, NoMoreBut, NoMoreCreated, NoMoreRenamed, OldOrCleared, database_name, most_parts, part_name, path_in}
+use Rattle.hwdb_spec.specs.Store.{Stored, Outcomes, Always, database_file, Elapses, NoMore, NoMoreBut, NoMoreCreated, NoMoreRenamed, OldOrCleared, database_name, part_name, path_in}
 use Rattle.hwdb_spec.specs.Sharing.{AreTheirs, IsAnyPart, MayDo, OldOrOurs, OldOursOrTheirs, OursOrTheirs}
 use Rattle.hwdb_replace.specs.declared.calls.CallFailed.{CallFailed}
 use Rattle.hwdb_replace.specs.declared.memory.Step.{Step}
 use Rattle.hwdb_replace.specs.Memory.{IsPassed, event, state_of, seen_of, left_of, is_whole_of, since_of, from_now_of, earlier_of}
 use Rattle.hwdb_replace.specs.Sharing.{WentOn, left_with, since_with}
-use Rattle.hwdb_replace.proofs.MomentLemmas.{one_or_two}
 use Rattle.hwdb_replace.proofs.StepLemmas.{changed_left, same_file, elapses_on_step, kept_left, both, state_on}
 
 -- no new file has the database's name: its own ends with a digit

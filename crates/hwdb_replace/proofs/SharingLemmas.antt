@@ -1,7 +1,7 @@
 -- A replacement while others go on, put together.
-use Rattle.std.proofs.Common.{◌≡◌, ◌≢◌, ◌⊎◌, ◌<◌, ◌≤◌, inl, inr, ⊎_elim, ℕ, Bool, true, false, List, Option, Some, sym, ap, ◌∙◌, subst, arith}
+use Rattle.std.proofs.Common.{◌≡◌, ◌<◌, ◌≤◌, inl, inr, ⊎_elim, ℕ, Bool, true, false, List, Option, sym, ap, ◌∙◌, subst, arith}
 use Rattle.std.proofs.lemmas.Bool.{true≢false}
-use Rattle.hwdb_spec.specs.Store.{Stored, Contents, Outcomes, Elapses, IsPartPath, LeavesOnly, NoMore, NoMoreBut, NoMoreCreated, OldOrCleared, database_file, database_name, most_parts, part_name, path_in}
+use Rattle.hwdb_spec.specs.Store.{Stored, Outcomes, Elapses, IsPartPath, LeavesOnly, NoMore, NoMoreBut, NoMoreCreated, OldOrCleared, database_file, database_name, most_parts, part_name, path_in}
 use Rattle.hwdb_spec.specs.Sharing.{OldOrOurs}
 use Rattle.hwdb_replace.specs.Internal.{OrAnyPart, OrFile}
 use Rattle.hwdb_replace.proofs.MomentLemmas.{elapses_more, elapses_on, one_or_two}

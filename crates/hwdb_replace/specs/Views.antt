@@ -1,5 +1,5 @@
 -- What a replacement that failed leaves.
-use Rattle.std.specs.Prelude.{◌≡◌, ◌⊎◌, ℕ, List}
+use Rattle.std.specs.Prelude.{◌⊎◌, ℕ, List}
 use Rattle.hwdb_spec.specs.Failures.{after_failure}
 use Rattle.hwdb_spec.specs.Store.{Contents, Outcomes, Same, NoMore, Cleared, Installed, AreTaken, IsKept, IsPart, OldOrCleared, OldOrPart, OldOrNew, most_parts}
 use Rattle.hwdb_replace.specs.declared.replacement.Unreplaced.{Unreplaced}

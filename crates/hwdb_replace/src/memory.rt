@@ -96,7 +96,7 @@ pub struct Memory {
 }
 
 /// Whether two paths are one.
-fn is_same(a: &[u8], b: &[u8]) -> bool
+pub fn is_same(a: &[u8], b: &[u8]) -> bool
     ensures { result ≡ bytes_eq a.now b.now }
 {
     a == b

@@ -7,7 +7,7 @@ ghost use Rattle.hwdb_replace.specs.Memory.{event, seen_of, left_of, is_whole_of
 ghost use Rattle.hwdb_replace.specs.Sharing.{WentOn, left_with, since_with, only_now_with, from_now_with, earlier_with};
 
 use crate::calls::{CallFailed, Store};
-use crate::memory::{DATABASE_MODE, File, Memory, Step, path_in};
+use crate::memory::{DATABASE_MODE, File, Memory, Step, is_same, path_in};
 use crate::replacement::{DATABASE, Unreplaced, part_name, replace};
 use std::alloc::{AllocError, Global};
 
@@ -210,7 +210,7 @@ impl Rival {
     {
         let from = path_in(self.alloc, self.folder.as_str(), part_name(0).as_str())?;
         let to = path_in(self.alloc, self.folder.as_str(), DATABASE)?;
-        if from.as_slice() == own || to.as_slice() == own {
+        if is_same(&from, own) || is_same(&to, own) {
             return Ok(None);
         }
         let file = File {

@@ -1,4 +1,4 @@
-use Rattle.std.proofs.Common.{sym, subst}
+use Rattle.std.proofs.Common.{subst}
 use Rattle.hwdb_spec.specs.Sharing.{MayDo}
 use Rattle.hwdb_replace.specs.Memory.{event}
 use Rattle.hwdb_replace.proofs.OthersLemmas.{passed}

@@ -1,6 +1,5 @@
 use Rattle.std.proofs.Common.{◌∙◌, subst, sym}
 use Rattle.hwdb_replace.specs.Sharing.{WentOn}
-use Rattle.hwdb_replace.proofs.OthersLemmas.{went_nowhere}
 use Rattle.hwdb_replace.proofs.others.Shared.wait.Goals as goal
 
 pub steps-preserved : goal.steps-preserved

@@ -1,4 +1,4 @@
-use Rattle.std.proofs.Common.{inl, subst, sym, length, ◌≡◌, List}
+use Rattle.std.proofs.Common.{inl, subst, sym, length}
 use Rattle.hwdb_spec.specs.Store.{Elapses, NoMoreBut, path_in}
 use Rattle.hwdb_replace.specs.Sharing.{left_with, since_with}
 use Rattle.hwdb_replace.proofs.OthersLemmas.{no_more_but_with, time_with}
