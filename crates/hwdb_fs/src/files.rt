@@ -373,6 +373,14 @@ where
 {
     ghost tells = { ⊥ };
 
+    ghost tells_own = { ⊥ };
+
+    ghost theirs = { λ _ _. ⊥ };
+
+    ghost is_own = { λ _ _. Unit {0} };
+
+    ghost tells_more = { λ tells. tells };
+
     ghost tears = { ⊥ };
 
     ghost seen = { λ _ _. None };

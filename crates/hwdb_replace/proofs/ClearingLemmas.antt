@@ -1,5 +1,5 @@
 -- A replacement once leftovers of killed updates are gone, put together.
-use Rattle.std.proofs.Common.{◌≡◌, ◌⊎◌, inl, inr, ⊎_elim, ℕ, List, Option, None, sym, ap, ◌∙◌, subst, arith, Result, Ok, Err, IfErr, OnOk, MatchResult}
+use Rattle.std.proofs.Common.{◌≡◌, inl, inr, ⊎_elim, ℕ, List, Option, None, sym, ap, ◌∙◌, subst, arith, Result, Ok, Err, IfErr, OnOk, MatchResult}
 use Rattle.hwdb_spec.specs.Store.{Stored, Contents, Outcomes, AreTaken, Cleared, Elapses, Installed, IsKept, IsPart, IsPartPath, LeavesOnly, NoMore, OldOrCleared, OldOrNew, OldOrPart, Replaced, database_file, database_name, most_parts, part_name, path_in}
 use Rattle.hwdb_replace.specs.Views.{IsLeft, IsSeen, failures_after}
 use Rattle.hwdb_replace.specs.declared.replacement.Unreplaced.{Unreplaced}

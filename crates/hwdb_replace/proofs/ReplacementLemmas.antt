@@ -17,10 +17,11 @@ part_apart folder part old is e =
     absurd (omega (arith, first))
 
 pub filled_of : (part p1 p2 bytes : List ℕ) (old written set synced : Contents) → p1 ≡ part → p2 ≡ p1 → IsEmpty part old → Written part bytes old written → ModeSet p1 database_mode written set
-    → Same set synced → synced part ≡ Some (database_file bytes)
-filled_of part p1 p2 bytes old written set synced is1 is2 empty wrote moded same =
+    → (p3 : List ℕ) → p3 ≡ p2 → synced p3 ≡ set p3 → synced part ≡ Some (database_file bytes)
+filled_of part p1 p2 bytes old written set synced is1 is2 empty wrote moded p3 is3 same =
     let there : written p1 ≡ Some (record { bytes = bytes; mode = part_mode }) = ap written is1 ∙ wrote (record { bytes = []; mode = part_mode }) empty in
-    same part ∙ ap set (sym is1) ∙ moded (record { bytes = bytes; mode = part_mode }) there
+    let here : p3 ≡ part = is3 ∙ is2 ∙ is1 in
+    ap synced (sym here) ∙ same ∙ ap set (here ∙ sym is1) ∙ moded (record { bytes = bytes; mode = part_mode }) there
 
 -- before the rename
 pub or_file : (part path target : List ℕ) (file : Stored) (before : Outcomes) → part ≡ path → (p : List ℕ) (v : Option Stored) → OrPart part before p v → OrFile path target file before p v

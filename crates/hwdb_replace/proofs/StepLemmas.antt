@@ -47,7 +47,7 @@ or_true true = refl
 or_true false = refl
 
 -- what may be left once something else stands there
-changed_left : (now : Option Stored) (s : Traces) (v : Option Stored) → MayLeave (changed now false s) v → MayLeave s v ⊎ (v ≡ now)
+pub changed_left : (now : Option Stored) (s : Traces) (v : Option Stored) → MayLeave (changed now false s) v → MayLeave s v ⊎ (v ≡ now)
 changed_left now s v (inl is) = inr is
 changed_left now s v (inr (inl was)) = ⊎_elim (λ b. inl (inr (inl b))) (λ one. inl (inl (only_member s.now v one))) (Contains-append_cases s.before (s.now ∷ []) v was)
 changed_left now s v (inr (inr torn)) = inl (inr (inr (or_false s.torn torn)))
@@ -152,12 +152,12 @@ module _ (xs ys : List Step) (s : Step) (is : ys ≡ xs ++ s ∷ []) (p : List �
   sync_crash q v left = ⊎_elim (λ e. left_on xs ys s is q _ e v left) (λ e. left_on xs ys s is q _ e v left) (sync_either s p q (state_of q begin xs) sync)
 
 -- all names are on the disk
-kept_left : (t : Traces) (v : Option Stored) → MayLeave (record { now = t.now; loose = t.loose; before = []; torn = t.torn && t.loose }) v → (v ≡ t.now) ⊎ ((t.torn && t.loose) ≡ true)
+pub kept_left : (t : Traces) (v : Option Stored) → MayLeave (record { now = t.now; loose = t.loose; before = []; torn = t.torn && t.loose }) v → (v ≡ t.now) ⊎ ((t.torn && t.loose) ≡ true)
 kept_left t v (inl e) = inl e
 kept_left t v (inr (inl c)) = absurd (no_member v c)
 kept_left t v (inr (inr e)) = inr e
 
-both : (a b : Bool) → (a && b) ≡ true → (a ≡ true) × (b ≡ true)
+pub both : (a b : Bool) → (a && b) ≡ true → (a ≡ true) × (b ≡ true)
 both true b e = (refl, e)
 both false b e = absurd (true≢false (sym e))
 

@@ -1,6 +1,6 @@
 -- What the steps of a replacement leave.
 use Rattle.std.specs.Prelude.{◌≡◌, ◌≢◌, ◌⊎◌, ◌<◌, ℕ, List, [], Some, None}
-use Rattle.hwdb_spec.specs.Store.{Stored, Contents, Outcomes, path_in, part_name, part_mode, most_parts, database_name, database_file, AreTaken, Same, Replaced, NoMore, NoMoreBut}
+use Rattle.hwdb_spec.specs.Store.{Stored, Contents, Outcomes, path_in, part_name, part_mode, most_parts, database_name, database_file, AreTaken, IsPartPath, Same, Replaced, NoMore, NoMoreBut}
 use Rattle.hwdb_replace.specs.declared.replacement.Unreplaced.{Unreplaced}
 use Rattle.hwdb_replace.specs.declared.replacement.Unreplaced.TheVariants.{Undone, NamesTaken, LeftBehind, Unsynced}
 
@@ -39,7 +39,11 @@ IsLeftThen folder bytes old before now Unsynced = NoMore (OldOrReplaced folder b
 abbrev pub OrPart : (part : List ℕ) → Outcomes → Outcomes
 OrPart part old p v = old p v ⊎ (p ≡ part)
 
--- the same, and under another one perhaps this file
+-- under every path but those of new files, what might have been left before
+abbrev pub OrAnyPart : (folder : List ℕ) → Outcomes → Outcomes
+OrAnyPart folder old p v = old p v ⊎ IsPartPath folder p
+
+-- under every path but one and another one, which perhaps has this file
 abbrev pub OrFile : (part target : List ℕ) (file : Stored) → Outcomes → Outcomes
 OrFile part target file old p v = old p v ⊎ (((p ≡ target) × (v ≡ Some file)) ⊎ (p ≡ part))
 

@@ -1,4 +1,5 @@
 pub mod Views
 pub mod Internal
 pub mod Memory
+pub mod Sharing
 pub mod Laws

@@ -86,3 +86,7 @@ IsClearing folder old new = (new ≡ old) ⊎ ((s : Step) × (p : List ℕ) × (
 abbrev pub IsCreation : Option Step → List ℕ → Option Stored → Type 0
 IsCreation None p there = there ≢ None
 IsCreation (Some s) p there = (there ≡ None) × IsChange s p (record { bytes = []; mode = part_mode })
+
+-- another one's step happened, or nothing did
+abbrev pub IsPassed : (old new : List Step) → Step → Type 0
+IsPassed old new s = (new ≡ old) ⊎ (new ≡ old ++ s ∷ [])

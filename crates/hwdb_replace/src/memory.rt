@@ -5,7 +5,7 @@ ghost use Rattle.std.specs.Str.{bytes_eq};
 ghost use Rattle.hwdb_spec.specs.Failures.{after_failure, CountsFailures};
 ghost use Rattle.hwdb_spec.specs.Store.{Stored, IsPartPath, path_in, database_mode};
 ghost use Rattle.hwdb_spec.specs.Crashes.{begin, changed};
-ghost use Rattle.hwdb_replace.specs.Memory.{stored, lent, state_of, after, seen_of, left_of, is_whole_of, since_of, only_now_of, from_now_of, earlier_of, stands_of, IsChange, IsMove, IsSync, IsRemoval, IsClearing, IsCreation};
+ghost use Rattle.hwdb_replace.specs.Memory.{stored, lent, state_of, after, seen_of, left_of, is_whole_of, since_of, only_now_of, from_now_of, earlier_of, stands_of, IsChange, IsMove, IsSync, IsRemoval, IsClearing, IsCreation, IsPassed};
 
 use crate::calls::{CallFailed, Store};
 use crate::replacement::{part_name, part_number};
@@ -14,7 +14,7 @@ use std::alloc::{AllocError, Global};
 /// The modes of a new file and of the database.
 const PART_MODE: u32 = 0o600;
 
-const DATABASE_MODE: u32 = 0o444;
+pub const DATABASE_MODE: u32 = 0o444;
 
 /// A file of the store.
 #[derive(Drop)]
@@ -84,7 +84,7 @@ pub struct Memory {
     /// What happened, one step a call.
     pub steps: Vec<Step>,
     /// The path of the file that was made last.
-    part: Vec<u8>,
+    pub part: Vec<u8>,
     /// How many bytes a write takes at most; 0 counts as 1.
     pub per_write: usize,
     /// The numbers of the calls that fail, counted from 0.
@@ -96,7 +96,7 @@ pub struct Memory {
 }
 
 /// Whether two paths are one.
-fn is_same(a: &[u8], b: &[u8]) -> bool
+pub fn is_same(a: &[u8], b: &[u8]) -> bool
     ensures { result ≡ bytes_eq a.now b.now }
 {
     a == b
@@ -175,7 +175,7 @@ pub fn state_of<'a>(alloc: Global, steps: &'a [Step], path: &[u8]) -> Result<Sta
 }
 
 /// The path of a name in a folder.
-fn path_in(alloc: Global, folder: &str, name: &str) -> Result<Vec<u8>, AllocError>
+pub fn path_in(alloc: Global, folder: &str, name: &str) -> Result<Vec<u8>, AllocError>
     ensures { IfOk result (λ path. path.items ≡ path_in folder.now name.now) }
 {
     let mut path = Vec::from_slice(alloc, folder.as_bytes())?;
@@ -226,6 +226,15 @@ impl Memory {
             },
             _ => Err(self.fail()),
         }
+    }
+
+    /// Another one's step happens, unless memory for it is refused.
+    pub fn pass(&mut self, step: Step)
+        ensures steps { IsPassed self.old.steps.items self.new.steps.items step }
+        ensures part { self.new.part.items ≡ self.old.part.items }
+        ensures failed { self.new.failed ≡ self.old.failed }
+    {
+        let _ = self.steps.push(step);
     }
 
     /// Counts a call, and returns whether it is to fail.
@@ -395,6 +404,15 @@ impl Memory {
 
 impl Store for Memory {
     ghost tells = { Unit {0} };
+
+    ghost tells_own = { Unit {0} };
+
+    // Nobody else is there.
+    ghost theirs = { λ _ _. ⊥ };
+
+    ghost is_own = { λ m p. m.part.items ≡ p };
+
+    ghost tells_more = { λ tells. tells };
 
     ghost tears = { Unit {0} };
 

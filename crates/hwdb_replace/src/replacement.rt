@@ -1,9 +1,10 @@
 //! The database is replaced: a new file beside it, on the disk, takes its place.
-ghost use Rattle.std.specs.Prelude.{◌≡◌, ◌≢◌, ◌<◌, Some, OnOk, OnErr, IfOk, IfErr, IfSome, IsErrOf, MatchResult};
+ghost use Rattle.std.specs.Prelude.{◌≡◌, ◌≢◌, ◌⊎◌, ◌<◌, List, ℕ, Option, Some, OnOk, OnErr, IfOk, IfErr, IfSome, IsErrOf, MatchResult};
 ghost use Rattle.hwdb_spec.specs.Failures.{CountsFailures};
-ghost use Rattle.hwdb_spec.specs.Store.{SameBut, Written, NoMore, NoMoreBut, Elapses, Replaced, Installed, Always, LeavesOnly, AreTaken, OldOrNew, path_in, part_name, database_name, database_file, most_parts};
+ghost use Rattle.hwdb_spec.specs.Store.{SameBut, Written, NoMore, NoMoreBut, Elapses, Replaced, Installed, Always, LeavesOnly, AreTaken, OldOrNew, IsPartPath, Stored, path_in, part_name, database_name, database_file, most_parts};
+ghost use Rattle.hwdb_spec.specs.Sharing.{OldOrOurs};
 ghost use Rattle.hwdb_replace.specs.Views.{IsSeen, IsLeft, failures_after};
-ghost use Rattle.hwdb_replace.specs.Internal.{OldOrFree, OldOrReplaced, IsSeenThen, IsLeftThen, OrPart, OrFile, Made, NotMade, Settled, IsEmpty};
+ghost use Rattle.hwdb_replace.specs.Internal.{OldOrFree, OldOrReplaced, IsSeenThen, IsLeftThen, OrPart, OrFile, OrAnyPart, Made, NotMade, Settled, IsEmpty};
 ghost use Rattle.hwdb_replace.specs.declared.replacement.Unreplaced.TheVariants.{Undone, NamesTaken};
 
 use crate::calls::{CallFailed, Store};
@@ -66,6 +67,15 @@ pub fn replace<S: Store>(store: &mut S, folder: &str, bytes: &[u8]) -> Result<()
     ensures left { S.tells → IfErr result
         (IsLeft folder.now bytes.now (S.seen store.old) (S.may_leave store.old)
         (S.may_leave store.new)) }
+    ensures shared { S.tells_own → LeavesOnly S.moment S.left_since store.old store.new
+        (OldOrOurs folder.now bytes.now (S.may_leave store.old)) }
+    ensures shared_afterwards { S.tells_own → NoMore
+        (OldOrOurs folder.now bytes.now (S.may_leave store.old)) (S.may_leave store.new) }
+    ensures shared_last { S.tells_own → OnOk result ((v : Option Stored)
+        → S.may_leave store.new (path_in folder.now database_name) v
+        → (v ≡ Some (database_file bytes.now)) ⊎ S.theirs (path_in folder.now database_name) v) }
+    ensures shared_put { S.tells_own → OnOk result (S.left_since store.new (S.moment store.old)
+        (path_in folder.now database_name) (Some (database_file bytes.now))) }
     ensures cause { MatchResult result (λ _. S.failures store.new ≡ S.failures store.old)
         (λ e. S.failures store.new ≡ failures_after e (S.failures store.old)) }
 {
@@ -91,6 +101,15 @@ fn exchange<S: Store>(store: &mut S, folder: &str, bytes: &[u8]) -> Result<(), U
     ensures left { S.tells → IfErr result
         (IsLeftThen folder.now bytes.now (S.seen store.old) (S.may_leave store.old)
         (S.may_leave store.new)) }
+    ensures shared { S.tells_own → LeavesOnly S.moment S.left_since store.old store.new
+        (OldOrOurs folder.now bytes.now (S.may_leave store.old)) }
+    ensures shared_afterwards { S.tells_own → NoMore
+        (OldOrOurs folder.now bytes.now (S.may_leave store.old)) (S.may_leave store.new) }
+    ensures shared_last { S.tells_own → OnOk result ((v : Option Stored)
+        → S.may_leave store.new (path_in folder.now database_name) v
+        → (v ≡ Some (database_file bytes.now)) ⊎ S.theirs (path_in folder.now database_name) v) }
+    ensures shared_put { S.tells_own → OnOk result (S.left_since store.new (S.moment store.old)
+        (path_in folder.now database_name) (Some (database_file bytes.now))) }
     ensures cause { MatchResult result (λ _. S.failures store.new ≡ S.failures store.old)
         (λ e. S.failures store.new ≡ failures_after e (S.failures store.old)) }
 {
@@ -150,6 +169,15 @@ fn make<S: Store>(store: &mut S, folder: &str) -> Result<ArrayString<20>, Unrepl
     ensures time { S.tells → Elapses (S.moment store.old) (S.moment store.new)
         (S.left_since store.old) (S.left_since store.new)
         (OldOrFree folder.now (S.seen store.old) (S.may_leave store.old)) }
+    ensures own { IfOk result (λ name. S.is_own store.new (path_in folder.now name.bytes)) }
+    ensures empty { S.tells_own → IfOk result (λ name.
+        (S.part store.new ≡ path_in folder.now name.bytes)
+        × IsEmpty (path_in folder.now name.bytes) (S.seen store.new)) }
+    ensures named { IfOk result (λ name. IsPartPath folder.now (path_in folder.now name.bytes)) }
+    ensures crash { NoMore (OrAnyPart folder.now (S.may_leave store.old)) (S.may_leave store.new) }
+    ensures any_time { Elapses (S.moment store.old) (S.moment store.new)
+        (S.left_since store.old) (S.left_since store.new)
+        (OrAnyPart folder.now (S.may_leave store.old)) }
     ensures refusals { IfErr result (λ e. (e ≢ Unreplaced.LeftBehind) × (e ≢ Unreplaced.Unsynced)) }
     ensures cause { MatchResult result (λ _. S.failures store.new ≡ S.failures store.old)
         (λ e. S.failures store.new ≡ failures_after e (S.failures store.old)) }
@@ -166,6 +194,20 @@ fn make<S: Store>(store: &mut S, folder: &str) -> Result<ArrayString<20>, Unrepl
 
 /// Gives the new file all of the bytes, has it on the disk, and renames it.
 fn settle<S: Store>(store: &mut S, folder: &str, part: &str, bytes: &[u8]) -> Result<(), CallFailed>
+    requires own { S.is_own store.old (path_in folder.now part.now) }
+    ensures own { OnErr result (S.is_own store.new (path_in folder.now part.now)) }
+    ensures there { S.tells_own → S.part store.old ≡ path_in folder.now part.now
+        → IsEmpty (path_in folder.now part.now) (S.seen store.old)
+        → OnOk result (S.seen store.new (path_in folder.now database_name)
+        ≡ Some (database_file bytes.now)) }
+    ensures put { S.tells_own → S.part store.old ≡ path_in folder.now part.now
+        → IsEmpty (path_in folder.now part.now) (S.seen store.old)
+        → OnOk result (S.may_leave store.new (path_in folder.now database_name)
+        (Some (database_file bytes.now))) }
+    ensures left { S.tells_own → S.part store.old ≡ path_in folder.now part.now
+        → IsEmpty (path_in folder.now part.now) (S.seen store.old)
+        → NoMore (OrFile (path_in folder.now part.now) (path_in folder.now database_name)
+        (database_file bytes.now) (S.may_leave store.old)) (S.may_leave store.new) }
     ensures settled { S.tells → S.part store.old ≡ path_in folder.now part.now
         → IsEmpty (path_in folder.now part.now) (S.seen store.old)
         → path_in folder.now part.now ≢ path_in folder.now database_name
@@ -178,7 +220,7 @@ fn settle<S: Store>(store: &mut S, folder: &str, part: &str, bytes: &[u8]) -> Re
         (NoMoreBut (path_in folder.now part.now) (S.may_leave store.old) (S.may_leave store.new)) }
     ensures whole { S.part store.old ≡ path_in folder.now part.now
         → OnOk result (S.is_whole store.new (path_in folder.now database_name)) }
-    ensures time { S.tells → S.part store.old ≡ path_in folder.now part.now
+    ensures time { S.tells_own → S.part store.old ≡ path_in folder.now part.now
         → IsEmpty (path_in folder.now part.now) (S.seen store.old)
         → Elapses (S.moment store.old) (S.moment store.new)
         (S.left_since store.old) (S.left_since store.new)
@@ -193,7 +235,10 @@ fn settle<S: Store>(store: &mut S, folder: &str, part: &str, bytes: &[u8]) -> Re
 
 /// Gives the new file all of the bytes and its mode, and has it on the disk.
 fn fill<S: Store>(store: &mut S, bytes: &[u8]) -> Result<(), CallFailed>
-    ensures filled { S.tells → IsEmpty (S.part store.old) (S.seen store.old) → OnOk result
+    ensures own { (p : List ℕ) → S.is_own store.old p → S.is_own store.new p }
+    ensures own_whole { OnOk result
+        ((p : List ℕ) → S.is_own store.old p → S.is_whole store.new p) }
+    ensures filled { S.tells_own → IsEmpty (S.part store.old) (S.seen store.old) → OnOk result
         (S.seen store.new (S.part store.old) ≡ Some (database_file bytes.now)) }
     ensures whole { OnOk result (S.is_whole store.new (S.part store.old)) }
     ensures others { S.tells → SameBut (S.part store.old) (S.seen store.old) (S.seen store.new) }
@@ -212,7 +257,8 @@ fn fill<S: Store>(store: &mut S, bytes: &[u8]) -> Result<(), CallFailed>
 
 /// Adds all of the bytes to the new file.
 fn write_all<S: Store>(store: &mut S, bytes: &[u8]) -> Result<(), CallFailed>
-    ensures written { S.tells → OnOk result
+    ensures own { (p : List ℕ) → S.is_own store.old p → S.is_own store.new p }
+    ensures written { S.tells_own → OnOk result
         (Written (S.part store.old) bytes.now (S.seen store.old) (S.seen store.new)) }
     ensures others { S.tells → SameBut (S.part store.old) (S.seen store.old) (S.seen store.new) }
     ensures part { S.part store.new ≡ S.part store.old }

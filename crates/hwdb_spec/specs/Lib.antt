@@ -26,6 +26,7 @@ pub mod Failures
 pub mod Outputs
 pub mod Store
 pub mod Crashes
+pub mod Sharing
 pub mod System
 pub mod Given
 pub mod CheckedFiles

@@ -1,3 +1,4 @@
+use Rattle.std.proofs.Common.{refl}
 use Rattle.hwdb_replace.proofs.MomentLemmas.{elapses_on, or_part, or_part_less}
 use Rattle.hwdb_replace.proofs.ReplacementLemmas.{filled_of}
 use Rattle.hwdb_replace.proofs.replacement.fill.Goals as goal
@@ -20,7 +21,7 @@ pub returns-clause-filled : goal.returns-clause-filled
 returns-clause-filled g c = λ t empty.
     let seen = g.S.Store.seen in
     filled_of _ _ _ _ (seen c.args.store.now) (seen c.write_all.new.store) (seen c.set_mode.new.self) (seen c.sync.new.self) c.write_all.ensures.part c.set_mode.ensures.part empty
-    (c.in_ok-write_all.ensures.written t) (c.in_ok-set_mode.ensures.set t) (c.sync.ensures.seen t)
+    (c.in_ok-write_all.ensures.written t) (c.in_ok-set_mode.ensures.set t) _ refl (c.sync.ensures.own_seen t)
 
 pub returns-clause-time : goal.returns-clause-time
 returns-clause-time g c =

@@ -2,6 +2,7 @@ use Rattle.std.proofs.Common.{arith, ◌∙◌, inl, ap, subst, List, ℕ}
 use Rattle.hwdb_spec.specs.Store.{path_in}
 use Rattle.hwdb_replace.proofs.MomentLemmas.{elapses_on, elapses_more}
 use Rattle.hwdb_replace.proofs.MakingLemmas.{made_of, part_of, or_made, not_made_of, no_more_made, one_more_taken}
+use Rattle.hwdb_replace.proofs.SharingLemmas.{or_any_made}
 use Rattle.hwdb_replace.specs.Internal.{Made}
 use Rattle.hwdb_replace.proofs.replacement.make.Goals as goal
 
@@ -63,3 +64,18 @@ numbers-preserved g c =
 
 pub returns-clause-taken : goal.returns-clause-taken
 returns-clause-taken g c = λ t is k lt. c.numbers.invariant.taken t k (omega (arith, lt, c.numbers-test.false))
+
+pub returns-then-branch-clause-crash : goal.returns-then-branch-clause-crash
+returns-then-branch-clause-crash g c =
+    let before = g.S.Store.may_leave c.args.store.now in
+    let between = g.S.Store.may_leave c.numbers.store in
+    let now = g.S.Store.may_leave c.create_new.new.self in
+    or_any_made _ _ c.numbers.number before between now c.in_ok-create_new.field-0 (omega (arith, c.numbers-test.true)) (c.as_str.ensures.value ∙ c.part_name-name.ensures) c.if-branch.true c.numbers.invariant.crash c.in_ok-create_new.ensures.crash
+
+pub returns-then-branch-clause-any_time : goal.returns-then-branch-clause-any_time
+returns-then-branch-clause-any_time g c =
+    let before = g.S.Store.may_leave c.args.store.now in
+    let between = g.S.Store.may_leave c.numbers.store in
+    let now = g.S.Store.may_leave c.create_new.new.self in
+    elapses_on _ _ _ _ _ _ _ _ (elapses_more _ _ _ _ _ _ c.numbers.invariant.time (λ p v left. inl left)) c.in_ok-create_new.ensures.time
+    (or_any_made _ _ c.numbers.number before between now c.in_ok-create_new.field-0 (omega (arith, c.numbers-test.true)) (c.as_str.ensures.value ∙ c.part_name-name.ensures) c.if-branch.true c.numbers.invariant.crash c.in_ok-create_new.ensures.crash)

@@ -18,6 +18,7 @@ loop-written-preserved g c =
     let new = g.S.Store.seen c.write.new.self in
     record {
       within = grind (arith, common_steps);
+      own = λ p is. e.own p (i.own p is);
       written = λ t. written_more _ _ _ _ _ _ old mid new i.part (search (rules, take_rest)) (i.written t) (e.written t);
       others = λ t. same_but_on _ _ old mid new i.part (i.others t) (e.others t);
       part = e.part ∙ i.part;
