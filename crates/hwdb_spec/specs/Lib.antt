@@ -35,3 +35,4 @@ pub mod Asked
 pub mod Library
 pub mod Hiding
 pub mod Done
+pub mod Near
