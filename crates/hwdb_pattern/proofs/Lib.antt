@@ -1,3 +1,4 @@
+pub mod ListLemmas
 pub mod MatchLemmas
 pub mod TokenLemmas
 pub mod TakenLemmas

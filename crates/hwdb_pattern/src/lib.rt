@@ -22,6 +22,7 @@
 //! | `classes` | the named classes of bytes, as `[:digit:]` |
 //! | `brackets` | brackets and the items in them |
 //! | `tokens` | the tokens of a pattern |
+//! | `token_list` | the tokens of a pattern as a list |
 //! | `opens` | where a `[` begins no closed bracket |
 //! | `unusual` | a `[` that begins no closed bracket, a range without members |
 //! | `search` | whether a pattern matches a device |
@@ -37,6 +38,7 @@ mod lengths;
 mod opens;
 mod paths;
 mod search;
+mod token_list;
 mod tokens;
 mod unusual;
 
@@ -47,4 +49,6 @@ pub use laws::{
 };
 pub use paths::Reach;
 pub use search::glob;
+pub use token_list::{Token, tokens_of};
+pub use tokens::token_size;
 pub use unusual::{open_place, range_place};

@@ -36,7 +36,7 @@ pub(crate) fn single_token(text: &[u8], byte: u8, may_close: bool) -> Part
 }
 
 /// How many bytes the token at the beginning of the text takes.
-pub(crate) fn token_size(text: &[u8]) -> usize
+pub fn token_size(text: &[u8]) -> usize
     requires { 0 < length text.now }
     ensures size { result ≡ Patterns.token_size (token_at text.now) }
     ensures moves { 0 < result }

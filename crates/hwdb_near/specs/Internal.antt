@@ -1,0 +1,3 @@
+-- What the proofs of this crate speak of.
+pub mod Runs
+pub mod Fronts

@@ -1,0 +1,5 @@
+//! near
+#![tactic(auto)]
+
+mod runs;
+mod stops;
