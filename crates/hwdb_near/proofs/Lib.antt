@@ -1,2 +1,5 @@
 pub mod RunLemmas
 pub mod StopLemmas
+pub mod ListedLemmas
+pub mod ComputedLemmas
+pub mod NearestLemmas

@@ -1,3 +1,4 @@
 -- What the proofs of this crate speak of.
 pub mod Runs
 pub mod Fronts
+pub mod Ratings

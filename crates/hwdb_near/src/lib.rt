@@ -1,5 +1,23 @@
-//! near
+//! The pattern that almost matched a device, and where it stopped: what `near` says.
+//!
+//! A pattern stops after the longest front of its tokens that matches a front of the device ([`stops`]). The nearest
+//! patterns are those of which the fewest literals are missing: neither that front nor the longest back of the rest
+//! matches them, with letters' case folded. All patterns are gone through once, and the nearest so far are kept.
+//!
+//! | Module | What it does |
+//! |---|---|
+//! | `runs` | runs of tokens along a device, from star to star |
+//! | `fronts` | where tokens, and a pattern, stop |
+//! | `rating` | how near a pattern is |
+//! | `kept` | the nearest so far |
+//! | `nearest` | those of some patterns that match, and the nearest that don't |
 #![tactic(auto)]
 
+mod fronts;
+mod kept;
+mod nearest;
+mod rating;
 mod runs;
-mod stops;
+
+pub use fronts::{Stop, stops};
+pub use kept::PatternAt;

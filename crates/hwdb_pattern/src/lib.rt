@@ -49,6 +49,6 @@ pub use laws::{
 };
 pub use paths::Reach;
 pub use search::glob;
-pub use token_list::{Token, tokens_of};
+pub use token_list::{Token, place_of, tokens_of};
 pub use tokens::token_size;
 pub use unusual::{open_place, range_place};

@@ -1,6 +1,7 @@
 //! The tokens of a pattern as a list, for who goes over them more than once.
-ghost use Rattle.std.specs.Prelude.{◌≡◌, ◌<◌, length, map, IfOk};
+ghost use Rattle.std.specs.Prelude.{◌≡◌, ◌<◌, ◌≤◌, length, map, sum_by, take, IfOk};
 ghost use Rattle.hwdb_spec.specs.Patterns.{admits_byte, token_at, tokens};
+ghost use Rattle.hwdb_spec.specs.Patterns;
 ghost use Rattle.hwdb_spec.specs.Near;
 ghost use Rattle.hwdb_pattern.specs.Listed.{token_of};
 
@@ -79,4 +80,18 @@ pub fn tokens_of(alloc: Global, pattern: &[u8]) -> Result<Vec<Token<'_>>, AllocE
         at += token_size(rest);
     }
     Ok(list)
+}
+
+/// How many bytes of a pattern its first tokens take; all of them if it has no more tokens.
+pub fn place_of(pattern: &[u8], count: usize) -> usize
+    ensures place { result ≡ sum_by Patterns.token_size (take count (tokens pattern.now)) }
+    ensures within { result ≤ length pattern.now }
+{
+    let mut at = 0;
+    let mut left = count;
+    while left > 0 && at < pattern.len() {
+        at += token_size(&pattern[at..]);
+        left -= 1;
+    }
+    at
 }
