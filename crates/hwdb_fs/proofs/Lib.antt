@@ -5,3 +5,4 @@ pub mod NameLemmas
 pub mod ReasonLemmas
 pub mod RootLemmas
 pub mod SelectionLemmas
+pub mod RawLemmas

@@ -3,3 +3,4 @@ pub mod Reading
 pub mod Roots
 pub mod Internal
 pub mod LeftOut
+pub mod Raw
