@@ -74,6 +74,12 @@ IsAt error path (Plain e) = e ≡ Memory
 IsAt error path (At e at cause) = (e ≡ error) × (at.items ≡ path)
 IsAt error path _ = ⊥
 
+-- the same, for this cause
+abbrev pub IsOfCause : ToolError → (path : List ℕ) → Option Cause → Refusal → Type 0
+IsOfCause error path cause (Plain e) = e ≡ Memory
+IsOfCause error path cause (At e at because) = (e ≡ error) × (at.items ≡ path) × (because ≡ cause)
+IsOfCause error path cause _ = ⊥
+
 -- a refusal in these words, or of memory
 abbrev pub IsInWords : (text : List ℕ) → Refusal → Type 0
 IsInWords text (Plain e) = e ≡ Memory

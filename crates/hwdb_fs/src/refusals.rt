@@ -7,7 +7,7 @@ ghost use Rattle.hwdb_spec.specs.Verdicts.{fault_line, remedy};
 ghost use Rattle.hwdb_spec.specs.Texts.{db_fault_name, db_fault_offset, at_offset};
 ghost use Rattle.hwdb_transfer.specs.Refusals.{error_text, refusal_of_select};
 ghost use Rattle.hwdb_fs.specs.Internal.{line_at};
-ghost use Rattle.hwdb_fs.specs.Refusals.{Refused, refusal_line, refusal_text, path_text, file_text, IsAt, IsOfDatabase, IsOfUpdate};
+ghost use Rattle.hwdb_fs.specs.Refusals.{IsOfCause, Refused, refusal_line, refusal_text, path_text, file_text, IsAt, IsOfDatabase, IsOfUpdate};
 ghost use Rattle.hwdb_transfer.specs.declared.errors.ToolError.TheVariants.{Memory};
 ghost use Rattle.hwdb_fs.specs.declared.refusals.Refusal.TheVariants.{Plain};
 
@@ -31,6 +31,16 @@ pub enum Refusal {
 }
 
 impl Refusal {
+    /// An error over a path, for this cause.
+    pub fn of_cause(alloc: Global, error: ToolError, path: &[u8], cause: Option<Cause>) -> Refusal
+        ensures { IsOfCause error path.now cause result }
+    {
+        match Vec::from_slice(alloc, path) {
+            Ok(path) => Refusal::At(error, path, cause),
+            Err(refused) => Refusal::from(refused),
+        }
+    }
+
     /// A refusal over a path.
     pub fn at(alloc: Global, error: ToolError, path: &[u8], cause: Option<Cause>) -> Refusal
         ensures { IsAt error path.now result }
