@@ -1,17 +1,17 @@
 -- The prefixes of a device that tokens match, and paths that grow at their end.
-use Rattle.std.proofs.Common.{◌≡◌, ℕ, zero, suc, ◌-◌, ◌+◌, ◌<◌, ◌≤◌, Bool, true, false, IsTrue, List, [], ◌∷◌, ◌++◌, take, drop, length, get_or, refl, ap, ◌∙◌, sym, subst, cond, ◌==◌, ◌||◌, nat_eq, not, arith, inl, inr, ◌⊎◌, ne_eqb, eq-eqb, append_assoc, lt-ltb, le-ltb, ◌^◌, set}
+use Rattle.std.proofs.Common.{◌≡◌, ℕ, zero, suc, ◌-◌, ◌+◌, ◌<◌, ◌≤◌, Bool, true, false, IsTrue, List, [], ◌∷◌, ◌++◌, take, drop, replicate, length, get_or, refl, ap, ◌∙◌, sym, subst, cond, ◌==◌, ◌||◌, nat_eq, not, arith, inl, inr, ◌⊎◌, ne_eqb, eq-eqb, append_assoc, lt-ltb, le-ltb, ◌^◌, set}
 use Rattle.std.specs.List.{list_any}
 use Rattle.std.specs.Prelude.{Contains, map, filter, nat_lt, All, Result, Ok, Err, IsOk, IfOk, IsOkAnd}
 use Rattle.std.proofs.lemmas.Bool.{cases_eq, cases_lt}
-use Rattle.std.proofs.lemmas.List.{append-nil, take_more, take-take, take_at, get_or-take, get_or_at, length-take-le, length-append, length-map, drop_more, set_at, map-append, take_all, drop-drop, length-drop, take-append-drop}
+use Rattle.std.proofs.lemmas.List.{append-nil, take_more, take-take, take_at, get_or-take, get_or_at, length-take-le, length-append, length-map, drop_more, set_at, map-append, take_all, drop-drop, get_or-drop, get_or-replicate, length-drop, take-append-drop}
 use Rattle.std.proofs.lemmas.List.Elements.{Contains-get_or, Contains-push_cases, Contains-push, Contains-append_left, All-contains}
 use Rattle.std.proofs.Math.Seq.{take-add}
 use Rattle.hwdb_spec.specs.Patterns.{Token, star, one, bracket, literal, token_at, token_size, tokens_from, tokens, admits_byte, Admits, Matches}
 use Rattle.hwdb_pattern.specs.Views.{Lengths, takes, NoneTakes, open_part, Reached, StandsFor, IsLost}
-use Rattle.hwdb_pattern.specs.Internal.Prefixes.{stepped, Spread, Between, Follows}
+use Rattle.hwdb_pattern.specs.Internal.Prefixes.{stepped, Spread, Between, Follows, Along}
 use Rattle.hwdb_spec.specs.Tree.{closed_from, closed_part, IsLive}
 use Rattle.hwdb_pattern.proofs.MatchLemmas.{is_star, one_byte}
-use Rattle.hwdb_pattern.proofs.TokenLemmas.{first_token, no_tokens, no_tokens_at, star_at}
+use Rattle.hwdb_pattern.proofs.TokenLemmas.{first_token, no_tokens, no_tokens_at, not_star, star_at}
 use Rattle.hwdb_pattern.proofs.ClosedPartLemmas.{closed_tokens, closed_cut, closed_whole, closed_append, open_append}
 use Rattle.hwdb_pattern.proofs.GrowthLemmas.{Front, front_of, take_least}
 
@@ -329,12 +329,7 @@ follows_nothing first more device before f = record {
   lengths = λ ts l. subst (λ (us : List Token). Lengths us device []) (append_assoc ts first more) (none_more (ts ++ first) more device (f.lengths ts l));
 }
 
--- the tokens before a place were followed
-pub record Along (device before after text : List ℕ) (at : ℕ) : Type 0 where
-  pub done : List Token
-  pub cut : tokens text ≡ done ++ tokens (drop at text)
-  pub follows : Follows done device before after
-
+-- the tokens before a place were followed, and one more
 pub along_step : (device before mid after text rest : List ℕ) (at size : ℕ) → rest ≡ drop at text → at < length text → size ≡ token_size (token_at rest)
     → Follows (token_at rest ∷ []) device mid after → Along device before mid text at → Along device before after text (at + size)
 along_step device before mid after text rest at size r h s f a =
@@ -347,6 +342,58 @@ along_step device before mid after text rest at size r h s f a =
           ∙ sym (append_assoc a.done (token_at rest ∷ []) (tokens (drop (at + size) text)));
       follows = follows_then a.done (token_at rest ∷ []) device before mid after a.follows f;
     }
+
+-- nothing is followed yet
+pub along_start : (device before text : List ℕ) → Along device before before text 0
+along_start device before text = record { done = []; cut = refl; follows = follows_none device before }
+
+-- the tokens before a place, and then those of what is left before another one
+pub along_then : (device before mid after text rest : List ℕ) (at size : ℕ) → rest ≡ drop at text
+    → Along device mid after rest size → Along device before mid text at → Along device before after text (at + size)
+along_then device before mid after text rest at size r b a = record {
+  done = a.done ++ b.done;
+  cut = a.cut ∙ ap (λ (l : List ℕ). a.done ++ tokens l) (sym r) ∙ ap (λ (us : List Token). a.done ++ us) b.cut
+      ∙ sym (append_assoc a.done b.done (tokens (drop size rest)))
+      ∙ ap (λ (l : List ℕ). (a.done ++ b.done) ++ tokens l) (ap (drop size) r ∙ drop-drop size at text);
+  follows = follows_then a.done b.done device before mid after a.follows b.follows;
+}
+
+-- after a star another one changes nothing
+spread_again : (end : ℕ) (before after : List ℕ) → Spread end before after → Spread end after after
+spread_again end before after s = record {
+  sound = λ n c. ((s.sound n c).0, n, omega arith, c);
+  complete = λ n m h k c.
+      let from = s.sound m c in
+      s.complete n from.1 h (omega (arith, k, from.2)) from.3;
+}
+
+-- a run of stars is one star
+more_stars : (device before after text : List ℕ) (n : ℕ) → Spread (length device) before after → n < length text → ((k : ℕ) → k < suc n → get_or text k 0 ≡ 42)
+    → Along device before after text (suc n)
+more_stars device before after text zero s h e =
+    along_step device before before after text text 0 1 refl h (ap token_size (sym (star_at text (e 0 (omega arith)))))
+    (first_star text device before after (e 0 (omega arith)) s) (along_start device before text)
+more_stars device before after text (suc n) s h e =
+    let rest : List ℕ = drop (suc n) text in
+    let first : get_or rest 0 0 ≡ 42 = get_or-drop (suc n) text 0 0 ∙ ap (λ i. get_or text i 0) (omega arith) ∙ e (suc n) (omega arith) in
+    let at : suc n + 1 ≡ suc (suc n) = omega arith in
+    subst (λ m. Along device before after text m) at
+    (along_step device before after after text rest (suc n) 1 refl h (ap token_size (sym (star_at rest first)))
+    (first_star rest device after after first (spread_again (length device) before after s))
+    (more_stars device before after text n s (omega arith) (λ k l. e k (omega arith))))
+
+pub along_stars : (device before after text : List ℕ) (size : ℕ) → Spread (length device) before after → 0 < size → size ≤ length text → ((k : ℕ) → k < size → get_or text k 0 ≡ 42)
+    → Along device before after text size
+along_stars device before after text zero s some h e = absurd (omega arith)
+along_stars device before after text (suc n) s some h e = more_stars device before after text n s (omega arith) e
+
+-- one token that isn't a star
+pub along_one : (device before after text : List ℕ) (size : ℕ) → 0 < length text → (get_or text 0 0 ≡ 42 → ⊥) → size ≡ token_size (token_at text)
+    → after ≡ stepped (token_at text) device before → Along device before after text size
+along_one device before after text size some other z e =
+    subst (λ m. Along device before after text m) (omega arith)
+    (along_step device before before after text text 0 size refl some z
+    (follows_one (token_at text) device before after (not_star text other) e) (along_start device before text))
 
 pub along_end : (device before after text : List ℕ) (at : ℕ) → length text ≤ at → Along device before after text at → Follows (tokens text) device before after
 along_end device before after text at h a =
@@ -473,3 +520,14 @@ lost_front reach device before text end d b q l =
     let none : NoneTakes (token_at text) device before =
     λ n c. ap (λ (v : List ℕ). takes (token_at text) v n) d ∙ l.none_takes n (subst (λ (xs : List ℕ). Contains xs n) b c) in
     subst (λ (front : List ℕ). (0 < length front) × (get_or front 0 0 ≡ 42 → ⊥) × NoneTakes (token_at front) device before) z (l.some, l.no_star, none)
+
+-- a run of stars, and a block of stars after it
+pub star_block : (text : List ℕ) (at n : ℕ) → n ≡ 64 → take n (drop at text) ≡ replicate 64 42 → ((k : ℕ) → k < at → get_or text k 0 ≡ 42)
+    → (k : ℕ) → k < at + 64 → get_or text k 0 ≡ 42
+star_block text at n z e before k h = elim (cases_lt k at) [
+  | inl below ↦ before k below
+  | inr past ↦
+      let i : at + (k - at) ≡ k = omega arith in
+      sym (get_or-take n (drop at text) (k - at) 0 (omega arith) ∙ get_or-drop at text (k - at) 0 ∙ ap (λ j. get_or text j 0) i)
+      ∙ ap (λ l. get_or l (k - at) 0) e ∙ get_or-replicate 64 (k - at) 42 0 (omega arith)
+]

@@ -7,10 +7,10 @@ use Rattle.std.proofs.lemmas.List.Folds.{list_any_at}
 use Rattle.hwdb_spec.specs.Patterns.{Token, literal, token_at, token_size, tokens}
 use Rattle.hwdb_spec.specs.Tree.{closed_part, IsLive}
 use Rattle.hwdb_pattern.specs.Views.{takes, open_part, Reached, StandsFor}
-use Rattle.hwdb_pattern.specs.Internal.Prefixes.{stepped, Follows}
+use Rattle.hwdb_pattern.specs.Internal.Prefixes.{stepped, Follows, Along}
 use Rattle.hwdb_pattern.proofs.TokenLemmas.{not_star, token_byte}
 use Rattle.hwdb_pattern.proofs.ClosedPartLemmas.{ClosedTo, closed_start, closed_step, closed_ends, other_token, part_and_rest}
-use Rattle.hwdb_pattern.proofs.PathLemmas.{Along, alive_has, along_end, along_first, along_none, along_step, fed, follows_none, follows_one, no_bytes, stepped_none, takes_by}
+use Rattle.hwdb_pattern.proofs.PathLemmas.{alive_has, along_end, along_first, along_none, along_step, fed, follows_none, follows_one, no_bytes, stepped_none, takes_by}
 
 -- if no member passes, a member doesn't
 none_passes : (p : ℕ → Bool) (xs : List ℕ) (n : ℕ) → list_any p xs ≡ false → Contains xs n → p n ≡ false

@@ -6,11 +6,11 @@
 //!
 //! So each token takes at most as many steps as the device has bytes, and one more. The memory is one vector of that
 //! many numbers. A step reads its token, and a bracket is read at most `FEW` times a token.
-ghost use Rattle.std.specs.Prelude.{◌≡◌, ◌≢◌, ◌<◌, ◌≤◌, ◌+◌, ◌^◌, [], ◌∷◌, ◌++◌, length, slice_index, map, filter, All, Contains, true, IsTrue, OnOk, IfOk, IsOk, IsOkAnd, IfSome};
+ghost use Rattle.std.specs.Prelude.{ℕ, ◌≡◌, ◌≢◌, ◌<◌, ◌≤◌, ◌+◌, ◌^◌, [], ◌∷◌, ◌++◌, length, slice_index, slice_index_or, map, filter, All, Contains, true, IsTrue, OnOk, IfOk, IsOk, IsOkAnd, IfSome};
 ghost use Rattle.std.specs.List.{list_any};
 ghost use Rattle.hwdb_spec.specs.Patterns.{tokens, token_at, literal};
 ghost use Rattle.hwdb_pattern.specs.Views.{takes, NoneTakes, open_part};
-ghost use Rattle.hwdb_pattern.specs.Internal.Prefixes.{AreAdmitted, stepped, Spread, Between, Follows, Within};
+ghost use Rattle.hwdb_pattern.specs.Internal.Prefixes.{AreAdmitted, stepped, Spread, Between, Follows, Along, Within};
 
 use crate::tokens::{single_token, token_size};
 use std::alloc::{AllocError, Global};
@@ -272,19 +272,43 @@ fn first_token(
     }
 }
 
-/// The lengths after the text's first token, in place.
-fn next_token(lengths: &mut Vec<usize>, device: &[u8], text: &[u8]) -> Result<(), AllocError>
+/// How many stars are compared at once.
+const BLOCK: usize = 64;
+
+/// How many stars begin the text.
+fn stars(text: &[u8]) -> usize
+    ensures within { result ≤ length text.now }
+    ensures some { slice_index_or text.now 0 0 ≡ 42 → 0 < result }
+    ensures stars { (k : ℕ) → k < result → slice_index text.now k ≡ 42 }
+{
+    let block = [b'*'; BLOCK];
+    let mut at = 0;
+    while text.len() - at >= BLOCK && &text[at..at + BLOCK] == &block[..] {
+        at += BLOCK;
+    }
+    while at < text.len() && text[at] == b'*' {
+        at += 1;
+    }
+    at
+}
+
+/// The lengths after the text's first token, in place. Answers how many bytes of the text were taken. After one star
+/// the stars that follow it change nothing, so they are taken with it.
+fn next_token(lengths: &mut Vec<usize>, device: &[u8], text: &[u8]) -> Result<usize, AllocError>
     requires some { 0 < length text.now }
     requires within { Within device.now lengths.old.items }
-    ensures follows { OnOk result
-        (Follows (token_at text.now ∷ []) device.now lengths.old.items lengths.new.items) }
+    ensures moves { IfOk result (λ size. 0 < size) }
+    ensures size { IfOk result (λ size. size ≤ length text.now) }
+    ensures along { IfOk result (λ size.
+        Along device.now lengths.old.items lengths.new.items text.now size) }
     ensures within { OnOk result (Within device.now lengths.new.items) }
 {
     if text[0] == b'*' {
-        return spread(lengths, device.len());
+        spread(lengths, device.len())?;
+        return Ok(stars(text));
     }
     step(lengths, device, text);
-    Ok(())
+    Ok(token_size(text))
 }
 
 /// The lengths after all tokens of the text, in place.
@@ -297,9 +321,7 @@ fn follow(lengths: &mut Vec<usize>, device: &[u8], text: &[u8]) -> Result<(), Al
 {
     let mut at = 0;
     while at < text.len() && !lengths.is_empty() {
-        let rest = &text[at..];
-        next_token(lengths, device, rest)?;
-        at += token_size(rest);
+        at += next_token(lengths, device, &text[at..])?;
     }
     Ok(())
 }

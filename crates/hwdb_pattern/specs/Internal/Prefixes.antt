@@ -1,7 +1,7 @@
 -- The lengths of a device's prefixes that tokens match, as the code goes from one token to the next.
-use Rattle.std.specs.Prelude.{All, Bool, false, slice_index_or, ◌≡◌, List, length, ℕ, ◌≤◌, ◌++◌, filter, map, ◌+◌, Contains, ◌<◌}
+use Rattle.std.specs.Prelude.{All, Bool, false, slice_index_or, ◌≡◌, List, length, ℕ, ◌≤◌, ◌++◌, drop, filter, map, ◌+◌, Contains, ◌<◌}
 use Rattle.hwdb_pattern.specs.Views.{Lengths, takes}
-use Rattle.hwdb_spec.specs.Patterns.{Token, admits_byte}
+use Rattle.hwdb_spec.specs.Patterns.{Token, admits_byte, tokens}
 
 -- every length is one of a prefix of the device
 abbrev pub Within : List ℕ → List ℕ → Type 0
@@ -10,6 +10,12 @@ Within device lengths = All (λ n. n ≤ length device) lengths
 -- whatever tokens led to the lengths before, those and then these tokens lead to the lengths after
 pub record Follows (more : List Token) (device before after : List ℕ) : Type 0 where
   pub lengths : (ts : List Token) → Lengths ts device before → Lengths (ts ++ more) device after
+
+-- the tokens before a place of the text are followed
+pub record Along (device before after text : List ℕ) (at : ℕ) : Type 0 where
+  pub done : List Token
+  pub cut : tokens text ≡ done ++ tokens (drop at text)
+  pub follows : Follows done device before after
 
 -- the lengths after one more token that isn't a star
 abbrev pub stepped : Token → List ℕ → List ℕ → List ℕ

@@ -3,7 +3,7 @@ use Rattle.std.specs.Prelude.{List, ℕ, Option, None, Some, true, [], ◌∷◌
 use Rattle.hwdb_pattern.specs.Views.{Reached, StandsFor}
 use Rattle.hwdb_spec.specs.Assignment.{Assignment}
 use Rattle.hwdb_spec.specs.Answers.{is_wanted}
-use Rattle.hwdb_spec.specs.Tree.{Tree, prefix_of, is_live}
+use Rattle.hwdb_spec.specs.Tree.{Tree, prefix_of, IsLive, is_live}
 use Rattle.hwdb_reader.specs.Views.{children_of, tree_of, entered_tree}
 use Rattle.hwdb_query.specs.Internal.Members.{members_in}
 use Rattle.hwdb_query.specs.Internal.Live.{live_in, nodes_in}
@@ -59,6 +59,18 @@ pub record Passes (device path : List ℕ) (kids rest : List (ℕ × Tree)) : Ty
   pub wanted : wanted_in device path kids ≡ wanted_in device path rest
   pub live : live_in device path kids ≡ live_in device path rest
   pub fewer : nodes_in rest ≤ nodes_in kids
+
+-- the path is one and then more, and it is live
+pub record IsFedTo (device path more now : List ℕ) (reach : Reached) : Type 0 where
+  pub path_is : now ≡ path ++ more
+  pub stands : StandsFor reach now
+  pub same_device : reach.device ≡ device
+  pub live : is_live now device ≡ true
+
+-- what feeding more after a path shows
+abbrev pub IsFed : (device path more now : List ℕ) → Option Reached → Type 0
+IsFed device path more now None = IsLive (path ++ more) device → ⊥
+IsFed device path more now (Some reach) = IsFedTo device path more now reach
 
 -- the path is that of a child, and it is live
 pub record IsAt (device base : List ℕ) (k : ℕ × Tree) (path : List ℕ) (reach : Reached) : Type 0 where

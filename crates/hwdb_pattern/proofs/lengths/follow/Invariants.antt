@@ -1,6 +1,5 @@
 use Rattle.std.proofs.Common.{◌≡◌, [], length, ◌-◌, ◌≤◌}
-use Rattle.hwdb_pattern.specs.Internal.Prefixes.{Within}
-use Rattle.hwdb_pattern.proofs.PathLemmas.{Along}
+use Rattle.hwdb_pattern.specs.Internal.Prefixes.{Along, Within}
 use Rattle.hwdb_pattern.proofs.lengths.follow.Given as goal
 
 abbrev pub invariant-loop-at : goal.invariant-loop-at
