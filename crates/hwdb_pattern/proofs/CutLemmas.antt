@@ -1,7 +1,6 @@
 -- A pattern that is cut into its tokens, one after the other.
 use Rattle.std.proofs.Common.{◌≡◌, ℕ, ◌+◌, ◌<◌, ◌≤◌, true, false, List, [], ◌∷◌, ◌++◌, Bor, drop, length, get_or, refl, ap, ◌∙◌, sym, map, take, suc, zero, append_assoc, arith, nat_eq}
 use Rattle.std.proofs.lemmas.List.{drop-drop}
-
 use Rattle.hwdb_spec.specs.Patterns.{Token, star, one, bracket, literal, token_at, token_size, tokens, admits_byte}
 use Rattle.hwdb_spec.specs.Forms
 use Rattle.hwdb_pattern.proofs.MatchLemmas.{is_star}
@@ -22,7 +21,7 @@ cut_step pattern old new b at size e h n s k =
     let t : token_at b.now ≡ token_at (drop at pattern) = ap token_at e in
     let z : size ≡ token_size (token_at (drop at pattern)) = s ∙ ap token_size t in
     let next : tokens (drop at pattern) ≡ token_at (drop at pattern) ∷ tokens (drop (at + size) pattern) =
-        first_token (drop at pattern) h ∙ ap (λ (r : List ℕ). token_at (drop at pattern) ∷ tokens r) (ap (λ (i : ℕ). drop i (drop at pattern)) (sym z) ∙ drop_drop at size pattern) in
+    first_token (drop at pattern) h ∙ ap (λ (r : List ℕ). token_at (drop at pattern) ∷ tokens r) (ap (λ (i : ℕ). drop i (drop at pattern)) (sym z) ∙ drop_drop at size pattern) in
     ap (λ (l : List (Bor (List ℕ))). map (λ text. token_at text.now) l ++ tokens (drop (at + size) pattern)) n
     ∙ ap (λ (l : List Token). l ++ tokens (drop (at + size) pattern)) (map_last old b ∙ ap (λ (u : Token). map (λ text. token_at text.now) old ++ u ∷ []) t)
     ∙ append_assoc (map (λ text. token_at text.now) old) (token_at (drop at pattern) ∷ []) (tokens (drop (at + size) pattern))
@@ -76,9 +75,9 @@ pub size_step : (pattern : List ℕ) (at left size rest whole : ℕ) (text : Lis
 size_step pattern at left size rest whole text l e h s k =
     let z : size ≡ token_size (token_at (drop at pattern)) = s ∙ ap (λ (d : List ℕ). token_size (token_at d)) e in
     let next : tokens (drop at pattern) ≡ token_at (drop at pattern) ∷ tokens (drop (at + size) pattern) =
-        first_token (drop at pattern) h ∙ ap (λ (r : List ℕ). token_at (drop at pattern) ∷ tokens r) (ap (λ (i : ℕ). drop i (drop at pattern)) (sym z) ∙ drop_drop at size pattern) in
+    first_token (drop at pattern) h ∙ ap (λ (r : List ℕ). token_at (drop at pattern) ∷ tokens r) (ap (λ (i : ℕ). drop i (drop at pattern)) (sym z) ∙ drop_drop at size pattern) in
     let sum : Forms.text_size (take left (tokens (drop at pattern))) ≡ token_size (token_at (drop at pattern)) + Forms.text_size (take rest (tokens (drop (at + size) pattern))) =
-        take_next (tokens (drop at pattern)) rest left (token_at (drop at pattern)) (tokens (drop (at + size) pattern)) l next in
+    take_next (tokens (drop at pattern)) rest left (token_at (drop at pattern)) (tokens (drop (at + size) pattern)) l next in
     omega (arith, z, sum, k)
 
 none_taken : (ts : List Token) → ts ≡ [] → (left : ℕ) → Forms.text_size (take left ts) ≡ 0
@@ -88,4 +87,3 @@ none_taken (t ∷ ts) e left = cc
 
 pub size_at_end : (pattern : List ℕ) (at left whole : ℕ) → length pattern ≤ at → at + Forms.text_size (take left (tokens (drop at pattern))) ≡ whole → at ≡ whole
 size_at_end pattern at left whole h k = let none : Forms.text_size (take left (tokens (drop at pattern))) ≡ 0 = none_taken (tokens (drop at pattern)) (no_tokens_at pattern at h) left in omega (arith, none, k)
-

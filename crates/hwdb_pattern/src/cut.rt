@@ -3,9 +3,8 @@ ghost use Rattle.std.specs.Prelude.{◌≡◌, ◌≤◌, map, take, IfOk};
 ghost use Rattle.hwdb_spec.specs.Patterns.{admits_byte, token_at, tokens};
 ghost use Rattle.hwdb_spec.specs.Forms.{is_star, text_size};
 
-use std::alloc::{AllocError, Global};
-
 use crate::tokens::{single_token, token_size};
+use std::alloc::{AllocError, Global};
 
 /// The pattern from each token on.
 pub fn token_texts<'p>(alloc: Global, pattern: &'p [u8]) -> Result<Vec<&'p [u8]>, AllocError>
