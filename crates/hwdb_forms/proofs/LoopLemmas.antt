@@ -6,7 +6,7 @@ use Rattle.std.proofs.lemmas.List.{drop-set}
 use Rattle.std.specs.Prelude.{if◌then◌else◌}
 use Rattle.hwdb_spec.specs.declared.ByteSet.{ByteSet}
 use Rattle.hwdb_spec.specs.declared.ByteSet.TheVariants.{Only}
-use Rattle.hwdb_spec.specs.Patterns.{Token, star, token_at}
+use Rattle.hwdb_spec.specs.Patterns.{Token, bracket, literal, one, star, token_at}
 use Rattle.hwdb_spec.specs.Forms.{is_star, meets, head, tail, byte_cell, byte_row, many_cell, many_row, fixed_row, counted_row, piece_row, pieces_row, either_row, end_row, none_row, field_row, fields_row}
 use Rattle.hwdb_forms.specs.Internal.{begins_otherwise, piece_of, views}
 use Rattle.hwdb_forms.specs.declared.pieces.Piece as Rust
@@ -50,7 +50,11 @@ views_length : (texts : List (Bor (List ℕ))) → length (views texts) ≡ leng
 views_length [] = refl
 views_length (t ∷ texts) = ap suc (views_length texts)
 
-view_at : (texts : List (Bor (List ℕ))) (at : ℕ) → at < length texts → token_at (get_or texts at (record { ref_ptr = (0, 0); now = [] })).now ≡ get_or (views texts) at star
+-- what a place outside of a list of texts has
+abbrev pub none : Bor (List ℕ)
+none = record { ref_ptr = (0, 0); now = [] }
+
+view_at : (texts : List (Bor (List ℕ))) (at : ℕ) → at < length texts → token_at (get_or texts at none).now ≡ get_or (views texts) at star
 view_at [] at h = absurd (omega arith)
 view_at (t ∷ texts) zero h = refl
 view_at (t ∷ texts) (suc at) h = view_at texts at (omega arith)
@@ -78,19 +82,19 @@ byte_start own texts row new e =
     first_written new (length texts) false (e ∙ add-one (length texts))
     ∙ ap (λ (ts : List Token). byte_row own ts (drop (length texts) row)) (sym (ap (λ (n : ℕ). drop n (views texts)) (sym (views_length texts)) ∙ drop-length (views texts)))
 
-pub byte_kept : (own : ByteSet) (texts : List (Bor (List ℕ))) (row new : List Bool) (n at : ℕ) (starred met cell here behind next : Bool) → n ≡ suc at → at < length texts → suc at < length new → suc at < length row
-    → starred ≡ is_star (get_or (views texts) at star) → met ≡ meets (get_or (views texts) at star) own
-    → cell ≡ byte_cell starred met here behind next → here ≡ get_or row at here → behind ≡ get_or row (at + 1) behind → next ≡ get_or new (at + 1) next
+pub byte_kept : (own : ByteSet) (texts : List (Bor (List ℕ))) (row new : List Bool) (n at : ℕ) (cell here behind next : Bool) → n ≡ suc at → at < length texts → suc at < length new → suc at < length row
+    → cell ≡ byte_cell (is_star (token_at (get_or texts at none).now)) (meets (token_at (get_or texts at none).now) own) here behind next
+    → here ≡ get_or row at here → behind ≡ get_or row (at + 1) behind → next ≡ get_or new (at + 1) next
     → drop n new ≡ byte_row own (drop n (views texts)) (drop n row)
     → drop at (set new at cell) ≡ byte_row own (drop at (views texts)) (drop at row)
-byte_kept own texts row new n at starred met cell here behind next e h w r s m v x y z k =
+byte_kept own texts row new n at cell here behind next e h w r v x y z k =
     let ts : List Token = views texts in
     let done : drop (suc at) new ≡ byte_row own (drop (suc at) ts) (drop (suc at) row) = subst (λ (i : ℕ). drop i new ≡ byte_row own (drop i ts) (drop i row)) e k in
     let first : here ≡ get_or row at false = cell_read row at here (omega arith) x in
     let second : behind ≡ get_or row (suc at) false = cell_read row (suc at) behind r (y ∙ rw add-one refl) in
     let third : next ≡ get_or new (suc at) false = cell_read new (suc at) next w (z ∙ rw add-one refl) in
     let told : cell ≡ byte_cell (is_star (get_or ts at star)) (meets (get_or ts at star) own) (get_or row at false) (get_or row (suc at) false) (get_or new (suc at) false) =
-    v ∙ rw (s, m, first, second, third) refl in
+        v ∙ rw (view_at texts at h, first, second, third) refl in
     written new at cell (omega arith) ∙ ap (λ b. b ∷ drop (suc at) new) told ∙ byte_step own ts row new at (get_or ts at star) (split ts at (below texts at h)) done
 
 -- any number of bytes
@@ -108,18 +112,18 @@ many_start own texts row new cell e v =
     ∙ ap (λ (b : Bool). b ∷ []) (v ∙ sym (head_drop row (length texts)))
     ∙ ap (λ (ts : List Token). many_row own ts (drop (length texts) row)) (sym (ap (λ (n : ℕ). drop n (views texts)) (sym (views_length texts)) ∙ drop-length (views texts)))
 
-pub many_kept : (own : ByteSet) (texts : List (Bor (List ℕ))) (row new : List Bool) (n at : ℕ) (starred met cell here next : Bool) → n ≡ suc at → at < length texts → suc at < length new → suc at < length row
-    → starred ≡ is_star (get_or (views texts) at star) → met ≡ meets (get_or (views texts) at star) own
-    → cell ≡ many_cell starred met here next → here ≡ get_or row at here → next ≡ get_or new (at + 1) next
+pub many_kept : (own : ByteSet) (texts : List (Bor (List ℕ))) (row new : List Bool) (n at : ℕ) (cell here next : Bool) → n ≡ suc at → at < length texts → suc at < length new → suc at < length row
+    → cell ≡ many_cell (is_star (token_at (get_or texts at none).now)) (meets (token_at (get_or texts at none).now) own) here next
+    → here ≡ get_or row at here → next ≡ get_or new (at + 1) next
     → drop n new ≡ many_row own (drop n (views texts)) (drop n row)
     → drop at (set new at cell) ≡ many_row own (drop at (views texts)) (drop at row)
-many_kept own texts row new n at starred met cell here next e h w r s m v x z k =
+many_kept own texts row new n at cell here next e h w r v x z k =
     let ts : List Token = views texts in
     let done : drop (suc at) new ≡ many_row own (drop (suc at) ts) (drop (suc at) row) = subst (λ (i : ℕ). drop i new ≡ many_row own (drop i ts) (drop i row)) e k in
     let first : here ≡ get_or row at false = cell_read row at here (omega arith) x in
     let third : next ≡ get_or new (suc at) false = cell_read new (suc at) next w (z ∙ rw add-one refl) in
     let told : cell ≡ many_cell (is_star (get_or ts at star)) (meets (get_or ts at star) own) (get_or row at false) (get_or new (suc at) false) =
-    v ∙ rw (s, m, first, third) refl in
+        v ∙ rw (view_at texts at h, first, third) refl in
     written new at cell (omega arith) ∙ ap (λ b. b ∷ drop (suc at) new) told ∙ many_step own ts row new at (get_or ts at star) (split ts at (below texts at h)) done
 
 -- these bytes
@@ -341,3 +345,45 @@ otherwise_unmet (b ∷ bytes) (t ∷ ts) row e =
       | inl unmet ↦ if_none (meets t (Only b)) (head (tail behind)) unmet
       | inr later ↦ if_both (meets t (Only b)) (head (tail behind)) (ap head (tail_fixed bytes t ts row) ∙ otherwise_unmet bytes ts (tail row) later)
     ]
+
+-- cells of which not all is asked
+pub star_cell : (t : Token) (own : ByteSet) (here behind next result : Bool) → is_star t ≡ true → result ≡ (if next then true else here) → result ≡ byte_cell (is_star t) (meets t own) here behind next
+star_cell star own here behind next result s e = e
+star_cell one own here behind next result s e = cc
+star_cell (literal x) own here behind next result s e = cc
+star_cell (bracket found) own here behind next result s e = cc
+
+pub no_cell : (starred met here behind next : Bool) → starred ≡ false → behind ≡ false → false ≡ byte_cell starred met here behind next
+no_cell false true here false next s e = refl
+no_cell false false here false next s e = refl
+no_cell true met here behind next s e = cc
+no_cell false met here true next s e = cc
+
+pub met_cell : (starred met here behind next : Bool) → starred ≡ false → behind ≡ true → met ≡ byte_cell starred met here behind next
+met_cell false true here true next s e = refl
+met_cell false false here true next s e = refl
+met_cell true met here behind next s e = cc
+met_cell false met here false next s e = cc
+
+pub star_many : (starred met here next : Bool) → starred ≡ true → (if here then true else next) ≡ many_cell starred met here next
+star_many true met here next s = refl
+star_many false met here next s = cc
+
+pub here_many : (starred met here next : Bool) → starred ≡ false → here ≡ true → true ≡ many_cell starred met here next
+here_many false met true next s e = refl
+here_many true met here next s e = cc
+here_many false met false next s e = cc
+
+pub no_many : (starred met here next : Bool) → starred ≡ false → here ≡ false → next ≡ false → false ≡ many_cell starred met here next
+no_many false true false false s e f = refl
+no_many false false false false s e f = refl
+no_many true met here next s e f = cc
+no_many false met true next s e f = cc
+no_many false met here true s e f = cc
+
+pub met_many : (starred met here next : Bool) → starred ≡ false → here ≡ false → next ≡ true → met ≡ many_cell starred met here next
+met_many false true false true s e f = refl
+met_many false false false true s e f = refl
+met_many true met here next s e f = cc
+met_many false met true next s e f = cc
+met_many false met here false s e f = cc

@@ -1,7 +1,9 @@
 //! The rows of a form, from its back: each tells of each place of the tokens whether they match, from there on, some text of the
 //! form's rest.
 ghost use Rattle.std.specs.Prelude.{◌≡◌, ◌+◌, length, map, IfOk, if◌then◌else◌, true, false};
+ghost use Rattle.hwdb_spec.specs.Forms.{is_star};
 ghost use Rattle.hwdb_spec.specs.Forms;
+ghost use Rattle.hwdb_spec.specs.Patterns.{token_at};
 ghost use Rattle.hwdb_forms.specs.Internal.{form_of, piece_of, views};
 ghost use Rattle.hwdb_forms.specs.Internal;
 
@@ -31,26 +33,34 @@ fn both(left: bool, other: bool) -> bool
 }
 
 /// The cell of one byte. `here` and `behind` are this cell and the next one in the row of the form's rest, `next` is the next one in
-/// this row.
-fn byte_cell(star: bool, met: bool, here: bool, behind: bool, next: bool) -> bool
-    ensures { result ≡ Forms.byte_cell star met here behind next }
+/// this row. What the token takes is asked last: most cells don't need it.
+fn byte_cell(set: ByteSet, token: &[u8], here: bool, behind: bool, next: bool) -> bool
+    ensures { result
+        ≡ Forms.byte_cell (is_star (token_at token.now)) (Forms.meets (token_at token.now) set) here behind next }
 {
-    if star {
-        next || met && here
-    } else {
-        met && behind
+    if begins_star(token) {
+        return either(next, here);
     }
+    if !behind {
+        return false;
+    }
+    meets(token, set)
 }
 
 /// The cell of any number of bytes.
-fn many_cell(star: bool, met: bool, here: bool, next: bool) -> bool
-    ensures { result ≡ Forms.many_cell star met here next }
+fn many_cell(set: ByteSet, token: &[u8], here: bool, next: bool) -> bool
+    ensures { result ≡ Forms.many_cell (is_star (token_at token.now)) (Forms.meets (token_at token.now) set) here next }
 {
-    if star {
-        here || next
-    } else {
-        here || met && next
+    if begins_star(token) {
+        return either(here, next);
     }
+    if here {
+        return true;
+    }
+    if !next {
+        return false;
+    }
+    meets(token, set)
 }
 
 /// The row of one byte of the set.
@@ -66,14 +76,7 @@ fn byte_row(set: ByteSet, tokens: &[&[u8]], rows: Rows) -> Rows
     new[at] = false;
     while at > 0 {
         at -= 1;
-        let met = meets(tokens[at], set);
-        new[at] = byte_cell(
-            begins_star(tokens[at]),
-            met,
-            row[at],
-            row[at + 1],
-            new[at + 1],
-        );
+        new[at] = byte_cell(set, tokens[at], row[at], row[at + 1], new[at + 1]);
     }
     Rows {
         row: new,
@@ -94,8 +97,7 @@ fn many_row(set: ByteSet, tokens: &[&[u8]], rows: Rows) -> Rows
     new[at] = row[at];
     while at > 0 {
         at -= 1;
-        let met = meets(tokens[at], set);
-        new[at] = many_cell(begins_star(tokens[at]), met, row[at], new[at + 1]);
+        new[at] = many_cell(set, tokens[at], row[at], new[at + 1]);
     }
     Rows {
         row: new,

@@ -1,5 +1,5 @@
 use Rattle.std.proofs.Common.{arith, rules, ◌-◌}
-use Rattle.hwdb_forms.proofs.LoopLemmas.{star_view, meets_view, byte_start, byte_kept}
+use Rattle.hwdb_forms.proofs.LoopLemmas.{byte_start, byte_kept}
 use Rattle.hwdb_forms.proofs.rows.byte_row.Goals as goal
 
 pub loop-at-init : goal.loop-at-init
@@ -12,8 +12,7 @@ loop-at-init c = record {
 
 pub loop-at-preserved : goal.loop-at-preserved
 loop-at-preserved c = record {
-  within = omega arith;
-  long = search rules;
-  row = c.requires.row;
-  done = byte_kept c.args.set c.args.tokens.now c.args.rows.row.items c.loop-at.new.items c.loop-at.at (c.loop-at.at - 1) c.begins_star.result c.meets-met.result c.byte_cell.result c.index.result.now c.index-in-loop-at.result.now c.index-in-loop-at-2.result.now (omega arith) (omega arith) (omega arith) (omega (arith, c.requires.row)) (star_view c.args.tokens.now (c.loop-at.at - 1) c.begins_star.result (omega arith) c.begins_star.ensures) (meets_view c.args.set c.args.tokens.now (c.loop-at.at - 1) c.meets-met.result (omega arith) c.meets-met.ensures) c.byte_cell.ensures c.index.ensures c.index-in-loop-at.ensures c.index-in-loop-at-2.ensures c.loop-at.invariant.done;
+  within = omega arith; long = search rules; row = c.requires.row;
+  done = byte_kept c.args.set c.args.tokens.now c.args.rows.row.items c.loop-at.new.items c.loop-at.at (c.loop-at.at - 1) c.byte_cell.result c.index.result.now c.index-in-loop-at.result.now c.index-in-loop-at-2.result.now
+      (omega arith) (omega arith) (omega arith) (omega (arith, c.requires.row)) c.byte_cell.ensures c.index.ensures c.index-in-loop-at.ensures c.index-in-loop-at-2.ensures c.loop-at.invariant.done
 }

@@ -1,5 +1,5 @@
 use Rattle.std.proofs.Common.{arith, rules, length, ◌-◌}
-use Rattle.hwdb_forms.proofs.LoopLemmas.{star_view, meets_view, cell_read, many_start, many_kept}
+use Rattle.hwdb_forms.proofs.LoopLemmas.{cell_read, many_start, many_kept}
 use Rattle.hwdb_forms.proofs.rows.many_row.Goals as goal
 
 pub loop-at-init : goal.loop-at-init
@@ -12,8 +12,7 @@ loop-at-init c = record {
 
 pub loop-at-preserved : goal.loop-at-preserved
 loop-at-preserved c = record {
-  within = omega arith;
-  long = search rules;
-  row = c.requires.row;
-  done = many_kept c.args.set c.args.tokens.now c.args.rows.row.items c.loop-at.new.items c.loop-at.at (c.loop-at.at - 1) c.begins_star.result c.meets-met.result c.many_cell.result c.index-in-loop-at.result.now c.index-in-loop-at-2.result.now (omega arith) (omega arith) (omega arith) (omega (arith, c.requires.row)) (star_view c.args.tokens.now (c.loop-at.at - 1) c.begins_star.result (omega arith) c.begins_star.ensures) (meets_view c.args.set c.args.tokens.now (c.loop-at.at - 1) c.meets-met.result (omega arith) c.meets-met.ensures) c.many_cell.ensures c.index-in-loop-at.ensures c.index-in-loop-at-2.ensures c.loop-at.invariant.done;
+  within = omega arith; long = search rules; row = c.requires.row;
+  done = many_kept c.args.set c.args.tokens.now c.args.rows.row.items c.loop-at.new.items c.loop-at.at (c.loop-at.at - 1) c.many_cell.result c.index-in-loop-at.result.now c.index-in-loop-at-2.result.now
+      (omega arith) (omega arith) (omega arith) (omega (arith, c.requires.row)) c.many_cell.ensures c.index-in-loop-at.ensures c.index-in-loop-at-2.ensures c.loop-at.invariant.done
 }
