@@ -33,4 +33,5 @@ pub mod LeftOut
 pub mod Asked
 pub mod Library
 pub mod Hiding
+pub mod Properties
 pub mod Done
