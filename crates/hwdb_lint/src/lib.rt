@@ -12,6 +12,7 @@
 //! | `reports` | the report of a fault |
 //! | `line_texts` | the text of a line, by its number |
 //! | `line_warnings` | which warnings a line gets, by its clean text |
+//! | `misuses` | properties that don't fit what is known of properties |
 //! | `repeats` | match lines that their record has already |
 //! | `replacements` | assignments that a later line of the same file replaces |
 //! | `known` | what is known of a file before its lines are read one by one |
@@ -24,6 +25,7 @@ mod files;
 mod known;
 mod line_texts;
 mod line_warnings;
+mod misuses;
 mod places;
 mod repeats;
 mod replacements;
@@ -32,6 +34,6 @@ mod shown;
 mod tallies;
 mod warnings;
 
-pub use files::{TextFile, check_files};
+pub use files::{Checked, TextFile, check_files};
 pub use shown::push_shown;
 pub use tallies::push_count;

@@ -36,4 +36,5 @@ pub mod LeftOut
 pub mod Asked
 pub mod Library
 pub mod Hiding
+pub mod Properties
 pub mod Done

@@ -24,6 +24,7 @@
 //! | `Summary` | how much is in a database, and its lines |
 //! | `Verdicts` | what is said of bytes that are no database |
 //! | `Reports` | the reports of a file's faults |
+//! | `Properties` | which properties are known, which values they take, and what is said of others |
 //! | `Warnings` | the warnings of a file, and their reports |
 //! | `Checks` | what `check` prints, how much it finds, and its status |
 //! | `Progress` | what `update` says of its work |
@@ -50,6 +51,10 @@
 ghost use Rattle.std.specs.Prelude.{◌≡◌};
 ghost use Rattle.hwdb_spec.specs.Records.{fault_text};
 ghost use Rattle.hwdb_spec.specs.Texts.{db_fault_name, db_fault_offset};
+
+mod vocabulary;
+
+pub use vocabulary::{KEY_NAMES, Misuse, PROPERTIES, ValueForm};
 
 use std::{error, fmt};
 
@@ -180,6 +185,8 @@ pub enum WarningKind {
     RepeatedMatch,
     /// Later lines give one of its patterns the same key, the last of them another value; that one has this number.
     Replaced(u64),
+    /// Its property doesn't fit what is known of properties.
+    Misused(Misuse),
 }
 
 /// How many files were checked, and how much was found in them.
