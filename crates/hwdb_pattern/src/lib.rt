@@ -25,7 +25,9 @@
 //! | `opens` | where a `[` begins no closed bracket |
 //! | `unusual` | a `[` that begins no closed bracket, a range without members |
 //! | `search` | whether a pattern matches a device |
-//! | `lengths` | which of a device's prefixes some tokens match |
+//! | `tables` | tables over a device: the places whose byte a token admits |
+//! | `met` | which of a device's prefixes some tokens match |
+//! | `lengths` | how far one may go along a text at once |
 //! | `paths` | which prefixes a path matches that is fed piece by piece |
 //! | `laws` | what is proved of the definitions alone |
 #![tactic(auto)]
@@ -34,9 +36,11 @@ mod brackets;
 mod classes;
 mod laws;
 mod lengths;
+mod met;
 mod opens;
 mod paths;
 mod search;
+mod tables;
 mod tokens;
 mod unusual;
 
