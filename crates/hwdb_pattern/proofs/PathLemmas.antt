@@ -1,10 +1,10 @@
 -- The prefixes of a device that tokens match, and paths that grow at their end.
-use Rattle.std.proofs.Common.{◌≡◌, ℕ, zero, suc, ◌-◌, ◌+◌, ◌<◌, ◌≤◌, ◌↔◌, Bool, true, false, IsTrue, List, [], ◌∷◌, ◌++◌, take, drop, replicate, length, get_or, refl, ap, ◌∙◌, sym, subst, cond, ◌==◌, ◌||◌, nat_eq, not, arith, inl, inr, ◌⊎◌, ne_eqb, eq-eqb, append_assoc, lt-ltb, le-ltb, ◌^◌, set}
+use Rattle.std.proofs.Common.{◌≡◌, ℕ, zero, suc, ◌-◌, ◌+◌, ◌<◌, ◌≤◌, ◌↔◌, Bool, true, false, IsTrue, List, [], ◌∷◌, ◌++◌, take, drop, replicate, length, get_or, refl, ap, ◌∙◌, sym, subst, cond, ◌==◌, ◌||◌, nat_eq, not, arith, inl, inr, ◌⊎◌, ne_eqb, eq-eqb, append_assoc, lt-ltb, le-ltb}
 use Rattle.std.specs.List.{list_any}
 use Rattle.std.specs.Prelude.{Contains, map, filter, nat_lt, All, Result, Ok, Err, IsOk, IfOk, IsOkAnd}
 use Rattle.std.proofs.lemmas.Bool.{cases_eq, cases_lt}
-use Rattle.std.proofs.lemmas.List.{append-nil, take_more, take-take, take_at, get_or-take, get_or_at, length-take-le, length-append, length-map, drop_more, set_at, map-append, take_all, drop-drop, get_or-drop, get_or-replicate, length-drop, take-append-drop}
-use Rattle.std.proofs.lemmas.List.Elements.{Contains-get_or, Contains-push_cases, Contains-push, Contains-append_left, All-contains}
+use Rattle.std.proofs.lemmas.List.{append-nil, take_more, take-take, take_at, get_or-take, get_or_at, length-take-le, length-append, take_all, drop-drop, get_or-drop, get_or-replicate, length-drop, take-append-drop}
+use Rattle.std.proofs.lemmas.List.Elements.{Contains-get_or, All-contains}
 use Rattle.std.proofs.Math.Seq.{take-add}
 use Rattle.hwdb_spec.specs.Patterns.{Token, star, one, bracket, literal, token_at, token_size, tokens_from, tokens, admits_byte, Admits, Matches}
 use Rattle.hwdb_pattern.specs.Views.{Lengths, takes, NoneTakes, open_part, Reached, StandsFor, IsLost}

@@ -1,14 +1,14 @@
 -- What a table says, as a list of lengths.
-use Rattle.std.proofs.Common.{◌≡◌, ℕ, zero, suc, ◌-◌, ◌+◌, ◌<◌, ◌≤◌, Bool, true, false, IsTrue, List, [], ◌∷◌, ◌++◌, length, get_or, replicate, drop, take, refl, ap, ◌∙◌, sym, subst, cond, ◌==◌, lt-ltb, ne_eqb, eq-eqb, not, min, arith, inl, inr, ◌⊎◌, ◌↔◌}
-use Rattle.std.specs.Prelude.{Contains, All, nat_lt}
+use Rattle.std.proofs.Common.{◌≡◌, ℕ, zero, suc, ◌-◌, ◌+◌, ◌<◌, ◌≤◌, Bool, true, false, List, [], ◌∷◌, ◌++◌, length, get_or, replicate, drop, take, refl, ap, ◌∙◌, sym, subst, cond, ◌==◌, lt-ltb, ne_eqb, eq-eqb, not, min, arith, inl, inr}
+use Rattle.std.specs.Prelude.{Contains, All}
 use Rattle.std.proofs.lemmas.Bool.{cases_lt}
 use Rattle.std.proofs.lemmas.List.{get_or-drop, get_or-take, get_or-replicate, length-drop, length-take, length-replicate, drop_all, take_at}
-use Rattle.std.proofs.lemmas.List.Elements.{Contains-get_or, All-contains}
-use Rattle.hwdb_spec.specs.Patterns.{Token, one, literal, admits_byte, token_at}
+use Rattle.std.proofs.lemmas.List.Elements.{Contains-get_or}
+use Rattle.hwdb_spec.specs.Patterns.{Token, one, literal, admits_byte}
 use Rattle.hwdb_pattern.specs.Views.{takes, NoneTakes}
 use Rattle.hwdb_pattern.specs.Internal.Prefixes.{Between, Spread, Steps}
 use Rattle.hwdb_pattern.specs.Internal.Tables.{said, passes_at, IsKept, SomeAt}
-use Rattle.hwdb_pattern.proofs.PathLemmas.{contains_cases, contains_here, contains_there, contains_none, takes_below, takes_by, takes_admits}
+use Rattle.hwdb_pattern.proofs.PathLemmas.{contains_cases, contains_here, contains_there, contains_none, takes_below}
 
 -- what is kept
 
@@ -107,9 +107,12 @@ steps_kept t device bytes least old cut new b c kept = record {
         let both = passes_both (get_or cut k false) (admits_byte t (get_or bytes k 0)) (sym (kept.each k in_cut) ∙ s.3) in
         let in_bytes : k < length bytes = omega (arith, in_cut, ap length c, length-take (length bytes) old) in
         let in_old : k < length old = omega (arith, in_cut, ap length c, length-take (length bytes) old) in
-        let same : get_or cut k false ≡ get_or old k false = ap (λ l. get_or l k false) c ∙ get_or-take (length bytes) old k false in_bytes in
-        (least + k, omega (arith, s.1), said_has least old k in_old (sym same ∙ both.0),
-          takes_there t device least k (omega (arith, in_bytes, ap length b)) ∙ ap (λ l. admits_byte t (get_or l k 0)) (sym b) ∙ both.1)
+        let same : get_or cut k false ≡ get_or old k false = ap (λ l. get_or l k false) c ∙ get_or-take (length bytes) old k false in_bytes in (
+          least + k,
+          omega (arith, s.1),
+          said_has least old k in_old (sym same ∙ both.0),
+          takes_there t device least k (omega (arith, in_bytes, ap length b)) ∙ ap (λ l. admits_byte t (get_or l k 0)) (sym b) ∙ both.1,
+        )
 
     go : (m : ℕ) → SaidAt least old m → takes t device m ≡ true → Contains (said (least + 1) new) (m + 1)
     go m s taken =

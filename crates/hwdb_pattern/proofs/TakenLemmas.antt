@@ -1,6 +1,6 @@
 -- A path that grows by bytes which are tokens for themselves.
-use Rattle.std.proofs.Common.{◌≡◌, ℕ, ◌+◌, ◌<◌, ◌≤◌, Bool, true, false, List, [], ◌∷◌, ◌++◌, drop, length, get_or, refl, ap, ◌∙◌, sym, subst, cond, arith, eq-eqb}
-use Rattle.std.specs.Prelude.{Contains, map}
+use Rattle.std.proofs.Common.{◌≡◌, ℕ, ◌+◌, ◌<◌, ◌≤◌, true, List, [], ◌∷◌, ◌++◌, drop, length, get_or, refl, ap, ◌∙◌, sym, subst, cond, arith, eq-eqb}
+use Rattle.std.specs.Prelude.{map}
 use Rattle.std.proofs.lemmas.List.{append-nil, drop_all, length-drop, get_or-drop}
 use Rattle.hwdb_spec.specs.Patterns.{Token, literal, token_at, token_size, tokens}
 use Rattle.hwdb_spec.specs.Tree.{closed_part, IsLive}

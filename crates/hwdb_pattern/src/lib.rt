@@ -10,8 +10,8 @@
 //! - [`glob`] answers whether one pattern matches one device. It searches from star to star and takes no memory.
 //! - [`Reach`] goes along a path of a tree of patterns, piece by piece. It keeps all prefixes of the device that the
 //!   path matches so far, since each child of a node goes on from them. So a common beginning of many patterns is
-//!   matched once, and a subtree that can match nothing is left early. That costs memory: a number for each prefix, but
-//!   none as long as the path's bytes are the device's own.
+//!   matched once, and a subtree that can match nothing is left early. That costs memory: a byte for each prefix, but
+//!   none as long as each token of the path takes one byte of the device.
 //!
 //! Neither tries all ways to match. `glob` takes at most as many steps as the pattern's length times the device's. A
 //! feed of `Reach` takes at most the bytes kept and fed, times the device's length. There is one exception: if a

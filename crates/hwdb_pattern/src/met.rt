@@ -131,7 +131,8 @@ impl Table {
         ensures none { result ≡ false
             → NoneTakes (token_at text.now) device.now (said self.now.least self.now.says.items) }
         ensures some { result ≡ true
-            → NoneTakes (token_at text.now) device.now (said self.now.least self.now.says.items) → ⊥ }
+            → NoneTakes (token_at text.now) device.now
+            (said self.now.least self.now.says.items) → ⊥ }
     {
         let bytes = bytes_after(device, self.least);
         let says: &[bool] = &self.says;
@@ -334,12 +335,7 @@ impl Met {
 
     /// The lengths after all tokens of the text. If the first token isn't a star and takes no byte of the device, no
     /// memory is asked for.
-    pub(crate) fn along(
-        &self,
-        alloc: Global,
-        device: &[u8],
-        text: &[u8],
-    ) -> Result<Met, AllocError>
+    pub(crate) fn along(&self, alloc: Global, device: &[u8], text: &[u8]) -> Result<Met, AllocError>
         requires { Within device.now (lengths_of self.now) }
         ensures follows { IfOk result (λ after.
             Follows (tokens text.now) device.now (lengths_of self.now) (lengths_of after)) }

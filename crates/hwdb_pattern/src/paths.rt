@@ -22,8 +22,8 @@ use std::marker::Model;
 /// The closed part ends before the first `[` that begins no closed bracket in the path. Bytes from there on are kept,
 /// since a later `]` may still close that bracket.
 ///
-/// It holds one number for each matched prefix, and the kept bytes. As long as the path's bytes are the device's own,
-/// it holds no memory.
+/// It holds one byte for each prefix from the first one that is matched on, and the kept bytes. Before the path's first
+/// star it holds no memory but the kept bytes.
 #[derive(Drop)]
 pub struct Reach<'d> {
     device: &'d [u8],

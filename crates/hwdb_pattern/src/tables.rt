@@ -1,7 +1,7 @@
 //! Tables over a device: a truth value for each of its places.
 //!
-//! A loop over a table has no branch, and no way out before the end. So it is compiled to steps that take many places
-//! at once.
+//! Most loops over a table have no branch, and no way out before the end. So they are compiled to steps that take many
+//! places at once.
 ghost use Rattle.std.specs.Prelude.{ℕ, ◌≡◌, ◌≢◌, ◌<◌, ◌≤◌, ◌==◌, length, slice_index, slice_index_or, false, true, IfSome, IfNone};
 ghost use Rattle.hwdb_spec.specs.Patterns.{admits_byte, token_at};
 ghost use Rattle.hwdb_pattern.specs.Internal.Prefixes.{AreAdmitted};
@@ -110,7 +110,8 @@ pub(crate) fn has_admitted(table: &[bool], bytes: &[u8], text: &[u8]) -> bool
     requires some { 0 < length text.now }
     requires no_star { slice_index text.now 0 ≢ 42 }
     requires within { length table.now ≤ length bytes.now }
-    ensures { SomeAt (passes_at (admits_byte (token_at text.now)) bytes.now table.now) (length table.now) result }
+    ensures { SomeAt (passes_at (admits_byte (token_at text.now)) bytes.now table.now)
+        (length table.now) result }
 {
     for i in 0..table.len() {
         if table[i] && single_token(text, bytes[i], true).admits {
@@ -135,8 +136,10 @@ pub(crate) fn has_some(table: &[bool]) -> bool
 pub(crate) fn first_place(table: &[bool]) -> Option<usize>
     ensures here { IfSome result (λ at. slice_index_or table.now at false ≡ true) }
     ensures within { IfSome result (λ at. at < length table.now) }
-    ensures before { IfSome result (λ at. (k : ℕ) → k < at → slice_index_or table.now k false ≡ false) }
-    ensures none { IfNone result ((k : ℕ) → k < length table.now → slice_index_or table.now k false ≡ false) }
+    ensures before { IfSome result (λ at. (k : ℕ) → k < at
+        → slice_index_or table.now k false ≡ false) }
+    ensures none { IfNone result ((k : ℕ) → k < length table.now
+        → slice_index_or table.now k false ≡ false) }
 {
     for i in 0..table.len() {
         if table[i] {

@@ -1,6 +1,5 @@
 -- Our own words: tables over a device, with a truth value for each place.
 use Rattle.std.specs.Prelude.{Bool, List, [], ◌∷◌, ℕ, suc, false, true, length, slice_index, slice_index_or, ◌≡◌, ◌<◌, if◌then◌else◌}
-use Rattle.hwdb_spec.specs.Patterns.{Token, admits_byte}
 
 -- of the numbers from the first on, those at which the table says so
 unfoldable pub said : (first : ℕ) → List Bool → List ℕ
@@ -20,4 +19,3 @@ pub record IsKept (p : ℕ → Bool) (bytes : List ℕ) (old new : List Bool) : 
 abbrev pub SomeAt : (ℕ → Bool) → ℕ → Bool → Type 0
 SomeAt p n true = (k : ℕ) × (k < n) × (p k ≡ true)
 SomeAt p n false = (k : ℕ) → k < n → p k ≡ false
-

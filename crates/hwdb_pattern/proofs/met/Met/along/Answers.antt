@@ -1,4 +1,4 @@
-use Rattle.std.proofs.Common.{◌≡◌, ◌<◌, ◌∙◌, sym, arith, subst, length, List, ℕ, eqb-true}
+use Rattle.std.proofs.Common.{◌<◌, ◌∙◌, sym, arith, subst, length, List, ℕ, eqb-true}
 use Rattle.std.proofs.lemmas.List.{take_rest}
 use Rattle.std.proofs.lemmas.Result.{IfOk-weaker}
 use Rattle.hwdb_spec.specs.Patterns.{tokens}

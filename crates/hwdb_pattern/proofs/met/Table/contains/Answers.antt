@@ -20,6 +20,6 @@ returns-else-at-says c = (
   λ h. cc,
   λ h.
       let at = (said_at c.args.self.now.least c.args.n c.deref-says.result.now c.if-n-self.false
-          (subst (λ (l : List Bool). Contains (said c.args.self.now.least l) c.args.n) (sym c.deref-says.ensures.value) h)).0 in
+      (subst (λ (l : List Bool). Contains (said c.args.self.now.least l) c.args.n) (sym c.deref-says.ensures.value) h)).0 in
       absurd (omega (arith, at)),
 )

@@ -1,4 +1,4 @@
-use Rattle.std.proofs.Common.{List, Bool, true, false, length, refl, subst, take}
+use Rattle.std.proofs.Common.{List, Bool, length, refl, subst, take}
 use Rattle.hwdb_spec.specs.Patterns.{admits_byte, token_at}
 use Rattle.hwdb_pattern.specs.Views.{NoneTakes}
 use Rattle.hwdb_pattern.specs.Internal.Tables.{SomeAt, passes_at, said}
