@@ -14,3 +14,4 @@ pub mod JoinLemmas
 pub mod RangeLemmas
 pub mod OpenLemmas
 pub mod CutLemmas
+pub mod TableLemmas

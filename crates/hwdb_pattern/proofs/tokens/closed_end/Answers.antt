@@ -1,4 +1,4 @@
-use Rattle.std.proofs.Common.{◌≡◌, ◌≤◌, ◌∙◌, ◌+◌, sym, ap, arith, length, get_or, subst}
+use Rattle.std.proofs.Common.{◌≤◌, ◌∙◌, ◌+◌, sym, ap, arith, length, get_or, subst}
 use Rattle.std.proofs.lemmas.List.{take_rest, length-drop, get_or-drop}
 use Rattle.hwdb_pattern.proofs.ClosedPartLemmas.{ClosedTo, closed_start, closed_run, closed_step, closed_stops, closed_ends, closed_token, open_token, first_of_rest}
 use Rattle.hwdb_pattern.proofs.tokens.closed_end.Goals as goal
