@@ -6,3 +6,4 @@ pub mod ReasonLemmas
 pub mod RootLemmas
 pub mod SelectionLemmas
 pub mod RawLemmas
+pub mod EntryLemmas
