@@ -1,6 +1,5 @@
-use Rattle.std.proofs.Common.{◌≡◌, ◌<◌, ◌∙◌, ◌∷◌, ◌+◌, ◌-◌, List, ℕ, ap, arith, drop, length, rules, take}
+use Rattle.std.proofs.Common.{◌<◌, ◌∙◌, ◌∷◌, ◌+◌, List, ℕ, ap, arith, length, take}
 use Rattle.std.proofs.lemmas.Grind.{common_steps}
-use Rattle.std.proofs.lemmas.List.{take_all}
 use Rattle.hwdb_fs.specs.Raw.{entries}
 use Rattle.hwdb_fs.proofs.EntryLemmas.{first_entry_is, last_entry_is, rest_is}
 use Rattle.hwdb_fs.proofs.reads.first_entry.Goals as goal
