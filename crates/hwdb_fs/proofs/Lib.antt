@@ -7,3 +7,4 @@ pub mod RootLemmas
 pub mod SelectionLemmas
 pub mod FirstLemmas
 pub mod RawLemmas
+pub mod EntryLemmas

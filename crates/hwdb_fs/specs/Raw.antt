@@ -1,6 +1,9 @@
 -- Which answers of a file system give which result. The answers are `stat`'s, `lstat`'s and those of a read (POSIX); what is made of
 -- them is our choice.
-use Rattle.std.specs.Prelude.{◌≡◌, ◌⊎◌, ℕ, List, [], Bool, true, false, Option, Some, None, Result, Ok, Err, MatchResult, if◌then◌else◌}
+use Rattle.std.specs.Prelude.{◌≡◌, ◌⊎◌, ℕ, List, [], Bool, true, Option, Some, None, Result, Ok, Err, MatchResult, Contains, IsUtf8, filter, if◌then◌else◌}
+use Rattle.hwdb_spec.specs.Folders.{counts}
+use Rattle.hwdb_spec.specs.Lines.{is, pieces}
+use Rattle.hwdb_spec.specs.Store.{path_in}
 use Rattle.hwdb_devices.specs.declared.causes.Cause.{Cause}
 use Rattle.hwdb_devices.specs.declared.causes.Cause.TheVariants as why
 use Rattle.hwdb_transfer.specs.declared.errors.ToolError.TheVariants.{Read, TooLong, Memory}
@@ -72,6 +75,16 @@ abbrev pub database_answer : (entry : Result Bool Cause) (place : Result (List �
 database_answer entry place kind contents =
     if there_answer entry then present (at_place place (bytes_at kind contents)) else Ok None
 
+-- the names in a listing, each with byte 0 after it
+abbrev pub entries : List ℕ → List (List ℕ)
+entries listing = pieces (is 0) listing
+
+-- those of text files (hwdb(7))
+abbrev pub names_answer : Result (Option (List ℕ)) Unread → Result (List (List ℕ)) Unread
+names_answer (Ok None) = Ok []
+names_answer (Ok (Some listing)) = Ok (filter counts (entries listing))
+names_answer (Err w) = Err w
+
 -- memory was refused: that may always be said
 abbrev pub IsOfMemory : (path : List ℕ) → Refusal → Type 0
 IsOfMemory path (Plain error) = error ≡ Memory
@@ -91,3 +104,17 @@ IsRefusedAs answer path refusal = IsOfMemory path refusal ⊎ ((w : Unread) × (
 -- the result is what the answer gives, or memory was refused
 abbrev pub IsReadAs : {X Y : Type 0} (value : Y → X) (answer : Result X Unread) (path : List ℕ) → Result Y Refusal → Type 0
 IsReadAs value answer path result = MatchResult result (λ y. answer ≡ Ok (value y)) (IsRefusedAs answer path)
+
+-- a name in a folder isn't UTF-8, and the error says so
+abbrev pub IsMisnamedAt : (folder name : List ℕ) → Refusal → Type 0
+IsMisnamedAt folder name (At Read at cause) = (at.items ≡ path_in folder name) × (cause ≡ Some why.Name) × (IsUtf8 name → ⊥)
+IsMisnamedAt folder name _ = ⊥
+
+-- an error is what the answer gives, that memory was refused, or that a text file's name isn't UTF-8
+abbrev pub IsUnnamed : (answer : Result (List (List ℕ)) Unread) (folder : List ℕ) → Refusal → Type 0
+IsUnnamed answer folder refusal =
+    IsRefusedAs answer folder refusal ⊎ ((all : List (List ℕ)) × (name : List ℕ) × (answer ≡ Ok all) × Contains all name × IsMisnamedAt folder name refusal)
+
+-- the names are all that the answer gives
+abbrev pub AreNamesAs : {Y : Type 0} (value : Y → List (List ℕ)) (answer : Result (List (List ℕ)) Unread) (folder : List ℕ) → Result Y Refusal → Type 0
+AreNamesAs value answer folder result = MatchResult result (λ y. answer ≡ Ok (value y)) (IsUnnamed answer folder)

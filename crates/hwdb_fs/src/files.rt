@@ -1,8 +1,9 @@
 //! The file system as a store that is updated, and as a system that is read.
-ghost use Rattle.std.specs.Prelude.{◌≡◌, ◌++◌, [], None, IfOk, IfErr, string_bytes};
+ghost use Rattle.std.specs.Prelude.{◌≡◌, ◌⊎◌, ◌++◌, [], None, IfOk, IfErr, string_bytes};
 ghost use Rattle.hwdb_spec.specs.Failures.{after_failure, CountsFailures};
 ghost use Rattle.hwdb_spec.specs.Store as spec;
 ghost use Rattle.hwdb_fs.specs.Internal.{IsOfName};
+ghost use Rattle.hwdb_fs.specs.Raw.{IsMisnamedAt};
 ghost use Rattle.hwdb_fs.specs.Refusals.{IsUnlisted};
 
 use crate::parts::{Lockable, clear_parts, is_ours};
@@ -37,6 +38,8 @@ pub fn text_of(alloc: Global, folder: &str, name: &[u8]) -> Result<String, Refus
     ensures text { IfOk result (λ text. string_bytes text ≡ name.now) }
     ensures refused { IfErr result (IsUnlisted folder.now) }
     ensures reason { IfErr result IsOfName }
+    ensures exact { IfErr result (λ refusal. (refusal ≡ Refusal.Plain ToolError.Memory)
+        ⊎ IsMisnamedAt folder.now name.now refusal) }
 {
     match from_utf8(name) {
         Ok(name) => Ok(String::from_str(alloc, name)?),

@@ -1,7 +1,8 @@
 //! What is read, from the answers of a file system: which of them gives which result, and which error.
-ghost use Rattle.std.specs.Prelude.{◌≡◌, ◌≢◌, ◌≤◌, ◌⊎◌, true, ℕ, List, Result, Err, IfOk, IfErr, IfSome, MatchOption, option_map, vec_len};
+ghost use Rattle.std.specs.Prelude.{◌≡◌, ◌≢◌, ◌≤◌, ◌<◌, ◌⊎◌, ◌++◌, ◌∷◌, [], true, Ok, OnOk, filter, length, map, string_bytes, ℕ, List, Result, Err, IfOk, IfErr, IfSome, MatchOption, option_map, vec_len};
 ghost use Rattle.hwdb_spec.specs.Texts.{max_file};
-ghost use Rattle.hwdb_fs.specs.Raw.{IsOfMemory, IsReadAs, IsRefusedFor, at_place, bytes_of, bytes_at, database_answer, failed, text_answer, text_at, text_of_kind, there_answer};
+ghost use Rattle.hwdb_spec.specs.Folders.{counts};
+ghost use Rattle.hwdb_fs.specs.Raw.{AreNamesAs, IsMisnamedAt, entries, names_answer, IsOfMemory, IsReadAs, IsRefusedFor, at_place, bytes_of, bytes_at, database_answer, failed, text_answer, text_at, text_of_kind, there_answer};
 ghost use Rattle.hwdb_fs.specs.declared.raw.Unread.{Unread};
 ghost use Rattle.hwdb_devices.specs.declared.causes.Cause.TheVariants.{Memory};
 ghost use Rattle.hwdb_fs.specs.Refusals.{IsUnread, IsUnlisted};
@@ -10,7 +11,7 @@ use crate::files::text_of;
 use crate::raw::{Kind, RawFiles, Unread};
 use crate::refusals::Refusal;
 use hwdb_devices::Cause;
-use hwdb_text::counts;
+use hwdb_text::{counts, end_of};
 use hwdb_transfer::ToolError;
 use std::alloc::{AllocError, Global};
 
@@ -216,8 +217,10 @@ pub fn is_there<F: RawFiles>(files: &F, path: &str) -> Result<bool, AllocError>
 /// The names of a folder's text files, in the order of its listing; none if the folder isn't there. Its other entries
 /// never matter.
 ///
-/// Errors are a folder that can't be listed, and a text file's name that isn't UTF-8, with its path.
+/// Errors are a folder that can't be listed, and the first text file's name that isn't UTF-8, with its path.
 pub fn names_in<F: RawFiles>(alloc: Global, files: &F, folder: &str) -> Result<Vec<String>, Refusal>
+    ensures exact { F.tells → AreNamesAs (λ names. map string_bytes names.items)
+        (names_answer (F.listing files.now folder.now)) folder.now result }
     ensures refused { IfErr result (IsUnlisted folder.now) }
 {
     match files.listing_of(alloc, folder) {
@@ -227,16 +230,54 @@ pub fn names_in<F: RawFiles>(alloc: Global, files: &F, folder: &str) -> Result<V
     }
 }
 
+/// The first name of a listing, and what comes after it; None at the end.
+fn first_entry(listing: &[u8]) -> Option<(&[u8], &[u8])>
+    ensures entry { MatchOption result (listing.now ≡ [])
+        (λ parts. entries listing.now ≡ parts.0.now ∷ entries parts.1.now) }
+    ensures shorter { IfSome result (λ parts. length parts.1.now < length listing.now) }
+{
+    if listing.is_empty() {
+        return None;
+    }
+    let end = end_of(0, listing);
+    if end < listing.len() {
+        Some((&listing[..end], &listing[end + 1..]))
+    } else {
+        Some((listing, b""))
+    }
+}
+
+/// Adds a name, if it is a text file's.
+fn push_counted(
+    alloc: Global,
+    folder: &str,
+    name: &[u8],
+    names: &mut Vec<String>,
+) -> Result<(), Refusal>
+    ensures pushed { OnOk result (map string_bytes names.new.items
+        ≡ map string_bytes names.old.items ++ filter counts (name.now ∷ [])) }
+    ensures misnamed { IfErr result (λ refusal. (refusal ≡ Refusal.Plain ToolError.Memory)
+        ⊎ ((counts name.now ≡ true) × IsMisnamedAt folder.now name.now refusal)) }
+    ensures refused { IfErr result (IsUnlisted folder.now) }
+{
+    if counts(name) {
+        let name = text_of(alloc, folder, name)?;
+        names.push(name).map_err(AllocError::from)?;
+    }
+    Ok(())
+}
+
 /// The names of text files in a listing, which has byte 0 after each name.
 fn names_of(alloc: Global, folder: &str, listing: &[u8]) -> Result<Vec<String>, Refusal>
+    ensures exact { AreNamesAs (λ names. map string_bytes names.items)
+        (Ok (filter counts (entries listing.now))) folder.now result }
     ensures refused { IfErr result (IsUnlisted folder.now) }
 {
     let mut names = Vec::new(alloc);
-    for name in listing.split(|byte| *byte == 0) {
-        if counts(name) {
-            let name = text_of(alloc, folder, name)?;
-            names.push(name).map_err(AllocError::from)?;
-        }
+    let mut left = listing;
+    'names: while let Some((name, rest)) = first_entry(left) {
+        push_counted(alloc, folder, name, &mut names)?;
+        left = rest;
     }
     Ok(names)
 }
