@@ -12,6 +12,7 @@
 //! | `pieces` | forms as data |
 //! | `table` | the forms that udev asks |
 //! | `sets` | sets of bytes, and which tokens take one of theirs |
+//! | `leads` | how pieces begin, before the first star |
 //! | `rows` | the rows of a form |
 //! | `judging` | what is said of a pattern |
 //! | `laws` | what is proved of the definitions alone |
@@ -19,6 +20,7 @@
 
 mod judging;
 mod laws;
+mod leads;
 mod pieces;
 mod rows;
 mod sets;
