@@ -7,3 +7,4 @@ pub mod LeadLemmas
 pub mod AnswerLemmas
 pub mod ExampleLemmas
 pub mod FrontLemmas
+pub mod ExpectedLemmas

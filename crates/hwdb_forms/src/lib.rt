@@ -15,9 +15,11 @@
 //! | `leads` | how pieces begin, before the first star |
 //! | `rows` | the rows of a form |
 //! | `judging` | what is said of a pattern |
+//! | `expecting` | what can be written at a place of a pattern |
 //! | `laws` | what is proved of the definitions alone |
 #![tactic(auto)]
 
+mod expecting;
 mod judging;
 mod laws;
 mod leads;
@@ -26,5 +28,6 @@ mod rows;
 mod sets;
 mod table;
 
+pub use expecting::expected;
 pub use judging::judge;
 pub use laws::{examples_fit, forms_are_tested, fronts_are_longest, fronts_are_tested};
