@@ -13,3 +13,4 @@ pub mod ComputedRows
 pub mod JoinLemmas
 pub mod RangeLemmas
 pub mod OpenLemmas
+pub mod CutLemmas

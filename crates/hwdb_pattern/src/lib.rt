@@ -22,6 +22,7 @@
 //! | `classes` | the named classes of bytes, as `[:digit:]` |
 //! | `brackets` | brackets and the items in them |
 //! | `tokens` | the tokens of a pattern |
+//! | `cut` | the tokens of a pattern as a list |
 //! | `opens` | where a `[` begins no closed bracket |
 //! | `unusual` | a `[` that begins no closed bracket, a range without members |
 //! | `search` | whether a pattern matches a device |
@@ -32,6 +33,7 @@
 
 mod brackets;
 mod classes;
+mod cut;
 mod laws;
 mod lengths;
 mod opens;
@@ -41,6 +43,7 @@ mod tokens;
 mod unusual;
 
 pub use brackets::bracket_end;
+pub use cut::{begins_star, begins_with, front_size, token_texts};
 pub use laws::{
     closed_bracket_stays, closed_part_is_cut_alike, dead_matches_nothing, dead_stays_dead,
     live_is_tested, matches_is_tested, tokens_are_the_pattern, worked_rows,

@@ -3,6 +3,8 @@ pub mod Lines
 pub mod Records
 pub mod Folders
 pub mod Patterns
+pub mod Forms
+pub mod FormTable
 pub mod Last
 pub mod Answers
 pub mod Tree

@@ -10,6 +10,8 @@
 //! | `Records` | what a file assigns, and its faults |
 //! | `Folders` | which files of two folders count, and what they assign together |
 //! | `Patterns` | brackets, tokens, and what matches |
+//! | `Forms` | forms of texts, and whether a pattern can match a text of some form |
+//! | `FormTable` | the forms of the texts that udev asks |
 //! | `Last` | which assignments are the last ones, in words |
 //! | `Answers` | the last assignments, those that match, those after a position, and the effective list |
 //! | `Tree` | nodes, the map that they stand for, their answers, and live nodes |
@@ -71,6 +73,50 @@ pub enum Class {
     Space,
     Upper,
     Xdigit,
+}
+
+/// A set of bytes, of which a piece of a form has some.
+#[derive(Clone, Copy, Debug, PartialEq, Eq)]
+pub enum ByteSet {
+    /// One byte.
+    Only(u8),
+    /// `0-9` and `A-F`.
+    UpperHex,
+    /// `0-9` and `a-f`.
+    LowerHex,
+    /// Digits to the base 16, in both cases.
+    AnyHex,
+    /// Digits to the base 16 in lower case, and the space.
+    HexOrBlank,
+    /// What follows the `-` in the name of an input device: digits, commas and the letters before them.
+    InputBits,
+    /// What names the units of a FireWire node.
+    Units,
+    /// Letters, digits, `-` and `_`.
+    Name,
+    /// These, and the colon.
+    Names,
+    /// What the kernel leaves of a text of the machine's firmware.
+    Dmi,
+    /// What udev's `$attr{}` leaves of that.
+    DmiLeft,
+    /// What udev's `$attr{}` leaves of any text.
+    Left,
+    /// These but the colon.
+    LeftButColon,
+    /// Any byte but 0.
+    Any,
+}
+
+/// What is said of a pattern, beside the texts that are asked.
+#[derive(Clone, Copy, Debug, PartialEq, Eq)]
+pub enum Judgement {
+    /// It matches one of them.
+    Fine,
+    /// It matches none, and none begins with its prefix.
+    UnknownPrefix,
+    /// It matches none. After so many of its bytes is the first token that none goes on with.
+    Dead(usize),
 }
 
 /// What is wrong with a line.

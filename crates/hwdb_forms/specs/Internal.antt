@@ -1,0 +1,86 @@
+-- What the proofs of this crate speak of: forms and languages as they are computed, from the left to the right.
+use Rattle.std.specs.Prelude.{ℕ, Bool, false, true, List, [], ◌∷◌, IsTrue, ◌≡◌, ◌⊎◌, if◌then◌else◌, map, suc, zero}
+use Rattle.std.proofs.Common.{Bor}
+use Rattle.hwdb_spec.specs.Patterns.{Token, admits_byte, Matches, token_at}
+use Rattle.hwdb_spec.specs.Forms.{Piece, Form, fixed, counted, repeated, is_in, is_star}
+use Rattle.hwdb_spec.specs.Forms
+use Rattle.hwdb_spec.specs.declared.ByteSet.{ByteSet}
+use Rattle.hwdb_spec.specs.declared.ByteSet.TheVariants.{Only}
+use Rattle.hwdb_forms.specs.declared.pieces.Piece.TheVariants.{Fixed, Counted, Repeated}
+use Rattle.hwdb_forms.specs.declared.pieces.Piece
+use Rattle.hwdb_forms.specs.declared.pieces.Form
+
+-- what a piece of Rust's stands for, and a form
+abbrev pub piece_of : Piece.Piece → Forms.Piece
+piece_of (Fixed bytes) = fixed bytes.now
+piece_of (Counted set n) = counted set n
+piece_of (Repeated set) = repeated set
+
+abbrev pub form_of : Form.Form → Forms.Form
+form_of f = record { prefix = f.prefix.now; fields = map (λ field. map (λ way. map piece_of way.now) field.now) f.fields.now }
+
+-- the tokens that the texts begin with
+abbrev pub views : List (Bor (List ℕ)) → List Token
+views texts = map (λ text. token_at text.now) texts
+
+-- whether a token takes a byte; a star takes any
+abbrev pub takes : Token → ℕ → Bool
+takes token b = if is_star token then true else admits_byte token b
+
+-- whether a byte is in a set, and a token admits it
+abbrev pub takes_of_set : Token → ByteSet → ℕ → Bool
+takes_of_set token set b = if is_in set b then admits_byte token b else false
+
+-- a byte of the set, then what is told
+abbrev pub ByteThen : ByteSet → (List ℕ → Type 0) → List ℕ → Type 0
+ByteThen set Behind [] = ⊥
+ByteThen set Behind (b ∷ rest) = IsTrue (is_in set b) × Behind rest
+
+-- any number of bytes of the set, also none, then what is told
+abbrev pub ManyThen : ByteSet → (List ℕ → Type 0) → List ℕ → Type 0
+ManyThen set Behind [] = Behind []
+ManyThen set Behind (b ∷ rest) = Behind (b ∷ rest) ⊎ (IsTrue (is_in set b) × ManyThen set Behind rest)
+
+-- these bytes, then what is told
+abbrev pub FixedThen : List ℕ → (List ℕ → Type 0) → List ℕ → Type 0
+FixedThen [] Behind text = Behind text
+FixedThen (own ∷ more) Behind text = ByteThen (Only own) (FixedThen more Behind) text
+
+-- so many bytes of the set, then what is told
+abbrev pub CountedThen : ByteSet → ℕ → (List ℕ → Type 0) → List ℕ → Type 0
+CountedThen set zero Behind text = Behind text
+CountedThen set (suc n) Behind text = ByteThen set (CountedThen set n Behind) text
+
+abbrev pub PieceThen : Forms.Piece → (List ℕ → Type 0) → List ℕ → Type 0
+PieceThen (fixed bytes) Behind text = FixedThen bytes Behind text
+PieceThen (counted set n) Behind text = CountedThen set n Behind text
+PieceThen (repeated set) Behind text = ManyThen set Behind text
+
+-- the pieces in order, then what is told
+abbrev pub PiecesThen : List Forms.Piece → (List ℕ → Type 0) → List ℕ → Type 0
+PiecesThen [] Behind text = Behind text
+PiecesThen (piece ∷ more) Behind text = PieceThen piece (PiecesThen more Behind) text
+
+-- one of several ways, then what is told
+abbrev pub FieldThen : List (List Forms.Piece) → (List ℕ → Type 0) → List ℕ → Type 0
+FieldThen [] Behind text = ⊥
+FieldThen (way ∷ more) Behind text = PiecesThen way Behind text ⊎ FieldThen more Behind text
+
+-- fields in order, to the text's end
+abbrev pub Fields : List (List (List Forms.Piece)) → List ℕ → Type 0
+Fields [] text = text ≡ []
+Fields (field ∷ more) text = FieldThen field (Fields more) text
+
+abbrev pub Fits : Forms.Form → List ℕ → Type 0
+Fits form text = FixedThen form.prefix (Fields form.fields) text
+
+-- some text that is as told is matched
+abbrev pub IsMet : (List ℕ → Type 0) → List Token → Type 0
+IsMet Told ts = (text : List ℕ) × Told text × Matches ts text
+
+-- whether tokens begin otherwise than with these bytes, before a star
+abbrev pub begins_otherwise : List ℕ → List Token → Bool
+begins_otherwise [] ts = false
+begins_otherwise (b ∷ bytes) [] = false
+begins_otherwise (b ∷ bytes) (t ∷ ts) =
+    if is_star t then false else (if Forms.meets t (Only b) then begins_otherwise bytes ts else true)
