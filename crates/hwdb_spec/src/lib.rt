@@ -187,6 +187,8 @@ pub enum WarningKind {
     Replaced(u64),
     /// Its property doesn't fit what is known of properties.
     Misused(Misuse),
+    /// It is a pattern that matches no text that udev asks.
+    Unmatched(Judgement),
 }
 
 /// How many files were checked, and how much was found in them.
