@@ -13,6 +13,7 @@
 //! | `line_texts` | the text of a line, by its number |
 //! | `line_warnings` | which warnings a line gets, by its clean text |
 //! | `misuses` | properties that don't fit what is known of properties |
+//! | `judgements` | patterns that match no text that udev asks |
 //! | `repeats` | match lines that their record has already |
 //! | `replacements` | assignments that a later line of the same file replaces |
 //! | `known` | what is known of a file before its lines are read one by one |
@@ -22,6 +23,7 @@
 #![tactic(auto)]
 
 mod files;
+mod judgements;
 mod known;
 mod line_texts;
 mod line_warnings;

@@ -10,7 +10,7 @@ ghost use Rattle.hwdb_lint.specs.Internal.{line_of, read_line, IsRead};
 
 use crate::places::indent_of;
 use hwdb_pattern::{open_place, range_place};
-use hwdb_spec::{Misuse, WarningKind};
+use hwdb_spec::{Judgement, Misuse, WarningKind};
 use hwdb_text::end_of;
 
 /// A line that is read.
@@ -30,6 +30,8 @@ pub struct Read<'a> {
     pub replaced_by: u64,
     /// Why it doesn't fit what is known of properties.
     pub misuse: Option<Misuse>,
+    /// What is said of it as a pattern.
+    pub judgement: Judgement,
 }
 
 /// Whether a text begins with a byte order mark.
@@ -157,6 +159,13 @@ fn has_cut_value(text: &[u8], clean: &[u8]) -> bool
     is_property(clean) && has_equals(clean) && is_cut(text, clean)
 }
 
+/// Whether a pattern matches no text that udev asks.
+fn is_unmatched(judgement: Judgement) -> bool
+    ensures { result ≡ Warnings.is_unmatched judgement }
+{
+    !matches!(judgement, Judgement::Fine)
+}
+
 /// Whether a line gets a warning.
 pub fn is_warned(kind: WarningKind, line: &Read<'_>) -> bool
     requires { IsRead line.now }
@@ -174,5 +183,6 @@ pub fn is_warned(kind: WarningKind, line: &Read<'_>) -> bool
         WarningKind::RepeatedMatch => line.repeated,
         WarningKind::Replaced(_) => line.replaced_by > 0,
         WarningKind::Misused(_) => line.misuse.is_some(),
+        WarningKind::Unmatched(_) => is_unmatched(line.judgement),
     }
 }

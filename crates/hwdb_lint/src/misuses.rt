@@ -48,11 +48,7 @@ pub fn misuse_in(clean: &[u8]) -> Option<Misuse>
 }
 
 /// Adds the line of what to do about a misuse in a clean line.
-pub fn push_misuse_line(
-    text: &mut Vec<u8>,
-    misuse: Misuse,
-    clean: &[u8],
-) -> Result<(), AllocError>
+pub fn push_misuse_line(text: &mut Vec<u8>, misuse: Misuse, clean: &[u8]) -> Result<(), AllocError>
     ensures { OnOk result (text.new.items ≡ text.old.items
         ++ hint_line (misuse_hint misuse
         (Lines.key (line_of 0 clean.now)) (Lines.value (line_of 0 clean.now)))) }

@@ -7,6 +7,7 @@ ghost use Rattle.hwdb_spec.specs.Warnings.{all_warnings, warned, line_warnings, 
 ghost use Rattle.hwdb_text.specs.Views.{given_in};
 ghost use Rattle.hwdb_lint.specs.Internal.{IsKnown, IsPlain, IsRead, clean_of, line_of, number_text, own, read_line};
 
+use crate::judgements::judgement_of;
 use crate::known::{Known, known_of};
 use crate::line_warnings::{Read, closed, is_warned};
 use crate::misuses::{misuse_in, push_misuse_line};
@@ -15,7 +16,7 @@ use crate::reports::push_hint_line;
 use crate::shown::{push_mark_line, push_shown_line};
 use hwdb_pattern::{open_place, range_place};
 use hwdb_properties::misuse_text;
-use hwdb_spec::{Misuse, WarningKind};
+use hwdb_spec::{Judgement, Misuse, WarningKind};
 use hwdb_text::{Content, Given, content_of, end_of};
 use itoa::Buffer;
 use std::alloc::{AllocError, Global};
@@ -35,6 +36,11 @@ fn text_of(kind: WarningKind) -> &'static str
         WarningKind::RepeatedMatch => "a match line that stands in its record already",
         WarningKind::Replaced(_) => "an assignment that line ",
         WarningKind::Misused(misuse) => misuse_text(misuse),
+        WarningKind::Unmatched(Judgement::Fine) => "",
+        WarningKind::Unmatched(Judgement::UnknownPrefix) => "no device string begins so",
+        WarningKind::Unmatched(Judgement::Dead(_)) => {
+            "no device string is matched: none goes on here"
+        }
     }
 }
 
@@ -64,7 +70,13 @@ fn hint_of(kind: WarningKind) -> &'static str
         WarningKind::SpacedEquals => "take it away: it belongs to the key or to the value",
         WarningKind::CutValue => "put a blank before a comment; a value can't hold a #",
         WarningKind::RepeatedMatch | WarningKind::Replaced(_) => "take one of the two away",
-        WarningKind::Misused(_) => "",
+        WarningKind::Misused(_) | WarningKind::Unmatched(Judgement::Fine) => "",
+        WarningKind::Unmatched(Judgement::UnknownPrefix) => {
+            "begin it as udev's strings do, with evdev: or mouse: or usb: and the like"
+        }
+        WarningKind::Unmatched(Judgement::Dead(_)) => {
+            "compare it byte by byte with a string that udev asks, upper and lower case too"
+        }
     }
 }
 
@@ -93,6 +105,8 @@ fn warning_place(kind: WarningKind, line: &[u8], clean: &[u8]) -> usize
         WarningKind::Replaced(_) => indent_of(line),
         WarningKind::Misused(Misuse::NearName | Misuse::ScanCode) => indent_of(line),
         WarningKind::Misused(Misuse::UnknownKey | Misuse::UnfitValue) => end_of(b'=', line) + 1,
+        WarningKind::Unmatched(Judgement::Fine | Judgement::UnknownPrefix) => 0,
+        WarningKind::Unmatched(Judgement::Dead(place)) => place,
     }
 }
 
@@ -192,7 +206,8 @@ impl Warned {
         self.put_if(alloc, path, line, WarningKind::RepeatedMatch)?;
         self.put_if(alloc, path, line, WarningKind::Replaced(line.replaced_by))?;
         let misuse = line.misuse.unwrap_or(Misuse::NearName);
-        self.put_if(alloc, path, line, WarningKind::Misused(misuse))
+        self.put_if(alloc, path, line, WarningKind::Misused(misuse))?;
+        self.put_if(alloc, path, line, WarningKind::Unmatched(line.judgement))
     }
 
     /// Adds the warnings of a line of a file with its clean text.
@@ -223,6 +238,7 @@ impl Warned {
             repeated: known.repeated.contains(&number),
             replaced_by: known.replaced.get(&number).copied().unwrap_or(0),
             misuse: misuse_in(clean),
+            judgement: judgement_of(alloc, clean)?,
         };
         self.put_all(alloc, path, &line)
     }

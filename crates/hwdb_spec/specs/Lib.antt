@@ -17,6 +17,7 @@ pub mod Dump
 pub mod Summary
 pub mod Verdicts
 pub mod Reports
+pub mod Properties
 pub mod Warnings
 pub mod Checks
 pub mod Progress
@@ -36,5 +37,4 @@ pub mod LeftOut
 pub mod Asked
 pub mod Library
 pub mod Hiding
-pub mod Properties
 pub mod Done

@@ -3,7 +3,7 @@ use Rattle.std.specs.Prelude.{Bool, true, false, ℕ, List, [], ◌∷◌, ◌++
 use Rattle.std.specs.Fmt.{decimal}
 use Rattle.std.specs.List.{list_any, position_or_len, prefix_len, starts_with}
 use Rattle.std.specs.Option.{unwrap_or}
-use Rattle.hwdb_spec.specs.Lines.{Line, begins_with, byte, clean, clean_line, has, has_equals, has_key, is, is_dropped, is_indent, is_match, is_none, is_property, key, lines, value}
+use Rattle.hwdb_spec.specs.Lines.{Line, begins_with, byte, clean, clean_line, has, has_equals, has_key, is, is_dropped, is_indent, is_match, is_none, is_property, key, lines, max_pattern, value}
 use Rattle.hwdb_spec.specs.Assignment.{Assignment}
 use Rattle.hwdb_spec.specs.Records.{assignments}
 use Rattle.hwdb_spec.specs.Folders.{same}
@@ -12,10 +12,14 @@ use Rattle.hwdb_spec.specs.Tree.{closed_part, is_open}
 use Rattle.hwdb_spec.specs.Texts.{place_text}
 use Rattle.hwdb_spec.specs.Properties.{misuse, misuse_hint, misuse_text}
 use Rattle.hwdb_spec.specs.Reports.{hint_line, mark_line, shown_line}
+use Rattle.hwdb_spec.specs.FormTable.{asked}
+use Rattle.hwdb_spec.specs.Forms.{judged}
+use Rattle.hwdb_spec.specs.declared.Judgement.{Judgement}
+use Rattle.hwdb_spec.specs.declared.Judgement.TheVariants.{Dead, Fine, UnknownPrefix}
 use Rattle.hwdb_spec.specs.declared.WarningKind.{WarningKind}
 use Rattle.hwdb_spec.specs.declared.vocabulary.Misuse.{Misuse}
 use Rattle.hwdb_spec.specs.declared.vocabulary.Misuse.TheVariants.{NearName, ScanCode, UnfitValue, UnknownKey}
-use Rattle.hwdb_spec.specs.declared.WarningKind.TheVariants.{ByteOrderMark, CarriageReturn, CutValue, EmptyRange, LeadingTab, Misused, OpenBracket, RepeatedMatch, Replaced, SpacedEquals}
+use Rattle.hwdb_spec.specs.declared.WarningKind.TheVariants.{ByteOrderMark, CarriageReturn, CutValue, EmptyRange, LeadingTab, Misused, OpenBracket, RepeatedMatch, Replaced, SpacedEquals, Unmatched}
 
 -- whether the key of a property ends with a space or a tab, or its value begins with one
 abbrev pub is_spaced : Line → Bool
@@ -74,11 +78,23 @@ misused l =
     if is_property l then (if has_equals l then (if has_key l then (if is_spaced l then None else misuse (key l) (value l)) else None) else None)
     else None
 
+-- what is said of a clean text that is a pattern of at most 4,096 bytes; nothing of any other
+unfoldable pub judgement_of : List ℕ → Judgement
+judgement_of text =
+    if is_none text then Fine else (if begins_with (byte " ") text then Fine else (if nat_lt max_pattern (length text) then Fine else judged asked text))
+
+-- whether a pattern matches no text that udev asks
+abbrev pub is_unmatched : Judgement → Bool
+is_unmatched Fine = false
+is_unmatched UnknownPrefix = true
+is_unmatched (Dead place) = true
+
 -- Whether a line of a file, of which this is the clean line, gets a warning: its clean text begins with the three bytes of a UTF-8
 -- byte order mark; with a tab, and so is a match line; a carriage return stands in it, which isn't among its trailing blanks. Of a
 -- match line: a `[` of it begins no closed bracket; before the first such `[` a range has no members. Of a property that has a key:
 -- a blank stands beside its first `=`. Of a property with a `=`: a `#` cuts it, before which no blank stands. It is a match line that
--- stands in its record already. Lines behind it replace what it gives. What is known of properties doesn't fit it.
+-- stands in its record already. Lines behind it replace what it gives. What is known of properties doesn't fit it. It
+-- is a pattern that matches no text that udev asks.
 abbrev pub warns : (file : List ℕ) → WarningKind → (line clean : Line) → Bool
 warns file ByteOrderMark line l = starts_with nat_eq l.text (239 ∷ 187 ∷ 191 ∷ [])
 warns file LeadingTab line l = begins_with (byte "\t") l.text
@@ -91,6 +107,7 @@ warns file CutValue line l = if is_property l then (if has_equals l then is_cut 
 warns file RepeatedMatch line l = list_any (is l.number) (repeated_lines file)
 warns file (Replaced by) line l = not (is_none (replacing file l.number))
 warns file (Misused why) line l = is_some (misused l)
+warns file (Unmatched told) line l = is_unmatched (judgement_of l.text)
 
 -- one warning of a line, or none
 abbrev pub warned : (file : List ℕ) → WarningKind → (line clean : Line) → List WarningKind
@@ -108,7 +125,8 @@ all_warnings file line clean =
     ++ (warned file CutValue line clean
     ++ (warned file RepeatedMatch line clean
     ++ (warned file (Replaced (greatest (replacing file clean.number))) line clean
-    ++ warned file (Misused (unwrap_or (misused clean) NearName)) line clean))))))))
+    ++ (warned file (Misused (unwrap_or (misused clean) NearName)) line clean
+    ++ warned file (Unmatched (judgement_of clean.text)) line clean)))))))))
 
 -- the warnings of a line of a file; none where the line is dropped
 abbrev pub line_warnings : (file : List ℕ) → Line → List WarningKind
@@ -130,6 +148,9 @@ warning_text CutValue = codes "a # without a blank before it cuts the value"
 warning_text RepeatedMatch = codes "a match line that stands in its record already"
 warning_text (Replaced by) = codes "an assignment that line " ++ (decimal by ++ codes " replaces")
 warning_text (Misused why) = misuse_text why
+warning_text (Unmatched Fine) = []
+warning_text (Unmatched UnknownPrefix) = codes "no device string begins so"
+warning_text (Unmatched (Dead place)) = codes "no device string is matched: none goes on here"
 
 -- behind how many bytes of its line a warning stands, of a line with this text and this clean text
 abbrev pub warning_place : WarningKind → (text clean : List ℕ) → ℕ
@@ -146,6 +167,9 @@ warning_place (Misused NearName) text clean = prefix_len is_indent text
 warning_place (Misused ScanCode) text clean = prefix_len is_indent text
 warning_place (Misused UnknownKey) text clean = position_or_len (is (byte "=")) text + 1
 warning_place (Misused UnfitValue) text clean = position_or_len (is (byte "=")) text + 1
+warning_place (Unmatched Fine) text clean = 0
+warning_place (Unmatched UnknownPrefix) text clean = 0
+warning_place (Unmatched (Dead place)) text clean = place
 
 -- what to do about a warning
 abbrev pub warning_hint : WarningKind → (clean : Line) → List ℕ
@@ -159,6 +183,9 @@ warning_hint CutValue clean = codes "put a blank before a comment; a value can't
 warning_hint RepeatedMatch clean = codes "take one of the two away"
 warning_hint (Replaced by) clean = codes "take one of the two away"
 warning_hint (Misused why) clean = misuse_hint why (key clean) (value clean)
+warning_hint (Unmatched Fine) clean = []
+warning_hint (Unmatched UnknownPrefix) clean = codes "begin it as udev's strings do, with evdev: or mouse: or usb: and the like"
+warning_hint (Unmatched (Dead place)) clean = codes "compare it byte by byte with a string that udev asks, upper and lower case too"
 
 -- the line of a warning: where it stands, `: warning: `, what is unusual
 abbrev pub warning_line : (path : List ℕ) (number : ℕ) → WarningKind → List ℕ

@@ -54,9 +54,8 @@ ghost use Rattle.hwdb_spec.specs.Texts.{db_fault_name, db_fault_offset};
 
 mod vocabulary;
 
-pub use vocabulary::{KEY_NAMES, Misuse, PROPERTIES, ValueForm};
-
 use std::{error, fmt};
+pub use vocabulary::{KEY_NAMES, Misuse, PROPERTIES, ValueForm};
 
 /// A named class of bytes, as POSIX has it in the C locale.
 #[derive(Clone, Copy)]
@@ -187,6 +186,8 @@ pub enum WarningKind {
     Replaced(u64),
     /// Its property doesn't fit what is known of properties.
     Misused(Misuse),
+    /// It is a pattern that matches no text that udev asks.
+    Unmatched(Judgement),
 }
 
 /// How many files were checked, and how much was found in them.

@@ -69,9 +69,25 @@ pub const KEY_NAMES: &str = "\
 /// The properties that udev's rules, systemd and libinput read. A line each: its name, the form of its value, the
 /// prefixes of the patterns below which it is read, and where this is said, with a space between. A name that ends with
 /// `_` is for all that begin with it. `*` is for any prefix. A form is one of those of `ValueForm`, in lower case, or
-/// else the values themselves, with `|` between.
+/// else the values themselves, with `|` between. Names that many lines have come first.
 pub const PROPERTIES: &str = "\
+    ID_MODEL_FROM_DATABASE any * 20-pci-vendor-model.hwdb\n\
+    ID_VENDOR_FROM_DATABASE any * 20-usb-vendor-model.hwdb\n\
+    ID_OUI_FROM_DATABASE any * 20-OUI.hwdb\n\
+    ID_PCI_CLASS_FROM_DATABASE any * 20-pci-classes.hwdb\n\
+    ID_PCI_SUBCLASS_FROM_DATABASE any * 20-pci-classes.hwdb\n\
+    ID_PCI_INTERFACE_FROM_DATABASE any * 20-pci-classes.hwdb\n\
+    ID_USB_CLASS_FROM_DATABASE any * 20-usb-classes.hwdb\n\
+    ID_USB_SUBCLASS_FROM_DATABASE any * 20-usb-classes.hwdb\n\
+    ID_USB_PROTOCOL_FROM_DATABASE any * 20-usb-classes.hwdb\n\
+    ID_SDIO_CLASS_FROM_DATABASE any * 20-sdio-classes.hwdb\n\
+    ID_VMBUS_CLASS_FROM_DATABASE any * 20-vmbus-class.hwdb\n\
+    ID_PRODUCT_FROM_DATABASE any * 20-bluetooth-vendor-product.hwdb\n\
+    ID_NET_NAME_FROM_DATABASE any * 20-net-ifname.hwdb\n\
     MOUSE_DPI resolutions mouse 70-mouse.hwdb\n\
+    KEYBOARD_KEY_ key evdev 60-keyboard.hwdb\n\
+    EVDEV_ABS_ axis evdev 60-evdev.hwdb\n\
+    ACCEL_MOUNT_MATRIX matrix sensor|evdev 60-sensor.hwdb\n\
     MOUSE_WHEEL_CLICK_ANGLE integer mouse 70-mouse.hwdb\n\
     MOUSE_WHEEL_CLICK_ANGLE_HORIZONTAL integer mouse 70-mouse.hwdb\n\
     MOUSE_WHEEL_CLICK_COUNT integer mouse 70-mouse.hwdb\n\
@@ -90,13 +106,13 @@ pub const PROPERTIES: &str = "\
     ID_INPUT_TABLET_PAD 0|1 id-input|evdev|mouse|touchpad|libwacom|usb|input|joystick 60-input-id.hwdb\n\
     ID_INPUT_TOUCHPAD 0|1 id-input|evdev|mouse|touchpad|libwacom|usb|input|joystick 60-input-id.hwdb\n\
     ID_INPUT_TOUCHSCREEN 0|1 id-input|evdev|mouse|touchpad|libwacom|usb|input|joystick 60-input-id.hwdb\n\
-    ID_INPUT_TRACKBALL 0|1 id-input|evdev|mouse|touchpad|libwacom|usb|input|joystick 60-input-id.hwdb\n\
-    ID_INPUT_3D_MOUSE 0|1 id-input|evdev|mouse|touchpad|libwacom|usb|input|joystick 60-input-id.hwdb\n\
+    ID_INPUT_TRACKBALL 0|1 id-input|evdev|mouse|touchpad|libwacom|usb|input|joystick 70-mouse.hwdb\n\
+    ID_INPUT_3D_MOUSE 0|1 id-input|evdev|mouse|touchpad|libwacom|usb|input|joystick 70-mouse.hwdb\n\
     ID_INPUT_JOYSTICK_INTEGRATION internal|external joystick 70-joystick.hwdb\n\
     ID_INPUT_TOUCHPAD_INTEGRATION internal|external touchpad 70-touchpad.hwdb\n\
     ID_INTEGRATION internal|external * 60-keyboard.hwdb\n\
-    ID_AUTOSUSPEND 0|1 * 60-autosuspend.hwdb\n\
-    ID_PERSIST 0|1 * 60-autosuspend.hwdb\n\
+    ID_AUTOSUSPEND 0|1 * 60-autosuspend-fingerprint-reader.hwdb\n\
+    ID_PERSIST 0|1 * 60-autosuspend-fingerprint-reader.hwdb\n\
     ID_AUTOSUSPEND_DELAY_MS integer * 60-autosuspend.hwdb\n\
     ID_AV_PRODUCTION_CONTROLLER 0|1 * 70-av-production.hwdb\n\
     ID_AV_LIGHTS 0|1 * 70-av-production.hwdb\n\
@@ -107,9 +123,9 @@ pub const PROPERTIES: &str = "\
     ID_SOFTWARE_RADIO 0|1 * 70-software-radio.hwdb\n\
     ID_INFRARED_CAMERA 0|1 * 70-cameras.hwdb\n\
     ID_CAMERA_DIRECTION front|rear camera 70-cameras.hwdb\n\
-    ID_MM_DEVICE_IGNORE 0|1 * ModemManager\n\
+    ID_MM_DEVICE_IGNORE 0|1 * 70-software-radio.hwdb\n\
     ID_NET_AUTO_LINK_LOCAL_ONLY 0|1 * 82-net-auto-link-local.hwdb\n\
-    ID_NET_NAME_INCLUDE_DOMAIN 0|1 * 82-net-auto-link-local.hwdb\n\
+    ID_NET_NAME_INCLUDE_DOMAIN 0|1 * 20-net-ifname.hwdb\n\
     ID_SYS_VENDOR_IS_RUBBISH 0|1 dmi 20-dmi-id.hwdb\n\
     ID_PRODUCT_NAME_IS_RUBBISH 0|1 dmi 20-dmi-id.hwdb\n\
     ID_PRODUCT_VERSION_IS_RUBBISH 0|1 dmi 20-dmi-id.hwdb\n\
@@ -125,9 +141,6 @@ pub const PROPERTIES: &str = "\
     XKB_FIXED_MODEL any evdev 60-keyboard.hwdb\n\
     KEYBOARD_LED_NUMLOCK 0|1 evdev 60-keyboard.hwdb\n\
     KEYBOARD_LED_CAPSLOCK 0|1 evdev 60-keyboard.hwdb\n\
-    KEYBOARD_KEY_ key evdev 60-keyboard.hwdb\n\
-    EVDEV_ABS_ axis evdev 60-evdev.hwdb\n\
-    ACCEL_MOUNT_MATRIX matrix sensor|evdev 60-sensor.hwdb\n\
     ACCEL_LOCATION display|base sensor 60-sensor.hwdb\n\
     PROXIMITY_NEAR_LEVEL count sensor 60-sensor.hwdb\n\
     IEEE1394_UNIT_FUNCTION_MIDI 0|1 ieee1394 80-ieee1394-unit-function.hwdb\n\
@@ -135,19 +148,6 @@ pub const PROPERTIES: &str = "\
     IEEE1394_UNIT_FUNCTION_VIDEO 0|1 ieee1394 80-ieee1394-unit-function.hwdb\n\
     ID_TAG_MASTER_OF_SEAT 0|1 fb|pci 60-seat.hwdb\n\
     SOUND_FORM_FACTOR internal|webcam|speaker|headphone|headset|handset|microphone|controller * 70-sound-card.hwdb\n\
-    ID_VENDOR_FROM_DATABASE any * 20-pci-vendor-model.hwdb\n\
-    ID_MODEL_FROM_DATABASE any * 20-pci-vendor-model.hwdb\n\
-    ID_OUI_FROM_DATABASE any * 20-pci-vendor-model.hwdb\n\
-    ID_PCI_CLASS_FROM_DATABASE any * 20-pci-vendor-model.hwdb\n\
-    ID_PCI_SUBCLASS_FROM_DATABASE any * 20-pci-vendor-model.hwdb\n\
-    ID_PCI_INTERFACE_FROM_DATABASE any * 20-pci-vendor-model.hwdb\n\
-    ID_USB_CLASS_FROM_DATABASE any * 20-pci-vendor-model.hwdb\n\
-    ID_USB_SUBCLASS_FROM_DATABASE any * 20-pci-vendor-model.hwdb\n\
-    ID_USB_PROTOCOL_FROM_DATABASE any * 20-pci-vendor-model.hwdb\n\
-    ID_SDIO_CLASS_FROM_DATABASE any * 20-pci-vendor-model.hwdb\n\
-    ID_VMBUS_CLASS_FROM_DATABASE any * 20-pci-vendor-model.hwdb\n\
-    ID_PRODUCT_FROM_DATABASE any * 20-pci-vendor-model.hwdb\n\
-    ID_NET_NAME_FROM_DATABASE any * 20-pci-vendor-model.hwdb\n\
     TPM2_BROKEN_NVPCR 0|1 tpm2 60-tpm2.hwdb\n\
     VSOCK_ACCEPT_VMADDR_CID_ANY 0|1 * systemd\n\
     CHARGE_LIMIT limits battery 60-upower-battery.hwdb\n";
