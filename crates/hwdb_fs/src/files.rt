@@ -11,10 +11,10 @@ use crate::refusals::Refusal;
 use crate::rooted::Rooted;
 use crate::roots::Root;
 use crate::system::System;
-use hwdb_devices::{Cause, FromRead, after_failure, write_on};
+use hwdb_io::{MAX_BYTES, Cause, FromRead, after_failure, read_all, write_on};
+use hwdb_print::ToolError;
 use hwdb_replace::{CallFailed, Store};
 use hwdb_text::counts;
-use hwdb_transfer::{MAX_BYTES, ToolError, read_all};
 use std::alloc::{AllocError, Global};
 use std::fs::{self, File, Metadata, OpenFile, OpenOptions, Permissions};
 use std::io::{self, ErrorKind, Read};
@@ -112,7 +112,10 @@ pub fn all_of<R: Read + Drop>(alloc: Global, reader: R, path: &str) -> Result<Ve
     let mut source = FromRead::new(reader);
     match read_all(alloc, &mut source, MAX_BYTES) {
         Ok(bytes) => Ok(bytes),
-        Err(error) => Err(Refusal::at(alloc, error, path.as_bytes(), source.cause)),
+        Err(error) => {
+            let error = ToolError::from(error);
+            Err(Refusal::at(alloc, error, path.as_bytes(), source.cause))
+        }
     }
 }
 

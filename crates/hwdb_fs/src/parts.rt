@@ -10,7 +10,7 @@
 
 use crate::files::{all_of, joined, path_in};
 use crate::refusals::Refusal;
-use hwdb_devices::Cause;
+use hwdb_io::Cause;
 use hwdb_replace::{part_name, part_number};
 use std::alloc::Global;
 use std::fs::{self, File, OpenFile, TryLockError};
