@@ -9,7 +9,7 @@ ghost use Rattle.hwdb_fs.specs.declared.raw.Unread.TheVariants.{TooLong};
 ghost use Rattle.hwdb_fs.specs.Raw.{IsTold, IsToldRead};
 
 use crate::roots::Root;
-use hwdb_io::{MAX_BYTES, Cause, FromRead, ReadError, read_all};
+use hwdb_io::{Cause, FromRead, MAX_BYTES, ReadError, read_all};
 use std::alloc::Global;
 use std::fs::{self, File, OpenFile};
 use std::io::{self, ErrorKind, Read};
