@@ -68,7 +68,7 @@ fn collect_matching<'a, C: Collector<'a>>(
 
 /// A node that was entered. Some of its children are done.
 #[derive(Drop)]
-struct Open<'a, 'd> {
+struct OpenNode<'a, 'd> {
     inside: Inside<'a>,
     /// What is known of the device at its path.
     reach: Reach<'d>,
@@ -130,11 +130,11 @@ struct Descent<'a, 'd> {
     /// The path of the node that was entered last.
     path: Vec<u8>,
     /// The nodes that aren't done, each below the one before it.
-    stack: Vec<Open<'a, 'd>>,
+    stack: Vec<OpenNode<'a, 'd>>,
     entered: Entered,
 }
 
-impl<'a, 'd> Open<'a, 'd> {
+impl<'a, 'd> OpenNode<'a, 'd> {
     /// What is known of the device at a child's path, if that path is live; the path becomes the child's. If it isn't
     /// live, anything may come after the node's own path.
     fn look_at(
@@ -232,7 +232,7 @@ impl<'a, 'd> Descent<'a, 'd> {
             return Ok(());
         }
         let length = self.path.len();
-        self.stack.push(Open {
+        self.stack.push(OpenNode {
             inside,
             reach,
             done: 0,

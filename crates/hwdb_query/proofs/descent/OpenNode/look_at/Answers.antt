@@ -6,7 +6,7 @@ use Rattle.hwdb_query.specs.Internal.Descents.{IsSeen}
 use Rattle.hwdb_query.proofs.FedLemmas.{child_front, piece_within, shared_front, seen_by_fed}
 use Rattle.hwdb_query.proofs.DeadPathLemmas.{dead_path}
 use Rattle.hwdb_query.proofs.StackLemmas.{child_fed, lost_at_byte}
-use Rattle.hwdb_query.proofs.descent.Open.look_at.Goals as goal
+use Rattle.hwdb_query.proofs.descent.OpenNode.look_at.Goals as goal
 
 pub returns-then-not-may_take-clause-seen : goal.returns-then-not-may_take-clause-seen
 returns-then-not-may_take-clause-seen c =
