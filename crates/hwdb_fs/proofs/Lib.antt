@@ -6,3 +6,5 @@ pub mod ReasonLemmas
 pub mod RootLemmas
 pub mod SelectionLemmas
 pub mod FirstLemmas
+pub mod RawLemmas
+pub mod EntryLemmas

@@ -1,65 +1,27 @@
-//! Files and folders: what is read, and the file system as a store that is updated.
-ghost use Rattle.std.specs.Prelude.{◌≡◌, ◌≤◌, ◌++◌, [], None, IfOk, IfErr, IfSome, vec_len, string_bytes};
+//! The file system as a store that is updated, and as a system that is read.
+ghost use Rattle.std.specs.Prelude.{◌≡◌, ◌⊎◌, ◌++◌, [], None, IfOk, IfErr, string_bytes};
 ghost use Rattle.hwdb_spec.specs.Failures.{after_failure, CountsFailures};
 ghost use Rattle.hwdb_spec.specs.Store as spec;
-ghost use Rattle.hwdb_spec.specs.Texts.{max_file};
 ghost use Rattle.hwdb_fs.specs.Internal.{IsOfName};
-ghost use Rattle.hwdb_fs.specs.Refusals.{IsUnread, IsUnlisted};
+ghost use Rattle.hwdb_fs.specs.Raw.{IsMisnamedAt};
+ghost use Rattle.hwdb_fs.specs.Refusals.{IsUnlisted};
 
 use crate::parts::{Lockable, clear_parts, is_ours};
+use crate::raw::StdFiles;
+use crate::reads::{any_bytes, database_bytes, is_there, names_in, text_bytes};
 use crate::refusals::Refusal;
 use crate::rooted::Rooted;
 use crate::roots::Root;
 use crate::system::System;
-use hwdb_devices::{Cause, FromRead, after_failure, write_on};
+use hwdb_io::{Cause, after_failure, write_on};
+use hwdb_print::ToolError;
 use hwdb_replace::{CallFailed, Store};
-use hwdb_text::counts;
-use hwdb_transfer::{MAX_BYTES, ToolError, read_all};
 use std::alloc::{AllocError, Global};
-use std::fs::{self, File, Metadata, OpenFile, OpenOptions, Permissions};
-use std::io::{self, ErrorKind, Read};
-use std::os::unix::fs::{FileTypeExt, MetadataExt, OpenOptionsExt, PermissionsExt};
+use std::fs::{self, File, OpenFile, OpenOptions, Permissions};
+use std::io::{self, ErrorKind};
+use std::os::unix::fs::{OpenOptionsExt, PermissionsExt};
 use std::rt::Files;
 use std::str::from_utf8;
-
-/// The number of the device /dev/null: on Linux 1, 3.
-const NULL_DEVICE: u64 = 0x103;
-
-/// The names of a folder's text files, in no order; none where the folder isn't there. Other entries of the
-/// folder never matter.
-///
-/// Refuses a folder that can't be listed, and a text file's name that isn't UTF-8, with its path.
-fn names_in<R: Files>(
-    alloc: Global,
-    rt: &R,
-    root: &Root,
-    folder: &str,
-) -> Result<Vec<String>, Refusal>
-    ensures refused { IfErr result (IsUnlisted folder.now) }
-{
-    let mut names = Vec::new(alloc);
-    let listing = match open_folder(rt, root, folder) {
-        Ok(entries) => all_of(alloc, entries, folder)?,
-        Err(error) if error.kind() == ErrorKind::NotFound => return Ok(names),
-        Err(error) => return Err(Refusal::read(alloc, folder.as_bytes(), Cause::of(&error))),
-    };
-    // The listing has byte 0 behind each name.
-    for name in listing.split(|byte| *byte == 0) {
-        if counts(name) {
-            let name = text_of(alloc, folder, name)?;
-            names.push(name).map_err(AllocError::from)?;
-        }
-    }
-    Ok(names)
-}
-
-/// Opens a folder.
-fn open_folder<R: Files>(rt: &R, root: &Root, folder: &str) -> io::Result<R::Dir> {
-    let mut path = root.place_of(rt, folder)?;
-    // The slash has a link to a folder followed.
-    path.push_str("/")?;
-    rt.open_dir(path.as_str())
-}
 
 /// The path of a name in a folder, whatever its bytes are.
 fn bytes_of_path(alloc: Global, folder: &str, name: &[u8]) -> Result<Vec<u8>, AllocError>
@@ -76,6 +38,8 @@ pub fn text_of(alloc: Global, folder: &str, name: &[u8]) -> Result<String, Refus
     ensures text { IfOk result (λ text. string_bytes text ≡ name.now) }
     ensures refused { IfErr result (IsUnlisted folder.now) }
     ensures reason { IfErr result IsOfName }
+    ensures exact { IfErr result (λ refusal. (refusal ≡ Refusal.Plain ToolError.Memory)
+        ⊎ IsMisnamedAt folder.now name.now refusal) }
 {
     match from_utf8(name) {
         Ok(name) => Ok(String::from_str(alloc, name)?),
@@ -102,129 +66,6 @@ pub fn path_in(alloc: Global, folder: &str, name: &str) -> Result<String, AllocE
     let mut path = joined(alloc, folder, "/")?;
     path.push_str(name)?;
     Ok(path)
-}
-
-/// All bytes that a reader has left, of which refusals say that they are those at the path.
-pub fn all_of<R: Read + Drop>(alloc: Global, reader: R, path: &str) -> Result<Vec<u8>, Refusal>
-    ensures within { IfOk result (λ bytes. vec_len bytes ≤ max_file) }
-    ensures refused { IfErr result (IsUnread path.now) }
-{
-    let mut source = FromRead::new(reader);
-    match read_all(alloc, &mut source, MAX_BYTES) {
-        Ok(bytes) => Ok(bytes),
-        Err(error) => Err(Refusal::at(alloc, error, path.as_bytes(), source.cause)),
-    }
-}
-
-/// All bytes of whatever can be read at a place: a file, a pipe, a device. Refusals name the path that leads there.
-fn any_bytes<R: Files>(alloc: Global, rt: &R, place: &str, path: &str) -> Result<Vec<u8>, Refusal>
-where
-    R::File: Drop,
-    ensures within { IfOk result (λ bytes. vec_len bytes ≤ max_file) }
-    ensures refused { IfErr result (IsUnread path.now) }
-{
-    match File::open(rt, place) {
-        Ok(file) => all_of(alloc, file, path),
-        Err(error) => Err(Refusal::read(alloc, path.as_bytes(), Cause::of(&error))),
-    }
-}
-
-/// What stands in a regular file's place; None where it is one.
-fn other_than_file(found: &Metadata) -> Option<Cause> {
-    let kind = found.file_type();
-    if kind.is_file() {
-        None
-    } else if kind.is_dir() {
-        Some(Cause::Folder)
-    } else if kind.is_fifo() {
-        Some(Cause::Pipe)
-    } else if kind.is_socket() {
-        Some(Cause::Socket)
-    } else {
-        Some(Cause::Device)
-    }
-}
-
-/// All bytes of a regular file; a link is followed. What else stands there isn't opened: an open would wait
-/// for the other end of a pipe.
-fn file_bytes<R: Files>(
-    alloc: Global,
-    rt: &R,
-    place: &str,
-    path: &str,
-    found: &Metadata,
-) -> Result<Vec<u8>, Refusal>
-where
-    R::File: Drop,
-    ensures within { IfOk result (λ bytes. vec_len bytes ≤ max_file) }
-    ensures refused { IfErr result (IsUnread path.now) }
-{
-    match other_than_file(found) {
-        None => any_bytes(alloc, rt, place, path),
-        Some(cause) => Err(Refusal::read(alloc, path.as_bytes(), cause)),
-    }
-}
-
-/// All bytes of a text file that was chosen. /dev/null is an empty one: a link to it masks a file.
-fn text_bytes<R: Files>(alloc: Global, rt: &R, root: &Root, path: &str) -> Result<Vec<u8>, Refusal>
-where
-    R::File: Drop,
-    ensures within { IfOk result (λ bytes. vec_len bytes ≤ max_file) }
-    ensures refused { IfErr result (IsUnread path.now) }
-{
-    let place = match root.place_of(rt, path) {
-        Ok(place) => place,
-        Err(error) => return Err(Refusal::read(alloc, path.as_bytes(), Cause::of(&error))),
-    };
-    if root.is_null(place.as_str()) {
-        return Ok(Vec::new(alloc));
-    }
-    match fs::metadata(rt, place.as_str()) {
-        Ok(found) if found.file_type().is_char_device() && found.rdev() == NULL_DEVICE => {
-            Ok(Vec::new(alloc))
-        }
-        Ok(found) => file_bytes(alloc, rt, place.as_str(), path, &found),
-        Err(error) => Err(Refusal::read(alloc, path.as_bytes(), Cause::of(&error))),
-    }
-}
-
-/// What stands at a path, which may be a link, isn't there.
-fn is_missing<R: Files>(rt: &R, root: &Root, path: &str) -> bool {
-    match entry(rt, root, path) {
-        Ok(_) => false,
-        Err(error) => error.kind() == ErrorKind::NotFound,
-    }
-}
-
-/// What stands at a path: of a link, the link itself.
-fn entry<R: Files>(rt: &R, root: &Root, path: &str) -> io::Result<Metadata> {
-    let entry = root.entry_of(rt, path)?;
-    fs::symlink_metadata(rt, entry.as_str())
-}
-
-/// All bytes of a database, or None where nothing stands at the path, not even a link.
-fn database_bytes<R: Files>(
-    alloc: Global,
-    rt: &R,
-    root: &Root,
-    path: &str,
-) -> Result<Option<Vec<u8>>, Refusal>
-where
-    R::File: Drop,
-    ensures within { IfOk result (λ found. IfSome found (λ b. vec_len b ≤ max_file)) }
-    ensures refused { IfErr result (IsUnread path.now) }
-{
-    if is_missing(rt, root, path) {
-        return Ok(None);
-    }
-    let place = match root.place_of(rt, path) {
-        Ok(place) => place,
-        Err(error) => return Err(Refusal::read(alloc, path.as_bytes(), Cause::of(&error))),
-    };
-    match fs::metadata(rt, place.as_str()) {
-        Ok(found) => Ok(Some(file_bytes(alloc, rt, place.as_str(), path, &found)?)),
-        Err(error) => Err(Refusal::read(alloc, path.as_bytes(), Cause::of(&error))),
-    }
 }
 
 /// Who may read and write a file while it is written, and once it is the database: systemd-hwdb's modes.
@@ -264,6 +105,11 @@ where
             failed: 0,
             cause: None,
         }
+    }
+
+    /// What the file system answers.
+    fn files(&self) -> StdFiles<'_, R> {
+        StdFiles::new(self.alloc, self.rt, &self.root)
     }
 
     /// Spells the path of a name in a folder. For a name that was spelled before it takes no memory.
@@ -488,27 +334,23 @@ where
     ghost is_regular = { λ _ _. Unit {0} };
 
     fn names(&self, alloc: Global, folder: &str) -> Result<Vec<String>, Refusal> {
-        names_in(alloc, self.rt, &self.root, folder)
+        names_in(alloc, &self.files(), folder)
     }
 
     fn text(&self, alloc: Global, path: &str) -> Result<Vec<u8>, Refusal> {
-        text_bytes(alloc, self.rt, &self.root, path)
+        text_bytes(alloc, &self.files(), path)
     }
 
     fn input(&self, alloc: Global, path: &str) -> Result<Vec<u8>, Refusal> {
-        any_bytes(alloc, self.rt, path, path)
+        any_bytes(alloc, &self.files(), path, path)
     }
 
     fn database(&self, alloc: Global, path: &str) -> Result<Option<Vec<u8>>, Refusal> {
-        database_bytes(alloc, self.rt, &self.root, path)
+        database_bytes(alloc, &self.files(), path)
     }
 
     fn is_there(&self, _: Global, path: &str) -> Result<bool, AllocError> {
-        match entry(self.rt, &self.root, path) {
-            Err(error) if error.kind() == ErrorKind::NotFound => Ok(false),
-            Err(error) if error.kind() == ErrorKind::OutOfMemory => Err(AllocError),
-            _ => Ok(true),
-        }
+        is_there(&self.files(), path)
     }
 
     fn cause(&self) -> Option<Cause> {

@@ -7,6 +7,7 @@
 //! | `left_out` | chosen text files that can't be read, and are left out |
 //! | `laws` | which of the chosen files an error names
 //! | `files` | files and folders: the file system that the runtime reaches |
+//! | `raw` | what a file system answers to what reading asks; `reads`: what is made of these answers |
 //! | `parts` | new files of updates: whose they are, and what killed updates left |
 //! | `roots` | where a path below a root leads; `place` is such a place |
 //! | `memory` | a store in memory as such a system, for tests |
@@ -20,6 +21,8 @@ mod left_out;
 mod memory;
 mod parts;
 mod place;
+mod raw;
+mod reads;
 mod refusals;
 mod rooted;
 mod roots;
@@ -30,6 +33,8 @@ pub use folders::{Selection, selected, with_texts};
 pub use laws::first_long_file_is_named;
 pub use left_out::{ReadableSelection, name_set, selected_readable};
 pub use parts::Lockable;
+pub use raw::{Kind, RawFiles, StdFiles, Unread};
+pub use reads::{database_bytes, is_there, text_bytes};
 pub use refusals::{Refusal, refuse_for, refuse_memory, remedy};
 pub use rooted::Rooted;
 pub use system::System;

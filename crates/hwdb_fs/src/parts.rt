@@ -8,9 +8,11 @@
 //! - Of two processes that remove leftovers the second can't lock the file, or locks one whose path is no longer its own.
 //! - So is a file that was renamed before it was locked: the database isn't removed.
 
-use crate::files::{all_of, joined, path_in};
+use crate::files::{joined, path_in};
+use crate::raw::{Unread, all_of};
+use crate::reads::refused;
 use crate::refusals::Refusal;
-use hwdb_devices::Cause;
+use hwdb_io::Cause;
 use hwdb_replace::{part_name, part_number};
 use std::alloc::Global;
 use std::fs::{self, File, OpenFile, TryLockError};
@@ -83,6 +85,14 @@ where
     Ok(())
 }
 
+/// The listing of a folder, with byte 0 after each name.
+fn listing_at<R: Files>(alloc: Global, rt: &R, folder: &str) -> Result<Vec<u8>, Unread> {
+    match rt.open_dir(folder) {
+        Ok(entries) => all_of(alloc, entries),
+        Err(error) => Err(Unread::Failed(Some(Cause::of(&error)))),
+    }
+}
+
 /// Removes what killed updates left in a folder. What can't be removed stays, and stops nothing.
 pub fn clear_parts<R: Files>(alloc: Global, rt: &R, folder: &str) -> Result<(), Refusal>
 where
@@ -90,9 +100,9 @@ where
 {
     // The slash has a link to a folder followed.
     let path = joined(alloc, folder, "/")?;
-    let listing = match rt.open_dir(path.as_str()) {
-        Ok(entries) => all_of(alloc, entries, folder)?,
-        Err(error) => return Err(Refusal::read(alloc, folder.as_bytes(), Cause::of(&error))),
+    let listing = match listing_at(alloc, rt, path.as_str()) {
+        Ok(listing) => listing,
+        Err(why) => return Err(refused(alloc, folder, why)),
     };
     for name in listing.split(|byte| *byte == 0) {
         if let Some(number) = part_number(name) {

@@ -7,7 +7,7 @@ use Rattle.hwdb_spec.specs.Tree.Tree.{Node}
 use Rattle.hwdb_spec.specs.Tree.Children.{NoMore, Child}
 use Rattle.hwdb_reader.specs.Views.{children_of, list_of, node_count, nodes_below, entered_tree}
 use Rattle.hwdb_inspect.specs.Internal.Walks.{kids_of, depth_in, deepest_to_come, Opened}
-use Rattle.hwdb_inspect.specs.declared.walk.Open.{Open}
+use Rattle.hwdb_inspect.specs.declared.walk.OpenVisit.{OpenVisit}
 use Rattle.hwdb_inspect.proofs.WalkLemmas.{gone_on, on_top, opened_top, opened_kids, kids_next}
 
 mutual
@@ -29,14 +29,14 @@ pub depth_and_below : (t : Tree) → depth t ≡ 1 + depth_in (children_of t)
 unfolding depth children_of
 depth_and_below (Node prefix values children) = ap (λ n. 1 + n) (depth_listed children)
 
-pub opened_deepest : (before now : List Open) (t : Tree) (size : ℕ) → Opened before now t size
+pub opened_deepest : (before now : List OpenVisit) (t : Tree) (size : ℕ) → Opened before now t size
     → deepest_to_come (reverse now) ≡ max (suc (length (reverse before)) + depth_in (children_of t)) (deepest_to_come (reverse before))
 opened_deepest before now t size o =
     ap deepest_to_come (opened_top before now t size o)
     ∙ ap (λ ks. max (suc (length (reverse before)) + depth_in ks) (deepest_to_come (reverse before))) (opened_kids before now t size o)
 
 -- a node with a child that isn't done
-pub child_deepest : (deepest size : ℕ) (top : Open) (before now : List Open) (k : ℕ × Tree) → slice_get (children_of (entered_tree top.inside)) top.done ≡ Some k
+pub child_deepest : (deepest size : ℕ) (top : OpenVisit) (before now : List OpenVisit) (k : ℕ × Tree) → slice_get (children_of (entered_tree top.inside)) top.done ≡ Some k
     → Opened (before ++ gone_on top ∷ []) now k.1 size
     → max (max deepest (length (before ++ gone_on top ∷ []) + 1)) (deepest_to_come (reverse now)) ≡ max deepest (deepest_to_come (top ∷ reverse before))
 child_deepest deepest size top before now k at o =

@@ -6,7 +6,7 @@ use Rattle.hwdb_spec.specs.Tree.{Tree, prefix_of, values_of, members_under}
 use Rattle.hwdb_reader.specs.Views.{children_of, entered_tree, node_count}
 use Rattle.hwdb_query.specs.Internal.Members.{members_in, own_members}
 use Rattle.hwdb_inspect.specs.Internal.Walks.{kids_of, nodes_in, to_come, StandsOn, left, steps, Opened}
-use Rattle.hwdb_inspect.specs.declared.walk.Open.{Open}
+use Rattle.hwdb_inspect.specs.declared.walk.OpenVisit.{OpenVisit}
 use Rattle.hwdb_inspect.proofs.PartLemmas.{members_split, kid_next, kid_behind, node_and_below}
 
 -- the last member is the top
@@ -17,60 +17,60 @@ take_front : (n : ℕ) (xs ys : List ℕ) → length xs ≡ n → take n (xs ++ 
 take_front n xs ys h = take-append-le n xs ys (omega (arith, h)) ∙ ap (λ k. take k xs) (sym h) ∙ take-length xs
 
 -- the children of a node that was put on top
-pub opened_kids : (before now : List Open) (t : Tree) (size : ℕ) (o : Opened before now t size) → kids_of o.top ≡ children_of t
+pub opened_kids : (before now : List OpenVisit) (t : Tree) (size : ℕ) (o : Opened before now t size) → kids_of o.top ≡ children_of t
 opened_kids before now t size o = ap (λ n. drop n (children_of (entered_tree o.top.inside))) o.none_done ∙ ap children_of o.tree
 
-pub opened_top : (before now : List Open) (t : Tree) (size : ℕ) (o : Opened before now t size) → reverse now ≡ o.top ∷ reverse before
+pub opened_top : (before now : List OpenVisit) (t : Tree) (size : ℕ) (o : Opened before now t size) → reverse now ≡ o.top ∷ reverse before
 opened_top before now t size o = ap reverse o.stands ∙ on_top before o.top
 
-pub opened_comes : (before now : List Open) (t : Tree) (path : List ℕ) → Opened before now t (length path) → to_come path (reverse now) ≡ members_in path (children_of t) ++ to_come path (reverse before)
+pub opened_comes : (before now : List OpenVisit) (t : Tree) (path : List ℕ) → Opened before now t (length path) → to_come path (reverse now) ≡ members_in path (children_of t) ++ to_come path (reverse before)
 opened_comes before now t path o =
     ap (to_come path) (opened_top before now t (length path) o)
     ∙ ap (λ n. members_in (take n path) (kids_of o.top) ++ to_come (take n path) (reverse before)) o.reach
     ∙ ap (λ p. members_in p (kids_of o.top) ++ to_come p (reverse before)) (take-length path)
     ∙ ap (λ ks. members_in path ks ++ to_come path (reverse before)) (opened_kids before now t (length path) o)
 
-pub opened_stands : (before now : List Open) (t : Tree) (path : List ℕ) → Opened before now t (length path) → StandsOn path (reverse before) → StandsOn path (reverse now)
+pub opened_stands : (before now : List OpenVisit) (t : Tree) (path : List ℕ) → Opened before now t (length path) → StandsOn path (reverse before) → StandsOn path (reverse now)
 opened_stands before now t path o stands =
     let reach = o.reach in
     let done = o.none_done in
     let same : path ≡ take o.top.length path = sym (ap (λ n. take n path) o.reach ∙ take-length path) in
     subst (StandsOn path) (sym (opened_top before now t (length path) o)) (omega (arith, reach), omega (arith, done), subst (λ p. StandsOn p (reverse before)) same stands)
 
-pub opened_left : (before now : List Open) (t : Tree) (size : ℕ) → Opened before now t size → left (reverse now) ≡ nodes_in (children_of t) + left (reverse before)
+pub opened_left : (before now : List OpenVisit) (t : Tree) (size : ℕ) → Opened before now t size → left (reverse now) ≡ nodes_in (children_of t) + left (reverse before)
 opened_left before now t size o = ap left (opened_top before now t size o) ∙ ap (λ ks. nodes_in ks + left (reverse before)) (opened_kids before now t size o)
 
-pub opened_steps : (before now : List Open) (t : Tree) (size : ℕ) → Opened before now t size → steps (reverse now) ≡ suc (nodes_in (children_of t) + nodes_in (children_of t)) + steps (reverse before)
+pub opened_steps : (before now : List OpenVisit) (t : Tree) (size : ℕ) → Opened before now t size → steps (reverse now) ≡ suc (nodes_in (children_of t) + nodes_in (children_of t)) + steps (reverse before)
 opened_steps before now t size o = ap steps (opened_top before now t size o) ∙ ap (λ ks. suc (nodes_in ks + nodes_in ks) + steps (reverse before)) (opened_kids before now t size o)
 
 -- ---- a node whose children are done
 
-pub done_comes : (path : List ℕ) (top : Open) (below : List Open) → length (children_of (entered_tree top.inside)) ≤ top.done → to_come path (top ∷ below) ≡ to_come (take top.length path) below
+pub done_comes : (path : List ℕ) (top : OpenVisit) (below : List OpenVisit) → length (children_of (entered_tree top.inside)) ≤ top.done → to_come path (top ∷ below) ≡ to_come (take top.length path) below
 done_comes path top below h =
     ap (λ ks. members_in (take top.length path) ks ++ to_come (take top.length path) below) (kid_behind (children_of (entered_tree top.inside)) top.done h)
 
-pub done_left : (top : Open) (below : List Open) → length (children_of (entered_tree top.inside)) ≤ top.done → left (top ∷ below) ≡ left below
+pub done_left : (top : OpenVisit) (below : List OpenVisit) → length (children_of (entered_tree top.inside)) ≤ top.done → left (top ∷ below) ≡ left below
 done_left top below h = let none : nodes_in (kids_of top) ≡ 0 = ap nodes_in (kid_behind (children_of (entered_tree top.inside)) top.done h) in omega (arith, none)
 
-pub done_steps : (top : Open) (below : List Open) → steps below < steps (top ∷ below)
+pub done_steps : (top : OpenVisit) (below : List OpenVisit) → steps below < steps (top ∷ below)
 done_steps top below = omega arith
 
 -- ---- a node with a child that isn't done
 
 -- the node, with one more child done
-abbrev pub gone_on : Open → Open
+abbrev pub gone_on : OpenVisit → OpenVisit
 gone_on top = record { inside = top.inside; done = top.done + 1; length = top.length }
 
-pub kids_next : (top : Open) (k : ℕ × Tree) → slice_get (children_of (entered_tree top.inside)) top.done ≡ Some k → kids_of top ≡ k ∷ kids_of (gone_on top)
+pub kids_next : (top : OpenVisit) (k : ℕ × Tree) → slice_get (children_of (entered_tree top.inside)) top.done ≡ Some k → kids_of top ≡ k ∷ kids_of (gone_on top)
 kids_next top k at = rw (add-one top.done) (kid_next (children_of (entered_tree top.inside)) top.done k at)
 
-pub some_left : (top : Open) (below : List Open) (k : ℕ × Tree) → slice_get (children_of (entered_tree top.inside)) top.done ≡ Some k → 0 < left (top ∷ below)
+pub some_left : (top : OpenVisit) (below : List OpenVisit) (k : ℕ × Tree) → slice_get (children_of (entered_tree top.inside)) top.done ≡ Some k → 0 < left (top ∷ below)
 some_left top below k at =
     let next : nodes_in (kids_of top) ≡ node_count k.1 + nodes_in (kids_of (gone_on top)) = ap nodes_in (kids_next top k at) in
     let nodes = node_and_below k.1 in
     omega (arith, next, nodes)
 
-module _ (path long : List ℕ) (top : Open) (before now : List Open) (k : ℕ × Tree)
+module _ (path long : List ℕ) (top : OpenVisit) (before now : List OpenVisit) (k : ℕ × Tree)
     (at : slice_get (children_of (entered_tree top.inside)) top.done ≡ Some k) (within : top.length ≤ length path)
     (whole : long ≡ (take top.length path ++ k.0 ∷ []) ++ prefix_of k.1) (o : Opened (before ++ gone_on top ∷ []) now k.1 (length long)) where
   cut : take top.length long ≡ take top.length path

@@ -23,20 +23,20 @@ pub(crate) struct Counts {
 
 /// A text of an assignment.
 #[derive(Clone, Copy)]
-enum Part {
+enum TextPart {
     Path,
     Pattern,
     Key,
 }
 
 /// A part of an assignment.
-fn text_of<'l>(assigned: &'l Answer<'_>, part: Part) -> &'l [u8]
+fn text_of<'l>(assigned: &'l Answer<'_>, part: TextPart) -> &'l [u8]
     ensures { result.now ≡ part_of part (assignment_of assigned.now) }
 {
     match part {
-        Part::Path => assigned.path,
-        Part::Pattern => &assigned.pattern,
-        Part::Key => assigned.key,
+        TextPart::Path => assigned.path,
+        TextPart::Pattern => &assigned.pattern,
+        TextPart::Key => assigned.key,
     }
 }
 
@@ -44,7 +44,7 @@ fn text_of<'l>(assigned: &'l Answer<'_>, part: Part) -> &'l [u8]
 fn texts_of<'l>(
     alloc: Global,
     list: &'l [Answer<'_>],
-    part: Part,
+    part: TextPart,
 ) -> Result<Vec<&'l [u8]>, AllocError>
     ensures { IfOk result (λ texts. map (λ t. t.now) texts.items
         ≡ map (part_of part) (map assignment_of list.now)) }
@@ -67,7 +67,7 @@ fn count_different(texts: Vec<&[u8]>) -> Result<usize, AllocError>
 }
 
 /// How many different texts there are in one part of the assignments.
-fn count_parts(alloc: Global, list: &[Answer<'_>], part: Part) -> Result<usize, AllocError>
+fn count_parts(alloc: Global, list: &[Answer<'_>], part: TextPart) -> Result<usize, AllocError>
     ensures { IfOk result
         (λ n. n ≡ different (map (part_of part) (map assignment_of list.now))) }
 {
@@ -81,9 +81,9 @@ pub(crate) fn summarize(alloc: Global, bytes: usize, db: &Db<'_>) -> Result<Coun
     let found = survey(alloc, db)?;
     let list = &found.assignments;
     Ok(Counts {
-        files: count_parts(alloc, list, Part::Path)?,
-        patterns: count_parts(alloc, list, Part::Pattern)?,
-        keys: count_parts(alloc, list, Part::Key)?,
+        files: count_parts(alloc, list, TextPart::Path)?,
+        patterns: count_parts(alloc, list, TextPart::Pattern)?,
+        keys: count_parts(alloc, list, TextPart::Key)?,
         assignments: list.len(),
         nodes: found.nodes,
         depth: found.depth,

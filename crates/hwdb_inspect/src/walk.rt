@@ -21,7 +21,7 @@ use std::alloc::{AllocError, Global};
 
 /// A node that was entered. Some of its children are done.
 #[derive(Clone, Copy)]
-struct Open<'a> {
+struct OpenVisit<'a> {
     inside: Inside<'a>,
     /// How many of its children were entered.
     done: usize,
@@ -35,7 +35,7 @@ struct Walk<'a> {
     /// The path of the node that was entered last.
     path: Vec<u8>,
     /// The nodes that aren't done, each below the one before it.
-    stack: Vec<Open<'a>>,
+    stack: Vec<OpenVisit<'a>>,
     found: Vec<Answer<'a>>,
     entered: Entered,
     /// The most nodes that were on one path so far.
@@ -88,7 +88,7 @@ impl<'a> Walk<'a> {
         let inside = node.enter(&mut self.entered);
         push_answers(alloc, inside, &self.path, &mut self.found)?;
         let length = self.path.len();
-        self.stack.push(Open {
+        self.stack.push(OpenVisit {
             inside,
             done: 0,
             length,
@@ -98,7 +98,7 @@ impl<'a> Walk<'a> {
     }
 
     /// Goes on from a node that was on top of the stack: enters its next child, if there is one.
-    fn go_on(&mut self, alloc: Global, top: Open<'a>) -> Result<(), AllocError>
+    fn go_on(&mut self, alloc: Global, top: OpenVisit<'a>) -> Result<(), AllocError>
         requires stands { StandsOn self.old.path.items (top ∷ reverse self.old.stack.items) }
         requires room { self.old.entered + left (top ∷ reverse self.old.stack.items) < 2 ^ 64 }
         requires reached { length self.old.stack.items < self.old.deepest }
@@ -125,7 +125,7 @@ impl<'a> Walk<'a> {
         }
         let child = top.inside.child(top.done);
         self.path.push(child.byte)?;
-        self.stack.push(Open {
+        self.stack.push(OpenVisit {
             done: top.done + 1,
             ..top
         })?;

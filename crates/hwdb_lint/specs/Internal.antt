@@ -11,9 +11,9 @@ use Rattle.std.specs.BTreeSet.{BTreeSet, contains}
 use Rattle.hwdb_spec.specs.Assignment.{Assignment}
 use Rattle.hwdb_spec.specs.Folders.{same}
 use Rattle.hwdb_spec.specs.Records.{Origin}
-use Rattle.hwdb_spec.specs.Warnings.{gives_value, greatest, last_with, repeated_from, repeated_lines, replaces, replacing}
+use Rattle.hwdb_spec.specs.Warnings.{gives_value, greatest, judgement_of, last_with, misused, repeated_from, repeated_lines, replaces, replacing}
 use Rattle.hwdb_spec.specs.declared.WarningKind.{WarningKind}
-use Rattle.hwdb_spec.specs.declared.WarningKind.TheVariants.{Replaced}
+use Rattle.hwdb_spec.specs.declared.WarningKind.TheVariants.{Misused, Replaced}
 use Rattle.hwdb_spec.specs.Lines.{Line, byte, clean_line, is, lines, numbered, pieces}
 use Rattle.hwdb_spec.specs.Reports.{text_of_line}
 use Rattle.hwdb_lint.specs.declared.known.Known.{Known}
@@ -32,12 +32,20 @@ read_line r = line_of r.number r.text.now
 abbrev pub clean_of : Read → Line
 clean_of r = clean_line (read_line r)
 
--- What is read of a line: its clean text, whether its record has it already, and the last line that replaces an
--- assignment of it.
+-- What is read of a line: its clean text, whether its record has it already, the last line that replaces an assignment of
+-- it, and why it doesn't fit what is known of properties,
+-- and what is said of it as a pattern.
 pub record IsRead (r : Read) : Type 0 where
   pub clean : r.clean.now ≡ (clean_of r).text
   pub repeated : r.repeated ≡ list_any (is r.number) (repeated_lines r.bytes.now)
   pub replaced : r.replaced_by ≡ greatest (replacing r.bytes.now r.number)
+  pub misuse : r.misuse ≡ misused (clean_of r)
+  pub judgement : r.judgement ≡ judgement_of (clean_of r).text
+
+-- a warning whose hint is the same for each line
+abbrev pub IsPlain : WarningKind → Type 0
+IsPlain (Misused why) = ⊥
+IsPlain kind = Unit {0}
 
 -- what is printed of a warning from the number in it on
 abbrev pub number_text : WarningKind → List ℕ

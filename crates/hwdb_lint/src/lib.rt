@@ -12,6 +12,8 @@
 //! | `reports` | the report of a fault |
 //! | `line_texts` | the text of a line, by its number |
 //! | `line_warnings` | which warnings a line gets, by its clean text |
+//! | `misuses` | properties that don't fit what is known of properties |
+//! | `judgements` | patterns that match no text that udev asks |
 //! | `repeats` | match lines that their record has already |
 //! | `replacements` | assignments that a later line of the same file replaces |
 //! | `known` | what is known of a file before its lines are read one by one |
@@ -21,9 +23,11 @@
 #![tactic(auto)]
 
 mod files;
+mod judgements;
 mod known;
 mod line_texts;
 mod line_warnings;
+mod misuses;
 mod places;
 mod repeats;
 mod replacements;
@@ -32,6 +36,6 @@ mod shown;
 mod tallies;
 mod warnings;
 
-pub use files::{TextFile, check_files};
+pub use files::{Checked, TextFile, check_files};
 pub use shown::push_shown;
 pub use tallies::push_count;

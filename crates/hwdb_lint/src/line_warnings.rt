@@ -10,7 +10,7 @@ ghost use Rattle.hwdb_lint.specs.Internal.{line_of, read_line, IsRead};
 
 use crate::places::indent_of;
 use hwdb_pattern::{open_place, range_place};
-use hwdb_spec::WarningKind;
+use hwdb_spec::{Judgement, Misuse, WarningKind};
 use hwdb_text::end_of;
 
 /// A line that is read.
@@ -28,6 +28,10 @@ pub struct Read<'a> {
     pub repeated: bool,
     /// The last line that replaces one of its assignments by another value; 0 if none does.
     pub replaced_by: u64,
+    /// Why it doesn't fit what is known of properties.
+    pub misuse: Option<Misuse>,
+    /// What is said of it as a pattern.
+    pub judgement: Judgement,
 }
 
 /// Whether a text begins with a byte order mark.
@@ -52,7 +56,7 @@ fn has_return(text: &[u8]) -> bool
 }
 
 /// Whether a clean line is a property.
-fn is_property(clean: &[u8]) -> bool
+pub fn is_property(clean: &[u8]) -> bool
     ensures { result ≡ Lines.is_property (line_of 0 clean.now) }
 {
     !clean.is_empty() && clean[0] == b' '
@@ -98,7 +102,7 @@ fn has_blank(text: &[u8]) -> bool
 }
 
 /// Whether a key ends with a blank, or a value begins with one.
-fn is_spaced(key: &[u8], value: &[u8]) -> bool
+pub fn is_spaced(key: &[u8], value: &[u8]) -> bool
     ensures { result
         ≡ (if list_any is_indent (drop (length key.now - 1) key.now) then true
         else list_any is_indent (take 1 value.now)) }
@@ -134,7 +138,7 @@ fn holds_equals(text: &[u8]) -> bool
 }
 
 /// Whether a property has a `=`.
-fn has_equals(clean: &[u8]) -> bool
+pub fn has_equals(clean: &[u8]) -> bool
     ensures { result ≡ Lines.has_equals (line_of 0 clean.now) }
 {
     holds_equals(&clean[indent_of(clean)..])
@@ -155,6 +159,13 @@ fn has_cut_value(text: &[u8], clean: &[u8]) -> bool
     is_property(clean) && has_equals(clean) && is_cut(text, clean)
 }
 
+/// Whether a pattern matches no text that udev asks.
+fn is_unmatched(judgement: Judgement) -> bool
+    ensures { result ≡ Warnings.is_unmatched judgement }
+{
+    !matches!(judgement, Judgement::Fine)
+}
+
 /// Whether a line gets a warning.
 pub fn is_warned(kind: WarningKind, line: &Read<'_>) -> bool
     requires { IsRead line.now }
@@ -171,5 +182,7 @@ pub fn is_warned(kind: WarningKind, line: &Read<'_>) -> bool
         WarningKind::CutValue => has_cut_value(line.text, line.clean),
         WarningKind::RepeatedMatch => line.repeated,
         WarningKind::Replaced(_) => line.replaced_by > 0,
+        WarningKind::Misused(_) => line.misuse.is_some(),
+        WarningKind::Unmatched(_) => is_unmatched(line.judgement),
     }
 }

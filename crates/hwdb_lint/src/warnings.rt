@@ -1,18 +1,22 @@
 //! Warnings: lines that are read, but likely not as they were meant.
 ghost use Rattle.std.specs.Prelude.{◌≡◌, ◌++◌, flat_map, map, IfOk, OnOk};
-ghost use Rattle.hwdb_spec.specs.Lines.{clean_line};
+ghost use Rattle.hwdb_spec.specs.Lines.{Line, clean_line};
 ghost use Rattle.hwdb_spec.specs.Records;
+ghost use Rattle.hwdb_spec.specs.Reports.{hint_line};
 ghost use Rattle.hwdb_spec.specs.Warnings.{all_warnings, warned, line_warnings, warnings, warning_text, warning_place, warning_hint, warning_line, warning_report, line_text, warnings_text};
 ghost use Rattle.hwdb_text.specs.Views.{given_in};
-ghost use Rattle.hwdb_lint.specs.Internal.{IsKnown, IsRead, clean_of, line_of, number_text, own, read_line};
+ghost use Rattle.hwdb_lint.specs.Internal.{IsKnown, IsPlain, IsRead, clean_of, line_of, number_text, own, read_line};
 
+use crate::judgements::judgement_of;
 use crate::known::{Known, known_of};
 use crate::line_warnings::{Read, closed, is_warned};
+use crate::misuses::{misuse_in, push_misuse_line};
 use crate::places::indent_of;
 use crate::reports::push_hint_line;
 use crate::shown::{push_mark_line, push_shown_line};
 use hwdb_pattern::{open_place, range_place};
-use hwdb_spec::WarningKind;
+use hwdb_properties::misuse_text;
+use hwdb_spec::{Judgement, Misuse, WarningKind};
 use hwdb_text::{Content, Given, content_of, end_of};
 use itoa::Buffer;
 use std::alloc::{AllocError, Global};
@@ -31,6 +35,12 @@ fn text_of(kind: WarningKind) -> &'static str
         WarningKind::CutValue => "a # without a blank before it cuts the value",
         WarningKind::RepeatedMatch => "a match line that stands in its record already",
         WarningKind::Replaced(_) => "an assignment that line ",
+        WarningKind::Misused(misuse) => misuse_text(misuse),
+        WarningKind::Unmatched(Judgement::Fine) => "",
+        WarningKind::Unmatched(Judgement::UnknownPrefix) => "no device string begins so",
+        WarningKind::Unmatched(Judgement::Dead(_)) => {
+            "no device string is matched: none goes on here"
+        }
     }
 }
 
@@ -47,9 +57,9 @@ fn push_number(text: &mut Vec<u8>, kind: WarningKind) -> Result<(), AllocError>
     Ok(())
 }
 
-/// What to do about a warning.
+/// What to do about a warning that says it in the same words for each line.
 fn hint_of(kind: WarningKind) -> &'static str
-    ensures { result.now ≡ warning_hint kind }
+    ensures { (clean : Line) → IsPlain kind → result.now ≡ warning_hint kind clean }
 {
     match kind {
         WarningKind::ByteOrderMark => "save the file without a byte order mark",
@@ -60,6 +70,24 @@ fn hint_of(kind: WarningKind) -> &'static str
         WarningKind::SpacedEquals => "take it away: it belongs to the key or to the value",
         WarningKind::CutValue => "put a blank before a comment; a value can't hold a #",
         WarningKind::RepeatedMatch | WarningKind::Replaced(_) => "take one of the two away",
+        WarningKind::Misused(_) | WarningKind::Unmatched(Judgement::Fine) => "",
+        WarningKind::Unmatched(Judgement::UnknownPrefix) => {
+            "begin it as udev's strings do, with evdev: or mouse: or usb: and the like"
+        }
+        WarningKind::Unmatched(Judgement::Dead(_)) => {
+            "compare it byte by byte with a string that udev asks, upper and lower case too"
+        }
+    }
+}
+
+/// Adds the line of what to do about a warning of a line with this clean text.
+fn push_hint(text: &mut Vec<u8>, kind: WarningKind, clean: &[u8]) -> Result<(), AllocError>
+    ensures { OnOk result (text.new.items
+        ≡ text.old.items ++ hint_line (warning_hint kind (line_of 0 clean.now))) }
+{
+    match kind {
+        WarningKind::Misused(misuse) => push_misuse_line(text, misuse, clean),
+        _ => push_hint_line(text, hint_of(kind)),
     }
 }
 
@@ -75,6 +103,10 @@ fn warning_place(kind: WarningKind, line: &[u8], clean: &[u8]) -> usize
         WarningKind::SpacedEquals => end_of(b'=', line),
         WarningKind::CutValue => end_of(b'#', line),
         WarningKind::Replaced(_) => indent_of(line),
+        WarningKind::Misused(Misuse::NearName | Misuse::ScanCode) => indent_of(line),
+        WarningKind::Misused(Misuse::UnknownKey | Misuse::UnfitValue) => end_of(b'=', line) + 1,
+        WarningKind::Unmatched(Judgement::Fine | Judgement::UnknownPrefix) => 0,
+        WarningKind::Unmatched(Judgement::Dead(place)) => place,
     }
 }
 
@@ -118,7 +150,7 @@ fn push_warning(
         line.text,
         warning_place(kind, line.text, line.clean),
     )?;
-    push_hint_line(text, hint_of(kind))
+    push_hint(text, kind, line.clean)
 }
 
 /// What was found in the lines so far.
@@ -172,7 +204,10 @@ impl Warned {
         self.put_if(alloc, path, line, WarningKind::SpacedEquals)?;
         self.put_if(alloc, path, line, WarningKind::CutValue)?;
         self.put_if(alloc, path, line, WarningKind::RepeatedMatch)?;
-        self.put_if(alloc, path, line, WarningKind::Replaced(line.replaced_by))
+        self.put_if(alloc, path, line, WarningKind::Replaced(line.replaced_by))?;
+        let misuse = line.misuse.unwrap_or(Misuse::NearName);
+        self.put_if(alloc, path, line, WarningKind::Misused(misuse))?;
+        self.put_if(alloc, path, line, WarningKind::Unmatched(line.judgement))
     }
 
     /// Adds the warnings of a line of a file with its clean text.
@@ -202,6 +237,8 @@ impl Warned {
             clean,
             repeated: known.repeated.contains(&number),
             replaced_by: known.replaced.get(&number).copied().unwrap_or(0),
+            misuse: misuse_in(clean),
+            judgement: judgement_of(alloc, clean)?,
         };
         self.put_all(alloc, path, &line)
     }

@@ -1,5 +1,5 @@
 -- How a path is cut at its first open `[`.
-use Rattle.std.proofs.Common.{◌≡◌, ℕ, zero, suc, ◌-◌, ◌+◌, ◌<◌, ◌≤◌, Bool, true, false, List, [], ◌∷◌, ◌++◌, take, drop, length, get_or, refl, ap, ◌∙◌, sym, Option, Some, None, cond, ◌==◌, not, if◌then◌else◌, arith, inl, inr, ne_eqb, eq-eqb, append_assoc}
+use Rattle.std.proofs.Common.{◌≡◌, ℕ, zero, suc, ◌-◌, ◌+◌, ◌<◌, ◌≤◌, Bool, true, false, List, [], ◌∷◌, ◌++◌, take, drop, length, get_or, refl, ap, ◌∙◌, sym, subst, Option, Some, None, cond, ◌==◌, not, if◌then◌else◌, arith, inl, inr, ne_eqb, eq-eqb, append_assoc}
 use Rattle.std.specs.Prelude.{take_while}
 use Rattle.std.specs.List.{prefix_len}
 use Rattle.std.proofs.lemmas.Bool.{cases_eq}
@@ -431,6 +431,19 @@ closed_step text rest at size r h t c =
           ∙ ap (λ (l : List ℕ). take (at + size) text ++ closed_part l) d;
       behind = c.behind ∙ ap open_part (sym r) ∙ open_first rest size k t.0 t.1 ∙ ap open_part d;
     }
+
+-- bytes that aren't `[` are closed
+pub closed_run : (text : List ℕ) (at n : ℕ) → at + n ≤ length text → ((k : ℕ) → k < n → get_or text (at + k) 0 ≡ 91 → ⊥) → ClosedTo text at → ClosedTo text (at + n)
+closed_run text at zero h none c = subst (ClosedTo text) (omega arith) c
+closed_run text at (suc n) h none c =
+    let rest : List ℕ = drop at text in
+    let some : 0 < length rest = omega (arith, h, length-drop at text) in
+    let first : get_or rest 0 0 ≡ get_or text (at + 0) 0 = get_or-drop at text 0 0 in
+    let e : (at + 1) + n ≡ at + suc n = omega arith in
+    subst (ClosedTo text) e
+    (closed_run text (at + 1) n (omega arith)
+    (λ k l f. none (suc k) (omega arith) (ap (λ i. get_or text i 0) (omega arith) ∙ f))
+    (closed_step text rest at 1 refl (omega arith) (other_token rest some (λ f. none 0 (omega arith) (sym first ∙ f))) c))
 
 stop_text : (text : List ℕ) → 0 < length text → is_open (token_at text) ≡ true → (closed_part text ≡ []) × (open_part text ≡ text)
 stop_text [] h o = absurd (omega arith)

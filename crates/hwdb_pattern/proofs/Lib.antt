@@ -1,4 +1,3 @@
-pub mod ListLemmas
 pub mod MatchLemmas
 pub mod TokenLemmas
 pub mod TakenLemmas
@@ -14,3 +13,5 @@ pub mod ComputedRows
 pub mod JoinLemmas
 pub mod RangeLemmas
 pub mod OpenLemmas
+pub mod CutLemmas
+pub mod TableLemmas

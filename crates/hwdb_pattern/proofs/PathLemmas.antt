@@ -1,17 +1,17 @@
 -- The prefixes of a device that tokens match, and paths that grow at their end.
-use Rattle.std.proofs.Common.{◌≡◌, ℕ, zero, suc, ◌-◌, ◌+◌, ◌<◌, ◌≤◌, Bool, true, false, IsTrue, List, [], ◌∷◌, ◌++◌, take, drop, length, get_or, refl, ap, ◌∙◌, sym, subst, cond, ◌==◌, ◌||◌, nat_eq, not, arith, inl, inr, ◌⊎◌, ne_eqb, eq-eqb, append_assoc, lt-ltb, le-ltb, ◌^◌, set}
+use Rattle.std.proofs.Common.{◌≡◌, ℕ, zero, suc, ◌-◌, ◌+◌, ◌<◌, ◌≤◌, ◌↔◌, Bool, true, false, IsTrue, List, [], ◌∷◌, ◌++◌, take, drop, replicate, length, get_or, refl, ap, ◌∙◌, sym, subst, cond, ◌==◌, ◌||◌, nat_eq, not, arith, inl, inr, ◌⊎◌, ne_eqb, eq-eqb, append_assoc, lt-ltb, le-ltb}
 use Rattle.std.specs.List.{list_any}
 use Rattle.std.specs.Prelude.{Contains, map, filter, nat_lt, All, Result, Ok, Err, IsOk, IfOk, IsOkAnd}
 use Rattle.std.proofs.lemmas.Bool.{cases_eq, cases_lt}
-use Rattle.std.proofs.lemmas.List.{append-nil, take_more, take-take, take_at, get_or-take, get_or_at, length-take-le, length-append, length-map, drop_more, set_at, map-append, take_all, drop-drop, length-drop, take-append-drop}
-use Rattle.std.proofs.lemmas.List.Elements.{Contains-get_or, Contains-push_cases, Contains-push, Contains-append_left, All-contains}
+use Rattle.std.proofs.lemmas.List.{append-nil, take_more, take-take, take_at, get_or-take, get_or_at, length-take-le, length-append, take_all, drop-drop, get_or-drop, get_or-replicate, length-drop, take-append-drop}
+use Rattle.std.proofs.lemmas.List.Elements.{Contains-get_or, All-contains}
 use Rattle.std.proofs.Math.Seq.{take-add}
 use Rattle.hwdb_spec.specs.Patterns.{Token, star, one, bracket, literal, token_at, token_size, tokens_from, tokens, admits_byte, Admits, Matches}
 use Rattle.hwdb_pattern.specs.Views.{Lengths, takes, NoneTakes, open_part, Reached, StandsFor, IsLost}
-use Rattle.hwdb_pattern.specs.Internal.Prefixes.{stepped, Spread, Between, Follows}
+use Rattle.hwdb_pattern.specs.Internal.Prefixes.{stepped, Spread, Between, Follows, Along, Steps, IsAfter, IsRun}
 use Rattle.hwdb_spec.specs.Tree.{closed_from, closed_part, IsLive}
 use Rattle.hwdb_pattern.proofs.MatchLemmas.{is_star, one_byte}
-use Rattle.hwdb_pattern.proofs.TokenLemmas.{first_token, no_tokens, no_tokens_at, star_at}
+use Rattle.hwdb_pattern.proofs.TokenLemmas.{first_token, no_tokens, no_tokens_at, not_star, star_at}
 use Rattle.hwdb_pattern.proofs.ClosedPartLemmas.{closed_tokens, closed_cut, closed_whole, closed_append, open_append}
 use Rattle.hwdb_pattern.proofs.GrowthLemmas.{Front, front_of, take_least}
 
@@ -41,23 +41,23 @@ last_cut (u ∷ ts) t d m =
     }
 
 -- membership, by the first element
-contains_cases : (y : ℕ) (xs : List ℕ) (x : ℕ) → Contains (y ∷ xs) x → (y ≡ x) ⊎ Contains xs x
+pub contains_cases : (y : ℕ) (xs : List ℕ) (x : ℕ) → Contains (y ∷ xs) x → (y ≡ x) ⊎ Contains xs x
 contains_cases y xs x c = go c.0 c.1 c.2
   where
     go : (k : ℕ) → k < length (y ∷ xs) → get_or (y ∷ xs) k x ≡ x → (y ≡ x) ⊎ Contains xs x
     go zero h e = inl e
     go (suc k) h e = inr (k, omega arith, e)
 
-contains_here : (x : ℕ) (xs : List ℕ) → Contains (x ∷ xs) x
+pub contains_here : (x : ℕ) (xs : List ℕ) → Contains (x ∷ xs) x
 contains_here x xs = (0, omega arith, refl)
 
-contains_there : (y : ℕ) (xs : List ℕ) (x : ℕ) → Contains xs x → Contains (y ∷ xs) x
+pub contains_there : (y : ℕ) (xs : List ℕ) (x : ℕ) → Contains xs x → Contains (y ∷ xs) x
 contains_there y xs x c = (suc c.0, omega (arith, c.1), c.2)
 
-contains_none : (x : ℕ) → Contains [] x → ⊥
+pub contains_none : (x : ℕ) → Contains [] x → ⊥
 contains_none x c = absurd (omega (arith, c.1))
 
-any_contains : (xs : List ℕ) (n : ℕ) → list_any (λ y. nat_eq y n) xs ≡ true → Contains xs n
+pub any_contains : (xs : List ℕ) (n : ℕ) → list_any (λ y. nat_eq y n) xs ≡ true → Contains xs n
 any_contains [] n h = cc
 any_contains (x ∷ xs) n h = elim (cases_eq x n) [
   | inl e ↦ subst (λ (m : ℕ). Contains (x ∷ xs) m) e (contains_here x xs)
@@ -68,7 +68,7 @@ any_contains (x ∷ xs) n h = elim (cases_eq x n) [
     go true d e h = cc
     go false d e h = h
 
-contains_any : (xs : List ℕ) (n : ℕ) → Contains xs n → list_any (λ y. nat_eq y n) xs ≡ true
+pub contains_any : (xs : List ℕ) (n : ℕ) → Contains xs n → list_any (λ y. nat_eq y n) xs ≡ true
 contains_any [] n c = absurd (contains_none n c)
 contains_any (x ∷ xs) n c = elim (contains_cases x xs n c) [
   | inl e ↦ ap (λ (b : Bool). b || list_any (λ y. nat_eq y n) xs) (eq-eqb x n e)
@@ -117,7 +117,7 @@ stepped_into t device (x ∷ xs) k h e = elim (contains_cases x xs k h) [
   | inr r ↦ into_there x (filter (takes t device) xs) (takes t device x) (k + 1) (stepped_into t device xs k r e)
 ]
 
-takes_below : (t : Token) (device : List ℕ) (n : ℕ) → takes t device n ≡ true → n < length device
+pub takes_below : (t : Token) (device : List ℕ) (n : ℕ) → takes t device n ≡ true → n < length device
 takes_below t device n h = elim (cases_lt n (length device)) [
   | inr past ↦ absurd (go (nat_lt n (length device)) _ (le-ltb n (length device) past) h)
   | inl below ↦ below
@@ -127,7 +127,7 @@ takes_below t device n h = elim (cases_lt n (length device)) [
     go true x e h = cc
     go false x e h = cc
 
-takes_admits : (t : Token) (device : List ℕ) (n : ℕ) → takes t device n ≡ true → IsTrue (admits_byte t (get_or device n 0))
+pub takes_admits : (t : Token) (device : List ℕ) (n : ℕ) → takes t device n ≡ true → IsTrue (admits_byte t (get_or device n 0))
 takes_admits t device n h = go (nat_lt n (length device)) _ h
   where
     go : (c x : Bool) → cond c x false ≡ true → x ≡ true
@@ -144,22 +144,22 @@ admits_piece (bracket found) b a = (b, refl, a)
 admits_piece (literal own) b a = (b, refl, a)
 
 -- one more token that isn't a star
-pub lengths_step : (ts : List Token) (t : Token) (device xs : List ℕ) → is_star t ≡ false → Lengths ts device xs → Lengths (ts ++ t ∷ []) device (stepped t device xs)
-lengths_step ts t device xs s l = record {
-  sound = λ n h. from_sound n (stepped_from t device xs n h);
+pub lengths_steps : (ts : List Token) (t : Token) (device xs ys : List ℕ) → is_star t ≡ false → Steps t device xs ys → Lengths ts device xs → Lengths (ts ++ t ∷ []) device ys
+lengths_steps ts t device xs ys s st l = record {
+  sound = λ n h. from_sound n (st.from n h);
   complete = λ n h m. from_complete n h (last_cut ts t (take n device) m);
 }
   where
-    from_sound : (n : ℕ) → From t device xs n → (n ≤ length device) × Matches (ts ++ t ∷ []) (take n device)
+    from_sound : (n : ℕ) → (m : ℕ) × (n ≡ m + 1) × Contains xs m × (takes t device m ≡ true) → (n ≤ length device) × Matches (ts ++ t ∷ []) (take n device)
     from_sound n f =
-        let b : f.before < length device = takes_below t device f.before f.taken in
-        let e : take n device ≡ take f.before device ++ get_or device f.before 0 ∷ [] = ap (λ (k : ℕ). take k device) f.next ∙ take_more device f.before 0 b in (
-          omega (arith, f.next, b),
+        let b : f.0 < length device = takes_below t device f.0 f.3 in
+        let e : take n device ≡ take f.0 device ++ get_or device f.0 0 ∷ [] = ap (λ (k : ℕ). take k device) f.1 ∙ take_more device f.0 0 b in (
+          omega (arith, f.1, b),
           subst (λ (d : List ℕ). Matches (ts ++ t ∷ []) d) (sym e)
-              (matches_more ts t (take f.before device) (get_or device f.before 0 ∷ []) (l.sound f.before f.member).1 (admits_piece t _ (takes_admits t device f.before f.taken))),
+              (matches_more ts t (take f.0 device) (get_or device f.0 0 ∷ []) (l.sound f.0 f.2).1 (admits_piece t _ (takes_admits t device f.0 f.3))),
         )
 
-    from_complete : (n : ℕ) → n ≤ length device → LastCut ts t (take n device) → Contains (stepped t device xs) n
+    from_complete : (n : ℕ) → n ≤ length device → LastCut ts t (take n device) → Contains ys n
     from_complete n h c =
         let a : (b : ℕ) × (c.piece ≡ b ∷ []) × IsTrue (admits_byte t b) = one_byte t c.piece s c.admitted in
         let w : take n device ≡ c.front ++ a.0 ∷ [] = c.whole ∙ ap (λ (p : List ℕ). c.front ++ p) a.1 in
@@ -169,40 +169,16 @@ lengths_step ts t device xs s l = record {
         sym (take-take (length c.front) n device (omega arith)) ∙ ap (λ (d : List ℕ). take (length c.front) d) w ∙ take_at c.front (a.0 ∷ []) (length c.front) refl in
         let b : get_or device (length c.front) 0 ≡ a.0 =
         sym (get_or-take n device (length c.front) 0 (omega arith)) ∙ ap (λ (d : List ℕ). get_or d (length c.front) 0) w ∙ get_or_at c.front a.0 [] 0 (length c.front) refl in
-        subst (λ (m : ℕ). Contains (stepped t device xs) m) (sym z)
-        (stepped_into t device xs (length c.front)
+        subst (λ (m : ℕ). Contains ys m) (sym z)
+        (st.into (length c.front)
         (l.complete (length c.front) (omega arith) (subst (λ (d : List ℕ). Matches ts d) (sym f) c.before))
         (takes_by t device (length c.front) k (subst (λ (x : ℕ). IsTrue (admits_byte t x)) (sym b) a.2)))
 
-pub advance_step : (ys xs : List ℕ) (i : ℕ) → i < length ys → xs ≡ map (λ n. n + 1) (take i ys) ++ drop i ys
-    → set xs i (get_or xs i 0 + 1) ≡ map (λ n. n + 1) (take (i + 1) ys) ++ drop (i + 1) ys
-advance_step ys xs i h e =
-    let p : List ℕ = map (λ n. n + 1) (take i ys) in
-    let y : ℕ = get_or ys i 0 in
-    let r : List ℕ = drop (i + 1) ys in
-    let l : length p ≡ i = length-map (take i ys) (λ n. n + 1) ∙ length-take-le i ys (omega arith) in
-    let f : xs ≡ p ++ y ∷ r = e ∙ ap (λ (d : List ℕ). p ++ d) (drop_more ys i 0 h) in
-    let g : get_or xs i 0 ≡ y = ap (λ (d : List ℕ). get_or d i 0) f ∙ get_or_at p y r 0 i l in
-    let k : map (λ n. n + 1) (take (i + 1) ys) ≡ p ++ (y + 1) ∷ [] = ap (map (λ n. n + 1)) (take_more ys i 0 h) ∙ map-append (λ n. n + 1) (take i ys) (y ∷ []) in
-    ap (λ (n : ℕ). set xs i (n + 1)) g ∙ ap (λ (d : List ℕ). set d i (y + 1)) f ∙ set_at p y r (y + 1) i l
-    ∙ sym (ap (λ (d : List ℕ). d ++ r) k ∙ append_assoc p ((y + 1) ∷ []) r)
-
-below_case : (t : Token) (device : List ℕ) (x : ℕ) (ys : List ℕ) (c : Bool) → takes t device x ≡ c → All (λ n. n < length device) ys
-    → (k d : ℕ) → k < length (cond c (x ∷ ys) ys) → get_or (cond c (x ∷ ys) ys) k d < length device
-below_case t device x ys true e ih zero d h = takes_below t device x e
-below_case t device x ys true e ih (suc k) d h = ih k d (omega arith)
-below_case t device x ys false e ih k d h = ih k d h
-
--- the lengths that are kept are below the device's
-pub kept_below : (t : Token) (device xs : List ℕ) → All (λ n. n < length device) (filter (takes t device) xs)
-kept_below t device [] k d h = absurd (omega arith)
-kept_below t device (x ∷ xs) k d h = below_case t device x (filter (takes t device) xs) (takes t device x) refl (kept_below t device xs) k d h
-
-pub kept_fits : (t : Token) (device xs ys : List ℕ) → length device < 2 ^ 64 → ys ≡ filter (takes t device) xs → All (λ n. n + 1 < 2 ^ 64) ys
-kept_fits t device xs ys z e k d h =
-    let w : get_or (filter (takes t device) xs) k d < length device = kept_below t device xs k d (omega (arith, ap length e)) in
-    let g : get_or ys k d ≡ get_or (filter (takes t device) xs) k d = ap (λ (l : List ℕ). get_or l k d) e in
-    omega (arith, w, g)
+steps_stepped : (t : Token) (device xs : List ℕ) → Steps t device xs (stepped t device xs)
+steps_stepped t device xs = record {
+  from = λ n h. let f : From t device xs n = stepped_from t device xs n h in (f.before, f.next, f.member, f.taken);
+  into = λ m c e. stepped_into t device xs m c e;
+}
 
 sum_of : (n m : ℕ) → m ≤ n → n ≡ m + (n - m)
 sum_of n m h = omega arith
@@ -302,8 +278,11 @@ follows_star device before after p = record { lengths = λ ts l. lengths_star ts
 
 pub follows_one : (t : Token) (device before after : List ℕ) → is_star t ≡ false → after ≡ stepped t device before → Follows (t ∷ []) device before after
 follows_one t device before after s e = record {
-  lengths = λ ts l. subst (λ (ys : List ℕ). Lengths (ts ++ t ∷ []) device ys) (sym e) (lengths_step ts t device before s l);
+  lengths = λ ts l. subst (λ (ys : List ℕ). Lengths (ts ++ t ∷ []) device ys) (sym e) (lengths_steps ts t device before (stepped t device before) s (steps_stepped t device before) l);
 }
+
+pub follows_steps : (t : Token) (device before after : List ℕ) → is_star t ≡ false → Steps t device before after → Follows (t ∷ []) device before after
+follows_steps t device before after s st = record { lengths = λ ts l. lengths_steps ts t device before after s st l }
 
 pub follows_then : (first more : List Token) (device before mid after : List ℕ) → Follows first device before mid → Follows more device mid after → Follows (first ++ more) device before after
 follows_then first more device before mid after f g = record {
@@ -329,12 +308,7 @@ follows_nothing first more device before f = record {
   lengths = λ ts l. subst (λ (us : List Token). Lengths us device []) (append_assoc ts first more) (none_more (ts ++ first) more device (f.lengths ts l));
 }
 
--- the tokens before a place were followed
-pub record Along (device before after text : List ℕ) (at : ℕ) : Type 0 where
-  pub done : List Token
-  pub cut : tokens text ≡ done ++ tokens (drop at text)
-  pub follows : Follows done device before after
-
+-- the tokens before a place were followed, and one more
 pub along_step : (device before mid after text rest : List ℕ) (at size : ℕ) → rest ≡ drop at text → at < length text → size ≡ token_size (token_at rest)
     → Follows (token_at rest ∷ []) device mid after → Along device before mid text at → Along device before after text (at + size)
 along_step device before mid after text rest at size r h s f a =
@@ -347,6 +321,69 @@ along_step device before mid after text rest at size r h s f a =
           ∙ sym (append_assoc a.done (token_at rest ∷ []) (tokens (drop (at + size) text)));
       follows = follows_then a.done (token_at rest ∷ []) device before mid after a.follows f;
     }
+
+-- nothing is followed yet
+pub along_start : (device before text : List ℕ) → Along device before before text 0
+along_start device before text = record { done = []; cut = refl; follows = follows_none device before }
+
+-- the tokens before a place, and then those of what is left before another one
+pub along_then : (device before mid after text rest : List ℕ) (at size : ℕ) → rest ≡ drop at text
+    → Along device mid after rest size → Along device before mid text at → Along device before after text (at + size)
+along_then device before mid after text rest at size r b a = record {
+  done = a.done ++ b.done;
+  cut = a.cut ∙ ap (λ (l : List ℕ). a.done ++ tokens l) (sym r) ∙ ap (λ (us : List Token). a.done ++ us) b.cut
+      ∙ sym (append_assoc a.done b.done (tokens (drop size rest)))
+      ∙ ap (λ (l : List ℕ). (a.done ++ b.done) ++ tokens l) (ap (drop size) r ∙ drop-drop size at text);
+  follows = follows_then a.done b.done device before mid after a.follows b.follows;
+}
+
+-- the tokens before a place, and then all of what is left
+pub along_rest : (device before mid after text rest : List ℕ) (at : ℕ) → rest ≡ drop at text
+    → Along device before mid text at → Follows (tokens rest) device mid after → Follows (tokens text) device before after
+along_rest device before mid after text rest at r a f =
+    subst (λ (us : List Token). Follows us device before after)
+    (sym (a.cut ∙ ap (λ (l : List ℕ). a.done ++ tokens l) (sym r)))
+    (follows_then a.done (tokens rest) device before mid after a.follows f)
+
+-- after a star another one changes nothing
+spread_again : (end : ℕ) (before after : List ℕ) → Spread end before after → Spread end after after
+spread_again end before after s = record {
+  sound = λ n c. ((s.sound n c).0, n, omega arith, c);
+  complete = λ n m h k c.
+      let from = s.sound m c in
+      s.complete n from.1 h (omega (arith, k, from.2)) from.3;
+}
+
+-- a run of stars is one star
+more_stars : (device before after text : List ℕ) (n : ℕ) → Spread (length device) before after → n < length text → ((k : ℕ) → k < suc n → get_or text k 0 ≡ 42)
+    → Along device before after text (suc n)
+more_stars device before after text zero s h e =
+    along_step device before before after text text 0 1 refl h (ap token_size (sym (star_at text (e 0 (omega arith)))))
+    (first_star text device before after (e 0 (omega arith)) s) (along_start device before text)
+more_stars device before after text (suc n) s h e =
+    let rest : List ℕ = drop (suc n) text in
+    let first : get_or rest 0 0 ≡ 42 = get_or-drop (suc n) text 0 0 ∙ ap (λ i. get_or text i 0) (omega arith) ∙ e (suc n) (omega arith) in
+    let at : suc n + 1 ≡ suc (suc n) = omega arith in
+    subst (λ m. Along device before after text m) at
+    (along_step device before after after text rest (suc n) 1 refl h (ap token_size (sym (star_at rest first)))
+    (first_star rest device after after first (spread_again (length device) before after s))
+    (more_stars device before after text n s (omega arith) (λ k l. e k (omega arith))))
+
+pub along_stars : (device before after text : List ℕ) (size : ℕ) → Spread (length device) before after → 0 < size → size ≤ length text → ((k : ℕ) → k < size → get_or text k 0 ≡ 42)
+    → Along device before after text size
+along_stars device before after text zero s some h e = absurd (omega arith)
+along_stars device before after text (suc n) s some h e = more_stars device before after text n s (omega arith) e
+
+-- one token, or a run of stars
+pub along_after : (device before after text : List ℕ) (size : ℕ) → 0 < length text → 0 < size → size ≤ length text → IsAfter device before after text → IsRun text size
+    → Along device before after text size
+along_after device before after text size some z h a r = elim (cases_eq (get_or text 0 0) 42) [
+  | inl e ↦ along_stars device before after text size (a.star e) z h (r.stars e)
+  | inr n ↦
+      subst (λ m. Along device before after text m) (omega arith)
+      (along_step device before before after text text 0 size refl some (r.token n)
+      (follows_steps (token_at text) device before after (not_star text n) (a.token n)) (along_start device before text))
+]
 
 pub along_end : (device before after text : List ℕ) (at : ℕ) → length text ≤ at → Along device before after text at → Follows (tokens text) device before after
 along_end device before after text at h a =
@@ -375,39 +412,21 @@ along_none device before text h =
 pub spread_within : (device before after : List ℕ) → Spread (length device) before after → All (λ n. n ≤ length device) after
 spread_within device before after p k d h = (p.sound (get_or after k d) (Contains-get_or after k d h)).0
 
-pub step_within : (t : Token) (device before after : List ℕ) → after ≡ stepped t device before → All (λ n. n ≤ length device) after
-step_within t device before after e k d h =
-    let c : Contains after (get_or after k d) = Contains-get_or after k d h in
-    let f : From t device before (get_or after k d) = stepped_from t device before (get_or after k d) (subst (λ (ys : List ℕ). Contains ys (get_or after k d)) e c) in
-    let b : f.before < length device = takes_below t device f.before f.taken in
-    omega (arith, f.next)
-
-pub between_more : (least n : ℕ) (xs ys : List ℕ) → ys ≡ xs ++ n ∷ [] → least ≤ n → Between least n xs → Between least (n + 1) ys
-between_more least n xs ys e h r = record {
-  sound = λ m c. elim (Contains-push_cases xs n m (subst (λ (l : List ℕ). Contains l m) e c)) [
-    | inl before ↦ ((r.sound m before).0, omega (arith, (r.sound m before).1))
-    | inr same ↦ (omega arith, omega arith)
-  ];
-  complete = λ m l u. subst (λ (ys : List ℕ). Contains ys m) (sym e) (elim (cases_lt m n) [
-    | inl below ↦ Contains-append_left xs (n ∷ []) m (r.complete m l below)
-    | inr above ↦ subst (λ (i : ℕ). Contains (xs ++ n ∷ []) i) (same_number n m u above) (Contains-push xs n)
-  ]);
-}
-  where
-    same_number : (n m : ℕ) → m < n + 1 → n ≤ m → n ≡ m
-    same_number n m u a = omega arith
+pub after_within : (device before after text : List ℕ) → IsAfter device before after text → All (λ n. n ≤ length device) after
+after_within device before after text a = elim (cases_eq (get_or text 0 0) 42) [
+  | inl e ↦ spread_within device before after (a.star e)
+  | inr n ↦ λ k d h.
+      let c : Contains after (get_or after k d) = Contains-get_or after k d h in
+      let f = (a.token n).from (get_or after k d) c in
+      let b = takes_below (token_at text) device f.0 f.3 in
+      omega (arith, f.1, b)
+]
 
 pub between_spread : (end least n : ℕ) (before after : List ℕ) → All (λ m. least ≤ m) before → (least < end + 1 → Contains before least) → n ≡ end + 1
     → Between least n after → Spread end before after
 between_spread end least n before after a m e r = record {
   sound = λ i c. (omega (arith, (r.sound i c).1), least, (r.sound i c).0, m (omega (arith, (r.sound i c).0, (r.sound i c).1)));
   complete = λ i j h k c. r.complete i (omega (arith, All-contains (λ m. least ≤ m) before j a c)) (omega arith);
-}
-
-pub between_none : (least : ℕ) (xs : List ℕ) → xs ≡ [] → Between least least xs
-between_none least xs e = record {
-  sound = λ m c. absurd (contains_none m (subst (λ (l : List ℕ). Contains l m) e c));
-  complete = λ m l u. absurd (omega arith);
 }
 
 pub alive_test : (r : Reached) (lengths : List ℕ) (empty : Bool) → lengths ≡ r.lengths → empty ≡ (length lengths == 0) → (path : List ℕ) → StandsFor r path
@@ -429,12 +448,12 @@ alive_test r lengths empty e t path s = (
     positive (suc n) b t h = omega arith
 
 pub accept_test : (r : Reached) (path lengths device : List ℕ) (found : Bool) → lengths ≡ r.lengths → device ≡ r.device → length r.kept ≡ 0
-    → found ≡ list_any (λ y. nat_eq y (length device)) lengths → StandsFor r path
+    → (IsTrue found ↔ Contains lengths (length device)) → StandsFor r path
     → (IsTrue found → Matches (tokens path) r.device) × (Matches (tokens path) r.device → IsTrue found)
 accept_test r path lengths device found e d k f s = (
   (λ h. accepted r path s k (subst (λ (l : List ℕ). Contains l (length r.device)) e
-      (subst (λ (v : List ℕ). Contains lengths (length v)) d (any_contains lengths (length device) (sym f ∙ h))))),
-  (λ m. f ∙ contains_any lengths (length device)
+      (subst (λ (v : List ℕ). Contains lengths (length v)) d (f.0 h)))),
+  (λ m. f.1
       (subst (λ (v : List ℕ). Contains lengths (length v)) (sym d) (subst (λ (l : List ℕ). Contains l (length r.device)) (sym e) (accepts_has r path s k m)))),
 )
 
@@ -473,3 +492,14 @@ lost_front reach device before text end d b q l =
     let none : NoneTakes (token_at text) device before =
     λ n c. ap (λ (v : List ℕ). takes (token_at text) v n) d ∙ l.none_takes n (subst (λ (xs : List ℕ). Contains xs n) b c) in
     subst (λ (front : List ℕ). (0 < length front) × (get_or front 0 0 ≡ 42 → ⊥) × NoneTakes (token_at front) device before) z (l.some, l.no_star, none)
+
+-- a run of stars, and a block of stars after it
+pub star_block : (text : List ℕ) (at n : ℕ) → n ≡ 64 → take n (drop at text) ≡ replicate 64 42 → ((k : ℕ) → k < at → get_or text k 0 ≡ 42)
+    → (k : ℕ) → k < at + 64 → get_or text k 0 ≡ 42
+star_block text at n z e before k h = elim (cases_lt k at) [
+  | inl below ↦ before k below
+  | inr past ↦
+      let i : at + (k - at) ≡ k = omega arith in
+      sym (get_or-take n (drop at text) (k - at) 0 (omega arith) ∙ get_or-drop at text (k - at) 0 ∙ ap (λ j. get_or text j 0) i)
+      ∙ ap (λ l. get_or l (k - at) 0) e ∙ get_or-replicate 64 (k - at) 42 0 (omega arith)
+]

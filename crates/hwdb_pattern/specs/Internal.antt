@@ -3,3 +3,4 @@ pub mod Prefixes
 pub mod Met
 pub mod Parts
 pub mod Search
+pub mod Tables

@@ -10,8 +10,8 @@
 //! - [`glob`] answers whether one pattern matches one device. It searches from star to star and takes no memory.
 //! - [`Reach`] goes along a path of a tree of patterns, piece by piece. It keeps all prefixes of the device that the
 //!   path matches so far, since each child of a node goes on from them. So a common beginning of many patterns is
-//!   matched once, and a subtree that can match nothing is left early. That costs memory: a number for each prefix, but
-//!   none as long as the path's bytes are the device's own.
+//!   matched once, and a subtree that can match nothing is left early. That costs memory: a byte for each prefix, but
+//!   none as long as each token of the path takes one byte of the device.
 //!
 //! Neither tries all ways to match. `glob` takes at most as many steps as the pattern's length times the device's. A
 //! feed of `Reach` takes at most the bytes kept and fed, times the device's length. There is one exception: if a
@@ -22,33 +22,36 @@
 //! | `classes` | the named classes of bytes, as `[:digit:]` |
 //! | `brackets` | brackets and the items in them |
 //! | `tokens` | the tokens of a pattern |
-//! | `token_list` | the tokens of a pattern as a list |
+//! | `cut` | the tokens of a pattern as a list |
 //! | `opens` | where a `[` begins no closed bracket |
 //! | `unusual` | a `[` that begins no closed bracket, a range without members |
 //! | `search` | whether a pattern matches a device |
-//! | `lengths` | which of a device's prefixes some tokens match |
+//! | `tables` | tables over a device: the places whose byte a token admits |
+//! | `met` | which of a device's prefixes some tokens match |
+//! | `lengths` | how far one may go along a text at once |
 //! | `paths` | which prefixes a path matches that is fed piece by piece |
 //! | `laws` | what is proved of the definitions alone |
 #![tactic(auto)]
 
 mod brackets;
 mod classes;
+mod cut;
 mod laws;
 mod lengths;
+mod met;
 mod opens;
 mod paths;
 mod search;
-mod token_list;
+mod tables;
 mod tokens;
 mod unusual;
 
 pub use brackets::bracket_end;
+pub use cut::{begins_star, begins_with, front_size, token_texts};
 pub use laws::{
     closed_bracket_stays, closed_part_is_cut_alike, dead_matches_nothing, dead_stays_dead,
     live_is_tested, matches_is_tested, tokens_are_the_pattern, worked_rows,
 };
 pub use paths::Reach;
 pub use search::glob;
-pub use token_list::{Token, place_of, tokens_of};
-pub use tokens::token_size;
 pub use unusual::{open_place, range_place};

@@ -9,31 +9,12 @@ ghost use Rattle.hwdb_pattern.specs.Internal.Met.{lengths_of};
 ghost use Rattle.hwdb_pattern.specs.Views.{Reached, StandsFor, IsLost, open_part};
 ghost use Rattle.hwdb_spec.specs.Tree.{IsLive};
 
-use crate::lengths::{after_bytes, along, is_next, stands_for_itself};
+use crate::lengths::{after_bytes, stands_for_itself};
+use crate::met::Met;
 use crate::search::glob;
 use crate::tokens::closed_end;
 use std::alloc::{AllocError, Global};
 use std::marker::Model;
-use std::slice::from_ref;
-
-/// The lengths of the prefixes that are matched. A lone one, as most paths have at first, takes no memory.
-#[derive(Drop)]
-pub(crate) enum Met {
-    Lone(usize),
-    Many(Vec<usize>),
-}
-
-impl Met {
-    /// The lengths.
-    fn list(&self) -> &[usize]
-        ensures { result.now ≡ lengths_of self.now }
-    {
-        match self {
-            Met::Lone(length) => from_ref(length),
-            Met::Many(lengths) => lengths,
-        }
-    }
-}
 
 /// What is known of a device on the way along a path. That is which of its prefixes the path's closed part matches, and
 /// the path's open part.
@@ -41,12 +22,12 @@ impl Met {
 /// The closed part ends before the first `[` that begins no closed bracket in the path. Bytes from there on are kept,
 /// since a later `]` may still close that bracket.
 ///
-/// It holds one number for each matched prefix, and the kept bytes. As long as the path's bytes are the device's own,
-/// it holds no memory.
+/// It holds one byte for each prefix from the first one that is matched on, and the kept bytes. Before the path's first
+/// star it holds no memory but the kept bytes.
 #[derive(Drop)]
 pub struct Reach<'d> {
     device: &'d [u8],
-    lengths: Met,
+    met: Met,
     kept: Vec<u8>,
 }
 
@@ -54,9 +35,9 @@ impl<'d> Model for Reach<'d> {
     ghost Value = { Reached };
 
     ghost view = { λ r. record
-        { device = r.device.now; lengths = lengths_of r.lengths; kept = r.kept.items } };
+        { device = r.device.now; lengths = lengths_of r.met; kept = r.kept.items } };
 
-    ghost invariant = { λ r. Within r.device.now (lengths_of r.lengths) };
+    ghost invariant = { λ r. Within r.device.now (lengths_of r.met) };
 }
 
 impl<'d> Reach<'d> {
@@ -67,7 +48,7 @@ impl<'d> Reach<'d> {
     {
         Reach {
             device,
-            lengths: Met::Lone(0),
+            met: Met::Lone(0),
             kept: Vec::new(alloc),
         }
     }
@@ -89,7 +70,7 @@ impl<'d> Reach<'d> {
             if let Some(length) = self.lone_after(piece) {
                 return Ok(Reach {
                     device: self.device,
-                    lengths: Met::Lone(length),
+                    met: Met::Lone(length),
                     kept: Vec::new(alloc),
                 });
             }
@@ -109,7 +90,7 @@ impl<'d> Reach<'d> {
         ensures follows { IfSome result (λ n.
             Follows (tokens piece.now) self.now.device self.now.lengths (n ∷ [])) }
     {
-        match &self.lengths {
+        match &self.met {
             Met::Lone(length) => after_bytes(self.device, *length, piece),
             Met::Many(_) => None,
         }
@@ -124,12 +105,12 @@ impl<'d> Reach<'d> {
         ensures free { IsLost self.now text.now → IsOk result }
     {
         let end = closed_end(text);
-        let lengths = along(alloc, self.lengths.list(), self.device, &text[..end])?;
+        let met = self.met.along(alloc, self.device, &text[..end])?;
         let mut kept = Vec::new(alloc);
         kept.extend_from_slice(&text[end..])?;
         Ok(Reach {
             device: self.device,
-            lengths: Met::Many(lengths),
+            met,
             kept,
         })
     }
@@ -139,8 +120,7 @@ impl<'d> Reach<'d> {
         ensures { (path : List ℕ) → StandsFor self.now path
             → (IsTrue result ↔ IsLive path self.now.device) }
     {
-        let lengths = self.lengths.list();
-        !lengths.is_empty()
+        !self.met.is_empty()
     }
 
     /// Whether the path may still be live after one more byte, by a look at that byte alone. If the answer is no, it
@@ -156,7 +136,7 @@ impl<'d> Reach<'d> {
         }
         let kept: &[u8] = &self.kept;
         if kept.is_empty() {
-            is_next(self.lengths.list(), self.device, byte)
+            self.met.is_next(self.device, byte)
         } else {
             true
         }
@@ -170,7 +150,7 @@ impl<'d> Reach<'d> {
     {
         let kept: &[u8] = &self.kept;
         if kept.is_empty() {
-            self.lengths.list().contains(&self.device.len())
+            self.met.contains(self.device.len())
         } else {
             glob(path, self.device)
         }

@@ -16,7 +16,7 @@ use crate::tokens::single_token;
 
 /// A place in the pattern and in the device.
 #[derive(Clone, Copy)]
-struct Place {
+struct SearchState {
     /// How many bytes of the pattern were taken.
     at: usize,
     /// How many bytes of the device they matched.
@@ -49,7 +49,7 @@ fn opens_from(opens: &[bool], at: usize) -> &[bool]
 /// Takes the tokens before the first star, and for each the next byte of the device. Answers how far that led: to a
 /// star, or to the pattern's end. None if a token doesn't take its byte. `close` and `opens` tell at which places no
 /// bracket begins.
-fn run(pattern: &[u8], device: &[u8], close: usize, opens: &[bool]) -> Option<Place>
+fn run(pattern: &[u8], device: &[u8], close: usize, opens: &[bool]) -> Option<SearchState>
     requires closes { NoneCloses pattern.now close }
     requires opens { AreOpen pattern.now opens.now }
     ensures within { IfSome result (λ place. place.at ≤ length pattern.now) }
@@ -73,7 +73,7 @@ fn run(pattern: &[u8], device: &[u8], close: usize, opens: &[bool]) -> Option<Pl
         at += next.size;
         met += 1;
     }
-    Some(Place { at, met })
+    Some(SearchState { at, met })
 }
 
 /// The place after the last `]`. From there on each `[` is an ordinary byte.

@@ -1,9 +1,7 @@
 //! What `update` does with the files of both folders.
 ghost use Rattle.std.specs.Prelude.{◌≡◌, ◌≢◌, ◌++◌, None, map, IfOk, IfErr, OnOk, IsErrOf};
-ghost use Rattle.std.specs.Io.KnownBytes.{Appends};
 ghost use Rattle.hwdb_compile.specs.Views.{sources, fault_of};
-ghost use Rattle.hwdb_spec.specs.Failures.{HasFailed, OneFailed};
-ghost use Rattle.hwdb_spec.specs.Outputs.{AppendsPrefix};
+ghost use Rattle.hwdb_spec.specs.Outputs.{CutShort, Took};
 ghost use Rattle.hwdb_spec.specs.Texts.{status_of, faults_text};
 ghost use Rattle.hwdb_spec.specs.Folders.{faults_of_files};
 ghost use Rattle.hwdb_spec.specs.Store.{InPlace, LeavesOnly, OldOrNew};
@@ -11,21 +9,21 @@ ghost use Rattle.hwdb_replace.specs.Views.{IsLeft, IsSeen, failures_after};
 ghost use Rattle.hwdb_spec.specs.Done.{Updated, OldOrWritten};
 ghost use Rattle.hwdb_print.specs.Updates.{UpdateUndone, OnUnreplaced, IsPlaceRefusal, IsUpdateRefusal};
 
+use crate::errors::ToolError;
 use crate::texts::fault_lines;
 use hwdb_compile::{Compiled, FileFault, SourceFile, compile};
-use hwdb_devices::Sink;
+use hwdb_io::{Sink, write_text};
 use hwdb_replace::{Store, Unreplaced, replace};
-use hwdb_transfer::{ToolError, write_text};
 use std::alloc::{AllocError, Global};
 
-/// The status of an update: 1 where `strict` and there is a fault, else 0.
+/// The status of an update: 1 if `strict` and there is a fault, else 0.
 fn status_of(strict: bool, faults: &[FileFault]) -> u8
     ensures { result ≡ status_of strict (map fault_of faults.now) }
 {
     if strict && !faults.is_empty() { 1 } else { 0 }
 }
 
-/// A text, and behind it the lines of some faults.
+/// A text, and after it the lines of some faults.
 fn with_fault_lines(
     alloc: Global,
     progress: &[u8],
@@ -40,9 +38,9 @@ fn with_fault_lines(
     Ok(text)
 }
 
-/// Writes to `err` what is to be said of the work so far, and the fault lines of what was compiled; then puts its database
-/// in its place in a folder of the store. Returns the status: 1 where `strict` and there is a fault line, else 0. Nothing
-/// of the store changes before the text is whole.
+/// Writes to `err` what is to be said of the work so far, and the fault lines of what was compiled. Then it puts the database
+/// in its place in a folder of the store. Nothing of the store changes before the text is whole. Returns the status: 1 if
+/// `strict` and there is a fault line, else 0.
 pub fn put_in_place<S: Store, E: Sink>(
     alloc: Global,
     compiled: &Compiled,
@@ -52,8 +50,9 @@ pub fn put_in_place<S: Store, E: Sink>(
     store: &mut S,
     err: &mut E,
 ) -> Result<u8, ToolError>
-    ensures told { OnOk result (Appends (E.taken err.old) (E.taken err.new)
-        (progress.now ++ faults_text (map fault_of compiled.now.faults.items))) }
+    ensures told { OnOk result (Took
+        (progress.now ++ faults_text (map fault_of compiled.now.faults.items))
+        (E.taken err.old) (E.taken err.new) (E.failures err.old) (E.failures err.new)) }
     ensures placed { S.tells → OnOk result (InPlace folder.now compiled.now.database.items
         (S.seen store.old) (S.seen store.new) (S.may_leave store.new)) }
     ensures status { IfOk result
@@ -61,28 +60,22 @@ pub fn put_in_place<S: Store, E: Sink>(
     ensures any_moment { S.tells → LeavesOnly S.moment S.left_since store.old store.new
         (OldOrNew folder.now compiled.now.database.items (S.seen store.old)
         (S.may_leave store.old)) }
+    ensures unfailed { OnOk result (S.failures store.new ≡ S.failures store.old) }
 
     ensures refusals { IfErr result IsPlaceRefusal }
-    ensures unreplaced { IfErr result (OnUnreplaced (λ _.
-        Appends (E.taken err.old) (E.taken err.new)
-        (progress.now ++ faults_text (map fault_of compiled.now.faults.items)))) }
+    ensures unreplaced { IfErr result (OnUnreplaced (λ u. Took
+        (progress.now ++ faults_text (map fault_of compiled.now.faults.items))
+        (E.taken err.old) (E.taken err.new) (E.failures err.old) (E.failures err.new)
+        × (S.failures store.new ≡ failures_after u (S.failures store.old)))) }
     ensures seen { S.tells → IfErr result (OnUnreplaced
         (IsSeen folder.now compiled.now.database.items (S.seen store.old) (S.seen store.new))) }
     ensures left { S.tells → IfErr result (OnUnreplaced
         (IsLeft folder.now compiled.now.database.items (S.seen store.old)
         (S.may_leave store.old) (S.may_leave store.new))) }
-    ensures counted { IfErr result (OnUnreplaced
-        (λ u. (E.failures err.new ≡ E.failures err.old)
-        × (S.failures store.new ≡ failures_after u (S.failures store.old)))) }
-    ensures unfailed { OnOk result ((E.failures err.new ≡ E.failures err.old)
-        × (S.failures store.new ≡ S.failures store.old)) }
-    ensures last { IsErrOf result ToolError.Write
-        → OneFailed (E.failures err.old) (E.failures err.new) × (store.new ≡ store.old) }
-    ensures cause { IsErrOf result ToolError.Write
-        → HasFailed (E.failures err.old) (E.failures err.new) }
-    ensures cut_short { IsErrOf result ToolError.Write
-        → AppendsPrefix (E.taken err.old) (E.taken err.new)
-        (progress.now ++ faults_text (map fault_of compiled.now.faults.items)) }
+    ensures cut_short { IsErrOf result ToolError.Write → CutShort
+        (progress.now ++ faults_text (map fault_of compiled.now.faults.items))
+        (E.taken err.old) (E.taken err.new) (E.failures err.old) (E.failures err.new)
+        × (store.new ≡ store.old) }
     ensures untouched { IfErr result
         (λ e. e ≢ ToolError.Write → ((u : Unreplaced) → e ≢ ToolError.Replace u)
         → (err.new ≡ err.old) × (store.new ≡ store.old)) }
@@ -93,12 +86,9 @@ pub fn put_in_place<S: Store, E: Sink>(
     Ok(status_of(strict, &compiled.faults))
 }
 
-/// Compiles the files of the folders in /etc and in /usr/lib, writes the fault lines to `err`, and replaces the database
-/// in a folder of the store. Returns the status: 1 where `strict` and there is a fault line, else 0. Nothing of the store
-/// changes before the fault lines are whole.
+/// Compiles the files of the folders in /etc and in /usr/lib, and then does with them what [`put_in_place`] does.
 ///
-/// This is the library's call, for who has the files' bytes. The program reads the files itself and calls
-/// [`put_in_place`].
+/// This is the library's call, for who has the files' bytes. The program reads the files itself.
 pub fn run_update<S: Store, E: Sink>(
     alloc: Global,
     etc: &[SourceFile],
@@ -128,13 +118,10 @@ pub fn run_update<S: Store, E: Sink>(
         × (S.failures store.new ≡ failures_after u (S.failures store.old)))) }
     ensures unfailed { OnOk result ((E.failures err.new ≡ E.failures err.old)
         × (S.failures store.new ≡ S.failures store.old)) }
-    ensures last { IsErrOf result ToolError.Write
-        → OneFailed (E.failures err.old) (E.failures err.new) × (store.new ≡ store.old) }
-    ensures cause { IsErrOf result ToolError.Write
-        → HasFailed (E.failures err.old) (E.failures err.new) }
     ensures cut_short { IsErrOf result ToolError.Write
-        → AppendsPrefix (E.taken err.old) (E.taken err.new)
-        (faults_text (faults_of_files (sources etc.now) (sources usr.now))) }
+        → CutShort (faults_text (faults_of_files (sources etc.now) (sources usr.now)))
+        (E.taken err.old) (E.taken err.new) (E.failures err.old) (E.failures err.new)
+        × (store.new ≡ store.old) }
     ensures untouched { IfErr result
         (λ e. e ≢ ToolError.Write → ((u : Unreplaced) → e ≢ ToolError.Replace u)
         → (err.new ≡ err.old) × (store.new ≡ store.old)) }

@@ -14,7 +14,7 @@ use Rattle.hwdb_query.specs.Laws.{Among}
 use Rattle.hwdb_query.specs.Internal.Members.{one_assignment, assignment_shown, own_members}
 use Rattle.hwdb_query.specs.Internal.Explaining.{set, set_all, Place, assignment_at_place, all_shown, AllCollects}
 use Rattle.hwdb_query.specs.declared.all_hits.AllHits.{AllHits}
-use Rattle.hwdb_query.specs.declared.all_hits.Content.{Content}
+use Rattle.hwdb_query.specs.declared.all_hits.HitValue.{HitValue}
 use Rattle.hwdb_query.proofs.MemberLemmas.{then_equal, same_text, put_sound, members_single, filter_sound, in_none}
 use Rattle.hwdb_query.proofs.DistinctLemmas.{under_distinct}
 use Rattle.hwdb_query.proofs.PartLemmas.{own_next, own_behind}
@@ -71,18 +71,18 @@ regrouped Greater b c d = refl
 abbrev pub place_order : Place → Place → Ordering
 place_order p q = ordering_then (ordering_then (ordering_then (nat_cmp p.0 q.0) (nat_cmp p.1 q.1)) (text_cmp p.2.value.items q.2.value.items)) (text_cmp p.3.now q.3.now)
 
-place_is : (p q : Place) (c d : Content) → place_order p q ≡ assignment_cmp (assignment_at_place (p, c)) (assignment_at_place (q, d))
+place_is : (p q : Place) (c d : HitValue) → place_order p q ≡ assignment_cmp (assignment_at_place (p, c)) (assignment_at_place (q, d))
 unfolding assignment_cmp position_cmp
 place_is p q c d = regrouped (nat_cmp p.0 q.0) (nat_cmp p.1 q.1) (text_cmp p.2.value.items q.2.value.items) (text_cmp p.3.now q.3.now)
 
 -- if two places tie, either makes one assignment of what it has
-tied : (p q : Place) (c d : Content) → assignment_cmp (assignment_at_place (p, c)) (assignment_at_place (q, d)) ≡ Equal → assignment_at_place (q, c) ≡ assignment_at_place (p, c)
+tied : (p q : Place) (c d : HitValue) → assignment_cmp (assignment_at_place (p, c)) (assignment_at_place (q, d)) ≡ Equal → assignment_at_place (q, c) ≡ assignment_at_place (p, c)
 unfolding assignment_cmp
 tied p q c d e =
     let same = same_position (assignment_at_place (p, c)).position (assignment_at_place (q, d)).position e in
     λ i. record { position = sym same i; value = c.value.now; path = c.path.now }
 
-inserted : (es : List (Place × Content)) (p : Place) (c : Content) → map assignment_at_place (insert_entry place_order es p c) ≡ set (assignment_at_place (p, c)) (map assignment_at_place es)
+inserted : (es : List (Place × HitValue)) (p : Place) (c : HitValue) → map assignment_at_place (insert_entry place_order es p c) ≡ set (assignment_at_place (p, c)) (map assignment_at_place es)
 unfolding set
 inserted [] p c = refl
 inserted (e ∷ es) p c =
@@ -99,7 +99,7 @@ inserted (e ∷ es) p c =
     ] refl
 
 -- one value is offered
-pub all_offered : (a b : AllHits) (pattern : List ℕ) (key : List ℕ) (s : Shown) (p : Place) (c : Content) → s.key ≡ Some key
+pub all_offered : (a b : AllHits) (pattern : List ℕ) (key : List ℕ) (s : Shown) (p : Place) (c : HitValue) → s.key ≡ Some key
     → b.hits.entries ≡ insert_entry place_order a.hits.entries p c → assignment_at_place (p, c) ≡ record { position = record { priority = s.priority; line = s.line; pattern = pattern; key = key }; value = s.value; path = s.path }
     → AllCollects a (assignment_shown pattern s) b
 unfolding assignment_shown AllCollects set_all

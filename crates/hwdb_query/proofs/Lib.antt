@@ -25,3 +25,4 @@ pub mod ExplainedLemmas
 pub mod NumberLemmas
 pub mod HexLemmas
 pub mod SpellingLemmas
+pub mod FedLemmas

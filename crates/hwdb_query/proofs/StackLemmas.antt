@@ -11,7 +11,7 @@ use Rattle.hwdb_reader.specs.Views.{children_of, entered_tree, node_count}
 use Rattle.hwdb_query.specs.Internal.Members.{members_in, own_members}
 use Rattle.hwdb_query.specs.Internal.Live.{live_in, nodes_in}
 use Rattle.hwdb_query.specs.Internal.Descents.{kids_of, wanted_in, to_come, live_to_come, left, steps, StandsOn, Passes, IsAt, IsSameNode, OnTop, Opened}
-use Rattle.hwdb_query.specs.declared.descent.Open.{Open}
+use Rattle.hwdb_query.specs.declared.descent.OpenNode.{OpenNode}
 use Rattle.hwdb_query.proofs.DescentLemmas.{TakesMore, node_collected}
 use Rattle.hwdb_query.proofs.PartLemmas.{members_split, kid_behind, node_and_below, live_split}
 use Rattle.hwdb_query.proofs.StepLemmas.{cut_front, stands_whole}
@@ -86,7 +86,7 @@ passes_all device base kids all i passed le = subst (Passes device base kids) (k
 pub on_top : {A : Type 0} (before : List A) (top : A) → reverse (before ++ top ∷ []) ≡ top ∷ reverse before
 on_top before top = reverse-append before (top ∷ [])
 
-module _ (before now : List Open) (t : Tree) (reach : Reached) (path : List ℕ) (o : OnTop before now t reach (length path)) where
+module _ (before now : List OpenNode) (t : Tree) (reach : Reached) (path : List ℕ) (o : OnTop before now t reach (length path)) where
   opened_kids : kids_of o.top ≡ children_of t
   opened_kids = ap (λ n. drop n (children_of (entered_tree o.top.inside))) o.none_done ∙ ap children_of o.tree
 
@@ -126,13 +126,13 @@ module _ (before now : List Open) (t : Tree) (reach : Reached) (path : List ℕ)
         subst (λ p. StandsOn device p (reverse before)) (sym whole) rest,
       )
 
-pub opened_comes : (before now : List Open) (t : Tree) (reach : Reached) (path : List ℕ) → Opened before now t reach (length path) → (device : List ℕ)
+pub opened_comes : (before now : List OpenNode) (t : Tree) (reach : Reached) (path : List ℕ) → Opened before now t reach (length path) → (device : List ℕ)
     → to_come device path (reverse now) ≡ wanted_in device path (children_of t) ++ to_come device path (reverse before)
 opened_comes before now t reach path (inl o) device = top_comes before now t reach path o device
 opened_comes before now t reach path (inr h) device =
     ap (λ l. to_come device path (reverse l)) h.0 ∙ ap (λ ks. wanted_in device path ks ++ to_come device path (reverse before)) (sym h.1)
 
-pub opened_live : (before now : List Open) (t : Tree) (reach : Reached) (path : List ℕ) → Opened before now t reach (length path) → (device : List ℕ)
+pub opened_live : (before now : List OpenNode) (t : Tree) (reach : Reached) (path : List ℕ) → Opened before now t reach (length path) → (device : List ℕ)
     → live_to_come device path (reverse now) ≡ live_in device path (children_of t) + live_to_come device path (reverse before)
 opened_live before now t reach path (inl o) device = top_live before now t reach path o device
 opened_live before now t reach path (inr h) device =
@@ -140,20 +140,20 @@ opened_live before now t reach path (inr h) device =
     let none : live_in device path (children_of t) ≡ 0 = ap (live_in device path) h.1 in
     omega (arith, same, none)
 
-pub opened_left : (before now : List Open) (t : Tree) (reach : Reached) (path : List ℕ) → Opened before now t reach (length path)
+pub opened_left : (before now : List OpenNode) (t : Tree) (reach : Reached) (path : List ℕ) → Opened before now t reach (length path)
     → left (reverse now) ≡ nodes_in (children_of t) + left (reverse before)
 opened_left before now t reach path (inl o) = top_left before now t reach path o
 opened_left before now t reach path (inr h) =
-    let same : left (reverse now) ≡ left (reverse before) = ap (λ (l : List Open). left (reverse l)) h.0 in
+    let same : left (reverse now) ≡ left (reverse before) = ap (λ (l : List OpenNode). left (reverse l)) h.0 in
     let none : nodes_in (children_of t) ≡ 0 = ap nodes_in h.1 in
     omega (arith, same, none)
 
-pub opened_steps : (before now : List Open) (t : Tree) (reach : Reached) (path : List ℕ) → Opened before now t reach (length path)
+pub opened_steps : (before now : List OpenNode) (t : Tree) (reach : Reached) (path : List ℕ) → Opened before now t reach (length path)
     → steps (reverse now) ≤ suc (nodes_in (children_of t) + nodes_in (children_of t)) + steps (reverse before)
 opened_steps before now t reach path (inl o) = let e = top_steps before now t reach path o in omega (arith, e)
-opened_steps before now t reach path (inr h) = let same : steps (reverse now) ≡ steps (reverse before) = ap (λ (l : List Open). steps (reverse l)) h.0 in omega (arith, same)
+opened_steps before now t reach path (inr h) = let same : steps (reverse now) ≡ steps (reverse before) = ap (λ (l : List OpenNode). steps (reverse l)) h.0 in omega (arith, same)
 
-pub opened_stands : (before now : List Open) (t : Tree) (reach : Reached) (path : List ℕ) → Opened before now t reach (length path) → (device : List ℕ)
+pub opened_stands : (before now : List OpenNode) (t : Tree) (reach : Reached) (path : List ℕ) → Opened before now t reach (length path) → (device : List ℕ)
     → StandsFor reach path → reach.device ≡ device → StandsOn device path (reverse before) → StandsOn device path (reverse now)
 opened_stands before now t reach path (inl o) device stands same rest = top_stands before now t reach path o device stands same rest
 opened_stands before now t reach path (inr h) device stands same rest = subst (λ l. StandsOn device path (reverse l)) (sym h.0) rest
@@ -170,7 +170,7 @@ live_here device path t live = live_split device path t ∙ ap (λ b. (if b then
 
 -- ---- a child was entered
 
-module _ (device path long : List ℕ) (top gone : Open) (before now : List Open) (k : ℕ × Tree) (reach : Reached)
+module _ (device path long : List ℕ) (top gone : OpenNode) (before now : List OpenNode) (k : ℕ × Tree) (reach : Reached)
     (within : top.length ≤ length path) (same : IsSameNode top gone)
     (passes : Passes device (take top.length path) (kids_of top) (k ∷ kids_of gone))
     (at : IsAt device (take top.length path) k long reach)
@@ -251,7 +251,7 @@ module _ (device path long : List ℕ) (top gone : Open) (before now : List Open
 
 -- ---- a node is done
 
-module _ (device path : List ℕ) (top : Open) (below : List Open) (passes : Passes device (take top.length path) (kids_of top) []) where
+module _ (device path : List ℕ) (top : OpenNode) (below : List OpenNode) (passes : Passes device (take top.length path) (kids_of top) []) where
   pub done_comes : to_come device path (top ∷ below) ≡ to_come device (take top.length path) below
   done_comes = ap (λ l. l ++ to_come device (take top.length path) below) passes.wanted
 
@@ -264,13 +264,13 @@ pub root_path : (old prefix path : List ℕ) (t : Tree) → old ≡ [] → path 
 root_path old prefix path t o p f = p ∙ ap (λ l. l ++ prefix) o ∙ f
 
 -- there is a node that wasn't entered
-pub some_left : (device path : List ℕ) (top : Open) (below : List Open) (k : ℕ × Tree) (rest : List (ℕ × Tree)) → Passes device path (kids_of top) (k ∷ rest) → 1 ≤ left (top ∷ below)
+pub some_left : (device path : List ℕ) (top : OpenNode) (below : List OpenNode) (k : ℕ × Tree) (rest : List (ℕ × Tree)) → Passes device path (kids_of top) (k ∷ rest) → 1 ≤ left (top ∷ below)
 some_left device path top below k rest passes =
     let fewer : node_count k.1 + nodes_in rest ≤ nodes_in (kids_of top) = passes.fewer in
     let count = node_and_below k.1 in
     omega (arith, fewer, count)
 
-module _ (device path : List ℕ) (t : Tree) (reach : Reached) (now : List Open) (is : path ≡ prefix_of t) (o : Opened [] now t reach (length path)) where
+module _ (device path : List ℕ) (t : Tree) (reach : Reached) (now : List OpenNode) (is : path ≡ prefix_of t) (o : Opened [] now t reach (length path)) where
   pub root_collected : {C : Type 0} (Collects : C → List Assignment → C → Type 0) → TakesMore Collects → (a b end : C) → Collects a (filter (is_wanted device) (own_members path (values_of t))) b
       → Collects b (to_come device path (reverse now)) end → Collects a (filter (is_wanted device) (members_under [] t)) end
   root_collected {C} Collects takes a b end own rest =
@@ -317,21 +317,21 @@ before_last [] i y h = absurd (omega (arith, h))
 before_last (x ∷ items) zero y h = refl
 before_last (x ∷ items) (suc i) y h = ap (λ l. x ∷ l) (before_last items i y (omega (arith, h)))
 
-pub reversed : (items : List Open) (i : ℕ) (top : Open) → suc i ≡ length items → top ≡ get_or items i top → reverse items ≡ top ∷ reverse (take i items)
+pub reversed : (items : List OpenNode) (i : ℕ) (top : OpenNode) → suc i ≡ length items → top ≡ get_or items i top → reverse items ≡ top ∷ reverse (take i items)
 reversed items i top h is = ap reverse (last_is items i top h ∙ ap (λ o. take i items ++ o ∷ []) (sym is)) ∙ on_top (take i items) top
 
-pub popped : (items : List Open) (i : ℕ) (gone : Open) → suc i ≡ length items → (n : ℕ) → n ≡ length items → (rest : List Open) → rest ≡ take (n - 1) (slice_set items i gone) → rest ≡ take i items
+pub popped : (items : List OpenNode) (i : ℕ) (gone : OpenNode) → suc i ≡ length items → (n : ℕ) → n ≡ length items → (rest : List OpenNode) → rest ≡ take (n - 1) (slice_set items i gone) → rest ≡ take i items
 popped items i gone h n e rest is =
     let size : n - 1 ≡ i = omega (arith, h, e) in
     is ∙ ap (λ m. take m (slice_set items i gone)) size ∙ before_last items i gone h
 
-pub done_left : (top : Open) (below : List Open) → left below ≤ left (top ∷ below)
+pub done_left : (top : OpenNode) (below : List OpenNode) → left below ≤ left (top ∷ below)
 done_left top below = omega arith
 
-pub done_steps : (top : Open) (below : List Open) → steps below < steps (top ∷ below)
+pub done_steps : (top : OpenNode) (below : List OpenNode) → steps below < steps (top ∷ below)
 done_steps top below = omega arith
 
-pub none_open : (stack : List Open) → length stack ≡ 0 → stack ≡ []
+pub none_open : (stack : List OpenNode) → length stack ≡ 0 → stack ≡ []
 none_open [] h = refl
 none_open (o ∷ stack) h = absurd (omega (arith, h))
 

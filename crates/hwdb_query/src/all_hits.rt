@@ -13,11 +13,11 @@ use std::collections::BTreeMap;
 use std::rc::Rc;
 
 /// The position of a hit: its priority, line, pattern and key. The hits of a pattern share one copy of it.
-type Place<'a> = (u16, u32, Rc<Vec<u8>>, &'a [u8]);
+type HitPlace<'a> = (u16, u32, Rc<Vec<u8>>, &'a [u8]);
 
 /// What a hit has beside its position.
 #[derive(Clone, Copy)]
-pub(crate) struct Content<'a> {
+pub(crate) struct HitValue<'a> {
     pub value: &'a [u8],
     pub path: &'a [u8],
 }
@@ -25,7 +25,7 @@ pub(crate) struct Content<'a> {
 /// All hits so far, by position.
 #[derive(Drop)]
 pub(crate) struct AllHits<'a> {
-    pub hits: BTreeMap<Place<'a>, Content<'a>>,
+    pub hits: BTreeMap<HitPlace<'a>, HitValue<'a>>,
 }
 
 impl<'a> AllHits<'a> {
@@ -50,7 +50,7 @@ impl<'a> AllHits<'a> {
             return Ok(());
         };
         let place = (entry.priority, entry.line, pattern.clone()?, key);
-        let content = Content {
+        let content = HitValue {
             value: entry.value,
             path: entry.path,
         };

@@ -11,16 +11,16 @@
 //! It is a loop and no recursion. The nodes whose children may still be live are on a stack of its own, on the heap. A
 //! recursion would take a sixth fewer instructions. But a deep tree would then take more of the thread's stack than a
 //! flat one. Each step enters a live node or closes one, so the loop ends.
-ghost use Rattle.std.specs.Prelude.{◌≡◌, ◌<◌, ◌≤◌, ◌+◌, ◌++◌, ◌∷◌, ◌^◌, ℕ, List, [], length, take, filter, reverse, IfOk, OnOk};
+ghost use Rattle.std.specs.Prelude.{◌≡◌, ◌<◌, ◌≤◌, ◌+◌, ◌++◌, ◌∷◌, ◌^◌, ℕ, List, [], length, take, drop, filter, reverse, IfOk, OnOk};
 ghost use Rattle.hwdb_pattern.specs.Laws.{MatchesIsTested, LiveIsTested, DeadStaysDead, DeadMatchesNothing};
 ghost use Rattle.hwdb_pattern.specs.Views.{StandsFor};
-ghost use Rattle.hwdb_spec.specs.Tree.{members_under, live_nodes};
+ghost use Rattle.hwdb_spec.specs.Tree.{prefix_of, members_under, live_nodes};
 ghost use Rattle.hwdb_reader.specs.Views.{node_count};
 ghost use Rattle.hwdb_spec.specs.Tree.{values_of};
 ghost use Rattle.hwdb_reader.specs.Views.{tree_of, entered_tree};
 ghost use Rattle.hwdb_spec.specs.Answers.{is_wanted};
 ghost use Rattle.hwdb_query.specs.Internal.Members.{own_members};
-ghost use Rattle.hwdb_query.specs.Internal.Descents.{device_of, kids_of, to_come, live_to_come, left, steps, StandsAt, StandsOn, IsSeen, IsNext, IsSameNode, Opened};
+ghost use Rattle.hwdb_query.specs.Internal.Descents.{device_of, kids_of, to_come, live_to_come, left, steps, StandsAt, StandsOn, IsFed, IsSeen, IsNext, IsSameNode, Opened};
 
 use crate::collector::Collector;
 use hwdb_pattern::{
@@ -68,7 +68,7 @@ fn collect_matching<'a, C: Collector<'a>>(
 
 /// A node that was entered. Some of its children are done.
 #[derive(Drop)]
-struct Open<'a, 'd> {
+struct OpenNode<'a, 'd> {
     inside: Inside<'a>,
     /// What is known of the device at its path.
     reach: Reach<'d>,
@@ -88,17 +88,53 @@ struct Live<'a, 'd> {
 /// How many open nodes a descent asks memory for at once, when it enters the root: few paths have more.
 const DEPTH: usize = 16;
 
+/// How many bytes of a prefix are fed at first. Most prefixes have fewer.
+const PIECE: usize = 64;
+
+/// Goes on along a node's prefix, of which the first bytes are fed. The answer is what is known of the device at the
+/// prefix's end, if the path there is live; the path becomes that. Else anything may come after the old path.
+///
+/// Each piece doubles what is fed. So a path that is dead soon takes few steps, however long the prefix is.
+fn along_prefix<'d>(
+    alloc: Global,
+    node: Node<'_>,
+    reach: Reach<'d>,
+    path: &mut Vec<u8>,
+    fed: usize,
+) -> Result<Option<Reach<'d>>, AllocError>
+    requires fed { fed ≤ length (prefix_of (tree_of node)) }
+    requires stands { StandsFor reach path.old.items }
+    ensures path { OnOk result
+        (take (length path.old.items) path.new.items ≡ path.old.items) }
+    ensures fed { IfOk result (IsFed reach.entry.device path.old.items
+        (drop fed (prefix_of (tree_of node.entry))) path.new.items) }
+{
+    path_laws();
+    let mut reach = reach;
+    let mut fed = fed;
+    'feeding: while reach.is_alive() {
+        let piece = node.prefix_part(fed, fed.max(PIECE));
+        if piece.is_empty() {
+            return Ok(Some(reach));
+        }
+        path.extend_from_slice(piece)?;
+        reach = reach.feed(alloc, piece)?;
+        fed += piece.len();
+    }
+    Ok(None)
+}
+
 /// How far a descent has come.
 #[derive(Drop)]
 struct Descent<'a, 'd> {
     /// The path of the node that was entered last.
     path: Vec<u8>,
     /// The nodes that aren't done, each below the one before it.
-    stack: Vec<Open<'a, 'd>>,
+    stack: Vec<OpenNode<'a, 'd>>,
     entered: Entered,
 }
 
-impl<'a, 'd> Open<'a, 'd> {
+impl<'a, 'd> OpenNode<'a, 'd> {
     /// What is known of the device at a child's path, if that path is live; the path becomes the child's. If it isn't
     /// live, anything may come after the node's own path.
     fn look_at(
@@ -121,13 +157,10 @@ impl<'a, 'd> Open<'a, 'd> {
         }
         path.truncate(self.length);
         path.push(child.byte)?;
-        path.extend_from_slice(child.node.prefix())?;
+        let front = child.node.prefix_part(0, PIECE);
+        path.extend_from_slice(front)?;
         let reach = self.reach.feed(alloc, &path[self.length..])?;
-        if reach.is_alive() {
-            Ok(Some(reach))
-        } else {
-            Ok(None)
-        }
+        along_prefix(alloc, child.node, reach, path, front.len())
     }
 
     /// The next child whose path is live, among those that aren't done. The path becomes the child's, or the node's own
@@ -199,7 +232,7 @@ impl<'a, 'd> Descent<'a, 'd> {
             return Ok(());
         }
         let length = self.path.len();
-        self.stack.push(Open {
+        self.stack.push(OpenNode {
             inside,
             reach,
             done: 0,

@@ -18,13 +18,13 @@ use std::mem;
 
 /// The place of a hit among others, or the one that it would have.
 #[derive(Clone, Copy)]
-pub(crate) struct Place {
+pub(crate) struct Slot {
     pub index: usize,
     pub is_taken: bool,
 }
 
 /// The place of a position among hits that ascend, found by halving.
-pub(crate) fn place_of(hits: &[Hit<'_>], parts: Parts<'_>) -> Place
+pub(crate) fn place_of(hits: &[Hit<'_>], parts: Parts<'_>) -> Slot
     ensures within { result.index ≤ length hits.now }
     ensures place { IsStrictlySortedBy assignment_cmp (assignments_of_hits hits.now)
         → (x : Assignment) → x.position ≡ parts_position parts.entry
@@ -35,11 +35,11 @@ pub(crate) fn place_of(hits: &[Hit<'_>], parts: Parts<'_>) -> Place
             ≡ position_cmp (assignment_of_hit hit.now).position (parts_position parts.entry) }
     { order(hit.parts(), parts) };
     match hits.binary_search_by(compare) {
-        Ok(index) => Place {
+        Ok(index) => Slot {
             index,
             is_taken: true,
         },
-        Err(index) => Place {
+        Err(index) => Slot {
             index,
             is_taken: false,
         },

@@ -10,6 +10,7 @@ use Rattle.hwdb_spec.specs.Format.{NodeText, ChildrenText, ValuesText, value_at,
 use Rattle.hwdb_reader.specs.Internal.Placed.{Placed}
 use Rattle.hwdb_reader.proofs.BoundLemmas.{children_room, record_end_large}
 use Rattle.hwdb_reader.proofs.NodeLemmas.{node_open, no_levels}
+use Rattle.hwdb_reader.proofs.StringLemmas.{text_within}
 
 levels_some : (l : Layout) (b : List ℕ) (levels from off : ℕ) (t : Tree) → NodeText l b levels from off t → 0 < levels
 levels_some l b zero from off t h = absurd (no_levels l b zero from off t refl h)
@@ -101,6 +102,12 @@ module _ (l : Layout) (b : List ℕ) (levels off : ℕ) (h : ∥ Placed l b leve
 
   pub prefix_read : text_at b (prefix_off b off) ≡ prefix_of (tree_at l b levels off)
   prefix_read = sym (tree_prefix l b levels off (placed_levels l b levels off h))
+
+  -- and the prefix ends before the bytes do
+  pub prefix_ends : prefix_off b off + length (prefix_of (tree_at l b levels off)) ≤ length b
+  prefix_ends =
+      let at : prefix_off b off < length b = placed_prefix l b levels off h in
+      omega (arith, ap length prefix_read, text_within b (prefix_off b off) (omega (arith, at)))
 
   pub child_read : (i : ℕ) → i < children_count b off → slice_get (children_of (tree_at l b levels off)) i ≡ Some (child_byte b (child_entry l off i), tree_at l b (levels - 1) (child_off b (child_entry l off i)))
   child_read i lt =

@@ -1,5 +1,5 @@
 //! Single fields of the records, and the strings that they name. Numbers are little-endian.
-ghost use Rattle.std.specs.Prelude.{◌≡◌, ◌≤◌, ◌<◌, ◌+◌, ◌↔◌, length, IsTrue};
+ghost use Rattle.std.specs.Prelude.{◌≡◌, ◌≤◌, ◌<◌, ◌+◌, ◌↔◌, length, take, IsTrue};
 ghost use Rattle.hwdb_spec.specs.Format.{number_at, text_at, IsPlace};
 
 use crate::frame::Frame;
@@ -43,6 +43,20 @@ pub fn text(b: &[u8], i: usize) -> &[u8]
     match memchr(0, rest) {
         Some(n) => &rest[..n],
         None => rest,
+    }
+}
+
+/// The first bytes of the string at `i`, at most so many. Reads no more than these.
+#[tactic(auto, unfolding(hwdb_spec::specs::Format::text_at))]
+pub fn text_front(b: &[u8], i: usize, most: usize) -> &[u8]
+    requires { i ≤ length b.now }
+    ensures { result.now ≡ take most (text_at b.now i) }
+{
+    let rest = &b[i..];
+    let front = &rest[..most.min(rest.len())];
+    match memchr(0, front) {
+        Some(n) => &front[..n],
+        None => front,
     }
 }
 

@@ -10,7 +10,7 @@ use std::marker::Model;
 
 /// A node whose record was tested.
 #[derive(Clone, Copy)]
-pub struct Open {
+pub struct OpenRecord {
     /// The offset of its record.
     pub off: usize,
     /// How many of its children were entered.
@@ -58,7 +58,7 @@ impl Path {
     }
 
     /// Puts a node below the open ones.
-    pub fn push(&mut self, node: Open)
+    pub fn push(&mut self, node: OpenRecord)
         requires { length self.old < max_levels }
         ensures { self.new ≡ (node.off, node.done) ∷ self.old }
     {
@@ -69,7 +69,7 @@ impl Path {
     }
 
     /// Takes the last open node off, if there is one.
-    pub fn pop(&mut self) -> Option<Open>
+    pub fn pop(&mut self) -> Option<OpenRecord>
         ensures { MatchOption result ((self.old ≡ []) × (self.new ≡ []))
             (λ node. self.old ≡ (node.off, node.done) ∷ self.new) }
     {
@@ -78,7 +78,7 @@ impl Path {
         }
         let last = self.len - 1;
         self.len = last;
-        Some(Open {
+        Some(OpenRecord {
             off: self.offsets[last],
             done: self.done[last],
         })

@@ -41,7 +41,7 @@ struct Repeat {
 
 /// Two places, and how many bytes are compared there.
 #[derive(Clone, Copy)]
-struct Pair {
+struct Compared {
     left: usize,
     right: usize,
     count: usize,
@@ -63,7 +63,7 @@ fn byte_at(b: &[u8], i: usize) -> u8
 }
 
 /// Whether so many bytes at two places agree, and none is 0.
-fn agree(b: &[u8], pair: Pair) -> bool
+fn agree(b: &[u8], pair: Compared) -> bool
     requires left { pair.left + pair.count ≤ length b.now }
     requires right { pair.right + pair.count ≤ length b.now }
     ensures { IsTrue result ↔ Agree b.now pair.left pair.right pair.count }
@@ -218,7 +218,7 @@ impl<'b> Repeats<'b> {
 
     /// Remembers that bytes agree. They join a repeat that they touch, or replace the one that wasn't used for the
     /// longest time.
-    fn remember(&mut self, pair: Pair)
+    fn remember(&mut self, pair: Compared)
         requires { AgreeInside self.old pair.left pair.right pair.count }
         ensures { self.new ≡ self.old }
     {
@@ -300,7 +300,7 @@ impl<'b> Repeats<'b> {
     }
 
     /// A pair of nearer places that have these bytes too, at least so many.
-    fn exchanged(&mut self, pair: Pair, least: usize) -> Option<Pair>
+    fn exchanged(&mut self, pair: Compared, least: usize) -> Option<Compared>
         ensures same { self.new ≡ self.old }
         ensures stands { IfSome result (λ now. (p q : ℕ)
             → StandFor self.old p q pair.left pair.right pair.count
@@ -309,7 +309,7 @@ impl<'b> Repeats<'b> {
         if pair.left < pair.right {
             let copied = self.nearest(pair.left, pair.right, least)?;
             self.touch(copied.by);
-            return Some(Pair {
+            return Some(Compared {
                 left: pair.left,
                 right: copied.place,
                 count: pair.count.min(copied.count),
@@ -318,7 +318,7 @@ impl<'b> Repeats<'b> {
         if pair.right < pair.left {
             let copied = self.nearest(pair.right, pair.left, least)?;
             self.touch(copied.by);
-            return Some(Pair {
+            return Some(Compared {
                 left: copied.place,
                 right: pair.right,
                 count: pair.count.min(copied.count),
@@ -328,14 +328,14 @@ impl<'b> Repeats<'b> {
     }
 
     /// A pair of places, as near to each other as is known, for two places that differ, both in the text.
-    fn reduced(&mut self, left: usize, right: usize, least: usize) -> Pair
+    fn reduced(&mut self, left: usize, right: usize, least: usize) -> Compared
         requires left { left < length self.old }
         requires right { right < length self.old }
         requires differ { left ≢ right }
         ensures same { self.new ≡ self.old }
         ensures stands { StandFor self.old left right result.left result.right result.count }
     {
-        let mut pair = Pair {
+        let mut pair = Compared {
             left,
             right,
             count: self.bytes.len() - left.max(right),
@@ -417,7 +417,7 @@ impl<'b> Repeats<'b> {
             return false;
         }
         let count = self.agreeing(left, right, SHORT);
-        self.remember(Pair { left, right, count });
+        self.remember(Compared { left, right, count });
         byte_at(b, left + count) < byte_at(b, right + count)
     }
 }

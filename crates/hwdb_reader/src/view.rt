@@ -6,7 +6,7 @@
 ghost use Rattle.std.specs.Prelude.{◌<◌};
 ghost use Rattle.hwdb_reader.specs.Internal.Placed.{Placed};
 
-use crate::fields::{text, u64_at};
+use crate::fields::{text, text_front, u64_at};
 use crate::frame::Frame;
 use crate::places::{child_entry_at, read_origin, read_value, value_entry_at};
 use std::marker::Model;
@@ -128,7 +128,7 @@ impl<'a> Db<'a> {
 }
 
 impl<'a> Node<'a> {
-    ghost use Rattle.std.specs.Prelude.{◌≡◌, ◌<◌, ◌+◌, ◌^◌};
+    ghost use Rattle.std.specs.Prelude.{◌≡◌, ◌<◌, ◌≤◌, ◌+◌, ◌^◌, length, take, drop};
     ghost use Rattle.hwdb_spec.specs.Tree.{prefix_of, IsTree};
     ghost use Rattle.hwdb_reader.specs.Views.{node_count};
     ghost use Rattle.hwdb_reader.specs.Views.{tree_of, entered_tree};
@@ -144,6 +144,15 @@ impl<'a> Node<'a> {
         ensures { result.now ≡ prefix_of (tree_of self.now) }
     {
         text(self.bytes, u64_at(self.bytes, self.offset))
+    }
+
+    /// The prefix's bytes from a place on, at most so many. Reads no more than these.
+    pub fn prefix_part(&self, at: usize, most: usize) -> &'a [u8]
+        requires { at ≤ length (prefix_of (tree_of self.now)) }
+        ensures part { result.now ≡ take most (drop at (prefix_of (tree_of self.now))) }
+        ensures fits { at + length result.now < 2 ^ 64 }
+    {
+        text_front(self.bytes, u64_at(self.bytes, self.offset) + at, most)
     }
 
     /// Goes into the node, and counts it: the only way to its children and values.

@@ -11,7 +11,7 @@ ghost use Rattle.hwdb_reader.specs.Internal.Walks.{IsSoundRecord, AreOpen, ToCom
 use crate::checker::MAX_LEVELS;
 use crate::fields::{is_place, u64_at};
 use crate::frame::Frame;
-use crate::path::{Open, Path};
+use crate::path::{OpenRecord, Path};
 use crate::places::{child_entry_at, record_end_at};
 use crate::repeats::Repeats;
 use crate::values::check_values;
@@ -135,7 +135,7 @@ fn go_on(
     l: Frame,
     repeats: &mut Repeats<'_>,
     path: &mut Path,
-    last: Open,
+    last: OpenRecord,
     begin: usize,
 ) -> Result<usize, DbFault>
     requires open { AreOpen l.sizes b.now ((last.off, last.done) ∷ path.old) begin }
@@ -153,11 +153,11 @@ fn go_on(
         let child = next_child(b, l, last.off, i as usize)?;
         let end = check_record(b, l, repeats, levels, next, child, last.off)?;
         if b[child + 8] != 0 {
-            path.push(Open {
+            path.push(OpenRecord {
                 off: last.off,
                 done: i + 1,
             });
-            path.push(Open {
+            path.push(OpenRecord {
                 off: child,
                 done: 0,
             });
@@ -189,7 +189,7 @@ pub fn walk(b: &[u8], l: Frame, from: usize, off: usize, limit: usize) -> Result
     let mut repeats = Repeats::new(b);
     check_record(b, l, &mut repeats, MAX_LEVELS, from, off, limit)?;
     let mut path = Path::new();
-    path.push(Open { off, done: 0 });
+    path.push(OpenRecord { off, done: 0 });
     let mut begin = from;
     while let Some(last) = path.pop() {
         begin = go_on(b, l, &mut repeats, &mut path, last, begin)?;

@@ -1,3 +1,4 @@
+pub mod BesideLemmas
 pub mod ClearingLemmas
 pub mod MakingLemmas
 pub mod MomentLemmas

@@ -1,7 +1,9 @@
--- That the model of a crash tears: a store in memory that never did would meet all promises, and try nothing.
-use Rattle.std.specs.Prelude.{◌≢◌, ℕ, false, List, [], ◌∷◌, Option, Some, None}
-use Rattle.hwdb_spec.specs.Crashes.{put, synced, moved, names_synced, outcomes_after}
-use Rattle.hwdb_spec.specs.Store.{Stored, part_mode}
+-- That the model of a crash tears, and that of others spares: a store in memory that did neither would meet all promises, and try
+-- nothing.
+use Rattle.std.specs.Prelude.{◌≡◌, ◌≢◌, ◌⊎◌, ℕ, Bool, false, List, [], ◌∷◌, Option, Some, None}
+use Rattle.hwdb_spec.specs.Crashes.{put, synced, moved, removed, names_synced, outcomes_after}
+use Rattle.hwdb_spec.specs.Sharing.{AreTheirs, MayDo, OldOrOurs, OldOursOrTheirs}
+use Rattle.hwdb_spec.specs.Store.{Stored, database_file, database_name, part_mode, path_in}
 
 -- a new file with these bytes
 abbrev pub part_file : List ℕ → Stored
@@ -26,3 +28,24 @@ left_renamed from to old new =
 pub record RenamesComeUndone : Type 0 where
   pub undone : (from to : List ℕ) (old new : Stored) → from ≢ to → left_renamed from to old new (Some old)
   pub done : (from to : List ℕ) (old new : Stored) → from ≢ to → left_renamed from to old new (Some new)
+
+-- what is left beside others is one of three files, whole
+abbrev pub BesideIsOneOfThree : Type 0
+BesideIsOneOfThree = (old ours theirs : Stored) (v : Option Stored)
+    → OldOursOrTheirs (λ file. file ≡ theirs) ours (λ w. w ≡ Some old) v → (v ≡ Some old) ⊎ ((v ≡ Some ours) ⊎ (v ≡ Some theirs))
+
+-- in the database's place nothing is new but the database
+abbrev pub NothingElseIsPut : Type 0
+NothingElseIsPut = (folder bytes : List ℕ) (old : Stored) (v : Option Stored)
+    → OldOrOurs folder bytes (λ p w. w ≡ Some old) (path_in folder database_name) v → (v ≡ Some old) ⊎ (v ≡ Some (database_file bytes))
+
+-- and others may have put nothing there but what they have whole
+abbrev pub TheirsAreWhole : Type 0
+TheirsAreWhole = (folder : List ℕ) (theirs : Stored) (v : Option Stored) → AreTheirs (λ file. file ≡ theirs) (path_in folder database_name) v → v ≡ Some theirs
+
+-- a new file that is somebody's own others don't write, remove or rename, and they put nothing under its name
+pub record OwnFilesAreLeftAlone : Type 0 where
+  pub written : (own : List ℕ) (file theirs : Stored) → MayDo (λ f. f ≡ theirs) own (put own file) → ⊥
+  pub removed : (own : List ℕ) (theirs : Stored) → MayDo (λ f. f ≡ theirs) own (removed own) → ⊥
+  pub renamed : (own to : List ℕ) (file theirs : Stored) (loose : Bool) → MayDo (λ f. f ≡ theirs) own (moved own to file loose) → ⊥
+  pub replaced : (own from : List ℕ) (file theirs : Stored) (loose : Bool) → MayDo (λ f. f ≡ theirs) own (moved from own file loose) → ⊥

@@ -125,7 +125,8 @@ pub trait Store {
         ensures own { (p : List ℕ) → is_own self.old p → is_own self.new p }
         ensures own_whole { OnOk result
             ((p : List ℕ) → is_own self.old p → is_whole self.new p) }
-        ensures own_seen { tells_own → seen self.new (part self.old) ≡ seen self.old (part self.old) }
+        ensures own_seen { tells_own
+            → seen self.new (part self.old) ≡ seen self.old (part self.old) }
         ensures seen { tells → Same (seen self.old) (seen self.new) }
         ensures part { part self.new ≡ part self.old }
         ensures crash { NoMore (may_leave self.old) (may_leave self.new) }

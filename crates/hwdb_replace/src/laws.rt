@@ -1,7 +1,8 @@
-//! Laws over the definitions of a crash: without them a model in which nothing is lost would meet all promises.
+//! Laws over the definitions of a crash and of others: without them a model in which nothing is lost, or nobody else is there,
+//! would meet all promises.
 ghost use Rattle.std.specs.Prelude.{Option, OnOk};
 ghost use Rattle.hwdb_spec.specs.Store.{Stored};
-ghost use Rattle.hwdb_replace.specs.Laws.{RenamesComeUndone, UnsyncedFilesTear};
+ghost use Rattle.hwdb_replace.specs.Laws.{BesideIsOneOfThree, NothingElseIsPut, OwnFilesAreLeftAlone, RenamesComeUndone, TheirsAreWhole, UnsyncedFilesTear};
 ghost use Rattle.hwdb_replace.specs.Memory.{left_of};
 
 use crate::calls::{CallFailed, Store};
@@ -12,6 +13,15 @@ use crate::memory::Memory;
 pub fn unsynced_files_tear()
     ensures files { UnsyncedFilesTear }
     ensures renames { RenamesComeUndone }
+{}
+
+/// Beside others three files may be in the database's place, whole; and nobody touches another's new file.
+#[tactic(auto, using(crate::proofs::BesideLemmas::beside_is_one_of_three, crate::proofs::BesideLemmas::own_files_are_left_alone))]
+pub fn beside_is_whole()
+    ensures three { BesideIsOneOfThree }
+    ensures put { NothingElseIsPut }
+    ensures theirs { TheirsAreWhole }
+    ensures alone { OwnFilesAreLeftAlone }
 {}
 
 /// Writes to the file that a store in memory made last. It tears: a crash may leave anything of that file then.

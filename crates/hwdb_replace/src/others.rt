@@ -36,7 +36,8 @@ pub struct Shared<O: Others> {
 impl<O: Others> Shared<O> {
     /// The others take a step. It doesn't happen if memory for it is refused.
     fn go_on(&mut self)
-        ensures went { (xs : List Step) → WentOn O.whole self.old.memory.part.items xs self.old.memory.steps.items
+        ensures went { (xs : List Step)
+            → WentOn O.whole self.old.memory.part.items xs self.old.memory.steps.items
             → WentOn O.whole self.old.memory.part.items xs self.new.memory.steps.items }
         ensures part { self.new.memory.part.items ≡ self.old.memory.part.items }
         ensures failed { self.new.memory.failed ≡ self.old.memory.failed }
@@ -161,8 +162,8 @@ impl<O: Others> Store for Shared<O> {
 
 /// Replaces the database while others go on.
 ///
-/// At each moment, theirs too, the old file is in its place, ours, or one of theirs, whole; and a crash leaves one of these. After
-/// Ok the old one doesn't come back.
+/// At each moment, theirs too, one of these is in its place, whole: the old file, ours, or one of theirs. A crash leaves one of
+/// them. After Ok the old one doesn't come back.
 pub fn replace_beside<O: Others>(
     store: &mut Shared<O>,
     folder: &str,

@@ -3,6 +3,8 @@ pub mod Lines
 pub mod Records
 pub mod Folders
 pub mod Patterns
+pub mod Forms
+pub mod FormTable
 pub mod Last
 pub mod Answers
 pub mod Tree
@@ -15,6 +17,7 @@ pub mod Dump
 pub mod Summary
 pub mod Verdicts
 pub mod Reports
+pub mod Properties
 pub mod Warnings
 pub mod Checks
 pub mod Progress

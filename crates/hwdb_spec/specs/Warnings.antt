@@ -1,17 +1,25 @@
 -- What `check` warns of: lines that are read, but hardly as they were meant. Our choice.
-use Rattle.std.specs.Prelude.{Bool, true, false, ℕ, List, [], ◌∷◌, ◌++◌, ◌-◌, if◌then◌else◌, codes, drop, filter, flat_map, length, map, max, nat_eq, nat_lt, not, take}
+use Rattle.std.specs.Prelude.{Bool, true, false, ℕ, List, [], ◌∷◌, ◌++◌, ◌+◌, ◌-◌, Option, None, if◌then◌else◌, codes, drop, filter, flat_map, is_some, length, map, max, nat_eq, nat_lt, not, take}
 use Rattle.std.specs.Fmt.{decimal}
 use Rattle.std.specs.List.{list_any, position_or_len, prefix_len, starts_with}
-use Rattle.hwdb_spec.specs.Lines.{Line, begins_with, byte, clean, clean_line, has, has_equals, has_key, is, is_dropped, is_indent, is_match, is_none, is_property, key, lines, value}
+use Rattle.std.specs.Option.{unwrap_or}
+use Rattle.hwdb_spec.specs.Lines.{Line, begins_with, byte, clean, clean_line, has, has_equals, has_key, is, is_dropped, is_indent, is_match, is_none, is_property, key, lines, max_pattern, value}
 use Rattle.hwdb_spec.specs.Assignment.{Assignment}
 use Rattle.hwdb_spec.specs.Records.{assignments}
 use Rattle.hwdb_spec.specs.Folders.{same}
 use Rattle.hwdb_spec.specs.Patterns.{is_reversed, range_place, tokens}
 use Rattle.hwdb_spec.specs.Tree.{closed_part, is_open}
 use Rattle.hwdb_spec.specs.Texts.{place_text}
+use Rattle.hwdb_spec.specs.Properties.{misuse, misuse_hint, misuse_text}
 use Rattle.hwdb_spec.specs.Reports.{hint_line, mark_line, shown_line}
+use Rattle.hwdb_spec.specs.FormTable.{asked}
+use Rattle.hwdb_spec.specs.Forms.{judged}
+use Rattle.hwdb_spec.specs.declared.Judgement.{Judgement}
+use Rattle.hwdb_spec.specs.declared.Judgement.TheVariants.{Dead, Fine, UnknownPrefix}
 use Rattle.hwdb_spec.specs.declared.WarningKind.{WarningKind}
-use Rattle.hwdb_spec.specs.declared.WarningKind.TheVariants.{ByteOrderMark, CarriageReturn, CutValue, EmptyRange, LeadingTab, OpenBracket, RepeatedMatch, Replaced, SpacedEquals}
+use Rattle.hwdb_spec.specs.declared.vocabulary.Misuse.{Misuse}
+use Rattle.hwdb_spec.specs.declared.vocabulary.Misuse.TheVariants.{NearName, ScanCode, UnfitValue, UnknownKey}
+use Rattle.hwdb_spec.specs.declared.WarningKind.TheVariants.{ByteOrderMark, CarriageReturn, CutValue, EmptyRange, LeadingTab, Misused, OpenBracket, RepeatedMatch, Replaced, SpacedEquals, Unmatched}
 
 -- whether the key of a property ends with a space or a tab, or its value begins with one
 abbrev pub is_spaced : Line → Bool
@@ -64,11 +72,29 @@ replacing file line =
     let own = filter (λ a. is line a.position.line) all in
     map (λ a. a.position.line) (filter (λ a. list_any (replaces all a) own) all)
 
+-- what is said of a clean line that is a property with a key; nothing if a blank is beside its `=`
+abbrev pub misused : Line → Option Misuse
+misused l =
+    if is_property l then (if has_equals l then (if has_key l then (if is_spaced l then None else misuse (key l) (value l)) else None) else None)
+    else None
+
+-- what is said of a clean text that is a pattern of at most 4,096 bytes; nothing of any other
+unfoldable pub judgement_of : List ℕ → Judgement
+judgement_of text =
+    if is_none text then Fine else (if begins_with (byte " ") text then Fine else (if nat_lt max_pattern (length text) then Fine else judged asked text))
+
+-- whether a pattern matches no text that udev asks
+abbrev pub is_unmatched : Judgement → Bool
+is_unmatched Fine = false
+is_unmatched UnknownPrefix = true
+is_unmatched (Dead place) = true
+
 -- Whether a line of a file, of which this is the clean line, gets a warning: its clean text begins with the three bytes of a UTF-8
 -- byte order mark; with a tab, and so is a match line; a carriage return stands in it, which isn't among its trailing blanks. Of a
 -- match line: a `[` of it begins no closed bracket; before the first such `[` a range has no members. Of a property that has a key:
 -- a blank stands beside its first `=`. Of a property with a `=`: a `#` cuts it, before which no blank stands. It is a match line that
--- stands in its record already. Lines behind it replace what it gives.
+-- stands in its record already. Lines behind it replace what it gives. What is known of properties doesn't fit it. It
+-- is a pattern that matches no text that udev asks.
 abbrev pub warns : (file : List ℕ) → WarningKind → (line clean : Line) → Bool
 warns file ByteOrderMark line l = starts_with nat_eq l.text (239 ∷ 187 ∷ 191 ∷ [])
 warns file LeadingTab line l = begins_with (byte "\t") l.text
@@ -80,12 +106,14 @@ warns file SpacedEquals line l =
 warns file CutValue line l = if is_property l then (if has_equals l then is_cut line l else false) else false
 warns file RepeatedMatch line l = list_any (is l.number) (repeated_lines file)
 warns file (Replaced by) line l = not (is_none (replacing file l.number))
+warns file (Misused why) line l = is_some (misused l)
+warns file (Unmatched told) line l = is_unmatched (judgement_of l.text)
 
 -- one warning of a line, or none
 abbrev pub warned : (file : List ℕ) → WarningKind → (line clean : Line) → List WarningKind
 warned file kind line clean = if warns file kind line clean then kind ∷ [] else []
 
--- all warnings of a line; the last one names the last line that replaces
+-- all warnings of a line; that of a replaced one names the last line that replaces, and that of a misused one says how
 abbrev pub all_warnings : (file : List ℕ) → (line clean : Line) → List WarningKind
 all_warnings file line clean =
     warned file ByteOrderMark line clean
@@ -96,7 +124,9 @@ all_warnings file line clean =
     ++ (warned file SpacedEquals line clean
     ++ (warned file CutValue line clean
     ++ (warned file RepeatedMatch line clean
-    ++ warned file (Replaced (greatest (replacing file clean.number))) line clean)))))))
+    ++ (warned file (Replaced (greatest (replacing file clean.number))) line clean
+    ++ (warned file (Misused (unwrap_or (misused clean) NearName)) line clean
+    ++ warned file (Unmatched (judgement_of clean.text)) line clean)))))))))
 
 -- the warnings of a line of a file; none where the line is dropped
 abbrev pub line_warnings : (file : List ℕ) → Line → List WarningKind
@@ -117,6 +147,10 @@ warning_text SpacedEquals = codes "a blank beside the first ="
 warning_text CutValue = codes "a # without a blank before it cuts the value"
 warning_text RepeatedMatch = codes "a match line that stands in its record already"
 warning_text (Replaced by) = codes "an assignment that line " ++ (decimal by ++ codes " replaces")
+warning_text (Misused why) = misuse_text why
+warning_text (Unmatched Fine) = []
+warning_text (Unmatched UnknownPrefix) = codes "no device string begins so"
+warning_text (Unmatched (Dead place)) = codes "no device string is matched: none goes on here"
 
 -- behind how many bytes of its line a warning stands, of a line with this text and this clean text
 abbrev pub warning_place : WarningKind → (text clean : List ℕ) → ℕ
@@ -129,18 +163,29 @@ warning_place SpacedEquals text clean = position_or_len (is (byte "=")) text
 warning_place CutValue text clean = position_or_len (is (byte "#")) text
 warning_place RepeatedMatch text clean = 0
 warning_place (Replaced by) text clean = prefix_len is_indent text
+warning_place (Misused NearName) text clean = prefix_len is_indent text
+warning_place (Misused ScanCode) text clean = prefix_len is_indent text
+warning_place (Misused UnknownKey) text clean = position_or_len (is (byte "=")) text + 1
+warning_place (Misused UnfitValue) text clean = position_or_len (is (byte "=")) text + 1
+warning_place (Unmatched Fine) text clean = 0
+warning_place (Unmatched UnknownPrefix) text clean = 0
+warning_place (Unmatched (Dead place)) text clean = place
 
 -- what to do about a warning
-abbrev pub warning_hint : WarningKind → List ℕ
-warning_hint ByteOrderMark = codes "save the file without a byte order mark"
-warning_hint LeadingTab = codes "begin a property with a space"
-warning_hint CarriageReturn = codes "end each line with a newline alone"
-warning_hint OpenBracket = codes "close it with a ], or write [[] for the byte"
-warning_hint EmptyRange = codes "put the lower end of the range first"
-warning_hint SpacedEquals = codes "take it away: it belongs to the key or to the value"
-warning_hint CutValue = codes "put a blank before a comment; a value can't hold a #"
-warning_hint RepeatedMatch = codes "take one of the two away"
-warning_hint (Replaced by) = codes "take one of the two away"
+abbrev pub warning_hint : WarningKind → (clean : Line) → List ℕ
+warning_hint ByteOrderMark clean = codes "save the file without a byte order mark"
+warning_hint LeadingTab clean = codes "begin a property with a space"
+warning_hint CarriageReturn clean = codes "end each line with a newline alone"
+warning_hint OpenBracket clean = codes "close it with a ], or write [[] for the byte"
+warning_hint EmptyRange clean = codes "put the lower end of the range first"
+warning_hint SpacedEquals clean = codes "take it away: it belongs to the key or to the value"
+warning_hint CutValue clean = codes "put a blank before a comment; a value can't hold a #"
+warning_hint RepeatedMatch clean = codes "take one of the two away"
+warning_hint (Replaced by) clean = codes "take one of the two away"
+warning_hint (Misused why) clean = misuse_hint why (key clean) (value clean)
+warning_hint (Unmatched Fine) clean = []
+warning_hint (Unmatched UnknownPrefix) clean = codes "begin it as udev's strings do, with evdev: or mouse: or usb: and the like"
+warning_hint (Unmatched (Dead place)) clean = codes "compare it byte by byte with a string that udev asks, upper and lower case too"
 
 -- the line of a warning: where it stands, `: warning: `, what is unusual
 abbrev pub warning_line : (path : List ℕ) (number : ℕ) → WarningKind → List ℕ
@@ -148,7 +193,7 @@ warning_line path number kind = place_text path number ++ codes ": warning: " ++
 
 -- the report of a warning: its line, the text of the line, the mark, and what to do
 abbrev pub warning_report : (path : List ℕ) → Line → WarningKind → List ℕ
-warning_report path l kind = warning_line path l.number kind ++ (shown_line l.text ++ (mark_line l.text (warning_place kind l.text (clean_line l).text) ++ hint_line (warning_hint kind)))
+warning_report path l kind = warning_line path l.number kind ++ (shown_line l.text ++ (mark_line l.text (warning_place kind l.text (clean_line l).text) ++ hint_line (warning_hint kind (clean_line l))))
 
 -- the reports of the warnings of a line of a file
 abbrev pub line_text : (path file : List ℕ) → Line → List ℕ

@@ -10,6 +10,8 @@
 //! | `Records` | what a file assigns, and its faults |
 //! | `Folders` | which files of two folders count, and what they assign together |
 //! | `Patterns` | brackets, tokens, and what matches |
+//! | `Forms` | forms of texts, and whether a pattern can match a text of some form |
+//! | `FormTable` | the forms of the texts that udev asks |
 //! | `Last` | which assignments are the last ones, in words |
 //! | `Answers` | the last assignments, those that match, those after a position, and the effective list |
 //! | `Tree` | nodes, the map that they stand for, their answers, and live nodes |
@@ -22,6 +24,7 @@
 //! | `Summary` | how much is in a database, and its lines |
 //! | `Verdicts` | what is said of bytes that are no database |
 //! | `Reports` | the reports of a file's faults |
+//! | `Properties` | which properties are known, which values they take, and what is said of others |
 //! | `Warnings` | the warnings of a file, and their reports |
 //! | `Checks` | what `check` prints, how much it finds, and its status |
 //! | `Progress` | what `update` says of its work |
@@ -50,7 +53,10 @@ ghost use Rattle.std.specs.Prelude.{◌≡◌};
 ghost use Rattle.hwdb_spec.specs.Records.{fault_text};
 ghost use Rattle.hwdb_spec.specs.Texts.{db_fault_name, db_fault_offset};
 
+mod vocabulary;
+
 use std::{error, fmt};
+pub use vocabulary::{KEY_NAMES, Misuse, PROPERTIES, ValueForm};
 
 /// A named class of bytes, as POSIX has it in the C locale.
 #[derive(Clone, Copy)]
@@ -67,6 +73,50 @@ pub enum Class {
     Space,
     Upper,
     Xdigit,
+}
+
+/// A set of bytes, of which a piece of a form has some.
+#[derive(Clone, Copy, Debug, PartialEq, Eq)]
+pub enum ByteSet {
+    /// One byte.
+    Only(u8),
+    /// `0-9` and `A-F`.
+    UpperHex,
+    /// `0-9` and `a-f`.
+    LowerHex,
+    /// Digits to the base 16, in both cases.
+    AnyHex,
+    /// Digits to the base 16 in lower case, and the space.
+    HexOrBlank,
+    /// What follows the `-` in the name of an input device: digits, commas and the letters before them.
+    InputBits,
+    /// What names the units of a FireWire node.
+    Units,
+    /// Letters, digits, `-` and `_`.
+    Name,
+    /// These, and the colon.
+    Names,
+    /// What the kernel leaves of a text of the machine's firmware.
+    Dmi,
+    /// What udev's `$attr{}` leaves of that.
+    DmiLeft,
+    /// What udev's `$attr{}` leaves of any text.
+    Left,
+    /// These but the colon.
+    LeftButColon,
+    /// Any byte but 0.
+    Any,
+}
+
+/// What is said of a pattern, beside the texts that are asked.
+#[derive(Clone, Copy, Debug, PartialEq, Eq)]
+pub enum Judgement {
+    /// It matches one of them.
+    Fine,
+    /// It matches none, and none begins with its prefix.
+    UnknownPrefix,
+    /// It matches none. After so many of its bytes is the first token that none goes on with.
+    Dead(usize),
 }
 
 /// What is wrong with a line.
@@ -135,6 +185,10 @@ pub enum WarningKind {
     RepeatedMatch,
     /// Later lines give one of its patterns the same key, the last of them another value; that one has this number.
     Replaced(u64),
+    /// Its property doesn't fit what is known of properties.
+    Misused(Misuse),
+    /// It is a pattern that matches no text that udev asks.
+    Unmatched(Judgement),
 }
 
 /// How many files were checked, and how much was found in them.

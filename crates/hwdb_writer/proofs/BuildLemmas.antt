@@ -14,9 +14,9 @@ use Rattle.hwdb_writer.specs.Internal.Storable.{IsText, IsStorable, IsSound}
 use Rattle.hwdb_writer.specs.Internal.Entries.{value_of, placed, by_place, IsStorableEntry}
 use Rattle.hwdb_writer.specs.Internal.PostOrder.{values_at, trees_after, AreWhole, tree_of, first_tree}
 use Rattle.hwdb_writer.specs.Internal.Spine.{Frame, node_of, stack, under, full_path, spine_values, AllBelow, IsFilled, IsForkedTop, IsSpine, AreStanding, opens, IsOpen, lowest_done, IsClosedTo, IsBuilt, IsNext, IsFinished, MeetAt, Opens, Counts}
-use Rattle.hwdb_writer.specs.declared.entries.Entry.{Entry}
-use Rattle.hwdb_writer.specs.declared.nodes.Node.{Node as NodeRecord}
-use Rattle.hwdb_writer.specs.declared.builder.Open.{Open}
+use Rattle.hwdb_writer.specs.declared.entries.Setting.{Setting}
+use Rattle.hwdb_writer.specs.declared.nodes.BuiltNode.{BuiltNode as NodeRecord}
+use Rattle.hwdb_writer.specs.declared.builder.OpenBranch.{OpenBranch}
 use Rattle.hwdb_writer.specs.declared.builder.Builder.{Builder}
 use Rattle.hwdb_writer.proofs.SpineLemmas.{append_none, leaf, open_values, open_spine, with_value, Ends, before_it, value_spine, value_values, length-under}
 use Rattle.hwdb_writer.proofs.OpenLemmas.{grown, open_open, lowest, lowest_end, above_it}
@@ -24,11 +24,11 @@ use Rattle.hwdb_writer.proofs.OpenLemmas.{grown, open_open, lowest, lowest_end, 
 abbrev pub root : Frame
 root = record { byte = 0; prefix = []; values = []; done = [] }
 
-no_entries : (es : List Entry) (n : NodeRecord) → n.first ≡ 0 → n.count ≡ 0 → values_at es n ≡ []
+no_entries : (es : List Setting) (n : NodeRecord) → n.first ≡ 0 → n.count ≡ 0 → values_at es n ≡ []
 no_entries es n f c = λ i. map value_of (take (c i) (drop (f i) es))
 
 -- a new builder
-pub built_none : (es : List Entry) (b : Builder) → b.path.now ≡ [] → b.top.node.byte ≡ 0 → b.top.node.prefix.now ≡ [] → b.top.node.first ≡ 0 → b.top.node.count ≡ 0 → b.top.node.children ≡ 0 → b.top.end ≡ 0
+pub built_none : (es : List Setting) (b : Builder) → b.path.now ≡ [] → b.top.node.byte ≡ 0 → b.top.node.prefix.now ≡ [] → b.top.node.first ≡ 0 → b.top.node.count ≡ 0 → b.top.node.children ≡ 0 → b.top.end ≡ 0
     → b.above.items ≡ [] → b.closed.items ≡ [] → IsBuilt es 0 b (root ∷ [])
 unfolding AreWhole trees_after stack IsSpine IsTree IsStorable spine_values values_under under
 built_none es b path byte prefix first number children end above closed = record {
@@ -38,7 +38,7 @@ built_none es b path byte prefix first number children end above closed = record
     standing = (
       record { byte = byte; prefix = prefix; in_range = omega (arith, first, number); values = no_entries es b.top.node first number; children = children },
       end,
-      subst (λ (l : List Open). AreStanding es (reverse l) []) (sym above) tt,
+      subst (λ (l : List OpenBranch). AreStanding es (reverse l) []) (sym above) tt,
     );
     spine = ((tt, tt), (tt, omega arith, tt, tt), refl, tt);
   };
@@ -51,7 +51,7 @@ built_none es b path byte prefix first number children end above closed = record
   counted = omega (arith, first, number);
 }
   where
-    none : (before : List Entry) (d : Entry) → [] ≡ before ++ d ∷ [] → ⊥
+    none : (before : List Setting) (d : Setting) → [] ≡ before ++ d ∷ [] → ⊥
     none before d e = let l = ap length e ∙ length-append before (d ∷ []) in omega (arith, l)
 
 -- lists that end in an element
@@ -86,16 +86,16 @@ unfolding tail
 same_rest [] xs ys e = e
 same_rest (x ∷ front) xs ys e = same_rest front xs ys (ap tail e)
 
-mapped_end : (xs : List Entry) (x : Entry) → map value_of (xs ++ x ∷ []) ≡ map value_of xs ++ value_of x ∷ []
+mapped_end : (xs : List Setting) (x : Setting) → map value_of (xs ++ x ∷ []) ≡ map value_of xs ++ value_of x ∷ []
 mapped_end [] x = refl
 mapped_end (y ∷ xs) x = ap (λ l. value_of y ∷ l) (mapped_end xs x)
 
-placed_end : (xs : List Entry) (x : Entry) → map placed (xs ++ x ∷ []) ≡ map placed xs ++ placed x ∷ []
+placed_end : (xs : List Setting) (x : Setting) → map placed (xs ++ x ∷ []) ≡ map placed xs ++ placed x ∷ []
 placed_end [] x = refl
 placed_end (y ∷ xs) x = ap (λ l. placed y ∷ l) (placed_end xs x)
 
 -- a node with one more value
-values_one : (es : List Entry) (n : ℕ) (e : Entry) (a b : NodeRecord) → b.first ≡ a.first → b.count ≡ a.count + 1 → a.first + a.count ≡ n → take (n + 1) es ≡ take n es ++ e ∷ [] → values_at es b ≡ values_at es a ++ value_of e ∷ []
+values_one : (es : List Setting) (n : ℕ) (e : Setting) (a b : NodeRecord) → b.first ≡ a.first → b.count ≡ a.count + 1 → a.first + a.count ≡ n → take (n + 1) es ≡ take n es ++ e ∷ [] → values_at es b ≡ values_at es a ++ value_of e ∷ []
 values_one es n e a b f c k t =
     let own = take a.count (drop a.first es) in
     let m : a.first + (a.count + 1) ≡ n + 1 = omega (arith, k) in
@@ -134,7 +134,7 @@ text_parts : (xs : List ℕ) (c : ℕ) (ys : List ℕ) → IsText (xs ++ c ∷ y
 text_parts [] c ys t = t
 text_parts (x ∷ xs) c ys t = text_parts xs c ys t.2
 
-module _ (es : List Entry) (n : ℕ) (e : Entry) (next : IsNext es n e) where
+module _ (es : List Setting) (n : ℕ) (e : Setting) (next : IsNext es n e) where
   extend : (old new : Builder) (f : Frame) (fs : List Frame) → IsOpen es old (f ∷ fs) → f.done ≡ [] → old.top.node.first + old.top.node.count ≡ n → full_path (f ∷ fs) ≡ e.pattern.now → Ends None f.values (value_of e).key
       → spine_values (f ∷ fs) ≡ map placed (take n es) → old.path.now ≡ e.pattern.now → Counts old new → (gs : List Frame) × IsBuilt es (n + 1) new gs
   unfolding stack IsForked
@@ -162,7 +162,7 @@ module _ (es : List Entry) (n : ℕ) (e : Entry) (next : IsNext es n e) where
                 children = counts.children ∙ s.children ∙ ap length none;
               },
               counts.end ∙ is.standing.1,
-              subst (λ (l : List Open). AreStanding es (reverse l) fs) (sym counts.above) is.standing.2,
+              subst (λ (l : List OpenBranch). AreStanding es (reverse l) fs) (sym counts.above) is.standing.2,
             );
             spine = value_spine f.byte f.prefix f.values fs v spine next.storable.value ends;
           };
@@ -170,7 +170,7 @@ module _ (es : List Entry) (n : ℕ) (e : Entry) (next : IsNext es n e) where
           path = ap (λ p. p.now) counts.path ∙ at ∙ sym path;
           values = value_values f.byte f.prefix f.values fs v ∙ ap (λ (h : Frame). spine_values (h ∷ fs) ++ (full_path (h ∷ fs), v) ∷ []) (sym w)
               ∙ (λ i. values i ++ (path i, v) ∷ []) ∙ sym (placed_end (take n es) e) ∙ ap (map placed) (sym next.taken);
-          last = λ before d t. path ∙ ap (λ (x : Entry). x.pattern.now) (same_end (take n es) before e d (sym next.taken ∙ t));
+          last = λ before d t. path ∙ ap (λ (x : Setting). x.pattern.now) (same_end (take n es) before e d (sym next.taken ∙ t));
           none = λ t. absurd (no_end (take n es) e (sym next.taken ∙ t));
           fresh = refl;
           counted = omega (arith, a, b, counted);
@@ -186,7 +186,7 @@ module _ (es : List Entry) (n : ℕ) (e : Entry) (next : IsNext es n e) where
     more_ends : (f : Frame) (rest : List Frame) → fs ≡ f ∷ rest → full_path fs ≡ e.pattern.now → Ends None f.values (value_of e).key
     more_ends f rest is path = by (snoc own)
       where
-        own : List Entry
+        own : List Setting
         own = take old.top.node.count (drop old.top.node.first es)
 
         taken : take n es ≡ take old.top.node.first es ++ own
@@ -195,7 +195,7 @@ module _ (es : List Entry) (n : ℕ) (e : Entry) (next : IsNext es n e) where
         values : map value_of own ≡ f.values
         values = (subst (AreStanding es (opens old)) is built.nodes.standing).0.values
 
-        key_of_last : (front : List Entry) (d : Entry) → own ≡ front ++ d ∷ [] → slice_cmp nat_cmp (value_of d).key (value_of e).key ≡ Less
+        key_of_last : (front : List Setting) (d : Setting) → own ≡ front ++ d ∷ [] → slice_cmp nat_cmp (value_of d).key (value_of e).key ≡ Less
         key_of_last front d q =
             let t : take n es ≡ (take old.top.node.first es ++ front) ++ d ∷ [] = taken ∙ ap (λ l. take old.top.node.first es ++ l) q ∙ sym (append_assoc (take old.top.node.first es) front (d ∷ [])) in
             let same : d.pattern.now ≡ e.pattern.now = sym (built.last (take old.top.node.first es ++ front) d t) ∙ path in
@@ -295,7 +295,7 @@ module _ (es : List Entry) (n : ℕ) (e : Entry) (next : IsNext es n e) where
         (open_values b rest l.f l.rest ∙ ap spine_values (sym l.is) ∙ closed.closed.values ∙ built.values) opens_it.path counts
 
 -- the root is closed
-root_finished : (es : List Entry) (old new : Builder) (fs : List Frame) (f : Frame) (nodes : List NodeRecord) → IsClosedTo es 0 old new fs (f ∷ []) → nodes ≡ new.closed.items ++ new.top.node ∷ [] → IsFinished es fs nodes
+root_finished : (es : List Setting) (old new : Builder) (fs : List Frame) (f : Frame) (nodes : List NodeRecord) → IsClosedTo es 0 old new fs (f ∷ []) → nodes ≡ new.closed.items ++ new.top.node ∷ [] → IsFinished es fs nodes
 unfolding stack under IsSpine spine_values prefix_of
 root_finished es old new fs f nodes is e =
     let s = is.nodes.standing.0 in
@@ -309,7 +309,7 @@ root_finished es old new fs f nodes is e =
     }
 
 -- all is closed
-pub finished : (es : List Entry) (old new : Builder) (fs gs : List Frame) (nodes : List NodeRecord) → IsClosedTo es 0 old new fs gs → nodes ≡ new.closed.items ++ new.top.node ∷ [] → IsFinished es fs nodes
+pub finished : (es : List Setting) (old new : Builder) (fs gs : List Frame) (nodes : List NodeRecord) → IsClosedTo es 0 old new fs gs → nodes ≡ new.closed.items ++ new.top.node ∷ [] → IsFinished es fs nodes
 finished es old new fs [] nodes is e = absurd is.nodes.standing
 finished es old new fs (f ∷ g ∷ hs) nodes is e =
     let n = sym is.end ∙ lowest_end es new (f ∷ g ∷ hs) is.nodes ∙ length-append (under (g ∷ hs) f.byte) f.prefix in
@@ -318,7 +318,7 @@ finished es old new fs (f ∷ g ∷ hs) nodes is e =
 finished es old new fs (f ∷ []) nodes is e = root_finished es old new fs f nodes is e
 
 -- no node is open above one whose path is empty
-pub none_above : (es : List Entry) (old new : Builder) (fs gs : List Frame) → IsClosedTo es 0 old new fs gs → (above : List Open) (g : Open) → new.above.items ≡ above ++ g ∷ [] → ⊥
+pub none_above : (es : List Setting) (old new : Builder) (fs gs : List Frame) → IsClosedTo es 0 old new fs gs → (above : List OpenBranch) (g : OpenBranch) → new.above.items ≡ above ++ g ∷ [] → ⊥
 none_above es old new fs gs is above g e =
     let a = above_it es new gs is.nodes above g e in
     let n = sym is.end ∙ lowest_end es new gs is.nodes ∙ ap (λ l. length (full_path l)) a.is ∙ length-append (under (a.h ∷ a.hs) a.f.byte) a.f.prefix in
@@ -326,27 +326,27 @@ none_above es old new fs gs is above g e =
     omega (arith, n, u)
 
 -- the entry with a number
-all_below : (e : Entry) (before : List Entry) (d : Entry) (rest : List Entry) → IsStrictlySortedBy by_place (before ++ d ∷ e ∷ rest) → by_place d e ≡ Less
+all_below : (e : Setting) (before : List Setting) (d : Setting) (rest : List Setting) → IsStrictlySortedBy by_place (before ++ d ∷ e ∷ rest) → by_place d e ≡ Less
 unfolding IsStrictlySortedBy
 all_below e [] d rest s = s.0.0
 all_below e (x ∷ before) d rest s = all_below e before d rest s.1
 
-entry_parts : (es : List Entry) (n : ℕ) (e : Entry) → n < length es → e ≡ get_or es n e → es ≡ take n es ++ e ∷ drop (suc n) es
+entry_parts : (es : List Setting) (n : ℕ) (e : Setting) → n < length es → e ≡ get_or es n e → es ≡ take n es ++ e ∷ drop (suc n) es
 entry_parts [] n e less is = absurd (omega (arith, less))
 entry_parts (x ∷ es) zero e less is = ap (λ y. y ∷ es) (sym is)
 entry_parts (x ∷ es) (suc n) e less is = ap (λ l. x ∷ l) (entry_parts es n e (omega (arith, less)) is)
 
-entry_storable : (es : List Entry) (n : ℕ) (e : Entry) → n < length es → e ≡ get_or es n e → AllByRecursion IsStorableEntry es → IsStorableEntry e
+entry_storable : (es : List Setting) (n : ℕ) (e : Setting) → n < length es → e ≡ get_or es n e → AllByRecursion IsStorableEntry es → IsStorableEntry e
 entry_storable [] n e less is a = absurd (omega (arith, less))
 entry_storable (x ∷ es) zero e less is a = subst IsStorableEntry (sym is) a.0
 entry_storable (x ∷ es) (suc n) e less is a = entry_storable es n e (omega (arith, less)) is a.1
 
-entry_taken : (es : List Entry) (n : ℕ) (e : Entry) → n < length es → e ≡ get_or es n e → take (suc n) es ≡ take n es ++ e ∷ []
+entry_taken : (es : List Setting) (n : ℕ) (e : Setting) → n < length es → e ≡ get_or es n e → take (suc n) es ≡ take n es ++ e ∷ []
 entry_taken [] n e less is = absurd (omega (arith, less))
 entry_taken (x ∷ es) zero e less is = ap (λ y. y ∷ []) (sym is)
 entry_taken (x ∷ es) (suc n) e less is = ap (λ l. x ∷ l) (entry_taken es n e (omega (arith, less)) is)
 
-pub next_is : (es : List Entry) (n : ℕ) (e : Entry) → n < length es → e ≡ get_or es n e → IsStrictlySortedBy by_place es → AllByRecursion IsStorableEntry es → IsNext es n e
+pub next_is : (es : List Setting) (n : ℕ) (e : Setting) → n < length es → e ≡ get_or es n e → IsStrictlySortedBy by_place es → AllByRecursion IsStorableEntry es → IsNext es n e
 next_is es n e less is sorted storable = record {
   in_range = less;
   taken = let m : n + 1 ≡ suc n = omega arith in ap (λ i. take i es) m ∙ entry_taken es n e less is;
@@ -357,11 +357,11 @@ next_is es n e less is sorted storable = record {
 }
 
 -- all entries are added
-pub all_values : (es : List Entry) (n : ℕ) (fs : List Frame) → length es ≤ n → spine_values fs ≡ map placed (take n es) → spine_values fs ≡ map placed es
+pub all_values : (es : List Setting) (n : ℕ) (fs : List Frame) → length es ≤ n → spine_values fs ≡ map placed (take n es) → spine_values fs ≡ map placed es
 all_values es n fs le e = e ∙ ap (map placed) (take_all n es le)
 
 -- what a loop reads after the end
-abbrev pub blank : Entry
+abbrev pub blank : Setting
 blank = record {
   pattern = record { ref_ptr = (0, 0); now = [] };
   key = record { ref_ptr = (0, 0); now = [] };
@@ -371,5 +371,5 @@ blank = record {
   priority = 0;
 }
 
-pub next_at : (es : List Entry) (n : ℕ) → n < length es → IsStrictlySortedBy by_place es → AllByRecursion IsStorableEntry es → IsNext es n (get_or es n blank)
+pub next_at : (es : List Setting) (n : ℕ) → n < length es → IsStrictlySortedBy by_place es → AllByRecursion IsStorableEntry es → IsNext es n (get_or es n blank)
 next_at es n less = next_is es n (get_or es n blank) less (get_or_default es n blank (get_or es n blank) less)

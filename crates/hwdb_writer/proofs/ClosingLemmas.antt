@@ -2,8 +2,8 @@
 use Rattle.std.proofs.Common.{◌≡◌, ◌<◌, ◌≤◌, ℕ, zero, suc, ◌+◌, ◌-◌, List, [], ◌∷◌, ◌++◌, length, length-append, take, drop, reverse, get_or, refl, sym, ◌∙◌, ap, subst, arith, append_assoc}
 use Rattle.hwdb_spec.specs.Written.{IsForked}
 use Rattle.hwdb_writer.specs.Internal.Spine.{Frame, node_of, under, full_path, spine_values, AllBelow, IsFilled, IsForkedTop, IsSpine, AreStanding, IsOpen, lowest_done, IsClosed, IsClosable, IsClosing, Closes, Cuts}
-use Rattle.hwdb_writer.specs.declared.entries.Entry.{Entry}
-use Rattle.hwdb_writer.specs.declared.builder.Open.{Open}
+use Rattle.hwdb_writer.specs.declared.entries.Setting.{Setting}
+use Rattle.hwdb_writer.specs.declared.builder.OpenBranch.{OpenBranch}
 use Rattle.hwdb_writer.specs.declared.builder.Builder.{Builder}
 use Rattle.hwdb_writer.proofs.MapLemmas.{cancel}
 use Rattle.hwdb_writer.proofs.SpineLemmas.{count-in, append_none, closed_frame, close_values, close_path, close_forked, whole_frame, cut_frame, cut_values, cut_path, length-under, below_more}
@@ -41,7 +41,7 @@ closed_more old mid new c rest is v p filled below =
       below = λ d more b e lt. let s = first_same (full_path new) (rest ++ r) more c d (sym q ∙ e) in below b (omega (arith, s, lt));
     }
 
-pub start : (es : List Entry) (at : ℕ) (b : Builder) (fs : List Frame) → IsClosable es b fs → at ≤ b.top.end → IsClosing es at b b fs fs
+pub start : (es : List Setting) (at : ℕ) (b : Builder) (fs : List Frame) → IsClosable es b fs → at ≤ b.top.end → IsClosing es at b b fs fs
 start es at b fs is le = record {
   nodes = is.nodes;
   closed = record {
@@ -56,9 +56,9 @@ start es at b fs is le = record {
   path = refl;
 }
 
-module _ (es : List Entry) (at : ℕ) (old now next : Builder) (fs gs : List Frame) (is : IsClosing es at old now fs gs) (lt : at < now.top.end) where
+module _ (es : List Setting) (at : ℕ) (old now next : Builder) (fs gs : List Frame) (is : IsClosing es at old now fs gs) (lt : at < now.top.end) where
   -- the lowest is closed, since its parent's path has as many bytes
-  module _ (above : List Open) (g : Open) (e : now.above.items ≡ above ++ g ∷ []) (reaches : at ≤ g.end) (closes : Closes now next) where
+  module _ (above : List OpenBranch) (g : OpenBranch) (e : now.above.items ≡ above ++ g ∷ []) (reaches : at ≤ g.end) (closes : Closes now next) where
     pub close_step : (hs : List Frame) × IsClosing es at old next fs hs
     unfolding IsSpine
     close_step =
@@ -73,7 +73,7 @@ module _ (es : List Entry) (at : ℕ) (old now next : Builder) (fs gs : List Fra
             nodes = close_open es now next a.f a.h a.hs nodes closes forked;
             closed = closed_more fs (a.f ∷ a.h ∷ a.hs) (closed_frame a.f a.h a.hs ∷ a.hs) a.f.byte a.f.prefix closed (close_values a.f a.h a.hs) (close_path a.f a.h a.hs)
                 (forked_filled (closed_frame a.f a.h a.hs ∷ a.hs) top_forked) (λ b less. below_more a.f.byte b a.h.done (node_of a.f) nodes.spine.2.2 less);
-            within = let t = ap (λ (o : Open). o.end) made.1 in omega (arith, t, reaches);
+            within = let t = ap (λ (o : OpenBranch). o.end) made.1 in omega (arith, t, reaches);
             forked = λ _. top_forked;
             path = closes.path ∙ is.path;
           },
@@ -84,14 +84,14 @@ module _ (es : List Entry) (at : ℕ) (old now next : Builder) (fs gs : List Fra
     close_shorter =
         let a = above_it es now gs is.nodes above g e in
         let made = closes.parent above g e in
-        let t = ap (λ (o : Open). o.end) made.1 in
+        let t = ap (λ (o : OpenBranch). o.end) made.1 in
         let n = lowest_end es now gs is.nodes ∙ ap (λ l. length (full_path l)) a.is ∙ length-append (under (a.h ∷ a.hs) a.f.byte) a.f.prefix in
         let u = length-under a.h a.hs a.f.byte in
         let p = a.end ∙ length-append (under a.hs a.h.byte) a.h.prefix in
         omega (arith, t, n, u, p)
 
   -- no parent's path has as many bytes
-  module _ (short : (above : List Open) (g : Open) → now.above.items ≡ above ++ g ∷ [] → g.end < at) where
+  module _ (short : (above : List OpenBranch) (g : OpenBranch) → now.above.items ≡ above ++ g ∷ [] → g.end < at) where
     record Inside : Type 0 where
       f : Frame
       rest : List Frame
@@ -108,7 +108,7 @@ module _ (es : List Entry) (at : ℕ) (old now next : Builder) (fs gs : List Fra
         absurd (omega (arith, n, p, lt))
     inside_by (f ∷ h ∷ hs) e nodes = by (reverse now.above.items) refl nodes.standing.2
       where
-        by : (os : List Open) → reverse now.above.items ≡ os → AreStanding es os (h ∷ hs) → Inside
+        by : (os : List OpenBranch) → reverse now.above.items ≡ os → AreStanding es os (h ∷ hs) → Inside
         by [] r s = absurd s
         by (o ∷ os) r s =
             let l = last_is now.above.items o os r in

@@ -8,8 +8,8 @@ use Rattle.hwdb_spec.specs.Tree.{Children, Tree, Value, count}
 use Rattle.hwdb_spec.specs.Tree.Tree.{Node}
 use Rattle.hwdb_spec.specs.Tree.Children.{Child, NoMore}
 use Rattle.hwdb_spec.specs.Written.{strings_of, strings_below, strings_of_value, text_size, texts_size, record_at, padding, value_text, entries_text, node_text, nodes_text}
-use Rattle.hwdb_writer.specs.declared.entries.Entry.{Entry}
-use Rattle.hwdb_writer.specs.declared.nodes.Node.{Node as NodeRecord}
+use Rattle.hwdb_writer.specs.declared.entries.Setting.{Setting}
+use Rattle.hwdb_writer.specs.declared.nodes.BuiltNode.{BuiltNode as NodeRecord}
 use Rattle.hwdb_writer.specs.Internal.Entries.{value_of}
 use Rattle.hwdb_writer.specs.Internal.PostOrder.{Sub, children_in, values_at, staying, over, joined, trees_after, AreWhole, first_tree, tree_of, IsPostOrder}
 use Rattle.hwdb_writer.specs.Internal.Narrow.{IsNarrow, AreNarrow}
@@ -64,10 +64,10 @@ three o a b d p q r e f g = g ∙ ap (λ x. x ++ r) (f ∙ ap (λ x. x ++ q) e) 
 abbrev pub M : ℕ
 M = 2 ^ 64 - 1
 
-abbrev pub value_strings : List Entry → List (List ℕ)
+abbrev pub value_strings : List Setting → List (List ℕ)
 value_strings es = flat_map strings_of_value (map value_of es)
 
-pub value_strings-cons : (e : Entry) (es : List Entry) → value_strings (e ∷ es) ≡ strings_of_value (value_of e) ++ value_strings es
+pub value_strings-cons : (e : Setting) (es : List Setting) → value_strings (e ∷ es) ≡ strings_of_value (value_of e) ++ value_strings es
 value_strings-cons e es = refl
 
 -- trees side by side
@@ -118,7 +118,7 @@ unfolding entries_text
 alone_entry place at b t = append-[] (b ∷ padding 7 ++ little_bytes 8 (record_at at t))
 
 -- the trees, and the node that takes the place of the last of them
-module _ (es : List Entry) (ts : List Sub) (n : NodeRecord) (le : n.children ≤ length ts) where
+module _ (es : List Setting) (ts : List Sub) (n : NodeRecord) (le : n.children ≤ length ts) where
   abbrev keep : List Sub
   keep = take (staying ts n) ts
 
@@ -235,33 +235,33 @@ module _ (es : List Entry) (ts : List Sub) (n : NodeRecord) (le : n.children ≤
       alone (k ∷ ks) e = absurd (omega (arith, e))
 
 -- the trees after so many of the nodes
-abbrev pub trees_at : List Entry → List NodeRecord → ℕ → List Sub
+abbrev pub trees_at : List Setting → List NodeRecord → ℕ → List Sub
 trees_at es ns i = trees_after es [] (take i ns)
 
-after_next : (es : List Entry) (ts : List Sub) (ns : List NodeRecord) (i : ℕ) (n : NodeRecord) → n ≡ get_or ns i n → i < length ns → trees_after es ts (take (suc i) ns) ≡ joined es (trees_after es ts (take i ns)) n
+after_next : (es : List Setting) (ts : List Sub) (ns : List NodeRecord) (i : ℕ) (n : NodeRecord) → n ≡ get_or ns i n → i < length ns → trees_after es ts (take (suc i) ns) ≡ joined es (trees_after es ts (take i ns)) n
 unfolding trees_after
 after_next es ts [] i n is lt = absurd (omega (arith, lt))
 after_next es ts (x ∷ ns) zero n is lt = ap (joined es ts) (sym is)
 after_next es ts (x ∷ ns) (suc i) n is lt = after_next es (joined es ts x) ns i n is (omega (arith, lt))
 
-pub trees_next : (es : List Entry) (ns : List NodeRecord) (i : ℕ) (n : NodeRecord) → n ≡ get_or ns i n → i < length ns → trees_at es ns (i + 1) ≡ joined es (trees_at es ns i) n
+pub trees_next : (es : List Setting) (ns : List NodeRecord) (i : ℕ) (n : NodeRecord) → n ≡ get_or ns i n → i < length ns → trees_at es ns (i + 1) ≡ joined es (trees_at es ns i) n
 trees_next es ns i n is lt = rw (add-one) (after_next es [] ns i n is lt)
 
-pub trees_all : (es : List Entry) (ns : List NodeRecord) (i : ℕ) → length ns ≤ i → trees_at es ns i ≡ trees_after es [] ns
+pub trees_all : (es : List Setting) (ns : List NodeRecord) (i : ℕ) → length ns ≤ i → trees_at es ns i ≡ trees_after es [] ns
 trees_all es ns i le = ap (trees_after es []) (take_all i ns le)
 
 -- what the node at a place needs
-pub record Fits (es : List Entry) (ts : List Sub) (n : NodeRecord) : Type 0 where
+pub record Fits (es : List Setting) (ts : List Sub) (n : NodeRecord) : Type 0 where
   pub before : n.children ≤ length ts
   pub among : n.first + n.count ≤ length es
 
-whole_after : (es : List Entry) (ts : List Sub) (ns : List NodeRecord) (i : ℕ) (n : NodeRecord) → n ≡ get_or ns i n → i < length ns → AreWhole es ts ns → Fits es (trees_after es ts (take i ns)) n
+whole_after : (es : List Setting) (ts : List Sub) (ns : List NodeRecord) (i : ℕ) (n : NodeRecord) → n ≡ get_or ns i n → i < length ns → AreWhole es ts ns → Fits es (trees_after es ts (take i ns)) n
 unfolding AreWhole trees_after
 whole_after es ts [] i n is lt w = absurd (omega (arith, lt))
 whole_after es ts (x ∷ ns) zero n is lt w = let P : NodeRecord → Type 0 = Fits es ts in subst P (sym is) (record { before = w.0; among = w.1 })
 whole_after es ts (x ∷ ns) (suc i) n is lt w = whole_after es (joined es ts x) ns i n is (omega (arith, lt)) w.2
 
-pub fits_at : (es : List Entry) (ns : List NodeRecord) → IsPostOrder es ns → (i : ℕ) (n : NodeRecord) → n ≡ get_or ns i n → i < length ns → Fits es (trees_at es ns i) n
+pub fits_at : (es : List Setting) (ns : List NodeRecord) → IsPostOrder es ns → (i : ℕ) (n : NodeRecord) → n ≡ get_or ns i n → i < length ns → Fits es (trees_at es ns i) n
 fits_at es ns p i n is lt = whole_after es [] ns i n is lt p.whole
 
 -- one tree at the end
@@ -306,7 +306,7 @@ unfolding IsNarrow
 narrow_right [] ys h = h
 narrow_right (x ∷ xs) ys h = narrow_right xs ys h.1
 
-narrow_joined : (es : List Entry) (ts : List Sub) (n : NodeRecord) → AreNarrow (children_in (joined es ts n)) → AreNarrow (children_in ts)
+narrow_joined : (es : List Setting) (ts : List Sub) (n : NodeRecord) → AreNarrow (children_in (joined es ts n)) → AreNarrow (children_in ts)
 unfolding IsNarrow
 narrow_joined es ts n h =
     let keep = take (staying ts n) ts in
@@ -315,12 +315,12 @@ narrow_joined es ts n h =
     let P : List Sub → Type 0 = λ l. AreNarrow (children_in l) in
     subst P (take-append-drop (staying ts n) ts) (narrow-append keep kids (narrow_left keep ((n.byte, over es ts n) ∷ []) h) new.0.1)
 
-narrow_before : (es : List Entry) (ts : List Sub) (ns : List NodeRecord) → AreNarrow (children_in (trees_after es ts ns)) → AreNarrow (children_in ts)
+narrow_before : (es : List Setting) (ts : List Sub) (ns : List NodeRecord) → AreNarrow (children_in (trees_after es ts ns)) → AreNarrow (children_in ts)
 unfolding trees_after
 narrow_before es ts [] h = h
 narrow_before es ts (n ∷ ns) h = narrow_joined es ts n (narrow_before es (joined es ts n) ns h)
 
-few_joined : (es : List Entry) (ts : List Sub) (n : NodeRecord) → n.children ≤ length ts → AreNarrow (children_in (joined es ts n)) → n.children < 256
+few_joined : (es : List Setting) (ts : List Sub) (n : NodeRecord) → n.children ≤ length ts → AreNarrow (children_in (joined es ts n)) → n.children < 256
 unfolding IsNarrow
 few_joined es ts n le h =
     let keep = take (staying ts n) ts in
@@ -328,7 +328,7 @@ few_joined es ts n le h =
     let c = counted es ts n le in
     omega (arith, new.0.0, c)
 
-few_after : (es : List Entry) (ts : List Sub) (ns : List NodeRecord) (i : ℕ) (n : NodeRecord) → n ≡ get_or ns i n → i < length ns → AreWhole es ts ns → AreNarrow (children_in (trees_after es ts ns)) → n.children < 256
+few_after : (es : List Setting) (ts : List Sub) (ns : List NodeRecord) (i : ℕ) (n : NodeRecord) → n ≡ get_or ns i n → i < length ns → AreWhole es ts ns → AreNarrow (children_in (trees_after es ts ns)) → n.children < 256
 unfolding AreWhole trees_after
 few_after es ts [] i n is lt w h = absurd (omega (arith, lt))
 few_after es ts (x ∷ ns) zero n is lt w h =
@@ -336,7 +336,7 @@ few_after es ts (x ∷ ns) zero n is lt w h =
     subst P (sym is) (few_joined es ts x w.0 (narrow_before es (joined es ts x) ns h))
 few_after es ts (x ∷ ns) (suc i) n is lt w h = few_after es (joined es ts x) ns i n is (omega (arith, lt)) w.2 h
 
-pub few_at : (es : List Entry) (ns : List NodeRecord) → IsPostOrder es ns → IsNarrow (tree_of es ns) → (i : ℕ) (n : NodeRecord) → n ≡ get_or ns i n → i < length ns → n.children < 256
+pub few_at : (es : List Setting) (ns : List NodeRecord) → IsPostOrder es ns → IsNarrow (tree_of es ns) → (i : ℕ) (n : NodeRecord) → n ≡ get_or ns i n → i < length ns → n.children < 256
 few_at es ns p h i n is lt = few_after es [] ns i n is lt p.whole (one_narrow _ p.one h)
 
 -- what an index reads after the last node
@@ -344,7 +344,7 @@ abbrev pub no_node : NodeRecord
 no_node = record { byte = 0; prefix = record { ref_ptr = (0, 0); now = [] }; first = 0; count = 0; children = 0 }
 
 -- the steps over the nodes
-module _ (es : List Entry) (ns : List NodeRecord) (p : IsPostOrder es ns) (i : ℕ) (d : NodeRecord) (lt : i < length ns) where
+module _ (es : List Setting) (ns : List NodeRecord) (p : IsPostOrder es ns) (i : ℕ) (d : NodeRecord) (lt : i < length ns) where
   abbrev node : NodeRecord
   node = get_or ns i d
 
@@ -377,7 +377,7 @@ module _ (es : List Entry) (ns : List NodeRecord) (p : IsPostOrder es ns) (i : �
       omega (arith, a, b, c, s)
 
   pub strings_step : (old words one next : List (List ℕ)) → SameMembers words (old ++ strings_below (children_in trees)) → (prefix : List ℕ) → prefix ≡ node.prefix.now → SameMembers one (words ++ prefix ∷ []) →
-      (vals : List Entry) → vals ≡ take node.count (drop node.first es) → SameMembers next (one ++ flat_map strings_of_value (map value_of vals)) → SameMembers next (old ++ strings_below (children_in (trees_at es ns (i + 1))))
+      (vals : List Setting) → vals ≡ take node.count (drop node.first es) → SameMembers next (one ++ flat_map strings_of_value (map value_of vals)) → SameMembers next (old ++ strings_below (children_in (trees_at es ns (i + 1))))
   strings_step old words one next a prefix e b vals f c =
       let P : List Sub → Type 0 = λ l. SameMembers next (old ++ strings_below (children_in l)) in
       let own : SameMembers next (words ++ (prefix ∷ flat_map strings_of_value (map value_of vals))) =
@@ -389,11 +389,11 @@ module _ (es : List Entry) (ns : List NodeRecord) (p : IsPostOrder es ns) (i : �
     pub roomy_here : 16 * node.children ≤ length ch
     roomy_here = roomy es trees node fits_here.before place (length old) ch entries
 
-    pub texts_step : (vals : List Entry) → vals ≡ take node.count (drop node.first es) → (next : List ℕ) →
+    pub texts_step : (vals : List Setting) → vals ≡ take node.count (drop node.first es) → (next : List ℕ) →
         next ≡ out ++ (little_bytes 8 (place node.prefix.now) ++ node.children ∷ padding 7 ++ little_bytes 8 (length vals) ++ drop (length ch - 16 * node.children) ch ++ flat_map (value_text place) (map value_of vals)) →
         next ≡ old ++ nodes_text place (length old) (children_in (trees_at es ns (i + 1)))
     texts_step vals e next g =
-        texts_more es trees node fits_here.before place (length old) old out next ch _ _ refl texts entries (ap (λ (l : List Entry). flat_map (value_text place) (map value_of l)) e) (ap (λ (l : List Entry). length (map value_of l)) e ∙ refl)
+        texts_more es trees node fits_here.before place (length old) old out next ch _ _ refl texts entries (ap (λ (l : List Setting). flat_map (value_text place) (map value_of l)) e) (ap (λ (l : List Setting). length (map value_of l)) e ∙ refl)
         (g ∙ ap (λ m. out ++ (little_bytes 8 (place node.prefix.now) ++ node.children ∷ padding 7 ++ little_bytes 8 m ++ drop (length ch - 16 * node.children) ch ++ flat_map (value_text place) (map value_of vals))) (sym (length-map vals value_of)))
         ∙ ap (λ l. old ++ nodes_text place (length old) (children_in l)) (sym next_trees)
 
@@ -404,7 +404,7 @@ module _ (es : List Entry) (ns : List NodeRecord) (p : IsPostOrder es ns) (i : �
         ∙ ap (λ l. entries_text place (length old) (children_in l)) (sym next_trees)
 
 -- the end
-module _ (es : List Entry) (ns : List NodeRecord) (p : IsPostOrder es ns) (i : ℕ) (le : length ns ≤ i) where
+module _ (es : List Setting) (ns : List NodeRecord) (p : IsPostOrder es ns) (i : ℕ) (le : length ns ≤ i) where
   all_trees : trees_at es ns i ≡ trees_after es [] ns
   all_trees = trees_all es ns i le
 
@@ -417,24 +417,24 @@ module _ (es : List Entry) (ns : List NodeRecord) (p : IsPostOrder es ns) (i : �
   pub texts_end : (place : List ℕ → ℕ) (at : ℕ) → nodes_text place at (children_in (trees_at es ns i)) ≡ node_text place at (tree_of es ns)
   texts_end place at = ap (λ l. nodes_text place at (children_in l)) all_trees ∙ one_text place at _ p.one
 
-pub size_begin : (es : List Entry) (ns : List NodeRecord) → 0 ≡ min (texts_size (children_in (trees_at es ns 0))) M
+pub size_begin : (es : List Setting) (ns : List NodeRecord) → 0 ≡ min (texts_size (children_in (trees_at es ns 0))) M
 unfolding trees_after text_size
 size_begin es ns = refl
 
-pub strings_begin : (es : List Entry) (ns : List NodeRecord) (old : List (List ℕ)) → SameMembers old (old ++ strings_below (children_in (trees_at es ns 0)))
+pub strings_begin : (es : List Setting) (ns : List NodeRecord) (old : List (List ℕ)) → SameMembers old (old ++ strings_below (children_in (trees_at es ns 0)))
 unfolding trees_after strings_of
 strings_begin es ns old = same_path _ _ (sym (append-[] old))
 
-pub texts_begin : (es : List Entry) (ns : List NodeRecord) (place : List ℕ → ℕ) (old : List ℕ) → old ≡ old ++ nodes_text place (length old) (children_in (trees_at es ns 0))
+pub texts_begin : (es : List Setting) (ns : List NodeRecord) (place : List ℕ → ℕ) (old : List ℕ) → old ≡ old ++ nodes_text place (length old) (children_in (trees_at es ns 0))
 unfolding trees_after node_text
 texts_begin es ns place old = sym (append-[] old)
 
-pub entries_begin : (es : List Entry) (ns : List NodeRecord) (place : List ℕ → ℕ) (at : ℕ) → [] ≡ entries_text place at (children_in (trees_at es ns 0))
+pub entries_begin : (es : List Setting) (ns : List NodeRecord) (place : List ℕ → ℕ) (at : ℕ) → [] ≡ entries_text place at (children_in (trees_at es ns 0))
 unfolding trees_after entries_text
 entries_begin es ns place at = refl
 
 -- the offset of the root's record
-pub root_at : (es : List Entry) (ns : List NodeRecord) (p : IsPostOrder es ns) (i : ℕ) (d : NodeRecord) → i < length ns → length ns ≤ i + 1 → (from : ℕ) →
+pub root_at : (es : List Setting) (ns : List NodeRecord) (p : IsPostOrder es ns) (i : ℕ) (d : NodeRecord) → i < length ns → length ns ≤ i + 1 → (from : ℕ) →
     record_at from (tree_of es ns) + (24 + 16 * (get_or ns i d).children + 32 * (get_or ns i d).count) ≡ from + text_size (tree_of es ns)
 root_at es ns p i d lt le from =
     let n = get_or ns i d in
@@ -445,13 +445,13 @@ root_at es ns p i d lt le from =
     let P : List Sub → Type 0 = λ l. record_at from (first_tree l) + (24 + 16 * n.children + 32 * n.count) ≡ from + text_size (first_tree l) in
     subst P e (root_record es ts n f.before from f.among one)
 
-pub has_nodes : (es : List Entry) (ns : List NodeRecord) → IsPostOrder es ns → 0 < length ns
+pub has_nodes : (es : List Setting) (ns : List NodeRecord) → IsPostOrder es ns → 0 < length ns
 unfolding trees_after
 has_nodes es [] p = absurd (omega (arith, p.one))
 has_nodes es (n ∷ ns) p = omega arith
 
 -- as `root_at`, of the last node by name
-pub root_is : (es : List Entry) (ns : List NodeRecord) → IsPostOrder es ns → (n : NodeRecord) → n ≡ get_or ns (length ns - 1) n → (from : ℕ) →
+pub root_is : (es : List Setting) (ns : List NodeRecord) → IsPostOrder es ns → (n : NodeRecord) → n ≡ get_or ns (length ns - 1) n → (from : ℕ) →
     record_at from (tree_of es ns) + (24 + 16 * n.children + 32 * n.count) ≡ from + text_size (tree_of es ns)
 root_is es ns p n e from =
     let some = has_nodes es ns p in

@@ -9,15 +9,15 @@ use Rattle.hwdb_writer.specs.Internal.Storable.{IsStorable}
 use Rattle.hwdb_writer.specs.Internal.Entries.{value_of}
 use Rattle.hwdb_writer.specs.Internal.PostOrder.{Sub, children_in, values_at, staying, joined, trees_after, AreWhole}
 use Rattle.hwdb_writer.specs.Internal.Spine.{Frame, node_of, stack, under, full_path, IsSpine, StandsFor, AreStanding, opens, IsOpen, one_more, Closes, Cuts, Opens}
-use Rattle.hwdb_writer.specs.declared.entries.Entry.{Entry}
-use Rattle.hwdb_writer.specs.declared.nodes.Node.{Node as NodeRecord}
-use Rattle.hwdb_writer.specs.declared.builder.Open.{Open}
+use Rattle.hwdb_writer.specs.declared.entries.Setting.{Setting}
+use Rattle.hwdb_writer.specs.declared.nodes.BuiltNode.{BuiltNode as NodeRecord}
+use Rattle.hwdb_writer.specs.declared.builder.OpenBranch.{OpenBranch}
 use Rattle.hwdb_writer.specs.declared.builder.Builder.{Builder}
 use Rattle.hwdb_writer.proofs.SpineLemmas.{append_none, closed_frame, close_spine, whole_frame, cut_frame, cut_spine, leaf, count-in}
 use Rattle.hwdb_writer.proofs.SoundnessLemmas.{few}
 
 -- a node that has for children the last of the trees
-module _ (es : List Entry) (trees before kids : List Sub) (n : NodeRecord) (t : trees ≡ before ++ kids) (c : n.children ≡ length kids) where
+module _ (es : List Setting) (trees before kids : List Sub) (n : NodeRecord) (t : trees ≡ before ++ kids) (c : n.children ≡ length kids) where
   stays : staying trees n ≡ length before
   stays = let l = ap length t ∙ length-append before kids in omega (arith, l, c)
 
@@ -30,12 +30,12 @@ module _ (es : List Entry) (trees before kids : List Sub) (n : NodeRecord) (t : 
       let back : drop (staying trees n) trees ≡ kids = (λ i. drop (stays i) (t i)) ∙ drop-append_seam before kids in
       λ i. front i ++ (n.byte, Node n.prefix.now (values_at es n) (children_in (back i))) ∷ []
 
-pub after_more : (es : List Entry) (trees : List Sub) (ns : List NodeRecord) (n : NodeRecord) → trees_after es trees (ns ++ n ∷ []) ≡ joined es (trees_after es trees ns) n
+pub after_more : (es : List Setting) (trees : List Sub) (ns : List NodeRecord) (n : NodeRecord) → trees_after es trees (ns ++ n ∷ []) ≡ joined es (trees_after es trees ns) n
 unfolding trees_after
 after_more es trees [] n = refl
 after_more es trees (m ∷ ns) n = after_more es (joined es trees m) ns n
 
-pub whole_more : (es : List Entry) (trees : List Sub) (ns : List NodeRecord) (n : NodeRecord) → AreWhole es trees ns → n.children ≤ length (trees_after es trees ns) → n.first + n.count ≤ length es → AreWhole es trees (ns ++ n ∷ [])
+pub whole_more : (es : List Setting) (trees : List Sub) (ns : List NodeRecord) (n : NodeRecord) → AreWhole es trees ns → n.children ≤ length (trees_after es trees ns) → n.first + n.count ≤ length es → AreWhole es trees (ns ++ n ∷ [])
 unfolding trees_after AreWhole
 whole_more es trees [] n w c r = (c, r, tt)
 whole_more es trees (m ∷ ns) n w c r = (w.0, w.1, whole_more es (joined es trees m) ns n w.2 c r)
@@ -54,16 +54,16 @@ last_is xs x rest e = record {
 }
 
 -- the node of a frame has the frame's tree
-tree_of_frame : (es : List Entry) (n : NodeRecord) (f : Frame) → n.byte ≡ f.byte → n.prefix.now ≡ f.prefix → values_at es n ≡ f.values →
+tree_of_frame : (es : List Setting) (n : NodeRecord) (f : Frame) → n.byte ≡ f.byte → n.prefix.now ≡ f.prefix → values_at es n ≡ f.values →
     ◌≡◌ {A = Sub} (n.byte, Node n.prefix.now (values_at es n) (children_in f.done)) (f.byte, node_of f)
 tree_of_frame es n f b p v = λ i. (b i, Node (p i) (v i) (children_in f.done))
 
 -- a node is closed after others
-pub record Grown (es : List Entry) (new : List NodeRecord) (made : List Sub) : Type 0 where
+pub record Grown (es : List Setting) (new : List NodeRecord) (made : List Sub) : Type 0 where
   pub whole : AreWhole es [] new
   pub trees : trees_after es [] new ≡ made
 
-pub grown : (es : List Entry) (old new : List NodeRecord) (n : NodeRecord) (before : List Sub) (f : Frame) → AreWhole es [] old → trees_after es [] old ≡ before ++ f.done → new ≡ old ++ n ∷ [] →
+pub grown : (es : List Setting) (old new : List NodeRecord) (n : NodeRecord) (before : List Sub) (f : Frame) → AreWhole es [] old → trees_after es [] old ≡ before ++ f.done → new ≡ old ++ n ∷ [] →
     n.byte ≡ f.byte → n.prefix.now ≡ f.prefix → values_at es n ≡ f.values → n.children ≡ length f.done → n.first + n.count ≤ length es → Grown es new (before ++ (f.byte, node_of f) ∷ [])
 grown es old new n before f w t e b p v c r = record {
   whole = subst (AreWhole es []) (sym e) (whole_more es [] old n w (enough es (trees_after es [] old) before f.done n t c) r);
@@ -71,16 +71,16 @@ grown es old new n before f w t e b p v c r = record {
 }
 
 -- the lowest is closed
-module _ (es : List Entry) (old new : Builder) (f g : Frame) (gs : List Frame) (is : IsOpen es old (f ∷ g ∷ gs)) (closes : Closes old new) where
+module _ (es : List Setting) (old new : Builder) (f g : Frame) (gs : List Frame) (is : IsOpen es old (f ∷ g ∷ gs)) (closes : Closes old new) where
   record Parent : Type 0 where
-    o : Open
-    os : List Open
+    o : OpenBranch
+    os : List OpenBranch
     below : reverse old.above.items ≡ o ∷ os
     stands : StandsFor es o g
     end : o.end ≡ length (full_path (g ∷ gs))
     rest : AreStanding es os gs
 
-  parent_of : (os : List Open) → reverse old.above.items ≡ os → AreStanding es os (g ∷ gs) → Parent
+  parent_of : (os : List OpenBranch) → reverse old.above.items ≡ os → AreStanding es os (g ∷ gs) → Parent
   parent_of [] e s = absurd s
   parent_of (o ∷ os) e s = record { o = o; os = os; below = e; stands = s.0; end = s.1; rest = s.2 }
 
@@ -109,7 +109,7 @@ module _ (es : List Entry) (old new : Builder) (f g : Frame) (gs : List Frame) (
       }
 
 -- the lowest is cut
-module _ (es : List Entry) (old new : Builder) (at front : ℕ) (f : Frame) (fs : List Frame) (is : IsOpen es old (f ∷ fs)) (cuts : Cuts at old new) where
+module _ (es : List Setting) (old new : Builder) (at front : ℕ) (f : Frame) (fs : List Frame) (is : IsOpen es old (f ∷ fs)) (cuts : Cuts at old new) where
   pub cut_open : (left : List ℕ) (c : ℕ) (back : List ℕ) → f.prefix ≡ left ++ c ∷ back → at ≡ length (under fs f.byte) + length left → IsForked (node_of f) → 0 < length (under fs f.byte) →
       IsOpen es new (cut_frame f.byte left c back f.values f.done fs ∷ fs)
   unfolding stack IsSpine
@@ -143,7 +143,7 @@ module _ (es : List Entry) (old new : Builder) (at front : ℕ) (f : Frame) (fs 
             children = left_is.children;
           },
           cuts.end ∙ place ∙ sym (length-append (under fs f.byte) left),
-          subst (λ (l : List Open). AreStanding es (reverse l) fs) (sym cuts.above) is.standing.2,
+          subst (λ (l : List OpenBranch). AreStanding es (reverse l) fs) (sym cuts.above) is.standing.2,
         );
         spine = cut_spine f.byte left c back f.values f.done fs up fork deep;
       }
@@ -157,7 +157,7 @@ module _ (es : List Entry) (old new : Builder) (at front : ℕ) (f : Frame) (fs 
       behind (x ∷ xs) c ys = behind xs c ys
 
 -- a leaf is opened below the lowest
-module _ (es : List Entry) (old new : Builder) (pattern : List ℕ) (number : ℕ) (g : Frame) (gs : List Frame) (is : IsOpen es old (g ∷ gs)) (opened : Opens pattern number old new) where
+module _ (es : List Setting) (old new : Builder) (pattern : List ℕ) (number : ℕ) (g : Frame) (gs : List Frame) (is : IsOpen es old (g ∷ gs)) (opened : Opens pattern number old new) where
   pub open_open : (b : ℕ) (rest : List ℕ) → number ≤ length es → pattern ≡ full_path (g ∷ gs) ++ b ∷ rest → IsSpine (leaf b rest g gs ∷ g ∷ gs) → IsOpen es new (leaf b rest g gs ∷ g ∷ gs)
   unfolding stack under
   open_open b rest range e spine =
@@ -175,7 +175,7 @@ module _ (es : List Entry) (old new : Builder) (pattern : List ℕ) (number : �
         standing = (
           record { byte = byte; prefix = prefix; in_range = omega (arith, a, c, range); values = λ i. map value_of (take (c i) (drop (a i) es)); children = opened.children },
           opened.end ∙ ap length (sym path),
-          subst (λ (l : List Open). AreStanding es l (g ∷ gs)) (sym above) is.standing,
+          subst (λ (l : List OpenBranch). AreStanding es l (g ∷ gs)) (sym above) is.standing,
         );
         spine = spine;
       }
@@ -194,12 +194,12 @@ pub record Lowest (fs : List Frame) : Type 0 where
   pub rest : List Frame
   pub is : fs ≡ f ∷ rest
 
-pub lowest : (es : List Entry) (b : Builder) (fs : List Frame) → IsOpen es b fs → Lowest fs
+pub lowest : (es : List Setting) (b : Builder) (fs : List Frame) → IsOpen es b fs → Lowest fs
 lowest es b [] is = absurd is.standing
 lowest es b (f ∷ fs) is = record { f = f; rest = fs; is = refl }
 
 -- the node above the lowest
-pub record Above (es : List Entry) (g : Open) (fs : List Frame) : Type 0 where
+pub record Above (es : List Setting) (g : OpenBranch) (fs : List Frame) : Type 0 where
   pub f : Frame
   pub h : Frame
   pub hs : List Frame
@@ -207,17 +207,17 @@ pub record Above (es : List Entry) (g : Open) (fs : List Frame) : Type 0 where
   pub stands : StandsFor es g h
   pub end : g.end ≡ length (full_path (h ∷ hs))
 
-above_by : (es : List Entry) (top g : Open) (os : List Open) (fs : List Frame) → AreStanding es (top ∷ g ∷ os) fs → Above es g fs
+above_by : (es : List Setting) (top g : OpenBranch) (os : List OpenBranch) (fs : List Frame) → AreStanding es (top ∷ g ∷ os) fs → Above es g fs
 above_by es top g os [] s = absurd s
 above_by es top g os (f ∷ []) s = absurd s.2
 above_by es top g os (f ∷ h ∷ hs) s = record { f = f; h = h; hs = hs; is = refl; stands = s.2.0; end = s.2.1 }
 
-pub above_it : (es : List Entry) (b : Builder) (fs : List Frame) → IsOpen es b fs → (above : List Open) (g : Open) → b.above.items ≡ above ++ g ∷ [] → Above es g fs
+pub above_it : (es : List Setting) (b : Builder) (fs : List Frame) → IsOpen es b fs → (above : List OpenBranch) (g : OpenBranch) → b.above.items ≡ above ++ g ∷ [] → Above es g fs
 above_it es b fs is above g e =
     above_by es b.top g (reverse above) fs
-    (subst (λ (l : List Open). AreStanding es (b.top ∷ l) fs) (ap reverse e ∙ reverse-append above (g ∷ [])) is.standing)
+    (subst (λ (l : List OpenBranch). AreStanding es (b.top ∷ l) fs) (ap reverse e ∙ reverse-append above (g ∷ [])) is.standing)
 
-pub few_children : (es : List Entry) (b : Builder) (fs : List Frame) → IsOpen es b fs → (above : List Open) (g : Open) → b.above.items ≡ above ++ g ∷ [] → g.node.children < 256
+pub few_children : (es : List Setting) (b : Builder) (fs : List Frame) → IsOpen es b fs → (above : List OpenBranch) (g : OpenBranch) → b.above.items ≡ above ++ g ∷ [] → g.node.children < 256
 unfolding IsSpine IsStorable IsTree
 few_children es b fs is above g e =
     let a = above_it es b fs is above g e in
@@ -228,6 +228,6 @@ few_children es b fs is above g e =
     omega (arith, n, c, k)
 
 -- the end of the lowest one's path
-pub lowest_end : (es : List Entry) (b : Builder) (fs : List Frame) → IsOpen es b fs → b.top.end ≡ length (full_path fs)
+pub lowest_end : (es : List Setting) (b : Builder) (fs : List Frame) → IsOpen es b fs → b.top.end ≡ length (full_path fs)
 lowest_end es b [] is = absurd is.standing
 lowest_end es b (f ∷ fs) is = is.standing.1

@@ -5,8 +5,8 @@ use Rattle.std.proofs.lemmas.List.{length-map, length-take-le, length-drop, get_
 use Rattle.std.specs.Prelude.{flat_map}
 use Rattle.byteorder.specs.Endian.{little_bytes}
 use Rattle.hwdb_spec.specs.Written.{padding, value_text, entries_text, nodes_text, node_text, record_at, text_size, place_of, table_of, section_of}
-use Rattle.hwdb_writer.specs.declared.entries.Entry.{Entry}
-use Rattle.hwdb_writer.specs.declared.nodes.Node.{Node}
+use Rattle.hwdb_writer.specs.declared.entries.Setting.{Setting}
+use Rattle.hwdb_writer.specs.declared.nodes.BuiltNode.{BuiltNode}
 use Rattle.hwdb_writer.specs.declared.stored.Stored.{Stored}
 use Rattle.hwdb_writer.specs.declared.stored.StoredNode.{StoredNode}
 use Rattle.hwdb_writer.specs.declared.stored.StoredValue.{StoredValue}
@@ -18,12 +18,12 @@ use Rattle.hwdb_writer.proofs.EmissionLemmas.{trees_at, no_node, fits_here, few_
 use Rattle.hwdb_writer.proofs.StoredLemmas.{pairs_length, pairs_at, pairs_take, pairs_drop, values_left, placed_at, nodes_by, values_by}
 
 -- what there is once so many nodes have their records
-pub record AreDone (place : List ℕ → ℕ) (places : List ℕ) (es : List Entry) (ns : List Node) (i : ℕ) (old out ch : List ℕ) (rest : List StoredValue) : Type 0 where
+pub record AreDone (place : List ℕ → ℕ) (places : List ℕ) (es : List Setting) (ns : List BuiltNode) (i : ℕ) (old out ch : List ℕ) (rest : List StoredValue) : Type 0 where
   pub texts : out ≡ old ++ nodes_text place (length old) (children_in (trees_at es ns i))
   pub entries : ch ≡ entries_text place (length old) (children_in (trees_at es ns i))
   pub left : AreValues (IsAt place places) rest (all_values es (drop i ns))
 
-pub none_done : (place : List ℕ → ℕ) (places : List ℕ) (es : List Entry) (ns : List Node) (ss : List StoredNode) (vs : List StoredValue) → AreRecords place places es ns ss vs → (old ch : List ℕ) → ch ≡ [] →
+pub none_done : (place : List ℕ → ℕ) (places : List ℕ) (es : List Setting) (ns : List BuiltNode) (ss : List StoredNode) (vs : List StoredValue) → AreRecords place places es ns ss vs → (old ch : List ℕ) → ch ≡ [] →
     AreDone place places es ns 0 old old ch vs
 none_done place places es ns ss vs r old ch e = record {
   texts = texts_begin es ns place old;
@@ -31,12 +31,12 @@ none_done place places es ns ss vs r old ch e = record {
   left = r.values;
 }
 
-module _ (place : List ℕ → ℕ) (places : List ℕ) (es : List Entry) (ns : List Node) (ss : List StoredNode) (vs : List StoredValue) (r : AreRecords place places es ns ss vs)
+module _ (place : List ℕ → ℕ) (places : List ℕ) (es : List Setting) (ns : List BuiltNode) (ss : List StoredNode) (vs : List StoredValue) (r : AreRecords place places es ns ss vs)
     (i : ℕ) (d : StoredNode) (lt : i < length ss) (old out ch : List ℕ) (rest : List StoredValue) (done : AreDone place places es ns i old out ch rest) where
   abbrev stored : StoredNode
   stored = get_or ss i d
 
-  abbrev node : Node
+  abbrev node : BuiltNode
   node = get_or ns i no_node
 
   among : i < length ns
@@ -57,7 +57,7 @@ module _ (place : List ℕ → ℕ) (places : List ℕ) (es : List Entry) (ns : 
       let e = own.children in
       omega (arith, e, f)
 
-  abbrev vals : List Entry
+  abbrev vals : List Setting
   vals = take node.count (drop node.first es)
 
   counted : length (values_at es node) ≡ stored.count
@@ -104,14 +104,14 @@ module _ (place : List ℕ → ℕ) (places : List ℕ) (es : List Entry) (ns : 
         left = subst (λ (l : List StoredValue). AreValues (IsAt place places) l (all_values es (drop (i + 1) ns))) (sym l) behind;
       }
 
-pub all_done : (place : List ℕ → ℕ) (places : List ℕ) (es : List Entry) (ns : List Node) (ss : List StoredNode) (vs : List StoredValue) → AreRecords place places es ns ss vs → (i : ℕ) → length ss ≤ i → (old out ch : List ℕ) (rest : List StoredValue) →
+pub all_done : (place : List ℕ → ℕ) (places : List ℕ) (es : List Setting) (ns : List BuiltNode) (ss : List StoredNode) (vs : List StoredValue) → AreRecords place places es ns ss vs → (i : ℕ) → length ss ≤ i → (old out ch : List ℕ) (rest : List StoredValue) →
     AreDone place places es ns i old out ch rest → out ≡ old ++ node_text place (length old) (tree_of es ns)
 all_done place places es ns ss vs r i le old out ch rest done =
     let long = pairs_length (IsNode (IsAt place places)) ss ns r.nodes in
     done.texts ∙ ap (λ l. old ++ l) (texts_end es ns r.order i (omega (arith, long, le)) place (length old))
 
 -- the offset of the root's record, by the last of the nodes
-pub root_at_end : (place : List ℕ → ℕ) (places : List ℕ) (es : List Entry) (ns : List Node) (ss : List StoredNode) → IsPostOrder es ns → AreNodes (IsAt place places) ss ns → (s : StoredNode) → 0 < length ss → s ≡ get_or ss (length ss - 1) s → (from : ℕ) →
+pub root_at_end : (place : List ℕ → ℕ) (places : List ℕ) (es : List Setting) (ns : List BuiltNode) (ss : List StoredNode) → IsPostOrder es ns → AreNodes (IsAt place places) ss ns → (s : StoredNode) → 0 < length ss → s ≡ get_or ss (length ss - 1) s → (from : ℕ) →
     record_at from (tree_of es ns) + (24 + 16 * s.children + 32 * s.count) ≡ from + text_size (tree_of es ns)
 root_at_end place places es ns ss order p s some e from =
     let long = pairs_length (IsNode (IsAt place places)) ss ns p in
@@ -122,14 +122,14 @@ root_at_end place places es ns ss order p s some e from =
     (subst (λ (m : ℕ). IsNode (IsAt place places) (get_or ss (m - 1) s) n) (sym long) (pairs_at (IsNode (IsAt place places)) ss ns (length ns - 1) s no_node (omega (arith, long, some)) p)) in
     (λ j. record_at from (tree_of es ns) + (24 + 16 * own.children j + 32 * own.count j)) ∙ root_is es ns order n (get_or_default ns (length ns - 1) no_node n last) from
 
-pub some_node : (place : List ℕ → ℕ) (places : List ℕ) (es : List Entry) (ns : List Node) (ss : List StoredNode) → IsPostOrder es ns → AreNodes (IsAt place places) ss ns → 0 < length ss
+pub some_node : (place : List ℕ → ℕ) (places : List ℕ) (es : List Setting) (ns : List BuiltNode) (ss : List StoredNode) → IsPostOrder es ns → AreNodes (IsAt place places) ss ns → 0 < length ss
 some_node place places es ns ss order p =
     let long = pairs_length (IsNode (IsAt place places)) ss ns p in
     let some = has_nodes es ns order in
     omega (arith, long, some)
 
 -- what a database is made of, if each part has the value that it was given
-pub laid_out : (es : List Entry) (ns : List Node) (s : Stored) → IsStored es ns s → IsNarrow (tree_of es ns) → (ss : List StoredNode) (vs : List StoredValue) (read words : List (List ℕ)) (places : List ℕ) (size section : ℕ) →
+pub laid_out : (es : List Setting) (ns : List BuiltNode) (s : Stored) → IsStored es ns s → IsNarrow (tree_of es ns) → (ss : List StoredNode) (vs : List StoredValue) (read words : List (List ℕ)) (places : List ℕ) (size section : ℕ) →
     ss ≡ s.nodes.items → vs ≡ s.values.items → read ≡ table_of (tree_of es ns) → words ≡ table_of (tree_of es ns) → places ≡ map (place_of (80 + size) read) s.interner.words.items → size ≡ text_size (tree_of es ns) →
     section ≡ length (section_of (table_of (tree_of es ns))) → 80 + size + section < 2 ^ 64 → IsLaidOut es ns ss vs words places size section
 laid_out es ns s st narrow ss vs read words places size section n v r w p sized ended fits =

@@ -4,7 +4,7 @@ use Rattle.std.specs.List.{AllByRecursion}
 use Rattle.hwdb_spec.specs.Tree.{Value, key_of}
 use Rattle.hwdb_writer.specs.Internal.Storable.{IsStorableValue, HasNoZero, IsText}
 use Rattle.hwdb_writer.specs.Internal.Entries.{IsStorableEntry}
-use Rattle.hwdb_writer.specs.declared.entries.Entry.{Entry}
+use Rattle.hwdb_writer.specs.declared.entries.Setting.{Setting}
 
 -- bytes without a 0
 pub is_text : (xs : List ℕ) → HasNoZero xs → ((i : ℕ) → get_or xs i 0 < 256) → IsText xs
@@ -24,6 +24,6 @@ value_sound v k value path e f g nk nv np p q l = record {
 }
 
 -- one more entry
-pub entries_more : (es : List Entry) (e : Entry) → AllByRecursion IsStorableEntry es → IsStorableEntry e → AllByRecursion IsStorableEntry (es ++ e ∷ [])
+pub entries_more : (es : List Setting) (e : Setting) → AllByRecursion IsStorableEntry es → IsStorableEntry e → AllByRecursion IsStorableEntry (es ++ e ∷ [])
 entries_more [] e a s = (s, tt)
 entries_more (x ∷ es) e a s = (a.0, entries_more es e a.1 s)

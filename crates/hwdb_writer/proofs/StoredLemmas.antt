@@ -5,8 +5,8 @@ use Rattle.std.proofs.lemmas.List.{get_or_append_left, get_or-map, length-map}
 use Rattle.std.proofs.Math.Seq.{get_or-append_seam, take-suc, drop-cons}
 use Rattle.std.proofs.lemmas.Grind.{flat_map-append}
 use Rattle.hwdb_spec.specs.Tree.{Value}
-use Rattle.hwdb_writer.specs.declared.entries.Entry.{Entry}
-use Rattle.hwdb_writer.specs.declared.nodes.Node.{Node}
+use Rattle.hwdb_writer.specs.declared.entries.Setting.{Setting}
+use Rattle.hwdb_writer.specs.declared.nodes.BuiltNode.{BuiltNode}
 use Rattle.hwdb_writer.specs.declared.stored.StoredNode.{StoredNode}
 use Rattle.hwdb_writer.specs.declared.stored.StoredValue.{StoredValue}
 use Rattle.hwdb_writer.specs.Internal.PostOrder.{values_at}
@@ -82,7 +82,7 @@ pub values_by : (By To : ℕ → List ℕ → Type 0) → ((n : ℕ) (s : List �
 values_by By To f vs xs p =
     pairs_map (IsValue By) (IsValue To) (λ v x h. record { key = f _ _ h.key; value = f _ _ h.value; path = f _ _ h.path; line = h.line; priority = h.priority }) vs xs p
 
-pub nodes_by : (By To : ℕ → List ℕ → Type 0) → ((n : ℕ) (s : List ℕ) → By n s → To n s) → (ss : List StoredNode) (ns : List Node) → AreNodes By ss ns → AreNodes To ss ns
+pub nodes_by : (By To : ℕ → List ℕ → Type 0) → ((n : ℕ) (s : List ℕ) → By n s → To n s) → (ss : List StoredNode) (ns : List BuiltNode) → AreNodes By ss ns → AreNodes To ss ns
 nodes_by By To f ss ns p = pairs_map (IsNode By) (IsNode To) (λ s n h. record { prefix = f _ _ h.prefix; byte = h.byte; count = h.count; children = h.children }) ss ns p
 
 -- from strings to their places
@@ -103,11 +103,11 @@ pub one_more : {X : Type 0} (xs : List X) (i : ℕ) (d : X) → i < length xs �
 one_more xs i d lt = rw (add-one) (take-suc xs i d lt)
 
 -- the values of one more node
-pub values_more : (es : List Entry) (ns : List Node) (i : ℕ) (d : Node) → i < length ns → all_values es (take (i + 1) ns) ≡ all_values es (take i ns) ++ values_at es (get_or ns i d)
+pub values_more : (es : List Setting) (ns : List BuiltNode) (i : ℕ) (d : BuiltNode) → i < length ns → all_values es (take (i + 1) ns) ≡ all_values es (take i ns) ++ values_at es (get_or ns i d)
 values_more es ns i d lt =
     ap (all_values es) (one_more ns i d lt) ∙ flat_map-append (values_at es) (take i ns) (get_or ns i d ∷ []) ∙ ap (λ l. all_values es (take i ns) ++ l) (none_behind (values_at es (get_or ns i d)))
 
-pub values_left : (es : List Entry) (ns : List Node) (i : ℕ) (d : Node) → i < length ns → all_values es (drop i ns) ≡ values_at es (get_or ns i d) ++ all_values es (drop (i + 1) ns)
+pub values_left : (es : List Setting) (ns : List BuiltNode) (i : ℕ) (d : BuiltNode) → i < length ns → all_values es (drop i ns) ≡ values_at es (get_or ns i d) ++ all_values es (drop (i + 1) ns)
 values_left es ns i d lt =
     let rest : drop i ns ≡ get_or ns i d ∷ drop (i + 1) ns = rw (add-one) (drop-cons ns i d lt) in
     ap (all_values es) rest

@@ -5,7 +5,7 @@
 ghost use Rattle.std.specs.Prelude.{◌≡◌};
 ghost use Rattle.hwdb_writer.specs.Internal.Storable.{HasNoZero, IsText};
 
-use crate::entries::Entry;
+use crate::entries::Setting;
 use hwdb_text::{Assignment, Given};
 use std::alloc::{AllocError, Global};
 use std::marker::Model;
@@ -15,7 +15,7 @@ use std::marker::Model;
 #[derive(Drop)]
 pub struct Tree<'t> {
     /// What was set, one after another.
-    pub(crate) entries: Vec<Entry<'t>>,
+    pub(crate) entries: Vec<Setting<'t>>,
 }
 
 /// These bytes, none of them 0.
@@ -86,7 +86,7 @@ impl<'t> Tree<'t> {
             (given_in (origin path.now priority) given.entry)) }
         ensures err { OnErr result (self.new ≡ self.old) }
     {
-        self.entries.push(Entry {
+        self.entries.push(Setting {
             pattern: text_of(given.pattern),
             key: given.key,
             value: given.value,

@@ -17,22 +17,22 @@ ghost use Rattle.std.specs.Bool.{OnTrue, OnFalse};
 ghost use Rattle.std.specs.List.{AllByRecursion};
 ghost use Rattle.std.specs.List.Sorted.{IsStrictlySortedBy};
 ghost use Rattle.hwdb_spec.specs.Tree.{values_under};
-ghost use Rattle.hwdb_writer.specs.declared.entries.Entry.{Entry as EntryRecord};
+ghost use Rattle.hwdb_writer.specs.declared.entries.Setting.{Setting as EntryRecord};
 ghost use Rattle.hwdb_writer.specs.Internal.Storable.{IsSound};
 ghost use Rattle.hwdb_writer.specs.Internal.Entries.{by_place, placed, IsStorableEntry};
 ghost use Rattle.hwdb_writer.specs.Internal.PostOrder.{IsPostOrder, tree_of};
 ghost use Rattle.hwdb_writer.specs.Internal.Spine.{Frame, IsClosable, IsClosedTo, IsBuilt, IsNext, IsFinished, MeetAt, Closes, Cuts, Opens, Counts};
-ghost use Rattle.hwdb_writer.specs.declared.builder.Open.{Open as OpenRecord};
+ghost use Rattle.hwdb_writer.specs.declared.builder.OpenBranch.{OpenBranch as OpenRecord};
 
-use crate::entries::Entry;
-use crate::nodes::Node;
+use crate::entries::Setting;
+use crate::nodes::BuiltNode;
 use byteorder::{BigEndian, ByteOrder};
 use std::alloc::{AllocError, Global};
 
 /// A node that isn't closed yet, and the length of its path in the pattern that was added last.
 #[derive(Clone, Copy)]
-struct Open<'t> {
-    node: Node<'t>,
+struct OpenBranch<'t> {
+    node: BuiltNode<'t>,
     end: usize,
 }
 
@@ -42,11 +42,11 @@ struct Builder<'t> {
     /// The pattern that was added last.
     path: &'t [u8],
     /// The node at the end of that pattern.
-    top: Open<'t>,
+    top: OpenBranch<'t>,
     /// The nodes above it, from the root on.
-    above: Vec<Open<'t>>,
+    above: Vec<OpenBranch<'t>>,
     /// The nodes that are closed, each after its children.
-    closed: Vec<Node<'t>>,
+    closed: Vec<BuiltNode<'t>>,
 }
 
 /// How many bytes are compared at once, as one number.
@@ -95,8 +95,8 @@ impl<'t> Builder<'t> {
     {
         Builder {
             path: &[],
-            top: Open {
-                node: Node::new(0, &[], 0),
+            top: OpenBranch {
+                node: BuiltNode::new(0, &[], 0),
                 end: 0,
             },
             above: Vec::new(alloc),
@@ -129,15 +129,15 @@ impl<'t> Builder<'t> {
         let (front, back) = node
             .prefix
             .split_at(node.prefix.len() - (self.top.end - at));
-        self.closed.push(Node {
+        self.closed.push(BuiltNode {
             byte: back[0],
             prefix: &back[1..],
             first: node.first,
             count: node.count,
             children: node.children,
         })?;
-        self.top = Open {
-            node: Node {
+        self.top = OpenBranch {
+            node: BuiltNode {
                 byte: node.byte,
                 prefix: front,
                 first: 0,
@@ -190,8 +190,8 @@ impl<'t> Builder<'t> {
         let rest = &pattern[self.top.end..];
         self.above.push(self.top)?;
         self.path = pattern;
-        self.top = Open {
-            node: Node::new(rest[0], &rest[1..], first),
+        self.top = OpenBranch {
+            node: BuiltNode::new(rest[0], &rest[1..], first),
             end: pattern.len(),
         };
         Ok(())
@@ -224,7 +224,7 @@ impl<'t> Builder<'t> {
     }
 
     /// Closes all nodes.
-    fn finish(mut self) -> Result<Vec<Node<'t>>, AllocError>
+    fn finish(mut self) -> Result<Vec<BuiltNode<'t>>, AllocError>
         requires { (es : List EntryRecord) × (fs : List Frame) × IsClosable es self fs }
         ensures { IfOk result (λ nodes. (es : List EntryRecord) (fs : List Frame)
             → IsClosable es self.entry fs → IsFinished es fs nodes.items) }
@@ -239,7 +239,10 @@ impl<'t> Builder<'t> {
 /// and one key.
 ///
 /// One pass over the entries' patterns. The only error is `AllocError`.
-pub fn post_order<'t>(alloc: Global, entries: &[Entry<'t>]) -> Result<Vec<Node<'t>>, AllocError>
+pub fn post_order<'t>(
+    alloc: Global,
+    entries: &[Setting<'t>],
+) -> Result<Vec<BuiltNode<'t>>, AllocError>
     requires ascending { IsStrictlySortedBy by_place entries.now }
     requires storable { AllByRecursion IsStorableEntry entries.now }
     ensures order { IfOk result (λ nodes. IsPostOrder entries.now nodes.items) }

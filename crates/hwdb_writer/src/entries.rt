@@ -13,7 +13,7 @@ use std::cmp::Ordering;
 
 /// An assignment that was set. Its texts are borrowed from the bytes of its file, and its path from the caller.
 #[derive(Clone, Copy)]
-pub struct Entry<'t> {
+pub struct Setting<'t> {
     pub pattern: &'t [u8],
     pub key: &'t [u8],
     pub value: &'t [u8],
@@ -23,7 +23,7 @@ pub struct Entry<'t> {
 }
 
 /// Entries are alike if they have one pattern and one key.
-impl<'t> PartialEq for Entry<'t> {
+impl<'t> PartialEq for Setting<'t> {
     ghost eq = { eq_by_cmp by_place };
 
     ghost laws = { partial_equiv_from_equiv (eq_by_cmp_equiv by_place_total) };
@@ -33,11 +33,11 @@ impl<'t> PartialEq for Entry<'t> {
     }
 }
 
-impl<'t> Eq for Entry<'t> {
+impl<'t> Eq for Setting<'t> {
     ghost laws = { eq_by_cmp_equiv by_place_total };
 }
 
-impl<'t> PartialOrd for Entry<'t> {
+impl<'t> PartialOrd for Setting<'t> {
     ghost partial_cmp = { as_partial_cmp by_place };
 
     ghost laws = { partial_order_from_total by_place_total };
@@ -48,7 +48,7 @@ impl<'t> PartialOrd for Entry<'t> {
 }
 
 /// By pattern, and then by key.
-impl<'t> Ord for Entry<'t> {
+impl<'t> Ord for Setting<'t> {
     ghost cmp = { by_place };
 
     ghost total = { by_place_total };
@@ -69,7 +69,7 @@ impl<'t> Ord for Entry<'t> {
 ///
 /// Reversed first, so that a stable sort has the last one of each pattern and key in front, and the others are left
 /// out.
-pub fn last_of_each(all: Vec<Entry<'_>>) -> Result<Vec<Entry<'_>>, AllocError>
+pub fn last_of_each(all: Vec<Setting<'_>>) -> Result<Vec<Setting<'_>>, AllocError>
     ensures ascending { IfOk result (λ v. IsStrictlySortedBy by_place v.items) }
     ensures storable { AllByRecursion IsStorableEntry all.entry.items
         → IfOk result (λ v. AllByRecursion IsStorableEntry v.items) }

@@ -4,7 +4,7 @@ ghost use Rattle.std.specs.Prelude.{◌≡◌};
 /// A node, in a list in which each comes after its children. It has the byte that leads to it, and the bytes after that
 /// one. Its values, by key, are `count` of the entries from `first` on.
 #[derive(Clone, Copy)]
-pub struct Node<'t> {
+pub struct BuiltNode<'t> {
     pub byte: u8,
     pub prefix: &'t [u8],
     pub first: usize,
@@ -12,16 +12,16 @@ pub struct Node<'t> {
     pub children: usize,
 }
 
-impl<'t> Node<'t> {
+impl<'t> BuiltNode<'t> {
     /// A node without children, whose values begin with this entry.
-    pub fn new(byte: u8, prefix: &'t [u8], first: usize) -> Node<'t>
+    pub fn new(byte: u8, prefix: &'t [u8], first: usize) -> BuiltNode<'t>
         ensures byte { result.byte ≡ byte }
         ensures prefix { result.prefix.now ≡ prefix.now }
         ensures first { result.first ≡ first }
         ensures count { result.count ≡ 0 }
         ensures children { result.children ≡ 0 }
     {
-        Node {
+        BuiltNode {
             byte,
             prefix,
             first,

@@ -3,8 +3,8 @@ ghost use Rattle.std.specs.Prelude.{◌≡◌, ◌<◌, ◌≤◌, ◌++◌, ◌
 ghost use Rattle.std.specs.Result.{IsErrOf};
 ghost use Rattle.byteorder.specs.Endian.{little_bytes};
 ghost use Rattle.hwdb_spec.specs.Written.{text_size, record_at, section_of, written, IsWritten, IsLonger, IsDatabaseOf};
-ghost use Rattle.hwdb_writer.specs.declared.entries.Entry.{Entry};
-ghost use Rattle.hwdb_writer.specs.declared.nodes.Node.{Node};
+ghost use Rattle.hwdb_writer.specs.declared.entries.Setting.{Setting};
+ghost use Rattle.hwdb_writer.specs.declared.nodes.BuiltNode.{BuiltNode};
 ghost use Rattle.hwdb_writer.specs.Internal.Narrow.{IsNarrow};
 ghost use Rattle.hwdb_writer.specs.Internal.PostOrder.{tree_of, IsPostOrder};
 ghost use Rattle.hwdb_writer.specs.Internal.Stored.{IsAt, AreNodes, IsStored, IsLaidOut, IsMade};
@@ -68,10 +68,10 @@ fn push_strings(out: &mut Vec<u8>, words: &[KeyedStr<'_>]) -> Result<(), AllocEr
 
 /// The offset of the root's record, after a nodes section of so many bytes.
 fn root_place(nodes: &[StoredNode], size: usize) -> usize
-    requires { (place : List ℕ → ℕ) × (places : List ℕ) × (es : List Entry) × (ns : List Node)
+    requires { (place : List ℕ → ℕ) × (places : List ℕ) × (es : List Setting) × (ns : List BuiltNode)
         × IsPostOrder es ns × AreNodes (IsAt place places) nodes.now ns
         × (size ≡ text_size (tree_of es ns)) × (80 + size < 2 ^ 64) }
-    ensures { (place : List ℕ → ℕ) (places : List ℕ) (es : List Entry) (ns : List Node)
+    ensures { (place : List ℕ → ℕ) (places : List ℕ) (es : List Setting) (ns : List BuiltNode)
         → IsPostOrder es ns → AreNodes (IsAt place places) nodes.now ns
         → size ≡ text_size (tree_of es ns) → result ≡ record_at 80 (tree_of es ns) }
 {
@@ -92,9 +92,9 @@ fn database(
     size: usize,
     section: usize,
 ) -> Result<Vec<u8>, AllocError>
-    requires { (es : List Entry) × (ns : List Node)
+    requires { (es : List Setting) × (ns : List BuiltNode)
         × IsLaidOut es ns nodes.now values.now ordered.now places.now size section }
-    ensures { IfOk result (λ v. (es : List Entry) (ns : List Node)
+    ensures { IfOk result (λ v. (es : List Setting) (ns : List BuiltNode)
         → IsLaidOut es ns nodes.now values.now ordered.now places.now size section
         → v.items ≡ written (tree_of es ns)) }
 {
@@ -117,9 +117,9 @@ fn database_within(
     stored: Stored<'_>,
     max_bytes: u32,
 ) -> Result<Option<Vec<u8>>, AllocError>
-    requires { (es : List Entry) × (ns : List Node) × IsStored es ns stored
+    requires { (es : List Setting) × (ns : List BuiltNode) × IsStored es ns stored
         × IsNarrow (tree_of es ns) }
-    ensures { IfOk result (λ o. (es : List Entry) (ns : List Node) → IsStored es ns stored.entry
+    ensures { IfOk result (λ o. (es : List Setting) (ns : List BuiltNode) → IsStored es ns stored.entry
         → IsNarrow (tree_of es ns)
         → let bytes = written (tree_of es ns) in MatchOption o (max_bytes < length bytes)
         (λ v. (v.items ≡ bytes) × (length bytes ≤ max_bytes))) }
@@ -141,7 +141,7 @@ fn database_within(
 
 /// The nodes of the tight tree of what was set, with strings by number. It consumes the tree, and frees what was set.
 fn stored_nodes<'t>(alloc: Global, tree: Tree<'t>) -> Result<Stored<'t>, AllocError>
-    ensures { IfOk result (λ s. (es : List Entry) × (ns : List Node) × IsStored es ns s
+    ensures { IfOk result (λ s. (es : List Setting) × (ns : List BuiltNode) × IsStored es ns s
         × IsMade tree.entry (tree_of es ns)) }
 {
     let entries = last_of_each(tree.entries)?;

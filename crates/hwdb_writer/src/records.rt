@@ -3,8 +3,8 @@ ghost use Rattle.std.specs.Prelude.{◌≡◌, ◌≤◌, ◌<◌, ◌++◌, ◌
 ghost use Rattle.byteorder.specs.Endian.{little_bytes};
 ghost use Rattle.hwdb_spec.specs.Tree.{Value};
 ghost use Rattle.hwdb_spec.specs.Written.{padding, text_size, node_text, value_text};
-ghost use Rattle.hwdb_writer.specs.declared.entries.Entry.{Entry};
-ghost use Rattle.hwdb_writer.specs.declared.nodes.Node.{Node};
+ghost use Rattle.hwdb_writer.specs.declared.entries.Setting.{Setting};
+ghost use Rattle.hwdb_writer.specs.declared.nodes.BuiltNode.{BuiltNode};
 ghost use Rattle.hwdb_writer.specs.Internal.PostOrder.{IsPostOrder, tree_of};
 ghost use Rattle.hwdb_writer.specs.Internal.Stored.{IsUnder, IsAt, AreNodes, AreValues, AreRecords, record_text};
 
@@ -97,7 +97,7 @@ pub fn record_length(children: usize, values: usize) -> usize
 
 /// The length in bytes of the records of the nodes, or the greatest number if they are longer.
 pub fn text_length(nodes: &[StoredNode]) -> usize
-    ensures { (words : List (List ℕ)) (es : List Entry) (ns : List Node) → IsPostOrder es ns
+    ensures { (words : List (List ℕ)) (es : List Setting) (ns : List BuiltNode) → IsPostOrder es ns
         → AreNodes (IsUnder words) nodes.now ns
         → result ≡ min (text_size (tree_of es ns)) (2 ^ 64 - 1) }
 {
@@ -181,9 +181,9 @@ pub fn push_records(
     places: &[usize],
     out: &mut Vec<u8>,
 ) -> Result<(), AllocError>
-    requires { (place : List ℕ → ℕ) × (es : List Entry) × (ns : List Node)
+    requires { (place : List ℕ → ℕ) × (es : List Setting) × (ns : List BuiltNode)
         × AreRecords place places.now es ns nodes.now values.now }
-    ensures { OnOk result ((place : List ℕ → ℕ) (es : List Entry) (ns : List Node)
+    ensures { OnOk result ((place : List ℕ → ℕ) (es : List Setting) (ns : List BuiltNode)
         → AreRecords place places.now es ns nodes.now values.now
         → out.new.items ≡ out.old.items
         ++ node_text place (length out.old.items) (tree_of es ns)) }

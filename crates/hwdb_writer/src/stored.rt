@@ -7,10 +7,10 @@ ghost use Rattle.hwdb_writer.specs.Internal.PostOrder.{IsPostOrder};
 ghost use Rattle.hwdb_writer.specs.Internal.Membership.{SameMembers};
 ghost use Rattle.hwdb_writer.specs.Internal.Stored.{Grows, AreValues, IsUnder, IsStored};
 
-use crate::entries::Entry;
+use crate::entries::Setting;
 use crate::interner::Interner;
 use crate::keyed::KeyedStr;
-use crate::nodes::Node;
+use crate::nodes::BuiltNode;
 use std::alloc::{AllocError, Global};
 
 /// A value of a node, with its strings by number.
@@ -55,7 +55,7 @@ fn last_key_and_path(values: &[StoredValue]) -> (usize, usize) {
 
 /// Appends an entry's value.
 fn push_value<'t>(
-    entry: &Entry<'t>,
+    entry: &Setting<'t>,
     interner: &mut Interner<'t>,
     out: &mut Vec<StoredValue>,
 ) -> Result<(), AllocError>
@@ -83,7 +83,7 @@ fn push_value<'t>(
 
 /// Appends the values of the entries.
 fn push_values<'t>(
-    entries: &[Entry<'t>],
+    entries: &[Setting<'t>],
     interner: &mut Interner<'t>,
     out: &mut Vec<StoredValue>,
 ) -> Result<(), AllocError>
@@ -105,8 +105,8 @@ fn push_values<'t>(
 /// up once.
 pub fn store<'t>(
     alloc: Global,
-    entries: &[Entry<'t>],
-    nodes: &[Node<'t>],
+    entries: &[Setting<'t>],
+    nodes: &[BuiltNode<'t>],
 ) -> Result<Stored<'t>, AllocError>
     requires { IsPostOrder entries.now nodes.now }
     ensures { IfOk result (IsStored entries.now nodes.now) }

@@ -1,11 +1,11 @@
 -- What is counted of assignments.
 use Rattle.std.specs.Prelude.{List, ℕ}
 use Rattle.hwdb_spec.specs.Assignment.{Assignment}
-use Rattle.hwdb_inspect.specs.declared.summary.Part.{Part}
-use Rattle.hwdb_inspect.specs.declared.summary.Part.TheVariants.{Path, Pattern, Key}
+use Rattle.hwdb_inspect.specs.declared.summary.TextPart.{TextPart}
+use Rattle.hwdb_inspect.specs.declared.summary.TextPart.TheVariants.{Path, Pattern, Key}
 
 -- a text of an assignment
-abbrev pub part_of : Part → Assignment → List ℕ
+abbrev pub part_of : TextPart → Assignment → List ℕ
 part_of Path f = f.path
 part_of Pattern f = f.position.pattern
 part_of Key f = f.position.key

@@ -5,10 +5,10 @@ use Rattle.hwdb_spec.specs.Summary.{depth}
 use Rattle.hwdb_spec.specs.Tree.{Tree}
 use Rattle.hwdb_reader.specs.Views.{node_count, children_of, entered_tree}
 use Rattle.hwdb_query.specs.Internal.Members.{members_in}
-use Rattle.hwdb_inspect.specs.declared.walk.Open.{Open}
+use Rattle.hwdb_inspect.specs.declared.walk.OpenVisit.{OpenVisit}
 
 -- the children of a node that aren't done
-abbrev pub kids_of : Open → List (ℕ × Tree)
+abbrev pub kids_of : OpenVisit → List (ℕ × Tree)
 kids_of o = drop o.done (children_of (entered_tree o.inside))
 
 -- how many nodes the trees of children have
@@ -22,34 +22,34 @@ depth_in [] = 0
 depth_in (k ∷ kids) = max (depth k.1) (depth_in kids)
 
 -- what the children assign that aren't done, if the last node's path is this one
-abbrev pub to_come : List ℕ → List Open → List Assignment
+abbrev pub to_come : List ℕ → List OpenVisit → List Assignment
 to_come path [] = []
 to_come path (o ∷ below) = members_in (take o.length path) (kids_of o) ++ to_come (take o.length path) below
 
 -- each node's path begins with the path of the one below it in the stack
-abbrev pub StandsOn : List ℕ → List Open → Type 0
+abbrev pub StandsOn : List ℕ → List OpenVisit → Type 0
 StandsOn path [] = Unit {0}
 StandsOn path (o ∷ below) =
     (o.length ≤ length path) × (o.done ≤ length (children_of (entered_tree o.inside))) × StandsOn (take o.length path) below
 
 -- how many nodes weren't entered
-abbrev pub left : List Open → ℕ
+abbrev pub left : List OpenVisit → ℕ
 left [] = 0
 left (o ∷ below) = nodes_in (kids_of o) + left below
 
 -- how many steps the walk takes at most
-abbrev pub steps : List Open → ℕ
+abbrev pub steps : List OpenVisit → ℕ
 steps [] = 0
 steps (o ∷ below) = suc (nodes_in (kids_of o) + nodes_in (kids_of o)) + steps below
 
 -- the most nodes that will be on one path, those of the stack counted
-abbrev pub deepest_to_come : List Open → ℕ
+abbrev pub deepest_to_come : List OpenVisit → ℕ
 deepest_to_come [] = 0
 deepest_to_come (o ∷ below) = max (suc (length below) + depth_in (kids_of o)) (deepest_to_come below)
 
 -- one node was put on top, with none of its children done
-pub record Opened (before now : List Open) (t : Tree) (size : ℕ) : Type 0 where
-  pub top : Open
+pub record Opened (before now : List OpenVisit) (t : Tree) (size : ℕ) : Type 0 where
+  pub top : OpenVisit
   pub stands : now ≡ before ++ top ∷ []
   pub tree : entered_tree top.inside ≡ t
   pub none_done : top.done ≡ 0

@@ -9,7 +9,7 @@ use Rattle.hwdb_spec.specs.Assignment.{Assignment, assignment_cmp, text_cmp}
 use Rattle.hwdb_spec.specs.Explanations.{answers_with, explained}
 use Rattle.hwdb_query.specs.Views.{assignment_of_answer}
 use Rattle.hwdb_query.specs.declared.answer.Answer.{Answer}
-use Rattle.hwdb_query.specs.declared.all_hits.Content.{Content}
+use Rattle.hwdb_query.specs.declared.all_hits.HitValue.{HitValue}
 use Rattle.hwdb_query.specs.declared.all_hits.AllHits.{AllHits}
 use Rattle.hwdb_query.specs.declared.by_key.AnswersByKey.{AnswersByKey}
 
@@ -28,7 +28,7 @@ abbrev pub Place : Type 0
 Place = ℕ × ℕ × Rc (Vec ℕ Global) Global × Bor (List ℕ)
 
 -- the assignment of a place and what it has
-abbrev pub assignment_at_place : Place × Content → Assignment
+abbrev pub assignment_at_place : Place × HitValue → Assignment
 assignment_at_place e = record {
   position = record { priority = e.0.0; line = e.0.1; pattern = e.0.2.value.items; key = e.0.3.now };
   value = e.1.value.now;

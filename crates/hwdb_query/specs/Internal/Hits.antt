@@ -3,7 +3,7 @@ use Rattle.std.specs.Prelude.{List, ℕ, Bool, drop, false, take, true, ◌++◌
 use Rattle.hwdb_query.specs.declared.hit.Parts.{Parts}
 use Rattle.hwdb_spec.specs.Assignment.{Position, Assignment, assignment_cmp, put}
 use Rattle.hwdb_reader.specs.declared.view.Entry.{Entry}
-use Rattle.hwdb_query.specs.declared.hit_page.Place.{Place}
+use Rattle.hwdb_query.specs.declared.hit_page.Slot.{Slot}
 use Rattle.hwdb_query.specs.declared.hit.Hit.{Hit}
 use Rattle.hwdb_reader.specs.declared.view.Origin.{Origin}
 use Rattle.hwdb_query.specs.declared.position.Position.{Position as OwnedPosition}
@@ -25,7 +25,7 @@ abbrev pub placed : Assignment → List Assignment → ℕ → Bool → List Ass
 placed x l i true = l
 placed x l i false = take i l ++ x ∷ drop i l
 
-abbrev pub PlaceOf : Assignment → List Assignment → Place → Type 0
+abbrev pub PlaceOf : Assignment → List Assignment → Slot → Type 0
 PlaceOf x l p = put assignment_cmp x l ≡ placed x l p.index p.is_taken
 
 -- the last of some hits, which are as many as may be held or more

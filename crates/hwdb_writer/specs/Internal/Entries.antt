@@ -7,36 +7,36 @@ use Rattle.hwdb_spec.specs.Assignment.{Assignment}
 use Rattle.hwdb_spec.specs.Lines.{max_pattern}
 use Rattle.hwdb_spec.specs.Tree.{Value, place_cmp}
 use Rattle.hwdb_writer.specs.Internal.Storable.{IsStorableValue, IsText}
-use Rattle.hwdb_writer.specs.declared.entries.Entry.{Entry}
+use Rattle.hwdb_writer.specs.declared.entries.Setting.{Setting}
 
 -- the value, with its stored key
-abbrev pub value_of : Entry → Value
+abbrev pub value_of : Setting → Value
 value_of e = record { priority = e.priority; line = e.line; key = 32 ∷ e.key.now; value = e.value.now; path = e.path.now }
 
 -- the value under its path, as a tree has it
-abbrev pub placed : Entry → List ℕ × Value
+abbrev pub placed : Setting → List ℕ × Value
 placed e = (e.pattern.now, value_of e)
 
-abbrev pub assignment_of : Entry → Assignment
+abbrev pub assignment_of : Setting → Assignment
 assignment_of e = record {
   position = record { priority = e.priority; line = e.line; pattern = e.pattern.now; key = e.key.now };
   value = e.value.now;
   path = e.path.now;
 }
 
-abbrev pub place_of : Entry → List ℕ × List ℕ
+abbrev pub place_of : Setting → List ℕ × List ℕ
 place_of e = (e.pattern.now, e.key.now)
 
 -- the order of entries: by pattern, and then by key
-abbrev pub by_place : Entry → Entry → Ordering
+abbrev pub by_place : Setting → Setting → Ordering
 by_place a b = place_cmp (place_of a) (place_of b)
 
 pub by_place_total : IsTotalOrder by_place
 by_place_total =
-    then_total (on_total (λ (e : Entry). e.pattern.now) nat_list_cmp_total) (on_total (λ (e : Entry). e.key.now) nat_list_cmp_total)
+    then_total (on_total (λ (e : Setting). e.pattern.now) nat_list_cmp_total) (on_total (λ (e : Setting). e.key.now) nat_list_cmp_total)
 
 -- a tree can hold it
-pub record IsStorableEntry (e : Entry) : Type 0 where
+pub record IsStorableEntry (e : Setting) : Type 0 where
   pub text : IsText e.pattern.now
   pub short : length e.pattern.now ≤ max_pattern
   pub value : IsStorableValue (value_of e)

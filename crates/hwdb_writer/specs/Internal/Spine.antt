@@ -7,9 +7,9 @@ use Rattle.hwdb_spec.specs.Written.{IsForked}
 use Rattle.hwdb_writer.specs.Internal.Storable.{IsStorable, IsSound}
 use Rattle.hwdb_writer.specs.Internal.Entries.{placed, by_place, IsStorableEntry}
 use Rattle.hwdb_writer.specs.Internal.PostOrder.{Sub, children_in, values_at, trees_after, AreWhole, IsPostOrder, tree_of}
-use Rattle.hwdb_writer.specs.declared.entries.Entry.{Entry}
-use Rattle.hwdb_writer.specs.declared.nodes.Node.{Node}
-use Rattle.hwdb_writer.specs.declared.builder.Open.{Open}
+use Rattle.hwdb_writer.specs.declared.entries.Setting.{Setting}
+use Rattle.hwdb_writer.specs.declared.nodes.BuiltNode.{BuiltNode}
+use Rattle.hwdb_writer.specs.declared.builder.OpenBranch.{OpenBranch}
 use Rattle.hwdb_writer.specs.declared.builder.Builder.{Builder}
 
 -- an open node, with its children so far
@@ -72,24 +72,24 @@ IsSpine [] = Unit {0}
 IsSpine (f ∷ fs) = IsTree (node_of f) × IsStorable (length (under fs f.byte)) (node_of f) × Hangs f fs × IsSpine fs
 
 -- the open node has the parts of a frame
-pub record StandsFor (es : List Entry) (o : Open) (f : Frame) : Type 0 where
+pub record StandsFor (es : List Setting) (o : OpenBranch) (f : Frame) : Type 0 where
   pub byte : o.node.byte ≡ f.byte
   pub prefix : o.node.prefix.now ≡ f.prefix
   pub in_range : o.node.first + o.node.count ≤ length es
   pub values : values_at es o.node ≡ f.values
   pub children : o.node.children ≡ length f.done
 
-abbrev pub AreStanding : List Entry → List Open → List Frame → Type 0
+abbrev pub AreStanding : List Setting → List OpenBranch → List Frame → Type 0
 AreStanding es [] [] = Unit {0}
 AreStanding es [] (f ∷ fs) = ⊥
 AreStanding es (o ∷ os) [] = ⊥
 AreStanding es (o ∷ os) (f ∷ fs) = StandsFor es o f × (o.end ≡ length (full_path (f ∷ fs))) × AreStanding es os fs
 
-abbrev pub opens : Builder → List Open
+abbrev pub opens : Builder → List OpenBranch
 opens b = b.top ∷ reverse b.above.items
 
 -- the builder's nodes are those of the frames
-pub record IsOpen (es : List Entry) (b : Builder) (fs : List Frame) : Type 0 where
+pub record IsOpen (es : List Setting) (b : Builder) (fs : List Frame) : Type 0 where
   pub whole : AreWhole es [] b.closed.items
   pub trees : trees_after es [] b.closed.items ≡ stack fs
   pub standing : AreStanding es (opens b) fs
@@ -109,12 +109,12 @@ pub record IsClosed (old new : List Frame) : Type 0 where
   pub below : (c : ℕ) (rest : List ℕ) (b : ℕ) → full_path old ≡ full_path new ++ c ∷ rest → c < b → AllBelow b (lowest_done new)
 
 -- a builder that may be closed
-pub record IsClosable (es : List Entry) (b : Builder) (fs : List Frame) : Type 0 where
+pub record IsClosable (es : List Setting) (b : Builder) (fs : List Frame) : Type 0 where
   pub nodes : IsOpen es b fs
   pub forked : IsForkedTop fs
 
 -- closed or cut, though not all up to so many bytes
-pub record IsClosing (es : List Entry) (at : ℕ) (old new : Builder) (fs gs : List Frame) : Type 0 where
+pub record IsClosing (es : List Setting) (at : ℕ) (old new : Builder) (fs gs : List Frame) : Type 0 where
   pub nodes : IsOpen es new gs
   pub closed : IsClosed fs gs
   pub within : at ≤ new.top.end
@@ -122,20 +122,20 @@ pub record IsClosing (es : List Entry) (at : ℕ) (old new : Builder) (fs gs : L
   pub path : new.path ≡ old.path
 
 -- closed up to so many bytes
-pub record IsClosedTo (es : List Entry) (at : ℕ) (old new : Builder) (fs gs : List Frame) : Type 0 where
+pub record IsClosedTo (es : List Setting) (at : ℕ) (old new : Builder) (fs gs : List Frame) : Type 0 where
   pub nodes : IsOpen es new gs
   pub closed : IsClosed fs gs
   pub end : new.top.end ≡ at
   pub path : new.path ≡ old.path
 
 -- so many of the entries are added
-pub record IsBuilt (es : List Entry) (n : ℕ) (b : Builder) (fs : List Frame) : Type 0 where
+pub record IsBuilt (es : List Setting) (n : ℕ) (b : Builder) (fs : List Frame) : Type 0 where
   pub nodes : IsOpen es b fs
   pub forked : IsForkedTop fs
   pub path : b.path.now ≡ full_path fs
   pub values : spine_values fs ≡ map placed (take n es)
   -- the path is the pattern of the last of them
-  pub last : (before : List Entry) (d : Entry) → take n es ≡ before ++ d ∷ [] → full_path fs ≡ d.pattern.now
+  pub last : (before : List Setting) (d : Setting) → take n es ≡ before ++ d ∷ [] → full_path fs ≡ d.pattern.now
   pub none : take n es ≡ [] → full_path fs ≡ []
   pub fresh : lowest_done fs ≡ []
   pub counted : b.top.node.first + b.top.node.count ≡ n
@@ -146,7 +146,7 @@ pub record MeetAt (n : ℕ) (xs ys : List ℕ) : Type 0 where
   pub apart : n < length xs → n < length ys → get_or xs n 0 ≢ get_or ys n 0
 
 -- the open node with one more child
-abbrev pub one_more : Open → Open
+abbrev pub one_more : OpenBranch → OpenBranch
 one_more o = record {
   node = record { byte = o.node.byte; prefix = o.node.prefix; first = o.node.first; count = o.node.count; children = o.node.children + 1 };
   end = o.end;
@@ -155,11 +155,11 @@ one_more o = record {
 -- the top node is closed
 pub record Closes (old new : Builder) : Type 0 where
   pub closed : new.closed.items ≡ old.closed.items ++ old.top.node ∷ []
-  pub parent : (above : List Open) (g : Open) → old.above.items ≡ above ++ g ∷ [] → (new.above.items ≡ above) × (new.top ≡ one_more g)
+  pub parent : (above : List OpenBranch) (g : OpenBranch) → old.above.items ≡ above ++ g ∷ [] → (new.above.items ≡ above) × (new.top ≡ one_more g)
   pub path : new.path ≡ old.path
 
 -- a cut node: its byte, what comes after it, and the values and children of the whole
-pub record IsBack (front : ℕ) (whole back : Node) : Type 0 where
+pub record IsBack (front : ℕ) (whole back : BuiltNode) : Type 0 where
   pub byte : back.byte ≡ get_or whole.prefix.now front 0
   pub prefix : back.prefix.now ≡ drop (front + 1) whole.prefix.now
   pub first : back.first ≡ whole.first
@@ -167,7 +167,7 @@ pub record IsBack (front : ℕ) (whole back : Node) : Type 0 where
   pub children : back.children ≡ whole.children
 
 -- what is left of it: what is before the byte, without a value, with one child
-pub record IsFront (front : ℕ) (whole left : Node) : Type 0 where
+pub record IsFront (front : ℕ) (whole left : BuiltNode) : Type 0 where
   pub byte : left.byte ≡ whole.byte
   pub prefix : left.prefix.now ≡ take front whole.prefix.now
   pub first : left.first ≡ 0
@@ -176,7 +176,7 @@ pub record IsFront (front : ℕ) (whole left : Node) : Type 0 where
 
 -- the top node is cut after so many bytes of its path
 pub record Cuts (at : ℕ) (old new : Builder) : Type 0 where
-  pub back : Node
+  pub back : BuiltNode
   pub closed : new.closed.items ≡ old.closed.items ++ back ∷ []
   pub is_back : IsBack (length old.top.node.prefix.now - (old.top.end - at)) old.top.node back
   pub is_front : IsFront (length old.top.node.prefix.now - (old.top.end - at)) old.top.node new.top.node
@@ -209,14 +209,14 @@ pub record Counts (old new : Builder) : Type 0 where
   pub children : new.top.node.children ≡ old.top.node.children
 
 -- what comes next: an entry after so many, in order, that can be stored
-pub record IsNext (es : List Entry) (n : ℕ) (e : Entry) : Type 0 where
+pub record IsNext (es : List Setting) (n : ℕ) (e : Setting) : Type 0 where
   pub in_range : n < length es
   pub taken : take (n + 1) es ≡ take n es ++ e ∷ []
   pub storable : IsStorableEntry e
-  pub above : (before : List Entry) (d : Entry) → take n es ≡ before ++ d ∷ [] → by_place d e ≡ Less
+  pub above : (before : List Setting) (d : Setting) → take n es ≡ before ++ d ∷ [] → by_place d e ≡ Less
 
 -- the nodes are those of a tree that can be stored, with the values of the frames
-pub record IsFinished (es : List Entry) (fs : List Frame) (nodes : List Node) : Type 0 where
+pub record IsFinished (es : List Setting) (fs : List Frame) (nodes : List BuiltNode) : Type 0 where
   pub order : IsPostOrder es nodes
   pub sound : IsSound (tree_of es nodes)
   pub values : values_under [] (tree_of es nodes) ≡ spine_values fs

@@ -8,8 +8,8 @@ use Rattle.hwdb_spec.specs.Written.{padding, table_of, text_size, section_of, pl
 use Rattle.hwdb_writer.specs.Internal.Narrow.{IsNarrow}
 use Rattle.hwdb_writer.specs.Internal.PostOrder.{IsPostOrder, tree_of, values_at}
 use Rattle.hwdb_writer.specs.Internal.Storable.{IsSound}
-use Rattle.hwdb_writer.specs.declared.entries.Entry.{Entry}
-use Rattle.hwdb_writer.specs.declared.nodes.Node.{Node}
+use Rattle.hwdb_writer.specs.declared.entries.Setting.{Setting}
+use Rattle.hwdb_writer.specs.declared.nodes.BuiltNode.{BuiltNode}
 use Rattle.hwdb_writer.specs.declared.stored.Stored.{Stored}
 use Rattle.hwdb_writer.specs.declared.stored.StoredNode.{StoredNode}
 use Rattle.hwdb_writer.specs.declared.stored.StoredValue.{StoredValue}
@@ -40,28 +40,28 @@ abbrev pub AreValues : (ℕ → List ℕ → Type 0) → List StoredValue → Li
 AreValues By = AllZip (IsValue By)
 
 -- a stored node is this node
-pub record IsNode (By : ℕ → List ℕ → Type 0) (s : StoredNode) (n : Node) : Type 0 where
+pub record IsNode (By : ℕ → List ℕ → Type 0) (s : StoredNode) (n : BuiltNode) : Type 0 where
   pub prefix : By s.prefix n.prefix.now
   pub byte : s.byte ≡ n.byte
   pub count : s.count ≡ n.count
   pub children : s.children ≡ n.children
 
-abbrev pub AreNodes : (ℕ → List ℕ → Type 0) → List StoredNode → List Node → Type 0
+abbrev pub AreNodes : (ℕ → List ℕ → Type 0) → List StoredNode → List BuiltNode → Type 0
 AreNodes By = AllZip (IsNode By)
 
 -- the values of the nodes, one node's after another's
-abbrev pub all_values : List Entry → List Node → List Value
+abbrev pub all_values : List Setting → List BuiltNode → List Value
 all_values es ns = flat_map (values_at es) ns
 
 -- the nodes and values of entries, and their strings
-pub record IsStored (es : List Entry) (ns : List Node) (s : Stored) : Type 0 where
+pub record IsStored (es : List Setting) (ns : List BuiltNode) (s : Stored) : Type 0 where
   pub order : IsPostOrder es ns
   pub nodes : AreNodes (IsUnder s.interner.words.items) s.nodes.items ns
   pub values : AreValues (IsUnder s.interner.words.items) s.values.items (all_values es ns)
   pub strings : ascending s.interner.words.items ≡ table_of (tree_of es ns)
 
 -- what the records of entries are made of
-pub record AreRecords (place : List ℕ → ℕ) (places : List ℕ) (es : List Entry) (ns : List Node) (ss : List StoredNode) (vs : List StoredValue) : Type 0 where
+pub record AreRecords (place : List ℕ → ℕ) (places : List ℕ) (es : List Setting) (ns : List BuiltNode) (ss : List StoredNode) (vs : List StoredValue) : Type 0 where
   pub order : IsPostOrder es ns
   pub narrow : IsNarrow (tree_of es ns)
   pub nodes : AreNodes (IsAt place places) ss ns
@@ -73,7 +73,7 @@ record_text place prefix children values entries xs =
     little_bytes 8 prefix ++ children ∷ padding 7 ++ little_bytes 8 values ++ entries ++ flat_map (value_text place) xs
 
 -- what a database is made of
-pub record IsLaidOut (es : List Entry) (ns : List Node) (ss : List StoredNode) (vs : List StoredValue) (words : List (List ℕ)) (places : List ℕ) (size section : ℕ) : Type 0 where
+pub record IsLaidOut (es : List Setting) (ns : List BuiltNode) (ss : List StoredNode) (vs : List StoredValue) (words : List (List ℕ)) (places : List ℕ) (size section : ℕ) : Type 0 where
   pub records : AreRecords (place_of (80 + size) words) places es ns ss vs
   pub ordered : words ≡ table_of (tree_of es ns)
   pub sized : size ≡ text_size (tree_of es ns)

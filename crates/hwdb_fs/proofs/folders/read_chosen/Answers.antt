@@ -6,7 +6,7 @@ use Rattle.hwdb_text.specs.declared.choice.Chosen.{Chosen}
 use Rattle.hwdb_text.specs.Views.{choice_of}
 use Rattle.hwdb_fs.specs.Reading.{IsChosenUnread, IsFirstUnread, IsText}
 use Rattle.hwdb_fs.specs.declared.refusals.Refusal.TheVariants.{Plain}
-use Rattle.hwdb_transfer.specs.declared.errors.ToolError.TheVariants.{Memory}
+use Rattle.hwdb_print.specs.declared.errors.ToolError.TheVariants.{Memory}
 use Rattle.hwdb_fs.proofs.SelectionLemmas.{chosen_unread, first_unread, given_error, texts_more}
 use Rattle.hwdb_fs.proofs.folders.read_chosen.Goals as goal
 

@@ -5,7 +5,7 @@ use Rattle.hwdb_reader.specs.Views.{children_of, tree_of, node_count}
 use Rattle.hwdb_inspect.specs.Views.{assignment_of}
 use Rattle.hwdb_query.specs.Internal.Members.{own_members, members_in}
 use Rattle.hwdb_inspect.specs.Internal.Walks.{to_come, left, deepest_to_come, Opened}
-use Rattle.hwdb_inspect.specs.declared.walk.Open.{Open}
+use Rattle.hwdb_inspect.specs.declared.walk.OpenVisit.{OpenVisit}
 use Rattle.hwdb_inspect.proofs.PartLemmas.{members_split, node_and_below}
 use Rattle.hwdb_inspect.proofs.DepthLemmas.{opened_deepest, depth_and_below, nodes_same}
 use Rattle.hwdb_inspect.proofs.WalkLemmas.{opened_comes, opened_stands, opened_left}
@@ -29,7 +29,7 @@ loop-top-init c =
     let counted = c.in_ok-enter.ensures.counted in
     let start = c.new-walk.ensures.entered in
     let deepest : c.enter.new.self.deepest ≡ max 0 1 =
-    c.in_ok-enter.ensures.deepest ∙ ap (λ (g : ℕ × List Open). max g.0 (length g.1 + 1)) (λ i. (c.new-walk.ensures.deepest i, c.new-walk.ensures.stack i)) in
+    c.in_ok-enter.ensures.deepest ∙ ap (λ (g : ℕ × List OpenVisit). max g.0 (length g.1 + 1)) (λ i. (c.new-walk.ensures.deepest i, c.new-walk.ensures.stack i)) in
     let opened_deep = opened_deepest [] c.enter.new.self.stack.items tree (length path) opened in
     let below = depth_and_below tree in
     let one : length c.enter.new.self.stack.items ≡ 1 = ap length opened.stands in
@@ -50,7 +50,7 @@ ended c =
 
 pub returns-clause-nodes : goal.returns-clause-nodes
 returns-clause-nodes c =
-    let none : left (reverse c.loop-top.walk.stack.items) ≡ 0 = ap (λ (b : List Open). left (reverse b)) (ended c) in
+    let none : left (reverse c.loop-top.walk.stack.items) ≡ 0 = ap (λ (b : List OpenVisit). left (reverse b)) (ended c) in
     let counted = c.loop-top.invariant.counted in
     let all = nodes_same c.args.db.now in
     let read = c.count.ensures in
@@ -58,6 +58,6 @@ returns-clause-nodes c =
 
 pub returns-clause-depth : goal.returns-clause-depth
 returns-clause-depth c =
-    let none : deepest_to_come (reverse c.loop-top.walk.stack.items) ≡ 0 = ap (λ (b : List Open). deepest_to_come (reverse b)) (ended c) in
+    let none : deepest_to_come (reverse c.loop-top.walk.stack.items) ≡ 0 = ap (λ (b : List OpenVisit). deepest_to_come (reverse b)) (ended c) in
     let deepest = c.loop-top.invariant.deepest in
     omega (arith, none, deepest)

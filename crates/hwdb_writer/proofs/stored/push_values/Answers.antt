@@ -3,7 +3,7 @@ use Rattle.std.proofs.lemmas.List.{get_or_default, map_more, take_all}
 use Rattle.hwdb_spec.specs.Written.{strings_of_value}
 use Rattle.hwdb_writer.specs.Internal.Entries.{value_of}
 use Rattle.hwdb_writer.specs.Internal.Stored.{IsUnder, AreValues}
-use Rattle.hwdb_writer.specs.declared.entries.Entry.{Entry}
+use Rattle.hwdb_writer.specs.declared.entries.Setting.{Setting}
 use Rattle.hwdb_writer.proofs.EmissionLemmas.{one_left, none_left, value_strings, value_strings-cons}
 use Rattle.hwdb_writer.proofs.MembershipLemmas.{same_refl, same_step, same_done}
 use Rattle.hwdb_writer.proofs.StoredLemmas.{grows_itself, none_behind}
@@ -24,7 +24,7 @@ loop-entry-preserved c =
     record {
       grows = λ n s u. c.in_ok-push_value.ensures.grows n s (c.loop-entry.invariant.grows n s u);
       members = same_step _ _ (strings_of_value (value_of e)) _ _ _ c.in_ok-push_value.ensures.members
-          (one_left value_strings (λ (s : Entry). strings_of_value (value_of s)) value_strings-cons es i e (get_or_default es i _ e c.loop-entry-test.true) c.loop-entry-test.true) c.loop-entry.invariant.members;
+          (one_left value_strings (λ (s : Setting). strings_of_value (value_of s)) value_strings-cons es i e (get_or_default es i _ e c.loop-entry-test.true) c.loop-entry-test.true) c.loop-entry.invariant.members;
       values = λ xs p.
           subst (AreValues (IsUnder c.push_value.new.interner.words.items) c.push_value.new.out.items)
           (append_assoc xs (map value_of (take i es)) (value_of e ∷ []) ∙ ap (λ l. xs ++ l) (sym (map_more value_of es i _ c.loop-entry-test.true)))
@@ -39,5 +39,5 @@ returns-clause-members c = same_done _ _ _ (none_left value_strings refl c.args.
 
 pub returns-clause-values : goal.returns-clause-values
 returns-clause-values c xs p =
-    let P : List Entry → Type 0 = λ l. AreValues (IsUnder c.loop-entry.interner.words.items) c.loop-entry.out.items (xs ++ map value_of l) in
+    let P : List Setting → Type 0 = λ l. AreValues (IsUnder c.loop-entry.interner.words.items) c.loop-entry.out.items (xs ++ map value_of l) in
     subst P (take_all c.loop-entry.entry-index c.args.entries.now c.loop-entry-test.false) (c.loop-entry.invariant.values xs p)

@@ -5,8 +5,8 @@ use Rattle.hwdb_writer.specs.Internal.PostOrder.{children_in, tree_of}
 use Rattle.hwdb_writer.specs.Internal.Entries.{value_of}
 use Rattle.hwdb_writer.specs.Internal.Membership.{SameMembers}
 use Rattle.hwdb_writer.specs.Internal.Stored.{IsUnder, IsNode, AreNodes, AreValues, all_values}
-use Rattle.hwdb_writer.specs.declared.nodes.Node.{Node}
-use Rattle.hwdb_writer.specs.declared.entries.Entry.{Entry}
+use Rattle.hwdb_writer.specs.declared.nodes.BuiltNode.{BuiltNode}
+use Rattle.hwdb_writer.specs.declared.entries.Setting.{Setting}
 use Rattle.hwdb_writer.specs.declared.stored.StoredNode.{StoredNode}
 use Rattle.hwdb_writer.specs.declared.stored.StoredValue.{StoredValue}
 use Rattle.hwdb_writer.proofs.EmissionLemmas.{strings_begin, strings_step, strings_end, trees_at, in_range, no_node, cut_out}
@@ -43,14 +43,14 @@ loop-node-preserved c =
       count = refl;
       children = refl;
     } in
-    let N : List StoredNode → List Node → Type 0 = AreNodes (IsUnder words) in
+    let N : List StoredNode → List BuiltNode → Type 0 = AreNodes (IsUnder words) in
     let kept = values_by (IsUnder before) (IsUnder between) c.in_ok-prefix.ensures.grows c.loop-node.values.items (all_values es (take i ns)) c.loop-node.invariant.values in
     record {
       members = strings_step es ns c.requires i _ lt ([] ∷ []) before between words c.loop-node.invariant.members _ c.new-in-loop-node.ensures c.in_ok-prefix.ensures.members _
           (cut_out es ns c.requires i _ lt) c.in_ok-push_values.ensures.members;
       nodes = subst (λ l. N l (take (i + 1) ns)) (sym c.in_ok-push.ensures.items) (subst (N _) (sym (one_more ns i no_node lt)) (pairs_one (IsNode (IsUnder words)) c.loop-node.stored.items (take i ns) _ n grown own));
       values = subst (AreValues (IsUnder words) c.push_values.new.out.items)
-          (ap (λ (l : List Entry). all_values es (take i ns) ++ map value_of l) (cut_out es ns c.requires i no_node lt) ∙ sym (values_more es ns i no_node lt))
+          (ap (λ (l : List Setting). all_values es (take i ns) ++ map value_of l) (cut_out es ns c.requires i no_node lt) ∙ sym (values_more es ns i no_node lt))
           (c.in_ok-push_values.ensures.values (all_values es (take i ns)) kept);
     }
 
@@ -73,6 +73,6 @@ returns c =
     record {
       order = c.requires;
       nodes = subst (AreNodes (IsUnder words) c.loop-node.stored.items) all c.loop-node.invariant.nodes;
-      values = subst (λ (l : List Node). AreValues (IsUnder words) c.loop-node.values.items (all_values es l)) all c.loop-node.invariant.values;
+      values = subst (λ (l : List BuiltNode). AreValues (IsUnder words) c.loop-node.values.items (all_values es l)) all c.loop-node.invariant.values;
       strings = collected words ([] ∷ []) (strings_of (tree_of es ns)) refl (subst S (strings_end es ns c.requires c.loop-node.node-index c.loop-node-test.false) c.loop-node.invariant.members);
     }

@@ -5,7 +5,7 @@ use Rattle.hwdb_spec.specs.Answers.{is_wanted}
 use Rattle.hwdb_reader.specs.Views.{tree_of}
 use Rattle.hwdb_query.specs.Internal.Members.{own_members}
 use Rattle.hwdb_query.specs.Internal.Descents.{to_come, live_to_come, StandsOn, Opened}
-use Rattle.hwdb_query.specs.declared.descent.Open.{Open}
+use Rattle.hwdb_query.specs.declared.descent.OpenNode.{OpenNode}
 use Rattle.hwdb_query.proofs.StepLemmas.{live_is, dead_is}
 use Rattle.hwdb_query.proofs.DeadPathLemmas.{dead_path}
 use Rattle.hwdb_query.proofs.StackLemmas.{root_path, root_collected, root_live, root_left, root_lost, root_dead, opened_stands}
@@ -22,7 +22,7 @@ returns-then-not-is_alive-clause-collected g c =
     let lost = dead_is c.in_ok-reach.reach.device path _ c.if-not-is_alive.true (c.is_alive.ensures path stands) in
     let dead = dead_path device (prefix_of tree) c.path_laws.ensures.matched c.path_laws.ensures.live c.path_laws.ensures.longer c.path_laws.ensures.below
     (subst (λ (g : List ℕ × List ℕ). IsLive g.0 g.1 → ⊥) (λ i. (is i, dev i)) lost) in
-    λ end rest. root_lost g.C.Collector.collects device tree c.args.into.now end dead (subst (λ (b : List Open). g.C.Collector.collects c.args.into.now (to_come device path (reverse b)) end) c.requires.stack rest)
+    λ end rest. root_lost g.C.Collector.collects device tree c.args.into.now end dead (subst (λ (b : List OpenNode). g.C.Collector.collects c.args.into.now (to_come device path (reverse b)) end) c.requires.stack rest)
 
 pub returns-then-not-is_alive-clause-counted : goal.returns-then-not-is_alive-clause-counted
 returns-then-not-is_alive-clause-counted g c =
@@ -37,7 +37,7 @@ returns-then-not-is_alive-clause-counted g c =
     (subst (λ (g : List ℕ × List ℕ). IsLive g.0 g.1 → ⊥) (λ i. (is i, dev i)) lost) in
     let none = root_dead device tree dead in
     let start = c.requires.entered in
-    let nothing : live_to_come device path (reverse c.args.self.now.stack.items) ≡ 0 = ap (λ (b : List Open). live_to_come device path (reverse b)) c.requires.stack in
+    let nothing : live_to_come device path (reverse c.args.self.now.stack.items) ≡ 0 = ap (λ (b : List OpenNode). live_to_come device path (reverse b)) c.requires.stack in
     let goal_is : c.args.self.now.entered + live_to_come device path (reverse c.args.self.now.stack.items) ≡ live_under device [] tree = omega (arith, none, start, nothing) in
     goal_is
 

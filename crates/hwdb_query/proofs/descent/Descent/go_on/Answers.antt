@@ -3,7 +3,7 @@ use Rattle.hwdb_spec.specs.Tree.{values_of}
 use Rattle.hwdb_spec.specs.Answers.{is_wanted}
 use Rattle.hwdb_query.specs.Internal.Members.{own_members}
 use Rattle.hwdb_query.specs.Internal.Descents.{device_of, kids_of, to_come, live_to_come, left, steps, StandsOn, IsNext, Opened, child_of}
-use Rattle.hwdb_query.specs.declared.descent.Open.{Open}
+use Rattle.hwdb_query.specs.declared.descent.OpenNode.{OpenNode}
 use Rattle.hwdb_query.proofs.StackLemmas.{popped, last_set, reversed, some_left, child_stands, child_collected_on, child_live, child_left, child_steps, done_comes, done_live, done_left, done_steps}
 use Rattle.hwdb_query.proofs.descent.Descent.go_on.Goals as goal
 
@@ -182,7 +182,7 @@ returns-in_default-clause-stands g c =
     let found = subst (IsNext device (take top.length path) (kids_of top) (kids_of gone) c.next_live.new.path.items) c.in_default.is c.in_ok-found.ensures.found in
     let rest : c.pop.new.self.items ≡ before = popped items i gone last c.args.self.now.stack.len (let ok = c.args.self.now.stack.ok in omega (arith, ok)) c.pop.new.self.items c.pop.ensures.rest in
     subst (λ l. StandsOn (device_of l) c.next_live.new.path.items (reverse c.pop.new.self.items)) (sym rev)
-    (subst (λ (g : List ℕ × List Open). StandsOn device g.0 (reverse g.1)) (λ j. (sym found.1 j, sym rest j)) stands.1)
+    (subst (λ (g : List ℕ × List OpenNode). StandsOn device g.0 (reverse g.1)) (λ j. (sym found.1 j, sym rest j)) stands.1)
 
 pub returns-in_default-clause-collected : goal.returns-in_default-clause-collected
 returns-in_default-clause-collected g c =
@@ -202,7 +202,7 @@ returns-in_default-clause-collected g c =
     let rest : c.pop.new.self.items ≡ before = popped items i gone last c.args.self.now.stack.len (let ok = c.args.self.now.stack.ok in omega (arith, ok)) c.pop.new.self.items c.pop.ensures.rest in
     λ end more. subst (λ l. g.C.Collector.collects c.args.into.now (to_come (device_of l) path l) end) (sym rev)
     (subst (λ l. g.C.Collector.collects c.args.into.now l end) (sym (done_comes device path top (reverse before) found.0))
-    (subst (λ (w : List ℕ × List Open). g.C.Collector.collects c.args.into.now (to_come device w.0 (reverse w.1)) end) (λ j. (found.1 j, rest j))
+    (subst (λ (w : List ℕ × List OpenNode). g.C.Collector.collects c.args.into.now (to_come device w.0 (reverse w.1)) end) (λ j. (found.1 j, rest j))
     (subst (λ l. g.C.Collector.collects c.args.into.now (to_come (device_of l) c.next_live.new.path.items (reverse c.pop.new.self.items)) end) rev more)))
 
 pub returns-in_default-clause-counted : goal.returns-in_default-clause-counted
@@ -225,7 +225,7 @@ returns-in_default-clause-counted g c =
     let done = done_live device path top (reverse before) found.0 in
     let same : live_to_come (device_of (reverse items)) c.next_live.new.path.items (reverse c.pop.new.self.items) ≡ live_to_come device (take top.length path) (reverse before) =
     ap (λ l. live_to_come (device_of l) c.next_live.new.path.items (reverse c.pop.new.self.items)) rev
-    ∙ ap (λ (g : List ℕ × List Open). live_to_come device g.0 (reverse g.1)) (λ j. (found.1 j, rest j)) in
+    ∙ ap (λ (g : List ℕ × List OpenNode). live_to_come device g.0 (reverse g.1)) (λ j. (found.1 j, rest j)) in
     omega (arith, old, done, same)
 
 pub returns-in_default-clause-room : goal.returns-in_default-clause-room
@@ -245,7 +245,7 @@ returns-in_default-clause-room g c =
     let found = subst (IsNext device (take top.length path) (kids_of top) (kids_of gone) c.next_live.new.path.items) c.in_default.is c.in_ok-found.ensures.found in
     let rest : c.pop.new.self.items ≡ before = popped items i gone last c.args.self.now.stack.len (let ok = c.args.self.now.stack.ok in omega (arith, ok)) c.pop.new.self.items c.pop.ensures.rest in
     let old : left (reverse items) ≡ left (top ∷ reverse before) = ap left rev in
-    let same : left (reverse c.pop.new.self.items) ≡ left (reverse before) = ap (λ (l : List Open). left (reverse l)) rest in
+    let same : left (reverse c.pop.new.self.items) ≡ left (reverse before) = ap (λ (l : List OpenNode). left (reverse l)) rest in
     let less : left (reverse before) ≤ left (top ∷ reverse before) = done_left top (reverse before) in
     omega (arith, old, same, less)
 
@@ -266,6 +266,6 @@ returns-in_default-clause-fewer g c =
     let found = subst (IsNext device (take top.length path) (kids_of top) (kids_of gone) c.next_live.new.path.items) c.in_default.is c.in_ok-found.ensures.found in
     let rest : c.pop.new.self.items ≡ before = popped items i gone last c.args.self.now.stack.len (let ok = c.args.self.now.stack.ok in omega (arith, ok)) c.pop.new.self.items c.pop.ensures.rest in
     let old : steps (reverse items) ≡ steps (top ∷ reverse before) = ap steps rev in
-    let same : steps (reverse c.pop.new.self.items) ≡ steps (reverse before) = ap (λ (l : List Open). steps (reverse l)) rest in
+    let same : steps (reverse c.pop.new.self.items) ≡ steps (reverse before) = ap (λ (l : List OpenNode). steps (reverse l)) rest in
     let less : steps (reverse before) < steps (top ∷ reverse before) = done_steps top (reverse before) in
     omega (arith, old, same, less)

@@ -1,0 +1,132 @@
+-- What the proofs of this crate speak of: forms and languages as they are computed, from the left to the right.
+use Rattle.std.specs.Prelude.{ℕ, Bool, false, true, List, [], ◌∷◌, IsTrue, ◌≡◌, ◌⊎◌, if◌then◌else◌, drop, length, map, suc, zero}
+use Rattle.std.proofs.Common.{Bor}
+use Rattle.hwdb_spec.specs.Patterns.{Token, admits_byte, Matches, token_at}
+use Rattle.hwdb_spec.specs.Forms.{Piece, Form, fixed, counted, repeated, is_in, is_star}
+use Rattle.hwdb_spec.specs.Forms
+use Rattle.hwdb_spec.specs.declared.ByteSet.{ByteSet}
+use Rattle.hwdb_spec.specs.declared.ByteSet.TheVariants.{Only}
+use Rattle.hwdb_forms.specs.declared.pieces.Piece.TheVariants.{Fixed, Counted, Repeated}
+use Rattle.hwdb_forms.specs.declared.pieces.Piece
+use Rattle.hwdb_forms.specs.declared.pieces.Form
+use Rattle.hwdb_forms.specs.declared.leads.Passed.TheVariants.{No, Unknown, Yes}
+use Rattle.hwdb_forms.specs.declared.leads.Passed.{Passed}
+use Rattle.hwdb_forms.specs.declared.leads.Lead.{Lead}
+
+-- what a piece of Rust's stands for, and a form
+abbrev pub piece_of : Piece.Piece → Forms.Piece
+piece_of (Fixed bytes) = fixed bytes.now
+piece_of (Counted set n) = counted set n
+piece_of (Repeated set) = repeated set
+
+abbrev pub form_of : Form.Form → Forms.Form
+form_of f = record { prefix = f.prefix.now; fields = map (λ field. map (λ way. map piece_of way.now) field.now) f.fields.now }
+
+-- the tokens that the texts begin with
+abbrev pub views : List (Bor (List ℕ)) → List Token
+views texts = map (λ text. token_at text.now) texts
+
+-- whether a token takes a byte; a star takes any
+abbrev pub takes : Token → ℕ → Bool
+takes token b = if is_star token then true else admits_byte token b
+
+-- whether a byte is in a set, and a token admits it
+abbrev pub takes_of_set : Token → ByteSet → ℕ → Bool
+takes_of_set token set b = if is_in set b then admits_byte token b else false
+
+-- a byte of the set, then what is told
+abbrev pub ByteThen : ByteSet → (List ℕ → Type 0) → List ℕ → Type 0
+ByteThen set Behind [] = ⊥
+ByteThen set Behind (b ∷ rest) = IsTrue (is_in set b) × Behind rest
+
+-- any number of bytes of the set, also none, then what is told
+abbrev pub ManyThen : ByteSet → (List ℕ → Type 0) → List ℕ → Type 0
+ManyThen set Behind [] = Behind []
+ManyThen set Behind (b ∷ rest) = Behind (b ∷ rest) ⊎ (IsTrue (is_in set b) × ManyThen set Behind rest)
+
+-- these bytes, then what is told
+abbrev pub FixedThen : List ℕ → (List ℕ → Type 0) → List ℕ → Type 0
+FixedThen [] Behind text = Behind text
+FixedThen (own ∷ more) Behind text = ByteThen (Only own) (FixedThen more Behind) text
+
+-- so many bytes of the set, then what is told
+abbrev pub CountedThen : ByteSet → ℕ → (List ℕ → Type 0) → List ℕ → Type 0
+CountedThen set zero Behind text = Behind text
+CountedThen set (suc n) Behind text = ByteThen set (CountedThen set n Behind) text
+
+abbrev pub PieceThen : Forms.Piece → (List ℕ → Type 0) → List ℕ → Type 0
+PieceThen (fixed bytes) Behind text = FixedThen bytes Behind text
+PieceThen (counted set n) Behind text = CountedThen set n Behind text
+PieceThen (repeated set) Behind text = ManyThen set Behind text
+
+-- the pieces in order, then what is told
+abbrev pub PiecesThen : List Forms.Piece → (List ℕ → Type 0) → List ℕ → Type 0
+PiecesThen [] Behind text = Behind text
+PiecesThen (piece ∷ more) Behind text = PieceThen piece (PiecesThen more Behind) text
+
+-- one of several ways, then what is told
+abbrev pub FieldThen : List (List Forms.Piece) → (List ℕ → Type 0) → List ℕ → Type 0
+FieldThen [] Behind text = ⊥
+FieldThen (way ∷ more) Behind text = PiecesThen way Behind text ⊎ FieldThen more Behind text
+
+-- fields in order, to the text's end
+abbrev pub Fields : List (List (List Forms.Piece)) → List ℕ → Type 0
+Fields [] text = text ≡ []
+Fields (field ∷ more) text = FieldThen field (Fields more) text
+
+abbrev pub Fits : Forms.Form → List ℕ → Type 0
+Fits form text = FixedThen form.prefix (Fields form.fields) text
+
+-- some text that is as told is matched
+abbrev pub IsMet : (List ℕ → Type 0) → List Token → Type 0
+IsMet Told ts = (text : List ℕ) × Told text × Matches ts text
+
+-- what the fields of Rust's stand for
+abbrev pub fields_of : List (Bor (List (Bor (List Piece.Piece)))) → List (List (List Forms.Piece))
+fields_of fields = map (λ field. map (λ way. map piece_of way.now) field.now) fields
+
+-- whether tokens begin as some bytes do
+abbrev pub passed_fixed : List ℕ → List Token → Passed
+passed_fixed [] ts = Yes
+passed_fixed (b ∷ bytes) [] = Unknown
+passed_fixed (b ∷ bytes) (t ∷ ts) =
+    if is_star t then Unknown else (if Forms.meets t (Only b) then passed_fixed bytes ts else No)
+
+-- the same of so many bytes of a set
+abbrev pub passed_counted : ByteSet → ℕ → List Token → Passed
+passed_counted set zero ts = Yes
+passed_counted set (suc n) [] = Unknown
+passed_counted set (suc n) (t ∷ ts) =
+    if is_star t then Unknown else (if Forms.meets t set then passed_counted set n ts else No)
+
+-- the same of a piece
+abbrev pub passed : Forms.Piece → List Token → Passed
+passed (fixed bytes) ts = passed_fixed bytes ts
+passed (counted set n) ts = passed_counted set n ts
+passed (repeated set) ts = Unknown
+
+-- how many bytes a piece has, if each of its texts has as many
+abbrev pub piece_size : Forms.Piece → ℕ
+piece_size (fixed bytes) = length bytes
+piece_size (counted set n) = n
+piece_size (repeated set) = 0
+
+abbrev pub is_no : Passed → Bool
+is_no No = true
+is_no Unknown = false
+is_no Yes = false
+
+-- rows for each list of tokens: without its first cell a row is that of the tokens without their first one
+abbrev pub IsFamily : (List Token → List Bool) → Type 0
+IsFamily rows = (t : Token) (ts : List Token) → Forms.tail (rows (t ∷ ts)) ≡ rows ts
+
+-- What is found of the way in which tokens begin as some pieces, whatever comes after the pieces.
+abbrev pub Leads : List Forms.Piece → List Token → Lead → Type 0
+Leads ps ts lead =
+    (rows : List Token → List Bool) → IsFamily rows
+    → Forms.head (Forms.pieces_row ps ts (rows ts))
+    ≡ (if lead.is_dead then false else Forms.head (Forms.pieces_row (drop lead.pieces ps) (drop lead.tokens ts) (rows (drop lead.tokens ts))))
+
+-- whether tokens match pieces in order, and then some text of the fields
+abbrev pub way_met : List Forms.Piece → List (List (List Forms.Piece)) → List Token → Bool
+way_met ps fields ts = Forms.head (Forms.pieces_row ps ts (Forms.fields_row fields ts))

@@ -1,0 +1,25 @@
+-- What the laws say.
+use Rattle.std.specs.Prelude.{ℕ, List, [], ◌∷◌, ◌↔◌, ◌<◌, ◌≤◌, IsTrue, ⊤, length, take}
+use Rattle.hwdb_spec.specs.Patterns.{Token}
+use Rattle.hwdb_spec.specs.Forms.{CanBegin, CanMatch, Form, HasForm, can_begin, can_match, front_length}
+use Rattle.hwdb_spec.specs.FormTable.{Known}
+
+-- the test that computes is true exactly if some text of one of the forms is matched
+abbrev pub FormsAreTested : Type 0
+FormsAreTested = (forms : List Form) (ts : List Token) → IsTrue (can_match forms ts) ↔ CanMatch forms ts
+
+-- the same of a text that begins with what is matched
+abbrev pub FrontsAreTested : Type 0
+FrontsAreTested = (forms : List Form) (ts : List Token) → IsTrue (can_begin forms ts) ↔ CanBegin forms ts
+
+-- each example has its form
+abbrev pub EachFits : List Known → Type 0
+EachFits [] = ⊤
+EachFits (k ∷ more) = HasForm k.form k.example × EachFits more
+
+-- a text of one of the forms begins with the front that is found, if it isn't empty, and with no longer one
+abbrev pub FrontsAreLongest : Type 0
+FrontsAreLongest =
+    (forms : List Form) (ts : List Token)
+    → (0 < front_length forms ts → CanBegin forms (take (front_length forms ts) ts))
+    × ((n : ℕ) → n ≤ length ts → CanBegin forms (take n ts) → n ≤ front_length forms ts)

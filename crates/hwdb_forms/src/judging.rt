@@ -1,0 +1,133 @@
+//! What is said of a pattern.
+ghost use Rattle.std.specs.Prelude.{◌≡◌, ◌↔◌, ◌≤◌, ◌++◌, ◌∷◌, [], length, map, take, IfOk};
+ghost use Rattle.hwdb_spec.specs.Patterns.{star, tokens as tokens_of};
+ghost use Rattle.hwdb_spec.specs.Forms.{CanMatch, judged};
+ghost use Rattle.hwdb_spec.specs.Forms;
+ghost use Rattle.hwdb_spec.specs.FormTable;
+ghost use Rattle.hwdb_forms.specs.Internal.{form_of, views};
+
+use crate::pieces::Form;
+use crate::rows::meets_form;
+use crate::table::{free, free_prefixes, known};
+use hwdb_pattern::{front_size, token_texts};
+use hwdb_spec::Judgement;
+use std::alloc::{AllocError, Global};
+
+/// Whether the tokens match a text of one of these forms.
+fn match_one(alloc: Global, forms: &[Form], tokens: &[&[u8]]) -> Result<bool, AllocError>
+    ensures { IfOk result (λ met. met ≡ Forms.can_match (map form_of forms.now) (views tokens.now)) }
+{
+    for form in forms {
+        if meets_form(alloc, *form, tokens)? {
+            return Ok(true);
+        }
+    }
+    Ok(false)
+}
+
+/// Whether the tokens match a text of a form of which only the prefix is said.
+fn match_free(
+    alloc: Global,
+    prefixes: &[&'static [u8]],
+    tokens: &[&[u8]],
+) -> Result<bool, AllocError>
+    ensures { IfOk result (λ met. met ≡ Forms.can_match (map (λ prefix. FormTable.free prefix.now) prefixes.now) (views tokens.now)) }
+{
+    for prefix in prefixes {
+        if meets_form(alloc, free(prefix), tokens)? {
+            return Ok(true);
+        }
+    }
+    Ok(false)
+}
+
+/// Whether the tokens match a text that is asked.
+fn can_match(alloc: Global, tokens: &[&[u8]]) -> Result<bool, AllocError>
+    ensures { IfOk result (λ met. met ≡ Forms.can_match FormTable.asked (views tokens.now)) }
+{
+    if match_one(alloc, &known(), tokens)? {
+        return Ok(true);
+    }
+    let met = match_free(alloc, free_prefixes(), tokens)?;
+    Ok(met)
+}
+
+/// Whether a text that is asked begins with what the tokens match.
+pub(crate) fn can_begin(alloc: Global, front: &[&[u8]]) -> Result<bool, AllocError>
+    ensures { IfOk result (λ met. met ≡ Forms.can_begin FormTable.asked (views front.now)) }
+{
+    let mut tokens = front.to_vec(alloc)?;
+    tokens.push(b"*")?;
+    let met = can_match(alloc, &tokens)?;
+    Ok(met)
+}
+
+/// How many of the tokens, at most, a text that is asked begins with.
+fn front_length(alloc: Global, tokens: &[&[u8]]) -> Result<usize, AllocError>
+    ensures { IfOk result (λ front. front ≡ Forms.front_length FormTable.asked (views tokens.now)) }
+{
+    let mut low = 0;
+    let mut high = tokens.len();
+    while low < high {
+        let middle = high - (high - low) / 2;
+        if can_begin(alloc, &tokens[..middle])? {
+            low = middle;
+        } else {
+            high = middle - 1;
+        }
+    }
+    Ok(low)
+}
+
+/// Whether the byte ends a pattern's prefix.
+fn ends_prefix(byte: u8) -> bool
+    ensures { result ≡ Forms.ends_prefix byte }
+{
+    matches!(byte, b':' | b'*' | b'?' | b'[')
+}
+
+/// How many bytes the pattern's prefix takes, its colon too; 0 if it has none.
+fn prefix_size(pattern: &[u8]) -> usize
+    ensures { result ≡ Forms.prefix_size pattern.now }
+{
+    let mut at = 0;
+    while at < pattern.len() && !ends_prefix(pattern[at]) {
+        at += 1;
+    }
+    if at < pattern.len() && pattern[at] == b':' {
+        at + 1
+    } else {
+        0
+    }
+}
+
+/// Whether the pattern has a prefix, and no text of one of the forms begins with it.
+fn is_unknown(alloc: Global, pattern: &[u8], tokens: &[&[u8]]) -> Result<bool, AllocError>
+    requires { views tokens.now ≡ tokens_of pattern.now }
+    ensures { IfOk result (λ unknown. unknown ≡ Forms.is_unknown FormTable.asked pattern.now) }
+{
+    let size = prefix_size(pattern);
+    if size == 0 {
+        return Ok(false);
+    }
+    let begins = can_begin(alloc, &tokens[..size.min(tokens.len())])?;
+    Ok(!begins)
+}
+
+/// What is said of a pattern: whether it matches a text that udev asks, and else why not.
+///
+/// The only error is that memory is refused.
+pub fn judge(alloc: Global, pattern: &[u8]) -> Result<Judgement, AllocError>
+    ensures fine { IfOk result (λ told. (told ≡ Judgement.Fine) ↔ CanMatch FormTable.asked (tokens_of pattern.now)) }
+    ensures told { IfOk result (λ told. told ≡ judged FormTable.asked pattern.now) }
+{
+    let tokens = token_texts(alloc, pattern)?;
+    if can_match(alloc, &tokens)? {
+        return Ok(Judgement::Fine);
+    }
+    if is_unknown(alloc, pattern, &tokens)? {
+        return Ok(Judgement::UnknownPrefix);
+    }
+    let front = front_length(alloc, &tokens)?;
+    Ok(Judgement::Dead(front_size(pattern, front)))
+}

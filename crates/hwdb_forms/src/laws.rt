@@ -1,0 +1,27 @@
+//! Laws over the definitions alone. Each function does nothing: its contract is the law, for callers whose proofs need
+//! it.
+ghost use Rattle.hwdb_forms.specs.Laws.{EachFits, FormsAreTested, FrontsAreLongest, FrontsAreTested};
+ghost use Rattle.hwdb_spec.specs.FormTable.{known};
+
+/// The computing test `can_match` is true exactly if the tokens match some text of one of the forms.
+#[tactic(auto, using(crate::proofs::AnswerLemmas::forms_tested))]
+pub fn forms_are_tested()
+    ensures { FormsAreTested }
+{}
+
+/// The computing test `can_begin` is true exactly if some text of one of the forms begins with what the tokens match.
+#[tactic(auto, using(crate::proofs::AnswerLemmas::fronts_tested))]
+pub fn fronts_are_tested()
+    ensures { FrontsAreTested }
+{}
+
+/// What is found as the longest front is one, and no longer one is.
+pub fn fronts_are_longest()
+    ensures { FrontsAreLongest }
+{}
+
+/// Each form has a text: so none of them is empty.
+#[tactic(auto, using(crate::proofs::ExampleLemmas::known_fit))]
+pub fn examples_fit()
+    ensures { EachFits known }
+{}

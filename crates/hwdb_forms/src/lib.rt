@@ -1,0 +1,33 @@
+//! Which patterns can never match: no text that udev asks has them match it.
+//!
+//! Which texts are asked is known by forms (`Forms` and `FormTable` of `hwdb_spec`): `usb:v`, four digits, `p`, four digits and so
+//! on. A pattern is judged against all of them, so that a wildcard in its prefix needs no case of its own.
+//!
+//! [`judge`] goes through a form from its back. It keeps one row of cells, one for each place of the pattern's tokens: whether the
+//! tokens from there on match some text of the form's rest. Each byte of the form makes a new row of the last one. So the time is at
+//! most the pattern's length times the forms', and no automaton is built.
+//!
+//! | Module | What it does |
+//! |---|---|
+//! | `pieces` | forms as data |
+//! | `table` | the forms that udev asks |
+//! | `sets` | sets of bytes, and which tokens take one of theirs |
+//! | `leads` | how pieces begin, before the first star |
+//! | `rows` | the rows of a form |
+//! | `judging` | what is said of a pattern |
+//! | `expecting` | what can be written at a place of a pattern |
+//! | `laws` | what is proved of the definitions alone |
+#![tactic(auto)]
+
+mod expecting;
+mod judging;
+mod laws;
+mod leads;
+mod pieces;
+mod rows;
+mod sets;
+mod table;
+
+pub use expecting::expected;
+pub use judging::judge;
+pub use laws::{examples_fit, forms_are_tested, fronts_are_longest, fronts_are_tested};

@@ -1,0 +1,120 @@
+-- Which answers of a file system give which result. The answers are `stat`'s, `lstat`'s and those of a read (POSIX); what is made of
+-- them is our choice.
+use Rattle.std.specs.Prelude.{◌≡◌, ◌⊎◌, ℕ, List, [], Bool, true, Option, Some, None, Result, Ok, Err, MatchResult, Contains, IsUtf8, filter, if◌then◌else◌}
+use Rattle.hwdb_spec.specs.Folders.{counts}
+use Rattle.hwdb_spec.specs.Lines.{is, pieces}
+use Rattle.hwdb_spec.specs.Store.{path_in}
+use Rattle.hwdb_io.specs.declared.causes.Cause.{Cause}
+use Rattle.hwdb_io.specs.declared.causes.Cause.TheVariants as why
+use Rattle.hwdb_print.specs.declared.errors.ToolError.TheVariants.{Read, TooLong, Memory}
+use Rattle.hwdb_fs.specs.declared.raw.Kind.{Kind}
+use Rattle.hwdb_fs.specs.declared.raw.Kind.TheVariants.{File, Null, Folder, Pipe, Socket, Device}
+use Rattle.hwdb_fs.specs.declared.raw.Unread.{Unread}
+use Rattle.hwdb_fs.specs.declared.raw.Unread.TheVariants as unread
+use Rattle.hwdb_fs.specs.declared.refusals.Refusal.{Refusal}
+use Rattle.hwdb_fs.specs.declared.refusals.Refusal.TheVariants.{Plain, At}
+
+-- a call told the answer, or had no memory for it
+abbrev pub IsTold : {X Y : Type 0} (value : Y → X) (answer : Result X Cause) → Result Y Cause → Type 0
+IsTold value answer result = MatchResult result (λ y. answer ≡ Ok (value y)) (λ cause. (cause ≡ why.Memory) ⊎ (answer ≡ Err cause))
+
+-- the same of a read
+abbrev pub IsToldRead : {X Y : Type 0} (value : Y → X) (answer : Result X Unread) → Result Y Unread → Type 0
+IsToldRead value answer result = MatchResult result (λ y. answer ≡ Ok (value y)) (λ w. (w ≡ unread.Memory) ⊎ (answer ≡ Err w))
+
+-- what couldn't be told, as what couldn't be read
+abbrev pub failed : Cause → Unread
+failed cause = unread.Failed (Some cause)
+
+-- the bytes of what is at a place, if it is a regular file: a file's are read, and nothing else is opened
+abbrev pub bytes_of : Kind → (contents : Result (List ℕ) Unread) → Result (List ℕ) Unread
+bytes_of File contents = contents
+bytes_of Null contents = Err (failed why.Device)
+bytes_of Folder contents = Err (failed why.Folder)
+bytes_of Pipe contents = Err (failed why.Pipe)
+bytes_of Socket contents = Err (failed why.Socket)
+bytes_of Device contents = Err (failed why.Device)
+
+-- those of a text file: the null device is an empty one (hwdb(7))
+abbrev pub text_of_kind : Kind → (contents : Result (List ℕ) Unread) → Result (List ℕ) Unread
+text_of_kind Null contents = Ok []
+text_of_kind kind contents = bytes_of kind contents
+
+-- what comes of a place that was told, or wasn't
+abbrev pub at_place : {X Y : Type 0} → Result X Cause → (X → Result Y Unread) → Result Y Unread
+at_place (Ok place) next = next place
+at_place (Err cause) next = Err (failed cause)
+
+-- the bytes of a regular file at a place
+abbrev pub bytes_at : (kind : List ℕ → Result Kind Cause) (contents : List ℕ → Result (List ℕ) Unread) → List ℕ → Result (List ℕ) Unread
+bytes_at kind contents place = at_place (kind place) (λ k. bytes_of k (contents place))
+
+-- those of a text file there: a root's own null device counts by its place
+abbrev pub text_at : (null_at : List ℕ → Bool) (kind : List ℕ → Result Kind Cause) (contents : List ℕ → Result (List ℕ) Unread) → List ℕ → Result (List ℕ) Unread
+text_at null_at kind contents place =
+    if null_at place then Ok [] else at_place (kind place) (λ k. text_of_kind k (contents place))
+
+-- what reading a text file gives
+abbrev pub text_answer : (place : Result (List ℕ) Cause) (null_at : List ℕ → Bool) (kind : List ℕ → Result Kind Cause)
+    (contents : List ℕ → Result (List ℕ) Unread) → Result (List ℕ) Unread
+text_answer place null_at kind contents = at_place place (text_at null_at kind contents)
+
+-- what is there is read
+abbrev pub present : {X : Type 0} → Result X Unread → Result (Option X) Unread
+present (Ok x) = Ok (Some x)
+present (Err w) = Err w
+
+-- whether something has the name: what can't be told is there
+abbrev pub there_answer : Result Bool Cause → Bool
+there_answer (Ok there) = there
+there_answer (Err cause) = true
+
+-- what reading a database gives: none only if nothing has its name, not even a link
+abbrev pub database_answer : (entry : Result Bool Cause) (place : Result (List ℕ) Cause) (kind : List ℕ → Result Kind Cause)
+    (contents : List ℕ → Result (List ℕ) Unread) → Result (Option (List ℕ)) Unread
+database_answer entry place kind contents =
+    if there_answer entry then present (at_place place (bytes_at kind contents)) else Ok None
+
+-- the names in a listing, each with byte 0 after it
+abbrev pub entries : List ℕ → List (List ℕ)
+entries listing = pieces (is 0) listing
+
+-- those of text files (hwdb(7))
+abbrev pub names_answer : Result (Option (List ℕ)) Unread → Result (List (List ℕ)) Unread
+names_answer (Ok None) = Ok []
+names_answer (Ok (Some listing)) = Ok (filter counts (entries listing))
+names_answer (Err w) = Err w
+
+-- memory was refused: that may always be said
+abbrev pub IsOfMemory : (path : List ℕ) → Refusal → Type 0
+IsOfMemory path (Plain error) = error ≡ Memory
+IsOfMemory path (At Read at cause) = (at.items ≡ path) × (cause ≡ Some why.Memory)
+IsOfMemory path _ = ⊥
+
+-- an error of what couldn't be read names the path, and has its cause
+abbrev pub IsRefusedFor : Unread → (path : List ℕ) → Refusal → Type 0
+IsRefusedFor w path (At Read at cause) = (at.items ≡ path) × (w ≡ unread.Failed cause)
+IsRefusedFor w path (At TooLong at cause) = (at.items ≡ path) × (w ≡ unread.TooLong)
+IsRefusedFor w path _ = ⊥
+
+-- an error is what the answer gives, or that memory was refused
+abbrev pub IsRefusedAs : {X : Type 0} (answer : Result X Unread) (path : List ℕ) → Refusal → Type 0
+IsRefusedAs answer path refusal = IsOfMemory path refusal ⊎ ((w : Unread) × (answer ≡ Err w) × IsRefusedFor w path refusal)
+
+-- the result is what the answer gives, or memory was refused
+abbrev pub IsReadAs : {X Y : Type 0} (value : Y → X) (answer : Result X Unread) (path : List ℕ) → Result Y Refusal → Type 0
+IsReadAs value answer path result = MatchResult result (λ y. answer ≡ Ok (value y)) (IsRefusedAs answer path)
+
+-- a name in a folder isn't UTF-8, and the error says so
+abbrev pub IsMisnamedAt : (folder name : List ℕ) → Refusal → Type 0
+IsMisnamedAt folder name (At Read at cause) = (at.items ≡ path_in folder name) × (cause ≡ Some why.Name) × (IsUtf8 name → ⊥)
+IsMisnamedAt folder name _ = ⊥
+
+-- an error is what the answer gives, that memory was refused, or that a text file's name isn't UTF-8
+abbrev pub IsUnnamed : (answer : Result (List (List ℕ)) Unread) (folder : List ℕ) → Refusal → Type 0
+IsUnnamed answer folder refusal =
+    IsRefusedAs answer folder refusal ⊎ ((all : List (List ℕ)) × (name : List ℕ) × (answer ≡ Ok all) × Contains all name × IsMisnamedAt folder name refusal)
+
+-- the names are all that the answer gives
+abbrev pub AreNamesAs : {Y : Type 0} (value : Y → List (List ℕ)) (answer : Result (List (List ℕ)) Unread) (folder : List ℕ) → Result Y Refusal → Type 0
+AreNamesAs value answer folder result = MatchResult result (λ y. answer ≡ Ok (value y)) (IsUnnamed answer folder)

@@ -1,0 +1,214 @@
+//! What a file system answers, call by call, and nothing decided: this alone is believed of reading (docs/assumptions.md).
+ghost use Rattle.std.specs.Prelude.{◌≡◌, ◌≤◌, ℕ, List, Bool, false, Option, Result, Err, IfOk, IfSome, string_bytes, vec_len, option_map};
+ghost use Rattle.hwdb_spec.specs.Texts.{max_file};
+ghost use Rattle.hwdb_io.specs.declared.causes.Cause.{Cause};
+ghost use Rattle.hwdb_io.specs.declared.causes.Cause.TheVariants.{Memory};
+ghost use Rattle.hwdb_fs.specs.declared.raw.Kind.{Kind};
+ghost use Rattle.hwdb_fs.specs.declared.raw.Unread.{Unread};
+ghost use Rattle.hwdb_fs.specs.declared.raw.Unread.TheVariants.{TooLong};
+ghost use Rattle.hwdb_fs.specs.Raw.{IsTold, IsToldRead};
+
+use crate::roots::Root;
+use hwdb_io::{Cause, FromRead, MAX_BYTES, ReadError, read_all};
+use std::alloc::Global;
+use std::fs::{self, File, OpenFile};
+use std::io::{self, ErrorKind, Read};
+use std::os::unix::fs::{FileTypeExt, MetadataExt};
+use std::rt::Files;
+
+/// The number of the device /dev/null: on Linux 1, 3.
+const NULL_DEVICE: u64 = 0x103;
+
+/// What is at a place.
+#[derive(Clone, Copy, Debug, PartialEq, Eq)]
+pub enum Kind {
+    File,
+    /// The null device.
+    Null,
+    Folder,
+    Pipe,
+    Socket,
+    /// Another device.
+    Device,
+}
+
+/// Why bytes weren't read.
+#[derive(Clone, Copy, Debug, PartialEq, Eq)]
+pub enum Unread {
+    /// There are more than a file may have.
+    TooLong,
+    /// A call failed, for this cause if it is known.
+    Failed(Option<Cause>),
+    /// Memory was refused.
+    Memory,
+}
+
+/// The answers of a file system to what reading asks. Each call may also say that memory was refused.
+pub trait RawFiles {
+    /// Whether the answers are told.
+    ghost tells: { Type 0 };
+    /// Where a path leads, each link followed.
+    ghost place: { Self → List ℕ → Result (List ℕ) Cause };
+    /// A place is that of a root's own /dev/null.
+    ghost null_at: { Self → List ℕ → Bool };
+    /// Whether something has a path's name; a link is something.
+    ghost entry: { Self → List ℕ → Result Bool Cause };
+    /// What is at a place.
+    ghost kind: { Self → List ℕ → Result Kind Cause };
+    /// The bytes that a read of a place gives.
+    ghost contents: { Self → List ℕ → Result (List ℕ) Unread };
+    /// The names in a folder, each with byte 0 after it; none if the folder isn't there.
+    ghost listing: { Self → List ℕ → Result (Option (List ℕ)) Unread };
+
+    /// Tells where a path leads.
+    fn place_of(&self, path: &str) -> Result<String, Cause>
+        ensures { tells → IsTold string_bytes (place self.now path.now) result };
+
+    /// Tells whether a place is that of a root's own /dev/null.
+    fn is_null(&self, at: &str) -> bool
+        ensures { tells → result ≡ null_at self.now at.now };
+
+    /// Tells whether something has a path's name.
+    fn has_entry(&self, path: &str) -> Result<bool, Cause>
+        ensures { tells → IsTold (λ b. b) (entry self.now path.now) result };
+
+    /// Tells what is at a place.
+    fn kind_of(&self, at: &str) -> Result<Kind, Cause>
+        ensures { tells → IsTold (λ k. k) (kind self.now at.now) result };
+
+    /// Reads what is at a place.
+    fn contents_of(&self, alloc: Global, at: &str) -> Result<Vec<u8>, Unread>
+        ensures told { tells → IsToldRead (λ v. v.items) (contents self.now at.now) result }
+        ensures within { IfOk result (λ bytes. vec_len bytes ≤ max_file) };
+
+    /// Lists a folder.
+    fn listing_of(&self, alloc: Global, folder: &str) -> Result<Option<Vec<u8>>, Unread>
+        ensures { tells → IsToldRead (λ found. option_map (λ v. v.items) found)
+            (listing self.now folder.now) result };
+}
+
+/// The files that a runtime reaches, below a root.
+#[derive(Drop)]
+pub struct StdFiles<'a, R: Files> {
+    alloc: Global,
+    rt: &'a R,
+    root: &'a Root,
+}
+
+impl<'a, R: Files> StdFiles<'a, R> {
+    /// The runtime's files, below this root.
+    pub fn new(alloc: Global, rt: &'a R, root: &'a Root) -> Self {
+        StdFiles { alloc, rt, root }
+    }
+}
+
+/// The kind of what `stat` found.
+fn kind_of(found: &fs::Metadata) -> Kind {
+    let kind = found.file_type();
+    if kind.is_file() {
+        Kind::File
+    } else if kind.is_dir() {
+        Kind::Folder
+    } else if kind.is_fifo() {
+        Kind::Pipe
+    } else if kind.is_socket() {
+        Kind::Socket
+    } else if kind.is_char_device() && found.rdev() == NULL_DEVICE {
+        Kind::Null
+    } else {
+        Kind::Device
+    }
+}
+
+/// Why a call of the library failed.
+fn failed(error: &io::Error) -> Unread {
+    Unread::Failed(Some(Cause::of(error)))
+}
+
+/// All bytes that a reader has left.
+pub fn all_of<R: Read + Drop>(alloc: Global, reader: R) -> Result<Vec<u8>, Unread>
+    ensures { IfOk result (λ bytes. vec_len bytes ≤ max_file) }
+{
+    let mut source = FromRead::new(reader);
+    match read_all(alloc, &mut source, MAX_BYTES) {
+        Ok(bytes) => Ok(bytes),
+        Err(ReadError::TooLong) => Err(Unread::TooLong),
+        Err(ReadError::Memory) => Err(Unread::Memory),
+        Err(ReadError::Failed) => Err(Unread::Failed(source.cause)),
+    }
+}
+
+impl<'a, R: Files> RawFiles for StdFiles<'a, R>
+where
+    R::File: Drop,
+{
+    // No contract of the library says what it answers.
+    ghost tells = { ⊥ };
+
+    ghost place = { λ _ _. Err Memory };
+
+    ghost null_at = { λ _ _. false };
+
+    ghost entry = { λ _ _. Err Memory };
+
+    ghost kind = { λ _ _. Err Memory };
+
+    ghost contents = { λ _ _. Err TooLong };
+
+    ghost listing = { λ _ _. Err TooLong };
+
+    fn place_of(&self, path: &str) -> Result<String, Cause> {
+        match self.root.place_of(self.rt, path) {
+            Ok(place) => Ok(place),
+            Err(error) => Err(Cause::of(&error)),
+        }
+    }
+
+    fn is_null(&self, at: &str) -> bool {
+        self.root.is_null(at)
+    }
+
+    fn has_entry(&self, path: &str) -> Result<bool, Cause> {
+        match entry(self.rt, self.root, path) {
+            Ok(_) => Ok(true),
+            Err(error) if error.kind() == ErrorKind::NotFound => Ok(false),
+            Err(error) => Err(Cause::of(&error)),
+        }
+    }
+
+    fn kind_of(&self, at: &str) -> Result<Kind, Cause> {
+        match fs::metadata(self.rt, at) {
+            Ok(found) => Ok(kind_of(&found)),
+            Err(error) => Err(Cause::of(&error)),
+        }
+    }
+
+    fn contents_of(&self, alloc: Global, at: &str) -> Result<Vec<u8>, Unread> {
+        match File::open(self.rt, at) {
+            Ok(file) => all_of(alloc, file),
+            Err(error) => Err(failed(&error)),
+        }
+    }
+
+    fn listing_of(&self, alloc: Global, folder: &str) -> Result<Option<Vec<u8>>, Unread> {
+        match open_folder(self.rt, self.root, folder) {
+            Ok(entries) => Ok(Some(all_of(alloc, entries)?)),
+            Err(error) if error.kind() == ErrorKind::NotFound => Ok(None),
+            Err(error) => Err(failed(&error)),
+        }
+    }
+}
+
+/// Opens a folder.
+fn open_folder<R: Files>(rt: &R, root: &Root, folder: &str) -> io::Result<R::Dir> {
+    let mut path = root.place_of(rt, folder)?;
+    // The slash has a link to a folder followed.
+    path.push_str("/")?;
+    rt.open_dir(path.as_str())
+}
+
+/// What has a path's name: of a link, the link itself.
+fn entry<R: Files>(rt: &R, root: &Root, path: &str) -> io::Result<fs::Metadata> {
+    let entry = root.entry_of(rt, path)?;
+    fs::symlink_metadata(rt, entry.as_str())
+}

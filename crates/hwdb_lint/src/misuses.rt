@@ -1,0 +1,60 @@
+//! Properties that don't fit what is known of properties.
+ghost use Rattle.std.specs.Prelude.{◌≡◌, ◌++◌, OnOk};
+ghost use Rattle.hwdb_spec.specs.Lines;
+ghost use Rattle.hwdb_spec.specs.Properties.{misuse_hint};
+ghost use Rattle.hwdb_spec.specs.Reports.{hint_line};
+ghost use Rattle.hwdb_spec.specs.Warnings.{misused};
+ghost use Rattle.hwdb_lint.specs.Internal.{line_of};
+
+use crate::line_warnings::{has_equals, is_property, is_spaced};
+use hwdb_properties::{after, before, misuse_of, push_misuse_hint};
+use hwdb_spec::Misuse;
+use hwdb_text::unindented;
+use std::alloc::AllocError;
+
+/// The key of a clean property line.
+fn key_of(clean: &[u8]) -> &[u8]
+    ensures { result.now ≡ Lines.key (line_of 0 clean.now) }
+{
+    before(b'=', unindented(clean))
+}
+
+/// The value of a clean property line.
+fn value_of(clean: &[u8]) -> &[u8]
+    ensures { result.now ≡ Lines.value (line_of 0 clean.now) }
+{
+    after(b'=', unindented(clean))
+}
+
+/// What is said of a clean line, if it is a property that doesn't fit.
+pub fn misuse_in(clean: &[u8]) -> Option<Misuse>
+    ensures { result ≡ misused (line_of 0 clean.now) }
+{
+    if !is_property(clean) {
+        return None;
+    }
+    if !has_equals(clean) {
+        return None;
+    }
+    let key = key_of(clean);
+    let value = value_of(clean);
+    if key.is_empty() {
+        return None;
+    }
+    if is_spaced(key, value) {
+        return None;
+    }
+    misuse_of(key, value)
+}
+
+/// Adds the line of what to do about a misuse in a clean line.
+pub fn push_misuse_line(text: &mut Vec<u8>, misuse: Misuse, clean: &[u8]) -> Result<(), AllocError>
+    ensures { OnOk result (text.new.items ≡ text.old.items
+        ++ hint_line (misuse_hint misuse
+        (Lines.key (line_of 0 clean.now)) (Lines.value (line_of 0 clean.now)))) }
+{
+    text.extend_from_slice(b"    hint: ")?;
+    push_misuse_hint(text, misuse, key_of(clean), value_of(clean))?;
+    text.push(b'\n')?;
+    Ok(())
+}

@@ -1,0 +1,11 @@
+use Rattle.std.proofs.Common.{◌≡◌, ◌≤◌, ◌<◌, ℕ, false, get_or, length}
+use Rattle.hwdb_spec.specs.Patterns.{admits_byte, token_at}
+use Rattle.hwdb_pattern.specs.Internal.Tables.{passes_at}
+use Rattle.hwdb_pattern.proofs.tables.keep_admitted.Given as goal
+
+abbrev pub invariant-loop-i : goal.invariant-loop-i
+invariant-loop-i l = record {
+  size : length l.table ≡ length l.fn.table;
+  done : (k : ℕ) → k < l.i → get_or l.table k false ≡ passes_at (admits_byte (token_at l.text)) l.bytes l.fn.table k;
+  rest : (k : ℕ) → l.i ≤ k → get_or l.table k false ≡ get_or l.fn.table k false;
+}

@@ -1,0 +1,352 @@
+//! Which of a device's prefixes some tokens match, as the prefixes' lengths.
+//!
+//! This is the simulation of an automaton: each token turns the set of lengths before it into the set after it. A star
+//! makes the set all lengths from its least one on. Each other token keeps the lengths whose next byte it takes, one
+//! further.
+//!
+//! A set is a table with a truth value for each length from the least one on. A token that isn't a star keeps some of
+//! them in place, and the least length is then one more. So each token takes at most as many steps as the device has
+//! bytes, and one more, and a step is a part of an instruction. The memory is one byte for each length. A bracket is
+//! read at most 256 times a token.
+ghost use Rattle.std.specs.Prelude.{ℕ, ◌≡◌, ◌≢◌, ◌<◌, ◌≤◌, ◌+◌, ◌^◌, ◌==◌, ◌↔◌, [], length, slice_index, drop, take, min, All, Contains, true, false, IsTrue, IfOk, IsOk, IsOkAnd, IfSome, IfNone};
+ghost use Rattle.hwdb_spec.specs.Patterns.{tokens, token_at, literal};
+ghost use Rattle.hwdb_pattern.specs.Views.{takes, NoneTakes};
+ghost use Rattle.hwdb_pattern.specs.Internal.Tables.{said};
+ghost use Rattle.hwdb_pattern.specs.Internal.Prefixes.{Between, Spread, Steps, IsAfter, Follows, Within};
+ghost use Rattle.hwdb_pattern.specs.Internal.Met.{lengths_of};
+
+use crate::lengths::run_size;
+use crate::tables::{first_place, has_admitted, has_byte, has_some, keep};
+use crate::tokens::single_token;
+use std::alloc::{AllocError, Global};
+
+/// Some lengths: those from the least one on at which the table says so.
+#[derive(Drop)]
+pub(crate) struct Table {
+    least: usize,
+    says: Vec<bool>,
+}
+
+/// The lengths of the prefixes that are matched. A lone one, as most paths have, takes no memory.
+#[derive(Drop)]
+pub(crate) enum Met {
+    Lone(usize),
+    Many(Table),
+}
+
+/// Whether the token at the beginning of the text takes the device's byte after `n` bytes.
+fn takes_next(text: &[u8], device: &[u8], n: usize) -> bool
+    requires some { 0 < length text.now }
+    requires no_star { slice_index text.now 0 ≢ 42 }
+    ensures { result ≡ takes (token_at text.now) device.now n }
+{
+    if n < device.len() {
+        single_token(text, device[n], true).admits
+    } else {
+        false
+    }
+}
+
+/// Whether the byte is the device's next one after `n` bytes.
+fn is_next(byte: u8, device: &[u8], n: usize) -> bool
+    ensures { result ≡ takes (literal byte) device.now n }
+{
+    if n < device.len() {
+        device[n] == byte
+    } else {
+        false
+    }
+}
+
+/// The device's bytes after `n`.
+fn bytes_after(device: &[u8], n: usize) -> &[u8]
+    ensures { result.now ≡ drop n device.now }
+{
+    if n < device.len() { &device[n..] } else { &[] }
+}
+
+/// No length.
+#[tactic(auto, unfolding(crate::specs::Internal::Tables::said))]
+fn none(alloc: Global) -> Met
+    ensures { lengths_of result ≡ [] }
+{
+    Met::Many(Table {
+        least: 0,
+        says: Vec::new(alloc),
+    })
+}
+
+/// All lengths from the least one to the end.
+fn all_from(alloc: Global, least: usize, end: usize) -> Result<Met, AllocError>
+    requires room { end + 1 < 2 ^ 64 }
+    requires within { least ≤ end }
+    ensures { IfOk result (λ met. Between least (end + 1) (lengths_of met)) }
+{
+    let says = vec![in alloc; true; end + 1 - least]?;
+    Ok(Met::Many(Table { least, says }))
+}
+
+impl Table {
+    /// Whether there is no length.
+    fn is_empty(&self) -> bool
+        ensures { result ≡ (length (said self.now.least self.now.says.items) == 0) }
+    {
+        let says: &[bool] = &self.says;
+        !has_some(says)
+    }
+
+    /// Whether it is one of the lengths.
+    fn contains(&self, n: usize) -> bool
+        ensures { IsTrue result ↔ Contains (said self.now.least self.now.says.items) n }
+    {
+        if n < self.least {
+            return false;
+        }
+        let says: &[bool] = &self.says;
+        let at = n - self.least;
+        if at < says.len() { says[at] } else { false }
+    }
+
+    /// The least length.
+    fn first(&self, end: usize) -> Option<usize>
+        requires room { end + 1 < 2 ^ 64 }
+        requires within { All (λ n. n ≤ end) (said self.now.least self.now.says.items) }
+        ensures member { IfSome result (λ n.
+            Contains (said self.now.least self.now.says.items) n) }
+        ensures least { IfSome result (λ n.
+            All (λ m. n ≤ m) (said self.now.least self.now.says.items)) }
+        ensures none { IfNone result (said self.now.least self.now.says.items ≡ []) }
+    {
+        let says: &[bool] = &self.says;
+        match first_place(says) {
+            Some(at) => Some(self.least + at),
+            None => None,
+        }
+    }
+
+    /// Whether the token at the beginning of the text takes the device's next byte after some of the lengths.
+    fn takes(&self, device: &[u8], text: &[u8]) -> bool
+        requires some { 0 < length text.now }
+        requires no_star { slice_index text.now 0 ≢ 42 }
+        ensures none { result ≡ false
+            → NoneTakes (token_at text.now) device.now (said self.now.least self.now.says.items) }
+        ensures some { result ≡ true
+            → NoneTakes (token_at text.now) device.now
+            (said self.now.least self.now.says.items) → ⊥ }
+    {
+        let bytes = bytes_after(device, self.least);
+        let says: &[bool] = &self.says;
+        let count = says.len().min(bytes.len());
+        has_admitted(&says[..count], bytes, text)
+    }
+
+    /// Whether the byte is the device's next one after some of the lengths.
+    fn is_next(&self, device: &[u8], byte: u8) -> bool
+        ensures { result ≡ false
+            → NoneTakes (literal byte) device.now (said self.now.least self.now.says.items) }
+    {
+        let bytes = bytes_after(device, self.least);
+        let says: &[bool] = &self.says;
+        let count = says.len().min(bytes.len());
+        has_byte(&says[..count], bytes, byte)
+    }
+
+    /// The lengths after one token that isn't a star.
+    fn stepped(self, device: &[u8], text: &[u8]) -> Table
+        requires some { 0 < length text.now }
+        requires no_star { slice_index text.now 0 ≢ 42 }
+        requires within { self.least < length device.now }
+        ensures { Steps (token_at text.now) device.now
+            (said self.least self.says.items) (said result.least result.says.items) }
+    {
+        let Table { least, mut says } = self;
+        let bytes = bytes_after(device, least);
+        says.truncate(bytes.len());
+        keep(&mut says, bytes, text);
+        Table {
+            least: least + 1,
+            says,
+        }
+    }
+}
+
+impl Met {
+    /// Whether there is no length.
+    pub(crate) fn is_empty(&self) -> bool
+        ensures { result ≡ (length (lengths_of self.now) == 0) }
+    {
+        match self {
+            Met::Lone(_) => false,
+            Met::Many(table) => table.is_empty(),
+        }
+    }
+
+    /// Whether it is one of the lengths.
+    pub(crate) fn contains(&self, n: usize) -> bool
+        ensures { IsTrue result ↔ Contains (lengths_of self.now) n }
+    {
+        match self {
+            Met::Lone(length) => *length == n,
+            Met::Many(table) => table.contains(n),
+        }
+    }
+
+    /// Whether the byte is the device's next one after some of the lengths.
+    pub(crate) fn is_next(&self, device: &[u8], byte: u8) -> bool
+        ensures { result ≡ false → NoneTakes (literal byte) device.now (lengths_of self.now) }
+    {
+        match self {
+            Met::Lone(length) => is_next(byte, device, *length),
+            Met::Many(table) => table.is_next(device, byte),
+        }
+    }
+
+    /// Whether the token at the beginning of the text takes the device's next byte after some of the lengths.
+    fn takes(&self, device: &[u8], text: &[u8]) -> bool
+        requires some { 0 < length text.now }
+        requires no_star { slice_index text.now 0 ≢ 42 }
+        ensures none { result ≡ false
+            → NoneTakes (token_at text.now) device.now (lengths_of self.now) }
+        ensures some { result ≡ true
+            → NoneTakes (token_at text.now) device.now (lengths_of self.now) → ⊥ }
+    {
+        match self {
+            Met::Lone(length) => takes_next(text, device, *length),
+            Met::Many(table) => table.takes(device, text),
+        }
+    }
+
+    /// The least length.
+    fn least(&self, end: usize) -> Option<usize>
+        requires room { end + 1 < 2 ^ 64 }
+        requires within { All (λ n. n ≤ end) (lengths_of self.now) }
+        ensures member { IfSome result (λ n. Contains (lengths_of self.now) n) }
+        ensures least { IfSome result (λ n. All (λ m. n ≤ m) (lengths_of self.now)) }
+        ensures none { IfNone result (lengths_of self.now ≡ []) }
+    {
+        match self {
+            Met::Lone(length) => Some(*length),
+            Met::Many(table) => table.first(end),
+        }
+    }
+
+    /// The lengths after a star.
+    fn after_star(&self, alloc: Global, end: usize) -> Result<Met, AllocError>
+        requires room { end + 1 < 2 ^ 64 }
+        requires within { All (λ n. n ≤ end) (lengths_of self.now) }
+        ensures { IfOk result (λ after. Spread end (lengths_of self.now) (lengths_of after)) }
+    {
+        match self.least(end) {
+            Some(least) => all_from(alloc, least, end),
+            None => Ok(none(alloc)),
+        }
+    }
+
+    /// The same lengths.
+    fn copied(&self, alloc: Global) -> Result<Met, AllocError>
+        ensures { IfOk result (λ met. lengths_of met ≡ lengths_of self.now) }
+    {
+        match self {
+            Met::Lone(length) => Ok(Met::Lone(*length)),
+            Met::Many(table) => {
+                let says = Vec::from_slice(alloc, &table.says)?;
+                Ok(Met::Many(Table {
+                    least: table.least,
+                    says,
+                }))
+            }
+        }
+    }
+
+    /// The lengths after one token that isn't a star.
+    fn stepped(self, alloc: Global, device: &[u8], text: &[u8]) -> Met
+        requires some { 0 < length text.now }
+        requires no_star { slice_index text.now 0 ≢ 42 }
+        ensures { Steps (token_at text.now) device.now (lengths_of self) (lengths_of result) }
+    {
+        match self {
+            Met::Lone(length) => {
+                if takes_next(text, device, length) {
+                    Met::Lone(length + 1)
+                } else {
+                    none(alloc)
+                }
+            }
+            Met::Many(table) => {
+                if table.least < device.len() {
+                    Met::Many(table.stepped(device, text))
+                } else {
+                    none(alloc)
+                }
+            }
+        }
+    }
+
+    /// The lengths after the text's first token.
+    fn first_token(&self, alloc: Global, device: &[u8], text: &[u8]) -> Result<Met, AllocError>
+        requires some { 0 < length text.now }
+        requires within { Within device.now (lengths_of self.now) }
+        ensures after { IfOk result (λ after.
+            IsAfter device.now (lengths_of self.now) (lengths_of after) text.now) }
+        ensures free { slice_index text.now 0 ≢ 42
+            → NoneTakes (token_at text.now) device.now (lengths_of self.now)
+            → IsOkAnd result (λ after. lengths_of after ≡ []) }
+    {
+        if text[0] == b'*' {
+            return self.after_star(alloc, device.len());
+        }
+        if !self.takes(device, text) {
+            return Ok(none(alloc));
+        }
+        let copied = self.copied(alloc)?;
+        Ok(copied.stepped(alloc, device, text))
+    }
+
+    /// The lengths after the text's first token.
+    fn next_token(self, alloc: Global, device: &[u8], text: &[u8]) -> Result<Met, AllocError>
+        requires some { 0 < length text.now }
+        requires within { Within device.now (lengths_of self) }
+        ensures { IfOk result (λ after.
+            IsAfter device.now (lengths_of self) (lengths_of after) text.now) }
+    {
+        if text[0] == b'*' {
+            return self.after_star(alloc, device.len());
+        }
+        Ok(self.stepped(alloc, device, text))
+    }
+
+    /// The lengths after all tokens of the text.
+    fn follow(self, alloc: Global, device: &[u8], text: &[u8]) -> Result<Met, AllocError>
+        requires { Within device.now (lengths_of self) }
+        ensures follows { IfOk result (λ after.
+            Follows (tokens text.now) device.now (lengths_of self) (lengths_of after)) }
+        ensures within { IfOk result (λ after. Within device.now (lengths_of after)) }
+        ensures free { lengths_of self ≡ [] → IsOk result }
+    {
+        let mut met = self;
+        let mut at = 0;
+        'following: while at < text.len() && !met.is_empty() {
+            let rest = &text[at..];
+            met = met.next_token(alloc, device, rest)?;
+            at += run_size(rest);
+        }
+        Ok(met)
+    }
+
+    /// The lengths after all tokens of the text. If the first token isn't a star and takes no byte of the device, no
+    /// memory is asked for.
+    pub(crate) fn along(&self, alloc: Global, device: &[u8], text: &[u8]) -> Result<Met, AllocError>
+        requires { Within device.now (lengths_of self.now) }
+        ensures follows { IfOk result (λ after.
+            Follows (tokens text.now) device.now (lengths_of self.now) (lengths_of after)) }
+        ensures within { IfOk result (λ after. Within device.now (lengths_of after)) }
+        ensures free { 0 < length text.now → slice_index text.now 0 ≢ 42
+            → NoneTakes (token_at text.now) device.now (lengths_of self.now) → IsOk result }
+    {
+        if text.is_empty() {
+            return self.copied(alloc);
+        }
+        let after = self.first_token(alloc, device, text)?;
+        after.follow(alloc, device, &text[run_size(text)..])
+    }
+}

@@ -1,0 +1,9 @@
+use Rattle.std.proofs.Common.{◌∙◌, ◌∷◌, ◌++◌, [], ap}
+use Rattle.std.specs.Prelude.{codes}
+use Rattle.hwdb_properties.proofs.PieceLemmas.{three_pieces}
+use Rattle.hwdb_properties.proofs.remarks.push_did_you_mean.Goals as goal
+
+pub returns : goal.returns
+returns c =
+    three_pieces c.args.text.now.items _ _ _ (codes "did you mean ") _ (63 ∷ []) c.in_ok-extend_from_slice.ensures.items
+    (c.in_ok-extend_from_slice-2.ensures.items ∙ ap (λ l. c.extend_from_slice.new.self.items ++ l) c.word.ensures) c.in_ok-push.ensures.items

@@ -1,0 +1,21 @@
+//! What is known of properties: which names they have, and which texts are their values.
+//!
+//! | Module | What it does |
+//! |---|---|
+//! | `cuts` | the parts of a text before and after a byte |
+//! | `names` | names that are nearly alike |
+//! | `rows` | the row of a table for a name |
+//! | `numbers` | texts that are numbers |
+//! | `values` | texts that are values of a form |
+//! | `remarks` | what is said of a property that doesn't fit |
+#![tactic(auto)]
+
+mod cuts;
+mod names;
+mod numbers;
+mod remarks;
+mod rows;
+mod values;
+
+pub use cuts::{after, before};
+pub use remarks::{misuse_of, misuse_text, push_misuse_hint};

@@ -1,0 +1,194 @@
+//! What is said of a property that doesn't fit.
+ghost use Rattle.std.specs.Prelude.{◌≡◌, ◌++◌, [], OnOk};
+ghost use Rattle.hwdb_spec.specs.Properties;
+ghost use Rattle.hwdb_spec.specs.declared.vocabulary.TheConstants.{KEY_NAMES, PROPERTIES};
+
+use crate::cuts::without;
+use crate::numbers::is_lower_hex;
+use crate::rows::{Likeness, first_row, row_form, word};
+use crate::values::{form_of, is_of_form};
+use hwdb_spec::{KEY_NAMES, Misuse, PROPERTIES, ValueForm};
+use std::alloc::AllocError;
+
+/// The row of a property.
+fn property_row(name: &[u8]) -> &'static [u8]
+    ensures { result.now ≡ Properties.property_row name.now }
+{
+    first_row(PROPERTIES.as_bytes(), name, Likeness::Same)
+}
+
+/// The row of a property with nearly this name.
+fn near_row(name: &[u8]) -> &'static [u8]
+    ensures { result.now ≡ Properties.near_row PROPERTIES.now name.now }
+{
+    first_row(PROPERTIES.as_bytes(), name, Likeness::Near)
+}
+
+/// The first key with nearly this name.
+fn near_key(name: &[u8]) -> &'static [u8]
+    ensures { result.now ≡ Properties.near_row KEY_NAMES.now name.now }
+{
+    first_row(KEY_NAMES.as_bytes(), name, Likeness::Near)
+}
+
+/// Whether the names of a form's properties end with a code.
+fn has_code(form: ValueForm) -> bool
+    ensures { result ≡ Properties.has_code form }
+{
+    matches!(form, ValueForm::Axis | ValueForm::Key)
+}
+
+/// Whether what a name has more than its row is a code in lower case.
+fn is_code(row: &[u8], name: &[u8]) -> bool
+    ensures { result ≡ Properties.is_code row.now name.now }
+{
+    let own = word(row).len();
+    own < name.len() && is_lower_hex(&name[own..])
+}
+
+/// Whether a text is a value by its row.
+fn is_value(row: &[u8], text: &[u8]) -> bool
+    ensures { result ≡ Properties.is_value row.now text.now }
+{
+    let form = row_form(row);
+    text.is_empty() || is_of_form(form_of(form), form, text)
+}
+
+/// What is said of a value that isn't of its form.
+fn value_misuse(form: ValueForm) -> Misuse
+    ensures { result ≡ Properties.value_misuse form }
+{
+    match form {
+        ValueForm::Key => Misuse::UnknownKey,
+        _ => Misuse::UnfitValue,
+    }
+}
+
+/// What is said of a property with this row.
+fn row_misuse(row: &[u8], name: &[u8], text: &[u8]) -> Option<Misuse>
+    ensures { result ≡ Properties.row_misuse row.now name.now text.now }
+{
+    let form = form_of(row_form(row));
+    if has_code(form) && !is_code(row, name) {
+        return Some(Misuse::ScanCode);
+    }
+    if is_value(row, text) {
+        return None;
+    }
+    Some(value_misuse(form))
+}
+
+/// What is said of a property with this name and this value, if it doesn't fit what is known. It takes a look at each
+/// row of the tables at most twice.
+pub fn misuse_of(name: &[u8], text: &[u8]) -> Option<Misuse>
+    ensures { result ≡ Properties.misuse name.now text.now }
+{
+    let row = property_row(name);
+    if !row.is_empty() {
+        return row_misuse(row, name, text);
+    }
+    if near_row(name).is_empty() {
+        return None;
+    }
+    Some(Misuse::NearName)
+}
+
+/// Adds which word was likely meant. The only error, here and below, is `AllocError`.
+fn push_did_you_mean(text: &mut Vec<u8>, row: &[u8]) -> Result<(), AllocError>
+    ensures { OnOk result (text.new.items ≡ text.old.items ++ Properties.did_you_mean row.now) }
+{
+    text.extend_from_slice(b"did you mean ")?;
+    text.extend_from_slice(word(row))?;
+    text.push(b'?')?;
+    Ok(())
+}
+
+/// What is a value of a form; for words that may be chosen, what comes before them.
+fn form_text(form: ValueForm) -> &'static str
+    ensures { Properties.form_hint form [] ≡ result.now }
+{
+    match form {
+        ValueForm::Any => "write any text",
+        ValueForm::Count => "write a number, as 10",
+        ValueForm::Integer => "write a whole number, as 15 or -15",
+        ValueForm::Byte => "write a number from 0 to 255",
+        ValueForm::Decimal => "write a decimal number, as 1.5",
+        ValueForm::Matrix => "write three rows of three numbers, as 1, 0, 0; 0, 1, 0; 0, 0, 1",
+        ValueForm::Resolutions => "write resolutions with spaces between, as 400@125 *800@125",
+        ValueForm::Axis => "write up to five numbers with colons between, as 0:4095:40",
+        ValueForm::Limits => "write two numbers with a comma between, as 75,80; a _ is for none",
+        ValueForm::Key => "write a key of linux/input-event-codes.h in lower case, without key_",
+        ValueForm::Choice => "write one of these: ",
+    }
+}
+
+/// Adds what is a value of a form, whose name is this word.
+fn push_form_hint(text: &mut Vec<u8>, kind: ValueForm, form: &[u8]) -> Result<(), AllocError>
+    ensures { OnOk result
+        (text.new.items ≡ text.old.items ++ Properties.form_hint kind form.now) }
+{
+    text.extend_from_slice(form_text(kind).as_bytes())?;
+    if let ValueForm::Choice = kind {
+        text.extend_from_slice(form)?;
+    }
+    Ok(())
+}
+
+/// Adds which key was likely meant, or how a key is written.
+fn push_key_hint(text: &mut Vec<u8>, value: &[u8]) -> Result<(), AllocError>
+    ensures { OnOk result (text.new.items ≡ text.old.items ++ Properties.key_hint value.now) }
+{
+    let row = near_key(without(b'!', value));
+    if row.is_empty() {
+        return push_form_hint(text, ValueForm::Key, &[]);
+    }
+    push_did_you_mean(text, row)
+}
+
+/// Adds what is a value of a property with this name.
+fn push_value_hint(text: &mut Vec<u8>, name: &[u8]) -> Result<(), AllocError>
+    ensures { OnOk result (text.new.items ≡ text.old.items ++ Properties.value_hint name.now) }
+{
+    let form = row_form(property_row(name));
+    push_form_hint(text, form_of(form), form)
+}
+
+/// Adds how a code is written.
+fn push_code_hint(text: &mut Vec<u8>) -> Result<(), AllocError>
+    ensures { OnOk result
+        (text.new.items ≡ text.old.items ++ Properties.misuse_hint Misuse.ScanCode [] []) }
+{
+    let hint = "write the code in the digits 0 to 9 and a to f alone, without 0x";
+    text.extend_from_slice(hint.as_bytes())?;
+    Ok(())
+}
+
+/// Adds what to do about a misuse of a property with this name and this value.
+pub fn push_misuse_hint(
+    text: &mut Vec<u8>,
+    misuse: Misuse,
+    name: &[u8],
+    value: &[u8],
+) -> Result<(), AllocError>
+    ensures { OnOk result (text.new.items
+        ≡ text.old.items ++ Properties.misuse_hint misuse name.now value.now) }
+{
+    match misuse {
+        Misuse::NearName => push_did_you_mean(text, near_row(name)),
+        Misuse::ScanCode => push_code_hint(text),
+        Misuse::UnknownKey => push_key_hint(text, value),
+        Misuse::UnfitValue => push_value_hint(text, name),
+    }
+}
+
+/// What is printed of a misuse.
+pub fn misuse_text(misuse: Misuse) -> &'static str
+    ensures { result.now ≡ Properties.misuse_text misuse }
+{
+    match misuse {
+        Misuse::NearName => "a property that nothing is known to read",
+        Misuse::ScanCode => "a code that isn't lower-case hexadecimal",
+        Misuse::UnknownKey => "a key that isn't known",
+        Misuse::UnfitValue => "a value that its property doesn't take",
+    }
+}

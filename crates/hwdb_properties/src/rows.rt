@@ -1,0 +1,81 @@
+//! The row of a table for a name.
+ghost use Rattle.std.specs.Prelude.{◌≡◌, Bool, List, ℕ, ◌-◌, length, drop};
+ghost use Rattle.hwdb_spec.specs.Properties;
+ghost use Rattle.hwdb_properties.specs.Internal.{passes};
+
+use crate::cuts::{after, before, same};
+use crate::names::is_near;
+use hwdb_text::end_of;
+
+/// How the name of a row is like one that is given.
+#[derive(Clone, Copy)]
+pub enum Likeness {
+    /// The row is for the name.
+    Same,
+    /// It is nearly the name.
+    Near,
+}
+
+/// A text up to its first space.
+pub fn word(text: &[u8]) -> &[u8]
+    ensures { result.now ≡ Properties.word text.now }
+{
+    before(b' ', text)
+}
+
+/// What is after the first space of a text.
+fn after_word(text: &[u8]) -> &[u8]
+    ensures { result.now ≡ Properties.after_word text.now }
+{
+    after(b' ', text)
+}
+
+/// The word for the form of a row's values.
+pub fn row_form(row: &[u8]) -> &[u8]
+    ensures { result.now ≡ Properties.row_form row.now }
+{
+    word(after_word(row))
+}
+
+/// Whether a row's name is for all names that begin with it.
+fn is_family(own: &[u8]) -> bool
+    ensures { result ≡ Properties.is_family own.now }
+{
+    let last = own.len().saturating_sub(1);
+    same(&own[last..], b"_")
+}
+
+/// Whether a row is for a name.
+fn is_for(row: &[u8], name: &[u8]) -> bool
+    ensures { result ≡ Properties.is_for row.now name.now }
+{
+    let own = word(row);
+    same(own, name) || is_family(own) && name.starts_with(own)
+}
+
+/// Whether a row's name is like one that is given.
+fn passes(row: &[u8], name: &[u8], likeness: Likeness) -> bool
+    ensures { result ≡ passes likeness name.now row.now }
+{
+    match likeness {
+        Likeness::Same => is_for(row, name),
+        Likeness::Near => is_near(word(row), name),
+    }
+}
+
+/// The first row of a table whose name is like one that is given; an empty text if there is none.
+pub fn first_row<'t>(table: &'t [u8], name: &[u8], likeness: Likeness) -> &'t [u8]
+    ensures { result.now ≡ Properties.first_row (passes likeness name.now) table.now }
+{
+    let mut at = 0;
+    while at < table.len() {
+        let rest = &table[at..];
+        let end = end_of(b'\n', rest);
+        let row = &rest[..end];
+        if passes(row, name, likeness) {
+            return row;
+        }
+        at = at + end + 1;
+    }
+    &[]
+}

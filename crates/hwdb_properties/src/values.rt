@@ -1,0 +1,183 @@
+//! Texts that are values of a form.
+ghost use Rattle.std.specs.Prelude.{◌≡◌};
+ghost use Rattle.hwdb_spec.specs.Lines;
+ghost use Rattle.hwdb_spec.specs.Properties;
+
+use crate::cuts::{after, before, same, without};
+use crate::numbers::{is_byte, is_count, is_decimal, is_integer, is_number};
+use crate::rows::{Likeness, first_row};
+use hwdb_spec::{KEY_NAMES, ValueForm};
+use hwdb_text::{end_of, unindented};
+
+/// Whether a text is three decimals with commas between.
+fn is_matrix_row(text: &[u8]) -> bool
+    ensures { result ≡ Properties.is_matrix_row text.now }
+{
+    let rest = after(b',', text);
+    is_decimal(unindented(before(b',', text)))
+        && is_decimal(unindented(before(b',', rest)))
+        && is_decimal(unindented(after(b',', rest)))
+}
+
+/// Whether a text is three rows with semicolons between.
+fn is_matrix(text: &[u8]) -> bool
+    ensures { result ≡ Properties.is_matrix text.now }
+{
+    let rest = after(b';', text);
+    is_matrix_row(before(b';', text))
+        && is_matrix_row(before(b';', rest))
+        && is_matrix_row(after(b';', rest))
+}
+
+/// Whether a text has a `@`.
+fn has_at(text: &[u8]) -> bool
+    ensures { result ≡ Lines.has 64 text.now }
+{
+    text.iter().any(|byte| *byte == b'@')
+}
+
+/// Whether a text is a resolution, or nothing.
+fn is_resolution(text: &[u8]) -> bool
+    ensures { result ≡ Properties.is_resolution text.now }
+{
+    let plain = without(b'*', text);
+    text.is_empty()
+        || is_count(before(b'@', plain)) && (!has_at(text) || is_count(after(b'@', plain)))
+}
+
+/// Whether a text is resolutions with spaces between.
+fn is_resolutions(text: &[u8]) -> bool
+    ensures { result ≡ Properties.is_resolutions text.now }
+{
+    let mut at = 0;
+    while at < text.len() {
+        let rest = &text[at..];
+        let end = end_of(b' ', rest);
+        if !is_resolution(&rest[..end]) {
+            return false;
+        }
+        at = at + end + 1;
+    }
+    true
+}
+
+/// Whether a text is a limit of an axis, or nothing.
+fn is_limit(text: &[u8]) -> bool
+    ensures { result ≡ Properties.is_limit text.now }
+{
+    text.is_empty() || is_number(without(b'-', text))
+}
+
+/// Whether a text is at most five limits with colons between.
+fn is_axis(text: &[u8]) -> bool
+    ensures { result ≡ Properties.is_axis text.now }
+{
+    let second = after(b':', text);
+    let third = after(b':', second);
+    let fourth = after(b':', third);
+    is_limit(before(b':', text))
+        && is_limit(before(b':', second))
+        && is_limit(before(b':', third))
+        && is_limit(before(b':', fourth))
+        && is_limit(after(b':', fourth))
+}
+
+/// Whether a text is digits, or `_`.
+fn is_charge(text: &[u8]) -> bool
+    ensures { result ≡ Properties.is_charge text.now }
+{
+    same(text, b"_") || is_count(text)
+}
+
+/// Whether a text is two charges with a comma between.
+fn is_limits(text: &[u8]) -> bool
+    ensures { result ≡ Properties.is_limits text.now }
+{
+    is_charge(before(b',', text)) && is_charge(after(b',', text))
+}
+
+/// Whether a text is the name of a key.
+fn is_key_name(text: &[u8]) -> bool
+    ensures { result ≡ Properties.is_key_name text.now }
+{
+    !first_row(KEY_NAMES.as_bytes(), text, Likeness::Same).is_empty()
+}
+
+/// Whether a text is a key: its name or its number.
+fn is_key(text: &[u8]) -> bool
+    ensures { result ≡ Properties.is_key text.now }
+{
+    is_number(text) || is_key_name(text) || text.starts_with(b"key_") && is_key_name(&text[4..])
+}
+
+/// Whether a text is a key, after a `!` or not; or a `!`, or nothing.
+fn is_key_or_release(text: &[u8]) -> bool
+    ensures { result ≡ Properties.is_of_form ValueForm.Key text.now text.now }
+{
+    let key = without(b'!', text);
+    key.is_empty() || is_key(key)
+}
+
+/// Whether a text is one of the words of a form.
+fn is_choice(form: &[u8], text: &[u8]) -> bool
+    ensures { result ≡ Properties.is_choice form.now text.now }
+{
+    let mut at = 0;
+    while at < form.len() {
+        let rest = &form[at..];
+        let end = end_of(b'|', rest);
+        if same(text, &rest[..end]) {
+            return true;
+        }
+        at = at + end + 1;
+    }
+    false
+}
+
+/// The form that a word of a row names.
+pub fn form_of(name: &[u8]) -> ValueForm
+    ensures { result ≡ Properties.form_of name.now }
+{
+    if same(name, b"any") {
+        ValueForm::Any
+    } else if same(name, b"count") {
+        ValueForm::Count
+    } else if same(name, b"integer") {
+        ValueForm::Integer
+    } else if same(name, b"byte") {
+        ValueForm::Byte
+    } else if same(name, b"decimal") {
+        ValueForm::Decimal
+    } else if same(name, b"matrix") {
+        ValueForm::Matrix
+    } else if same(name, b"resolutions") {
+        ValueForm::Resolutions
+    } else if same(name, b"axis") {
+        ValueForm::Axis
+    } else if same(name, b"limits") {
+        ValueForm::Limits
+    } else if same(name, b"key") {
+        ValueForm::Key
+    } else {
+        ValueForm::Choice
+    }
+}
+
+/// Whether a text is of a form, whose name is this word.
+pub fn is_of_form(kind: ValueForm, form: &[u8], text: &[u8]) -> bool
+    ensures { result ≡ Properties.is_of_form kind form.now text.now }
+{
+    match kind {
+        ValueForm::Any => true,
+        ValueForm::Count => is_count(text),
+        ValueForm::Integer => is_integer(text),
+        ValueForm::Byte => is_byte(text),
+        ValueForm::Decimal => is_decimal(text),
+        ValueForm::Matrix => is_matrix(text),
+        ValueForm::Resolutions => is_resolutions(text),
+        ValueForm::Axis => is_axis(text),
+        ValueForm::Limits => is_limits(text),
+        ValueForm::Key => is_key_or_release(text),
+        ValueForm::Choice => is_choice(form, text),
+    }
+}
