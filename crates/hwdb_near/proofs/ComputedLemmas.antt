@@ -3,7 +3,7 @@ use Rattle.std.proofs.Common.{◌≡◌, ◌∙◌, ap, sym, refl, subst, ℕ, z
 use Rattle.std.proofs.lemmas.Bool.{cases_eq}
 use Rattle.hwdb_spec.specs.Patterns.{Token, Matches, matches}
 use Rattle.hwdb_spec.specs.Tree.{some_up_to}
-use Rattle.hwdb_spec.specs.Near.{Front, Meets, Stops, last_up_to, first_up_to, meets, front_tokens, front_bytes, stop_of}
+use Rattle.hwdb_spec.specs.Near.{Front, Meets, Stops, last_up_to, first_up_to, meets_front, front_tokens, front_bytes, stop_of}
 
 some_here : (test : ℕ → Bool) (n : ℕ) → test n ≡ true → some_up_to test n ≡ true
 unfolding some_up_to
@@ -69,9 +69,9 @@ IsTested = (ts : List Token) (device : List ℕ) → IsTrue (matches ts device) 
 
 tokens_computed : IsTested → (ts : List Token) (device : List ℕ) (f : Front) → Stops ts device f → front_tokens ts device ≡ f.tokens
 tokens_computed tested ts device f s =
-    last_is (λ k. meets (take k ts) device) (length ts) f.tokens s.met.tokens
+    last_is (λ k. meets_front (take k ts) device) (length ts) f.tokens s.met.tokens
     (λ some. some_is (λ n. matches (take f.tokens ts) (take n device)) (length device) f.bytes s.met.bytes ((tested (take f.tokens ts) (take f.bytes device)).1 s.met.matched))
-    (λ k up le. not_true (meets (take k ts) device) (λ h. (
+    (λ k up le. not_true (meets_front (take k ts) device) (λ h. (
       let r : Some (λ n. matches (take k ts) (take n device)) (length device) = some_of (λ n. matches (take k ts) (take n device)) (length device) h in
       let bound = s.longest (record { tokens = k; bytes = r.at }) (record { tokens = le; bytes = r.within; matched = (tested (take k ts) (take r.at device)).0 r.passes }) in
       absurd (omega (arith, bound, up)))))

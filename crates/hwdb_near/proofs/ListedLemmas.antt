@@ -3,9 +3,9 @@ use Rattle.std.proofs.Common.{◌≡◌, ◌∙◌, ap, sym, refl, subst, ℕ, z
 use Rattle.std.proofs.lemmas.Bool.{cases_lt}
 use Rattle.std.proofs.lemmas.List.{drop_more, drop_all, drop-map, length-map}
 use Rattle.hwdb_spec.specs.Patterns.{Token, admits_byte}
-use Rattle.hwdb_spec.specs.Near.{is_star}
-use Rattle.hwdb_pattern.specs.Listed.{token_of}
-use Rattle.hwdb_pattern.specs.declared.token_list.Token.{Token as Listed}
+use Rattle.hwdb_spec.specs.Forms.{is_star}
+use Rattle.hwdb_near.specs.Internal.Listed.{token_of}
+use Rattle.hwdb_near.specs.Internal.Listed.{Listed}
 use Rattle.hwdb_near.specs.Internal.Runs.{run, star_at, IsBest, IsBestBefore, IsReached}
 use Rattle.hwdb_near.proofs.StopLemmas.{star_reached}
 use Rattle.hwdb_near.proofs.RunLemmas.{run_nothing, run_short, run_before_star}

@@ -8,8 +8,8 @@ use Rattle.std.proofs.lemmas.List.{append-nil, drop_more, drop_all, take_all, ta
 use Rattle.hwdb_spec.specs.Assignment.{put, put_all, in_order}
 use Rattle.hwdb_spec.specs.Patterns.{Token, Matches, matches, tokens}
 use Rattle.hwdb_spec.specs.Near.{PatternAt, Rated, folded, hits, literals, matching, missing, front_tokens, near_cmp, nearest, rated, unmet}
-use Rattle.hwdb_pattern.specs.Listed.{token_of}
-use Rattle.hwdb_pattern.specs.declared.token_list.Token.{Token as Listed}
+use Rattle.hwdb_near.specs.Internal.Listed.{token_of}
+use Rattle.hwdb_near.specs.Internal.Listed.{Listed}
 use Rattle.hwdb_near.specs.declared.kept.Rated.{Rated as Found}
 use Rattle.hwdb_near.specs.Internal.Ratings.{misses, rated_of}
 

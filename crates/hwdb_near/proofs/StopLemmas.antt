@@ -4,7 +4,7 @@ use Rattle.std.proofs.lemmas.Bool.{cases_lt, cases_eq}
 use Rattle.std.proofs.lemmas.List.{length-append, length-take-le, length-drop, take-append-drop, drop-drop, take_at}
 use Rattle.std.proofs.Math.Seq.{take-add}
 use Rattle.hwdb_spec.specs.Patterns.{Token, star, Matches}
-use Rattle.hwdb_spec.specs.Near.{Front, Meets, Stops, is_star}
+use Rattle.hwdb_spec.specs.Near.{Front, Meets, Stops}
 use Rattle.hwdb_near.specs.Internal.Runs.{run, star_at, IsBest, IsReached}
 use Rattle.hwdb_near.proofs.RunLemmas.{matches_append, Cut, cut_between, is_star_is, run_met, run_short, run_within, run_before_star, runs_or_star, RunsOrStar}
 

@@ -7,12 +7,12 @@
 ghost use Rattle.std.specs.Prelude.{◌≡◌, ◌≤◌, length, map, IfOk};
 ghost use Rattle.hwdb_spec.specs.Near.{Stops, stop_of, pattern_place};
 ghost use Rattle.hwdb_spec.specs.Patterns.{tokens};
-ghost use Rattle.hwdb_pattern.specs.Listed.{token_of};
+ghost use Rattle.hwdb_near.specs.Internal.Listed.{token_of};
 ghost use Rattle.hwdb_near.specs.Internal.Fronts.{front_of};
 ghost use Rattle.hwdb_near.specs.Views.{front_at};
 
 use crate::runs::{best_run, run, star_at};
-use hwdb_pattern::{Token, matches_is_tested, place_of, tokens_of};
+use hwdb_pattern::{front_size, matches_is_tested, token_texts};
 use std::alloc::{AllocError, Global};
 
 /// How many tokens match how many bytes of a device, from the front of both.
@@ -23,7 +23,7 @@ pub(crate) struct Front {
 }
 
 /// Where the tokens stop.
-pub(crate) fn longest_front(tokens: &[Token<'_>], device: &[u8]) -> Front
+pub(crate) fn longest_front(tokens: &[&[u8]], device: &[u8]) -> Front
     ensures stops { Stops (map token_of tokens.now) device.now (front_of result) }
     ensures computed { front_of result ≡ stop_of (map token_of tokens.now) device.now }
     ensures tokens { result.tokens ≤ length tokens.now }
@@ -65,14 +65,13 @@ pub fn stops(alloc: Global, pattern: &[u8], device: &[u8]) -> Result<Stop, Alloc
     ensures stops { IfOk result (λ s. Stops (tokens pattern.now) device.now (front_at s)) }
     ensures computed { IfOk result (λ s. front_at s ≡ stop_of (tokens pattern.now) device.now) }
     ensures place { IfOk result (λ s. s.pattern ≡ pattern_place pattern.now (front_at s)) }
-    ensures within { IfOk result (λ s. s.pattern ≤ length pattern.now) }
     ensures bytes { IfOk result (λ s. s.device ≤ length device.now) }
 {
-    let list = tokens_of(alloc, pattern)?;
+    let list = token_texts(alloc, pattern)?;
     let front = longest_front(&list, device);
     Ok(Stop {
         tokens: front.tokens,
-        pattern: place_of(pattern, front.tokens),
+        pattern: front_size(pattern, front.tokens),
         device: front.bytes,
     })
 }

@@ -3,10 +3,10 @@ ghost use Rattle.std.specs.Prelude.{◌≡◌, ◌≤◌, length, map, reverse, 
 ghost use Rattle.hwdb_spec.specs.Near;
 ghost use Rattle.hwdb_spec.specs.Near.{front_tokens, missing};
 ghost use Rattle.hwdb_spec.specs.Patterns.{tokens};
-ghost use Rattle.hwdb_pattern.specs.Listed.{token_of};
+ghost use Rattle.hwdb_near.specs.Internal.Listed.{token_of};
 
 use crate::fronts::longest_front;
-use hwdb_pattern::{Token, tokens_of};
+use hwdb_pattern::{begins_star, token_texts};
 use std::alloc::{AllocError, Global};
 
 /// A letter in lower case; any other byte as it is.
@@ -32,12 +32,12 @@ pub(crate) fn fold_case(alloc: Global, text: &[u8]) -> Result<Vec<u8>, AllocErro
 }
 
 /// How many of the tokens aren't stars.
-fn literals(tokens: &[Token<'_>]) -> usize
+fn literals(tokens: &[&[u8]]) -> usize
     ensures { result ≡ Near.literals (map token_of tokens.now) }
 {
     let mut count = 0;
     for token in tokens {
-        if !token.is_star() {
+        if !begins_star(token) {
             count += 1;
         }
     }
@@ -54,7 +54,7 @@ pub(crate) struct Nearness {
 }
 
 /// How near some tokens are to a device. They are turned in between.
-fn rate_tokens(tokens: &mut [Token<'_>], device: &[u8], reversed: &[u8]) -> Nearness
+fn rate_tokens(tokens: &mut [&[u8]], device: &[u8], reversed: &[u8]) -> Nearness
     requires { reversed.now ≡ reverse device.now }
     ensures missing { result.missing ≡ missing (map token_of tokens.old) device.now }
     ensures front { result.front ≡ front_tokens (map token_of tokens.old) device.now }
@@ -83,6 +83,6 @@ pub(crate) fn rate(
         (λ n. n.front ≡ front_tokens (tokens (Near.folded pattern.now)) device.now) }
 {
     let text = fold_case(alloc, pattern)?;
-    let mut list = tokens_of(alloc, &text)?;
+    let mut list = token_texts(alloc, &text)?;
     Ok(rate_tokens(&mut list, device, reversed))
 }

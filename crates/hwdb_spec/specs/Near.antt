@@ -1,12 +1,13 @@
 -- The pattern that almost matched, and where it stopped: what `near` says. Our choice.
-use Rattle.std.specs.Prelude.{Bool, true, false, ℕ, zero, suc, List, [], ◌∷◌, ◌++◌, ◌+◌, ◌≤◌, ◌≡◌, ◌==◌, if◌then◌else◌, codes, drop, filter, flat_map, length, map, nat_le, not, reverse, sum_by, take}
+use Rattle.std.specs.Prelude.{Bool, true, false, ℕ, zero, suc, List, [], ◌∷◌, ◌++◌, ◌+◌, ◌≤◌, ◌≡◌, ◌==◌, if◌then◌else◌, codes, drop, filter, flat_map, length, map, nat_le, not, reverse, take}
 use Rattle.std.specs.List.{position_or_len}
 use Rattle.std.specs.declared.cmp.Ordering.{Ordering}
 use Rattle.std.specs.Ordering.{nat_cmp, ordering_then}
 use Rattle.json.specs.Json.{Json, boolean}
 use Rattle.hwdb_spec.specs.Assignment.{in_order, text_cmp}
 use Rattle.hwdb_spec.specs.Lines.{byte, clean_line, is, is_dropped, is_long, is_match, Line, lines}
-use Rattle.hwdb_spec.specs.Patterns.{Token, bracket, in_span, literal, Matches, matches, one, star, token_at, token_size, tokens}
+use Rattle.hwdb_spec.specs.Patterns.{Token, in_span, Matches, matches, token_at, token_size, tokens}
+use Rattle.hwdb_spec.specs.Forms.{is_star, text_size}
 use Rattle.hwdb_spec.specs.Tree.{some_up_to}
 use Rattle.hwdb_spec.specs.Texts.{place_text}
 use Rattle.hwdb_spec.specs.Reports.{mark_line, shown, shown_line}
@@ -42,12 +43,12 @@ first_up_to test zero = 0
 first_up_to test (suc n) = if test 0 then 0 else 1 + first_up_to (λ k. test (suc k)) n
 
 -- whether tokens match a front of the device
-abbrev pub meets : List Token → List ℕ → Bool
-meets ts device = some_up_to (λ n. matches ts (take n device)) (length device)
+abbrev pub meets_front : List Token → List ℕ → Bool
+meets_front ts device = some_up_to (λ n. matches ts (take n device)) (length device)
 
 -- how many tokens the longest front has that matches a front of the device
 abbrev pub front_tokens : List Token → List ℕ → ℕ
-front_tokens ts device = last_up_to (λ k. meets (take k ts) device) (length ts)
+front_tokens ts device = last_up_to (λ k. meets_front (take k ts) device) (length ts)
 
 -- the least number of bytes from the device's front on that the longest front matches
 abbrev pub front_bytes : List Token → List ℕ → ℕ
@@ -66,13 +67,6 @@ lower b = if in_span b (65, 90) then b + 32 else b
 -- a text with its letters in lower case
 abbrev pub folded : List ℕ → List ℕ
 folded text = map lower text
-
--- whether a token is a star
-abbrev pub is_star : Token → Bool
-is_star star = true
-is_star one = false
-is_star (bracket found) = false
-is_star (literal own) = false
 
 -- how many of some tokens aren't stars
 abbrev pub literals : List Token → ℕ
@@ -143,7 +137,7 @@ patterns_in path file bytes = flat_map (patterns_of_line path file) (lines bytes
 
 -- after how many bytes of a pattern it stops
 abbrev pub pattern_place : (pattern : List ℕ) → Front → ℕ
-pattern_place pattern f = sum_by token_size (take f.tokens (tokens pattern))
+pattern_place pattern f = text_size (take f.tokens (tokens pattern))
 
 -- a text, as it is shown, between two backquotes
 abbrev pub quoted : List ℕ → List ℕ

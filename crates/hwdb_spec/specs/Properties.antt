@@ -1,7 +1,7 @@
 -- What is known of properties: which names they have, which texts are their values, which prefixes they are read below, and what is
 -- said of a property that doesn't fit. Which forms a value has is from the heads of systemd's hwdb files, and from what libinput and udev
 -- read. The rest is our choice.
-use Rattle.std.specs.Prelude.{Bool, true, false, ℕ, List, [], ◌∷◌, ◌++◌, ◌+◌, ◌-◌, ◌==◌, Option, None, Some, if◌then◌else◌, codes, drop, length, nat_eq, nat_le, nat_lt, not}
+use Rattle.std.specs.Prelude.{Bool, true, false, ℕ, List, [], ◌∷◌, ◌++◌, ◌+◌, ◌-◌, ◌==◌, Option, None, Some, if◌then◌else◌, codes, drop, length, nat_eq, nat_lt, not}
 use Rattle.std.specs.List.{after_first, before_first, find, list_all, list_any, prefix_len, starts_with}
 use Rattle.std.specs.Option.{unwrap_or}
 use Rattle.std.specs.Ordering.{is_gt}

@@ -1,7 +1,8 @@
 -- Our own words: how far tokens go along a device without a star.
 use Rattle.std.specs.Prelude.{Bool, false, true, ℕ, zero, suc, List, [], ◌∷◌, ◌+◌, ◌≤◌, ◌<◌, ◌≡◌, cond, drop, length}
 use Rattle.hwdb_spec.specs.Patterns.{Token, admits_byte}
-use Rattle.hwdb_spec.specs.Near.{Front, Meets, is_star}
+use Rattle.hwdb_spec.specs.Forms.{is_star}
+use Rattle.hwdb_spec.specs.Near.{Front, Meets}
 
 -- how many of some tokens take the first bytes of a device, one after another; a star takes none
 unfoldable pub run : List Token → List ℕ → ℕ

@@ -1,6 +1,6 @@
 use Rattle.std.proofs.Common.{◌∙◌, ◌≡◌, ◌+◌, ap, sym, subst, arith, length, map, drop, ℕ}
 use Rattle.std.proofs.lemmas.List.{take_rest, length-drop}
-use Rattle.hwdb_pattern.specs.Listed.{token_of}
+use Rattle.hwdb_near.specs.Internal.Listed.{token_of}
 use Rattle.hwdb_near.specs.Internal.Runs.{IsReached}
 use Rattle.hwdb_near.specs.Internal.Fronts.{front_of}
 use Rattle.hwdb_near.proofs.StopLemmas.{first_reached, stopped}

@@ -1,5 +1,5 @@
 use Rattle.std.proofs.Common.{◌≤◌, ◌-◌, map, length}
-use Rattle.hwdb_pattern.specs.Listed.{token_of}
+use Rattle.hwdb_near.specs.Internal.Listed.{token_of}
 use Rattle.hwdb_near.specs.Internal.Runs.{IsReached}
 use Rattle.hwdb_near.specs.Internal.Fronts.{front_of}
 use Rattle.hwdb_near.proofs.fronts.longest_front.Given as goal

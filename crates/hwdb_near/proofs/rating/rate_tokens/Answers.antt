@@ -1,8 +1,8 @@
 use Rattle.std.proofs.Common.{◌∙◌, ◌≡◌, ◌-◌, ap, length, map, reverse, take, List, ℕ}
 use Rattle.std.proofs.lemmas.List.{take_rest, length-reverse}
 use Rattle.hwdb_spec.specs.Near.{Front, literals}
-use Rattle.hwdb_pattern.specs.Listed.{token_of}
-use Rattle.hwdb_pattern.specs.declared.token_list.Token.{Token}
+use Rattle.hwdb_near.specs.Internal.Listed.{token_of}
+use Rattle.hwdb_near.specs.Internal.Listed.{Listed as Token}
 use Rattle.hwdb_near.proofs.NearestLemmas.{missing_is}
 use Rattle.hwdb_near.proofs.rating.rate_tokens.Goals as goal
 

@@ -1,5 +1,5 @@
 use Rattle.std.proofs.Common.{◌≡◌, ◌≤◌, ◌<◌, ◌+◌, ◌-◌, map, drop, length, ℕ}
-use Rattle.hwdb_pattern.specs.Listed.{token_of}
+use Rattle.hwdb_near.specs.Internal.Listed.{token_of}
 use Rattle.hwdb_near.specs.Internal.Runs.{run, IsBestBefore}
 use Rattle.hwdb_near.proofs.runs.best_run.Given as goal
 

@@ -1,5 +1,5 @@
 use Rattle.std.proofs.Common.{◌∙◌, sym, map, eqb-true, length}
-use Rattle.hwdb_pattern.specs.Listed.{token_of}
+use Rattle.hwdb_near.specs.Internal.Listed.{token_of}
 use Rattle.hwdb_near.proofs.RunLemmas.{run_before_star}
 use Rattle.hwdb_near.proofs.ListedLemmas.{whole_at_end}
 use Rattle.hwdb_near.proofs.runs.is_whole.Goals as goal

@@ -1,6 +1,5 @@
 use Rattle.std.proofs.Common.{◌∙◌, sym, arith, inl, inr, ◌≡◌, ◌+◌, map, drop}
-use Rattle.hwdb_pattern.specs.declared.token_list.Token.TheVariants.{Star}
-use Rattle.hwdb_pattern.specs.Listed.{token_of}
+use Rattle.hwdb_near.specs.Internal.Listed.{token_of}
 use Rattle.hwdb_near.specs.Internal.Runs.{run}
 use Rattle.hwdb_near.proofs.ListedLemmas.{run_goes, run_stops, run_ended}
 use Rattle.hwdb_near.proofs.runs.run.Goals as goal
@@ -9,12 +8,12 @@ pub loop-taken-preserved : goal.loop-taken-preserved
 loop-taken-preserved c = record {
   tokens = omega (arith, c.loop-taken-test.true);
   bytes = omega (arith, c.if-taken-device.true);
-  run = run_goes c.args.tokens.now c.args.device.now c.loop-taken.taken _ Star c.admits.result c.loop-taken-test.true c.if-taken-device.true c.admits.ensures c.if-admits.true c.loop-taken.invariant.run;
+  run = run_goes c.args.tokens.now c.args.device.now c.loop-taken.taken _ _ c.begins_with.result c.loop-taken-test.true c.if-taken-device.true c.begins_with.ensures c.if-begins_with.true c.loop-taken.invariant.run;
 }
 
-pub returns-else-admits-clause-run : goal.returns-else-admits-clause-run
-returns-else-admits-clause-run c =
-    run_stops c.args.tokens.now c.args.device.now c.loop-taken.taken _ Star c.admits.result c.loop-taken-test.true c.if-taken-device.true c.admits.ensures c.if-admits.false c.loop-taken.invariant.run
+pub returns-else-begins_with-clause-run : goal.returns-else-begins_with-clause-run
+returns-else-begins_with-clause-run c =
+    run_stops c.args.tokens.now c.args.device.now c.loop-taken.taken _ _ c.begins_with.result c.loop-taken-test.true c.if-taken-device.true c.begins_with.ensures c.if-begins_with.false c.loop-taken.invariant.run
 
 pub returns-else-taken-device-clause-run : goal.returns-else-taken-device-clause-run
 returns-else-taken-device-clause-run c =

@@ -1,5 +1,5 @@
 use Rattle.std.proofs.Common.{◌≡◌, ◌≤◌, ◌+◌, ◌-◌, map, drop, length}
-use Rattle.hwdb_pattern.specs.Listed.{token_of}
+use Rattle.hwdb_near.specs.Internal.Listed.{token_of}
 use Rattle.hwdb_near.specs.Internal.Runs.{run}
 use Rattle.hwdb_near.proofs.runs.run.Given as goal
 
