@@ -3,3 +3,5 @@ pub mod StopLemmas
 pub mod ListedLemmas
 pub mod ComputedLemmas
 pub mod NearestLemmas
+pub mod LineLemmas
+pub mod JsonLemmas

@@ -3,3 +3,4 @@ pub mod Listed
 pub mod Runs
 pub mod Fronts
 pub mod Ratings
+pub mod Lines

@@ -11,13 +11,23 @@
 //! | `rating` | how near a pattern is |
 //! | `kept` | the nearest so far |
 //! | `nearest` | those of some patterns that match, and the nearest that don't |
+//! | `patterns` | the patterns of a text file |
+//! | `reports` | what is printed of patterns as text |
+//! | `json_lines` | what is printed of patterns as lines of JSON |
+//! | `printing` | what `near` prints |
 #![tactic(auto)]
 
 mod fronts;
+mod json_lines;
 mod kept;
 mod nearest;
+mod patterns;
+mod printing;
 mod rating;
+mod reports;
 mod runs;
 
 pub use fronts::{Stop, stops};
 pub use kept::PatternAt;
+pub use patterns::{TextFile, push_patterns};
+pub use printing::{near_json, near_text};

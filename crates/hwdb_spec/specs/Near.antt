@@ -1,12 +1,12 @@
 -- The pattern that almost matched, and where it stopped: what `near` says. Our choice.
-use Rattle.std.specs.Prelude.{Bool, true, false, ℕ, zero, suc, List, [], ◌∷◌, ◌++◌, ◌+◌, ◌≤◌, ◌≡◌, ◌==◌, if◌then◌else◌, codes, drop, filter, flat_map, length, map, nat_le, not, reverse, take}
+use Rattle.std.specs.Prelude.{Bool, true, false, ℕ, zero, suc, List, [], ◌∷◌, ◌++◌, ◌+◌, ◌≤◌, ◌≡◌, if◌then◌else◌, codes, drop, filter, flat_map, length, map, nat_le, not, reverse, take}
 use Rattle.std.specs.List.{position_or_len}
 use Rattle.std.specs.declared.cmp.Ordering.{Ordering}
 use Rattle.std.specs.Ordering.{nat_cmp, ordering_then}
 use Rattle.json.specs.Json.{Json, boolean}
 use Rattle.hwdb_spec.specs.Assignment.{in_order, text_cmp}
-use Rattle.hwdb_spec.specs.Lines.{byte, clean_line, is, is_dropped, is_long, is_match, Line, lines}
-use Rattle.hwdb_spec.specs.Patterns.{Token, in_span, Matches, matches, token_at, token_size, tokens}
+use Rattle.hwdb_spec.specs.Lines.{begins_with, byte, clean_line, is, is_dropped, is_long, is_match, is_none, Line, lines}
+use Rattle.hwdb_spec.specs.Patterns.{Token, in_span, Matches, matches, tokens}
 use Rattle.hwdb_spec.specs.Forms.{is_star, text_size}
 use Rattle.hwdb_spec.specs.Tree.{some_up_to}
 use Rattle.hwdb_spec.specs.Texts.{place_text}
@@ -143,38 +143,42 @@ pattern_place pattern f = text_size (take f.tokens (tokens pattern))
 abbrev pub quoted : List ℕ → List ℕ
 quoted text = byte "`" ∷ (shown text ++ byte "`" ∷ [])
 
--- the text of the token at the beginning of a text
+-- the text of the first token of a text
 abbrev pub token_text : List ℕ → List ℕ
-token_text text = take (token_size (token_at text)) text
+token_text text = take (text_size (take 1 (tokens text))) text
 
 -- a device's text up to its first colon, with it
 abbrev pub head_of : List ℕ → List ℕ
 head_of device = take (position_or_len (is (byte ":")) device + 1) device
 
--- Why a pattern stops after so many bytes of the device, by what is left of both. In words: one of the two ends; the device's
--- first part is another one; a space that udev has written as `_`; another byte.
+-- Why a pattern stops after so many bytes of a device, by what is left of both: one of the two ends; the device's first part is
+-- another one; a space is there, which udev has written as `_`; another byte is there.
 abbrev pub why_text : (device : List ℕ) (met : ℕ) (wanted left : List ℕ) → List ℕ
-why_text device met wanted [] = codes "the device ends here, the pattern goes on"
-why_text device met [] (b ∷ left) = codes "the pattern ends here, the device goes on: put `*` after it"
-why_text device met (p ∷ wanted) (b ∷ left) =
-    if nat_le met (position_or_len (is (byte ":")) device) then codes "the device begins with " ++ quoted (head_of device)
-    else (if (if p == byte " " then b == byte "_" else false) then codes "a space, which udev makes `_`"
-    else codes "the device has " ++ (quoted (b ∷ []) ++ (codes ", the pattern " ++ quoted (token_text (p ∷ wanted)))))
+why_text device met wanted left =
+    if is_none left then codes "the device ends here, the pattern goes on"
+    else (if is_none wanted then codes "the pattern ends here, the device goes on: put `*` after it"
+    else (if nat_le met (position_or_len (is (byte ":")) device) then codes "the device begins with " ++ quoted (head_of device)
+    else (if (if begins_with (byte " ") wanted then begins_with (byte "_") left else false) then codes "a space, which udev makes `_`"
+    else codes "the device has " ++ (quoted (take 1 left) ++ (codes ", the pattern " ++ quoted (token_text wanted))))))
 
 -- the line of a place: its path and line, `: `, and what is said of its pattern
 abbrev pub said_line : PatternAt → List ℕ → List ℕ
 said_line at said = place_text at.path at.line ++ codes ": " ++ (said ++ byte "\n" ∷ [])
 
 -- the report of a pattern that matches
-abbrev pub hit_report : PatternAt → List ℕ
-hit_report at = said_line at (codes "the pattern matches") ++ shown_line at.pattern
+abbrev pub match_report : PatternAt → List ℕ
+match_report at = said_line at (codes "the pattern matches") ++ shown_line at.pattern
+
+-- a line as it is shown, and the mark below its byte after so many others
+abbrev pub marked : List ℕ → ℕ → List ℕ
+marked text at = shown_line text ++ mark_line text at
 
 -- the report of a pattern that stops there: why, and the pattern and the device, each with a mark below its byte
 abbrev pub stop_report : (device : List ℕ) → PatternAt → Front → List ℕ
 stop_report device at f =
     let place = pattern_place at.pattern f in
     said_line at (why_text device f.bytes (drop place at.pattern) (drop f.bytes device))
-    ++ (shown_line at.pattern ++ (mark_line at.pattern place ++ (shown_line device ++ mark_line device f.bytes)))
+    ++ (marked at.pattern place ++ marked device f.bytes)
 
 -- the report of a pattern that doesn't match
 abbrev pub near_report : List ℕ → Rated → List ℕ
@@ -182,7 +186,7 @@ near_report device r = stop_report device r.at (stop_of (tokens r.at.pattern) de
 
 -- what `near` prints of some patterns: those that match, then the nearest that don't
 abbrev pub near_text : List ℕ → (limit : ℕ) → List PatternAt → List ℕ
-near_text device limit all = flat_map hit_report (matching device all) ++ flat_map (near_report device) (nearest device limit all)
+near_text device limit all = flat_map match_report (matching device all) ++ flat_map (near_report device) (nearest device limit all)
 
 -- a pattern, the device, how far they go together, and whether the pattern matches
 abbrev pub place_json : (device : List ℕ) → PatternAt → (pattern_byte device_byte : ℕ) → Bool → Json
@@ -192,8 +196,8 @@ place_json device at pattern_byte device_byte matches =
     ∷ (codes "matches", boolean matches) ∷ [])
 
 -- the line of a pattern that matches: both go on to their ends
-abbrev pub hit_json : List ℕ → PatternAt → List ℕ
-hit_json device at = json_line (place_json device at (length at.pattern) (length device) true)
+abbrev pub match_json_line : List ℕ → PatternAt → List ℕ
+match_json_line device at = json_line (place_json device at (length at.pattern) (length device) true)
 
 -- the line of a pattern that doesn't match
 abbrev pub near_json_line : List ℕ → Rated → List ℕ
@@ -203,4 +207,4 @@ near_json_line device r =
 
 -- what `near --json` prints of some patterns
 abbrev pub near_json : List ℕ → (limit : ℕ) → List PatternAt → List ℕ
-near_json device limit all = flat_map (hit_json device) (matching device all) ++ flat_map (near_json_line device) (nearest device limit all)
+near_json device limit all = flat_map (match_json_line device) (matching device all) ++ flat_map (near_json_line device) (nearest device limit all)

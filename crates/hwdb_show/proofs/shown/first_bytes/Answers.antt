@@ -1,7 +1,7 @@
 use Rattle.std.proofs.Common.{sym, arith}
 use Rattle.std.proofs.lemmas.List.{length-take-le, take_all}
 use Rattle.hwdb_spec.specs.Reports.{max_shown}
-use Rattle.hwdb_lint.proofs.shown.first_bytes.Goals as goal
+use Rattle.hwdb_show.proofs.shown.first_bytes.Goals as goal
 
 pub slice_bounds-result-end : goal.slice_bounds-result-end
 slice_bounds-result-end c = sym (length-take-le max_shown c.args.line.now (omega arith))

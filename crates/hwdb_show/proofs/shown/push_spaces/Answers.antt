@@ -1,7 +1,7 @@
 use Rattle.std.proofs.Common.{◌∙◌, ◌++◌, ◌∷◌, [], ap, append_assoc, add-one}
 use Rattle.hwdb_spec.specs.Reports.{spaces}
-use Rattle.hwdb_lint.proofs.ShownLemmas.{one_more_space}
-use Rattle.hwdb_lint.proofs.shown.push_spaces.Goals as goal
+use Rattle.hwdb_show.proofs.ShownLemmas.{one_more_space}
+use Rattle.hwdb_show.proofs.shown.push_spaces.Goals as goal
 
 pub loop-byte-preserved : goal.loop-byte-preserved
 loop-byte-preserved c =
