@@ -1,5 +1,5 @@
 //! What is printed of patterns as text.
-ghost use Rattle.std.specs.Prelude.{◌≡◌, ◌++◌, codes, drop, flat_map, map, take, IfOk, OnOk};
+ghost use Rattle.std.specs.Prelude.{◌≡◌, ◌++◌, codes, drop, flat_map, map, take, OnOk};
 ghost use Rattle.hwdb_spec.specs.Lines;
 ghost use Rattle.hwdb_spec.specs.Near;
 ghost use Rattle.hwdb_spec.specs.Near.{marked, match_report, near_report, quoted, said_line, why_text};
@@ -40,6 +40,14 @@ fn token_text(text: &[u8]) -> &[u8]
     ensures { result.now ≡ Near.token_text text.now }
 {
     first(text, front_size(text, 1))
+}
+
+/// Whether a device has a colon, and not before so many bytes.
+fn is_in_head(device: &[u8], met: usize) -> bool
+    ensures { result ≡ Near.is_in_head device.now met }
+{
+    let colon = end_of(b':', device);
+    colon < device.len() && met <= colon
 }
 
 /// A device's text up to its first colon, with it.
@@ -107,7 +115,7 @@ fn push_why(
             "the pattern ends here, the device goes on: put `*` after it",
         );
     }
-    if met <= end_of(b':', device) {
+    if is_in_head(device, met) {
         return push_head(text, head_of(device));
     }
     if hwdb_text::begins_with(b' ', wanted) && hwdb_text::begins_with(b'_', left) {
