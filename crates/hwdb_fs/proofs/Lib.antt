@@ -7,3 +7,4 @@ pub mod RootLemmas
 pub mod SelectionLemmas
 pub mod RawLemmas
 pub mod EntryLemmas
+pub mod ReadLawLemmas

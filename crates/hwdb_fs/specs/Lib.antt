@@ -4,3 +4,4 @@ pub mod Roots
 pub mod Internal
 pub mod LeftOut
 pub mod Raw
+pub mod ReadLaws
