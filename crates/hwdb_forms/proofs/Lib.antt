@@ -3,6 +3,8 @@ pub mod MeetLemmas
 pub mod RowLemmas
 pub mod ReadLemmas
 pub mod LoopLemmas
+pub mod LeadLemmas
 pub mod AnswerLemmas
 pub mod ExampleLemmas
 pub mod FrontLemmas
+pub mod ExpectedLemmas

@@ -1,5 +1,5 @@
 -- The loops that write rows, from the back.
-use Rattle.std.proofs.Common.{◌≡◌, ℕ, ◌+◌, ◌<◌, ◌≤◌, Bool, true, false, List, [], ◌∷◌, ◌++◌, refl, sym, ap, subst, ◌∙◌, map, Bor, length, drop, get_or, suc, zero, add-one, arith, ◌⊎◌, inl, inr}
+use Rattle.std.proofs.Common.{◌≡◌, ℕ, ◌+◌, ◌<◌, Bool, true, false, List, [], ◌∷◌, ◌++◌, refl, sym, ap, subst, ◌∙◌, map, Bor, length, drop, get_or, suc, zero, add-one, arith}
 use Rattle.std.proofs.Math.Seq.{drop-cons, drop-length}
 use Rattle.std.proofs.Math.ListN.{replicate, set}
 use Rattle.std.proofs.lemmas.List.{drop-set}
@@ -8,7 +8,7 @@ use Rattle.hwdb_spec.specs.declared.ByteSet.{ByteSet}
 use Rattle.hwdb_spec.specs.declared.ByteSet.TheVariants.{Only}
 use Rattle.hwdb_spec.specs.Patterns.{Token, bracket, literal, one, star, token_at}
 use Rattle.hwdb_spec.specs.Forms.{is_star, meets, head, tail, byte_cell, byte_row, many_cell, many_row, fixed_row, counted_row, piece_row, pieces_row, either_row, end_row, none_row, field_row, fields_row}
-use Rattle.hwdb_forms.specs.Internal.{begins_otherwise, piece_of, views}
+use Rattle.hwdb_forms.specs.Internal.{piece_of, views}
 use Rattle.hwdb_forms.specs.declared.pieces.Piece as Rust
 
 pub head_drop : (row : List Bool) (at : ℕ) → head (drop at row) ≡ get_or row at false
@@ -42,11 +42,11 @@ all_dropped l n e = ap (λ k. drop k l) (sym e) ∙ drop-length l
 first_written : (new : List Bool) (n : ℕ) (cell : Bool) → length new ≡ suc n → drop n (set new n cell) ≡ cell ∷ []
 first_written new n cell e = written new n cell (omega (arith, e)) ∙ ap (λ r. cell ∷ r) (all_dropped new (suc n) e)
 
-split : (ts : List Token) (at : ℕ) → at < length ts → drop at ts ≡ get_or ts at star ∷ drop (suc at) ts
+pub split : (ts : List Token) (at : ℕ) → at < length ts → drop at ts ≡ get_or ts at star ∷ drop (suc at) ts
 split ts at h = drop-cons ts at star h
 
 -- tokens that are given by the texts that they begin
-views_length : (texts : List (Bor (List ℕ))) → length (views texts) ≡ length texts
+pub views_length : (texts : List (Bor (List ℕ))) → length (views texts) ≡ length texts
 views_length [] = refl
 views_length (t ∷ texts) = ap suc (views_length texts)
 
@@ -54,12 +54,12 @@ views_length (t ∷ texts) = ap suc (views_length texts)
 abbrev pub none : Bor (List ℕ)
 none = record { ref_ptr = (0, 0); now = [] }
 
-view_at : (texts : List (Bor (List ℕ))) (at : ℕ) → at < length texts → token_at (get_or texts at none).now ≡ get_or (views texts) at star
+pub view_at : (texts : List (Bor (List ℕ))) (at : ℕ) → at < length texts → token_at (get_or texts at none).now ≡ get_or (views texts) at star
 view_at [] at h = absurd (omega arith)
 view_at (t ∷ texts) zero h = refl
 view_at (t ∷ texts) (suc at) h = view_at texts at (omega arith)
 
-below : (texts : List (Bor (List ℕ))) (at : ℕ) → at < length texts → at < length (views texts)
+pub below : (texts : List (Bor (List ℕ))) (at : ℕ) → at < length texts → at < length (views texts)
 below texts at h = subst (λ (k : ℕ). at < k) (sym (views_length texts)) h
 
 pub star_view : (texts : List (Bor (List ℕ))) (at : ℕ) (b : Bool) → at < length texts → b ≡ is_star (token_at (get_or texts at (record { ref_ptr = (0, 0); now = [] })).now) → b ≡ is_star (get_or (views texts) at star)
@@ -94,7 +94,7 @@ byte_kept own texts row new n at cell here behind next e h w r v x y z k =
     let second : behind ≡ get_or row (suc at) false = cell_read row (suc at) behind r (y ∙ rw add-one refl) in
     let third : next ≡ get_or new (suc at) false = cell_read new (suc at) next w (z ∙ rw add-one refl) in
     let told : cell ≡ byte_cell (is_star (get_or ts at star)) (meets (get_or ts at star) own) (get_or row at false) (get_or row (suc at) false) (get_or new (suc at) false) =
-        v ∙ rw (view_at texts at h, first, second, third) refl in
+    v ∙ rw (view_at texts at h, first, second, third) refl in
     written new at cell (omega arith) ∙ ap (λ b. b ∷ drop (suc at) new) told ∙ byte_step own ts row new at (get_or ts at star) (split ts at (below texts at h)) done
 
 -- any number of bytes
@@ -123,7 +123,7 @@ many_kept own texts row new n at cell here next e h w r v x z k =
     let first : here ≡ get_or row at false = cell_read row at here (omega arith) x in
     let third : next ≡ get_or new (suc at) false = cell_read new (suc at) next w (z ∙ rw add-one refl) in
     let told : cell ≡ many_cell (is_star (get_or ts at star)) (meets (get_or ts at star) own) (get_or row at false) (get_or new (suc at) false) =
-        v ∙ rw (view_at texts at h, first, third) refl in
+    v ∙ rw (view_at texts at h, first, third) refl in
     written new at cell (omega arith) ∙ ap (λ b. b ∷ drop (suc at) new) told ∙ many_step own ts row new at (get_or ts at star) (split ts at (below texts at h)) done
 
 -- these bytes
@@ -246,105 +246,6 @@ fields_kept fs ts old new n at d e h k v =
 pub head_at : (row : List Bool) (b : Bool) → 0 < length row → b ≡ get_or row 0 b → b ≡ head row
 head_at [] b h e = absurd (omega arith)
 head_at (x ∷ row) b h e = e
-
--- whether tokens begin otherwise
-both_dropped : (bytes : List ℕ) (texts : List (Bor (List ℕ))) (at : ℕ) → at < length bytes → at < length texts
-    → begins_otherwise (drop at bytes) (drop at (views texts)) ≡ begins_otherwise (get_or bytes at 0 ∷ drop (suc at) bytes) (get_or (views texts) at star ∷ drop (suc at) (views texts))
-both_dropped bytes texts at h k = rw (drop-cons bytes at 0 h, split (views texts) at (below texts at k)) refl
-
-if_star : (b met rest : Bool) → b ≡ true → (if b then false else (if met then rest else true)) ≡ false
-if_star true met rest e = refl
-if_star false met rest e = cc
-
-if_unmet : (b met rest : Bool) → b ≡ false → met ≡ false → (if b then false else (if met then rest else true)) ≡ true
-if_unmet false false rest e f = refl
-if_unmet true met rest e f = cc
-if_unmet false true rest e f = cc
-
-if_met : (b met rest : Bool) → b ≡ false → met ≡ true → (if b then false else (if met then rest else true)) ≡ rest
-if_met false true rest e f = refl
-if_met true met rest e f = cc
-if_met false false rest e f = cc
-
-pub stopped : (bytes : List ℕ) (texts : List (Bor (List ℕ))) (at : ℕ) (starred whole : Bool) → at < length bytes → at < length texts
-    → starred ≡ is_star (get_or (views texts) at star) → starred ≡ true → begins_otherwise (drop at bytes) (drop at (views texts)) ≡ whole → false ≡ whole
-stopped bytes texts at starred whole h k s e w =
-    sym (sym w ∙ both_dropped bytes texts at h k
-    ∙ if_star (is_star (get_or (views texts) at star)) (meets (get_or (views texts) at star) (Only (get_or bytes at 0))) (begins_otherwise (drop (suc at) bytes) (drop (suc at) (views texts))) (sym s ∙ e))
-
-pub differs : (bytes : List ℕ) (texts : List (Bor (List ℕ))) (at : ℕ) (starred met whole : Bool) → at < length bytes → at < length texts
-    → starred ≡ is_star (get_or (views texts) at star) → starred ≡ false → met ≡ meets (get_or (views texts) at star) (Only (get_or bytes at 0)) → met ≡ false
-    → begins_otherwise (drop at bytes) (drop at (views texts)) ≡ whole → true ≡ whole
-differs bytes texts at starred met whole h k s e m f w =
-    sym (sym w ∙ both_dropped bytes texts at h k
-    ∙ if_unmet (is_star (get_or (views texts) at star)) (meets (get_or (views texts) at star) (Only (get_or bytes at 0))) (begins_otherwise (drop (suc at) bytes) (drop (suc at) (views texts))) (sym s ∙ e) (sym m ∙ f))
-
-pub agrees : (bytes : List ℕ) (texts : List (Bor (List ℕ))) (at n : ℕ) (starred met whole : Bool) → at < length bytes → at < length texts → n ≡ suc at
-    → starred ≡ is_star (get_or (views texts) at star) → starred ≡ false → met ≡ meets (get_or (views texts) at star) (Only (get_or bytes at 0)) → met ≡ true
-    → begins_otherwise (drop at bytes) (drop at (views texts)) ≡ whole → begins_otherwise (drop n bytes) (drop n (views texts)) ≡ whole
-agrees bytes texts at n starred met whole h k l s e m f w =
-    ap (λ (i : ℕ). begins_otherwise (drop i bytes) (drop i (views texts))) l
-    ∙ sym (both_dropped bytes texts at h k
-    ∙ if_met (is_star (get_or (views texts) at star)) (meets (get_or (views texts) at star) (Only (get_or bytes at 0))) (begins_otherwise (drop (suc at) bytes) (drop (suc at) (views texts))) (sym s ∙ e) (sym m ∙ f))
-    ∙ w
-
-no_tokens : (bytes : List ℕ) (ts : List Token) → ts ≡ [] → begins_otherwise bytes ts ≡ false
-no_tokens [] ts e = refl
-no_tokens (b ∷ bytes) [] e = refl
-no_tokens (b ∷ bytes) (t ∷ ts) e = cc
-
-long_drop : (A : Type 0) (l : List A) (n : ℕ) → length l ≤ n → drop n l ≡ []
-long_drop A [] zero h = refl
-long_drop A [] (suc n) h = refl
-long_drop A (x ∷ l) zero h = absurd (omega arith)
-long_drop A (x ∷ l) (suc n) h = long_drop A l n (omega arith)
-
-pub out_of_bytes : (bytes : List ℕ) (ts : List Token) (at : ℕ) (whole : Bool) → length bytes ≤ at → begins_otherwise (drop at bytes) ts ≡ whole → false ≡ whole
-out_of_bytes bytes ts at whole h w = ap (λ (r : List ℕ). begins_otherwise r ts) (sym (long_drop ℕ bytes at h)) ∙ w
-
-pub out_of_tokens : (bytes : List ℕ) (texts : List (Bor (List ℕ))) (at : ℕ) (whole : Bool) → length texts ≤ at → begins_otherwise bytes (drop at (views texts)) ≡ whole → false ≡ whole
-out_of_tokens bytes texts at whole h w =
-    sym (no_tokens bytes (drop at (views texts)) (long_drop Token (views texts) at (subst (λ (k : ℕ). k ≤ at) (sym (views_length texts)) h))) ∙ w
-
--- tokens that begin otherwise than a form's first bytes match no text of it
-tail_byte : (own : ByteSet) (t : Token) (ts : List Token) (row : List Bool) → tail (byte_row own (t ∷ ts) row) ≡ byte_row own ts (tail row)
-unfolding byte_row
-tail_byte own t ts row = refl
-
-tail_fixed : (bytes : List ℕ) (t : Token) (ts : List Token) (row : List Bool) → tail (fixed_row bytes (t ∷ ts) row) ≡ fixed_row bytes ts (tail row)
-unfolding fixed_row
-tail_fixed [] t ts row = refl
-tail_fixed (b ∷ bytes) t ts row = tail_byte (Only b) t ts (fixed_row bytes (t ∷ ts) row) ∙ ap (byte_row (Only b) ts) (tail_fixed bytes t ts row)
-
-no_star_cell : (starred met here behind next : Bool) → starred ≡ false → byte_cell starred met here behind next ≡ (if met then behind else false)
-no_star_cell false met here behind next e = refl
-no_star_cell true met here behind next e = cc
-
-if_none : (met behind : Bool) → met ≡ false → (if met then behind else false) ≡ false
-if_none false behind e = refl
-if_none true behind e = cc
-
-if_both : (met behind : Bool) → behind ≡ false → (if met then behind else false) ≡ false
-if_both true behind e = e
-if_both false behind e = refl
-
-otherwise_by : (starred met rest : Bool) → (if starred then false else (if met then rest else true)) ≡ true → (starred ≡ false) × ((met ≡ false) ⊎ (rest ≡ true))
-otherwise_by true met rest e = cc
-otherwise_by false true rest e = (refl, inr e)
-otherwise_by false false rest e = (refl, inl refl)
-
-pub otherwise_unmet : (bytes : List ℕ) (ts : List Token) (row : List Bool) → begins_otherwise bytes ts ≡ true → head (fixed_row bytes ts row) ≡ false
-unfolding fixed_row byte_row
-otherwise_unmet [] ts row e = cc
-otherwise_unmet (b ∷ bytes) [] row e = cc
-otherwise_unmet (b ∷ bytes) (t ∷ ts) row e =
-    let cases : (is_star t ≡ false) × ((meets t (Only b) ≡ false) ⊎ (begins_otherwise bytes ts ≡ true)) = otherwise_by (is_star t) (meets t (Only b)) (begins_otherwise bytes ts) e in
-    let behind : List Bool = fixed_row bytes (t ∷ ts) row in
-    no_star_cell (is_star t) (meets t (Only b)) (head behind) (head (tail behind)) (head (byte_row (Only b) ts (tail behind))) cases.0
-    ∙ elim cases.1 [
-      | inl unmet ↦ if_none (meets t (Only b)) (head (tail behind)) unmet
-      | inr later ↦ if_both (meets t (Only b)) (head (tail behind)) (ap head (tail_fixed bytes t ts row) ∙ otherwise_unmet bytes ts (tail row) later)
-    ]
 
 -- cells of which not all is asked
 pub star_cell : (t : Token) (own : ByteSet) (here behind next result : Bool) → is_star t ≡ true → result ≡ (if next then true else here) → result ≡ byte_cell (is_star t) (meets t own) here behind next

@@ -1,5 +1,5 @@
 -- What the proofs of this crate speak of: forms and languages as they are computed, from the left to the right.
-use Rattle.std.specs.Prelude.{ℕ, Bool, false, true, List, [], ◌∷◌, IsTrue, ◌≡◌, ◌⊎◌, if◌then◌else◌, map, suc, zero}
+use Rattle.std.specs.Prelude.{ℕ, Bool, false, true, List, [], ◌∷◌, IsTrue, ◌≡◌, ◌⊎◌, if◌then◌else◌, drop, length, map, suc, zero}
 use Rattle.std.proofs.Common.{Bor}
 use Rattle.hwdb_spec.specs.Patterns.{Token, admits_byte, Matches, token_at}
 use Rattle.hwdb_spec.specs.Forms.{Piece, Form, fixed, counted, repeated, is_in, is_star}
@@ -9,6 +9,9 @@ use Rattle.hwdb_spec.specs.declared.ByteSet.TheVariants.{Only}
 use Rattle.hwdb_forms.specs.declared.pieces.Piece.TheVariants.{Fixed, Counted, Repeated}
 use Rattle.hwdb_forms.specs.declared.pieces.Piece
 use Rattle.hwdb_forms.specs.declared.pieces.Form
+use Rattle.hwdb_forms.specs.declared.leads.Passed.TheVariants.{No, Unknown, Yes}
+use Rattle.hwdb_forms.specs.declared.leads.Passed.{Passed}
+use Rattle.hwdb_forms.specs.declared.leads.Lead.{Lead}
 
 -- what a piece of Rust's stands for, and a form
 abbrev pub piece_of : Piece.Piece → Forms.Piece
@@ -78,9 +81,52 @@ Fits form text = FixedThen form.prefix (Fields form.fields) text
 abbrev pub IsMet : (List ℕ → Type 0) → List Token → Type 0
 IsMet Told ts = (text : List ℕ) × Told text × Matches ts text
 
--- whether tokens begin otherwise than with these bytes, before a star
-abbrev pub begins_otherwise : List ℕ → List Token → Bool
-begins_otherwise [] ts = false
-begins_otherwise (b ∷ bytes) [] = false
-begins_otherwise (b ∷ bytes) (t ∷ ts) =
-    if is_star t then false else (if Forms.meets t (Only b) then begins_otherwise bytes ts else true)
+-- what the fields of Rust's stand for
+abbrev pub fields_of : List (Bor (List (Bor (List Piece.Piece)))) → List (List (List Forms.Piece))
+fields_of fields = map (λ field. map (λ way. map piece_of way.now) field.now) fields
+
+-- whether tokens begin as some bytes do
+abbrev pub passed_fixed : List ℕ → List Token → Passed
+passed_fixed [] ts = Yes
+passed_fixed (b ∷ bytes) [] = Unknown
+passed_fixed (b ∷ bytes) (t ∷ ts) =
+    if is_star t then Unknown else (if Forms.meets t (Only b) then passed_fixed bytes ts else No)
+
+-- the same of so many bytes of a set
+abbrev pub passed_counted : ByteSet → ℕ → List Token → Passed
+passed_counted set zero ts = Yes
+passed_counted set (suc n) [] = Unknown
+passed_counted set (suc n) (t ∷ ts) =
+    if is_star t then Unknown else (if Forms.meets t set then passed_counted set n ts else No)
+
+-- the same of a piece
+abbrev pub passed : Forms.Piece → List Token → Passed
+passed (fixed bytes) ts = passed_fixed bytes ts
+passed (counted set n) ts = passed_counted set n ts
+passed (repeated set) ts = Unknown
+
+-- how many bytes a piece has, if each of its texts has as many
+abbrev pub piece_size : Forms.Piece → ℕ
+piece_size (fixed bytes) = length bytes
+piece_size (counted set n) = n
+piece_size (repeated set) = 0
+
+abbrev pub is_no : Passed → Bool
+is_no No = true
+is_no Unknown = false
+is_no Yes = false
+
+-- rows for each list of tokens: without its first cell a row is that of the tokens without their first one
+abbrev pub IsFamily : (List Token → List Bool) → Type 0
+IsFamily rows = (t : Token) (ts : List Token) → Forms.tail (rows (t ∷ ts)) ≡ rows ts
+
+-- What is found of the way in which tokens begin as some pieces, whatever comes after the pieces.
+abbrev pub Leads : List Forms.Piece → List Token → Lead → Type 0
+Leads ps ts lead =
+    (rows : List Token → List Bool) → IsFamily rows
+    → Forms.head (Forms.pieces_row ps ts (rows ts))
+    ≡ (if lead.is_dead then false else Forms.head (Forms.pieces_row (drop lead.pieces ps) (drop lead.tokens ts) (rows (drop lead.tokens ts))))
+
+-- whether tokens match pieces in order, and then some text of the fields
+abbrev pub way_met : List Forms.Piece → List (List (List Forms.Piece)) → List Token → Bool
+way_met ps fields ts = Forms.head (Forms.pieces_row ps ts (Forms.fields_row fields ts))

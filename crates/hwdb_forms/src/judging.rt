@@ -53,7 +53,7 @@ fn can_match(alloc: Global, tokens: &[&[u8]]) -> Result<bool, AllocError>
 }
 
 /// Whether a text that is asked begins with what the tokens match.
-fn can_begin(alloc: Global, front: &[&[u8]]) -> Result<bool, AllocError>
+pub(crate) fn can_begin(alloc: Global, front: &[&[u8]]) -> Result<bool, AllocError>
     ensures { IfOk result (λ met. met ≡ Forms.can_begin FormTable.asked (views front.now)) }
 {
     let mut tokens = front.to_vec(alloc)?;

@@ -12,17 +12,22 @@
 //! | `pieces` | forms as data |
 //! | `table` | the forms that udev asks |
 //! | `sets` | sets of bytes, and which tokens take one of theirs |
+//! | `leads` | how pieces begin, before the first star |
 //! | `rows` | the rows of a form |
 //! | `judging` | what is said of a pattern |
+//! | `expecting` | what can be written at a place of a pattern |
 //! | `laws` | what is proved of the definitions alone |
 #![tactic(auto)]
 
+mod expecting;
 mod judging;
 mod laws;
+mod leads;
 mod pieces;
 mod rows;
 mod sets;
 mod table;
 
+pub use expecting::expected;
 pub use judging::judge;
 pub use laws::{examples_fit, forms_are_tested, fronts_are_longest, fronts_are_tested};

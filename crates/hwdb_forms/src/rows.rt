@@ -1,12 +1,12 @@
 //! The rows of a form, from its back: each tells of each place of the tokens whether they match, from there on, some text of the
 //! form's rest.
 ghost use Rattle.std.specs.Prelude.{◌≡◌, ◌+◌, length, map, IfOk, if◌then◌else◌, true, false};
-ghost use Rattle.hwdb_spec.specs.Forms.{is_star};
+ghost use Rattle.hwdb_spec.specs.Forms.{head, is_star};
 ghost use Rattle.hwdb_spec.specs.Forms;
 ghost use Rattle.hwdb_spec.specs.Patterns.{token_at};
-ghost use Rattle.hwdb_forms.specs.Internal.{form_of, piece_of, views};
-ghost use Rattle.hwdb_forms.specs.Internal;
+ghost use Rattle.hwdb_forms.specs.Internal.{fields_of, form_of, piece_of, views, way_met};
 
+use crate::leads::{Passed, lead_of, pass_fixed};
 use crate::pieces::{Form, Piece};
 use crate::sets::meets;
 use hwdb_pattern::begins_star;
@@ -255,32 +255,55 @@ fn fields_row(
     Ok(row)
 }
 
-/// Whether the tokens begin otherwise than with these bytes.
-fn begins_otherwise(bytes: &[u8], tokens: &[&[u8]]) -> bool
-    ensures { result ≡ Internal.begins_otherwise bytes.now (views tokens.now) }
+/// Whether the tokens match the pieces in order, and then some text of the fields.
+fn meets_way(
+    alloc: Global,
+    way: &[Piece],
+    fields: &[&[&[Piece]]],
+    tokens: &[&[u8]],
+) -> Result<bool, AllocError>
+    ensures { IfOk result (λ met. met ≡ way_met (map piece_of way.now) (fields_of fields.now) (views tokens.now)) }
 {
-    let mut at = 0;
-    while at < bytes.len() && at < tokens.len() {
-        if begins_star(tokens[at]) {
-            return false;
-        }
-        if !meets(tokens[at], ByteSet::Only(bytes[at])) {
-            return true;
-        }
-        at += 1;
+    let lead = lead_of(way, tokens);
+    if lead.is_dead {
+        return Ok(false);
     }
-    false
+    let rest = &tokens[lead.tokens..];
+    let row = fields_row(alloc, fields, rest)?;
+    let room = vec![in alloc; false; row.len()]?;
+    let rows = pieces_row(&way[lead.pieces..], rest, Rows { row, room });
+    Ok(rows.row[0])
+}
+
+/// Whether the tokens match a text of the fields.
+fn meets_fields(alloc: Global, fields: &[&[&[Piece]]], tokens: &[&[u8]]) -> Result<bool, AllocError>
+    ensures { IfOk result (λ met. met ≡ head (Forms.fields_row (fields_of fields.now) (views tokens.now))) }
+{
+    if !fields.is_empty() {
+        if fields[0].len() == 1 {
+            let met = meets_way(alloc, fields[0][0], &fields[1..], tokens)?;
+            return Ok(met);
+        }
+    }
+    let row = fields_row(alloc, fields, tokens)?;
+    Ok(row[0])
 }
 
 /// Whether the tokens match a text of the form.
 pub(crate) fn meets_form(alloc: Global, form: Form, tokens: &[&[u8]]) -> Result<bool, AllocError>
     ensures { IfOk result (λ met. met ≡ Forms.meets_form (views tokens.now) (form_of form)) }
 {
-    if begins_otherwise(form.prefix, tokens) {
-        return Ok(false);
+    match pass_fixed(form.prefix, tokens) {
+        Passed::No => Ok(false),
+        Passed::Yes => {
+            let met = meets_fields(alloc, form.fields, &tokens[form.prefix.len()..])?;
+            Ok(met)
+        }
+        Passed::Unknown => {
+            let row = fields_row(alloc, form.fields, tokens)?;
+            let room = vec![in alloc; false; row.len()]?;
+            let rows = fixed_row(form.prefix, tokens, Rows { row, room });
+            Ok(rows.row[0])
+        }
     }
-    let row = fields_row(alloc, form.fields, tokens)?;
-    let room = vec![in alloc; false; row.len()]?;
-    let rows = fixed_row(form.prefix, tokens, Rows { row, room });
-    Ok(rows.row[0])
 }

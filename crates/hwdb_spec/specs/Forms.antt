@@ -1,5 +1,5 @@
 -- Forms of texts, and whether a pattern can match a text of some form. Our choice; which texts udev asks is in `FormTable`.
-use Rattle.std.specs.Prelude.{ℕ, Bool, true, false, List, [], ◌∷◌, ◌++◌, ◌⊎◌, ◌+◌, ◌==◌, suc, zero, if◌then◌else◌, drop, length, nat_lt, not, take, IsTrue, ⊤, ◌≡◌}
+use Rattle.std.specs.Prelude.{ℕ, Bool, true, false, List, [], ◌∷◌, ◌++◌, ◌⊎◌, ◌+◌, ◌==◌, suc, zero, if◌then◌else◌, drop, filter, length, nat_lt, not, take, IsTrue, ⊤, ◌≡◌}
 use Rattle.std.specs.List.{list_any, position_or_len}
 use Rattle.hwdb_spec.specs.Lines.{begins_with, byte}
 use Rattle.hwdb_spec.specs.Patterns.{Matches, Token, admits_byte, bracket, in_span, literal, one, star, token_size, tokens}
@@ -236,3 +236,16 @@ judged forms pattern =
     if can_match forms (tokens pattern) then Fine
     else (if is_unknown forms pattern then UnknownPrefix
     else Dead (text_size (take (front_length forms (tokens pattern)) (tokens pattern))))
+
+-- whether a byte is or may begin a wildcard
+abbrev pub is_wild : ℕ → Bool
+is_wild b = if b == byte "*" then true else (if b == byte "?" then true else b == byte "[")
+
+-- whether a byte, which is no wildcard, may be written behind the beginning of a pattern, so that a text of one of the forms begins with
+-- what this matches
+abbrev pub is_expected : List Form → (front : List ℕ) → ℕ → Bool
+is_expected forms front b = if is_wild b then false else can_begin forms (tokens (front ++ b ∷ []))
+
+-- all these bytes, in order
+abbrev pub expected : List Form → (front : List ℕ) → List ℕ
+expected forms front = filter (is_expected forms front) (all_bytes_from 256 0)

@@ -12,7 +12,9 @@ loop-at-init c = record {
 
 pub loop-at-preserved : goal.loop-at-preserved
 loop-at-preserved c = record {
-  within = omega arith; long = search rules; row = c.requires.row;
+  within = omega arith;
+  long = search rules;
+  row = c.requires.row;
   done = byte_kept c.args.set c.args.tokens.now c.args.rows.row.items c.loop-at.new.items c.loop-at.at (c.loop-at.at - 1) c.byte_cell.result c.index.result.now c.index-in-loop-at.result.now c.index-in-loop-at-2.result.now
-      (omega arith) (omega arith) (omega arith) (omega (arith, c.requires.row)) c.byte_cell.ensures c.index.ensures c.index-in-loop-at.ensures c.index-in-loop-at-2.ensures c.loop-at.invariant.done
+      (omega arith) (omega arith) (omega arith) (omega (arith, c.requires.row)) c.byte_cell.ensures c.index.ensures c.index-in-loop-at.ensures c.index-in-loop-at-2.ensures c.loop-at.invariant.done;
 }

@@ -1,4 +1,4 @@
-use Rattle.std.proofs.Common.{ap, sym, ◌∙◌}
+use Rattle.std.proofs.Common.{sym, ◌∙◌}
 use Rattle.hwdb_spec.specs.Forms.{is_star, meets}
 use Rattle.hwdb_spec.specs.Patterns.{token_at}
 use Rattle.hwdb_forms.proofs.LoopLemmas.{here_many, met_many, no_many, star_many}
