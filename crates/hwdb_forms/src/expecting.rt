@@ -4,11 +4,9 @@ ghost use Rattle.hwdb_spec.specs.Patterns.{tokens};
 ghost use Rattle.hwdb_spec.specs.Forms;
 ghost use Rattle.hwdb_spec.specs.FormTable.{asked};
 
-use std::alloc::{AllocError, Global};
-
-use hwdb_pattern::token_texts;
-
 use crate::judging::can_begin;
+use hwdb_pattern::token_texts;
+use std::alloc::{AllocError, Global};
 
 /// Whether a text that udev asks begins with what the beginning of a pattern and the byte after it match.
 fn begins(alloc: Global, front: &[u8], byte: u8) -> Result<bool, AllocError>
@@ -39,7 +37,12 @@ fn is_expected(alloc: Global, front: &[u8], byte: u8) -> Result<bool, AllocError
 }
 
 /// Adds the byte if it may be written there.
-fn put_expected(alloc: Global, front: &[u8], byte: u8, bytes: &mut Vec<u8>) -> Result<(), AllocError>
+fn put_expected(
+    alloc: Global,
+    front: &[u8],
+    byte: u8,
+    bytes: &mut Vec<u8>,
+) -> Result<(), AllocError>
     ensures { IfOk result (λ done. bytes.new.items ≡ bytes.old.items ++ filter (Forms.is_expected asked front.now) (byte ∷ [])) }
 {
     if is_expected(alloc, front, byte)? {

@@ -87,8 +87,9 @@ fn ends_prefix(byte: u8) -> bool
 }
 
 /// How many bytes the pattern's prefix takes, its colon too; 0 if it has none.
-fn prefix_size(pattern: &[u8]) -> usize
-    ensures { result ≡ Forms.prefix_size pattern.now }
+pub(crate) fn prefix_size(pattern: &[u8]) -> usize
+    ensures size { result ≡ Forms.prefix_size pattern.now }
+    ensures within { result ≤ length pattern.now }
 {
     let mut at = 0;
     while at < pattern.len() && !ends_prefix(pattern[at]) {

@@ -1,10 +1,12 @@
 -- The forms of the texts that udev asks, and of those that a kernel names a device by (MODALIAS). Each is from the rules file that
 -- asks, and from where the kernel or udev writes the text. A form may be wider than what is asked, and is never narrower.
 -- Beside each is a text that has it.
-use Rattle.std.specs.Prelude.{ℕ, List, [], ◌∷◌, ◌++◌, codes, map}
+use Rattle.std.specs.Prelude.{ℕ, Bool, List, [], ◌∷◌, ◌++◌, ◌+◌, ◌/◌, Option, None, Some, true, false, codes, find, if◌then◌else◌, length, map, nat_eq, nat_le, take}
+use Rattle.strsim.specs.Edits.{levenshtein_row}
+use Rattle.hwdb_spec.specs.Patterns.{in_span}
 use Rattle.hwdb_spec.specs.declared.ByteSet.TheVariants.{Any, AnyHex, Dmi, DmiLeft, HexOrBlank, InputBits, Left, LeftButColon, LowerHex, Name, Names, Units, UpperHex}
 use Rattle.hwdb_spec.specs.declared.ByteSet.{ByteSet}
-use Rattle.hwdb_spec.specs.Forms.{Form, Piece, counted, fixed, repeated}
+use Rattle.hwdb_spec.specs.Forms.{Form, Piece, counted, fixed, prefix_size, repeated}
 
 -- a form, and a text that has it
 pub record Known : Type 0 where
@@ -337,3 +339,34 @@ free_prefixes =
 -- all forms
 abbrev pub asked : List Form
 asked = map (λ k. k.form) known ++ map free free_prefixes
+
+-- how the texts of these forms begin, up to their first colon
+abbrev pub prefixes : List (List ℕ)
+prefixes = map (λ k. k.form.prefix) known ++ free_prefixes
+
+-- a byte in lower case
+abbrev pub lower : ℕ → ℕ
+lower b = if in_span b (65, 90) then b + 32 else b
+
+-- how many bytes have to be put in, taken away or changed (Levenshtein), in lower case
+abbrev pub distance : (text prefix : List ℕ) → ℕ
+distance text prefix = levenshtein_row nat_eq (map lower text) (map lower prefix) (length (map lower prefix))
+
+-- whether a text is a prefix but for its case, or nearly: one byte in three may differ
+abbrev pub is_near : (exact : Bool) → (text prefix : List ℕ) → Bool
+is_near exact text prefix = nat_le (distance text prefix) (if exact then 0 else length prefix / 3)
+
+-- the first of two, if there is one
+abbrev pub or_else : Option (List ℕ) → Option (List ℕ) → Option (List ℕ)
+or_else None other = other
+or_else (Some found) other = Some found
+
+-- The prefix that was meant by another one: `evdev:` was `keyboard:` before version 220 of systemd. Our choice.
+abbrev pub likely : List ℕ → Option (List ℕ)
+likely text =
+    if is_near true text (codes "keyboard:") then Some (codes "evdev:")
+    else or_else (find (is_near true text) prefixes) (find (is_near false text) prefixes)
+
+-- the same of a pattern's prefix
+abbrev pub likely_prefix : List ℕ → Option (List ℕ)
+likely_prefix pattern = likely (take (prefix_size pattern) pattern)
