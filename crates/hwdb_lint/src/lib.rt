@@ -7,6 +7,7 @@
 //!
 //! | Module | What it does |
 //! |---|---|
+//! | `runs` | bytes as runs, as they are shown |
 //! | `shown` | lines as they are shown, and the mark below them |
 //! | `places` | the place of a fault in its line |
 //! | `reports` | the report of a fault |
@@ -32,6 +33,7 @@ mod places;
 mod repeats;
 mod replacements;
 mod reports;
+mod runs;
 mod shown;
 mod tallies;
 mod warnings;

@@ -18,6 +18,7 @@ pub mod Summary
 pub mod Verdicts
 pub mod Reports
 pub mod Properties
+pub mod Unmatched
 pub mod Warnings
 pub mod Checks
 pub mod Progress

@@ -25,6 +25,7 @@
 //! | `Verdicts` | what is said of bytes that are no database |
 //! | `Reports` | the reports of a file's faults |
 //! | `Properties` | which properties are known, which values they take, and what is said of others |
+//! | `Unmatched` | what is said of a pattern that matches no text that udev asks |
 //! | `Warnings` | the warnings of a file, and their reports |
 //! | `Checks` | what `check` prints, how much it finds, and its status |
 //! | `Progress` | what `update` says of its work |
