@@ -11,7 +11,7 @@ use crate::refusals::Refusal;
 use crate::rooted::Rooted;
 use crate::roots::Root;
 use crate::system::System;
-use hwdb_io::{MAX_BYTES, Cause, FromRead, after_failure, read_all, write_on};
+use hwdb_io::{Cause, FromRead, MAX_BYTES, after_failure, read_all, write_on};
 use hwdb_print::ToolError;
 use hwdb_replace::{CallFailed, Store};
 use hwdb_text::counts;

@@ -10,7 +10,7 @@ use crate::files::text_of;
 use crate::refusals::Refusal;
 use crate::rooted::Rooted;
 use crate::system::System;
-use hwdb_io::{MAX_BYTES, Cause};
+use hwdb_io::{Cause, MAX_BYTES};
 use hwdb_print::ToolError;
 use hwdb_replace::memory::state_of;
 use hwdb_replace::{Memory, Step};
