@@ -21,16 +21,14 @@ IsOfDiff (New fault) old_path new_path refusal = IsAt (BadDatabase fault) new_pa
 IsOfDiff Write old_path new_path refusal = refusal ≡ Plain NotWritten
 IsOfDiff Memory old_path new_path refusal = refusal ≡ Plain OutOfMemory
 
--- comparing what the files hold is refused, and standard output has what it had, or a prefix
-pub record IsUncompared (old_path new_path : List ℕ) (contents : Contents) (refusal : Refusal) (out_before out_now : Option (List ℕ)) : Type 0 where
+-- what the files hold is refused
+pub record IsNotCompared (old_path new_path : List ℕ) (contents : Contents) (refusal : Refusal) : Type 0 where
   pub old : List ℕ
   pub new : List ℕ
   pub held : AreHeld old_path new_path contents old new
   pub error : DiffError
   pub is : IsOfDiff error old_path new_path refusal
   pub refused : IsDiffRefusal old new error
-  pub untouched : error ≢ Write → error ≢ Memory → out_now ≡ out_before
-  pub cut_short : (out_now ≡ out_before) ⊎ WrotePrefix (IsDiffText old new) out_before out_now
 
 -- what a path holds was read: it isn't longer than a file may be
 pub record WasRead (path : List ℕ) (contents : Contents) : Type 0 where
@@ -39,7 +37,6 @@ pub record WasRead (path : List ℕ) (contents : Contents) : Type 0 where
   pub within : length bytes ≤ max_file
 
 -- `diff` is refused: the old file can't be read, or after it the new one, or they can't be compared
-abbrev pub IsDiffRefused : (old_path new_path : List ℕ) → Contents → Refusal → (out_before out_now : Option (List ℕ)) → Type 0
-IsDiffRefused old_path new_path contents refusal out_before out_now =
-    ((IsUnread old_path refusal ⊎ (WasRead old_path contents × IsUnread new_path refusal)) × (out_now ≡ out_before))
-    ⊎ IsUncompared old_path new_path contents refusal out_before out_now
+abbrev pub IsDiffRefused : (old_path new_path : List ℕ) → Contents → Refusal → Type 0
+IsDiffRefused old_path new_path contents refusal =
+    IsUnread old_path refusal ⊎ ((WasRead old_path contents × IsUnread new_path refusal) ⊎ IsNotCompared old_path new_path contents refusal)

@@ -14,7 +14,7 @@ use Rattle.hwdb_fs.specs.Refusals.{IsAt, IsInWords, IsUnread}
 use Rattle.hwdb_fs.specs.declared.refusals.Refusal.{Refusal}
 use Rattle.hwdb_fs.specs.declared.refusals.Refusal.TheVariants.{Plain}
 use Rattle.hwdb_tool.specs.Undone.{IsUnfound}
-use Rattle.hwdb_transfer.specs.Databases.{IsQueryRefusal}
+use Rattle.hwdb_transfer.specs.Databases.{IsDatabaseRefusal}
 use Rattle.hwdb_transfer.specs.declared.errors.ToolError.{ToolError}
 use Rattle.hwdb_transfer.specs.declared.errors.ToolError.TheVariants.{BadDatabase, Memory as OutOfMemory, Write}
 use Rattle.hwdb_inspect.specs.declared.errors.DumpError.TheVariants as dumping
@@ -29,8 +29,8 @@ abbrev pub IsOfVerify : ToolError → (path : List ℕ) → Refusal → Type 0
 IsOfVerify (BadDatabase fault) path refusal = IsInWords (verdict_text path fault) refusal
 IsOfVerify error path refusal = refusal ≡ Plain error
 
--- saying how much is in it was refused, and standard output has what it had, or a prefix where it failed
-pub record IsUnverified (given : Option (List ℕ)) (root : List ℕ) (contents : Contents) (refusal : Refusal) (out_before out_now : Option (List ℕ)) : Type 0 where
+-- its bytes are refused
+pub record IsNotVerified (given : Option (List ℕ)) (root : List ℕ) (contents : Contents) (refusal : Refusal) : Type 0 where
   pub path : List ℕ
   pub bytes : List ℕ
   pub at : IsNamedPath given root contents path
@@ -38,15 +38,11 @@ pub record IsUnverified (given : Option (List ℕ)) (root : List ℕ) (contents 
   pub held : bytes_at contents path ≡ Some bytes
   pub error : ToolError
   pub is : IsOfVerify error path refusal
-  pub refused : IsQueryRefusal bytes error
-  pub untouched : error ≢ Write → out_now ≡ out_before
-  pub cut_short : error ≡ Write → WrotePrefix (IsSummary bytes) out_before out_now
+  pub refused : IsDatabaseRefusal bytes error
 
 -- `verify` is refused: the database can't be read, or is none
-abbrev pub IsVerifyRefused : (given : Option (List ℕ)) (root : List ℕ) → Contents → Refusal → (out_before out_now : Option (List ℕ)) → Type 0
-IsVerifyRefused given root contents refusal out_before out_now =
-    (IsUnnamed given root contents refusal × (out_now ≡ out_before))
-    ⊎ IsUnverified given root contents refusal out_before out_now
+abbrev pub IsVerifyRefused : (given : Option (List ℕ)) (root : List ℕ) → Contents → Refusal → Type 0
+IsVerifyRefused given root contents refusal = IsUnnamed given root contents refusal ⊎ IsNotVerified given root contents refusal
 
 -- the refusal of an error
 abbrev pub IsOfDump : DumpError → (path : List ℕ) → Refusal → Type 0
@@ -55,8 +51,8 @@ IsOfDump (dumping.Unsayable pattern) path refusal = IsInWords (unsayable_text pa
 IsOfDump dumping.Write path refusal = refusal ≡ Plain Write
 IsOfDump dumping.Memory path refusal = refusal ≡ Plain OutOfMemory
 
--- printing it as text was refused, and standard output has what it had, or a prefix
-pub record IsUndumped (given : Option (List ℕ)) (root : List ℕ) (contents : Contents) (refusal : Refusal) (out_before out_now : Option (List ℕ)) : Type 0 where
+-- its bytes are refused
+pub record IsNotDumped (given : Option (List ℕ)) (root : List ℕ) (contents : Contents) (refusal : Refusal) : Type 0 where
   pub path : List ℕ
   pub bytes : List ℕ
   pub at : IsNamedPath given root contents path
@@ -65,11 +61,7 @@ pub record IsUndumped (given : Option (List ℕ)) (root : List ℕ) (contents : 
   pub error : DumpError
   pub is : IsOfDump error path refusal
   pub refused : IsDumpRefusal bytes error
-  pub untouched : error ≢ dumping.Write → error ≢ dumping.Memory → out_now ≡ out_before
-  pub cut_short : (out_now ≡ out_before) ⊎ WrotePrefix (IsTextOf dump_text bytes) out_before out_now
 
 -- `dump` is refused: the database can't be read, or is none, or no text says it
-abbrev pub IsDumpRefused : (given : Option (List ℕ)) (root : List ℕ) → Contents → Refusal → (out_before out_now : Option (List ℕ)) → Type 0
-IsDumpRefused given root contents refusal out_before out_now =
-    (IsUnnamed given root contents refusal × (out_now ≡ out_before))
-    ⊎ IsUndumped given root contents refusal out_before out_now
+abbrev pub IsDumpRefused : (given : Option (List ℕ)) (root : List ℕ) → Contents → Refusal → Type 0
+IsDumpRefused given root contents refusal = IsUnnamed given root contents refusal ⊎ IsNotDumped given root contents refusal
