@@ -1,8 +1,6 @@
 -- What a run of a program sees, and what it leaves: files, and devices that tell of their bytes. Our choice.
-use Rattle.std.specs.Io.KnownBytes.{Appends}
 use Rattle.std.specs.Prelude.{◌≡◌, ◌⊎◌, List, Option, [], ℕ}
-use Rattle.hwdb_spec.specs.Failures.{OneFailed}
-use Rattle.hwdb_spec.specs.Outputs.{AppendsPrefix, Texts}
+use Rattle.hwdb_spec.specs.Outputs.{CutShort, Texts, Took}
 use Rattle.hwdb_spec.specs.Store.{Contents, NoMore, Outcomes, Same}
 
 -- a device: the bytes that it has left, or has taken, if it tells them; and how many of its calls failed
@@ -40,23 +38,21 @@ pub record AreKept (before now : Files) : Type 0 where
   pub no_more : NoMore before.left now.left
 
 -- a sink took the text, and none of its calls failed
-pub record Took (text : List ℕ) (before now : Told) : Type 0 where
-  pub whole : Appends before.bytes now.bytes text
-  pub unfailed : now.failures ≡ before.failures
+abbrev pub HasTaken : (text : List ℕ) (before now : Told) → Type 0
+HasTaken text before now = Took text before.bytes now.bytes before.failures now.failures
 
 -- it took a prefix of the text, possibly the whole, and then one of its calls failed, the last that was made
-pub record WasCut (text : List ℕ) (before now : Told) : Type 0 where
-  pub prefix : AppendsPrefix before.bytes now.bytes text
-  pub failed : OneFailed before.failures now.failures
+abbrev pub WasCut : (text : List ℕ) (before now : Told) → Type 0
+WasCut text before now = CutShort text before.bytes now.bytes before.failures now.failures
 
 -- Standard error took the one of such texts, and after it standard output the other one. Without a text for standard error
 -- that wasn't used.
 pub record Printed (Are : Texts → Type 0) (err_before err_now out_before out_now : Told) : Type 0 where
   pub texts : Texts
   pub are : Are texts
-  pub err : Took texts.err err_before err_now
+  pub err : HasTaken texts.err err_before err_now
   pub quiet : texts.err ≡ [] → err_now ≡ err_before
-  pub out : Took texts.out out_before out_now
+  pub out : HasTaken texts.out out_before out_now
 
 -- One of them failed while it took such a text: standard error, and standard output wasn't used; or after that standard output.
 pub record PrintedPart (Are : Texts → Type 0) (err_before err_now out_before out_now : Told) : Type 0 where
@@ -64,7 +60,7 @@ pub record PrintedPart (Are : Texts → Type 0) (err_before err_now out_before o
   pub are : Are texts
   pub quiet : texts.err ≡ [] → err_now ≡ err_before
   pub cut : (WasCut texts.err err_before err_now × (out_now ≡ out_before))
-      ⊎ (Took texts.err err_before err_now × WasCut texts.out out_before out_now)
+      ⊎ (HasTaken texts.err err_before err_now × WasCut texts.out out_before out_now)
 
 -- such a text is for standard output, and standard error gets none
 abbrev pub OnOut : (Is : List ℕ → Type 0) → Texts → Type 0

@@ -1,24 +1,21 @@
--- What `diff` leaves, and what it refuses. Our choice.
-use Rattle.std.specs.Prelude.{◌≡◌, ◌≢◌, ◌⊎◌, ◌≤◌, List, Option, Some, length, ℕ}
+-- What `diff` refuses. Our choice.
+use Rattle.std.specs.Prelude.{◌≡◌, ◌⊎◌, ◌≤◌, List, Some, length, ℕ}
 use Rattle.hwdb_inspect.specs.Diffs.{IsDiffRefusal}
 use Rattle.hwdb_inspect.specs.declared.errors.DiffError.{DiffError}
-use Rattle.hwdb_inspect.specs.declared.errors.DiffError.TheVariants.{Memory, New, Old, Write}
+use Rattle.hwdb_inspect.specs.declared.errors.DiffError.TheVariants.{Memory, New, Old}
 use Rattle.hwdb_spec.specs.Asked.{AreHeld}
-use Rattle.hwdb_spec.specs.Databases.{IsDiffText}
-use Rattle.hwdb_spec.specs.Outputs.{WrotePrefix}
 use Rattle.hwdb_spec.specs.Store.{Contents}
 use Rattle.hwdb_spec.specs.System.{bytes_at}
 use Rattle.hwdb_spec.specs.Texts.{max_file}
 use Rattle.hwdb_fs.specs.Refusals.{IsAt, IsUnread}
 use Rattle.hwdb_fs.specs.declared.refusals.Refusal.{Refusal}
 use Rattle.hwdb_fs.specs.declared.refusals.Refusal.TheVariants.{Plain}
-use Rattle.hwdb_transfer.specs.declared.errors.ToolError.TheVariants.{BadDatabase, Memory as OutOfMemory, Write as NotWritten}
+use Rattle.hwdb_transfer.specs.declared.errors.ToolError.TheVariants.{BadDatabase, Memory as OutOfMemory}
 
 -- the refusal of such an error: a fault of a database with its path
 abbrev pub IsOfDiff : DiffError → (old_path new_path : List ℕ) → Refusal → Type 0
 IsOfDiff (Old fault) old_path new_path refusal = IsAt (BadDatabase fault) old_path refusal
 IsOfDiff (New fault) old_path new_path refusal = IsAt (BadDatabase fault) new_path refusal
-IsOfDiff Write old_path new_path refusal = refusal ≡ Plain NotWritten
 IsOfDiff Memory old_path new_path refusal = refusal ≡ Plain OutOfMemory
 
 -- what the files hold is refused

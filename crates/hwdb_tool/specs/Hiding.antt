@@ -2,7 +2,7 @@
 -- choice.
 use Rattle.std.specs.Prelude.{◌⊎◌, ℕ, Bool, List}
 use Rattle.hwdb_spec.specs.Hiding.{hiding_text}
-use Rattle.hwdb_spec.specs.Runs.{AreKept, Files, Told, Took}
+use Rattle.hwdb_spec.specs.Runs.{AreKept, Files, HasTaken, Told}
 use Rattle.hwdb_fs.specs.declared.refusals.Refusal.{Refusal}
 use Rattle.hwdb_tool.specs.Readable.{IsUpdateRefused, IsUpdatedLess}
 use Rattle.hwdb_tool.specs.Undone.{IsUntold}
@@ -10,13 +10,13 @@ use Rattle.hwdb_tool.specs.Undone.{IsUntold}
 -- standard error took that line, if there is one, and then what an update says that is done
 pub record IsUpdatedTelling (root : List ℕ) (usr verbose strict skip : Bool) (status : ℕ) (before : Files) (err_before err_now : Told) (in_place : List ℕ → Type 0) : Type 0 where
   pub err_then : Told
-  pub told : Took (hiding_text usr verbose root before.seen) err_before err_then
+  pub told : HasTaken (hiding_text usr verbose root before.seen) err_before err_then
   pub updated : IsUpdatedLess root verbose strict skip status before err_then err_now in_place
 
 -- the line was said, and the update is refused
 pub record IsRefusedTelling (root : List ℕ) (usr verbose skip : Bool) (refusal : Refusal) (before now : Files) (err_before err_now : Told) : Type 0 where
   pub err_then : Told
-  pub told : Took (hiding_text usr verbose root before.seen) err_before err_then
+  pub told : HasTaken (hiding_text usr verbose root before.seen) err_before err_then
   pub refused : IsUpdateRefused root usr verbose skip refusal before now err_then err_now
 
 -- saying it is refused, or after it the update

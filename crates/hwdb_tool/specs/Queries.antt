@@ -1,14 +1,14 @@
 -- `query` and `explain` of the devices of their words, or with a lone `-` of those that standard input names, one a line: what
 -- they print, and what they refuse. Our choice.
-use Rattle.std.specs.Prelude.{◌<◌, ◌≡◌, ◌⊎◌, Bool, IfSome, List, Option, Some, codes, false, length, true, ℕ}
+use Rattle.std.specs.Prelude.{◌<◌, ◌≡◌, ◌≢◌, ◌⊎◌, Bool, IfSome, List, Option, Some, codes, false, length, true, ℕ}
 use Rattle.hwdb_spec.specs.Asked.{IsAnswered, IsAskedPath}
 use Rattle.hwdb_spec.specs.Databases.{IsTextOf}
-use Rattle.hwdb_spec.specs.Failures.{HasFailed}
+use Rattle.hwdb_spec.specs.Failures.{HasFailed, OneFailed}
 use Rattle.hwdb_spec.specs.Folders.{max_lines}
 use Rattle.hwdb_spec.specs.Given.{is_input}
 use Rattle.hwdb_spec.specs.ManyDevices.{HasLongLine}
 use Rattle.hwdb_spec.specs.Outputs.{WrotePrefix}
-use Rattle.hwdb_spec.specs.Runs.{OnOut, Told}
+use Rattle.hwdb_spec.specs.Runs.{OnOut, Printed, Told}
 use Rattle.hwdb_spec.specs.Store.{Contents}
 use Rattle.hwdb_spec.specs.System.{asked_database}
 use Rattle.hwdb_spec.specs.Texts.{devices_of, max_file}
@@ -28,6 +28,25 @@ AreAnsweredFrom true root form devices input contents text = IfSome input (λ na
 
 abbrev pub AreAnswered : (root : List ℕ) (form : Form) (devices : List (List ℕ)) (input : Option (List ℕ)) → Contents → (text : List ℕ) → Type 0
 AreAnswered root form devices = AreAnsweredFrom (is_input devices) root form devices
+
+-- that is so if these devices are told, or the task doesn't answer such ones
+abbrev pub IfNamed : (from_input : Bool) (input : Option (List ℕ)) → Type 0 → Type 0
+IfNamed false input P = P
+IfNamed true input P = IfSome input (λ named. P)
+
+-- of devices that aren't told this is so all the same: status 0, and standard error wasn't used
+abbrev pub IsQuiet : (from_input : Bool) (status : ℕ) (err_before err_now : Told) → Type 0
+IsQuiet false status err_before err_now = Unit {0}
+IsQuiet true status err_before err_now = (status ≡ 0) × (err_now ≡ err_before)
+
+-- These devices are answered, with status 0. Of those that standard input doesn't tell only that standard error wasn't used.
+abbrev pub AreDoneFrom : (from_input : Bool) (root : List ℕ) (form : Form) (devices : List (List ℕ)) (input : Option (List ℕ)) → Contents → (status : ℕ) (err_before err_now out_before out_now : Told) → Type 0
+AreDoneFrom from_input root form devices input contents status err_before err_now out_before out_now =
+    IfNamed from_input input (Printed (λ texts. (status ≡ 0) × OnOut (AreAnsweredFrom from_input root form devices input contents) texts) err_before err_now out_before out_now)
+    × IsQuiet from_input status err_before err_now
+
+abbrev pub AreDone : (root : List ℕ) (form : Form) (devices : List (List ℕ)) (input : Option (List ℕ)) → Contents → (status : ℕ) (err_before err_now out_before out_now : Told) → Type 0
+AreDone root form devices = AreDoneFrom (is_input devices) root form devices
 
 -- the refusal of an error: one of the input says so, and one of the database has its path
 abbrev pub IsOfInput : ToolError → (path : List ℕ) → Refusal → Type 0
@@ -60,7 +79,8 @@ pub record IsUnstreamed (root : List ℕ) (form : Form) (input : Option (List �
   pub many : error ≡ TooManyLines → IfSome input (λ text. max_lines < length (devices_of text))
   pub untouched : IfBadDatabase (now.bytes ≡ before.bytes) error
   pub cut : (now.bytes ≡ before.bytes) ⊎ IfSome input (λ text. WrotePrefix (IsTextOf (texts_of form (devices_of text)) bytes) before.bytes now.bytes)
-  pub failed : error ≡ Write → HasFailed before.failures now.failures
+  pub failed : error ≡ Write → OneFailed before.failures now.failures
+  pub unfailed : error ≢ Write → now.failures ≡ before.failures
 
 -- the same, or the database can't be read
 abbrev pub IsStreamRefused : (root : List ℕ) (form : Form) (input : Option (List ℕ)) → Contents → Refusal → (before now : Told) → Type 0

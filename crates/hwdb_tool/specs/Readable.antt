@@ -4,7 +4,7 @@ use Rattle.std.specs.Prelude.{◌≡◌, ◌⊎◌, Bool, List, ℕ}
 use Rattle.hwdb_spec.specs.Done.{IsUpdated}
 use Rattle.hwdb_spec.specs.Folders.{Choice}
 use Rattle.hwdb_spec.specs.LeftOut.{AreLeftOut, status_less, without}
-use Rattle.hwdb_spec.specs.Runs.{AreKept, Files, Told, Took}
+use Rattle.hwdb_spec.specs.Runs.{AreKept, Files, HasTaken, Told}
 use Rattle.hwdb_spec.specs.Store.{Contents}
 use Rattle.hwdb_fs.specs.LeftOut.{AreTold, AreUnreadLess}
 use Rattle.hwdb_fs.specs.declared.refusals.Refusal.{Refusal}
@@ -17,7 +17,7 @@ pub record IsUpdatedLess (root : List ℕ) (verbose strict skip : Bool) (status 
   pub said : List ℕ
   pub lines : AreTold root left_out said
   pub err_then : Told
-  pub told : Took said err_before err_then
+  pub told : HasTaken said err_before err_then
   pub plainly : ℕ
   pub updated : IsUpdated root verbose strict plainly (without left_out root before.seen) err_then.bytes err_now.bytes in_place
   pub answer : status ≡ status_less strict left_out plainly
@@ -26,7 +26,7 @@ pub record IsUpdatedLess (root : List ℕ) (verbose strict skip : Bool) (status 
 abbrev pub IsRefusedAfter : (said root : List ℕ) (usr verbose : Bool) (read : Contents) → Refusal → (before now : Files) (err_before err_now : Told) → Type 0
 IsRefusedAfter said root usr verbose read refusal before now err_before err_now =
     (IsUntold said refusal err_before err_now × AreKept before now)
-    ⊎ ((err_said : Told) × Took said err_before err_said × IsSelectedRefused root usr verbose read refusal before now err_said err_now)
+    ⊎ ((err_said : Told) × HasTaken said err_before err_said × IsSelectedRefused root usr verbose read refusal before now err_said err_now)
 
 -- the files were read but for those that are left out, and the update is refused after that
 pub record IsRefusedLess (root : List ℕ) (usr verbose skip : Bool) (refusal : Refusal) (before now : Files) (err_before err_now : Told) : Type 0 where

@@ -1,25 +1,26 @@
 -- What each task may refuse, when, and what it leaves. Our choice.
 use Rattle.std.specs.Prelude.{◌∷◌, ◌≡◌, ◌≢◌, ◌⊎◌, Bool, Contains, List, None, Option, Some, [], codes, false, true, ℕ}
+use Rattle.hwdb_print.specs.Lookups.{IsListBeginning, IsListRefusal}
 use Rattle.hwdb_print.specs.Updates.{IsAskRefusal, IsUpdateRefusal, UpdateUndone}
-use Rattle.hwdb_lint.specs.Checks.{IsChecksRefusal}
-use Rattle.hwdb_spec.specs.Asked.{IsAskedPath, IsFrom, database_path}
-use Rattle.hwdb_spec.specs.Assignment.{Position}
-use Rattle.hwdb_spec.specs.Databases.{IsNoDatabase}
+use Rattle.hwdb_lint.specs.Checks.{IsCheckRefusal}
+use Rattle.hwdb_spec.specs.Asked.{IsAskedPath, IsListFrom, database_path}
 use Rattle.hwdb_spec.specs.Failures.{HasFailed}
 use Rattle.hwdb_spec.specs.Folders.{Source}
 use Rattle.hwdb_spec.specs.Given.{IsGiven, is_dash}
-use Rattle.hwdb_spec.specs.Outputs.{Texts, WrotePrefix}
+use Rattle.hwdb_spec.specs.Outputs.{CutShortOne, Texts, TookOne}
 use Rattle.hwdb_spec.specs.Progress.{listing, update_text}
 use Rattle.hwdb_spec.specs.Runs.{AreKept, Files, PrintedPart, Told, WasCut}
 use Rattle.hwdb_spec.specs.Store.{AreTaken, Contents, most_parts}
 use Rattle.hwdb_spec.specs.System.{AreFilesIn, asked_database, database_folder, etc_files, usr_files}
-use Rattle.hwdb_spec.specs.Texts.{IsSpelling, max_file}
+use Rattle.hwdb_spec.specs.Texts.{max_file}
 use Rattle.hwdb_replace.specs.declared.replacement.Unreplaced.{Unreplaced}
 use Rattle.hwdb_fs.specs.Reading.{AreUnread}
 use Rattle.hwdb_fs.specs.Refusals.{IsOfDatabase, IsOver, IsUnread, IsUnreadable}
 use Rattle.hwdb_fs.specs.declared.refusals.Refusal.{Refusal}
 use Rattle.hwdb_fs.specs.declared.refusals.Refusal.TheVariants.{NoDatabase, Plain}
+use Rattle.hwdb_text.specs.declared.outcome.ScanError.{ScanError}
 use Rattle.hwdb_transfer.specs.Databases.{IsDatabaseRefusal}
+use Rattle.hwdb_transfer.specs.Refusals.{refusal_of_scan}
 use Rattle.hwdb_transfer.specs.declared.errors.ToolError.{ToolError}
 use Rattle.hwdb_transfer.specs.declared.errors.ToolError.TheVariants.{BadDatabase, BadPosition, Memory, Write}
 
@@ -48,32 +49,25 @@ IsUnprinted Refuses Are refusal err_before err_now out_before out_now =
     (Refuses refusal × (err_now ≡ err_before) × (out_now ≡ out_before))
     ⊎ ((refusal ≡ Plain Write) × PrintedPart Are err_before err_now out_before out_now)
 
--- what `list` may refuse over these bytes: a text that spells no position before a fault of the database
-abbrev pub IsListRefusedBy : (after : Option (List ℕ)) (bytes : List ℕ) → ToolError → Type 0
-IsListRefusedBy (Some text) bytes BadPosition = (p : Position) → IsSpelling p text → ⊥
-IsListRefusedBy after bytes (BadDatabase fault) = ((from : Option Position) × IsFrom after from) × IsNoDatabase bytes fault
-IsListRefusedBy after bytes Memory = Unit {0}
-IsListRefusedBy after bytes Write = Unit {0}
-IsListRefusedBy after bytes _ = ⊥
-
--- `list` is refused over the bytes at the asked path, and standard output has what it had, or a prefix if it failed
-pub record IsUnlisted (root : List ℕ) (after : Option (List ℕ)) (Is : (bytes text : List ℕ) → Type 0) (contents : Contents) (refusal : Refusal) (before now : Told) : Type 0 where
+-- `list` is refused over the bytes at the asked path, and standard output has what it had, or a prefix if it failed, or
+-- whole lines if memory did
+pub record IsUnlisted (root : List ℕ) (json : Bool) (device : List ℕ) (after : Option (List ℕ)) (limit : Option ℕ) (contents : Contents) (refusal : Refusal) (before now : Told) : Type 0 where
   pub path : List ℕ
   pub bytes : List ℕ
   pub at : IsAskedPath root contents path
   pub asked : asked_database root contents ≡ Some bytes
   pub error : ToolError
   pub is : IsOfDatabase error path refusal
-  pub refused : IsListRefusedBy after bytes error
-  pub untouched : error ≢ Write → error ≢ Memory → now.bytes ≡ before.bytes
-  pub cut : error ≡ Write → WrotePrefix (Is bytes) before.bytes now.bytes
-  pub failed : error ≡ Write → HasFailed before.failures now.failures
+  pub refused : IsListRefusal after bytes error
+  pub untouched : error ≢ Write → error ≢ Memory → now ≡ before
+  pub cut : error ≡ Write → CutShortOne (IsListFrom json device after limit bytes) before.bytes now.bytes before.failures now.failures
+  pub lines : error ≡ Memory → (now ≡ before) ⊎ TookOne (IsListBeginning json device after limit bytes) before.bytes now.bytes before.failures now.failures
 
 -- the same, or the database can't be read
-abbrev pub IsListRefused : (root : List ℕ) (after : Option (List ℕ)) (Is : (bytes text : List ℕ) → Type 0) → Contents → Refusal → (before now : Told) → Type 0
-IsListRefused root after Is contents refusal before now =
+abbrev pub IsListRefused : (root : List ℕ) (json : Bool) (device : List ℕ) (after : Option (List ℕ)) (limit : Option ℕ) → Contents → Refusal → (before now : Told) → Type 0
+IsListRefused root json device after limit contents refusal before now =
     (IsUnfound root contents refusal × (now ≡ before))
-    ⊎ IsUnlisted root after Is contents refusal before now
+    ⊎ IsUnlisted root json device after limit contents refusal before now
 
 -- how a refusal names a file that is given: `-` is standard input
 abbrev pub told_as : (dash : Bool) (path : List ℕ) → List ℕ
@@ -89,7 +83,7 @@ pub record IsNotAsked (file : List ℕ) (input : Option (List ℕ)) (contents : 
   pub read : IsGiven file input contents bytes
   pub error : ToolError
   pub is : refusal ≡ Plain error
-  pub refused : IsAskRefusal bytes max_file error
+  pub refused : (error ≢ Write) × IsAskRefusal bytes max_file error
 
 -- `ask` is refused: its file can't be read, or not be compiled
 abbrev pub IsAskRefused : (file : List ℕ) (input : Option (List ℕ)) → Contents → Refusal → Type 0
@@ -113,9 +107,9 @@ AreUncheckable (path ∷ more) root contents refusal = IsGivenUnread (path ∷ m
 pub record AreNotChecked (Are : List Source → Type 0) (refusal : Refusal) : Type 0 where
   pub sources : List Source
   pub are : Are sources
-  pub error : ToolError
-  pub is : refusal ≡ Plain error
-  pub refused : IsChecksRefusal sources error
+  pub error : ScanError
+  pub is : refusal ≡ Plain (refusal_of_scan error)
+  pub refused : IsCheckRefusal sources error
 
 -- `check` is refused: its files can't be read, or not be checked
 abbrev pub IsCheckRefused : (Unread : Refusal → Type 0) (Are : List Source → Type 0) → Refusal → Type 0

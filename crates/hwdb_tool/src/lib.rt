@@ -3,6 +3,7 @@
 //! | Module | What it does |
 //! |---|---|
 //! | `dispatch` | the program: which task its words ask for, its status and its error lines |
+//! | `printing` | what a command prints, and the one place where it is printed |
 //! | `outlet` | where standard output goes to: a sink whose reader may go away |
 //! | `updates` | `update`; `progress`: what it says of its files; `hiding`: of a database that hides the new one |
 //! | `queries` | `query`, of the devices of the words or of standard input |
@@ -37,6 +38,7 @@ mod input_devices;
 mod laws;
 mod one_outcome;
 mod outlet;
+mod printing;
 mod progress;
 mod queries;
 mod updates;
@@ -54,10 +56,11 @@ pub use hiding::update_telling;
 pub use hwdb_cli::{Job, Task, WordsFault, read_words};
 pub use hwdb_devices::{Cause, DeviceFailed, FromRead, Sink, Source, ToWrite, testing};
 pub use hwdb_fs::{Refusal, System, SystemStore};
-pub use hwdb_print::{ask, run_explain, run_list, run_queries, run_query, run_update};
+pub use hwdb_print::{ask, run_list, run_query, run_update};
 pub use hwdb_transfer::{ToolError, read_all, write_text};
 pub use laws::update_then_query;
-pub use one_outcome::{jobs_are_one, listings_give_one_reading, tasks_are_one};
+pub use one_outcome::{answers_are_one, jobs_are_one, listings_give_one_reading, tasks_are_one};
 pub use outlet::Outlet;
+pub use printing::Answer;
 pub use queries::query;
 pub use verification::verify;
