@@ -14,7 +14,7 @@ ghost use Rattle.hwdb_fs.specs.Reading.{AreUnread};
 ghost use Rattle.hwdb_tool.specs.Views.{texts_in};
 
 use crate::given::{bytes_given, input_text};
-use crate::printing::Answer;
+use crate::answer::Answer;
 use hwdb_devices::Source;
 use hwdb_fs::{Refusal, System, selected};
 use hwdb_lint::{TextFile, check_files};

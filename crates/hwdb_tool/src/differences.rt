@@ -6,7 +6,7 @@ ghost use Rattle.hwdb_spec.specs.Runs.{OnOut};
 ghost use Rattle.hwdb_tool.specs.ComparedDatabases.{IsDiffRefused, IsOfDiff};
 ghost use Rattle.hwdb_tool.specs.Views.{texts_in};
 
-use crate::printing::Answer;
+use crate::answer::Answer;
 use hwdb_fs::{Refusal, System};
 use hwdb_inspect::DiffError;
 use hwdb_transfer::ToolError;

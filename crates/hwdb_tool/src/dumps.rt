@@ -8,7 +8,7 @@ ghost use Rattle.hwdb_spec.specs.Runs.{OnOut};
 ghost use Rattle.hwdb_tool.specs.Undone.{IsUnreadableIf};
 
 use crate::databases::named;
-use crate::printing::Answer;
+use crate::answer::Answer;
 use hwdb_fs::{Refusal, System};
 use hwdb_inspect::DumpError;
 use hwdb_lint::push_shown;

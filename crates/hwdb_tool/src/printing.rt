@@ -4,38 +4,10 @@ ghost use Rattle.hwdb_spec.specs.Runs.{HasTaken, Printed, PrintedPart, WasCut, t
 ghost use Rattle.hwdb_tool.specs.Views.{IsNotPrinted, IsPrintedWith, texts_in};
 ghost use Rattle.hwdb_fs.specs.declared.refusals.Refusal.TheVariants.{Plain};
 
+use crate::answer::Answer;
 use hwdb_devices::Sink;
 use hwdb_fs::Refusal;
 use hwdb_transfer::{ToolError, write_text};
-use std::alloc::Global;
-
-/// What a command prints, and its status.
-#[derive(Drop)]
-pub struct Answer {
-    /// What standard error gets, before the rest.
-    pub err: Vec<u8>,
-    /// What standard output gets.
-    pub out: Vec<u8>,
-    /// The status.
-    pub status: u8,
-    ghost small: { status ≤ 1 },
-}
-
-impl Answer {
-    /// A text for standard output, and nothing for standard error.
-    pub fn new(alloc: Global, out: Vec<u8>, status: u8) -> Answer
-        requires { status ≤ 1 }
-        ensures err { result.err.items ≡ [] }
-        ensures out { result.out.items ≡ out.items }
-        ensures status { result.status ≡ status }
-    {
-        Answer {
-            err: Vec::new(alloc),
-            out,
-            status,
-        }
-    }
-}
 
 /// Writes a text, if there is something to say.
 pub fn say<E: Sink>(text: &[u8], err: &mut E) -> Result<(), Refusal>

@@ -12,7 +12,8 @@ ghost use Rattle.hwdb_tool.specs.Views.{texts_in};
 
 use crate::databases::asked;
 use crate::input_devices::answer_input;
-use crate::printing::{Answer, printed};
+use crate::answer::Answer;
+use crate::printing::printed;
 use hwdb_devices::{Sink, Source};
 use hwdb_fs::{Refusal, System};
 use hwdb_print::{Form, answers};

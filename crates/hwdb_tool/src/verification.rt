@@ -10,7 +10,7 @@ ghost use Rattle.hwdb_spec.specs.Runs.{OnOut};
 ghost use Rattle.hwdb_tool.specs.Undone.{IsUnreadableIf};
 
 use crate::databases::named;
-use crate::printing::Answer;
+use crate::answer::Answer;
 use crate::verdicts::verdict;
 use hwdb_fs::{Refusal, System};
 use hwdb_inspect::VerifyError;

@@ -19,7 +19,7 @@ returns-clause-refused g c = λ tells. inr record {
   error = c.in-Err.error;
   is = subst (λ p. IsOfDatabase c.in-Err.error p c.of_database.result) c.as_bytes.ensures.value c.of_database.ensures.is;
   refused = c.in-Err.ensures.refusals;
-  untouched = λ w m. ap (told_by g.O.taken g.O.failures) (c.in-Err.ensures.untouched w m);
+  untouched = λ w m. ap (told_by g.O.Sink.taken g.O.Sink.failures) (c.in-Err.ensures.untouched w m);
   cut = λ w. c.in-Err.ensures.cut_short (ap Err w);
-  lines = λ m. ⊎_elim (λ same. inl (ap (told_by g.O.taken g.O.failures) same)) (λ some. inr some) (c.in-Err.ensures.whole_lines (ap Err m));
+  lines = λ m. ⊎_elim (λ same. inl (ap (told_by g.O.Sink.taken g.O.Sink.failures) same)) (λ some. inr some) (c.in-Err.ensures.whole_lines (ap Err m));
 }
