@@ -1,6 +1,6 @@
 //! The lines of a source, one after another.
-ghost use Rattle.std.specs.Prelude.{[], ◌≡◌, ◌≢◌, ◌<◌, ◌≤◌, ◌+◌, ℕ, true, false, length, IfOk, IfErr, IfSome, IfNone, OnOk, IsErrOf, vec_len};
-ghost use Rattle.std.specs.Io.KnownBytes.{IsAtEnd, Keeps, prepend_known};
+ghost use Rattle.std.specs.Prelude.{[], ◌≡◌, ◌<◌, ◌≤◌, ◌+◌, true, false, IfOk, IfErr, IfSome, IfNone, OnOk, IsErrOf, vec_len};
+ghost use Rattle.std.specs.Io.KnownBytes.{IsAtEnd};
 ghost use Rattle.std.specs.List.{position_or_len};
 ghost use Rattle.hwdb_spec.specs.Failures.{CountsFailures};
 ghost use Rattle.hwdb_spec.specs.Lines.{byte, is};

@@ -1,5 +1,5 @@
 //! `query` and `explain`: what a database gives devices, as text or as JSON.
-ghost use Rattle.std.specs.Prelude.{[], ◌∷◌, ◌≡◌, ◌≢◌, List, IfOk, IfErr, OnOk, map, string_bytes};
+ghost use Rattle.std.specs.Prelude.{[], ◌∷◌, ◌≡◌, List, IfOk, IfErr, OnOk, map, string_bytes};
 ghost use Rattle.hwdb_spec.specs.Databases.{IsTextOf};
 ghost use Rattle.hwdb_spec.specs.Folders.{Source};
 ghost use Rattle.hwdb_spec.specs.Outputs.{CutShortOne, Took, TookOne};
@@ -40,12 +40,7 @@ pub fn answers(
 }
 
 /// The same of one device.
-pub fn answer(
-    alloc: Global,
-    bytes: &[u8],
-    device: &[u8],
-    form: Form,
-) -> Result<Vec<u8>, ToolError>
+pub fn answer(alloc: Global, bytes: &[u8], device: &[u8], form: Form) -> Result<Vec<u8>, ToolError>
     ensures text { IfOk result
         (λ text. IsTextOf (texts_of form (device.now ∷ [])) bytes.now text.items) }
     ensures headline { IfOk result

@@ -50,8 +50,8 @@ pub fn put_in_place<S: Store, E: Sink>(
     store: &mut S,
     err: &mut E,
 ) -> Result<u8, ToolError>
-    ensures told { let text = progress.now ++ faults_text (map fault_of compiled.now.faults.items) in
-        OnOk result (Took text
+    ensures told { OnOk result (Took
+        (progress.now ++ faults_text (map fault_of compiled.now.faults.items))
         (E.taken err.old) (E.taken err.new) (E.failures err.old) (E.failures err.new)) }
     ensures placed { S.tells → OnOk result (InPlace folder.now compiled.now.database.items
         (S.seen store.old) (S.seen store.new) (S.may_leave store.new)) }
@@ -63,8 +63,8 @@ pub fn put_in_place<S: Store, E: Sink>(
     ensures unfailed { OnOk result (S.failures store.new ≡ S.failures store.old) }
 
     ensures refusals { IfErr result IsPlaceRefusal }
-    ensures unreplaced { let text = progress.now ++ faults_text (map fault_of compiled.now.faults.items) in
-        IfErr result (OnUnreplaced (λ u. Took text
+    ensures unreplaced { IfErr result (OnUnreplaced (λ u. Took
+        (progress.now ++ faults_text (map fault_of compiled.now.faults.items))
         (E.taken err.old) (E.taken err.new) (E.failures err.old) (E.failures err.new)
         × (S.failures store.new ≡ failures_after u (S.failures store.old)))) }
     ensures seen { S.tells → IfErr result (OnUnreplaced
@@ -72,8 +72,8 @@ pub fn put_in_place<S: Store, E: Sink>(
     ensures left { S.tells → IfErr result (OnUnreplaced
         (IsLeft folder.now compiled.now.database.items (S.seen store.old)
         (S.may_leave store.old) (S.may_leave store.new))) }
-    ensures cut_short { let text = progress.now ++ faults_text (map fault_of compiled.now.faults.items) in
-        IsErrOf result ToolError.Write → CutShort text
+    ensures cut_short { IsErrOf result ToolError.Write → CutShort
+        (progress.now ++ faults_text (map fault_of compiled.now.faults.items))
         (E.taken err.old) (E.taken err.new) (E.failures err.old) (E.failures err.new)
         × (store.new ≡ store.old) }
     ensures untouched { IfErr result

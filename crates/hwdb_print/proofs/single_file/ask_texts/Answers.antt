@@ -8,7 +8,7 @@ use Rattle.hwdb_spec.specs.Databases.{IsTextOf}
 use Rattle.hwdb_spec.specs.LoneFile.{lone}
 use Rattle.hwdb_print.proofs.RefusalLemmas.{asked_refused, lone_refused}
 use Rattle.hwdb_print.proofs.UpdateLemmas.{lone_chosen}
-use Rattle.hwdb_print.proofs.single_file.answer_of.Goals as goal
+use Rattle.hwdb_print.proofs.single_file.ask_texts.Goals as goal
 
 pub returns-in_err-compiled-clause-refusals : goal.returns-in_err-compiled-clause-refusals
 returns-in_err-compiled-clause-refusals c =
@@ -26,8 +26,8 @@ returns-clause-headline c =
     c.in_ok-properties.ensures.headline (lone c.args.bytes.now) []
     (subst Q (sym c.deref-2.ensures.value) (c.in_ok-compiled.ensures.checked (lone c.args.bytes.now) [] (lone_chosen c.args.bytes.now _ c.in_ok-choice.ensures refl)))
 
-pub returns-clause-answer : goal.returns-clause-answer
-returns-clause-answer c =
+pub returns-clause-texts : goal.returns-clause-texts
+returns-clause-texts c =
     let file = lone c.args.bytes.now in
     let of = lone_chosen c.args.bytes.now _ c.in_ok-choice.ensures refl in
     let P : List ℕ → Type 0 = λ bytes. IsTextOf (query_text c.args.device.now) bytes c.in_ok-properties.properties.items in
