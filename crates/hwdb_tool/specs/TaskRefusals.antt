@@ -18,7 +18,7 @@ use Rattle.hwdb_spec.specs.CheckedFiles.{AreCheckedFiles}
 use Rattle.hwdb_tool.specs.ComparedDatabases.{IsDiffRefused}
 use Rattle.hwdb_tool.specs.NamedDatabases.{IsDumpRefused, IsVerifyRefused}
 use Rattle.hwdb_tool.specs.Queries.{AreUnanswered, IsInputUnread}
-use Rattle.hwdb_tool.specs.Program.{IsAnswerOf, IsUpdate, looks_below_root, reads_input, root_of}
+use Rattle.hwdb_tool.specs.Program.{IsAnswerOf, IsJobDone, IsTold, IsUpdate, looks_below_root, reads_input, root_of}
 use Rattle.hwdb_fs.specs.Refusals.{HasReason, IsAt, IsUnread, IsUnreadable, Refused, refusal_line, refusal_text}
 use Rattle.hwdb_fs.specs.declared.refusals.Refusal.TheVariants.{Plain}
 use Rattle.hwdb_fs.specs.declared.refusals.Refusal.{Refusal}
@@ -65,16 +65,20 @@ IsUnreadableFor (Verify database) = IsUnreadableIf (is_some (option_map string_b
 IsUnreadableFor (Dump database) = IsUnreadableIf (is_some (option_map string_bytes database))
 IsUnreadableFor _ = IsUnreadableIf false
 
--- what the refusal of a job says of a path, or of standard input, is so
-abbrev pub IsJobReason : (before now : World) → Job → Refusal → Type 0
-IsJobReason before now job refusal =
-    HasReason (IsUnreadableFor job.task before.files.fails before.files.seen)
-    (IsUnwritable (database_folder job.usr (root_of job)) before.files.seen before.files.failures now.files.failures) before.files.seen refusal
-    ⊎ ((reads_input job.task ≡ true) × IsInputUnread before.input.failures now.input.failures refusal)
+-- what the refusal of a task says of a path, or of standard input, is so
+abbrev pub IsTaskReason : Task → (root : List ℕ) (usr : Bool) (before now : World) → Refusal → Type 0
+IsTaskReason task root usr before now refusal =
+    HasReason (IsUnreadableFor task before.files.fails before.files.seen)
+    (IsUnwritable (database_folder usr root) before.files.seen before.files.failures now.files.failures) before.files.seen refusal
+    ⊎ ((reads_input task ≡ true) × IsInputUnread before.input.failures now.input.failures refusal)
 
--- the job is refused, and for this reason
+-- a task is refused, and for its reason
+abbrev pub IsNotDone : Task → (root : List ℕ) (usr strict : Bool) (before now : World) → Refusal → Type 0
+IsNotDone task root usr strict before now refusal = IsTaskRefused task root usr strict refusal before now × IsTaskReason task root usr before now refusal
+
+-- the same of a job
 abbrev pub IsJobNotDone : Job → (before now : World) → Refusal → Type 0
-IsJobNotDone job before now refusal = IsTaskRefused job.task (root_of job) job.usr job.strict refusal before now × IsJobReason before now job refusal
+IsJobNotDone job = IsNotDone job.task (root_of job) job.usr job.strict
 
 -- the status where a task is refused: 2 of `diff`, whose 1 says that something changed, else 1
 abbrev pub refused_status : Task → ℕ
@@ -103,8 +107,7 @@ pub record IsJobRefused (words : List (List ℕ)) (status : ℕ) (before now : W
   pub asked : AskFor words job
   pub refusal : Refusal
   pub err_then : Told
-  pub refused : IsTaskRefused job.task (root_of job) job.usr job.strict refusal before (with_err err_then now)
-  pub reason : IsJobReason before now job refusal
+  pub refused : IsJobNotDone job before (with_err err_then now) refusal
   pub said : IsSaid refusal err_then now.err
   pub says : status ≡ refused_status job.task
 

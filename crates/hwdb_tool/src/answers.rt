@@ -36,8 +36,8 @@ pub fn explain<D: System, I: Source, O: Sink, E: Sink>(
     err: &mut E,
 ) -> Result<u8, Refusal>
     ensures small { IfOk result (λ status. status ≤ 1) }
-    ensures answered { D.Store.tells → IfOk result (AreDone root.now (Form.Explain json)
-        (device.now ∷ []) (I.left input.old) (D.Store.seen system.now)
+    ensures answered { D.Store.tells → IfOk result (λ status. AreDone root.now (Form.Explain json)
+        (device.now ∷ []) (I.left input.old) (D.Store.seen system.now) status
         (told_by E.taken E.failures err.old) (told_by E.taken E.failures err.new)
         (told_by O.taken O.failures out.old) (told_by O.taken O.failures out.new)) }
     ensures refused { D.Store.tells → IfErr result (λ r. AreUnanswered root.now (Form.Explain json)
