@@ -45,17 +45,18 @@ pub fn program<D: Rooted, I: Source, O: Outlet, E: Sink>(
         (D.Store.seen system.old) (D.Store.may_leave system.old)) }
     ensures unread { ((job : Job) → AskFor (map string_bytes words.now) job
         → reads_input job.task ≡ false) → input.new ≡ input.old }
-    ensures done { let world = world_by
+    ensures done { D.Store.tells → result ≡ 0 → let world = world_by
         (files_by D.Store.seen D.System.may_fail D.Store.may_leave D.Store.failures)
-        (told_by I.left I.failures) (told_by O.Sink.taken O.Sink.failures) (told_by E.taken E.failures) in
-        D.Store.tells → result ≡ 0 → HasSucceeded (O.Outlet.reader_gone out.old) (O.Outlet.reader_gone out.new)
+        (told_by I.left I.failures) (told_by O.Sink.taken O.Sink.failures)
+        (told_by E.taken E.failures) in HasSucceeded (O.reader_gone out.old) (O.reader_gone out.new)
         (map string_bytes words.now) (world system.old input.old out.old err.old)
         (world system.new input.new out.new err.new) }
-    ensures refused { let world = world_by
+    ensures refused { D.Store.tells → 0 < result → let world = world_by
         (files_by D.Store.seen D.System.may_fail D.Store.may_leave D.Store.failures)
-        (told_by I.left I.failures) (told_by O.Sink.taken O.Sink.failures) (told_by E.taken E.failures) in
-        D.Store.tells → 0 < result → HasFailedWith (map string_bytes words.now) result
-        (world system.old input.old out.old err.old) (world system.new input.new out.new err.new) }
+        (told_by I.left I.failures) (told_by O.Sink.taken O.Sink.failures)
+        (told_by E.taken E.failures) in HasFailedWith (map string_bytes words.now) result
+        (world system.old input.old out.old err.old)
+        (world system.new input.new out.new err.new) }
 {
     match read_words(alloc, words) {
         Ok(job) => match enter_root(&job, system) {
@@ -167,16 +168,18 @@ fn run<D: System, I: Source, O: Sink, E: Sink>(
         (D.Store.seen system.old) (D.Store.may_leave system.old)) }
     ensures unread { reads_input job.now.task ≡ false → input.new ≡ input.old }
     ensures update { IsUpdate job.now.task → out.new ≡ out.old }
-    ensures done { let world = world_by
+    ensures done { D.Store.tells → let world = world_by
         (files_by D.Store.seen D.System.may_fail D.Store.may_leave D.Store.failures)
         (told_by I.left I.failures) (told_by O.taken O.failures) (told_by E.taken E.failures) in
-        D.Store.tells → IfOk result (λ status. IsDone job.now status
-        (world system.old input.old out.old err.old) (world system.new input.new out.new err.new)) }
-    ensures refused { let world = world_by
+        IfOk result (λ status. IsDone job.now status
+        (world system.old input.old out.old err.old)
+        (world system.new input.new out.new err.new)) }
+    ensures refused { D.Store.tells → let world = world_by
         (files_by D.Store.seen D.System.may_fail D.Store.may_leave D.Store.failures)
         (told_by I.left I.failures) (told_by O.taken O.failures) (told_by E.taken E.failures) in
-        D.Store.tells → IfErr result (IsJobNotDone job.now
-        (world system.old input.old out.old err.old) (world system.new input.new out.new err.new)) }
+        IfErr result (IsJobNotDone job.now
+        (world system.old input.old out.old err.old)
+        (world system.new input.new out.new err.new)) }
 {
     let root = root_of(job);
     match &job.task {

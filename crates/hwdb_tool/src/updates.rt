@@ -107,9 +107,10 @@ fn update_selected<D: System, E: Sink>(
         (E.taken err.old) (E.taken err.new)
         (λ database. spec.InPlace (Folder.database_folder usr root.now) database
         (D.Store.seen system.old) (D.Store.seen system.new) (D.Store.may_leave system.new))) }
-    ensures refused { let left = files_by D.Store.seen D.System.may_fail D.Store.may_leave D.Store.failures in
-        (files : spec.Contents) → IsOfSelection root.now files selection.now
-        → D.Store.tells → IfErr result (λ r. IsSelectedRefused root.now usr verbose files r
+    ensures refused { (files : spec.Contents) → IsOfSelection root.now files selection.now
+        → D.Store.tells → let left = files_by D.Store.seen D.System.may_fail
+        D.Store.may_leave D.Store.failures in IfErr result (λ r.
+        IsSelectedRefused root.now usr verbose files r
         (left system.old) (left system.new)
         (told_by E.taken E.failures err.old) (told_by E.taken E.failures err.new)) }
     ensures reason { D.Store.tells → IfErr result (HasReason (D.System.may_fail system.old)
@@ -162,14 +163,15 @@ pub fn update<D: System, E: Sink>(
         → spec.LeavesOnly D.Store.moment D.Store.left_since system.old system.new
         (OldOrUpdatedLess (D.System.may_fail system.old) root.now usr skip
         (D.Store.seen system.old) (D.Store.may_leave system.old)) }
-    ensures updated { let files = files_by D.Store.seen D.System.may_fail D.Store.may_leave D.Store.failures in
-        D.Store.tells → IfOk result (λ status. IsUpdatedLess root.now verbose strict skip status
-        (files system.old)
+    ensures updated { D.Store.tells → IfOk result (λ status. IsUpdatedLess root.now verbose
+        strict skip status (files_by D.Store.seen D.System.may_fail D.Store.may_leave
+        D.Store.failures system.old)
         (told_by E.taken E.failures err.old) (told_by E.taken E.failures err.new)
         (λ database. spec.InPlace (Folder.database_folder usr root.now) database
         (D.Store.seen system.old) (D.Store.seen system.new) (D.Store.may_leave system.new))) }
-    ensures refused { let files = files_by D.Store.seen D.System.may_fail D.Store.may_leave D.Store.failures in
-        D.Store.tells → IfErr result (λ r. IsUpdateRefused root.now usr verbose skip r
+    ensures refused { D.Store.tells → let files = files_by D.Store.seen D.System.may_fail
+        D.Store.may_leave D.Store.failures in IfErr result (λ r.
+        IsUpdateRefused root.now usr verbose skip r
         (files system.old) (files system.new)
         (told_by E.taken E.failures err.old) (told_by E.taken E.failures err.new)) }
     ensures reason { D.Store.tells → IfErr result (HasReason (D.System.may_fail system.old)
