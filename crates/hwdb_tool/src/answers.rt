@@ -12,10 +12,10 @@ ghost use Rattle.hwdb_tool.specs.Queries.{AreDone, AreUnanswered, IsInputUnread}
 ghost use Rattle.hwdb_tool.specs.Undone.{IsAskRefused, IsListRefused, IsUnanswered};
 ghost use Rattle.hwdb_tool.specs.Views.{texts_in};
 
+use crate::answer::Answer;
 use crate::databases::asked;
 use crate::given::{is_dash, read};
 use crate::input_devices::answer_input;
-use crate::answer::Answer;
 use crate::printing::printed;
 use hwdb_devices::{Sink, Source};
 use hwdb_fs::{Refusal, System};

@@ -13,8 +13,8 @@ ghost use Rattle.hwdb_tool.specs.Undone.{AreNotChecked, AreUncheckable, IsCheckR
 ghost use Rattle.hwdb_fs.specs.Reading.{AreUnread};
 ghost use Rattle.hwdb_tool.specs.Views.{texts_in};
 
-use crate::given::{bytes_given, input_text};
 use crate::answer::Answer;
+use crate::given::{bytes_given, input_text};
 use hwdb_devices::Source;
 use hwdb_fs::{Refusal, System, selected};
 use hwdb_lint::{TextFile, check_files};

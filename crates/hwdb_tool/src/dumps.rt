@@ -7,8 +7,8 @@ ghost use Rattle.hwdb_spec.specs.Asked.{IsDumped, unsayable_text};
 ghost use Rattle.hwdb_spec.specs.Runs.{OnOut};
 ghost use Rattle.hwdb_tool.specs.Undone.{IsUnreadableIf};
 
-use crate::databases::named;
 use crate::answer::Answer;
+use crate::databases::named;
 use hwdb_fs::{Refusal, System};
 use hwdb_inspect::DumpError;
 use hwdb_lint::push_shown;

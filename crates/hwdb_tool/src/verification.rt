@@ -9,8 +9,8 @@ ghost use Rattle.hwdb_spec.specs.Databases.{IsSummary};
 ghost use Rattle.hwdb_spec.specs.Runs.{OnOut};
 ghost use Rattle.hwdb_tool.specs.Undone.{IsUnreadableIf};
 
-use crate::databases::named;
 use crate::answer::Answer;
+use crate::databases::named;
 use crate::verdicts::verdict;
 use hwdb_fs::{Refusal, System};
 use hwdb_inspect::VerifyError;
