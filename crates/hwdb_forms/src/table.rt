@@ -266,11 +266,7 @@ fn id_input_name() -> Form
     Form {
         prefix: b"id-input:",
         fields: &[
-            &[
-                &[Fixed(b"usb:")],
-                &[Fixed(b"bluetooth:")],
-                &[Fixed(b"i2c:")],
-            ],
+            &[&[Repeated(Name), Fixed(b":")]],
             &[&[
                 Fixed(b"v"),
                 Counted(LowerHex, 4),
@@ -370,7 +366,7 @@ fn sensor_machine() -> Form
     Form {
         prefix: b"sensor:",
         fields: &[
-            &[&[Repeated(LeftButColon), Fixed(b":")], &[]],
+            &[&[Repeated(Left), Fixed(b":")], &[]],
             &[&[Fixed(b"modalias:"), Repeated(LeftButColon), Fixed(b":")]],
             &[&[Repeated(Left), Fixed(b":")], &[]],
             &[&[Fixed(b"dmi:")]],
@@ -400,7 +396,7 @@ fn sensor() -> Form
     Form {
         prefix: b"sensor:",
         fields: &[
-            &[&[Repeated(LeftButColon), Fixed(b":")], &[]],
+            &[&[Repeated(Left), Fixed(b":")], &[]],
             &[&[Fixed(b"modalias:"), Repeated(LeftButColon), Fixed(b":")]],
             &[&[Repeated(Left), Fixed(b":")], &[]],
         ],
@@ -416,7 +412,7 @@ fn battery_machine() -> Form
             &[&[
                 Repeated(LeftButColon),
                 Fixed(b":"),
-                Repeated(LeftButColon),
+                Repeated(Left),
                 Fixed(b":"),
             ]],
             &[&[Fixed(b"dmi:")]],
@@ -448,7 +444,7 @@ fn battery() -> Form
         fields: &[&[&[
             Repeated(LeftButColon),
             Fixed(b":"),
-            Repeated(LeftButColon),
+            Repeated(Left),
             Fixed(b":"),
         ]]],
     }
@@ -579,6 +575,10 @@ fn fb() -> Form
             &[Fixed(b"of:"), Repeated(Left)],
             &[Fixed(b"virtio:"), Repeated(Left)],
             &[Fixed(b"acpi:"), Repeated(Left)],
+            &[Fixed(b"usb:"), Repeated(Left)],
+            &[Fixed(b"spi:"), Repeated(Left)],
+            &[Fixed(b"i2c:"), Repeated(Left)],
+            &[Fixed(b"xen:"), Repeated(Left)],
         ]],
     }
 }
@@ -598,6 +598,7 @@ fn block() -> Form
     Form {
         prefix: b"block:",
         fields: &[&[&[
+            Repeated(Any),
             Fixed(b":name:"),
             Repeated(Any),
             Fixed(b":fwrev:"),
@@ -648,7 +649,6 @@ pub(crate) fn free_prefixes() -> &'static [&'static [u8]]
         b"xen:",
         b"xen-backend:",
         b"auxiliary:",
-        b"soundwire:",
         b"sdw:",
         b"mmc:",
         b"rpmsg:",
@@ -671,6 +671,21 @@ pub(crate) fn free_prefixes() -> &'static [&'static [u8]]
         b"tee:",
         b"coreboot:",
         b"cxl:",
+        b"nd:",
+        b"dax:",
+        b"slim:",
+        b"apr:",
+        b"hsi:",
+        b"ac97:",
+        b"cdx:",
+        b"vchiq:",
+        b"rapidio:",
+        b"nubus:",
+        b"peci:",
+        b"moxtet:",
+        b"siox:",
+        b"scmi_protocol:",
+        b"maple:",
     ]
 }
 
@@ -774,7 +789,6 @@ pub(crate) fn prefixes() -> &'static [&'static [u8]]
         b"xen:",
         b"xen-backend:",
         b"auxiliary:",
-        b"soundwire:",
         b"sdw:",
         b"mmc:",
         b"rpmsg:",
@@ -797,5 +811,20 @@ pub(crate) fn prefixes() -> &'static [&'static [u8]]
         b"tee:",
         b"coreboot:",
         b"cxl:",
+        b"nd:",
+        b"dax:",
+        b"slim:",
+        b"apr:",
+        b"hsi:",
+        b"ac97:",
+        b"cdx:",
+        b"vchiq:",
+        b"rapidio:",
+        b"nubus:",
+        b"peci:",
+        b"moxtet:",
+        b"siox:",
+        b"scmi_protocol:",
+        b"maple:",
     ]
 }

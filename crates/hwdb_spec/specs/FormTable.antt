@@ -112,16 +112,16 @@ evdev_name_machine = record {
 abbrev pub evdev_name : Form
 evdev_name = record { prefix = codes "evdev:"; fields = evdev_named }
 
+-- a bus, a vendor and a product, and a name
+abbrev pub on_bus : List (List (List Piece))
+on_bus = always (repeated Name ∷ fixed (codes ":") ∷ []) ∷ always (pair LowerHex) ∷ name_field (codes ":name:") (codes ":") ∷ []
+
 -- 60-input-id.rules
 abbrev pub id_input : Form
 id_input = record { prefix = codes "id-input:"; fields = always (fixed (codes "modalias:") ∷ input_pieces) ∷ [] }
 
 abbrev pub id_input_name : Form
-id_input_name = record {
-  prefix = codes "id-input:";
-  fields = ((fixed (codes "usb:") ∷ []) ∷ (fixed (codes "bluetooth:") ∷ []) ∷ (fixed (codes "i2c:") ∷ []) ∷ [])
-      ∷ always (pair LowerHex) ∷ name_field (codes ":name:") (codes ":") ∷ [];
-}
+id_input_name = record { prefix = codes "id-input:"; fields = on_bus }
 
 -- 70-mouse.rules
 abbrev pub mouse : Form
@@ -131,10 +131,7 @@ mouse = record {
       ∷ name_field (codes ":name:") (codes ":") ∷ [];
 }
 
--- 70-touchpad.rules, 70-joystick.rules: the bus is a word
-abbrev pub on_bus : List (List (List Piece))
-on_bus = always (repeated Name ∷ fixed (codes ":") ∷ []) ∷ always (pair LowerHex) ∷ name_field (codes ":name:") (codes ":") ∷ []
-
+-- 70-touchpad.rules, 70-joystick.rules
 abbrev pub touchpad : Form
 touchpad = record { prefix = codes "touchpad:"; fields = on_bus }
 
@@ -151,7 +148,7 @@ camera = record {
 -- 60-sensor.rules: perhaps a label; the MODALIAS; perhaps the machine's
 abbrev pub sensed : List (List (List Piece))
 sensed =
-    optional (repeated LeftButColon ∷ fixed (codes ":") ∷ [])
+    optional (repeated Left ∷ fixed (codes ":") ∷ [])
     ∷ always (fixed (codes "modalias:") ∷ repeated LeftButColon ∷ fixed (codes ":") ∷ [])
     ∷ optional (repeated Left ∷ fixed (codes ":") ∷ []) ∷ []
 
@@ -166,7 +163,7 @@ sensor = record { prefix = codes "sensor:"; fields = sensed }
 
 -- 60-upower-battery.rules: two names; perhaps the machine's MODALIAS
 abbrev pub two_names : List (List (List Piece))
-two_names = always (repeated LeftButColon ∷ fixed (codes ":") ∷ repeated LeftButColon ∷ fixed (codes ":") ∷ []) ∷ []
+two_names = always (repeated LeftButColon ∷ fixed (codes ":") ∷ repeated Left ∷ fixed (codes ":") ∷ []) ∷ []
 
 abbrev pub battery_machine : Form
 battery_machine = record {
@@ -229,7 +226,9 @@ fb = record {
   prefix = codes "fb:";
   fields = ((fixed (codes "pci:") ∷ pci_pieces) ∷ (fixed (codes "vmbus:") ∷ counted LowerHex 32 ∷ [])
       ∷ (fixed (codes "platform:") ∷ repeated Left ∷ []) ∷ (fixed (codes "of:") ∷ repeated Left ∷ [])
-      ∷ (fixed (codes "virtio:") ∷ repeated Left ∷ []) ∷ (fixed (codes "acpi:") ∷ repeated Left ∷ []) ∷ []) ∷ [];
+      ∷ (fixed (codes "virtio:") ∷ repeated Left ∷ []) ∷ (fixed (codes "acpi:") ∷ repeated Left ∷ [])
+      ∷ (fixed (codes "usb:") ∷ repeated Left ∷ []) ∷ (fixed (codes "spi:") ∷ repeated Left ∷ [])
+      ∷ (fixed (codes "i2c:") ∷ repeated Left ∷ []) ∷ (fixed (codes "xen:") ∷ repeated Left ∷ []) ∷ []) ∷ [];
 }
 
 -- 60-tpm2-id.rules
@@ -240,7 +239,7 @@ tpm2 = record { prefix = codes "tpm2:"; fields = always (repeated Any ∷ []) �
 abbrev pub block : Form
 block = record {
   prefix = codes "block:";
-  fields = always (fixed (codes ":name:") ∷ repeated Any ∷ fixed (codes ":fwrev:") ∷ repeated Any ∷ fixed (codes ":") ∷ []) ∷ [];
+  fields = always (repeated Any ∷ fixed (codes ":name:") ∷ repeated Any ∷ fixed (codes ":fwrev:") ∷ repeated Any ∷ fixed (codes ":") ∷ []) ∷ [];
 }
 
 -- MODALIAS of other buses (scripts/mod/file2alias.c of Linux, and the buses' own `uevent`), of which nothing more is said here
@@ -312,7 +311,6 @@ free_prefixes =
     ∷ codes "xen:"
     ∷ codes "xen-backend:"
     ∷ codes "auxiliary:"
-    ∷ codes "soundwire:"
     ∷ codes "sdw:"
     ∷ codes "mmc:"
     ∷ codes "rpmsg:"
@@ -334,7 +332,22 @@ free_prefixes =
     ∷ codes "dfl:"
     ∷ codes "tee:"
     ∷ codes "coreboot:"
-    ∷ codes "cxl:" ∷ []
+    ∷ codes "cxl:"
+    ∷ codes "nd:"
+    ∷ codes "dax:"
+    ∷ codes "slim:"
+    ∷ codes "apr:"
+    ∷ codes "hsi:"
+    ∷ codes "ac97:"
+    ∷ codes "cdx:"
+    ∷ codes "vchiq:"
+    ∷ codes "rapidio:"
+    ∷ codes "nubus:"
+    ∷ codes "peci:"
+    ∷ codes "moxtet:"
+    ∷ codes "siox:"
+    ∷ codes "scmi_protocol:"
+    ∷ codes "maple:" ∷ []
 
 -- all forms
 abbrev pub asked : List Form
