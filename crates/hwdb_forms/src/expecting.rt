@@ -43,7 +43,8 @@ fn put_expected(
     byte: u8,
     bytes: &mut Vec<u8>,
 ) -> Result<(), AllocError>
-    ensures { IfOk result (λ done. bytes.new.items ≡ bytes.old.items ++ filter (Forms.is_expected asked front.now) (byte ∷ [])) }
+    ensures { IfOk result (λ done. bytes.new.items
+        ≡ bytes.old.items ++ filter (Forms.is_expected asked front.now) (byte ∷ [])) }
 {
     if is_expected(alloc, front, byte)? {
         bytes.push(byte)?;
@@ -51,7 +52,7 @@ fn put_expected(
     Ok(())
 }
 
-/// The bytes that may be written behind the beginning of a pattern, so that a text that udev asks begins with what it matches. Wildcards
+/// The bytes that may be written after the beginning of a pattern: some text that udev asks begins with what both match. Wildcards
 /// aren't among them.
 ///
 /// The only error is that memory is refused.

@@ -82,7 +82,8 @@ fn likely(alloc: Global, text: &[u8]) -> Result<Option<&'static [u8]>, AllocErro
 ///
 /// The only error is that memory is refused.
 pub fn likely_prefix(alloc: Global, pattern: &[u8]) -> Result<Option<&'static [u8]>, AllocError>
-    ensures { IfOk result (λ found. option_map (λ p. p.now) found ≡ FormTable.likely_prefix pattern.now) }
+    ensures { IfOk result (λ found. option_map (λ p. p.now) found
+        ≡ FormTable.likely_prefix pattern.now) }
 {
     let found = likely(alloc, &pattern[..prefix_size(pattern)])?;
     Ok(found)
