@@ -1,5 +1,5 @@
 -- What was printed, in the words of the program.
-use Rattle.std.proofs.Common.{◌≡◌, inl, inr, refl, subst, sym, Bool, true, ℕ, List, [], ◌∷◌, ◌++◌, map, option_map, string_bytes, Option, None, Some, Result, Ok, Err, IfOk, IfErr, OnOk, IfSome, Global, String}
+use Rattle.std.proofs.Common.{◌≡◌, inl, inr, refl, subst, sym, Bool, true, ℕ, List, [], option_map, string_bytes, Option, None, Some, Result, Ok, Err, IfOk, IfErr, OnOk, IfSome, Global, String}
 use Rattle.std.proofs.lemmas.List.{append-nil}
 use Rattle.std.specs.Io.KnownBytes.{Appends}
 use Rattle.hwdb_cli.specs.declared.job.Task.TheVariants.{List as ListHits}
@@ -9,7 +9,7 @@ use Rattle.hwdb_spec.specs.Asked.{IsAnswered, IsListFrom}
 use Rattle.hwdb_spec.specs.Databases.{IsTextOf}
 use Rattle.hwdb_spec.specs.Given.{is_input}
 use Rattle.hwdb_spec.specs.Outputs.{Texts, TookOne}
-use Rattle.hwdb_spec.specs.Runs.{Files, OnOut, Told, World}
+use Rattle.hwdb_spec.specs.Runs.{Files, Told}
 use Rattle.hwdb_spec.specs.Store.{Contents}
 use Rattle.hwdb_spec.specs.Texts.{devices_of}
 use Rattle.hwdb_fs.specs.Refusals.{HasReason}
@@ -20,7 +20,6 @@ use Rattle.hwdb_tool.specs.Queries.{AreDone, AreDoneFrom}
 use Rattle.hwdb_tool.specs.Undone.{IsUnprinted}
 use Rattle.hwdb_tool.specs.Views.{IsNotPrinted, texts_in}
 use Rattle.hwdb_tool.specs.declared.answer.Answer.{Answer}
-use Rattle.hwdb_print.specs.declared.errors.ToolError.{ToolError}
 use Rattle.hwdb_print.specs.declared.errors.ToolError.TheVariants.{Read, Write, TooLong, TooManyFiles, TooManyLines, TooLarge, BadPosition, BadDatabase, Replace, Memory}
 
 -- a sink that wasn't used took nothing

@@ -1,5 +1,5 @@
 -- What two outcomes over one input have in common.
-use Rattle.std.specs.Prelude.{◌≡◌, ◌⊎◌, ℕ, Bool, false, List, Option, Some, map}
+use Rattle.std.specs.Prelude.{◌≡◌, ◌⊎◌, ℕ, Bool, false, List, Some, map}
 use Rattle.hwdb_cli.specs.declared.job.Task.{Task}
 use Rattle.hwdb_spec.specs.Folders.{Source, Choice, choice, chosen_of, contents, lists}
 use Rattle.hwdb_spec.specs.Outputs.{Texts}

@@ -22,7 +22,7 @@ use Rattle.hwdb_text.specs.declared.outcome.ScanError.{ScanError}
 use Rattle.hwdb_print.specs.Databases.{IsDatabaseRefusal}
 use Rattle.hwdb_print.specs.Refusals.{refusal_of_scan}
 use Rattle.hwdb_print.specs.declared.errors.ToolError.{ToolError}
-use Rattle.hwdb_print.specs.declared.errors.ToolError.TheVariants.{BadDatabase, BadPosition, Memory, Write}
+use Rattle.hwdb_print.specs.declared.errors.ToolError.TheVariants.{Memory, Write}
 
 -- what finding that database may refuse: there is none, or it can't be read
 abbrev pub IsUnfound : (root : List ℕ) → Contents → Refusal → Type 0

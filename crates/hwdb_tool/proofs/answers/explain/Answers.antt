@@ -1,4 +1,4 @@
-use Rattle.std.proofs.Common.{◌∙◌, sym, [], ◌∷◌, map, string_bytes}
+use Rattle.std.proofs.Common.{◌∙◌, sym, [], ◌∷◌}
 use Rattle.hwdb_print.specs.declared.form.Form.TheVariants.{Explain}
 use Rattle.hwdb_spec.specs.Runs.{told_by}
 use Rattle.hwdb_tool.proofs.PrintingLemmas.{streamed_done}

@@ -10,9 +10,8 @@ use Rattle.hwdb_spec.specs.Runs.{OnOut, World, files_by, told_by}
 use Rattle.hwdb_tool.specs.ComparedDatabases.{IsDiffRefused}
 use Rattle.hwdb_tool.specs.Program.{IsAnswerOf, IsTaskDone, OldOrDone, root_of, skips}
 use Rattle.hwdb_tool.specs.Queries.{IsInputUnread}
-use Rattle.hwdb_spec.specs.System.{database_folder}
-use Rattle.hwdb_fs.specs.Refusals.{HasReason, IsUnreadable}
-use Rattle.hwdb_tool.specs.Undone.{AreUncheckable, IsCheckRefused, IsUnreadableIf, IsUnwritable}
+use Rattle.hwdb_fs.specs.Refusals.{HasReason}
+use Rattle.hwdb_tool.specs.Undone.{AreUncheckable, IsCheckRefused, IsUnreadableIf}
 use Rattle.hwdb_tool.specs.TaskRefusals.{IsNotDone, IsTaskReason, Refuses}
 use Rattle.hwdb_tool.specs.Views.{texts_in}
 use Rattle.hwdb_tool.proofs.MomentLemmas.{leaves_more}

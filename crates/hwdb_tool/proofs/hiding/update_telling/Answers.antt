@@ -1,4 +1,4 @@
-use Rattle.std.proofs.Common.{◌≡◌, inl, inr, refl}
+use Rattle.std.proofs.Common.{inl, inr, refl}
 use Rattle.hwdb_spec.specs.Runs.{files_by, told_by}
 use Rattle.hwdb_spec.specs.Store as spec
 use Rattle.hwdb_spec.specs.System.{database_folder}

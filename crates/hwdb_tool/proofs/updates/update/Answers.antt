@@ -1,4 +1,4 @@
-use Rattle.std.proofs.Common.{◌≡◌, ◌∙◌, inl, inr, refl, subst, sym}
+use Rattle.std.proofs.Common.{inl, inr, refl, subst, sym}
 use Rattle.hwdb_fs.specs.LeftOut.{AreTold}
 use Rattle.hwdb_spec.specs.LeftOut.{without}
 use Rattle.hwdb_spec.specs.Runs.{HasTaken, WasCut, files_by, told_by}
