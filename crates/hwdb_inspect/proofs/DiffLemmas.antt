@@ -1,28 +1,15 @@
 -- Lines of changes, one after another.
-use Rattle.std.proofs.Common.{◌≡◌, ◌∙◌, ℕ, ap, sym, refl, List, [], ◌∷◌, ◌++◌, Bool, true, false, ◌||◌, Option}
+use Rattle.std.proofs.Common.{◌≡◌, ◌∙◌, ℕ, ap, sym, refl, List, [], ◌∷◌, ◌++◌, Bool, true, false, ◌||◌, append_assoc}
 use Rattle.std.proofs.lemmas.Grind.{flat_map-append}
-use Rattle.std.specs.Io.KnownBytes.{Appends}
 use Rattle.hwdb_spec.specs.Differences.{Change, change_text, changes_text, are_some}
-use Rattle.hwdb_spec.specs.Outputs.{AppendsPrefix}
-use Rattle.hwdb_inspect.specs.Internal.Printing.{Moves}
-use Rattle.hwdb_inspect.proofs.PieceLemmas.{behind_piece, whole_behind, part_after}
 
 texts_of : (all changes more : List Change) → all ≡ changes ++ more → changes_text all ≡ changes_text changes ++ changes_text more
 texts_of all changes more is = ap (λ cs. changes_text cs) is ∙ flat_map-append change_text changes more
 
 -- the text so far, the next changes and those after them
-pub joined : (text next : List ℕ) (all changes more : List Change) → all ≡ changes ++ more → next ≡ text ++ changes_text changes → text ++ changes_text all ≡ next ++ changes_text more
-joined text next all changes more is n = behind_piece text next (changes_text all) (changes_text changes) (changes_text more) (texts_of all changes more is) n
-
-pub whole_step : (a b c : Option (List ℕ)) (text next left : List ℕ) (all changes more : List Change) → all ≡ changes ++ more → next ≡ text ++ changes_text changes
-    → Moves a b next left → Appends b c (left ++ changes_text more) → Appends a c (text ++ changes_text all)
-whole_step a b c text next left all changes more is n m q =
-    whole_behind a b c text next left (changes_text all) (changes_text changes) (changes_text more) (texts_of all changes more is) n m q
-
-pub part_step : (a b c : Option (List ℕ)) (text next left : List ℕ) (all changes more : List Change) → all ≡ changes ++ more → next ≡ text ++ changes_text changes
-    → Moves a b next left → AppendsPrefix b c (left ++ changes_text more) → AppendsPrefix a c (text ++ changes_text all)
-part_step a b c text next left all changes more is n m q =
-    part_after a b c text next left (changes_text all) (changes_text changes) (changes_text more) (texts_of all changes more is) n m q
+pub joined : (text next : List ℕ) (all changes more : List Change) → all ≡ changes ++ more → next ≡ text ++ changes_text changes → next ++ changes_text more ≡ text ++ changes_text all
+joined text next all changes more is n =
+    ap (λ l. l ++ changes_text more) n ∙ append_assoc text (changes_text changes) (changes_text more) ∙ ap (λ l. text ++ l) (sym (texts_of all changes more is))
 
 some_append : (xs ys : List Change) → are_some (xs ++ ys) ≡ (are_some xs || are_some ys)
 some_append [] ys = refl

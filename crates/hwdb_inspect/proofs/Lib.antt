@@ -9,9 +9,7 @@ pub mod AscendingLemmas
 pub mod DifferentLemmas
 pub mod MemberLemmas
 pub mod OrderedLemmas
-pub mod PieceLemmas
 pub mod SaidLemmas
-pub mod RecordLemmas
 pub mod ReadLemmas
 pub mod PlacedLemmas
 pub mod ToldLemmas

@@ -298,3 +298,9 @@ module _ (m n : Map) (xs ys : List Assignment) (old : finite.entries m ≡ entri
 -- the changes from one tree to another
 pub merged_trees : (t u : Tree) → IsTree t → IsTree u → differences (map_of t) (map_of u) ≡ merged (members_under [] t) (members_under [] u)
 merged_trees t u h k = merged_differences (map_of t) (map_of u) (members_under [] t) (members_under [] u) (entries_of_tree t h) (entries_of_tree u k)
+
+-- the changes between the lists of two trees
+pub listed_differences : (t u : Tree) (olds news : List Assignment) → IsTree t → IsTree u → olds ≡ members_under [] t → news ≡ members_under [] u
+    → merged olds news ≡ differences (map_of t) (map_of u)
+listed_differences t u olds news h k old new =
+    ap (λ (g : List Assignment × List Assignment). merged g.0 g.1) (λ i. (old i, new i)) ∙ sym (merged_trees t u h k)

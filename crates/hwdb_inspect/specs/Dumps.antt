@@ -1,7 +1,7 @@
--- What `dump` writes and refuses. Our choice.
+-- What `dump` refuses. Our choice.
 use Rattle.std.specs.Prelude.{List, ℕ}
 use Rattle.hwdb_inspect.specs.declared.errors.DumpError.{DumpError}
-use Rattle.hwdb_inspect.specs.declared.errors.DumpError.TheVariants.{Database, Memory, Unsayable, Write}
+use Rattle.hwdb_inspect.specs.declared.errors.DumpError.TheVariants.{Database, Memory, Unsayable}
 use Rattle.hwdb_spec.specs.Assignment.{Assignment}
 use Rattle.hwdb_spec.specs.Databases.{IsFirstUnsaid, IsNoDatabase, IsUnsayable}
 
@@ -9,19 +9,10 @@ use Rattle.hwdb_spec.specs.Databases.{IsFirstUnsaid, IsNoDatabase, IsUnsayable}
 abbrev pub IsDumpRefusal : (bytes : List ℕ) → DumpError → Type 0
 IsDumpRefusal bytes (Database fault) = IsNoDatabase bytes fault
 IsDumpRefusal bytes (Unsayable pattern) = IsUnsayable bytes pattern.items
-IsDumpRefusal bytes Write = Unit {0}
 IsDumpRefusal bytes Memory = Unit {0}
 
 -- when each error of the check of some assignments comes
 abbrev pub IsUnsaidRefusal : List Assignment → DumpError → Type 0
 IsUnsaidRefusal all (Database fault) = ⊥
 IsUnsaidRefusal all (Unsayable pattern) = IsFirstUnsaid all pattern.items
-IsUnsaidRefusal all Write = ⊥
 IsUnsaidRefusal all Memory = Unit {0}
-
--- when each error of printing records comes
-abbrev pub IsRecordRefusal : DumpError → Type 0
-IsRecordRefusal (Database fault) = ⊥
-IsRecordRefusal (Unsayable pattern) = ⊥
-IsRecordRefusal Write = Unit {0}
-IsRecordRefusal Memory = Unit {0}

@@ -3,4 +3,3 @@ pub mod Walks
 pub mod Merging
 pub mod Pairing
 pub mod Counting
-pub mod Printing

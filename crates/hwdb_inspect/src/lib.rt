@@ -8,32 +8,30 @@
 //! |---|---|
 //! | `pairs` | two ascending lists of assignments, gone through side by side |
 //! | `lines` | the lines of changes |
-//! | `dump` | `dump`: a database as text |
+//! | `listing` | `dump`: a database as text |
 //! | `records` | the records of a dump, and what a record says |
-//! | `printing` | text that is written in pieces |
 //! | `difference` | `diff`: what changed from one database to another |
 //! | `summary` | how much is in a database |
 //! | `verification` | `verify`: whether bytes are a database, and how much is in it |
-//! | `errors` | why two databases weren't compared, or a database isn't dumped |
+//! | `errors` | why a database isn't summed up, dumped or compared |
 //! | `walk` | all assignments of a database, by pattern and key |
 //! | `laws` | laws of the map of a database, and of its dump |
 #![tactic(auto)]
 
 mod difference;
-mod dump;
 mod errors;
 mod laws;
 mod lines;
+mod listing;
 mod pairs;
-mod printing;
 mod records;
 mod summary;
 mod verification;
 mod walk;
 
-pub use difference::run_diff;
-pub use dump::run_dump;
-pub use errors::{DiffError, DumpError};
+pub use difference::{Changes, diff};
+pub use errors::{DiffError, DumpError, VerifyError};
 pub use laws::{dump_says, dump_tells, members_are_the_map};
-pub use verification::run_verify;
+pub use listing::dump;
+pub use verification::verify;
 pub use walk::assignments;

@@ -1,15 +1,15 @@
 -- Files, one after another.
-use Rattle.std.proofs.Common.{◌≡◌, ◌≢◌, ℕ, zero, suc, ◌+◌, ◌<◌, List, [], ◌∷◌, ◌++◌, map, take, length, get_or, Result, Ok, Err, IfErr, refl, ap, ◌∙◌, sym, subst, arith, append_assoc}
+use Rattle.std.proofs.Common.{◌≡◌, ℕ, zero, suc, ◌+◌, ◌<◌, List, [], ◌∷◌, ◌++◌, map, take, length, get_or, Result, Ok, Err, IfErr, refl, ap, ◌∙◌, sym, subst, arith, append_assoc}
 use Rattle.std.specs.Prelude.{Any}
 use Rattle.std.proofs.lemmas.List.{append-nil}
 use Rattle.std.specs.Result.{IsErrAnd}
 use Rattle.hwdb_spec.specs.Folders.{Source}
 use Rattle.hwdb_spec.specs.Checks.{empty_tally, file_text, tally_from, tally_of, tally_of_both}
 use Rattle.hwdb_spec.specs.declared.Tally.{Tally}
-use Rattle.hwdb_transfer.specs.declared.errors.ToolError.{ToolError}
-use Rattle.hwdb_transfer.specs.declared.errors.ToolError.TheVariants.{Memory, TooManyLines, Write}
+use Rattle.hwdb_text.specs.declared.outcome.ScanError.{ScanError}
+use Rattle.hwdb_text.specs.declared.outcome.ScanError.TheVariants.{Memory, TooManyLines}
 use Rattle.hwdb_lint.specs.declared.files.TextFile.{TextFile}
-use Rattle.hwdb_lint.specs.Checks.{source_of, files_text, IsCheckRefusal, IsChecksRefusal}
+use Rattle.hwdb_lint.specs.Checks.{source_of, files_text, IsFileRefusal, IsCheckRefusal}
 
 abbrev first_files : ℕ → List TextFile → List Source
 first_files i fs = map source_of (take i fs)
@@ -56,16 +56,12 @@ any_at P (x ∷ xs) zero d h p = (0, source_of x, omega arith, refl, p)
 any_at P (x ∷ xs) (suc i) d h p =
     let r = any_at P xs i d (omega arith) p in (suc r.0, r.1, omega (arith, r.2), r.3, r.4)
 
-refused_by : (fs : List TextFile) (i : ℕ) (d : TextFile) → i < length fs → (e : ToolError) → IsCheckRefusal (get_or fs i d).bytes.now e → IsChecksRefusal (map source_of fs) e
+refused_by : (fs : List TextFile) (i : ℕ) (d : TextFile) → i < length fs → (e : ScanError) → IsFileRefusal (get_or fs i d).bytes.now e → IsCheckRefusal (map source_of fs) e
 refused_by fs i d h TooManyLines p = any_at _ fs i d h p
-refused_by fs i d h Write p = tt
 refused_by fs i d h Memory p = tt
-refused_by fs i d h _ p = absurd p
 
 -- a file that gives an error is one of the files
-pub file_refused : {X : Type 0} (fs : List TextFile) (i : ℕ) (d : TextFile) (e : ToolError) (r : Result X ToolError) → i < length fs
-    → IsErrAnd r (λ x. x ≡ e) → (e ≢ Write) × IsCheckRefusal (get_or fs i d).bytes.now e → IfErr r (λ x. (x ≢ Write) × IsChecksRefusal (map source_of fs) x)
+pub file_refused : {X : Type 0} (fs : List TextFile) (i : ℕ) (d : TextFile) (e : ScanError) (r : Result X ScanError) → i < length fs
+    → IsErrAnd r (λ x. x ≡ e) → IsFileRefusal (get_or fs i d).bytes.now e → IfErr r (IsCheckRefusal (map source_of fs))
 file_refused fs i d e (Ok x) h same p = tt
-file_refused fs i d e (Err x) h same p =
-    let P : ToolError → Type 0 = λ y. (y ≢ Write) × IsChecksRefusal (map source_of fs) y in
-    subst P (sym same) (p.0, refused_by fs i d h e p.1)
+file_refused fs i d e (Err x) h same p = subst (IsCheckRefusal (map source_of fs)) (sym same) (refused_by fs i d h e p)

@@ -3,8 +3,8 @@ use Rattle.std.specs.Prelude.{ℕ, List, ◌<◌, Any, flat_map, length}
 use Rattle.hwdb_spec.specs.Lines.{lines}
 use Rattle.hwdb_spec.specs.Folders.{Source, max_lines}
 use Rattle.hwdb_spec.specs.Checks.{file_text}
-use Rattle.hwdb_transfer.specs.declared.errors.ToolError.{ToolError}
-use Rattle.hwdb_transfer.specs.declared.errors.ToolError.TheVariants.{Memory, TooManyLines, Write}
+use Rattle.hwdb_text.specs.declared.outcome.ScanError.{ScanError}
+use Rattle.hwdb_text.specs.declared.outcome.ScanError.TheVariants.{Memory, TooManyLines}
 use Rattle.hwdb_lint.specs.declared.files.TextFile.{TextFile}
 
 -- a file with the path that is printed of it
@@ -16,19 +16,15 @@ abbrev pub files_text : List Source → List ℕ
 files_text files = flat_map (λ s. file_text s.name s.bytes) files
 
 -- when each error of checking a file comes
-abbrev pub IsCheckRefusal : (bytes : List ℕ) → ToolError → Type 0
-IsCheckRefusal bytes TooManyLines = max_lines < length (lines bytes)
-IsCheckRefusal bytes Write = Unit {0}
-IsCheckRefusal bytes Memory = Unit {0}
-IsCheckRefusal bytes _ = ⊥
+abbrev pub IsFileRefusal : (bytes : List ℕ) → ScanError → Type 0
+IsFileRefusal bytes TooManyLines = max_lines < length (lines bytes)
+IsFileRefusal bytes Memory = Unit {0}
 
 -- one of the files has more lines than can be numbered
 abbrev pub HasLongFile : List Source → Type 0
 HasLongFile files = Any (λ (s : Source). max_lines < length (lines s.bytes)) files
 
 -- when each error of checking some files comes
-abbrev pub IsChecksRefusal : List Source → ToolError → Type 0
-IsChecksRefusal files TooManyLines = HasLongFile files
-IsChecksRefusal files Write = Unit {0}
-IsChecksRefusal files Memory = Unit {0}
-IsChecksRefusal files _ = ⊥
+abbrev pub IsCheckRefusal : List Source → ScanError → Type 0
+IsCheckRefusal files TooManyLines = HasLongFile files
+IsCheckRefusal files Memory = Unit {0}

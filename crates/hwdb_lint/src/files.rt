@@ -1,21 +1,16 @@
 //! Text files that are checked, one after another.
-ghost use Rattle.std.specs.Prelude.{◌≡◌, ◌≢◌, ◌≤◌, flat_map, map, IfOk, IfErr, IsErrOf};
-ghost use Rattle.std.specs.Io.KnownBytes.{Appends};
-ghost use Rattle.hwdb_spec.specs.Failures.{HasFailed, OneFailed};
+ghost use Rattle.std.specs.Prelude.{◌≡◌, ◌≤◌, flat_map, map, IfOk, IfErr};
 ghost use Rattle.hwdb_spec.specs.Lines.{lines};
-ghost use Rattle.hwdb_spec.specs.Reports.{text_of_line, report, reports_text};
+ghost use Rattle.hwdb_spec.specs.Reports.{text_of_line, report};
 ghost use Rattle.hwdb_spec.specs.Checks.{tally_of, empty_tally, tally_from, check_text, check_status, file_text};
-ghost use Rattle.hwdb_spec.specs.Outputs.{AppendsPrefix};
-ghost use Rattle.hwdb_lint.specs.Checks.{source_of, files_text, IsCheckRefusal, IsChecksRefusal};
+ghost use Rattle.hwdb_lint.specs.Checks.{source_of, files_text, IsFileRefusal, IsCheckRefusal};
 
 use crate::line_texts::{find_line, first_start};
 use crate::reports::push_report;
 use crate::tallies::{empty_tally, status_of, tally_line, together};
 use crate::warnings::warnings_of;
-use hwdb_devices::Sink;
 use hwdb_spec::{Fault, Tally};
-use hwdb_text::scan;
-use hwdb_transfer::{ToolError, write_text};
+use hwdb_text::{ScanError, scan};
 use std::alloc::{AllocError, Global};
 
 /// A text file that is checked.
@@ -27,10 +22,19 @@ pub struct TextFile<'a> {
     pub bytes: &'a [u8],
 }
 
-/// What is said of a file.
+/// What `check` says of some text files.
 #[derive(Drop)]
-struct Checked {
-    /// The reports of its faults.
+pub struct Checked {
+    /// What is printed.
+    pub text: Vec<u8>,
+    /// The exit status.
+    pub status: u8,
+}
+
+/// What is said of a file, or of some.
+#[derive(Drop)]
+struct Findings {
+    /// The reports of faults and warnings.
     reports: Vec<u8>,
     /// How much was found.
     tally: Tally,
@@ -59,11 +63,10 @@ fn reports_of(
 }
 
 /// What is said of a file.
-fn look_over(alloc: Global, path: &[u8], bytes: &[u8]) -> Result<Checked, ToolError>
+fn look_over(alloc: Global, path: &[u8], bytes: &[u8]) -> Result<Findings, ScanError>
     ensures reports { IfOk result (λ c. c.reports.items ≡ file_text path.now bytes.now) }
     ensures found { IfOk result (λ c. c.tally ≡ tally_of bytes.now) }
-    ensures refusals { IfErr result
-        (λ e. (e ≢ ToolError.Write) × IsCheckRefusal bytes.now e) }
+    ensures errors { IfErr result (IsFileRefusal bytes.now) }
 {
     let scanned = scan(alloc, bytes)?;
     let warned = warnings_of(alloc, path, bytes, &scanned.assignments)?;
@@ -75,16 +78,15 @@ fn look_over(alloc: Global, path: &[u8], bytes: &[u8]) -> Result<Checked, ToolEr
         faults: scanned.faults.len() as u64,
         warnings: warned.found.len() as u64,
     };
-    Ok(Checked { reports, tally })
+    Ok(Findings { reports, tally })
 }
 
 /// What is said of each file, one after another.
-fn look_over_all(alloc: Global, files: &[TextFile<'_>]) -> Result<Checked, ToolError>
+fn look_over_all(alloc: Global, files: &[TextFile<'_>]) -> Result<Findings, ScanError>
     ensures reports { IfOk result (λ c. c.reports.items ≡ files_text (map source_of files.now)) }
     ensures found { IfOk result
         (λ c. c.tally ≡ tally_from empty_tally (map source_of files.now)) }
-    ensures refusals { IfErr result
-        (λ e. (e ≢ ToolError.Write) × IsChecksRefusal (map source_of files.now) e) }
+    ensures errors { IfErr result (IsCheckRefusal (map source_of files.now)) }
 {
     let mut reports = Vec::new(alloc);
     let mut tally = empty_tally();
@@ -93,58 +95,32 @@ fn look_over_all(alloc: Global, files: &[TextFile<'_>]) -> Result<Checked, ToolE
         reports.extend_from_slice(&found.reports)?;
         tally = together(tally, found.tally);
     }
-    Ok(Checked { reports, tally })
+    Ok(Findings { reports, tally })
 }
 
-/// What is said of each file, and after that how much was found in all.
-fn sum_up(alloc: Global, files: &[TextFile<'_>]) -> Result<Checked, ToolError>
-    ensures reports { IfOk result (λ c. c.reports.items ≡ check_text (map source_of files.now)) }
-    ensures found { IfOk result
-        (λ c. c.tally ≡ tally_from empty_tally (map source_of files.now)) }
-    ensures refusals { IfErr result
-        (λ e. (e ≢ ToolError.Write) × IsChecksRefusal (map source_of files.now) e) }
-{
-    let all = look_over_all(alloc, files)?;
-    let mut reports = all.reports;
-    let line = tally_line(alloc, all.tally)?;
-    reports.extend_from_slice(&line)?;
-    Ok(Checked {
-        reports,
-        tally: all.tally,
-    })
-}
-
-/// Prints the reports of each file to `out`, one file after another, and a last line with how much was found in all.
-/// Nothing is written before the whole text is known.
+/// The reports of each file, one file after another, and a last line with how much was found in all. The status is 1 if
+/// there is a fault, or `strict` and a warning, else 0.
 ///
-/// Answers the status: 1 if there is a fault, or `strict` and a warning, else 0. The errors are a file with more than
-/// 4,294,967,295 lines, a failed allocation, and a failed write to `out`.
+/// It is an error if a file has more than 4,294,967,295 lines, or if an allocation fails.
 ///
 /// The memory is the whole text, and for one file at a time a record for each assignment and each match line.
-pub fn check_files<O: Sink>(
+pub fn check_files(
     alloc: Global,
     files: &[TextFile<'_>],
     strict: bool,
-    out: &mut O,
-) -> Result<u8, ToolError>
-    ensures printed { IfOk result (λ _. Appends (O.taken out.old) (O.taken out.new)
-        (check_text (map source_of files.now))) }
-    ensures status { IfOk result (λ status. status
+) -> Result<Checked, ScanError>
+    ensures text { IfOk result
+        (λ checked. checked.text.items ≡ check_text (map source_of files.now)) }
+    ensures status { IfOk result (λ checked. checked.status
         ≡ check_status strict (tally_from empty_tally (map source_of files.now))) }
-    ensures small { IfOk result (λ status. status ≤ 1) }
-
-    ensures refusals { IfErr result (IsChecksRefusal (map source_of files.now)) }
-    ensures cause { IsErrOf result ToolError.Write
-        → HasFailed (O.failures out.old) (O.failures out.new) }
-    ensures unfailed { IfOk result (λ _. O.failures out.new ≡ O.failures out.old) }
-    ensures last { IsErrOf result ToolError.Write
-        → OneFailed (O.failures out.old) (O.failures out.new) }
-    ensures cut_short { IsErrOf result ToolError.Write
-        → AppendsPrefix (O.taken out.old) (O.taken out.new)
-        (check_text (map source_of files.now)) }
-    ensures untouched { IfErr result (λ e. e ≢ ToolError.Write → out.new ≡ out.old) }
+    ensures small { IfOk result (λ checked. checked.status ≤ 1) }
+    ensures errors { IfErr result (IsCheckRefusal (map source_of files.now)) }
 {
-    let all = sum_up(alloc, files)?;
-    write_text(out, &all.reports)?;
-    Ok(status_of(strict, all.tally))
+    let all = look_over_all(alloc, files)?;
+    let mut text = all.reports;
+    text.extend_from_slice(&tally_line(alloc, all.tally)?)?;
+    Ok(Checked {
+        text,
+        status: status_of(strict, all.tally),
+    })
 }

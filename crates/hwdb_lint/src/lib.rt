@@ -32,6 +32,6 @@ mod shown;
 mod tallies;
 mod warnings;
 
-pub use files::{TextFile, check_files};
+pub use files::{Checked, TextFile, check_files};
 pub use shown::push_shown;
 pub use tallies::push_count;

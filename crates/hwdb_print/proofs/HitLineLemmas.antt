@@ -1,17 +1,22 @@
 -- Lines of hits, one after another.
-use Rattle.std.proofs.Common.{◌≡◌, ◌≢◌, ◌∙◌, ℕ, zero, suc, ◌+◌, ◌-◌, refl, ap, sym, subst, List, [], ◌∷◌, ◌++◌, Option, None, Some, length, take, arith, length-append, true, not, nat_eq, true≢false}
+use Rattle.std.proofs.Common.{◌≡◌, ◌≢◌, ◌∙◌, ℕ, zero, suc, ◌+◌, ◌-◌, refl, ap, sym, subst, List, [], ◌∷◌, ◌++◌, Option, None, Some, length, take, arith, length-append, Bool, false, true, not, nat_eq, true≢false}
 use Rattle.std.specs.Option.{option_eq}
 use Rattle.std.specs.Prelude.{flat_map}
 use Rattle.std.proofs.Math.Seq.{take-append-add}
 use Rattle.std.proofs.lemmas.List.{take-append-le}
 use Rattle.std.proofs.KnownBytes.{Appends-trans, Appends-nil}
 use Rattle.std.specs.Io.KnownBytes.{Appends}
-use Rattle.hwdb_spec.specs.Assignment.{Assignment}
 use Rattle.hwdb_query.specs.Views.{Gives, assignment_of_hit}
 use Rattle.hwdb_query.specs.declared.hit.Hit.{Hit}
 use Rattle.hwdb_spec.specs.Outputs.{AppendsPrefix}
-use Rattle.hwdb_print.specs.Lookups.{AppendsLines, one_less}
+use Rattle.hwdb_print.specs.Internal.{AppendsLines}
+use Rattle.hwdb_print.specs.Lookups.{TookLines, last_list, line_of, one_less}
+use Rattle.hwdb_spec.specs.Answers.{last_assignments}
+use Rattle.hwdb_spec.specs.Asked.{list_form}
+use Rattle.hwdb_spec.specs.Assignment.{Assignment, Position}
+use Rattle.hwdb_spec.specs.Folders.{Source, all_assignments}
 use Rattle.hwdb_spec.specs.Texts.{within_limit}
+use Rattle.hwdb_spec.specs.Tree.{Tree, answers_after}
 
 -- what a limit leaves of a list that isn't empty
 pub next_within : (limit : Option ℕ) (f : Assignment) (more : List Assignment) → limit ≢ Some 0
@@ -89,3 +94,19 @@ lines_step text a b end limit all more f line e some is p q =
 -- a limit that isn't reached
 pub not_reached : (limit : Option ℕ) → true ≡ not (option_eq nat_eq limit (Some 0)) → limit ≢ Some 0
 not_reached limit h e = let P : Option ℕ → Type 0 = λ o. true ≡ not (option_eq nat_eq o (Some 0)) in absurd (true≢false (subst P e h))
+
+-- the lines are the text, in both forms
+pub list_is : (json : Bool) (device : List ℕ) (from : Option Position) (limit : Option ℕ) (t : Tree)
+    → flat_map (line_of json) (within_limit limit (answers_after device from t)) ≡ list_form json device from limit t
+list_is false device from limit t = refl
+list_is true device from limit t = refl
+
+pub last_list_is : (json : Bool) (device : List ℕ) (from : Option Position) (limit : Option ℕ) (etc usr : List Source)
+    → flat_map (line_of json) (within_limit limit (last_assignments device from (all_assignments etc usr))) ≡ last_list json device from limit etc usr
+last_list_is false device from limit etc usr = refl
+last_list_is true device from limit etc usr = refl
+
+-- the first lines were taken, and no call failed
+pub took_lines : (text : Assignment → List ℕ) (hits : List Assignment) (before now : Option (List ℕ)) (failures_before failures_now : ℕ) → AppendsLines text before now hits → failures_now ≡ failures_before
+    → TookLines text hits before now failures_before failures_now
+took_lines text hits before now failures_before failures_now p same = (p.0, record { whole = p.1; unfailed = same })

@@ -1,6 +1,5 @@
 -- Lines that are put together from parts.
-use Rattle.std.proofs.Common.{Result, Err, inl, inr, ◌≡◌, ℕ, zero, suc, ◌-◌, ◌+◌, ◌<◌, ◌≤◌, Bool, true, false, cond, not, List, [], ◌∷◌, ◌++◌, take, drop, length, length-append, refl, ap, ◌∙◌, sym, subst, arith, ◌||◌, true≢false, eqb-true, Option, None, Some, IfSome, append_assoc, append-nil, get_or}
-use Rattle.std.proofs.lemmas.Bool.{cases_Bool}
+use Rattle.std.proofs.Common.{Result, Err, ◌≡◌, ℕ, zero, suc, ◌-◌, ◌+◌, ◌<◌, ◌≤◌, Bool, true, false, cond, not, List, [], ◌∷◌, ◌++◌, take, drop, length, length-append, refl, ap, ◌∙◌, sym, subst, arith, ◌||◌, true≢false, eqb-true, Option, None, Some, IfSome, append_assoc, append-nil}
 use Rattle.std.proofs.lemmas.List.{drop-drop, drop-take, take_all}
 use Rattle.std.specs.Io.KnownBytes.{Consumes, IsAtEnd, Keeps, prepend_known}
 use Rattle.std.specs.List.{onto_first, position_or_len}
@@ -94,26 +93,6 @@ cut [] h = absurd (omega arith)
 cut (x ∷ xs) h = cut_by (is 10 x) x (position_or_len (is 10) xs) xs refl (cut xs) h
 
 -- ---- where a byte first stands
-
-pub place_is : (text : List ℕ) (k : ℕ) (own : ℕ) → k < length text
-    → ((j : ℕ) → j < k → is own (get_or text j 0) ≡ true → ⊥) → is own (get_or text k 0) ≡ true → position_or_len (is own) text ≡ k
-place_is [] k own h n p = absurd (omega arith)
-place_is (x ∷ xs) zero own h n p = rw p refl
-place_is (x ∷ xs) (suc k) own h n p =
-    elim (cases_Bool (is own x)) [
-      | inl t ↦ absurd (n 0 (omega arith) t)
-      | inr f ↦
-          rw f (ap (λ (r : ℕ). 1 + r) (place_is xs k own (omega arith) (λ j l e. n (suc j) (omega arith) e) p) ∙ omega arith)
-    ]
-
-pub no_place : (text : List ℕ) (own : ℕ) → ((j : ℕ) → j < length text → is own (get_or text j 0) ≡ true → ⊥) → position_or_len (is own) text ≡ length text
-no_place [] own n = refl
-no_place (x ∷ xs) own n =
-    elim (cases_Bool (is own x)) [
-      | inl t ↦ absurd (n 0 (omega arith) t)
-      | inr f ↦
-          rw f (ap (λ (r : ℕ). 1 + r) (no_place xs own (λ j l e. n (suc j) (omega arith) e)) ∙ omega arith)
-    ]
 
 -- ---- a line that was read so far
 

@@ -24,13 +24,13 @@ use Rattle.hwdb_spec.specs.Tree.{Map}
 use Rattle.hwdb_spec.specs.Written.{IsDatabaseOf}
 
 module _ {X : Type 0} where
-  pub position_refused : (text : Bor (List ℕ)) (q : PositionError) (r : Result X ToolError) → IsErrAnd r (λ e. e ≡ refusal_of_position q)
-      → (q ≡ positions.BadPosition → (p : Position) → IsSpelling p text.now → ⊥) → IfErr r (IsPositionRefusal (Some text))
+  pub position_refused : (text : List ℕ) (q : PositionError) (r : Result X ToolError) → IsErrAnd r (λ e. e ≡ refusal_of_position q)
+      → (q ≡ positions.BadPosition → (p : Position) → IsSpelling p text → ⊥) → IfErr r (IsPositionRefusal (Some text))
   position_refused text q (Ok x) h bad = tt
   position_refused text positions.BadPosition (Err e) h bad = let P : ToolError → Type 0 = λ x. IsPositionRefusal (Some text) x in subst P (sym h) (bad refl)
   position_refused text positions.Memory (Err e) h bad = let P : ToolError → Type 0 = λ x. IsPositionRefusal (Some text) x in subst P (sym h) tt
 
-  pub list_without_memory : (after : Option (Bor (List ℕ))) (bytes : List ℕ) (r : Result X ToolError) → IsErrAnd r (λ e. e ≡ Memory) → IfErr r (IsListRefusal after bytes)
+  pub list_without_memory : (after : Option (List ℕ)) (bytes : List ℕ) (r : Result X ToolError) → IsErrAnd r (λ e. e ≡ Memory) → IfErr r (IsListRefusal after bytes)
   list_without_memory after bytes (Ok x) h = tt
   list_without_memory None bytes (Err e) h = let P : ToolError → Type 0 = λ x. IsListRefusal None bytes x in subst P (sym h) tt
   list_without_memory (Some text) bytes (Err e) h = let P : ToolError → Type 0 = λ x. IsListRefusal (Some text) bytes x in subst P (sym h) tt

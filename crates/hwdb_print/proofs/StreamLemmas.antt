@@ -1,5 +1,5 @@
 -- Answers that are written, one after another.
-use Rattle.std.proofs.Common.{◌≡◌, ◌∙◌, ℕ, ◌+◌, ◌<◌, ◌≤◌, Bool, true, false, refl, ap, sym, subst, arith, List, [], ◌∷◌, ◌++◌, map, length, Option, None, Some, IfSome, IfNone}
+use Rattle.std.proofs.Common.{◌≡◌, ◌∙◌, ℕ, ◌+◌, ◌<◌, ◌≤◌, Bool, true, false, refl, ap, sym, subst, arith, List, [], ◌∷◌, ◌++◌, append_assoc, append-nil, map, length, Option, None, Some, IfSome, IfNone}
 use Rattle.std.specs.Prelude.{Any, flat_map}
 use Rattle.std.specs.List.{position_or_len}
 use Rattle.std.specs.Io.KnownBytes.{Appends, IsAtEnd, prepend_known}
@@ -49,6 +49,38 @@ no_text (Explain true) true t = refl
 no_text (Explain true) false t = refl
 no_text (Explain false) true t = refl
 no_text (Explain false) false t = refl
+
+-- texts of devices were put together, and one more
+pub texts_step : (form : Form) (is_first : Bool) (t : Tree) (done text device whole : List ℕ) (all more : List (List ℕ)) → all ≡ device ∷ more → text ≡ answer_text form is_first device t
+    → done ++ texts_from form is_first all t ≡ whole → (done ++ text) ++ texts_from form false more t ≡ whole
+texts_step form is_first t done text device whole all more cut is so_far =
+    append_assoc done text (texts_from form false more t)
+    ∙ ap (λ (l : List ℕ). done ++ l)
+    (ap (λ (l : List ℕ). l ++ texts_from form false more t) is ∙ sym (next_text form is_first t device more) ∙ ap (λ (ds : List (List ℕ)). texts_from form is_first ds t) (sym cut))
+    ∙ so_far
+
+-- and none is left
+pub texts_end : (form : Form) (is_first : Bool) (t : Tree) (done whole : List ℕ) (all : List (List ℕ)) → all ≡ [] → done ++ texts_from form is_first all t ≡ whole → done ≡ whole
+texts_end form is_first t done whole all none so_far =
+    sym (append-nil done) ∙ ap (λ (l : List ℕ). done ++ l) (sym (ap (λ (ds : List (List ℕ)). texts_from form is_first ds t) none ∙ no_text form is_first t)) ∙ so_far
+
+pub no_device : {X : Type 0} (f : X → List ℕ) (devices : List X) → length devices ≡ 0 → map f devices ≡ []
+no_device f [] none = refl
+no_device f (d ∷ devices) none = absurd (omega (arith, none))
+
+-- what `query` prints of one device
+pub one_queried : (device : List ℕ) (t : Tree) → texts_of (Query false) (device ∷ []) t ≡ query_text device t
+unfolding with_empty_lines
+one_queried device t = append-nil (query_text device t)
+
+pub one_value : (device : List ℕ) (etc usr : List Source) → last_texts_of (Query false) (device ∷ []) etc usr ≡ last_values_text device etc usr
+unfolding with_empty_lines
+one_value device etc usr = append-nil (last_values_text device etc usr)
+
+-- one device alone
+pub one_text : (form : Form) (t : Tree) (device : List ℕ) → answer_text form true device t ≡ texts_of form (device ∷ []) t
+one_text form t device =
+    sym (next_text form true t device [] ∙ ap (λ (l : List ℕ). answer_text form true device t ++ l) (no_text form false t) ∙ append-nil (answer_text form true device t))
 
 module _ (form : Form) (is_first : Bool) (t : Tree) where
   step : (text line xs ys : List ℕ) → devices_of xs ≡ line ∷ devices_of ys → text ≡ answer_text form is_first line t

@@ -1,7 +1,8 @@
 -- What the proofs of this crate speak of.
-use Rattle.std.specs.Prelude.{ℕ, List, [], Bool, true, false, ◌≡◌, ◌<◌, ◌∷◌, ◌++◌, Option, flat_map, length}
-use Rattle.std.specs.Io.KnownBytes.{IsAtEnd, Keeps, prepend_known}
+use Rattle.std.specs.Prelude.{ℕ, List, [], Bool, true, false, ◌≡◌, ◌<◌, ◌∷◌, ◌++◌, Option, flat_map, length, take}
+use Rattle.std.specs.Io.KnownBytes.{Appends, IsAtEnd, Keeps, prepend_known}
 use Rattle.hwdb_spec.specs.Answers.{effective_of}
+use Rattle.hwdb_spec.specs.Assignment.{Assignment}
 use Rattle.hwdb_spec.specs.Explanations.{explain_text}
 use Rattle.hwdb_spec.specs.Json.{device_json, explain_json, json_line}
 use Rattle.hwdb_spec.specs.Lines.{byte, has}
@@ -10,6 +11,10 @@ use Rattle.hwdb_spec.specs.Tree.{Tree, answers}
 use Rattle.hwdb_print.specs.declared.form.Form.{Form}
 use Rattle.hwdb_print.specs.declared.form.Form.TheVariants.{Explain, Query}
 use Rattle.hwdb_print.specs.Streams.{texts_of}
+
+-- a sink took the lines of the first of some hits, whole
+abbrev pub AppendsLines : (Assignment → List ℕ) → Option (List ℕ) → Option (List ℕ) → List Assignment → Type 0
+AppendsLines line before now hits = (n : ℕ) × Appends before now (flat_map line (take n hits))
 
 -- a text, and in front of it an empty line where it isn't the first
 abbrev pub text_behind : (is_first : Bool) → List ℕ → List ℕ

@@ -1,8 +1,7 @@
 //! What a reader of lines holds.
 ghost use Rattle.std.specs.Prelude.{◌≤◌};
 
-/// How many bytes are asked for at once.
-pub(crate) const CHUNK: usize = 65536;
+use hwdb_transfer::CHUNK;
 
 /// Bytes of a source that were read, of which some were handed on as lines.
 #[derive(Drop)]

@@ -1,77 +1,110 @@
-//! The texts of several devices, one after another.
-ghost use Rattle.std.specs.Prelude.{◌≡◌, ◌++◌, ◌∷◌, [], OnOk, IfOk, IfErr, IfSome, IfNone, IsErrOf, map, string_bytes};
-ghost use Rattle.std.specs.Io.KnownBytes.{Appends};
-ghost use Rattle.hwdb_spec.specs.Failures.{HasFailed, OneFailed};
-ghost use Rattle.hwdb_spec.specs.Texts.{query_text, queries_text};
-ghost use Rattle.hwdb_spec.specs.Outputs.{AppendsPrefix};
-ghost use Rattle.hwdb_print.specs.Lookups.{IsPrintRefusal, empty_line_unless};
+//! What is printed of devices: of one, and of several, one after another.
+ghost use Rattle.std.specs.Prelude.{◌≡◌, IfOk, map, string_bytes};
+ghost use Rattle.hwdb_spec.specs.Answers.{effective_of};
+ghost use Rattle.hwdb_spec.specs.Explanations.{explain_text};
+ghost use Rattle.hwdb_spec.specs.Json.{device_json, explain_json, json_line};
+ghost use Rattle.hwdb_spec.specs.Texts.{query_text};
+ghost use Rattle.hwdb_spec.specs.Tree.{answers};
+ghost use Rattle.hwdb_print.specs.Internal.{answer_text, text_behind};
+ghost use Rattle.hwdb_print.specs.Streams.{texts_of};
 
+use crate::explanation::explanation_lines;
+use crate::form::Form;
+use crate::json_explanations::explanation_lines_json;
+use crate::json_lines::device_line;
 use crate::texts::property_lines;
-use hwdb_devices::Sink;
-use hwdb_query::effective;
+use hwdb_query::{effective, explain};
 use hwdb_reader::Db;
-use hwdb_transfer::{ToolError, write_text};
 use std::alloc::{AllocError, Global};
 
-/// The text of a device's properties, and behind it an empty line where the device isn't the last.
-///
-/// The only error is that memory is refused.
-fn device_text(
-    alloc: Global,
-    db: &Db<'_>,
-    device: &[u8],
-    is_last: bool,
-) -> Result<Vec<u8>, AllocError>
-    ensures { IfOk result
-        (λ text. text.items ≡ query_text device.now db.now ++ empty_line_unless is_last) }
+/// A text, and in front of it an empty line if it isn't the first.
+fn behind(alloc: Global, lines: Vec<u8>, is_first: bool) -> Result<Vec<u8>, AllocError>
+    ensures { IfOk result (λ text. text.items ≡ text_behind is_first lines.items) }
 {
-    let properties = effective(alloc, db, device)?;
-    let mut text = property_lines(alloc, &properties)?;
-    if !is_last {
-        text.push(b'\n')?;
+    if is_first {
+        return Ok(lines);
     }
+    let mut text = Vec::new(alloc);
+    text.push(b'\n')?;
+    text.extend_from_slice(&lines)?;
     Ok(text)
 }
 
-/// The first device, and those behind it; none where there is none.
-pub fn split_first(devices: &[String]) -> Option<(&String, &[String])>
-    ensures some { IfSome result (λ parts. devices.now ≡ parts.0.now ∷ parts.1.now) }
-    ensures none { IfNone result (devices.now ≡ []) }
+/// The properties of a device.
+fn properties_of(alloc: Global, db: &Db<'_>, device: &[u8]) -> Result<Vec<u8>, AllocError>
+    ensures { IfOk result (λ text. text.items ≡ query_text device.now db.now) }
 {
-    if devices.is_empty() {
-        return None;
-    }
-    Some((&devices[0], &devices[1..]))
+    let properties = effective(alloc, db, device)?;
+    property_lines(alloc, &properties)
 }
 
-/// Prints the text of each device, an empty line between two of them. A text is written as soon as it is known, and one
-/// is held at a time.
+/// The line of a device and its properties.
+fn properties_json(alloc: Global, db: &Db<'_>, device: &[u8]) -> Result<Vec<u8>, AllocError>
+    ensures { IfOk result (λ line. line.items
+        ≡ json_line (device_json device.now (effective_of (answers device.now db.now)))) }
+{
+    let properties = effective(alloc, db, device)?;
+    device_line(alloc, device, &properties)
+}
+
+/// The properties of a device, and where each comes from.
+fn explanation_of(alloc: Global, db: &Db<'_>, device: &[u8]) -> Result<Vec<u8>, AllocError>
+    ensures { IfOk result (λ text. text.items ≡ explain_text device.now db.now) }
+{
+    let explanations = explain(alloc, db, device)?;
+    explanation_lines(alloc, &explanations)
+}
+
+/// The same as JSON.
+fn explanation_json(alloc: Global, db: &Db<'_>, device: &[u8]) -> Result<Vec<u8>, AllocError>
+    ensures { IfOk result (λ text. text.items ≡ explain_json device.now db.now) }
+{
+    let explanations = explain(alloc, db, device)?;
+    explanation_lines_json(alloc, device, &explanations)
+}
+
+/// What is printed of a device, after those before it.
 ///
-/// Refuses a failed write, and memory; the sink took a prefix of the whole then.
-pub fn print_texts<O: Sink>(
+/// The only error is that memory is refused.
+pub fn text_of_device(
+    alloc: Global,
+    db: &Db<'_>,
+    device: &[u8],
+    form: Form,
+    is_first: bool,
+) -> Result<Vec<u8>, AllocError>
+    ensures { IfOk result (λ text. text.items ≡ answer_text form is_first device.now db.now) }
+{
+    match form {
+        Form::Query { json: false } => behind(alloc, properties_of(alloc, db, device)?, is_first),
+        Form::Query { json: true } => properties_json(alloc, db, device),
+        Form::Explain { json: false } => {
+            behind(alloc, explanation_of(alloc, db, device)?, is_first)
+        }
+        Form::Explain { json: true } => explanation_json(alloc, db, device),
+    }
+}
+
+/// What is printed of devices, one after another.
+///
+/// The only error is that memory is refused.
+pub fn texts_of_devices(
     alloc: Global,
     db: &Db<'_>,
     devices: &[String],
-    out: &mut O,
-) -> Result<(), ToolError>
-    ensures printed { OnOk result
-        (Appends (O.taken out.old) (O.taken out.new)
-        (queries_text (map string_bytes devices.now) db.now)) }
-    ensures refusals { IfErr result IsPrintRefusal }
-    ensures cause { IsErrOf result ToolError.Write
-        → HasFailed (O.failures out.old) (O.failures out.new) }
-    ensures unfailed { OnOk result (O.failures out.new ≡ O.failures out.old) }
-    ensures last { IsErrOf result ToolError.Write
-        → OneFailed (O.failures out.old) (O.failures out.new) }
-    ensures refused { IsErrOf result ToolError.Memory → O.failures out.new ≡ O.failures out.old }
-    ensures cut_short { IfErr result (λ _. AppendsPrefix (O.taken out.old) (O.taken out.new)
-        (queries_text (map string_bytes devices.now) db.now)) }
+    form: Form,
+) -> Result<Vec<u8>, AllocError>
+    ensures { IfOk result
+        (λ text. text.items ≡ texts_of form (map string_bytes devices.now) db.now) }
 {
+    let mut all = Vec::new(alloc);
     let mut left = devices;
-    'printing: while let Some((device, behind)) = split_first(left) {
-        left = behind;
-        let text = device_text(alloc, db, device.as_bytes(), left.is_empty())?;
-        write_text(out, &text)?;
+    let mut is_first = true;
+    'answering: while let Some((device, more)) = left.split_first() {
+        let text = text_of_device(alloc, db, device.as_bytes(), form, is_first)?;
+        all.extend_from_slice(&text)?;
+        left = more;
+        is_first = false;
     }
-    Ok(())
+    Ok(all)
 }

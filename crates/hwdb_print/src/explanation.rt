@@ -1,20 +1,10 @@
-//! `explain`: what a database gives a device, and where each value comes from.
-ghost use Rattle.std.specs.Prelude.{◌≡◌, ◌≢◌, ◌++◌, List, map, flat_map, IfOk, IfErr, OnOk, IsErrOf};
-ghost use Rattle.std.specs.Io.KnownBytes.{Appends};
-ghost use Rattle.hwdb_spec.specs.Folders.{Source};
-ghost use Rattle.hwdb_spec.specs.Failures.{HasFailed, OneFailed};
-ghost use Rattle.hwdb_spec.specs.Written.{IsCompiled};
-ghost use Rattle.hwdb_spec.specs.Explanations.{origin_line, overridden_text, explanation_text, explanations_text, explain_text, explained_text};
+//! The lines of `explain`: a device's properties, and where each value comes from.
+ghost use Rattle.std.specs.Prelude.{◌≡◌, ◌++◌, map, flat_map, IfOk, OnOk};
+ghost use Rattle.hwdb_spec.specs.Explanations.{origin_line, overridden_text, explanation_text, explanations_text};
 ghost use Rattle.hwdb_query.specs.Views.{assignment_of_answer, explained_values};
-ghost use Rattle.hwdb_spec.specs.Outputs.{Wrote, WrotePrefix};
-ghost use Rattle.hwdb_spec.specs.Databases.{IsTextOf};
-ghost use Rattle.hwdb_transfer.specs.Databases.{IsDatabaseRefusal, IsQueryRefusal};
 
 use crate::texts::{push_place, push_property};
-use hwdb_devices::Sink;
-use hwdb_query::{Answer, Explained, compiled_answers_are_last, explain};
-use hwdb_reader::check;
-use hwdb_transfer::{ToolError, write_text};
+use hwdb_query::{Answer, Explained};
 use std::alloc::{AllocError, Global};
 
 /// Adds where an answer comes from: four spaces, its path, `:`, its line, two spaces, its pattern.
@@ -78,48 +68,4 @@ pub fn explanation_lines(
         push_explanation(&mut text, explained)?;
     }
     Ok(text)
-}
-
-/// The text that explains what the database gives the device.
-fn explanation_of(alloc: Global, bytes: &[u8], device: &[u8]) -> Result<Vec<u8>, ToolError>
-    ensures text { IfOk result (λ text. IsTextOf (explain_text device.now) bytes.now text.items) }
-    ensures headline { IfOk result
-        (λ text. (etc usr : List Source) → IsCompiled etc usr bytes.now
-        → text.items ≡ explained_text device.now etc usr) }
-    ensures refusals { IfErr result (IsDatabaseRefusal bytes.now) }
-{
-    compiled_answers_are_last();
-    let db = check(bytes)?;
-    let explanations = explain(alloc, &db, device)?;
-    Ok(explanation_lines(alloc, &explanations)?)
-}
-
-/// Checks the bytes, and prints to `out` for each property of the device, ascending by key, `KEY=VALUE` as
-/// `run_query` does, then the path, the line and the pattern that it comes from, and then each assignment that
-/// it overrides, the last first. Over the database of some files these are the last assignments of each
-/// pattern and key that the files have, of the patterns that match the device.
-pub fn run_explain<O: Sink>(
-    alloc: Global,
-    bytes: &[u8],
-    device: &[u8],
-    out: &mut O,
-) -> Result<(), ToolError>
-    ensures printed { OnOk result
-        (Wrote (IsTextOf (explain_text device.now) bytes.now) (O.taken out.old) (O.taken out.new)) }
-    ensures headline { OnOk result ((etc usr : List Source) → IsCompiled etc usr bytes.now
-        → Appends (O.taken out.old) (O.taken out.new) (explained_text device.now etc usr)) }
-
-    ensures refusals { IfErr result (IsQueryRefusal bytes.now) }
-    ensures cause { IsErrOf result ToolError.Write
-        → HasFailed (O.failures out.old) (O.failures out.new) }
-    ensures unfailed { OnOk result (O.failures out.new ≡ O.failures out.old) }
-    ensures last { IsErrOf result ToolError.Write
-        → OneFailed (O.failures out.old) (O.failures out.new) }
-    ensures cut_short { IsErrOf result ToolError.Write
-        → WrotePrefix (IsTextOf (explain_text device.now) bytes.now)
-        (O.taken out.old) (O.taken out.new) }
-    ensures untouched { IfErr result (λ e. e ≢ ToolError.Write → out.new ≡ out.old) }
-{
-    let text = explanation_of(alloc, bytes, device)?;
-    write_text(out, &text)
 }

@@ -1,9 +1,7 @@
 //! Printing the hits of a cursor, one line after another.
 ghost use Rattle.std.specs.Prelude.{flat_map, ◌≡◌, OnOk, IfErr, IsErrOf};
-ghost use Rattle.std.specs.Io.KnownBytes.{Appends};
-ghost use Rattle.hwdb_spec.specs.Failures.{HasFailed, OneFailed};
-ghost use Rattle.hwdb_spec.specs.Outputs.{AppendsPrefix};
-ghost use Rattle.hwdb_print.specs.Lookups.{AppendsLines, IsPrintRefusal, line_of, list_page, one_less};
+ghost use Rattle.hwdb_spec.specs.Outputs.{CutShort, Took};
+ghost use Rattle.hwdb_print.specs.Lookups.{IsPrintRefusal, TookLines, line_of, list_page, one_less};
 ghost use Rattle.hwdb_query.specs.Views.{assignment_of_hit};
 ghost use Rattle.hwdb_spec.specs.Texts.{within_limit};
 
@@ -14,32 +12,17 @@ use hwdb_query::{Cursor, Hit};
 use hwdb_transfer::{ToolError, write_text};
 use std::alloc::{AllocError, Global};
 
-/// How the line of a hit is printed.
-#[derive(Clone, Copy)]
-pub enum HitForm {
-    /// With tabs between its parts.
-    Text,
-    /// As an object of JSON.
-    Json,
-}
-
-/// Makes a text the line of a hit.
+/// Makes a text the line of a hit: with tabs between its parts, or as an object of JSON.
 ///
 /// The only error is that memory is refused.
-fn set_line(
-    alloc: Global,
-    line: &mut Vec<u8>,
-    hit: &Hit<'_>,
-    form: HitForm,
-) -> Result<(), AllocError>
-    ensures { OnOk result (line.new.items ≡ line_of form (assignment_of_hit hit.now)) }
+fn set_line(alloc: Global, line: &mut Vec<u8>, hit: &Hit<'_>, json: bool) -> Result<(), AllocError>
+    ensures { OnOk result (line.new.items ≡ line_of json (assignment_of_hit hit.now)) }
 {
-    match form {
-        HitForm::Text => set_hit_line(line, hit),
-        HitForm::Json => {
-            *line = hit_json_line(alloc, hit)?;
-            Ok(())
-        }
+    if json {
+        *line = hit_json_line(alloc, hit)?;
+        Ok(())
+    } else {
+        set_hit_line(line, hit)
     }
 }
 
@@ -59,26 +42,20 @@ pub fn print_hits<O: Sink>(
     alloc: Global,
     hits: &mut Cursor<'_, '_>,
     limit: Option<u64>,
-    form: HitForm,
+    json: bool,
     out: &mut O,
 ) -> Result<(), ToolError>
     requires page { hits.old.page ≡ list_page }
     ensures printed { OnOk result
-        (Appends (O.taken out.old) (O.taken out.new)
-        (flat_map (line_of form) (within_limit limit hits.old.to_come))) }
+        (Took (flat_map (line_of json) (within_limit limit hits.old.to_come))
+        (O.taken out.old) (O.taken out.new) (O.failures out.old) (O.failures out.new)) }
     ensures refusals { IfErr result IsPrintRefusal }
-    ensures cause { IsErrOf result ToolError.Write
-        → HasFailed (O.failures out.old) (O.failures out.new) }
-    ensures unfailed { OnOk result (O.failures out.new ≡ O.failures out.old) }
-    ensures last { IsErrOf result ToolError.Write
-        → OneFailed (O.failures out.old) (O.failures out.new) }
-    ensures refused { IsErrOf result ToolError.Memory → O.failures out.new ≡ O.failures out.old }
     ensures cut_short { IsErrOf result ToolError.Write
-        → AppendsPrefix (O.taken out.old) (O.taken out.new)
-        (flat_map (line_of form) (within_limit limit hits.old.to_come)) }
+        → CutShort (flat_map (line_of json) (within_limit limit hits.old.to_come))
+        (O.taken out.old) (O.taken out.new) (O.failures out.old) (O.failures out.new) }
     ensures whole_lines { IsErrOf result ToolError.Memory
-        → AppendsLines (line_of form) (O.taken out.old) (O.taken out.new)
-        (within_limit limit hits.old.to_come) }
+        → TookLines (line_of json) (within_limit limit hits.old.to_come)
+        (O.taken out.old) (O.taken out.new) (O.failures out.old) (O.failures out.new) }
 {
     let mut line = Vec::new(alloc);
     let mut left = limit;
@@ -86,7 +63,7 @@ pub fn print_hits<O: Sink>(
         let Some(hit) = hits.next()? else {
             return Ok(());
         };
-        set_line(alloc, &mut line, &hit, form)?;
+        set_line(alloc, &mut line, &hit, json)?;
         write_text(out, &line)?;
         left = one_less(left);
     }

@@ -1,29 +1,19 @@
 //! The lines of a source, one after another.
-ghost use Rattle.std.specs.Prelude.{[], ◌≡◌, ◌≢◌, ◌<◌, ◌≤◌, ◌+◌, ℕ, true, false, length, IfOk, IfErr, IfSome, IfNone, OnOk, IsErrOf, vec_len};
-ghost use Rattle.std.specs.Io.KnownBytes.{IsAtEnd, Keeps, prepend_known};
+ghost use Rattle.std.specs.Prelude.{[], ◌≡◌, ◌<◌, ◌≤◌, ◌+◌, true, false, IfOk, IfErr, IfSome, IfNone, OnOk, IsErrOf, vec_len};
+ghost use Rattle.std.specs.Io.KnownBytes.{IsAtEnd};
 ghost use Rattle.std.specs.List.{position_or_len};
-ghost use Rattle.hwdb_spec.specs.Failures.{HasFailed, OneFailed};
+ghost use Rattle.hwdb_spec.specs.Failures.{CountsFailures};
 ghost use Rattle.hwdb_spec.specs.Lines.{byte, is};
+ghost use Rattle.hwdb_spec.specs.Outputs.{FailedOnly};
 ghost use Rattle.hwdb_transfer.specs.Refusals.{IsReadRefusal};
 ghost use Rattle.hwdb_print.specs.Streams.{IsFirstLine, IsTakeRefusal, held, to_come};
 ghost use Rattle.hwdb_print.specs.Internal.{IsTaken, IsRefilled};
 
-use crate::chunk::{CHUNK, LineReader};
+use crate::chunk::LineReader;
 use hwdb_devices::Source;
-use hwdb_transfer::ToolError;
-use memchr::memchr;
+use hwdb_text::end_of;
+use hwdb_transfer::{CHUNK, ToolError};
 use std::alloc::Global;
-
-/// Where the byte first stands; the length of the text if it stands nowhere.
-fn end_of(needle: u8, text: &[u8]) -> usize
-    ensures place { result ≡ position_or_len (is needle) text.now }
-    ensures within { result ≤ length text.now }
-{
-    match memchr(needle, text) {
-        Some(place) => place,
-        None => text.len(),
-    }
-}
 
 impl LineReader {
     /// Nothing was read.
@@ -45,9 +35,7 @@ impl LineReader {
         ensures read { IfOk result
             (IsRefilled (I.left source.old) (held self.new) (I.left source.new)) }
         ensures refusals { IfErr result (λ e. e ≡ ToolError.Read) }
-        ensures unfailed { OnOk result (I.failures source.new ≡ I.failures source.old) }
-        ensures last { IfErr result
-            (λ _. OneFailed (I.failures source.old) (I.failures source.new)) }
+        ensures failures { CountsFailures (I.failures source.old) (I.failures source.new) result }
     {
         self.at = 0;
         self.end = 0;
@@ -109,11 +97,8 @@ impl LineReader {
         ensures too_long { IsErrOf result ToolError.TooLong
             → IfSome (to_come self.old (I.left source.old))
             (λ bytes. max_bytes < position_or_len (is (byte "\n")) bytes) }
-        ensures unfailed { IfErr result (λ e. e ≢ ToolError.Read
-            → I.failures source.new ≡ I.failures source.old) }
-        ensures unfailed_ok { OnOk result (I.failures source.new ≡ I.failures source.old) }
-        ensures last { IsErrOf result ToolError.Read
-            → OneFailed (I.failures source.old) (I.failures source.new) }
+        ensures failures { FailedOnly ToolError.Read result
+            (I.failures source.old) (I.failures source.new) }
     {
         let mut line = Vec::new(alloc);
         'reading: while line.len() <= max_bytes as usize {

@@ -1,17 +1,16 @@
 //! The devices of a source, each answered as it comes.
-ghost use Rattle.std.specs.Prelude.{◌≡◌, ◌⊎◌, ◌<◌, ℕ, List, length, IfOk, IfErr, IfSome, OnOk, IsErrOf};
+ghost use Rattle.std.specs.Prelude.{◌≡◌, ◌⊎◌, ◌<◌, List, length, IfErr, IfSome, OnOk, IsErrOf};
 ghost use Rattle.std.specs.Io.KnownBytes.{Appends};
-ghost use Rattle.hwdb_spec.specs.Failures.{HasFailed, OneFailed};
 ghost use Rattle.hwdb_spec.specs.Folders.{Source, max_lines};
 ghost use Rattle.hwdb_spec.specs.ManyDevices.{HasLongLine};
 ghost use Rattle.hwdb_spec.specs.Texts.{devices_of, max_file};
 ghost use Rattle.hwdb_spec.specs.Written.{IsCompiled};
-ghost use Rattle.hwdb_spec.specs.Outputs.{AppendsPrefix, Wrote, WrotePrefix};
+ghost use Rattle.hwdb_spec.specs.Outputs.{AppendsPrefix, FailedOnly, Wrote, WrotePrefix};
 ghost use Rattle.hwdb_spec.specs.Databases.{IsTextOf};
 ghost use Rattle.hwdb_print.specs.Streams.{IsAnswerRefusal, IsStreamRefusal, IfBadDatabase, texts_of, last_texts_of};
 
 use crate::chunk::LineReader;
-use crate::device_answers::text_of_device;
+use crate::device_texts::text_of_device;
 use crate::form::Form;
 use hwdb_devices::{Sink, Source};
 use hwdb_query::compiled_answers_are_last;
@@ -34,14 +33,8 @@ fn answer_lines<I: Source, O: Sink>(
         → IfSome (I.left input.old) (HasLongLine max_file) }
     ensures too_many { IsErrOf result ToolError.TooManyLines
         → IfSome (I.left input.old) (λ text. max_lines < length (devices_of text)) }
-    ensures unfailed { OnOk result ((I.failures input.new ≡ I.failures input.old)
-        × (O.failures out.new ≡ O.failures out.old)) }
-    ensures last_read { IsErrOf result ToolError.Read
-        → OneFailed (I.failures input.old) (I.failures input.new)
-        × (O.failures out.new ≡ O.failures out.old) }
-    ensures last_write { IsErrOf result ToolError.Write
-        → (I.failures input.new ≡ I.failures input.old)
-        × OneFailed (O.failures out.old) (O.failures out.new) }
+    ensures reads { FailedOnly ToolError.Read result (I.failures input.old) (I.failures input.new) }
+    ensures writes { FailedOnly ToolError.Write result (O.failures out.old) (O.failures out.new) }
     ensures cut_short { IfErr result (λ _. IfSome (I.left input.old) (λ text.
         AppendsPrefix (O.taken out.old) (O.taken out.new)
         (texts_of form (devices_of text) db.now))) }
@@ -60,9 +53,7 @@ fn answer_lines<I: Source, O: Sink>(
 }
 
 /// Checks the bytes, and then reads devices from `input`, one a line, and prints each to `out` as soon as its line is
-/// read: with `Form::Query` its properties, as `run_queries` and `run_queries_json` do, with `Form::Explain` also where
-/// they come from, as `run_explain` and `run_explain_json` do. As text an empty line stands between two devices. Memory
-/// doesn't grow with their number.
+/// read: what [`answers`](crate::answers) answers of these devices. Memory doesn't grow with their number.
 ///
 /// Refuses bytes that are no database before anything is read; then a failed read, a failed write, a line of more bytes
 /// than `MAX_BYTES`, more lines than can be counted, and memory: what was printed is then a prefix of the whole.
@@ -86,14 +77,8 @@ pub fn run_stream<I: Source, O: Sink>(
         → IfSome (I.left input.old) (HasLongLine max_file) }
     ensures too_many { IsErrOf result ToolError.TooManyLines
         → IfSome (I.left input.old) (λ text. max_lines < length (devices_of text)) }
-    ensures unfailed { OnOk result ((I.failures input.new ≡ I.failures input.old)
-        × (O.failures out.new ≡ O.failures out.old)) }
-    ensures last_read { IsErrOf result ToolError.Read
-        → OneFailed (I.failures input.old) (I.failures input.new)
-        × (O.failures out.new ≡ O.failures out.old) }
-    ensures last_write { IsErrOf result ToolError.Write
-        → (I.failures input.new ≡ I.failures input.old)
-        × OneFailed (O.failures out.old) (O.failures out.new) }
+    ensures reads { FailedOnly ToolError.Read result (I.failures input.old) (I.failures input.new) }
+    ensures writes { FailedOnly ToolError.Write result (O.failures out.old) (O.failures out.new) }
     ensures cut_short { IfErr result (λ _. (out.new ≡ out.old)
         ⊎ IfSome (I.left input.old) (λ text.
         WrotePrefix (IsTextOf (texts_of form (devices_of text)) bytes.now)

@@ -1,9 +1,7 @@
 //! What `update` does with the files of both folders.
 ghost use Rattle.std.specs.Prelude.{◌≡◌, ◌≢◌, ◌++◌, None, map, IfOk, IfErr, OnOk, IsErrOf};
-ghost use Rattle.std.specs.Io.KnownBytes.{Appends};
 ghost use Rattle.hwdb_compile.specs.Views.{sources, fault_of};
-ghost use Rattle.hwdb_spec.specs.Failures.{HasFailed, OneFailed};
-ghost use Rattle.hwdb_spec.specs.Outputs.{AppendsPrefix};
+ghost use Rattle.hwdb_spec.specs.Outputs.{CutShort, Took};
 ghost use Rattle.hwdb_spec.specs.Texts.{status_of, faults_text};
 ghost use Rattle.hwdb_spec.specs.Folders.{faults_of_files};
 ghost use Rattle.hwdb_spec.specs.Store.{InPlace, LeavesOnly, OldOrNew};
@@ -52,8 +50,9 @@ pub fn put_in_place<S: Store, E: Sink>(
     store: &mut S,
     err: &mut E,
 ) -> Result<u8, ToolError>
-    ensures told { OnOk result (Appends (E.taken err.old) (E.taken err.new)
-        (progress.now ++ faults_text (map fault_of compiled.now.faults.items))) }
+    ensures told { OnOk result (Took
+        (progress.now ++ faults_text (map fault_of compiled.now.faults.items))
+        (E.taken err.old) (E.taken err.new) (E.failures err.old) (E.failures err.new)) }
     ensures placed { S.tells → OnOk result (InPlace folder.now compiled.now.database.items
         (S.seen store.old) (S.seen store.new) (S.may_leave store.new)) }
     ensures status { IfOk result
@@ -61,28 +60,22 @@ pub fn put_in_place<S: Store, E: Sink>(
     ensures any_moment { S.tells → LeavesOnly S.moment S.left_since store.old store.new
         (OldOrNew folder.now compiled.now.database.items (S.seen store.old)
         (S.may_leave store.old)) }
+    ensures unfailed { OnOk result (S.failures store.new ≡ S.failures store.old) }
 
     ensures refusals { IfErr result IsPlaceRefusal }
-    ensures unreplaced { IfErr result (OnUnreplaced (λ _.
-        Appends (E.taken err.old) (E.taken err.new)
-        (progress.now ++ faults_text (map fault_of compiled.now.faults.items)))) }
+    ensures unreplaced { IfErr result (OnUnreplaced (λ u. Took
+        (progress.now ++ faults_text (map fault_of compiled.now.faults.items))
+        (E.taken err.old) (E.taken err.new) (E.failures err.old) (E.failures err.new)
+        × (S.failures store.new ≡ failures_after u (S.failures store.old)))) }
     ensures seen { S.tells → IfErr result (OnUnreplaced
         (IsSeen folder.now compiled.now.database.items (S.seen store.old) (S.seen store.new))) }
     ensures left { S.tells → IfErr result (OnUnreplaced
         (IsLeft folder.now compiled.now.database.items (S.seen store.old)
         (S.may_leave store.old) (S.may_leave store.new))) }
-    ensures counted { IfErr result (OnUnreplaced
-        (λ u. (E.failures err.new ≡ E.failures err.old)
-        × (S.failures store.new ≡ failures_after u (S.failures store.old)))) }
-    ensures unfailed { OnOk result ((E.failures err.new ≡ E.failures err.old)
-        × (S.failures store.new ≡ S.failures store.old)) }
-    ensures last { IsErrOf result ToolError.Write
-        → OneFailed (E.failures err.old) (E.failures err.new) × (store.new ≡ store.old) }
-    ensures cause { IsErrOf result ToolError.Write
-        → HasFailed (E.failures err.old) (E.failures err.new) }
-    ensures cut_short { IsErrOf result ToolError.Write
-        → AppendsPrefix (E.taken err.old) (E.taken err.new)
-        (progress.now ++ faults_text (map fault_of compiled.now.faults.items)) }
+    ensures cut_short { IsErrOf result ToolError.Write → CutShort
+        (progress.now ++ faults_text (map fault_of compiled.now.faults.items))
+        (E.taken err.old) (E.taken err.new) (E.failures err.old) (E.failures err.new)
+        × (store.new ≡ store.old) }
     ensures untouched { IfErr result
         (λ e. e ≢ ToolError.Write → ((u : Unreplaced) → e ≢ ToolError.Replace u)
         → (err.new ≡ err.old) × (store.new ≡ store.old)) }
@@ -128,13 +121,10 @@ pub fn run_update<S: Store, E: Sink>(
         × (S.failures store.new ≡ failures_after u (S.failures store.old)))) }
     ensures unfailed { OnOk result ((E.failures err.new ≡ E.failures err.old)
         × (S.failures store.new ≡ S.failures store.old)) }
-    ensures last { IsErrOf result ToolError.Write
-        → OneFailed (E.failures err.old) (E.failures err.new) × (store.new ≡ store.old) }
-    ensures cause { IsErrOf result ToolError.Write
-        → HasFailed (E.failures err.old) (E.failures err.new) }
     ensures cut_short { IsErrOf result ToolError.Write
-        → AppendsPrefix (E.taken err.old) (E.taken err.new)
-        (faults_text (faults_of_files (sources etc.now) (sources usr.now))) }
+        → CutShort (faults_text (faults_of_files (sources etc.now) (sources usr.now)))
+        (E.taken err.old) (E.taken err.new) (E.failures err.old) (E.failures err.new)
+        × (store.new ≡ store.old) }
     ensures untouched { IfErr result
         (λ e. e ≢ ToolError.Write → ((u : Unreplaced) → e ≢ ToolError.Replace u)
         → (err.new ≡ err.old) × (store.new ≡ store.old)) }

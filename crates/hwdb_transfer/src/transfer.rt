@@ -2,7 +2,7 @@
 ghost use Rattle.std.specs.Prelude.{◌≡◌, ◌<◌, ◌≤◌, length, IfOk, IfErr, IfSome, OnOk, OnErr, vec_len, IsErrOf};
 ghost use Rattle.std.specs.Io.KnownBytes.{Appends, IsAtEnd};
 ghost use Rattle.hwdb_spec.specs.Failures.{HasFailed, OneFailed};
-ghost use Rattle.hwdb_spec.specs.Outputs.{AppendsPrefix};
+ghost use Rattle.hwdb_spec.specs.Outputs.{AppendsPrefix, CutShort, FailedOnly, Took};
 ghost use Rattle.hwdb_transfer.specs.Refusals.{IsReadRefusal};
 
 use crate::errors::ToolError;
@@ -16,6 +16,10 @@ pub const MAX_BYTES: u32 = 268_435_456;
 /// Writes all of the text and flushes, so that the sink holds nothing back. Takes no memory. The first call that fails ends it, as
 /// `ToolError::Write`; a prefix of the text was taken then.
 pub fn write_text<W: Sink>(sink: &mut W, text: &[u8]) -> Result<(), ToolError>
+    ensures took { OnOk result (Took text.now (W.taken sink.old) (W.taken sink.new)
+        (W.failures sink.old) (W.failures sink.new)) }
+    ensures cut_short { OnErr result (CutShort text.now (W.taken sink.old) (W.taken sink.new)
+        (W.failures sink.old) (W.failures sink.new)) }
     ensures whole { OnOk result (Appends (W.taken sink.old) (W.taken sink.new) text.now) }
     ensures prefix { AppendsPrefix (W.taken sink.old) (W.taken sink.new) text.now }
     ensures later { W.failures sink.old ≤ W.failures sink.new }
@@ -61,6 +65,8 @@ pub fn read_all<R: Source>(
     ensures unfailed { OnOk result (R.failures source.new ≡ R.failures source.old) }
     ensures last { IsErrOf result ToolError.Read
         → OneFailed (R.failures source.old) (R.failures source.new) }
+    ensures failures { FailedOnly ToolError.Read result
+        (R.failures source.old) (R.failures source.new) }
 {
     let limit = max_bytes as usize;
     let mut bytes = Vec::new(alloc);

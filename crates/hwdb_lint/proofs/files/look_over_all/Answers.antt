@@ -8,6 +8,6 @@ loop-file-preserved c = record {
   found = found_step c.args.files.now c.loop-file.file-index _ _ _ _ c.loop-file-test.true c.in_ok-found.ensures.found c.together-tally.ensures c.loop-file.invariant.found;
 }
 
-pub returns-in_err-found-clause-refusals : goal.returns-in_err-found-clause-refusals
-returns-in_err-found-clause-refusals c =
-    file_refused c.args.files.now c.loop-file.file-index _ c.in_err-found.field-0.0 _ c.loop-file-test.true c.from_residual.ensures.1 c.in_err-found.ensures.refusals
+pub returns-in_err-found-clause-errors : goal.returns-in_err-found-clause-errors
+returns-in_err-found-clause-errors c =
+    file_refused c.args.files.now c.loop-file.file-index _ c.in_err-found.field-0.0 _ c.loop-file-test.true c.from_residual.ensures.1 c.in_err-found.ensures.errors

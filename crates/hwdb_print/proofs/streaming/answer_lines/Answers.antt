@@ -29,19 +29,19 @@ returns-in_err-write_text-clause-cut_short g c =
     let first = some_of c.in_ok-device.field-0 c.in-Some.device _ c.in-Some.is c.in_ok-device.ensures.line in
     let is = c.deref-in-answering.ensures.value ∙ c.in_ok-text.ensures ∙ ap (λ d. answer_text c.args.form c.answering.is_first d c.args.db.now) c.deref.ensures.value in
     if_err_any c.from_residual-in_err-write_text.result _
-    (c.answering.invariant.part _ (part_of_text c.args.form c.answering.is_first c.args.db.now _ _ _ _ c.in-Some.device.items c.deref-in-answering.result.now first is c.write_text.ensures.prefix))
+    (c.answering.invariant.part _ (part_of_text c.args.form c.answering.is_first c.args.db.now _ _ _ _ c.in-Some.device.items c.deref-in-answering.result.now first is c.in_err-write_text.ensures.cut_short.prefix))
 
 pub answering-preserved : goal.answering-preserved
 answering-preserved g c =
     let first = some_of c.in_ok-device.field-0 c.in-Some.device _ c.in-Some.is c.in_ok-device.ensures.line in
     let is = c.deref-in-answering.ensures.value ∙ c.in_ok-text.ensures ∙ ap (λ d. answer_text c.args.form c.answering.is_first d c.args.db.now) c.deref.ensures.value in
     record {
-      whole = λ end q. c.answering.invariant.whole end (whole_step c.args.form c.answering.is_first c.args.db.now _ _ _ _ end c.in-Some.device.items c.deref-in-answering.result.now first is c.in_ok-write_text.ensures.whole q);
-      part = λ end q. c.answering.invariant.part end (part_step c.args.form c.answering.is_first c.args.db.now _ _ _ _ end c.in-Some.device.items c.deref-in-answering.result.now first is c.in_ok-write_text.ensures.whole q);
+      whole = λ end q. c.answering.invariant.whole end (whole_step c.args.form c.answering.is_first c.args.db.now _ _ _ _ end c.in-Some.device.items c.deref-in-answering.result.now first is c.in_ok-write_text.ensures.took.whole q);
+      part = λ end q. c.answering.invariant.part end (part_step c.args.form c.answering.is_first c.args.db.now _ _ _ _ end c.in-Some.device.items c.deref-in-answering.result.now first is c.in_ok-write_text.ensures.took.whole q);
       long = λ q. c.answering.invariant.long (later_too_long _ _ c.in-Some.device.items max_file first q);
       few = λ n q. few_more _ c.answering.counter n (c.answering.invariant.few (n + 1) (fewer_left _ _ c.in-Some.device.items n first q));
-      same_input = c.in_ok-device.ensures.unfailed_ok ∙ c.answering.invariant.same_input;
-      same_out = c.in_ok-write_text.ensures.unfailed ∙ c.answering.invariant.same_out;
+      same_input = c.in_ok-device.ensures.failures ∙ c.answering.invariant.same_input;
+      same_out = c.in_ok-write_text.ensures.took.unfailed ∙ c.answering.invariant.same_out;
     }
 
 pub returns-clause-too_many : goal.returns-clause-too_many

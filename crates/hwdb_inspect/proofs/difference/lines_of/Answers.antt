@@ -1,0 +1,15 @@
+use Rattle.std.proofs.Common.{◌∙◌, refl, ◌||◌}
+use Rattle.hwdb_inspect.specs.Views.{changes_of}
+use Rattle.hwdb_inspect.specs.Internal.Pairing.{to_tell}
+use Rattle.hwdb_inspect.proofs.DiffLemmas.{joined, differ_step}
+use Rattle.hwdb_inspect.proofs.difference.lines_of.Goals as goal
+
+pub pairs-preserved : goal.pairs-preserved
+pairs-preserved c =
+    let all = to_tell c.pairs.left in
+    let changes = changes_of c.in-Some.pair in
+    let more = to_tell c.next.new.self in
+    record {
+      text = joined c.pairs.text.items c.push_pair.new.text.items all changes more c.in-Some.ensures.some c.in_ok-differ.ensures.text ∙ c.pairs.invariant.text;
+      differ = differ_step c.pairs.differ c.in_ok-differ.field-0 (c.pairs.differ || c.in_ok-differ.field-0) all changes more c.in-Some.ensures.some c.in_ok-differ.ensures.differs refl ∙ c.pairs.invariant.differ;
+    }

@@ -1,0 +1,15 @@
+use Rattle.std.proofs.Common.{rules}
+use Rattle.std.proofs.lemmas.Fn.{always_returns_same}
+use Rattle.std.proofs.lemmas.List.Sorted.{ranks_by}
+use Rattle.std.specs.Ordering.{is_lt}
+use Rattle.hwdb_spec.specs.Assignment.{assignment_cmp}
+use Rattle.hwdb_inspect.specs.Views.{assignment_of}
+use Rattle.hwdb_inspect.proofs.OrderedLemmas.{assignment_total, sorted_is_dumped}
+use Rattle.hwdb_inspect.proofs.listing.ordered.Goals as goal
+
+pub returns : goal.returns
+returns c =
+    let up = c.sort_unstable_by.ensures.sorted (λ x y. is_lt (assignment_cmp (assignment_of x) (assignment_of y))) (ranks_by assignment_total assignment_of)
+    (always_returns_same _ _ _ (λ a r g called. (search rules, search rules))) in
+    sorted_is_dumped assignment_of c.args.db.now c.in_ok-list.list.items c.sort_unstable_by.new.self.items c.root-root.ensures.tree c.in_ok-list.ensures.list
+    c.sort_unstable_by.ensures.permutation up
