@@ -6,7 +6,7 @@ use Rattle.std.proofs.lemmas.Bool.{or_left, or_right}
 use Rattle.std.proofs.lemmas.List.{append-nil, append_cancel_left, get_or-map, length-map, map-append}
 use Rattle.std.proofs.lemmas.List.Elements.{All-contains, All-filter, All-nil, All-push, filter_passes}
 use Rattle.std.proofs.lemmas.Slice.Eq.{bytes_eq-Decides}
-use Rattle.hwdb_devices.specs.declared.causes.Cause.{Cause}
+use Rattle.hwdb_io.specs.declared.causes.Cause.{Cause}
 use Rattle.hwdb_spec.specs.Folders.{Choice, choice, lists, path_of, same}
 use Rattle.hwdb_spec.specs.Store.{Contents, Stored, path_in}
 use Rattle.hwdb_spec.specs.System.{AreNamesIn, IsNameIn, etc_files, usr_files}
@@ -19,7 +19,7 @@ use Rattle.hwdb_fs.specs.Reading.{AreUnread, IsChosenUnread}
 use Rattle.hwdb_fs.specs.Refusals.{HasReason, IsUnread, IsUnreadable, file_text}
 use Rattle.hwdb_fs.specs.declared.refusals.Refusal.{Refusal}
 use Rattle.hwdb_fs.specs.declared.refusals.Refusal.TheVariants.{At, InWords, NoDatabase, Plain}
-use Rattle.hwdb_transfer.specs.declared.errors.ToolError.TheVariants.{Read, Write, TooLong, TooManyFiles, TooManyLines, TooLarge, BadPosition, BadDatabase, Replace, Memory}
+use Rattle.hwdb_print.specs.declared.errors.ToolError.TheVariants.{Read, Write, TooLong, TooManyFiles, TooManyLines, TooLarge, BadPosition, BadDatabase, Replace, Memory}
 use Rattle.hwdb_fs.proofs.NameLemmas.{contains_filter, same_itself, same_name}
 use Rattle.hwdb_fs.proofs.ReasonLemmas.{chosen_fails, chosen_reason}
 use Rattle.hwdb_fs.proofs.SelectionLemmas.{chosen_unread}

@@ -9,8 +9,8 @@ use Rattle.hwdb_text.specs.Views.{choice_of}
 use Rattle.hwdb_text.specs.declared.choice.Chosen.{Chosen}
 use Rattle.hwdb_text.specs.declared.outcome.SelectError.{SelectError}
 use Rattle.hwdb_text.specs.declared.outcome.SelectError.TheVariants as select
-use Rattle.hwdb_transfer.specs.Refusals.{refusal_of_select}
-use Rattle.hwdb_transfer.specs.declared.errors.ToolError.TheVariants.{Memory}
+use Rattle.hwdb_print.specs.Refusals.{refusal_of_select}
+use Rattle.hwdb_print.specs.declared.errors.ToolError.TheVariants.{Memory}
 use Rattle.hwdb_fs.specs.Internal.{AreNamed}
 use Rattle.hwdb_fs.specs.Refusals.{IsUnread}
 use Rattle.hwdb_fs.specs.Reading.{AreUnread, IsChosenUnread}

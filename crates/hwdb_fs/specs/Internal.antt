@@ -9,7 +9,7 @@ use Rattle.hwdb_spec.specs.Store.{Contents, path_in}
 use Rattle.hwdb_spec.specs.Texts.{at_offset}
 use Rattle.hwdb_spec.specs.System.{AreNamesIn, bytes_at, etc_files, usr_files, IsNameIn}
 use Rattle.hwdb_text.specs.Views.{IsListed}
-use Rattle.hwdb_transfer.specs.declared.errors.ToolError.TheVariants.{Memory, Read}
+use Rattle.hwdb_print.specs.declared.errors.ToolError.TheVariants.{Memory, Read}
 use Rattle.hwdb_replace.specs.Memory.{seen_of}
 use Rattle.hwdb_replace.specs.declared.memory.Step.{Step}
 use Rattle.hwdb_replace.specs.declared.memory.Step.TheVariants.{Changed, Moved}

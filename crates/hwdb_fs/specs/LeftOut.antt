@@ -1,7 +1,7 @@
 -- Chosen text files that can't be read, and that an update leaves out with `--skip-unreadable`: which these may be, what is said
 -- of them, and which files are left. Our choice.
 use Rattle.std.specs.Prelude.{◌++◌, ◌∷◌, ◌≡◌, All, Bool, Contains, Err, List, Ok, Option, Result, [], codes, map, true, ℕ}
-use Rattle.hwdb_devices.specs.declared.causes.Cause.{Cause}
+use Rattle.hwdb_io.specs.declared.causes.Cause.{Cause}
 use Rattle.hwdb_spec.specs.Folders.{Choice, path_of}
 use Rattle.hwdb_spec.specs.LeftOut.{AreLeftOut, without}
 use Rattle.hwdb_spec.specs.Store.{Contents}
@@ -10,7 +10,7 @@ use Rattle.hwdb_fs.specs.Reading.{AreUnread}
 use Rattle.hwdb_fs.specs.Refusals.{path_text, refusal_line}
 use Rattle.hwdb_fs.specs.declared.refusals.Refusal.{Refusal}
 use Rattle.hwdb_fs.specs.declared.refusals.Refusal.TheVariants.{At}
-use Rattle.hwdb_transfer.specs.declared.errors.ToolError.TheVariants.{Read}
+use Rattle.hwdb_print.specs.declared.errors.ToolError.TheVariants.{Read}
 
 -- the line of a file that is left out: that of the refusal that it would be, and an ending
 abbrev pub left_out_line : (path : List ℕ) → Option Cause → (words : List ℕ) → List ℕ

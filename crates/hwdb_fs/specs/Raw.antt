@@ -5,9 +5,9 @@ use Rattle.hwdb_spec.specs.Folders.{counts}
 use Rattle.hwdb_spec.specs.Lines.{is, pieces}
 use Rattle.hwdb_spec.specs.Store.{path_in}
 use Rattle.hwdb_spec.specs.Texts.{max_file}
-use Rattle.hwdb_devices.specs.declared.causes.Cause.{Cause}
-use Rattle.hwdb_devices.specs.declared.causes.Cause.TheVariants as why
-use Rattle.hwdb_transfer.specs.declared.errors.ToolError.TheVariants.{Read, TooLong, Memory}
+use Rattle.hwdb_io.specs.declared.causes.Cause.{Cause}
+use Rattle.hwdb_io.specs.declared.causes.Cause.TheVariants as why
+use Rattle.hwdb_print.specs.declared.errors.ToolError.TheVariants.{Read, TooLong, Memory}
 use Rattle.hwdb_fs.specs.declared.raw.Kind.{Kind}
 use Rattle.hwdb_fs.specs.declared.raw.Kind.TheVariants.{File, Null, Folder, Pipe, Socket, Device}
 use Rattle.hwdb_fs.specs.declared.raw.Unread.{Unread}

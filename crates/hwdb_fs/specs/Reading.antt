@@ -3,7 +3,7 @@ use Rattle.std.specs.Prelude.{◌≡◌, ◌⊎◌, ◌<◌, ℕ, List, ◌++◌
 use Rattle.hwdb_spec.specs.Folders.{Choice, choice, max_files, names, path_of}
 use Rattle.hwdb_spec.specs.Store.{Contents}
 use Rattle.hwdb_spec.specs.System.{AreNamesIn, etc_files, usr_files}
-use Rattle.hwdb_transfer.specs.declared.errors.ToolError.TheVariants.{Memory, TooManyFiles}
+use Rattle.hwdb_print.specs.declared.errors.ToolError.TheVariants.{Memory, TooManyFiles}
 use Rattle.hwdb_fs.specs.Refusals.{IsUnlisted, IsUnread}
 use Rattle.hwdb_fs.specs.declared.refusals.Refusal.TheVariants.{Plain}
 use Rattle.hwdb_fs.specs.declared.refusals.Refusal.{Refusal}

@@ -8,10 +8,10 @@ use Rattle.hwdb_spec.specs.System.{bytes_at}
 use Rattle.hwdb_spec.specs.Texts.{max_file}
 use Rattle.hwdb_spec.specs.Verdicts.{fault_line}
 use Rattle.hwdb_spec.specs.Outputs.{AppendsPrefix}
-use Rattle.hwdb_transfer.specs.Refusals.{error_text}
-use Rattle.hwdb_devices.specs.declared.causes.Cause.{Cause}
-use Rattle.hwdb_transfer.specs.declared.errors.ToolError.TheVariants.{BadDatabase, Read, Write, TooLong, Memory, Replace}
-use Rattle.hwdb_transfer.specs.declared.errors.ToolError.{ToolError}
+use Rattle.hwdb_print.specs.Refusals.{error_text}
+use Rattle.hwdb_io.specs.declared.causes.Cause.{Cause}
+use Rattle.hwdb_print.specs.declared.errors.ToolError.TheVariants.{BadDatabase, Read, Write, TooLong, Memory, Replace}
+use Rattle.hwdb_print.specs.declared.errors.ToolError.{ToolError}
 use Rattle.hwdb_fs.specs.declared.refusals.Refusal.{Refusal}
 use Rattle.hwdb_fs.specs.declared.refusals.Refusal.TheVariants.{Plain, At, NoDatabase, InWords}
 

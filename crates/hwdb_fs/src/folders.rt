@@ -14,8 +14,8 @@ use crate::files::joined;
 use crate::refusals::Refusal;
 use crate::system::System;
 use hwdb_compile::ChosenFile;
+use hwdb_print::ToolError;
 use hwdb_text::{Chosen, select};
-use hwdb_transfer::ToolError;
 use std::alloc::{AllocError, Global};
 
 pub const ETC_FILES: &str = "/etc/udev/hwdb.d";

@@ -12,9 +12,9 @@ ghost use Rattle.hwdb_fs.specs.declared.refusals.Refusal.TheVariants.{Plain};
 use crate::folders::{ETC_FILES, Selection, USR_FILES, listed, read_file, selected, selected_of};
 use crate::refusals::Refusal;
 use crate::system::System;
-use hwdb_devices::Cause;
+use hwdb_io::Cause;
+use hwdb_print::ToolError;
 use hwdb_text::{Chosen, select};
-use hwdb_transfer::ToolError;
 use std::alloc::{AllocError, Global};
 use std::collections::BTreeSet;
 

@@ -10,11 +10,11 @@ use crate::files::text_of;
 use crate::refusals::Refusal;
 use crate::rooted::Rooted;
 use crate::system::System;
-use hwdb_devices::Cause;
+use hwdb_io::{Cause, MAX_BYTES};
+use hwdb_print::ToolError;
 use hwdb_replace::memory::state_of;
 use hwdb_replace::{Memory, Step};
 use hwdb_text::counts;
-use hwdb_transfer::{MAX_BYTES, ToolError};
 use std::alloc::{AllocError, Global};
 
 /// The number of the error of a path where nothing stands (errno, on Linux).

@@ -1,16 +1,15 @@
 //! What a file system answers, call by call, and nothing decided: this alone is believed of reading (docs/assumptions.md).
 ghost use Rattle.std.specs.Prelude.{◌≡◌, ◌≤◌, ℕ, List, Bool, false, Option, Result, Err, IfOk, IfSome, string_bytes, vec_len, option_map};
 ghost use Rattle.hwdb_spec.specs.Texts.{max_file};
-ghost use Rattle.hwdb_devices.specs.declared.causes.Cause.{Cause};
-ghost use Rattle.hwdb_devices.specs.declared.causes.Cause.TheVariants.{Memory};
+ghost use Rattle.hwdb_io.specs.declared.causes.Cause.{Cause};
+ghost use Rattle.hwdb_io.specs.declared.causes.Cause.TheVariants.{Memory};
 ghost use Rattle.hwdb_fs.specs.declared.raw.Kind.{Kind};
 ghost use Rattle.hwdb_fs.specs.declared.raw.Unread.{Unread};
 ghost use Rattle.hwdb_fs.specs.declared.raw.Unread.TheVariants.{TooLong};
 ghost use Rattle.hwdb_fs.specs.Raw.{IsTold, IsToldRead};
 
 use crate::roots::Root;
-use hwdb_devices::{Cause, FromRead};
-use hwdb_transfer::{MAX_BYTES, ToolError, read_all};
+use hwdb_io::{Cause, FromRead, MAX_BYTES, ReadError, read_all};
 use std::alloc::Global;
 use std::fs::{self, File, OpenFile};
 use std::io::{self, ErrorKind, Read};
@@ -133,9 +132,9 @@ pub fn all_of<R: Read + Drop>(alloc: Global, reader: R) -> Result<Vec<u8>, Unrea
     let mut source = FromRead::new(reader);
     match read_all(alloc, &mut source, MAX_BYTES) {
         Ok(bytes) => Ok(bytes),
-        Err(ToolError::TooLong) => Err(Unread::TooLong),
-        Err(ToolError::Memory) => Err(Unread::Memory),
-        Err(_) => Err(Unread::Failed(source.cause)),
+        Err(ReadError::TooLong) => Err(Unread::TooLong),
+        Err(ReadError::Memory) => Err(Unread::Memory),
+        Err(ReadError::Failed) => Err(Unread::Failed(source.cause)),
     }
 }
 

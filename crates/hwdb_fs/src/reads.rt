@@ -4,15 +4,15 @@ ghost use Rattle.hwdb_spec.specs.Texts.{max_file};
 ghost use Rattle.hwdb_spec.specs.Folders.{counts};
 ghost use Rattle.hwdb_fs.specs.Raw.{AreNamesAs, IsMisnamedAt, entries, names_answer, IsOfMemory, IsReadAs, IsRefusedFor, at_place, bytes_of, bytes_at, database_answer, failed, text_answer, text_at, text_of_kind, there_answer};
 ghost use Rattle.hwdb_fs.specs.declared.raw.Unread.{Unread};
-ghost use Rattle.hwdb_devices.specs.declared.causes.Cause.TheVariants.{Memory};
+ghost use Rattle.hwdb_io.specs.declared.causes.Cause.TheVariants.{Memory};
 ghost use Rattle.hwdb_fs.specs.Refusals.{IsUnread, IsUnlisted};
 
 use crate::files::text_of;
 use crate::raw::{Kind, RawFiles, Unread};
 use crate::refusals::Refusal;
-use hwdb_devices::Cause;
+use hwdb_io::Cause;
+use hwdb_print::ToolError;
 use hwdb_text::{counts, end_of};
-use hwdb_transfer::ToolError;
 use std::alloc::{AllocError, Global};
 
 /// The error of what couldn't be read at a path.

@@ -5,16 +5,16 @@ ghost use Rattle.std.specs.List.{concat};
 ghost use Rattle.hwdb_spec.specs.Failures.{IsOneLine};
 ghost use Rattle.hwdb_spec.specs.Verdicts.{fault_line, remedy};
 ghost use Rattle.hwdb_spec.specs.Texts.{db_fault_name, db_fault_offset, at_offset};
-ghost use Rattle.hwdb_transfer.specs.Refusals.{error_text, refusal_of_select};
+ghost use Rattle.hwdb_print.specs.Refusals.{error_text, refusal_of_select};
 ghost use Rattle.hwdb_fs.specs.Internal.{line_at};
 ghost use Rattle.hwdb_fs.specs.Refusals.{IsOfCause, Refused, refusal_line, refusal_text, path_text, file_text, IsAt, IsOfDatabase, IsOfUpdate};
-ghost use Rattle.hwdb_transfer.specs.declared.errors.ToolError.TheVariants.{Memory};
+ghost use Rattle.hwdb_print.specs.declared.errors.ToolError.TheVariants.{Memory, Write};
 ghost use Rattle.hwdb_fs.specs.declared.refusals.Refusal.TheVariants.{Plain};
 
-use hwdb_devices::{Cause, Sink};
+use hwdb_io::{Cause, DeviceFailed, Sink, one_failed_has_failed, write_text};
+use hwdb_print::ToolError;
 use hwdb_reader::DbFault;
 use hwdb_text::SelectError;
-use hwdb_transfer::{ToolError, write_text};
 use std::alloc::{AllocError, Global};
 
 /// Why the program ends without having done what the words ask for.
@@ -105,6 +105,14 @@ impl From<ToolError> for Refusal {
 
     fn from(error: ToolError) -> Refusal {
         Refusal::Plain(error)
+    }
+}
+
+impl From<DeviceFailed> for Refusal {
+    ghost from_gives = { λ _ refusal. refusal ≡ Plain Write };
+
+    fn from(failed: DeviceFailed) -> Refusal {
+        Refusal::Plain(ToolError::from(failed))
     }
 }
 
@@ -345,6 +353,7 @@ fn refuse_whole<E: Sink>(err: &mut E, line: &[u8])
     ensures { Refused line.now
         (E.taken err.old) (E.taken err.new) (E.failures err.old) (E.failures err.new) }
 {
+    one_failed_has_failed();
     match write_text(err, line) {
         Ok(()) => {}
         Err(_) => {}
@@ -356,6 +365,7 @@ fn refuse_in_parts<E: Sink>(err: &mut E, parts: &[&[u8]])
     ensures { Refused (concat (map (λ part. part.now) parts.now))
         (E.taken err.old) (E.taken err.new) (E.failures err.old) (E.failures err.new) }
 {
+    one_failed_has_failed();
     for part in parts {
         match write_text(err, part) {
             Ok(()) => {}

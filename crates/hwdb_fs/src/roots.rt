@@ -6,7 +6,7 @@ ghost use Rattle.hwdb_fs.specs.Roots.{IsBelow, IsName, below};
 
 use crate::place::Place;
 use crate::refusals::Refusal;
-use hwdb_devices::Cause;
+use hwdb_io::Cause;
 use std::alloc::Global;
 use std::path::PathBuf;
 use std::rt::Files;

@@ -5,7 +5,7 @@ ghost use Rattle.hwdb_spec.specs.System.{AreNamesIn, bytes_at};
 ghost use Rattle.hwdb_fs.specs.Refusals.{HasReason, IsUnlisted, IsUnread, IsUnreadable};
 
 use crate::refusals::Refusal;
-use hwdb_devices::Cause;
+use hwdb_io::Cause;
 use hwdb_replace::Store;
 use std::alloc::{AllocError, Global};
 

@@ -5,7 +5,11 @@ use Rattle.std.specs.Io.KnownBytes.{Consumes, IsAtEnd, Keeps, prepend_known}
 use Rattle.std.specs.List.{onto_first, position_or_len}
 use Rattle.hwdb_spec.specs.Lines.{has, is, pieces}
 use Rattle.hwdb_spec.specs.ManyDevices.{HasLongLine}
-use Rattle.hwdb_transfer.specs.declared.errors.ToolError.{ToolError}
+use Rattle.hwdb_io.specs.declared.errors.ReadError.{ReadError}
+use Rattle.hwdb_io.specs.declared.errors.ReadError.TheVariants as reading
+use Rattle.hwdb_print.specs.Refusals.{refusal_of_read}
+use Rattle.hwdb_print.specs.declared.errors.ToolError.{ToolError}
+use Rattle.hwdb_print.specs.declared.errors.ToolError.TheVariants.{TooLong}
 use Rattle.hwdb_print.specs.Internal.{IsRefilled, IsTaken}
 use Rattle.std.specs.Prelude.{Any, IsErrOf}
 use Rattle.std.specs.Result.{IsErrAnd}
@@ -272,8 +276,24 @@ last_taken a left left_now line own line_now own_now own_more is_whole more e n 
     let none = r.none n in
     ended_line a left_now line_now own_more (more_taken a left left_now line own line_now own_now own_more is_whole more e p t r) none.0 none.1 (free_taken line own line_now own_now is_whole e f t) some
 
-pub error_was : {X Y : Type 0} (r : Result X ToolError) (e w : ToolError) → IsErrAnd r (λ x. x ≡ e) → IsErrOf r w → IsErrOf {T = Y} (Err e) w
-error_was {X} r e w h p =
-    let P : Result X ToolError → Type 0 = λ q. IsErrAnd q (λ x. x ≡ e) in
+pub error_was : {X Y E : Type 0} (r : Result X E) (e w : E) → IsErrAnd r (λ x. x ≡ e) → IsErrOf r w → IsErrOf {T = Y} (Err e) w
+error_was {X} {E} r e w h p =
+    let P : Result X E → Type 0 = λ q. IsErrAnd q (λ x. x ≡ e) in
     let same : w ≡ e = subst P p h in
     ap Err (sym same)
+
+is_too_long : ToolError → Type 0
+is_too_long TooLong = Unit {0}
+is_too_long _ = ⊥
+
+only_long : {Y : Type 0} (q : ReadError) → TooLong ≡ refusal_of_read q → IsErrOf {T = Y} (Err q) reading.TooLong
+unfolding is_too_long
+only_long reading.Failed e = absurd (subst is_too_long e tt)
+only_long reading.TooLong e = refl
+only_long reading.Memory e = absurd (subst is_too_long e tt)
+
+-- a line that is too long is told so
+pub read_too_long : {X Y : Type 0} (r : Result X ToolError) (q : ReadError) → IsErrAnd r (λ x. x ≡ refusal_of_read q) → IsErrOf r TooLong → IsErrOf {T = Y} (Err q) reading.TooLong
+read_too_long {X} r q h p =
+    let P : Result X ToolError → Type 0 = λ o. IsErrAnd o (λ x. x ≡ refusal_of_read q) in
+    only_long q (subst P p h)

@@ -9,17 +9,17 @@ use Rattle.hwdb_spec.specs.Assignment.{Position, ascending, put}
 use Rattle.hwdb_spec.specs.Texts.{IsSpelling}
 use Rattle.hwdb_query.specs.declared.errors.PositionError.{PositionError}
 use Rattle.hwdb_query.specs.declared.errors.PositionError.TheVariants as positions
-use Rattle.hwdb_transfer.specs.declared.errors.ToolError.{ToolError}
-use Rattle.hwdb_transfer.specs.Refusals.{refusal_of_compile, refusal_of_position}
+use Rattle.hwdb_print.specs.declared.errors.ToolError.{ToolError}
+use Rattle.hwdb_print.specs.Refusals.{refusal_of_compile, refusal_of_position}
 use Rattle.hwdb_compile.specs.Views.{IsRefusal}
 use Rattle.hwdb_compile.specs.declared.errors.CompileError.{CompileError}
 use Rattle.hwdb_compile.specs.declared.errors.CompileError.TheVariants as compiling
 use Rattle.hwdb_print.specs.Lookups.{IsPositionRefusal, IsListRefusal}
-use Rattle.hwdb_transfer.specs.Databases.{IsDatabaseRefusal}
+use Rattle.hwdb_print.specs.Databases.{IsDatabaseRefusal}
 use Rattle.hwdb_print.specs.Updates.{IsAskRefusal, OnUnreplaced}
 use Rattle.hwdb_spec.specs.LoneFile.{lone}
 use Rattle.hwdb_replace.specs.declared.replacement.Unreplaced.{Unreplaced}
-use Rattle.hwdb_transfer.specs.declared.errors.ToolError.TheVariants.{Write, BadDatabase, Memory, Replace, TooLarge, TooManyLines}
+use Rattle.hwdb_print.specs.declared.errors.ToolError.TheVariants.{Write, BadDatabase, Memory, Replace, TooLarge, TooManyLines}
 use Rattle.hwdb_spec.specs.Tree.{Map}
 use Rattle.hwdb_spec.specs.Written.{IsDatabaseOf}
 

@@ -1,4 +1,6 @@
+pub mod Databases
 pub mod Lookups
+pub mod Refusals
 pub mod Updates
 pub mod JsonTokens
 pub mod JsonLaws

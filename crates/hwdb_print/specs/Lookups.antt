@@ -10,8 +10,8 @@ use Rattle.hwdb_spec.specs.Outputs.{Took}
 use Rattle.hwdb_spec.specs.Texts.{IsSpelling, hit_text, last_lines_text, within_limit}
 use Rattle.hwdb_spec.specs.Tree.{Tree, answers_after}
 use Rattle.hwdb_spec.specs.declared.DbFault.{DbFault}
-use Rattle.hwdb_transfer.specs.declared.errors.ToolError.TheVariants.{BadDatabase, BadPosition, Memory, Write}
-use Rattle.hwdb_transfer.specs.declared.errors.ToolError.{ToolError}
+use Rattle.hwdb_print.specs.declared.errors.ToolError.TheVariants.{BadDatabase, BadPosition, Memory, Write}
+use Rattle.hwdb_print.specs.declared.errors.ToolError.{ToolError}
 
 -- how many hits `list` holds at most
 abbrev pub list_page : ℕ

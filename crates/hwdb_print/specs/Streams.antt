@@ -7,8 +7,8 @@ use Rattle.hwdb_spec.specs.ManyDevices.{explained_lines_json, explained_texts, e
 use Rattle.hwdb_spec.specs.Texts.{devices_of, last_values_texts, queries_text}
 use Rattle.hwdb_spec.specs.Tree.{Tree}
 use Rattle.hwdb_spec.specs.Databases.{IsNoDatabase}
-use Rattle.hwdb_transfer.specs.declared.errors.ToolError.{ToolError}
-use Rattle.hwdb_transfer.specs.declared.errors.ToolError.TheVariants.{BadDatabase, Memory, Read, TooLong, TooManyLines, Write}
+use Rattle.hwdb_print.specs.declared.errors.ToolError.{ToolError}
+use Rattle.hwdb_print.specs.declared.errors.ToolError.TheVariants.{BadDatabase, Memory, Read, TooLong, TooManyLines, Write}
 use Rattle.hwdb_print.specs.declared.chunk.LineReader.{LineReader}
 use Rattle.hwdb_print.specs.declared.form.Form.{Form}
 use Rattle.hwdb_print.specs.declared.form.Form.TheVariants.{Explain, Query}
@@ -40,12 +40,6 @@ last_texts_of (Query false) = last_values_texts
 last_texts_of (Query true) = last_values_json
 last_texts_of (Explain false) = explained_texts
 last_texts_of (Explain true) = explained_lines_json
-
--- what handing on a part of a line may refuse
-abbrev pub IsTakeRefusal : ToolError → Type 0
-IsTakeRefusal TooLong = Unit {0}
-IsTakeRefusal Memory = Unit {0}
-IsTakeRefusal _ = ⊥
 
 -- what answering the devices of a text may refuse, once there is a database
 abbrev pub IsAnswerRefusal : ToolError → Type 0

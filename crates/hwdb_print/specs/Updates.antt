@@ -10,8 +10,8 @@ use Rattle.hwdb_spec.specs.Tree.{map_of_files}
 use Rattle.hwdb_spec.specs.Written.{IsTooLarge, IsWritten}
 use Rattle.hwdb_replace.specs.Views.{IsLeft, IsSeen}
 use Rattle.hwdb_replace.specs.declared.replacement.Unreplaced.{Unreplaced}
-use Rattle.hwdb_transfer.specs.declared.errors.ToolError.{ToolError}
-use Rattle.hwdb_transfer.specs.declared.errors.ToolError.TheVariants.{Memory, Replace, TooLarge, TooManyFiles, TooManyLines, Write}
+use Rattle.hwdb_print.specs.declared.errors.ToolError.{ToolError}
+use Rattle.hwdb_print.specs.declared.errors.ToolError.TheVariants.{Memory, Replace, TooLarge, TooManyFiles, TooManyLines, Write}
 use Rattle.hwdb_compile.specs.declared.errors.CompileError.TheVariants as compiling
 
 -- the database wasn't replaced; what was to be written is the written form of the files' map

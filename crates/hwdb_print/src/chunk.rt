@@ -1,7 +1,7 @@
 //! What a reader of lines holds.
 ghost use Rattle.std.specs.Prelude.{◌≤◌};
 
-use hwdb_transfer::CHUNK;
+use hwdb_io::CHUNK;
 
 /// Bytes of a source that were read, of which some were handed on as lines.
 #[derive(Drop)]

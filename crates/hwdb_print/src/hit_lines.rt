@@ -5,11 +5,11 @@ ghost use Rattle.hwdb_print.specs.Lookups.{IsPrintRefusal, TookLines, line_of, l
 ghost use Rattle.hwdb_query.specs.Views.{assignment_of_hit};
 ghost use Rattle.hwdb_spec.specs.Texts.{within_limit};
 
+use crate::errors::ToolError;
 use crate::json_lines::hit_json_line;
 use crate::texts::set_hit_line;
-use hwdb_devices::Sink;
+use hwdb_io::{Sink, write_text};
 use hwdb_query::{Cursor, Hit};
-use hwdb_transfer::{ToolError, write_text};
 use std::alloc::{AllocError, Global};
 
 /// Makes a text the line of a hit: with tabs between its parts, or as an object of JSON.
@@ -36,8 +36,7 @@ fn one_less(limit: Option<u64>) -> Option<u64>
     }
 }
 
-/// Prints a line for each of the first `limit` hits that the cursor has still to yield; it holds at most a page
-/// of 64.
+/// Prints a line for each of the first `limit` hits that the cursor has still to yield. It holds at most a page of 64.
 pub fn print_hits<O: Sink>(
     alloc: Global,
     hits: &mut Cursor<'_, '_>,

@@ -1,8 +1,9 @@
 //! What the commands print: texts and JSON of answers, made of the bytes of a database or of text files, and written to a
-//! [`Sink`](hwdb_devices::Sink) that may fail at any byte.
+//! [`Sink`](hwdb_io::Sink) that may fail at any byte.
 //!
 //! | Module | What it does |
 //! |---|---|
+//! | `errors` | why a call refuses: each error of the crates below is one of it |
 //! | `form` | what is printed of a device: its properties, or also where they come from; as text or as JSON |
 //! | `texts` | the lines that are printed |
 //! | `explanation` | the lines of `explain` |
@@ -23,6 +24,7 @@
 
 mod chunk;
 mod device_texts;
+mod errors;
 mod explanation;
 mod form;
 mod hit_lines;
@@ -39,6 +41,7 @@ mod texts;
 mod update;
 
 pub use chunk::LineReader;
+pub use errors::ToolError;
 pub use explanation::explanation_lines;
 pub use form::Form;
 pub use json_explanations::explanation_lines_json;

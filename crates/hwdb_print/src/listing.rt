@@ -1,4 +1,4 @@
-//! `list`: the hits that a database has for a device, one after another.
+//! `list`: the hits that a database has for a device.
 ghost use Rattle.std.specs.Prelude.{◌≡◌, ◌≢◌, ◌⊎◌, List, IfOk, IfErr, OnOk, IsErrOf, false, option_map};
 ghost use Rattle.hwdb_query.specs.Views.{next_position};
 ghost use Rattle.hwdb_spec.specs.Asked.{IsFrom, IsListFrom};
@@ -7,11 +7,11 @@ ghost use Rattle.hwdb_spec.specs.Outputs.{CutShortOne, TookOne};
 ghost use Rattle.hwdb_spec.specs.Written.{IsCompiled};
 ghost use Rattle.hwdb_print.specs.Lookups.{IsLastList, IsListBeginning, IsListRefusal, IsPositionRefusal};
 
+use crate::errors::ToolError;
 use crate::hit_lines::print_hits;
-use hwdb_devices::Sink;
+use hwdb_io::Sink;
 use hwdb_query::{Position, compiled_answers_are_last, paged_cursor};
 use hwdb_reader::check;
-use hwdb_transfer::ToolError;
 use std::alloc::Global;
 
 /// How many hits are held at most.

@@ -9,12 +9,12 @@ ghost use Rattle.hwdb_print.specs.Lookups.{IfWrite};
 ghost use Rattle.hwdb_print.specs.Updates.{IsAskRefusal};
 ghost use Rattle.hwdb_spec.specs.LoneFile.{lone, lone_choice};
 
+use crate::errors::ToolError;
 use crate::queries::properties_of;
 use crate::texts::fault_lines_at;
 use hwdb_compile::{ChosenFile, compile_chosen};
-use hwdb_devices::Sink;
+use hwdb_io::{MAX_BYTES, Sink, write_text};
 use hwdb_text::Chosen;
-use hwdb_transfer::{MAX_BYTES, ToolError, write_text};
 use std::alloc::{AllocError, Global};
 
 /// What one text file gives.
@@ -92,5 +92,6 @@ pub fn ask<O: Sink, E: Sink>(
 {
     let texts = ask_texts(alloc, file, bytes, device)?;
     write_text(err, &texts.faults)?;
-    write_text(out, &texts.properties)
+    write_text(out, &texts.properties)?;
+    Ok(())
 }

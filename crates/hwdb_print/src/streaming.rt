@@ -11,11 +11,11 @@ ghost use Rattle.hwdb_print.specs.Streams.{IsAnswerRefusal, IsStreamRefusal, IfB
 
 use crate::chunk::LineReader;
 use crate::device_texts::text_of_device;
+use crate::errors::ToolError;
 use crate::form::Form;
-use hwdb_devices::{Sink, Source};
+use hwdb_io::{MAX_BYTES, Sink, Source, write_text};
 use hwdb_query::compiled_answers_are_last;
 use hwdb_reader::{Db, check};
-use hwdb_transfer::{MAX_BYTES, ToolError, write_text};
 use std::alloc::Global;
 
 /// Answers each device that the input names. One line and one text are held at a time.
@@ -52,11 +52,11 @@ fn answer_lines<I: Source, O: Sink>(
     Err(ToolError::TooManyLines)
 }
 
-/// Checks the bytes, and then reads devices from `input`, one a line, and prints each to `out` as soon as its line is
-/// read: what [`answers`](crate::answers) answers of these devices. Memory doesn't grow with their number.
+/// Checks the bytes, and then reads devices from `input`, one a line. Each is printed to `out` as soon as its line is read:
+/// what [`answers`](crate::answers) answers of these devices. Memory doesn't grow with their number.
 ///
-/// Refuses bytes that are no database before anything is read; then a failed read, a failed write, a line of more bytes
-/// than `MAX_BYTES`, more lines than can be counted, and memory: what was printed is then a prefix of the whole.
+/// Bytes that are no database are an error before anything is read. Then these are: a failed read, a failed write, a line of
+/// more bytes than `MAX_BYTES`, more lines than can be counted, and memory. What was printed is then a prefix of the whole.
 pub fn run_stream<I: Source, O: Sink>(
     alloc: Global,
     bytes: &[u8],

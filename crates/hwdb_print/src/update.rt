@@ -9,21 +9,21 @@ ghost use Rattle.hwdb_replace.specs.Views.{IsLeft, IsSeen, failures_after};
 ghost use Rattle.hwdb_spec.specs.Done.{Updated, OldOrWritten};
 ghost use Rattle.hwdb_print.specs.Updates.{UpdateUndone, OnUnreplaced, IsPlaceRefusal, IsUpdateRefusal};
 
+use crate::errors::ToolError;
 use crate::texts::fault_lines;
 use hwdb_compile::{Compiled, FileFault, SourceFile, compile};
-use hwdb_devices::Sink;
+use hwdb_io::{Sink, write_text};
 use hwdb_replace::{Store, Unreplaced, replace};
-use hwdb_transfer::{ToolError, write_text};
 use std::alloc::{AllocError, Global};
 
-/// The status of an update: 1 where `strict` and there is a fault, else 0.
+/// The status of an update: 1 if `strict` and there is a fault, else 0.
 fn status_of(strict: bool, faults: &[FileFault]) -> u8
     ensures { result ≡ status_of strict (map fault_of faults.now) }
 {
     if strict && !faults.is_empty() { 1 } else { 0 }
 }
 
-/// A text, and behind it the lines of some faults.
+/// A text, and after it the lines of some faults.
 fn with_fault_lines(
     alloc: Global,
     progress: &[u8],
@@ -38,9 +38,9 @@ fn with_fault_lines(
     Ok(text)
 }
 
-/// Writes to `err` what is to be said of the work so far, and the fault lines of what was compiled; then puts its database
-/// in its place in a folder of the store. Returns the status: 1 where `strict` and there is a fault line, else 0. Nothing
-/// of the store changes before the text is whole.
+/// Writes to `err` what is to be said of the work so far, and the fault lines of what was compiled. Then it puts the database
+/// in its place in a folder of the store. Nothing of the store changes before the text is whole. Returns the status: 1 if
+/// `strict` and there is a fault line, else 0.
 pub fn put_in_place<S: Store, E: Sink>(
     alloc: Global,
     compiled: &Compiled,
@@ -86,12 +86,9 @@ pub fn put_in_place<S: Store, E: Sink>(
     Ok(status_of(strict, &compiled.faults))
 }
 
-/// Compiles the files of the folders in /etc and in /usr/lib, writes the fault lines to `err`, and replaces the database
-/// in a folder of the store. Returns the status: 1 where `strict` and there is a fault line, else 0. Nothing of the store
-/// changes before the fault lines are whole.
+/// Compiles the files of the folders in /etc and in /usr/lib, and then does with them what [`put_in_place`] does.
 ///
-/// This is the library's call, for who has the files' bytes. The program reads the files itself and calls
-/// [`put_in_place`].
+/// This is the library's call, for who has the files' bytes. The program reads the files itself.
 pub fn run_update<S: Store, E: Sink>(
     alloc: Global,
     etc: &[SourceFile],

@@ -1,7 +1,7 @@
 //! The calls of the commands without their clauses: a test compares what they did, and its proof is short where it has
 //! only plain values before it.
-use hwdb_devices::Sink;
-use hwdb_transfer::ToolError;
+use hwdb_io::Sink;
+use hwdb_print::ToolError;
 use std::alloc::Global;
 
 /// What `query` prints of a device.

@@ -1,9 +1,9 @@
 //! The line of each refusal.
-use hwdb_devices::Cause;
-use hwdb_devices::testing::MemorySink;
 use hwdb_fs::{Refusal, refuse_for};
+use hwdb_io::Cause;
+use hwdb_io::testing::MemorySink;
+use hwdb_print::ToolError;
 use hwdb_reader::DbFault;
-use hwdb_transfer::ToolError;
 use std::alloc::Global;
 use std::process::Abort;
 use std::test::Fail;

@@ -3,9 +3,9 @@ ghost use Rattle.std.specs.Prelude.{◌≡◌, true, Some, take};
 
 use crate::tests::calls::{ask, list, query};
 use crate::tests::compiling::compiled;
-use hwdb_devices::testing::MemorySink;
-use hwdb_devices::{Cause, DeviceFailed, Sink, ToWrite};
-use hwdb_transfer::{ToolError, write_text};
+use hwdb_io::testing::MemorySink;
+use hwdb_io::{Cause, DeviceFailed, Sink, ToWrite, write_text};
+use hwdb_print::ToolError;
 use std::alloc::Global;
 use std::io::{self, Write};
 use std::test::Fail;
@@ -84,7 +84,7 @@ impl Sink for FirstFlushFails {
 fn first_flush_fails(rt: HostRuntime) -> Result<(), Fail> {
     let alloc = rt.alloc();
     let mut out = FirstFlushFails::new();
-    assert_eq!(rt; write_text(&mut out, b"abcde"), Err(ToolError::Write));
+    assert_eq!(rt; write_text(&mut out, b"abcde"), Err(DeviceFailed));
     assert_eq!(rt; out.sink.taken(), b"abcde".as_slice());
     assert_eq!(rt; out.sink.flushed, false);
     assert_eq!(rt; write_text(&mut out, b""), Ok(()));
@@ -171,7 +171,7 @@ impl Write for UnflushedWriter {
 fn unflushed_writers(rt: HostRuntime) {
     for text in [b"".as_slice(), b"abcde".as_slice()] {
         let mut out = ToWrite::new(UnflushedWriter);
-        assert_eq!(rt; write_text(&mut out, text), Err(ToolError::Write));
+        assert_eq!(rt; write_text(&mut out, text), Err(DeviceFailed));
         assert_eq!(rt; out.failed, 1);
         assert_eq!(rt; out.cause, Some(Cause::System(28)));
     }

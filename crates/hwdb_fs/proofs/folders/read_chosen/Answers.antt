@@ -2,7 +2,7 @@ use Rattle.std.proofs.Common.{◌≡◌, ◌⊎◌, inr, map}
 use Rattle.hwdb_text.specs.Views.{choice_of}
 use Rattle.hwdb_fs.specs.Reading.{IsChosenUnread}
 use Rattle.hwdb_fs.specs.declared.refusals.Refusal.TheVariants.{Plain}
-use Rattle.hwdb_transfer.specs.declared.errors.ToolError.TheVariants.{Memory}
+use Rattle.hwdb_print.specs.declared.errors.ToolError.TheVariants.{Memory}
 use Rattle.hwdb_fs.proofs.SelectionLemmas.{chosen_unread, given_error}
 use Rattle.hwdb_fs.proofs.folders.read_chosen.Goals as goal
 

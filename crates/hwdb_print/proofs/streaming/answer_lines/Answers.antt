@@ -3,13 +3,13 @@ use Rattle.hwdb_spec.specs.Folders.{max_lines}
 use Rattle.hwdb_spec.specs.Texts.{max_file}
 use Rattle.hwdb_print.proofs.TextLemmas.{if_err_any}
 use Rattle.hwdb_print.specs.Internal.{answer_text}
-use Rattle.hwdb_print.proofs.LineLemmas.{error_was}
+use Rattle.hwdb_print.proofs.LineLemmas.{read_too_long}
 use Rattle.hwdb_print.proofs.StreamLemmas.{any_left, few_more, fewer_left, first_too_long, later_too_long, no_part, none_of, part_of_text, part_step, some_of, too_many, whole_end, whole_step}
 use Rattle.hwdb_print.proofs.streaming.answer_lines.Goals as goal
 
 pub returns-in_err-device-clause-too_long : goal.returns-in_err-device-clause-too_long
 returns-in_err-device-clause-too_long g c = λ is.
-    let long = c.in_err-device.ensures.too_long (error_was c.from_residual.result c.in_err-device.field-0.0 _ c.from_residual.ensures.1 is) in
+    let long = c.in_err-device.ensures.too_long (read_too_long c.from_residual.result c.in_err-device.field-0.0 c.from_residual.ensures.1 is) in
     c.answering.invariant.long (first_too_long _ max_file long)
 
 pub returns-in_err-device-clause-cut_short : goal.returns-in_err-device-clause-cut_short

@@ -1,7 +1,0 @@
--- The buffer keeps its length, and a read that was interrupted consumed nothing.
-use Rattle.std.proofs.Common.{◌≡◌, length}
-use Rattle.std.specs.Io.KnownBytes.{Keeps}
-use Rattle.hwdb_devices.proofs.adapters.read_on.Given as goal
-
-abbrev pub invariant-tries : goal.invariant-tries
-invariant-tries g l = (length l.buf ≡ length l.initial.buf) × Keeps (g.R.Read.remaining l.initial.reader) (g.R.Read.remaining l.reader)
