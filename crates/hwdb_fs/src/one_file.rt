@@ -3,7 +3,7 @@ ghost use Rattle.std.specs.Prelude.{false, true, Ok, None};
 ghost use Rattle.hwdb_fs.specs.Raw.{told_bytes};
 
 use crate::raw::{Kind, RawFiles, Unread};
-use hwdb_io::{MAX_BYTES, Cause};
+use hwdb_io::{Cause, MAX_BYTES};
 use std::alloc::Global;
 
 /// What is at each place: its kind, and its bytes. No folder is there.
