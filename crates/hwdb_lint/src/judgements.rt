@@ -24,6 +24,9 @@ pub fn judgement_of(alloc: Global, clean: &[u8]) -> Result<Judgement, AllocError
     if begins_with(b' ', clean) {
         return Ok(Judgement::Fine);
     }
+    if begins_with(b'\t', clean) {
+        return Ok(Judgement::Fine);
+    }
     if clean.len() > LONGEST_MATCH {
         return Ok(Judgement::Fine);
     }
@@ -37,8 +40,8 @@ pub fn judgement_text(judgement: Judgement) -> &'static str
 {
     match judgement {
         Judgement::Fine => "",
-        Judgement::UnknownPrefix => "no device string begins so",
-        Judgement::Dead(_) => "no device string is matched: none goes on here",
+        Judgement::UnknownPrefix => "no string that udev asks begins like this",
+        Judgement::Dead(_) => "no string that udev asks goes on like this",
     }
 }
 

@@ -80,9 +80,9 @@ pub fn push_runs(text: &mut Vec<u8>, runs: &[Run]) -> Result<(), AllocError>
     if runs.len() > 3 {
         return push_compare(text);
     }
-    text.extend_from_slice(b"here ")?;
+    text.extend_from_slice(b"put ")?;
     push_run(text, runs[0])?;
     push_more(text, &runs[1..])?;
-    text.extend_from_slice(b" can stand")?;
+    text.extend_from_slice(b" here")?;
     Ok(())
 }

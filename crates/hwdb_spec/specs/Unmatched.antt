@@ -7,10 +7,14 @@ use Rattle.hwdb_spec.specs.Reports.{shown_byte}
 use Rattle.hwdb_spec.specs.declared.Judgement.{Judgement}
 use Rattle.hwdb_spec.specs.declared.Judgement.TheVariants.{Dead, Fine, UnknownPrefix}
 
--- what is said of a clean text that is a pattern of at most 4,096 bytes; nothing of any other
+-- what is said of a clean text that is a pattern of at most 4,096 bytes; nothing of any other, nor of one that begins with a tab,
+-- since that is told
 unfoldable pub judgement_of : List ℕ → Judgement
 judgement_of text =
-    if is_none text then Fine else (if begins_with (byte " ") text then Fine else (if nat_lt max_pattern (length text) then Fine else judged asked text))
+    if is_none text then Fine else
+    (if begins_with (byte " ") text then Fine else
+    (if begins_with (byte "\t") text then Fine else
+    (if nat_lt max_pattern (length text) then Fine else judged asked text)))
 
 -- whether a pattern matches no text that udev asks
 abbrev pub is_unmatched : Judgement → Bool
@@ -21,8 +25,8 @@ is_unmatched (Dead place) = true
 -- what is printed of it
 abbrev pub judgement_text : Judgement → List ℕ
 judgement_text Fine = []
-judgement_text UnknownPrefix = codes "no device string begins so"
-judgement_text (Dead place) = codes "no device string is matched: none goes on here"
+judgement_text UnknownPrefix = codes "no string that udev asks begins like this"
+judgement_text (Dead place) = codes "no string that udev asks goes on like this"
 
 -- after how many bytes of its line it stands
 abbrev pub judgement_place : Judgement → ℕ
@@ -58,7 +62,7 @@ compare_hint = codes "compare it byte by byte with a string that udev asks, uppe
 abbrev pub runs_hint : List (ℕ × ℕ) → List ℕ
 runs_hint [] = compare_hint
 runs_hint (run ∷ more) =
-    if nat_lt 2 (length more) then compare_hint else codes "here " ++ (run_text run ++ (flat_map or_run more ++ codes " can stand"))
+    if nat_lt 2 (length more) then compare_hint else codes "put " ++ (run_text run ++ (flat_map or_run more ++ codes " here"))
 
 -- the bytes that could be after the front of a pattern
 unfoldable pub expected_after : List ℕ → List ℕ
