@@ -1,6 +1,5 @@
 pub mod FileLemmas
 pub mod LineLemmas
-pub mod ShownLemmas
 pub mod WarningLemmas
 pub mod SpacedLemmas
 pub mod RepeatLemmas

@@ -8,7 +8,6 @@
 //! | Module | What it does |
 //! |---|---|
 //! | `runs` | bytes as runs, as they are shown |
-//! | `shown` | lines as they are shown, and the mark below them |
 //! | `places` | the place of a fault in its line |
 //! | `reports` | the report of a fault |
 //! | `line_texts` | the text of a line, by its number |
@@ -34,10 +33,9 @@ mod repeats;
 mod replacements;
 mod reports;
 mod runs;
-mod shown;
 mod tallies;
 mod warnings;
 
 pub use files::{Checked, TextFile, check_files};
-pub use shown::push_shown;
+pub use hwdb_show::push_shown;
 pub use tallies::push_count;

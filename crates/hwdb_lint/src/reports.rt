@@ -4,7 +4,7 @@ ghost use Rattle.hwdb_spec.specs.Texts.{fault_line};
 ghost use Rattle.hwdb_spec.specs.Reports.{fault_hint, hint_line, report};
 
 use crate::places::fault_place;
-use crate::shown::{push_mark_line, push_shown_line};
+use hwdb_show::{push_mark_line, push_shown_line};
 use hwdb_spec::{Fault, FaultKind};
 use itoa::Buffer;
 use std::alloc::{AllocError, Global};

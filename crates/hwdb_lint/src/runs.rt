@@ -2,7 +2,7 @@
 ghost use Rattle.std.specs.Prelude.{◌≡◌, ◌++◌, ◌∷◌, [], List, ℕ, flat_map, IfOk, OnOk};
 ghost use Rattle.hwdb_spec.specs.Unmatched;
 
-use crate::shown::push_byte;
+use hwdb_show::push_byte;
 use std::alloc::{AllocError, Global};
 
 /// The first byte of a run, and its last one.

@@ -13,7 +13,7 @@ use crate::line_warnings::{Read, closed, is_warned};
 use crate::misuses::{misuse_in, push_misuse_line};
 use crate::places::indent_of;
 use crate::reports::push_hint_line;
-use crate::shown::{push_mark_line, push_shown_line};
+use hwdb_show::{push_mark_line, push_shown_line};
 use hwdb_pattern::{open_place, range_place};
 use hwdb_properties::misuse_text;
 use hwdb_spec::{Misuse, WarningKind};

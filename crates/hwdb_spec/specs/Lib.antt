@@ -40,3 +40,4 @@ pub mod Asked
 pub mod Library
 pub mod Hiding
 pub mod Done
+pub mod Near

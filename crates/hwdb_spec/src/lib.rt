@@ -46,6 +46,7 @@
 //! | `Library` | what the C library is told |
 //! | `Hiding` | what `update --usr --verbose` says where /etc's database hides the new one |
 //! | `Done` | what `update` and `ask` leave, and what a crash leaves during an update |
+//! | `Near` | the pattern that almost matched a device, and where it stopped |
 //!
 //! The types below are those that the definitions name.
 #![tactic(auto)]

@@ -1,6 +1,0 @@
-use Rattle.std.proofs.Common.{◌≡◌, ◌++◌, take}
-use Rattle.hwdb_spec.specs.Reports.{spaces}
-use Rattle.hwdb_lint.proofs.shown.push_spaces.Given as goal
-
-abbrev pub invariant-loop-byte : goal.invariant-loop-byte
-invariant-loop-byte l = l.text.items ≡ l.fn.text.items ++ spaces (take l._byte-index l.other)

@@ -1,0 +1,12 @@
+use Rattle.std.proofs.Common.{◌≡◌, ◌≤◌, take, map, length}
+use Rattle.hwdb_spec.specs.Near.{matching, nearest}
+use Rattle.hwdb_near.specs.Views.{pattern_at}
+use Rattle.hwdb_near.specs.Internal.Ratings.{rated_of}
+use Rattle.hwdb_near.proofs.nearest.nearest_of.Given as goal
+
+abbrev pub invariant-loop-at : goal.invariant-loop-at
+invariant-loop-at l = record {
+  matching : map pattern_at l.found.matching.items ≡ matching l.fn.device (map pattern_at (take l.at-index l.patterns));
+  nearest : map rated_of l.found.nearest.items ≡ nearest l.fn.device l.limit (map pattern_at (take l.at-index l.patterns));
+  within : length l.found.nearest.items ≤ l.limit;
+}

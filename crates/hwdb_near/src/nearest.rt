@@ -1,0 +1,97 @@
+//! Those of some patterns that match a device, and the nearest of those that don't.
+ghost use Rattle.std.specs.Prelude.{◌≡◌, ◌≤◌, ◌++◌, ◌∷◌, [], length, map, reverse, take, IfOk, OnOk};
+ghost use Rattle.hwdb_spec.specs.Assignment.{put_all};
+ghost use Rattle.hwdb_spec.specs.Near;
+ghost use Rattle.hwdb_spec.specs.Near.{matching, near_cmp, nearest};
+ghost use Rattle.hwdb_near.specs.Views.{pattern_at};
+ghost use Rattle.hwdb_near.specs.Internal.Ratings.{misses, rated_of};
+
+use crate::kept::{PatternAt, Rated, keep};
+use crate::rating::{fold_case, rate};
+use hwdb_pattern::{glob, matches_is_tested};
+use std::alloc::{AllocError, Global};
+
+/// A device's text, as patterns are compared with it.
+#[derive(Clone, Copy)]
+struct Device<'d> {
+    /// As it is.
+    text: &'d [u8],
+    /// In lower case.
+    folded: &'d [u8],
+    /// In lower case, from the right.
+    reversed: &'d [u8],
+}
+
+/// What was found.
+#[derive(Drop)]
+pub(crate) struct Found<'a> {
+    /// The patterns that match.
+    pub(crate) matching: Vec<PatternAt<'a>>,
+    /// The nearest that don't.
+    pub(crate) nearest: Vec<Rated<'a>>,
+}
+
+impl<'a> Found<'a> {
+    /// Takes one more pattern. The only error, here and below, is `AllocError`.
+    fn put(
+        &mut self,
+        alloc: Global,
+        at: PatternAt<'a>,
+        device: Device<'_>,
+        limit: usize,
+    ) -> Result<(), AllocError>
+        requires folded { device.folded.now ≡ Near.folded device.text.now }
+        requires reversed { device.reversed.now ≡ reverse device.folded.now }
+        requires within { length self.old.nearest.items ≤ limit }
+        ensures matching { OnOk result (map pattern_at self.new.matching.items
+            ≡ map pattern_at self.old.matching.items
+            ++ matching device.entry.text.now (pattern_at at.entry ∷ [])) }
+        ensures nearest { OnOk result (map rated_of self.new.nearest.items
+            ≡ take limit (put_all near_cmp (misses device.entry.text.now (pattern_at at.entry ∷ []))
+            (map rated_of self.old.nearest.items))) }
+        ensures within { length self.new.nearest.items ≤ limit }
+    {
+        matches_is_tested();
+        if glob(at.pattern, device.text) {
+            self.matching.push(at)?;
+            return Ok(());
+        }
+        let near = rate(alloc, at.pattern, device.folded, device.reversed)?;
+        let rated = Rated {
+            missing: near.missing,
+            front: near.front,
+            at,
+        };
+        keep(&mut self.nearest, limit, rated)
+    }
+}
+
+/// Those of the patterns that match the device, and at most so many of those that don't: the nearest.
+pub(crate) fn nearest_of<'a>(
+    alloc: Global,
+    patterns: &[PatternAt<'a>],
+    device: &[u8],
+    limit: usize,
+) -> Result<Found<'a>, AllocError>
+    ensures matching { IfOk result (λ f. map pattern_at f.matching.items
+        ≡ matching device.now (map pattern_at patterns.now)) }
+    ensures nearest { IfOk result (λ f. map rated_of f.nearest.items
+        ≡ nearest device.now limit (map pattern_at patterns.now)) }
+{
+    let folded = fold_case(alloc, device)?;
+    let mut reversed = fold_case(alloc, device)?;
+    reversed.reverse();
+    let device = Device {
+        text: device,
+        folded: &folded,
+        reversed: &reversed,
+    };
+    let mut found = Found {
+        matching: Vec::new(alloc),
+        nearest: Vec::new(alloc),
+    };
+    for at in patterns {
+        found.put(alloc, *at, device, limit)?;
+    }
+    Ok(found)
+}
