@@ -72,18 +72,18 @@ tokens_computed tested ts device f s =
     last_is (λ k. meets_front (take k ts) device) (length ts) f.tokens s.met.tokens
     (λ some. some_is (λ n. matches (take f.tokens ts) (take n device)) (length device) f.bytes s.met.bytes ((tested (take f.tokens ts) (take f.bytes device)).1 s.met.matched))
     (λ k up le. not_true (meets_front (take k ts) device) (λ h. (
-      let r : Some (λ n. matches (take k ts) (take n device)) (length device) = some_of (λ n. matches (take k ts) (take n device)) (length device) h in
-      let bound = s.longest (record { tokens = k; bytes = r.at }) (record { tokens = le; bytes = r.within; matched = (tested (take k ts) (take r.at device)).0 r.passes }) in
-      absurd (omega (arith, bound, up)))))
+    let r : Some (λ n. matches (take k ts) (take n device)) (length device) = some_of (λ n. matches (take k ts) (take n device)) (length device) h in
+    let bound = s.longest (record { tokens = k; bytes = r.at }) (record { tokens = le; bytes = r.within; matched = (tested (take k ts) (take r.at device)).0 r.passes }) in
+    absurd (omega (arith, bound, up)))))
 
 bytes_computed : IsTested → (ts : List Token) (device : List ℕ) (f : Front) → Stops ts device f → first_up_to (λ n. matches (take f.tokens ts) (take n device)) (length device) ≡ f.bytes
 bytes_computed tested ts device f s =
     first_is (λ n. matches (take f.tokens ts) (take n device)) (length device) f.bytes s.met.bytes
     ((tested (take f.tokens ts) (take f.bytes device)).1 s.met.matched)
     (λ n below. not_true (matches (take f.tokens ts) (take n device)) (λ h. (
-      let within = s.met.bytes in
-      let bound = s.least (record { tokens = f.tokens; bytes = n }) (record { tokens = s.met.tokens; bytes = omega (arith, below, within); matched = (tested (take f.tokens ts) (take n device)).0 h }) refl in
-      absurd (omega (arith, bound, below)))))
+    let within = s.met.bytes in
+    let bound = s.least (record { tokens = f.tokens; bytes = n }) (record { tokens = s.met.tokens; bytes = omega (arith, below, within); matched = (tested (take f.tokens ts) (take n device)).0 h }) refl in
+    absurd (omega (arith, bound, below)))))
 
 pub stop_computed : IsTested → (ts : List Token) (device : List ℕ) (f : Front) → Stops ts device f → f ≡ stop_of ts device
 stop_computed tested ts device f s =

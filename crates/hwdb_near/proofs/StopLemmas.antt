@@ -27,8 +27,8 @@ first_reached ts device =
     record {
       met = record { tokens = run_short ts device; bytes = run_within ts device; matched = run_met ts device };
       least = λ n m. (
-        let size : length (take n device) ≡ n = length-take-le n device m.bytes in
-        least_by n (subst (λ (l : List ℕ). RunsOrStar ts j (take n device) l) (take-append-drop n device) (runs_or_star ts j (take n device) (drop n device) m.tokens m.matched)) size);
+          let size : length (take n device) ≡ n = length-take-le n device m.bytes in
+          least_by n (subst (λ (l : List ℕ). RunsOrStar ts j (take n device) l) (take-append-drop n device) (runs_or_star ts j (take n device) (drop n device) m.tokens m.matched)) size);
       longest = λ s other m.
           longest_by other.tokens s (take other.bytes device)
           (subst (λ (l : List ℕ). RunsOrStar ts other.tokens (take other.bytes device) l) (take-append-drop other.bytes device) (runs_or_star ts other.tokens (take other.bytes device) (drop other.bytes device) m.tokens m.matched));
@@ -37,6 +37,7 @@ first_reached ts device =
     least_by : (n : ℕ) → RunsOrStar ts (run ts device) (take n device) device → length (take n device) ≡ n → run ts device ≤ n
     least_by n (inl h) size = omega (arith, h.1, size)
     least_by n (inr h) size = absurd (omega (arith, h.1))
+
     longest_by : (k : ℕ) → star_at ts (run ts device) ≡ false → (piece : List ℕ) → RunsOrStar ts k piece device → k ≤ run ts device
     longest_by k s piece (inl h) = h.0
     longest_by k s piece (inr h) = absurd (let e : true ≡ false = sym h.0 ∙ s in cc)
@@ -170,13 +171,14 @@ star_reached ts device i m p j w n reached s best w_is n_is =
           let b : Begun ts device i m j x = begun ts device i m j x w reached s w_is meets in
           let le = run_not_before more rest p j b.after x m b.piece best b.runs b.place in omega (arith, le, n_is);
       longest = λ none other meets. (
-        let no_star : star_at more j ≡ false = sym (star_after ts i w j w_is) ∙ none in
-        longest_by no_star other meets (cases_lt i other.tokens));
+          let no_star : star_at more j ≡ false = sym (star_after ts i w j w_is) ∙ none in
+          longest_by no_star other meets (cases_lt i other.tokens));
     }
   where
     three_takes : (m p j : ℕ) (device : List ℕ) → take (m + p + j) device ≡ take m device ++ (take p (drop m device) ++ take j (drop p (drop m device)))
     three_takes m p j device =
         ap (λ (x : ℕ). take x device) (omega arith) ∙ take-add m (p + j) device ∙ ap (λ (l : List ℕ). take m device ++ l) (take-add p j (drop m device))
+
     longest_by : star_at (drop (suc i) ts) j ≡ false → (other : Front) → Meets ts device other → (i < other.tokens) ⊎ (other.tokens ≤ i) → other.tokens ≤ w
     longest_by none other meets (inr l) = omega (arith, l, w_is)
     longest_by none other meets (inl l) =

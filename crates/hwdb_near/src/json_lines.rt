@@ -8,7 +8,7 @@ ghost use Rattle.hwdb_near.specs.Internal.Ratings.{rated_of};
 
 use crate::fronts::stops;
 use crate::kept::{PatternAt, Rated};
-use hwdb_show::{ended, put_flag, put_member, put_count};
+use hwdb_show::{ended, put_count, put_flag, put_member};
 use json::Writer;
 use std::alloc::{AllocError, Global};
 

@@ -3,10 +3,9 @@ ghost use Rattle.std.specs.Prelude.{◌≡◌, map, IfOk};
 ghost use Rattle.hwdb_spec.specs.Near;
 ghost use Rattle.hwdb_near.specs.Views.{pattern_at};
 
-use crate::json_lines;
 use crate::kept::PatternAt;
 use crate::nearest::nearest_of;
-use crate::reports;
+use crate::{json_lines, reports};
 use std::alloc::{AllocError, Global};
 
 /// The reports of the patterns that match the device, and of at most so many of those that don't: the nearest.

@@ -133,12 +133,7 @@ fn push_said_line(text: &mut Vec<u8>, at: &PatternAt<'_>, said: &[u8]) -> Result
 }
 
 /// Adds a line as it is shown, and the mark below its byte after so many others.
-fn push_marked(
-    alloc: Global,
-    text: &mut Vec<u8>,
-    line: &[u8],
-    at: usize,
-) -> Result<(), AllocError>
+fn push_marked(alloc: Global, text: &mut Vec<u8>, line: &[u8], at: usize) -> Result<(), AllocError>
     ensures { OnOk result (text.new.items ≡ text.old.items ++ marked line.now at) }
 {
     push_shown_line(text, line)?;

@@ -29,7 +29,10 @@ pub(crate) fn run(tokens: &[&[u8]], device: &[u8]) -> usize
     ensures short { result ≤ length tokens.now }
 {
     let mut taken = 0;
-    while taken < tokens.len() && taken < device.len() && begins_with(tokens[taken], device[taken]) {
+    while taken < tokens.len()
+        && taken < device.len()
+        && begins_with(tokens[taken], device[taken])
+    {
         taken += 1;
     }
     taken
