@@ -25,6 +25,7 @@ pub mod Databases
 pub mod Failures
 pub mod Outputs
 pub mod Store
+pub mod Runs
 pub mod Crashes
 pub mod System
 pub mod Given

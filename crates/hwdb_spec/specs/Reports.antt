@@ -1,6 +1,6 @@
 -- What `check` prints of the faults of text files: for each where it stands, its line, the place in that line, and what to do
 -- about it. Our choice.
-use Rattle.std.specs.Prelude.{Bool, true, false, ℕ, List, [], ◌∷◌, ◌++◌, ◌+◌, ◌-◌, ◌^◌, ◌==◌, if◌then◌else◌, codes, flat_map, length, map, nat_lt, take}
+use Rattle.std.specs.Prelude.{ℕ, List, [], ◌∷◌, ◌++◌, ◌==◌, if◌then◌else◌, codes, flat_map, length, map, nat_lt, take}
 use Rattle.std.specs.List.{position_or_len, prefix_len}
 use Rattle.hex.specs.Hex.{encode_lower}
 use Rattle.hwdb_spec.specs.Lines.{Line, byte, is, is_indent, lines, max_pattern}

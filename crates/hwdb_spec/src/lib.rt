@@ -32,10 +32,11 @@
 //! | `Failures` | how failed calls are counted |
 //! | `Outputs` | what commands write: how the bytes that a sink tells grow |
 //! | `Store` | a store of files, what a crash may leave, and a database that is replaced |
+//! | `Runs` | what a run sees and leaves: files, and devices that tell of their bytes; and texts that both outputs took |
 //! | `Crashes` | what a crash may leave of files, call by call |
 //! | `System` | a file system as the program sees it: text files of folders, and the database that is asked |
 //! | `Given` | what the words' paths and devices stand for, `-` too |
-//! | `CheckedFiles` | which text files `check` reads, and what it leaves |
+//! | `CheckedFiles` | which text files `check` reads, and what it prints |
 //! | `LeftOut` | text files that can't be read, and that an update leaves out |
 //! | `Asked` | the database that a command asks for, and what is printed of it |
 //! | `Library` | what the C library is told |

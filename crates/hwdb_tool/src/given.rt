@@ -1,5 +1,5 @@
 //! The files that words name: `-` is standard input, which is read once.
-ghost use Rattle.std.specs.Prelude.{◌≡◌, ◌≢◌, ◌⊎◌, Some, true, false, codes, map, string_bytes, IfOk, IfErr, IfSome};
+ghost use Rattle.std.specs.Prelude.{◌≡◌, ◌⊎◌, Some, true, false, codes, map, string_bytes, IfOk, IfErr, IfSome};
 ghost use Rattle.hwdb_spec.specs.Given.{IsGiven, is_dash, any_dash};
 ghost use Rattle.hwdb_fs.specs.Refusals.{HasReason, IsUnread, IsUnreadable};
 ghost use Rattle.hwdb_tool.specs.Internal.{bytes_given};
@@ -49,7 +49,6 @@ fn read_input<I: Source>(alloc: Global, input: &mut I) -> Result<Vec<u8>, Refusa
     ensures refused { IfErr result (IsUnread (codes "standard input")) }
     ensures reason { IfErr result (λ r. (r ≡ Plain ToolError.Memory)
         ⊎ IsInputUnread (I.failures input.old) (I.failures input.new) r) }
-    ensures unread { IfErr result (λ r. r ≢ Plain ToolError.Write) }
 {
     match read_all(alloc, input, MAX_BYTES) {
         Ok(text) => Ok(text),
@@ -72,7 +71,6 @@ pub fn read<D: System, I: Source>(
         (IsUnreadable (D.System.may_fail system.now) (D.Store.seen system.now)) ⊥
         (D.Store.seen system.now) r ⊎ ((is_dash path.now ≡ true)
         × IsInputUnread (I.failures input.old) (I.failures input.new) r)) }
-    ensures unread { IfErr result (λ r. r ≢ Plain ToolError.Write) }
 {
     if is_dash(path) {
         read_input(alloc, input)
@@ -94,7 +92,6 @@ pub fn input_text<I: Source>(
     ensures reason { IfErr result (λ r. (r ≡ Plain ToolError.Memory)
         ⊎ ((any_dash (map string_bytes given.now) ≡ true)
         × IsInputUnread (I.failures input.old) (I.failures input.new) r)) }
-    ensures unread { IfErr result (λ r. r ≢ Plain ToolError.Write) }
 {
     if any_dash(given) {
         read_input(alloc, input)
@@ -116,7 +113,6 @@ pub fn bytes_given<D: System>(
     ensures reason { IfErr result (HasReason
         (IsUnreadable (D.System.may_fail system.now) (D.Store.seen system.now)) ⊥
         (D.Store.seen system.now)) }
-    ensures unread { IfErr result (λ r. r ≢ Plain ToolError.Write) }
 {
     if is_dash(path) {
         Ok(text.to_vec(alloc)?)
