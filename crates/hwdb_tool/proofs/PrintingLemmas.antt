@@ -20,7 +20,7 @@ use Rattle.hwdb_tool.specs.Queries.{AreDone, AreDoneFrom}
 use Rattle.hwdb_tool.specs.Undone.{IsUnprinted}
 use Rattle.hwdb_tool.specs.Views.{IsNotPrinted, texts_in}
 use Rattle.hwdb_tool.specs.declared.answer.Answer.{Answer}
-use Rattle.hwdb_transfer.specs.declared.errors.ToolError.TheVariants.{Read, Write, TooLong, TooManyFiles, TooManyLines, TooLarge, BadPosition, BadDatabase, Replace, Memory}
+use Rattle.hwdb_print.specs.declared.errors.ToolError.TheVariants.{Read, Write, TooLong, TooManyFiles, TooManyLines, TooLarge, BadPosition, BadDatabase, Replace, Memory}
 
 -- a sink that wasn't used took nothing
 nothing : (bytes : Option (List ℕ)) → Appends bytes bytes []

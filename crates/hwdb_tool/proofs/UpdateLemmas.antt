@@ -10,8 +10,8 @@ use Rattle.hwdb_replace.specs.declared.replacement.Unreplaced.{Unreplaced}
 use Rattle.hwdb_compile.specs.declared.sources.ChosenFile.{ChosenFile}
 use Rattle.hwdb_compile.specs.Views.{ForFolders}
 use Rattle.hwdb_print.specs.Updates.{IsUpdateRefusal, OnUnreplaced, UpdateUndone}
-use Rattle.hwdb_transfer.specs.declared.errors.ToolError.{ToolError}
-use Rattle.hwdb_transfer.specs.declared.errors.ToolError.TheVariants.{Read, Write, TooLong, TooManyFiles, TooManyLines, TooLarge, BadPosition, BadDatabase, Replace, Memory}
+use Rattle.hwdb_print.specs.declared.errors.ToolError.{ToolError}
+use Rattle.hwdb_print.specs.declared.errors.ToolError.TheVariants.{Read, Write, TooLong, TooManyFiles, TooManyLines, TooLarge, BadPosition, BadDatabase, Replace, Memory}
 use Rattle.hwdb_tool.specs.Internal.{AreReadOf}
 use Rattle.hwdb_fs.specs.Refusals.{HasReason, IsOfUpdate}
 use Rattle.hwdb_tool.specs.Undone.{IsSelectedRefused}

@@ -10,7 +10,7 @@ use Rattle.hwdb_spec.specs.Texts.{max_file}
 use Rattle.hwdb_fs.specs.Refusals.{IsAt, IsUnread}
 use Rattle.hwdb_fs.specs.declared.refusals.Refusal.{Refusal}
 use Rattle.hwdb_fs.specs.declared.refusals.Refusal.TheVariants.{Plain}
-use Rattle.hwdb_transfer.specs.declared.errors.ToolError.TheVariants.{BadDatabase, Memory as OutOfMemory}
+use Rattle.hwdb_print.specs.declared.errors.ToolError.TheVariants.{BadDatabase, Memory as OutOfMemory}
 
 -- the refusal of such an error: a fault of a database with its path
 abbrev pub IsOfDiff : DiffError → (old_path new_path : List ℕ) → Refusal → Type 0

@@ -15,7 +15,7 @@ use Rattle.hwdb_fs.specs.Refusals.{IsAt, IsInWords, IsUnread}
 use Rattle.hwdb_fs.specs.declared.refusals.Refusal.{Refusal}
 use Rattle.hwdb_fs.specs.declared.refusals.Refusal.TheVariants.{Plain}
 use Rattle.hwdb_tool.specs.Undone.{IsUnfound}
-use Rattle.hwdb_transfer.specs.declared.errors.ToolError.TheVariants.{BadDatabase, Memory as OutOfMemory}
+use Rattle.hwdb_print.specs.declared.errors.ToolError.TheVariants.{BadDatabase, Memory as OutOfMemory}
 
 -- what reading it may refuse
 abbrev pub IsUnnamed : (given : Option (List ℕ)) (root : List ℕ) → Contents → Refusal → Type 0

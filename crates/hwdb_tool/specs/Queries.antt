@@ -18,8 +18,8 @@ use Rattle.hwdb_fs.specs.Refusals.{IsAt, IsOfDatabase}
 use Rattle.hwdb_fs.specs.declared.refusals.Refusal.{Refusal}
 use Rattle.hwdb_fs.specs.declared.refusals.Refusal.TheVariants.{At, Plain}
 use Rattle.hwdb_tool.specs.Undone.{IsUnanswered, IsUnfound, IsUnprinted}
-use Rattle.hwdb_transfer.specs.declared.errors.ToolError.{ToolError}
-use Rattle.hwdb_transfer.specs.declared.errors.ToolError.TheVariants.{Read, TooLong, TooManyLines, Write}
+use Rattle.hwdb_print.specs.declared.errors.ToolError.{ToolError}
+use Rattle.hwdb_print.specs.declared.errors.ToolError.TheVariants.{Read, TooLong, TooManyLines, Write}
 
 -- the text is what the database gives these devices, or, if the input tells its bytes, those that it names
 abbrev pub AreAnsweredFrom : (from_input : Bool) (root : List ℕ) (form : Form) (devices : List (List ℕ)) (input : Option (List ℕ)) → Contents → (text : List ℕ) → Type 0

@@ -13,7 +13,7 @@ use Rattle.hwdb_spec.specs.Store.{Contents}
 use Rattle.hwdb_spec.specs.System.{database_folder}
 use Rattle.hwdb_spec.specs.Outputs.{Texts}
 use Rattle.hwdb_print.specs.declared.form.Form.TheVariants as form
-use Rattle.hwdb_transfer.specs.declared.errors.ToolError.TheVariants.{Memory, Write}
+use Rattle.hwdb_print.specs.declared.errors.ToolError.TheVariants.{Memory, Write}
 use Rattle.hwdb_spec.specs.CheckedFiles.{AreCheckedFiles}
 use Rattle.hwdb_tool.specs.ComparedDatabases.{IsDiffRefused}
 use Rattle.hwdb_tool.specs.NamedDatabases.{IsDumpRefused, IsVerifyRefused}

@@ -19,10 +19,10 @@ use Rattle.hwdb_fs.specs.Refusals.{IsOfDatabase, IsOver, IsUnread, IsUnreadable}
 use Rattle.hwdb_fs.specs.declared.refusals.Refusal.{Refusal}
 use Rattle.hwdb_fs.specs.declared.refusals.Refusal.TheVariants.{NoDatabase, Plain}
 use Rattle.hwdb_text.specs.declared.outcome.ScanError.{ScanError}
-use Rattle.hwdb_transfer.specs.Databases.{IsDatabaseRefusal}
-use Rattle.hwdb_transfer.specs.Refusals.{refusal_of_scan}
-use Rattle.hwdb_transfer.specs.declared.errors.ToolError.{ToolError}
-use Rattle.hwdb_transfer.specs.declared.errors.ToolError.TheVariants.{Memory, Write}
+use Rattle.hwdb_print.specs.Databases.{IsDatabaseRefusal}
+use Rattle.hwdb_print.specs.Refusals.{refusal_of_scan}
+use Rattle.hwdb_print.specs.declared.errors.ToolError.{ToolError}
+use Rattle.hwdb_print.specs.declared.errors.ToolError.TheVariants.{Memory, Write}
 
 -- what finding that database may refuse: there is none, or it can't be read
 abbrev pub IsUnfound : (root : List ℕ) → Contents → Refusal → Type 0

@@ -17,8 +17,8 @@ use crate::databases::asked;
 use crate::given::{is_dash, read};
 use crate::input_devices::answer_input;
 use crate::printing::printed;
-use hwdb_devices::{Sink, Source};
 use hwdb_fs::{Refusal, System};
+use hwdb_io::{Sink, Source};
 use hwdb_print::{Form, answer, ask_texts, print_list};
 use std::alloc::Global;
 

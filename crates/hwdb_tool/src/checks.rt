@@ -15,11 +15,11 @@ ghost use Rattle.hwdb_tool.specs.Views.{texts_in};
 
 use crate::answer::Answer;
 use crate::given::{bytes_given, input_text};
-use hwdb_devices::Source;
 use hwdb_fs::{Refusal, System, selected};
+use hwdb_io::Source;
 use hwdb_lint::{TextFile, check_files};
+use hwdb_print::ToolError;
 use hwdb_text::Chosen;
-use hwdb_transfer::ToolError;
 use std::alloc::{AllocError, Global};
 
 /// What is wrong in the given text files, of which `-` is what `input` has left, or if none is given in those of both

@@ -9,7 +9,7 @@ ghost use Rattle.hwdb_tool.specs.Views.{texts_in};
 use crate::answer::Answer;
 use hwdb_fs::{Refusal, System};
 use hwdb_inspect::DiffError;
-use hwdb_transfer::ToolError;
+use hwdb_print::ToolError;
 use std::alloc::Global;
 
 /// What changed from the database at one path to that at another: a line for each pattern and key for which the two

@@ -20,9 +20,9 @@ use crate::printing::printed;
 use crate::queries::query;
 use crate::verification::verify;
 use hwdb_cli::{Job, Task, WordsFault, read_words};
-use hwdb_devices::{Sink, Source};
 use hwdb_fs::{Refusal, Rooted, System, refuse_for, refuse_memory};
-use hwdb_transfer::{ToolError, write_text};
+use hwdb_io::{Sink, Source, write_text};
+use hwdb_print::ToolError;
 use std::alloc::Global;
 
 /// Does what the words say, the first of which is the program's name, and returns the status: 0; 1 where `check` or

@@ -12,7 +12,7 @@ use crate::databases::named;
 use hwdb_fs::{Refusal, System};
 use hwdb_inspect::DumpError;
 use hwdb_lint::push_shown;
-use hwdb_transfer::ToolError;
+use hwdb_print::ToolError;
 use std::alloc::{AllocError, Global};
 
 /// The database at the path, or if none is given the one that is asked, as a text file. Refuses bytes that are no

@@ -7,9 +7,9 @@ ghost use Rattle.hwdb_tool.specs.Queries.{IsInputUnread, IsOfWholeInput};
 ghost use Rattle.hwdb_tool.specs.Undone.{IsGivenUnread, told_path};
 ghost use Rattle.hwdb_fs.specs.declared.refusals.Refusal.TheVariants.{Plain};
 
-use hwdb_devices::{Cause, Source};
 use hwdb_fs::{Refusal, System};
-use hwdb_transfer::{MAX_BYTES, ToolError, read_all};
+use hwdb_io::{Cause, MAX_BYTES, Source, read_all};
+use hwdb_print::ToolError;
 use std::alloc::Global;
 
 /// Whether a word stands for standard input.
@@ -52,7 +52,10 @@ fn read_input<I: Source>(alloc: Global, input: &mut I) -> Result<Vec<u8>, Refusa
 {
     match read_all(alloc, input, MAX_BYTES) {
         Ok(text) => Ok(text),
-        Err(error) => Err(refusal_of(alloc, error, input.cause())),
+        Err(error) => {
+            let error = ToolError::from(error);
+            Err(refusal_of(alloc, error, input.cause()))
+        }
     }
 }
 

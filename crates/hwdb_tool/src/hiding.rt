@@ -13,8 +13,8 @@ ghost use Rattle.hwdb_spec.specs.Asked.{database_path};
 use crate::databases::database_folder;
 use crate::printing::say;
 use crate::updates::update;
-use hwdb_devices::Sink;
 use hwdb_fs::{Refusal, System, path_in};
+use hwdb_io::Sink;
 use hwdb_replace::DATABASE;
 use std::alloc::{AllocError, Global};
 

@@ -10,10 +10,9 @@ ghost use Rattle.hwdb_spec.specs.Asked.{IsAnswered};
 ghost use Rattle.hwdb_tool.specs.Queries.{IsInputUnread, IsOfInput, IsStreamRefused};
 
 use crate::databases::asked;
-use hwdb_devices::{Cause, Sink, Source};
 use hwdb_fs::{Refusal, System};
-use hwdb_print::{Form, run_stream};
-use hwdb_transfer::ToolError;
+use hwdb_io::{Cause, Sink, Source};
+use hwdb_print::{Form, ToolError, run_stream};
 use std::alloc::Global;
 
 /// Prints what the database below the root gives each device that `input` names, one a line.

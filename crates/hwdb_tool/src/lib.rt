@@ -21,7 +21,7 @@
 //! | `crash` | what a crash, a start and a query make of a run |
 //! | `failures` | what failed calls and faulty words leave undone |
 //!
-//! What the tasks ask of a file system is in `hwdb_fs`, what they print in `hwdb_print`, and their devices are in `hwdb_devices`; the
+//! What the tasks ask of a file system is in `hwdb_fs`, what they print in `hwdb_print`, and their devices are in `hwdb_io`; the
 //! calls of these are here too.
 #![tactic(auto)]
 
@@ -57,10 +57,11 @@ pub use dumps::dump;
 pub use failures::{counts_tell_failures, faulty_update_leaves_all};
 pub use hiding::update_telling;
 pub use hwdb_cli::{Job, Task, WordsFault, read_words};
-pub use hwdb_devices::{Cause, DeviceFailed, FromRead, Sink, Source, ToWrite, testing};
 pub use hwdb_fs::{Refusal, System, SystemStore};
-pub use hwdb_print::{ask, run_list, run_query, run_update};
-pub use hwdb_transfer::{ToolError, read_all, write_text};
+pub use hwdb_io::{
+    Cause, DeviceFailed, FromRead, Sink, Source, ToWrite, read_all, testing, write_text,
+};
+pub use hwdb_print::{ToolError, ask, run_list, run_query, run_update};
 pub use laws::update_then_query;
 pub use one_outcome::{answers_are_one, jobs_are_one, listings_give_one_reading, tasks_are_one};
 pub use outlet::Outlet;

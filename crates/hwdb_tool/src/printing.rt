@@ -5,9 +5,9 @@ ghost use Rattle.hwdb_tool.specs.Views.{IsNotPrinted, IsPrintedWith, texts_in};
 ghost use Rattle.hwdb_fs.specs.declared.refusals.Refusal.TheVariants.{Plain};
 
 use crate::answer::Answer;
-use hwdb_devices::Sink;
 use hwdb_fs::Refusal;
-use hwdb_transfer::{ToolError, write_text};
+use hwdb_io::{Sink, write_text};
+use hwdb_print::ToolError;
 
 /// Writes a text, if there is something to say.
 pub fn say<E: Sink>(text: &[u8], err: &mut E) -> Result<(), Refusal>

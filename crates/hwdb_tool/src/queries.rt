@@ -14,8 +14,8 @@ use crate::answer::Answer;
 use crate::databases::asked;
 use crate::input_devices::answer_input;
 use crate::printing::printed;
-use hwdb_devices::{Sink, Source};
 use hwdb_fs::{Refusal, System};
+use hwdb_io::{Sink, Source};
 use hwdb_print::{Form, answers};
 use std::alloc::Global;
 

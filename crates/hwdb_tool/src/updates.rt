@@ -21,11 +21,10 @@ use crate::databases::database_folder;
 use crate::printing::say;
 use crate::progress::progress;
 use hwdb_compile::{ChosenFile, compile_chosen};
-use hwdb_devices::Sink;
 use hwdb_fs::{Refusal, Selection, System, path_in, selected_readable, with_texts};
-use hwdb_print::put_in_place;
+use hwdb_io::{MAX_BYTES, Sink};
+use hwdb_print::{ToolError, put_in_place};
 use hwdb_replace::{DATABASE, Store, Unreplaced};
-use hwdb_transfer::{MAX_BYTES, ToolError};
 use std::alloc::Global;
 
 /// Compiles chosen files, says of them what is to be said, and puts their database in its place in a folder of the

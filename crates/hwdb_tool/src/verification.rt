@@ -14,8 +14,8 @@ use crate::databases::named;
 use crate::verdicts::verdict;
 use hwdb_fs::{Refusal, System};
 use hwdb_inspect::VerifyError;
+use hwdb_print::ToolError;
 use hwdb_reader::DbFault;
-use hwdb_transfer::ToolError;
 use std::alloc::Global;
 
 /// How much is in the database at the path, or if none is given in the one that is asked. Refuses bytes that are none, and

@@ -3,7 +3,7 @@ use Rattle.std.specs.Io.KnownBytes.{Appends}
 use Rattle.hwdb_spec.specs.Progress.{given_where, update_text}
 use Rattle.hwdb_text.specs.Views.{choice_of}
 use Rattle.hwdb_compile.specs.Views.{ForFolders}
-use Rattle.hwdb_transfer.specs.declared.errors.ToolError.TheVariants.{Memory}
+use Rattle.hwdb_print.specs.declared.errors.ToolError.TheVariants.{Memory}
 use Rattle.hwdb_spec.specs.Runs.{WasCut, files_by, told_by}
 use Rattle.hwdb_print.specs.Updates.{OnUnreplaced, UpdateUndone}
 use Rattle.hwdb_spec.specs.Store.{InPlace, database_name, path_in}
