@@ -25,6 +25,7 @@ optional pieces = pieces ∷ [] ∷ []
 abbrev pub dmi_field : ByteSet → List ℕ → List (List Piece)
 dmi_field set name = optional (fixed name ∷ repeated set ∷ fixed (codes ":") ∷ [])
 
+-- all fields of a machine's name, in their order
 abbrev pub dmi_fields : ByteSet → List (List (List Piece))
 dmi_fields set =
     dmi_field set (codes "bvn") ∷ dmi_field set (codes "bvr") ∷ dmi_field set (codes "bd") ∷ dmi_field set (codes "br")
@@ -94,6 +95,7 @@ evdev_input = record { prefix = codes "evdev:"; fields = always input_pieces ∷
 abbrev pub evdev_machine : Form
 evdev_machine = record { prefix = codes "evdev:"; fields = always (fixed (codes "atkbd:dmi:") ∷ []) ∷ dmi_fields DmiLeft }
 
+-- 60-evdev.rules: a keyboard of the machine, whose MODALIAS isn't known
 abbrev pub evdev_keyboard : Form
 evdev_keyboard = record { prefix = codes "evdev:"; fields = always (fixed (codes "atkbd:") ∷ []) ∷ [] }
 
@@ -103,12 +105,14 @@ evdev_named =
     name_field (codes "name:") (codes ":")
     ∷ optional (fixed (codes "phys:") ∷ repeated Left ∷ fixed (codes ":ev:") ∷ repeated HexOrBlank ∷ fixed (codes ":") ∷ []) ∷ []
 
+-- 60-evdev.rules: an input device by its name, with the machine's MODALIAS
 abbrev pub evdev_name_machine : Form
 evdev_name_machine = record {
   prefix = codes "evdev:";
   fields = evdev_named ++ always (fixed (codes "dmi:") ∷ []) ∷ dmi_fields DmiLeft;
 }
 
+-- 60-evdev.rules: an input device by its name alone
 abbrev pub evdev_name : Form
 evdev_name = record { prefix = codes "evdev:"; fields = evdev_named }
 
@@ -120,6 +124,7 @@ on_bus = always (repeated Name ∷ fixed (codes ":") ∷ []) ∷ always (pair Lo
 abbrev pub id_input : Form
 id_input = record { prefix = codes "id-input:"; fields = always (fixed (codes "modalias:") ∷ input_pieces) ∷ [] }
 
+-- 60-input-id.rules: an input device by its name
 abbrev pub id_input_name : Form
 id_input_name = record { prefix = codes "id-input:"; fields = on_bus }
 
@@ -135,6 +140,7 @@ mouse = record {
 abbrev pub touchpad : Form
 touchpad = record { prefix = codes "touchpad:"; fields = on_bus }
 
+-- 70-joystick.rules
 abbrev pub joystick : Form
 joystick = record { prefix = codes "joystick:"; fields = on_bus }
 
@@ -152,12 +158,14 @@ sensed =
     ∷ always (fixed (codes "modalias:") ∷ repeated LeftButColon ∷ fixed (codes ":") ∷ [])
     ∷ optional (repeated Left ∷ fixed (codes ":") ∷ []) ∷ []
 
+-- 60-sensor.rules: a sensor, with the machine's MODALIAS
 abbrev pub sensor_machine : Form
 sensor_machine = record {
   prefix = codes "sensor:";
   fields = sensed ++ always (fixed (codes "dmi:") ∷ []) ∷ dmi_fields DmiLeft;
 }
 
+-- 60-sensor.rules: a sensor alone
 abbrev pub sensor : Form
 sensor = record { prefix = codes "sensor:"; fields = sensed }
 
@@ -165,12 +173,14 @@ sensor = record { prefix = codes "sensor:"; fields = sensed }
 abbrev pub two_names : List (List (List Piece))
 two_names = always (repeated LeftButColon ∷ fixed (codes ":") ∷ repeated Left ∷ fixed (codes ":") ∷ []) ∷ []
 
+-- 60-upower-battery.rules: a battery, with the machine's MODALIAS
 abbrev pub battery_machine : Form
 battery_machine = record {
   prefix = codes "battery:";
   fields = two_names ++ always (fixed (codes "dmi:") ∷ []) ∷ dmi_fields DmiLeft;
 }
 
+-- 60-upower-battery.rules: a battery alone
 abbrev pub battery : Form
 battery = record { prefix = codes "battery:"; fields = two_names }
 
@@ -246,6 +256,7 @@ block = record {
 abbrev pub free : List ℕ → Form
 free prefix = record { prefix = prefix; fields = always (repeated Any ∷ []) ∷ [] }
 
+-- a form, and a text that has it
 abbrev pub known_with : Form → List ℕ → Known
 known_with form example = record { form = form; example = example }
 

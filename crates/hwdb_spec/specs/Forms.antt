@@ -114,11 +114,12 @@ meets (literal own) set = is_in set own
 meets (bracket found) set =
     list_any (λ b. if is_in set b then admits_byte (bracket found) b else false) (candidates set)
 
--- the first cell of a row, and the others
+-- the first cell of a row
 abbrev pub head : List Bool → Bool
 head [] = false
 head (b ∷ rest) = b
 
+-- the cells after the first one
 abbrev pub tail : List Bool → List Bool
 tail [] = []
 tail (b ∷ rest) = rest
@@ -207,6 +208,7 @@ unfoldable pub front_from : List Form → List Token → (n : ℕ) → ℕ
 front_from forms ts zero = 0
 front_from forms ts (suc n) = if can_begin forms (take (suc n) ts) then suc n else front_from forms ts n
 
+-- how many of a pattern's tokens, at most, a text of one of the forms begins with
 abbrev pub front_length : List Form → List Token → ℕ
 front_length forms ts = front_from forms ts (length ts)
 

@@ -201,7 +201,7 @@ is_prefixed_key text =
 abbrev pub is_key : List ℕ → Bool
 is_key text = if is_number text then true else (if is_key_name text then true else is_prefixed_key text)
 
--- one of the words that stand in a form with `|` between
+-- one of the words that a form has, with a bar between each two
 abbrev pub is_choice : (form text : List ℕ) → Bool
 is_choice form text = list_any (same text) (pieces (is (byte "|")) form)
 

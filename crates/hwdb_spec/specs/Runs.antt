@@ -22,13 +22,15 @@ pub record World : Type 1 where
   pub out : Told
   pub err : Told
 
--- the same, by what tells each
+-- a device, by what tells its bytes and its count of failures
 abbrev pub told_by : {X : Type 0} (bytes : X → Option (List ℕ)) (failures : X → ℕ) → X → Told
 told_by bytes failures x = record { bytes = bytes x; failures = failures x }
 
+-- a store of files, by what tells each part of it
 abbrev pub files_by : {D : Type 0} (seen : D → Contents) (fails : D → List ℕ → Type 0) (left : D → Outcomes) (failures : D → ℕ) → D → Files
 files_by seen fails left failures d = record { seen = seen d; fails = fails d; left = left d; failures = failures d }
 
+-- what a run sees or leaves, by what tells each of its files and devices
 abbrev pub world_by : {D I O E : Type 0} (files : D → Files) (input : I → Told) (out : O → Told) (err : E → Told) → D → I → O → E → World
 world_by files input out err d i o e = record { files = files d; input = input i; out = out o; err = err e }
 

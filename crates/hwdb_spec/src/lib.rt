@@ -38,6 +38,7 @@
 //! | `Store` | a store of files, what a crash may leave, and a database that is replaced |
 //! | `Runs` | what a run sees and leaves: files, and devices that tell of their bytes; and texts that both outputs took |
 //! | `Crashes` | what a crash may leave of files, call by call |
+//! | `Sharing` | several updates at once: what others may do between two calls of one, and what that may leave |
 //! | `System` | a file system as the program sees it: text files of folders, and the database that is asked |
 //! | `Given` | what the words' paths and devices stand for, `-` too |
 //! | `CheckedFiles` | which text files `check` reads, and what it prints |
