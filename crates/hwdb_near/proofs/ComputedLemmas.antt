@@ -1,9 +1,9 @@
 -- Where tokens stop is computed by `stop_of`.
-use Rattle.std.proofs.Common.{◌≡◌, ◌∙◌, ap, sym, refl, subst, ℕ, zero, suc, ◌+◌, ◌≤◌, ◌<◌, Bool, true, false, List, take, length, arith, cond, IsTrue, ◌↔◌, ◌⊎◌, inl, inr}
+use Rattle.std.proofs.Common.{◌≡◌, ◌∙◌, ap, sym, refl, ℕ, zero, suc, ◌+◌, ◌≤◌, ◌<◌, Bool, true, false, List, take, length, arith, cond, IsTrue, ◌↔◌, ◌⊎◌, inl, inr}
 use Rattle.std.proofs.lemmas.Bool.{cases_eq}
 use Rattle.hwdb_spec.specs.Patterns.{Token, Matches, matches}
 use Rattle.hwdb_spec.specs.Tree.{some_up_to}
-use Rattle.hwdb_spec.specs.Near.{Front, Meets, Stops, last_up_to, first_up_to, meets_front, front_tokens, front_bytes, stop_of}
+use Rattle.hwdb_spec.specs.Near.{Front, Stops, last_up_to, first_up_to, meets_front, front_tokens, front_bytes, stop_of}
 
 some_here : (test : ℕ → Bool) (n : ℕ) → test n ≡ true → some_up_to test n ≡ true
 unfolding some_up_to

@@ -5,3 +5,4 @@ pub mod ComputedLemmas
 pub mod NearestLemmas
 pub mod LineLemmas
 pub mod JsonLemmas
+pub mod ReportLemmas

@@ -8,7 +8,7 @@ use Rattle.hwdb_near.specs.Internal.Listed.{token_of}
 use Rattle.hwdb_near.specs.Internal.Listed.{Listed}
 use Rattle.hwdb_near.specs.Internal.Runs.{run, star_at, IsBest, IsBestBefore, IsReached}
 use Rattle.hwdb_near.proofs.StopLemmas.{star_reached}
-use Rattle.hwdb_near.proofs.RunLemmas.{run_nothing, run_short, run_before_star}
+use Rattle.hwdb_near.proofs.RunLemmas.{run_nothing, run_short}
 
 pub run_ended : (ts : List Listed) (device : List ℕ) (i : ℕ) → (length ts ≤ i) ⊎ (length device ≤ i) → run (map token_of (drop i ts)) (drop i device) ≡ 0
 unfolding run

@@ -1,11 +1,11 @@
 -- The nearest patterns, kept one after another.
-use Rattle.std.proofs.Common.{◌≡◌, ◌∙◌, ap, sym, refl, subst, ℕ, zero, suc, ◌+◌, ◌-◌, ◌≤◌, ◌<◌, Bool, true, false, List, [], ◌∷◌, ◌++◌, take, drop, length, map, filter, not, reverse, get_or, arith, append_assoc, cond, IsTrue, ◌↔◌}
+use Rattle.std.proofs.Common.{◌≡◌, ◌∙◌, ap, sym, refl, ℕ, zero, suc, ◌+◌, ◌-◌, ◌≤◌, ◌<◌, Bool, true, false, List, [], ◌∷◌, ◌++◌, take, drop, length, map, filter, not, reverse, get_or, arith, append_assoc, cond, IsTrue, ◌↔◌}
 use mathlib.Core.List.{reverse_aux}
 use Rattle.std.specs.declared.cmp.Ordering.{Ordering}
 use Rattle.std.specs.declared.cmp.Ordering.TheVariants.{Less, Equal, Greater}
 use Rattle.std.specs.Ordering.{match_ordering}
-use Rattle.std.proofs.lemmas.List.{append-nil, drop_more, drop_all, take_all, take_more, take_at, take-append-drop, reverse-append, length-reverse, length-drop, length-map, take-map, drop-map, get_or-map, map-append}
-use Rattle.hwdb_spec.specs.Assignment.{put, put_all, in_order}
+use Rattle.std.proofs.lemmas.List.{drop_more, drop_all, take_all, take_more, take_at, take-append-drop, reverse-append, length-reverse, length-drop, length-map, take-map, drop-map, get_or-map}
+use Rattle.hwdb_spec.specs.Assignment.{put, put_all}
 use Rattle.hwdb_spec.specs.Patterns.{Token, Matches, matches, tokens}
 use Rattle.hwdb_spec.specs.Near.{PatternAt, Rated, folded, hits, literals, matching, missing, front_tokens, near_cmp, nearest, rated, unmet}
 use Rattle.hwdb_near.specs.Internal.Listed.{token_of}

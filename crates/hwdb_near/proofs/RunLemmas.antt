@@ -1,5 +1,5 @@
 -- Runs of tokens along a device.
-use Rattle.std.proofs.Common.{◌≡◌, ◌∙◌, ap, sym, refl, subst, ℕ, zero, suc, ◌+◌, ◌-◌, ◌≤◌, ◌<◌, Bool, true, false, IsTrue, List, [], ◌∷◌, ◌++◌, take, drop, length, cond, arith, append_assoc, ◌⊎◌, inl, inr}
+use Rattle.std.proofs.Common.{◌≡◌, ◌∙◌, ap, sym, refl, subst, ℕ, zero, suc, ◌≤◌, ◌<◌, Bool, true, false, List, [], ◌∷◌, ◌++◌, take, length, cond, arith, append_assoc, ◌⊎◌, inl, inr}
 use Rattle.hwdb_spec.specs.Patterns.{Token, star, one, bracket, literal, admits_byte, Admits, Matches}
 use Rattle.hwdb_spec.specs.Forms.{is_star}
 use Rattle.hwdb_near.specs.Internal.Runs.{run, star_at}

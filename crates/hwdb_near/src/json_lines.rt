@@ -30,7 +30,7 @@ fn put_place(
     ensures before { json.new.before ≡ json.old.before }
     ensures tokens { OnOk result (json.new.tokens ≡ json.old.tokens ++ json_tokens
         (place_json device.now (pattern_at at.now)
-        reach.entry.pattern reach.entry.device reach.entry.matches)) }
+        reach.pattern reach.device reach.matches)) }
 {
     json.begin_object()?;
     put_member(json, "path", at.path)?;
@@ -51,7 +51,7 @@ fn place_line(
     reach: Reach,
 ) -> Result<Vec<u8>, AllocError>
     ensures { IfOk result (λ line. line.items ≡ json_line (place_json device.now
-        (pattern_at at.now) reach.entry.pattern reach.entry.device reach.entry.matches)) }
+        (pattern_at at.now) reach.pattern reach.device reach.matches)) }
 {
     let mut json = Writer::new(Vec::new(alloc));
     put_place(&mut json, device, at, reach)?;

@@ -1,5 +1,5 @@
 -- Our own words: how far tokens go along a device without a star.
-use Rattle.std.specs.Prelude.{Bool, false, true, ℕ, zero, suc, List, [], ◌∷◌, ◌+◌, ◌≤◌, ◌<◌, ◌≡◌, cond, drop, length}
+use Rattle.std.specs.Prelude.{Bool, false, ℕ, zero, suc, List, [], ◌∷◌, ◌≤◌, ◌<◌, ◌≡◌, cond, drop, length}
 use Rattle.hwdb_spec.specs.Patterns.{Token, admits_byte}
 use Rattle.hwdb_spec.specs.Forms.{is_star}
 use Rattle.hwdb_spec.specs.Near.{Front, Meets}

@@ -1,4 +1,4 @@
-use Rattle.std.proofs.Common.{◌∙◌, sym, arith}
+use Rattle.std.proofs.Common.{arith}
 use Rattle.hwdb_near.specs.Internal.Ratings.{rated_of}
 use Rattle.hwdb_near.proofs.NearestLemmas.{put_less, put_same, put_more, put_last}
 use Rattle.hwdb_near.proofs.kept.place_in.Goals as goal

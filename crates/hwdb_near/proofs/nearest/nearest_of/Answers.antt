@@ -1,8 +1,6 @@
-use Rattle.std.proofs.Common.{◌∙◌, ◌≡◌, ◌∷◌, [], ap, arith, length, map, sym, reverse, take, List}
+use Rattle.std.proofs.Common.{◌∙◌, ap, arith, length, map, sym, reverse, take}
 use Rattle.std.proofs.lemmas.List.{map_more}
-use Rattle.hwdb_spec.specs.Near.{PatternAt, matching, nearest}
-use Rattle.hwdb_near.specs.declared.kept.Rated.{Rated}
-use Rattle.hwdb_near.specs.declared.kept.PatternAt.{PatternAt as Listed}
+use Rattle.hwdb_spec.specs.Near.{matching, nearest}
 use Rattle.hwdb_near.specs.Views.{pattern_at}
 use Rattle.hwdb_near.specs.Internal.Ratings.{rated_of}
 use Rattle.hwdb_near.proofs.NearestLemmas.{nearest_none, nearest_more, matching_more}

@@ -1,4 +1,4 @@
-use Rattle.std.proofs.Common.{◌∙◌, ◌≡◌, ◌-◌, ap, length, map, reverse, take, List, ℕ}
+use Rattle.std.proofs.Common.{◌∙◌, ◌-◌, ap, length, map, reverse, take, List, ℕ}
 use Rattle.std.proofs.lemmas.List.{take_rest, length-reverse}
 use Rattle.hwdb_spec.specs.Near.{Front, literals}
 use Rattle.hwdb_near.specs.Internal.Listed.{token_of}

@@ -1,4 +1,4 @@
-use Rattle.std.proofs.Common.{map, inl, inr}
+use Rattle.std.proofs.Common.{map, inl}
 use Rattle.hwdb_near.specs.Internal.Listed.{token_of}
 use Rattle.hwdb_near.proofs.ListedLemmas.{best_of_all}
 use Rattle.hwdb_near.proofs.runs.best_run.Goals as goal

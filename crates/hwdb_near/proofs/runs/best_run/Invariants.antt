@@ -1,6 +1,6 @@
-use Rattle.std.proofs.Common.{◌≡◌, ◌≤◌, ◌<◌, ◌+◌, ◌-◌, map, drop, length, ℕ}
+use Rattle.std.proofs.Common.{◌≤◌, ◌+◌, ◌-◌, map, length}
 use Rattle.hwdb_near.specs.Internal.Listed.{token_of}
-use Rattle.hwdb_near.specs.Internal.Runs.{run, IsBestBefore}
+use Rattle.hwdb_near.specs.Internal.Runs.{IsBestBefore}
 use Rattle.hwdb_near.proofs.runs.best_run.Given as goal
 
 abbrev pub invariant-loop-at : goal.invariant-loop-at

@@ -1,6 +1,4 @@
-use Rattle.std.proofs.Common.{◌∙◌, sym, arith, inl, inr, ◌≡◌, ◌+◌, map, drop}
-use Rattle.hwdb_near.specs.Internal.Listed.{token_of}
-use Rattle.hwdb_near.specs.Internal.Runs.{run}
+use Rattle.std.proofs.Common.{arith, inl, inr}
 use Rattle.hwdb_near.proofs.ListedLemmas.{run_goes, run_stops, run_ended}
 use Rattle.hwdb_near.proofs.runs.run.Goals as goal
 

@@ -1,4 +1,4 @@
-use Rattle.std.proofs.Common.{◌∙◌, le-ltb, arith}
+use Rattle.std.proofs.Common.{◌∙◌, le-ltb}
 use Rattle.hwdb_near.proofs.ListedLemmas.{star_at_is, star_at_past}
 use Rattle.hwdb_near.proofs.runs.star_at.Goals as goal
 
