@@ -126,6 +126,7 @@ check-survivors:
 	tests/proofs/caught $(EDITS)
 
 check-peer: $(PROGRAM) out/libhwdb.so.0
+	tests/proofs/key-names
 	tests/peer/peer out/hwdb
 	tests/peer/users out/hwdb
 	tests/peer/clients out/hwdb

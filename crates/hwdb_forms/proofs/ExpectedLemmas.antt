@@ -1,5 +1,5 @@
 -- The loop over all bytes.
-use Rattle.std.proofs.Common.{◌≡◌, ℕ, ◌+◌, Bool, true, false, List, [], ◌∷◌, ◌++◌, refl, sym, ap, ◌∙◌, append_assoc, suc, zero}
+use Rattle.std.proofs.Common.{◌≡◌, ℕ, Bool, true, false, List, [], ◌∷◌, ◌++◌, refl, sym, ap, ◌∙◌, append_assoc, suc}
 use Rattle.std.specs.Prelude.{filter}
 use Rattle.hwdb_spec.specs.Forms.{all_bytes_from}
 

@@ -8,3 +8,4 @@ pub mod AnswerLemmas
 pub mod ExampleLemmas
 pub mod FrontLemmas
 pub mod ExpectedLemmas
+pub mod LikeLemmas

@@ -4,11 +4,9 @@ ghost use Rattle.hwdb_spec.specs.Patterns.{tokens};
 ghost use Rattle.hwdb_spec.specs.Forms;
 ghost use Rattle.hwdb_spec.specs.FormTable.{asked};
 
-use std::alloc::{AllocError, Global};
-
-use hwdb_pattern::token_texts;
-
 use crate::judging::can_begin;
+use hwdb_pattern::token_texts;
+use std::alloc::{AllocError, Global};
 
 /// Whether a text that udev asks begins with what the beginning of a pattern and the byte after it match.
 fn begins(alloc: Global, front: &[u8], byte: u8) -> Result<bool, AllocError>
@@ -39,8 +37,14 @@ fn is_expected(alloc: Global, front: &[u8], byte: u8) -> Result<bool, AllocError
 }
 
 /// Adds the byte if it may be written there.
-fn put_expected(alloc: Global, front: &[u8], byte: u8, bytes: &mut Vec<u8>) -> Result<(), AllocError>
-    ensures { IfOk result (λ done. bytes.new.items ≡ bytes.old.items ++ filter (Forms.is_expected asked front.now) (byte ∷ [])) }
+fn put_expected(
+    alloc: Global,
+    front: &[u8],
+    byte: u8,
+    bytes: &mut Vec<u8>,
+) -> Result<(), AllocError>
+    ensures { IfOk result (λ done. bytes.new.items
+        ≡ bytes.old.items ++ filter (Forms.is_expected asked front.now) (byte ∷ [])) }
 {
     if is_expected(alloc, front, byte)? {
         bytes.push(byte)?;
@@ -48,7 +52,7 @@ fn put_expected(alloc: Global, front: &[u8], byte: u8, bytes: &mut Vec<u8>) -> R
     Ok(())
 }
 
-/// The bytes that may be written behind the beginning of a pattern, so that a text that udev asks begins with what it matches. Wildcards
+/// The bytes that may be written after the beginning of a pattern: some text that udev asks begins with what both match. Wildcards
 /// aren't among them.
 ///
 /// The only error is that memory is refused.

@@ -15,7 +15,8 @@ use std::alloc::{AllocError, Global};
 
 /// Whether the tokens match a text of one of these forms.
 fn match_one(alloc: Global, forms: &[Form], tokens: &[&[u8]]) -> Result<bool, AllocError>
-    ensures { IfOk result (λ met. met ≡ Forms.can_match (map form_of forms.now) (views tokens.now)) }
+    ensures { IfOk result (λ met. met
+        ≡ Forms.can_match (map form_of forms.now) (views tokens.now)) }
 {
     for form in forms {
         if meets_form(alloc, *form, tokens)? {
@@ -31,7 +32,9 @@ fn match_free(
     prefixes: &[&'static [u8]],
     tokens: &[&[u8]],
 ) -> Result<bool, AllocError>
-    ensures { IfOk result (λ met. met ≡ Forms.can_match (map (λ prefix. FormTable.free prefix.now) prefixes.now) (views tokens.now)) }
+    ensures { IfOk result (λ met. met
+        ≡ Forms.can_match (map (λ prefix. FormTable.free prefix.now) prefixes.now)
+        (views tokens.now)) }
 {
     for prefix in prefixes {
         if meets_form(alloc, free(prefix), tokens)? {
@@ -87,8 +90,9 @@ fn ends_prefix(byte: u8) -> bool
 }
 
 /// How many bytes the pattern's prefix takes, its colon too; 0 if it has none.
-fn prefix_size(pattern: &[u8]) -> usize
-    ensures { result ≡ Forms.prefix_size pattern.now }
+pub(crate) fn prefix_size(pattern: &[u8]) -> usize
+    ensures size { result ≡ Forms.prefix_size pattern.now }
+    ensures within { result ≤ length pattern.now }
 {
     let mut at = 0;
     while at < pattern.len() && !ends_prefix(pattern[at]) {
@@ -118,7 +122,8 @@ fn is_unknown(alloc: Global, pattern: &[u8], tokens: &[&[u8]]) -> Result<bool, A
 ///
 /// The only error is that memory is refused.
 pub fn judge(alloc: Global, pattern: &[u8]) -> Result<Judgement, AllocError>
-    ensures fine { IfOk result (λ told. (told ≡ Judgement.Fine) ↔ CanMatch FormTable.asked (tokens_of pattern.now)) }
+    ensures fine { IfOk result (λ told. (told ≡ Judgement.Fine)
+        ↔ CanMatch FormTable.asked (tokens_of pattern.now)) }
     ensures told { IfOk result (λ told. told ≡ judged FormTable.asked pattern.now) }
 {
     let tokens = token_texts(alloc, pattern)?;

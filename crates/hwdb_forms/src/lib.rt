@@ -16,6 +16,7 @@
 //! | `rows` | the rows of a form |
 //! | `judging` | what is said of a pattern |
 //! | `expecting` | what can be written at a place of a pattern |
+//! | `likeness` | which prefix was meant by one that nobody asks |
 //! | `laws` | what is proved of the definitions alone |
 #![tactic(auto)]
 
@@ -23,6 +24,7 @@ mod expecting;
 mod judging;
 mod laws;
 mod leads;
+mod likeness;
 mod pieces;
 mod rows;
 mod sets;
@@ -31,3 +33,4 @@ mod table;
 pub use expecting::expected;
 pub use judging::judge;
 pub use laws::{examples_fit, forms_are_tested, fronts_are_longest, fronts_are_tested};
+pub use likeness::likely_prefix;

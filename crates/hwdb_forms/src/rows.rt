@@ -36,7 +36,8 @@ fn both(left: bool, other: bool) -> bool
 /// this row. What the token takes is asked last: most cells don't need it.
 fn byte_cell(set: ByteSet, token: &[u8], here: bool, behind: bool, next: bool) -> bool
     ensures { result
-        ≡ Forms.byte_cell (is_star (token_at token.now)) (Forms.meets (token_at token.now) set) here behind next }
+        ≡ Forms.byte_cell (is_star (token_at token.now)) (Forms.meets (token_at token.now) set)
+        here behind next }
 {
     if begins_star(token) {
         return either(next, here);
@@ -49,7 +50,9 @@ fn byte_cell(set: ByteSet, token: &[u8], here: bool, behind: bool, next: bool) -
 
 /// The cell of any number of bytes.
 fn many_cell(set: ByteSet, token: &[u8], here: bool, next: bool) -> bool
-    ensures { result ≡ Forms.many_cell (is_star (token_at token.now)) (Forms.meets (token_at token.now) set) here next }
+    ensures { result
+        ≡ Forms.many_cell (is_star (token_at token.now)) (Forms.meets
+        (token_at token.now) set) here next }
 {
     if begins_star(token) {
         return either(here, next);
@@ -143,7 +146,8 @@ fn counted_row(set: ByteSet, count: usize, tokens: &[&[u8]], rows: Rows) -> Rows
 fn piece_row(piece: Piece, tokens: &[&[u8]], rows: Rows) -> Rows
     requires row { length rows.row.items ≡ length tokens.now + 1 }
     requires room { length rows.room.items ≡ length tokens.now + 1 }
-    ensures row { result.row.items ≡ Forms.piece_row (piece_of piece) (views tokens.now) rows.row.items }
+    ensures row { result.row.items
+        ≡ Forms.piece_row (piece_of piece) (views tokens.now) rows.row.items }
     ensures long { length result.row.items ≡ length tokens.now + 1 }
     ensures room { length result.room.items ≡ length tokens.now + 1 }
 {
@@ -158,7 +162,8 @@ fn piece_row(piece: Piece, tokens: &[&[u8]], rows: Rows) -> Rows
 fn pieces_row(pieces: &[Piece], tokens: &[&[u8]], rows: Rows) -> Rows
     requires row { length rows.row.items ≡ length tokens.now + 1 }
     requires room { length rows.room.items ≡ length tokens.now + 1 }
-    ensures row { result.row.items ≡ Forms.pieces_row (map piece_of pieces.now) (views tokens.now) rows.row.items }
+    ensures row { result.row.items
+        ≡ Forms.pieces_row (map piece_of pieces.now) (views tokens.now) rows.row.items }
     ensures long { length result.row.items ≡ length tokens.now + 1 }
     ensures room { length result.room.items ≡ length tokens.now + 1 }
 {
@@ -212,7 +217,9 @@ fn field_row(
     row: &[bool],
 ) -> Result<Vec<bool>, AllocError>
     requires { length row.now ≡ length tokens.now + 1 }
-    ensures row { IfOk result (λ new. new.items ≡ Forms.field_row (map (λ way. map piece_of way.now) field.now) (views tokens.now) row.now) }
+    ensures row { IfOk result (λ new. new.items
+        ≡ Forms.field_row (map (λ way. map piece_of way.now) field.now)
+        (views tokens.now) row.now) }
     ensures long { IfOk result (λ new. length new.items ≡ length tokens.now + 1) }
 {
     let mut new = vec![in alloc; false; row.len()]?;
@@ -243,7 +250,7 @@ fn fields_row(
     tokens: &[&[u8]],
 ) -> Result<Vec<bool>, AllocError>
     ensures row { IfOk result (λ new. new.items
-        ≡ Forms.fields_row (map (λ field. map (λ way. map piece_of way.now) field.now) fields.now) (views tokens.now)) }
+        ≡ Forms.fields_row (fields_of fields.now) (views tokens.now)) }
     ensures long { IfOk result (λ new. length new.items ≡ length tokens.now + 1) }
 {
     let mut row = end_row(alloc, tokens)?;
@@ -262,7 +269,8 @@ fn meets_way(
     fields: &[&[&[Piece]]],
     tokens: &[&[u8]],
 ) -> Result<bool, AllocError>
-    ensures { IfOk result (λ met. met ≡ way_met (map piece_of way.now) (fields_of fields.now) (views tokens.now)) }
+    ensures { IfOk result (λ met. met
+        ≡ way_met (map piece_of way.now) (fields_of fields.now) (views tokens.now)) }
 {
     let lead = lead_of(way, tokens);
     if lead.is_dead {
@@ -277,7 +285,8 @@ fn meets_way(
 
 /// Whether the tokens match a text of the fields.
 fn meets_fields(alloc: Global, fields: &[&[&[Piece]]], tokens: &[&[u8]]) -> Result<bool, AllocError>
-    ensures { IfOk result (λ met. met ≡ head (Forms.fields_row (fields_of fields.now) (views tokens.now))) }
+    ensures { IfOk result (λ met. met
+        ≡ head (Forms.fields_row (fields_of fields.now) (views tokens.now))) }
 {
     if !fields.is_empty() {
         if fields[0].len() == 1 {

@@ -8,3 +8,4 @@ pub mod SelectionLemmas
 pub mod FirstLemmas
 pub mod RawLemmas
 pub mod EntryLemmas
+pub mod ReadLawLemmas

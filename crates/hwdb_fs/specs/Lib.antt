@@ -5,3 +5,4 @@ pub mod Internal
 pub mod LeftOut
 pub mod Laws
 pub mod Raw
+pub mod ReadLaws

@@ -1,9 +1,10 @@
 -- Which answers of a file system give which result. The answers are `stat`'s, `lstat`'s and those of a read (POSIX); what is made of
 -- them is our choice.
-use Rattle.std.specs.Prelude.{◌≡◌, ◌⊎◌, ℕ, List, [], Bool, true, Option, Some, None, Result, Ok, Err, MatchResult, Contains, IsUtf8, filter, if◌then◌else◌}
+use Rattle.std.specs.Prelude.{◌≡◌, ◌⊎◌, ℕ, List, [], Bool, true, Option, Some, None, Result, Ok, Err, MatchResult, Contains, IsUtf8, filter, length, nat_le, if◌then◌else◌}
 use Rattle.hwdb_spec.specs.Folders.{counts}
 use Rattle.hwdb_spec.specs.Lines.{is, pieces}
 use Rattle.hwdb_spec.specs.Store.{path_in}
+use Rattle.hwdb_spec.specs.Texts.{max_file}
 use Rattle.hwdb_io.specs.declared.causes.Cause.{Cause}
 use Rattle.hwdb_io.specs.declared.causes.Cause.TheVariants as why
 use Rattle.hwdb_print.specs.declared.errors.ToolError.TheVariants.{Read, TooLong, Memory}
@@ -74,6 +75,10 @@ abbrev pub database_answer : (entry : Result Bool Cause) (place : Result (List �
     (contents : List ℕ → Result (List ℕ) Unread) → Result (Option (List ℕ)) Unread
 database_answer entry place kind contents =
     if there_answer entry then present (at_place place (bytes_at kind contents)) else Ok None
+
+-- the bytes of a file that tells them, unless they are more than a file may have
+abbrev pub told_bytes : List ℕ → Result (List ℕ) Unread
+told_bytes bytes = if nat_le (length bytes) max_file then Ok bytes else Err unread.TooLong
 
 -- the names in a listing, each with byte 0 after it
 abbrev pub entries : List ℕ → List (List ℕ)

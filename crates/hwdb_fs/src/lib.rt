@@ -7,7 +7,7 @@
 //! | `left_out` | chosen text files that can't be read, and are left out |
 //! | `laws` | which of the chosen files an error names
 //! | `files` | files and folders: the file system that the runtime reaches |
-//! | `raw` | what a file system answers to what reading asks; `reads`: what is made of these answers |
+//! | `raw` | what a file system answers to what reading asks; `reads`: what is made of these answers; `read_laws`: laws of that; `one_file`: answers for tests |
 //! | `parts` | new files of updates: whose they are, and what killed updates left |
 //! | `roots` | where a path below a root leads; `place` is such a place |
 //! | `memory` | a store in memory as such a system, for tests |
@@ -19,9 +19,11 @@ mod folders;
 mod laws;
 mod left_out;
 mod memory;
+mod one_file;
 mod parts;
 mod place;
 mod raw;
+mod read_laws;
 mod reads;
 mod refusals;
 mod rooted;
@@ -32,8 +34,10 @@ pub use files::{SystemStore, joined, path_in};
 pub use folders::{Selection, selected, with_texts};
 pub use laws::first_long_file_is_named;
 pub use left_out::{ReadableSelection, name_set, selected_readable};
+pub use one_file::OneFile;
 pub use parts::Lockable;
 pub use raw::{Kind, RawFiles, StdFiles, Unread};
+pub use read_laws::answers_are_told;
 pub use reads::{database_bytes, is_there, text_bytes};
 pub use refusals::{Refusal, refuse_for, refuse_memory, remedy};
 pub use rooted::Rooted;

@@ -8,10 +8,10 @@ ghost use Rattle.hwdb_spec.specs.Texts.{db_fault_name, db_fault_offset, at_offse
 ghost use Rattle.hwdb_print.specs.Refusals.{error_text, refusal_of_select};
 ghost use Rattle.hwdb_fs.specs.Internal.{line_at};
 ghost use Rattle.hwdb_fs.specs.Refusals.{IsOfCause, Refused, refusal_line, refusal_text, path_text, file_text, IsAt, IsOfDatabase, IsOfUpdate};
-ghost use Rattle.hwdb_print.specs.declared.errors.ToolError.TheVariants.{Memory};
+ghost use Rattle.hwdb_print.specs.declared.errors.ToolError.TheVariants.{Memory, Write};
 ghost use Rattle.hwdb_fs.specs.declared.refusals.Refusal.TheVariants.{Plain};
 
-use hwdb_io::{Cause, Sink, one_failed_has_failed, write_text};
+use hwdb_io::{Cause, DeviceFailed, Sink, one_failed_has_failed, write_text};
 use hwdb_print::ToolError;
 use hwdb_reader::DbFault;
 use hwdb_text::SelectError;
@@ -105,6 +105,14 @@ impl From<ToolError> for Refusal {
 
     fn from(error: ToolError) -> Refusal {
         Refusal::Plain(error)
+    }
+}
+
+impl From<DeviceFailed> for Refusal {
+    ghost from_gives = { λ _ refusal. refusal ≡ Plain Write };
+
+    fn from(failed: DeviceFailed) -> Refusal {
+        Refusal::Plain(ToolError::from(failed))
     }
 }
 

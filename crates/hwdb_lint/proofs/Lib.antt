@@ -5,3 +5,4 @@ pub mod SpacedLemmas
 pub mod RepeatLemmas
 pub mod RaiseLemmas
 pub mod ReplaceLemmas
+pub mod RunLemmas

@@ -11,9 +11,10 @@ use Rattle.std.specs.BTreeSet.{BTreeSet, contains}
 use Rattle.hwdb_spec.specs.Assignment.{Assignment}
 use Rattle.hwdb_spec.specs.Folders.{same}
 use Rattle.hwdb_spec.specs.Records.{Origin}
-use Rattle.hwdb_spec.specs.Warnings.{gives_value, greatest, judgement_of, last_with, misused, repeated_from, repeated_lines, replaces, replacing}
+use Rattle.hwdb_spec.specs.Unmatched.{judgement_of}
+use Rattle.hwdb_spec.specs.Warnings.{gives_value, greatest, last_with, misused, repeated_from, repeated_lines, replaces, replacing}
 use Rattle.hwdb_spec.specs.declared.WarningKind.{WarningKind}
-use Rattle.hwdb_spec.specs.declared.WarningKind.TheVariants.{Misused, Replaced}
+use Rattle.hwdb_spec.specs.declared.WarningKind.TheVariants.{Misused, Replaced, Unmatched}
 use Rattle.hwdb_spec.specs.Lines.{Line, byte, clean_line, is, lines, numbered, pieces}
 use Rattle.hwdb_spec.specs.Reports.{text_of_line}
 use Rattle.hwdb_lint.specs.declared.known.Known.{Known}
@@ -45,6 +46,7 @@ pub record IsRead (r : Read) : Type 0 where
 -- a warning whose hint is the same for each line
 abbrev pub IsPlain : WarningKind → Type 0
 IsPlain (Misused why) = ⊥
+IsPlain (Unmatched told) = ⊥
 IsPlain kind = Unit {0}
 
 -- what is printed of a warning from the number in it on

@@ -1,16 +1,22 @@
 //! Patterns that match no text that udev asks.
-ghost use Rattle.std.specs.Prelude.{◌≡◌, IfOk};
-ghost use Rattle.hwdb_spec.specs.Warnings.{judgement_of};
+ghost use Rattle.std.specs.Prelude.{◌≡◌, ◌++◌, List, ℕ, ◌∷◌, map, take, IfOk, OnOk};
+ghost use Rattle.std.specs.Option.{option_map};
+ghost use Rattle.hwdb_spec.specs.Reports.{hint_line};
+ghost use Rattle.hwdb_spec.specs.Unmatched;
 
-use hwdb_forms::judge;
+use crate::runs::{push_runs, runs_of};
+use hwdb_forms::{expected, judge, likely_prefix};
 use hwdb_spec::Judgement;
 use hwdb_text::{LONGEST_MATCH, begins_with};
 use std::alloc::{AllocError, Global};
 
-/// What is said of a clean text, if it is a pattern. The only error is `AllocError`.
-#[tactic(auto, unfolding(hwdb_spec::specs::Warnings::judgement_of))]
+/// A front of more bytes isn't looked at for what could come after it (our choice).
+const LONGEST_FRONT: usize = 256;
+
+/// What is said of a clean text, if it is a pattern. The only error, here and below, is `AllocError`.
+#[tactic(auto, unfolding(hwdb_spec::specs::Unmatched::judgement_of))]
 pub fn judgement_of(alloc: Global, clean: &[u8]) -> Result<Judgement, AllocError>
-    ensures { IfOk result (λ told. told ≡ judgement_of clean.now) }
+    ensures { IfOk result (λ told. told ≡ Unmatched.judgement_of clean.now) }
 {
     if clean.is_empty() {
         return Ok(Judgement::Fine);
@@ -18,9 +24,141 @@ pub fn judgement_of(alloc: Global, clean: &[u8]) -> Result<Judgement, AllocError
     if begins_with(b' ', clean) {
         return Ok(Judgement::Fine);
     }
+    if begins_with(b'\t', clean) {
+        return Ok(Judgement::Fine);
+    }
     if clean.len() > LONGEST_MATCH {
         return Ok(Judgement::Fine);
     }
     let told = judge(alloc, clean)?;
     Ok(told)
+}
+
+/// What is printed of a judgement.
+pub fn judgement_text(judgement: Judgement) -> &'static str
+    ensures { result.now ≡ Unmatched.judgement_text judgement }
+{
+    match judgement {
+        Judgement::Fine => "",
+        Judgement::UnknownPrefix => "no string that udev asks begins like this",
+        Judgement::Dead(_) => "no string that udev asks goes on like this",
+    }
+}
+
+/// After how many bytes of its line a judgement stands.
+pub fn judgement_place(judgement: Judgement) -> usize
+    ensures { result ≡ Unmatched.judgement_place judgement }
+{
+    match judgement {
+        Judgement::Fine | Judgement::UnknownPrefix => 0,
+        Judgement::Dead(place) => place,
+    }
+}
+
+/// The first bytes of a text.
+fn front_of(text: &[u8], size: usize) -> &[u8]
+    ensures { result.now ≡ take size text.now }
+{
+    if size < text.len() {
+        &text[..size]
+    } else {
+        text
+    }
+}
+
+/// The bytes that could be after a front.
+#[tactic(auto, unfolding(hwdb_spec::specs::Unmatched::expected_after))]
+fn expected_after(alloc: Global, front: &[u8]) -> Result<Vec<u8>, AllocError>
+    ensures { IfOk result (λ bytes. bytes.items ≡ Unmatched.expected_after front.now) }
+{
+    expected(alloc, front)
+}
+
+/// Adds what to do about a pattern that goes wrong after this front.
+fn push_place_hint(alloc: Global, text: &mut Vec<u8>, front: &[u8]) -> Result<(), AllocError>
+    ensures { OnOk result (text.new.items ≡ text.old.items ++ Unmatched.place_hint front.now) }
+{
+    if front.len() > LONGEST_FRONT {
+        return push_runs(text, &[]);
+    }
+    let bytes = expected_after(alloc, front)?;
+    let runs = runs_of(alloc, &bytes)?;
+    push_runs(text, &runs)
+}
+
+/// The beginning that was likely meant by that of a pattern.
+#[tactic(auto, unfolding(hwdb_spec::specs::Unmatched::meant_prefix))]
+fn meant_prefix(alloc: Global, pattern: &[u8]) -> Result<Option<&'static [u8]>, AllocError>
+    ensures { IfOk result
+        (λ found. option_map (λ p. p.now) found ≡ Unmatched.meant_prefix pattern.now) }
+{
+    likely_prefix(alloc, pattern)
+}
+
+/// Adds which beginning was likely meant.
+fn push_meant(text: &mut Vec<u8>, prefix: &[u8]) -> Result<(), AllocError>
+    ensures { OnOk result
+        (text.new.items ≡ text.old.items ++ Unmatched.prefix_hint (Some prefix.now)) }
+{
+    text.extend_from_slice(b"did you mean ")?;
+    text.extend_from_slice(prefix)?;
+    text.push(b'?')?;
+    Ok(())
+}
+
+/// Adds which beginning was likely meant, or how patterns begin.
+fn push_prefix(text: &mut Vec<u8>, found: Option<&'static [u8]>) -> Result<(), AllocError>
+    ensures { OnOk result (text.new.items
+        ≡ text.old.items ++ Unmatched.prefix_hint (option_map (λ p. p.now) found.entry)) }
+{
+    match found {
+        None => {
+            let hint = "begin it as udev's strings do, with evdev: or mouse: or usb: and the like";
+            text.extend_from_slice(hint.as_bytes())?;
+        }
+        Some(prefix) => push_meant(text, prefix)?,
+    }
+    Ok(())
+}
+
+/// Adds what to do about a pattern that begins as no text does.
+fn push_prefix_hint(alloc: Global, text: &mut Vec<u8>, pattern: &[u8]) -> Result<(), AllocError>
+    ensures { OnOk result (text.new.items
+        ≡ text.old.items ++ Unmatched.prefix_hint (Unmatched.meant_prefix pattern.now)) }
+{
+    let found = meant_prefix(alloc, pattern)?;
+    push_prefix(text, found)
+}
+
+/// Adds what to do about a pattern with this judgement.
+fn push_judgement_hint(
+    alloc: Global,
+    text: &mut Vec<u8>,
+    judgement: Judgement,
+    pattern: &[u8],
+) -> Result<(), AllocError>
+    ensures { OnOk result (text.new.items
+        ≡ text.old.items ++ Unmatched.judgement_hint judgement pattern.now) }
+{
+    match judgement {
+        Judgement::Fine => Ok(()),
+        Judgement::UnknownPrefix => push_prefix_hint(alloc, text, pattern),
+        Judgement::Dead(place) => push_place_hint(alloc, text, front_of(pattern, place)),
+    }
+}
+
+/// Adds the line of what to do about a pattern with this judgement.
+pub fn push_judgement_line(
+    alloc: Global,
+    text: &mut Vec<u8>,
+    judgement: Judgement,
+    pattern: &[u8],
+) -> Result<(), AllocError>
+    ensures { OnOk result (text.new.items
+        ≡ text.old.items ++ hint_line (Unmatched.judgement_hint judgement pattern.now)) }
+{
+    text.extend_from_slice(b"    hint: ")?;
+    push_judgement_hint(alloc, text, judgement, pattern)?;
+    text.push(b'\n')?;
+    Ok(())
 }

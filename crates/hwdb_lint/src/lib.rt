@@ -7,6 +7,7 @@
 //!
 //! | Module | What it does |
 //! |---|---|
+//! | `runs` | bytes as runs, as they are shown |
 //! | `places` | the place of a fault in its line |
 //! | `reports` | the report of a fault |
 //! | `line_texts` | the text of a line, by its number |
@@ -31,6 +32,7 @@ mod places;
 mod repeats;
 mod replacements;
 mod reports;
+mod runs;
 mod tallies;
 mod warnings;
 

@@ -4,6 +4,7 @@ ghost use Rattle.std.specs.List.{list_any};
 ghost use Rattle.hwdb_spec.specs.Lines;
 ghost use Rattle.hwdb_spec.specs.Lines.{is_indent};
 ghost use Rattle.hwdb_spec.specs.Tree.{closed_part};
+ghost use Rattle.hwdb_spec.specs.Unmatched;
 ghost use Rattle.hwdb_spec.specs.Warnings;
 ghost use Rattle.hwdb_spec.specs.Warnings.{warns};
 ghost use Rattle.hwdb_lint.specs.Internal.{line_of, read_line, IsRead};
@@ -161,7 +162,7 @@ fn has_cut_value(text: &[u8], clean: &[u8]) -> bool
 
 /// Whether a pattern matches no text that udev asks.
 fn is_unmatched(judgement: Judgement) -> bool
-    ensures { result ≡ Warnings.is_unmatched judgement }
+    ensures { result ≡ Unmatched.is_unmatched judgement }
 {
     !matches!(judgement, Judgement::Fine)
 }

@@ -7,7 +7,7 @@ ghost use Rattle.hwdb_spec.specs.Warnings.{all_warnings, warned, line_warnings, 
 ghost use Rattle.hwdb_text.specs.Views.{given_in};
 ghost use Rattle.hwdb_lint.specs.Internal.{IsKnown, IsPlain, IsRead, clean_of, line_of, number_text, own, read_line};
 
-use crate::judgements::judgement_of;
+use crate::judgements::{judgement_of, judgement_place, judgement_text, push_judgement_line};
 use crate::known::{Known, known_of};
 use crate::line_warnings::{Read, closed, is_warned};
 use crate::misuses::{misuse_in, push_misuse_line};
@@ -16,7 +16,7 @@ use crate::reports::push_hint_line;
 use hwdb_pattern::{open_place, range_place};
 use hwdb_properties::misuse_text;
 use hwdb_show::{push_mark_line, push_shown_line};
-use hwdb_spec::{Judgement, Misuse, WarningKind};
+use hwdb_spec::{Misuse, WarningKind};
 use hwdb_text::{Content, Given, content_of, end_of};
 use itoa::Buffer;
 use std::alloc::{AllocError, Global};
@@ -36,11 +36,7 @@ fn text_of(kind: WarningKind) -> &'static str
         WarningKind::RepeatedMatch => "a match line that stands in its record already",
         WarningKind::Replaced(_) => "an assignment that line ",
         WarningKind::Misused(misuse) => misuse_text(misuse),
-        WarningKind::Unmatched(Judgement::Fine) => "",
-        WarningKind::Unmatched(Judgement::UnknownPrefix) => "no device string begins so",
-        WarningKind::Unmatched(Judgement::Dead(_)) => {
-            "no device string is matched: none goes on here"
-        }
+        WarningKind::Unmatched(judgement) => judgement_text(judgement),
     }
 }
 
@@ -70,23 +66,23 @@ fn hint_of(kind: WarningKind) -> &'static str
         WarningKind::SpacedEquals => "take it away: it belongs to the key or to the value",
         WarningKind::CutValue => "put a blank before a comment; a value can't hold a #",
         WarningKind::RepeatedMatch | WarningKind::Replaced(_) => "take one of the two away",
-        WarningKind::Misused(_) | WarningKind::Unmatched(Judgement::Fine) => "",
-        WarningKind::Unmatched(Judgement::UnknownPrefix) => {
-            "begin it as udev's strings do, with evdev: or mouse: or usb: and the like"
-        }
-        WarningKind::Unmatched(Judgement::Dead(_)) => {
-            "compare it byte by byte with a string that udev asks, upper and lower case too"
-        }
+        WarningKind::Misused(_) | WarningKind::Unmatched(_) => "",
     }
 }
 
 /// Adds the line of what to do about a warning of a line with this clean text.
-fn push_hint(text: &mut Vec<u8>, kind: WarningKind, clean: &[u8]) -> Result<(), AllocError>
+fn push_hint(
+    alloc: Global,
+    text: &mut Vec<u8>,
+    kind: WarningKind,
+    clean: &[u8],
+) -> Result<(), AllocError>
     ensures { OnOk result (text.new.items
         ≡ text.old.items ++ hint_line (warning_hint kind (line_of 0 clean.now))) }
 {
     match kind {
         WarningKind::Misused(misuse) => push_misuse_line(text, misuse, clean),
+        WarningKind::Unmatched(judgement) => push_judgement_line(alloc, text, judgement, clean),
         _ => push_hint_line(text, hint_of(kind)),
     }
 }
@@ -105,8 +101,7 @@ fn warning_place(kind: WarningKind, line: &[u8], clean: &[u8]) -> usize
         WarningKind::Replaced(_) => indent_of(line),
         WarningKind::Misused(Misuse::NearName | Misuse::ScanCode) => indent_of(line),
         WarningKind::Misused(Misuse::UnknownKey | Misuse::UnfitValue) => end_of(b'=', line) + 1,
-        WarningKind::Unmatched(Judgement::Fine | Judgement::UnknownPrefix) => 0,
-        WarningKind::Unmatched(Judgement::Dead(place)) => place,
+        WarningKind::Unmatched(judgement) => judgement_place(judgement),
     }
 }
 
@@ -150,7 +145,7 @@ fn push_warning(
         line.text,
         warning_place(kind, line.text, line.clean),
     )?;
-    push_hint(text, kind, line.clean)
+    push_hint(alloc, text, kind, line.clean)
 }
 
 /// What was found in the lines so far.

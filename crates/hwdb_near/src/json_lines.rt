@@ -8,7 +8,7 @@ ghost use Rattle.hwdb_near.specs.Internal.Ratings.{rated_of};
 
 use crate::fronts::stops;
 use crate::kept::{PatternAt, Rated};
-use hwdb_show::{ended, put_flag, put_member, put_number};
+use hwdb_show::{ended, put_count, put_flag, put_member};
 use json::Writer;
 use std::alloc::{AllocError, Global};
 
@@ -34,11 +34,11 @@ fn put_place(
 {
     json.begin_object()?;
     put_member(json, "path", at.path)?;
-    put_number(json, "line", at.line)?;
+    put_count(json, "line", at.line)?;
     put_member(json, "pattern", at.pattern)?;
-    put_number(json, "pattern_byte", reach.pattern as u64)?;
+    put_count(json, "pattern_byte", reach.pattern as u64)?;
     put_member(json, "device", device)?;
-    put_number(json, "device_byte", reach.device as u64)?;
+    put_count(json, "device_byte", reach.device as u64)?;
     put_flag(json, "matches", reach.matches)?;
     json.end_object()
 }

@@ -1,7 +1,7 @@
 -- The steps of a search for a match.
-use Rattle.std.proofs.Common.{◌≡◌, nat_eq, nat_lt, eq-eqb, lt-ltb, None, ℕ, ◌+◌, ◌<◌, ◌≤◌, Bool, not, IsTrue, true, false, List, [], ◌∷◌, drop, length, get_or, refl, sym, ap, subst, ◌∙◌, inl, inr, arith}
+use Rattle.std.proofs.Common.{◌≡◌, nat_eq, nat_lt, eq-eqb, lt-ltb, None, ℕ, zero, suc, ◌+◌, ◌-◌, ◌<◌, ◌≤◌, Bool, not, IsTrue, true, false, List, [], ◌∷◌, ◌++◌, drop, length, get_or, refl, sym, ap, subst, ◌∙◌, inl, inr, arith}
 use Rattle.std.proofs.lemmas.Bool.{cases_eq, cases_lt}
-use Rattle.std.proofs.lemmas.List.{drop-drop, drop_more, length-drop, drop_all, get_or-drop}
+use Rattle.std.proofs.lemmas.List.{drop-drop, drop_more, length-append, length-drop, drop_all, get_or-drop}
 use Rattle.hwdb_spec.specs.Patterns.{bracket_at, Token, star, token_at, token_size, tokens, admits_byte, Matches}
 use Rattle.hwdb_pattern.proofs.LongerPathLemmas.{none_closes}
 use Rattle.hwdb_pattern.specs.Internal.Search.{AreOpen, Reaches, Remains}
@@ -179,6 +179,68 @@ pub remains_end : (pattern device text left : List ℕ) (at met : ℕ)
     → Matches (tokens text) left → Remains pattern device at met → Matches (tokens pattern) device
 remains_end pattern device text left at met t l k m r =
     r.back k (star_nothing _ _ (along (tokens text) (tokens (drop at pattern)) left (drop met device) (ap tokens t) l m))
+
+-- the tokens before a place take one byte each
+pub record Counts (pattern : List ℕ) (at n : ℕ) : Type 0 where
+  pub each : (d : List ℕ) → Matches (tokens pattern) d → (e : List ℕ) × (length d ≡ n + length e) × Matches (tokens (drop at pattern)) e
+
+pub counts_none : (pattern : List ℕ) → Counts pattern 0 0
+counts_none pattern = record { each = λ d m. (d, omega arith, m) }
+
+single_length : (t : Token) (ts : List Token) (d : List ℕ) → is_star t ≡ false → Matches (t ∷ ts) d → (e : List ℕ) × (length d ≡ 1 + length e) × Matches ts e
+single_length t ts [] s m = absurd (single_empty t ts s m)
+single_length t ts (x ∷ d) s m = (d, omega arith, single_rest t ts x d s m)
+
+pub counts_step : (pattern text : List ℕ) (at n : ℕ) (p : Part) → text ≡ drop at pattern → at < length pattern
+    → p ≡ token_part 0 (token_at text) → (get_or pattern at 0 ≡ 42 → ⊥) → Counts pattern at n → Counts pattern (at + p.size) (n + 1)
+counts_step pattern text at n p t h e other c =
+    let z : p.size ≡ token_size (token_at (drop at pattern)) = ap (λ (q : Part). q.size) e ∙ ap (λ (l : List ℕ). token_size (token_at l)) t in
+    record {
+      each = λ d m.
+          let before = c.each d m in
+          let after = single_length (token_at (drop at pattern)) (tokens (drop (at + p.size) pattern)) before.0 (not_star_at pattern at other)
+          (along _ _ _ _ (token_next pattern at p.size h z) refl before.2) in
+          (after.0, omega (arith, before.1, after.1), after.2);
+    }
+
+pub counts_end : (pattern : List ℕ) (at n : ℕ) → length pattern ≤ at → Counts pattern at n → (d : List ℕ) → Matches (tokens pattern) d → length d ≡ n
+counts_end pattern at n h c d m =
+    let left = c.each d m in
+    let none : left.0 ≡ [] = along _ _ _ _ (no_tokens_at pattern at h) refl left.2 in
+    omega (arith, left.1, ap length none)
+
+-- a later place from which alone the device's end is reached
+star_before : (ts : List Token) (n : ℕ) (d : List ℕ) → Matches (star ∷ ts) (drop n d) → Matches (star ∷ ts) d
+star_before ts zero d m = m
+star_before ts (suc n) [] m = m
+star_before ts (suc n) (x ∷ d) m = star_more ts x d (star_before ts n d m)
+
+ends_alike : (a b : List ℕ) (n : ℕ) → n ≡ length a → drop n (a ++ b) ≡ b
+ends_alike a b n e = ap (λ k. drop k (a ++ b)) e ∙ go a
+  where
+    go : (a : List ℕ) → drop (length a) (a ++ b) ≡ b
+    go [] = refl
+    go (x ∷ a) = go a
+
+pub remains_later : (pattern device text : List ℕ) (at met later : ℕ) → text ≡ drop at pattern → met ≤ later → later ≤ length device
+    → (met < later → (d : List ℕ) → Matches (tokens text) d → later + length d ≡ length device) → Remains pattern device at met → Remains pattern device at later
+remains_later pattern device text at met later t h k last r = elim (cases_lt met later) [
+  | inr same ↦ subst (Remains pattern device at) (omega arith) r
+  | inl below ↦
+      let ts : List Token = tokens (drop at pattern) in
+      record {
+        forth = λ m.
+            let s = (r.forth m).1 in
+            let long : later + length s.1 ≡ length device = last below s.1 (along _ _ _ _ (ap tokens (sym t)) refl s.4) in
+            let cut : drop (later - met) (drop met device) ≡ s.1 =
+            ap (drop (later - met)) s.2 ∙ ends_alike s.0 s.1 (later - met) (omega (arith, long, ap length s.2, length-append s.0 s.1, length-drop met device)) in
+            let here : drop later device ≡ s.1 = sym (drop-drop (later - met) met device ∙ ap (λ n. drop n device) (omega arith)) ∙ cut in
+            (k, star_nothing ts (drop later device) (along _ _ _ _ refl (sym here) s.4));
+        back = λ _ m. r.back (omega arith)
+            (star_before ts (later - met) (drop met device)
+            (along (star ∷ ts) (star ∷ ts) _ _ refl (sym (drop-drop (later - met) met device ∙ ap (λ n. drop n device) (omega arith))) m));
+      }
+]
 
 -- if no `]` comes from a place on, no bracket is closed there
 get_behind : (pattern text : List ℕ) (at k : ℕ) → text ≡ drop at pattern → get_or text k 0 ≡ get_or pattern (at + k) 0

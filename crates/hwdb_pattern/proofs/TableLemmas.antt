@@ -229,3 +229,16 @@ said_after least n table h c = let s : SaidAt least table n = said_from least ta
 pub written_back : (n : ℕ) (new old : List Bool) → n ≡ length new → length new ≡ length old → take n (new ++ drop (length new) old) ≡ new
 written_back n new old z e =
     ap (λ k. take n (new ++ k)) (drop_all (length new) old (omega (arith, e))) ∙ take_at new [] n (sym z)
+
+-- no number comes from places at which the table doesn't say so
+said_past : (first : ℕ) (b : Bool) (table : List Bool) → b ≡ false → said first (b ∷ table) ≡ said (suc first) table
+unfolding said
+said_past first true table e = cc
+said_past first false table e = refl
+
+pub said_on : (first at : ℕ) (table : List Bool) → ((k : ℕ) → k < at → get_or table k false ≡ false) → said first table ≡ said (first + at) (drop at table)
+unfolding said
+said_on first zero table none = ap (λ n. said n table) (omega arith)
+said_on first (suc at) [] none = refl
+said_on first (suc at) (b ∷ table) none =
+    said_past first b table (none 0 (omega arith)) ∙ said_on (suc first) at table (λ k h. none (suc k) (omega arith)) ∙ ap (λ n. said n (drop at table)) (omega arith)

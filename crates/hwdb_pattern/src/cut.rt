@@ -8,7 +8,8 @@ use std::alloc::{AllocError, Global};
 
 /// The pattern from each token on.
 pub fn token_texts<'p>(alloc: Global, pattern: &'p [u8]) -> Result<Vec<&'p [u8]>, AllocError>
-    ensures { IfOk result (λ texts. map (λ text. token_at text.now) texts.items ≡ tokens pattern.now) }
+    ensures { IfOk result (λ texts. map (λ text. token_at text.now) texts.items
+        ≡ tokens pattern.now) }
 {
     let mut texts = Vec::new(alloc);
     let mut at = 0;

@@ -124,6 +124,29 @@ impl Table {
         }
     }
 
+    /// The same lengths, with no place before the first one.
+    fn copied(&self, alloc: Global, end: usize) -> Result<Table, AllocError>
+        requires room { end + 1 < 2 ^ 64 }
+        requires within { All (λ n. n ≤ end) (said self.now.least self.now.says.items) }
+        ensures { IfOk result (λ table.
+            said table.least table.says.items ≡ said self.now.least self.now.says.items) }
+    {
+        let says: &[bool] = &self.says;
+        match first_place(says) {
+            Some(at) => {
+                let rest = Vec::from_slice(alloc, &says[at..])?;
+                Ok(Table {
+                    least: self.least + at,
+                    says: rest,
+                })
+            }
+            None => Ok(Table {
+                least: 0,
+                says: Vec::new(alloc),
+            }),
+        }
+    }
+
     /// Whether the token at the beginning of the text takes the device's next byte after some of the lengths.
     fn takes(&self, device: &[u8], text: &[u8]) -> bool
         requires some { 0 < length text.now }
@@ -243,18 +266,14 @@ impl Met {
     }
 
     /// The same lengths.
-    fn copied(&self, alloc: Global) -> Result<Met, AllocError>
+    fn copied(&self, alloc: Global, end: usize) -> Result<Met, AllocError>
+        requires room { end + 1 < 2 ^ 64 }
+        requires within { All (λ n. n ≤ end) (lengths_of self.now) }
         ensures { IfOk result (λ met. lengths_of met ≡ lengths_of self.now) }
     {
         match self {
             Met::Lone(length) => Ok(Met::Lone(*length)),
-            Met::Many(table) => {
-                let says = Vec::from_slice(alloc, &table.says)?;
-                Ok(Met::Many(Table {
-                    least: table.least,
-                    says,
-                }))
-            }
+            Met::Many(table) => Ok(Met::Many(table.copied(alloc, end)?)),
         }
     }
 
@@ -298,7 +317,7 @@ impl Met {
         if !self.takes(device, text) {
             return Ok(none(alloc));
         }
-        let copied = self.copied(alloc)?;
+        let copied = self.copied(alloc, device.len())?;
         Ok(copied.stepped(alloc, device, text))
     }
 
@@ -344,7 +363,7 @@ impl Met {
             → NoneTakes (token_at text.now) device.now (lengths_of self.now) → IsOk result }
     {
         if text.is_empty() {
-            return self.copied(alloc);
+            return self.copied(alloc, device.len());
         }
         let after = self.first_token(alloc, device, text)?;
         after.follow(alloc, device, &text[run_size(text)..])

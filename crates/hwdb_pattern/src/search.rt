@@ -5,9 +5,9 @@
 //! has to end at the device's end.
 //!
 //! A stretch is tried at each place of the device at most, so the steps are at most the pattern's length times the
-//! device's. Such a search would read an open `[` anew each time, up to the pattern's end. So two things are found out
+//! device's. The last stretch isn't tried before the place from which it leads to the device's end. Such a search would read an open `[` anew each time, up to the pattern's end. So two things are found out
 //! before: the place after the last `]`, and the open `[` among the first 4,096 bytes (`opens`). Both take one pass.
-ghost use Rattle.std.specs.Prelude.{◌≡◌, ◌<◌, ◌≤◌, ◌↔◌, None, drop, false, length, slice_index, IsTrue, IfSome, IfNone};
+ghost use Rattle.std.specs.Prelude.{◌≡◌, ◌<◌, ◌≤◌, ◌+◌, ◌↔◌, List, ℕ, None, drop, false, length, slice_index, IsTrue, IfSome, IfNone};
 ghost use Rattle.hwdb_spec.specs.Patterns.{Matches, bracket_at, tokens};
 ghost use Rattle.hwdb_pattern.specs.Internal.Search.{AreOpen, NoneCloses, Reaches};
 
@@ -76,6 +76,46 @@ fn run(pattern: &[u8], device: &[u8], close: usize, opens: &[bool]) -> Option<Se
     Some(SearchState { at, met })
 }
 
+/// How many bytes the devices have that the pattern matches, if it has no star: one for each token.
+fn bytes_matched(pattern: &[u8], close: usize, opens: &[bool]) -> Option<usize>
+    requires closes { NoneCloses pattern.now close }
+    requires opens { AreOpen pattern.now opens.now }
+    ensures { IfSome result (λ n. (device : List ℕ) → Matches (tokens pattern.now) device
+        → length device ≡ n) }
+{
+    let mut at = 0;
+    let mut count = 0;
+    while at < pattern.len() {
+        if pattern[at] == b'*' {
+            return None;
+        }
+        let is_bracket = may_close(pattern, at, close, opens);
+        at += single_token(&pattern[at..], 0, is_bracket).size;
+        count += 1;
+    }
+    Some(count)
+}
+
+/// From which place of the device on the pattern is to be tried, if it has to lead to the device's end and no place
+/// before `met` counts.
+fn first_try(pattern: &[u8], end: usize, met: usize, close: usize, opens: &[bool]) -> usize
+    requires closes { NoneCloses pattern.now close }
+    requires opens { AreOpen pattern.now opens.now }
+    ensures low { met ≤ result }
+    ensures high { met ≤ end → result ≤ end }
+    ensures last { met < result → (device : List ℕ) → Matches (tokens pattern.now) device
+        → result + length device ≡ end }
+{
+    match bytes_matched(pattern, close, opens) {
+        Some(count) => if met < end && count < end - met {
+            end - count
+        } else {
+            met
+        },
+        None => met,
+    }
+}
+
 /// The place after the last `]`. From there on each `[` is an ordinary byte.
 fn last_close(pattern: &[u8]) -> usize
     ensures { NoneCloses pattern.now result }
@@ -105,8 +145,15 @@ pub fn glob(pattern: &[u8], device: &[u8]) -> bool
     if first.at == pattern.len() {
         return first.met == device.len();
     }
+    let end = device.len();
     let mut at = first.at + 1;
-    let mut met = first.met;
+    let mut met = first_try(
+        &pattern[at..],
+        end,
+        first.met,
+        close.saturating_sub(at),
+        opens_from(&opens, at),
+    );
     while met <= device.len() {
         let (rest, left) = (&pattern[at..], &device[met..]);
         match run(rest, left, close.saturating_sub(at), opens_from(&opens, at)) {
@@ -114,7 +161,13 @@ pub fn glob(pattern: &[u8], device: &[u8]) -> bool
             Some(next) => {
                 if at + next.at < pattern.len() {
                     at += next.at + 1;
-                    met += next.met;
+                    met = first_try(
+                        &pattern[at..],
+                        end,
+                        met + next.met,
+                        close.saturating_sub(at),
+                        opens_from(&opens, at),
+                    );
                 } else if met + next.met == device.len() {
                     return true;
                 } else {

@@ -8,7 +8,7 @@ use Rattle.json.specs.Json.{Json, string}
 use Rattle.json.specs.Token.{Token}
 use Rattle.json.specs.Tree.{json_tokens, items_tokens, members_tokens}
 use Rattle.hwdb_spec.specs.Json.{array_of, has_name, items_of, members_of, number_json, object_of, pair_json, property_member, raw_members, text_json}
-use Rattle.hwdb_print.specs.JsonTokens.{tokens_of_member, tokens_of_members}
+use Rattle.hwdb_show.specs.JsonTokens.{tokens_of_member, tokens_of_members}
 
 -- ---- arrays and objects
 

@@ -2,7 +2,6 @@ pub mod Databases
 pub mod Lookups
 pub mod Refusals
 pub mod Updates
-pub mod JsonTokens
 pub mod JsonLaws
 pub mod Streams
 pub mod Internal

@@ -3,10 +3,10 @@ ghost use Rattle.std.specs.Prelude.{◌≡◌, ◌++◌, map, IfOk, OnOk};
 ghost use Rattle.json.specs.Tree.{json_tokens};
 ghost use Rattle.hwdb_query.specs.Views.{assignment_of_answer, explained_values};
 ghost use Rattle.hwdb_spec.specs.Json.{answer_members, array_of, explained_key_json, explanation_json, explanations_json, overridden_json};
-ghost use Rattle.hwdb_print.specs.JsonTokens.{tokens_of_members};
+ghost use Rattle.hwdb_show.specs.JsonTokens.{tokens_of_members};
 
-use crate::json_values::{ended, put_member, put_number};
 use hwdb_query::{Answer, Explained};
+use hwdb_show::{ended, put_member, put_number};
 use json::Writer;
 use std::alloc::{AllocError, Global};
 

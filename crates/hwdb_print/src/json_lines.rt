@@ -4,10 +4,10 @@ ghost use Rattle.json.specs.Tree.{json_tokens};
 ghost use Rattle.hwdb_query.specs.Views.{assignment_of_hit, pairs_bytes};
 ghost use Rattle.hwdb_spec.specs.Texts.{canonical};
 ghost use Rattle.hwdb_spec.specs.Json.{property_member, pair_json, has_name, raw_members, object_of, array_of, device_json, hit_json, json_line};
-ghost use Rattle.hwdb_print.specs.JsonTokens.{tokens_of_members};
+ghost use Rattle.hwdb_show.specs.JsonTokens.{tokens_of_members};
 
-use crate::json_values::{ended, put_member, put_number, put_text};
 use hwdb_query::Hit;
+use hwdb_show::{ended, put_member, put_number, put_text};
 use json::Writer;
 use std::alloc::{AllocError, Global};
 

@@ -7,7 +7,6 @@
 //! | `form` | what is printed of a device: its properties, or also where they come from; as text or as JSON |
 //! | `texts` | the lines that are printed |
 //! | `explanation` | the lines of `explain` |
-//! | `json_values` | values of JSON, token by token |
 //! | `json_lines` | the lines of JSON of `query` and `list` |
 //! | `json_explanations` | the lines of JSON of `explain` |
 //! | `json_laws` | what is read of JSON is what was written |
@@ -31,7 +30,6 @@ mod hit_lines;
 mod json_explanations;
 mod json_laws;
 mod json_lines;
-mod json_values;
 mod line_reader;
 mod listing;
 mod queries;

@@ -1,5 +1,5 @@
 -- Texts whose letters are compared, seen from where one ends.
-use Rattle.std.proofs.Common.{◌≡◌, ℕ, ◌<◌, ◌≤◌, ◌⊎◌, inl, inr, Bool, true, false, List, [], ◌∷◌, drop, length, refl, arith, ne_eqb, eq-eqb, nat_eq}
+use Rattle.std.proofs.Common.{◌≡◌, ℕ, ◌≤◌, ◌⊎◌, inl, inr, Bool, true, false, List, [], ◌∷◌, drop, length, refl, arith, ne_eqb, eq-eqb, nat_eq}
 use Rattle.std.proofs.lemmas.List.{length-drop}
 use Rattle.hwdb_spec.specs.Properties.{same_letters}
 

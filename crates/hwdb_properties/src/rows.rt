@@ -53,13 +53,35 @@ fn is_for(row: &[u8], name: &[u8]) -> bool
     same(own, name) || is_family(own) && name.starts_with(own)
 }
 
+/// What of a name a row's name is compared with.
+fn compared_part<'n>(own: &[u8], name: &'n [u8]) -> &'n [u8]
+    ensures { result.now ≡ Properties.compared_part own.now name.now }
+{
+    if !is_family(own) {
+        return name;
+    }
+    if own.len() < name.len() {
+        &name[..own.len()]
+    } else {
+        name
+    }
+}
+
+/// Whether a row's name is nearly one that is given.
+fn is_nearly(row: &[u8], name: &[u8]) -> bool
+    ensures { result ≡ passes Likeness.Near name.now row.now }
+{
+    let own = word(row);
+    is_near(own, compared_part(own, name))
+}
+
 /// Whether a row's name is like one that is given.
 fn passes(row: &[u8], name: &[u8], likeness: Likeness) -> bool
     ensures { result ≡ passes likeness name.now row.now }
 {
     match likeness {
         Likeness::Same => is_for(row, name),
-        Likeness::Near => is_near(word(row), name),
+        Likeness::Near => is_nearly(row, name),
     }
 }
 

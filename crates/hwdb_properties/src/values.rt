@@ -103,11 +103,18 @@ fn is_key_name(text: &[u8]) -> bool
     !first_row(KEY_NAMES.as_bytes(), text, Likeness::Same).is_empty()
 }
 
+/// Whether a text is the name of a key after `key_`.
+fn is_prefixed_key(text: &[u8]) -> bool
+    ensures { result ≡ Properties.is_prefixed_key text.now }
+{
+    text.starts_with(b"key_") && !text.starts_with(b"key_btn_") && is_key_name(&text[4..])
+}
+
 /// Whether a text is a key: its name or its number.
 fn is_key(text: &[u8]) -> bool
     ensures { result ≡ Properties.is_key text.now }
 {
-    is_number(text) || is_key_name(text) || text.starts_with(b"key_") && is_key_name(&text[4..])
+    is_number(text) || is_key_name(text) || is_prefixed_key(text)
 }
 
 /// Whether a text is a key, after a `!` or not; or a `!`, or nothing.

@@ -1,6 +1,7 @@
 -- A prefix that is fed in pieces.
-use Rattle.std.proofs.Common.{◌≡◌, ◌∙◌, ap, sym, refl, subst, ℕ, zero, suc, ◌+◌, ◌≤◌, ◌<◌, Bool, false, List, [], ◌∷◌, ◌++◌, take, drop, length, arith, append_assoc, Option, None, Some, IsTrue, ◌↔◌}
-use Rattle.std.proofs.lemmas.List.{take-take, drop-drop, length-append, length-drop, length-take-le}
+use Rattle.std.proofs.Common.{◌≡◌, ◌∙◌, ap, sym, refl, subst, ℕ, zero, suc, ◌+◌, ◌≤◌, ◌<◌, Bool, false, List, [], ◌∷◌, ◌++◌, take, drop, length, arith, append_assoc, Option, None, Some, IsTrue, ◌↔◌, inl, inr}
+use Rattle.std.proofs.lemmas.Bool.{cases_lt}
+use Rattle.std.proofs.lemmas.List.{take-take, take_all, drop-drop, length-append, length-drop, length-take-le}
 use Rattle.hwdb_pattern.specs.Laws.{MatchesIsTested, LiveIsTested, DeadStaysDead, DeadMatchesNothing}
 use Rattle.hwdb_pattern.specs.Views.{Reached}
 use Rattle.hwdb_spec.specs.Tree.{Tree, prefix_of, IsLive}
@@ -89,3 +90,10 @@ child_front size old whole piece byte h w =
 pub shared_front : (size : ℕ) (old path now : List ℕ) → (size ≤ length path) × (take size path ≡ take size old) → take (length path) now ≡ path
     → (size ≤ length now) × (take size now ≡ take size old)
 shared_front size old path now h f = let s = front_within path now f in (omega (arith, h.0, s), base_stays size old path now old h.0 h.1 f)
+
+-- a piece that is shorter than it may be is the whole
+pub short_piece : (xs piece : List ℕ) (most : ℕ) → piece ≡ take most xs → (length piece ≡ most → ⊥) → piece ≡ xs
+short_piece xs piece most p short = elim (cases_lt (length xs) most) [
+  | inl below ↦ p ∙ take_all most xs (omega arith)
+  | inr past ↦ absurd (short (ap length p ∙ length-take-le most xs past))
+]

@@ -6,7 +6,7 @@
 //!
 //! What is known of the device along the path (`Reach`) is kept for each open node: the next child goes on from there.
 //! So a common beginning of many patterns is matched once. In return a descent holds a state for each node of one path.
-//! A state has a number for each prefix of the device that the path matches.
+//! A state has a byte for each prefix of the device, from the first one on that the path matches.
 //!
 //! It is a loop and no recursion. The nodes whose children may still be live are on a stack of its own, on the heap. A
 //! recursion would take a sixth fewer instructions. But a deep tree would then take more of the thread's stack than a
@@ -94,7 +94,9 @@ const PIECE: usize = 64;
 /// Goes on along a node's prefix, of which the first bytes are fed. The answer is what is known of the device at the
 /// prefix's end, if the path there is live; the path becomes that. Else anything may come after the old path.
 ///
-/// Each piece doubles what is fed. So a path that is dead soon takes few steps, however long the prefix is.
+/// Each piece doubles what is fed. So a path that is dead soon takes few steps, however long the prefix is. Not inlined,
+/// since few prefixes are so long.
+#[inline(never)]
 fn along_prefix<'d>(
     alloc: Global,
     node: Node<'_>,
@@ -160,7 +162,14 @@ impl<'a, 'd> OpenNode<'a, 'd> {
         let front = child.node.prefix_part(0, PIECE);
         path.extend_from_slice(front)?;
         let reach = self.reach.feed(alloc, &path[self.length..])?;
-        along_prefix(alloc, child.node, reach, path, front.len())
+        if front.len() == PIECE {
+            return along_prefix(alloc, child.node, reach, path, front.len());
+        }
+        if reach.is_alive() {
+            Ok(Some(reach))
+        } else {
+            Ok(None)
+        }
     }
 
     /// The next child whose path is live, among those that aren't done. The path becomes the child's, or the node's own

@@ -46,7 +46,17 @@ pub fn put_member(json: &mut Writer, name: &str, text: &[u8]) -> Result<(), Allo
 }
 
 /// Adds a member: a name and a number.
-pub fn put_number(json: &mut Writer, name: &str, n: u64) -> Result<(), AllocError>
+pub fn put_number(json: &mut Writer, name: &str, n: u32) -> Result<(), AllocError>
+    ensures before { json.new.before ≡ json.old.before }
+    ensures tokens { OnOk result
+        (json.new.tokens ≡ json.old.tokens ++ tokens_of_member (name.now, number_json n)) }
+{
+    json.key(name)?;
+    json.u64(u64::from(n))
+}
+
+/// Adds a member: a name and a number.
+pub fn put_count(json: &mut Writer, name: &str, n: u64) -> Result<(), AllocError>
     ensures before { json.new.before ≡ json.old.before }
     ensures tokens { OnOk result
         (json.new.tokens ≡ json.old.tokens ++ tokens_of_member (name.now, number_json n)) }

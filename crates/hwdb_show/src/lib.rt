@@ -9,5 +9,5 @@
 mod json_values;
 mod shown;
 
-pub use json_values::{ended, put_bytes, put_flag, put_member, put_number, put_text};
-pub use shown::{push_mark_line, push_shown, push_shown_line};
+pub use json_values::{ended, put_bytes, put_count, put_flag, put_member, put_number, put_text};
+pub use shown::{push_byte, push_mark_line, push_shown, push_shown_line};

@@ -33,7 +33,7 @@ fn push_digits(text: &mut Vec<u8>, byte: u8) -> Result<(), AllocError>
 }
 
 /// Adds a byte, as it is shown: itself, or `\x` and its two hexadecimal digits.
-fn push_byte(text: &mut Vec<u8>, byte: u8) -> Result<(), AllocError>
+pub fn push_byte(text: &mut Vec<u8>, byte: u8) -> Result<(), AllocError>
     ensures { OnOk result (text.new.items ≡ text.old.items ++ shown_byte byte) }
 {
     if is_printed(byte) {

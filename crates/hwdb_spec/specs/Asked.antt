@@ -1,11 +1,10 @@
 -- The database that a command reads: that at a path, or the one below a root that is asked; and what `query`, `explain`, `list`,
--- `verify`, `dump` and `diff` leave of it. `query` is systemd-hwdb(8)'s; the others are our choice.
+-- `verify`, `dump` and `diff` print of it. `query` is systemd-hwdb(8)'s; the others are our choice.
 use Rattle.std.specs.Prelude.{◌++◌, ◌≡◌, ◌⊎◌, Bool, List, None, Option, Some, codes, false, if◌then◌else◌, true, ℕ}
 use Rattle.hwdb_spec.specs.Assignment.{Position}
 use Rattle.hwdb_spec.specs.Databases.{IsDiffText, IsDifferent, IsSayable, IsTextOf}
 use Rattle.hwdb_spec.specs.Dump.{dump_text}
 use Rattle.hwdb_spec.specs.Json.{list_json}
-use Rattle.hwdb_spec.specs.Outputs.{Wrote}
 use Rattle.hwdb_spec.specs.Reports.{shown}
 use Rattle.hwdb_spec.specs.Store.{Contents, database_name, path_in}
 use Rattle.hwdb_spec.specs.System.{asked_database, bytes_at, database_folder}
@@ -31,18 +30,18 @@ abbrev pub IsNamedPath : (given : Option (List ℕ)) (root : List ℕ) → Conte
 IsNamedPath None root contents path = IsAskedPath root contents path
 IsNamedPath (Some given) root contents path = path ≡ given
 
--- standard output took what its bytes give
-pub record IsPrinted (given : Option (List ℕ)) (root : List ℕ) (Is : (bytes text : List ℕ) → Type 0) (contents : Contents) (out_before out_now : Option (List ℕ)) : Type 0 where
+-- the text is what its bytes give
+pub record IsPrinted (given : Option (List ℕ)) (root : List ℕ) (Is : (bytes text : List ℕ) → Type 0) (contents : Contents) (text : List ℕ) : Type 0 where
   pub bytes : List ℕ
   pub named : named_database given root contents ≡ Some bytes
-  pub printed : Wrote (Is bytes) out_before out_now
+  pub is : Is bytes text
 
--- its assignments are all said by their records, and standard output took these
-pub record IsDumped (given : Option (List ℕ)) (root : List ℕ) (contents : Contents) (out_before out_now : Option (List ℕ)) : Type 0 where
+-- its assignments are all said by their records, and the text has these
+pub record IsDumped (given : Option (List ℕ)) (root : List ℕ) (contents : Contents) (text : List ℕ) : Type 0 where
   pub bytes : List ℕ
   pub named : named_database given root contents ≡ Some bytes
   pub sayable : IsSayable bytes
-  pub printed : Wrote (IsTextOf dump_text bytes) out_before out_now
+  pub is : IsTextOf dump_text bytes text
 
 -- the words of a database with an assignment that no text says: its path, and the pattern, as `check` shows bytes
 abbrev pub unsayable_text : (path pattern : List ℕ) → List ℕ
@@ -53,21 +52,19 @@ pub record AreHeld (old_path new_path : List ℕ) (contents : Contents) (old new
   pub of_old : bytes_at contents old_path ≡ Some old
   pub of_new : bytes_at contents new_path ≡ Some new
 
--- standard output took what changed from the one database to the other, and the status says whether something did
-pub record IsCompared (old_path new_path : List ℕ) (status : ℕ) (contents : Contents) (out_before out_now : Option (List ℕ)) : Type 0 where
+-- the text is what changed from the one database to the other, and the status says whether something did
+pub record IsCompared (old_path new_path : List ℕ) (contents : Contents) (text : List ℕ) (status : ℕ) : Type 0 where
   pub old : List ℕ
   pub new : List ℕ
   pub held : AreHeld old_path new_path contents old new
-  pub printed : Wrote (IsDiffText old new) out_before out_now
+  pub is : IsDiffText old new text
   pub answer : Bool
   pub differ : IsDifferent old new answer
   pub says : status ≡ (if answer then 1 else 0)
 
--- standard output took what the database that is asked gives
-pub record IsAnswered (root : List ℕ) (Is : (bytes text : List ℕ) → Type 0) (contents : Contents) (out_before out_now : Option (List ℕ)) : Type 0 where
-  pub bytes : List ℕ
-  pub asked : asked_database root contents ≡ Some bytes
-  pub printed : Wrote (Is bytes) out_before out_now
+-- the text is what the database that is asked gives
+abbrev pub IsAnswered : (root : List ℕ) (Is : (bytes text : List ℕ) → Type 0) → Contents → (text : List ℕ) → Type 0
+IsAnswered root Is = IsPrinted None root Is
 
 -- the text of the option, if there is one, spells the position
 abbrev pub IsFrom : (after : Option (List ℕ)) → Option Position → Type 0

@@ -1,5 +1,4 @@
--- Which text files `check` reads, and what it leaves. Our choice.
-use Rattle.std.specs.Io.KnownBytes.{Appends}
+-- Which text files `check` reads, and what it prints. Our choice.
 use Rattle.std.specs.Prelude.{◌++◌, ◌∷◌, ◌≡◌, ◌≤◌, All, Bool, List, Option, Some, [], length, map, ℕ}
 use Rattle.hwdb_spec.specs.Checks.{check_status, check_text, empty_tally, tally_from}
 use Rattle.hwdb_spec.specs.Folders.{Source, choice, max_files, names, path_of}
@@ -28,9 +27,9 @@ abbrev pub AreCheckedFiles : (given : List (List ℕ)) (root : List ℕ) (input 
 AreCheckedFiles [] root input contents sources = AreChosenFiles root contents sources
 AreCheckedFiles (path ∷ more) root input contents sources = AreGivenFiles (path ∷ more) input contents sources
 
--- standard output took what is said of such files, and the status says whether something is wrong with one
-pub record IsChecked (Are : List Source → Type 0) (strict : Bool) (status : ℕ) (out_before out_now : Option (List ℕ)) : Type 0 where
+-- the text is what is said of such files, and the status says whether something is wrong with one
+pub record IsChecked (Are : List Source → Type 0) (strict : Bool) (text : List ℕ) (status : ℕ) : Type 0 where
   pub sources : List Source
   pub are : Are sources
-  pub printed : Appends out_before out_now (check_text sources)
+  pub is : text ≡ check_text sources
   pub says : status ≡ check_status strict (tally_from empty_tally sources)

@@ -6,18 +6,13 @@ use Rattle.hwdb_spec.specs.Folders.{AreAccepted, Choice, Source, faults_of_files
 use Rattle.hwdb_spec.specs.Given.{IsGiven}
 use Rattle.hwdb_spec.specs.LeftOut.{AreLeftOut, without}
 use Rattle.hwdb_spec.specs.LoneFile.{lone}
-use Rattle.hwdb_spec.specs.Outputs.{Texts, WroteTexts}
+use Rattle.hwdb_spec.specs.Outputs.{Texts}
 use Rattle.hwdb_spec.specs.Progress.{listing, update_text}
-use Rattle.hwdb_spec.specs.Store.{Contents, LeftAtParts, NoMore, Outcomes, Same, Stored, database_file, database_name, path_in}
+use Rattle.hwdb_spec.specs.Store.{Contents, LeftAtParts, Outcomes, Stored, database_file, database_name, path_in}
 use Rattle.hwdb_spec.specs.System.{AreFilesIn, database_folder, etc_files, usr_files}
 use Rattle.hwdb_spec.specs.Texts.{faults_text_at, max_file, query_text, status_of}
 use Rattle.hwdb_spec.specs.Tree.{map_of_files}
 use Rattle.hwdb_spec.specs.Written.{IsCompiled, IsWritten}
-
--- the files are as they were, and a crash leaves nothing else of them
-pub record AreKept (old new : Contents) (left_before left : Outcomes) : Type 0 where
-  pub same : Same old new
-  pub no_more : NoMore left_before left
 
 -- The files are accepted, `err` took what is said of them, with the names of /usr/lib's files where they are given, and their
 -- database is in its place.
@@ -54,11 +49,11 @@ pub record IsUpdated (root : List ℕ) (verbose strict : Bool) (status : ℕ) (o
   pub in_usr : AreFilesIn (usr_files root) old of_usr
   pub updated : Updated of_etc of_usr (listing verbose of_usr) max_file strict status err_before err_now in_place
 
--- standard error took the fault lines of the one file, and standard output what it gives the device
-pub record IsAsked (file device : List ℕ) (input : Option (List ℕ)) (contents : Contents) (err_before err_now out_before out_now : Option (List ℕ)) : Type 0 where
+-- the texts are the fault lines of the one file, and what it gives the device
+pub record IsAsked (file device : List ℕ) (input : Option (List ℕ)) (contents : Contents) (texts : Texts) : Type 0 where
   pub bytes : List ℕ
   pub read : IsGiven file input contents bytes
-  pub asked : WroteTexts (AreAskTexts file bytes device) err_before err_now out_before out_now
+  pub are : AreAskTexts file bytes device texts
 
 -- an update that read these files leaves this under a path: the database of all text files of both folders, whole, in its place;
 -- or what may stand under the path of a new file

@@ -1,10 +1,12 @@
 -- The forms of the texts that udev asks, and of those that a kernel names a device by (MODALIAS). Each is from the rules file that
 -- asks, and from where the kernel or udev writes the text. A form may be wider than what is asked, and is never narrower.
 -- Beside each is a text that has it.
-use Rattle.std.specs.Prelude.{ℕ, List, [], ◌∷◌, ◌++◌, codes, map}
+use Rattle.std.specs.Prelude.{ℕ, Bool, List, [], ◌∷◌, ◌++◌, ◌+◌, ◌/◌, Option, None, Some, true, false, codes, find, if◌then◌else◌, length, map, nat_eq, nat_le, take}
+use Rattle.strsim.specs.Edits.{levenshtein_row}
+use Rattle.hwdb_spec.specs.Patterns.{in_span}
 use Rattle.hwdb_spec.specs.declared.ByteSet.TheVariants.{Any, AnyHex, Dmi, DmiLeft, HexOrBlank, InputBits, Left, LeftButColon, LowerHex, Name, Names, Units, UpperHex}
 use Rattle.hwdb_spec.specs.declared.ByteSet.{ByteSet}
-use Rattle.hwdb_spec.specs.Forms.{Form, Piece, counted, fixed, repeated}
+use Rattle.hwdb_spec.specs.Forms.{Form, Piece, counted, fixed, prefix_size, repeated}
 
 -- a form, and a text that has it
 pub record Known : Type 0 where
@@ -23,6 +25,7 @@ optional pieces = pieces ∷ [] ∷ []
 abbrev pub dmi_field : ByteSet → List ℕ → List (List Piece)
 dmi_field set name = optional (fixed name ∷ repeated set ∷ fixed (codes ":") ∷ [])
 
+-- all fields of a machine's name, in their order
 abbrev pub dmi_fields : ByteSet → List (List (List Piece))
 dmi_fields set =
     dmi_field set (codes "bvn") ∷ dmi_field set (codes "bvr") ∷ dmi_field set (codes "bd") ∷ dmi_field set (codes "br")
@@ -92,6 +95,7 @@ evdev_input = record { prefix = codes "evdev:"; fields = always input_pieces ∷
 abbrev pub evdev_machine : Form
 evdev_machine = record { prefix = codes "evdev:"; fields = always (fixed (codes "atkbd:dmi:") ∷ []) ∷ dmi_fields DmiLeft }
 
+-- 60-evdev.rules: a keyboard of the machine, whose MODALIAS isn't known
 abbrev pub evdev_keyboard : Form
 evdev_keyboard = record { prefix = codes "evdev:"; fields = always (fixed (codes "atkbd:") ∷ []) ∷ [] }
 
@@ -101,25 +105,28 @@ evdev_named =
     name_field (codes "name:") (codes ":")
     ∷ optional (fixed (codes "phys:") ∷ repeated Left ∷ fixed (codes ":ev:") ∷ repeated HexOrBlank ∷ fixed (codes ":") ∷ []) ∷ []
 
+-- 60-evdev.rules: an input device by its name, with the machine's MODALIAS
 abbrev pub evdev_name_machine : Form
 evdev_name_machine = record {
   prefix = codes "evdev:";
   fields = evdev_named ++ always (fixed (codes "dmi:") ∷ []) ∷ dmi_fields DmiLeft;
 }
 
+-- 60-evdev.rules: an input device by its name alone
 abbrev pub evdev_name : Form
 evdev_name = record { prefix = codes "evdev:"; fields = evdev_named }
+
+-- a bus, a vendor and a product, and a name
+abbrev pub on_bus : List (List (List Piece))
+on_bus = always (repeated Name ∷ fixed (codes ":") ∷ []) ∷ always (pair LowerHex) ∷ name_field (codes ":name:") (codes ":") ∷ []
 
 -- 60-input-id.rules
 abbrev pub id_input : Form
 id_input = record { prefix = codes "id-input:"; fields = always (fixed (codes "modalias:") ∷ input_pieces) ∷ [] }
 
+-- 60-input-id.rules: an input device by its name
 abbrev pub id_input_name : Form
-id_input_name = record {
-  prefix = codes "id-input:";
-  fields = ((fixed (codes "usb:") ∷ []) ∷ (fixed (codes "bluetooth:") ∷ []) ∷ (fixed (codes "i2c:") ∷ []) ∷ [])
-      ∷ always (pair LowerHex) ∷ name_field (codes ":name:") (codes ":") ∷ [];
-}
+id_input_name = record { prefix = codes "id-input:"; fields = on_bus }
 
 -- 70-mouse.rules
 abbrev pub mouse : Form
@@ -129,13 +136,11 @@ mouse = record {
       ∷ name_field (codes ":name:") (codes ":") ∷ [];
 }
 
--- 70-touchpad.rules, 70-joystick.rules: the bus is a word
-abbrev pub on_bus : List (List (List Piece))
-on_bus = always (repeated Name ∷ fixed (codes ":") ∷ []) ∷ always (pair LowerHex) ∷ name_field (codes ":name:") (codes ":") ∷ []
-
+-- 70-touchpad.rules, 70-joystick.rules
 abbrev pub touchpad : Form
 touchpad = record { prefix = codes "touchpad:"; fields = on_bus }
 
+-- 70-joystick.rules
 abbrev pub joystick : Form
 joystick = record { prefix = codes "joystick:"; fields = on_bus }
 
@@ -149,29 +154,33 @@ camera = record {
 -- 60-sensor.rules: perhaps a label; the MODALIAS; perhaps the machine's
 abbrev pub sensed : List (List (List Piece))
 sensed =
-    optional (repeated LeftButColon ∷ fixed (codes ":") ∷ [])
+    optional (repeated Left ∷ fixed (codes ":") ∷ [])
     ∷ always (fixed (codes "modalias:") ∷ repeated LeftButColon ∷ fixed (codes ":") ∷ [])
     ∷ optional (repeated Left ∷ fixed (codes ":") ∷ []) ∷ []
 
+-- 60-sensor.rules: a sensor, with the machine's MODALIAS
 abbrev pub sensor_machine : Form
 sensor_machine = record {
   prefix = codes "sensor:";
   fields = sensed ++ always (fixed (codes "dmi:") ∷ []) ∷ dmi_fields DmiLeft;
 }
 
+-- 60-sensor.rules: a sensor alone
 abbrev pub sensor : Form
 sensor = record { prefix = codes "sensor:"; fields = sensed }
 
 -- 60-upower-battery.rules: two names; perhaps the machine's MODALIAS
 abbrev pub two_names : List (List (List Piece))
-two_names = always (repeated LeftButColon ∷ fixed (codes ":") ∷ repeated LeftButColon ∷ fixed (codes ":") ∷ []) ∷ []
+two_names = always (repeated LeftButColon ∷ fixed (codes ":") ∷ repeated Left ∷ fixed (codes ":") ∷ []) ∷ []
 
+-- 60-upower-battery.rules: a battery, with the machine's MODALIAS
 abbrev pub battery_machine : Form
 battery_machine = record {
   prefix = codes "battery:";
   fields = two_names ++ always (fixed (codes "dmi:") ∷ []) ∷ dmi_fields DmiLeft;
 }
 
+-- 60-upower-battery.rules: a battery alone
 abbrev pub battery : Form
 battery = record { prefix = codes "battery:"; fields = two_names }
 
@@ -227,7 +236,9 @@ fb = record {
   prefix = codes "fb:";
   fields = ((fixed (codes "pci:") ∷ pci_pieces) ∷ (fixed (codes "vmbus:") ∷ counted LowerHex 32 ∷ [])
       ∷ (fixed (codes "platform:") ∷ repeated Left ∷ []) ∷ (fixed (codes "of:") ∷ repeated Left ∷ [])
-      ∷ (fixed (codes "virtio:") ∷ repeated Left ∷ []) ∷ (fixed (codes "acpi:") ∷ repeated Left ∷ []) ∷ []) ∷ [];
+      ∷ (fixed (codes "virtio:") ∷ repeated Left ∷ []) ∷ (fixed (codes "acpi:") ∷ repeated Left ∷ [])
+      ∷ (fixed (codes "usb:") ∷ repeated Left ∷ []) ∷ (fixed (codes "spi:") ∷ repeated Left ∷ [])
+      ∷ (fixed (codes "i2c:") ∷ repeated Left ∷ []) ∷ (fixed (codes "xen:") ∷ repeated Left ∷ []) ∷ []) ∷ [];
 }
 
 -- 60-tpm2-id.rules
@@ -238,13 +249,14 @@ tpm2 = record { prefix = codes "tpm2:"; fields = always (repeated Any ∷ []) �
 abbrev pub block : Form
 block = record {
   prefix = codes "block:";
-  fields = always (fixed (codes ":name:") ∷ repeated Any ∷ fixed (codes ":fwrev:") ∷ repeated Any ∷ fixed (codes ":") ∷ []) ∷ [];
+  fields = always (repeated Any ∷ fixed (codes ":name:") ∷ repeated Any ∷ fixed (codes ":fwrev:") ∷ repeated Any ∷ fixed (codes ":") ∷ []) ∷ [];
 }
 
 -- MODALIAS of other buses (scripts/mod/file2alias.c of Linux, and the buses' own `uevent`), of which nothing more is said here
 abbrev pub free : List ℕ → Form
 free prefix = record { prefix = prefix; fields = always (repeated Any ∷ []) ∷ [] }
 
+-- a form, and a text that has it
 abbrev pub known_with : Form → List ℕ → Known
 known_with form example = record { form = form; example = example }
 
@@ -310,7 +322,6 @@ free_prefixes =
     ∷ codes "xen:"
     ∷ codes "xen-backend:"
     ∷ codes "auxiliary:"
-    ∷ codes "soundwire:"
     ∷ codes "sdw:"
     ∷ codes "mmc:"
     ∷ codes "rpmsg:"
@@ -332,8 +343,54 @@ free_prefixes =
     ∷ codes "dfl:"
     ∷ codes "tee:"
     ∷ codes "coreboot:"
-    ∷ codes "cxl:" ∷ []
+    ∷ codes "cxl:"
+    ∷ codes "nd:"
+    ∷ codes "dax:"
+    ∷ codes "slim:"
+    ∷ codes "apr:"
+    ∷ codes "hsi:"
+    ∷ codes "ac97:"
+    ∷ codes "cdx:"
+    ∷ codes "vchiq:"
+    ∷ codes "rapidio:"
+    ∷ codes "nubus:"
+    ∷ codes "peci:"
+    ∷ codes "moxtet:"
+    ∷ codes "siox:"
+    ∷ codes "scmi_protocol:"
+    ∷ codes "maple:" ∷ []
 
 -- all forms
 abbrev pub asked : List Form
 asked = map (λ k. k.form) known ++ map free free_prefixes
+
+-- how the texts of these forms begin, up to their first colon
+abbrev pub prefixes : List (List ℕ)
+prefixes = map (λ k. k.form.prefix) known ++ free_prefixes
+
+-- a byte in lower case
+abbrev pub lower : ℕ → ℕ
+lower b = if in_span b (65, 90) then b + 32 else b
+
+-- how many bytes have to be put in, taken away or changed (Levenshtein), in lower case
+abbrev pub distance : (text prefix : List ℕ) → ℕ
+distance text prefix = levenshtein_row nat_eq (map lower text) (map lower prefix) (length (map lower prefix))
+
+-- whether a text is a prefix but for its case, or nearly: one byte in three may differ
+abbrev pub is_near : (exact : Bool) → (text prefix : List ℕ) → Bool
+is_near exact text prefix = nat_le (distance text prefix) (if exact then 0 else length prefix / 3)
+
+-- the first of two, if there is one
+abbrev pub or_else : Option (List ℕ) → Option (List ℕ) → Option (List ℕ)
+or_else None other = other
+or_else (Some found) other = Some found
+
+-- The prefix that was meant by another one: `evdev:` was `keyboard:` before version 220 of systemd. Our choice.
+abbrev pub likely : List ℕ → Option (List ℕ)
+likely text =
+    if is_near true text (codes "keyboard:") then Some (codes "evdev:")
+    else or_else (find (is_near true text) prefixes) (find (is_near false text) prefixes)
+
+-- the same of a pattern's prefix
+abbrev pub likely_prefix : List ℕ → Option (List ℕ)
+likely_prefix pattern = likely (take (prefix_size pattern) pattern)

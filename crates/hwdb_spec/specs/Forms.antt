@@ -114,11 +114,12 @@ meets (literal own) set = is_in set own
 meets (bracket found) set =
     list_any (λ b. if is_in set b then admits_byte (bracket found) b else false) (candidates set)
 
--- the first cell of a row, and the others
+-- the first cell of a row
 abbrev pub head : List Bool → Bool
 head [] = false
 head (b ∷ rest) = b
 
+-- the cells after the first one
 abbrev pub tail : List Bool → List Bool
 tail [] = []
 tail (b ∷ rest) = rest
@@ -207,6 +208,7 @@ unfoldable pub front_from : List Form → List Token → (n : ℕ) → ℕ
 front_from forms ts zero = 0
 front_from forms ts (suc n) = if can_begin forms (take (suc n) ts) then suc n else front_from forms ts n
 
+-- how many of a pattern's tokens, at most, a text of one of the forms begins with
 abbrev pub front_length : List Form → List Token → ℕ
 front_length forms ts = front_from forms ts (length ts)
 
@@ -219,7 +221,7 @@ text_size (token ∷ more) = token_size token + text_size more
 abbrev pub ends_prefix : ℕ → Bool
 ends_prefix b = if b == byte ":" then true else (if b == byte "*" then true else (if b == byte "?" then true else b == byte "["))
 
--- how many bytes a pattern's prefix takes: up to its first colon, and with it; none where a wildcard stands before, or no colon is there
+-- how many bytes a pattern's prefix takes: up to its first colon, and with it; none if a wildcard comes before it, or there is no colon
 abbrev pub prefix_size : List ℕ → ℕ
 prefix_size pattern =
     if begins_with (byte ":") (drop (position_or_len ends_prefix pattern) pattern) then position_or_len ends_prefix pattern + 1 else 0
@@ -230,7 +232,7 @@ is_unknown forms pattern =
     if nat_lt 0 (prefix_size pattern) then not (can_begin forms (take (prefix_size pattern) (tokens pattern))) else false
 
 -- What is said of a pattern: it is fine if it matches a text of one of the forms. Else its prefix is unknown, or it is dead, and its
--- place is behind the tokens that a text of one of the forms begins with, as many as can be.
+-- place is after the tokens that a text of one of the forms begins with, as many as can be.
 abbrev pub judged : List Form → List ℕ → Judgement
 judged forms pattern =
     if can_match forms (tokens pattern) then Fine
@@ -241,8 +243,8 @@ judged forms pattern =
 abbrev pub is_wild : ℕ → Bool
 is_wild b = if b == byte "*" then true else (if b == byte "?" then true else b == byte "[")
 
--- whether a byte, which is no wildcard, may be written behind the beginning of a pattern, so that a text of one of the forms begins with
--- what this matches
+-- whether a byte, which is no wildcard, may be written after the beginning of a pattern: some text of one of the forms begins with what
+-- both match
 abbrev pub is_expected : List Form → (front : List ℕ) → ℕ → Bool
 is_expected forms front b = if is_wild b then false else can_begin forms (tokens (front ++ b ∷ []))
 

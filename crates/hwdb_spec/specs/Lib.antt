@@ -18,6 +18,7 @@ pub mod Summary
 pub mod Verdicts
 pub mod Reports
 pub mod Properties
+pub mod Unmatched
 pub mod Warnings
 pub mod Checks
 pub mod Progress
@@ -28,6 +29,7 @@ pub mod Databases
 pub mod Failures
 pub mod Outputs
 pub mod Store
+pub mod Runs
 pub mod Crashes
 pub mod Sharing
 pub mod System

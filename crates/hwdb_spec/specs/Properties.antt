@@ -1,7 +1,7 @@
 -- What is known of properties: which names they have, which texts are their values, which prefixes they are read below, and what is
 -- said of a property that doesn't fit. Which forms a value has is from the heads of systemd's hwdb files, and from what libinput and udev
 -- read. The rest is our choice.
-use Rattle.std.specs.Prelude.{Bool, true, false, ℕ, List, [], ◌∷◌, ◌++◌, ◌+◌, ◌-◌, ◌==◌, Option, None, Some, if◌then◌else◌, codes, drop, length, nat_eq, nat_lt, not}
+use Rattle.std.specs.Prelude.{Bool, true, false, ℕ, List, [], ◌∷◌, ◌++◌, ◌+◌, ◌-◌, ◌==◌, Option, None, Some, if◌then◌else◌, codes, drop, length, nat_eq, nat_lt, not, take}
 use Rattle.std.specs.List.{after_first, before_first, find, list_all, list_any, prefix_len, starts_with}
 use Rattle.std.specs.Option.{unwrap_or}
 use Rattle.std.specs.Ordering.{is_gt}
@@ -17,10 +17,11 @@ use Rattle.hwdb_spec.specs.declared.vocabulary.ValueForm.TheVariants.{Any, Axis,
 
 -- ---- Rows
 
--- a text up to its first space, and what is after that
+-- a text up to its first space
 abbrev pub word : List ℕ → List ℕ
 word text = before_first (is (byte " ")) text
 
+-- what is after the first space of a text
 abbrev pub after_word : List ℕ → List ℕ
 after_word text = after_first (is (byte " ")) text
 
@@ -64,18 +65,25 @@ is_near [] ys = same_after_one [] ys
 is_near (x ∷ xs) [] = same_after_one (x ∷ xs) []
 is_near (x ∷ xs) (y ∷ ys) = if lower x == lower y then is_near xs ys else same_after_one (x ∷ xs) (y ∷ ys)
 
+-- what of a name a row's name is compared with: as many bytes as that has, if it is for all names that begin with it
+abbrev pub compared_part : (own name : List ℕ) → List ℕ
+compared_part own name = if is_family own then take (length own) name else name
+
 -- the first row of a table with nearly this name
 abbrev pub near_row : (table name : List ℕ) → List ℕ
-near_row table name = first_row (λ row. is_near (word row) name) table
+near_row table name = first_row (λ row. is_near (word row) (compared_part (word row) name)) table
 
 -- ---- Values
 
+-- a decimal digit
 abbrev pub is_digit : ℕ → Bool
 is_digit b = in_span b (48, 57)
 
+-- a hexadecimal digit in lower case
 abbrev pub is_lower_hex_digit : ℕ → Bool
 is_lower_hex_digit b = if is_digit b then true else in_span b (97, 102)
 
+-- a hexadecimal digit
 abbrev pub is_hex_digit : ℕ → Bool
 is_hex_digit b = if is_lower_hex_digit b then true else in_span b (65, 70)
 
@@ -98,7 +106,7 @@ is_byte text =
     (if nat_lt (length text) 3 then true else (if length text == 3 then not (is_gt (text_cmp text (codes "255"))) else false))
     else false
 
--- digits with a `.` before, among or after them, or without one; after a sign or not
+-- digits with a `.` before, among or after them, or without one
 abbrev pub is_unsigned : List ℕ → Bool
 is_unsigned text =
     if list_all is_digit (before_first (is (byte ".")) text) then
@@ -106,6 +114,7 @@ is_unsigned text =
     not (is_none (before_first (is (byte ".")) text ++ after_first (is (byte ".")) text))
     else false) else false
 
+-- such a number, after a sign or not
 abbrev pub is_decimal : List ℕ → Bool
 is_decimal text = if begins_with (byte "-") text then is_unsigned (drop 1 text) else is_unsigned (without (byte "+") text)
 
@@ -113,14 +122,15 @@ is_decimal text = if begins_with (byte "-") text then is_unsigned (drop 1 text) 
 abbrev pub unindented : List ℕ → List ℕ
 unindented text = drop (prefix_len is_indent text) text
 
--- what is before the first such byte, and what is after it
+-- what is before the first such byte, or the whole text
 abbrev pub before : ℕ → List ℕ → List ℕ
 before own text = before_first (is own) text
 
+-- what is after the first such byte, or nothing
 abbrev pub after : ℕ → List ℕ → List ℕ
 after own text = after_first (is own) text
 
--- three decimals with commas between, and three such rows with semicolons between; each may have spaces before it
+-- three decimals with commas between; each may have spaces before it
 abbrev pub is_matrix_row : List ℕ → Bool
 is_matrix_row text =
     if is_decimal (unindented (before (byte ",") text)) then
@@ -128,6 +138,7 @@ is_matrix_row text =
     is_decimal (unindented (after (byte ",") (after (byte ",") text)))
     else false) else false
 
+-- three such rows with semicolons between
 abbrev pub is_matrix : List ℕ → Bool
 is_matrix text =
     if is_matrix_row (before (byte ";") text) then
@@ -143,17 +154,21 @@ is_resolution text =
     (if has (byte "@") text then is_made_of is_digit (after (byte "@") (without (byte "*") text)) else true)
     else false)
 
+-- resolutions with spaces between
 abbrev pub is_resolutions : List ℕ → Bool
 is_resolutions text = list_all is_resolution (pieces (is (byte " ")) text)
 
 -- digits, or `0x` and hexadecimal ones
 abbrev pub is_number : List ℕ → Bool
-is_number text = if is_made_of is_digit text then true else (if same (before (byte "x") text) (codes "0") then is_made_of is_hex_digit (after (byte "x") text) else false)
+is_number text =
+    if is_made_of is_digit text then true else
+    (if same (before (byte "x") text) (codes "0") then is_made_of is_hex_digit (after (byte "x") text) else false)
 
--- at most five numbers with colons between; each may be left out, or have a `-` before it
+-- a number, after a `-` or not; or nothing
 abbrev pub is_limit : List ℕ → Bool
 is_limit text = if is_none text then true else is_number (without (byte "-") text)
 
+-- at most five limits with colons between: least, greatest, resolution, fuzz and flat value
 abbrev pub is_axis : List ℕ → Bool
 is_axis text =
     let second = after (byte ":") text in
@@ -164,22 +179,29 @@ is_axis text =
     (if is_limit (before (byte ":") third) then
     (if is_limit (before (byte ":") fourth) then is_limit (after (byte ":") fourth) else false) else false) else false) else false
 
--- digits or `_`, a comma, and digits or `_`
+-- digits, or `_`
 abbrev pub is_charge : List ℕ → Bool
 is_charge text = if same text (codes "_") then true else is_made_of is_digit text
 
+-- two charges with a comma between
 abbrev pub is_limits : List ℕ → Bool
 is_limits text = if is_charge (before (byte ",") text) then is_charge (after (byte ",") text) else false
 
--- whether a text is the name of a key in linux/input-event-codes.h in lower case, with or without `key_`
+-- whether a text is the name of a key in linux/input-event-codes.h in lower case, without `key_`
 abbrev pub is_key_name : List ℕ → Bool
 is_key_name text = not (is_none (row_for KEY_NAMES.now text))
 
+-- the name of a key after `key_`; a button has `btn_` in its place
+abbrev pub is_prefixed_key : List ℕ → Bool
+is_prefixed_key text =
+    if starts_with nat_eq text (codes "key_") then
+    (if starts_with nat_eq text (codes "key_btn_") then false else is_key_name (drop 4 text)) else false
+
 -- a number, or the name of a key
 abbrev pub is_key : List ℕ → Bool
-is_key text = if is_number text then true else (if is_key_name text then true else (if starts_with nat_eq text (codes "key_") then is_key_name (drop 4 text) else false))
+is_key text = if is_number text then true else (if is_key_name text then true else is_prefixed_key text)
 
--- one of the words that stand in a form with `|` between
+-- one of the words that a form has, with a bar between each two
 abbrev pub is_choice : (form text : List ℕ) → Bool
 is_choice form text = list_any (same text) (pieces (is (byte "|")) form)
 
@@ -213,19 +235,21 @@ is_of_form Choice form text = is_choice form text
 
 -- ---- Properties
 
--- the row of a property, the word for its form, and its prefixes
+-- the row of a property
 abbrev pub property_row : List ℕ → List ℕ
 property_row name = row_for PROPERTIES.now name
 
+-- the word for the form of a row's values
 abbrev pub row_form : List ℕ → List ℕ
 row_form row = word (after_word row)
 
--- whether the names of a form's properties end with a hexadecimal code, and whether this one has a code in lower case
+-- whether the names of a form's properties end with a hexadecimal code
 abbrev pub has_code : ValueForm → Bool
 has_code Axis = true
 has_code Key = true
 has_code form = false
 
+-- whether what a name has more than its row is a code in lower case
 abbrev pub is_code : (row name : List ℕ) → Bool
 is_code row name = is_made_of is_lower_hex_digit (drop (length (word row)) name)
 

@@ -3,7 +3,7 @@ use Rattle.std.specs.Prelude.{Bool, true, false, ℕ, List, [], ◌∷◌, ◌++
 use Rattle.std.specs.Fmt.{decimal}
 use Rattle.std.specs.List.{list_any, position_or_len, prefix_len, starts_with}
 use Rattle.std.specs.Option.{unwrap_or}
-use Rattle.hwdb_spec.specs.Lines.{Line, begins_with, byte, clean, clean_line, has, has_equals, has_key, is, is_dropped, is_indent, is_match, is_none, is_property, key, lines, max_pattern, value}
+use Rattle.hwdb_spec.specs.Lines.{Line, begins_with, byte, clean, clean_line, has, has_equals, has_key, is, is_dropped, is_indent, is_match, is_none, is_property, key, lines, value}
 use Rattle.hwdb_spec.specs.Assignment.{Assignment}
 use Rattle.hwdb_spec.specs.Records.{assignments}
 use Rattle.hwdb_spec.specs.Folders.{same}
@@ -12,10 +12,7 @@ use Rattle.hwdb_spec.specs.Tree.{closed_part, is_open}
 use Rattle.hwdb_spec.specs.Texts.{place_text}
 use Rattle.hwdb_spec.specs.Properties.{misuse, misuse_hint, misuse_text}
 use Rattle.hwdb_spec.specs.Reports.{hint_line, mark_line, shown_line}
-use Rattle.hwdb_spec.specs.FormTable.{asked}
-use Rattle.hwdb_spec.specs.Forms.{judged}
-use Rattle.hwdb_spec.specs.declared.Judgement.{Judgement}
-use Rattle.hwdb_spec.specs.declared.Judgement.TheVariants.{Dead, Fine, UnknownPrefix}
+use Rattle.hwdb_spec.specs.Unmatched.{is_unmatched, judgement_hint, judgement_of, judgement_place, judgement_text}
 use Rattle.hwdb_spec.specs.declared.WarningKind.{WarningKind}
 use Rattle.hwdb_spec.specs.declared.vocabulary.Misuse.{Misuse}
 use Rattle.hwdb_spec.specs.declared.vocabulary.Misuse.TheVariants.{NearName, ScanCode, UnfitValue, UnknownKey}
@@ -78,17 +75,6 @@ misused l =
     if is_property l then (if has_equals l then (if has_key l then (if is_spaced l then None else misuse (key l) (value l)) else None) else None)
     else None
 
--- what is said of a clean text that is a pattern of at most 4,096 bytes; nothing of any other
-unfoldable pub judgement_of : List ℕ → Judgement
-judgement_of text =
-    if is_none text then Fine else (if begins_with (byte " ") text then Fine else (if nat_lt max_pattern (length text) then Fine else judged asked text))
-
--- whether a pattern matches no text that udev asks
-abbrev pub is_unmatched : Judgement → Bool
-is_unmatched Fine = false
-is_unmatched UnknownPrefix = true
-is_unmatched (Dead place) = true
-
 -- Whether a line of a file, of which this is the clean line, gets a warning: its clean text begins with the three bytes of a UTF-8
 -- byte order mark; with a tab, and so is a match line; a carriage return stands in it, which isn't among its trailing blanks. Of a
 -- match line: a `[` of it begins no closed bracket; before the first such `[` a range has no members. Of a property that has a key:
@@ -148,9 +134,7 @@ warning_text CutValue = codes "a # without a blank before it cuts the value"
 warning_text RepeatedMatch = codes "a match line that stands in its record already"
 warning_text (Replaced by) = codes "an assignment that line " ++ (decimal by ++ codes " replaces")
 warning_text (Misused why) = misuse_text why
-warning_text (Unmatched Fine) = []
-warning_text (Unmatched UnknownPrefix) = codes "no device string begins so"
-warning_text (Unmatched (Dead place)) = codes "no device string is matched: none goes on here"
+warning_text (Unmatched told) = judgement_text told
 
 -- behind how many bytes of its line a warning stands, of a line with this text and this clean text
 abbrev pub warning_place : WarningKind → (text clean : List ℕ) → ℕ
@@ -167,9 +151,7 @@ warning_place (Misused NearName) text clean = prefix_len is_indent text
 warning_place (Misused ScanCode) text clean = prefix_len is_indent text
 warning_place (Misused UnknownKey) text clean = position_or_len (is (byte "=")) text + 1
 warning_place (Misused UnfitValue) text clean = position_or_len (is (byte "=")) text + 1
-warning_place (Unmatched Fine) text clean = 0
-warning_place (Unmatched UnknownPrefix) text clean = 0
-warning_place (Unmatched (Dead place)) text clean = place
+warning_place (Unmatched told) text clean = judgement_place told
 
 -- what to do about a warning
 abbrev pub warning_hint : WarningKind → (clean : Line) → List ℕ
@@ -183,9 +165,7 @@ warning_hint CutValue clean = codes "put a blank before a comment; a value can't
 warning_hint RepeatedMatch clean = codes "take one of the two away"
 warning_hint (Replaced by) clean = codes "take one of the two away"
 warning_hint (Misused why) clean = misuse_hint why (key clean) (value clean)
-warning_hint (Unmatched Fine) clean = []
-warning_hint (Unmatched UnknownPrefix) clean = codes "begin it as udev's strings do, with evdev: or mouse: or usb: and the like"
-warning_hint (Unmatched (Dead place)) clean = codes "compare it byte by byte with a string that udev asks, upper and lower case too"
+warning_hint (Unmatched told) clean = judgement_hint told clean.text
 
 -- the line of a warning: where it stands, `: warning: `, what is unusual
 abbrev pub warning_line : (path : List ℕ) (number : ℕ) → WarningKind → List ℕ

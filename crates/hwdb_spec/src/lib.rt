@@ -25,6 +25,7 @@
 //! | `Verdicts` | what is said of bytes that are no database |
 //! | `Reports` | the reports of a file's faults |
 //! | `Properties` | which properties are known, which values they take, and what is said of others |
+//! | `Unmatched` | what is said of a pattern that matches no text that udev asks |
 //! | `Warnings` | the warnings of a file, and their reports |
 //! | `Checks` | what `check` prints, how much it finds, and its status |
 //! | `Progress` | what `update` says of its work |
@@ -35,10 +36,12 @@
 //! | `Failures` | how failed calls are counted |
 //! | `Outputs` | what commands write: how the bytes that a sink tells grow |
 //! | `Store` | a store of files, what a crash may leave, and a database that is replaced |
+//! | `Runs` | what a run sees and leaves: files, and devices that tell of their bytes; and texts that both outputs took |
 //! | `Crashes` | what a crash may leave of files, call by call |
+//! | `Sharing` | several updates at once: what others may do between two calls of one, and what that may leave |
 //! | `System` | a file system as the program sees it: text files of folders, and the database that is asked |
 //! | `Given` | what the words' paths and devices stand for, `-` too |
-//! | `CheckedFiles` | which text files `check` reads, and what it leaves |
+//! | `CheckedFiles` | which text files `check` reads, and what it prints |
 //! | `LeftOut` | text files that can't be read, and that an update leaves out |
 //! | `Asked` | the database that a command asks for, and what is printed of it |
 //! | `Library` | what the C library is told |

@@ -1,29 +1,25 @@
 -- The files that `check` reads, and what it refuses of them.
-use Rattle.std.proofs.Common.{◌≡◌, ◌≢◌, ◌<◌, ◌≤◌, ◌+◌, ◌++◌, ◌∙◌, ◌||◌, inr, ap, sym, subst, refl, arith, ℕ, suc, Bool, true, false, List, [], ◌∷◌, length, map, drop, zero, get_or, string_bytes, codes, Global, Option, Some, None, Result, IfErr, String, All}
+use Rattle.std.proofs.Common.{◌≡◌, ◌<◌, ◌≤◌, ◌+◌, ◌++◌, ◌∙◌, ◌||◌, inr, ap, sym, subst, refl, arith, ℕ, suc, Bool, true, false, List, [], ◌∷◌, length, map, drop, zero, get_or, string_bytes, codes, Global, Option, Some, None, Result, Ok, Err, IfErr, IfOk, String, All}
 use Rattle.std.specs.Bool.{◌==◌}
 use Rattle.std.specs.Prelude.{Contains, IfSome}
 use Rattle.std.specs.Option.{option_map_or}
-use Rattle.std.specs.Result.{IsErrAnd}
 use Rattle.std.proofs.lemmas.List.{length-map, get_or-map, drop_all}
-use Rattle.hwdb_spec.specs.Checks.{check_text}
 use Rattle.hwdb_spec.specs.Folders.{Choice, Source, path_of}
 use Rattle.std.proofs.lemmas.List.Elements.{All-nil, All-cons}
 use Rattle.hwdb_spec.specs.Given.{IsContent, IsGiven, is_dash, any_dash}
 use Rattle.hwdb_spec.specs.Store.{Contents}
 use Rattle.hwdb_spec.specs.System.{bytes_at}
-use Rattle.hwdb_spec.specs.Outputs.{AppendsPrefix}
-use Rattle.hwdb_transfer.specs.declared.errors.ToolError.{ToolError}
-use Rattle.hwdb_transfer.specs.declared.errors.ToolError.TheVariants.{Write}
-use Rattle.hwdb_lint.specs.Checks.{IsChecksRefusal, source_of}
+use Rattle.hwdb_spec.specs.Runs.{OnOut}
+use Rattle.hwdb_lint.specs.Checks.{source_of}
 use Rattle.hwdb_lint.specs.declared.files.TextFile.{TextFile}
-use Rattle.hwdb_spec.specs.CheckedFiles.{AreCheckedFiles, AreChosenFiles, AreGivenFiles}
+use Rattle.hwdb_spec.specs.CheckedFiles.{AreCheckedFiles, AreChosenFiles, AreGivenFiles, IsChecked}
 use Rattle.hwdb_fs.specs.Internal.{AreSelected}
 use Rattle.hwdb_tool.specs.Internal.{AreTextsGiven, bytes_given, bytes_if}
 use Rattle.hwdb_fs.specs.Refusals.{IsUnread}
-use Rattle.hwdb_tool.specs.Undone.{AreUncheckable, IsCheckRefused, IsGivenUnread, told_as, told_path}
+use Rattle.hwdb_tool.specs.Undone.{AreNotChecked, AreUncheckable, IsCheckRefused, IsGivenUnread, told_as, told_path}
 use Rattle.hwdb_fs.specs.declared.refusals.Refusal.{Refusal}
-use Rattle.hwdb_fs.specs.declared.refusals.Refusal.TheVariants.{Plain}
-use Rattle.hwdb_tool.proofs.ErrorLemmas.{given_error}
+use Rattle.hwdb_tool.specs.Views.{texts_in}
+use Rattle.hwdb_tool.specs.declared.answer.Answer.{Answer}
 
 -- a given file, by its place
 pub given_unread : (given : List (String Global)) (k : ℕ) (path : String Global) (refusal : Refusal) → path ≡ get_or given k path → k < length given
@@ -147,14 +143,31 @@ chosen_sources root contents usr chosen texts files are named held = record {
 }
 
 -- ---- what is said of them
-module _ {T W : Type 0} (taken : W → Option (List ℕ)) (old new : W) (Unread : Refusal → Type 0) (Are : List Source → Type 0) (files : List TextFile) (error : ToolError) where
-  -- checking them is refused
-  pub unchecked : Are (map source_of files) → IsChecksRefusal (map source_of files) error → (error ≢ Write → new ≡ old)
-      → (error ≡ Write → AppendsPrefix (taken old) (taken new) (check_text (map source_of files)))
-      → (result : Result T Refusal) → IsErrAnd result (λ r. r ≡ Plain error) → IfErr result (λ r. IsCheckRefused Unread Are r (taken old) (taken new))
-  unchecked are refused untouched cut result is =
-      given_error (Plain error) (λ r. IsCheckRefused Unread Are r (taken old) (taken new)) result is
-      (inr (error, refl, record { sources = map source_of files; are = are; refused = refused; untouched = λ w. ap taken (untouched w); cut_short = cut }))
+pub checked_as : (Are : List Source → Type 0) (files : List TextFile) (strict : Bool) (text : List ℕ) (status : ℕ) → Are (map source_of files)
+    → IsChecked (λ sources. sources ≡ map source_of files) strict text status → IsChecked Are strict text status
+checked_as Are files strict text status are checked = record {
+  sources = checked.sources;
+  are = subst Are (sym checked.are) are;
+  is = checked.is;
+  says = checked.says;
+}
+
+pub all_checked : (Are : List Source → Type 0) (files : List TextFile) (strict : Bool) (r : Result Answer Refusal) → Are (map source_of files)
+    → IfOk r (λ a. OnOut (λ text. IsChecked (λ sources. sources ≡ map source_of files) strict text a.status) (texts_in a))
+    → IfOk r (λ a. OnOut (λ text. IsChecked Are strict text a.status) (texts_in a))
+all_checked Are files strict (Ok a) are checked = (checked.0, checked_as Are files strict a.out.items a.status are checked.1)
+all_checked Are files strict (Err e) are checked = tt
+
+pub not_checked : {T : Type 0} (Unread : Refusal → Type 0) (Are : List Source → Type 0) (files : List TextFile) (r : Result T Refusal) → Are (map source_of files)
+    → IfErr r (AreNotChecked (λ sources. sources ≡ map source_of files)) → IfErr r (IsCheckRefused Unread Are)
+not_checked Unread Are files (Ok x) are refused = tt
+not_checked Unread Are files (Err e) are refused = inr record {
+  sources = refused.sources;
+  are = subst Are (sym refused.are) are;
+  error = refused.error;
+  is = refused.is;
+  refused = refused.refused;
+}
 
 -- where some are given
 pub some_given : (root : List ℕ) (input : Option (List ℕ)) (contents : Contents) (given : List (String Global)) (P : (Refusal → Type 0) → (List Source → Type 0) → Type 0) → (length given == 0) ≡ false

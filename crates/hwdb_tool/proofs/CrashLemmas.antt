@@ -2,7 +2,6 @@
 use Rattle.std.proofs.Common.{◌≡◌, ◌⊎◌, ◌∙◌, inl, inr, ⊎_elim, ap, sym, subst, ℕ, Bool, true, false, List, [], ◌∷◌, Option, Some, None, bytes_eq, codes, if◌then◌else◌, get_or, arith}
 use Rattle.std.specs.Prelude.{option_map}
 use Rattle.std.specs.Option.{option_map_or, option_or}
-use Rattle.std.specs.Io.KnownBytes.{Appends}
 use Rattle.std.proofs.lemmas.List.{append-nil, append_cancel_left}
 use Rattle.clap.specs.Walk.{Row, Text}
 use Rattle.clap.specs.Simple.{matches_of, subcommand_of}
@@ -66,12 +65,12 @@ module _ (all_last : AllCompiledAnswersAreLast) (are : LastAssignmentsAreLast) w
   answers : (root : List ℕ) (files old after : Contents) → IsLeftByUpdate root false files old (path_in (database_folder false root) database_name) (after (path_in (database_folder false root) database_name))
       → AnswersFrom root files after
   unfolding texts.with_empty_lines effective_of
-  answers root files old after left device out_before out_now answered =
+  answers root files old after left device shown answered =
       let here = ⊎_elim (λ new. new) (λ part. absurd (part_apart (database_folder false root) old _ part)) left.left in
       let stands : asked_database root after ≡ Some here.0 =
       ap (λ o. option_or (option_map (λ (f : Stored). f.bytes) o) (bytes_at after (path_in (database_folder true root) database_name))) here.4 in
-      let text = answered.printed.is in
-      let same : answered.bytes ≡ here.0 = one_held (asked_database root after) answered.bytes here.0 answered.asked stands in
+      let text = answered.is in
+      let same : answered.bytes ≡ here.0 = one_held (asked_database root after) answered.bytes here.0 answered.named stands in
       let tree : IsDatabase here.0 text.tree = subst (λ b. IsDatabase b text.tree) same text.database in
       let hits = all_last left.of_etc left.of_usr here.0 here.2 text.tree tree device in
       record {
@@ -81,8 +80,7 @@ module _ (all_last : AllCompiledAnswersAreLast) (are : LastAssignmentsAreLast) w
         in_usr = left.in_usr;
         last = last_assignments device None (all_assignments left.of_etc left.of_usr);
         are_last = are device None (all_assignments left.of_etc left.of_usr);
-        printed = subst (Appends out_before out_now)
-            (text.is ∙ append-nil _ ∙ ap (λ (l : List Assignment). properties_text (effective_of l)) hits) answered.printed.taken;
+        is = text.is ∙ append-nil _ ∙ ap (λ (l : List Assignment). properties_text (effective_of l)) hits;
       }
 
   pub crashed : (fails : List ℕ → Type 0) (before : Outcomes) → CrashThenQuery fails before

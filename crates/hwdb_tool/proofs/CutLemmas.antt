@@ -1,29 +1,25 @@
 -- A task that is refused since an output failed changes nothing.
-use Rattle.std.proofs.Common.{⊎_elim, ℕ, Bool, List, Option}
+use Rattle.std.proofs.Common.{⊎_elim, Bool, List, ℕ}
 use Rattle.hwdb_cli.specs.declared.job.Task.{Task}
 use Rattle.hwdb_cli.specs.declared.job.Task.TheVariants.{Ask, Check, Diff, Dump, Explain, List as ListHits, Query, Update, Verify}
-use Rattle.hwdb_spec.specs.Store.{Contents, Outcomes}
+use Rattle.hwdb_spec.specs.Runs.{AreKept, World}
 use Rattle.hwdb_fs.specs.declared.refusals.Refusal.TheVariants.{Plain}
-use Rattle.hwdb_spec.specs.Done.{AreKept}
 use Rattle.hwdb_tool.specs.TaskRefusals.{IsTaskRefused}
-use Rattle.hwdb_transfer.specs.declared.errors.ToolError.TheVariants.{Write}
+use Rattle.hwdb_print.specs.declared.errors.ToolError.TheVariants.{Write}
 
-module _ (MayFail : List ℕ → Type 0) (root : List ℕ) (usr : Bool) (input : Option (List ℕ)) (old new : Contents) (left_before left : Outcomes) (err_before err_then out_before out_now : Option (List ℕ)) where
-  abbrev Refused : Task → Type 0
-  Refused task = IsTaskRefused task MayFail root usr input (Plain Write) old new left_before left err_before err_then out_before out_now
-
-  pub cut_keeps : (task : Task) → Refused task → AreKept old new left_before left
+module _ (root : List ℕ) (usr strict : Bool) (before now : World) where
+  pub cut_keeps : (task : Task) → IsTaskRefused task root usr strict (Plain Write) before now → AreKept before.files now.files
   cut_keeps (Update verbose skip) r =
       ⊎_elim (λ untold. untold.1)
       (λ told. ⊎_elim (λ unread. unread.1)
       (λ less. ⊎_elim (λ unsaid. unsaid.1)
       (λ said. ⊎_elim (λ memory. memory.1)
       (λ undone. ⊎_elim (λ uncompiled. uncompiled.kept) (λ unwritten. absurd unwritten.is) undone.refused) said.2) less.refused) told.refused) r.0
-  cut_keeps (Query devices json) r = r.2
-  cut_keeps (Explain device json) r = r.2
-  cut_keeps (ListHits after limit device json) r = r.2
+  cut_keeps (Query devices json) r = r.1
+  cut_keeps (Explain device json) r = r.1
+  cut_keeps (ListHits after limit device json) r = r.1
   cut_keeps (Ask file device) r = r.1
-  cut_keeps (Check files) r = r.2
-  cut_keeps (Diff old_path new_path) r = r.2
-  cut_keeps (Verify database) r = r.2
-  cut_keeps (Dump database) r = r.2
+  cut_keeps (Check files) r = r.1
+  cut_keeps (Diff old_path new_path) r = r.1
+  cut_keeps (Verify database) r = r.1
+  cut_keeps (Dump database) r = r.1

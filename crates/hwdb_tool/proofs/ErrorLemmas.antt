@@ -15,3 +15,7 @@ each_error P Q (Err x) f p = f x p
 pub each_value : {T E : Type 0} (P Q : T → Type 0) (r : Result T E) → ((x : T) → P x → Q x) → IfOk r P → IfOk r Q
 each_value P Q (Ok x) f p = f x p
 each_value P Q (Err x) f p = tt
+
+pub both_errors : {T E : Type 0} (P Q R : E → Type 0) (r : Result T E) → ((e : E) → P e → Q e → R e) → IfErr r P → IfErr r Q → IfErr r R
+both_errors P Q R (Ok x) f p q = tt
+both_errors P Q R (Err x) f p q = f x p q

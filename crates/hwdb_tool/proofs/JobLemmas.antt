@@ -11,15 +11,19 @@ use Rattle.hwdb_cli.specs.Line.{hwdb_app}
 use Rattle.hwdb_cli.specs.declared.job.Job.{Job}
 use Rattle.hwdb_cli.specs.declared.job.Task.{Task}
 use Rattle.hwdb_cli.specs.declared.job.Task.TheVariants.{Ask, Check, Diff, Dump, Explain, List as ListHits, Query, Update, Verify}
-use Rattle.hwdb_spec.specs.Store.{Contents, Outcomes, Same}
+use Rattle.hwdb_spec.specs.Outputs.{Texts}
+use Rattle.hwdb_spec.specs.Runs.{AreKept, OnOut, Printed, World}
+use Rattle.hwdb_spec.specs.Store.{Contents, Outcomes}
 use Rattle.hwdb_spec.specs.CheckedFiles.{AreCheckedFiles, IsChecked}
 use Rattle.hwdb_spec.specs.Asked.{IsCompared, IsAnswered, IsListFrom, IsDumped, IsPrinted}
 use Rattle.hwdb_spec.specs.Done.{IsAsked}
 use Rattle.hwdb_spec.specs.Databases.{IsSummary}
-use Rattle.hwdb_tool.specs.Queries.{AreAnswered}
+use Rattle.hwdb_tool.specs.Queries.{AreAnswered, IfNamed, IsQuiet}
+use Rattle.hwdb_print.specs.declared.form.Form.{Form}
 use Rattle.hwdb_print.specs.declared.form.Form.TheVariants as form
-use Rattle.hwdb_tool.specs.Program.{IsDone, IsQuiet, IsTaskDone, root_of}
-use Rattle.hwdb_tool.specs.OneOutcome.{DoneIsNotTold, JobsAreOne, TasksAreOne}
+use Rattle.hwdb_spec.specs.Given.{is_input}
+use Rattle.hwdb_tool.specs.Program.{IsDone, IsTaskDone, root_of}
+use Rattle.hwdb_tool.specs.OneOutcome.{DoneIsNotTold, JobsAreOne, TasksAreOne, scene_of}
 
 one_value : (o : Option (List ℕ)) (a b : List ℕ) → Some a ≡ o → Some b ≡ o → a ≡ b
 one_value o a b one two = ap (λ (p : Option (List ℕ)). option_map_or (λ (x : List ℕ). x) p []) (one ∙ sym two)
@@ -41,9 +45,26 @@ apart : (m n : List ℕ) → m ≡ n → (tag m ≡ tag n → ⊥) → ⊥
 apart m n e differ = differ (ap tag e)
 
 -- what is done of the one task is done of the other
-module _ (name : Text) (inner : List Row) (fails : List ℕ → Type 0) (root : List ℕ) (usr strict : Bool) (status : ℕ) (input : Option (List ℕ)) (old new : Contents) (left : Outcomes) (err_before err out_before out : Option (List ℕ)) where
+module _ (name : Text) (inner : List Row) (root : List ℕ) (usr strict : Bool) (status : ℕ) (before now : World) where
   abbrev Out : Task → Type 0
-  Out task = IsTaskDone task fails root usr strict status input old new left err_before err out_before out
+  Out task = IsTaskDone task root usr strict status before now
+
+  abbrev Prints : (Texts → Type 0) → Type 0
+  Prints Are = Printed Are before.err now.err before.out now.out × Unit {0} × AreKept before.files now.files
+
+  abbrev Answers : (devices : List (List ℕ)) (kind : Form) → Type 0
+  Answers devices kind =
+      IfNamed (is_input devices) before.input.bytes (Printed (λ texts. (status ≡ 0) × OnOut (AreAnswered root kind devices before.input.bytes before.files.seen) texts) before.err now.err before.out now.out)
+      × IsQuiet (is_input devices) status before.err now.err × AreKept before.files now.files
+
+  abbrev Quietly : (List ℕ → Type 0) → Type 0
+  Quietly Is = Prints (λ texts. (status ≡ 0) × OnOut Is texts)
+
+  abbrev input : Option (List ℕ)
+  input = before.input.bytes
+
+  abbrev old : Contents
+  old = before.files.seen
 
   pub same_task : (t u : Task) → IsTask name inner t → IsTask name inner u → Out u → Out t
   same_task (Update v1 k1) (Update v2 k2) t u done =
@@ -58,8 +79,8 @@ module _ (name : Text) (inner : List Row) (fails : List ℕ → Type 0) (root : 
   same_task (Update v1 k1) (Dump database2) t u done = absurd (apart (codes "update") (codes "dump") (sym t.0 ∙ u.0) (λ (e : 117112 ≡ 100117). omega (arith, e)))
   same_task (Query devices1 json1) (Update v2 k2) t u done = absurd (apart (codes "query") (codes "update") (sym t.0 ∙ u.0) (λ (e : 113117 ≡ 117112). omega (arith, e)))
   same_task (Query devices1 json1) (Query devices2 json2) t u done =
-      subst (λ (ds : List (List ℕ)). AreAnswered root (form.Query json1) ds input old out_before out × IsQuiet status old new err_before err) (one_values (all_of (codes "MODALIAS") inner) _ _ u.2 t.2)
-      (subst (λ (j : Bool). AreAnswered root (form.Query j) (map string_bytes devices2.items) input old out_before out × IsQuiet status old new err_before err) (u.1 ∙ sym t.1) done)
+      subst (λ (ds : List (List ℕ)). Answers ds (form.Query json1)) (one_values (all_of (codes "MODALIAS") inner) _ _ u.2 t.2)
+      (subst (λ (j : Bool). Answers (map string_bytes devices2.items) (form.Query j)) (u.1 ∙ sym t.1) done)
   same_task (Query devices1 json1) (Explain device2 json2) t u done = absurd (apart (codes "query") (codes "explain") (sym t.0 ∙ u.0) (λ (e : 113117 ≡ 101120). omega (arith, e)))
   same_task (Query devices1 json1) (ListHits after2 limit2 device2 json2) t u done = absurd (apart (codes "query") (codes "list") (sym t.0 ∙ u.0) (λ (e : 113117 ≡ 108105). omega (arith, e)))
   same_task (Query devices1 json1) (Ask file2 device2) t u done = absurd (apart (codes "query") (codes "ask") (sym t.0 ∙ u.0) (λ (e : 113117 ≡ 97115). omega (arith, e)))
@@ -70,8 +91,8 @@ module _ (name : Text) (inner : List Row) (fails : List ℕ → Type 0) (root : 
   same_task (Explain device1 json1) (Update v2 k2) t u done = absurd (apart (codes "explain") (codes "update") (sym t.0 ∙ u.0) (λ (e : 101120 ≡ 117112). omega (arith, e)))
   same_task (Explain device1 json1) (Query devices2 json2) t u done = absurd (apart (codes "explain") (codes "query") (sym t.0 ∙ u.0) (λ (e : 101120 ≡ 113117). omega (arith, e)))
   same_task (Explain device1 json1) (Explain device2 json2) t u done =
-      subst (λ (d : List ℕ). AreAnswered root (form.Explain json1) (d ∷ []) input old out_before out × IsQuiet status old new err_before err) (one_value (first_of (codes "MODALIAS") inner) _ _ u.2 t.2)
-      (subst (λ (j : Bool). AreAnswered root (form.Explain j) (string_bytes device2 ∷ []) input old out_before out × IsQuiet status old new err_before err) (u.1 ∙ sym t.1) done)
+      subst (λ (d : List ℕ). Answers (d ∷ []) (form.Explain json1)) (one_value (first_of (codes "MODALIAS") inner) _ _ u.2 t.2)
+      (subst (λ (j : Bool). Answers (string_bytes device2 ∷ []) (form.Explain j)) (u.1 ∙ sym t.1) done)
   same_task (Explain device1 json1) (ListHits after2 limit2 device2 json2) t u done = absurd (apart (codes "explain") (codes "list") (sym t.0 ∙ u.0) (λ (e : 101120 ≡ 108105). omega (arith, e)))
   same_task (Explain device1 json1) (Ask file2 device2) t u done = absurd (apart (codes "explain") (codes "ask") (sym t.0 ∙ u.0) (λ (e : 101120 ≡ 97115). omega (arith, e)))
   same_task (Explain device1 json1) (Check files2) t u done = absurd (apart (codes "explain") (codes "check") (sym t.0 ∙ u.0) (λ (e : 101120 ≡ 99104). omega (arith, e)))
@@ -82,10 +103,10 @@ module _ (name : Text) (inner : List Row) (fails : List ℕ → Type 0) (root : 
   same_task (ListHits after1 limit1 device1 json1) (Query devices2 json2) t u done = absurd (apart (codes "list") (codes "query") (sym t.0 ∙ u.0) (λ (e : 108105 ≡ 113117). omega (arith, e)))
   same_task (ListHits after1 limit1 device1 json1) (Explain device2 json2) t u done = absurd (apart (codes "list") (codes "explain") (sym t.0 ∙ u.0) (λ (e : 108105 ≡ 101120). omega (arith, e)))
   same_task (ListHits after1 limit1 device1 json1) (ListHits after2 limit2 device2 json2) t u done =
-      subst (λ (a : Option (List ℕ)). IsAnswered root (IsListFrom json1 (string_bytes device1) a limit1) old out_before out × IsQuiet status old new err_before err) (u.2 ∙ sym t.2)
-      (subst (λ (l : Option ℕ). IsAnswered root (IsListFrom json1 (string_bytes device1) (option_map string_bytes after2) l) old out_before out × IsQuiet status old new err_before err) (one_limit (one_of (codes "limit") inner) limit2 limit1 u.3 t.3)
-      (subst (λ (d : List ℕ). IsAnswered root (IsListFrom json1 d (option_map string_bytes after2) limit2) old out_before out × IsQuiet status old new err_before err) (one_value (first_of (codes "MODALIAS") inner) _ _ u.4 t.4)
-      (subst (λ (j : Bool). IsAnswered root (IsListFrom j (string_bytes device2) (option_map string_bytes after2) limit2) old out_before out × IsQuiet status old new err_before err) (u.1 ∙ sym t.1) done)))
+      subst (λ (a : Option (List ℕ)). Quietly (IsAnswered root (IsListFrom json1 (string_bytes device1) a limit1) old)) (u.2 ∙ sym t.2)
+      (subst (λ (l : Option ℕ). Quietly (IsAnswered root (IsListFrom json1 (string_bytes device1) (option_map string_bytes after2) l) old)) (one_limit (one_of (codes "limit") inner) limit2 limit1 u.3 t.3)
+      (subst (λ (d : List ℕ). Quietly (IsAnswered root (IsListFrom json1 d (option_map string_bytes after2) limit2) old)) (one_value (first_of (codes "MODALIAS") inner) _ _ u.4 t.4)
+      (subst (λ (j : Bool). Quietly (IsAnswered root (IsListFrom j (string_bytes device2) (option_map string_bytes after2) limit2) old)) (u.1 ∙ sym t.1) done)))
   same_task (ListHits after1 limit1 device1 json1) (Ask file2 device2) t u done = absurd (apart (codes "list") (codes "ask") (sym t.0 ∙ u.0) (λ (e : 108105 ≡ 97115). omega (arith, e)))
   same_task (ListHits after1 limit1 device1 json1) (Check files2) t u done = absurd (apart (codes "list") (codes "check") (sym t.0 ∙ u.0) (λ (e : 108105 ≡ 99104). omega (arith, e)))
   same_task (ListHits after1 limit1 device1 json1) (Diff old2 new2) t u done = absurd (apart (codes "list") (codes "diff") (sym t.0 ∙ u.0) (λ (e : 108105 ≡ 100105). omega (arith, e)))
@@ -96,8 +117,8 @@ module _ (name : Text) (inner : List Row) (fails : List ℕ → Type 0) (root : 
   same_task (Ask file1 device1) (Explain device2 json2) t u done = absurd (apart (codes "ask") (codes "explain") (sym t.0 ∙ u.0) (λ (e : 97115 ≡ 101120). omega (arith, e)))
   same_task (Ask file1 device1) (ListHits after2 limit2 device2 json2) t u done = absurd (apart (codes "ask") (codes "list") (sym t.0 ∙ u.0) (λ (e : 97115 ≡ 108105). omega (arith, e)))
   same_task (Ask file1 device1) (Ask file2 device2) t u done =
-      subst (λ (f : List ℕ). IsAsked f (string_bytes device1) input old err_before err out_before out × (status ≡ 0) × Same old new) (one_value (first_of (codes "FILE") inner) _ _ u.1 t.1)
-      (subst (λ (d : List ℕ). IsAsked (string_bytes file2) d input old err_before err out_before out × (status ≡ 0) × Same old new) (one_value (first_of (codes "MODALIAS") inner) _ _ u.2 t.2) done)
+      subst (λ (f : List ℕ). Prints (λ texts. (status ≡ 0) × IsAsked f (string_bytes device1) input old texts)) (one_value (first_of (codes "FILE") inner) _ _ u.1 t.1)
+      (subst (λ (d : List ℕ). Prints (λ texts. (status ≡ 0) × IsAsked (string_bytes file2) d input old texts)) (one_value (first_of (codes "MODALIAS") inner) _ _ u.2 t.2) done)
   same_task (Ask file1 device1) (Check files2) t u done = absurd (apart (codes "ask") (codes "check") (sym t.0 ∙ u.0) (λ (e : 97115 ≡ 99104). omega (arith, e)))
   same_task (Ask file1 device1) (Diff old2 new2) t u done = absurd (apart (codes "ask") (codes "diff") (sym t.0 ∙ u.0) (λ (e : 97115 ≡ 100105). omega (arith, e)))
   same_task (Ask file1 device1) (Verify database2) t u done = absurd (apart (codes "ask") (codes "verify") (sym t.0 ∙ u.0) (λ (e : 97115 ≡ 118101). omega (arith, e)))
@@ -108,7 +129,7 @@ module _ (name : Text) (inner : List Row) (fails : List ℕ → Type 0) (root : 
   same_task (Check files1) (ListHits after2 limit2 device2 json2) t u done = absurd (apart (codes "check") (codes "list") (sym t.0 ∙ u.0) (λ (e : 99104 ≡ 108105). omega (arith, e)))
   same_task (Check files1) (Ask file2 device2) t u done = absurd (apart (codes "check") (codes "ask") (sym t.0 ∙ u.0) (λ (e : 99104 ≡ 97115). omega (arith, e)))
   same_task (Check files1) (Check files2) t u done =
-      subst (λ (fs : List (List ℕ)). IsChecked (AreCheckedFiles fs root input old) strict status out_before out × Same old new × (err ≡ err_before)) (u.1 ∙ sym t.1) done
+      subst (λ (fs : List (List ℕ)). Prints (OnOut (λ text. IsChecked (AreCheckedFiles fs root input old) strict text status))) (u.1 ∙ sym t.1) done
   same_task (Check files1) (Diff old2 new2) t u done = absurd (apart (codes "check") (codes "diff") (sym t.0 ∙ u.0) (λ (e : 99104 ≡ 100105). omega (arith, e)))
   same_task (Check files1) (Verify database2) t u done = absurd (apart (codes "check") (codes "verify") (sym t.0 ∙ u.0) (λ (e : 99104 ≡ 118101). omega (arith, e)))
   same_task (Check files1) (Dump database2) t u done = absurd (apart (codes "check") (codes "dump") (sym t.0 ∙ u.0) (λ (e : 99104 ≡ 100117). omega (arith, e)))
@@ -119,8 +140,8 @@ module _ (name : Text) (inner : List Row) (fails : List ℕ → Type 0) (root : 
   same_task (Diff old1 new1) (Ask file2 device2) t u done = absurd (apart (codes "diff") (codes "ask") (sym t.0 ∙ u.0) (λ (e : 100105 ≡ 97115). omega (arith, e)))
   same_task (Diff old1 new1) (Check files2) t u done = absurd (apart (codes "diff") (codes "check") (sym t.0 ∙ u.0) (λ (e : 100105 ≡ 99104). omega (arith, e)))
   same_task (Diff old1 new1) (Diff old2 new2) t u done =
-      subst (λ (p : List ℕ). IsCompared p (string_bytes new1) status old out_before out × Same old new × (err ≡ err_before)) (one_value (first_of (codes "OLD") inner) _ _ u.1 t.1)
-      (subst (λ (p : List ℕ). IsCompared (string_bytes old2) p status old out_before out × Same old new × (err ≡ err_before)) (one_value (first_of (codes "NEW") inner) _ _ u.2 t.2) done)
+      subst (λ (p : List ℕ). Prints (OnOut (λ text. IsCompared p (string_bytes new1) old text status))) (one_value (first_of (codes "OLD") inner) _ _ u.1 t.1)
+      (subst (λ (p : List ℕ). Prints (OnOut (λ text. IsCompared (string_bytes old2) p old text status))) (one_value (first_of (codes "NEW") inner) _ _ u.2 t.2) done)
   same_task (Diff old1 new1) (Verify database2) t u done = absurd (apart (codes "diff") (codes "verify") (sym t.0 ∙ u.0) (λ (e : 100105 ≡ 118101). omega (arith, e)))
   same_task (Diff old1 new1) (Dump database2) t u done = absurd (apart (codes "diff") (codes "dump") (sym t.0 ∙ u.0) (λ (e : 100105 ≡ 100117). omega (arith, e)))
   same_task (Verify database1) (Update v2 k2) t u done = absurd (apart (codes "verify") (codes "update") (sym t.0 ∙ u.0) (λ (e : 118101 ≡ 117112). omega (arith, e)))
@@ -131,7 +152,7 @@ module _ (name : Text) (inner : List Row) (fails : List ℕ → Type 0) (root : 
   same_task (Verify database1) (Check files2) t u done = absurd (apart (codes "verify") (codes "check") (sym t.0 ∙ u.0) (λ (e : 118101 ≡ 99104). omega (arith, e)))
   same_task (Verify database1) (Diff old2 new2) t u done = absurd (apart (codes "verify") (codes "diff") (sym t.0 ∙ u.0) (λ (e : 118101 ≡ 100105). omega (arith, e)))
   same_task (Verify database1) (Verify database2) t u done =
-      subst (λ (d : Option (List ℕ)). IsPrinted d root IsSummary old out_before out × IsQuiet status old new err_before err) (u.1 ∙ sym t.1) done
+      subst (λ (d : Option (List ℕ)). Quietly (IsPrinted d root IsSummary old)) (u.1 ∙ sym t.1) done
   same_task (Verify database1) (Dump database2) t u done = absurd (apart (codes "verify") (codes "dump") (sym t.0 ∙ u.0) (λ (e : 118101 ≡ 100117). omega (arith, e)))
   same_task (Dump database1) (Update v2 k2) t u done = absurd (apart (codes "dump") (codes "update") (sym t.0 ∙ u.0) (λ (e : 100117 ≡ 117112). omega (arith, e)))
   same_task (Dump database1) (Query devices2 json2) t u done = absurd (apart (codes "dump") (codes "query") (sym t.0 ∙ u.0) (λ (e : 100117 ≡ 113117). omega (arith, e)))
@@ -142,7 +163,7 @@ module _ (name : Text) (inner : List Row) (fails : List ℕ → Type 0) (root : 
   same_task (Dump database1) (Diff old2 new2) t u done = absurd (apart (codes "dump") (codes "diff") (sym t.0 ∙ u.0) (λ (e : 100117 ≡ 100105). omega (arith, e)))
   same_task (Dump database1) (Verify database2) t u done = absurd (apart (codes "dump") (codes "verify") (sym t.0 ∙ u.0) (λ (e : 100117 ≡ 118101). omega (arith, e)))
   same_task (Dump database1) (Dump database2) t u done =
-      subst (λ (d : Option (List ℕ)). IsDumped d root old out_before out × IsQuiet status old new err_before err) (u.1 ∙ sym t.1) done
+      subst (λ (d : Option (List ℕ)). Quietly (IsDumped d root old)) (u.1 ∙ sym t.1) done
 
 one_option : {X : Type 0} (f : X → List ℕ) (o : Option X) → option_map_or f o [] ≡ option_map_or (λ (x : List ℕ). x) (option_map f o) []
 one_option f None = refl
@@ -151,25 +172,24 @@ one_option f (Some s) = refl
 pub one_root : (j : Job) → root_of j ≡ option_map_or (λ (x : List ℕ). x) (option_map string_bytes j.root) []
 one_root j = one_option string_bytes j.root
 
-module _ (fails : List ℕ → Type 0) (status : ℕ) (input : Option (List ℕ)) (old new : Contents) (left : Outcomes) (err_before err out_before out : Option (List ℕ)) where
+module _ (status : ℕ) (before now : World) where
   abbrev Done : Task → List ℕ → Bool → Bool → Type 0
-  Done task root usr strict = IsTaskDone task fails root usr strict status input old new left err_before err out_before out
+  Done task root usr strict = IsTaskDone task root usr strict status before now
 
-  same_job : (top : List Row) (found : Option (Text × List Row)) (j k : Job) → IsJobOf top found j → IsJobOf top found k
-      → IsDone k fails status input old new left err_before err out_before out → IsDone j fails status input old new left err_before err out_before out
+  same_job : (top : List Row) (found : Option (Text × List Row)) (j k : Job) → IsJobOf top found j → IsJobOf top found k → IsDone k status before now → IsDone j status before now
   same_job top None j k one two done = absurd one
   same_job top (Some p) j k one two done =
       let roots : root_of k ≡ root_of j = one_root k ∙ ap (λ (o : Option (List ℕ)). option_map_or (λ (x : List ℕ). x) o []) (two.root ∙ sym one.root) ∙ sym (one_root j) in
-      same_task p.0 p.1 fails (root_of j) j.usr j.strict status input old new left err_before err out_before out j.task k.task one.task two.task
+      same_task p.0 p.1 (root_of j) j.usr j.strict status before now j.task k.task one.task two.task
       (subst (λ (r : List ℕ). Done k.task r j.usr j.strict) roots
       (subst (λ (b : Bool). Done k.task (root_of k) b j.strict) (two.usr ∙ sym one.usr)
       (subst (λ (b : Bool). Done k.task (root_of k) k.usr b) (two.strict ∙ sym one.strict) done)))
 
 pub one_job : (fails fails2 : List ℕ → Type 0) (left left2 : Outcomes) → TasksAreOne fails fails2 left left2 → JobsAreOne fails fails2 left left2
-one_job fails fails2 left left2 tasks = λ words status status2 input old new new2 err_before out_before err err2 out out2 one two nothing nothing2.
-    tasks one.job.task (root_of one.job) one.job.usr one.job.strict status status2 input old new new2 err_before out_before err err2 out out2 nothing nothing2 one.done
-    (same_job fails2 status2 (Some input) old new2 left2 (Some err_before) err2 (Some out_before) out2 (matches_of hwdb_app words) (subcommand_of hwdb_app words) one.job two.job one.asked two.asked two.done)
+one_job fails fails2 left left2 tasks = λ words status status2 before now before2 now2 input one two nothing nothing2.
+    tasks one.job.task (root_of one.job) one.job.usr one.job.strict status status2 before now before2 now2 input nothing nothing2 one.done
+    (same_job status2 (scene_of fails2 left2 before2) (scene_of fails2 left2 now2) (matches_of hwdb_app words) (subcommand_of hwdb_app words) one.job two.job one.asked two.asked two.done)
 
 pub not_told : (fails : List ℕ → Type 0) (left : Outcomes) → DoneIsNotTold fails left
-not_told fails left words status input old new new2 err_before err err2 out_before out out2 done told =
+not_told fails left words status before now before2 now2 done told =
     ⊎_elim (λ help. subst (IsAmong DisplayHelp) done.faultless help) (λ version. subst (IsAmong DisplayVersion) done.faultless version) told.asked

@@ -44,12 +44,10 @@ pub one_text : ((bytes : List ℕ) (t u : Tree) → IsDatabase bytes t → IsDat
 one_text law of bytes bytes2 text text2 same one two =
     one.is ∙ ap of (law bytes2 one.tree two.tree (subst (λ b. IsDatabase b one.tree) same one.database) two.database) ∙ sym two.is
 
-pub one_answer : ((bytes : List ℕ) (t u : Tree) → IsDatabase bytes t → IsDatabase bytes u → t ≡ u) → (root : List ℕ) (of : Tree → List ℕ) (files : Contents) (before : List ℕ) (now now2 : Option (List ℕ))
-    → IsAnswered root (IsTextOf of) files (Some before) now → IsAnswered root (IsTextOf of) files (Some before) now2 → now ≡ now2
-one_answer law root of files before now now2 one two =
-    one_taken before now now2 one.printed.text two.printed.text
-    (one_text law of one.bytes two.bytes one.printed.text two.printed.text (one_held (asked_database root files) one.bytes two.bytes one.asked two.asked) one.printed.is two.printed.is)
-    one.printed.taken two.printed.taken
+pub one_answer : ((bytes : List ℕ) (t u : Tree) → IsDatabase bytes t → IsDatabase bytes u → t ≡ u) → (root : List ℕ) (of : Tree → List ℕ) (files : Contents) (text text2 : List ℕ)
+    → IsAnswered root (IsTextOf of) files text → IsAnswered root (IsTextOf of) files text2 → text ≡ text2
+one_answer law root of files text text2 one two =
+    one_text law of one.bytes two.bytes text text2 (one_held (asked_database root files) one.bytes two.bytes one.named two.named) one.is two.is
 
 -- what was the same and is the same
 pub one_kept : (folder : List ℕ) (old new new2 : Contents) → Same old new → Same old new2 → (p : List ℕ) → (new2 p ≡ new p) ⊎ IsPartPath folder p

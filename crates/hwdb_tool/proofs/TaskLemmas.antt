@@ -18,7 +18,9 @@ use Rattle.std.proofs.lemmas.List.Elements.{All-head, All-tail}
 use Rattle.hwdb_spec.specs.Given.{IsContent, IsGiven, is_dash, is_input}
 use Rattle.hwdb_spec.specs.Hiding.{hiding_text}
 use Rattle.hwdb_spec.specs.Progress.{listing, update_text}
-use Rattle.hwdb_spec.specs.Store.{Contents, InPlace, Outcomes}
+use Rattle.hwdb_spec.specs.Runs.{Files, Printed, Told, World}
+use Rattle.hwdb_spec.specs.Store.{Contents, InPlace, Outcomes, Same}
+use Rattle.hwdb_tool.specs.Program.{IsAnswerOf, IsTaskDone, streams}
 use Rattle.hwdb_spec.specs.System.{asked_database, bytes_at, database_folder}
 use Rattle.hwdb_spec.specs.Texts.{devices_of, query_text}
 use Rattle.hwdb_spec.specs.Tree.{Map, Tree, map_of_files}
@@ -32,9 +34,9 @@ use Rattle.hwdb_spec.specs.Asked.{IsAnswered, IsFrom, IsListFrom, list_form, nam
 use Rattle.hwdb_spec.specs.LeftOut.{AreLeftOut, IsLeftOut, without, status_less}
 use Rattle.hwdb_fs.specs.LeftOut.{AreTold}
 use Rattle.hwdb_tool.specs.Readable.{IsUpdatedLess}
-use Rattle.hwdb_tool.specs.Queries.{AreAnsweredFrom}
+use Rattle.hwdb_tool.specs.Queries.{AreAnsweredFrom, IfNamed}
 use Rattle.hwdb_spec.specs.LoneFile.{lone}
-use Rattle.hwdb_tool.specs.OneOutcome.{IsFunction, IsOneOutcome, LeavesNothingOut, ListingsGiveOneChoice, ListingsGiveOneReading}
+use Rattle.hwdb_tool.specs.OneOutcome.{AnswersAreOne, IsFunction, IsOneInput, IsOneOutcome, LeavesNothingOut, Scene, scene_of, ListingsGiveOneChoice, ListingsGiveOneReading}
 use Rattle.hwdb_tool.proofs.OutcomeLemmas.{one_answer, one_held, one_kept, one_map, one_place, one_said, one_status, one_taken, one_taken_then, one_text}
 
 first_or : {X : Type 0} → X → List X → X
@@ -87,18 +89,18 @@ all_said first None then_ hid said none told more = absurd told
 all_said first (Some xs) None hid said none told more = absurd more
 all_said first (Some xs) (Some ys) hid said none told more = more ∙ ap (λ (t : List ℕ). xs ++ t) none ∙ append-nil xs ∙ told
 
-all_read : (fails : List ℕ → Type 0) (root : List ℕ) (verbose strict skip : Bool) (status : ℕ) (old : Contents) (before now : Option (List ℕ)) (in_place : List ℕ → Type 0)
-    → LeavesNothingOut fails (Update verbose skip) → (less : IsUpdatedLess fails root verbose strict skip status old before now in_place) → IsUpdated root verbose strict status old less.err_then now in_place
-all_read fails root verbose strict skip status old before now in_place nothing less =
-    let none = nothing_out fails verbose skip root old less.left_out nothing less.are in
+all_read : (root : List ℕ) (verbose strict skip : Bool) (status : ℕ) (old : Files) (before now : Told) (in_place : List ℕ → Type 0)
+    → LeavesNothingOut old.fails (Update verbose skip) → (less : IsUpdatedLess root verbose strict skip status old before now in_place) → IsUpdated root verbose strict status old.seen less.err_then.bytes now.bytes in_place
+all_read root verbose strict skip status old before now in_place nothing less =
+    let none = nothing_out old.fails verbose skip root old.seen less.left_out nothing less.are in
     let answer : less.plainly ≡ status = sym (less.answer ∙ none_status strict less.left_out less.plainly none) in
-    subst (λ (s : ℕ). IsUpdated root verbose strict s old less.err_then now in_place) answer
-    (subst (λ (l : List Choice). IsUpdated root verbose strict less.plainly (without l root old) less.err_then now in_place) none less.updated)
+    subst (λ (s : ℕ). IsUpdated root verbose strict s old.seen less.err_then.bytes now.bytes in_place) answer
+    (subst (λ (l : List Choice). IsUpdated root verbose strict less.plainly (without l root old.seen) less.err_then.bytes now.bytes in_place) none less.updated)
 
-all_told : (fails : List ℕ → Type 0) (root : List ℕ) (verbose strict skip : Bool) (status : ℕ) (old : Contents) (first : List ℕ) (before now : Option (List ℕ)) (hid : List ℕ) (in_place : List ℕ → Type 0)
-    → LeavesNothingOut fails (Update verbose skip) → Appends (Some first) before hid → (less : IsUpdatedLess fails root verbose strict skip status old before now in_place) → Appends (Some first) less.err_then hid
-all_told fails root verbose strict skip status old first before now hid in_place nothing told less =
-    all_said first before less.err_then hid less.said (none_said root less.left_out less.said (nothing_out fails verbose skip root old less.left_out nothing less.are) less.lines) told less.told
+all_told : (root : List ℕ) (verbose strict skip : Bool) (status : ℕ) (old : Files) (first : List ℕ) (before now : Told) (hid : List ℕ) (in_place : List ℕ → Type 0)
+    → LeavesNothingOut old.fails (Update verbose skip) → Appends (Some first) before.bytes hid → (less : IsUpdatedLess root verbose strict skip status old before now in_place) → Appends (Some first) less.err_then.bytes hid
+all_told root verbose strict skip status old first before now hid in_place nothing told less =
+    all_said first before.bytes less.err_then.bytes hid less.said (none_said root less.left_out less.said (nothing_out old.fails verbose skip root old.seen less.left_out nothing less.are) less.lines) told less.told.whole
 
 abbrev IsHeld : (input : List ℕ) (files : Contents) → Source → Type 0
 IsHeld input files s = IsGiven s.name (Some input) files s.bytes
@@ -118,14 +120,19 @@ one_given_sources input files (x ∷ xs) (y ∷ ys) n p q =
     ∙ ap (λ (m : List ℕ). (let s : Source = record { name = y.name; bytes = m } in s ∷ xs)) bytes
     ∙ ap (λ (l : List Source). y ∷ l) more
 
+-- devices that are told
+named : (from_input : Bool) (o : Option (List ℕ)) (input : List ℕ) (P : Type 0) → o ≡ Some input → IfNamed from_input o P → P
+named false o input P is h = h
+named true None input P is h = cc
+named true (Some told) input P is h = h
+
 module _ (tree : (bytes : List ℕ) (t u : Tree) → IsDatabase bytes t → IsDatabase bytes u → t ≡ u)
     (form : (m : Map) (a b : List ℕ) → IsWritten m a → IsWritten m b → a ≡ b)
     (spells : SpellsOne) (one_choice : ListingsGiveOneChoice) (one_reading : ListingsGiveOneReading) where
-  output : (from_input : Bool) (root : List ℕ) (kind : Form) (devices : List (List ℕ)) (input : List ℕ) (files : Contents)
-      (before : List ℕ) (now now2 : Option (List ℕ)) → AreAnsweredFrom from_input root kind devices (Some input) files (Some before) now
-      → AreAnsweredFrom from_input root kind devices (Some input) files (Some before) now2 → now ≡ now2
-  output false root kind devices input files before now now2 one two = one_answer tree root (texts_of kind devices) files before now now2 one two
-  output true root kind devices input files before now now2 one two = one_answer tree root (texts_of kind (devices_of input)) files before now now2 one two
+  output : (from_input : Bool) (root : List ℕ) (kind : Form) (devices : List (List ℕ)) (input : List ℕ) (files : Contents) (text text2 : List ℕ)
+      → AreAnsweredFrom from_input root kind devices (Some input) files text → AreAnsweredFrom from_input root kind devices (Some input) files text2 → text ≡ text2
+  output false root kind devices input files text text2 one two = one_answer tree root (texts_of kind devices) files text text2 one two
+  output true root kind devices input files text text2 one two = one_answer tree root (texts_of kind (devices_of input)) files text text2 one two
 
   from : (after : Option (List ℕ)) (p q : Option Position) → IsFrom after p → IsFrom after q → p ≡ q
   from None None None one two = refl
@@ -135,16 +142,13 @@ module _ (tree : (bytes : List ℕ) (t u : Tree) → IsDatabase bytes t → IsDa
   from (Some text) (Some p) None one two = absurd two
   from (Some text) (Some p) (Some q) one two = ap Some (spells p q text one two)
 
-  hits : (root : List ℕ) (json : Bool) (device : List ℕ) (after : Option (List ℕ)) (limit : Option ℕ) (files : Contents) (before : List ℕ) (now now2 : Option (List ℕ))
-      → IsAnswered root (IsListFrom json device after limit) files (Some before) now → IsAnswered root (IsListFrom json device after limit) files (Some before) now2 → now ≡ now2
-  hits root json device after limit files before now now2 one two =
-      let a = one.printed.is in
-      let b = two.printed.is in
-      let here = from after b.from a.from b.spelled a.spelled in
-      one_taken before now now2 one.printed.text two.printed.text
-      (one_text tree (list_form json device a.from limit) one.bytes two.bytes one.printed.text two.printed.text
-      (one_held (asked_database root files) one.bytes two.bytes one.asked two.asked) a.is
-      (subst (λ (p : Option Position). IsTextOf (list_form json device p limit) two.bytes two.printed.text) here b.is)) one.printed.taken two.printed.taken
+  hits : (root : List ℕ) (json : Bool) (device : List ℕ) (after : Option (List ℕ)) (limit : Option ℕ) (files : Contents) (text text2 : List ℕ)
+      → IsAnswered root (IsListFrom json device after limit) files text → IsAnswered root (IsListFrom json device after limit) files text2 → text ≡ text2
+  hits root json device after limit files text text2 one two =
+      let here = from after two.is.from one.is.from two.is.spelled one.is.spelled in
+      one_text tree (list_form json device one.is.from limit) one.bytes two.bytes text text2
+      (one_held (asked_database root files) one.bytes two.bytes one.named two.named) one.is.is
+      (subst (λ (p : Option Position). IsTextOf (list_form json device p limit) two.bytes text2) here two.is.is)
 
   sources : (given : List (List ℕ)) (root input : List ℕ) (files : Contents) (xs ys : List Source) → AreCheckedFiles given root (Some input) files xs → AreCheckedFiles given root (Some input) files ys → xs ≡ ys
   sources [] root input files xs ys one two =
@@ -153,119 +157,157 @@ module _ (tree : (bytes : List ℕ) (t u : Tree) → IsDatabase bytes t → IsDa
       (one.held ∙ ap (λ (cs : List Choice). map (λ c. bytes_at files (root ++ path_of c)) cs) same ∙ sym two.held)
   sources (path ∷ more) root input files xs ys one two = one_given_sources input files xs ys (one.named ∙ sym two.named) one.held two.held
 
+  -- the texts of a task, and its status
+  pub one_answer_of : AnswersAreOne
+  one_answer_of (Update verbose skip) = λ root strict input files status status2 texts texts2 one two. absurd one
+  one_answer_of (Query devices json) = λ root strict input files status status2 texts texts2 one two. record {
+    one_status = one.0 ∙ sym two.0;
+    one_err = one.1.0 ∙ sym two.1.0;
+    one_out = output (is_input (map string_bytes devices.items)) root (forms.Query json) (map string_bytes devices.items) input files texts.out texts2.out one.1.1 two.1.1;
+  }
+  one_answer_of (Explain device json) = λ root strict input files status status2 texts texts2 one two. record {
+    one_status = one.0 ∙ sym two.0;
+    one_err = one.1.0 ∙ sym two.1.0;
+    one_out = output (is_input (string_bytes device ∷ [])) root (forms.Explain json) (string_bytes device ∷ []) input files texts.out texts2.out one.1.1 two.1.1;
+  }
+  one_answer_of (ListHits after limit device json) = λ root strict input files status status2 texts texts2 one two. record {
+    one_status = one.0 ∙ sym two.0;
+    one_err = one.1.0 ∙ sym two.1.0;
+    one_out = hits root json (string_bytes device) (option_map string_bytes after) limit files texts.out texts2.out one.1.1 two.1.1;
+  }
+  one_answer_of (Ask file device) = λ root strict input files status status2 texts texts2 one two.
+      let a = one.1 in
+      let b = two.1 in
+      let same = one_given (is_dash (string_bytes file)) (string_bytes file) input files b.bytes a.bytes b.read a.read in
+      let x = a.are in
+      let y = subst (λ (bs : List ℕ). AreAskTexts (string_bytes file) bs (string_bytes device) texts2) same b.are in
+      record {
+        one_status = one.0 ∙ sym two.0;
+        one_err = x.faults ∙ sym y.faults;
+        one_out = one_text tree (query_text (string_bytes device)) x.database y.database texts.out texts2.out
+            (form (map_of_files (lone a.bytes) []) x.database y.database x.written y.written) x.properties y.properties;
+      }
+  one_answer_of (Check paths) = λ root strict input files status status2 texts texts2 one two.
+      let a = one.1 in
+      let b = two.1 in
+      let same : a.sources ≡ b.sources = sources (map string_bytes paths.items) root input files a.sources b.sources a.are b.are in
+      record {
+        one_status = a.says ∙ ap (λ (xs : List Source). check_status strict (tally_from empty_tally xs)) same ∙ sym b.says;
+        one_err = one.0 ∙ sym two.0;
+        one_out = a.is ∙ ap check_text same ∙ sym b.is;
+      }
+  one_answer_of (Diff old_path new_path) = λ root strict input files status status2 texts texts2 one two.
+      let a = one.1 in
+      let b = two.1 in
+      let olds = one_held (bytes_at files (string_bytes old_path)) b.old a.old b.held.of_old a.held.of_old in
+      let news = one_held (bytes_at files (string_bytes new_path)) b.new a.new b.held.of_new a.held.of_new in
+      let x = a.is in
+      let y = subst (λ (bs : List ℕ). IsDiffText a.old bs texts2.out) news (subst (λ (bs : List ℕ). IsDiffText bs b.new texts2.out) olds b.is) in
+      let v = a.differ in
+      let w = subst (λ (bs : List ℕ). IsDifferent a.old bs b.answer) news (subst (λ (bs : List ℕ). IsDifferent bs b.new b.answer) olds b.differ) in
+      let answer : a.answer ≡ b.answer = v.is ∙ ap (λ (t : Tree). differ t v.new_tree) (tree a.old v.old_tree w.old_tree v.old_database w.old_database)
+      ∙ ap (λ (t : Tree). differ w.old_tree t) (tree a.new v.new_tree w.new_tree v.new_database w.new_database) ∙ sym w.is in
+      record {
+        one_status = a.says ∙ ap (λ (d : Bool). if d then 1 else 0) answer ∙ sym b.says;
+        one_err = one.0 ∙ sym two.0;
+        one_out = x.is ∙ ap (λ (t : Tree). diff_text t x.new_tree) (tree a.old x.old_tree y.old_tree x.old_database y.old_database)
+            ∙ ap (λ (t : Tree). diff_text y.old_tree t) (tree a.new x.new_tree y.new_tree x.new_database y.new_database) ∙ sym y.is;
+      }
+  one_answer_of (Verify database) = λ root strict input files status status2 texts texts2 one two.
+      let a = one.1.1 in
+      let b = two.1.1 in
+      let y = subst (λ (bs : List ℕ). IsSummary bs texts2.out) (one_held (named_database (option_map string_bytes database) root files) b.bytes a.bytes b.named a.named) b.is in
+      record {
+        one_status = one.0 ∙ sym two.0;
+        one_err = one.1.0 ∙ sym two.1.0;
+        one_out = one_text tree _ a.bytes a.bytes texts.out texts2.out refl a.is y;
+      }
+  one_answer_of (Dump database) = λ root strict input files status status2 texts texts2 one two.
+      let a = one.1.1 in
+      let b = two.1.1 in
+      record {
+        one_status = one.0 ∙ sym two.0;
+        one_err = one.1.0 ∙ sym two.1.0;
+        one_out = one_text tree dump_text a.bytes b.bytes texts.out texts2.out (one_held (named_database (option_map string_bytes database) root files) a.bytes b.bytes a.named b.named) a.is b.is;
+      }
+
+  -- what both outputs took of them
+  one_printed : (task : Task) (root : List ℕ) (usr strict : Bool) (status status2 : ℕ) (before now before2 now2 : Scene) → IsOneInput before before2
+      → IfNamed (streams task) before.input.bytes (Printed (IsAnswerOf task root strict before.input.bytes before.files status) before.err now.err before.out now.out) → Same before.files now.files
+      → IfNamed (streams task) before2.input.bytes (Printed (IsAnswerOf task root strict before2.input.bytes before2.files status2) before2.err now2.err before2.out now2.out) → Same before2.files now2.files
+      → IsOneOutcome (database_folder usr root) status status2 now now2
+  one_printed task root usr strict status status2 before now before2 now2 input one kept two kept2 =
+      let a = named (streams task) before.input.bytes input.input.bytes _ input.input.of_one one in
+      let b = named (streams task) before2.input.bytes input.input.bytes _ input.input.of_two two in
+      let x = subst (λ (i : Option (List ℕ)). IsAnswerOf task root strict i before.files status a.texts) input.input.of_one a.are in
+      let y = subst (λ (i : Option (List ℕ)). IsAnswerOf task root strict i before.files status2 b.texts) input.input.of_two
+      (subst (λ (f : Contents). IsAnswerOf task root strict before2.input.bytes f status2 b.texts) input.files b.are) in
+      let same = one_answer_of task root strict input.input.bytes before.files status status2 a.texts b.texts x y in
+      record {
+        one_status = same.one_status;
+        one_files = one_kept (database_folder usr root) before.files now.files now2.files kept (subst (λ (f : Contents). Same f now2.files) input.files kept2);
+        one_err = one_taken input.err.bytes now.err.bytes now2.err.bytes a.texts.err b.texts.err same.one_err
+            (subst (λ (o : Option (List ℕ)). Appends o now.err.bytes a.texts.err) input.err.of_one a.err.whole)
+            (subst (λ (o : Option (List ℕ)). Appends o now2.err.bytes b.texts.err) input.err.of_two b.err.whole);
+        one_out = one_taken input.out.bytes now.out.bytes now2.out.bytes a.texts.out b.texts.out same.one_out
+            (subst (λ (o : Option (List ℕ)). Appends o now.out.bytes a.texts.out) input.out.of_one a.out.whole)
+            (subst (λ (o : Option (List ℕ)). Appends o now2.out.bytes b.texts.out) input.out.of_two b.out.whole);
+      }
+
   -- an update of all files
   module _ (left left2 : Outcomes) where
-    one_update : (root : List ℕ) (usr verbose strict : Bool) (status status2 : ℕ) (old new new2 : Contents) (err_before : List ℕ) (err_then err_then2 err err2 : Option (List ℕ)) (out_before : List ℕ) (out out2 : Option (List ℕ))
-        → IsUpdated root verbose strict status old err_then err (λ database. InPlace (database_folder usr root) database old new left)
-        → IsUpdated root verbose strict status2 old err_then2 err2 (λ database. InPlace (database_folder usr root) database old new2 left2)
+    one_update : (root : List ℕ) (usr verbose strict : Bool) (status status2 : ℕ) (old : Contents) (now now2 : Scene) (err_before : List ℕ) (err_then err_then2 : Option (List ℕ))
+        → IsUpdated root verbose strict status old err_then now.err.bytes (λ database. InPlace (database_folder usr root) database old now.files left)
+        → IsUpdated root verbose strict status2 old err_then2 now2.err.bytes (λ database. InPlace (database_folder usr root) database old now2.files left2)
         → Appends (Some err_before) err_then (hiding_text usr verbose root old) → Appends (Some err_before) err_then2 (hiding_text usr verbose root old)
-        → out ≡ Some out_before → out2 ≡ Some out_before → IsOneOutcome (database_folder usr root) status status2 new new2 err err2 out out2
-    one_update root usr verbose strict status status2 old new new2 err_before err_then err_then2 err err2 out_before out out2 a b told told2 same_out same_out2 =
+        → now.out.bytes ≡ now2.out.bytes → IsOneOutcome (database_folder usr root) status status2 now now2
+    one_update root usr verbose strict status status2 old now now2 err_before err_then err_then2 a b told told2 same_out =
         let reading = one_reading root old a.of_etc a.of_usr b.of_etc b.of_usr a.in_etc a.in_usr b.in_etc b.in_usr in
         let same = form (map_of_files a.of_etc a.of_usr) a.updated.database b.updated.database a.updated.written
         (subst (λ m. IsWritten m b.updated.database) (sym (one_map a.of_etc a.of_usr b.of_etc b.of_usr reading)) b.updated.written) in
         record {
           one_status = a.updated.answer ∙ one_status a.of_etc a.of_usr b.of_etc b.of_usr reading strict ∙ sym b.updated.answer;
-          one_files = one_place (database_folder usr root) a.updated.database b.updated.database old new new2 left left2 same a.updated.stored b.updated.stored;
-          one_err = one_taken_then err_before err_then err_then2 err err2 (hiding_text usr verbose root old)
+          one_files = one_place (database_folder usr root) a.updated.database b.updated.database old now.files now2.files left left2 same a.updated.stored b.updated.stored;
+          one_err = one_taken_then err_before err_then err_then2 now.err.bytes now2.err.bytes (hiding_text usr verbose root old)
               (update_text (listing verbose a.of_usr) a.of_etc a.of_usr) (update_text (listing verbose b.of_usr) b.of_etc b.of_usr)
               (one_said a.of_etc a.of_usr b.of_etc b.of_usr reading verbose) told told2 a.updated.told b.updated.told;
-          one_out = same_out ∙ sym same_out2;
+          one_out = same_out;
         }
 
   module _ (fails fails2 : List ℕ → Type 0) (left left2 : Outcomes) where
+    abbrev over : (files : Contents) → Scene → World
+    over files scene = scene_of fails2 left2 (record { files = files; failures = scene.failures; input = scene.input; out = scene.out; err = scene.err })
+
     pub each : (task : Task) → IsFunction fails fails2 left left2 task
-    each (Update verbose skip) = λ root usr strict status status2 input old new new2 err_before out_before err err2 out out2 nothing nothing2 one two.
-        let place : List ℕ → Type 0 = λ database. InPlace (database_folder usr root) database old new left in
-        let place2 : List ℕ → Type 0 = λ database. InPlace (database_folder usr root) database old new2 left2 in
+    each (Update verbose skip) = λ root usr strict status status2 before now before2 now2 input nothing nothing2 one given.
+        let two = subst (λ (f : Contents). IsTaskDone (Update verbose skip) root usr strict status2 (over f before2) (scene_of fails2 left2 now2)) input.files given in
+        let old = before.files in
+        let first = (scene_of fails left before).files in
+        let second = (over old before2).files in
+        let place : List ℕ → Type 0 = λ database. InPlace (database_folder usr root) database old now.files left in
+        let place2 : List ℕ → Type 0 = λ database. InPlace (database_folder usr root) database old now2.files left2 in
         let hid = hiding_text usr verbose root old in
-        one_update left left2 root usr verbose strict status status2 old new new2 err_before one.0.updated.err_then two.0.updated.err_then err err2 out_before out out2
-        (all_read fails root verbose strict skip status old one.0.err_then err place nothing one.0.updated)
-        (all_read fails2 root verbose strict skip status2 old two.0.err_then err2 place2 nothing2 two.0.updated)
-        (all_told fails root verbose strict skip status old err_before one.0.err_then err hid place nothing one.0.told one.0.updated)
-        (all_told fails2 root verbose strict skip status2 old err_before two.0.err_then err2 hid place2 nothing2 two.0.told two.0.updated)
-        one.1 two.1
-    each (Query devices json) = λ root usr strict status status2 input old new new2 err_before out_before err err2 out out2 nothing nothing2 one two. record {
-      one_status = one.1.0 ∙ sym two.1.0;
-      one_files = one_kept (database_folder usr root) old new new2 one.1.1 two.1.1;
-      one_err = one.1.2 ∙ sym two.1.2;
-      one_out = output (is_input (map string_bytes devices.items)) root (forms.Query json) (map string_bytes devices.items) input old out_before out out2 one.0 two.0;
-    }
-    each (Explain device json) = λ root usr strict status status2 input old new new2 err_before out_before err err2 out out2 nothing nothing2 one two. record {
-      one_status = one.1.0 ∙ sym two.1.0;
-      one_files = one_kept (database_folder usr root) old new new2 one.1.1 two.1.1;
-      one_err = one.1.2 ∙ sym two.1.2;
-      one_out = output (is_input (string_bytes device ∷ [])) root (forms.Explain json) (string_bytes device ∷ []) input old out_before out out2 one.0 two.0;
-    }
-    each (ListHits after limit device json) = λ root usr strict status status2 input old new new2 err_before out_before err err2 out out2 nothing nothing2 one two. record {
-      one_status = one.1.0 ∙ sym two.1.0;
-      one_files = one_kept (database_folder usr root) old new new2 one.1.1 two.1.1;
-      one_err = one.1.2 ∙ sym two.1.2;
-      one_out = hits root json (string_bytes device) (option_map string_bytes after) limit old out_before out out2 one.0 two.0;
-    }
-    each (Ask file device) = λ root usr strict status status2 input old new new2 err_before out_before err err2 out out2 nothing nothing2 one two.
-        let a = one.0 in
-        let b = two.0 in
-        let same = one_given (is_dash (string_bytes file)) (string_bytes file) input old b.bytes a.bytes b.read a.read in
-        let x = a.asked.are in
-        let y = subst (λ (bs : List ℕ). AreAskTexts (string_bytes file) bs (string_bytes device) b.asked.texts) same b.asked.are in
-        record {
-          one_status = one.1 ∙ sym two.1;
-          one_files = one_kept (database_folder usr root) old new new2 one.2 two.2;
-          one_err = one_taken err_before err err2 a.asked.texts.err b.asked.texts.err (x.faults ∙ sym y.faults) a.asked.err b.asked.err;
-          one_out = one_taken out_before out out2 a.asked.texts.out b.asked.texts.out
-              (one_text tree (query_text (string_bytes device)) x.database y.database a.asked.texts.out b.asked.texts.out
-              (form (map_of_files (lone a.bytes) []) x.database y.database x.written y.written) x.properties y.properties) a.asked.out b.asked.out;
-        }
-    each (Check files) = λ root usr strict status status2 input old new new2 err_before out_before err err2 out out2 nothing nothing2 one two.
-        let a = one.0 in
-        let b = two.0 in
-        let same : a.sources ≡ b.sources = sources (map string_bytes files.items) root input old a.sources b.sources a.are b.are in
-        record {
-          one_status = a.says ∙ ap (λ (xs : List Source). check_status strict (tally_from empty_tally xs)) same ∙ sym b.says;
-          one_files = one_kept (database_folder usr root) old new new2 one.1 two.1;
-          one_err = one.2 ∙ sym two.2;
-          one_out = one_taken out_before out out2 (check_text a.sources) (check_text b.sources) (ap check_text same) a.printed b.printed;
-        }
-    each (Diff old_path new_path) = λ root usr strict status status2 input old new new2 err_before out_before err err2 out out2 nothing nothing2 one two.
-        let a = one.0 in
-        let b = two.0 in
-        let olds = one_held (bytes_at old (string_bytes old_path)) b.old a.old b.held.of_old a.held.of_old in
-        let news = one_held (bytes_at old (string_bytes new_path)) b.new a.new b.held.of_new a.held.of_new in
-        let x = a.printed.is in
-        let y = subst (λ (bs : List ℕ). IsDiffText a.old bs b.printed.text) news (subst (λ (bs : List ℕ). IsDiffText bs b.new b.printed.text) olds b.printed.is) in
-        let v = a.differ in
-        let w = subst (λ (bs : List ℕ). IsDifferent a.old bs b.answer) news (subst (λ (bs : List ℕ). IsDifferent bs b.new b.answer) olds b.differ) in
-        let text : a.printed.text ≡ b.printed.text = x.is ∙ ap (λ (t : Tree). diff_text t x.new_tree) (tree a.old x.old_tree y.old_tree x.old_database y.old_database)
-        ∙ ap (λ (t : Tree). diff_text y.old_tree t) (tree a.new x.new_tree y.new_tree x.new_database y.new_database) ∙ sym y.is in
-        let answer : a.answer ≡ b.answer = v.is ∙ ap (λ (t : Tree). differ t v.new_tree) (tree a.old v.old_tree w.old_tree v.old_database w.old_database)
-        ∙ ap (λ (t : Tree). differ w.old_tree t) (tree a.new v.new_tree w.new_tree v.new_database w.new_database) ∙ sym w.is in
-        record {
-          one_status = a.says ∙ ap (λ (d : Bool). if d then 1 else 0) answer ∙ sym b.says;
-          one_files = one_kept (database_folder usr root) old new new2 one.1 two.1;
-          one_err = one.2 ∙ sym two.2;
-          one_out = one_taken out_before out out2 a.printed.text b.printed.text text a.printed.taken b.printed.taken;
-        }
-    each (Verify database) = λ root usr strict status status2 input old new new2 err_before out_before err err2 out out2 nothing nothing2 one two.
-        let a = one.0 in
-        let b = two.0 in
-        let same = one_held (named_database (option_map string_bytes database) root old) b.bytes a.bytes b.named a.named in
-        let x = a.printed.is in
-        let y = subst (λ (bs : List ℕ). IsSummary bs b.printed.text) same b.printed.is in
-        record {
-          one_status = one.1.0 ∙ sym two.1.0;
-          one_files = one_kept (database_folder usr root) old new new2 one.1.1 two.1.1;
-          one_err = one.1.2 ∙ sym two.1.2;
-          one_out = one_taken out_before out out2 a.printed.text b.printed.text (one_text tree _ a.bytes a.bytes a.printed.text b.printed.text refl x y) a.printed.taken b.printed.taken;
-        }
-    each (Dump database) = λ root usr strict status status2 input old new new2 err_before out_before err err2 out out2 nothing nothing2 one two.
-        let a = one.0 in
-        let b = two.0 in
-        record {
-          one_status = one.1.0 ∙ sym two.1.0;
-          one_files = one_kept (database_folder usr root) old new new2 one.1.1 two.1.1;
-          one_err = one.1.2 ∙ sym two.1.2;
-          one_out = one_taken out_before out out2 a.printed.text b.printed.text
-              (one_text tree dump_text a.bytes b.bytes a.printed.text b.printed.text (one_held (named_database (option_map string_bytes database) root old) a.bytes b.bytes a.named b.named) a.printed.is b.printed.is)
-              a.printed.taken b.printed.taken;
-        }
+        let told = subst (λ (o : Option (List ℕ)). Appends o one.0.err_then.bytes hid) input.err.of_one one.0.told.whole in
+        let told2 = subst (λ (o : Option (List ℕ)). Appends o two.0.err_then.bytes hid) input.err.of_two two.0.told.whole in
+        one_update left left2 root usr verbose strict status status2 old now now2 input.err.bytes one.0.updated.err_then.bytes two.0.updated.err_then.bytes
+        (all_read root verbose strict skip status first one.0.err_then now.err place nothing one.0.updated)
+        (all_read root verbose strict skip status2 second two.0.err_then now2.err place2 nothing2 two.0.updated)
+        (all_told root verbose strict skip status first input.err.bytes one.0.err_then now.err hid place nothing told one.0.updated)
+        (all_told root verbose strict skip status2 second input.err.bytes two.0.err_then now2.err hid place2 nothing2 told2 two.0.updated)
+        (ap (λ (t : Told). t.bytes) one.1 ∙ input.out.of_one ∙ sym (ap (λ (t : Told). t.bytes) two.1 ∙ input.out.of_two))
+    each (Query devices json) = λ root usr strict status status2 before now before2 now2 input nothing nothing2 one two.
+        one_printed (Query devices json) root usr strict status status2 before now before2 now2 input one.0 one.2.same two.0 two.2.same
+    each (Explain device json) = λ root usr strict status status2 before now before2 now2 input nothing nothing2 one two.
+        one_printed (Explain device json) root usr strict status status2 before now before2 now2 input one.0 one.2.same two.0 two.2.same
+    each (ListHits after limit device json) = λ root usr strict status status2 before now before2 now2 input nothing nothing2 one two.
+        one_printed (ListHits after limit device json) root usr strict status status2 before now before2 now2 input one.0 one.2.same two.0 two.2.same
+    each (Ask file device) = λ root usr strict status status2 before now before2 now2 input nothing nothing2 one two.
+        one_printed (Ask file device) root usr strict status status2 before now before2 now2 input one.0 one.2.same two.0 two.2.same
+    each (Check paths) = λ root usr strict status status2 before now before2 now2 input nothing nothing2 one two.
+        one_printed (Check paths) root usr strict status status2 before now before2 now2 input one.0 one.2.same two.0 two.2.same
+    each (Diff old_path new_path) = λ root usr strict status status2 before now before2 now2 input nothing nothing2 one two.
+        one_printed (Diff old_path new_path) root usr strict status status2 before now before2 now2 input one.0 one.2.same two.0 two.2.same
+    each (Verify database) = λ root usr strict status status2 before now before2 now2 input nothing nothing2 one two.
+        one_printed (Verify database) root usr strict status status2 before now before2 now2 input one.0 one.2.same two.0 two.2.same
+    each (Dump database) = λ root usr strict status status2 before now before2 now2 input nothing nothing2 one two.
+        one_printed (Dump database) root usr strict status status2 before now before2 now2 input one.0 one.2.same two.0 two.2.same

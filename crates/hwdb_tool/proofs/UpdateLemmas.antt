@@ -1,20 +1,19 @@
 -- An update that is refused after its files were read.
 use Rattle.std.specs.Io.KnownBytes.{Appends}
-use Rattle.std.proofs.Common.{◌≡◌, ◌≢◌, inl, inr, ap, subst, sym, refl, ℕ, Bool, List, Option, Result, Ok, Err, IfErr}
-use Rattle.hwdb_spec.specs.Store.{Contents, Outcomes}
+use Rattle.std.proofs.Common.{◌≡◌, ◌≢◌, inl, inr, ap, subst, sym, refl, ℕ, Bool, List, Result, Ok, Err, IfErr}
+use Rattle.hwdb_spec.specs.Runs.{AreKept, Files, Told, WasCut}
+use Rattle.hwdb_spec.specs.Store.{Contents}
 use Rattle.hwdb_spec.specs.System.{database_folder}
 use Rattle.hwdb_spec.specs.Progress.{given_where, update_text}
 use Rattle.hwdb_spec.specs.Texts.{max_file}
 use Rattle.hwdb_replace.specs.declared.replacement.Unreplaced.{Unreplaced}
 use Rattle.hwdb_compile.specs.declared.sources.ChosenFile.{ChosenFile}
 use Rattle.hwdb_compile.specs.Views.{ForFolders}
-use Rattle.hwdb_spec.specs.Outputs.{AppendsPrefix}
 use Rattle.hwdb_print.specs.Updates.{IsUpdateRefusal, OnUnreplaced, UpdateUndone}
-use Rattle.hwdb_transfer.specs.declared.errors.ToolError.{ToolError}
-use Rattle.hwdb_transfer.specs.declared.errors.ToolError.TheVariants.{Read, Write, TooLong, TooManyFiles, TooManyLines, TooLarge, BadPosition, BadDatabase, Replace, Memory}
+use Rattle.hwdb_print.specs.declared.errors.ToolError.{ToolError}
+use Rattle.hwdb_print.specs.declared.errors.ToolError.TheVariants.{Read, Write, TooLong, TooManyFiles, TooManyLines, TooLarge, BadPosition, BadDatabase, Replace, Memory}
 use Rattle.hwdb_tool.specs.Internal.{AreReadOf}
 use Rattle.hwdb_fs.specs.Refusals.{HasReason, IsOfUpdate}
-use Rattle.hwdb_spec.specs.Done.{AreKept}
 use Rattle.hwdb_tool.specs.Undone.{IsSelectedRefused}
 use Rattle.hwdb_spec.specs.Asked.{database_path}
 use Rattle.hwdb_fs.specs.declared.refusals.Refusal.{Refusal}
@@ -37,8 +36,8 @@ unfolding is_replace
 not_replace e u other is = let P : ToolError → Type 0 = λ x. is_replace x → ⊥ in subst P is other tt
 
 -- what a replacement that failed leaves
-pub unreplaced_of : {X : Type 0} (r : Result X ToolError) (tells told : Type 0) (seen left P : Unreplaced → Type 0) → IfErr r (OnUnreplaced (λ _. told))
-    → (tells → IfErr r (OnUnreplaced seen)) → (tells → IfErr r (OnUnreplaced left)) → ((u : Unreplaced) → told → (tells → seen u) → (tells → left u) → P u) → IfErr r (OnUnreplaced P)
+pub unreplaced_of : {X : Type 0} (r : Result X ToolError) (tells : Type 0) (told seen left P : Unreplaced → Type 0) → IfErr r (OnUnreplaced told)
+    → (tells → IfErr r (OnUnreplaced seen)) → (tells → IfErr r (OnUnreplaced left)) → ((u : Unreplaced) → told u → (tells → seen u) → (tells → left u) → P u) → IfErr r (OnUnreplaced P)
 unreplaced_of (Ok x) tells told seen left P a b c so = tt
 unreplaced_of (Err (Replace u)) tells told seen left P a b c so = so u a b c
 unreplaced_of (Err Read) tells told seen left P a b c so = tt
@@ -68,14 +67,14 @@ update_reason P W contents BadPosition path refusal is w = subst (HasReason P W 
 update_reason P W contents (BadDatabase fault) path refusal is w = subst (HasReason P W contents) (sym is) tt
 update_reason P W contents Memory path refusal is w = subst (HasReason P W contents) (sym is) tt
 
-module _ {S W : Type 0} (seen : S → Contents) (left_by : S → Outcomes) (taken : W → Option (List ℕ)) (old new : S) (err_old err_new : W)
+module _ {S W : Type 0} (store : S → Files) (told : W → Told) (old new : S) (err_old err_new : W)
     (root : List ℕ) (usr verbose : Bool) (read_from : Contents) (listed : List (List ℕ)) (files : List ChosenFile) (tells : Type 0) where
   -- a store that is the same keeps its files
-  pub kept : new ≡ old → AreKept (seen old) (seen new) (left_by old) (left_by new)
-  kept e = record { same = λ p. ap (λ s. seen s p) e; no_more = λ p v l. subst (λ s. left_by s p v) e l }
+  pub kept : new ≡ old → AreKept (store old) (store new)
+  kept e = record { same = λ p. ap (λ s. (store s).seen p) e; no_more = λ p v l. subst (λ s. (store s).left p v) e l }
 
   abbrev Refused : Refusal → Type 0
-  Refused refusal = IsSelectedRefused root usr verbose read_from refusal (seen old) (seen new) (left_by old) (left_by new) (taken err_old) (taken err_new)
+  Refused refusal = IsSelectedRefused root usr verbose read_from refusal (store old) (store new) (told err_old) (told err_new)
 
   -- an error of compiling
   plain : AreReadOf root read_from listed files → (error : ToolError) (refusal : Refusal) → refusal ≡ Plain error
@@ -90,31 +89,31 @@ module _ {S W : Type 0} (seen : S → Contents) (left_by : S → Outcomes) (take
       is = is;
       refused = refused read.of_etc read.of_usr read.are;
       kept = kept same.1;
-      untouched = λ _. ap taken same.0;
-      cut_short = λ w. absurd (other w);
+      untouched = λ _. ap told same.0;
+      cut = λ w. absurd (other w);
     };
   }
 
   pub update_refused : tells → AreReadOf root read_from listed files → (error : ToolError) (refusal : Refusal) → IsOfUpdate error (database_path usr root) refusal
       → ForFolders files (λ e u. IsUpdateRefusal e u max_file error)
-      → OnUnreplaced (λ u. ForFolders files (λ e r. UpdateUndone e r (given_where verbose listed) (database_folder usr root) (taken err_old) (taken err_new) tells (seen old) (seen new) (left_by old) (left_by new) u)) error
-      → (error ≡ Write → new ≡ old)
-      → (error ≡ Write → ForFolders files (λ e u. AppendsPrefix (taken err_old) (taken err_new) (update_text (given_where verbose listed) e u)))
+      → OnUnreplaced (λ u. ((told err_new).failures ≡ (told err_old).failures) × ForFolders files (λ e r. UpdateUndone e r (given_where verbose listed) (database_folder usr root) (told err_old).bytes (told err_new).bytes tells (store old).seen (store new).seen (store old).left (store new).left u)) error
+      → (error ≡ Write → (new ≡ old) × ForFolders files (λ e u. WasCut (update_text (given_where verbose listed) e u) (told err_old) (told err_new)))
       → (error ≢ Write → ((u : Unreplaced) → error ≢ Replace u) → (err_new ≡ err_old) × (new ≡ old))
       → Refused refusal
   unfolding is_write is_replace
-  update_refused t read (Replace u) refusal is refused undone write cut same = inr record {
+  update_refused t read (Replace u) refusal is refused undone cut same = inr record {
     of_etc = read.of_etc;
     of_usr = read.of_usr;
     in_etc = read.in_etc;
     in_usr = read.in_usr;
-    refused = inr (let un = undone read.of_etc read.of_usr read.are in record {
+    refused = inr (let un = undone.1 read.of_etc read.of_usr read.are in record {
       unreplaced = u;
       is = is;
-      undone = record { database = un.database; written = un.written; told = subst (λ l. Appends (taken err_old) (taken err_new) (update_text l read.of_etc read.of_usr)) (ap (given_where verbose) (sym read.named)) un.told; seen = λ _. un.seen t; left = λ _. un.left t };
+      undone = record { database = un.database; written = un.written; told = subst (λ l. Appends (told err_old).bytes (told err_new).bytes (update_text l read.of_etc read.of_usr)) (ap (given_where verbose) (sym read.named)) un.told; seen = λ _. un.seen t; left = λ _. un.left t };
+      unfailed = undone.0;
     });
   }
-  update_refused t read Write refusal is refused undone write cut same = inr record {
+  update_refused t read Write refusal is refused undone cut same = inr record {
     of_etc = read.of_etc;
     of_usr = read.of_usr;
     in_etc = read.in_etc;
@@ -123,24 +122,24 @@ module _ {S W : Type 0} (seen : S → Contents) (left_by : S → Outcomes) (take
       error = Write;
       is = is;
       refused = refused read.of_etc read.of_usr read.are;
-      kept = kept (write refl);
+      kept = kept (cut refl).0;
       untouched = λ n. absurd (n refl);
-      cut_short = λ w. subst (λ l. AppendsPrefix (taken err_old) (taken err_new) (update_text l read.of_etc read.of_usr)) (ap (given_where verbose) (sym read.named)) (cut refl read.of_etc read.of_usr read.are);
+      cut = λ w. subst (λ l. WasCut (update_text l read.of_etc read.of_usr) (told err_old) (told err_new)) (ap (given_where verbose) (sym read.named)) ((cut refl).1 read.of_etc read.of_usr read.are);
     };
   }
-  update_refused t read Read refusal is refused undone write cut same =
+  update_refused t read Read refusal is refused undone cut same =
       plain read Read refusal is refused (not_write Read (λ x. x)) (same (not_write Read (λ x. x)) (λ u. not_replace Read u (λ x. x)))
-  update_refused t read TooLong refusal is refused undone write cut same =
+  update_refused t read TooLong refusal is refused undone cut same =
       plain read TooLong refusal is refused (not_write TooLong (λ x. x)) (same (not_write TooLong (λ x. x)) (λ u. not_replace TooLong u (λ x. x)))
-  update_refused t read TooManyFiles refusal is refused undone write cut same =
+  update_refused t read TooManyFiles refusal is refused undone cut same =
       plain read TooManyFiles refusal is refused (not_write TooManyFiles (λ x. x)) (same (not_write TooManyFiles (λ x. x)) (λ u. not_replace TooManyFiles u (λ x. x)))
-  update_refused t read TooManyLines refusal is refused undone write cut same =
+  update_refused t read TooManyLines refusal is refused undone cut same =
       plain read TooManyLines refusal is refused (not_write TooManyLines (λ x. x)) (same (not_write TooManyLines (λ x. x)) (λ u. not_replace TooManyLines u (λ x. x)))
-  update_refused t read TooLarge refusal is refused undone write cut same =
+  update_refused t read TooLarge refusal is refused undone cut same =
       plain read TooLarge refusal is refused (not_write TooLarge (λ x. x)) (same (not_write TooLarge (λ x. x)) (λ u. not_replace TooLarge u (λ x. x)))
-  update_refused t read BadPosition refusal is refused undone write cut same =
+  update_refused t read BadPosition refusal is refused undone cut same =
       plain read BadPosition refusal is refused (not_write BadPosition (λ x. x)) (same (not_write BadPosition (λ x. x)) (λ u. not_replace BadPosition u (λ x. x)))
-  update_refused t read (BadDatabase fault) refusal is refused undone write cut same =
+  update_refused t read (BadDatabase fault) refusal is refused undone cut same =
       plain read (BadDatabase fault) refusal is refused (not_write (BadDatabase fault) (λ x. x)) (same (not_write (BadDatabase fault) (λ x. x)) (λ u. not_replace (BadDatabase fault) u (λ x. x)))
-  update_refused t read Memory refusal is refused undone write cut same =
+  update_refused t read Memory refusal is refused undone cut same =
       plain read Memory refusal is refused (not_write Memory (λ x. x)) (same (not_write Memory (λ x. x)) (λ u. not_replace Memory u (λ x. x)))

@@ -1,36 +1,31 @@
--- What `diff` leaves, and what it refuses. Our choice.
-use Rattle.std.specs.Prelude.{◌≡◌, ◌≢◌, ◌⊎◌, ◌≤◌, List, Option, Some, length, ℕ}
+-- What `diff` refuses. Our choice.
+use Rattle.std.specs.Prelude.{◌≡◌, ◌⊎◌, ◌≤◌, List, Some, length, ℕ}
 use Rattle.hwdb_inspect.specs.Diffs.{IsDiffRefusal}
 use Rattle.hwdb_inspect.specs.declared.errors.DiffError.{DiffError}
-use Rattle.hwdb_inspect.specs.declared.errors.DiffError.TheVariants.{Memory, New, Old, Write}
+use Rattle.hwdb_inspect.specs.declared.errors.DiffError.TheVariants.{Memory, New, Old}
 use Rattle.hwdb_spec.specs.Asked.{AreHeld}
-use Rattle.hwdb_spec.specs.Databases.{IsDiffText}
-use Rattle.hwdb_spec.specs.Outputs.{WrotePrefix}
 use Rattle.hwdb_spec.specs.Store.{Contents}
 use Rattle.hwdb_spec.specs.System.{bytes_at}
 use Rattle.hwdb_spec.specs.Texts.{max_file}
 use Rattle.hwdb_fs.specs.Refusals.{IsAt, IsUnread}
 use Rattle.hwdb_fs.specs.declared.refusals.Refusal.{Refusal}
 use Rattle.hwdb_fs.specs.declared.refusals.Refusal.TheVariants.{Plain}
-use Rattle.hwdb_transfer.specs.declared.errors.ToolError.TheVariants.{BadDatabase, Memory as OutOfMemory, Write as NotWritten}
+use Rattle.hwdb_print.specs.declared.errors.ToolError.TheVariants.{BadDatabase, Memory as OutOfMemory}
 
 -- the refusal of such an error: a fault of a database with its path
 abbrev pub IsOfDiff : DiffError → (old_path new_path : List ℕ) → Refusal → Type 0
 IsOfDiff (Old fault) old_path new_path refusal = IsAt (BadDatabase fault) old_path refusal
 IsOfDiff (New fault) old_path new_path refusal = IsAt (BadDatabase fault) new_path refusal
-IsOfDiff Write old_path new_path refusal = refusal ≡ Plain NotWritten
 IsOfDiff Memory old_path new_path refusal = refusal ≡ Plain OutOfMemory
 
--- comparing what the files hold is refused, and standard output has what it had, or a prefix
-pub record IsUncompared (old_path new_path : List ℕ) (contents : Contents) (refusal : Refusal) (out_before out_now : Option (List ℕ)) : Type 0 where
+-- what the files hold is refused
+pub record IsNotCompared (old_path new_path : List ℕ) (contents : Contents) (refusal : Refusal) : Type 0 where
   pub old : List ℕ
   pub new : List ℕ
   pub held : AreHeld old_path new_path contents old new
   pub error : DiffError
   pub is : IsOfDiff error old_path new_path refusal
   pub refused : IsDiffRefusal old new error
-  pub untouched : error ≢ Write → error ≢ Memory → out_now ≡ out_before
-  pub cut_short : (out_now ≡ out_before) ⊎ WrotePrefix (IsDiffText old new) out_before out_now
 
 -- what a path holds was read: it isn't longer than a file may be
 pub record WasRead (path : List ℕ) (contents : Contents) : Type 0 where
@@ -39,7 +34,6 @@ pub record WasRead (path : List ℕ) (contents : Contents) : Type 0 where
   pub within : length bytes ≤ max_file
 
 -- `diff` is refused: the old file can't be read, or after it the new one, or they can't be compared
-abbrev pub IsDiffRefused : (old_path new_path : List ℕ) → Contents → Refusal → (out_before out_now : Option (List ℕ)) → Type 0
-IsDiffRefused old_path new_path contents refusal out_before out_now =
-    ((IsUnread old_path refusal ⊎ (WasRead old_path contents × IsUnread new_path refusal)) × (out_now ≡ out_before))
-    ⊎ IsUncompared old_path new_path contents refusal out_before out_now
+abbrev pub IsDiffRefused : (old_path new_path : List ℕ) → Contents → Refusal → Type 0
+IsDiffRefused old_path new_path contents refusal =
+    IsUnread old_path refusal ⊎ ((WasRead old_path contents × IsUnread new_path refusal) ⊎ IsNotCompared old_path new_path contents refusal)

@@ -9,7 +9,7 @@ use Rattle.hwdb_spec.specs.Folders.{Choice}
 use Rattle.hwdb_spec.specs.System.{database_folder}
 use Rattle.hwdb_spec.specs.Texts.{queries_text}
 use Rattle.hwdb_spec.specs.Asked.{IsAnswered}
-use Rattle.hwdb_tool.specs.Laws.{PrintsLast}
+use Rattle.hwdb_tool.specs.Laws.{IsOfLast}
 use Rattle.hwdb_spec.specs.LeftOut.{AreLeftOut, without}
 use Rattle.hwdb_tool.specs.Program.{OldOrAskedFor, root_of, skips}
 use Rattle.hwdb_spec.specs.Databases.{IsTextOf}
@@ -18,10 +18,9 @@ use Rattle.hwdb_spec.specs.Databases.{IsTextOf}
 abbrev pub Booted : Outcomes → Contents → Type 0
 Booted outcomes contents = (p : List ℕ) → outcomes p (contents p)
 
--- A query of a device over these files prints what the text files of the others assign it last.
+-- The text of a query of a device over these files is what the text files of the others assign it last.
 abbrev pub AnswersFrom : (root : List ℕ) (old after : Contents) → Type 0
-AnswersFrom root old after = (device : List ℕ) (out_before out_now : Option (List ℕ))
-    → IsAnswered root (IsTextOf (queries_text (device ∷ []))) after out_before out_now → PrintsLast root old device out_before out_now
+AnswersFrom root old after = (device text : List ℕ) → IsAnswered root (IsTextOf (queries_text (device ∷ []))) after text → IsOfLast root old device text
 
 -- the same over the files that a job doesn't leave out
 abbrev pub AnswersFromRead : (MayFail : (path : List ℕ) → Type 0) → Job → (old after : Contents) → Type 0

@@ -1,3 +1,4 @@
+pub mod Views
 pub mod Program
 pub mod Laws
 pub mod TaskRefusals

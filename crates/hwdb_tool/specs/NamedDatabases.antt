@@ -1,12 +1,13 @@
--- The database that `verify` and `dump` read: that at a path, or without one the database that is asked; what they leave, and
--- what they refuse. Our choice.
-use Rattle.std.specs.Prelude.{◌≡◌, ◌≢◌, ◌⊎◌, List, None, Option, Some, ℕ}
+-- The database that `verify` and `dump` read: that at a path, or without one the database that is asked; and what they refuse.
+-- Our choice.
+use Rattle.std.specs.Prelude.{◌≡◌, ◌⊎◌, List, None, Option, Some, ℕ}
 use Rattle.hwdb_inspect.specs.Dumps.{IsDumpRefusal}
+use Rattle.hwdb_inspect.specs.Summaries.{IsVerifyRefusal}
 use Rattle.hwdb_inspect.specs.declared.errors.DumpError.{DumpError}
+use Rattle.hwdb_inspect.specs.declared.errors.DumpError.TheVariants as dumping
+use Rattle.hwdb_inspect.specs.declared.errors.VerifyError.{VerifyError}
+use Rattle.hwdb_inspect.specs.declared.errors.VerifyError.TheVariants as verifying
 use Rattle.hwdb_spec.specs.Asked.{IsNamedPath, named_database, unsayable_text}
-use Rattle.hwdb_spec.specs.Databases.{IsSummary, IsTextOf}
-use Rattle.hwdb_spec.specs.Dump.{dump_text}
-use Rattle.hwdb_spec.specs.Outputs.{WrotePrefix}
 use Rattle.hwdb_spec.specs.Store.{Contents}
 use Rattle.hwdb_spec.specs.System.{bytes_at}
 use Rattle.hwdb_spec.specs.Verdicts.{verdict_text}
@@ -14,10 +15,7 @@ use Rattle.hwdb_fs.specs.Refusals.{IsAt, IsInWords, IsUnread}
 use Rattle.hwdb_fs.specs.declared.refusals.Refusal.{Refusal}
 use Rattle.hwdb_fs.specs.declared.refusals.Refusal.TheVariants.{Plain}
 use Rattle.hwdb_tool.specs.Undone.{IsUnfound}
-use Rattle.hwdb_transfer.specs.Databases.{IsQueryRefusal}
-use Rattle.hwdb_transfer.specs.declared.errors.ToolError.{ToolError}
-use Rattle.hwdb_transfer.specs.declared.errors.ToolError.TheVariants.{BadDatabase, Memory as OutOfMemory, Write}
-use Rattle.hwdb_inspect.specs.declared.errors.DumpError.TheVariants as dumping
+use Rattle.hwdb_print.specs.declared.errors.ToolError.TheVariants.{BadDatabase, Memory as OutOfMemory}
 
 -- what reading it may refuse
 abbrev pub IsUnnamed : (given : Option (List ℕ)) (root : List ℕ) → Contents → Refusal → Type 0
@@ -25,38 +23,33 @@ IsUnnamed None root contents refusal = IsUnfound root contents refusal
 IsUnnamed (Some path) root contents refusal = IsUnread path refusal
 
 -- the refusal of an error: that of a fault says what is wrong
-abbrev pub IsOfVerify : ToolError → (path : List ℕ) → Refusal → Type 0
-IsOfVerify (BadDatabase fault) path refusal = IsInWords (verdict_text path fault) refusal
-IsOfVerify error path refusal = refusal ≡ Plain error
+abbrev pub IsOfVerify : VerifyError → (path : List ℕ) → Refusal → Type 0
+IsOfVerify (verifying.Database fault) path refusal = IsInWords (verdict_text path fault) refusal
+IsOfVerify verifying.Memory path refusal = refusal ≡ Plain OutOfMemory
 
--- saying how much is in it was refused, and standard output has what it had, or a prefix where it failed
-pub record IsUnverified (given : Option (List ℕ)) (root : List ℕ) (contents : Contents) (refusal : Refusal) (out_before out_now : Option (List ℕ)) : Type 0 where
+-- its bytes are refused
+pub record IsNotVerified (given : Option (List ℕ)) (root : List ℕ) (contents : Contents) (refusal : Refusal) : Type 0 where
   pub path : List ℕ
   pub bytes : List ℕ
   pub at : IsNamedPath given root contents path
   pub named : named_database given root contents ≡ Some bytes
   pub held : bytes_at contents path ≡ Some bytes
-  pub error : ToolError
+  pub error : VerifyError
   pub is : IsOfVerify error path refusal
-  pub refused : IsQueryRefusal bytes error
-  pub untouched : error ≢ Write → out_now ≡ out_before
-  pub cut_short : error ≡ Write → WrotePrefix (IsSummary bytes) out_before out_now
+  pub refused : IsVerifyRefusal bytes error
 
 -- `verify` is refused: the database can't be read, or is none
-abbrev pub IsVerifyRefused : (given : Option (List ℕ)) (root : List ℕ) → Contents → Refusal → (out_before out_now : Option (List ℕ)) → Type 0
-IsVerifyRefused given root contents refusal out_before out_now =
-    (IsUnnamed given root contents refusal × (out_now ≡ out_before))
-    ⊎ IsUnverified given root contents refusal out_before out_now
+abbrev pub IsVerifyRefused : (given : Option (List ℕ)) (root : List ℕ) → Contents → Refusal → Type 0
+IsVerifyRefused given root contents refusal = IsUnnamed given root contents refusal ⊎ IsNotVerified given root contents refusal
 
 -- the refusal of an error
 abbrev pub IsOfDump : DumpError → (path : List ℕ) → Refusal → Type 0
 IsOfDump (dumping.Database fault) path refusal = IsAt (BadDatabase fault) path refusal
 IsOfDump (dumping.Unsayable pattern) path refusal = IsInWords (unsayable_text path pattern.items) refusal
-IsOfDump dumping.Write path refusal = refusal ≡ Plain Write
 IsOfDump dumping.Memory path refusal = refusal ≡ Plain OutOfMemory
 
--- printing it as text was refused, and standard output has what it had, or a prefix
-pub record IsUndumped (given : Option (List ℕ)) (root : List ℕ) (contents : Contents) (refusal : Refusal) (out_before out_now : Option (List ℕ)) : Type 0 where
+-- its bytes are refused
+pub record IsNotDumped (given : Option (List ℕ)) (root : List ℕ) (contents : Contents) (refusal : Refusal) : Type 0 where
   pub path : List ℕ
   pub bytes : List ℕ
   pub at : IsNamedPath given root contents path
@@ -65,11 +58,7 @@ pub record IsUndumped (given : Option (List ℕ)) (root : List ℕ) (contents : 
   pub error : DumpError
   pub is : IsOfDump error path refusal
   pub refused : IsDumpRefusal bytes error
-  pub untouched : error ≢ dumping.Write → error ≢ dumping.Memory → out_now ≡ out_before
-  pub cut_short : (out_now ≡ out_before) ⊎ WrotePrefix (IsTextOf dump_text bytes) out_before out_now
 
 -- `dump` is refused: the database can't be read, or is none, or no text says it
-abbrev pub IsDumpRefused : (given : Option (List ℕ)) (root : List ℕ) → Contents → Refusal → (out_before out_now : Option (List ℕ)) → Type 0
-IsDumpRefused given root contents refusal out_before out_now =
-    (IsUnnamed given root contents refusal × (out_now ≡ out_before))
-    ⊎ IsUndumped given root contents refusal out_before out_now
+abbrev pub IsDumpRefused : (given : Option (List ℕ)) (root : List ℕ) → Contents → Refusal → Type 0
+IsDumpRefused given root contents refusal = IsUnnamed given root contents refusal ⊎ IsNotDumped given root contents refusal

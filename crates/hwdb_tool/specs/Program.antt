@@ -2,12 +2,13 @@
 -- `list`, `check`, `diff`, `verify` and `dump` are our choice).
 use Rattle.std.specs.Prelude.{◌≡◌, ◌≢◌, ◌⊎◌, ◌==◌, ℕ, Bool, true, false, not, is_some, length, List, [], ◌∷◌, Option, map, option_map, string_bytes}
 use Rattle.std.specs.Option.{option_map_or}
-use Rattle.std.specs.Io.KnownBytes.{Appends}
 use Rattle.clap.specs.Faults.{fault_of}
 use Rattle.hwdb_cli.specs.Line.{hwdb_app}
 use Rattle.hwdb_cli.specs.Words.{AskFor, AskForText}
 use Rattle.hwdb_spec.specs.Given.{is_dash, any_dash, is_input}
-use Rattle.hwdb_spec.specs.Store.{Contents, Outcomes, Same, InPlace}
+use Rattle.hwdb_spec.specs.Outputs.{Texts}
+use Rattle.hwdb_spec.specs.Runs.{AreKept, HasTaken, OnOut, Printed, World}
+use Rattle.hwdb_spec.specs.Store.{Contents, InPlace, Outcomes}
 use Rattle.hwdb_spec.specs.System.{database_folder}
 use Rattle.hwdb_print.specs.declared.form.Form.TheVariants as form
 use Rattle.hwdb_cli.specs.declared.job.Task.TheVariants.{Ask, Check, Diff, Dump, Explain, List as ListHits, Query, Update, Verify}
@@ -16,7 +17,7 @@ use Rattle.hwdb_cli.specs.declared.job.Job.{Job}
 use Rattle.hwdb_spec.specs.CheckedFiles.{AreCheckedFiles, IsChecked}
 use Rattle.hwdb_spec.specs.Asked.{IsCompared, IsDumped, IsPrinted, IsAnswered, IsListFrom}
 use Rattle.hwdb_spec.specs.Databases.{IsSummary}
-use Rattle.hwdb_tool.specs.Queries.{AreAnswered}
+use Rattle.hwdb_tool.specs.Queries.{AreAnswered, IfNamed, IsQuiet}
 use Rattle.hwdb_spec.specs.Done.{IsAsked, IsLeftByUpdateLess}
 use Rattle.hwdb_tool.specs.Hiding.{IsUpdatedTelling}
 
@@ -33,51 +34,60 @@ looks_below_root (Verify database) = not (is_some database)
 looks_below_root (Dump database) = not (is_some database)
 looks_below_root _ = true
 
--- nothing changed but standard output, and the status is 0
-abbrev pub IsQuiet : (status : ℕ) (old new : Contents) (err_before err_now : Option (List ℕ)) → Type 0
-IsQuiet status old new err_before err_now = (status ≡ 0) × Same old new × (err_now ≡ err_before)
+-- what a task prints, and its status; an update says what it does while it goes on
+abbrev pub IsAnswerOf : Task → (root : List ℕ) (strict : Bool) (input : Option (List ℕ)) → Contents → (status : ℕ) → Texts → Type 0
+IsAnswerOf (Update verbose skip) root strict input files status texts = ⊥
+IsAnswerOf (Query devices json) root strict input files status texts =
+    (status ≡ 0) × OnOut (AreAnswered root (form.Query json) (map string_bytes devices.items) input files) texts
+IsAnswerOf (Explain device json) root strict input files status texts =
+    (status ≡ 0) × OnOut (AreAnswered root (form.Explain json) (string_bytes device ∷ []) input files) texts
+IsAnswerOf (ListHits after limit device json) root strict input files status texts =
+    (status ≡ 0) × OnOut (IsAnswered root (IsListFrom json (string_bytes device) (option_map string_bytes after) limit) files) texts
+IsAnswerOf (Ask file device) root strict input files status texts =
+    (status ≡ 0) × IsAsked (string_bytes file) (string_bytes device) input files texts
+IsAnswerOf (Check paths) root strict input files status texts =
+    OnOut (λ text. IsChecked (AreCheckedFiles (map string_bytes paths.items) root input files) strict text status) texts
+IsAnswerOf (Diff old_path new_path) root strict input files status texts =
+    OnOut (λ text. IsCompared (string_bytes old_path) (string_bytes new_path) files text status) texts
+IsAnswerOf (Verify database) root strict input files status texts =
+    (status ≡ 0) × OnOut (IsPrinted (option_map string_bytes database) root IsSummary files) texts
+IsAnswerOf (Dump database) root strict input files status texts =
+    (status ≡ 0) × OnOut (IsDumped (option_map string_bytes database) root files) texts
 
--- what a task leaves that is done
-abbrev pub IsTaskDone : Task → (MayFail : (path : List ℕ) → Type 0) (root : List ℕ) (usr strict : Bool) (status : ℕ) (input : Option (List ℕ)) (old new : Contents) (left : Outcomes) (err_before err_now out_before out_now : Option (List ℕ)) → Type 0
-IsTaskDone (Update verbose skip) MayFail root usr strict status input old new left err_before err_now out_before out_now =
-    IsUpdatedTelling MayFail root usr verbose strict skip status old err_before err_now (λ database. InPlace (database_folder usr root) database old new left)
-    × (out_now ≡ out_before)
-IsTaskDone (Query devices json) MayFail root usr strict status input old new left err_before err_now out_before out_now =
-    AreAnswered root (form.Query json) (map string_bytes devices.items) input old out_before out_now × IsQuiet status old new err_before err_now
-IsTaskDone (Explain device json) MayFail root usr strict status input old new left err_before err_now out_before out_now =
-    AreAnswered root (form.Explain json) (string_bytes device ∷ []) input old out_before out_now × IsQuiet status old new err_before err_now
-IsTaskDone (ListHits after limit device json) MayFail root usr strict status input old new left err_before err_now out_before out_now =
-    IsAnswered root (IsListFrom json (string_bytes device) (option_map string_bytes after) limit) old out_before out_now × IsQuiet status old new err_before err_now
-IsTaskDone (Ask file device) MayFail root usr strict status input old new left err_before err_now out_before out_now =
-    IsAsked (string_bytes file) (string_bytes device) input old err_before err_now out_before out_now × (status ≡ 0) × Same old new
-IsTaskDone (Check files) MayFail root usr strict status input old new left err_before err_now out_before out_now =
-    IsChecked (AreCheckedFiles (map string_bytes files.items) root input old) strict status out_before out_now × Same old new × (err_now ≡ err_before)
-IsTaskDone (Diff old_path new_path) MayFail root usr strict status input old new left err_before err_now out_before out_now =
-    IsCompared (string_bytes old_path) (string_bytes new_path) status old out_before out_now × Same old new × (err_now ≡ err_before)
-IsTaskDone (Verify database) MayFail root usr strict status input old new left err_before err_now out_before out_now =
-    IsPrinted (option_map string_bytes database) root IsSummary old out_before out_now × IsQuiet status old new err_before err_now
-IsTaskDone (Dump database) MayFail root usr strict status input old new left err_before err_now out_before out_now =
-    IsDumped (option_map string_bytes database) root old out_before out_now × IsQuiet status old new err_before err_now
+-- the task answers the devices that standard input names, each as it comes
+abbrev pub streams : Task → Bool
+streams (Query devices json) = is_input (map string_bytes devices.items)
+streams (Explain device json) = is_input (string_bytes device ∷ [])
+streams _ = false
+
+-- a task is done with this status: both outputs took what it prints, and the files are as they were, but for an update
+abbrev pub IsTaskDone : Task → (root : List ℕ) (usr strict : Bool) (status : ℕ) (before now : World) → Type 0
+IsTaskDone (Update verbose skip) root usr strict status before now =
+    IsUpdatedTelling root usr verbose strict skip status before.files before.err now.err (λ database. InPlace (database_folder usr root) database before.files.seen now.files.seen now.files.left)
+    × (now.out ≡ before.out)
+IsTaskDone task root usr strict status before now =
+    IfNamed (streams task) before.input.bytes (Printed (IsAnswerOf task root strict before.input.bytes before.files.seen status) before.err now.err before.out now.out)
+    × IsQuiet (streams task) status before.err now.err × AreKept before.files now.files
 
 -- what a job leaves that is done
-abbrev pub IsDone : Job → (MayFail : (path : List ℕ) → Type 0) (status : ℕ) (input : Option (List ℕ)) (old new : Contents) (left : Outcomes) (err_before err_now out_before out_now : Option (List ℕ)) → Type 0
-IsDone job MayFail = IsTaskDone job.task MayFail (root_of job) job.usr job.strict
+abbrev pub IsDone : Job → (status : ℕ) (before now : World) → Type 0
+IsDone job = IsTaskDone job.task (root_of job) job.usr job.strict
 
 -- the words ask for a job, and it is done
-pub record IsJobDone (MayFail : (path : List ℕ) → Type 0) (words : List (List ℕ)) (status : ℕ) (input : Option (List ℕ)) (old new : Contents) (left : Outcomes) (err_before err_now out_before out_now : Option (List ℕ)) : Type 0 where
+pub record IsJobDone (words : List (List ℕ)) (status : ℕ) (before now : World) : Type 0 where
   pub job : Job
   pub asked : AskFor words job
   pub faultless : fault_of hwdb_app words ≡ []
-  pub done : IsDone job MayFail status input old new left err_before err_now out_before out_now
+  pub done : IsDone job status before now
 
 -- the words ask for help or the version, a text that standard output took; nothing else changed
-pub record IsTold (words : List (List ℕ)) (old new : Contents) (err_before err_now out_before out_now : Option (List ℕ)) : Type 0 where
+pub record IsTold (words : List (List ℕ)) (before now : World) : Type 0 where
   pub asked : AskForText words
   pub text : List ℕ
   pub some : text ≢ []
-  pub printed : Appends out_before out_now text
-  pub files : Same old new
-  pub err : err_now ≡ err_before
+  pub printed : HasTaken text before.out now.out
+  pub err : now.err ≡ before.err
+  pub kept : AreKept before.files now.files
 
 -- the task reads standard input
 abbrev pub reads_input : Task → Bool

@@ -1,13 +1,14 @@
 -- `query` and `explain` of the devices of their words, or with a lone `-` of those that standard input names, one a line: what
--- they leave, and what they refuse. Our choice.
-use Rattle.std.specs.Prelude.{◌<◌, ◌≡◌, ◌⊎◌, Bool, IfSome, List, Option, Some, codes, false, length, true, ℕ}
+-- they print, and what they refuse. Our choice.
+use Rattle.std.specs.Prelude.{◌<◌, ◌≡◌, ◌≢◌, ◌⊎◌, Bool, IfSome, List, Option, Some, codes, false, length, true, ℕ}
 use Rattle.hwdb_spec.specs.Asked.{IsAnswered, IsAskedPath}
 use Rattle.hwdb_spec.specs.Databases.{IsTextOf}
-use Rattle.hwdb_spec.specs.Failures.{HasFailed}
+use Rattle.hwdb_spec.specs.Failures.{HasFailed, OneFailed}
 use Rattle.hwdb_spec.specs.Folders.{max_lines}
 use Rattle.hwdb_spec.specs.Given.{is_input}
 use Rattle.hwdb_spec.specs.ManyDevices.{HasLongLine}
 use Rattle.hwdb_spec.specs.Outputs.{WrotePrefix}
+use Rattle.hwdb_spec.specs.Runs.{OnOut, Printed, Told}
 use Rattle.hwdb_spec.specs.Store.{Contents}
 use Rattle.hwdb_spec.specs.System.{asked_database}
 use Rattle.hwdb_spec.specs.Texts.{devices_of, max_file}
@@ -16,18 +17,36 @@ use Rattle.hwdb_print.specs.declared.form.Form.{Form}
 use Rattle.hwdb_fs.specs.Refusals.{IsAt, IsOfDatabase}
 use Rattle.hwdb_fs.specs.declared.refusals.Refusal.{Refusal}
 use Rattle.hwdb_fs.specs.declared.refusals.Refusal.TheVariants.{At, Plain}
-use Rattle.hwdb_tool.specs.Undone.{IsAnswerRefused, IsUnfound}
-use Rattle.hwdb_transfer.specs.Databases.{IsQueryRefusal}
-use Rattle.hwdb_transfer.specs.declared.errors.ToolError.{ToolError}
-use Rattle.hwdb_transfer.specs.declared.errors.ToolError.TheVariants.{Read, TooLong, TooManyLines}
+use Rattle.hwdb_tool.specs.Undone.{IsUnanswered, IsUnfound, IsUnprinted}
+use Rattle.hwdb_print.specs.declared.errors.ToolError.{ToolError}
+use Rattle.hwdb_print.specs.declared.errors.ToolError.TheVariants.{Read, TooLong, TooManyLines, Write}
 
--- standard output took what the database gives these devices, or, where the input tells its bytes, those that it names
-abbrev pub AreAnsweredFrom : (from_input : Bool) (root : List ℕ) (form : Form) (devices : List (List ℕ)) (input : Option (List ℕ)) → Contents → (out_before out_now : Option (List ℕ)) → Type 0
-AreAnsweredFrom false root form devices input contents out_before out_now = IsAnswered root (IsTextOf (texts_of form devices)) contents out_before out_now
-AreAnsweredFrom true root form devices input contents out_before out_now = IfSome input (λ text. IsAnswered root (IsTextOf (texts_of form (devices_of text))) contents out_before out_now)
+-- the text is what the database gives these devices, or, if the input tells its bytes, those that it names
+abbrev pub AreAnsweredFrom : (from_input : Bool) (root : List ℕ) (form : Form) (devices : List (List ℕ)) (input : Option (List ℕ)) → Contents → (text : List ℕ) → Type 0
+AreAnsweredFrom false root form devices input contents text = IsAnswered root (IsTextOf (texts_of form devices)) contents text
+AreAnsweredFrom true root form devices input contents text = IfSome input (λ named. IsAnswered root (IsTextOf (texts_of form (devices_of named))) contents text)
 
-abbrev pub AreAnswered : (root : List ℕ) (form : Form) (devices : List (List ℕ)) (input : Option (List ℕ)) → Contents → (out_before out_now : Option (List ℕ)) → Type 0
+abbrev pub AreAnswered : (root : List ℕ) (form : Form) (devices : List (List ℕ)) (input : Option (List ℕ)) → Contents → (text : List ℕ) → Type 0
 AreAnswered root form devices = AreAnsweredFrom (is_input devices) root form devices
+
+-- that is so if these devices are told, or the task doesn't answer such ones
+abbrev pub IfNamed : (from_input : Bool) (input : Option (List ℕ)) → Type 0 → Type 0
+IfNamed false input P = P
+IfNamed true input P = IfSome input (λ named. P)
+
+-- of devices that aren't told this is so all the same: status 0, and standard error wasn't used
+abbrev pub IsQuiet : (from_input : Bool) (status : ℕ) (err_before err_now : Told) → Type 0
+IsQuiet false status err_before err_now = Unit {0}
+IsQuiet true status err_before err_now = (status ≡ 0) × (err_now ≡ err_before)
+
+-- These devices are answered, with status 0. Of those that standard input doesn't tell only that standard error wasn't used.
+abbrev pub AreDoneFrom : (from_input : Bool) (root : List ℕ) (form : Form) (devices : List (List ℕ)) (input : Option (List ℕ)) → Contents → (status : ℕ) (err_before err_now out_before out_now : Told) → Type 0
+AreDoneFrom from_input root form devices input contents status err_before err_now out_before out_now =
+    IfNamed from_input input (Printed (λ texts. (status ≡ 0) × OnOut (AreAnsweredFrom from_input root form devices input contents) texts) err_before err_now out_before out_now)
+    × IsQuiet from_input status err_before err_now
+
+abbrev pub AreDone : (root : List ℕ) (form : Form) (devices : List (List ℕ)) (input : Option (List ℕ)) → Contents → (status : ℕ) (err_before err_now out_before out_now : Told) → Type 0
+AreDone root form devices = AreDoneFrom (is_input devices) root form devices
 
 -- the refusal of an error: one of the input says so, and one of the database has its path
 abbrev pub IsOfInput : ToolError → (path : List ℕ) → Refusal → Type 0
@@ -48,7 +67,7 @@ IsInputUnread before now (At TooLong at cause) = (at.items ≡ codes "a line of 
 IsInputUnread before now refusal = ⊥
 
 -- answering the devices of the input was refused, and standard output has what it had, or a prefix
-pub record IsUnstreamed (root : List ℕ) (form : Form) (input : Option (List ℕ)) (contents : Contents) (refusal : Refusal) (out_before out_now : Option (List ℕ)) : Type 0 where
+pub record IsUnstreamed (root : List ℕ) (form : Form) (input : Option (List ℕ)) (contents : Contents) (refusal : Refusal) (before now : Told) : Type 0 where
   pub path : List ℕ
   pub bytes : List ℕ
   pub at : IsAskedPath root contents path
@@ -58,19 +77,23 @@ pub record IsUnstreamed (root : List ℕ) (form : Form) (input : Option (List �
   pub refused : IsStreamRefusal bytes error
   pub long : error ≡ TooLong → IfSome input (HasLongLine max_file)
   pub many : error ≡ TooManyLines → IfSome input (λ text. max_lines < length (devices_of text))
-  pub untouched : IfBadDatabase (out_now ≡ out_before) error
-  pub cut_short : (out_now ≡ out_before) ⊎ IfSome input (λ text. WrotePrefix (IsTextOf (texts_of form (devices_of text)) bytes) out_before out_now)
+  pub untouched : IfBadDatabase (now.bytes ≡ before.bytes) error
+  pub cut : (now.bytes ≡ before.bytes) ⊎ IfSome input (λ text. WrotePrefix (IsTextOf (texts_of form (devices_of text)) bytes) before.bytes now.bytes)
+  pub failed : error ≡ Write → OneFailed before.failures now.failures
+  pub unfailed : error ≢ Write → now.failures ≡ before.failures
 
 -- the same, or the database can't be read
-abbrev pub IsStreamRefused : (root : List ℕ) (form : Form) (input : Option (List ℕ)) → Contents → Refusal → (out_before out_now : Option (List ℕ)) → Type 0
-IsStreamRefused root form input contents refusal out_before out_now =
-    (IsUnfound root contents refusal × (out_now ≡ out_before))
-    ⊎ IsUnstreamed root form input contents refusal out_before out_now
+abbrev pub IsStreamRefused : (root : List ℕ) (form : Form) (input : Option (List ℕ)) → Contents → Refusal → (before now : Told) → Type 0
+IsStreamRefused root form input contents refusal before now =
+    (IsUnfound root contents refusal × (now ≡ before))
+    ⊎ IsUnstreamed root form input contents refusal before now
 
 -- the command is refused
-abbrev pub AreUnansweredFrom : (from_input : Bool) (root : List ℕ) (form : Form) (devices : List (List ℕ)) (input : Option (List ℕ)) → Contents → Refusal → (out_before out_now : Option (List ℕ)) → Type 0
-AreUnansweredFrom false root form devices input contents refusal out_before out_now = IsAnswerRefused root IsQueryRefusal (IsTextOf (texts_of form devices)) contents refusal out_before out_now
-AreUnansweredFrom true root form devices input contents refusal out_before out_now = IsStreamRefused root form input contents refusal out_before out_now
+abbrev pub AreUnansweredFrom : (from_input : Bool) (root : List ℕ) (form : Form) (devices : List (List ℕ)) (input : Option (List ℕ)) → Contents → Refusal → (err_before err_now out_before out_now : Told) → Type 0
+AreUnansweredFrom false root form devices input contents refusal err_before err_now out_before out_now =
+    IsUnprinted (IsUnanswered root contents) (OnOut (IsAnswered root (IsTextOf (texts_of form devices)) contents)) refusal err_before err_now out_before out_now
+AreUnansweredFrom true root form devices input contents refusal err_before err_now out_before out_now =
+    IsStreamRefused root form input contents refusal out_before out_now × (err_now ≡ err_before)
 
-abbrev pub AreUnanswered : (root : List ℕ) (form : Form) (devices : List (List ℕ)) (input : Option (List ℕ)) → Contents → Refusal → (out_before out_now : Option (List ℕ)) → Type 0
+abbrev pub AreUnanswered : (root : List ℕ) (form : Form) (devices : List (List ℕ)) (input : Option (List ℕ)) → Contents → Refusal → (err_before err_now out_before out_now : Told) → Type 0
 AreUnanswered root form devices = AreUnansweredFrom (is_input devices) root form devices

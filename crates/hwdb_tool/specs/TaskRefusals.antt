@@ -1,6 +1,6 @@
 -- Which refusals end a task, when each comes, and what it leaves: the files, what standard error had taken before the
 -- refusal's line, and standard output. Our choice.
-use Rattle.std.specs.Prelude.{◌≡◌, ◌≢◌, ◌⊎◌, ◌==◌, ℕ, Bool, true, false, not, is_some, length, List, [], ◌∷◌, Option, Some, map, option_map, string_bytes, codes}
+use Rattle.std.specs.Prelude.{◌≡◌, ◌⊎◌, ◌==◌, ℕ, Bool, true, false, not, is_some, length, List, [], ◌∷◌, Option, Some, map, option_map, string_bytes, codes}
 use Rattle.hwdb_cli.specs.Words.{AskFor, AskForText, AreToldBy}
 use Rattle.hwdb_cli.specs.declared.job.Job.{Job}
 use Rattle.hwdb_cli.specs.declared.job.Task.TheVariants.{Ask, Check, Diff, Dump, Explain, List as ListHits, Query, Update, Verify}
@@ -8,53 +8,53 @@ use Rattle.hwdb_cli.specs.declared.job.Task.{Task}
 use Rattle.hwdb_cli.specs.declared.job.WordsFault.TheVariants as words_fault
 use Rattle.hwdb_cli.specs.declared.job.WordsFault.{WordsFault}
 use Rattle.hwdb_spec.specs.Failures.{IsOneLine}
-use Rattle.hwdb_spec.specs.Store.{Contents, Outcomes, Same}
+use Rattle.hwdb_spec.specs.Runs.{AreKept, Told, WasCut, World}
+use Rattle.hwdb_spec.specs.Store.{Contents}
 use Rattle.hwdb_spec.specs.System.{database_folder}
-use Rattle.hwdb_spec.specs.Outputs.{AppendsPrefix}
+use Rattle.hwdb_spec.specs.Outputs.{Texts}
 use Rattle.hwdb_print.specs.declared.form.Form.TheVariants as form
-use Rattle.hwdb_transfer.specs.declared.errors.ToolError.TheVariants.{Memory, Write}
+use Rattle.hwdb_print.specs.declared.errors.ToolError.TheVariants.{Memory, Write}
 use Rattle.hwdb_spec.specs.CheckedFiles.{AreCheckedFiles}
 use Rattle.hwdb_tool.specs.ComparedDatabases.{IsDiffRefused}
 use Rattle.hwdb_tool.specs.NamedDatabases.{IsDumpRefused, IsVerifyRefused}
-use Rattle.hwdb_spec.specs.Asked.{IsListFrom}
 use Rattle.hwdb_tool.specs.Queries.{AreUnanswered, IsInputUnread}
-use Rattle.hwdb_tool.specs.Program.{IsUpdate, looks_below_root, reads_input, root_of}
+use Rattle.hwdb_tool.specs.Program.{IsAnswerOf, IsJobDone, IsTold, IsUpdate, looks_below_root, reads_input, root_of}
 use Rattle.hwdb_fs.specs.Refusals.{HasReason, IsAt, IsUnread, IsUnreadable, Refused, refusal_line, refusal_text}
 use Rattle.hwdb_fs.specs.declared.refusals.Refusal.TheVariants.{Plain}
 use Rattle.hwdb_fs.specs.declared.refusals.Refusal.{Refusal}
-use Rattle.hwdb_spec.specs.Done.{AreKept}
-use Rattle.hwdb_tool.specs.Undone.{AreUncheckable, IsAnswerRefused, IsAskRefused, IsCheckRefused, IsListRefusedBy, IsUnreadableIf, IsUnwritable}
+use Rattle.hwdb_tool.specs.Undone.{AreUncheckable, IsAskRefused, IsCheckRefused, IsListRefused, IsUnanswered, IsUnprinted, IsUnreadableIf, IsUnwritable}
 use Rattle.hwdb_tool.specs.Hiding.{IsTellingUpdateRefused}
 
--- a sink as it tells: what it took, and how many of its calls failed
-pub record Taken : Type 0 where
-  pub bytes : Option (List ℕ)
-  pub failures : ℕ
+-- why a task that prints a text can't make it, before it writes anything
+abbrev pub Refuses : Task → (root : List ℕ) (input : Option (List ℕ)) → Contents → Refusal → Type 0
+Refuses (Ask file device) root input files refusal = IsAskRefused (string_bytes file) input files refusal
+Refuses (Check paths) root input files refusal =
+    IsCheckRefused (AreUncheckable (map string_bytes paths.items) root files) (AreCheckedFiles (map string_bytes paths.items) root input files) refusal
+Refuses (Diff old_path new_path) root input files refusal = IsDiffRefused (string_bytes old_path) (string_bytes new_path) files refusal
+Refuses (Verify database) root input files refusal = IsVerifyRefused (option_map string_bytes database) root files refusal
+Refuses (Dump database) root input files refusal = IsDumpRefused (option_map string_bytes database) root files refusal
+Refuses task root input files refusal = IsUnanswered root files refusal
 
--- a task is refused
-abbrev pub IsTaskRefused : Task → (MayFail : (path : List ℕ) → Type 0) (root : List ℕ) (usr : Bool) (input : Option (List ℕ)) → Refusal → (old new : Contents) (left_before left : Outcomes) (err_before err_then out_before out_now : Option (List ℕ)) → Type 0
-IsTaskRefused (Update verbose skip) MayFail root usr input refusal old new left_before left err_before err_then out_before out_now =
-    IsTellingUpdateRefused MayFail root usr verbose skip refusal old new left_before left err_before err_then × (out_now ≡ out_before)
-IsTaskRefused (Query devices json) MayFail root usr input refusal old new left_before left err_before err_then out_before out_now =
-    AreUnanswered root (form.Query json) (map string_bytes devices.items) input old refusal out_before out_now
-    × (err_then ≡ err_before) × AreKept old new left_before left
-IsTaskRefused (Explain device json) MayFail root usr input refusal old new left_before left err_before err_then out_before out_now =
-    AreUnanswered root (form.Explain json) (string_bytes device ∷ []) input old refusal out_before out_now
-    × (err_then ≡ err_before) × AreKept old new left_before left
-IsTaskRefused (ListHits after limit device json) MayFail root usr input refusal old new left_before left err_before err_then out_before out_now =
-    IsAnswerRefused root (IsListRefusedBy (option_map string_bytes after)) (IsListFrom json (string_bytes device) (option_map string_bytes after) limit) old refusal out_before out_now
-    × (err_then ≡ err_before) × AreKept old new left_before left
-IsTaskRefused (Ask file device) MayFail root usr input refusal old new left_before left err_before err_then out_before out_now =
-    IsAskRefused (string_bytes file) (string_bytes device) input old refusal err_before err_then out_before out_now × AreKept old new left_before left
-IsTaskRefused (Check files) MayFail root usr input refusal old new left_before left err_before err_then out_before out_now =
-    IsCheckRefused (AreUncheckable (map string_bytes files.items) root old) (AreCheckedFiles (map string_bytes files.items) root input old) refusal out_before out_now
-    × (err_then ≡ err_before) × AreKept old new left_before left
-IsTaskRefused (Diff old_path new_path) MayFail root usr input refusal old new left_before left err_before err_then out_before out_now =
-    IsDiffRefused (string_bytes old_path) (string_bytes new_path) old refusal out_before out_now × (err_then ≡ err_before) × AreKept old new left_before left
-IsTaskRefused (Verify database) MayFail root usr input refusal old new left_before left err_before err_then out_before out_now =
-    IsVerifyRefused (option_map string_bytes database) root old refusal out_before out_now × (err_then ≡ err_before) × AreKept old new left_before left
-IsTaskRefused (Dump database) MayFail root usr input refusal old new left_before left err_before err_then out_before out_now =
-    IsDumpRefused (option_map string_bytes database) root old refusal out_before out_now × (err_then ≡ err_before) × AreKept old new left_before left
+-- what it might have printed, with whatever status
+abbrev pub MayPrint : Task → (root : List ℕ) (strict : Bool) (input : Option (List ℕ)) → Contents → Texts → Type 0
+MayPrint task root strict input files texts = (status : ℕ) × IsAnswerOf task root strict input files status texts
+
+-- a task is refused, by what it leaves on both outputs
+abbrev pub IsPrintingRefused : Task → (root : List ℕ) (strict : Bool) → Refusal → (before now : World) → Type 0
+IsPrintingRefused (Query devices json) root strict refusal before now =
+    AreUnanswered root (form.Query json) (map string_bytes devices.items) before.input.bytes before.files.seen refusal before.err now.err before.out now.out
+IsPrintingRefused (Explain device json) root strict refusal before now =
+    AreUnanswered root (form.Explain json) (string_bytes device ∷ []) before.input.bytes before.files.seen refusal before.err now.err before.out now.out
+IsPrintingRefused (ListHits after limit device json) root strict refusal before now =
+    IsListRefused root json (string_bytes device) (option_map string_bytes after) limit before.files.seen refusal before.out now.out × (now.err ≡ before.err)
+IsPrintingRefused task root strict refusal before now =
+    IsUnprinted (Refuses task root before.input.bytes before.files.seen) (MayPrint task root strict before.input.bytes before.files.seen) refusal before.err now.err before.out now.out
+
+-- a task is refused: it leaves that, and the files as they were; an update may leave more
+abbrev pub IsTaskRefused : Task → (root : List ℕ) (usr strict : Bool) → Refusal → (before now : World) → Type 0
+IsTaskRefused (Update verbose skip) root usr strict refusal before now =
+    IsTellingUpdateRefused root usr verbose skip refusal before.files now.files before.err now.err × (now.out ≡ before.out)
+IsTaskRefused task root usr strict refusal before now = IsPrintingRefused task root strict refusal before now × AreKept before.files now.files
 
 -- a path that the task asks for can't be read: reading it may fail, or it is one that the words name, and nothing stands there
 abbrev pub IsUnreadableFor : Task → (MayFail : (path : List ℕ) → Type 0) → Contents → (path : List ℕ) → Type 0
@@ -65,16 +65,20 @@ IsUnreadableFor (Verify database) = IsUnreadableIf (is_some (option_map string_b
 IsUnreadableFor (Dump database) = IsUnreadableIf (is_some (option_map string_bytes database))
 IsUnreadableFor _ = IsUnreadableIf false
 
--- counts of failed calls: how many there were before, and how many there are now
-pub record Counts : Type 0 where
-  pub before : ℕ
-  pub now : ℕ
+-- what the refusal of a task says of a path, or of standard input, is so
+abbrev pub IsTaskReason : Task → (root : List ℕ) (usr : Bool) (before now : World) → Refusal → Type 0
+IsTaskReason task root usr before now refusal =
+    HasReason (IsUnreadableFor task before.files.fails before.files.seen)
+    (IsUnwritable (database_folder usr root) before.files.seen before.files.failures now.files.failures) before.files.seen refusal
+    ⊎ ((reads_input task ≡ true) × IsInputUnread before.input.failures now.input.failures refusal)
 
--- what the refusal of a job says of a path, or of standard input, is so
-abbrev pub IsJobReason : (MayFail : (path : List ℕ) → Type 0) → Contents → (files input : Counts) → Job → Refusal → Type 0
-IsJobReason MayFail old files input job refusal =
-    HasReason (IsUnreadableFor job.task MayFail old) (IsUnwritable (database_folder job.usr (root_of job)) old files.before files.now) old refusal
-    ⊎ ((reads_input job.task ≡ true) × IsInputUnread input.before input.now refusal)
+-- a task is refused, and for its reason
+abbrev pub IsNotDone : Task → (root : List ℕ) (usr strict : Bool) (before now : World) → Refusal → Type 0
+IsNotDone task root usr strict before now refusal = IsTaskRefused task root usr strict refusal before now × IsTaskReason task root usr before now refusal
+
+-- the same of a job
+abbrev pub IsJobNotDone : Job → (before now : World) → Refusal → Type 0
+IsJobNotDone job = IsNotDone job.task (root_of job) job.usr job.strict
 
 -- the status where a task is refused: 2 of `diff`, whose 1 says that something changed, else 1
 abbrev pub refused_status : Task → ℕ
@@ -85,42 +89,41 @@ refused_status _ = 1
 abbrev pub IsSaidOf : (refusal said : Refusal) → Type 0
 IsSaidOf refusal said = (said ≡ refusal) ⊎ ((refusal ≡ Plain Write) × IsAt Write (codes "standard output") said)
 
--- standard error took the line of a refusal, or, where it failed, a prefix of it; the words of its cause are on that line
-pub record IsSaid (refusal : Refusal) (before now : Taken) : Type 0 where
+-- standard error took the line of a refusal, or, if it failed, a prefix of it; the words of its cause are on that line
+pub record IsSaid (refusal : Refusal) (before now : Told) : Type 0 where
   pub said : Refusal
   pub of : IsSaidOf refusal said
   pub words : List ℕ
   pub one_line : IsOneLine words
   pub line : Refused (refusal_line (refusal_text said words)) before.bytes now.bytes before.failures now.failures
 
--- The words ask for a job, and it is refused with this status, for its reason. Standard error had failed by then only where
--- the refusal is that it did.
-pub record IsJobRefused (MayFail : (path : List ℕ) → Type 0) (IsReason : Job → Refusal → Type 0) (words : List (List ℕ)) (status : ℕ) (input : Option (List ℕ)) (old new : Contents) (left_before left : Outcomes) (err_before err_now : Taken) (out_before out_now : Option (List ℕ)) : Type 0 where
+-- what a run leaves but for standard error, on which a line comes yet
+abbrev pub with_err : Told → World → World
+with_err err world = record { files = world.files; input = world.input; out = world.out; err = err }
+
+-- The words ask for a job, and it is refused with this status, for its reason. Then standard error took the line.
+pub record IsJobRefused (words : List (List ℕ)) (status : ℕ) (before now : World) : Type 0 where
   pub job : Job
   pub asked : AskFor words job
   pub refusal : Refusal
-  pub err_then : Taken
-  pub refused : IsTaskRefused job.task MayFail (root_of job) job.usr input refusal old new left_before left err_before.bytes err_then.bytes out_before out_now
-  pub reason : IsReason job refusal
-  pub unfailed : refusal ≢ Plain Write → err_then.failures ≡ err_before.failures
-  pub said : IsSaid refusal err_then err_now
+  pub err_then : Told
+  pub refused : IsJobNotDone job before (with_err err_then now) refusal
+  pub said : IsSaid refusal err_then now.err
   pub says : status ≡ refused_status job.task
 
 -- what is told of words that ask for no job; help and the version are told, but standard output failed
-abbrev pub IsWordsTold : WordsFault → (err_before err_now : Taken) (out_before out_now : Option (List ℕ)) → Type 0
-IsWordsTold (words_fault.Help text) err_before err_now out_before out_now =
-    AppendsPrefix out_before out_now (string_bytes text) × IsSaid (Plain Write) err_before err_now
-IsWordsTold (words_fault.Usage text) err_before err_now out_before out_now =
-    Refused (string_bytes text) err_before.bytes err_now.bytes err_before.failures err_now.failures × (out_now ≡ out_before)
-IsWordsTold words_fault.Memory err_before err_now out_before out_now =
-    IsSaid (Plain Memory) err_before err_now × (out_now ≡ out_before)
+abbrev pub IsWordsTold : WordsFault → (before now : World) → Type 0
+IsWordsTold (words_fault.Help text) before now = WasCut (string_bytes text) before.out now.out × IsSaid (Plain Write) before.err now.err
+IsWordsTold (words_fault.Usage text) before now =
+    Refused (string_bytes text) before.err.bytes now.err.bytes before.err.failures now.err.failures × (now.out ≡ before.out)
+IsWordsTold words_fault.Memory before now = IsSaid (Plain Memory) before.err now.err × (now.out ≡ before.out)
 
 -- the words ask for no job, the status is 1, and the files are as they were
-pub record AreRefused (words : List (List ℕ)) (status : ℕ) (old new : Contents) (left_before left : Outcomes) (err_before err_now : Taken) (out_before out_now : Option (List ℕ)) : Type 0 where
+pub record AreRefused (words : List (List ℕ)) (status : ℕ) (before now : World) : Type 0 where
   pub fault : WordsFault
   pub of : AreToldBy words fault
-  pub told : IsWordsTold fault err_before err_now out_before out_now
-  pub kept : AreKept old new left_before left
+  pub told : IsWordsTold fault before now
+  pub kept : AreKept before.files now.files
   pub says : status ≡ 1
 
 -- the root that was given, below which the task looks for files, can't be read
@@ -128,33 +131,43 @@ abbrev pub IsRootUnread : Job → Refusal → Type 0
 IsRootUnread job refusal = (root : List ℕ) × (option_map string_bytes job.root ≡ Some root) × (looks_below_root job.task ≡ true) × IsUnread root refusal
 
 -- the words ask for a job below such a root: the status is 1, the files are as they were, and standard error took the line
-pub record IsRootRefused (MayFail : (path : List ℕ) → Type 0) (words : List (List ℕ)) (status : ℕ) (old new : Contents) (left_before left : Outcomes) (err_before err_now : Taken) (out_before out_now : Option (List ℕ)) : Type 0 where
+pub record IsRootRefused (words : List (List ℕ)) (status : ℕ) (before now : World) : Type 0 where
   pub job : Job
   pub asked : AskFor words job
   pub refusal : Refusal
   pub unread : IsRootUnread job refusal
-  pub reason : HasReason MayFail ⊥ old refusal
-  pub kept : AreKept old new left_before left
-  pub said : IsSaid refusal err_before err_now
-  pub out : out_now ≡ out_before
+  pub reason : HasReason before.files.fails ⊥ before.files.seen refusal
+  pub kept : AreKept before.files now.files
+  pub said : IsSaid refusal before.err now.err
+  pub out : now.out ≡ before.out
   pub says : status ≡ 1
 
 -- The words ask for a job, and while it wrote to standard output the reader of that went away: nothing is said of it, the files
--- are as they were, and standard output took what it does where it can't be written.
-pub record IsCutShort (MayFail : (path : List ℕ) → Type 0) (gone_before gone : Type 0) (words : List (List ℕ)) (input : Option (List ℕ)) (old new : Contents) (left_before left : Outcomes) (err_before err_now out_before out_now : Option (List ℕ)) : Type 0 where
+-- are as they were, and standard output took what it does if it can't be written.
+pub record IsCutShort (gone_before gone : Type 0) (words : List (List ℕ)) (before now : World) : Type 0 where
   pub job : Job
   pub asked : AskFor words job
-  pub refused : IsTaskRefused job.task MayFail (root_of job) job.usr input (Plain Write) old new left_before left err_before err_now out_before out_now
-  pub files : AreKept old new left_before left
+  pub refused : IsTaskRefused job.task (root_of job) job.usr job.strict (Plain Write) before now
+  pub kept : AreKept before.files now.files
   pub reader : gone
   -- an update writes nothing there
   pub writes : IsUpdate job.task → gone_before
 
 -- the same of help or the version
-pub record IsTextCutShort (gone : Type 0) (words : List (List ℕ)) (old new : Contents) (err_before err_now out_before out_now : Option (List ℕ)) : Type 0 where
+pub record IsTextCutShort (gone : Type 0) (words : List (List ℕ)) (before now : World) : Type 0 where
   pub asked : AskForText words
   pub text : List ℕ
-  pub prefix : AppendsPrefix out_before out_now text
-  pub files : Same old new
-  pub err : err_now ≡ err_before
+  pub cut : WasCut text before.out now.out
+  pub kept : AreKept before.files now.files
+  pub err : now.err ≡ before.err
   pub reader : gone
+
+-- a run with status 0: what the words ask for is done, or told, or the reader of standard output went away
+abbrev pub HasSucceeded : (gone_before gone : Type 0) (words : List (List ℕ)) (before now : World) → Type 0
+HasSucceeded gone_before gone words before now =
+    IsJobDone words 0 before now ⊎ (IsTold words before now ⊎ (IsCutShort gone_before gone words before now ⊎ IsTextCutShort gone words before now))
+
+-- a run with another one: what was done found something, or the job, the words or the root are refused
+abbrev pub HasFailedWith : (words : List (List ℕ)) (status : ℕ) (before now : World) → Type 0
+HasFailedWith words status before now =
+    IsJobDone words status before now ⊎ (IsJobRefused words status before now ⊎ (AreRefused words status before now ⊎ IsRootRefused words status before now))

@@ -1,6 +1,7 @@
-//! `check`: text files that are read and looked over. Nothing is written but what is said of them.
-ghost use Rattle.std.specs.Prelude.{◌≡◌, ◌≢◌, ◌≤◌, ◌⊎◌, ◌==◌, true, false, not, map, string_bytes, IfOk, IfErr, length};
-ghost use Rattle.hwdb_spec.specs.Failures.{HasFailed};
+//! `check`: text files that are read and looked over. Nothing is written.
+ghost use Rattle.std.specs.Prelude.{◌≡◌, ◌⊎◌, ◌==◌, true, false, not, map, string_bytes, IfOk, IfErr, length};
+ghost use Rattle.hwdb_lint.specs.Checks.{source_of};
+ghost use Rattle.hwdb_spec.specs.Runs.{OnOut};
 ghost use Rattle.hwdb_spec.specs.Folders.{path_of};
 ghost use Rattle.hwdb_text.specs.Views.{choice_of};
 ghost use Rattle.hwdb_fs.specs.Refusals.{HasReason, IsUnreadable};
@@ -8,114 +9,109 @@ ghost use Rattle.hwdb_spec.specs.CheckedFiles.{AreCheckedFiles, AreChosenFiles, 
 ghost use Rattle.hwdb_tool.specs.Internal.{AreTextsGiven};
 ghost use Rattle.hwdb_tool.specs.Queries.{IsInputUnread};
 ghost use Rattle.hwdb_spec.specs.Given.{any_dash};
-ghost use Rattle.hwdb_tool.specs.Undone.{AreUncheckable, IsCheckRefused, IsGivenUnread, IsUnreadableIf};
+ghost use Rattle.hwdb_tool.specs.Undone.{AreNotChecked, AreUncheckable, IsCheckRefused, IsGivenUnread, IsUnreadableIf};
 ghost use Rattle.hwdb_fs.specs.Reading.{AreUnread};
-ghost use Rattle.hwdb_fs.specs.declared.refusals.Refusal.TheVariants.{Plain};
+ghost use Rattle.hwdb_tool.specs.Views.{texts_in};
 
+use crate::answer::Answer;
 use crate::given::{bytes_given, input_text};
-use hwdb_devices::{Sink, Source};
 use hwdb_fs::{Refusal, System, selected};
+use hwdb_io::Source;
 use hwdb_lint::{TextFile, check_files};
+use hwdb_print::ToolError;
 use hwdb_text::Chosen;
-use hwdb_transfer::ToolError;
 use std::alloc::{AllocError, Global};
 
-/// Says of the given text files, of which `-` is what `input` has left, or where none is given of those of both folders
-/// below the root, what is wrong in them.
-/// Returns the status: 1 where there is a fault, or `strict` and a warning, else 0.
-pub fn check<D: System, I: Source, O: Sink>(
+/// What is wrong in the given text files, of which `-` is what `input` has left, or if none is given in those of both
+/// folders below the root. The status is 1 if there is a fault, or `strict` and a warning, else 0.
+pub fn check<D: System, I: Source>(
     alloc: Global,
     root: &str,
     given: &[String],
     strict: bool,
     system: &D,
     input: &mut I,
-    out: &mut O,
-) -> Result<u8, Refusal>
-    ensures small { IfOk result (λ status. status ≤ 1) }
-    ensures checked { D.Store.tells → IfOk result
-        (λ status. IsChecked
+) -> Result<Answer, Refusal>
+    ensures checked { D.Store.tells → IfOk result (λ a. OnOut (λ text. IsChecked
         (AreCheckedFiles (map string_bytes given.now) root.now (I.left input.old)
-        (D.Store.seen system.now))
-        strict status (O.taken out.old) (O.taken out.new)) }
-    ensures refused { D.Store.tells → IfErr result (λ r. IsCheckRefused
+        (D.Store.seen system.now)) strict text a.status) (texts_in a)) }
+    ensures refused { D.Store.tells → IfErr result (IsCheckRefused
         (AreUncheckable (map string_bytes given.now) root.now (D.Store.seen system.now))
         (AreCheckedFiles (map string_bytes given.now) root.now (I.left input.old)
-        (D.Store.seen system.now))
-        r (O.taken out.old) (O.taken out.new)) }
+        (D.Store.seen system.now))) }
     ensures unread { any_dash (map string_bytes given.now) ≡ false → input.new ≡ input.old }
     ensures reason { D.Store.tells → IfErr result (λ r. HasReason
         (IsUnreadableIf (not (length given.now == 0))
         (D.System.may_fail system.now) (D.Store.seen system.now)) ⊥ (D.Store.seen system.now) r
         ⊎ ((any_dash (map string_bytes given.now) ≡ true)
         × IsInputUnread (I.failures input.old) (I.failures input.new) r)) }
-    ensures cause { IfErr result (λ r. r ≡ Plain ToolError.Write
-        → HasFailed (O.failures out.old) (O.failures out.new)) }
 {
     if given.is_empty() {
-        check_chosen(alloc, root, strict, system, out)
+        check_chosen(alloc, root, strict, system)
     } else {
-        check_given(alloc, given, strict, system, input, out)
+        check_given(alloc, given, strict, system, input)
     }
 }
 
 /// The same of the files that are given.
-fn check_given<D: System, I: Source, O: Sink>(
+fn check_given<D: System, I: Source>(
     alloc: Global,
     given: &[String],
     strict: bool,
     system: &D,
     input: &mut I,
-    out: &mut O,
-) -> Result<u8, Refusal>
-    ensures small { IfOk result (λ status. status ≤ 1) }
-    ensures checked { D.Store.tells → IfOk result
-        (λ status. IsChecked
+) -> Result<Answer, Refusal>
+    ensures checked { D.Store.tells → IfOk result (λ a. OnOut (λ text. IsChecked
         (AreGivenFiles (map string_bytes given.now) (I.left input.old) (D.Store.seen system.now))
-        strict status (O.taken out.old) (O.taken out.new)) }
-    ensures refused { D.Store.tells → IfErr result (λ r. IsCheckRefused
+        strict text a.status) (texts_in a)) }
+    ensures refused { D.Store.tells → IfErr result (IsCheckRefused
         (IsGivenUnread (map string_bytes given.now))
-        (AreGivenFiles (map string_bytes given.now) (I.left input.old) (D.Store.seen system.now))
-        r (O.taken out.old) (O.taken out.new)) }
+        (AreGivenFiles (map string_bytes given.now) (I.left input.old)
+        (D.Store.seen system.now))) }
     ensures unread { any_dash (map string_bytes given.now) ≡ false → input.new ≡ input.old }
     ensures reason { IfErr result (λ r. HasReason
         (IsUnreadable (D.System.may_fail system.now) (D.Store.seen system.now)) ⊥
         (D.Store.seen system.now) r ⊎ ((any_dash (map string_bytes given.now) ≡ true)
         × IsInputUnread (I.failures input.old) (I.failures input.new) r)) }
-    ensures cause { IfErr result (λ r. r ≡ Plain ToolError.Write
-        → HasFailed (O.failures out.old) (O.failures out.new)) }
 {
     let text = input_text(alloc, given, input)?;
     let texts = read_given(alloc, given, &text, system)?;
     let files = with_paths(alloc, given, &texts)?;
-    Ok(check_files(alloc, &files, strict, out)?)
+    check_read(alloc, &files, strict)
 }
 
 /// The same of the text files of both folders.
-fn check_chosen<D: System, O: Sink>(
+fn check_chosen<D: System>(
     alloc: Global,
     root: &str,
     strict: bool,
     system: &D,
-    out: &mut O,
-) -> Result<u8, Refusal>
-    ensures small { IfOk result (λ status. status ≤ 1) }
-    ensures checked { D.Store.tells → IfOk result
-        (λ status. IsChecked (AreChosenFiles root.now (D.Store.seen system.now))
-        strict status (O.taken out.old) (O.taken out.new)) }
-    ensures refused { D.Store.tells → IfErr result (λ r. IsCheckRefused
+) -> Result<Answer, Refusal>
+    ensures checked { D.Store.tells → IfOk result (λ a. OnOut (λ text. IsChecked
+        (AreChosenFiles root.now (D.Store.seen system.now)) strict text a.status) (texts_in a)) }
+    ensures refused { D.Store.tells → IfErr result (IsCheckRefused
         (AreUnread root.now (D.Store.seen system.now))
-        (AreChosenFiles root.now (D.Store.seen system.now))
-        r (O.taken out.old) (O.taken out.new)) }
+        (AreChosenFiles root.now (D.Store.seen system.now))) }
     ensures reason { D.Store.tells → IfErr result
         (HasReason (D.System.may_fail system.now) ⊥ (D.Store.seen system.now)) }
-    ensures cause { IfErr result (λ r. r ≡ Plain ToolError.Write
-        → HasFailed (O.failures out.old) (O.failures out.new)) }
 {
     let selection = selected(alloc, root, system)?;
     let paths = stored_paths(alloc, &selection.chosen)?;
     let files = with_paths(alloc, &paths, &selection.texts)?;
-    Ok(check_files(alloc, &files, strict, out)?)
+    check_read(alloc, &files, strict)
+}
+
+/// The same of files that were read.
+fn check_read(alloc: Global, files: &[TextFile<'_>], strict: bool) -> Result<Answer, Refusal>
+    ensures checked { IfOk result (λ a. OnOut (λ text. IsChecked
+        (λ sources. sources ≡ map source_of files.now) strict text a.status) (texts_in a)) }
+    ensures refused { IfErr result
+        (AreNotChecked (λ sources. sources ≡ map source_of files.now)) }
+{
+    match check_files(alloc, files, strict) {
+        Ok(checked) => Ok(Answer::new(alloc, checked.text, checked.status)),
+        Err(error) => Err(Refusal::from(ToolError::from(error))),
+    }
 }
 
 /// What each of the given files has, where standard input had this text.
@@ -133,7 +129,6 @@ fn read_given<D: System>(
     ensures reason { IfErr result (HasReason
         (IsUnreadable (D.System.may_fail system.now) (D.Store.seen system.now)) ⊥
         (D.Store.seen system.now)) }
-    ensures unread { IfErr result (λ r. r ≢ Plain ToolError.Write) }
 {
     let mut texts = Vec::new(alloc);
     for path in given {

@@ -1,5 +1,5 @@
 //! The databases of both folders: where each stands, and what is asked.
-ghost use Rattle.std.specs.Prelude.{◌≡◌, ◌≢◌, ◌++◌, Some, is_some, option_map, string_bytes, IfOk, IfErr, IfSome};
+ghost use Rattle.std.specs.Prelude.{◌≡◌, ◌++◌, Some, is_some, option_map, string_bytes, IfOk, IfErr, IfSome};
 ghost use Rattle.hwdb_spec.specs.Store as spec;
 ghost use Rattle.hwdb_spec.specs.System as Folder;
 ghost use Rattle.hwdb_spec.specs.System.{asked_database, bytes_at};
@@ -7,11 +7,9 @@ ghost use Rattle.hwdb_fs.specs.Refusals.{HasReason, IsUnread, IsUnreadable};
 ghost use Rattle.hwdb_spec.specs.Asked.{IsNamedPath, named_database, IsAskedPath};
 ghost use Rattle.hwdb_tool.specs.NamedDatabases.{IsUnnamed};
 ghost use Rattle.hwdb_tool.specs.Undone.{IsUnfound, IsUnreadableIf};
-ghost use Rattle.hwdb_fs.specs.declared.refusals.Refusal.TheVariants.{Plain};
 
 use hwdb_fs::{Refusal, System, joined, path_in};
 use hwdb_replace::DATABASE;
-use hwdb_transfer::ToolError;
 use std::alloc::{AllocError, Global};
 
 const ETC_FOLDER: &str = "/etc/udev";
@@ -38,7 +36,6 @@ pub fn asked<D: System>(alloc: Global, root: &str, system: &D) -> Result<Found, 
     ensures refused { D.Store.tells → IfErr result (IsUnfound root.now (D.Store.seen system.now)) }
     ensures reason { IfErr result
         (HasReason (D.System.may_fail system.now) ⊥ (D.Store.seen system.now)) }
-    ensures unread { IfErr result (λ r. r ≢ Plain ToolError.Write) }
 {
     if let Some(found) = found_in(alloc, root, ETC_FOLDER, system)? {
         return Ok(found);
@@ -67,7 +64,6 @@ fn found_in<D: System>(
         (IsUnread (spec.path_in (root.now ++ folder.now) spec.database_name)) }
     ensures reason { IfErr result
         (HasReason (D.System.may_fail system.now) ⊥ (D.Store.seen system.now)) }
-    ensures unread { IfErr result (λ r. r ≢ Plain ToolError.Write) }
 {
     let folder = joined(alloc, root, folder)?;
     let path = path_in(alloc, folder.as_str(), DATABASE)?;
@@ -97,7 +93,6 @@ pub fn named<D: System>(
     ensures reason { IfErr result (HasReason
         (IsUnreadableIf (is_some (option_map (λ t. t.now) given.entry))
         (D.System.may_fail system.now) (D.Store.seen system.now)) ⊥ (D.Store.seen system.now)) }
-    ensures unread { IfErr result (λ r. r ≢ Plain ToolError.Write) }
 {
     match given {
         None => asked(alloc, root, system),
@@ -116,7 +111,6 @@ fn given_at<D: System>(alloc: Global, path: &str, system: &D) -> Result<Found, R
     ensures reason { IfErr result (HasReason
         (IsUnreadable (D.System.may_fail system.now) (D.Store.seen system.now)) ⊥
         (D.Store.seen system.now)) }
-    ensures unread { IfErr result (λ r. r ≢ Plain ToolError.Write) }
 {
     let bytes = system.input(alloc, path)?;
     let path = String::from_str(alloc, path)?;

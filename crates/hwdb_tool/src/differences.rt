@@ -1,52 +1,53 @@
 //! `diff`: two databases that are read and compared.
-ghost use Rattle.std.specs.Prelude.{◌≡◌, ◌≤◌, IfOk, IfErr};
-ghost use Rattle.hwdb_spec.specs.Failures.{HasFailed};
+ghost use Rattle.std.specs.Prelude.{◌≡◌, ◌≤◌, if◌then◌else◌, IfOk, IfErr};
 ghost use Rattle.hwdb_fs.specs.Refusals.{HasReason, IsUnreadable};
 ghost use Rattle.hwdb_spec.specs.Asked.{IsCompared};
+ghost use Rattle.hwdb_spec.specs.Runs.{OnOut};
 ghost use Rattle.hwdb_tool.specs.ComparedDatabases.{IsDiffRefused, IsOfDiff};
-ghost use Rattle.hwdb_fs.specs.declared.refusals.Refusal.TheVariants.{Plain};
+ghost use Rattle.hwdb_tool.specs.Views.{texts_in};
 
-use hwdb_devices::Sink;
+use crate::answer::Answer;
 use hwdb_fs::{Refusal, System};
-use hwdb_inspect::{DiffError, run_diff};
-use hwdb_transfer::ToolError;
+use hwdb_inspect::DiffError;
+use hwdb_print::ToolError;
 use std::alloc::Global;
 
-/// Prints what changed from the database at one path to that at another: a line for each pattern and key where the two
-/// differ. Returns the status: 1 where there is one, else 0.
-pub fn diff<D: System, O: Sink>(
+/// What changed from the database at one path to that at another: a line for each pattern and key for which the two
+/// differ. The status is 1 if there is one, else 0.
+pub fn diff<D: System>(
     alloc: Global,
     old_path: &str,
     new_path: &str,
     system: &D,
-    out: &mut O,
-) -> Result<u8, Refusal>
-    ensures small { IfOk result (λ status. status ≤ 1) }
-    ensures compared { D.Store.tells → IfOk result
-        (λ status. IsCompared old_path.now new_path.now status
-        (D.Store.seen system.now) (O.taken out.old) (O.taken out.new)) }
+) -> Result<Answer, Refusal>
+    ensures compared { D.Store.tells → IfOk result (λ a. OnOut
+        (λ text. IsCompared old_path.now new_path.now (D.Store.seen system.now) text a.status)
+        (texts_in a)) }
     ensures refused { D.Store.tells → IfErr result
-        (λ r. IsDiffRefused old_path.now new_path.now (D.Store.seen system.now) r
-        (O.taken out.old) (O.taken out.new)) }
+        (IsDiffRefused old_path.now new_path.now (D.Store.seen system.now)) }
     ensures reason { IfErr result (HasReason
         (IsUnreadable (D.System.may_fail system.now) (D.Store.seen system.now)) ⊥
         (D.Store.seen system.now)) }
-    ensures cause { IfErr result (λ r. r ≡ Plain ToolError.Write
-        → HasFailed (O.failures out.old) (O.failures out.new)) }
 {
     let old = system.input(alloc, old_path)?;
     let new = system.input(alloc, new_path)?;
-    match run_diff(alloc, &old, &new, out) {
-        Ok(true) => Ok(1),
-        Ok(false) => Ok(0),
+    match hwdb_inspect::diff(alloc, &old, &new) {
+        Ok(changes) => Ok(Answer::new(alloc, changes.text, status_of(changes.differ))),
         Err(error) => Err(refusal_of(alloc, error, old_path, new_path)),
     }
 }
 
-/// What is refused where the databases at these paths can't be compared.
+/// The status: 1 if the two differ, else 0.
+fn status_of(differ: bool) -> u8
+    ensures is { result ≡ (if differ then 1 else 0) }
+    ensures small { result ≤ 1 }
+{
+    if differ { 1 } else { 0 }
+}
+
+/// What is refused if the databases at these paths can't be compared.
 fn refusal_of(alloc: Global, error: DiffError, old_path: &str, new_path: &str) -> Refusal
-    ensures is { IsOfDiff error old_path.now new_path.now result }
-    ensures write { result ≡ Plain ToolError.Write → error ≡ DiffError.Write }
+    ensures { IsOfDiff error old_path.now new_path.now result }
 {
     match error {
         DiffError::Old(fault) => {
@@ -65,7 +66,6 @@ fn refusal_of(alloc: Global, error: DiffError, old_path: &str, new_path: &str) -
                 None,
             )
         }
-        DiffError::Write => Refusal::from(ToolError::Write),
         DiffError::Memory => Refusal::from(ToolError::Memory),
     }
 }

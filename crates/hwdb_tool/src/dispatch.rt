@@ -1,12 +1,12 @@
 //! The program: its words, its files, its status and its refusal lines.
-ghost use Rattle.std.specs.Prelude.{◌≡◌, ◌≢◌, ◌<◌, ◌≤◌, ◌⊎◌, false, Some, map, option_map, string_bytes, IfOk, IfErr};
+ghost use Rattle.std.specs.Prelude.{◌≡◌, ◌<◌, ◌≤◌, ◌⊎◌, false, map, option_map, string_bytes, IfOk, IfErr};
 ghost use Rattle.hwdb_spec.specs.Store as spec;
-ghost use Rattle.hwdb_spec.specs.Failures.{HasFailed};
+ghost use Rattle.hwdb_spec.specs.Runs.{files_by, told_by, world_by};
 ghost use Rattle.hwdb_cli.specs.Refusals.{AreWrong};
 ghost use Rattle.hwdb_cli.specs.Words.{AskFor};
 ghost use Rattle.hwdb_cli.specs.declared.job.Job.{Job};
-ghost use Rattle.hwdb_tool.specs.Program.{IsDone, IsJobDone, IsTold, IsUpdate, OldOrAskedFor, OldOrDone, looks_below_root, reads_input, root_of};
-ghost use Rattle.hwdb_tool.specs.TaskRefusals.{AreRefused, IsCutShort, IsTextCutShort, IsJobReason, IsJobRefused, IsRootRefused, IsRootUnread, IsSaid, IsTaskRefused, refused_status};
+ghost use Rattle.hwdb_tool.specs.Program.{IsDone, IsUpdate, OldOrAskedFor, OldOrDone, looks_below_root, reads_input, root_of};
+ghost use Rattle.hwdb_tool.specs.TaskRefusals.{HasFailedWith, HasSucceeded, IsJobNotDone, IsRootUnread, IsSaid, refused_status};
 ghost use Rattle.hwdb_fs.specs.Refusals.{HasReason};
 ghost use Rattle.hwdb_fs.specs.declared.refusals.Refusal.TheVariants.{Plain};
 
@@ -16,12 +16,13 @@ use crate::differences::diff;
 use crate::dumps::dump;
 use crate::hiding::update_telling;
 use crate::outlet::Outlet;
+use crate::printing::printed;
 use crate::queries::query;
 use crate::verification::verify;
 use hwdb_cli::{Job, Task, WordsFault, read_words};
-use hwdb_devices::{Sink, Source};
 use hwdb_fs::{Refusal, Rooted, System, refuse_for, refuse_memory};
-use hwdb_transfer::{ToolError, write_text};
+use hwdb_io::{Sink, Source, write_text};
+use hwdb_print::ToolError;
 use std::alloc::Global;
 
 /// Does what the words say, the first of which is the program's name, and returns the status: 0; 1 where `check` or
@@ -44,48 +45,18 @@ pub fn program<D: Rooted, I: Source, O: Outlet, E: Sink>(
         (D.Store.seen system.old) (D.Store.may_leave system.old)) }
     ensures unread { ((job : Job) → AskFor (map string_bytes words.now) job
         → reads_input job.task ≡ false) → input.new ≡ input.old }
-    ensures done { D.Store.tells → result ≡ 0 → IsJobDone (D.System.may_fail system.old)
-        (map string_bytes words.now) 0
-        (I.left input.old) (D.Store.seen system.old) (D.Store.seen system.new)
-        (D.Store.may_leave system.new)
-        (E.taken err.old) (E.taken err.new) (O.Sink.taken out.old) (O.Sink.taken out.new)
-        ⊎ (IsTold (map string_bytes words.now) (D.Store.seen system.old) (D.Store.seen system.new)
-        (E.taken err.old) (E.taken err.new) (O.Sink.taken out.old) (O.Sink.taken out.new)
-        ⊎ (IsCutShort (D.System.may_fail system.old)
-        (O.Outlet.reader_gone out.old) (O.Outlet.reader_gone out.new)
-        (map string_bytes words.now) (I.left input.old)
-        (D.Store.seen system.old) (D.Store.seen system.new)
-        (D.Store.may_leave system.old) (D.Store.may_leave system.new)
-        (E.taken err.old) (E.taken err.new) (O.Sink.taken out.old) (O.Sink.taken out.new)
-        ⊎ IsTextCutShort (O.Outlet.reader_gone out.new) (map string_bytes words.now)
-        (D.Store.seen system.old) (D.Store.seen system.new)
-        (E.taken err.old) (E.taken err.new) (O.Sink.taken out.old) (O.Sink.taken out.new))) }
-    ensures refused { D.Store.tells → 0 < result → IsJobDone (D.System.may_fail system.old)
-        (map string_bytes words.now) result
-        (I.left input.old) (D.Store.seen system.old) (D.Store.seen system.new)
-        (D.Store.may_leave system.new)
-        (E.taken err.old) (E.taken err.new) (O.Sink.taken out.old) (O.Sink.taken out.new)
-        ⊎ (IsJobRefused (D.System.may_fail system.old)
-        (IsJobReason (D.System.may_fail system.old) (D.Store.seen system.old)
-        (record { before = D.Store.failures system.old; now = D.Store.failures system.new })
-        (record { before = I.failures input.old; now = I.failures input.new }))
-        (map string_bytes words.now) result (I.left input.old)
-        (D.Store.seen system.old) (D.Store.seen system.new)
-        (D.Store.may_leave system.old) (D.Store.may_leave system.new)
-        (record { bytes = E.taken err.old; failures = E.failures err.old })
-        (record { bytes = E.taken err.new; failures = E.failures err.new })
-        (O.Sink.taken out.old) (O.Sink.taken out.new)
-        ⊎ (AreRefused (map string_bytes words.now) result (D.Store.seen system.old)
-        (D.Store.seen system.new) (D.Store.may_leave system.old) (D.Store.may_leave system.new)
-        (record { bytes = E.taken err.old; failures = E.failures err.old })
-        (record { bytes = E.taken err.new; failures = E.failures err.new })
-        (O.Sink.taken out.old) (O.Sink.taken out.new)
-        ⊎ IsRootRefused (D.System.may_fail system.old) (map string_bytes words.now) result
-        (D.Store.seen system.old) (D.Store.seen system.new)
-        (D.Store.may_leave system.old) (D.Store.may_leave system.new)
-        (record { bytes = E.taken err.old; failures = E.failures err.old })
-        (record { bytes = E.taken err.new; failures = E.failures err.new })
-        (O.Sink.taken out.old) (O.Sink.taken out.new))) }
+    ensures done { D.Store.tells → result ≡ 0 → let world = world_by
+        (files_by D.Store.seen D.System.may_fail D.Store.may_leave D.Store.failures)
+        (told_by I.left I.failures) (told_by O.Sink.taken O.Sink.failures)
+        (told_by E.taken E.failures) in HasSucceeded (O.reader_gone out.old) (O.reader_gone out.new)
+        (map string_bytes words.now) (world system.old input.old out.old err.old)
+        (world system.new input.new out.new err.new) }
+    ensures refused { D.Store.tells → 0 < result → let world = world_by
+        (files_by D.Store.seen D.System.may_fail D.Store.may_leave D.Store.failures)
+        (told_by I.left I.failures) (told_by O.Sink.taken O.Sink.failures)
+        (told_by E.taken E.failures) in HasFailedWith (map string_bytes words.now) result
+        (world system.old input.old out.old err.old)
+        (world system.new input.new out.new err.new) }
 {
     match read_words(alloc, words) {
         Ok(job) => match enter_root(&job, system) {
@@ -154,8 +125,7 @@ fn refuse_job<O: Outlet, E: Sink>(
     ensures gone { result ≡ 0 → O.reader_gone out.now }
     ensures quiet { result ≡ 0 → err.new ≡ err.old }
     ensures line { 0 < result → IsSaid refusal
-        (record { bytes = E.taken err.old; failures = E.failures err.old })
-        (record { bytes = E.taken err.new; failures = E.failures err.new }) }
+        (told_by E.taken E.failures err.old) (told_by E.taken E.failures err.new) }
 {
     match (refusal, out.cause()) {
         (Refusal::Plain(ToolError::Write), Some(cause)) => {
@@ -198,26 +168,18 @@ fn run<D: System, I: Source, O: Sink, E: Sink>(
         (D.Store.seen system.old) (D.Store.may_leave system.old)) }
     ensures unread { reads_input job.now.task ≡ false → input.new ≡ input.old }
     ensures update { IsUpdate job.now.task → out.new ≡ out.old }
-    ensures done { D.Store.tells → IfOk result (λ status. IsDone job.now
-        (D.System.may_fail system.old) status
-        (I.left input.old) (D.Store.seen system.old) (D.Store.seen system.new)
-        (D.Store.may_leave system.new)
-        (E.taken err.old) (E.taken err.new) (O.taken out.old) (O.taken out.new)) }
-    ensures refused { D.Store.tells → IfErr result (λ r. IsTaskRefused job.now.task
-        (D.System.may_fail system.old) (root_of job.now) job.now.usr (I.left input.old) r
-        (D.Store.seen system.old) (D.Store.seen system.new)
-        (D.Store.may_leave system.old) (D.Store.may_leave system.new)
-        (E.taken err.old) (E.taken err.new) (O.taken out.old) (O.taken out.new)) }
-    ensures reason { D.Store.tells → IfErr result
-        (IsJobReason (D.System.may_fail system.old) (D.Store.seen system.old)
-        (record { before = D.Store.failures system.old; now = D.Store.failures system.new })
-        (record { before = I.failures input.old; now = I.failures input.new })
-        job.now) }
-    ensures unfailed { IfErr result (λ r. r ≢ Plain ToolError.Write
-        → E.failures err.new ≡ E.failures err.old) }
-    ensures cause { IfErr result (λ r. r ≡ Plain ToolError.Write
-        → HasFailed (E.failures err.old) (E.failures err.new)
-        ⊎ HasFailed (O.failures out.old) (O.failures out.new)) }
+    ensures done { D.Store.tells → let world = world_by
+        (files_by D.Store.seen D.System.may_fail D.Store.may_leave D.Store.failures)
+        (told_by I.left I.failures) (told_by O.taken O.failures) (told_by E.taken E.failures) in
+        IfOk result (λ status. IsDone job.now status
+        (world system.old input.old out.old err.old)
+        (world system.new input.new out.new err.new)) }
+    ensures refused { D.Store.tells → let world = world_by
+        (files_by D.Store.seen D.System.may_fail D.Store.may_leave D.Store.failures)
+        (told_by I.left I.failures) (told_by O.taken O.failures) (told_by E.taken E.failures) in
+        IfErr result (IsJobNotDone job.now
+        (world system.old input.old out.old err.old)
+        (world system.new input.new out.new err.new)) }
 {
     let root = root_of(job);
     match &job.task {
@@ -225,7 +187,7 @@ fn run<D: System, I: Source, O: Sink, E: Sink>(
             verbose,
             skip_unreadable,
         } => {
-            return update_telling(
+            update_telling(
                 alloc,
                 root,
                 job.usr,
@@ -234,28 +196,13 @@ fn run<D: System, I: Source, O: Sink, E: Sink>(
                 *skip_unreadable,
                 system,
                 err,
-            );
+            )
         }
         Task::Query { devices, json } => {
-            query(alloc, root, devices, *json, system, input, out)?
-        },
-        Task::Explain { device, json } => {
-            explain(alloc, root, device.as_str(), *json, system, input, out)?
+            query(alloc, root, devices, *json, system, input, out, err)
         }
-        Task::Diff { old, new } => return diff(alloc, old.as_str(), new.as_str(), system, out),
-        Task::Check { files } => return check(alloc, root, files, job.strict, system, input, out),
-        Task::Verify { database } => verify(alloc, root, text_of(database), system, out)?,
-        Task::Dump { database } => dump(alloc, root, text_of(database), system, out)?,
-        Task::Ask { file, device } => {
-            ask_file(
-                alloc,
-                file.as_str(),
-                device.as_bytes(),
-                system,
-                input,
-                out,
-                err,
-            )?
+        Task::Explain { device, json } => {
+            explain(alloc, root, device.as_str(), *json, system, input, out, err)
         }
         Task::List {
             after,
@@ -264,19 +211,27 @@ fn run<D: System, I: Source, O: Sink, E: Sink>(
             json,
         } => {
             let after = text_of(after);
-            list(
-                alloc,
-                root,
-                device.as_bytes(),
-                after,
-                *limit,
-                *json,
-                system,
-                out,
-            )?
+            let device = device.as_bytes();
+            list(alloc, root, device, after, *limit, *json, system, out)
+        }
+        Task::Ask { file, device } => {
+            let answer = ask_file(alloc, file.as_str(), device.as_bytes(), system, input);
+            printed(answer, out, err)
+        }
+        Task::Check { files } => {
+            let answer = check(alloc, root, files, job.strict, system, input);
+            printed(answer, out, err)
+        }
+        Task::Diff { old, new } => {
+            printed(diff(alloc, old.as_str(), new.as_str(), system), out, err)
+        }
+        Task::Verify { database } => {
+            printed(verify(alloc, root, text_of(database), system), out, err)
+        }
+        Task::Dump { database } => {
+            printed(dump(alloc, root, text_of(database), system), out, err)
         }
     }
-    Ok(0)
 }
 
 /// What stands in front of the paths of folders and databases.

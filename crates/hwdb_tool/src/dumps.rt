@@ -1,59 +1,55 @@
 //! `dump`: a database that is read and printed as a text file.
-ghost use Rattle.std.specs.Prelude.{◌≡◌, is_some, option_map, IfOk, IfErr, OnOk};
-ghost use Rattle.hwdb_spec.specs.Failures.{HasFailed};
+ghost use Rattle.std.specs.Prelude.{◌≡◌, is_some, option_map, IfOk, IfErr};
 ghost use Rattle.hwdb_fs.specs.Refusals.{HasReason, IsInWords};
 ghost use Rattle.hwdb_tool.specs.NamedDatabases.{IsDumpRefused, IsOfDump};
+ghost use Rattle.hwdb_tool.specs.Views.{texts_in};
 ghost use Rattle.hwdb_spec.specs.Asked.{IsDumped, unsayable_text};
+ghost use Rattle.hwdb_spec.specs.Runs.{OnOut};
 ghost use Rattle.hwdb_tool.specs.Undone.{IsUnreadableIf};
-ghost use Rattle.hwdb_fs.specs.declared.refusals.Refusal.TheVariants.{Plain};
 
+use crate::answer::Answer;
 use crate::databases::named;
-use hwdb_devices::Sink;
 use hwdb_fs::{Refusal, System};
-use hwdb_inspect::{DumpError, run_dump};
+use hwdb_inspect::DumpError;
 use hwdb_lint::push_shown;
-use hwdb_transfer::ToolError;
+use hwdb_print::ToolError;
 use std::alloc::{AllocError, Global};
 
-/// Prints the database at the path, or where none is given the one that is asked, as a text file. Refuses bytes that are no
+/// The database at the path, or if none is given the one that is asked, as a text file. Refuses bytes that are no
 /// database, and one with an assignment that no text file can say.
-pub fn dump<D: System, O: Sink>(
+pub fn dump<D: System>(
     alloc: Global,
     root: &str,
     given: Option<&str>,
     system: &D,
-    out: &mut O,
-) -> Result<(), Refusal>
-    ensures dumped { D.Store.tells → OnOk result
-        (IsDumped (option_map (λ t. t.now) given.entry) root.now
-        (D.Store.seen system.now) (O.taken out.old) (O.taken out.new)) }
+) -> Result<Answer, Refusal>
+    ensures status { IfOk result (λ a. a.status ≡ 0) }
+    ensures dumped { D.Store.tells → IfOk result (λ a. OnOut
+        (IsDumped (option_map (λ t. t.now) given.entry) root.now (D.Store.seen system.now))
+        (texts_in a)) }
     ensures refused { D.Store.tells → IfErr result
-        (λ r. IsDumpRefused (option_map (λ t. t.now) given.entry) root.now
-        (D.Store.seen system.now) r (O.taken out.old) (O.taken out.new)) }
+        (IsDumpRefused (option_map (λ t. t.now) given.entry) root.now
+        (D.Store.seen system.now)) }
     ensures reason { IfErr result (HasReason
         (IsUnreadableIf (is_some (option_map (λ t. t.now) given.entry))
         (D.System.may_fail system.now) (D.Store.seen system.now)) ⊥ (D.Store.seen system.now)) }
-    ensures cause { IfErr result (λ r. r ≡ Plain ToolError.Write
-        → HasFailed (O.failures out.old) (O.failures out.new)) }
 {
     let found = named(alloc, root, given, system)?;
-    match run_dump(alloc, &found.bytes, out) {
-        Ok(()) => Ok(()),
+    match hwdb_inspect::dump(alloc, &found.bytes) {
+        Ok(text) => Ok(Answer::new(alloc, text, 0)),
         Err(error) => Err(refusal_of(alloc, error, found.path.as_bytes())),
     }
 }
 
-/// What is refused where the bytes at the path can't be dumped.
+/// What is refused if the bytes at the path can't be dumped.
 fn refusal_of(alloc: Global, error: DumpError, path: &[u8]) -> Refusal
-    ensures is { IsOfDump error path.now result }
-    ensures write { result ≡ Plain ToolError.Write → error ≡ DumpError.Write }
+    ensures { IsOfDump error path.now result }
 {
     match error {
         DumpError::Database(fault) => {
             Refusal::at(alloc, ToolError::BadDatabase(fault), path, None)
         }
         DumpError::Unsayable(pattern) => refused_pattern(alloc, path, &pattern),
-        DumpError::Write => Refusal::from(ToolError::Write),
         DumpError::Memory => Refusal::from(ToolError::Memory),
     }
 }

@@ -1,5 +1,5 @@
 //! The files that words name: `-` is standard input, which is read once.
-ghost use Rattle.std.specs.Prelude.{◌≡◌, ◌≢◌, ◌⊎◌, Some, true, false, codes, map, string_bytes, IfOk, IfErr, IfSome};
+ghost use Rattle.std.specs.Prelude.{◌≡◌, ◌⊎◌, Some, true, false, codes, map, string_bytes, IfOk, IfErr, IfSome};
 ghost use Rattle.hwdb_spec.specs.Given.{IsGiven, is_dash, any_dash};
 ghost use Rattle.hwdb_fs.specs.Refusals.{HasReason, IsUnread, IsUnreadable};
 ghost use Rattle.hwdb_tool.specs.Internal.{bytes_given};
@@ -7,9 +7,9 @@ ghost use Rattle.hwdb_tool.specs.Queries.{IsInputUnread, IsOfWholeInput};
 ghost use Rattle.hwdb_tool.specs.Undone.{IsGivenUnread, told_path};
 ghost use Rattle.hwdb_fs.specs.declared.refusals.Refusal.TheVariants.{Plain};
 
-use hwdb_devices::{Cause, Source};
 use hwdb_fs::{Refusal, System};
-use hwdb_transfer::{MAX_BYTES, ToolError, read_all};
+use hwdb_io::{Cause, MAX_BYTES, Source, read_all};
+use hwdb_print::ToolError;
 use std::alloc::Global;
 
 /// Whether a word stands for standard input.
@@ -49,11 +49,10 @@ fn read_input<I: Source>(alloc: Global, input: &mut I) -> Result<Vec<u8>, Refusa
     ensures refused { IfErr result (IsUnread (codes "standard input")) }
     ensures reason { IfErr result (λ r. (r ≡ Plain ToolError.Memory)
         ⊎ IsInputUnread (I.failures input.old) (I.failures input.new) r) }
-    ensures unread { IfErr result (λ r. r ≢ Plain ToolError.Write) }
 {
     match read_all(alloc, input, MAX_BYTES) {
         Ok(text) => Ok(text),
-        Err(error) => Err(refusal_of(alloc, error, input.cause())),
+        Err(error) => Err(refusal_of(alloc, ToolError::from(error), input.cause())),
     }
 }
 
@@ -72,7 +71,6 @@ pub fn read<D: System, I: Source>(
         (IsUnreadable (D.System.may_fail system.now) (D.Store.seen system.now)) ⊥
         (D.Store.seen system.now) r ⊎ ((is_dash path.now ≡ true)
         × IsInputUnread (I.failures input.old) (I.failures input.new) r)) }
-    ensures unread { IfErr result (λ r. r ≢ Plain ToolError.Write) }
 {
     if is_dash(path) {
         read_input(alloc, input)
@@ -94,7 +92,6 @@ pub fn input_text<I: Source>(
     ensures reason { IfErr result (λ r. (r ≡ Plain ToolError.Memory)
         ⊎ ((any_dash (map string_bytes given.now) ≡ true)
         × IsInputUnread (I.failures input.old) (I.failures input.new) r)) }
-    ensures unread { IfErr result (λ r. r ≢ Plain ToolError.Write) }
 {
     if any_dash(given) {
         read_input(alloc, input)
@@ -116,7 +113,6 @@ pub fn bytes_given<D: System>(
     ensures reason { IfErr result (HasReason
         (IsUnreadable (D.System.may_fail system.now) (D.Store.seen system.now)) ⊥
         (D.Store.seen system.now)) }
-    ensures unread { IfErr result (λ r. r ≢ Plain ToolError.Write) }
 {
     if is_dash(path) {
         Ok(text.to_vec(alloc)?)

@@ -1,7 +1,6 @@
 //! What `update --usr --verbose` says before it updates: where /etc's database, which is asked first, hides the new one.
-ghost use Rattle.std.specs.Prelude.{◌≡◌, ◌≢◌, ◌≤◌, IfOk, IfErr, OnOk, string_bytes};
-ghost use Rattle.std.specs.Io.KnownBytes.{Appends};
-ghost use Rattle.hwdb_spec.specs.Failures.{HasFailed};
+ghost use Rattle.std.specs.Prelude.{◌≡◌, ◌≤◌, IfOk, IfErr, OnOk, string_bytes};
+ghost use Rattle.hwdb_spec.specs.Runs.{HasTaken, files_by, told_by};
 ghost use Rattle.hwdb_spec.specs.Hiding.{hiding_line, hiding_text};
 ghost use Rattle.hwdb_spec.specs.Store as spec;
 ghost use Rattle.hwdb_spec.specs.System as Folder;
@@ -10,14 +9,13 @@ ghost use Rattle.hwdb_spec.specs.Done.{OldOrUpdatedLess};
 ghost use Rattle.hwdb_fs.specs.Refusals.{HasReason};
 ghost use Rattle.hwdb_tool.specs.Undone.{IsUntold, IsUnwritable};
 ghost use Rattle.hwdb_spec.specs.Asked.{database_path};
-ghost use Rattle.hwdb_fs.specs.declared.refusals.Refusal.TheVariants.{Plain};
 
 use crate::databases::database_folder;
+use crate::printing::say;
 use crate::updates::update;
-use hwdb_devices::Sink;
 use hwdb_fs::{Refusal, System, path_in};
+use hwdb_io::Sink;
 use hwdb_replace::DATABASE;
-use hwdb_transfer::{ToolError, write_text};
 use std::alloc::{AllocError, Global};
 
 /// The path of the database of a folder below the root.
@@ -71,25 +69,20 @@ fn tell_hiding<D: System, E: Sink>(
     system: &D,
     err: &mut E,
 ) -> Result<(), Refusal>
-    ensures told { D.Store.tells → OnOk result (Appends (E.taken err.old) (E.taken err.new)
-        (hiding_text usr verbose root.now (D.Store.seen system.now))) }
+    ensures told { D.Store.tells → OnOk result (HasTaken
+        (hiding_text usr verbose root.now (D.Store.seen system.now))
+        (told_by E.taken E.failures err.old) (told_by E.taken E.failures err.new)) }
     ensures refused { D.Store.tells → IfErr result (λ r.
         IsUntold (hiding_text usr verbose root.now (D.Store.seen system.now)) r
-        (E.taken err.old) (E.taken err.new)) }
+        (told_by E.taken E.failures err.old) (told_by E.taken E.failures err.new)) }
     ensures reason { IfErr result
         (HasReason (D.System.may_fail system.now) ⊥ (D.Store.seen system.now)) }
-    ensures unfailed { OnOk result (E.failures err.new ≡ E.failures err.old) }
-    ensures unfailed_err { IfErr result (λ r. r ≢ Plain ToolError.Write
-        → E.failures err.new ≡ E.failures err.old) }
-    ensures cause { IfErr result (λ r. r ≡ Plain ToolError.Write
-        → HasFailed (E.failures err.old) (E.failures err.new)) }
 {
     let text = hiding_text(alloc, root, usr, verbose, system)?;
-    write_text(err, &text)?;
-    Ok(())
+    say(&text, err)
 }
 
-/// Says it, and then updates, as [`update`] does. After a refusal the old database stands as it was, and no new file.
+/// Says it, and then updates, as [`update`] does. After a refusal the old database is as it was, and there is no new file.
 pub fn update_telling<D: System, E: Sink>(
     alloc: Global,
     root: &str,
@@ -105,24 +98,20 @@ pub fn update_telling<D: System, E: Sink>(
         → spec.LeavesOnly D.Store.moment D.Store.left_since system.old system.new
         (OldOrUpdatedLess (D.System.may_fail system.old) root.now usr skip
         (D.Store.seen system.old) (D.Store.may_leave system.old)) }
-    ensures updated { D.Store.tells → IfOk result
-        (λ status. IsUpdatedTelling (D.System.may_fail system.old)
-        root.now usr verbose strict skip status (D.Store.seen system.old)
-        (E.taken err.old) (E.taken err.new)
+    ensures updated { D.Store.tells → IfOk result (λ status. IsUpdatedTelling root.now usr
+        verbose strict skip status (files_by D.Store.seen D.System.may_fail D.Store.may_leave
+        D.Store.failures system.old)
+        (told_by E.taken E.failures err.old) (told_by E.taken E.failures err.new)
         (λ database. spec.InPlace (Folder.database_folder usr root.now) database
         (D.Store.seen system.old) (D.Store.seen system.new) (D.Store.may_leave system.new))) }
-    ensures refused { D.Store.tells → IfErr result
-        (λ r. IsTellingUpdateRefused (D.System.may_fail system.old) root.now usr verbose skip r
-        (D.Store.seen system.old) (D.Store.seen system.new)
-        (D.Store.may_leave system.old) (D.Store.may_leave system.new)
-        (E.taken err.old) (E.taken err.new)) }
+    ensures refused { D.Store.tells → let files = files_by D.Store.seen D.System.may_fail
+        D.Store.may_leave D.Store.failures in IfErr result (λ r.
+        IsTellingUpdateRefused root.now usr verbose skip r
+        (files system.old) (files system.new)
+        (told_by E.taken E.failures err.old) (told_by E.taken E.failures err.new)) }
     ensures reason { D.Store.tells → IfErr result (HasReason (D.System.may_fail system.old)
         (IsUnwritable (Folder.database_folder usr root.now) (D.Store.seen system.old)
         (D.Store.failures system.old) (D.Store.failures system.new)) (D.Store.seen system.old)) }
-    ensures unfailed { IfErr result (λ r. r ≢ Plain ToolError.Write
-        → E.failures err.new ≡ E.failures err.old) }
-    ensures cause { IfErr result (λ r. r ≡ Plain ToolError.Write
-        → HasFailed (E.failures err.old) (E.failures err.new)) }
 {
     tell_hiding(alloc, root, usr, verbose, system, err)?;
     update(alloc, root, usr, strict, verbose, skip, system, err)

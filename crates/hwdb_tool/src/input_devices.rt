@@ -1,19 +1,18 @@
 //! `query -` and `explain -`: the devices that standard input names.
-ghost use Rattle.std.specs.Prelude.{◌≡◌, ◌⊎◌, IfErr, IfSome, OnOk};
-ghost use Rattle.hwdb_spec.specs.Failures.{HasFailed};
+ghost use Rattle.std.specs.Prelude.{◌≡◌, ◌⊎◌, IfErr, IfOk, IfSome, OnOk};
+ghost use Rattle.hwdb_spec.specs.Outputs.{TookOne};
+ghost use Rattle.hwdb_spec.specs.Runs.{told_by};
 ghost use Rattle.hwdb_spec.specs.Texts.{devices_of};
 ghost use Rattle.hwdb_spec.specs.Databases.{IsTextOf};
 ghost use Rattle.hwdb_print.specs.Streams.{texts_of};
 ghost use Rattle.hwdb_fs.specs.Refusals.{HasReason};
 ghost use Rattle.hwdb_spec.specs.Asked.{IsAnswered};
 ghost use Rattle.hwdb_tool.specs.Queries.{IsInputUnread, IsOfInput, IsStreamRefused};
-ghost use Rattle.hwdb_fs.specs.declared.refusals.Refusal.TheVariants.{Plain};
 
 use crate::databases::asked;
-use hwdb_devices::{Cause, Sink, Source};
 use hwdb_fs::{Refusal, System};
-use hwdb_print::{Form, run_stream};
-use hwdb_transfer::ToolError;
+use hwdb_io::{Cause, Sink, Source};
+use hwdb_print::{Form, ToolError, run_stream};
 use std::alloc::Global;
 
 /// Prints what the database below the root gives each device that `input` names, one a line.
@@ -24,21 +23,21 @@ pub fn answer_input<D: System, I: Source, O: Sink>(
     system: &D,
     input: &mut I,
     out: &mut O,
-) -> Result<(), Refusal>
-    ensures answered { D.Store.tells → OnOk result (IfSome (I.left input.old)
-        (λ text. IsAnswered root.now (IsTextOf (texts_of form (devices_of text)))
-        (D.Store.seen system.now) (O.taken out.old) (O.taken out.new))) }
+) -> Result<u8, Refusal>
+    ensures small { IfOk result (λ status. status ≡ 0) }
+    ensures answered { D.Store.tells → OnOk result (IfSome (I.left input.old) (λ text. TookOne
+        (IsAnswered root.now (IsTextOf (texts_of form (devices_of text))) (D.Store.seen system.now))
+        (O.taken out.old) (O.taken out.new) (O.failures out.old) (O.failures out.new))) }
     ensures refused { D.Store.tells → IfErr result (λ r. IsStreamRefused root.now form
-        (I.left input.old) (D.Store.seen system.now) r (O.taken out.old) (O.taken out.new)) }
+        (I.left input.old) (D.Store.seen system.now) r
+        (told_by O.taken O.failures out.old) (told_by O.taken O.failures out.new)) }
     ensures reason { IfErr result (λ r.
         HasReason (D.System.may_fail system.now) ⊥ (D.Store.seen system.now) r
         ⊎ IsInputUnread (I.failures input.old) (I.failures input.new) r) }
-    ensures cause { IfErr result (λ r. r ≡ Plain ToolError.Write
-        → HasFailed (O.failures out.old) (O.failures out.new)) }
 {
     let found = asked(alloc, root, system)?;
     match run_stream(alloc, &found.bytes, form, input, out) {
-        Ok(()) => Ok(()),
+        Ok(()) => Ok(0),
         Err(error) => {
             let path = found.path.as_bytes();
             Err(refusal_of(alloc, error, path, input.cause()))
@@ -48,8 +47,7 @@ pub fn answer_input<D: System, I: Source, O: Sink>(
 
 /// What is refused where the devices of standard input can't be answered from the database at the path.
 fn refusal_of(alloc: Global, error: ToolError, path: &[u8], cause: Option<Cause>) -> Refusal
-    ensures is { IsOfInput error path.now result }
-    ensures write { result ≡ Plain ToolError.Write → error ≡ ToolError.Write }
+    ensures { IsOfInput error path.now result }
 {
     match error {
         ToolError::Read => Refusal::at(alloc, error, b"standard input", cause),

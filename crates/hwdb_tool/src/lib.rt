@@ -3,6 +3,8 @@
 //! | Module | What it does |
 //! |---|---|
 //! | `dispatch` | the program: which task its words ask for, its status and its error lines |
+//! | `answer` | what a command prints, and its status |
+//! | `printing` | the one place where that is printed |
 //! | `outlet` | where standard output goes to: a sink whose reader may go away |
 //! | `updates` | `update`; `progress`: what it says of its files; `hiding`: of a database that hides the new one |
 //! | `queries` | `query`, of the devices of the words or of standard input |
@@ -19,10 +21,11 @@
 //! | `crash` | what a crash, a start and a query make of a run |
 //! | `failures` | what failed calls and faulty words leave undone |
 //!
-//! What the tasks ask of a file system is in `hwdb_fs`, what they print in `hwdb_print`, and their devices are in `hwdb_devices`; the
+//! What the tasks ask of a file system is in `hwdb_fs`, what they print in `hwdb_print`, and their devices are in `hwdb_io`; the
 //! calls of these are here too.
 #![tactic(auto)]
 
+mod answer;
 mod answers;
 mod checks;
 mod crash;
@@ -37,12 +40,14 @@ mod input_devices;
 mod laws;
 mod one_outcome;
 mod outlet;
+mod printing;
 mod progress;
 mod queries;
 mod updates;
 mod verdicts;
 mod verification;
 
+pub use answer::Answer;
 pub use answers::{ask_file, explain, list};
 pub use checks::check;
 pub use crash::{crash_then_query, kill_then_query};
@@ -52,12 +57,13 @@ pub use dumps::dump;
 pub use failures::{counts_tell_failures, faulty_update_leaves_all};
 pub use hiding::update_telling;
 pub use hwdb_cli::{Job, Task, WordsFault, read_words};
-pub use hwdb_devices::{Cause, DeviceFailed, FromRead, Sink, Source, ToWrite, testing};
 pub use hwdb_fs::{Refusal, System, SystemStore};
-pub use hwdb_print::{ask, run_explain, run_list, run_queries, run_query, run_update};
-pub use hwdb_transfer::{ToolError, read_all, write_text};
+pub use hwdb_io::{
+    Cause, DeviceFailed, FromRead, Sink, Source, ToWrite, read_all, testing, write_text,
+};
+pub use hwdb_print::{ToolError, ask, run_list, run_query, run_update};
 pub use laws::update_then_query;
-pub use one_outcome::{jobs_are_one, listings_give_one_reading, tasks_are_one};
+pub use one_outcome::{answers_are_one, jobs_are_one, listings_give_one_reading, tasks_are_one};
 pub use outlet::Outlet;
 pub use queries::query;
 pub use verification::verify;

@@ -1,5 +1,5 @@
 //! Laws over the definitions alone. Each function does nothing: its contract is the law.
-ghost use Rattle.hwdb_tool.specs.OneOutcome.{DoneIsNotTold, JobsAreOne, ListingsGiveOneChoice, ListingsGiveOneReading, TasksAreOne};
+ghost use Rattle.hwdb_tool.specs.OneOutcome.{AnswersAreOne, DoneIsNotTold, JobsAreOne, ListingsGiveOneChoice, ListingsGiveOneReading, TasksAreOne};
 
 use hwdb_fs::System;
 use hwdb_query::positions_are_read_back;
@@ -16,6 +16,16 @@ pub fn listings_give_one_reading()
     names_are_those_that_count();
     names_ascend();
     one_ascending_list();
+}
+
+/// What a task prints, and its status, are one over one input and the same files: a command is a function of these.
+pub fn answers_are_one()
+    ensures { AnswersAreOne }
+{
+    listings_give_one_reading();
+    law_one_tree();
+    law_one_written_form();
+    positions_are_read_back();
 }
 
 /// Two outcomes that a task may have over one input are the same, where both are done and leave out no file, but for leftovers

@@ -1,8 +1,8 @@
 //! Where what the program prints goes to: a sink whose reader may go away.
 ghost use Rattle.std.specs.Prelude.{◌≡◌, true, pos, Some};
-ghost use Rattle.hwdb_devices.specs.declared.causes.Cause.TheVariants.{System};
+ghost use Rattle.hwdb_io.specs.declared.causes.Cause.TheVariants.{System};
 
-use hwdb_devices::{Cause, Sink, ToWrite};
+use hwdb_io::{Cause, Sink, ToWrite};
 use std::io::Write;
 
 /// A sink whose reader may go away.

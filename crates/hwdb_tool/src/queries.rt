@@ -1,28 +1,27 @@
 //! `query`: what each of several devices gets, those of the words or those that standard input names.
-ghost use Rattle.std.specs.Prelude.{◌≡◌, ◌≢◌, ◌⊎◌, true, false, map, string_bytes, IfErr, OnOk};
-ghost use Rattle.hwdb_spec.specs.Failures.{HasFailed};
-ghost use Rattle.hwdb_transfer.specs.Databases.{IsQueryRefusal};
+ghost use Rattle.std.specs.Prelude.{◌≡◌, ◌≤◌, ◌⊎◌, true, false, map, string_bytes, IfErr, IfOk};
+ghost use Rattle.hwdb_spec.specs.Asked.{IsAnswered};
 ghost use Rattle.hwdb_spec.specs.Databases.{IsTextOf};
-ghost use Rattle.hwdb_spec.specs.Outputs.{Wrote, WrotePrefix};
+ghost use Rattle.hwdb_spec.specs.Given.{is_input};
+ghost use Rattle.hwdb_spec.specs.Runs.{OnOut, told_by};
 ghost use Rattle.hwdb_print.specs.Streams.{texts_of};
 ghost use Rattle.hwdb_fs.specs.Refusals.{HasReason};
-ghost use Rattle.hwdb_spec.specs.Asked.{IsAnswered};
-ghost use Rattle.hwdb_tool.specs.Queries.{AreAnswered, AreUnanswered, IsInputUnread};
-ghost use Rattle.hwdb_spec.specs.Given.{is_input};
-ghost use Rattle.hwdb_tool.specs.Undone.{IsAnswerRefused};
-ghost use Rattle.hwdb_fs.specs.declared.refusals.Refusal.TheVariants.{Plain};
+ghost use Rattle.hwdb_tool.specs.Queries.{AreDone, AreUnanswered, IsInputUnread};
+ghost use Rattle.hwdb_tool.specs.Undone.{IsUnanswered};
+ghost use Rattle.hwdb_tool.specs.Views.{texts_in};
 
+use crate::answer::Answer;
 use crate::databases::asked;
 use crate::input_devices::answer_input;
-use hwdb_devices::{Sink, Source};
+use crate::printing::printed;
 use hwdb_fs::{Refusal, System};
-use hwdb_print::{Form, run_queries, run_queries_json};
-use hwdb_transfer::ToolError;
+use hwdb_io::{Sink, Source};
+use hwdb_print::{Form, answers};
 use std::alloc::Global;
 
-/// Prints the properties that the database below the root gives each device. Where the only device is `-`, they are those
+/// Prints the properties that the database below the root gives each device. If the only device is `-`, they are those
 /// that `input` names, one a line, and each is answered as soon as its line is read; else nothing is read of `input`.
-pub fn query<D: System, I: Source, O: Sink>(
+pub fn query<D: System, I: Source, O: Sink, E: Sink>(
     alloc: Global,
     root: &str,
     devices: &[String],
@@ -30,28 +29,31 @@ pub fn query<D: System, I: Source, O: Sink>(
     system: &D,
     input: &mut I,
     out: &mut O,
-) -> Result<(), Refusal>
-    ensures answered { D.Store.tells → OnOk result
-        (AreAnswered root.now (Form.Query json) (map string_bytes devices.now) (I.left input.old)
-        (D.Store.seen system.now) (O.taken out.old) (O.taken out.new)) }
+    err: &mut E,
+) -> Result<u8, Refusal>
+    ensures small { IfOk result (λ status. status ≤ 1) }
+    ensures answered { D.Store.tells → IfOk result (λ status. AreDone root.now (Form.Query json)
+        (map string_bytes devices.now) (I.left input.old) (D.Store.seen system.now) status
+        (told_by E.taken E.failures err.old) (told_by E.taken E.failures err.new)
+        (told_by O.taken O.failures out.old) (told_by O.taken O.failures out.new)) }
     ensures refused { D.Store.tells → IfErr result (λ r. AreUnanswered root.now (Form.Query json)
         (map string_bytes devices.now) (I.left input.old) (D.Store.seen system.now) r
-        (O.taken out.old) (O.taken out.new)) }
+        (told_by E.taken E.failures err.old) (told_by E.taken E.failures err.new)
+        (told_by O.taken O.failures out.old) (told_by O.taken O.failures out.new)) }
     ensures unread { is_input (map string_bytes devices.now) ≡ false → input.new ≡ input.old }
     ensures reason { IfErr result (λ r.
         HasReason (D.System.may_fail system.now) ⊥ (D.Store.seen system.now) r
         ⊎ ((is_input (map string_bytes devices.now) ≡ true)
         × IsInputUnread (I.failures input.old) (I.failures input.new) r)) }
-    ensures cause { IfErr result (λ r. r ≡ Plain ToolError.Write
-        → HasFailed (O.failures out.old) (O.failures out.new)) }
 {
     if is_input(devices) {
         return answer_input(alloc, root, Form::Query { json }, system, input, out);
     }
-    query_given(alloc, root, devices, json, system, out)
+    let answer = query_given(alloc, root, devices, json, system);
+    printed(answer, out, err)
 }
 
-/// Whether standard input names the devices: a lone `-` stands in their place.
+/// Whether standard input names the devices: a lone `-` is in their place.
 fn is_input(devices: &[String]) -> bool
     ensures { result ≡ is_input (map string_bytes devices.now) }
 {
@@ -61,58 +63,26 @@ fn is_input(devices: &[String]) -> bool
     }
 }
 
-/// Prints the properties that the database below the root gives each of these devices.
-fn query_given<D: System, O: Sink>(
+/// The properties that the database below the root gives each of these devices.
+fn query_given<D: System>(
     alloc: Global,
     root: &str,
     devices: &[String],
     json: bool,
     system: &D,
-    out: &mut O,
-) -> Result<(), Refusal>
-    ensures answered { D.Store.tells → OnOk result
-        (IsAnswered root.now (IsTextOf (texts_of (Form.Query json) (map string_bytes devices.now)))
-        (D.Store.seen system.now) (O.taken out.old) (O.taken out.new)) }
-    ensures refused { D.Store.tells → IfErr result (λ r. IsAnswerRefused root.now IsQueryRefusal
+) -> Result<Answer, Refusal>
+    ensures status { IfOk result (λ a. a.status ≡ 0) }
+    ensures answered { D.Store.tells → IfOk result (λ a. OnOut (IsAnswered root.now
         (IsTextOf (texts_of (Form.Query json) (map string_bytes devices.now)))
-        (D.Store.seen system.now) r (O.taken out.old) (O.taken out.new)) }
+        (D.Store.seen system.now)) (texts_in a)) }
+    ensures refused { D.Store.tells → IfErr result
+        (IsUnanswered root.now (D.Store.seen system.now)) }
     ensures reason { IfErr result
         (HasReason (D.System.may_fail system.now) ⊥ (D.Store.seen system.now)) }
-    ensures cause { IfErr result (λ r. r ≡ Plain ToolError.Write
-        → HasFailed (O.failures out.old) (O.failures out.new)) }
 {
     let found = asked(alloc, root, system)?;
-    match query_from(alloc, &found.bytes, devices, json, out) {
-        Ok(()) => Ok(()),
+    match answers(alloc, &found.bytes, devices, Form::Query { json }) {
+        Ok(text) => Ok(Answer::new(alloc, text, 0)),
         Err(error) => Err(Refusal::of_database(alloc, error, found.path.as_bytes())),
     }
-}
-
-/// The same of the database that these bytes are, as text or as JSON.
-fn query_from<O: Sink>(
-    alloc: Global,
-    bytes: &[u8],
-    devices: &[String],
-    json: bool,
-    out: &mut O,
-) -> Result<(), ToolError>
-    ensures printed { OnOk result
-        (Wrote (IsTextOf (texts_of (Form.Query json) (map string_bytes devices.now)) bytes.now)
-        (O.taken out.old) (O.taken out.new)) }
-    ensures refusals { IfErr result (IsQueryRefusal bytes.now) }
-    ensures cause { IfErr result (λ e. e ≡ ToolError.Write
-        → HasFailed (O.failures out.old) (O.failures out.new)) }
-    ensures cut_short { IfErr result (λ e. (out.new ≡ out.old)
-        ⊎ WrotePrefix
-        (IsTextOf (texts_of (Form.Query json) (map string_bytes devices.now)) bytes.now)
-        (O.taken out.old) (O.taken out.new)) }
-    ensures untouched { IfErr result
-        (λ e. e ≢ ToolError.Write → e ≢ ToolError.Memory → out.new ≡ out.old) }
-{
-    if json {
-        run_queries_json(alloc, bytes, devices, out)?;
-    } else {
-        run_queries(alloc, bytes, devices, out)?;
-    }
-    Ok(())
 }

@@ -1,16 +1,13 @@
 //! `update`: the text files of both folders, compiled into the database of one.
-ghost use Rattle.std.specs.Prelude.{◌≡◌, ◌≢◌, ◌≤◌, ℕ, List, length, map, option_map, string_bytes, All, IfOk, IfErr, IsErrOf, OnOk};
-ghost use Rattle.std.specs.Io.KnownBytes.{Appends};
+ghost use Rattle.std.specs.Prelude.{◌≡◌, ◌≢◌, ◌≤◌, ℕ, List, length, map, option_map, string_bytes, All, IfOk, IfErr, IsErrOf};
 ghost use Rattle.hwdb_spec.specs.Progress.{given_where, update_text};
 ghost use Rattle.hwdb_spec.specs.Store as spec;
 ghost use Rattle.hwdb_spec.specs.System as Folder;
-ghost use Rattle.hwdb_spec.specs.Failures.{HasFailed, OneFailed};
 ghost use Rattle.hwdb_spec.specs.Texts.{max_file};
 ghost use Rattle.hwdb_spec.specs.Folders.{Choice};
 ghost use Rattle.hwdb_text.specs.Views.{IsStorableChoice, choice_of};
 ghost use Rattle.hwdb_compile.specs.Views.{ForFolders, choice_in};
-ghost use Rattle.hwdb_replace.specs.Views.{failures_after};
-ghost use Rattle.hwdb_spec.specs.Outputs.{AppendsPrefix};
+ghost use Rattle.hwdb_spec.specs.Runs.{WasCut, files_by, told_by};
 ghost use Rattle.hwdb_print.specs.Updates.{IsUpdateRefusal, OnUnreplaced, UpdateUndone};
 ghost use Rattle.hwdb_spec.specs.Done.{OldOrWritten, Updated, IsUpdated, OldOrUpdated, OldOrUpdatedLess};
 ghost use Rattle.hwdb_fs.specs.LeftOut.{AreTold};
@@ -19,16 +16,15 @@ ghost use Rattle.hwdb_tool.specs.Internal.{IsOfSelection};
 ghost use Rattle.hwdb_tool.specs.Readable.{IsUpdateRefused, IsUpdatedLess};
 ghost use Rattle.hwdb_spec.specs.LeftOut.{status_less};
 ghost use Rattle.hwdb_tool.specs.Undone.{IsSelectedRefused, IsUnwritable};
-ghost use Rattle.hwdb_fs.specs.declared.refusals.Refusal.TheVariants.{Plain};
 
 use crate::databases::database_folder;
+use crate::printing::say;
 use crate::progress::progress;
 use hwdb_compile::{ChosenFile, compile_chosen};
-use hwdb_devices::Sink;
 use hwdb_fs::{Refusal, Selection, System, path_in, selected_readable, with_texts};
-use hwdb_print::put_in_place;
+use hwdb_io::{MAX_BYTES, Sink};
+use hwdb_print::{ToolError, put_in_place};
 use hwdb_replace::{DATABASE, Store, Unreplaced};
-use hwdb_transfer::{MAX_BYTES, ToolError, write_text};
 use std::alloc::Global;
 
 /// Compiles chosen files, says of them what is to be said, and puts their database in its place in a folder of the
@@ -57,23 +53,17 @@ fn update_files<S: Store, E: Sink>(
     ensures refusals { IfErr result
         (λ e. ForFolders files.now (λ etc usr. IsUpdateRefusal etc usr max_file e)) }
     ensures unreplaced { let names = option_map (λ l. map string_bytes l.now) listed.entry in
-        IfErr result (OnUnreplaced (λ u. ForFolders files.now (λ etc usr.
-        UpdateUndone etc usr names folder.now
+        IfErr result (OnUnreplaced (λ u. (E.failures err.new ≡ E.failures err.old)
+        × ForFolders files.now (λ etc usr. UpdateUndone etc usr names folder.now
         (E.taken err.old) (E.taken err.new) S.tells (S.seen store.old) (S.seen store.new)
         (S.may_leave store.old) (S.may_leave store.new) u))) }
-    ensures counted { IfErr result (OnUnreplaced
-        (λ u. (E.failures err.new ≡ E.failures err.old)
-        × (S.failures store.new ≡ failures_after u (S.failures store.old)))) }
     ensures unwritten { S.tells → IfErr result (OnUnreplaced
         (λ _. IsUnwritable folder.now (S.seen store.old)
         (S.failures store.old) (S.failures store.new))) }
-    ensures last { IsErrOf result ToolError.Write
-        → OneFailed (E.failures err.old) (E.failures err.new) × (store.new ≡ store.old) }
-    ensures cause { IsErrOf result ToolError.Write
-        → HasFailed (E.failures err.old) (E.failures err.new) }
     ensures cut_short { let names = option_map (λ l. map string_bytes l.now) listed.entry in
-        IsErrOf result ToolError.Write → ForFolders files.now (λ etc usr.
-        AppendsPrefix (E.taken err.old) (E.taken err.new) (update_text names etc usr)) }
+        IsErrOf result ToolError.Write → (store.new ≡ store.old) × ForFolders files.now
+        (λ etc usr. WasCut (update_text names etc usr)
+        (told_by E.taken E.failures err.old) (told_by E.taken E.failures err.new)) }
     ensures untouched { IfErr result
         (λ e. e ≢ ToolError.Write → ((u : Unreplaced) → e ≢ ToolError.Replace u)
         → (err.new ≡ err.old) × (store.new ≡ store.old)) }
@@ -117,17 +107,14 @@ fn update_selected<D: System, E: Sink>(
         (λ database. spec.InPlace (Folder.database_folder usr root.now) database
         (D.Store.seen system.old) (D.Store.seen system.new) (D.Store.may_leave system.new))) }
     ensures refused { (files : spec.Contents) → IsOfSelection root.now files selection.now
-        → D.Store.tells → IfErr result (λ r. IsSelectedRefused root.now usr verbose files r
-        (D.Store.seen system.old) (D.Store.seen system.new)
-        (D.Store.may_leave system.old) (D.Store.may_leave system.new)
-        (E.taken err.old) (E.taken err.new)) }
+        → D.Store.tells → let left = files_by D.Store.seen D.System.may_fail
+        D.Store.may_leave D.Store.failures in IfErr result (λ r.
+        IsSelectedRefused root.now usr verbose files r
+        (left system.old) (left system.new)
+        (told_by E.taken E.failures err.old) (told_by E.taken E.failures err.new)) }
     ensures reason { D.Store.tells → IfErr result (HasReason (D.System.may_fail system.old)
         (IsUnwritable (Folder.database_folder usr root.now) (D.Store.seen system.old)
         (D.Store.failures system.old) (D.Store.failures system.new)) (D.Store.seen system.old)) }
-    ensures unfailed { IfErr result (λ r. r ≢ Plain ToolError.Write
-        → E.failures err.new ≡ E.failures err.old) }
-    ensures cause { IfErr result (λ r. r ≡ Plain ToolError.Write
-        → HasFailed (E.failures err.old) (E.failures err.new)) }
 {
     let files = with_texts(alloc, &selection.chosen, &selection.texts)?;
     let folder = database_folder(alloc, root, usr)?;
@@ -158,18 +145,6 @@ fn status_less(strict: bool, said: &[u8], status: u8) -> u8
     if strict { 1 } else { status }
 }
 
-/// Says lines.
-fn say<E: Sink>(text: &[u8], err: &mut E) -> Result<(), Refusal>
-    ensures told { OnOk result (Appends (E.taken err.old) (E.taken err.new) text.now) }
-    ensures refused { IfErr result (λ r. (r ≡ Plain ToolError.Write)
-        × AppendsPrefix (E.taken err.old) (E.taken err.new) text.now) }
-    ensures unfailed { OnOk result (E.failures err.new ≡ E.failures err.old) }
-    ensures cause { IfErr result (λ _. HasFailed (E.failures err.old) (E.failures err.new)) }
-{
-    write_text(err, text)?;
-    Ok(())
-}
-
 /// Compiles the text files of both folders into the database of one, as `update_selected` does. Where `skip`, a chosen one
 /// that can't be read is left out: its line goes to `err` first, and where `strict` the status is 1.
 pub fn update<D: System, E: Sink>(
@@ -187,23 +162,20 @@ pub fn update<D: System, E: Sink>(
         → spec.LeavesOnly D.Store.moment D.Store.left_since system.old system.new
         (OldOrUpdatedLess (D.System.may_fail system.old) root.now usr skip
         (D.Store.seen system.old) (D.Store.may_leave system.old)) }
-    ensures updated { D.Store.tells → IfOk result
-        (λ status. IsUpdatedLess (D.System.may_fail system.old) root.now verbose strict skip status
-        (D.Store.seen system.old) (E.taken err.old) (E.taken err.new)
+    ensures updated { D.Store.tells → IfOk result (λ status. IsUpdatedLess root.now verbose
+        strict skip status (files_by D.Store.seen D.System.may_fail D.Store.may_leave
+        D.Store.failures system.old)
+        (told_by E.taken E.failures err.old) (told_by E.taken E.failures err.new)
         (λ database. spec.InPlace (Folder.database_folder usr root.now) database
         (D.Store.seen system.old) (D.Store.seen system.new) (D.Store.may_leave system.new))) }
-    ensures refused { D.Store.tells → IfErr result
-        (λ r. IsUpdateRefused (D.System.may_fail system.old) root.now usr verbose skip r
-        (D.Store.seen system.old) (D.Store.seen system.new)
-        (D.Store.may_leave system.old) (D.Store.may_leave system.new)
-        (E.taken err.old) (E.taken err.new)) }
+    ensures refused { D.Store.tells → let files = files_by D.Store.seen D.System.may_fail
+        D.Store.may_leave D.Store.failures in IfErr result (λ r.
+        IsUpdateRefused root.now usr verbose skip r
+        (files system.old) (files system.new)
+        (told_by E.taken E.failures err.old) (told_by E.taken E.failures err.new)) }
     ensures reason { D.Store.tells → IfErr result (HasReason (D.System.may_fail system.old)
         (IsUnwritable (Folder.database_folder usr root.now) (D.Store.seen system.old)
         (D.Store.failures system.old) (D.Store.failures system.new)) (D.Store.seen system.old)) }
-    ensures unfailed { IfErr result (λ r. r ≢ Plain ToolError.Write
-        → E.failures err.new ≡ E.failures err.old) }
-    ensures cause { IfErr result (λ r. r ≡ Plain ToolError.Write
-        → HasFailed (E.failures err.old) (E.failures err.new)) }
 {
     let readable = selected_readable(alloc, root, skip, system)?;
     say(&readable.said, err)?;

@@ -68,7 +68,8 @@ fn push_strings(out: &mut Vec<u8>, words: &[KeyedStr<'_>]) -> Result<(), AllocEr
 
 /// The offset of the root's record, after a nodes section of so many bytes.
 fn root_place(nodes: &[StoredNode], size: usize) -> usize
-    requires { (place : List ℕ → ℕ) × (places : List ℕ) × (es : List Setting) × (ns : List BuiltNode)
+    requires { (place : List ℕ → ℕ) × (places : List ℕ)
+        × (es : List Setting) × (ns : List BuiltNode)
         × IsPostOrder es ns × AreNodes (IsAt place places) nodes.now ns
         × (size ≡ text_size (tree_of es ns)) × (80 + size < 2 ^ 64) }
     ensures { (place : List ℕ → ℕ) (places : List ℕ) (es : List Setting) (ns : List BuiltNode)
@@ -119,8 +120,8 @@ fn database_within(
 ) -> Result<Option<Vec<u8>>, AllocError>
     requires { (es : List Setting) × (ns : List BuiltNode) × IsStored es ns stored
         × IsNarrow (tree_of es ns) }
-    ensures { IfOk result (λ o. (es : List Setting) (ns : List BuiltNode) → IsStored es ns stored.entry
-        → IsNarrow (tree_of es ns)
+    ensures { IfOk result (λ o. (es : List Setting) (ns : List BuiltNode)
+        → IsStored es ns stored.entry → IsNarrow (tree_of es ns)
         → let bytes = written (tree_of es ns) in MatchOption o (max_bytes < length bytes)
         (λ v. (v.items ≡ bytes) × (length bytes ≤ max_bytes))) }
 {

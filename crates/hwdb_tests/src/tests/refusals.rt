@@ -1,6 +1,7 @@
 //! The line of each refusal.
 use hwdb_fs::{Refusal, refuse_for};
-use hwdb_io::{Cause, testing::MemorySink};
+use hwdb_io::Cause;
+use hwdb_io::testing::MemorySink;
 use hwdb_print::ToolError;
 use hwdb_reader::DbFault;
 use std::alloc::Global;

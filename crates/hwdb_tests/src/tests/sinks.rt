@@ -3,7 +3,8 @@ ghost use Rattle.std.specs.Prelude.{◌≡◌, true, Some, take};
 
 use crate::tests::calls::{ask, list, query};
 use crate::tests::compiling::compiled;
-use hwdb_io::{Cause, DeviceFailed, Sink, ToWrite, testing::MemorySink, write_text};
+use hwdb_io::testing::MemorySink;
+use hwdb_io::{Cause, DeviceFailed, Sink, ToWrite, write_text};
 use hwdb_print::ToolError;
 use std::alloc::Global;
 use std::io::{self, Write};

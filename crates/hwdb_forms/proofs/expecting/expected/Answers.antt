@@ -8,7 +8,7 @@ pub loop-byte-preserved : goal.loop-byte-preserved
 loop-byte-preserved c = record {
   within = omega arith;
   done = byte_done (is_expected asked c.args.front.now) (256 - c.loop-byte.byte) c.loop-byte.byte (256 - (c.loop-byte.byte + 1)) (c.loop-byte.byte + 1) c.loop-byte.bytes.items _ _
-      (omega arith) (add-one c.loop-byte.byte) c.in_ok-put_expected.ensures c.loop-byte.invariant.done
+      (omega arith) (add-one c.loop-byte.byte) c.in_ok-put_expected.ensures c.loop-byte.invariant.done;
 }
 
 pub returns : goal.returns

@@ -1,6 +1,6 @@
-use Rattle.std.proofs.Common.{◌≡◌, ◌≤◌, length, drop, take, ◌-◌, arith, ap, eqb-true, refl}
+use Rattle.std.proofs.Common.{◌≡◌, ◌≤◌, ◌+◌, length, drop, take, ◌-◌, arith, ap, eqb-true, refl}
 use Rattle.std.proofs.lemmas.List.{take_rest, length-drop}
-use Rattle.hwdb_pattern.proofs.SearchLemmas.{reaches_end, reaches_past_test, remains_first, remains_star, remains_more, reaches_past, remains_end}
+use Rattle.hwdb_pattern.proofs.SearchLemmas.{reaches_end, reaches_past_test, remains_first, remains_later, remains_star, remains_more, reaches_past, remains_end}
 use Rattle.hwdb_pattern.proofs.search.glob.Goals as goal
 
 pub returns-then-first-pattern : goal.returns-then-first-pattern
@@ -13,11 +13,14 @@ pub loop-met-init : goal.loop-met-init
 loop-met-init c =
     let within : c.in-Some.first.at ≤ length c.args.pattern.now = c.in-Some.ensures.within in
     let met : c.in-Some.first.met ≤ length c.args.device.now = c.in-Some.ensures.met in
+    let at = c.in-Some.first.at + 1 in
+    let tried = c.first_try-met.ensures in
     record {
       at_in = omega arith;
-      met_in = omega arith;
-      remains = remains_first _ _ c.in-Some.first.at c.in-Some.first.met (omega arith) met
-          (c.in-Some.ensures.star (omega arith)) c.in-Some.ensures.reached;
+      met_in = omega (arith, tried.high met);
+      remains = remains_later c.args.pattern.now c.args.device.now _ at c.in-Some.first.met c.first_try-met.result (take_rest c.args.pattern.now at)
+          tried.low (tried.high met) tried.last
+          (remains_first _ _ c.in-Some.first.at c.in-Some.first.met (omega arith) met (c.in-Some.ensures.star (omega arith)) c.in-Some.ensures.reached);
     }
 
 pub loop-met-preserved-in-None : goal.loop-met-preserved-in-None
@@ -32,13 +35,19 @@ pub loop-met-preserved-then-at-next : goal.loop-met-preserved-then-at-next
 loop-met-preserved-then-at-next c =
     let t : take (length c.args.pattern.now - c.loop-met.at) (drop c.loop-met.at c.args.pattern.now) ≡ drop c.loop-met.at c.args.pattern.now = take_rest c.args.pattern.now c.loop-met.at in
     let l : take (length c.args.device.now - c.loop-met.met) (drop c.loop-met.met c.args.device.now) ≡ drop c.loop-met.met c.args.device.now = take_rest c.args.device.now c.loop-met.met in
+    let at = c.loop-met.at + (c.in-Some-run.next.at + 1) in
+    let met = c.loop-met.met + c.in-Some-run.next.met in
+    let in_device : met ≤ length c.args.device.now = omega (arith, c.in-Some-run.ensures.met, ap length l, length-drop c.loop-met.met c.args.device.now) in
+    let tried = c.first_try-met-then-at-next.ensures in
     record {
       at_in = omega arith;
-      met_in = omega (arith, c.in-Some-run.ensures.met, ap length l, length-drop c.loop-met.met c.args.device.now);
-      remains = remains_star _ _ _ _ c.loop-met.at c.loop-met.met c.in-Some-run.next.at c.in-Some-run.next.met t l
+      met_in = omega (arith, tried.high in_device);
+      remains = remains_later c.args.pattern.now c.args.device.now _ at met c.first_try-met-then-at-next.result (take_rest c.args.pattern.now at)
+          tried.low (tried.high in_device) tried.last
+          (remains_star _ _ _ _ c.loop-met.at c.loop-met.met c.in-Some-run.next.at c.in-Some-run.next.met t l
           c.if-at-next.true (omega arith) c.in-Some-run.ensures.met
           (c.in-Some-run.ensures.star (omega (arith, ap length t, length-drop c.loop-met.at c.args.pattern.now)))
-          c.in-Some-run.ensures.reached c.loop-met.invariant.remains;
+          c.in-Some-run.ensures.reached c.loop-met.invariant.remains);
     }
 
 pub returns-then-met-next : goal.returns-then-met-next

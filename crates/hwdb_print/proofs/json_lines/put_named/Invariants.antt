@@ -2,7 +2,7 @@ use Rattle.std.proofs.Common.{◌≡◌, ◌∷◌, ◌++◌, [], filter, take, 
 use Rattle.json.specs.Token.{begin_object}
 use Rattle.hwdb_query.specs.Views.{pairs_bytes}
 use Rattle.hwdb_spec.specs.Json.{has_name, property_member}
-use Rattle.hwdb_print.specs.JsonTokens.{tokens_of_members}
+use Rattle.hwdb_show.specs.JsonTokens.{tokens_of_members}
 use Rattle.hwdb_print.proofs.json_lines.put_named.Given as goal
 
 abbrev pub invariant-loop-key : goal.invariant-loop-key

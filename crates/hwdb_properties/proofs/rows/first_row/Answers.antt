@@ -1,6 +1,5 @@
-use Rattle.std.proofs.Common.{◌∙◌, ◌+◌, ap, sym, drop, length, arith, take}
+use Rattle.std.proofs.Common.{◌∙◌, ap, sym, length, arith}
 use Rattle.std.proofs.lemmas.List.{take_rest, length-drop}
-use Rattle.hwdb_spec.specs.Properties.{first_row}
 use Rattle.hwdb_properties.specs.Internal.{passes}
 use Rattle.hwdb_properties.proofs.PieceLemmas.{row_found, row_passed, no_row}
 use Rattle.hwdb_properties.proofs.rows.first_row.Goals as goal

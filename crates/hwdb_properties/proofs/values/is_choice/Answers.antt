@@ -1,4 +1,4 @@
-use Rattle.std.proofs.Common.{◌∙◌, ◌+◌, ap, sym, length, arith}
+use Rattle.std.proofs.Common.{◌∙◌, ap, sym, length, arith}
 use Rattle.std.proofs.lemmas.List.{take_rest, length-drop}
 use Rattle.hwdb_spec.specs.Folders.{same}
 use Rattle.hwdb_properties.proofs.PieceLemmas.{any_here, any_later, none_any}

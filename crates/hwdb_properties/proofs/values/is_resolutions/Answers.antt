@@ -1,4 +1,4 @@
-use Rattle.std.proofs.Common.{◌∙◌, ◌+◌, ap, sym, length, arith}
+use Rattle.std.proofs.Common.{◌∙◌, ap, sym, length, arith}
 use Rattle.std.proofs.lemmas.List.{take_rest, length-drop}
 use Rattle.hwdb_spec.specs.Properties.{is_resolution}
 use Rattle.hwdb_properties.proofs.PieceLemmas.{all_later, none_all, not_all}

@@ -1,14 +1,6 @@
 use Rattle.std.proofs.Common.{◌∙◌, ap, inr, string_bytes, subst, sym, Some}
 use Rattle.hwdb_fs.specs.Refusals.{IsOfDatabase}
-use Rattle.hwdb_tool.proofs.AnswerLemmas.{explained_alone, explained_cut}
 use Rattle.hwdb_tool.proofs.answers.explain_given.Goals as goal
-
-pub returns-in-Ok-clause-answered : goal.returns-in-Ok-clause-answered
-returns-in-Ok-clause-answered g c = λ tells. record {
-  bytes = c.deref.result.now;
-  asked = c.in_ok-found.ensures.asked tells ∙ ap Some (sym c.deref.ensures.value);
-  printed = explained_alone c.args.json c.args.device.now c.deref.result.now _ _ c.in-Ok.ensures.printed;
-}
 
 pub returns-clause-refused : goal.returns-clause-refused
 returns-clause-refused g c = λ tells. inr record {
@@ -19,6 +11,4 @@ returns-clause-refused g c = λ tells. inr record {
   error = c.in-Err.error;
   is = subst (λ p. IsOfDatabase c.in-Err.error p c.of_database.result) c.as_bytes.ensures.value c.of_database.ensures.is;
   refused = c.in-Err.ensures.refusals;
-  untouched = λ w m. ap g.O.Sink.taken (c.in-Err.ensures.untouched w);
-  cut_short = λ w. inr (explained_cut c.args.json c.args.device.now c.deref.result.now _ _ (c.in-Err.ensures.cut_short w));
 }

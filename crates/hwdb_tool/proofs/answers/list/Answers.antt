@@ -1,6 +1,14 @@
-use Rattle.std.proofs.Common.{◌∙◌, ap, inr, string_bytes, subst, sym, Some}
+use Rattle.std.proofs.Common.{◌∙◌, ap, inl, inr, ⊎_elim, string_bytes, subst, sym, Err, Some}
 use Rattle.hwdb_fs.specs.Refusals.{IsOfDatabase}
+use Rattle.hwdb_spec.specs.Runs.{told_by}
 use Rattle.hwdb_tool.proofs.answers.list.Goals as goal
+
+pub returns-in-Ok-clause-answered : goal.returns-in-Ok-clause-answered
+returns-in-Ok-clause-answered g c = λ tells. record {
+  text = c.in-Ok.ensures.printed.text;
+  is = record { bytes = c.deref.result.now; named = c.in_ok-found.ensures.asked tells ∙ ap Some (sym c.deref.ensures.value); is = c.in-Ok.ensures.printed.is };
+  took = c.in-Ok.ensures.printed.took;
+}
 
 pub returns-clause-refused : goal.returns-clause-refused
 returns-clause-refused g c = λ tells. inr record {
@@ -11,6 +19,7 @@ returns-clause-refused g c = λ tells. inr record {
   error = c.in-Err.error;
   is = subst (λ p. IsOfDatabase c.in-Err.error p c.of_database.result) c.as_bytes.ensures.value c.of_database.ensures.is;
   refused = c.in-Err.ensures.refusals;
-  untouched = λ w m. ap g.O.Sink.taken (c.in-Err.ensures.untouched w m);
-  cut_short = λ w. inr (c.in-Err.ensures.cut_short w);
+  untouched = λ w m. ap (told_by g.O.Sink.taken g.O.Sink.failures) (c.in-Err.ensures.untouched w m);
+  cut = λ w. c.in-Err.ensures.cut_short (ap Err w);
+  lines = λ m. ⊎_elim (λ same. inl (ap (told_by g.O.Sink.taken g.O.Sink.failures) same)) (λ some. inr some) (c.in-Err.ensures.whole_lines (ap Err m));
 }

@@ -6,5 +6,5 @@ use Rattle.hwdb_tool.proofs.checks.check.Goals as goal
 pub returns-else-is_empty-clause-refused : goal.returns-else-is_empty-clause-refused
 returns-else-is_empty-clause-refused g c = λ tells.
     some_given c.args.root.now (g.I.Source.left c.args.input.now) (g.D.Store.seen c.args.system.now) c.args.given.now
-    (λ Unread Are. IfErr c.check_given.result (λ r. IsCheckRefused Unread Are r (g.O.Sink.taken c.args.out.now) (g.O.Sink.taken c.check_given.new.out)))
+    (λ Unread Are. IfErr c.check_given.result (IsCheckRefused Unread Are))
     (sym c.is_empty.ensures ∙ c.if-is_empty.false) (c.check_given.ensures.refused tells)

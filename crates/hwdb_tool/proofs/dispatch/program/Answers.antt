@@ -1,49 +1,48 @@
 use Rattle.std.proofs.Common.{inl, inr, ⊎_elim, ◌∙◌, arith, refl, [], subst, sym, map, string_bytes}
 use Rattle.hwdb_cli.specs.declared.job.WordsFault.TheVariants as words_fault
+use Rattle.hwdb_spec.specs.Runs.{AreKept, World, files_by, told_by}
 use Rattle.hwdb_spec.specs.Store.{LeavesOnly}
-use Rattle.hwdb_transfer.specs.declared.errors.ToolError.TheVariants.{Memory, Write}
+use Rattle.hwdb_print.specs.declared.errors.ToolError.TheVariants.{Memory, Write}
 use Rattle.hwdb_fs.specs.declared.refusals.Refusal.TheVariants.{Plain}
 use Rattle.hwdb_fs.specs.declared.refusals.Refusal.{Refusal}
-use Rattle.hwdb_spec.specs.Done.{AreKept}
 use Rattle.hwdb_tool.specs.Program.{OldOrAskedFor, OldOrDone, root_of}
-use Rattle.hwdb_tool.specs.TaskRefusals.{IsJobReason, IsTaskRefused}
+use Rattle.hwdb_tool.specs.TaskRefusals.{IsJobNotDone, IsTaskRefused}
 use Rattle.hwdb_tool.proofs.MomentLemmas.{leaves_more, leaves_old}
 use Rattle.hwdb_tool.proofs.CutLemmas.{cut_keeps}
 use Rattle.hwdb_tool.proofs.dispatch.program.Goals as goal
 
 pub returns-in-Ok-enter_root-clause-refused : goal.returns-in-Ok-enter_root-clause-refused
 returns-in-Ok-enter_root-clause-refused g c = λ tells is.
-    let job = c.in-Ok.job in
-    let refusal = c.in-Err-run.refusal in
+    let F = files_by g.D.Store.seen g.D.System.may_fail g.D.Store.may_leave g.D.Store.failures in
+    let I = told_by g.I.Source.left g.I.Source.failures in
+    let O = told_by g.O.Sink.taken g.O.Sink.failures in
+    let E = told_by g.E.Sink.taken g.E.Sink.failures in
+    let at : g.row.D.Denot → World = λ s. record { files = F s; input = I c.args.input.now; out = O c.args.out.now; err = E c.args.err.now } in
+    let left : World = record { files = F c.run.new.system; input = I c.run.new.input; out = O c.run.new.out; err = E c.run.new.err } in
     inr (inl record {
-      job = job;
+      job = c.in-Ok.job;
       asked = c.in-Ok.ensures.job;
-      refusal = refusal;
-      err_then = record { bytes = g.E.Sink.taken c.run.new.err; failures = g.E.Sink.failures c.run.new.err };
-      refused = subst (λ (s : g.row.D.Denot). IsTaskRefused job.task (g.D.System.may_fail s) (root_of job) job.usr (g.I.Source.left c.args.input.now) refusal
-          (g.D.Store.seen s) (g.D.Store.seen c.run.new.system) (g.D.Store.may_leave s) (g.D.Store.may_leave c.run.new.system)
-          (g.E.Sink.taken c.args.err.now) (g.E.Sink.taken c.run.new.err) (g.O.Sink.taken c.args.out.now) (g.O.Sink.taken c.run.new.out)) (c.enter_root.ensures.same tells) (c.in-Err-run.ensures.refused tells);
-      reason = subst (λ (s : g.row.D.Denot). IsJobReason (g.D.System.may_fail s) (g.D.Store.seen s)
-          (record { before = g.D.Store.failures s; now = g.D.Store.failures c.run.new.system })
-          (record { before = g.I.Source.failures c.args.input.now; now = g.I.Source.failures c.run.new.input }) job refusal) (c.enter_root.ensures.same tells) (c.in-Err-run.ensures.reason tells);
-      unfailed = c.in-Err-run.ensures.unfailed;
+      refusal = c.in-Err-run.refusal;
+      err_then = E c.run.new.err;
+      refused = subst (λ (s : g.row.D.Denot). IsJobNotDone c.in-Ok.job (at s) left c.in-Err-run.refusal) (c.enter_root.ensures.same tells) (c.in-Err-run.ensures.refused tells);
       said = c.refuse_job.ensures.line is;
       says = ⊎_elim (λ none. absurd (let h = none in omega (arith, is, h))) (λ same. same ∙ c.refused_status.ensures.is) c.refuse_job.ensures.status;
     })
 
 pub returns-in-Ok-clause-refused : goal.returns-in-Ok-clause-refused
-returns-in-Ok-clause-refused g c = λ tells is. inr (inr (inr record {
-  job = c.in-Ok.job;
-  asked = c.in-Ok.ensures.job;
-  refusal = c.in-Err.refusal;
-  unread = c.in-Err.ensures.refused;
-  reason = c.in-Err.ensures.reason;
-  kept = subst (λ (s : g.row.D.Denot). AreKept (g.D.Store.seen c.args.system.now) (g.D.Store.seen s) (g.D.Store.may_leave c.args.system.now) (g.D.Store.may_leave s))
-      (sym (c.enter_root.ensures.same tells)) (record { same = λ p. refl; no_more = λ p v l. l });
-  said = record { said = c.in-Err.refusal; of = inl refl; words = c.refuse_for.ensures.0; one_line = c.refuse_for.ensures.1; line = c.refuse_for.ensures.2 };
-  out = refl;
-  says = refl;
-}))
+returns-in-Ok-clause-refused g c = λ tells is.
+    let F = files_by g.D.Store.seen g.D.System.may_fail g.D.Store.may_leave g.D.Store.failures in
+    inr (inr (inr record {
+      job = c.in-Ok.job;
+      asked = c.in-Ok.ensures.job;
+      refusal = c.in-Err.refusal;
+      unread = c.in-Err.ensures.refused;
+      reason = c.in-Err.ensures.reason;
+      kept = subst (λ (s : g.row.D.Denot). AreKept (F c.args.system.now) (F s)) (sym (c.enter_root.ensures.same tells)) (record { same = λ p. refl; no_more = λ p v l. l });
+      said = record { said = c.in-Err.refusal; of = inl refl; words = c.refuse_for.ensures.0; one_line = c.refuse_for.ensures.1; line = c.refuse_for.ensures.2 };
+      out = refl;
+      says = refl;
+    }))
 
 pub returns-clause-refused : goal.returns-clause-refused
 returns-clause-refused g c = λ tells is. inr (inr (inl record {
@@ -57,19 +56,22 @@ returns-clause-refused g c = λ tells is. inr (inr (inl record {
 pub returns-in-Ok-enter_root-clause-done : goal.returns-in-Ok-enter_root-clause-done
 returns-in-Ok-enter_root-clause-done g c = λ tells is.
     let job = c.in-Ok.job in
-    let plain = subst (λ (r : Refusal). IsTaskRefused job.task (g.D.System.may_fail c.enter_root.new.system) (root_of job) job.usr (g.I.Source.left c.args.input.now) r
-    (g.D.Store.seen c.enter_root.new.system) (g.D.Store.seen c.run.new.system) (g.D.Store.may_leave c.enter_root.new.system) (g.D.Store.may_leave c.run.new.system)
-    (g.E.Sink.taken c.args.err.now) (g.E.Sink.taken c.run.new.err) (g.O.Sink.taken c.args.out.now) (g.O.Sink.taken c.run.new.out)) (c.refuse_job.ensures.said is) (c.in-Err-run.ensures.refused tells) in
-    let same = subst (λ (s : g.row.D.Denot). IsTaskRefused job.task (g.D.System.may_fail s) (root_of job) job.usr (g.I.Source.left c.args.input.now) (Plain Write)
-    (g.D.Store.seen s) (g.D.Store.seen c.run.new.system) (g.D.Store.may_leave s) (g.D.Store.may_leave c.run.new.system)
-    (g.E.Sink.taken c.args.err.now) (g.E.Sink.taken c.run.new.err) (g.O.Sink.taken c.args.out.now) (g.O.Sink.taken c.run.new.out)) (c.enter_root.ensures.same tells) plain in
+    let F = files_by g.D.Store.seen g.D.System.may_fail g.D.Store.may_leave g.D.Store.failures in
+    let I = told_by g.I.Source.left g.I.Source.failures in
+    let O = told_by g.O.Sink.taken g.O.Sink.failures in
+    let E = told_by g.E.Sink.taken g.E.Sink.failures in
+    let at : g.row.D.Denot → World = λ s. record { files = F s; input = I c.args.input.now; out = O c.args.out.now; err = E c.args.err.now } in
+    let left : World = record { files = F c.run.new.system; input = I c.run.new.input; out = O c.run.new.out; err = E c.run.new.err } in
+    let now : World = record { files = F c.run.new.system; input = I c.run.new.input; out = O c.run.new.out; err = E c.refuse_job.new.err } in
+    let over = subst (λ (s : g.row.D.Denot). IsJobNotDone job (at s) left c.in-Err-run.refusal) (c.enter_root.ensures.same tells) (c.in-Err-run.ensures.refused tells) in
+    let plain = subst (λ (r : Refusal). IsTaskRefused job.task (root_of job) job.usr job.strict r (at c.args.system.now) left) (c.refuse_job.ensures.said is) over.0 in
+    let same = subst (λ (e : _). IsTaskRefused job.task (root_of job) job.usr job.strict (Plain Write) (at c.args.system.now)
+    (record { files = F c.run.new.system; input = I c.run.new.input; out = O c.run.new.out; err = E e })) (sym (c.refuse_job.ensures.quiet is)) plain in
     inr (inr (inl record {
       job = job;
       asked = c.in-Ok.ensures.job;
-      refused = subst (λ (e : _). IsTaskRefused job.task (g.D.System.may_fail c.args.system.now) (root_of job) job.usr (g.I.Source.left c.args.input.now) (Plain Write)
-          (g.D.Store.seen c.args.system.now) (g.D.Store.seen c.run.new.system) (g.D.Store.may_leave c.args.system.now) (g.D.Store.may_leave c.run.new.system)
-          (g.E.Sink.taken c.args.err.now) (g.E.Sink.taken e) (g.O.Sink.taken c.args.out.now) (g.O.Sink.taken c.run.new.out)) (sym (c.refuse_job.ensures.quiet is)) same;
-      files = cut_keeps _ _ _ _ _ _ _ _ _ _ _ _ job.task same;
+      refused = same;
+      kept = cut_keeps (root_of job) job.usr job.strict (at c.args.system.now) now job.task same;
       reader = c.refuse_job.ensures.gone is;
       writes = λ update. subst g.O.Outlet.reader_gone (c.run.ensures.update update) (c.refuse_job.ensures.gone is);
     }))

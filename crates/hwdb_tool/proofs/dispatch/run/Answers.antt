@@ -1,15 +1,22 @@
-use Rattle.std.proofs.Common.{ap, inl, inr, ⊎_elim, refl, string_bytes, subst, sym}
+use Rattle.std.proofs.Common.{◌≡◌, ◌⊎◌, ap, inl, inr, ⊎_elim, refl, string_bytes, subst, sym, ◌==◌, length, map, not, true, IfOk, IfErr}
 use Rattle.std.specs.Prelude.{option_map}
-use Rattle.hwdb_cli.specs.declared.job.Task.TheVariants.{Update}
-use Rattle.hwdb_spec.specs.Asked.{IsListFrom}
+use Rattle.hwdb_cli.specs.declared.job.Task.TheVariants.{Check, Diff, Update}
+use Rattle.hwdb_spec.specs.Asked.{IsAnswered, IsCompared, IsListFrom}
+use Rattle.hwdb_spec.specs.CheckedFiles.{AreCheckedFiles, IsChecked}
 use Rattle.hwdb_spec.specs.Done.{IsLeftByUpdateLess, OldOrUpdatedLess}
-use Rattle.hwdb_tool.specs.Program.{IsDone, IsTaskDone, OldOrDone, root_of, skips}
-use Rattle.hwdb_spec.specs.System.{database_folder}
+use Rattle.hwdb_spec.specs.Given.{any_dash}
+use Rattle.hwdb_spec.specs.Outputs.{TookOne}
+use Rattle.hwdb_spec.specs.Runs.{OnOut, World, files_by, told_by}
+use Rattle.hwdb_tool.specs.ComparedDatabases.{IsDiffRefused}
+use Rattle.hwdb_tool.specs.Program.{IsAnswerOf, IsTaskDone, OldOrDone, root_of, skips}
+use Rattle.hwdb_tool.specs.Queries.{IsInputUnread}
 use Rattle.hwdb_fs.specs.Refusals.{HasReason}
-use Rattle.hwdb_tool.specs.Undone.{IsAnswerRefused, IsListRefusedBy, IsUnwritable}
-use Rattle.hwdb_tool.specs.TaskRefusals.{Counts, IsJobReason, IsTaskRefused, IsUnreadableFor}
+use Rattle.hwdb_tool.specs.Undone.{AreUncheckable, IsCheckRefused, IsUnreadableIf}
+use Rattle.hwdb_tool.specs.TaskRefusals.{IsNotDone, IsTaskReason, Refuses}
+use Rattle.hwdb_tool.specs.Views.{texts_in}
 use Rattle.hwdb_tool.proofs.MomentLemmas.{leaves_more}
-use Rattle.hwdb_tool.proofs.ErrorLemmas.{each_error, each_value, given_error}
+use Rattle.hwdb_tool.proofs.ErrorLemmas.{both_errors, each_error, each_value}
+use Rattle.hwdb_tool.proofs.PrintingLemmas.{any_reason, listed_done, printed_refused}
 use Rattle.hwdb_tool.proofs.dispatch.run.Goals as goal
 
 pub returns-in-Update-clause-any_moment : goal.returns-in-Update-clause-any_moment
@@ -31,50 +38,107 @@ returns-in-Update-clause-any_moment g c = λ tells.
 pub returns-in-Update-clause-done : goal.returns-in-Update-clause-done
 returns-in-Update-clause-done g c = λ tells.
     let job = c.args.job.now in
-    let fails = g.D.System.may_fail c.args.system.now in
+    let F = files_by g.D.Store.seen g.D.System.may_fail g.D.Store.may_leave g.D.Store.failures in
+    let I = told_by g.I.Source.left g.I.Source.failures in
+    let O = told_by g.O.Sink.taken g.O.Sink.failures in
+    let E = told_by g.E.Sink.taken g.E.Sink.failures in
     let seen = g.D.Store.seen c.args.system.now in
-    let now = g.D.Store.seen c.update_telling.new.system in
-    let left = g.D.Store.may_leave c.update_telling.new.system in
-    let input = g.I.Source.left c.args.input.now in
-    let err = g.E.Sink.taken c.args.err.now in
-    let err_now = g.E.Sink.taken c.update_telling.new.err in
-    let out = g.O.Sink.taken c.args.out.now in
+    let before : World = record { files = F c.args.system.now; input = I c.args.input.now; out = O c.args.out.now; err = E c.args.err.now } in
+    let now : World = record { files = F c.update_telling.new.system; input = I c.args.input.now; out = O c.args.out.now; err = E c.update_telling.new.err } in
     let task = Update c.in-Update.verbose c.in-Update.skip_unreadable in
-    each_value _ (λ status. IsDone job fails status input seen now left err err_now out out) c.update_telling.result
-    (λ status done. subst (λ t. IsTaskDone t fails (root_of job) job.usr job.strict status input seen now left err err_now out out) (sym c.in-Update.is)
-    (subst (λ r. IsTaskDone task fails r job.usr job.strict status input seen now left err err_now out out) c.root_of-root.ensures (done, refl)))
+    each_value _ (λ status. IsTaskDone job.task (root_of job) job.usr job.strict status before now) c.update_telling.result
+    (λ status done. subst (λ t. IsTaskDone t (root_of job) job.usr job.strict status before now) (sym c.in-Update.is)
+    (subst (λ r. IsTaskDone task r job.usr job.strict status before now) c.root_of-root.ensures (done, refl)))
     (c.update_telling.ensures.updated tells)
 
-pub returns-in-Update-clause-reason : goal.returns-in-Update-clause-reason
-returns-in-Update-clause-reason g c = λ tells.
+pub returns-in-Update-clause-refused : goal.returns-in-Update-clause-refused
+returns-in-Update-clause-refused g c = λ tells.
     let job = c.args.job.now in
+    let F = files_by g.D.Store.seen g.D.System.may_fail g.D.Store.may_leave g.D.Store.failures in
+    let I = told_by g.I.Source.left g.I.Source.failures in
+    let O = told_by g.O.Sink.taken g.O.Sink.failures in
+    let E = told_by g.E.Sink.taken g.E.Sink.failures in
     let seen = g.D.Store.seen c.args.system.now in
-    let fails = g.D.System.may_fail c.args.system.now in
-    let files : Counts = record { before = g.D.Store.failures c.args.system.now; now = g.D.Store.failures c.update_telling.new.system } in
-    let input : Counts = record { before = g.I.Source.failures c.args.input.now; now = g.I.Source.failures c.args.input.now } in
-    each_error _ (IsJobReason fails seen files input job) c.update_telling.result
-    (λ r has. inl (subst (λ t. HasReason (IsUnreadableFor t fails seen) (IsUnwritable (database_folder job.usr (root_of job)) seen files.before files.now) seen r) (sym c.in-Update.is)
-    (subst (λ root. HasReason fails (IsUnwritable (database_folder job.usr root) seen files.before files.now) seen r) c.root_of-root.ensures has)))
-    (c.update_telling.ensures.reason tells)
+    let before : World = record { files = F c.args.system.now; input = I c.args.input.now; out = O c.args.out.now; err = E c.args.err.now } in
+    let now : World = record { files = F c.update_telling.new.system; input = I c.args.input.now; out = O c.args.out.now; err = E c.update_telling.new.err } in
+    let task = Update c.in-Update.verbose c.in-Update.skip_unreadable in
+    both_errors _ _ (IsNotDone job.task (root_of job) job.usr job.strict before now) c.update_telling.result
+    (λ r refused has. subst (λ t. IsNotDone t (root_of job) job.usr job.strict before now r) (sym c.in-Update.is)
+    (subst (λ root. IsNotDone task root job.usr job.strict before now r) c.root_of-root.ensures ((refused, refl), inl has)))
+    (c.update_telling.ensures.refused tells) (c.update_telling.ensures.reason tells)
 
-pub returns-in_err-list-in-List-clause-refused : goal.returns-in_err-list-in-List-clause-refused
-returns-in_err-list-in-List-clause-refused g c = λ tells.
+pub returns-in-List-clause-done : goal.returns-in-List-clause-done
+returns-in-List-clause-done g c = λ tells.
     let job = c.args.job.now in
+    let F = files_by g.D.Store.seen g.D.System.may_fail g.D.Store.may_leave g.D.Store.failures in
+    let I = told_by g.I.Source.left g.I.Source.failures in
+    let O = told_by g.O.Sink.taken g.O.Sink.failures in
+    let E = told_by g.E.Sink.taken g.E.Sink.failures in
     let seen = g.D.Store.seen c.args.system.now in
-    let left = g.D.Store.may_leave c.args.system.now in
-    let err = g.E.Sink.taken c.args.err.now in
-    let before = g.O.Sink.taken c.args.out.now in
-    let now = g.O.Sink.taken c.list.new.out in
-    let refusal = c.in_err-list-in-List.field-0.0 in
-    let input = g.I.Source.left c.args.input.now in
-    let fails = g.D.System.may_fail c.args.system.now in
-    given_error refusal (λ r. IsTaskRefused job.task fails (root_of job) job.usr input r seen seen left left err err before now)
-    c.from_residual-in_err-list-in-List.result c.from_residual-in_err-list-in-List.ensures.1
-    (subst (λ t. IsTaskRefused t fails (root_of job) job.usr input refusal seen seen left left err err before now) (sym c.in-List.is) (
-      subst (λ a. IsAnswerRefused (root_of job) (IsListRefusedBy a) (IsListFrom c.in-List.json (string_bytes c.in-List.device) a c.in-List.limit) seen refusal before now) c.text_of-after.ensures
-          (subst (λ d. IsAnswerRefused (root_of job) (IsListRefusedBy (option_map (λ t. t.now) c.text_of-after.result)) (IsListFrom c.in-List.json d (option_map (λ t. t.now) c.text_of-after.result) c.in-List.limit) seen refusal before now) c.as_bytes-in-List.ensures.value
-          (subst (λ r. IsAnswerRefused r (IsListRefusedBy (option_map (λ t. t.now) c.text_of-after.result)) (IsListFrom c.in-List.json c.as_bytes-in-List.result.now (option_map (λ t. t.now) c.text_of-after.result) c.in-List.limit) seen refusal before now) c.root_of-root.ensures
-          (c.in_err-list-in-List.ensures.refused tells))),
-      refl,
-      record { same = λ p. refl; no_more = λ p v l. l },
-    ))
+    let before : World = record { files = F c.args.system.now; input = I c.args.input.now; out = O c.args.out.now; err = E c.args.err.now } in
+    let now : World = record { files = F c.args.system.now; input = I c.args.input.now; out = O c.list.new.out; err = E c.args.err.now } in
+    let after = option_map (λ t. t.now) c.text_of-after.result in
+    let json = c.in-List.json in
+    let limit = c.in-List.limit in
+    subst (λ t. IfOk c.list.result (λ s. IsTaskDone t (root_of job) job.usr job.strict s before now)) (sym c.in-List.is)
+    (listed_done c.in-List.after limit c.in-List.device json (root_of job) job.usr job.strict before.files before.input before.err before.out now.out c.list.result c.list.ensures.status
+    (subst (λ a. IfOk c.list.result (λ _. TookOne (IsAnswered (root_of job) (IsListFrom json (string_bytes c.in-List.device) a limit) seen) before.out.bytes now.out.bytes before.out.failures now.out.failures)) c.text_of-after.ensures
+    (subst (λ d. IfOk c.list.result (λ _. TookOne (IsAnswered (root_of job) (IsListFrom json d after limit) seen) before.out.bytes now.out.bytes before.out.failures now.out.failures)) c.as_bytes-device.ensures.value
+    (subst (λ r. IfOk c.list.result (λ _. TookOne (IsAnswered r (IsListFrom json c.as_bytes-device.result.now after limit) seen) before.out.bytes now.out.bytes before.out.failures now.out.failures)) c.root_of-root.ensures
+    (c.list.ensures.answered tells)))))
+
+pub returns-in-Check-clause-refused : goal.returns-in-Check-clause-refused
+returns-in-Check-clause-refused g c = λ tells.
+    let job = c.args.job.now in
+    let F = files_by g.D.Store.seen g.D.System.may_fail g.D.Store.may_leave g.D.Store.failures in
+    let I = told_by g.I.Source.left g.I.Source.failures in
+    let O = told_by g.O.Sink.taken g.O.Sink.failures in
+    let E = told_by g.E.Sink.taken g.E.Sink.failures in
+    let seen = g.D.Store.seen c.args.system.now in
+    let before : World = record { files = F c.args.system.now; input = I c.args.input.now; out = O c.args.out.now; err = E c.args.err.now } in
+    let now : World = record { files = F c.args.system.now; input = I c.check-answer.new.input; out = O c.printed-in-Check.new.out; err = E c.printed-in-Check.new.err } in
+    let fails = before.files.fails in
+    let input = before.input.bytes in
+    let task = Check c.in-Check.files in
+    let root = c.root_of-root.result.now in
+    let given = c.in-Check.files.items in
+    let items = c.deref-in-Check.ensures.value in
+    let answer = c.check-answer.result in
+    subst (λ t. IfErr c.printed-in-Check.result (IsNotDone t (root_of job) job.usr job.strict before now)) (sym c.in-Check.is)
+    (each_error _ (IsNotDone task (root_of job) job.usr job.strict before now) c.printed-in-Check.result (λ r both. ((both.0, record { same = λ p. refl; no_more = λ p v l. l }), both.1))
+    (printed_refused answer c.printed-in-Check.result (Refuses task (root_of job) input seen) (IsTaskReason task (root_of job) job.usr before now)
+    (λ s t. IsAnswerOf task (root_of job) job.strict input seen s t) before.err now.err before.out now.out
+    (subst (λ r. IfErr answer (IsCheckRefused (AreUncheckable (map string_bytes given) r seen) (AreCheckedFiles (map string_bytes given) r input seen))) c.root_of-root.ensures
+    (subst (λ l. IfErr answer (IsCheckRefused (AreUncheckable (map string_bytes l) root seen) (AreCheckedFiles (map string_bytes l) root input seen))) items (c.check-answer.ensures.refused tells)))
+    (subst (λ r. IfOk answer (λ a. OnOut (λ text. IsChecked (AreCheckedFiles (map string_bytes given) r input seen) job.strict text a.status) (texts_in a))) c.root_of-root.ensures
+    (subst (λ l. IfOk answer (λ a. OnOut (λ text. IsChecked (AreCheckedFiles (map string_bytes l) root input seen) job.strict text a.status) (texts_in a))) items (c.check-answer.ensures.checked tells)))
+    (each_error _ (IsTaskReason task (root_of job) job.usr before now) answer
+    (λ r has. ⊎_elim (λ file. inl (any_reason _ _ seen r file)) (λ dash. inr dash) has)
+    (subst (λ l. IfErr answer (λ r. HasReason (IsUnreadableIf (not (length l == 0)) fails seen) ⊥ seen r ⊎ ((any_dash (map string_bytes l) ≡ true) × IsInputUnread before.input.failures now.input.failures r))) items
+    (c.check-answer.ensures.reason tells)))
+    (inl tt) c.printed-in-Check.ensures.refused))
+
+pub returns-in-Diff-clause-refused : goal.returns-in-Diff-clause-refused
+returns-in-Diff-clause-refused g c = λ tells.
+    let job = c.args.job.now in
+    let F = files_by g.D.Store.seen g.D.System.may_fail g.D.Store.may_leave g.D.Store.failures in
+    let I = told_by g.I.Source.left g.I.Source.failures in
+    let O = told_by g.O.Sink.taken g.O.Sink.failures in
+    let E = told_by g.E.Sink.taken g.E.Sink.failures in
+    let seen = g.D.Store.seen c.args.system.now in
+    let before : World = record { files = F c.args.system.now; input = I c.args.input.now; out = O c.args.out.now; err = E c.args.err.now } in
+    let now : World = record { files = F c.args.system.now; input = I c.args.input.now; out = O c.printed-in-Diff.new.out; err = E c.printed-in-Diff.new.err } in
+    let task = Diff c.in-Diff.old c.in-Diff.new in
+    let old = string_bytes c.in-Diff.old in
+    let of_old = c.as_str-in-Diff.ensures.value in
+    let of_new = c.as_str-in-Diff-2.ensures.value in
+    let new_path = c.as_str-in-Diff-2.result.now in
+    subst (λ t. IfErr c.printed-in-Diff.result (IsNotDone t (root_of job) job.usr job.strict before now)) (sym c.in-Diff.is)
+    (each_error _ (IsNotDone task (root_of job) job.usr job.strict before now) c.printed-in-Diff.result (λ r both. ((both.0, record { same = λ p. refl; no_more = λ p v l. l }), both.1))
+    (printed_refused c.diff.result c.printed-in-Diff.result (Refuses task (root_of job) before.input.bytes seen) (IsTaskReason task (root_of job) job.usr before now)
+    (λ s t. IsAnswerOf task (root_of job) job.strict before.input.bytes seen s t) before.err now.err before.out now.out
+    (subst (λ n. IfErr c.diff.result (IsDiffRefused old n seen)) of_new (subst (λ o. IfErr c.diff.result (IsDiffRefused o new_path seen)) of_old (c.diff.ensures.refused tells)))
+    (subst (λ n. IfOk c.diff.result (λ a. OnOut (λ text. IsCompared old n seen text a.status) (texts_in a))) of_new
+    (subst (λ o. IfOk c.diff.result (λ a. OnOut (λ text. IsCompared o new_path seen text a.status) (texts_in a))) of_old (c.diff.ensures.compared tells)))
+    (each_error _ (IsTaskReason task (root_of job) job.usr before now) c.diff.result (λ r has. inl (any_reason _ _ seen r has)) c.diff.ensures.reason)
+    (inl tt) c.printed-in-Diff.ensures.refused))

@@ -1,4 +1,4 @@
-use Rattle.std.proofs.Common.{◌∙◌, ap, inl, inr, ⊎_elim, string_bytes, subst, sym, Some}
+use Rattle.std.proofs.Common.{◌∙◌, ap, inr, string_bytes, subst, sym, Some}
 use Rattle.hwdb_tool.specs.NamedDatabases.{IsOfDump}
 use Rattle.hwdb_tool.proofs.dumps.dump.Goals as goal
 
@@ -10,8 +10,6 @@ returns-clause-refused g c = λ tells. inr record {
   named = c.in_ok-found.ensures.named tells ∙ ap Some (sym c.deref.ensures.value);
   held = c.in_ok-found.ensures.held tells ∙ ap Some (sym c.deref.ensures.value);
   error = c.in-Err.error;
-  is = subst (λ p. IsOfDump c.in-Err.error p c.refusal_of.result) c.as_bytes.ensures.value c.refusal_of.ensures.is;
-  refused = c.in-Err.ensures.refusals;
-  untouched = λ w m. ap g.O.Sink.taken (c.in-Err.ensures.untouched w m);
-  cut_short = ⊎_elim (λ same. inl (ap g.O.Sink.taken same)) (λ part. inr part) c.in-Err.ensures.cut_short;
+  is = subst (λ p. IsOfDump c.in-Err.error p c.refusal_of.result) c.as_bytes.ensures.value c.refusal_of.ensures;
+  refused = c.in-Err.ensures.errors;
 }

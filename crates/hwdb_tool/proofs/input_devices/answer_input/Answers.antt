@@ -1,7 +1,13 @@
 use Rattle.std.proofs.Common.{◌∙◌, ap, inl, inr, ⊎_elim, string_bytes, subst, sym, Err, Some}
 use Rattle.hwdb_tool.specs.Queries.{IsOfInput}
-use Rattle.hwdb_tool.proofs.AnswerLemmas.{if_bad}
+use Rattle.hwdb_tool.proofs.AnswerLemmas.{if_bad, streamed}
 use Rattle.hwdb_tool.proofs.input_devices.answer_input.Goals as goal
+
+pub returns-in-Ok-clause-answered : goal.returns-in-Ok-clause-answered
+returns-in-Ok-clause-answered g c = λ tells.
+    streamed (g.I.Source.left c.args.input.now) c.args.root.now c.args.form (g.D.Store.seen c.args.system.now) c.deref.result.now
+    (g.O.Sink.taken c.args.out.now) (g.O.Sink.taken c.run_stream.new.out) (g.O.Sink.failures c.args.out.now) (g.O.Sink.failures c.run_stream.new.out)
+    (c.in_ok-found.ensures.asked tells ∙ ap Some (sym c.deref.ensures.value)) c.in-Ok.ensures.printed c.in-Ok.ensures.writes
 
 pub returns-clause-refused : goal.returns-clause-refused
 returns-clause-refused g c = λ tells. inr record {
@@ -10,10 +16,12 @@ returns-clause-refused g c = λ tells. inr record {
   at = c.in_ok-found.ensures.path tells;
   asked = c.in_ok-found.ensures.asked tells ∙ ap Some (sym c.deref.ensures.value);
   error = c.in-Err.error;
-  is = subst (λ p. IsOfInput c.in-Err.error p c.refusal_of.result) c.as_bytes-path.ensures.value c.refusal_of.ensures.is;
+  is = subst (λ p. IsOfInput c.in-Err.error p c.refusal_of.result) c.as_bytes-path.ensures.value c.refusal_of.ensures;
   refused = c.in-Err.ensures.refusals;
   long = λ w. c.in-Err.ensures.too_long (ap Err w);
   many = λ w. c.in-Err.ensures.too_many (ap Err w);
   untouched = if_bad c.in-Err.error (λ both. ap g.O.Sink.taken both.1) c.in-Err.ensures.untouched;
-  cut_short = ⊎_elim (λ same. inl (ap g.O.Sink.taken same)) (λ part. inr part) c.in-Err.ensures.cut_short;
+  cut = ⊎_elim (λ same. inl (ap g.O.Sink.taken same)) (λ part. inr part) c.in-Err.ensures.cut_short;
+  failed = c.in-Err.ensures.writes.0;
+  unfailed = c.in-Err.ensures.writes.1;
 }

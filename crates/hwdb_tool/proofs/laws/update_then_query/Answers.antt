@@ -1,5 +1,4 @@
 use Rattle.std.proofs.Common.{◌≡◌, ◌∙◌, ap, subst, List, None}
-use Rattle.std.specs.Io.KnownBytes.{Appends}
 use Rattle.std.proofs.lemmas.List.{append-nil}
 use Rattle.hwdb_spec.specs.Answers.{effective_of, last_assignments}
 use Rattle.hwdb_spec.specs.Assignment.{Assignment}
@@ -12,10 +11,10 @@ use Rattle.hwdb_tool.proofs.HeldLemmas.{held_bytes}
 
 pub returns : goal.returns
 unfolding texts.with_empty_lines effective_of
-returns c = λ root verbose strict status device old new err_before err_now out_before out_now updated answered.
+returns c = λ root verbose strict status old new err_before err_now device shown updated answered.
     let done = updated.updated in
-    let text = answered.printed.is in
-    let same : answered.bytes ≡ done.database = held_bytes root new answered.bytes done.database done.stored answered.asked in
+    let text = answered.is in
+    let same : answered.bytes ≡ done.database = held_bytes root new answered.bytes done.database done.stored answered.named in
     let tree : IsDatabase done.database text.tree = subst (λ b. IsDatabase b text.tree) same text.database in
     let last = last_assignments device None (all_assignments updated.of_etc updated.of_usr) in
     let hits = c.compiled_answers_are_last.ensures.all updated.of_etc updated.of_usr done.database done.compiled text.tree tree device in
@@ -26,6 +25,5 @@ returns c = λ root verbose strict status device old new err_before err_now out_
       in_usr = updated.in_usr;
       last = last;
       are_last = c.last_assignments_are_last.ensures.are device None (all_assignments updated.of_etc updated.of_usr);
-      printed = subst (Appends out_before out_now)
-          (text.is ∙ append-nil _ ∙ ap (λ (l : List Assignment). properties_text (effective_of l)) hits) answered.printed.taken;
+      is = text.is ∙ append-nil _ ∙ ap (λ (l : List Assignment). properties_text (effective_of l)) hits;
     }

@@ -1,4 +1,4 @@
-use Rattle.std.proofs.Common.{◌∙◌, ap, inr, inl, ⊎_elim, string_bytes, subst, sym, Some}
+use Rattle.std.proofs.Common.{◌∙◌, ap, inr, string_bytes, subst, sym, Some}
 use Rattle.hwdb_fs.specs.Refusals.{IsOfDatabase}
 use Rattle.hwdb_tool.proofs.queries.query_given.Goals as goal
 
@@ -11,6 +11,4 @@ returns-clause-refused g c = λ tells. inr record {
   error = c.in-Err.error;
   is = subst (λ p. IsOfDatabase c.in-Err.error p c.of_database.result) c.as_bytes.ensures.value c.of_database.ensures.is;
   refused = c.in-Err.ensures.refusals;
-  untouched = λ w m. ap g.O.Sink.taken (c.in-Err.ensures.untouched w m);
-  cut_short = λ w. ⊎_elim (λ same. inl (ap g.O.Sink.taken same)) (λ part. inr part) c.in-Err.ensures.cut_short;
 }

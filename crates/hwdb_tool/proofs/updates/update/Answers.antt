@@ -1,11 +1,7 @@
-use Rattle.std.proofs.Common.{◌≡◌, ◌≢◌, ◌∙◌, inl, inr, ℕ, refl, subst, sym}
-use Rattle.std.specs.Io.KnownBytes.{Appends}
-use Rattle.hwdb_spec.specs.Failures.{HasFailed}
+use Rattle.std.proofs.Common.{inl, inr, refl, subst, sym}
 use Rattle.hwdb_fs.specs.LeftOut.{AreTold}
 use Rattle.hwdb_spec.specs.LeftOut.{without}
-use Rattle.hwdb_fs.specs.declared.refusals.Refusal.TheVariants.{Plain}
-use Rattle.hwdb_spec.specs.Outputs.{AppendsPrefix}
-use Rattle.hwdb_transfer.specs.declared.errors.ToolError.TheVariants.{Write}
+use Rattle.hwdb_spec.specs.Runs.{HasTaken, WasCut, files_by, told_by}
 use Rattle.hwdb_tool.specs.Readable.{IsUpdateRefused}
 use Rattle.hwdb_tool.proofs.ErrorLemmas.{given_error}
 use Rattle.hwdb_tool.proofs.MomentLemmas.{leaves_less}
@@ -13,23 +9,18 @@ use Rattle.hwdb_tool.proofs.updates.update.Goals as goal
 
 pub returns-in_err-readable-clause-refused : goal.returns-in_err-readable-clause-refused
 returns-in_err-readable-clause-refused g c = λ tells.
-    let seen = g.D.Store.seen c.args.system.now in
-    let left = g.D.Store.may_leave c.args.system.now in
-    let err = g.E.Sink.taken c.args.err.now in
-    given_error c.in_err-readable.field-0.0
-    (λ r. IsUpdateRefused (g.D.System.may_fail c.args.system.now) c.args.root.now c.args.usr c.args.verbose c.args.skip r seen seen left left err err)
+    let F = files_by g.D.Store.seen g.D.System.may_fail g.D.Store.may_leave g.D.Store.failures in
+    let T = told_by g.E.Sink.taken g.E.Sink.failures in
+    given_error c.in_err-readable.field-0.0 (λ r. IsUpdateRefused c.args.root.now c.args.usr c.args.verbose c.args.skip r (F c.args.system.now) (F c.args.system.now) (T c.args.err.now) (T c.args.err.now))
     c.from_residual.result c.from_residual.ensures.1
     (inl (c.in_err-readable.ensures.refused tells, record { same = λ p. refl; no_more = λ p v l. l }, refl))
 
 pub returns-in_err-say-clause-refused : goal.returns-in_err-say-clause-refused
 returns-in_err-say-clause-refused g c = λ tells.
-    let seen = g.D.Store.seen c.args.system.now in
-    let left = g.D.Store.may_leave c.args.system.now in
-    let before = g.E.Sink.taken c.args.err.now in
-    let now = g.E.Sink.taken c.say.new.err in
+    let F = files_by g.D.Store.seen g.D.System.may_fail g.D.Store.may_leave g.D.Store.failures in
+    let T = told_by g.E.Sink.taken g.E.Sink.failures in
     let less = c.in_ok-readable.ensures.selected tells in
-    given_error c.in_err-say.field-0.0
-    (λ r. IsUpdateRefused (g.D.System.may_fail c.args.system.now) c.args.root.now c.args.usr c.args.verbose c.args.skip r seen seen left left before now)
+    given_error c.in_err-say.field-0.0 (λ r. IsUpdateRefused c.args.root.now c.args.usr c.args.verbose c.args.skip r (F c.args.system.now) (F c.args.system.now) (T c.args.err.now) (T c.say.new.err))
     c.from_residual-in_err-say.result c.from_residual-in_err-say.ensures.1
     (inr record {
       left_out = less.left_out;
@@ -37,21 +28,17 @@ returns-in_err-say-clause-refused g c = λ tells.
       said = c.in_ok-readable.readable.said.items;
       lines = less.told;
       refused = inl (
-        inr (c.in_err-say.ensures.refused.0, subst (AppendsPrefix before now) c.deref.ensures.value c.in_err-say.ensures.refused.1),
+        inr (c.in_err-say.ensures.refused.0, subst (λ t. WasCut t (T c.args.err.now) (T c.say.new.err)) c.deref.ensures.value c.in_err-say.ensures.refused.1),
         record { same = λ p. refl; no_more = λ p v l. l },
       );
     })
 
 pub returns-in_err-status-clause-refused : goal.returns-in_err-status-clause-refused
 returns-in_err-status-clause-refused g c = λ tells.
-    let seen = g.D.Store.seen c.args.system.now in
-    let left = g.D.Store.may_leave c.args.system.now in
-    let before = g.E.Sink.taken c.args.err.now in
-    let now = g.E.Sink.taken c.update_selected.new.err in
+    let F = files_by g.D.Store.seen g.D.System.may_fail g.D.Store.may_leave g.D.Store.failures in
+    let T = told_by g.E.Sink.taken g.E.Sink.failures in
     let less = c.in_ok-readable.ensures.selected tells in
-    given_error c.in_err-status.field-0.0
-    (λ r. IsUpdateRefused (g.D.System.may_fail c.args.system.now) c.args.root.now c.args.usr c.args.verbose c.args.skip r seen (g.D.Store.seen c.update_selected.new.system)
-    left (g.D.Store.may_leave c.update_selected.new.system) before now)
+    given_error c.in_err-status.field-0.0 (λ r. IsUpdateRefused c.args.root.now c.args.usr c.args.verbose c.args.skip r (F c.args.system.now) (F c.update_selected.new.system) (T c.args.err.now) (T c.update_selected.new.err))
     c.from_residual-in_err-status.result c.from_residual-in_err-status.ensures.1
     (inr record {
       left_out = less.left_out;
@@ -59,9 +46,9 @@ returns-in_err-status-clause-refused g c = λ tells.
       said = c.in_ok-readable.readable.said.items;
       lines = less.told;
       refused = inr (
-        g.E.Sink.taken c.say.new.err,
-        subst (Appends before (g.E.Sink.taken c.say.new.err)) c.deref.ensures.value c.in_ok-say.ensures.told,
-        c.in_err-status.ensures.refused (without less.left_out c.args.root.now seen) less.selected tells,
+        T c.say.new.err,
+        subst (λ t. HasTaken t (T c.args.err.now) (T c.say.new.err)) c.deref.ensures.value c.in_ok-say.ensures.took,
+        c.in_err-status.ensures.refused (without less.left_out c.args.root.now (g.D.Store.seen c.args.system.now)) less.selected tells,
       );
     })
 
@@ -83,28 +70,16 @@ returns-clause-any_moment g c = λ tells.
 
 pub returns-clause-updated : goal.returns-clause-updated
 returns-clause-updated g c = λ tells.
-    let seen = g.D.Store.seen c.args.system.now in
+    let T = told_by g.E.Sink.taken g.E.Sink.failures in
     let less = c.in_ok-readable.ensures.selected tells in
     record {
       left_out = less.left_out;
       are = less.are;
       said = c.in_ok-readable.readable.said.items;
       lines = less.told;
-      err_then = g.E.Sink.taken c.say.new.err;
-      told = subst (Appends (g.E.Sink.taken c.args.err.now) (g.E.Sink.taken c.say.new.err)) c.deref.ensures.value c.in_ok-say.ensures.told;
+      err_then = T c.say.new.err;
+      told = subst (λ t. HasTaken t (T c.args.err.now) (T c.say.new.err)) c.deref.ensures.value c.in_ok-say.ensures.took;
       plainly = c.in_ok-status.status;
-      updated = c.in_ok-status.ensures.updated (without less.left_out c.args.root.now seen) less.selected tells;
+      updated = c.in_ok-status.ensures.updated (without less.left_out c.args.root.now (g.D.Store.seen c.args.system.now)) less.selected tells;
       answer = c.status_less.ensures.is c.args.root.now less.left_out (subst (AreTold c.args.root.now less.left_out) (sym c.deref-2.ensures.value) less.told);
     }
-
-pub returns-in_err-status-clause-unfailed : goal.returns-in_err-status-clause-unfailed
-returns-in_err-status-clause-unfailed g c =
-    given_error c.in_err-status.field-0.0 (λ r. r ≢ Plain Write → g.E.Sink.failures c.update_selected.new.err ≡ g.E.Sink.failures c.args.err.now)
-    c.from_residual-in_err-status.result c.from_residual-in_err-status.ensures.1
-    (λ w. c.in_err-status.ensures.unfailed w ∙ c.in_ok-say.ensures.unfailed)
-
-pub returns-in_err-status-clause-cause : goal.returns-in_err-status-clause-cause
-returns-in_err-status-clause-cause g c =
-    given_error c.in_err-status.field-0.0 (λ r. r ≡ Plain Write → HasFailed (g.E.Sink.failures c.args.err.now) (g.E.Sink.failures c.update_selected.new.err))
-    c.from_residual-in_err-status.result c.from_residual-in_err-status.ensures.1
-    (λ w. subst (λ (n : ℕ). HasFailed n (g.E.Sink.failures c.update_selected.new.err)) c.in_ok-say.ensures.unfailed (c.in_err-status.ensures.cause w))

@@ -1,6 +1,7 @@
 use Rattle.std.proofs.Common.{◌≡◌, ◌∙◌, ◌++◌, ap, subst, map, option_map, string_bytes, List, ℕ, inl, inr, ⊎_elim}
 use Rattle.std.specs.Io.KnownBytes.{Appends}
 use Rattle.hwdb_compile.specs.Views.{fault_of}
+use Rattle.hwdb_spec.specs.Outputs.{CutShort}
 use Rattle.hwdb_spec.specs.Progress.{progress_text, update_text}
 use Rattle.hwdb_spec.specs.Texts.{faults_text}
 use Rattle.hwdb_spec.specs.Done.{OldOrWritten}
@@ -15,18 +16,35 @@ returns-clause-unreplaced g c =
     let compiled = c.in_ok-compiled.compiled in
     let taken : List ℕ → Type 0 = λ t. Appends (g.E.Sink.taken c.args.err.now) (g.E.Sink.taken c.put_in_place.new.err) t in
     unreplaced_of c.put_in_place.result g.S.Store.tells _ _ _ _ c.put_in_place.ensures.unreplaced c.put_in_place.ensures.seen c.put_in_place.ensures.left
-    (λ u told seen left etc usr of.
-    let text : c.deref.result.now ++ faults_text (map fault_of compiled.faults.items) ≡ update_text names etc usr =
-    ap (λ l. l ++ faults_text (map fault_of compiled.faults.items))
-    (c.deref.ensures.value ∙ c.in_ok-told.ensures etc usr of (record { database = c.in_ok-compiled.ensures.checked etc usr of; given = c.in_ok-compiled.ensures.given etc usr of }))
-    ∙ ap (λ fs. progress_text names etc usr ++ faults_text fs) (c.in_ok-compiled.ensures.faults etc usr of) in
-    record {
-      database = compiled.database.items;
-      written = c.in_ok-compiled.ensures.database etc usr of;
-      told = subst taken text told;
-      seen = seen;
-      left = left;
-    })
+    (λ u told seen left. (
+      told.0.unfailed,
+      λ etc usr of.
+          let text : c.deref.result.now ++ faults_text (map fault_of compiled.faults.items) ≡ update_text names etc usr =
+          ap (λ l. l ++ faults_text (map fault_of compiled.faults.items))
+          (c.deref.ensures.value ∙ c.in_ok-told.ensures etc usr of (record { database = c.in_ok-compiled.ensures.checked etc usr of; given = c.in_ok-compiled.ensures.given etc usr of }))
+          ∙ ap (λ fs. progress_text names etc usr ++ faults_text fs) (c.in_ok-compiled.ensures.faults etc usr of) in
+          record {
+            database = compiled.database.items;
+            written = c.in_ok-compiled.ensures.database etc usr of;
+            told = subst taken text told.0.whole;
+            seen = seen;
+            left = left;
+          },
+    ))
+
+pub returns-clause-cut_short : goal.returns-clause-cut_short
+returns-clause-cut_short g c = λ w.
+    let names = option_map (λ l. map string_bytes l.now) c.args.listed in
+    let compiled = c.in_ok-compiled.compiled in
+    let cut = c.put_in_place.ensures.cut_short w in (
+      cut.1,
+      λ etc usr of.
+          let text : c.deref.result.now ++ faults_text (map fault_of compiled.faults.items) ≡ update_text names etc usr =
+          ap (λ l. l ++ faults_text (map fault_of compiled.faults.items))
+          (c.deref.ensures.value ∙ c.in_ok-told.ensures etc usr of (record { database = c.in_ok-compiled.ensures.checked etc usr of; given = c.in_ok-compiled.ensures.given etc usr of }))
+          ∙ ap (λ fs. progress_text names etc usr ++ faults_text fs) (c.in_ok-compiled.ensures.faults etc usr of) in
+          subst (λ t. CutShort t (g.E.Sink.taken c.args.err.now) (g.E.Sink.taken c.put_in_place.new.err) (g.E.Sink.failures c.args.err.now) (g.E.Sink.failures c.put_in_place.new.err)) text cut.0,
+    )
 
 pub returns-clause-any_moment : goal.returns-clause-any_moment
 returns-clause-any_moment g c = λ tells etc usr of.

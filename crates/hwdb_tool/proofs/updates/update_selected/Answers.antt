@@ -3,8 +3,8 @@ use Rattle.std.specs.Io.KnownBytes.{Appends}
 use Rattle.hwdb_spec.specs.Progress.{given_where, update_text}
 use Rattle.hwdb_text.specs.Views.{choice_of}
 use Rattle.hwdb_compile.specs.Views.{ForFolders}
-use Rattle.hwdb_transfer.specs.declared.errors.ToolError.TheVariants.{Memory}
-use Rattle.hwdb_spec.specs.Outputs.{AppendsPrefix}
+use Rattle.hwdb_print.specs.declared.errors.ToolError.TheVariants.{Memory}
+use Rattle.hwdb_spec.specs.Runs.{WasCut, files_by, told_by}
 use Rattle.hwdb_print.specs.Updates.{OnUnreplaced, UpdateUndone}
 use Rattle.hwdb_spec.specs.Store.{InPlace, database_name, path_in}
 use Rattle.hwdb_spec.specs.System.{database_folder}
@@ -21,24 +21,24 @@ use Rattle.hwdb_tool.proofs.updates.update_selected.Goals as goal
 
 pub returns-in_err-files-clause-refused : goal.returns-in_err-files-clause-refused
 returns-in_err-files-clause-refused g c = λ files selected tells.
-    given_error (Plain Memory)
-    (λ r. IsSelectedRefused c.args.root.now c.args.usr c.args.verbose files r (g.D.Store.seen c.args.system.now) (g.D.Store.seen c.args.system.now) (g.D.Store.may_leave c.args.system.now) (g.D.Store.may_leave c.args.system.now) (g.E.Sink.taken c.args.err.now) (g.E.Sink.taken c.args.err.now))
-    c.from_residual.result c.from_residual.ensures.1
-    (inl (refl, record { same = λ p. refl; no_more = λ p v l. l }, refl))
+    let F = files_by g.D.Store.seen g.D.System.may_fail g.D.Store.may_leave g.D.Store.failures in
+    let T = told_by g.E.Sink.taken g.E.Sink.failures in
+    given_error (Plain Memory) (λ r. IsSelectedRefused c.args.root.now c.args.usr c.args.verbose files r (F c.args.system.now) (F c.args.system.now) (T c.args.err.now) (T c.args.err.now))
+    c.from_residual.result c.from_residual.ensures.1 (inl (refl, record { same = λ p. refl; no_more = λ p v l. l }, refl))
 
 pub returns-in_err-folder-clause-refused : goal.returns-in_err-folder-clause-refused
 returns-in_err-folder-clause-refused g c = λ files selected tells.
-    given_error (Plain Memory)
-    (λ r. IsSelectedRefused c.args.root.now c.args.usr c.args.verbose files r (g.D.Store.seen c.args.system.now) (g.D.Store.seen c.args.system.now) (g.D.Store.may_leave c.args.system.now) (g.D.Store.may_leave c.args.system.now) (g.E.Sink.taken c.args.err.now) (g.E.Sink.taken c.args.err.now))
-    c.from_residual-in_err-folder.result c.from_residual-in_err-folder.ensures.1
-    (inl (refl, record { same = λ p. refl; no_more = λ p v l. l }, refl))
+    let F = files_by g.D.Store.seen g.D.System.may_fail g.D.Store.may_leave g.D.Store.failures in
+    let T = told_by g.E.Sink.taken g.E.Sink.failures in
+    given_error (Plain Memory) (λ r. IsSelectedRefused c.args.root.now c.args.usr c.args.verbose files r (F c.args.system.now) (F c.args.system.now) (T c.args.err.now) (T c.args.err.now))
+    c.from_residual-in_err-folder.result c.from_residual-in_err-folder.ensures.1 (inl (refl, record { same = λ p. refl; no_more = λ p v l. l }, refl))
 
 pub returns-in_err-path_in-clause-refused : goal.returns-in_err-path_in-clause-refused
 returns-in_err-path_in-clause-refused g c = λ files selected tells.
-    given_error (Plain Memory)
-    (λ r. IsSelectedRefused c.args.root.now c.args.usr c.args.verbose files r (g.D.Store.seen c.args.system.now) (g.D.Store.seen c.args.system.now) (g.D.Store.may_leave c.args.system.now) (g.D.Store.may_leave c.args.system.now) (g.E.Sink.taken c.args.err.now) (g.E.Sink.taken c.args.err.now))
-    c.from_residual-in_err-path_in.result c.from_residual-in_err-path_in.ensures.1
-    (inl (refl, record { same = λ p. refl; no_more = λ p v l. l }, refl))
+    let F = files_by g.D.Store.seen g.D.System.may_fail g.D.Store.may_leave g.D.Store.failures in
+    let T = told_by g.E.Sink.taken g.E.Sink.failures in
+    given_error (Plain Memory) (λ r. IsSelectedRefused c.args.root.now c.args.usr c.args.verbose files r (F c.args.system.now) (F c.args.system.now) (T c.args.err.now) (T c.args.err.now))
+    c.from_residual-in_err-path_in.result c.from_residual-in_err-path_in.ensures.1 (inl (refl, record { same = λ p. refl; no_more = λ p v l. l }, refl))
 
 pub returns-in-Ok-clause-updated : goal.returns-in-Ok-clause-updated
 returns-in-Ok-clause-updated g c = λ files selected tells.
@@ -118,14 +118,16 @@ returns-clause-refused g c = λ files selected tells.
     let given : AreReadOf root files listed c.deref-3.result.now = subst (AreReadOf root files listed) (sym c.deref-3.ensures.value) read in
     let at : c.into_bytes-path.result.items ≡ database_path c.args.usr root =
     ap (λ v. v.items) c.into_bytes-path.ensures.value ∙ c.in_ok-path_in.ensures ∙ ap (λ f. path_in f database_name) (c.as_str.ensures.value ∙ c.in_ok-folder.ensures) in
-    update_refused g.D.Store.seen g.D.Store.may_leave g.E.Sink.taken c.args.system.now c.update_files.new.store c.args.err.now c.update_files.new.err root c.args.usr c.args.verbose files listed c.deref-3.result.now
+    let F = files_by g.D.Store.seen g.D.System.may_fail g.D.Store.may_leave g.D.Store.failures in
+    let T = told_by g.E.Sink.taken g.E.Sink.failures in
+    let same : Type 0 = g.E.Sink.failures c.update_files.new.err ≡ g.E.Sink.failures c.args.err.now in
+    update_refused F T c.args.system.now c.update_files.new.store c.args.err.now c.update_files.new.err root c.args.usr c.args.verbose files listed c.deref-3.result.now
     g.D.Store.tells tells given c.in-Err.error c.of_update.result
     (subst (λ p. IsOfUpdate c.in-Err.error p c.of_update.result) at c.of_update.ensures)
     c.in-Err.ensures.refusals
-    (subst (λ n. OnUnreplaced (λ u. ForFolders c.deref-3.result.now (λ e r. UpdateUndone e r n (database_folder c.args.usr root) (g.E.Sink.taken c.args.err.now) (g.E.Sink.taken c.update_files.new.err) g.D.Store.tells seen (g.D.Store.seen c.update_files.new.store) (g.D.Store.may_leave c.args.system.now) (g.D.Store.may_leave c.update_files.new.store) u)) c.in-Err.error) names
-    (subst (λ f. OnUnreplaced (λ u. ForFolders c.deref-3.result.now (λ e r. UpdateUndone e r (option_map (λ l. map string_bytes l.now) c.listing.result) f (g.E.Sink.taken c.args.err.now) (g.E.Sink.taken c.update_files.new.err) g.D.Store.tells seen (g.D.Store.seen c.update_files.new.store) (g.D.Store.may_leave c.args.system.now) (g.D.Store.may_leave c.update_files.new.store) u)) c.in-Err.error) folder c.in-Err.ensures.unreplaced))
-    (λ is. (c.in-Err.ensures.last (ap Err is)).1)
-    (λ is. subst (λ n. ForFolders c.deref-3.result.now (λ e u. AppendsPrefix (g.E.Sink.taken c.args.err.now) (g.E.Sink.taken c.update_files.new.err) (update_text n e u))) names (c.in-Err.ensures.cut_short (ap Err is)))
+    (subst (λ n. OnUnreplaced (λ u. same × ForFolders c.deref-3.result.now (λ e r. UpdateUndone e r n (database_folder c.args.usr root) (g.E.Sink.taken c.args.err.now) (g.E.Sink.taken c.update_files.new.err) g.D.Store.tells seen (g.D.Store.seen c.update_files.new.store) (g.D.Store.may_leave c.args.system.now) (g.D.Store.may_leave c.update_files.new.store) u)) c.in-Err.error) names
+    (subst (λ f. OnUnreplaced (λ u. same × ForFolders c.deref-3.result.now (λ e r. UpdateUndone e r (option_map (λ l. map string_bytes l.now) c.listing.result) f (g.E.Sink.taken c.args.err.now) (g.E.Sink.taken c.update_files.new.err) g.D.Store.tells seen (g.D.Store.seen c.update_files.new.store) (g.D.Store.may_leave c.args.system.now) (g.D.Store.may_leave c.update_files.new.store) u)) c.in-Err.error) folder c.in-Err.ensures.unreplaced))
+    (λ is. let cut = c.in-Err.ensures.cut_short (ap Err is) in (cut.0, subst (λ n. ForFolders c.deref-3.result.now (λ e u. WasCut (update_text n e u) (T c.args.err.now) (T c.update_files.new.err))) names cut.1))
     c.in-Err.ensures.untouched
 
 pub returns-clause-reason : goal.returns-clause-reason

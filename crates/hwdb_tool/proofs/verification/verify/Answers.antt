@@ -1,4 +1,4 @@
-use Rattle.std.proofs.Common.{◌∙◌, ap, inr, string_bytes, subst, sym, Err, Some}
+use Rattle.std.proofs.Common.{◌∙◌, ap, inr, string_bytes, subst, sym, Some}
 use Rattle.hwdb_tool.specs.NamedDatabases.{IsOfVerify}
 use Rattle.hwdb_tool.proofs.verification.verify.Goals as goal
 
@@ -10,8 +10,6 @@ returns-clause-refused g c = λ tells. inr record {
   named = c.in_ok-found.ensures.named tells ∙ ap Some (sym c.deref.ensures.value);
   held = c.in_ok-found.ensures.held tells ∙ ap Some (sym c.deref.ensures.value);
   error = c.in-Err.error;
-  is = subst (λ p. IsOfVerify c.in-Err.error p c.refusal_of.result) c.as_bytes.ensures.value c.refusal_of.ensures.is;
-  refused = c.in-Err.ensures.refusals;
-  untouched = λ w. ap g.O.Sink.taken (c.in-Err.ensures.untouched w);
-  cut_short = λ w. c.in-Err.ensures.cut_short (ap Err w);
+  is = subst (λ p. IsOfVerify c.in-Err.error p c.refusal_of.result) c.as_bytes.ensures.value c.refusal_of.ensures;
+  refused = c.in-Err.ensures.errors;
 }

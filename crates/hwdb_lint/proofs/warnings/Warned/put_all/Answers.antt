@@ -2,7 +2,8 @@ use Rattle.std.proofs.Common.{◌∙◌, ◌++◌, ap}
 use Rattle.std.specs.Prelude.{flat_map}
 use Rattle.std.proofs.lemmas.Result.{on_ok_weaker}
 use Rattle.std.specs.Option.{unwrap_or}
-use Rattle.hwdb_spec.specs.Warnings.{greatest, judgement_of, misused, replacing, warned, warning_report}
+use Rattle.hwdb_spec.specs.Unmatched.{judgement_of}
+use Rattle.hwdb_spec.specs.Warnings.{greatest, misused, replacing, warned, warning_report}
 use Rattle.hwdb_spec.specs.declared.WarningKind.TheVariants.{ByteOrderMark, CarriageReturn, CutValue, EmptyRange, LeadingTab, Misused, OpenBracket, RepeatedMatch, Replaced, SpacedEquals, Unmatched}
 use Rattle.hwdb_spec.specs.declared.vocabulary.Misuse.TheVariants.{NearName}
 use Rattle.hwdb_lint.specs.Internal.{clean_of, read_line}

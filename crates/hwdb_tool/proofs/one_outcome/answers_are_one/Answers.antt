@@ -1,0 +1,6 @@
+use Rattle.hwdb_tool.proofs.TaskLemmas.{one_answer_of}
+use Rattle.hwdb_tool.proofs.one_outcome.answers_are_one.Goals as goal
+
+pub returns : goal.returns
+returns c = one_answer_of c.law_one_tree.ensures c.law_one_written_form.ensures c.positions_are_read_back.ensures.one
+    c.listings_give_one_reading.ensures.choice c.listings_give_one_reading.ensures.reading

@@ -1,0 +1,65 @@
+//! What a command prints, and the one place where it is printed.
+ghost use Rattle.std.specs.Prelude.{[], ◌≡◌, ◌≤◌, IfErr, IfOk, OnOk};
+ghost use Rattle.hwdb_spec.specs.Runs.{HasTaken, Printed, PrintedPart, WasCut, told_by};
+ghost use Rattle.hwdb_tool.specs.Views.{IsNotPrinted, IsPrintedWith, texts_in};
+ghost use Rattle.hwdb_fs.specs.declared.refusals.Refusal.TheVariants.{Plain};
+
+use crate::answer::Answer;
+use hwdb_fs::Refusal;
+use hwdb_io::{Sink, write_text};
+use hwdb_print::ToolError;
+
+/// Writes a text, if there is something to say.
+pub fn say<E: Sink>(text: &[u8], err: &mut E) -> Result<(), Refusal>
+    ensures took { OnOk result (HasTaken text.now
+        (told_by E.taken E.failures err.old) (told_by E.taken E.failures err.new)) }
+    ensures quiet { text.now ≡ [] → err.new ≡ err.old }
+    ensures refused { IfErr result (λ r. (r ≡ Plain ToolError.Write) × WasCut text.now
+        (told_by E.taken E.failures err.old) (told_by E.taken E.failures err.new)) }
+{
+    if text.is_empty() {
+        return Ok(());
+    }
+    match write_text(err, text) {
+        Ok(()) => Ok(()),
+        Err(error) => Err(Refusal::from(error)),
+    }
+}
+
+/// Prints an answer, if there is one: to `err` and after that to `out`. Returns its status.
+pub fn printed<O: Sink, E: Sink>(
+    answer: Result<Answer, Refusal>,
+    out: &mut O,
+    err: &mut E,
+) -> Result<u8, Refusal>
+    ensures small { IfOk result (λ status. status ≤ 1) }
+    ensures done { IfOk result (λ status. IsPrintedWith answer status
+        (told_by E.taken E.failures err.old) (told_by E.taken E.failures err.new)
+        (told_by O.taken O.failures out.old) (told_by O.taken O.failures out.new)) }
+    ensures refused { IfErr result (λ r. IsNotPrinted answer r
+        (told_by E.taken E.failures err.old) (told_by E.taken E.failures err.new)
+        (told_by O.taken O.failures out.old) (told_by O.taken O.failures out.new)) }
+{
+    match answer {
+        Ok(answer) => print(&answer, out, err),
+        Err(refusal) => Err(refusal),
+    }
+}
+
+/// Prints an answer.
+fn print<O: Sink, E: Sink>(answer: &Answer, out: &mut O, err: &mut E) -> Result<u8, Refusal>
+    ensures status { IfOk result (λ status. status ≡ answer.now.status) }
+    ensures done { OnOk result (Printed (λ texts. texts ≡ texts_in answer.now)
+        (told_by E.taken E.failures err.old) (told_by E.taken E.failures err.new)
+        (told_by O.taken O.failures out.old) (told_by O.taken O.failures out.new)) }
+    ensures refused { IfErr result (λ r. (r ≡ Plain ToolError.Write)
+        × PrintedPart (λ texts. texts ≡ texts_in answer.now)
+        (told_by E.taken E.failures err.old) (told_by E.taken E.failures err.new)
+        (told_by O.taken O.failures out.old) (told_by O.taken O.failures out.new)) }
+{
+    say(&answer.err, err)?;
+    match write_text(out, &answer.out) {
+        Ok(()) => Ok(answer.status),
+        Err(error) => Err(Refusal::from(error)),
+    }
+}
