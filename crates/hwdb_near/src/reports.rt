@@ -42,14 +42,6 @@ fn token_text(text: &[u8]) -> &[u8]
     first(text, front_size(text, 1))
 }
 
-/// Whether a device has a colon, and not before so many bytes.
-fn is_in_head(device: &[u8], met: usize) -> bool
-    ensures { result ≡ Near.is_in_head device.now met }
-{
-    let colon = end_of(b':', device);
-    colon < device.len() && met <= colon
-}
-
 /// A device's text up to its first colon, with it.
 fn head_of(device: &[u8]) -> &[u8]
     ensures { result.now ≡ Near.head_of device.now }
@@ -115,7 +107,7 @@ fn push_why(
             "the pattern ends here, the device goes on: put `*` after it",
         );
     }
-    if is_in_head(device, met) {
+    if met <= end_of(b':', device) {
         return push_head(text, head_of(device));
     }
     if hwdb_text::begins_with(b' ', wanted) && hwdb_text::begins_with(b'_', left) {

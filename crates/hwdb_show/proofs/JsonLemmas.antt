@@ -1,11 +1,14 @@
 -- The tokens of values, by those of their parts.
-use Rattle.std.proofs.Common.{◌≡◌, ◌∙◌, Bool, true, false, ap, sym, refl, ℕ, List, [], ◌∷◌, ◌++◌, append_assoc, flat_map, map, if◌then◌else◌}
+use Rattle.std.proofs.Common.{◌≡◌, ◌∙◌, ◌<◌, Bool, true, false, ap, sym, refl, zero, suc, ℕ, List, [], ◌∷◌, ◌++◌, append_assoc, arith, codes, filter, flat_map, get_or, length, map, not, take, if◌then◌else◌}
+use Rattle.std.proofs.lemmas.Grind.{flat_map-append}
 use Rattle.std.specs.Str.{IsUtf8, is_utf8}
+use Rattle.std.proofs.lemmas.List.{append-nil}
 use Rattle.std.proofs.lemmas.Str.{IsUtf8-from_is_utf8, is_utf8-from_IsUtf8}
 use Rattle.json.specs.Json.{Json, string}
 use Rattle.json.specs.Token.{Token}
-use Rattle.json.specs.Tree.{json_tokens, items_tokens}
-use Rattle.hwdb_spec.specs.Json.{array_of, items_of, number_json, text_json}
+use Rattle.json.specs.Tree.{json_tokens, items_tokens, members_tokens}
+use Rattle.hwdb_spec.specs.Json.{array_of, has_name, items_of, members_of, number_json, object_of, pair_json, property_member, raw_members, text_json}
+use Rattle.hwdb_show.specs.JsonTokens.{tokens_of_member, tokens_of_members}
 
 -- ---- arrays
 

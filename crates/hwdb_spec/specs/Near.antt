@@ -1,5 +1,5 @@
 -- The pattern that almost matched, and where it stopped: what `near` says. Our choice.
-use Rattle.std.specs.Prelude.{Bool, true, false, ℕ, zero, suc, List, [], ◌∷◌, ◌++◌, ◌+◌, ◌≤◌, ◌≡◌, if◌then◌else◌, codes, drop, filter, flat_map, length, map, nat_le, nat_lt, not, reverse, take}
+use Rattle.std.specs.Prelude.{Bool, true, false, ℕ, zero, suc, List, [], ◌∷◌, ◌++◌, ◌+◌, ◌≤◌, ◌≡◌, if◌then◌else◌, codes, drop, filter, flat_map, length, map, nat_le, not, reverse, take}
 use Rattle.std.specs.List.{position_or_len}
 use Rattle.std.specs.declared.cmp.Ordering.{Ordering}
 use Rattle.std.specs.Ordering.{nat_cmp, ordering_then}
@@ -151,18 +151,13 @@ token_text text = take (text_size (take 1 (tokens text))) text
 abbrev pub head_of : List ℕ → List ℕ
 head_of device = take (position_or_len (is (byte ":")) device + 1) device
 
--- whether a device has a colon, and none before so many bytes
-abbrev pub is_in_head : List ℕ → ℕ → Bool
-is_in_head device met =
-    let colon = position_or_len (is (byte ":")) device in if nat_lt colon (length device) then nat_le met colon else false
-
 -- Why a pattern stops after so many bytes of a device, by what is left of both: one of the two ends; the device's first part is
 -- another one; a space is there, which udev has written as `_`; another byte is there.
 abbrev pub why_text : (device : List ℕ) (met : ℕ) (wanted left : List ℕ) → List ℕ
 why_text device met wanted left =
     if is_none left then codes "the device ends here, the pattern goes on"
     else (if is_none wanted then codes "the pattern ends here, the device goes on: put `*` after it"
-    else (if is_in_head device met then codes "the device begins with " ++ quoted (head_of device)
+    else (if nat_le met (position_or_len (is (byte ":")) device) then codes "the device begins with " ++ quoted (head_of device)
     else (if (if begins_with (byte " ") wanted then begins_with (byte "_") left else false) then codes "a space, which udev makes `_`"
     else codes "the device has " ++ (quoted (take 1 left) ++ (codes ", the pattern " ++ quoted (token_text wanted))))))
 
