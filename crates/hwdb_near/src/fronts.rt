@@ -59,8 +59,8 @@ pub struct Stop {
 /// Where a pattern stops: the longest front of its tokens that matches a front of the device, and the least such front of
 /// the device.
 ///
-/// Takes at most as many steps as the pattern's length times the device's, and one pass if the pattern has a star after
-/// each token. The memory is a place for each byte of the pattern. The only error is `AllocError`.
+/// Takes at most as many steps as the pattern's length times the device's. At a `[` that begins no closed bracket a step
+/// looks through the rest of the pattern. The memory is a number for each token. The only error is `AllocError`.
 pub fn stops(alloc: Global, pattern: &[u8], device: &[u8]) -> Result<Stop, AllocError>
     ensures stops { IfOk result (λ s. Stops (tokens pattern.now) device.now (front_at s)) }
     ensures computed { IfOk result (λ s. front_at s ≡ stop_of (tokens pattern.now) device.now) }

@@ -69,7 +69,7 @@ fn rate_tokens(tokens: &mut [&[u8]], device: &[u8], reversed: &[u8]) -> Nearness
     }
 }
 
-/// How near a pattern is to a device, of which this is the text in lower case, and that from the right.
+/// How near a pattern is to a device. `device` is its text in lower case, and `reversed` that from the right.
 pub(crate) fn rate(
     alloc: Global,
     pattern: &[u8],
