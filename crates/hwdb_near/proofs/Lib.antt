@@ -6,3 +6,5 @@ pub mod NearestLemmas
 pub mod LineLemmas
 pub mod JsonLemmas
 pub mod ReportLemmas
+pub mod MatchingLemmas
+pub mod ComputedRows

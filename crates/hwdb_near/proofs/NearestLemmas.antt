@@ -1,12 +1,12 @@
 -- The nearest patterns, kept one after another.
-use Rattle.std.proofs.Common.{◌≡◌, ◌∙◌, ap, sym, refl, ℕ, zero, suc, ◌+◌, ◌-◌, ◌≤◌, ◌<◌, Bool, true, false, List, [], ◌∷◌, ◌++◌, take, drop, length, map, filter, not, reverse, get_or, arith, append_assoc, cond, IsTrue, ◌↔◌}
+use Rattle.std.proofs.Common.{◌≡◌, ◌∙◌, ap, sym, refl, ℕ, zero, suc, ◌+◌, ◌-◌, ◌≤◌, ◌<◌, Bool, true, false, List, [], ◌∷◌, ◌++◌, take, drop, length, map, filter, not, reverse, get_or, arith, append_assoc, cond}
 use mathlib.Core.List.{reverse_aux}
 use Rattle.std.specs.declared.cmp.Ordering.{Ordering}
 use Rattle.std.specs.declared.cmp.Ordering.TheVariants.{Less, Equal, Greater}
 use Rattle.std.specs.Ordering.{match_ordering}
 use Rattle.std.proofs.lemmas.List.{drop_more, drop_all, take_all, take_more, take_at, take-append-drop, reverse-append, length-reverse, length-drop, length-map, take-map, drop-map, get_or-map}
 use Rattle.hwdb_spec.specs.Assignment.{put, put_all}
-use Rattle.hwdb_spec.specs.Patterns.{Token, Matches, matches, tokens}
+use Rattle.hwdb_spec.specs.Patterns.{tokens}
 use Rattle.hwdb_spec.specs.Near.{PatternAt, Rated, folded, hits, literals, matching, missing, front_tokens, near_cmp, nearest, rated, unmet}
 use Rattle.hwdb_near.specs.Internal.Listed.{token_of}
 use Rattle.hwdb_near.specs.Internal.Listed.{Listed}
@@ -201,11 +201,3 @@ pub nearest_none : (device : List ℕ) (limit : ℕ) → [] ≡ nearest device l
 unfolding put_all
 nearest_none device zero = refl
 nearest_none device (suc limit) = refl
-
-pub is_hit : (b : Bool) (ts : List Token) (device : List ℕ) → (IsTrue b ↔ Matches ts device) → (IsTrue (matches ts device) ↔ Matches ts device) → b ≡ matches ts device
-is_hit true ts device g t = sym (t.1 (g.0 refl))
-is_hit false ts device g t = go (matches ts device) (λ e. g.1 (t.0 e))
-  where
-    go : (c : Bool) → (c ≡ true → false ≡ true) → false ≡ c
-    go true h = h refl
-    go false h = refl

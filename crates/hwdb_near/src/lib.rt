@@ -8,6 +8,7 @@
 //! |---|---|
 //! | `runs` | runs of tokens along a device, from star to star |
 //! | `fronts` | where tokens, and a pattern, stop |
+//! | `matching` | whether a pattern matches |
 //! | `rating` | how near a pattern is |
 //! | `kept` | the nearest so far |
 //! | `nearest` | those of some patterns that match, and the nearest that don't |
@@ -15,11 +16,14 @@
 //! | `reports` | what is printed of patterns as text |
 //! | `json_lines` | what is printed of patterns as lines of JSON |
 //! | `printing` | what `near` prints |
+//! | `laws` | what is proved of the definitions alone |
 #![tactic(auto)]
 
 mod fronts;
 mod json_lines;
 mod kept;
+mod laws;
+mod matching;
 mod nearest;
 mod patterns;
 mod printing;
@@ -29,5 +33,6 @@ mod runs;
 
 pub use fronts::{Stop, stops};
 pub use kept::PatternAt;
+pub use laws::{stops_are_computed, worked_rows};
 pub use patterns::{TextFile, push_patterns};
 pub use printing::{near_json, near_text};

@@ -7,8 +7,8 @@ ghost use Rattle.hwdb_near.specs.Views.{pattern_at};
 ghost use Rattle.hwdb_near.specs.Internal.Ratings.{misses, rated_of};
 
 use crate::kept::{PatternAt, Rated, keep};
+use crate::matching::hits;
 use crate::rating::{fold_case, rate};
-use hwdb_pattern::{glob, matches_is_tested};
 use std::alloc::{AllocError, Global};
 
 /// A device's text, as patterns are compared with it.
@@ -51,8 +51,7 @@ impl<'a> Found<'a> {
             (map rated_of self.old.nearest.items))) }
         ensures within { length self.new.nearest.items ≤ limit }
     {
-        matches_is_tested();
-        if glob(at.pattern, device.text) {
+        if hits(at.pattern, device.text) {
             self.matching.push(at)?;
             return Ok(());
         }

@@ -1,5 +1,5 @@
 //! What is printed of patterns as text.
-ghost use Rattle.std.specs.Prelude.{◌≡◌, ◌++◌, codes, drop, flat_map, map, take, IfOk, OnOk};
+ghost use Rattle.std.specs.Prelude.{◌≡◌, ◌++◌, codes, drop, flat_map, map, take, OnOk};
 ghost use Rattle.hwdb_spec.specs.Lines;
 ghost use Rattle.hwdb_spec.specs.Near;
 ghost use Rattle.hwdb_spec.specs.Near.{marked, match_report, near_report, quoted, said_line, why_text};

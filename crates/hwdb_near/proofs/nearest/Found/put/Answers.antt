@@ -1,26 +1,19 @@
 use Rattle.std.proofs.Common.{◌∙◌, arith, map, sym}
 use Rattle.std.proofs.lemmas.List.{length-map}
 use Rattle.std.proofs.lemmas.Result.{on_ok_weaker}
-use Rattle.hwdb_spec.specs.Patterns.{tokens}
 use Rattle.hwdb_near.specs.Views.{pattern_at}
 use Rattle.hwdb_near.specs.Internal.Ratings.{rated_of}
-use Rattle.hwdb_near.proofs.NearestLemmas.{hit_put, miss_put, is_hit}
+use Rattle.hwdb_near.proofs.NearestLemmas.{hit_put, miss_put}
 use Rattle.hwdb_near.proofs.nearest.Found.put.Goals as goal
 
-pub returns-then-glob-clause-nearest : goal.returns-then-glob-clause-nearest
-returns-then-glob-clause-nearest c =
-    let ts = tokens c.args.at.pattern.now in
-    let device = c.args.device.text.now in
+pub returns-then-hits-clause-nearest : goal.returns-then-hits-clause-nearest
+returns-then-hits-clause-nearest c =
     let kept = c.args.self.now.nearest.items in
-    let tested = c.matches_is_tested.ensures ts device in
-    hit_put device (pattern_at c.args.at) (map rated_of kept) c.args.limit (sym (is_hit c.glob.result ts device c.glob.ensures tested) ∙ c.if-glob.true) (omega (arith, c.requires.within, length-map kept rated_of))
+    hit_put c.args.device.text.now (pattern_at c.args.at) (map rated_of kept) c.args.limit (sym c.hits.ensures ∙ c.if-hits.true) (omega (arith, c.requires.within, length-map kept rated_of))
 
 pub returns-clause-nearest : goal.returns-clause-nearest
 returns-clause-nearest c =
-    let ts = tokens c.args.at.pattern.now in
-    let device = c.args.device.text.now in
-    let tested = c.matches_is_tested.ensures ts device in
     on_ok_weaker c.keep.result
-    (λ h. miss_put device c.args.device.folded.now (pattern_at c.args.at) c.in_ok-near.near.missing c.in_ok-near.near.front (map rated_of c.args.self.now.nearest.items) (map rated_of c.keep.new.kept.items) c.args.limit
-    (sym (is_hit c.glob.result ts device c.glob.ensures tested) ∙ c.if-glob.false) c.requires.folded c.in_ok-near.ensures.missing c.in_ok-near.ensures.front h)
+    (λ h. miss_put c.args.device.text.now c.args.device.folded.now (pattern_at c.args.at) c.in_ok-near.near.missing c.in_ok-near.near.front (map rated_of c.args.self.now.nearest.items) (map rated_of c.keep.new.kept.items) c.args.limit
+    (sym c.hits.ensures ∙ c.if-hits.false) c.requires.folded c.in_ok-near.ensures.missing c.in_ok-near.ensures.front h)
     c.keep.ensures.kept

@@ -1,0 +1,35 @@
+-- The worked rows, computed.
+use Rattle.std.proofs.Common.{refl}
+use Rattle.hwdb_spec.specs.Assignment.{put, put_all}
+use Rattle.hwdb_spec.specs.Lines.{numbered, pieces, trimmed}
+use Rattle.hwdb_spec.specs.Patterns.{bracket_at, byte_then, classes, item_at, items_from, matches, piece_then, some_ending, token_at, tokens_from}
+use Rattle.hwdb_spec.specs.Tree.{some_up_to}
+use Rattle.hwdb_spec.specs.Near.{first_up_to, last_up_to}
+use Rattle.hwdb_near.specs.Rows.{FileRows, MarkRows, MatchingRows, NearestRows, RatedRows, StopRows, WordRows}
+
+pub stop_rows : StopRows
+unfolding tokens_from token_at bracket_at items_from item_at classes some_ending byte_then piece_then matches some_up_to last_up_to first_up_to
+stop_rows = refl
+
+pub rated_rows : RatedRows
+unfolding tokens_from token_at bracket_at items_from item_at classes some_ending byte_then piece_then matches some_up_to last_up_to first_up_to
+rated_rows = refl
+
+pub nearest_rows : NearestRows
+unfolding put put_all tokens_from token_at bracket_at items_from item_at classes some_ending byte_then piece_then matches some_up_to last_up_to first_up_to
+nearest_rows = refl
+
+pub matching_rows : MatchingRows
+unfolding tokens_from token_at bracket_at items_from item_at classes some_ending byte_then piece_then matches
+matching_rows = refl
+
+pub mark_rows : MarkRows
+mark_rows = refl
+
+pub word_rows : WordRows
+unfolding tokens_from token_at bracket_at items_from item_at classes some_ending byte_then piece_then matches some_up_to last_up_to first_up_to
+word_rows = refl
+
+pub file_rows : FileRows
+unfolding numbered pieces trimmed
+file_rows = refl

@@ -1,0 +1,8 @@
+-- What the laws say of where tokens stop.
+use Rattle.std.specs.Prelude.{List, ℕ, ◌≡◌}
+use Rattle.hwdb_spec.specs.Patterns.{Token}
+use Rattle.hwdb_spec.specs.Near.{Front, Stops, stop_of}
+
+-- Tokens stop at one place alone, which `stop_of` computes.
+abbrev pub StopsAreComputed : Type 0
+StopsAreComputed = (ts : List Token) (device : List ℕ) (f : Front) → Stops ts device f → f ≡ stop_of ts device

@@ -1,0 +1,68 @@
+-- Worked rows of where patterns stop, and of which are the nearest: what the definitions give when they are computed.
+use Rattle.std.specs.Prelude.{List, [], ℕ, codes, drop, map, ◌∷◌, ◌≡◌}
+use Rattle.hwdb_spec.specs.Patterns.{tokens}
+use Rattle.hwdb_spec.specs.Near.{Front, PatternAt, marked, matching, nearest, pattern_place, patterns_in, rated, stop_of, why_text}
+
+-- a pattern at a line of a file `f`
+abbrev pub at_line : ℕ → List ℕ → PatternAt
+at_line line pattern = record { path = codes "f"; file = 1; line = line; pattern = pattern }
+
+abbrev pub front : ℕ → ℕ → Front
+front tokens bytes = record { tokens = tokens; bytes = bytes }
+
+-- where patterns stop: at a letter of the other case; before the last token, of the fronts of the device the least; after a star;
+-- at the pattern's end; after a bracket; at the first byte
+abbrev pub StopRows : Type 0
+StopRows =
+    map (λ (p : List ℕ × List ℕ). stop_of (tokens p.0) p.1)
+    ((codes "v04d9*", codes "v04D9p") ∷ (codes "a*c", codes "abab") ∷ (codes "*", codes "xy") ∷ (codes "ab", codes "abc")
+    ∷ (codes "a*b[cd]e", codes "aXbdbcz") ∷ (codes "b", codes "ab") ∷ [])
+    ≡ front 3 3 ∷ front 2 1 ∷ front 1 0 ∷ front 2 2 ∷ front 4 4 ∷ front 0 0 ∷ []
+
+-- how many literals are missing, and how long the front is: letters' case doesn't count; a byte in the middle; nothing from either
+-- end; a star between
+abbrev pub RatedRows : Type 0
+RatedRows =
+    map {B = ℕ × ℕ} (λ (p : List ℕ × List ℕ). ((rated p.1 (at_line 1 p.0)).missing, (rated p.1 (at_line 1 p.0)).front))
+    ((codes "v04d*", codes "v04Dp") ∷ (codes "abXcd", codes "abYcd") ∷ (codes "ab", codes "xabc") ∷ (codes "a[x]*d", codes "abcd") ∷ [])
+    ≡ (0, 5) ∷ (1, 2) ∷ (2, 0) ∷ (1, 1) ∷ []
+
+-- some patterns, one of which comes twice
+abbrev pub some_patterns : List PatternAt
+some_patterns = at_line 1 (codes "aXb") ∷ at_line 2 (codes "ab") ∷ at_line 3 (codes "aB") ∷ at_line 3 (codes "aB") ∷ at_line 5 (codes "xb") ∷ at_line 6 (codes "aXb") ∷ []
+
+-- the nearest of them, by line: the one that comes twice once, the longer front first, and then the lower line
+abbrev pub NearestRows : Type 0
+NearestRows =
+    map (λ n. map (λ r. r.at.line) (nearest (codes "ab") n some_patterns)) (0 ∷ 1 ∷ 3 ∷ 9 ∷ [])
+    ≡ [] ∷ (3 ∷ []) ∷ (3 ∷ 1 ∷ 6 ∷ []) ∷ (3 ∷ 1 ∷ 6 ∷ 5 ∷ []) ∷ []
+
+-- and the one that matches
+abbrev pub MatchingRows : Type 0
+MatchingRows = map (λ at. at.line) (matching (codes "ab") some_patterns) ≡ 2 ∷ []
+
+-- why a pattern stops at the device `k:a_`, in words
+abbrev pub why : List ℕ → List ℕ
+why pattern =
+    let f = stop_of (tokens pattern) (codes "k:a_") in
+    why_text (codes "k:a_") f.bytes (drop (pattern_place pattern f) pattern) (drop f.bytes (codes "k:a_"))
+
+abbrev pub WordRows : Type 0
+WordRows =
+    map why (codes "k:a" ∷ codes "j:a_" ∷ codes "k:a b" ∷ codes "k:a_b" ∷ codes "k:[bc]*" ∷ [])
+    ≡ codes "the pattern ends here, the device goes on: put `*` after it"
+    ∷ codes "the device begins with `k:`"
+    ∷ codes "a space, which udev makes `_`"
+    ∷ codes "the device ends here, the pattern goes on"
+    ∷ codes "the device has `a`, the pattern `[bc]`"
+    ∷ []
+
+-- a pattern, and the mark below its last byte
+abbrev pub MarkRows : Type 0
+MarkRows = marked (codes "ab:d") 3 ≡ codes "    ab:d\n       ^\n"
+
+-- the match lines of a file, without those in comments, and with those that no property follows
+abbrev pub FileRows : Type 0
+FileRows =
+    map {B = ℕ × List ℕ} (λ (at : PatternAt). (at.line, at.pattern)) (patterns_in (codes "f") 1 (codes "# c\na*  # c\n b=1\n\nd\n"))
+    ≡ (2, codes "a*") ∷ (5, codes "d") ∷ []

@@ -1,0 +1,24 @@
+//! Laws over the definitions alone. Each function does nothing: its contract is the law.
+ghost use Rattle.hwdb_near.specs.Laws.{StopsAreComputed};
+ghost use Rattle.hwdb_near.specs.Rows.{FileRows, MarkRows, MatchingRows, NearestRows, RatedRows, StopRows, WordRows};
+
+use hwdb_pattern::matches_is_tested;
+
+/// Tokens stop at one place alone, which `stop_of` computes.
+#[tactic(auto, using(crate::proofs::ComputedLemmas::stop_computed))]
+pub fn stops_are_computed()
+    ensures { StopsAreComputed }
+{
+    matches_is_tested();
+}
+
+/// Worked rows: what the definitions give when they are computed.
+pub fn worked_rows()
+    ensures stops { StopRows }
+    ensures rated { RatedRows }
+    ensures nearest { NearestRows }
+    ensures matching { MatchingRows }
+    ensures marks { MarkRows }
+    ensures words { WordRows }
+    ensures files { FileRows }
+{}
