@@ -243,9 +243,9 @@ fields_kept fs ts old new n at d e h k v =
     let before : old ≡ fields_row (map (λ field. map (λ way. map piece_of way.now) field.now) (drop (suc at) fs)) ts = subst (λ (i : ℕ). old ≡ fields_row (map (λ field. map (λ way. map piece_of way.now) field.now) (drop i fs)) ts) e k in
     v ∙ rw (drop-cons fs at d h, before) refl
 
-pub head_at : (row : List Bool) (b : Bool) → 0 < length row → b ≡ get_or row 0 b → b ≡ head row
+pub head_at : (cells : List Bool) (b : Bool) → 0 < length cells → b ≡ get_or cells 0 b → b ≡ head cells
 head_at [] b h e = absurd (omega arith)
-head_at (x ∷ row) b h e = e
+head_at (x ∷ cells) b h e = e
 
 -- cells of which not all is asked
 pub star_cell : (t : Token) (own : ByteSet) (here behind next result : Bool) → is_star t ≡ true → result ≡ (if next then true else here) → result ≡ byte_cell (is_star t) (meets t own) here behind next

@@ -8,7 +8,7 @@ use Rattle.hwdb_spec.specs.declared.ByteSet.{ByteSet}
 use Rattle.hwdb_spec.specs.declared.ByteSet.TheVariants.{Only}
 use Rattle.hwdb_forms.specs.declared.pieces.Piece.TheVariants.{Fixed, Counted, Repeated}
 use Rattle.hwdb_forms.specs.declared.pieces.Piece
-use Rattle.hwdb_forms.specs.declared.pieces.Form
+use Rattle.hwdb_forms.specs.declared.pieces.FormRow
 use Rattle.hwdb_forms.specs.declared.leads.Passed.TheVariants.{No, Unknown, Yes}
 use Rattle.hwdb_forms.specs.declared.leads.Passed.{Passed}
 use Rattle.hwdb_forms.specs.declared.leads.Lead.{Lead}
@@ -19,7 +19,7 @@ piece_of (Fixed bytes) = fixed bytes.now
 piece_of (Counted set n) = counted set n
 piece_of (Repeated set) = repeated set
 
-abbrev pub form_of : Form.Form → Forms.Form
+abbrev pub form_of : FormRow.FormRow → Forms.Form
 form_of f = record { prefix = f.prefix.now; fields = map (λ field. map (λ way. map piece_of way.now) field.now) f.fields.now }
 
 -- the tokens that the texts begin with

@@ -6,15 +6,16 @@ ghost use Rattle.hwdb_spec.specs.Forms;
 ghost use Rattle.hwdb_spec.specs.FormTable;
 ghost use Rattle.hwdb_forms.specs.Internal.{form_of, views};
 
-use crate::pieces::Form;
+use crate::beginnings::{free, free_prefixes};
+use crate::pieces::FormRow;
 use crate::rows::meets_form;
-use crate::table::{free, free_prefixes, known};
+use crate::table::known;
 use hwdb_pattern::{front_size, token_texts};
 use hwdb_spec::Judgement;
 use std::alloc::{AllocError, Global};
 
 /// Whether the tokens match a text of one of these forms.
-fn match_one(alloc: Global, forms: &[Form], tokens: &[&[u8]]) -> Result<bool, AllocError>
+fn match_one(alloc: Global, forms: &[FormRow], tokens: &[&[u8]]) -> Result<bool, AllocError>
     ensures { IfOk result (λ met. met
         ≡ Forms.can_match (map form_of forms.now) (views tokens.now)) }
 {

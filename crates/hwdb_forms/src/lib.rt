@@ -11,6 +11,7 @@
 //! |---|---|
 //! | `pieces` | forms as data |
 //! | `table` | the forms that udev asks |
+//! | `beginnings` | how their texts begin |
 //! | `sets` | sets of bytes, and which tokens take one of theirs |
 //! | `leads` | how pieces begin, before the first star |
 //! | `rows` | the rows of a form |
@@ -20,6 +21,7 @@
 //! | `laws` | what is proved of the definitions alone |
 #![tactic(auto)]
 
+mod beginnings;
 mod expecting;
 mod judging;
 mod laws;

@@ -3,8 +3,8 @@ ghost use Rattle.std.specs.Prelude.{◌≡◌, ◌/◌, find, if◌then◌else�
 ghost use Rattle.std.specs.Option.{option_map};
 ghost use Rattle.hwdb_spec.specs.FormTable;
 
+use crate::beginnings::prefixes;
 use crate::judging::prefix_size;
-use crate::table::prefixes;
 use std::alloc::{AllocError, Global};
 use strsim::generic_levenshtein;
 

@@ -14,7 +14,7 @@ pub(crate) enum Piece {
 
 /// A form: the bytes that its texts begin with, and then fields, each one of several ways.
 #[derive(Clone, Copy)]
-pub(crate) struct Form {
+pub(crate) struct FormRow {
     pub(crate) prefix: &'static [u8],
     pub(crate) fields: &'static [&'static [&'static [Piece]]],
 }

@@ -7,7 +7,7 @@ ghost use Rattle.hwdb_spec.specs.Patterns.{token_at};
 ghost use Rattle.hwdb_forms.specs.Internal.{fields_of, form_of, piece_of, views, way_met};
 
 use crate::leads::{Passed, lead_of, pass_fixed};
-use crate::pieces::{Form, Piece};
+use crate::pieces::{FormRow, Piece};
 use crate::sets::meets;
 use hwdb_pattern::begins_star;
 use hwdb_spec::ByteSet;
@@ -299,7 +299,7 @@ fn meets_fields(alloc: Global, fields: &[&[&[Piece]]], tokens: &[&[u8]]) -> Resu
 }
 
 /// Whether the tokens match a text of the form.
-pub(crate) fn meets_form(alloc: Global, form: Form, tokens: &[&[u8]]) -> Result<bool, AllocError>
+pub(crate) fn meets_form(alloc: Global, form: FormRow, tokens: &[&[u8]]) -> Result<bool, AllocError>
     ensures { IfOk result (λ met. met ≡ Forms.meets_form (views tokens.now) (form_of form)) }
 {
     match pass_fixed(form.prefix, tokens) {

@@ -3,17 +3,17 @@ ghost use Rattle.std.specs.Prelude.{◌≡◌, map};
 ghost use Rattle.hwdb_spec.specs.FormTable;
 ghost use Rattle.hwdb_forms.specs.Internal.{form_of};
 
-use crate::pieces::Form;
+use crate::pieces::FormRow;
 use crate::pieces::Piece::{Counted, Fixed, Repeated};
 use hwdb_spec::ByteSet::{
     Any, AnyHex, Dmi, DmiLeft, HexOrBlank, InputBits, Left, LeftButColon, LowerHex, Name, Names,
     Units, UpperHex,
 };
 
-fn usb() -> Form
+fn usb() -> FormRow
     ensures { form_of result ≡ FormTable.usb }
 {
-    Form {
+    FormRow {
         prefix: b"usb:",
         fields: &[
             &[&[
@@ -47,10 +47,10 @@ fn usb() -> Form
     }
 }
 
-fn pci() -> Form
+fn pci() -> FormRow
     ensures { form_of result ≡ FormTable.pci }
 {
-    Form {
+    FormRow {
         prefix: b"pci:",
         fields: &[&[&[
             Fixed(b"v"),
@@ -71,10 +71,10 @@ fn pci() -> Form
     }
 }
 
-fn bluetooth() -> Form
+fn bluetooth() -> FormRow
     ensures { form_of result ≡ FormTable.bluetooth }
 {
-    Form {
+    FormRow {
         prefix: b"bluetooth:",
         fields: &[
             &[&[
@@ -88,19 +88,19 @@ fn bluetooth() -> Form
     }
 }
 
-fn acpi() -> Form
+fn acpi() -> FormRow
     ensures { form_of result ≡ FormTable.acpi }
 {
-    Form {
+    FormRow {
         prefix: b"acpi:",
         fields: &[&[&[Repeated(Names), Fixed(b":")], &[]]],
     }
 }
 
-fn dmi() -> Form
+fn dmi() -> FormRow
     ensures { form_of result ≡ FormTable.dmi }
 {
-    Form {
+    FormRow {
         prefix: b"dmi:",
         fields: &[
             &[&[Fixed(b"bvn"), Repeated(Dmi), Fixed(b":")], &[]],
@@ -124,10 +124,10 @@ fn dmi() -> Form
     }
 }
 
-fn evdev_input() -> Form
+fn evdev_input() -> FormRow
     ensures { form_of result ≡ FormTable.evdev_input }
 {
-    Form {
+    FormRow {
         prefix: b"evdev:",
         fields: &[&[&[
             Fixed(b"input:b"),
@@ -144,10 +144,10 @@ fn evdev_input() -> Form
     }
 }
 
-fn evdev_machine() -> Form
+fn evdev_machine() -> FormRow
     ensures { form_of result ≡ FormTable.evdev_machine }
 {
-    Form {
+    FormRow {
         prefix: b"evdev:",
         fields: &[
             &[&[Fixed(b"atkbd:dmi:")]],
@@ -171,19 +171,19 @@ fn evdev_machine() -> Form
     }
 }
 
-fn evdev_keyboard() -> Form
+fn evdev_keyboard() -> FormRow
     ensures { form_of result ≡ FormTable.evdev_keyboard }
 {
-    Form {
+    FormRow {
         prefix: b"evdev:",
         fields: &[&[&[Fixed(b"atkbd:")]]],
     }
 }
 
-fn evdev_name_machine() -> Form
+fn evdev_name_machine() -> FormRow
     ensures { form_of result ≡ FormTable.evdev_name_machine }
 {
-    Form {
+    FormRow {
         prefix: b"evdev:",
         fields: &[
             &[&[Fixed(b"name:"), Repeated(Left), Fixed(b":")]],
@@ -218,10 +218,10 @@ fn evdev_name_machine() -> Form
     }
 }
 
-fn evdev_name() -> Form
+fn evdev_name() -> FormRow
     ensures { form_of result ≡ FormTable.evdev_name }
 {
-    Form {
+    FormRow {
         prefix: b"evdev:",
         fields: &[
             &[&[Fixed(b"name:"), Repeated(Left), Fixed(b":")]],
@@ -239,10 +239,10 @@ fn evdev_name() -> Form
     }
 }
 
-fn id_input() -> Form
+fn id_input() -> FormRow
     ensures { form_of result ≡ FormTable.id_input }
 {
-    Form {
+    FormRow {
         prefix: b"id-input:",
         fields: &[&[&[
             Fixed(b"modalias:"),
@@ -260,10 +260,10 @@ fn id_input() -> Form
     }
 }
 
-fn id_input_name() -> Form
+fn id_input_name() -> FormRow
     ensures { form_of result ≡ FormTable.id_input_name }
 {
-    Form {
+    FormRow {
         prefix: b"id-input:",
         fields: &[
             &[&[Repeated(Name), Fixed(b":")]],
@@ -278,10 +278,10 @@ fn id_input_name() -> Form
     }
 }
 
-fn mouse() -> Form
+fn mouse() -> FormRow
     ensures { form_of result ≡ FormTable.mouse }
 {
-    Form {
+    FormRow {
         prefix: b"mouse:",
         fields: &[
             &[
@@ -306,10 +306,10 @@ fn mouse() -> Form
     }
 }
 
-fn touchpad() -> Form
+fn touchpad() -> FormRow
     ensures { form_of result ≡ FormTable.touchpad }
 {
-    Form {
+    FormRow {
         prefix: b"touchpad:",
         fields: &[
             &[&[Repeated(Name), Fixed(b":")]],
@@ -324,10 +324,10 @@ fn touchpad() -> Form
     }
 }
 
-fn joystick() -> Form
+fn joystick() -> FormRow
     ensures { form_of result ≡ FormTable.joystick }
 {
-    Form {
+    FormRow {
         prefix: b"joystick:",
         fields: &[
             &[&[Repeated(Name), Fixed(b":")]],
@@ -342,10 +342,10 @@ fn joystick() -> Form
     }
 }
 
-fn camera() -> Form
+fn camera() -> FormRow
     ensures { form_of result ≡ FormTable.camera }
 {
-    Form {
+    FormRow {
         prefix: b"camera:",
         fields: &[
             &[&[
@@ -360,10 +360,10 @@ fn camera() -> Form
     }
 }
 
-fn sensor_machine() -> Form
+fn sensor_machine() -> FormRow
     ensures { form_of result ≡ FormTable.sensor_machine }
 {
-    Form {
+    FormRow {
         prefix: b"sensor:",
         fields: &[
             &[&[Repeated(Left), Fixed(b":")], &[]],
@@ -390,10 +390,10 @@ fn sensor_machine() -> Form
     }
 }
 
-fn sensor() -> Form
+fn sensor() -> FormRow
     ensures { form_of result ≡ FormTable.sensor }
 {
-    Form {
+    FormRow {
         prefix: b"sensor:",
         fields: &[
             &[&[Repeated(Left), Fixed(b":")], &[]],
@@ -403,10 +403,10 @@ fn sensor() -> Form
     }
 }
 
-fn battery_machine() -> Form
+fn battery_machine() -> FormRow
     ensures { form_of result ≡ FormTable.battery_machine }
 {
-    Form {
+    FormRow {
         prefix: b"battery:",
         fields: &[
             &[&[
@@ -436,10 +436,10 @@ fn battery_machine() -> Form
     }
 }
 
-fn battery() -> Form
+fn battery() -> FormRow
     ensures { form_of result ≡ FormTable.battery }
 {
-    Form {
+    FormRow {
         prefix: b"battery:",
         fields: &[&[&[
             Repeated(LeftButColon),
@@ -450,10 +450,10 @@ fn battery() -> Form
     }
 }
 
-fn libwacom() -> Form
+fn libwacom() -> FormRow
     ensures { form_of result ≡ FormTable.libwacom }
 {
-    Form {
+    FormRow {
         prefix: b"libwacom:",
         fields: &[
             &[&[Fixed(b"name:"), Repeated(Left), Fixed(b":")]],
@@ -473,10 +473,10 @@ fn libwacom() -> Form
     }
 }
 
-fn ieee1394_node() -> Form
+fn ieee1394_node() -> FormRow
     ensures { form_of result ≡ FormTable.ieee1394_node }
 {
-    Form {
+    FormRow {
         prefix: b"ieee1394:",
         fields: &[
             &[&[Fixed(b"node:ven0x"), Counted(LowerHex, 6)]],
@@ -486,10 +486,10 @@ fn ieee1394_node() -> Form
     }
 }
 
-fn ieee1394_unit() -> Form
+fn ieee1394_unit() -> FormRow
     ensures { form_of result ≡ FormTable.ieee1394_unit }
 {
-    Form {
+    FormRow {
         prefix: b"ieee1394:",
         fields: &[&[&[
             Fixed(b"ven"),
@@ -504,28 +504,28 @@ fn ieee1394_unit() -> Form
     }
 }
 
-fn oui() -> Form
+fn oui() -> FormRow
     ensures { form_of result ≡ FormTable.oui }
 {
-    Form {
+    FormRow {
         prefix: b"OUI:",
         fields: &[&[&[Counted(UpperHex, 12)]]],
     }
 }
 
-fn net() -> Form
+fn net() -> FormRow
     ensures { form_of result ≡ FormTable.net }
 {
-    Form {
+    FormRow {
         prefix: b"net:",
         fields: &[&[&[Fixed(b"naming:dr"), Repeated(Any), Fixed(b":")]]],
     }
 }
 
-fn sdio() -> Form
+fn sdio() -> FormRow
     ensures { form_of result ≡ FormTable.sdio }
 {
-    Form {
+    FormRow {
         prefix: b"sdio:",
         fields: &[&[&[
             Fixed(b"c"),
@@ -538,19 +538,19 @@ fn sdio() -> Form
     }
 }
 
-fn vmbus() -> Form
+fn vmbus() -> FormRow
     ensures { form_of result ≡ FormTable.vmbus }
 {
-    Form {
+    FormRow {
         prefix: b"vmbus:",
         fields: &[&[&[Counted(LowerHex, 32)]]],
     }
 }
 
-fn fb() -> Form
+fn fb() -> FormRow
     ensures { form_of result ≡ FormTable.fb }
 {
-    Form {
+    FormRow {
         prefix: b"fb:",
         fields: &[&[
             &[
@@ -583,19 +583,19 @@ fn fb() -> Form
     }
 }
 
-fn tpm2() -> Form
+fn tpm2() -> FormRow
     ensures { form_of result ≡ FormTable.tpm2 }
 {
-    Form {
+    FormRow {
         prefix: b"tpm2:",
         fields: &[&[&[Repeated(Any)]]],
     }
 }
 
-fn block() -> Form
+fn block() -> FormRow
     ensures { form_of result ≡ FormTable.block }
 {
-    Form {
+    FormRow {
         prefix: b"block:",
         fields: &[&[&[
             Repeated(Any),
@@ -608,90 +608,9 @@ fn block() -> Form
     }
 }
 
-/// A form of which nothing is said but how it begins.
-pub(crate) fn free(prefix: &'static [u8]) -> Form
-    ensures { form_of result ≡ FormTable.free prefix.now }
-{
-    Form {
-        prefix,
-        fields: &[&[&[Repeated(Any)]]],
-    }
-}
-
-/// The prefixes of these.
-#[tactic(auto, unfolding(hwdb_spec::specs::FormTable::free_prefixes))]
-pub(crate) fn free_prefixes() -> &'static [&'static [u8]]
-    ensures { map (λ prefix. prefix.now) result.now ≡ FormTable.free_prefixes }
-{
-    &[
-        b"hid:",
-        b"input:",
-        b"virtio:",
-        b"i2c:",
-        b"i3c:",
-        b"platform:",
-        b"of:",
-        b"serio:",
-        b"spi:",
-        b"hdaudio:",
-        b"wmi:",
-        b"scsi:",
-        b"pnp:",
-        b"ssb:",
-        b"bcma:",
-        b"pcmcia:",
-        b"mei:",
-        b"rmi:",
-        b"typec:",
-        b"mdio:",
-        b"cpu:",
-        b"tbsvc:",
-        b"xen:",
-        b"xen-backend:",
-        b"auxiliary:",
-        b"sdw:",
-        b"mmc:",
-        b"rpmsg:",
-        b"ccw:",
-        b"ap:",
-        b"css:",
-        b"vio:",
-        b"amba:",
-        b"parisc:",
-        b"zorro:",
-        b"eisa:",
-        b"ipack:",
-        b"mcb:",
-        b"mhi:",
-        b"ulpi:",
-        b"fsl-mc:",
-        b"ssam:",
-        b"ishtp:",
-        b"dfl:",
-        b"tee:",
-        b"coreboot:",
-        b"cxl:",
-        b"nd:",
-        b"dax:",
-        b"slim:",
-        b"apr:",
-        b"hsi:",
-        b"ac97:",
-        b"cdx:",
-        b"vchiq:",
-        b"rapidio:",
-        b"nubus:",
-        b"peci:",
-        b"moxtet:",
-        b"siox:",
-        b"scmi_protocol:",
-        b"maple:",
-    ]
-}
-
 /// The forms that say more.
 #[tactic(auto, unfolding(hwdb_spec::specs::FormTable::known))]
-pub(crate) fn known() -> [Form; 30]
+pub(crate) fn known() -> [FormRow; 30]
     ensures { map form_of result ≡ map (λ k. k.form) FormTable.known }
 {
     [
@@ -725,106 +644,5 @@ pub(crate) fn known() -> [Form; 30]
         fb(),
         tpm2(),
         block(),
-    ]
-}
-
-/// How the texts of all forms begin.
-#[tactic(auto, unfolding(hwdb_spec::specs::FormTable::known, hwdb_spec::specs::FormTable::free_prefixes))]
-pub(crate) fn prefixes() -> &'static [&'static [u8]]
-    ensures { map (λ prefix. prefix.now) result.now ≡ FormTable.prefixes }
-{
-    &[
-        b"usb:",
-        b"pci:",
-        b"bluetooth:",
-        b"acpi:",
-        b"dmi:",
-        b"evdev:",
-        b"evdev:",
-        b"evdev:",
-        b"evdev:",
-        b"evdev:",
-        b"id-input:",
-        b"id-input:",
-        b"mouse:",
-        b"touchpad:",
-        b"joystick:",
-        b"camera:",
-        b"sensor:",
-        b"sensor:",
-        b"battery:",
-        b"battery:",
-        b"libwacom:",
-        b"ieee1394:",
-        b"ieee1394:",
-        b"OUI:",
-        b"net:",
-        b"sdio:",
-        b"vmbus:",
-        b"fb:",
-        b"tpm2:",
-        b"block:",
-        b"hid:",
-        b"input:",
-        b"virtio:",
-        b"i2c:",
-        b"i3c:",
-        b"platform:",
-        b"of:",
-        b"serio:",
-        b"spi:",
-        b"hdaudio:",
-        b"wmi:",
-        b"scsi:",
-        b"pnp:",
-        b"ssb:",
-        b"bcma:",
-        b"pcmcia:",
-        b"mei:",
-        b"rmi:",
-        b"typec:",
-        b"mdio:",
-        b"cpu:",
-        b"tbsvc:",
-        b"xen:",
-        b"xen-backend:",
-        b"auxiliary:",
-        b"sdw:",
-        b"mmc:",
-        b"rpmsg:",
-        b"ccw:",
-        b"ap:",
-        b"css:",
-        b"vio:",
-        b"amba:",
-        b"parisc:",
-        b"zorro:",
-        b"eisa:",
-        b"ipack:",
-        b"mcb:",
-        b"mhi:",
-        b"ulpi:",
-        b"fsl-mc:",
-        b"ssam:",
-        b"ishtp:",
-        b"dfl:",
-        b"tee:",
-        b"coreboot:",
-        b"cxl:",
-        b"nd:",
-        b"dax:",
-        b"slim:",
-        b"apr:",
-        b"hsi:",
-        b"ac97:",
-        b"cdx:",
-        b"vchiq:",
-        b"rapidio:",
-        b"nubus:",
-        b"peci:",
-        b"moxtet:",
-        b"siox:",
-        b"scmi_protocol:",
-        b"maple:",
     ]
 }
