@@ -3,6 +3,7 @@ mod calls;
 mod compiling;
 mod entered;
 mod errors;
+mod nearest;
 mod patterns;
 mod refusals;
 mod sinks;
