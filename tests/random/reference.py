@@ -6,6 +6,7 @@ dictionaries, recursion. `tests/random/random` runs the program beside it. Nothi
 Texts are `bytes` and are ordered by their bytes, a proper prefix first, which is how Python orders them.
 """
 import json
+import re
 import struct
 import sys
 from collections import namedtuple
@@ -725,6 +726,38 @@ def checked(files, strict):
     words = [b"file", b"assignment", b"fault", b"warning"]
     printed += b", ".join(counted(number, word) for number, word in zip(counts, words)) + b"\n"
     return printed, 1 if counts[2] or strict and counts[3] else 0
+
+
+# What `check` says of patterns that match no string that udev asks, and of properties that don't fit: this reference doesn't know it.
+UNKNOWN = (
+    b"no string that udev asks goes on like this",
+    b"no string that udev asks begins like this",
+    b"a property that nothing is known to read",
+    b"a code that isn't lower-case hexadecimal",
+    b"a key that isn't known",
+    b"a value that its property doesn't take",
+)
+
+
+def known_of(out, status, strict):
+    """What `check` printed but for these warnings, and the status that it would have without them; or None if they don't add up."""
+    kept, left_out, is_left_out = [], 0, False
+    *lines, last = out.split(b"\n")[:-1] or [b""]
+    for line in lines:
+        if not line.startswith(b"    "):
+            is_left_out = line.endswith(tuple(b": warning: " + text for text in UNKNOWN))
+            left_out += is_left_out
+        if not is_left_out:
+            kept.append(line)
+    counts = re.fullmatch(rb"(.*, (\d+) faults?, )(\d+) warnings?", last)
+    if not counts:
+        return None
+    faults, warnings = int(counts[2]), int(counts[3])
+    if status != (1 if faults or strict and warnings else 0) or warnings < left_out:
+        return None
+    warnings -= left_out
+    kept.append(counts[1] + counted(warnings, b"warning"))
+    return b"\n".join(kept) + b"\n", 1 if faults or strict and warnings else 0
 
 
 # What `update --verbose` says before the fault lines.
