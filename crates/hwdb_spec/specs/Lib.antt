@@ -41,3 +41,5 @@ pub mod Library
 pub mod Hiding
 pub mod Done
 pub mod Near
+pub mod Sysfs
+pub mod DeviceTree

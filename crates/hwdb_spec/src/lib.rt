@@ -48,6 +48,8 @@
 //! | `Hiding` | what `update --usr --verbose` says where /etc's database hides the new one |
 //! | `Done` | what `update` and `ask` leave, and what a crash leaves during an update |
 //! | `Near` | the pattern that almost matched a device, and where it stopped |
+//! | `Sysfs` | what sysfs holds of a device and its parents, and how udev reads it |
+//! | `DeviceTree` | where sysfs has a device, and what is read of it and its parents |
 //!
 //! The types below are those that the definitions name.
 #![tactic(auto)]

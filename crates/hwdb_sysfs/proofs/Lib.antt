@@ -1,0 +1,3 @@
+mod PieceLemmas
+mod NameLemmas
+mod ChainLemmas

@@ -1,0 +1,4 @@
+pub mod Answers
+pub mod Views
+pub mod Finding
+pub mod Internal

@@ -1,0 +1,29 @@
+//! From a path to the description of a device: what sysfs holds of it and of its parents.
+//!
+//! | Module | What it does |
+//! |---|---|
+//! | `device` | a device, its parents, and their attributes |
+//! | `files` | what a file system answers of devices |
+//! | `answers` | what is made of these answers: a place, a text, names |
+//! | `paths` | names and folders of a path |
+//! | `names` | the names in a folder; `pieces`: a text, cut at a byte
+//! | `reading` | a device and its parents, as sysfs has them |
+//! | `finding` | the device that is meant by a path or a name |
+//! | `listing` | all devices |
+#![tactic(auto)]
+
+mod answers;
+mod device;
+mod files;
+mod finding;
+mod listing;
+mod names;
+mod paths;
+mod pieces;
+mod reading;
+
+pub use device::{Ancestor, Attribute, Device};
+pub use files::{DeviceFiles, Node};
+pub use finding::{Unfound, find_device, sysfs_below};
+pub use listing::list_devices;
+pub use reading::read_device;
