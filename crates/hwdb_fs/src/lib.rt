@@ -8,18 +8,18 @@
 //! | `laws` | which of the chosen files an error names
 //! | `files` | files and folders: the file system that the runtime reaches |
 //! | `raw` | what a file system answers to what reading asks; `reads`: what is made of these answers; `read_laws`: laws of that; `one_file`: answers for tests |
-//! | `links` | what a file system answers of links and of devices' nodes
+//! | `devices` | the file system as it is asked for devices |
 //! | `parts` | new files of updates: whose they are, and what killed updates left |
 //! | `roots` | where a path below a root leads; `place` is such a place |
 //! | `memory` | a store in memory as such a system, for tests |
 //! | `refusals` | the line of each refusal |
 #![tactic(auto)]
 
+mod devices;
 mod files;
 mod folders;
 mod laws;
 mod left_out;
-mod links;
 mod memory;
 mod one_file;
 mod parts;
@@ -36,7 +36,6 @@ pub use files::{SystemStore, joined, path_in};
 pub use folders::{Selection, selected, with_texts};
 pub use laws::first_long_file_is_named;
 pub use left_out::{ReadableSelection, name_set, selected_readable};
-pub use links::{LinkedFiles, Node, PAGE};
 pub use one_file::OneFile;
 pub use parts::Lockable;
 pub use raw::{Kind, RawFiles, StdFiles, Unread};

@@ -1,6 +1,6 @@
 -- What a file system answers of devices, and what is made of that: what can't be told is as if it weren't there, as udev takes it
 -- (sd-device).
-use Rattle.std.specs.Prelude.{◌≡◌, ◌⊎◌, ℕ, List, [], Bool, true, Option, Some, None, Result, Ok, Err, MatchResult, if◌then◌else◌}
+use Rattle.std.specs.Prelude.{◌≡◌, ◌⊎◌, ℕ, List, [], Bool, true, Option, Some, None, Result, Ok, Err, MatchResult}
 use Rattle.std.specs.Option.{option_map_or}
 use Rattle.hwdb_spec.specs.Lines.{is, pieces}
 use Rattle.hwdb_spec.specs.DeviceTree.{Node, Sight}
@@ -38,7 +38,8 @@ node_if (Err cause) = None
 -- what is seen of devices
 abbrev pub seen : Answers → Sight
 seen a = record {
-    place = λ path. told (a.real path);
-    text = λ place. text_if (a.file place) (a.page place);
-    names = λ place. option_map_or (pieces (is 0)) (told (a.listing place)) [];
-    node = λ place. node_if (a.node place) }
+  place = λ path. told (a.real path);
+  text = λ place. text_if (a.file place) (a.page place);
+  names = λ place. option_map_or (pieces (is 0)) (told (a.listing place)) [];
+  node = λ place. node_if (a.node place);
+}

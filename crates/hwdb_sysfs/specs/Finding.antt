@@ -2,7 +2,6 @@
 use Rattle.std.specs.Prelude.{◌≡◌, ℕ, List, ◌++◌, None, true, Err, is_some}
 use Rattle.hwdb_spec.specs.DeviceTree.{absolute, device_for}
 use Rattle.hwdb_spec.specs.Lines.{byte, has}
-use Rattle.hwdb_io.specs.declared.causes.Cause.{Cause}
 use Rattle.hwdb_sysfs.specs.Answers.{Answers, seen}
 use Rattle.hwdb_sysfs.specs.declared.finding.Unfound.{Unfound}
 use Rattle.hwdb_sysfs.specs.declared.finding.Unfound.TheVariants.{Memory, NoSysfs, Unread, NoDevice}

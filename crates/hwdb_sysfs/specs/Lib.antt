@@ -2,3 +2,4 @@ pub mod Answers
 pub mod Views
 pub mod Finding
 pub mod Internal
+pub mod Tables

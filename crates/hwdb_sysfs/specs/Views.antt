@@ -1,5 +1,5 @@
 -- What the types of this crate mean.
-use Rattle.std.specs.Prelude.{List, ℕ, map}
+use Rattle.std.specs.Prelude.{map}
 use Rattle.hwdb_spec.specs.DeviceTree.{Node}
 use Rattle.hwdb_spec.specs.Sysfs.{Ancestor, Attribute, Device}
 use Rattle.hwdb_sysfs.specs.declared.device.Ancestor.{Ancestor as Read}
@@ -14,12 +14,13 @@ attribute_of a = record { name = a.name.items; value = a.value.items }
 -- a device or a parent
 abbrev pub ancestor_of : Read → Ancestor
 ancestor_of a = record {
-    path = a.path.items;
-    name = a.name.items;
-    subsystem = a.subsystem.items;
-    driver = a.driver.items;
-    uevent = a.uevent.items;
-    attributes = map attribute_of a.attributes.items }
+  path = a.path.items;
+  name = a.name.items;
+  subsystem = a.subsystem.items;
+  driver = a.driver.items;
+  uevent = a.uevent.items;
+  attributes = map attribute_of a.attributes.items;
+}
 
 -- a device with its parents
 abbrev pub device_of : ReadDevice → Device

@@ -281,7 +281,11 @@ fn node_of_path<F: DeviceFiles>(
 fn node_path(alloc: Global, sys: &[u8], node: Node) -> Result<Vec<u8>, AllocError>
     ensures { IfOk result (λ path. path.items ≡ tree.node_path sys.now (node_of node)) }
 {
-    let front = if node.block { b"/dev/block/".as_slice() } else { b"/dev/char/".as_slice() };
+    let front = if node.block {
+        b"/dev/block/".as_slice()
+    } else {
+        b"/dev/char/".as_slice()
+    };
     let mut path = joined(alloc, sys, front)?;
     let mut digits = itoa::Buffer::new();
     path.extend_from_slice(digits.format(node.number / 256 % 4096).as_bytes())?;
@@ -303,7 +307,8 @@ pub fn find_device<F: DeviceFiles>(
     given: &[u8],
 ) -> Result<Vec<u8>, Unfound>
     ensures found { F.tells → IfOk result (λ place.
-        tree.device_for (seen (F.answers files.now)) root.now sys.now given.now ≡ Some place.items) }
+        tree.device_for (seen (F.answers files.now)) root.now sys.now given.now
+        ≡ Some place.items) }
     ensures unfound { F.tells → IfErr result
         (IsUnfound (F.answers files.now) root.now sys.now given.now) }
 {

@@ -10,6 +10,7 @@
 //! | `reading` | a device and its parents, as sysfs has them |
 //! | `finding` | the device that is meant by a path or a name |
 //! | `listing` | all devices |
+//! | `table` | a tree in memory, for laws and tests |
 #![tactic(auto)]
 
 mod answers;
@@ -21,9 +22,11 @@ mod names;
 mod paths;
 mod pieces;
 mod reading;
+mod table;
 
 pub use device::{Ancestor, Attribute, Device};
 pub use files::{DeviceFiles, Node};
 pub use finding::{Unfound, find_device, sysfs_below};
 pub use listing::list_devices;
 pub use reading::read_device;
+pub use table::{Row, Table, Thing};

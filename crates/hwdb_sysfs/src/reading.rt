@@ -20,11 +20,7 @@ use std::alloc::{AllocError, Global};
 const MACHINE: &[u8] = b"/class/dmi/id/modalias";
 
 /// The last name of what a path leads to; empty if it leads nowhere.
-fn target_name<F: DeviceFiles>(
-    alloc: Global,
-    files: &F,
-    path: &[u8],
-) -> Result<Vec<u8>, AllocError>
+fn target_name<F: DeviceFiles>(alloc: Global, files: &F, path: &[u8]) -> Result<Vec<u8>, AllocError>
     ensures { F.tells → IfOk result (λ name. name.items
         ≡ tree.target_name (seen (F.answers files.now)) path.now) }
 {
@@ -256,7 +252,8 @@ pub fn read_device<F: DeviceFiles>(
     place: &[u8],
 ) -> Result<Device, AllocError>
     ensures { F.tells → IfOk result (λ device. device_of device
-        ≡ tree.device_at (seen (F.answers files.now)) (pieces (is 10) names.now) sys.now place.now) }
+        ≡ tree.device_at (seen (F.answers files.now)) (pieces (is 10) names.now)
+        sys.now place.now) }
 {
     Ok(Device {
         chain: chain_at(alloc, files, names, sys, place)?,

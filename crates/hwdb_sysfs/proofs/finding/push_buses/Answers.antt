@@ -10,6 +10,6 @@ returns g c = λ tells.
     let sight = seen (g.F.DeviceFiles.answers c.args.files.now) in
     let folder = c.in_ok-buses.buses.items in
     let are : map items c.deref-bus-items.result.now ≡ names_in sight folder =
-        ap (map items) c.deref-bus-items.ensures.value ∙ c.in_ok-names.ensures tells ∙ ap (names_in sight) c.deref.ensures.value in
+    ap (map items) c.deref-bus-items.ensures.value ∙ c.in_ok-names.ensures tells ∙ ap (names_in sight) c.deref.ensures.value in
     named_all (λ bus. path_in folder bus ++ codes "/devices") c.deref-bus-items.result.now _ _ _ _ c.loop-bus-test.false c.loop-bus.invariant are
     ∙ ap (λ (f : List ℕ). map items c.args.folders.now.items ++ map (λ bus. path_in f bus ++ codes "/devices") (names_in sight f)) c.in_ok-buses.ensures

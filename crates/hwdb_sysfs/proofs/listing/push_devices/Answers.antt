@@ -1,4 +1,4 @@
-use Rattle.std.proofs.Common.{ap, map, sym, List, ◌++◌, [], ℕ, ◌∙◌}
+use Rattle.std.proofs.Common.{ap, map, List, ◌++◌, [], ℕ, ◌∙◌}
 use Rattle.std.specs.List.{cons_option}
 use Rattle.hwdb_spec.specs.DeviceTree.{device_of_path}
 use Rattle.hwdb_spec.specs.Store.{path_in}
@@ -13,7 +13,7 @@ loop-name-preserved g c = λ tells.
     (map items c.args.devices.now.items) (map items c.loop-name.devices.items) _ c.loop-name-test.true c.name-item.is (c.loop-name.invariant tells)
     (c.in_ok-push_device.ensures tells
     ∙ ap (λ (p : List ℕ). map items c.loop-name.devices.items ++ cons_option (device_of_path sight c.args.sys.now p) [])
-        (c.deref-in-loop-name.ensures.value ∙ c.in_ok-path.ensures ∙ ap (path_in c.args.folder.now) c.deref.ensures.value))
+    (c.deref-in-loop-name.ensures.value ∙ c.in_ok-path.ensures ∙ ap (path_in c.args.folder.now) c.deref.ensures.value))
 
 pub returns : goal.returns
 returns g c = λ tells.

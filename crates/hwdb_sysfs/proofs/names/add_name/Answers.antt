@@ -1,4 +1,4 @@
-use Rattle.std.proofs.Common.{◌≡◌, Global, List, Vec, map, refl, ap, ◌∙◌, ℕ}
+use Rattle.std.proofs.Common.{Global, List, Vec, map, refl, ap, ◌∙◌, ℕ}
 use Rattle.hwdb_spec.specs.Assignment.{put, text_cmp}
 use Rattle.hwdb_sysfs.proofs.NameLemmas.{name_put}
 use Rattle.hwdb_sysfs.proofs.names.add_name.Goals as goal

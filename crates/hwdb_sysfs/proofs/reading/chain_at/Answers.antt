@@ -1,4 +1,4 @@
-use Rattle.std.proofs.Common.{arith, ap, map, List, ℕ, ◌++◌, [], ◌∙◌, ◌-◌}
+use Rattle.std.proofs.Common.{arith, ap, map, List, ◌++◌, [], ◌∙◌, ◌-◌}
 use Rattle.std.specs.List.{cons_option}
 use Rattle.hwdb_spec.specs.DeviceTree.{ancestor_below}
 use Rattle.hwdb_spec.specs.Lines.{is, pieces}
