@@ -35,7 +35,7 @@ abbrev differ : Text → List Rule → Bool
 differ id rules = list_all (λ b. not (bytes_eq b.id id)) rules
 
 -- one of them has it at most
-once : Text → List Rule → Bool
+abbrev once : Text → List Rule → Bool
 once id [] = true
 once id (b ∷ bs) = cond (bytes_eq b.id id) (differ id bs) (once id bs)
 
