@@ -1,6 +1,6 @@
 //! Texts in colour.
-ghost use Rattle.std.specs.Prelude.{◌≡◌, ◌++◌, IfOk, OnOk};
-ghost use Rattle.hwdb_spec.specs.Colours.{at, first_part, is_same, next_part, painted, part_at, part_in_line, plain, sequence, style_of, styled, turn};
+ghost use Rattle.std.specs.Prelude.{◌≡◌, ◌≢◌, ◌++◌, ℕ, All, List, IfOk, OnOk, false};
+ghost use Rattle.hwdb_spec.specs.Colours.{at, first_part, is_same, next_part, painted, part_at, part_in_line, plain, sequence, style_of, styled, turn, without_sequences};
 
 use hwdb_spec::{LinePart, Style, TextKind};
 use std::alloc::{AllocError, Global};
@@ -138,3 +138,12 @@ pub fn painted(alloc: Global, kind: TextKind, text: &[u8]) -> Result<Vec<u8>, Al
     push_turn(&mut shown, style_of(before), Style::Plain)?;
     Ok(shown)
 }
+
+/// Colours add nothing to a text and take nothing from it: the bytes that get styles are those of the text. Taken out
+/// again, the sequences leave it as it was, if it has none of its own. A text of the kind `Plain` gets none.
+pub fn colours_are_taken_out()
+    ensures bytes { (kind : TextKind) (text : List ℕ) → plain (styled kind text) ≡ text }
+    ensures out { (kind : TextKind) (text : List ℕ) → All (λ b. b ≢ 27) text
+        → without_sequences false (painted kind text) ≡ text }
+    ensures plain { (text : List ℕ) → painted TextKind.Plain text ≡ text }
+{}

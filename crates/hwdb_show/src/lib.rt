@@ -11,6 +11,6 @@ mod colours;
 mod json_values;
 mod shown;
 
-pub use colours::painted;
+pub use colours::{colours_are_taken_out, painted};
 pub use json_values::{ended, put_bytes, put_count, put_flag, put_member, put_number, put_text};
 pub use shown::{push_byte, push_mark_line, push_shown, push_shown_line};
