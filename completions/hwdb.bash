@@ -24,6 +24,7 @@ _hwdb_value() {
                 sed '/^input:/{p; s/^/evdev:/}' | LC_ALL=C sort -u)
             __ltrim_colon_completions "$cur"
             ;;
+        *) mapfile -t COMPREPLY < <(compgen -W "${kinds_of[$1]-}" -- "$cur") ;;
     esac
 }
 

@@ -40,7 +40,7 @@ one_limit (Some text) (Some a) None one two = absurd two
 one_limit (Some text) (Some a) (Some b) one two = ap Some (one.1 ∙ sym two.1)
 
 -- a task's word
-word_of : Task → Text
+abbrev word_of : Task → Text
 word_of (Update verbose skip) = codes "update"
 word_of (Query devices json) = codes "query"
 word_of (Explain device json) = codes "explain"
