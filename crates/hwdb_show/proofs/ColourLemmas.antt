@@ -1,9 +1,9 @@
 -- Colours are taken out again.
-use Rattle.std.proofs.Common.{◌≡◌, ◌≢◌, ◌∙◌, ◌++◌, ◌∷◌, [], All, Bool, List, ap, false, map, ne_eqb, refl, sym, true, ℕ}
+use Rattle.std.proofs.Common.{◌≡◌, ◌≢◌, ◌∙◌, ◌++◌, ◌∷◌, [], All, Bool, List, ap, false, ne_eqb, refl, sym, true, ℕ}
 use Rattle.std.specs.Prelude.{◌==◌, if◌then◌else◌}
 use Rattle.std.proofs.lemmas.List.{append-nil}
 use Rattle.std.proofs.lemmas.List.Elements.{All-head, All-tail}
-use Rattle.hwdb_spec.specs.Colours.{is_same, painted, painted_after, part_at, plain, sequence, style_of, styled, styled_after, turn, without_sequences}
+use Rattle.hwdb_spec.specs.Colours.{is_same, painted_after, part_at, plain, sequence, style_of, styled_after, turn, without_sequences}
 use Rattle.hwdb_spec.specs.declared.colours.LinePart.{LinePart}
 use Rattle.hwdb_spec.specs.declared.colours.LinePart.TheVariants as part
 use Rattle.hwdb_spec.specs.declared.colours.Style.{Style}
