@@ -63,13 +63,11 @@ rest_none_takes t device bytes least count b none n c = go (takes t device n) re
         let size : k < length bytes = in_bytes t device bytes least count n b bounds.0 bounds.1 e in
         ap (takes t device) (omega (arith, bounds.0)) ∙ byte_there t device bytes least count k b size ∙ none k (omega arith) size
 
-pub rest_some_takes : (t : Token) (device bytes : List ℕ) (least count place : ℕ) → bytes ≡ take count (drop least device) → IsNext (admits_byte t) bytes 0 place
-    → NoneTakes t device (rest_lengths least count) → ⊥
-rest_some_takes t device bytes least count place b next none =
-    let within = next.within in
-    let in_count : place < count = omega (arith, within, ap length b, length-take count (drop least device)) in
-    let member : Contains (rest_lengths least count) (least + place) = rest_has least count (least + place) (omega arith) (omega (arith, in_count)) in
-    let w : true ≡ false = sym (byte_there t device bytes least count place b within ∙ next.here) ∙ none (least + place) member in cc
+pub rest_none_passes : (t : Token) (device bytes : List ℕ) (least count : ℕ) → bytes ≡ take count (drop least device) → NoneTakes t device (rest_lengths least count)
+    → NonePasses (admits_byte t) bytes 0
+rest_none_passes t device bytes least count b none k low h =
+    let in_count : k < count = omega (arith, h, ap length b, length-take count (drop least device)) in
+    sym (byte_there t device bytes least count k b h) ∙ none (least + k) (rest_has least count (least + k) (omega arith) (omega (arith, in_count)))
 
 -- the first place, and the next one
 
@@ -105,13 +103,10 @@ literal_next bytes at place e next = subst (λ u. IsNext (admits_byte u) bytes a
 pub literal_none : {t : Token} {byte : ℕ} (bytes : List ℕ) (at : ℕ) → t ≡ literal byte → NonePasses (λ b. b == byte) bytes at → NonePasses (admits_byte t) bytes at
 literal_none bytes at e none = subst (λ u. NonePasses (admits_byte u) bytes at) (sym e) none
 
--- what is gathered
+pub none_next : {p : ℕ → Bool} {bytes : List ℕ} {at place : ℕ} → IsNext p bytes at place → NonePasses p bytes 0 → ⊥
+none_next {place = place} next none = let w : true ≡ false = sym next.here ∙ none place (omega arith) next.within in cc
 
-pub gathers_none : (p : ℕ → Bool) (bytes : List ℕ) (least : ℕ) (lengths : List ℕ) → lengths ≡ [] → Gathers p bytes least 0 lengths
-gathers_none p bytes least lengths e = record {
-  from = λ n c. absurd (contains_none n (subst (λ l. Contains l n) e c));
-  into = λ k h f. absurd (omega arith);
-}
+-- what is gathered
 
 pub gathers_more : (p : ℕ → Bool) (bytes : List ℕ) (least at place : ℕ) (lengths more : List ℕ) → Gathers p bytes least at lengths → IsNext p bytes at place
     → more ≡ lengths ++ (least + (place + 1)) ∷ [] → Gathers p bytes least (place + 1) more
@@ -167,10 +162,6 @@ spread_rest least end h = omega arith
 pub none_of : (o : Option ℕ) (P : Type 0) → is_some o ≡ false → IfNone o P → P
 none_of None P e h = h
 none_of (Some n) P e h = cc
-
-pub some_of : (o : Option ℕ) (P : ℕ → Type 0) → is_some o ≡ true → IfSome o P → (n : ℕ) × P n
-some_of None P e h = cc
-some_of (Some n) P e h = (n, h)
 
 pub if_some_weaker : {T : Type 0} (o : Option T) (P Q : T → Type 0) → ((x : T) → P x → Q x) → IfSome o P → IfSome o Q
 if_some_weaker None P Q f h = tt

@@ -1,10 +1,11 @@
 //! Some lengths as a list, while they are few.
-ghost use Rattle.std.specs.Prelude.{◌≡◌, ◌≢◌, ◌<◌, ◌≤◌, ◌+◌, ◌^◌, ◌↔◌, [], length, slice_index, map, filter, All, Contains, true, false, IsTrue, IfSome, IfNone};
+ghost use Rattle.std.specs.Prelude.{◌≡◌, ◌≢◌, ◌<◌, ◌≤◌, ◌+◌, ◌^◌, ◌↔◌, [], length, slice_index, map, filter, All, Contains, true, false, IsTrue, IfOk, IsOk, IfSome, IfNone};
 ghost use Rattle.hwdb_spec.specs.Patterns.{token_at, literal};
 ghost use Rattle.hwdb_pattern.specs.Views.{takes, NoneTakes};
-ghost use Rattle.hwdb_pattern.specs.Internal.Prefixes.{Steps};
+ghost use Rattle.hwdb_pattern.specs.Internal.Prefixes.{Steps, stepped};
 
 use crate::places::{is_next, takes_next};
+use std::alloc::{AllocError, Global};
 
 /// Whether it is one of the lengths.
 pub(crate) fn has(lengths: &[usize], n: usize) -> bool
@@ -25,19 +26,26 @@ pub(crate) fn is_next_after(lengths: &[usize], device: &[u8], byte: u8) -> bool
     false
 }
 
-/// Whether the token at the beginning of the text takes the device's next byte after some of the lengths.
-pub(crate) fn takes_after(lengths: &[usize], device: &[u8], text: &[u8]) -> bool
+/// The lengths after one token that isn't a star, in a new list. If the token takes no byte, no memory is asked for.
+pub(crate) fn taken(
+    alloc: Global,
+    before: &[usize],
+    device: &[u8],
+    text: &[u8],
+) -> Result<Vec<usize>, AllocError>
     requires some { 0 < length text.now }
     requires no_star { slice_index text.now 0 ≢ 42 }
-    ensures none { result ≡ false → NoneTakes (token_at text.now) device.now lengths.now }
-    ensures some { result ≡ true → NoneTakes (token_at text.now) device.now lengths.now → ⊥ }
+    ensures stepped { IfOk result (λ after.
+        after.items ≡ stepped (token_at text.now) device.now before.now) }
+    ensures free { NoneTakes (token_at text.now) device.now before.now → IsOk result }
 {
-    for n in lengths {
+    let mut after = Vec::new(alloc);
+    for n in before {
         if takes_next(text, device, *n) {
-            return true;
+            after.push(*n + 1)?;
         }
     }
-    false
+    Ok(after)
 }
 
 /// The least of the lengths.

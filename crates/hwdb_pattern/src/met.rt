@@ -19,7 +19,7 @@ ghost use Rattle.hwdb_pattern.specs.Internal.Prefixes.{Spread, Steps, IsAfter, F
 ghost use Rattle.hwdb_pattern.specs.Internal.Met.{lengths_of};
 
 use crate::lengths::run_size;
-use crate::lists::{has, is_next_after, least_of, step, takes_after};
+use crate::lists::{has, is_next_after, least_of, step, taken};
 use crate::places::{bytes_after, is_next, takes_next};
 use crate::rests::Rest;
 use crate::tables::{first_place, has_admitted, has_byte, has_some, keep};
@@ -91,12 +91,31 @@ fn table_stepped(alloc: Global, table: Table, device: &[u8], text: &[u8]) -> Met
     }
 }
 
+/// As `table_stepped`, of a copy. If the token takes no byte, no memory is asked for.
+fn table_taken(alloc: Global, table: &Table, device: &[u8], text: &[u8]) -> Result<Met, AllocError>
+    requires some { 0 < length text.now }
+    requires no_star { slice_index text.now 0 ≢ 42 }
+    requires within { Within device.now (said table.now.least table.now.says.items) }
+    ensures steps { IfOk result (λ after. Steps (token_at text.now) device.now
+        (said table.now.least table.now.says.items) (lengths_of after)) }
+    ensures free { NoneTakes (token_at text.now) device.now
+        (said table.now.least table.now.says.items) → IsOk result }
+{
+    if !table.takes(device, text) {
+        return Ok(none(alloc));
+    }
+    let copied = table.copied(alloc, device.len())?;
+    Ok(table_stepped(alloc, copied, device, text))
+}
+
 /// The lengths after one token that isn't a star: a list if the token keeps few, else a table.
 fn rest_stepped(alloc: Global, rest: Rest, device: &[u8], text: &[u8]) -> Result<Met, AllocError>
     requires some { 0 < length text.now }
     requires no_star { slice_index text.now 0 ≢ 42 }
-    ensures { IfOk result (λ after. Steps (token_at text.now) device.now
+    ensures steps { IfOk result (λ after. Steps (token_at text.now) device.now
         (rest_lengths rest.least rest.count) (lengths_of after)) }
+    ensures free { NoneTakes (token_at text.now) device.now (rest_lengths rest.least rest.count)
+        → IsOk result }
 {
     if let Some(lengths) = rest.stepped(alloc, device, text)? {
         return Ok(of_list(lengths));
@@ -249,23 +268,6 @@ impl Met {
         }
     }
 
-    /// Whether the token at the beginning of the text takes the device's next byte after some of the lengths.
-    fn takes(&self, device: &[u8], text: &[u8]) -> bool
-        requires some { 0 < length text.now }
-        requires no_star { slice_index text.now 0 ≢ 42 }
-        ensures none { result ≡ false
-            → NoneTakes (token_at text.now) device.now (lengths_of self.now) }
-        ensures some { result ≡ true
-            → NoneTakes (token_at text.now) device.now (lengths_of self.now) → ⊥ }
-    {
-        match self {
-            Met::Lone(length) => takes_next(text, device, *length),
-            Met::Few(lengths) => takes_after(lengths, device, text),
-            Met::From(rest) => rest.takes(device, text),
-            Met::Many(table) => table.takes(device, text),
-        }
-    }
-
     /// The least length.
     fn least(&self, end: usize) -> Option<usize>
         requires room { end + 1 < 2 ^ 64 }
@@ -335,7 +337,34 @@ impl Met {
         }
     }
 
-    /// The lengths after the text's first token.
+    /// As `stepped`, and the lengths before stay as they are. If the token takes no byte, no memory is asked for.
+    fn taken(&self, alloc: Global, device: &[u8], text: &[u8]) -> Result<Met, AllocError>
+        requires some { 0 < length text.now }
+        requires no_star { slice_index text.now 0 ≢ 42 }
+        requires within { Within device.now (lengths_of self.now) }
+        ensures steps { IfOk result (λ after. Steps (token_at text.now) device.now
+            (lengths_of self.now) (lengths_of after)) }
+        ensures free { NoneTakes (token_at text.now) device.now (lengths_of self.now)
+            → IsOk result }
+    {
+        match self {
+            Met::Lone(length) => {
+                if takes_next(text, device, *length) {
+                    Ok(Met::Lone(*length + 1))
+                } else {
+                    Ok(none(alloc))
+                }
+            }
+            Met::Few(lengths) => {
+                let after = taken(alloc, lengths, device, text)?;
+                Ok(of_list(after))
+            }
+            Met::From(rest) => rest_stepped(alloc, *rest, device, text),
+            Met::Many(table) => table_taken(alloc, table, device, text),
+        }
+    }
+
+    /// The lengths after the text's first token. If that isn't a star and takes no byte, no memory is asked for.
     fn first_token(&self, alloc: Global, device: &[u8], text: &[u8]) -> Result<Met, AllocError>
         requires some { 0 < length text.now }
         requires within { Within device.now (lengths_of self.now) }
@@ -348,11 +377,7 @@ impl Met {
         if text[0] == b'*' {
             return Ok(self.after_star(alloc, device.len()));
         }
-        if !self.takes(device, text) {
-            return Ok(none(alloc));
-        }
-        let copied = self.copied(alloc, device.len())?;
-        copied.stepped(alloc, device, text)
+        self.taken(alloc, device, text)
     }
 
     /// The lengths after the text's first token.

@@ -1,7 +1,7 @@
 //! All lengths from a least one on: what a star leaves. They take no memory.
 //!
 //! The token that comes next keeps few of them, in most devices. So its places are looked for one after another.
-ghost use Rattle.std.specs.Prelude.{ℕ, ◌≡◌, ◌≢◌, ◌<◌, ◌≤◌, ◌+◌, ◌^◌, ◌==◌, ◌↔◌, [], length, slice_index, drop, take, All, Contains, true, false, IsTrue, IfOk, IfSome, IfNone};
+ghost use Rattle.std.specs.Prelude.{ℕ, ◌≡◌, ◌≢◌, ◌<◌, ◌≤◌, ◌+◌, ◌^◌, ◌==◌, ◌↔◌, [], length, slice_index, drop, take, All, Contains, true, false, IsTrue, IfOk, IsOkAnd, IsSome, IfSome, IfNone};
 ghost use Rattle.hwdb_spec.specs.Patterns.{admits_byte, token_at, literal};
 ghost use Rattle.hwdb_pattern.specs.Views.{NoneTakes};
 ghost use Rattle.hwdb_pattern.specs.Internal.Prefixes.{AreAdmitted, Steps};
@@ -116,9 +116,11 @@ fn gather(
     requires some { 0 < length text.now }
     requires no_star { slice_index text.now 0 ≢ 42 }
     requires room { least + length bytes.now < 2 ^ 64 }
-    ensures { IfOk result (λ found. IfSome found (λ lengths.
+    ensures gathered { IfOk result (λ found. IfSome found (λ lengths.
         Gathers (admits_byte (token_at text.now)) bytes.now least (length bytes.now)
         lengths.items)) }
+    ensures free { NonePasses (admits_byte (token_at text.now)) bytes.now 0
+        → IsOkAnd result IsSome }
 {
     let admitted = admitted_by(text, bytes.len());
     let mut lengths = Vec::new(alloc);
@@ -183,20 +185,6 @@ impl Rest {
         next_byte(self.bytes_of(device), 0, byte).is_some()
     }
 
-    /// Whether the token at the beginning of the text takes the device's next byte after some of the lengths.
-    pub(crate) fn takes(self, device: &[u8], text: &[u8]) -> bool
-        requires some { 0 < length text.now }
-        requires no_star { slice_index text.now 0 ≢ 42 }
-        ensures none { result ≡ false
-            → NoneTakes (token_at text.now) device.now (rest_lengths self.least self.count) }
-        ensures some { result ≡ true
-            → NoneTakes (token_at text.now) device.now (rest_lengths self.least self.count) → ⊥ }
-    {
-        let bytes = self.bytes_of(device);
-        let admitted = admitted_by(text, bytes.len());
-        next_place(bytes, 0, text, &admitted).is_some()
-    }
-
     /// The lengths after one token that isn't a star, as a list. None if they are more than `FEW`.
     pub(crate) fn stepped(
         self,
@@ -206,9 +194,11 @@ impl Rest {
     ) -> Result<Option<Vec<usize>>, AllocError>
         requires some { 0 < length text.now }
         requires no_star { slice_index text.now 0 ≢ 42 }
-        ensures { IfOk result (λ found. IfSome found (λ lengths.
+        ensures steps { IfOk result (λ found. IfSome found (λ lengths.
             Steps (token_at text.now) device.now (rest_lengths self.least self.count)
             lengths.items)) }
+        ensures free { NoneTakes (token_at text.now) device.now
+            (rest_lengths self.least self.count) → IsOkAnd result IsSome }
     {
         gather(alloc, self.least, self.bytes_of(device), text)
     }
