@@ -41,5 +41,6 @@ pub mod Library
 pub mod Hiding
 pub mod Done
 pub mod Near
+pub mod Colours
 pub mod Sysfs
 pub mod DeviceTree
