@@ -42,8 +42,9 @@ listing_by _ = Err Unknown
 -- the answers of such a tree
 abbrev pub answers_of : List Row → Answers
 answers_of rows = record {
-    real = λ path. real_by (row_at rows path);
-    node = λ place. by_thing node_by (row_at rows place);
-    file = λ place. by_thing file_by (row_at rows place);
-    page = λ place. by_thing page_by (row_at rows place);
-    listing = λ place. by_thing listing_by (row_at rows place) }
+  real = λ path. real_by (row_at rows path);
+  node = λ place. by_thing node_by (row_at rows place);
+  file = λ place. by_thing file_by (row_at rows place);
+  page = λ place. by_thing page_by (row_at rows place);
+  listing = λ place. by_thing listing_by (row_at rows place);
+}

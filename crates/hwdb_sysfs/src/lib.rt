@@ -10,6 +10,7 @@
 //! | `reading` | a device and its parents, as sysfs has them |
 //! | `finding` | the device that is meant by a path or a name |
 //! | `listing` | all devices |
+//! | `laws` | what is proved of the definitions alone |
 //! | `table` | a tree in memory, for laws and tests |
 #![tactic(auto)]
 
@@ -17,6 +18,7 @@ mod answers;
 mod device;
 mod files;
 mod finding;
+mod laws;
 mod listing;
 mod names;
 mod paths;
@@ -27,6 +29,7 @@ mod table;
 pub use device::{Ancestor, Attribute, Device};
 pub use files::{DeviceFiles, Node};
 pub use finding::{Unfound, find_device, sysfs_below};
+pub use laws::worked_rows;
 pub use listing::list_devices;
 pub use reading::read_device;
 pub use table::{Row, Table, Thing};

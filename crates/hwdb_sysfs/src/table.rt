@@ -76,7 +76,12 @@ impl DeviceFiles for Table {
 
     fn node_at(&self, place: &[u8]) -> Result<Option<Node>, Cause> {
         match self.row(place) {
-            Some(Row { thing: Thing::Node(node), .. }) => Ok(Some(*node)),
+            Some(
+                Row {
+                    thing: Thing::Node(node),
+                    ..
+                },
+            ) => Ok(Some(*node)),
             Some(_) => Ok(None),
             None => Err(Cause::Unknown),
         }
@@ -84,7 +89,12 @@ impl DeviceFiles for Table {
 
     fn is_file(&self, place: &[u8]) -> Result<bool, Cause> {
         match self.row(place) {
-            Some(Row { thing: Thing::File(_), .. }) => Ok(true),
+            Some(
+                Row {
+                    thing: Thing::File(_),
+                    ..
+                },
+            ) => Ok(true),
             Some(_) => Ok(false),
             None => Err(Cause::Unknown),
         }
@@ -92,14 +102,24 @@ impl DeviceFiles for Table {
 
     fn page_of(&self, alloc: Global, place: &[u8]) -> Result<Vec<u8>, Cause> {
         match self.row(place) {
-            Some(Row { thing: Thing::File(bytes), .. }) => copied(alloc, bytes),
+            Some(
+                Row {
+                    thing: Thing::File(bytes),
+                    ..
+                },
+            ) => copied(alloc, bytes),
             _ => Err(Cause::Unknown),
         }
     }
 
     fn listing_of(&self, alloc: Global, place: &[u8]) -> Result<Vec<u8>, Cause> {
         match self.row(place) {
-            Some(Row { thing: Thing::Folder(names), .. }) => copied(alloc, names),
+            Some(
+                Row {
+                    thing: Thing::Folder(names),
+                    ..
+                },
+            ) => copied(alloc, names),
             _ => Err(Cause::Unknown),
         }
     }
