@@ -1,7 +1,7 @@
 -- Worked rows over a small sysfs: a keyboard at its port, and a disk's node. What the definitions give when they are computed.
 use Rattle.std.specs.Prelude.{◌≡◌, ℕ, List, [], ◌∷◌, Option, Some, None, codes, find, map, option_map, false}
 use Rattle.std.specs.Option.{option_map_or}
-use Rattle.hwdb_spec.specs.DeviceTree.{Sight, all_devices, device_at, device_for, kernel_name, last_name, major, minor}
+use Rattle.hwdb_spec.specs.DeviceTree.{Node, Sight, all_devices, device_at, device_for, kernel_name, last_name, major, minor}
 use Rattle.hwdb_spec.specs.Folders.{same}
 
 -- what stands beside a text in a table
@@ -18,7 +18,7 @@ places =
     ∷ (codes "/sys/devices/port/event3/uevent", codes "/sys/devices/port/event3/uevent") ∷ (codes "/sys/devices/port/uevent", codes "/sys/devices/port/uevent")
     ∷ (codes "/sys/devices/port/event3/subsystem", codes "/sys/class/input") ∷ (codes "/sys/devices/port/driver", codes "/sys/bus/serio/drivers/atkbd")
     ∷ (codes "/sys/devices/port/name", codes "/sys/devices/port/name") ∷ (codes "/sys/class/dmi/id/modalias", codes "/sys/devices/dmi/modalias")
-    ∷ (codes "/dev/input/event3", codes "/dev/input/event3") ∷ (codes "/dev/disk", codes "/dev/disk") ∷ (codes "/sys/dev/char/13:67", codes "/sys/devices/port/event3") ∷ []
+    ∷ (codes "/dev/input/event3", codes "/dev/input/event3") ∷ (codes "/dev/disk", codes "/dev/disk") ∷ (codes "/dev/input/kbd", codes "/dev/input/kbd") ∷ (codes "/sys/dev/char/13:67", codes "/sys/devices/port/event3") ∷ []
 
 -- the texts of small files
 abbrev pub texts : List (List ℕ × List ℕ)
@@ -32,12 +32,17 @@ folders =
     (codes "/sys/class", codes "net" ∷ codes "input" ∷ []) ∷ (codes "/sys/bus", codes "serio" ∷ [])
     ∷ (codes "/sys/class/input", codes "event3" ∷ codes "mice" ∷ []) ∷ (codes "/sys/bus/serio/devices", codes "port" ∷ []) ∷ []
 
+-- the keyboard's node, 13:67
+abbrev pub keyboard : Node
+keyboard = record { block = false; number = 3395 }
+
+-- the small sysfs
 abbrev pub small : Sight
 small = record {
   place = beside places;
   text = beside texts;
   names = λ place. option_map_or (λ names. names) (beside folders place) [];
-  node = beside ((codes "/dev/input/event3", record { block = false; number = 3395 }) ∷ []);
+  node = beside ((codes "/dev/input/event3", keyboard) ∷ (codes "/dev/input/kbd", keyboard) ∷ []);
 }
 
 -- the device and its port, with the attribute that is there, the links that are there, and what the firmware says
@@ -52,12 +57,12 @@ ReadRows =
       machine = codes "dmi:\n";
     }
 
--- where a device is looked for: by its name, in a class and at a bus; by a path below /sys; by its node, below /dev too; a node that
+-- where a device is looked for: by its name, in a class and at a bus; by a path below /sys; by its node, also if that has a name that sysfs doesn't know; a node that
 -- sysfs doesn't know by its last name. Nothing has a name that no class has, and a folder of sysfs that is none of a device's is none
 abbrev pub FoundRows : Type 0
 FoundRows =
     map (device_for small [] (codes "/sys"))
-    (codes "event3" ∷ codes "port" ∷ codes "/sys/class/input/event3" ∷ codes "/dev/input/event3" ∷ codes "input/event3" ∷ codes "/dev/other/port"
+    (codes "event3" ∷ codes "port" ∷ codes "/sys/class/input/event3" ∷ codes "/dev/input/event3" ∷ codes "input/kbd" ∷ codes "/dev/other/port"
     ∷ codes "event33" ∷ codes "/sys/class/input" ∷ codes "mice" ∷ codes "/dev/disk" ∷ [])
     ≡ Some (codes "/sys/devices/port/event3") ∷ Some (codes "/sys/devices/port") ∷ Some (codes "/sys/devices/port/event3") ∷ Some (codes "/sys/devices/port/event3")
     ∷ Some (codes "/sys/devices/port/event3") ∷ Some (codes "/sys/devices/port") ∷ None ∷ None ∷ None ∷ None ∷ []
