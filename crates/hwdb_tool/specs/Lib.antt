@@ -12,3 +12,4 @@ pub mod Hiding
 pub mod Crash
 pub mod Failures
 pub mod OneOutcome
+pub mod OneRefusal
