@@ -1,4 +1,4 @@
-# Completion of hwdb(8) for bash, by way of bash-completion. A command is one line in each of the two tables.
+# Completion of hwdb(8) for bash, by way of bash-completion.
 
 # Where the kernel shows its devices.
 : "${_hwdb_sys:=/sys/devices}"
@@ -24,6 +24,7 @@ _hwdb_value() {
                 sed '/^input:/{p; s/^/evdev:/}' | LC_ALL=C sort -u)
             __ltrim_colon_completions "$cur"
             ;;
+        *) mapfile -t COMPREPLY < <(compgen -W "${kinds_of[$1]-}" -- "$cur") ;;
     esac
 }
 
@@ -31,7 +32,8 @@ _hwdb() {
     local cur prev words cword split
     _init_completion -s -n : || return
 
-    # One that ends in .. may be given again and again.
+    # From here on completions/from-help has made it of the program's help.
+    # The arguments of each command. One that ends in .. may be given again and again.
     local -A arguments=(
         [update]=''
         [query]='MODALIAS..'
@@ -58,8 +60,12 @@ _hwdb() {
         [help]=''
     )
     local -A values=(
-        [-r]='PATH' [--root]='PATH' [--after]='POS' [--limit]='N'
+        [-r]='PATH'
+        [--root]='PATH'
+        [--after]='POS'
+        [--limit]='N'
     )
+    # Until here.
 
     # The command, and which of its arguments the word is.
     local command=hwdb place=0 ended='' word i
