@@ -57,6 +57,13 @@ abbrev pub IsUnreadAt : Contents → (path : List ℕ) → Refusal → Type 0
 IsUnreadAt contents path (At TooLong at cause) = (at.items ≡ path) × (is_some (bytes_at contents path) ≡ true)
 IsUnreadAt contents path refusal = IsUnread path refusal
 
+-- what going below a root may refuse: it is no folder, or it can't be looked at
+abbrev pub IsUnentered : (root : List ℕ) → Refusal → Type 0
+IsUnentered root (Plain Memory) = Unit {0}
+IsUnentered root (At Read at cause) = at.items ≡ root
+IsUnentered root (At Memory at cause) = at.items ≡ root
+IsUnentered root _ = ⊥
+
 -- what listing a folder may refuse: the folder, or a name in it
 abbrev pub IsUnlisted : (folder : List ℕ) → Refusal → Type 0
 IsUnlisted folder (At Read at cause) = (at.items ≡ folder) ⊎ ((name : List ℕ) × (at.items ≡ path_in folder name))

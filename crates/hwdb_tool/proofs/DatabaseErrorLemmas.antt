@@ -1,27 +1,24 @@
 -- Errors over the bytes of a database: each comes alone.
-use Rattle.std.proofs.Common.{◌≡◌, ◌≢◌, ◌≤◌, ◌<◌, ◌⊎◌, ◌∙◌, inl, inr, ⊎_elim, ap, sym, subst, refl, ℕ, Bool, List, [], length, Option, None, Some}
-use Rattle.std.specs.Prelude.{is_some, option_map}
+use Rattle.std.proofs.Common.{◌≡◌, ◌≢◌, ◌≤◌, ◌⊎◌, ◌∙◌, inl, inr, ⊎_elim, ap, sym, subst, refl, ℕ, Bool, List, [], length, Option, None, Some}
+use Rattle.std.specs.Prelude.{is_some}
 use Rattle.std.specs.Option.{option_map_or}
-use Rattle.hwdb_spec.specs.Asked.{AreHeld, IsAnswered, IsAskedPath, IsCompared, IsDumped, IsFrom, IsListFrom, IsNamedPath, IsPrinted, named_database, unsayable_text}
+use Rattle.hwdb_spec.specs.Asked.{IsAnswered, IsDumped, IsFrom, IsListFrom, IsNamedPath, IsPrinted, named_database, unsayable_text}
 use Rattle.hwdb_spec.specs.Assignment.{Assignment, Position}
-use Rattle.hwdb_spec.specs.Databases.{IsFirstUnsaid, IsSummary, IsTextOf, IsNewRefused, IsNoDatabase, IsSayable, IsUnsayable}
+use Rattle.hwdb_spec.specs.Databases.{IsSummary, IsTextOf, IsNoDatabase, IsUnsayable}
 use Rattle.hwdb_spec.specs.Dump.{dumped, first_unsaid}
 use Rattle.hwdb_spec.specs.Format.{Applies, IsDatabase}
 use Rattle.hwdb_spec.specs.Runs.{Told}
 use Rattle.hwdb_spec.specs.Store.{Contents}
 use Rattle.hwdb_spec.specs.System.{bytes_at}
-use Rattle.hwdb_spec.specs.Texts.{IsSpelling, max_file}
+use Rattle.hwdb_spec.specs.Texts.{max_file}
 use Rattle.hwdb_spec.specs.Tree.{Tree}
 use Rattle.hwdb_spec.specs.Verdicts.{verdict_text}
 use Rattle.hwdb_spec.specs.declared.DbFault.{DbFault}
 use Rattle.hwdb_reader.specs.Laws.{IsOfHeader}
-use Rattle.hwdb_inspect.specs.Diffs.{IsDiffRefusal}
 use Rattle.hwdb_inspect.specs.Dumps.{IsDumpRefusal}
 use Rattle.hwdb_inspect.specs.Summaries.{IsVerifyRefusal}
-use Rattle.hwdb_inspect.specs.declared.errors.DiffError.{DiffError}
 use Rattle.hwdb_inspect.specs.declared.errors.DumpError.{DumpError}
 use Rattle.hwdb_inspect.specs.declared.errors.VerifyError.{VerifyError}
-use Rattle.hwdb_inspect.specs.declared.errors.DiffError.TheVariants as differing
 use Rattle.hwdb_inspect.specs.declared.errors.DumpError.TheVariants as dumping
 use Rattle.hwdb_inspect.specs.declared.errors.VerifyError.TheVariants as verifying
 use Rattle.hwdb_replace.specs.declared.replacement.Unreplaced.{Unreplaced}
@@ -29,14 +26,13 @@ use Rattle.hwdb_print.specs.Databases.{IsDatabaseRefusal}
 use Rattle.hwdb_print.specs.Lookups.{IsListFault, IsListRefusal}
 use Rattle.hwdb_print.specs.declared.errors.ToolError.{ToolError}
 use Rattle.hwdb_print.specs.declared.errors.ToolError.TheVariants.{Read, Write, TooLong, TooManyFiles, TooManyLines, TooLarge, BadPosition, BadDatabase, Replace, Memory}
-use Rattle.hwdb_fs.specs.Refusals.{HasReason, IsAt, IsInWords, IsOfDatabase, IsOver, IsUnreadAt, IsUnreadable}
+use Rattle.hwdb_fs.specs.Refusals.{HasReason, IsAt, IsInWords, IsOfDatabase, IsOver}
 use Rattle.hwdb_fs.specs.declared.refusals.Refusal.{Refusal}
 use Rattle.hwdb_fs.specs.declared.refusals.Refusal.TheVariants.{At, InWords, NoDatabase, Plain}
-use Rattle.hwdb_tool.specs.ComparedDatabases.{IsDiffRefused, IsNotCompared, WasRead}
 use Rattle.hwdb_tool.specs.NamedDatabases.{IsDumpRefused, IsNotDumped, IsNotVerified, IsOfDump, IsOfVerify, IsVerifyRefused}
-use Rattle.hwdb_tool.specs.OneRefusal.{IsOfWhatIsRead, IsOneError, IsOneFault, IsOneKind, IsOneText}
+use Rattle.hwdb_tool.specs.OneRefusal.{IsOfWhatIsRead, IsOneError, IsOneFault, IsOneText}
 use Rattle.hwdb_tool.specs.Undone.{IsListRefused, IsNotAnswered, IsUnanswered, IsUnlisted, IsUnreadableIf}
-use Rattle.hwdb_tool.proofs.RefusalLemmas.{IsLongAt, IsMissingAt, IsUnreadNamed, no_none, not_both, one_inside, one_named_path, named_at, over_over, read_or_unread, unnamed, unread_given, unread_unread}
+use Rattle.hwdb_tool.proofs.RefusalLemmas.{IsUnreadNamed, one_inside, one_named_path, named_at, over_over, read_or_unread, unnamed, unread_unread}
 
 -- the words of a refusal
 abbrev pub SaysSo : (text : List ℕ) → Refusal → Type 0

@@ -1,5 +1,5 @@
 -- Errors over the bytes of two databases: each comes alone.
-use Rattle.std.proofs.Common.{◌≡◌, ◌≤◌, ◌<◌, ◌⊎◌, ◌∙◌, inl, inr, ⊎_elim, ap, sym, subst, refl, arith, ℕ, List, [], length, Option, None, Some}
+use Rattle.std.proofs.Common.{◌≡◌, ◌≤◌, ◌⊎◌, inl, inr, ⊎_elim, sym, subst, refl, ℕ, List, length, Some}
 use Rattle.hwdb_spec.specs.Asked.{AreHeld, IsCompared}
 use Rattle.hwdb_spec.specs.Databases.{IsNewRefused, IsNoDatabase}
 use Rattle.hwdb_spec.specs.Format.{IsDatabase}

@@ -1,6 +1,6 @@
 -- Words ask for one job, which ends with one error over one input, or is done.
-use Rattle.std.proofs.Common.{◌≡◌, ◌≢◌, ◌⊎◌, ◌∙◌, inl, inr, ⊎_elim, ap, sym, subst, refl, Bool, false, List, [], ◌∷◌, map, ℕ, Option, None, Some, string_bytes}
-use Rattle.std.specs.Prelude.{codes, option_map}
+use Rattle.std.proofs.Common.{◌≡◌, ◌⊎◌, ◌∙◌, ⊎_elim, sym, subst, refl, false, List, [], ℕ, Option, None, Some, string_bytes}
+use Rattle.std.specs.Prelude.{codes}
 use Rattle.clap.specs.Faults.{fault_of}
 use Rattle.clap.specs.Kinds.{IsAmong, Kinds}
 use Rattle.clap.specs.Simple.{matches_of, subcommand_of}
@@ -15,38 +15,37 @@ use Rattle.hwdb_cli.specs.declared.job.Task.TheVariants.{Ask, Check, Diff, Dump,
 use Rattle.hwdb_cli.specs.declared.job.WordsFault.TheVariants as words_fault
 use Rattle.hwdb_cli.specs.declared.job.WordsFault.{WordsFault}
 use Rattle.hwdb_spec.specs.Given.{is_dash, is_input}
-use Rattle.hwdb_spec.specs.Runs.{Told}
 use Rattle.hwdb_spec.specs.Store.{Contents, Outcomes}
-use Rattle.hwdb_spec.specs.System.{bytes_at, database_folder}
-use Rattle.hwdb_spec.specs.Texts.{max_file}
-use Rattle.hwdb_print.specs.declared.errors.ToolError.{ToolError}
+use Rattle.hwdb_spec.specs.System.{database_folder}
 use Rattle.hwdb_print.specs.declared.errors.ToolError.TheVariants.{Read, Write, TooLong, TooManyFiles, TooManyLines, TooLarge, BadPosition, BadDatabase, Replace, Memory}
 use Rattle.hwdb_fs.specs.Refusals.{HasReason, IsUnentered}
 use Rattle.hwdb_fs.specs.declared.refusals.Refusal.{Refusal}
 use Rattle.hwdb_fs.specs.declared.refusals.Refusal.TheVariants.{At, InWords, NoDatabase, Plain}
-use Rattle.hwdb_tool.specs.OneOutcome.{Scene, scene_of}
-use Rattle.hwdb_tool.specs.OneRefusal.{IsOfDatabases, IsOfWhatIsRead, IsOneError, JobEndsInOneError, DoneJobIsNoError, NeverFails, NoFaultIsNotTold, RootIsEntered, scene_then}
-use Rattle.hwdb_tool.specs.Program.{IsDone, root_of}
-use Rattle.hwdb_tool.specs.TaskRefusals.{IsJobNotDone, refused_status}
+use Rattle.hwdb_tool.specs.OneOutcome.{scene_of}
+use Rattle.hwdb_tool.specs.OneRefusal.{ReadsFewFiles, IsOfWhatIsRead, JobEndsInOneError, DoneJobIsNoError, NeverFails, JobIsNotTold, RootIsEntered, scene_then}
+use Rattle.hwdb_tool.specs.Program.{root_of}
+use Rattle.hwdb_tool.specs.TaskRefusals.{refused_status}
 use Rattle.hwdb_tool.specs.Undone.{IsUnwritable}
 use Rattle.hwdb_tool.proofs.DatabaseErrorLemmas.{OneHeader, OneTree, Undumped, Unlisted, Unverified}
+use Rattle.hwdb_tool.proofs.AskErrorLemmas.{OneForm, Unasked}
 use Rattle.hwdb_tool.proofs.DiffErrorLemmas.{Undiffed}
 use Rattle.hwdb_tool.proofs.JobLemmas.{apart, is_named, one_value, one_values, same_root, word_of}
-use Rattle.hwdb_tool.proofs.TaskErrorLemmas.{Why, end_of, not_both_ends, one_why, why}
+use Rattle.hwdb_tool.proofs.TaskErrorLemmas.{Why, end_of, not_both_ends, why}
 
 -- two tasks that the same words ask for
 module _ (name : Text) (inner : List Row) where
-  same_kind : (t u : Task) → IsTask name inner t → IsTask name inner u → IsOfDatabases t → IsOfDatabases u
+  same_kind : (t u : Task) → IsTask name inner t → IsTask name inner u → ReadsFewFiles t → ReadsFewFiles u
   same_kind (Query devices1 json1) (Query devices2 json2) t u kind =
       subst (λ (ds : List (List ℕ)). is_input ds ≡ false) (sym (one_values (all_of (codes "MODALIAS") inner) _ _ u.2 t.2)) kind
   same_kind (Explain device1 json1) (Explain device2 json2) t u kind =
       subst (λ (d : List ℕ). is_dash d ≡ false) (sym (one_value (first_of (codes "MODALIAS") inner) _ _ u.2 t.2)) kind
-  same_kind (ListHits after1 limit1 device1 json1) (ListHits after2 limit2 device2 json2) t u kind = refl
-  same_kind (Diff old1 new1) (Diff old2 new2) t u kind = refl
-  same_kind (Verify database1) (Verify database2) t u kind = refl
-  same_kind (Dump database1) (Dump database2) t u kind = refl
+  same_kind (ListHits after1 limit1 device1 json1) (ListHits after2 limit2 device2 json2) t u kind = tt
+  same_kind (Diff old1 new1) (Diff old2 new2) t u kind = tt
+  same_kind (Verify database1) (Verify database2) t u kind = tt
+  same_kind (Dump database1) (Dump database2) t u kind = tt
   same_kind (Update v1 k1) (Update v2 k2) t u kind = absurd kind
-  same_kind (Ask file1 device1) (Ask file2 device2) t u kind = absurd kind
+  same_kind (Ask file1 device1) (Ask file2 device2) t u kind =
+      subst (λ (f : List ℕ). is_dash f ≡ false) (sym (one_value (first_of (codes "FILE") inner) _ _ u.1 t.1)) kind
   same_kind (Check files1) (Check files2) t u kind = absurd kind
   same_kind task1 task2 t u kind = apart (word_of task1) (word_of task2) refl (sym (is_named name inner task1 t) ∙ is_named name inner task2 u)
 
@@ -74,13 +73,13 @@ module _ (name : Text) (inner : List Row) where
     same_why (Verify database1) (Verify database2) t u is = subst (λ (d : Option (List ℕ)). Unverified header fails never U root files d r) (u.1 ∙ sym t.1) is
     same_why (Dump database1) (Dump database2) t u is = subst (λ (d : Option (List ℕ)). Undumped header fails never U root files d r) (u.1 ∙ sym t.1) is
     same_why (Update v1 k1) (Update v2 k2) t u is = absurd is
-    same_why (Ask file1 device1) (Ask file2 device2) t u is = absurd is
+    same_why (Ask file1 device1) (Ask file2 device2) t u is = subst (λ (f : List ℕ). Unasked f files r) (one_value (first_of (codes "FILE") inner) _ _ u.1 t.1) is
     same_why (Check files1) (Check files2) t u is = absurd is
     same_why task1 task2 t u is = apart (word_of task1) (word_of task2) refl (sym (is_named name inner task1 t) ∙ is_named name inner task2 u)
 
 -- two jobs that the same words ask for
 module _ (top : List Row) where
-  kind_of_job : (found : Option (Text × List Row)) (j k : Job) → IsJobOf top found j → IsJobOf top found k → IsOfDatabases j.task → IsOfDatabases k.task
+  kind_of_job : (found : Option (Text × List Row)) (j k : Job) → IsJobOf top found j → IsJobOf top found k → ReadsFewFiles j.task → ReadsFewFiles k.task
   kind_of_job None j k one two kind = absurd one
   kind_of_job (Some p) j k one two kind = same_kind p.0 p.1 j.task k.task one.task two.task kind
 
@@ -101,8 +100,9 @@ no_fault kinds (words_fault.Help text) none told = absurd (⊎_elim (λ help. su
 no_fault kinds (words_fault.Usage text) none told = absurd (subst (IsAmong told.0.0) none told.0.3)
 no_fault kinds words_fault.Memory none told = refl
 
-pub no_fault_is_told : (fails fails_now : List ℕ → Type 0) (left left_now : Outcomes) → NoFaultIsNotTold fails fails_now left left_now
-no_fault_is_told fails fails_now left left_now = λ words status before now told none. no_fault (fault_of hwdb_app words) told.fault none told.of
+pub job_is_not_told : (fails fails_now fails2 fails2_now : List ℕ → Type 0) (left left_now left2 left2_now : Outcomes) → JobIsNotTold fails fails_now fails2 fails2_now left left_now left2 left2_now
+job_is_not_told fails fails_now fails2 fails2_now left left_now left2 left2_now = λ words status status2 before now before2 now2 job told.
+    no_fault (fault_of hwdb_app words) told.fault (⊎_elim (λ done. done.faultless) (λ refused. refused.faultless) job) told.of
 
 -- a root that can't be entered
 entered : (fails : List ℕ → Type 0) (never : NeverFails fails) (files : Contents) (root : List ℕ) (r : Refusal) → IsUnentered root r → HasReason fails ⊥ files r → IsOfWhatIsRead r → ⊥
@@ -152,8 +152,8 @@ module _ (header : OneHeader) (tree : OneTree) (fails fails_now fails2 fails2_no
             (why_of_job top header tree fails2 never2 U2 before2.files two.refusal found j k one.asked two.asked second.0) first.1 second.1,
       )
 
-  pub no_job_error : DoneJobIsNoError fails fails_now fails2 fails2_now left left_now left2 left2_now
-  no_job_error = λ words status status2 before now before2 now2 input never2 done refused kind of.
+  pub no_job_error : OneForm → DoneJobIsNoError fails fails_now fails2 fails2_now left left_now left2 left2_now
+  no_job_error form = λ words status status2 before now before2 now2 input never2 done refused kind of.
       let top = matches_of hwdb_app words in
       let found = subcommand_of hwdb_app words in
       let j = done.job in
@@ -161,6 +161,6 @@ module _ (header : OneHeader) (tree : OneTree) (fails fails_now fails2 fails2_no
       let then2 = scene_then refused.err_then now2 in
       let second = why header tree fails2 fails2_now never2 left2 left2_now (root_of k) k.usr k.strict refused.refusal before2 then2 of k.task (kind_of_job top found j k done.asked refused.asked kind) refused.refused in
       let U2 = IsUnwritable (database_folder k.usr (root_of k)) before2.files before2.failures then2.failures in
-      not_both_ends header tree fails2 never2 U2 (root_of j) j.usr j.strict status refused.refusal (scene_of fails left before) (scene_of fails_now left_now now) j.task kind done.done
+      not_both_ends header tree form fails2 never2 U2 (root_of j) j.usr j.strict status refused.refusal (scene_of fails left before) (scene_of fails_now left_now now) j.task kind done.done
       (subst (λ (f : Contents). Why header tree fails2 never2 U2 f j.task (root_of j) refused.refusal) input.files
       (why_of_job top header tree fails2 never2 U2 before2.files refused.refusal found j k done.asked refused.asked second.0))

@@ -1,5 +1,5 @@
 -- Errors over what is read: each comes alone.
-use Rattle.std.proofs.Common.{◌≡◌, ◌≤◌, ◌<◌, ◌⊎◌, ◌∙◌, inl, inr, ⊎_elim, ap, sym, subst, refl, arith, ℕ, Bool, true, false, List, [], length, Option, None, Some, IfSome}
+use Rattle.std.proofs.Common.{◌≡◌, ◌≤◌, ◌<◌, ◌⊎◌, ◌∙◌, inl, inr, ⊎_elim, ap, sym, subst, refl, arith, ℕ, true, List, [], length, Option, None, Some, IfSome}
 use Rattle.std.specs.Prelude.{is_some}
 use Rattle.std.specs.Option.{option_map_or, option_or}
 use Rattle.hwdb_spec.specs.Asked.{IsAskedPath, IsNamedPath, database_path, named_database}

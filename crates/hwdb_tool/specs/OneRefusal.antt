@@ -1,8 +1,6 @@
 -- What a task refuses is one error, and none is refused that is done: what two outcomes over one input have in common, if one
 -- of them or both are errors. Our choice.
-use Rattle.std.specs.Prelude.{◌≡◌, ◌⊎◌, ℕ, Bool, List, [], false}
-use Rattle.clap.specs.Faults.{fault_of}
-use Rattle.hwdb_cli.specs.Line.{hwdb_app}
+use Rattle.std.specs.Prelude.{◌≡◌, ◌⊎◌, ℕ, Bool, List, false}
 use Rattle.hwdb_spec.specs.Verdicts.{verdict_text}
 use Rattle.hwdb_spec.specs.declared.DbFault.{DbFault}
 use Rattle.hwdb_reader.specs.Laws.{IsOfHeader}
@@ -10,7 +8,7 @@ use Rattle.hwdb_print.specs.declared.errors.ToolError.{ToolError}
 use Rattle.hwdb_print.specs.declared.errors.ToolError.TheVariants.{BadDatabase, Memory, Write}
 use Rattle.hwdb_cli.specs.declared.job.WordsFault.TheVariants as words_fault
 use Rattle.hwdb_cli.specs.declared.job.Task.{Task}
-use Rattle.hwdb_cli.specs.declared.job.Task.TheVariants.{Ask, Check, Update}
+use Rattle.hwdb_cli.specs.declared.job.Task.TheVariants.{Ask, Diff, Dump, Explain, List as ListHits, Query, Verify}
 use Rattle.hwdb_spec.specs.Runs.{Told}
 use Rattle.hwdb_spec.specs.Store.{Outcomes}
 use Rattle.hwdb_tool.specs.OneOutcome.{IsOneInput, Scene, scene_of}
@@ -49,12 +47,16 @@ IsOneError NoDatabase NoDatabase = Unit {0}
 IsOneError (InWords text) (InWords text2) = IsOneText text.items text2.items
 IsOneError refusal refusal2 = ⊥
 
--- the task answers from databases, and standard input names no device to it
-abbrev pub IsOfDatabases : Task → Type 0
-IsOfDatabases (Update verbose skip) = ⊥
-IsOfDatabases (Ask file device) = ⊥
-IsOfDatabases (Check files) = ⊥
-IsOfDatabases task = reads_input task ≡ false
+-- the task reads a database, or two, or one text file, and no standard input
+abbrev pub ReadsFewFiles : Task → Type 0
+ReadsFewFiles (Query devices json) = reads_input (Query devices json) ≡ false
+ReadsFewFiles (Explain device json) = reads_input (Explain device json) ≡ false
+ReadsFewFiles (ListHits after limit device json) = Unit {0}
+ReadsFewFiles (Ask file device) = reads_input (Ask file device) ≡ false
+ReadsFewFiles (Diff old new) = Unit {0}
+ReadsFewFiles (Verify database) = Unit {0}
+ReadsFewFiles (Dump database) = Unit {0}
+ReadsFewFiles task = ⊥
 
 -- no reading may fail
 abbrev pub NeverFails : (fails : (path : List ℕ) → Type 0) → Type 0
@@ -68,12 +70,12 @@ pub record IsOneEnd (refusal refusal2 : Refusal) (now now2 : Scene) : Type 0 whe
   pub one_out : now.out.bytes ≡ now2.out.bytes
 
 -- ---- laws
--- If no reading may fail, a task that answers from databases ends with one error over one input, which comes of what it reads.
+-- If no reading may fail, such a task ends with one error over one input, which comes of what it reads.
 -- What a crash may leave, and which readings may fail later, is any.
 abbrev pub ErrorsAreOne : (fails fails_now fails2 fails2_now : (path : List ℕ) → Type 0) (left left_now left2 left2_now : Outcomes) → Type 0
 ErrorsAreOne fails fails_now fails2 fails2_now left left_now left2 left2_now =
     (task : Task) (root : List ℕ) (usr strict : Bool) (refusal refusal2 : Refusal) (before now before2 now2 : Scene)
-    → IsOfDatabases task → IsOneInput before before2 → NeverFails fails → NeverFails fails2 → IsOfWhatIsRead refusal → IsOfWhatIsRead refusal2
+    → ReadsFewFiles task → IsOneInput before before2 → NeverFails fails → NeverFails fails2 → IsOfWhatIsRead refusal → IsOfWhatIsRead refusal2
     → IsNotDone task root usr strict (scene_of fails left before) (scene_of fails_now left_now now) refusal
     → IsNotDone task root usr strict (scene_of fails2 left2 before2) (scene_of fails2_now left2_now now2) refusal2
     → IsOneEnd refusal refusal2 now now2
@@ -82,7 +84,7 @@ ErrorsAreOne fails fails_now fails2 fails2_now left left_now left2 left2_now =
 abbrev pub DoneIsNoError : (fails fails_now fails2 fails2_now : (path : List ℕ) → Type 0) (left left_now left2 left2_now : Outcomes) → Type 0
 DoneIsNoError fails fails_now fails2 fails2_now left left_now left2 left2_now =
     (task : Task) (root : List ℕ) (usr strict : Bool) (status : ℕ) (refusal : Refusal) (before now before2 now2 : Scene)
-    → IsOfDatabases task → IsOneInput before before2 → NeverFails fails2 → IsOfWhatIsRead refusal
+    → ReadsFewFiles task → IsOneInput before before2 → NeverFails fails2 → IsOfWhatIsRead refusal
     → IsTaskDone task root usr strict status (scene_of fails left before) (scene_of fails_now left_now now)
     → IsNotDone task root usr strict (scene_of fails2 left2 before2) (scene_of fails2_now left2_now now2) refusal → ⊥
 
@@ -99,7 +101,7 @@ JobEndsInOneError fails fails_now fails2 fails2_now left left_now left2 left2_no
     → IsOneInput before before2 → NeverFails fails → NeverFails fails2
     → (one : IsJobRefused words status (scene_of fails left before) (scene_of fails_now left_now now))
     → (two : IsJobRefused words status2 (scene_of fails2 left2 before2) (scene_of fails2_now left2_now now2))
-    → IsOfDatabases one.job.task → IsOfWhatIsRead one.refusal → IsOfWhatIsRead two.refusal
+    → ReadsFewFiles one.job.task → IsOfWhatIsRead one.refusal → IsOfWhatIsRead two.refusal
     → (status ≡ status2) × IsOneEnd one.refusal two.refusal (scene_then one.err_then now) (scene_then two.err_then now2)
 
 -- What they ask for isn't done over an input over which it may end so.
@@ -108,15 +110,16 @@ DoneJobIsNoError fails fails_now fails2 fails2_now left left_now left2 left2_now
     (words : List (List ℕ)) (status status2 : ℕ) (before now before2 now2 : Scene) → IsOneInput before before2 → NeverFails fails2
     → (done : IsJobDone words status (scene_of fails left before) (scene_of fails_now left_now now))
     → (refused : IsJobRefused words status2 (scene_of fails2 left2 before2) (scene_of fails2_now left2_now now2))
-    → IsOfDatabases done.job.task → IsOfWhatIsRead refused.refusal → ⊥
+    → ReadsFewFiles done.job.task → IsOfWhatIsRead refused.refusal → ⊥
 
 -- The root is entered, but for want of memory.
 abbrev pub RootIsEntered : (fails fails_now : (path : List ℕ) → Type 0) (left left_now : Outcomes) → Type 0
 RootIsEntered fails fails_now left left_now = (words : List (List ℕ)) (status : ℕ) (before now : Scene) → NeverFails fails
     → (refused : IsRootRefused words status (scene_of fails left before) (scene_of fails_now left_now now)) → IsOfWhatIsRead refused.refusal → ⊥
 
--- Of words without a fault nothing is told but want of memory.
-abbrev pub NoFaultIsNotTold : (fails fails_now : (path : List ℕ) → Type 0) (left left_now : Outcomes) → Type 0
-NoFaultIsNotTold fails fails_now left left_now = (words : List (List ℕ)) (status : ℕ) (before now : Scene)
-    → (told : AreRefused words status (scene_of fails left before) (scene_of fails_now left_now now)) → fault_of hwdb_app words ≡ []
-    → told.fault ≡ words_fault.Memory
+-- Of words that ask for a job nothing is told but want of memory: not that they are wrong, and no help.
+abbrev pub JobIsNotTold : (fails fails_now fails2 fails2_now : (path : List ℕ) → Type 0) (left left_now left2 left2_now : Outcomes) → Type 0
+JobIsNotTold fails fails_now fails2 fails2_now left left_now left2 left2_now = (words : List (List ℕ)) (status status2 : ℕ) (before now before2 now2 : Scene)
+    → IsJobDone words status (scene_of fails left before) (scene_of fails_now left_now now)
+    ⊎ IsJobRefused words status (scene_of fails left before) (scene_of fails_now left_now now)
+    → (told : AreRefused words status2 (scene_of fails2 left2 before2) (scene_of fails2_now left2_now now2)) → told.fault ≡ words_fault.Memory

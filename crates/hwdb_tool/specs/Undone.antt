@@ -81,17 +81,23 @@ told_as false path = path
 abbrev pub told_path : (path : List ℕ) → List ℕ
 told_path path = told_as (is_dash path) path
 
--- the bytes of the file are refused
+-- reading a file that is given is refused
+abbrev pub IsUnreadGiven : (dash : Bool) (path : List ℕ) → Contents → Refusal → Type 0
+IsUnreadGiven true path contents refusal = IsUnread (codes "standard input") refusal
+IsUnreadGiven false path contents refusal = IsUnreadAt contents path refusal
+
+-- the bytes of the file are refused, which are no more than a file may have
 pub record IsNotAsked (file : List ℕ) (input : Option (List ℕ)) (contents : Contents) (refusal : Refusal) : Type 0 where
   pub bytes : List ℕ
   pub read : IsGiven file input contents bytes
+  pub within : length bytes ≤ max_file
   pub error : ToolError
   pub is : refusal ≡ Plain error
   pub refused : (error ≢ Write) × IsAskRefusal bytes max_file error
 
 -- `ask` is refused: its file can't be read, or not be compiled
 abbrev pub IsAskRefused : (file : List ℕ) (input : Option (List ℕ)) → Contents → Refusal → Type 0
-IsAskRefused file input contents refusal = IsUnread (told_path file) refusal ⊎ IsNotAsked file input contents refusal
+IsAskRefused file input contents refusal = IsUnreadGiven (is_dash file) file contents refusal ⊎ IsNotAsked file input contents refusal
 
 -- a path can't be read: where it is given, also where nothing stands there, else only where reading it may fail
 abbrev pub IsUnreadableIf : (is_given : Bool) (MayFail : (path : List ℕ) → Type 0) → Contents → (path : List ℕ) → Type 0
