@@ -55,10 +55,10 @@ module _ (file : List ℕ) (input : Option (List ℕ)) (files : Contents) where
   plain_held true bytes told is = absurd cc
   plain_held false bytes told is = is
 
-  module _ (fails : List ℕ → Type 0) (never : (path : List ℕ) → fails path → ⊥) (U : Type 0) (r : Refusal) (of : IsOfWhatIsRead r) (told : is_dash file ≡ false) where
+  module _ (fails : List ℕ → Type 0) (U : Type 0) (never : fails file → ⊥) (r : Refusal) (of : IsOfWhatIsRead r) (told : is_dash file ≡ false) where
     plain_unread : (b : Bool) → b ≡ false → IsUnreadGiven b file files r → HasReason (IsUnreadable fails files) U files r → IsUnreadOne files file r
     plain_unread true plain is reason = absurd cc
-    plain_unread false plain is reason = unread_given fails never U files file r is reason of
+    plain_unread false plain is reason = unread_given fails U files file never r is reason of
 
     not_asked : IsNotAsked file input files r → IsUncompiledOne file files r
     not_asked not = record { bytes = not.bytes; held = plain_held (is_dash file) not.bytes told not.read; within = not.within; much = by not.error not.is not.refused.1 }

@@ -32,7 +32,7 @@ use Rattle.hwdb_fs.specs.declared.refusals.Refusal.TheVariants.{At, InWords, NoD
 use Rattle.hwdb_tool.specs.NamedDatabases.{IsDumpRefused, IsNotDumped, IsNotVerified, IsOfDump, IsOfVerify, IsVerifyRefused}
 use Rattle.hwdb_tool.specs.OneRefusal.{IsOfWhatIsRead, IsOneError, IsOneFault, IsOneText}
 use Rattle.hwdb_tool.specs.Undone.{IsListRefused, IsNotAnswered, IsUnanswered, IsUnlisted, IsUnreadableIf}
-use Rattle.hwdb_tool.proofs.RefusalLemmas.{IsUnreadNamed, one_inside, one_named_path, named_at, over_over, read_or_unread, unnamed, unread_unread}
+use Rattle.hwdb_tool.proofs.RefusalLemmas.{NeverNamed, IsUnreadNamed, one_inside, one_named_path, named_at, over_over, read_or_unread, unnamed, unread_unread}
 
 -- the words of a refusal
 abbrev pub SaysSo : (text : List ℕ) → Refusal → Type 0
@@ -144,7 +144,7 @@ module _ (header : OneHeader) where
   both_ways aa ab bb r r2 (inr one) (inl two) = absurd (ab r2 r two one)
   both_ways aa ab bb r r2 (inr one) (inr two) = bb r r2 one two
 
-  module _ (fails : List ℕ → Type 0) (never : (path : List ℕ) → fails path → ⊥) (U : Type 0) (root : List ℕ) (files : Contents) where
+  module _ (fails : List ℕ → Type 0) (U : Type 0) (root : List ℕ) (files : Contents) where
     abbrev pub Reason : Option (List ℕ) → Refusal → Type 0
     Reason given r = HasReason (IsUnreadableIf (is_some given) fails files) U files r
 
@@ -168,9 +168,9 @@ module _ (header : OneHeader) where
         }
         by verifying.Memory is refused = absurd (subst IsOfWhatIsRead is of)
 
-    pub unverified : (given : Option (List ℕ)) (r : Refusal) → IsVerifyRefused given root files r → Reason given r → IsOfWhatIsRead r → Unverified given r
-    unverified given r (inl unread) reason of = inl (unnamed fails never U root files given r unread reason of)
-    unverified given r (inr not) reason of = inr (not_verified given r not of)
+    pub unverified : (given : Option (List ℕ)) → NeverNamed fails root files given → (r : Refusal) → IsVerifyRefused given root files r → Reason given r → IsOfWhatIsRead r → Unverified given r
+    unverified given never r (inl unread) reason of = inl (unnamed fails U root files given never r unread reason of)
+    unverified given never r (inr not) reason of = inr (not_verified given r not of)
 
     pub verify_verify : (given : Option (List ℕ)) (r r2 : Refusal) → Unverified given r → Unverified given r2 → IsOneError r r2
     verify_verify given r r2 one two = both_ways (unread_unread given root files) (unread_or_faulty given root files InVerdict) (faulty_faulty given root files InVerdict one_verdict) r r2 one two
@@ -207,9 +207,9 @@ module _ (header : OneHeader) where
         by BadPosition is refused = absurd refused
         by (Replace u) is refused = absurd refused
 
-    pub unanswered : (r : Refusal) → IsUnanswered root files r → HasReason fails U files r → IsOfWhatIsRead r → Unanswered r
-    unanswered r (inl unread) reason of = inl (unnamed fails never U root files None r unread reason of)
-    unanswered r (inr not) reason of = inr (not_answered r not of)
+    pub unanswered : NeverNamed fails root files None → (r : Refusal) → IsUnanswered root files r → HasReason fails U files r → IsOfWhatIsRead r → Unanswered r
+    unanswered never r (inl unread) reason of = inl (unnamed fails U root files None never r unread reason of)
+    unanswered never r (inr not) reason of = inr (not_answered r not of)
 
     pub answer_answer : (r r2 : Refusal) → Unanswered r → Unanswered r2 → IsOneError r r2
     answer_answer r r2 one two = both_ways (unread_unread None root files) (unread_or_faulty None root files OverPath) (faulty_faulty None root files OverPath one_over) r r2 one two
@@ -248,9 +248,9 @@ module _ (header : OneHeader) where
         }
         by dumping.Memory is refused = absurd (subst IsOfWhatIsRead is of)
 
-    pub undumped : (given : Option (List ℕ)) (r : Refusal) → IsDumpRefused given root files r → Reason given r → IsOfWhatIsRead r → Undumped given r
-    undumped given r (inl unread) reason of = inl (unnamed fails never U root files given r unread reason of)
-    undumped given r (inr not) reason of = inr (not_dumped given r not of)
+    pub undumped : (given : Option (List ℕ)) → NeverNamed fails root files given → (r : Refusal) → IsDumpRefused given root files r → Reason given r → IsOfWhatIsRead r → Undumped given r
+    undumped given never r (inl unread) reason of = inl (unnamed fails U root files given never r unread reason of)
+    undumped given never r (inr not) reason of = inr (not_dumped given r not of)
 
     sum_ways : {A B C : Refusal → Type 0} → ((r r2 : Refusal) → A r → A r2 → IsOneError r r2) → ((r r2 : Refusal) → A r → B r2 → ⊥) → ((r r2 : Refusal) → A r → C r2 → ⊥)
         → ((r r2 : Refusal) → B r ⊎ C r → B r2 ⊎ C r2 → IsOneError r r2) → (r r2 : Refusal) → A r ⊎ (B r ⊎ C r) → A r2 ⊎ (B r2 ⊎ C r2) → IsOneError r r2
@@ -358,10 +358,10 @@ module _ (header : OneHeader) where
         by TooLarge is refused untouched = absurd (never_listed after not.bytes TooLarge (inr (inr (inr (inr refl)))) refused)
         by (Replace u) is refused untouched = absurd (never_replaced after not.bytes u refused)
 
-    pub unlisted : (json : Bool) (device : List ℕ) (after : Option (List ℕ)) (limit : Option ℕ) (r : Refusal) (before now : Told) → IsListRefused root json device after limit files r before now
+    pub unlisted : NeverNamed fails root files None → (json : Bool) (device : List ℕ) (after : Option (List ℕ)) (limit : Option ℕ) (r : Refusal) (before now : Told) → IsListRefused root json device after limit files r before now
         → HasReason fails U files r → IsOfWhatIsRead r → Unlisted after r × (now ≡ before)
-    unlisted json device after limit r before now (inl unread) reason of = (inl (unnamed fails never U root files None r unread.0 reason of), unread.1)
-    unlisted json device after limit r before now (inr not) reason of =
+    unlisted never json device after limit r before now (inl unread) reason of = (inl (unnamed fails U root files None never r unread.0 reason of), unread.1)
+    unlisted never json device after limit r before now (inr not) reason of =
         let found = not_listed json device after limit r before now not of in (inr found.0, found.1)
 
     placed_placed : (after : Option (List ℕ)) (r r2 : Refusal) → IsPlacedFault after r → IsPlacedFault after r2 → IsOneError r r2

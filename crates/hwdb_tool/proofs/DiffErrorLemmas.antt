@@ -49,7 +49,7 @@ Undiffed old_path new_path files r =
     IsUnreadOne files old_path r ⊎ ((WasRead old_path files × IsUnreadOne files new_path r) ⊎ IsFaultyPair old_path new_path files r)
 
 module _ (header : OneHeader) (old_path new_path : List ℕ) (files : Contents) where
-  module _ (fails : List ℕ → Type 0) (never : (path : List ℕ) → fails path → ⊥) (U : Type 0) (r : Refusal) (of : IsOfWhatIsRead r) where
+  module _ (fails : List ℕ → Type 0) (U : Type 0) (never_old : fails old_path → ⊥) (never_new : fails new_path → ⊥) (r : Refusal) (of : IsOfWhatIsRead r) where
     not_compared : IsNotCompared old_path new_path files r → IsFaultyPair old_path new_path files r
     not_compared not = record { old = not.old; new = not.new; held = not.held; fault = by not.error not.is not.refused }
       where
@@ -59,8 +59,8 @@ module _ (header : OneHeader) (old_path new_path : List ℕ) (files : Contents) 
         by differing.Memory is refused = absurd (subst IsOfWhatIsRead is of)
 
     pub undiffed : IsDiffRefused old_path new_path files r → HasReason (IsUnreadable fails files) U files r → Undiffed old_path new_path files r
-    undiffed (inl old) reason = inl (unread_given fails never U files old_path r old reason of)
-    undiffed (inr (inl new)) reason = inr (inl (new.0, unread_given fails never U files new_path r new.1 reason of))
+    undiffed (inl old) reason = inl (unread_given fails U files old_path never_old r old reason of)
+    undiffed (inr (inl new)) reason = inr (inl (new.0, unread_given fails U files new_path never_new r new.1 reason of))
     undiffed (inr (inr not)) reason = inr (inr (not_compared not))
 
   one_held_pair : (r r2 : Refusal) (one : IsFaultyPair old_path new_path files r) (two : IsFaultyPair old_path new_path files r2) → (one.old ≡ two.old) × (one.new ≡ two.new)

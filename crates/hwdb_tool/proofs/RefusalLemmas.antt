@@ -27,7 +27,7 @@ pub record IsLongAt (files : Contents) (path : List ℕ) (refusal : Refusal) : T
   pub held : bytes_at files path ≡ Some bytes
   pub long : max_file < length bytes
 
-module _ (fails : List ℕ → Type 0) (never : (path : List ℕ) → fails path → ⊥) (U : Type 0) (files : Contents) (path : List ℕ) where
+module _ (fails : List ℕ → Type 0) (U : Type 0) (files : Contents) (path : List ℕ) (never : fails path → ⊥) where
   long_at : (o : Option (List ℕ)) → is_some o ≡ true → IfSome o (λ b. max_file < length b) → (b : List ℕ) × (o ≡ Some b) × (max_file < length b)
   long_at None there long = absurd cc
   long_at (Some b) there long = (b, refl, long)
@@ -36,7 +36,7 @@ module _ (fails : List ℕ → Type 0) (never : (path : List ℕ) → fails path
   pub unread_given : (refusal : Refusal) → IsUnreadAt files path refusal → HasReason (IsUnreadable fails files) U files refusal → IsOfWhatIsRead refusal
       → IsMissingAt files path refusal ⊎ IsLongAt files path refusal
   unread_given (At Read at cause) is (inl none) of = inl record { over = (refl, is); none = subst (λ p. bytes_at files p ≡ None) is none }
-  unread_given (At Read at cause) is (inr fail) of = absurd (never at.items fail)
+  unread_given (At Read at cause) is (inr fail) of = absurd (never (subst fails is fail))
   unread_given (At TooLong at cause) is reason of =
       let found = long_at (bytes_at files path) is.1 (subst (λ p. IfSome (bytes_at files p) (λ b. max_file < length b)) is.0 reason) in
       inr record { over = (refl, is.0); bytes = found.0; held = found.1; long = found.2 }
@@ -63,7 +63,7 @@ module _ (fails : List ℕ → Type 0) (never : (path : List ℕ) → fails path
 
   -- reading what may be there or not
   pub unread_there : (refusal : Refusal) → IsUnreadAt files path refusal → HasReason fails U files refusal → IsOfWhatIsRead refusal → IsLongAt files path refusal
-  unread_there (At Read at cause) is fail of = absurd (never at.items fail)
+  unread_there (At Read at cause) is fail of = absurd (never (subst fails is fail))
   unread_there (At TooLong at cause) is reason of =
       let found = long_at (bytes_at files path) is.1 (subst (λ p. IfSome (bytes_at files p) (λ b. max_file < length b)) is.0 reason) in
       record { over = (refl, is.0); bytes = found.0; held = found.1; long = found.2 }
@@ -143,24 +143,28 @@ none_named : (given : Option (List ℕ)) (root : List ℕ) (files : Contents) (r
 none_named None root files refusal is = is.1
 none_named (Some path) root files refusal is = is.none
 
-module _ (fails : List ℕ → Type 0) (never : (path : List ℕ) → fails path → ⊥) (U : Type 0) (root : List ℕ) (files : Contents) where
+-- reading the database that is named never fails
+abbrev pub NeverNamed : (fails : List ℕ → Type 0) (root : List ℕ) → Contents → (given : Option (List ℕ)) → Type 0
+NeverNamed fails root files given = (path : List ℕ) → IsNamedPath given root files path → fails path → ⊥
+
+module _ (fails : List ℕ → Type 0) (U : Type 0) (root : List ℕ) (files : Contents) where
   abbrev LongAsked : Refusal → Type 0
   LongAsked r = IsLongDatabase None root files r
 
-  long_asked : (r : Refusal) (path : List ℕ) → IsAskedPath root files path → IsUnreadAt files path r → HasReason fails U files r → IsOfWhatIsRead r → LongAsked r
-  long_asked r path at unread reason of = record { path = path; at = at; is = unread_there fails never U files path r unread reason of }
+  long_asked : NeverNamed fails root files None → (r : Refusal) (path : List ℕ) → IsAskedPath root files path → IsUnreadAt files path r → HasReason fails U files r → IsOfWhatIsRead r → LongAsked r
+  long_asked never r path at unread reason of = record { path = path; at = at; is = unread_there fails U files path (never path at) r unread reason of }
 
-  unasked : (r : Refusal) → IsUnfound root files r → HasReason fails U files r → IsOfWhatIsRead r → IsNoneNamed None root files r ⊎ LongAsked r
-  unasked NoDatabase is reason of = inl (refl, is)
-  unasked (Plain e) is reason of = inr (long_asked (Plain e) is.0 is.1 is.2 reason of)
-  unasked (At e at cause) is reason of = inr (long_asked (At e at cause) is.0 is.1 is.2 reason of)
-  unasked (InWords t) is reason of = inr (long_asked (InWords t) is.0 is.1 is.2 reason of)
+  unasked : NeverNamed fails root files None → (r : Refusal) → IsUnfound root files r → HasReason fails U files r → IsOfWhatIsRead r → IsNoneNamed None root files r ⊎ LongAsked r
+  unasked never NoDatabase is reason of = inl (refl, is)
+  unasked never (Plain e) is reason of = inr (long_asked never (Plain e) is.0 is.1 is.2 reason of)
+  unasked never (At e at cause) is reason of = inr (long_asked never (At e at cause) is.0 is.1 is.2 reason of)
+  unasked never (InWords t) is reason of = inr (long_asked never (InWords t) is.0 is.1 is.2 reason of)
 
-  pub unnamed : (given : Option (List ℕ)) (r : Refusal) → IsUnnamed given root files r → HasReason (IsUnreadableIf (is_some given) fails files) U files r → IsOfWhatIsRead r
+  pub unnamed : (given : Option (List ℕ)) → NeverNamed fails root files given → (r : Refusal) → IsUnnamed given root files r → HasReason (IsUnreadableIf (is_some given) fails files) U files r → IsOfWhatIsRead r
       → IsNoneNamed given root files r ⊎ IsLongDatabase given root files r
-  unnamed None r is reason of = unasked r is reason of
-  unnamed (Some path) r is reason of =
-      ⊎_elim (λ none. inl none) (λ long. inr record { path = path; at = refl; is = long }) (unread_given fails never U files path r is reason of)
+  unnamed None never r is reason of = unasked never r is reason of
+  unnamed (Some path) never r is reason of =
+      ⊎_elim (λ none. inl none) (λ long. inr record { path = path; at = refl; is = long }) (unread_given fails U files path (never path refl) r is reason of)
 
 -- a database is read whose bytes are these
 module _ (given : Option (List ℕ)) (root : List ℕ) (files : Contents) where
