@@ -59,11 +59,12 @@ style_of part.Fault = style.Fault
 style_of part.Mark = style.Mark
 style_of before = style.Plain
 
--- the bytes of a text, each with its style; the byte before them is in this part
+-- the same of the bytes after one that is in this part
 abbrev pub styled_after : TextKind → LinePart → List ℕ → List (Style × ℕ)
 styled_after kind before [] = []
 styled_after kind before (b ∷ bs) = (style_of (part_at kind before b), b) ∷ styled_after kind (part_at kind before b) bs
 
+-- the bytes of a text, each with its style
 abbrev pub styled : TextKind → List ℕ → List (Style × ℕ)
 styled kind text = styled_after kind part.Ended text
 

@@ -33,7 +33,7 @@ impl<W> Coloured<W> {
 }
 
 /// Writes all of the text in colour; if memory is refused, as it is.
-fn write_painted<W: Sink>(
+pub fn write_painted<W: Sink>(
     alloc: Global,
     kind: TextKind,
     sink: &mut W,

@@ -54,7 +54,7 @@ mod verification;
 pub use answer::Answer;
 pub use answers::{ask_file, explain, list};
 pub use checks::check;
-pub use coloured::{Coloured, kind_of};
+pub use coloured::{Coloured, kind_of, write_painted};
 pub use crash::{crash_then_query, kill_then_query};
 pub use differences::diff;
 pub use dispatch::program;
