@@ -60,8 +60,8 @@ ghost use Rattle.hwdb_spec.specs.Texts.{db_fault_name, db_fault_offset};
 mod colours;
 mod vocabulary;
 
-use std::{error, fmt};
 pub use colours::{LinePart, Style, TextKind};
+use std::{error, fmt};
 pub use vocabulary::{KEY_NAMES, Misuse, PROPERTIES, ValueForm};
 
 /// A named class of bytes, as POSIX has it in the C locale.
