@@ -49,6 +49,8 @@
 //! | `Done` | what `update` and `ask` leave, and what a crash leaves during an update |
 //! | `Near` | the pattern that almost matched a device, and where it stopped |
 //! | `Colours` | how a text is shown in colour |
+//! | `Sysfs` | what sysfs holds of a device and its parents, and how udev reads it |
+//! | `DeviceTree` | where sysfs has a device, and what is read of it and its parents |
 //!
 //! The types below are those that the definitions name.
 #![tactic(auto)]
