@@ -15,3 +15,4 @@ pub mod RangeLemmas
 pub mod OpenLemmas
 pub mod CutLemmas
 pub mod TableLemmas
+pub mod FrontLemmas

@@ -41,3 +41,4 @@ pub mod Library
 pub mod Hiding
 pub mod Done
 pub mod Near
+pub mod NearAsked

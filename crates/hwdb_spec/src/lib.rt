@@ -48,6 +48,7 @@
 //! | `Hiding` | what `update --usr --verbose` says where /etc's database hides the new one |
 //! | `Done` | what `update` and `ask` leave, and what a crash leaves during an update |
 //! | `Near` | the pattern that almost matched a device, and where it stopped |
+//! | `NearAsked` | which patterns `near` compares with a device: those of text files, or of a database |
 //!
 //! The types below are those that the definitions name.
 #![tactic(auto)]
