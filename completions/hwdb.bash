@@ -1,4 +1,4 @@
-# Completion of hwdb(8) for bash, by way of bash-completion. A command is one line in each of the two tables.
+# Completion of hwdb(8) for bash, by way of bash-completion.
 
 # Where the kernel shows its devices.
 : "${_hwdb_sys:=/sys/devices}"
@@ -31,7 +31,8 @@ _hwdb() {
     local cur prev words cword split
     _init_completion -s -n : || return
 
-    # One that ends in .. may be given again and again.
+    # From here on completions/from-help has made it of the program's help.
+    # The arguments of each command. One that ends in .. may be given again and again.
     local -A arguments=(
         [update]=''
         [query]='MODALIAS..'
@@ -58,8 +59,12 @@ _hwdb() {
         [help]=''
     )
     local -A values=(
-        [-r]='PATH' [--root]='PATH' [--after]='POS' [--limit]='N'
+        [-r]='PATH'
+        [--root]='PATH'
+        [--after]='POS'
+        [--limit]='N'
     )
+    # Until here.
 
     # The command, and which of its arguments the word is.
     local command=hwdb place=0 ended='' word i
