@@ -7,7 +7,7 @@ ghost use Rattle.hwdb_near.specs.Views.{pattern_at};
 ghost use Rattle.hwdb_near.specs.Internal.Ratings.{rated_of};
 
 use crate::fronts::stops;
-use crate::kept::{PatternAt, Rated};
+use crate::found::{PatternAt, Rated};
 use hwdb_show::{ended, put_count, put_flag, put_member};
 use json::Writer;
 use std::alloc::{AllocError, Global};

@@ -173,11 +173,14 @@ abbrev pub on_firsts : (ℕ → ℕ → Bool) → List ℕ → List ℕ → Bool
 on_firsts test (a ∷ more) (b ∷ rest) = test a b
 on_firsts test _ _ = false
 
+-- what is added if the device has the pattern's letter in the other case
+abbrev pub case_text : (wanted left : List ℕ) → List ℕ
+case_text wanted left = if on_firsts differ_in_case wanted left then codes ": the case of letters counts" else []
+
 -- the device has another byte than the pattern's next token
 abbrev pub other_text : (wanted left : List ℕ) → List ℕ
 other_text wanted left =
-    codes "the device has " ++ (quoted (take 1 left) ++ (codes ", the pattern " ++ (quoted (token_text wanted)
-    ++ (if on_firsts differ_in_case wanted left then codes ": the case of letters counts" else []))))
+    codes "the device has " ++ (quoted (take 1 left) ++ (codes ", the pattern " ++ (quoted (token_text wanted) ++ case_text wanted left)))
 
 -- udev wrote `_` in place of the pattern's next byte
 abbrev pub replaced_text : (wanted : List ℕ) → List ℕ
