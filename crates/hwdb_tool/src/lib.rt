@@ -11,6 +11,7 @@
 //! | `answers` | `explain`, `list` and `ask` |
 //! | `input_devices` | `query -` and `explain -`: the devices that standard input names |
 //! | `checks` | `check` |
+//! | `near_misses` | `near` |
 //! | `differences` | `diff` |
 //! | `verification` | `verify`; `verdicts`: its words on bytes that are no database |
 //! | `dumps` | `dump` |
@@ -38,6 +39,7 @@ mod given;
 mod hiding;
 mod input_devices;
 mod laws;
+mod near_misses;
 mod one_outcome;
 mod outlet;
 mod printing;
@@ -63,6 +65,7 @@ pub use hwdb_io::{
 };
 pub use hwdb_print::{ToolError, ask, run_list, run_query, run_update};
 pub use laws::update_then_query;
+pub use near_misses::near;
 pub use one_outcome::{answers_are_one, jobs_are_one, listings_give_one_reading, tasks_are_one};
 pub use outlet::Outlet;
 pub use queries::query;
