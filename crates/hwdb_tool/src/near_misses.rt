@@ -1,5 +1,5 @@
 //! `near`: the patterns that almost matched a device, of text files or of the database below the root. Nothing is written.
-ghost use Rattle.std.specs.Prelude.{◌≡◌, ◌×◌, ◌⊎◌, ◌==◌, true, false, not, length, map, string_bytes, IfErr, IfOk};
+ghost use Rattle.std.specs.Prelude.{◌≡◌, ◌⊎◌, ◌==◌, true, false, not, length, map, string_bytes, IfErr, IfOk};
 ghost use Rattle.hwdb_fs.specs.Refusals.{HasReason, IsUnreadable};
 ghost use Rattle.hwdb_lint.specs.Checks;
 ghost use Rattle.hwdb_near.specs.Views;
