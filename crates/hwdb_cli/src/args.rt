@@ -41,19 +41,20 @@ fn task_of(alloc: Global, name: &str, inner: &ArgMatches<'_>) -> Result<Task, Al
     }
 }
 
-/// The root: the one behind the subcommand counts before the one in front.
-fn root_of(
+/// A text that may be given before and after the command: the one after it counts first.
+fn shared_text(
     alloc: Global,
     top: &ArgMatches<'_>,
     inner: &ArgMatches<'_>,
+    id: &str,
 ) -> Result<Option<String>, AllocError>
     ensures { IfOk result (λ r. option_map string_bytes r
-        ≡ option_or (first_of (codes "root") (rows_of (found_of inner.now)))
-        (first_of (codes "root") (rows_of (found_of top.now)))) }
+        ≡ option_or (first_of id.now (rows_of (found_of inner.now)))
+        (first_of id.now (rows_of (found_of top.now)))) }
 {
-    match text_of(inner, "root") {
-        Some(root) => Ok(Some(String::from_str(alloc, root)?)),
-        None => Ok(copied(alloc, text_of(top, "root"))?),
+    match text_of(inner, id) {
+        Some(text) => Ok(Some(String::from_str(alloc, text)?)),
+        None => Ok(copied(alloc, text_of(top, id))?),
     }
 }
 
@@ -69,13 +70,15 @@ fn job_of(
         (IsJob (rows_of (found_of top.now)) name.now (rows_of (found_of inner.now))) }
 {
     let task = task_of(alloc, name, inner)?;
-    let root = root_of(alloc, top, inner)?;
+    let root = shared_text(alloc, top, inner, "root")?;
+    let color = shared_text(alloc, top, inner, "color")?;
     let usr = has_flag(inner, "usr") || has_flag(top, "usr");
     let strict = has_flag(inner, "strict") || has_flag(top, "strict");
     Ok(Job {
         usr,
         strict,
         root,
+        color,
         task,
     })
 }

@@ -2,7 +2,7 @@
 ghost use Rattle.std.specs.Prelude.{Some, true};
 ghost use Rattle.clap.specs.Walk.{Rule};
 ghost use Rattle.clap.specs.Simple.{App, new_app, new_rule, with_rule, with_subcommand};
-ghost use Rattle.hwdb_cli.specs.Line.{database_rule, device_rule, json_rule, root_rule, strict_rule, with_shared};
+ghost use Rattle.hwdb_cli.specs.Line.{color_rule, database_rule, device_rule, json_rule, root_rule, strict_rule, with_shared};
 ghost use Rattle.hwdb_cli.specs.Drafts.{IsArgument, IsDraft};
 
 use clap::{Arg, ArgAction, Command};
@@ -97,6 +97,14 @@ fn root_option<'a>(alloc: Global) -> Arg<'a>
     option(alloc, "root", "PATH", help).short('r')
 }
 
+/// `--color`.
+fn color_option<'a>(alloc: Global) -> Arg<'a>
+    ensures { IsArgument color_rule result }
+{
+    let help = "Color the output: auto, always or never; auto does so on a terminal";
+    option(alloc, "color", "WHEN", help)
+}
+
 /// `--json`.
 pub fn json_option<'a>(alloc: Global) -> Arg<'a>
     ensures { IsArgument json_rule result }
@@ -128,5 +136,6 @@ pub fn shared<'a>(alloc: Global, name: &'a str, about: &'a str, after: &'a str) 
     let usr = flag(alloc, "usr", "With update: write /usr/lib/udev/hwdb.bin");
     let with_usr = with_argument(Ok(command), usr);
     let with_strict = with_argument(with_usr, strict_option(alloc));
-    with_argument(with_strict, root_option(alloc))
+    let with_root = with_argument(with_strict, root_option(alloc));
+    with_argument(with_root, color_option(alloc))
 }

@@ -32,10 +32,12 @@ const COMMANDS: [(&str, &str); 10] = [
 /// How the usage of a command begins, before its name.
 const USAGE: &str = "Usage: hwdb ";
 
-/// How the lines of the two options begin that each command takes, but that do something for few.
+/// How the lines of the options begin that each command takes, but that don't do something for each.
 const USR_LINE: &str = "      --usr ";
 
 const STRICT_LINE: &str = "  -s, --strict ";
+
+const COLOR_LINE: &str = "      --color ";
 
 /// The short help.
 ///
@@ -80,7 +82,8 @@ fn command_of(text: &str) -> &str {
 /// Whether a line of help shows an option that does nothing for the command.
 fn is_idle(line: &str, command: &str) -> bool {
     match command {
-        "[OPTIONS]" | "update" => false,
+        "[OPTIONS]" => false,
+        "update" => line.starts_with(COLOR_LINE),
         "check" => line.starts_with(USR_LINE),
         _ => line.starts_with(USR_LINE) || line.starts_with(STRICT_LINE),
     }

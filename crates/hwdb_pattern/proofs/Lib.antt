@@ -16,3 +16,5 @@ pub mod OpenLemmas
 pub mod CutLemmas
 pub mod TableLemmas
 pub mod FrontLemmas
+pub mod ListLemmas
+pub mod PlaceLemmas

@@ -5,3 +5,4 @@ pub mod Parts
 pub mod Search
 pub mod Tables
 pub mod FirstTokens
+pub mod Places

@@ -25,7 +25,7 @@ fn keep_byte(table: &mut [bool], bytes: &[u8], byte: u8)
 
 /// Which bytes the token at the beginning of the text admits. So a bracket is read once for each byte that there is,
 /// and not once for each place of a device.
-fn admitted_bytes(text: &[u8]) -> [bool; 256]
+pub(crate) fn admitted_bytes(text: &[u8]) -> [bool; 256]
     requires some { 0 < length text.now }
     requires no_star { slice_index text.now 0 ≢ 42 }
     ensures { AreAdmitted (token_at text.now) result 256 }
@@ -38,7 +38,7 @@ fn admitted_bytes(text: &[u8]) -> [bool; 256]
 }
 
 /// Whether the token at the beginning of the text, which admits these bytes, admits the byte.
-fn is_admitted(admitted: &[bool; 256], byte: u8, text: &[u8]) -> bool
+pub(crate) fn is_admitted(admitted: &[bool; 256], byte: u8, text: &[u8]) -> bool
     requires { AreAdmitted (token_at text.now) admitted.now 256 }
     ensures { result ≡ admits_byte (token_at text.now) byte }
 {

@@ -42,3 +42,4 @@ pub mod Hiding
 pub mod Done
 pub mod Near
 pub mod NearAsked
+pub mod Colours

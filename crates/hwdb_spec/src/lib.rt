@@ -49,6 +49,7 @@
 //! | `Done` | what `update` and `ask` leave, and what a crash leaves during an update |
 //! | `Near` | the pattern that almost matched a device, and where it stopped |
 //! | `NearAsked` | which patterns `near` compares with a device: those of text files, or of a database |
+//! | `Colours` | how a text is shown in colour |
 //!
 //! The types below are those that the definitions name.
 #![tactic(auto)]
@@ -57,9 +58,11 @@ ghost use Rattle.std.specs.Prelude.{◌≡◌};
 ghost use Rattle.hwdb_spec.specs.Records.{fault_text};
 ghost use Rattle.hwdb_spec.specs.Texts.{db_fault_name, db_fault_offset};
 
+mod colours;
 mod vocabulary;
 
 use std::{error, fmt};
+pub use colours::{LinePart, Style, TextKind};
 pub use vocabulary::{KEY_NAMES, Misuse, PROPERTIES, ValueForm};
 
 /// A named class of bytes, as POSIX has it in the C locale.

@@ -55,7 +55,7 @@ cut_last (a ∷ xs) (b ∷ ys) x y e =
     (cc, r.1)
 
 -- a task's word
-word_of : Task → Text
+abbrev word_of : Task → Text
 word_of (Update verbose skip) = codes "update"
 word_of (Query devices json) = codes "query"
 word_of (Explain device json) = codes "explain"

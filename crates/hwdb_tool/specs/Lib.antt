@@ -10,6 +10,7 @@ pub mod Internal
 pub mod NamedDatabases
 pub mod NearMisses
 pub mod Hiding
+pub mod Colours
 pub mod Crash
 pub mod Failures
 pub mod OneOutcome

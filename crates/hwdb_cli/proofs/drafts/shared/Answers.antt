@@ -14,4 +14,5 @@ returns c =
     } in
     let with_usr = c.with_argument-with_usr.ensures _ _ named c.flag-usr.ensures in
     let with_strict = c.with_argument-with_strict.ensures _ _ with_usr c.strict_option.ensures in
-    c.with_argument.ensures _ _ with_strict c.root_option.ensures
+    let with_root = c.with_argument-with_root.ensures _ _ with_strict c.root_option.ensures in
+    c.with_argument.ensures _ _ with_root c.color_option.ensures
