@@ -18,7 +18,8 @@ use std::alloc::{AllocError, Global};
 pub const SHORT: &str = "prints the patterns that almost matched a device";
 
 /// What help begins with.
-const ABOUT: &str = "Prints the patterns that match a device, and the nearest that don't, with the place where each stops";
+const ABOUT: &str =
+    "Prints the patterns that match a device, and the nearest that don't, with the place where each stops";
 
 /// What help ends with.
 const AFTER: &str =

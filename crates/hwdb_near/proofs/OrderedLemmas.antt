@@ -143,7 +143,6 @@ module _ {A : Type 0} (cmp : A → A → Ordering) (total : IsTotalOrder cmp) wh
   unfolding IsStrictlySortedBy
   nothing_ordered = tt
 
-
 -- ---- members of a list that something is made of
 
 record Made {X A : Type 0} (f : X → A) (xs : List X) (s : A) : Type 0 where

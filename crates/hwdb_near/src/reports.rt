@@ -4,8 +4,8 @@ ghost use Rattle.hwdb_spec.specs.Near.{marked, match_report, near_report, said_l
 ghost use Rattle.hwdb_near.specs.Views.{pattern_at};
 ghost use Rattle.hwdb_near.specs.Internal.Ratings.{rated_of};
 
-use crate::fronts::stops;
 use crate::found::{PatternAt, Rated};
+use crate::fronts::stops;
 use crate::reasons::{after, push_why};
 use hwdb_show::{push_mark_line, push_shown_line};
 use itoa::Buffer;

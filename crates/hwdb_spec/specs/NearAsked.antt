@@ -50,6 +50,7 @@ database_patterns tree = gathered (map pattern_of (members_under [] tree))
 abbrev pub told_nearest : ℕ
 told_nearest = 3
 
+-- how many are told, by the number that is given, if there is one
 abbrev pub near_limit : Option ℕ → ℕ
 near_limit None = told_nearest
 near_limit (Some limit) = limit

@@ -1,5 +1,5 @@
 //! `near`: the patterns that almost matched a device, of text files or of the database below the root. Nothing is written.
-ghost use Rattle.std.specs.Prelude.{◌≡◌, ◌⊎◌, ◌==◌, true, false, not, length, map, string_bytes, IfErr, IfOk};
+ghost use Rattle.std.specs.Prelude.{◌≡◌, ◌⊎◌, ◌==◌, true, false, not, length, map, string_bytes, IfErr, IfOk, List};
 ghost use Rattle.hwdb_fs.specs.Refusals.{HasReason, IsUnreadable};
 ghost use Rattle.hwdb_lint.specs.Checks;
 ghost use Rattle.hwdb_near.specs.Views;
@@ -135,8 +135,8 @@ fn near_given<D: System, I: Source>(
     let texts = read_given(alloc, given, &text, system)?;
     let files = with_paths(alloc, given, &texts)?;
     let compared = compared(alloc, &files)?;
-    let text = near_in_files(alloc, &compared, device, limit, json)?;
-    Ok(Answer::new(alloc, text, 0))
+    let told = near_in_files(alloc, &compared, device, limit, json)?;
+    Ok(Answer::new(alloc, told, 0))
 }
 
 /// The text files, as they are compared.
