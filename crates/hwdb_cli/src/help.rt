@@ -39,6 +39,9 @@ const STRICT_LINE: &str = "  -s, --strict ";
 
 const COLOR_LINE: &str = "      --color ";
 
+/// How the words of `near` are shown, of which the last is the device string.
+const NEAR_WORDS: &str = "<MODALIAS>...";
+
 /// The short help.
 ///
 /// The only error is that memory is refused.
@@ -59,13 +62,29 @@ pub fn fitting_help(alloc: Global, text: &str) -> Result<String, AllocError> {
     let mut shown = String::new(alloc);
     for line in text.split("\n") {
         if !is_idle(line, command) {
-            shown.push_str(line)?;
+            push_line(&mut shown, line, command)?;
             shown.push_str("\n")?;
         }
     }
     // The text ends in a newline, behind which there is an empty line.
     let _ = shown.pop();
     Ok(shown)
+}
+
+/// Adds a line of a command's help. `near` takes files and a device, which `clap` shows as words of one kind.
+fn push_line(shown: &mut String, line: &str, command: &str) -> Result<(), AllocError> {
+    if command != "near" {
+        return shown.push_str(line);
+    }
+    match line.split_once(NEAR_WORDS) {
+        Some(("  ", _)) => shown.push_str(near::ARGUMENTS),
+        Some((before, after)) => {
+            shown.push_str(before)?;
+            shown.push_str("[FILE]... <MODALIAS>")?;
+            shown.push_str(after)
+        }
+        None => shown.push_str(line),
+    }
 }
 
 /// The command that the usage names; `[OPTIONS]` in the help of the whole program.

@@ -25,12 +25,15 @@ const ABOUT: &str =
 const AFTER: &str =
     "Exit status: 0 on success, even if there is no pattern; 1 on errors.\nExample: hwdb near 60-keyboard.hwdb usb:v1D6Bp0002";
 
+/// What help says of its words.
+pub const ARGUMENTS: &str =
+    "  [FILE]...   Text files, or - for standard input; without one the database is asked\n  <MODALIAS>  The device string";
+
 /// The command.
 pub fn command<'a>(alloc: Global) -> Draft<'a>
     ensures { IsDraft near_app result }
 {
-    let help =
-        "Text files, of which - is standard input, and after them the device string; without a file the database is asked";
+    let help = "Text files, and after them the device string";
     let command = shared(alloc, "near", ABOUT, AFTER);
     let with_limit = with_argument(command, limit_option(alloc));
     let with_json = with_argument(with_limit, json_option(alloc));

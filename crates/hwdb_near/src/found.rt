@@ -4,7 +4,8 @@ ghost use Rattle.std.specs.Ordering.{as_partial_cmp, eq_by_cmp};
 ghost use Rattle.std.specs.Cmp.{eq_by_cmp_equiv, partial_equiv_from_equiv, partial_order_from_total};
 ghost use Rattle.hwdb_spec.specs.Assignment.{in_order};
 ghost use Rattle.hwdb_spec.specs.Near.{near_cmp};
-ghost use Rattle.hwdb_near.specs.Internal.Ratings.{by_nearness, by_nearness_total, rated_of};
+ghost use Rattle.hwdb_near.specs.Views.{pattern_at};
+ghost use Rattle.hwdb_near.specs.Internal.Ratings.{by_nearness, by_nearness_total, place_order, rated_of, text_order};
 
 use std::cmp::Ordering;
 
@@ -72,17 +73,40 @@ impl<'a> Ord for Rated<'a> {
     }
 }
 
-/// Which of two patterns is nearer, and of two that are as near which comes first.
+/// Which of two patterns comes first by its text and its path.
+fn by_text(a: &PatternAt<'_>, b: &PatternAt<'_>) -> Ordering
+    ensures { result ≡ text_order (pattern_at a.now) (pattern_at b.now) }
+{
+    match a.pattern.cmp(b.pattern) {
+        Ordering::Equal => a.path.cmp(b.path),
+        other => other,
+    }
+}
+
+/// Which of two patterns comes first by its file, its line and its text.
+fn by_place(a: &PatternAt<'_>, b: &PatternAt<'_>) -> Ordering
+    ensures { result ≡ place_order (pattern_at a.now) (pattern_at b.now) }
+{
+    match a.file.cmp(&b.file) {
+        Ordering::Equal => match a.line.cmp(&b.line) {
+            Ordering::Equal => by_text(a, b),
+            other => other,
+        },
+        other => other,
+    }
+}
+
+/// Which of two patterns is nearer, and of two that are as near which comes first. Texts are compared last, and seldom.
 fn order(a: &Rated<'_>, b: &Rated<'_>) -> Ordering
     ensures { result ≡ near_cmp (rated_of a.now) (rated_of b.now) }
 {
-    a.missing
-        .cmp(&b.missing)
-        .then(b.front.cmp(&a.front))
-        .then(a.at.file.cmp(&b.at.file))
-        .then(a.at.line.cmp(&b.at.line))
-        .then(a.at.pattern.cmp(b.at.pattern))
-        .then(a.at.path.cmp(b.at.path))
+    match a.missing.cmp(&b.missing) {
+        Ordering::Equal => match b.front.cmp(&a.front) {
+            Ordering::Equal => by_place(&a.at, &b.at),
+            other => other,
+        },
+        other => other,
+    }
 }
 
 /// The first of some patterns, by how near they are; each pattern and place once, and so many at most. They are sorted.

@@ -47,7 +47,8 @@ impl<'a> Found<'a> {
             ≡ map rated_of self.old.nearest.items
             ++ misses device.entry.text.now (pattern_at at.entry ∷ [])) }
     {
-        if hits(at.pattern, device.text) {
+        let is_hit = hits(alloc, at.pattern, device.text)?;
+        if is_hit {
             self.matching.push(at)?;
             return Ok(());
         }

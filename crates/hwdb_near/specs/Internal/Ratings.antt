@@ -3,6 +3,8 @@ use Rattle.std.specs.Prelude.{ℕ, List, filter, map, not}
 use Rattle.std.specs.Cmp.{IsTotalOrder, back_total, nat_cmp_total, on_total, then_total}
 use Rattle.std.specs.Cmp.Lexicographic.{nat_list_cmp_total}
 use Rattle.std.specs.declared.cmp.Ordering.{Ordering}
+use Rattle.std.specs.Ordering.{nat_cmp, ordering_then}
+use Rattle.hwdb_spec.specs.Assignment.{text_cmp}
 use Rattle.hwdb_spec.specs.Near.{PatternAt, Rated, hits, near_cmp, rated}
 use Rattle.hwdb_near.specs.declared.found.Rated.{Rated as Found}
 use Rattle.hwdb_near.specs.Views.{pattern_at}
@@ -13,6 +15,13 @@ rated_of r = record { missing = r.missing; front = r.front; at = pattern_at r.at
 -- those of some patterns that don't match, each with how near it is
 abbrev pub misses : List ℕ → List PatternAt → List Rated
 misses device all = map (rated device) (filter (λ at. not (hits device at)) all)
+
+-- the order of two patterns that are as near, by their texts, and by their places
+abbrev pub text_order : PatternAt → PatternAt → Ordering
+text_order a b = ordering_then (text_cmp a.pattern b.pattern) (text_cmp a.path b.path)
+
+abbrev pub place_order : PatternAt → PatternAt → Ordering
+place_order a b = ordering_then (nat_cmp a.file b.file) (ordering_then (nat_cmp a.line b.line) (text_order a b))
 
 -- the order is one of patterns and their places
 pub near_total : IsTotalOrder near_cmp
