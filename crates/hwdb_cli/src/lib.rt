@@ -17,6 +17,7 @@ mod help;
 mod job;
 mod list;
 mod matched;
+mod near;
 mod query;
 mod tips;
 mod update;
