@@ -1,5 +1,5 @@
 -- What `check` prints of the faults and warnings of one file: a report of each, or a line of JSON. Our choice.
-use Rattle.std.specs.Prelude.{Bool, true, false, ℕ, List, [], ◌∷◌, ◌++◌, ◌+◌, codes, flat_map}
+use Rattle.std.specs.Prelude.{Bool, true, false, ℕ, List, [], ◌∷◌, ◌++◌, ◌+◌, ◌-◌, ◌^◌, if◌then◌else◌, codes, flat_map, nat_lt}
 use Rattle.json.specs.Json.{Json}
 use Rattle.hwdb_spec.specs.Json.{json_line, number_json, object_of, text_json}
 use Rattle.hwdb_spec.specs.Kinds.{fault_name, warning_name}
@@ -10,7 +10,11 @@ use Rattle.hwdb_spec.specs.Warnings.{line_warnings, warning_hint, warning_place,
 use Rattle.hwdb_spec.specs.declared.Fault.{Fault}
 use Rattle.hwdb_spec.specs.declared.WarningKind.{WarningKind}
 
--- what is found in a line, as an object; the column is the byte with the mark, the first of the line is 1
+-- the column after so many bytes of a line, from 1; it stops at the greatest number of 64 bits
+abbrev pub column : ℕ → ℕ
+column at = if nat_lt (at + 1) (2 ^ 64) then at + 1 else 2 ^ 64 - 1
+
+-- what is found in a line, as an object; the column is that of the mark
 abbrev pub finding_json : (path : List ℕ) (line column : ℕ) (kind text hint : List ℕ) → Json
 finding_json path line column kind text hint =
     object_of ((codes "path", text_json path) ∷ (codes "line", number_json line) ∷ (codes "column", number_json column)
@@ -19,12 +23,12 @@ finding_json path line column kind text hint =
 -- the line of JSON of a fault, of a line with this text
 abbrev pub fault_json_line : (path text : List ℕ) → Fault → List ℕ
 fault_json_line path text f =
-    json_line (finding_json path f.line (fault_place f.kind text + 1) (fault_name f.kind) (fault_text f.kind) (fault_hint f.kind))
+    json_line (finding_json path f.line (column (fault_place f.kind text)) (fault_name f.kind) (fault_text f.kind) (fault_hint f.kind))
 
 -- the line of JSON of a warning of a line
 abbrev pub warning_json_line : (path : List ℕ) → Line → WarningKind → List ℕ
 warning_json_line path l kind =
-    json_line (finding_json path l.number (warning_place kind l.text (clean_line l).text + 1) (warning_name kind) (warning_text kind)
+    json_line (finding_json path l.number (column (warning_place kind l.text (clean_line l).text)) (warning_name kind) (warning_text kind)
     (warning_hint kind (clean_line l)))
 
 -- what is printed of a fault

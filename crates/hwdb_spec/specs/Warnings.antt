@@ -99,26 +99,21 @@ warns file Unread line l = is_unread file l.number
 warns file Unpaired line l = is_unpaired file l.number
 warns file (Unmatched told) line l = is_unmatched (judgement_of l.text)
 
--- one warning of a line, or none; a kind that is allowed isn't told
-abbrev pub warned : (allowed : List (List ℕ)) → (file : List ℕ) → WarningKind → (line clean : Line) → List WarningKind
-warned allowed file kind line clean = if is_told allowed kind then (if warns file kind line clean then kind ∷ [] else []) else []
+-- The kinds of warnings that a line may get. That of a replaced one names the last line that replaces, that of a misused one says how,
+-- and that of a pattern what is said of it.
+abbrev pub line_kinds : (file : List ℕ) → (clean : Line) → List WarningKind
+line_kinds file clean =
+    ByteOrderMark ∷ LeadingTab ∷ CarriageReturn ∷ OpenBracket ∷ EmptyRange ∷ SpacedEquals ∷ CutValue ∷ RepeatedMatch
+    ∷ Replaced (greatest (replacing file clean.number)) ∷ Misused (unwrap_or (misused clean) NearName) ∷ Unread ∷ Unpaired
+    ∷ Unmatched (judgement_of clean.text) ∷ []
 
--- all warnings of a line; that of a replaced one names the last line that replaces, and that of a misused one says how
+-- whether a line gets a warning that is told
+abbrev pub gets : (allowed : List (List ℕ)) → (file : List ℕ) → (line clean : Line) → WarningKind → Bool
+gets allowed file line clean kind = if is_told allowed kind then warns file kind line clean else false
+
+-- all warnings of a line that are told
 abbrev pub all_warnings : (allowed : List (List ℕ)) → (file : List ℕ) → (line clean : Line) → List WarningKind
-all_warnings allowed file line clean =
-    warned allowed file ByteOrderMark line clean
-    ++ (warned allowed file LeadingTab line clean
-    ++ (warned allowed file CarriageReturn line clean
-    ++ (warned allowed file OpenBracket line clean
-    ++ (warned allowed file EmptyRange line clean
-    ++ (warned allowed file SpacedEquals line clean
-    ++ (warned allowed file CutValue line clean
-    ++ (warned allowed file RepeatedMatch line clean
-    ++ (warned allowed file (Replaced (greatest (replacing file clean.number))) line clean
-    ++ (warned allowed file (Misused (unwrap_or (misused clean) NearName)) line clean
-    ++ (warned allowed file Unread line clean
-    ++ (warned allowed file Unpaired line clean
-    ++ warned allowed file (Unmatched (judgement_of clean.text)) line clean)))))))))))
+all_warnings allowed file line clean = filter (gets allowed file line clean) (line_kinds file clean)
 
 -- the warnings of a line of a file; none where the line is dropped
 abbrev pub line_warnings : (allowed : List (List ℕ)) → (file : List ℕ) → Line → List WarningKind
