@@ -15,6 +15,9 @@ strict_rule = record (new_rule (codes "strict")) { short = Some 115; long = Some
 abbrev pub root_rule : Rule
 root_rule = record (new_rule (codes "root")) { value_names = 1; short = Some 114; long = Some (codes "root"); action = Some Set }
 
+abbrev pub color_rule : Rule
+color_rule = record (new_rule (codes "color")) { value_names = 1; long = Some (codes "color"); action = Some Set }
+
 abbrev pub device_rule : Rule
 device_rule = record (new_rule (codes "MODALIAS")) { required = true; action = Some Set }
 
@@ -56,7 +59,7 @@ json_rule = record (new_rule (codes "json")) { long = Some (codes "json"); actio
 
 -- the options that stand before and behind the command's word
 abbrev pub with_shared : App → App
-with_shared a = with_rule (with_rule (with_rule a usr_rule) strict_rule) root_rule
+with_shared a = with_rule (with_rule (with_rule (with_rule a usr_rule) strict_rule) root_rule) color_rule
 
 -- the options that say which hits are listed
 abbrev pub with_range : App → App

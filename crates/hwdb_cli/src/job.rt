@@ -80,6 +80,8 @@ pub struct Job {
     pub strict: bool,
     /// What to put in front of the paths of folders and databases.
     pub root: Option<String>,
+    /// When the output is coloured, as it was given.
+    pub color: Option<String>,
     /// What to do.
     pub task: Task,
 }

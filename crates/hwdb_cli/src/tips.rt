@@ -112,6 +112,7 @@ fn written_out(word: &str) -> Option<&'static str> {
         "--root" | "-r" => Some("--root"),
         "--after" => Some("--after"),
         "--limit" => Some("--limit"),
+        "--color" => Some("--color"),
         _ => None,
     }
 }
