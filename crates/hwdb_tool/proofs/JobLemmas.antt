@@ -46,7 +46,7 @@ word_of (Query devices json) = codes "query"
 word_of (Explain device json) = codes "explain"
 word_of (ListHits after limit device json) = codes "list"
 word_of (Ask file device) = codes "ask"
-word_of (Check files) = codes "check"
+word_of (Check files allowed json) = codes "check"
 word_of (Diff old_path new_path) = codes "diff"
 word_of (Verify database) = codes "verify"
 word_of (Dump database) = codes "dump"
@@ -98,8 +98,10 @@ module _ (name : Text) (inner : List Row) (root : List ℕ) (usr strict : Bool) 
   same_task (Ask file1 device1) (Ask file2 device2) t u done =
       subst (λ (f : List ℕ). Prints (λ texts. (status ≡ 0) × IsAsked f (string_bytes device1) input old texts)) (one_value (first_of (codes "FILE") inner) _ _ u.1 t.1)
       (subst (λ (d : List ℕ). Prints (λ texts. (status ≡ 0) × IsAsked (string_bytes file2) d input old texts)) (one_value (first_of (codes "MODALIAS") inner) _ _ u.2 t.2) done)
-  same_task (Check files1) (Check files2) t u done =
-      subst (λ (fs : List (List ℕ)). Prints (OnOut (λ text. IsChecked (AreCheckedFiles fs root input old) strict text status))) (u.1 ∙ sym t.1) done
+  same_task (Check files1 allowed1 json1) (Check files2 allowed2 json2) t u done =
+      subst (λ (fs : List (List ℕ)). Prints (OnOut (λ text. IsChecked (AreCheckedFiles fs root input old) json1 strict (map string_bytes allowed1.items) text status))) (u.1 ∙ sym t.1)
+      (subst (λ (ks : List (List ℕ)). Prints (OnOut (λ text. IsChecked (AreCheckedFiles (map string_bytes files2.items) root input old) json1 strict ks text status))) (u.2 ∙ sym t.2)
+      (subst (λ (j : Bool). Prints (OnOut (λ text. IsChecked (AreCheckedFiles (map string_bytes files2.items) root input old) j strict (map string_bytes allowed2.items) text status))) (u.3 ∙ sym t.3) done))
   same_task (Diff old1 new1) (Diff old2 new2) t u done =
       subst (λ (p : List ℕ). Prints (OnOut (λ text. IsCompared p (string_bytes new1) old text status))) (one_value (first_of (codes "OLD") inner) _ _ u.1 t.1)
       (subst (λ (p : List ℕ). Prints (OnOut (λ text. IsCompared (string_bytes old2) p old text status))) (one_value (first_of (codes "NEW") inner) _ _ u.2 t.2) done)
