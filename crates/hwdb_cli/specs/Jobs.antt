@@ -38,7 +38,8 @@ IsTask name inner (Explain device json) = (name ≡ codes "explain") × (json �
 IsTask name inner (Ask file device) = (name ≡ codes "ask") × IsValue (codes "FILE") inner (string_bytes file) × IsValue (codes "MODALIAS") inner (string_bytes device)
 IsTask name inner (ListHits after limit device json) = (name ≡ codes "list") × (json ≡ has_flag (codes "json") inner) × (option_map string_bytes after ≡ first_of (codes "after") inner)
     × IsLimit (one_of (codes "limit") inner) limit × IsValue (codes "MODALIAS") inner (string_bytes device)
-IsTask name inner (Check files) = (name ≡ codes "check") × AreAnyValues (codes "FILE") inner (map string_bytes files.items)
+IsTask name inner (Check files allowed json) = (name ≡ codes "check") × AreAnyValues (codes "FILE") inner (map string_bytes files.items)
+    × AreAnyValues (codes "allow") inner (map string_bytes allowed.items) × (json ≡ has_flag (codes "json") inner)
 IsTask name inner (Diff old new) = (name ≡ codes "diff") × IsValue (codes "OLD") inner (string_bytes old) × IsValue (codes "NEW") inner (string_bytes new)
 IsTask name inner (Verify database) = (name ≡ codes "verify") × (option_map string_bytes database ≡ first_of (codes "DATABASE") inner)
 IsTask name inner (Dump database) = (name ≡ codes "dump") × (option_map string_bytes database ≡ first_of (codes "DATABASE") inner)
@@ -47,6 +48,7 @@ pub record IsJob (top : List Row) (name : Text) (inner : List Row) (job : Job) :
   pub usr : job.usr ≡ (has_flag (codes "usr") inner || has_flag (codes "usr") top)
   pub strict : job.strict ≡ (has_flag (codes "strict") inner || has_flag (codes "strict") top)
   pub root : option_map string_bytes job.root ≡ option_or (first_of (codes "root") inner) (first_of (codes "root") top)
+  pub color : option_map string_bytes job.color ≡ option_or (first_of (codes "color") inner) (first_of (codes "color") top)
   pub task : IsTask name inner job.task
 
 -- the job of a command's own matches and of its subcommand's

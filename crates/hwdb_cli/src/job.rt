@@ -51,6 +51,10 @@ pub enum Task {
     Check {
         /// The text files' paths; none where both folders are meant.
         files: Vec<String>,
+        /// The names of the kinds of warnings that are left out.
+        allowed: Vec<String>,
+        /// Whether as JSON.
+        json: bool,
     },
     /// Print what changed from one database to another.
     Diff {
@@ -80,6 +84,8 @@ pub struct Job {
     pub strict: bool,
     /// What to put in front of the paths of folders and databases.
     pub root: Option<String>,
+    /// When the output is coloured, as it was given.
+    pub color: Option<String>,
     /// What to do.
     pub task: Task,
 }

@@ -7,6 +7,27 @@ ghost use Rattle.hwdb_spec.specs.Kinds;
 use hwdb_properties::same;
 use hwdb_spec::{FaultKind, Judgement, Misuse, WarningKind};
 
+/// The names of all kinds of warnings, a line each.
+pub const KINDS: &str = "byte-order-mark
+leading-tab
+carriage-return
+open-bracket
+empty-range
+spaced-equals
+cut-value
+repeated-match
+replaced
+near-name
+scan-code
+unknown-key
+unfit-value
+zero-row
+two-defaults
+unread
+unpaired
+unknown-prefix
+dead-pattern";
+
 /// How findings are told.
 #[derive(Clone, Copy)]
 pub struct Telling<'a> {

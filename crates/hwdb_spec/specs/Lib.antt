@@ -44,3 +44,4 @@ pub mod Library
 pub mod Hiding
 pub mod Done
 pub mod Near
+pub mod Colours

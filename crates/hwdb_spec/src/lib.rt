@@ -51,6 +51,7 @@
 //! | `Hiding` | what `update --usr --verbose` says where /etc's database hides the new one |
 //! | `Done` | what `update` and `ask` leave, and what a crash leaves during an update |
 //! | `Near` | the pattern that almost matched a device, and where it stopped |
+//! | `Colours` | how a text is shown in colour |
 //!
 //! The types below are those that the definitions name.
 #![tactic(auto)]
@@ -59,9 +60,11 @@ ghost use Rattle.std.specs.Prelude.{◌≡◌};
 ghost use Rattle.hwdb_spec.specs.Records.{fault_text};
 ghost use Rattle.hwdb_spec.specs.Texts.{db_fault_name, db_fault_offset};
 
+mod colours;
 mod vocabulary;
 
 use std::{error, fmt};
+pub use colours::{LinePart, Style, TextKind};
 pub use vocabulary::{COMPANIONS, KEY_NAMES, Misuse, PROPERTIES, ValueForm};
 
 /// A named class of bytes, as POSIX has it in the C locale.

@@ -1,7 +1,9 @@
 -- Words ask for one job.
-use Rattle.std.proofs.Common.{◌≡◌, ◌∙◌, ap, refl, sym, subst, Bool, List, [], ◌∷◌, ◌+◌, ◌*◌, map, ℕ, Option, Some, None, string_bytes, arith, get_or, ⊎_elim}
+use Rattle.std.proofs.Common.{◌≡◌, ◌∙◌, ap, refl, sym, subst, Bool, false, true≢false, List, [], ◌∷◌, map, ℕ, Option, Some, None, string_bytes, ⊎_elim}
 use Rattle.std.specs.Prelude.{codes, option_map}
 use Rattle.std.specs.Option.{option_map_or}
+use Rattle.std.specs.Str.{bytes_eq}
+use Rattle.std.proofs.lemmas.Slice.Eq.{bytes_eq-Decides}
 use Rattle.clap.specs.declared.error.kind.ErrorKind.TheVariants.{DisplayHelp, DisplayVersion}
 use Rattle.clap.specs.Kinds.{IsAmong}
 use Rattle.clap.specs.Walk.{Row, Text, all_of, first_of, one_of}
@@ -37,12 +39,25 @@ one_limit (Some text) None b one two = absurd one
 one_limit (Some text) (Some a) None one two = absurd two
 one_limit (Some text) (Some a) (Some b) one two = ap Some (one.1 ∙ sym two.1)
 
--- two names aren't one, by their first letters
-abbrev tag : List ℕ → ℕ
-tag l = get_or l 0 0 * 1000 + get_or l 1 0
+-- a task's word
+abbrev word_of : Task → Text
+word_of (Update verbose skip) = codes "update"
+word_of (Query devices json) = codes "query"
+word_of (Explain device json) = codes "explain"
+word_of (ListHits after limit device json) = codes "list"
+word_of (Ask file device) = codes "ask"
+word_of (Check files allowed json) = codes "check"
+word_of (Diff old_path new_path) = codes "diff"
+word_of (Verify database) = codes "verify"
+word_of (Dump database) = codes "dump"
 
-apart : (m n : List ℕ) → m ≡ n → (tag m ≡ tag n → ⊥) → ⊥
-apart m n e differ = differ (ap tag e)
+is_named : (name : Text) (inner : List Row) (task : Task) → IsTask name inner task → name ≡ word_of task
+is_named name inner (Update verbose skip) t = t.0
+is_named name inner task t = t.0
+
+-- two names aren't one
+apart : {X : Type 0} (m n : Text) → bytes_eq m n ≡ false → m ≡ n → X
+apart m n differ is = absurd (true≢false (sym ((bytes_eq-Decides m n).1 is) ∙ differ))
 
 -- what is done of the one task is done of the other
 module _ (name : Text) (inner : List Row) (root : List ℕ) (usr strict : Bool) (status : ℕ) (before now : World) where
@@ -69,101 +84,33 @@ module _ (name : Text) (inner : List Row) (root : List ℕ) (usr strict : Bool) 
   pub same_task : (t u : Task) → IsTask name inner t → IsTask name inner u → Out u → Out t
   same_task (Update v1 k1) (Update v2 k2) t u done =
       subst (λ (b : Bool). Out (Update b k1)) (u.1 ∙ sym t.1) (subst (λ (b : Bool). Out (Update v2 b)) (u.2 ∙ sym t.2) done)
-  same_task (Update v1 k1) (Query devices2 json2) t u done = absurd (apart (codes "update") (codes "query") (sym t.0 ∙ u.0) (λ (e : 117112 ≡ 113117). omega (arith, e)))
-  same_task (Update v1 k1) (Explain device2 json2) t u done = absurd (apart (codes "update") (codes "explain") (sym t.0 ∙ u.0) (λ (e : 117112 ≡ 101120). omega (arith, e)))
-  same_task (Update v1 k1) (ListHits after2 limit2 device2 json2) t u done = absurd (apart (codes "update") (codes "list") (sym t.0 ∙ u.0) (λ (e : 117112 ≡ 108105). omega (arith, e)))
-  same_task (Update v1 k1) (Ask file2 device2) t u done = absurd (apart (codes "update") (codes "ask") (sym t.0 ∙ u.0) (λ (e : 117112 ≡ 97115). omega (arith, e)))
-  same_task (Update v1 k1) (Check files2) t u done = absurd (apart (codes "update") (codes "check") (sym t.0 ∙ u.0) (λ (e : 117112 ≡ 99104). omega (arith, e)))
-  same_task (Update v1 k1) (Diff old2 new2) t u done = absurd (apart (codes "update") (codes "diff") (sym t.0 ∙ u.0) (λ (e : 117112 ≡ 100105). omega (arith, e)))
-  same_task (Update v1 k1) (Verify database2) t u done = absurd (apart (codes "update") (codes "verify") (sym t.0 ∙ u.0) (λ (e : 117112 ≡ 118101). omega (arith, e)))
-  same_task (Update v1 k1) (Dump database2) t u done = absurd (apart (codes "update") (codes "dump") (sym t.0 ∙ u.0) (λ (e : 117112 ≡ 100117). omega (arith, e)))
-  same_task (Query devices1 json1) (Update v2 k2) t u done = absurd (apart (codes "query") (codes "update") (sym t.0 ∙ u.0) (λ (e : 113117 ≡ 117112). omega (arith, e)))
   same_task (Query devices1 json1) (Query devices2 json2) t u done =
       subst (λ (ds : List (List ℕ)). Answers ds (form.Query json1)) (one_values (all_of (codes "MODALIAS") inner) _ _ u.2 t.2)
       (subst (λ (j : Bool). Answers (map string_bytes devices2.items) (form.Query j)) (u.1 ∙ sym t.1) done)
-  same_task (Query devices1 json1) (Explain device2 json2) t u done = absurd (apart (codes "query") (codes "explain") (sym t.0 ∙ u.0) (λ (e : 113117 ≡ 101120). omega (arith, e)))
-  same_task (Query devices1 json1) (ListHits after2 limit2 device2 json2) t u done = absurd (apart (codes "query") (codes "list") (sym t.0 ∙ u.0) (λ (e : 113117 ≡ 108105). omega (arith, e)))
-  same_task (Query devices1 json1) (Ask file2 device2) t u done = absurd (apart (codes "query") (codes "ask") (sym t.0 ∙ u.0) (λ (e : 113117 ≡ 97115). omega (arith, e)))
-  same_task (Query devices1 json1) (Check files2) t u done = absurd (apart (codes "query") (codes "check") (sym t.0 ∙ u.0) (λ (e : 113117 ≡ 99104). omega (arith, e)))
-  same_task (Query devices1 json1) (Diff old2 new2) t u done = absurd (apart (codes "query") (codes "diff") (sym t.0 ∙ u.0) (λ (e : 113117 ≡ 100105). omega (arith, e)))
-  same_task (Query devices1 json1) (Verify database2) t u done = absurd (apart (codes "query") (codes "verify") (sym t.0 ∙ u.0) (λ (e : 113117 ≡ 118101). omega (arith, e)))
-  same_task (Query devices1 json1) (Dump database2) t u done = absurd (apart (codes "query") (codes "dump") (sym t.0 ∙ u.0) (λ (e : 113117 ≡ 100117). omega (arith, e)))
-  same_task (Explain device1 json1) (Update v2 k2) t u done = absurd (apart (codes "explain") (codes "update") (sym t.0 ∙ u.0) (λ (e : 101120 ≡ 117112). omega (arith, e)))
-  same_task (Explain device1 json1) (Query devices2 json2) t u done = absurd (apart (codes "explain") (codes "query") (sym t.0 ∙ u.0) (λ (e : 101120 ≡ 113117). omega (arith, e)))
   same_task (Explain device1 json1) (Explain device2 json2) t u done =
       subst (λ (d : List ℕ). Answers (d ∷ []) (form.Explain json1)) (one_value (first_of (codes "MODALIAS") inner) _ _ u.2 t.2)
       (subst (λ (j : Bool). Answers (string_bytes device2 ∷ []) (form.Explain j)) (u.1 ∙ sym t.1) done)
-  same_task (Explain device1 json1) (ListHits after2 limit2 device2 json2) t u done = absurd (apart (codes "explain") (codes "list") (sym t.0 ∙ u.0) (λ (e : 101120 ≡ 108105). omega (arith, e)))
-  same_task (Explain device1 json1) (Ask file2 device2) t u done = absurd (apart (codes "explain") (codes "ask") (sym t.0 ∙ u.0) (λ (e : 101120 ≡ 97115). omega (arith, e)))
-  same_task (Explain device1 json1) (Check files2) t u done = absurd (apart (codes "explain") (codes "check") (sym t.0 ∙ u.0) (λ (e : 101120 ≡ 99104). omega (arith, e)))
-  same_task (Explain device1 json1) (Diff old2 new2) t u done = absurd (apart (codes "explain") (codes "diff") (sym t.0 ∙ u.0) (λ (e : 101120 ≡ 100105). omega (arith, e)))
-  same_task (Explain device1 json1) (Verify database2) t u done = absurd (apart (codes "explain") (codes "verify") (sym t.0 ∙ u.0) (λ (e : 101120 ≡ 118101). omega (arith, e)))
-  same_task (Explain device1 json1) (Dump database2) t u done = absurd (apart (codes "explain") (codes "dump") (sym t.0 ∙ u.0) (λ (e : 101120 ≡ 100117). omega (arith, e)))
-  same_task (ListHits after1 limit1 device1 json1) (Update v2 k2) t u done = absurd (apart (codes "list") (codes "update") (sym t.0 ∙ u.0) (λ (e : 108105 ≡ 117112). omega (arith, e)))
-  same_task (ListHits after1 limit1 device1 json1) (Query devices2 json2) t u done = absurd (apart (codes "list") (codes "query") (sym t.0 ∙ u.0) (λ (e : 108105 ≡ 113117). omega (arith, e)))
-  same_task (ListHits after1 limit1 device1 json1) (Explain device2 json2) t u done = absurd (apart (codes "list") (codes "explain") (sym t.0 ∙ u.0) (λ (e : 108105 ≡ 101120). omega (arith, e)))
   same_task (ListHits after1 limit1 device1 json1) (ListHits after2 limit2 device2 json2) t u done =
       subst (λ (a : Option (List ℕ)). Quietly (IsAnswered root (IsListFrom json1 (string_bytes device1) a limit1) old)) (u.2 ∙ sym t.2)
       (subst (λ (l : Option ℕ). Quietly (IsAnswered root (IsListFrom json1 (string_bytes device1) (option_map string_bytes after2) l) old)) (one_limit (one_of (codes "limit") inner) limit2 limit1 u.3 t.3)
       (subst (λ (d : List ℕ). Quietly (IsAnswered root (IsListFrom json1 d (option_map string_bytes after2) limit2) old)) (one_value (first_of (codes "MODALIAS") inner) _ _ u.4 t.4)
       (subst (λ (j : Bool). Quietly (IsAnswered root (IsListFrom j (string_bytes device2) (option_map string_bytes after2) limit2) old)) (u.1 ∙ sym t.1) done)))
-  same_task (ListHits after1 limit1 device1 json1) (Ask file2 device2) t u done = absurd (apart (codes "list") (codes "ask") (sym t.0 ∙ u.0) (λ (e : 108105 ≡ 97115). omega (arith, e)))
-  same_task (ListHits after1 limit1 device1 json1) (Check files2) t u done = absurd (apart (codes "list") (codes "check") (sym t.0 ∙ u.0) (λ (e : 108105 ≡ 99104). omega (arith, e)))
-  same_task (ListHits after1 limit1 device1 json1) (Diff old2 new2) t u done = absurd (apart (codes "list") (codes "diff") (sym t.0 ∙ u.0) (λ (e : 108105 ≡ 100105). omega (arith, e)))
-  same_task (ListHits after1 limit1 device1 json1) (Verify database2) t u done = absurd (apart (codes "list") (codes "verify") (sym t.0 ∙ u.0) (λ (e : 108105 ≡ 118101). omega (arith, e)))
-  same_task (ListHits after1 limit1 device1 json1) (Dump database2) t u done = absurd (apart (codes "list") (codes "dump") (sym t.0 ∙ u.0) (λ (e : 108105 ≡ 100117). omega (arith, e)))
-  same_task (Ask file1 device1) (Update v2 k2) t u done = absurd (apart (codes "ask") (codes "update") (sym t.0 ∙ u.0) (λ (e : 97115 ≡ 117112). omega (arith, e)))
-  same_task (Ask file1 device1) (Query devices2 json2) t u done = absurd (apart (codes "ask") (codes "query") (sym t.0 ∙ u.0) (λ (e : 97115 ≡ 113117). omega (arith, e)))
-  same_task (Ask file1 device1) (Explain device2 json2) t u done = absurd (apart (codes "ask") (codes "explain") (sym t.0 ∙ u.0) (λ (e : 97115 ≡ 101120). omega (arith, e)))
-  same_task (Ask file1 device1) (ListHits after2 limit2 device2 json2) t u done = absurd (apart (codes "ask") (codes "list") (sym t.0 ∙ u.0) (λ (e : 97115 ≡ 108105). omega (arith, e)))
   same_task (Ask file1 device1) (Ask file2 device2) t u done =
       subst (λ (f : List ℕ). Prints (λ texts. (status ≡ 0) × IsAsked f (string_bytes device1) input old texts)) (one_value (first_of (codes "FILE") inner) _ _ u.1 t.1)
       (subst (λ (d : List ℕ). Prints (λ texts. (status ≡ 0) × IsAsked (string_bytes file2) d input old texts)) (one_value (first_of (codes "MODALIAS") inner) _ _ u.2 t.2) done)
-  same_task (Ask file1 device1) (Check files2) t u done = absurd (apart (codes "ask") (codes "check") (sym t.0 ∙ u.0) (λ (e : 97115 ≡ 99104). omega (arith, e)))
-  same_task (Ask file1 device1) (Diff old2 new2) t u done = absurd (apart (codes "ask") (codes "diff") (sym t.0 ∙ u.0) (λ (e : 97115 ≡ 100105). omega (arith, e)))
-  same_task (Ask file1 device1) (Verify database2) t u done = absurd (apart (codes "ask") (codes "verify") (sym t.0 ∙ u.0) (λ (e : 97115 ≡ 118101). omega (arith, e)))
-  same_task (Ask file1 device1) (Dump database2) t u done = absurd (apart (codes "ask") (codes "dump") (sym t.0 ∙ u.0) (λ (e : 97115 ≡ 100117). omega (arith, e)))
-  same_task (Check files1) (Update v2 k2) t u done = absurd (apart (codes "check") (codes "update") (sym t.0 ∙ u.0) (λ (e : 99104 ≡ 117112). omega (arith, e)))
-  same_task (Check files1) (Query devices2 json2) t u done = absurd (apart (codes "check") (codes "query") (sym t.0 ∙ u.0) (λ (e : 99104 ≡ 113117). omega (arith, e)))
-  same_task (Check files1) (Explain device2 json2) t u done = absurd (apart (codes "check") (codes "explain") (sym t.0 ∙ u.0) (λ (e : 99104 ≡ 101120). omega (arith, e)))
-  same_task (Check files1) (ListHits after2 limit2 device2 json2) t u done = absurd (apart (codes "check") (codes "list") (sym t.0 ∙ u.0) (λ (e : 99104 ≡ 108105). omega (arith, e)))
-  same_task (Check files1) (Ask file2 device2) t u done = absurd (apart (codes "check") (codes "ask") (sym t.0 ∙ u.0) (λ (e : 99104 ≡ 97115). omega (arith, e)))
-  same_task (Check files1) (Check files2) t u done =
-      subst (λ (fs : List (List ℕ)). Prints (OnOut (λ text. IsChecked (AreCheckedFiles fs root input old) strict text status))) (u.1 ∙ sym t.1) done
-  same_task (Check files1) (Diff old2 new2) t u done = absurd (apart (codes "check") (codes "diff") (sym t.0 ∙ u.0) (λ (e : 99104 ≡ 100105). omega (arith, e)))
-  same_task (Check files1) (Verify database2) t u done = absurd (apart (codes "check") (codes "verify") (sym t.0 ∙ u.0) (λ (e : 99104 ≡ 118101). omega (arith, e)))
-  same_task (Check files1) (Dump database2) t u done = absurd (apart (codes "check") (codes "dump") (sym t.0 ∙ u.0) (λ (e : 99104 ≡ 100117). omega (arith, e)))
-  same_task (Diff old1 new1) (Update v2 k2) t u done = absurd (apart (codes "diff") (codes "update") (sym t.0 ∙ u.0) (λ (e : 100105 ≡ 117112). omega (arith, e)))
-  same_task (Diff old1 new1) (Query devices2 json2) t u done = absurd (apart (codes "diff") (codes "query") (sym t.0 ∙ u.0) (λ (e : 100105 ≡ 113117). omega (arith, e)))
-  same_task (Diff old1 new1) (Explain device2 json2) t u done = absurd (apart (codes "diff") (codes "explain") (sym t.0 ∙ u.0) (λ (e : 100105 ≡ 101120). omega (arith, e)))
-  same_task (Diff old1 new1) (ListHits after2 limit2 device2 json2) t u done = absurd (apart (codes "diff") (codes "list") (sym t.0 ∙ u.0) (λ (e : 100105 ≡ 108105). omega (arith, e)))
-  same_task (Diff old1 new1) (Ask file2 device2) t u done = absurd (apart (codes "diff") (codes "ask") (sym t.0 ∙ u.0) (λ (e : 100105 ≡ 97115). omega (arith, e)))
-  same_task (Diff old1 new1) (Check files2) t u done = absurd (apart (codes "diff") (codes "check") (sym t.0 ∙ u.0) (λ (e : 100105 ≡ 99104). omega (arith, e)))
+  same_task (Check files1 allowed1 json1) (Check files2 allowed2 json2) t u done =
+      subst (λ (fs : List (List ℕ)). Prints (OnOut (λ text. IsChecked (AreCheckedFiles fs root input old) json1 strict (map string_bytes allowed1.items) text status))) (u.1 ∙ sym t.1)
+      (subst (λ (ks : List (List ℕ)). Prints (OnOut (λ text. IsChecked (AreCheckedFiles (map string_bytes files2.items) root input old) json1 strict ks text status))) (u.2 ∙ sym t.2)
+      (subst (λ (j : Bool). Prints (OnOut (λ text. IsChecked (AreCheckedFiles (map string_bytes files2.items) root input old) j strict (map string_bytes allowed2.items) text status))) (u.3 ∙ sym t.3) done))
   same_task (Diff old1 new1) (Diff old2 new2) t u done =
       subst (λ (p : List ℕ). Prints (OnOut (λ text. IsCompared p (string_bytes new1) old text status))) (one_value (first_of (codes "OLD") inner) _ _ u.1 t.1)
       (subst (λ (p : List ℕ). Prints (OnOut (λ text. IsCompared (string_bytes old2) p old text status))) (one_value (first_of (codes "NEW") inner) _ _ u.2 t.2) done)
-  same_task (Diff old1 new1) (Verify database2) t u done = absurd (apart (codes "diff") (codes "verify") (sym t.0 ∙ u.0) (λ (e : 100105 ≡ 118101). omega (arith, e)))
-  same_task (Diff old1 new1) (Dump database2) t u done = absurd (apart (codes "diff") (codes "dump") (sym t.0 ∙ u.0) (λ (e : 100105 ≡ 100117). omega (arith, e)))
-  same_task (Verify database1) (Update v2 k2) t u done = absurd (apart (codes "verify") (codes "update") (sym t.0 ∙ u.0) (λ (e : 118101 ≡ 117112). omega (arith, e)))
-  same_task (Verify database1) (Query devices2 json2) t u done = absurd (apart (codes "verify") (codes "query") (sym t.0 ∙ u.0) (λ (e : 118101 ≡ 113117). omega (arith, e)))
-  same_task (Verify database1) (Explain device2 json2) t u done = absurd (apart (codes "verify") (codes "explain") (sym t.0 ∙ u.0) (λ (e : 118101 ≡ 101120). omega (arith, e)))
-  same_task (Verify database1) (ListHits after2 limit2 device2 json2) t u done = absurd (apart (codes "verify") (codes "list") (sym t.0 ∙ u.0) (λ (e : 118101 ≡ 108105). omega (arith, e)))
-  same_task (Verify database1) (Ask file2 device2) t u done = absurd (apart (codes "verify") (codes "ask") (sym t.0 ∙ u.0) (λ (e : 118101 ≡ 97115). omega (arith, e)))
-  same_task (Verify database1) (Check files2) t u done = absurd (apart (codes "verify") (codes "check") (sym t.0 ∙ u.0) (λ (e : 118101 ≡ 99104). omega (arith, e)))
-  same_task (Verify database1) (Diff old2 new2) t u done = absurd (apart (codes "verify") (codes "diff") (sym t.0 ∙ u.0) (λ (e : 118101 ≡ 100105). omega (arith, e)))
   same_task (Verify database1) (Verify database2) t u done =
       subst (λ (d : Option (List ℕ)). Quietly (IsPrinted d root IsSummary old)) (u.1 ∙ sym t.1) done
-  same_task (Verify database1) (Dump database2) t u done = absurd (apart (codes "verify") (codes "dump") (sym t.0 ∙ u.0) (λ (e : 118101 ≡ 100117). omega (arith, e)))
-  same_task (Dump database1) (Update v2 k2) t u done = absurd (apart (codes "dump") (codes "update") (sym t.0 ∙ u.0) (λ (e : 100117 ≡ 117112). omega (arith, e)))
-  same_task (Dump database1) (Query devices2 json2) t u done = absurd (apart (codes "dump") (codes "query") (sym t.0 ∙ u.0) (λ (e : 100117 ≡ 113117). omega (arith, e)))
-  same_task (Dump database1) (Explain device2 json2) t u done = absurd (apart (codes "dump") (codes "explain") (sym t.0 ∙ u.0) (λ (e : 100117 ≡ 101120). omega (arith, e)))
-  same_task (Dump database1) (ListHits after2 limit2 device2 json2) t u done = absurd (apart (codes "dump") (codes "list") (sym t.0 ∙ u.0) (λ (e : 100117 ≡ 108105). omega (arith, e)))
-  same_task (Dump database1) (Ask file2 device2) t u done = absurd (apart (codes "dump") (codes "ask") (sym t.0 ∙ u.0) (λ (e : 100117 ≡ 97115). omega (arith, e)))
-  same_task (Dump database1) (Check files2) t u done = absurd (apart (codes "dump") (codes "check") (sym t.0 ∙ u.0) (λ (e : 100117 ≡ 99104). omega (arith, e)))
-  same_task (Dump database1) (Diff old2 new2) t u done = absurd (apart (codes "dump") (codes "diff") (sym t.0 ∙ u.0) (λ (e : 100117 ≡ 100105). omega (arith, e)))
-  same_task (Dump database1) (Verify database2) t u done = absurd (apart (codes "dump") (codes "verify") (sym t.0 ∙ u.0) (λ (e : 100117 ≡ 118101). omega (arith, e)))
   same_task (Dump database1) (Dump database2) t u done =
       subst (λ (d : Option (List ℕ)). Quietly (IsDumped d root old)) (u.1 ∙ sym t.1) done
+  -- two tasks of two names aren't asked for by one
+  same_task task1 task2 t u done = apart (word_of task1) (word_of task2) refl (sym (is_named name inner task1 t) ∙ is_named name inner task2 u)
 
 one_option : {X : Type 0} (f : X → List ℕ) (o : Option X) → option_map_or f o [] ≡ option_map_or (λ (x : List ℕ). x) (option_map f o) []
 one_option f None = refl

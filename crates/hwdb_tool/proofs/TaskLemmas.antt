@@ -187,14 +187,14 @@ module _ (tree : (bytes : List ℕ) (t u : Tree) → IsDatabase bytes t → IsDa
         one_out = one_text tree (query_text (string_bytes device)) x.database y.database texts.out texts2.out
             (form (map_of_files (lone a.bytes) []) x.database y.database x.written y.written) x.properties y.properties;
       }
-  one_answer_of (Check paths) = λ root strict input files status status2 texts texts2 one two.
+  one_answer_of (Check paths allowed json) = λ root strict input files status status2 texts texts2 one two.
       let a = one.1 in
       let b = two.1 in
       let same : a.sources ≡ b.sources = sources (map string_bytes paths.items) root input files a.sources b.sources a.are b.are in
       record {
-        one_status = a.says ∙ ap (λ (xs : List Source). check_status strict (tally_from empty_tally xs)) same ∙ sym b.says;
+        one_status = a.says ∙ ap (λ (xs : List Source). check_status strict (tally_from (map string_bytes allowed.items) empty_tally xs)) same ∙ sym b.says;
         one_err = one.0 ∙ sym two.0;
-        one_out = a.is ∙ ap check_text same ∙ sym b.is;
+        one_out = a.is ∙ ap (check_text json (map string_bytes allowed.items)) same ∙ sym b.is;
       }
   one_answer_of (Diff old_path new_path) = λ root strict input files status status2 texts texts2 one two.
       let a = one.1 in
@@ -295,19 +295,5 @@ module _ (tree : (bytes : List ℕ) (t u : Tree) → IsDatabase bytes t → IsDa
         (all_told root verbose strict skip status first input.err.bytes one.0.err_then now.err hid place nothing told one.0.updated)
         (all_told root verbose strict skip status2 second input.err.bytes two.0.err_then now2.err hid place2 nothing2 told2 two.0.updated)
         (ap (λ (t : Told). t.bytes) one.1 ∙ input.out.of_one ∙ sym (ap (λ (t : Told). t.bytes) two.1 ∙ input.out.of_two))
-    each (Query devices json) = λ root usr strict status status2 before now before2 now2 input nothing nothing2 one two.
-        one_printed (Query devices json) root usr strict status status2 before now before2 now2 input one.0 one.2.same two.0 two.2.same
-    each (Explain device json) = λ root usr strict status status2 before now before2 now2 input nothing nothing2 one two.
-        one_printed (Explain device json) root usr strict status status2 before now before2 now2 input one.0 one.2.same two.0 two.2.same
-    each (ListHits after limit device json) = λ root usr strict status status2 before now before2 now2 input nothing nothing2 one two.
-        one_printed (ListHits after limit device json) root usr strict status status2 before now before2 now2 input one.0 one.2.same two.0 two.2.same
-    each (Ask file device) = λ root usr strict status status2 before now before2 now2 input nothing nothing2 one two.
-        one_printed (Ask file device) root usr strict status status2 before now before2 now2 input one.0 one.2.same two.0 two.2.same
-    each (Check paths) = λ root usr strict status status2 before now before2 now2 input nothing nothing2 one two.
-        one_printed (Check paths) root usr strict status status2 before now before2 now2 input one.0 one.2.same two.0 two.2.same
-    each (Diff old_path new_path) = λ root usr strict status status2 before now before2 now2 input nothing nothing2 one two.
-        one_printed (Diff old_path new_path) root usr strict status status2 before now before2 now2 input one.0 one.2.same two.0 two.2.same
-    each (Verify database) = λ root usr strict status status2 before now before2 now2 input nothing nothing2 one two.
-        one_printed (Verify database) root usr strict status status2 before now before2 now2 input one.0 one.2.same two.0 two.2.same
-    each (Dump database) = λ root usr strict status status2 before now before2 now2 input nothing nothing2 one two.
-        one_printed (Dump database) root usr strict status status2 before now before2 now2 input one.0 one.2.same two.0 two.2.same
+    each task = λ root usr strict status status2 before now before2 now2 input nothing nothing2 one two.
+        one_printed task root usr strict status status2 before now before2 now2 input one.0 one.2.same two.0 two.2.same

@@ -9,6 +9,7 @@ pub mod ComparedDatabases
 pub mod Internal
 pub mod NamedDatabases
 pub mod Hiding
+pub mod Colours
 pub mod Crash
 pub mod Failures
 pub mod OneOutcome

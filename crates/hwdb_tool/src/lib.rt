@@ -6,6 +6,7 @@
 //! | `answer` | what a command prints, and its status |
 //! | `printing` | the one place where that is printed |
 //! | `outlet` | where standard output goes to: a sink whose reader may go away |
+//! | `coloured` | one that shows in colour what it takes |
 //! | `updates` | `update`; `progress`: what it says of its files; `hiding`: of a database that hides the new one |
 //! | `queries` | `query`, of the devices of the words or of standard input |
 //! | `answers` | `explain`, `list` and `ask` |
@@ -28,6 +29,7 @@
 mod answer;
 mod answers;
 mod checks;
+mod coloured;
 mod crash;
 mod databases;
 mod differences;
@@ -50,18 +52,21 @@ mod verification;
 pub use answer::Answer;
 pub use answers::{ask_file, explain, list};
 pub use checks::check;
+pub use coloured::{Coloured, kind_of, write_painted};
 pub use crash::{crash_then_query, kill_then_query};
 pub use differences::diff;
 pub use dispatch::program;
 pub use dumps::dump;
 pub use failures::{counts_tell_failures, faulty_update_leaves_all};
 pub use hiding::update_telling;
-pub use hwdb_cli::{Job, Task, WordsFault, read_words};
+pub use hwdb_cli::{Job, Task, WordsFault, kind_fault, read_words};
 pub use hwdb_fs::{Refusal, System, SystemStore};
 pub use hwdb_io::{
     Cause, DeviceFailed, FromRead, Sink, Source, ToWrite, read_all, testing, write_text,
 };
+pub use hwdb_lint::KINDS;
 pub use hwdb_print::{ToolError, ask, run_list, run_query, run_update};
+pub use hwdb_spec::TextKind;
 pub use laws::update_then_query;
 pub use one_outcome::{answers_are_one, jobs_are_one, listings_give_one_reading, tasks_are_one};
 pub use outlet::Outlet;
