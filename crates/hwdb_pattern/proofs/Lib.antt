@@ -15,3 +15,5 @@ pub mod RangeLemmas
 pub mod OpenLemmas
 pub mod CutLemmas
 pub mod TableLemmas
+pub mod ListLemmas
+pub mod PlaceLemmas

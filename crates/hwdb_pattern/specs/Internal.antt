@@ -4,3 +4,4 @@ pub mod Met
 pub mod Parts
 pub mod Search
 pub mod Tables
+pub mod Places

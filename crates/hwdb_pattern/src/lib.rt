@@ -10,8 +10,9 @@
 //! - [`glob`] answers whether one pattern matches one device. It searches from star to star and takes no memory.
 //! - [`Reach`] goes along a path of a tree of patterns, piece by piece. It keeps all prefixes of the device that the
 //!   path matches so far, since each child of a node goes on from them. So a common beginning of many patterns is
-//!   matched once, and a subtree that can match nothing is left early. That costs memory: a byte for each prefix, but
-//!   none as long as each token of the path takes one byte of the device.
+//!   matched once, and a subtree that can match nothing is left early. That costs memory: a list of at most 32 prefixes,
+//!   or a byte for each prefix. It is none as long as each token of the path takes one byte of the device, and none
+//!   right after a star.
 //!
 //! Neither tries all ways to match. `glob` takes at most as many steps as the pattern's length times the device's. A
 //! feed of `Reach` takes at most the bytes kept and fed, times the device's length. There is one exception: if a
@@ -27,6 +28,9 @@
 //! | `unusual` | a `[` that begins no closed bracket, a range without members |
 //! | `search` | whether a pattern matches a device |
 //! | `tables` | tables over a device: the places whose byte a token admits |
+//! | `places` | one place of a device: whether a token takes the byte there |
+//! | `lists` | few lengths, as a list |
+//! | `rests` | all lengths from one on, as after a star |
 //! | `met` | which of a device's prefixes some tokens match |
 //! | `lengths` | how far one may go along a text at once |
 //! | `paths` | which prefixes a path matches that is fed piece by piece |
@@ -38,9 +42,12 @@ mod classes;
 mod cut;
 mod laws;
 mod lengths;
+mod lists;
 mod met;
 mod opens;
 mod paths;
+mod places;
+mod rests;
 mod search;
 mod tables;
 mod tokens;

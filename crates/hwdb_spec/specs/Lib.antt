@@ -45,3 +45,5 @@ pub mod Hiding
 pub mod Done
 pub mod Near
 pub mod Colours
+pub mod Sysfs
+pub mod DeviceTree

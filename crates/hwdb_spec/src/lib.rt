@@ -52,6 +52,8 @@
 //! | `Done` | what `update` and `ask` leave, and what a crash leaves during an update |
 //! | `Near` | the pattern that almost matched a device, and where it stopped |
 //! | `Colours` | how a text is shown in colour |
+//! | `Sysfs` | what sysfs holds of a device and its parents, and how udev reads it |
+//! | `DeviceTree` | where sysfs has a device, and what is read of it and its parents |
 //!
 //! The types below are those that the definitions name.
 #![tactic(auto)]
@@ -63,8 +65,8 @@ ghost use Rattle.hwdb_spec.specs.Texts.{db_fault_name, db_fault_offset};
 mod colours;
 mod vocabulary;
 
-use std::{error, fmt};
 pub use colours::{LinePart, Style, TextKind};
+use std::{error, fmt};
 pub use vocabulary::{COMPANIONS, KEY_NAMES, Misuse, PROPERTIES, ValueForm};
 
 /// A named class of bytes, as POSIX has it in the C locale.

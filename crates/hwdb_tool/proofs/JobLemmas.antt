@@ -8,7 +8,7 @@ use Rattle.clap.specs.declared.error.kind.ErrorKind.TheVariants.{DisplayHelp, Di
 use Rattle.clap.specs.Kinds.{IsAmong}
 use Rattle.clap.specs.Walk.{Row, Text, all_of, first_of, one_of}
 use Rattle.clap.specs.Simple.{matches_of, subcommand_of}
-use Rattle.hwdb_cli.specs.Jobs.{IsJobOf, IsLimit, IsTask}
+use Rattle.hwdb_cli.specs.Jobs.{IsJob, IsJobOf, IsLimit, IsTask}
 use Rattle.hwdb_cli.specs.Line.{hwdb_app}
 use Rattle.hwdb_cli.specs.declared.job.Job.{Job}
 use Rattle.hwdb_cli.specs.declared.job.Task.{Task}
@@ -27,10 +27,10 @@ use Rattle.hwdb_spec.specs.Given.{is_input}
 use Rattle.hwdb_tool.specs.Program.{IsDone, IsTaskDone, root_of}
 use Rattle.hwdb_tool.specs.OneOutcome.{DoneIsNotTold, JobsAreOne, TasksAreOne, scene_of}
 
-one_value : (o : Option (List ℕ)) (a b : List ℕ) → Some a ≡ o → Some b ≡ o → a ≡ b
+pub one_value : (o : Option (List ℕ)) (a b : List ℕ) → Some a ≡ o → Some b ≡ o → a ≡ b
 one_value o a b one two = ap (λ (p : Option (List ℕ)). option_map_or (λ (x : List ℕ). x) p []) (one ∙ sym two)
 
-one_values : (o : Option (List (List ℕ))) (a b : List (List ℕ)) → Some a ≡ o → Some b ≡ o → a ≡ b
+pub one_values : (o : Option (List (List ℕ))) (a b : List (List ℕ)) → Some a ≡ o → Some b ≡ o → a ≡ b
 one_values o a b one two = ap (λ (p : Option (List (List ℕ))). option_map_or (λ (x : List (List ℕ)). x) p []) (one ∙ sym two)
 
 one_limit : (o : Option Text) (a b : Option ℕ) → IsLimit o a → IsLimit o b → a ≡ b
@@ -40,7 +40,7 @@ one_limit (Some text) (Some a) None one two = absurd two
 one_limit (Some text) (Some a) (Some b) one two = ap Some (one.1 ∙ sym two.1)
 
 -- a task's word
-abbrev word_of : Task → Text
+abbrev pub word_of : Task → Text
 word_of (Update verbose skip) = codes "update"
 word_of (Query devices json) = codes "query"
 word_of (Explain device json) = codes "explain"
@@ -51,12 +51,12 @@ word_of (Diff old_path new_path) = codes "diff"
 word_of (Verify database) = codes "verify"
 word_of (Dump database) = codes "dump"
 
-is_named : (name : Text) (inner : List Row) (task : Task) → IsTask name inner task → name ≡ word_of task
+pub is_named : (name : Text) (inner : List Row) (task : Task) → IsTask name inner task → name ≡ word_of task
 is_named name inner (Update verbose skip) t = t.0
 is_named name inner task t = t.0
 
 -- two names aren't one
-apart : {X : Type 0} (m n : Text) → bytes_eq m n ≡ false → m ≡ n → X
+pub apart : {X : Type 0} (m n : Text) → bytes_eq m n ≡ false → m ≡ n → X
 apart m n differ is = absurd (true≢false (sym ((bytes_eq-Decides m n).1 is) ∙ differ))
 
 -- what is done of the one task is done of the other
@@ -119,6 +119,9 @@ one_option f (Some s) = refl
 pub one_root : (j : Job) → root_of j ≡ option_map_or (λ (x : List ℕ). x) (option_map string_bytes j.root) []
 one_root j = one_option string_bytes j.root
 
+pub same_root : (top : List Row) (name : Text) (inner : List Row) (j k : Job) → IsJob top name inner j → IsJob top name inner k → root_of k ≡ root_of j
+same_root top name inner j k one two = one_root k ∙ ap (λ (o : Option (List ℕ)). option_map_or (λ (x : List ℕ). x) o []) (two.root ∙ sym one.root) ∙ sym (one_root j)
+
 module _ (status : ℕ) (before now : World) where
   abbrev Done : Task → List ℕ → Bool → Bool → Type 0
   Done task root usr strict = IsTaskDone task root usr strict status before now
@@ -126,17 +129,18 @@ module _ (status : ℕ) (before now : World) where
   same_job : (top : List Row) (found : Option (Text × List Row)) (j k : Job) → IsJobOf top found j → IsJobOf top found k → IsDone k status before now → IsDone j status before now
   same_job top None j k one two done = absurd one
   same_job top (Some p) j k one two done =
-      let roots : root_of k ≡ root_of j = one_root k ∙ ap (λ (o : Option (List ℕ)). option_map_or (λ (x : List ℕ). x) o []) (two.root ∙ sym one.root) ∙ sym (one_root j) in
+      let roots : root_of k ≡ root_of j = same_root top p.0 p.1 j k one two in
       same_task p.0 p.1 (root_of j) j.usr j.strict status before now j.task k.task one.task two.task
       (subst (λ (r : List ℕ). Done k.task r j.usr j.strict) roots
       (subst (λ (b : Bool). Done k.task (root_of k) b j.strict) (two.usr ∙ sym one.usr)
       (subst (λ (b : Bool). Done k.task (root_of k) k.usr b) (two.strict ∙ sym one.strict) done)))
 
-pub one_job : (fails fails2 : List ℕ → Type 0) (left left2 : Outcomes) → TasksAreOne fails fails2 left left2 → JobsAreOne fails fails2 left left2
-one_job fails fails2 left left2 tasks = λ words status status2 before now before2 now2 input one two nothing nothing2.
+pub one_job : (fails fails_now fails2 fails2_now : List ℕ → Type 0) (left left_now left2 left2_now : Outcomes)
+    → TasksAreOne fails fails_now fails2 fails2_now left left_now left2 left2_now → JobsAreOne fails fails_now fails2 fails2_now left left_now left2 left2_now
+one_job fails fails_now fails2 fails2_now left left_now left2 left2_now tasks = λ words status status2 before now before2 now2 input one two nothing nothing2.
     tasks one.job.task (root_of one.job) one.job.usr one.job.strict status status2 before now before2 now2 input nothing nothing2 one.done
-    (same_job status2 (scene_of fails2 left2 before2) (scene_of fails2 left2 now2) (matches_of hwdb_app words) (subcommand_of hwdb_app words) one.job two.job one.asked two.asked two.done)
+    (same_job status2 (scene_of fails2 left2 before2) (scene_of fails2_now left2_now now2) (matches_of hwdb_app words) (subcommand_of hwdb_app words) one.job two.job one.asked two.asked two.done)
 
-pub not_told : (fails : List ℕ → Type 0) (left : Outcomes) → DoneIsNotTold fails left
-not_told fails left words status before now before2 now2 done told =
+pub not_told : (fails fails_now fails2 fails2_now : List ℕ → Type 0) (left left_now left2 left2_now : Outcomes) → DoneIsNotTold fails fails_now fails2 fails2_now left left_now left2 left2_now
+not_told fails fails_now fails2 fails2_now left left_now left2 left2_now words status before now before2 now2 done told =
     ⊎_elim (λ help. subst (IsAmong DisplayHelp) done.faultless help) (λ version. subst (IsAmong DisplayVersion) done.faultless version) told.asked

@@ -274,22 +274,22 @@ module _ (tree : (bytes : List ℕ) (t u : Tree) → IsDatabase bytes t → IsDa
           one_out = same_out;
         }
 
-  module _ (fails fails2 : List ℕ → Type 0) (left left2 : Outcomes) where
+  module _ (fails fails_now fails2 fails2_now : List ℕ → Type 0) (left left_now left2 left2_now : Outcomes) where
     abbrev over : (files : Contents) → Scene → World
     over files scene = scene_of fails2 left2 (record { files = files; failures = scene.failures; input = scene.input; out = scene.out; err = scene.err })
 
-    pub each : (task : Task) → IsFunction fails fails2 left left2 task
+    pub each : (task : Task) → IsFunction fails fails_now fails2 fails2_now left left_now left2 left2_now task
     each (Update verbose skip) = λ root usr strict status status2 before now before2 now2 input nothing nothing2 one given.
-        let two = subst (λ (f : Contents). IsTaskDone (Update verbose skip) root usr strict status2 (over f before2) (scene_of fails2 left2 now2)) input.files given in
+        let two = subst (λ (f : Contents). IsTaskDone (Update verbose skip) root usr strict status2 (over f before2) (scene_of fails2_now left2_now now2)) input.files given in
         let old = before.files in
         let first = (scene_of fails left before).files in
         let second = (over old before2).files in
-        let place : List ℕ → Type 0 = λ database. InPlace (database_folder usr root) database old now.files left in
-        let place2 : List ℕ → Type 0 = λ database. InPlace (database_folder usr root) database old now2.files left2 in
+        let place : List ℕ → Type 0 = λ database. InPlace (database_folder usr root) database old now.files left_now in
+        let place2 : List ℕ → Type 0 = λ database. InPlace (database_folder usr root) database old now2.files left2_now in
         let hid = hiding_text usr verbose root old in
         let told = subst (λ (o : Option (List ℕ)). Appends o one.0.err_then.bytes hid) input.err.of_one one.0.told.whole in
         let told2 = subst (λ (o : Option (List ℕ)). Appends o two.0.err_then.bytes hid) input.err.of_two two.0.told.whole in
-        one_update left left2 root usr verbose strict status status2 old now now2 input.err.bytes one.0.updated.err_then.bytes two.0.updated.err_then.bytes
+        one_update left_now left2_now root usr verbose strict status status2 old now now2 input.err.bytes one.0.updated.err_then.bytes two.0.updated.err_then.bytes
         (all_read root verbose strict skip status first one.0.err_then now.err place nothing one.0.updated)
         (all_read root verbose strict skip status2 second two.0.err_then now2.err place2 nothing2 two.0.updated)
         (all_told root verbose strict skip status first input.err.bytes one.0.err_then now.err hid place nothing told one.0.updated)

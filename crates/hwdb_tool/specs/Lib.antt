@@ -13,3 +13,4 @@ pub mod Colours
 pub mod Crash
 pub mod Failures
 pub mod OneOutcome
+pub mod OneRefusal

@@ -1,6 +1,8 @@
 -- Which refusals end a task, when each comes, and what it leaves: the files, what standard error had taken before the
 -- refusal's line, and standard output. Our choice.
 use Rattle.std.specs.Prelude.{◌≡◌, ◌⊎◌, ◌==◌, ℕ, Bool, true, false, not, is_some, length, List, [], ◌∷◌, Option, Some, map, option_map, string_bytes, codes}
+use Rattle.clap.specs.Faults.{fault_of}
+use Rattle.hwdb_cli.specs.Line.{hwdb_app}
 use Rattle.hwdb_cli.specs.Words.{AskFor, AskForText, AreToldBy}
 use Rattle.hwdb_cli.specs.declared.job.Job.{Job}
 use Rattle.hwdb_cli.specs.declared.job.Task.TheVariants.{Ask, Check, Diff, Dump, Explain, List as ListHits, Query, Update, Verify}
@@ -19,7 +21,7 @@ use Rattle.hwdb_tool.specs.ComparedDatabases.{IsDiffRefused}
 use Rattle.hwdb_tool.specs.NamedDatabases.{IsDumpRefused, IsVerifyRefused}
 use Rattle.hwdb_tool.specs.Queries.{AreUnanswered, IsInputUnread}
 use Rattle.hwdb_tool.specs.Program.{IsAnswerOf, IsJobDone, IsTold, IsUpdate, looks_below_root, reads_input, root_of}
-use Rattle.hwdb_fs.specs.Refusals.{HasReason, IsAt, IsUnread, IsUnreadable, Refused, refusal_line, refusal_text}
+use Rattle.hwdb_fs.specs.Refusals.{HasReason, IsAt, IsUnentered, IsUnreadable, Refused, refusal_line, refusal_text}
 use Rattle.hwdb_fs.specs.declared.refusals.Refusal.TheVariants.{Plain}
 use Rattle.hwdb_fs.specs.declared.refusals.Refusal.{Refusal}
 use Rattle.hwdb_tool.specs.Undone.{AreUncheckable, IsAskRefused, IsCheckRefused, IsListRefused, IsUnanswered, IsUnprinted, IsUnreadableIf, IsUnwritable}
@@ -101,10 +103,11 @@ pub record IsSaid (refusal : Refusal) (before now : Told) : Type 0 where
 abbrev pub with_err : Told → World → World
 with_err err world = record { files = world.files; input = world.input; out = world.out; err = err }
 
--- The words ask for a job, and it is refused with this status, for its reason. Then standard error took the line.
+-- The words ask for a job, and have no fault. It is refused with this status, for its reason. Then standard error took the line.
 pub record IsJobRefused (words : List (List ℕ)) (status : ℕ) (before now : World) : Type 0 where
   pub job : Job
   pub asked : AskFor words job
+  pub faultless : fault_of hwdb_app words ≡ []
   pub refusal : Refusal
   pub err_then : Told
   pub refused : IsJobNotDone job before (with_err err_then now) refusal
@@ -128,12 +131,13 @@ pub record AreRefused (words : List (List ℕ)) (status : ℕ) (before now : Wor
 
 -- the root that was given, below which the task looks for files, can't be read
 abbrev pub IsRootUnread : Job → Refusal → Type 0
-IsRootUnread job refusal = (root : List ℕ) × (option_map string_bytes job.root ≡ Some root) × (looks_below_root job.task ≡ true) × IsUnread root refusal
+IsRootUnread job refusal = (root : List ℕ) × (option_map string_bytes job.root ≡ Some root) × (looks_below_root job.task ≡ true) × IsUnentered root refusal
 
 -- the words ask for a job below such a root: the status is 1, the files are as they were, and standard error took the line
 pub record IsRootRefused (words : List (List ℕ)) (status : ℕ) (before now : World) : Type 0 where
   pub job : Job
   pub asked : AskFor words job
+  pub faultless : fault_of hwdb_app words ≡ []
   pub refusal : Refusal
   pub unread : IsRootUnread job refusal
   pub reason : HasReason before.files.fails ⊥ before.files.seen refusal
@@ -147,6 +151,7 @@ pub record IsRootRefused (words : List (List ℕ)) (status : ℕ) (before now : 
 pub record IsCutShort (gone_before gone : Type 0) (words : List (List ℕ)) (before now : World) : Type 0 where
   pub job : Job
   pub asked : AskFor words job
+  pub faultless : fault_of hwdb_app words ≡ []
   pub refused : IsTaskRefused job.task (root_of job) job.usr job.strict (Plain Write) before now
   pub kept : AreKept before.files now.files
   pub reader : gone
