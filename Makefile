@@ -135,6 +135,7 @@ check-peer: $(PROGRAM) out/libhwdb.so.0
 	tests/peer/peer out/hwdb
 	tests/peer/users out/hwdb
 	tests/peer/clients out/hwdb
+	tests/peer/device --kept
 
 bench: all
 	tests/peer/bench out/hwdb

@@ -40,7 +40,8 @@ IsTask name inner (ListHits after limit device json) = (name ≡ codes "list") �
     × IsLimit (one_of (codes "limit") inner) limit × IsValue (codes "MODALIAS") inner (string_bytes device)
 IsTask name inner (Near files device limit json) = (name ≡ codes "near") × (json ≡ has_flag (codes "json") inner) × AreValues (codes "MODALIAS") inner (map string_bytes files.items ++ string_bytes device ∷ [])
     × IsLimit (one_of (codes "limit") inner) limit
-IsTask name inner (Check files) = (name ≡ codes "check") × AreAnyValues (codes "FILE") inner (map string_bytes files.items)
+IsTask name inner (Check files allowed json) = (name ≡ codes "check") × AreAnyValues (codes "FILE") inner (map string_bytes files.items)
+    × AreAnyValues (codes "allow") inner (map string_bytes allowed.items) × (json ≡ has_flag (codes "json") inner)
 IsTask name inner (Diff old new) = (name ≡ codes "diff") × IsValue (codes "OLD") inner (string_bytes old) × IsValue (codes "NEW") inner (string_bytes new)
 IsTask name inner (Verify database) = (name ≡ codes "verify") × (option_map string_bytes database ≡ first_of (codes "DATABASE") inner)
 IsTask name inner (Dump database) = (name ≡ codes "dump") × (option_map string_bytes database ≡ first_of (codes "DATABASE") inner)

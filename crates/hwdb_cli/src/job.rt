@@ -51,6 +51,10 @@ pub enum Task {
     Check {
         /// The text files' paths; none where both folders are meant.
         files: Vec<String>,
+        /// The names of the kinds of warnings that are left out.
+        allowed: Vec<String>,
+        /// Whether as JSON.
+        json: bool,
     },
     /// Print the patterns that almost matched the device.
     Near {

@@ -165,6 +165,17 @@ impl Root {
         }
     }
 
+    /// Where a path leads, each link on it followed, without a root too: no name on the way is a link's then.
+    pub fn real_path_of<R: Files>(&self, rt: &R, path: &str) -> io::Result<String>
+        ensures { IfSome self.now.root
+            (λ root. IfOk result (λ place. IsBelow (string_bytes root) (string_bytes place))) }
+    {
+        match &self.root {
+            Some(_) => self.place_of(rt, path),
+            None => place_in(self.alloc, rt, "", path),
+        }
+    }
+
     /// Where a path stands: where its folder leads, and its last name, which may be that of a link.
     pub fn entry_of<R: Files>(&self, rt: &R, path: &str) -> io::Result<String> {
         match path.rsplit_once('/') {

@@ -46,7 +46,7 @@ module _ (name : Text) (inner : List Row) where
   same_kind (Update v1 k1) (Update v2 k2) t u kind = absurd kind
   same_kind (Ask file1 device1) (Ask file2 device2) t u kind =
       subst (λ (f : List ℕ). is_dash f ≡ false) (sym (one_value (first_of (codes "FILE") inner) _ _ u.1 t.1)) kind
-  same_kind (Check files1) (Check files2) t u kind = absurd kind
+  same_kind (Check files1 allowed1 json1) (Check files2 allowed2 json2) t u kind = absurd kind
   same_kind (Near files1 device1 limit1 json1) (Near files2 device2 limit2 json2) t u kind = absurd kind
   same_kind task1 task2 t u kind = apart (word_of task1) (word_of task2) refl (sym (is_named name inner task1 t) ∙ is_named name inner task2 u)
 
@@ -59,7 +59,7 @@ module _ (name : Text) (inner : List Row) where
   same_status (Dump database1) (Dump database2) t u = refl
   same_status (Update v1 k1) (Update v2 k2) t u = refl
   same_status (Ask file1 device1) (Ask file2 device2) t u = refl
-  same_status (Check files1) (Check files2) t u = refl
+  same_status (Check files1 allowed1 json1) (Check files2 allowed2 json2) t u = refl
   same_status (Near files1 device1 limit1 json1) (Near files2 device2 limit2 json2) t u = refl
   same_status task1 task2 t u = apart (word_of task1) (word_of task2) refl (sym (is_named name inner task1 t) ∙ is_named name inner task2 u)
 
@@ -76,7 +76,7 @@ module _ (name : Text) (inner : List Row) where
     same_why (Dump database1) (Dump database2) t u is = subst (λ (d : Option (List ℕ)). Undumped header fails U root files d r) (u.1 ∙ sym t.1) is
     same_why (Update v1 k1) (Update v2 k2) t u is = absurd is
     same_why (Ask file1 device1) (Ask file2 device2) t u is = subst (λ (f : List ℕ). Unasked f files r) (one_value (first_of (codes "FILE") inner) _ _ u.1 t.1) is
-    same_why (Check files1) (Check files2) t u is = absurd is
+    same_why (Check files1 allowed1 json1) (Check files2 allowed2 json2) t u is = absurd is
     same_why (Near files1 device1 limit1 json1) (Near files2 device2 limit2 json2) t u is = absurd is
     same_why task1 task2 t u is = apart (word_of task1) (word_of task2) refl (sym (is_named name inner task1 t) ∙ is_named name inner task2 u)
 

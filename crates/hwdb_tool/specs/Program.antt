@@ -30,7 +30,7 @@ root_of job = option_map_or string_bytes job.root []
 abbrev pub looks_below_root : Task → Bool
 looks_below_root (Ask file device) = false
 looks_below_root (Diff old_path new_path) = false
-looks_below_root (Check files) = length files.items == 0
+looks_below_root (Check files allowed json) = length files.items == 0
 looks_below_root (Near files device limit json) = length files.items == 0
 looks_below_root (Verify database) = not (is_some database)
 looks_below_root (Dump database) = not (is_some database)
@@ -47,8 +47,8 @@ IsAnswerOf (ListHits after limit device json) root strict input files status tex
     (status ≡ 0) × OnOut (IsAnswered root (IsListFrom json (string_bytes device) (option_map string_bytes after) limit) files) texts
 IsAnswerOf (Ask file device) root strict input files status texts =
     (status ≡ 0) × IsAsked (string_bytes file) (string_bytes device) input files texts
-IsAnswerOf (Check paths) root strict input files status texts =
-    OnOut (λ text. IsChecked (AreCheckedFiles (map string_bytes paths.items) root input files) strict text status) texts
+IsAnswerOf (Check paths allowed json) root strict input files status texts =
+    OnOut (λ text. IsChecked (AreCheckedFiles (map string_bytes paths.items) root input files) json strict (map string_bytes allowed.items) text status) texts
 IsAnswerOf (Near paths device limit json) root strict input files status texts =
     (status ≡ 0) × OnOut (IsNear (map string_bytes paths.items) root (near_form json (string_bytes device) (near_limit limit)) input files) texts
 IsAnswerOf (Diff old_path new_path) root strict input files status texts =
@@ -98,7 +98,7 @@ abbrev pub reads_input : Task → Bool
 reads_input (Query devices json) = is_input (map string_bytes devices.items)
 reads_input (Explain device json) = is_dash (string_bytes device)
 reads_input (Ask file device) = is_dash (string_bytes file)
-reads_input (Check files) = any_dash (map string_bytes files.items)
+reads_input (Check files allowed json) = any_dash (map string_bytes files.items)
 reads_input (Near files device limit json) = any_dash (map string_bytes files.items)
 reads_input _ = false
 

@@ -31,7 +31,7 @@ use Rattle.hwdb_tool.specs.Hiding.{IsTellingUpdateRefused}
 -- why a task that prints a text can't make it, before it writes anything
 abbrev pub Refuses : Task → (root : List ℕ) (input : Option (List ℕ)) → Contents → Refusal → Type 0
 Refuses (Ask file device) root input files refusal = IsAskRefused (string_bytes file) input files refusal
-Refuses (Check paths) root input files refusal =
+Refuses (Check paths allowed json) root input files refusal =
     IsCheckRefused (AreUncheckable (map string_bytes paths.items) root files) (AreCheckedFiles (map string_bytes paths.items) root input files) refusal
 Refuses (Near paths device limit json) root input files refusal = IsNearRefused (map string_bytes paths.items) root files refusal
 Refuses (Diff old_path new_path) root input files refusal = IsDiffRefused (string_bytes old_path) (string_bytes new_path) files refusal
@@ -63,7 +63,7 @@ IsTaskRefused task root usr strict refusal before now = IsPrintingRefused task r
 -- a path that the task asks for can't be read: reading it may fail, or it is one that the words name, and nothing stands there
 abbrev pub IsUnreadableFor : Task → (MayFail : (path : List ℕ) → Type 0) → Contents → (path : List ℕ) → Type 0
 IsUnreadableFor (Ask file device) = IsUnreadable
-IsUnreadableFor (Check files) = IsUnreadableIf (not (length files.items == 0))
+IsUnreadableFor (Check files allowed json) = IsUnreadableIf (not (length files.items == 0))
 IsUnreadableFor (Near files device limit json) = IsUnreadableIf (not (length files.items == 0))
 IsUnreadableFor (Diff old_path new_path) = IsUnreadable
 IsUnreadableFor (Verify database) = IsUnreadableIf (is_some (option_map string_bytes database))

@@ -105,7 +105,7 @@ fn looks_below_root(task: &Task) -> bool
 {
     match task {
         Task::Ask { .. } | Task::Diff { .. } => false,
-        Task::Check { files } | Task::Near { files, .. } => files.is_empty(),
+        Task::Check { files, .. } | Task::Near { files, .. } => files.is_empty(),
         Task::Verify { database } | Task::Dump { database } => database.is_none(),
         _ => true,
     }
@@ -219,8 +219,12 @@ fn run<D: System, I: Source, O: Sink, E: Sink>(
             let answer = ask_file(alloc, file.as_str(), device.as_bytes(), system, input);
             printed(answer, out, err)
         }
-        Task::Check { files } => {
-            let answer = check(alloc, root, files, job.strict, system, input);
+        Task::Check {
+            files,
+            allowed,
+            json,
+        } => {
+            let answer = check(alloc, root, files, *json, allowed, job.strict, system, input);
             printed(answer, out, err)
         }
         Task::Near {

@@ -63,11 +63,12 @@ pub use dispatch::program;
 pub use dumps::dump;
 pub use failures::{counts_tell_failures, faulty_update_leaves_all};
 pub use hiding::update_telling;
-pub use hwdb_cli::{Job, Task, WordsFault, read_words};
+pub use hwdb_cli::{Job, Task, WordsFault, kind_fault, read_words};
 pub use hwdb_fs::{Refusal, System, SystemStore};
 pub use hwdb_io::{
     Cause, DeviceFailed, FromRead, Sink, Source, ToWrite, read_all, testing, write_text,
 };
+pub use hwdb_lint::KINDS;
 pub use hwdb_print::{ToolError, ask, run_list, run_query, run_update};
 pub use hwdb_spec::TextKind;
 pub use laws::update_then_query;

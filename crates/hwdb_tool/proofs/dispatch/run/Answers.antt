@@ -99,10 +99,12 @@ returns-in-Check-clause-refused g c = λ tells.
     let now : World = record { files = F c.args.system.now; input = I c.check-answer.new.input; out = O c.printed-in-Check.new.out; err = E c.printed-in-Check.new.err } in
     let fails = before.files.fails in
     let input = before.input.bytes in
-    let task = Check c.in-Check.files in
+    let task = Check c.in-Check.files c.in-Check.allowed c.in-Check.json in
     let root = c.root_of-root.result.now in
     let given = c.in-Check.files.items in
     let items = c.deref-in-Check.ensures.value in
+    let allowed = map string_bytes c.in-Check.allowed.items in
+    let left_out = c.deref-2-in-Check.ensures.value in
     let answer = c.check-answer.result in
     subst (λ t. IfErr c.printed-in-Check.result (IsNotDone t (root_of job) job.usr job.strict before now)) (sym c.in-Check.is)
     (each_error _ (IsNotDone task (root_of job) job.usr job.strict before now) c.printed-in-Check.result (λ r both. ((both.0, record { same = λ p. refl; no_more = λ p v l. l }), both.1))
@@ -110,8 +112,10 @@ returns-in-Check-clause-refused g c = λ tells.
     (λ s t. IsAnswerOf task (root_of job) job.strict input seen s t) before.err now.err before.out now.out
     (subst (λ r. IfErr answer (IsCheckRefused (AreUncheckable (map string_bytes given) r seen) (AreCheckedFiles (map string_bytes given) r input seen))) c.root_of-root.ensures
     (subst (λ l. IfErr answer (IsCheckRefused (AreUncheckable (map string_bytes l) root seen) (AreCheckedFiles (map string_bytes l) root input seen))) items (c.check-answer.ensures.refused tells)))
-    (subst (λ r. IfOk answer (λ a. OnOut (λ text. IsChecked (AreCheckedFiles (map string_bytes given) r input seen) job.strict text a.status) (texts_in a))) c.root_of-root.ensures
-    (subst (λ l. IfOk answer (λ a. OnOut (λ text. IsChecked (AreCheckedFiles (map string_bytes l) root input seen) job.strict text a.status) (texts_in a))) items (c.check-answer.ensures.checked tells)))
+    (subst (λ r. IfOk answer (λ a. OnOut (λ text. IsChecked (AreCheckedFiles (map string_bytes given) r input seen) c.in-Check.json job.strict allowed text a.status) (texts_in a))) c.root_of-root.ensures
+    (subst (λ l. IfOk answer (λ a. OnOut (λ text. IsChecked (AreCheckedFiles (map string_bytes l) root input seen) c.in-Check.json job.strict allowed text a.status) (texts_in a))) items
+    (subst (λ l. IfOk answer (λ a. OnOut (λ text. IsChecked (AreCheckedFiles (map string_bytes c.deref-in-Check.result.now) root input seen) c.in-Check.json job.strict (map string_bytes l) text a.status) (texts_in a))) left_out
+    (c.check-answer.ensures.checked tells))))
     (each_error _ (IsTaskReason task (root_of job) job.usr before now) answer
     (λ r has. ⊎_elim (λ file. inl (any_reason _ _ seen r file)) (λ dash. inr dash) has)
     (subst (λ l. IfErr answer (λ r. HasReason (IsUnreadableIf (not (length l == 0)) fails seen) ⊥ seen r ⊎ ((any_dash (map string_bytes l) ≡ true) × IsInputUnread before.input.failures now.input.failures r))) items
