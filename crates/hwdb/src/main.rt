@@ -1,9 +1,11 @@
 //! The program `hwdb`: hands its words, its files, standard input, output and error to `hwdb_tool::program`.
 #![tactic(auto)]
 
+mod allowed;
 mod bypass;
 mod colours;
 
+use allowed::status_of_kinds;
 use bypass::status_of_bypass;
 use colours::coloured_kind;
 use hwdb_tool::{Coloured, FromRead, SystemStore, ToWrite, program, write_text};
@@ -55,6 +57,9 @@ fn main(rt: HostRuntime) -> ExitCode {
             let Some(kind) = coloured_kind(&rt, &words, &mut err) else {
                 return ExitCode::from(1);
             };
+            if let Some(status) = status_of_kinds(&rt, &words, &mut err) {
+                return ExitCode::from(status);
+            }
             if let Some(status) = status_of_bypass(&rt, &words, &mut err) {
                 return ExitCode::from(status);
             }

@@ -3,6 +3,7 @@
 //! A command has a module of its name: its words, as `clap` is given them, and how its task is read off `clap`'s matches.
 //! `command` puts them together, after systemd-hwdb(8), and `args` reads a job. `drafts` and `matched` have what several
 //! commands need. `tips` leaves out what misleads in the text of a fault, and `help` the options that do nothing for a command.
+//! `kinds` says which word after `--allow` names none.
 #![tactic(auto)]
 
 mod args;
@@ -15,8 +16,10 @@ mod dump;
 mod explain;
 mod help;
 mod job;
+mod kinds;
 mod list;
 mod matched;
+mod near;
 mod query;
 mod tips;
 mod update;
@@ -25,3 +28,4 @@ mod verify;
 pub use args::read_words;
 pub use command::hwdb_command;
 pub use job::{Job, Task, WordsFault};
+pub use kinds::kind_fault;

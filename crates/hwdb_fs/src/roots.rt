@@ -1,7 +1,7 @@
 //! Where a path below a root leads: each link on the way is followed inside the root, as if the root were `/`.
 ghost use Rattle.std.specs.Prelude.{◌≡◌, ◌<◌, All, false, length, map, string_bytes, IfErr, IfOk, IfSome};
 ghost use Rattle.hwdb_spec.specs.Lines.{has};
-ghost use Rattle.hwdb_fs.specs.Refusals.{IsUnread};
+ghost use Rattle.hwdb_fs.specs.Refusals.{IsUnentered};
 ghost use Rattle.hwdb_fs.specs.Roots.{IsBelow, IsName, below};
 
 use crate::place::Place;
@@ -136,7 +136,7 @@ impl Root {
 
     /// Takes a root; an empty one is none. Refuses what is no folder.
     pub fn enter<R: Files>(&mut self, rt: &R, root: &str) -> Result<(), Refusal>
-        ensures { IfErr result (IsUnread root.now) }
+        ensures { IfErr result (IsUnentered root.now) }
     {
         if root.is_empty() {
             return Ok(());

@@ -1,5 +1,5 @@
 -- Words ask for one job.
-use Rattle.std.proofs.Common.{◌≡◌, ◌∙◌, ap, refl, sym, subst, Bool, false, true≢false, List, [], ◌∷◌, map, ℕ, Option, Some, None, string_bytes, ⊎_elim}
+use Rattle.std.proofs.Common.{◌≡◌, ◌∙◌, ap, refl, sym, subst, Bool, false, true≢false, List, [], ◌∷◌, ◌++◌, map, ℕ, Option, Some, None, string_bytes, ⊎_elim}
 use Rattle.std.specs.Prelude.{codes, option_map}
 use Rattle.std.specs.Option.{option_map_or}
 use Rattle.std.specs.Str.{bytes_eq}
@@ -8,11 +8,11 @@ use Rattle.clap.specs.declared.error.kind.ErrorKind.TheVariants.{DisplayHelp, Di
 use Rattle.clap.specs.Kinds.{IsAmong}
 use Rattle.clap.specs.Walk.{Row, Text, all_of, first_of, one_of}
 use Rattle.clap.specs.Simple.{matches_of, subcommand_of}
-use Rattle.hwdb_cli.specs.Jobs.{IsJobOf, IsLimit, IsTask}
+use Rattle.hwdb_cli.specs.Jobs.{IsJob, IsJobOf, IsLimit, IsTask}
 use Rattle.hwdb_cli.specs.Line.{hwdb_app}
 use Rattle.hwdb_cli.specs.declared.job.Job.{Job}
 use Rattle.hwdb_cli.specs.declared.job.Task.{Task}
-use Rattle.hwdb_cli.specs.declared.job.Task.TheVariants.{Ask, Check, Diff, Dump, Explain, List as ListHits, Query, Update, Verify}
+use Rattle.hwdb_cli.specs.declared.job.Task.TheVariants.{Ask, Check, Diff, Dump, Explain, List as ListHits, Near, Query, Update, Verify}
 use Rattle.hwdb_spec.specs.Outputs.{Texts}
 use Rattle.hwdb_spec.specs.Runs.{AreKept, OnOut, Printed, World}
 use Rattle.hwdb_spec.specs.Store.{Contents, Outcomes}
@@ -20,6 +20,7 @@ use Rattle.hwdb_spec.specs.CheckedFiles.{AreCheckedFiles, IsChecked}
 use Rattle.hwdb_spec.specs.Asked.{IsCompared, IsAnswered, IsListFrom, IsDumped, IsPrinted}
 use Rattle.hwdb_spec.specs.Done.{IsAsked}
 use Rattle.hwdb_spec.specs.Databases.{IsSummary}
+use Rattle.hwdb_spec.specs.NearAsked.{IsNear, near_form, near_limit}
 use Rattle.hwdb_tool.specs.Queries.{AreAnswered, IfNamed, IsQuiet}
 use Rattle.hwdb_print.specs.declared.form.Form.{Form}
 use Rattle.hwdb_print.specs.declared.form.Form.TheVariants as form
@@ -27,10 +28,10 @@ use Rattle.hwdb_spec.specs.Given.{is_input}
 use Rattle.hwdb_tool.specs.Program.{IsDone, IsTaskDone, root_of}
 use Rattle.hwdb_tool.specs.OneOutcome.{DoneIsNotTold, JobsAreOne, TasksAreOne, scene_of}
 
-one_value : (o : Option (List ℕ)) (a b : List ℕ) → Some a ≡ o → Some b ≡ o → a ≡ b
+pub one_value : (o : Option (List ℕ)) (a b : List ℕ) → Some a ≡ o → Some b ≡ o → a ≡ b
 one_value o a b one two = ap (λ (p : Option (List ℕ)). option_map_or (λ (x : List ℕ). x) p []) (one ∙ sym two)
 
-one_values : (o : Option (List (List ℕ))) (a b : List (List ℕ)) → Some a ≡ o → Some b ≡ o → a ≡ b
+pub one_values : (o : Option (List (List ℕ))) (a b : List (List ℕ)) → Some a ≡ o → Some b ≡ o → a ≡ b
 one_values o a b one two = ap (λ (p : Option (List (List ℕ))). option_map_or (λ (x : List (List ℕ)). x) p []) (one ∙ sym two)
 
 one_limit : (o : Option Text) (a b : Option ℕ) → IsLimit o a → IsLimit o b → a ≡ b
@@ -39,24 +40,39 @@ one_limit (Some text) None b one two = absurd one
 one_limit (Some text) (Some a) None one two = absurd two
 one_limit (Some text) (Some a) (Some b) one two = ap Some (one.1 ∙ sym two.1)
 
+-- the last of some texts, and those before it
+cut_last : (xs ys : List (List ℕ)) (x y : List ℕ) → xs ++ x ∷ [] ≡ ys ++ y ∷ [] → (xs ≡ ys) × (x ≡ y)
+cut_last [] [] x y e = (refl, cc)
+cut_last [] (b ∷ []) x y e = cc
+cut_last [] (b ∷ c ∷ ys) x y e = cc
+cut_last (a ∷ []) [] x y e = cc
+cut_last (a ∷ c ∷ xs) [] x y e = cc
+cut_last (a ∷ xs) (b ∷ ys) x y e =
+    let tail : xs ++ x ∷ [] ≡ ys ++ y ∷ [] = cc in
+    let head : a ≡ b = cc in
+    let r = cut_last xs ys x y tail in
+    let same : xs ≡ ys = r.0 in
+    (cc, r.1)
+
 -- a task's word
-abbrev word_of : Task → Text
+abbrev pub word_of : Task → Text
 word_of (Update verbose skip) = codes "update"
 word_of (Query devices json) = codes "query"
 word_of (Explain device json) = codes "explain"
 word_of (ListHits after limit device json) = codes "list"
 word_of (Ask file device) = codes "ask"
-word_of (Check files) = codes "check"
+word_of (Near files device limit json) = codes "near"
+word_of (Check files allowed json) = codes "check"
 word_of (Diff old_path new_path) = codes "diff"
 word_of (Verify database) = codes "verify"
 word_of (Dump database) = codes "dump"
 
-is_named : (name : Text) (inner : List Row) (task : Task) → IsTask name inner task → name ≡ word_of task
+pub is_named : (name : Text) (inner : List Row) (task : Task) → IsTask name inner task → name ≡ word_of task
 is_named name inner (Update verbose skip) t = t.0
 is_named name inner task t = t.0
 
 -- two names aren't one
-apart : {X : Type 0} (m n : Text) → bytes_eq m n ≡ false → m ≡ n → X
+pub apart : {X : Type 0} (m n : Text) → bytes_eq m n ≡ false → m ≡ n → X
 apart m n differ is = absurd (true≢false (sym ((bytes_eq-Decides m n).1 is) ∙ differ))
 
 -- what is done of the one task is done of the other
@@ -98,8 +114,16 @@ module _ (name : Text) (inner : List Row) (root : List ℕ) (usr strict : Bool) 
   same_task (Ask file1 device1) (Ask file2 device2) t u done =
       subst (λ (f : List ℕ). Prints (λ texts. (status ≡ 0) × IsAsked f (string_bytes device1) input old texts)) (one_value (first_of (codes "FILE") inner) _ _ u.1 t.1)
       (subst (λ (d : List ℕ). Prints (λ texts. (status ≡ 0) × IsAsked (string_bytes file2) d input old texts)) (one_value (first_of (codes "MODALIAS") inner) _ _ u.2 t.2) done)
-  same_task (Check files1) (Check files2) t u done =
-      subst (λ (fs : List (List ℕ)). Prints (OnOut (λ text. IsChecked (AreCheckedFiles fs root input old) strict text status))) (u.1 ∙ sym t.1) done
+  same_task (Check files1 allowed1 json1) (Check files2 allowed2 json2) t u done =
+      subst (λ (fs : List (List ℕ)). Prints (OnOut (λ text. IsChecked (AreCheckedFiles fs root input old) json1 strict (map string_bytes allowed1.items) text status))) (u.1 ∙ sym t.1)
+      (subst (λ (ks : List (List ℕ)). Prints (OnOut (λ text. IsChecked (AreCheckedFiles (map string_bytes files2.items) root input old) json1 strict ks text status))) (u.2 ∙ sym t.2)
+      (subst (λ (j : Bool). Prints (OnOut (λ text. IsChecked (AreCheckedFiles (map string_bytes files2.items) root input old) j strict (map string_bytes allowed2.items) text status))) (u.3 ∙ sym t.3) done))
+  same_task (Near files1 device1 limit1 json1) (Near files2 device2 limit2 json2) t u done =
+      let one = cut_last (map string_bytes files2.items) (map string_bytes files1.items) (string_bytes device2) (string_bytes device1) (one_values (all_of (codes "MODALIAS") inner) _ _ u.2 t.2) in
+      subst (λ (fs : List (List ℕ)). Quietly (IsNear fs root (near_form json1 (string_bytes device1) (near_limit limit1)) input old)) one.0
+      (subst (λ (d : List ℕ). Quietly (IsNear (map string_bytes files2.items) root (near_form json1 d (near_limit limit1)) input old)) one.1
+      (subst (λ (l : Option ℕ). Quietly (IsNear (map string_bytes files2.items) root (near_form json1 (string_bytes device2) (near_limit l)) input old)) (one_limit (one_of (codes "limit") inner) limit2 limit1 u.3 t.3)
+      (subst (λ (j : Bool). Quietly (IsNear (map string_bytes files2.items) root (near_form j (string_bytes device2) (near_limit limit2)) input old)) (u.1 ∙ sym t.1) done)))
   same_task (Diff old1 new1) (Diff old2 new2) t u done =
       subst (λ (p : List ℕ). Prints (OnOut (λ text. IsCompared p (string_bytes new1) old text status))) (one_value (first_of (codes "OLD") inner) _ _ u.1 t.1)
       (subst (λ (p : List ℕ). Prints (OnOut (λ text. IsCompared (string_bytes old2) p old text status))) (one_value (first_of (codes "NEW") inner) _ _ u.2 t.2) done)
@@ -117,6 +141,9 @@ one_option f (Some s) = refl
 pub one_root : (j : Job) → root_of j ≡ option_map_or (λ (x : List ℕ). x) (option_map string_bytes j.root) []
 one_root j = one_option string_bytes j.root
 
+pub same_root : (top : List Row) (name : Text) (inner : List Row) (j k : Job) → IsJob top name inner j → IsJob top name inner k → root_of k ≡ root_of j
+same_root top name inner j k one two = one_root k ∙ ap (λ (o : Option (List ℕ)). option_map_or (λ (x : List ℕ). x) o []) (two.root ∙ sym one.root) ∙ sym (one_root j)
+
 module _ (status : ℕ) (before now : World) where
   abbrev Done : Task → List ℕ → Bool → Bool → Type 0
   Done task root usr strict = IsTaskDone task root usr strict status before now
@@ -124,17 +151,18 @@ module _ (status : ℕ) (before now : World) where
   same_job : (top : List Row) (found : Option (Text × List Row)) (j k : Job) → IsJobOf top found j → IsJobOf top found k → IsDone k status before now → IsDone j status before now
   same_job top None j k one two done = absurd one
   same_job top (Some p) j k one two done =
-      let roots : root_of k ≡ root_of j = one_root k ∙ ap (λ (o : Option (List ℕ)). option_map_or (λ (x : List ℕ). x) o []) (two.root ∙ sym one.root) ∙ sym (one_root j) in
+      let roots : root_of k ≡ root_of j = same_root top p.0 p.1 j k one two in
       same_task p.0 p.1 (root_of j) j.usr j.strict status before now j.task k.task one.task two.task
       (subst (λ (r : List ℕ). Done k.task r j.usr j.strict) roots
       (subst (λ (b : Bool). Done k.task (root_of k) b j.strict) (two.usr ∙ sym one.usr)
       (subst (λ (b : Bool). Done k.task (root_of k) k.usr b) (two.strict ∙ sym one.strict) done)))
 
-pub one_job : (fails fails2 : List ℕ → Type 0) (left left2 : Outcomes) → TasksAreOne fails fails2 left left2 → JobsAreOne fails fails2 left left2
-one_job fails fails2 left left2 tasks = λ words status status2 before now before2 now2 input one two nothing nothing2.
+pub one_job : (fails fails_now fails2 fails2_now : List ℕ → Type 0) (left left_now left2 left2_now : Outcomes)
+    → TasksAreOne fails fails_now fails2 fails2_now left left_now left2 left2_now → JobsAreOne fails fails_now fails2 fails2_now left left_now left2 left2_now
+one_job fails fails_now fails2 fails2_now left left_now left2 left2_now tasks = λ words status status2 before now before2 now2 input one two nothing nothing2.
     tasks one.job.task (root_of one.job) one.job.usr one.job.strict status status2 before now before2 now2 input nothing nothing2 one.done
-    (same_job status2 (scene_of fails2 left2 before2) (scene_of fails2 left2 now2) (matches_of hwdb_app words) (subcommand_of hwdb_app words) one.job two.job one.asked two.asked two.done)
+    (same_job status2 (scene_of fails2 left2 before2) (scene_of fails2_now left2_now now2) (matches_of hwdb_app words) (subcommand_of hwdb_app words) one.job two.job one.asked two.asked two.done)
 
-pub not_told : (fails : List ℕ → Type 0) (left : Outcomes) → DoneIsNotTold fails left
-not_told fails left words status before now before2 now2 done told =
+pub not_told : (fails fails_now fails2 fails2_now : List ℕ → Type 0) (left left_now left2 left2_now : Outcomes) → DoneIsNotTold fails fails_now fails2 fails2_now left left_now left2 left2_now
+not_told fails fails_now fails2 fails2_now left left_now left2 left2_now words status before now before2 now2 done told =
     ⊎_elim (λ help. subst (IsAmong DisplayHelp) done.faultless help) (λ version. subst (IsAmong DisplayVersion) done.faultless version) told.asked
