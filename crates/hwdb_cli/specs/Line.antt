@@ -1,4 +1,4 @@
--- The command line of hwdb, as the command that `clap` is given: systemd-hwdb(8), with `explain`, `ask`, `list`, `check`, `diff`, `verify` and `dump` of our own.
+-- The command line of hwdb, as the command that `clap` is given: systemd-hwdb(8), with `explain`, `ask`, `list`, `near`, `check`, `diff`, `verify` and `dump` of our own.
 -- `clap` adds the options for help and the version, and the command `help`.
 use Rattle.std.specs.Prelude.{Some, codes, true}
 use Rattle.clap.specs.Walk.{Rule}
@@ -84,6 +84,10 @@ ask_app = with_rule (with_rule (with_shared (new_app (codes "ask"))) file_rule) 
 abbrev pub list_app : App
 list_app = with_rule (with_rule (with_range (with_shared (new_app (codes "list")))) json_rule) device_rule
 
+-- its last word is the device, and those before it are files
+abbrev pub near_app : App
+near_app = with_rule (with_rule (with_rule (with_shared (new_app (codes "near"))) limit_rule) json_rule) devices_rule
+
 abbrev pub check_app : App
 check_app = with_rule (with_rule (with_rule (with_shared (new_app (codes "check"))) allow_rule) json_rule) files_rule
 
@@ -99,9 +103,9 @@ dump_app = with_rule (with_shared (new_app (codes "dump"))) database_rule
 abbrev pub top_app : App
 top_app = on_top (λ (s : Shape). record s { has_version = true; subcommand_required = true }) (with_shared (new_app (codes "hwdb")))
 
--- the four commands that say what a device is told
+-- the five commands that say what a device is told, or almost
 abbrev pub with_answers : App → App
-with_answers app = with_subcommand (with_subcommand (with_subcommand (with_subcommand app query_app.top) explain_app.top) ask_app.top) list_app.top
+with_answers app = with_subcommand (with_subcommand (with_subcommand (with_subcommand (with_subcommand app query_app.top) explain_app.top) ask_app.top) list_app.top) near_app.top
 
 -- the four commands that look at files and databases
 abbrev pub with_inspections : App → App

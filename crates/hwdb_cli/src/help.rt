@@ -1,6 +1,6 @@
 //! Help: what `clap` says of a command, without options that do nothing for it; and a short one for a line without a
 //! command.
-use crate::{ask, check, diff, dump, explain, list, query, update, verify};
+use crate::{ask, check, diff, dump, explain, list, near, query, update, verify};
 use std::alloc::{AllocError, Global};
 
 /// What is said if no command is given, before the commands.
@@ -16,11 +16,12 @@ For more information, try 'hwdb help', or 'hwdb help COMMAND'.
 ";
 
 /// Each command, and what it does.
-const COMMANDS: [(&str, &str); 9] = [
+const COMMANDS: [(&str, &str); 10] = [
     ("update", update::SHORT),
     ("query", query::SHORT),
     ("explain", explain::SHORT),
     ("list", list::SHORT),
+    ("near", near::SHORT),
     ("ask", ask::SHORT),
     ("check", check::SHORT),
     ("diff", diff::SHORT),
@@ -37,6 +38,9 @@ const USR_LINE: &str = "      --usr ";
 const STRICT_LINE: &str = "  -s, --strict ";
 
 const COLOR_LINE: &str = "      --color ";
+
+/// How the words of `near` are shown, of which the last is the device string.
+const NEAR_WORDS: &str = "<MODALIAS>...";
 
 /// The short help.
 ///
@@ -58,13 +62,29 @@ pub fn fitting_help(alloc: Global, text: &str) -> Result<String, AllocError> {
     let mut shown = String::new(alloc);
     for line in text.split("\n") {
         if !is_idle(line, command) {
-            shown.push_str(line)?;
+            push_line(&mut shown, line, command)?;
             shown.push_str("\n")?;
         }
     }
     // The text ends in a newline, behind which there is an empty line.
     let _ = shown.pop();
     Ok(shown)
+}
+
+/// Adds a line of a command's help. `near` takes files and a device, which `clap` shows as words of one kind.
+fn push_line(shown: &mut String, line: &str, command: &str) -> Result<(), AllocError> {
+    if command != "near" {
+        return shown.push_str(line);
+    }
+    match line.split_once(NEAR_WORDS) {
+        Some(("  ", _)) => shown.push_str(near::ARGUMENTS),
+        Some((before, after)) => {
+            shown.push_str(before)?;
+            shown.push_str("[FILE]... <MODALIAS>")?;
+            shown.push_str(after)
+        }
+        None => shown.push_str(line),
+    }
 }
 
 /// The command that the usage names; `[OPTIONS]` in the help of the whole program.

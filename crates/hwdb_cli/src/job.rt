@@ -56,6 +56,17 @@ pub enum Task {
         /// Whether as JSON.
         json: bool,
     },
+    /// Print the patterns that almost matched the device.
+    Near {
+        /// The text files' paths; none where the database is meant.
+        files: Vec<String>,
+        /// The device string.
+        device: String,
+        /// How many patterns that don't match at most; none where three are meant.
+        limit: Option<u64>,
+        /// Whether as JSON.
+        json: bool,
+    },
     /// Print what changed from one database to another.
     Diff {
         /// The path of the old database.

@@ -19,6 +19,7 @@ mod job;
 mod kinds;
 mod list;
 mod matched;
+mod near;
 mod query;
 mod tips;
 mod update;

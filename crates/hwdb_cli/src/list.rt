@@ -45,7 +45,7 @@ fn limit_option<'a>(alloc: Global) -> Arg<'a>
 }
 
 /// The number that `--limit` gives.
-fn limit_of(inner: &ArgMatches<'_>) -> Option<u64>
+pub fn limit_of(inner: &ArgMatches<'_>) -> Option<u64>
     requires { IfSome (one_of (codes "limit") (rows_of (found_of inner.now))) IsNumber }
     ensures { IsLimit (one_of (codes "limit") (rows_of (found_of inner.now))) result }
 {

@@ -33,6 +33,7 @@
 //! | `rests` | all lengths from one on, as after a star |
 //! | `met` | which of a device's prefixes some tokens match |
 //! | `lengths` | how far one may go along a text at once |
+//! | `fronts` | where some tokens stop at a device |
 //! | `paths` | which prefixes a path matches that is fed piece by piece |
 //! | `laws` | what is proved of the definitions alone |
 #![tactic(auto)]
@@ -40,6 +41,7 @@
 mod brackets;
 mod classes;
 mod cut;
+mod fronts;
 mod laws;
 mod lengths;
 mod lists;
@@ -55,6 +57,7 @@ mod unusual;
 
 pub use brackets::bracket_end;
 pub use cut::{begins_star, begins_with, front_size, token_texts};
+pub use fronts::{Front, longest_front};
 pub use laws::{
     closed_bracket_stays, closed_part_is_cut_alike, dead_matches_nothing, dead_stays_dead,
     live_is_tested, matches_is_tested, tokens_are_the_pattern, worked_rows,

@@ -269,7 +269,7 @@ impl Met {
     }
 
     /// The least length.
-    fn least(&self, end: usize) -> Option<usize>
+    pub(crate) fn least(&self, end: usize) -> Option<usize>
         requires room { end + 1 < 2 ^ 64 }
         requires within { All (λ n. n ≤ end) (lengths_of self.now) }
         ensures member { IfSome result (λ n. Contains (lengths_of self.now) n) }
@@ -381,7 +381,12 @@ impl Met {
     }
 
     /// The lengths after the text's first token.
-    fn next_token(self, alloc: Global, device: &[u8], text: &[u8]) -> Result<Met, AllocError>
+    pub(crate) fn next_token(
+        self,
+        alloc: Global,
+        device: &[u8],
+        text: &[u8],
+    ) -> Result<Met, AllocError>
         requires some { 0 < length text.now }
         requires within { Within device.now (lengths_of self) }
         ensures { IfOk result (λ after.

@@ -44,6 +44,7 @@ pub mod Library
 pub mod Hiding
 pub mod Done
 pub mod Near
+pub mod NearAsked
 pub mod Colours
 pub mod Sysfs
 pub mod DeviceTree

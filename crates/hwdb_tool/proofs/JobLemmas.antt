@@ -1,5 +1,5 @@
 -- Words ask for one job.
-use Rattle.std.proofs.Common.{◌≡◌, ◌∙◌, ap, refl, sym, subst, Bool, false, true≢false, List, [], ◌∷◌, map, ℕ, Option, Some, None, string_bytes, ⊎_elim}
+use Rattle.std.proofs.Common.{◌≡◌, ◌∙◌, ap, refl, sym, subst, Bool, false, true≢false, List, [], ◌∷◌, ◌++◌, map, ℕ, Option, Some, None, string_bytes, ⊎_elim}
 use Rattle.std.specs.Prelude.{codes, option_map}
 use Rattle.std.specs.Option.{option_map_or}
 use Rattle.std.specs.Str.{bytes_eq}
@@ -12,7 +12,7 @@ use Rattle.hwdb_cli.specs.Jobs.{IsJob, IsJobOf, IsLimit, IsTask}
 use Rattle.hwdb_cli.specs.Line.{hwdb_app}
 use Rattle.hwdb_cli.specs.declared.job.Job.{Job}
 use Rattle.hwdb_cli.specs.declared.job.Task.{Task}
-use Rattle.hwdb_cli.specs.declared.job.Task.TheVariants.{Ask, Check, Diff, Dump, Explain, List as ListHits, Query, Update, Verify}
+use Rattle.hwdb_cli.specs.declared.job.Task.TheVariants.{Ask, Check, Diff, Dump, Explain, List as ListHits, Near, Query, Update, Verify}
 use Rattle.hwdb_spec.specs.Outputs.{Texts}
 use Rattle.hwdb_spec.specs.Runs.{AreKept, OnOut, Printed, World}
 use Rattle.hwdb_spec.specs.Store.{Contents, Outcomes}
@@ -20,6 +20,7 @@ use Rattle.hwdb_spec.specs.CheckedFiles.{AreCheckedFiles, IsChecked}
 use Rattle.hwdb_spec.specs.Asked.{IsCompared, IsAnswered, IsListFrom, IsDumped, IsPrinted}
 use Rattle.hwdb_spec.specs.Done.{IsAsked}
 use Rattle.hwdb_spec.specs.Databases.{IsSummary}
+use Rattle.hwdb_spec.specs.NearAsked.{IsNear, near_form, near_limit}
 use Rattle.hwdb_tool.specs.Queries.{AreAnswered, IfNamed, IsQuiet}
 use Rattle.hwdb_print.specs.declared.form.Form.{Form}
 use Rattle.hwdb_print.specs.declared.form.Form.TheVariants as form
@@ -39,6 +40,20 @@ one_limit (Some text) None b one two = absurd one
 one_limit (Some text) (Some a) None one two = absurd two
 one_limit (Some text) (Some a) (Some b) one two = ap Some (one.1 ∙ sym two.1)
 
+-- the last of some texts, and those before it
+cut_last : (xs ys : List (List ℕ)) (x y : List ℕ) → xs ++ x ∷ [] ≡ ys ++ y ∷ [] → (xs ≡ ys) × (x ≡ y)
+cut_last [] [] x y e = (refl, cc)
+cut_last [] (b ∷ []) x y e = cc
+cut_last [] (b ∷ c ∷ ys) x y e = cc
+cut_last (a ∷ []) [] x y e = cc
+cut_last (a ∷ c ∷ xs) [] x y e = cc
+cut_last (a ∷ xs) (b ∷ ys) x y e =
+    let tail : xs ++ x ∷ [] ≡ ys ++ y ∷ [] = cc in
+    let head : a ≡ b = cc in
+    let r = cut_last xs ys x y tail in
+    let same : xs ≡ ys = r.0 in
+    (cc, r.1)
+
 -- a task's word
 abbrev pub word_of : Task → Text
 word_of (Update verbose skip) = codes "update"
@@ -46,6 +61,7 @@ word_of (Query devices json) = codes "query"
 word_of (Explain device json) = codes "explain"
 word_of (ListHits after limit device json) = codes "list"
 word_of (Ask file device) = codes "ask"
+word_of (Near files device limit json) = codes "near"
 word_of (Check files allowed json) = codes "check"
 word_of (Diff old_path new_path) = codes "diff"
 word_of (Verify database) = codes "verify"
@@ -102,6 +118,12 @@ module _ (name : Text) (inner : List Row) (root : List ℕ) (usr strict : Bool) 
       subst (λ (fs : List (List ℕ)). Prints (OnOut (λ text. IsChecked (AreCheckedFiles fs root input old) json1 strict (map string_bytes allowed1.items) text status))) (u.1 ∙ sym t.1)
       (subst (λ (ks : List (List ℕ)). Prints (OnOut (λ text. IsChecked (AreCheckedFiles (map string_bytes files2.items) root input old) json1 strict ks text status))) (u.2 ∙ sym t.2)
       (subst (λ (j : Bool). Prints (OnOut (λ text. IsChecked (AreCheckedFiles (map string_bytes files2.items) root input old) j strict (map string_bytes allowed2.items) text status))) (u.3 ∙ sym t.3) done))
+  same_task (Near files1 device1 limit1 json1) (Near files2 device2 limit2 json2) t u done =
+      let one = cut_last (map string_bytes files2.items) (map string_bytes files1.items) (string_bytes device2) (string_bytes device1) (one_values (all_of (codes "MODALIAS") inner) _ _ u.2 t.2) in
+      subst (λ (fs : List (List ℕ)). Quietly (IsNear fs root (near_form json1 (string_bytes device1) (near_limit limit1)) input old)) one.0
+      (subst (λ (d : List ℕ). Quietly (IsNear (map string_bytes files2.items) root (near_form json1 d (near_limit limit1)) input old)) one.1
+      (subst (λ (l : Option ℕ). Quietly (IsNear (map string_bytes files2.items) root (near_form json1 (string_bytes device2) (near_limit l)) input old)) (one_limit (one_of (codes "limit") inner) limit2 limit1 u.3 t.3)
+      (subst (λ (j : Bool). Quietly (IsNear (map string_bytes files2.items) root (near_form j (string_bytes device2) (near_limit limit2)) input old)) (u.1 ∙ sym t.1) done)))
   same_task (Diff old1 new1) (Diff old2 new2) t u done =
       subst (λ (p : List ℕ). Prints (OnOut (λ text. IsCompared p (string_bytes new1) old text status))) (one_value (first_of (codes "OLD") inner) _ _ u.1 t.1)
       (subst (λ (p : List ℕ). Prints (OnOut (λ text. IsCompared (string_bytes old2) p old text status))) (one_value (first_of (codes "NEW") inner) _ _ u.2 t.2) done)

@@ -4,7 +4,7 @@ use Rattle.std.specs.Prelude.{option_map}
 use Rattle.std.specs.Option.{option_map_or}
 use Rattle.std.specs.Io.KnownBytes.{Appends}
 use Rattle.hwdb_cli.specs.declared.job.Task.{Task}
-use Rattle.hwdb_cli.specs.declared.job.Task.TheVariants.{Ask, Check, Diff, Dump, Explain, List as ListHits, Query, Update, Verify}
+use Rattle.hwdb_cli.specs.declared.job.Task.TheVariants.{Ask, Check, Diff, Dump, Explain, List as ListHits, Near, Query, Update, Verify}
 use Rattle.hwdb_spec.specs.Done.{AreAskTexts, IsUpdated}
 use Rattle.hwdb_spec.specs.Databases.{IsDiffText, IsDifferent, IsSummary, IsTextOf}
 use Rattle.hwdb_spec.specs.Assignment.{Position}
@@ -30,6 +30,8 @@ use Rattle.hwdb_print.specs.declared.form.Form.{Form}
 use Rattle.hwdb_print.specs.declared.form.Form.TheVariants as forms
 use Rattle.hwdb_print.specs.Streams.{texts_of}
 use Rattle.hwdb_spec.specs.CheckedFiles.{AreCheckedFiles}
+use Rattle.hwdb_spec.specs.Near.{PatternAt}
+use Rattle.hwdb_spec.specs.NearAsked.{IsNear, database_patterns, near_form, near_limit, patterns_from}
 use Rattle.hwdb_spec.specs.Asked.{IsAnswered, IsFrom, IsListFrom, list_form, named_database}
 use Rattle.hwdb_spec.specs.LeftOut.{AreLeftOut, IsLeftOut, without, status_less}
 use Rattle.hwdb_fs.specs.LeftOut.{AreTold}
@@ -157,6 +159,15 @@ module _ (tree : (bytes : List ℕ) (t u : Tree) → IsDatabase bytes t → IsDa
       (one.held ∙ ap (λ (cs : List Choice). map (λ c. bytes_at files (root ++ path_of c)) cs) same ∙ sym two.held)
   sources (path ∷ more) root input files xs ys one two = one_given_sources input files xs ys (one.named ∙ sym two.named) one.held two.held
 
+  -- what is printed of the nearest patterns
+  nearest_one : (given : List (List ℕ)) (root : List ℕ) (print : List PatternAt → List ℕ) (input : List ℕ) (files : Contents) (text text2 : List ℕ)
+      → IsNear given root print (Some input) files text → IsNear given root print (Some input) files text2 → text ≡ text2
+  nearest_one [] root print input files text text2 one two =
+      one_text tree (λ t. print (database_patterns t)) one.bytes two.bytes text text2 (one_held (asked_database root files) one.bytes two.bytes one.named two.named) one.is two.is
+  nearest_one (path ∷ more) root print input files text text2 one two =
+      let same : one.0 ≡ two.0 = one_given_sources input files one.0 two.0 (one.1.named ∙ sym two.1.named) one.1.held two.1.held in
+      one.2 ∙ ap (λ (xs : List Source). print (patterns_from 1 xs)) same ∙ sym two.2
+
   -- the texts of a task, and its status
   pub one_answer_of : AnswersAreOne
   one_answer_of (Update verbose skip) = λ root strict input files status status2 texts texts2 one two. absurd one
@@ -196,6 +207,11 @@ module _ (tree : (bytes : List ℕ) (t u : Tree) → IsDatabase bytes t → IsDa
         one_err = one.0 ∙ sym two.0;
         one_out = a.is ∙ ap (check_text json (map string_bytes allowed.items)) same ∙ sym b.is;
       }
+  one_answer_of (Near paths device limit json) = λ root strict input files status status2 texts texts2 one two. record {
+    one_status = one.0 ∙ sym two.0;
+    one_err = one.1.0 ∙ sym two.1.0;
+    one_out = nearest_one (map string_bytes paths.items) root (near_form json (string_bytes device) (near_limit limit)) input files texts.out texts2.out one.1.1 two.1.1;
+  }
   one_answer_of (Diff old_path new_path) = λ root strict input files status status2 texts texts2 one two.
       let a = one.1 in
       let b = two.1 in

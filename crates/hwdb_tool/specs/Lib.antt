@@ -8,6 +8,7 @@ pub mod Queries
 pub mod ComparedDatabases
 pub mod Internal
 pub mod NamedDatabases
+pub mod NearMisses
 pub mod Hiding
 pub mod Colours
 pub mod Crash

@@ -131,7 +131,7 @@ fn check_read(
 }
 
 /// What each of the given files has, where standard input had this text.
-fn read_given<D: System>(
+pub fn read_given<D: System>(
     alloc: Global,
     given: &[String],
     text: &[u8],
@@ -167,7 +167,7 @@ fn stored_paths(alloc: Global, chosen: &[Chosen]) -> Result<Vec<String>, AllocEr
 }
 
 /// The texts, each with the path that is printed of it.
-fn with_paths<'a>(
+pub fn with_paths<'a>(
     alloc: Global,
     paths: &'a [String],
     texts: &'a [Vec<u8>],

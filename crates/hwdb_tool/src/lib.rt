@@ -12,6 +12,7 @@
 //! | `answers` | `explain`, `list` and `ask` |
 //! | `input_devices` | `query -` and `explain -`: the devices that standard input names |
 //! | `checks` | `check` |
+//! | `near_misses` | `near` |
 //! | `differences` | `diff` |
 //! | `verification` | `verify`; `verdicts`: its words on bytes that are no database |
 //! | `dumps` | `dump` |
@@ -41,6 +42,7 @@ mod given;
 mod hiding;
 mod input_devices;
 mod laws;
+mod near_misses;
 mod one_outcome;
 mod one_refusal;
 mod outlet;
@@ -70,6 +72,7 @@ pub use hwdb_lint::KINDS;
 pub use hwdb_print::{ToolError, ask, run_list, run_query, run_update};
 pub use hwdb_spec::TextKind;
 pub use laws::update_then_query;
+pub use near_misses::near;
 pub use one_outcome::{answers_are_one, jobs_are_one, listings_give_one_reading, tasks_are_one};
 pub use one_refusal::{errors_are_one, words_end_in_one};
 pub use outlet::Outlet;
