@@ -41,3 +41,6 @@ pub mod Library
 pub mod Hiding
 pub mod Done
 pub mod Near
+pub mod Sysfs
+pub mod Inputs
+pub mod Lookups

@@ -48,6 +48,9 @@
 //! | `Hiding` | what `update --usr --verbose` says where /etc's database hides the new one |
 //! | `Done` | what `update` and `ask` leave, and what a crash leaves during an update |
 //! | `Near` | the pattern that almost matched a device, and where it stopped |
+//! | `Sysfs` | what sysfs holds of a device and its parents, and how udev reads it |
+//! | `Inputs` | what kinds of input device udev sees in one |
+//! | `Lookups` | the strings that udev's rules ask for a device, in their order |
 //!
 //! The types below are those that the definitions name.
 #![tactic(auto)]
