@@ -1,0 +1,5 @@
+pub mod ValueLemmas
+pub mod AncestorLemmas
+pub mod WalkLemmas
+pub mod BitLemmas
+pub mod RuleLemmas

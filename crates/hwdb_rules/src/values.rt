@@ -1,10 +1,10 @@
 //! Values of attributes, as udev writes them into strings.
-ghost use Rattle.std.specs.Prelude.{◌≡◌, ◌++◌, ◌≤◌, ◌-◌, drop, length, take, true, OnOk};
+ghost use Rattle.std.specs.Prelude.{◌≡◌, ◌++◌, ◌≤◌, ◌<◌, drop, get_or, length, take, OnOk};
 ghost use Rattle.hwdb_spec.specs.Folders;
 ghost use Rattle.hwdb_spec.specs.Lines;
 ghost use Rattle.hwdb_spec.specs.Sysfs;
 ghost use Rattle.hwdb_spec.specs.Sysfs.{cut_back, left_whole, replaced, written};
-ghost use Rattle.hwdb_rules.specs.Internal.{is_cut};
+ghost use Rattle.hwdb_rules.specs.Internal.{is_cut, kept};
 
 use std::alloc::AllocError;
 
@@ -91,11 +91,21 @@ fn is_unused(text: &[u8]) -> bool
     }
 }
 
+/// Whether these are UTF-8, and no such character.
+fn is_used(text: &[u8]) -> bool
+    ensures { result ≡ Sysfs.is_used text.now }
+{
+    match str::from_utf8(text) {
+        Ok(_) => !is_unused(text),
+        Err(_) => false,
+    }
+}
+
 /// Whether these are one character of more than one byte.
 fn is_wide(size: usize, text: &[u8]) -> bool
     ensures { result ≡ Sysfs.is_wide size text.now }
 {
-    1 < size && text.len() == size && str::from_utf8(text).is_ok() && !is_unused(text)
+    1 < size && text.len() == size && is_used(text)
 }
 
 /// At most so many first bytes of a text.
@@ -103,6 +113,13 @@ fn first(text: &[u8], n: usize) -> &[u8]
     ensures { result.now ≡ take n text.now }
 {
     if n < text.len() { &text[..n] } else { text }
+}
+
+/// What is after so many bytes of a text.
+pub(crate) fn after(text: &[u8], n: usize) -> &[u8]
+    ensures { result.now ≡ drop n text.now }
+{
+    if n < text.len() { &text[n..] } else { &[] }
 }
 
 /// How many of the first bytes of a text are left as they are, if its first byte by itself isn't.
@@ -133,26 +150,31 @@ fn put_for(byte: u8) -> u8
     }
 }
 
+/// How many of the first bytes of a text are left as they are; none if its first byte isn't.
+fn kept_size(text: &[u8]) -> usize
+    requires { 0 < length text.now }
+    ensures size { result ≡ kept (get_or text.now 0 0) (drop 1 text.now) }
+    ensures within { result ≤ length text.now }
+{
+    if is_left(text[0]) {
+        return 1;
+    }
+    left_whole(text)
+}
+
 /// Adds a text with `_` for each byte that udev doesn't allow. The only error, here and below, is `AllocError`.
 fn push_replaced(text: &mut Vec<u8>, value: &[u8]) -> Result<(), AllocError>
     ensures { OnOk result (text.new.items ≡ text.old.items ++ replaced 0 value.now) }
 {
-    let mut at = 0;
-    while at < value.len() {
-        let rest = &value[at..];
-        let byte = rest[0];
-        if is_left(byte) {
-            text.push(byte)?;
-            at += 1;
+    let mut left = value;
+    'writing: while let Some((byte, more)) = left.split_first() {
+        let size = kept_size(left);
+        if size > 0 {
+            text.extend_from_slice(first(left, size))?;
+            left = after(left, size);
         } else {
-            let whole = left_whole(rest);
-            if whole > 0 {
-                text.extend_from_slice(&rest[..whole])?;
-                at += whole;
-            } else {
-                text.push(put_for(byte))?;
-                at += 1;
-            }
+            text.push(put_for(*byte))?;
+            left = more;
         }
     }
     Ok(())
