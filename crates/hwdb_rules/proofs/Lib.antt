@@ -3,3 +3,4 @@ pub mod AncestorLemmas
 pub mod WalkLemmas
 pub mod BitLemmas
 pub mod RuleLemmas
+pub mod ComputedRows

@@ -1,6 +1,7 @@
 -- Values, seen from their ends and from a place in them.
 use Rattle.std.proofs.Common.{◌≡◌, ℕ, zero, suc, ◌-◌, ◌+◌, ◌<◌, ◌≤◌, Bool, true, false, List, [], ◌∷◌, ◌++◌, take, drop, length, get_or, refl, ap, ◌∙◌, sym, arith, append_assoc, append-nil, not, cond, nat_lt}
-use Rattle.std.proofs.lemmas.List.{take_more, take_rest}
+use Rattle.std.proofs.lemmas.Bool.{lt-ltb}
+use Rattle.std.proofs.lemmas.List.{take_more}
 use Rattle.std.specs.Str.{IsUtf8, is_utf8}
 use Rattle.std.proofs.lemmas.Str.{IsUtf8-from_is_utf8, is_utf8-from_IsUtf8}
 use Rattle.hwdb_spec.specs.Lines.{is_none}
@@ -54,7 +55,7 @@ keep_size (suc k) b rest h =
     let e : suc k - 1 ≡ k = omega arith in
     let f : b ∷ replaced (suc k - 1) rest ≡ b ∷ replaced k rest = ap (λ (m : ℕ). b ∷ replaced m rest) e in
     let g : b ∷ replaced k rest ≡ b ∷ (take k rest ++ replaced 0 (drop k rest)) = ap (λ (l : List ℕ). b ∷ l) (replaced_skip k rest) in
-    f ∙ g
+    ap (λ (c : Bool). cond c (b ∷ replaced (suc k - 1) rest) (put_for b ∷ replaced 0 rest)) (lt-ltb 0 (suc k) (omega arith)) ∙ f ∙ g
 
 kept_by : (left : Bool) (k b : ℕ) (rest : List ℕ) → 0 < cond left 1 k
     → cond left (b ∷ replaced 0 rest) (cond (nat_lt 0 k) (b ∷ replaced (k - 1) rest) (put_for b ∷ replaced 0 rest)) ≡ take (cond left 1 k) (b ∷ rest) ++ replaced 0 (drop (cond left 1 k) (b ∷ rest))

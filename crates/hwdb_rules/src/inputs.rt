@@ -1,5 +1,5 @@
 //! What kinds of input device udev sees in one: the builtin `input_id`.
-ghost use Rattle.std.specs.Prelude.{◌≡◌, ◌+◌, ◌/◌, ◌%◌, ◌^◌, ◌==◌, ◌<◌, ◌≤◌, filter, get_or, if◌then◌else◌, length, map, reverse, IfOk};
+ghost use Rattle.std.specs.Prelude.{◌≡◌, ◌+◌, ◌/◌, ◌%◌, ◌^◌, ◌==◌, ◌<◌, ◌≤◌, false, filter, get_or, if◌then◌else◌, length, map, reverse, IfOk};
 ghost use Rattle.hwdb_spec.specs.Sysfs.{attribute_text};
 ghost use Rattle.hwdb_spec.specs.Inputs;
 ghost use Rattle.hwdb_spec.specs.Inputs.{after_words, count_bits, has_bit, kinds_by_bits, with_bits};
@@ -275,13 +275,23 @@ impl Bits {
         self.joystick_parts() > 0 && !(self.has_place() && self.is_other())
     }
 
+    fn is_wheeled_pad(&self) -> bool
+        ensures { result
+            ≡ if Inputs.has_wheel (bits_in self.now) then Inputs.has_pad (bits_in self.now) else false }
+    {
+        self.has_wheel() && self.has_pad()
+    }
+
     fn is_joystick(&self) -> bool
         ensures { result ≡ Inputs.is_joystick (bits_in self.now) }
     {
-        self.may_be_joystick()
-            && !self.is_keyboard()
-            && self.joystick_parts() >= 2
-            && !(self.has_wheel() && self.has_pad())
+        if !self.may_be_joystick() || self.is_keyboard() {
+            return false;
+        }
+        if self.joystick_parts() < 2 {
+            return false;
+        }
+        !self.is_wheeled_pad()
     }
 
     fn is_placed_mouse(&self) -> bool

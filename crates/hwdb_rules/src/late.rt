@@ -30,7 +30,7 @@ fn camera_text(alloc: Global, scene: &Scene<'_>, at: At<'_>) -> Result<Vec<u8>, 
 }
 
 /// Whether it is a device of video.
-#[tactic(auto, unfolding(hwdb_rules::specs::Internal::is_video))]
+#[tactic(auto, unfolding(crate::specs::Internal::is_video))]
 fn is_video(scene: &Scene<'_>) -> bool
     ensures { result ≡ is_video (scene_of scene.now) }
 {
@@ -38,7 +38,7 @@ fn is_video(scene: &Scene<'_>) -> bool
 }
 
 /// Adds the string of a camera, if it is on USB.
-#[tactic(auto, unfolding(hwdb_rules::specs::Internal::camera_plan))]
+#[tactic(auto, unfolding(crate::specs::Internal::camera_plan))]
 fn add_camera(
     alloc: Global,
     plans: &mut Vec<Plan>,

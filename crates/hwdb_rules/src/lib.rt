@@ -16,6 +16,7 @@
 //! | `early` | 50-udev-default, 60-evdev and 60-input-id |
 //! | `middle` | 60-sensor, 60-serial, and those of upower and libwacom |
 //! | `late` | 70-camera to 78-sound-card |
+//! | `laws` | worked rows of the definitions |
 #![tactic(auto)]
 
 mod ancestors;
@@ -23,6 +24,7 @@ mod device;
 mod early;
 mod inputs;
 mod late;
+mod laws;
 mod middle;
 mod plans;
 mod scene;
@@ -33,6 +35,7 @@ pub use device::{ATTRIBUTES, Ancestor, Attribute, Device};
 pub use early::{early_rules, input_id_rules};
 pub use inputs::{Kinds, kinds_seen};
 pub use late::late_rules;
+pub use laws::lookup_rows;
 pub use middle::middle_rules;
 pub use plans::{Plan, Question};
 pub use scene::{Scene, machine_text};

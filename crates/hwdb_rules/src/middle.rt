@@ -276,7 +276,7 @@ fn battery_text(alloc: Global, scene: &Scene<'_>) -> Result<Vec<u8>, AllocError>
 }
 
 /// Whether it is a battery whose charge can be limited.
-#[tactic(auto, unfolding(hwdb_rules::specs::Internal::is_battery))]
+#[tactic(auto, unfolding(crate::specs::Internal::is_battery))]
 fn is_battery(scene: &Scene<'_>) -> bool
     ensures { result ≡ is_battery (scene_of scene.now) }
 {
@@ -284,7 +284,7 @@ fn is_battery(scene: &Scene<'_>) -> bool
 }
 
 /// Adds the string of a battery.
-#[tactic(auto, unfolding(hwdb_rules::specs::Internal::battery_plan))]
+#[tactic(auto, unfolding(crate::specs::Internal::battery_plan))]
 fn add_battery(
     alloc: Global,
     plans: &mut Vec<Plan>,

@@ -136,8 +136,8 @@ fn add_strings(
 ) -> Result<(), AllocError>
     requires { walk.place + length chain.now < 2 ^ 64 }
     ensures { OnOk result (questions_of questions.new.items ≡ questions_of questions.old.items
-        ++ strings_from walk.subsystem.now walk.prefix.now walk.place
-        walk.is_last (map ancestor_of chain.now)) }
+        ++ strings_from walk.entry.subsystem.now walk.entry.prefix.now walk.entry.place
+        walk.entry.is_last (map ancestor_of chain.now)) }
 {
     let Some((ancestor, more)) = chain.split_first() else {
         return Ok(());

@@ -6,7 +6,7 @@ use Rattle.hwdb_rules.proofs.values.push_replaced.Goals as goal
 pub writing-preserved-then-size-gt0 : goal.writing-preserved-then-size-gt0
 writing-preserved-then-size-gt0 c =
     many_step _ _ _ _ _ _ c.in_ok-extend_from_slice.ensures.items
-    (kept_step c.writing.left.now c.kept_size-size.result _ _ (omega (arith, c.in-Some.ensures.cases.1)) c.kept_size-size.ensures.size c.if-size-gt0.true c.first.ensures c.after.ensures)
+    (kept_step c.writing.left.now c.kept_size-size.result _ _ (omega (arith, c.in-Some.ensures.cases.1)) c.kept_size-size.ensures.size c.if-size-gt0.true c.first.ensures c.after-left.ensures)
     c.writing.invariant
 
 pub writing-preserved : goal.writing-preserved
