@@ -23,7 +23,7 @@ matrices = record {
 pub axes : AxisRows
 axes = record {
   limits = refl;
-  open = refl;
+  some = refl;
   code = refl;
   none = refl;
   six = refl;

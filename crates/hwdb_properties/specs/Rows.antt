@@ -34,7 +34,7 @@ pub record MatrixRows : Type 0 where
 -- the limits of an axis, below a code in lower case
 pub record AxisRows : Type 0 where
   pub limits : IsFine "EVDEV_ABS_ axis evdev x" "EVDEV_ABS_00" "1260:5650:39"
-  pub open : IsFine "EVDEV_ABS_ axis evdev x" "EVDEV_ABS_3a" "::-5:0x1f"
+  pub some : IsFine "EVDEV_ABS_ axis evdev x" "EVDEV_ABS_3a" "::-5:0x1f"
   pub code : row_misuse (codes "EVDEV_ABS_ axis evdev x") (codes "EVDEV_ABS_3A") (codes "1:2") ≡ Some ScanCode
   pub none : row_misuse (codes "EVDEV_ABS_ axis evdev x") (codes "EVDEV_ABS_") (codes "1:2") ≡ Some ScanCode
   pub six : IsUnfit "EVDEV_ABS_ axis evdev x" "EVDEV_ABS_00" "1:2:3:4:5:6"
