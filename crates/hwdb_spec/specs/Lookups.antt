@@ -88,7 +88,7 @@ strings_from subsystem prefix place is_last (a ∷ more) =
     if is_walked subsystem a then
     (let last = if is_last then true else is_usb_device a in
     option_map_or (λ text. record { parent = place; text = prefix ++ text } ∷ (if last then [] else strings_from subsystem prefix (suc place) false more))
-        (string_of a) (strings_from subsystem prefix (suc place) last more))
+    (string_of a) (strings_from subsystem prefix (suc place) last more))
     else strings_from subsystem prefix (suc place) is_last more
 
 -- a walk up the parents
@@ -109,7 +109,7 @@ usb_rule s = when (is_usb_device s.own) (walk (codes "50-udev-default") (codes "
 abbrev pub modalias_rule : Scene → List Lookup
 modalias_rule s =
     when (if is_none (unwrap_or (uevent_value (codes "MODALIAS=") s.own) []) then false else not (is_none s.own.subsystem))
-        (walk (codes "50-udev-default") s.own.subsystem [] s)
+    (walk (codes "50-udev-default") s.own.subsystem [] s)
 
 -- the model of a node on FireWire, if it has one
 abbrev pub node_model : Scene → List ℕ
@@ -123,7 +123,7 @@ node_text s units = codes "ieee1394:node:ven" ++ (attr (codes "vendor") s (itsel
 abbrev pub firewire_rule : Scene → List Lookup
 firewire_rule s =
     when (is_in (codes "firewire") s.own)
-        (option_map_or (λ units. ask_one (codes "50-udev-default") (itself s) (node_text s units)) (attribute (codes "units") s.own) [])
+    (option_map_or (λ units. ask_one (codes "50-udev-default") (itself s) (node_text s units)) (attribute (codes "units") s.own) [])
 
 abbrev pub default_rules : Scene → List Lookup
 default_rules s = hidraw_rule s ++ (usb_rule s ++ (modalias_rule s ++ firewire_rule s))
@@ -152,8 +152,8 @@ named_rules s =
 abbrev pub evdev_rules : Scene → List Lookup
 evdev_rules s =
     when (is_named (codes "event") s.own)
-        (walk (codes "60-evdev") (codes "input") (codes "evdev:") s
-        ++ (atkbd_rule s ++ named_rules s))
+    (walk (codes "60-evdev") (codes "input") (codes "evdev:") s
+    ++ (atkbd_rule s ++ named_rules s))
 
 -- ---- 60-input-id.rules
 
@@ -185,8 +185,10 @@ input_walk s = when (is_in (codes "input") s.own) (walk (codes "60-input-id") (c
 abbrev pub input_id_rules : Scene → List Lookup
 input_id_rules s =
     input_walk s
-    ++ record { rule = codes "60-input-id";
-      questions = on_bus (codes "0003") (codes "usb") s ++ (on_bus (codes "0005") (codes "bluetooth") s ++ on_bus (codes "0018") (codes "i2c") s) } ∷ []
+    ++ record {
+      rule = codes "60-input-id";
+      questions = on_bus (codes "0003") (codes "usb") s ++ (on_bus (codes "0005") (codes "bluetooth") s ++ on_bus (codes "0018") (codes "i2c") s);
+    } ∷ []
 
 -- ---- 60-sensor.rules
 
@@ -216,7 +218,7 @@ is_chromebook s =
 abbrev pub chromebook_question : (location label : List ℕ) → Scene → List Question
 chromebook_question location label s =
     when (if is_chromebook s then attribute_is (codes "location") location s.own else false)
-        (of_first (is_in (codes "platform")) s (λ p. question_at p (sensor_text label s p)))
+    (of_first (is_in (codes "platform")) s (λ p. question_at p (sensor_text label s p)))
 
 -- lines 22 to 24: a sensor
 abbrev pub plain_question : Scene → List Question
@@ -226,8 +228,8 @@ plain_question s = of_first is_carrier s (λ p. question_at p (sensor_text [] s 
 abbrev pub iio_questions : Scene → List Question
 iio_questions s =
     when (if is_in (codes "iio") s.own then is_named (codes "iio") s.own else false)
-        (labelled_question s ++ (chromebook_question (codes "base") (codes "accel-base:") s
-        ++ (chromebook_question (codes "lid") (codes "accel-display:") s ++ plain_question s)))
+    (labelled_question s ++ (chromebook_question (codes "base") (codes "accel-base:") s
+    ++ (chromebook_question (codes "lid") (codes "accel-display:") s ++ plain_question s)))
 
 -- the string of an accelerometer below ACPI
 abbrev pub acpi_text : Scene → At → List ℕ
@@ -273,7 +275,7 @@ battery_text s = codes "battery:" ++ (s.own.name ++ (codes ":" ++ (attr (codes "
 abbrev pub battery_rules : Scene → List Lookup
 battery_rules s =
     when (if is_in (codes "power_supply") s.own then has_text (codes "charge_control_start_threshold") s.own else false)
-        (ask_one (codes "60-upower-battery") (itself s) (battery_text s))
+    (ask_one (codes "60-upower-battery") (itself s) (battery_text s))
 
 -- whether the name of a device says that it is no tablet
 abbrev pub is_no_tablet : Ancestor → Bool
@@ -290,7 +292,7 @@ tablet_prefix s p = codes "libwacom:name:" ++ (attr (codes "name") s p ++ byte "
 abbrev pub tablet_rules : Scene → List Lookup
 tablet_rules s =
     when (if is_named (codes "event") s.own then not (some is_no_tablet s.chain) else false)
-        (of_first (is_named (codes "input")) s (λ p. walk (codes "65-libwacom") (codes "input") (tablet_prefix s p) s))
+    (of_first (is_named (codes "input")) s (λ p. walk (codes "65-libwacom") (codes "input") (tablet_prefix s p) s))
 
 -- ---- 70-camera.rules, 70-joystick.rules, 70-mouse.rules, 70-touchpad.rules
 
@@ -374,7 +376,7 @@ screen_text s p = before_first (is (byte " ")) (codes "fb:" ++ attr (codes "moda
 abbrev pub seat_rules : Scene → List Lookup
 seat_rules s =
     when (if is_in (codes "graphics") s.own then is_numbered (codes "fb") s.own else false)
-        (of_first (has_text (codes "modalias")) s (λ p. ask_one (codes "71-seat") p (screen_text s p)))
+    (of_first (has_text (codes "modalias")) s (λ p. ask_one (codes "71-seat") p (screen_text s p)))
 
 -- whether a device has a driver
 abbrev pub is_driven : Ancestor → Bool
@@ -418,7 +420,7 @@ is_owned digits = if length digits == 12 then not (starts_with nat_eq digits (co
 abbrev pub address_rule : Scene → List Lookup
 address_rule s =
     when (if has_own_address s then is_owned (address_digits s) else false)
-        (ask_one (codes "net_id") (itself s) (codes "OUI:" ++ address_digits s))
+    (ask_one (codes "net_id") (itself s) (codes "OUI:" ++ address_digits s))
 
 abbrev pub net_rules : Scene → List Lookup
 net_rules s = when (is_in (codes "net") s.own) (driver_rule s ++ (along_bus (codes "75-net-description") s ++ address_rule s))
