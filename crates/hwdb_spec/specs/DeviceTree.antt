@@ -1,6 +1,6 @@
 -- Where sysfs has a device, and what is read of it and its parents. The folders are those of the kernel's sysfs-rules.rst; which
 -- files are read is what sd-device of systemd 257 does. That a name is looked for in every class and bus is our choice.
-use Rattle.std.specs.Prelude.{Bool, true, false, ℕ, List, [], ◌∷◌, ◌++◌, ◌+◌, ◌*◌, ◌/◌, ◌%◌, ◌==◌, Option, None, Some, if◌then◌else◌, codes, drop, filter_map, flat_map, length, map, nat_eq, not, option_map, reverse}
+use Rattle.std.specs.Prelude.{Bool, true, false, ℕ, List, [], ◌∷◌, ◌++◌, ◌+◌, ◌*◌, ◌/◌, ◌%◌, ◌==◌, Option, None, Some, if◌then◌else◌, codes, drop, filter_map, flat_map, length, map, nat_eq, nat_lt, not, option_map, reverse}
 use Rattle.std.specs.Fmt.{decimal}
 use Rattle.std.specs.List.{starts_with}
 use Rattle.std.specs.Option.{option_map_or, unwrap_or}
@@ -161,6 +161,26 @@ first_given test (x ∷ rest) = option_map_or Some (test x) (first_given test re
 -- the device that is meant
 abbrev pub device_for : Sight → (root sys given : List ℕ) → Option (List ℕ)
 device_for sight root sys given = first_given (device_of_path sight sys) (paths_for sight root sys given)
+
+-- ---- what is near a name that no device has
+
+-- how many bytes two texts begin with alike
+unfoldable pub alike : List ℕ → List ℕ → ℕ
+alike (a ∷ more) (b ∷ rest) = if a == b then 1 + alike more rest else 0
+alike _ _ = 0
+
+-- of a name and one before it the one that begins more as the name that is wanted; of two that begin as much the one before
+abbrev pub nearer : (wanted before name : List ℕ) → List ℕ
+nearer wanted before name = if nat_lt (alike before wanted) (alike name wanted) then name else before
+
+-- the nearest of some names, and of one before them
+unfoldable pub nearest_of : (wanted before : List ℕ) → List (List ℕ) → List ℕ
+nearest_of wanted before [] = before
+nearest_of wanted before (name ∷ rest) = nearest_of wanted (nearer wanted before name) rest
+
+-- the name in a class or at a bus that begins most as the one that is wanted; empty if none begins as it does
+abbrev pub near_name : Sight → (sys wanted : List ℕ) → List ℕ
+near_name sight sys wanted = nearest_of wanted [] (flat_map (names_in sight) (folders_with_links sight sys))
 
 -- ---- all devices
 

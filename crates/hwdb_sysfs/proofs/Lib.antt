@@ -2,3 +2,4 @@ mod PieceLemmas
 mod NameLemmas
 mod ChainLemmas
 mod LinkLemmas
+mod NearLemmas

@@ -1,7 +1,8 @@
 -- What a file system answers of devices, and what is made of that: what can't be told is as if it weren't there, as udev takes it
 -- (sd-device).
-use Rattle.std.specs.Prelude.{◌≡◌, ◌⊎◌, ℕ, List, [], Bool, true, Option, Some, None, Result, Ok, Err, MatchResult}
+use Rattle.std.specs.Prelude.{◌≡◌, ◌⊎◌, ℕ, List, [], Bool, true, Option, Some, None, Result, Ok, Err, MatchResult, codes, false, filter, not, if◌then◌else◌}
 use Rattle.std.specs.Option.{option_map_or}
+use Rattle.hwdb_spec.specs.Folders.{same}
 use Rattle.hwdb_spec.specs.Lines.{is, pieces}
 use Rattle.hwdb_spec.specs.DeviceTree.{Node, Sight}
 use Rattle.hwdb_io.specs.declared.causes.Cause.{Cause}
@@ -35,11 +36,19 @@ abbrev pub node_if : Result (Option Node) Cause → Option Node
 node_if (Ok node) = node
 node_if (Err cause) = None
 
+-- a name that leads on from a folder: neither `.`, the folder itself, nor `..`, the one above it (path_resolution(7))
+abbrev pub leads_on : List ℕ → Bool
+leads_on name = if same name (codes ".") then false else not (same name (codes ".."))
+
+-- the names in a listing
+abbrev pub names_listed : List ℕ → List (List ℕ)
+names_listed listing = filter leads_on (pieces (is 0) listing)
+
 -- what is seen of devices
 abbrev pub seen : Answers → Sight
 seen a = record {
   place = λ path. told (a.real path);
   text = λ place. text_if (a.file place) (a.page place);
-  names = λ place. option_map_or (pieces (is 0)) (told (a.listing place)) [];
+  names = λ place. option_map_or names_listed (told (a.listing place)) [];
   node = λ place. node_if (a.node place);
 }

@@ -1,7 +1,7 @@
 -- Worked rows over a small sysfs: a keyboard at its port, and a disk's node. What the definitions give when they are computed.
 use Rattle.std.specs.Prelude.{◌≡◌, ℕ, List, [], ◌∷◌, Option, Some, None, codes, find, map, option_map, false}
 use Rattle.std.specs.Option.{option_map_or}
-use Rattle.hwdb_spec.specs.DeviceTree.{Node, Sight, all_devices, device_at, device_for, kernel_name, last_name, major, minor}
+use Rattle.hwdb_spec.specs.DeviceTree.{Node, Sight, all_devices, device_at, device_for, kernel_name, last_name, major, minor, near_name}
 use Rattle.hwdb_spec.specs.Folders.{same}
 
 -- what stands beside a text in a table
@@ -18,7 +18,7 @@ places =
     ∷ (codes "/sys/devices/port/event3/uevent", codes "/sys/devices/port/event3/uevent") ∷ (codes "/sys/devices/port/uevent", codes "/sys/devices/port/uevent")
     ∷ (codes "/sys/devices/port/event3/subsystem", codes "/sys/class/input") ∷ (codes "/sys/devices/port/driver", codes "/sys/bus/serio/drivers/atkbd")
     ∷ (codes "/sys/devices/port/name", codes "/sys/devices/port/name") ∷ (codes "/sys/class/dmi/id/modalias", codes "/sys/devices/dmi/modalias")
-    ∷ (codes "/dev/input/event3", codes "/dev/input/event3") ∷ (codes "/dev/disk", codes "/dev/disk") ∷ (codes "/dev/input/kbd", codes "/dev/input/kbd") ∷ (codes "/sys/dev/char/13:67", codes "/sys/devices/port/event3") ∷ []
+    ∷ (codes "/dev/input/event3", codes "/dev/input/event3") ∷ (codes "/dev/disk", codes "/dev/disk") ∷ (codes "/sys/dev/char/13:67", codes "/sys/devices/port/event3") ∷ []
 
 -- the texts of small files
 abbrev pub texts : List (List ℕ × List ℕ)
@@ -42,7 +42,7 @@ small = record {
   place = beside places;
   text = beside texts;
   names = λ place. option_map_or (λ names. names) (beside folders place) [];
-  node = beside ((codes "/dev/input/event3", keyboard) ∷ (codes "/dev/input/kbd", keyboard) ∷ []);
+  node = beside ((codes "/dev/input/event3", keyboard) ∷ []);
 }
 
 -- the device and its port, with the attribute that is there, the links that are there, and what the firmware says
@@ -57,12 +57,12 @@ ReadRows =
       machine = codes "dmi:\n";
     }
 
--- where a device is looked for: by its name, in a class and at a bus; by a path below /sys; by its node, also if that has a name that sysfs doesn't know; a node that
+-- where a device is looked for: by its name, in a class and at a bus; by a path below /sys; by its node, below /dev too; a node that
 -- sysfs doesn't know by its last name. Nothing has a name that no class has, and a folder of sysfs that is none of a device's is none
 abbrev pub FoundRows : Type 0
 FoundRows =
     map (device_for small [] (codes "/sys"))
-    (codes "event3" ∷ codes "port" ∷ codes "/sys/class/input/event3" ∷ codes "/dev/input/event3" ∷ codes "input/kbd" ∷ codes "/dev/other/port"
+    (codes "event3" ∷ codes "port" ∷ codes "/sys/class/input/event3" ∷ codes "/dev/input/event3" ∷ codes "input/event3" ∷ codes "/dev/other/port"
     ∷ codes "event33" ∷ codes "/sys/class/input" ∷ codes "mice" ∷ codes "/dev/disk" ∷ [])
     ≡ Some (codes "/sys/devices/port/event3") ∷ Some (codes "/sys/devices/port") ∷ Some (codes "/sys/devices/port/event3") ∷ Some (codes "/sys/devices/port/event3")
     ∷ Some (codes "/sys/devices/port/event3") ∷ Some (codes "/sys/devices/port") ∷ None ∷ None ∷ None ∷ None ∷ []
@@ -80,3 +80,7 @@ NameRows =
 -- numbers of nodes: 13:67, 8:1, and 259:300, which is past eight bits
 abbrev pub NodeRows : Type 0
 NodeRows = map {B = ℕ × ℕ} (λ number. (major number, minor number)) (3395 ∷ 2049 ∷ 1114924 ∷ []) ≡ (13, 67) ∷ (8, 1) ∷ (259, 300) ∷ []
+
+-- what is near: `event33` begins most as `event3`; of names that begin as much the first in order; nothing begins as `x`
+abbrev pub NearRows : Type 0
+NearRows = map (near_name small (codes "/sys")) (codes "event33" ∷ codes "eve" ∷ codes "x" ∷ []) ≡ codes "event3" ∷ codes "event3" ∷ [] ∷ []

@@ -7,6 +7,7 @@
 //! | `answers` | what is made of these answers: a place, a text, names |
 //! | `paths` | names and folders of a path |
 //! | `names` | the names in a folder; `pieces`: a text, cut at a byte
+//! | `near` | the name that is near one which no device has |
 //! | `reading` | a device and its parents, as sysfs has them |
 //! | `finding` | the device that is meant by a path or a name |
 //! | `listing` | all devices |
@@ -21,6 +22,7 @@ mod finding;
 mod laws;
 mod listing;
 mod names;
+mod near;
 mod paths;
 mod pieces;
 mod reading;
@@ -31,5 +33,6 @@ pub use files::{DeviceFiles, Node};
 pub use finding::{Unfound, find_device, sysfs_below};
 pub use laws::worked_rows;
 pub use listing::list_devices;
+pub use near::near_name;
 pub use reading::read_device;
 pub use table::{Row, Table, Thing};

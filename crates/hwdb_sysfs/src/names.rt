@@ -1,9 +1,8 @@
 //! The names in a folder.
-ghost use Rattle.std.specs.Prelude.{◌≡◌, ◌≢◌, [], IfOk, OnOk, map, option_map};
-ghost use Rattle.hwdb_spec.specs.Assignment.{in_order, put, text_cmp};
+ghost use Rattle.std.specs.Prelude.{◌≡◌, ◌∷◌, [], IfOk, OnOk, filter, map};
+ghost use Rattle.hwdb_spec.specs.Assignment.{in_order, put, put_all, text_cmp};
 ghost use Rattle.hwdb_spec.specs.DeviceTree.{names_in};
-ghost use Rattle.hwdb_spec.specs.Lines.{is, pieces};
-ghost use Rattle.hwdb_sysfs.specs.Answers.{seen};
+ghost use Rattle.hwdb_sysfs.specs.Answers.{leads_on, names_listed, seen};
 
 use crate::answers::{listing_at, place_of};
 use crate::files::DeviceFiles;
@@ -21,16 +20,40 @@ fn add_name(alloc: Global, names: &mut BTreeSet<Vec<u8>>, name: &[u8]) -> Result
     Ok(())
 }
 
+/// Whether a name leads on from a folder: it is neither `.` nor `..`.
+fn leads_on(name: &[u8]) -> bool
+    ensures { result ≡ leads_on name.now }
+{
+    if name.cmp(b".".as_slice()).is_eq() {
+        false
+    } else {
+        !name.cmp(b"..".as_slice()).is_eq()
+    }
+}
+
+/// Adds a name that leads on, unless it is in the set.
+#[tactic(auto, unfolding(hwdb_spec::specs::Assignment::put_all))]
+fn add_entry(alloc: Global, names: &mut BTreeSet<Vec<u8>>, name: &[u8]) -> Result<(), AllocError>
+    ensures { OnOk result (map (λ n. n.items) names.new.keys
+        ≡ put_all text_cmp (filter leads_on (name.now ∷ [])) (map (λ n. n.items) names.old.keys)) }
+{
+    if leads_on(name) {
+        add_name(alloc, names, name)
+    } else {
+        Ok(())
+    }
+}
+
 /// The names of a listing, which has byte 0 after each, as a set.
 #[tactic(auto, unfolding(hwdb_spec::specs::Assignment::put_all, hwdb_spec::specs::Lines::pieces))]
 fn name_set(alloc: Global, listing: &[u8]) -> Result<BTreeSet<Vec<u8>>, AllocError>
     ensures { IfOk result (λ names. map (λ n. n.items) names.keys
-        ≡ in_order text_cmp (pieces (is 0) listing.now)) }
+        ≡ in_order text_cmp (names_listed listing.now)) }
 {
     let mut names = BTreeSet::new(alloc);
     let mut left = listing;
     'names: while let Some((name, rest)) = first_piece(0, left) {
-        add_name(alloc, &mut names, name)?;
+        add_entry(alloc, &mut names, name)?;
         left = rest;
     }
     Ok(names)
@@ -39,7 +62,7 @@ fn name_set(alloc: Global, listing: &[u8]) -> Result<BTreeSet<Vec<u8>>, AllocErr
 /// The names of a listing, in order.
 fn names_of(alloc: Global, listing: &[u8]) -> Result<Vec<Vec<u8>>, AllocError>
     ensures { IfOk result (λ names. map (λ n. n.items) names.items
-        ≡ in_order text_cmp (pieces (is 0) listing.now)) }
+        ≡ in_order text_cmp (names_listed listing.now)) }
 {
     let mut set = name_set(alloc, listing)?;
     let mut names = Vec::new(alloc);

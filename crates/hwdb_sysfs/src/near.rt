@@ -1,0 +1,82 @@
+//! The name that is near one which no device has.
+ghost use Rattle.std.specs.Prelude.{◌≡◌, ◌≤◌, IfOk, length, map};
+ghost use Rattle.hwdb_spec.specs.DeviceTree as tree;
+ghost use Rattle.hwdb_sysfs.specs.Answers.{seen};
+
+use crate::files::DeviceFiles;
+use crate::finding::folders_with_links;
+use crate::names::names_in;
+use std::alloc::{AllocError, Global};
+
+/// How many bytes two texts begin with alike.
+#[tactic(auto, unfolding(hwdb_spec::specs::DeviceTree::alike))]
+fn alike(one: &[u8], other: &[u8]) -> usize
+    ensures alike { result ≡ tree.alike one.now other.now }
+    ensures within { result ≤ length one.now }
+{
+    let Some((a, more)) = one.split_first() else {
+        return 0;
+    };
+    let Some((b, rest)) = other.split_first() else {
+        return 0;
+    };
+    if *a != *b {
+        return 0;
+    }
+    1 + alike(more, rest)
+}
+
+/// Of a name and one before it the one that begins more as the name that is wanted.
+fn nearer(alloc: Global, wanted: &[u8], before: Vec<u8>, name: &[u8]) -> Result<Vec<u8>, AllocError>
+    ensures { IfOk result (λ v. v.items ≡ tree.nearer wanted.now before.items name.now) }
+{
+    if alike(&before, wanted) < alike(name, wanted) {
+        Vec::from_slice(alloc, name)
+    } else {
+        Ok(before)
+    }
+}
+
+/// The nearest of some names, and of one before them.
+#[tactic(auto, unfolding(hwdb_spec::specs::DeviceTree::nearest_of))]
+fn nearest_of(
+    alloc: Global,
+    wanted: &[u8],
+    before: Vec<u8>,
+    names: &[Vec<u8>],
+) -> Result<Vec<u8>, AllocError>
+    ensures { IfOk result (λ v. v.items
+        ≡ tree.nearest_of wanted.now before.items (map (λ n. n.items) names.now)) }
+{
+    let mut nearest = before;
+    let mut left = names;
+    'names: while let Some((name, rest)) = left.split_first() {
+        nearest = nearer(alloc, wanted, nearest, name)?;
+        left = rest;
+    }
+    Ok(nearest)
+}
+
+/// The name in a class or at a bus that begins most as the one that is wanted, which no device has. Empty if none begins as it does.
+///
+/// The only error is that memory is refused. Looks into each class and bus once.
+#[tactic(auto, unfolding(hwdb_spec::specs::DeviceTree::nearest_of))]
+pub fn near_name<F: DeviceFiles>(
+    alloc: Global,
+    files: &F,
+    sys: &[u8],
+    wanted: &[u8],
+) -> Result<Vec<u8>, AllocError>
+    ensures { F.tells → IfOk result (λ v. v.items
+        ≡ tree.near_name (seen (F.answers files.now)) sys.now wanted.now) }
+{
+    let folders = folders_with_links(alloc, files, sys)?;
+    let mut nearest = Vec::new(alloc);
+    let mut left = folders.as_slice();
+    'folders: while let Some((folder, rest)) = left.split_first() {
+        let names = names_in(alloc, files, folder)?;
+        nearest = nearest_of(alloc, wanted, nearest, &names)?;
+        left = rest;
+    }
+    Ok(nearest)
+}
