@@ -111,7 +111,7 @@ complete -c hwdb -n '__hwdb_at ask 1' -k -a '(__hwdb_file)' -d FILE
 complete -c hwdb -n '__hwdb_at ask 2' -a '(__hwdb_modalias)' -d MODALIAS
 complete -c hwdb -n '__hwdb_at list 1' -a '(__hwdb_modalias)' -d MODALIAS
 complete -c hwdb -n '__hwdb_at near' -k -a '(__hwdb_file)' -d FILE
-complete -c hwdb -n '__hwdb_at near 2' -a '(__hwdb_modalias)' -d MODALIAS
+complete -c hwdb -n '__hwdb_at near' -a '(__hwdb_modalias)' -d MODALIAS
 complete -c hwdb -n '__hwdb_at check' -k -a '(__hwdb_file)' -d FILE
 complete -c hwdb -n '__hwdb_at diff 1' -k -a '(__hwdb_database)' -d OLD
 complete -c hwdb -n '__hwdb_at diff 2' -k -a '(__hwdb_database)' -d NEW
