@@ -53,7 +53,7 @@ _hwdb() {
         [explain]='-r --root --color --json -h --help'
         [ask]='-r --root --color -h --help'
         [list]='-r --root --color --after --limit --json -h --help'
-        [check]='-s --strict -r --root --color -h --help'
+        [check]='-s --strict -r --root --color --allow --json -h --help'
         [diff]='-r --root --color -h --help'
         [verify]='-r --root --color -h --help'
         [dump]='-r --root --color -h --help'
@@ -65,9 +65,11 @@ _hwdb() {
         [--color]='WHEN'
         [--after]='POS'
         [--limit]='N'
+        [--allow]='KIND'
     )
     local -A kinds_of=(
         [WHEN]='auto always never'
+        [KIND]='byte-order-mark leading-tab carriage-return open-bracket empty-range spaced-equals cut-value repeated-match replaced near-name scan-code unknown-key unfit-value zero-row two-defaults unread unpaired unknown-prefix dead-pattern'
     )
     # Until here.
 

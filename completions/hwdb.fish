@@ -55,7 +55,7 @@ end
 complete -c hwdb -f
 # From here on completions/from-help has made it of the program's help.
 function __hwdb_takes_value
-    contains -- $argv[1] -r --root --color --after --limit
+    contains -- $argv[1] -r --root --color --after --limit --allow
 end
 
 # The words that `help` takes.
@@ -96,8 +96,10 @@ complete -c hwdb -n '__hwdb_at update' -l skip-unreadable -d 'Leave out a text f
 complete -c hwdb -n '__hwdb_at query' -l json -d 'Print JSON, one object a line'
 complete -c hwdb -n '__hwdb_at explain' -l json -d 'Print JSON, one object a line'
 complete -c hwdb -n '__hwdb_at list' -l json -d 'Print JSON, one object a line'
+complete -c hwdb -n '__hwdb_at check' -l json -d 'Print JSON, one object a line'
 complete -c hwdb -n '__hwdb_at list' -l after -x -d 'Print only what stands after this position, as list prints it'
 complete -c hwdb -n '__hwdb_at list' -l limit -x -d 'Print at most N lines; 0 prints nothing'
+complete -c hwdb -n '__hwdb_at check' -l allow -x -a 'byte-order-mark leading-tab carriage-return open-bracket empty-range spaced-equals cut-value repeated-match replaced near-name scan-code unknown-key unfit-value zero-row two-defaults unread unpaired unknown-prefix dead-pattern' -d 'Leave out warnings of this kind; may come more than once'
 
 complete -c hwdb -n '__hwdb_at query' -a '(__hwdb_modalias)' -d MODALIAS
 complete -c hwdb -n '__hwdb_at explain 1' -a '(__hwdb_modalias)' -d MODALIAS
