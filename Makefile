@@ -1,6 +1,7 @@
 # `make` builds what `make install` installs, and proves it on the way: `make program` out/hwdb, `make lib` the C library,
 # out/libhwdb.so.0 and out/libhwdb.a, and out/libhwdb-udev.so.0 with libudev's calls over it.
 # `make unproved` builds out/hwdb-unproved in a minute or two, without a proof, and runs it; it says of itself that it isn't proved.
+# `make completions` writes the completions and README's table of commands from the program's help.
 # `make demo` runs the program on a file of our own, `make check` is the whole gate, `make check-edits` tries more wrong bodies,
 # `make check-survivors` those that the prover accepts, `make check-peer` compares with Debian's own files, `make bench` measures on them.
 # `make install` and `make uninstall` go by the folders below and need no toolchain, `make deb` makes Debian packages in out/, `make
@@ -32,7 +33,7 @@ LIBRARIES ?= out
 WARNINGS := -std=c11 -Wall -Wextra -Werror
 HARDENED := -Wl,-z,relro -Wl,-z,now -Wl,-z,noexecstack -Wl,--no-undefined
 
-.PHONY: all program lib linked-lib hardened-lib kit unproved demo check scripts timed check-edits check-survivors check-peer check-package \
+.PHONY: all program lib linked-lib hardened-lib kit unproved completions demo check scripts timed check-edits check-survivors check-peer check-package \
 	bench install uninstall deb dist clean
 
 # The library over what the program's proofs built; c/over-proved proves its calls.
@@ -78,6 +79,10 @@ unproved: kit
 	tests/proofs/unproved out/hwdb-unproved
 	out/hwdb-unproved ask examples/workshop.hwdb usb:v1209p0007d0101
 
+# The completions, and README's table of commands.
+completions: $(PROGRAM)
+	completions/from-help '$(PROGRAM)'
+
 demo: program
 	out/hwdb ask examples/workshop.hwdb usb:v1209p0007d0101
 
@@ -91,7 +96,7 @@ check: kit
 # What tries the built program and library, in lanes, the longest first.
 scripts: try-memory try-wrong-bodies try-definitions try-reading try-over-proved try-random try-rows try-crash try-documents \
 	try-definitions-page try-refused try-words try-command-line try-installed try-library try-readme try-runs try-folders \
-	try-refusals try-footprint try-streams
+	try-refusals try-footprint try-streams try-colours try-near
 
 # What looks at the processor's times, after all others.
 timed: try-growth try-hostile
@@ -130,6 +135,7 @@ check-peer: $(PROGRAM) out/libhwdb.so.0
 	tests/peer/peer out/hwdb
 	tests/peer/users out/hwdb
 	tests/peer/clients out/hwdb
+	tests/peer/device --kept
 
 bench: all
 	tests/peer/bench out/hwdb

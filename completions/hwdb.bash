@@ -1,4 +1,4 @@
-# Completion of hwdb(8) for bash, by way of bash-completion. A command is one line in each of the two tables.
+# Completion of hwdb(8) for bash, by way of bash-completion.
 
 # Where the kernel shows its devices.
 : "${_hwdb_sys:=/sys/devices}"
@@ -24,6 +24,7 @@ _hwdb_value() {
                 sed '/^input:/{p; s/^/evdev:/}' | LC_ALL=C sort -u)
             __ltrim_colon_completions "$cur"
             ;;
+        *) mapfile -t COMPREPLY < <(compgen -W "${kinds_of[$1]-}" -- "$cur") ;;
     esac
 }
 
@@ -31,7 +32,8 @@ _hwdb() {
     local cur prev words cword split
     _init_completion -s -n : || return
 
-    # One that ends in .. may be given again and again.
+    # From here on completions/from-help has made it of the program's help.
+    # The arguments of each command. One that ends in .. may be given again and again.
     local -A arguments=(
         [update]=''
         [query]='MODALIAS..'
@@ -45,21 +47,29 @@ _hwdb() {
         [help]='COMMAND'
     )
     local -A options=(
-        [hwdb]='--usr -s --strict -r --root -h --help -V --version'
+        [hwdb]='--usr -s --strict -r --root --color -h --help -V --version'
         [update]='--usr -s --strict -r --root --verbose --skip-unreadable -h --help'
-        [query]='-r --root --json -h --help'
-        [explain]='-r --root --json -h --help'
-        [ask]='-r --root -h --help'
-        [list]='-r --root --after --limit --json -h --help'
-        [check]='-s --strict -r --root -h --help'
-        [diff]='-r --root -h --help'
-        [verify]='-r --root -h --help'
-        [dump]='-r --root -h --help'
+        [query]='-r --root --color --json -h --help'
+        [explain]='-r --root --color --json -h --help'
+        [ask]='-r --root --color -h --help'
+        [list]='-r --root --color --after --limit --json -h --help'
+        [check]='-s --strict -r --root --color -h --help'
+        [diff]='-r --root --color -h --help'
+        [verify]='-r --root --color -h --help'
+        [dump]='-r --root --color -h --help'
         [help]=''
     )
     local -A values=(
-        [-r]='PATH' [--root]='PATH' [--after]='POS' [--limit]='N'
+        [-r]='PATH'
+        [--root]='PATH'
+        [--color]='WHEN'
+        [--after]='POS'
+        [--limit]='N'
     )
+    local -A kinds_of=(
+        [WHEN]='auto always never'
+    )
+    # Until here.
 
     # The command, and which of its arguments the word is.
     local command=hwdb place=0 ended='' word i

@@ -1,4 +1,4 @@
-# Completion of hwdb(8) for fish. A command is one line, and one more for each option and argument of its own.
+# Completion of hwdb(8) for fish.
 
 # Where the kernel shows its devices.
 set -q _hwdb_sys; or set -g _hwdb_sys /sys/devices
@@ -18,9 +18,8 @@ function __hwdb_words
             switch $word
                 case --
                     set ended yes
-                case -r --root --after --limit
-                    set skip yes
                 case '-*'
+                    __hwdb_takes_value $word; and set skip yes
                 case '*'
                     echo $word
             end
@@ -40,11 +39,6 @@ function __hwdb_at
     not set -q argv[2]; or test (count $words) -eq $argv[2]
 end
 
-# The words that `help` takes.
-function __hwdb_commands
-    printf '%s\n' update query explain ask list check diff verify dump help
-end
-
 # udev's rules put a word in front of those of input devices.
 function __hwdb_modalias
     find $_hwdb_sys -name modalias -type f -exec cat '{}' + 2>/dev/null | sed '/^input:/{p; s/^/evdev:/}' | sort -u
@@ -59,6 +53,16 @@ function __hwdb_database
 end
 
 complete -c hwdb -f
+# From here on completions/from-help has made it of the program's help.
+function __hwdb_takes_value
+    contains -- $argv[1] -r --root --color --after --limit
+end
+
+# The words that `help` takes.
+function __hwdb_command
+    printf '%s\n' update query explain ask list check diff verify dump help
+end
+
 complete -c hwdb -n __hwdb_none -a update -d 'Compiles the text files of /etc/udev/hwdb.d and /usr/lib/udev/hwdb.d into /etc/udev/hwdb.bin'
 complete -c hwdb -n __hwdb_none -a query -d 'Prints the properties that the database gives each device, as KEY=VALUE lines'
 complete -c hwdb -n __hwdb_none -a explain -d 'Prints the properties that the database gives a device, and where each comes from'
@@ -76,10 +80,19 @@ complete -c hwdb -n __hwdb_none -s s -l strict -d 'With update: end with status 
 complete -c hwdb -n '__hwdb_at update' -s s -l strict -d 'With update: end with status 1 if a line had a fault or a file was left out; with check: if there is a warning'
 complete -c hwdb -n '__hwdb_at check' -s s -l strict -d 'With update: end with status 1 if a line had a fault or a file was left out; with check: if there is a warning'
 complete -c hwdb -n 'not __hwdb_at help' -s r -l root -x -a '(__fish_complete_directories)' -d 'Put PATH in front of the paths of folders and databases'
+complete -c hwdb -n __hwdb_none -l color -x -a 'auto always never' -d 'Color the output: auto, always or never; auto does so on a terminal'
+complete -c hwdb -n '__hwdb_at query' -l color -x -a 'auto always never' -d 'Color the output: auto, always or never; auto does so on a terminal'
+complete -c hwdb -n '__hwdb_at explain' -l color -x -a 'auto always never' -d 'Color the output: auto, always or never; auto does so on a terminal'
+complete -c hwdb -n '__hwdb_at ask' -l color -x -a 'auto always never' -d 'Color the output: auto, always or never; auto does so on a terminal'
+complete -c hwdb -n '__hwdb_at list' -l color -x -a 'auto always never' -d 'Color the output: auto, always or never; auto does so on a terminal'
+complete -c hwdb -n '__hwdb_at check' -l color -x -a 'auto always never' -d 'Color the output: auto, always or never; auto does so on a terminal'
+complete -c hwdb -n '__hwdb_at diff' -l color -x -a 'auto always never' -d 'Color the output: auto, always or never; auto does so on a terminal'
+complete -c hwdb -n '__hwdb_at verify' -l color -x -a 'auto always never' -d 'Color the output: auto, always or never; auto does so on a terminal'
+complete -c hwdb -n '__hwdb_at dump' -l color -x -a 'auto always never' -d 'Color the output: auto, always or never; auto does so on a terminal'
 complete -c hwdb -n 'not __hwdb_at help' -s h -l help -d 'Print help'
 complete -c hwdb -n __hwdb_none -s V -l version -d 'Print version'
 complete -c hwdb -n '__hwdb_at update' -l verbose -d 'Say which files are taken, and how many assignments they have'
-complete -c hwdb -n '__hwdb_at update' -l skip-unreadable -d "Leave out a text file that can't be read, and say so"
+complete -c hwdb -n '__hwdb_at update' -l skip-unreadable -d 'Leave out a text file that can\'t be read, and say so'
 complete -c hwdb -n '__hwdb_at query' -l json -d 'Print JSON, one object a line'
 complete -c hwdb -n '__hwdb_at explain' -l json -d 'Print JSON, one object a line'
 complete -c hwdb -n '__hwdb_at list' -l json -d 'Print JSON, one object a line'
@@ -96,4 +109,5 @@ complete -c hwdb -n '__hwdb_at diff 1' -k -a '(__hwdb_database)' -d OLD
 complete -c hwdb -n '__hwdb_at diff 2' -k -a '(__hwdb_database)' -d NEW
 complete -c hwdb -n '__hwdb_at verify 1' -k -a '(__hwdb_database)' -d DATABASE
 complete -c hwdb -n '__hwdb_at dump 1' -k -a '(__hwdb_database)' -d DATABASE
-complete -c hwdb -n '__hwdb_at help 1' -a '(__hwdb_commands)' -d COMMAND
+complete -c hwdb -n '__hwdb_at help 1' -a '(__hwdb_command)' -d COMMAND
+# Until here.

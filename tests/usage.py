@@ -3,7 +3,7 @@ import re
 import subprocess
 
 OPTION = re.compile(r"^ +(?:(-\w), )?(--[\w-]+)(?: <([\w.]+)>)? {2,}(.*)$")
-ARGUMENT = re.compile(r"^ +[<\[](\w+)[>\]](?:\.\.\.)? {2,}\S")
+ARGUMENT = re.compile(r"^ +([<\[])(\w+)[>\]](\.\.\.)? {2,}\S")
 
 
 def printed(program, *words):
@@ -18,11 +18,13 @@ def section(text, name):
 
 class Usage:
     """Commands with what they do; options by command and long name, as (short, kind, help); arguments by command; and what
-    the values of options are called. `hwdb` stands for the program without a command."""
+    the values of options are called. Of each argument also whether it may be given again and again (`places`), and whether
+    it has to be given (`needed`). `hwdb` stands for the program without a command."""
 
     def __init__(self, program):
         self.program = program
         self.abouts, self.options, self.arguments, self.values = {}, {}, {}, {}
+        self.places, self.needed = {}, {}
         self.add("hwdb", printed(program, "--help"))
         for line in section(printed(program, "--help"), "Commands"):
             name, about = line.split(maxsplit=1)
@@ -32,7 +34,11 @@ class Usage:
 
     def add(self, command, text):
         self.abouts[command] = text.split("\n")[0]
-        self.arguments[command] = [ARGUMENT.match(line)[1] for line in section(text, "Arguments")]
+        found = [ARGUMENT.match(line).groups() for line in section(text, "Arguments")]
+        self.arguments[command] = [name for _, name, _ in found]
+        # `help` takes the word of one command: none has commands of its own.
+        self.places[command] = [(name, bool(again) and command != "help") for _, name, again in found]
+        self.needed[command] = [opened == "<" for opened, _, _ in found]
         for line in section(text, "Options"):
             short, long, value, help_line = OPTION.match(line).groups()
             self.options[command, long] = (short or "", "value" if value else "flag", help_line)

@@ -14,25 +14,17 @@
 #define _GNU_SOURCE
 #include <dirent.h>
 #include <errno.h>
-#include <fcntl.h>
 #include <libgen.h>
 #include <limits.h>
 #include <signal.h>
-#include <stdio.h>
-#include <stdlib.h>
-#include <string.h>
 #include <sys/resource.h>
-#include <sys/stat.h>
-#include <sys/wait.h>
-#include <unistd.h>
+#include "driver.h"
 
 enum { SECONDS = 20, MOST_CALLS = 2000, MOST_NAMES = 64, MOST_KINDS = 32, MOST_SHOWN = 5, OLD_MODE = 0640, NEW_MODE = 0444 };
 #define PIECE "4000"
 #define PART_NAME ".#hwdb.bin"
 #define LEFTOVER ".#hwdb.bin7"
 
-/* A file's bytes, ended by a byte 0 that isn't counted. */
-struct text { char *bytes; size_t length; int is_there; };
 struct answer { int status; struct text out, err; };
 
 static const char *library, *name, *root, *database;
@@ -43,27 +35,6 @@ static int has_leftover;
 static struct text old, new, faults;
 static struct answer answer_of_old, answer_of_new;
 static char **words;
-
-static void fail(const char *what) { perror(what); exit(2); }
-
-static struct text text_of(const char *path) {
-    struct text text = {0};
-    int file = open(path, O_RDONLY);
-    if (file < 0) return text;
-    struct stat found;
-    if (fstat(file, &found)) fail(path);
-    text.is_there = 1;
-    text.length = found.st_size;
-    text.bytes = malloc(text.length + 1);
-    if (!text.bytes || read(file, text.bytes, text.length) != (ssize_t)text.length) fail(path);
-    text.bytes[text.length] = 0;
-    close(file);
-    return text;
-}
-
-static int is_same(struct text a, struct text b) {
-    return a.is_there == b.is_there && a.length == b.length && (a.length == 0 || !memcmp(a.bytes, b.bytes, a.length));
-}
 
 static void let_go(struct answer *answer) { free(answer->out.bytes), free(answer->err.bytes); }
 
@@ -104,18 +75,14 @@ static void put_back(void) {
     look_at_folder(1, NOTHING);
     unlink(database);
     if (old.is_there) {
-        int file = open(database, O_WRONLY | O_CREAT | O_EXCL, 0600);
-        if (file < 0 || write(file, old.bytes, old.length) != (ssize_t)old.length || fchmod(file, OLD_MODE)) fail(database);
-        close(file);
+        make_file(database, old.bytes, old.length, OLD_MODE);
     } else if (!was_folder_there) {
         snprintf(path, sizeof path, "%s", folder);
         while (!rmdir(path)) dirname(path);
     }
     if (has_leftover) {
         snprintf(path, sizeof path, "%s/%s", folder, LEFTOVER);
-        int file = open(path, O_WRONLY | O_CREAT | O_EXCL, 0600);
-        if (file < 0 || write(file, "half", 4) != 4) fail(path);
-        close(file);
+        make_file(path, "half", 4, 0600);
     }
 }
 
@@ -124,12 +91,7 @@ struct plan { const char *how; unsigned long at; int error; const char *piece; i
 
 static void run_child(struct plan *plan, char **with) {
     char at[32], error[32];
-    int in = open("/dev/null", O_RDONLY);
-    int out = open("out", O_WRONLY | O_CREAT | O_TRUNC, 0600), err = open("err", O_WRONLY | O_CREAT | O_TRUNC, 0600);
-    if (dup2(in, 0) < 0 || dup2(out, 1) < 0 || dup2(err, 2) < 0) _exit(126);
-    if (in > 2) close(in);
-    if (out > 2) close(out);
-    if (err > 2) close(err);
+    open_streams();
     setenv("LD_PRELOAD", library, 1);
     if (plan) {
         snprintf(at, sizeof at, "%lu", plan->at), snprintf(error, sizeof error, "%d", plan->error);
@@ -148,13 +110,11 @@ static void run_child(struct plan *plan, char **with) {
 /* How a run of the program ends. A status above 255 is a signal's. */
 static struct answer answer_of(struct plan *plan, char **with) {
     struct answer answer = {0};
-    int status;
     unlink("mark");
     pid_t child = fork();
     if (child < 0) fail("fork");
     if (child == 0) run_child(plan, with);
-    if (waitpid(child, &status, 0) != child) fail("waitpid");
-    answer.status = WIFEXITED(status) ? WEXITSTATUS(status) : 256 + WTERMSIG(status);
+    answer.status = status_of(child);
     answer.out = text_of("out");
     answer.err = text_of("err");
     return answer;
@@ -271,7 +231,7 @@ static int is_clearing(struct call *call) {
     return !strcmp(call->path, listed) || !strcmp(call->path, leftover);
 }
 
-/* How a run ended in which the call failed with that error. Where another process took the new file's old name behind
+/* How a run ended in which the call failed with that error. Where another process took the new file's old name after
  * the rename, its file has to stay. */
 static const char *after_failure(struct answer *is, struct call *call, int error, int takes_name) {
     static const char *const tried_again[] = {"read", "write", "fsync", "fdatasync", 0}, *const of_folder[] = {"open", "fsync", 0};
@@ -289,8 +249,8 @@ static const char *after_failure(struct answer *is, struct call *call, int error
     if (is->status == 0) return is_new ? wrong_lines(&is->err, 0) : "status 0, and the old database";
     if (is->status != 1) return "the status is neither 0 nor 1";
     if (error == EINTR && is_one_of(call->name, tried_again)) return "an interrupted call wasn't tried again";
-    if (call->has_renamed && !is_one_of(call->name, of_folder)) return "a refusal over a call behind the rename";
-    if (is_new != call->has_renamed) return is_new ? "a refusal, and the new database" : "the old database behind the rename";
+    if (call->has_renamed && !is_one_of(call->name, of_folder)) return "a refusal over a call after the rename";
+    if (is_new != call->has_renamed) return is_new ? "a refusal, and the new database" : "the old database after the rename";
     return wrong_cause(is, call, error);
 }
 
@@ -301,7 +261,7 @@ static void show(const char *what, const char *wrong, struct call *call, struct 
     if (failed++ >= MOST_SHOWN) return;
     const char *left = look_at_folder(0, NOTHING);
     printf("FAILED: %s, %s, at %s %s%s: %s (status %d, out '%.200s', err '%.300s'%s%s)\n", name, what, call->name, call->path,
-           call->has_renamed ? " behind the rename" : "", wrong, is->status, is->out.bytes, is->err.bytes, left ? ", left " : "",
+           call->has_renamed ? " after the rename" : "", wrong, is->status, is->out.bytes, is->err.bytes, left ? ", left " : "",
            left ? left : "");
 }
 

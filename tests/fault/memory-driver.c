@@ -8,7 +8,7 @@
  *   DATABASE   the file that the command writes, or `-`. Before each run it is made what it was at first: where it wasn't
  *              there it is deleted, and its folder too where that is empty then
  *   LINES      a file with the beginnings of the lines that the command may answer with where a file call was refused
- *              memory; behind each comes a cause. Where one is of a file that is written, a refusal may stand behind the
+ *              memory; after each comes a cause. Where one is of a file that is written, a refusal may stand after the
  *              fault lines
  * In the folder of DATABASE no file may be left that wasn't there at first.
  * It works in the current folder, and prints a line for each wrong answer and then a line of counts. The last line of
@@ -16,21 +16,13 @@
 #define _GNU_SOURCE
 #include <dirent.h>
 #include <errno.h>
-#include <fcntl.h>
 #include <libgen.h>
 #include <limits.h>
-#include <stdio.h>
-#include <stdlib.h>
-#include <string.h>
 #include <sys/resource.h>
-#include <sys/stat.h>
-#include <sys/wait.h>
-#include <unistd.h>
+#include "driver.h"
 
 enum { SECONDS = 20, MOST_REQUESTS = 50000, MOST_NAMES = 32, MOST_SHOWN = 5 };
 
-/* A file's bytes, ended by a byte 0 that isn't counted. */
-struct text { char *bytes; size_t length; int is_there; };
 struct answer { int status; const char *left; struct text out, err, database; };
 
 static const char *library, *name, *database;
@@ -40,27 +32,6 @@ static int may_be_lines;
 static struct text lines, old;
 static size_t faults_length;
 static char **words;
-
-static void fail(const char *what) { perror(what); exit(2); }
-
-static struct text text_of(const char *path) {
-    struct text text = {0};
-    int file = open(path, O_RDONLY);
-    if (file < 0) return text;
-    struct stat found;
-    if (fstat(file, &found)) fail(path);
-    text.is_there = 1;
-    text.length = found.st_size;
-    text.bytes = malloc(text.length + 1);
-    if (!text.bytes || read(file, text.bytes, text.length) != (ssize_t)text.length) fail(path);
-    text.bytes[text.length] = 0;
-    close(file);
-    return text;
-}
-
-static int is_same(struct text a, struct text b) {
-    return a.is_there == b.is_there && a.length == b.length && (a.length == 0 || !memcmp(a.bytes, b.bytes, a.length));
-}
 
 static int is_text(struct text a, const char *b) { return a.length == strlen(b) && !memcmp(a.bytes, b, a.length); }
 
@@ -112,16 +83,12 @@ static void put_back(void) {
         rmdir(folder);
         return;
     }
-    int file = open(database, O_WRONLY | O_CREAT | O_EXCL, 0644);
-    if (file < 0 || write(file, old.bytes, old.length) != (ssize_t)old.length) fail(database);
-    close(file);
+    make_file(database, old.bytes, old.length, 0644);
 }
 
 static void run_child(unsigned long from, unsigned long to) {
     char first[32], last[32];
-    int in = open("/dev/null", O_RDONLY);
-    int out = open("out", O_WRONLY | O_CREAT | O_TRUNC, 0600), err = open("err", O_WRONLY | O_CREAT | O_TRUNC, 0600);
-    if (dup2(in, 0) < 0 || dup2(out, 1) < 0 || dup2(err, 2) < 0) _exit(126);
+    open_streams();
     struct rlimit no_core = {0, 0};
     setrlimit(RLIMIT_CORE, &no_core);
     snprintf(first, sizeof first, "%lu", from), snprintf(last, sizeof last, "%lu", to);
@@ -135,14 +102,12 @@ static void run_child(unsigned long from, unsigned long to) {
 /* What the command answers where the requests of that range are refused. A status above 255 is a signal's. */
 static struct answer answer_of(unsigned long from, unsigned long to) {
     struct answer answer = {0};
-    int status;
     put_back();
     unlink("mark");
     pid_t child = fork();
     if (child < 0) fail("fork");
     if (child == 0) run_child(from, to);
-    if (waitpid(child, &status, 0) != child) fail("waitpid");
-    answer.status = WIFEXITED(status) ? WEXITSTATUS(status) : 256 + WTERMSIG(status);
+    answer.status = status_of(child);
     answer.out = text_of("out");
     answer.err = text_of("err");
     if (database) answer.database = text_of(database);
@@ -204,7 +169,7 @@ static int ends_in_error(struct answer *is) {
 }
 
 /* The kind of an answer after a refusal, or null where there must be no such answer. `asks_in_vain`: the program's own
- * request was refused, and all behind it. */
+ * request was refused, and all after it. */
 static const char *judge(struct answer *is, struct answer *whole, int asks_in_vain) {
     int is_old = !database || is_same(is->database, old);
     if (is->left) return 0;
@@ -214,8 +179,8 @@ static const char *judge(struct answer *is, struct answer *whole, int asks_in_va
     if (is->out.length) return 0;
     if (is_line(is->err.bytes)) return "a file call's line";
     if (faults_length == 0 || is->err.length <= faults_length || memcmp(is->err.bytes, whole->err.bytes, faults_length)) return 0;
-    if (!strcmp(is->err.bytes + faults_length, "hwdb: out of memory\n")) return "out of memory, behind the fault lines";
-    return is_line(is->err.bytes + faults_length) ? "a file call's line, behind the fault lines" : 0;
+    if (!strcmp(is->err.bytes + faults_length, "hwdb: out of memory\n")) return "out of memory, after the fault lines";
+    return is_line(is->err.bytes + faults_length) ? "a file call's line, after the fault lines" : 0;
 }
 
 static void show(const char *mode, unsigned long number, const char *who, struct answer *is) {
@@ -226,7 +191,7 @@ static void show(const char *mode, unsigned long number, const char *who, struct
 
 static unsigned long passed, failed;
 
-/* Refuses one request after another, alone or with all behind it, until a run has no refusal. Answers how many there are. */
+/* Refuses one request after another, alone or with all after it, until a run has no refusal. Answers how many there are. */
 static unsigned long refuse_each(const char *mode, int with_rest, struct answer *whole) {
     for (unsigned long number = 1; number <= MOST_REQUESTS; number++) {
         struct answer is = answer_of(number, with_rest ? ULONG_MAX : number);
@@ -258,7 +223,7 @@ int main(int count_of_words, char **all) {
     struct answer whole = answer_of(0, 0);
     if (strstr(lines.bytes, "hwdb: cannot write ")) faults_length = length_of_faults(whole.err);
     unsigned long requests = refuse_each("request", 0, &whole);
-    refuse_each("request and all behind", 1, &whole);
+    refuse_each("request and all after", 1, &whole);
     if (requests == 0) failed++, printf("FAILED: %s: no request for memory was counted\n", name);
     put_back();
     printf("%s: %lu requests", name, requests);

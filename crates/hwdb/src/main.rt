@@ -1,10 +1,14 @@
 //! The program `hwdb`: hands its words, its files, standard input, output and error to `hwdb_tool::program`.
 #![tactic(auto)]
 
+mod allowed;
 mod bypass;
+mod colours;
 
+use allowed::status_of_kinds;
 use bypass::status_of_bypass;
-use hwdb_tool::{FromRead, SystemStore, ToWrite, program, write_text};
+use colours::coloured_kind;
+use hwdb_tool::{Coloured, FromRead, SystemStore, ToWrite, program, write_text};
 use std::env;
 use std::fs::{File, OpenOptions};
 use std::io::{self, ErrorKind};
@@ -41,7 +45,6 @@ fn held_streams(rt: &HostRuntime) -> io::Result<[Option<File>; 3]> {
 fn main(rt: HostRuntime) -> ExitCode {
     let held = held_streams(&rt);
     let mut input = FromRead::new(rt.stdin());
-    let mut out = ToWrite::new(rt.stdout());
     let mut err = ToWrite::new(rt.stderr());
     if held.is_err() {
         let line = "hwdb: a standard stream is closed, and /dev/null cannot be opened\n";
@@ -51,10 +54,17 @@ fn main(rt: HostRuntime) -> ExitCode {
     let mut system = SystemStore::new(rt.alloc(), &rt);
     match words_of(&rt) {
         Ok(words) => {
+            let Some(kind) = coloured_kind(&rt, &words, &mut err) else {
+                return ExitCode::from(1);
+            };
+            if let Some(status) = status_of_kinds(&rt, &words, &mut err) {
+                return ExitCode::from(status);
+            }
             if let Some(status) = status_of_bypass(&rt, &words, &mut err) {
                 return ExitCode::from(status);
             }
             let alloc = rt.alloc();
+            let mut out = Coloured::new(alloc, ToWrite::new(rt.stdout()), kind);
             let status = program(alloc, &words, &mut system, &mut input, &mut out, &mut err);
             ExitCode::from(status)
         }

@@ -1,20 +1,22 @@
 -- What is found of words that the command takes: one of its commands, with each argument that this one needs.
-use Rattle.std.proofs.Common.{◌≡◌, ◌∙◌, ◌⊎◌, ◌||◌, ℕ, Bool, true, false, refl, sym, subst, inl, inr, List, [], Option, Some, None, is_some, codes, true≢false}
-use Rattle.std.specs.Prelude.{IfSome, option_map}
-use Rattle.std.specs.List.{find}
+use Rattle.std.proofs.Common.{◌≡◌, ◌∙◌, ◌⊎◌, ◌||◌, ℕ, Bool, true, false, not, cond, refl, sym, ap, subst, inl, inr, List, [], ◌∷◌, Option, Some, None, is_some, codes, true≢false}
+use Rattle.std.specs.Prelude.{IfSome, option_map, unwrap_or}
+use Rattle.std.specs.List.{find, list_all}
 use Rattle.std.specs.Option.{option_map_or}
 use Rattle.std.specs.Str.{bytes_eq}
 use Rattle.std.proofs.lemmas.Slice.Eq.{bytes_eq-Decides}
-use Rattle.clap.specs.Kinds.{check_kinds}
+use Rattle.clap.specs.Facts.{unwrap_or_range}
+use Rattle.clap.specs.Kinds.{check_kinds, range_kinds}
 use Rattle.clap.specs.Faults.{check_fault, defaults_fault, entered_fault, fault_of, level_fault, settle_fault, walk_fault}
-use Rattle.clap.specs.Walk.{Row, Rule, Text, answers_to, finished, nothing_held, one_of, rows_after, settled, walk, walk_from}
+use Rattle.clap.specs.Walk.{Row, Rule, Text, action_of, answers_to, finished, most_values, nothing_held, one_of, rows_after, settled, walk, walk_from}
 use Rattle.clap.specs.Simple.{App, Shape, argument_words, built, built_leaf, entered, filled, inherited, label_of, marked_built, names_of, rows_at, subcommand_of, with_index, with_leaf_noted}
+use Rattle.clap.proofs.WalkLemmas.{both}
 use Rattle.clap.proofs.ValueTestLemmas.{accepts-Accepts}
 use Rattle.clap.specs.declared.builder.value_parser.ValueParser.TheVariants as vp
-use Rattle.hwdb_cli.specs.Line.{ask_app, check_app, device_rule, devices_rule, diff_app, dump_app, explain_app, file_rule, hwdb_app, limit_rule, list_app, new_database_rule, old_database_rule, query_app, update_app, verify_app}
+use Rattle.hwdb_cli.specs.Line.{ask_app, check_app, device_rule, devices_rule, diff_app, dump_app, explain_app, file_rule, hwdb_app, limit_rule, list_app, near_app, new_database_rule, old_database_rule, query_app, update_app, verify_app}
 use Rattle.hwdb_cli.specs.Jobs.{HasValue, IsCommand, IsNumber}
 use Rattle.hwdb_cli.proofs.WalkLemmas.{IsNotHelp, none_of_both, walk_not_help}
-use Rattle.hwdb_cli.proofs.UseLemmas.{Each, RowFits, StandsAlone, found_each, required_value, rows_fit, same_id, text_read}
+use Rattle.hwdb_cli.proofs.UseLemmas.{Each, RowFits, StandsAlone, found_each, keeps_values, required_value, rows_fit, same_id, text_read}
 
 -- a command as it is built
 abbrev built_command : App → Shape
@@ -28,225 +30,67 @@ other_text a b differ is = absurd (true≢false (sym ((bytes_eq-Decides a b).1 i
 
 -- ---- the arguments
 
+-- none of the rules has this id
+abbrev differ : Text → List Rule → Bool
+differ id rules = list_all (λ b. not (bytes_eq b.id id)) rules
+
+-- one of them has it at most
+abbrev once : Text → List Rule → Bool
+once id [] = true
+once id (b ∷ bs) = cond (bytes_eq b.id id) (differ id bs) (once id bs)
+
+all_differ : (a : Rule) (rules : List Rule) → differ a.id rules ≡ true → Each (λ b. b.id ≡ a.id → b ≡ a) rules
+all_differ a [] e = tt
+all_differ a (b ∷ bs) e =
+    let two = both (not (bytes_eq b.id a.id)) _ e in
+    (λ is. other_text b.id a.id (go (bytes_eq b.id a.id) two.0) is, all_differ a bs two.1)
+  where
+    go : (t : Bool) → not t ≡ true → t ≡ false
+    go true e = cc
+    go false e = refl
+
+alone_in : (a : Rule) (rules : List Rule) → find (λ b. bytes_eq b.id a.id) rules ≡ Some a → once a.id rules ≡ true → Each (λ b. b.id ≡ a.id → b ≡ a) rules
+alone_in a [] at e = tt
+alone_in a (b ∷ bs) at e = go (bytes_eq b.id a.id) refl at e (λ later rest. alone_in a bs later rest)
+  where
+    go : (t : Bool) → bytes_eq b.id a.id ≡ t → cond t (Some b) (find (λ x. bytes_eq x.id a.id) bs) ≡ Some a → cond t (differ a.id bs) (once a.id bs) ≡ true
+        → (find (λ x. bytes_eq x.id a.id) bs ≡ Some a → once a.id bs ≡ true → Each (λ x. x.id ≡ a.id → x ≡ a) bs) → Each (λ x. x.id ≡ a.id → x ≡ a) (b ∷ bs)
+    go true same at e more = (λ is. ap (λ o. unwrap_or o b) at, all_differ a bs e)
+    go false other at e more = (λ is. other_text b.id a.id other is, more at e)
+
+stands : (rules : List Rule) (a : Rule) → find (λ b. bytes_eq b.id a.id) rules ≡ Some a → once a.id rules ≡ true → keeps_values (action_of a) ≡ true → a.defaults ≡ []
+    → (range_kinds (unwrap_or_range a.range).start_inclusive (most_values a) 0 ≡ [] → ⊥) → StandsAlone rules a
+stands rules a at is_once set defaults some = record { alone = alone_in a rules at is_once; set = set; defaults = defaults; some = some }
+
 query_devices : StandsAlone (built_command query_app).rules (argument_at 1 devices_rule)
-query_devices = record {
-  alone = (
-    λ is. other_text (codes "usr") (codes "MODALIAS") refl is,
-    (
-      λ is. other_text (codes "strict") (codes "MODALIAS") refl is,
-      (
-        λ is. other_text (codes "root") (codes "MODALIAS") refl is,
-        (
-          λ is. other_text (codes "json") (codes "MODALIAS") refl is,
-          (
-            λ is. refl,
-            (
-              λ is. other_text (codes "help") (codes "MODALIAS") refl is,
-              tt,
-            ),
-          ),
-        ),
-      ),
-    ),
-  );
-  set = refl;
-  defaults = refl;
-  some = λ e. cc;
-}
+query_devices = stands (built_command query_app).rules (argument_at 1 devices_rule) refl refl refl refl (λ e. cc)
 
 explain_device : StandsAlone (built_command explain_app).rules (argument_at 1 device_rule)
-explain_device = record {
-  alone = (
-    λ is. other_text (codes "usr") (codes "MODALIAS") refl is,
-    (
-      λ is. other_text (codes "strict") (codes "MODALIAS") refl is,
-      (
-        λ is. other_text (codes "root") (codes "MODALIAS") refl is,
-        (
-          λ is. other_text (codes "json") (codes "MODALIAS") refl is,
-          (
-            λ is. refl,
-            (
-              λ is. other_text (codes "help") (codes "MODALIAS") refl is,
-              tt,
-            ),
-          ),
-        ),
-      ),
-    ),
-  );
-  set = refl;
-  defaults = refl;
-  some = λ e. cc;
-}
+explain_device = stands (built_command explain_app).rules (argument_at 1 device_rule) refl refl refl refl (λ e. cc)
 
 ask_file : StandsAlone (built_command ask_app).rules (argument_at 1 file_rule)
-ask_file = record {
-  alone = (
-    λ is. other_text (codes "usr") (codes "FILE") refl is,
-    (
-      λ is. other_text (codes "strict") (codes "FILE") refl is,
-      (
-        λ is. other_text (codes "root") (codes "FILE") refl is,
-        (
-          λ is. refl,
-          (
-            λ is. other_text (codes "MODALIAS") (codes "FILE") refl is,
-            (
-              λ is. other_text (codes "help") (codes "FILE") refl is,
-              tt,
-            ),
-          ),
-        ),
-      ),
-    ),
-  );
-  set = refl;
-  defaults = refl;
-  some = λ e. cc;
-}
+ask_file = stands (built_command ask_app).rules (argument_at 1 file_rule) refl refl refl refl (λ e. cc)
 
 ask_device : StandsAlone (built_command ask_app).rules (argument_at 2 device_rule)
-ask_device = record {
-  alone = (
-    λ is. other_text (codes "usr") (codes "MODALIAS") refl is,
-    (
-      λ is. other_text (codes "strict") (codes "MODALIAS") refl is,
-      (
-        λ is. other_text (codes "root") (codes "MODALIAS") refl is,
-        (
-          λ is. other_text (codes "FILE") (codes "MODALIAS") refl is,
-          (
-            λ is. refl,
-            (
-              λ is. other_text (codes "help") (codes "MODALIAS") refl is,
-              tt,
-            ),
-          ),
-        ),
-      ),
-    ),
-  );
-  set = refl;
-  defaults = refl;
-  some = λ e. cc;
-}
+ask_device = stands (built_command ask_app).rules (argument_at 2 device_rule) refl refl refl refl (λ e. cc)
 
 list_device : StandsAlone (built_command list_app).rules (argument_at 1 device_rule)
-list_device = record {
-  alone = (
-    λ is. other_text (codes "usr") (codes "MODALIAS") refl is,
-    (
-      λ is. other_text (codes "strict") (codes "MODALIAS") refl is,
-      (
-        λ is. other_text (codes "root") (codes "MODALIAS") refl is,
-        (
-          λ is. other_text (codes "after") (codes "MODALIAS") refl is,
-          (
-            λ is. other_text (codes "limit") (codes "MODALIAS") refl is,
-            (
-              λ is. other_text (codes "json") (codes "MODALIAS") refl is,
-              (
-                λ is. refl,
-                (
-                  λ is. other_text (codes "help") (codes "MODALIAS") refl is,
-                  tt,
-                ),
-              ),
-            ),
-          ),
-        ),
-      ),
-    ),
-  );
-  set = refl;
-  defaults = refl;
-  some = λ e. cc;
-}
+list_device = stands (built_command list_app).rules (argument_at 1 device_rule) refl refl refl refl (λ e. cc)
 
 list_limit : StandsAlone (built_command list_app).rules (argument_at 1 limit_rule)
-list_limit = record {
-  alone = (
-    λ is. other_text (codes "usr") (codes "limit") refl is,
-    (
-      λ is. other_text (codes "strict") (codes "limit") refl is,
-      (
-        λ is. other_text (codes "root") (codes "limit") refl is,
-        (
-          λ is. other_text (codes "after") (codes "limit") refl is,
-          (
-            λ is. refl,
-            (
-              λ is. other_text (codes "json") (codes "limit") refl is,
-              (
-                λ is. other_text (codes "MODALIAS") (codes "limit") refl is,
-                (
-                  λ is. other_text (codes "help") (codes "limit") refl is,
-                  tt,
-                ),
-              ),
-            ),
-          ),
-        ),
-      ),
-    ),
-  );
-  set = refl;
-  defaults = refl;
-  some = λ e. cc;
-}
+list_limit = stands (built_command list_app).rules (argument_at 1 limit_rule) refl refl refl refl (λ e. cc)
+
+near_words : StandsAlone (built_command near_app).rules (argument_at 1 devices_rule)
+near_words = stands (built_command near_app).rules (argument_at 1 devices_rule) refl refl refl refl (λ e. cc)
+
+near_limit : StandsAlone (built_command near_app).rules (argument_at 1 limit_rule)
+near_limit = stands (built_command near_app).rules (argument_at 1 limit_rule) refl refl refl refl (λ e. cc)
 
 diff_old : StandsAlone (built_command diff_app).rules (argument_at 1 old_database_rule)
-diff_old = record {
-  alone = (
-    λ is. other_text (codes "usr") (codes "OLD") refl is,
-    (
-      λ is. other_text (codes "strict") (codes "OLD") refl is,
-      (
-        λ is. other_text (codes "root") (codes "OLD") refl is,
-        (
-          λ is. refl,
-          (
-            λ is. other_text (codes "NEW") (codes "OLD") refl is,
-            (
-              λ is. other_text (codes "help") (codes "OLD") refl is,
-              tt,
-            ),
-          ),
-        ),
-      ),
-    ),
-  );
-  set = refl;
-  defaults = refl;
-  some = λ e. cc;
-}
+diff_old = stands (built_command diff_app).rules (argument_at 1 old_database_rule) refl refl refl refl (λ e. cc)
 
 diff_new : StandsAlone (built_command diff_app).rules (argument_at 2 new_database_rule)
-diff_new = record {
-  alone = (
-    λ is. other_text (codes "usr") (codes "NEW") refl is,
-    (
-      λ is. other_text (codes "strict") (codes "NEW") refl is,
-      (
-        λ is. other_text (codes "root") (codes "NEW") refl is,
-        (
-          λ is. other_text (codes "OLD") (codes "NEW") refl is,
-          (
-            λ is. refl,
-            (
-              λ is. other_text (codes "help") (codes "NEW") refl is,
-              tt,
-            ),
-          ),
-        ),
-      ),
-    ),
-  );
-  set = refl;
-  defaults = refl;
-  some = λ e. cc;
-}
+diff_new = stands (built_command diff_app).rules (argument_at 2 new_database_rule) refl refl refl refl (λ e. cc)
 
 -- a limit that was read is a number
 limit_number : (rows : List Row) → Each (RowFits (argument_at 1 limit_rule)) rows → IfSome (one_of (codes "limit") rows) IsNumber
@@ -306,7 +150,14 @@ verify_gives : Gives (built_command verify_app)
 verify_gives words e = inr (inr (inr (inr (inr (inr (inr (inl refl)))))))
 
 dump_gives : Gives (built_command dump_app)
-dump_gives words e = inr (inr (inr (inr (inr (inr (inr (inr refl)))))))
+dump_gives words e = inr (inr (inr (inr (inr (inr (inr (inr (inl refl))))))))
+
+near_gives : Gives (built_command near_app)
+near_gives words e = inr (inr (inr (inr (inr (inr (inr (inr (inr (
+  refl,
+  value_of (built_command near_app) words (argument_at 1 devices_rule) near_words refl refl refl e,
+  limit_number _ (rows_fit (built_command near_app) words (argument_at 1 limit_rule) near_limit e),
+)))))))))
 
 -- ---- the command line
 
@@ -363,5 +214,5 @@ command_taken words e =
     let has = subcommand_there a.top (finished a.top.rules end.held) (is_some (entered a end.stopped)) refl checks.1 in
     let other = walk_not_help a.top refl (names_of a) (walk_from nothing_held) left tt steps.0 in
     command_entered a end.stopped
-    (inl update_gives, (inl query_gives, (inl explain_gives, (inl ask_gives, (inl list_gives, (inl check_gives, (inl diff_gives, (inl verify_gives, (inl dump_gives, (inr refl, tt))))))))))
+    (inl update_gives, (inl query_gives, (inl explain_gives, (inl ask_gives, (inl list_gives, (inl near_gives, (inl check_gives, (inl diff_gives, (inl verify_gives, (inl dump_gives, (inr refl, tt)))))))))))
     other below.0 has

@@ -1,11 +1,11 @@
 -- What the matches of a command line ask for.
-use Rattle.std.specs.Prelude.{Bool, List, codes, false, Some, ◌≡◌, None, Option, Ok, ℕ, option_map, string_bytes, map, ◌||◌, is_some, true, ◌<◌, ◌^◌, IfSome, ◌⊎◌, unwrap_or, []}
+use Rattle.std.specs.Prelude.{Bool, List, codes, false, Some, ◌≡◌, None, Option, Ok, ℕ, option_map, string_bytes, map, ◌||◌, is_some, true, ◌<◌, ◌^◌, IfSome, ◌⊎◌, unwrap_or, [], ◌∷◌, ◌++◌}
 use Rattle.std.specs.Str.{bytes_eq}
 use Rattle.std.specs.Option.{option_map_or, option_or}
 use Rattle.std.specs.declared.num.ParseIntError.{ParseIntError}
 use Rattle.std.specs.Str.Parse.{ParsesUnsigned, IsNumeral, digits_value, without_leading_plus}
 use Rattle.clap.specs.Walk.{Row, Text, all_of, first_of, one_of}
-use Rattle.hwdb_cli.specs.declared.job.Task.TheVariants.{Ask, Check, Diff, Dump, Explain, List as ListHits, Query, Update, Verify}
+use Rattle.hwdb_cli.specs.declared.job.Task.TheVariants.{Ask, Check, Diff, Dump, Explain, List as ListHits, Near, Query, Update, Verify}
 use Rattle.hwdb_cli.specs.declared.job.Task.{Task}
 use Rattle.hwdb_cli.specs.declared.job.Job.{Job}
 
@@ -38,7 +38,10 @@ IsTask name inner (Explain device json) = (name ≡ codes "explain") × (json �
 IsTask name inner (Ask file device) = (name ≡ codes "ask") × IsValue (codes "FILE") inner (string_bytes file) × IsValue (codes "MODALIAS") inner (string_bytes device)
 IsTask name inner (ListHits after limit device json) = (name ≡ codes "list") × (json ≡ has_flag (codes "json") inner) × (option_map string_bytes after ≡ first_of (codes "after") inner)
     × IsLimit (one_of (codes "limit") inner) limit × IsValue (codes "MODALIAS") inner (string_bytes device)
-IsTask name inner (Check files) = (name ≡ codes "check") × AreAnyValues (codes "FILE") inner (map string_bytes files.items)
+IsTask name inner (Near files device limit json) = (name ≡ codes "near") × (json ≡ has_flag (codes "json") inner) × AreValues (codes "MODALIAS") inner (map string_bytes files.items ++ string_bytes device ∷ [])
+    × IsLimit (one_of (codes "limit") inner) limit
+IsTask name inner (Check files allowed json) = (name ≡ codes "check") × AreAnyValues (codes "FILE") inner (map string_bytes files.items)
+    × AreAnyValues (codes "allow") inner (map string_bytes allowed.items) × (json ≡ has_flag (codes "json") inner)
 IsTask name inner (Diff old new) = (name ≡ codes "diff") × IsValue (codes "OLD") inner (string_bytes old) × IsValue (codes "NEW") inner (string_bytes new)
 IsTask name inner (Verify database) = (name ≡ codes "verify") × (option_map string_bytes database ≡ first_of (codes "DATABASE") inner)
 IsTask name inner (Dump database) = (name ≡ codes "dump") × (option_map string_bytes database ≡ first_of (codes "DATABASE") inner)
@@ -47,6 +50,7 @@ pub record IsJob (top : List Row) (name : Text) (inner : List Row) (job : Job) :
   pub usr : job.usr ≡ (has_flag (codes "usr") inner || has_flag (codes "usr") top)
   pub strict : job.strict ≡ (has_flag (codes "strict") inner || has_flag (codes "strict") top)
   pub root : option_map string_bytes job.root ≡ option_or (first_of (codes "root") inner) (first_of (codes "root") top)
+  pub color : option_map string_bytes job.color ≡ option_or (first_of (codes "color") inner) (first_of (codes "color") top)
   pub task : IsTask name inner job.task
 
 -- the job of a command's own matches and of its subcommand's
@@ -63,7 +67,7 @@ HasValue id rows = is_some (first_of id rows) ≡ true
 abbrev pub IsNumber : Text → Type 0
 IsNumber text = IsNumeral 10 (without_leading_plus text) × (digits_value 10 (without_leading_plus text) < 2 ^ 64)
 
--- it is one of the nine commands, with each argument that this command needs
+-- it is one of the ten commands, with each argument that this command needs
 abbrev pub IsCommand : Text → List Row → Type 0
 IsCommand name inner = (name ≡ codes "update")
     ⊎ (((name ≡ codes "query") × HasValue (codes "MODALIAS") inner)
@@ -73,4 +77,5 @@ IsCommand name inner = (name ≡ codes "update")
     ⊎ ((name ≡ codes "check")
     ⊎ (((name ≡ codes "diff") × HasValue (codes "OLD") inner × HasValue (codes "NEW") inner)
     ⊎ ((name ≡ codes "verify")
-    ⊎ (name ≡ codes "dump"))))))))
+    ⊎ ((name ≡ codes "dump")
+    ⊎ ((name ≡ codes "near") × HasValue (codes "MODALIAS") inner × IfSome (one_of (codes "limit") inner) IsNumber)))))))))

@@ -1,4 +1,4 @@
--- The command line of hwdb, as the command that `clap` is given: systemd-hwdb(8), with `explain`, `ask`, `list`, `check`, `diff`, `verify` and `dump` of our own.
+-- The command line of hwdb, as the command that `clap` is given: systemd-hwdb(8), with `explain`, `ask`, `list`, `near`, `check`, `diff`, `verify` and `dump` of our own.
 -- `clap` adds the options for help and the version, and the command `help`.
 use Rattle.std.specs.Prelude.{Some, codes, true}
 use Rattle.clap.specs.Walk.{Rule}
@@ -14,6 +14,9 @@ strict_rule = record (new_rule (codes "strict")) { short = Some 115; long = Some
 
 abbrev pub root_rule : Rule
 root_rule = record (new_rule (codes "root")) { value_names = 1; short = Some 114; long = Some (codes "root"); action = Some Set }
+
+abbrev pub color_rule : Rule
+color_rule = record (new_rule (codes "color")) { value_names = 1; long = Some (codes "color"); action = Some Set }
 
 abbrev pub device_rule : Rule
 device_rule = record (new_rule (codes "MODALIAS")) { required = true; action = Some Set }
@@ -51,12 +54,16 @@ verbose_rule = record (new_rule (codes "verbose")) { long = Some (codes "verbose
 abbrev pub skip_rule : Rule
 skip_rule = record (new_rule (codes "skip-unreadable")) { long = Some (codes "skip-unreadable"); action = Some SetTrue }
 
+-- kinds of warnings, or none
+abbrev pub allow_rule : Rule
+allow_rule = record (new_rule (codes "allow")) { value_names = 1; long = Some (codes "allow"); action = Some Append }
+
 abbrev pub json_rule : Rule
 json_rule = record (new_rule (codes "json")) { long = Some (codes "json"); action = Some SetTrue }
 
 -- the options that stand before and behind the command's word
 abbrev pub with_shared : App → App
-with_shared a = with_rule (with_rule (with_rule a usr_rule) strict_rule) root_rule
+with_shared a = with_rule (with_rule (with_rule (with_rule a usr_rule) strict_rule) root_rule) color_rule
 
 -- the options that say which hits are listed
 abbrev pub with_range : App → App
@@ -77,8 +84,12 @@ ask_app = with_rule (with_rule (with_shared (new_app (codes "ask"))) file_rule) 
 abbrev pub list_app : App
 list_app = with_rule (with_rule (with_range (with_shared (new_app (codes "list")))) json_rule) device_rule
 
+-- its last word is the device, and those before it are files
+abbrev pub near_app : App
+near_app = with_rule (with_rule (with_rule (with_shared (new_app (codes "near"))) limit_rule) json_rule) devices_rule
+
 abbrev pub check_app : App
-check_app = with_rule (with_shared (new_app (codes "check"))) files_rule
+check_app = with_rule (with_rule (with_rule (with_shared (new_app (codes "check"))) allow_rule) json_rule) files_rule
 
 abbrev pub diff_app : App
 diff_app = with_rule (with_rule (with_shared (new_app (codes "diff"))) old_database_rule) new_database_rule
@@ -92,9 +103,9 @@ dump_app = with_rule (with_shared (new_app (codes "dump"))) database_rule
 abbrev pub top_app : App
 top_app = on_top (λ (s : Shape). record s { has_version = true; subcommand_required = true }) (with_shared (new_app (codes "hwdb")))
 
--- the four commands that say what a device is told
+-- the five commands that say what a device is told, or almost
 abbrev pub with_answers : App → App
-with_answers app = with_subcommand (with_subcommand (with_subcommand (with_subcommand app query_app.top) explain_app.top) ask_app.top) list_app.top
+with_answers app = with_subcommand (with_subcommand (with_subcommand (with_subcommand (with_subcommand app query_app.top) explain_app.top) ask_app.top) list_app.top) near_app.top
 
 -- the four commands that look at files and databases
 abbrev pub with_inspections : App → App

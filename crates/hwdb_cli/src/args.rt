@@ -1,188 +1,26 @@
 //! What the words ask for, by the exact matches that `clap` finds.
-ghost use Rattle.std.specs.Prelude.{◌≡◌, ◌≢◌, ◌⊎◌, IfOk, IfErr, IfSome, IsErrOf, true, false, map, string_bytes, option_map, codes, []};
+ghost use Rattle.std.specs.Prelude.{◌≡◌, ◌≢◌, ◌⊎◌, IfOk, IfErr, true, false, map, string_bytes, option_map, codes, []};
 ghost use Rattle.std.specs.Option.{option_or};
-ghost use Rattle.clap.specs.Walk.{first_of, one_of, rows_of};
+ghost use Rattle.clap.specs.Walk.{first_of, rows_of};
 ghost use Rattle.clap.specs.Matches.{found_of};
 ghost use Rattle.clap.specs.Simple.{matches_of, subcommand_of};
 ghost use Rattle.clap.specs.Takes.{takes};
 ghost use Rattle.clap.specs.Faults.{fault_of};
 ghost use Rattle.clap.specs.Values.{kind_of};
 ghost use Rattle.hwdb_cli.specs.Line.{hwdb_app};
-ghost use Rattle.hwdb_cli.specs.Jobs.{AreAnyValues, AreValues, HasValue, IsCommand, IsJob, IsJobOf, IsLimit, IsNumber, IsTask, IsValue, has_flag};
+ghost use Rattle.hwdb_cli.specs.Jobs.{IsCommand, IsJob, IsJobOf, IsTask, has_flag};
 ghost use Rattle.hwdb_cli.specs.Refusals.{IsToldOf, IsToldOfOne};
 ghost use Rattle.hwdb_cli.specs.declared.job.WordsFault.TheVariants.{Memory};
 
 use crate::command::hwdb_command;
 use crate::help::{fitting_help, short_help};
 use crate::job::{Job, Task, WordsFault};
+use crate::matched::{copied, has_flag, text_of};
 use crate::tips::{with_command_tip, with_fitting_tip};
+use crate::{ask, check, diff, dump, explain, list, near, query, update, verify};
 use clap::error::ErrorKind;
 use clap::{ArgMatches, Error};
 use std::alloc::{AllocError, Global};
-
-/// The first value of the argument.
-fn text_of<'a>(matches: &ArgMatches<'a>, id: &str) -> Option<&'a str>
-    ensures { option_map (λ s. s.now) result ≡ first_of id.now (rows_of (found_of matches.now)) }
-{
-    matches.get_str(id)
-}
-
-/// Whether the flag stands there.
-fn has_flag(matches: &ArgMatches<'_>, id: &str) -> bool
-    ensures { result ≡ has_flag id.now (rows_of (found_of matches.now)) }
-{
-    match text_of(matches, id) {
-        Some(text) => text == "true",
-        None => false,
-    }
-}
-
-/// A text, copied.
-fn copied(alloc: Global, text: Option<&str>) -> Result<Option<String>, AllocError>
-    ensures { IfOk result (λ r. option_map string_bytes r ≡ option_map (λ s. s.now) text.entry) }
-{
-    match text {
-        None => Ok(None),
-        Some(text) => Ok(Some(String::from_str(alloc, text)?)),
-    }
-}
-
-/// Texts, copied.
-fn copies(alloc: Global, texts: &[&str]) -> Result<Vec<String>, AllocError>
-    ensures { IfOk result (λ r. map string_bytes r.items ≡ map (λ t. t.now) texts.now) }
-{
-    let mut values = Vec::new(alloc);
-    'copying: for text in texts {
-        values.push(String::from_str(alloc, text)?)?;
-    }
-    Ok(values)
-}
-
-/// The value of an argument that has one, copied.
-fn value_of(alloc: Global, matches: &ArgMatches<'_>, id: &str) -> Result<String, AllocError>
-    requires { HasValue id.now (rows_of (found_of matches.now)) }
-    ensures { IfOk result (λ r. IsValue id.now (rows_of (found_of matches.now)) (string_bytes r)) }
-{
-    let text = text_of(matches, id).unwrap();
-    String::from_str(alloc, text)
-}
-
-/// The values of an argument that has some, copied.
-fn values_of(alloc: Global, matches: &ArgMatches<'_>, id: &str) -> Result<Vec<String>, AllocError>
-    requires { HasValue id.now (rows_of (found_of matches.now)) }
-    ensures { IfOk result
-        (λ r. AreValues id.now (rows_of (found_of matches.now)) (map string_bytes r.items)) }
-{
-    let texts = matches.get_strs(id).unwrap();
-    copies(alloc, texts)
-}
-
-/// The values of an argument, copied; none where it has none.
-fn any_values_of(
-    alloc: Global,
-    matches: &ArgMatches<'_>,
-    id: &str,
-) -> Result<Vec<String>, AllocError>
-    ensures { IfOk result
-        (λ r. AreAnyValues id.now (rows_of (found_of matches.now)) (map string_bytes r.items)) }
-{
-    match matches.get_strs(id) {
-        Some(texts) => copies(alloc, texts),
-        None => Ok(Vec::new(alloc)),
-    }
-}
-
-/// The number that `--limit` gives.
-fn limit_of(inner: &ArgMatches<'_>) -> Option<u64>
-    requires { IfSome (one_of (codes "limit") (rows_of (found_of inner.now))) IsNumber }
-    ensures { IsLimit (one_of (codes "limit") (rows_of (found_of inner.now))) result }
-{
-    inner.get_one::<u64>("limit")
-}
-
-/// The task of `list`.
-fn list_task(alloc: Global, inner: &ArgMatches<'_>) -> Result<Task, AllocError>
-    requires device { HasValue (codes "MODALIAS") (rows_of (found_of inner.now)) }
-    requires limit { IfSome (one_of (codes "limit") (rows_of (found_of inner.now))) IsNumber }
-    ensures { IfOk result (IsTask (codes "list") (rows_of (found_of inner.now))) }
-{
-    let after = copied(alloc, text_of(inner, "after"))?;
-    let limit = limit_of(inner);
-    let device = value_of(alloc, inner, "MODALIAS")?;
-    let json = has_flag(inner, "json");
-    Ok(Task::List {
-        after,
-        limit,
-        device,
-        json,
-    })
-}
-
-/// The task of `query`.
-fn query_task(alloc: Global, inner: &ArgMatches<'_>) -> Result<Task, AllocError>
-    requires { HasValue (codes "MODALIAS") (rows_of (found_of inner.now)) }
-    ensures { IfOk result (IsTask (codes "query") (rows_of (found_of inner.now))) }
-{
-    let devices = values_of(alloc, inner, "MODALIAS")?;
-    let json = has_flag(inner, "json");
-    Ok(Task::Query { devices, json })
-}
-
-/// The task of `explain`.
-fn explain_task(alloc: Global, inner: &ArgMatches<'_>) -> Result<Task, AllocError>
-    requires { HasValue (codes "MODALIAS") (rows_of (found_of inner.now)) }
-    ensures { IfOk result (IsTask (codes "explain") (rows_of (found_of inner.now))) }
-{
-    let device = value_of(alloc, inner, "MODALIAS")?;
-    let json = has_flag(inner, "json");
-    Ok(Task::Explain { device, json })
-}
-
-/// The task of `ask`.
-fn ask_task(alloc: Global, inner: &ArgMatches<'_>) -> Result<Task, AllocError>
-    requires file { HasValue (codes "FILE") (rows_of (found_of inner.now)) }
-    requires device { HasValue (codes "MODALIAS") (rows_of (found_of inner.now)) }
-    ensures { IfOk result (IsTask (codes "ask") (rows_of (found_of inner.now))) }
-{
-    let file = value_of(alloc, inner, "FILE")?;
-    let device = value_of(alloc, inner, "MODALIAS")?;
-    Ok(Task::Ask { file, device })
-}
-
-/// The task of `check`.
-fn check_task(alloc: Global, inner: &ArgMatches<'_>) -> Result<Task, AllocError>
-    ensures { IfOk result (IsTask (codes "check") (rows_of (found_of inner.now))) }
-{
-    let files = any_values_of(alloc, inner, "FILE")?;
-    Ok(Task::Check { files })
-}
-
-/// The task of `diff`.
-fn diff_task(alloc: Global, inner: &ArgMatches<'_>) -> Result<Task, AllocError>
-    requires old { HasValue (codes "OLD") (rows_of (found_of inner.now)) }
-    requires new { HasValue (codes "NEW") (rows_of (found_of inner.now)) }
-    ensures { IfOk result (IsTask (codes "diff") (rows_of (found_of inner.now))) }
-{
-    let old = value_of(alloc, inner, "OLD")?;
-    let new = value_of(alloc, inner, "NEW")?;
-    Ok(Task::Diff { old, new })
-}
-
-/// The task of `verify`.
-fn verify_task(alloc: Global, inner: &ArgMatches<'_>) -> Result<Task, AllocError>
-    ensures { IfOk result (IsTask (codes "verify") (rows_of (found_of inner.now))) }
-{
-    let database = copied(alloc, text_of(inner, "DATABASE"))?;
-    Ok(Task::Verify { database })
-}
-
-/// The task of `dump`.
-fn dump_task(alloc: Global, inner: &ArgMatches<'_>) -> Result<Task, AllocError>
-    ensures { IfOk result (IsTask (codes "dump") (rows_of (found_of inner.now))) }
-{
-    let database = copied(alloc, text_of(inner, "DATABASE"))?;
-    Ok(Task::Dump { database })
-}
 
 /// The task of the subcommand with its matches.
 fn task_of(alloc: Global, name: &str, inner: &ArgMatches<'_>) -> Result<Task, AllocError>
@@ -190,34 +28,33 @@ fn task_of(alloc: Global, name: &str, inner: &ArgMatches<'_>) -> Result<Task, Al
     ensures { IfOk result (IsTask name.now (rows_of (found_of inner.now))) }
 {
     match name {
-        "query" => query_task(alloc, inner),
-        "explain" => explain_task(alloc, inner),
-        "ask" => ask_task(alloc, inner),
-        "list" => list_task(alloc, inner),
-        "check" => check_task(alloc, inner),
-        "diff" => diff_task(alloc, inner),
-        "verify" => verify_task(alloc, inner),
-        "dump" => dump_task(alloc, inner),
-        _ => Ok(Task::Update {
-            verbose: has_flag(inner, "verbose"),
-            skip_unreadable: has_flag(inner, "skip-unreadable"),
-        }),
+        "query" => query::task(alloc, inner),
+        "explain" => explain::task(alloc, inner),
+        "ask" => ask::task(alloc, inner),
+        "list" => list::task(alloc, inner),
+        "near" => near::task(alloc, inner),
+        "check" => check::task(alloc, inner),
+        "diff" => diff::task(alloc, inner),
+        "verify" => verify::task(alloc, inner),
+        "dump" => dump::task(alloc, inner),
+        _ => Ok(update::task(inner)),
     }
 }
 
-/// The root: the one behind the subcommand counts before the one in front.
-fn root_of(
+/// A text that may be given before and after the command: the one after it counts first.
+fn shared_text(
     alloc: Global,
     top: &ArgMatches<'_>,
     inner: &ArgMatches<'_>,
+    id: &str,
 ) -> Result<Option<String>, AllocError>
     ensures { IfOk result (λ r. option_map string_bytes r
-        ≡ option_or (first_of (codes "root") (rows_of (found_of inner.now)))
-        (first_of (codes "root") (rows_of (found_of top.now)))) }
+        ≡ option_or (first_of id.now (rows_of (found_of inner.now)))
+        (first_of id.now (rows_of (found_of top.now)))) }
 {
-    match text_of(inner, "root") {
-        Some(root) => Ok(Some(String::from_str(alloc, root)?)),
-        None => Ok(copied(alloc, text_of(top, "root"))?),
+    match text_of(inner, id) {
+        Some(text) => Ok(Some(String::from_str(alloc, text)?)),
+        None => Ok(copied(alloc, text_of(top, id))?),
     }
 }
 
@@ -233,13 +70,15 @@ fn job_of(
         (IsJob (rows_of (found_of top.now)) name.now (rows_of (found_of inner.now))) }
 {
     let task = task_of(alloc, name, inner)?;
-    let root = root_of(alloc, top, inner)?;
+    let root = shared_text(alloc, top, inner, "root")?;
+    let color = shared_text(alloc, top, inner, "color")?;
     let usr = has_flag(inner, "usr") || has_flag(top, "usr");
     let strict = has_flag(inner, "strict") || has_flag(top, "strict");
     Ok(Job {
         usr,
         strict,
         root,
+        color,
         task,
     })
 }

@@ -1,38 +1,57 @@
 //! Help: what `clap` says of a command, without options that do nothing for it; and a short one for a line without a
 //! command.
+use crate::{ask, check, diff, dump, explain, list, near, query, update, verify};
 use std::alloc::{AllocError, Global};
 
-/// What is said if no command is given.
-const SHORT_HELP: &str = "error: a command is missing
+/// What is said if no command is given, before the commands.
+const MISSING: &str = "error: a command is missing
 
 Usage: hwdb [OPTIONS] <COMMAND>
 
-  update   compiles the text files into the database
-  query    prints the properties that a device gets
-  explain  prints them, and where each comes from
-  list     prints each assignment that matches a device
-  ask      prints the properties that one text file gives
-  check    says what is wrong in text files
-  diff     prints what changed between two databases
-  verify   says whether a file is a database
-  dump     prints a database as a text file
+";
 
+/// The same, after them.
+const MORE: &str = "
 For more information, try 'hwdb help', or 'hwdb help COMMAND'.
 ";
+
+/// Each command, and what it does.
+const COMMANDS: [(&str, &str); 10] = [
+    ("update", update::SHORT),
+    ("query", query::SHORT),
+    ("explain", explain::SHORT),
+    ("list", list::SHORT),
+    ("near", near::SHORT),
+    ("ask", ask::SHORT),
+    ("check", check::SHORT),
+    ("diff", diff::SHORT),
+    ("verify", verify::SHORT),
+    ("dump", dump::SHORT),
+];
 
 /// How the usage of a command begins, before its name.
 const USAGE: &str = "Usage: hwdb ";
 
-/// How the lines of the two options begin that each command takes, but that do something for few.
+/// How the lines of the options begin that each command takes, but that don't do something for each.
 const USR_LINE: &str = "      --usr ";
 
 const STRICT_LINE: &str = "  -s, --strict ";
+
+const COLOR_LINE: &str = "      --color ";
+
+/// How the words of `near` are shown, of which the last is the device string.
+const NEAR_WORDS: &str = "<MODALIAS>...";
 
 /// The short help.
 ///
 /// The only error is that memory is refused.
 pub fn short_help(alloc: Global) -> Result<String, AllocError> {
-    String::from_str(alloc, SHORT_HELP)
+    let mut text = String::from_str(alloc, MISSING)?;
+    for (name, does) in COMMANDS {
+        writeln!(text, "  {name:<7}  {does}")?;
+    }
+    text.push_str(MORE)?;
+    Ok(text)
 }
 
 /// A command's help without the options that do nothing for it.
@@ -43,13 +62,29 @@ pub fn fitting_help(alloc: Global, text: &str) -> Result<String, AllocError> {
     let mut shown = String::new(alloc);
     for line in text.split("\n") {
         if !is_idle(line, command) {
-            shown.push_str(line)?;
+            push_line(&mut shown, line, command)?;
             shown.push_str("\n")?;
         }
     }
     // The text ends in a newline, behind which there is an empty line.
     let _ = shown.pop();
     Ok(shown)
+}
+
+/// Adds a line of a command's help. `near` takes files and a device, which `clap` shows as words of one kind.
+fn push_line(shown: &mut String, line: &str, command: &str) -> Result<(), AllocError> {
+    if command != "near" {
+        return shown.push_str(line);
+    }
+    match line.split_once(NEAR_WORDS) {
+        Some(("  ", _)) => shown.push_str(near::ARGUMENTS),
+        Some((before, after)) => {
+            shown.push_str(before)?;
+            shown.push_str("[FILE]... <MODALIAS>")?;
+            shown.push_str(after)
+        }
+        None => shown.push_str(line),
+    }
 }
 
 /// The command that the usage names; `[OPTIONS]` in the help of the whole program.
@@ -66,7 +101,8 @@ fn command_of(text: &str) -> &str {
 /// Whether a line of help shows an option that does nothing for the command.
 fn is_idle(line: &str, command: &str) -> bool {
     match command {
-        "[OPTIONS]" | "update" => false,
+        "[OPTIONS]" => false,
+        "update" => line.starts_with(COLOR_LINE),
         "check" => line.starts_with(USR_LINE),
         _ => line.starts_with(USR_LINE) || line.starts_with(STRICT_LINE),
     }

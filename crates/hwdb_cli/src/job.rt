@@ -51,6 +51,21 @@ pub enum Task {
     Check {
         /// The text files' paths; none where both folders are meant.
         files: Vec<String>,
+        /// The names of the kinds of warnings that are left out.
+        allowed: Vec<String>,
+        /// Whether as JSON.
+        json: bool,
+    },
+    /// Print the patterns that almost matched the device.
+    Near {
+        /// The text files' paths; none where the database is meant.
+        files: Vec<String>,
+        /// The device string.
+        device: String,
+        /// How many patterns that don't match at most; none where three are meant.
+        limit: Option<u64>,
+        /// Whether as JSON.
+        json: bool,
     },
     /// Print what changed from one database to another.
     Diff {
@@ -80,6 +95,8 @@ pub struct Job {
     pub strict: bool,
     /// What to put in front of the paths of folders and databases.
     pub root: Option<String>,
+    /// When the output is coloured, as it was given.
+    pub color: Option<String>,
     /// What to do.
     pub task: Task,
 }

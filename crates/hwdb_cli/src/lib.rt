@@ -1,16 +1,31 @@
 //! The command line of `hwdb`: what its words ask for.
 //!
-//! `command` is the command as `clap` is given it, after systemd-hwdb(8) with seven commands of our own;
-//! `args` reads a job off `clap`'s matches. `tips` leaves out what misleads in the text of a fault, and `help` the options
-//! that do nothing for a command.
+//! A command has a module of its name: its words, as `clap` is given them, and how its task is read off `clap`'s matches.
+//! `command` puts them together, after systemd-hwdb(8), and `args` reads a job. `drafts` and `matched` have what several
+//! commands need. `tips` leaves out what misleads in the text of a fault, and `help` the options that do nothing for a command.
+//! `kinds` says which word after `--allow` names none.
 #![tactic(auto)]
 
 mod args;
+mod ask;
+mod check;
 mod command;
+mod diff;
+mod drafts;
+mod dump;
+mod explain;
 mod help;
 mod job;
+mod kinds;
+mod list;
+mod matched;
+mod near;
+mod query;
 mod tips;
+mod update;
+mod verify;
 
 pub use args::read_words;
 pub use command::hwdb_command;
 pub use job::{Job, Task, WordsFault};
+pub use kinds::kind_fault;

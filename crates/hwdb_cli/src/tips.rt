@@ -5,7 +5,7 @@ use strsim::jaro;
 
 /// How alike an unknown option and a known one have to be, from 0 to 1, for the one to be named as what was meant
 /// (our choice: `--stric` and `--strict` are alike by 0.94, `--foo` and `--root` by 0.72).
-const ALIKE: f64 = 0.8;
+pub(crate) const ALIKE: f64 = 0.8;
 
 /// How the advice to take an argument for a device begins, and that to take it for another option.
 const VALUE_TIP: &str = "  tip: to pass ";
@@ -112,6 +112,7 @@ fn written_out(word: &str) -> Option<&'static str> {
         "--root" | "-r" => Some("--root"),
         "--after" => Some("--after"),
         "--limit" => Some("--limit"),
+        "--color" => Some("--color"),
         _ => None,
     }
 }

@@ -1,5 +1,7 @@
 //! How the texts of all forms begin, as `FormTable` of `hwdb_spec` has it.
 ghost use Rattle.std.specs.Prelude.{◌≡◌, map};
+ghost use Rattle.std.specs.List.{list_any};
+ghost use Rattle.hwdb_spec.specs.Folders.{same};
 ghost use Rattle.hwdb_spec.specs.FormTable;
 ghost use Rattle.hwdb_forms.specs.Internal.{form_of};
 
@@ -187,4 +189,23 @@ pub(crate) fn prefixes() -> &'static [&'static [u8]]
         b"scmi_protocol:",
         b"maple:",
     ]
+}
+
+/// Whether a text is one of some prefixes.
+fn is_among(text: &[u8], some: &[&'static [u8]]) -> bool
+    ensures { result ≡ list_any (same text.now) (map (λ prefix. prefix.now) some.now) }
+{
+    for prefix in some {
+        if text.cmp(prefix).is_eq() {
+            return true;
+        }
+    }
+    false
+}
+
+/// Whether udev asks texts that begin with this prefix, its colon too.
+pub fn is_asked(prefix: &[u8]) -> bool
+    ensures { result ≡ list_any (same prefix.now) FormTable.prefixes }
+{
+    is_among(prefix, prefixes())
 }

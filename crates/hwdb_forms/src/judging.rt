@@ -4,6 +4,7 @@ ghost use Rattle.hwdb_spec.specs.Patterns.{star, tokens as tokens_of};
 ghost use Rattle.hwdb_spec.specs.Forms.{CanMatch, judged};
 ghost use Rattle.hwdb_spec.specs.Forms;
 ghost use Rattle.hwdb_spec.specs.FormTable;
+ghost use Rattle.hwdb_spec.specs.Surroundings;
 ghost use Rattle.hwdb_forms.specs.Internal.{form_of, views};
 
 use crate::beginnings::{free, free_prefixes};
@@ -104,6 +105,13 @@ pub(crate) fn prefix_size(pattern: &[u8]) -> usize
     } else {
         0
     }
+}
+
+/// The beginning of a pattern up to its first colon, and with it; nothing if a wildcard is before that.
+pub fn prefix_of(pattern: &[u8]) -> &[u8]
+    ensures { result.now ≡ Surroundings.prefix_of pattern.now }
+{
+    &pattern[..prefix_size(pattern)]
 }
 
 /// Whether the pattern has a prefix, and no text of one of the forms begins with it.

@@ -32,7 +32,8 @@ mod rows;
 mod sets;
 mod table;
 
+pub use beginnings::is_asked;
 pub use expecting::expected;
-pub use judging::judge;
+pub use judging::{judge, prefix_of};
 pub use laws::{examples_fit, forms_are_tested, fronts_are_longest, fronts_are_tested};
 pub use likeness::likely_prefix;

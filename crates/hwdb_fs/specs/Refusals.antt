@@ -1,6 +1,6 @@
 -- The line that is printed of each refusal. Our choice; the words of a cause are those of strerror(3).
 use Rattle.hwdb_spec.specs.Failures.{HasFailed}
-use Rattle.std.specs.Prelude.{◌≡◌, ◌⊎◌, ◌<◌, ℕ, List, [], ◌∷◌, ◌++◌, Option, None, Some, IfSome, codes, length}
+use Rattle.std.specs.Prelude.{◌≡◌, ◌⊎◌, ◌<◌, ℕ, List, [], ◌∷◌, ◌++◌, Option, None, Some, IfSome, codes, is_some, length, true}
 use Rattle.std.specs.Io.KnownBytes.{Appends}
 use Rattle.hwdb_spec.specs.Lines.{byte}
 use Rattle.hwdb_spec.specs.Store.{Contents, path_in}
@@ -51,6 +51,18 @@ IsUnread path (At Read at cause) = at.items ≡ path
 IsUnread path (At TooLong at cause) = at.items ≡ path
 IsUnread path (At Memory at cause) = at.items ≡ path
 IsUnread path _ = ⊥
+
+-- the same, and what is said to be too long is there
+abbrev pub IsUnreadAt : Contents → (path : List ℕ) → Refusal → Type 0
+IsUnreadAt contents path (At TooLong at cause) = (at.items ≡ path) × (is_some (bytes_at contents path) ≡ true)
+IsUnreadAt contents path refusal = IsUnread path refusal
+
+-- what going below a root may refuse: it is no folder, or it can't be looked at
+abbrev pub IsUnentered : (root : List ℕ) → Refusal → Type 0
+IsUnentered root (Plain Memory) = Unit {0}
+IsUnentered root (At Read at cause) = at.items ≡ root
+IsUnentered root (At Memory at cause) = at.items ≡ root
+IsUnentered root _ = ⊥
 
 -- what listing a folder may refuse: the folder, or a name in it
 abbrev pub IsUnlisted : (folder : List ℕ) → Refusal → Type 0

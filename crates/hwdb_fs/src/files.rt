@@ -108,7 +108,7 @@ where
     }
 
     /// What the file system answers.
-    fn files(&self) -> StdFiles<'_, R> {
+    pub fn files(&self) -> StdFiles<'_, R> {
         StdFiles::new(self.alloc, self.rt, &self.root)
     }
 

@@ -8,12 +8,14 @@
 //! | `laws` | which of the chosen files an error names
 //! | `files` | files and folders: the file system that the runtime reaches |
 //! | `raw` | what a file system answers to what reading asks; `reads`: what is made of these answers; `read_laws`: laws of that; `one_file`: answers for tests |
+//! | `devices` | the file system as it is asked for devices |
 //! | `parts` | new files of updates: whose they are, and what killed updates left |
 //! | `roots` | where a path below a root leads; `place` is such a place |
 //! | `memory` | a store in memory as such a system, for tests |
 //! | `refusals` | the line of each refusal |
 #![tactic(auto)]
 
+mod devices;
 mod files;
 mod folders;
 mod laws;

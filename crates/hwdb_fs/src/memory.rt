@@ -4,7 +4,7 @@ ghost use Rattle.hwdb_spec.specs.Store.{path_in};
 ghost use Rattle.hwdb_spec.specs.Texts.{max_file};
 ghost use Rattle.hwdb_replace.specs.Memory.{seen_of};
 ghost use Rattle.hwdb_fs.specs.Internal.{IsMisnamed, IsNamedBy, IsOfName, IsPushed, bytes_after, is_text_file, made_by};
-ghost use Rattle.hwdb_fs.specs.Refusals.{HasReason, IsUnlisted, IsUnread, IsUnreadable};
+ghost use Rattle.hwdb_fs.specs.Refusals.{HasReason, IsUnlisted, IsUnread, IsUnreadAt, IsUnreadable};
 
 use crate::files::text_of;
 use crate::refusals::Refusal;
@@ -48,6 +48,7 @@ fn file_after(alloc: Global, steps: &[Step], path: &[u8]) -> Result<Option<Vec<u
         (λ found. bytes_after steps.now path.now ≡ option_map (λ b. b.items) found) }
     ensures within { IfOk result (λ found. IfSome found (λ b. vec_len b ≤ max_file)) }
     ensures refused { IfErr result (IsUnread path.now) }
+    ensures unread { IfErr result (IsUnreadAt (seen_of steps.now) path.now) }
     ensures reason { IfErr result (HasReason IsMisnamed ⊥ (seen_of steps.now)) }
 {
     let state = state_of(alloc, steps, path)?;
@@ -65,6 +66,7 @@ fn read_after(alloc: Global, steps: &[Step], path: &[u8]) -> Result<Vec<u8>, Ref
     ensures bytes { IfOk result (λ b. bytes_after steps.now path.now ≡ Some b.items) }
     ensures within { IfOk result (λ b. vec_len b ≤ max_file) }
     ensures refused { IfErr result (IsUnread path.now) }
+    ensures unread { IfErr result (IsUnreadAt (seen_of steps.now) path.now) }
     ensures reason { IfErr result
         (HasReason (IsUnreadable IsMisnamed (seen_of steps.now)) ⊥ (seen_of steps.now)) }
 {

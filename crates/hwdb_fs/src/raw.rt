@@ -100,6 +100,18 @@ impl<'a, R: Files> StdFiles<'a, R> {
     pub fn new(alloc: Global, rt: &'a R, root: &'a Root) -> Self {
         StdFiles { alloc, rt, root }
     }
+
+    /// The runtime.
+    pub fn runtime(&self) -> &'a R {
+        self.rt
+    }
+
+    /// The path of what a path leads to below the root, with no link in it. Fails if nothing is there.
+    pub fn real_path_of(&self, path: &str) -> io::Result<String> {
+        let place = self.root.real_path_of(self.rt, path)?;
+        fs::symlink_metadata(self.rt, place.as_str())?;
+        Ok(place)
+    }
 }
 
 /// The kind of what `stat` found.
@@ -129,8 +141,15 @@ fn failed(error: &io::Error) -> Unread {
 pub fn all_of<R: Read + Drop>(alloc: Global, reader: R) -> Result<Vec<u8>, Unread>
     ensures { IfOk result (λ bytes. vec_len bytes ≤ max_file) }
 {
+    up_to(alloc, reader, MAX_BYTES)
+}
+
+/// All bytes that a reader has left, if they are no more than so many.
+pub fn up_to<R: Read + Drop>(alloc: Global, reader: R, limit: u32) -> Result<Vec<u8>, Unread>
+    ensures { IfOk result (λ bytes. vec_len bytes ≤ limit) }
+{
     let mut source = FromRead::new(reader);
-    match read_all(alloc, &mut source, MAX_BYTES) {
+    match read_all(alloc, &mut source, limit) {
         Ok(bytes) => Ok(bytes),
         Err(ReadError::TooLong) => Err(Unread::TooLong),
         Err(ReadError::Memory) => Err(Unread::Memory),

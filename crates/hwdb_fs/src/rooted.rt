@@ -1,6 +1,6 @@
 //! A file system that may be looked at from a root below its own.
 ghost use Rattle.std.specs.Prelude.{◌≡◌, IfErr};
-ghost use Rattle.hwdb_fs.specs.Refusals.{HasReason, IsUnread};
+ghost use Rattle.hwdb_fs.specs.Refusals.{HasReason, IsUnentered};
 
 use crate::refusals::Refusal;
 use crate::system::System;
@@ -11,7 +11,7 @@ pub trait Rooted: System {
     /// lead on inside it, as if it were `/`, whatever links are on the way. Changes no file. Refuses what is no folder.
     fn enter(&mut self, root: &str) -> Result<(), Refusal>
         ensures same { Self.tells → self.new ≡ self.old }
-        ensures refused { IfErr result (IsUnread root.now) }
+        ensures refused { IfErr result (IsUnentered root.now) }
         ensures reason { IfErr result
             (HasReason (Self.may_fail self.old) ⊥ (Self.seen self.old)) };
 }

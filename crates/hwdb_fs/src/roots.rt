@@ -1,7 +1,7 @@
 //! Where a path below a root leads: each link on the way is followed inside the root, as if the root were `/`.
 ghost use Rattle.std.specs.Prelude.{◌≡◌, ◌<◌, All, false, length, map, string_bytes, IfErr, IfOk, IfSome};
 ghost use Rattle.hwdb_spec.specs.Lines.{has};
-ghost use Rattle.hwdb_fs.specs.Refusals.{IsUnread};
+ghost use Rattle.hwdb_fs.specs.Refusals.{IsUnentered};
 ghost use Rattle.hwdb_fs.specs.Roots.{IsBelow, IsName, below};
 
 use crate::place::Place;
@@ -136,7 +136,7 @@ impl Root {
 
     /// Takes a root; an empty one is none. Refuses what is no folder.
     pub fn enter<R: Files>(&mut self, rt: &R, root: &str) -> Result<(), Refusal>
-        ensures { IfErr result (IsUnread root.now) }
+        ensures { IfErr result (IsUnentered root.now) }
     {
         if root.is_empty() {
             return Ok(());
@@ -162,6 +162,17 @@ impl Root {
                 place_in(self.alloc, rt, root, rest_of(root, path))
             }
             None => Ok(String::from_str(self.alloc, path)?),
+        }
+    }
+
+    /// Where a path leads, each link on it followed, without a root too: no name on the way is a link's then.
+    pub fn real_path_of<R: Files>(&self, rt: &R, path: &str) -> io::Result<String>
+        ensures { IfSome self.now.root
+            (λ root. IfOk result (λ place. IsBelow (string_bytes root) (string_bytes place))) }
+    {
+        match &self.root {
+            Some(_) => self.place_of(rt, path),
+            None => place_in(self.alloc, rt, "", path),
         }
     }
 

@@ -2,7 +2,7 @@
 ghost use Rattle.std.specs.Prelude.{◌≡◌, ◌≤◌, ℕ, List, Some, IfOk, IfErr, IfSome, OnOk, is_some, map, option_map, string_bytes, vec_len};
 ghost use Rattle.hwdb_spec.specs.Texts.{max_file};
 ghost use Rattle.hwdb_spec.specs.System.{AreNamesIn, bytes_at};
-ghost use Rattle.hwdb_fs.specs.Refusals.{HasReason, IsUnlisted, IsUnread, IsUnreadable};
+ghost use Rattle.hwdb_fs.specs.Refusals.{HasReason, IsUnlisted, IsUnread, IsUnreadAt, IsUnreadable};
 
 use crate::refusals::Refusal;
 use hwdb_io::Cause;
@@ -45,6 +45,8 @@ pub trait System: Store {
             (λ bytes. bytes_at (Self.seen self.now) path.now ≡ Some bytes.items) }
         ensures within { IfOk result (λ bytes. vec_len bytes ≤ max_file) }
         ensures refused { IfErr result (IsUnread path.now) }
+        ensures unread { Self.tells → IfErr result
+            (IsUnreadAt (Self.seen self.now) path.now) }
         ensures reason { IfErr result (HasReason
             (IsUnreadable (may_fail self.now) (Self.seen self.now)) ⊥ (Self.seen self.now)) };
 
@@ -55,6 +57,8 @@ pub trait System: Store {
             (λ found. bytes_at (Self.seen self.now) path.now ≡ option_map (λ b. b.items) found) }
         ensures within { IfOk result (λ found. IfSome found (λ b. vec_len b ≤ max_file)) }
         ensures refused { IfErr result (IsUnread path.now) }
+        ensures unread { Self.tells → IfErr result
+            (IsUnreadAt (Self.seen self.now) path.now) }
         ensures reason { IfErr result
             (HasReason (may_fail self.now) ⊥ (Self.seen self.now)) };
 

@@ -140,21 +140,36 @@ holds_it xs x c = holding xs x c.0 c.1 c.2
 abbrev pub same_bytes : Text → Text → Bool
 same_bytes = pointwise nat_eq
 
+-- a dedup loses no text
+none_lost : (xs : List Text) (s : Text) → Holds xs s → Holds (dedup same_bytes xs) s
+none_lost xs s h =
+    let a = Any-dedup nat_list_eq_equiv xs s (held xs s h) in
+    let Q : Text → Type 0 = λ t. Holds (dedup same_bytes xs) t in
+    subst Q (sym (same_text s a.1 (sym a.4))) (holds_it (dedup same_bytes xs) a.1 (a.0, a.2, a.3))
+
+none_new : (xs : List Text) (s : Text) → Holds (dedup same_bytes xs) s → Holds xs s
+none_new xs s h = holds_it xs s (Contains-from_dedup same_bytes xs s (held (dedup same_bytes xs) s h))
+
+pub deduped : (xs : List Text) → ascending (dedup same_bytes xs) ≡ ascending xs
+deduped xs =
+    let left = dedup same_bytes xs in
+    one_list (ascending left) (ascending xs) (ascending_ordered left) (ascending_ordered xs)
+    (λ s h. holds_ascending xs s (none_new xs s (ascending_holds left s h)))
+    (λ s h. holds_ascending left s (none_lost xs s (ascending_holds xs s h)))
+
 -- what a sort and a dedup leave
 module _ (old sorted new : List Text) (moved : IsPermutation old sorted) (up : IsSorted text_cmp sorted) (left : new ≡ dedup same_bytes sorted) where
   kept : (s : Text) → Holds old s → Holds new s
   kept s h =
       let c = Contains-permutation old sorted s moved (held old s h) in
-      let a = Any-dedup nat_list_eq_equiv sorted s c in
       let P : List Text → Type 0 = λ xs. Holds xs s in
-      let Q : Text → Type 0 = λ t. Holds (dedup same_bytes sorted) t in
-      subst P (sym left) (subst Q (sym (same_text s a.1 (sym a.4))) (holds_it (dedup same_bytes sorted) a.1 (a.0, a.2, a.3)))
+      subst P (sym left) (none_lost sorted s (holds_it sorted s c))
 
   back : (s : Text) → Holds new s → Holds old s
   back s h =
       let P : List Text → Type 0 = λ xs. Holds xs s in
-      let f = held (dedup same_bytes sorted) s (subst P left h) in
-      holds_it old s (Contains-permutation sorted old s (IsPermutation-sym old sorted moved) (Contains-from_dedup same_bytes sorted s f))
+      let f = none_new sorted s (subst P left h) in
+      holds_it old s (Contains-permutation sorted old s (IsPermutation-sym old sorted moved) (held sorted s f))
 
   in_order : IsOrdered new
   in_order = subst IsOrdered (sym left) (IsStrictlySortedBy-dedup nat_list_cmp_total texts_ties sorted up)

@@ -5,9 +5,9 @@ use Rattle.std.proofs.lemmas.List.Sorted.{IsPermutation-map}
 use Rattle.std.specs.List.{dedup, dedup_from}
 use Rattle.std.specs.List.Sorted.{IsPermutation, IsSorted}
 use Rattle.std.specs.Ordering.{is_lt}
-use Rattle.hwdb_spec.specs.Assignment.{text_cmp}
+use Rattle.hwdb_spec.specs.Assignment.{ascending, text_cmp}
 use Rattle.hwdb_spec.specs.Summary.{different}
-use Rattle.hwdb_inspect.proofs.AscendingLemmas.{ordered_is, same_bytes}
+use Rattle.hwdb_inspect.proofs.AscendingLemmas.{deduped, ordered_is, same_bytes}
 
 module _ {X : Type 0} (text : X → List ℕ) where
   text_at : (xs : List X) (k : ℕ) (d : List ℕ) (e : X) → k < length xs → get_or (map text xs) k d ≡ text (get_or xs k e)
@@ -42,3 +42,7 @@ module _ {X : Type 0} (text : X → List ℕ) where
   different_are old sorted new moved up left =
       sym (length-map new text)
       ∙ ap length (ordered_is (map text old) (map text sorted) (map text new) (IsPermutation-map text old sorted moved) (texts_sorted sorted up) (ap (map text) left ∙ texts_dedup sorted))
+
+  -- what a dedup alone leaves
+  pub different_left : (old new : List X) → new ≡ dedup (λ a b. same_bytes (text a) (text b)) old → different (map text new) ≡ different (map text old)
+  different_left old new e = ap length (ap ascending (ap (map text) e ∙ texts_dedup old) ∙ deduped (map text old))

@@ -56,11 +56,21 @@ fn texts_of<'l>(
     Ok(texts)
 }
 
-/// How many of the texts differ from each other.
+/// The texts without those that equal the one before them.
+fn without_repeats<'l>(texts: Vec<&'l [u8]>) -> Vec<&'l [u8]>
+    ensures { different (map (λ t. t.now) result.items)
+        ≡ different (map (λ t. t.now) texts.entry.items) }
+{
+    let mut left = texts;
+    left.dedup();
+    left
+}
+
+/// How many of the texts differ from each other. Most equal the one before them, so that few are left to be sorted.
 fn count_different(texts: Vec<&[u8]>) -> Result<usize, AllocError>
     ensures { IfOk result (λ n. n ≡ different (map (λ t. t.now) texts.entry.items)) }
 {
-    let mut ordered = texts;
+    let mut ordered = without_repeats(texts);
     ordered.sort()?;
     ordered.dedup();
     Ok(ordered.len())

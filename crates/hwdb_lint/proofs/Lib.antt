@@ -6,3 +6,7 @@ pub mod RepeatLemmas
 pub mod RaiseLemmas
 pub mod ReplaceLemmas
 pub mod RunLemmas
+pub mod AnyLemmas
+pub mod SoughtLemmas
+pub mod PieceLemmas
+pub mod JsonLemmas

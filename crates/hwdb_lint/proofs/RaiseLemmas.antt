@@ -27,7 +27,7 @@ raise_line old new line by v e h n =
     by_test (is_eq (nat_cmp line n)) (is n line) _ _ v by (h n) (equal_number line n)
     (λ t. e ∙ ap (λ q. max (line_at old q) by) (eqb-true line n (sym (equal_number line n) ∙ t)))
 
-equal_pair : (a b : Ordering) → is_eq (ordering_then a b) ≡ cond (is_eq a) (is_eq b) false
+pub equal_pair : (a b : Ordering) → is_eq (ordering_then a b) ≡ cond (is_eq a) (is_eq b) false
 equal_pair Less b = refl
 equal_pair Equal b = refl
 equal_pair Greater b = refl

@@ -199,7 +199,7 @@ or_false : (b : Bool) → b ≡ (b || false)
 or_false true = refl
 or_false false = refl
 
-one_more : (c : Bool) (a b : Bool) → a ≡ b → cond c true a ≡ (b || (c || false))
+pub one_more : (c : Bool) (a b : Bool) → a ≡ b → cond c true a ≡ (b || (c || false))
 one_more true a b e = or_true b
 one_more false a b e = e ∙ or_false b
 

@@ -1,8 +1,8 @@
 -- The errors of checking text files, and what its types mean. Our choice.
-use Rattle.std.specs.Prelude.{ℕ, List, ◌<◌, Any, flat_map, length}
+use Rattle.std.specs.Prelude.{Bool, ℕ, List, ◌<◌, Any, flat_map, length}
 use Rattle.hwdb_spec.specs.Lines.{lines}
 use Rattle.hwdb_spec.specs.Folders.{Source, max_lines}
-use Rattle.hwdb_spec.specs.Checks.{file_text}
+use Rattle.hwdb_spec.specs.Findings.{file_text}
 use Rattle.hwdb_text.specs.declared.outcome.ScanError.{ScanError}
 use Rattle.hwdb_text.specs.declared.outcome.ScanError.TheVariants.{Memory, TooManyLines}
 use Rattle.hwdb_lint.specs.declared.files.TextFile.{TextFile}
@@ -11,9 +11,9 @@ use Rattle.hwdb_lint.specs.declared.files.TextFile.{TextFile}
 abbrev pub source_of : TextFile → Source
 source_of f = record { name = f.path.now; bytes = f.bytes.now }
 
--- the reports of some files, one after another
-abbrev pub files_text : List Source → List ℕ
-files_text files = flat_map (λ s. file_text s.name s.bytes) files
+-- what is printed of some files, one after another
+abbrev pub files_text : (json : Bool) → (allowed : List (List ℕ)) → List Source → List ℕ
+files_text json allowed files = flat_map (λ s. file_text json allowed s.name s.bytes) files
 
 -- when each error of checking a file comes
 abbrev pub IsFileRefusal : (bytes : List ℕ) → ScanError → Type 0

@@ -1,26 +1,28 @@
 -- What the proofs of this crate speak of.
-use Rattle.std.specs.Prelude.{Bool, false, ℕ, List, [], ◌++◌, codes, drop, filter, length, map, max, nat_lt, ◌+◌, ◌≡◌, ◌≤◌, if◌then◌else◌}
+use Rattle.std.specs.Prelude.{Bool, not, false, ℕ, List, [], ◌++◌, codes, drop, filter, length, map, max, nat_lt, ◌+◌, ◌≡◌, ◌≤◌, if◌then◌else◌}
 use Rattle.std.specs.Borrow.{Bor}
 use Rattle.std.specs.Fmt.{decimal}
-use Rattle.std.specs.List.{list_any}
+use Rattle.std.specs.List.{list_all, list_any}
 use Rattle.std.specs.Option.{unwrap_or}
 use Rattle.std.specs.Ordering.{nat_cmp, ordering_then}
 use Rattle.std.specs.Cmp.Lexicographic.{slice_cmp}
 use Rattle.std.specs.BTreeMap.{BTreeMap, get, get_by}
-use Rattle.std.specs.BTreeSet.{BTreeSet, contains}
+use Rattle.std.specs.BTreeSet.{BTreeSet, contains, contains_by}
 use Rattle.hwdb_spec.specs.Assignment.{Assignment}
 use Rattle.hwdb_spec.specs.Folders.{same}
 use Rattle.hwdb_spec.specs.Records.{Origin}
+use Rattle.hwdb_spec.specs.Surroundings.{companions_text, is_alone, is_elsewhere, is_given, is_unpaired, is_unread}
 use Rattle.hwdb_spec.specs.Unmatched.{judgement_of}
 use Rattle.hwdb_spec.specs.Warnings.{gives_value, greatest, last_with, misused, repeated_from, repeated_lines, replaces, replacing}
 use Rattle.hwdb_spec.specs.declared.WarningKind.{WarningKind}
-use Rattle.hwdb_spec.specs.declared.WarningKind.TheVariants.{Misused, Replaced, Unmatched}
-use Rattle.hwdb_spec.specs.Lines.{Line, byte, clean_line, is, lines, numbered, pieces}
+use Rattle.hwdb_spec.specs.declared.WarningKind.TheVariants.{Misused, Replaced, Unmatched, Unpaired, Unread}
+use Rattle.hwdb_spec.specs.Lines.{Line, byte, clean_line, is, is_none, lines, numbered, pieces}
 use Rattle.hwdb_spec.specs.Reports.{text_of_line}
 use Rattle.hwdb_lint.specs.declared.known.Known.{Known}
 use Rattle.hwdb_lint.specs.declared.line_texts.LineStart.{LineStart}
 use Rattle.hwdb_lint.specs.declared.line_warnings.Read.{Read}
 use Rattle.hwdb_lint.specs.declared.repeats.Run.{Run}
+use Rattle.hwdb_lint.specs.declared.unread.UnreadLines.{UnreadLines}
 
 -- the line with this number and this text
 abbrev pub line_of : ℕ → List ℕ → Line
@@ -34,18 +36,21 @@ abbrev pub clean_of : Read → Line
 clean_of r = clean_line (read_line r)
 
 -- What is read of a line: its clean text, whether its record has it already, the last line that replaces an assignment of
--- it, and why it doesn't fit what is known of properties,
--- and what is said of it as a pattern.
+-- it, why it doesn't fit what is known of properties, or what is around it, and what is said of it as a pattern.
 pub record IsRead (r : Read) : Type 0 where
   pub clean : r.clean.now ≡ (clean_of r).text
   pub repeated : r.repeated ≡ list_any (is r.number) (repeated_lines r.bytes.now)
   pub replaced : r.replaced_by ≡ greatest (replacing r.bytes.now r.number)
   pub misuse : r.misuse ≡ misused (clean_of r)
+  pub unread : r.unread ≡ is_unread r.bytes.now r.number
+  pub unpaired : r.unpaired ≡ is_unpaired r.bytes.now r.number
   pub judgement : r.judgement ≡ judgement_of (clean_of r).text
 
 -- a warning whose hint is the same for each line
 abbrev pub IsPlain : WarningKind → Type 0
 IsPlain (Misused why) = ⊥
+IsPlain Unread = ⊥
+IsPlain Unpaired = ⊥
 IsPlain (Unmatched told) = ⊥
 IsPlain kind = Unit {0}
 
@@ -126,10 +131,52 @@ RaisesSame a before after =
 abbrev pub RaisesLine : (line by : ℕ) → (before after : BTreeMap ℕ ℕ) → Type 0
 RaisesLine line by before after = (number : ℕ) → line_at after number ≡ raised (is number line) by (line_at before number)
 
+-- the lines of the assignments that pass a test
+abbrev pub lines_where : (Assignment → Bool) → List Assignment → List ℕ
+lines_where test all = map (λ a. a.position.line) (filter test all)
+
+-- whether an assignment is of one of these lines, and isn't elsewhere
+abbrev pub is_read_there : BTreeSet ℕ → Assignment → Bool
+is_read_there elsewhere a = if contains nat_cmp elsewhere a.position.line then not (is_elsewhere a) else false
+
+-- what is told of a line: it is in the first set, and not in the second one
+abbrev pub tells_unread : UnreadLines → ℕ → Bool
+tells_unread u line = if contains nat_cmp u.elsewhere line then not (contains nat_cmp u.read line) else false
+
+-- of each line it is told whether its property isn't read below its patterns
+abbrev pub IsUnreadOf : List Assignment → UnreadLines → Type 0
+IsUnreadOf all u =
+    (line : ℕ) → tells_unread u line
+    ≡ (if is_none (filter (λ a. is line a.position.line) all) then false else list_all is_elsewhere (filter (λ a. is line a.position.line) all))
+
+-- whether a property is read with others alone
+abbrev pub has_companions : Assignment → Bool
+has_companions a = not (is_none (companions_text a.position.key))
+
+-- whether a pattern and a key are in a set
+abbrev pub holds : BTreeSet (Bor (List ℕ) × Bor (List ℕ)) → (pattern key : List ℕ) → Bool
+holds places pattern key =
+    contains_by (λ q. ordering_then (slice_cmp nat_cmp pattern q.0.now) (slice_cmp nat_cmp key q.1.now)) places
+
+-- the set has the patterns and keys of some assignments
+abbrev pub ArePlacesOf : List Assignment → BTreeSet (Bor (List ℕ) × Bor (List ℕ)) → Type 0
+ArePlacesOf all places = (pattern key : List ℕ) → holds places pattern key ≡ is_given all pattern key
+
+-- whether one of some keys with commas between isn't in the set with a pattern
+abbrev pub lacks_of : BTreeSet (Bor (List ℕ) × Bor (List ℕ)) → (pattern keys : List ℕ) → Bool
+lacks_of places pattern keys = list_any (λ key. not (holds places pattern key)) (pieces (is (byte ",")) keys)
+
+-- the set has the lines whose property lacks a companion
+abbrev pub IsUnpairedOf : List Assignment → BTreeSet ℕ → Type 0
+IsUnpairedOf all set =
+    (line : ℕ) → contains nat_cmp set line ≡ list_any (is_alone all) (filter (λ a. is line a.position.line) all)
+
 -- what is known of a file
 pub record IsKnown (k : Known) : Type 0 where
   pub repeated : IsSetOf (repeated_lines k.bytes.now) k.repeated
   pub replaced : (number : ℕ) → line_at k.replaced number ≡ greatest (replacing k.bytes.now number)
+  pub unread : (number : ℕ) → tells_unread k.unread number ≡ is_unread k.bytes.now number
+  pub unpaired : (number : ℕ) → contains nat_cmp k.unpaired number ≡ is_unpaired k.bytes.now number
 
 -- the texts of the lines from some place on, if the first one has this number
 abbrev pub text_from : (file : List ℕ) (number at line : ℕ) → List ℕ

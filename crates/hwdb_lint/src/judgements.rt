@@ -1,7 +1,6 @@
 //! Patterns that match no text that udev asks.
 ghost use Rattle.std.specs.Prelude.{◌≡◌, ◌++◌, List, ℕ, ◌∷◌, map, take, IfOk, OnOk};
 ghost use Rattle.std.specs.Option.{option_map};
-ghost use Rattle.hwdb_spec.specs.Reports.{hint_line};
 ghost use Rattle.hwdb_spec.specs.Unmatched;
 
 use crate::runs::{push_runs, runs_of};
@@ -131,7 +130,7 @@ fn push_prefix_hint(alloc: Global, text: &mut Vec<u8>, pattern: &[u8]) -> Result
 }
 
 /// Adds what to do about a pattern with this judgement.
-fn push_judgement_hint(
+pub fn push_judgement_hint(
     alloc: Global,
     text: &mut Vec<u8>,
     judgement: Judgement,
@@ -145,20 +144,4 @@ fn push_judgement_hint(
         Judgement::UnknownPrefix => push_prefix_hint(alloc, text, pattern),
         Judgement::Dead(place) => push_place_hint(alloc, text, front_of(pattern, place)),
     }
-}
-
-/// Adds the line of what to do about a pattern with this judgement.
-pub fn push_judgement_line(
-    alloc: Global,
-    text: &mut Vec<u8>,
-    judgement: Judgement,
-    pattern: &[u8],
-) -> Result<(), AllocError>
-    ensures { OnOk result (text.new.items
-        ≡ text.old.items ++ hint_line (Unmatched.judgement_hint judgement pattern.now)) }
-{
-    text.extend_from_slice(b"    hint: ")?;
-    push_judgement_hint(alloc, text, judgement, pattern)?;
-    text.push(b'\n')?;
-    Ok(())
 }

@@ -4,8 +4,10 @@ ghost use Rattle.hwdb_spec.specs.Records;
 ghost use Rattle.hwdb_text.specs.Views.{given_in};
 ghost use Rattle.hwdb_lint.specs.Internal.{IsKnown, own};
 
+use crate::companions::unpaired_lines;
 use crate::repeats::repeated_lines;
 use crate::replacements::replaced_lines;
+use crate::unread::{UnreadLines, unread_lines};
 use hwdb_text::Given;
 use std::alloc::{AllocError, Global};
 use std::collections::{BTreeMap, BTreeSet};
@@ -19,6 +21,10 @@ pub struct Known<'a> {
     pub repeated: BTreeSet<u64>,
     /// For the number of a line that of the last line that replaces one of its assignments by another value.
     pub replaced: BTreeMap<u64, u64>,
+    /// The lines whose property isn't read below any of its patterns.
+    pub unread: UnreadLines,
+    /// The numbers of the lines whose property lacks another one, with which alone it is read.
+    pub unpaired: BTreeSet<u64>,
 }
 
 /// What is known of a file with these assignments. The only error is `AllocError`.
@@ -34,5 +40,7 @@ pub fn known_of<'a>(
         bytes,
         repeated: repeated_lines(alloc, bytes)?,
         replaced: replaced_lines(alloc, assignments)?,
+        unread: unread_lines(alloc, assignments)?,
+        unpaired: unpaired_lines(alloc, assignments)?,
     })
 }

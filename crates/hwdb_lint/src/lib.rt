@@ -14,6 +14,10 @@
 //! | `line_warnings` | which warnings a line gets, by its clean text |
 //! | `misuses` | properties that don't fit what is known of properties |
 //! | `judgements` | patterns that match no text that udev asks |
+//! | `unread` | properties that aren't read below the patterns of their record |
+//! | `companions` | properties that are read with others alone, which their patterns aren't given |
+//! | `kinds` | the names of faults and warnings, and which warnings are told |
+//! | `json_lines` | a fault or a warning as a line of JSON |
 //! | `repeats` | match lines that their record has already |
 //! | `replacements` | assignments that a later line of the same file replaces |
 //! | `known` | what is known of a file before its lines are read one by one |
@@ -22,8 +26,11 @@
 //! | `files` | text files that are checked, one after another |
 #![tactic(auto)]
 
+mod companions;
 mod files;
+mod json_lines;
 mod judgements;
+mod kinds;
 mod known;
 mod line_texts;
 mod line_warnings;
@@ -34,8 +41,10 @@ mod replacements;
 mod reports;
 mod runs;
 mod tallies;
+mod unread;
 mod warnings;
 
 pub use files::{Checked, TextFile, check_files};
+pub use kinds::{KINDS, Telling};
 pub use hwdb_show::push_shown;
 pub use tallies::push_count;

@@ -7,7 +7,7 @@ ghost use Rattle.hwdb_spec.specs.Tree.{closed_part};
 ghost use Rattle.hwdb_spec.specs.Unmatched;
 ghost use Rattle.hwdb_spec.specs.Warnings;
 ghost use Rattle.hwdb_spec.specs.Warnings.{warns};
-ghost use Rattle.hwdb_lint.specs.Internal.{line_of, read_line, IsRead};
+ghost use Rattle.hwdb_lint.specs.Internal.{clean_of, line_of, read_line, IsRead};
 
 use crate::places::indent_of;
 use hwdb_pattern::{open_place, range_place};
@@ -31,6 +31,10 @@ pub struct Read<'a> {
     pub replaced_by: u64,
     /// Why it doesn't fit what is known of properties.
     pub misuse: Option<Misuse>,
+    /// Whether its property isn't read below any of its patterns.
+    pub unread: bool,
+    /// Whether its property lacks another one, with which alone it is read.
+    pub unpaired: bool,
     /// What is said of it as a pattern.
     pub judgement: Judgement,
 }
@@ -184,6 +188,30 @@ pub fn is_warned(kind: WarningKind, line: &Read<'_>) -> bool
         WarningKind::RepeatedMatch => line.repeated,
         WarningKind::Replaced(_) => line.replaced_by > 0,
         WarningKind::Misused(_) => line.misuse.is_some(),
+        WarningKind::Unread => line.unread,
+        WarningKind::Unpaired => line.unpaired,
         WarningKind::Unmatched(_) => is_unmatched(line.judgement),
     }
+}
+
+/// The kinds of warnings that a line may get.
+pub fn kinds_of(line: &Read<'_>) -> [WarningKind; 13]
+    requires { IsRead line.now }
+    ensures { result ≡ Warnings.line_kinds line.now.bytes.now (clean_of line.now) }
+{
+    [
+        WarningKind::ByteOrderMark,
+        WarningKind::LeadingTab,
+        WarningKind::CarriageReturn,
+        WarningKind::OpenBracket,
+        WarningKind::EmptyRange,
+        WarningKind::SpacedEquals,
+        WarningKind::CutValue,
+        WarningKind::RepeatedMatch,
+        WarningKind::Replaced(line.replaced_by),
+        WarningKind::Misused(line.misuse.unwrap_or(Misuse::NearName)),
+        WarningKind::Unread,
+        WarningKind::Unpaired,
+        WarningKind::Unmatched(line.judgement),
+    ]
 }

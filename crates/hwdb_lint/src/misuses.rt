@@ -2,12 +2,14 @@
 ghost use Rattle.std.specs.Prelude.{◌≡◌, ◌++◌, OnOk};
 ghost use Rattle.hwdb_spec.specs.Lines;
 ghost use Rattle.hwdb_spec.specs.Properties.{misuse_hint};
-ghost use Rattle.hwdb_spec.specs.Reports.{hint_line};
+ghost use Rattle.hwdb_spec.specs.Surroundings.{unpaired_hint, unread_hint};
 ghost use Rattle.hwdb_spec.specs.Warnings.{misused};
 ghost use Rattle.hwdb_lint.specs.Internal.{line_of};
 
 use crate::line_warnings::{has_equals, is_property, is_spaced};
-use hwdb_properties::{after, before, misuse_of, push_misuse_hint};
+use hwdb_properties::{
+    after, before, companions_of, misuse_of, prefixes_of, push_misuse_hint,
+};
 use hwdb_spec::Misuse;
 use hwdb_text::unindented;
 use std::alloc::AllocError;
@@ -47,14 +49,34 @@ pub fn misuse_in(clean: &[u8]) -> Option<Misuse>
     misuse_of(key, value)
 }
 
-/// Adds the line of what to do about a misuse in a clean line.
-pub fn push_misuse_line(text: &mut Vec<u8>, misuse: Misuse, clean: &[u8]) -> Result<(), AllocError>
-    ensures { OnOk result (text.new.items ≡ text.old.items
-        ++ hint_line (misuse_hint misuse
-        (Lines.key (line_of 0 clean.now)) (Lines.value (line_of 0 clean.now)))) }
+/// Adds what to do about a misuse in a clean line. The only error, here and below, is `AllocError`.
+pub fn push_hint_of_misuse(
+    text: &mut Vec<u8>,
+    misuse: Misuse,
+    clean: &[u8],
+) -> Result<(), AllocError>
+    ensures { OnOk result (text.new.items ≡ text.old.items ++ misuse_hint misuse
+        (Lines.key (line_of 0 clean.now)) (Lines.value (line_of 0 clean.now))) }
 {
-    text.extend_from_slice(b"    hint: ")?;
-    push_misuse_hint(text, misuse, key_of(clean), value_of(clean))?;
-    text.push(b'\n')?;
+    push_misuse_hint(text, misuse, key_of(clean), value_of(clean))
+}
+
+/// Adds where the property of a clean line is read.
+pub fn push_unread_hint(text: &mut Vec<u8>, clean: &[u8]) -> Result<(), AllocError>
+    ensures { OnOk result (text.new.items
+        ≡ text.old.items ++ unread_hint (Lines.key (line_of 0 clean.now))) }
+{
+    text.extend_from_slice(b"it is read below these prefixes: ")?;
+    text.extend_from_slice(prefixes_of(key_of(clean)))?;
+    Ok(())
+}
+
+/// Adds what the property of a clean line is read with.
+pub fn push_unpaired_hint(text: &mut Vec<u8>, clean: &[u8]) -> Result<(), AllocError>
+    ensures { OnOk result (text.new.items
+        ≡ text.old.items ++ unpaired_hint (Lines.key (line_of 0 clean.now))) }
+{
+    text.extend_from_slice(b"give its record these too: ")?;
+    text.extend_from_slice(companions_of(key_of(clean)))?;
     Ok(())
 }

@@ -78,7 +78,7 @@ fn repeated_numbers(alloc: Global, bytes: &[u8]) -> Result<Vec<u64>, AllocError>
 }
 
 /// Some numbers as a set.
-fn set_of(alloc: Global, numbers: &[u64]) -> Result<BTreeSet<u64>, AllocError>
+pub fn set_of(alloc: Global, numbers: &[u64]) -> Result<BTreeSet<u64>, AllocError>
     ensures { IfOk result (λ set. IsSetOf numbers.now set) }
 {
     let mut set = BTreeSet::new(alloc);

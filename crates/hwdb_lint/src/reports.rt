@@ -1,8 +1,10 @@
 //! The report of a fault.
 ghost use Rattle.std.specs.Prelude.{◌≡◌, ◌++◌, OnOk};
 ghost use Rattle.hwdb_spec.specs.Texts.{fault_line};
+ghost use Rattle.hwdb_spec.specs.Findings.{told_fault};
 ghost use Rattle.hwdb_spec.specs.Reports.{fault_hint, hint_line, report};
 
+use crate::json_lines::push_fault_json;
 use crate::places::fault_place;
 use hwdb_show::{push_mark_line, push_shown_line};
 use hwdb_spec::{Fault, FaultKind};
@@ -10,7 +12,7 @@ use itoa::Buffer;
 use std::alloc::{AllocError, Global};
 
 /// What to do about a fault.
-fn hint_of(kind: FaultKind) -> &'static str
+pub fn hint_of(kind: FaultKind) -> &'static str
     ensures { result.now ≡ fault_hint kind }
 {
     match kind {
@@ -45,7 +47,7 @@ fn push_fault_line(text: &mut Vec<u8>, path: &[u8], fault: Fault) -> Result<(), 
 }
 
 /// Adds the line of what to do.
-pub fn push_hint_line(text: &mut Vec<u8>, hint: &str) -> Result<(), AllocError>
+fn push_hint_line(text: &mut Vec<u8>, hint: &str) -> Result<(), AllocError>
     ensures { OnOk result (text.new.items ≡ text.old.items ++ hint_line hint.now) }
 {
     text.extend_from_slice(b"    hint: ")?;
@@ -55,7 +57,7 @@ pub fn push_hint_line(text: &mut Vec<u8>, hint: &str) -> Result<(), AllocError>
 }
 
 /// Adds the report of a fault: its line, the text of its line, the mark, and what to do.
-pub fn push_report(
+fn push_report(
     alloc: Global,
     text: &mut Vec<u8>,
     path: &[u8],
@@ -68,4 +70,23 @@ pub fn push_report(
     push_shown_line(text, line)?;
     push_mark_line(alloc, text, line, fault_place(fault.kind, line))?;
     push_hint_line(text, hint_of(fault.kind))
+}
+
+/// Adds what is printed of a fault: a line of JSON, or its report.
+pub fn push_fault(
+    alloc: Global,
+    json: bool,
+    text: &mut Vec<u8>,
+    path: &[u8],
+    line: &[u8],
+    fault: Fault,
+) -> Result<(), AllocError>
+    ensures { OnOk result
+        (text.new.items ≡ text.old.items ++ told_fault json path.now line.now fault) }
+{
+    if json {
+        push_fault_json(alloc, text, path, line, fault)
+    } else {
+        push_report(alloc, text, path, line, fault)
+    }
 }

@@ -1,18 +1,20 @@
 //! Warnings: lines that are read, but likely not as they were meant.
-ghost use Rattle.std.specs.Prelude.{◌≡◌, ◌++◌, flat_map, map, IfOk, OnOk};
+ghost use Rattle.std.specs.Prelude.{◌≡◌, ◌++◌, ◌∷◌, [], filter, flat_map, map, string_bytes, IfOk, OnOk};
 ghost use Rattle.hwdb_spec.specs.Lines.{Line, clean_line};
 ghost use Rattle.hwdb_spec.specs.Records;
+ghost use Rattle.hwdb_spec.specs.Findings.{line_text, told_warning, warning_json_line, warnings_text};
 ghost use Rattle.hwdb_spec.specs.Reports.{hint_line};
-ghost use Rattle.hwdb_spec.specs.Warnings.{all_warnings, warned, line_warnings, warnings, warning_text, warning_place, warning_hint, warning_line, warning_report, line_text, warnings_text};
+ghost use Rattle.hwdb_spec.specs.Warnings.{all_warnings, gets, line_kinds, line_warnings, warnings, warning_text, warning_place, warning_hint, warning_line, warning_report};
 ghost use Rattle.hwdb_text.specs.Views.{given_in};
 ghost use Rattle.hwdb_lint.specs.Internal.{IsKnown, IsPlain, IsRead, clean_of, line_of, number_text, own, read_line};
 
-use crate::judgements::{judgement_of, judgement_place, judgement_text, push_judgement_line};
+use crate::json_lines::{Finding, finding_line};
+use crate::judgements::{judgement_of, judgement_place, judgement_text, push_judgement_hint};
+use crate::kinds::{Telling, is_told, warning_name};
 use crate::known::{Known, known_of};
-use crate::line_warnings::{Read, closed, is_warned};
-use crate::misuses::{misuse_in, push_misuse_line};
+use crate::line_warnings::{Read, closed, is_warned, kinds_of};
+use crate::misuses::{misuse_in, push_hint_of_misuse, push_unpaired_hint, push_unread_hint};
 use crate::places::indent_of;
-use crate::reports::push_hint_line;
 use hwdb_pattern::{open_place, range_place};
 use hwdb_properties::misuse_text;
 use hwdb_show::{push_mark_line, push_shown_line};
@@ -36,6 +38,8 @@ fn text_of(kind: WarningKind) -> &'static str
         WarningKind::RepeatedMatch => "a match line that stands in its record already",
         WarningKind::Replaced(_) => "an assignment that line ",
         WarningKind::Misused(misuse) => misuse_text(misuse),
+        WarningKind::Unread => "a property that isn't read below its patterns",
+        WarningKind::Unpaired => "a property that is read with others alone",
         WarningKind::Unmatched(judgement) => judgement_text(judgement),
     }
 }
@@ -66,12 +70,42 @@ fn hint_of(kind: WarningKind) -> &'static str
         WarningKind::SpacedEquals => "take it away: it belongs to the key or to the value",
         WarningKind::CutValue => "put a blank before a comment; a value can't hold a #",
         WarningKind::RepeatedMatch | WarningKind::Replaced(_) => "take one of the two away",
-        WarningKind::Misused(_) | WarningKind::Unmatched(_) => "",
+        WarningKind::Misused(_)
+        | WarningKind::Unread
+        | WarningKind::Unpaired
+        | WarningKind::Unmatched(_) => "",
+    }
+}
+
+/// Adds some words.
+fn push_words(text: &mut Vec<u8>, words: &str) -> Result<(), AllocError>
+    ensures { OnOk result (text.new.items ≡ text.old.items ++ words.now) }
+{
+    text.extend_from_slice(words.as_bytes())?;
+    Ok(())
+}
+
+/// Adds what to do about a warning of a line with this clean text.
+fn push_hint(
+    alloc: Global,
+    text: &mut Vec<u8>,
+    kind: WarningKind,
+    clean: &[u8],
+) -> Result<(), AllocError>
+    ensures { OnOk result
+        (text.new.items ≡ text.old.items ++ warning_hint kind (line_of 0 clean.now)) }
+{
+    match kind {
+        WarningKind::Misused(misuse) => push_hint_of_misuse(text, misuse, clean),
+        WarningKind::Unread => push_unread_hint(text, clean),
+        WarningKind::Unpaired => push_unpaired_hint(text, clean),
+        WarningKind::Unmatched(judgement) => push_judgement_hint(alloc, text, judgement, clean),
+        _ => push_words(text, hint_of(kind)),
     }
 }
 
 /// Adds the line of what to do about a warning of a line with this clean text.
-fn push_hint(
+fn push_hint_line(
     alloc: Global,
     text: &mut Vec<u8>,
     kind: WarningKind,
@@ -80,11 +114,10 @@ fn push_hint(
     ensures { OnOk result (text.new.items
         ≡ text.old.items ++ hint_line (warning_hint kind (line_of 0 clean.now))) }
 {
-    match kind {
-        WarningKind::Misused(misuse) => push_misuse_line(text, misuse, clean),
-        WarningKind::Unmatched(judgement) => push_judgement_line(alloc, text, judgement, clean),
-        _ => push_hint_line(text, hint_of(kind)),
-    }
+    text.extend_from_slice(b"    hint: ")?;
+    push_hint(alloc, text, kind, clean)?;
+    text.push(b'\n')?;
+    Ok(())
 }
 
 /// The place of a warning in its line, in bytes from 0.
@@ -100,7 +133,8 @@ fn warning_place(kind: WarningKind, line: &[u8], clean: &[u8]) -> usize
         WarningKind::CutValue => end_of(b'#', line),
         WarningKind::Replaced(_) => indent_of(line),
         WarningKind::Misused(Misuse::NearName | Misuse::ScanCode) => indent_of(line),
-        WarningKind::Misused(Misuse::UnknownKey | Misuse::UnfitValue) => end_of(b'=', line) + 1,
+        WarningKind::Misused(_) => end_of(b'=', line) + 1,
+        WarningKind::Unread | WarningKind::Unpaired => indent_of(line),
         WarningKind::Unmatched(judgement) => judgement_place(judgement),
     }
 }
@@ -145,7 +179,73 @@ fn push_warning(
         line.text,
         warning_place(kind, line.text, line.clean),
     )?;
-    push_hint(alloc, text, kind, line.clean)
+    push_hint_line(alloc, text, kind, line.clean)
+}
+
+/// What is printed of a warning, without its line.
+fn words_of(alloc: Global, kind: WarningKind) -> Result<Vec<u8>, AllocError>
+    ensures { IfOk result (λ words. words.items ≡ warning_text kind) }
+{
+    let mut words = Vec::new(alloc);
+    words.extend_from_slice(text_of(kind).as_bytes())?;
+    push_number(&mut words, kind)?;
+    Ok(words)
+}
+
+/// Adds the line of JSON of a warning.
+fn push_warning_json(
+    alloc: Global,
+    text: &mut Vec<u8>,
+    path: &[u8],
+    line: &Read<'_>,
+    kind: WarningKind,
+) -> Result<(), AllocError>
+    requires { IsRead line.now }
+    ensures { OnOk result (text.new.items
+        ≡ text.old.items ++ warning_json_line path.now (read_line line.now) kind) }
+{
+    let words = words_of(alloc, kind)?;
+    let mut hint = Vec::new(alloc);
+    push_hint(alloc, &mut hint, kind, line.clean)?;
+    let found = Finding {
+        path,
+        line: line.number,
+        place: warning_place(kind, line.text, line.clean),
+        kind: warning_name(kind),
+        text: &words,
+        hint: &hint,
+    };
+    text.extend_from_slice(&finding_line(alloc, &found)?)?;
+    Ok(())
+}
+
+/// Adds what is printed of a warning: a line of JSON, or its report.
+fn push_told(
+    alloc: Global,
+    json: bool,
+    text: &mut Vec<u8>,
+    path: &[u8],
+    line: &Read<'_>,
+    kind: WarningKind,
+) -> Result<(), AllocError>
+    requires { IsRead line.now }
+    ensures { OnOk result (text.new.items
+        ≡ text.old.items ++ told_warning json path.now (read_line line.now) kind) }
+{
+    if json {
+        push_warning_json(alloc, text, path, line, kind)
+    } else {
+        push_warning(alloc, text, path, line, kind)
+    }
+}
+
+/// Whether a line gets a warning that is told.
+fn gets(allowed: &[String], line: &Read<'_>, kind: WarningKind) -> bool
+    requires { IsRead line.now }
+    ensures { result ≡ gets (map string_bytes allowed.now) line.now.bytes.now
+        (read_line line.now) (clean_of line.now) kind }
+{
+    is_told(allowed, kind) && is_warned(kind, line)
 }
 
 /// What was found in the lines so far.
@@ -158,57 +258,60 @@ pub struct Warned {
 }
 
 impl Warned {
-    /// Adds a warning, if the line gets it.
+    /// Adds a warning, if the line gets it and it is told.
     fn put_if(
         &mut self,
         alloc: Global,
+        telling: &Telling<'_>,
         path: &[u8],
         line: &Read<'_>,
         kind: WarningKind,
     ) -> Result<(), AllocError>
         requires { IsRead line.now }
         ensures text { OnOk result (self.new.text.items ≡ self.old.text.items
-            ++ flat_map (warning_report path.now (read_line line.now))
-            (warned line.now.bytes.now kind (read_line line.now) (clean_of line.now))) }
-        ensures found { OnOk result
-            (self.new.found.items ≡ self.old.found.items
-            ++ warned line.now.bytes.now kind (read_line line.now) (clean_of line.now)) }
+            ++ flat_map (told_warning telling.now.json path.now (read_line line.now))
+            (filter (gets (map string_bytes telling.now.allowed.now) line.now.bytes.now
+            (read_line line.now) (clean_of line.now)) (kind ∷ []))) }
+        ensures found { OnOk result (self.new.found.items ≡ self.old.found.items
+            ++ filter (gets (map string_bytes telling.now.allowed.now) line.now.bytes.now
+            (read_line line.now) (clean_of line.now)) (kind ∷ [])) }
     {
-        if is_warned(kind, line) {
-            push_warning(alloc, &mut self.text, path, line, kind)?;
+        if gets(telling.allowed, line, kind) {
+            push_told(alloc, telling.json, &mut self.text, path, line, kind)?;
             self.found.push(kind)?;
         }
         Ok(())
     }
 
     /// Adds the warnings of a line with its clean text.
-    fn put_all(&mut self, alloc: Global, path: &[u8], line: &Read<'_>) -> Result<(), AllocError>
+    fn put_all(
+        &mut self,
+        alloc: Global,
+        telling: &Telling<'_>,
+        path: &[u8],
+        line: &Read<'_>,
+    ) -> Result<(), AllocError>
         requires { IsRead line.now }
         ensures text { OnOk result (self.new.text.items ≡ self.old.text.items
-            ++ flat_map (warning_report path.now (read_line line.now))
-            (all_warnings line.now.bytes.now (read_line line.now) (clean_of line.now))) }
-        ensures found { OnOk result
-            (self.new.found.items ≡ self.old.found.items
-            ++ all_warnings line.now.bytes.now (read_line line.now) (clean_of line.now)) }
+            ++ flat_map (told_warning telling.now.json path.now (read_line line.now))
+            (all_warnings (map string_bytes telling.now.allowed.now) line.now.bytes.now
+            (read_line line.now) (clean_of line.now))) }
+        ensures found { OnOk result (self.new.found.items ≡ self.old.found.items
+            ++ all_warnings (map string_bytes telling.now.allowed.now) line.now.bytes.now
+            (read_line line.now) (clean_of line.now)) }
     {
-        self.put_if(alloc, path, line, WarningKind::ByteOrderMark)?;
-        self.put_if(alloc, path, line, WarningKind::LeadingTab)?;
-        self.put_if(alloc, path, line, WarningKind::CarriageReturn)?;
-        self.put_if(alloc, path, line, WarningKind::OpenBracket)?;
-        self.put_if(alloc, path, line, WarningKind::EmptyRange)?;
-        self.put_if(alloc, path, line, WarningKind::SpacedEquals)?;
-        self.put_if(alloc, path, line, WarningKind::CutValue)?;
-        self.put_if(alloc, path, line, WarningKind::RepeatedMatch)?;
-        self.put_if(alloc, path, line, WarningKind::Replaced(line.replaced_by))?;
-        let misuse = line.misuse.unwrap_or(Misuse::NearName);
-        self.put_if(alloc, path, line, WarningKind::Misused(misuse))?;
-        self.put_if(alloc, path, line, WarningKind::Unmatched(line.judgement))
+        let kinds = kinds_of(line);
+        for kind in &kinds {
+            self.put_if(alloc, telling, path, line, *kind)?;
+        }
+        Ok(())
     }
 
     /// Adds the warnings of a line of a file with its clean text.
     fn put_kept(
         &mut self,
         alloc: Global,
+        telling: &Telling<'_>,
         path: &[u8],
         known: &Known<'_>,
         number: u64,
@@ -218,12 +321,12 @@ impl Warned {
         requires known { IsKnown known.now }
         requires clean { clean.now ≡ (clean_line (line_of number text.now)).text }
         ensures text { OnOk result (self.new.text.items ≡ self.old.text.items
-            ++ flat_map (warning_report path.now (line_of number text.now))
-            (all_warnings known.now.bytes.now (line_of number text.now)
-            (clean_line (line_of number text.now)))) }
+            ++ flat_map (told_warning telling.now.json path.now (line_of number text.now))
+            (all_warnings (map string_bytes telling.now.allowed.now) known.now.bytes.now
+            (line_of number text.now) (clean_line (line_of number text.now)))) }
         ensures found { OnOk result (self.new.found.items ≡ self.old.found.items
-            ++ all_warnings known.now.bytes.now (line_of number text.now)
-            (clean_line (line_of number text.now))) }
+            ++ all_warnings (map string_bytes telling.now.allowed.now) known.now.bytes.now
+            (line_of number text.now) (clean_line (line_of number text.now))) }
     {
         let line = Read {
             bytes: known.bytes,
@@ -233,9 +336,11 @@ impl Warned {
             repeated: known.repeated.contains(&number),
             replaced_by: known.replaced.get(&number).copied().unwrap_or(0),
             misuse: misuse_in(clean),
+            unread: known.unread.has(number),
+            unpaired: known.unpaired.contains(&number),
             judgement: judgement_of(alloc, clean)?,
         };
-        self.put_all(alloc, path, &line)
+        self.put_all(alloc, telling, path, &line)
     }
 
     /// Adds the warnings of a line of a file.
@@ -243,6 +348,7 @@ impl Warned {
     fn put_line(
         &mut self,
         alloc: Global,
+        telling: &Telling<'_>,
         path: &[u8],
         known: &Known<'_>,
         number: u64,
@@ -250,31 +356,36 @@ impl Warned {
     ) -> Result<(), AllocError>
         requires { IsKnown known.now }
         ensures text { OnOk result (self.new.text.items ≡ self.old.text.items
-            ++ line_text path.now known.now.bytes.now (line_of number text.now)) }
+            ++ line_text telling.now.json (map string_bytes telling.now.allowed.now) path.now
+            known.now.bytes.now (line_of number text.now)) }
         ensures found { OnOk result (self.new.found.items ≡ self.old.found.items
-            ++ line_warnings known.now.bytes.now (line_of number text.now)) }
+            ++ line_warnings (map string_bytes telling.now.allowed.now) known.now.bytes.now
+            (line_of number text.now)) }
     {
         match content_of(text) {
             Content::Comment => Ok(()),
             Content::ZeroByte => Ok(()),
-            Content::Empty => self.put_kept(alloc, path, known, number, text, &[]),
+            Content::Empty => self.put_kept(alloc, telling, path, known, number, text, &[]),
             Content::Property(clean) | Content::Match(clean) => {
-                self.put_kept(alloc, path, known, number, text, clean)
+                self.put_kept(alloc, telling, path, known, number, text, clean)
             }
         }
     }
 }
 
-/// The warnings of a file with these assignments, and their reports, by line.
+/// The warnings of a file with these assignments that are told, and what is printed of them, by line.
 pub fn warnings_of(
     alloc: Global,
+    telling: &Telling<'_>,
     path: &[u8],
     bytes: &[u8],
     assignments: &[Given<'_>],
 ) -> Result<Warned, AllocError>
     requires { map (given_in own) assignments.now ≡ Records.assignments own bytes.now }
-    ensures text { IfOk result (λ w. w.text.items ≡ warnings_text path.now bytes.now) }
-    ensures found { IfOk result (λ w. w.found.items ≡ warnings bytes.now) }
+    ensures text { IfOk result (λ w. w.text.items
+        ≡ warnings_text telling.now.json (map string_bytes telling.now.allowed.now) path.now bytes.now) }
+    ensures found { IfOk result (λ w. w.found.items
+        ≡ warnings (map string_bytes telling.now.allowed.now) bytes.now) }
 {
     let known = known_of(alloc, bytes, assignments)?;
     let mut warned = Warned {
@@ -286,7 +397,7 @@ pub fn warnings_of(
     while at < bytes.len() {
         let rest = &bytes[at..];
         let end = end_of(b'\n', rest);
-        warned.put_line(alloc, path, &known, number, &rest[..end])?;
+        warned.put_line(alloc, telling, path, &known, number, &rest[..end])?;
         number += 1;
         at = at + end + 1;
     }

@@ -5,7 +5,7 @@ use Rattle.hwdb_spec.specs.Lines.{numbered, pieces, trimmed}
 use Rattle.hwdb_spec.specs.Patterns.{bracket_at, byte_then, classes, item_at, items_from, matches, piece_then, some_ending, token_at, tokens_from}
 use Rattle.hwdb_spec.specs.Tree.{some_up_to}
 use Rattle.hwdb_spec.specs.Near.{first_up_to, last_up_to}
-use Rattle.hwdb_near.specs.Rows.{FileRows, MarkRows, MatchingRows, NearestRows, RatedRows, StopRows, WordRows}
+use Rattle.hwdb_near.specs.Rows.{FileRows, GatheredRows, HeadRows, MarkRows, MatchingRows, NearestRows, PlaceRows, RatedRows, StopRows, WordRows}
 
 pub stop_rows : StopRows
 unfolding tokens_from token_at bracket_at items_from item_at classes some_ending byte_then piece_then matches some_up_to last_up_to first_up_to
@@ -33,3 +33,14 @@ word_rows = refl
 pub file_rows : FileRows
 unfolding numbered pieces trimmed
 file_rows = refl
+
+pub head_rows : HeadRows
+unfolding tokens_from token_at bracket_at items_from item_at classes some_ending byte_then piece_then matches some_up_to last_up_to first_up_to
+head_rows = refl
+
+pub gathered_rows : GatheredRows
+gathered_rows = refl
+
+pub place_rows : PlaceRows
+unfolding numbered pieces trimmed
+place_rows = refl

@@ -1,8 +1,7 @@
-pub mod RunLemmas
-pub mod StopLemmas
-pub mod ListedLemmas
 pub mod ComputedLemmas
+pub mod OrderedLemmas
 pub mod NearestLemmas
+pub mod GatheredLemmas
 pub mod LineLemmas
 pub mod JsonLemmas
 pub mod ReportLemmas

@@ -1,6 +1,8 @@
 -- Worked rows of where patterns stop, and of which are the nearest: what the definitions give when they are computed.
 use Rattle.std.specs.Prelude.{List, [], ℕ, codes, drop, map, ◌∷◌, ◌≡◌}
 use Rattle.hwdb_spec.specs.Patterns.{tokens}
+use Rattle.hwdb_spec.specs.Assignment.{Assignment}
+use Rattle.hwdb_spec.specs.NearAsked.{gathered, pattern_of, patterns_from}
 use Rattle.hwdb_spec.specs.Near.{Front, PatternAt, marked, matching, nearest, pattern_place, patterns_in, rated, stop_of, why_text}
 
 -- a pattern at a line of a file `f`
@@ -41,21 +43,47 @@ NearestRows =
 abbrev pub MatchingRows : Type 0
 MatchingRows = map (λ at. at.line) (matching (codes "ab") some_patterns) ≡ 2 ∷ []
 
--- why a pattern stops at the device `k:a_`, in words
-abbrev pub why : List ℕ → List ℕ
-why pattern =
-    let f = stop_of (tokens pattern) (codes "k:a_") in
-    why_text (codes "k:a_") f.bytes (drop (pattern_place pattern f) pattern) (drop f.bytes (codes "k:a_"))
+-- why a pattern stops at a device, in words
+abbrev pub why : List ℕ → List ℕ → List ℕ
+why device pattern =
+    let f = stop_of (tokens pattern) device in
+    why_text pattern device f.bytes (drop (pattern_place pattern f) pattern) (drop f.bytes device)
 
 abbrev pub WordRows : Type 0
 WordRows =
-    map why (codes "k:a" ∷ codes "j:a_" ∷ codes "k:a b" ∷ codes "k:a_b" ∷ codes "k:[bc]*" ∷ [])
+    map (why (codes "k:a_")) (codes "k:a" ∷ codes "j:a_" ∷ codes "k:a b" ∷ codes "k:a(b" ∷ codes "k:a_b" ∷ codes "k:[bc]*" ∷ codes "k:A*" ∷ codes "k:ab" ∷ [])
     ≡ codes "the pattern ends here, the device goes on: put `*` after it"
-    ∷ codes "the device begins with `k:`"
-    ∷ codes "a space, which udev makes `_`"
-    ∷ codes "the device ends here, the pattern goes on"
+    ∷ codes "the device begins with `k:`: begin the pattern with that"
+    ∷ codes "udev makes `_` of ` `: write `_` in the pattern"
+    ∷ codes "udev makes `_` of `(`: write `_` in the pattern"
+    ∷ codes "the device ends here, the pattern goes on: end the pattern here"
     ∷ codes "the device has `a`, the pattern `[bc]`"
+    ∷ codes "the device has `a`, the pattern `A`: the case of letters counts"
+    ∷ codes "the device has `_`, the pattern `b`"
     ∷ []
+
+-- and at devices without a colon
+abbrev pub HeadRows : Type 0
+HeadRows =
+    map (why (codes "ab")) (codes "k:ab*" ∷ codes "b*" ∷ [])
+    ≡ codes "the device has no prefix: put `k:` before it" ∷ codes "the device has `a`, the pattern `b`" ∷ []
+
+-- the patterns of a database whose assignments are these, by file and line: each once, at the first of its places
+abbrev pub assigned : ℕ → ℕ → List ℕ → List ℕ → Assignment
+assigned priority line pattern key = record { position = record { priority = priority; line = line; pattern = pattern; key = key }; value = []; path = codes "f" }
+
+abbrev pub GatheredRows : Type 0
+GatheredRows =
+    map {B = List ℕ × (ℕ × ℕ)} (λ (at : PatternAt). (at.pattern, (at.file, at.line)))
+    (gathered (map pattern_of (assigned 2 3 (codes "a") (codes "x") ∷ assigned 1 9 (codes "a") (codes "y") ∷ assigned 1 8 (codes "a") (codes "z") ∷ assigned 4 1 (codes "b") (codes "x") ∷ [])))
+    ≡ (codes "a", (1, 8)) ∷ (codes "b", (4, 1)) ∷ []
+
+-- the patterns of two files, the place of each file its number
+abbrev pub PlaceRows : Type 0
+PlaceRows =
+    map {B = List ℕ × (ℕ × ℕ)} (λ (at : PatternAt). (at.path, (at.file, at.line)))
+    (patterns_from 1 (record { name = codes "f"; bytes = codes "a\n b=1\nb\n" } ∷ record { name = codes "g"; bytes = codes "c" } ∷ []))
+    ≡ (codes "f", (1, 1)) ∷ (codes "f", (1, 3)) ∷ (codes "g", (2, 1)) ∷ []
 
 -- a pattern, and the mark below its last byte
 abbrev pub MarkRows : Type 0

@@ -1,7 +1,9 @@
 -- What the types of this crate mean.
+use Rattle.hwdb_spec.specs.Folders.{Source}
 use Rattle.hwdb_spec.specs.Near.{Front, PatternAt}
 use Rattle.hwdb_near.specs.declared.fronts.Stop.{Stop}
-use Rattle.hwdb_near.specs.declared.kept.PatternAt.{PatternAt as Found}
+use Rattle.hwdb_near.specs.declared.found.PatternAt.{PatternAt as Found}
+use Rattle.hwdb_near.specs.declared.patterns.TextFile.{TextFile}
 
 -- a stop, in tokens of the pattern and bytes of the device
 abbrev pub front_at : Stop → Front
@@ -10,3 +12,7 @@ front_at s = record { tokens = s.tokens; bytes = s.device }
 -- a pattern and its place
 abbrev pub pattern_at : Found → PatternAt
 pattern_at p = record { path = p.path.now; file = p.file; line = p.line; pattern = p.pattern.now }
+
+-- a text file
+abbrev pub source_of : TextFile → Source
+source_of f = record { name = f.path.now; bytes = f.bytes.now }

@@ -6,8 +6,8 @@ ghost use Rattle.hwdb_spec.specs.Near.{match_json_line, near_json_line, place_js
 ghost use Rattle.hwdb_near.specs.Views.{pattern_at};
 ghost use Rattle.hwdb_near.specs.Internal.Ratings.{rated_of};
 
+use crate::found::{PatternAt, Rated};
 use crate::fronts::stops;
-use crate::kept::{PatternAt, Rated};
 use hwdb_show::{ended, put_count, put_flag, put_member};
 use json::Writer;
 use std::alloc::{AllocError, Global};

@@ -1,6 +1,6 @@
 //! Laws over the definitions alone. Each function does nothing: its contract is the law.
 ghost use Rattle.hwdb_near.specs.Laws.{StopsAreComputed};
-ghost use Rattle.hwdb_near.specs.Rows.{FileRows, MarkRows, MatchingRows, NearestRows, RatedRows, StopRows, WordRows};
+ghost use Rattle.hwdb_near.specs.Rows.{FileRows, GatheredRows, HeadRows, MarkRows, MatchingRows, NearestRows, PlaceRows, RatedRows, StopRows, WordRows};
 
 use hwdb_pattern::matches_is_tested;
 
@@ -20,5 +20,8 @@ pub fn worked_rows()
     ensures matching { MatchingRows }
     ensures marks { MarkRows }
     ensures words { WordRows }
+    ensures heads { HeadRows }
     ensures files { FileRows }
+    ensures places { PlaceRows }
+    ensures gathered { GatheredRows }
 {}

@@ -2,37 +2,45 @@
 //!
 //! A pattern stops after the longest front of its tokens that matches a front of the device ([`stops`]). The nearest
 //! patterns are those of which the fewest literals are missing: neither that front nor the longest back of the rest
-//! matches them, with letters' case folded. All patterns are gone through once, and the nearest so far are kept.
+//! matches them, with letters' case folded. All patterns are gone through once, and then sorted.
 //!
 //! | Module | What it does |
 //! |---|---|
-//! | `runs` | runs of tokens along a device, from star to star |
-//! | `fronts` | where tokens, and a pattern, stop |
+//! | `fronts` | where a pattern stops |
 //! | `matching` | whether a pattern matches |
 //! | `rating` | how near a pattern is |
-//! | `kept` | the nearest so far |
+//! | `found` | patterns at their places, and the nearest of them |
 //! | `nearest` | those of some patterns that match, and the nearest that don't |
-//! | `patterns` | the patterns of a text file |
+//! | `patterns` | the patterns of text files |
+//! | `databases` | the patterns of a database |
+//! | `reasons` | why a pattern stops, in words |
 //! | `reports` | what is printed of patterns as text |
 //! | `json_lines` | what is printed of patterns as lines of JSON |
-//! | `printing` | what `near` prints |
+//! | `printing` | what `near` prints of some patterns |
+//! | `asked` | what it prints of text files, and of a database |
+//! | `errors` | why a database isn't one |
 //! | `laws` | what is proved of the definitions alone |
 #![tactic(auto)]
 
+mod asked;
+mod databases;
+mod errors;
+mod found;
 mod fronts;
 mod json_lines;
-mod kept;
 mod laws;
 mod matching;
 mod nearest;
 mod patterns;
 mod printing;
 mod rating;
+mod reasons;
 mod reports;
-mod runs;
 
+pub use asked::{near_in_database, near_in_files};
+pub use errors::NearError;
+pub use found::PatternAt;
 pub use fronts::{Stop, stops};
-pub use kept::PatternAt;
 pub use laws::{stops_are_computed, worked_rows};
 pub use patterns::{TextFile, push_patterns};
 pub use printing::{near_json, near_text};

@@ -1,12 +1,11 @@
 //! Those of some patterns that match a device, and the nearest of those that don't.
-ghost use Rattle.std.specs.Prelude.{◌≡◌, ◌≤◌, ◌++◌, ◌∷◌, [], length, map, reverse, take, IfOk, OnOk};
-ghost use Rattle.hwdb_spec.specs.Assignment.{put_all};
+ghost use Rattle.std.specs.Prelude.{◌≡◌, ◌++◌, ◌∷◌, [], map, reverse, IfOk, OnOk};
 ghost use Rattle.hwdb_spec.specs.Near;
-ghost use Rattle.hwdb_spec.specs.Near.{matching, near_cmp, nearest};
+ghost use Rattle.hwdb_spec.specs.Near.{matching, nearest};
 ghost use Rattle.hwdb_near.specs.Views.{pattern_at};
 ghost use Rattle.hwdb_near.specs.Internal.Ratings.{misses, rated_of};
 
-use crate::kept::{PatternAt, Rated, keep};
+use crate::found::{PatternAt, Rated, nearest_first};
 use crate::matching::hits;
 use crate::rating::{fold_case, rate};
 use std::alloc::{AllocError, Global};
@@ -27,7 +26,7 @@ struct Device<'d> {
 pub(crate) struct Found<'a> {
     /// The patterns that match.
     pub(crate) matching: Vec<PatternAt<'a>>,
-    /// The nearest that don't.
+    /// Those that don't.
     pub(crate) nearest: Vec<Rated<'a>>,
 }
 
@@ -38,44 +37,41 @@ impl<'a> Found<'a> {
         alloc: Global,
         at: PatternAt<'a>,
         device: Device<'_>,
-        limit: usize,
     ) -> Result<(), AllocError>
         requires folded { device.folded.now ≡ Near.folded device.text.now }
         requires reversed { device.reversed.now ≡ reverse device.folded.now }
-        requires within { length self.old.nearest.items ≤ limit }
         ensures matching { OnOk result (map pattern_at self.new.matching.items
             ≡ map pattern_at self.old.matching.items
             ++ matching device.entry.text.now (pattern_at at.entry ∷ [])) }
         ensures nearest { OnOk result (map rated_of self.new.nearest.items
-            ≡ take limit (put_all near_cmp (misses device.entry.text.now (pattern_at at.entry ∷ []))
-            (map rated_of self.old.nearest.items))) }
-        ensures within { length self.new.nearest.items ≤ limit }
+            ≡ map rated_of self.old.nearest.items
+            ++ misses device.entry.text.now (pattern_at at.entry ∷ [])) }
     {
-        if hits(at.pattern, device.text) {
+        let is_hit = hits(alloc, at.pattern, device.text)?;
+        if is_hit {
             self.matching.push(at)?;
             return Ok(());
         }
         let near = rate(alloc, at.pattern, device.folded, device.reversed)?;
-        let rated = Rated {
+        self.nearest.push(Rated {
             missing: near.missing,
             front: near.front,
             at,
-        };
-        keep(&mut self.nearest, limit, rated)
+        })?;
+        Ok(())
     }
 }
 
-/// Those of the patterns that match the device, and at most so many of those that don't: the nearest.
-pub(crate) fn nearest_of<'a>(
+/// Those of the patterns that match the device, and each that doesn't with how near it is.
+fn all_found<'a>(
     alloc: Global,
     patterns: &[PatternAt<'a>],
     device: &[u8],
-    limit: usize,
 ) -> Result<Found<'a>, AllocError>
     ensures matching { IfOk result (λ f. map pattern_at f.matching.items
         ≡ matching device.now (map pattern_at patterns.now)) }
     ensures nearest { IfOk result (λ f. map rated_of f.nearest.items
-        ≡ nearest device.now limit (map pattern_at patterns.now)) }
+        ≡ misses device.now (map pattern_at patterns.now)) }
 {
     let folded = fold_case(alloc, device)?;
     let mut reversed = fold_case(alloc, device)?;
@@ -90,7 +86,26 @@ pub(crate) fn nearest_of<'a>(
         nearest: Vec::new(alloc),
     };
     for at in patterns {
-        found.put(alloc, *at, device, limit)?;
+        found.put(alloc, *at, device)?;
     }
     Ok(found)
+}
+
+/// Those of the patterns that match the device, and at most so many of those that don't: the nearest.
+pub(crate) fn nearest_of<'a>(
+    alloc: Global,
+    patterns: &[PatternAt<'a>],
+    device: &[u8],
+    limit: usize,
+) -> Result<Found<'a>, AllocError>
+    ensures matching { IfOk result (λ f. map pattern_at f.matching.items
+        ≡ matching device.now (map pattern_at patterns.now)) }
+    ensures nearest { IfOk result (λ f. map rated_of f.nearest.items
+        ≡ nearest device.now limit (map pattern_at patterns.now)) }
+{
+    let Found { matching, nearest } = all_found(alloc, patterns, device)?;
+    Ok(Found {
+        matching,
+        nearest: nearest_first(nearest, limit),
+    })
 }

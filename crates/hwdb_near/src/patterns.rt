@@ -1,20 +1,19 @@
-//! The patterns of a text file.
-ghost use Rattle.std.specs.Prelude.{◌≡◌, ◌++◌, map, OnOk};
+//! The patterns of text files.
+ghost use Rattle.std.specs.Prelude.{◌≡◌, ◌++◌, ◌+◌, ◌<◌, ◌^◌, length, map, IfOk, OnOk};
 ghost use Rattle.hwdb_spec.specs.Near.{patterns_in, patterns_of_line};
-ghost use Rattle.hwdb_near.specs.Views.{pattern_at};
+ghost use Rattle.hwdb_spec.specs.NearAsked.{patterns_from};
+ghost use Rattle.hwdb_near.specs.Views.{pattern_at, source_of};
 ghost use Rattle.hwdb_near.specs.Internal.Lines.{line_of};
 
-use crate::kept::PatternAt;
+use crate::found::PatternAt;
 use hwdb_text::{Content, LONGEST_MATCH, content_of, end_of};
-use std::alloc::AllocError;
+use std::alloc::{AllocError, Global};
 
 /// A text file, whose patterns are wanted.
 #[derive(Clone, Copy)]
 pub struct TextFile<'a> {
     /// Its path.
     pub path: &'a [u8],
-    /// Its place among others.
-    pub file: u32,
     /// What it holds.
     pub bytes: &'a [u8],
 }
@@ -23,12 +22,13 @@ pub struct TextFile<'a> {
 /// `AllocError`.
 fn push_line<'a>(
     patterns: &mut Vec<PatternAt<'a>>,
-    file: TextFile<'a>,
+    path: &'a [u8],
+    file: usize,
     line: u64,
     text: &'a [u8],
 ) -> Result<(), AllocError>
     ensures { OnOk result (map pattern_at patterns.new.items ≡ map pattern_at patterns.old.items
-        ++ patterns_of_line file.entry.path.now file.entry.file (line_of line text.now)) }
+        ++ patterns_of_line path.now file (line_of line text.now)) }
 {
     match content_of(text) {
         Content::Match(pattern) => {
@@ -36,8 +36,8 @@ fn push_line<'a>(
                 return Ok(());
             }
             patterns.push(PatternAt {
-                path: file.path,
-                file: file.file,
+                path,
+                file,
                 line,
                 pattern,
             })?;
@@ -50,13 +50,14 @@ fn push_line<'a>(
     }
 }
 
-/// Adds the match lines of a text file, by line.
+/// Adds the match lines of a text file, by line. `place` is its place among others.
 pub fn push_patterns<'a>(
     patterns: &mut Vec<PatternAt<'a>>,
+    place: usize,
     file: TextFile<'a>,
 ) -> Result<(), AllocError>
     ensures { OnOk result (map pattern_at patterns.new.items ≡ map pattern_at patterns.old.items
-        ++ patterns_in file.entry.path.now file.entry.file file.entry.bytes.now) }
+        ++ patterns_in file.entry.path.now place file.entry.bytes.now) }
 {
     let bytes = file.bytes;
     let mut line = 1;
@@ -64,9 +65,26 @@ pub fn push_patterns<'a>(
     while at < bytes.len() {
         let rest = &bytes[at..];
         let end = end_of(b'\n', rest);
-        push_line(patterns, file, line, &rest[..end])?;
+        push_line(patterns, file.path, place, line, &rest[..end])?;
         line += 1;
         at = at + end + 1;
     }
     Ok(())
+}
+
+/// The match lines of some text files.
+pub(crate) fn patterns_of_files<'a>(
+    alloc: Global,
+    files: &[TextFile<'a>],
+) -> Result<Vec<PatternAt<'a>>, AllocError>
+    ensures { IfOk result (λ patterns. map pattern_at patterns.items
+        ≡ patterns_from 1 (map source_of files.now)) }
+{
+    let mut patterns = Vec::new(alloc);
+    let mut place = 1;
+    for file in files {
+        push_patterns(&mut patterns, place, *file)?;
+        place += 1;
+    }
+    Ok(patterns)
 }

@@ -3,15 +3,15 @@ ghost use Rattle.std.specs.Prelude.{◌≡◌, map, IfOk};
 ghost use Rattle.hwdb_spec.specs.Near;
 ghost use Rattle.hwdb_near.specs.Views.{pattern_at};
 
-use crate::kept::PatternAt;
+use crate::found::PatternAt;
 use crate::nearest::nearest_of;
 use crate::{json_lines, reports};
 use std::alloc::{AllocError, Global};
 
 /// The reports of the patterns that match the device, and of at most so many of those that don't: the nearest.
 ///
-/// The only error is `AllocError`. Each pattern is compared with the device once, and the nearest so far are kept. The
-/// memory is theirs, the text, and for one pattern at a time a place for each of its bytes.
+/// The only error is `AllocError`. Each pattern is compared with the device once, and those that don't match are sorted.
+/// The memory is a record for each pattern, the text, and for one pattern at a time a place for each of its bytes.
 pub fn near_text(
     alloc: Global,
     patterns: &[PatternAt<'_>],

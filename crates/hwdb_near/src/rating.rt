@@ -3,14 +3,14 @@ ghost use Rattle.std.specs.Prelude.{◌≡◌, ◌≤◌, length, map, reverse, 
 ghost use Rattle.hwdb_spec.specs.Near;
 ghost use Rattle.hwdb_spec.specs.Near.{front_tokens, missing};
 ghost use Rattle.hwdb_spec.specs.Patterns.{tokens};
-ghost use Rattle.hwdb_near.specs.Internal.Listed.{token_of};
+ghost use Rattle.hwdb_pattern.specs.Fronts.{token_of};
 
-use crate::fronts::longest_front;
-use hwdb_pattern::{begins_star, token_texts};
+use crate::laws::stops_are_computed;
+use hwdb_pattern::{begins_star, longest_front, token_texts};
 use std::alloc::{AllocError, Global};
 
 /// A letter in lower case; any other byte as it is.
-fn lower(byte: u8) -> u8
+pub(crate) fn lower(byte: u8) -> u8
     ensures { result ≡ Near.lower byte }
 {
     if matches!(byte, b'A'..=b'Z') {
@@ -54,19 +54,27 @@ pub(crate) struct Nearness {
 }
 
 /// How near some tokens are to a device. They are turned in between.
-fn rate_tokens(tokens: &mut [&[u8]], device: &[u8], reversed: &[u8]) -> Nearness
+fn rate_tokens(
+    alloc: Global,
+    tokens: &mut [&[u8]],
+    device: &[u8],
+    reversed: &[u8],
+) -> Result<Nearness, AllocError>
     requires { reversed.now ≡ reverse device.now }
-    ensures missing { result.missing ≡ missing (map token_of tokens.old) device.now }
-    ensures front { result.front ≡ front_tokens (map token_of tokens.old) device.now }
+    ensures missing { IfOk result
+        (λ n. n.missing ≡ missing (map token_of tokens.old) device.now) }
+    ensures front { IfOk result
+        (λ n. n.front ≡ front_tokens (map token_of tokens.old) device.now) }
 {
-    let front = longest_front(tokens, device).tokens;
+    stops_are_computed();
+    let front = longest_front(alloc, tokens, device)?;
     tokens.reverse();
-    let rest = &tokens[..tokens.len() - front];
-    let back = longest_front(rest, reversed).tokens;
-    Nearness {
-        missing: literals(&rest[back..]),
-        front,
-    }
+    let rest = &tokens[..tokens.len() - front.tokens];
+    let back = longest_front(alloc, rest, reversed)?;
+    Ok(Nearness {
+        missing: literals(&rest[back.tokens..]),
+        front: front.tokens,
+    })
 }
 
 /// How near a pattern is to a device. `device` is its text in lower case, and `reversed` that from the right.
@@ -84,5 +92,5 @@ pub(crate) fn rate(
 {
     let text = fold_case(alloc, pattern)?;
     let mut list = token_texts(alloc, &text)?;
-    Ok(rate_tokens(&mut list, device, reversed))
+    rate_tokens(alloc, &mut list, device, reversed)
 }

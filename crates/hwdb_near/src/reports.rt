@@ -1,120 +1,15 @@
 //! What is printed of patterns as text.
-ghost use Rattle.std.specs.Prelude.{◌≡◌, ◌++◌, codes, drop, flat_map, map, take, OnOk};
-ghost use Rattle.hwdb_spec.specs.Lines;
-ghost use Rattle.hwdb_spec.specs.Near;
-ghost use Rattle.hwdb_spec.specs.Near.{marked, match_report, near_report, quoted, said_line, why_text};
+ghost use Rattle.std.specs.Prelude.{◌≡◌, ◌++◌, flat_map, map, OnOk};
+ghost use Rattle.hwdb_spec.specs.Near.{marked, match_report, near_report, said_line};
 ghost use Rattle.hwdb_near.specs.Views.{pattern_at};
 ghost use Rattle.hwdb_near.specs.Internal.Ratings.{rated_of};
 
+use crate::found::{PatternAt, Rated};
 use crate::fronts::stops;
-use crate::kept::{PatternAt, Rated};
-use hwdb_pattern::front_size;
-use hwdb_show::{push_mark_line, push_shown, push_shown_line};
-use hwdb_text::end_of;
+use crate::reasons::{after, push_why};
+use hwdb_show::{push_mark_line, push_shown_line};
 use itoa::Buffer;
 use std::alloc::{AllocError, Global};
-
-/// The text after so many bytes of it.
-pub(crate) fn after(text: &[u8], n: usize) -> &[u8]
-    ensures { result.now ≡ drop n text.now }
-{
-    if n < text.len() { &text[n..] } else { &[] }
-}
-
-/// At most so many first bytes of a text.
-fn first(text: &[u8], n: usize) -> &[u8]
-    ensures { result.now ≡ take n text.now }
-{
-    if n < text.len() { &text[..n] } else { text }
-}
-
-/// Whether a text is empty.
-fn is_none(text: &[u8]) -> bool
-    ensures { result ≡ Lines.is_none text.now }
-{
-    text.is_empty()
-}
-
-/// The text of the first token of a text.
-fn token_text(text: &[u8]) -> &[u8]
-    ensures { result.now ≡ Near.token_text text.now }
-{
-    first(text, front_size(text, 1))
-}
-
-/// A device's text up to its first colon, with it.
-fn head_of(device: &[u8]) -> &[u8]
-    ensures { result.now ≡ Near.head_of device.now }
-{
-    first(device, end_of(b':', device) + 1)
-}
-
-/// Adds a text, as it is shown, between two backquotes. The only error, here and below, is `AllocError`.
-fn push_quoted(text: &mut Vec<u8>, bytes: &[u8]) -> Result<(), AllocError>
-    ensures { OnOk result (text.new.items ≡ text.old.items ++ quoted bytes.now) }
-{
-    text.push(b'`')?;
-    push_shown(text, bytes)?;
-    text.push(b'`')?;
-    Ok(())
-}
-
-/// Adds that the device has a byte, and the pattern a token.
-fn push_other(text: &mut Vec<u8>, byte: &[u8], token: &[u8]) -> Result<(), AllocError>
-    ensures { OnOk result (text.new.items ≡ text.old.items ++ (codes "the device has "
-        ++ (quoted byte.now ++ (codes ", the pattern " ++ quoted token.now)))) }
-{
-    text.extend_from_slice(b"the device has ")?;
-    push_quoted(text, byte)?;
-    text.extend_from_slice(b", the pattern ")?;
-    push_quoted(text, token)
-}
-
-/// Adds with what the device begins.
-fn push_head(text: &mut Vec<u8>, head: &[u8]) -> Result<(), AllocError>
-    ensures { OnOk result
-        (text.new.items ≡ text.old.items ++ (codes "the device begins with " ++ quoted head.now)) }
-{
-    text.extend_from_slice(b"the device begins with ")?;
-    push_quoted(text, head)
-}
-
-/// Adds words.
-fn push_words(text: &mut Vec<u8>, words: &str) -> Result<(), AllocError>
-    ensures { OnOk result (text.new.items ≡ text.old.items ++ words.now) }
-{
-    text.extend_from_slice(words.as_bytes())?;
-    Ok(())
-}
-
-/// Adds why a pattern stops after so many bytes of a device, by what is left of both.
-fn push_why(
-    text: &mut Vec<u8>,
-    device: &[u8],
-    met: usize,
-    wanted: &[u8],
-    left: &[u8],
-) -> Result<(), AllocError>
-    ensures { OnOk result
-        (text.new.items ≡ text.old.items ++ why_text device.now met wanted.now left.now) }
-{
-    if is_none(left) {
-        return push_words(text, "the device ends here, the pattern goes on");
-    }
-    if is_none(wanted) {
-        return push_words(
-            text,
-            "the pattern ends here, the device goes on: put `*` after it",
-        );
-    }
-    if met <= end_of(b':', device) {
-        return push_head(text, head_of(device));
-    }
-    if hwdb_text::begins_with(b' ', wanted) && hwdb_text::begins_with(b'_', left) {
-        return push_words(text, "a space, which udev makes `_`");
-    }
-    push_other(text, first(left, 1), token_text(wanted))
-}
 
 /// Adds the line of a place: its path and line, `: `, and what is said of its pattern.
 fn push_said_line(text: &mut Vec<u8>, at: &PatternAt<'_>, said: &[u8]) -> Result<(), AllocError>
@@ -163,6 +58,7 @@ fn push_near(
     let mut why = Vec::new(alloc);
     push_why(
         &mut why,
+        pattern,
         device,
         stop.device,
         after(pattern, stop.pattern),

@@ -15,3 +15,6 @@ pub mod RangeLemmas
 pub mod OpenLemmas
 pub mod CutLemmas
 pub mod TableLemmas
+pub mod FrontLemmas
+pub mod ListLemmas
+pub mod PlaceLemmas

@@ -174,7 +174,7 @@ lengths_steps ts t device xs ys s st l = record {
         (l.complete (length c.front) (omega arith) (subst (λ (d : List ℕ). Matches ts d) (sym f) c.before))
         (takes_by t device (length c.front) k (subst (λ (x : ℕ). IsTrue (admits_byte t x)) (sym b) a.2)))
 
-steps_stepped : (t : Token) (device xs : List ℕ) → Steps t device xs (stepped t device xs)
+pub steps_stepped : (t : Token) (device xs : List ℕ) → Steps t device xs (stepped t device xs)
 steps_stepped t device xs = record {
   from = λ n h. let f : From t device xs n = stepped_from t device xs n h in (f.before, f.next, f.member, f.taken);
   into = λ m c e. stepped_into t device xs m c e;

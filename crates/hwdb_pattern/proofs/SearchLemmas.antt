@@ -1,10 +1,10 @@
 -- The steps of a search for a match.
-use Rattle.std.proofs.Common.{◌≡◌, nat_eq, nat_lt, eq-eqb, lt-ltb, None, ℕ, zero, suc, ◌+◌, ◌-◌, ◌<◌, ◌≤◌, Bool, not, IsTrue, true, false, List, [], ◌∷◌, ◌++◌, drop, length, get_or, refl, sym, ap, subst, ◌∙◌, inl, inr, arith}
+use Rattle.std.proofs.Common.{◌≡◌, nat_eq, nat_lt, eq-eqb, lt-ltb, None, ℕ, zero, suc, ◌+◌, ◌-◌, ◌<◌, ◌≤◌, Bool, not, IsTrue, true, false, List, [], ◌∷◌, ◌++◌, drop, take, length, get_or, refl, sym, ap, subst, ◌∙◌, inl, inr, arith, eqb-true}
 use Rattle.std.proofs.lemmas.Bool.{cases_eq, cases_lt}
-use Rattle.std.proofs.lemmas.List.{drop-drop, drop_more, length-append, length-drop, drop_all, get_or-drop}
-use Rattle.hwdb_spec.specs.Patterns.{bracket_at, Token, star, token_at, token_size, tokens, admits_byte, Matches}
+use Rattle.std.proofs.lemmas.List.{drop-drop, drop_more, take_more, length-append, length-drop, drop_all, get_or-drop}
+use Rattle.hwdb_spec.specs.Patterns.{bracket_at, Token, star, literal, token_at, token_size, tokens, admits_byte, Matches}
 use Rattle.hwdb_pattern.proofs.LongerPathLemmas.{none_closes}
-use Rattle.hwdb_pattern.specs.Internal.Search.{AreOpen, Reaches, Remains}
+use Rattle.hwdb_pattern.specs.Internal.Search.{AreOpen, ArePlain, Reaches, Remains}
 use Rattle.hwdb_pattern.specs.Internal.Parts.{token_part}
 use Rattle.hwdb_pattern.specs.declared.brackets.Part.{Part}
 use Rattle.hwdb_pattern.proofs.MatchLemmas.{is_star, single, single_admits, single_rest, single_empty, star_nothing, star_more, star_step, star_star, star_absorbs, star_empty}
@@ -262,3 +262,58 @@ pub open_behind : (pattern : List ℕ) (opens : List Bool) (at : ℕ) → AreOpe
 open_behind pattern opens at h k lt e =
     ap bracket_at (drop-drop k at pattern)
     ∙ h (at + k) (omega (arith, length-drop at opens, lt)) (sym (get_or-drop at opens k false) ∙ e)
+
+-- the device begins with the pattern's first bytes, so many of them, and what comes after both matches
+pub record Front (pattern device : List ℕ) (n : ℕ) : Type 0 where
+  pub size : n ≤ length device
+  pub same : take n device ≡ take n pattern
+  pub rest : Matches (tokens (drop n pattern)) (drop n device)
+
+front_step : (pattern device : List ℕ) (n : ℕ) → n < length pattern → token_at (drop n pattern) ≡ literal (get_or pattern n 0) → Front pattern device n → Front pattern device (n + 1)
+front_step pattern device n h e f = elim (cases_lt n (length device)) [
+  | inr past ↦ absurd (single_empty t ts star_not (along _ _ _ _ p (drop_all n device past) f.rest))
+  | inl below ↦
+      let x : ℕ = get_or device n 0 in
+      let d : List ℕ = drop (n + 1) device in
+      let m : Matches (t ∷ ts) (x ∷ d) = along _ _ _ _ p (drop_more device n 0 below) f.rest in
+      let a : IsTrue (admits_byte t x) = single_admits t ts x d star_not m in
+      let own : x ≡ get_or pattern n 0 = eqb-true x (get_or pattern n 0) (subst (λ (u : Token). admits_byte u x ≡ true) e a) in
+      record {
+        size = omega (arith, below);
+        same = take_more device n 0 below ∙ (λ i. f.same i ++ own i ∷ []) ∙ sym (take_more pattern n 0 h);
+        rest = single_rest t ts x d star_not m;
+      }
+]
+  where
+    t : Token
+    t = token_at (drop n pattern)
+
+    ts : List Token
+    ts = tokens (drop (n + 1) pattern)
+
+    star_not : is_star (token_at (drop n pattern)) ≡ false
+    star_not = ap is_star e
+
+    p : tokens (drop n pattern) ≡ token_at (drop n pattern) ∷ tokens (drop (n + 1) pattern)
+    p = token_next pattern n 1 h (ap token_size (sym e))
+
+pub front_of : (pattern device : List ℕ) (n : ℕ) → n ≤ length pattern → ArePlain pattern n → Matches (tokens pattern) device → Front pattern device n
+front_of pattern device zero h plain m = record { size = omega arith; same = refl; rest = m }
+front_of pattern device (suc n) h plain m =
+    let f : Front pattern device n = front_of pattern device n (omega (arith, h)) (λ k below. plain k (omega (arith, below))) m in
+    let g : Front pattern device (n + 1) = front_step pattern device n (omega (arith, h)) (plain n (omega arith)) f in
+    subst (Front pattern device) (omega arith) g
+
+-- plain bytes of a text are those of the pattern from a place on
+pub plain_more : (pattern : List ℕ) (n : ℕ) → ArePlain pattern n → token_at (drop n pattern) ≡ literal (get_or pattern n 0) → ArePlain pattern (n + 1)
+plain_more pattern n plain e k h = elim (cases_lt k n) [
+  | inl below ↦ plain k below
+  | inr past ↦ let same : n ≡ k = omega (arith, h, past) in subst (λ i. token_at (drop i pattern) ≡ literal (get_or pattern i 0)) same e
+]
+
+pub first_at : (pattern : List ℕ) (at : ℕ) → get_or (drop at pattern) 0 0 ≡ get_or pattern at 0
+first_at pattern at = get_or-drop at pattern 0 0 ∙ ap (λ i. get_or pattern i 0) (omega arith)
+
+pub not_true : (b : Bool) → not b ≡ true → b ≡ false
+not_true true e = cc
+not_true false e = refl

@@ -182,6 +182,12 @@ no_steps t device before after none e = record {
   into = λ m h taken. let w : true ≡ false = sym taken ∙ none m h in cc;
 }
 
+pub steps_none : (t : Token) (device before after : List ℕ) → NoneTakes t device before → Steps t device before after → after ≡ []
+steps_none t device before [] none s = refl
+steps_none t device before (n ∷ after) none s =
+    let f = s.from n (contains_here n after) in
+    let w : true ≡ false = sym f.3 ∙ none f.0 f.2 in cc
+
 -- lengths beyond the device
 pub none_beyond : (t : Token) (device : List ℕ) (least : ℕ) (table : List Bool) → length device ≤ least → NoneTakes t device (said least table)
 none_beyond t device least table h n c = go (takes t device n) refl

@@ -4,3 +4,5 @@ pub mod Met
 pub mod Parts
 pub mod Search
 pub mod Tables
+pub mod FirstTokens
+pub mod Places

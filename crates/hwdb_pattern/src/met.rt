@@ -4,20 +4,25 @@
 //! makes the set all lengths from its least one on. Each other token keeps the lengths whose next byte it takes, one
 //! further.
 //!
-//! A set is a table with a truth value for each length from the least one on. A token that isn't a star keeps some of
-//! them in place, and the least length is then one more. So each token takes at most as many steps as the device has
-//! bytes, and one more, and a step is a part of an instruction. The memory is one byte for each length. A bracket is
-//! read at most 256 times a token.
+//! After a star these are all lengths from one on, which takes no memory. A token that isn't a star keeps few of them, in
+//! most devices. So a list holds them, of at most `FEW` lengths (`rests`). If it keeps more, a table has a truth value
+//! for each length from the least one on. A token keeps some of them in place, and the least length is then one more.
+//!
+//! So each token takes at most as many steps as the device has bytes, and one more, and a step is a part of an
+//! instruction. The memory is at most one byte for each length. A bracket is read at most 256 times a token.
 ghost use Rattle.std.specs.Prelude.{ℕ, ◌≡◌, ◌≢◌, ◌<◌, ◌≤◌, ◌+◌, ◌^◌, ◌==◌, ◌↔◌, [], length, slice_index, drop, take, min, All, Contains, true, false, IsTrue, IfOk, IsOk, IsOkAnd, IfSome, IfNone};
 ghost use Rattle.hwdb_spec.specs.Patterns.{tokens, token_at, literal};
 ghost use Rattle.hwdb_pattern.specs.Views.{takes, NoneTakes};
 ghost use Rattle.hwdb_pattern.specs.Internal.Tables.{said};
-ghost use Rattle.hwdb_pattern.specs.Internal.Prefixes.{Between, Spread, Steps, IsAfter, Follows, Within};
+ghost use Rattle.hwdb_pattern.specs.Internal.Places.{rest_lengths};
+ghost use Rattle.hwdb_pattern.specs.Internal.Prefixes.{Spread, Steps, IsAfter, Follows, Within};
 ghost use Rattle.hwdb_pattern.specs.Internal.Met.{lengths_of};
 
 use crate::lengths::run_size;
+use crate::lists::{has, is_next_after, least_of, step, taken};
+use crate::places::{bytes_after, is_next, takes_next};
+use crate::rests::Rest;
 use crate::tables::{first_place, has_admitted, has_byte, has_some, keep};
-use crate::tokens::single_token;
 use std::alloc::{AllocError, Global};
 
 /// Some lengths: those from the least one on at which the table says so.
@@ -31,38 +36,11 @@ pub(crate) struct Table {
 #[derive(Drop)]
 pub(crate) enum Met {
     Lone(usize),
+    /// All of them.
+    Few(Vec<usize>),
+    /// Those after a star.
+    From(Rest),
     Many(Table),
-}
-
-/// Whether the token at the beginning of the text takes the device's byte after `n` bytes.
-fn takes_next(text: &[u8], device: &[u8], n: usize) -> bool
-    requires some { 0 < length text.now }
-    requires no_star { slice_index text.now 0 ≢ 42 }
-    ensures { result ≡ takes (token_at text.now) device.now n }
-{
-    if n < device.len() {
-        single_token(text, device[n], true).admits
-    } else {
-        false
-    }
-}
-
-/// Whether the byte is the device's next one after `n` bytes.
-fn is_next(byte: u8, device: &[u8], n: usize) -> bool
-    ensures { result ≡ takes (literal byte) device.now n }
-{
-    if n < device.len() {
-        device[n] == byte
-    } else {
-        false
-    }
-}
-
-/// The device's bytes after `n`.
-fn bytes_after(device: &[u8], n: usize) -> &[u8]
-    ensures { result.now ≡ drop n device.now }
-{
-    if n < device.len() { &device[n..] } else { &[] }
 }
 
 /// No length.
@@ -76,14 +54,74 @@ fn none(alloc: Global) -> Met
     })
 }
 
-/// All lengths from the least one to the end.
-fn all_from(alloc: Global, least: usize, end: usize) -> Result<Met, AllocError>
-    requires room { end + 1 < 2 ^ 64 }
-    requires within { least ≤ end }
-    ensures { IfOk result (λ met. Between least (end + 1) (lengths_of met)) }
+/// The lengths of the list.
+fn of_list(lengths: Vec<usize>) -> Met
+    ensures { lengths_of result ≡ lengths.items }
 {
-    let says = vec![in alloc; true; end + 1 - least]?;
-    Ok(Met::Many(Table { least, says }))
+    if lengths.len() == 1 {
+        Met::Lone(lengths[0])
+    } else {
+        Met::Few(lengths)
+    }
+}
+
+/// All lengths of the rest, as a table.
+fn all_of(alloc: Global, rest: Rest) -> Result<Table, AllocError>
+    ensures { IfOk result (λ table.
+        said table.least table.says.items ≡ rest_lengths rest.least rest.count) }
+{
+    let says = vec![in alloc; true; rest.count]?;
+    Ok(Table {
+        least: rest.least,
+        says,
+    })
+}
+
+/// The lengths after one token that isn't a star. None are left of a table that begins at the device's end.
+fn table_stepped(alloc: Global, table: Table, device: &[u8], text: &[u8]) -> Met
+    requires some { 0 < length text.now }
+    requires no_star { slice_index text.now 0 ≢ 42 }
+    ensures { Steps (token_at text.now) device.now
+        (said table.least table.says.items) (lengths_of result) }
+{
+    if table.least < device.len() {
+        Met::Many(table.stepped(device, text))
+    } else {
+        none(alloc)
+    }
+}
+
+/// As `table_stepped`, of a copy. If the token takes no byte, no memory is asked for.
+fn table_taken(alloc: Global, table: &Table, device: &[u8], text: &[u8]) -> Result<Met, AllocError>
+    requires some { 0 < length text.now }
+    requires no_star { slice_index text.now 0 ≢ 42 }
+    requires within { Within device.now (said table.now.least table.now.says.items) }
+    ensures steps { IfOk result (λ after. Steps (token_at text.now) device.now
+        (said table.now.least table.now.says.items) (lengths_of after)) }
+    ensures free { NoneTakes (token_at text.now) device.now
+        (said table.now.least table.now.says.items) → IsOk result }
+{
+    if !table.takes(device, text) {
+        return Ok(none(alloc));
+    }
+    let copied = table.copied(alloc, device.len())?;
+    Ok(table_stepped(alloc, copied, device, text))
+}
+
+/// The lengths after one token that isn't a star: a list if the token keeps few, else a table.
+fn rest_stepped(alloc: Global, rest: Rest, device: &[u8], text: &[u8]) -> Result<Met, AllocError>
+    requires some { 0 < length text.now }
+    requires no_star { slice_index text.now 0 ≢ 42 }
+    ensures steps { IfOk result (λ after. Steps (token_at text.now) device.now
+        (rest_lengths rest.least rest.count) (lengths_of after)) }
+    ensures free { NoneTakes (token_at text.now) device.now (rest_lengths rest.least rest.count)
+        → IsOk result }
+{
+    if let Some(lengths) = rest.stepped(alloc, device, text)? {
+        return Ok(of_list(lengths));
+    }
+    let table = all_of(alloc, rest)?;
+    Ok(table_stepped(alloc, table, device, text))
 }
 
 impl Table {
@@ -200,6 +238,8 @@ impl Met {
     {
         match self {
             Met::Lone(_) => false,
+            Met::Few(lengths) => lengths.is_empty(),
+            Met::From(rest) => rest.is_empty(),
             Met::Many(table) => table.is_empty(),
         }
     }
@@ -210,6 +250,8 @@ impl Met {
     {
         match self {
             Met::Lone(length) => *length == n,
+            Met::Few(lengths) => has(lengths, n),
+            Met::From(rest) => rest.contains(n),
             Met::Many(table) => table.contains(n),
         }
     }
@@ -220,27 +262,14 @@ impl Met {
     {
         match self {
             Met::Lone(length) => is_next(byte, device, *length),
+            Met::Few(lengths) => is_next_after(lengths, device, byte),
+            Met::From(rest) => rest.is_next(device, byte),
             Met::Many(table) => table.is_next(device, byte),
         }
     }
 
-    /// Whether the token at the beginning of the text takes the device's next byte after some of the lengths.
-    fn takes(&self, device: &[u8], text: &[u8]) -> bool
-        requires some { 0 < length text.now }
-        requires no_star { slice_index text.now 0 ≢ 42 }
-        ensures none { result ≡ false
-            → NoneTakes (token_at text.now) device.now (lengths_of self.now) }
-        ensures some { result ≡ true
-            → NoneTakes (token_at text.now) device.now (lengths_of self.now) → ⊥ }
-    {
-        match self {
-            Met::Lone(length) => takes_next(text, device, *length),
-            Met::Many(table) => table.takes(device, text),
-        }
-    }
-
     /// The least length.
-    fn least(&self, end: usize) -> Option<usize>
+    pub(crate) fn least(&self, end: usize) -> Option<usize>
         requires room { end + 1 < 2 ^ 64 }
         requires within { All (λ n. n ≤ end) (lengths_of self.now) }
         ensures member { IfSome result (λ n. Contains (lengths_of self.now) n) }
@@ -249,19 +278,24 @@ impl Met {
     {
         match self {
             Met::Lone(length) => Some(*length),
+            Met::Few(lengths) => least_of(lengths),
+            Met::From(rest) => rest.first(),
             Met::Many(table) => table.first(end),
         }
     }
 
     /// The lengths after a star.
-    fn after_star(&self, alloc: Global, end: usize) -> Result<Met, AllocError>
+    fn after_star(&self, alloc: Global, end: usize) -> Met
         requires room { end + 1 < 2 ^ 64 }
         requires within { All (λ n. n ≤ end) (lengths_of self.now) }
-        ensures { IfOk result (λ after. Spread end (lengths_of self.now) (lengths_of after)) }
+        ensures { Spread end (lengths_of self.now) (lengths_of result) }
     {
         match self.least(end) {
-            Some(least) => all_from(alloc, least, end),
-            None => Ok(none(alloc)),
+            Some(least) => Met::From(Rest {
+                least,
+                count: end + 1 - least,
+            }),
+            None => none(alloc),
         }
     }
 
@@ -273,35 +307,64 @@ impl Met {
     {
         match self {
             Met::Lone(length) => Ok(Met::Lone(*length)),
+            Met::Few(lengths) => Ok(Met::Few(Vec::from_slice(alloc, lengths)?)),
+            Met::From(rest) => Ok(Met::From(*rest)),
             Met::Many(table) => Ok(Met::Many(table.copied(alloc, end)?)),
         }
     }
 
     /// The lengths after one token that isn't a star.
-    fn stepped(self, alloc: Global, device: &[u8], text: &[u8]) -> Met
+    fn stepped(self, alloc: Global, device: &[u8], text: &[u8]) -> Result<Met, AllocError>
         requires some { 0 < length text.now }
         requires no_star { slice_index text.now 0 ≢ 42 }
-        ensures { Steps (token_at text.now) device.now (lengths_of self) (lengths_of result) }
+        ensures { IfOk result (λ after. Steps (token_at text.now) device.now
+            (lengths_of self) (lengths_of after)) }
     {
         match self {
             Met::Lone(length) => {
                 if takes_next(text, device, length) {
-                    Met::Lone(length + 1)
+                    Ok(Met::Lone(length + 1))
                 } else {
-                    none(alloc)
+                    Ok(none(alloc))
                 }
             }
-            Met::Many(table) => {
-                if table.least < device.len() {
-                    Met::Many(table.stepped(device, text))
-                } else {
-                    none(alloc)
-                }
+            Met::Few(mut lengths) => {
+                step(&mut lengths, device, text);
+                Ok(of_list(lengths))
             }
+            Met::From(rest) => rest_stepped(alloc, rest, device, text),
+            Met::Many(table) => Ok(table_stepped(alloc, table, device, text)),
         }
     }
 
-    /// The lengths after the text's first token.
+    /// As `stepped`, and the lengths before stay as they are. If the token takes no byte, no memory is asked for.
+    fn taken(&self, alloc: Global, device: &[u8], text: &[u8]) -> Result<Met, AllocError>
+        requires some { 0 < length text.now }
+        requires no_star { slice_index text.now 0 ≢ 42 }
+        requires within { Within device.now (lengths_of self.now) }
+        ensures steps { IfOk result (λ after. Steps (token_at text.now) device.now
+            (lengths_of self.now) (lengths_of after)) }
+        ensures free { NoneTakes (token_at text.now) device.now (lengths_of self.now)
+            → IsOk result }
+    {
+        match self {
+            Met::Lone(length) => {
+                if takes_next(text, device, *length) {
+                    Ok(Met::Lone(*length + 1))
+                } else {
+                    Ok(none(alloc))
+                }
+            }
+            Met::Few(lengths) => {
+                let after = taken(alloc, lengths, device, text)?;
+                Ok(of_list(after))
+            }
+            Met::From(rest) => rest_stepped(alloc, *rest, device, text),
+            Met::Many(table) => table_taken(alloc, table, device, text),
+        }
+    }
+
+    /// The lengths after the text's first token. If that isn't a star and takes no byte, no memory is asked for.
     fn first_token(&self, alloc: Global, device: &[u8], text: &[u8]) -> Result<Met, AllocError>
         requires some { 0 < length text.now }
         requires within { Within device.now (lengths_of self.now) }
@@ -312,26 +375,27 @@ impl Met {
             → IsOkAnd result (λ after. lengths_of after ≡ []) }
     {
         if text[0] == b'*' {
-            return self.after_star(alloc, device.len());
+            return Ok(self.after_star(alloc, device.len()));
         }
-        if !self.takes(device, text) {
-            return Ok(none(alloc));
-        }
-        let copied = self.copied(alloc, device.len())?;
-        Ok(copied.stepped(alloc, device, text))
+        self.taken(alloc, device, text)
     }
 
     /// The lengths after the text's first token.
-    fn next_token(self, alloc: Global, device: &[u8], text: &[u8]) -> Result<Met, AllocError>
+    pub(crate) fn next_token(
+        self,
+        alloc: Global,
+        device: &[u8],
+        text: &[u8],
+    ) -> Result<Met, AllocError>
         requires some { 0 < length text.now }
         requires within { Within device.now (lengths_of self) }
         ensures { IfOk result (λ after.
             IsAfter device.now (lengths_of self) (lengths_of after) text.now) }
     {
         if text[0] == b'*' {
-            return self.after_star(alloc, device.len());
+            return Ok(self.after_star(alloc, device.len()));
         }
-        Ok(self.stepped(alloc, device, text))
+        self.stepped(alloc, device, text)
     }
 
     /// The lengths after all tokens of the text.

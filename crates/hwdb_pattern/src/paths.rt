@@ -22,8 +22,8 @@ use std::marker::Model;
 /// The closed part ends before the first `[` that begins no closed bracket in the path. Bytes from there on are kept,
 /// since a later `]` may still close that bracket.
 ///
-/// It holds one byte for each prefix from the first one that is matched on, and the kept bytes. Before the path's first
-/// star it holds no memory but the kept bytes.
+/// It holds the kept bytes, and at most one byte for each prefix from the first one that is matched on, or a list of 32
+/// numbers. Before the path's first star, and right after a star, it holds no memory but the kept bytes.
 #[derive(Drop)]
 pub struct Reach<'d> {
     device: &'d [u8],
@@ -92,7 +92,7 @@ impl<'d> Reach<'d> {
     {
         match &self.met {
             Met::Lone(length) => after_bytes(self.device, *length, piece),
-            Met::Many(_) => None,
+            Met::Few(_) | Met::From(_) | Met::Many(_) => None,
         }
     }
 

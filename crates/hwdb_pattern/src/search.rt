@@ -5,12 +5,16 @@
 //! has to end at the device's end.
 //!
 //! A stretch is tried at each place of the device at most, so the steps are at most the pattern's length times the
-//! device's. The last stretch isn't tried before the place from which it leads to the device's end. Such a search would read an open `[` anew each time, up to the pattern's end. So two things are found out
-//! before: the place after the last `]`, and the open `[` among the first 4,096 bytes (`opens`). Both take one pass.
-ghost use Rattle.std.specs.Prelude.{◌≡◌, ◌<◌, ◌≤◌, ◌+◌, ◌↔◌, List, ℕ, None, drop, false, length, slice_index, IsTrue, IfSome, IfNone};
-ghost use Rattle.hwdb_spec.specs.Patterns.{Matches, bracket_at, tokens};
-ghost use Rattle.hwdb_pattern.specs.Internal.Search.{AreOpen, NoneCloses, Reaches};
+//! device's. The bytes that begin a stretch and stand for themselves are compared many at once. The last stretch isn't
+//! tried before the place from which it leads to the device's end.
+//!
+//! Such a search would read an open `[` anew each time, up to the pattern's end. So two things are found out before:
+//! the place after the last `]`, and the open `[` among the first 4,096 bytes (`opens`). Both take one pass.
+ghost use Rattle.std.specs.Prelude.{◌≡◌, ◌<◌, ◌≤◌, ◌+◌, ◌↔◌, List, ℕ, None, drop, false, true, length, slice_index, IsTrue, IfSome, IfNone};
+ghost use Rattle.hwdb_spec.specs.Patterns.{Matches, bracket_at, literal, token_at, tokens};
+ghost use Rattle.hwdb_pattern.specs.Internal.Search.{AreOpen, ArePlain, NoneCloses, Reaches};
 
+use crate::lengths::stands_for_itself;
 use crate::opens::open_brackets;
 use crate::tokens::single_token;
 
@@ -74,6 +78,71 @@ fn run(pattern: &[u8], device: &[u8], close: usize, opens: &[bool]) -> Option<Se
         met += 1;
     }
     Some(SearchState { at, met })
+}
+
+/// Whether the byte at a place is a token that stands for itself. If not, it may be one still.
+fn is_plain(pattern: &[u8], at: usize, close: usize, opens: &[bool]) -> bool
+    requires closes { NoneCloses pattern.now close }
+    requires opens { AreOpen pattern.now opens.now }
+    requires within { at < length pattern.now }
+    ensures { result ≡ true
+        → token_at (drop at pattern.now) ≡ literal (slice_index pattern.now at) }
+{
+    if pattern[at] == b'[' {
+        return !may_close(pattern, at, close, opens);
+    }
+    stands_for_itself(pattern[at])
+}
+
+/// How many of the pattern's first bytes are tokens that stand for themselves.
+fn plain_size(pattern: &[u8], close: usize, opens: &[bool]) -> usize
+    requires closes { NoneCloses pattern.now close }
+    requires opens { AreOpen pattern.now opens.now }
+    ensures within { result ≤ length pattern.now }
+    ensures plain { ArePlain pattern.now result }
+{
+    let mut at = 0;
+    while at < pattern.len() && is_plain(pattern, at, close, opens) {
+        at += 1;
+    }
+    at
+}
+
+/// Whether the device begins with the pattern's first bytes, so many of them, which stand for themselves.
+fn begins_alike(pattern: &[u8], device: &[u8], plain: usize) -> bool
+    requires within { plain ≤ length pattern.now }
+    requires plain { ArePlain pattern.now plain }
+    ensures { result ≡ false → Matches (tokens pattern.now) device.now → ⊥ }
+{
+    if device.len() < plain {
+        return false;
+    }
+    &device[..plain] == &pattern[..plain]
+}
+
+/// As `run`. The pattern's first bytes, so many of them, stand for themselves: they are compared at once before.
+fn run_alike(
+    pattern: &[u8],
+    device: &[u8],
+    close: usize,
+    opens: &[bool],
+    plain: usize,
+) -> Option<SearchState>
+    requires closes { NoneCloses pattern.now close }
+    requires opens { AreOpen pattern.now opens.now }
+    requires plain_within { plain ≤ length pattern.now }
+    requires plain { ArePlain pattern.now plain }
+    ensures within { IfSome result (λ place. place.at ≤ length pattern.now) }
+    ensures met { IfSome result (λ place. place.met ≤ length device.now) }
+    ensures star { IfSome result (λ place. place.at < length pattern.now
+        → slice_index pattern.now place.at ≡ 42) }
+    ensures reached { IfSome result (λ place. Reaches pattern.now device.now place.at place.met) }
+    ensures refused { IfNone result (Matches (tokens pattern.now) device.now → ⊥) }
+{
+    if !begins_alike(pattern, device, plain) {
+        return None;
+    }
+    run(pattern, device, close, opens)
 }
 
 /// How many bytes the devices have that the pattern matches, if it has no star: one for each token.
@@ -154,9 +223,15 @@ pub fn glob(pattern: &[u8], device: &[u8]) -> bool
         close.saturating_sub(at),
         opens_from(&opens, at),
     );
+    let mut plain = plain_size(
+        &pattern[at..],
+        close.saturating_sub(at),
+        opens_from(&opens, at),
+    );
     while met <= device.len() {
         let (rest, left) = (&pattern[at..], &device[met..]);
-        match run(rest, left, close.saturating_sub(at), opens_from(&opens, at)) {
+        let open = opens_from(&opens, at);
+        match run_alike(rest, left, close.saturating_sub(at), open, plain) {
             None => met += 1,
             Some(next) => {
                 if at + next.at < pattern.len() {
@@ -165,6 +240,11 @@ pub fn glob(pattern: &[u8], device: &[u8]) -> bool
                         &pattern[at..],
                         end,
                         met + next.met,
+                        close.saturating_sub(at),
+                        opens_from(&opens, at),
+                    );
+                    plain = plain_size(
+                        &pattern[at..],
                         close.saturating_sub(at),
                         opens_from(&opens, at),
                     );

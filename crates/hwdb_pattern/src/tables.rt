@@ -25,7 +25,7 @@ fn keep_byte(table: &mut [bool], bytes: &[u8], byte: u8)
 
 /// Which bytes the token at the beginning of the text admits. So a bracket is read once for each byte that there is,
 /// and not once for each place of a device.
-fn admitted_bytes(text: &[u8]) -> [bool; 256]
+pub(crate) fn admitted_bytes(text: &[u8]) -> [bool; 256]
     requires some { 0 < length text.now }
     requires no_star { slice_index text.now 0 ≢ 42 }
     ensures { AreAdmitted (token_at text.now) result 256 }
@@ -38,7 +38,7 @@ fn admitted_bytes(text: &[u8]) -> [bool; 256]
 }
 
 /// Whether the token at the beginning of the text, which admits these bytes, admits the byte.
-fn is_admitted(admitted: &[bool; 256], byte: u8, text: &[u8]) -> bool
+pub(crate) fn is_admitted(admitted: &[bool; 256], byte: u8, text: &[u8]) -> bool
     requires { AreAdmitted (token_at text.now) admitted.now 256 }
     ensures { result ≡ admits_byte (token_at text.now) byte }
 {
@@ -105,6 +105,23 @@ pub(crate) fn has_byte(table: &[bool], bytes: &[u8], byte: u8) -> bool
     has
 }
 
+/// Whether some place has a byte that the token at the beginning of the text admits, by the bytes that it admits.
+fn has_one_of(table: &[bool], bytes: &[u8], text: &[u8]) -> bool
+    requires some { 0 < length text.now }
+    requires no_star { slice_index text.now 0 ≢ 42 }
+    requires within { length table.now ≤ length bytes.now }
+    ensures { SomeAt (passes_at (admits_byte (token_at text.now)) bytes.now table.now)
+        (length table.now) result }
+{
+    let admitted = admitted_bytes(text);
+    for i in 0..table.len() {
+        if table[i] && is_admitted(&admitted, bytes[i], text) {
+            return true;
+        }
+    }
+    false
+}
+
 /// Whether some place has a byte that the token at the beginning of the text admits.
 pub(crate) fn has_admitted(table: &[bool], bytes: &[u8], text: &[u8]) -> bool
     requires some { 0 < length text.now }
@@ -113,6 +130,9 @@ pub(crate) fn has_admitted(table: &[bool], bytes: &[u8], text: &[u8]) -> bool
     ensures { SomeAt (passes_at (admits_byte (token_at text.now)) bytes.now table.now)
         (length table.now) result }
 {
+    if text[0] == b'[' && table.len() > FEW {
+        return has_one_of(table, bytes, text);
+    }
     for i in 0..table.len() {
         if table[i] && single_token(text, bytes[i], true).admits {
             return true;

@@ -8,6 +8,7 @@
 //! | `numbers` | texts that are numbers |
 //! | `values` | texts that are values of a form |
 //! | `remarks` | what is said of a property that doesn't fit |
+//! | `surroundings` | below which prefixes a property is read, and with which others |
 #![tactic(auto)]
 
 mod cuts;
@@ -15,7 +16,9 @@ mod names;
 mod numbers;
 mod remarks;
 mod rows;
+mod surroundings;
 mod values;
 
-pub use cuts::{after, before};
+pub use cuts::{after, before, same};
 pub use remarks::{misuse_of, misuse_text, push_misuse_hint};
+pub use surroundings::{companions_of, is_read_below, prefixes_of};

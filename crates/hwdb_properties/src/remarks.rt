@@ -6,12 +6,12 @@ ghost use Rattle.hwdb_spec.specs.declared.vocabulary.TheConstants.{KEY_NAMES, PR
 use crate::cuts::without;
 use crate::numbers::is_lower_hex;
 use crate::rows::{Likeness, first_row, row_form, word};
-use crate::values::{form_of, is_of_form};
+use crate::values::{form_of, is_of_form, odd_value};
 use hwdb_spec::{KEY_NAMES, Misuse, PROPERTIES, ValueForm};
 use std::alloc::AllocError;
 
 /// The row of a property.
-fn property_row(name: &[u8]) -> &'static [u8]
+pub fn property_row(name: &[u8]) -> &'static [u8]
     ensures { result.now ≡ Properties.property_row name.now }
 {
     first_row(PROPERTIES.as_bytes(), name, Likeness::Same)
@@ -73,7 +73,7 @@ fn row_misuse(row: &[u8], name: &[u8], text: &[u8]) -> Option<Misuse>
         return Some(Misuse::ScanCode);
     }
     if is_value(row, text) {
-        return None;
+        return odd_value(form, text);
     }
     Some(value_misuse(form))
 }
@@ -163,6 +163,26 @@ fn push_code_hint(text: &mut Vec<u8>) -> Result<(), AllocError>
     Ok(())
 }
 
+/// Adds what a matrix is.
+fn push_matrix_hint(text: &mut Vec<u8>) -> Result<(), AllocError>
+    ensures { OnOk result
+        (text.new.items ≡ text.old.items ++ Properties.misuse_hint Misuse.ZeroRow [] []) }
+{
+    let hint = "write in each row where an axis points, as 1, 0, 0; 0, 1, 0; 0, 0, 1";
+    text.extend_from_slice(hint.as_bytes())?;
+    Ok(())
+}
+
+/// Adds what a default is.
+fn push_default_hint(text: &mut Vec<u8>) -> Result<(), AllocError>
+    ensures { OnOk result
+        (text.new.items ≡ text.old.items ++ Properties.misuse_hint Misuse.TwoDefaults [] []) }
+{
+    let hint = "put a * before one of them alone";
+    text.extend_from_slice(hint.as_bytes())?;
+    Ok(())
+}
+
 /// Adds what to do about a misuse of a property with this name and this value.
 pub fn push_misuse_hint(
     text: &mut Vec<u8>,
@@ -178,6 +198,8 @@ pub fn push_misuse_hint(
         Misuse::ScanCode => push_code_hint(text),
         Misuse::UnknownKey => push_key_hint(text, value),
         Misuse::UnfitValue => push_value_hint(text, name),
+        Misuse::ZeroRow => push_matrix_hint(text),
+        Misuse::TwoDefaults => push_default_hint(text),
     }
 }
 
@@ -190,5 +212,7 @@ pub fn misuse_text(misuse: Misuse) -> &'static str
         Misuse::ScanCode => "a code that isn't lower-case hexadecimal",
         Misuse::UnknownKey => "a key that isn't known",
         Misuse::UnfitValue => "a value that its property doesn't take",
+        Misuse::ZeroRow => "a row of the matrix has zeros alone",
+        Misuse::TwoDefaults => "more than one resolution is the default",
     }
 }

@@ -24,7 +24,7 @@ pub fn word(text: &[u8]) -> &[u8]
 }
 
 /// What is after the first space of a text.
-fn after_word(text: &[u8]) -> &[u8]
+pub fn after_word(text: &[u8]) -> &[u8]
     ensures { result.now ≡ Properties.after_word text.now }
 {
     after(b' ', text)

@@ -1,12 +1,14 @@
 //! Texts that are values of a form.
 ghost use Rattle.std.specs.Prelude.{◌≡◌};
+ghost use Rattle.std.specs.List.{list_any};
 ghost use Rattle.hwdb_spec.specs.Lines;
+ghost use Rattle.hwdb_spec.specs.Patterns.{in_span};
 ghost use Rattle.hwdb_spec.specs.Properties;
 
 use crate::cuts::{after, before, same, without};
 use crate::numbers::{is_byte, is_count, is_decimal, is_integer, is_number};
 use crate::rows::{Likeness, first_row};
-use hwdb_spec::{KEY_NAMES, ValueForm};
+use hwdb_spec::{KEY_NAMES, Misuse, ValueForm};
 use hwdb_text::{end_of, unindented};
 
 /// Whether a text is three decimals with commas between.
@@ -27,6 +29,36 @@ fn is_matrix(text: &[u8]) -> bool
     is_matrix_row(before(b';', text))
         && is_matrix_row(before(b';', rest))
         && is_matrix_row(after(b';', rest))
+}
+
+/// Whether a text has a digit from 1 to 9.
+fn has_digit(text: &[u8]) -> bool
+    ensures { result ≡ list_any (λ b. in_span b (49, 57)) text.now }
+{
+    text.iter().any(|byte| matches!(*byte, b'1'..=b'9'))
+}
+
+/// Whether a row of a matrix has no digit but 0.
+fn is_zero_row(text: &[u8]) -> bool
+    ensures { result ≡ Properties.is_zero_row text.now }
+{
+    !has_digit(text)
+}
+
+/// Whether one of the rows of a matrix is zero.
+fn has_zero_row(text: &[u8]) -> bool
+    ensures { result ≡ Properties.has_zero_row text.now }
+{
+    let mut at = 0;
+    while at < text.len() {
+        let rest = &text[at..];
+        let end = end_of(b';', rest);
+        if is_zero_row(&rest[..end]) {
+            return true;
+        }
+        at = at + end + 1;
+    }
+    false
 }
 
 /// Whether a text has a `@`.
@@ -59,6 +91,20 @@ fn is_resolutions(text: &[u8]) -> bool
         at = at + end + 1;
     }
     true
+}
+
+/// Whether a text has a `*`.
+fn has_star(text: &[u8]) -> bool
+    ensures { result ≡ Lines.has 42 text.now }
+{
+    text.iter().any(|byte| *byte == b'*')
+}
+
+/// Whether more than one of some resolutions is the default.
+fn has_two_defaults(text: &[u8]) -> bool
+    ensures { result ≡ Properties.has_two_defaults text.now }
+{
+    has_star(after(b'*', text))
 }
 
 /// Whether a text is a limit of an axis, or nothing.
@@ -126,7 +172,7 @@ fn is_key_or_release(text: &[u8]) -> bool
 }
 
 /// Whether a text is one of the words of a form.
-fn is_choice(form: &[u8], text: &[u8]) -> bool
+pub fn is_choice(form: &[u8], text: &[u8]) -> bool
     ensures { result ≡ Properties.is_choice form.now text.now }
 {
     let mut at = 0;
@@ -186,5 +232,16 @@ pub fn is_of_form(kind: ValueForm, form: &[u8], text: &[u8]) -> bool
         ValueForm::Limits => is_limits(text),
         ValueForm::Key => is_key_or_release(text),
         ValueForm::Choice => is_choice(form, text),
+    }
+}
+
+/// What is said of a text that is of a form.
+pub fn odd_value(kind: ValueForm, text: &[u8]) -> Option<Misuse>
+    ensures { result ≡ Properties.odd_value kind text.now }
+{
+    match kind {
+        ValueForm::Matrix if has_zero_row(text) => Some(Misuse::ZeroRow),
+        ValueForm::Resolutions if has_two_defaults(text) => Some(Misuse::TwoDefaults),
+        _ => None,
     }
 }

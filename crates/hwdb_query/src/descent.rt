@@ -6,7 +6,7 @@
 //!
 //! What is known of the device along the path (`Reach`) is kept for each open node: the next child goes on from there.
 //! So a common beginning of many patterns is matched once. In return a descent holds a state for each node of one path.
-//! A state has a byte for each prefix of the device, from the first one on that the path matches.
+//! A state has at most 32 numbers, or a byte for each prefix of the device from the first one on that the path matches.
 //!
 //! It is a loop and no recursion. The nodes whose children may still be live are on a stack of its own, on the heap. A
 //! recursion would take a sixth fewer instructions. But a deep tree would then take more of the thread's stack than a

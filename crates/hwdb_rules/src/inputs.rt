@@ -4,11 +4,12 @@ ghost use Rattle.hwdb_spec.specs.Sysfs.{attribute_text};
 ghost use Rattle.hwdb_spec.specs.Inputs;
 ghost use Rattle.hwdb_spec.specs.Inputs.{after_words, count_bits, has_bit, kinds_by_bits, with_bits};
 ghost use Rattle.hwdb_spec.specs.Lookups;
-ghost use Rattle.hwdb_rules.specs.Views.{ancestor_of, kinds_of, scene_of};
+ghost use Rattle.hwdb_rules.specs.Views.{kinds_of, scene_of};
+ghost use Rattle.hwdb_sysfs.specs.Views.{ancestor_of};
 ghost use Rattle.hwdb_rules.specs.Internal.{bits_in};
 
 use crate::ancestors::{Wanted, attribute_text, first_of, is_in};
-use crate::device::Ancestor;
+use hwdb_sysfs::Ancestor;
 use crate::scene::Scene;
 use hwdb_properties::{after, before};
 use std::alloc::{AllocError, Global};

@@ -4,11 +4,12 @@ ghost use Rattle.std.specs.Option.{option_or, unwrap_or};
 ghost use Rattle.hwdb_spec.specs.Lookups;
 ghost use Rattle.hwdb_spec.specs.Lookups.{attr, ids_and_name};
 ghost use Rattle.hwdb_spec.specs.Sysfs.{attribute_text, written};
-ghost use Rattle.hwdb_rules.specs.Views.{ancestor_of, scene_of};
+ghost use Rattle.hwdb_rules.specs.Views.{scene_of};
+ghost use Rattle.hwdb_sysfs.specs.Views.{ancestor_of};
 ghost use Rattle.hwdb_rules.specs.Internal.{found_at};
 
 use crate::ancestors::{At, Wanted, attribute, attribute_text, some};
-use crate::device::{Ancestor, Device};
+use hwdb_sysfs::{Ancestor, Device};
 use crate::values::push_written;
 use std::alloc::{AllocError, Global};
 

@@ -3,11 +3,12 @@ ghost use Rattle.std.specs.Prelude.{◌≡◌, ◌++◌, ◌+◌, ◌<◌, ◌^�
 ghost use Rattle.hwdb_spec.specs.Sysfs;
 ghost use Rattle.hwdb_spec.specs.Lookups;
 ghost use Rattle.hwdb_spec.specs.Lookups.{strings_from, upper, walk};
-ghost use Rattle.hwdb_rules.specs.Views.{ancestor_of, plans_of, questions_of, scene_of};
+ghost use Rattle.hwdb_rules.specs.Views.{plans_of, questions_of, scene_of};
+ghost use Rattle.hwdb_sysfs.specs.Views.{ancestor_of};
 ghost use Rattle.hwdb_rules.specs.Internal.{usb_text_of};
 
 use crate::ancestors::{attribute, attribute_text, is_in, is_usb_device, uevent_value};
-use crate::device::Ancestor;
+use hwdb_sysfs::Ancestor;
 use crate::plans::{Plan, Question, add_plan, add_question};
 use crate::scene::Scene;
 use std::alloc::{AllocError, Global};

@@ -1,13 +1,16 @@
-//! How bytes are shown: lines of a text with a mark below them, and values of JSON.
+//! How bytes are shown: lines of a text with a mark below them, texts in colour, and values of JSON.
 //!
 //! | Module | What it does |
 //! |---|---|
 //! | `shown` | lines as they are shown, and the mark below them |
+//! | `colours` | texts in colour |
 //! | `json_values` | values of JSON, token by token |
 #![tactic(auto)]
 
+mod colours;
 mod json_values;
 mod shown;
 
+pub use colours::{colours_are_taken_out, painted};
 pub use json_values::{ended, put_bytes, put_count, put_flag, put_member, put_number, put_text};
 pub use shown::{push_byte, push_mark_line, push_shown, push_shown_line};

@@ -1,6 +1,6 @@
 -- The database that a command reads: that at a path, or the one below a root that is asked; and what `query`, `explain`, `list`,
 -- `verify`, `dump` and `diff` print of it. `query` is systemd-hwdb(8)'s; the others are our choice.
-use Rattle.std.specs.Prelude.{◌++◌, ◌≡◌, ◌⊎◌, Bool, List, None, Option, Some, codes, false, if◌then◌else◌, true, ℕ}
+use Rattle.std.specs.Prelude.{◌++◌, ◌≡◌, ◌≤◌, ◌⊎◌, Bool, List, None, Option, Some, codes, false, if◌then◌else◌, length, true, ℕ}
 use Rattle.hwdb_spec.specs.Assignment.{Position}
 use Rattle.hwdb_spec.specs.Databases.{IsDiffText, IsDifferent, IsSayable, IsTextOf}
 use Rattle.hwdb_spec.specs.Dump.{dump_text}
@@ -8,7 +8,7 @@ use Rattle.hwdb_spec.specs.Json.{list_json}
 use Rattle.hwdb_spec.specs.Reports.{shown}
 use Rattle.hwdb_spec.specs.Store.{Contents, database_name, path_in}
 use Rattle.hwdb_spec.specs.System.{asked_database, bytes_at, database_folder}
-use Rattle.hwdb_spec.specs.Texts.{IsSpelling, list_text}
+use Rattle.hwdb_spec.specs.Texts.{IsSpelling, list_text, max_file}
 use Rattle.hwdb_spec.specs.Tree.{Tree}
 
 -- the path of the database in one of the folders below a root
@@ -30,16 +30,18 @@ abbrev pub IsNamedPath : (given : Option (List ℕ)) (root : List ℕ) → Conte
 IsNamedPath None root contents path = IsAskedPath root contents path
 IsNamedPath (Some given) root contents path = path ≡ given
 
--- the text is what its bytes give
+-- the text is what its bytes give, which are no more than a file may have
 pub record IsPrinted (given : Option (List ℕ)) (root : List ℕ) (Is : (bytes text : List ℕ) → Type 0) (contents : Contents) (text : List ℕ) : Type 0 where
   pub bytes : List ℕ
   pub named : named_database given root contents ≡ Some bytes
+  pub within : length bytes ≤ max_file
   pub is : Is bytes text
 
--- its assignments are all said by their records, and the text has these
+-- its assignments are all said by their records, and the text has these; its bytes are no more than a file may have
 pub record IsDumped (given : Option (List ℕ)) (root : List ℕ) (contents : Contents) (text : List ℕ) : Type 0 where
   pub bytes : List ℕ
   pub named : named_database given root contents ≡ Some bytes
+  pub within : length bytes ≤ max_file
   pub sayable : IsSayable bytes
   pub is : IsTextOf dump_text bytes text
 
@@ -47,10 +49,12 @@ pub record IsDumped (given : Option (List ℕ)) (root : List ℕ) (contents : Co
 abbrev pub unsayable_text : (path pattern : List ℕ) → List ℕ
 unsayable_text path pattern = path ++ (codes ": no text file can say an assignment of the pattern " ++ shown pattern)
 
--- the two files hold this
+-- the two files hold this, each no more than a file may
 pub record AreHeld (old_path new_path : List ℕ) (contents : Contents) (old new : List ℕ) : Type 0 where
   pub of_old : bytes_at contents old_path ≡ Some old
   pub of_new : bytes_at contents new_path ≡ Some new
+  pub old_within : length old ≤ max_file
+  pub new_within : length new ≤ max_file
 
 -- the text is what changed from the one database to the other, and the status says whether something did
 pub record IsCompared (old_path new_path : List ℕ) (contents : Contents) (text : List ℕ) (status : ℕ) : Type 0 where

@@ -27,9 +27,9 @@ abbrev pub AreCheckedFiles : (given : List (List ℕ)) (root : List ℕ) (input 
 AreCheckedFiles [] root input contents sources = AreChosenFiles root contents sources
 AreCheckedFiles (path ∷ more) root input contents sources = AreGivenFiles (path ∷ more) input contents sources
 
--- the text is what is said of such files, and the status says whether something is wrong with one
-pub record IsChecked (Are : List Source → Type 0) (strict : Bool) (text : List ℕ) (status : ℕ) : Type 0 where
+-- the text is what is said of such files, as text or JSON, but for kinds that are allowed, and the status says whether something is wrong with one
+pub record IsChecked (Are : List Source → Type 0) (json strict : Bool) (allowed : List (List ℕ)) (text : List ℕ) (status : ℕ) : Type 0 where
   pub sources : List Source
   pub are : Are sources
-  pub is : text ≡ check_text sources
-  pub says : status ≡ check_status strict (tally_from empty_tally sources)
+  pub is : text ≡ check_text json allowed sources
+  pub says : status ≡ check_status strict (tally_from allowed empty_tally sources)

@@ -4,17 +4,17 @@ use Rattle.std.specs.Fmt.{decimal}
 use Rattle.hwdb_spec.specs.Lines.{byte}
 use Rattle.hwdb_spec.specs.Records.{assignments, faults}
 use Rattle.hwdb_spec.specs.Folders.{Source}
-use Rattle.hwdb_spec.specs.Reports.{reports_text}
-use Rattle.hwdb_spec.specs.Warnings.{warnings, warnings_text}
+use Rattle.hwdb_spec.specs.Findings.{file_text}
+use Rattle.hwdb_spec.specs.Warnings.{warnings}
 use Rattle.hwdb_spec.specs.declared.Tally.{Tally}
 
--- of one file how many assignments, faults and warnings it has
-abbrev pub tally_of : List ℕ → Tally
-tally_of file = record {
+-- of one file how many assignments, faults and warnings it has; a warning of a kind that is allowed doesn't count
+abbrev pub tally_of : (allowed : List (List ℕ)) → List ℕ → Tally
+tally_of allowed file = record {
   files = 1;
   assignments = length (assignments (record { path = []; priority = 1 }) file);
   faults = length (faults file);
-  warnings = length (warnings file);
+  warnings = length (warnings allowed file);
 }
 
 -- two counts together; a count stops at the greatest number of 64 bits
@@ -35,9 +35,9 @@ abbrev pub empty_tally : Tally
 empty_tally = record { files = 0; assignments = 0; faults = 0; warnings = 0 }
 
 -- what is found in some files, the later ones counted to the earlier ones
-abbrev pub tally_from : Tally → List Source → Tally
-tally_from so_far [] = so_far
-tally_from so_far (s ∷ more) = tally_from (tally_of_both so_far (tally_of s.bytes)) more
+abbrev pub tally_from : (allowed : List (List ℕ)) → Tally → List Source → Tally
+tally_from allowed so_far [] = so_far
+tally_from allowed so_far (s ∷ more) = tally_from allowed (tally_of_both so_far (tally_of allowed s.bytes)) more
 
 -- a count, and what is counted: `1 file`, `2 files`
 abbrev pub count_text : ℕ → (word : List ℕ) → List ℕ
@@ -51,13 +51,15 @@ tally_line t =
     ++ (count_text t.faults (codes "fault") ++ codes ", "
     ++ (count_text t.warnings (codes "warning") ++ codes "\n")))
 
--- what is printed of a file: the reports of its faults, then those of its warnings
-abbrev pub file_text : (path file : List ℕ) → List ℕ
-file_text path file = reports_text path file ++ warnings_text path file
+-- the last line; there is none after lines of JSON
+abbrev pub end_text : (json : Bool) → Tally → List ℕ
+end_text true t = []
+end_text false t = tally_line t
 
 -- what `check` prints of some files: what is printed of each, and the last line; the name of each is the path that is printed
-abbrev pub check_text : List Source → List ℕ
-check_text files = flat_map (λ s. file_text s.name s.bytes) files ++ tally_line (tally_from empty_tally files)
+abbrev pub check_text : (json : Bool) → (allowed : List (List ℕ)) → List Source → List ℕ
+check_text json allowed files =
+    flat_map (λ s. file_text json allowed s.name s.bytes) files ++ end_text json (tally_from allowed empty_tally files)
 
 -- 1 where there is a fault, or `strict` and a warning, else 0
 abbrev pub check_status : (strict : Bool) → Tally → ℕ

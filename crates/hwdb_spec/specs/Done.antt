@@ -26,11 +26,13 @@ pub record Updated (etc usr : List Source) (listed : Option (List (List ℕ))) (
   pub stored : in_place database
   pub answer : status ≡ status_of strict (faults_of_files etc usr)
 
--- what `ask` writes: the fault lines of the one file, and the properties that its database gives the device
+-- what `ask` writes: the fault lines of the one file, and the properties that its database gives the device, which isn't larger
+-- than one may be
 pub record AreAskTexts (file bytes device : List ℕ) (texts : Texts) : Type 0 where
   pub accepted : AreAccepted (lone bytes) []
   pub database : List ℕ
   pub written : IsWritten (map_of_files (lone bytes) []) database
+  pub within : length database ≤ max_file
   pub faults : texts.err ≡ faults_text_at file (faults_of_files (lone bytes) [])
   pub properties : IsTextOf (query_text device) database texts.out
 
@@ -49,10 +51,11 @@ pub record IsUpdated (root : List ℕ) (verbose strict : Bool) (status : ℕ) (o
   pub in_usr : AreFilesIn (usr_files root) old of_usr
   pub updated : Updated of_etc of_usr (listing verbose of_usr) max_file strict status err_before err_now in_place
 
--- the texts are the fault lines of the one file, and what it gives the device
+-- the texts are the fault lines of the one file, and what it gives the device; it has no more bytes than a file may
 pub record IsAsked (file device : List ℕ) (input : Option (List ℕ)) (contents : Contents) (texts : Texts) : Type 0 where
   pub bytes : List ℕ
   pub read : IsGiven file input contents bytes
+  pub within : length bytes ≤ max_file
   pub are : AreAskTexts file bytes device texts
 
 -- an update that read these files leaves this under a path: the database of all text files of both folders, whole, in its place;

@@ -16,13 +16,16 @@ pub mod Differences
 pub mod Dump
 pub mod Summary
 pub mod Verdicts
+pub mod Json
 pub mod Reports
 pub mod Properties
 pub mod Unmatched
+pub mod Surroundings
+pub mod Kinds
 pub mod Warnings
+pub mod Findings
 pub mod Checks
 pub mod Progress
-pub mod Json
 pub mod ManyDevices
 pub mod LoneFile
 pub mod Databases
@@ -41,6 +44,9 @@ pub mod Library
 pub mod Hiding
 pub mod Done
 pub mod Near
+pub mod NearAsked
+pub mod Colours
 pub mod Sysfs
+pub mod DeviceTree
 pub mod Inputs
 pub mod Lookups

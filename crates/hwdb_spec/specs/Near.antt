@@ -1,11 +1,11 @@
 -- The pattern that almost matched, and where it stopped: what `near` says. Our choice.
-use Rattle.std.specs.Prelude.{Bool, true, false, ℕ, zero, suc, List, [], ◌∷◌, ◌++◌, ◌+◌, ◌≤◌, ◌≡◌, if◌then◌else◌, codes, drop, filter, flat_map, length, map, nat_le, not, reverse, take}
-use Rattle.std.specs.List.{position_or_len}
+use Rattle.std.specs.Prelude.{Bool, true, false, ℕ, zero, suc, List, [], ◌∷◌, ◌++◌, ◌+◌, ◌≤◌, ◌≡◌, ◌==◌, if◌then◌else◌, codes, drop, filter, flat_map, length, map, nat_le, nat_lt, not, reverse, take}
+use Rattle.std.specs.List.{list_any, position_or_len}
 use Rattle.std.specs.declared.cmp.Ordering.{Ordering}
 use Rattle.std.specs.Ordering.{nat_cmp, ordering_then}
 use Rattle.json.specs.Json.{Json, boolean}
 use Rattle.hwdb_spec.specs.Assignment.{in_order, text_cmp}
-use Rattle.hwdb_spec.specs.Lines.{begins_with, byte, clean_line, is, is_dropped, is_long, is_match, is_none, Line, lines}
+use Rattle.hwdb_spec.specs.Lines.{byte, clean_line, is, is_dropped, is_long, is_match, is_none, Line, lines}
 use Rattle.hwdb_spec.specs.Patterns.{Token, in_span, Matches, matches, tokens}
 use Rattle.hwdb_spec.specs.Forms.{is_star, text_size}
 use Rattle.hwdb_spec.specs.Tree.{some_up_to}
@@ -100,13 +100,14 @@ rated device at =
     let ts = tokens (folded at.pattern) in
     record { missing = missing ts (folded device); front = front_tokens ts (folded device); at = at }
 
--- the nearer first: by the literals that are missing, then the longest front, then file, line and pattern
+-- the nearer first: by the literals that are missing, then the longest front, then file, line, pattern and path
 abbrev pub near_cmp : Rated → Rated → Ordering
 near_cmp a b =
     ordering_then (nat_cmp a.missing b.missing)
     (ordering_then (nat_cmp b.front a.front)
     (ordering_then (nat_cmp a.at.file b.at.file)
-    (ordering_then (nat_cmp a.at.line b.at.line) (text_cmp a.at.pattern b.at.pattern))))
+    (ordering_then (nat_cmp a.at.line b.at.line)
+    (ordering_then (text_cmp a.at.pattern b.at.pattern) (text_cmp a.at.path b.at.path)))))
 
 -- whether a pattern matches the device
 abbrev pub hits : List ℕ → PatternAt → Bool
@@ -147,19 +148,67 @@ quoted text = byte "`" ∷ (shown text ++ byte "`" ∷ [])
 abbrev pub token_text : List ℕ → List ℕ
 token_text text = take (text_size (take 1 (tokens text))) text
 
--- a device's text up to its first colon, with it
+-- a text up to its first colon, with it: what udev's rules begin each text with that they ask
 abbrev pub head_of : List ℕ → List ℕ
-head_of device = take (position_or_len (is (byte ":")) device + 1) device
+head_of text = take (position_or_len (is (byte ":")) text + 1) text
 
--- Why a pattern stops after so many bytes of a device, by what is left of both: one of the two ends; the device's first part is
--- another one; a space is there, which udev has written as `_`; another byte is there.
-abbrev pub why_text : (device : List ℕ) (met : ℕ) (wanted left : List ℕ) → List ℕ
-why_text device met wanted left =
-    if is_none left then codes "the device ends here, the pattern goes on"
+-- whether a text has a colon
+abbrev pub has_head : List ℕ → Bool
+has_head text = nat_lt (position_or_len (is (byte ":")) text) (length text)
+
+-- a byte that udev always keeps: a letter, a digit or one of `#+-.:=@_` (udev_replace_chars of systemd)
+abbrev pub is_kept : ℕ → Bool
+is_kept b = if list_any (in_span b) ((48, 57) ∷ (65, 90) ∷ (97, 122) ∷ []) then true else list_any (is b) (codes "#+-.:=@_")
+
+-- a byte of a pattern that udev may have written as `_`: no such one, and no wildcard
+abbrev pub is_replaced : ℕ → Bool
+is_replaced b = not (if is_kept b then true else list_any (is b) (codes "*?["))
+
+-- two bytes that differ in the case of a letter alone
+abbrev pub differ_in_case : ℕ → ℕ → Bool
+differ_in_case a b = if a == b then false else lower a == lower b
+
+-- a test of the first bytes of two texts; false if one of them is empty
+abbrev pub on_firsts : (ℕ → ℕ → Bool) → List ℕ → List ℕ → Bool
+on_firsts test (a ∷ more) (b ∷ rest) = test a b
+on_firsts test _ _ = false
+
+-- what is added if the device has the pattern's letter in the other case
+abbrev pub case_text : (wanted left : List ℕ) → List ℕ
+case_text wanted left = if on_firsts differ_in_case wanted left then codes ": the case of letters counts" else []
+
+-- the device has another byte than the pattern's next token
+abbrev pub other_text : (wanted left : List ℕ) → List ℕ
+other_text wanted left =
+    codes "the device has " ++ (quoted (take 1 left) ++ (codes ", the pattern " ++ (quoted (token_text wanted) ++ case_text wanted left)))
+
+-- udev wrote `_` in place of the pattern's next byte
+abbrev pub replaced_text : (wanted : List ℕ) → List ℕ
+replaced_text wanted = codes "udev makes `_` of " ++ (quoted (take 1 wanted) ++ codes ": write `_` in the pattern")
+
+-- whether the device has `_`, and the pattern a byte that udev may write so
+abbrev pub is_replacement : (wanted left : List ℕ) → Bool
+is_replacement wanted left = on_firsts (λ w l. if is_replaced w then l == byte "_" else false) wanted left
+
+-- why a pattern stops at bytes of a device that is so far another one than it takes
+abbrev pub byte_text : (wanted left : List ℕ) → List ℕ
+byte_text wanted left = if is_replacement wanted left then replaced_text wanted else other_text wanted left
+
+-- why it stops before the device's first colon is passed: the two begin with other parts, or the device has none
+abbrev pub head_text : (pattern device wanted left : List ℕ) → List ℕ
+head_text pattern device wanted left =
+    if has_head device then codes "the device begins with " ++ (quoted (head_of device) ++ codes ": begin the pattern with that")
+    else (if has_head pattern then codes "the device has no prefix: put " ++ (quoted (head_of pattern) ++ codes " before it")
+    else byte_text wanted left)
+
+-- Why a pattern stops after so many bytes of a device, and what to do, by what is left of both: one of the two ends; their first
+-- parts differ; udev wrote `_`; another byte is there.
+abbrev pub why_text : (pattern device : List ℕ) (met : ℕ) (wanted left : List ℕ) → List ℕ
+why_text pattern device met wanted left =
+    if is_none left then codes "the device ends here, the pattern goes on: end the pattern here"
     else (if is_none wanted then codes "the pattern ends here, the device goes on: put `*` after it"
-    else (if nat_le met (position_or_len (is (byte ":")) device) then codes "the device begins with " ++ quoted (head_of device)
-    else (if (if begins_with (byte " ") wanted then begins_with (byte "_") left else false) then codes "a space, which udev makes `_`"
-    else codes "the device has " ++ (quoted (take 1 left) ++ (codes ", the pattern " ++ quoted (token_text wanted))))))
+    else (if nat_le met (position_or_len (is (byte ":")) device) then head_text pattern device wanted left
+    else byte_text wanted left))
 
 -- the line of a place: its path and line, `: `, and what is said of its pattern
 abbrev pub said_line : PatternAt → List ℕ → List ℕ
@@ -177,7 +226,7 @@ marked text at = shown_line text ++ mark_line text at
 abbrev pub stop_report : (device : List ℕ) → PatternAt → Front → List ℕ
 stop_report device at f =
     let place = pattern_place at.pattern f in
-    said_line at (why_text device f.bytes (drop place at.pattern) (drop f.bytes device))
+    said_line at (why_text at.pattern device f.bytes (drop place at.pattern) (drop f.bytes device))
     ++ (marked at.pattern place ++ marked device f.bytes)
 
 -- the report of a pattern that doesn't match

@@ -10,7 +10,7 @@ use Rattle.hwdb_spec.specs.Folders.{same}
 use Rattle.hwdb_spec.specs.Lines.{begins_with, byte, has, is, is_indent, is_none, pieces}
 use Rattle.hwdb_spec.specs.Patterns.{in_span}
 use Rattle.hwdb_spec.specs.declared.vocabulary.Misuse.{Misuse}
-use Rattle.hwdb_spec.specs.declared.vocabulary.Misuse.TheVariants.{NearName, ScanCode, UnfitValue, UnknownKey}
+use Rattle.hwdb_spec.specs.declared.vocabulary.Misuse.TheVariants.{NearName, ScanCode, TwoDefaults, UnfitValue, UnknownKey, ZeroRow}
 use Rattle.hwdb_spec.specs.declared.vocabulary.TheConstants.{KEY_NAMES, PROPERTIES}
 use Rattle.hwdb_spec.specs.declared.vocabulary.ValueForm.{ValueForm}
 use Rattle.hwdb_spec.specs.declared.vocabulary.ValueForm.TheVariants.{Any, Axis, Byte, Choice, Count, Decimal, Integer, Key, Limits, Matrix, Resolutions}
@@ -146,6 +146,14 @@ is_matrix text =
     is_matrix_row (after (byte ";") (after (byte ";") text))
     else false) else false
 
+-- whether a row of a matrix has no digit but 0: it says that an axis of the sensor points nowhere
+abbrev pub is_zero_row : List ℕ → Bool
+is_zero_row text = not (list_any (λ b. in_span b (49, 57)) text)
+
+-- whether one of the rows of a matrix is zero
+abbrev pub has_zero_row : List ℕ → Bool
+has_zero_row text = list_any is_zero_row (pieces (is (byte ";")) text)
+
 -- digits, after a `*` or not, with `@` and digits after them or without; or nothing
 abbrev pub is_resolution : List ℕ → Bool
 is_resolution text =
@@ -157,6 +165,10 @@ is_resolution text =
 -- resolutions with spaces between
 abbrev pub is_resolutions : List ℕ → Bool
 is_resolutions text = list_all is_resolution (pieces (is (byte " ")) text)
+
+-- whether more than one of some resolutions is the default: a `*` comes after another one
+abbrev pub has_two_defaults : List ℕ → Bool
+has_two_defaults text = has (byte "*") (after (byte "*") text)
 
 -- digits, or `0x` and hexadecimal ones
 abbrev pub is_number : List ℕ → Bool
@@ -262,11 +274,17 @@ abbrev pub value_misuse : ValueForm → Misuse
 value_misuse Key = UnknownKey
 value_misuse form = UnfitValue
 
+-- what is said of a value that is of its form
+abbrev pub odd_value : ValueForm → List ℕ → Option Misuse
+odd_value Matrix text = if has_zero_row text then Some ZeroRow else None
+odd_value Resolutions text = if has_two_defaults text then Some TwoDefaults else None
+odd_value form text = None
+
 -- what is said of a property with this row
 abbrev pub row_misuse : (row name text : List ℕ) → Option Misuse
 row_misuse row name text =
     if (if has_code (form_of (row_form row)) then not (is_code row name) else false) then Some ScanCode
-    else (if is_value row text then None else Some (value_misuse (form_of (row_form row))))
+    else (if is_value row text then odd_value (form_of (row_form row)) text else Some (value_misuse (form_of (row_form row))))
 
 -- what is said of a property with this name and this value
 abbrev pub misuse : (name text : List ℕ) → Option Misuse
@@ -310,6 +328,8 @@ misuse_text NearName = codes "a property that nothing is known to read"
 misuse_text ScanCode = codes "a code that isn't lower-case hexadecimal"
 misuse_text UnknownKey = codes "a key that isn't known"
 misuse_text UnfitValue = codes "a value that its property doesn't take"
+misuse_text ZeroRow = codes "a row of the matrix has zeros alone"
+misuse_text TwoDefaults = codes "more than one resolution is the default"
 
 -- what to do about it
 abbrev pub misuse_hint : Misuse → (name text : List ℕ) → List ℕ
@@ -317,3 +337,5 @@ misuse_hint NearName name text = did_you_mean (near_row PROPERTIES.now name)
 misuse_hint ScanCode name text = codes "write the code in the digits 0 to 9 and a to f alone, without 0x"
 misuse_hint UnknownKey name text = key_hint text
 misuse_hint UnfitValue name text = value_hint name
+misuse_hint ZeroRow name text = codes "write in each row where an axis points, as 1, 0, 0; 0, 1, 0; 0, 0, 1"
+misuse_hint TwoDefaults name text = codes "put a * before one of them alone"

@@ -3,8 +3,7 @@
 use Rattle.std.specs.Prelude.{ℕ, List, [], ◌∷◌, ◌++◌, ◌==◌, if◌then◌else◌, codes, flat_map, length, map, nat_lt, take}
 use Rattle.std.specs.List.{position_or_len, prefix_len}
 use Rattle.hex.specs.Hex.{encode_lower}
-use Rattle.hwdb_spec.specs.Lines.{Line, byte, is, is_indent, lines, max_pattern}
-use Rattle.hwdb_spec.specs.Records.{faults}
+use Rattle.hwdb_spec.specs.Lines.{Line, byte, is, is_indent, max_pattern}
 use Rattle.hwdb_spec.specs.Patterns.{in_span}
 use Rattle.hwdb_spec.specs.Texts.{fault_line}
 use Rattle.hwdb_spec.specs.declared.Fault.{Fault}
@@ -73,7 +72,3 @@ report path text f = fault_line path f ++ (shown_line text ++ (mark_line text (f
 abbrev pub text_of_line : List Line → ℕ → List ℕ
 text_of_line [] number = []
 text_of_line (l ∷ more) number = if l.number == number then l.text else text_of_line more number
-
--- the reports of all faults of a file, by line and number
-abbrev pub reports_text : (path file : List ℕ) → List ℕ
-reports_text path file = flat_map (λ f. report path (text_of_line (lines file) f.line) f) (faults file)

@@ -11,12 +11,14 @@ use Rattle.hwdb_spec.specs.Patterns.{is_reversed, range_place, tokens}
 use Rattle.hwdb_spec.specs.Tree.{closed_part, is_open}
 use Rattle.hwdb_spec.specs.Texts.{place_text}
 use Rattle.hwdb_spec.specs.Properties.{misuse, misuse_hint, misuse_text}
+use Rattle.hwdb_spec.specs.Kinds.{is_told}
 use Rattle.hwdb_spec.specs.Reports.{hint_line, mark_line, shown_line}
+use Rattle.hwdb_spec.specs.Surroundings.{is_unpaired, is_unread, unpaired_hint, unread_hint}
 use Rattle.hwdb_spec.specs.Unmatched.{is_unmatched, judgement_hint, judgement_of, judgement_place, judgement_text}
 use Rattle.hwdb_spec.specs.declared.WarningKind.{WarningKind}
 use Rattle.hwdb_spec.specs.declared.vocabulary.Misuse.{Misuse}
-use Rattle.hwdb_spec.specs.declared.vocabulary.Misuse.TheVariants.{NearName, ScanCode, UnfitValue, UnknownKey}
-use Rattle.hwdb_spec.specs.declared.WarningKind.TheVariants.{ByteOrderMark, CarriageReturn, CutValue, EmptyRange, LeadingTab, Misused, OpenBracket, RepeatedMatch, Replaced, SpacedEquals, Unmatched}
+use Rattle.hwdb_spec.specs.declared.vocabulary.Misuse.TheVariants.{NearName, ScanCode, TwoDefaults, UnfitValue, UnknownKey, ZeroRow}
+use Rattle.hwdb_spec.specs.declared.WarningKind.TheVariants.{ByteOrderMark, CarriageReturn, CutValue, EmptyRange, LeadingTab, Misused, OpenBracket, RepeatedMatch, Replaced, SpacedEquals, Unmatched, Unpaired, Unread}
 
 -- whether the key of a property ends with a space or a tab, or its value begins with one
 abbrev pub is_spaced : Line → Bool
@@ -79,8 +81,8 @@ misused l =
 -- byte order mark; with a tab, and so is a match line; a carriage return stands in it, which isn't among its trailing blanks. Of a
 -- match line: a `[` of it begins no closed bracket; before the first such `[` a range has no members. Of a property that has a key:
 -- a blank stands beside its first `=`. Of a property with a `=`: a `#` cuts it, before which no blank stands. It is a match line that
--- stands in its record already. Lines behind it replace what it gives. What is known of properties doesn't fit it. It
--- is a pattern that matches no text that udev asks.
+-- stands in its record already. Lines behind it replace what it gives. What is known of properties doesn't fit it, or the
+-- patterns of its record don't, or the other properties that these are given. It is a pattern that matches no text that udev asks.
 abbrev pub warns : (file : List ℕ) → WarningKind → (line clean : Line) → Bool
 warns file ByteOrderMark line l = starts_with nat_eq l.text (239 ∷ 187 ∷ 191 ∷ [])
 warns file LeadingTab line l = begins_with (byte "\t") l.text
@@ -93,34 +95,33 @@ warns file CutValue line l = if is_property l then (if has_equals l then is_cut 
 warns file RepeatedMatch line l = list_any (is l.number) (repeated_lines file)
 warns file (Replaced by) line l = not (is_none (replacing file l.number))
 warns file (Misused why) line l = is_some (misused l)
+warns file Unread line l = is_unread file l.number
+warns file Unpaired line l = is_unpaired file l.number
 warns file (Unmatched told) line l = is_unmatched (judgement_of l.text)
 
--- one warning of a line, or none
-abbrev pub warned : (file : List ℕ) → WarningKind → (line clean : Line) → List WarningKind
-warned file kind line clean = if warns file kind line clean then kind ∷ [] else []
+-- The kinds of warnings that a line may get. That of a replaced one names the last line that replaces, that of a misused one says how,
+-- and that of a pattern what is said of it.
+abbrev pub line_kinds : (file : List ℕ) → (clean : Line) → List WarningKind
+line_kinds file clean =
+    ByteOrderMark ∷ LeadingTab ∷ CarriageReturn ∷ OpenBracket ∷ EmptyRange ∷ SpacedEquals ∷ CutValue ∷ RepeatedMatch
+    ∷ Replaced (greatest (replacing file clean.number)) ∷ Misused (unwrap_or (misused clean) NearName) ∷ Unread ∷ Unpaired
+    ∷ Unmatched (judgement_of clean.text) ∷ []
 
--- all warnings of a line; that of a replaced one names the last line that replaces, and that of a misused one says how
-abbrev pub all_warnings : (file : List ℕ) → (line clean : Line) → List WarningKind
-all_warnings file line clean =
-    warned file ByteOrderMark line clean
-    ++ (warned file LeadingTab line clean
-    ++ (warned file CarriageReturn line clean
-    ++ (warned file OpenBracket line clean
-    ++ (warned file EmptyRange line clean
-    ++ (warned file SpacedEquals line clean
-    ++ (warned file CutValue line clean
-    ++ (warned file RepeatedMatch line clean
-    ++ (warned file (Replaced (greatest (replacing file clean.number))) line clean
-    ++ (warned file (Misused (unwrap_or (misused clean) NearName)) line clean
-    ++ warned file (Unmatched (judgement_of clean.text)) line clean)))))))))
+-- whether a line gets a warning that is told
+abbrev pub gets : (allowed : List (List ℕ)) → (file : List ℕ) → (line clean : Line) → WarningKind → Bool
+gets allowed file line clean kind = if is_told allowed kind then warns file kind line clean else false
+
+-- all warnings of a line that are told
+abbrev pub all_warnings : (allowed : List (List ℕ)) → (file : List ℕ) → (line clean : Line) → List WarningKind
+all_warnings allowed file line clean = filter (gets allowed file line clean) (line_kinds file clean)
 
 -- the warnings of a line of a file; none where the line is dropped
-abbrev pub line_warnings : (file : List ℕ) → Line → List WarningKind
-line_warnings file l = if is_dropped l then [] else all_warnings file l (clean_line l)
+abbrev pub line_warnings : (allowed : List (List ℕ)) → (file : List ℕ) → Line → List WarningKind
+line_warnings allowed file l = if is_dropped l then [] else all_warnings allowed file l (clean_line l)
 
 -- the warnings of a file, by line
-abbrev pub warnings : List ℕ → List WarningKind
-warnings file = flat_map (line_warnings file) (lines file)
+abbrev pub warnings : (allowed : List (List ℕ)) → List ℕ → List WarningKind
+warnings allowed file = flat_map (line_warnings allowed file) (lines file)
 
 -- what is printed of a warning
 abbrev pub warning_text : WarningKind → List ℕ
@@ -134,6 +135,8 @@ warning_text CutValue = codes "a # without a blank before it cuts the value"
 warning_text RepeatedMatch = codes "a match line that stands in its record already"
 warning_text (Replaced by) = codes "an assignment that line " ++ (decimal by ++ codes " replaces")
 warning_text (Misused why) = misuse_text why
+warning_text Unread = codes "a property that isn't read below its patterns"
+warning_text Unpaired = codes "a property that is read with others alone"
 warning_text (Unmatched told) = judgement_text told
 
 -- behind how many bytes of its line a warning stands, of a line with this text and this clean text
@@ -151,6 +154,10 @@ warning_place (Misused NearName) text clean = prefix_len is_indent text
 warning_place (Misused ScanCode) text clean = prefix_len is_indent text
 warning_place (Misused UnknownKey) text clean = position_or_len (is (byte "=")) text + 1
 warning_place (Misused UnfitValue) text clean = position_or_len (is (byte "=")) text + 1
+warning_place (Misused ZeroRow) text clean = position_or_len (is (byte "=")) text + 1
+warning_place (Misused TwoDefaults) text clean = position_or_len (is (byte "=")) text + 1
+warning_place Unread text clean = prefix_len is_indent text
+warning_place Unpaired text clean = prefix_len is_indent text
 warning_place (Unmatched told) text clean = judgement_place told
 
 -- what to do about a warning
@@ -165,6 +172,8 @@ warning_hint CutValue clean = codes "put a blank before a comment; a value can't
 warning_hint RepeatedMatch clean = codes "take one of the two away"
 warning_hint (Replaced by) clean = codes "take one of the two away"
 warning_hint (Misused why) clean = misuse_hint why (key clean) (value clean)
+warning_hint Unread clean = unread_hint (key clean)
+warning_hint Unpaired clean = unpaired_hint (key clean)
 warning_hint (Unmatched told) clean = judgement_hint told clean.text
 
 -- the line of a warning: where it stands, `: warning: `, what is unusual
@@ -174,11 +183,3 @@ warning_line path number kind = place_text path number ++ codes ": warning: " ++
 -- the report of a warning: its line, the text of the line, the mark, and what to do
 abbrev pub warning_report : (path : List ℕ) → Line → WarningKind → List ℕ
 warning_report path l kind = warning_line path l.number kind ++ (shown_line l.text ++ (mark_line l.text (warning_place kind l.text (clean_line l).text) ++ hint_line (warning_hint kind (clean_line l))))
-
--- the reports of the warnings of a line of a file
-abbrev pub line_text : (path file : List ℕ) → Line → List ℕ
-line_text path file l = flat_map (warning_report path l) (line_warnings file l)
-
--- the reports of the warnings of a file, by line
-abbrev pub warnings_text : (path file : List ℕ) → List ℕ
-warnings_text path file = flat_map (line_text path file) (lines file)

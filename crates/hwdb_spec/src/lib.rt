@@ -23,13 +23,16 @@
 //! | `Dump` | a database as text of the form that hwdb(7) describes, and whether the text says what the database assigns |
 //! | `Summary` | how much is in a database, and its lines |
 //! | `Verdicts` | what is said of bytes that are no database |
+//! | `Json` | each line of JSON that is printed, and what is read of one |
 //! | `Reports` | the reports of a file's faults |
 //! | `Properties` | which properties are known, which values they take, and what is said of others |
 //! | `Unmatched` | what is said of a pattern that matches no text that udev asks |
+//! | `Surroundings` | what is said of a property because of the patterns and properties around it |
+//! | `Kinds` | the names of faults and warnings, and which warnings are told |
 //! | `Warnings` | the warnings of a file, and their reports |
+//! | `Findings` | what `check` prints of a file: reports, or lines of JSON |
 //! | `Checks` | what `check` prints, how much it finds, and its status |
 //! | `Progress` | what `update` says of its work |
-//! | `Json` | each line of JSON that is printed, and what is read of one |
 //! | `ManyDevices` | what `explain` prints of several devices, and a line of devices that is too long |
 //! | `LoneFile` | one text file alone, as `ask` reads it and `dump` writes it |
 //! | `Databases` | what bytes of databases give, and what is so of bytes that are none |
@@ -48,7 +51,10 @@
 //! | `Hiding` | what `update --usr --verbose` says where /etc's database hides the new one |
 //! | `Done` | what `update` and `ask` leave, and what a crash leaves during an update |
 //! | `Near` | the pattern that almost matched a device, and where it stopped |
+//! | `NearAsked` | which patterns `near` compares with a device: those of text files, or of a database |
+//! | `Colours` | how a text is shown in colour |
 //! | `Sysfs` | what sysfs holds of a device and its parents, and how udev reads it |
+//! | `DeviceTree` | where sysfs has a device, and what is read of it and its parents |
 //! | `Inputs` | what kinds of input device udev sees in one |
 //! | `Lookups` | the strings that udev's rules ask for a device, in their order |
 //!
@@ -59,10 +65,12 @@ ghost use Rattle.std.specs.Prelude.{◌≡◌};
 ghost use Rattle.hwdb_spec.specs.Records.{fault_text};
 ghost use Rattle.hwdb_spec.specs.Texts.{db_fault_name, db_fault_offset};
 
+mod colours;
 mod vocabulary;
 
+pub use colours::{LinePart, Style, TextKind};
 use std::{error, fmt};
-pub use vocabulary::{KEY_NAMES, Misuse, PROPERTIES, ValueForm};
+pub use vocabulary::{COMPANIONS, KEY_NAMES, Misuse, PROPERTIES, ValueForm};
 
 /// A named class of bytes, as POSIX has it in the C locale.
 #[derive(Clone, Copy)]
@@ -193,6 +201,10 @@ pub enum WarningKind {
     Replaced(u64),
     /// Its property doesn't fit what is known of properties.
     Misused(Misuse),
+    /// Its property isn't read below any of its patterns.
+    Unread,
+    /// Its property is read with others alone, which one of its patterns isn't given.
+    Unpaired,
     /// It is a pattern that matches no text that udev asks.
     Unmatched(Judgement),
 }

@@ -84,16 +84,16 @@ pub const PROPERTIES: &str = "\
     ID_VMBUS_CLASS_FROM_DATABASE any * 20-vmbus-class.hwdb\n\
     ID_PRODUCT_FROM_DATABASE any * 20-bluetooth-vendor-product.hwdb\n\
     ID_NET_NAME_FROM_DATABASE any * 20-net-ifname.hwdb\n\
-    MOUSE_DPI resolutions mouse 70-mouse.hwdb\n\
+    MOUSE_DPI resolutions mouse|evdev|id-input 70-mouse.hwdb\n\
     KEYBOARD_KEY_ key evdev 60-keyboard.hwdb\n\
     EVDEV_ABS_ axis evdev 60-evdev.hwdb\n\
     ACCEL_MOUNT_MATRIX matrix sensor|evdev 60-sensor.hwdb\n\
-    MOUSE_WHEEL_CLICK_ANGLE integer mouse 70-mouse.hwdb\n\
-    MOUSE_WHEEL_CLICK_ANGLE_HORIZONTAL integer mouse 70-mouse.hwdb\n\
-    MOUSE_WHEEL_CLICK_COUNT integer mouse 70-mouse.hwdb\n\
-    MOUSE_WHEEL_CLICK_COUNT_HORIZONTAL integer mouse 70-mouse.hwdb\n\
-    MOUSE_WHEEL_TILT_HORIZONTAL 0|1 mouse 70-mouse.hwdb\n\
-    MOUSE_WHEEL_TILT_VERTICAL 0|1 mouse 70-mouse.hwdb\n\
+    MOUSE_WHEEL_CLICK_ANGLE integer mouse|evdev|id-input 70-mouse.hwdb\n\
+    MOUSE_WHEEL_CLICK_ANGLE_HORIZONTAL integer mouse|evdev|id-input 70-mouse.hwdb\n\
+    MOUSE_WHEEL_CLICK_COUNT integer mouse|evdev|id-input 70-mouse.hwdb\n\
+    MOUSE_WHEEL_CLICK_COUNT_HORIZONTAL integer mouse|evdev|id-input 70-mouse.hwdb\n\
+    MOUSE_WHEEL_TILT_HORIZONTAL 0|1 mouse|evdev|id-input 70-mouse.hwdb\n\
+    MOUSE_WHEEL_TILT_VERTICAL 0|1 mouse|evdev|id-input 70-mouse.hwdb\n\
     ID_INPUT 0|1 id-input|evdev|mouse|touchpad|libwacom|usb|input|joystick 60-input-id.hwdb\n\
     ID_INPUT_ACCELEROMETER 0|1 id-input|evdev|mouse|touchpad|libwacom|usb|input|joystick 60-input-id.hwdb\n\
     ID_INPUT_JOYSTICK 0|1 id-input|evdev|mouse|touchpad|libwacom|usb|input|joystick 60-input-id.hwdb\n\
@@ -108,8 +108,8 @@ pub const PROPERTIES: &str = "\
     ID_INPUT_TOUCHSCREEN 0|1 id-input|evdev|mouse|touchpad|libwacom|usb|input|joystick 60-input-id.hwdb\n\
     ID_INPUT_TRACKBALL 0|1 id-input|evdev|mouse|touchpad|libwacom|usb|input|joystick 70-mouse.hwdb\n\
     ID_INPUT_3D_MOUSE 0|1 id-input|evdev|mouse|touchpad|libwacom|usb|input|joystick 70-mouse.hwdb\n\
-    ID_INPUT_JOYSTICK_INTEGRATION internal|external joystick 70-joystick.hwdb\n\
-    ID_INPUT_TOUCHPAD_INTEGRATION internal|external touchpad 70-touchpad.hwdb\n\
+    ID_INPUT_JOYSTICK_INTEGRATION internal|external joystick|evdev|id-input 70-joystick.hwdb\n\
+    ID_INPUT_TOUCHPAD_INTEGRATION internal|external touchpad|evdev|id-input 70-touchpad.hwdb\n\
     ID_INTEGRATION internal|external * 60-keyboard.hwdb\n\
     ID_AUTOSUSPEND 0|1 * 60-autosuspend-fingerprint-reader.hwdb\n\
     ID_PERSIST 0|1 * 60-autosuspend-fingerprint-reader.hwdb\n\
@@ -135,10 +135,10 @@ pub const PROPERTIES: &str = "\
     ID_CHASSIS desktop|laptop|convertible|server|tablet|handset|watch|embedded|vm|container * 20-dmi-id.hwdb\n\
     ID_SYSFS_ATTRIBUTE_MODEL product_name|product_version * 20-dmi-id.hwdb\n\
     POINTINGSTICK_SENSITIVITY byte evdev 70-pointingstick.hwdb\n\
-    POINTINGSTICK_CONST_ACCEL decimal evdev 70-pointingstick.hwdb\n\
-    XKB_FIXED_LAYOUT any evdev 60-keyboard.hwdb\n\
-    XKB_FIXED_VARIANT any evdev 60-keyboard.hwdb\n\
-    XKB_FIXED_MODEL any evdev 60-keyboard.hwdb\n\
+    POINTINGSTICK_CONST_ACCEL decimal evdev|id-input 70-pointingstick.hwdb\n\
+    XKB_FIXED_LAYOUT any evdev|id-input 60-keyboard.hwdb\n\
+    XKB_FIXED_VARIANT any evdev|id-input 60-keyboard.hwdb\n\
+    XKB_FIXED_MODEL any evdev|id-input 60-keyboard.hwdb\n\
     KEYBOARD_LED_NUMLOCK 0|1 evdev 60-keyboard.hwdb\n\
     KEYBOARD_LED_CAPSLOCK 0|1 evdev 60-keyboard.hwdb\n\
     ACCEL_LOCATION display|base sensor 60-sensor.hwdb\n\
@@ -151,6 +151,13 @@ pub const PROPERTIES: &str = "\
     TPM2_BROKEN_NVPCR 0|1 tpm2 60-tpm2.hwdb\n\
     VSOCK_ACCEPT_VMADDR_CID_ANY 0|1 * systemd\n\
     CHARGE_LIMIT limits battery 60-upower-battery.hwdb\n";
+
+/// Properties that are read with others of their record alone. A line each: its name, the others with a comma between, and
+/// where this is said, with a space between.
+pub const COMPANIONS: &str = "\
+    MOUSE_WHEEL_CLICK_COUNT MOUSE_WHEEL_CLICK_ANGLE 70-mouse.hwdb\n\
+    MOUSE_WHEEL_CLICK_ANGLE_HORIZONTAL MOUSE_WHEEL_CLICK_ANGLE 70-mouse.hwdb\n\
+    MOUSE_WHEEL_CLICK_COUNT_HORIZONTAL MOUSE_WHEEL_CLICK_COUNT,MOUSE_WHEEL_CLICK_ANGLE_HORIZONTAL 70-mouse.hwdb\n";
 
 /// Which texts are values of a property.
 #[derive(Clone, Copy, Debug, PartialEq, Eq)]
@@ -190,4 +197,8 @@ pub enum Misuse {
     UnknownKey,
     /// Its value isn't of its form.
     UnfitValue,
+    /// A row of its matrix is zero.
+    ZeroRow,
+    /// More than one of its resolutions is the default.
+    TwoDefaults,
 }

@@ -1,22 +1,22 @@
 -- Commands that answer from the database, and are refused.
-use Rattle.std.proofs.Common.{◌≡◌, ℕ, List, Option, None, Some, IfSome}
+use Rattle.std.proofs.Common.{◌≡◌, ◌≤◌, length, ℕ, List, Option, None, Some, IfSome}
 use Rattle.hwdb_spec.specs.Asked.{IsAnswered, IsAskedPath}
 use Rattle.hwdb_spec.specs.Databases.{IsTextOf}
 use Rattle.hwdb_spec.specs.Outputs.{TookOne, Wrote}
 use Rattle.hwdb_spec.specs.Store.{Contents}
 use Rattle.hwdb_spec.specs.System.{asked_database}
-use Rattle.hwdb_spec.specs.Texts.{devices_of}
+use Rattle.hwdb_spec.specs.Texts.{devices_of, max_file}
 use Rattle.hwdb_print.specs.declared.errors.ToolError.{ToolError}
 use Rattle.hwdb_print.specs.declared.errors.ToolError.TheVariants.{Read, Write, TooLong, TooManyFiles, TooManyLines, TooLarge, BadPosition, BadDatabase, Replace, Memory}
 use Rattle.hwdb_print.specs.declared.form.Form.{Form}
 use Rattle.hwdb_print.specs.Streams.{IfBadDatabase, texts_of}
-use Rattle.hwdb_fs.specs.Refusals.{IsUnread}
+use Rattle.hwdb_fs.specs.Refusals.{IsUnreadAt}
 use Rattle.hwdb_tool.specs.Undone.{IsUnfound}
 use Rattle.hwdb_fs.specs.declared.refusals.Refusal.{Refusal}
 use Rattle.hwdb_fs.specs.declared.refusals.Refusal.TheVariants.{At, InWords, NoDatabase, Plain}
 
 -- reading the database that is asked
-pub unfound : (root : List ℕ) (contents : Contents) (path : List ℕ) (refusal : Refusal) → IsAskedPath root contents path → IsUnread path refusal → IsUnfound root contents refusal
+pub unfound : (root : List ℕ) (contents : Contents) (path : List ℕ) (refusal : Refusal) → IsAskedPath root contents path → IsUnreadAt contents path refusal → IsUnfound root contents refusal
 unfound root contents path (Plain error) asked h = (path, asked, h)
 unfound root contents path (At error at cause) asked h = (path, asked, h)
 unfound root contents path NoDatabase asked h = absurd h
@@ -37,11 +37,11 @@ if_bad Memory f h = tt
 
 -- what was printed of the devices of the input, in the words of the program
 pub streamed : (input : Option (List ℕ)) (root : List ℕ) (form : Form) (contents : Contents) (bytes : List ℕ) (before now : Option (List ℕ)) (failures_before failures_now : ℕ)
-    → asked_database root contents ≡ Some bytes → IfSome input (λ text. Wrote (IsTextOf (texts_of form (devices_of text)) bytes) before now) → failures_now ≡ failures_before
+    → asked_database root contents ≡ Some bytes → length bytes ≤ max_file → IfSome input (λ text. Wrote (IsTextOf (texts_of form (devices_of text)) bytes) before now) → failures_now ≡ failures_before
     → IfSome input (λ text. TookOne (IsAnswered root (IsTextOf (texts_of form (devices_of text))) contents) before now failures_before failures_now)
-streamed None root form contents bytes before now failures_before failures_now asked printed unfailed = tt
-streamed (Some text) root form contents bytes before now failures_before failures_now asked printed unfailed = record {
+streamed None root form contents bytes before now failures_before failures_now asked within printed unfailed = tt
+streamed (Some text) root form contents bytes before now failures_before failures_now asked within printed unfailed = record {
   text = printed.text;
-  is = record { bytes = bytes; named = asked; is = printed.is };
+  is = record { bytes = bytes; named = asked; within = within; is = printed.is };
   took = record { whole = printed.taken; unfailed = unfailed };
 }

@@ -143,20 +143,20 @@ chosen_sources root contents usr chosen texts files are named held = record {
 }
 
 -- ---- what is said of them
-pub checked_as : (Are : List Source → Type 0) (files : List TextFile) (strict : Bool) (text : List ℕ) (status : ℕ) → Are (map source_of files)
-    → IsChecked (λ sources. sources ≡ map source_of files) strict text status → IsChecked Are strict text status
-checked_as Are files strict text status are checked = record {
+pub checked_as : (Are : List Source → Type 0) (files : List TextFile) (json strict : Bool) (allowed : List (List ℕ)) (text : List ℕ) (status : ℕ) → Are (map source_of files)
+    → IsChecked (λ sources. sources ≡ map source_of files) json strict allowed text status → IsChecked Are json strict allowed text status
+checked_as Are files json strict allowed text status are checked = record {
   sources = checked.sources;
   are = subst Are (sym checked.are) are;
   is = checked.is;
   says = checked.says;
 }
 
-pub all_checked : (Are : List Source → Type 0) (files : List TextFile) (strict : Bool) (r : Result Answer Refusal) → Are (map source_of files)
-    → IfOk r (λ a. OnOut (λ text. IsChecked (λ sources. sources ≡ map source_of files) strict text a.status) (texts_in a))
-    → IfOk r (λ a. OnOut (λ text. IsChecked Are strict text a.status) (texts_in a))
-all_checked Are files strict (Ok a) are checked = (checked.0, checked_as Are files strict a.out.items a.status are checked.1)
-all_checked Are files strict (Err e) are checked = tt
+pub all_checked : (Are : List Source → Type 0) (files : List TextFile) (json strict : Bool) (allowed : List (List ℕ)) (r : Result Answer Refusal) → Are (map source_of files)
+    → IfOk r (λ a. OnOut (λ text. IsChecked (λ sources. sources ≡ map source_of files) json strict allowed text a.status) (texts_in a))
+    → IfOk r (λ a. OnOut (λ text. IsChecked Are json strict allowed text a.status) (texts_in a))
+all_checked Are files json strict allowed (Ok a) are checked = (checked.0, checked_as Are files json strict allowed a.out.items a.status are checked.1)
+all_checked Are files json strict allowed (Err e) are checked = tt
 
 pub not_checked : {T : Type 0} (Unread : Refusal → Type 0) (Are : List Source → Type 0) (files : List TextFile) (r : Result T Refusal) → Are (map source_of files)
     → IfErr r (AreNotChecked (λ sources. sources ≡ map source_of files)) → IfErr r (IsCheckRefused Unread Are)

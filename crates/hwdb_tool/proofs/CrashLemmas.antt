@@ -9,7 +9,7 @@ use Rattle.hwdb_cli.specs.Jobs.{IsJobOf, IsTask, has_flag}
 use Rattle.hwdb_cli.specs.Line.{hwdb_app}
 use Rattle.hwdb_cli.specs.declared.job.Job.{Job}
 use Rattle.hwdb_cli.specs.declared.job.Task.{Task}
-use Rattle.hwdb_cli.specs.declared.job.Task.TheVariants.{Ask, Check, Diff, Dump, Explain, List as ListHits, Query, Update, Verify}
+use Rattle.hwdb_cli.specs.declared.job.Task.TheVariants.{Update}
 use Rattle.hwdb_query.specs.Laws.{AllCompiledAnswersAreLast, LastAssignmentsAreLast}
 use Rattle.hwdb_spec.specs.Answers.{effective_of, last_assignments}
 use Rattle.hwdb_spec.specs.Assignment.{Assignment}
@@ -32,14 +32,7 @@ by_name name inner = if bytes_eq name (codes "update") then has_flag (codes "ski
 
 skips_by_name : (name : Text) (inner : List Row) (t : Task) → IsTask name inner t → skips t ≡ by_name name inner
 skips_by_name name inner (Update verbose skip) t = t.2 ∙ ap (λ (n : Text). by_name n inner) (sym t.0)
-skips_by_name name inner (Query devices json) t = ap (λ (n : Text). by_name n inner) (sym t.0)
-skips_by_name name inner (Explain device json) t = ap (λ (n : Text). by_name n inner) (sym t.0)
-skips_by_name name inner (ListHits after limit device json) t = ap (λ (n : Text). by_name n inner) (sym t.0)
-skips_by_name name inner (Ask file device) t = ap (λ (n : Text). by_name n inner) (sym t.0)
-skips_by_name name inner (Check files) t = ap (λ (n : Text). by_name n inner) (sym t.0)
-skips_by_name name inner (Diff old new) t = ap (λ (n : Text). by_name n inner) (sym t.0)
-skips_by_name name inner (Verify database) t = ap (λ (n : Text). by_name n inner) (sym t.0)
-skips_by_name name inner (Dump database) t = ap (λ (n : Text). by_name n inner) (sym t.0)
+skips_by_name name inner task t = ap (λ (n : Text). by_name n inner) (sym t.0)
 
 -- words ask for one root and one folder, and one thing about what can't be read
 one_place_of : (top : List Row) (found : Option (Text × List Row)) (j k : Job) → IsJobOf top found j → IsJobOf top found k → (root_of j ≡ root_of k) × (j.usr ≡ k.usr) × (skips j.task ≡ skips k.task)

@@ -1,7 +1,7 @@
 -- A task that is refused since an output failed changes nothing.
 use Rattle.std.proofs.Common.{⊎_elim, Bool, List, ℕ}
 use Rattle.hwdb_cli.specs.declared.job.Task.{Task}
-use Rattle.hwdb_cli.specs.declared.job.Task.TheVariants.{Ask, Check, Diff, Dump, Explain, List as ListHits, Query, Update, Verify}
+use Rattle.hwdb_cli.specs.declared.job.Task.TheVariants.{Update}
 use Rattle.hwdb_spec.specs.Runs.{AreKept, World}
 use Rattle.hwdb_fs.specs.declared.refusals.Refusal.TheVariants.{Plain}
 use Rattle.hwdb_tool.specs.TaskRefusals.{IsTaskRefused}
@@ -15,11 +15,4 @@ module _ (root : List ℕ) (usr strict : Bool) (before now : World) where
       (λ less. ⊎_elim (λ unsaid. unsaid.1)
       (λ said. ⊎_elim (λ memory. memory.1)
       (λ undone. ⊎_elim (λ uncompiled. uncompiled.kept) (λ unwritten. absurd unwritten.is) undone.refused) said.2) less.refused) told.refused) r.0
-  cut_keeps (Query devices json) r = r.1
-  cut_keeps (Explain device json) r = r.1
-  cut_keeps (ListHits after limit device json) r = r.1
-  cut_keeps (Ask file device) r = r.1
-  cut_keeps (Check files) r = r.1
-  cut_keeps (Diff old_path new_path) r = r.1
-  cut_keeps (Verify database) r = r.1
-  cut_keeps (Dump database) r = r.1
+  cut_keeps task r = r.1

@@ -1,16 +1,18 @@
 -- Words ask for one job.
-use Rattle.std.proofs.Common.{◌≡◌, ◌∙◌, ap, refl, sym, subst, Bool, List, [], ◌∷◌, ◌+◌, ◌*◌, map, ℕ, Option, Some, None, string_bytes, arith, get_or, ⊎_elim}
+use Rattle.std.proofs.Common.{◌≡◌, ◌∙◌, ap, refl, sym, subst, Bool, false, true≢false, List, [], ◌∷◌, ◌++◌, map, ℕ, Option, Some, None, string_bytes, ⊎_elim}
 use Rattle.std.specs.Prelude.{codes, option_map}
 use Rattle.std.specs.Option.{option_map_or}
+use Rattle.std.specs.Str.{bytes_eq}
+use Rattle.std.proofs.lemmas.Slice.Eq.{bytes_eq-Decides}
 use Rattle.clap.specs.declared.error.kind.ErrorKind.TheVariants.{DisplayHelp, DisplayVersion}
 use Rattle.clap.specs.Kinds.{IsAmong}
 use Rattle.clap.specs.Walk.{Row, Text, all_of, first_of, one_of}
 use Rattle.clap.specs.Simple.{matches_of, subcommand_of}
-use Rattle.hwdb_cli.specs.Jobs.{IsJobOf, IsLimit, IsTask}
+use Rattle.hwdb_cli.specs.Jobs.{IsJob, IsJobOf, IsLimit, IsTask}
 use Rattle.hwdb_cli.specs.Line.{hwdb_app}
 use Rattle.hwdb_cli.specs.declared.job.Job.{Job}
 use Rattle.hwdb_cli.specs.declared.job.Task.{Task}
-use Rattle.hwdb_cli.specs.declared.job.Task.TheVariants.{Ask, Check, Diff, Dump, Explain, List as ListHits, Query, Update, Verify}
+use Rattle.hwdb_cli.specs.declared.job.Task.TheVariants.{Ask, Check, Diff, Dump, Explain, List as ListHits, Near, Query, Update, Verify}
 use Rattle.hwdb_spec.specs.Outputs.{Texts}
 use Rattle.hwdb_spec.specs.Runs.{AreKept, OnOut, Printed, World}
 use Rattle.hwdb_spec.specs.Store.{Contents, Outcomes}
@@ -18,6 +20,7 @@ use Rattle.hwdb_spec.specs.CheckedFiles.{AreCheckedFiles, IsChecked}
 use Rattle.hwdb_spec.specs.Asked.{IsCompared, IsAnswered, IsListFrom, IsDumped, IsPrinted}
 use Rattle.hwdb_spec.specs.Done.{IsAsked}
 use Rattle.hwdb_spec.specs.Databases.{IsSummary}
+use Rattle.hwdb_spec.specs.NearAsked.{IsNear, near_form, near_limit}
 use Rattle.hwdb_tool.specs.Queries.{AreAnswered, IfNamed, IsQuiet}
 use Rattle.hwdb_print.specs.declared.form.Form.{Form}
 use Rattle.hwdb_print.specs.declared.form.Form.TheVariants as form
@@ -25,10 +28,10 @@ use Rattle.hwdb_spec.specs.Given.{is_input}
 use Rattle.hwdb_tool.specs.Program.{IsDone, IsTaskDone, root_of}
 use Rattle.hwdb_tool.specs.OneOutcome.{DoneIsNotTold, JobsAreOne, TasksAreOne, scene_of}
 
-one_value : (o : Option (List ℕ)) (a b : List ℕ) → Some a ≡ o → Some b ≡ o → a ≡ b
+pub one_value : (o : Option (List ℕ)) (a b : List ℕ) → Some a ≡ o → Some b ≡ o → a ≡ b
 one_value o a b one two = ap (λ (p : Option (List ℕ)). option_map_or (λ (x : List ℕ). x) p []) (one ∙ sym two)
 
-one_values : (o : Option (List (List ℕ))) (a b : List (List ℕ)) → Some a ≡ o → Some b ≡ o → a ≡ b
+pub one_values : (o : Option (List (List ℕ))) (a b : List (List ℕ)) → Some a ≡ o → Some b ≡ o → a ≡ b
 one_values o a b one two = ap (λ (p : Option (List (List ℕ))). option_map_or (λ (x : List (List ℕ)). x) p []) (one ∙ sym two)
 
 one_limit : (o : Option Text) (a b : Option ℕ) → IsLimit o a → IsLimit o b → a ≡ b
@@ -37,12 +40,40 @@ one_limit (Some text) None b one two = absurd one
 one_limit (Some text) (Some a) None one two = absurd two
 one_limit (Some text) (Some a) (Some b) one two = ap Some (one.1 ∙ sym two.1)
 
--- two names aren't one, by their first letters
-abbrev tag : List ℕ → ℕ
-tag l = get_or l 0 0 * 1000 + get_or l 1 0
+-- the last of some texts, and those before it
+cut_last : (xs ys : List (List ℕ)) (x y : List ℕ) → xs ++ x ∷ [] ≡ ys ++ y ∷ [] → (xs ≡ ys) × (x ≡ y)
+cut_last [] [] x y e = (refl, cc)
+cut_last [] (b ∷ []) x y e = cc
+cut_last [] (b ∷ c ∷ ys) x y e = cc
+cut_last (a ∷ []) [] x y e = cc
+cut_last (a ∷ c ∷ xs) [] x y e = cc
+cut_last (a ∷ xs) (b ∷ ys) x y e =
+    let tail : xs ++ x ∷ [] ≡ ys ++ y ∷ [] = cc in
+    let head : a ≡ b = cc in
+    let r = cut_last xs ys x y tail in
+    let same : xs ≡ ys = r.0 in
+    (cc, r.1)
 
-apart : (m n : List ℕ) → m ≡ n → (tag m ≡ tag n → ⊥) → ⊥
-apart m n e differ = differ (ap tag e)
+-- a task's word
+abbrev pub word_of : Task → Text
+word_of (Update verbose skip) = codes "update"
+word_of (Query devices json) = codes "query"
+word_of (Explain device json) = codes "explain"
+word_of (ListHits after limit device json) = codes "list"
+word_of (Ask file device) = codes "ask"
+word_of (Near files device limit json) = codes "near"
+word_of (Check files allowed json) = codes "check"
+word_of (Diff old_path new_path) = codes "diff"
+word_of (Verify database) = codes "verify"
+word_of (Dump database) = codes "dump"
+
+pub is_named : (name : Text) (inner : List Row) (task : Task) → IsTask name inner task → name ≡ word_of task
+is_named name inner (Update verbose skip) t = t.0
+is_named name inner task t = t.0
+
+-- two names aren't one
+pub apart : {X : Type 0} (m n : Text) → bytes_eq m n ≡ false → m ≡ n → X
+apart m n differ is = absurd (true≢false (sym ((bytes_eq-Decides m n).1 is) ∙ differ))
 
 -- what is done of the one task is done of the other
 module _ (name : Text) (inner : List Row) (root : List ℕ) (usr strict : Bool) (status : ℕ) (before now : World) where
@@ -69,101 +100,39 @@ module _ (name : Text) (inner : List Row) (root : List ℕ) (usr strict : Bool) 
   pub same_task : (t u : Task) → IsTask name inner t → IsTask name inner u → Out u → Out t
   same_task (Update v1 k1) (Update v2 k2) t u done =
       subst (λ (b : Bool). Out (Update b k1)) (u.1 ∙ sym t.1) (subst (λ (b : Bool). Out (Update v2 b)) (u.2 ∙ sym t.2) done)
-  same_task (Update v1 k1) (Query devices2 json2) t u done = absurd (apart (codes "update") (codes "query") (sym t.0 ∙ u.0) (λ (e : 117112 ≡ 113117). omega (arith, e)))
-  same_task (Update v1 k1) (Explain device2 json2) t u done = absurd (apart (codes "update") (codes "explain") (sym t.0 ∙ u.0) (λ (e : 117112 ≡ 101120). omega (arith, e)))
-  same_task (Update v1 k1) (ListHits after2 limit2 device2 json2) t u done = absurd (apart (codes "update") (codes "list") (sym t.0 ∙ u.0) (λ (e : 117112 ≡ 108105). omega (arith, e)))
-  same_task (Update v1 k1) (Ask file2 device2) t u done = absurd (apart (codes "update") (codes "ask") (sym t.0 ∙ u.0) (λ (e : 117112 ≡ 97115). omega (arith, e)))
-  same_task (Update v1 k1) (Check files2) t u done = absurd (apart (codes "update") (codes "check") (sym t.0 ∙ u.0) (λ (e : 117112 ≡ 99104). omega (arith, e)))
-  same_task (Update v1 k1) (Diff old2 new2) t u done = absurd (apart (codes "update") (codes "diff") (sym t.0 ∙ u.0) (λ (e : 117112 ≡ 100105). omega (arith, e)))
-  same_task (Update v1 k1) (Verify database2) t u done = absurd (apart (codes "update") (codes "verify") (sym t.0 ∙ u.0) (λ (e : 117112 ≡ 118101). omega (arith, e)))
-  same_task (Update v1 k1) (Dump database2) t u done = absurd (apart (codes "update") (codes "dump") (sym t.0 ∙ u.0) (λ (e : 117112 ≡ 100117). omega (arith, e)))
-  same_task (Query devices1 json1) (Update v2 k2) t u done = absurd (apart (codes "query") (codes "update") (sym t.0 ∙ u.0) (λ (e : 113117 ≡ 117112). omega (arith, e)))
   same_task (Query devices1 json1) (Query devices2 json2) t u done =
       subst (λ (ds : List (List ℕ)). Answers ds (form.Query json1)) (one_values (all_of (codes "MODALIAS") inner) _ _ u.2 t.2)
       (subst (λ (j : Bool). Answers (map string_bytes devices2.items) (form.Query j)) (u.1 ∙ sym t.1) done)
-  same_task (Query devices1 json1) (Explain device2 json2) t u done = absurd (apart (codes "query") (codes "explain") (sym t.0 ∙ u.0) (λ (e : 113117 ≡ 101120). omega (arith, e)))
-  same_task (Query devices1 json1) (ListHits after2 limit2 device2 json2) t u done = absurd (apart (codes "query") (codes "list") (sym t.0 ∙ u.0) (λ (e : 113117 ≡ 108105). omega (arith, e)))
-  same_task (Query devices1 json1) (Ask file2 device2) t u done = absurd (apart (codes "query") (codes "ask") (sym t.0 ∙ u.0) (λ (e : 113117 ≡ 97115). omega (arith, e)))
-  same_task (Query devices1 json1) (Check files2) t u done = absurd (apart (codes "query") (codes "check") (sym t.0 ∙ u.0) (λ (e : 113117 ≡ 99104). omega (arith, e)))
-  same_task (Query devices1 json1) (Diff old2 new2) t u done = absurd (apart (codes "query") (codes "diff") (sym t.0 ∙ u.0) (λ (e : 113117 ≡ 100105). omega (arith, e)))
-  same_task (Query devices1 json1) (Verify database2) t u done = absurd (apart (codes "query") (codes "verify") (sym t.0 ∙ u.0) (λ (e : 113117 ≡ 118101). omega (arith, e)))
-  same_task (Query devices1 json1) (Dump database2) t u done = absurd (apart (codes "query") (codes "dump") (sym t.0 ∙ u.0) (λ (e : 113117 ≡ 100117). omega (arith, e)))
-  same_task (Explain device1 json1) (Update v2 k2) t u done = absurd (apart (codes "explain") (codes "update") (sym t.0 ∙ u.0) (λ (e : 101120 ≡ 117112). omega (arith, e)))
-  same_task (Explain device1 json1) (Query devices2 json2) t u done = absurd (apart (codes "explain") (codes "query") (sym t.0 ∙ u.0) (λ (e : 101120 ≡ 113117). omega (arith, e)))
   same_task (Explain device1 json1) (Explain device2 json2) t u done =
       subst (λ (d : List ℕ). Answers (d ∷ []) (form.Explain json1)) (one_value (first_of (codes "MODALIAS") inner) _ _ u.2 t.2)
       (subst (λ (j : Bool). Answers (string_bytes device2 ∷ []) (form.Explain j)) (u.1 ∙ sym t.1) done)
-  same_task (Explain device1 json1) (ListHits after2 limit2 device2 json2) t u done = absurd (apart (codes "explain") (codes "list") (sym t.0 ∙ u.0) (λ (e : 101120 ≡ 108105). omega (arith, e)))
-  same_task (Explain device1 json1) (Ask file2 device2) t u done = absurd (apart (codes "explain") (codes "ask") (sym t.0 ∙ u.0) (λ (e : 101120 ≡ 97115). omega (arith, e)))
-  same_task (Explain device1 json1) (Check files2) t u done = absurd (apart (codes "explain") (codes "check") (sym t.0 ∙ u.0) (λ (e : 101120 ≡ 99104). omega (arith, e)))
-  same_task (Explain device1 json1) (Diff old2 new2) t u done = absurd (apart (codes "explain") (codes "diff") (sym t.0 ∙ u.0) (λ (e : 101120 ≡ 100105). omega (arith, e)))
-  same_task (Explain device1 json1) (Verify database2) t u done = absurd (apart (codes "explain") (codes "verify") (sym t.0 ∙ u.0) (λ (e : 101120 ≡ 118101). omega (arith, e)))
-  same_task (Explain device1 json1) (Dump database2) t u done = absurd (apart (codes "explain") (codes "dump") (sym t.0 ∙ u.0) (λ (e : 101120 ≡ 100117). omega (arith, e)))
-  same_task (ListHits after1 limit1 device1 json1) (Update v2 k2) t u done = absurd (apart (codes "list") (codes "update") (sym t.0 ∙ u.0) (λ (e : 108105 ≡ 117112). omega (arith, e)))
-  same_task (ListHits after1 limit1 device1 json1) (Query devices2 json2) t u done = absurd (apart (codes "list") (codes "query") (sym t.0 ∙ u.0) (λ (e : 108105 ≡ 113117). omega (arith, e)))
-  same_task (ListHits after1 limit1 device1 json1) (Explain device2 json2) t u done = absurd (apart (codes "list") (codes "explain") (sym t.0 ∙ u.0) (λ (e : 108105 ≡ 101120). omega (arith, e)))
   same_task (ListHits after1 limit1 device1 json1) (ListHits after2 limit2 device2 json2) t u done =
       subst (λ (a : Option (List ℕ)). Quietly (IsAnswered root (IsListFrom json1 (string_bytes device1) a limit1) old)) (u.2 ∙ sym t.2)
       (subst (λ (l : Option ℕ). Quietly (IsAnswered root (IsListFrom json1 (string_bytes device1) (option_map string_bytes after2) l) old)) (one_limit (one_of (codes "limit") inner) limit2 limit1 u.3 t.3)
       (subst (λ (d : List ℕ). Quietly (IsAnswered root (IsListFrom json1 d (option_map string_bytes after2) limit2) old)) (one_value (first_of (codes "MODALIAS") inner) _ _ u.4 t.4)
       (subst (λ (j : Bool). Quietly (IsAnswered root (IsListFrom j (string_bytes device2) (option_map string_bytes after2) limit2) old)) (u.1 ∙ sym t.1) done)))
-  same_task (ListHits after1 limit1 device1 json1) (Ask file2 device2) t u done = absurd (apart (codes "list") (codes "ask") (sym t.0 ∙ u.0) (λ (e : 108105 ≡ 97115). omega (arith, e)))
-  same_task (ListHits after1 limit1 device1 json1) (Check files2) t u done = absurd (apart (codes "list") (codes "check") (sym t.0 ∙ u.0) (λ (e : 108105 ≡ 99104). omega (arith, e)))
-  same_task (ListHits after1 limit1 device1 json1) (Diff old2 new2) t u done = absurd (apart (codes "list") (codes "diff") (sym t.0 ∙ u.0) (λ (e : 108105 ≡ 100105). omega (arith, e)))
-  same_task (ListHits after1 limit1 device1 json1) (Verify database2) t u done = absurd (apart (codes "list") (codes "verify") (sym t.0 ∙ u.0) (λ (e : 108105 ≡ 118101). omega (arith, e)))
-  same_task (ListHits after1 limit1 device1 json1) (Dump database2) t u done = absurd (apart (codes "list") (codes "dump") (sym t.0 ∙ u.0) (λ (e : 108105 ≡ 100117). omega (arith, e)))
-  same_task (Ask file1 device1) (Update v2 k2) t u done = absurd (apart (codes "ask") (codes "update") (sym t.0 ∙ u.0) (λ (e : 97115 ≡ 117112). omega (arith, e)))
-  same_task (Ask file1 device1) (Query devices2 json2) t u done = absurd (apart (codes "ask") (codes "query") (sym t.0 ∙ u.0) (λ (e : 97115 ≡ 113117). omega (arith, e)))
-  same_task (Ask file1 device1) (Explain device2 json2) t u done = absurd (apart (codes "ask") (codes "explain") (sym t.0 ∙ u.0) (λ (e : 97115 ≡ 101120). omega (arith, e)))
-  same_task (Ask file1 device1) (ListHits after2 limit2 device2 json2) t u done = absurd (apart (codes "ask") (codes "list") (sym t.0 ∙ u.0) (λ (e : 97115 ≡ 108105). omega (arith, e)))
   same_task (Ask file1 device1) (Ask file2 device2) t u done =
       subst (λ (f : List ℕ). Prints (λ texts. (status ≡ 0) × IsAsked f (string_bytes device1) input old texts)) (one_value (first_of (codes "FILE") inner) _ _ u.1 t.1)
       (subst (λ (d : List ℕ). Prints (λ texts. (status ≡ 0) × IsAsked (string_bytes file2) d input old texts)) (one_value (first_of (codes "MODALIAS") inner) _ _ u.2 t.2) done)
-  same_task (Ask file1 device1) (Check files2) t u done = absurd (apart (codes "ask") (codes "check") (sym t.0 ∙ u.0) (λ (e : 97115 ≡ 99104). omega (arith, e)))
-  same_task (Ask file1 device1) (Diff old2 new2) t u done = absurd (apart (codes "ask") (codes "diff") (sym t.0 ∙ u.0) (λ (e : 97115 ≡ 100105). omega (arith, e)))
-  same_task (Ask file1 device1) (Verify database2) t u done = absurd (apart (codes "ask") (codes "verify") (sym t.0 ∙ u.0) (λ (e : 97115 ≡ 118101). omega (arith, e)))
-  same_task (Ask file1 device1) (Dump database2) t u done = absurd (apart (codes "ask") (codes "dump") (sym t.0 ∙ u.0) (λ (e : 97115 ≡ 100117). omega (arith, e)))
-  same_task (Check files1) (Update v2 k2) t u done = absurd (apart (codes "check") (codes "update") (sym t.0 ∙ u.0) (λ (e : 99104 ≡ 117112). omega (arith, e)))
-  same_task (Check files1) (Query devices2 json2) t u done = absurd (apart (codes "check") (codes "query") (sym t.0 ∙ u.0) (λ (e : 99104 ≡ 113117). omega (arith, e)))
-  same_task (Check files1) (Explain device2 json2) t u done = absurd (apart (codes "check") (codes "explain") (sym t.0 ∙ u.0) (λ (e : 99104 ≡ 101120). omega (arith, e)))
-  same_task (Check files1) (ListHits after2 limit2 device2 json2) t u done = absurd (apart (codes "check") (codes "list") (sym t.0 ∙ u.0) (λ (e : 99104 ≡ 108105). omega (arith, e)))
-  same_task (Check files1) (Ask file2 device2) t u done = absurd (apart (codes "check") (codes "ask") (sym t.0 ∙ u.0) (λ (e : 99104 ≡ 97115). omega (arith, e)))
-  same_task (Check files1) (Check files2) t u done =
-      subst (λ (fs : List (List ℕ)). Prints (OnOut (λ text. IsChecked (AreCheckedFiles fs root input old) strict text status))) (u.1 ∙ sym t.1) done
-  same_task (Check files1) (Diff old2 new2) t u done = absurd (apart (codes "check") (codes "diff") (sym t.0 ∙ u.0) (λ (e : 99104 ≡ 100105). omega (arith, e)))
-  same_task (Check files1) (Verify database2) t u done = absurd (apart (codes "check") (codes "verify") (sym t.0 ∙ u.0) (λ (e : 99104 ≡ 118101). omega (arith, e)))
-  same_task (Check files1) (Dump database2) t u done = absurd (apart (codes "check") (codes "dump") (sym t.0 ∙ u.0) (λ (e : 99104 ≡ 100117). omega (arith, e)))
-  same_task (Diff old1 new1) (Update v2 k2) t u done = absurd (apart (codes "diff") (codes "update") (sym t.0 ∙ u.0) (λ (e : 100105 ≡ 117112). omega (arith, e)))
-  same_task (Diff old1 new1) (Query devices2 json2) t u done = absurd (apart (codes "diff") (codes "query") (sym t.0 ∙ u.0) (λ (e : 100105 ≡ 113117). omega (arith, e)))
-  same_task (Diff old1 new1) (Explain device2 json2) t u done = absurd (apart (codes "diff") (codes "explain") (sym t.0 ∙ u.0) (λ (e : 100105 ≡ 101120). omega (arith, e)))
-  same_task (Diff old1 new1) (ListHits after2 limit2 device2 json2) t u done = absurd (apart (codes "diff") (codes "list") (sym t.0 ∙ u.0) (λ (e : 100105 ≡ 108105). omega (arith, e)))
-  same_task (Diff old1 new1) (Ask file2 device2) t u done = absurd (apart (codes "diff") (codes "ask") (sym t.0 ∙ u.0) (λ (e : 100105 ≡ 97115). omega (arith, e)))
-  same_task (Diff old1 new1) (Check files2) t u done = absurd (apart (codes "diff") (codes "check") (sym t.0 ∙ u.0) (λ (e : 100105 ≡ 99104). omega (arith, e)))
+  same_task (Check files1 allowed1 json1) (Check files2 allowed2 json2) t u done =
+      subst (λ (fs : List (List ℕ)). Prints (OnOut (λ text. IsChecked (AreCheckedFiles fs root input old) json1 strict (map string_bytes allowed1.items) text status))) (u.1 ∙ sym t.1)
+      (subst (λ (ks : List (List ℕ)). Prints (OnOut (λ text. IsChecked (AreCheckedFiles (map string_bytes files2.items) root input old) json1 strict ks text status))) (u.2 ∙ sym t.2)
+      (subst (λ (j : Bool). Prints (OnOut (λ text. IsChecked (AreCheckedFiles (map string_bytes files2.items) root input old) j strict (map string_bytes allowed2.items) text status))) (u.3 ∙ sym t.3) done))
+  same_task (Near files1 device1 limit1 json1) (Near files2 device2 limit2 json2) t u done =
+      let one = cut_last (map string_bytes files2.items) (map string_bytes files1.items) (string_bytes device2) (string_bytes device1) (one_values (all_of (codes "MODALIAS") inner) _ _ u.2 t.2) in
+      subst (λ (fs : List (List ℕ)). Quietly (IsNear fs root (near_form json1 (string_bytes device1) (near_limit limit1)) input old)) one.0
+      (subst (λ (d : List ℕ). Quietly (IsNear (map string_bytes files2.items) root (near_form json1 d (near_limit limit1)) input old)) one.1
+      (subst (λ (l : Option ℕ). Quietly (IsNear (map string_bytes files2.items) root (near_form json1 (string_bytes device2) (near_limit l)) input old)) (one_limit (one_of (codes "limit") inner) limit2 limit1 u.3 t.3)
+      (subst (λ (j : Bool). Quietly (IsNear (map string_bytes files2.items) root (near_form j (string_bytes device2) (near_limit limit2)) input old)) (u.1 ∙ sym t.1) done)))
   same_task (Diff old1 new1) (Diff old2 new2) t u done =
       subst (λ (p : List ℕ). Prints (OnOut (λ text. IsCompared p (string_bytes new1) old text status))) (one_value (first_of (codes "OLD") inner) _ _ u.1 t.1)
       (subst (λ (p : List ℕ). Prints (OnOut (λ text. IsCompared (string_bytes old2) p old text status))) (one_value (first_of (codes "NEW") inner) _ _ u.2 t.2) done)
-  same_task (Diff old1 new1) (Verify database2) t u done = absurd (apart (codes "diff") (codes "verify") (sym t.0 ∙ u.0) (λ (e : 100105 ≡ 118101). omega (arith, e)))
-  same_task (Diff old1 new1) (Dump database2) t u done = absurd (apart (codes "diff") (codes "dump") (sym t.0 ∙ u.0) (λ (e : 100105 ≡ 100117). omega (arith, e)))
-  same_task (Verify database1) (Update v2 k2) t u done = absurd (apart (codes "verify") (codes "update") (sym t.0 ∙ u.0) (λ (e : 118101 ≡ 117112). omega (arith, e)))
-  same_task (Verify database1) (Query devices2 json2) t u done = absurd (apart (codes "verify") (codes "query") (sym t.0 ∙ u.0) (λ (e : 118101 ≡ 113117). omega (arith, e)))
-  same_task (Verify database1) (Explain device2 json2) t u done = absurd (apart (codes "verify") (codes "explain") (sym t.0 ∙ u.0) (λ (e : 118101 ≡ 101120). omega (arith, e)))
-  same_task (Verify database1) (ListHits after2 limit2 device2 json2) t u done = absurd (apart (codes "verify") (codes "list") (sym t.0 ∙ u.0) (λ (e : 118101 ≡ 108105). omega (arith, e)))
-  same_task (Verify database1) (Ask file2 device2) t u done = absurd (apart (codes "verify") (codes "ask") (sym t.0 ∙ u.0) (λ (e : 118101 ≡ 97115). omega (arith, e)))
-  same_task (Verify database1) (Check files2) t u done = absurd (apart (codes "verify") (codes "check") (sym t.0 ∙ u.0) (λ (e : 118101 ≡ 99104). omega (arith, e)))
-  same_task (Verify database1) (Diff old2 new2) t u done = absurd (apart (codes "verify") (codes "diff") (sym t.0 ∙ u.0) (λ (e : 118101 ≡ 100105). omega (arith, e)))
   same_task (Verify database1) (Verify database2) t u done =
       subst (λ (d : Option (List ℕ)). Quietly (IsPrinted d root IsSummary old)) (u.1 ∙ sym t.1) done
-  same_task (Verify database1) (Dump database2) t u done = absurd (apart (codes "verify") (codes "dump") (sym t.0 ∙ u.0) (λ (e : 118101 ≡ 100117). omega (arith, e)))
-  same_task (Dump database1) (Update v2 k2) t u done = absurd (apart (codes "dump") (codes "update") (sym t.0 ∙ u.0) (λ (e : 100117 ≡ 117112). omega (arith, e)))
-  same_task (Dump database1) (Query devices2 json2) t u done = absurd (apart (codes "dump") (codes "query") (sym t.0 ∙ u.0) (λ (e : 100117 ≡ 113117). omega (arith, e)))
-  same_task (Dump database1) (Explain device2 json2) t u done = absurd (apart (codes "dump") (codes "explain") (sym t.0 ∙ u.0) (λ (e : 100117 ≡ 101120). omega (arith, e)))
-  same_task (Dump database1) (ListHits after2 limit2 device2 json2) t u done = absurd (apart (codes "dump") (codes "list") (sym t.0 ∙ u.0) (λ (e : 100117 ≡ 108105). omega (arith, e)))
-  same_task (Dump database1) (Ask file2 device2) t u done = absurd (apart (codes "dump") (codes "ask") (sym t.0 ∙ u.0) (λ (e : 100117 ≡ 97115). omega (arith, e)))
-  same_task (Dump database1) (Check files2) t u done = absurd (apart (codes "dump") (codes "check") (sym t.0 ∙ u.0) (λ (e : 100117 ≡ 99104). omega (arith, e)))
-  same_task (Dump database1) (Diff old2 new2) t u done = absurd (apart (codes "dump") (codes "diff") (sym t.0 ∙ u.0) (λ (e : 100117 ≡ 100105). omega (arith, e)))
-  same_task (Dump database1) (Verify database2) t u done = absurd (apart (codes "dump") (codes "verify") (sym t.0 ∙ u.0) (λ (e : 100117 ≡ 118101). omega (arith, e)))
   same_task (Dump database1) (Dump database2) t u done =
       subst (λ (d : Option (List ℕ)). Quietly (IsDumped d root old)) (u.1 ∙ sym t.1) done
+  -- two tasks of two names aren't asked for by one
+  same_task task1 task2 t u done = apart (word_of task1) (word_of task2) refl (sym (is_named name inner task1 t) ∙ is_named name inner task2 u)
 
 one_option : {X : Type 0} (f : X → List ℕ) (o : Option X) → option_map_or f o [] ≡ option_map_or (λ (x : List ℕ). x) (option_map f o) []
 one_option f None = refl
@@ -172,6 +141,9 @@ one_option f (Some s) = refl
 pub one_root : (j : Job) → root_of j ≡ option_map_or (λ (x : List ℕ). x) (option_map string_bytes j.root) []
 one_root j = one_option string_bytes j.root
 
+pub same_root : (top : List Row) (name : Text) (inner : List Row) (j k : Job) → IsJob top name inner j → IsJob top name inner k → root_of k ≡ root_of j
+same_root top name inner j k one two = one_root k ∙ ap (λ (o : Option (List ℕ)). option_map_or (λ (x : List ℕ). x) o []) (two.root ∙ sym one.root) ∙ sym (one_root j)
+
 module _ (status : ℕ) (before now : World) where
   abbrev Done : Task → List ℕ → Bool → Bool → Type 0
   Done task root usr strict = IsTaskDone task root usr strict status before now
@@ -179,17 +151,18 @@ module _ (status : ℕ) (before now : World) where
   same_job : (top : List Row) (found : Option (Text × List Row)) (j k : Job) → IsJobOf top found j → IsJobOf top found k → IsDone k status before now → IsDone j status before now
   same_job top None j k one two done = absurd one
   same_job top (Some p) j k one two done =
-      let roots : root_of k ≡ root_of j = one_root k ∙ ap (λ (o : Option (List ℕ)). option_map_or (λ (x : List ℕ). x) o []) (two.root ∙ sym one.root) ∙ sym (one_root j) in
+      let roots : root_of k ≡ root_of j = same_root top p.0 p.1 j k one two in
       same_task p.0 p.1 (root_of j) j.usr j.strict status before now j.task k.task one.task two.task
       (subst (λ (r : List ℕ). Done k.task r j.usr j.strict) roots
       (subst (λ (b : Bool). Done k.task (root_of k) b j.strict) (two.usr ∙ sym one.usr)
       (subst (λ (b : Bool). Done k.task (root_of k) k.usr b) (two.strict ∙ sym one.strict) done)))
 
-pub one_job : (fails fails2 : List ℕ → Type 0) (left left2 : Outcomes) → TasksAreOne fails fails2 left left2 → JobsAreOne fails fails2 left left2
-one_job fails fails2 left left2 tasks = λ words status status2 before now before2 now2 input one two nothing nothing2.
+pub one_job : (fails fails_now fails2 fails2_now : List ℕ → Type 0) (left left_now left2 left2_now : Outcomes)
+    → TasksAreOne fails fails_now fails2 fails2_now left left_now left2 left2_now → JobsAreOne fails fails_now fails2 fails2_now left left_now left2 left2_now
+one_job fails fails_now fails2 fails2_now left left_now left2 left2_now tasks = λ words status status2 before now before2 now2 input one two nothing nothing2.
     tasks one.job.task (root_of one.job) one.job.usr one.job.strict status status2 before now before2 now2 input nothing nothing2 one.done
-    (same_job status2 (scene_of fails2 left2 before2) (scene_of fails2 left2 now2) (matches_of hwdb_app words) (subcommand_of hwdb_app words) one.job two.job one.asked two.asked two.done)
+    (same_job status2 (scene_of fails2 left2 before2) (scene_of fails2_now left2_now now2) (matches_of hwdb_app words) (subcommand_of hwdb_app words) one.job two.job one.asked two.asked two.done)
 
-pub not_told : (fails : List ℕ → Type 0) (left : Outcomes) → DoneIsNotTold fails left
-not_told fails left words status before now before2 now2 done told =
+pub not_told : (fails fails_now fails2 fails2_now : List ℕ → Type 0) (left left_now left2 left2_now : Outcomes) → DoneIsNotTold fails fails_now fails2 fails2_now left left_now left2 left2_now
+not_told fails fails_now fails2 fails2_now left left_now left2 left2_now words status before now before2 now2 done told =
     ⊎_elim (λ help. subst (IsAmong DisplayHelp) done.faultless help) (λ version. subst (IsAmong DisplayVersion) done.faultless version) told.asked

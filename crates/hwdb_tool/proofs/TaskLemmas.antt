@@ -4,7 +4,7 @@ use Rattle.std.specs.Prelude.{option_map}
 use Rattle.std.specs.Option.{option_map_or}
 use Rattle.std.specs.Io.KnownBytes.{Appends}
 use Rattle.hwdb_cli.specs.declared.job.Task.{Task}
-use Rattle.hwdb_cli.specs.declared.job.Task.TheVariants.{Ask, Check, Diff, Dump, Explain, List as ListHits, Query, Update, Verify}
+use Rattle.hwdb_cli.specs.declared.job.Task.TheVariants.{Ask, Check, Diff, Dump, Explain, List as ListHits, Near, Query, Update, Verify}
 use Rattle.hwdb_spec.specs.Done.{AreAskTexts, IsUpdated}
 use Rattle.hwdb_spec.specs.Databases.{IsDiffText, IsDifferent, IsSummary, IsTextOf}
 use Rattle.hwdb_spec.specs.Assignment.{Position}
@@ -30,6 +30,8 @@ use Rattle.hwdb_print.specs.declared.form.Form.{Form}
 use Rattle.hwdb_print.specs.declared.form.Form.TheVariants as forms
 use Rattle.hwdb_print.specs.Streams.{texts_of}
 use Rattle.hwdb_spec.specs.CheckedFiles.{AreCheckedFiles}
+use Rattle.hwdb_spec.specs.Near.{PatternAt}
+use Rattle.hwdb_spec.specs.NearAsked.{IsNear, database_patterns, near_form, near_limit, patterns_from}
 use Rattle.hwdb_spec.specs.Asked.{IsAnswered, IsFrom, IsListFrom, list_form, named_database}
 use Rattle.hwdb_spec.specs.LeftOut.{AreLeftOut, IsLeftOut, without, status_less}
 use Rattle.hwdb_fs.specs.LeftOut.{AreTold}
@@ -157,6 +159,15 @@ module _ (tree : (bytes : List ℕ) (t u : Tree) → IsDatabase bytes t → IsDa
       (one.held ∙ ap (λ (cs : List Choice). map (λ c. bytes_at files (root ++ path_of c)) cs) same ∙ sym two.held)
   sources (path ∷ more) root input files xs ys one two = one_given_sources input files xs ys (one.named ∙ sym two.named) one.held two.held
 
+  -- what is printed of the nearest patterns
+  nearest_one : (given : List (List ℕ)) (root : List ℕ) (print : List PatternAt → List ℕ) (input : List ℕ) (files : Contents) (text text2 : List ℕ)
+      → IsNear given root print (Some input) files text → IsNear given root print (Some input) files text2 → text ≡ text2
+  nearest_one [] root print input files text text2 one two =
+      one_text tree (λ t. print (database_patterns t)) one.bytes two.bytes text text2 (one_held (asked_database root files) one.bytes two.bytes one.named two.named) one.is two.is
+  nearest_one (path ∷ more) root print input files text text2 one two =
+      let same : one.0 ≡ two.0 = one_given_sources input files one.0 two.0 (one.1.named ∙ sym two.1.named) one.1.held two.1.held in
+      one.2 ∙ ap (λ (xs : List Source). print (patterns_from 1 xs)) same ∙ sym two.2
+
   -- the texts of a task, and its status
   pub one_answer_of : AnswersAreOne
   one_answer_of (Update verbose skip) = λ root strict input files status status2 texts texts2 one two. absurd one
@@ -187,15 +198,20 @@ module _ (tree : (bytes : List ℕ) (t u : Tree) → IsDatabase bytes t → IsDa
         one_out = one_text tree (query_text (string_bytes device)) x.database y.database texts.out texts2.out
             (form (map_of_files (lone a.bytes) []) x.database y.database x.written y.written) x.properties y.properties;
       }
-  one_answer_of (Check paths) = λ root strict input files status status2 texts texts2 one two.
+  one_answer_of (Check paths allowed json) = λ root strict input files status status2 texts texts2 one two.
       let a = one.1 in
       let b = two.1 in
       let same : a.sources ≡ b.sources = sources (map string_bytes paths.items) root input files a.sources b.sources a.are b.are in
       record {
-        one_status = a.says ∙ ap (λ (xs : List Source). check_status strict (tally_from empty_tally xs)) same ∙ sym b.says;
+        one_status = a.says ∙ ap (λ (xs : List Source). check_status strict (tally_from (map string_bytes allowed.items) empty_tally xs)) same ∙ sym b.says;
         one_err = one.0 ∙ sym two.0;
-        one_out = a.is ∙ ap check_text same ∙ sym b.is;
+        one_out = a.is ∙ ap (check_text json (map string_bytes allowed.items)) same ∙ sym b.is;
       }
+  one_answer_of (Near paths device limit json) = λ root strict input files status status2 texts texts2 one two. record {
+    one_status = one.0 ∙ sym two.0;
+    one_err = one.1.0 ∙ sym two.1.0;
+    one_out = nearest_one (map string_bytes paths.items) root (near_form json (string_bytes device) (near_limit limit)) input files texts.out texts2.out one.1.1 two.1.1;
+  }
   one_answer_of (Diff old_path new_path) = λ root strict input files status status2 texts texts2 one two.
       let a = one.1 in
       let b = two.1 in
@@ -274,40 +290,26 @@ module _ (tree : (bytes : List ℕ) (t u : Tree) → IsDatabase bytes t → IsDa
           one_out = same_out;
         }
 
-  module _ (fails fails2 : List ℕ → Type 0) (left left2 : Outcomes) where
+  module _ (fails fails_now fails2 fails2_now : List ℕ → Type 0) (left left_now left2 left2_now : Outcomes) where
     abbrev over : (files : Contents) → Scene → World
     over files scene = scene_of fails2 left2 (record { files = files; failures = scene.failures; input = scene.input; out = scene.out; err = scene.err })
 
-    pub each : (task : Task) → IsFunction fails fails2 left left2 task
+    pub each : (task : Task) → IsFunction fails fails_now fails2 fails2_now left left_now left2 left2_now task
     each (Update verbose skip) = λ root usr strict status status2 before now before2 now2 input nothing nothing2 one given.
-        let two = subst (λ (f : Contents). IsTaskDone (Update verbose skip) root usr strict status2 (over f before2) (scene_of fails2 left2 now2)) input.files given in
+        let two = subst (λ (f : Contents). IsTaskDone (Update verbose skip) root usr strict status2 (over f before2) (scene_of fails2_now left2_now now2)) input.files given in
         let old = before.files in
         let first = (scene_of fails left before).files in
         let second = (over old before2).files in
-        let place : List ℕ → Type 0 = λ database. InPlace (database_folder usr root) database old now.files left in
-        let place2 : List ℕ → Type 0 = λ database. InPlace (database_folder usr root) database old now2.files left2 in
+        let place : List ℕ → Type 0 = λ database. InPlace (database_folder usr root) database old now.files left_now in
+        let place2 : List ℕ → Type 0 = λ database. InPlace (database_folder usr root) database old now2.files left2_now in
         let hid = hiding_text usr verbose root old in
         let told = subst (λ (o : Option (List ℕ)). Appends o one.0.err_then.bytes hid) input.err.of_one one.0.told.whole in
         let told2 = subst (λ (o : Option (List ℕ)). Appends o two.0.err_then.bytes hid) input.err.of_two two.0.told.whole in
-        one_update left left2 root usr verbose strict status status2 old now now2 input.err.bytes one.0.updated.err_then.bytes two.0.updated.err_then.bytes
+        one_update left_now left2_now root usr verbose strict status status2 old now now2 input.err.bytes one.0.updated.err_then.bytes two.0.updated.err_then.bytes
         (all_read root verbose strict skip status first one.0.err_then now.err place nothing one.0.updated)
         (all_read root verbose strict skip status2 second two.0.err_then now2.err place2 nothing2 two.0.updated)
         (all_told root verbose strict skip status first input.err.bytes one.0.err_then now.err hid place nothing told one.0.updated)
         (all_told root verbose strict skip status2 second input.err.bytes two.0.err_then now2.err hid place2 nothing2 told2 two.0.updated)
         (ap (λ (t : Told). t.bytes) one.1 ∙ input.out.of_one ∙ sym (ap (λ (t : Told). t.bytes) two.1 ∙ input.out.of_two))
-    each (Query devices json) = λ root usr strict status status2 before now before2 now2 input nothing nothing2 one two.
-        one_printed (Query devices json) root usr strict status status2 before now before2 now2 input one.0 one.2.same two.0 two.2.same
-    each (Explain device json) = λ root usr strict status status2 before now before2 now2 input nothing nothing2 one two.
-        one_printed (Explain device json) root usr strict status status2 before now before2 now2 input one.0 one.2.same two.0 two.2.same
-    each (ListHits after limit device json) = λ root usr strict status status2 before now before2 now2 input nothing nothing2 one two.
-        one_printed (ListHits after limit device json) root usr strict status status2 before now before2 now2 input one.0 one.2.same two.0 two.2.same
-    each (Ask file device) = λ root usr strict status status2 before now before2 now2 input nothing nothing2 one two.
-        one_printed (Ask file device) root usr strict status status2 before now before2 now2 input one.0 one.2.same two.0 two.2.same
-    each (Check paths) = λ root usr strict status status2 before now before2 now2 input nothing nothing2 one two.
-        one_printed (Check paths) root usr strict status status2 before now before2 now2 input one.0 one.2.same two.0 two.2.same
-    each (Diff old_path new_path) = λ root usr strict status status2 before now before2 now2 input nothing nothing2 one two.
-        one_printed (Diff old_path new_path) root usr strict status status2 before now before2 now2 input one.0 one.2.same two.0 two.2.same
-    each (Verify database) = λ root usr strict status status2 before now before2 now2 input nothing nothing2 one two.
-        one_printed (Verify database) root usr strict status status2 before now before2 now2 input one.0 one.2.same two.0 two.2.same
-    each (Dump database) = λ root usr strict status status2 before now before2 now2 input nothing nothing2 one two.
-        one_printed (Dump database) root usr strict status status2 before now before2 now2 input one.0 one.2.same two.0 two.2.same
+    each task = λ root usr strict status status2 before now before2 now2 input nothing nothing2 one two.
+        one_printed task root usr strict status status2 before now before2 now2 input one.0 one.2.same two.0 two.2.same

@@ -7,7 +7,7 @@ use Rattle.hwdb_spec.specs.Asked.{AreHeld}
 use Rattle.hwdb_spec.specs.Store.{Contents}
 use Rattle.hwdb_spec.specs.System.{bytes_at}
 use Rattle.hwdb_spec.specs.Texts.{max_file}
-use Rattle.hwdb_fs.specs.Refusals.{IsAt, IsUnread}
+use Rattle.hwdb_fs.specs.Refusals.{IsAt, IsUnreadAt}
 use Rattle.hwdb_fs.specs.declared.refusals.Refusal.{Refusal}
 use Rattle.hwdb_fs.specs.declared.refusals.Refusal.TheVariants.{Plain}
 use Rattle.hwdb_print.specs.declared.errors.ToolError.TheVariants.{BadDatabase, Memory as OutOfMemory}
@@ -36,4 +36,5 @@ pub record WasRead (path : List ℕ) (contents : Contents) : Type 0 where
 -- `diff` is refused: the old file can't be read, or after it the new one, or they can't be compared
 abbrev pub IsDiffRefused : (old_path new_path : List ℕ) → Contents → Refusal → Type 0
 IsDiffRefused old_path new_path contents refusal =
-    IsUnread old_path refusal ⊎ ((WasRead old_path contents × IsUnread new_path refusal) ⊎ IsNotCompared old_path new_path contents refusal)
+    IsUnreadAt contents old_path refusal
+    ⊎ ((WasRead old_path contents × IsUnreadAt contents new_path refusal) ⊎ IsNotCompared old_path new_path contents refusal)

@@ -8,7 +8,10 @@ pub mod Queries
 pub mod ComparedDatabases
 pub mod Internal
 pub mod NamedDatabases
+pub mod NearMisses
 pub mod Hiding
+pub mod Colours
 pub mod Crash
 pub mod Failures
 pub mod OneOutcome
+pub mod OneRefusal

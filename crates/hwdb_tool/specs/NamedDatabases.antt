@@ -1,6 +1,6 @@
 -- The database that `verify` and `dump` read: that at a path, or without one the database that is asked; and what they refuse.
 -- Our choice.
-use Rattle.std.specs.Prelude.{◌≡◌, ◌⊎◌, List, None, Option, Some, ℕ}
+use Rattle.std.specs.Prelude.{◌≡◌, ◌≤◌, ◌⊎◌, List, None, Option, Some, length, ℕ}
 use Rattle.hwdb_inspect.specs.Dumps.{IsDumpRefusal}
 use Rattle.hwdb_inspect.specs.Summaries.{IsVerifyRefusal}
 use Rattle.hwdb_inspect.specs.declared.errors.DumpError.{DumpError}
@@ -10,8 +10,9 @@ use Rattle.hwdb_inspect.specs.declared.errors.VerifyError.TheVariants as verifyi
 use Rattle.hwdb_spec.specs.Asked.{IsNamedPath, named_database, unsayable_text}
 use Rattle.hwdb_spec.specs.Store.{Contents}
 use Rattle.hwdb_spec.specs.System.{bytes_at}
+use Rattle.hwdb_spec.specs.Texts.{max_file}
 use Rattle.hwdb_spec.specs.Verdicts.{verdict_text}
-use Rattle.hwdb_fs.specs.Refusals.{IsAt, IsInWords, IsUnread}
+use Rattle.hwdb_fs.specs.Refusals.{IsAt, IsInWords, IsUnreadAt}
 use Rattle.hwdb_fs.specs.declared.refusals.Refusal.{Refusal}
 use Rattle.hwdb_fs.specs.declared.refusals.Refusal.TheVariants.{Plain}
 use Rattle.hwdb_tool.specs.Undone.{IsUnfound}
@@ -20,20 +21,21 @@ use Rattle.hwdb_print.specs.declared.errors.ToolError.TheVariants.{BadDatabase, 
 -- what reading it may refuse
 abbrev pub IsUnnamed : (given : Option (List ℕ)) (root : List ℕ) → Contents → Refusal → Type 0
 IsUnnamed None root contents refusal = IsUnfound root contents refusal
-IsUnnamed (Some path) root contents refusal = IsUnread path refusal
+IsUnnamed (Some path) root contents refusal = IsUnreadAt contents path refusal
 
 -- the refusal of an error: that of a fault says what is wrong
 abbrev pub IsOfVerify : VerifyError → (path : List ℕ) → Refusal → Type 0
 IsOfVerify (verifying.Database fault) path refusal = IsInWords (verdict_text path fault) refusal
 IsOfVerify verifying.Memory path refusal = refusal ≡ Plain OutOfMemory
 
--- its bytes are refused
+-- its bytes are refused, which are no more than a file may have
 pub record IsNotVerified (given : Option (List ℕ)) (root : List ℕ) (contents : Contents) (refusal : Refusal) : Type 0 where
   pub path : List ℕ
   pub bytes : List ℕ
   pub at : IsNamedPath given root contents path
   pub named : named_database given root contents ≡ Some bytes
   pub held : bytes_at contents path ≡ Some bytes
+  pub within : length bytes ≤ max_file
   pub error : VerifyError
   pub is : IsOfVerify error path refusal
   pub refused : IsVerifyRefusal bytes error
@@ -48,13 +50,14 @@ IsOfDump (dumping.Database fault) path refusal = IsAt (BadDatabase fault) path r
 IsOfDump (dumping.Unsayable pattern) path refusal = IsInWords (unsayable_text path pattern.items) refusal
 IsOfDump dumping.Memory path refusal = refusal ≡ Plain OutOfMemory
 
--- its bytes are refused
+-- its bytes are refused, which are no more than a file may have
 pub record IsNotDumped (given : Option (List ℕ)) (root : List ℕ) (contents : Contents) (refusal : Refusal) : Type 0 where
   pub path : List ℕ
   pub bytes : List ℕ
   pub at : IsNamedPath given root contents path
   pub named : named_database given root contents ≡ Some bytes
   pub held : bytes_at contents path ≡ Some bytes
+  pub within : length bytes ≤ max_file
   pub error : DumpError
   pub is : IsOfDump error path refusal
   pub refused : IsDumpRefusal bytes error

@@ -81,27 +81,28 @@ abbrev pub LeavesNothingOut : (MayFail : (path : List ℕ) → Type 0) → Task 
 LeavesNothingOut MayFail task = (skips task ≡ false) ⊎ ((path : List ℕ) → MayFail path → ⊥)
 
 -- A task that is done is a function of the files, of standard input and of what both outputs had taken, if it leaves out no
--- file: which readings fail is no input. What a crash may leave then is only bounded; it is of two stores.
-abbrev pub IsFunction : (fails fails2 : (path : List ℕ) → Type 0) (left left2 : Outcomes) → Task → Type 0
-IsFunction fails fails2 left left2 task = (root : List ℕ) (usr strict : Bool) (status status2 : ℕ) (before now before2 now2 : Scene)
+-- file: which readings fail is no input. What a crash may leave then is only bounded; it is of two stores, each before and after.
+abbrev pub IsFunction : (fails fails_now fails2 fails2_now : (path : List ℕ) → Type 0) (left left_now left2 left2_now : Outcomes) → Task → Type 0
+IsFunction fails fails_now fails2 fails2_now left left_now left2 left2_now task = (root : List ℕ) (usr strict : Bool) (status status2 : ℕ) (before now before2 now2 : Scene)
     → IsOneInput before before2 → LeavesNothingOut fails task → LeavesNothingOut fails2 task
-    → IsTaskDone task root usr strict status (scene_of fails left before) (scene_of fails left now)
-    → IsTaskDone task root usr strict status2 (scene_of fails2 left2 before2) (scene_of fails2 left2 now2)
+    → IsTaskDone task root usr strict status (scene_of fails left before) (scene_of fails_now left_now now)
+    → IsTaskDone task root usr strict status2 (scene_of fails2 left2 before2) (scene_of fails2_now left2_now now2)
     → IsOneOutcome (database_folder usr root) status status2 now now2
 
-abbrev pub TasksAreOne : (fails fails2 : (path : List ℕ) → Type 0) (left left2 : Outcomes) → Type 0
-TasksAreOne fails fails2 left left2 = (task : Task) → IsFunction fails fails2 left left2 task
+abbrev pub TasksAreOne : (fails fails_now fails2 fails2_now : (path : List ℕ) → Type 0) (left left_now left2 left2_now : Outcomes) → Type 0
+TasksAreOne fails fails_now fails2 fails2_now left left_now left2 left2_now = (task : Task) → IsFunction fails fails_now fails2 fails2_now left left_now left2 left2_now task
 
 -- A job that words ask for and that is done is a function of the words and of the same.
-abbrev pub JobsAreOne : (fails fails2 : (path : List ℕ) → Type 0) (left left2 : Outcomes) → Type 0
-JobsAreOne fails fails2 left left2 = (words : List (List ℕ)) (status status2 : ℕ) (before now before2 now2 : Scene)
+abbrev pub JobsAreOne : (fails fails_now fails2 fails2_now : (path : List ℕ) → Type 0) (left left_now left2 left2_now : Outcomes) → Type 0
+JobsAreOne fails fails_now fails2 fails2_now left left_now left2 left2_now = (words : List (List ℕ)) (status status2 : ℕ) (before now before2 now2 : Scene)
     → IsOneInput before before2
-    → (done : IsJobDone words status (scene_of fails left before) (scene_of fails left now))
-    → IsJobDone words status2 (scene_of fails2 left2 before2) (scene_of fails2 left2 now2)
+    → (done : IsJobDone words status (scene_of fails left before) (scene_of fails_now left_now now))
+    → IsJobDone words status2 (scene_of fails2 left2 before2) (scene_of fails2_now left2_now now2)
     → LeavesNothingOut fails done.job.task → LeavesNothingOut fails2 done.job.task
     → IsOneOutcome (database_folder done.job.usr (root_of done.job)) status status2 now now2
 
 -- What is done isn't told: if the words ask for a job, they ask for no help.
-abbrev pub DoneIsNotTold : (fails : (path : List ℕ) → Type 0) (left : Outcomes) → Type 0
-DoneIsNotTold fails left = (words : List (List ℕ)) (status : ℕ) (before now before2 now2 : Scene)
-    → IsJobDone words status (scene_of fails left before) (scene_of fails left now) → IsTold words (scene_of fails left before2) (scene_of fails left now2) → ⊥
+abbrev pub DoneIsNotTold : (fails fails_now fails2 fails2_now : (path : List ℕ) → Type 0) (left left_now left2 left2_now : Outcomes) → Type 0
+DoneIsNotTold fails fails_now fails2 fails2_now left left_now left2 left2_now = (words : List (List ℕ)) (status : ℕ) (before now before2 now2 : Scene)
+    → IsJobDone words status (scene_of fails left before) (scene_of fails_now left_now now)
+    → IsTold words (scene_of fails2 left2 before2) (scene_of fails2_now left2_now now2) → ⊥

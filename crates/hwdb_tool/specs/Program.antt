@@ -1,5 +1,5 @@
 -- What the program does with a file system, by the job that its words ask for (systemd-hwdb(8); `explain`, `ask`,
--- `list`, `check`, `diff`, `verify` and `dump` are our choice).
+-- `list`, `near`, `check`, `diff`, `verify` and `dump` are our choice).
 use Rattle.std.specs.Prelude.{◌≡◌, ◌≢◌, ◌⊎◌, ◌==◌, ℕ, Bool, true, false, not, is_some, length, List, [], ◌∷◌, Option, map, option_map, string_bytes}
 use Rattle.std.specs.Option.{option_map_or}
 use Rattle.clap.specs.Faults.{fault_of}
@@ -11,12 +11,13 @@ use Rattle.hwdb_spec.specs.Runs.{AreKept, HasTaken, OnOut, Printed, World}
 use Rattle.hwdb_spec.specs.Store.{Contents, InPlace, Outcomes}
 use Rattle.hwdb_spec.specs.System.{database_folder}
 use Rattle.hwdb_print.specs.declared.form.Form.TheVariants as form
-use Rattle.hwdb_cli.specs.declared.job.Task.TheVariants.{Ask, Check, Diff, Dump, Explain, List as ListHits, Query, Update, Verify}
+use Rattle.hwdb_cli.specs.declared.job.Task.TheVariants.{Ask, Check, Diff, Dump, Explain, List as ListHits, Near, Query, Update, Verify}
 use Rattle.hwdb_cli.specs.declared.job.Task.{Task}
 use Rattle.hwdb_cli.specs.declared.job.Job.{Job}
 use Rattle.hwdb_spec.specs.CheckedFiles.{AreCheckedFiles, IsChecked}
 use Rattle.hwdb_spec.specs.Asked.{IsCompared, IsDumped, IsPrinted, IsAnswered, IsListFrom}
 use Rattle.hwdb_spec.specs.Databases.{IsSummary}
+use Rattle.hwdb_spec.specs.NearAsked.{IsNear, near_form, near_limit}
 use Rattle.hwdb_tool.specs.Queries.{AreAnswered, IfNamed, IsQuiet}
 use Rattle.hwdb_spec.specs.Done.{IsAsked, IsLeftByUpdateLess}
 use Rattle.hwdb_tool.specs.Hiding.{IsUpdatedTelling}
@@ -29,7 +30,8 @@ root_of job = option_map_or string_bytes job.root []
 abbrev pub looks_below_root : Task → Bool
 looks_below_root (Ask file device) = false
 looks_below_root (Diff old_path new_path) = false
-looks_below_root (Check files) = length files.items == 0
+looks_below_root (Check files allowed json) = length files.items == 0
+looks_below_root (Near files device limit json) = length files.items == 0
 looks_below_root (Verify database) = not (is_some database)
 looks_below_root (Dump database) = not (is_some database)
 looks_below_root _ = true
@@ -45,8 +47,10 @@ IsAnswerOf (ListHits after limit device json) root strict input files status tex
     (status ≡ 0) × OnOut (IsAnswered root (IsListFrom json (string_bytes device) (option_map string_bytes after) limit) files) texts
 IsAnswerOf (Ask file device) root strict input files status texts =
     (status ≡ 0) × IsAsked (string_bytes file) (string_bytes device) input files texts
-IsAnswerOf (Check paths) root strict input files status texts =
-    OnOut (λ text. IsChecked (AreCheckedFiles (map string_bytes paths.items) root input files) strict text status) texts
+IsAnswerOf (Check paths allowed json) root strict input files status texts =
+    OnOut (λ text. IsChecked (AreCheckedFiles (map string_bytes paths.items) root input files) json strict (map string_bytes allowed.items) text status) texts
+IsAnswerOf (Near paths device limit json) root strict input files status texts =
+    (status ≡ 0) × OnOut (IsNear (map string_bytes paths.items) root (near_form json (string_bytes device) (near_limit limit)) input files) texts
 IsAnswerOf (Diff old_path new_path) root strict input files status texts =
     OnOut (λ text. IsCompared (string_bytes old_path) (string_bytes new_path) files text status) texts
 IsAnswerOf (Verify database) root strict input files status texts =
@@ -94,7 +98,8 @@ abbrev pub reads_input : Task → Bool
 reads_input (Query devices json) = is_input (map string_bytes devices.items)
 reads_input (Explain device json) = is_dash (string_bytes device)
 reads_input (Ask file device) = is_dash (string_bytes file)
-reads_input (Check files) = any_dash (map string_bytes files.items)
+reads_input (Check files allowed json) = any_dash (map string_bytes files.items)
+reads_input (Near files device limit json) = any_dash (map string_bytes files.items)
 reads_input _ = false
 
 -- the task is an update

@@ -1,6 +1,6 @@
 -- `query` and `explain` of the devices of their words, or with a lone `-` of those that standard input names, one a line: what
 -- they print, and what they refuse. Our choice.
-use Rattle.std.specs.Prelude.{◌<◌, ◌≡◌, ◌≢◌, ◌⊎◌, Bool, IfSome, List, Option, Some, codes, false, length, true, ℕ}
+use Rattle.std.specs.Prelude.{◌<◌, ◌≡◌, ◌≢◌, ◌≤◌, ◌⊎◌, Bool, IfSome, List, Option, Some, codes, false, length, true, ℕ}
 use Rattle.hwdb_spec.specs.Asked.{IsAnswered, IsAskedPath}
 use Rattle.hwdb_spec.specs.Databases.{IsTextOf}
 use Rattle.hwdb_spec.specs.Failures.{HasFailed, OneFailed}
@@ -10,7 +10,7 @@ use Rattle.hwdb_spec.specs.ManyDevices.{HasLongLine}
 use Rattle.hwdb_spec.specs.Outputs.{WrotePrefix}
 use Rattle.hwdb_spec.specs.Runs.{OnOut, Printed, Told}
 use Rattle.hwdb_spec.specs.Store.{Contents}
-use Rattle.hwdb_spec.specs.System.{asked_database}
+use Rattle.hwdb_spec.specs.System.{asked_database, bytes_at}
 use Rattle.hwdb_spec.specs.Texts.{devices_of, max_file}
 use Rattle.hwdb_print.specs.Streams.{IfBadDatabase, IsStreamRefusal, texts_of}
 use Rattle.hwdb_print.specs.declared.form.Form.{Form}
@@ -72,6 +72,8 @@ pub record IsUnstreamed (root : List ℕ) (form : Form) (input : Option (List �
   pub bytes : List ℕ
   pub at : IsAskedPath root contents path
   pub asked : asked_database root contents ≡ Some bytes
+  pub held : bytes_at contents path ≡ Some bytes
+  pub within : length bytes ≤ max_file
   pub error : ToolError
   pub is : IsOfInput error path refusal
   pub refused : IsStreamRefusal bytes error

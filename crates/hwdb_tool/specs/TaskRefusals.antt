@@ -1,9 +1,11 @@
 -- Which refusals end a task, when each comes, and what it leaves: the files, what standard error had taken before the
 -- refusal's line, and standard output. Our choice.
 use Rattle.std.specs.Prelude.{◌≡◌, ◌⊎◌, ◌==◌, ℕ, Bool, true, false, not, is_some, length, List, [], ◌∷◌, Option, Some, map, option_map, string_bytes, codes}
+use Rattle.clap.specs.Faults.{fault_of}
+use Rattle.hwdb_cli.specs.Line.{hwdb_app}
 use Rattle.hwdb_cli.specs.Words.{AskFor, AskForText, AreToldBy}
 use Rattle.hwdb_cli.specs.declared.job.Job.{Job}
-use Rattle.hwdb_cli.specs.declared.job.Task.TheVariants.{Ask, Check, Diff, Dump, Explain, List as ListHits, Query, Update, Verify}
+use Rattle.hwdb_cli.specs.declared.job.Task.TheVariants.{Ask, Check, Diff, Dump, Explain, List as ListHits, Near, Query, Update, Verify}
 use Rattle.hwdb_cli.specs.declared.job.Task.{Task}
 use Rattle.hwdb_cli.specs.declared.job.WordsFault.TheVariants as words_fault
 use Rattle.hwdb_cli.specs.declared.job.WordsFault.{WordsFault}
@@ -16,10 +18,11 @@ use Rattle.hwdb_print.specs.declared.form.Form.TheVariants as form
 use Rattle.hwdb_print.specs.declared.errors.ToolError.TheVariants.{Memory, Write}
 use Rattle.hwdb_spec.specs.CheckedFiles.{AreCheckedFiles}
 use Rattle.hwdb_tool.specs.ComparedDatabases.{IsDiffRefused}
+use Rattle.hwdb_tool.specs.NearMisses.{IsNearRefused}
 use Rattle.hwdb_tool.specs.NamedDatabases.{IsDumpRefused, IsVerifyRefused}
 use Rattle.hwdb_tool.specs.Queries.{AreUnanswered, IsInputUnread}
 use Rattle.hwdb_tool.specs.Program.{IsAnswerOf, IsJobDone, IsTold, IsUpdate, looks_below_root, reads_input, root_of}
-use Rattle.hwdb_fs.specs.Refusals.{HasReason, IsAt, IsUnread, IsUnreadable, Refused, refusal_line, refusal_text}
+use Rattle.hwdb_fs.specs.Refusals.{HasReason, IsAt, IsUnentered, IsUnreadable, Refused, refusal_line, refusal_text}
 use Rattle.hwdb_fs.specs.declared.refusals.Refusal.TheVariants.{Plain}
 use Rattle.hwdb_fs.specs.declared.refusals.Refusal.{Refusal}
 use Rattle.hwdb_tool.specs.Undone.{AreUncheckable, IsAskRefused, IsCheckRefused, IsListRefused, IsUnanswered, IsUnprinted, IsUnreadableIf, IsUnwritable}
@@ -28,8 +31,9 @@ use Rattle.hwdb_tool.specs.Hiding.{IsTellingUpdateRefused}
 -- why a task that prints a text can't make it, before it writes anything
 abbrev pub Refuses : Task → (root : List ℕ) (input : Option (List ℕ)) → Contents → Refusal → Type 0
 Refuses (Ask file device) root input files refusal = IsAskRefused (string_bytes file) input files refusal
-Refuses (Check paths) root input files refusal =
+Refuses (Check paths allowed json) root input files refusal =
     IsCheckRefused (AreUncheckable (map string_bytes paths.items) root files) (AreCheckedFiles (map string_bytes paths.items) root input files) refusal
+Refuses (Near paths device limit json) root input files refusal = IsNearRefused (map string_bytes paths.items) root files refusal
 Refuses (Diff old_path new_path) root input files refusal = IsDiffRefused (string_bytes old_path) (string_bytes new_path) files refusal
 Refuses (Verify database) root input files refusal = IsVerifyRefused (option_map string_bytes database) root files refusal
 Refuses (Dump database) root input files refusal = IsDumpRefused (option_map string_bytes database) root files refusal
@@ -59,7 +63,8 @@ IsTaskRefused task root usr strict refusal before now = IsPrintingRefused task r
 -- a path that the task asks for can't be read: reading it may fail, or it is one that the words name, and nothing stands there
 abbrev pub IsUnreadableFor : Task → (MayFail : (path : List ℕ) → Type 0) → Contents → (path : List ℕ) → Type 0
 IsUnreadableFor (Ask file device) = IsUnreadable
-IsUnreadableFor (Check files) = IsUnreadableIf (not (length files.items == 0))
+IsUnreadableFor (Check files allowed json) = IsUnreadableIf (not (length files.items == 0))
+IsUnreadableFor (Near files device limit json) = IsUnreadableIf (not (length files.items == 0))
 IsUnreadableFor (Diff old_path new_path) = IsUnreadable
 IsUnreadableFor (Verify database) = IsUnreadableIf (is_some (option_map string_bytes database))
 IsUnreadableFor (Dump database) = IsUnreadableIf (is_some (option_map string_bytes database))
@@ -101,10 +106,11 @@ pub record IsSaid (refusal : Refusal) (before now : Told) : Type 0 where
 abbrev pub with_err : Told → World → World
 with_err err world = record { files = world.files; input = world.input; out = world.out; err = err }
 
--- The words ask for a job, and it is refused with this status, for its reason. Then standard error took the line.
+-- The words ask for a job, and have no fault. It is refused with this status, for its reason. Then standard error took the line.
 pub record IsJobRefused (words : List (List ℕ)) (status : ℕ) (before now : World) : Type 0 where
   pub job : Job
   pub asked : AskFor words job
+  pub faultless : fault_of hwdb_app words ≡ []
   pub refusal : Refusal
   pub err_then : Told
   pub refused : IsJobNotDone job before (with_err err_then now) refusal
@@ -128,12 +134,13 @@ pub record AreRefused (words : List (List ℕ)) (status : ℕ) (before now : Wor
 
 -- the root that was given, below which the task looks for files, can't be read
 abbrev pub IsRootUnread : Job → Refusal → Type 0
-IsRootUnread job refusal = (root : List ℕ) × (option_map string_bytes job.root ≡ Some root) × (looks_below_root job.task ≡ true) × IsUnread root refusal
+IsRootUnread job refusal = (root : List ℕ) × (option_map string_bytes job.root ≡ Some root) × (looks_below_root job.task ≡ true) × IsUnentered root refusal
 
 -- the words ask for a job below such a root: the status is 1, the files are as they were, and standard error took the line
 pub record IsRootRefused (words : List (List ℕ)) (status : ℕ) (before now : World) : Type 0 where
   pub job : Job
   pub asked : AskFor words job
+  pub faultless : fault_of hwdb_app words ≡ []
   pub refusal : Refusal
   pub unread : IsRootUnread job refusal
   pub reason : HasReason before.files.fails ⊥ before.files.seen refusal
@@ -147,6 +154,7 @@ pub record IsRootRefused (words : List (List ℕ)) (status : ℕ) (before now : 
 pub record IsCutShort (gone_before gone : Type 0) (words : List (List ℕ)) (before now : World) : Type 0 where
   pub job : Job
   pub asked : AskFor words job
+  pub faultless : fault_of hwdb_app words ≡ []
   pub refused : IsTaskRefused job.task (root_of job) job.usr job.strict (Plain Write) before now
   pub kept : AreKept before.files now.files
   pub reader : gone

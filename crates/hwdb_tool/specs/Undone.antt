@@ -1,5 +1,5 @@
 -- What each task may refuse, when, and what it leaves. Our choice.
-use Rattle.std.specs.Prelude.{◌∷◌, ◌≡◌, ◌≢◌, ◌⊎◌, Bool, Contains, List, None, Option, Some, [], codes, false, true, ℕ}
+use Rattle.std.specs.Prelude.{◌∷◌, ◌≡◌, ◌≢◌, ◌≤◌, ◌⊎◌, Bool, Contains, List, None, Option, Some, [], codes, false, length, true, ℕ}
 use Rattle.hwdb_print.specs.Lookups.{IsListBeginning, IsListRefusal}
 use Rattle.hwdb_print.specs.Updates.{IsAskRefusal, IsUpdateRefusal, UpdateUndone}
 use Rattle.hwdb_lint.specs.Checks.{IsCheckRefusal}
@@ -11,11 +11,11 @@ use Rattle.hwdb_spec.specs.Outputs.{CutShortOne, Texts, TookOne}
 use Rattle.hwdb_spec.specs.Progress.{listing, update_text}
 use Rattle.hwdb_spec.specs.Runs.{AreKept, Files, PrintedPart, Told, WasCut}
 use Rattle.hwdb_spec.specs.Store.{AreTaken, Contents, most_parts}
-use Rattle.hwdb_spec.specs.System.{AreFilesIn, asked_database, database_folder, etc_files, usr_files}
+use Rattle.hwdb_spec.specs.System.{AreFilesIn, asked_database, bytes_at, database_folder, etc_files, usr_files}
 use Rattle.hwdb_spec.specs.Texts.{max_file}
 use Rattle.hwdb_replace.specs.declared.replacement.Unreplaced.{Unreplaced}
 use Rattle.hwdb_fs.specs.Reading.{AreUnread}
-use Rattle.hwdb_fs.specs.Refusals.{IsOfDatabase, IsOver, IsUnread, IsUnreadable}
+use Rattle.hwdb_fs.specs.Refusals.{IsOfDatabase, IsOver, IsUnread, IsUnreadAt, IsUnreadable}
 use Rattle.hwdb_fs.specs.declared.refusals.Refusal.{Refusal}
 use Rattle.hwdb_fs.specs.declared.refusals.Refusal.TheVariants.{NoDatabase, Plain}
 use Rattle.hwdb_text.specs.declared.outcome.ScanError.{ScanError}
@@ -27,14 +27,16 @@ use Rattle.hwdb_print.specs.declared.errors.ToolError.TheVariants.{Memory, Write
 -- what finding that database may refuse: there is none, or it can't be read
 abbrev pub IsUnfound : (root : List ℕ) → Contents → Refusal → Type 0
 IsUnfound root contents NoDatabase = asked_database root contents ≡ None
-IsUnfound root contents refusal = (path : List ℕ) × IsAskedPath root contents path × IsUnread path refusal
+IsUnfound root contents refusal = (path : List ℕ) × IsAskedPath root contents path × IsUnreadAt contents path refusal
 
--- the bytes at the asked path are refused
+-- the bytes at the asked path are refused, which are no more than a file may have
 pub record IsNotAnswered (root : List ℕ) (Refuses : (bytes : List ℕ) → ToolError → Type 0) (contents : Contents) (refusal : Refusal) : Type 0 where
   pub path : List ℕ
   pub bytes : List ℕ
   pub at : IsAskedPath root contents path
   pub asked : asked_database root contents ≡ Some bytes
+  pub held : bytes_at contents path ≡ Some bytes
+  pub within : length bytes ≤ max_file
   pub error : ToolError
   pub is : IsOfDatabase error path refusal
   pub refused : Refuses bytes error
@@ -56,6 +58,8 @@ pub record IsUnlisted (root : List ℕ) (json : Bool) (device : List ℕ) (after
   pub bytes : List ℕ
   pub at : IsAskedPath root contents path
   pub asked : asked_database root contents ≡ Some bytes
+  pub held : bytes_at contents path ≡ Some bytes
+  pub within : length bytes ≤ max_file
   pub error : ToolError
   pub is : IsOfDatabase error path refusal
   pub refused : IsListRefusal after bytes error
@@ -77,17 +81,23 @@ told_as false path = path
 abbrev pub told_path : (path : List ℕ) → List ℕ
 told_path path = told_as (is_dash path) path
 
--- the bytes of the file are refused
+-- reading a file that is given is refused
+abbrev pub IsUnreadGiven : (dash : Bool) (path : List ℕ) → Contents → Refusal → Type 0
+IsUnreadGiven true path contents refusal = IsUnread (codes "standard input") refusal
+IsUnreadGiven false path contents refusal = IsUnreadAt contents path refusal
+
+-- the bytes of the file are refused, which are no more than a file may have
 pub record IsNotAsked (file : List ℕ) (input : Option (List ℕ)) (contents : Contents) (refusal : Refusal) : Type 0 where
   pub bytes : List ℕ
   pub read : IsGiven file input contents bytes
+  pub within : length bytes ≤ max_file
   pub error : ToolError
   pub is : refusal ≡ Plain error
   pub refused : (error ≢ Write) × IsAskRefusal bytes max_file error
 
 -- `ask` is refused: its file can't be read, or not be compiled
 abbrev pub IsAskRefused : (file : List ℕ) (input : Option (List ℕ)) → Contents → Refusal → Type 0
-IsAskRefused file input contents refusal = IsUnread (told_path file) refusal ⊎ IsNotAsked file input contents refusal
+IsAskRefused file input contents refusal = IsUnreadGiven (is_dash file) file contents refusal ⊎ IsNotAsked file input contents refusal
 
 -- a path can't be read: where it is given, also where nothing stands there, else only where reading it may fail
 abbrev pub IsUnreadableIf : (is_given : Bool) (MayFail : (path : List ℕ) → Type 0) → Contents → (path : List ℕ) → Type 0

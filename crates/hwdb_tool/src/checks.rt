@@ -17,24 +17,27 @@ use crate::answer::Answer;
 use crate::given::{bytes_given, input_text};
 use hwdb_fs::{Refusal, System, selected};
 use hwdb_io::Source;
-use hwdb_lint::{TextFile, check_files};
+use hwdb_lint::{Telling, TextFile, check_files};
 use hwdb_print::ToolError;
 use hwdb_text::Chosen;
 use std::alloc::{AllocError, Global};
 
 /// What is wrong in the given text files, of which `-` is what `input` has left, or if none is given in those of both
-/// folders below the root. The status is 1 if there is a fault, or `strict` and a warning, else 0.
+/// folders below the root: as JSON or not, and without the kinds of warnings that are allowed. The status is 1 if there is a fault, or `strict` and a warning, else 0.
 pub fn check<D: System, I: Source>(
     alloc: Global,
     root: &str,
     given: &[String],
+    json: bool,
+    allowed: &[String],
     strict: bool,
     system: &D,
     input: &mut I,
 ) -> Result<Answer, Refusal>
     ensures checked { D.Store.tells → IfOk result (λ a. OnOut (λ text. IsChecked
         (AreCheckedFiles (map string_bytes given.now) root.now (I.left input.old)
-        (D.Store.seen system.now)) strict text a.status) (texts_in a)) }
+        (D.Store.seen system.now)) json strict (map string_bytes allowed.now)
+        text a.status) (texts_in a)) }
     ensures refused { D.Store.tells → IfErr result (IsCheckRefused
         (AreUncheckable (map string_bytes given.now) root.now (D.Store.seen system.now))
         (AreCheckedFiles (map string_bytes given.now) root.now (I.left input.old)
@@ -47,9 +50,9 @@ pub fn check<D: System, I: Source>(
         × IsInputUnread (I.failures input.old) (I.failures input.new) r)) }
 {
     if given.is_empty() {
-        check_chosen(alloc, root, strict, system)
+        check_chosen(alloc, root, json, allowed, strict, system)
     } else {
-        check_given(alloc, given, strict, system, input)
+        check_given(alloc, given, json, allowed, strict, system, input)
     }
 }
 
@@ -57,13 +60,15 @@ pub fn check<D: System, I: Source>(
 fn check_given<D: System, I: Source>(
     alloc: Global,
     given: &[String],
+    json: bool,
+    allowed: &[String],
     strict: bool,
     system: &D,
     input: &mut I,
 ) -> Result<Answer, Refusal>
     ensures checked { D.Store.tells → IfOk result (λ a. OnOut (λ text. IsChecked
         (AreGivenFiles (map string_bytes given.now) (I.left input.old) (D.Store.seen system.now))
-        strict text a.status) (texts_in a)) }
+        json strict (map string_bytes allowed.now) text a.status) (texts_in a)) }
     ensures refused { D.Store.tells → IfErr result (IsCheckRefused
         (IsGivenUnread (map string_bytes given.now))
         (AreGivenFiles (map string_bytes given.now) (I.left input.old)
@@ -77,18 +82,21 @@ fn check_given<D: System, I: Source>(
     let text = input_text(alloc, given, input)?;
     let texts = read_given(alloc, given, &text, system)?;
     let files = with_paths(alloc, given, &texts)?;
-    check_read(alloc, &files, strict)
+    check_read(alloc, &files, json, allowed, strict)
 }
 
 /// The same of the text files of both folders.
 fn check_chosen<D: System>(
     alloc: Global,
     root: &str,
+    json: bool,
+    allowed: &[String],
     strict: bool,
     system: &D,
 ) -> Result<Answer, Refusal>
     ensures checked { D.Store.tells → IfOk result (λ a. OnOut (λ text. IsChecked
-        (AreChosenFiles root.now (D.Store.seen system.now)) strict text a.status) (texts_in a)) }
+        (AreChosenFiles root.now (D.Store.seen system.now)) json strict
+        (map string_bytes allowed.now) text a.status) (texts_in a)) }
     ensures refused { D.Store.tells → IfErr result (IsCheckRefused
         (AreUnread root.now (D.Store.seen system.now))
         (AreChosenFiles root.now (D.Store.seen system.now))) }
@@ -98,24 +106,32 @@ fn check_chosen<D: System>(
     let selection = selected(alloc, root, system)?;
     let paths = stored_paths(alloc, &selection.chosen)?;
     let files = with_paths(alloc, &paths, &selection.texts)?;
-    check_read(alloc, &files, strict)
+    check_read(alloc, &files, json, allowed, strict)
 }
 
 /// The same of files that were read.
-fn check_read(alloc: Global, files: &[TextFile<'_>], strict: bool) -> Result<Answer, Refusal>
+fn check_read(
+    alloc: Global,
+    files: &[TextFile<'_>],
+    json: bool,
+    allowed: &[String],
+    strict: bool,
+) -> Result<Answer, Refusal>
     ensures checked { IfOk result (λ a. OnOut (λ text. IsChecked
-        (λ sources. sources ≡ map source_of files.now) strict text a.status) (texts_in a)) }
+        (λ sources. sources ≡ map source_of files.now) json strict
+        (map string_bytes allowed.now) text a.status) (texts_in a)) }
     ensures refused { IfErr result
         (AreNotChecked (λ sources. sources ≡ map source_of files.now)) }
 {
-    match check_files(alloc, files, strict) {
+    let telling = Telling { json, allowed };
+    match check_files(alloc, &telling, files, strict) {
         Ok(checked) => Ok(Answer::new(alloc, checked.text, checked.status)),
         Err(error) => Err(Refusal::from(ToolError::from(error))),
     }
 }
 
 /// What each of the given files has, where standard input had this text.
-fn read_given<D: System>(
+pub fn read_given<D: System>(
     alloc: Global,
     given: &[String],
     text: &[u8],
@@ -151,7 +167,7 @@ fn stored_paths(alloc: Global, chosen: &[Chosen]) -> Result<Vec<String>, AllocEr
 }
 
 /// The texts, each with the path that is printed of it.
-fn with_paths<'a>(
+pub fn with_paths<'a>(
     alloc: Global,
     paths: &'a [String],
     texts: &'a [Vec<u8>],

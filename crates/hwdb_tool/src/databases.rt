@@ -1,9 +1,10 @@
 //! The databases of both folders: where each stands, and what is asked.
-ghost use Rattle.std.specs.Prelude.{◌≡◌, ◌++◌, Some, is_some, option_map, string_bytes, IfOk, IfErr, IfSome};
+ghost use Rattle.std.specs.Prelude.{◌≡◌, ◌≤◌, ◌++◌, Some, is_some, option_map, string_bytes, IfOk, IfErr, IfSome, length};
 ghost use Rattle.hwdb_spec.specs.Store as spec;
 ghost use Rattle.hwdb_spec.specs.System as Folder;
 ghost use Rattle.hwdb_spec.specs.System.{asked_database, bytes_at};
-ghost use Rattle.hwdb_fs.specs.Refusals.{HasReason, IsUnread, IsUnreadable};
+ghost use Rattle.hwdb_spec.specs.Texts.{max_file};
+ghost use Rattle.hwdb_fs.specs.Refusals.{HasReason, IsUnreadAt, IsUnreadable};
 ghost use Rattle.hwdb_spec.specs.Asked.{IsNamedPath, named_database, IsAskedPath};
 ghost use Rattle.hwdb_tool.specs.NamedDatabases.{IsUnnamed};
 ghost use Rattle.hwdb_tool.specs.Undone.{IsUnfound, IsUnreadableIf};
@@ -33,6 +34,7 @@ pub fn asked<D: System>(alloc: Global, root: &str, system: &D) -> Result<Found, 
         (λ f. IsAskedPath root.now (D.Store.seen system.now) (string_bytes f.path)) }
     ensures held { D.Store.tells → IfOk result
         (λ f. bytes_at (D.Store.seen system.now) (string_bytes f.path) ≡ Some f.bytes.items) }
+    ensures within { IfOk result (λ f. length f.bytes.items ≤ max_file) }
     ensures refused { D.Store.tells → IfErr result (IsUnfound root.now (D.Store.seen system.now)) }
     ensures reason { IfErr result
         (HasReason (D.System.may_fail system.now) ⊥ (D.Store.seen system.now)) }
@@ -60,8 +62,9 @@ fn found_in<D: System>(
         ≡ spec.path_in (root.now ++ folder.now) spec.database_name)) }
     ensures held { D.Store.tells → IfOk result (λ found. IfSome found
         (λ f. bytes_at (D.Store.seen system.now) (string_bytes f.path) ≡ Some f.bytes.items)) }
-    ensures refused { IfErr result
-        (IsUnread (spec.path_in (root.now ++ folder.now) spec.database_name)) }
+    ensures within { IfOk result (λ found. IfSome found (λ f. length f.bytes.items ≤ max_file)) }
+    ensures refused { D.Store.tells → IfErr result (IsUnreadAt (D.Store.seen system.now)
+        (spec.path_in (root.now ++ folder.now) spec.database_name)) }
     ensures reason { IfErr result
         (HasReason (D.System.may_fail system.now) ⊥ (D.Store.seen system.now)) }
 {
@@ -88,6 +91,7 @@ pub fn named<D: System>(
         (string_bytes f.path)) }
     ensures held { D.Store.tells → IfOk result
         (λ f. bytes_at (D.Store.seen system.now) (string_bytes f.path) ≡ Some f.bytes.items) }
+    ensures within { IfOk result (λ f. length f.bytes.items ≤ max_file) }
     ensures refused { D.Store.tells → IfErr result (IsUnnamed (option_map (λ t. t.now) given.entry)
         root.now (D.Store.seen system.now)) }
     ensures reason { IfErr result (HasReason
@@ -107,7 +111,9 @@ fn given_at<D: System>(alloc: Global, path: &str, system: &D) -> Result<Found, R
     ensures path { IfOk result (λ f. string_bytes f.path ≡ path.now) }
     ensures held { D.Store.tells → IfOk result
         (λ f. bytes_at (D.Store.seen system.now) (string_bytes f.path) ≡ Some f.bytes.items) }
-    ensures refused { IfErr result (IsUnread path.now) }
+    ensures within { IfOk result (λ f. length f.bytes.items ≤ max_file) }
+    ensures refused { D.Store.tells → IfErr result
+        (IsUnreadAt (D.Store.seen system.now) path.now) }
     ensures reason { IfErr result (HasReason
         (IsUnreadable (D.System.may_fail system.now) (D.Store.seen system.now)) ⊥
         (D.Store.seen system.now)) }

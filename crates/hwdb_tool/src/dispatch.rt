@@ -15,6 +15,7 @@ use crate::checks::check;
 use crate::differences::diff;
 use crate::dumps::dump;
 use crate::hiding::update_telling;
+use crate::near_misses::near;
 use crate::outlet::Outlet;
 use crate::printing::printed;
 use crate::queries::query;
@@ -104,7 +105,7 @@ fn looks_below_root(task: &Task) -> bool
 {
     match task {
         Task::Ask { .. } | Task::Diff { .. } => false,
-        Task::Check { files } => files.is_empty(),
+        Task::Check { files, .. } | Task::Near { files, .. } => files.is_empty(),
         Task::Verify { database } | Task::Dump { database } => database.is_none(),
         _ => true,
     }
@@ -218,8 +219,22 @@ fn run<D: System, I: Source, O: Sink, E: Sink>(
             let answer = ask_file(alloc, file.as_str(), device.as_bytes(), system, input);
             printed(answer, out, err)
         }
-        Task::Check { files } => {
-            let answer = check(alloc, root, files, job.strict, system, input);
+        Task::Check {
+            files,
+            allowed,
+            json,
+        } => {
+            let answer = check(alloc, root, files, *json, allowed, job.strict, system, input);
+            printed(answer, out, err)
+        }
+        Task::Near {
+            files,
+            device,
+            limit,
+            json,
+        } => {
+            let device = device.as_bytes();
+            let answer = near(alloc, root, files, device, *limit, *json, system, input);
             printed(answer, out, err)
         }
         Task::Diff { old, new } => {

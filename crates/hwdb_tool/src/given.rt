@@ -1,10 +1,11 @@
 //! The files that words name: `-` is standard input, which is read once.
-ghost use Rattle.std.specs.Prelude.{◌≡◌, ◌⊎◌, Some, true, false, codes, map, string_bytes, IfOk, IfErr, IfSome};
+ghost use Rattle.std.specs.Prelude.{◌≡◌, ◌≤◌, ◌⊎◌, Some, true, false, codes, map, string_bytes, length, IfOk, IfErr, IfSome};
 ghost use Rattle.hwdb_spec.specs.Given.{IsGiven, is_dash, any_dash};
 ghost use Rattle.hwdb_fs.specs.Refusals.{HasReason, IsUnread, IsUnreadable};
 ghost use Rattle.hwdb_tool.specs.Internal.{bytes_given};
 ghost use Rattle.hwdb_tool.specs.Queries.{IsInputUnread, IsOfWholeInput};
-ghost use Rattle.hwdb_tool.specs.Undone.{IsGivenUnread, told_path};
+ghost use Rattle.hwdb_spec.specs.Texts.{max_file};
+ghost use Rattle.hwdb_tool.specs.Undone.{IsGivenUnread, IsUnreadGiven, told_path};
 ghost use Rattle.hwdb_fs.specs.declared.refusals.Refusal.TheVariants.{Plain};
 
 use hwdb_fs::{Refusal, System};
@@ -46,6 +47,7 @@ fn refusal_of(alloc: Global, error: ToolError, cause: Option<Cause>) -> Refusal
 fn read_input<I: Source>(alloc: Global, input: &mut I) -> Result<Vec<u8>, Refusal>
     ensures whole { IfOk result
         (λ text. IfSome (I.left input.old) (λ told. text.items ≡ told)) }
+    ensures within { IfOk result (λ text. length text.items ≤ max_file) }
     ensures refused { IfErr result (IsUnread (codes "standard input")) }
     ensures reason { IfErr result (λ r. (r ≡ Plain ToolError.Memory)
         ⊎ IsInputUnread (I.failures input.old) (I.failures input.new) r) }
@@ -65,7 +67,9 @@ pub fn read<D: System, I: Source>(
 ) -> Result<Vec<u8>, Refusal>
     ensures read { D.Store.tells → IfOk result (λ bytes.
         IsGiven path.now (I.left input.old) (D.Store.seen system.now) bytes.items) }
-    ensures refused { IfErr result (IsUnread (told_path path.now)) }
+    ensures within { IfOk result (λ bytes. length bytes.items ≤ max_file) }
+    ensures refused { D.Store.tells → IfErr result
+        (IsUnreadGiven (is_dash path.now) path.now (D.Store.seen system.now)) }
     ensures untouched { is_dash path.now ≡ false → input.new ≡ input.old }
     ensures reason { IfErr result (λ r. HasReason
         (IsUnreadable (D.System.may_fail system.now) (D.Store.seen system.now)) ⊥

@@ -6,11 +6,13 @@
 //! | `answer` | what a command prints, and its status |
 //! | `printing` | the one place where that is printed |
 //! | `outlet` | where standard output goes to: a sink whose reader may go away |
+//! | `coloured` | one that shows in colour what it takes |
 //! | `updates` | `update`; `progress`: what it says of its files; `hiding`: of a database that hides the new one |
 //! | `queries` | `query`, of the devices of the words or of standard input |
 //! | `answers` | `explain`, `list` and `ask` |
 //! | `input_devices` | `query -` and `explain -`: the devices that standard input names |
 //! | `checks` | `check` |
+//! | `near_misses` | `near` |
 //! | `differences` | `diff` |
 //! | `verification` | `verify`; `verdicts`: its words on bytes that are no database |
 //! | `dumps` | `dump` |
@@ -18,6 +20,7 @@
 //! | `given` | files that words name, or standard input |
 //! | `laws` | what an update and a query after it say together |
 //! | `one_outcome` | two runs over one input end alike |
+//! | `one_refusal` | so they do with an error |
 //! | `crash` | what a crash, a start and a query make of a run |
 //! | `failures` | what failed calls and faulty words leave undone |
 //!
@@ -28,6 +31,7 @@
 mod answer;
 mod answers;
 mod checks;
+mod coloured;
 mod crash;
 mod databases;
 mod differences;
@@ -38,7 +42,9 @@ mod given;
 mod hiding;
 mod input_devices;
 mod laws;
+mod near_misses;
 mod one_outcome;
+mod one_refusal;
 mod outlet;
 mod printing;
 mod progress;
@@ -50,20 +56,25 @@ mod verification;
 pub use answer::Answer;
 pub use answers::{ask_file, explain, list};
 pub use checks::check;
+pub use coloured::{Coloured, kind_of, write_painted};
 pub use crash::{crash_then_query, kill_then_query};
 pub use differences::diff;
 pub use dispatch::program;
 pub use dumps::dump;
 pub use failures::{counts_tell_failures, faulty_update_leaves_all};
 pub use hiding::update_telling;
-pub use hwdb_cli::{Job, Task, WordsFault, read_words};
+pub use hwdb_cli::{Job, Task, WordsFault, kind_fault, read_words};
 pub use hwdb_fs::{Refusal, System, SystemStore};
 pub use hwdb_io::{
     Cause, DeviceFailed, FromRead, Sink, Source, ToWrite, read_all, testing, write_text,
 };
+pub use hwdb_lint::KINDS;
 pub use hwdb_print::{ToolError, ask, run_list, run_query, run_update};
+pub use hwdb_spec::TextKind;
 pub use laws::update_then_query;
+pub use near_misses::near;
 pub use one_outcome::{answers_are_one, jobs_are_one, listings_give_one_reading, tasks_are_one};
+pub use one_refusal::{errors_are_one, words_end_in_one};
 pub use outlet::Outlet;
 pub use queries::query;
 pub use verification::verify;

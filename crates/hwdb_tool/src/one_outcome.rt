@@ -30,9 +30,11 @@ pub fn answers_are_one()
 
 /// Two outcomes that a task may have over one input are the same, where both are done and leave out no file, but for leftovers
 /// of killed updates.
-pub fn tasks_are_one<D: System>(first: &D, second: &D)
-    ensures { TasksAreOne (D.may_fail first.now) (D.may_fail second.now)
-        (D.Store.may_leave first.now) (D.Store.may_leave second.now) }
+pub fn tasks_are_one<D: System>(first: &D, first_then: &D, second: &D, second_then: &D)
+    ensures { TasksAreOne (D.may_fail first.now) (D.may_fail first_then.now)
+        (D.may_fail second.now) (D.may_fail second_then.now)
+        (D.Store.may_leave first.now) (D.Store.may_leave first_then.now)
+        (D.Store.may_leave second.now) (D.Store.may_leave second_then.now) }
 {
     listings_give_one_reading();
     law_one_tree();
@@ -42,10 +44,15 @@ pub fn tasks_are_one<D: System>(first: &D, second: &D)
 
 /// Two outcomes that words may have over one input are the same, where what they ask for is done and leaves out no file, but
 /// for such leftovers.
-pub fn jobs_are_one<D: System>(first: &D, second: &D)
-    ensures one { JobsAreOne (D.may_fail first.now) (D.may_fail second.now)
-        (D.Store.may_leave first.now) (D.Store.may_leave second.now) }
-    ensures told { DoneIsNotTold (D.may_fail first.now) (D.Store.may_leave first.now) }
+pub fn jobs_are_one<D: System>(first: &D, first_then: &D, second: &D, second_then: &D)
+    ensures one { JobsAreOne (D.may_fail first.now) (D.may_fail first_then.now)
+        (D.may_fail second.now) (D.may_fail second_then.now)
+        (D.Store.may_leave first.now) (D.Store.may_leave first_then.now)
+        (D.Store.may_leave second.now) (D.Store.may_leave second_then.now) }
+    ensures told { DoneIsNotTold (D.may_fail first.now) (D.may_fail first_then.now)
+        (D.may_fail second.now) (D.may_fail second_then.now)
+        (D.Store.may_leave first.now) (D.Store.may_leave first_then.now)
+        (D.Store.may_leave second.now) (D.Store.may_leave second_then.now) }
 {
-    tasks_are_one(first, second);
+    tasks_are_one(first, first_then, second, second_then);
 }

@@ -1,7 +1,12 @@
--- What the code's rated patterns mean.
+-- What the code's rated patterns mean, and their order.
 use Rattle.std.specs.Prelude.{ℕ, List, filter, map, not}
-use Rattle.hwdb_spec.specs.Near.{PatternAt, Rated, hits, rated}
-use Rattle.hwdb_near.specs.declared.kept.Rated.{Rated as Found}
+use Rattle.std.specs.Cmp.{IsTotalOrder, back_total, nat_cmp_total, on_total, then_total}
+use Rattle.std.specs.Cmp.Lexicographic.{nat_list_cmp_total}
+use Rattle.std.specs.declared.cmp.Ordering.{Ordering}
+use Rattle.std.specs.Ordering.{nat_cmp, ordering_then}
+use Rattle.hwdb_spec.specs.Assignment.{text_cmp}
+use Rattle.hwdb_spec.specs.Near.{PatternAt, Rated, hits, near_cmp, rated}
+use Rattle.hwdb_near.specs.declared.found.Rated.{Rated as Found}
 use Rattle.hwdb_near.specs.Views.{pattern_at}
 
 abbrev pub rated_of : Found → Rated
@@ -10,3 +15,25 @@ rated_of r = record { missing = r.missing; front = r.front; at = pattern_at r.at
 -- those of some patterns that don't match, each with how near it is
 abbrev pub misses : List ℕ → List PatternAt → List Rated
 misses device all = map (rated device) (filter (λ at. not (hits device at)) all)
+
+-- the order of two patterns that are as near, by their texts, and by their places
+abbrev pub text_order : PatternAt → PatternAt → Ordering
+text_order a b = ordering_then (text_cmp a.pattern b.pattern) (text_cmp a.path b.path)
+
+abbrev pub place_order : PatternAt → PatternAt → Ordering
+place_order a b = ordering_then (nat_cmp a.file b.file) (ordering_then (nat_cmp a.line b.line) (text_order a b))
+
+-- the order is one of patterns and their places
+pub near_total : IsTotalOrder near_cmp
+near_total =
+    then_total (on_total (λ (r : Rated). r.missing) nat_cmp_total)
+    (then_total (back_total (on_total (λ (r : Rated). r.front) nat_cmp_total))
+    (then_total (on_total (λ (r : Rated). r.at.file) nat_cmp_total)
+    (then_total (on_total (λ (r : Rated). r.at.line) nat_cmp_total)
+    (then_total (on_total (λ (r : Rated). r.at.pattern) nat_list_cmp_total) (on_total (λ (r : Rated). r.at.path) nat_list_cmp_total)))))
+
+abbrev pub by_nearness : Found → Found → Ordering
+by_nearness a b = near_cmp (rated_of a) (rated_of b)
+
+pub by_nearness_total : IsTotalOrder by_nearness
+by_nearness_total = on_total rated_of near_total

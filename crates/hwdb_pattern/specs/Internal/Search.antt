@@ -1,7 +1,7 @@
 -- Our own words: how far a search has come, as what is left to match from a place in the pattern and
 -- in the device.
 use Rattle.std.specs.Prelude.{Bool, List, None, false, true, slice_index, slice_index_or, ℕ, ◌≡◌, ◌≢◌, ◌<◌, ◌≤◌, drop, ◌∷◌, length}
-use Rattle.hwdb_spec.specs.Patterns.{Matches, bracket_at, items_from, star, tokens}
+use Rattle.hwdb_spec.specs.Patterns.{Matches, bracket_at, items_from, literal, star, token_at, tokens}
 
 -- no `]` comes from `close` on; `]` is 93
 abbrev pub NoneCloses : List ℕ → ℕ → Type 0
@@ -15,6 +15,10 @@ AreOpen pattern opens =
 -- at each place for which the table says so, no `]` closes the items from there on
 abbrev pub NeverClose : List ℕ → List Bool → Type 0
 NeverClose text table = (k : ℕ) → slice_index_or table k false ≡ true → items_from false 0 (drop k text) ≡ None
+
+-- each of the first bytes, so many of them, is a token that stands for itself
+abbrev pub ArePlain : List ℕ → ℕ → Type 0
+ArePlain pattern n = (k : ℕ) → k < n → token_at (drop k pattern) ≡ literal (slice_index pattern k)
 
 -- The tokens before `at` are no stars and take the first `met` bytes of the device.
 pub record Reaches (pattern device : List ℕ) (at met : ℕ) : Type 0 where

@@ -13,10 +13,9 @@ fn patterns(alloc: Global) -> Result<Vec<PatternAt<'static>>, AllocError> {
     let mut all = Vec::new(alloc);
     let file = TextFile {
         path: b"f",
-        file: 1,
         bytes: FILE,
     };
-    push_patterns(&mut all, file)?;
+    push_patterns(&mut all, 1, file)?;
     Ok(all)
 }
 
@@ -36,7 +35,7 @@ fn lines(alloc: Global) -> Result<Vec<u8>, AllocError> {
 #[test]
 fn reports_of_the_nearest(rt: HostRuntime) {
     let wanted: &[u8] =
-        b"f:7: the pattern matches\n    usb:*\nf:1: the device has `D`, the pattern `d`\n    usb:v04d9*\n           ^\n    usb:v04D9p0024\n           ^\nf:4: the device has `4`, the pattern `5`\n    usb:v04D9p0025*\n                 ^\n    usb:v04D9p0024\n                 ^\n";
+        b"f:7: the pattern matches\n    usb:*\nf:1: the device has `D`, the pattern `d`: the case of letters counts\n    usb:v04d9*\n           ^\n    usb:v04D9p0024\n           ^\nf:4: the device has `4`, the pattern `5`\n    usb:v04D9p0025*\n                 ^\n    usb:v04D9p0024\n                 ^\n";
     assert!(rt; matches!(reports(rt.alloc()), Ok(text) if text.as_slice() == wanted));
 }
 

@@ -5,7 +5,9 @@ use Rattle.hwdb_inspect.proofs.summary.count_different.Goals as goal
 
 pub returns : goal.returns
 returns c =
-    let same = different_are (λ t. t.now) c.args.texts.items c.sort.new.self.items c.dedup.new.self.items c.in_ok-sort.ensures.permutation c.in_ok-sort.ensures.sorted (dedup_is _ _ _ c.dedup.ensures.filtered) in
+    let left = c.without_repeats-ordered.result.items in
+    let few = c.without_repeats-ordered.ensures in
+    let same = different_are (λ t. t.now) left c.sort.new.self.items c.dedup.new.self.items c.in_ok-sort.ensures.permutation c.in_ok-sort.ensures.sorted (dedup_is _ _ _ c.dedup.ensures.filtered) in
     let read = c.len.ensures in
     let size = c.dedup.new.self.ok in
-    omega (arith, same, read, size)
+    omega (arith, few, same, read, size)

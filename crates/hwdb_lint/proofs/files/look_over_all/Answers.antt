@@ -1,11 +1,13 @@
+use Rattle.std.proofs.Common.{map}
+use Rattle.std.specs.Prelude.{string_bytes}
 use Rattle.hwdb_lint.proofs.FileLemmas.{file_refused, found_step, reports_step}
 use Rattle.hwdb_lint.proofs.files.look_over_all.Goals as goal
 
 pub loop-file-preserved : goal.loop-file-preserved
 loop-file-preserved c = record {
-  reports = reports_step c.args.files.now c.loop-file.file-index _ _ _ _ _ _ c.loop-file-test.true c.as_bytes.ensures.value c.in_ok-found.ensures.reports c.deref.ensures.value c.in_ok-extend_from_slice.ensures.items
+  reports = reports_step c.args.telling.now.json (map string_bytes c.args.telling.now.allowed.now) c.args.files.now c.loop-file.file-index _ _ _ _ _ _ c.loop-file-test.true c.as_bytes.ensures.value c.in_ok-found.ensures.reports c.deref.ensures.value c.in_ok-extend_from_slice.ensures.items
       c.loop-file.invariant.reports;
-  found = found_step c.args.files.now c.loop-file.file-index _ _ _ _ c.loop-file-test.true c.in_ok-found.ensures.found c.together-tally.ensures c.loop-file.invariant.found;
+  found = found_step (map string_bytes c.args.telling.now.allowed.now) c.args.files.now c.loop-file.file-index _ _ _ _ c.loop-file-test.true c.in_ok-found.ensures.found c.together-tally.ensures c.loop-file.invariant.found;
 }
 
 pub returns-in_err-found-clause-errors : goal.returns-in_err-found-clause-errors

@@ -1,6 +1,8 @@
 use Rattle.std.proofs.Common.{◌∙◌, ap, refl}
+use Rattle.std.specs.Prelude.{filter}
 use Rattle.hwdb_spec.specs.Warnings.{greatest}
 use Rattle.hwdb_lint.specs.Internal.{replacing_of}
+use Rattle.hwdb_lint.proofs.SoughtLemmas.{all_unread, all_unpaired}
 use Rattle.hwdb_lint.proofs.known.known_of.Goals as goal
 
 pub returns : goal.returns
@@ -8,6 +10,8 @@ returns c = (
   record {
     repeated = c.in_ok-repeated_lines.ensures;
     replaced = λ n. c.in_ok-replaced_lines.ensures n ∙ ap (λ all. greatest (replacing_of all all n)) c.requires;
+    unread = λ n. c.in_ok-unread_lines.ensures n ∙ ap (all_unread n) c.requires;
+    unpaired = λ n. c.in_ok-unpaired_lines.ensures n ∙ ap (all_unpaired n) c.requires;
   },
   refl,
 )

@@ -1,15 +1,20 @@
-use Rattle.std.proofs.Common.{length, ◌-◌, ◌+◌, ◌≡◌, ◌≤◌, ◌++◌, drop}
-use Rattle.std.specs.Prelude.{flat_map}
+use Rattle.std.proofs.Common.{length, ◌-◌, ◌+◌, ◌≡◌, ◌≤◌, ◌++◌, drop, map}
+use Rattle.std.specs.Prelude.{flat_map, string_bytes}
+use Rattle.hwdb_spec.specs.Findings.{line_text, warnings_text}
 use Rattle.hwdb_spec.specs.Lines.{is, numbered, pieces}
-use Rattle.hwdb_spec.specs.Warnings.{line_text, line_warnings, warnings, warnings_text}
+use Rattle.hwdb_spec.specs.Warnings.{line_warnings, warnings}
 use Rattle.hwdb_lint.proofs.warnings.warnings_of.Given as goal
 
 abbrev pub invariant-loop-at : goal.invariant-loop-at
 invariant-loop-at l = record {
   at_in : l.at ≤ length l.bytes + 1;
   near : l.number ≤ l.at + 1;
-  text : l.warned.text.items ++ flat_map (line_text l.path l.bytes) (numbered l.number (pieces (is 10) (drop l.at l.bytes))) ≡ warnings_text l.path l.bytes;
-  found : l.warned.found.items ++ flat_map (line_warnings l.bytes) (numbered l.number (pieces (is 10) (drop l.at l.bytes))) ≡ warnings l.bytes;
+  text : l.warned.text.items
+      ++ flat_map (line_text l.telling.json (map string_bytes l.telling.allowed.now) l.path l.bytes) (numbered l.number (pieces (is 10) (drop l.at l.bytes)))
+      ≡ warnings_text l.telling.json (map string_bytes l.telling.allowed.now) l.path l.bytes;
+  found : l.warned.found.items
+      ++ flat_map (line_warnings (map string_bytes l.telling.allowed.now) l.bytes) (numbered l.number (pieces (is 10) (drop l.at l.bytes)))
+      ≡ warnings (map string_bytes l.telling.allowed.now) l.bytes;
 }
 
 abbrev pub decreases-loop-at : goal.decreases-loop-at

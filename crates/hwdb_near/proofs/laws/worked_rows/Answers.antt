@@ -1,4 +1,4 @@
-use Rattle.hwdb_near.proofs.ComputedRows.{file_rows, mark_rows, matching_rows, nearest_rows, rated_rows, stop_rows, word_rows}
+use Rattle.hwdb_near.proofs.ComputedRows.{file_rows, gathered_rows, head_rows, mark_rows, matching_rows, nearest_rows, place_rows, rated_rows, stop_rows, word_rows}
 use Rattle.hwdb_near.proofs.laws.worked_rows.Goals as goal
 
 pub returns : goal.returns
@@ -9,5 +9,8 @@ returns c = record {
   matching = matching_rows;
   marks = mark_rows;
   words = word_rows;
+  heads = head_rows;
   files = file_rows;
+  places = place_rows;
+  gathered = gathered_rows;
 }

@@ -1,6 +1,6 @@
 use Rattle.std.proofs.Common.{◌≡◌, ◌≤◌, take, map}
 use Rattle.hwdb_spec.specs.Near.{literals}
-use Rattle.hwdb_near.specs.Internal.Listed.{token_of}
+use Rattle.hwdb_pattern.specs.Fronts.{token_of}
 use Rattle.hwdb_near.proofs.rating.literals.Given as goal
 
 abbrev pub invariant-loop-token : goal.invariant-loop-token

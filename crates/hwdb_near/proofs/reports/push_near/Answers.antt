@@ -11,7 +11,7 @@ returns c =
     let device = c.args.device.now in
     let stop = c.in_ok-stop.stop in
     let why = c.deref.ensures.value ∙ c.in_ok-push_why.ensures
-    ∙ (λ i. c.new-why.ensures.items i ++ why_text device stop.device (c.after.ensures i) (c.after-2.ensures i)) in
+    ∙ (λ i. c.new-why.ensures.items i ++ why_text at.pattern device stop.device (c.after.ensures i) (c.after-2.ensures i)) in
     on_ok_weaker c.push_marked-2.result
     (λ h. near_written at device (front_at stop) stop.pattern c.args.text.now.items c.push_said_line.new.text.items c.push_marked.new.text.items c.push_marked-2.new.text.items _
     c.in_ok-stop.ensures.computed c.in_ok-stop.ensures.place why c.in_ok-push_said_line.ensures c.in_ok-push_marked.ensures h) c.push_marked-2.ensures

@@ -1,5 +1,5 @@
-use Rattle.std.proofs.Common.{length, ◌-◌, ◌≤◌, ◌+◌}
-use Rattle.hwdb_pattern.specs.Internal.Search.{Remains}
+use Rattle.std.proofs.Common.{length, drop, ◌-◌, ◌≤◌, ◌+◌}
+use Rattle.hwdb_pattern.specs.Internal.Search.{ArePlain, Remains}
 use Rattle.hwdb_pattern.proofs.search.glob.Given as goal
 
 abbrev pub invariant-loop-met : goal.invariant-loop-met
@@ -7,6 +7,8 @@ invariant-loop-met l = record {
   at_in : l.at ≤ length l.pattern;
   met_in : l.met ≤ length l.device + 1;
   remains : Remains l.pattern l.device l.at l.met;
+  plain_in : l.plain ≤ length (drop l.at l.pattern);
+  plain : ArePlain (drop l.at l.pattern) l.plain;
 }
 
 abbrev pub decreases-loop-met : goal.decreases-loop-met

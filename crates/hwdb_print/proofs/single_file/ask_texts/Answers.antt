@@ -35,6 +35,7 @@ returns-clause-texts c =
       accepted = c.in_ok-compiled.ensures.accepted file [] of;
       database = c.in_ok-compiled.compiled.database.items;
       written = c.in_ok-compiled.ensures.database file [] of;
+      within = c.in_ok-compiled.ensures.within;
       faults = c.in_ok-faults.ensures ∙ ap (λ fs. faults_text_at c.as_bytes.result.now (map fault_of fs)) c.deref.ensures.value
           ∙ ap (faults_text_at c.as_bytes.result.now) (c.in_ok-compiled.ensures.faults file [] of) ∙ ap (λ f. faults_text_at f (faults_of_files file [])) c.as_bytes.ensures.value;
       properties = subst P c.deref-2.ensures.value c.in_ok-properties.ensures.text;

@@ -17,7 +17,7 @@ returns-clause-checked g c = λ tells.
     ∙ c.in_ok-paths.ensures ∙ ap (λ l. map path_of (map choice_of l)) c.deref.ensures.value in
     let held : map (λ f. f.bytes.now) files ≡ map (λ t. t.items) c.in_ok-selection.selection.texts.items =
     ap (map (λ f. f.bytes.now)) c.deref-4.ensures.value ∙ c.in_ok-files.ensures.bytes ∙ ap (map (λ t. t.items)) c.deref-3.ensures.value in
-    all_checked (AreChosenFiles root seen) files c.args.strict c.check_read.result
+    all_checked (AreChosenFiles root seen) files c.args.json c.args.strict (map string_bytes c.args.allowed.now) c.check_read.result
     (chosen_sources root seen _ chosen _ files (c.in_ok-selection.ensures.selected tells) named held) c.check_read.ensures.checked
 
 pub returns-clause-refused : goal.returns-clause-refused

@@ -14,7 +14,7 @@ returns-clause-checked g c = λ tells.
     let named : map (λ f. f.path.now) files ≡ given = ap (map (λ f. f.path.now)) c.deref-3.ensures.value ∙ c.in_ok-files.ensures.paths in
     let held : map (λ f. f.bytes.now) files ≡ map (λ t. t.items) c.in_ok-texts.texts.items =
     ap (map (λ f. f.bytes.now)) c.deref-3.ensures.value ∙ c.in_ok-files.ensures.bytes ∙ ap (map (λ t. t.items)) c.deref-2.ensures.value in
-    all_checked (AreGivenFiles given input seen) files c.args.strict c.check_read.result
+    all_checked (AreGivenFiles given input seen) files c.args.json c.args.strict (map string_bytes c.args.allowed.now) c.check_read.result
     (given_sources input seen _ given _ files (c.in_ok-texts.ensures.read tells) told named held) c.check_read.ensures.checked
 
 pub returns-clause-refused : goal.returns-clause-refused

@@ -11,7 +11,7 @@ returns-in_err-found-clause-refused g c = λ tells.
     let root = c.args.root.now in
     let seen = g.D.Store.seen c.args.system.now in
     given_error c.in_err-found.field-0.0 (IsUnfound root seen) c.from_residual.result c.from_residual.ensures.1
-    (unfound root seen (database_path false root) c.in_err-found.field-0.0 (inl refl) c.in_err-found.ensures.refused)
+    (unfound root seen (database_path false root) c.in_err-found.field-0.0 (inl refl) (c.in_err-found.ensures.refused tells))
 
 pub returns-in_err-found-2-clause-refused : goal.returns-in_err-found-2-clause-refused
 returns-in_err-found-2-clause-refused g c = λ tells.
@@ -19,4 +19,4 @@ returns-in_err-found-2-clause-refused g c = λ tells.
     let seen = g.D.Store.seen c.args.system.now in
     given_error c.in_err-found-2.field-0.0 (IsUnfound root seen) c.from_residual-in_err-found-2.result c.from_residual-in_err-found-2.ensures.1
     (unfound root seen (database_path true root) c.in_err-found-2.field-0.0
-    (inr (refl, sym (c.in_ok-found.ensures.found tells) ∙ ap (option_map (λ f. f.bytes.items)) c.in_default.is)) c.in_err-found-2.ensures.refused)
+    (inr (refl, sym (c.in_ok-found.ensures.found tells) ∙ ap (option_map (λ f. f.bytes.items)) c.in_default.is)) (c.in_err-found-2.ensures.refused tells))

@@ -22,6 +22,7 @@ returns-in-Ok-enter_root-clause-refused g c = λ tells is.
     inr (inl record {
       job = c.in-Ok.job;
       asked = c.in-Ok.ensures.job;
+      faultless = c.in-Ok.ensures.whole;
       refusal = c.in-Err-run.refusal;
       err_then = E c.run.new.err;
       refused = subst (λ (s : g.row.D.Denot). IsJobNotDone c.in-Ok.job (at s) left c.in-Err-run.refusal) (c.enter_root.ensures.same tells) (c.in-Err-run.ensures.refused tells);
@@ -35,6 +36,7 @@ returns-in-Ok-clause-refused g c = λ tells is.
     inr (inr (inr record {
       job = c.in-Ok.job;
       asked = c.in-Ok.ensures.job;
+      faultless = c.in-Ok.ensures.whole;
       refusal = c.in-Err.refusal;
       unread = c.in-Err.ensures.refused;
       reason = c.in-Err.ensures.reason;
@@ -70,6 +72,7 @@ returns-in-Ok-enter_root-clause-done g c = λ tells is.
     inr (inr (inl record {
       job = job;
       asked = c.in-Ok.ensures.job;
+      faultless = c.in-Ok.ensures.whole;
       refused = same;
       kept = cut_keeps (root_of job) job.usr job.strict (at c.args.system.now) now job.task same;
       reader = c.refuse_job.ensures.gone is;

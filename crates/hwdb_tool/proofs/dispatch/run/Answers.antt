@@ -1,21 +1,21 @@
 use Rattle.std.proofs.Common.{◌≡◌, ◌⊎◌, ap, inl, inr, ⊎_elim, refl, string_bytes, subst, sym, ◌==◌, length, map, not, true, IfOk, IfErr}
 use Rattle.std.specs.Prelude.{option_map}
-use Rattle.hwdb_cli.specs.declared.job.Task.TheVariants.{Check, Diff, Update}
+use Rattle.hwdb_cli.specs.declared.job.Task.TheVariants.{Ask, Check, Diff, Update}
 use Rattle.hwdb_spec.specs.Asked.{IsAnswered, IsCompared, IsListFrom}
 use Rattle.hwdb_spec.specs.CheckedFiles.{AreCheckedFiles, IsChecked}
-use Rattle.hwdb_spec.specs.Done.{IsLeftByUpdateLess, OldOrUpdatedLess}
-use Rattle.hwdb_spec.specs.Given.{any_dash}
+use Rattle.hwdb_spec.specs.Done.{IsAsked, IsLeftByUpdateLess, OldOrUpdatedLess}
+use Rattle.hwdb_spec.specs.Given.{any_dash, is_dash}
 use Rattle.hwdb_spec.specs.Outputs.{TookOne}
 use Rattle.hwdb_spec.specs.Runs.{OnOut, World, files_by, told_by}
 use Rattle.hwdb_tool.specs.ComparedDatabases.{IsDiffRefused}
 use Rattle.hwdb_tool.specs.Program.{IsAnswerOf, IsTaskDone, OldOrDone, root_of, skips}
 use Rattle.hwdb_tool.specs.Queries.{IsInputUnread}
-use Rattle.hwdb_fs.specs.Refusals.{HasReason}
-use Rattle.hwdb_tool.specs.Undone.{AreUncheckable, IsCheckRefused, IsUnreadableIf}
+use Rattle.hwdb_fs.specs.Refusals.{HasReason, IsUnreadable}
+use Rattle.hwdb_tool.specs.Undone.{AreUncheckable, IsAskRefused, IsCheckRefused, IsUnreadableIf}
 use Rattle.hwdb_tool.specs.TaskRefusals.{IsNotDone, IsTaskReason, Refuses}
 use Rattle.hwdb_tool.specs.Views.{texts_in}
 use Rattle.hwdb_tool.proofs.MomentLemmas.{leaves_more}
-use Rattle.hwdb_tool.proofs.ErrorLemmas.{both_errors, each_error, each_value}
+use Rattle.hwdb_tool.proofs.ErrorLemmas.{both_errors, both_values, each_error, each_value}
 use Rattle.hwdb_tool.proofs.PrintingLemmas.{any_reason, listed_done, printed_refused}
 use Rattle.hwdb_tool.proofs.dispatch.run.Goals as goal
 
@@ -99,10 +99,12 @@ returns-in-Check-clause-refused g c = λ tells.
     let now : World = record { files = F c.args.system.now; input = I c.check-answer.new.input; out = O c.printed-in-Check.new.out; err = E c.printed-in-Check.new.err } in
     let fails = before.files.fails in
     let input = before.input.bytes in
-    let task = Check c.in-Check.files in
+    let task = Check c.in-Check.files c.in-Check.allowed c.in-Check.json in
     let root = c.root_of-root.result.now in
     let given = c.in-Check.files.items in
     let items = c.deref-in-Check.ensures.value in
+    let allowed = map string_bytes c.in-Check.allowed.items in
+    let left_out = c.deref-2-in-Check.ensures.value in
     let answer = c.check-answer.result in
     subst (λ t. IfErr c.printed-in-Check.result (IsNotDone t (root_of job) job.usr job.strict before now)) (sym c.in-Check.is)
     (each_error _ (IsNotDone task (root_of job) job.usr job.strict before now) c.printed-in-Check.result (λ r both. ((both.0, record { same = λ p. refl; no_more = λ p v l. l }), both.1))
@@ -110,8 +112,10 @@ returns-in-Check-clause-refused g c = λ tells.
     (λ s t. IsAnswerOf task (root_of job) job.strict input seen s t) before.err now.err before.out now.out
     (subst (λ r. IfErr answer (IsCheckRefused (AreUncheckable (map string_bytes given) r seen) (AreCheckedFiles (map string_bytes given) r input seen))) c.root_of-root.ensures
     (subst (λ l. IfErr answer (IsCheckRefused (AreUncheckable (map string_bytes l) root seen) (AreCheckedFiles (map string_bytes l) root input seen))) items (c.check-answer.ensures.refused tells)))
-    (subst (λ r. IfOk answer (λ a. OnOut (λ text. IsChecked (AreCheckedFiles (map string_bytes given) r input seen) job.strict text a.status) (texts_in a))) c.root_of-root.ensures
-    (subst (λ l. IfOk answer (λ a. OnOut (λ text. IsChecked (AreCheckedFiles (map string_bytes l) root input seen) job.strict text a.status) (texts_in a))) items (c.check-answer.ensures.checked tells)))
+    (subst (λ r. IfOk answer (λ a. OnOut (λ text. IsChecked (AreCheckedFiles (map string_bytes given) r input seen) c.in-Check.json job.strict allowed text a.status) (texts_in a))) c.root_of-root.ensures
+    (subst (λ l. IfOk answer (λ a. OnOut (λ text. IsChecked (AreCheckedFiles (map string_bytes l) root input seen) c.in-Check.json job.strict allowed text a.status) (texts_in a))) items
+    (subst (λ l. IfOk answer (λ a. OnOut (λ text. IsChecked (AreCheckedFiles (map string_bytes c.deref-in-Check.result.now) root input seen) c.in-Check.json job.strict (map string_bytes l) text a.status) (texts_in a))) left_out
+    (c.check-answer.ensures.checked tells))))
     (each_error _ (IsTaskReason task (root_of job) job.usr before now) answer
     (λ r has. ⊎_elim (λ file. inl (any_reason _ _ seen r file)) (λ dash. inr dash) has)
     (subst (λ l. IfErr answer (λ r. HasReason (IsUnreadableIf (not (length l == 0)) fails seen) ⊥ seen r ⊎ ((any_dash (map string_bytes l) ≡ true) × IsInputUnread before.input.failures now.input.failures r))) items
@@ -142,3 +146,35 @@ returns-in-Diff-clause-refused g c = λ tells.
     (subst (λ o. IfOk c.diff.result (λ a. OnOut (λ text. IsCompared o new_path seen text a.status) (texts_in a))) of_old (c.diff.ensures.compared tells)))
     (each_error _ (IsTaskReason task (root_of job) job.usr before now) c.diff.result (λ r has. inl (any_reason _ _ seen r has)) c.diff.ensures.reason)
     (inl tt) c.printed-in-Diff.ensures.refused))
+
+pub returns-in-Ask-clause-refused : goal.returns-in-Ask-clause-refused
+returns-in-Ask-clause-refused g c = λ tells.
+    let job = c.args.job.now in
+    let F = files_by g.D.Store.seen g.D.System.may_fail g.D.Store.may_leave g.D.Store.failures in
+    let I = told_by g.I.Source.left g.I.Source.failures in
+    let O = told_by g.O.Sink.taken g.O.Sink.failures in
+    let E = told_by g.E.Sink.taken g.E.Sink.failures in
+    let seen = g.D.Store.seen c.args.system.now in
+    let before : World = record { files = F c.args.system.now; input = I c.args.input.now; out = O c.args.out.now; err = E c.args.err.now } in
+    let now : World = record { files = F c.args.system.now; input = I c.ask_file-answer.new.input; out = O c.printed.new.out; err = E c.printed.new.err } in
+    let fails = before.files.fails in
+    let input = before.input.bytes in
+    let task = Ask c.in-Ask.file c.in-Ask.device in
+    let file = string_bytes c.in-Ask.file in
+    let of_file = c.as_str-in-Ask.ensures.value in
+    let of_device = c.as_bytes.ensures.value in
+    let device = c.as_bytes.result.now in
+    let answer = c.ask_file-answer.result in
+    subst (λ t. IfErr c.printed.result (IsNotDone t (root_of job) job.usr job.strict before now)) (sym c.in-Ask.is)
+    (each_error _ (IsNotDone task (root_of job) job.usr job.strict before now) c.printed.result (λ r both. ((both.0, record { same = λ p. refl; no_more = λ p v l. l }), both.1))
+    (printed_refused answer c.printed.result (Refuses task (root_of job) input seen) (IsTaskReason task (root_of job) job.usr before now)
+    (λ s t. IsAnswerOf task (root_of job) job.strict input seen s t) before.err now.err before.out now.out
+    (subst (λ f. IfErr answer (IsAskRefused f input seen)) of_file (c.ask_file-answer.ensures.refused tells))
+    (both_values (λ a. a.status ≡ 0) (λ a. IsAsked file (string_bytes c.in-Ask.device) input seen (texts_in a)) (λ a. IsAnswerOf task (root_of job) job.strict input seen a.status (texts_in a)) answer
+    (λ a zero asked. (zero, asked)) c.ask_file-answer.ensures.status
+    (subst (λ d. IfOk answer (λ a. IsAsked file d input seen (texts_in a))) of_device
+    (subst (λ f. IfOk answer (λ a. IsAsked f device input seen (texts_in a))) of_file (c.ask_file-answer.ensures.asked tells))))
+    (each_error _ (IsTaskReason task (root_of job) job.usr before now) answer
+    (λ r has. ⊎_elim (λ of. inl (any_reason _ _ seen r of)) (λ dash. inr dash) has)
+    (subst (λ f. IfErr answer (λ r. HasReason (IsUnreadable fails seen) ⊥ seen r ⊎ ((is_dash f ≡ true) × IsInputUnread before.input.failures now.input.failures r))) of_file c.ask_file-answer.ensures.reason))
+    (inl tt) c.printed.ensures.refused))

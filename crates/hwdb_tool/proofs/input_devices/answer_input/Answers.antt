@@ -1,4 +1,5 @@
-use Rattle.std.proofs.Common.{◌∙◌, ap, inl, inr, ⊎_elim, string_bytes, subst, sym, Err, Some}
+use Rattle.std.proofs.Common.{◌∙◌, ap, inl, inr, ⊎_elim, string_bytes, subst, sym, Err, Some, ◌≤◌, length, List, ℕ}
+use Rattle.hwdb_spec.specs.Texts.{max_file}
 use Rattle.hwdb_tool.specs.Queries.{IsOfInput}
 use Rattle.hwdb_tool.proofs.AnswerLemmas.{if_bad, streamed}
 use Rattle.hwdb_tool.proofs.input_devices.answer_input.Goals as goal
@@ -7,7 +8,7 @@ pub returns-in-Ok-clause-answered : goal.returns-in-Ok-clause-answered
 returns-in-Ok-clause-answered g c = λ tells.
     streamed (g.I.Source.left c.args.input.now) c.args.root.now c.args.form (g.D.Store.seen c.args.system.now) c.deref.result.now
     (g.O.Sink.taken c.args.out.now) (g.O.Sink.taken c.run_stream.new.out) (g.O.Sink.failures c.args.out.now) (g.O.Sink.failures c.run_stream.new.out)
-    (c.in_ok-found.ensures.asked tells ∙ ap Some (sym c.deref.ensures.value)) c.in-Ok.ensures.printed c.in-Ok.ensures.writes
+    (c.in_ok-found.ensures.asked tells ∙ ap Some (sym c.deref.ensures.value)) (subst (λ (b : List ℕ). length b ≤ max_file) (sym c.deref.ensures.value) c.in_ok-found.ensures.within) c.in-Ok.ensures.printed c.in-Ok.ensures.writes
 
 pub returns-clause-refused : goal.returns-clause-refused
 returns-clause-refused g c = λ tells. inr record {
@@ -15,6 +16,8 @@ returns-clause-refused g c = λ tells. inr record {
   bytes = c.deref.result.now;
   at = c.in_ok-found.ensures.path tells;
   asked = c.in_ok-found.ensures.asked tells ∙ ap Some (sym c.deref.ensures.value);
+  held = c.in_ok-found.ensures.held tells ∙ ap Some (sym c.deref.ensures.value);
+  within = subst (λ (b : List ℕ). length b ≤ max_file) (sym c.deref.ensures.value) c.in_ok-found.ensures.within;
   error = c.in-Err.error;
   is = subst (λ p. IsOfInput c.in-Err.error p c.refusal_of.result) c.as_bytes-path.ensures.value c.refusal_of.ensures;
   refused = c.in-Err.ensures.refusals;

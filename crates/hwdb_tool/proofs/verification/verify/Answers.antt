@@ -1,4 +1,5 @@
-use Rattle.std.proofs.Common.{◌∙◌, ap, inr, string_bytes, subst, sym, Some}
+use Rattle.std.proofs.Common.{◌∙◌, ap, inr, string_bytes, subst, sym, Some, ◌≤◌, length, List, ℕ}
+use Rattle.hwdb_spec.specs.Texts.{max_file}
 use Rattle.hwdb_tool.specs.NamedDatabases.{IsOfVerify}
 use Rattle.hwdb_tool.proofs.verification.verify.Goals as goal
 
@@ -9,6 +10,7 @@ returns-clause-refused g c = λ tells. inr record {
   at = c.in_ok-found.ensures.path tells;
   named = c.in_ok-found.ensures.named tells ∙ ap Some (sym c.deref.ensures.value);
   held = c.in_ok-found.ensures.held tells ∙ ap Some (sym c.deref.ensures.value);
+  within = subst (λ (b : List ℕ). length b ≤ max_file) (sym c.deref.ensures.value) c.in_ok-found.ensures.within;
   error = c.in-Err.error;
   is = subst (λ p. IsOfVerify c.in-Err.error p c.refusal_of.result) c.as_bytes.ensures.value c.refusal_of.ensures;
   refused = c.in-Err.ensures.errors;

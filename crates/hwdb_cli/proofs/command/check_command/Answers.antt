@@ -1,4 +1,0 @@
-use Rattle.hwdb_cli.proofs.command.check_command.Goals as goal
-
-pub returns : goal.returns
-returns c = c.with_argument.ensures _ _ c.shared-command.ensures c.word.ensures

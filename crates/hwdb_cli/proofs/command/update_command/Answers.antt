@@ -1,4 +1,0 @@
-use Rattle.hwdb_cli.proofs.command.update_command.Goals as goal
-
-pub returns : goal.returns
-returns c = c.with_argument.ensures _ _ (c.with_argument-with_verbose.ensures _ _ c.shared-command.ensures c.flag.ensures) c.flag-2.ensures

@@ -1,0 +1,57 @@
+//! `check`: its words, and its task.
+ghost use Rattle.std.specs.Prelude.{IfOk, codes};
+ghost use Rattle.clap.specs.Walk.{rows_of};
+ghost use Rattle.clap.specs.Matches.{found_of};
+ghost use Rattle.hwdb_cli.specs.Drafts.{IsArgument, IsDraft};
+ghost use Rattle.hwdb_cli.specs.Jobs.{IsTask};
+ghost use Rattle.hwdb_cli.specs.Line.{allow_rule, check_app};
+
+use crate::drafts::{Draft, json_option, option, shared, with_argument, word};
+use crate::job::Task;
+use crate::matched::{any_values_of, has_flag};
+use clap::{Arg, ArgAction, ArgMatches};
+use std::alloc::{AllocError, Global};
+
+/// What the short help says of it.
+pub const SHORT: &str = "says what is wrong in text files";
+
+/// What help begins with.
+const ABOUT: &str = "Says what is wrong in text files, or hardly meant, and writes no database";
+
+/// What help ends with.
+const AFTER: &str =
+    "Exit status: 0 if nothing is wrong; 1 if there is a fault, with --strict also if there is a warning, and on errors.\nExample: hwdb check 60-keyboard.hwdb";
+
+/// The command.
+pub fn command<'a>(alloc: Global) -> Draft<'a>
+    ensures { IsDraft check_app result }
+{
+    let help =
+        "A text file, or - for standard input; without one those of /etc/udev/hwdb.d and /usr/lib/udev/hwdb.d";
+    let command = shared(alloc, "check", ABOUT, AFTER);
+    let with_allow = with_argument(command, allow_option(alloc));
+    let with_json = with_argument(with_allow, json_option(alloc));
+    with_argument(with_json, word(alloc, "FILE", help, ArgAction::Append))
+}
+
+/// `--allow`.
+fn allow_option<'a>(alloc: Global) -> Arg<'a>
+    ensures { IsArgument allow_rule result }
+{
+    let help = "Leave out warnings of this kind; may come more than once";
+    option(alloc, "allow", "KIND", help).action(ArgAction::Append)
+}
+
+/// The task of `check`.
+pub fn task(alloc: Global, inner: &ArgMatches<'_>) -> Result<Task, AllocError>
+    ensures { IfOk result (IsTask (codes "check") (rows_of (found_of inner.now))) }
+{
+    let files = any_values_of(alloc, inner, "FILE")?;
+    let allowed = any_values_of(alloc, inner, "allow")?;
+    let json = has_flag(inner, "json");
+    Ok(Task::Check {
+        files,
+        allowed,
+        json,
+    })
+}

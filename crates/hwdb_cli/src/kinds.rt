@@ -1,0 +1,64 @@
+//! The kinds of warnings that `check --allow` names.
+use crate::job::Task;
+use crate::tips::ALIKE;
+use std::alloc::{AllocError, Global};
+use strsim::jaro;
+
+/// Whether a name is one of those that are told, a line each.
+fn is_kind(name: &str, kinds: &str) -> bool {
+    for kind in kinds.split("\n") {
+        if kind == name {
+            return true;
+        }
+    }
+    false
+}
+
+/// The kind whose name is most like another one, if one is like it.
+fn likely_kind<'k>(
+    alloc: Global,
+    name: &str,
+    kinds: &'k str,
+) -> Result<Option<&'k str>, AllocError> {
+    let mut most = ALIKE;
+    let mut found = None;
+    for kind in kinds.split("\n") {
+        let alike = jaro(alloc, name, kind)?;
+        if alike >= most {
+            most = alike;
+            found = Some(kind);
+        }
+    }
+    Ok(found)
+}
+
+/// What is said of a name that is none of a kind.
+fn fault_of(alloc: Global, name: &str, kinds: &str) -> Result<String, AllocError> {
+    let mut text = String::new(alloc);
+    writeln!(text, "error: --allow takes no '{name}'\n")?;
+    if let Some(kind) = likely_kind(alloc, name, kinds)? {
+        writeln!(text, "  tip: a similar kind exists: '{kind}'\n")?;
+    }
+    text.push_str("hwdb-format(7) has all kinds.\n")?;
+    Ok(text)
+}
+
+/// What is said of the first word after `--allow` that names no kind of warning: also which kind it is like, if it is like one.
+/// None if each names one, or the task has no such words. `kinds` has a name a line.
+///
+/// The only error is that memory is refused.
+pub fn kind_fault(
+    alloc: Global,
+    task: &Task,
+    kinds: &str,
+) -> Result<Option<String>, AllocError> {
+    let Task::Check { allowed, .. } = task else {
+        return Ok(None);
+    };
+    for name in allowed {
+        if !is_kind(name.as_str(), kinds) {
+            return Ok(Some(fault_of(alloc, name.as_str(), kinds)?));
+        }
+    }
+    Ok(None)
+}

@@ -1,0 +1,45 @@
+//! `query`: its words, and its task.
+ghost use Rattle.std.specs.Prelude.{IfOk, codes};
+ghost use Rattle.clap.specs.Walk.{rows_of};
+ghost use Rattle.clap.specs.Matches.{found_of};
+ghost use Rattle.hwdb_cli.specs.Drafts.{IsDraft};
+ghost use Rattle.hwdb_cli.specs.Jobs.{HasValue, IsTask};
+ghost use Rattle.hwdb_cli.specs.Line.{query_app};
+
+use crate::drafts::{Draft, json_option, needed_word, shared, with_argument};
+use crate::job::Task;
+use crate::matched::{has_flag, values_of};
+use clap::{ArgAction, ArgMatches};
+use std::alloc::{AllocError, Global};
+
+/// What the short help says of it.
+pub const SHORT: &str = "prints the properties that a device gets";
+
+/// What help begins with.
+const ABOUT: &str = "Prints the properties that the database gives each device, as KEY=VALUE lines";
+
+/// What help ends with.
+const AFTER: &str =
+    "Exit status: 0 on success, even if nothing matches; 1 on errors.\nExample: hwdb query usb:v1D6Bp0002";
+
+/// The command.
+pub fn command<'a>(alloc: Global) -> Draft<'a>
+    ensures { IsDraft query_app result }
+{
+    let help =
+        "The device strings, or - for the lines of standard input; one that begins with - stands after --";
+    let command = shared(alloc, "query", ABOUT, AFTER);
+    let with_json = with_argument(command, json_option(alloc));
+    let devices = needed_word(alloc, "MODALIAS", help, ArgAction::Append);
+    with_argument(with_json, devices)
+}
+
+/// The task of `query`.
+pub fn task(alloc: Global, inner: &ArgMatches<'_>) -> Result<Task, AllocError>
+    requires { HasValue (codes "MODALIAS") (rows_of (found_of inner.now)) }
+    ensures { IfOk result (IsTask (codes "query") (rows_of (found_of inner.now))) }
+{
+    let devices = values_of(alloc, inner, "MODALIAS")?;
+    let json = has_flag(inner, "json");
+    Ok(Task::Query { devices, json })
+}

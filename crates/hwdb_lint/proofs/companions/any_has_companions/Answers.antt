@@ -1,0 +1,18 @@
+use Rattle.std.proofs.Common.{◌+◌, add-one}
+use Rattle.hwdb_text.specs.Views.{given_in}
+use Rattle.hwdb_lint.specs.Internal.{has_companions, own}
+use Rattle.hwdb_lint.proofs.AnyLemmas.{any_found, any_none, any_passed}
+use Rattle.hwdb_lint.proofs.companions.any_has_companions.Goals as goal
+
+pub returns-then-has_companions : goal.returns-then-has_companions
+returns-then-has_companions c =
+    any_found has_companions (given_in own) c.args.all.now c.loop-given.given-index _ c.has_companions.result _ c.loop-given-test.true c.has_companions.ensures c.if-has_companions.true
+    c.loop-given.invariant
+
+pub loop-given-preserved : goal.loop-given-preserved
+loop-given-preserved c =
+    any_passed has_companions (given_in own) c.args.all.now c.loop-given.given-index (c.loop-given.given-index + 1) _ c.has_companions.result _ c.loop-given-test.true
+    (add-one c.loop-given.given-index) c.has_companions.ensures c.if-has_companions.false c.loop-given.invariant
+
+pub returns : goal.returns
+returns c = any_none has_companions (given_in own) c.args.all.now c.loop-given.given-index _ c.loop-given-test.false c.loop-given.invariant

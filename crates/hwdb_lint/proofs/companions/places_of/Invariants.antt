@@ -1,0 +1,9 @@
+use Rattle.std.proofs.Common.{◌≡◌, drop, map, take}
+use Rattle.std.specs.List.{list_any}
+use Rattle.hwdb_spec.specs.Surroundings.{companions_text}
+use Rattle.hwdb_text.specs.Views.{given_in}
+use Rattle.hwdb_lint.specs.Internal.{ArePlacesOf, own}
+use Rattle.hwdb_lint.proofs.companions.places_of.Given as goal
+
+abbrev pub invariant-loop-given : goal.invariant-loop-given
+invariant-loop-given l = ArePlacesOf (map (given_in own) (take l.given-index l.all)) l.places

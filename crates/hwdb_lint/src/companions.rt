@@ -1,0 +1,108 @@
+//! Properties that are read with others alone, which their patterns aren't given.
+ghost use Rattle.std.specs.Prelude.{◌≡◌, ◌++◌, [], ◌∷◌, map, not, IfOk, OnOk};
+ghost use Rattle.std.specs.List.{list_any};
+ghost use Rattle.hwdb_spec.specs.Lines.{is, pieces};
+ghost use Rattle.hwdb_spec.specs.Surroundings;
+ghost use Rattle.hwdb_text.specs.Views.{given_in};
+ghost use Rattle.hwdb_lint.specs.Internal.{ArePlacesOf, IsUnpairedOf, has_companions, holds, lacks_of, lines_where, own};
+
+use crate::repeats::set_of;
+use hwdb_properties::companions_of;
+use hwdb_text::{Given, end_of};
+use std::alloc::{AllocError, Global};
+use std::collections::BTreeSet;
+
+/// A pattern and a key that it is given.
+type Place<'b> = (&'b [u8], &'b [u8]);
+
+/// Whether the property of an assignment is read with others alone.
+fn has_companions(given: &Given<'_>) -> bool
+    ensures { result ≡ has_companions (given_in own given.now) }
+{
+    !companions_of(given.key).is_empty()
+}
+
+/// Whether one of the assignments is of a property that is read with others alone.
+fn any_has_companions(all: &[Given<'_>]) -> bool
+    ensures { result ≡ list_any has_companions (map (given_in own) all.now) }
+{
+    for given in all {
+        if has_companions(given) {
+            return true;
+        }
+    }
+    false
+}
+
+/// The patterns and keys of assignments. The only error, here and below, is `AllocError`.
+fn places_of<'b>(alloc: Global, all: &[Given<'b>]) -> Result<BTreeSet<Place<'b>>, AllocError>
+    ensures { IfOk result (ArePlacesOf (map (given_in own) all.now)) }
+{
+    let mut places = BTreeSet::new(alloc);
+    for given in all {
+        places.insert((given.pattern, given.key))?;
+    }
+    Ok(places)
+}
+
+/// Whether a pattern isn't given one of some keys, which have commas between.
+fn lacks<'b>(places: &BTreeSet<Place<'b>>, pattern: &'b [u8], keys: &'b [u8]) -> bool
+    ensures { result ≡ lacks_of places.now pattern.now keys.now }
+{
+    let mut at = 0;
+    while at < keys.len() {
+        let rest = &keys[at..];
+        let end = end_of(b',', rest);
+        if !places.contains(&(pattern, &rest[..end])) {
+            return true;
+        }
+        at = at + end + 1;
+    }
+    false
+}
+
+/// Adds the line of an assignment, if its pattern lacks a companion of its property.
+fn put_alone<'b>(
+    lines: &mut Vec<u64>,
+    places: &BTreeSet<Place<'b>>,
+    given: &Given<'b>,
+) -> Result<(), AllocError>
+    ensures { OnOk result (lines.new.items ≡ lines.old.items
+        ++ lines_where (λ a. lacks_of places.now a.position.pattern
+        (Surroundings.companions_text a.position.key)) (given_in own given.now ∷ [])) }
+{
+    if lacks(places, given.pattern, companions_of(given.key)) {
+        lines.push(given.line as u64)?;
+    }
+    Ok(())
+}
+
+/// The lines of the assignments whose pattern lacks a companion of their property.
+fn alone_lines<'b>(
+    alloc: Global,
+    places: &BTreeSet<Place<'b>>,
+    all: &[Given<'b>],
+) -> Result<Vec<u64>, AllocError>
+    ensures { IfOk result (λ lines. lines.items
+        ≡ lines_where (λ a. lacks_of places.now a.position.pattern
+        (Surroundings.companions_text a.position.key)) (map (given_in own) all.now)) }
+{
+    let mut lines = Vec::new(alloc);
+    for given in all {
+        put_alone(&mut lines, places, given)?;
+    }
+    Ok(lines)
+}
+
+/// The lines of properties that lack a companion. If no property has one, it takes a look at a table for each assignment, and else
+/// a few looks among the assignments for each.
+pub fn unpaired_lines(alloc: Global, all: &[Given<'_>]) -> Result<BTreeSet<u64>, AllocError>
+    ensures { IfOk result (IsUnpairedOf (map (given_in own) all.now)) }
+{
+    if !any_has_companions(all) {
+        return Ok(BTreeSet::new(alloc));
+    }
+    let places = places_of(alloc, all)?;
+    let lines = set_of(alloc, &alone_lines(alloc, &places, all)?)?;
+    Ok(lines)
+}

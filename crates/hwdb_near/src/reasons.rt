@@ -1,0 +1,207 @@
+//! Why a pattern stops, in words: one line, which says what to do.
+ghost use Rattle.std.specs.Prelude.{◌≡◌, ◌++◌, drop, take, OnOk};
+ghost use Rattle.hwdb_spec.specs.Lines;
+ghost use Rattle.hwdb_spec.specs.Near;
+ghost use Rattle.hwdb_spec.specs.Near.{byte_text, head_text, on_firsts, other_text, quoted, why_text};
+
+use crate::rating::lower;
+use hwdb_pattern::front_size;
+use hwdb_show::push_shown;
+use hwdb_text::end_of;
+use std::alloc::AllocError;
+
+/// The text after so many bytes of it.
+pub(crate) fn after(text: &[u8], n: usize) -> &[u8]
+    ensures { result.now ≡ drop n text.now }
+{
+    if n < text.len() { &text[n..] } else { &[] }
+}
+
+/// At most so many first bytes of a text.
+fn first(text: &[u8], n: usize) -> &[u8]
+    ensures { result.now ≡ take n text.now }
+{
+    if n < text.len() { &text[..n] } else { text }
+}
+
+/// Whether a text is empty.
+fn is_none(text: &[u8]) -> bool
+    ensures { result ≡ Lines.is_none text.now }
+{
+    text.is_empty()
+}
+
+/// The text of the first token of a text.
+fn token_text(text: &[u8]) -> &[u8]
+    ensures { result.now ≡ Near.token_text text.now }
+{
+    first(text, front_size(text, 1))
+}
+
+/// A text up to its first colon, with it.
+fn head_of(text: &[u8]) -> &[u8]
+    ensures { result.now ≡ Near.head_of text.now }
+{
+    first(text, end_of(b':', text) + 1)
+}
+
+/// Whether a text has a colon.
+fn has_head(text: &[u8]) -> bool
+    ensures { result ≡ Near.has_head text.now }
+{
+    end_of(b':', text) < text.len()
+}
+
+/// Whether udev always keeps a byte.
+fn is_kept(byte: u8) -> bool
+    ensures { result ≡ Near.is_kept byte }
+{
+    matches!(byte, b'0'..=b'9' | b'A'..=b'Z' | b'a'..=b'z')
+        || matches!(byte, b'#' | b'+' | b'-' | b'.' | b':' | b'=' | b'@' | b'_')
+}
+
+/// Whether udev may write `_` for a byte of a pattern.
+fn is_replaced(byte: u8) -> bool
+    ensures { result ≡ Near.is_replaced byte }
+{
+    !is_kept(byte) && !matches!(byte, b'*' | b'?' | b'[')
+}
+
+/// Whether two bytes differ in the case of a letter alone.
+fn differ_in_case(a: u8, b: u8) -> bool
+    ensures { result ≡ Near.differ_in_case a b }
+{
+    a != b && lower(a) == lower(b)
+}
+
+/// Whether the device has `_`, and the pattern a byte that udev may write so.
+fn is_replacement(wanted: &[u8], left: &[u8]) -> bool
+    ensures { result ≡ Near.is_replacement wanted.now left.now }
+{
+    if wanted.is_empty() || left.is_empty() {
+        return false;
+    }
+    is_replaced(wanted[0]) && left[0] == b'_'
+}
+
+/// Whether the first bytes of two texts differ in the case of a letter alone.
+fn is_other_case(wanted: &[u8], left: &[u8]) -> bool
+    ensures { result ≡ on_firsts Near.differ_in_case wanted.now left.now }
+{
+    if wanted.is_empty() || left.is_empty() {
+        return false;
+    }
+    differ_in_case(wanted[0], left[0])
+}
+
+/// Adds words. The only error, here and below, is `AllocError`.
+fn push_words(text: &mut Vec<u8>, words: &str) -> Result<(), AllocError>
+    ensures { OnOk result (text.new.items ≡ text.old.items ++ words.now) }
+{
+    text.extend_from_slice(words.as_bytes())?;
+    Ok(())
+}
+
+/// Adds a text, as it is shown, between two backquotes.
+fn push_quoted(text: &mut Vec<u8>, bytes: &[u8]) -> Result<(), AllocError>
+    ensures { OnOk result (text.new.items ≡ text.old.items ++ quoted bytes.now) }
+{
+    text.push(b'`')?;
+    push_shown(text, bytes)?;
+    text.push(b'`')?;
+    Ok(())
+}
+
+/// Adds a text between two backquotes, words before it and words after it.
+fn push_between(
+    text: &mut Vec<u8>,
+    before: &str,
+    bytes: &[u8],
+    after: &str,
+) -> Result<(), AllocError>
+    ensures { OnOk result
+        (text.new.items ≡ text.old.items ++ (before.now ++ (quoted bytes.now ++ after.now))) }
+{
+    push_words(text, before)?;
+    push_quoted(text, bytes)?;
+    push_words(text, after)
+}
+
+/// What is added if the device has the pattern's letter in the other case.
+fn case_words(wanted: &[u8], left: &[u8]) -> &'static str
+    ensures { result.now ≡ Near.case_text wanted.now left.now }
+{
+    if is_other_case(wanted, left) {
+        ": the case of letters counts"
+    } else {
+        ""
+    }
+}
+
+/// Adds that the device has another byte than the pattern.
+fn push_other(text: &mut Vec<u8>, wanted: &[u8], left: &[u8]) -> Result<(), AllocError>
+    ensures { OnOk result (text.new.items ≡ text.old.items ++ other_text wanted.now left.now) }
+{
+    push_between(text, "the device has ", first(left, 1), ", the pattern ")?;
+    push_quoted(text, token_text(wanted))?;
+    push_words(text, case_words(wanted, left))
+}
+
+/// Adds why a pattern stops at a byte of the device.
+fn push_byte(text: &mut Vec<u8>, wanted: &[u8], left: &[u8]) -> Result<(), AllocError>
+    ensures { OnOk result (text.new.items ≡ text.old.items ++ byte_text wanted.now left.now) }
+{
+    if is_replacement(wanted, left) {
+        let advice = ": write `_` in the pattern";
+        return push_between(text, "udev makes `_` of ", first(wanted, 1), advice);
+    }
+    push_other(text, wanted, left)
+}
+
+/// Adds why a pattern stops before the device's first colon is passed.
+fn push_head(
+    text: &mut Vec<u8>,
+    pattern: &[u8],
+    device: &[u8],
+    wanted: &[u8],
+    left: &[u8],
+) -> Result<(), AllocError>
+    ensures { OnOk result (text.new.items
+        ≡ text.old.items ++ head_text pattern.now device.now wanted.now left.now) }
+{
+    if has_head(device) {
+        let advice = ": begin the pattern with that";
+        return push_between(text, "the device begins with ", head_of(device), advice);
+    }
+    if has_head(pattern) {
+        let words = "the device has no prefix: put ";
+        return push_between(text, words, head_of(pattern), " before it");
+    }
+    push_byte(text, wanted, left)
+}
+
+/// Adds why a pattern stops after so many bytes of a device, by what is left of both.
+pub(crate) fn push_why(
+    text: &mut Vec<u8>,
+    pattern: &[u8],
+    device: &[u8],
+    met: usize,
+    wanted: &[u8],
+    left: &[u8],
+) -> Result<(), AllocError>
+    ensures { OnOk result (text.new.items
+        ≡ text.old.items ++ why_text pattern.now device.now met wanted.now left.now) }
+{
+    if is_none(left) {
+        let words = "the device ends here, the pattern goes on: end the pattern here";
+        return push_words(text, words);
+    }
+    if is_none(wanted) {
+        let words = "the pattern ends here, the device goes on: put `*` after it";
+        return push_words(text, words);
+    }
+    if met <= end_of(b':', device) {
+        return push_head(text, pattern, device, wanted, left);
+    }
+    push_byte(text, wanted, left)
+}

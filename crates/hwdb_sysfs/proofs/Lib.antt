@@ -1,0 +1,4 @@
+mod PieceLemmas
+mod NameLemmas
+mod ChainLemmas
+mod LinkLemmas

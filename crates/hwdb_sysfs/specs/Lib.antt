@@ -1,0 +1,6 @@
+pub mod Answers
+pub mod Views
+pub mod Finding
+pub mod Internal
+pub mod Tables
+pub mod Rows

@@ -1,0 +1,35 @@
+//! From a path to the description of a device: what sysfs holds of it and of its parents.
+//!
+//! | Module | What it does |
+//! |---|---|
+//! | `device` | a device, its parents, and their attributes |
+//! | `files` | what a file system answers of devices |
+//! | `answers` | what is made of these answers: a place, a text, names |
+//! | `paths` | names and folders of a path |
+//! | `names` | the names in a folder; `pieces`: a text, cut at a byte
+//! | `reading` | a device and its parents, as sysfs has them |
+//! | `finding` | the device that is meant by a path or a name |
+//! | `listing` | all devices |
+//! | `laws` | what is proved of the definitions alone |
+//! | `table` | a tree in memory, for laws and tests |
+#![tactic(auto)]
+
+mod answers;
+mod device;
+mod files;
+mod finding;
+mod laws;
+mod listing;
+mod names;
+mod paths;
+mod pieces;
+mod reading;
+mod table;
+
+pub use device::{Ancestor, Attribute, Device};
+pub use files::{DeviceFiles, Node};
+pub use finding::{Unfound, find_device, sysfs_below};
+pub use laws::worked_rows;
+pub use listing::list_devices;
+pub use reading::read_device;
+pub use table::{Row, Table, Thing};

@@ -1,0 +1,126 @@
+//! A tree in memory that tells its answers, for laws and tests: what is at each path.
+ghost use Rattle.std.specs.Prelude.{◌≡◌, Ok, option_map};
+ghost use Rattle.hwdb_sysfs.specs.Answers.{IsTold};
+ghost use Rattle.hwdb_sysfs.specs.Tables.{answers_of, row_at};
+
+use crate::files::{DeviceFiles, Node};
+use hwdb_io::Cause;
+use std::alloc::{AllocError, Global};
+
+/// What a path leads to.
+#[derive(Drop)]
+pub struct Row {
+    /// The path.
+    pub path: Vec<u8>,
+    /// The path of what it leads to, with no link in it: its own if it is no link.
+    pub place: Vec<u8>,
+    /// What is there.
+    pub thing: Thing,
+}
+
+/// What is at a place.
+#[derive(Drop)]
+pub enum Thing {
+    /// A regular file with these bytes.
+    File(Vec<u8>),
+    /// A folder that lists these names, each with byte 0 after it.
+    Folder(Vec<u8>),
+    /// A device's node.
+    Node(Node),
+}
+
+/// What is at each path. Of two rows of a path the first counts.
+#[derive(Drop)]
+pub struct Table {
+    /// A row for each path.
+    pub rows: Vec<Row>,
+}
+
+impl Table {
+    /// The row of a path.
+    fn row(&self, path: &[u8]) -> Option<&Row>
+        ensures { option_map (λ r. r.now) result ≡ row_at self.now.rows.items path.now }
+    {
+        let mut left = self.rows.as_slice();
+        'rows: while let Some((row, rest)) = left.split_first() {
+            if row.path.as_slice().cmp(path).is_eq() {
+                return Some(row);
+            }
+            left = rest;
+        }
+        None
+    }
+}
+
+/// A copy of some bytes.
+fn copied(alloc: Global, bytes: &[u8]) -> Result<Vec<u8>, Cause>
+    ensures { IsTold (λ v. v.items) (Ok bytes.now) result }
+{
+    match Vec::from_slice(alloc, bytes) {
+        Ok(copy) => Ok(copy),
+        Err(AllocError) => Err(Cause::Memory),
+    }
+}
+
+impl DeviceFiles for Table {
+    ghost tells = { Unit {0} };
+
+    ghost answers = { λ t. answers_of t.rows.items };
+
+    fn real_path(&self, alloc: Global, path: &[u8]) -> Result<Vec<u8>, Cause> {
+        match self.row(path) {
+            Some(row) => copied(alloc, &row.place),
+            None => Err(Cause::Unknown),
+        }
+    }
+
+    fn node_at(&self, place: &[u8]) -> Result<Option<Node>, Cause> {
+        match self.row(place) {
+            Some(
+                Row {
+                    thing: Thing::Node(node),
+                    ..
+                },
+            ) => Ok(Some(*node)),
+            Some(_) => Ok(None),
+            None => Err(Cause::Unknown),
+        }
+    }
+
+    fn is_file(&self, place: &[u8]) -> Result<bool, Cause> {
+        match self.row(place) {
+            Some(
+                Row {
+                    thing: Thing::File(_),
+                    ..
+                },
+            ) => Ok(true),
+            Some(_) => Ok(false),
+            None => Err(Cause::Unknown),
+        }
+    }
+
+    fn page_of(&self, alloc: Global, place: &[u8]) -> Result<Vec<u8>, Cause> {
+        match self.row(place) {
+            Some(
+                Row {
+                    thing: Thing::File(bytes),
+                    ..
+                },
+            ) => copied(alloc, bytes),
+            _ => Err(Cause::Unknown),
+        }
+    }
+
+    fn listing_of(&self, alloc: Global, place: &[u8]) -> Result<Vec<u8>, Cause> {
+        match self.row(place) {
+            Some(
+                Row {
+                    thing: Thing::Folder(names),
+                    ..
+                },
+            ) => copied(alloc, names),
+            _ => Err(Cause::Unknown),
+        }
+    }
+}

@@ -1,0 +1,18 @@
+use Rattle.hwdb_tool.proofs.JobErrorLemmas.{job_is_not_told, no_job_error, one_job_error, root_is_entered}
+use Rattle.hwdb_tool.proofs.one_refusal.words_end_in_one.Goals as goal
+
+pub returns-clause-one : goal.returns-clause-one
+returns-clause-one g c = one_job_error c.law_header_faults.ensures.one c.law_one_tree.ensures _ _ _ _ _ _ _ _
+
+pub returns-clause-done : goal.returns-clause-done
+returns-clause-done g c = no_job_error c.law_header_faults.ensures.one c.law_one_tree.ensures _ _ _ _ _ _ _ _ c.law_one_written_form.ensures
+
+pub returns-clause-root : goal.returns-clause-root
+returns-clause-root g c = root_is_entered (g.D.System.may_fail c.args.first.now) (g.D.System.may_fail c.args.first_then.now)
+    (g.D.Store.may_leave c.args.first.now) (g.D.Store.may_leave c.args.first_then.now)
+
+pub returns-clause-told : goal.returns-clause-told
+returns-clause-told g c = job_is_not_told (g.D.System.may_fail c.args.first.now) (g.D.System.may_fail c.args.first_then.now)
+    (g.D.System.may_fail c.args.second.now) (g.D.System.may_fail c.args.second_then.now)
+    (g.D.Store.may_leave c.args.first.now) (g.D.Store.may_leave c.args.first_then.now)
+    (g.D.Store.may_leave c.args.second.now) (g.D.Store.may_leave c.args.second_then.now)

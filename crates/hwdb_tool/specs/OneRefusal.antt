@@ -1,0 +1,141 @@
+-- What a task refuses is one error, and none is refused that is done: what two outcomes over one input have in common, if one
+-- of them or both are errors. Our choice.
+use Rattle.std.specs.Prelude.{◌≡◌, ◌⊎◌, ℕ, Bool, List, None, Option, Some, false, option_map, string_bytes, true}
+use Rattle.hwdb_spec.specs.Asked.{database_path}
+use Rattle.hwdb_spec.specs.Verdicts.{verdict_text}
+use Rattle.hwdb_spec.specs.declared.DbFault.{DbFault}
+use Rattle.hwdb_reader.specs.Laws.{IsOfHeader}
+use Rattle.hwdb_print.specs.declared.errors.ToolError.{ToolError}
+use Rattle.hwdb_print.specs.declared.errors.ToolError.TheVariants.{BadDatabase, Memory, Write}
+use Rattle.hwdb_cli.specs.declared.job.WordsFault.TheVariants as words_fault
+use Rattle.hwdb_cli.specs.declared.job.Task.{Task}
+use Rattle.hwdb_cli.specs.declared.job.Task.TheVariants.{Ask, Diff, Dump, Explain, List as ListHits, Query, Verify}
+use Rattle.hwdb_spec.specs.Runs.{Told}
+use Rattle.hwdb_spec.specs.Store.{Outcomes}
+use Rattle.hwdb_tool.specs.OneOutcome.{IsOneInput, Scene, scene_of}
+use Rattle.hwdb_tool.specs.Program.{IsJobDone, IsTaskDone, reads_input, root_of}
+use Rattle.hwdb_tool.specs.TaskRefusals.{AreRefused, IsJobRefused, IsNotDone, IsRootRefused}
+use Rattle.hwdb_fs.specs.declared.refusals.Refusal.{Refusal}
+use Rattle.hwdb_fs.specs.declared.refusals.Refusal.TheVariants.{At, InWords, NoDatabase, Plain}
+
+-- the error comes of what is read: memory was granted, and both outputs took what they were given
+abbrev pub IsOfWhatIsRead : Refusal → Type 0
+IsOfWhatIsRead (Plain Memory) = ⊥
+IsOfWhatIsRead (Plain Write) = ⊥
+IsOfWhatIsRead (At Memory at cause) = ⊥
+IsOfWhatIsRead refusal = Unit {0}
+
+-- two faults of one database are one, if one of them is of its header; of its nodes any fault that is there may be told
+abbrev pub IsOneFault : DbFault → DbFault → Type 0
+IsOneFault fault fault2 = IsOfHeader fault ⊎ IsOfHeader fault2 → fault ≡ fault2
+
+-- two errors over one path are one
+abbrev pub IsOneKind : ToolError → ToolError → Type 0
+IsOneKind (BadDatabase fault) (BadDatabase fault2) = IsOneFault fault fault2
+IsOneKind error error2 = error ≡ error2
+
+-- two texts are one, or the verdicts on one database
+abbrev pub IsOneText : (text text2 : List ℕ) → Type 0
+IsOneText text text2 =
+    (text ≡ text2)
+    ⊎ ((path : List ℕ) × (fault fault2 : DbFault) × (text ≡ verdict_text path fault) × (text2 ≡ verdict_text path fault2) × IsOneFault fault fault2)
+
+-- two errors are one, but for the words of a cause, which are the system's
+abbrev pub IsOneError : Refusal → Refusal → Type 0
+IsOneError (Plain error) (Plain error2) = error ≡ error2
+IsOneError (At error at cause) (At error2 at2 cause2) = IsOneKind error error2 × (at.items ≡ at2.items)
+IsOneError NoDatabase NoDatabase = Unit {0}
+IsOneError (InWords text) (InWords text2) = IsOneText text.items text2.items
+IsOneError refusal refusal2 = ⊥
+
+-- the task reads a database, or two, or one text file, and no standard input
+abbrev pub ReadsFewFiles : Task → Type 0
+ReadsFewFiles (Query devices json) = reads_input (Query devices json) ≡ false
+ReadsFewFiles (Explain device json) = reads_input (Explain device json) ≡ false
+ReadsFewFiles (ListHits after limit device json) = Unit {0}
+ReadsFewFiles (Ask file device) = reads_input (Ask file device) ≡ false
+ReadsFewFiles (Diff old new) = Unit {0}
+ReadsFewFiles (Verify database) = Unit {0}
+ReadsFewFiles (Dump database) = Unit {0}
+ReadsFewFiles task = ⊥
+
+-- the path is one of a database that is read: the given one, or without one that of /etc's or of /usr/lib's
+abbrev pub IsOfDatabase : (given : Option (List ℕ)) (root path : List ℕ) → Type 0
+IsOfDatabase None root path = (path ≡ database_path false root) ⊎ (path ≡ database_path true root)
+IsOfDatabase (Some given) root path = path ≡ given
+
+-- such a task may read the path
+abbrev pub MayRead : Task → (root path : List ℕ) → Type 0
+MayRead (Ask file device) root path = path ≡ string_bytes file
+MayRead (Diff old new) root path = (path ≡ string_bytes old) ⊎ (path ≡ string_bytes new)
+MayRead (Verify database) root path = IsOfDatabase (option_map string_bytes database) root path
+MayRead (Dump database) root path = IsOfDatabase (option_map string_bytes database) root path
+MayRead task root path = IsOfDatabase None root path
+
+-- no reading that the task does may fail
+abbrev pub NeverFails : (fails : (path : List ℕ) → Type 0) → Task → (root : List ℕ) → Type 0
+NeverFails fails task root = (path : List ℕ) → MayRead task root path → fails path → ⊥
+
+-- two runs that end with an error over one input end alike: with one error, and files and outputs are the same
+pub record IsOneEnd (refusal refusal2 : Refusal) (now now2 : Scene) : Type 0 where
+  pub one_error : IsOneError refusal refusal2
+  pub one_files : (p : List ℕ) → now2.files p ≡ now.files p
+  pub one_err : now.err.bytes ≡ now2.err.bytes
+  pub one_out : now.out.bytes ≡ now2.out.bytes
+
+-- ---- laws
+-- If its reading can't fail, such a task ends with one error over one input, which comes of what it reads.
+-- What a crash may leave, and which readings may fail later, is any.
+abbrev pub ErrorsAreOne : (fails fails_now fails2 fails2_now : (path : List ℕ) → Type 0) (left left_now left2 left2_now : Outcomes) → Type 0
+ErrorsAreOne fails fails_now fails2 fails2_now left left_now left2 left2_now =
+    (task : Task) (root : List ℕ) (usr strict : Bool) (refusal refusal2 : Refusal) (before now before2 now2 : Scene)
+    → ReadsFewFiles task → IsOneInput before before2 → NeverFails fails task root → NeverFails fails2 task root → IsOfWhatIsRead refusal → IsOfWhatIsRead refusal2
+    → IsNotDone task root usr strict (scene_of fails left before) (scene_of fails_now left_now now) refusal
+    → IsNotDone task root usr strict (scene_of fails2 left2 before2) (scene_of fails2_now left2_now now2) refusal2
+    → IsOneEnd refusal refusal2 now now2
+
+-- And a task that may be done over that input doesn't end with such an error.
+abbrev pub DoneIsNoError : (fails fails_now fails2 fails2_now : (path : List ℕ) → Type 0) (left left_now left2 left2_now : Outcomes) → Type 0
+DoneIsNoError fails fails_now fails2 fails2_now left left_now left2 left2_now =
+    (task : Task) (root : List ℕ) (usr strict : Bool) (status : ℕ) (refusal : Refusal) (before now before2 now2 : Scene)
+    → ReadsFewFiles task → IsOneInput before before2 → NeverFails fails2 task root → IsOfWhatIsRead refusal
+    → IsTaskDone task root usr strict status (scene_of fails left before) (scene_of fails_now left_now now)
+    → IsNotDone task root usr strict (scene_of fails2 left2 before2) (scene_of fails2_now left2_now now2) refusal → ⊥
+
+-- ---- of words
+-- what a run leaves but for standard error, on which the line of an error comes yet
+abbrev pub scene_then : (err : Told) → Scene → Scene
+scene_then err scene = record { files = scene.files; failures = scene.failures; input = scene.input; out = scene.out; err = err }
+
+-- Words that ask for such a task end with one status and one error over one input, if it comes of what is read. Before its line
+-- both outputs are the same.
+abbrev pub JobEndsInOneError : (fails fails_now fails2 fails2_now : (path : List ℕ) → Type 0) (left left_now left2 left2_now : Outcomes) → Type 0
+JobEndsInOneError fails fails_now fails2 fails2_now left left_now left2 left2_now =
+    (words : List (List ℕ)) (status status2 : ℕ) (before now before2 now2 : Scene)
+    → IsOneInput before before2
+    → (one : IsJobRefused words status (scene_of fails left before) (scene_of fails_now left_now now))
+    → (two : IsJobRefused words status2 (scene_of fails2 left2 before2) (scene_of fails2_now left2_now now2))
+    → ReadsFewFiles one.job.task → NeverFails fails one.job.task (root_of one.job) → NeverFails fails2 two.job.task (root_of two.job)
+    → IsOfWhatIsRead one.refusal → IsOfWhatIsRead two.refusal
+    → (status ≡ status2) × IsOneEnd one.refusal two.refusal (scene_then one.err_then now) (scene_then two.err_then now2)
+
+-- What they ask for isn't done over an input over which it may end so.
+abbrev pub DoneJobIsNoError : (fails fails_now fails2 fails2_now : (path : List ℕ) → Type 0) (left left_now left2 left2_now : Outcomes) → Type 0
+DoneJobIsNoError fails fails_now fails2 fails2_now left left_now left2 left2_now =
+    (words : List (List ℕ)) (status status2 : ℕ) (before now before2 now2 : Scene) → IsOneInput before before2
+    → (done : IsJobDone words status (scene_of fails left before) (scene_of fails_now left_now now))
+    → (refused : IsJobRefused words status2 (scene_of fails2 left2 before2) (scene_of fails2_now left2_now now2))
+    → ReadsFewFiles done.job.task → NeverFails fails2 refused.job.task (root_of refused.job) → IsOfWhatIsRead refused.refusal → ⊥
+
+-- The root is entered, if looking at it can't fail, but for want of memory.
+abbrev pub RootIsEntered : (fails fails_now : (path : List ℕ) → Type 0) (left left_now : Outcomes) → Type 0
+RootIsEntered fails fails_now left left_now = (words : List (List ℕ)) (status : ℕ) (before now : Scene)
+    → (refused : IsRootRefused words status (scene_of fails left before) (scene_of fails_now left_now now))
+    → (fails refused.unread.0 → ⊥) → IsOfWhatIsRead refused.refusal → ⊥
+
+-- Of words that ask for a job nothing is told but want of memory: not that they are wrong, and no help.
+abbrev pub JobIsNotTold : (fails fails_now fails2 fails2_now : (path : List ℕ) → Type 0) (left left_now left2 left2_now : Outcomes) → Type 0
+JobIsNotTold fails fails_now fails2 fails2_now left left_now left2 left2_now = (words : List (List ℕ)) (status status2 : ℕ) (before now before2 now2 : Scene)
+    → IsJobDone words status (scene_of fails left before) (scene_of fails_now left_now now)
+    ⊎ IsJobRefused words status (scene_of fails left before) (scene_of fails_now left_now now)
+    → (told : AreRefused words status2 (scene_of fails2 left2 before2) (scene_of fails2_now left2_now now2)) → told.fault ≡ words_fault.Memory

@@ -1,0 +1,47 @@
+//! Laws over the definitions alone: what errors two runs over one input end with. Each function does nothing: its contract is
+//! the law.
+ghost use Rattle.hwdb_tool.specs.OneRefusal.{DoneIsNoError, DoneJobIsNoError, ErrorsAreOne, JobEndsInOneError, JobIsNotTold, RootIsEntered};
+
+use hwdb_fs::System;
+use hwdb_reader::{law_header_faults, law_one_tree};
+use hwdb_writer::law_one_written_form;
+
+/// Over one input a task that reads few files ends in one way, if no reading may fail. It is done, or it ends with one
+/// error of what it reads, but for the words of a cause. Which fault of a database's nodes is told is left open.
+pub fn errors_are_one<D: System>(first: &D, first_then: &D, second: &D, second_then: &D)
+    ensures one { ErrorsAreOne (D.may_fail first.now) (D.may_fail first_then.now)
+        (D.may_fail second.now) (D.may_fail second_then.now)
+        (D.Store.may_leave first.now) (D.Store.may_leave first_then.now)
+        (D.Store.may_leave second.now) (D.Store.may_leave second_then.now) }
+    ensures done { DoneIsNoError (D.may_fail first.now) (D.may_fail first_then.now)
+        (D.may_fail second.now) (D.may_fail second_then.now)
+        (D.Store.may_leave first.now) (D.Store.may_leave first_then.now)
+        (D.Store.may_leave second.now) (D.Store.may_leave second_then.now) }
+{
+    law_one_tree();
+    law_header_faults();
+    law_one_written_form();
+}
+
+/// So does a run of the program whose words ask for such a task. Its root is entered then, and such words are told nothing but
+/// want of memory.
+pub fn words_end_in_one<D: System>(first: &D, first_then: &D, second: &D, second_then: &D)
+    ensures one { JobEndsInOneError (D.may_fail first.now) (D.may_fail first_then.now)
+        (D.may_fail second.now) (D.may_fail second_then.now)
+        (D.Store.may_leave first.now) (D.Store.may_leave first_then.now)
+        (D.Store.may_leave second.now) (D.Store.may_leave second_then.now) }
+    ensures done { DoneJobIsNoError (D.may_fail first.now) (D.may_fail first_then.now)
+        (D.may_fail second.now) (D.may_fail second_then.now)
+        (D.Store.may_leave first.now) (D.Store.may_leave first_then.now)
+        (D.Store.may_leave second.now) (D.Store.may_leave second_then.now) }
+    ensures root { RootIsEntered (D.may_fail first.now) (D.may_fail first_then.now)
+        (D.Store.may_leave first.now) (D.Store.may_leave first_then.now) }
+    ensures told { JobIsNotTold (D.may_fail first.now) (D.may_fail first_then.now)
+        (D.may_fail second.now) (D.may_fail second_then.now)
+        (D.Store.may_leave first.now) (D.Store.may_leave first_then.now)
+        (D.Store.may_leave second.now) (D.Store.may_leave second_then.now) }
+{
+    law_one_tree();
+    law_header_faults();
+    law_one_written_form();
+}
