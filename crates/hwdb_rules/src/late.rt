@@ -55,7 +55,6 @@ fn add_camera(
 }
 
 /// The rules of 70-camera.
-#[tactic(auto, using(crate::proofs::RuleLemmas::camera_asked, crate::proofs::RuleLemmas::no_camera))]
 fn camera_rules(
     alloc: Global,
     plans: &mut Vec<Plan>,

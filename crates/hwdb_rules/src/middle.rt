@@ -284,7 +284,6 @@ fn is_battery(scene: &Scene<'_>) -> bool
 }
 
 /// Adds the string of a battery.
-#[tactic(auto, unfolding(crate::specs::Internal::battery_plan))]
 fn add_battery(
     alloc: Global,
     plans: &mut Vec<Plan>,
@@ -298,7 +297,6 @@ fn add_battery(
 }
 
 /// A battery whose charge can be limited, in upower's rules.
-#[tactic(auto, using(crate::proofs::RuleLemmas::battery_asked, crate::proofs::RuleLemmas::no_battery))]
 fn battery_rules(
     alloc: Global,
     plans: &mut Vec<Plan>,
