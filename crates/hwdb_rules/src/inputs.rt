@@ -9,9 +9,9 @@ ghost use Rattle.hwdb_sysfs.specs.Views.{ancestor_of};
 ghost use Rattle.hwdb_rules.specs.Internal.{bits_in};
 
 use crate::ancestors::{Wanted, attribute_text, first_of, is_in};
-use hwdb_sysfs::Ancestor;
 use crate::scene::Scene;
 use hwdb_properties::{after, before};
+use hwdb_sysfs::Ancestor;
 use std::alloc::{AllocError, Global};
 
 /// What kinds a device has.

@@ -9,8 +9,8 @@ ghost use Rattle.hwdb_sysfs.specs.Views.{ancestor_of};
 ghost use Rattle.hwdb_rules.specs.Internal.{found_at};
 
 use crate::ancestors::{At, Wanted, attribute, attribute_text, some};
-use hwdb_sysfs::{Ancestor, Device};
 use crate::values::push_written;
+use hwdb_sysfs::{Ancestor, Device};
 use std::alloc::{AllocError, Global};
 
 /// What a rule sees: the device, itself and its parents, and the machine's name as rules write it.
