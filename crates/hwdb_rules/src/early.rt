@@ -160,7 +160,8 @@ fn add_name(
     at: At<'_>,
 ) -> Result<(), AllocError>
     ensures { OnOk result (plans_of plans.new.items ≡ plans_of plans.old.items ++ ask_one
-        (codes "60-evdev") (found_at at.entry) (Lookups.name_text (scene_of scene.now) (found_at at.entry))) }
+        (codes "60-evdev") (found_at at.entry)
+        (Lookups.name_text (scene_of scene.now) (found_at at.entry))) }
 {
     let text = name_text(alloc, scene, at)?;
     add_one(alloc, plans, "60-evdev", at, text)
@@ -174,7 +175,8 @@ fn add_phys(
     at: At<'_>,
 ) -> Result<(), AllocError>
     ensures { OnOk result (plans_of plans.new.items ≡ plans_of plans.old.items ++ ask_one
-        (codes "60-evdev") (found_at at.entry) (Lookups.phys_text (scene_of scene.now) (found_at at.entry))) }
+        (codes "60-evdev") (found_at at.entry)
+        (Lookups.phys_text (scene_of scene.now) (found_at at.entry))) }
 {
     let text = phys_text(alloc, scene, at)?;
     add_one(alloc, plans, "60-evdev", at, text)

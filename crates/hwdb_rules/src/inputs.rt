@@ -240,7 +240,8 @@ impl Bits {
 
     fn well_known_keys(&self) -> usize
         ensures { result
-            ≡ length (filter (λ key. Inputs.has_bit key self.now.keys.items) Inputs.well_known_keys) }
+            ≡ length (filter (λ key. Inputs.has_bit key self.now.keys.items)
+            Inputs.well_known_keys) }
     {
         count_of(&self.keys, &WELL_KNOWN_KEYS)
     }
@@ -278,7 +279,8 @@ impl Bits {
 
     fn is_wheeled_pad(&self) -> bool
         ensures { result
-            ≡ if Inputs.has_wheel (bits_in self.now) then Inputs.has_pad (bits_in self.now) else false }
+            ≡ if Inputs.has_wheel (bits_in self.now)
+            then Inputs.has_pad (bits_in self.now) else false }
     {
         self.has_wheel() && self.has_pad()
     }

@@ -41,7 +41,8 @@ pub(crate) fn push_attr(
     name: &[u8],
 ) -> Result<(), AllocError>
     ensures { OnOk result
-        (text.new.items ≡ text.old.items ++ attr name.now (scene_of scene.now) (found_at at.entry)) }
+        (text.new.items
+        ≡ text.old.items ++ attr name.now (scene_of scene.now) (found_at at.entry)) }
 {
     match attribute(scene.own, name) {
         Some(value) => push_written(text, value),
