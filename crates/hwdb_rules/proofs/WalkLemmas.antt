@@ -43,11 +43,11 @@ pub one_more : (subsystem prefix : List ℕ) (place : ℕ) (is_last last : Bool)
 one_more subsystem prefix place is_last last a chain more text joined old mid new c w n l f j m r =
     let next : place + 1 ≡ suc place = omega arith in
     let whole : one_question place joined ++ strings_from subsystem prefix (place + 1) last more ≡ strings_from subsystem prefix place is_last chain =
-        ap (λ (t : List ℕ). one_question place t ++ strings_from subsystem prefix (place + 1) last more) j
-        ∙ ap (λ (k : ℕ). one_question place (prefix ++ text) ++ strings_from subsystem prefix k last more) next
-        ∙ ap (λ (b : Bool). one_question place (prefix ++ text) ++ strings_from subsystem prefix (suc place) b more) f
-        ∙ sym (one_string subsystem prefix place is_last a more text w n (sym l ∙ f))
-        ∙ ap (strings_from subsystem prefix place is_last) (sym c) in
+    ap (λ (t : List ℕ). one_question place t ++ strings_from subsystem prefix (place + 1) last more) j
+    ∙ ap (λ (k : ℕ). one_question place (prefix ++ text) ++ strings_from subsystem prefix k last more) next
+    ∙ ap (λ (b : Bool). one_question place (prefix ++ text) ++ strings_from subsystem prefix (suc place) b more) f
+    ∙ sym (one_string subsystem prefix place is_last a more text w n (sym l ∙ f))
+    ∙ ap (strings_from subsystem prefix place is_last) (sym c) in
     r ∙ ap (λ (q : List Question). q ++ strings_from subsystem prefix (place + 1) last more) m
     ∙ append_assoc old (one_question place joined) (strings_from subsystem prefix (place + 1) last more)
     ∙ ap (λ (q : List Question). old ++ q) whole

@@ -68,9 +68,9 @@ abbrev pub mouse : List Ancestor
 mouse =
     ancestor (codes "event21") (codes "input") [] [] []
     ∷ ancestor (codes "input21") (codes "input") [] (codes "MODALIAS=input:b0003v046DpC077e0110-e0,1,2,4\n")
-      (attribute (codes "name") (codes "USB Mouse") ∷ attribute (codes "capabilities/ev") (codes "17") ∷ attribute (codes "capabilities/key") (codes "70000 0 0 0 0")
-      ∷ attribute (codes "capabilities/rel") (codes "103") ∷ attribute (codes "id/bustype") (codes "0003") ∷ attribute (codes "id/vendor") (codes "046d")
-      ∷ attribute (codes "id/product") (codes "c077") ∷ [])
+    (attribute (codes "name") (codes "USB Mouse") ∷ attribute (codes "capabilities/ev") (codes "17") ∷ attribute (codes "capabilities/key") (codes "70000 0 0 0 0")
+    ∷ attribute (codes "capabilities/rel") (codes "103") ∷ attribute (codes "id/bustype") (codes "0003") ∷ attribute (codes "id/vendor") (codes "046d")
+    ∷ attribute (codes "id/product") (codes "c077") ∷ [])
     ∷ ancestor (codes "1-2:1.0") (codes "usb") (codes "usbhid") (codes "DEVTYPE=usb_interface\nMODALIAS=usb:v046DpC077d0110\n") []
     ∷ usb_mouse ∷ []
 
@@ -113,9 +113,9 @@ CameraRow =
 abbrev pub NetRow : Type 0
 NetRow =
     asked tells_nothing (ancestor (codes "eth0") (codes "net") [] []
-        (attribute (codes "address") (codes "54:ee:75:00:11:22") ∷ attribute (codes "type") (codes "1") ∷ attribute (codes "ifindex") (codes "2") ∷ attribute (codes "iflink") (codes "2")
-        ∷ attribute (codes "addr_assign_type") (codes "0") ∷ [])
-        ∷ ancestor (codes "0000:00:1f.6") (codes "pci") (codes "e1000e") (codes "MODALIAS=pci:v00008086d0000156F\n") [] ∷ [])
+    (attribute (codes "address") (codes "54:ee:75:00:11:22") ∷ attribute (codes "type") (codes "1") ∷ attribute (codes "ifindex") (codes "2") ∷ attribute (codes "iflink") (codes "2")
+    ∷ attribute (codes "addr_assign_type") (codes "0") ∷ [])
+    ∷ ancestor (codes "0000:00:1f.6") (codes "pci") (codes "e1000e") (codes "MODALIAS=pci:v00008086d0000156F\n") [] ∷ [])
     ≡ (codes "75-net-description", codes "net:naming:dre1000e:") ∷ (codes "75-net-description", codes "pci:v00008086d0000156F") ∷ (codes "net_id", codes "OUI:54EE75001122") ∷ []
 
 -- ---- values

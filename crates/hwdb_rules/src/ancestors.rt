@@ -5,11 +5,11 @@ ghost use Rattle.hwdb_spec.specs.Inputs;
 ghost use Rattle.hwdb_spec.specs.Lookups;
 ghost use Rattle.hwdb_spec.specs.Sysfs;
 ghost use Rattle.hwdb_spec.specs.Sysfs.{first_of, line_with, value_of};
-ghost use Rattle.hwdb_rules.specs.Views.{ancestor_of, attribute_of};
+ghost use Rattle.hwdb_sysfs.specs.Views.{ancestor_of, attribute_of};
 ghost use Rattle.hwdb_rules.specs.Internal.{found_at, passes};
 
-use crate::device::{Ancestor, Attribute};
 use crate::values::{Ends, after, same, without_ends};
+use hwdb_sysfs::{Ancestor, Attribute};
 use hwdb_text::end_of;
 
 /// The value under a name, the first if there are several.

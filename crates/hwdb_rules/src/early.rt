@@ -5,7 +5,9 @@ ghost use Rattle.hwdb_spec.specs.Lookups.{ask_one};
 ghost use Rattle.hwdb_rules.specs.Views.{plans_of, questions_of, scene_of};
 ghost use Rattle.hwdb_rules.specs.Internal.{found_at};
 
-use crate::ancestors::{At, Wanted, attribute, first_of, is_in, is_named, is_usb_device, uevent_text};
+use crate::ancestors::{
+    At, Wanted, attribute, first_of, is_in, is_named, is_usb_device, uevent_text,
+};
 use crate::plans::{Plan, Question, add_one, add_plan, add_question};
 use crate::scene::{Scene, itself, push_ids_and_name, push_with_attr};
 use crate::values::push_written;
@@ -13,11 +15,7 @@ use crate::walks::add_walk;
 use std::alloc::{AllocError, Global};
 
 /// Devices of hidraw, by any parent. The only error, here and below, is `AllocError`.
-fn hidraw_rule(
-    alloc: Global,
-    plans: &mut Vec<Plan>,
-    scene: &Scene<'_>,
-) -> Result<(), AllocError>
+fn hidraw_rule(alloc: Global, plans: &mut Vec<Plan>, scene: &Scene<'_>) -> Result<(), AllocError>
     ensures { OnOk result (plans_of plans.new.items
         ≡ plans_of plans.old.items ++ Lookups.hidraw_rule (scene_of scene.now)) }
 {
@@ -28,11 +26,7 @@ fn hidraw_rule(
 }
 
 /// Devices on USB.
-fn usb_rule(
-    alloc: Global,
-    plans: &mut Vec<Plan>,
-    scene: &Scene<'_>,
-) -> Result<(), AllocError>
+fn usb_rule(alloc: Global, plans: &mut Vec<Plan>, scene: &Scene<'_>) -> Result<(), AllocError>
     ensures { OnOk result (plans_of plans.new.items
         ≡ plans_of plans.old.items ++ Lookups.usb_rule (scene_of scene.now)) }
 {
@@ -43,11 +37,7 @@ fn usb_rule(
 }
 
 /// What has MODALIAS, by the parents in its own subsystem.
-fn modalias_rule(
-    alloc: Global,
-    plans: &mut Vec<Plan>,
-    scene: &Scene<'_>,
-) -> Result<(), AllocError>
+fn modalias_rule(alloc: Global, plans: &mut Vec<Plan>, scene: &Scene<'_>) -> Result<(), AllocError>
     ensures { OnOk result (plans_of plans.new.items
         ≡ plans_of plans.old.items ++ Lookups.modalias_rule (scene_of scene.now)) }
 {
@@ -75,7 +65,13 @@ fn node_text(alloc: Global, scene: &Scene<'_>, units: &[u8]) -> Result<Vec<u8>, 
     ensures { IfOk result (λ t. t.items ≡ Lookups.node_text (scene_of scene.now) units.now) }
 {
     let mut text = Vec::new(alloc);
-    push_with_attr(&mut text, b"ieee1394:node:ven", scene, itself(scene), b"vendor")?;
+    push_with_attr(
+        &mut text,
+        b"ieee1394:node:ven",
+        scene,
+        itself(scene),
+        b"vendor",
+    )?;
     push_node_model(&mut text, scene)?;
     text.extend_from_slice(b"units")?;
     push_written(&mut text, units)?;
@@ -83,11 +79,7 @@ fn node_text(alloc: Global, scene: &Scene<'_>, units: &[u8]) -> Result<Vec<u8>, 
 }
 
 /// Nodes on FireWire.
-fn firewire_rule(
-    alloc: Global,
-    plans: &mut Vec<Plan>,
-    scene: &Scene<'_>,
-) -> Result<(), AllocError>
+fn firewire_rule(alloc: Global, plans: &mut Vec<Plan>, scene: &Scene<'_>) -> Result<(), AllocError>
     ensures { OnOk result (plans_of plans.new.items
         ≡ plans_of plans.old.items ++ Lookups.firewire_rule (scene_of scene.now)) }
 {
@@ -102,11 +94,7 @@ fn firewire_rule(
 }
 
 /// The rules of 50-udev-default.
-fn default_rules(
-    alloc: Global,
-    plans: &mut Vec<Plan>,
-    scene: &Scene<'_>,
-) -> Result<(), AllocError>
+fn default_rules(alloc: Global, plans: &mut Vec<Plan>, scene: &Scene<'_>) -> Result<(), AllocError>
     ensures { OnOk result (plans_of plans.new.items
         ≡ plans_of plans.old.items ++ Lookups.default_rules (scene_of scene.now)) }
 {
@@ -127,11 +115,7 @@ fn with_machine(alloc: Global, before: &[u8], scene: &Scene<'_>) -> Result<Vec<u
 }
 
 /// Keyboards of the machine, by the driver of a parent.
-fn atkbd_rule(
-    alloc: Global,
-    plans: &mut Vec<Plan>,
-    scene: &Scene<'_>,
-) -> Result<(), AllocError>
+fn atkbd_rule(alloc: Global, plans: &mut Vec<Plan>, scene: &Scene<'_>) -> Result<(), AllocError>
     ensures { OnOk result (plans_of plans.new.items
         ≡ plans_of plans.old.items ++ Lookups.atkbd_rule (scene_of scene.now)) }
 {
@@ -176,7 +160,8 @@ fn add_name(
     at: At<'_>,
 ) -> Result<(), AllocError>
     ensures { OnOk result (plans_of plans.new.items ≡ plans_of plans.old.items ++ ask_one
-        (codes "60-evdev") (found_at at.entry) (Lookups.name_text (scene_of scene.now) (found_at at.entry))) }
+        (codes "60-evdev") (found_at at.entry)
+        (Lookups.name_text (scene_of scene.now) (found_at at.entry))) }
 {
     let text = name_text(alloc, scene, at)?;
     add_one(alloc, plans, "60-evdev", at, text)
@@ -190,18 +175,15 @@ fn add_phys(
     at: At<'_>,
 ) -> Result<(), AllocError>
     ensures { OnOk result (plans_of plans.new.items ≡ plans_of plans.old.items ++ ask_one
-        (codes "60-evdev") (found_at at.entry) (Lookups.phys_text (scene_of scene.now) (found_at at.entry))) }
+        (codes "60-evdev") (found_at at.entry)
+        (Lookups.phys_text (scene_of scene.now) (found_at at.entry))) }
 {
     let text = phys_text(alloc, scene, at)?;
     add_one(alloc, plans, "60-evdev", at, text)
 }
 
 /// Input devices by their names.
-fn named_rules(
-    alloc: Global,
-    plans: &mut Vec<Plan>,
-    scene: &Scene<'_>,
-) -> Result<(), AllocError>
+fn named_rules(alloc: Global, plans: &mut Vec<Plan>, scene: &Scene<'_>) -> Result<(), AllocError>
     ensures { OnOk result (plans_of plans.new.items
         ≡ plans_of plans.old.items ++ Lookups.named_rules (scene_of scene.now)) }
 {
@@ -213,11 +195,7 @@ fn named_rules(
 }
 
 /// The rules of 60-evdev.
-fn evdev_rules(
-    alloc: Global,
-    plans: &mut Vec<Plan>,
-    scene: &Scene<'_>,
-) -> Result<(), AllocError>
+fn evdev_rules(alloc: Global, plans: &mut Vec<Plan>, scene: &Scene<'_>) -> Result<(), AllocError>
     ensures { OnOk result (plans_of plans.new.items
         ≡ plans_of plans.old.items ++ Lookups.evdev_rules (scene_of scene.now)) }
 {
@@ -240,12 +218,7 @@ pub fn early_rules(alloc: Global, scene: &Scene<'_>) -> Result<Vec<Plan>, AllocE
 }
 
 /// The string of an input device on a bus.
-fn bus_text(
-    alloc: Global,
-    bus: &[u8],
-    scene: &Scene<'_>,
-    at: At<'_>,
-) -> Result<Vec<u8>, AllocError>
+fn bus_text(alloc: Global, bus: &[u8], scene: &Scene<'_>, at: At<'_>) -> Result<Vec<u8>, AllocError>
     ensures { IfOk result
         (λ t. t.items ≡ Lookups.bus_text bus.now (scene_of scene.now) (found_at at.entry)) }
 {
@@ -276,18 +249,21 @@ fn add_on_bus(
 }
 
 /// The walk of an input device.
-fn input_walk(
-    alloc: Global,
-    plans: &mut Vec<Plan>,
-    scene: &Scene<'_>,
-) -> Result<(), AllocError>
+fn input_walk(alloc: Global, plans: &mut Vec<Plan>, scene: &Scene<'_>) -> Result<(), AllocError>
     ensures { OnOk result (plans_of plans.new.items
         ≡ plans_of plans.old.items ++ Lookups.input_walk (scene_of scene.now)) }
 {
     if !is_in(scene.own, b"input") {
         return Ok(());
     }
-    add_walk(alloc, plans, "60-input-id", scene, b"input", b"id-input:modalias:")
+    add_walk(
+        alloc,
+        plans,
+        "60-input-id",
+        scene,
+        b"input",
+        b"id-input:modalias:",
+    )
 }
 
 /// The rules of 60-input-id.

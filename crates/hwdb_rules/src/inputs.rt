@@ -4,13 +4,14 @@ ghost use Rattle.hwdb_spec.specs.Sysfs.{attribute_text};
 ghost use Rattle.hwdb_spec.specs.Inputs;
 ghost use Rattle.hwdb_spec.specs.Inputs.{after_words, count_bits, has_bit, kinds_by_bits, with_bits};
 ghost use Rattle.hwdb_spec.specs.Lookups;
-ghost use Rattle.hwdb_rules.specs.Views.{ancestor_of, kinds_of, scene_of};
+ghost use Rattle.hwdb_rules.specs.Views.{kinds_of, scene_of};
+ghost use Rattle.hwdb_sysfs.specs.Views.{ancestor_of};
 ghost use Rattle.hwdb_rules.specs.Internal.{bits_in};
 
 use crate::ancestors::{Wanted, attribute_text, first_of, is_in};
-use crate::device::Ancestor;
 use crate::scene::Scene;
 use hwdb_properties::{after, before};
+use hwdb_sysfs::Ancestor;
 use std::alloc::{AllocError, Global};
 
 /// What kinds a device has.
@@ -239,7 +240,8 @@ impl Bits {
 
     fn well_known_keys(&self) -> usize
         ensures { result
-            ≡ length (filter (λ key. Inputs.has_bit key self.now.keys.items) Inputs.well_known_keys) }
+            ≡ length (filter (λ key. Inputs.has_bit key self.now.keys.items)
+            Inputs.well_known_keys) }
     {
         count_of(&self.keys, &WELL_KNOWN_KEYS)
     }
@@ -277,7 +279,8 @@ impl Bits {
 
     fn is_wheeled_pad(&self) -> bool
         ensures { result
-            ≡ if Inputs.has_wheel (bits_in self.now) then Inputs.has_pad (bits_in self.now) else false }
+            ≡ if Inputs.has_wheel (bits_in self.now)
+            then Inputs.has_pad (bits_in self.now) else false }
     {
         self.has_wheel() && self.has_pad()
     }

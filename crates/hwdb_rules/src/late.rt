@@ -4,7 +4,9 @@ ghost use Rattle.hwdb_spec.specs.Lookups;
 ghost use Rattle.hwdb_rules.specs.Views.{kinds_of, plans_of, questions_of, scene_of};
 ghost use Rattle.hwdb_rules.specs.Internal.{camera_plan, found_at, is_video};
 
-use crate::ancestors::{At, Wanted, attribute_is, attribute_text, first_of, has_text, is_in, is_named};
+use crate::ancestors::{
+    At, Wanted, attribute_is, attribute_text, first_of, has_text, is_in, is_named,
+};
 use crate::inputs::Kinds;
 use crate::middle::add_along_bus;
 use crate::plans::{Plan, Question, add_one, add_plan, add_question};
@@ -39,11 +41,7 @@ fn is_video(scene: &Scene<'_>) -> bool
 
 /// Adds the string of a camera, if it is on USB.
 #[tactic(auto, unfolding(crate::specs::Internal::camera_plan))]
-fn add_camera(
-    alloc: Global,
-    plans: &mut Vec<Plan>,
-    scene: &Scene<'_>,
-) -> Result<(), AllocError>
+fn add_camera(alloc: Global, plans: &mut Vec<Plan>, scene: &Scene<'_>) -> Result<(), AllocError>
     ensures { OnOk result
         (plans_of plans.new.items ≡ plans_of plans.old.items ++ camera_plan (scene_of scene.now)) }
 {
@@ -55,11 +53,7 @@ fn add_camera(
 }
 
 /// The rules of 70-camera.
-fn camera_rules(
-    alloc: Global,
-    plans: &mut Vec<Plan>,
-    scene: &Scene<'_>,
-) -> Result<(), AllocError>
+fn camera_rules(alloc: Global, plans: &mut Vec<Plan>, scene: &Scene<'_>) -> Result<(), AllocError>
     ensures { OnOk result (plans_of plans.new.items
         ≡ plans_of plans.old.items ++ Lookups.camera_rules (scene_of scene.now)) }
 {
@@ -220,11 +214,7 @@ fn screen_text(alloc: Global, scene: &Scene<'_>, at: At<'_>) -> Result<Vec<u8>, 
 }
 
 /// The rules of 71-seat.
-fn seat_rules(
-    alloc: Global,
-    plans: &mut Vec<Plan>,
-    scene: &Scene<'_>,
-) -> Result<(), AllocError>
+fn seat_rules(alloc: Global, plans: &mut Vec<Plan>, scene: &Scene<'_>) -> Result<(), AllocError>
     ensures { OnOk result (plans_of plans.new.items
         ≡ plans_of plans.old.items ++ Lookups.seat_rules (scene_of scene.now)) }
 {
@@ -260,11 +250,7 @@ fn driver_text(alloc: Global, at: At<'_>) -> Result<Vec<u8>, AllocError>
 }
 
 /// The driver of a network device.
-fn driver_rule(
-    alloc: Global,
-    plans: &mut Vec<Plan>,
-    scene: &Scene<'_>,
-) -> Result<(), AllocError>
+fn driver_rule(alloc: Global, plans: &mut Vec<Plan>, scene: &Scene<'_>) -> Result<(), AllocError>
     ensures { OnOk result (plans_of plans.new.items
         ≡ plans_of plans.old.items ++ Lookups.driver_rule (scene_of scene.now)) }
 {
@@ -331,11 +317,7 @@ fn address_text(alloc: Global, digits: &[u8]) -> Result<Vec<u8>, AllocError>
 }
 
 /// The address of a network device.
-fn address_rule(
-    alloc: Global,
-    plans: &mut Vec<Plan>,
-    scene: &Scene<'_>,
-) -> Result<(), AllocError>
+fn address_rule(alloc: Global, plans: &mut Vec<Plan>, scene: &Scene<'_>) -> Result<(), AllocError>
     ensures { OnOk result (plans_of plans.new.items
         ≡ plans_of plans.old.items ++ Lookups.address_rule (scene_of scene.now)) }
 {
@@ -351,11 +333,7 @@ fn address_rule(
 }
 
 /// The rules of 75-net-description.
-fn net_rules(
-    alloc: Global,
-    plans: &mut Vec<Plan>,
-    scene: &Scene<'_>,
-) -> Result<(), AllocError>
+fn net_rules(alloc: Global, plans: &mut Vec<Plan>, scene: &Scene<'_>) -> Result<(), AllocError>
     ensures { OnOk result (plans_of plans.new.items
         ≡ plans_of plans.old.items ++ Lookups.net_rules (scene_of scene.now)) }
 {
@@ -368,11 +346,7 @@ fn net_rules(
 }
 
 /// The rules of 78-sound-card.
-fn sound_rules(
-    alloc: Global,
-    plans: &mut Vec<Plan>,
-    scene: &Scene<'_>,
-) -> Result<(), AllocError>
+fn sound_rules(alloc: Global, plans: &mut Vec<Plan>, scene: &Scene<'_>) -> Result<(), AllocError>
     ensures { OnOk result (plans_of plans.new.items
         ≡ plans_of plans.old.items ++ Lookups.sound_rules (scene_of scene.now)) }
 {
@@ -392,9 +366,23 @@ fn kinds_rules(
     ensures { OnOk result (plans_of plans.new.items ≡ plans_of plans.old.items
         ++ Lookups.kinds_rules (kinds_of kinds) (scene_of scene.now)) }
 {
-    add_kind_rule(alloc, plans, "70-joystick", b"joystick:", kinds.joystick, scene)?;
+    add_kind_rule(
+        alloc,
+        plans,
+        "70-joystick",
+        b"joystick:",
+        kinds.joystick,
+        scene,
+    )?;
     mouse_rules(alloc, plans, scene, kinds.mouse)?;
-    add_kind_rule(alloc, plans, "70-touchpad", b"touchpad:", kinds.touchpad, scene)
+    add_kind_rule(
+        alloc,
+        plans,
+        "70-touchpad",
+        b"touchpad:",
+        kinds.touchpad,
+        scene,
+    )
 }
 
 /// The rules from 70-camera on, for a device of some kinds.

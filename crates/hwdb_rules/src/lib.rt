@@ -1,12 +1,12 @@
 //! Which strings udev's rules ask the hardware database for: what `device` asks.
 //!
-//! [`Device`] is what sysfs holds of a device and its parents. Rules are of systemd 257, and of the packages upower and
+//! `hwdb_sysfs` says what sysfs holds of a device and its parents. Rules are of systemd 257, and of the packages upower and
 //! libwacom. Nothing here reads a file, or knows a database: a rule says which strings are to be asked, one after
 //! another, up to the first that has an answer.
 //!
 //! | Module | What it does |
 //! |---|---|
-//! | `device` | a device, its parents, and their attributes |
+//! | `attributes` | which attributes rules ask for |
 //! | `values` | values as udev writes them into strings |
 //! | `ancestors` | a device by itself, and the first of it and its parents that a rule is for |
 //! | `inputs` | what kinds of input device a device is |
@@ -20,7 +20,7 @@
 #![tactic(auto)]
 
 mod ancestors;
-mod device;
+mod attributes;
 mod early;
 mod inputs;
 mod late;
@@ -31,7 +31,7 @@ mod scene;
 mod values;
 mod walks;
 
-pub use device::{ATTRIBUTES, Ancestor, Attribute, Device};
+pub use attributes::ATTRIBUTES;
 pub use early::{early_rules, input_id_rules};
 pub use inputs::{Kinds, kinds_seen};
 pub use late::late_rules;

@@ -248,11 +248,7 @@ pub(crate) fn add_along_bus(
 }
 
 /// The rules of 60-serial.
-fn serial_rules(
-    alloc: Global,
-    plans: &mut Vec<Plan>,
-    scene: &Scene<'_>,
-) -> Result<(), AllocError>
+fn serial_rules(alloc: Global, plans: &mut Vec<Plan>, scene: &Scene<'_>) -> Result<(), AllocError>
     ensures { OnOk result (plans_of plans.new.items
         ≡ plans_of plans.old.items ++ Lookups.serial_rules (scene_of scene.now)) }
 {
@@ -284,11 +280,7 @@ fn is_battery(scene: &Scene<'_>) -> bool
 }
 
 /// Adds the string of a battery.
-fn add_battery(
-    alloc: Global,
-    plans: &mut Vec<Plan>,
-    scene: &Scene<'_>,
-) -> Result<(), AllocError>
+fn add_battery(alloc: Global, plans: &mut Vec<Plan>, scene: &Scene<'_>) -> Result<(), AllocError>
     ensures { OnOk result
         (plans_of plans.new.items ≡ plans_of plans.old.items ++ battery_plan (scene_of scene.now)) }
 {
@@ -297,11 +289,7 @@ fn add_battery(
 }
 
 /// A battery whose charge can be limited, in upower's rules.
-fn battery_rules(
-    alloc: Global,
-    plans: &mut Vec<Plan>,
-    scene: &Scene<'_>,
-) -> Result<(), AllocError>
+fn battery_rules(alloc: Global, plans: &mut Vec<Plan>, scene: &Scene<'_>) -> Result<(), AllocError>
     ensures { OnOk result (plans_of plans.new.items
         ≡ plans_of plans.old.items ++ Lookups.battery_rules (scene_of scene.now)) }
 {
@@ -323,11 +311,7 @@ fn tablet_prefix(alloc: Global, scene: &Scene<'_>, at: At<'_>) -> Result<Vec<u8>
 }
 
 /// Tablets, in libwacom's rules.
-fn tablet_rules(
-    alloc: Global,
-    plans: &mut Vec<Plan>,
-    scene: &Scene<'_>,
-) -> Result<(), AllocError>
+fn tablet_rules(alloc: Global, plans: &mut Vec<Plan>, scene: &Scene<'_>) -> Result<(), AllocError>
     ensures { OnOk result (plans_of plans.new.items
         ≡ plans_of plans.old.items ++ Lookups.tablet_rules (scene_of scene.now)) }
 {

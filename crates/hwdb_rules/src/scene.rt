@@ -4,12 +4,13 @@ ghost use Rattle.std.specs.Option.{option_or, unwrap_or};
 ghost use Rattle.hwdb_spec.specs.Lookups;
 ghost use Rattle.hwdb_spec.specs.Lookups.{attr, ids_and_name};
 ghost use Rattle.hwdb_spec.specs.Sysfs.{attribute_text, written};
-ghost use Rattle.hwdb_rules.specs.Views.{ancestor_of, scene_of};
+ghost use Rattle.hwdb_rules.specs.Views.{scene_of};
+ghost use Rattle.hwdb_sysfs.specs.Views.{ancestor_of};
 ghost use Rattle.hwdb_rules.specs.Internal.{found_at};
 
 use crate::ancestors::{At, Wanted, attribute, attribute_text, some};
-use crate::device::{Ancestor, Device};
 use crate::values::push_written;
+use hwdb_sysfs::{Ancestor, Device};
 use std::alloc::{AllocError, Global};
 
 /// What a rule sees: the device, itself and its parents, and the machine's name as rules write it.
@@ -40,7 +41,8 @@ pub(crate) fn push_attr(
     name: &[u8],
 ) -> Result<(), AllocError>
     ensures { OnOk result
-        (text.new.items ≡ text.old.items ++ attr name.now (scene_of scene.now) (found_at at.entry)) }
+        (text.new.items
+        ≡ text.old.items ++ attr name.now (scene_of scene.now) (found_at at.entry)) }
 {
     match attribute(scene.own, name) {
         Some(value) => push_written(text, value),

@@ -3,13 +3,14 @@ ghost use Rattle.std.specs.Prelude.{◌≡◌, ◌++◌, ◌+◌, ◌<◌, ◌^�
 ghost use Rattle.hwdb_spec.specs.Sysfs;
 ghost use Rattle.hwdb_spec.specs.Lookups;
 ghost use Rattle.hwdb_spec.specs.Lookups.{strings_from, upper, walk};
-ghost use Rattle.hwdb_rules.specs.Views.{ancestor_of, plans_of, questions_of, scene_of};
+ghost use Rattle.hwdb_rules.specs.Views.{plans_of, questions_of, scene_of};
+ghost use Rattle.hwdb_sysfs.specs.Views.{ancestor_of};
 ghost use Rattle.hwdb_rules.specs.Internal.{usb_text_of};
 
 use crate::ancestors::{attribute, attribute_text, is_in, is_usb_device, uevent_value};
-use crate::device::Ancestor;
 use crate::plans::{Plan, Question, add_plan, add_question};
 use crate::scene::Scene;
+use hwdb_sysfs::Ancestor;
 use std::alloc::{AllocError, Global};
 
 /// A digit in upper case.
@@ -34,12 +35,7 @@ pub(crate) fn push_upper(text: &mut Vec<u8>, digits: &[u8]) -> Result<(), AllocE
 }
 
 /// The string that is made of a device on USB without MODALIAS.
-fn usb_text(
-    alloc: Global,
-    vendor: &[u8],
-    id: &[u8],
-    product: &[u8],
-) -> Result<Vec<u8>, AllocError>
+fn usb_text(alloc: Global, vendor: &[u8], id: &[u8], product: &[u8]) -> Result<Vec<u8>, AllocError>
     ensures { IfOk result (λ t. t.items ≡ usb_text_of vendor.now id.now product.now) }
 {
     let mut text = Vec::new(alloc);
@@ -191,5 +187,9 @@ pub(crate) fn add_walk(
     ensures { OnOk result (plans_of plans.new.items ≡ plans_of plans.old.items
         ++ walk rule.now subsystem.now prefix.now (scene_of scene.now)) }
 {
-    add_plan(plans, rule, strings_of(alloc, scene.chain, subsystem, prefix)?)
+    add_plan(
+        plans,
+        rule,
+        strings_of(alloc, scene.chain, subsystem, prefix)?,
+    )
 }

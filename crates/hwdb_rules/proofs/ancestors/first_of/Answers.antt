@@ -1,7 +1,7 @@
 use Rattle.std.proofs.Common.{◌∙◌, ◌≡◌, ◌+◌, ap, arith, map, suc, sym}
 use Rattle.hwdb_spec.specs.Sysfs.{first_at}
 use Rattle.hwdb_rules.specs.Internal.{passes}
-use Rattle.hwdb_rules.specs.Views.{ancestor_of}
+use Rattle.hwdb_sysfs.specs.Views.{ancestor_of}
 use Rattle.hwdb_rules.proofs.AncestorLemmas.{first_here, first_later, no_first}
 use Rattle.hwdb_rules.proofs.ancestors.first_of.Goals as goal
 

@@ -1,6 +1,6 @@
 use Rattle.std.proofs.Common.{◌≡◌, ◌+◌, length, map}
 use Rattle.hwdb_spec.specs.Sysfs.{first_at}
-use Rattle.hwdb_rules.specs.Views.{ancestor_of}
+use Rattle.hwdb_sysfs.specs.Views.{ancestor_of}
 use Rattle.hwdb_rules.specs.Internal.{passes}
 use Rattle.hwdb_rules.proofs.ancestors.first_of.Given as goal
 

@@ -1,6 +1,6 @@
 use Rattle.std.proofs.Common.{◌≡◌, length, map}
 use Rattle.hwdb_spec.specs.Sysfs.{value_of}
-use Rattle.hwdb_rules.specs.Views.{attribute_of}
+use Rattle.hwdb_sysfs.specs.Views.{attribute_of}
 use Rattle.hwdb_rules.proofs.ancestors.value_of.Given as goal
 
 abbrev pub invariant-looking : goal.invariant-looking

@@ -1,6 +1,7 @@
 use Rattle.std.proofs.Common.{◌∙◌, ◌++◌, ap, map, sym}
 use Rattle.std.proofs.lemmas.Result.{on_ok_weaker}
-use Rattle.hwdb_rules.specs.Views.{ancestor_of, questions_of}
+use Rattle.hwdb_rules.specs.Views.{questions_of}
+use Rattle.hwdb_sysfs.specs.Views.{ancestor_of}
 use Rattle.hwdb_rules.proofs.WalkLemmas.{one_more, some_text, walk_end}
 use Rattle.hwdb_rules.proofs.walks.+add_strings.Goals as goal
 
