@@ -3,11 +3,11 @@
 # Where the kernel shows its devices.
 : "${_hwdb_sys:=/sys/devices}"
 
-# _hwdb_reply: adds each line of standard input that begins with $cur, quoted, to the completions
+# _hwdb_reply: adds each line of standard input that begins with $cur, quoted by $form, to the completions
 _hwdb_reply() {
     local line
     while IFS= read -r line; do
-        [[ $line == "$cur"* ]] && COMPREPLY+=("$(printf '%q' "$line")")
+        [[ $line == "$cur"* ]] && COMPREPLY+=("$(printf "$form" "$line")")
     done
 }
 
@@ -29,17 +29,18 @@ _hwdb_value() {
 }
 
 _hwdb() {
-    local cur prev words cword split
+    local cur prev words cword split form='%q'
     _init_completion -s -n : || return
 
     # From here on completions/from-help has made it of the program's help.
-    # The arguments of each command. One that ends in .. may be given again and again.
+    # The arguments of each command. One that ends in .. may be given again and again, and | is between two that may be there.
     local -A arguments=(
         [update]=''
         [query]='MODALIAS..'
         [explain]='MODALIAS'
         [ask]='FILE MODALIAS'
         [list]='MODALIAS'
+        [near]='FILE|MODALIAS..'
         [check]='FILE..'
         [diff]='OLD NEW'
         [verify]='DATABASE'
@@ -53,7 +54,8 @@ _hwdb() {
         [explain]='-r --root --color --json -h --help'
         [ask]='-r --root --color -h --help'
         [list]='-r --root --color --after --limit --json -h --help'
-        [check]='-s --strict -r --root --color -h --help'
+        [near]='-r --root --color --limit --json -h --help'
+        [check]='-s --strict -r --root --color --allow --json -h --help'
         [diff]='-r --root --color -h --help'
         [verify]='-r --root --color -h --help'
         [dump]='-r --root --color -h --help'
@@ -65,8 +67,10 @@ _hwdb() {
         [--color]='WHEN'
         [--after]='POS'
         [--limit]='N'
+        [--allow]='KIND'
     )
     local -A kinds_of=(
+        [KIND]='byte-order-mark leading-tab carriage-return open-bracket empty-range spaced-equals cut-value repeated-match replaced near-name scan-code unknown-key unfit-value zero-row two-defaults unread unpaired unknown-prefix dead-pattern'
         [WHEN]='auto always never'
     )
     # Until here.
@@ -97,6 +101,10 @@ _hwdb() {
         local last=$((${#kinds[@]} - 1))
         [[ $place -gt $last && $last -ge 0 && ${kinds[last]} == *.. ]] && place=$last
         word=${kinds[place]-}
-        _hwdb_value "${word%..}"
+        # bash itself quotes what may be a file.
+        [[ $word == *'|'* ]] && form='%s'
+        for word in ${word//[|.]/ }; do
+            _hwdb_value "$word"
+        done
     fi
 } && complete -F _hwdb hwdb

@@ -47,11 +47,7 @@ fn fault_of(alloc: Global, name: &str, kinds: &str) -> Result<String, AllocError
 /// None if each names one, or the task has no such words. `kinds` has a name a line.
 ///
 /// The only error is that memory is refused.
-pub fn kind_fault(
-    alloc: Global,
-    task: &Task,
-    kinds: &str,
-) -> Result<Option<String>, AllocError> {
+pub fn kind_fault(alloc: Global, task: &Task, kinds: &str) -> Result<Option<String>, AllocError> {
     let Task::Check { allowed, .. } = task else {
         return Ok(None);
     };

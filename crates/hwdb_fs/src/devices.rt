@@ -64,11 +64,12 @@ where
     ghost tells = { ⊥ };
 
     ghost answers = { λ _. record {
-        real = λ _. Err Memory;
-        node = λ _. Err Memory;
-        file = λ _. Err Memory;
-        page = λ _. Err Memory;
-        listing = λ _. Err Memory } };
+      real = λ _. Err Memory;
+      node = λ _. Err Memory;
+      file = λ _. Err Memory;
+      page = λ _. Err Memory;
+      listing = λ _. Err Memory;
+    } };
 
     fn real_path(&self, _: Global, path: &[u8]) -> Result<Vec<u8>, Cause> {
         let place = self.real_path_of(text_of(path)?).map_err(cause_of)?;
@@ -103,11 +104,12 @@ where
     ghost tells = { ⊥ };
 
     ghost answers = { λ _. record {
-        real = λ _. Err Memory;
-        node = λ _. Err Memory;
-        file = λ _. Err Memory;
-        page = λ _. Err Memory;
-        listing = λ _. Err Memory } };
+      real = λ _. Err Memory;
+      node = λ _. Err Memory;
+      file = λ _. Err Memory;
+      page = λ _. Err Memory;
+      listing = λ _. Err Memory;
+    } };
 
     fn real_path(&self, alloc: Global, path: &[u8]) -> Result<Vec<u8>, Cause> {
         self.files().real_path(alloc, path)

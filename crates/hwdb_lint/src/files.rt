@@ -53,7 +53,8 @@ fn reports_of(
     faults: &[Fault],
 ) -> Result<Vec<u8>, AllocError>
     ensures { IfOk result (λ text. text.items
-        ≡ flat_map (λ f. told_fault json path.now (text_of_line (lines bytes.now) f.line) f) faults.now) }
+        ≡ flat_map (λ f. told_fault json path.now (text_of_line (lines bytes.now) f.line) f)
+        faults.now) }
 {
     let mut text = Vec::new(alloc);
     let mut start = first_start(bytes);
@@ -73,7 +74,8 @@ fn look_over(
     bytes: &[u8],
 ) -> Result<Findings, ScanError>
     ensures reports { IfOk result (λ c. c.reports.items
-        ≡ file_text telling.now.json (map string_bytes telling.now.allowed.now) path.now bytes.now) }
+        ≡ file_text telling.now.json (map string_bytes telling.now.allowed.now)
+        path.now bytes.now) }
     ensures found { IfOk result
         (λ c. c.tally ≡ tally_of (map string_bytes telling.now.allowed.now) bytes.now) }
     ensures errors { IfErr result (IsFileRefusal bytes.now) }
@@ -99,7 +101,8 @@ fn look_over_all(
 ) -> Result<Findings, ScanError>
     ensures reports { IfOk result (λ c. c.reports.items ≡ files_text telling.now.json
         (map string_bytes telling.now.allowed.now) (map source_of files.now)) }
-    ensures found { IfOk result (λ c. c.tally ≡ tally_from (map string_bytes telling.now.allowed.now)
+    ensures found { IfOk result (λ c. c.tally
+        ≡ tally_from (map string_bytes telling.now.allowed.now)
         empty_tally (map source_of files.now)) }
     ensures errors { IfErr result (IsCheckRefusal (map source_of files.now)) }
 {
@@ -114,12 +117,7 @@ fn look_over_all(
 }
 
 /// Adds the last line, if there is one.
-fn push_end(
-    alloc: Global,
-    json: bool,
-    text: &mut Vec<u8>,
-    tally: Tally,
-) -> Result<(), AllocError>
+fn push_end(alloc: Global, json: bool, text: &mut Vec<u8>, tally: Tally) -> Result<(), AllocError>
     ensures { OnOk result (text.new.items ≡ text.old.items ++ end_text json tally) }
 {
     if !json {

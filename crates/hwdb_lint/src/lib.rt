@@ -45,6 +45,6 @@ mod unread;
 mod warnings;
 
 pub use files::{Checked, TextFile, check_files};
-pub use kinds::{KINDS, Telling};
 pub use hwdb_show::push_shown;
+pub use kinds::{KINDS, Telling};
 pub use tallies::push_count;

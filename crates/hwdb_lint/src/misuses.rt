@@ -7,9 +7,7 @@ ghost use Rattle.hwdb_spec.specs.Warnings.{misused};
 ghost use Rattle.hwdb_lint.specs.Internal.{line_of};
 
 use crate::line_warnings::{has_equals, is_property, is_spaced};
-use hwdb_properties::{
-    after, before, companions_of, misuse_of, prefixes_of, push_misuse_hint,
-};
+use hwdb_properties::{after, before, companions_of, misuse_of, prefixes_of, push_misuse_hint};
 use hwdb_spec::Misuse;
 use hwdb_text::unindented;
 use std::alloc::AllocError;

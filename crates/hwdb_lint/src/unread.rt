@@ -70,7 +70,8 @@ fn put_read(
     given: &Given<'_>,
 ) -> Result<(), AllocError>
     ensures { OnOk result (lines.new.items
-        ≡ lines.old.items ++ lines_where (is_read_there elsewhere.now) (given_in own given.now ∷ [])) }
+        ≡ lines.old.items
+        ++ lines_where (is_read_there elsewhere.now) (given_in own given.now ∷ [])) }
 {
     let line = given.line as u64;
     if elsewhere.contains(&line) && !is_elsewhere(given) {

@@ -383,7 +383,8 @@ pub fn warnings_of(
 ) -> Result<Warned, AllocError>
     requires { map (given_in own) assignments.now ≡ Records.assignments own bytes.now }
     ensures text { IfOk result (λ w. w.text.items
-        ≡ warnings_text telling.now.json (map string_bytes telling.now.allowed.now) path.now bytes.now) }
+        ≡ warnings_text telling.now.json (map string_bytes telling.now.allowed.now)
+        path.now bytes.now) }
     ensures found { IfOk result (λ w. w.found.items
         ≡ warnings (map string_bytes telling.now.allowed.now) bytes.now) }
 {

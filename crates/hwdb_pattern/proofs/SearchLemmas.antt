@@ -1,7 +1,7 @@
 -- The steps of a search for a match.
 use Rattle.std.proofs.Common.{◌≡◌, nat_eq, nat_lt, eq-eqb, lt-ltb, None, ℕ, zero, suc, ◌+◌, ◌-◌, ◌<◌, ◌≤◌, Bool, not, IsTrue, true, false, List, [], ◌∷◌, ◌++◌, drop, take, length, get_or, refl, sym, ap, subst, ◌∙◌, inl, inr, arith, eqb-true}
 use Rattle.std.proofs.lemmas.Bool.{cases_eq, cases_lt}
-use Rattle.std.proofs.lemmas.List.{drop-drop, drop_more, take_more, length-append, length-drop, drop_all, get_or-drop}
+use Rattle.std.proofs.lemmas.List.{drop-drop, drop_more, take_more, length-append, length-drop, drop_all, get_or-drop, get_or-take}
 use Rattle.hwdb_spec.specs.Patterns.{bracket_at, Token, star, literal, token_at, token_size, tokens, admits_byte, Matches}
 use Rattle.hwdb_pattern.proofs.LongerPathLemmas.{none_closes}
 use Rattle.hwdb_pattern.specs.Internal.Search.{AreOpen, ArePlain, Reaches, Remains}
@@ -303,6 +303,9 @@ front_of pattern device (suc n) h plain m =
     let f : Front pattern device n = front_of pattern device n (omega (arith, h)) (λ k below. plain k (omega (arith, below))) m in
     let g : Front pattern device (n + 1) = front_step pattern device n (omega (arith, h)) (plain n (omega arith)) f in
     subst (Front pattern device) (omega arith) g
+
+pub front_byte : {pattern device : List ℕ} {n : ℕ} (k : ℕ) → k < n → Front pattern device n → get_or device k 0 ≡ get_or pattern k 0
+front_byte {pattern = pattern} {device = device} {n = n} k h f = sym (get_or-take n device k 0 h) ∙ ap (λ l. get_or l k 0) f.same ∙ get_or-take n pattern k 0 h
 
 -- plain bytes of a text are those of the pattern from a place on
 pub plain_more : (pattern : List ℕ) (n : ℕ) → ArePlain pattern n → token_at (drop n pattern) ≡ literal (get_or pattern n 0) → ArePlain pattern (n + 1)

@@ -108,13 +108,17 @@ fn plain_size(pattern: &[u8], close: usize, opens: &[bool]) -> usize
     at
 }
 
-/// Whether the device begins with the pattern's first bytes, so many of them, which stand for themselves.
+/// Whether the device begins with the pattern's first bytes, so many of them, which stand for themselves. The last of
+/// them is looked at first: it often tells.
 fn begins_alike(pattern: &[u8], device: &[u8], plain: usize) -> bool
     requires within { plain ≤ length pattern.now }
     requires plain { ArePlain pattern.now plain }
     ensures { result ≡ false → Matches (tokens pattern.now) device.now → ⊥ }
 {
     if device.len() < plain {
+        return false;
+    }
+    if plain > 0 && device[plain - 1] != pattern[plain - 1] {
         return false;
     }
     &device[..plain] == &pattern[..plain]

@@ -1,2 +1,3 @@
 pub mod PieceLemmas
 pub mod NameLemmas
+pub mod RowLemmas

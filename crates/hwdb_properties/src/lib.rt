@@ -8,10 +8,12 @@
 //! | `numbers` | texts that are numbers |
 //! | `values` | texts that are values of a form |
 //! | `remarks` | what is said of a property that doesn't fit |
+//! | `laws` | worked rows of the definitions |
 //! | `surroundings` | below which prefixes a property is read, and with which others |
 #![tactic(auto)]
 
 mod cuts;
+mod laws;
 mod names;
 mod numbers;
 mod remarks;
@@ -20,5 +22,9 @@ mod surroundings;
 mod values;
 
 pub use cuts::{after, before, same};
+pub use laws::{
+    axes_are_told, matrices_are_told, names_are_told, numbers_are_told, pairs_are_told,
+    prefixes_are_told, resolutions_are_told,
+};
 pub use remarks::{misuse_of, misuse_text, push_misuse_hint};
 pub use surroundings::{companions_of, is_read_below, prefixes_of};

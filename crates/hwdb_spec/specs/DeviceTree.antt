@@ -60,12 +60,13 @@ attribute_at sight folder name = option_map (λ value. record { name = name; val
 -- a device below sysfs, with its file `uevent` and those of the named attributes that can be read
 abbrev pub ancestor_with : Sight → (names : List (List ℕ)) → (sys folder uevent : List ℕ) → Ancestor
 ancestor_with sight names sys folder uevent = record {
-    path = drop (length sys) folder;
-    name = kernel_name folder;
-    subsystem = target_name sight (path_in folder (codes "subsystem"));
-    driver = target_name sight (path_in folder (codes "driver"));
-    uevent = uevent;
-    attributes = filter_map (attribute_at sight folder) names }
+  path = drop (length sys) folder;
+  name = kernel_name folder;
+  subsystem = target_name sight (path_in folder (codes "subsystem"));
+  driver = target_name sight (path_in folder (codes "driver"));
+  uevent = uevent;
+  attributes = filter_map (attribute_at sight folder) names;
+}
 
 -- the file `uevent` of a folder: what has one is a device
 abbrev pub uevent_of : Sight → (folder : List ℕ) → Option (List ℕ)
@@ -91,8 +92,9 @@ ancestor_below sight names sys folder = if is_below_devices sys folder then ance
 -- a device at a place: itself and its parents, and what the firmware says of the machine
 abbrev pub device_at : Sight → (names : List (List ℕ)) → (sys place : List ℕ) → Device
 device_at sight names sys place = record {
-    chain = filter_map (ancestor_below sight names sys) (place ∷ above (reverse place));
-    machine = unwrap_or (text_of sight (sys ++ codes "/class/dmi/id/modalias")) [] }
+  chain = filter_map (ancestor_below sight names sys) (place ∷ above (reverse place));
+  machine = unwrap_or (text_of sight (sys ++ codes "/class/dmi/id/modalias")) [];
+}
 
 -- ---- where a device is
 

@@ -48,3 +48,5 @@ pub mod NearAsked
 pub mod Colours
 pub mod Sysfs
 pub mod DeviceTree
+pub mod Inputs
+pub mod Lookups

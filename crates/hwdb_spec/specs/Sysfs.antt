@@ -1,5 +1,5 @@
 -- What sysfs holds of a device and its parents, and how udev reads it: sd-device and udev-util.c of systemd 257.
-use Rattle.std.specs.Prelude.{Bool, true, false, ℕ, zero, suc, List, [], ◌∷◌, ◌++◌, ◌+◌, ◌-◌, ◌==◌, ◌%◌, Option, None, Some, if◌then◌else◌, codes, drop, length, map, nat_eq, nat_lt, option_map, take}
+use Rattle.std.specs.Prelude.{Bool, true, false, ℕ, zero, suc, List, [], ◌∷◌, ◌++◌, ◌+◌, ◌-◌, ◌==◌, ◌%◌, Option, None, Some, if◌then◌else◌, codes, drop, length, map, nat_eq, nat_lt, not, option_map, take}
 use Rattle.std.specs.List.{find, list_any, starts_with}
 use Rattle.std.specs.Option.{option_map_or, option_or, unwrap_or}
 use Rattle.std.specs.Str.{is_utf8}
@@ -59,9 +59,13 @@ is_unused (a ∷ b ∷ c ∷ []) =
 is_unused (a ∷ b ∷ c ∷ d ∷ []) = if b % 16 == 15 then (if c == 191 then in_span d (190, 191) else false) else false
 is_unused text = false
 
+-- whether these are UTF-8, and no such character
+abbrev pub is_used : List ℕ → Bool
+is_used text = if is_utf8 text then not (is_unused text) else false
+
 -- whether these are one character of more than one byte
 abbrev pub is_wide : ℕ → List ℕ → Bool
-is_wide size text = if nat_lt 1 size then (if length text == size then (if is_utf8 text then (if is_unused text then false else true) else false) else false) else false
+is_wide size text = if nat_lt 1 size then (if length text == size then is_used text else false) else false
 
 -- how many of the first bytes of a text are left as they are: those of `\x`, those of a character of more than one byte; else none
 abbrev pub left_whole : ℕ → List ℕ → ℕ

@@ -55,6 +55,8 @@
 //! | `Colours` | how a text is shown in colour |
 //! | `Sysfs` | what sysfs holds of a device and its parents, and how udev reads it |
 //! | `DeviceTree` | where sysfs has a device, and what is read of it and its parents |
+//! | `Inputs` | what kinds of input device udev sees in one |
+//! | `Lookups` | the strings that udev's rules ask for a device, in their order |
 //!
 //! The types below are those that the definitions name.
 #![tactic(auto)]

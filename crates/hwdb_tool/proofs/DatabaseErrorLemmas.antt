@@ -328,8 +328,7 @@ module _ (header : OneHeader) where
       where
         by : (e : ToolError) → IsOfDatabase e not.path r → IsListRefusal after not.bytes e → (e ≢ Write → e ≢ Memory → now ≡ before) → (IsPlacedFault after r ⊎ IsMisplaced root files after r) × (now ≡ before)
         by (BadDatabase fault) is refused untouched =
-            let listed = placed_fault after not.bytes fault refused in
-            (
+            let listed = placed_fault after not.bytes fault refused in (
               inl (
                 (listed.from, listed.spelled),
                 record {

@@ -148,8 +148,7 @@ module _ (header : OneHeader) (tree : OneTree) (fails fails_now fails2 fails2_no
       let kind2 = kind_of_job top found j k one.asked two.asked kind in
       let first = why header tree fails fails_now left left_now (root_of j) j.usr j.strict one.refusal before then_ of j.task kind never one.refused in
       let second = why header tree fails2 fails2_now left2 left2_now (root_of k) k.usr k.strict two.refusal before2 then2 of2 k.task kind2 never2 two.refused in
-      let U2 = IsUnwritable (database_folder k.usr (root_of k)) before2.files before2.failures then2.failures in
-      (
+      let U2 = IsUnwritable (database_folder k.usr (root_of k)) before2.files before2.failures then2.failures in (
         one.says ∙ status_of_job top found j k one.asked two.asked ∙ sym two.says,
         end_of header tree fails fails2 (IsUnwritable (database_folder j.usr (root_of j)) before.files before.failures then_.failures) U2 (root_of j) one.refusal two.refusal before then_ before2 then2 input j.task kind first.0
             (why_of_job top header tree fails2 U2 before2.files two.refusal found j k one.asked two.asked second.0) first.1 second.1,

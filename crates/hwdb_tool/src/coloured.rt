@@ -90,7 +90,7 @@ pub fn kind_of(task: &Task) -> TextKind {
         Task::Query { json: false, .. } | Task::Ask { .. } => TextKind::Properties,
         Task::Explain { json: false, .. } => TextKind::Origins,
         Task::List { json: false, .. } => TextKind::Hits,
-        Task::Check { json: false, .. } => TextKind::Reports,
+        Task::Check { json: false, .. } | Task::Near { json: false, .. } => TextKind::Reports,
         Task::Diff { .. } => TextKind::Changes,
         Task::Verify { .. } => TextKind::Counts,
         Task::Dump { .. } => TextKind::Records,

@@ -224,7 +224,9 @@ fn run<D: System, I: Source, O: Sink, E: Sink>(
             allowed,
             json,
         } => {
-            let answer = check(alloc, root, files, *json, allowed, job.strict, system, input);
+            let answer = check(
+                alloc, root, files, *json, allowed, job.strict, system, input,
+            );
             printed(answer, out, err)
         }
         Task::Near {

@@ -22,9 +22,9 @@ returns-clause-tokens c =
     let one = member_behind front c.begin_object.new.self.tokens c.put_member.new.json.tokens [] a none c.in_ok-put_member.ensures.tokens in
     let two = member_behind front c.put_member.new.json.tokens c.put_count.new.json.tokens (a ∷ []) b one c.in_ok-put_count.ensures.tokens in
     let three = member_behind front c.put_count.new.json.tokens c.put_count-2.new.json.tokens (a ∷ b ∷ []) d two
-        (c.in_ok-put_count-2.ensures.tokens ∙ ap (λ n. c.put_count.new.json.tokens ++ tokens_of_member (codes "column", number_json n)) c.column_of.ensures) in
+    (c.in_ok-put_count-2.ensures.tokens ∙ ap (λ n. c.put_count.new.json.tokens ++ tokens_of_member (codes "column", number_json n)) c.column_of.ensures) in
     let four = member_behind front c.put_count-2.new.json.tokens c.put_member-2.new.json.tokens (a ∷ b ∷ d ∷ []) e three
-        (c.in_ok-put_member-2.ensures.tokens ∙ ap (λ k. c.put_count-2.new.json.tokens ++ tokens_of_member (codes "kind", text_json k)) c.as_bytes.ensures.value) in
+    (c.in_ok-put_member-2.ensures.tokens ∙ ap (λ k. c.put_count-2.new.json.tokens ++ tokens_of_member (codes "kind", text_json k)) c.as_bytes.ensures.value) in
     let five = member_behind front c.put_member-2.new.json.tokens c.put_member-3.new.json.tokens (a ∷ b ∷ d ∷ e ∷ []) h four c.in_ok-put_member-3.ensures.tokens in
     let six = member_behind front c.put_member-3.new.json.tokens c.put_member-4.new.json.tokens (a ∷ b ∷ d ∷ e ∷ h ∷ []) i five c.in_ok-put_member-4.ensures.tokens in
     let all : List (List ℕ × Json) = a ∷ b ∷ d ∷ e ∷ h ∷ i ∷ [] in

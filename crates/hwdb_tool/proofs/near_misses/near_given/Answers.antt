@@ -16,11 +16,11 @@ returns-clause-near g c = λ tells.
     let named : map (λ f. f.path.now) files ≡ given = ap (map (λ f. f.path.now)) c.deref-3.ensures.value ∙ c.in_ok-files.ensures.paths in
     let held : map (λ f. f.bytes.now) files ≡ map (λ t. t.items) c.in_ok-texts.texts.items =
     ap (map (λ f. f.bytes.now)) c.deref-3.ensures.value ∙ c.in_ok-files.ensures.bytes ∙ ap (map (λ t. t.items)) c.deref-2.ensures.value in
-    let same : map Views.source_of c.deref-4.result.now ≡ map Checks.source_of files = ap (map Views.source_of) c.deref-4.ensures.value ∙ c.in_ok-compared.ensures in
-    (
+    let same : map Views.source_of c.deref-4.result.now ≡ map Checks.source_of files = ap (map Views.source_of) c.deref-4.ensures.value ∙ c.in_ok-compared.ensures in (
       c.new.ensures.err,
       (
-        map Checks.source_of files, given_sources input seen _ given _ files (c.in_ok-texts.ensures.read tells) told named held,
+        map Checks.source_of files,
+        given_sources input seen _ given _ files (c.in_ok-texts.ensures.read tells) told named held,
         c.new.ensures.out ∙ c.in_ok-told.ensures ∙ ap (λ (xs : List Source). near_form c.args.json c.args.device.now c.args.limit (patterns_from 1 xs)) same,
       ),
     )

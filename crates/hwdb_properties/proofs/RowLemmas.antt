@@ -1,0 +1,72 @@
+-- The rows of `Rows`, computed.
+use Rattle.std.proofs.Common.{refl}
+use Rattle.hwdb_properties.specs.Rows.{AxisRows, MatrixRows, NameRows, NumberRows, PairRows, ReadRows, ResolutionRows}
+
+pub resolutions : ResolutionRows
+resolutions = record {
+  one = refl;
+  rate = refl;
+  two = refl;
+  word = refl;
+  star = refl;
+}
+
+pub matrices : MatrixRows
+matrices = record {
+  plain = refl;
+  parts = refl;
+  zero = refl;
+  eight = refl;
+  letter = refl;
+}
+
+pub axes : AxisRows
+axes = record {
+  limits = refl;
+  some = refl;
+  code = refl;
+  none = refl;
+  six = refl;
+  dash = refl;
+}
+
+pub numbers : NumberRows
+numbers = record {
+  most = refl;
+  more = refl;
+  below = refl;
+  half = refl;
+  count = refl;
+  decimal = refl;
+  charge = refl;
+  lone = refl;
+  word = refl;
+  other = refl;
+  away = refl;
+}
+
+pub names : NameRows
+names = record {
+  case = refl;
+  less = refl;
+  other = refl;
+  two = refl;
+}
+
+pub prefixes : ReadRows
+prefixes = record {
+  own = refl;
+  other = refl;
+  part = refl;
+  anywhere = refl;
+  unknown = refl;
+}
+
+pub pairs : PairRows
+pairs = record {
+  alone = refl;
+  both = refl;
+  apart = refl;
+  angle = refl;
+  across = refl;
+}

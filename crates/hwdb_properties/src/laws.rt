@@ -1,0 +1,44 @@
+//! Laws over the definitions alone: worked rows. Each function does nothing: its contract is the law.
+ghost use Rattle.hwdb_properties.specs.Rows.{AxisRows, MatrixRows, NameRows, NumberRows, PairRows, ReadRows, ResolutionRows};
+
+/// Which texts are resolutions of a mouse.
+#[tactic(auto, using(crate::proofs::RowLemmas::resolutions))]
+pub fn resolutions_are_told()
+    ensures { ResolutionRows }
+{}
+
+/// Which texts are matrices.
+#[tactic(auto, using(crate::proofs::RowLemmas::matrices))]
+pub fn matrices_are_told()
+    ensures { MatrixRows }
+{}
+
+/// Which texts are limits of an axis.
+#[tactic(auto, using(crate::proofs::RowLemmas::axes))]
+pub fn axes_are_told()
+    ensures { AxisRows }
+{}
+
+/// Which texts are numbers and words.
+#[tactic(auto, using(crate::proofs::RowLemmas::numbers))]
+pub fn numbers_are_told()
+    ensures { NumberRows }
+{}
+
+/// Which names are nearly alike.
+#[tactic(auto, using(crate::proofs::RowLemmas::names))]
+pub fn names_are_told()
+    ensures { NameRows }
+{}
+
+/// Below which prefixes a property is read.
+#[tactic(auto, using(crate::proofs::RowLemmas::prefixes))]
+pub fn prefixes_are_told()
+    ensures { ReadRows }
+{}
+
+/// Which properties lack another one.
+#[tactic(auto, using(crate::proofs::RowLemmas::pairs))]
+pub fn pairs_are_told()
+    ensures { PairRows }
+{}

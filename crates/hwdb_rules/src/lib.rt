@@ -1,0 +1,41 @@
+//! Which strings udev's rules ask the hardware database for: what `device` asks.
+//!
+//! [`Device`] is what sysfs holds of a device and its parents. Rules are of systemd 257, and of the packages upower and
+//! libwacom. Nothing here reads a file, or knows a database: a rule says which strings are to be asked, one after
+//! another, up to the first that has an answer.
+//!
+//! | Module | What it does |
+//! |---|---|
+//! | `device` | a device, its parents, and their attributes |
+//! | `values` | values as udev writes them into strings |
+//! | `ancestors` | a device by itself, and the first of it and its parents that a rule is for |
+//! | `inputs` | what kinds of input device a device is |
+//! | `scene` | what a rule sees, and strings of its parts |
+//! | `plans` | strings that are to be asked |
+//! | `walks` | the strings of a device and its parents |
+//! | `early` | 50-udev-default, 60-evdev and 60-input-id |
+//! | `middle` | 60-sensor, 60-serial, and those of upower and libwacom |
+//! | `late` | 70-camera to 78-sound-card |
+//! | `laws` | worked rows of the definitions |
+#![tactic(auto)]
+
+mod ancestors;
+mod device;
+mod early;
+mod inputs;
+mod late;
+mod laws;
+mod middle;
+mod plans;
+mod scene;
+mod values;
+mod walks;
+
+pub use device::{ATTRIBUTES, Ancestor, Attribute, Device};
+pub use early::{early_rules, input_id_rules};
+pub use inputs::{Kinds, kinds_seen};
+pub use late::late_rules;
+pub use laws::lookup_rows;
+pub use middle::middle_rules;
+pub use plans::{Plan, Question};
+pub use scene::{Scene, machine_text};

@@ -1,0 +1,109 @@
+//! What a rule sees of a device, and strings of its parts.
+ghost use Rattle.std.specs.Prelude.{◌≡◌, ◌++◌, ◌∷◌, [], codes, option_map, IfOk, OnOk};
+ghost use Rattle.std.specs.Option.{option_or, unwrap_or};
+ghost use Rattle.hwdb_spec.specs.Lookups;
+ghost use Rattle.hwdb_spec.specs.Lookups.{attr, ids_and_name};
+ghost use Rattle.hwdb_spec.specs.Sysfs.{attribute_text, written};
+ghost use Rattle.hwdb_rules.specs.Views.{ancestor_of, scene_of};
+ghost use Rattle.hwdb_rules.specs.Internal.{found_at};
+
+use crate::ancestors::{At, Wanted, attribute, attribute_text, some};
+use crate::device::{Ancestor, Device};
+use crate::values::push_written;
+use std::alloc::{AllocError, Global};
+
+/// What a rule sees: the device, itself and its parents, and the machine's name as rules write it.
+#[derive(Clone, Copy)]
+pub struct Scene<'d> {
+    /// The device.
+    pub own: &'d Ancestor,
+    /// Itself and its parents, from it up.
+    pub chain: &'d [Ancestor],
+    /// What [`machine_text`] gives.
+    pub machine: &'d [u8],
+}
+
+/// The machine's name as rules write it. The only error, here and below, is `AllocError`.
+pub fn machine_text(alloc: Global, device: &Device) -> Result<Vec<u8>, AllocError>
+    ensures { IfOk result (λ text. text.items ≡ written device.now.machine.items) }
+{
+    let mut text = Vec::new(alloc);
+    push_written(&mut text, &device.machine)?;
+    Ok(text)
+}
+
+/// Adds what `$attr{}` gives: the device's own attribute, else that of the parent that matched.
+pub(crate) fn push_attr(
+    text: &mut Vec<u8>,
+    scene: &Scene<'_>,
+    at: At<'_>,
+    name: &[u8],
+) -> Result<(), AllocError>
+    ensures { OnOk result
+        (text.new.items ≡ text.old.items ++ attr name.now (scene_of scene.now) (found_at at.entry)) }
+{
+    match attribute(scene.own, name) {
+        Some(value) => push_written(text, value),
+        None => push_written(text, attribute_text(at.ancestor, name)),
+    }
+}
+
+/// Adds a text, and what `$attr{}` gives.
+pub(crate) fn push_with_attr(
+    text: &mut Vec<u8>,
+    before: &[u8],
+    scene: &Scene<'_>,
+    at: At<'_>,
+    name: &[u8],
+) -> Result<(), AllocError>
+    ensures { OnOk result (text.new.items ≡ text.old.items ++ (before.now
+        ++ attr name.now (scene_of scene.now) (found_at at.entry))) }
+{
+    text.extend_from_slice(before)?;
+    push_attr(text, scene, at, name)
+}
+
+/// The device itself, as what matched.
+pub(crate) fn itself<'d>(scene: &Scene<'d>) -> At<'d>
+    ensures { found_at result ≡ Lookups.itself (scene_of scene.now) }
+{
+    At {
+        place: 0,
+        ancestor: scene.own,
+    }
+}
+
+/// Adds vendor, product and name of an input device.
+pub(crate) fn push_ids_and_name(
+    text: &mut Vec<u8>,
+    scene: &Scene<'_>,
+    at: At<'_>,
+) -> Result<(), AllocError>
+    ensures { OnOk result (text.new.items
+        ≡ text.old.items ++ ids_and_name (scene_of scene.now) (found_at at.entry)) }
+{
+    push_with_attr(text, b"v", scene, at, b"id/vendor")?;
+    push_with_attr(text, b"p", scene, at, b"id/product")?;
+    push_with_attr(text, b":name:", scene, at, b"name")?;
+    text.push(b':')?;
+    Ok(())
+}
+
+/// ID_BUS of an input device; empty if it has none.
+pub(crate) fn bus_of(scene: &Scene<'_>) -> &'static [u8]
+    ensures { result.now ≡ Lookups.bus_of (scene_of scene.now) }
+{
+    if some(Wanted::In(b"bluetooth"), scene.chain) {
+        b"bluetooth"
+    } else if some(Wanted::Is(b"id/bustype", b"0005"), scene.chain) {
+        b"bluetooth"
+    } else if some(Wanted::In(b"serio"), scene.chain) {
+        b"i8042"
+    } else if some(Wanted::In(b"rmi4"), scene.chain) {
+        b"rmi"
+    } else if some(Wanted::In(b"usb"), scene.chain) {
+        b"usb"
+    } else {
+        b""
+    }
+}
