@@ -1,8 +1,10 @@
 -- The rows of `Rows`, computed.
 use Rattle.std.proofs.Common.{refl}
+use Rattle.hwdb_spec.specs.Lines.{pieces}
 use Rattle.hwdb_properties.specs.Rows.{AxisRows, MatrixRows, NameRows, NumberRows, PairRows, ReadRows, ResolutionRows}
 
 pub resolutions : ResolutionRows
+unfolding pieces
 resolutions = record {
   one = refl;
   rate = refl;
@@ -12,6 +14,7 @@ resolutions = record {
 }
 
 pub matrices : MatrixRows
+unfolding pieces
 matrices = record {
   plain = refl;
   parts = refl;
@@ -31,6 +34,7 @@ axes = record {
 }
 
 pub numbers : NumberRows
+unfolding pieces
 numbers = record {
   most = refl;
   more = refl;
@@ -54,6 +58,7 @@ names = record {
 }
 
 pub prefixes : ReadRows
+unfolding pieces
 prefixes = record {
   own = refl;
   other = refl;
@@ -63,6 +68,7 @@ prefixes = record {
 }
 
 pub pairs : PairRows
+unfolding pieces
 pairs = record {
   alone = refl;
   both = refl;
