@@ -1,13 +1,15 @@
 use Rattle.std.proofs.Common.{◌≡◌, ◌⊎◌, ap, inl, inr, ⊎_elim, refl, string_bytes, subst, sym, ◌==◌, length, map, not, true, IfOk, IfErr}
 use Rattle.std.specs.Prelude.{option_map}
-use Rattle.hwdb_cli.specs.declared.job.Task.TheVariants.{Ask, Check, Diff, Update}
+use Rattle.hwdb_cli.specs.declared.job.Task.TheVariants.{Ask, Check, Diff, Near, Update}
 use Rattle.hwdb_spec.specs.Asked.{IsAnswered, IsCompared, IsListFrom}
 use Rattle.hwdb_spec.specs.CheckedFiles.{AreCheckedFiles, IsChecked}
 use Rattle.hwdb_spec.specs.Done.{IsAsked, IsLeftByUpdateLess, OldOrUpdatedLess}
 use Rattle.hwdb_spec.specs.Given.{any_dash, is_dash}
 use Rattle.hwdb_spec.specs.Outputs.{TookOne}
 use Rattle.hwdb_spec.specs.Runs.{OnOut, World, files_by, told_by}
+use Rattle.hwdb_spec.specs.NearAsked.{IsNear, near_form, near_limit}
 use Rattle.hwdb_tool.specs.ComparedDatabases.{IsDiffRefused}
+use Rattle.hwdb_tool.specs.NearMisses.{IsNearRefused}
 use Rattle.hwdb_tool.specs.Program.{IsAnswerOf, IsTaskDone, OldOrDone, root_of, skips}
 use Rattle.hwdb_tool.specs.Queries.{IsInputUnread}
 use Rattle.hwdb_fs.specs.Refusals.{HasReason, IsUnreadable}
@@ -104,7 +106,7 @@ returns-in-Check-clause-refused g c = λ tells.
     let given = c.in-Check.files.items in
     let items = c.deref-in-Check.ensures.value in
     let allowed = map string_bytes c.in-Check.allowed.items in
-    let left_out = c.deref-2-in-Check.ensures.value in
+    let left_out = c.deref-in-Check-2.ensures.value in
     let answer = c.check-answer.result in
     subst (λ t. IfErr c.printed-in-Check.result (IsNotDone t (root_of job) job.usr job.strict before now)) (sym c.in-Check.is)
     (each_error _ (IsNotDone task (root_of job) job.usr job.strict before now) c.printed-in-Check.result (λ r both. ((both.0, record { same = λ p. refl; no_more = λ p v l. l }), both.1))
@@ -178,3 +180,41 @@ returns-in-Ask-clause-refused g c = λ tells.
     (λ r has. ⊎_elim (λ of. inl (any_reason _ _ seen r of)) (λ dash. inr dash) has)
     (subst (λ f. IfErr answer (λ r. HasReason (IsUnreadable fails seen) ⊥ seen r ⊎ ((is_dash f ≡ true) × IsInputUnread before.input.failures now.input.failures r))) of_file c.ask_file-answer.ensures.reason))
     (inl tt) c.printed.ensures.refused))
+
+pub returns-in-Near-clause-refused : goal.returns-in-Near-clause-refused
+returns-in-Near-clause-refused g c = λ tells.
+    let job = c.args.job.now in
+    let F = files_by g.D.Store.seen g.D.System.may_fail g.D.Store.may_leave g.D.Store.failures in
+    let I = told_by g.I.Source.left g.I.Source.failures in
+    let O = told_by g.O.Sink.taken g.O.Sink.failures in
+    let E = told_by g.E.Sink.taken g.E.Sink.failures in
+    let seen = g.D.Store.seen c.args.system.now in
+    let before : World = record { files = F c.args.system.now; input = I c.args.input.now; out = O c.args.out.now; err = E c.args.err.now } in
+    let now : World = record { files = F c.args.system.now; input = I c.near-answer.new.input; out = O c.printed-in-Near.new.out; err = E c.printed-in-Near.new.err } in
+    let fails = before.files.fails in
+    let input = before.input.bytes in
+    let limit = c.in-Near.limit in
+    let json = c.in-Near.json in
+    let task = Near c.in-Near.files c.in-Near.device limit json in
+    let root = c.root_of-root.result.now in
+    let given = c.in-Near.files.items in
+    let items = c.deref-in-Near.ensures.value in
+    let device = c.as_bytes-device-in-Near.result.now in
+    let of_device = c.as_bytes-device-in-Near.ensures.value in
+    let answer = c.near-answer.result in
+    subst (λ t. IfErr c.printed-in-Near.result (IsNotDone t (root_of job) job.usr job.strict before now)) (sym c.in-Near.is)
+    (each_error _ (IsNotDone task (root_of job) job.usr job.strict before now) c.printed-in-Near.result (λ r both. ((both.0, record { same = λ p. refl; no_more = λ p v l. l }), both.1))
+    (printed_refused answer c.printed-in-Near.result (Refuses task (root_of job) input seen) (IsTaskReason task (root_of job) job.usr before now)
+    (λ s t. IsAnswerOf task (root_of job) job.strict input seen s t) before.err now.err before.out now.out
+    (subst (λ r. IfErr answer (IsNearRefused (map string_bytes given) r seen)) c.root_of-root.ensures
+    (subst (λ l. IfErr answer (IsNearRefused (map string_bytes l) root seen)) items (c.near-answer.ensures.refused tells)))
+    (both_values (λ a. a.status ≡ 0) (λ a. OnOut (IsNear (map string_bytes given) (root_of job) (near_form json (string_bytes c.in-Near.device) (near_limit limit)) input seen) (texts_in a))
+    (λ a. IsAnswerOf task (root_of job) job.strict input seen a.status (texts_in a)) answer (λ a zero told. (zero, told)) c.near-answer.ensures.status
+    (subst (λ r. IfOk answer (λ a. OnOut (IsNear (map string_bytes given) r (near_form json (string_bytes c.in-Near.device) (near_limit limit)) input seen) (texts_in a))) c.root_of-root.ensures
+    (subst (λ d. IfOk answer (λ a. OnOut (IsNear (map string_bytes given) root (near_form json d (near_limit limit)) input seen) (texts_in a))) of_device
+    (subst (λ l. IfOk answer (λ a. OnOut (IsNear (map string_bytes l) root (near_form json device (near_limit limit)) input seen) (texts_in a))) items (c.near-answer.ensures.near tells)))))
+    (each_error _ (IsTaskReason task (root_of job) job.usr before now) answer
+    (λ r has. ⊎_elim (λ file. inl (any_reason _ _ seen r file)) (λ dash. inr dash) has)
+    (subst (λ l. IfErr answer (λ r. HasReason (IsUnreadableIf (not (length l == 0)) fails seen) ⊥ seen r ⊎ ((any_dash (map string_bytes l) ≡ true) × IsInputUnread before.input.failures now.input.failures r))) items
+    c.near-answer.ensures.reason))
+    (inl tt) c.printed-in-Near.ensures.refused))
