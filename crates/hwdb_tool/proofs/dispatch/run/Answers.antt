@@ -104,7 +104,7 @@ returns-in-Check-clause-refused g c = λ tells.
     let given = c.in-Check.files.items in
     let items = c.deref-in-Check.ensures.value in
     let allowed = map string_bytes c.in-Check.allowed.items in
-    let left_out = c.deref-2-in-Check.ensures.value in
+    let left_out = c.deref-in-Check-2.ensures.value in
     let answer = c.check-answer.result in
     subst (λ t. IfErr c.printed-in-Check.result (IsNotDone t (root_of job) job.usr job.strict before now)) (sym c.in-Check.is)
     (each_error _ (IsNotDone task (root_of job) job.usr job.strict before now) c.printed-in-Check.result (λ r both. ((both.0, record { same = λ p. refl; no_more = λ p v l. l }), both.1))
