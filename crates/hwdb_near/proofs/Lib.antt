@@ -1,6 +1,7 @@
 pub mod ComputedLemmas
 pub mod OrderedLemmas
 pub mod NearestLemmas
+pub mod FileLemmas
 pub mod GatheredLemmas
 pub mod LineLemmas
 pub mod JsonLemmas
