@@ -1,7 +1,6 @@
 -- The errors of files that words name.
-use Rattle.std.proofs.Common.{◌≡◌, ◌⊎◌, inl, inr, sym, subst, refl, arith, ℕ, Bool, true, false, List, [], ◌∷◌, Option, map, string_bytes, Global, String}
+use Rattle.std.proofs.Common.{◌≡◌, ◌<◌, ◌⊎◌, inl, inr, sym, subst, refl, arith, ℕ, zero, suc, get_or, Bool, true, false, List, [], ◌∷◌, Option, map, string_bytes, Global, String}
 use Rattle.std.specs.Prelude.{Contains, is_some}
-use Rattle.std.proofs.lemmas.List.Elements.{All-contains}
 use Rattle.hwdb_spec.specs.Given.{is_dash}
 use Rattle.hwdb_spec.specs.Store.{Contents}
 use Rattle.hwdb_spec.specs.System.{bytes_at}
@@ -103,10 +102,14 @@ module _ (files : Contents) (path : List ℕ) where
   unread_file NoDatabase told h = absurd h
   unread_file (InWords text) told h = absurd h
 
+  one_path : (p : List ℕ) (x : ℕ) → x < 1 → get_or (path ∷ []) x p ≡ p → path ≡ p
+  one_path p zero lt is = is
+  one_path p (suc x) lt is = absurd (omega (arith, lt))
+
   -- and of one among several
   module _ (given : List (List ℕ)) (among : Contains given path) where
     is_among : (p : List ℕ) → Contains (path ∷ []) p → Contains given p
-    is_among p one = subst (λ (q : List ℕ). Contains given q) (sym (All-contains (λ (q : List ℕ). q ≡ path) (path ∷ []) p (refl, tt) one)) among
+    is_among p one = subst (λ (q : List ℕ). Contains given q) (one_path p one.0 one.1 one.2) among
 
     pub of_one : (r : Refusal) → IsOfFiles (path ∷ []) files r → IsOfFiles given files r
     of_one (At Read at cause) h = (is_among at.items h.0, h.1)
