@@ -736,6 +736,10 @@ UNKNOWN = (
     b"a code that isn't lower-case hexadecimal",
     b"a key that isn't known",
     b"a value that its property doesn't take",
+    b"a row of the matrix has zeros alone",
+    b"more than one resolution is the default",
+    b"a property that isn't read below its patterns",
+    b"a property that is read with others alone",
 )
 
 
