@@ -114,7 +114,7 @@ module _ (files : Contents) (path : List ℕ) where
     pub of_one : (r : Refusal) → IsOfFiles (path ∷ []) files r → IsOfFiles given files r
     of_one (At Read at cause) h = (is_among at.items h.0, h.1)
     of_one (At Write at cause) h = (is_among at.items h.0, h.1)
-    of_one (At TooLong at cause) h = (is_among at.items h.0, h.1)
+    of_one (At TooLong at cause) h = (is_among at.items h.0, h.1, h.2)
     of_one (At TooManyFiles at cause) h = (is_among at.items h.0, h.1)
     of_one (At TooManyLines at cause) h = (is_among at.items h.0, h.1)
     of_one (At TooLarge at cause) h = (is_among at.items h.0, h.1)
