@@ -25,6 +25,7 @@ gather_by at next more t = cond t (cond (is_before next at) next at ∷ more) (a
 -- the first has the same text
 pub gather_same : (old kept new : List Found) (at next first : Found) → old ≡ kept ++ next ∷ [] → new ≡ kept ++ first ∷ [] → same at.pattern.now next.pattern.now ≡ true
     → pattern_at first ≡ cond (is_before (pattern_at next) (pattern_at at)) (pattern_at next) (pattern_at at) → reverse (map pattern_at new) ≡ gather (pattern_at at) (reverse (map pattern_at old))
+unfolding gather_by
 gather_same old kept new at next first o n e f =
     let more = reverse (map pattern_at kept) in
     ap (λ (l : List Found). reverse (map pattern_at l)) n ∙ last_first kept first ∙ ap (λ (p : PatternAt). p ∷ more) f
@@ -34,6 +35,7 @@ gather_same old kept new at next first o n e f =
 -- it has another one
 pub gather_other : (old kept mid new : List Found) (at next : Found) → old ≡ kept ++ next ∷ [] → mid ≡ kept ++ next ∷ [] → new ≡ mid ++ at ∷ [] → same at.pattern.now next.pattern.now ≡ false
     → reverse (map pattern_at new) ≡ gather (pattern_at at) (reverse (map pattern_at old))
+unfolding gather_by
 gather_other old kept mid new at next o m n e =
     let more = reverse (map pattern_at kept) in
     ap (λ (l : List Found). reverse (map pattern_at l)) n ∙ last_first mid at ∙ ap (λ (l : List Found). pattern_at at ∷ reverse (map pattern_at l)) m ∙ ap (λ (l : List PatternAt). pattern_at at ∷ l) (last_first kept next)
