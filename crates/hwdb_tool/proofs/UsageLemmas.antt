@@ -1,5 +1,5 @@
 -- What standard error takes of words that the command doesn't take.
-use Rattle.std.proofs.Common.{◌≡◌, ◌+◌, ◌-◌, ◌^◌, ◌<◌, ◌==◌, inl, inr, sym, subst, refl, arith, cond, eqb-true, ℕ, Bool, true, false, List, length, Option, Result, Ok, Err, OnOk}
+use Rattle.std.proofs.Common.{◌≡◌, ◌+◌, ◌-◌, ◌^◌, ◌==◌, inl, inr, sym, subst, refl, arith, cond, eqb-true, ℕ, Bool, true, false, List, length, Option, Result, Ok, Err, OnOk}
 use Rattle.std.specs.Prelude.{OnErr}
 use Rattle.std.proofs.lemmas.List.{take_all}
 use Rattle.std.specs.Io.KnownBytes.{Appends}
