@@ -22,10 +22,14 @@ use Rattle.hwdb_tool.specs.Views.{texts_in}
 use Rattle.hwdb_tool.specs.declared.answer.Answer.{Answer}
 
 -- a given file, by its place
+pub given_path : (given : List (String Global)) (k : ℕ) (path : String Global) → path ≡ get_or given k path → k < length given → Contains (map string_bytes given) (string_bytes path)
+given_path given k path is lt =
+    (k, subst (λ n. k < n) (sym (length-map given string_bytes)) lt, get_or-map string_bytes given k path (string_bytes path) lt ∙ ap string_bytes (sym is))
+
 pub given_unread : (given : List (String Global)) (k : ℕ) (path : String Global) (refusal : Refusal) → path ≡ get_or given k path → k < length given
     → IsUnread (told_path (string_bytes path)) refusal → IsGivenUnread (map string_bytes given) refusal
 given_unread given k path refusal is lt unread =
-    inr (string_bytes path, (k, subst (λ n. k < n) (sym (length-map given string_bytes)) lt, get_or-map string_bytes given k path (string_bytes path) lt ∙ ap string_bytes (sym is)), unread)
+    inr (string_bytes path, given_path given k path is lt, unread)
 
 -- ---- what the files are
 names_of : (files : List TextFile) → map (λ (s : Source). s.name) (map source_of files) ≡ map (λ f. f.path.now) files

@@ -5,7 +5,7 @@ use Rattle.hwdb_cli.specs.declared.job.Task.{Task}
 use Rattle.hwdb_cli.specs.declared.job.Task.TheVariants.{Ask, Diff, Dump, Explain, List as ListHits, Query, Verify}
 use Rattle.hwdb_spec.specs.Asked.{IsAnswered}
 use Rattle.hwdb_spec.specs.Databases.{IsTextOf}
-use Rattle.hwdb_spec.specs.Given.{is_input}
+use Rattle.hwdb_spec.specs.Given.{is_dash, is_input}
 use Rattle.hwdb_spec.specs.Outputs.{Texts}
 use Rattle.hwdb_spec.specs.Runs.{OnOut, Told, World}
 use Rattle.hwdb_spec.specs.Store.{Contents, Outcomes}
@@ -24,6 +24,7 @@ use Rattle.hwdb_tool.specs.NamedDatabases.{IsDumpRefused, IsVerifyRefused}
 use Rattle.hwdb_tool.specs.Undone.{IsAskRefused, IsUnanswered, IsUnprinted, IsUnwritable}
 use Rattle.hwdb_tool.proofs.DatabaseErrorLemmas.{OneHeader, OneTree, Unanswered, Undumped, Unlisted, Unverified, answer_answer, answer_done, dump_done, dump_dump, list_done, list_list, unanswered, undumped, unlisted, unverified, verify_done, verify_verify}
 use Rattle.hwdb_tool.proofs.AskErrorLemmas.{OneForm, Unasked, ask_ask, ask_done, unasked_file}
+use Rattle.hwdb_tool.proofs.GivenLemmas.{plain_reason}
 use Rattle.hwdb_tool.proofs.RefusalLemmas.{NeverNamed}
 use Rattle.hwdb_tool.proofs.DiffErrorLemmas.{Undiffed, diff_diff, diff_done, undiffed}
 
@@ -113,8 +114,11 @@ module _ (header : OneHeader) (tree : OneTree) where
         let found = unprinted (IsDumpRefused (option_map string_bytes database) root before.files) (MayPrint (Dump database) root strict before.input.bytes before.files) r before.err now.err before.out now.out of not.0.0 in
         (undumped header fails Unwritable root before.files (option_map string_bytes database) (never_named fails root before.files (option_map string_bytes database) never) r found.0 (of_files _ _ _ refl not.1) of, left_then found.1 not.0.1.same)
     why (Ask file device) kind never not =
-        let found = unprinted (IsAskRefused (string_bytes file) before.input.bytes before.files) (MayPrint (Ask file device) root strict before.input.bytes before.files) r before.err now.err before.out now.out of not.0.0 in
-        (unasked_file (string_bytes file) before.input.bytes before.files fails Unwritable (never (string_bytes file) refl) r of kind found.0 (of_files _ _ _ kind not.1), left_then found.1 not.0.1.same)
+        let found = unprinted (IsAskRefused (string_bytes file) before.input.bytes before.files) (MayPrint (Ask file device) root strict before.input.bytes before.files) r before.err now.err before.out now.out of not.0.0 in (
+          unasked_file (string_bytes file) before.input.bytes before.files fails Unwritable (never (string_bytes file) refl) r of kind found.0
+              (plain_reason fails Unwritable before.files before.input.bytes before.input.failures now.input.failures (is_dash (string_bytes file)) r kind not.1),
+          left_then found.1 not.0.1.same,
+        )
     why task kind never not = absurd kind
 
   -- two of them are one

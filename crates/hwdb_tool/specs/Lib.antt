@@ -5,6 +5,7 @@ pub mod TaskRefusals
 pub mod Undone
 pub mod Readable
 pub mod Queries
+pub mod Reasons
 pub mod ComparedDatabases
 pub mod Internal
 pub mod NamedDatabases

@@ -1,20 +1,23 @@
 -- What a task refuses is one error, and none is refused that is done: what two outcomes over one input have in common, if one
 -- of them or both are errors. Our choice.
-use Rattle.std.specs.Prelude.{◌≡◌, ◌⊎◌, ℕ, Bool, List, None, Option, Some, false, option_map, string_bytes, true}
+use Rattle.std.specs.Prelude.{◌<◌, ◌≡◌, ◌⊎◌, ℕ, Bool, Contains, IfSome, List, None, Option, Some, codes, false, length, map, option_map, string_bytes, true}
 use Rattle.hwdb_spec.specs.Asked.{database_path}
+use Rattle.hwdb_spec.specs.Failures.{HasFailed}
+use Rattle.hwdb_spec.specs.Texts.{max_file}
 use Rattle.hwdb_spec.specs.Verdicts.{verdict_text}
 use Rattle.hwdb_spec.specs.declared.DbFault.{DbFault}
 use Rattle.hwdb_reader.specs.Laws.{IsOfHeader}
 use Rattle.hwdb_print.specs.declared.errors.ToolError.{ToolError}
-use Rattle.hwdb_print.specs.declared.errors.ToolError.TheVariants.{BadDatabase, Memory, Write}
+use Rattle.hwdb_print.specs.declared.errors.ToolError.TheVariants.{BadDatabase, Memory, Read, TooLong, Write}
 use Rattle.hwdb_cli.specs.declared.job.WordsFault.TheVariants as words_fault
 use Rattle.hwdb_cli.specs.declared.job.Task.{Task}
-use Rattle.hwdb_cli.specs.declared.job.Task.TheVariants.{Ask, Diff, Dump, Explain, List as ListHits, Query, Verify}
+use Rattle.hwdb_cli.specs.declared.job.Task.TheVariants.{Ask, Check, Diff, Dump, Explain, List as ListHits, Near, Query, Verify}
 use Rattle.hwdb_spec.specs.Runs.{Told}
 use Rattle.hwdb_spec.specs.Store.{Outcomes}
 use Rattle.hwdb_tool.specs.OneOutcome.{IsOneInput, Scene, scene_of}
 use Rattle.hwdb_tool.specs.Program.{IsJobDone, IsTaskDone, reads_input, root_of}
 use Rattle.hwdb_tool.specs.TaskRefusals.{AreRefused, IsJobRefused, IsNotDone, IsRootRefused}
+use Rattle.hwdb_fs.specs.Refusals.{IsOver}
 use Rattle.hwdb_fs.specs.declared.refusals.Refusal.{Refusal}
 use Rattle.hwdb_fs.specs.declared.refusals.Refusal.TheVariants.{At, InWords, NoDatabase, Plain}
 
@@ -101,6 +104,34 @@ DoneIsNoError fails fails_now fails2 fails2_now left left_now left2 left2_now =
     → ReadsFewFiles task → IsOneInput before before2 → NeverFails fails2 task root → IsOfWhatIsRead refusal
     → IsTaskDone task root usr strict status (scene_of fails left before) (scene_of fails_now left_now now)
     → IsNotDone task root usr strict (scene_of fails2 left2 before2) (scene_of fails2_now left2_now now2) refusal → ⊥
+
+-- ---- of standard input
+-- the words of a task name text files, and this path among them
+abbrev pub NamesFile : Task → (path : List ℕ) → Type 0
+NamesFile (Check files allowed json) path = Contains (map string_bytes files.items) path
+NamesFile (Near files device limit json) path = Contains (map string_bytes files.items) path
+NamesFile task path = ⊥
+
+-- the task reads text files that its words name
+abbrev pub ReadsTexts : Task → Type 0
+ReadsTexts (Ask file device) = Unit {0}
+ReadsTexts (Check files allowed json) = Unit {0}
+ReadsTexts (Near files device limit json) = Unit {0}
+ReadsTexts task = ⊥
+
+-- If such a task reads standard input, it says that this can't be read only if a call of it failed. A file may have that name, too.
+abbrev pub InputIsRead : (fails fails_now : (path : List ℕ) → Type 0) (left left_now : Outcomes) → Type 0
+InputIsRead fails fails_now left left_now = (task : Task) (root : List ℕ) (usr strict : Bool) (refusal : Refusal) (before now : Scene)
+    → ReadsTexts task → reads_input task ≡ true → IsOver Read (codes "standard input") refusal
+    → IsNotDone task root usr strict (scene_of fails left before) (scene_of fails_now left_now now) refusal
+    → HasFailed before.input.failures now.input.failures ⊎ NamesFile task (codes "standard input")
+
+-- And it says that this is too long only if it has more bytes than a file may have, where it tells them.
+abbrev pub InputIsLong : (fails fails_now : (path : List ℕ) → Type 0) (left left_now : Outcomes) → Type 0
+InputIsLong fails fails_now left left_now = (task : Task) (root : List ℕ) (usr strict : Bool) (refusal : Refusal) (before now : Scene)
+    → ReadsTexts task → reads_input task ≡ true → IsOver TooLong (codes "standard input") refusal
+    → IsNotDone task root usr strict (scene_of fails left before) (scene_of fails_now left_now now) refusal
+    → IfSome before.input.bytes (λ told. max_file < length told) ⊎ NamesFile task (codes "standard input")
 
 -- ---- of words
 -- what a run leaves but for standard error, on which the line of an error comes yet

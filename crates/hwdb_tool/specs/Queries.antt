@@ -60,11 +60,17 @@ IsOfWholeInput Read refusal = IsAt Read (codes "standard input") refusal
 IsOfWholeInput TooLong refusal = IsAt TooLong (codes "standard input") refusal
 IsOfWholeInput error refusal = refusal ≡ Plain error
 
--- what a refusal says of the input is so: that it can't be read, where a call of it failed, or that it, or a line of it, is too long
-abbrev pub IsInputUnread : (failures_before failures_now : ℕ) → Refusal → Type 0
-IsInputUnread before now (At Read at cause) = (at.items ≡ codes "standard input") × HasFailed before now
-IsInputUnread before now (At TooLong at cause) = (at.items ≡ codes "a line of standard input") ⊎ (at.items ≡ codes "standard input")
-IsInputUnread before now refusal = ⊥
+-- what an error says of the input is so: that it can't be read, if a call of it failed, or that a line of it is too long
+abbrev pub IsInputUnread : (input : Option (List ℕ)) (failures_before failures_now : ℕ) → Refusal → Type 0
+IsInputUnread input before now (At Read at cause) = (at.items ≡ codes "standard input") × HasFailed before now
+IsInputUnread input before now (At TooLong at cause) = (at.items ≡ codes "a line of standard input") × IfSome input (HasLongLine max_file)
+IsInputUnread input before now refusal = ⊥
+
+-- the same of the input as a whole: it can't be read, or has more bytes than a file may have
+abbrev pub IsWholeInputUnread : (input : Option (List ℕ)) (failures_before failures_now : ℕ) → Refusal → Type 0
+IsWholeInputUnread input before now (At Read at cause) = (at.items ≡ codes "standard input") × HasFailed before now
+IsWholeInputUnread input before now (At TooLong at cause) = (at.items ≡ codes "standard input") × IfSome input (λ told. max_file < length told)
+IsWholeInputUnread input before now refusal = ⊥
 
 -- answering the devices of the input was refused, and standard output has what it had, or a prefix
 pub record IsUnstreamed (root : List ℕ) (form : Form) (input : Option (List ℕ)) (contents : Contents) (refusal : Refusal) (before now : Told) : Type 0 where

@@ -10,6 +10,7 @@ use Rattle.hwdb_cli.specs.declared.job.Task.{Task}
 use Rattle.hwdb_cli.specs.declared.job.WordsFault.TheVariants as words_fault
 use Rattle.hwdb_cli.specs.declared.job.WordsFault.{WordsFault}
 use Rattle.hwdb_spec.specs.Failures.{IsOneLine}
+use Rattle.hwdb_spec.specs.Given.{is_dash}
 use Rattle.hwdb_spec.specs.Runs.{AreKept, Told, WasCut, World}
 use Rattle.hwdb_spec.specs.Store.{Contents}
 use Rattle.hwdb_spec.specs.System.{database_folder}
@@ -22,6 +23,7 @@ use Rattle.hwdb_tool.specs.NearMisses.{IsNearRefused}
 use Rattle.hwdb_tool.specs.NamedDatabases.{IsDumpRefused, IsVerifyRefused}
 use Rattle.hwdb_tool.specs.Queries.{AreUnanswered, IsInputUnread}
 use Rattle.hwdb_tool.specs.Program.{IsAnswerOf, IsJobDone, IsTold, IsUpdate, looks_below_root, reads_input, root_of}
+use Rattle.hwdb_tool.specs.Reasons.{HasFilesReason, HasGivenReason}
 use Rattle.hwdb_fs.specs.Refusals.{HasReason, IsAt, IsUnentered, IsUnreadable, Refused, refusal_line, refusal_text}
 use Rattle.hwdb_fs.specs.declared.refusals.Refusal.TheVariants.{Plain}
 use Rattle.hwdb_fs.specs.declared.refusals.Refusal.{Refusal}
@@ -60,22 +62,25 @@ IsTaskRefused (Update verbose skip) root usr strict refusal before now =
     IsTellingUpdateRefused root usr verbose skip refusal before.files now.files before.err now.err × (now.out ≡ before.out)
 IsTaskRefused task root usr strict refusal before now = IsPrintingRefused task root strict refusal before now × AreKept before.files now.files
 
--- a path that the task asks for can't be read: reading it may fail, or it is one that the words name, and nothing stands there
+-- a database that the task asks for can't be read: reading it may fail, or it is one that the words name, and nothing is there
 abbrev pub IsUnreadableFor : Task → (MayFail : (path : List ℕ) → Type 0) → Contents → (path : List ℕ) → Type 0
-IsUnreadableFor (Ask file device) = IsUnreadable
-IsUnreadableFor (Check files allowed json) = IsUnreadableIf (not (length files.items == 0))
-IsUnreadableFor (Near files device limit json) = IsUnreadableIf (not (length files.items == 0))
 IsUnreadableFor (Diff old_path new_path) = IsUnreadable
 IsUnreadableFor (Verify database) = IsUnreadableIf (is_some (option_map string_bytes database))
 IsUnreadableFor (Dump database) = IsUnreadableIf (is_some (option_map string_bytes database))
 IsUnreadableFor _ = IsUnreadableIf false
 
--- what the refusal of a task says of a path, or of standard input, is so
+-- What the error of a task says of a path, or of standard input, is so. If the words name text files, `-` is standard input.
 abbrev pub IsTaskReason : Task → (root : List ℕ) (usr : Bool) (before now : World) → Refusal → Type 0
+IsTaskReason (Ask file device) root usr before now refusal =
+    HasGivenReason (is_dash (string_bytes file)) before.files.fails before.files.seen before.input.bytes before.input.failures now.input.failures refusal
+IsTaskReason (Check files allowed json) root usr before now refusal =
+    HasFilesReason (not (length files.items == 0)) (map string_bytes files.items) before.files.fails before.files.seen before.input.bytes before.input.failures now.input.failures refusal
+IsTaskReason (Near files device limit json) root usr before now refusal =
+    HasFilesReason (not (length files.items == 0)) (map string_bytes files.items) before.files.fails before.files.seen before.input.bytes before.input.failures now.input.failures refusal
 IsTaskReason task root usr before now refusal =
     HasReason (IsUnreadableFor task before.files.fails before.files.seen)
     (IsUnwritable (database_folder usr root) before.files.seen before.files.failures now.files.failures) before.files.seen refusal
-    ⊎ ((reads_input task ≡ true) × IsInputUnread before.input.failures now.input.failures refusal)
+    ⊎ ((reads_input task ≡ true) × IsInputUnread before.input.bytes before.input.failures now.input.failures refusal)
 
 -- a task is refused, and for its reason
 abbrev pub IsNotDone : Task → (root : List ℕ) (usr strict : Bool) (before now : World) → Refusal → Type 0

@@ -7,8 +7,9 @@ ghost use Rattle.hwdb_spec.specs.Given.{is_dash};
 ghost use Rattle.hwdb_spec.specs.Outputs.{TookOne};
 ghost use Rattle.hwdb_spec.specs.Runs.{OnOut, told_by};
 ghost use Rattle.hwdb_print.specs.Streams.{texts_of};
-ghost use Rattle.hwdb_fs.specs.Refusals.{HasReason, IsUnreadable};
+ghost use Rattle.hwdb_fs.specs.Refusals.{HasReason};
 ghost use Rattle.hwdb_tool.specs.Queries.{AreDone, AreUnanswered, IsInputUnread};
+ghost use Rattle.hwdb_tool.specs.Reasons.{HasGivenReason};
 ghost use Rattle.hwdb_tool.specs.Undone.{IsAskRefused, IsListRefused, IsUnanswered};
 ghost use Rattle.hwdb_tool.specs.Views.{texts_in};
 
@@ -48,7 +49,7 @@ pub fn explain<D: System, I: Source, O: Sink, E: Sink>(
     ensures reason { IfErr result (λ r.
         HasReason (D.System.may_fail system.now) ⊥ (D.Store.seen system.now) r
         ⊎ ((is_dash device.now ≡ true)
-        × IsInputUnread (I.failures input.old) (I.failures input.new) r)) }
+        × IsInputUnread (I.left input.old) (I.failures input.old) (I.failures input.new) r)) }
 {
     if is_dash(device) {
         return answer_input(alloc, root, Form::Explain { json }, system, input, out);
@@ -124,10 +125,9 @@ pub fn ask_file<D: System, I: Source>(
     ensures refused { D.Store.tells → IfErr result
         (IsAskRefused file.now (I.left input.old) (D.Store.seen system.now)) }
     ensures unread { is_dash file.now ≡ false → input.new ≡ input.old }
-    ensures reason { IfErr result (λ r. HasReason
-        (IsUnreadable (D.System.may_fail system.now) (D.Store.seen system.now)) ⊥
-        (D.Store.seen system.now) r ⊎ ((is_dash file.now ≡ true)
-        × IsInputUnread (I.failures input.old) (I.failures input.new) r)) }
+    ensures reason { IfErr result (HasGivenReason (is_dash file.now)
+        (D.System.may_fail system.now) (D.Store.seen system.now)
+        (I.left input.old) (I.failures input.old) (I.failures input.new)) }
 {
     let bytes = read(alloc, file, system, input)?;
     let texts = ask_texts(alloc, file, &bytes, device)?;

@@ -1,15 +1,15 @@
 //! `check`: text files that are read and looked over. Nothing is written.
-ghost use Rattle.std.specs.Prelude.{◌≡◌, ◌⊎◌, ◌==◌, true, false, not, map, string_bytes, IfOk, IfErr, length};
+ghost use Rattle.std.specs.Prelude.{◌≡◌, ◌==◌, true, false, not, map, string_bytes, IfOk, IfErr, length};
 ghost use Rattle.hwdb_lint.specs.Checks.{source_of};
 ghost use Rattle.hwdb_spec.specs.Runs.{OnOut};
 ghost use Rattle.hwdb_spec.specs.Folders.{path_of};
 ghost use Rattle.hwdb_text.specs.Views.{choice_of};
-ghost use Rattle.hwdb_fs.specs.Refusals.{HasReason, IsUnreadable};
+ghost use Rattle.hwdb_fs.specs.Refusals.{HasReason};
 ghost use Rattle.hwdb_spec.specs.CheckedFiles.{AreCheckedFiles, AreChosenFiles, AreGivenFiles, IsChecked};
 ghost use Rattle.hwdb_tool.specs.Internal.{AreTextsGiven};
-ghost use Rattle.hwdb_tool.specs.Queries.{IsInputUnread};
+ghost use Rattle.hwdb_tool.specs.Reasons.{HasFilesReason, IsFileReason};
 ghost use Rattle.hwdb_spec.specs.Given.{any_dash};
-ghost use Rattle.hwdb_tool.specs.Undone.{AreNotChecked, AreUncheckable, IsCheckRefused, IsGivenUnread, IsUnreadableIf};
+ghost use Rattle.hwdb_tool.specs.Undone.{AreNotChecked, AreUncheckable, IsCheckRefused, IsGivenUnread};
 ghost use Rattle.hwdb_fs.specs.Reading.{AreUnread};
 ghost use Rattle.hwdb_tool.specs.Views.{texts_in};
 
@@ -43,11 +43,9 @@ pub fn check<D: System, I: Source>(
         (AreCheckedFiles (map string_bytes given.now) root.now (I.left input.old)
         (D.Store.seen system.now))) }
     ensures unread { any_dash (map string_bytes given.now) ≡ false → input.new ≡ input.old }
-    ensures reason { D.Store.tells → IfErr result (λ r. HasReason
-        (IsUnreadableIf (not (length given.now == 0))
-        (D.System.may_fail system.now) (D.Store.seen system.now)) ⊥ (D.Store.seen system.now) r
-        ⊎ ((any_dash (map string_bytes given.now) ≡ true)
-        × IsInputUnread (I.failures input.old) (I.failures input.new) r)) }
+    ensures reason { D.Store.tells → IfErr result (HasFilesReason (not (length given.now == 0))
+        (map string_bytes given.now) (D.System.may_fail system.now) (D.Store.seen system.now)
+        (I.left input.old) (I.failures input.old) (I.failures input.new)) }
 {
     if given.is_empty() {
         check_chosen(alloc, root, json, allowed, strict, system)
@@ -74,10 +72,9 @@ fn check_given<D: System, I: Source>(
         (AreGivenFiles (map string_bytes given.now) (I.left input.old)
         (D.Store.seen system.now))) }
     ensures unread { any_dash (map string_bytes given.now) ≡ false → input.new ≡ input.old }
-    ensures reason { IfErr result (λ r. HasReason
-        (IsUnreadable (D.System.may_fail system.now) (D.Store.seen system.now)) ⊥
-        (D.Store.seen system.now) r ⊎ ((any_dash (map string_bytes given.now) ≡ true)
-        × IsInputUnread (I.failures input.old) (I.failures input.new) r)) }
+    ensures reason { D.Store.tells → IfErr result (HasFilesReason true
+        (map string_bytes given.now) (D.System.may_fail system.now) (D.Store.seen system.now)
+        (I.left input.old) (I.failures input.old) (I.failures input.new)) }
 {
     let text = input_text(alloc, given, input)?;
     let texts = read_given(alloc, given, &text, system)?;
@@ -142,9 +139,8 @@ pub fn read_given<D: System>(
         (D.Store.seen system.now) (map string_bytes given.now)
         (map (λ t. t.items) texts.items)) }
     ensures refused { IfErr result (IsGivenUnread (map string_bytes given.now)) }
-    ensures reason { IfErr result (HasReason
-        (IsUnreadable (D.System.may_fail system.now) (D.Store.seen system.now)) ⊥
-        (D.Store.seen system.now)) }
+    ensures reason { D.Store.tells → IfErr result (IsFileReason (map string_bytes given.now)
+        (D.System.may_fail system.now) (D.Store.seen system.now)) }
 {
     let mut texts = Vec::new(alloc);
     for path in given {

@@ -1,9 +1,10 @@
 //! The files that words name: `-` is standard input, which is read once.
-ghost use Rattle.std.specs.Prelude.{◌≡◌, ◌≤◌, ◌⊎◌, Some, true, false, codes, map, string_bytes, length, IfOk, IfErr, IfSome};
+ghost use Rattle.std.specs.Prelude.{[], ◌∷◌, ◌≡◌, ◌≤◌, ◌⊎◌, Some, true, false, codes, map, string_bytes, length, IfOk, IfErr, IfSome};
 ghost use Rattle.hwdb_spec.specs.Given.{IsGiven, is_dash, any_dash};
 ghost use Rattle.hwdb_fs.specs.Refusals.{HasReason, IsUnread, IsUnreadable};
 ghost use Rattle.hwdb_tool.specs.Internal.{bytes_given};
-ghost use Rattle.hwdb_tool.specs.Queries.{IsInputUnread, IsOfWholeInput};
+ghost use Rattle.hwdb_tool.specs.Queries.{IsOfWholeInput, IsWholeInputUnread};
+ghost use Rattle.hwdb_tool.specs.Reasons.{HasGivenReason, IsOfFiles};
 ghost use Rattle.hwdb_spec.specs.Texts.{max_file};
 ghost use Rattle.hwdb_tool.specs.Undone.{IsGivenUnread, IsUnreadGiven, told_path};
 ghost use Rattle.hwdb_fs.specs.declared.refusals.Refusal.TheVariants.{Plain};
@@ -50,7 +51,7 @@ fn read_input<I: Source>(alloc: Global, input: &mut I) -> Result<Vec<u8>, Refusa
     ensures within { IfOk result (λ text. length text.items ≤ max_file) }
     ensures refused { IfErr result (IsUnread (codes "standard input")) }
     ensures reason { IfErr result (λ r. (r ≡ Plain ToolError.Memory)
-        ⊎ IsInputUnread (I.failures input.old) (I.failures input.new) r) }
+        ⊎ IsWholeInputUnread (I.left input.old) (I.failures input.old) (I.failures input.new) r) }
 {
     match read_all(alloc, input, MAX_BYTES) {
         Ok(text) => Ok(text),
@@ -71,10 +72,9 @@ pub fn read<D: System, I: Source>(
     ensures refused { D.Store.tells → IfErr result
         (IsUnreadGiven (is_dash path.now) path.now (D.Store.seen system.now)) }
     ensures untouched { is_dash path.now ≡ false → input.new ≡ input.old }
-    ensures reason { IfErr result (λ r. HasReason
-        (IsUnreadable (D.System.may_fail system.now) (D.Store.seen system.now)) ⊥
-        (D.Store.seen system.now) r ⊎ ((is_dash path.now ≡ true)
-        × IsInputUnread (I.failures input.old) (I.failures input.new) r)) }
+    ensures reason { IfErr result (HasGivenReason (is_dash path.now)
+        (D.System.may_fail system.now) (D.Store.seen system.now)
+        (I.left input.old) (I.failures input.old) (I.failures input.new)) }
 {
     if is_dash(path) {
         read_input(alloc, input)
@@ -95,7 +95,7 @@ pub fn input_text<I: Source>(
     ensures untouched { any_dash (map string_bytes given.now) ≡ false → input.new ≡ input.old }
     ensures reason { IfErr result (λ r. (r ≡ Plain ToolError.Memory)
         ⊎ ((any_dash (map string_bytes given.now) ≡ true)
-        × IsInputUnread (I.failures input.old) (I.failures input.new) r)) }
+        × IsWholeInputUnread (I.left input.old) (I.failures input.old) (I.failures input.new) r)) }
 {
     if any_dash(given) {
         read_input(alloc, input)
@@ -114,6 +114,8 @@ pub fn bytes_given<D: System>(
     ensures read { D.Store.tells → IfOk result (λ bytes.
         bytes_given text.now (D.Store.seen system.now) path.now ≡ Some bytes.items) }
     ensures refused { IfErr result (IsUnread (told_path path.now)) }
+    ensures file { D.Store.tells → IfErr result
+        (IsOfFiles (path.now ∷ []) (D.Store.seen system.now)) }
     ensures reason { IfErr result (HasReason
         (IsUnreadable (D.System.may_fail system.now) (D.Store.seen system.now)) ⊥
         (D.Store.seen system.now)) }

@@ -33,7 +33,7 @@ pub fn answer_input<D: System, I: Source, O: Sink>(
         (told_by O.taken O.failures out.old) (told_by O.taken O.failures out.new)) }
     ensures reason { IfErr result (λ r.
         HasReason (D.System.may_fail system.now) ⊥ (D.Store.seen system.now) r
-        ⊎ IsInputUnread (I.failures input.old) (I.failures input.new) r) }
+        ⊎ IsInputUnread (I.left input.old) (I.failures input.old) (I.failures input.new) r) }
 {
     let found = asked(alloc, root, system)?;
     match run_stream(alloc, &found.bytes, form, input, out) {

@@ -20,7 +20,7 @@
 //! | `given` | files that words name, or standard input |
 //! | `laws` | what an update and a query after it say together |
 //! | `one_outcome` | two runs over one input end alike |
-//! | `one_refusal` | so they do with an error |
+//! | `one_refusal` | so they do with an error, and what it says of standard input is so |
 //! | `crash` | what a crash, a start and a query make of a run |
 //! | `failures` | what failed calls and faulty words leave undone |
 //!
@@ -74,7 +74,7 @@ pub use hwdb_spec::TextKind;
 pub use laws::update_then_query;
 pub use near_misses::near;
 pub use one_outcome::{answers_are_one, jobs_are_one, listings_give_one_reading, tasks_are_one};
-pub use one_refusal::{errors_are_one, words_end_in_one};
+pub use one_refusal::{errors_are_one, input_errors_are_so, words_end_in_one};
 pub use outlet::Outlet;
 pub use queries::query;
 pub use verification::verify;

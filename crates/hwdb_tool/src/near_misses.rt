@@ -1,6 +1,6 @@
 //! `near`: the patterns that almost matched a device, of text files or of the database below the root. Nothing is written.
-ghost use Rattle.std.specs.Prelude.{◌≡◌, ◌⊎◌, ◌==◌, true, false, not, length, map, string_bytes, IfErr, IfOk, List};
-ghost use Rattle.hwdb_fs.specs.Refusals.{HasReason, IsUnreadable};
+ghost use Rattle.std.specs.Prelude.{◌≡◌, ◌==◌, true, false, not, length, map, string_bytes, IfErr, IfOk, List};
+ghost use Rattle.hwdb_fs.specs.Refusals.{HasReason};
 ghost use Rattle.hwdb_lint.specs.Checks;
 ghost use Rattle.hwdb_near.specs.Views;
 ghost use Rattle.hwdb_spec.specs.Asked.{IsAnswered};
@@ -11,8 +11,8 @@ ghost use Rattle.hwdb_spec.specs.Given.{any_dash};
 ghost use Rattle.hwdb_spec.specs.NearAsked.{IsNear, database_patterns, near_form, near_limit, patterns_from};
 ghost use Rattle.hwdb_spec.specs.Runs.{OnOut};
 ghost use Rattle.hwdb_tool.specs.NearMisses.{IsNearRefused, error_of};
-ghost use Rattle.hwdb_tool.specs.Queries.{IsInputUnread};
-ghost use Rattle.hwdb_tool.specs.Undone.{IsGivenUnread, IsUnanswered, IsUnreadableIf};
+ghost use Rattle.hwdb_tool.specs.Reasons.{HasFilesReason};
+ghost use Rattle.hwdb_tool.specs.Undone.{IsGivenUnread, IsUnanswered};
 ghost use Rattle.hwdb_tool.specs.Views.{texts_in};
 
 use crate::answer::Answer;
@@ -47,11 +47,9 @@ pub fn near<D: System, I: Source>(
     ensures refused { D.Store.tells → IfErr result (IsNearRefused
         (map string_bytes given.now) root.now (D.Store.seen system.now)) }
     ensures unread { any_dash (map string_bytes given.now) ≡ false → input.new ≡ input.old }
-    ensures reason { IfErr result (λ r. HasReason
-        (IsUnreadableIf (not (length given.now == 0))
-        (D.System.may_fail system.now) (D.Store.seen system.now)) ⊥ (D.Store.seen system.now) r
-        ⊎ ((any_dash (map string_bytes given.now) ≡ true)
-        × IsInputUnread (I.failures input.old) (I.failures input.new) r)) }
+    ensures reason { D.Store.tells → IfErr result (HasFilesReason (not (length given.now == 0))
+        (map string_bytes given.now) (D.System.may_fail system.now) (D.Store.seen system.now)
+        (I.left input.old) (I.failures input.old) (I.failures input.new)) }
 {
     let count = count_of(limit);
     if given.is_empty() {
@@ -126,10 +124,9 @@ fn near_given<D: System, I: Source>(
         × (text ≡ near_form json device.now limit (patterns_from 1 sources))) (texts_in a)) }
     ensures refused { IfErr result (IsGivenUnread (map string_bytes given.now)) }
     ensures unread { any_dash (map string_bytes given.now) ≡ false → input.new ≡ input.old }
-    ensures reason { IfErr result (λ r. HasReason
-        (IsUnreadable (D.System.may_fail system.now) (D.Store.seen system.now)) ⊥
-        (D.Store.seen system.now) r ⊎ ((any_dash (map string_bytes given.now) ≡ true)
-        × IsInputUnread (I.failures input.old) (I.failures input.new) r)) }
+    ensures reason { D.Store.tells → IfErr result (HasFilesReason true
+        (map string_bytes given.now) (D.System.may_fail system.now) (D.Store.seen system.now)
+        (I.left input.old) (I.failures input.old) (I.failures input.new)) }
 {
     let text = input_text(alloc, given, input)?;
     let texts = read_given(alloc, given, &text, system)?;

@@ -1,6 +1,6 @@
 //! Laws over the definitions alone: what errors two runs over one input end with. Each function does nothing: its contract is
 //! the law.
-ghost use Rattle.hwdb_tool.specs.OneRefusal.{DoneIsNoError, DoneJobIsNoError, ErrorsAreOne, JobEndsInOneError, JobIsNotTold, RootIsEntered};
+ghost use Rattle.hwdb_tool.specs.OneRefusal.{DoneIsNoError, DoneJobIsNoError, ErrorsAreOne, InputIsLong, InputIsRead, JobEndsInOneError, JobIsNotTold, RootIsEntered};
 
 use hwdb_fs::System;
 use hwdb_reader::{law_header_faults, law_one_tree};
@@ -45,3 +45,11 @@ pub fn words_end_in_one<D: System>(first: &D, first_then: &D, second: &D, second
     law_header_faults();
     law_one_written_form();
 }
+
+/// What an error says of standard input is so: a call of it failed, or it has more bytes than a file may have.
+pub fn input_errors_are_so<D: System>(before: &D, then: &D)
+    ensures read { InputIsRead (D.may_fail before.now) (D.may_fail then.now)
+        (D.Store.may_leave before.now) (D.Store.may_leave then.now) }
+    ensures long { InputIsLong (D.may_fail before.now) (D.may_fail then.now)
+        (D.Store.may_leave before.now) (D.Store.may_leave then.now) }
+{}

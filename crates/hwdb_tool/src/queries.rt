@@ -44,7 +44,7 @@ pub fn query<D: System, I: Source, O: Sink, E: Sink>(
     ensures reason { IfErr result (λ r.
         HasReason (D.System.may_fail system.now) ⊥ (D.Store.seen system.now) r
         ⊎ ((is_input (map string_bytes devices.now) ≡ true)
-        × IsInputUnread (I.failures input.old) (I.failures input.new) r)) }
+        × IsInputUnread (I.left input.old) (I.failures input.old) (I.failures input.new) r)) }
 {
     if is_input(devices) {
         return answer_input(alloc, root, Form::Query { json }, system, input, out);

@@ -3,12 +3,14 @@ use Rattle.hwdb_cli.specs.declared.job.WordsFault.TheVariants as words_fault
 use Rattle.hwdb_spec.specs.Runs.{AreKept, World, files_by, told_by}
 use Rattle.hwdb_spec.specs.Store.{LeavesOnly}
 use Rattle.hwdb_print.specs.declared.errors.ToolError.TheVariants.{Memory, Write}
+use Rattle.hwdb_fs.specs.Refusals.{Refused}
 use Rattle.hwdb_fs.specs.declared.refusals.Refusal.TheVariants.{Plain}
 use Rattle.hwdb_fs.specs.declared.refusals.Refusal.{Refusal}
 use Rattle.hwdb_tool.specs.Program.{OldOrAskedFor, OldOrDone, root_of}
 use Rattle.hwdb_tool.specs.TaskRefusals.{IsJobNotDone, IsTaskRefused}
 use Rattle.hwdb_tool.proofs.MomentLemmas.{leaves_more, leaves_old}
 use Rattle.hwdb_tool.proofs.CutLemmas.{cut_keeps}
+use Rattle.hwdb_tool.proofs.UsageLemmas.{usage_line}
 use Rattle.hwdb_tool.proofs.dispatch.program.Goals as goal
 
 pub returns-in-Ok-enter_root-clause-refused : goal.returns-in-Ok-enter_root-clause-refused
@@ -107,3 +109,17 @@ returns-in-Ok-clause-any_moment g c = λ tells.
     let outcomes = OldOrAskedFor (g.D.System.may_fail before) (map string_bytes c.args.words.now) (g.D.Store.seen before) (g.D.Store.may_leave before) in
     subst (λ (s : g.row.D.Denot). LeavesOnly g.D.Store.moment g.D.Store.left_since before s outcomes) (sym (c.enter_root.ensures.same tells))
     (leaves_old g.D.Store.moment g.D.Store.left_since before outcomes (λ p v l. inl (g.met.D.Store.only_now before p v l)))
+
+pub returns-in-Err-Usage-clause-refused : goal.returns-in-Err-Usage-clause-refused
+returns-in-Err-Usage-clause-refused g c = λ tells is.
+    let before = told_by g.E.Sink.taken g.E.Sink.failures c.args.err.now in
+    let now = told_by g.E.Sink.taken g.E.Sink.failures c.write_text-in-Err-Usage.new.sink in
+    let line = usage_line c.as_bytes-in-Err-Usage.result.now c.write_text-in-Err-Usage.result before.bytes now.bytes before.failures now.failures
+    c.write_text-in-Err-Usage.ensures.took c.write_text-in-Err-Usage.ensures.cut_short in
+    inr (inr (inl record {
+      fault = words_fault.Usage c.in-Err-Usage.text;
+      of = rw c.in-Err-Usage.field-0-is at c.in-Err-Usage.ensures.told;
+      told = (subst (λ t. Refused t before.bytes now.bytes before.failures now.failures) c.as_bytes-in-Err-Usage.ensures.value line, refl);
+      kept = record { same = λ p. refl; no_more = λ p v l. l };
+      says = refl;
+    }))

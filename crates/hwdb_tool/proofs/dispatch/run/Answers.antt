@@ -1,23 +1,23 @@
-use Rattle.std.proofs.Common.{◌≡◌, ◌⊎◌, ap, inl, inr, ⊎_elim, refl, string_bytes, subst, sym, ◌==◌, length, map, not, true, IfOk, IfErr}
+use Rattle.std.proofs.Common.{◌≡◌, ◌⊎◌, ap, inl, inr, ⊎_elim, refl, string_bytes, subst, sym, ◌==◌, length, map, not, IfOk, IfErr}
 use Rattle.std.specs.Prelude.{option_map}
 use Rattle.hwdb_cli.specs.declared.job.Task.TheVariants.{Ask, Check, Diff, Near, Update}
 use Rattle.hwdb_spec.specs.Asked.{IsAnswered, IsCompared, IsListFrom}
 use Rattle.hwdb_spec.specs.CheckedFiles.{AreCheckedFiles, IsChecked}
 use Rattle.hwdb_spec.specs.Done.{IsAsked, IsLeftByUpdateLess, OldOrUpdatedLess}
-use Rattle.hwdb_spec.specs.Given.{any_dash, is_dash}
+use Rattle.hwdb_spec.specs.Given.{is_dash}
 use Rattle.hwdb_spec.specs.Outputs.{TookOne}
 use Rattle.hwdb_spec.specs.Runs.{OnOut, World, files_by, told_by}
 use Rattle.hwdb_spec.specs.NearAsked.{IsNear, near_form, near_limit}
 use Rattle.hwdb_tool.specs.ComparedDatabases.{IsDiffRefused}
 use Rattle.hwdb_tool.specs.NearMisses.{IsNearRefused}
 use Rattle.hwdb_tool.specs.Program.{IsAnswerOf, IsTaskDone, OldOrDone, root_of, skips}
-use Rattle.hwdb_tool.specs.Queries.{IsInputUnread}
-use Rattle.hwdb_fs.specs.Refusals.{HasReason, IsUnreadable}
-use Rattle.hwdb_tool.specs.Undone.{AreUncheckable, IsAskRefused, IsCheckRefused, IsUnreadableIf}
+use Rattle.hwdb_tool.specs.Reasons.{HasFilesReason, HasGivenReason}
+use Rattle.hwdb_tool.specs.Undone.{AreUncheckable, IsAskRefused, IsCheckRefused}
 use Rattle.hwdb_tool.specs.TaskRefusals.{IsNotDone, IsTaskReason, Refuses}
 use Rattle.hwdb_tool.specs.Views.{texts_in}
 use Rattle.hwdb_tool.proofs.MomentLemmas.{leaves_more}
 use Rattle.hwdb_tool.proofs.ErrorLemmas.{both_errors, both_values, each_error, each_value}
+use Rattle.hwdb_tool.proofs.GivenLemmas.{write_reason}
 use Rattle.hwdb_tool.proofs.PrintingLemmas.{any_reason, listed_done, printed_refused}
 use Rattle.hwdb_tool.proofs.dispatch.run.Goals as goal
 
@@ -118,11 +118,9 @@ returns-in-Check-clause-refused g c = λ tells.
     (subst (λ l. IfOk answer (λ a. OnOut (λ text. IsChecked (AreCheckedFiles (map string_bytes l) root input seen) c.in-Check.json job.strict allowed text a.status) (texts_in a))) items
     (subst (λ l. IfOk answer (λ a. OnOut (λ text. IsChecked (AreCheckedFiles (map string_bytes c.deref-in-Check.result.now) root input seen) c.in-Check.json job.strict (map string_bytes l) text a.status) (texts_in a))) left_out
     (c.check-answer.ensures.checked tells))))
-    (each_error _ (IsTaskReason task (root_of job) job.usr before now) answer
-    (λ r has. ⊎_elim (λ file. inl (any_reason _ _ seen r file)) (λ dash. inr dash) has)
-    (subst (λ l. IfErr answer (λ r. HasReason (IsUnreadableIf (not (length l == 0)) fails seen) ⊥ seen r ⊎ ((any_dash (map string_bytes l) ≡ true) × IsInputUnread before.input.failures now.input.failures r))) items
-    (c.check-answer.ensures.reason tells)))
-    (inl tt) c.printed-in-Check.ensures.refused))
+    (subst (λ l. IfErr answer (HasFilesReason (not (length l == 0)) (map string_bytes l) fails seen input before.input.failures now.input.failures)) items
+    (c.check-answer.ensures.reason tells))
+    (write_reason given fails seen input before.input.failures now.input.failures (not (length given == 0))) c.printed-in-Check.ensures.refused))
 
 pub returns-in-Diff-clause-refused : goal.returns-in-Diff-clause-refused
 returns-in-Diff-clause-refused g c = λ tells.
@@ -176,10 +174,8 @@ returns-in-Ask-clause-refused g c = λ tells.
     (λ a zero asked. (zero, asked)) c.ask_file-answer.ensures.status
     (subst (λ d. IfOk answer (λ a. IsAsked file d input seen (texts_in a))) of_device
     (subst (λ f. IfOk answer (λ a. IsAsked f device input seen (texts_in a))) of_file (c.ask_file-answer.ensures.asked tells))))
-    (each_error _ (IsTaskReason task (root_of job) job.usr before now) answer
-    (λ r has. ⊎_elim (λ of. inl (any_reason _ _ seen r of)) (λ dash. inr dash) has)
-    (subst (λ f. IfErr answer (λ r. HasReason (IsUnreadable fails seen) ⊥ seen r ⊎ ((is_dash f ≡ true) × IsInputUnread before.input.failures now.input.failures r))) of_file c.ask_file-answer.ensures.reason))
-    (inl tt) c.printed.ensures.refused))
+    (subst (λ f. IfErr answer (HasGivenReason (is_dash f) fails seen input before.input.failures now.input.failures)) of_file c.ask_file-answer.ensures.reason)
+    tt c.printed.ensures.refused))
 
 pub returns-in-Near-clause-refused : goal.returns-in-Near-clause-refused
 returns-in-Near-clause-refused g c = λ tells.
@@ -213,8 +209,6 @@ returns-in-Near-clause-refused g c = λ tells.
     (subst (λ r. IfOk answer (λ a. OnOut (IsNear (map string_bytes given) r (near_form json (string_bytes c.in-Near.device) (near_limit limit)) input seen) (texts_in a))) c.root_of-root.ensures
     (subst (λ d. IfOk answer (λ a. OnOut (IsNear (map string_bytes given) root (near_form json d (near_limit limit)) input seen) (texts_in a))) of_device
     (subst (λ l. IfOk answer (λ a. OnOut (IsNear (map string_bytes l) root (near_form json device (near_limit limit)) input seen) (texts_in a))) items (c.near-answer.ensures.near tells)))))
-    (each_error _ (IsTaskReason task (root_of job) job.usr before now) answer
-    (λ r has. ⊎_elim (λ file. inl (any_reason _ _ seen r file)) (λ dash. inr dash) has)
-    (subst (λ l. IfErr answer (λ r. HasReason (IsUnreadableIf (not (length l == 0)) fails seen) ⊥ seen r ⊎ ((any_dash (map string_bytes l) ≡ true) × IsInputUnread before.input.failures now.input.failures r))) items
-    c.near-answer.ensures.reason))
-    (inl tt) c.printed-in-Near.ensures.refused))
+    (subst (λ l. IfErr answer (HasFilesReason (not (length l == 0)) (map string_bytes l) fails seen input before.input.failures now.input.failures)) items
+    (c.near-answer.ensures.reason tells))
+    (write_reason given fails seen input before.input.failures now.input.failures (not (length given == 0))) c.printed-in-Near.ensures.refused))
