@@ -1,0 +1,8 @@
+-- What an iterator over lines has still to give.
+use Rattle.std.specs.Prelude.{List, ℕ}
+use Rattle.hwdb_spec.specs.Lines.{is, pieces}
+use Rattle.hwdb_text.specs.declared.pieces.Lines.{Lines}
+
+-- the lines that are left
+abbrev pub lines_left : Lines → List (List ℕ)
+lines_left l = pieces (is 10) l.rest.now

@@ -1,0 +1,61 @@
+//! A text, cut at a byte: its pieces, and its lines.
+ghost use Rattle.std.specs.Iterator.{YieldsFirstRef, item_count};
+ghost use Rattle.std.specs.Prelude.{◌≡◌, ◌<◌, ◌∷◌, [], IfSome, MatchOption, length};
+ghost use Rattle.hwdb_spec.specs.Lines.{is, pieces};
+ghost use Rattle.hwdb_text.specs.LinesLeft.{lines_left};
+
+use crate::line::end_of;
+
+/// What comes before the first such byte of a text, and what comes after it; None at the end.
+#[inline(always)]
+pub fn first_piece(cut: u8, text: &[u8]) -> Option<(&[u8], &[u8])>
+    ensures piece { MatchOption result (text.now ≡ [])
+        (λ parts. pieces (is cut) text.now ≡ parts.0.now ∷ pieces (is cut) parts.1.now) }
+    ensures shorter { IfSome result (λ parts. length parts.1.now < length text.now) }
+{
+    if text.is_empty() {
+        return None;
+    }
+    let end = end_of(cut, text);
+    if end < text.len() {
+        Some((&text[..end], &text[end + 1..]))
+    } else {
+        Some((text, b""))
+    }
+}
+
+/// The lines of a text, one after another, without their newlines. The last one may have none. It takes no memory, and
+/// each byte is searched once.
+#[derive(Clone, Copy)]
+pub struct Lines<'b> {
+    rest: &'b [u8],
+}
+
+impl<'b> Lines<'b> {
+    /// All lines of a text.
+    pub fn new(text: &'b [u8]) -> Lines<'b>
+        ensures { lines_left result ≡ pieces (is 10) text.now }
+    {
+        Lines { rest: text }
+    }
+}
+
+impl<'b> Iterator for Lines<'b> {
+    type Item = &'b [u8];
+
+    ghost next_gives = { YieldsFirstRef lines_left };
+
+    ghost remaining = { item_count lines_left };
+
+    #[inline(always)]
+    #[tactic(auto, unfolding(hwdb_spec::specs::Lines::pieces))]
+    fn next(&mut self) -> Option<&'b [u8]> {
+        match first_piece(b'\n', self.rest) {
+            Some((line, rest)) => {
+                self.rest = rest;
+                Some(line)
+            }
+            None => None,
+        }
+    }
+}
