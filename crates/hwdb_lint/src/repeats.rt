@@ -58,6 +58,7 @@ impl<'b> Run<'b> {
 
 /// The numbers of the match lines of a file that their record has already, ascending. It takes a look among the match
 /// lines of a record for each of these, and else a pass over the bytes.
+#[tactic(auto, unfolding(hwdb_spec::specs::Lines::numbered))]
 fn repeated_numbers(alloc: Global, bytes: &[u8]) -> Result<Vec<u64>, AllocError>
     ensures { IfOk result (λ numbers. numbers.items ≡ repeated_lines bytes.now) }
 {

@@ -374,6 +374,7 @@ impl Warned {
 }
 
 /// The warnings of a file with these assignments that are told, and what is printed of them, by line.
+#[tactic(auto, unfolding(hwdb_spec::specs::Lines::numbered))]
 pub fn warnings_of(
     alloc: Global,
     telling: &Telling<'_>,

@@ -51,6 +51,7 @@ fn push_line<'a>(
 }
 
 /// Adds the match lines of a text file, by line. `place` is its place among others.
+#[tactic(auto, unfolding(hwdb_spec::specs::Lines::numbered))]
 pub fn push_patterns<'a>(
     patterns: &mut Vec<PatternAt<'a>>,
     place: usize,

@@ -1,6 +1,6 @@
 //! A text, cut at a byte: its pieces, and its lines.
 ghost use Rattle.std.specs.Iterator.{YieldsFirstRef, item_count};
-ghost use Rattle.std.specs.Prelude.{◌≡◌, ◌<◌, ◌∷◌, [], IfSome, MatchOption, length};
+ghost use Rattle.std.specs.Prelude.{◌≡◌, ◌<◌, ◌≤◌, ◌∷◌, [], IfSome, MatchOption, length};
 ghost use Rattle.hwdb_spec.specs.Lines.{is, pieces};
 ghost use Rattle.hwdb_text.specs.PiecesLeft.{lines_left, pieces_left};
 
@@ -71,7 +71,8 @@ pub struct Lines<'b> {
 impl<'b> Lines<'b> {
     /// All lines of a text.
     pub fn new(text: &'b [u8]) -> Lines<'b>
-        ensures { lines_left result ≡ pieces (is 10) text.now }
+        ensures lines { lines_left result ≡ pieces (is 10) text.now }
+        ensures few { length (lines_left result) ≤ length text.now }
     {
         Lines { rest: text }
     }

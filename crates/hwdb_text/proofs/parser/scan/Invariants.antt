@@ -9,6 +9,7 @@ abbrev pub invariant-loop-text : goal.invariant-loop-text
 invariant-loop-text l = record {
   fits : l.number ≤ 4294967295;
   count : l.number + length (lines_left l.text-iterator) ≡ length (lines l.bytes);
+  none : l.bytes ≡ [] → lines_left l.text-iterator ≡ [];
   fresh : l.bytes ≡ [] → IsFresh l.reader;
   reads : (o : Origin) → Reads o (lines l.bytes) (numbered (l.number + 1) (lines_left l.text-iterator)) l.reader;
 }
