@@ -8,7 +8,7 @@ ghost use Rattle.hwdb_lint.specs.Internal.{ArePlacesOf, IsUnpairedOf, has_compan
 
 use crate::repeats::set_of;
 use hwdb_properties::companions_of;
-use hwdb_text::{Given, end_of};
+use hwdb_text::{Given, Pieces};
 use std::alloc::{AllocError, Global};
 use std::collections::BTreeSet;
 
@@ -49,14 +49,10 @@ fn places_of<'b>(alloc: Global, all: &[Given<'b>]) -> Result<BTreeSet<Place<'b>>
 fn lacks<'b>(places: &BTreeSet<Place<'b>>, pattern: &'b [u8], keys: &'b [u8]) -> bool
     ensures { result ≡ lacks_of places.now pattern.now keys.now }
 {
-    let mut at = 0;
-    while at < keys.len() {
-        let rest = &keys[at..];
-        let end = end_of(b',', rest);
-        if !places.contains(&(pattern, &rest[..end])) {
+    for key in Pieces::new(b',', keys) {
+        if !places.contains(&(pattern, key)) {
             return true;
         }
-        at = at + end + 1;
     }
     false
 }

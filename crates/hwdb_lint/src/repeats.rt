@@ -8,7 +8,7 @@ ghost use Rattle.hwdb_spec.specs.Lines.{Line};
 ghost use Rattle.hwdb_spec.specs.Warnings.{repeated_lines};
 ghost use Rattle.hwdb_lint.specs.Internal.{found_with, line_of, IsSetOf};
 
-use hwdb_text::{Content, content_of, end_of};
+use hwdb_text::{Content, Lines, content_of};
 use std::alloc::{AllocError, Global};
 use std::collections::BTreeSet;
 
@@ -58,6 +58,7 @@ impl<'b> Run<'b> {
 
 /// The numbers of the match lines of a file that their record has already, ascending. It takes a look among the match
 /// lines of a record for each of these, and else a pass over the bytes.
+#[tactic(auto, unfolding(hwdb_spec::specs::Lines::numbered))]
 fn repeated_numbers(alloc: Global, bytes: &[u8]) -> Result<Vec<u64>, AllocError>
     ensures { IfOk result (λ numbers. numbers.items ≡ repeated_lines bytes.now) }
 {
@@ -66,13 +67,9 @@ fn repeated_numbers(alloc: Global, bytes: &[u8]) -> Result<Vec<u64>, AllocError>
         numbers: Vec::new(alloc),
     };
     let mut number = 1;
-    let mut at = 0;
-    while at < bytes.len() {
-        let rest = &bytes[at..];
-        let end = end_of(b'\n', rest);
-        run.line(number, &rest[..end])?;
+    for text in Lines::new(bytes) {
+        run.line(number, text)?;
         number += 1;
-        at = at + end + 1;
     }
     Ok(run.numbers)
 }

@@ -19,7 +19,7 @@ use hwdb_pattern::{open_place, range_place};
 use hwdb_properties::misuse_text;
 use hwdb_show::{push_mark_line, push_shown_line};
 use hwdb_spec::{Misuse, WarningKind};
-use hwdb_text::{Content, Given, content_of, end_of};
+use hwdb_text::{Content, Given, Lines, content_of, end_of};
 use itoa::Buffer;
 use std::alloc::{AllocError, Global};
 
@@ -374,6 +374,7 @@ impl Warned {
 }
 
 /// The warnings of a file with these assignments that are told, and what is printed of them, by line.
+#[tactic(auto, unfolding(hwdb_spec::specs::Lines::numbered))]
 pub fn warnings_of(
     alloc: Global,
     telling: &Telling<'_>,
@@ -394,13 +395,9 @@ pub fn warnings_of(
         found: Vec::new(alloc),
     };
     let mut number = 1;
-    let mut at = 0;
-    while at < bytes.len() {
-        let rest = &bytes[at..];
-        let end = end_of(b'\n', rest);
-        warned.put_line(alloc, telling, path, &known, number, &rest[..end])?;
+    for text in Lines::new(bytes) {
+        warned.put_line(alloc, telling, path, &known, number, text)?;
         number += 1;
-        at = at + end + 1;
     }
     Ok(warned)
 }

@@ -6,7 +6,7 @@ ghost use Rattle.hwdb_near.specs.Views.{pattern_at, source_of};
 ghost use Rattle.hwdb_near.specs.Internal.Lines.{line_of};
 
 use crate::found::PatternAt;
-use hwdb_text::{Content, LONGEST_MATCH, content_of, end_of};
+use hwdb_text::{Content, LONGEST_MATCH, Lines, content_of};
 use std::alloc::{AllocError, Global};
 
 /// A text file, whose patterns are wanted.
@@ -51,6 +51,7 @@ fn push_line<'a>(
 }
 
 /// Adds the match lines of a text file, by line. `place` is its place among others.
+#[tactic(auto, unfolding(hwdb_spec::specs::Lines::numbered))]
 pub fn push_patterns<'a>(
     patterns: &mut Vec<PatternAt<'a>>,
     place: usize,
@@ -59,15 +60,10 @@ pub fn push_patterns<'a>(
     ensures { OnOk result (map pattern_at patterns.new.items ≡ map pattern_at patterns.old.items
         ++ patterns_in file.entry.path.now place file.entry.bytes.now) }
 {
-    let bytes = file.bytes;
     let mut line = 1;
-    let mut at = 0;
-    while at < bytes.len() {
-        let rest = &bytes[at..];
-        let end = end_of(b'\n', rest);
-        push_line(patterns, file.path, place, line, &rest[..end])?;
+    for text in Lines::new(file.bytes) {
+        push_line(patterns, file.path, place, line, text)?;
         line += 1;
-        at = at + end + 1;
     }
     Ok(())
 }

@@ -5,7 +5,7 @@ ghost use Rattle.hwdb_properties.specs.Internal.{passes};
 
 use crate::cuts::{after, before, same};
 use crate::names::is_near;
-use hwdb_text::end_of;
+use hwdb_text::Lines;
 
 /// How the name of a row is like one that is given.
 #[derive(Clone, Copy)]
@@ -89,15 +89,10 @@ fn passes(row: &[u8], name: &[u8], likeness: Likeness) -> bool
 pub fn first_row<'t>(table: &'t [u8], name: &[u8], likeness: Likeness) -> &'t [u8]
     ensures { result.now ≡ Properties.first_row (passes likeness name.now) table.now }
 {
-    let mut at = 0;
-    while at < table.len() {
-        let rest = &table[at..];
-        let end = end_of(b'\n', rest);
-        let row = &rest[..end];
+    for row in Lines::new(table) {
         if passes(row, name, likeness) {
             return row;
         }
-        at = at + end + 1;
     }
     &[]
 }

@@ -9,7 +9,7 @@ use crate::cuts::{after, before, same, without};
 use crate::numbers::{is_byte, is_count, is_decimal, is_integer, is_number};
 use crate::rows::{Likeness, first_row};
 use hwdb_spec::{KEY_NAMES, Misuse, ValueForm};
-use hwdb_text::{end_of, unindented};
+use hwdb_text::{Pieces, unindented};
 
 /// Whether a text is three decimals with commas between.
 fn is_matrix_row(text: &[u8]) -> bool
@@ -49,14 +49,10 @@ fn is_zero_row(text: &[u8]) -> bool
 fn has_zero_row(text: &[u8]) -> bool
     ensures { result ≡ Properties.has_zero_row text.now }
 {
-    let mut at = 0;
-    while at < text.len() {
-        let rest = &text[at..];
-        let end = end_of(b';', rest);
-        if is_zero_row(&rest[..end]) {
+    for row in Pieces::new(b';', text) {
+        if is_zero_row(row) {
             return true;
         }
-        at = at + end + 1;
     }
     false
 }
@@ -81,14 +77,10 @@ fn is_resolution(text: &[u8]) -> bool
 fn is_resolutions(text: &[u8]) -> bool
     ensures { result ≡ Properties.is_resolutions text.now }
 {
-    let mut at = 0;
-    while at < text.len() {
-        let rest = &text[at..];
-        let end = end_of(b' ', rest);
-        if !is_resolution(&rest[..end]) {
+    for piece in Pieces::new(b' ', text) {
+        if !is_resolution(piece) {
             return false;
         }
-        at = at + end + 1;
     }
     true
 }
@@ -175,14 +167,10 @@ fn is_key_or_release(text: &[u8]) -> bool
 pub fn is_choice(form: &[u8], text: &[u8]) -> bool
     ensures { result ≡ Properties.is_choice form.now text.now }
 {
-    let mut at = 0;
-    while at < form.len() {
-        let rest = &form[at..];
-        let end = end_of(b'|', rest);
-        if same(text, &rest[..end]) {
+    for word in Pieces::new(b'|', form) {
+        if same(text, word) {
             return true;
         }
-        at = at + end + 1;
     }
     false
 }

@@ -10,7 +10,7 @@ ghost use Rattle.hwdb_rules.specs.Internal.{found_at, passes};
 
 use crate::values::{Ends, after, same, without_ends};
 use hwdb_sysfs::{Ancestor, Attribute};
-use hwdb_text::end_of;
+use hwdb_text::Lines;
 
 /// The value under a name, the first if there are several.
 fn value_of<'a>(attributes: &'a [Attribute], name: &[u8]) -> Option<&'a [u8]>
@@ -50,15 +50,10 @@ pub(crate) fn attribute_text<'a>(ancestor: &'a Ancestor, name: &[u8]) -> &'a [u8
 fn line_with<'t>(start: &[u8], text: &'t [u8]) -> Option<&'t [u8]>
     ensures { option_map (λ l. l.now) result ≡ line_with start.now text.now }
 {
-    let mut at = 0;
-    while at < text.len() {
-        let rest = &text[at..];
-        let end = end_of(b'\n', rest);
-        let line = &rest[..end];
+    for line in Lines::new(text) {
         if line.starts_with(start) {
             return Some(line);
         }
-        at = at + end + 1;
     }
     None
 }

@@ -27,7 +27,8 @@ abbrev pub AreCheckedFiles : (given : List (List ℕ)) (root : List ℕ) (input 
 AreCheckedFiles [] root input contents sources = AreChosenFiles root contents sources
 AreCheckedFiles (path ∷ more) root input contents sources = AreGivenFiles (path ∷ more) input contents sources
 
--- the text is what is said of such files, as text or JSON, but for kinds that are allowed, and the status says whether something is wrong with one
+-- The text is what is said of such files, as text or JSON, but for kinds that are allowed. The status says whether something is
+-- wrong with one.
 pub record IsChecked (Are : List Source → Type 0) (json strict : Bool) (allowed : List (List ℕ)) (text : List ℕ) (status : ℕ) : Type 0 where
   pub sources : List Source
   pub are : Are sources

@@ -13,8 +13,8 @@ pub data Event : Type 0 where
   removed : (path : List ℕ) → Event
   names_synced : Event
 
--- what stands under a path, whether that isn't on the disk, what stood there since the names were, and whether some of
--- that wasn't on the disk
+-- What is under a path, and whether that isn't on the disk. What was there since the names were on the disk, and whether some of
+-- that wasn't.
 pub record Traces : Type 0 where
   pub now : Option Stored
   pub loose : Bool

@@ -126,10 +126,11 @@ folders_with_links sight sys = class_folders sight sys ++ bus_folders sight sys
 abbrev pub named : Sight → (sys name : List ℕ) → List (List ℕ)
 named sight sys name = map (λ folder. path_in folder name) (folders_with_links sight sys)
 
--- the numbers of a node (gnu_dev_major(3), gnu_dev_minor(3)), for the 12 and 20 bits that Linux uses
+-- the major number of a node (gnu_dev_major(3)), of the 12 bits that Linux uses
 abbrev pub major : ℕ → ℕ
 major number = number / 256 % 4096
 
+-- the minor number of a node (gnu_dev_minor(3)), of 20 bits
 abbrev pub minor : ℕ → ℕ
 minor number = number % 256 + number / 1048576 % 4096 * 256
 

@@ -45,7 +45,7 @@ origin_text f = f.position.key ++ byte "=" ∷ (f.value ++ byte "\t" ∷ place_t
 abbrev pub signed_text : ℕ → Assignment → List ℕ
 signed_text sign f = sign ∷ byte "\t" ∷ (f.position.pattern ++ byte "\t" ∷ origin_text f)
 
--- The line of a change: `+` and what came, `-` and what went, or `~`, the old assignment, and behind a tab the new one,
+-- The line of a change: `+` and what came, `-` and what went, or `~`, the old assignment, and after a tab the new one,
 -- without the pattern.
 abbrev pub change_text : Change → List ℕ
 change_text (Came new) = signed_text (byte "+") new ++ byte "\n" ∷ []

@@ -14,8 +14,8 @@ use Rattle.hwdb_spec.specs.Texts.{faults_text_at, max_file, query_text, status_o
 use Rattle.hwdb_spec.specs.Tree.{map_of_files}
 use Rattle.hwdb_spec.specs.Written.{IsCompiled, IsWritten}
 
--- The files are accepted, `err` took what is said of them, with the names of /usr/lib's files where they are given, and their
--- database is in its place.
+-- The files are accepted, and their database is in its place. `err` took what is said of them, with the names of /usr/lib's
+-- files if they are given.
 pub record Updated (etc usr : List Source) (listed : Option (List (List ℕ))) (max_bytes : ℕ) (strict : Bool) (status : ℕ) (err_before err_now : Option (List ℕ)) (in_place : List ℕ → Type 0) : Type 0 where
   pub accepted : AreAccepted etc usr
   pub database : List ℕ
@@ -36,14 +36,14 @@ pub record AreAskTexts (file bytes device : List ℕ) (texts : Texts) : Type 0 w
   pub faults : texts.err ≡ faults_text_at file (faults_of_files (lone bytes) [])
   pub properties : IsTextOf (query_text device) database texts.out
 
--- a crash leaves under each path what it might have left before, or in the database's place the written form of the
--- files' map, or it is the path of a new file
+-- A crash leaves under each path what it might have left before. Besides, it may leave the written form of the files' map in the
+-- database's place, and something under the path of a new file.
 abbrev pub OldOrWritten : (etc usr : List Source) (folder : List ℕ) (old : Contents) (outcomes : Outcomes) → Outcomes
 OldOrWritten etc usr folder old outcomes p v =
     outcomes p v ⊎ (((database : List ℕ) × IsWritten (map_of_files etc usr) database × IsCompiled etc usr database × (p ≡ path_in folder database_name) × (v ≡ Some (database_file database))) ⊎ LeftAtParts folder old p v)
 
--- The text files of both folders below the root are accepted, standard error took what is said of them, and their database is
--- in its place.
+-- The text files of both folders below the root are accepted, and their database is in its place. Standard error took what is said
+-- of them.
 pub record IsUpdated (root : List ℕ) (verbose strict : Bool) (status : ℕ) (old : Contents) (err_before err_now : Option (List ℕ)) (in_place : List ℕ → Type 0) : Type 0 where
   pub of_etc : List Source
   pub of_usr : List Source

@@ -14,7 +14,7 @@ use Rattle.hwdb_spec.specs.Tree.{Tree, members_under}
 abbrev pub comment_text : Assignment → List ℕ
 comment_text f = codes "# " ++ (place_text f.path f.position.line ++ byte "\n" ∷ [])
 
--- the record of an assignment: a comment, the pattern, a space with `KEY=VALUE` behind it, and an empty line
+-- the record of an assignment: a comment, the pattern, a space with `KEY=VALUE` after it, and an empty line
 abbrev pub record_text : Assignment → List ℕ
 record_text f =
     comment_text f ++ (f.position.pattern ++ byte "\n" ∷ (byte " " ∷ (property_text (f.position.key, f.value) ++ byte "\n" ∷ [])))

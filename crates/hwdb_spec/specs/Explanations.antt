@@ -21,7 +21,7 @@ explained answers = map (λ key. (key, answers_with key answers)) (in_order text
 abbrev pub origin_line : Assignment → List ℕ
 origin_line f = codes "    " ++ (place_text f.path f.position.line ++ codes "  " ++ (f.position.pattern ++ byte "\n" ∷ []))
 
--- an answer that is overridden: behind `  overrides ` its `KEY=VALUE`, and below that where it comes from
+-- an answer that is overridden: after `  overrides ` its `KEY=VALUE`, and below that where it comes from
 abbrev pub overridden_text : Assignment → List ℕ
 overridden_text f = codes "  overrides " ++ (property_text (f.position.key, f.value) ++ origin_line f)
 

@@ -1,5 +1,5 @@
 -- When bytes are a database of a tree (the layout of systemd's hwdb-internal.h, under its names; our choice is the order
--- of the nodes: a node's record stands behind its children's texts), and what is wrong with bytes that are none (our
+-- of the nodes: a node's record is after its children's texts), and what is wrong with bytes that are none (our
 -- choice of faults). Records may be longer than their known fields.
 use Rattle.std.specs.Prelude.{List, drop, ℕ, slice_index, ◌+◌, ◌*◌, not, take_while, ◌==◌, length, ◌<◌, ◌≤◌, Option, Some, [], ◌∷◌, ◌≡◌, None, suc, zero, codes, take, ◌-◌, ◌⊎◌, ◌≢◌}
 use Rattle.std.specs.declared.cmp.Ordering.TheVariants.{Less}
@@ -32,7 +32,7 @@ child_bytes = 16
 abbrev pub value_bytes : ℕ
 value_bytes = 32
 
--- the header's numbers, in order, behind the signature and the tool's version
+-- the header's numbers, in order, after the signature and the tool's version
 pub record Header : Type 0 where
   pub file_size : ℕ
   pub header_size : ℕ
@@ -203,8 +203,8 @@ pub record HasStrings (b : List ℕ) : Type 0 where
   pub some : 0 < (header_of b).strings_len
   pub ended : slice_index b (length b - 1) ≡ 0
 
--- The bytes begin with a header: signature, record sizes of at least 80, 24, 16 and 32, lengths that add up to the file, a
--- string section that ends in byte 0 (`hwdb-internal.h`).
+-- The bytes begin with a header (`hwdb-internal.h`): signature, record sizes of at least 80, 24, 16 and 32, and lengths that add
+-- up to the file. Its string section ends in byte 0.
 pub record IsHeader (b : List ℕ) : Type 0 where
   pub long : IsLong b
   pub signed : IsSigned b

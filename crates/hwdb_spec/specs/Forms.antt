@@ -124,11 +124,11 @@ abbrev pub tail : List Bool → List Bool
 tail [] = []
 tail (b ∷ rest) = rest
 
--- The cell of one byte: `here` and `behind` are this cell and the next one in the row of the form's rest, `next` is the next one
+-- The cell of one byte: `here` and `after` are this cell and the next one in the row of the form's rest, `next` is the next one
 -- in this row.
-abbrev pub byte_cell : (star met here behind next : Bool) → Bool
-byte_cell true met here behind next = if next then true else (if met then here else false)
-byte_cell false met here behind next = if met then behind else false
+abbrev pub byte_cell : (star met here after next : Bool) → Bool
+byte_cell true met here after next = if next then true else (if met then here else false)
+byte_cell false met here after next = if met then after else false
 
 -- the row of one byte of a set, before a rest that has this row
 unfoldable pub byte_row : ByteSet → List Token → List Bool → List Bool
@@ -231,8 +231,8 @@ abbrev pub is_unknown : List Form → List ℕ → Bool
 is_unknown forms pattern =
     if nat_lt 0 (prefix_size pattern) then not (can_begin forms (take (prefix_size pattern) (tokens pattern))) else false
 
--- What is said of a pattern: it is fine if it matches a text of one of the forms. Else its prefix is unknown, or it is dead, and its
--- place is after the tokens that a text of one of the forms begins with, as many as can be.
+-- What is said of a pattern: it is fine if it matches a text of one of the forms. Else its prefix is unknown, or it is dead. A dead
+-- one's place is after as many of its tokens as a text of one of the forms can begin with.
 abbrev pub judged : List Form → List ℕ → Judgement
 judged forms pattern =
     if can_match forms (tokens pattern) then Fine

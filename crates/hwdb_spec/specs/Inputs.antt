@@ -152,6 +152,7 @@ is_moved_mouse b =
     if (if is_tablet b then true else (if is_touchpad b then true else may_be_joystick b)) then false
     else (if has_mouse_button b then (if has_motion b then true else not (has_place b)) else false)
 
+-- a mouse: by its place, or by its motion and buttons
 abbrev pub is_mouse : Bits → Bool
 is_mouse b = if is_placed_mouse b then true else is_moved_mouse b
 

@@ -10,7 +10,7 @@ use Rattle.hwdb_spec.specs.Patterns.{Matches, tokens}
 abbrev pub HaveOnePlace : Assignment → Assignment → Type 0
 HaveOnePlace a b = (a.position.pattern ≡ b.position.pattern) × (a.position.key ≡ b.position.key)
 
--- it is one of some assignments, and none that stands behind it in their list has its pattern and its key (hwdb(7))
+-- it is one of some assignments, and none that is after it in their list has its pattern and its key (hwdb(7))
 pub record IsLast (all : List Assignment) (a : Assignment) : Type 0 where
   pub before : List Assignment
   pub behind : List Assignment
@@ -22,7 +22,7 @@ abbrev pub IsBehind : Option Position → Assignment → Type 0
 IsBehind None a = Unit {0}
 IsBehind (Some after) a = position_cmp after a.position ≡ Less
 
--- the last assignment of its pattern and key, whose pattern matches the device, behind the position
+-- the last assignment of its pattern and key, whose pattern matches the device, after the position
 pub record IsAnswer (device : List ℕ) (after : Option Position) (all : List Assignment) (a : Assignment) : Type 0 where
   pub last : IsLast all a
   pub matches : Matches (tokens a.position.pattern) device
@@ -33,7 +33,7 @@ pub record AreLast (device : List ℕ) (after : Option Position) (all list : Lis
   pub ascends : IsStrictlySortedBy assignment_cmp list
   pub members : (a : Assignment) → Contains list a ↔ IsAnswer device after all a
 
--- it comes no later than another: its file has a smaller priority, or the same one and its line isn't behind
+-- it comes no later than another: its file has a smaller priority, or the same one and its line isn't after the other's
 abbrev pub IsNoLater : Assignment → Assignment → Type 0
 IsNoLater b a =
     (b.position.priority < a.position.priority)

@@ -33,11 +33,11 @@ pub record IsFault (bytes : List ℕ) (number place : ℕ) : Type 0 where
   pub numbered : number ≡ fault_number fault
   pub placed : place ≡ fault_place fault
 
--- a key and a value as C's strings: a byte 0 behind each
+-- a key and a value as C's strings: a byte 0 after each
 abbrev pub property_strings : List ℕ × List ℕ → List ℕ
 property_strings p = p.0 ++ 0 ∷ (p.1 ++ 0 ∷ [])
 
--- the strings of some properties, one behind another
+-- the strings of some properties, one after another
 abbrev pub strings_of : List (List ℕ × List ℕ) → List ℕ
 strings_of properties = flat_map property_strings properties
 

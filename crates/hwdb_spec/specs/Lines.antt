@@ -108,14 +108,14 @@ property l = drop (prefix_len is_indent l.text) l.text
 abbrev pub has_equals : Line → Bool
 has_equals l = has (byte "=") (property l)
 
--- what stands before the first `=`
+-- what is before the first `=`
 abbrev pub key : Line → List ℕ
 key l = before_first (is (byte "=")) (property l)
 
--- what stands behind the first `=`, further ones included
+-- what is after the first `=`, further ones included
 abbrev pub value : Line → List ℕ
 value l = after_first (is (byte "=")) (property l)
 
--- whether a byte stands before the first `=`
+-- whether a byte is before the first `=`
 abbrev pub has_key : Line → Bool
 has_key l = not (is_none (key l))

@@ -1,7 +1,8 @@
--- The strings that udev asks the database for when a device is added, in their order: of each rules file of systemd 257 the lines that
--- call the builtin `hwdb`, the builtins `input_id` and `net_id`, and the rules of the packages upower and libwacom. A sound card's are
--- those of its change, when udev asks for it. Left out: the lines of 90-iocost.rules, which need a disk's own answers. The driver of a
--- network device is that of its nearest parent with one; udev asks ethtool.
+-- The strings that udev asks the database for when a device is added, in their order. They are those of the lines of systemd 257's
+-- rules files that call the builtin `hwdb`. Besides they are those of the builtins `input_id` and `net_id`, and of the rules of the
+-- packages upower and libwacom. A sound card's are those of its change, when udev asks for it. Left out: the lines of
+-- 90-iocost.rules, which need a disk's own answers. The driver of a network device is that of its nearest parent with one; udev asks
+-- ethtool.
 use Rattle.std.specs.Prelude.{Bool, true, false, ℕ, zero, suc, List, [], ◌∷◌, ◌++◌, ◌+◌, ◌-◌, ◌/◌, ◌%◌, ◌^◌, ◌==◌, ◌||◌, ◌&&◌, Option, None, Some, cond, if◌then◌else◌, codes, drop, filter, flat_map, get_or, length, map, nat_eq, nat_le, nat_lt, not, option_map, reverse, take}
 use Rattle.std.specs.List.{after_first, before_first, ends_with, starts_with}
 use Rattle.std.specs.Option.{option_map_or, option_or, unwrap_or}
@@ -125,6 +126,7 @@ firewire_rule s =
     when (is_in (codes "firewire") s.own)
     (option_map_or (λ units. ask_one (codes "50-udev-default") (itself s) (node_text s units)) (attribute (codes "units") s.own) [])
 
+-- 50-udev-default.rules, in its order
 abbrev pub default_rules : Scene → List Lookup
 default_rules s = hidraw_rule s ++ (usb_rule s ++ (modalias_rule s ++ firewire_rule s))
 
@@ -149,6 +151,7 @@ abbrev pub named_rules : Scene → List Lookup
 named_rules s =
     of_first (is_named (codes "input")) s (λ p. ask_one (codes "60-evdev") p (name_text s p) ++ ask_one (codes "60-evdev") p (phys_text s p))
 
+-- 60-evdev.rules, in its order
 abbrev pub evdev_rules : Scene → List Lookup
 evdev_rules s =
     when (is_named (codes "event") s.own)
@@ -182,6 +185,7 @@ on_bus number bus s = of_first (is_input_on number) s (λ p. question_at p (bus_
 abbrev pub input_walk : Scene → List Lookup
 input_walk s = when (is_in (codes "input") s.own) (walk (codes "60-input-id") (codes "input") (codes "id-input:modalias:") s)
 
+-- 60-input-id.rules, in its order
 abbrev pub input_id_rules : Scene → List Lookup
 input_id_rules s =
     input_walk s
@@ -252,6 +256,7 @@ abbrev pub accelerometer_questions : (accelerometer : Bool) → Scene → List Q
 accelerometer_questions accelerometer s =
     when (if is_in (codes "input") s.own then accelerometer else false) (acpi_question s ++ platform_question s)
 
+-- 60-sensor.rules, in its order
 abbrev pub sensor_rules : (accelerometer : Bool) → Scene → List Lookup
 sensor_rules accelerometer s = record { rule = codes "60-sensor"; questions = iio_questions s ++ accelerometer_questions accelerometer s } ∷ []
 
@@ -320,6 +325,7 @@ bus_of s =
 abbrev pub kind_text : (kind : List ℕ) → Scene → At → List ℕ
 kind_text kind s p = kind ++ (bus_of s ++ byte ":" ∷ ids_and_name s p)
 
+-- what is asked of an input device by its kind: of the first parent with such a name
 abbrev pub kind_question : (kind : List ℕ) → Scene → List Question
 kind_question kind s = of_first (is_named (codes "input")) s (λ p. question_at p (kind_text kind s p))
 
@@ -352,6 +358,7 @@ is_mouse_bus bus = if same bus (codes "usb") then true else same bus (codes "blu
 abbrev pub bus_mouse_question : Scene → List Question
 bus_mouse_question s = when (is_mouse_bus (bus_of s)) (kind_question (codes "mouse:") s)
 
+-- 70-mouse.rules, in its order
 abbrev pub mouse_rules : Bool → Scene → List Lookup
 mouse_rules mouse s =
     when (is_event_of mouse s) (record { rule = codes "70-mouse"; questions = bus_mouse_question s ++ psmouse_question s } ∷ [])
@@ -422,6 +429,7 @@ address_rule s =
     when (if has_own_address s then is_owned (address_digits s) else false)
     (ask_one (codes "net_id") (itself s) (codes "OUI:" ++ address_digits s))
 
+-- 75-net-description.rules and the builtin net_id
 abbrev pub net_rules : Scene → List Lookup
 net_rules s = when (is_in (codes "net") s.own) (driver_rule s ++ (along_bus (codes "75-net-description") s ++ address_rule s))
 

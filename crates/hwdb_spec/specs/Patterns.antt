@@ -1,4 +1,4 @@
--- Patterns and what they match, from hwdb(7) and POSIX.1-2017 fnmatch without flags (XCU 2.13), over bytes in the C
+-- Patterns and what they match, from hwdb(7) and POSIX.1-2017 fnmatch without flags (XCU 2.13). It is over bytes in the C
 -- locale, without collating symbols and equivalence classes. A backslash, `/` and a leading `.` are ordinary bytes. That
 -- `^` inverts as `!` does, and that a reversed range has no members, is our choice where POSIX leaves it open.
 use Rattle.std.specs.Prelude.{ℕ, Bool, false, nat_le, if◌then◌else◌, List, codes, [], ◌∷◌, Option, find, nat_eq, ◌==◌, length, None, Some, ◌++◌, ◌+◌, suc, true, zero, ◌-◌, nat_lt, not, IsTrue, ⊤, ◌≡◌}
@@ -87,13 +87,13 @@ pub record Bracket : Type 0 where
   pub inverted : Bool
   pub spans : List (ℕ × ℕ)
 
--- the bracket of its items, which begin behind `start` bytes
+-- the bracket of its items, which begin after `start` bytes
 abbrev pub bracket_of : ℕ → Bool → Option Items → Option Bracket
 bracket_of start inverted None = None
 bracket_of start inverted (Some found) =
     Some (record { size = start + found.size; inverted = inverted; spans = found.spans })
 
--- `!` or `^`, which inverts behind the `[`
+-- `!` or `^`, which inverts after the `[`
 abbrev pub is_inversion : ℕ → Bool
 is_inversion b = if b == byte "!" then true else b == byte "^"
 
@@ -162,12 +162,12 @@ unfoldable pub some_ending : (List ℕ → Bool) → List ℕ → Bool
 some_ending test [] = test []
 some_ending test (b ∷ rest) = if test (b ∷ rest) then true else some_ending test rest
 
--- whether one byte is there that the token admits, and what is behind it passes
+-- whether one byte is there that the token admits, and what is after it passes
 unfoldable pub byte_then : Token → (List ℕ → Bool) → List ℕ → Bool
 byte_then token test [] = false
 byte_then token test (b ∷ rest) = if admits_byte token b then test rest else false
 
--- whether a piece that the token admits is there, and what is behind it passes
+-- whether a piece that the token admits is there, and what is after it passes
 unfoldable pub piece_then : Token → (List ℕ → Bool) → List ℕ → Bool
 piece_then star test device = some_ending test device
 piece_then one test device = byte_then one test device
@@ -222,6 +222,6 @@ range_from zero (b ∷ rest) =
     if is_reversed (token_at (b ∷ rest)) then reversed_in_bracket (b ∷ rest)
     else 1 + range_from (token_size (token_at (b ∷ rest)) - 1) rest
 
--- behind how many bytes of a pattern its first reversed range stands
+-- after how many bytes of a pattern its first reversed range is
 abbrev pub range_place : List ℕ → ℕ
 range_place pattern = range_from 0 pattern

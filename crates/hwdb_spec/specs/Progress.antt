@@ -1,5 +1,5 @@
--- What `update` says of its work: with `--verbose` the text files that it takes, which of them mask others, how many assignments
--- they have, and how many of these the database keeps; then, always, the fault lines. Our choice.
+-- What `update` says of its work. With `--verbose` it tells the text files that it takes, and which of them mask others.
+-- It tells how many assignments they have, and how many of these the database keeps. Then come, always, the fault lines. Our choice.
 use Rattle.std.specs.Prelude.{Bool, true, false, ℕ, List, [], ◌∷◌, ◌++◌, ◌-◌, ◌^◌, Option, None, Some, if◌then◌else◌, codes, flat_map, length, map, min}
 use Rattle.std.specs.Fmt.{decimal}
 use Rattle.std.specs.FinMap as finite

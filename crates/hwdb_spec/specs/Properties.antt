@@ -59,7 +59,8 @@ abbrev pub same_after_one : List ℕ → List ℕ → Bool
 same_after_one xs ys =
     if same_letters (drop 1 xs) (drop 1 ys) then true else (if same_letters (drop 1 xs) ys then true else same_letters xs (drop 1 ys))
 
--- whether two texts differ by one byte at most, that one has more than the other or has in its place, and by the case of letters
+-- Whether two texts differ by the case of letters and one byte at most. One text has that byte more than the other, or in place of
+-- the other's.
 abbrev pub is_near : List ℕ → List ℕ → Bool
 is_near [] ys = same_after_one [] ys
 is_near (x ∷ xs) [] = same_after_one (x ∷ xs) []

@@ -1,6 +1,6 @@
--- What a file assigns, and its faults, after hwdb(7): clean lines are cut into blocks at the empty ones, blocks into
--- sections, and each property of a section goes with each match line of it. Where a record ends early, what is a fault,
--- and the faults' numbers and texts are our choice.
+-- What a file assigns, and its faults, after hwdb(7). Clean lines are cut into blocks at the empty ones, and blocks into
+-- sections. Each property of a section goes with each match line of it. Where a record ends early, what is a fault, and
+-- the faults' numbers and texts are our choice.
 use Rattle.std.specs.Prelude.{Bool, List, [], if◌then◌else◌, ◌∷◌, take, length, ℕ, ◌+◌, suc, zero, ◌-◌, flat_map, map, codes, ◌++◌}
 use Rattle.std.specs.List.{take_while}
 use Rattle.std.specs.declared.cmp.Ordering.{Ordering}
@@ -11,12 +11,12 @@ use Rattle.hwdb_spec.specs.declared.FaultKind.TheVariants.{EmptyKey, LongMatch, 
 use Rattle.hwdb_spec.specs.declared.FaultKind.{FaultKind}
 use Rattle.hwdb_spec.specs.declared.Fault.{Fault}
 
--- what is behind the longest run at the front of lines that pass the test
+-- what is after the longest run at the front of lines that pass the test
 unfoldable pub behind : (Line → Bool) → List Line → List Line
 behind test [] = []
 behind test (l ∷ more) = if test l then behind test more else l ∷ more
 
--- Properties that belong to no match line, match lines, properties, and the line behind them, if one is left: this is a match line then.
+-- Properties that belong to no match line, match lines, properties, and the line after them, if one is left: this is a match line then.
 pub record Section : Type 0 where
   pub leading : List Line
   pub matches : List Line

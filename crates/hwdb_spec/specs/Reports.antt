@@ -34,7 +34,7 @@ shown_line text = codes "    " ++ (shown (take max_shown text) ++ (cut_text text
 abbrev pub spaces : List ℕ → List ℕ
 spaces text = map (λ b. byte " ") text
 
--- the line below a shown line, with a `^` below the byte that stands behind so many others; no line where that byte isn't
+-- the line below a shown line, with a `^` below the byte that is after so many others; no line if that byte isn't
 -- shown
 abbrev pub mark_line : List ℕ → ℕ → List ℕ
 mark_line text at = if nat_lt at max_shown then codes "    " ++ (spaces (shown (take at text)) ++ codes "^\n") else []

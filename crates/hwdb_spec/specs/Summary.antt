@@ -31,8 +31,8 @@ unfoldable mutual
 abbrev pub different : List (List ℕ) → ℕ
 different texts = length (ascending texts)
 
--- How much is in a database: the files that its assignments come from, patterns, keys, assignments, nodes, how many of them
--- stand one below the other, the root counted, and its bytes.
+-- How much is in a database: the files that its assignments come from, patterns, keys, assignments and nodes. Then how many nodes
+-- are one below the other, the root counted, and its bytes.
 pub record Summary : Type 0 where
   pub files : ℕ
   pub patterns : ℕ

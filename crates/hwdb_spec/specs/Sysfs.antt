@@ -12,8 +12,8 @@ pub record Attribute : Type 0 where
   pub name : List ℕ
   pub value : List ℕ
 
--- A device or a parent of one: its path below sysfs, the kernel's name, the last names of its links `subsystem` and `driver`, empty
--- without such a link, its file `uevent`, and those of its attributes that rules ask for.
+-- A device or a parent of one: its path below sysfs, the kernel's name, and the last names of its links `subsystem` and `driver`,
+-- empty without such a link. Then its file `uevent`, and those of its attributes that rules ask for.
 pub record Ancestor : Type 0 where
   pub path : List ℕ
   pub name : List ℕ

@@ -48,7 +48,7 @@ abbrev pub IsAbove : Option (List ℕ) → List ℕ → Type 0
 IsAbove None key = Unit {0}
 IsAbove (Some before) key = text_cmp before key ≡ Less
 
--- the key behind the space that a stored key begins with
+-- the key after the space that a stored key begins with
 abbrev pub key_of : List ℕ → Option (List ℕ)
 key_of [] = None
 key_of (c ∷ key) = if c == byte " " then Some key else None
@@ -86,8 +86,8 @@ Map = finite.FinMap place_cmp Assignment
 abbrev pub entry_of : Assignment → (List ℕ × List ℕ) × Assignment
 entry_of a = ((a.position.pattern, a.position.key), a)
 
--- The map that a tree stands for: for a pattern and a key the priority, line, value and path of the value with the stored
--- key 'space, key' at the node with that path.
+-- The map of a tree. For a pattern and a key it is looked up at the node with that path: the priority, line, value and path of
+-- the value with the stored key 'space, key'.
 unfoldable pub map_of : Tree → Map
 map_of t = finite.from_entries (map entry_of (members_under [] t))
 

@@ -24,7 +24,7 @@ use Rattle.hwdb_spec.specs.declared.WarningKind.TheVariants.{ByteOrderMark, Carr
 abbrev pub is_spaced : Line → Bool
 is_spaced l = if list_any is_indent (drop (length (key l) - 1) (key l)) then true else list_any is_indent (take 1 (value l))
 
--- whether a `#` stands right behind the clean text of a line, so that it cuts the line, and no blank stands before it
+-- whether a `#` is right after the clean text of a line, so that it cuts the line, and no blank is before it
 abbrev pub is_cut : (line clean : Line) → Bool
 is_cut line clean = begins_with (byte "#") (drop (length clean.text) line.text)
 
@@ -55,7 +55,7 @@ gives_value pattern key value a =
 abbrev pub last_with : (all : List Assignment) → (pattern key value : List ℕ) → ℕ
 last_with all pattern key value = greatest (map (λ a. a.position.line) (filter (gives_value pattern key value) all))
 
--- Whether an assignment of a file replaces another one, which has its pattern and its key: it stands behind each line that gives
+-- Whether an assignment of a file replaces another one, which has its pattern and its key: it is after each line that gives
 -- these the value of the other one. So an assignment is replaced exactly if the last line with its pattern and its key, which
 -- counts, gives another value.
 abbrev pub replaces : (all : List Assignment) → (later earlier : Assignment) → Bool
@@ -81,7 +81,7 @@ misused l =
 -- byte order mark; with a tab, and so is a match line; a carriage return stands in it, which isn't among its trailing blanks. Of a
 -- match line: a `[` of it begins no closed bracket; before the first such `[` a range has no members. Of a property that has a key:
 -- a blank stands beside its first `=`. Of a property with a `=`: a `#` cuts it, before which no blank stands. It is a match line that
--- stands in its record already. Lines behind it replace what it gives. What is known of properties doesn't fit it, or the
+-- stands in its record already. Lines after it replace what it gives. What is known of properties doesn't fit it, or the
 -- patterns of its record don't, or the other properties that these are given. It is a pattern that matches no text that udev asks.
 abbrev pub warns : (file : List ℕ) → WarningKind → (line clean : Line) → Bool
 warns file ByteOrderMark line l = starts_with nat_eq l.text (239 ∷ 187 ∷ 191 ∷ [])
@@ -99,8 +99,8 @@ warns file Unread line l = is_unread file l.number
 warns file Unpaired line l = is_unpaired file l.number
 warns file (Unmatched told) line l = is_unmatched (judgement_of l.text)
 
--- The kinds of warnings that a line may get. That of a replaced one names the last line that replaces, that of a misused one says how,
--- and that of a pattern what is said of it.
+-- The kinds of warnings that a line may get. That of a replaced one names the last line that replaces. That of a misused one says
+-- how, and that of a pattern what is said of it.
 abbrev pub line_kinds : (file : List ℕ) → (clean : Line) → List WarningKind
 line_kinds file clean =
     ByteOrderMark ∷ LeadingTab ∷ CarriageReturn ∷ OpenBracket ∷ EmptyRange ∷ SpacedEquals ∷ CutValue ∷ RepeatedMatch
@@ -139,7 +139,7 @@ warning_text Unread = codes "a property that isn't read below its patterns"
 warning_text Unpaired = codes "a property that is read with others alone"
 warning_text (Unmatched told) = judgement_text told
 
--- behind how many bytes of its line a warning stands, of a line with this text and this clean text
+-- after how many bytes of its line a warning is, of a line with this text and this clean text
 abbrev pub warning_place : WarningKind → (text clean : List ℕ) → ℕ
 warning_place ByteOrderMark text clean = 0
 warning_place LeadingTab text clean = 0

@@ -82,7 +82,7 @@ module _ (place : List ℕ → ℕ) where
         ++ little_bytes 8 (place prefix) ++ count children ∷ padding 7 ++ little_bytes 8 (length values)
         ++ entries_text from children ++ flat_map value_text values
 
-    -- the texts of children, one behind another, from a place on
+    -- the texts of children, one after another, from a place on
     pub nodes_text : ℕ → Children → List ℕ
     nodes_text from NoMore = []
     nodes_text from (Child byte tree more) = node_text from tree ++ nodes_text (from + text_size tree) more

@@ -153,7 +153,7 @@ pub enum FaultKind {
 }
 
 impl FaultKind {
-    /// What is printed of it, behind the path and the line.
+    /// What is printed of it, after the path and the line.
     pub fn text(self) -> &'static str
         ensures { result.now ≡ fault_text self }
     {
@@ -305,7 +305,7 @@ impl DbFault {
     }
 }
 
-/// Its name, and behind that its offset, as the program prints them.
+/// Its name, and after that its offset, as the program prints them.
 impl fmt::Display for DbFault {
     fn fmt<W: fmt::Write>(&self, f: &mut fmt::Formatter<W>) -> fmt::Result {
         let name = self.name();

@@ -66,9 +66,9 @@ pub const KEY_NAMES: &str = "\
     voicemail\nvolumedown\nvolumeup\nw\nwakeup\nwimax\nwlan\nwordprocessor\nwps_button\nwwan\nwww\nx\nxfer\ny\n\
     yellow\nyen\nz\nzenkakuhankaku\nzoom\nzoomin\nzoomout\nzoomreset\n";
 
-/// The properties that udev's rules, systemd and libinput read. A line each: its name, the form of its value, the
-/// prefixes of the patterns below which it is read, and where this is said, with a space between. A name that ends with
-/// `_` is for all that begin with it. `*` is for any prefix. A form is one of those of `ValueForm`, in lower case, or
+/// The properties that udev's rules, systemd and libinput read, a line each. It has a name, the form of the value, the
+/// prefixes of the patterns below which it is read, and where this is said. A space is between them. A name that ends
+/// with `_` is for all that begin with it. `*` is for any prefix. A form is one of those of `ValueForm`, in lower case, or
 /// else the values themselves, with `|` between. Names that many lines have come first.
 pub const PROPERTIES: &str = "\
     ID_MODEL_FROM_DATABASE any * 20-pci-vendor-model.hwdb\n\

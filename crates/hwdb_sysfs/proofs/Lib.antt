@@ -1,4 +1,3 @@
-mod PieceLemmas
 mod NameLemmas
 mod ChainLemmas
 mod LinkLemmas

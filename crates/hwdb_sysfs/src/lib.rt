@@ -6,7 +6,7 @@
 //! | `files` | what a file system answers of devices |
 //! | `answers` | what is made of these answers: a place, a text, names |
 //! | `paths` | names and folders of a path |
-//! | `names` | the names in a folder; `pieces`: a text, cut at a byte
+//! | `names` | the names in a folder |
 //! | `near` | the name that is near one which no device has |
 //! | `reading` | a device and its parents, as sysfs has them |
 //! | `finding` | the device that is meant by a path or a name |
@@ -24,7 +24,6 @@ mod listing;
 mod names;
 mod near;
 mod paths;
-mod pieces;
 mod reading;
 mod table;
 

@@ -6,7 +6,7 @@ ghost use Rattle.hwdb_sysfs.specs.Answers.{leads_on, names_listed, seen};
 
 use crate::answers::{listing_at, place_of};
 use crate::files::DeviceFiles;
-use crate::pieces::first_piece;
+use hwdb_text::Pieces;
 use std::alloc::{AllocError, Global};
 use std::collections::BTreeSet;
 
@@ -51,10 +51,8 @@ fn name_set(alloc: Global, listing: &[u8]) -> Result<BTreeSet<Vec<u8>>, AllocErr
         ≡ in_order text_cmp (names_listed listing.now)) }
 {
     let mut names = BTreeSet::new(alloc);
-    let mut left = listing;
-    'names: while let Some((name, rest)) = first_piece(0, left) {
+    for name in Pieces::new(0, listing) {
         add_entry(alloc, &mut names, name)?;
-        left = rest;
     }
     Ok(names)
 }

@@ -3,7 +3,7 @@ ghost use Rattle.std.specs.Prelude.{◌≡◌, ◌++◌, IfOk, drop, length};
 ghost use Rattle.hwdb_spec.specs.DeviceTree as tree;
 ghost use Rattle.hwdb_spec.specs.Store as store;
 
-use crate::pieces::first_piece;
+use hwdb_text::Pieces;
 use std::alloc::{AllocError, Global};
 
 /// Two texts as one.
@@ -31,10 +31,8 @@ pub fn last_name(path: &[u8]) -> &[u8]
     ensures { result.now ≡ tree.last_name path.now }
 {
     let mut last = b"".as_slice();
-    let mut left = path;
-    'names: while let Some((name, rest)) = first_piece(b'/', left) {
+    for name in Pieces::new(b'/', path) {
         last = name;
-        left = rest;
     }
     last
 }

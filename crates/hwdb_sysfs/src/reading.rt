@@ -13,7 +13,7 @@ use crate::answers::{place_of, text_of, uevent_of};
 use crate::device::{Ancestor, Attribute, Device};
 use crate::files::DeviceFiles;
 use crate::paths::{below, is_below_devices, joined, kernel_name, last_name, path_in};
-use crate::pieces::first_piece;
+use hwdb_text::Lines;
 use std::alloc::{AllocError, Global};
 
 /// What the firmware says of the machine, below sysfs.
@@ -95,10 +95,8 @@ fn attributes_at<F: DeviceFiles>(
         (pieces (is 10) names.now)) }
 {
     let mut attributes = Vec::new(alloc);
-    let mut left = names;
-    'names: while let Some((name, rest)) = first_piece(b'\n', left) {
+    for name in Lines::new(names) {
         push_attribute(alloc, files, folder, name, &mut attributes)?;
-        left = rest;
     }
     Ok(attributes)
 }

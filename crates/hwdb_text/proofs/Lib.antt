@@ -18,3 +18,4 @@ pub mod JoinLemmas
 pub mod FaultSetLemmas
 pub mod EmptyLemmas
 pub mod OneLineLemmas
+pub mod PieceLemmas

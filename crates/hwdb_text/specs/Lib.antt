@@ -1,4 +1,5 @@
 pub mod Views
+pub mod PiecesLeft
 pub mod Laws
 pub mod Rows
 pub mod Internal

@@ -9,8 +9,8 @@ ghost use Rattle.hwdb_spec.specs.Records;
 ghost use Rattle.hwdb_spec.specs.Folders.{max_lines};
 ghost use Rattle.hwdb_text.specs.Views.{IsStorable};
 
-use crate::line::end_of;
 use crate::outcome::{Assignment, Given, Parsed, ScanError, Scanned};
+use crate::pieces::Lines;
 use crate::records::Reader;
 use std::alloc::{AllocError, Global};
 
@@ -52,13 +52,9 @@ pub fn scan(alloc: Global, bytes: &[u8]) -> Result<Scanned<'_>, ScanError>
 {
     let mut reader = Reader::new(alloc);
     let mut number = 0;
-    let mut at = 0;
-    while at < bytes.len() {
-        let rest = &bytes[at..];
-        let end = end_of(b'\n', rest);
+    for text in Lines::new(bytes) {
         number = next_line(number)?;
-        reader.line(&rest[..end], number)?;
-        at += end + 1;
+        reader.line(text, number)?;
     }
     Ok(reader.finish()?)
 }

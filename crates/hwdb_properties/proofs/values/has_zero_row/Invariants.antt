@@ -1,12 +1,8 @@
-use Rattle.std.proofs.Common.{◌≡◌, ◌≤◌, ◌+◌, ◌-◌, drop, length}
-use Rattle.hwdb_spec.specs.Properties.{has_zero_row}
+use Rattle.std.proofs.Common.{◌≡◌}
+use Rattle.std.specs.List.{list_any}
+use Rattle.hwdb_spec.specs.Properties.{has_zero_row, is_zero_row}
+use Rattle.hwdb_text.specs.PiecesLeft.{pieces_left}
 use Rattle.hwdb_properties.proofs.values.has_zero_row.Given as goal
 
-abbrev pub invariant-loop-at : goal.invariant-loop-at
-invariant-loop-at l = record {
-  at_in : l.at ≤ length l.text + 1;
-  same : has_zero_row (drop l.at l.text) ≡ has_zero_row l.text;
-}
-
-abbrev pub decreases-loop-at : goal.decreases-loop-at
-decreases-loop-at l = length l.text - l.at
+abbrev pub invariant-loop-row : goal.invariant-loop-row
+invariant-loop-row l = list_any is_zero_row (pieces_left l.row-iterator) ≡ has_zero_row l.text

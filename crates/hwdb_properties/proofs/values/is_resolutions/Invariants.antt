@@ -1,12 +1,8 @@
-use Rattle.std.proofs.Common.{◌≡◌, ◌≤◌, ◌+◌, ◌-◌, drop, length}
-use Rattle.hwdb_spec.specs.Properties.{is_resolutions}
+use Rattle.std.proofs.Common.{◌≡◌}
+use Rattle.std.specs.List.{list_all}
+use Rattle.hwdb_spec.specs.Properties.{is_resolution, is_resolutions}
+use Rattle.hwdb_text.specs.PiecesLeft.{pieces_left}
 use Rattle.hwdb_properties.proofs.values.is_resolutions.Given as goal
 
-abbrev pub invariant-loop-at : goal.invariant-loop-at
-invariant-loop-at l = record {
-  at_in : l.at ≤ length l.text + 1;
-  same : is_resolutions (drop l.at l.text) ≡ is_resolutions l.text;
-}
-
-abbrev pub decreases-loop-at : goal.decreases-loop-at
-decreases-loop-at l = length l.text - l.at
+abbrev pub invariant-loop-piece : goal.invariant-loop-piece
+invariant-loop-piece l = list_all is_resolution (pieces_left l.piece-iterator) ≡ is_resolutions l.text

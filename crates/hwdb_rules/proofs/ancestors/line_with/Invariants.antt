@@ -1,12 +1,8 @@
-use Rattle.std.proofs.Common.{◌≡◌, ◌≤◌, ◌+◌, ◌-◌, drop, length}
+use Rattle.std.proofs.Common.{◌≡◌, find, nat_eq}
+use Rattle.std.specs.List.{starts_with}
 use Rattle.hwdb_spec.specs.Sysfs.{line_with}
+use Rattle.hwdb_text.specs.PiecesLeft.{lines_left}
 use Rattle.hwdb_rules.proofs.ancestors.line_with.Given as goal
 
-abbrev pub invariant-loop-at : goal.invariant-loop-at
-invariant-loop-at l = record {
-  at_in : l.at ≤ length l.text + 1;
-  same : line_with l.start (drop l.at l.text) ≡ line_with l.start l.text;
-}
-
-abbrev pub decreases-loop-at : goal.decreases-loop-at
-decreases-loop-at l = length l.text - l.at
+abbrev pub invariant-loop-line : goal.invariant-loop-line
+invariant-loop-line l = find (λ line. starts_with nat_eq line l.start) (lines_left l.line-iterator) ≡ line_with l.start l.text

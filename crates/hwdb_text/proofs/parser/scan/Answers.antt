@@ -1,57 +1,59 @@
-use Rattle.std.proofs.Common.{◌≡◌, ◌+◌, ◌<◌, length, drop, sym, ◌∙◌, refl, ap, arith, zero-add, [], Err}
-use Rattle.std.proofs.lemmas.List.{take_rest, length-drop}
-use Rattle.hwdb_spec.specs.Lines.{is, lines, pieces}
+use Rattle.std.proofs.Common.{◌≡◌, ◌+◌, length, ap, arith, ◌∙◌, [], ◌∷◌, sym, List, ℕ}
 use Rattle.std.proofs.lemmas.List.Elements.{All-same}
+use Rattle.hwdb_spec.specs.Lines.{is, lines, pieces}
 use Rattle.hwdb_spec.specs.Records.{assignments}
+use Rattle.hwdb_text.specs.PiecesLeft.{lines_left}
 use Rattle.hwdb_text.specs.Views.{origin, IsStorable}
 use Rattle.hwdb_text.proofs.StoreLemmas.{assignments_storable}
-use Rattle.hwdb_text.proofs.ByteLemmas.{count_lines}
-use Rattle.hwdb_text.proofs.FileLemmas.{more_lines, next_count, next_reads, end_pieces, end_reads}
+use Rattle.hwdb_text.proofs.FileLemmas.{end_reads, first_count, first_reads, next_reads, none_left}
 use Rattle.hwdb_text.proofs.parser.scan.Goals as goal
 
-pub loop-at-init : goal.loop-at-init
-loop-at-init c = record {
-  at_in = omega arith;
-  fits = omega arith;
-  count = zero-add _ ∙ sym (count_lines 1 (pieces (is 10) c.args.bytes.now));
-  fresh = λ _. c.new-reader.ensures.fresh;
-  reads = λ o. c.new-reader.ensures.reads o (lines c.args.bytes.now);
-}
-
-pub returns-in_err-number-clause-too_many : goal.returns-in_err-number-clause-too_many
-returns-in_err-number-clause-too_many c = λ _.
-    let m : 0 < length (pieces (is 10) (drop c.loop-at.at c.args.bytes.now)) = more_lines c.args.bytes.now c.loop-at.at c.loop-at-test.true in
-    let n : c.loop-at.number ≡ 4294967295 = c.in_err-number.ensures.too_many.0 (ap Err c.in_err-number.ensures.error) in
-    omega arith
-
-pub loop-at-preserved : goal.loop-at-preserved
-loop-at-preserved c =
-    let t = take_rest c.args.bytes.now c.loop-at.at in
+pub loop-text-init : goal.loop-text-init
+loop-text-init c =
+    let left = lines_left c.into_iter-text-iterator.result in
+    let all : left ≡ pieces (is 10) c.args.bytes.now = ap lines_left c.into_iter-text-iterator.ensures.into_iter_gives ∙ c.new-text-items.ensures.lines in
     record {
-      at_in = omega (arith, c.end_of-end.ensures.within, ap length t, length-drop c.loop-at.at c.args.bytes.now);
-      fits = c.in_ok-number.ensures.fits;
-      count = next_count c.args.bytes.now c.loop-at.at c.end_of-end.result c.loop-at.number c.in_ok-number.number (length (lines c.args.bytes.now)) _
-          c.loop-at-test.true t c.end_of-end.ensures.place c.in_ok-number.ensures.next c.loop-at.invariant.count;
-      fresh = λ e. let none = ap length e in let some = c.loop-at-test.true in absurd (omega (arith, none, some));
-      reads = λ o. next_reads o (lines c.args.bytes.now) c.args.bytes.now c.loop-at.at c.end_of-end.result c.loop-at.number c.in_ok-number.number _ _ c.loop-at.reader c.line.new.self
-          c.loop-at-test.true t c.end_of-end.ensures.place refl c.in_ok-number.ensures.next (c.in_ok-line.ensures o) (c.loop-at.invariant.reads o);
+      fits = omega arith;
+      count = first_count c.args.bytes.now left all;
+      none = none_left c.args.bytes.now left all;
+      fresh = λ _. c.new-reader.ensures.fresh;
+      reads = λ o. first_reads o c.args.bytes.now left c.new-reader.result all (c.new-reader.ensures.reads o (lines c.args.bytes.now));
     }
+
+pub returns-in_err-number-clause-free : goal.returns-in_err-number-clause-free
+returns-in_err-number-clause-free c = λ e.
+    let more : length (lines_left c.loop-text.text-iterator) ≡ length (c.in-Some.text.now ∷ lines_left c.next.new.self) = ap length c.in-Some.ensures.steps in
+    let none : length (lines_left c.loop-text.text-iterator) ≡ 0 = ap length (c.loop-text.invariant.none e) in
+    absurd (omega (arith, more, none))
+
+pub loop-text-preserved : goal.loop-text-preserved
+loop-text-preserved c =
+    let more : length (lines_left c.loop-text.text-iterator) ≡ length (c.in-Some.text.now ∷ lines_left c.next.new.self) = ap length c.in-Some.ensures.steps in
+    record {
+      fits = c.in_ok-number.ensures.fits;
+      count = let n = c.in_ok-number.ensures.next in let m = c.loop-text.invariant.count in omega (arith, n, m, more);
+      none = λ e. let none : length (lines_left c.loop-text.text-iterator) ≡ 0 = ap length (c.loop-text.invariant.none e) in absurd (omega (arith, more, none));
+      fresh = λ e. let none : length (lines_left c.loop-text.text-iterator) ≡ 0 = ap length (c.loop-text.invariant.none e) in absurd (omega (arith, more, none));
+      reads = λ o. next_reads o (lines c.args.bytes.now) c.loop-text.number c.in_ok-number.number c.in-Some.text.now _ (lines_left c.next.new.self) c.loop-text.reader c.line.new.self
+          c.in-Some.ensures.steps c.in_ok-number.ensures.next (c.in_ok-line.ensures o) (c.loop-text.invariant.reads o);
+    }
+
+pub returns-in_err-line-clause-free : goal.returns-in_err-line-clause-free
+returns-in_err-line-clause-free c = λ e.
+    let more : length (lines_left c.loop-text.text-iterator) ≡ length (c.in-Some.text.now ∷ lines_left c.next.new.self) = ap length c.in-Some.ensures.steps in
+    let none : length (lines_left c.loop-text.text-iterator) ≡ 0 = ap length (c.loop-text.invariant.none e) in
+    absurd (omega (arith, more, none))
 
 pub returns-clause-assignments : goal.returns-clause-assignments
 returns-clause-assignments c = λ o.
     c.in_ok-finish.ensures.assignments o (lines c.args.bytes.now)
-    (end_reads o (lines c.args.bytes.now) c.args.bytes.now c.loop-at.at (c.loop-at.number + 1) c.loop-at.reader c.loop-at-test.false (c.loop-at.invariant.reads o))
+    (end_reads o (lines c.args.bytes.now) (c.loop-text.number + 1) _ c.loop-text.reader c.in-None.ensures.steps.0 (c.loop-text.invariant.reads o))
 
 pub returns-clause-faults : goal.returns-clause-faults
 returns-clause-faults c =
     let o = origin [] 0 in
     c.in_ok-finish.ensures.faults o (lines c.args.bytes.now)
-    (end_reads o (lines c.args.bytes.now) c.args.bytes.now c.loop-at.at (c.loop-at.number + 1) c.loop-at.reader c.loop-at-test.false (c.loop-at.invariant.reads o))
-
-pub returns-clause-few : goal.returns-clause-few
-returns-clause-few c =
-    let z : length (pieces (is 10) (drop c.loop-at.at c.args.bytes.now)) ≡ 0 = ap length (end_pieces c.args.bytes.now c.loop-at.at c.loop-at-test.false) in
-    omega arith
+    (end_reads o (lines c.args.bytes.now) (c.loop-text.number + 1) _ c.loop-text.reader c.in-None.ensures.steps.0 (c.loop-text.invariant.reads o))
 
 pub returns-clause-storable : goal.returns-clause-storable
 returns-clause-storable c = λ o.

@@ -1,17 +1,15 @@
-use Rattle.std.proofs.Common.{length, ◌-◌, ◌≡◌, ◌+◌, ◌≤◌, drop, []}
-use Rattle.hwdb_spec.specs.Lines.{is, lines, pieces, numbered}
+use Rattle.std.proofs.Common.{length, ◌≡◌, ◌+◌, ◌≤◌, []}
+use Rattle.hwdb_spec.specs.Lines.{lines, numbered}
 use Rattle.hwdb_spec.specs.Records.{Origin}
 use Rattle.hwdb_text.specs.Internal.Reading.{IsFresh, Reads}
+use Rattle.hwdb_text.specs.PiecesLeft.{lines_left}
 use Rattle.hwdb_text.proofs.parser.scan.Given as goal
 
-abbrev pub invariant-loop-at : goal.invariant-loop-at
-invariant-loop-at l = record {
-  at_in : l.at ≤ length l.bytes + 1;
+abbrev pub invariant-loop-text : goal.invariant-loop-text
+invariant-loop-text l = record {
   fits : l.number ≤ 4294967295;
-  count : l.number + length (pieces (is 10) (drop l.at l.bytes)) ≡ length (lines l.bytes);
+  count : l.number + length (lines_left l.text-iterator) ≡ length (lines l.bytes);
+  none : l.bytes ≡ [] → lines_left l.text-iterator ≡ [];
   fresh : l.bytes ≡ [] → IsFresh l.reader;
-  reads : (o : Origin) → Reads o (lines l.bytes) (numbered (l.number + 1) (pieces (is 10) (drop l.at l.bytes))) l.reader;
+  reads : (o : Origin) → Reads o (lines l.bytes) (numbered (l.number + 1) (lines_left l.text-iterator)) l.reader;
 }
-
-abbrev pub decreases-loop-at : goal.decreases-loop-at
-decreases-loop-at l = length l.bytes - l.at

@@ -42,3 +42,14 @@ module _ (cut : ℕ) where
 -- what is left, as a piece of its length
 pub rest_is : (xs : List ℕ) (k : ℕ) → drop k xs ≡ take (length xs - k) (drop k xs)
 rest_is xs k = sym (take_all (length xs - k) (drop k xs) (omega (arith, length-drop k xs)))
+
+-- no more pieces than bytes
+pub few_pieces : (cut : ℕ) (xs : List ℕ) → length (pieces (is cut) xs) ≤ length xs
+unfolding pieces
+few_pieces cut [] = omega arith
+few_pieces cut (x ∷ xs) = by (is cut x) (pieces (is cut) xs) refl (few_pieces cut xs)
+  where
+    by : (b : Bool) (ps : List (List ℕ)) → ps ≡ pieces (is cut) xs → length ps ≤ length xs → length (if b then [] ∷ ps else onto_first x ps) ≤ suc (length xs)
+    by true ps e few = omega (arith, few)
+    by false [] e few = omega (arith, few)
+    by false (p ∷ ps) e few = omega (arith, few)
