@@ -3,6 +3,7 @@ ghost use Rattle.std.specs.Prelude.{◌≡◌, ◌++◌, ℕ, List, None, Some, 
 ghost use Rattle.std.specs.Fmt.{decimal};
 ghost use Rattle.std.specs.List.{concat};
 ghost use Rattle.hwdb_spec.specs.Failures.{IsOneLine};
+ghost use Rattle.hwdb_spec.specs.Flushing.{HandsOn};
 ghost use Rattle.hwdb_spec.specs.Verdicts.{fault_line, remedy};
 ghost use Rattle.hwdb_spec.specs.Texts.{db_fault_name, db_fault_offset, at_offset};
 ghost use Rattle.hwdb_print.specs.Refusals.{error_text, refusal_of_select};
@@ -138,9 +139,11 @@ const END: &[u8] = b"\n";
 /// Writes the line of the refusal, at once; without memory for the whole line, in parts. Its path is as it was given, and the
 /// words of its cause have no newline. Where `err` fails, nothing more can be said.
 pub fn refuse_for<E: Sink>(alloc: Global, refusal: &Refusal, err: &mut E)
-    ensures { (words : List ℕ) × IsOneLine words
+    ensures line { (words : List ℕ) × IsOneLine words
         × Refused (refusal_line (refusal_text refusal.now words))
         (E.taken err.old) (E.taken err.new) (E.failures err.old) (E.failures err.new) }
+    ensures hands_on { HandsOn (E.is_flushed err.old) (E.is_flushed err.new)
+        (E.failures err.old) (E.failures err.new) }
 {
     match refusal {
         Refusal::At(error, path, cause) => refuse_over(alloc, *error, path, *cause, err),
@@ -158,9 +161,11 @@ fn refuse_over<E: Sink>(
     cause: Option<Cause>,
     err: &mut E,
 )
-    ensures { (words : List ℕ) × IsOneLine words
+    ensures line { (words : List ℕ) × IsOneLine words
         × Refused (refusal_line (path_text error path.now cause words))
         (E.taken err.old) (E.taken err.new) (E.failures err.old) (E.failures err.new) }
+    ensures hands_on { HandsOn (E.is_flushed err.old) (E.is_flushed err.new)
+        (E.failures err.old) (E.failures err.new) }
 {
     match error {
         ToolError::Read => refuse_file(alloc, "cannot read ", path, cause, err),
@@ -176,9 +181,11 @@ fn refuse_over<E: Sink>(
 
 /// Writes the line of a refusal over a path: what failed, the path, and the cause where one is known.
 fn refuse_file<E: Sink>(alloc: Global, failed: &str, path: &[u8], cause: Option<Cause>, err: &mut E)
-    ensures { (words : List ℕ) × IsOneLine words
+    ensures line { (words : List ℕ) × IsOneLine words
         × Refused (refusal_line (failed.now ++ file_text path.now cause words))
         (E.taken err.old) (E.taken err.new) (E.failures err.old) (E.failures err.new) }
+    ensures hands_on { HandsOn (E.is_flushed err.old) (E.is_flushed err.new)
+        (E.failures err.old) (E.failures err.new) }
 {
     let failed = failed.as_bytes();
     match cause {
@@ -197,8 +204,10 @@ fn refuse_file<E: Sink>(alloc: Global, failed: &str, path: &[u8], cause: Option<
 
 /// Writes the line of a refusal that has no path.
 fn refuse_plainly<E: Sink>(alloc: Global, error: ToolError, err: &mut E)
-    ensures { Refused (refusal_line (error_text error))
+    ensures line { Refused (refusal_line (error_text error))
         (E.taken err.old) (E.taken err.new) (E.failures err.old) (E.failures err.new) }
+    ensures hands_on { HandsOn (E.is_flushed err.old) (E.is_flushed err.new)
+        (E.failures err.old) (E.failures err.new) }
 {
     match error {
         ToolError::BadDatabase(fault) => refuse_database(alloc, fault, err),
@@ -209,9 +218,11 @@ fn refuse_plainly<E: Sink>(alloc: Global, error: ToolError, err: &mut E)
 
 /// Writes the line of a fault of the database: its name, and where it has one its offset.
 fn refuse_database<E: Sink>(alloc: Global, fault: DbFault, err: &mut E)
-    ensures { Refused (refusal_line
+    ensures line { Refused (refusal_line
         (codes "bad database: " ++ at_offset (db_fault_name fault) (db_fault_offset fault)))
         (E.taken err.old) (E.taken err.new) (E.failures err.old) (E.failures err.new) }
+    ensures hands_on { HandsOn (E.is_flushed err.old) (E.is_flushed err.new)
+        (E.failures err.old) (E.failures err.new) }
 {
     let name = fault.name().as_bytes();
     match fault.offset() {
@@ -237,8 +248,10 @@ pub fn remedy(path: &[u8]) -> &'static str
 
 /// Writes the line of a fault of the database at a path: its name, where it has one its offset, the path, and what to do.
 fn refuse_database_at<E: Sink>(alloc: Global, path: &[u8], fault: DbFault, err: &mut E)
-    ensures { Refused (refusal_line (fault_line path.now fault))
+    ensures line { Refused (refusal_line (fault_line path.now fault))
         (E.taken err.old) (E.taken err.new) (E.failures err.old) (E.failures err.new) }
+    ensures hands_on { HandsOn (E.is_flushed err.old) (E.is_flushed err.new)
+        (E.failures err.old) (E.failures err.new) }
 {
     match fault.offset() {
         None => refuse_name_at(alloc, path, fault.name(), remedy(path), err),
@@ -248,8 +261,10 @@ fn refuse_database_at<E: Sink>(alloc: Global, path: &[u8], fault: DbFault, err: 
 
 /// The same of a fault that has a name alone.
 fn refuse_name_at<E: Sink>(alloc: Global, path: &[u8], name: &str, remedy: &str, err: &mut E)
-    ensures { Refused (refusal_line (line_at path.now name.now None remedy.now))
+    ensures line { Refused (refusal_line (line_at path.now name.now None remedy.now))
         (E.taken err.old) (E.taken err.new) (E.failures err.old) (E.failures err.new) }
+    ensures hands_on { HandsOn (E.is_flushed err.old) (E.is_flushed err.new)
+        (E.failures err.old) (E.failures err.new) }
 {
     let name = name.as_bytes();
     let remedy = remedy.as_bytes();
@@ -269,8 +284,10 @@ fn refuse_offset_at<E: Sink>(
     remedy: &str,
     err: &mut E,
 )
-    ensures { Refused (refusal_line (line_at path.now name.now (Some offset) remedy.now))
+    ensures line { Refused (refusal_line (line_at path.now name.now (Some offset) remedy.now))
         (E.taken err.old) (E.taken err.new) (E.failures err.old) (E.failures err.new) }
+    ensures hands_on { HandsOn (E.is_flushed err.old) (E.is_flushed err.new)
+        (E.failures err.old) (E.failures err.new) }
 {
     let mut digits = itoa::Buffer::new();
     refuse_digits_at(alloc, path, name, digits.format(offset), remedy, err)
@@ -285,9 +302,11 @@ fn refuse_digits_at<E: Sink>(
     remedy: &str,
     err: &mut E,
 )
-    ensures { (offset : ℕ) → digits.now ≡ decimal offset
+    ensures line { (offset : ℕ) → digits.now ≡ decimal offset
         → Refused (refusal_line (line_at path.now name.now (Some offset) remedy.now))
         (E.taken err.old) (E.taken err.new) (E.failures err.old) (E.failures err.new) }
+    ensures hands_on { HandsOn (E.is_flushed err.old) (E.is_flushed err.new)
+        (E.failures err.old) (E.failures err.new) }
 {
     let name = name.as_bytes();
     let digits = digits.as_bytes();
@@ -303,24 +322,30 @@ fn refuse_digits_at<E: Sink>(
 
 /// Writes a line.
 fn refuse_text<E: Sink>(alloc: Global, err: &mut E, line: &str)
-    ensures { Refused (refusal_line line.now)
+    ensures line { Refused (refusal_line line.now)
         (E.taken err.old) (E.taken err.new) (E.failures err.old) (E.failures err.new) }
+    ensures hands_on { HandsOn (E.is_flushed err.old) (E.is_flushed err.new)
+        (E.failures err.old) (E.failures err.new) }
 {
     refuse(alloc, err, &[BEGIN, line.as_bytes(), END])
 }
 
 /// Writes lines that may be no text.
 fn refuse_words<E: Sink>(alloc: Global, err: &mut E, words: &[u8])
-    ensures { Refused (refusal_line words.now)
+    ensures line { Refused (refusal_line words.now)
         (E.taken err.old) (E.taken err.new) (E.failures err.old) (E.failures err.new) }
+    ensures hands_on { HandsOn (E.is_flushed err.old) (E.is_flushed err.new)
+        (E.failures err.old) (E.failures err.new) }
 {
     refuse(alloc, err, &[BEGIN, words, END])
 }
 
 /// Writes the line of refused memory. Takes none.
 pub fn refuse_memory<E: Sink>(err: &mut E)
-    ensures { Refused (refusal_line (codes "out of memory"))
+    ensures line { Refused (refusal_line (codes "out of memory"))
         (E.taken err.old) (E.taken err.new) (E.failures err.old) (E.failures err.new) }
+    ensures hands_on { HandsOn (E.is_flushed err.old) (E.is_flushed err.new)
+        (E.failures err.old) (E.failures err.new) }
 {
     refuse_whole(err, b"hwdb: out of memory\n")
 }
@@ -328,8 +353,10 @@ pub fn refuse_memory<E: Sink>(err: &mut E)
 /// Writes a line, given in parts: at once, so that nothing of another process gets into it; in parts without memory for
 /// the whole.
 fn refuse<E: Sink>(alloc: Global, err: &mut E, parts: &[&[u8]])
-    ensures { Refused (concat (map (λ part. part.now) parts.now))
+    ensures line { Refused (concat (map (λ part. part.now) parts.now))
         (E.taken err.old) (E.taken err.new) (E.failures err.old) (E.failures err.new) }
+    ensures hands_on { HandsOn (E.is_flushed err.old) (E.is_flushed err.new)
+        (E.failures err.old) (E.failures err.new) }
 {
     match whole(alloc, parts) {
         Ok(line) => refuse_whole(err, &line),
@@ -350,8 +377,10 @@ fn whole(alloc: Global, parts: &[&[u8]]) -> Result<Vec<u8>, AllocError>
 
 /// Writes a whole line.
 fn refuse_whole<E: Sink>(err: &mut E, line: &[u8])
-    ensures { Refused line.now
+    ensures line { Refused line.now
         (E.taken err.old) (E.taken err.new) (E.failures err.old) (E.failures err.new) }
+    ensures hands_on { HandsOn (E.is_flushed err.old) (E.is_flushed err.new)
+        (E.failures err.old) (E.failures err.new) }
 {
     one_failed_has_failed();
     match write_text(err, line) {
@@ -362,8 +391,10 @@ fn refuse_whole<E: Sink>(err: &mut E, line: &[u8])
 
 /// Writes the parts of a line, one after another.
 fn refuse_in_parts<E: Sink>(err: &mut E, parts: &[&[u8]])
-    ensures { Refused (concat (map (λ part. part.now) parts.now))
+    ensures line { Refused (concat (map (λ part. part.now) parts.now))
         (E.taken err.old) (E.taken err.new) (E.failures err.old) (E.failures err.new) }
+    ensures hands_on { HandsOn (E.is_flushed err.old) (E.is_flushed err.new)
+        (E.failures err.old) (E.failures err.new) }
 {
     one_failed_has_failed();
     for part in parts {

@@ -1,5 +1,5 @@
 //! Any std reader as a source, and any std writer as a sink. They tell of the bytes what these tell.
-ghost use Rattle.std.specs.Prelude.{◌≡◌};
+ghost use Rattle.std.specs.Prelude.{◌≡◌, true};
 ghost use Rattle.std.specs.Io.{ReadsAtMost, WritesAtMost};
 ghost use Rattle.std.specs.Io.KnownBytes.{ReadConsumes, WriteAppends};
 ghost use Rattle.hwdb_spec.specs.Failures.{after_failure};
@@ -104,17 +104,21 @@ pub struct ToWrite<W> {
     pub failed: u64,
     /// Why the last of these did.
     pub cause: Option<Cause>,
+    /// Whether it took nothing since the last flush.
+    pub flushed: bool,
 }
 
 impl<W> ToWrite<W> {
-    /// A writer of which no call has failed.
+    /// A writer of which no call has failed, and that has taken nothing.
     pub fn new(inner: W) -> ToWrite<W>
-        ensures { result.failed ≡ 0 }
+        ensures failed { result.failed ≡ 0 }
+        ensures flushed { result.flushed ≡ true }
     {
         ToWrite {
             inner,
             failed: 0,
             cause: None,
+            flushed: true,
         }
     }
 
@@ -132,12 +136,13 @@ impl<W> ToWrite<W> {
 impl<W: Write> Sink for ToWrite<W> {
     ghost taken = { λ s. W.contents s.inner };
 
-    // No contract of the library says what a writer holds back.
-    ghost is_flushed = { λ _. Unit {0} };
+    // No contract of the library says what a writer holds back: this says that its flush was called, and was Ok.
+    ghost is_flushed = { λ s. s.flushed ≡ true };
 
     ghost failures = { λ s. s.failed };
 
     fn write(&mut self, buf: &[u8]) -> Result<usize, DeviceFailed> {
+        self.flushed = false;
         match write_on(&mut self.inner, buf) {
             Ok(n) if n > 0 || buf.is_empty() => Ok(n),
             Ok(_) => Err(self.fail(Cause::Nothing)),
@@ -147,7 +152,10 @@ impl<W: Write> Sink for ToWrite<W> {
 
     fn flush(&mut self) -> Result<(), DeviceFailed> {
         match self.inner.flush() {
-            Ok(()) => Ok(()),
+            Ok(()) => {
+                self.flushed = true;
+                Ok(())
+            }
             Err(error) => Err(self.fail(Cause::of(&error))),
         }
     }

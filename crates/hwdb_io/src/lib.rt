@@ -24,5 +24,5 @@ pub use adapters::{FromRead, ToWrite, after_failure, write_on};
 pub use causes::{Cause, Message};
 pub use devices::{DeviceFailed, Sink, Source};
 pub use errors::ReadError;
-pub use laws::{one_failed_has_failed, outputs_have_what_they_took};
+pub use laws::{nothing_is_held_back, one_failed_has_failed, outputs_have_what_they_took};
 pub use transfer::{CHUNK, MAX_BYTES, read_all, write_text};

@@ -1,6 +1,7 @@
 //! Reading a whole source and writing a whole text.
 ghost use Rattle.std.specs.Prelude.{◌≡◌, ◌<◌, ◌≤◌, length, IfOk, IfSome, IsErrOf, OnErr, OnOk, vec_len};
 ghost use Rattle.std.specs.Io.KnownBytes.{IsAtEnd};
+ghost use Rattle.hwdb_spec.specs.Flushing.{HandsOn};
 ghost use Rattle.hwdb_spec.specs.Outputs.{CutShort, FailedOnly, Took};
 
 use crate::devices::{DeviceFailed, Sink, Source};
@@ -19,6 +20,8 @@ pub fn write_text<W: Sink>(sink: &mut W, text: &[u8]) -> Result<(), DeviceFailed
     ensures flushed { OnOk result (W.is_flushed sink.new) }
     ensures cut_short { OnErr result (CutShort text.now (W.taken sink.old) (W.taken sink.new)
         (W.failures sink.old) (W.failures sink.new)) }
+    ensures hands_on { HandsOn (W.is_flushed sink.old) (W.is_flushed sink.new)
+        (W.failures sink.old) (W.failures sink.new) }
 {
     let mut written = 0;
     while written < text.len() {

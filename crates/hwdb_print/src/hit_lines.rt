@@ -1,5 +1,6 @@
 //! Printing the hits of a cursor, one line after another.
 ghost use Rattle.std.specs.Prelude.{flat_map, ◌≡◌, OnOk, IfErr, IsErrOf};
+ghost use Rattle.hwdb_spec.specs.Flushing.{HandsOn};
 ghost use Rattle.hwdb_spec.specs.Outputs.{CutShort, Took};
 ghost use Rattle.hwdb_print.specs.Lookups.{IsPrintRefusal, TookLines, line_of, list_page, one_less};
 ghost use Rattle.hwdb_query.specs.Views.{assignment_of_hit};
@@ -55,6 +56,8 @@ pub fn print_hits<O: Sink>(
     ensures whole_lines { IsErrOf result ToolError.Memory
         → TookLines (line_of json) (within_limit limit hits.old.to_come)
         (O.taken out.old) (O.taken out.new) (O.failures out.old) (O.failures out.new) }
+    ensures hands_on { HandsOn (O.is_flushed out.old) (O.is_flushed out.new)
+        (O.failures out.old) (O.failures out.new) }
 {
     let mut line = Vec::new(alloc);
     let mut left = limit;

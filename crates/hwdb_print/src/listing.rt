@@ -1,6 +1,7 @@
 //! `list`: the hits that a database has for a device.
 ghost use Rattle.std.specs.Prelude.{◌≡◌, ◌≢◌, ◌⊎◌, List, IfOk, IfErr, OnOk, IsErrOf, false, option_map};
 ghost use Rattle.hwdb_query.specs.Views.{next_position};
+ghost use Rattle.hwdb_spec.specs.Flushing.{HandsOn};
 ghost use Rattle.hwdb_spec.specs.Asked.{IsFrom, IsListFrom};
 ghost use Rattle.hwdb_spec.specs.Folders.{Source};
 ghost use Rattle.hwdb_spec.specs.Outputs.{CutShortOne, TookOne};
@@ -61,6 +62,8 @@ pub fn print_list<O: Sink>(
         (O.taken out.old) (O.taken out.new) (O.failures out.old) (O.failures out.new) }
     ensures untouched { IfErr result
         (λ e. e ≢ ToolError.Write → e ≢ ToolError.Memory → out.new ≡ out.old) }
+    ensures hands_on { HandsOn (O.is_flushed out.old) (O.is_flushed out.new)
+        (O.failures out.old) (O.failures out.new) }
 {
     compiled_answers_are_last();
     let after = position_of(alloc, after)?;
@@ -98,6 +101,8 @@ pub fn run_list<O: Sink>(
         (O.taken out.old) (O.taken out.new) (O.failures out.old) (O.failures out.new) }
     ensures untouched { IfErr result
         (λ e. e ≢ ToolError.Write → e ≢ ToolError.Memory → out.new ≡ out.old) }
+    ensures hands_on { HandsOn (O.is_flushed out.old) (O.is_flushed out.new)
+        (O.failures out.old) (O.failures out.new) }
 {
     print_list(alloc, bytes, device, after, limit, false, out)
 }

@@ -1,5 +1,6 @@
 //! `query` and `explain`: what a database gives devices, as text or as JSON.
 ghost use Rattle.std.specs.Prelude.{[], ◌∷◌, ◌≡◌, List, IfOk, IfErr, OnOk, map, string_bytes};
+ghost use Rattle.hwdb_spec.specs.Flushing.{HandsOn};
 ghost use Rattle.hwdb_spec.specs.Databases.{IsTextOf};
 ghost use Rattle.hwdb_spec.specs.Folders.{Source};
 ghost use Rattle.hwdb_spec.specs.Outputs.{CutShortOne, Took, TookOne};
@@ -87,6 +88,8 @@ pub fn run_query<O: Sink>(
         (CutShortOne (IsTextOf (query_text device.now) bytes.now)
         (O.taken out.old) (O.taken out.new) (O.failures out.old) (O.failures out.new))
         (out.new ≡ out.old)) }
+    ensures hands_on { HandsOn (O.is_flushed out.old) (O.is_flushed out.new)
+        (O.failures out.old) (O.failures out.new) }
 {
     let text = properties_of(alloc, bytes, device)?;
     write_text(out, &text)?;

@@ -2,6 +2,7 @@
 ghost use Rattle.std.specs.Prelude.{◌≡◌, ◌≢◌, [], IfOk, IfErr, OnOk};
 ghost use Rattle.std.specs.Io.KnownBytes.{Appends};
 ghost use Rattle.hwdb_text.specs.Views.{choice_of};
+ghost use Rattle.hwdb_spec.specs.Flushing.{HandsOn};
 ghost use Rattle.hwdb_spec.specs.Outputs.{CutShortTexts, TookTexts};
 ghost use Rattle.hwdb_spec.specs.Texts.{max_file, last_values_text};
 ghost use Rattle.hwdb_spec.specs.Done.{AreAskTexts};
@@ -89,6 +90,10 @@ pub fn ask<O: Sink, E: Sink>(
         (E.taken err.old) (E.taken err.new) (E.failures err.old) (E.failures err.new)
         (O.taken out.old) (O.taken out.new) (O.failures out.old) (O.failures out.new))
         ((err.new ≡ err.old) × (out.new ≡ out.old))) }
+    ensures out_hands_on { HandsOn (O.is_flushed out.old) (O.is_flushed out.new)
+        (O.failures out.old) (O.failures out.new) }
+    ensures err_hands_on { HandsOn (E.is_flushed err.old) (E.is_flushed err.new)
+        (E.failures err.old) (E.failures err.new) }
 {
     let texts = ask_texts(alloc, file, bytes, device)?;
     write_text(err, &texts.faults)?;

@@ -1,6 +1,7 @@
 //! The devices of a source, each answered as it comes.
 ghost use Rattle.std.specs.Prelude.{◌≡◌, ◌⊎◌, ◌<◌, List, length, IfErr, IfSome, OnOk, IsErrOf};
 ghost use Rattle.std.specs.Io.KnownBytes.{Appends};
+ghost use Rattle.hwdb_spec.specs.Flushing.{HandsOn};
 ghost use Rattle.hwdb_spec.specs.Folders.{Source, max_lines};
 ghost use Rattle.hwdb_spec.specs.ManyDevices.{HasLongLine};
 ghost use Rattle.hwdb_spec.specs.Texts.{devices_of, max_file};
@@ -38,6 +39,8 @@ fn answer_lines<I: Source, O: Sink>(
     ensures cut_short { IfErr result (λ _. IfSome (I.left input.old) (λ text.
         AppendsPrefix (O.taken out.old) (O.taken out.new)
         (texts_of form (devices_of text) db.now))) }
+    ensures hands_on { HandsOn (O.is_flushed out.old) (O.is_flushed out.new)
+        (O.failures out.old) (O.failures out.new) }
 {
     let mut lines = LineReader::new();
     let mut is_first = true;
@@ -85,6 +88,8 @@ pub fn run_stream<I: Source, O: Sink>(
         (O.taken out.old) (O.taken out.new))) }
     ensures untouched { IfErr result (IfBadDatabase
         ((input.new ≡ input.old) × (out.new ≡ out.old))) }
+    ensures hands_on { HandsOn (O.is_flushed out.old) (O.is_flushed out.new)
+        (O.failures out.old) (O.failures out.new) }
 {
     compiled_answers_are_last();
     let db = check(bytes)?;

@@ -1,6 +1,7 @@
 //! What `update` does with the files of both folders.
 ghost use Rattle.std.specs.Prelude.{◌≡◌, ◌≢◌, ◌++◌, None, map, IfOk, IfErr, OnOk, IsErrOf};
 ghost use Rattle.hwdb_compile.specs.Views.{sources, fault_of};
+ghost use Rattle.hwdb_spec.specs.Flushing.{HandsOn};
 ghost use Rattle.hwdb_spec.specs.Outputs.{CutShort, Took};
 ghost use Rattle.hwdb_spec.specs.Texts.{status_of, faults_text};
 ghost use Rattle.hwdb_spec.specs.Folders.{faults_of_files};
@@ -79,6 +80,8 @@ pub fn put_in_place<S: Store, E: Sink>(
     ensures untouched { IfErr result
         (λ e. e ≢ ToolError.Write → ((u : Unreplaced) → e ≢ ToolError.Replace u)
         → (err.new ≡ err.old) × (store.new ≡ store.old)) }
+    ensures hands_on { HandsOn (E.is_flushed err.old) (E.is_flushed err.new)
+        (E.failures err.old) (E.failures err.new) }
 {
     let text = with_fault_lines(alloc, progress, &compiled.faults)?;
     write_text(err, &text)?;
@@ -125,6 +128,8 @@ pub fn run_update<S: Store, E: Sink>(
     ensures untouched { IfErr result
         (λ e. e ≢ ToolError.Write → ((u : Unreplaced) → e ≢ ToolError.Replace u)
         → (err.new ≡ err.old) × (store.new ≡ store.old)) }
+    ensures hands_on { HandsOn (E.is_flushed err.old) (E.is_flushed err.new)
+        (E.failures err.old) (E.failures err.new) }
 {
     let compiled = compile(alloc, etc, usr, max_bytes)?;
     put_in_place(alloc, &compiled, &[], strict, folder, store, err)

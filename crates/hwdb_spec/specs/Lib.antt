@@ -31,6 +31,7 @@ pub mod LoneFile
 pub mod Databases
 pub mod Failures
 pub mod Outputs
+pub mod Flushing
 pub mod Store
 pub mod Runs
 pub mod Crashes

@@ -38,6 +38,7 @@
 //! | `Databases` | what bytes of databases give, and what is so of bytes that are none |
 //! | `Failures` | how failed calls are counted |
 //! | `Outputs` | what commands write: how the bytes that a sink tells grow |
+//! | `Flushing` | what an output holds back after it took a text |
 //! | `Store` | a store of files, what a crash may leave, and a database that is replaced |
 //! | `Runs` | what a run sees and leaves: files, and devices that tell of their bytes; and texts that both outputs took |
 //! | `Crashes` | what a crash may leave of files, call by call |

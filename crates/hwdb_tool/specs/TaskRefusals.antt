@@ -1,6 +1,6 @@
 -- Which refusals end a task, when each comes, and what it leaves: the files, what standard error had taken before the
 -- refusal's line, and standard output. Our choice.
-use Rattle.std.specs.Prelude.{◌≡◌, ◌⊎◌, ◌==◌, ℕ, Bool, true, false, not, is_some, length, List, [], ◌∷◌, Option, Some, map, option_map, string_bytes, codes}
+use Rattle.std.specs.Prelude.{◌≡◌, ◌≢◌, ◌⊎◌, ◌==◌, ℕ, Bool, true, false, not, is_some, length, List, [], ◌∷◌, Option, Some, map, option_map, string_bytes, codes}
 use Rattle.clap.specs.Faults.{fault_of}
 use Rattle.hwdb_cli.specs.Line.{hwdb_app}
 use Rattle.hwdb_cli.specs.Words.{AskFor, AskForText, AreToldBy}
@@ -170,6 +170,7 @@ pub record IsCutShort (gone_before gone : Type 0) (words : List (List ℕ)) (bef
 pub record IsTextCutShort (gone : Type 0) (words : List (List ℕ)) (before now : World) : Type 0 where
   pub asked : AskForText words
   pub text : List ℕ
+  pub some : text ≢ []
   pub cut : WasCut text before.out now.out
   pub kept : AreKept before.files now.files
   pub err : now.err ≡ before.err

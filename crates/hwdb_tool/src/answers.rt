@@ -1,5 +1,6 @@
 //! What devices get: from the database, or from one text file.
 ghost use Rattle.std.specs.Prelude.{[], ◌∷◌, ◌≡◌, ◌≤◌, ◌⊎◌, true, false, option_map, IfErr, IfOk};
+ghost use Rattle.hwdb_spec.specs.Flushing.{HandsOn};
 ghost use Rattle.hwdb_spec.specs.Asked.{IsAnswered, IsListFrom};
 ghost use Rattle.hwdb_spec.specs.Databases.{IsTextOf};
 ghost use Rattle.hwdb_spec.specs.Done.{IsAsked};
@@ -50,6 +51,10 @@ pub fn explain<D: System, I: Source, O: Sink, E: Sink>(
         HasReason (D.System.may_fail system.now) ⊥ (D.Store.seen system.now) r
         ⊎ ((is_dash device.now ≡ true)
         × IsInputUnread (I.left input.old) (I.failures input.old) (I.failures input.new) r)) }
+    ensures out_hands_on { HandsOn (O.is_flushed out.old) (O.is_flushed out.new)
+        (O.failures out.old) (O.failures out.new) }
+    ensures err_hands_on { HandsOn (E.is_flushed err.old) (E.is_flushed err.new)
+        (E.failures err.old) (E.failures err.new) }
 {
     if is_dash(device) {
         return answer_input(alloc, root, Form::Explain { json }, system, input, out);
@@ -103,6 +108,8 @@ pub fn list<D: System, O: Sink>(
         (told_by O.taken O.failures out.old) (told_by O.taken O.failures out.new)) }
     ensures reason { IfErr result
         (HasReason (D.System.may_fail system.now) ⊥ (D.Store.seen system.now)) }
+    ensures hands_on { HandsOn (O.is_flushed out.old) (O.is_flushed out.new)
+        (O.failures out.old) (O.failures out.new) }
 {
     let found = asked(alloc, root, system)?;
     match print_list(alloc, &found.bytes, device, after, limit, json, out) {

@@ -1,5 +1,6 @@
 //! The program: its words, its files, its status and its refusal lines.
 ghost use Rattle.std.specs.Prelude.{◌≡◌, ◌<◌, ◌≤◌, ◌⊎◌, false, map, option_map, string_bytes, IfOk, IfErr};
+ghost use Rattle.hwdb_spec.specs.Flushing.{HandsOn, HasHandedOn};
 ghost use Rattle.hwdb_spec.specs.Store as spec;
 ghost use Rattle.hwdb_spec.specs.Runs.{files_by, told_by, world_by};
 ghost use Rattle.hwdb_cli.specs.Refusals.{AreWrong};
@@ -58,6 +59,10 @@ pub fn program<D: Rooted, I: Source, O: Outlet, E: Sink>(
         (told_by E.taken E.failures) in HasFailedWith (map string_bytes words.now) result
         (world system.old input.old out.old err.old)
         (world system.new input.new out.new err.new) }
+    ensures out_hands_on { HandsOn (O.Sink.is_flushed out.old) (O.Sink.is_flushed out.new)
+        (O.Sink.failures out.old) (O.Sink.failures out.new) }
+    ensures err_handed_on { HasHandedOn (E.is_flushed err.old) (E.is_flushed err.new)
+        (E.failures err.old) (E.failures err.new) }
 {
     match read_words(alloc, words) {
         Ok(job) => match enter_root(&job, system) {
@@ -127,6 +132,8 @@ fn refuse_job<O: Outlet, E: Sink>(
     ensures quiet { result ≡ 0 → err.new ≡ err.old }
     ensures line { 0 < result → IsSaid refusal
         (told_by E.taken E.failures err.old) (told_by E.taken E.failures err.new) }
+    ensures hands_on { HandsOn (E.is_flushed err.old) (E.is_flushed err.new)
+        (E.failures err.old) (E.failures err.new) }
 {
     match (refusal, out.cause()) {
         (Refusal::Plain(ToolError::Write), Some(cause)) => {
@@ -181,6 +188,10 @@ fn run<D: System, I: Source, O: Sink, E: Sink>(
         IfErr result (IsJobNotDone job.now
         (world system.old input.old out.old err.old)
         (world system.new input.new out.new err.new)) }
+    ensures out_hands_on { HandsOn (O.is_flushed out.old) (O.is_flushed out.new)
+        (O.failures out.old) (O.failures out.new) }
+    ensures err_hands_on { HandsOn (E.is_flushed err.old) (E.is_flushed err.new)
+        (E.failures err.old) (E.failures err.new) }
 {
     let root = root_of(job);
     match &job.task {

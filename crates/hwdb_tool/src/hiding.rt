@@ -1,5 +1,6 @@
 //! What `update --usr --verbose` says before it updates: where /etc's database, which is asked first, hides the new one.
 ghost use Rattle.std.specs.Prelude.{◌≡◌, ◌≤◌, IfOk, IfErr, OnOk, string_bytes};
+ghost use Rattle.hwdb_spec.specs.Flushing.{HandsOn};
 ghost use Rattle.hwdb_spec.specs.Runs.{HasTaken, files_by, told_by};
 ghost use Rattle.hwdb_spec.specs.Hiding.{hiding_line, hiding_text};
 ghost use Rattle.hwdb_spec.specs.Store as spec;
@@ -77,6 +78,9 @@ fn tell_hiding<D: System, E: Sink>(
         (told_by E.taken E.failures err.old) (told_by E.taken E.failures err.new)) }
     ensures reason { IfErr result
         (HasReason (D.System.may_fail system.now) ⊥ (D.Store.seen system.now)) }
+    ensures unfailed { OnOk result (E.failures err.new ≡ E.failures err.old) }
+    ensures hands_on { HandsOn (E.is_flushed err.old) (E.is_flushed err.new)
+        (E.failures err.old) (E.failures err.new) }
 {
     let text = hiding_text(alloc, root, usr, verbose, system)?;
     say(&text, err)
@@ -112,6 +116,8 @@ pub fn update_telling<D: System, E: Sink>(
     ensures reason { D.Store.tells → IfErr result (HasReason (D.System.may_fail system.old)
         (IsUnwritable (Folder.database_folder usr root.now) (D.Store.seen system.old)
         (D.Store.failures system.old) (D.Store.failures system.new)) (D.Store.seen system.old)) }
+    ensures hands_on { HandsOn (E.is_flushed err.old) (E.is_flushed err.new)
+        (E.failures err.old) (E.failures err.new) }
 {
     tell_hiding(alloc, root, usr, verbose, system, err)?;
     update(alloc, root, usr, strict, verbose, skip, system, err)

@@ -1,5 +1,6 @@
 //! `query -` and `explain -`: the devices that standard input names.
 ghost use Rattle.std.specs.Prelude.{◌≡◌, ◌⊎◌, IfErr, IfOk, IfSome, OnOk};
+ghost use Rattle.hwdb_spec.specs.Flushing.{HandsOn};
 ghost use Rattle.hwdb_spec.specs.Outputs.{TookOne};
 ghost use Rattle.hwdb_spec.specs.Runs.{told_by};
 ghost use Rattle.hwdb_spec.specs.Texts.{devices_of};
@@ -34,6 +35,8 @@ pub fn answer_input<D: System, I: Source, O: Sink>(
     ensures reason { IfErr result (λ r.
         HasReason (D.System.may_fail system.now) ⊥ (D.Store.seen system.now) r
         ⊎ IsInputUnread (I.left input.old) (I.failures input.old) (I.failures input.new) r) }
+    ensures hands_on { HandsOn (O.is_flushed out.old) (O.is_flushed out.new)
+        (O.failures out.old) (O.failures out.new) }
 {
     let found = asked(alloc, root, system)?;
     match run_stream(alloc, &found.bytes, form, input, out) {

@@ -1,5 +1,6 @@
 //! What a command prints, and the one place where it is printed.
 ghost use Rattle.std.specs.Prelude.{[], ◌≡◌, ◌≤◌, IfErr, IfOk, OnOk};
+ghost use Rattle.hwdb_spec.specs.Flushing.{HandsOn};
 ghost use Rattle.hwdb_spec.specs.Runs.{HasTaken, Printed, PrintedPart, WasCut, told_by};
 ghost use Rattle.hwdb_tool.specs.Views.{IsNotPrinted, IsPrintedWith, texts_in};
 ghost use Rattle.hwdb_fs.specs.declared.refusals.Refusal.TheVariants.{Plain};
@@ -16,6 +17,8 @@ pub fn say<E: Sink>(text: &[u8], err: &mut E) -> Result<(), Refusal>
     ensures quiet { text.now ≡ [] → err.new ≡ err.old }
     ensures refused { IfErr result (λ r. (r ≡ Plain ToolError.Write) × WasCut text.now
         (told_by E.taken E.failures err.old) (told_by E.taken E.failures err.new)) }
+    ensures hands_on { HandsOn (E.is_flushed err.old) (E.is_flushed err.new)
+        (E.failures err.old) (E.failures err.new) }
 {
     if text.is_empty() {
         return Ok(());
@@ -39,6 +42,10 @@ pub fn printed<O: Sink, E: Sink>(
     ensures refused { IfErr result (λ r. IsNotPrinted answer r
         (told_by E.taken E.failures err.old) (told_by E.taken E.failures err.new)
         (told_by O.taken O.failures out.old) (told_by O.taken O.failures out.new)) }
+    ensures out_hands_on { HandsOn (O.is_flushed out.old) (O.is_flushed out.new)
+        (O.failures out.old) (O.failures out.new) }
+    ensures err_hands_on { HandsOn (E.is_flushed err.old) (E.is_flushed err.new)
+        (E.failures err.old) (E.failures err.new) }
 {
     match answer {
         Ok(answer) => print(&answer, out, err),
@@ -56,6 +63,10 @@ fn print<O: Sink, E: Sink>(answer: &Answer, out: &mut O, err: &mut E) -> Result<
         × PrintedPart (λ texts. texts ≡ texts_in answer.now)
         (told_by E.taken E.failures err.old) (told_by E.taken E.failures err.new)
         (told_by O.taken O.failures out.old) (told_by O.taken O.failures out.new)) }
+    ensures out_hands_on { HandsOn (O.is_flushed out.old) (O.is_flushed out.new)
+        (O.failures out.old) (O.failures out.new) }
+    ensures err_hands_on { HandsOn (E.is_flushed err.old) (E.is_flushed err.new)
+        (E.failures err.old) (E.failures err.new) }
 {
     say(&answer.err, err)?;
     match write_text(out, &answer.out) {

@@ -1,5 +1,6 @@
 //! `query`: what each of several devices gets, those of the words or those that standard input names.
 ghost use Rattle.std.specs.Prelude.{◌≡◌, ◌≤◌, ◌⊎◌, true, false, map, string_bytes, IfErr, IfOk};
+ghost use Rattle.hwdb_spec.specs.Flushing.{HandsOn};
 ghost use Rattle.hwdb_spec.specs.Asked.{IsAnswered};
 ghost use Rattle.hwdb_spec.specs.Databases.{IsTextOf};
 ghost use Rattle.hwdb_spec.specs.Given.{is_input};
@@ -45,6 +46,10 @@ pub fn query<D: System, I: Source, O: Sink, E: Sink>(
         HasReason (D.System.may_fail system.now) ⊥ (D.Store.seen system.now) r
         ⊎ ((is_input (map string_bytes devices.now) ≡ true)
         × IsInputUnread (I.left input.old) (I.failures input.old) (I.failures input.new) r)) }
+    ensures out_hands_on { HandsOn (O.is_flushed out.old) (O.is_flushed out.new)
+        (O.failures out.old) (O.failures out.new) }
+    ensures err_hands_on { HandsOn (E.is_flushed err.old) (E.is_flushed err.new)
+        (E.failures err.old) (E.failures err.new) }
 {
     if is_input(devices) {
         return answer_input(alloc, root, Form::Query { json }, system, input, out);

@@ -1,5 +1,6 @@
 //! `update`: the text files of both folders, compiled into the database of one.
 ghost use Rattle.std.specs.Prelude.{◌≡◌, ◌≢◌, ◌≤◌, ℕ, List, length, map, option_map, string_bytes, All, IfOk, IfErr, IsErrOf};
+ghost use Rattle.hwdb_spec.specs.Flushing.{HandsOn};
 ghost use Rattle.hwdb_spec.specs.Progress.{given_where, update_text};
 ghost use Rattle.hwdb_spec.specs.Store as spec;
 ghost use Rattle.hwdb_spec.specs.System as Folder;
@@ -67,6 +68,8 @@ fn update_files<S: Store, E: Sink>(
     ensures untouched { IfErr result
         (λ e. e ≢ ToolError.Write → ((u : Unreplaced) → e ≢ ToolError.Replace u)
         → (err.new ≡ err.old) × (store.new ≡ store.old)) }
+    ensures hands_on { HandsOn (E.is_flushed err.old) (E.is_flushed err.new)
+        (E.failures err.old) (E.failures err.new) }
 {
     let compiled = compile_chosen(alloc, files, MAX_BYTES)?;
     let told = progress(alloc, files, listed, &compiled)?;
@@ -115,6 +118,8 @@ fn update_selected<D: System, E: Sink>(
     ensures reason { D.Store.tells → IfErr result (HasReason (D.System.may_fail system.old)
         (IsUnwritable (Folder.database_folder usr root.now) (D.Store.seen system.old)
         (D.Store.failures system.old) (D.Store.failures system.new)) (D.Store.seen system.old)) }
+    ensures hands_on { HandsOn (E.is_flushed err.old) (E.is_flushed err.new)
+        (E.failures err.old) (E.failures err.new) }
 {
     let files = with_texts(alloc, &selection.chosen, &selection.texts)?;
     let folder = database_folder(alloc, root, usr)?;
@@ -176,6 +181,8 @@ pub fn update<D: System, E: Sink>(
     ensures reason { D.Store.tells → IfErr result (HasReason (D.System.may_fail system.old)
         (IsUnwritable (Folder.database_folder usr root.now) (D.Store.seen system.old)
         (D.Store.failures system.old) (D.Store.failures system.new)) (D.Store.seen system.old)) }
+    ensures hands_on { HandsOn (E.is_flushed err.old) (E.is_flushed err.new)
+        (E.failures err.old) (E.failures err.new) }
 {
     let readable = selected_readable(alloc, root, skip, system)?;
     say(&readable.said, err)?;

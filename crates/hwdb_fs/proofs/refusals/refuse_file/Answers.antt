@@ -4,8 +4,8 @@ use Rattle.hwdb_io.specs.declared.causes.Cause.{Cause}
 use Rattle.hwdb_fs.proofs.LineLemmas.{refused_as, cause_line, two_line}
 use Rattle.hwdb_fs.proofs.refusals.refuse_file.Goals as goal
 
-pub returns-in-Some : goal.returns-in-Some
-returns-in-Some g c =
+pub returns-in-Some-clause-line : goal.returns-in-Some-clause-line
+returns-in-Some-clause-line g c =
     let words = c.as_bytes.result.now in (
       words,
       c.as_bytes.ensures,
@@ -13,16 +13,16 @@ returns-in-Some g c =
           (cause_line c.as_bytes-failed.result.now c.args.path.now c.as_slice-colon.result.now words c.as_slice-colon.ensures
           ∙ ap (λ (f : List ℕ). refusal_line (f ++ file_text c.args.path.now (Some c.in-Some.cause) words)) c.as_bytes-failed.ensures.value
           ∙ ap (λ (o : Option Cause). refusal_line (c.args.failed.now ++ file_text c.args.path.now o words)) (sym c.in-Some.is))
-          c.refuse-in-Some.ensures,
+          c.refuse-in-Some.ensures.line,
     )
 
-pub returns-in-None : goal.returns-in-None
-returns-in-None g c = (
+pub returns-in-None-clause-line : goal.returns-in-None-clause-line
+returns-in-None-clause-line g c = (
   [],
   refl,
   refused_as _ _ _ _ _ _
       (two_line c.as_bytes-failed.result.now c.args.path.now
       ∙ ap (λ (f : List ℕ). refusal_line (f ++ c.args.path.now)) c.as_bytes-failed.ensures.value
       ∙ ap (λ (o : Option Cause). refusal_line (c.args.failed.now ++ file_text c.args.path.now o [])) (sym c.in-None.is))
-      c.refuse.ensures,
+      c.refuse.ensures.line,
 )

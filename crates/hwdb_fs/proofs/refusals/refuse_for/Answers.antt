@@ -4,9 +4,9 @@ use Rattle.hwdb_fs.specs.declared.refusals.Refusal.{Refusal}
 use Rattle.hwdb_fs.proofs.LineLemmas.{refused_as}
 use Rattle.hwdb_fs.proofs.refusals.refuse_for.Goals as goal
 
-pub returns-in-At : goal.returns-in-At
-returns-in-At g c =
-    let line = c.refuse_over.ensures in
+pub returns-in-At-clause-line : goal.returns-in-At-clause-line
+returns-in-At-clause-line g c =
+    let line = c.refuse_over.ensures.line in
     let words = line.0 in (
       words,
       line.1,
@@ -16,16 +16,16 @@ returns-in-At g c =
           line.2,
     )
 
-pub returns-in-NoDatabase : goal.returns-in-NoDatabase
-returns-in-NoDatabase g c = (
+pub returns-in-NoDatabase-clause-line : goal.returns-in-NoDatabase-clause-line
+returns-in-NoDatabase-clause-line g c = (
   [],
   refl,
-  refused_as _ _ _ _ _ _ (ap (λ (r : Refusal). refusal_line (refusal_text r [])) (sym c.in-NoDatabase.is)) c.refuse_text.ensures,
+  refused_as _ _ _ _ _ _ (ap (λ (r : Refusal). refusal_line (refusal_text r [])) (sym c.in-NoDatabase.is)) c.refuse_text.ensures.line,
 )
 
-pub returns-in-Plain : goal.returns-in-Plain
-returns-in-Plain g c = (
+pub returns-in-Plain-clause-line : goal.returns-in-Plain-clause-line
+returns-in-Plain-clause-line g c = (
   [],
   refl,
-  refused_as _ _ _ _ _ _ (ap (λ (r : Refusal). refusal_line (refusal_text r [])) (sym c.in-Plain.is)) c.refuse_plainly.ensures,
+  refused_as _ _ _ _ _ _ (ap (λ (r : Refusal). refusal_line (refusal_text r [])) (sym c.in-Plain.is)) c.refuse_plainly.ensures.line,
 )

@@ -7,10 +7,11 @@ pub loop-part-preserved : goal.loop-part-preserved
 loop-part-preserved g c = record {
   taken = next_taken c.args.parts.now c.loop-part.part-index _ _ _ _ c.loop-part-test.true c.loop-part.invariant.taken c.in-Ok.ensures.took.whole;
   same = c.in-Ok.ensures.took.unfailed ∙ c.loop-part.invariant.same;
+  flushed = λ _. c.in-Ok.ensures.flushed;
 }
 
-pub returns-in-Err : goal.returns-in-Err
-returns-in-Err g c =
+pub returns-in-Err-clause-line : goal.returns-in-Err-clause-line
+returns-in-Err-clause-line g c =
     let failed : ℕ → Type 0 = λ n. HasFailed n (g.E.Sink.failures c.write_text.new.sink) in
     record {
       prefix = cut_text c.args.parts.now c.loop-part.part-index _ _ _ _ c.loop-part-test.true c.loop-part.invariant.taken c.in-Err.ensures.cut_short.prefix;

@@ -4,49 +4,49 @@ use Rattle.hwdb_print.specs.declared.errors.ToolError.{ToolError}
 use Rattle.hwdb_fs.proofs.LineLemmas.{refused_as, two_line, plain_text}
 use Rattle.hwdb_fs.proofs.refusals.refuse_over.Goals as goal
 
-pub returns-in-Read : goal.returns-in-Read
-returns-in-Read g c =
-    let line = c.refuse_file.ensures in
+pub returns-in-Read-clause-line : goal.returns-in-Read-clause-line
+returns-in-Read-clause-line g c =
+    let line = c.refuse_file.ensures.line in
     let words = line.0 in (
       words,
       line.1,
       refused_as _ _ _ _ _ _ (ap (λ (e : ToolError). refusal_line (path_text e c.args.path.now c.args.cause words)) (sym c.in-Read.is)) line.2,
     )
 
-pub returns-in-Write : goal.returns-in-Write
-returns-in-Write g c =
-    let line = c.refuse_file-in-Write.ensures in
+pub returns-in-Write-clause-line : goal.returns-in-Write-clause-line
+returns-in-Write-clause-line g c =
+    let line = c.refuse_file-in-Write.ensures.line in
     let words = line.0 in (
       words,
       line.1,
       refused_as _ _ _ _ _ _ (ap (λ (e : ToolError). refusal_line (path_text e c.args.path.now c.args.cause words)) (sym c.in-Write.is)) line.2,
     )
 
-pub returns-in-TooLong : goal.returns-in-TooLong
-returns-in-TooLong g c = (
+pub returns-in-TooLong-clause-line : goal.returns-in-TooLong-clause-line
+returns-in-TooLong-clause-line g c = (
   [],
   refl,
   refused_as _ _ _ _ _ _
       (two_line c.args.path.now c.as_slice-words.result.now
       ∙ ap (λ (w : List ℕ). refusal_line (c.args.path.now ++ w)) c.as_slice-words.ensures
       ∙ ap (λ (e : ToolError). refusal_line (path_text e c.args.path.now c.args.cause [])) (sym c.in-TooLong.is))
-      c.refuse.ensures,
+      c.refuse.ensures.line,
 )
 
-pub returns-in_default : goal.returns-in_default
-returns-in_default g c = (
+pub returns-in_default-clause-line : goal.returns-in_default-clause-line
+returns-in_default-clause-line g c = (
   [],
   refl,
   refused_as _ _ _ _ _ _
       (ap refusal_line (plain_text c.args.error c.args.path.now [] c.args.cause c.in_default.not-Read c.in_default.not-Write c.in_default.not-TooLong c.in_default.not-BadDatabase))
-      c.refuse_plainly.ensures,
+      c.refuse_plainly.ensures.line,
 )
 
-pub returns-in-BadDatabase : goal.returns-in-BadDatabase
-returns-in-BadDatabase g c = (
+pub returns-in-BadDatabase-clause-line : goal.returns-in-BadDatabase-clause-line
+returns-in-BadDatabase-clause-line g c = (
   [],
   refl,
   refused_as _ _ _ _ _ _
       (ap (λ (e : ToolError). refusal_line (path_text e c.args.path.now c.args.cause [])) (sym c.in-BadDatabase.is))
-      c.refuse_database_at.ensures,
+      c.refuse_database_at.ensures.line,
 )

@@ -5,6 +5,6 @@ use Rattle.hwdb_print.specs.declared.errors.ToolError.{ToolError}
 use Rattle.hwdb_fs.proofs.LineLemmas.{refused_as}
 use Rattle.hwdb_fs.proofs.refusals.refuse_plainly.Goals as goal
 
-pub returns-in-BadDatabase : goal.returns-in-BadDatabase
-returns-in-BadDatabase g c =
-    refused_as _ _ _ _ _ _ (ap (λ (e : ToolError). refusal_line (error_text e)) (sym c.in-BadDatabase.is)) c.refuse_database.ensures
+pub returns-in-BadDatabase-clause-line : goal.returns-in-BadDatabase-clause-line
+returns-in-BadDatabase-clause-line g c =
+    refused_as _ _ _ _ _ _ (ap (λ (e : ToolError). refusal_line (error_text e)) (sym c.in-BadDatabase.is)) c.refuse_database.ensures.line

@@ -24,6 +24,7 @@ printing-preserved g c =
       part = λ end q. c.printing.invariant.part end (part_step (line_of c.args.json) _ _ end _ _ _ f c.deref.result.now all (not_reached c.printing.left c.printing-test.ensures) line c.in_ok-write_text.ensures.took.whole (rw c.one_less-left.ensures at q));
       lines = λ end q. c.printing.invariant.lines end (lines_step (line_of c.args.json) _ _ end _ _ _ f c.deref.result.now all (not_reached c.printing.left c.printing-test.ensures) line c.in_ok-write_text.ensures.took.whole (rw c.one_less-left.ensures at q));
       same = c.in_ok-write_text.ensures.took.unfailed ∙ c.printing.invariant.same;
+      flushed = λ _. c.in_ok-write_text.ensures.flushed;
     }
 
 pub returns-in_err-hit-clause-whole_lines : goal.returns-in_err-hit-clause-whole_lines

@@ -16,6 +16,7 @@ invariant-printing g l = record {
   lines : (end : Option (List ℕ)) → AppendsLines (line_of l.json) (g.O.Sink.taken l.out) end (within_limit l.left l.hits.to_come)
       → AppendsLines (line_of l.json) (g.O.Sink.taken l.initial.out) end (within_limit l.initial.left l.initial.hits.to_come);
   same : g.O.Sink.failures l.out ≡ g.O.Sink.failures l.initial.out;
+  flushed : g.O.Sink.is_flushed l.initial.out → g.O.Sink.is_flushed l.out;
 }
 
 abbrev pub decreases-printing : goal.decreases-printing

@@ -42,6 +42,7 @@ answering-preserved g c =
       few = λ n q. few_more _ c.answering.counter n (c.answering.invariant.few (n + 1) (fewer_left _ _ c.in-Some.device.items n first q));
       same_input = c.in_ok-device.ensures.failures ∙ c.answering.invariant.same_input;
       same_out = c.in_ok-write_text.ensures.took.unfailed ∙ c.answering.invariant.same_out;
+      flushed = λ _. c.in_ok-write_text.ensures.flushed;
     }
 
 pub returns-clause-too_many : goal.returns-clause-too_many

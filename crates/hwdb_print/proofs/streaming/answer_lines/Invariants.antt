@@ -18,4 +18,5 @@ invariant-answering g l = record {
   long : IfSome (to_come l.lines (g.I.Source.left l.input)) (HasLongLine max_file) → IfSome (g.I.Source.left l.initial.input) (HasLongLine max_file);
   same_input : g.I.Source.failures l.input ≡ g.I.Source.failures l.initial.input;
   same_out : g.O.Sink.failures l.out ≡ g.O.Sink.failures l.initial.out;
+  flushed : g.O.Sink.is_flushed l.initial.out → g.O.Sink.is_flushed l.out;
 }

@@ -10,6 +10,7 @@ use Rattle.hwdb_tool.specs.Program.{OldOrAskedFor, OldOrDone, root_of}
 use Rattle.hwdb_tool.specs.TaskRefusals.{IsJobNotDone, IsTaskRefused}
 use Rattle.hwdb_tool.proofs.MomentLemmas.{leaves_more, leaves_old}
 use Rattle.hwdb_tool.proofs.CutLemmas.{cut_keeps}
+use Rattle.hwdb_tool.proofs.FlushLemmas.{handed_on, handed_on_twice}
 use Rattle.hwdb_tool.proofs.UsageLemmas.{usage_line}
 use Rattle.hwdb_tool.proofs.dispatch.program.Goals as goal
 
@@ -43,7 +44,7 @@ returns-in-Ok-clause-refused g c = λ tells is.
       unread = c.in-Err.ensures.refused;
       reason = c.in-Err.ensures.reason;
       kept = subst (λ (s : g.row.D.Denot). AreKept (F c.args.system.now) (F s)) (sym (c.enter_root.ensures.same tells)) (record { same = λ p. refl; no_more = λ p v l. l });
-      said = record { said = c.in-Err.refusal; of = inl refl; words = c.refuse_for.ensures.0; one_line = c.refuse_for.ensures.1; line = c.refuse_for.ensures.2 };
+      said = record { said = c.in-Err.refusal; of = inl refl; words = c.refuse_for.ensures.line.0; one_line = c.refuse_for.ensures.line.1; line = c.refuse_for.ensures.line.2 };
       out = refl;
       says = refl;
     }))
@@ -52,7 +53,7 @@ pub returns-clause-refused : goal.returns-clause-refused
 returns-clause-refused g c = λ tells is. inr (inr (inl record {
   fault = words_fault.Memory;
   of = tt;
-  told = (record { said = Plain Memory; of = inl refl; words = []; one_line = refl; line = c.refuse_memory.ensures }, refl);
+  told = (record { said = Plain Memory; of = inl refl; words = []; one_line = refl; line = c.refuse_memory.ensures.line }, refl);
   kept = record { same = λ p. refl; no_more = λ p v l. l };
   says = refl;
 }))
@@ -123,3 +124,18 @@ returns-in-Err-Usage-clause-refused g c = λ tells is.
       kept = record { same = λ p. refl; no_more = λ p v l. l };
       says = refl;
     }))
+
+pub returns-in-Ok-run-clause-err_handed_on : goal.returns-in-Ok-run-clause-err_handed_on
+returns-in-Ok-run-clause-err_handed_on g c = handed_on _ _ _ _ c.run.ensures.err_hands_on
+
+pub returns-in-Ok-enter_root-clause-err_handed_on : goal.returns-in-Ok-enter_root-clause-err_handed_on
+returns-in-Ok-enter_root-clause-err_handed_on g c = handed_on_twice _ _ _ _ _ _ c.run.ensures.err_hands_on c.refuse_job.ensures.hands_on
+
+pub returns-in-Ok-clause-err_handed_on : goal.returns-in-Ok-clause-err_handed_on
+returns-in-Ok-clause-err_handed_on g c = handed_on _ _ _ _ c.refuse_for.ensures.hands_on
+
+pub returns-in-Err-Usage-clause-err_handed_on : goal.returns-in-Err-Usage-clause-err_handed_on
+returns-in-Err-Usage-clause-err_handed_on g c = handed_on _ _ _ _ c.write_text-in-Err-Usage.ensures.hands_on
+
+pub returns-clause-err_handed_on : goal.returns-clause-err_handed_on
+returns-clause-err_handed_on g c = handed_on _ _ _ _ c.refuse_memory.ensures.hands_on

@@ -4,6 +4,7 @@ use Rattle.hwdb_spec.specs.Store as spec
 use Rattle.hwdb_spec.specs.System.{database_folder}
 use Rattle.hwdb_tool.specs.Hiding.{IsTellingUpdateRefused, IsUpdatedTelling}
 use Rattle.hwdb_tool.proofs.ErrorLemmas.{each_error, each_value, given_error}
+use Rattle.hwdb_tool.proofs.FlushLemmas.{hands_on_twice}
 use Rattle.hwdb_tool.proofs.hiding.update_telling.Goals as goal
 
 pub returns-in_err-tell_hiding-clause-refused : goal.returns-in_err-tell_hiding-clause-refused
@@ -31,3 +32,6 @@ returns-clause-updated g c = λ tells.
     c.update.result
     (λ status updated. record { err_then = T c.tell_hiding.new.err; told = c.in_ok-tell_hiding.ensures.told tells; updated = updated })
     (c.update.ensures.updated tells)
+
+pub returns-clause-hands_on : goal.returns-clause-hands_on
+returns-clause-hands_on g c = hands_on_twice _ _ _ _ _ _ c.in_ok-tell_hiding.ensures.unfailed c.in_ok-tell_hiding.ensures.hands_on c.update.ensures.hands_on

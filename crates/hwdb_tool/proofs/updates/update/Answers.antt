@@ -4,6 +4,7 @@ use Rattle.hwdb_spec.specs.LeftOut.{without}
 use Rattle.hwdb_spec.specs.Runs.{HasTaken, WasCut, files_by, told_by}
 use Rattle.hwdb_tool.specs.Readable.{IsUpdateRefused}
 use Rattle.hwdb_tool.proofs.ErrorLemmas.{given_error}
+use Rattle.hwdb_tool.proofs.FlushLemmas.{hands_on_twice}
 use Rattle.hwdb_tool.proofs.MomentLemmas.{leaves_less}
 use Rattle.hwdb_tool.proofs.updates.update.Goals as goal
 
@@ -83,3 +84,9 @@ returns-clause-updated g c = λ tells.
       updated = c.in_ok-status.ensures.updated (without less.left_out c.args.root.now (g.D.Store.seen c.args.system.now)) less.selected tells;
       answer = c.status_less.ensures.is c.args.root.now less.left_out (subst (AreTold c.args.root.now less.left_out) (sym c.deref-2.ensures.value) less.told);
     }
+
+pub returns-in_err-status-clause-hands_on : goal.returns-in_err-status-clause-hands_on
+returns-in_err-status-clause-hands_on g c = hands_on_twice _ _ _ _ _ _ c.in_ok-say.ensures.took.unfailed c.in_ok-say.ensures.hands_on c.in_err-status.ensures.hands_on
+
+pub returns-clause-hands_on : goal.returns-clause-hands_on
+returns-clause-hands_on g c = hands_on_twice _ _ _ _ _ _ c.in_ok-say.ensures.took.unfailed c.in_ok-say.ensures.hands_on c.in_ok-status.ensures.hands_on
