@@ -13,7 +13,6 @@ pub fn stops_are_computed()
 }
 
 /// So is how many tokens their longest front has.
-#[tactic(auto, using(crate::proofs::ComputedLemmas::longest_computed))]
 pub(crate) fn longest_is_computed()
     ensures { LongestIsComputed }
 {
