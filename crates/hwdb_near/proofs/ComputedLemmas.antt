@@ -3,6 +3,7 @@ use Rattle.std.proofs.Common.{◌≡◌, ◌∙◌, ap, sym, refl, ℕ, zero, su
 use Rattle.std.proofs.lemmas.Bool.{cases_eq}
 use Rattle.hwdb_spec.specs.Patterns.{Token, Matches, matches}
 use Rattle.hwdb_spec.specs.Tree.{some_up_to}
+use Rattle.hwdb_pattern.specs.Fronts.{IsLongest}
 use Rattle.hwdb_spec.specs.Near.{Front, Stops, last_up_to, first_up_to, meets_front, front_tokens, front_bytes, stop_of}
 
 some_here : (test : ℕ → Bool) (n : ℕ) → test n ≡ true → some_up_to test n ≡ true
@@ -67,14 +68,18 @@ not_true false h = refl
 abbrev pub IsTested : Type 0
 IsTested = (ts : List Token) (device : List ℕ) → IsTrue (matches ts device) ↔ Matches ts device
 
-tokens_computed : IsTested → (ts : List Token) (device : List ℕ) (f : Front) → Stops ts device f → front_tokens ts device ≡ f.tokens
-tokens_computed tested ts device f s =
-    last_is (λ k. meets_front (take k ts) device) (length ts) f.tokens s.met.tokens
-    (λ some. some_is (λ n. matches (take f.tokens ts) (take n device)) (length device) f.bytes s.met.bytes ((tested (take f.tokens ts) (take f.bytes device)).1 s.met.matched))
+pub longest_computed : IsTested → (ts : List Token) (device : List ℕ) (count : ℕ) → IsLongest ts device count → count ≡ front_tokens ts device
+longest_computed tested ts device count s =
+    sym (last_is (λ k. meets_front (take k ts) device) (length ts) count s.meets.tokens
+    (λ some. some_is (λ n. matches (take count ts) (take n device)) (length device) s.bytes s.meets.bytes ((tested (take count ts) (take s.bytes device)).1 s.meets.matched))
     (λ k up le. not_true (meets_front (take k ts) device) (λ h. (
     let r : Some (λ n. matches (take k ts) (take n device)) (length device) = some_of (λ n. matches (take k ts) (take n device)) (length device) h in
-    let bound = s.longest (record { tokens = k; bytes = r.at }) (record { tokens = le; bytes = r.within; matched = (tested (take k ts) (take r.at device)).0 r.passes }) in
-    absurd (omega (arith, bound, up)))))
+    let bound = s.most (record { tokens = k; bytes = r.at }) (record { tokens = le; bytes = r.within; matched = (tested (take k ts) (take r.at device)).0 r.passes }) in
+    absurd (omega (arith, bound, up))))))
+
+tokens_computed : IsTested → (ts : List Token) (device : List ℕ) (f : Front) → Stops ts device f → front_tokens ts device ≡ f.tokens
+tokens_computed tested ts device f s =
+    sym (longest_computed tested ts device f.tokens (record { bytes = f.bytes; meets = s.met; most = s.longest }))
 
 bytes_computed : IsTested → (ts : List Token) (device : List ℕ) (f : Front) → Stops ts device f → first_up_to (λ n. matches (take f.tokens ts) (take n device)) (length device) ≡ f.bytes
 bytes_computed tested ts device f s =

@@ -8,10 +8,10 @@ use Rattle.std.specs.declared.cmp.Ordering.TheVariants.{Less, Equal, Greater}
 use Rattle.std.specs.Ordering.{eq_by_cmp, nat_cmp, ordering_then}
 use Rattle.std.specs.List.{dedup}
 use Rattle.std.specs.List.Sorted.{IsSorted, IsPermutation}
-use Rattle.std.proofs.lemmas.List.{append-nil, take_at, take-append-drop, reverse-append, length-reverse, length-drop, drop-map}
+use Rattle.std.proofs.lemmas.List.{append-nil, take_at, take-append-drop, reverse-append, length-reverse, length-drop, drop-map, take-map}
 use Rattle.hwdb_spec.specs.Assignment.{in_order, text_cmp}
 use Rattle.hwdb_spec.specs.Patterns.{tokens}
-use Rattle.hwdb_spec.specs.Near.{PatternAt, Rated, folded, hits, literals, matching, missing, front_tokens, near_cmp, rated, unmet}
+use Rattle.hwdb_spec.specs.Near.{PatternAt, Rated, folded, hits, literals, matching, missing, front_literals, front_tokens, near_cmp, rated, unmet}
 use Rattle.hwdb_pattern.specs.Fronts.{token_of}
 use Rattle.hwdb_near.specs.declared.found.Rated.{Rated as Found}
 use Rattle.hwdb_near.specs.Internal.Ratings.{by_nearness, by_nearness_total, misses, near_total, rated_of}
@@ -94,17 +94,21 @@ missing_is ts rest device back k j n k_is le rest_is back_is j_is n_is =
     n_is ∙ ap literals (sym (drop-map token_of j rest) ∙ ap (λ (m : ℕ). drop m (map token_of rest)) j_is)
     ∙ (λ i. literals (unmet (more i) (back_is i)))
 
+-- the literals of the front, as the code counts them
+pub front_is : (ts : List Text) (device : List ℕ) (k n : ℕ) → k ≡ front_tokens (map token_of ts) device → n ≡ literals (map token_of (take k ts)) → n ≡ front_literals (map token_of ts) device
+front_is ts device k n k_is n_is = n_is ∙ ap literals (sym (take-map token_of k ts) ∙ ap (λ (m : ℕ). take m (map token_of ts)) k_is)
+
 -- ---- one pattern more
 
 pub hit_put : (device : List ℕ) (at : PatternAt) (l : List Rated) → hits device at ≡ true → l ≡ l ++ misses device (at ∷ [])
 hit_put device at l h = sym (append-nil l) ∙ ap (λ (b : Bool). l ++ map (rated device) (cond (not b) (at ∷ []) [])) (sym h)
 
 pub miss_put : (device folded_device : List ℕ) (at : PatternAt) (m f : ℕ) (l new : List Rated) → hits device at ≡ false → folded_device ≡ folded device
-    → m ≡ missing (tokens (folded at.pattern)) folded_device → f ≡ front_tokens (tokens (folded at.pattern)) folded_device → new ≡ l ++ record { missing = m; front = f; at = at } ∷ []
+    → m ≡ missing (tokens (folded at.pattern)) folded_device → f ≡ front_literals (tokens (folded at.pattern)) folded_device → new ≡ l ++ record { missing = m; front = f; at = at } ∷ []
     → new ≡ l ++ misses device (at ∷ [])
 miss_put device folded_device at m f l new h d mm ff k =
     let ts = tokens (folded at.pattern) in
-    k ∙ (λ i. l ++ record { missing = (mm ∙ ap (missing ts) d) i; front = (ff ∙ ap (front_tokens ts) d) i; at = at } ∷ [])
+    k ∙ (λ i. l ++ record { missing = (mm ∙ ap (missing ts) d) i; front = (ff ∙ ap (front_literals ts) d) i; at = at } ∷ [])
     ∙ ap (λ (b : Bool). l ++ map (rated device) (cond (not b) (at ∷ []) [])) (sym h)
 
 pub misses_more : (device : List ℕ) (done more : List PatternAt) (old new : List Rated) → old ≡ misses device done → new ≡ old ++ misses device more → new ≡ misses device (done ++ more)

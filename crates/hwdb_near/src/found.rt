@@ -27,7 +27,7 @@ pub struct PatternAt<'a> {
 pub(crate) struct Rated<'a> {
     /// How many of its literals are missing.
     pub(crate) missing: usize,
-    /// How many tokens its longest front has.
+    /// How many its longest front has.
     pub(crate) front: usize,
     /// The pattern.
     pub(crate) at: PatternAt<'a>,

@@ -1,5 +1,5 @@
 //! Laws over the definitions alone. Each function does nothing: its contract is the law.
-ghost use Rattle.hwdb_near.specs.Laws.{StopsAreComputed};
+ghost use Rattle.hwdb_near.specs.Laws.{LongestIsComputed, StopsAreComputed};
 ghost use Rattle.hwdb_near.specs.Rows.{FileRows, GatheredRows, HeadRows, MarkRows, MatchingRows, NearestRows, PlaceRows, RatedRows, StopRows, WordRows};
 
 use hwdb_pattern::matches_is_tested;
@@ -8,6 +8,13 @@ use hwdb_pattern::matches_is_tested;
 #[tactic(auto, using(crate::proofs::ComputedLemmas::stop_computed))]
 pub fn stops_are_computed()
     ensures { StopsAreComputed }
+{
+    matches_is_tested();
+}
+
+/// So is how many tokens their longest front has.
+pub(crate) fn longest_is_computed()
+    ensures { LongestIsComputed }
 {
     matches_is_tested();
 }

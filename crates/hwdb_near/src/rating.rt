@@ -1,12 +1,12 @@
 //! How near a pattern is to a device.
 ghost use Rattle.std.specs.Prelude.{◌≡◌, ◌≤◌, length, map, reverse, IfOk};
 ghost use Rattle.hwdb_spec.specs.Near;
-ghost use Rattle.hwdb_spec.specs.Near.{front_tokens, missing};
+ghost use Rattle.hwdb_spec.specs.Near.{front_literals, missing};
 ghost use Rattle.hwdb_spec.specs.Patterns.{tokens};
 ghost use Rattle.hwdb_pattern.specs.Fronts.{token_of};
 
-use crate::laws::stops_are_computed;
-use hwdb_pattern::{begins_star, longest_front, token_texts};
+use crate::laws::longest_is_computed;
+use hwdb_pattern::{begins_star, front_count, token_texts};
 use std::alloc::{AllocError, Global};
 
 /// A letter in lower case; any other byte as it is.
@@ -49,7 +49,7 @@ fn literals(tokens: &[&[u8]]) -> usize
 pub(crate) struct Nearness {
     /// How many of its literals are missing.
     pub(crate) missing: usize,
-    /// How many tokens its longest front has.
+    /// How many its longest front has.
     pub(crate) front: usize,
 }
 
@@ -64,16 +64,17 @@ fn rate_tokens(
     ensures missing { IfOk result
         (λ n. n.missing ≡ missing (map token_of tokens.old) device.now) }
     ensures front { IfOk result
-        (λ n. n.front ≡ front_tokens (map token_of tokens.old) device.now) }
+        (λ n. n.front ≡ front_literals (map token_of tokens.old) device.now) }
 {
-    stops_are_computed();
-    let front = longest_front(alloc, tokens, device)?;
+    longest_is_computed();
+    let count = front_count(alloc, tokens, device)?;
+    let front = literals(&tokens[..count]);
     tokens.reverse();
-    let rest = &tokens[..tokens.len() - front.tokens];
-    let back = longest_front(alloc, rest, reversed)?;
+    let rest = &tokens[..tokens.len() - count];
+    let back = front_count(alloc, rest, reversed)?;
     Ok(Nearness {
-        missing: literals(&rest[back.tokens..]),
-        front: front.tokens,
+        missing: literals(&rest[back..]),
+        front,
     })
 }
 
@@ -88,7 +89,7 @@ pub(crate) fn rate(
     ensures missing { IfOk result
         (λ n. n.missing ≡ missing (tokens (Near.folded pattern.now)) device.now) }
     ensures front { IfOk result
-        (λ n. n.front ≡ front_tokens (tokens (Near.folded pattern.now)) device.now) }
+        (λ n. n.front ≡ front_literals (tokens (Near.folded pattern.now)) device.now) }
 {
     let text = fold_case(alloc, pattern)?;
     let mut list = token_texts(alloc, &text)?;

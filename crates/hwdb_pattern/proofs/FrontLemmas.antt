@@ -9,8 +9,8 @@ use Rattle.std.proofs.Math.Seq.{take-add}
 use Rattle.hwdb_spec.specs.Patterns.{Token, Matches, token_at}
 use Rattle.hwdb_spec.specs.Near.{Front, Meets, Stops}
 use Rattle.hwdb_pattern.specs.Views.{Lengths}
-use Rattle.hwdb_pattern.specs.Fronts.{token_of}
-use Rattle.hwdb_pattern.specs.Internal.FirstTokens.{AreAfter, IsLongest}
+use Rattle.hwdb_pattern.specs.Fronts.{IsLongest, token_of}
+use Rattle.hwdb_pattern.specs.Internal.FirstTokens.{AreAfter}
 use Rattle.hwdb_pattern.specs.declared.met.Met.{Met}
 use Rattle.hwdb_pattern.specs.Internal.Prefixes.{Follows, IsAfter}
 use Rattle.hwdb_pattern.proofs.PathLemmas.{contains_none, contains_here, contains_cases, no_bytes, first_star, follows_steps}

@@ -1,12 +1,12 @@
 //! Where tokens stop at a device: their longest front that matches a front of it.
 //!
-//! The tokens are followed one by one until no prefix of the device is matched. That is done twice. The first time tells how
-//! many tokens there are, and the second time which prefix is the least.
+//! The tokens are followed one by one until no prefix of the device is matched. That tells how many tokens there are. A second
+//! time tells which prefix is the least.
 ghost use Rattle.std.specs.Prelude.{◌≡◌, ◌<◌, ◌≤◌, Contains, length, map, slice_index, take, IfOk};
 ghost use Rattle.hwdb_spec.specs.Near.{Meets, Stops};
 ghost use Rattle.hwdb_spec.specs.Patterns.{token_at};
-ghost use Rattle.hwdb_pattern.specs.Fronts.{front_of, token_of};
-ghost use Rattle.hwdb_pattern.specs.Internal.FirstTokens.{AreAfter, IsLongest};
+ghost use Rattle.hwdb_pattern.specs.Fronts.{IsLongest, front_of, token_of};
+ghost use Rattle.hwdb_pattern.specs.Internal.FirstTokens.{AreAfter};
 
 use crate::met::Met;
 use std::alloc::{AllocError, Global};
@@ -28,9 +28,9 @@ fn some_text(text: &[u8]) -> &[u8]
     if text.is_empty() { b"\0" } else { text }
 }
 
-/// How many of the first tokens match some prefix of the device, so that one more matches none. The only error, here and
-/// below, is `AllocError`.
-fn longest(alloc: Global, tokens: &[&[u8]], device: &[u8]) -> Result<usize, AllocError>
+/// How many of the first tokens match some prefix of the device, so that one more matches none. Each token is given by a
+/// text that it begins. It takes half as long as [`longest_front`]. The only error, here and below, is `AllocError`.
+pub fn front_count(alloc: Global, tokens: &[&[u8]], device: &[u8]) -> Result<usize, AllocError>
     ensures within { IfOk result (λ count. count ≤ length tokens.now) }
     ensures longest { IfOk result (λ count.
         IsLongest (map token_of tokens.now) device.now count) }
@@ -68,7 +68,7 @@ pub fn longest_front(alloc: Global, tokens: &[&[u8]], device: &[u8]) -> Result<F
     ensures tokens { IfOk result (λ f. f.tokens ≤ length tokens.now) }
     ensures bytes { IfOk result (λ f. f.bytes ≤ length device.now) }
 {
-    let count = longest(alloc, tokens, device)?;
+    let count = front_count(alloc, tokens, device)?;
     let met = met_by(alloc, &tokens[..count], device)?;
     let bytes = match met.least(device.len()) {
         Some(bytes) => bytes,

@@ -57,7 +57,7 @@ mod unusual;
 
 pub use brackets::bracket_end;
 pub use cut::{begins_star, begins_with, front_size, token_texts};
-pub use fronts::{Front, longest_front};
+pub use fronts::{Front, front_count, longest_front};
 pub use laws::{
     closed_bracket_stays, closed_part_is_cut_alike, dead_matches_nothing, dead_stays_dead,
     live_is_tested, matches_is_tested, tokens_are_the_pattern, worked_rows,

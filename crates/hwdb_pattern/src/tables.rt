@@ -12,6 +12,9 @@ use crate::tokens::single_token;
 /// If a table has more places than this, a bracket is read once for each of the 256 bytes, not once for each place.
 const FEW: usize = 256;
 
+/// So many places of a table are looked at one by one.
+const FIRST: usize = 64;
+
 /// Keeps the places with this byte.
 fn keep_byte(table: &mut [bool], bytes: &[u8], byte: u8)
     requires { length table.old ≤ length bytes.now }
@@ -141,12 +144,18 @@ pub(crate) fn has_admitted(table: &[bool], bytes: &[u8], text: &[u8]) -> bool
     false
 }
 
-/// Whether the table says so at some place.
+/// Whether the table says so at some place. The first places are looked at one by one: in most tables that do, one of them does.
 pub(crate) fn has_some(table: &[bool]) -> bool
     ensures { SomeAt (λ k. slice_index_or table.now k false) (length table.now) result }
 {
+    let first = table.len().min(FIRST);
+    for i in 0..first {
+        if table[i] {
+            return true;
+        }
+    }
     let mut has = false;
-    for i in 0..table.len() {
+    for i in first..table.len() {
         has = has | table[i];
     }
     has

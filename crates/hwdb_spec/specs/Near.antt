@@ -81,6 +81,10 @@ unmet ts device = drop (front_tokens ts device) ts
 abbrev pub missing : List Token → List ℕ → ℕ
 missing ts device = literals (unmet (reverse (unmet ts device)) (reverse device))
 
+-- how many literals the longest front has that matches a front of the device
+abbrev pub front_literals : List Token → List ℕ → ℕ
+front_literals ts device = literals (take (front_tokens ts device) ts)
+
 -- a pattern of a text file or a database: the path of its file, the place of that file among others, the line
 pub record PatternAt : Type 0 where
   pub path : List ℕ
@@ -88,7 +92,7 @@ pub record PatternAt : Type 0 where
   pub line : ℕ
   pub pattern : List ℕ
 
--- a pattern, how many of its literals are missing, and how long its front is, with letters' case folded
+-- a pattern, how many of its literals are missing, and how many its longest front has, with letters' case folded
 pub record Rated : Type 0 where
   pub missing : ℕ
   pub front : ℕ
@@ -98,9 +102,9 @@ pub record Rated : Type 0 where
 abbrev pub rated : List ℕ → PatternAt → Rated
 rated device at =
     let ts = tokens (folded at.pattern) in
-    record { missing = missing ts (folded device); front = front_tokens ts (folded device); at = at }
+    record { missing = missing ts (folded device); front = front_literals ts (folded device); at = at }
 
--- the nearer first: by the literals that are missing, then the longest front, then file, line, pattern and path
+-- the nearer first: by the literals that are missing, then those of the longest front, then file, line, pattern and path
 abbrev pub near_cmp : Rated → Rated → Ordering
 near_cmp a b =
     ordering_then (nat_cmp a.missing b.missing)

@@ -2,7 +2,7 @@ use Rattle.std.proofs.Common.{◌≡◌, ◌∙◌, sym, true, false, length, ar
 use Rattle.hwdb_pattern.specs.Internal.Met.{lengths_of}
 use Rattle.hwdb_pattern.proofs.FrontLemmas.{all_here, along_one, begun, ended_here}
 use Rattle.hwdb_pattern.proofs.PathLemmas.{after_within}
-use Rattle.hwdb_pattern.proofs.fronts.longest.Goals as goal
+use Rattle.hwdb_pattern.proofs.fronts.front_count.Goals as goal
 
 pub loop-text-preserved : goal.loop-text-preserved
 loop-text-preserved c = record {
