@@ -8,9 +8,21 @@
 //! | `row` | the line of a device in a list |
 #![tactic(auto)]
 
+mod asking;
+mod found;
+mod gifts;
+mod json_lines;
+mod kinds;
+mod laws;
+mod outcomes;
 mod printing;
+mod records;
 mod row;
+mod strings;
+mod texts;
+mod told;
 
 pub use hwdb_spec::DeviceForm;
+pub use laws::{device_rows, pattern_is_matched};
 pub use printing::device_text;
 pub use row::device_row;

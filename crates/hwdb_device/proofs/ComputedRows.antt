@@ -1,0 +1,28 @@
+-- The worked rows, computed.
+use Rattle.std.proofs.Common.{refl}
+use Rattle.hwdb_spec.specs.Assignment.{put, put_all}
+use Rattle.hwdb_spec.specs.DeviceTexts.{record_after}
+use Rattle.hwdb_spec.specs.Inputs.{after_words, count_bits}
+use Rattle.hwdb_spec.specs.Lines.{pieces}
+use Rattle.hwdb_spec.specs.Lookups.{asked_in, flag_after, strings_from, told_value}
+use Rattle.hwdb_spec.specs.Sysfs.{cut_back, first_at, replaced, value_of}
+use Rattle.hwdb_device.specs.Rows.{ListRow, PatternRow, RecordRow, StringsRow, TextRow}
+
+pub text_row : TextRow
+unfolding after_words count_bits pieces asked_in flag_after strings_from told_value cut_back first_at replaced value_of put put_all
+text_row = refl
+
+pub strings_row : StringsRow
+unfolding after_words count_bits pieces asked_in flag_after strings_from told_value cut_back first_at replaced value_of
+strings_row = refl
+
+pub record_row : RecordRow
+unfolding after_words count_bits pieces asked_in flag_after strings_from told_value cut_back first_at replaced value_of record_after
+record_row = refl
+
+pub pattern_row : PatternRow
+pattern_row = refl
+
+pub list_row : ListRow
+unfolding after_words count_bits pieces asked_in flag_after strings_from told_value cut_back first_at replaced value_of
+list_row = refl

@@ -1,0 +1,3 @@
+pub mod ComputedRows
+pub mod KeyLemmas
+pub mod PatternLemmas
