@@ -81,21 +81,28 @@ StringsRow =
     ++ (l (codes "id-input:modalias:input:b0011v0001p0001eAB54-e0,1,4")
     ++ l (codes "libwacom:name:AT Set _2_:input:b0011v0001p0001eAB54-e0,1,4")))))
 
--- a record to begin with: the last string of 60-evdev for a keyboard, that of 70-mouse for a mouse
-abbrev pub RecordRow : Type 0
-RecordRow =
-    (found_form form.Pattern (device keyboard) (lookups tells (device keyboard)), found_form form.Pattern (device mouse) (lookups tells (device mouse)))
-    ≡ (l (codes "evdev:name:AT Set _2_:phys:isa0060:ev:120013:dmi:bvrN1CET81W_1.49_:")
-    ++ (l (codes "# KEYBOARD_KEY_<scan code>=<key name>") ++ l (codes "# EVDEV_ABS_<axis>=<min>:<max>:<resolution>")),
-    l (codes "mouse:usb:v046dpc077:name:USB Mouse:")
-    ++ (l (codes "# MOUSE_DPI=<dpi>@<hz>") ++ l (codes "# MOUSE_WHEEL_CLICK_ANGLE=<degrees>")))
+-- a record to begin with: the last string of 60-evdev for a keyboard
+abbrev pub KeysRow : Type 0
+KeysRow =
+    found_form form.Pattern (device keyboard) (lookups tells (device keyboard))
+    ≡ l (codes "evdev:name:AT Set _2_:phys:isa0060:ev:120013:dmi:bvrN1CET81W_1.49_:")
+    ++ (l (codes "# KEYBOARD_KEY_<scan code>=<key name>") ++ l (codes "# EVDEV_ABS_<axis>=<min>:<max>:<resolution>"))
+
+-- that of 70-mouse for a mouse
+abbrev pub MouseRow : Type 0
+MouseRow =
+    found_form form.Pattern (device mouse) (lookups tells (device mouse))
+    ≡ l (codes "mouse:usb:v046dpc077:name:USB Mouse:")
+    ++ (l (codes "# MOUSE_DPI=<dpi>@<hz>") ++ l (codes "# MOUSE_WHEEL_CLICK_ANGLE=<degrees>"))
 
 -- bytes that aren't themselves in a pattern
 abbrev pub PatternRow : Type 0
 PatternRow = pattern_for (codes "a*b?c[d]e\\f#g") ≡ codes "a?b?c?d]e?f?g"
 
--- the lines of the list: nothing is asked for what has no parent and no rule
+-- a line of the list
 abbrev pub ListRow : Type 0
-ListRow =
-    (device_row (device keyboard), (device_row (device mouse), device_row (device [])))
-    ≡ (l (codes "event4  AT Set (2)"), (l (codes "event21  USB Mouse"), []))
+ListRow = device_row (device keyboard) ≡ l (codes "event4  AT Set (2)")
+
+-- nothing is asked for what isn't there
+abbrev pub NoRow : Type 0
+NoRow = device_row (device []) ≡ []

@@ -2,7 +2,7 @@
 ghost use Rattle.std.specs.Prelude.{◌≡◌, List, ℕ, true};
 ghost use Rattle.hwdb_spec.specs.Answers.{is_match};
 ghost use Rattle.hwdb_spec.specs.DeviceTexts;
-ghost use Rattle.hwdb_device.specs.Rows.{ListRow, PatternRow, RecordRow, StringsRow, TextRow};
+ghost use Rattle.hwdb_device.specs.Rows.{KeysRow, ListRow, MouseRow, NoRow, PatternRow, StringsRow, TextRow};
 
 /// The pattern of a record to begin with matches its string.
 pub fn pattern_is_matched()
@@ -13,7 +13,9 @@ pub fn pattern_is_matched()
 pub fn device_rows()
     ensures text { TextRow }
     ensures strings { StringsRow }
-    ensures records { RecordRow }
+    ensures keys { KeysRow }
+    ensures mouse { MouseRow }
     ensures pattern { PatternRow }
     ensures list { ListRow }
+    ensures none { NoRow }
 {}

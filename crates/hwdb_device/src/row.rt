@@ -1,10 +1,13 @@
 //! The line of a device in a list.
-ghost use Rattle.std.specs.Prelude.{◌≡◌, ◌++◌, codes, map, option_map, IfOk, OnOk};
+ghost use Rattle.std.specs.Prelude.{◌≡◌, ◌++◌, [], if◌then◌else◌, codes, map, option_map, IfOk, OnOk};
 ghost use Rattle.std.specs.Option.{option_or};
 ghost use Rattle.hwdb_spec.specs.DeviceTexts;
+ghost use Rattle.hwdb_spec.specs.Lines.{is_none};
 ghost use Rattle.hwdb_sysfs.specs.Views.{ancestor_of, device_of};
+ghost use Rattle.hwdb_device.specs.Views.{all_found};
 
 use crate::asking::lookups;
+use crate::found::Found;
 use crate::strings::push_line;
 use hwdb_rules::first_text;
 use hwdb_sysfs::{Ancestor, Device};
@@ -48,14 +51,26 @@ fn row_of(alloc: Global, chain: &[Ancestor]) -> Result<Vec<u8>, AllocError>
     Ok(row)
 }
 
+/// The line of a device, if strings are asked for it; else nothing.
+fn row_if_asked(
+    alloc: Global,
+    chain: &[Ancestor],
+    found: &[Found<'_>],
+) -> Result<Vec<u8>, AllocError>
+    ensures { IfOk result (λ row. row.items ≡ if is_none (all_found found.now) then []
+        else DeviceTexts.row_of (map ancestor_of chain.now)) }
+{
+    if found.is_empty() {
+        return Ok(Vec::new(alloc));
+    }
+    row_of(alloc, chain)
+}
+
 /// The line of a device in the list of all; empty if nothing is asked for it.
 pub fn device_row(alloc: Global, device: &Device) -> Result<Vec<u8>, AllocError>
     ensures row { IfOk result
         (λ text. text.items ≡ DeviceTexts.device_row (device_of device.now)) }
 {
     let found = lookups(alloc, None, device)?;
-    if found.is_empty() {
-        return Ok(Vec::new(alloc));
-    }
-    row_of(alloc, &device.chain)
+    row_if_asked(alloc, &device.chain, &found)
 }

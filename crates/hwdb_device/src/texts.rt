@@ -1,7 +1,8 @@
 //! What is printed without options: each string, what it gets, and the properties in the end.
-ghost use Rattle.std.specs.Prelude.{◌≡◌, ◌++◌, flat_map, IfOk, OnOk};
+ghost use Rattle.std.specs.Prelude.{◌≡◌, ◌++◌, [], flat_map, get_or, map, IfOk, OnOk};
 ghost use Rattle.hwdb_spec.specs.DeviceTexts;
-ghost use Rattle.hwdb_sysfs.specs.Views.{device_of};
+ghost use Rattle.hwdb_spec.specs.DeviceTexts.{path_of};
+ghost use Rattle.hwdb_sysfs.specs.Views.{ancestor_of, device_of};
 ghost use Rattle.hwdb_device.specs.Views.{all_found, found_of, gift_in, gifts_in, outcome_in, outcomes_in};
 
 use crate::found::Found;
@@ -10,18 +11,25 @@ use crate::outcomes::{Outcome, outcomes};
 use crate::strings::push_line;
 use crate::told::same;
 use hwdb_print::{explanation_lines, push_property};
-use hwdb_sysfs::Device;
+use hwdb_sysfs::{Ancestor, Device};
 use std::alloc::{AllocError, Global};
+
+/// The path of the device at a place; empty if there is none.
+fn path_in(chain: &[Ancestor], place: usize) -> &[u8]
+    ensures { result.now ≡ get_or (map path_of (map ancestor_of chain.now)) place [] }
+{
+    if place < chain.len() {
+        &chain[place].path
+    } else {
+        b""
+    }
+}
 
 /// The path of one of a device and its parents, by after how many others it comes.
 pub(crate) fn path_at(device: &Device, place: usize) -> &[u8]
     ensures { result.now ≡ DeviceTexts.path_at (device_of device.now) place }
 {
-    if place < device.chain.len() {
-        &device.chain[place].path
-    } else {
-        b""
-    }
+    path_in(&device.chain, place)
 }
 
 /// What is added if a string gets nothing.

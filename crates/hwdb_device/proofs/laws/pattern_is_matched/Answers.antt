@@ -2,4 +2,4 @@ use Rattle.hwdb_device.proofs.PatternLemmas.{matched}
 use Rattle.hwdb_device.proofs.laws.pattern_is_matched.Goals as goal
 
 pub returns : goal.returns
-returns c = matched
+returns c = record { matches = matched }
