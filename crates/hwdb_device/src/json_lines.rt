@@ -117,13 +117,10 @@ fn put_result(
 }
 
 /// The line of the result.
-fn result_line(
-    alloc: Global,
-    device: &Device,
-    found: &[Found<'_>],
-) -> Result<Vec<u8>, AllocError>
-    ensures { IfOk result (λ line. line.items ≡ json_line (DeviceTexts.result_json
-        (device_of device.now) (DeviceTexts.result_of (DeviceTexts.all_gifts (all_found found.now))))) }
+fn result_line(alloc: Global, device: &Device, found: &[Found<'_>]) -> Result<Vec<u8>, AllocError>
+    ensures { IfOk result (λ line. line.items
+        ≡ json_line (DeviceTexts.result_json (device_of device.now)
+        (DeviceTexts.result_of (DeviceTexts.all_gifts (all_found found.now))))) }
 {
     let gifts = all_gifts(alloc, found)?;
     let outcomes = outcomes(alloc, &gifts)?;

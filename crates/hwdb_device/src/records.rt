@@ -33,7 +33,9 @@ fn settings(text: &[u8]) -> Option<&'static [u8]>
     ensures { option_map (λ s. s.now) result ≡ DeviceTexts.settings text.now }
 {
     if text.starts_with(b"evdev:") {
-        Some(b"# KEYBOARD_KEY_<scan code>=<key name>\n# EVDEV_ABS_<axis>=<min>:<max>:<resolution>\n")
+        Some(
+            b"# KEYBOARD_KEY_<scan code>=<key name>\n# EVDEV_ABS_<axis>=<min>:<max>:<resolution>\n",
+        )
     } else if text.starts_with(b"sensor:") {
         Some(b"# ACCEL_MOUNT_MATRIX=<x1>, <y1>, <z1>; <x2>, <y2>, <z2>; <x3>, <y3>, <z3>\n")
     } else if text.starts_with(b"mouse:") {
@@ -71,11 +73,7 @@ fn record_or(alloc: Global, before: Vec<u8>, text: &[u8]) -> Result<Vec<u8>, All
 
 /// The record of the last string that people set properties for; if there is none what was before.
 #[tactic(auto, unfolding(hwdb_spec::specs::DeviceTexts::record_after))]
-fn record_after(
-    alloc: Global,
-    before: Vec<u8>,
-    found: &[Found<'_>],
-) -> Result<Vec<u8>, AllocError>
+fn record_after(alloc: Global, before: Vec<u8>, found: &[Found<'_>]) -> Result<Vec<u8>, AllocError>
     ensures { IfOk result (λ made. made.items
         ≡ DeviceTexts.record_after before.items (all_found found.now)) }
 {
