@@ -50,3 +50,4 @@ pub mod Sysfs
 pub mod DeviceTree
 pub mod Inputs
 pub mod Lookups
+pub mod DeviceTexts

@@ -57,6 +57,7 @@
 //! | `DeviceTree` | where sysfs has a device, and what is read of it and its parents |
 //! | `Inputs` | what kinds of input device udev sees in one |
 //! | `Lookups` | the strings that udev's rules ask for a device, in their order |
+//! | `DeviceTexts` | what `device` prints: the strings that are asked for a device, and what each gets |
 //!
 //! The types below are those that the definitions name.
 #![tactic(auto)]
@@ -66,9 +67,11 @@ ghost use Rattle.hwdb_spec.specs.Records.{fault_text};
 ghost use Rattle.hwdb_spec.specs.Texts.{db_fault_name, db_fault_offset};
 
 mod colours;
+mod devices;
 mod vocabulary;
 
 pub use colours::{LinePart, Style, TextKind};
+pub use devices::DeviceForm;
 use std::{error, fmt};
 pub use vocabulary::{COMPANIONS, KEY_NAMES, Misuse, PROPERTIES, ValueForm};
 
