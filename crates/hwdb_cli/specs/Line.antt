@@ -69,7 +69,7 @@ pattern_rule = record (new_rule (codes "pattern")) { long = Some (codes "pattern
 
 -- a device's path or name, or none
 abbrev pub path_rule : Rule
-path_rule = record (new_rule (codes "PATH")) { action = Some Set }
+path_rule = record (new_rule (codes "DEVICE")) { action = Some Set }
 
 -- the options that stand before and behind the command's word
 abbrev pub with_shared : App → App

@@ -17,7 +17,7 @@ pub const SHORT: &str = "prints what udev asks for a device, and what it gets";
 
 /// What help begins with.
 const ABOUT: &str =
-    "Prints the strings that udev asks the database for a device, and what each gives; without PATH the devices that it asks for";
+    "Prints the strings that udev asks the database for a device, and what each gives; without DEVICE lists the devices";
 
 /// What help ends with.
 const AFTER: &str =
@@ -29,19 +29,19 @@ pub fn command<'a>(alloc: Global) -> Draft<'a>
 {
     let strings = "Print the strings alone, one a line";
     let pattern = "Print a record to begin with, which fits the device; before --json and --strings";
-    let path = "The device: its name, as event3, its node below /dev, or its path below /sys";
+    let path = "A device: its name, as event3, its node below /dev, or its path below /sys";
     let command = shared(alloc, "device", ABOUT, AFTER);
     let with_strings = with_argument(command, flag(alloc, "strings", strings));
     let with_json = with_argument(with_strings, json_option(alloc));
     let with_pattern = with_argument(with_json, flag(alloc, "pattern", pattern));
-    with_argument(with_pattern, word(alloc, "PATH", path, ArgAction::Set))
+    with_argument(with_pattern, word(alloc, "DEVICE", path, ArgAction::Set))
 }
 
 /// The task of `device`.
 pub fn task(alloc: Global, inner: &ArgMatches<'_>) -> Result<Task, AllocError>
     ensures { IfOk result (IsTask (codes "device") (rows_of (found_of inner.now))) }
 {
-    let path = copied(alloc, text_of(inner, "PATH"))?;
+    let path = copied(alloc, text_of(inner, "DEVICE"))?;
     let strings = has_flag(inner, "strings");
     let json = has_flag(inner, "json");
     let pattern = has_flag(inner, "pattern");
