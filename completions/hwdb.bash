@@ -24,6 +24,10 @@ _hwdb_value() {
                 sed '/^input:/{p; s/^/evdev:/}' | LC_ALL=C sort -u)
             __ltrim_colon_completions "$cur"
             ;;
+        DEVICE)
+            _hwdb_reply < <(find "$_hwdb_sys" -name uevent -type f 2>/dev/null | sed 's|/uevent$||; s|.*/||' | LC_ALL=C sort -u)
+            __ltrim_colon_completions "$cur"
+            ;;
         *) mapfile -t COMPREPLY < <(compgen -W "${kinds_of[$1]-}" -- "$cur") ;;
     esac
 }

@@ -44,6 +44,11 @@ function __hwdb_modalias
     find $_hwdb_sys -name modalias -type f -exec cat '{}' + 2>/dev/null | sed '/^input:/{p; s/^/evdev:/}' | sort -u
 end
 
+# The names of devices: what has a file `uevent` is one.
+function __hwdb_device
+    find $_hwdb_sys -name uevent -type f 2>/dev/null | sed 's|/uevent$||; s|.*/||' | sort -u
+end
+
 function __hwdb_file
     __fish_complete_suffix .hwdb
 end

@@ -1,4 +1,4 @@
--- The command line of hwdb, as the command that `clap` is given: systemd-hwdb(8), with `explain`, `ask`, `list`, `near`, `check`, `diff`, `verify` and `dump` of our own.
+-- The command line of hwdb, as the command that `clap` is given: systemd-hwdb(8), with `explain`, `ask`, `list`, `near`, `device`, `check`, `diff`, `verify` and `dump` of our own.
 -- `clap` adds the options for help and the version, and the command `help`.
 use Rattle.std.specs.Prelude.{Some, codes, true}
 use Rattle.clap.specs.Walk.{Rule}
@@ -61,6 +61,16 @@ allow_rule = record (new_rule (codes "allow")) { value_names = 1; long = Some (c
 abbrev pub json_rule : Rule
 json_rule = record (new_rule (codes "json")) { long = Some (codes "json"); action = Some SetTrue }
 
+abbrev pub strings_rule : Rule
+strings_rule = record (new_rule (codes "strings")) { long = Some (codes "strings"); action = Some SetTrue }
+
+abbrev pub pattern_rule : Rule
+pattern_rule = record (new_rule (codes "pattern")) { long = Some (codes "pattern"); action = Some SetTrue }
+
+-- a device's path or name, or none
+abbrev pub path_rule : Rule
+path_rule = record (new_rule (codes "DEVICE")) { action = Some Set }
+
 -- the options that stand before and behind the command's word
 abbrev pub with_shared : App → App
 with_shared a = with_rule (with_rule (with_rule (with_rule a usr_rule) strict_rule) root_rule) color_rule
@@ -88,6 +98,9 @@ list_app = with_rule (with_rule (with_range (with_shared (new_app (codes "list")
 abbrev pub near_app : App
 near_app = with_rule (with_rule (with_rule (with_shared (new_app (codes "near"))) limit_rule) json_rule) devices_rule
 
+abbrev pub device_app : App
+device_app = with_rule (with_rule (with_rule (with_rule (with_shared (new_app (codes "device"))) strings_rule) json_rule) pattern_rule) path_rule
+
 abbrev pub check_app : App
 check_app = with_rule (with_rule (with_rule (with_shared (new_app (codes "check"))) allow_rule) json_rule) files_rule
 
@@ -103,9 +116,9 @@ dump_app = with_rule (with_shared (new_app (codes "dump"))) database_rule
 abbrev pub top_app : App
 top_app = on_top (λ (s : Shape). record s { has_version = true; subcommand_required = true }) (with_shared (new_app (codes "hwdb")))
 
--- the five commands that say what a device is told, or almost
+-- the six commands that say what a device is told, or almost
 abbrev pub with_answers : App → App
-with_answers app = with_subcommand (with_subcommand (with_subcommand (with_subcommand (with_subcommand app query_app.top) explain_app.top) ask_app.top) list_app.top) near_app.top
+with_answers app = with_subcommand (with_subcommand (with_subcommand (with_subcommand (with_subcommand (with_subcommand app query_app.top) explain_app.top) ask_app.top) list_app.top) near_app.top) device_app.top
 
 -- the four commands that look at files and databases
 abbrev pub with_inspections : App → App

@@ -7,7 +7,7 @@ ghost use Rattle.hwdb_cli.specs.Line.{hwdb_app, top_app};
 ghost use Rattle.hwdb_cli.specs.Drafts.{IsDraft};
 
 use crate::drafts::{Draft, shared, with_command};
-use crate::{ask, check, diff, dump, explain, list, near, query, update, verify};
+use crate::{ask, check, device, diff, dump, explain, list, near, query, update, verify};
 use clap::Command;
 use std::alloc::{AllocError, Global};
 
@@ -36,7 +36,8 @@ pub fn hwdb_command<'a>(alloc: Global) -> Result<Command<'a>, AllocError>
     let ask = with_command(explain, ask::command(alloc));
     let list = with_command(ask, list::command(alloc));
     let near = with_command(list, near::command(alloc));
-    let check = with_command(near, check::command(alloc));
+    let device = with_command(near, device::command(alloc));
+    let check = with_command(device, check::command(alloc));
     let diff = with_command(check, diff::command(alloc));
     let verify = with_command(diff, verify::command(alloc));
     with_command(verify, dump::command(alloc))

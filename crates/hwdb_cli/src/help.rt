@@ -1,6 +1,6 @@
 //! Help: what `clap` says of a command, without options that do nothing for it; and a short one for a line without a
 //! command.
-use crate::{ask, check, diff, dump, explain, list, near, query, update, verify};
+use crate::{ask, check, device, diff, dump, explain, list, near, query, update, verify};
 use std::alloc::{AllocError, Global};
 
 /// What is said if no command is given, before the commands.
@@ -16,12 +16,13 @@ For more information, try 'hwdb help', or 'hwdb help COMMAND'.
 ";
 
 /// Each command, and what it does.
-const COMMANDS: [(&str, &str); 10] = [
+const COMMANDS: [(&str, &str); 11] = [
     ("update", update::SHORT),
     ("query", query::SHORT),
     ("explain", explain::SHORT),
     ("list", list::SHORT),
     ("near", near::SHORT),
+    ("device", device::SHORT),
     ("ask", ask::SHORT),
     ("check", check::SHORT),
     ("diff", diff::SHORT),

@@ -67,6 +67,17 @@ pub enum Task {
         /// Whether as JSON.
         json: bool,
     },
+    /// Print what udev asks for a device, and what it gets.
+    Device {
+        /// The device's path or name; none where the devices are listed.
+        path: Option<String>,
+        /// Whether the strings alone are printed.
+        strings: bool,
+        /// Whether as JSON.
+        json: bool,
+        /// Whether a record to begin with is printed.
+        pattern: bool,
+    },
     /// Print what changed from one database to another.
     Diff {
         /// The path of the old database.

@@ -10,6 +10,7 @@ mod args;
 mod ask;
 mod check;
 mod command;
+mod device;
 mod diff;
 mod drafts;
 mod dump;

@@ -2,7 +2,7 @@
 //!
 //! | Module | What it does |
 //! |---|---|
-//! | `system` | what the program asks of a file system; `rooted`: of one that may go below a root |
+//! | `system` | what the program asks of a file system; `rooted`: of one that may go below a root; `machine`: of one that is asked for devices, too |
 //! | `folders` | the text files of both folders, chosen and read |
 //! | `left_out` | chosen text files that can't be read, and are left out |
 //! | `laws` | which of the chosen files an error names
@@ -20,6 +20,7 @@ mod files;
 mod folders;
 mod laws;
 mod left_out;
+mod machine;
 mod memory;
 mod one_file;
 mod parts;
@@ -36,6 +37,7 @@ pub use files::{SystemStore, joined, path_in};
 pub use folders::{Selection, selected, with_texts};
 pub use laws::first_long_file_is_named;
 pub use left_out::{ReadableSelection, name_set, selected_readable};
+pub use machine::Machine;
 pub use one_file::OneFile;
 pub use parts::Lockable;
 pub use raw::{Kind, RawFiles, StdFiles, Unread};

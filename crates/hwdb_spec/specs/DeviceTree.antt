@@ -96,6 +96,19 @@ device_at sight names sys place = record {
   machine = unwrap_or (text_of sight (sys ++ codes "/class/dmi/id/modalias")) [];
 }
 
+-- ---- where sysfs is
+
+-- where sysfs is below a root, if its folder of devices is there
+abbrev pub sysfs_below : Sight → (root : List ℕ) → Option (List ℕ)
+sysfs_below sight root =
+    at_place sight (λ sys. option_map (λ devices. sys) (sight.place (sys ++ codes "/devices"))) (root ++ codes "/sys")
+
+-- the path of the folder that isn't there, if sysfs isn't
+abbrev pub missing_folder : Sight → (root : List ℕ) → Option (List ℕ)
+missing_folder sight root =
+    option_map_or (λ sys. option_map_or (λ devices. None) (sight.place (sys ++ codes "/devices")) (Some (sys ++ codes "/devices")))
+    (sight.place (root ++ codes "/sys")) (Some (root ++ codes "/sys"))
+
 -- ---- where a device is
 
 -- a place, if a device is there

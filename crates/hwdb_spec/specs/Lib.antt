@@ -33,6 +33,8 @@ pub mod Failures
 pub mod Outputs
 pub mod Flushing
 pub mod Store
+pub mod Sysfs
+pub mod DeviceTree
 pub mod Runs
 pub mod Crashes
 pub mod Sharing
@@ -47,8 +49,7 @@ pub mod Done
 pub mod Near
 pub mod NearAsked
 pub mod Colours
-pub mod Sysfs
-pub mod DeviceTree
 pub mod Inputs
 pub mod Lookups
 pub mod DeviceTexts
+pub mod DeviceAsked

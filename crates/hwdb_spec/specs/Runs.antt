@@ -1,5 +1,6 @@
--- What a run of a program sees, and what it leaves: files, and devices that tell of their bytes. Our choice.
+-- What a run of a program sees, and what it leaves: files, devices that tell of their bytes, and what sysfs shows. Our choice.
 use Rattle.std.specs.Prelude.{◌≡◌, ◌⊎◌, List, Option, [], ℕ}
+use Rattle.hwdb_spec.specs.DeviceTree.{Sight}
 use Rattle.hwdb_spec.specs.Outputs.{CutShort, Texts, Took}
 use Rattle.hwdb_spec.specs.Store.{Contents, NoMore, Outcomes, Same}
 
@@ -21,6 +22,7 @@ pub record World : Type 1 where
   pub input : Told
   pub out : Told
   pub err : Told
+  pub devices : Sight
 
 -- a device, by what tells its bytes and its count of failures
 abbrev pub told_by : {X : Type 0} (bytes : X → Option (List ℕ)) (failures : X → ℕ) → X → Told
@@ -31,8 +33,8 @@ abbrev pub files_by : {D : Type 0} (seen : D → Contents) (fails : D → List �
 files_by seen fails left failures d = record { seen = seen d; fails = fails d; left = left d; failures = failures d }
 
 -- what a run sees or leaves, by what tells each of its files and devices
-abbrev pub world_by : {D I O E : Type 0} (files : D → Files) (input : I → Told) (out : O → Told) (err : E → Told) → D → I → O → E → World
-world_by files input out err d i o e = record { files = files d; input = input i; out = out o; err = err e }
+abbrev pub world_by : {D I O E : Type 0} (devices : D → Sight) (files : D → Files) (input : I → Told) (out : O → Told) (err : E → Told) → D → I → O → E → World
+world_by devices files input out err d i o e = record { files = files d; input = input i; out = out o; err = err e; devices = devices d }
 
 -- the files are as they were, and a crash leaves nothing else of them
 pub record AreKept (before now : Files) : Type 0 where

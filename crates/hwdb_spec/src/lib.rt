@@ -40,7 +40,9 @@
 //! | `Outputs` | what commands write: how the bytes that a sink tells grow |
 //! | `Flushing` | what an output holds back after it took a text |
 //! | `Store` | a store of files, what a crash may leave, and a database that is replaced |
-//! | `Runs` | what a run sees and leaves: files, and devices that tell of their bytes; and texts that both outputs took |
+//! | `Sysfs` | what sysfs holds of a device and its parents, and how udev reads it |
+//! | `DeviceTree` | where sysfs has a device, and what is read of it and its parents |
+//! | `Runs` | what a run sees and leaves: files, devices that tell of their bytes, and what sysfs shows; and texts that both outputs took |
 //! | `Crashes` | what a crash may leave of files, call by call |
 //! | `Sharing` | several updates at once: what others may do between two calls of one, and what that may leave |
 //! | `System` | a file system as the program sees it: text files of folders, and the database that is asked |
@@ -54,11 +56,10 @@
 //! | `Near` | the pattern that almost matched a device, and where it stopped |
 //! | `NearAsked` | which patterns `near` compares with a device: those of text files, or of a database |
 //! | `Colours` | how a text is shown in colour |
-//! | `Sysfs` | what sysfs holds of a device and its parents, and how udev reads it |
-//! | `DeviceTree` | where sysfs has a device, and what is read of it and its parents |
 //! | `Inputs` | what kinds of input device udev sees in one |
 //! | `Lookups` | the strings that udev's rules ask for a device, in their order |
 //! | `DeviceTexts` | what `device` prints: the strings that are asked for a device, and what each gets |
+//! | `DeviceAsked` | the device that `device` is asked for, what it prints, and what it says if there is none |
 //!
 //! The types below are those that the definitions name.
 #![tactic(auto)]

@@ -6,7 +6,7 @@ use Rattle.hwdb_spec.specs.Folders.{same}
 use Rattle.hwdb_spec.specs.Lines.{is, pieces}
 use Rattle.hwdb_spec.specs.DeviceTree.{Node, Sight}
 use Rattle.hwdb_io.specs.declared.causes.Cause.{Cause}
-use Rattle.hwdb_io.specs.declared.causes.Cause.TheVariants.{Memory}
+use Rattle.hwdb_io.specs.declared.causes.Cause.TheVariants.{Memory, Unknown}
 
 -- the answers of a file system: the path of what a path leads to, with no link in it (realpath(3)); the node at a place; whether a
 -- regular file is there; the bytes of a small file; the names in a folder, each with byte 0 after it
@@ -44,6 +44,16 @@ leads_on name = if same name (codes ".") then false else not (same name (codes "
 abbrev pub names_listed : List ℕ → List (List ℕ)
 names_listed listing = filter leads_on (pieces (is 0) listing)
 
+-- the answers of a file system that has no sysfs: no path leads anywhere
+abbrev pub nothing_there : Answers
+nothing_there = record {
+  real = λ path. Err Unknown;
+  node = λ place. Err Unknown;
+  file = λ place. Err Unknown;
+  page = λ place. Err Unknown;
+  listing = λ place. Err Unknown;
+}
+
 -- what is seen of devices
 abbrev pub seen : Answers → Sight
 seen a = record {
@@ -52,3 +62,7 @@ seen a = record {
   names = λ place. option_map_or names_listed (told (a.listing place)) [];
   node = λ place. node_if (a.node place);
 }
+
+-- the same, by what tells the answers
+abbrev pub sight_by : {D : Type 0} (answers : D → Answers) → D → Sight
+sight_by answers d = seen (answers d)

@@ -1,7 +1,7 @@
 -- Worked rows over a small sysfs: a keyboard at its port, and a disk's node. What the definitions give when they are computed.
 use Rattle.std.specs.Prelude.{◌≡◌, ℕ, List, [], ◌∷◌, Option, Some, None, codes, find, map, option_map, false}
 use Rattle.std.specs.Option.{option_map_or}
-use Rattle.hwdb_spec.specs.DeviceTree.{Node, Sight, all_devices, device_at, device_for, kernel_name, last_name, major, minor, near_name}
+use Rattle.hwdb_spec.specs.DeviceTree.{Node, Sight, all_devices, device_at, device_for, kernel_name, last_name, major, minor, missing_folder, near_name, sysfs_below}
 use Rattle.hwdb_spec.specs.Folders.{same}
 
 -- what stands beside a text in a table
@@ -18,7 +18,8 @@ places =
     ∷ (codes "/sys/devices/port/event3/uevent", codes "/sys/devices/port/event3/uevent") ∷ (codes "/sys/devices/port/uevent", codes "/sys/devices/port/uevent")
     ∷ (codes "/sys/devices/port/event3/subsystem", codes "/sys/class/input") ∷ (codes "/sys/devices/port/driver", codes "/sys/bus/serio/drivers/atkbd")
     ∷ (codes "/sys/devices/port/name", codes "/sys/devices/port/name") ∷ (codes "/sys/class/dmi/id/modalias", codes "/sys/devices/dmi/modalias")
-    ∷ (codes "/dev/input/event3", codes "/dev/input/event3") ∷ (codes "/dev/disk", codes "/dev/disk") ∷ (codes "/sys/dev/char/13:67", codes "/sys/devices/port/event3") ∷ []
+    ∷ (codes "/dev/input/event3", codes "/dev/input/event3") ∷ (codes "/dev/disk", codes "/dev/disk") ∷ (codes "/sys/dev/char/13:67", codes "/sys/devices/port/event3")
+    ∷ (codes "/sys", codes "/sys") ∷ (codes "/sys/devices", codes "/sys/devices") ∷ (codes "/r/sys", codes "/r/sys") ∷ []
 
 -- the texts of small files
 abbrev pub texts : List (List ℕ × List ℕ)
@@ -80,6 +81,12 @@ NameRows =
 -- numbers of nodes: 13:67, 8:1, and 259:300, which is past eight bits
 abbrev pub NodeRows : Type 0
 NodeRows = map {B = ℕ × ℕ} (λ number. (major number, minor number)) (3395 ∷ 2049 ∷ 1114924 ∷ []) ≡ (13, 67) ∷ (8, 1) ∷ (259, 300) ∷ []
+
+-- where sysfs is; below one root its folder of devices isn't there, and below another one nothing
+abbrev pub SysfsRows : Type 0
+SysfsRows =
+    (map (sysfs_below small) ([] ∷ codes "/r" ∷ codes "/x" ∷ []) ≡ Some (codes "/sys") ∷ None ∷ None ∷ [])
+    × (map (missing_folder small) ([] ∷ codes "/r" ∷ codes "/x" ∷ []) ≡ None ∷ Some (codes "/r/sys/devices") ∷ Some (codes "/x/sys") ∷ [])
 
 -- what is near: `event33` begins most as `event3`; of names that begin as much the first in order; nothing begins as `x`
 abbrev pub NearRows : Type 0

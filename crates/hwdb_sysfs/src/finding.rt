@@ -5,7 +5,7 @@ ghost use Rattle.hwdb_spec.specs.DeviceTree as tree;
 ghost use Rattle.hwdb_spec.specs.Lines.{byte, has};
 ghost use Rattle.hwdb_spec.specs.Store as store;
 ghost use Rattle.hwdb_sysfs.specs.Answers.{seen};
-ghost use Rattle.hwdb_sysfs.specs.Finding.{IsNoSysfs, IsUnfound, LeadsAstray};
+ghost use Rattle.hwdb_sysfs.specs.Finding.{IsMissing, IsNoSysfs, IsUnfound, LeadsAstray};
 ghost use Rattle.hwdb_sysfs.specs.Views.{node_of};
 ghost use Rattle.hwdb_sysfs.specs.declared.finding.Unfound.TheVariants.{Memory};
 
@@ -41,7 +41,7 @@ impl From<AllocError> for Unfound {
 fn folder_at<F: DeviceFiles>(alloc: Global, files: &F, path: Vec<u8>) -> Result<Vec<u8>, Unfound>
     ensures found { F.tells → IfOk result (λ place.
         (seen (F.answers files.now)).place path.items ≡ Some place.items) }
-    ensures unfound { F.tells → IfErr result (IsNoSysfs (F.answers files.now)) }
+    ensures unfound { F.tells → IfErr result (IsMissing (F.answers files.now) path.items) }
 {
     match files.real_path(alloc, &path) {
         Ok(place) => Ok(place),
@@ -57,10 +57,8 @@ pub fn sysfs_below<F: DeviceFiles>(
     root: &[u8],
 ) -> Result<Vec<u8>, Unfound>
     ensures found { F.tells → IfOk result (λ sys.
-        (seen (F.answers files.now)).place (root.now ++ codes "/sys") ≡ Some sys.items) }
-    ensures devices { F.tells → IfOk result (λ sys. is_some
-        ((seen (F.answers files.now)).place (sys.items ++ codes "/devices")) ≡ true) }
-    ensures unfound { F.tells → IfErr result (IsNoSysfs (F.answers files.now)) }
+        tree.sysfs_below (seen (F.answers files.now)) root.now ≡ Some sys.items) }
+    ensures unfound { F.tells → IfErr result (IsNoSysfs (F.answers files.now) root.now) }
 {
     let sys = folder_at(alloc, files, joined(alloc, root, b"/sys")?)?;
     folder_at(alloc, files, joined(alloc, &sys, b"/devices")?)?;

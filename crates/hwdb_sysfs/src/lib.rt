@@ -11,11 +11,13 @@
 //! | `reading` | a device and its parents, as sysfs has them |
 //! | `finding` | the device that is meant by a path or a name |
 //! | `listing` | all devices |
+//! | `bare` | a store in memory, which has no sysfs |
 //! | `laws` | what is proved of the definitions alone |
 //! | `table` | a tree in memory, for laws and tests |
 #![tactic(auto)]
 
 mod answers;
+mod bare;
 mod device;
 mod files;
 mod finding;
@@ -33,5 +35,6 @@ pub use finding::{Unfound, find_device, sysfs_below};
 pub use laws::worked_rows;
 pub use listing::list_devices;
 pub use near::near_name;
+pub use paths::last_name;
 pub use reading::read_device;
 pub use table::{Row, Table, Thing};

@@ -11,7 +11,7 @@ use Rattle.hwdb_cli.specs.Line.{hwdb_app}
 use Rattle.hwdb_cli.specs.Refusals.{IsToldOfOne}
 use Rattle.hwdb_cli.specs.declared.job.Job.{Job}
 use Rattle.hwdb_cli.specs.declared.job.Task.{Task}
-use Rattle.hwdb_cli.specs.declared.job.Task.TheVariants.{Ask, Check, Diff, Dump, Explain, List as ListHits, Near, Query, Update, Verify}
+use Rattle.hwdb_cli.specs.declared.job.Task.TheVariants.{Ask, Check, Device, Diff, Dump, Explain, List as ListHits, Near, Query, Update, Verify}
 use Rattle.hwdb_cli.specs.declared.job.WordsFault.TheVariants as words_fault
 use Rattle.hwdb_cli.specs.declared.job.WordsFault.{WordsFault}
 use Rattle.hwdb_spec.specs.Given.{is_dash, is_input}
@@ -48,6 +48,7 @@ module _ (name : Text) (inner : List Row) where
       subst (λ (f : List ℕ). is_dash f ≡ false) (sym (one_value (first_of (codes "FILE") inner) _ _ u.1 t.1)) kind
   same_kind (Check files1 allowed1 json1) (Check files2 allowed2 json2) t u kind = absurd kind
   same_kind (Near files1 device1 limit1 json1) (Near files2 device2 limit2 json2) t u kind = absurd kind
+  same_kind (Device path1 strings1 json1 pattern1) (Device path2 strings2 json2 pattern2) t u kind = absurd kind
   same_kind task1 task2 t u kind = apart (word_of task1) (word_of task2) refl (sym (is_named name inner task1 t) ∙ is_named name inner task2 u)
 
   same_status : (t u : Task) → IsTask name inner t → IsTask name inner u → refused_status t ≡ refused_status u
@@ -61,6 +62,7 @@ module _ (name : Text) (inner : List Row) where
   same_status (Ask file1 device1) (Ask file2 device2) t u = refl
   same_status (Check files1 allowed1 json1) (Check files2 allowed2 json2) t u = refl
   same_status (Near files1 device1 limit1 json1) (Near files2 device2 limit2 json2) t u = refl
+  same_status (Device path1 strings1 json1 pattern1) (Device path2 strings2 json2 pattern2) t u = refl
   same_status task1 task2 t u = apart (word_of task1) (word_of task2) refl (sym (is_named name inner task1 t) ∙ is_named name inner task2 u)
 
   module _ (header : OneHeader) (tree : OneTree) (fails : List ℕ → Type 0) (U : Type 0) (files : Contents) (root : List ℕ) (r : Refusal) where
@@ -78,6 +80,7 @@ module _ (name : Text) (inner : List Row) where
     same_why (Ask file1 device1) (Ask file2 device2) t u is = subst (λ (f : List ℕ). Unasked f files r) (one_value (first_of (codes "FILE") inner) _ _ u.1 t.1) is
     same_why (Check files1 allowed1 json1) (Check files2 allowed2 json2) t u is = absurd is
     same_why (Near files1 device1 limit1 json1) (Near files2 device2 limit2 json2) t u is = absurd is
+    same_why (Device path1 strings1 json1 pattern1) (Device path2 strings2 json2 pattern2) t u is = absurd is
     same_why task1 task2 t u is = apart (word_of task1) (word_of task2) refl (sym (is_named name inner task1 t) ∙ is_named name inner task2 u)
 
 -- two jobs that the same words ask for

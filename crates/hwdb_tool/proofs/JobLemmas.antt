@@ -12,7 +12,7 @@ use Rattle.hwdb_cli.specs.Jobs.{IsJob, IsJobOf, IsLimit, IsTask}
 use Rattle.hwdb_cli.specs.Line.{hwdb_app}
 use Rattle.hwdb_cli.specs.declared.job.Job.{Job}
 use Rattle.hwdb_cli.specs.declared.job.Task.{Task}
-use Rattle.hwdb_cli.specs.declared.job.Task.TheVariants.{Ask, Check, Diff, Dump, Explain, List as ListHits, Near, Query, Update, Verify}
+use Rattle.hwdb_cli.specs.declared.job.Task.TheVariants.{Ask, Check, Device, Diff, Dump, Explain, List as ListHits, Near, Query, Update, Verify}
 use Rattle.hwdb_spec.specs.Outputs.{Texts}
 use Rattle.hwdb_spec.specs.Runs.{AreKept, OnOut, Printed, World}
 use Rattle.hwdb_spec.specs.Store.{Contents, Outcomes}
@@ -21,6 +21,9 @@ use Rattle.hwdb_spec.specs.Asked.{IsCompared, IsAnswered, IsListFrom, IsDumped, 
 use Rattle.hwdb_spec.specs.Done.{IsAsked}
 use Rattle.hwdb_spec.specs.Databases.{IsSummary}
 use Rattle.hwdb_spec.specs.NearAsked.{IsNear, near_form, near_limit}
+use Rattle.hwdb_spec.specs.DeviceAsked.{IsDevicePrinted, device_form}
+use Rattle.hwdb_spec.specs.declared.devices.DeviceForm.{DeviceForm}
+use Rattle.hwdb_tool.specs.Devices.{asked_names}
 use Rattle.hwdb_tool.specs.Queries.{AreAnswered, IfNamed, IsQuiet}
 use Rattle.hwdb_print.specs.declared.form.Form.{Form}
 use Rattle.hwdb_print.specs.declared.form.Form.TheVariants as form
@@ -62,6 +65,7 @@ word_of (Explain device json) = codes "explain"
 word_of (ListHits after limit device json) = codes "list"
 word_of (Ask file device) = codes "ask"
 word_of (Near files device limit json) = codes "near"
+word_of (Device path strings json pattern) = codes "device"
 word_of (Check files allowed json) = codes "check"
 word_of (Diff old_path new_path) = codes "diff"
 word_of (Verify database) = codes "verify"
@@ -90,6 +94,11 @@ module _ (name : Text) (inner : List Row) (root : List ℕ) (usr strict : Bool) 
 
   abbrev Quietly : (List ℕ → Type 0) → Type 0
   Quietly Is = Prints (λ texts. (status ≡ 0) × OnOut Is texts)
+
+  abbrev OfDevice : DeviceForm → Option (List ℕ) → Type 0
+  OfDevice kind path =
+      Printed (λ texts. (status ≡ 0) × OnOut (IsDevicePrinted kind asked_names root path before.devices before.files.seen) texts) before.err now.err before.out now.out
+      × AreKept before.files now.files
 
   abbrev input : Option (List ℕ)
   input = before.input.bytes
@@ -124,6 +133,11 @@ module _ (name : Text) (inner : List Row) (root : List ℕ) (usr strict : Bool) 
       (subst (λ (d : List ℕ). Quietly (IsNear (map string_bytes files2.items) root (near_form json1 d (near_limit limit1)) input old)) one.1
       (subst (λ (l : Option ℕ). Quietly (IsNear (map string_bytes files2.items) root (near_form json1 (string_bytes device2) (near_limit l)) input old)) (one_limit (one_of (codes "limit") inner) limit2 limit1 u.3 t.3)
       (subst (λ (j : Bool). Quietly (IsNear (map string_bytes files2.items) root (near_form j (string_bytes device2) (near_limit limit2)) input old)) (u.1 ∙ sym t.1) done)))
+  same_task (Device path1 strings1 json1 pattern1) (Device path2 strings2 json2 pattern2) t u done =
+      subst (λ (p : Option (List ℕ)). OfDevice (device_form strings1 json1 pattern1) p) (u.1 ∙ sym t.1)
+      (subst (λ (b : Bool). OfDevice (device_form b json1 pattern1) (option_map string_bytes path2)) (u.2 ∙ sym t.2)
+      (subst (λ (b : Bool). OfDevice (device_form strings2 b pattern1) (option_map string_bytes path2)) (u.3 ∙ sym t.3)
+      (subst (λ (b : Bool). OfDevice (device_form strings2 json2 b) (option_map string_bytes path2)) (u.4 ∙ sym t.4) done)))
   same_task (Diff old1 new1) (Diff old2 new2) t u done =
       subst (λ (p : List ℕ). Prints (OnOut (λ text. IsCompared p (string_bytes new1) old text status))) (one_value (first_of (codes "OLD") inner) _ _ u.1 t.1)
       (subst (λ (p : List ℕ). Prints (OnOut (λ text. IsCompared (string_bytes old2) p old text status))) (one_value (first_of (codes "NEW") inner) _ _ u.2 t.2) done)

@@ -7,6 +7,7 @@ use Rattle.hwdb_print.specs.Streams.{texts_of}
 use Rattle.hwdb_print.specs.declared.form.Form.{Form}
 use Rattle.hwdb_spec.specs.Asked.{IsAnswered, IsListFrom}
 use Rattle.hwdb_spec.specs.Databases.{IsTextOf}
+use Rattle.hwdb_spec.specs.DeviceTree.{Sight}
 use Rattle.hwdb_spec.specs.Given.{is_input}
 use Rattle.hwdb_spec.specs.Outputs.{Texts, TookOne}
 use Rattle.hwdb_spec.specs.Runs.{Files, Told}
@@ -53,12 +54,12 @@ streamed_done root form devices input contents result err before now is zero too
     (streamed_at root form devices input contents result err before now zero took)
 
 -- the hits of a device
-pub listed_done : (after : Option (String Global)) (limit : Option ℕ) (device : String Global) (json : Bool) (root : List ℕ) (usr strict : Bool) (files : Files) (input err before now : Told) (result : Result ℕ Refusal)
+pub listed_done : (after : Option (String Global)) (limit : Option ℕ) (device : String Global) (json : Bool) (root : List ℕ) (usr strict : Bool) (files : Files) (input err before now : Told) (devices : Sight) (result : Result ℕ Refusal)
     → IfOk result (λ s. s ≡ 0)
     → IfOk result (λ _. TookOne (IsAnswered root (IsListFrom json (string_bytes device) (option_map string_bytes after) limit) files.seen) before.bytes now.bytes before.failures now.failures)
-    → IfOk result (λ s. IsTaskDone (ListHits after limit device json) root usr strict s (record { files = files; input = input; out = before; err = err }) (record { files = files; input = input; out = now; err = err }))
-listed_done after limit device json root usr strict files input err before now (Err e) zero took = tt
-listed_done after limit device json root usr strict files input err before now (Ok s) zero took = (
+    → IfOk result (λ s. IsTaskDone (ListHits after limit device json) root usr strict s (record { files = files; input = input; out = before; err = err; devices = devices }) (record { files = files; input = input; out = now; err = err; devices = devices }))
+listed_done after limit device json root usr strict files input err before now devices (Err e) zero took = tt
+listed_done after limit device json root usr strict files input err before now devices (Ok s) zero took = (
   record {
     texts = record { err = []; out = took.text };
     are = (zero, (refl, took.is));

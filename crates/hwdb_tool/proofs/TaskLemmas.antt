@@ -4,7 +4,7 @@ use Rattle.std.specs.Prelude.{option_map}
 use Rattle.std.specs.Option.{option_map_or}
 use Rattle.std.specs.Io.KnownBytes.{Appends}
 use Rattle.hwdb_cli.specs.declared.job.Task.{Task}
-use Rattle.hwdb_cli.specs.declared.job.Task.TheVariants.{Ask, Check, Diff, Dump, Explain, List as ListHits, Near, Query, Update, Verify}
+use Rattle.hwdb_cli.specs.declared.job.Task.TheVariants.{Ask, Check, Device, Diff, Dump, Explain, List as ListHits, Near, Query, Update, Verify}
 use Rattle.hwdb_spec.specs.Done.{AreAskTexts, IsUpdated}
 use Rattle.hwdb_spec.specs.Databases.{IsDiffText, IsDifferent, IsSummary, IsTextOf}
 use Rattle.hwdb_spec.specs.Assignment.{Position}
@@ -30,6 +30,13 @@ use Rattle.hwdb_print.specs.declared.form.Form.{Form}
 use Rattle.hwdb_print.specs.declared.form.Form.TheVariants as forms
 use Rattle.hwdb_print.specs.Streams.{texts_of}
 use Rattle.hwdb_spec.specs.CheckedFiles.{AreCheckedFiles}
+use Rattle.hwdb_spec.specs.DeviceAsked.{IsDevicePrinted, IsOfDevice, device_form, device_list, device_meant}
+use Rattle.hwdb_spec.specs.DeviceTexts.{device_text}
+use Rattle.hwdb_spec.specs.DeviceTree.{Sight, sysfs_below}
+use Rattle.hwdb_spec.specs.Sysfs.{Device as SeenDevice}
+use Rattle.hwdb_spec.specs.Outputs.{Texts}
+use Rattle.hwdb_spec.specs.declared.devices.DeviceForm.{DeviceForm}
+use Rattle.hwdb_tool.specs.Devices.{asked_names}
 use Rattle.hwdb_spec.specs.Near.{PatternAt}
 use Rattle.hwdb_spec.specs.NearAsked.{IsNear, database_patterns, near_form, near_limit, patterns_from}
 use Rattle.hwdb_spec.specs.Asked.{IsAnswered, IsFrom, IsListFrom, list_form, named_database}
@@ -38,8 +45,12 @@ use Rattle.hwdb_fs.specs.LeftOut.{AreTold}
 use Rattle.hwdb_tool.specs.Readable.{IsUpdatedLess}
 use Rattle.hwdb_tool.specs.Queries.{AreAnsweredFrom, IfNamed}
 use Rattle.hwdb_spec.specs.LoneFile.{lone}
-use Rattle.hwdb_tool.specs.OneOutcome.{AnswersAreOne, IsFunction, IsOneInput, IsOneOutcome, LeavesNothingOut, Scene, scene_of, ListingsGiveOneChoice, ListingsGiveOneReading}
+use Rattle.hwdb_tool.specs.OneOutcome.{AnswersAreOne, IsFunction, IsOneAnswer, IsOneInput, IsOneOutcome, LeavesNothingOut, Scene, scene_of, ListingsGiveOneChoice, ListingsGiveOneReading}
 use Rattle.hwdb_tool.proofs.OutcomeLemmas.{one_answer, one_held, one_kept, one_map, one_place, one_said, one_status, one_taken, one_taken_then, one_text}
+
+-- an option has one value
+one_some : {X : Type 0} (o : Option X) (a b : X) → o ≡ Some a → o ≡ Some b → a ≡ b
+one_some o a b one two = ap (λ (p : Option X). option_map_or (λ x. x) p a) (sym one ∙ two)
 
 first_or : {X : Type 0} → X → List X → X
 first_or d [] = d
@@ -171,6 +182,7 @@ module _ (tree : (bytes : List ℕ) (t u : Tree) → IsDatabase bytes t → IsDa
   -- the texts of a task, and its status
   pub one_answer_of : AnswersAreOne
   one_answer_of (Update verbose skip) = λ root strict input files status status2 texts texts2 one two. absurd one
+  one_answer_of (Device path strings json pattern) = λ root strict input files status status2 texts texts2 one two. absurd one
   one_answer_of (Query devices json) = λ root strict input files status status2 texts texts2 one two. record {
     one_status = one.0 ∙ sym two.0;
     one_err = one.1.0 ∙ sym two.1.0;
@@ -247,7 +259,23 @@ module _ (tree : (bytes : List ℕ) (t u : Tree) → IsDatabase bytes t → IsDa
         one_out = one_text tree dump_text a.bytes b.bytes texts.out texts2.out (one_held (named_database (option_map string_bytes database) root files) a.bytes b.bytes a.named b.named) a.is b.is;
       }
 
-  -- what both outputs took of them
+  -- what both outputs took of one answer
+  one_end : (root : List ℕ) (usr : Bool) (status status2 : ℕ) (before now before2 now2 : Scene) → IsOneInput before before2
+      → (Are Are2 : Texts → Type 0) (a : Printed Are before.err now.err before.out now.out) → Same before.files now.files
+      → (b : Printed Are2 before2.err now2.err before2.out now2.out) → Same before2.files now2.files
+      → IsOneAnswer status status2 a.texts b.texts → IsOneOutcome (database_folder usr root) status status2 now now2
+  one_end root usr status status2 before now before2 now2 input Are Are2 a kept b kept2 same = record {
+    one_status = same.one_status;
+    one_files = one_kept (database_folder usr root) before.files now.files now2.files kept (subst (λ (f : Contents). Same f now2.files) input.files kept2);
+    one_err = one_taken input.err.bytes now.err.bytes now2.err.bytes a.texts.err b.texts.err same.one_err
+        (subst (λ (o : Option (List ℕ)). Appends o now.err.bytes a.texts.err) input.err.of_one a.err.whole)
+        (subst (λ (o : Option (List ℕ)). Appends o now2.err.bytes b.texts.err) input.err.of_two b.err.whole);
+    one_out = one_taken input.out.bytes now.out.bytes now2.out.bytes a.texts.out b.texts.out same.one_out
+        (subst (λ (o : Option (List ℕ)). Appends o now.out.bytes a.texts.out) input.out.of_one a.out.whole)
+        (subst (λ (o : Option (List ℕ)). Appends o now2.out.bytes b.texts.out) input.out.of_two b.out.whole);
+  }
+
+  -- what they took of a task's texts
   one_printed : (task : Task) (root : List ℕ) (usr strict : Bool) (status status2 : ℕ) (before now before2 now2 : Scene) → IsOneInput before before2
       → IfNamed (streams task) before.input.bytes (Printed (IsAnswerOf task root strict before.input.bytes before.files status) before.err now.err before.out now.out) → Same before.files now.files
       → IfNamed (streams task) before2.input.bytes (Printed (IsAnswerOf task root strict before2.input.bytes before2.files status2) before2.err now2.err before2.out now2.out) → Same before2.files now2.files
@@ -258,17 +286,19 @@ module _ (tree : (bytes : List ℕ) (t u : Tree) → IsDatabase bytes t → IsDa
       let x = subst (λ (i : Option (List ℕ)). IsAnswerOf task root strict i before.files status a.texts) input.input.of_one a.are in
       let y = subst (λ (i : Option (List ℕ)). IsAnswerOf task root strict i before.files status2 b.texts) input.input.of_two
       (subst (λ (f : Contents). IsAnswerOf task root strict before2.input.bytes f status2 b.texts) input.files b.are) in
-      let same = one_answer_of task root strict input.input.bytes before.files status status2 a.texts b.texts x y in
-      record {
-        one_status = same.one_status;
-        one_files = one_kept (database_folder usr root) before.files now.files now2.files kept (subst (λ (f : Contents). Same f now2.files) input.files kept2);
-        one_err = one_taken input.err.bytes now.err.bytes now2.err.bytes a.texts.err b.texts.err same.one_err
-            (subst (λ (o : Option (List ℕ)). Appends o now.err.bytes a.texts.err) input.err.of_one a.err.whole)
-            (subst (λ (o : Option (List ℕ)). Appends o now2.err.bytes b.texts.err) input.err.of_two b.err.whole);
-        one_out = one_taken input.out.bytes now.out.bytes now2.out.bytes a.texts.out b.texts.out same.one_out
-            (subst (λ (o : Option (List ℕ)). Appends o now.out.bytes a.texts.out) input.out.of_one a.out.whole)
-            (subst (λ (o : Option (List ℕ)). Appends o now2.out.bytes b.texts.out) input.out.of_two b.out.whole);
-      }
+      one_end root usr status status2 before now before2 now2 input _ _ a kept b kept2 (one_answer_of task root strict input.input.bytes before.files status status2 a.texts b.texts x y)
+
+  -- what is printed of a device
+  of_device : (kind : DeviceForm) (root given : List ℕ) (sight : Sight) (files : Contents) (text text2 : List ℕ)
+      → IsOfDevice kind asked_names root given sight files text → IsOfDevice kind asked_names root given sight files text2 → text ≡ text2
+  of_device kind root given sight files text text2 one two =
+      let same : one.device ≡ two.device = one_some (device_meant sight asked_names root given) one.device two.device one.meant two.meant in
+      one_answer tree root (device_text kind two.device) files text text2 (subst (λ (d : SeenDevice). IsAnswered root (IsTextOf (device_text kind d)) files text) same one.is) two.is
+
+  device_one : (kind : DeviceForm) (root : List ℕ) (given : Option (List ℕ)) (sight : Sight) (files : Contents) (text text2 : List ℕ)
+      → IsDevicePrinted kind asked_names root given sight files text → IsDevicePrinted kind asked_names root given sight files text2 → text ≡ text2
+  device_one kind root None sight files text text2 one two = one_held (option_map (device_list sight asked_names) (sysfs_below sight root)) text text2 one two
+  device_one kind root (Some given) sight files text text2 one two = of_device kind root given sight files text text2 one two
 
   -- an update of all files
   module _ (left left2 : Outcomes) where
@@ -292,7 +322,7 @@ module _ (tree : (bytes : List ℕ) (t u : Tree) → IsDatabase bytes t → IsDa
 
   module _ (fails fails_now fails2 fails2_now : List ℕ → Type 0) (left left_now left2 left2_now : Outcomes) where
     abbrev over : (files : Contents) → Scene → World
-    over files scene = scene_of fails2 left2 (record { files = files; failures = scene.failures; input = scene.input; out = scene.out; err = scene.err })
+    over files scene = scene_of fails2 left2 (record { files = files; failures = scene.failures; input = scene.input; out = scene.out; err = scene.err; devices = scene.devices })
 
     pub each : (task : Task) → IsFunction fails fails_now fails2 fails2_now left left_now left2 left2_now task
     each (Update verbose skip) = λ root usr strict status status2 before now before2 now2 input nothing nothing2 one given.
@@ -311,5 +341,17 @@ module _ (tree : (bytes : List ℕ) (t u : Tree) → IsDatabase bytes t → IsDa
         (all_told root verbose strict skip status first input.err.bytes one.0.err_then now.err hid place nothing told one.0.updated)
         (all_told root verbose strict skip status2 second input.err.bytes two.0.err_then now2.err hid place2 nothing2 told2 two.0.updated)
         (ap (λ (t : Told). t.bytes) one.1 ∙ input.out.of_one ∙ sym (ap (λ (t : Told). t.bytes) two.1 ∙ input.out.of_two))
+    each (Device path strings json pattern) = λ root usr strict status status2 before now before2 now2 input nothing nothing2 one two.
+        let kind = device_form strings json pattern in
+        let given = option_map string_bytes path in
+        let a = one.0 in
+        let b = two.0 in
+        let y = subst (λ (v : Sight). IsDevicePrinted kind asked_names root given v before.files b.texts.out) input.devices
+        (subst (λ (f : Contents). IsDevicePrinted kind asked_names root given before2.devices f b.texts.out) input.files b.are.1.1) in
+        one_end root usr status status2 before now before2 now2 input _ _ a one.1.same b two.1.same (record {
+          one_status = a.are.0 ∙ sym b.are.0;
+          one_err = a.are.1.0 ∙ sym b.are.1.0;
+          one_out = device_one kind root given before.devices before.files a.texts.out b.texts.out a.are.1.1 y;
+        })
     each task = λ root usr strict status status2 before now before2 now2 input nothing nothing2 one two.
         one_printed task root usr strict status status2 before now before2 now2 input one.0 one.2.same two.0 two.2.same

@@ -10,6 +10,7 @@ pub mod ComparedDatabases
 pub mod Internal
 pub mod NamedDatabases
 pub mod NearMisses
+pub mod Devices
 pub mod Hiding
 pub mod Colours
 pub mod Crash

@@ -1,6 +1,7 @@
 -- What two outcomes over one input have in common.
 use Rattle.std.specs.Prelude.{◌≡◌, ◌⊎◌, ℕ, Bool, false, List, Some, map}
 use Rattle.hwdb_cli.specs.declared.job.Task.{Task}
+use Rattle.hwdb_spec.specs.DeviceTree.{Sight}
 use Rattle.hwdb_spec.specs.Folders.{Source, Choice, choice, chosen_of, contents, lists}
 use Rattle.hwdb_spec.specs.Outputs.{Texts}
 use Rattle.hwdb_spec.specs.Runs.{Told, World}
@@ -34,6 +35,7 @@ pub record Scene : Type 0 where
   pub input : Told
   pub out : Told
   pub err : Told
+  pub devices : Sight
 
 -- the same, beside what can't: which paths may fail to be read, and what a crash may leave
 abbrev pub scene_of : (fails : (path : List ℕ) → Type 0) (left : Outcomes) → Scene → World
@@ -42,6 +44,7 @@ scene_of fails left scene = record {
   input = scene.input;
   out = scene.out;
   err = scene.err;
+  devices = scene.devices;
 }
 
 -- two devices tell the same bytes
@@ -56,6 +59,7 @@ pub record IsOneInput (one two : Scene) : Type 0 where
   pub input : TellOne one.input two.input
   pub out : TellOne one.out two.out
   pub err : TellOne one.err two.err
+  pub devices : two.devices ≡ one.devices
 
 -- Two outcomes are the same. Only under the paths of new files they may differ: what a killed update left there may have gone
 -- in the one, and not in the other.

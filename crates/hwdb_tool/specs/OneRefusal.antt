@@ -136,7 +136,7 @@ InputIsLong fails fails_now left left_now = (task : Task) (root : List ℕ) (usr
 -- ---- of words
 -- what a run leaves but for standard error, on which the line of an error comes yet
 abbrev pub scene_then : (err : Told) → Scene → Scene
-scene_then err scene = record { files = scene.files; failures = scene.failures; input = scene.input; out = scene.out; err = err }
+scene_then err scene = record { files = scene.files; failures = scene.failures; input = scene.input; out = scene.out; err = err; devices = scene.devices }
 
 -- Words that ask for such a task end with one status and one error over one input, if it comes of what is read. Before its line
 -- both outputs are the same.

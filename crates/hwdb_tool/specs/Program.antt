@@ -1,5 +1,5 @@
 -- What the program does with a file system, by the job that its words ask for (systemd-hwdb(8); `explain`, `ask`,
--- `list`, `near`, `check`, `diff`, `verify` and `dump` are our choice).
+-- `list`, `near`, `device`, `check`, `diff`, `verify` and `dump` are our choice).
 use Rattle.std.specs.Prelude.{◌≡◌, ◌≢◌, ◌⊎◌, ◌==◌, ℕ, Bool, true, false, not, is_some, length, List, [], ◌∷◌, Option, map, option_map, string_bytes}
 use Rattle.std.specs.Option.{option_map_or}
 use Rattle.clap.specs.Faults.{fault_of}
@@ -11,13 +11,15 @@ use Rattle.hwdb_spec.specs.Runs.{AreKept, HasTaken, OnOut, Printed, World}
 use Rattle.hwdb_spec.specs.Store.{Contents, InPlace, Outcomes}
 use Rattle.hwdb_spec.specs.System.{database_folder}
 use Rattle.hwdb_print.specs.declared.form.Form.TheVariants as form
-use Rattle.hwdb_cli.specs.declared.job.Task.TheVariants.{Ask, Check, Diff, Dump, Explain, List as ListHits, Near, Query, Update, Verify}
+use Rattle.hwdb_cli.specs.declared.job.Task.TheVariants.{Ask, Check, Device, Diff, Dump, Explain, List as ListHits, Near, Query, Update, Verify}
 use Rattle.hwdb_cli.specs.declared.job.Task.{Task}
 use Rattle.hwdb_cli.specs.declared.job.Job.{Job}
 use Rattle.hwdb_spec.specs.CheckedFiles.{AreCheckedFiles, IsChecked}
 use Rattle.hwdb_spec.specs.Asked.{IsCompared, IsDumped, IsPrinted, IsAnswered, IsListFrom}
 use Rattle.hwdb_spec.specs.Databases.{IsSummary}
 use Rattle.hwdb_spec.specs.NearAsked.{IsNear, near_form, near_limit}
+use Rattle.hwdb_spec.specs.DeviceAsked.{IsDevicePrinted, device_form}
+use Rattle.hwdb_tool.specs.Devices.{asked_names}
 use Rattle.hwdb_tool.specs.Queries.{AreAnswered, IfNamed, IsQuiet}
 use Rattle.hwdb_spec.specs.Done.{IsAsked, IsLeftByUpdateLess}
 use Rattle.hwdb_tool.specs.Hiding.{IsUpdatedTelling}
@@ -36,9 +38,10 @@ looks_below_root (Verify database) = not (is_some database)
 looks_below_root (Dump database) = not (is_some database)
 looks_below_root _ = true
 
--- what a task prints, and its status; an update says what it does while it goes on
+-- What a task prints, and its status. An update says what it does while it goes on, and `device` asks sysfs, too.
 abbrev pub IsAnswerOf : Task → (root : List ℕ) (strict : Bool) (input : Option (List ℕ)) → Contents → (status : ℕ) → Texts → Type 0
 IsAnswerOf (Update verbose skip) root strict input files status texts = ⊥
+IsAnswerOf (Device path strings json pattern) root strict input files status texts = ⊥
 IsAnswerOf (Query devices json) root strict input files status texts =
     (status ≡ 0) × OnOut (AreAnswered root (form.Query json) (map string_bytes devices.items) input files) texts
 IsAnswerOf (Explain device json) root strict input files status texts =
@@ -69,6 +72,9 @@ abbrev pub IsTaskDone : Task → (root : List ℕ) (usr strict : Bool) (status :
 IsTaskDone (Update verbose skip) root usr strict status before now =
     IsUpdatedTelling root usr verbose strict skip status before.files before.err now.err (λ database. InPlace (database_folder usr root) database before.files.seen now.files.seen now.files.left)
     × (now.out ≡ before.out)
+IsTaskDone (Device path strings json pattern) root usr strict status before now =
+    Printed (λ texts. (status ≡ 0) × OnOut (IsDevicePrinted (device_form strings json pattern) asked_names root (option_map string_bytes path) before.devices before.files.seen) texts) before.err now.err before.out now.out
+    × AreKept before.files now.files
 IsTaskDone task root usr strict status before now =
     IfNamed (streams task) before.input.bytes (Printed (IsAnswerOf task root strict before.input.bytes before.files.seen status) before.err now.err before.out now.out)
     × IsQuiet (streams task) status before.err now.err × AreKept before.files now.files

@@ -5,13 +5,14 @@ use Rattle.clap.specs.Faults.{fault_of}
 use Rattle.hwdb_cli.specs.Line.{hwdb_app}
 use Rattle.hwdb_cli.specs.Words.{AskFor, AskForText, AreToldBy}
 use Rattle.hwdb_cli.specs.declared.job.Job.{Job}
-use Rattle.hwdb_cli.specs.declared.job.Task.TheVariants.{Ask, Check, Diff, Dump, Explain, List as ListHits, Near, Query, Update, Verify}
+use Rattle.hwdb_cli.specs.declared.job.Task.TheVariants.{Ask, Check, Device, Diff, Dump, Explain, List as ListHits, Near, Query, Update, Verify}
 use Rattle.hwdb_cli.specs.declared.job.Task.{Task}
 use Rattle.hwdb_cli.specs.declared.job.WordsFault.TheVariants as words_fault
 use Rattle.hwdb_cli.specs.declared.job.WordsFault.{WordsFault}
 use Rattle.hwdb_spec.specs.Failures.{IsOneLine}
 use Rattle.hwdb_spec.specs.Given.{is_dash}
-use Rattle.hwdb_spec.specs.Runs.{AreKept, Told, WasCut, World}
+use Rattle.hwdb_spec.specs.DeviceAsked.{IsDevicePrinted, device_form}
+use Rattle.hwdb_spec.specs.Runs.{AreKept, OnOut, Told, WasCut, World}
 use Rattle.hwdb_spec.specs.Store.{Contents}
 use Rattle.hwdb_spec.specs.System.{database_folder}
 use Rattle.hwdb_spec.specs.Outputs.{Texts}
@@ -20,6 +21,7 @@ use Rattle.hwdb_print.specs.declared.errors.ToolError.TheVariants.{Memory, Write
 use Rattle.hwdb_spec.specs.CheckedFiles.{AreCheckedFiles}
 use Rattle.hwdb_tool.specs.ComparedDatabases.{IsDiffRefused}
 use Rattle.hwdb_tool.specs.NearMisses.{IsNearRefused}
+use Rattle.hwdb_tool.specs.Devices.{IsDeviceRefused, asked_names}
 use Rattle.hwdb_tool.specs.NamedDatabases.{IsDumpRefused, IsVerifyRefused}
 use Rattle.hwdb_tool.specs.Queries.{AreUnanswered, IsInputUnread}
 use Rattle.hwdb_tool.specs.Program.{IsAnswerOf, IsJobDone, IsTold, IsUpdate, looks_below_root, reads_input, root_of}
@@ -53,6 +55,9 @@ IsPrintingRefused (Explain device json) root strict refusal before now =
     AreUnanswered root (form.Explain json) (string_bytes device ∷ []) before.input.bytes before.files.seen refusal before.err now.err before.out now.out
 IsPrintingRefused (ListHits after limit device json) root strict refusal before now =
     IsListRefused root json (string_bytes device) (option_map string_bytes after) limit before.files.seen refusal before.out now.out × (now.err ≡ before.err)
+IsPrintingRefused (Device path strings json pattern) root strict refusal before now =
+    IsUnprinted (IsDeviceRefused root (option_map string_bytes path) before.devices before.files.seen)
+    (OnOut (IsDevicePrinted (device_form strings json pattern) asked_names root (option_map string_bytes path) before.devices before.files.seen)) refusal before.err now.err before.out now.out
 IsPrintingRefused task root strict refusal before now =
     IsUnprinted (Refuses task root before.input.bytes before.files.seen) (MayPrint task root strict before.input.bytes before.files.seen) refusal before.err now.err before.out now.out
 
@@ -109,7 +114,7 @@ pub record IsSaid (refusal : Refusal) (before now : Told) : Type 0 where
 
 -- what a run leaves but for standard error, on which a line comes yet
 abbrev pub with_err : Told → World → World
-with_err err world = record { files = world.files; input = world.input; out = world.out; err = err }
+with_err err world = record { files = world.files; input = world.input; out = world.out; err = err; devices = world.devices }
 
 -- The words ask for a job, and have no fault. It is refused with this status, for its reason. Then standard error took the line.
 pub record IsJobRefused (words : List (List ℕ)) (status : ℕ) (before now : World) : Type 0 where

@@ -2,6 +2,7 @@
 ghost use Rattle.std.specs.Prelude.{◌≡◌, ◌<◌, ◌≤◌, ◌⊎◌, false, map, option_map, string_bytes, IfOk, IfErr};
 ghost use Rattle.hwdb_spec.specs.Flushing.{HandsOn, HasHandedOn};
 ghost use Rattle.hwdb_spec.specs.Store as spec;
+ghost use Rattle.hwdb_sysfs.specs.Answers.{sight_by};
 ghost use Rattle.hwdb_spec.specs.Runs.{files_by, told_by, world_by};
 ghost use Rattle.hwdb_cli.specs.Refusals.{AreWrong};
 ghost use Rattle.hwdb_cli.specs.Words.{AskFor};
@@ -13,6 +14,7 @@ ghost use Rattle.hwdb_fs.specs.declared.refusals.Refusal.TheVariants.{Plain};
 
 use crate::answers::{ask_file, explain, list};
 use crate::checks::check;
+use crate::devices::{device, device_form};
 use crate::differences::diff;
 use crate::dumps::dump;
 use crate::hiding::update_telling;
@@ -22,7 +24,7 @@ use crate::printing::printed;
 use crate::queries::query;
 use crate::verification::verify;
 use hwdb_cli::{Job, Task, WordsFault, read_words};
-use hwdb_fs::{Refusal, Rooted, System, refuse_for, refuse_memory};
+use hwdb_fs::{Machine, Refusal, Rooted, refuse_for, refuse_memory};
 use hwdb_io::{Sink, Source, write_text};
 use hwdb_print::ToolError;
 use std::alloc::Global;
@@ -31,7 +33,7 @@ use std::alloc::Global;
 /// `diff` finds something, or `--strict` says so, and after a refusal, whose line goes to `err`; 2 after one of `diff`.
 /// Words that the command doesn't take, and that ask for no help, are refused. Where the reader of `out` went away the
 /// status is 0, and nothing is said. Of `input` only a command reads that is given `-`.
-pub fn program<D: Rooted, I: Source, O: Outlet, E: Sink>(
+pub fn program<D: Machine, I: Source, O: Outlet, E: Sink>(
     alloc: Global,
     words: &[String],
     system: &mut D,
@@ -47,13 +49,13 @@ pub fn program<D: Rooted, I: Source, O: Outlet, E: Sink>(
         (D.Store.seen system.old) (D.Store.may_leave system.old)) }
     ensures unread { ((job : Job) → AskFor (map string_bytes words.now) job
         → reads_input job.task ≡ false) → input.new ≡ input.old }
-    ensures done { D.Store.tells → result ≡ 0 → let world = world_by
+    ensures done { D.Store.tells → result ≡ 0 → let world = world_by (sight_by D.answers)
         (files_by D.Store.seen D.System.may_fail D.Store.may_leave D.Store.failures)
         (told_by I.left I.failures) (told_by O.Sink.taken O.Sink.failures)
         (told_by E.taken E.failures) in HasSucceeded (O.reader_gone out.old) (O.reader_gone out.new)
         (map string_bytes words.now) (world system.old input.old out.old err.old)
         (world system.new input.new out.new err.new) }
-    ensures refused { D.Store.tells → 0 < result → let world = world_by
+    ensures refused { D.Store.tells → 0 < result → let world = world_by (sight_by D.answers)
         (files_by D.Store.seen D.System.may_fail D.Store.may_leave D.Store.failures)
         (told_by I.left I.failures) (told_by O.Sink.taken O.Sink.failures)
         (told_by E.taken E.failures) in HasFailedWith (map string_bytes words.now) result
@@ -161,7 +163,7 @@ fn refused_status(task: &Task) -> u8
 }
 
 /// Does the job, and returns the status: 1 where `check` or `diff` finds something or `--strict` says so, else 0.
-fn run<D: System, I: Source, O: Sink, E: Sink>(
+fn run<D: Machine, I: Source, O: Sink, E: Sink>(
     alloc: Global,
     job: &Job,
     system: &mut D,
@@ -176,13 +178,13 @@ fn run<D: System, I: Source, O: Sink, E: Sink>(
         (D.Store.seen system.old) (D.Store.may_leave system.old)) }
     ensures unread { reads_input job.now.task ≡ false → input.new ≡ input.old }
     ensures update { IsUpdate job.now.task → out.new ≡ out.old }
-    ensures done { D.Store.tells → let world = world_by
+    ensures done { D.Store.tells → let world = world_by (sight_by D.answers)
         (files_by D.Store.seen D.System.may_fail D.Store.may_leave D.Store.failures)
         (told_by I.left I.failures) (told_by O.taken O.failures) (told_by E.taken E.failures) in
         IfOk result (λ status. IsDone job.now status
         (world system.old input.old out.old err.old)
         (world system.new input.new out.new err.new)) }
-    ensures refused { D.Store.tells → let world = world_by
+    ensures refused { D.Store.tells → let world = world_by (sight_by D.answers)
         (files_by D.Store.seen D.System.may_fail D.Store.may_leave D.Store.failures)
         (told_by I.left I.failures) (told_by O.taken O.failures) (told_by E.taken E.failures) in
         IfErr result (IsJobNotDone job.now
@@ -248,6 +250,16 @@ fn run<D: System, I: Source, O: Sink, E: Sink>(
         } => {
             let device = device.as_bytes();
             let answer = near(alloc, root, files, device, *limit, *json, system, input);
+            printed(answer, out, err)
+        }
+        Task::Device {
+            path,
+            strings,
+            json,
+            pattern,
+        } => {
+            let form = device_form(*strings, *json, *pattern);
+            let answer = device(alloc, root, text_of(path), form, system);
             printed(answer, out, err)
         }
         Task::Diff { old, new } => {

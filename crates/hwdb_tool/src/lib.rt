@@ -13,6 +13,7 @@
 //! | `input_devices` | `query -` and `explain -`: the devices that standard input names |
 //! | `checks` | `check` |
 //! | `near_misses` | `near` |
+//! | `devices` | `device`; `missing`: what is said if there is no sysfs, or no such device |
 //! | `differences` | `diff` |
 //! | `verification` | `verify`; `verdicts`: its words on bytes that are no database |
 //! | `dumps` | `dump` |
@@ -34,6 +35,7 @@ mod checks;
 mod coloured;
 mod crash;
 mod databases;
+mod devices;
 mod differences;
 mod dispatch;
 mod dumps;
@@ -42,6 +44,7 @@ mod given;
 mod hiding;
 mod input_devices;
 mod laws;
+mod missing;
 mod near_misses;
 mod one_outcome;
 mod one_refusal;
@@ -58,6 +61,7 @@ pub use answers::{ask_file, explain, list};
 pub use checks::check;
 pub use coloured::{Coloured, kind_of, write_painted};
 pub use crash::{crash_then_query, kill_then_query};
+pub use devices::{device, device_form};
 pub use differences::diff;
 pub use dispatch::program;
 pub use dumps::dump;

@@ -9,7 +9,8 @@ returns c =
     let ask = c.with_command-ask.ensures _ _ explain c.command-4.ensures in
     let list = c.with_command-list.ensures _ _ ask c.command-5.ensures in
     let near = c.with_command-near.ensures _ _ list c.command-6.ensures in
-    let check = c.with_command-check.ensures _ _ near c.command-7.ensures in
-    let diff = c.with_command-diff.ensures _ _ check c.command-8.ensures in
-    let verify = c.with_command-verify.ensures _ _ diff c.command-9.ensures in
-    IfOk-weaker c.with_command.result _ _ (λ r is. is.app) (c.with_command.ensures _ _ verify c.command-10.ensures)
+    let device = c.with_command-device.ensures _ _ near c.command-7.ensures in
+    let check = c.with_command-check.ensures _ _ device c.command-8.ensures in
+    let diff = c.with_command-diff.ensures _ _ check c.command-9.ensures in
+    let verify = c.with_command-verify.ensures _ _ diff c.command-10.ensures in
+    IfOk-weaker c.with_command.result _ _ (λ r is. is.app) (c.with_command.ensures _ _ verify c.command-11.ensures)

@@ -2,6 +2,7 @@ use Rattle.std.proofs.Common.{inl, inr, ⊎_elim, ◌∙◌, arith, refl, [], su
 use Rattle.hwdb_cli.specs.declared.job.WordsFault.TheVariants as words_fault
 use Rattle.hwdb_spec.specs.Runs.{AreKept, World, files_by, told_by}
 use Rattle.hwdb_spec.specs.Store.{LeavesOnly}
+use Rattle.hwdb_sysfs.specs.Answers.{sight_by}
 use Rattle.hwdb_print.specs.declared.errors.ToolError.TheVariants.{Memory, Write}
 use Rattle.hwdb_fs.specs.Refusals.{Refused}
 use Rattle.hwdb_fs.specs.declared.refusals.Refusal.TheVariants.{Plain}
@@ -17,11 +18,12 @@ use Rattle.hwdb_tool.proofs.dispatch.program.Goals as goal
 pub returns-in-Ok-enter_root-clause-refused : goal.returns-in-Ok-enter_root-clause-refused
 returns-in-Ok-enter_root-clause-refused g c = λ tells is.
     let F = files_by g.D.Store.seen g.D.System.may_fail g.D.Store.may_leave g.D.Store.failures in
+    let V = sight_by g.D.DeviceFiles.answers in
     let I = told_by g.I.Source.left g.I.Source.failures in
     let O = told_by g.O.Sink.taken g.O.Sink.failures in
     let E = told_by g.E.Sink.taken g.E.Sink.failures in
-    let at : g.row.D.Denot → World = λ s. record { files = F s; input = I c.args.input.now; out = O c.args.out.now; err = E c.args.err.now } in
-    let left : World = record { files = F c.run.new.system; input = I c.run.new.input; out = O c.run.new.out; err = E c.run.new.err } in
+    let at : g.row.D.Denot → World = λ s. record { files = F s; input = I c.args.input.now; out = O c.args.out.now; err = E c.args.err.now; devices = V s } in
+    let left : World = record { files = F c.run.new.system; input = I c.run.new.input; out = O c.run.new.out; err = E c.run.new.err; devices = V c.run.new.system } in
     inr (inl record {
       job = c.in-Ok.job;
       asked = c.in-Ok.ensures.job;
@@ -62,16 +64,17 @@ pub returns-in-Ok-enter_root-clause-done : goal.returns-in-Ok-enter_root-clause-
 returns-in-Ok-enter_root-clause-done g c = λ tells is.
     let job = c.in-Ok.job in
     let F = files_by g.D.Store.seen g.D.System.may_fail g.D.Store.may_leave g.D.Store.failures in
+    let V = sight_by g.D.DeviceFiles.answers in
     let I = told_by g.I.Source.left g.I.Source.failures in
     let O = told_by g.O.Sink.taken g.O.Sink.failures in
     let E = told_by g.E.Sink.taken g.E.Sink.failures in
-    let at : g.row.D.Denot → World = λ s. record { files = F s; input = I c.args.input.now; out = O c.args.out.now; err = E c.args.err.now } in
-    let left : World = record { files = F c.run.new.system; input = I c.run.new.input; out = O c.run.new.out; err = E c.run.new.err } in
-    let now : World = record { files = F c.run.new.system; input = I c.run.new.input; out = O c.run.new.out; err = E c.refuse_job.new.err } in
+    let at : g.row.D.Denot → World = λ s. record { files = F s; input = I c.args.input.now; out = O c.args.out.now; err = E c.args.err.now; devices = V s } in
+    let left : World = record { files = F c.run.new.system; input = I c.run.new.input; out = O c.run.new.out; err = E c.run.new.err; devices = V c.run.new.system } in
+    let now : World = record { files = F c.run.new.system; input = I c.run.new.input; out = O c.run.new.out; err = E c.refuse_job.new.err; devices = V c.run.new.system } in
     let over = subst (λ (s : g.row.D.Denot). IsJobNotDone job (at s) left c.in-Err-run.refusal) (c.enter_root.ensures.same tells) (c.in-Err-run.ensures.refused tells) in
     let plain = subst (λ (r : Refusal). IsTaskRefused job.task (root_of job) job.usr job.strict r (at c.args.system.now) left) (c.refuse_job.ensures.said is) over.0 in
     let same = subst (λ (e : _). IsTaskRefused job.task (root_of job) job.usr job.strict (Plain Write) (at c.args.system.now)
-    (record { files = F c.run.new.system; input = I c.run.new.input; out = O c.run.new.out; err = E e })) (sym (c.refuse_job.ensures.quiet is)) plain in
+    (record { files = F c.run.new.system; input = I c.run.new.input; out = O c.run.new.out; err = E e; devices = V c.run.new.system })) (sym (c.refuse_job.ensures.quiet is)) plain in
     inr (inr (inl record {
       job = job;
       asked = c.in-Ok.ensures.job;

@@ -8,6 +8,7 @@ use Rattle.hwdb_spec.specs.Given.{is_dash}
 use Rattle.hwdb_spec.specs.Outputs.{TookOne}
 use Rattle.hwdb_spec.specs.Runs.{OnOut, World, files_by, told_by}
 use Rattle.hwdb_spec.specs.NearAsked.{IsNear, near_form, near_limit}
+use Rattle.hwdb_sysfs.specs.Answers.{sight_by}
 use Rattle.hwdb_tool.specs.ComparedDatabases.{IsDiffRefused}
 use Rattle.hwdb_tool.specs.NearMisses.{IsNearRefused}
 use Rattle.hwdb_tool.specs.Program.{IsAnswerOf, IsTaskDone, OldOrDone, root_of, skips}
@@ -41,12 +42,13 @@ pub returns-in-Update-clause-done : goal.returns-in-Update-clause-done
 returns-in-Update-clause-done g c = λ tells.
     let job = c.args.job.now in
     let F = files_by g.D.Store.seen g.D.System.may_fail g.D.Store.may_leave g.D.Store.failures in
+    let V = sight_by g.D.DeviceFiles.answers in
     let I = told_by g.I.Source.left g.I.Source.failures in
     let O = told_by g.O.Sink.taken g.O.Sink.failures in
     let E = told_by g.E.Sink.taken g.E.Sink.failures in
     let seen = g.D.Store.seen c.args.system.now in
-    let before : World = record { files = F c.args.system.now; input = I c.args.input.now; out = O c.args.out.now; err = E c.args.err.now } in
-    let now : World = record { files = F c.update_telling.new.system; input = I c.args.input.now; out = O c.args.out.now; err = E c.update_telling.new.err } in
+    let before : World = record { files = F c.args.system.now; input = I c.args.input.now; out = O c.args.out.now; err = E c.args.err.now; devices = V c.args.system.now } in
+    let now : World = record { files = F c.update_telling.new.system; input = I c.args.input.now; out = O c.args.out.now; err = E c.update_telling.new.err; devices = V c.update_telling.new.system } in
     let task = Update c.in-Update.verbose c.in-Update.skip_unreadable in
     each_value _ (λ status. IsTaskDone job.task (root_of job) job.usr job.strict status before now) c.update_telling.result
     (λ status done. subst (λ t. IsTaskDone t (root_of job) job.usr job.strict status before now) (sym c.in-Update.is)
@@ -57,12 +59,13 @@ pub returns-in-Update-clause-refused : goal.returns-in-Update-clause-refused
 returns-in-Update-clause-refused g c = λ tells.
     let job = c.args.job.now in
     let F = files_by g.D.Store.seen g.D.System.may_fail g.D.Store.may_leave g.D.Store.failures in
+    let V = sight_by g.D.DeviceFiles.answers in
     let I = told_by g.I.Source.left g.I.Source.failures in
     let O = told_by g.O.Sink.taken g.O.Sink.failures in
     let E = told_by g.E.Sink.taken g.E.Sink.failures in
     let seen = g.D.Store.seen c.args.system.now in
-    let before : World = record { files = F c.args.system.now; input = I c.args.input.now; out = O c.args.out.now; err = E c.args.err.now } in
-    let now : World = record { files = F c.update_telling.new.system; input = I c.args.input.now; out = O c.args.out.now; err = E c.update_telling.new.err } in
+    let before : World = record { files = F c.args.system.now; input = I c.args.input.now; out = O c.args.out.now; err = E c.args.err.now; devices = V c.args.system.now } in
+    let now : World = record { files = F c.update_telling.new.system; input = I c.args.input.now; out = O c.args.out.now; err = E c.update_telling.new.err; devices = V c.update_telling.new.system } in
     let task = Update c.in-Update.verbose c.in-Update.skip_unreadable in
     both_errors _ _ (IsNotDone job.task (root_of job) job.usr job.strict before now) c.update_telling.result
     (λ r refused has. subst (λ t. IsNotDone t (root_of job) job.usr job.strict before now r) (sym c.in-Update.is)
@@ -73,17 +76,18 @@ pub returns-in-List-clause-done : goal.returns-in-List-clause-done
 returns-in-List-clause-done g c = λ tells.
     let job = c.args.job.now in
     let F = files_by g.D.Store.seen g.D.System.may_fail g.D.Store.may_leave g.D.Store.failures in
+    let V = sight_by g.D.DeviceFiles.answers in
     let I = told_by g.I.Source.left g.I.Source.failures in
     let O = told_by g.O.Sink.taken g.O.Sink.failures in
     let E = told_by g.E.Sink.taken g.E.Sink.failures in
     let seen = g.D.Store.seen c.args.system.now in
-    let before : World = record { files = F c.args.system.now; input = I c.args.input.now; out = O c.args.out.now; err = E c.args.err.now } in
-    let now : World = record { files = F c.args.system.now; input = I c.args.input.now; out = O c.list.new.out; err = E c.args.err.now } in
+    let before : World = record { files = F c.args.system.now; input = I c.args.input.now; out = O c.args.out.now; err = E c.args.err.now; devices = V c.args.system.now } in
+    let now : World = record { files = F c.args.system.now; input = I c.args.input.now; out = O c.list.new.out; err = E c.args.err.now; devices = V c.args.system.now } in
     let after = option_map (λ t. t.now) c.text_of-after.result in
     let json = c.in-List.json in
     let limit = c.in-List.limit in
     subst (λ t. IfOk c.list.result (λ s. IsTaskDone t (root_of job) job.usr job.strict s before now)) (sym c.in-List.is)
-    (listed_done c.in-List.after limit c.in-List.device json (root_of job) job.usr job.strict before.files before.input before.err before.out now.out c.list.result c.list.ensures.status
+    (listed_done c.in-List.after limit c.in-List.device json (root_of job) job.usr job.strict before.files before.input before.err before.out now.out before.devices c.list.result c.list.ensures.status
     (subst (λ a. IfOk c.list.result (λ _. TookOne (IsAnswered (root_of job) (IsListFrom json (string_bytes c.in-List.device) a limit) seen) before.out.bytes now.out.bytes before.out.failures now.out.failures)) c.text_of-after.ensures
     (subst (λ d. IfOk c.list.result (λ _. TookOne (IsAnswered (root_of job) (IsListFrom json d after limit) seen) before.out.bytes now.out.bytes before.out.failures now.out.failures)) c.as_bytes-device.ensures.value
     (subst (λ r. IfOk c.list.result (λ _. TookOne (IsAnswered r (IsListFrom json c.as_bytes-device.result.now after limit) seen) before.out.bytes now.out.bytes before.out.failures now.out.failures)) c.root_of-root.ensures
@@ -93,12 +97,13 @@ pub returns-in-Check-clause-refused : goal.returns-in-Check-clause-refused
 returns-in-Check-clause-refused g c = λ tells.
     let job = c.args.job.now in
     let F = files_by g.D.Store.seen g.D.System.may_fail g.D.Store.may_leave g.D.Store.failures in
+    let V = sight_by g.D.DeviceFiles.answers in
     let I = told_by g.I.Source.left g.I.Source.failures in
     let O = told_by g.O.Sink.taken g.O.Sink.failures in
     let E = told_by g.E.Sink.taken g.E.Sink.failures in
     let seen = g.D.Store.seen c.args.system.now in
-    let before : World = record { files = F c.args.system.now; input = I c.args.input.now; out = O c.args.out.now; err = E c.args.err.now } in
-    let now : World = record { files = F c.args.system.now; input = I c.check-answer.new.input; out = O c.printed-in-Check.new.out; err = E c.printed-in-Check.new.err } in
+    let before : World = record { files = F c.args.system.now; input = I c.args.input.now; out = O c.args.out.now; err = E c.args.err.now; devices = V c.args.system.now } in
+    let now : World = record { files = F c.args.system.now; input = I c.check-answer.new.input; out = O c.printed-in-Check.new.out; err = E c.printed-in-Check.new.err; devices = V c.args.system.now } in
     let fails = before.files.fails in
     let input = before.input.bytes in
     let task = Check c.in-Check.files c.in-Check.allowed c.in-Check.json in
@@ -126,12 +131,13 @@ pub returns-in-Diff-clause-refused : goal.returns-in-Diff-clause-refused
 returns-in-Diff-clause-refused g c = λ tells.
     let job = c.args.job.now in
     let F = files_by g.D.Store.seen g.D.System.may_fail g.D.Store.may_leave g.D.Store.failures in
+    let V = sight_by g.D.DeviceFiles.answers in
     let I = told_by g.I.Source.left g.I.Source.failures in
     let O = told_by g.O.Sink.taken g.O.Sink.failures in
     let E = told_by g.E.Sink.taken g.E.Sink.failures in
     let seen = g.D.Store.seen c.args.system.now in
-    let before : World = record { files = F c.args.system.now; input = I c.args.input.now; out = O c.args.out.now; err = E c.args.err.now } in
-    let now : World = record { files = F c.args.system.now; input = I c.args.input.now; out = O c.printed-in-Diff.new.out; err = E c.printed-in-Diff.new.err } in
+    let before : World = record { files = F c.args.system.now; input = I c.args.input.now; out = O c.args.out.now; err = E c.args.err.now; devices = V c.args.system.now } in
+    let now : World = record { files = F c.args.system.now; input = I c.args.input.now; out = O c.printed-in-Diff.new.out; err = E c.printed-in-Diff.new.err; devices = V c.args.system.now } in
     let task = Diff c.in-Diff.old c.in-Diff.new in
     let old = string_bytes c.in-Diff.old in
     let of_old = c.as_str-in-Diff.ensures.value in
@@ -151,12 +157,13 @@ pub returns-in-Ask-clause-refused : goal.returns-in-Ask-clause-refused
 returns-in-Ask-clause-refused g c = λ tells.
     let job = c.args.job.now in
     let F = files_by g.D.Store.seen g.D.System.may_fail g.D.Store.may_leave g.D.Store.failures in
+    let V = sight_by g.D.DeviceFiles.answers in
     let I = told_by g.I.Source.left g.I.Source.failures in
     let O = told_by g.O.Sink.taken g.O.Sink.failures in
     let E = told_by g.E.Sink.taken g.E.Sink.failures in
     let seen = g.D.Store.seen c.args.system.now in
-    let before : World = record { files = F c.args.system.now; input = I c.args.input.now; out = O c.args.out.now; err = E c.args.err.now } in
-    let now : World = record { files = F c.args.system.now; input = I c.ask_file-answer.new.input; out = O c.printed.new.out; err = E c.printed.new.err } in
+    let before : World = record { files = F c.args.system.now; input = I c.args.input.now; out = O c.args.out.now; err = E c.args.err.now; devices = V c.args.system.now } in
+    let now : World = record { files = F c.args.system.now; input = I c.ask_file-answer.new.input; out = O c.printed.new.out; err = E c.printed.new.err; devices = V c.args.system.now } in
     let fails = before.files.fails in
     let input = before.input.bytes in
     let task = Ask c.in-Ask.file c.in-Ask.device in
@@ -181,12 +188,13 @@ pub returns-in-Near-clause-refused : goal.returns-in-Near-clause-refused
 returns-in-Near-clause-refused g c = λ tells.
     let job = c.args.job.now in
     let F = files_by g.D.Store.seen g.D.System.may_fail g.D.Store.may_leave g.D.Store.failures in
+    let V = sight_by g.D.DeviceFiles.answers in
     let I = told_by g.I.Source.left g.I.Source.failures in
     let O = told_by g.O.Sink.taken g.O.Sink.failures in
     let E = told_by g.E.Sink.taken g.E.Sink.failures in
     let seen = g.D.Store.seen c.args.system.now in
-    let before : World = record { files = F c.args.system.now; input = I c.args.input.now; out = O c.args.out.now; err = E c.args.err.now } in
-    let now : World = record { files = F c.args.system.now; input = I c.near-answer.new.input; out = O c.printed-in-Near.new.out; err = E c.printed-in-Near.new.err } in
+    let before : World = record { files = F c.args.system.now; input = I c.args.input.now; out = O c.args.out.now; err = E c.args.err.now; devices = V c.args.system.now } in
+    let now : World = record { files = F c.args.system.now; input = I c.near-answer.new.input; out = O c.printed-in-Near.new.out; err = E c.printed-in-Near.new.err; devices = V c.args.system.now } in
     let fails = before.files.fails in
     let input = before.input.bytes in
     let limit = c.in-Near.limit in

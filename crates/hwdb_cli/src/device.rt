@@ -1,0 +1,54 @@
+//! `device`: its words, and its task.
+ghost use Rattle.std.specs.Prelude.{IfOk, codes};
+ghost use Rattle.clap.specs.Walk.{rows_of};
+ghost use Rattle.clap.specs.Matches.{found_of};
+ghost use Rattle.hwdb_cli.specs.Drafts.{IsDraft};
+ghost use Rattle.hwdb_cli.specs.Jobs.{IsTask};
+ghost use Rattle.hwdb_cli.specs.Line.{device_app};
+
+use crate::drafts::{Draft, flag, json_option, shared, with_argument, word};
+use crate::job::Task;
+use crate::matched::{copied, has_flag, text_of};
+use clap::{ArgAction, ArgMatches};
+use std::alloc::{AllocError, Global};
+
+/// What the short help says of it.
+pub const SHORT: &str = "prints what udev asks for a device, and what it gets";
+
+/// What help begins with.
+const ABOUT: &str =
+    "Prints the strings that udev asks the database for a device, and what each gives; without DEVICE lists the devices";
+
+/// What help ends with.
+const AFTER: &str =
+    "Exit status: 0 on success, even if nothing is asked; 1 on errors.\nExample: hwdb device event3";
+
+/// The command.
+pub fn command<'a>(alloc: Global) -> Draft<'a>
+    ensures { IsDraft device_app result }
+{
+    let strings = "Print the strings alone, one a line";
+    let pattern = "Print a record to begin with, which fits the device; before --json and --strings";
+    let path = "A device: its name, as event3, its node below /dev, or its path below /sys";
+    let command = shared(alloc, "device", ABOUT, AFTER);
+    let with_strings = with_argument(command, flag(alloc, "strings", strings));
+    let with_json = with_argument(with_strings, json_option(alloc));
+    let with_pattern = with_argument(with_json, flag(alloc, "pattern", pattern));
+    with_argument(with_pattern, word(alloc, "DEVICE", path, ArgAction::Set))
+}
+
+/// The task of `device`.
+pub fn task(alloc: Global, inner: &ArgMatches<'_>) -> Result<Task, AllocError>
+    ensures { IfOk result (IsTask (codes "device") (rows_of (found_of inner.now))) }
+{
+    let path = copied(alloc, text_of(inner, "DEVICE"))?;
+    let strings = has_flag(inner, "strings");
+    let json = has_flag(inner, "json");
+    let pattern = has_flag(inner, "pattern");
+    Ok(Task::Device {
+        path,
+        strings,
+        json,
+        pattern,
+    })
+}

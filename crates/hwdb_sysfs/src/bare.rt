@@ -1,0 +1,33 @@
+//! A store in memory as it is asked for devices: it has files alone, and no sysfs.
+ghost use Rattle.hwdb_sysfs.specs.Answers.{nothing_there};
+
+use crate::files::{DeviceFiles, Node};
+use hwdb_io::Cause;
+use hwdb_replace::Memory;
+use std::alloc::Global;
+
+impl DeviceFiles for Memory {
+    ghost tells = { Unit {0} };
+
+    ghost answers = { λ _. nothing_there };
+
+    fn real_path(&self, _: Global, _: &[u8]) -> Result<Vec<u8>, Cause> {
+        Err(Cause::Unknown)
+    }
+
+    fn node_at(&self, _: &[u8]) -> Result<Option<Node>, Cause> {
+        Err(Cause::Unknown)
+    }
+
+    fn is_file(&self, _: &[u8]) -> Result<bool, Cause> {
+        Err(Cause::Unknown)
+    }
+
+    fn page_of(&self, _: Global, _: &[u8]) -> Result<Vec<u8>, Cause> {
+        Err(Cause::Unknown)
+    }
+
+    fn listing_of(&self, _: Global, _: &[u8]) -> Result<Vec<u8>, Cause> {
+        Err(Cause::Unknown)
+    }
+}

@@ -1,0 +1,191 @@
+//! `device`: what udev asks for a device, and what that gets; or a line for each device. Nothing is written.
+ghost use Rattle.std.specs.Prelude.{◌≡◌, ◌++◌, Some, option_map, IfErr, IfOk, OnOk};
+ghost use Rattle.hwdb_spec.specs.Asked.{IsAnswered};
+ghost use Rattle.hwdb_spec.specs.Databases.{IsTextOf};
+ghost use Rattle.hwdb_spec.specs.DeviceAsked as spec;
+ghost use Rattle.hwdb_spec.specs.DeviceAsked.{IsDevicePrinted, IsOfDevice, device_list, device_meant};
+ghost use Rattle.hwdb_spec.specs.DeviceTexts as texts;
+ghost use Rattle.hwdb_spec.specs.DeviceTree as tree;
+ghost use Rattle.hwdb_spec.specs.Runs.{OnOut};
+ghost use Rattle.hwdb_sysfs.specs.Answers.{sight_by};
+ghost use Rattle.hwdb_sysfs.specs.Views.{device_of};
+ghost use Rattle.hwdb_print.specs.Databases.{IsDatabaseRefusal};
+ghost use Rattle.hwdb_fs.specs.Refusals.{HasReason};
+ghost use Rattle.hwdb_tool.specs.Devices.{IsDeviceRefused, IsNoSysfs, IsUnmeant, IsWorded, asked_names};
+ghost use Rattle.hwdb_tool.specs.Undone.{IsUnanswered};
+ghost use Rattle.hwdb_tool.specs.Views.{texts_in};
+
+use crate::answer::Answer;
+use crate::databases::asked;
+use crate::missing::{place_meant, sysfs_of};
+use hwdb_device::{DeviceForm, device_row, device_text};
+use hwdb_fs::{Machine, Refusal, System};
+use hwdb_print::ToolError;
+use hwdb_reader::check;
+use hwdb_rules::ATTRIBUTES;
+use hwdb_sysfs::{Device, DeviceFiles, list_devices, read_device};
+use std::alloc::{AllocError, Global};
+
+/// Which form is printed: of several options `--pattern` counts first, and then `--json`.
+pub fn device_form(strings: bool, json: bool, pattern: bool) -> DeviceForm
+    ensures { result ≡ spec.device_form strings json pattern }
+{
+    if pattern {
+        DeviceForm::Pattern
+    } else if json {
+        DeviceForm::Json
+    } else if strings {
+        DeviceForm::Strings
+    } else {
+        DeviceForm::Lookups
+    }
+}
+
+/// What udev asks for the device that a path or a name means below the root, and what the database there gives it. If none is
+/// given, a line for each device that something is asked for. The status is 0.
+pub fn device<D: Machine>(
+    alloc: Global,
+    root: &str,
+    given: Option<&str>,
+    form: DeviceForm,
+    system: &D,
+) -> Result<Answer, Refusal>
+    ensures status { IfOk result (λ a. a.status ≡ 0) }
+    ensures printed { D.Store.tells → IfOk result (λ a. OnOut (IsDevicePrinted form asked_names
+        root.now (option_map (λ t. t.now) given.entry) (sight_by D.answers system.now)
+        (D.Store.seen system.now)) (texts_in a)) }
+    ensures refused { D.Store.tells → IfErr result (IsDeviceRefused root.now
+        (option_map (λ t. t.now) given.entry) (sight_by D.answers system.now)
+        (D.Store.seen system.now)) }
+    ensures reason { IfErr result
+        (HasReason (D.System.may_fail system.now) ⊥ (D.Store.seen system.now)) }
+{
+    match given {
+        None => listed(alloc, root, system),
+        Some(given) => shown(alloc, root, given.as_bytes(), form, system),
+    }
+}
+
+/// A line for each device below the root that something is asked for.
+fn listed<D: Machine>(alloc: Global, root: &str, system: &D) -> Result<Answer, Refusal>
+    ensures status { IfOk result (λ a. a.status ≡ 0) }
+    ensures printed { D.Store.tells → IfOk result (λ a. OnOut (λ text. option_map
+        (device_list (sight_by D.answers system.now) asked_names)
+        (tree.sysfs_below (sight_by D.answers system.now) root.now) ≡ Some text) (texts_in a)) }
+    ensures refused { D.Store.tells → IfErr result
+        (IsNoSysfs root.now (sight_by D.answers system.now)) }
+    ensures reason { IfErr result
+        (HasReason (D.System.may_fail system.now) ⊥ (D.Store.seen system.now)) }
+{
+    let sys = sysfs_of(alloc, root, system)?;
+    let text = list_text(alloc, &sys, system)?;
+    Ok(Answer::new(alloc, text, 0))
+}
+
+/// The lines of all devices.
+fn list_text<F: DeviceFiles>(alloc: Global, sys: &[u8], files: &F) -> Result<Vec<u8>, AllocError>
+    ensures { F.tells → IfOk result (λ text. text.items
+        ≡ device_list (sight_by F.answers files.now) asked_names sys.now) }
+{
+    let places = list_devices(alloc, files, sys)?;
+    let mut text = Vec::new(alloc);
+    for place in &places {
+        push_row(alloc, sys, place, files, &mut text)?;
+    }
+    Ok(text)
+}
+
+/// Adds the line of the device at a place.
+fn push_row<F: DeviceFiles>(
+    alloc: Global,
+    sys: &[u8],
+    place: &[u8],
+    files: &F,
+    text: &mut Vec<u8>,
+) -> Result<(), AllocError>
+    ensures { F.tells → OnOk result (text.new.items ≡ text.old.items ++ texts.device_row
+        (tree.device_at (sight_by F.answers files.now) asked_names sys.now place.now)) }
+{
+    let device = read_device(alloc, files, ATTRIBUTES.as_bytes(), sys, place)?;
+    let row = device_row(alloc, &device)?;
+    text.extend_from_slice(&row)?;
+    Ok(())
+}
+
+/// What is printed of the device that is meant.
+fn shown<D: Machine>(
+    alloc: Global,
+    root: &str,
+    given: &[u8],
+    form: DeviceForm,
+    system: &D,
+) -> Result<Answer, Refusal>
+    ensures status { IfOk result (λ a. a.status ≡ 0) }
+    ensures printed { D.Store.tells → IfOk result (λ a. OnOut (IsOfDevice form asked_names root.now
+        given.now (sight_by D.answers system.now) (D.Store.seen system.now)) (texts_in a)) }
+    ensures refused { D.Store.tells → IfErr result (IsDeviceRefused root.now (Some given.now)
+        (sight_by D.answers system.now) (D.Store.seen system.now)) }
+    ensures reason { IfErr result
+        (HasReason (D.System.may_fail system.now) ⊥ (D.Store.seen system.now)) }
+{
+    let device = device_read(alloc, root, given, system)?;
+    answered(alloc, root, &device, form, system)
+}
+
+/// The device that is meant.
+fn device_read<F: DeviceFiles>(
+    alloc: Global,
+    root: &str,
+    given: &[u8],
+    files: &F,
+) -> Result<Device, Refusal>
+    ensures meant { F.tells → IfOk result (λ d. device_meant (sight_by F.answers files.now)
+        asked_names root.now given.now ≡ Some (device_of d)) }
+    ensures refused { F.tells → IfErr result
+        (IsUnmeant root.now given.now (sight_by F.answers files.now)) }
+    ensures worded { IfErr result IsWorded }
+{
+    let sys = sysfs_of(alloc, root, files)?;
+    let place = place_meant(alloc, root, &sys, given, files)?;
+    let device = read_device(alloc, files, ATTRIBUTES.as_bytes(), &sys, &place)?;
+    Ok(device)
+}
+
+/// What is printed of a device, over the database below the root.
+fn answered<D: System>(
+    alloc: Global,
+    root: &str,
+    device: &Device,
+    form: DeviceForm,
+    system: &D,
+) -> Result<Answer, Refusal>
+    ensures status { IfOk result (λ a. a.status ≡ 0) }
+    ensures printed { D.Store.tells → IfOk result (λ a. OnOut (IsAnswered root.now
+        (IsTextOf (texts.device_text form (device_of device.now)))
+        (D.Store.seen system.now)) (texts_in a)) }
+    ensures refused { D.Store.tells → IfErr result
+        (IsUnanswered root.now (D.Store.seen system.now)) }
+    ensures reason { IfErr result
+        (HasReason (D.System.may_fail system.now) ⊥ (D.Store.seen system.now)) }
+{
+    let found = asked(alloc, root, system)?;
+    match text_over(alloc, &found.bytes, device, form) {
+        Ok(text) => Ok(Answer::new(alloc, text, 0)),
+        Err(error) => Err(Refusal::of_database(alloc, error, found.path.as_bytes())),
+    }
+}
+
+/// The same over the bytes of a database.
+fn text_over(
+    alloc: Global,
+    bytes: &[u8],
+    device: &Device,
+    form: DeviceForm,
+) -> Result<Vec<u8>, ToolError>
+    ensures text { IfOk result (λ text. IsTextOf
+        (texts.device_text form (device_of device.now)) bytes.now text.items) }
+    ensures refusals { IfErr result (IsDatabaseRefusal bytes.now) }
+{
+    let db = check(bytes)?;
+    Ok(device_text(alloc, &db, device, form)?)
+}

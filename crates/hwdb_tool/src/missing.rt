@@ -1,0 +1,181 @@
+//! Sysfs and a device in it, and what is said if there is none.
+ghost use Rattle.std.specs.Prelude.{◌≡◌, ◌++◌, List, Some, ℕ, IfErr, IfOk, OnOk};
+ghost use Rattle.hwdb_spec.specs.DeviceAsked as spec;
+ghost use Rattle.hwdb_spec.specs.DeviceTree as tree;
+ghost use Rattle.hwdb_spec.specs.Failures.{IsOneLine};
+ghost use Rattle.hwdb_sysfs.specs.Answers.{sight_by};
+ghost use Rattle.hwdb_sysfs.specs.Finding.{IsUnfound};
+ghost use Rattle.hwdb_fs.specs.Refusals.{IsInWords};
+ghost use Rattle.hwdb_tool.specs.Devices.{IsNoDevice, IsNoSysfs, IsWorded};
+
+use hwdb_fs::Refusal;
+use hwdb_io::Cause;
+use hwdb_sysfs::{DeviceFiles, Unfound, find_device, last_name, near_name, sysfs_below};
+use std::alloc::{AllocError, Global};
+
+/// Where sysfs is below the root.
+pub fn sysfs_of<F: DeviceFiles>(alloc: Global, root: &str, files: &F) -> Result<Vec<u8>, Refusal>
+    ensures found { F.tells → IfOk result (λ sys.
+        tree.sysfs_below (sight_by F.answers files.now) root.now ≡ Some sys.items) }
+    ensures refused { F.tells → IfErr result (IsNoSysfs root.now (sight_by F.answers files.now)) }
+    ensures worded { IfErr result IsWorded }
+{
+    match sysfs_below(alloc, files, root.as_bytes()) {
+        Ok(sys) => Ok(sys),
+        Err(Unfound::NoSysfs(path, cause)) => Err(no_sysfs(alloc, &path, cause)),
+        Err(_) => Err(Refusal::from(AllocError)),
+    }
+}
+
+/// What is said if there is no sysfs.
+fn no_sysfs(alloc: Global, path: &[u8], cause: Cause) -> Refusal
+    ensures { (words : List ℕ) × IsOneLine words
+        × IsInWords (spec.no_sysfs_text path.now words) result }
+{
+    let message = cause.message();
+    no_sysfs_for(alloc, path, message.as_bytes())
+}
+
+/// The same, with the words of the cause.
+fn no_sysfs_for(alloc: Global, path: &[u8], words: &[u8]) -> Refusal
+    ensures { IsInWords (spec.no_sysfs_text path.now words.now) result }
+{
+    match no_sysfs_text(alloc, path, words) {
+        Ok(text) => Refusal::InWords(text),
+        Err(refused) => Refusal::from(refused),
+    }
+}
+
+/// The words of it.
+fn no_sysfs_text(alloc: Global, path: &[u8], words: &[u8]) -> Result<Vec<u8>, AllocError>
+    ensures { IfOk result (λ text. text.items ≡ spec.no_sysfs_text path.now words.now) }
+{
+    let mut text = Vec::from_slice(alloc, b"no sysfs: ")?;
+    text.extend_from_slice(path)?;
+    text.extend_from_slice(b": ")?;
+    text.extend_from_slice(words)?;
+    text.extend_from_slice(b": mount it, or name another root")?;
+    Ok(text)
+}
+
+/// The place of the device that is meant.
+pub fn place_meant<F: DeviceFiles>(
+    alloc: Global,
+    root: &str,
+    sys: &[u8],
+    given: &[u8],
+    files: &F,
+) -> Result<Vec<u8>, Refusal>
+    ensures found { F.tells → IfOk result (λ place. tree.device_for
+        (sight_by F.answers files.now) root.now sys.now given.now ≡ Some place.items) }
+    ensures refused { F.tells → IfErr result
+        (IsNoDevice root.now sys.now given.now (sight_by F.answers files.now)) }
+    ensures worded { IfErr result IsWorded }
+{
+    match find_device(alloc, files, root.as_bytes(), sys, given) {
+        Ok(place) => Ok(place),
+        Err(why) => Err(unmeant(alloc, sys, given, why, files)),
+    }
+}
+
+/// What is said if no device is meant, for this reason.
+fn unmeant<F: DeviceFiles>(
+    alloc: Global,
+    sys: &[u8],
+    given: &[u8],
+    why: Unfound,
+    files: &F,
+) -> Refusal
+    ensures said { F.tells → (root : List ℕ)
+        → IsUnfound (F.answers files.now) root sys.now given.now why
+        → IsNoDevice root sys.now given.now (sight_by F.answers files.now) result }
+    ensures worded { IsWorded result }
+{
+    match why {
+        Unfound::Unread(cause) => {
+            let message = cause.message();
+            no_device(alloc, sys, given, true, message.as_bytes(), files)
+        }
+        Unfound::NoDevice => no_device(alloc, sys, given, false, b"", files),
+        _ => Refusal::from(AllocError),
+    }
+}
+
+/// What is said of what was given: whether it leads nowhere, why, and what is near.
+fn no_device<F: DeviceFiles>(
+    alloc: Global,
+    sys: &[u8],
+    given: &[u8],
+    nowhere: bool,
+    words: &[u8],
+    files: &F,
+) -> Refusal
+    ensures said { F.tells → IsInWords (spec.no_device_text nowhere given.now words.now
+        (tree.near_name (sight_by F.answers files.now) sys.now (tree.last_name given.now)))
+        result }
+    ensures worded { IsWorded result }
+{
+    match near_text(alloc, sys, given, nowhere, words, files) {
+        Ok(text) => Refusal::InWords(text),
+        Err(refused) => Refusal::from(refused),
+    }
+}
+
+/// The words of it.
+fn near_text<F: DeviceFiles>(
+    alloc: Global,
+    sys: &[u8],
+    given: &[u8],
+    nowhere: bool,
+    words: &[u8],
+    files: &F,
+) -> Result<Vec<u8>, AllocError>
+    ensures { F.tells → IfOk result (λ text. text.items
+        ≡ spec.no_device_text nowhere given.now words.now
+        (tree.near_name (sight_by F.answers files.now) sys.now (tree.last_name given.now))) }
+{
+    let near = near_name(alloc, files, sys, last_name(given))?;
+    no_device_text(alloc, given, nowhere, words, &near)
+}
+
+/// The same, with what is near.
+fn no_device_text(
+    alloc: Global,
+    given: &[u8],
+    nowhere: bool,
+    words: &[u8],
+    near: &[u8],
+) -> Result<Vec<u8>, AllocError>
+    ensures { IfOk result (λ text. text.items
+        ≡ spec.no_device_text nowhere given.now words.now near.now) }
+{
+    let mut text = Vec::from_slice(alloc, b"no device: ")?;
+    text.extend_from_slice(given)?;
+    text.extend_from_slice(b": ")?;
+    push_cause(&mut text, nowhere, words)?;
+    push_hint(&mut text, near)?;
+    Ok(text)
+}
+
+/// Adds why a path leads nowhere.
+fn push_cause(text: &mut Vec<u8>, nowhere: bool, words: &[u8]) -> Result<(), AllocError>
+    ensures { OnOk result (text.new.items
+        ≡ text.old.items ++ spec.cause_part nowhere words.now) }
+{
+    if nowhere {
+        text.extend_from_slice(words)?;
+        text.extend_from_slice(b": ")?;
+    }
+    Ok(())
+}
+
+/// Adds what to do.
+fn push_hint(text: &mut Vec<u8>, near: &[u8]) -> Result<(), AllocError>
+    ensures { OnOk result (text.new.items ≡ text.old.items ++ spec.near_hint near.now) }
+{
+    if near.is_empty() {
+        return text.extend_from_slice(b"'hwdb device' lists all");
+    }
+    text.extend_from_slice(b"there is ")?;
+    text.extend_from_slice(near)
+}
