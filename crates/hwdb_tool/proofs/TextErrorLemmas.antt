@@ -9,14 +9,13 @@ use Rattle.hwdb_spec.specs.Failures.{HasFailed}
 use Rattle.hwdb_spec.specs.Folders.{Choice, Source, choice, max_files, max_lines, names, path_of}
 use Rattle.hwdb_spec.specs.Given.{IsContent, IsGiven, any_dash, is_dash}
 use Rattle.hwdb_spec.specs.Lines.{byte, is, lines, numbered, pieces}
-use Rattle.hwdb_spec.specs.Store.{Contents, path_in}
+use Rattle.hwdb_spec.specs.Store.{Contents}
 use Rattle.hwdb_spec.specs.System.{AreNamesIn, bytes_at, etc_files, usr_files}
 use Rattle.hwdb_spec.specs.Texts.{max_file}
 use Rattle.hwdb_lint.specs.Checks.{HasLongFile, IsCheckRefusal}
 use Rattle.hwdb_text.specs.declared.outcome.ScanError.{ScanError}
 use Rattle.hwdb_text.specs.declared.outcome.ScanError.TheVariants as scan
 use Rattle.hwdb_print.specs.Refusals.{refusal_of_scan}
-use Rattle.hwdb_print.specs.declared.errors.ToolError.{ToolError}
 use Rattle.hwdb_print.specs.declared.errors.ToolError.TheVariants.{Read, Write, TooLong, TooManyFiles, TooManyLines, TooLarge, BadPosition, BadDatabase, Replace, Memory}
 use Rattle.hwdb_fs.specs.Reading.{AreUnread, IsChoiceRefused, IsFirstUnread, IsText}
 use Rattle.hwdb_fs.specs.Refusals.{HasReason, IsOver, IsUnlisted, IsUnread, IsUnreadable}
@@ -28,7 +27,7 @@ use Rattle.hwdb_tool.specs.Queries.{IsWholeInputUnread}
 use Rattle.hwdb_tool.specs.Reasons.{HasFilesReason, IsFileReason, IsFirstGiven, IsInputRead, IsReadGiven, TellsNoPath}
 use Rattle.hwdb_tool.specs.Undone.{AreNotChecked, IsGivenUnread, told_path}
 use Rattle.hwdb_tool.proofs.DiffErrorLemmas.{IsUnreadOne, held_or_unread, unread_one}
-use Rattle.hwdb_tool.proofs.RefusalLemmas.{no_none, not_both, over_over}
+use Rattle.hwdb_tool.proofs.RefusalLemmas.{over_over}
 
 -- the first of some members that lacks what those before it have
 first_in : {X : Type 0} → X → List X → X

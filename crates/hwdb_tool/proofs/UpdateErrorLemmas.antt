@@ -1,5 +1,5 @@
 -- Errors of an update over what it reads: each comes alone.
-use Rattle.std.proofs.Common.{◌≡◌, ◌≤◌, ◌<◌, ◌⊎◌, ◌∙◌, ◌++◌, inl, inr, ⊎_elim, ap, sym, subst, refl, arith, ℕ, Bool, true, false, List, [], ◌∷◌, length, map, Option, Some, All}
+use Rattle.std.proofs.Common.{◌≡◌, ◌≤◌, ◌<◌, ◌⊎◌, ◌∙◌, ◌++◌, inl, inr, ⊎_elim, ap, sym, subst, refl, arith, ℕ, Bool, true, false, List, [], ◌∷◌, length, map, Option, Some}
 use Rattle.std.proofs.lemmas.List.{length-map}
 use Rattle.std.proofs.lemmas.List.Elements.{All-contains, Contains-append_right}
 use Rattle.std.specs.Io.KnownBytes.{Appends}

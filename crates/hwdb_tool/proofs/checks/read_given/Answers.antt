@@ -1,4 +1,4 @@
-use Rattle.std.proofs.Common.{All, Global, String, Vec, [], ap, inl, inr, length, map, rules, string_bytes, subst, sym, ◌++◌, ◌∙◌, ◌∷◌, ◌≡◌, ◌≤◌, ◌⊎◌, false, ℕ}
+use Rattle.std.proofs.Common.{All, Global, String, Vec, [], ap, inr, length, map, rules, string_bytes, subst, sym, ◌++◌, ◌∙◌, ◌∷◌, ◌≡◌, ◌≤◌, ◌⊎◌, false, ℕ}
 use Rattle.std.proofs.lemmas.List.{map-append}
 use Rattle.std.proofs.lemmas.List.Elements.{All-more, All-push}
 use Rattle.hwdb_fs.specs.Refusals.{IsUnread, IsUnreadAt}
