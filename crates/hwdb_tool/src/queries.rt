@@ -7,7 +7,8 @@ ghost use Rattle.hwdb_spec.specs.Given.{is_input};
 ghost use Rattle.hwdb_spec.specs.Runs.{OnOut, told_by};
 ghost use Rattle.hwdb_print.specs.Streams.{texts_of};
 ghost use Rattle.hwdb_fs.specs.Refusals.{HasReason};
-ghost use Rattle.hwdb_tool.specs.Queries.{AreDone, AreUnanswered, IsInputUnread};
+ghost use Rattle.hwdb_tool.specs.Queries.{AreDone, AreUnanswered};
+ghost use Rattle.hwdb_tool.specs.Reasons.{HasAskedReason};
 ghost use Rattle.hwdb_tool.specs.Undone.{IsUnanswered};
 ghost use Rattle.hwdb_tool.specs.Views.{texts_in};
 
@@ -42,10 +43,9 @@ pub fn query<D: System, I: Source, O: Sink, E: Sink>(
         (told_by E.taken E.failures err.old) (told_by E.taken E.failures err.new)
         (told_by O.taken O.failures out.old) (told_by O.taken O.failures out.new)) }
     ensures unread { is_input (map string_bytes devices.now) ≡ false → input.new ≡ input.old }
-    ensures reason { IfErr result (λ r.
-        HasReason (D.System.may_fail system.now) ⊥ (D.Store.seen system.now) r
-        ⊎ ((is_input (map string_bytes devices.now) ≡ true)
-        × IsInputUnread (I.left input.old) (I.failures input.old) (I.failures input.new) r)) }
+    ensures reason { D.Store.tells → IfErr result (HasAskedReason
+        (is_input (map string_bytes devices.now)) root.now (D.System.may_fail system.now)
+        (D.Store.seen system.now) (I.left input.old) (I.failures input.old) (I.failures input.new)) }
     ensures out_hands_on { HandsOn (O.is_flushed out.old) (O.is_flushed out.new)
         (O.failures out.old) (O.failures out.new) }
     ensures err_hands_on { HandsOn (E.is_flushed err.old) (E.is_flushed err.new)
