@@ -45,6 +45,8 @@ pub mod Hiding
 pub mod Done
 pub mod Near
 pub mod NearAsked
+pub mod Wanted
+pub mod Tested
 pub mod Colours
 pub mod Sysfs
 pub mod DeviceTree
