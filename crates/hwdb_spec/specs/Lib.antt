@@ -46,7 +46,6 @@ pub mod Done
 pub mod Near
 pub mod NearAsked
 pub mod Wanted
-pub mod Tested
 pub mod Colours
 pub mod Sysfs
 pub mod DeviceTree

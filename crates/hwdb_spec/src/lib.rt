@@ -53,7 +53,6 @@
 //! | `Near` | the pattern that almost matched a device, and where it stopped |
 //! | `NearAsked` | which patterns `near` compares with a device: those of text files, or of a database |
 //! | `Wanted` | test files, whether a database gives what they want, and what `test` prints |
-//! | `Tested` | which test files and which database `test` reads |
 //! | `Colours` | how a text is shown in colour |
 //! | `Sysfs` | what sysfs holds of a device and its parents, and how udev reads it |
 //! | `DeviceTree` | where sysfs has a device, and what is read of it and its parents |
