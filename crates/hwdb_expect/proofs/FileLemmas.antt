@@ -1,5 +1,5 @@
--- Files, one after another: a file that gives an error is one of them.
-use Rattle.std.proofs.Common.{◌≡◌, ℕ, zero, suc, ◌<◌, List, [], ◌∷◌, map, length, get_or, Result, Ok, Err, IfErr, refl, sym, subst, arith}
+-- Files and malformed lines, one after another.
+use Rattle.std.proofs.Common.{◌≡◌, ◌∙◌, ◌+◌, ◌++◌, ap, append_assoc, take, Bool, false, ℕ, zero, suc, ◌<◌, List, [], ◌∷◌, map, length, get_or, Result, Ok, Err, IfErr, refl, sym, subst, arith}
 use Rattle.std.specs.Prelude.{Any}
 use Rattle.std.specs.Result.{IsErrAnd}
 use Rattle.hwdb_spec.specs.Folders.{Source}
@@ -8,6 +8,7 @@ use Rattle.hwdb_text.specs.declared.outcome.ScanError.TheVariants.{Memory, TooMa
 use Rattle.hwdb_lint.specs.declared.files.TextFile.{TextFile}
 use Rattle.hwdb_lint.specs.Checks.{source_of, IsFileRefusal, IsCheckRefusal}
 
+-- a file that gives an error is one of some files
 any_at : (P : Source → Type 0) (fs : List TextFile) (i : ℕ) (d : TextFile) → i < length fs → P (source_of (get_or fs i d)) → Any P (map source_of fs)
 any_at P [] i d h p = absurd (omega arith)
 any_at P (x ∷ xs) zero d h p = (0, source_of x, omega arith, refl, p)
@@ -23,3 +24,17 @@ pub file_refused : {X : Type 0} (fs : List TextFile) (i : ℕ) (d : TextFile) (e
     → IsErrAnd r (λ x. x ≡ e) → IsFileRefusal (get_or fs i d).bytes.now e → IfErr r (IsCheckRefusal (map source_of fs))
 file_refused fs i d e (Ok x) h same p = tt
 file_refused fs i d e (Err x) h same p = subst (IsCheckRefusal (map source_of fs)) (sym same) (refused_by fs i d h e p)
+
+one_more : {X : Type 0} (xs : List X) (i : ℕ) → i < length xs → map (λ (x : X). false) (take (suc i) xs) ≡ map (λ (x : X). false) (take i xs) ++ false ∷ []
+one_more [] i h = absurd (omega arith)
+one_more (x ∷ xs) zero h = refl
+one_more (x ∷ xs) (suc i) h = ap (λ (l : List Bool). false ∷ l) (one_more xs i (omega arith))
+
+-- one malformed line more
+pub counted_step : {X : Type 0} (xs : List X) (i : ℕ) (before so_far after : List Bool) → i < length xs → after ≡ so_far ++ false ∷ []
+    → so_far ≡ before ++ map (λ (x : X). false) (take i xs) → after ≡ before ++ map (λ (x : X). false) (take (i + 1) xs)
+counted_step {X} xs i before so_far after h is done =
+    is ∙ ap (λ (l : List Bool). l ++ false ∷ []) done
+    ∙ append_assoc before (map (λ (x : X). false) (take i xs)) (false ∷ [])
+    ∙ ap (λ (l : List Bool). before ++ l) (sym (one_more xs i h))
+    ∙ ap (λ (n : ℕ). before ++ map (λ (x : X). false) (take n xs)) (let e : suc i ≡ i + 1 = omega arith in e)

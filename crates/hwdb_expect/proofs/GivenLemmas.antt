@@ -1,5 +1,5 @@
 -- The values that count are the effective list.
-use Rattle.std.proofs.Common.{◌≡◌, ◌≢◌, ℕ, List, [], ◌∷◌, ◌++◌, map, take, refl, ap, ◌∙◌}
+use Rattle.std.proofs.Common.{◌≡◌, ◌≢◌, ℕ, List, [], ◌∷◌, map, take, refl, ap, ◌∙◌}
 use Rattle.std.specs.Prelude.{flat_map}
 use Rattle.std.specs.List.{AllByRecursion}
 use Rattle.std.proofs.lemmas.List.Elements.{recursion_from_All}
@@ -7,7 +7,7 @@ use Rattle.hwdb_spec.specs.Answers.{effective_of}
 use Rattle.hwdb_spec.specs.Assignment.{Assignment}
 use Rattle.hwdb_spec.specs.Explanations.{explained}
 use Rattle.hwdb_query.specs.Laws.{AllAreExplained, ExplainedAreEffective, first_value}
-use Rattle.hwdb_spec.specs.Wanted.{GivenValue, counting, given_of}
+use Rattle.hwdb_spec.specs.Wanted.{counting, given_of}
 use Rattle.hwdb_expect.specs.Views.{given_at, pair_at, pair_of}
 use Rattle.hwdb_expect.specs.declared.given_values.GivenValue.{GivenValue as Found}
 

@@ -67,6 +67,7 @@ none_fails (true ∷ hs) all = none_fails hs all.1
 none_fails (false ∷ hs) all = absurd (false≢true all.0)
 
 pub zero_if_all_hold : ZeroIfAllHold
-zero_if_all_hold files t =
-    (λ z. All-from_recursion (λ h. h ≡ true) (held t files) (all_hold (held t files) (zero_by (failed (held t files)) (failed (held t files) == 0) refl z)),
-    λ all. none_by (failed (held t files)) (none_fails (held t files) (recursion_from_All (λ h. h ≡ true) (held t files) all)))
+zero_if_all_hold files t = (
+  λ z. All-from_recursion (λ h. h ≡ true) (held t files) (all_hold (held t files) (zero_by (failed (held t files)) (failed (held t files) == 0) refl z)),
+  λ all. none_by (failed (held t files)) (none_fails (held t files) (recursion_from_All (λ h. h ≡ true) (held t files) all)),
+)

@@ -1,5 +1,5 @@
 -- The records of a test file, line by line.
-use Rattle.std.proofs.Common.{◌≡◌, ℕ, Bool, true, false, List, [], ◌∷◌, ◌++◌, map, refl, ap, ◌∙◌, sym, cond, append_assoc, not}
+use Rattle.std.proofs.Common.{◌≡◌, ℕ, Bool, true, false, List, [], ◌∷◌, ◌++◌, refl, ap, ◌∙◌, sym, cond, not}
 use Rattle.hwdb_spec.specs.Lines.{Line, begins_with, clean, clean_line, has, is_dropped, is_empty, is_match, is_property}
 use Rattle.hwdb_spec.specs.Wanted.{Record, no_record, records_from, with_line}
 use Rattle.hwdb_expect.specs.Internal.{line_of}

@@ -1,5 +1,5 @@
 -- What the laws say of test files.
-use Rattle.std.specs.Prelude.{Bool, true, false, List, [], ◌∷◌, ◌≡◌, ◌≢◌, ◌↔◌, All, map, ℕ}
+use Rattle.std.specs.Prelude.{Bool, true, false, List, [], ◌≡◌, ◌≢◌, ◌↔◌, All, map, ℕ}
 use Rattle.hwdb_spec.specs.Answers.{effective_of}
 use Rattle.hwdb_spec.specs.Assignment.{Assignment}
 use Rattle.hwdb_spec.specs.Folders.{Source}

@@ -1,5 +1,5 @@
 -- What the types of this crate mean.
-use Rattle.std.specs.Prelude.{Bool, List, map, ℕ}
+use Rattle.std.specs.Prelude.{List, map, ℕ}
 use Rattle.std.specs.Borrow.{Bor}
 use Rattle.hwdb_spec.specs.Lines.{Line}
 use Rattle.hwdb_spec.specs.Wanted.{GivenValue, Record}

@@ -45,10 +45,7 @@ fn push_counting<'a>(
 }
 
 /// The values that count of some keys.
-fn counting_of<'a>(
-    alloc: Global,
-    list: &[Explained<'a>],
-) -> Result<Vec<GivenValue<'a>>, AllocError>
+fn counting_of<'a>(alloc: Global, list: &[Explained<'a>]) -> Result<Vec<GivenValue<'a>>, AllocError>
     ensures { IfOk result (λ found. map given_at found.items ≡ flat_map
         (λ p. map (given_of p.0) (take 1 p.1)) (explained_values list.now)) }
 {

@@ -1,5 +1,5 @@
 //! Whether a line of a record holds of the properties of a device.
-ghost use Rattle.std.specs.Prelude.{◌≡◌, ◌++◌, [], ◌∷◌, filter, map, IfOk, OnOk};
+ghost use Rattle.std.specs.Prelude.{◌≡◌, ◌++◌, [], ◌∷◌, map, IfOk, OnOk};
 ghost use Rattle.std.specs.List.{list_any};
 ghost use Rattle.hwdb_spec.specs.Wanted;
 ghost use Rattle.hwdb_expect.specs.Views.{given_at, line_at, pair_at};
@@ -32,11 +32,7 @@ fn any_given(line: &WantedLine<'_>, found: &[GivenValue<'_>]) -> bool
 }
 
 /// Whether a line is about one of some properties.
-fn any_about(
-    all: &[WantedLine<'_>],
-    line: &WantedLine<'_>,
-    found: &[GivenValue<'_>],
-) -> bool
+fn any_about(all: &[WantedLine<'_>], line: &WantedLine<'_>, found: &[GivenValue<'_>]) -> bool
     ensures { result ≡ list_any
         (λ p. Wanted.is_about (map line_at all.now) (line_at line.now) p.0)
         (map pair_at found.now) }

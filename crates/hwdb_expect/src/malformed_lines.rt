@@ -90,11 +90,7 @@ fn push_if_wrong(list: &mut Vec<Fault>, fault: Fault, text: &[u8]) -> Result<(),
 }
 
 /// The malformed lines of a test file that has these faults.
-pub fn malformed_of(
-    alloc: Global,
-    bytes: &[u8],
-    all: &[Fault],
-) -> Result<Vec<Fault>, AllocError>
+pub fn malformed_of(alloc: Global, bytes: &[u8], all: &[Fault]) -> Result<Vec<Fault>, AllocError>
     ensures { IfOk result (λ list. list.items ≡ filter
         (λ f. not (Wanted.is_excused f (text_of_line (lines bytes.now) f.line))) all.now) }
 {

@@ -1,10 +1,9 @@
 //! The lines of test files, each tried for each of its devices.
 ghost use Rattle.std.specs.Prelude.{◌≡◌, ◌≤◌, ◌++◌, ◌∷◌, [], false, flat_map, map, IfErr, IfOk, OnOk};
 ghost use Rattle.hwdb_lint.specs.Checks.{IsCheckRefusal, IsFileRefusal, source_of};
-ghost use Rattle.hwdb_spec.specs.Tree.{answers};
 ghost use Rattle.hwdb_spec.specs.Wanted;
 ghost use Rattle.hwdb_expect.specs.Internal.{tried_text};
-ghost use Rattle.hwdb_expect.specs.Views.{device_at, given_at, line_at, pair_at, record_at};
+ghost use Rattle.hwdb_expect.specs.Views.{given_at, line_at, pair_at, record_at};
 
 use crate::failures::push_failures;
 use crate::given_values::{GivenValue, found};
@@ -66,7 +65,15 @@ fn try_line(
     told.held.push(fits)?;
     if !fits {
         let instead = about(alloc, all, found, line)?;
-        push_failures(alloc, form.json, &mut told.text, form.path, device, line, &instead)?;
+        push_failures(
+            alloc,
+            form.json,
+            &mut told.text,
+            form.path,
+            device,
+            line,
+            &instead,
+        )?;
     }
     Ok(())
 }

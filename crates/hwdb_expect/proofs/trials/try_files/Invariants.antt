@@ -1,4 +1,4 @@
-use Rattle.std.proofs.Common.{◌≡◌, ◌++◌, map, take}
+use Rattle.std.proofs.Common.{◌≡◌, map, take}
 use Rattle.std.specs.Prelude.{flat_map}
 use Rattle.hwdb_lint.specs.Checks.{source_of}
 use Rattle.hwdb_spec.specs.Wanted.{file_text, held}
