@@ -45,7 +45,7 @@ struct Findings {
 /// What is printed of some faults of a file. If the faults ascend by line, it takes a step for each byte of the file.
 ///
 /// The only error is `AllocError`.
-fn reports_of(
+pub fn reports_of(
     alloc: Global,
     json: bool,
     path: &[u8],

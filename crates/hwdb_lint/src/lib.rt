@@ -44,7 +44,8 @@ mod tallies;
 mod unread;
 mod warnings;
 
-pub use files::{Checked, TextFile, check_files};
+pub use files::{Checked, TextFile, check_files, reports_of};
 pub use hwdb_show::push_shown;
 pub use kinds::{KINDS, Telling};
+pub use line_texts::{LineStart, find_line, first_start};
 pub use tallies::push_count;

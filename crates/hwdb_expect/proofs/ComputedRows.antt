@@ -1,0 +1,22 @@
+-- The worked rows, computed.
+use Rattle.std.proofs.Common.{refl}
+use Rattle.std.specs.Fmt.{digits}
+use Rattle.hwdb_spec.specs.Lines.{pieces, trimmed, numbered}
+use Rattle.hwdb_spec.specs.Records.{behind, first_section, sections_from}
+use Rattle.hwdb_spec.specs.Wanted.{records_from}
+use Rattle.hwdb_expect.specs.Rows.{FileRows, HoldRows, MalformedRows, TextRows}
+
+pub hold_rows : HoldRows
+hold_rows = refl
+
+pub file_rows : FileRows
+unfolding pieces trimmed numbered records_from
+file_rows = refl
+
+pub malformed_rows : MalformedRows
+unfolding pieces trimmed numbered behind first_section sections_from
+malformed_rows = refl
+
+pub text_rows : TextRows
+unfolding digits
+text_rows = refl
