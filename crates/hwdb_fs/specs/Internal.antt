@@ -6,7 +6,7 @@ use Rattle.std.specs.List.{list_any}
 use Rattle.hwdb_spec.specs.Folders.{Choice, choice, names, max_files, path_of, counts, lists, same}
 use Rattle.hwdb_spec.specs.Lines.{has}
 use Rattle.hwdb_spec.specs.Store.{Contents, path_in}
-use Rattle.hwdb_spec.specs.Texts.{at_offset}
+use Rattle.hwdb_spec.specs.Texts.{at_offset, max_file}
 use Rattle.hwdb_spec.specs.System.{AreNamesIn, bytes_at, etc_files, usr_files, IsNameIn}
 use Rattle.hwdb_text.specs.Views.{IsListed}
 use Rattle.hwdb_print.specs.declared.errors.ToolError.TheVariants.{Memory, Read}
@@ -69,7 +69,7 @@ pub record AreNamed (root : List ℕ) (all files : Contents) (etc usr : List (Li
   pub in_etc : AreNamesIn (etc_files root) files etc
   pub in_usr : AreNamesIn (usr_files root) files usr
 
--- the chosen of the folders' text files, and what each holds; `usr` are the names in /usr/lib
+-- the chosen of the folders' text files, and what each holds, no longer than a file may be; `usr` are the names in /usr/lib
 pub record AreSelected (root : List ℕ) (contents : Contents) (usr : List (List ℕ)) (chosen : List Choice) (texts : List (List ℕ)) : Type 0 where
   pub etc : List (List ℕ)
   pub in_etc : AreNamesIn (etc_files root) contents etc
@@ -78,6 +78,7 @@ pub record AreSelected (root : List ℕ) (contents : Contents) (usr : List (List
   pub few : length (names etc usr) ≤ max_files
   pub listed : All (IsListed etc usr) chosen
   pub read : AreTexts root contents chosen texts
+  pub within : All (λ (t : List ℕ). length t ≤ max_file) texts
 
 -- a fault of the database at a path: its name, its offset if it has one, the path, and what to do
 abbrev pub line_at : (path name : List ℕ) → (offset : Option ℕ) → (what : List ℕ) → List ℕ

@@ -132,6 +132,7 @@ fn read_chosen<D: System>(
     ensures count { IfOk result (λ texts. length texts.items ≡ length chosen.now) }
     ensures read { D.Store.tells → IfOk result (λ texts. AreTexts root.now (D.Store.seen system.now)
         (map choice_of chosen.now) (map (λ t. t.items) texts.items)) }
+    ensures within { IfOk result (λ texts. All (λ t. length t.items ≤ max_file) texts.items) }
     ensures refused { IfErr result (λ r. (r ≡ Plain ToolError.Memory)
         ⊎ IsChosenUnread root.now (map choice_of chosen.now) r) }
     ensures first { D.Store.tells → IfErr result (λ r. (r ≡ Plain ToolError.Memory)

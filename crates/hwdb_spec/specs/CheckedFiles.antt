@@ -6,9 +6,10 @@ use Rattle.hwdb_spec.specs.Given.{IsGiven, is_dash}
 use Rattle.hwdb_spec.specs.Lines.{byte}
 use Rattle.hwdb_spec.specs.Store.{Contents, path_in}
 use Rattle.hwdb_spec.specs.System.{AreNamesIn, bytes_at, etc_files, usr_files}
+use Rattle.hwdb_spec.specs.Texts.{max_file}
 
 -- These are the chosen of both folders' text files below the root, by priority: each under its stored path, as `update` names
--- it, with what it holds.
+-- it, with what it holds. None is longer than a file may be.
 pub record AreChosenFiles (root : List ℕ) (contents : Contents) (sources : List Source) : Type 0 where
   pub etc : List (List ℕ)
   pub usr : List (List ℕ)
@@ -17,11 +18,13 @@ pub record AreChosenFiles (root : List ℕ) (contents : Contents) (sources : Lis
   pub few : length (names etc usr) ≤ max_files
   pub named : map (λ (s : Source). s.name) sources ≡ map path_of (choice etc usr)
   pub held : map (λ (s : Source). Some s.bytes) sources ≡ map (λ c. bytes_at contents (root ++ path_of c)) (choice etc usr)
+  pub within : All (λ (s : Source). length s.bytes ≤ max_file) sources
 
--- these are the files with the given paths, in their order, each with what it has
+-- these are the files with the given paths, in their order, each with what it has, which isn't longer than a file may be
 pub record AreGivenFiles (paths : List (List ℕ)) (input : Option (List ℕ)) (contents : Contents) (sources : List Source) : Type 0 where
   pub named : map (λ (s : Source). s.name) sources ≡ paths
   pub held : All (λ (s : Source). IsGiven s.name input contents s.bytes) sources
+  pub within : All (λ (s : Source). length s.bytes ≤ max_file) sources
 
 -- the folder that a path names: without a slash at its end
 unfoldable pub folder_of : (path : List ℕ) → List ℕ

@@ -1,21 +1,24 @@
 -- The files that `check` reads, and what it refuses of them.
-use Rattle.std.proofs.Common.{◌≡◌, ◌<◌, ◌≤◌, ◌+◌, ◌++◌, ◌∙◌, ◌||◌, inr, ap, sym, subst, refl, arith, ℕ, suc, Bool, true, false, List, [], ◌∷◌, length, map, drop, zero, get_or, string_bytes, codes, Global, Option, Some, None, Result, Ok, Err, IfErr, IfOk, String, All}
+use Rattle.std.proofs.Common.{◌≡◌, ◌<◌, ◌≤◌, ◌+◌, ◌++◌, ◌∙◌, ◌||◌, inl, inr, ap, sym, subst, refl, arith, ℕ, suc, Bool, true, false, List, [], ◌∷◌, length, map, drop, zero, get_or, string_bytes, codes, Global, Option, Some, None, Result, Ok, Err, IfErr, IfOk, String, All}
 use Rattle.std.specs.Bool.{◌==◌}
-use Rattle.std.specs.Prelude.{Contains, IfSome}
+use Rattle.std.proofs.Math.Seq.{split_at}
+use Rattle.std.specs.Prelude.{Contains, IfSome, take}
 use Rattle.std.specs.Option.{option_map_or}
-use Rattle.std.proofs.lemmas.List.{length-map, get_or-map, drop_all}
+use Rattle.std.proofs.lemmas.List.{length-map, get_or-map, drop_all, map-append, take_more}
 use Rattle.hwdb_spec.specs.Folders.{Choice, Source, path_of}
-use Rattle.std.proofs.lemmas.List.Elements.{All-nil, All-cons}
+use Rattle.std.proofs.lemmas.List.Elements.{All-nil, All-cons, All-head, All-map, All-tail}
 use Rattle.hwdb_spec.specs.Given.{IsContent, IsGiven, is_dash, any_dash}
 use Rattle.hwdb_spec.specs.Store.{Contents}
 use Rattle.hwdb_spec.specs.System.{bytes_at}
 use Rattle.hwdb_spec.specs.Runs.{OnOut}
+use Rattle.hwdb_spec.specs.Texts.{max_file}
 use Rattle.hwdb_lint.specs.Checks.{source_of}
 use Rattle.hwdb_lint.specs.declared.files.TextFile.{TextFile}
 use Rattle.hwdb_spec.specs.CheckedFiles.{AreCheckedFiles, AreChosenFiles, AreGivenFiles, IsChecked}
 use Rattle.hwdb_fs.specs.Internal.{AreSelected}
 use Rattle.hwdb_tool.specs.Internal.{AreTextsGiven, bytes_given, bytes_if}
 use Rattle.hwdb_fs.specs.Refusals.{IsUnread}
+use Rattle.hwdb_tool.specs.Reasons.{IsFirstGiven, IsReadGiven}
 use Rattle.hwdb_tool.specs.Undone.{AreNotChecked, AreUncheckable, IsCheckRefused, IsGivenUnread, told_as, told_path}
 use Rattle.hwdb_fs.specs.declared.refusals.Refusal.{Refusal}
 use Rattle.hwdb_tool.specs.Views.{texts_in}
@@ -31,7 +34,54 @@ pub given_unread : (given : List (String Global)) (k : ℕ) (path : String Globa
 given_unread given k path refusal is lt unread =
     inr (string_bytes path, given_path given k path is lt, unread)
 
+-- the first of them that can't be read
+pub first_given : (contents : Contents) (given : List (String Global)) (k : ℕ) (path : String Global) → path ≡ get_or given k path → k < length given
+    → All (λ (s : String Global). IsReadGiven contents (string_bytes s)) (take k given) → is_dash (string_bytes path) ≡ false → IsFirstGiven (map string_bytes given) contents (string_bytes path)
+first_given contents given k path is lt read plain = record {
+  before = map string_bytes (take k given);
+  after = map string_bytes (drop (suc k) given);
+  are = ap (map string_bytes) (split_at given k path lt) ∙ map-append string_bytes (take k given) (get_or given k path ∷ drop (suc k) given)
+      ∙ ap (λ (s : String Global). map string_bytes (take k given) ++ string_bytes s ∷ map string_bytes (drop (suc k) given)) (sym is);
+  read = All-map (IsReadGiven contents) string_bytes (take k given) read;
+  plain = plain;
+}
+
+-- one more of them has a text
+pub texts_given_more : (text : List ℕ) (contents : Contents) (given : List (String Global)) (k : ℕ) (path : String Global) (texts texts2 : List (List ℕ)) (bytes : List ℕ)
+    → AreTextsGiven text contents (map string_bytes (take k given)) texts → path ≡ get_or given k path → k < length given
+    → bytes_given text contents (string_bytes path) ≡ Some bytes → texts2 ≡ texts ++ bytes ∷ [] → AreTextsGiven text contents (map string_bytes (take (k + 1) given)) texts2
+texts_given_more text contents given k path texts texts2 bytes before is lt read more =
+    let held = bytes_given text contents in
+    ap (map Some) more ∙ map-append Some texts (bytes ∷ [])
+    ∙ ap (λ l. l ++ Some bytes ∷ []) before
+    ∙ ap (λ o. map held (map string_bytes (take k given)) ++ o ∷ []) (sym read ∙ ap (λ (s : String Global). held (string_bytes s)) is)
+    ∙ sym (map-append held (map string_bytes (take k given)) (string_bytes (get_or given k path) ∷ []))
+    ∙ ap (map held) (sym (map-append string_bytes (take k given) (get_or given k path ∷ [])))
+    ∙ ap (λ l. map held (map string_bytes l)) (sym (take_more given k path lt))
+
+-- one that is read
+read_by : (b : Bool) (contents : Contents) (path text bytes : List ℕ) → is_dash path ≡ b → bytes_if b text contents path ≡ Some bytes
+    → ((is_dash path ≡ false) ⊎ (length text ≤ max_file) → length bytes ≤ max_file) → IsReadGiven contents path
+read_by true contents path text bytes is read within = inl is
+read_by false contents path text bytes is read within = inr record { bytes = bytes; there = read; within = within (inl is) }
+
+pub read_given : (contents : Contents) (path text bytes : List ℕ) → bytes_given text contents path ≡ Some bytes
+    → ((is_dash path ≡ false) ⊎ (length text ≤ max_file) → length bytes ≤ max_file) → IsReadGiven contents path
+read_given contents path text bytes read within = read_by (is_dash path) contents path text bytes refl read within
+
 -- ---- what the files are
+abbrev pub IsShort : List ℕ → Type 0
+IsShort bytes = length bytes ≤ max_file
+
+abbrev IsShortSource : Source → Type 0
+IsShortSource s = IsShort s.bytes
+
+short_files : (files : List TextFile) → All IsShort (map (λ f. f.bytes.now) files) → All IsShortSource (map source_of files)
+short_files [] short = All-nil IsShortSource
+short_files (f ∷ files) short =
+    All-cons IsShortSource (source_of f) (map source_of files) (All-head IsShort f.bytes.now (map (λ f. f.bytes.now) files) short)
+    (short_files files (All-tail IsShort f.bytes.now (map (λ f. f.bytes.now) files) short))
+
 names_of : (files : List TextFile) → map (λ (s : Source). s.name) (map source_of files) ≡ map (λ f. f.path.now) files
 names_of [] = refl
 names_of (f ∷ files) = ap (λ l. f.path.now ∷ l) (names_of files)
@@ -81,12 +131,13 @@ all_given input contents text (f ∷ files) read told =
 
 pub given_sources : (input : Option (List ℕ)) (contents : Contents) (text : List ℕ) (given texts : List (List ℕ)) (files : List TextFile) → AreTextsGiven text contents given texts
     → (any_dash given ≡ true → IfSome input (λ told. text ≡ told))
-    → map (λ f. f.path.now) files ≡ given → map (λ f. f.bytes.now) files ≡ texts → AreGivenFiles given input contents (map source_of files)
-given_sources input contents text given texts files read told named held = record {
+    → map (λ f. f.path.now) files ≡ given → map (λ f. f.bytes.now) files ≡ texts → All IsShort texts → AreGivenFiles given input contents (map source_of files)
+given_sources input contents text given texts files read told named held short = record {
   named = names_of files ∙ named;
   held = all_given input contents text files
       (ap (map Some) held ∙ read ∙ ap (map (bytes_given text contents)) (sym named))
       (λ e. told (ap any_dash (sym named) ∙ e));
+  within = short_files files (subst (All IsShort) (sym held) short);
 }
 
 -- a look for a dash among some strings goes on by one
@@ -144,6 +195,7 @@ chosen_sources root contents usr chosen texts files are named held = record {
   few = are.few;
   named = names_of files ∙ named ∙ ap (map path_of) are.is;
   held = bytes_of files ∙ ap (map Some) held ∙ are.read ∙ ap (map (λ c. bytes_at contents (root ++ path_of c))) are.is;
+  within = short_files files (subst (All IsShort) (sym held) are.within);
 }
 
 -- ---- what is said of them

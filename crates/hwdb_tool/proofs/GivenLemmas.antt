@@ -1,15 +1,17 @@
 -- The errors of files that words name.
-use Rattle.std.proofs.Common.{◌≡◌, ◌<◌, ◌⊎◌, inl, inr, sym, subst, refl, arith, ℕ, zero, suc, get_or, Bool, true, false, List, [], ◌∷◌, Option, map, string_bytes, Global, String}
-use Rattle.std.specs.Prelude.{Contains, is_some}
-use Rattle.hwdb_spec.specs.Given.{is_dash}
+use Rattle.std.proofs.Common.{◌≡◌, ◌≤◌, ◌⊎◌, inl, inr, sym, subst, refl, ℕ, Bool, true, false, length, List, Option, None, Some, map, string_bytes, Global, String, IfSome}
+use Rattle.std.specs.Prelude.{is_some}
+use Rattle.hwdb_spec.specs.Given.{any_dash, is_dash}
 use Rattle.hwdb_spec.specs.Store.{Contents}
 use Rattle.hwdb_spec.specs.System.{bytes_at}
+use Rattle.hwdb_spec.specs.Texts.{max_file}
+use Rattle.hwdb_print.specs.declared.errors.ToolError.{ToolError}
 use Rattle.hwdb_print.specs.declared.errors.ToolError.TheVariants.{Read, Write, TooLong, TooManyFiles, TooManyLines, TooLarge, BadPosition, BadDatabase, Replace, Memory}
 use Rattle.hwdb_fs.specs.Refusals.{HasReason, IsUnreadAt, IsUnreadable}
 use Rattle.hwdb_fs.specs.declared.refusals.Refusal.{Refusal}
 use Rattle.hwdb_fs.specs.declared.refusals.Refusal.TheVariants.{At, InWords, NoDatabase, Plain}
 use Rattle.hwdb_tool.specs.Queries.{IsWholeInputUnread}
-use Rattle.hwdb_tool.specs.Reasons.{HasFilesReason, HasGivenReason, IsOfFiles}
+use Rattle.hwdb_tool.specs.Reasons.{HasFilesReason, HasGivenReason, IsFileReason, IsFirstGiven, IsInputRead, IsOfFiles, TellsNoPath}
 
 module _ (fails : List ℕ → Type 0) (U : Type 0) (files : Contents) (input : Option (List ℕ)) (n m : ℕ) where
   of_plain : (r : Refusal) → HasGivenReason false fails files input n m r → HasReason (IsUnreadable fails files) U files r
@@ -70,58 +72,50 @@ module _ (fails : List ℕ → Type 0) (files : Contents) (input : Option (List 
 
 -- an error that tells no path
 pub write_reason : (given : List (String Global)) (fails : List ℕ → Type 0) (files : Contents) (input : Option (List ℕ)) (n m : ℕ) (b : Bool) → HasFilesReason b (map string_bytes given) fails files input n m (Plain Write)
-write_reason given fails files input n m true = inl (tt, tt)
+write_reason given fails files input n m true = inl tt
 write_reason given fails files input n m false = tt
 
--- the error of one file
-module _ (files : Contents) (path : List ℕ) where
-  same_path : (p : List ℕ) → p ≡ path → Contains (path ∷ []) p
-  same_path p is = subst (λ (q : List ℕ). Contains (path ∷ []) q) (sym is) (0, omega arith, refl)
+-- an error of several files
+module _ (given : List (List ℕ)) (fails : List ℕ → Type 0) (files : Contents) (input : Option (List ℕ)) (n m : ℕ) where
+  pub pathless_reason : (e : ToolError) (r : Refusal) → r ≡ Plain e → HasFilesReason true given fails files input n m r
+  pathless_reason e r is = inl (subst TellsNoPath (sym is) tt)
 
-  pub unread_file : (r : Refusal) → is_dash path ≡ false → IsUnreadAt files path r → IsOfFiles (path ∷ []) files r
-  unread_file (At Read at cause) told h = (same_path at.items h, subst (λ (q : List ℕ). is_dash q ≡ false) (sym h) told)
-  unread_file (At Write at cause) told h = absurd h
-  unread_file (At TooLong at cause) told h = (same_path at.items h.0, subst (λ (q : List ℕ). is_dash q ≡ false) (sym h.0) told, subst (λ (q : List ℕ). is_some (bytes_at files q) ≡ true) (sym h.0) h.1)
-  unread_file (At TooManyFiles at cause) told h = absurd h
-  unread_file (At TooManyLines at cause) told h = absurd h
-  unread_file (At TooLarge at cause) told h = absurd h
-  unread_file (At BadPosition at cause) told h = absurd h
-  unread_file (At (BadDatabase fault) at cause) told h = absurd h
-  unread_file (At (Replace u) at cause) told h = absurd h
-  unread_file (At Memory at cause) told h = (same_path at.items h, subst (λ (q : List ℕ). is_dash q ≡ false) (sym h) told)
-  unread_file (Plain Read) told h = absurd h
-  unread_file (Plain Write) told h = absurd h
-  unread_file (Plain TooLong) told h = absurd h
-  unread_file (Plain TooManyFiles) told h = absurd h
-  unread_file (Plain TooManyLines) told h = absurd h
-  unread_file (Plain TooLarge) told h = absurd h
-  unread_file (Plain BadPosition) told h = absurd h
-  unread_file (Plain (BadDatabase fault)) told h = absurd h
-  unread_file (Plain (Replace u)) told h = absurd h
-  unread_file (Plain Memory) told h = tt
-  unread_file NoDatabase told h = absurd h
-  unread_file (InWords text) told h = absurd h
+  pub whole_reason : (r : Refusal) → (r ≡ Plain Memory) ⊎ ((any_dash given ≡ true) × IsWholeInputUnread input n m r) → HasFilesReason true given fails files input n m r
+  whole_reason r (inl is) = pathless_reason Memory r is
+  whole_reason r (inr unread) = inr (inr unread)
 
-  one_path : (p : List ℕ) (x : ℕ) → x < 1 → get_or (path ∷ []) x p ≡ p → path ≡ p
-  one_path p zero lt is = is
-  one_path p (suc x) lt is = absurd (omega (arith, lt))
+  pub files_reason : (r : Refusal) → IsInputRead (any_dash given) input → IsFileReason given fails files r → HasFilesReason true given fails files input n m r
+  files_reason r read is = inr (inl (read, is))
 
-  -- and of one among several
-  module _ (given : List (List ℕ)) (among : Contains given path) where
-    is_among : (p : List ℕ) → Contains (path ∷ []) p → Contains given p
-    is_among p one = subst (λ (q : List ℕ). Contains given q) (one_path p one.0 one.1 one.2) among
+short_told : (input : Option (List ℕ)) (text : List ℕ) → IfSome input (λ told. text ≡ told) → length text ≤ max_file → IsInputRead true input
+short_told None text same short = tt
+short_told (Some told) text same short = subst (λ (t : List ℕ). length t ≤ max_file) same short
 
-    pub of_one : (r : Refusal) → IsOfFiles (path ∷ []) files r → IsOfFiles given files r
-    of_one (At Read at cause) h = (is_among at.items h.0, h.1)
-    of_one (At Write at cause) h = (is_among at.items h.0, h.1)
-    of_one (At TooLong at cause) h = (is_among at.items h.0, h.1, h.2)
-    of_one (At TooManyFiles at cause) h = (is_among at.items h.0, h.1)
-    of_one (At TooManyLines at cause) h = (is_among at.items h.0, h.1)
-    of_one (At TooLarge at cause) h = (is_among at.items h.0, h.1)
-    of_one (At BadPosition at cause) h = (is_among at.items h.0, h.1)
-    of_one (At (BadDatabase fault) at cause) h = (is_among at.items h.0, h.1)
-    of_one (At (Replace u) at cause) h = (is_among at.items h.0, h.1)
-    of_one (At Memory at cause) h = (is_among at.items h.0, h.1)
-    of_one (Plain e) h = tt
-    of_one NoDatabase h = tt
-    of_one (InWords text) h = tt
+-- standard input was read before the files
+pub input_read : (b : Bool) (input : Option (List ℕ)) (text : List ℕ) → (b ≡ true → IfSome input (λ told. text ≡ told)) → length text ≤ max_file → IsInputRead b input
+input_read true input text same short = short_told input text (same refl) short
+input_read false input text same short = tt
+
+-- the error of the first file that can't be read
+module _ (files : Contents) (given : List (List ℕ)) (path : List ℕ) where
+  at_first : IsFirstGiven given files path → (p : List ℕ) → p ≡ path → IsFirstGiven given files p
+  at_first first p is = subst (IsFirstGiven given files) (sym is) first
+
+  of_first : (r : Refusal) → IsFirstGiven given files path → IsUnreadAt files path r → IsOfFiles given files r
+  of_first (At Read at cause) first h = at_first first at.items h
+  of_first (At Write at cause) first h = absurd h
+  of_first (At TooLong at cause) first h = (at_first first at.items h.0, subst (λ (q : List ℕ). is_some (bytes_at files q) ≡ true) (sym h.0) h.1)
+  of_first (At TooManyFiles at cause) first h = absurd h
+  of_first (At TooManyLines at cause) first h = absurd h
+  of_first (At TooLarge at cause) first h = absurd h
+  of_first (At BadPosition at cause) first h = absurd h
+  of_first (At (BadDatabase fault) at cause) first h = absurd h
+  of_first (At (Replace u) at cause) first h = absurd h
+  of_first (At Memory at cause) first h = at_first first at.items h
+  of_first (Plain e) first h = tt
+  of_first NoDatabase first h = tt
+  of_first (InWords text) first h = tt
+
+  pub of_given : (r : Refusal) → (is_dash path ≡ false → IsFirstGiven given files path) → (r ≡ Plain Memory) ⊎ ((is_dash path ≡ false) × IsUnreadAt files path r) → IsOfFiles given files r
+  of_given r first (inl memory) = subst (IsOfFiles given files) (sym memory) tt
+  of_given r first (inr unread) = of_first r (first unread.0) unread.1

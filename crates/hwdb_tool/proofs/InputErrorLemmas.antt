@@ -1,18 +1,23 @@
 -- What an error says of standard input.
-use Rattle.std.proofs.Common.{◌≡◌, ◌<◌, ◌⊎◌, inl, inr, subst, refl, arith, eqb-true, ℕ, Bool, true, false, not, ◌==◌, List, [], ◌∷◌, length, map, Option, IfSome, string_bytes, Global, String}
+use Rattle.std.proofs.Common.{◌≡◌, ◌<◌, ◌⊎◌, ◌∙◌, ap, inl, inr, reverse, sym, subst, refl, arith, eqb-true, ℕ, Bool, true, false, not, ◌==◌, List, [], ◌∷◌, length, map, Option, IfSome, string_bytes, Global, String}
+use Rattle.std.proofs.lemmas.List.{reverse-append}
+use Rattle.std.proofs.lemmas.List.Elements.{Contains-append_right}
 use Rattle.std.specs.Prelude.{Contains, codes}
-use Rattle.hwdb_cli.specs.declared.job.Task.TheVariants.{Ask, Check, Near}
+use Rattle.hwdb_cli.specs.declared.job.Task.TheVariants.{Ask, Check, Explain, Near, Query}
+use Rattle.hwdb_spec.specs.Asked.{IsAskedPath}
 use Rattle.hwdb_spec.specs.Failures.{HasFailed}
-use Rattle.hwdb_spec.specs.Given.{any_dash, is_dash}
-use Rattle.hwdb_spec.specs.Store.{Contents, Outcomes}
+use Rattle.hwdb_spec.specs.Given.{any_dash, is_dash, is_input}
+use Rattle.hwdb_spec.specs.ManyDevices.{HasLongLine}
+use Rattle.hwdb_spec.specs.Store.{Contents, Outcomes, database_name, path_in}
+use Rattle.hwdb_spec.specs.System.{database_folder}
 use Rattle.hwdb_spec.specs.Texts.{max_file}
 use Rattle.hwdb_print.specs.declared.errors.ToolError.{ToolError}
 use Rattle.hwdb_print.specs.declared.errors.ToolError.TheVariants.{Read, TooLong}
 use Rattle.hwdb_fs.specs.Refusals.{IsOver}
 use Rattle.hwdb_fs.specs.declared.refusals.Refusal.{Refusal}
 use Rattle.hwdb_fs.specs.declared.refusals.Refusal.TheVariants.{At, InWords, NoDatabase, Plain}
-use Rattle.hwdb_tool.specs.OneRefusal.{InputIsLong, InputIsRead}
-use Rattle.hwdb_tool.specs.Reasons.{HasFilesReason, HasGivenReason, IsGivenTooLong, IsGivenUnreadable}
+use Rattle.hwdb_tool.specs.OneRefusal.{InputIsLong, InputIsRead, LineIsLong}
+use Rattle.hwdb_tool.specs.Reasons.{HasAskedReason, HasFilesReason, HasGivenReason, IsFirstGiven, IsGivenTooLong, IsGivenUnreadable}
 
 not_false : (b : Bool) → not b ≡ false → b ≡ true
 not_false true is = refl
@@ -21,6 +26,9 @@ not_false false is = absurd cc
 some_dash : (given : List (String Global)) → not (length given == 0) ≡ false → any_dash (map string_bytes given) ≡ true → ⊥
 some_dash [] none dash = cc
 some_dash (path ∷ more) none dash = let e = eqb-true (length (path ∷ more)) 0 (not_false (length (path ∷ more) == 0) none) in omega (arith, e)
+
+is_named : (given : List (List ℕ)) (files : Contents) (path : List ℕ) → IsFirstGiven given files path → Contains given path
+is_named given files path first = subst (λ (l : List (List ℕ)). Contains l path) (sym first.are) (Contains-append_right first.before (path ∷ first.after) path (0, omega arith, refl))
 
 module _ (fails : List ℕ → Type 0) (files : Contents) (input : Option (List ℕ)) (n m : ℕ) where
   abbrev IsInputLong : Type 0
@@ -54,8 +62,9 @@ module _ (fails : List ℕ → Type 0) (files : Contents) (input : Option (List 
     some_read (At e at cause) over reason = by (subst (λ (k : ToolError). HasFilesReason true (map string_bytes given) fails files input n m (At k at cause)) over.0 reason)
       where
         by : HasFilesReason true (map string_bytes given) fails files input n m (At Read at cause) → HasFailed n m ⊎ Names
-        by (inl file) = inr (subst (λ (p : List ℕ). Contains (map string_bytes given) p) over.1 file.0.0)
-        by (inr told) = inl told.1.1
+        by (inl none) = absurd none
+        by (inr (inl file)) = inr (subst (λ (p : List ℕ). Contains (map string_bytes given) p) over.1 (is_named (map string_bytes given) files at.items file.1.0))
+        by (inr (inr told)) = inl told.1.1
     some_read (Plain e) over reason = absurd over
     some_read NoDatabase over reason = absurd over
     some_read (InWords text) over reason = absurd over
@@ -64,8 +73,9 @@ module _ (fails : List ℕ → Type 0) (files : Contents) (input : Option (List 
     some_long (At e at cause) over reason = by (subst (λ (k : ToolError). HasFilesReason true (map string_bytes given) fails files input n m (At k at cause)) over.0 reason)
       where
         by : HasFilesReason true (map string_bytes given) fails files input n m (At TooLong at cause) → IsInputLong ⊎ Names
-        by (inl file) = inr (subst (λ (p : List ℕ). Contains (map string_bytes given) p) over.1 file.0.0)
-        by (inr told) = inl told.1.1
+        by (inl none) = absurd none
+        by (inr (inl file)) = inr (subst (λ (p : List ℕ). Contains (map string_bytes given) p) over.1 (is_named (map string_bytes given) files at.items file.1.0.0))
+        by (inr (inr told)) = inl told.1.1
     some_long (Plain e) over reason = absurd over
     some_long NoDatabase over reason = absurd over
     some_long (InWords text) over reason = absurd over
@@ -78,15 +88,59 @@ module _ (fails : List ℕ → Type 0) (files : Contents) (input : Option (List 
     files_long true some r over reason = some_long r over reason
     files_long false some r over reason = absurd (some_dash given some dash)
 
+-- ---- devices
+-- the path of a database isn't what an error calls standard input
+abbrev last_byte : List ℕ → ℕ
+last_byte [] = 0
+last_byte (x ∷ xs) = x
+
+last_of : (folder words : List ℕ) → path_in folder database_name ≡ words → 110 ≡ last_byte (reverse words)
+last_of folder words is = ap (λ (l : List ℕ). last_byte l) (sym (reverse-append folder (47 ∷ database_name)) ∙ ap reverse is)
+
+ends_so : (root : List ℕ) (files : Contents) (path words : List ℕ) → IsAskedPath root files path → path ≡ words → 110 ≡ last_byte (reverse words)
+ends_so root files path words (inl etc) is = last_of (database_folder false root) words (sym etc ∙ is)
+ends_so root files path words (inr usr) is = last_of (database_folder true root) words (sym usr.0 ∙ is)
+
+asked_not_input : (root : List ℕ) (files : Contents) (path : List ℕ) → IsAskedPath root files path → path ≡ codes "standard input" → ⊥
+asked_not_input root files path asked is = let e : 110 ≡ 116 = ends_so root files path (codes "standard input") asked is in omega (arith, e)
+
+asked_not_line : (root : List ℕ) (files : Contents) (path : List ℕ) → IsAskedPath root files path → path ≡ codes "a line of standard input" → ⊥
+asked_not_line root files path asked is = let e : 110 ≡ 116 = ends_so root files path (codes "a line of standard input") asked is in omega (arith, e)
+
+module _ (root : List ℕ) (fails : List ℕ → Type 0) (files : Contents) (input : Option (List ℕ)) (n m : ℕ) where
+  asked_read : (b : Bool) (r : Refusal) → IsOver Read (codes "standard input") r → HasAskedReason b root fails files input n m r → HasFailed n m
+  asked_read b (At e at cause) over reason = by (subst (λ (k : ToolError). HasAskedReason b root fails files input n m (At k at cause)) over.0 reason)
+    where
+      by : HasAskedReason b root fails files input n m (At Read at cause) → HasFailed n m
+      by (inl file) = absurd (asked_not_input root files at.items file.0 over.1)
+      by (inr told) = told.1.1
+  asked_read b (Plain e) over reason = absurd over
+  asked_read b NoDatabase over reason = absurd over
+  asked_read b (InWords text) over reason = absurd over
+
+  asked_long : (b : Bool) (r : Refusal) → IsOver TooLong (codes "a line of standard input") r → HasAskedReason b root fails files input n m r → IfSome input (HasLongLine max_file)
+  asked_long b (At e at cause) over reason = by (subst (λ (k : ToolError). HasAskedReason b root fails files input n m (At k at cause)) over.0 reason)
+    where
+      by : HasAskedReason b root fails files input n m (At TooLong at cause) → IfSome input (HasLongLine max_file)
+      by (inl file) = absurd (asked_not_line root files at.items file.0 over.1)
+      by (inr told) = told.1.1
+  asked_long b (Plain e) over reason = absurd over
+  asked_long b NoDatabase over reason = absurd over
+  asked_long b (InWords text) over reason = absurd over
+
 module _ (fails fails_now : List ℕ → Type 0) (left left_now : Outcomes) where
   pub input_is_read : InputIsRead fails fails_now left left_now
-  input_is_read (Ask file device) root usr strict r before now kind dash over not =
+  input_is_read (Ask file device) root usr strict r before now dash over not =
       inl (file_failed fails before.files before.input.bytes before.input.failures now.input.failures (is_dash (string_bytes file)) r dash over not.1)
-  input_is_read (Check paths allowed json) root usr strict r before now kind dash over not =
+  input_is_read (Check paths allowed json) root usr strict r before now dash over not =
       files_read fails before.files before.input.bytes before.input.failures now.input.failures paths.items dash _ refl r over not.1
-  input_is_read (Near paths device limit json) root usr strict r before now kind dash over not =
+  input_is_read (Near paths device limit json) root usr strict r before now dash over not =
       files_read fails before.files before.input.bytes before.input.failures now.input.failures paths.items dash _ refl r over not.1
-  input_is_read task root usr strict r before now kind dash over not = absurd kind
+  input_is_read (Query devices json) root usr strict r before now dash over not =
+      inl (asked_read root fails before.files before.input.bytes before.input.failures now.input.failures (is_input (map string_bytes devices.items)) r over not.1)
+  input_is_read (Explain device json) root usr strict r before now dash over not =
+      inl (asked_read root fails before.files before.input.bytes before.input.failures now.input.failures (is_dash (string_bytes device)) r over not.1)
+  input_is_read task root usr strict r before now dash over not = absurd cc
 
   pub input_is_long : InputIsLong fails fails_now left left_now
   input_is_long (Ask file device) root usr strict r before now kind dash over not =
@@ -96,3 +150,10 @@ module _ (fails fails_now : List ℕ → Type 0) (left left_now : Outcomes) wher
   input_is_long (Near paths device limit json) root usr strict r before now kind dash over not =
       files_long fails before.files before.input.bytes before.input.failures now.input.failures paths.items dash _ refl r over not.1
   input_is_long task root usr strict r before now kind dash over not = absurd kind
+
+  pub line_is_long : LineIsLong fails fails_now left left_now
+  line_is_long (Query devices json) root usr strict r before now from over not =
+      asked_long root fails before.files before.input.bytes before.input.failures now.input.failures (is_input (map string_bytes devices.items)) r over not.1
+  line_is_long (Explain device json) root usr strict r before now from over not =
+      asked_long root fails before.files before.input.bytes before.input.failures now.input.failures (is_dash (string_bytes device)) r over not.1
+  line_is_long task root usr strict r before now from over not = absurd cc

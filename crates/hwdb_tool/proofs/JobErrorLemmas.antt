@@ -1,5 +1,5 @@
 -- Words ask for one job, which ends with one error over one input, or is done.
-use Rattle.std.proofs.Common.{◌≡◌, ◌⊎◌, ◌∙◌, ⊎_elim, sym, subst, refl, false, List, [], ℕ, Option, None, Some, string_bytes}
+use Rattle.std.proofs.Common.{◌≡◌, ◌⊎◌, ◌∙◌, ◌∷◌, ⊎_elim, map, sym, subst, refl, false, List, [], ℕ, Option, None, Some, string_bytes}
 use Rattle.std.specs.Prelude.{codes}
 use Rattle.clap.specs.Faults.{fault_of}
 use Rattle.clap.specs.Kinds.{IsAmong, Kinds}
@@ -14,40 +14,39 @@ use Rattle.hwdb_cli.specs.declared.job.Task.{Task}
 use Rattle.hwdb_cli.specs.declared.job.Task.TheVariants.{Ask, Check, Diff, Dump, Explain, List as ListHits, Near, Query, Update, Verify}
 use Rattle.hwdb_cli.specs.declared.job.WordsFault.TheVariants as words_fault
 use Rattle.hwdb_cli.specs.declared.job.WordsFault.{WordsFault}
-use Rattle.hwdb_spec.specs.Given.{is_dash, is_input}
+use Rattle.hwdb_spec.specs.Given.{is_input}
 use Rattle.hwdb_spec.specs.Store.{Contents, Outcomes}
 use Rattle.hwdb_spec.specs.System.{database_folder}
 use Rattle.hwdb_print.specs.declared.errors.ToolError.TheVariants.{Read, Write, TooLong, TooManyFiles, TooManyLines, TooLarge, BadPosition, BadDatabase, Replace, Memory}
 use Rattle.hwdb_fs.specs.Refusals.{HasReason, IsUnentered}
 use Rattle.hwdb_fs.specs.declared.refusals.Refusal.{Refusal}
 use Rattle.hwdb_fs.specs.declared.refusals.Refusal.TheVariants.{At, InWords, NoDatabase, Plain}
-use Rattle.hwdb_tool.specs.OneOutcome.{scene_of}
-use Rattle.hwdb_tool.specs.OneRefusal.{ReadsFewFiles, IsOfWhatIsRead, JobEndsInOneError, DoneJobIsNoError, JobIsNotTold, RootIsEntered, scene_then}
+use Rattle.hwdb_tool.specs.OneOutcome.{ListingsGiveOneChoice, scene_of}
+use Rattle.hwdb_tool.specs.OneRefusal.{OnlyReads, IsOfWhatIsRead, JobEndsInOneError, DoneJobIsNoError, JobIsNotTold, RootIsEntered, scene_then}
 use Rattle.hwdb_tool.specs.Program.{root_of}
 use Rattle.hwdb_tool.specs.TaskRefusals.{refused_status}
 use Rattle.hwdb_tool.specs.Undone.{IsUnwritable}
 use Rattle.hwdb_tool.proofs.DatabaseErrorLemmas.{OneHeader, OneTree, Undumped, Unlisted, Unverified}
 use Rattle.hwdb_tool.proofs.AskErrorLemmas.{OneForm, Unasked}
 use Rattle.hwdb_tool.proofs.DiffErrorLemmas.{Undiffed}
-use Rattle.hwdb_tool.proofs.JobLemmas.{apart, is_named, one_value, one_values, same_root, word_of}
-use Rattle.hwdb_tool.proofs.TaskErrorLemmas.{Why, end_of, not_both_ends, why}
+use Rattle.hwdb_tool.proofs.JobLemmas.{apart, cut_last, is_named, one_value, one_values, same_root, word_of}
+use Rattle.hwdb_tool.proofs.TaskErrorLemmas.{Unchecked, Uncompared, Why, end_of, not_both_ends, why}
 
 -- two tasks that the same words ask for
 module _ (name : Text) (inner : List Row) where
-  same_kind : (t u : Task) → IsTask name inner t → IsTask name inner u → ReadsFewFiles t → ReadsFewFiles u
+  same_kind : (t u : Task) → IsTask name inner t → IsTask name inner u → OnlyReads t → OnlyReads u
   same_kind (Query devices1 json1) (Query devices2 json2) t u kind =
       subst (λ (ds : List (List ℕ)). is_input ds ≡ false) (sym (one_values (all_of (codes "MODALIAS") inner) _ _ u.2 t.2)) kind
   same_kind (Explain device1 json1) (Explain device2 json2) t u kind =
-      subst (λ (d : List ℕ). is_dash d ≡ false) (sym (one_value (first_of (codes "MODALIAS") inner) _ _ u.2 t.2)) kind
+      subst (λ (d : List ℕ). is_input (d ∷ []) ≡ false) (sym (one_value (first_of (codes "MODALIAS") inner) _ _ u.2 t.2)) kind
   same_kind (ListHits after1 limit1 device1 json1) (ListHits after2 limit2 device2 json2) t u kind = tt
   same_kind (Diff old1 new1) (Diff old2 new2) t u kind = tt
   same_kind (Verify database1) (Verify database2) t u kind = tt
   same_kind (Dump database1) (Dump database2) t u kind = tt
   same_kind (Update v1 k1) (Update v2 k2) t u kind = absurd kind
-  same_kind (Ask file1 device1) (Ask file2 device2) t u kind =
-      subst (λ (f : List ℕ). is_dash f ≡ false) (sym (one_value (first_of (codes "FILE") inner) _ _ u.1 t.1)) kind
-  same_kind (Check files1 allowed1 json1) (Check files2 allowed2 json2) t u kind = absurd kind
-  same_kind (Near files1 device1 limit1 json1) (Near files2 device2 limit2 json2) t u kind = absurd kind
+  same_kind (Ask file1 device1) (Ask file2 device2) t u kind = tt
+  same_kind (Check files1 allowed1 json1) (Check files2 allowed2 json2) t u kind = tt
+  same_kind (Near files1 device1 limit1 json1) (Near files2 device2 limit2 json2) t u kind = tt
   same_kind task1 task2 t u kind = apart (word_of task1) (word_of task2) refl (sym (is_named name inner task1 t) ∙ is_named name inner task2 u)
 
   same_status : (t u : Task) → IsTask name inner t → IsTask name inner u → refused_status t ≡ refused_status u
@@ -63,8 +62,8 @@ module _ (name : Text) (inner : List Row) where
   same_status (Near files1 device1 limit1 json1) (Near files2 device2 limit2 json2) t u = refl
   same_status task1 task2 t u = apart (word_of task1) (word_of task2) refl (sym (is_named name inner task1 t) ∙ is_named name inner task2 u)
 
-  module _ (header : OneHeader) (tree : OneTree) (fails : List ℕ → Type 0) (U : Type 0) (files : Contents) (root : List ℕ) (r : Refusal) where
-    same_why : (t u : Task) → IsTask name inner t → IsTask name inner u → Why header tree fails U files u root r → Why header tree fails U files t root r
+  module _ (header : OneHeader) (tree : OneTree) (fails : List ℕ → Type 0) (U : Type 0) (input : Option (List ℕ)) (files : Contents) (root : List ℕ) (r : Refusal) where
+    same_why : (t u : Task) → IsTask name inner t → IsTask name inner u → Why header tree fails U input files u root r → Why header tree fails U input files t root r
     same_why (Query devices1 json1) (Query devices2 json2) t u is = is
     same_why (Explain device1 json1) (Explain device2 json2) t u is = is
     same_why (ListHits after1 limit1 device1 json1) (ListHits after2 limit2 device2 json2) t u is =
@@ -75,14 +74,17 @@ module _ (name : Text) (inner : List Row) where
     same_why (Verify database1) (Verify database2) t u is = subst (λ (d : Option (List ℕ)). Unverified header fails U root files d r) (u.1 ∙ sym t.1) is
     same_why (Dump database1) (Dump database2) t u is = subst (λ (d : Option (List ℕ)). Undumped header fails U root files d r) (u.1 ∙ sym t.1) is
     same_why (Update v1 k1) (Update v2 k2) t u is = absurd is
-    same_why (Ask file1 device1) (Ask file2 device2) t u is = subst (λ (f : List ℕ). Unasked f files r) (one_value (first_of (codes "FILE") inner) _ _ u.1 t.1) is
-    same_why (Check files1 allowed1 json1) (Check files2 allowed2 json2) t u is = absurd is
-    same_why (Near files1 device1 limit1 json1) (Near files2 device2 limit2 json2) t u is = absurd is
+    same_why (Ask file1 device1) (Ask file2 device2) t u is = subst (λ (f : List ℕ). Unasked f input files r) (one_value (first_of (codes "FILE") inner) _ _ u.1 t.1) is
+    same_why (Check files1 allowed1 json1) (Check files2 allowed2 json2) t u is =
+        subst (λ (fs : List (List ℕ)). Unchecked fs input files root r) (u.1 ∙ sym t.1) is
+    same_why (Near files1 device1 limit1 json1) (Near files2 device2 limit2 json2) t u is =
+        let one = cut_last (map string_bytes files2.items) (map string_bytes files1.items) (string_bytes device2) (string_bytes device1) (one_values (all_of (codes "MODALIAS") inner) _ _ u.2 t.2) in
+        subst (λ (fs : List (List ℕ)). Uncompared header tree fs input files root r) one.0 is
     same_why task1 task2 t u is = apart (word_of task1) (word_of task2) refl (sym (is_named name inner task1 t) ∙ is_named name inner task2 u)
 
 -- two jobs that the same words ask for
 module _ (top : List Row) where
-  kind_of_job : (found : Option (Text × List Row)) (j k : Job) → IsJobOf top found j → IsJobOf top found k → ReadsFewFiles j.task → ReadsFewFiles k.task
+  kind_of_job : (found : Option (Text × List Row)) (j k : Job) → IsJobOf top found j → IsJobOf top found k → OnlyReads j.task → OnlyReads k.task
   kind_of_job None j k one two kind = absurd one
   kind_of_job (Some p) j k one two kind = same_kind p.0 p.1 j.task k.task one.task two.task kind
 
@@ -90,12 +92,12 @@ module _ (top : List Row) where
   status_of_job None j k one two = absurd one
   status_of_job (Some p) j k one two = same_status p.0 p.1 j.task k.task one.task two.task
 
-  module _ (header : OneHeader) (tree : OneTree) (fails : List ℕ → Type 0) (U : Type 0) (files : Contents) (r : Refusal) where
-    why_of_job : (found : Option (Text × List Row)) (j k : Job) → IsJobOf top found j → IsJobOf top found k → Why header tree fails U files k.task (root_of k) r → Why header tree fails U files j.task (root_of j) r
+  module _ (header : OneHeader) (tree : OneTree) (fails : List ℕ → Type 0) (U : Type 0) (input : Option (List ℕ)) (files : Contents) (r : Refusal) where
+    why_of_job : (found : Option (Text × List Row)) (j k : Job) → IsJobOf top found j → IsJobOf top found k → Why header tree fails U input files k.task (root_of k) r → Why header tree fails U input files j.task (root_of j) r
     why_of_job None j k one two is = absurd one
     why_of_job (Some p) j k one two is =
-        subst (λ (root : List ℕ). Why header tree fails U files j.task root r) (same_root top p.0 p.1 j k one two)
-        (same_why p.0 p.1 header tree fails U files (root_of k) r j.task k.task one.task two.task is)
+        subst (λ (root : List ℕ). Why header tree fails U input files j.task root r) (same_root top p.0 p.1 j k one two)
+        (same_why p.0 p.1 header tree fails U input files (root_of k) r j.task k.task one.task two.task is)
 
 -- no fault of the words
 no_fault : (kinds : Kinds) (fault : WordsFault) → kinds ≡ [] → IsToldOfOne kinds fault → fault ≡ words_fault.Memory
@@ -136,9 +138,9 @@ pub root_is_entered : (fails fails_now : List ℕ → Type 0) (left left_now : O
 root_is_entered fails fails_now left left_now = λ words status before now refused never of.
     entered fails before.files refused.unread.0 never refused.refusal refused.unread.3 refused.reason of
 
-module _ (header : OneHeader) (tree : OneTree) (fails fails_now fails2 fails2_now : List ℕ → Type 0) (left left_now left2 left2_now : Outcomes) where
+module _ (header : OneHeader) (tree : OneTree) (choice : ListingsGiveOneChoice) (fails fails_now fails2 fails2_now : List ℕ → Type 0) (left left_now left2 left2_now : Outcomes) where
   pub one_job_error : JobEndsInOneError fails fails_now fails2 fails2_now left left_now left2 left2_now
-  one_job_error = λ words status status2 before now before2 now2 input one two kind never never2 of of2.
+  one_job_error = λ words status status2 before now before2 now2 input one two kind is is2.
       let top = matches_of hwdb_app words in
       let found = subcommand_of hwdb_app words in
       let j = one.job in
@@ -146,23 +148,25 @@ module _ (header : OneHeader) (tree : OneTree) (fails fails_now fails2 fails2_no
       let then_ = scene_then one.err_then now in
       let then2 = scene_then two.err_then now2 in
       let kind2 = kind_of_job top found j k one.asked two.asked kind in
-      let first = why header tree fails fails_now left left_now (root_of j) j.usr j.strict one.refusal before then_ of j.task kind never one.refused in
-      let second = why header tree fails2 fails2_now left2 left2_now (root_of k) k.usr k.strict two.refusal before2 then2 of2 k.task kind2 never2 two.refused in
+      let first = why header tree fails fails_now left left_now (root_of j) j.usr j.strict one.refusal before then_ is.of is.told is.listed j.task kind is.never one.refused in
+      let second = why header tree fails2 fails2_now left2 left2_now (root_of k) k.usr k.strict two.refusal before2 then2 is2.of is2.told is2.listed k.task kind2 is2.never two.refused in
       let U2 = IsUnwritable (database_folder k.usr (root_of k)) before2.files before2.failures then2.failures in (
         one.says ∙ status_of_job top found j k one.asked two.asked ∙ sym two.says,
-        end_of header tree fails fails2 (IsUnwritable (database_folder j.usr (root_of j)) before.files before.failures then_.failures) U2 (root_of j) one.refusal two.refusal before then_ before2 then2 input j.task kind first.0
-            (why_of_job top header tree fails2 U2 before2.files two.refusal found j k one.asked two.asked second.0) first.1 second.1,
+        end_of header tree choice fails fails2 (IsUnwritable (database_folder j.usr (root_of j)) before.files before.failures then_.failures) U2 (root_of j) one.refusal two.refusal before then_ before2 then2 input j.task kind first.0
+            (why_of_job top header tree fails2 U2 before2.input.bytes before2.files two.refusal found j k one.asked two.asked second.0) first.1 second.1,
       )
 
   pub no_job_error : OneForm → DoneJobIsNoError fails fails_now fails2 fails2_now left left_now left2 left2_now
-  no_job_error form = λ words status status2 before now before2 now2 input done refused kind never2 of.
+  no_job_error form = λ words status status2 before now before2 now2 input done refused kind is.
       let top = matches_of hwdb_app words in
       let found = subcommand_of hwdb_app words in
       let j = done.job in
       let k = refused.job in
       let then2 = scene_then refused.err_then now2 in
-      let second = why header tree fails2 fails2_now left2 left2_now (root_of k) k.usr k.strict refused.refusal before2 then2 of k.task (kind_of_job top found j k done.asked refused.asked kind) never2 refused.refused in
+      let second = why header tree fails2 fails2_now left2 left2_now (root_of k) k.usr k.strict refused.refusal before2 then2 is.of is.told is.listed k.task (kind_of_job top found j k done.asked refused.asked kind) is.never refused.refused in
       let U2 = IsUnwritable (database_folder k.usr (root_of k)) before2.files before2.failures then2.failures in
-      not_both_ends header tree form fails2 U2 (root_of j) j.usr j.strict status refused.refusal (scene_of fails left before) (scene_of fails_now left_now now) j.task kind done.done
-      (subst (λ (f : Contents). Why header tree fails2 U2 f j.task (root_of j) refused.refusal) input.files
-      (why_of_job top header tree fails2 U2 before2.files refused.refusal found j k done.asked refused.asked second.0))
+      let told = input.input.bytes in
+      not_both_ends header tree choice form fails2 U2 (root_of j) j.usr j.strict status refused.refusal (scene_of fails left before) (scene_of fails_now left_now now) told input.input.of_one j.task kind done.done
+      (subst (λ (f : Contents). Why header tree fails2 U2 (Some told) f j.task (root_of j) refused.refusal) input.files
+      (subst (λ (i : Option (List ℕ)). Why header tree fails2 U2 i before2.files j.task (root_of j) refused.refusal) input.input.of_two
+      (why_of_job top header tree fails2 U2 before2.input.bytes before2.files refused.refusal found j k done.asked refused.asked second.0)))

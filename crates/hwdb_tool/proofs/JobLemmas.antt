@@ -41,7 +41,7 @@ one_limit (Some text) (Some a) None one two = absurd two
 one_limit (Some text) (Some a) (Some b) one two = ap Some (one.1 ∙ sym two.1)
 
 -- the last of some texts, and those before it
-cut_last : (xs ys : List (List ℕ)) (x y : List ℕ) → xs ++ x ∷ [] ≡ ys ++ y ∷ [] → (xs ≡ ys) × (x ≡ y)
+pub cut_last : (xs ys : List (List ℕ)) (x y : List ℕ) → xs ++ x ∷ [] ≡ ys ++ y ∷ [] → (xs ≡ ys) × (x ≡ y)
 cut_last [] [] x y e = (refl, cc)
 cut_last [] (b ∷ []) x y e = cc
 cut_last [] (b ∷ c ∷ ys) x y e = cc

@@ -1,11 +1,17 @@
 -- A task that reads few files ends with one error over one input, or is done.
-use Rattle.std.proofs.Common.{◌≡◌, ◌⊎◌, ◌∙◌, inl, inr, ap, sym, subst, refl, ℕ, Bool, true, false, List, [], ◌∷◌, map, Option, None, Some, string_bytes}
+use Rattle.std.proofs.Common.{◌≡◌, ◌⊎◌, ◌∙◌, ◌==◌, inl, inr, ap, arith, eqb-true, sym, subst, suc, refl, ℕ, Bool, true, false, length, not, List, [], ◌∷◌, map, Option, None, Some, string_bytes, Global, String}
 use Rattle.std.specs.Prelude.{option_map}
 use Rattle.hwdb_cli.specs.declared.job.Task.{Task}
-use Rattle.hwdb_cli.specs.declared.job.Task.TheVariants.{Ask, Diff, Dump, Explain, List as ListHits, Query, Verify}
+use Rattle.hwdb_cli.specs.declared.job.Task.TheVariants.{Ask, Check, Diff, Dump, Explain, List as ListHits, Near, Query, Verify}
 use Rattle.hwdb_spec.specs.Asked.{IsAnswered}
+use Rattle.hwdb_spec.specs.CheckedFiles.{AreCheckedFiles, AreChosenFiles, AreGivenFiles}
 use Rattle.hwdb_spec.specs.Databases.{IsTextOf}
-use Rattle.hwdb_spec.specs.Given.{is_dash, is_input}
+use Rattle.hwdb_spec.specs.Done.{IsAsked}
+use Rattle.hwdb_spec.specs.Failures.{HasFailed}
+use Rattle.hwdb_spec.specs.Folders.{Source}
+use Rattle.hwdb_spec.specs.Given.{is_input}
+use Rattle.hwdb_spec.specs.Near.{PatternAt}
+use Rattle.hwdb_spec.specs.NearAsked.{IsNear, database_patterns, near_form, near_limit}
 use Rattle.hwdb_spec.specs.Outputs.{Texts}
 use Rattle.hwdb_spec.specs.Runs.{OnOut, Told, World}
 use Rattle.hwdb_spec.specs.Store.{Contents, Outcomes}
@@ -14,24 +20,26 @@ use Rattle.hwdb_print.specs.Streams.{texts_of}
 use Rattle.hwdb_print.specs.declared.form.Form.{Form}
 use Rattle.hwdb_print.specs.declared.form.Form.TheVariants as forms
 use Rattle.hwdb_fs.specs.declared.refusals.Refusal.{Refusal}
-use Rattle.hwdb_tool.specs.OneOutcome.{IsOneInput, Scene, TellOne, scene_of}
-use Rattle.hwdb_tool.specs.OneRefusal.{DoneIsNoError, IsOfDatabase, ErrorsAreOne, ReadsFewFiles, IsOfWhatIsRead, IsOneEnd, IsOneError, NeverFails}
+use Rattle.hwdb_tool.specs.OneOutcome.{IsOneInput, ListingsGiveOneChoice, Scene, TellOne, scene_of}
+use Rattle.hwdb_tool.specs.OneRefusal.{DoneIsNoError, ErrorsAreOne, IsOfChecked, IsOfCompared, IsOfDatabase, IsOfListing, IsOfWhatIsRead, IsOneEnd, IsOneError, NeverFails, OnlyReads}
 use Rattle.hwdb_tool.specs.Program.{IsTaskDone}
 use Rattle.hwdb_tool.specs.Queries.{AreAnsweredFrom, AreUnansweredFrom, IfNamed}
 use Rattle.hwdb_tool.specs.TaskRefusals.{IsNotDone, MayPrint}
 use Rattle.hwdb_tool.specs.ComparedDatabases.{IsDiffRefused}
 use Rattle.hwdb_tool.specs.NamedDatabases.{IsDumpRefused, IsVerifyRefused}
-use Rattle.hwdb_tool.specs.Undone.{IsAskRefused, IsUnanswered, IsUnprinted, IsUnwritable}
+use Rattle.hwdb_tool.specs.NearMisses.{IsNearRefused}
+use Rattle.hwdb_tool.specs.Reasons.{HasFilesReason}
+use Rattle.hwdb_tool.specs.Undone.{AreUncheckable, IsAskRefused, IsCheckRefused, IsUnanswered, IsUnprinted, IsUnwritable}
 use Rattle.hwdb_tool.proofs.DatabaseErrorLemmas.{OneHeader, OneTree, Unanswered, Undumped, Unlisted, Unverified, answer_answer, answer_done, dump_done, dump_dump, list_done, list_list, unanswered, undumped, unlisted, unverified, verify_done, verify_verify}
 use Rattle.hwdb_tool.proofs.AskErrorLemmas.{OneForm, Unasked, ask_ask, ask_done, unasked_file}
-use Rattle.hwdb_tool.proofs.GivenLemmas.{plain_reason}
 use Rattle.hwdb_tool.proofs.RefusalLemmas.{NeverNamed}
 use Rattle.hwdb_tool.proofs.DiffErrorLemmas.{Undiffed, diff_diff, diff_done, undiffed}
+use Rattle.hwdb_tool.proofs.TextErrorLemmas.{Unchosen, Ungiven, chosen_chosen, chosen_done, given_done, given_given, never_unchecked, unchosen, ungiven}
 
 -- the reason is one of the files, if standard input isn't read
-of_files : (b : Bool) (A B : Type 0) → b ≡ false → A ⊎ ((b ≡ true) × B) → A
-of_files b A B told (inl a) = a
-of_files b A B told (inr input) = let e : false ≡ true = sym told ∙ input.0 in absurd cc
+of_files : (b : Bool) (O A B : Type 0) → b ≡ false → (O × A) ⊎ ((b ≡ true) × B) → A
+of_files b O A B told (inl a) = a.1
+of_files b O A B told (inr input) = let e : false ≡ true = sym told ∙ input.0 in absurd cc
 
 -- nothing was written
 pub record IsQuietEnd (err_before err_now out_before out_now : Told) : Type 0 where
@@ -65,17 +73,73 @@ never_named fails root files (Some given) never path is fail = never path is fai
 never_asked : (fails : List ℕ → Type 0) (root : List ℕ) (files : Contents) → ((path : List ℕ) → IsOfDatabase None root path → fails path → ⊥) → NeverNamed fails root files None
 never_asked fails root files never = never_named fails root files None never
 
+-- ---- `check` and `near`
+-- some files are given
+some_reason : (n : ℕ) (b : Bool) (P : Bool → Type 0) → (suc n == 0) ≡ b → P (not b) → P true
+some_reason n true P is h = absurd (let e = eqb-true (suc n) 0 is in omega (arith, e))
+some_reason n false P is h = h
+
+abbrev pub Unchecked : (given : List (List ℕ)) (input : Option (List ℕ)) → Contents → (root : List ℕ) → Refusal → Type 0
+Unchecked [] input files root r = Unchosen root files r
+Unchecked (path ∷ more) input files root r = Ungiven (path ∷ more) input files r
+
+module _ (fails : List ℕ → Type 0) (root : List ℕ) (files : Contents) (input : Option (List ℕ)) (n m : ℕ) (whole : HasFailed n m → ⊥) (r : Refusal) (of : IsOfWhatIsRead r) (listed : IsOfListing root r → ⊥) where
+  unchecked : (paths : List (String Global)) → ((path : List ℕ) → IsOfChecked (map string_bytes paths) root path → fails path → ⊥)
+      → IsCheckRefused (AreUncheckable (map string_bytes paths) root files) (AreCheckedFiles (map string_bytes paths) root input files) r
+      → HasFilesReason (not (length paths == 0)) (map string_bytes paths) fails files input n m r → Unchecked (map string_bytes paths) input files root r
+  unchecked [] never (inl unread) reason = unchosen root files fails never r unread reason of listed
+  unchecked [] never (inr not) reason = absurd (never_unchecked (AreChosenFiles root files) r (λ sources are. are.within) not of)
+  unchecked (path ∷ more) never (inl unread) reason =
+      let given = map string_bytes (path ∷ more) in
+      ungiven given files fails input n m never whole r unread (some_reason (length more) (suc (length more) == 0) (λ (b : Bool). HasFilesReason b given fails files input n m r) refl reason) of
+  unchecked (path ∷ more) never (inr not) reason =
+      absurd (never_unchecked (AreGivenFiles (map string_bytes (path ∷ more)) input files) r (λ sources are. are.within) not of)
+
+module _ (choice : ListingsGiveOneChoice) (root : List ℕ) (files : Contents) (told : List ℕ) where
+  check_check : (given : List (List ℕ)) (r r2 : Refusal) → Unchecked given (Some told) files root r → Unchecked given (Some told) files root r2 → IsOneError r r2
+  check_check [] r r2 one two = chosen_chosen root files choice r r2 one two
+  check_check (path ∷ more) r r2 one two = given_given (path ∷ more) files told r r2 one two
+
+  check_done : (given : List (List ℕ)) (sources : List Source) (r : Refusal) → AreCheckedFiles given root (Some told) files sources → Unchecked given (Some told) files root r → ⊥
+  check_done [] sources r done not = chosen_done root files choice sources r done not
+  check_done (path ∷ more) sources r done not = given_done (path ∷ more) told files sources done r not
+
 module _ (header : OneHeader) (tree : OneTree) where
+  abbrev pub Uncompared : (given : List (List ℕ)) (input : Option (List ℕ)) → Contents → (root : List ℕ) → Refusal → Type 0
+  Uncompared [] input files root r = Unanswered header (λ (path : List ℕ). ⊥) ⊥ root files r
+  Uncompared (path ∷ more) input files root r = Ungiven (path ∷ more) input files r
+
+  module _ (fails : List ℕ → Type 0) (root : List ℕ) (files : Contents) (input : Option (List ℕ)) (n m : ℕ) (whole : HasFailed n m → ⊥) (r : Refusal) (of : IsOfWhatIsRead r) where
+    uncompared : (paths : List (String Global)) → ((path : List ℕ) → IsOfCompared (map string_bytes paths) root path → fails path → ⊥)
+        → IsNearRefused (map string_bytes paths) root files r
+        → HasFilesReason (not (length paths == 0)) (map string_bytes paths) fails files input n m r → Uncompared (map string_bytes paths) input files root r
+    uncompared [] never refused reason = unanswered header fails ⊥ root files (never_asked fails root files never) r refused reason of
+    uncompared (path ∷ more) never unread reason =
+        let given = map string_bytes (path ∷ more) in
+        ungiven given files fails input n m never whole r unread (some_reason (length more) (suc (length more) == 0) (λ (b : Bool). HasFilesReason b given fails files input n m r) refl reason) of
+
+  near_near : (root : List ℕ) (files : Contents) (told : List ℕ) (given : List (List ℕ)) (r r2 : Refusal)
+      → Uncompared given (Some told) files root r → Uncompared given (Some told) files root r2 → IsOneError r r2
+  near_near root files told [] r r2 one two = answer_answer header (λ (path : List ℕ). ⊥) ⊥ root files r r2 one two
+  near_near root files told (path ∷ more) r r2 one two = given_given (path ∷ more) files told r r2 one two
+
+  near_done : (root : List ℕ) (files : Contents) (told : List ℕ) (form : List PatternAt → List ℕ) (given : List (List ℕ)) (text : List ℕ) (r : Refusal)
+      → IsNear given root form (Some told) files text → Uncompared given (Some told) files root r → ⊥
+  near_done root files told form [] text r done not = answer_done header (λ (path : List ℕ). ⊥) ⊥ root files (λ t. form (database_patterns t)) text r done not
+  near_done root files told form (path ∷ more) text r done not = given_done (path ∷ more) told files done.0 done.1 r not
+
   -- why a task isn't done, if its error comes of what it reads
-  abbrev pub Why : (fails : List ℕ → Type 0) (U : Type 0) (files : Contents) → Task → (root : List ℕ) → Refusal → Type 0
-  Why fails U files (Query devices json) root r = Unanswered header fails U root files r
-  Why fails U files (Explain device json) root r = Unanswered header fails U root files r
-  Why fails U files (ListHits after limit device json) root r = Unlisted header fails U root files (option_map string_bytes after) r
-  Why fails U files (Diff old new) root r = Undiffed (string_bytes old) (string_bytes new) files r
-  Why fails U files (Verify database) root r = Unverified header fails U root files (option_map string_bytes database) r
-  Why fails U files (Dump database) root r = Undumped header fails U root files (option_map string_bytes database) r
-  Why fails U files (Ask file device) root r = Unasked (string_bytes file) files r
-  Why fails U files task root r = ⊥
+  abbrev pub Why : (fails : List ℕ → Type 0) (U : Type 0) (input : Option (List ℕ)) → Contents → Task → (root : List ℕ) → Refusal → Type 0
+  Why fails U input files (Query devices json) root r = Unanswered header fails U root files r
+  Why fails U input files (Explain device json) root r = Unanswered header fails U root files r
+  Why fails U input files (ListHits after limit device json) root r = Unlisted header fails U root files (option_map string_bytes after) r
+  Why fails U input files (Diff old new) root r = Undiffed (string_bytes old) (string_bytes new) files r
+  Why fails U input files (Verify database) root r = Unverified header fails U root files (option_map string_bytes database) r
+  Why fails U input files (Dump database) root r = Undumped header fails U root files (option_map string_bytes database) r
+  Why fails U input files (Ask file device) root r = Unasked (string_bytes file) input files r
+  Why fails U input files (Check paths allowed json) root r = Unchecked (map string_bytes paths.items) input files root r
+  Why fails U input files (Near paths device limit json) root r = Uncompared (map string_bytes paths.items) input files root r
+  Why fails U input files task root r = ⊥
 
   -- what is left where a task isn't done
   pub record IsLeftThen (before now : Scene) : Type 0 where
@@ -83,7 +147,7 @@ module _ (header : OneHeader) (tree : OneTree) where
     pub out : now.out ≡ before.out
     pub files : (p : List ℕ) → now.files p ≡ before.files p
 
-  module _ (fails fails_now : List ℕ → Type 0) (left left_now : Outcomes) (root : List ℕ) (usr strict : Bool) (r : Refusal) (before now : Scene) (of : IsOfWhatIsRead r) where
+  module _ (fails fails_now : List ℕ → Type 0) (left left_now : Outcomes) (root : List ℕ) (usr strict : Bool) (r : Refusal) (before now : Scene) (of : IsOfWhatIsRead r) (whole : HasFailed before.input.failures now.input.failures → ⊥) (listed : IsOfListing root r → ⊥) where
     abbrev Unwritable : Type 0
     Unwritable = IsUnwritable (database_folder usr root) before.files before.failures now.failures
 
@@ -94,67 +158,85 @@ module _ (header : OneHeader) (tree : OneTree) where
     left_then quiet files = record { err = quiet.err; out = quiet.out; files = files }
 
     -- so is each error, and nothing was written
-    pub why : (task : Task) → ReadsFewFiles task → NeverFails fails task root → NotDone task → Why fails Unwritable before.files task root r × IsLeftThen before now
+    pub why : (task : Task) → OnlyReads task → NeverFails fails task root → NotDone task → Why fails Unwritable before.input.bytes before.files task root r × IsLeftThen before now
     why (Query devices json) kind never not =
         let found = answered_ (is_input (map string_bytes devices.items)) root (forms.Query json) (map string_bytes devices.items) before.input.bytes before.files r before.err now.err before.out now.out kind of not.0.0 in
-        (unanswered header fails Unwritable root before.files (never_asked fails root before.files never) r found.0 (of_files _ _ _ kind not.1) of, left_then found.1 not.0.1.same)
+        (unanswered header fails ⊥ root before.files (never_asked fails root before.files never) r found.0 (of_files _ _ _ _ kind not.1) of, left_then found.1 not.0.1.same)
     why (Explain device json) kind never not =
         let found = answered_ (is_input (string_bytes device ∷ [])) root (forms.Explain json) (string_bytes device ∷ []) before.input.bytes before.files r before.err now.err before.out now.out kind of not.0.0 in
-        (unanswered header fails Unwritable root before.files (never_asked fails root before.files never) r found.0 (of_files _ _ _ kind not.1) of, left_then found.1 not.0.1.same)
+        (unanswered header fails ⊥ root before.files (never_asked fails root before.files never) r found.0 (of_files _ _ _ _ kind not.1) of, left_then found.1 not.0.1.same)
     why (ListHits after limit device json) kind never not =
-        let found = unlisted header fails Unwritable root before.files (never_asked fails root before.files never) json (string_bytes device) (option_map string_bytes after) limit r before.out now.out not.0.0.0 (of_files _ _ _ refl not.1) of in
+        let found = unlisted header fails Unwritable root before.files (never_asked fails root before.files never) json (string_bytes device) (option_map string_bytes after) limit r before.out now.out not.0.0.0 not.1 of in
         (found.0, left_then record { err = not.0.0.1; out = found.1 } not.0.1.same)
     why (Diff old new) kind never not =
         let found = unprinted (IsDiffRefused (string_bytes old) (string_bytes new) before.files) (MayPrint (Diff old new) root strict before.input.bytes before.files) r before.err now.err before.out now.out of not.0.0 in
-        (undiffed header (string_bytes old) (string_bytes new) before.files fails Unwritable (never (string_bytes old) (inl refl)) (never (string_bytes new) (inr refl)) r of found.0 (of_files _ _ _ refl not.1), left_then found.1 not.0.1.same)
+        (undiffed header (string_bytes old) (string_bytes new) before.files fails Unwritable (never (string_bytes old) (inl refl)) (never (string_bytes new) (inr refl)) r of found.0 not.1, left_then found.1 not.0.1.same)
     why (Verify database) kind never not =
         let found = unprinted (IsVerifyRefused (option_map string_bytes database) root before.files) (MayPrint (Verify database) root strict before.input.bytes before.files) r before.err now.err before.out now.out of not.0.0 in
-        (unverified header fails Unwritable root before.files (option_map string_bytes database) (never_named fails root before.files (option_map string_bytes database) never) r found.0 (of_files _ _ _ refl not.1) of, left_then found.1 not.0.1.same)
+        (unverified header fails Unwritable root before.files (option_map string_bytes database) (never_named fails root before.files (option_map string_bytes database) never) r found.0 not.1 of, left_then found.1 not.0.1.same)
     why (Dump database) kind never not =
         let found = unprinted (IsDumpRefused (option_map string_bytes database) root before.files) (MayPrint (Dump database) root strict before.input.bytes before.files) r before.err now.err before.out now.out of not.0.0 in
-        (undumped header fails Unwritable root before.files (option_map string_bytes database) (never_named fails root before.files (option_map string_bytes database) never) r found.0 (of_files _ _ _ refl not.1) of, left_then found.1 not.0.1.same)
+        (undumped header fails Unwritable root before.files (option_map string_bytes database) (never_named fails root before.files (option_map string_bytes database) never) r found.0 not.1 of, left_then found.1 not.0.1.same)
     why (Ask file device) kind never not =
         let found = unprinted (IsAskRefused (string_bytes file) before.input.bytes before.files) (MayPrint (Ask file device) root strict before.input.bytes before.files) r before.err now.err before.out now.out of not.0.0 in (
-          unasked_file (string_bytes file) before.input.bytes before.files fails Unwritable (never (string_bytes file) refl) r of kind found.0
-              (plain_reason fails Unwritable before.files before.input.bytes before.input.failures now.input.failures (is_dash (string_bytes file)) r kind not.1),
+          unasked_file (string_bytes file) before.input.bytes before.files fails before.input.failures now.input.failures (never (string_bytes file) refl) whole r of found.0 not.1,
           left_then found.1 not.0.1.same,
         )
+    why (Check paths allowed json) kind never not =
+        let given = map string_bytes paths.items in
+        let found = unprinted (IsCheckRefused (AreUncheckable given root before.files) (AreCheckedFiles given root before.input.bytes before.files)) (MayPrint (Check paths allowed json) root strict before.input.bytes before.files) r before.err now.err before.out now.out of not.0.0 in
+        (unchecked fails root before.files before.input.bytes before.input.failures now.input.failures whole r of listed paths.items never found.0 not.1, left_then found.1 not.0.1.same)
+    why (Near paths device limit json) kind never not =
+        let found = unprinted (IsNearRefused (map string_bytes paths.items) root before.files) (MayPrint (Near paths device limit json) root strict before.input.bytes before.files) r before.err now.err before.out now.out of not.0.0 in
+        (uncompared fails root before.files before.input.bytes before.input.failures now.input.failures whole r of paths.items never found.0 not.1, left_then found.1 not.0.1.same)
     why task kind never not = absurd kind
 
   -- two of them are one
-  one_why : (fails fails2 : List ℕ → Type 0) (U U2 : Type 0) (files : Contents) (root : List ℕ) (r r2 : Refusal) (task : Task) → ReadsFewFiles task
-      → Why fails U files task root r → Why fails2 U2 files task root r2 → IsOneError r r2
-  one_why fails fails2 U U2 files root r r2 (Query devices json) kind one two = answer_answer header fails U root files r r2 one two
-  one_why fails fails2 U U2 files root r r2 (Explain device json) kind one two = answer_answer header fails U root files r r2 one two
-  one_why fails fails2 U U2 files root r r2 (ListHits after limit device json) kind one two = list_list header fails U root files (option_map string_bytes after) r r2 one two
-  one_why fails fails2 U U2 files root r r2 (Diff old new) kind one two = diff_diff header (string_bytes old) (string_bytes new) files r r2 one two
-  one_why fails fails2 U U2 files root r r2 (Verify database) kind one two = verify_verify header fails U root files (option_map string_bytes database) r r2 one two
-  one_why fails fails2 U U2 files root r r2 (Dump database) kind one two = dump_dump header fails U root files tree (option_map string_bytes database) r r2 one two
-  one_why fails fails2 U U2 files root r r2 (Ask file device) kind one two = ask_ask (string_bytes file) None files r r2 one two
-  one_why fails fails2 U U2 files root r r2 task kind one two = absurd kind
+  module _ (choice : ListingsGiveOneChoice) (told : List ℕ) where
+    one_why : (fails fails2 : List ℕ → Type 0) (U U2 : Type 0) (files : Contents) (root : List ℕ) (r r2 : Refusal) (task : Task) → OnlyReads task
+        → Why fails U (Some told) files task root r → Why fails2 U2 (Some told) files task root r2 → IsOneError r r2
+    one_why fails fails2 U U2 files root r r2 (Query devices json) kind one two = answer_answer header fails U root files r r2 one two
+    one_why fails fails2 U U2 files root r r2 (Explain device json) kind one two = answer_answer header fails U root files r r2 one two
+    one_why fails fails2 U U2 files root r r2 (ListHits after limit device json) kind one two = list_list header fails U root files (option_map string_bytes after) r r2 one two
+    one_why fails fails2 U U2 files root r r2 (Diff old new) kind one two = diff_diff header (string_bytes old) (string_bytes new) files r r2 one two
+    one_why fails fails2 U U2 files root r r2 (Verify database) kind one two = verify_verify header fails U root files (option_map string_bytes database) r r2 one two
+    one_why fails fails2 U U2 files root r r2 (Dump database) kind one two = dump_dump header fails U root files tree (option_map string_bytes database) r r2 one two
+    one_why fails fails2 U U2 files root r r2 (Ask file device) kind one two = ask_ask (string_bytes file) told files r r2 one two
+    one_why fails fails2 U U2 files root r r2 (Check paths allowed json) kind one two = check_check choice root files told (map string_bytes paths.items) r r2 one two
+    one_why fails fails2 U U2 files root r r2 (Near paths device limit json) kind one two = near_near root files told (map string_bytes paths.items) r r2 one two
+    one_why fails fails2 U U2 files root r r2 task kind one two = absurd kind
 
   same_told : (one two one_now two_now : Told) → TellOne one two → one_now ≡ one → two_now ≡ two → one_now.bytes ≡ two_now.bytes
   same_told one two one_now two_now tell kept kept2 = ap (λ (t : Told). t.bytes) kept ∙ tell.of_one ∙ sym tell.of_two ∙ sym (ap (λ (t : Told). t.bytes) kept2)
 
-  pub end_of : (fails fails2 : List ℕ → Type 0) (U U2 : Type 0) (root : List ℕ) (r r2 : Refusal) (before now before2 now2 : Scene) → IsOneInput before before2
-      → (task : Task) → ReadsFewFiles task → Why fails U before.files task root r → Why fails2 U2 before2.files task root r2 → IsLeftThen before now → IsLeftThen before2 now2 → IsOneEnd r r2 now now2
-  end_of fails fails2 U U2 root r r2 before now before2 now2 input task kind one two left left2 = record {
-    one_error = one_why fails fails2 U U2 before.files root r r2 task kind one (subst (λ (f : Contents). Why fails2 U2 f task root r2) input.files two);
-    one_files = λ p. left2.files p ∙ ap (λ (f : Contents). f p) input.files ∙ sym (left.files p);
-    one_err = same_told before.err before2.err now.err now2.err input.err left.err left2.err;
-    one_out = same_told before.out before2.out now.out now2.out input.out left.out left2.out;
-  }
+  -- what is told of it by both runs
+  one_told : (fails : List ℕ → Type 0) (U : Type 0) (input : Option (List ℕ)) (told : List ℕ) (files : Contents) (task : Task) (root : List ℕ) (r : Refusal) → input ≡ Some told
+      → Why fails U input files task root r → Why fails U (Some told) files task root r
+  one_told fails U input told files task root r is one = subst (λ (i : Option (List ℕ)). Why fails U i files task root r) is one
 
-  pub errors_are_one : (fails fails_now fails2 fails2_now : List ℕ → Type 0) (left left_now left2 left2_now : Outcomes) → ErrorsAreOne fails fails_now fails2 fails2_now left left_now left2 left2_now
-  errors_are_one fails fails_now fails2 fails2_now left left_now left2 left2_now = λ task root usr strict r r2 before now before2 now2 kind input never never2 of of2 not not2.
-      let one = why fails fails_now left left_now root usr strict r before now of task kind never not in
-      let two = why fails2 fails2_now left2 left2_now root usr strict r2 before2 now2 of2 task kind never2 not2 in
-      end_of fails fails2 (IsUnwritable (database_folder usr root) before.files before.failures now.failures) (IsUnwritable (database_folder usr root) before2.files before2.failures now2.failures)
+  pub end_of : ListingsGiveOneChoice → (fails fails2 : List ℕ → Type 0) (U U2 : Type 0) (root : List ℕ) (r r2 : Refusal) (before now before2 now2 : Scene) → IsOneInput before before2
+      → (task : Task) → OnlyReads task → Why fails U before.input.bytes before.files task root r → Why fails2 U2 before2.input.bytes before2.files task root r2
+      → IsLeftThen before now → IsLeftThen before2 now2 → IsOneEnd r r2 now now2
+  end_of choice fails fails2 U U2 root r r2 before now before2 now2 input task kind one two left left2 =
+      let told = input.input.bytes in
+      record {
+        one_error = one_why choice told fails fails2 U U2 before.files root r r2 task kind (one_told fails U before.input.bytes told before.files task root r input.input.of_one one)
+            (subst (λ (f : Contents). Why fails2 U2 (Some told) f task root r2) input.files (one_told fails2 U2 before2.input.bytes told before2.files task root r2 input.input.of_two two));
+        one_files = λ p. left2.files p ∙ ap (λ (f : Contents). f p) input.files ∙ sym (left.files p);
+        one_err = same_told before.err before2.err now.err now2.err input.err left.err left2.err;
+        one_out = same_told before.out before2.out now.out now2.out input.out left.out left2.out;
+      }
+
+  pub errors_are_one : ListingsGiveOneChoice → (fails fails_now fails2 fails2_now : List ℕ → Type 0) (left left_now left2 left2_now : Outcomes) → ErrorsAreOne fails fails_now fails2 fails2_now left left_now left2 left2_now
+  errors_are_one choice fails fails_now fails2 fails2_now left left_now left2 left2_now = λ task root usr strict r r2 before now before2 now2 kind input is is2 not not2.
+      let one = why fails fails_now left left_now root usr strict r before now is.of is.told is.listed task kind is.never not in
+      let two = why fails2 fails2_now left2 left2_now root usr strict r2 before2 now2 is2.of is2.told is2.listed task kind is2.never not2 in
+      end_of choice fails fails2 (IsUnwritable (database_folder usr root) before.files before.failures now.failures) (IsUnwritable (database_folder usr root) before2.files before2.failures now2.failures)
       root r r2 before now before2 now2 input task kind one.0 two.0 one.1 two.1
 
   -- what is done is no such error
-  module _ (form : OneForm) (fails2 : List ℕ → Type 0) (U : Type 0) (root : List ℕ) (usr strict : Bool) (status : ℕ) (r : Refusal) (before now : World) where
-    pub not_both_ends : (task : Task) → ReadsFewFiles task → IsTaskDone task root usr strict status before now → Why fails2 U before.files.seen task root r → ⊥
+  module _ (choice : ListingsGiveOneChoice) (form : OneForm) (fails2 : List ℕ → Type 0) (U : Type 0) (root : List ℕ) (usr strict : Bool) (status : ℕ) (r : Refusal) (before now : World) (told : List ℕ) (tells : before.input.bytes ≡ Some told) where
+    pub not_both_ends : (task : Task) → OnlyReads task → IsTaskDone task root usr strict status before now → Why fails2 U (Some told) before.files.seen task root r → ⊥
     not_both_ends (Query devices json) kind done not =
         let printed = given_printed (is_input (map string_bytes devices.items)) before.input.bytes _ kind done.0 in
         answer_done header fails2 U root before.files.seen (texts_of (forms.Query json) (map string_bytes devices.items)) printed.texts.out r
@@ -169,12 +251,24 @@ module _ (header : OneHeader) (tree : OneTree) where
     not_both_ends (Verify database) kind done not = verify_done header fails2 U root before.files.seen (option_map string_bytes database) done.0.texts.out r done.0.are.1.1 not
     not_both_ends (Dump database) kind done not = dump_done header fails2 U root before.files.seen tree (option_map string_bytes database) done.0.texts.out r done.0.are.1.1 not
     not_both_ends (Ask file device) kind done not =
-        ask_done (string_bytes file) before.input.bytes before.files.seen form (string_bytes device) done.0.texts r kind done.0.are.1 not
+        ask_done (string_bytes file) told before.files.seen form (string_bytes device) done.0.texts r
+        (subst (λ (i : Option (List ℕ)). IsAsked (string_bytes file) (string_bytes device) i before.files.seen done.0.texts) tells done.0.are.1) not
+    not_both_ends (Check paths allowed json) kind done not =
+        let given = map string_bytes paths.items in
+        let are = done.0.are.1 in
+        check_done choice root before.files.seen told given are.sources r
+        (subst (λ (i : Option (List ℕ)). AreCheckedFiles given root i before.files.seen are.sources) tells are.are) not
+    not_both_ends (Near paths device limit json) kind done not =
+        let given = map string_bytes paths.items in
+        let form = near_form json (string_bytes device) (near_limit limit) in
+        near_done root before.files.seen told form given done.0.texts.out r
+        (subst (λ (i : Option (List ℕ)). IsNear given root form i before.files.seen done.0.texts.out) tells done.0.are.1.1) not
     not_both_ends task kind done not = absurd kind
 
-  pub done_is_no_error : OneForm → (fails fails_now fails2 fails2_now : List ℕ → Type 0) (left left_now left2 left2_now : Outcomes) → DoneIsNoError fails fails_now fails2 fails2_now left left_now left2 left2_now
-  done_is_no_error form fails fails_now fails2 fails2_now left left_now left2 left2_now = λ task root usr strict status r before now before2 now2 kind input never2 of done not.
-      let two = why fails2 fails2_now left2 left2_now root usr strict r before2 now2 of task kind never2 not in
+  pub done_is_no_error : ListingsGiveOneChoice → OneForm → (fails fails_now fails2 fails2_now : List ℕ → Type 0) (left left_now left2 left2_now : Outcomes) → DoneIsNoError fails fails_now fails2 fails2_now left left_now left2 left2_now
+  done_is_no_error choice form fails fails_now fails2 fails2_now left left_now left2 left2_now = λ task root usr strict status r before now before2 now2 kind input is done not.
+      let two = why fails2 fails2_now left2 left2_now root usr strict r before2 now2 is.of is.told is.listed task kind is.never not in
       let U2 = IsUnwritable (database_folder usr root) before2.files before2.failures now2.failures in
-      not_both_ends form fails2 U2 root usr strict status r (scene_of fails left before) (scene_of fails_now left_now now) task kind done
-      (subst (λ (f : Contents). Why fails2 U2 f task root r) input.files two.0)
+      let told = input.input.bytes in
+      not_both_ends choice form fails2 U2 root usr strict status r (scene_of fails left before) (scene_of fails_now left_now now) told input.input.of_one task kind done
+      (subst (λ (f : Contents). Why fails2 U2 (Some told) f task root r) input.files (one_told fails2 U2 before2.input.bytes told before2.files task root r input.input.of_two two.0))

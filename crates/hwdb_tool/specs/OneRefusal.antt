@@ -1,8 +1,11 @@
 -- What a task refuses is one error, and none is refused that is done: what two outcomes over one input have in common, if one
 -- of them or both are errors. Our choice.
-use Rattle.std.specs.Prelude.{◌<◌, ◌≡◌, ◌⊎◌, ℕ, Bool, Contains, IfSome, List, None, Option, Some, codes, false, length, map, option_map, string_bytes, true}
+use Rattle.std.specs.Prelude.{◌++◌, ◌<◌, ◌∷◌, ◌≡◌, ◌⊎◌, [], ℕ, Bool, Contains, IfSome, List, None, Option, Some, codes, false, length, map, option_map, string_bytes, true}
 use Rattle.hwdb_spec.specs.Asked.{database_path}
 use Rattle.hwdb_spec.specs.Failures.{HasFailed}
+use Rattle.hwdb_spec.specs.Given.{is_input}
+use Rattle.hwdb_spec.specs.System.{etc_files, usr_files}
+use Rattle.hwdb_spec.specs.ManyDevices.{HasLongLine}
 use Rattle.hwdb_spec.specs.Texts.{max_file}
 use Rattle.hwdb_spec.specs.Verdicts.{verdict_text}
 use Rattle.hwdb_spec.specs.declared.DbFault.{DbFault}
@@ -15,7 +18,7 @@ use Rattle.hwdb_cli.specs.declared.job.Task.TheVariants.{Ask, Check, Diff, Dump,
 use Rattle.hwdb_spec.specs.Runs.{Told}
 use Rattle.hwdb_spec.specs.Store.{Outcomes}
 use Rattle.hwdb_tool.specs.OneOutcome.{IsOneInput, Scene, scene_of}
-use Rattle.hwdb_tool.specs.Program.{IsJobDone, IsTaskDone, reads_input, root_of}
+use Rattle.hwdb_tool.specs.Program.{IsJobDone, IsTaskDone, reads_input, root_of, streams}
 use Rattle.hwdb_tool.specs.TaskRefusals.{AreRefused, IsJobRefused, IsNotDone, IsRootRefused}
 use Rattle.hwdb_fs.specs.Refusals.{IsOver}
 use Rattle.hwdb_fs.specs.declared.refusals.Refusal.{Refusal}
@@ -51,24 +54,42 @@ IsOneError NoDatabase NoDatabase = Unit {0}
 IsOneError (InWords text) (InWords text2) = IsOneText text.items text2.items
 IsOneError refusal refusal2 = ⊥
 
--- the task reads a database, or two, or one text file, and no standard input
-abbrev pub ReadsFewFiles : Task → Type 0
-ReadsFewFiles (Query devices json) = reads_input (Query devices json) ≡ false
-ReadsFewFiles (Explain device json) = reads_input (Explain device json) ≡ false
-ReadsFewFiles (ListHits after limit device json) = Unit {0}
-ReadsFewFiles (Ask file device) = reads_input (Ask file device) ≡ false
-ReadsFewFiles (Diff old new) = Unit {0}
-ReadsFewFiles (Verify database) = Unit {0}
-ReadsFewFiles (Dump database) = Unit {0}
-ReadsFewFiles task = ⊥
+-- the task only reads, and standard input doesn't name devices, which are answered as they come
+abbrev pub OnlyReads : Task → Type 0
+OnlyReads (Query devices json) = is_input (map string_bytes devices.items) ≡ false
+OnlyReads (Explain device json) = is_input (string_bytes device ∷ []) ≡ false
+OnlyReads (ListHits after limit device json) = Unit {0}
+OnlyReads (Ask file device) = Unit {0}
+OnlyReads (Check files allowed json) = Unit {0}
+OnlyReads (Near files device limit json) = Unit {0}
+OnlyReads (Diff old new) = Unit {0}
+OnlyReads (Verify database) = Unit {0}
+OnlyReads (Dump database) = Unit {0}
+OnlyReads task = ⊥
 
 -- the path is one of a database that is read: the given one, or without one that of /etc's or of /usr/lib's
 abbrev pub IsOfDatabase : (given : Option (List ℕ)) (root path : List ℕ) → Type 0
 IsOfDatabase None root path = (path ≡ database_path false root) ⊎ (path ≡ database_path true root)
 IsOfDatabase (Some given) root path = path ≡ given
 
+-- the path is that of one of the two folders of text files, or begins with it
+abbrev pub IsOfFolders : (root path : List ℕ) → Type 0
+IsOfFolders root path = (rest : List ℕ) × ((path ≡ etc_files root ++ rest) ⊎ (path ≡ usr_files root ++ rest))
+
+-- the path is one that `check` reads: a given one, or without one that of a text file of the folders
+abbrev pub IsOfChecked : (given : List (List ℕ)) (root path : List ℕ) → Type 0
+IsOfChecked [] root path = IsOfFolders root path
+IsOfChecked (first ∷ more) root path = Contains (first ∷ more) path
+
+-- the path is one that `near` reads: a given one, or without one that of a database
+abbrev pub IsOfCompared : (given : List (List ℕ)) (root path : List ℕ) → Type 0
+IsOfCompared [] root path = IsOfDatabase None root path
+IsOfCompared (first ∷ more) root path = Contains (first ∷ more) path
+
 -- such a task may read the path
 abbrev pub MayRead : Task → (root path : List ℕ) → Type 0
+MayRead (Check files allowed json) root path = IsOfChecked (map string_bytes files.items) root path
+MayRead (Near files device limit json) root path = IsOfCompared (map string_bytes files.items) root path
 MayRead (Ask file device) root path = path ≡ string_bytes file
 MayRead (Diff old new) root path = (path ≡ string_bytes old) ⊎ (path ≡ string_bytes new)
 MayRead (Verify database) root path = IsOfDatabase (option_map string_bytes database) root path
@@ -79,6 +100,18 @@ MayRead task root path = IsOfDatabase None root path
 abbrev pub NeverFails : (fails : (path : List ℕ) → Type 0) → Task → (root : List ℕ) → Type 0
 NeverFails fails task root = (path : List ℕ) → MayRead task root path → fails path → ⊥
 
+-- the error says that a folder's listing is longer than a file may be
+abbrev pub IsOfListing : (root : List ℕ) → Refusal → Type 0
+IsOfListing root refusal = IsOver TooLong (etc_files root) refusal ⊎ IsOver TooLong (usr_files root) refusal
+
+-- The error of a task comes of what it reads: no reading may fail, and none of standard input has. Memory was granted, both
+-- outputs took what they were given, and both folders could be listed.
+pub record IsOfReading (fails : (path : List ℕ) → Type 0) (task : Task) (root : List ℕ) (before now : Scene) (refusal : Refusal) : Type 0 where
+  pub never : NeverFails fails task root
+  pub told : HasFailed before.input.failures now.input.failures → ⊥
+  pub of : IsOfWhatIsRead refusal
+  pub listed : IsOfListing root refusal → ⊥
+
 -- two runs that end with an error over one input end alike: with one error, and files and outputs are the same
 pub record IsOneEnd (refusal refusal2 : Refusal) (now now2 : Scene) : Type 0 where
   pub one_error : IsOneError refusal refusal2
@@ -87,12 +120,12 @@ pub record IsOneEnd (refusal refusal2 : Refusal) (now now2 : Scene) : Type 0 whe
   pub one_out : now.out.bytes ≡ now2.out.bytes
 
 -- ---- laws
--- If its reading can't fail, such a task ends with one error over one input, which comes of what it reads.
--- What a crash may leave, and which readings may fail later, is any.
+-- Such a task ends with one error over one input, if its errors come of what it reads. What a crash may leave, and which readings may
+-- fail later, is any.
 abbrev pub ErrorsAreOne : (fails fails_now fails2 fails2_now : (path : List ℕ) → Type 0) (left left_now left2 left2_now : Outcomes) → Type 0
 ErrorsAreOne fails fails_now fails2 fails2_now left left_now left2 left2_now =
     (task : Task) (root : List ℕ) (usr strict : Bool) (refusal refusal2 : Refusal) (before now before2 now2 : Scene)
-    → ReadsFewFiles task → IsOneInput before before2 → NeverFails fails task root → NeverFails fails2 task root → IsOfWhatIsRead refusal → IsOfWhatIsRead refusal2
+    → OnlyReads task → IsOneInput before before2 → IsOfReading fails task root before now refusal → IsOfReading fails2 task root before2 now2 refusal2
     → IsNotDone task root usr strict (scene_of fails left before) (scene_of fails_now left_now now) refusal
     → IsNotDone task root usr strict (scene_of fails2 left2 before2) (scene_of fails2_now left2_now now2) refusal2
     → IsOneEnd refusal refusal2 now now2
@@ -101,7 +134,7 @@ ErrorsAreOne fails fails_now fails2 fails2_now left left_now left2 left2_now =
 abbrev pub DoneIsNoError : (fails fails_now fails2 fails2_now : (path : List ℕ) → Type 0) (left left_now left2 left2_now : Outcomes) → Type 0
 DoneIsNoError fails fails_now fails2 fails2_now left left_now left2 left2_now =
     (task : Task) (root : List ℕ) (usr strict : Bool) (status : ℕ) (refusal : Refusal) (before now before2 now2 : Scene)
-    → ReadsFewFiles task → IsOneInput before before2 → NeverFails fails2 task root → IsOfWhatIsRead refusal
+    → OnlyReads task → IsOneInput before before2 → IsOfReading fails2 task root before2 now2 refusal
     → IsTaskDone task root usr strict status (scene_of fails left before) (scene_of fails_now left_now now)
     → IsNotDone task root usr strict (scene_of fails2 left2 before2) (scene_of fails2_now left2_now now2) refusal → ⊥
 
@@ -119,19 +152,26 @@ ReadsTexts (Check files allowed json) = Unit {0}
 ReadsTexts (Near files device limit json) = Unit {0}
 ReadsTexts task = ⊥
 
--- If such a task reads standard input, it says that this can't be read only if a call of it failed. A file may have that name, too.
+-- If a task reads standard input, it says that this can't be read only if a call of it failed. A text file may have that name, too.
 abbrev pub InputIsRead : (fails fails_now : (path : List ℕ) → Type 0) (left left_now : Outcomes) → Type 0
 InputIsRead fails fails_now left left_now = (task : Task) (root : List ℕ) (usr strict : Bool) (refusal : Refusal) (before now : Scene)
-    → ReadsTexts task → reads_input task ≡ true → IsOver Read (codes "standard input") refusal
+    → reads_input task ≡ true → IsOver Read (codes "standard input") refusal
     → IsNotDone task root usr strict (scene_of fails left before) (scene_of fails_now left_now now) refusal
     → HasFailed before.input.failures now.input.failures ⊎ NamesFile task (codes "standard input")
 
--- And it says that this is too long only if it has more bytes than a file may have, where it tells them.
+-- And a task that reads text files says that this is too long only if it has more bytes than a file may have, where it tells them.
 abbrev pub InputIsLong : (fails fails_now : (path : List ℕ) → Type 0) (left left_now : Outcomes) → Type 0
 InputIsLong fails fails_now left left_now = (task : Task) (root : List ℕ) (usr strict : Bool) (refusal : Refusal) (before now : Scene)
     → ReadsTexts task → reads_input task ≡ true → IsOver TooLong (codes "standard input") refusal
     → IsNotDone task root usr strict (scene_of fails left before) (scene_of fails_now left_now now) refusal
     → IfSome before.input.bytes (λ told. max_file < length told) ⊎ NamesFile task (codes "standard input")
+
+-- And one that answers the devices that it names says that a line of it is too long only if it has such a line.
+abbrev pub LineIsLong : (fails fails_now : (path : List ℕ) → Type 0) (left left_now : Outcomes) → Type 0
+LineIsLong fails fails_now left left_now = (task : Task) (root : List ℕ) (usr strict : Bool) (refusal : Refusal) (before now : Scene)
+    → streams task ≡ true → IsOver TooLong (codes "a line of standard input") refusal
+    → IsNotDone task root usr strict (scene_of fails left before) (scene_of fails_now left_now now) refusal
+    → IfSome before.input.bytes (HasLongLine max_file)
 
 -- ---- of words
 -- what a run leaves but for standard error, on which the line of an error comes yet
@@ -146,8 +186,8 @@ JobEndsInOneError fails fails_now fails2 fails2_now left left_now left2 left2_no
     → IsOneInput before before2
     → (one : IsJobRefused words status (scene_of fails left before) (scene_of fails_now left_now now))
     → (two : IsJobRefused words status2 (scene_of fails2 left2 before2) (scene_of fails2_now left2_now now2))
-    → ReadsFewFiles one.job.task → NeverFails fails one.job.task (root_of one.job) → NeverFails fails2 two.job.task (root_of two.job)
-    → IsOfWhatIsRead one.refusal → IsOfWhatIsRead two.refusal
+    → OnlyReads one.job.task
+    → IsOfReading fails one.job.task (root_of one.job) before now one.refusal → IsOfReading fails2 two.job.task (root_of two.job) before2 now2 two.refusal
     → (status ≡ status2) × IsOneEnd one.refusal two.refusal (scene_then one.err_then now) (scene_then two.err_then now2)
 
 -- What they ask for isn't done over an input over which it may end so.
@@ -156,7 +196,7 @@ DoneJobIsNoError fails fails_now fails2 fails2_now left left_now left2 left2_now
     (words : List (List ℕ)) (status status2 : ℕ) (before now before2 now2 : Scene) → IsOneInput before before2
     → (done : IsJobDone words status (scene_of fails left before) (scene_of fails_now left_now now))
     → (refused : IsJobRefused words status2 (scene_of fails2 left2 before2) (scene_of fails2_now left2_now now2))
-    → ReadsFewFiles done.job.task → NeverFails fails2 refused.job.task (root_of refused.job) → IsOfWhatIsRead refused.refusal → ⊥
+    → OnlyReads done.job.task → IsOfReading fails2 refused.job.task (root_of refused.job) before2 now2 refused.refusal → ⊥
 
 -- The root is entered, if looking at it can't fail, but for want of memory.
 abbrev pub RootIsEntered : (fails fails_now : (path : List ℕ) → Type 0) (left left_now : Outcomes) → Type 0

@@ -10,7 +10,7 @@ use Rattle.hwdb_cli.specs.declared.job.Task.{Task}
 use Rattle.hwdb_cli.specs.declared.job.WordsFault.TheVariants as words_fault
 use Rattle.hwdb_cli.specs.declared.job.WordsFault.{WordsFault}
 use Rattle.hwdb_spec.specs.Failures.{IsOneLine}
-use Rattle.hwdb_spec.specs.Given.{is_dash}
+use Rattle.hwdb_spec.specs.Given.{is_dash, is_input}
 use Rattle.hwdb_spec.specs.Runs.{AreKept, Told, WasCut, World}
 use Rattle.hwdb_spec.specs.Store.{Contents}
 use Rattle.hwdb_spec.specs.System.{database_folder}
@@ -21,9 +21,9 @@ use Rattle.hwdb_spec.specs.CheckedFiles.{AreCheckedFiles}
 use Rattle.hwdb_tool.specs.ComparedDatabases.{IsDiffRefused}
 use Rattle.hwdb_tool.specs.NearMisses.{IsNearRefused}
 use Rattle.hwdb_tool.specs.NamedDatabases.{IsDumpRefused, IsVerifyRefused}
-use Rattle.hwdb_tool.specs.Queries.{AreUnanswered, IsInputUnread}
-use Rattle.hwdb_tool.specs.Program.{IsAnswerOf, IsJobDone, IsTold, IsUpdate, looks_below_root, reads_input, root_of}
-use Rattle.hwdb_tool.specs.Reasons.{HasFilesReason, HasGivenReason}
+use Rattle.hwdb_tool.specs.Queries.{AreUnanswered}
+use Rattle.hwdb_tool.specs.Program.{IsAnswerOf, IsJobDone, IsTold, IsUpdate, looks_below_root, root_of}
+use Rattle.hwdb_tool.specs.Reasons.{HasAskedReason, HasFilesReason, HasGivenReason}
 use Rattle.hwdb_fs.specs.Refusals.{HasReason, IsAt, IsUnentered, IsUnreadable, Refused, refusal_line, refusal_text}
 use Rattle.hwdb_fs.specs.declared.refusals.Refusal.TheVariants.{Plain}
 use Rattle.hwdb_fs.specs.declared.refusals.Refusal.{Refusal}
@@ -71,6 +71,10 @@ IsUnreadableFor _ = IsUnreadableIf false
 
 -- What the error of a task says of a path, or of standard input, is so. If the words name text files, `-` is standard input.
 abbrev pub IsTaskReason : Task → (root : List ℕ) (usr : Bool) (before now : World) → Refusal → Type 0
+IsTaskReason (Query devices json) root usr before now refusal =
+    HasAskedReason (is_input (map string_bytes devices.items)) root before.files.fails before.files.seen before.input.bytes before.input.failures now.input.failures refusal
+IsTaskReason (Explain device json) root usr before now refusal =
+    HasAskedReason (is_dash (string_bytes device)) root before.files.fails before.files.seen before.input.bytes before.input.failures now.input.failures refusal
 IsTaskReason (Ask file device) root usr before now refusal =
     HasGivenReason (is_dash (string_bytes file)) before.files.fails before.files.seen before.input.bytes before.input.failures now.input.failures refusal
 IsTaskReason (Check files allowed json) root usr before now refusal =
@@ -80,7 +84,6 @@ IsTaskReason (Near files device limit json) root usr before now refusal =
 IsTaskReason task root usr before now refusal =
     HasReason (IsUnreadableFor task before.files.fails before.files.seen)
     (IsUnwritable (database_folder usr root) before.files.seen before.files.failures now.files.failures) before.files.seen refusal
-    ⊎ ((reads_input task ≡ true) × IsInputUnread before.input.bytes before.input.failures now.input.failures refusal)
 
 -- a task is refused, and for its reason
 abbrev pub IsNotDone : Task → (root : List ℕ) (usr strict : Bool) (before now : World) → Refusal → Type 0

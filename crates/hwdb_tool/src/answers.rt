@@ -1,5 +1,5 @@
 //! What devices get: from the database, or from one text file.
-ghost use Rattle.std.specs.Prelude.{[], ◌∷◌, ◌≡◌, ◌≤◌, ◌⊎◌, true, false, option_map, IfErr, IfOk};
+ghost use Rattle.std.specs.Prelude.{[], ◌∷◌, ◌≡◌, ◌≤◌, false, option_map, IfErr, IfOk};
 ghost use Rattle.hwdb_spec.specs.Asked.{IsAnswered, IsListFrom};
 ghost use Rattle.hwdb_spec.specs.Databases.{IsTextOf};
 ghost use Rattle.hwdb_spec.specs.Done.{IsAsked};
@@ -8,8 +8,8 @@ ghost use Rattle.hwdb_spec.specs.Outputs.{TookOne};
 ghost use Rattle.hwdb_spec.specs.Runs.{OnOut, told_by};
 ghost use Rattle.hwdb_print.specs.Streams.{texts_of};
 ghost use Rattle.hwdb_fs.specs.Refusals.{HasReason};
-ghost use Rattle.hwdb_tool.specs.Queries.{AreDone, AreUnanswered, IsInputUnread};
-ghost use Rattle.hwdb_tool.specs.Reasons.{HasGivenReason};
+ghost use Rattle.hwdb_tool.specs.Queries.{AreDone, AreUnanswered};
+ghost use Rattle.hwdb_tool.specs.Reasons.{HasAskedReason, HasGivenReason};
 ghost use Rattle.hwdb_tool.specs.Undone.{IsAskRefused, IsListRefused, IsUnanswered};
 ghost use Rattle.hwdb_tool.specs.Views.{texts_in};
 
@@ -46,10 +46,9 @@ pub fn explain<D: System, I: Source, O: Sink, E: Sink>(
         (told_by E.taken E.failures err.old) (told_by E.taken E.failures err.new)
         (told_by O.taken O.failures out.old) (told_by O.taken O.failures out.new)) }
     ensures unread { is_dash device.now ≡ false → input.new ≡ input.old }
-    ensures reason { IfErr result (λ r.
-        HasReason (D.System.may_fail system.now) ⊥ (D.Store.seen system.now) r
-        ⊎ ((is_dash device.now ≡ true)
-        × IsInputUnread (I.left input.old) (I.failures input.old) (I.failures input.new) r)) }
+    ensures reason { D.Store.tells → IfErr result (HasAskedReason
+        (is_dash device.now) root.now (D.System.may_fail system.now)
+        (D.Store.seen system.now) (I.left input.old) (I.failures input.old) (I.failures input.new)) }
 {
     if is_dash(device) {
         return answer_input(alloc, root, Form::Explain { json }, system, input, out);

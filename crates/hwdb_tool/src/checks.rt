@@ -1,5 +1,5 @@
 //! `check`: text files that are read and looked over. Nothing is written.
-ghost use Rattle.std.specs.Prelude.{◌≡◌, ◌==◌, true, false, not, map, string_bytes, IfOk, IfErr, length};
+ghost use Rattle.std.specs.Prelude.{◌≡◌, ◌≤◌, ◌==◌, All, true, false, not, map, string_bytes, IfOk, IfErr, length};
 ghost use Rattle.hwdb_lint.specs.Checks.{source_of};
 ghost use Rattle.hwdb_spec.specs.Runs.{OnOut};
 ghost use Rattle.hwdb_spec.specs.Folders.{path_of};
@@ -9,6 +9,7 @@ ghost use Rattle.hwdb_spec.specs.CheckedFiles.{AreCheckedFiles, AreChosenFiles, 
 ghost use Rattle.hwdb_tool.specs.Internal.{AreTextsGiven};
 ghost use Rattle.hwdb_tool.specs.Reasons.{HasFilesReason, IsFileReason};
 ghost use Rattle.hwdb_spec.specs.Given.{any_dash};
+ghost use Rattle.hwdb_spec.specs.Texts.{max_file};
 ghost use Rattle.hwdb_tool.specs.Undone.{AreNotChecked, AreUncheckable, IsCheckRefused, IsGivenUnread};
 ghost use Rattle.hwdb_fs.specs.Reading.{AreUnread};
 ghost use Rattle.hwdb_tool.specs.Views.{texts_in};
@@ -138,6 +139,8 @@ pub fn read_given<D: System>(
     ensures read { D.Store.tells → IfOk result (λ texts. AreTextsGiven text.now
         (D.Store.seen system.now) (map string_bytes given.now)
         (map (λ t. t.items) texts.items)) }
+    ensures within { length text.now ≤ max_file
+        → IfOk result (λ texts. All (λ t. length t.items ≤ max_file) texts.items) }
     ensures refused { IfErr result (IsGivenUnread (map string_bytes given.now)) }
     ensures reason { D.Store.tells → IfErr result (IsFileReason (map string_bytes given.now)
         (D.System.may_fail system.now) (D.Store.seen system.now)) }

@@ -1,10 +1,10 @@
 //! The files that words name: `-` is standard input, which is read once.
-ghost use Rattle.std.specs.Prelude.{[], ◌∷◌, ◌≡◌, ◌≤◌, ◌⊎◌, Some, true, false, codes, map, string_bytes, length, IfOk, IfErr, IfSome};
+ghost use Rattle.std.specs.Prelude.{◌≡◌, ◌≤◌, ◌⊎◌, Some, true, false, codes, map, string_bytes, length, IfOk, IfErr, IfSome};
 ghost use Rattle.hwdb_spec.specs.Given.{IsGiven, is_dash, any_dash};
-ghost use Rattle.hwdb_fs.specs.Refusals.{HasReason, IsUnread, IsUnreadable};
+ghost use Rattle.hwdb_fs.specs.Refusals.{HasReason, IsUnread, IsUnreadAt, IsUnreadable};
 ghost use Rattle.hwdb_tool.specs.Internal.{bytes_given};
 ghost use Rattle.hwdb_tool.specs.Queries.{IsOfWholeInput, IsWholeInputUnread};
-ghost use Rattle.hwdb_tool.specs.Reasons.{HasGivenReason, IsOfFiles};
+ghost use Rattle.hwdb_tool.specs.Reasons.{HasGivenReason};
 ghost use Rattle.hwdb_spec.specs.Texts.{max_file};
 ghost use Rattle.hwdb_tool.specs.Undone.{IsGivenUnread, IsUnreadGiven, told_path};
 ghost use Rattle.hwdb_fs.specs.declared.refusals.Refusal.TheVariants.{Plain};
@@ -91,6 +91,7 @@ pub fn input_text<I: Source>(
 ) -> Result<Vec<u8>, Refusal>
     ensures whole { IfOk result (λ text. any_dash (map string_bytes given.now) ≡ true
         → IfSome (I.left input.old) (λ told. text.items ≡ told)) }
+    ensures within { IfOk result (λ text. length text.items ≤ max_file) }
     ensures refused { IfErr result (IsGivenUnread (map string_bytes given.now)) }
     ensures untouched { any_dash (map string_bytes given.now) ≡ false → input.new ≡ input.old }
     ensures reason { IfErr result (λ r. (r ≡ Plain ToolError.Memory)
@@ -113,9 +114,11 @@ pub fn bytes_given<D: System>(
 ) -> Result<Vec<u8>, Refusal>
     ensures read { D.Store.tells → IfOk result (λ bytes.
         bytes_given text.now (D.Store.seen system.now) path.now ≡ Some bytes.items) }
+    ensures within { (is_dash path.now ≡ false) ⊎ (length text.now ≤ max_file)
+        → IfOk result (λ bytes. length bytes.items ≤ max_file) }
     ensures refused { IfErr result (IsUnread (told_path path.now)) }
-    ensures file { D.Store.tells → IfErr result
-        (IsOfFiles (path.now ∷ []) (D.Store.seen system.now)) }
+    ensures file { D.Store.tells → IfErr result (λ r. (r ≡ Plain ToolError.Memory)
+        ⊎ ((is_dash path.now ≡ false) × IsUnreadAt (D.Store.seen system.now) path.now r)) }
     ensures reason { IfErr result (HasReason
         (IsUnreadable (D.System.may_fail system.now) (D.Store.seen system.now)) ⊥
         (D.Store.seen system.now)) }

@@ -1,13 +1,13 @@
 //! `query -` and `explain -`: the devices that standard input names.
-ghost use Rattle.std.specs.Prelude.{◌≡◌, ◌⊎◌, IfErr, IfOk, IfSome, OnOk};
+ghost use Rattle.std.specs.Prelude.{◌≡◌, true, IfErr, IfOk, IfSome, OnOk};
 ghost use Rattle.hwdb_spec.specs.Outputs.{TookOne};
 ghost use Rattle.hwdb_spec.specs.Runs.{told_by};
 ghost use Rattle.hwdb_spec.specs.Texts.{devices_of};
 ghost use Rattle.hwdb_spec.specs.Databases.{IsTextOf};
 ghost use Rattle.hwdb_print.specs.Streams.{texts_of};
-ghost use Rattle.hwdb_fs.specs.Refusals.{HasReason};
 ghost use Rattle.hwdb_spec.specs.Asked.{IsAnswered};
-ghost use Rattle.hwdb_tool.specs.Queries.{IsInputUnread, IsOfInput, IsStreamRefused};
+ghost use Rattle.hwdb_tool.specs.Queries.{IsOfInput, IsStreamRefused};
+ghost use Rattle.hwdb_tool.specs.Reasons.{HasAskedReason};
 
 use crate::databases::asked;
 use hwdb_fs::{Refusal, System};
@@ -31,9 +31,9 @@ pub fn answer_input<D: System, I: Source, O: Sink>(
     ensures refused { D.Store.tells → IfErr result (λ r. IsStreamRefused root.now form
         (I.left input.old) (D.Store.seen system.now) r
         (told_by O.taken O.failures out.old) (told_by O.taken O.failures out.new)) }
-    ensures reason { IfErr result (λ r.
-        HasReason (D.System.may_fail system.now) ⊥ (D.Store.seen system.now) r
-        ⊎ IsInputUnread (I.left input.old) (I.failures input.old) (I.failures input.new) r) }
+    ensures reason { D.Store.tells → IfErr result (HasAskedReason true root.now
+        (D.System.may_fail system.now) (D.Store.seen system.now)
+        (I.left input.old) (I.failures input.old) (I.failures input.new)) }
 {
     let found = asked(alloc, root, system)?;
     match run_stream(alloc, &found.bytes, form, input, out) {

@@ -1,12 +1,13 @@
 //! `query`: what each of several devices gets, those of the words or those that standard input names.
-ghost use Rattle.std.specs.Prelude.{◌≡◌, ◌≤◌, ◌⊎◌, true, false, map, string_bytes, IfErr, IfOk};
+ghost use Rattle.std.specs.Prelude.{◌≡◌, ◌≤◌, false, map, string_bytes, IfErr, IfOk};
 ghost use Rattle.hwdb_spec.specs.Asked.{IsAnswered};
 ghost use Rattle.hwdb_spec.specs.Databases.{IsTextOf};
 ghost use Rattle.hwdb_spec.specs.Given.{is_input};
 ghost use Rattle.hwdb_spec.specs.Runs.{OnOut, told_by};
 ghost use Rattle.hwdb_print.specs.Streams.{texts_of};
 ghost use Rattle.hwdb_fs.specs.Refusals.{HasReason};
-ghost use Rattle.hwdb_tool.specs.Queries.{AreDone, AreUnanswered, IsInputUnread};
+ghost use Rattle.hwdb_tool.specs.Queries.{AreDone, AreUnanswered};
+ghost use Rattle.hwdb_tool.specs.Reasons.{HasAskedReason};
 ghost use Rattle.hwdb_tool.specs.Undone.{IsUnanswered};
 ghost use Rattle.hwdb_tool.specs.Views.{texts_in};
 
@@ -41,10 +42,9 @@ pub fn query<D: System, I: Source, O: Sink, E: Sink>(
         (told_by E.taken E.failures err.old) (told_by E.taken E.failures err.new)
         (told_by O.taken O.failures out.old) (told_by O.taken O.failures out.new)) }
     ensures unread { is_input (map string_bytes devices.now) ≡ false → input.new ≡ input.old }
-    ensures reason { IfErr result (λ r.
-        HasReason (D.System.may_fail system.now) ⊥ (D.Store.seen system.now) r
-        ⊎ ((is_input (map string_bytes devices.now) ≡ true)
-        × IsInputUnread (I.left input.old) (I.failures input.old) (I.failures input.new) r)) }
+    ensures reason { D.Store.tells → IfErr result (HasAskedReason
+        (is_input (map string_bytes devices.now)) root.now (D.System.may_fail system.now)
+        (D.Store.seen system.now) (I.left input.old) (I.failures input.old) (I.failures input.new)) }
 {
     if is_input(devices) {
         return answer_input(alloc, root, Form::Query { json }, system, input, out);

@@ -1,7 +1,8 @@
-use Rattle.std.proofs.Common.{Global, Vec, [], ap, ℕ, ◌∙◌, ◌∷◌, ◌≡◌, ◌⊎◌, ◌++◌, inr, map, rules, subst}
+use Rattle.std.proofs.Common.{All, Global, Vec, [], ap, length, ℕ, ◌≤◌, sym, ◌∙◌, ◌∷◌, ◌≡◌, ◌⊎◌, ◌++◌, inr, map, rules, subst}
 use Rattle.std.proofs.lemmas.List.{map-append}
-use Rattle.std.proofs.lemmas.List.Elements.{All-more}
+use Rattle.std.proofs.lemmas.List.Elements.{All-more, All-push}
 use Rattle.hwdb_spec.specs.Folders.{path_of}
+use Rattle.hwdb_spec.specs.Texts.{max_file}
 use Rattle.hwdb_text.specs.declared.choice.Chosen.{Chosen}
 use Rattle.hwdb_text.specs.Views.{choice_of}
 use Rattle.hwdb_fs.specs.Reading.{IsChosenUnread, IsFirstUnread, IsText}
@@ -25,6 +26,7 @@ pub loop-file-preserved : goal.loop-file-preserved
 loop-file-preserved g c =
     let text = λ (x : Chosen). IsText (g.D.Store.seen c.args.system.now) (c.args.root.now ++ path_of (choice_of x)) in
     let items = λ (v : Vec ℕ Global). v.items in
+    let short = λ (v : Vec ℕ Global). length v.items ≤ max_file in
     let more : c.push.new.self.items ≡ c.loop-file.texts.items ++ c.in_ok-bytes.bytes ∷ [] = search rules in
     record {
       count = search rules;
@@ -33,4 +35,5 @@ loop-file-preserved g c =
           (ap (map items) more ∙ map-append items c.loop-file.texts.items (c.in_ok-bytes.bytes ∷ []));
       texts = λ tells. All-more text c.args.chosen.now c.loop-file.file-index c.file-item.result c.loop-file-test.true (c.loop-file.invariant.texts tells)
           (subst text c.file-item.is (record { bytes = c.in_ok-bytes.bytes.items; there = c.in_ok-bytes.ensures.read tells; within = let h = c.in_ok-bytes.ensures.within in search rules }));
+      within = subst (All short) (sym more) (All-push short c.loop-file.texts.items c.in_ok-bytes.bytes c.loop-file.invariant.within (let h = c.in_ok-bytes.ensures.within in search rules));
     }

@@ -1,7 +1,9 @@
-use Rattle.std.proofs.Common.{⊎_elim, inl, inr, ◌≡◌, ◌≤◌, All, length, map, string_bytes, ◌∙◌, ap, sym, subst, Err}
+use Rattle.std.proofs.Common.{ℕ, List, ⊎_elim, inl, inr, ◌≡◌, ◌≤◌, All, length, map, string_bytes, ◌∙◌, ap, sym, subst, Err}
+use Rattle.std.proofs.lemmas.List.Elements.{All-map}
 use Rattle.hwdb_text.specs.Views.{IsListed, choice_of}
 use Rattle.hwdb_spec.specs.Folders.{choice, max_files, names}
 use Rattle.hwdb_spec.specs.System.{usr_files, AreNamesIn}
+use Rattle.hwdb_spec.specs.Texts.{max_file}
 use Rattle.hwdb_fs.specs.Internal.{AreNamed, AreTexts}
 use Rattle.hwdb_fs.specs.Reading.{AreUnread, IsFirstUnread}
 use Rattle.hwdb_fs.specs.Refusals.{HasReason}
@@ -56,4 +58,5 @@ returns-clause-selected g c = λ files named tells.
       listed = listed;
       read = subst (λ l. AreTexts root seen (map choice_of l) (map (λ t. t.items) c.in_ok-texts.texts.items)) c.deref-2.ensures.value (c.in_ok-texts.ensures.read tells)
           ∙ texts_in_part root seen files etc _ (map choice_of c.in_ok-chosen.chosen.items) named listed;
+      within = All-map (λ (t : List ℕ). length t ≤ max_file) (λ t. t.items) c.in_ok-texts.texts.items c.in_ok-texts.ensures.within;
     }

@@ -1,6 +1,10 @@
-use Rattle.std.proofs.Common.{◌∙◌, sym, [], ◌∷◌}
+use Rattle.std.proofs.Common.{◌∙◌, inl, subst, sym, IfErr, [], ◌∷◌}
 use Rattle.hwdb_print.specs.declared.form.Form.TheVariants.{Explain}
+use Rattle.hwdb_spec.specs.Given.{is_dash}
 use Rattle.hwdb_spec.specs.Runs.{told_by}
+use Rattle.hwdb_tool.specs.Reasons.{HasAskedReason}
+use Rattle.hwdb_tool.proofs.AnswerLemmas.{printed_reason, unanswered_asked}
+use Rattle.hwdb_tool.proofs.ErrorLemmas.{both_errors}
 use Rattle.hwdb_tool.proofs.PrintingLemmas.{streamed_done}
 use Rattle.hwdb_tool.proofs.answers.explain.Goals as goal
 
@@ -9,3 +13,24 @@ returns-then-is_dash-clause-answered g c = λ tells.
     streamed_done c.args.root.now (Explain c.args.json) (c.args.device.now ∷ []) (g.I.Source.left c.args.input.now) (g.D.Store.seen c.args.system.now) c.answer_input.result
     (told_by g.E.Sink.taken g.E.Sink.failures c.args.err.now) (told_by g.O.Sink.taken g.O.Sink.failures c.args.out.now) (told_by g.O.Sink.taken g.O.Sink.failures c.answer_input.new.out)
     (sym c.is_dash.ensures ∙ c.if-is_dash.true) c.answer_input.ensures.small (c.answer_input.ensures.answered tells)
+
+pub returns-then-is_dash-clause-reason : goal.returns-then-is_dash-clause-reason
+returns-then-is_dash-clause-reason g c = λ tells.
+    let fails = g.D.System.may_fail c.args.system.now in
+    let seen = g.D.Store.seen c.args.system.now in
+    let input = g.I.Source.left c.args.input.now in
+    let before = g.I.Source.failures c.args.input.now in
+    let now = g.I.Source.failures c.answer_input.new.input in
+    subst (λ b. IfErr c.answer_input.result (HasAskedReason b c.args.root.now fails seen input before now)) (sym c.if-is_dash.true ∙ c.is_dash.ensures)
+    (c.answer_input.ensures.reason tells)
+
+pub returns-clause-reason : goal.returns-clause-reason
+returns-clause-reason g c = λ tells.
+    let root = c.args.root.now in
+    let fails = g.D.System.may_fail c.args.system.now in
+    let seen = g.D.Store.seen c.args.system.now in
+    let input = g.I.Source.left c.args.input.now in
+    let failures = g.I.Source.failures c.args.input.now in
+    printed_reason c.explain_given-answer.result c.printed.result (HasAskedReason (is_dash c.args.device.now) root fails seen input failures failures) _ _ _ _
+    (both_errors _ _ _ c.explain_given-answer.result (λ r refused has. inl (unanswered_asked root seen r refused, has)) (c.explain_given-answer.ensures.refused tells) c.explain_given-answer.ensures.reason)
+    (inl (tt, tt)) c.printed.ensures.refused

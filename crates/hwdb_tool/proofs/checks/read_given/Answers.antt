@@ -1,10 +1,17 @@
-use Rattle.std.proofs.Common.{map, string_bytes, subst, [], ◌∷◌}
-use Rattle.hwdb_fs.specs.Refusals.{IsUnread}
-use Rattle.hwdb_tool.specs.Reasons.{IsFileReason, IsOfFiles}
+use Rattle.std.proofs.Common.{All, Global, String, Vec, [], ap, inl, inr, length, map, rules, string_bytes, subst, sym, ◌++◌, ◌∙◌, ◌∷◌, ◌≡◌, ◌≤◌, ◌⊎◌, false, ℕ}
+use Rattle.std.proofs.lemmas.List.{map-append}
+use Rattle.std.proofs.lemmas.List.Elements.{All-more, All-push}
+use Rattle.hwdb_fs.specs.Refusals.{IsUnread, IsUnreadAt}
+use Rattle.hwdb_fs.specs.declared.refusals.Refusal.TheVariants.{Plain}
+use Rattle.hwdb_print.specs.declared.errors.ToolError.TheVariants.{Memory}
+use Rattle.hwdb_spec.specs.Given.{is_dash}
+use Rattle.hwdb_spec.specs.Texts.{max_file}
+use Rattle.hwdb_tool.specs.Internal.{bytes_given}
+use Rattle.hwdb_tool.specs.Reasons.{IsFileReason, IsReadGiven}
 use Rattle.hwdb_tool.specs.Undone.{IsGivenUnread, told_path}
-use Rattle.hwdb_tool.proofs.CheckLemmas.{given_path, given_unread}
+use Rattle.hwdb_tool.proofs.CheckLemmas.{first_given, given_unread, read_given, texts_given_more}
 use Rattle.hwdb_tool.proofs.ErrorLemmas.{given_error}
-use Rattle.hwdb_tool.proofs.GivenLemmas.{of_one}
+use Rattle.hwdb_tool.proofs.GivenLemmas.{of_given}
 use Rattle.hwdb_tool.proofs.checks.read_given.Goals as goal
 
 pub returns-in_err-bytes-clause-refused : goal.returns-in_err-bytes-clause-refused
@@ -17,9 +24,30 @@ pub returns-in_err-bytes-clause-reason : goal.returns-in_err-bytes-clause-reason
 returns-in_err-bytes-clause-reason g c = λ tells.
     let seen = g.D.Store.seen c.args.system.now in
     let given = map string_bytes c.args.given.now in
+    let path = string_bytes c.path-item.result in
     let r = c.in_err-bytes.field-0.0 in
     given_error r (IsFileReason given (g.D.System.may_fail c.args.system.now) seen) c.from_residual.result c.from_residual.ensures.1 (
-      of_one seen (string_bytes c.path-item.result) given (given_path c.args.given.now c.loop-path.path-index c.path-item.result c.path-item.is c.loop-path-test.true) r
-          (subst (λ p. IsOfFiles (p ∷ []) seen r) c.as_str.ensures.value (c.in_err-bytes.ensures.file tells)),
+      of_given seen given path r
+          (λ plain. first_given seen c.args.given.now c.loop-path.path-index c.path-item.result c.path-item.is c.loop-path-test.true (c.loop-path.invariant.files tells) plain)
+          (subst (λ p. (r ≡ Plain Memory) ⊎ ((is_dash p ≡ false) × IsUnreadAt seen p r)) c.as_str.ensures.value (c.in_err-bytes.ensures.file tells)),
       c.in_err-bytes.ensures.reason,
     )
+
+pub loop-path-preserved : goal.loop-path-preserved
+loop-path-preserved g c =
+    let seen = g.D.Store.seen c.args.system.now in
+    let file = λ (s : String Global). IsReadGiven seen (string_bytes s) in
+    let items = λ (v : Vec ℕ Global). v.items in
+    let short = λ (v : Vec ℕ Global). length v.items ≤ max_file in
+    let more : c.push.new.self.items ≡ c.loop-path.texts.items ++ c.in_ok-bytes.bytes ∷ [] = search rules in
+    record {
+      count = search rules;
+      read = λ tells. texts_given_more c.args.text.now seen c.args.given.now c.loop-path.path-index c.path-item.result _ _ _
+          (c.loop-path.invariant.read tells) c.path-item.is c.loop-path-test.true
+          (subst (λ p. bytes_given c.args.text.now seen p ≡ _) c.as_str.ensures.value (c.in_ok-bytes.ensures.read tells))
+          (ap (map items) more ∙ map-append items c.loop-path.texts.items (c.in_ok-bytes.bytes ∷ []));
+      files = λ tells. All-more file c.args.given.now c.loop-path.path-index c.path-item.result c.loop-path-test.true (c.loop-path.invariant.files tells)
+          (subst file c.path-item.is (subst (λ p. IsReadGiven seen p) c.as_str.ensures.value
+          (read_given seen c.as_str.result.now c.args.text.now c.in_ok-bytes.bytes.items (c.in_ok-bytes.ensures.read tells) c.in_ok-bytes.ensures.within)));
+      within = λ s. subst (All short) (sym more) (All-push short c.loop-path.texts.items c.in_ok-bytes.bytes (c.loop-path.invariant.within s) (c.in_ok-bytes.ensures.within (inr s)));
+    }

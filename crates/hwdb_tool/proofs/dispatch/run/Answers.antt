@@ -66,7 +66,7 @@ returns-in-Update-clause-refused g c = λ tells.
     let task = Update c.in-Update.verbose c.in-Update.skip_unreadable in
     both_errors _ _ (IsNotDone job.task (root_of job) job.usr job.strict before now) c.update_telling.result
     (λ r refused has. subst (λ t. IsNotDone t (root_of job) job.usr job.strict before now r) (sym c.in-Update.is)
-    (subst (λ root. IsNotDone task root job.usr job.strict before now r) c.root_of-root.ensures ((refused, refl), inl has)))
+    (subst (λ root. IsNotDone task root job.usr job.strict before now r) c.root_of-root.ensures ((refused, refl), has)))
     (c.update_telling.ensures.refused tells) (c.update_telling.ensures.reason tells)
 
 pub returns-in-List-clause-done : goal.returns-in-List-clause-done
@@ -144,8 +144,8 @@ returns-in-Diff-clause-refused g c = λ tells.
     (subst (λ n. IfErr c.diff.result (IsDiffRefused old n seen)) of_new (subst (λ o. IfErr c.diff.result (IsDiffRefused o new_path seen)) of_old (c.diff.ensures.refused tells)))
     (subst (λ n. IfOk c.diff.result (λ a. OnOut (λ text. IsCompared old n seen text a.status) (texts_in a))) of_new
     (subst (λ o. IfOk c.diff.result (λ a. OnOut (λ text. IsCompared o new_path seen text a.status) (texts_in a))) of_old (c.diff.ensures.compared tells)))
-    (each_error _ (IsTaskReason task (root_of job) job.usr before now) c.diff.result (λ r has. inl (any_reason _ _ seen r has)) c.diff.ensures.reason)
-    (inl tt) c.printed-in-Diff.ensures.refused))
+    (each_error _ (IsTaskReason task (root_of job) job.usr before now) c.diff.result (λ r has. any_reason _ _ seen r has) c.diff.ensures.reason)
+    tt c.printed-in-Diff.ensures.refused))
 
 pub returns-in-Ask-clause-refused : goal.returns-in-Ask-clause-refused
 returns-in-Ask-clause-refused g c = λ tells.

@@ -1,11 +1,9 @@
-use Rattle.std.proofs.Common.{◌≡◌, ◌∙◌, sym, false}
+use Rattle.std.proofs.Common.{◌≡◌, ◌∙◌, sym, inr, false}
 use Rattle.std.proofs.lemmas.Result.{IfErr-weaker}
 use Rattle.hwdb_spec.specs.Given.{is_dash}
-use Rattle.hwdb_tool.proofs.GivenLemmas.{unread_file}
 use Rattle.hwdb_tool.proofs.given.bytes_given.Goals as goal
 
 pub returns-else-is_dash-clause-file : goal.returns-else-is_dash-clause-file
 returns-else-is_dash-clause-file g c = λ tells.
-    let seen = g.D.Store.seen c.args.system.now in
     let plain : is_dash c.args.path.now ≡ false = sym c.is_dash.ensures ∙ c.if-is_dash.false in
-    IfErr-weaker c.input.result _ _ (λ r unread. unread_file seen c.args.path.now r plain unread) (c.input.ensures.unread tells)
+    IfErr-weaker c.input.result _ _ (λ r unread. inr (plain, unread)) (c.input.ensures.unread tells)

@@ -1,7 +1,9 @@
-use Rattle.std.proofs.Common.{◌∙◌, ap, inl, inr, ⊎_elim, string_bytes, subst, sym, Err, Some, ◌≤◌, length, List, ℕ}
+use Rattle.std.proofs.Common.{◌∙◌, ap, inl, inr, ⊎_elim, string_bytes, subst, sym, Err, Some, true, ◌≤◌, length, List, ℕ}
 use Rattle.hwdb_spec.specs.Texts.{max_file}
 use Rattle.hwdb_tool.specs.Queries.{IsOfInput}
-use Rattle.hwdb_tool.proofs.AnswerLemmas.{if_bad, streamed}
+use Rattle.hwdb_tool.specs.Reasons.{HasAskedReason}
+use Rattle.hwdb_tool.proofs.AnswerLemmas.{if_bad, stream_reason, streamed, unfound_asked}
+use Rattle.hwdb_tool.proofs.ErrorLemmas.{given_error}
 use Rattle.hwdb_tool.proofs.input_devices.answer_input.Goals as goal
 
 pub returns-in-Ok-clause-answered : goal.returns-in-Ok-clause-answered
@@ -28,3 +30,20 @@ returns-clause-refused g c = λ tells. inr record {
   failed = c.in-Err.ensures.writes.0;
   unfailed = c.in-Err.ensures.writes.1;
 }
+
+pub returns-in_err-found-clause-reason : goal.returns-in_err-found-clause-reason
+returns-in_err-found-clause-reason g c = λ tells.
+    let root = c.args.root.now in
+    let fails = g.D.System.may_fail c.args.system.now in
+    let seen = g.D.Store.seen c.args.system.now in
+    let failures = g.I.Source.failures c.args.input.now in
+    let r = c.in_err-found.field-0.0 in
+    given_error r (HasAskedReason true root fails seen (g.I.Source.left c.args.input.now) failures failures) c.from_residual.result c.from_residual.ensures.1
+    (inl (unfound_asked root seen r (c.in_err-found.ensures.refused tells), c.in_err-found.ensures.reason))
+
+pub returns-clause-reason : goal.returns-clause-reason
+returns-clause-reason g c = λ tells.
+    stream_reason c.args.root.now (g.D.Store.seen c.args.system.now) (g.D.System.may_fail c.args.system.now) (g.I.Source.left c.args.input.now)
+    (g.I.Source.failures c.args.input.now) (g.I.Source.failures c.run_stream.new.input) c.in-Err.error (string_bytes c.in_ok-found.found.path) c.refusal_of.result
+    (c.in_ok-found.ensures.path tells) (subst (λ p. IsOfInput c.in-Err.error p c.refusal_of.result) c.as_bytes-path.ensures.value c.refusal_of.ensures)
+    c.in-Err.ensures.reads.0 (λ w. c.in-Err.ensures.too_long (ap Err w))
