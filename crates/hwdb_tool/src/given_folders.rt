@@ -7,7 +7,7 @@ ghost use Rattle.hwdb_spec.specs.Store as spec;
 ghost use Rattle.hwdb_text.specs.Views.{choice_of};
 ghost use Rattle.hwdb_fs.specs.Refusals.{HasReason};
 ghost use Rattle.hwdb_fs.specs.declared.refusals.Refusal.TheVariants.{Plain};
-ghost use Rattle.hwdb_tool.specs.GivenFolders.{AreUntold, IsUntold};
+ghost use Rattle.hwdb_tool.specs.GivenFolders.{AreFoldersUnread, IsFolderUnread};
 
 use crate::given::is_dash;
 use hwdb_fs::{Refusal, System, path_in};
@@ -83,7 +83,7 @@ fn files_at<D: System>(alloc: Global, path: &str, system: &D) -> Result<Vec<Stri
     ensures files { D.Store.tells → is_dash path.now ≡ false → IfOk result (λ own. StandsFor
         (is_file (D.Store.seen system.now) path.now) (D.Store.seen system.now) path.now
         (map string_bytes own.items)) }
-    ensures refused { D.Store.tells → IfErr result (IsUntold (D.Store.seen system.now) path.now) }
+    ensures refused { D.Store.tells → IfErr result (IsFolderUnread (D.Store.seen system.now) path.now) }
     ensures reason { IfErr result
         (HasReason (D.System.may_fail system.now) ⊥ (D.Store.seen system.now)) }
 {
@@ -99,7 +99,7 @@ fn files_for<D: System>(alloc: Global, path: &str, system: &D) -> Result<Vec<Str
     ensures files { D.Store.tells → IfOk result (λ own. StandsFor
         (is_file (D.Store.seen system.now) path.now) (D.Store.seen system.now) path.now
         (map string_bytes own.items)) }
-    ensures refused { D.Store.tells → IfErr result (IsUntold (D.Store.seen system.now) path.now) }
+    ensures refused { D.Store.tells → IfErr result (IsFolderUnread (D.Store.seen system.now) path.now) }
     ensures reason { IfErr result
         (HasReason (D.System.may_fail system.now) ⊥ (D.Store.seen system.now)) }
 {
@@ -133,7 +133,7 @@ pub fn named_files<D: System>(
     ensures files { D.Store.tells → IfOk result (λ paths. StandFor (D.Store.seen system.now)
         (map string_bytes given.now) (map string_bytes paths.items)) }
     ensures refused { D.Store.tells → IfErr result
-        (AreUntold (D.Store.seen system.now) (map string_bytes given.now)) }
+        (AreFoldersUnread (D.Store.seen system.now) (map string_bytes given.now)) }
     ensures reason { IfErr result
         (HasReason (D.System.may_fail system.now) ⊥ (D.Store.seen system.now)) }
 {
