@@ -1,6 +1,6 @@
 -- Which answers of a file system give which result. The answers are `stat`'s, `lstat`'s and those of a read (POSIX); what is made of
 -- them is our choice.
-use Rattle.std.specs.Prelude.{◌≡◌, ◌⊎◌, ℕ, List, [], Bool, true, Option, Some, None, Result, Ok, Err, MatchResult, Contains, IsUtf8, filter, length, nat_le, if◌then◌else◌}
+use Rattle.std.specs.Prelude.{◌≡◌, ◌⊎◌, ℕ, List, [], Bool, true, false, Option, Some, None, Result, Ok, Err, MatchOption, MatchResult, Contains, IsUtf8, filter, length, nat_le, if◌then◌else◌}
 use Rattle.hwdb_spec.specs.Folders.{counts}
 use Rattle.hwdb_spec.specs.Lines.{is, pieces}
 use Rattle.hwdb_spec.specs.Store.{path_in}
@@ -123,3 +123,15 @@ IsUnnamed answer folder refusal =
 -- the names are all that the answer gives
 abbrev pub AreNamesAs : {Y : Type 0} (value : Y → List (List ℕ)) (answer : Result (List (List ℕ)) Unread) (folder : List ℕ) → Result Y Refusal → Type 0
 AreNamesAs value answer folder result = MatchResult result (λ y. answer ≡ Ok (value y)) (IsUnnamed answer folder)
+
+-- whether what is at a place is a folder; what can't be told is none
+abbrev pub is_folder : Result Kind Cause → Bool
+is_folder (Ok Folder) = true
+is_folder (Ok kind) = false
+is_folder (Err cause) = false
+
+-- the names are all that the listing of a folder gives; of what is none no names are told
+abbrev pub AreFolderNamesAs : {Y : Type 0} (value : Y → List (List ℕ)) (folder : Bool) (answer : Result (List (List ℕ)) Unread) (path : List ℕ) → Result (Option Y) Refusal → Type 0
+AreFolderNamesAs value folder answer path result =
+    MatchResult result (λ found. MatchOption found (folder ≡ false) (λ y. (folder ≡ true) × (answer ≡ Ok (value y))))
+    (λ refusal. IsOfMemory path refusal ⊎ ((folder ≡ true) × IsUnnamed answer path refusal))

@@ -1,5 +1,5 @@
 -- What reading the text files of both folders may refuse. Our choice.
-use Rattle.std.specs.Prelude.{◌≡◌, ◌⊎◌, ◌<◌, ◌≤◌, ℕ, All, Bool, List, Some, ◌++◌, ◌∷◌, Contains, false, length, true}
+use Rattle.std.specs.Prelude.{◌≡◌, ◌⊎◌, ◌<◌, ◌≤◌, ℕ, All, Bool, List, None, Option, Some, ◌++◌, ◌∷◌, Contains, false, is_some, length, true}
 use Rattle.hwdb_spec.specs.Folders.{Choice, choice, max_files, names, path_of}
 use Rattle.hwdb_spec.specs.Store.{Contents}
 use Rattle.hwdb_spec.specs.System.{AreNamesIn, bytes_at, etc_files, usr_files}
@@ -12,6 +12,11 @@ use Rattle.hwdb_fs.specs.declared.refusals.Refusal.{Refusal}
 -- one of the chosen files can't be read
 abbrev pub IsChosenUnread : (root : List ℕ) → List Choice → Refusal → Type 0
 IsChosenUnread root chosen refusal = (c : Choice) × Contains chosen c × IsUnread (root ++ path_of c) refusal
+
+-- at the path is a folder, whose text files have these names, and no file; where none are told, a file is there
+abbrev pub IsFolderAt : (path : List ℕ) → Contents → Option (List (List ℕ)) → Type 0
+IsFolderAt path contents None = is_some (bytes_at contents path) ≡ true
+IsFolderAt path contents (Some names) = (is_some (bytes_at contents path) ≡ false) × AreNamesIn path contents names
 
 -- a text file is at the path, and it isn't too long
 pub record IsText (contents : Contents) (path : List ℕ) : Type 0 where

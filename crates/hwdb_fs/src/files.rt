@@ -8,7 +8,7 @@ ghost use Rattle.hwdb_fs.specs.Refusals.{IsUnlisted};
 
 use crate::parts::{Lockable, clear_parts, is_ours};
 use crate::raw::StdFiles;
-use crate::reads::{any_bytes, database_bytes, is_there, names_in, text_bytes};
+use crate::reads::{any_bytes, database_bytes, folder_names, is_there, names_in, text_bytes};
 use crate::refusals::Refusal;
 use crate::rooted::Rooted;
 use crate::roots::Root;
@@ -335,6 +335,10 @@ where
 
     fn names(&self, alloc: Global, folder: &str) -> Result<Vec<String>, Refusal> {
         names_in(alloc, &self.files(), folder)
+    }
+
+    fn folder_names(&self, alloc: Global, path: &str) -> Result<Option<Vec<String>>, Refusal> {
+        folder_names(alloc, &self.files(), path)
     }
 
     fn text(&self, alloc: Global, path: &str) -> Result<Vec<u8>, Refusal> {

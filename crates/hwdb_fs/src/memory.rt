@@ -143,6 +143,14 @@ impl System for Memory {
         Ok(names)
     }
 
+    fn folder_names(&self, alloc: Global, path: &str) -> Result<Option<Vec<String>>, Refusal> {
+        if self.is_there(alloc, path)? {
+            return Ok(None);
+        }
+        let names = self.names(alloc, path)?;
+        Ok(Some(names))
+    }
+
     fn text(&self, alloc: Global, path: &str) -> Result<Vec<u8>, Refusal> {
         read_after(alloc, &self.steps, path.as_bytes())
     }

@@ -2,7 +2,7 @@
 ghost use Rattle.std.specs.Prelude.{◌≡◌, ◌≢◌, ◌≤◌, ◌<◌, ◌⊎◌, ◌++◌, ◌∷◌, [], true, Ok, OnOk, filter, length, map, string_bytes, ℕ, List, Result, Err, IfOk, IfErr, IfSome, MatchOption, option_map, vec_len};
 ghost use Rattle.hwdb_spec.specs.Texts.{max_file};
 ghost use Rattle.hwdb_spec.specs.Folders.{counts};
-ghost use Rattle.hwdb_fs.specs.Raw.{AreNamesAs, IsMisnamedAt, entries, names_answer, IsOfMemory, IsReadAs, IsRefusedFor, at_place, bytes_of, bytes_at, database_answer, failed, text_answer, text_at, text_of_kind, there_answer};
+ghost use Rattle.hwdb_fs.specs.Raw.{AreFolderNamesAs, AreNamesAs, IsMisnamedAt, is_folder, entries, names_answer, IsOfMemory, IsReadAs, IsRefusedFor, at_place, bytes_of, bytes_at, database_answer, failed, text_answer, text_at, text_of_kind, there_answer};
 ghost use Rattle.hwdb_fs.specs.declared.raw.Unread.{Unread};
 ghost use Rattle.hwdb_io.specs.declared.causes.Cause.TheVariants.{Memory};
 ghost use Rattle.hwdb_fs.specs.Refusals.{IsUnread, IsUnlisted};
@@ -227,6 +227,53 @@ pub fn names_in<F: RawFiles>(alloc: Global, files: &F, folder: &str) -> Result<V
         Ok(Some(listing)) => names_of(alloc, folder, &listing),
         Ok(None) => Ok(Vec::new(alloc)),
         Err(why) => Err(refused(alloc, folder, why)),
+    }
+}
+
+/// What can't be told is no folder, unless that is for want of memory.
+fn none_unless_memory(cause: Cause) -> Result<bool, AllocError>
+    ensures { IfOk result (λ folder. (folder ≡ false) × (cause ≢ Memory)) }
+{
+    match cause {
+        Cause::Memory => Err(AllocError),
+        _ => Ok(false),
+    }
+}
+
+/// Whether what has this kind is a folder.
+fn is_folder_kind(kind: Kind) -> bool
+    ensures { result ≡ is_folder (Ok kind) }
+{
+    matches!(kind, Kind::Folder)
+}
+
+/// Whether a folder is at a place. The only error is that memory is refused.
+fn is_folder<F: RawFiles>(files: &F, place: &str) -> Result<bool, AllocError>
+    ensures { F.tells → IfOk result (λ folder. folder ≡ is_folder (F.kind files.now place.now)) }
+{
+    match files.kind_of(place) {
+        Ok(kind) => Ok(is_folder_kind(kind)),
+        Err(cause) => none_unless_memory(cause),
+    }
+}
+
+/// The names of the text files of the folder at a path, in the order of its listing; None if no folder is there.
+pub fn folder_names<F: RawFiles>(
+    alloc: Global,
+    files: &F,
+    path: &str,
+) -> Result<Option<Vec<String>>, Refusal>
+    ensures exact { F.tells → AreFolderNamesAs (λ names. map string_bytes names.items)
+        (is_folder (F.kind files.now path.now))
+        (names_answer (F.listing files.now path.now)) path.now result }
+    ensures refused { IfErr result (IsUnlisted path.now) }
+{
+    if !is_folder(files, path)? {
+        return Ok(None);
+    }
+    match names_in(alloc, files, path) {
+        Ok(names) => Ok(Some(names)),
+        Err(refusal) => Err(refusal),
     }
 }
 

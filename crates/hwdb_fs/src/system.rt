@@ -2,6 +2,7 @@
 ghost use Rattle.std.specs.Prelude.{◌≡◌, ◌≤◌, ℕ, List, Some, IfOk, IfErr, IfSome, OnOk, is_some, map, option_map, string_bytes, vec_len};
 ghost use Rattle.hwdb_spec.specs.Texts.{max_file};
 ghost use Rattle.hwdb_spec.specs.System.{AreNamesIn, bytes_at};
+ghost use Rattle.hwdb_fs.specs.Reading.{IsFolderAt};
 ghost use Rattle.hwdb_fs.specs.Refusals.{HasReason, IsUnlisted, IsUnread, IsUnreadAt, IsUnreadable};
 
 use crate::refusals::Refusal;
@@ -26,6 +27,15 @@ pub trait System: Store {
         ensures names { Self.tells → IfOk result
             (λ names. AreNamesIn folder.now (Self.seen self.now) (map string_bytes names.items)) }
         ensures refused { IfErr result (IsUnlisted folder.now) }
+        ensures reason { IfErr result
+            (HasReason (may_fail self.now) ⊥ (Self.seen self.now)) };
+
+    /// The names of the text files of the folder at a path, in no order; None if no folder is there. Refuses a folder that can't
+    /// be listed.
+    fn folder_names(&self, alloc: Global, path: &str) -> Result<Option<Vec<String>>, Refusal>
+        ensures names { Self.tells → IfOk result (λ found. IsFolderAt path.now (Self.seen self.now)
+            (option_map (λ names. map string_bytes names.items) found)) }
+        ensures refused { IfErr result (IsUnlisted path.now) }
         ensures reason { IfErr result
             (HasReason (may_fail self.now) ⊥ (Self.seen self.now)) };
 

@@ -6,6 +6,8 @@ pub mod Undone
 pub mod Readable
 pub mod Queries
 pub mod Reasons
+pub mod GivenFolders
+pub mod CheckedReasons
 pub mod ComparedDatabases
 pub mod Internal
 pub mod NamedDatabases

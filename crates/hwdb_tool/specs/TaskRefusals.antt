@@ -25,6 +25,7 @@ use Rattle.hwdb_tool.specs.Devices.{IsDeviceRefused, asked_names}
 use Rattle.hwdb_tool.specs.NamedDatabases.{IsDumpRefused, IsVerifyRefused}
 use Rattle.hwdb_tool.specs.Queries.{AreUnanswered}
 use Rattle.hwdb_tool.specs.Program.{IsAnswerOf, IsJobDone, IsTold, IsUpdate, looks_below_root, root_of}
+use Rattle.hwdb_tool.specs.CheckedReasons.{HasCheckedReason}
 use Rattle.hwdb_tool.specs.Reasons.{HasAskedReason, HasFilesReason, HasGivenReason}
 use Rattle.hwdb_fs.specs.Refusals.{HasReason, IsAt, IsUnentered, IsUnreadable, Refused, refusal_line, refusal_text}
 use Rattle.hwdb_fs.specs.declared.refusals.Refusal.TheVariants.{Plain}
@@ -83,7 +84,7 @@ IsTaskReason (Explain device json) root usr before now refusal =
 IsTaskReason (Ask file device) root usr before now refusal =
     HasGivenReason (is_dash (string_bytes file)) before.files.fails before.files.seen before.input.bytes before.input.failures now.input.failures refusal
 IsTaskReason (Check files allowed json) root usr before now refusal =
-    HasFilesReason (not (length files.items == 0)) (map string_bytes files.items) before.files.fails before.files.seen before.input.bytes before.input.failures now.input.failures refusal
+    HasCheckedReason (not (length files.items == 0)) before.files.fails before.files.seen before.input.bytes before.input.failures now.input.failures (map string_bytes files.items) refusal
 IsTaskReason (Near files device limit json) root usr before now refusal =
     HasFilesReason (not (length files.items == 0)) (map string_bytes files.items) before.files.fails before.files.seen before.input.bytes before.input.failures now.input.failures refusal
 IsTaskReason task root usr before now refusal =

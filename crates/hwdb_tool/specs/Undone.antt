@@ -18,6 +18,7 @@ use Rattle.hwdb_fs.specs.Reading.{AreUnread}
 use Rattle.hwdb_fs.specs.Refusals.{IsOfDatabase, IsOver, IsUnread, IsUnreadAt, IsUnreadable}
 use Rattle.hwdb_fs.specs.declared.refusals.Refusal.{Refusal}
 use Rattle.hwdb_fs.specs.declared.refusals.Refusal.TheVariants.{NoDatabase, Plain}
+use Rattle.hwdb_tool.specs.GivenFolders.{IsNamedUnread}
 use Rattle.hwdb_text.specs.declared.outcome.ScanError.{ScanError}
 use Rattle.hwdb_print.specs.Databases.{IsDatabaseRefusal}
 use Rattle.hwdb_print.specs.Refusals.{refusal_of_scan}
@@ -108,10 +109,10 @@ IsUnreadableIf false MayFail contents = MayFail
 abbrev pub IsGivenUnread : (given : List (List ℕ)) → Refusal → Type 0
 IsGivenUnread given refusal = (refusal ≡ Plain Memory) ⊎ ((path : List ℕ) × Contains given path × IsUnread (told_path path) refusal)
 
--- reading the files that are to be checked is refused: the given ones, or where none is given those of both folders
+-- reading the files that are to be checked is refused: those for which the given paths stand, or where none is given those of both folders
 abbrev pub AreUncheckable : (given : List (List ℕ)) (root : List ℕ) → Contents → Refusal → Type 0
 AreUncheckable [] root contents refusal = AreUnread root contents refusal
-AreUncheckable (path ∷ more) root contents refusal = IsGivenUnread (path ∷ more) refusal
+AreUncheckable (path ∷ more) root contents refusal = IsNamedUnread IsGivenUnread contents (path ∷ more) refusal
 
 -- such files are refused
 pub record AreNotChecked (Are : List Source → Type 0) (refusal : Refusal) : Type 0 where

@@ -5,8 +5,10 @@ ghost use Rattle.hwdb_spec.specs.Runs.{OnOut};
 ghost use Rattle.hwdb_spec.specs.Folders.{path_of};
 ghost use Rattle.hwdb_text.specs.Views.{choice_of};
 ghost use Rattle.hwdb_fs.specs.Refusals.{HasReason};
-ghost use Rattle.hwdb_spec.specs.CheckedFiles.{AreCheckedFiles, AreChosenFiles, AreGivenFiles, IsChecked};
+ghost use Rattle.hwdb_spec.specs.CheckedFiles.{AreCheckedFiles, AreChosenFiles, AreGivenFiles, AreNamedFiles, IsChecked};
 ghost use Rattle.hwdb_tool.specs.Internal.{AreTextsGiven};
+ghost use Rattle.hwdb_tool.specs.CheckedReasons.{HasCheckedReason, HasNamedReason};
+ghost use Rattle.hwdb_tool.specs.GivenFolders.{IsNamedUnread};
 ghost use Rattle.hwdb_tool.specs.Reasons.{HasFilesReason, IsFileReason};
 ghost use Rattle.hwdb_spec.specs.Given.{any_dash};
 ghost use Rattle.hwdb_spec.specs.Texts.{max_file};
@@ -16,6 +18,7 @@ ghost use Rattle.hwdb_tool.specs.Views.{texts_in};
 
 use crate::answer::Answer;
 use crate::given::{bytes_given, input_text};
+use crate::given_folders::named_files;
 use hwdb_fs::{Refusal, System, selected};
 use hwdb_io::Source;
 use hwdb_lint::{Telling, TextFile, check_files};
@@ -23,8 +26,8 @@ use hwdb_print::ToolError;
 use hwdb_text::Chosen;
 use std::alloc::{AllocError, Global};
 
-/// What is wrong in the given text files, of which `-` is what `input` has left, or if none is given in those of both
-/// folders below the root: as JSON or not, and without the kinds of warnings that are allowed. The status is 1 if there is a fault, or `strict` and a warning, else 0.
+/// What is wrong in the given text files, of which `-` is what `input` has left and a folder stands for those in it, or if none is
+/// given in those of both folders below the root: as JSON or not, and without the kinds of warnings that are allowed. The status is 1 if there is a fault, or `strict` and a warning, else 0.
 pub fn check<D: System, I: Source>(
     alloc: Global,
     root: &str,
@@ -44,15 +47,41 @@ pub fn check<D: System, I: Source>(
         (AreCheckedFiles (map string_bytes given.now) root.now (I.left input.old)
         (D.Store.seen system.now))) }
     ensures unread { any_dash (map string_bytes given.now) ≡ false → input.new ≡ input.old }
-    ensures reason { D.Store.tells → IfErr result (HasFilesReason (not (length given.now == 0))
-        (map string_bytes given.now) (D.System.may_fail system.now) (D.Store.seen system.now)
-        (I.left input.old) (I.failures input.old) (I.failures input.new)) }
+    ensures reason { D.Store.tells → IfErr result (HasCheckedReason (not (length given.now == 0))
+        (D.System.may_fail system.now) (D.Store.seen system.now) (I.left input.old)
+        (I.failures input.old) (I.failures input.new) (map string_bytes given.now)) }
 {
     if given.is_empty() {
         check_chosen(alloc, root, json, allowed, strict, system)
     } else {
-        check_given(alloc, given, json, allowed, strict, system, input)
+        check_named(alloc, given, json, allowed, strict, system, input)
     }
+}
+
+/// The same of the files for which the given paths stand.
+fn check_named<D: System, I: Source>(
+    alloc: Global,
+    given: &[String],
+    json: bool,
+    allowed: &[String],
+    strict: bool,
+    system: &D,
+    input: &mut I,
+) -> Result<Answer, Refusal>
+    ensures checked { D.Store.tells → IfOk result (λ a. OnOut (λ text. IsChecked
+        (AreNamedFiles (map string_bytes given.now) (I.left input.old) (D.Store.seen system.now))
+        json strict (map string_bytes allowed.now) text a.status) (texts_in a)) }
+    ensures refused { D.Store.tells → IfErr result (IsCheckRefused
+        (IsNamedUnread IsGivenUnread (D.Store.seen system.now) (map string_bytes given.now))
+        (AreNamedFiles (map string_bytes given.now) (I.left input.old)
+        (D.Store.seen system.now))) }
+    ensures unread { any_dash (map string_bytes given.now) ≡ false → input.new ≡ input.old }
+    ensures reason { D.Store.tells → IfErr result (HasNamedReason
+        (D.System.may_fail system.now) (D.Store.seen system.now) (I.left input.old)
+        (I.failures input.old) (I.failures input.new) (map string_bytes given.now)) }
+{
+    let paths = named_files(alloc, given, system)?;
+    check_given(alloc, &paths, json, allowed, strict, system, input)
 }
 
 /// The same of the files that are given.

@@ -19,6 +19,7 @@
 //! | `dumps` | `dump` |
 //! | `databases` | the database that a command asks for |
 //! | `given` | files that words name, or standard input |
+//! | `given_folders` | the text files for which the paths of `check` stand |
 //! | `laws` | what an update and a query after it say together |
 //! | `one_outcome` | two runs over one input end alike |
 //! | `one_refusal` | so they do with an error, and what it says of standard input is so |
@@ -41,6 +42,7 @@ mod dispatch;
 mod dumps;
 mod failures;
 mod given;
+mod given_folders;
 mod hiding;
 mod input_devices;
 mod laws;

@@ -1,0 +1,146 @@
+//! The text files for which the paths of `check` stand: a path of a folder stands for the text files in it.
+ghost use Rattle.std.specs.Prelude.{[], ◌∷◌, ◌≡◌, ◌≤◌, ◌⊎◌, ◌<◌, length, map, string_bytes, IfErr, IfOk};
+ghost use Rattle.hwdb_spec.specs.CheckedFiles;
+ghost use Rattle.hwdb_spec.specs.CheckedFiles.{StandFor, StandsFor, is_file};
+ghost use Rattle.hwdb_spec.specs.Folders.{max_files, names};
+ghost use Rattle.hwdb_spec.specs.Store as spec;
+ghost use Rattle.hwdb_text.specs.Views.{choice_of};
+ghost use Rattle.hwdb_fs.specs.Refusals.{HasReason};
+ghost use Rattle.hwdb_fs.specs.declared.refusals.Refusal.TheVariants.{Plain};
+ghost use Rattle.hwdb_tool.specs.GivenFolders.{AreFoldersUnread, IsFolderUnread};
+
+use crate::given::is_dash;
+use hwdb_fs::{Refusal, System, path_in};
+use hwdb_print::ToolError;
+use hwdb_text::{Chosen, SelectError, select};
+use std::alloc::{AllocError, Global};
+
+/// A path without a slash at its end.
+fn folder_of(path: &str) -> &str
+    ensures { result.now ≡ CheckedFiles.folder_of path.now }
+{
+    match path.strip_suffix('/') {
+        Some(folder) => folder,
+        None => path,
+    }
+}
+
+/// A path alone.
+fn alone(alloc: Global, path: &str) -> Result<Vec<String>, AllocError>
+    ensures { IfOk result (λ own. map string_bytes own.items ≡ path.now ∷ []) }
+{
+    let mut own = Vec::new(alloc);
+    own.push(String::from_str(alloc, path)?)?;
+    Ok(own)
+}
+
+/// The paths of chosen files of a folder.
+fn paths_in(alloc: Global, folder: &str, chosen: &[Chosen]) -> Result<Vec<String>, AllocError>
+    ensures { IfOk result (λ paths. map string_bytes paths.items
+        ≡ map (λ c. spec.path_in folder.now c.name) (map choice_of chosen.now)) }
+{
+    let mut paths = Vec::new(alloc);
+    for file in chosen {
+        paths.push(path_in(alloc, folder, file.name.as_str())?)?;
+    }
+    Ok(paths)
+}
+
+/// The files that are chosen of a folder's text files alone.
+fn chosen_of(alloc: Global, all: &[String]) -> Result<Vec<Chosen>, Refusal>
+    ensures chosen { IfOk result (λ chosen.
+        map choice_of chosen.items ≡ CheckedFiles.choice (map string_bytes all.now) []) }
+    ensures few { IfOk result (λ _. length (names (map string_bytes all.now) []) ≤ max_files) }
+    ensures refused { IfErr result (λ r. (r ≡ Plain ToolError.Memory)
+        ⊎ ((r ≡ Plain ToolError.TooManyFiles)
+        × (max_files < length (names (map string_bytes all.now) [])))) }
+{
+    match select(alloc, all, &[]) {
+        Ok(chosen) => Ok(chosen),
+        Err(SelectError::TooManyFiles) => Err(Refusal::Plain(ToolError::TooManyFiles)),
+        Err(SelectError::Memory) => Err(Refusal::Plain(ToolError::Memory)),
+    }
+}
+
+/// What a path stands for, if its folder has these text files.
+fn files_in(alloc: Global, path: &str, all: &[String]) -> Result<Vec<String>, Refusal>
+    ensures files { IfOk result (λ own. map string_bytes own.items
+        ≡ CheckedFiles.files_in path.now (map string_bytes all.now)) }
+    ensures few { IfOk result (λ _. length (names (map string_bytes all.now) []) ≤ max_files) }
+    ensures refused { IfErr result (λ r. (r ≡ Plain ToolError.Memory)
+        ⊎ ((r ≡ Plain ToolError.TooManyFiles)
+        × (max_files < length (names (map string_bytes all.now) [])))) }
+{
+    let chosen = chosen_of(alloc, all)?;
+    if all.is_empty() {
+        return Ok(alone(alloc, path)?);
+    }
+    Ok(paths_in(alloc, folder_of(path), &chosen)?)
+}
+
+/// What a path stands for that is no `-`.
+fn files_at<D: System>(alloc: Global, path: &str, system: &D) -> Result<Vec<String>, Refusal>
+    ensures files { D.Store.tells → is_dash path.now ≡ false → IfOk result (λ own. StandsFor
+        (is_file (D.Store.seen system.now) path.now) (D.Store.seen system.now) path.now
+        (map string_bytes own.items)) }
+    ensures refused { D.Store.tells → IfErr result (IsFolderUnread (D.Store.seen system.now) path.now) }
+    ensures reason { IfErr result
+        (HasReason (D.System.may_fail system.now) ⊥ (D.Store.seen system.now)) }
+{
+    match system.folder_names(alloc, folder_of(path)) {
+        Ok(Some(all)) => files_in(alloc, path, &all),
+        Ok(None) => Ok(alone(alloc, path)?),
+        Err(refusal) => Err(refusal),
+    }
+}
+
+/// What a path stands for.
+fn files_for<D: System>(alloc: Global, path: &str, system: &D) -> Result<Vec<String>, Refusal>
+    ensures files { D.Store.tells → IfOk result (λ own. StandsFor
+        (is_file (D.Store.seen system.now) path.now) (D.Store.seen system.now) path.now
+        (map string_bytes own.items)) }
+    ensures refused { D.Store.tells → IfErr result (IsFolderUnread (D.Store.seen system.now) path.now) }
+    ensures reason { IfErr result
+        (HasReason (D.System.may_fail system.now) ⊥ (D.Store.seen system.now)) }
+{
+    if is_dash(path) {
+        Ok(alone(alloc, path)?)
+    } else {
+        files_at(alloc, path, system)
+    }
+}
+
+/// Adds some paths to others.
+fn put_all(paths: &mut Vec<String>, own: Vec<String>) -> Result<(), AllocError>
+    ensures { IfOk result (λ _. map string_bytes paths.new.items
+        ≡ map string_bytes paths.old.items ++ map string_bytes own.entry.items) }
+{
+    for path in own {
+        paths.push(path)?;
+    }
+    Ok(())
+}
+
+/// The text files for which the given paths stand, in their order: those of a folder by name. A path stands for itself if a file is
+/// there, or a folder without text files; `-` does.
+///
+/// Errors are a folder that can't be listed, and one with more than 65,535 text files.
+pub fn named_files<D: System>(
+    alloc: Global,
+    given: &[String],
+    system: &D,
+) -> Result<Vec<String>, Refusal>
+    ensures files { D.Store.tells → IfOk result (λ paths. StandFor (D.Store.seen system.now)
+        (map string_bytes given.now) (map string_bytes paths.items)) }
+    ensures refused { D.Store.tells → IfErr result
+        (AreFoldersUnread (D.Store.seen system.now) (map string_bytes given.now)) }
+    ensures reason { IfErr result
+        (HasReason (D.System.may_fail system.now) ⊥ (D.Store.seen system.now)) }
+{
+    let mut paths = Vec::new(alloc);
+    for path in given {
+        let own = files_for(alloc, path.as_str(), system)?;
+        put_all(&mut paths, own)?;
+    }
+    Ok(paths)
+}
