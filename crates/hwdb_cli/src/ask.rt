@@ -20,7 +20,7 @@ const ABOUT: &str = "Prints the properties that one text file gives a device, as
 
 /// What help ends with.
 const AFTER: &str =
-    "Exit status: 0 on success, even if nothing matches; 1 on errors.\nExample: hwdb ask 60-keyboard.hwdb evdev:input:b0003v04B3p3018";
+    "If nothing is printed, hwdb near shows the patterns that almost match, and hwdb check what is wrong in text files.\nExit status: 0 on success, even if nothing matches; 1 on errors.\nExample: hwdb ask 60-keyboard.hwdb evdev:input:b0003v04B3p3018";
 
 /// The command.
 pub fn command<'a>(alloc: Global) -> Draft<'a>

@@ -14,6 +14,16 @@ fn is_kind(name: &str, kinds: &str) -> bool {
     false
 }
 
+/// How alike a name is to a kind's, or to what is before the first `-` of that: from 0 to 1.
+fn likeness(alloc: Global, name: &str, kind: &str) -> Result<f64, AllocError> {
+    let whole = jaro(alloc, name, kind)?;
+    let Some((first, _)) = kind.split_once('-') else {
+        return Ok(whole);
+    };
+    let of_first = jaro(alloc, name, first)?;
+    Ok(if of_first > whole { of_first } else { whole })
+}
+
 /// The kind whose name is most like another one, if one is like it.
 fn likely_kind<'k>(
     alloc: Global,
@@ -23,7 +33,7 @@ fn likely_kind<'k>(
     let mut most = ALIKE;
     let mut found = None;
     for kind in kinds.split("\n") {
-        let alike = jaro(alloc, name, kind)?;
+        let alike = likeness(alloc, name, kind)?;
         if alike >= most {
             most = alike;
             found = Some(kind);

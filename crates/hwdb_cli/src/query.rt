@@ -20,7 +20,7 @@ const ABOUT: &str = "Prints the properties that the database gives each device, 
 
 /// What help ends with.
 const AFTER: &str =
-    "Exit status: 0 on success, even if nothing matches; 1 on errors.\nExample: hwdb query usb:v1D6Bp0002";
+    "If nothing is printed, hwdb near shows the patterns that almost match, and hwdb check what is wrong in text files.\nExit status: 0 on success, even if nothing matches; 1 on errors.\nExample: hwdb query usb:v1D6Bp0002";
 
 /// The command.
 pub fn command<'a>(alloc: Global) -> Draft<'a>

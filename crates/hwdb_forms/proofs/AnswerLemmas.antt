@@ -9,10 +9,10 @@ use Rattle.hwdb_forms.proofs.MeetLemmas.{or_cases, or_first, or_second}
 use Rattle.hwdb_forms.proofs.RowLemmas.{form_met}
 use Rattle.hwdb_forms.proofs.ReadLemmas.{form_out, form_in}
 
-met_out : (form : Form) (ts : List Token) → IsTrue (meets_form ts form) → (text : List ℕ) × HasForm form text × Matches ts text
+pub met_out : (form : Form) (ts : List Token) → IsTrue (meets_form ts form) → (text : List ℕ) × HasForm form text × Matches ts text
 met_out form ts h = let m : IsMet (Fits form) ts = (form_met form ts).0 h in (m.0, form_out form m.0 m.1, m.2)
 
-met_in : (form : Form) (ts : List Token) (text : List ℕ) → HasForm form text → Matches ts text → IsTrue (meets_form ts form)
+pub met_in : (form : Form) (ts : List Token) (text : List ℕ) → HasForm form text → Matches ts text → IsTrue (meets_form ts form)
 met_in form ts text f m = (form_met form ts).1 (text, form_in form text f, m)
 
 match_out : (forms : List Form) (ts : List Token) → IsTrue (can_match forms ts) → CanMatch forms ts
@@ -33,13 +33,13 @@ pub forms_tested : FormsAreTested
 forms_tested forms ts = (match_out forms ts, λ m. match_in forms ts m.0 m.1 m.2)
 
 -- tokens match a text exactly if it has two parts that they match in two parts
-match_parted : (a c : List Token) (text : List ℕ) → Matches (a ++ c) text → (front : List ℕ) × (rest : List ℕ) × (text ≡ front ++ rest) × Matches a front × Matches c rest
+pub match_parted : (a c : List Token) (text : List ℕ) → Matches (a ++ c) text → (front : List ℕ) × (rest : List ℕ) × (text ≡ front ++ rest) × Matches a front × Matches c rest
 match_parted [] c text m = ([], text, refl, refl, m)
 match_parted (t ∷ a) c text m =
     let more : (front : List ℕ) × (rest : List ℕ) × (m.1 ≡ front ++ rest) × Matches a front × Matches c rest = match_parted a c m.1 m.4 in
     (m.0 ++ more.0, more.1, m.2 ∙ ap (λ r. m.0 ++ r) more.2 ∙ sym (append_assoc m.0 more.0 more.1), (m.0, more.0, refl, m.3, more.3), more.4)
 
-match_joined : (a c : List Token) (front rest : List ℕ) → Matches a front → Matches c rest → Matches (a ++ c) (front ++ rest)
+pub match_joined : (a c : List Token) (front rest : List ℕ) → Matches a front → Matches c rest → Matches (a ++ c) (front ++ rest)
 match_joined [] c front rest m k = subst (λ (f : List ℕ). Matches c (f ++ rest)) (sym m) k
 match_joined (t ∷ a) c front rest m k =
     (m.0, m.1 ++ rest, ap (λ f. f ++ rest) m.2 ∙ append_assoc m.0 m.1 rest, m.3, match_joined a c m.1 rest m.4 k)
@@ -48,7 +48,7 @@ pub append_none : (l : List ℕ) → l ≡ l ++ []
 append_none [] = refl
 append_none (x ∷ l) = ap (λ r. x ∷ r) (append_none l)
 
-star_any : (text : List ℕ) → Matches (star ∷ []) text
+pub star_any : (text : List ℕ) → Matches (star ∷ []) text
 star_any text = (text, [], append_none text, tt, refl)
 
 begin_out : (forms : List Form) (ts : List Token) → CanMatch forms (ts ++ star ∷ []) → CanBegin forms ts

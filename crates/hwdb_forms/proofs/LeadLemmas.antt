@@ -35,7 +35,7 @@ if_met false true rest e f = refl
 if_met true met rest e f = cc
 if_met false false rest e f = cc
 
-token_of : (texts : List (Bor (List ℕ))) (at : ℕ) → at < length texts → drop at (views texts) ≡ token_at (get_or texts at none).now ∷ drop (suc at) (views texts)
+pub token_of : (texts : List (Bor (List ℕ))) (at : ℕ) → at < length texts → drop at (views texts) ≡ token_at (get_or texts at none).now ∷ drop (suc at) (views texts)
 token_of texts at h = split (views texts) at (below texts at h) ∙ ap (λ (t : Token). t ∷ drop (suc at) (views texts)) (sym (view_at texts at h))
 
 fixed_dropped : (bytes : List ℕ) (texts : List (Bor (List ℕ))) (at : ℕ) → at < length bytes → at < length texts
@@ -126,7 +126,7 @@ unfolding fixed_row
 fixed_family [] rows f t ts = f t ts
 fixed_family (b ∷ bytes) rows f t ts = byte_family (Only b) (λ us. fixed_row bytes us (rows us)) (fixed_family bytes rows f) t ts
 
-counted_family : (set : ByteSet) (n : ℕ) (rows : List Token → List Bool) → IsFamily rows → IsFamily (λ ts. counted_row set n ts (rows ts))
+pub counted_family : (set : ByteSet) (n : ℕ) (rows : List Token → List Bool) → IsFamily rows → IsFamily (λ ts. counted_row set n ts (rows ts))
 unfolding counted_row
 counted_family set zero rows f t ts = f t ts
 counted_family set (suc n) rows f t ts = byte_family set (λ us. counted_row set n us (rows us)) (counted_family set n rows f) t ts
@@ -136,7 +136,7 @@ piece_family (fixed bytes) rows f t ts = fixed_family bytes rows f t ts
 piece_family (counted set n) rows f t ts = counted_family set n rows f t ts
 piece_family (repeated set) rows f t ts = many_family set rows f t ts
 
-pieces_family : (ps : List Piece) (rows : List Token → List Bool) → IsFamily rows → IsFamily (λ ts. pieces_row ps ts (rows ts))
+pub pieces_family : (ps : List Piece) (rows : List Token → List Bool) → IsFamily rows → IsFamily (λ ts. pieces_row ps ts (rows ts))
 unfolding pieces_row
 pieces_family [] rows f t ts = f t ts
 pieces_family (p ∷ ps) rows f t ts = piece_family p (λ us. pieces_row ps us (rows us)) (pieces_family ps rows f) t ts
@@ -175,7 +175,7 @@ byte_first set t ts rows f e =
     no_star (is_star t) (meets t set) (head (rows (t ∷ ts))) (head (tail (rows (t ∷ ts)))) (head (byte_row set ts (tail (rows (t ∷ ts))))) e
     ∙ ap (λ (r : List Bool). if meets t set then head r else false) (f t ts)
 
-cases : (b met : Bool) (rest whole : Passed) → (if b then Unknown else (if met then rest else No)) ≡ whole → (whole ≡ Unknown → ⊥) → (b ≡ false) × ((met ≡ false → whole ≡ No) × (met ≡ true → rest ≡ whole))
+pub cases : (b met : Bool) (rest whole : Passed) → (if b then Unknown else (if met then rest else No)) ≡ whole → (whole ≡ Unknown → ⊥) → (b ≡ false) × ((met ≡ false → whole ≡ No) × (met ≡ true → rest ≡ whole))
 cases true met rest whole e n = absurd (n (sym e))
 cases false true rest whole e n = (refl, (λ f. cc, λ f. e))
 cases false false rest whole e n = (refl, (λ f. sym e, λ f. cc))
@@ -217,7 +217,7 @@ fixed_tells (b ∷ bytes) [] rows f = (λ no. cc, λ yes. cc)
 fixed_tells (b ∷ bytes) (t ∷ ts) rows f =
     step_tells (Only b) t ts (length bytes) (passed_fixed bytes ts) _ (λ us. fixed_row bytes us (rows us)) rows (fixed_family bytes rows f) refl (fixed_tells bytes ts rows f)
 
-counted_tells : (set : ByteSet) (n : ℕ) (ts : List Token) (rows : List Token → List Bool) → IsFamily rows → Tells (passed_counted set n ts) n ts rows (head (counted_row set n ts (rows ts)))
+pub counted_tells : (set : ByteSet) (n : ℕ) (ts : List Token) (rows : List Token → List Bool) → IsFamily rows → Tells (passed_counted set n ts) n ts rows (head (counted_row set n ts (rows ts)))
 unfolding counted_row
 counted_tells set zero ts rows f = (λ no. cc, λ yes. (omega arith, refl))
 counted_tells set (suc n) [] rows f = (λ no. cc, λ yes. cc)
@@ -312,7 +312,7 @@ if_dead : (b x : Bool) → b ≡ true → (if b then false else x) ≡ false
 if_dead true x e = refl
 if_dead false x e = cc
 
-if_alive : (b x : Bool) → b ≡ false → (if b then false else x) ≡ x
+pub if_alive : (b x : Bool) → b ≡ false → (if b then false else x) ≡ x
 if_alive false x e = refl
 if_alive true x e = cc
 

@@ -4,8 +4,10 @@ pub mod RowLemmas
 pub mod ReadLemmas
 pub mod LoopLemmas
 pub mod LeadLemmas
+pub mod EndLemmas
 pub mod AnswerLemmas
 pub mod ExampleLemmas
 pub mod FrontLemmas
+pub mod FollowLemmas
 pub mod ExpectedLemmas
 pub mod LikeLemmas

@@ -1,7 +1,8 @@
 -- What the proofs of this crate speak of: forms and languages as they are computed, from the left to the right.
-use Rattle.std.specs.Prelude.{ℕ, Bool, false, true, List, [], ◌∷◌, IsTrue, ◌≡◌, ◌⊎◌, if◌then◌else◌, drop, length, map, suc, zero}
+use Rattle.std.specs.Prelude.{ℕ, Bool, false, true, List, [], ◌∷◌, ◌++◌, IsTrue, ◌≡◌, ◌⊎◌, if◌then◌else◌, drop, length, map, suc, zero}
 use Rattle.std.proofs.Common.{Bor}
-use Rattle.hwdb_spec.specs.Patterns.{Token, admits_byte, Matches, token_at}
+use Rattle.hwdb_spec.specs.FormTable.{asked}
+use Rattle.hwdb_spec.specs.Patterns.{Token, admits_byte, Matches, star, token_at, tokens}
 use Rattle.hwdb_spec.specs.Forms.{Piece, Form, fixed, counted, repeated, is_in, is_star}
 use Rattle.hwdb_spec.specs.Forms
 use Rattle.hwdb_spec.specs.declared.ByteSet.{ByteSet}
@@ -12,6 +13,7 @@ use Rattle.hwdb_forms.specs.declared.pieces.FormRow
 use Rattle.hwdb_forms.specs.declared.leads.Passed.TheVariants.{No, Unknown, Yes}
 use Rattle.hwdb_forms.specs.declared.leads.Passed.{Passed}
 use Rattle.hwdb_forms.specs.declared.leads.Lead.{Lead}
+use Rattle.hwdb_forms.specs.declared.expecting.Following.{Following}
 
 -- what a piece of Rust's stands for, and a form
 abbrev pub piece_of : Piece.Piece → Forms.Piece
@@ -105,6 +107,15 @@ passed (fixed bytes) ts = passed_fixed bytes ts
 passed (counted set n) ts = passed_counted set n ts
 passed (repeated set) ts = Unknown
 
+-- After this front no other forms matter.
+abbrev pub AreEnough : List Forms.Form → (front : List ℕ) → Type 0
+AreEnough forms front = (byte : ℕ) → Forms.can_begin forms (tokens (front ++ byte ∷ [])) ≡ Forms.can_begin asked (tokens (front ++ byte ∷ []))
+
+-- What is known of the beginning of a pattern: the forms that matter after it, and its tokens if no bracket is in it.
+pub record IsAfter (front : List ℕ) (f : Following) : Type 0 where
+  pub enough : AreEnough (map form_of f.forms.items) front
+  pub plain : f.is_plain ≡ true → (byte : ℕ) → tokens (front ++ byte ∷ []) ≡ views f.tokens.items ++ token_at (byte ∷ []) ∷ []
+
 -- how many bytes a piece has, if each of its texts has as many
 abbrev pub piece_size : Forms.Piece → ℕ
 piece_size (fixed bytes) = length bytes
@@ -126,6 +137,18 @@ Leads ps ts lead =
     (rows : List Token → List Bool) → IsFamily rows
     → Forms.head (Forms.pieces_row ps ts (rows ts))
     ≡ (if lead.is_dead then false else Forms.head (Forms.pieces_row (drop lead.pieces ps) (drop lead.tokens ts) (rows (drop lead.tokens ts))))
+
+-- each field has a way
+abbrev pub HaveWays : List (List (List Forms.Piece)) → Type 0
+HaveWays [] = Unit {0}
+HaveWays ([] ∷ more) = ⊥
+HaveWays ((way ∷ ways) ∷ more) = HaveWays more
+
+-- Tokens match a piece and what comes after it, if a star alone matches that: they end in a star, and those before it match the
+-- piece's first bytes.
+abbrev pub StarEnds : Forms.Piece → List Token → Type 0
+StarEnds p ts =
+    (rows : List Token → List Bool) → IsFamily rows → Forms.head (rows (star ∷ [])) ≡ true → Forms.head (Forms.piece_row p ts (rows ts)) ≡ true
 
 -- whether tokens match pieces in order, and then some text of the fields
 abbrev pub way_met : List Forms.Piece → List (List (List Forms.Piece)) → List Token → Bool

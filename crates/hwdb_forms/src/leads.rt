@@ -41,7 +41,7 @@ pub(crate) fn pass_fixed(bytes: &[u8], tokens: &[&[u8]]) -> Passed
 }
 
 /// Whether the tokens begin as so many bytes of the set.
-fn pass_counted(set: ByteSet, count: usize, tokens: &[&[u8]]) -> Passed
+pub(crate) fn pass_counted(set: ByteSet, count: usize, tokens: &[&[u8]]) -> Passed
     ensures passed { result ≡ Internal.passed_counted set count (views tokens.now) }
     ensures within { result ≡ Passed.Yes → count ≤ length tokens.now }
 {

@@ -14,6 +14,7 @@
 //! | `beginnings` | how their texts begin |
 //! | `sets` | sets of bytes, and which tokens take one of theirs |
 //! | `leads` | how pieces begin, before the first star |
+//! | `endings` | tokens that end in a star, which matches all that is left |
 //! | `rows` | the rows of a form |
 //! | `judging` | what is said of a pattern |
 //! | `expecting` | what can be written at a place of a pattern |
@@ -22,6 +23,7 @@
 #![tactic(auto)]
 
 mod beginnings;
+mod endings;
 mod expecting;
 mod judging;
 mod laws;

@@ -6,6 +6,7 @@ ghost use Rattle.hwdb_spec.specs.Forms;
 ghost use Rattle.hwdb_spec.specs.Patterns.{token_at};
 ghost use Rattle.hwdb_forms.specs.Internal.{fields_of, form_of, piece_of, views, way_met};
 
+use crate::endings::is_seen;
 use crate::leads::{Passed, lead_of, pass_fixed};
 use crate::pieces::{FormRow, Piece};
 use crate::sets::meets;
@@ -276,10 +277,14 @@ fn meets_way(
     if lead.is_dead {
         return Ok(false);
     }
+    let left = &way[lead.pieces..];
     let rest = &tokens[lead.tokens..];
+    if is_seen(left, fields, rest) {
+        return Ok(true);
+    }
     let row = fields_row(alloc, fields, rest)?;
     let room = vec![in alloc; false; row.len()]?;
-    let rows = pieces_row(&way[lead.pieces..], rest, Rows { row, room });
+    let rows = pieces_row(left, rest, Rows { row, room });
     Ok(rows.row[0])
 }
 

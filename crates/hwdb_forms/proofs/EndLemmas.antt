@@ -1,0 +1,151 @@
+-- Tokens that end in a star.
+use Rattle.std.proofs.Common.{◌≡◌, ℕ, ◌+◌, ◌-◌, ◌<◌, ◌≤◌, Bool, true, false, List, [], ◌∷◌, refl, sym, ap, subst, ◌∙◌, Bor, length, drop, get_or, suc, zero, arith, map}
+use Rattle.std.specs.Prelude.{if◌then◌else◌}
+use Rattle.std.proofs.lemmas.List.{drop_all, drop_more}
+use Rattle.hwdb_spec.specs.declared.ByteSet.{ByteSet}
+use Rattle.hwdb_spec.specs.declared.ByteSet.TheVariants.{Only}
+use Rattle.hwdb_spec.specs.Patterns.{Token, bracket, literal, one, star, token_at}
+use Rattle.hwdb_spec.specs.Forms.{Piece, fixed, counted, repeated, is_star, meets, head, tail, byte_row, many_cell, many_row, fixed_row, counted_row, piece_row, pieces_row, either_row, end_row, field_row, fields_row}
+use Rattle.hwdb_forms.specs.declared.leads.Passed.TheVariants.{No, Unknown, Yes}
+use Rattle.hwdb_forms.specs.declared.leads.Passed.{Passed}
+use Rattle.hwdb_forms.specs.declared.leads.Lead.{Lead}
+use Rattle.hwdb_forms.specs.declared.pieces.Piece as Rust
+use Rattle.hwdb_forms.specs.Internal.{HaveWays, IsFamily, Leads, StarEnds, fields_of, passed_counted, piece_of, views, way_met}
+use Rattle.hwdb_forms.proofs.LoopLemmas.{none, views_length}
+use Rattle.hwdb_forms.proofs.LeadLemmas.{cases, counted_family, counted_tells, fields_family, if_alive, pieces_family, token_of}
+
+if_either : (b x : Bool) → x ≡ true → (if b then true else x) ≡ true
+if_either true x e = refl
+if_either false x e = e
+
+if_first : (b x : Bool) → b ≡ true → (if b then true else x) ≡ true
+if_first true x e = refl
+if_first false x e = cc
+
+-- ---- a star alone matches what has a text
+star_byte : (set : ByteSet) (row : List Bool) → head row ≡ true → head (byte_row set (star ∷ []) row) ≡ true
+unfolding byte_row
+star_byte set row h = h
+
+star_many : (set : ByteSet) (row : List Bool) → head row ≡ true → head (many_row set (star ∷ []) row) ≡ true
+unfolding many_row
+star_many set row h = if_first (head row) (head (many_row set [] (tail row))) h
+
+star_fixed : (bytes : List ℕ) (row : List Bool) → head row ≡ true → head (fixed_row bytes (star ∷ []) row) ≡ true
+unfolding fixed_row
+star_fixed [] row h = h
+star_fixed (b ∷ bytes) row h = star_byte (Only b) (fixed_row bytes (star ∷ []) row) (star_fixed bytes row h)
+
+star_counted : (set : ByteSet) (n : ℕ) (row : List Bool) → head row ≡ true → head (counted_row set n (star ∷ []) row) ≡ true
+unfolding counted_row
+star_counted set zero row h = h
+star_counted set (suc n) row h = star_byte set (counted_row set n (star ∷ []) row) (star_counted set n row h)
+
+star_piece : (p : Piece) (row : List Bool) → head row ≡ true → head (piece_row p (star ∷ []) row) ≡ true
+star_piece (fixed bytes) row h = star_fixed bytes row h
+star_piece (counted set n) row h = star_counted set n row h
+star_piece (repeated set) row h = star_many set row h
+
+star_pieces : (ps : List Piece) (row : List Bool) → head row ≡ true → head (pieces_row ps (star ∷ []) row) ≡ true
+unfolding pieces_row
+star_pieces [] row h = h
+star_pieces (p ∷ ps) row h = star_piece p (pieces_row ps (star ∷ []) row) (star_pieces ps row h)
+
+star_either : (left other : List Bool) → head left ≡ true → head (either_row (star ∷ []) left other) ≡ true
+unfolding either_row
+star_either left other h = if_first (head left) (head other) h
+
+star_field : (way : List Piece) (more : List (List Piece)) (row : List Bool) → head row ≡ true → head (field_row (way ∷ more) (star ∷ []) row) ≡ true
+unfolding field_row
+star_field way more row h = star_either (pieces_row way (star ∷ []) row) (field_row more (star ∷ []) row) (star_pieces way row h)
+
+star_fields : (fields : List (List (List Piece))) → HaveWays fields → head (fields_row fields (star ∷ [])) ≡ true
+unfolding fields_row end_row
+star_fields [] h = refl
+star_fields ([] ∷ more) h = absurd h
+star_fields ((way ∷ ways) ∷ more) h = star_field way ways (fields_row more (star ∷ [])) (star_fields more h)
+
+-- ---- tokens before it
+counted_split : (set : ByteSet) (m k : ℕ) (ts : List Token) (row : List Bool) → counted_row set (m + k) ts row ≡ counted_row set m ts (counted_row set k ts row)
+unfolding counted_row
+counted_split set zero k ts row = refl
+counted_split set (suc m) k ts row = ap (byte_row set ts) (counted_split set m k ts row)
+
+pub counted_ended : (set : ByteSet) (n m : ℕ) (ts : List Token) → m ≤ n → passed_counted set m ts ≡ Yes → drop m ts ≡ star ∷ [] → StarEnds (counted set n) ts
+counted_ended set n m ts h e d = λ rows f t.
+    let k : ℕ = n - m in
+    let inner : List Token → List Bool = λ us. counted_row set k us (rows us) in
+    let told : (m ≤ length ts) × (head (counted_row set m ts (inner ts)) ≡ head (inner (drop m ts))) =
+    (counted_tells set m ts inner (counted_family set k rows f)).1 e in
+    let split : n ≡ m + k = omega (arith, h) in
+    ap (λ (i : ℕ). head (counted_row set i ts (rows ts))) split
+    ∙ ap head (counted_split set m k ts (rows ts))
+    ∙ told.1
+    ∙ ap (λ (us : List Token). head (inner us)) d
+    ∙ star_counted set k (rows (star ∷ [])) t
+
+many_true : (s met here next : Bool) → s ≡ false → met ≡ true → next ≡ true → many_cell s met here next ≡ true
+many_true false true here next a b e = if_either here next e
+many_true true met here next a b e = cc
+many_true false false here next a b e = cc
+
+many_next : (set : ByteSet) (t : Token) (ts : List Token) (rows : List Token → List Bool) → IsFamily rows → is_star t ≡ false → meets t set ≡ true → head (many_row set ts (rows ts)) ≡ true → head (many_row set (t ∷ ts) (rows (t ∷ ts))) ≡ true
+unfolding many_row
+many_next set t ts rows f s m h =
+    many_true (is_star t) (meets t set) (head (rows (t ∷ ts))) (head (many_row set ts (tail (rows (t ∷ ts))))) s m (ap (λ (r : List Bool). head (many_row set ts r)) (f t ts) ∙ h)
+
+pub many_ended : (set : ByteSet) (m : ℕ) (ts : List Token) → passed_counted set m ts ≡ Yes → drop m ts ≡ star ∷ [] → StarEnds (repeated set) ts
+many_ended set zero [] e d = cc
+many_ended set zero (t ∷ ts) e d = λ rows f h. subst (λ (us : List Token). head (many_row set us (rows us)) ≡ true) (sym d) (star_many set (rows (star ∷ [])) h)
+many_ended set (suc m) [] e d = cc
+many_ended set (suc m) (t ∷ ts) e d = λ rows f h.
+    let c : (is_star t ≡ false) × ((meets t set ≡ false → Yes ≡ No) × (meets t set ≡ true → passed_counted set m ts ≡ Yes)) =
+    cases (is_star t) (meets t set) (passed_counted set m ts) Yes e (λ u. cc) in
+    let met : meets t set ≡ true = by (meets t set) refl c.1.0 in
+    many_next set t ts rows f c.0 met (many_ended set m ts (c.1.1 met) d rows f h)
+  where
+    by : (b : Bool) → meets t set ≡ b → (meets t set ≡ false → Yes ≡ No) → meets t set ≡ true
+    by true k n = k
+    by false k n = absurd (let x : Yes ≡ No = n k in cc)
+
+starred : (t : Token) → is_star t ≡ true → t ≡ star
+starred star e = refl
+starred one e = cc
+starred (literal b) e = cc
+starred (bracket b) e = cc
+
+-- the last of some texts
+pub last_star : (texts : List (Bor (List ℕ))) (at : ℕ) (b : Bool) → at < length texts → length texts ≤ suc at → b ≡ is_star (token_at (get_or texts at none).now) → b ≡ true → drop at (views texts) ≡ star ∷ []
+last_star texts at b h k e t =
+    token_of texts at h
+    ∙ ap (λ (u : Token). u ∷ drop (suc at) (views texts)) (starred (token_at (get_or texts at none).now) (sym e ∙ t))
+    ∙ ap (λ (us : List Token). star ∷ us) (drop_all (suc at) (views texts) (subst (λ (n : ℕ). n ≤ suc at) (sym (views_length texts)) k))
+
+-- ---- fields
+pub way_there : (fields : List (Bor (List (Bor (List Rust.Piece))))) (i n : ℕ) (d : Bor (List (Bor (List Rust.Piece)))) → i < length fields → n ≡ suc i → (length (get_or fields i d).now ≡ 0 → ⊥)
+    → (HaveWays (fields_of (drop i fields)) → HaveWays (fields_of fields)) → HaveWays (fields_of (drop n fields)) → HaveWays (fields_of fields)
+way_there fields i n d h k some before have =
+    let next : i + 1 ≡ n = omega (arith, k) in
+    before (subst (λ (fs : List (Bor (List (Bor (List Rust.Piece))))). HaveWays (fields_of fs)) (sym (drop_more fields i d h ∙ ap (λ (j : ℕ). get_or fields i d ∷ drop j fields) next))
+    (one_more (get_or fields i d).now some))
+  where
+    one_more : (ways : List (Bor (List Rust.Piece))) → (length ways ≡ 0 → ⊥) → HaveWays (map (λ way. map piece_of way.now) ways ∷ fields_of (drop n fields))
+    one_more [] none = absurd (none refl)
+    one_more (way ∷ ways) none = have
+
+pub all_ways : (fields : List (Bor (List (Bor (List Rust.Piece))))) (i : ℕ) → length fields ≤ i → (HaveWays (fields_of (drop i fields)) → HaveWays (fields_of fields)) → HaveWays (fields_of fields)
+all_ways fields i h before = before (subst (λ (fs : List (Bor (List (Bor (List Rust.Piece))))). HaveWays (fields_of fs)) (sym (drop_all i fields h)) tt)
+
+-- ---- what is seen
+pub seen : (pieces : List Rust.Piece) (d : Rust.Piece) (fields : List (List (List Piece))) (ts : List Token) → 0 < length pieces → StarEnds (piece_of (get_or pieces 0 d)) ts → HaveWays fields → way_met (map piece_of pieces) fields ts ≡ true
+unfolding pieces_row
+seen [] d fields ts h ends have = absurd (omega arith)
+seen (p ∷ more) d fields ts h ends have =
+    ends (λ us. pieces_row (map piece_of more) us (fields_row fields us)) (pieces_family (map piece_of more) (fields_row fields) (fields_family fields))
+    (star_pieces (map piece_of more) (fields_row fields (star ∷ [])) (star_fields fields have))
+
+pub way_seen : (ps qs : List Piece) (fields : List (List (List Piece))) (ts us : List Token) (lead : Lead) → Leads ps ts lead → lead.is_dead ≡ false → qs ≡ drop lead.pieces ps → us ≡ drop lead.tokens ts → way_met qs fields us ≡ true → true ≡ way_met ps fields ts
+way_seen ps qs fields ts us lead l e q u h =
+    sym (l (fields_row fields) (fields_family fields)
+    ∙ if_alive lead.is_dead (head (pieces_row (drop lead.pieces ps) (drop lead.tokens ts) (fields_row fields (drop lead.tokens ts)))) e
+    ∙ rw (sym q, sym u) h)
