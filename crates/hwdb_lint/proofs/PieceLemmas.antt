@@ -51,16 +51,3 @@ module _ (b : ℕ) where
 
   pub no_piece_at : (file : List ℕ) (at : ℕ) → length file ≤ at → pieces (is b) (drop at file) ≡ []
   no_piece_at file at h = ap (pieces (is b)) (drop_all at file h) ∙ no_pieces
-
--- whether a piece passes a test, or all do
-module _ (b : ℕ) (test : List ℕ → Bool) (file : List ℕ) (at end : ℕ) (rest : List ℕ) (h : at < length file) (r : rest ≡ drop at file) (e : end ≡ position_or_len (is b) rest) where
-  pub any_here : test (take end rest) ≡ true → true ≡ list_any test (pieces (is b) (drop at file))
-  any_here t =
-      sym (ap (list_any test) (piece_at b file at end rest h r e) ∙ ap (λ (c : Bool). c || list_any test (pieces (is b) (drop (at + end + 1) file))) t)
-
-  pub any_later : test (take end rest) ≡ false → list_any test (pieces (is b) (drop (at + end + 1) file)) ≡ list_any test (pieces (is b) (drop at file))
-  any_later t =
-      sym (ap (list_any test) (piece_at b file at end rest h r e) ∙ ap (λ (c : Bool). c || list_any test (pieces (is b) (drop (at + end + 1) file))) t)
-
-pub none_any : (b : ℕ) (test : List ℕ → Bool) (file : List ℕ) (at : ℕ) → length file ≤ at → false ≡ list_any test (pieces (is b) (drop at file))
-none_any b test file at h = sym (ap (list_any test) (no_piece_at b file at h))

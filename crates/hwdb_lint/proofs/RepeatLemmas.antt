@@ -16,7 +16,6 @@ use Rattle.hwdb_spec.specs.Folders.{same}
 use Rattle.hwdb_spec.specs.Warnings.{repeated_from}
 use Rattle.hwdb_lint.specs.Internal.{IsSetOf, found_with, line_of}
 use Rattle.hwdb_lint.specs.declared.repeats.Run.{Run}
-use Rattle.hwdb_lint.proofs.LineLemmas.{line_at, no_line_at}
 
 -- texts as a set
 abbrev pub texts : List (Bor (List ℕ)) → List (List ℕ)
@@ -150,15 +149,10 @@ pub property_no_match : (empty property : Bool) → property ≡ true → cond e
 property_no_match true p e = refl
 property_no_match false p e = ap not e
 
--- from line to line
-pub first_line : (file : List ℕ) (at end number : ℕ) (rest : List ℕ) → at < length file → rest ≡ drop at file → end ≡ position_or_len (is 10) rest
-    → numbered number (pieces (is 10) (drop at file)) ≡ line_of number (take end rest) ∷ numbered (number + 1) (pieces (is 10) (drop (at + end + 1) file))
+-- no line is left
+pub no_line : (left : List (List ℕ)) (number : ℕ) → left ≡ [] → numbered number left ≡ []
 unfolding numbered
-first_line file at end number rest h r e = ap (numbered number) (line_at file at end rest h r e)
-
-pub no_line : (file : List ℕ) (at number : ℕ) → length file ≤ at → numbered number (pieces (is 10) (drop at file)) ≡ []
-unfolding numbered
-no_line file at number h = ap (numbered number) (no_line_at file at h)
+no_line left number e = ap (numbered number) e
 
 pub none_from : (above : List (List ℕ)) → repeated_from above (clean []) ≡ []
 unfolding repeated_from

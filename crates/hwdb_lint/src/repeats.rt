@@ -8,7 +8,7 @@ ghost use Rattle.hwdb_spec.specs.Lines.{Line};
 ghost use Rattle.hwdb_spec.specs.Warnings.{repeated_lines};
 ghost use Rattle.hwdb_lint.specs.Internal.{found_with, line_of, IsSetOf};
 
-use hwdb_text::{Content, Lines, content_of};
+use hwdb_text::{Content, content_of};
 use std::alloc::{AllocError, Global};
 use std::collections::BTreeSet;
 
@@ -67,7 +67,7 @@ fn repeated_numbers(alloc: Global, bytes: &[u8]) -> Result<Vec<u64>, AllocError>
         numbers: Vec::new(alloc),
     };
     let mut number = 1;
-    for text in Lines::new(bytes) {
+    for text in hwdb_text::Lines::new(bytes) {
         run.line(number, text)?;
         number += 1;
     }

@@ -1,3 +1,3 @@
-pub mod PieceLemmas
+pub mod AppendedLemmas
 pub mod NameLemmas
 pub mod RowLemmas

@@ -135,37 +135,9 @@ with_key o ps l body equals value b e n z h v = (
   faults_by l true true (some_equals l body equals b e n) (some_key l body equals b e z h),
 )
 
-line_by : (t : Bool) (x : ℕ) (xs : List ℕ) (e : ℕ) (ps : List (List ℕ)) (more : List (List ℕ)) → (t ≡ false → onto_first x ps ≡ (x ∷ take e xs) ∷ more) → (t ≡ true → ps ≡ more)
-    → cond t ([] ∷ ps) (onto_first x ps) ≡ take (cond (not t) (1 + e) 0) (x ∷ xs) ∷ more
-line_by true x xs e ps more f g = ap (λ (r : List (List ℕ)). [] ∷ r) (g refl)
-line_by false x xs e ps more f g = f refl ∙ ap (λ (k : ℕ). take k (x ∷ xs) ∷ more) (let s : suc e ≡ 1 + e = omega arith in s)
-
-rest_by : (t : Bool) (x : ℕ) (xs : List ℕ) (e : ℕ) → t ≡ false → drop (cond (not t) (1 + e) 0 + 1) (x ∷ xs) ≡ drop (e + 1) xs
-rest_by true x xs e f = cc
-rest_by false x xs e f = ap (λ (k : ℕ). drop k (x ∷ xs)) (let s : 1 + e + 1 ≡ suc (e + 1) = omega arith in s)
-
-rest_here : (t : Bool) (x : ℕ) (xs : List ℕ) (e : ℕ) → t ≡ true → drop (cond (not t) (1 + e) 0 + 1) (x ∷ xs) ≡ xs
-rest_here true x xs e f = refl
-rest_here false x xs e f = cc
-
 pub no_pieces : pieces (is 10) [] ≡ []
 unfolding pieces
 no_pieces = refl
-
--- the first line, and those after it
-pub line_step : (text : List ℕ) → 0 < length text
-    → pieces (is 10) text ≡ take (position_or_len (is 10) text) text ∷ pieces (is 10) (drop (position_or_len (is 10) text + 1) text)
-unfolding pieces
-line_step [] h = absurd (omega arith)
-line_step (x ∷ []) h =
-    line_by (is 10 x) x [] 0 [] _
-    (λ f. ap (λ (r : List (List ℕ)). (x ∷ []) ∷ r) (sym (ap (pieces (is 10)) (rest_by (is 10 x) x [] 0 f) ∙ no_pieces)))
-    (λ f. sym (ap (pieces (is 10)) (rest_here (is 10 x) x [] 0 f) ∙ no_pieces))
-line_step (x ∷ y ∷ xs) h =
-    line_by (is 10 x) x (y ∷ xs) (position_or_len (is 10) (y ∷ xs)) (pieces (is 10) (y ∷ xs)) _
-    (λ f. ap (onto_first x) (line_step (y ∷ xs) (omega arith))
-    ∙ ap (λ (r : List ℕ). (x ∷ take (position_or_len (is 10) (y ∷ xs)) (y ∷ xs)) ∷ pieces (is 10) r) (sym (rest_by (is 10 x) x (y ∷ xs) (position_or_len (is 10) (y ∷ xs)) f)))
-    (λ f. ap (pieces (is 10)) (sym (rest_here (is 10 x) x (y ∷ xs) (position_or_len (is 10) (y ∷ xs)) f)))
 
 pub count_lines : (n : ℕ) (ps : List (List ℕ)) → length (numbered n ps) ≡ length ps
 unfolding numbered

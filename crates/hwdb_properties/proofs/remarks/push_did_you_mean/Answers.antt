@@ -1,6 +1,6 @@
 use Rattle.std.proofs.Common.{◌∙◌, ◌∷◌, ◌++◌, [], ap}
 use Rattle.std.specs.Prelude.{codes}
-use Rattle.hwdb_properties.proofs.PieceLemmas.{three_pieces}
+use Rattle.hwdb_properties.proofs.AppendedLemmas.{three_pieces}
 use Rattle.hwdb_properties.proofs.remarks.push_did_you_mean.Goals as goal
 
 pub returns : goal.returns
