@@ -140,6 +140,7 @@ check-peer: $(PROGRAM) out/libhwdb.so.0
 	tests/peer/users out/hwdb
 	tests/peer/clients out/hwdb
 	tests/peer/device --kept
+	tests/peer/near out/hwdb
 	tests/peer/parse-hwdb
 
 bench: all

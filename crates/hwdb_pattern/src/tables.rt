@@ -144,7 +144,8 @@ pub(crate) fn has_admitted(table: &[bool], bytes: &[u8], text: &[u8]) -> bool
     false
 }
 
-/// Whether the table says so at some place. The first places are looked at one by one: in most tables that do, one of them does.
+/// Whether the table says so at some place. The first places are looked at one by one, since one of them does in most tables
+/// that do.
 pub(crate) fn has_some(table: &[bool]) -> bool
     ensures { SomeAt (λ k. slice_index_or table.now k false) (length table.now) result }
 {
