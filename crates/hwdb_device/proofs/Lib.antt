@@ -6,3 +6,4 @@ pub mod ListLemmas
 pub mod OutcomeLemmas
 pub mod PathLemmas
 pub mod PatternLemmas
+pub mod SameLemmas

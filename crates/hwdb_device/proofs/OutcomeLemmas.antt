@@ -1,9 +1,9 @@
 -- The properties that a device has in the end.
-use Rattle.std.proofs.Common.{◌≡◌, ◌∙◌, ◌==◌, ap, sym, refl, ℕ, false, true≢false, List, [], ◌∷◌, ◌++◌, append_assoc, codes, length, map, Vec, Global}
+use Rattle.std.proofs.Common.{◌≡◌, ◌∙◌, ◌==◌, ap, refl, ℕ, false, true≢false, List, [], ◌∷◌, ◌++◌, append_assoc, codes, length, map, Vec, Global}
 use Rattle.std.specs.Prelude.{flat_map}
 use Rattle.hwdb_spec.specs.Assignment.{in_order, text_cmp}
 use Rattle.hwdb_spec.specs.DeviceTexts.{Gift, given_to, key_of_gift, result_lines, results, results_text}
-use Rattle.hwdb_device.specs.Views.{outcome_in, outcomes_in}
+use Rattle.hwdb_device.specs.Views.{outcomes_in}
 use Rattle.hwdb_device.specs.declared.outcomes.Outcome.{Outcome}
 
 -- a key, and what it is given

@@ -1,7 +1,7 @@
 -- A pattern that is made for a text matches it.
-use Rattle.std.proofs.Common.{◌≡◌, ◌∙◌, ℕ, Bool, true, false, List, [], ◌∷◌, refl, ap, sym, ◌==◌, eq-eqb}
+use Rattle.std.proofs.Common.{◌≡◌, ℕ, Bool, true, false, List, [], ◌∷◌, refl, ◌==◌, eq-eqb}
 use Rattle.hwdb_spec.specs.DeviceTexts.{pattern_byte, pattern_for}
-use Rattle.hwdb_spec.specs.Patterns.{byte_then, literal, matches, one, piece_then, token_at, tokens, tokens_from}
+use Rattle.hwdb_spec.specs.Patterns.{byte_then, literal, matches, piece_then, token_at, tokens, tokens_from}
 
 -- a byte that begins no wildcard and no bracket stands for itself
 itself : (b : ℕ) (rest : List ℕ) → (b == 42) ≡ false → (b == 63) ≡ false → (b == 91) ≡ false → token_at (b ∷ rest) ≡ literal b

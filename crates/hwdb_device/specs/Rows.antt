@@ -1,11 +1,10 @@
 -- Worked rows: what is printed of a keyboard and of a mouse, by what strings get.
-use Rattle.std.specs.Prelude.{Bool, List, ℕ, [], ◌∷◌, ◌++◌, ◌≡◌, codes, if◌then◌else◌}
+use Rattle.std.specs.Prelude.{List, ℕ, [], ◌∷◌, ◌++◌, ◌≡◌, codes, if◌then◌else◌}
 use Rattle.hwdb_spec.specs.Assignment.{Assignment}
 use Rattle.hwdb_spec.specs.DeviceTexts.{device_row, found_form, pattern_for}
 use Rattle.hwdb_spec.specs.Folders.{same}
 use Rattle.hwdb_spec.specs.Lookups.{Told, lookups}
 use Rattle.hwdb_spec.specs.Sysfs.{Ancestor, Device}
-use Rattle.hwdb_spec.specs.declared.devices.DeviceForm.{DeviceForm}
 use Rattle.hwdb_spec.specs.declared.devices.DeviceForm.TheVariants as form
 use Rattle.hwdb_rules.specs.Rows.{keyboard, machine, mouse}
 

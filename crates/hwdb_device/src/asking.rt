@@ -1,5 +1,5 @@
 //! Strings are asked, as udev's rules ask them.
-ghost use Rattle.std.specs.Prelude.{◌≡◌, ◌++◌, ◌∷◌, [], IfOk, OnOk};
+ghost use Rattle.std.specs.Prelude.{◌≡◌, ◌++◌, IfOk, OnOk};
 ghost use Rattle.hwdb_spec.specs.Inputs.{no_kinds};
 ghost use Rattle.hwdb_spec.specs.Lookups;
 ghost use Rattle.hwdb_rules.specs.Views.{kinds_of, plans_of, questions_of, scene_of};

@@ -1,5 +1,5 @@
 //! The lines of JSON: one for each string, and one for the result.
-ghost use Rattle.std.specs.Prelude.{◌≡◌, ◌++◌, flat_map, map, IfOk, OnOk};
+ghost use Rattle.std.specs.Prelude.{◌≡◌, ◌++◌, map, IfOk, OnOk};
 ghost use Rattle.json.specs.Tree.{json_tokens};
 ghost use Rattle.hwdb_spec.specs.DeviceTexts;
 ghost use Rattle.hwdb_spec.specs.Json.{json_line};

@@ -23,6 +23,6 @@ mod texts;
 mod told;
 
 pub use hwdb_spec::DeviceForm;
-pub use laws::{device_rows, pattern_is_matched};
+pub use laws::{device_rows, pattern_is_matched, same_answers_same_text, text_is_of_files};
 pub use printing::device_text;
 pub use row::device_row;

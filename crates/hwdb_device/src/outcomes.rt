@@ -1,5 +1,5 @@
 //! The properties that a device has in the end.
-ghost use Rattle.std.specs.Prelude.{◌≡◌, ◌++◌, map, IfOk, OnOk};
+ghost use Rattle.std.specs.Prelude.{◌≡◌, map, IfOk, OnOk};
 ghost use Rattle.hwdb_spec.specs.Assignment.{in_order, put, put_all, text_cmp};
 ghost use Rattle.hwdb_spec.specs.DeviceTexts;
 ghost use Rattle.hwdb_spec.specs.DeviceTexts.{key_of_gift};

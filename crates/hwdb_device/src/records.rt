@@ -1,6 +1,5 @@
 //! A record to begin with: a pattern for a device, and which properties people set there.
-ghost use Rattle.std.specs.Prelude.{◌≡◌, ◌++◌, option_map, List, ℕ, true, IfOk, OnOk};
-ghost use Rattle.hwdb_spec.specs.Answers.{is_match};
+ghost use Rattle.std.specs.Prelude.{◌≡◌, ◌++◌, option_map, IfOk, OnOk};
 ghost use Rattle.hwdb_spec.specs.DeviceTexts;
 ghost use Rattle.hwdb_device.specs.Views.{all_found};
 

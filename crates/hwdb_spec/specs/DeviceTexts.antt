@@ -6,9 +6,10 @@ use Rattle.std.specs.Option.{option_map_or, option_or}
 use Rattle.json.specs.Json.{Json}
 use Rattle.hwdb_spec.specs.declared.devices.DeviceForm.{DeviceForm}
 use Rattle.hwdb_spec.specs.declared.devices.DeviceForm.TheVariants as form
+use Rattle.hwdb_spec.specs.Answers.{last_assignments}
 use Rattle.hwdb_spec.specs.Assignment.{Assignment, in_order, text_cmp}
 use Rattle.hwdb_spec.specs.Explanations.{explained, explanations_text}
-use Rattle.hwdb_spec.specs.Folders.{same}
+use Rattle.hwdb_spec.specs.Folders.{Source, all_assignments, same}
 use Rattle.hwdb_spec.specs.Json.{has_name, json_line, object_of, property_member, raw_members, text_json}
 use Rattle.hwdb_spec.specs.Lines.{byte, is_none}
 use Rattle.hwdb_spec.specs.Lookups.{Found, Told, first_value, lookups}
@@ -254,6 +255,14 @@ found_form form.Pattern d found = record_text found
 -- what `device` prints of a device, over a database
 abbrev pub device_text : DeviceForm → Device → Tree → List ℕ
 device_text as_form d t = found_form as_form d (asked_for d t)
+
+-- what a string gets, said of the files' plain list: of the last assignments that match it
+abbrev pub told_of_files : (etc usr : List Source) → List ℕ → Told
+told_of_files etc usr text = explained (last_assignments text None (all_assignments etc usr))
+
+-- what `device` prints of a device, said of the files' plain list
+abbrev pub files_device_text : DeviceForm → Device → (etc usr : List Source) → List ℕ
+files_device_text as_form d etc usr = found_form as_form d (lookups (told_of_files etc usr) d)
 
 -- an attribute of the first of a device and its parents that has it
 abbrev pub text_in : (attribute : List ℕ) → List Ancestor → Option (List ℕ)

@@ -1,4 +1,4 @@
-use Rattle.std.proofs.Common.{◌≡◌, ◌++◌, filter, length, map, take}
+use Rattle.std.proofs.Common.{◌≡◌, filter, take}
 use Rattle.hwdb_spec.specs.DeviceTexts
 use Rattle.hwdb_device.specs.Views.{gifts_in}
 use Rattle.hwdb_device.proofs.gifts.given_in_order.Given as goal
