@@ -23,8 +23,8 @@ fn put_if_named(json: &mut Writer, key: &[u8], value: &[u8]) -> Result<(), Alloc
     }
 }
 
-/// Adds the object of the properties whose keys are UTF-8.
-fn put_named(json: &mut Writer, properties: &[(&[u8], &[u8])]) -> Result<(), AllocError>
+/// Adds the object of the properties whose keys are UTF-8. The only error, here and below, is `AllocError`.
+pub fn put_named(json: &mut Writer, properties: &[(&[u8], &[u8])]) -> Result<(), AllocError>
     ensures before { json.new.before ≡ json.old.before }
     ensures tokens { OnOk result (json.new.tokens ≡ json.old.tokens ++ json_tokens
         (object_of (map property_member (filter has_name (pairs_bytes properties.now))))) }
@@ -67,7 +67,7 @@ fn push_if_raw<'a>(
 }
 
 /// The properties whose keys aren't UTF-8.
-fn raw_of<'a>(
+pub fn raw_of<'a>(
     alloc: Global,
     properties: &[(&'a [u8], &'a [u8])],
 ) -> Result<Vec<(&'a [u8], &'a [u8])>, AllocError>
@@ -95,7 +95,7 @@ fn put_pairs(json: &mut Writer, properties: &[(&[u8], &[u8])]) -> Result<(), All
 }
 
 /// Adds properties whose keys aren't UTF-8 under `raw`, if there are any.
-fn put_raw(json: &mut Writer, raw: &[(&[u8], &[u8])]) -> Result<(), AllocError>
+pub fn put_raw(json: &mut Writer, raw: &[(&[u8], &[u8])]) -> Result<(), AllocError>
     ensures before { json.new.before ≡ json.old.before }
     ensures tokens { OnOk result (json.new.tokens
         ≡ json.old.tokens ++ tokens_of_members (raw_members (pairs_bytes raw.now))) }

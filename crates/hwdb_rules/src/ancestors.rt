@@ -4,7 +4,7 @@ ghost use Rattle.std.specs.Option.{option_map, unwrap_or};
 ghost use Rattle.hwdb_spec.specs.Inputs;
 ghost use Rattle.hwdb_spec.specs.Lookups;
 ghost use Rattle.hwdb_spec.specs.Sysfs;
-ghost use Rattle.hwdb_spec.specs.Sysfs.{first_of, line_with, value_of};
+ghost use Rattle.hwdb_spec.specs.Sysfs.{first_of, has_text, line_with, value_of};
 ghost use Rattle.hwdb_sysfs.specs.Views.{ancestor_of, attribute_of};
 ghost use Rattle.hwdb_rules.specs.Internal.{found_at, passes};
 
@@ -249,4 +249,16 @@ pub(crate) fn some(wanted: Wanted<'_>, chain: &[Ancestor]) -> bool
     ensures { result ≡ Sysfs.some (passes wanted.entry) (map ancestor_of chain.now) }
 {
     first_of(wanted, chain).is_some()
+}
+
+/// An attribute of the first of a device and its parents that has it.
+pub fn first_text<'d>(chain: &'d [Ancestor], name: &[u8]) -> Option<&'d [u8]>
+    ensures { option_map (λ v. v.now) result
+        ≡ option_map (λ p. Sysfs.attribute_text name.now p.ancestor)
+        (Sysfs.first_of (has_text name.now) (map ancestor_of chain.now)) }
+{
+    match first_of(Wanted::With(name), chain) {
+        Some(at) => Some(attribute_text(at.ancestor, name)),
+        None => None,
+    }
 }

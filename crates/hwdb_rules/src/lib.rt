@@ -31,6 +31,7 @@ mod scene;
 mod values;
 mod walks;
 
+pub use ancestors::first_text;
 pub use attributes::ATTRIBUTES;
 pub use early::{early_rules, input_id_rules};
 pub use inputs::{Kinds, kinds_seen};

@@ -1,14 +1,15 @@
 -- What `device` prints of a device: the strings that udev asks for it, what a database gives each, and the properties that the device
 -- has in the end. The command and its forms are our choice.
-use Rattle.std.specs.Prelude.{Bool, ℕ, List, [], ◌∷◌, ◌++◌, codes, filter, flat_map, get_or, if◌then◌else◌, map, nat_eq, not, reverse}
-use Rattle.std.specs.List.{list_any, starts_with}
-use Rattle.std.specs.Option.{option_map_or}
+use Rattle.std.specs.Prelude.{Bool, true, ℕ, List, [], ◌∷◌, ◌++◌, ◌==◌, Option, None, Some, codes, filter, flat_map, get_or, if◌then◌else◌, map, nat_eq, not, option_map, reverse}
+use Rattle.std.specs.List.{starts_with}
+use Rattle.std.specs.Option.{option_map_or, option_or}
 use Rattle.json.specs.Json.{Json}
 use Rattle.hwdb_spec.specs.declared.devices.DeviceForm.{DeviceForm}
 use Rattle.hwdb_spec.specs.declared.devices.DeviceForm.TheVariants as form
+use Rattle.hwdb_spec.specs.Answers.{last_assignments}
 use Rattle.hwdb_spec.specs.Assignment.{Assignment, in_order, text_cmp}
 use Rattle.hwdb_spec.specs.Explanations.{explained, explanations_text}
-use Rattle.hwdb_spec.specs.Folders.{same}
+use Rattle.hwdb_spec.specs.Folders.{Source, all_assignments, same}
 use Rattle.hwdb_spec.specs.Json.{has_name, json_line, object_of, property_member, raw_members, text_json}
 use Rattle.hwdb_spec.specs.Lines.{byte, is_none}
 use Rattle.hwdb_spec.specs.Lookups.{Found, Told, first_value, lookups}
@@ -54,9 +55,13 @@ gifts_of f = map (gift_of f.text) f.told
 abbrev pub all_gifts : List Found → List Gift
 all_gifts found = flat_map gifts_of found
 
+-- whether a property has the key
+abbrev pub is_of : (key : List ℕ) → Gift → Bool
+is_of key g = same g.key key
+
 -- what is given a key, the last first
 abbrev pub given_to : (key : List ℕ) → List Gift → List Gift
-given_to key gifts = filter (λ (g : Gift). same g.key key) (reverse gifts)
+given_to key gifts = reverse (filter (is_of key) gifts)
 
 -- For each key what it is given, the last first, ascending by key: udev keeps the value that a property gets last.
 abbrev pub results : List Gift → List (List ℕ × List Gift)
@@ -67,9 +72,13 @@ abbrev pub value_given : List Gift → List ℕ
 value_given [] = []
 value_given (g ∷ more) = g.value
 
+-- a key, and its value in the end
+abbrev pub value_in_end : List ℕ × List Gift → List ℕ × List ℕ
+value_in_end r = (r.0, value_given r.1)
+
 -- the properties that a device has in the end
 abbrev pub result_of : List Gift → List (List ℕ × List ℕ)
-result_of gifts = map (λ (r : List ℕ × List Gift). (r.0, value_given r.1)) (results gifts)
+result_of gifts = map value_in_end (results gifts)
 
 -- ---- text
 
@@ -106,10 +115,14 @@ abbrev pub result_text : (key : List ℕ) → List Gift → List ℕ
 result_text key [] = []
 result_text key (g ∷ overridden) = property_text (key, g.value) ++ flat_map overridden_lines overridden
 
+-- the lines of a key
+abbrev pub result_lines : List ℕ × List Gift → List ℕ
+result_lines r = result_text r.0 r.1
+
 -- the properties that the device has in the end
 abbrev pub results_text : List (List ℕ × List Gift) → List ℕ
 results_text [] = codes "no properties\n"
-results_text (r ∷ more) = codes "properties:\n" ++ flat_map (λ (r : List ℕ × List Gift). result_text r.0 r.1) (r ∷ more)
+results_text (r ∷ more) = codes "properties:\n" ++ flat_map result_lines (r ∷ more)
 
 -- the subsystem of a device
 abbrev pub subsystem_of : List Ancestor → List ℕ
@@ -159,7 +172,9 @@ lookups_json d found = flat_map (λ f. json_line (found_json d f)) found ++ json
 
 -- the bytes that aren't themselves in a pattern of a text file (hwdb(7), and the `\` of fnmatch(3))
 abbrev pub is_special : ℕ → Bool
-is_special b = list_any (λ c. nat_eq c b) (codes "*?[\\#")
+is_special b =
+    if b == byte "*" then true
+    else (if b == byte "?" then true else (if b == byte "[" then true else (if b == byte "\\" then true else b == byte "#")))
 
 -- a byte of a pattern for a text
 abbrev pub pattern_byte : ℕ → ℕ
@@ -173,29 +188,51 @@ pattern_for text = map pattern_byte text
 abbrev pub any_property : List ℕ
 any_property = codes "# <KEY>=<value>\n"
 
--- The properties that are set at a pattern, by its prefix (60-evdev.hwdb, 60-keyboard.hwdb, 60-sensor.hwdb, 70-mouse.hwdb, and those of
--- joysticks and touchpads).
-abbrev pub settings : List (List ℕ × List ℕ)
-settings =
-    (codes "evdev:", codes "# KEYBOARD_KEY_<scan code>=<key name>\n# EVDEV_ABS_<axis>=<min>:<max>:<resolution>\n")
-    ∷ (codes "sensor:", codes "# ACCEL_MOUNT_MATRIX=<x1>, <y1>, <z1>; <x2>, <y2>, <z2>; <x3>, <y3>, <z3>\n")
-    ∷ (codes "mouse:", codes "# MOUSE_DPI=<dpi>@<hz>\n# MOUSE_WHEEL_CLICK_ANGLE=<degrees>\n")
-    ∷ (codes "touchpad:", codes "# ID_INPUT_TOUCHPAD_INTEGRATION=<internal or external>\n")
-    ∷ (codes "joystick:", codes "# ID_INPUT_JOYSTICK_INTEGRATION=<internal or external>\n") ∷ []
+-- the properties that are set at a pattern of keys (60-keyboard.hwdb, 60-evdev.hwdb)
+abbrev pub key_properties : List ℕ
+key_properties = codes "# KEYBOARD_KEY_<scan code>=<key name>\n# EVDEV_ABS_<axis>=<min>:<max>:<resolution>\n"
+
+-- those at a pattern of sensors (60-sensor.hwdb)
+abbrev pub sensor_properties : List ℕ
+sensor_properties = codes "# ACCEL_MOUNT_MATRIX=<x1>, <y1>, <z1>; <x2>, <y2>, <z2>; <x3>, <y3>, <z3>\n"
+
+-- those at a pattern of mice (70-mouse.hwdb)
+abbrev pub mouse_properties : List ℕ
+mouse_properties = codes "# MOUSE_DPI=<dpi>@<hz>\n# MOUSE_WHEEL_CLICK_ANGLE=<degrees>\n"
+
+-- those at a pattern of touchpads (70-touchpad.hwdb)
+abbrev pub touchpad_properties : List ℕ
+touchpad_properties = codes "# ID_INPUT_TOUCHPAD_INTEGRATION=<internal or external>\n"
+
+-- those at a pattern of joysticks (70-joystick.hwdb)
+abbrev pub joystick_properties : List ℕ
+joystick_properties = codes "# ID_INPUT_JOYSTICK_INTEGRATION=<internal or external>\n"
+
+-- whether a text begins with another
+abbrev pub begins : List ℕ → List ℕ → Bool
+begins start text = starts_with nat_eq text start
+
+-- the properties that people set at a pattern for a string, by what it begins with
+abbrev pub settings : List ℕ → Option (List ℕ)
+settings text =
+    if begins (codes "evdev:") text then Some key_properties
+    else (if begins (codes "sensor:") text then Some sensor_properties
+    else (if begins (codes "mouse:") text then Some mouse_properties
+    else (if begins (codes "touchpad:") text then Some touchpad_properties
+    else (if begins (codes "joystick:") text then Some joystick_properties else None))))
 
 -- a pattern for a string, and what is set there
 abbrev pub record_with : (text properties : List ℕ) → List ℕ
 record_with text properties = line_of (pattern_for text) ++ properties
 
--- the record of a string by the first prefix that it has; without one what was before
-unfoldable pub record_by : (before text : List ℕ) → List (List ℕ × List ℕ) → List ℕ
-record_by before text [] = before
-record_by before text (s ∷ more) = if starts_with nat_eq text s.0 then record_with text s.1 else record_by before text more
+-- the record of a string that people set properties for; of any other string what was before
+abbrev pub record_or : (before text : List ℕ) → List ℕ
+record_or before text = option_map_or (record_with text) (settings text) before
 
--- the record of the last string that has a prefix of the table; without one what was before
+-- the record of the last string that people set properties for; if there is none what was before
 unfoldable pub record_after : (before : List ℕ) → List Found → List ℕ
 record_after before [] = before
-record_after before (f ∷ more) = record_after (record_by before f.text settings) more
+record_after before (f ∷ more) = record_after (record_or before f.text) more
 
 -- the record of the first string, for any property
 abbrev pub first_record : List Found → List ℕ
@@ -219,15 +256,22 @@ found_form form.Pattern d found = record_text found
 abbrev pub device_text : DeviceForm → Device → Tree → List ℕ
 device_text as_form d t = found_form as_form d (asked_for d t)
 
--- an attribute that names a device, after two spaces
-abbrev pub named_by : (attribute : List ℕ) → At → List ℕ
-named_by name p = codes "  " ++ attribute_text name p.ancestor
+-- what a string gets, said of the files' plain list: of the last assignments that match it
+abbrev pub told_of_files : (etc usr : List Source) → List ℕ → Told
+told_of_files etc usr text = explained (last_assignments text None (all_assignments etc usr))
 
--- how a device is called: by the first of it and its parents that has the attribute `name`, or else `product`
+-- what `device` prints of a device, said of the files' plain list
+abbrev pub files_device_text : DeviceForm → Device → (etc usr : List Source) → List ℕ
+files_device_text as_form d etc usr = found_form as_form d (lookups (told_of_files etc usr) d)
+
+-- an attribute of the first of a device and its parents that has it
+abbrev pub text_in : (attribute : List ℕ) → List Ancestor → Option (List ℕ)
+text_in name chain = option_map (λ (p : At). attribute_text name p.ancestor) (first_of (has_text name) chain)
+
+-- how a device is called, after two spaces: by the attribute `name`, or else by `product`
 abbrev pub title_of : List Ancestor → List ℕ
 title_of chain =
-    option_map_or (named_by (codes "name")) (first_of (has_text (codes "name")) chain)
-    (option_map_or (named_by (codes "product")) (first_of (has_text (codes "product")) chain) [])
+    option_map_or (λ (title : List ℕ). codes "  " ++ title) (option_or (text_in (codes "name") chain) (text_in (codes "product") chain)) []
 
 -- the kernel's name of a device, and how it is called
 abbrev pub row_of : List Ancestor → List ℕ

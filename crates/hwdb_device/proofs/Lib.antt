@@ -1,0 +1,9 @@
+pub mod AskingLemmas
+pub mod ComputedRows
+pub mod JsonLemmas
+pub mod KeyLemmas
+pub mod ListLemmas
+pub mod OutcomeLemmas
+pub mod PathLemmas
+pub mod PatternLemmas
+pub mod SameLemmas

@@ -1,0 +1,5 @@
+use Rattle.hwdb_device.proofs.PatternLemmas.{matched}
+use Rattle.hwdb_device.proofs.laws.pattern_is_matched.Goals as goal
+
+pub returns : goal.returns
+returns c = record { matches = matched }

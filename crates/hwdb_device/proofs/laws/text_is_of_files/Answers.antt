@@ -1,0 +1,10 @@
+use Rattle.std.proofs.Common.{ap}
+use Rattle.hwdb_spec.specs.DeviceTexts.{told_by, told_of_files}
+use Rattle.hwdb_spec.specs.Explanations.{explained}
+use Rattle.hwdb_device.proofs.laws.text_is_of_files.Goals as goal
+
+pub returns : goal.returns
+returns c = record {
+  files = λ etc usr bytes of t is form d.
+      c.same_answers_same_text.ensures.same (told_by t) (told_of_files etc usr) (λ text. ap explained (c.compiled_answers_are_last.ensures.all etc usr bytes of t is text)) form d;
+}

@@ -1,0 +1,4 @@
+pub mod Views
+pub mod Internal
+pub mod Laws
+pub mod Rows

@@ -1,0 +1,37 @@
+//! Laws over the definitions alone. Each function does nothing: its contract is the law.
+ghost use Rattle.std.specs.Prelude.{◌≡◌, List, ℕ, true};
+ghost use Rattle.hwdb_spec.specs.Answers.{is_match};
+ghost use Rattle.hwdb_spec.specs.DeviceTexts;
+ghost use Rattle.hwdb_device.specs.Laws.{SameAnswersSameText, TextIsOfFiles};
+ghost use Rattle.hwdb_device.specs.Rows.{KeysRow, ListRow, MouseRow, NoRow, PatternRow, StringsRow, TextRow};
+
+use hwdb_query::compiled_answers_are_last;
+
+/// What is printed depends on what each string gets, and on nothing else of a database.
+pub fn same_answers_same_text()
+    ensures same { SameAnswersSameText }
+{}
+
+/// Over the database of some files what is printed is said by the last assignments that the files have.
+pub fn text_is_of_files()
+    ensures files { TextIsOfFiles }
+{
+    compiled_answers_are_last();
+    same_answers_same_text();
+}
+
+/// The pattern of a record to begin with matches its string.
+pub fn pattern_is_matched()
+    ensures matches { (text : List ℕ) → is_match text (DeviceTexts.pattern_for text) ≡ true }
+{}
+
+/// Worked rows: what is printed of a keyboard and of a mouse.
+pub fn device_rows()
+    ensures text { TextRow }
+    ensures strings { StringsRow }
+    ensures keys { KeysRow }
+    ensures mouse { MouseRow }
+    ensures pattern { PatternRow }
+    ensures list { ListRow }
+    ensures none { NoRow }
+{}

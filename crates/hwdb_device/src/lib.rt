@@ -1,0 +1,28 @@
+//! What `device` prints: the strings that udev asks for a device, and what a database gives each.
+//!
+//! `hwdb_rules` says which strings rules ask, and `hwdb_query` what each gets. Nothing here reads a file.
+//!
+//! | Module | What it does |
+//! |---|---|
+//! | `printing` | what is printed of a device |
+//! | `row` | the line of a device in a list |
+#![tactic(auto)]
+
+mod asking;
+mod found;
+mod gifts;
+mod json_lines;
+mod kinds;
+mod laws;
+mod outcomes;
+mod printing;
+mod records;
+mod row;
+mod strings;
+mod texts;
+mod told;
+
+pub use hwdb_spec::DeviceForm;
+pub use laws::{device_rows, pattern_is_matched, same_answers_same_text, text_is_of_files};
+pub use printing::device_text;
+pub use row::device_row;

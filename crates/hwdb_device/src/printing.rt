@@ -1,0 +1,51 @@
+//! What is printed of a device.
+ghost use Rattle.std.specs.Prelude.{◌≡◌, IfOk};
+ghost use Rattle.hwdb_spec.specs.DeviceTexts;
+ghost use Rattle.hwdb_sysfs.specs.Views.{device_of};
+ghost use Rattle.hwdb_device.specs.Views.{all_found};
+
+use crate::asking::lookups;
+use crate::found::Found;
+use crate::json_lines::lookups_json;
+use crate::records::record_text;
+use crate::strings::strings_text;
+use crate::texts::lookups_text;
+use hwdb_reader::Db;
+use hwdb_spec::DeviceForm;
+use hwdb_sysfs::Device;
+use std::alloc::{AllocError, Global};
+
+/// What is printed of strings that are asked for a device. The only error, here and below, is `AllocError`.
+fn found_form(
+    alloc: Global,
+    device: &Device,
+    found: &[Found<'_>],
+    form: DeviceForm,
+) -> Result<Vec<u8>, AllocError>
+    ensures { IfOk result (λ text. text.items
+        ≡ DeviceTexts.found_form form (device_of device.now) (all_found found.now)) }
+{
+    match form {
+        DeviceForm::Lookups => lookups_text(alloc, device, found),
+        DeviceForm::Strings => strings_text(alloc, found),
+        DeviceForm::Json => lookups_json(alloc, device, found),
+        DeviceForm::Pattern => record_text(alloc, found),
+    }
+}
+
+/// What `device` prints of a device, over a database.
+///
+/// Each string that udev asks is asked, in its order: a walk ends with an answer. The memory is that of all answers, and a
+/// few copies of their keys. Takes time in proportion to the keys times the properties, beside that of the answers.
+pub fn device_text(
+    alloc: Global,
+    db: &Db<'_>,
+    device: &Device,
+    form: DeviceForm,
+) -> Result<Vec<u8>, AllocError>
+    ensures text { IfOk result
+        (λ text. text.items ≡ DeviceTexts.device_text form (device_of device.now) db.now) }
+{
+    let found = lookups(alloc, Some(db), device)?;
+    found_form(alloc, device, &found, form)
+}
