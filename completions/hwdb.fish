@@ -65,7 +65,7 @@ end
 
 # The words that `help` takes.
 function __hwdb_command
-    printf '%s\n' update query explain ask list near check diff verify dump help
+    printf '%s\n' update query explain ask list near device check diff verify dump help
 end
 
 complete -c hwdb -n __hwdb_none -a update -d 'Compiles the text files of /etc/udev/hwdb.d and /usr/lib/udev/hwdb.d into /etc/udev/hwdb.bin'
@@ -74,6 +74,7 @@ complete -c hwdb -n __hwdb_none -a explain -d 'Prints the properties that the da
 complete -c hwdb -n __hwdb_none -a ask -d 'Prints the properties that one text file gives a device, as KEY=VALUE lines'
 complete -c hwdb -n __hwdb_none -a list -d 'Prints each assignment of the database that matches a device, with its position'
 complete -c hwdb -n __hwdb_none -a near -d 'Prints the patterns that match a device, and the nearest that don\'t, with the place where each stops'
+complete -c hwdb -n __hwdb_none -a device -d 'Prints the strings that udev asks the database for a device, and what each gives; without DEVICE lists the devices'
 complete -c hwdb -n __hwdb_none -a check -d 'Says what is wrong in text files, or hardly meant, and writes no database'
 complete -c hwdb -n __hwdb_none -a diff -d 'Prints what changed from one database to another'
 complete -c hwdb -n __hwdb_none -a verify -d 'Says whether a file is a database that can be read, and how much is in it'
@@ -92,6 +93,7 @@ complete -c hwdb -n '__hwdb_at explain' -l color -x -a 'auto always never' -d 'C
 complete -c hwdb -n '__hwdb_at ask' -l color -x -a 'auto always never' -d 'Color the output: auto, always or never; auto does so on a terminal'
 complete -c hwdb -n '__hwdb_at list' -l color -x -a 'auto always never' -d 'Color the output: auto, always or never; auto does so on a terminal'
 complete -c hwdb -n '__hwdb_at near' -l color -x -a 'auto always never' -d 'Color the output: auto, always or never; auto does so on a terminal'
+complete -c hwdb -n '__hwdb_at device' -l color -x -a 'auto always never' -d 'Color the output: auto, always or never; auto does so on a terminal'
 complete -c hwdb -n '__hwdb_at check' -l color -x -a 'auto always never' -d 'Color the output: auto, always or never; auto does so on a terminal'
 complete -c hwdb -n '__hwdb_at diff' -l color -x -a 'auto always never' -d 'Color the output: auto, always or never; auto does so on a terminal'
 complete -c hwdb -n '__hwdb_at verify' -l color -x -a 'auto always never' -d 'Color the output: auto, always or never; auto does so on a terminal'
@@ -104,10 +106,13 @@ complete -c hwdb -n '__hwdb_at query' -l json -d 'Print JSON, one object a line'
 complete -c hwdb -n '__hwdb_at explain' -l json -d 'Print JSON, one object a line'
 complete -c hwdb -n '__hwdb_at list' -l json -d 'Print JSON, one object a line'
 complete -c hwdb -n '__hwdb_at near' -l json -d 'Print JSON, one object a line'
+complete -c hwdb -n '__hwdb_at device' -l json -d 'Print JSON, one object a line'
 complete -c hwdb -n '__hwdb_at check' -l json -d 'Print JSON, one object a line'
 complete -c hwdb -n '__hwdb_at list' -l after -x -d 'Print only what stands after this position, as list prints it'
 complete -c hwdb -n '__hwdb_at list' -l limit -x -d 'Print at most N lines; 0 prints nothing'
 complete -c hwdb -n '__hwdb_at near' -l limit -x -d 'Print at most N patterns that don\'t match, in place of 3'
+complete -c hwdb -n '__hwdb_at device' -l strings -d 'Print the strings alone, one a line'
+complete -c hwdb -n '__hwdb_at device' -l pattern -d 'Print a record to begin with, which fits the device; before --json and --strings'
 complete -c hwdb -n '__hwdb_at check' -l allow -x -a 'byte-order-mark leading-tab carriage-return open-bracket empty-range spaced-equals cut-value repeated-match replaced near-name scan-code unknown-key unfit-value zero-row two-defaults unread unpaired unknown-prefix dead-pattern' -d 'Leave out warnings of this kind; may come more than once'
 
 complete -c hwdb -n '__hwdb_at query' -a '(__hwdb_modalias)' -d MODALIAS
@@ -117,6 +122,7 @@ complete -c hwdb -n '__hwdb_at ask 2' -a '(__hwdb_modalias)' -d MODALIAS
 complete -c hwdb -n '__hwdb_at list 1' -a '(__hwdb_modalias)' -d MODALIAS
 complete -c hwdb -n '__hwdb_at near' -k -a '(__hwdb_file)' -d FILE
 complete -c hwdb -n '__hwdb_at near' -a '(__hwdb_modalias)' -d MODALIAS
+complete -c hwdb -n '__hwdb_at device 1' -a '(__hwdb_device)' -d DEVICE
 complete -c hwdb -n '__hwdb_at check' -k -a '(__hwdb_file)' -d FILE
 complete -c hwdb -n '__hwdb_at diff 1' -k -a '(__hwdb_database)' -d OLD
 complete -c hwdb -n '__hwdb_at diff 2' -k -a '(__hwdb_database)' -d NEW

@@ -3,8 +3,8 @@ ghost use Rattle.std.specs.Prelude.{◌≡◌, ◌++◌, List, Some, ℕ, IfErr,
 ghost use Rattle.hwdb_spec.specs.DeviceAsked as spec;
 ghost use Rattle.hwdb_spec.specs.DeviceTree as tree;
 ghost use Rattle.hwdb_spec.specs.Failures.{IsOneLine};
-ghost use Rattle.hwdb_sysfs.specs.Answers.{sight_by};
-ghost use Rattle.hwdb_sysfs.specs.Finding.{IsUnfound};
+ghost use Rattle.hwdb_sysfs.specs.Answers.{Answers, seen, sight_by};
+ghost use Rattle.hwdb_sysfs.specs.Finding as finding;
 ghost use Rattle.hwdb_fs.specs.Refusals.{IsInWords};
 ghost use Rattle.hwdb_tool.specs.Devices.{IsNoDevice, IsNoSysfs, IsWorded};
 
@@ -22,12 +22,23 @@ pub fn sysfs_of<F: DeviceFiles>(alloc: Global, root: &str, files: &F) -> Result<
 {
     match sysfs_below(alloc, files, root.as_bytes()) {
         Ok(sys) => Ok(sys),
-        Err(Unfound::NoSysfs(path, cause)) => Err(no_sysfs(alloc, &path, cause)),
-        Err(_) => Err(Refusal::from(AllocError)),
+        Err(why) => Err(unmounted(alloc, why)),
     }
 }
 
-/// What is said if there is no sysfs.
+/// What is said if there is no sysfs, for this reason.
+fn unmounted(alloc: Global, why: Unfound) -> Refusal
+    ensures said { (answers : Answers) (root : List ℕ) → finding.IsNoSysfs answers root why
+        → IsNoSysfs root (seen answers) result }
+    ensures worded { IsWorded result }
+{
+    match why {
+        Unfound::NoSysfs(path, cause) => no_sysfs(alloc, &path, cause),
+        Unfound::Memory | Unfound::Unread(_) | Unfound::NoDevice => Refusal::from(AllocError),
+    }
+}
+
+/// The same, for this cause.
 fn no_sysfs(alloc: Global, path: &[u8], cause: Cause) -> Refusal
     ensures { (words : List ℕ) × IsOneLine words
         × IsInWords (spec.no_sysfs_text path.now words) result }
@@ -87,7 +98,7 @@ fn unmeant<F: DeviceFiles>(
     files: &F,
 ) -> Refusal
     ensures said { F.tells → (root : List ℕ)
-        → IsUnfound (F.answers files.now) root sys.now given.now why
+        → finding.IsUnfound (F.answers files.now) root sys.now given.now why
         → IsNoDevice root sys.now given.now (sight_by F.answers files.now) result }
     ensures worded { IsWorded result }
 {
@@ -97,7 +108,7 @@ fn unmeant<F: DeviceFiles>(
             no_device(alloc, sys, given, true, message.as_bytes(), files)
         }
         Unfound::NoDevice => no_device(alloc, sys, given, false, b"", files),
-        _ => Refusal::from(AllocError),
+        Unfound::Memory | Unfound::NoSysfs(..) => Refusal::from(AllocError),
     }
 }
 
