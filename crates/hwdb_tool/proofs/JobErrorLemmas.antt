@@ -1,5 +1,5 @@
 -- Words ask for one job, which ends with one error over one input, or is done.
-use Rattle.std.proofs.Common.{◌≡◌, ◌⊎◌, ◌∙◌, ◌∷◌, ⊎_elim, ap, map, sym, subst, refl, Bool, false, List, [], ℕ, Option, None, Some, string_bytes}
+use Rattle.std.proofs.Common.{◌≡◌, ◌∙◌, ◌∷◌, ⊎_elim, ap, map, sym, subst, refl, Bool, false, List, [], ℕ, Option, None, Some, string_bytes}
 use Rattle.std.specs.Prelude.{codes}
 use Rattle.clap.specs.Faults.{fault_of}
 use Rattle.clap.specs.Kinds.{IsAmong, Kinds}

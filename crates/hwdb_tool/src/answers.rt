@@ -48,8 +48,8 @@ pub fn explain<D: System, I: Source, O: Sink, E: Sink>(
         (told_by O.taken O.failures out.old) (told_by O.taken O.failures out.new)) }
     ensures unread { is_dash device.now ≡ false → input.new ≡ input.old }
     ensures reason { D.Store.tells → IfErr result (HasAskedReason
-        (is_dash device.now) root.now (D.System.may_fail system.now)
-        (D.Store.seen system.now) (I.left input.old) (I.failures input.old) (I.failures input.new)) }
+        (is_dash device.now) root.now (D.System.may_fail system.now) (D.Store.seen system.now)
+        (I.left input.old) (I.failures input.old) (I.failures input.new)) }
     ensures out_hands_on { HandsOn (O.is_flushed out.old) (O.is_flushed out.new)
         (O.failures out.old) (O.failures out.new) }
     ensures err_hands_on { HandsOn (E.is_flushed err.old) (E.is_flushed err.new)

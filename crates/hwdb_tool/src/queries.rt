@@ -45,7 +45,8 @@ pub fn query<D: System, I: Source, O: Sink, E: Sink>(
     ensures unread { is_input (map string_bytes devices.now) ≡ false → input.new ≡ input.old }
     ensures reason { D.Store.tells → IfErr result (HasAskedReason
         (is_input (map string_bytes devices.now)) root.now (D.System.may_fail system.now)
-        (D.Store.seen system.now) (I.left input.old) (I.failures input.old) (I.failures input.new)) }
+        (D.Store.seen system.now)
+        (I.left input.old) (I.failures input.old) (I.failures input.new)) }
     ensures out_hands_on { HandsOn (O.is_flushed out.old) (O.is_flushed out.new)
         (O.failures out.old) (O.failures out.new) }
     ensures err_hands_on { HandsOn (E.is_flushed err.old) (E.is_flushed err.new)
