@@ -4,7 +4,7 @@ use Rattle.std.specs.Fmt.{digits}
 use Rattle.hwdb_spec.specs.Lines.{pieces, trimmed, numbered}
 use Rattle.hwdb_spec.specs.Records.{behind, first_section, sections_from}
 use Rattle.hwdb_spec.specs.Wanted.{records_from}
-use Rattle.hwdb_expect.specs.Rows.{FileRows, HoldRows, MalformedRows, TextRows}
+use Rattle.hwdb_expect.specs.Rows.{AssignRows, FileRows, HoldRows, MalformedRows, TextRows}
 
 pub hold_rows : HoldRows
 hold_rows = refl
@@ -12,6 +12,10 @@ hold_rows = refl
 pub file_rows : FileRows
 unfolding pieces trimmed numbered records_from
 file_rows = refl
+
+pub assign_rows : AssignRows
+unfolding pieces trimmed numbered records_from behind first_section sections_from
+assign_rows = refl
 
 pub malformed_rows : MalformedRows
 unfolding pieces trimmed numbered behind first_section sections_from

@@ -1,6 +1,7 @@
 -- Worked rows of test files: what the definitions give when they are computed.
-use Rattle.std.specs.Prelude.{true, false, List, [], ℕ, codes, map, ◌∷◌, ◌≡◌}
-use Rattle.hwdb_spec.specs.Lines.{Line}
+use Rattle.std.specs.Prelude.{true, false, List, [], ℕ, codes, flat_map, map, ◌∷◌, ◌≡◌}
+use Rattle.hwdb_spec.specs.Lines.{Line, key, value}
+use Rattle.hwdb_spec.specs.Records.{assignments}
 use Rattle.hwdb_spec.specs.declared.Fault.{Fault}
 use Rattle.hwdb_spec.specs.Wanted.{GivenValue, Record, about, end_text, failures, holds, malformed, records}
 
@@ -34,6 +35,16 @@ abbrev pub FileRows : Type 0
 FileRows =
     map in_short (records (codes "# c\na:1\nb:2  # c\n A=1\n# c\n !B\n\nc\n =\n"))
     ≡ (codes "a:1" ∷ codes "b:2" ∷ [], 4 ∷ 6 ∷ []) ∷ (codes "c" ∷ [], 9 ∷ []) ∷ []
+
+-- a file whose lines want values
+abbrev pub valued_file : List ℕ
+valued_file = codes "a:1\nb:2\n A=1\n B=2  # c\n\n\nc\n A=x=y\n"
+
+-- Which device is wanted to have which value is what the file would assign as a text file of hwdb(7): to the same pattern.
+abbrev pub AssignRows : Type 0
+AssignRows =
+    flat_map (λ r. flat_map (λ l. map {B = List ℕ × (List ℕ × List ℕ)} (λ d. (d, (key l, value l))) r.devices) r.lines) (records valued_file)
+    ≡ map (λ a. (a.position.pattern, (a.position.key, a.value))) (assignments (record { path = []; priority = 1 }) valued_file)
 
 -- Which lines are malformed: none of a good file; a property without a device; `B` without `=` or `!`; `!` alone, and with a blank
 -- after it; `=1`; a device after a property; a device without properties.

@@ -1,6 +1,6 @@
 //! More about the definitions, in words of their own. These functions do nothing: what each of them ensures is a law.
 ghost use Rattle.hwdb_expect.specs.Laws.{CountingAreEffective, FailingIsTold, HoldingIsSilent, ZeroIfAllHold};
-ghost use Rattle.hwdb_expect.specs.Rows.{FileRows, HoldRows, MalformedRows, TextRows};
+ghost use Rattle.hwdb_expect.specs.Rows.{AssignRows, FileRows, HoldRows, MalformedRows, TextRows};
 
 use hwdb_query::explained_are_effective;
 
@@ -28,6 +28,7 @@ pub fn zero_if_all_hold()
 pub fn worked_rows()
     ensures holds { HoldRows }
     ensures files { FileRows }
+    ensures assigns { AssignRows }
     ensures malformed { MalformedRows }
     ensures texts { TextRows }
 {}

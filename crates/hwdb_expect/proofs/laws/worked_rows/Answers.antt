@@ -1,10 +1,11 @@
-use Rattle.hwdb_expect.proofs.ComputedRows.{file_rows, hold_rows, malformed_rows, text_rows}
+use Rattle.hwdb_expect.proofs.ComputedRows.{assign_rows, file_rows, hold_rows, malformed_rows, text_rows}
 use Rattle.hwdb_expect.proofs.laws.worked_rows.Goals as goal
 
 pub returns : goal.returns
 returns c = record {
   holds = hold_rows;
   files = file_rows;
+  assigns = assign_rows;
   malformed = malformed_rows;
   texts = text_rows;
 }
