@@ -22,7 +22,7 @@ use Rattle.hwdb_lint.specs.Laws.{KindsAreNamed, PatternsAreJudged, RunsAreAll, U
 -- ---- runs
 one_more : (n first : ℕ) → all_bytes_from (suc n) first ≡ all_bytes_from n first ++ (n + first) ∷ []
 unfolding all_bytes_from
-one_more zero first = refl
+one_more zero first = let e : first ≡ 0 + first = omega arith in ap (λ (b : ℕ). b ∷ []) e
 one_more (suc n) first =
     ap (λ (l : List ℕ). first ∷ l) (one_more n (suc first) ∙ ap (λ (b : ℕ). all_bytes_from n (suc first) ++ b ∷ []) (let e : n + suc first ≡ suc n + first = omega arith in e))
 
@@ -39,17 +39,18 @@ one_byte b = let n : suc b - b ≡ suc zero = omega arith in ap (λ (k : ℕ). a
 from_run : (first last : ℕ) (bytes : List ℕ) → first ≤ last → flat_map run_bytes (runs_from first last bytes) ≡ run_bytes (first, last) ++ bytes
 unfolding runs_from
 from_run first last [] h = refl
-from_run first last (b ∷ more) h = by (b == last + 1) refl
+from_run first last (b ∷ more) h = by (b == last + 1) refl (λ k. from_run first b more k) (from_run b b more (omega arith))
   where
-    by : (c : Bool) → (b == last + 1) ≡ c → flat_map run_bytes (if c then runs_from first b more else (first, last) ∷ runs_from b b more) ≡ run_bytes (first, last) ++ b ∷ more
-    by true e =
+    by : (c : Bool) → (b == last + 1) ≡ c → (first ≤ b → flat_map run_bytes (runs_from first b more) ≡ run_bytes (first, b) ++ more) → flat_map run_bytes (runs_from b b more) ≡ run_bytes (b, b) ++ more
+        → flat_map run_bytes (if c then runs_from first b more else (first, last) ∷ runs_from b b more) ≡ run_bytes (first, last) ++ b ∷ more
+    by true e longer other =
         let is : b ≡ suc last = (let k : b ≡ last + 1 = eqb-true b (last + 1) e in omega (arith, k)) in
-        from_run first b more (omega (arith, is, h))
+        longer (omega (arith, is, h))
         ∙ ap (λ (x : ℕ). run_bytes (first, x) ++ more) is
         ∙ ap (λ (l : List ℕ). l ++ more) (longer_run first last h)
         ∙ append_assoc (run_bytes (first, last)) (suc last ∷ []) more
         ∙ ap (λ (x : ℕ). run_bytes (first, last) ++ x ∷ more) (sym is)
-    by false e = ap (λ (l : List ℕ). run_bytes (first, last) ++ l) (from_run b b more (omega arith) ∙ ap (λ (l : List ℕ). l ++ more) (one_byte b))
+    by false e longer other = ap (λ (l : List ℕ). run_bytes (first, last) ++ l) (other ∙ ap (λ (l : List ℕ). l ++ more) (one_byte b))
 
 pub all_runs : RunsAreAll
 all_runs [] = refl
@@ -161,10 +162,10 @@ unfolding pieces
 long = refl
 
 among : (n : ℕ) (name : List ℕ) → n < 20 → name ≡ get_or names n [] → (n ≡ 19) ⊎ Contains kinds name
+unfolding pieces
 among n name lt is = by (n == 19) refl
   where
     short : length kinds ≡ 19
-    unfolding pieces
     short = refl
 
     in_front : (xs : List (List ℕ)) (i : ℕ) → i < length xs → get_or (xs ++ [] ∷ []) i [] ≡ get_or xs i name
