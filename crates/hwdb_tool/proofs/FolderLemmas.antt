@@ -19,6 +19,9 @@ use Rattle.hwdb_compile.specs.declared.sources.ChosenFile.{ChosenFile}
 use Rattle.hwdb_compile.specs.Views.{AreChosenOf, bytes_in, choice_in}
 use Rattle.hwdb_tool.specs.Internal.{AreReadOf}
 use Rattle.hwdb_fs.specs.Internal.{AreSelected, AreTexts}
+use Rattle.hwdb_fs.specs.Reading.{IsText}
+use Rattle.hwdb_spec.specs.Texts.{max_file}
+use Rattle.hwdb_tool.specs.Readable.{AreAllRead}
 
 -- what an option holds, or nothing
 abbrev value : Option (List ℕ) → List ℕ
@@ -146,3 +149,36 @@ are_read root seen usr chosen texts files s choices bytes = record {
   named = names_back (usr_files root) seen usr;
   are = are_chosen root seen s.etc usr chosen texts files s.is s.few s.listed s.read choices bytes;
 }
+
+-- each of them was read
+abbrev head_of : List (Option (List ℕ)) → Option (List ℕ)
+head_of [] = None
+head_of (o ∷ more) = o
+
+abbrev tail_of : List (Option (List ℕ)) → List (Option (List ℕ))
+tail_of [] = []
+tail_of (o ∷ more) = more
+
+module _ (root : List ℕ) (seen : Contents) where
+  abbrev IsShortText : List ℕ → Type 0
+  IsShortText t = length t ≤ max_file
+
+  abbrev IsTextOf : Choice → Type 0
+  IsTextOf c = IsText seen (root ++ path_of c)
+
+  texts_read : (texts : List (List ℕ)) (cs : List Choice) → map Some texts ≡ map (λ c. bytes_at seen (root ++ path_of c)) cs → All IsShortText texts → All IsTextOf cs
+  texts_read [] [] e short = All-nil IsTextOf
+  texts_read [] (c ∷ cs) e short = absurd (let n = ap length e in omega (arith, n))
+  texts_read (t ∷ texts) [] e short = absurd (let n = ap length e in omega (arith, n))
+  texts_read (t ∷ texts) (c ∷ cs) e short =
+      All-cons IsTextOf c cs (record { bytes = t; there = sym (ap head_of e); within = All-head IsShortText t texts short })
+      (texts_read texts cs (ap tail_of e) (All-tail IsShortText t texts short))
+
+  pub all_read : (usr : List (List ℕ)) (chosen : List Choice) (texts : List (List ℕ)) → AreSelected root seen usr chosen texts → AreAllRead root seen
+  all_read usr chosen texts s = record {
+    etc = s.etc;
+    usr = usr;
+    in_etc = s.in_etc;
+    in_usr = s.in_usr;
+    read = subst (All IsTextOf) s.is (texts_read texts chosen s.read s.within);
+  }

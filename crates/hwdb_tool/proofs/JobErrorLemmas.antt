@@ -1,5 +1,5 @@
 -- Words ask for one job, which ends with one error over one input, or is done.
-use Rattle.std.proofs.Common.{◌≡◌, ◌⊎◌, ◌∙◌, ◌∷◌, ⊎_elim, map, sym, subst, refl, false, List, [], ℕ, Option, None, Some, string_bytes}
+use Rattle.std.proofs.Common.{◌≡◌, ◌∙◌, ◌∷◌, ⊎_elim, ap, map, sym, subst, refl, Bool, false, List, [], ℕ, Option, None, Some, string_bytes}
 use Rattle.std.specs.Prelude.{codes}
 use Rattle.clap.specs.Faults.{fault_of}
 use Rattle.clap.specs.Kinds.{IsAmong, Kinds}
@@ -15,14 +15,15 @@ use Rattle.hwdb_cli.specs.declared.job.Task.TheVariants.{Ask, Check, Diff, Dump,
 use Rattle.hwdb_cli.specs.declared.job.WordsFault.TheVariants as words_fault
 use Rattle.hwdb_cli.specs.declared.job.WordsFault.{WordsFault}
 use Rattle.hwdb_spec.specs.Given.{is_input}
+use Rattle.hwdb_spec.specs.Hiding.{hiding_text}
 use Rattle.hwdb_spec.specs.Store.{Contents, Outcomes}
 use Rattle.hwdb_spec.specs.System.{database_folder}
 use Rattle.hwdb_print.specs.declared.errors.ToolError.TheVariants.{Read, Write, TooLong, TooManyFiles, TooManyLines, TooLarge, BadPosition, BadDatabase, Replace, Memory}
 use Rattle.hwdb_fs.specs.Refusals.{HasReason, IsUnentered}
 use Rattle.hwdb_fs.specs.declared.refusals.Refusal.{Refusal}
 use Rattle.hwdb_fs.specs.declared.refusals.Refusal.TheVariants.{At, InWords, NoDatabase, Plain}
-use Rattle.hwdb_tool.specs.OneOutcome.{ListingsGiveOneChoice, scene_of}
-use Rattle.hwdb_tool.specs.OneRefusal.{OnlyReads, IsOfWhatIsRead, JobEndsInOneError, DoneJobIsNoError, JobIsNotTold, RootIsEntered, scene_then}
+use Rattle.hwdb_tool.specs.OneOutcome.{ListingsGiveOneChoice, ListingsGiveOneReading, scene_of}
+use Rattle.hwdb_tool.specs.OneRefusal.{IsCovered, IsOfWhatIsRead, JobEndsInOneError, DoneJobIsNoError, JobIsNotTold, RootIsEntered, scene_then}
 use Rattle.hwdb_tool.specs.Program.{root_of}
 use Rattle.hwdb_tool.specs.TaskRefusals.{refused_status}
 use Rattle.hwdb_tool.specs.Undone.{IsUnwritable}
@@ -30,11 +31,11 @@ use Rattle.hwdb_tool.proofs.DatabaseErrorLemmas.{OneHeader, OneTree, Undumped, U
 use Rattle.hwdb_tool.proofs.AskErrorLemmas.{OneForm, Unasked}
 use Rattle.hwdb_tool.proofs.DiffErrorLemmas.{Undiffed}
 use Rattle.hwdb_tool.proofs.JobLemmas.{apart, cut_last, is_named, one_value, one_values, same_root, word_of}
-use Rattle.hwdb_tool.proofs.TaskErrorLemmas.{Unchecked, Uncompared, Why, end_of, not_both_ends, why}
+use Rattle.hwdb_tool.proofs.TaskErrorLemmas.{IsLeftThen, Unchecked, Uncompared, Why, end_of, not_both_ends, said_first, why}
 
 -- two tasks that the same words ask for
 module _ (name : Text) (inner : List Row) where
-  same_kind : (t u : Task) → IsTask name inner t → IsTask name inner u → OnlyReads t → OnlyReads u
+  same_kind : (t u : Task) → IsTask name inner t → IsTask name inner u → IsCovered t → IsCovered u
   same_kind (Query devices1 json1) (Query devices2 json2) t u kind =
       subst (λ (ds : List (List ℕ)). is_input ds ≡ false) (sym (one_values (all_of (codes "MODALIAS") inner) _ _ u.2 t.2)) kind
   same_kind (Explain device1 json1) (Explain device2 json2) t u kind =
@@ -43,7 +44,7 @@ module _ (name : Text) (inner : List Row) where
   same_kind (Diff old1 new1) (Diff old2 new2) t u kind = tt
   same_kind (Verify database1) (Verify database2) t u kind = tt
   same_kind (Dump database1) (Dump database2) t u kind = tt
-  same_kind (Update v1 k1) (Update v2 k2) t u kind = absurd kind
+  same_kind (Update v1 k1) (Update v2 k2) t u kind = u.2 ∙ sym t.2 ∙ kind
   same_kind (Ask file1 device1) (Ask file2 device2) t u kind = tt
   same_kind (Check files1 allowed1 json1) (Check files2 allowed2 json2) t u kind = tt
   same_kind (Near files1 device1 limit1 json1) (Near files2 device2 limit2 json2) t u kind = tt
@@ -73,7 +74,7 @@ module _ (name : Text) (inner : List Row) where
         (subst (λ (p : List ℕ). Undiffed (string_bytes old2) p files r) (one_value (first_of (codes "NEW") inner) _ _ u.2 t.2) is)
     same_why (Verify database1) (Verify database2) t u is = subst (λ (d : Option (List ℕ)). Unverified header fails U root files d r) (u.1 ∙ sym t.1) is
     same_why (Dump database1) (Dump database2) t u is = subst (λ (d : Option (List ℕ)). Undumped header fails U root files d r) (u.1 ∙ sym t.1) is
-    same_why (Update v1 k1) (Update v2 k2) t u is = absurd is
+    same_why (Update v1 k1) (Update v2 k2) t u is = is
     same_why (Ask file1 device1) (Ask file2 device2) t u is = subst (λ (f : List ℕ). Unasked f input files r) (one_value (first_of (codes "FILE") inner) _ _ u.1 t.1) is
     same_why (Check files1 allowed1 json1) (Check files2 allowed2 json2) t u is =
         subst (λ (fs : List (List ℕ)). Unchecked fs input files root r) (u.1 ∙ sym t.1) is
@@ -82,9 +83,32 @@ module _ (name : Text) (inner : List Row) where
         subst (λ (fs : List (List ℕ)). Uncompared header tree fs input files root r) one.0 is
     same_why task1 task2 t u is = apart (word_of task1) (word_of task2) refl (sym (is_named name inner task1 t) ∙ is_named name inner task2 u)
 
+  -- what both say first
+  same_said : (header : OneHeader) (tree : OneTree) (root : List ℕ) (usr : Bool) (files : Contents) (t u : Task) → IsTask name inner t → IsTask name inner u
+      → said_first header tree u root usr files ≡ said_first header tree t root usr files
+  same_said header tree root usr files (Query devices1 json1) (Query devices2 json2) t u = refl
+  same_said header tree root usr files (Explain device1 json1) (Explain device2 json2) t u = refl
+  same_said header tree root usr files (ListHits after1 limit1 device1 json1) (ListHits after2 limit2 device2 json2) t u = refl
+  same_said header tree root usr files (Diff old1 new1) (Diff old2 new2) t u = refl
+  same_said header tree root usr files (Verify database1) (Verify database2) t u = refl
+  same_said header tree root usr files (Dump database1) (Dump database2) t u = refl
+  same_said header tree root usr files (Update v1 k1) (Update v2 k2) t u = ap (λ (v : Bool). hiding_text usr v root files) (u.1 ∙ sym t.1)
+  same_said header tree root usr files (Ask file1 device1) (Ask file2 device2) t u = refl
+  same_said header tree root usr files (Check files1 allowed1 json1) (Check files2 allowed2 json2) t u = refl
+  same_said header tree root usr files (Near files1 device1 limit1 json1) (Near files2 device2 limit2 json2) t u = refl
+  same_said header tree root usr files task1 task2 t u = apart (word_of task1) (word_of task2) refl (sym (is_named name inner task1 t) ∙ is_named name inner task2 u)
+
 -- two jobs that the same words ask for
 module _ (top : List Row) where
-  kind_of_job : (found : Option (Text × List Row)) (j k : Job) → IsJobOf top found j → IsJobOf top found k → OnlyReads j.task → OnlyReads k.task
+  said_of_job : (header : OneHeader) (tree : OneTree) (files : Contents) (found : Option (Text × List Row)) (j k : Job) → IsJobOf top found j → IsJobOf top found k
+      → said_first header tree k.task (root_of k) k.usr files ≡ said_first header tree j.task (root_of j) j.usr files
+  said_of_job header tree files None j k one two = absurd one
+  said_of_job header tree files (Some p) j k one two =
+      ap (λ (r : List ℕ). said_first header tree k.task r k.usr files) (same_root top p.0 p.1 j k one two)
+      ∙ ap (λ (b : Bool). said_first header tree k.task (root_of j) b files) (two.usr ∙ sym one.usr)
+      ∙ same_said p.0 p.1 header tree (root_of j) j.usr files j.task k.task one.task two.task
+
+  kind_of_job : (found : Option (Text × List Row)) (j k : Job) → IsJobOf top found j → IsJobOf top found k → IsCovered j.task → IsCovered k.task
   kind_of_job None j k one two kind = absurd one
   kind_of_job (Some p) j k one two kind = same_kind p.0 p.1 j.task k.task one.task two.task kind
 
@@ -138,7 +162,7 @@ pub root_is_entered : (fails fails_now : List ℕ → Type 0) (left left_now : O
 root_is_entered fails fails_now left left_now = λ words status before now refused never of.
     entered fails before.files refused.unread.0 never refused.refusal refused.unread.3 refused.reason of
 
-module _ (header : OneHeader) (tree : OneTree) (choice : ListingsGiveOneChoice) (fails fails_now fails2 fails2_now : List ℕ → Type 0) (left left_now left2 left2_now : Outcomes) where
+module _ (header : OneHeader) (tree : OneTree) (choice : ListingsGiveOneChoice) (reading : ListingsGiveOneReading) (fails fails_now fails2 fails2_now : List ℕ → Type 0) (left left_now left2 left2_now : Outcomes) where
   pub one_job_error : JobEndsInOneError fails fails_now fails2 fails2_now left left_now left2 left2_now
   one_job_error = λ words status status2 before now before2 now2 input one two kind is is2.
       let top = matches_of hwdb_app words in
@@ -148,12 +172,14 @@ module _ (header : OneHeader) (tree : OneTree) (choice : ListingsGiveOneChoice) 
       let then_ = scene_then one.err_then now in
       let then2 = scene_then two.err_then now2 in
       let kind2 = kind_of_job top found j k one.asked two.asked kind in
-      let first = why header tree fails fails_now left left_now (root_of j) j.usr j.strict one.refusal before then_ is.of is.told is.listed j.task kind is.never one.refused in
-      let second = why header tree fails2 fails2_now left2 left2_now (root_of k) k.usr k.strict two.refusal before2 then2 is2.of is2.told is2.listed k.task kind2 is2.never two.refused in
+      let first = why header tree fails fails_now left left_now (root_of j) j.usr j.strict one.refusal before then_ is.of is.told is.listed input.err.bytes input.err.of_one j.task kind is.never one.refused in
+      let second = why header tree fails2 fails2_now left2 left2_now (root_of k) k.usr k.strict two.refusal before2 then2 is2.of is2.told is2.listed input.err.bytes input.err.of_two k.task kind2 is2.never two.refused in
       let U2 = IsUnwritable (database_folder k.usr (root_of k)) before2.files before2.failures then2.failures in (
         one.says ∙ status_of_job top found j k one.asked two.asked ∙ sym two.says,
-        end_of header tree choice fails fails2 (IsUnwritable (database_folder j.usr (root_of j)) before.files before.failures then_.failures) U2 (root_of j) one.refusal two.refusal before then_ before2 then2 input j.task kind first.0
-            (why_of_job top header tree fails2 U2 before2.input.bytes before2.files two.refusal found j k one.asked two.asked second.0) first.1 second.1,
+        end_of header tree choice reading fails fails2 (IsUnwritable (database_folder j.usr (root_of j)) before.files before.failures then_.failures) U2 (root_of j) one.refusal two.refusal before then_ before2 then2 (said_first header tree j.task (root_of j) j.usr before.files) input j.task kind first.0
+            (why_of_job top header tree fails2 U2 before2.input.bytes before2.files two.refusal found j k one.asked two.asked second.0) first.1
+            (subst (λ (t : List ℕ). IsLeftThen header tree input.err.bytes t before2 then2)
+            (ap (λ (f : Contents). said_first header tree k.task (root_of k) k.usr f) input.files ∙ said_of_job top header tree before.files found j k one.asked two.asked) second.1),
       )
 
   pub no_job_error : OneForm → DoneJobIsNoError fails fails_now fails2 fails2_now left left_now left2 left2_now
@@ -163,10 +189,10 @@ module _ (header : OneHeader) (tree : OneTree) (choice : ListingsGiveOneChoice) 
       let j = done.job in
       let k = refused.job in
       let then2 = scene_then refused.err_then now2 in
-      let second = why header tree fails2 fails2_now left2 left2_now (root_of k) k.usr k.strict refused.refusal before2 then2 is.of is.told is.listed k.task (kind_of_job top found j k done.asked refused.asked kind) is.never refused.refused in
+      let second = why header tree fails2 fails2_now left2 left2_now (root_of k) k.usr k.strict refused.refusal before2 then2 is.of is.told is.listed input.err.bytes input.err.of_two k.task (kind_of_job top found j k done.asked refused.asked kind) is.never refused.refused in
       let U2 = IsUnwritable (database_folder k.usr (root_of k)) before2.files before2.failures then2.failures in
       let told = input.input.bytes in
-      not_both_ends header tree choice form fails2 U2 (root_of j) j.usr j.strict status refused.refusal (scene_of fails left before) (scene_of fails_now left_now now) told input.input.of_one j.task kind done.done
+      not_both_ends header tree choice reading form fails2 U2 (root_of j) j.usr j.strict status refused.refusal (scene_of fails left before) (scene_of fails_now left_now now) told input.input.of_one j.task kind done.done
       (subst (λ (f : Contents). Why header tree fails2 U2 (Some told) f j.task (root_of j) refused.refusal) input.files
       (subst (λ (i : Option (List ℕ)). Why header tree fails2 U2 i before2.files j.task (root_of j) refused.refusal) input.input.of_two
       (why_of_job top header tree fails2 U2 before2.input.bytes before2.files refused.refusal found j k done.asked refused.asked second.0)))

@@ -1,39 +1,47 @@
 -- A task that reads few files ends with one error over one input, or is done.
 use Rattle.std.proofs.Common.{◌≡◌, ◌⊎◌, ◌∙◌, ◌==◌, inl, inr, ap, arith, eqb-true, sym, subst, suc, refl, ℕ, Bool, true, false, length, not, List, [], ◌∷◌, map, Option, None, Some, string_bytes, Global, String}
+use Rattle.std.proofs.lemmas.List.{append-nil}
+use Rattle.std.specs.Io.KnownBytes.{Appends}
 use Rattle.std.specs.Prelude.{option_map}
 use Rattle.hwdb_cli.specs.declared.job.Task.{Task}
-use Rattle.hwdb_cli.specs.declared.job.Task.TheVariants.{Ask, Check, Diff, Dump, Explain, List as ListHits, Near, Query, Verify}
+use Rattle.hwdb_cli.specs.declared.job.Task.TheVariants.{Ask, Check, Diff, Dump, Explain, List as ListHits, Near, Query, Update, Verify}
 use Rattle.hwdb_spec.specs.Asked.{IsAnswered}
 use Rattle.hwdb_spec.specs.CheckedFiles.{AreCheckedFiles, AreChosenFiles, AreGivenFiles}
 use Rattle.hwdb_spec.specs.Databases.{IsTextOf}
 use Rattle.hwdb_spec.specs.Done.{IsAsked}
 use Rattle.hwdb_spec.specs.Failures.{HasFailed}
-use Rattle.hwdb_spec.specs.Folders.{Source}
+use Rattle.hwdb_spec.specs.Folders.{Choice, Source}
+use Rattle.hwdb_spec.specs.Hiding.{hiding_text}
+use Rattle.hwdb_spec.specs.LeftOut.{without}
 use Rattle.hwdb_spec.specs.Given.{is_input}
 use Rattle.hwdb_spec.specs.Near.{PatternAt}
 use Rattle.hwdb_spec.specs.NearAsked.{IsNear, database_patterns, near_form, near_limit}
 use Rattle.hwdb_spec.specs.Outputs.{Texts}
 use Rattle.hwdb_spec.specs.Runs.{OnOut, Told, World}
-use Rattle.hwdb_spec.specs.Store.{Contents, Outcomes}
+use Rattle.hwdb_spec.specs.Store.{Contents, InPlace, Outcomes}
 use Rattle.hwdb_spec.specs.System.{database_folder}
 use Rattle.hwdb_print.specs.Streams.{texts_of}
 use Rattle.hwdb_print.specs.declared.form.Form.{Form}
 use Rattle.hwdb_print.specs.declared.form.Form.TheVariants as forms
 use Rattle.hwdb_fs.specs.declared.refusals.Refusal.{Refusal}
-use Rattle.hwdb_tool.specs.OneOutcome.{IsOneInput, ListingsGiveOneChoice, Scene, TellOne, scene_of}
-use Rattle.hwdb_tool.specs.OneRefusal.{DoneIsNoError, ErrorsAreOne, IsOfChecked, IsOfCompared, IsOfDatabase, IsOfListing, IsOfWhatIsRead, IsOneEnd, IsOneError, NeverFails, OnlyReads}
+use Rattle.hwdb_tool.specs.OneOutcome.{IsOneInput, ListingsGiveOneChoice, ListingsGiveOneReading, Scene, TellOne, scene_of}
+use Rattle.hwdb_tool.specs.OneRefusal.{DoneIsNoError, ErrorsAreOne, IsOfChecked, IsOfCompared, IsOfDatabase, IsOfListing, IsOfWhatIsRead, IsOneEnd, IsOneError, NeverFails, IsCovered}
 use Rattle.hwdb_tool.specs.Program.{IsTaskDone}
 use Rattle.hwdb_tool.specs.Queries.{AreAnsweredFrom, AreUnansweredFrom, IfNamed}
 use Rattle.hwdb_tool.specs.TaskRefusals.{IsNotDone, MayPrint}
 use Rattle.hwdb_tool.specs.ComparedDatabases.{IsDiffRefused}
 use Rattle.hwdb_tool.specs.NamedDatabases.{IsDumpRefused, IsVerifyRefused}
 use Rattle.hwdb_tool.specs.NearMisses.{IsNearRefused}
+use Rattle.hwdb_tool.specs.Readable.{AreAllRead}
 use Rattle.hwdb_tool.specs.Reasons.{HasFilesReason}
 use Rattle.hwdb_tool.specs.Undone.{AreUncheckable, IsAskRefused, IsCheckRefused, IsUnanswered, IsUnprinted, IsUnwritable}
 use Rattle.hwdb_tool.proofs.DatabaseErrorLemmas.{OneHeader, OneTree, Unanswered, Undumped, Unlisted, Unverified, answer_answer, answer_done, dump_done, dump_dump, list_done, list_list, unanswered, undumped, unlisted, unverified, verify_done, verify_verify}
 use Rattle.hwdb_tool.proofs.AskErrorLemmas.{OneForm, Unasked, ask_ask, ask_done, unasked_file}
 use Rattle.hwdb_tool.proofs.RefusalLemmas.{NeverNamed}
 use Rattle.hwdb_tool.proofs.DiffErrorLemmas.{Undiffed, diff_diff, diff_done, undiffed}
+use Rattle.hwdb_tool.proofs.OutcomeLemmas.{one_taken}
+use Rattle.hwdb_tool.proofs.TaskLemmas.{all_read}
+use Rattle.hwdb_tool.proofs.UpdateErrorLemmas.{Undated, undated, update_done, update_update}
 use Rattle.hwdb_tool.proofs.TextErrorLemmas.{Unchosen, Ungiven, chosen_chosen, chosen_done, given_done, given_given, never_unchecked, unchosen, ungiven}
 
 -- the reason is one of the files, if standard input isn't read
@@ -87,7 +95,7 @@ module _ (fails : List ℕ → Type 0) (root : List ℕ) (files : Contents) (inp
   unchecked : (paths : List (String Global)) → ((path : List ℕ) → IsOfChecked (map string_bytes paths) root path → fails path → ⊥)
       → IsCheckRefused (AreUncheckable (map string_bytes paths) root files) (AreCheckedFiles (map string_bytes paths) root input files) r
       → HasFilesReason (not (length paths == 0)) (map string_bytes paths) fails files input n m r → Unchecked (map string_bytes paths) input files root r
-  unchecked [] never (inl unread) reason = unchosen root files fails never r unread reason of listed
+  unchecked [] never (inl unread) reason = unchosen root files fails ⊥ never r unread reason of listed
   unchecked [] never (inr not) reason = absurd (never_unchecked (AreChosenFiles root files) r (λ sources are. are.within) not of)
   unchecked (path ∷ more) never (inl unread) reason =
       let given = map string_bytes (path ∷ more) in
@@ -139,26 +147,34 @@ module _ (header : OneHeader) (tree : OneTree) where
   Why fails U input files (Ask file device) root r = Unasked (string_bytes file) input files r
   Why fails U input files (Check paths allowed json) root r = Unchecked (map string_bytes paths.items) input files root r
   Why fails U input files (Near paths device limit json) root r = Uncompared (map string_bytes paths.items) input files root r
-  Why fails U input files task root r = ⊥
+  Why fails U input files (Update verbose skip) root r = Undated root files r
 
-  -- what is left where a task isn't done
-  pub record IsLeftThen (before now : Scene) : Type 0 where
-    pub err : now.err ≡ before.err
+  -- what a task says before all else
+  abbrev pub said_first : Task → (root : List ℕ) (usr : Bool) → Contents → List ℕ
+  said_first (Update verbose skip) root usr files = hiding_text usr verbose root files
+  said_first task root usr files = []
+
+  -- what is left where a task isn't done: standard error had `first`
+  pub record IsLeftThen (first said : List ℕ) (before now : Scene) : Type 0 where
+    pub err : Appends (Some first) now.err.bytes said
     pub out : now.out ≡ before.out
     pub files : (p : List ℕ) → now.files p ≡ before.files p
 
-  module _ (fails fails_now : List ℕ → Type 0) (left left_now : Outcomes) (root : List ℕ) (usr strict : Bool) (r : Refusal) (before now : Scene) (of : IsOfWhatIsRead r) (whole : HasFailed before.input.failures now.input.failures → ⊥) (listed : IsOfListing root r → ⊥) where
+  module _ (fails fails_now : List ℕ → Type 0) (left left_now : Outcomes) (root : List ℕ) (usr strict : Bool) (r : Refusal) (before now : Scene) (of : IsOfWhatIsRead r) (whole : HasFailed before.input.failures now.input.failures → ⊥) (listed : IsOfListing root r → ⊥) (first : List ℕ) (tells : before.err.bytes ≡ Some first) where
     abbrev Unwritable : Type 0
     Unwritable = IsUnwritable (database_folder usr root) before.files before.failures now.failures
 
     abbrev NotDone : Task → Type 0
     NotDone task = IsNotDone task root usr strict (scene_of fails left before) (scene_of fails_now left_now now) r
 
-    left_then : IsQuietEnd before.err now.err before.out now.out → ((p : List ℕ) → now.files p ≡ before.files p) → IsLeftThen before now
-    left_then quiet files = record { err = quiet.err; out = quiet.out; files = files }
+    nothing : (o : Option (List ℕ)) → o ≡ Some first → Appends (Some first) o []
+    nothing o is = subst (λ (p : Option (List ℕ)). Appends (Some first) p []) (sym is) (sym (append-nil first))
+
+    left_then : IsQuietEnd before.err now.err before.out now.out → ((p : List ℕ) → now.files p ≡ before.files p) → IsLeftThen first [] before now
+    left_then quiet files = record { err = nothing now.err.bytes (ap (λ (t : Told). t.bytes) quiet.err ∙ tells); out = quiet.out; files = files }
 
     -- so is each error, and nothing was written
-    pub why : (task : Task) → OnlyReads task → NeverFails fails task root → NotDone task → Why fails Unwritable before.input.bytes before.files task root r × IsLeftThen before now
+    pub why : (task : Task) → IsCovered task → NeverFails fails task root → NotDone task → Why fails Unwritable before.input.bytes before.files task root r × IsLeftThen first (said_first task root usr before.files) before now
     why (Query devices json) kind never not =
         let found = answered_ (is_input (map string_bytes devices.items)) root (forms.Query json) (map string_bytes devices.items) before.input.bytes before.files r before.err now.err before.out now.out kind of not.0.0 in
         (unanswered header fails ⊥ root before.files (never_asked fails root before.files never) r found.0 (of_files _ _ _ _ kind not.1) of, left_then found.1 not.0.1.same)
@@ -189,11 +205,13 @@ module _ (header : OneHeader) (tree : OneTree) where
     why (Near paths device limit json) kind never not =
         let found = unprinted (IsNearRefused (map string_bytes paths.items) root before.files) (MayPrint (Near paths device limit json) root strict before.input.bytes before.files) r before.err now.err before.out now.out of not.0.0 in
         (uncompared fails root before.files before.input.bytes before.input.failures now.input.failures whole r of paths.items never found.0 not.1, left_then found.1 not.0.1.same)
-    why task kind never not = absurd kind
+    why (Update verbose skip) kind never not =
+        let found = undated root usr verbose r of (scene_of fails left before).files (scene_of fails_now left_now now).files first before.err now.err skip fails Unwritable kind tells never listed not.1 not.0.0 in
+        (found.0, record { err = found.1.err; out = not.0.1; files = found.1.kept.same })
 
   -- two of them are one
-  module _ (choice : ListingsGiveOneChoice) (told : List ℕ) where
-    one_why : (fails fails2 : List ℕ → Type 0) (U U2 : Type 0) (files : Contents) (root : List ℕ) (r r2 : Refusal) (task : Task) → OnlyReads task
+  module _ (choice : ListingsGiveOneChoice) (reading : ListingsGiveOneReading) (told : List ℕ) where
+    one_why : (fails fails2 : List ℕ → Type 0) (U U2 : Type 0) (files : Contents) (root : List ℕ) (r r2 : Refusal) (task : Task) → IsCovered task
         → Why fails U (Some told) files task root r → Why fails2 U2 (Some told) files task root r2 → IsOneError r r2
     one_why fails fails2 U U2 files root r r2 (Query devices json) kind one two = answer_answer header fails U root files r r2 one two
     one_why fails fails2 U U2 files root r r2 (Explain device json) kind one two = answer_answer header fails U root files r r2 one two
@@ -204,7 +222,7 @@ module _ (header : OneHeader) (tree : OneTree) where
     one_why fails fails2 U U2 files root r r2 (Ask file device) kind one two = ask_ask (string_bytes file) told files r r2 one two
     one_why fails fails2 U U2 files root r r2 (Check paths allowed json) kind one two = check_check choice root files told (map string_bytes paths.items) r r2 one two
     one_why fails fails2 U U2 files root r r2 (Near paths device limit json) kind one two = near_near root files told (map string_bytes paths.items) r r2 one two
-    one_why fails fails2 U U2 files root r r2 task kind one two = absurd kind
+    one_why fails fails2 U U2 files root r r2 (Update verbose skip) kind one two = update_update choice reading root files r r2 one two
 
   same_told : (one two one_now two_now : Told) → TellOne one two → one_now ≡ one → two_now ≡ two → one_now.bytes ≡ two_now.bytes
   same_told one two one_now two_now tell kept kept2 = ap (λ (t : Told). t.bytes) kept ∙ tell.of_one ∙ sym tell.of_two ∙ sym (ap (λ (t : Told). t.bytes) kept2)
@@ -214,29 +232,30 @@ module _ (header : OneHeader) (tree : OneTree) where
       → Why fails U input files task root r → Why fails U (Some told) files task root r
   one_told fails U input told files task root r is one = subst (λ (i : Option (List ℕ)). Why fails U i files task root r) is one
 
-  pub end_of : ListingsGiveOneChoice → (fails fails2 : List ℕ → Type 0) (U U2 : Type 0) (root : List ℕ) (r r2 : Refusal) (before now before2 now2 : Scene) → IsOneInput before before2
-      → (task : Task) → OnlyReads task → Why fails U before.input.bytes before.files task root r → Why fails2 U2 before2.input.bytes before2.files task root r2
-      → IsLeftThen before now → IsLeftThen before2 now2 → IsOneEnd r r2 now now2
-  end_of choice fails fails2 U U2 root r r2 before now before2 now2 input task kind one two left left2 =
+  pub end_of : ListingsGiveOneChoice → ListingsGiveOneReading → (fails fails2 : List ℕ → Type 0) (U U2 : Type 0) (root : List ℕ) (r r2 : Refusal) (before now before2 now2 : Scene) → (said : List ℕ) → (input : IsOneInput before before2)
+      → (task : Task) → IsCovered task → Why fails U before.input.bytes before.files task root r → Why fails2 U2 before2.input.bytes before2.files task root r2
+      → IsLeftThen input.err.bytes said before now → IsLeftThen input.err.bytes said before2 now2 → IsOneEnd r r2 now now2
+  end_of choice reading fails fails2 U U2 root r r2 before now before2 now2 said input task kind one two left left2 =
       let told = input.input.bytes in
       record {
-        one_error = one_why choice told fails fails2 U U2 before.files root r r2 task kind (one_told fails U before.input.bytes told before.files task root r input.input.of_one one)
+        one_error = one_why choice reading told fails fails2 U U2 before.files root r r2 task kind (one_told fails U before.input.bytes told before.files task root r input.input.of_one one)
             (subst (λ (f : Contents). Why fails2 U2 (Some told) f task root r2) input.files (one_told fails2 U2 before2.input.bytes told before2.files task root r2 input.input.of_two two));
         one_files = λ p. left2.files p ∙ ap (λ (f : Contents). f p) input.files ∙ sym (left.files p);
-        one_err = same_told before.err before2.err now.err now2.err input.err left.err left2.err;
+        one_err = one_taken input.err.bytes now.err.bytes now2.err.bytes said said refl left.err left2.err;
         one_out = same_told before.out before2.out now.out now2.out input.out left.out left2.out;
       }
 
-  pub errors_are_one : ListingsGiveOneChoice → (fails fails_now fails2 fails2_now : List ℕ → Type 0) (left left_now left2 left2_now : Outcomes) → ErrorsAreOne fails fails_now fails2 fails2_now left left_now left2 left2_now
-  errors_are_one choice fails fails_now fails2 fails2_now left left_now left2 left2_now = λ task root usr strict r r2 before now before2 now2 kind input is is2 not not2.
-      let one = why fails fails_now left left_now root usr strict r before now is.of is.told is.listed task kind is.never not in
-      let two = why fails2 fails2_now left2 left2_now root usr strict r2 before2 now2 is2.of is2.told is2.listed task kind is2.never not2 in
-      end_of choice fails fails2 (IsUnwritable (database_folder usr root) before.files before.failures now.failures) (IsUnwritable (database_folder usr root) before2.files before2.failures now2.failures)
-      root r r2 before now before2 now2 input task kind one.0 two.0 one.1 two.1
+  pub errors_are_one : ListingsGiveOneChoice → ListingsGiveOneReading → (fails fails_now fails2 fails2_now : List ℕ → Type 0) (left left_now left2 left2_now : Outcomes) → ErrorsAreOne fails fails_now fails2 fails2_now left left_now left2 left2_now
+  errors_are_one choice reading fails fails_now fails2 fails2_now left left_now left2 left2_now = λ task root usr strict r r2 before now before2 now2 kind input is is2 not not2.
+      let one = why fails fails_now left left_now root usr strict r before now is.of is.told is.listed input.err.bytes input.err.of_one task kind is.never not in
+      let two = why fails2 fails2_now left2 left2_now root usr strict r2 before2 now2 is2.of is2.told is2.listed input.err.bytes input.err.of_two task kind is2.never not2 in
+      end_of choice reading fails fails2 (IsUnwritable (database_folder usr root) before.files before.failures now.failures) (IsUnwritable (database_folder usr root) before2.files before2.failures now2.failures)
+      root r r2 before now before2 now2 (said_first task root usr before.files) input task kind one.0 two.0 one.1
+      (subst (λ (f : Contents). IsLeftThen input.err.bytes (said_first task root usr f) before2 now2) input.files two.1)
 
   -- what is done is no such error
-  module _ (choice : ListingsGiveOneChoice) (form : OneForm) (fails2 : List ℕ → Type 0) (U : Type 0) (root : List ℕ) (usr strict : Bool) (status : ℕ) (r : Refusal) (before now : World) (told : List ℕ) (tells : before.input.bytes ≡ Some told) where
-    pub not_both_ends : (task : Task) → OnlyReads task → IsTaskDone task root usr strict status before now → Why fails2 U (Some told) before.files.seen task root r → ⊥
+  module _ (choice : ListingsGiveOneChoice) (reading : ListingsGiveOneReading) (form : OneForm) (fails2 : List ℕ → Type 0) (U : Type 0) (root : List ℕ) (usr strict : Bool) (status : ℕ) (r : Refusal) (before now : World) (told : List ℕ) (tells : before.input.bytes ≡ Some told) where
+    pub not_both_ends : (task : Task) → IsCovered task → IsTaskDone task root usr strict status before now → Why fails2 U (Some told) before.files.seen task root r → ⊥
     not_both_ends (Query devices json) kind done not =
         let printed = given_printed (is_input (map string_bytes devices.items)) before.input.bytes _ kind done.0 in
         answer_done header fails2 U root before.files.seen (texts_of (forms.Query json) (map string_bytes devices.items)) printed.texts.out r
@@ -263,12 +282,18 @@ module _ (header : OneHeader) (tree : OneTree) where
         let form = near_form json (string_bytes device) (near_limit limit) in
         near_done root before.files.seen told form given done.0.texts.out r
         (subst (λ (i : Option (List ℕ)). IsNear given root form i before.files.seen done.0.texts.out) tells done.0.are.1.1) not
-    not_both_ends task kind done not = absurd kind
+    not_both_ends (Update verbose skip) kind done not =
+        let place : List ℕ → Type 0 = λ database. InPlace (database_folder usr root) database before.files.seen now.files.seen now.files.left in
+        let less = done.0.updated in
+        let none : less.left_out ≡ [] = less.are.asked_for kind in
+        update_done choice reading root before.files.seen form verbose strict status less.err_then.bytes now.err.bytes place r
+        (subst (λ (l : List Choice). AreAllRead root (without l root before.files.seen)) none less.read)
+        (all_read root verbose strict skip status before.files done.0.err_then now.err place (inl kind) less) not
 
-  pub done_is_no_error : ListingsGiveOneChoice → OneForm → (fails fails_now fails2 fails2_now : List ℕ → Type 0) (left left_now left2 left2_now : Outcomes) → DoneIsNoError fails fails_now fails2 fails2_now left left_now left2 left2_now
-  done_is_no_error choice form fails fails_now fails2 fails2_now left left_now left2 left2_now = λ task root usr strict status r before now before2 now2 kind input is done not.
-      let two = why fails2 fails2_now left2 left2_now root usr strict r before2 now2 is.of is.told is.listed task kind is.never not in
+  pub done_is_no_error : ListingsGiveOneChoice → ListingsGiveOneReading → OneForm → (fails fails_now fails2 fails2_now : List ℕ → Type 0) (left left_now left2 left2_now : Outcomes) → DoneIsNoError fails fails_now fails2 fails2_now left left_now left2 left2_now
+  done_is_no_error choice reading form fails fails_now fails2 fails2_now left left_now left2 left2_now = λ task root usr strict status r before now before2 now2 kind input is done not.
+      let two = why fails2 fails2_now left2 left2_now root usr strict r before2 now2 is.of is.told is.listed input.err.bytes input.err.of_two task kind is.never not in
       let U2 = IsUnwritable (database_folder usr root) before2.files before2.failures now2.failures in
       let told = input.input.bytes in
-      not_both_ends choice form fails2 U2 root usr strict status r (scene_of fails left before) (scene_of fails_now left_now now) told input.input.of_one task kind done
+      not_both_ends choice reading form fails2 U2 root usr strict status r (scene_of fails left before) (scene_of fails_now left_now now) told input.input.of_one task kind done
       (subst (λ (f : Contents). Why fails2 U2 (Some told) f task root r) input.files (one_told fails2 U2 before2.input.bytes told before2.files task root r input.input.of_two two.0))

@@ -77,7 +77,7 @@ nothing_out fails verbose skip root old left_out (inl plain) are = are.asked_for
 nothing_out fails verbose skip root old [] (inr never) are = refl
 nothing_out fails verbose skip root old (c ∷ more) (inr never) are = absurd (never (root ++ path_of c) (All-head (IsLeftOut fails root old) c more are.each).unreadable)
 
-none_said : (root : List ℕ) (left_out : List Choice) (said : List ℕ) → left_out ≡ [] → AreTold root left_out said → said ≡ []
+pub none_said : (root : List ℕ) (left_out : List Choice) (said : List ℕ) → left_out ≡ [] → AreTold root left_out said → said ≡ []
 none_said root [] said none told = told
 none_said root (c ∷ more) said none told = cc
 
@@ -86,12 +86,12 @@ none_status strict [] status none = refl
 none_status strict (c ∷ more) status none = cc
 
 -- what was said first is all that was said then
-all_said : (first : List ℕ) (before then_ : Option (List ℕ)) (hid said : List ℕ) → said ≡ [] → Appends (Some first) before hid → Appends before then_ said → Appends (Some first) then_ hid
+pub all_said : (first : List ℕ) (before then_ : Option (List ℕ)) (hid said : List ℕ) → said ≡ [] → Appends (Some first) before hid → Appends before then_ said → Appends (Some first) then_ hid
 all_said first None then_ hid said none told more = absurd told
 all_said first (Some xs) None hid said none told more = absurd more
 all_said first (Some xs) (Some ys) hid said none told more = more ∙ ap (λ (t : List ℕ). xs ++ t) none ∙ append-nil xs ∙ told
 
-all_read : (root : List ℕ) (verbose strict skip : Bool) (status : ℕ) (old : Files) (before now : Told) (in_place : List ℕ → Type 0)
+pub all_read : (root : List ℕ) (verbose strict skip : Bool) (status : ℕ) (old : Files) (before now : Told) (in_place : List ℕ → Type 0)
     → LeavesNothingOut old.fails (Update verbose skip) → (less : IsUpdatedLess root verbose strict skip status old before now in_place) → IsUpdated root verbose strict status old.seen less.err_then.bytes now.bytes in_place
 all_read root verbose strict skip status old before now in_place nothing less =
     let none = nothing_out old.fails verbose skip root old.seen less.left_out nothing less.are in

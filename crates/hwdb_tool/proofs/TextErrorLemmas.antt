@@ -9,14 +9,13 @@ use Rattle.hwdb_spec.specs.Failures.{HasFailed}
 use Rattle.hwdb_spec.specs.Folders.{Choice, Source, choice, max_files, max_lines, names, path_of}
 use Rattle.hwdb_spec.specs.Given.{IsContent, IsGiven, any_dash, is_dash}
 use Rattle.hwdb_spec.specs.Lines.{byte, is, lines, numbered, pieces}
-use Rattle.hwdb_spec.specs.Store.{Contents, path_in}
+use Rattle.hwdb_spec.specs.Store.{Contents}
 use Rattle.hwdb_spec.specs.System.{AreNamesIn, bytes_at, etc_files, usr_files}
 use Rattle.hwdb_spec.specs.Texts.{max_file}
 use Rattle.hwdb_lint.specs.Checks.{HasLongFile, IsCheckRefusal}
 use Rattle.hwdb_text.specs.declared.outcome.ScanError.{ScanError}
 use Rattle.hwdb_text.specs.declared.outcome.ScanError.TheVariants as scan
 use Rattle.hwdb_print.specs.Refusals.{refusal_of_scan}
-use Rattle.hwdb_print.specs.declared.errors.ToolError.{ToolError}
 use Rattle.hwdb_print.specs.declared.errors.ToolError.TheVariants.{Read, Write, TooLong, TooManyFiles, TooManyLines, TooLarge, BadPosition, BadDatabase, Replace, Memory}
 use Rattle.hwdb_fs.specs.Reading.{AreUnread, IsChoiceRefused, IsFirstUnread, IsText}
 use Rattle.hwdb_fs.specs.Refusals.{HasReason, IsOver, IsUnlisted, IsUnread, IsUnreadable}
@@ -28,7 +27,7 @@ use Rattle.hwdb_tool.specs.Queries.{IsWholeInputUnread}
 use Rattle.hwdb_tool.specs.Reasons.{HasFilesReason, IsFileReason, IsFirstGiven, IsInputRead, IsReadGiven, TellsNoPath}
 use Rattle.hwdb_tool.specs.Undone.{AreNotChecked, IsGivenUnread, told_path}
 use Rattle.hwdb_tool.proofs.DiffErrorLemmas.{IsUnreadOne, held_or_unread, unread_one}
-use Rattle.hwdb_tool.proofs.RefusalLemmas.{no_none, not_both, over_over}
+use Rattle.hwdb_tool.proofs.RefusalLemmas.{over_over}
 
 -- the first of some members that lacks what those before it have
 first_in : {X : Type 0} → X → List X → X
@@ -278,9 +277,9 @@ in_folders root c = by c.from_etc
     by false = (47 ∷ c.name, inr (sym (append_assoc root (codes "/usr/lib/udev/hwdb.d") (47 ∷ c.name))))
 
 module _ (root : List ℕ) (files : Contents) where
-  module _ (fails : List ℕ → Type 0) (never : (path : List ℕ) → IsOfFolders root path → fails path → ⊥) where
+  module _ (fails : List ℕ → Type 0) (U : Type 0) (never : (path : List ℕ) → IsOfFolders root path → fails path → ⊥) where
     listing : (folder : List ℕ) (r : Refusal) → ((path rest : List ℕ) → path ≡ folder ++ rest → fails path → ⊥) → (IsOver TooLong folder r → ⊥)
-        → IsUnlisted folder r → HasReason fails ⊥ files r → IsOfWhatIsRead r → ⊥
+        → IsUnlisted folder r → HasReason fails U files r → IsOfWhatIsRead r → ⊥
     listing folder (At Read at cause) in_it short (inl is) fail of = in_it at.items [] (is ∙ sym (append-nil folder)) fail
     listing folder (At Read at cause) in_it short (inr named) fail of = in_it at.items (47 ∷ named.0) named.1 fail
     listing folder (At TooLong at cause) in_it short is reason of = short (refl, is)
@@ -305,7 +304,7 @@ module _ (root : List ℕ) (files : Contents) where
     listing folder NoDatabase in_it short is reason of = is
     listing folder (InWords text) in_it short is reason of = is
 
-    long_of : (r : Refusal) (c : Choice) → IsUnread (root ++ path_of c) r → HasReason fails ⊥ files r → IsOfWhatIsRead r
+    long_of : (r : Refusal) (c : Choice) → IsUnread (root ++ path_of c) r → HasReason fails U files r → IsOfWhatIsRead r
         → IsOver TooLong (root ++ path_of c) r × IfSome (bytes_at files (root ++ path_of c)) (λ b. max_file < length b)
     long_of (At Read at cause) c u fail of = absurd (never (root ++ path_of c) (in_folders root c) (subst fails u fail))
     long_of (At TooLong at cause) c u reason of = ((refl, u), subst (λ (p : List ℕ). IfSome (bytes_at files p) (λ b. max_file < length b)) u reason)
@@ -330,7 +329,7 @@ module _ (root : List ℕ) (files : Contents) where
     long_of NoDatabase c u reason of = absurd u
     long_of (InWords text) c u reason of = absurd u
 
-    choice_end : (r : Refusal) → IsChoiceRefused (IsFirstUnread root files) root files r → HasReason fails ⊥ files r → IsOfWhatIsRead r → Unchosen root files r
+    choice_end : (r : Refusal) → IsChoiceRefused (IsFirstUnread root files) root files r → HasReason fails U files r → IsOfWhatIsRead r → Unchosen root files r
     choice_end r refused reason of = by refused.refused
       where
         by : ((max_files < length (names refused.etc refused.usr)) × (r ≡ Plain TooManyFiles))
@@ -353,7 +352,7 @@ module _ (root : List ℕ) (files : Contents) where
               long = long.1;
             }
 
-    pub unchosen : (r : Refusal) → AreUnread root files r → HasReason fails ⊥ files r → IsOfWhatIsRead r → (IsOfListing root r → ⊥) → Unchosen root files r
+    pub unchosen : (r : Refusal) → AreUnread root files r → HasReason fails U files r → IsOfWhatIsRead r → (IsOfListing root r → ⊥) → Unchosen root files r
     unchosen r (inl memory) reason of short = absurd (subst IsOfWhatIsRead memory of)
     unchosen r (inr (inl etc)) reason of short =
         absurd (listing (etc_files root) r (λ path rest is. never path (rest, inl is)) (λ over. short (inl over)) etc reason of)
@@ -362,13 +361,13 @@ module _ (root : List ℕ) (files : Contents) where
     unchosen r (inr (inr (inr refused))) reason of short = choice_end r refused reason of
 
   module _ (one_choice : ListingsGiveOneChoice) where
-    same_count : (etc usr etc2 usr2 : List (List ℕ)) → choice etc usr ≡ choice etc2 usr2 → length (names etc usr) ≡ length (names etc2 usr2)
+    pub same_count : (etc usr etc2 usr2 : List (List ℕ)) → choice etc usr ≡ choice etc2 usr2 → length (names etc usr) ≡ length (names etc2 usr2)
     same_count etc usr etc2 usr2 same = sym (length-map (names etc usr) _) ∙ ap length same ∙ length-map (names etc2 usr2) _
 
     abbrev Text : Choice → Type 0
     Text c = IsText files (root ++ path_of c)
 
-    not_text : (c : Choice) → IfSome (bytes_at files (root ++ path_of c)) (λ b. max_file < length b) → Text c → ⊥
+    pub not_text : (c : Choice) → IfSome (bytes_at files (root ++ path_of c)) (λ b. max_file < length b) → Text c → ⊥
     not_text c long text = not_long (bytes_at files (root ++ path_of c)) text.bytes text.there text.within long
 
     pub chosen_chosen : (r r2 : Refusal) → Unchosen root files r → Unchosen root files r2 → IsOneError r r2

@@ -11,7 +11,7 @@ rises : (before : ℕ) (b : Bool) → (before == 2 ^ 64 - 1) ≡ b → HasFailed
 rises before true e = inr (eqb-true before (2 ^ 64 - 1) e)
 rises before false e = inl (omega arith)
 
-failed_call : (before now : ℕ) → now ≡ after_failure before → HasFailed before now
+pub failed_call : (before now : ℕ) → now ≡ after_failure before → HasFailed before now
 failed_call before now is = let Q : ℕ → Type 0 = λ n. HasFailed before n in subst Q (sym is) (rises before (before == 2 ^ 64 - 1) refl)
 
 -- the text that was written, or a prefix of it

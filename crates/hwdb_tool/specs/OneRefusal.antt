@@ -11,10 +11,10 @@ use Rattle.hwdb_spec.specs.Verdicts.{verdict_text}
 use Rattle.hwdb_spec.specs.declared.DbFault.{DbFault}
 use Rattle.hwdb_reader.specs.Laws.{IsOfHeader}
 use Rattle.hwdb_print.specs.declared.errors.ToolError.{ToolError}
-use Rattle.hwdb_print.specs.declared.errors.ToolError.TheVariants.{BadDatabase, Memory, Read, TooLong, Write}
+use Rattle.hwdb_print.specs.declared.errors.ToolError.TheVariants.{BadDatabase, Memory, Read, Replace, TooLong, Write}
 use Rattle.hwdb_cli.specs.declared.job.WordsFault.TheVariants as words_fault
 use Rattle.hwdb_cli.specs.declared.job.Task.{Task}
-use Rattle.hwdb_cli.specs.declared.job.Task.TheVariants.{Ask, Check, Diff, Dump, Explain, List as ListHits, Near, Query, Verify}
+use Rattle.hwdb_cli.specs.declared.job.Task.TheVariants.{Ask, Check, Diff, Dump, Explain, List as ListHits, Near, Query, Update, Verify}
 use Rattle.hwdb_spec.specs.Runs.{Told}
 use Rattle.hwdb_spec.specs.Store.{Outcomes}
 use Rattle.hwdb_tool.specs.OneOutcome.{IsOneInput, Scene, scene_of}
@@ -24,11 +24,13 @@ use Rattle.hwdb_fs.specs.Refusals.{IsOver}
 use Rattle.hwdb_fs.specs.declared.refusals.Refusal.{Refusal}
 use Rattle.hwdb_fs.specs.declared.refusals.Refusal.TheVariants.{At, InWords, NoDatabase, Plain}
 
--- the error comes of what is read: memory was granted, and both outputs took what they were given
+-- the error comes of what is read: memory was granted, both outputs took what they were given, and so did the database's folder
 abbrev pub IsOfWhatIsRead : Refusal → Type 0
 IsOfWhatIsRead (Plain Memory) = ⊥
 IsOfWhatIsRead (Plain Write) = ⊥
+IsOfWhatIsRead (Plain (Replace u)) = ⊥
 IsOfWhatIsRead (At Memory at cause) = ⊥
+IsOfWhatIsRead (At Write at cause) = ⊥
 IsOfWhatIsRead refusal = Unit {0}
 
 -- two faults of one database are one, if one of them is of its header; of its nodes any fault that is there may be told
@@ -54,18 +56,18 @@ IsOneError NoDatabase NoDatabase = Unit {0}
 IsOneError (InWords text) (InWords text2) = IsOneText text.items text2.items
 IsOneError refusal refusal2 = ⊥
 
--- the task only reads, and standard input doesn't name devices, which are answered as they come
-abbrev pub OnlyReads : Task → Type 0
-OnlyReads (Query devices json) = is_input (map string_bytes devices.items) ≡ false
-OnlyReads (Explain device json) = is_input (string_bytes device ∷ []) ≡ false
-OnlyReads (ListHits after limit device json) = Unit {0}
-OnlyReads (Ask file device) = Unit {0}
-OnlyReads (Check files allowed json) = Unit {0}
-OnlyReads (Near files device limit json) = Unit {0}
-OnlyReads (Diff old new) = Unit {0}
-OnlyReads (Verify database) = Unit {0}
-OnlyReads (Dump database) = Unit {0}
-OnlyReads task = ⊥
+-- the task leaves out no file that can't be read, and doesn't answer devices of standard input, each as it comes
+abbrev pub IsCovered : Task → Type 0
+IsCovered (Update verbose skip) = skip ≡ false
+IsCovered (Query devices json) = is_input (map string_bytes devices.items) ≡ false
+IsCovered (Explain device json) = is_input (string_bytes device ∷ []) ≡ false
+IsCovered (ListHits after limit device json) = Unit {0}
+IsCovered (Ask file device) = Unit {0}
+IsCovered (Check files allowed json) = Unit {0}
+IsCovered (Near files device limit json) = Unit {0}
+IsCovered (Diff old new) = Unit {0}
+IsCovered (Verify database) = Unit {0}
+IsCovered (Dump database) = Unit {0}
 
 -- the path is one of a database that is read: the given one, or without one that of /etc's or of /usr/lib's
 abbrev pub IsOfDatabase : (given : Option (List ℕ)) (root path : List ℕ) → Type 0
@@ -88,6 +90,7 @@ IsOfCompared (first ∷ more) root path = Contains (first ∷ more) path
 
 -- such a task may read the path
 abbrev pub MayRead : Task → (root path : List ℕ) → Type 0
+MayRead (Update verbose skip) root path = IsOfFolders root path
 MayRead (Check files allowed json) root path = IsOfChecked (map string_bytes files.items) root path
 MayRead (Near files device limit json) root path = IsOfCompared (map string_bytes files.items) root path
 MayRead (Ask file device) root path = path ≡ string_bytes file
@@ -125,7 +128,7 @@ pub record IsOneEnd (refusal refusal2 : Refusal) (now now2 : Scene) : Type 0 whe
 abbrev pub ErrorsAreOne : (fails fails_now fails2 fails2_now : (path : List ℕ) → Type 0) (left left_now left2 left2_now : Outcomes) → Type 0
 ErrorsAreOne fails fails_now fails2 fails2_now left left_now left2 left2_now =
     (task : Task) (root : List ℕ) (usr strict : Bool) (refusal refusal2 : Refusal) (before now before2 now2 : Scene)
-    → OnlyReads task → IsOneInput before before2 → IsOfReading fails task root before now refusal → IsOfReading fails2 task root before2 now2 refusal2
+    → IsCovered task → IsOneInput before before2 → IsOfReading fails task root before now refusal → IsOfReading fails2 task root before2 now2 refusal2
     → IsNotDone task root usr strict (scene_of fails left before) (scene_of fails_now left_now now) refusal
     → IsNotDone task root usr strict (scene_of fails2 left2 before2) (scene_of fails2_now left2_now now2) refusal2
     → IsOneEnd refusal refusal2 now now2
@@ -134,7 +137,7 @@ ErrorsAreOne fails fails_now fails2 fails2_now left left_now left2 left2_now =
 abbrev pub DoneIsNoError : (fails fails_now fails2 fails2_now : (path : List ℕ) → Type 0) (left left_now left2 left2_now : Outcomes) → Type 0
 DoneIsNoError fails fails_now fails2 fails2_now left left_now left2 left2_now =
     (task : Task) (root : List ℕ) (usr strict : Bool) (status : ℕ) (refusal : Refusal) (before now before2 now2 : Scene)
-    → OnlyReads task → IsOneInput before before2 → IsOfReading fails2 task root before2 now2 refusal
+    → IsCovered task → IsOneInput before before2 → IsOfReading fails2 task root before2 now2 refusal
     → IsTaskDone task root usr strict status (scene_of fails left before) (scene_of fails_now left_now now)
     → IsNotDone task root usr strict (scene_of fails2 left2 before2) (scene_of fails2_now left2_now now2) refusal → ⊥
 
@@ -186,7 +189,7 @@ JobEndsInOneError fails fails_now fails2 fails2_now left left_now left2 left2_no
     → IsOneInput before before2
     → (one : IsJobRefused words status (scene_of fails left before) (scene_of fails_now left_now now))
     → (two : IsJobRefused words status2 (scene_of fails2 left2 before2) (scene_of fails2_now left2_now now2))
-    → OnlyReads one.job.task
+    → IsCovered one.job.task
     → IsOfReading fails one.job.task (root_of one.job) before now one.refusal → IsOfReading fails2 two.job.task (root_of two.job) before2 now2 two.refusal
     → (status ≡ status2) × IsOneEnd one.refusal two.refusal (scene_then one.err_then now) (scene_then two.err_then now2)
 
@@ -196,7 +199,7 @@ DoneJobIsNoError fails fails_now fails2 fails2_now left left_now left2 left2_now
     (words : List (List ℕ)) (status status2 : ℕ) (before now before2 now2 : Scene) → IsOneInput before before2
     → (done : IsJobDone words status (scene_of fails left before) (scene_of fails_now left_now now))
     → (refused : IsJobRefused words status2 (scene_of fails2 left2 before2) (scene_of fails2_now left2_now now2))
-    → OnlyReads done.job.task → IsOfReading fails2 refused.job.task (root_of refused.job) before2 now2 refused.refusal → ⊥
+    → IsCovered done.job.task → IsOfReading fails2 refused.job.task (root_of refused.job) before2 now2 refused.refusal → ⊥
 
 -- The root is entered, if looking at it can't fail, but for want of memory.
 abbrev pub RootIsEntered : (fails fails_now : (path : List ℕ) → Type 0) (left left_now : Outcomes) → Type 0

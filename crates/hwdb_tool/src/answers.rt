@@ -47,8 +47,8 @@ pub fn explain<D: System, I: Source, O: Sink, E: Sink>(
         (told_by O.taken O.failures out.old) (told_by O.taken O.failures out.new)) }
     ensures unread { is_dash device.now ≡ false → input.new ≡ input.old }
     ensures reason { D.Store.tells → IfErr result (HasAskedReason
-        (is_dash device.now) root.now (D.System.may_fail system.now)
-        (D.Store.seen system.now) (I.left input.old) (I.failures input.old) (I.failures input.new)) }
+        (is_dash device.now) root.now (D.System.may_fail system.now) (D.Store.seen system.now)
+        (I.left input.old) (I.failures input.old) (I.failures input.new)) }
 {
     if is_dash(device) {
         return answer_input(alloc, root, Form::Explain { json }, system, input, out);

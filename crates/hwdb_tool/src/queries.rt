@@ -44,7 +44,8 @@ pub fn query<D: System, I: Source, O: Sink, E: Sink>(
     ensures unread { is_input (map string_bytes devices.now) ≡ false → input.new ≡ input.old }
     ensures reason { D.Store.tells → IfErr result (HasAskedReason
         (is_input (map string_bytes devices.now)) root.now (D.System.may_fail system.now)
-        (D.Store.seen system.now) (I.left input.old) (I.failures input.old) (I.failures input.new)) }
+        (D.Store.seen system.now)
+        (I.left input.old) (I.failures input.old) (I.failures input.new)) }
 {
     if is_input(devices) {
         return answer_input(alloc, root, Form::Query { json }, system, input, out);

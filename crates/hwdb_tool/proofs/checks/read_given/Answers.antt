@@ -1,4 +1,4 @@
-use Rattle.std.proofs.Common.{All, Global, String, Vec, [], ap, inl, inr, length, map, rules, string_bytes, subst, sym, ◌++◌, ◌∙◌, ◌∷◌, ◌≡◌, ◌≤◌, ◌⊎◌, false, ℕ}
+use Rattle.std.proofs.Common.{All, Global, String, Vec, [], ap, inr, length, map, rules, string_bytes, subst, sym, ◌++◌, ◌∙◌, ◌∷◌, ◌≡◌, ◌≤◌, ◌⊎◌, false, Some, ℕ}
 use Rattle.std.proofs.lemmas.List.{map-append}
 use Rattle.std.proofs.lemmas.List.Elements.{All-more, All-push}
 use Rattle.hwdb_fs.specs.Refusals.{IsUnread, IsUnreadAt}
@@ -44,7 +44,7 @@ loop-path-preserved g c =
       count = search rules;
       read = λ tells. texts_given_more c.args.text.now seen c.args.given.now c.loop-path.path-index c.path-item.result _ _ _
           (c.loop-path.invariant.read tells) c.path-item.is c.loop-path-test.true
-          (subst (λ p. bytes_given c.args.text.now seen p ≡ _) c.as_str.ensures.value (c.in_ok-bytes.ensures.read tells))
+          (subst (λ p. bytes_given c.args.text.now seen p ≡ Some c.in_ok-bytes.bytes.items) c.as_str.ensures.value (c.in_ok-bytes.ensures.read tells))
           (ap (map items) more ∙ map-append items c.loop-path.texts.items (c.in_ok-bytes.bytes ∷ []));
       files = λ tells. All-more file c.args.given.now c.loop-path.path-index c.path-item.result c.loop-path-test.true (c.loop-path.invariant.files tells)
           (subst file c.path-item.is (subst (λ p. IsReadGiven seen p) c.as_str.ensures.value

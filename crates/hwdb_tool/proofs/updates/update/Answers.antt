@@ -4,6 +4,7 @@ use Rattle.hwdb_spec.specs.LeftOut.{without}
 use Rattle.hwdb_spec.specs.Runs.{HasTaken, WasCut, files_by, told_by}
 use Rattle.hwdb_tool.specs.Readable.{IsUpdateRefused}
 use Rattle.hwdb_tool.proofs.ErrorLemmas.{given_error}
+use Rattle.hwdb_tool.proofs.FolderLemmas.{all_read}
 use Rattle.hwdb_tool.proofs.MomentLemmas.{leaves_less}
 use Rattle.hwdb_tool.proofs.updates.update.Goals as goal
 
@@ -27,6 +28,7 @@ returns-in_err-say-clause-refused g c = λ tells.
       are = less.are;
       said = c.in_ok-readable.readable.said.items;
       lines = less.told;
+      read = all_read c.args.root.now (without less.left_out c.args.root.now (g.D.Store.seen c.args.system.now)) _ _ _ less.selected;
       refused = inl (
         inr (c.in_err-say.ensures.refused.0, subst (λ t. WasCut t (T c.args.err.now) (T c.say.new.err)) c.deref.ensures.value c.in_err-say.ensures.refused.1),
         record { same = λ p. refl; no_more = λ p v l. l },
@@ -45,6 +47,7 @@ returns-in_err-status-clause-refused g c = λ tells.
       are = less.are;
       said = c.in_ok-readable.readable.said.items;
       lines = less.told;
+      read = all_read c.args.root.now (without less.left_out c.args.root.now (g.D.Store.seen c.args.system.now)) _ _ _ less.selected;
       refused = inr (
         T c.say.new.err,
         subst (λ t. HasTaken t (T c.args.err.now) (T c.say.new.err)) c.deref.ensures.value c.in_ok-say.ensures.took,
@@ -77,6 +80,7 @@ returns-clause-updated g c = λ tells.
       are = less.are;
       said = c.in_ok-readable.readable.said.items;
       lines = less.told;
+      read = all_read c.args.root.now (without less.left_out c.args.root.now (g.D.Store.seen c.args.system.now)) _ _ _ less.selected;
       err_then = T c.say.new.err;
       told = subst (λ t. HasTaken t (T c.args.err.now) (T c.say.new.err)) c.deref.ensures.value c.in_ok-say.ensures.took;
       plainly = c.in_ok-status.status;
