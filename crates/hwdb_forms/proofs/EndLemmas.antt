@@ -1,6 +1,6 @@
 -- Tokens that end in a star.
-use Rattle.std.proofs.Common.{◌≡◌, ℕ, ◌+◌, ◌-◌, ◌<◌, ◌≤◌, Bool, true, false, List, [], ◌∷◌, refl, sym, ap, subst, ◌∙◌, Bor, length, drop, get_or, suc, zero, arith, map}
-use Rattle.std.specs.Prelude.{if◌then◌else◌}
+use Rattle.std.proofs.Common.{◌≡◌, ℕ, ◌+◌, ◌-◌, ◌<◌, ◌≤◌, Bool, true, false, List, [], ◌∷◌, refl, sym, ap, subst, ◌∙◌, Bor, length, drop, get_or, suc, zero, arith, map, Option, None, Some, IfSome}
+use Rattle.std.specs.Prelude.{if◌then◌else◌, is_some}
 use Rattle.std.proofs.lemmas.List.{drop_all, drop_more}
 use Rattle.hwdb_spec.specs.declared.ByteSet.{ByteSet}
 use Rattle.hwdb_spec.specs.declared.ByteSet.TheVariants.{Only}
@@ -66,10 +66,11 @@ star_fields ([] ∷ more) h = absurd h
 star_fields ((way ∷ ways) ∷ more) h = star_field way ways (fields_row more (star ∷ [])) (star_fields more h)
 
 -- ---- tokens before it
-counted_split : (set : ByteSet) (m k : ℕ) (ts : List Token) (row : List Bool) → counted_row set (m + k) ts row ≡ counted_row set m ts (counted_row set k ts row)
+counted_split : (set : ByteSet) (m k n : ℕ) (ts : List Token) (row : List Bool) → n ≡ m + k → counted_row set n ts row ≡ counted_row set m ts (counted_row set k ts row)
 unfolding counted_row
-counted_split set zero k ts row = refl
-counted_split set (suc m) k ts row = ap (byte_row set ts) (counted_split set m k ts row)
+counted_split set zero k n ts row e = let same : n ≡ k = omega (arith, e) in ap (λ (i : ℕ). counted_row set i ts row) same
+counted_split set (suc m) k zero ts row e = absurd (omega (arith, e))
+counted_split set (suc m) k (suc n) ts row e = ap (byte_row set ts) (counted_split set m k n ts row (omega (arith, e)))
 
 pub counted_ended : (set : ByteSet) (n m : ℕ) (ts : List Token) → m ≤ n → passed_counted set m ts ≡ Yes → drop m ts ≡ star ∷ [] → StarEnds (counted set n) ts
 counted_ended set n m ts h e d = λ rows f t.
@@ -78,8 +79,7 @@ counted_ended set n m ts h e d = λ rows f t.
     let told : (m ≤ length ts) × (head (counted_row set m ts (inner ts)) ≡ head (inner (drop m ts))) =
     (counted_tells set m ts inner (counted_family set k rows f)).1 e in
     let split : n ≡ m + k = omega (arith, h) in
-    ap (λ (i : ℕ). head (counted_row set i ts (rows ts))) split
-    ∙ ap head (counted_split set m k ts (rows ts))
+    ap head (counted_split set m k n ts (rows ts) split)
     ∙ told.1
     ∙ ap (λ (us : List Token). head (inner us)) d
     ∙ star_counted set k (rows (star ∷ [])) t
@@ -107,6 +107,10 @@ many_ended set (suc m) (t ∷ ts) e d = λ rows f h.
     by : (b : Bool) → meets t set ≡ b → (meets t set ≡ false → Yes ≡ No) → meets t set ≡ true
     by true k n = k
     by false k n = absurd (let x : Yes ≡ No = n k in cc)
+
+pub many_seen : (set : ByteSet) (ts : List Token) (found : Option ℕ) (b : Bool) → b ≡ is_some found → b ≡ true → IfSome found (λ n. passed_counted set n ts ≡ Yes) → IfSome found (λ n. drop n ts ≡ star ∷ []) → StarEnds (repeated set) ts
+many_seen set ts None b is some passed last = absurd (let no : true ≡ false = sym some ∙ is in cc)
+many_seen set ts (Some n) b is some passed last = many_ended set n ts passed last
 
 starred : (t : Token) → is_star t ≡ true → t ≡ star
 starred star e = refl

@@ -10,3 +10,4 @@ pub mod AnyLemmas
 pub mod SoughtLemmas
 pub mod PieceLemmas
 pub mod JsonLemmas
+pub mod LawLemmas

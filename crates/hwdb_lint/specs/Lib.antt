@@ -1,2 +1,3 @@
 pub mod Checks
 pub mod Internal
+pub mod Laws

@@ -24,6 +24,7 @@
 //! | `warnings` | the warnings of a file, and their reports |
 //! | `tallies` | how much was found: the last line, and the status |
 //! | `files` | text files that are checked, one after another |
+//! | `laws` | what is proved of the definitions alone |
 #![tactic(auto)]
 
 mod companions;
@@ -32,6 +33,7 @@ mod json_lines;
 mod judgements;
 mod kinds;
 mod known;
+mod laws;
 mod line_texts;
 mod line_warnings;
 mod misuses;
@@ -47,4 +49,5 @@ mod warnings;
 pub use files::{Checked, TextFile, check_files};
 pub use hwdb_show::push_shown;
 pub use kinds::{KINDS, Telling};
+pub use laws::{kinds_are_named, patterns_are_judged};
 pub use tallies::push_count;

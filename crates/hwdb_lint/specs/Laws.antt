@@ -1,0 +1,87 @@
+-- What the laws say of patterns that can't match, and of the names of warnings. A definition that said less would be noticed here.
+use Rattle.std.specs.Prelude.{◌+◌, ◌++◌, ◌-◌, ◌<◌, ◌≡◌, ◌≤◌, ◌⊎◌, ◌∷◌, Contains, List, None, Some, [], codes, false, flat_map, length, map, suc, true, ℕ}
+use Rattle.hwdb_spec.specs.Forms.{all_bytes_from, expected, judged}
+use Rattle.hwdb_spec.specs.FormTable.{asked}
+use Rattle.hwdb_spec.specs.Kinds.{warning_name}
+use Rattle.hwdb_spec.specs.Lines.{begins_with, byte, is, is_none, max_pattern, pieces}
+use Rattle.hwdb_spec.specs.Unmatched.{compare_hint, is_unmatched, judgement_hint, judgement_of, judgement_place, judgement_text, place_hint, prefix_hint, runs, runs_hint}
+use Rattle.hwdb_spec.specs.declared.Judgement.TheVariants.{Dead, Fine, UnknownPrefix}
+use Rattle.hwdb_spec.specs.declared.WarningKind.TheVariants.{ByteOrderMark, CarriageReturn, CutValue, EmptyRange, LeadingTab, Misused, OpenBracket, RepeatedMatch, Replaced, SpacedEquals, Unmatched, Unpaired, Unread}
+use Rattle.hwdb_spec.specs.declared.WarningKind.{WarningKind}
+use Rattle.hwdb_spec.specs.declared.vocabulary.Misuse.TheVariants.{NearName, ScanCode, TwoDefaults, UnfitValue, UnknownKey, ZeroRow}
+use Rattle.hwdb_spec.specs.declared.vocabulary.Misuse.{Misuse}
+use Rattle.hwdb_lint.specs.declared.kinds.TheConstants.{KINDS}
+
+-- ---- patterns
+-- the bytes of a run, from its first one to its last
+abbrev pub run_bytes : ℕ × ℕ → List ℕ
+run_bytes run = all_bytes_from (suc run.1 - run.0) run.0
+
+-- runs are of all bytes, in their order, and of no others
+abbrev pub RunsAreAll : Type 0
+RunsAreAll = (bytes : List ℕ) → flat_map run_bytes (runs bytes) ≡ bytes
+
+-- a clean text that is a pattern, no property and not too long, is judged; of one that is dead the bytes are named that can follow
+pub record PatternsAreJudged : Type 0 where
+  pub judges : (text : List ℕ) → is_none text ≡ false → begins_with (byte " ") text ≡ false → begins_with (byte "\t") text ≡ false
+      → length text ≤ max_pattern → judgement_of text ≡ judged asked text
+  pub hints : (front : List ℕ) → length front ≤ 256 → place_hint front ≡ runs_hint (runs (expected asked front))
+  pub place : (place : ℕ) (pattern : List ℕ) → judgement_place (Dead place) ≡ place
+  pub nothing : judgement_of [] ≡ Fine
+  pub property : judgement_of (codes " A=b") ≡ Fine
+  pub tab : judgement_of (codes "\tA=b") ≡ Fine
+
+-- what is said of them, and what to do
+pub record UnmatchedRows : Type 0 where
+  pub fine : is_unmatched Fine ≡ false
+  pub unknown : is_unmatched UnknownPrefix ≡ true
+  pub dead : is_unmatched (Dead 3) ≡ true
+  pub begins : judgement_text UnknownPrefix ≡ codes "no string that udev asks begins like this"
+  pub goes_on : judgement_text (Dead 3) ≡ codes "no string that udev asks goes on like this"
+  pub hex : runs_hint (runs (codes "0123456789ABCDEF")) ≡ codes "put 0-9 or A-F here"
+  pub one : runs_hint (runs (codes "v")) ≡ codes "put v here"
+  pub three : runs_hint (runs (codes "1ae")) ≡ codes "put 1 or a or e here"
+  pub four : runs_hint (runs (codes "1aex")) ≡ compare_hint
+  pub none : runs_hint (runs []) ≡ compare_hint
+  pub long : place_hint (all_bytes_from 257 0) ≡ compare_hint
+  pub meant : prefix_hint (Some (codes "evdev:")) ≡ codes "did you mean evdev:?"
+  pub other : prefix_hint None ≡ codes "begin it as udev's strings do, with evdev: or mouse: or usb: and the like"
+  pub nothing : judgement_hint Fine (codes "usb:") ≡ []
+
+-- ---- names
+-- the names of all kinds of warnings, as `--allow` takes them
+abbrev pub kinds : List (List ℕ)
+kinds = pieces (is (byte "\n")) KINDS.now
+
+-- kinds of misuses, by number
+abbrev pub misuse_number : Misuse → ℕ
+misuse_number NearName = 9
+misuse_number ScanCode = 10
+misuse_number UnknownKey = 11
+misuse_number UnfitValue = 12
+misuse_number ZeroRow = 13
+misuse_number TwoDefaults = 14
+
+-- kinds of warnings, by number; of `Replaced` and `Unmatched` the line and the place don't matter
+abbrev pub kind_number : WarningKind → ℕ
+kind_number ByteOrderMark = 0
+kind_number LeadingTab = 1
+kind_number CarriageReturn = 2
+kind_number OpenBracket = 3
+kind_number EmptyRange = 4
+kind_number SpacedEquals = 5
+kind_number CutValue = 6
+kind_number RepeatedMatch = 7
+kind_number (Replaced by) = 8
+kind_number (Misused why) = misuse_number why
+kind_number Unread = 15
+kind_number Unpaired = 16
+kind_number (Unmatched UnknownPrefix) = 17
+kind_number (Unmatched (Dead place)) = 18
+kind_number (Unmatched Fine) = 19
+
+-- Each kind of warning has its own name among these, and each of them is the name of one kind.
+pub record KindsAreNamed : Type 0 where
+  pub each : (kind : WarningKind) → (kind_number kind ≡ 19) ⊎ Contains kinds (warning_name kind)
+  pub all : (some : List WarningKind) × (map warning_name some ≡ kinds)
+  pub own : (one two : WarningKind) → warning_name one ≡ warning_name two → kind_number one ≡ kind_number two

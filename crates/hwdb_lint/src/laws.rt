@@ -1,0 +1,16 @@
+//! Laws over the definitions alone. Each function does nothing: its contract is the law.
+ghost use Rattle.hwdb_lint.specs.Laws.{KindsAreNamed, PatternsAreJudged, RunsAreAll, UnmatchedRows};
+
+/// A pattern that can match nothing is told, with the bytes that can follow the place where it goes wrong.
+#[tactic(auto, using(crate::proofs::LawLemmas::judged_patterns, crate::proofs::LawLemmas::all_runs, crate::proofs::LawLemmas::unmatched_rows))]
+pub fn patterns_are_judged()
+    ensures judged { PatternsAreJudged }
+    ensures runs { RunsAreAll }
+    ensures rows { UnmatchedRows }
+{}
+
+/// Each kind of warning has its own name.
+#[tactic(auto, using(crate::proofs::LawLemmas::named_kinds))]
+pub fn kinds_are_named()
+    ensures { KindsAreNamed }
+{}
