@@ -27,7 +27,7 @@ pub fn command<'a>(alloc: Global) -> Draft<'a>
     ensures { IsDraft check_app result }
 {
     let help =
-        "A text file, or - for standard input; without one those of /etc/udev/hwdb.d and /usr/lib/udev/hwdb.d";
+        "A text file, a folder of them, or - for standard input; without one those of /etc/udev/hwdb.d and /usr/lib/udev/hwdb.d";
     let command = shared(alloc, "check", ABOUT, AFTER);
     let with_allow = with_argument(command, allow_option(alloc));
     let with_json = with_argument(with_allow, json_option(alloc));
