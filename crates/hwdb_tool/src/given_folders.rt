@@ -83,7 +83,8 @@ fn files_at<D: System>(alloc: Global, path: &str, system: &D) -> Result<Vec<Stri
     ensures files { D.Store.tells → is_dash path.now ≡ false → IfOk result (λ own. StandsFor
         (is_file (D.Store.seen system.now) path.now) (D.Store.seen system.now) path.now
         (map string_bytes own.items)) }
-    ensures refused { D.Store.tells → IfErr result (IsFolderUnread (D.Store.seen system.now) path.now) }
+    ensures refused { D.Store.tells → IfErr result
+        (IsFolderUnread (D.Store.seen system.now) path.now) }
     ensures reason { IfErr result
         (HasReason (D.System.may_fail system.now) ⊥ (D.Store.seen system.now)) }
 {
@@ -99,7 +100,8 @@ fn files_for<D: System>(alloc: Global, path: &str, system: &D) -> Result<Vec<Str
     ensures files { D.Store.tells → IfOk result (λ own. StandsFor
         (is_file (D.Store.seen system.now) path.now) (D.Store.seen system.now) path.now
         (map string_bytes own.items)) }
-    ensures refused { D.Store.tells → IfErr result (IsFolderUnread (D.Store.seen system.now) path.now) }
+    ensures refused { D.Store.tells → IfErr result
+        (IsFolderUnread (D.Store.seen system.now) path.now) }
     ensures reason { IfErr result
         (HasReason (D.System.may_fail system.now) ⊥ (D.Store.seen system.now)) }
 {
