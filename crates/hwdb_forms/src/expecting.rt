@@ -128,12 +128,7 @@ fn begins_with<'t>(
 }
 
 /// Whether a text of one of the forms begins with what the beginning of a pattern and the byte after it match.
-fn begins_anew(
-    alloc: Global,
-    forms: &[FormRow],
-    front: &[u8],
-    byte: u8,
-) -> Result<bool, AllocError>
+fn begins_anew(alloc: Global, forms: &[FormRow], front: &[u8], byte: u8) -> Result<bool, AllocError>
     ensures { IfOk result (λ met. met
         ≡ Forms.can_begin (map form_of forms.now) (tokens (front.now ++ byte ∷ []))) }
 {
@@ -146,12 +141,7 @@ fn begins_anew(
 }
 
 /// Whether a text that udev asks begins with what the beginning of a pattern and the byte after it match.
-fn begins(
-    alloc: Global,
-    known: &Following<'_>,
-    front: &[u8],
-    byte: u8,
-) -> Result<bool, AllocError>
+fn begins(alloc: Global, known: &Following<'_>, front: &[u8], byte: u8) -> Result<bool, AllocError>
     requires { IsAfter front.now known.now }
     ensures { IfOk result (λ met. met ≡ Forms.can_begin asked (tokens (front.now ++ byte ∷ []))) }
 {

@@ -16,7 +16,11 @@ use hwdb_spec::Judgement;
 use std::alloc::{AllocError, Global};
 
 /// Whether the tokens match a text of one of these forms.
-pub(crate) fn match_one(alloc: Global, forms: &[FormRow], tokens: &[&[u8]]) -> Result<bool, AllocError>
+pub(crate) fn match_one(
+    alloc: Global,
+    forms: &[FormRow],
+    tokens: &[&[u8]],
+) -> Result<bool, AllocError>
     ensures { IfOk result (λ met. met
         ≡ Forms.can_match (map form_of forms.now) (views tokens.now)) }
 {

@@ -186,7 +186,7 @@ named_kinds = record {
   each = λ kind. among (kind_number kind) (warning_name kind) (at kind).0 (at kind).1;
   all = (
     ByteOrderMark ∷ LeadingTab ∷ CarriageReturn ∷ OpenBracket ∷ EmptyRange ∷ SpacedEquals ∷ CutValue ∷ RepeatedMatch ∷ Replaced 0 ∷ Misused NearName ∷ Misused ScanCode
-    ∷ Misused UnknownKey ∷ Misused UnfitValue ∷ Misused ZeroRow ∷ Misused TwoDefaults ∷ Unread ∷ Unpaired ∷ Unmatched UnknownPrefix ∷ Unmatched (Dead 0) ∷ [],
+        ∷ Misused UnknownKey ∷ Misused UnfitValue ∷ Misused ZeroRow ∷ Misused TwoDefaults ∷ Unread ∷ Unpaired ∷ Unmatched UnknownPrefix ∷ Unmatched (Dead 0) ∷ [],
     refl,
   );
   own = λ one two e.
