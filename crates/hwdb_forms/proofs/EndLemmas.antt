@@ -6,8 +6,7 @@ use Rattle.hwdb_spec.specs.declared.ByteSet.{ByteSet}
 use Rattle.hwdb_spec.specs.declared.ByteSet.TheVariants.{Only}
 use Rattle.hwdb_spec.specs.Patterns.{Token, bracket, literal, one, star, token_at}
 use Rattle.hwdb_spec.specs.Forms.{Piece, fixed, counted, repeated, is_star, meets, head, tail, byte_row, many_cell, many_row, fixed_row, counted_row, piece_row, pieces_row, either_row, end_row, field_row, fields_row}
-use Rattle.hwdb_forms.specs.declared.leads.Passed.TheVariants.{No, Unknown, Yes}
-use Rattle.hwdb_forms.specs.declared.leads.Passed.{Passed}
+use Rattle.hwdb_forms.specs.declared.leads.Passed.TheVariants.{No, Yes}
 use Rattle.hwdb_forms.specs.declared.leads.Lead.{Lead}
 use Rattle.hwdb_forms.specs.declared.pieces.Piece as Rust
 use Rattle.hwdb_forms.specs.Internal.{HaveWays, IsFamily, Leads, StarEnds, fields_of, passed_counted, piece_of, views, way_met}

@@ -1,5 +1,5 @@
 -- Which forms matter after the beginning of a pattern.
-use Rattle.std.proofs.Common.{◌≡◌, ◌<◌, ◌≤◌, ◌+◌, ◌-◌, ◌||◌, ◌==◌, ◌∙◌, ℕ, Bool, true, false, IsTrue, List, [], ◌∷◌, ◌++◌, Bor, refl, sym, ap, subst, append_assoc, arith, cond, drop, eqb-true, get_or, length, map, ne_eqb, suc, take, zero}
+use Rattle.std.proofs.Common.{◌≡◌, ◌<◌, ◌≤◌, ◌+◌, ◌-◌, ◌||◌, ◌==◌, ◌∙◌, ℕ, Bool, true, false, IsTrue, List, [], ◌∷◌, ◌++◌, refl, sym, ap, subst, append_assoc, arith, cond, drop, eqb-true, get_or, length, map, ne_eqb, suc, take, zero}
 use Rattle.std.specs.Prelude.{filter}
 use Rattle.std.specs.List.{list_any}
 use Rattle.std.proofs.lemmas.List.{drop_all, drop_more, take_all, take-append-drop}

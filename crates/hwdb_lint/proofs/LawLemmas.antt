@@ -1,18 +1,15 @@
 -- The laws.
-use Rattle.std.proofs.Common.{◌≡◌, ◌∙◌, ◌⊎◌, ◌||◌, ◌+◌, ◌++◌, ◌-◌, ◌<◌, ◌≤◌, ◌==◌, ap, sym, refl, subst, inl, inr, arith, append_assoc, cond, eqb-true, ℕ, zero, suc, Bool, true, false, List, [], ◌∷◌, length, map, get_or, not}
-use Rattle.std.specs.Prelude.{Contains, codes, flat_map, nat_lt, if◌then◌else◌}
+use Rattle.std.proofs.Common.{◌≡◌, ◌∙◌, ◌⊎◌, ◌||◌, ◌+◌, ◌++◌, ◌-◌, ◌<◌, ◌≤◌, ◌==◌, ap, sym, refl, subst, inl, inr, arith, append_assoc, eqb-true, ℕ, zero, suc, Bool, true, false, List, [], ◌∷◌, length, get_or}
+use Rattle.std.specs.Prelude.{Contains, flat_map, nat_lt, if◌then◌else◌}
 use Rattle.std.specs.List.{list_any}
 use Rattle.std.specs.Ordering.{is_eq}
 use Rattle.std.proofs.lemmas.Bool.{le-ltb}
 use Rattle.std.proofs.lemmas.Cmp.{nat_list_cmp_total, tied_itself}
-use Rattle.hwdb_spec.specs.Assignment.{text_cmp}
 use Rattle.hwdb_spec.specs.Folders.{same}
-use Rattle.hwdb_spec.specs.Forms.{all_bytes_from, expected, judged}
-use Rattle.hwdb_spec.specs.FormTable.{asked}
+use Rattle.hwdb_spec.specs.Forms.{all_bytes_from}
 use Rattle.hwdb_spec.specs.Kinds.{warning_name}
 use Rattle.hwdb_spec.specs.Lines.{begins_with, byte, is_none, max_pattern, pieces}
-use Rattle.hwdb_spec.specs.Unmatched.{compare_hint, expected_after, judgement_of, runs, runs_from, runs_hint}
-use Rattle.hwdb_spec.specs.declared.Judgement.{Judgement}
+use Rattle.hwdb_spec.specs.Unmatched.{compare_hint, expected_after, judgement_of, runs, runs_from}
 use Rattle.hwdb_spec.specs.declared.Judgement.TheVariants.{Dead, Fine, UnknownPrefix}
 use Rattle.hwdb_spec.specs.declared.WarningKind.TheVariants.{ByteOrderMark, CarriageReturn, CutValue, EmptyRange, LeadingTab, Misused, OpenBracket, RepeatedMatch, Replaced, SpacedEquals, Unmatched, Unpaired, Unread}
 use Rattle.hwdb_spec.specs.declared.WarningKind.{WarningKind}

@@ -1,5 +1,5 @@
 -- What the laws say of patterns that can't match, and of the names of warnings. A definition that said less would be noticed here.
-use Rattle.std.specs.Prelude.{◌+◌, ◌++◌, ◌-◌, ◌<◌, ◌≡◌, ◌≤◌, ◌⊎◌, ◌∷◌, Contains, List, None, Some, [], codes, false, flat_map, length, map, suc, true, ℕ}
+use Rattle.std.specs.Prelude.{◌-◌, ◌≡◌, ◌≤◌, ◌⊎◌, Contains, List, None, Some, [], codes, false, flat_map, length, map, suc, true, ℕ}
 use Rattle.hwdb_spec.specs.Forms.{all_bytes_from, expected, judged}
 use Rattle.hwdb_spec.specs.FormTable.{asked}
 use Rattle.hwdb_spec.specs.Kinds.{warning_name}

@@ -1,7 +1,7 @@
-use Rattle.std.proofs.Common.{◌∙◌, ◌++◌, ◌∷◌, [], ap, map, refl, List}
-use Rattle.hwdb_spec.specs.Patterns.{Token, star, token_at}
+use Rattle.std.proofs.Common.{◌∙◌, ◌++◌, ◌∷◌, [], ap, map, List}
+use Rattle.hwdb_spec.specs.Patterns.{Token, star}
 use Rattle.hwdb_spec.specs.Forms.{can_match}
-use Rattle.hwdb_forms.specs.Internal.{form_of, views}
+use Rattle.hwdb_forms.specs.Internal.{form_of}
 use Rattle.hwdb_forms.proofs.FrontLemmas.{starred, star_is, views_pushed}
 use Rattle.hwdb_forms.proofs.expecting.begins_with.Goals as goal
 

@@ -1,7 +1,7 @@
 use Rattle.std.proofs.Common.{◌∙◌, ap, map}
 use Rattle.std.specs.Prelude.{filter}
 use Rattle.hwdb_spec.specs.FormTable.{asked}
-use Rattle.hwdb_spec.specs.Forms.{Form, meets_form}
+use Rattle.hwdb_spec.specs.Forms.{meets_form}
 use Rattle.hwdb_spec.specs.Patterns.{Token}
 use Rattle.std.specs.Prelude.{List}
 use Rattle.hwdb_forms.specs.Internal.{form_of, views}
