@@ -1,5 +1,9 @@
--- A device, and what is said if there is none.
-use Rattle.std.proofs.Common.{◌≡◌, ◌∙◌, ◌++◌, ap, append_assoc, List, ℕ}
+-- A device, the lines of all of them, and what is said if there is none.
+use Rattle.std.proofs.Common.{◌≡◌, ◌<◌, ◌≤◌, ◌+◌, ◌∙◌, ◌++◌, ◌∷◌, [], ap, append_assoc, false, flat_map, get_or, if◌then◌else◌, is_some, length, map, not, refl, sym, take, true, Bool, Global, List, Vec, ℕ}
+use Rattle.std.proofs.lemmas.List.{flat_map_more, map-append, take_all, take_more}
+use Rattle.hwdb_spec.specs.DeviceAsked.{leads_nowhere}
+use Rattle.hwdb_spec.specs.DeviceTree.{Sight, absolute}
+use Rattle.hwdb_spec.specs.Lines.{byte, has}
 
 -- a text, and four pieces after it
 pub four_pieces : (t a b k e t0 t1 t2 t3 t4 : List ℕ) → t0 ≡ t → t1 ≡ t0 ++ a → t2 ≡ t1 ++ b → t3 ≡ t2 ++ k → t4 ≡ t3 ++ e
@@ -10,3 +14,32 @@ four_pieces t a b k e t0 t1 t2 t3 t4 h0 h1 h2 h3 h4 =
     ∙ append_assoc ((t ++ a) ++ b) k e
     ∙ append_assoc (t ++ a) b (k ++ e)
     ∙ append_assoc t a (b ++ (k ++ e))
+
+abbrev pub items : Vec ℕ Global → List ℕ
+items v = v.items
+
+-- so many places and one more
+one_more : (xs : List (Vec ℕ Global)) (i : ℕ) (d x : Vec ℕ Global) → i < length xs → x ≡ get_or xs i d → map items (take (i + 1) xs) ≡ map items (take i xs) ++ x.items ∷ []
+one_more xs i d x lt is =
+    ap (map items) (take_more xs i d lt) ∙ map-append items (take i xs) (get_or xs i d ∷ []) ∙ ap (λ (v : Vec ℕ Global). map items (take i xs) ++ v.items ∷ []) (sym is)
+
+-- the lines of so many places and of one more
+pub rows_more : (f : List ℕ → List ℕ) (xs : List (Vec ℕ Global)) (i : ℕ) (d x : Vec ℕ Global) (done new : List ℕ) → i < length xs → x ≡ get_or xs i d
+    → done ≡ flat_map f (map items (take i xs)) → new ≡ done ++ f x.items → new ≡ flat_map f (map items (take (i + 1) xs))
+rows_more f xs i d x done new lt is whole next =
+    next ∙ ap (λ (l : List ℕ). l ++ f x.items) whole ∙ flat_map_more f [] (map items (take i xs)) x.items
+    ∙ ap (λ (l : List (List ℕ)). flat_map f l) (sym (one_more xs i d x lt is))
+
+-- those of all places
+pub rows_all : (f : List ℕ → List ℕ) (xs : List (Vec ℕ Global)) (i : ℕ) (text : List ℕ) (places : List (List ℕ)) → length xs ≤ i
+    → text ≡ flat_map f (map items (take i xs)) → map items xs ≡ places → text ≡ flat_map f places
+rows_all f xs i text places le whole are =
+    whole ∙ ap (λ (l : List (Vec ℕ Global)). flat_map f (map items l)) (take_all i xs le) ∙ ap (λ (l : List (List ℕ)). flat_map f l) are
+
+-- a path that leads somewhere, or a name
+pub leads_somewhere : (sight : Sight) (root given : List ℕ) → (has (byte "/") given ≡ true → is_some (sight.place (root ++ absolute given)) ≡ true) → leads_nowhere sight root given ≡ false
+leads_somewhere sight root given some = go (has (byte "/") given) (is_some (sight.place (root ++ absolute given))) some
+  where
+    go : (b found : Bool) → (b ≡ true → found ≡ true) → (if b then not found else false) ≡ false
+    go true found some = ap not (some refl)
+    go false found some = refl

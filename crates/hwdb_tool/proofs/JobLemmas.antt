@@ -21,14 +21,13 @@ use Rattle.hwdb_spec.specs.Asked.{IsCompared, IsAnswered, IsListFrom, IsDumped, 
 use Rattle.hwdb_spec.specs.Done.{IsAsked}
 use Rattle.hwdb_spec.specs.Databases.{IsSummary}
 use Rattle.hwdb_spec.specs.NearAsked.{IsNear, near_form, near_limit}
-use Rattle.hwdb_spec.specs.DeviceAsked.{IsDevicePrinted, device_form}
+use Rattle.hwdb_spec.specs.DeviceAsked.{device_form}
 use Rattle.hwdb_spec.specs.declared.devices.DeviceForm.{DeviceForm}
-use Rattle.hwdb_tool.specs.Devices.{asked_names}
 use Rattle.hwdb_tool.specs.Queries.{AreAnswered, IfNamed, IsQuiet}
 use Rattle.hwdb_print.specs.declared.form.Form.{Form}
 use Rattle.hwdb_print.specs.declared.form.Form.TheVariants as form
 use Rattle.hwdb_spec.specs.Given.{is_input}
-use Rattle.hwdb_tool.specs.Program.{IsDone, IsTaskDone, root_of}
+use Rattle.hwdb_tool.specs.Program.{IsDeviceAnswer, IsDone, IsTaskDone, root_of}
 use Rattle.hwdb_tool.specs.OneOutcome.{DoneIsNotTold, JobsAreOne, TasksAreOne, scene_of}
 
 pub one_value : (o : Option (List ℕ)) (a b : List ℕ) → Some a ≡ o → Some b ≡ o → a ≡ b
@@ -97,7 +96,7 @@ module _ (name : Text) (inner : List Row) (root : List ℕ) (usr strict : Bool) 
 
   abbrev OfDevice : DeviceForm → Option (List ℕ) → Type 0
   OfDevice kind path =
-      Printed (λ texts. (status ≡ 0) × OnOut (IsDevicePrinted kind asked_names root path before.devices before.files.seen) texts) before.err now.err before.out now.out
+      Printed (IsDeviceAnswer kind root path before.devices before.files.seen status) before.err now.err before.out now.out
       × AreKept before.files now.files
 
   abbrev input : Option (List ℕ)

@@ -50,7 +50,7 @@ use Rattle.hwdb_tool.proofs.OutcomeLemmas.{one_answer, one_held, one_kept, one_m
 
 -- an option has one value
 one_some : {X : Type 0} (o : Option X) (a b : X) → o ≡ Some a → o ≡ Some b → a ≡ b
-one_some o a b one two = ap (λ (p : Option X). option_map_or (λ x. x) p a) (sym one ∙ two)
+one_some {X = X} o a b one two = ap (λ (p : Option X). option_map_or (λ (x : X). x) p a) (sym one ∙ two)
 
 first_or : {X : Type 0} → X → List X → X
 first_or d [] = d

@@ -19,6 +19,8 @@ use Rattle.hwdb_spec.specs.Asked.{IsCompared, IsDumped, IsPrinted, IsAnswered, I
 use Rattle.hwdb_spec.specs.Databases.{IsSummary}
 use Rattle.hwdb_spec.specs.NearAsked.{IsNear, near_form, near_limit}
 use Rattle.hwdb_spec.specs.DeviceAsked.{IsDevicePrinted, device_form}
+use Rattle.hwdb_spec.specs.DeviceTree.{Sight}
+use Rattle.hwdb_spec.specs.declared.devices.DeviceForm.{DeviceForm}
 use Rattle.hwdb_tool.specs.Devices.{asked_names}
 use Rattle.hwdb_tool.specs.Queries.{AreAnswered, IfNamed, IsQuiet}
 use Rattle.hwdb_spec.specs.Done.{IsAsked, IsLeftByUpdateLess}
@@ -61,6 +63,10 @@ IsAnswerOf (Verify database) root strict input files status texts =
 IsAnswerOf (Dump database) root strict input files status texts =
     (status ≡ 0) × OnOut (IsDumped (option_map string_bytes database) root files) texts
 
+-- what `device` prints in this form, and its status
+abbrev pub IsDeviceAnswer : DeviceForm → (root : List ℕ) (given : Option (List ℕ)) → Sight → Contents → (status : ℕ) → Texts → Type 0
+IsDeviceAnswer form root given sight files status texts = (status ≡ 0) × OnOut (IsDevicePrinted form asked_names root given sight files) texts
+
 -- the task answers the devices that standard input names, each as it comes
 abbrev pub streams : Task → Bool
 streams (Query devices json) = is_input (map string_bytes devices.items)
@@ -73,7 +79,7 @@ IsTaskDone (Update verbose skip) root usr strict status before now =
     IsUpdatedTelling root usr verbose strict skip status before.files before.err now.err (λ database. InPlace (database_folder usr root) database before.files.seen now.files.seen now.files.left)
     × (now.out ≡ before.out)
 IsTaskDone (Device path strings json pattern) root usr strict status before now =
-    Printed (λ texts. (status ≡ 0) × OnOut (IsDevicePrinted (device_form strings json pattern) asked_names root (option_map string_bytes path) before.devices before.files.seen) texts) before.err now.err before.out now.out
+    Printed (IsDeviceAnswer (device_form strings json pattern) root (option_map string_bytes path) before.devices before.files.seen status) before.err now.err before.out now.out
     × AreKept before.files now.files
 IsTaskDone task root usr strict status before now =
     IfNamed (streams task) before.input.bytes (Printed (IsAnswerOf task root strict before.input.bytes before.files.seen status) before.err now.err before.out now.out)

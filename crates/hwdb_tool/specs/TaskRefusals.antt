@@ -11,8 +11,8 @@ use Rattle.hwdb_cli.specs.declared.job.WordsFault.TheVariants as words_fault
 use Rattle.hwdb_cli.specs.declared.job.WordsFault.{WordsFault}
 use Rattle.hwdb_spec.specs.Failures.{IsOneLine}
 use Rattle.hwdb_spec.specs.Given.{is_dash, is_input}
-use Rattle.hwdb_spec.specs.DeviceAsked.{IsDevicePrinted, device_form}
-use Rattle.hwdb_spec.specs.Runs.{AreKept, OnOut, Told, WasCut, World}
+use Rattle.hwdb_spec.specs.DeviceAsked.{device_form}
+use Rattle.hwdb_spec.specs.Runs.{AreKept, Told, WasCut, World}
 use Rattle.hwdb_spec.specs.Store.{Contents}
 use Rattle.hwdb_spec.specs.System.{database_folder}
 use Rattle.hwdb_spec.specs.Outputs.{Texts}
@@ -21,10 +21,10 @@ use Rattle.hwdb_print.specs.declared.errors.ToolError.TheVariants.{Memory, Write
 use Rattle.hwdb_spec.specs.CheckedFiles.{AreCheckedFiles}
 use Rattle.hwdb_tool.specs.ComparedDatabases.{IsDiffRefused}
 use Rattle.hwdb_tool.specs.NearMisses.{IsNearRefused}
-use Rattle.hwdb_tool.specs.Devices.{IsDeviceRefused, asked_names}
+use Rattle.hwdb_tool.specs.Devices.{IsDeviceRefused}
 use Rattle.hwdb_tool.specs.NamedDatabases.{IsDumpRefused, IsVerifyRefused}
 use Rattle.hwdb_tool.specs.Queries.{AreUnanswered}
-use Rattle.hwdb_tool.specs.Program.{IsAnswerOf, IsJobDone, IsTold, IsUpdate, looks_below_root, root_of}
+use Rattle.hwdb_tool.specs.Program.{IsAnswerOf, IsDeviceAnswer, IsJobDone, IsTold, IsUpdate, looks_below_root, root_of}
 use Rattle.hwdb_tool.specs.CheckedReasons.{HasCheckedReason}
 use Rattle.hwdb_tool.specs.Reasons.{HasAskedReason, HasFilesReason, HasGivenReason}
 use Rattle.hwdb_fs.specs.Refusals.{HasReason, IsAt, IsUnentered, IsUnreadable, Refused, refusal_line, refusal_text}
@@ -58,7 +58,7 @@ IsPrintingRefused (ListHits after limit device json) root strict refusal before 
     IsListRefused root json (string_bytes device) (option_map string_bytes after) limit before.files.seen refusal before.out now.out × (now.err ≡ before.err)
 IsPrintingRefused (Device path strings json pattern) root strict refusal before now =
     IsUnprinted (IsDeviceRefused root (option_map string_bytes path) before.devices before.files.seen)
-    (OnOut (IsDevicePrinted (device_form strings json pattern) asked_names root (option_map string_bytes path) before.devices before.files.seen)) refusal before.err now.err before.out now.out
+    (λ texts. (status : ℕ) × IsDeviceAnswer (device_form strings json pattern) root (option_map string_bytes path) before.devices before.files.seen status texts) refusal before.err now.err before.out now.out
 IsPrintingRefused task root strict refusal before now =
     IsUnprinted (Refuses task root before.input.bytes before.files.seen) (MayPrint task root strict before.input.bytes before.files.seen) refusal before.err now.err before.out now.out
 

@@ -66,6 +66,11 @@ pub fn device<D: Machine>(
     }
 }
 
+/// If a system tells its files, it tells what sysfs shows.
+fn devices_are_told<D: Machine>(_system: &D)
+    ensures { D.Store.tells → D.DeviceFiles.tells }
+{}
+
 /// A line for each device below the root that something is asked for.
 fn listed<D: Machine>(alloc: Global, root: &str, system: &D) -> Result<Answer, Refusal>
     ensures status { IfOk result (λ a. a.status ≡ 0) }
@@ -77,6 +82,7 @@ fn listed<D: Machine>(alloc: Global, root: &str, system: &D) -> Result<Answer, R
     ensures reason { IfErr result
         (HasReason (D.System.may_fail system.now) ⊥ (D.Store.seen system.now)) }
 {
+    devices_are_told(system);
     let sys = sysfs_of(alloc, root, system)?;
     let text = list_text(alloc, &sys, system)?;
     Ok(Answer::new(alloc, text, 0))
@@ -128,6 +134,7 @@ fn shown<D: Machine>(
     ensures reason { IfErr result
         (HasReason (D.System.may_fail system.now) ⊥ (D.Store.seen system.now)) }
 {
+    devices_are_told(system);
     let device = device_read(alloc, root, given, system)?;
     answered(alloc, root, &device, form, system)
 }

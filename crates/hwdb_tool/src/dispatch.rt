@@ -259,7 +259,8 @@ fn run<D: Machine, I: Source, O: Sink, E: Sink>(
             pattern,
         } => {
             let form = device_form(*strings, *json, *pattern);
-            let answer = device(alloc, root, text_of(path), form, system);
+            let given = text_of(path);
+            let answer = device(alloc, root, given, form, system);
             printed(answer, out, err)
         }
         Task::Diff { old, new } => {

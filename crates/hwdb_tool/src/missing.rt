@@ -107,9 +107,19 @@ fn unmeant<F: DeviceFiles>(
             let message = cause.message();
             no_device(alloc, sys, given, true, message.as_bytes(), files)
         }
-        Unfound::NoDevice => no_device(alloc, sys, given, false, b"", files),
+        Unfound::NoDevice => not_there(alloc, sys, given, files),
         Unfound::Memory | Unfound::NoSysfs(..) => Refusal::from(AllocError),
     }
+}
+
+/// What is said if what was given leads to no device, and not nowhere.
+fn not_there<F: DeviceFiles>(alloc: Global, sys: &[u8], given: &[u8], files: &F) -> Refusal
+    ensures said { F.tells → (root : List ℕ)
+        → finding.IsUnfound (F.answers files.now) root sys.now given.now Unfound.NoDevice
+        → IsNoDevice root sys.now given.now (sight_by F.answers files.now) result }
+    ensures worded { IsWorded result }
+{
+    no_device(alloc, sys, given, false, b"", files)
 }
 
 /// What is said of what was given: whether it leads nowhere, why, and what is near.

@@ -1,6 +1,6 @@
 use Rattle.std.proofs.Common.{◌≡◌, ◌⊎◌, ap, inl, inr, ⊎_elim, refl, string_bytes, subst, sym, ◌==◌, length, map, not, IfOk, IfErr}
 use Rattle.std.specs.Prelude.{option_map}
-use Rattle.hwdb_cli.specs.declared.job.Task.TheVariants.{Ask, Check, Diff, Near, Update}
+use Rattle.hwdb_cli.specs.declared.job.Task.TheVariants.{Ask, Check, Device, Diff, Near, Update}
 use Rattle.hwdb_spec.specs.Asked.{IsAnswered, IsCompared, IsListFrom}
 use Rattle.hwdb_spec.specs.CheckedFiles.{AreCheckedFiles, IsChecked}
 use Rattle.hwdb_spec.specs.Done.{IsAsked, IsLeftByUpdateLess, OldOrUpdatedLess}
@@ -11,7 +11,9 @@ use Rattle.hwdb_spec.specs.NearAsked.{IsNear, near_form, near_limit}
 use Rattle.hwdb_sysfs.specs.Answers.{sight_by}
 use Rattle.hwdb_tool.specs.ComparedDatabases.{IsDiffRefused}
 use Rattle.hwdb_tool.specs.NearMisses.{IsNearRefused}
-use Rattle.hwdb_tool.specs.Program.{IsAnswerOf, IsTaskDone, OldOrDone, root_of, skips}
+use Rattle.hwdb_spec.specs.DeviceAsked.{IsDevicePrinted, device_form}
+use Rattle.hwdb_tool.specs.Devices.{IsDeviceRefused, asked_names}
+use Rattle.hwdb_tool.specs.Program.{IsAnswerOf, IsDeviceAnswer, IsTaskDone, OldOrDone, root_of, skips}
 use Rattle.hwdb_tool.specs.Reasons.{HasFilesReason, HasGivenReason}
 use Rattle.hwdb_tool.specs.Undone.{AreUncheckable, IsAskRefused, IsCheckRefused}
 use Rattle.hwdb_tool.specs.TaskRefusals.{IsNotDone, IsTaskReason, Refuses}
@@ -220,3 +222,35 @@ returns-in-Near-clause-refused g c = λ tells.
     (subst (λ l. IfErr answer (HasFilesReason (not (length l == 0)) (map string_bytes l) fails seen input before.input.failures now.input.failures)) items
     (c.near-answer.ensures.reason tells))
     (write_reason given fails seen input before.input.failures now.input.failures (not (length given == 0))) c.printed-in-Near.ensures.refused))
+
+pub returns-in-Device-clause-refused : goal.returns-in-Device-clause-refused
+returns-in-Device-clause-refused g c = λ tells.
+    let job = c.args.job.now in
+    let F = files_by g.D.Store.seen g.D.System.may_fail g.D.Store.may_leave g.D.Store.failures in
+    let V = sight_by g.D.DeviceFiles.answers in
+    let I = told_by g.I.Source.left g.I.Source.failures in
+    let O = told_by g.O.Sink.taken g.O.Sink.failures in
+    let E = told_by g.E.Sink.taken g.E.Sink.failures in
+    let seen = g.D.Store.seen c.args.system.now in
+    let sight = V c.args.system.now in
+    let before : World = record { files = F c.args.system.now; input = I c.args.input.now; out = O c.args.out.now; err = E c.args.err.now; devices = sight } in
+    let now : World = record { files = F c.args.system.now; input = I c.args.input.now; out = O c.printed-in-Device.new.out; err = E c.printed-in-Device.new.err; devices = sight } in
+    let task = Device c.in-Device.path c.in-Device.strings c.in-Device.json c.in-Device.pattern in
+    let path = option_map string_bytes c.in-Device.path in
+    let given = option_map (λ t. t.now) c.text_of-given.result in
+    let kind = device_form c.in-Device.strings c.in-Device.json c.in-Device.pattern in
+    let root = c.root_of-root.result.now in
+    let answer = c.device-answer.result in
+    subst (λ t. IfErr c.printed-in-Device.result (IsNotDone t (root_of job) job.usr job.strict before now)) (sym c.in-Device.is)
+    (each_error _ (IsNotDone task (root_of job) job.usr job.strict before now) c.printed-in-Device.result (λ r both. ((both.0, record { same = λ p. refl; no_more = λ p v l. l }), both.1))
+    (printed_refused answer c.printed-in-Device.result (IsDeviceRefused (root_of job) path sight seen) (IsTaskReason task (root_of job) job.usr before now)
+    (λ s t. IsDeviceAnswer kind (root_of job) path sight seen s t) before.err now.err before.out now.out
+    (subst (λ p. IfErr answer (IsDeviceRefused (root_of job) p sight seen)) c.text_of-given.ensures
+    (subst (λ r. IfErr answer (IsDeviceRefused r given sight seen)) c.root_of-root.ensures (c.device-answer.ensures.refused tells)))
+    (both_values (λ a. a.status ≡ 0) (λ a. OnOut (IsDevicePrinted kind asked_names (root_of job) path sight seen) (texts_in a))
+    (λ a. IsDeviceAnswer kind (root_of job) path sight seen a.status (texts_in a)) answer (λ a zero told. (zero, told)) c.device-answer.ensures.status
+    (subst (λ p. IfOk answer (λ a. OnOut (IsDevicePrinted kind asked_names (root_of job) p sight seen) (texts_in a))) c.text_of-given.ensures
+    (subst (λ r. IfOk answer (λ a. OnOut (IsDevicePrinted kind asked_names r given sight seen) (texts_in a))) c.root_of-root.ensures
+    (subst (λ k. IfOk answer (λ a. OnOut (IsDevicePrinted k asked_names root given sight seen) (texts_in a))) c.device_form-form.ensures (c.device-answer.ensures.printed tells)))))
+    (each_error _ (IsTaskReason task (root_of job) job.usr before now) answer (λ r has. inl (any_reason _ _ seen r has)) c.device-answer.ensures.reason)
+    (inl tt) c.printed-in-Device.ensures.refused))

@@ -1,0 +1,19 @@
+use Rattle.std.proofs.Common.{inr, refl, subst, sym, Bool, [], List, ℕ}
+use Rattle.hwdb_spec.specs.DeviceAsked.{no_device_text}
+use Rattle.hwdb_spec.specs.DeviceTree.{last_name, near_name}
+use Rattle.hwdb_sysfs.specs.Answers.{sight_by}
+use Rattle.hwdb_fs.specs.Refusals.{IsInWords}
+use Rattle.hwdb_tool.proofs.DeviceLemmas.{leads_somewhere}
+use Rattle.hwdb_tool.proofs.missing.not_there.Goals as goal
+
+pub returns-clause-said : goal.returns-clause-said
+returns-clause-said g c = λ tells root none.
+    let sight = sight_by g.F.DeviceFiles.answers c.args.files.now in
+    let given = c.args.given.now in
+    inr record {
+      none = none.0;
+      words = [];
+      one_line = refl;
+      said = subst (λ (b : Bool). IsInWords (no_device_text b given [] (near_name sight c.args.sys.now (last_name given))) c.no_device.result)
+          (sym (leads_somewhere sight root given none.1)) (c.no_device.ensures.said tells);
+    }
