@@ -14,10 +14,11 @@ use Rattle.hwdb_spec.specs.Runs.{OnOut}
 use Rattle.hwdb_spec.specs.Texts.{max_file}
 use Rattle.hwdb_lint.specs.Checks.{source_of}
 use Rattle.hwdb_lint.specs.declared.files.TextFile.{TextFile}
-use Rattle.hwdb_spec.specs.CheckedFiles.{AreCheckedFiles, AreChosenFiles, AreGivenFiles, IsChecked}
+use Rattle.hwdb_spec.specs.CheckedFiles.{AreCheckedFiles, AreChosenFiles, AreGivenFiles, AreNamedFiles, IsChecked, StandFor}
 use Rattle.hwdb_fs.specs.Internal.{AreSelected}
 use Rattle.hwdb_tool.specs.Internal.{AreTextsGiven, bytes_given, bytes_if}
 use Rattle.hwdb_fs.specs.Refusals.{IsUnread}
+use Rattle.hwdb_tool.specs.GivenFolders.{IsNamedUnread}
 use Rattle.hwdb_tool.specs.Reasons.{IsFirstGiven, IsReadGiven}
 use Rattle.hwdb_tool.specs.Undone.{AreNotChecked, AreUncheckable, IsCheckRefused, IsGivenUnread, told_as, told_path}
 use Rattle.hwdb_fs.specs.declared.refusals.Refusal.{Refusal}
@@ -227,7 +228,26 @@ not_checked Unread Are files (Err e) are refused = inr record {
 
 -- where some are given
 pub some_given : (root : List ℕ) (input : Option (List ℕ)) (contents : Contents) (given : List (String Global)) (P : (Refusal → Type 0) → (List Source → Type 0) → Type 0) → (length given == 0) ≡ false
-    → P (IsGivenUnread (map string_bytes given)) (AreGivenFiles (map string_bytes given) input contents)
+    → P (IsNamedUnread IsGivenUnread contents (map string_bytes given)) (AreNamedFiles (map string_bytes given) input contents)
     → P (AreUncheckable (map string_bytes given) root contents) (AreCheckedFiles (map string_bytes given) root input contents)
 some_given root input contents [] P some p = absurd (cc)
 some_given root input contents (path ∷ more) P some p = p
+
+-- ---- the files for which given paths stand
+module _ (given paths : List (List ℕ)) (input : Option (List ℕ)) (contents : Contents) (stand : StandFor contents given paths) where
+  pub named_checked : (json strict : Bool) (allowed : List (List ℕ)) (r : Result Answer Refusal)
+      → IfOk r (λ a. OnOut (λ text. IsChecked (AreGivenFiles paths input contents) json strict allowed text a.status) (texts_in a))
+      → IfOk r (λ a. OnOut (λ text. IsChecked (AreNamedFiles given input contents) json strict allowed text a.status) (texts_in a))
+  named_checked json strict allowed (Ok a) checked =
+      (checked.0, record { sources = checked.1.sources; are = (paths, stand, checked.1.are); is = checked.1.is; says = checked.1.says })
+  named_checked json strict allowed (Err e) checked = tt
+
+  named_end : (e : Refusal) → IsCheckRefused (IsGivenUnread paths) (AreGivenFiles paths input contents) e
+      → IsCheckRefused (IsNamedUnread IsGivenUnread contents given) (AreNamedFiles given input contents) e
+  named_end e (inl unread) = inl (inr (paths, stand, unread))
+  named_end e (inr not) = inr record { sources = not.sources; are = (paths, stand, not.are); error = not.error; is = not.is; refused = not.refused }
+
+  pub named_refused : {T : Type 0} (r : Result T Refusal) → IfErr r (IsCheckRefused (IsGivenUnread paths) (AreGivenFiles paths input contents))
+      → IfErr r (IsCheckRefused (IsNamedUnread IsGivenUnread contents given) (AreNamedFiles given input contents))
+  named_refused (Ok x) refused = tt
+  named_refused (Err e) refused = named_end e refused

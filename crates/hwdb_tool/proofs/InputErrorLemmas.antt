@@ -1,10 +1,11 @@
 -- What an error says of standard input.
-use Rattle.std.proofs.Common.{◌≡◌, ◌<◌, ◌⊎◌, ◌∙◌, ap, inl, inr, reverse, sym, subst, refl, arith, eqb-true, ℕ, Bool, true, false, not, ◌==◌, List, [], ◌∷◌, length, map, Option, IfSome, string_bytes, Global, String}
+use Rattle.std.proofs.Common.{◌≡◌, ◌<◌, ◌⊎◌, ◌∙◌, ⊎_elim, ap, inl, inr, reverse, sym, subst, refl, arith, eqb-true, ℕ, Bool, true, false, not, ◌==◌, List, [], ◌∷◌, length, map, Option, IfSome, string_bytes, Global, String}
 use Rattle.std.proofs.lemmas.List.{reverse-append}
 use Rattle.std.proofs.lemmas.List.Elements.{Contains-append_right}
 use Rattle.std.specs.Prelude.{Contains, codes}
 use Rattle.hwdb_cli.specs.declared.job.Task.TheVariants.{Ask, Check, Explain, Near, Query}
 use Rattle.hwdb_spec.specs.Asked.{IsAskedPath}
+use Rattle.hwdb_spec.specs.CheckedFiles.{StandFor, folder_of}
 use Rattle.hwdb_spec.specs.Failures.{HasFailed}
 use Rattle.hwdb_spec.specs.Given.{any_dash, is_dash, is_input}
 use Rattle.hwdb_spec.specs.ManyDevices.{HasLongLine}
@@ -12,11 +13,13 @@ use Rattle.hwdb_spec.specs.Store.{Contents, Outcomes, database_name, path_in}
 use Rattle.hwdb_spec.specs.System.{database_folder}
 use Rattle.hwdb_spec.specs.Texts.{max_file}
 use Rattle.hwdb_print.specs.declared.errors.ToolError.{ToolError}
-use Rattle.hwdb_print.specs.declared.errors.ToolError.TheVariants.{Read, TooLong}
-use Rattle.hwdb_fs.specs.Refusals.{IsOver}
+use Rattle.hwdb_print.specs.declared.errors.ToolError.TheVariants.{Read, TooLong, TooManyFiles}
+use Rattle.hwdb_fs.specs.Refusals.{IsOver, IsUnlisted}
 use Rattle.hwdb_fs.specs.declared.refusals.Refusal.{Refusal}
 use Rattle.hwdb_fs.specs.declared.refusals.Refusal.TheVariants.{At, InWords, NoDatabase, Plain}
-use Rattle.hwdb_tool.specs.OneRefusal.{InputIsLong, InputIsRead, LineIsLong}
+use Rattle.hwdb_tool.specs.CheckedReasons.{HasCheckedReason, HasNamedReason}
+use Rattle.hwdb_tool.specs.GivenFolders.{AreFoldersUnread}
+use Rattle.hwdb_tool.specs.OneRefusal.{InputIsLong, InputIsRead, IsInNamed, LineIsLong}
 use Rattle.hwdb_tool.specs.Reasons.{HasAskedReason, HasFilesReason, HasGivenReason, IsFirstGiven, IsGivenTooLong, IsGivenUnreadable}
 
 not_false : (b : Bool) → not b ≡ false → b ≡ true
@@ -54,39 +57,89 @@ module _ (fails : List ℕ → Type 0) (files : Contents) (input : Option (List 
   file_long b NoDatabase dash over reason = absurd over
   file_long b (InWords text) dash over reason = absurd over
 
+  paths_read : (paths : List (List ℕ)) (r : Refusal) → IsOver Read (codes "standard input") r → HasFilesReason true paths fails files input n m r → HasFailed n m ⊎ Contains paths (codes "standard input")
+  paths_read paths (At e at cause) over reason = by (subst (λ (k : ToolError). HasFilesReason true paths fails files input n m (At k at cause)) over.0 reason)
+    where
+      by : HasFilesReason true paths fails files input n m (At Read at cause) → HasFailed n m ⊎ Contains paths (codes "standard input")
+      by (inl none) = absurd none
+      by (inr (inl file)) = inr (subst (λ (p : List ℕ). Contains paths p) over.1 (is_named paths files at.items file.1.0))
+      by (inr (inr told)) = inl told.1.1
+  paths_read paths (Plain e) over reason = absurd over
+  paths_read paths NoDatabase over reason = absurd over
+  paths_read paths (InWords text) over reason = absurd over
+
+  paths_long : (paths : List (List ℕ)) (r : Refusal) → IsOver TooLong (codes "standard input") r → HasFilesReason true paths fails files input n m r → IsInputLong ⊎ Contains paths (codes "standard input")
+  paths_long paths (At e at cause) over reason = by (subst (λ (k : ToolError). HasFilesReason true paths fails files input n m (At k at cause)) over.0 reason)
+    where
+      by : HasFilesReason true paths fails files input n m (At TooLong at cause) → IsInputLong ⊎ Contains paths (codes "standard input")
+      by (inl none) = absurd none
+      by (inr (inl file)) = inr (subst (λ (p : List ℕ). Contains paths p) over.1 (is_named paths files at.items file.1.0.0))
+      by (inr (inr told)) = inl told.1.1
+  paths_long paths (Plain e) over reason = absurd over
+  paths_long paths NoDatabase over reason = absurd over
+  paths_long paths (InWords text) over reason = absurd over
+
   module _ (given : List (String Global)) (dash : any_dash (map string_bytes given) ≡ true) where
     abbrev Names : Type 0
     Names = Contains (map string_bytes given) (codes "standard input")
 
-    some_read : (r : Refusal) → IsOver Read (codes "standard input") r → HasFilesReason true (map string_bytes given) fails files input n m r → HasFailed n m ⊎ Names
-    some_read (At e at cause) over reason = by (subst (λ (k : ToolError). HasFilesReason true (map string_bytes given) fails files input n m (At k at cause)) over.0 reason)
-      where
-        by : HasFilesReason true (map string_bytes given) fails files input n m (At Read at cause) → HasFailed n m ⊎ Names
-        by (inl none) = absurd none
-        by (inr (inl file)) = inr (subst (λ (p : List ℕ). Contains (map string_bytes given) p) over.1 (is_named (map string_bytes given) files at.items file.1.0))
-        by (inr (inr told)) = inl told.1.1
-    some_read (Plain e) over reason = absurd over
-    some_read NoDatabase over reason = absurd over
-    some_read (InWords text) over reason = absurd over
-
-    some_long : (r : Refusal) → IsOver TooLong (codes "standard input") r → HasFilesReason true (map string_bytes given) fails files input n m r → IsInputLong ⊎ Names
-    some_long (At e at cause) over reason = by (subst (λ (k : ToolError). HasFilesReason true (map string_bytes given) fails files input n m (At k at cause)) over.0 reason)
-      where
-        by : HasFilesReason true (map string_bytes given) fails files input n m (At TooLong at cause) → IsInputLong ⊎ Names
-        by (inl none) = absurd none
-        by (inr (inl file)) = inr (subst (λ (p : List ℕ). Contains (map string_bytes given) p) over.1 (is_named (map string_bytes given) files at.items file.1.0.0))
-        by (inr (inr told)) = inl told.1.1
-    some_long (Plain e) over reason = absurd over
-    some_long NoDatabase over reason = absurd over
-    some_long (InWords text) over reason = absurd over
-
     files_read : (b : Bool) → not (length given == 0) ≡ b → (r : Refusal) → IsOver Read (codes "standard input") r → HasFilesReason b (map string_bytes given) fails files input n m r → HasFailed n m ⊎ Names
-    files_read true some r over reason = some_read r over reason
+    files_read true some r over reason = paths_read (map string_bytes given) r over reason
     files_read false some r over reason = absurd (some_dash given some dash)
 
     files_long : (b : Bool) → not (length given == 0) ≡ b → (r : Refusal) → IsOver TooLong (codes "standard input") r → HasFilesReason b (map string_bytes given) fails files input n m r → IsInputLong ⊎ Names
-    files_long true some r over reason = some_long r over reason
+    files_long true some r over reason = paths_long (map string_bytes given) r over reason
     files_long false some r over reason = absurd (some_dash given some dash)
+
+-- ---- the files and folders of `check`
+module _ (given : List (List ℕ)) (path : List ℕ) where
+  in_folder : (read : Bool) (named : List ℕ) (at : List ℕ) → Contains given named → (at ≡ folder_of named) ⊎ ((name : List ℕ) × (at ≡ path_in (folder_of named) name)) → at ≡ path → IsInNamed given path
+  in_folder read named at among is same = (named, among, subst (λ (p : List ℕ). (p ≡ folder_of named) ⊎ ((name : List ℕ) × (p ≡ path_in (folder_of named) name))) same is)
+
+  listed_read : (named : List ℕ) (r : Refusal) → Contains given named → IsUnlisted (folder_of named) r → IsOver Read path r → IsInNamed given path
+  listed_read named (At e at cause) among unread over = in_folder true named at.items among (subst (λ (k : ToolError). IsUnlisted (folder_of named) (At k at cause)) over.0 unread) over.1
+  listed_read named (Plain e) among unread over = absurd over
+  listed_read named NoDatabase among unread over = absurd over
+  listed_read named (InWords text) among unread over = absurd over
+
+  listed_long : (named : List ℕ) (r : Refusal) → Contains given named → IsUnlisted (folder_of named) r → IsOver TooLong path r → IsInNamed given path
+  listed_long named (At e at cause) among unread over = in_folder false named at.items among (inl (subst (λ (k : ToolError). IsUnlisted (folder_of named) (At k at cause)) over.0 unread)) over.1
+  listed_long named (Plain e) among unread over = absurd over
+  listed_long named NoDatabase among unread over = absurd over
+  listed_long named (InWords text) among unread over = absurd over
+
+over_plain : (error e : ToolError) (path : List ℕ) (r : Refusal) → r ≡ Plain e → IsOver error path r → ⊥
+over_plain error e path r is over = subst (IsOver error path) is over
+
+module _ (fails : List ℕ → Type 0) (files : Contents) (input : Option (List ℕ)) (n m : ℕ) where
+  folder_read : (given : List (List ℕ)) (r : Refusal) → IsOver Read (codes "standard input") r → AreFoldersUnread files given r → IsInNamed given (codes "standard input")
+  folder_read given r over (named, among, inl unread) = listed_read given (codes "standard input") named r among unread over
+  folder_read given r over (named, among, inr many) = absurd (over_plain Read TooManyFiles (codes "standard input") r many.0 over)
+
+  folder_long : (given : List (List ℕ)) (r : Refusal) → IsOver TooLong (codes "standard input") r → AreFoldersUnread files given r → IsInNamed given (codes "standard input")
+  folder_long given r over (named, among, inl unread) = listed_long given (codes "standard input") named r among unread over
+  folder_long given r over (named, among, inr many) = absurd (over_plain TooLong TooManyFiles (codes "standard input") r many.0 over)
+
+  abbrev Named : (given : List (List ℕ)) → Type 0
+  Named given = ((paths : List (List ℕ)) × StandFor files given paths × Contains paths (codes "standard input")) ⊎ IsInNamed given (codes "standard input")
+
+  named_read : (given : List (List ℕ)) (r : Refusal) → IsOver Read (codes "standard input") r → HasNamedReason fails files input n m given r → HasFailed n m ⊎ Named given
+  named_read given r over (inl folder) = inr (inr (folder_read given r over folder.0))
+  named_read given r over (inr file) = ⊎_elim (λ failed. inl failed) (λ among. inr (inl (file.0, file.1, among))) (paths_read fails files input n m file.0 r over file.2)
+
+  named_long : (given : List (List ℕ)) (r : Refusal) → IsOver TooLong (codes "standard input") r → HasNamedReason fails files input n m given r → IsInputLong fails files input n m ⊎ Named given
+  named_long given r over (inl folder) = inr (inr (folder_long given r over folder.0))
+  named_long given r over (inr file) = ⊎_elim (λ long. inl long) (λ among. inr (inl (file.0, file.1, among))) (paths_long fails files input n m file.0 r over file.2)
+
+  checked_read : (given : List (String Global)) (b : Bool) → not (length given == 0) ≡ b → any_dash (map string_bytes given) ≡ true → (r : Refusal) → IsOver Read (codes "standard input") r
+      → HasCheckedReason b fails files input n m (map string_bytes given) r → HasFailed n m ⊎ Named (map string_bytes given)
+  checked_read given true some dash r over reason = named_read (map string_bytes given) r over reason
+  checked_read given false some dash r over reason = absurd (some_dash given some dash)
+
+  checked_long : (given : List (String Global)) (b : Bool) → not (length given == 0) ≡ b → any_dash (map string_bytes given) ≡ true → (r : Refusal) → IsOver TooLong (codes "standard input") r
+      → HasCheckedReason b fails files input n m (map string_bytes given) r → IsInputLong fails files input n m ⊎ Named (map string_bytes given)
+  checked_long given true some dash r over reason = named_long (map string_bytes given) r over reason
+  checked_long given false some dash r over reason = absurd (some_dash given some dash)
 
 -- ---- devices
 -- the path of a database isn't what an error calls standard input
@@ -133,7 +186,7 @@ module _ (fails fails_now : List ℕ → Type 0) (left left_now : Outcomes) wher
   input_is_read (Ask file device) root usr strict r before now dash over not =
       inl (file_failed fails before.files before.input.bytes before.input.failures now.input.failures (is_dash (string_bytes file)) r dash over not.1)
   input_is_read (Check paths allowed json) root usr strict r before now dash over not =
-      files_read fails before.files before.input.bytes before.input.failures now.input.failures paths.items dash _ refl r over not.1
+      checked_read fails before.files before.input.bytes before.input.failures now.input.failures paths.items _ refl dash r over not.1
   input_is_read (Near paths device limit json) root usr strict r before now dash over not =
       files_read fails before.files before.input.bytes before.input.failures now.input.failures paths.items dash _ refl r over not.1
   input_is_read (Query devices json) root usr strict r before now dash over not =
@@ -146,7 +199,7 @@ module _ (fails fails_now : List ℕ → Type 0) (left left_now : Outcomes) wher
   input_is_long (Ask file device) root usr strict r before now kind dash over not =
       inl (file_long fails before.files before.input.bytes before.input.failures now.input.failures (is_dash (string_bytes file)) r dash over not.1)
   input_is_long (Check paths allowed json) root usr strict r before now kind dash over not =
-      files_long fails before.files before.input.bytes before.input.failures now.input.failures paths.items dash _ refl r over not.1
+      checked_long fails before.files before.input.bytes before.input.failures now.input.failures paths.items _ refl dash r over not.1
   input_is_long (Near paths device limit json) root usr strict r before now kind dash over not =
       files_long fails before.files before.input.bytes before.input.failures now.input.failures paths.items dash _ refl r over not.1
   input_is_long task root usr strict r before now kind dash over not = absurd kind

@@ -14,6 +14,7 @@ use Rattle.hwdb_cli.specs.declared.job.Task.{Task}
 use Rattle.hwdb_cli.specs.declared.job.Task.TheVariants.{Ask, Check, Device, Diff, Dump, Explain, List as ListHits, Near, Query, Update, Verify}
 use Rattle.hwdb_cli.specs.declared.job.WordsFault.TheVariants as words_fault
 use Rattle.hwdb_cli.specs.declared.job.WordsFault.{WordsFault}
+use Rattle.hwdb_spec.specs.CheckedFiles.{StandFor}
 use Rattle.hwdb_spec.specs.Given.{is_input}
 use Rattle.hwdb_spec.specs.Hiding.{hiding_text}
 use Rattle.hwdb_spec.specs.Store.{Contents, Outcomes}
@@ -166,7 +167,7 @@ pub root_is_entered : (fails fails_now : List ℕ → Type 0) (left left_now : O
 root_is_entered fails fails_now left left_now = λ words status before now refused never of.
     entered fails before.files refused.unread.0 never refused.refusal refused.unread.3 refused.reason of
 
-module _ (header : OneHeader) (tree : OneTree) (choice : ListingsGiveOneChoice) (reading : ListingsGiveOneReading) (fails fails_now fails2 fails2_now : List ℕ → Type 0) (left left_now left2 left2_now : Outcomes) where
+module _ (header : OneHeader) (tree : OneTree) (choice : ListingsGiveOneChoice) (reading : ListingsGiveOneReading) (stand : (files : Contents) (given ps qs : List (List ℕ)) → StandFor files given ps → StandFor files given qs → ps ≡ qs) (fails fails_now fails2 fails2_now : List ℕ → Type 0) (left left_now left2 left2_now : Outcomes) where
   pub one_job_error : JobEndsInOneError fails fails_now fails2 fails2_now left left_now left2 left2_now
   one_job_error = λ words status status2 before now before2 now2 input one two kind is is2.
       let top = matches_of hwdb_app words in
@@ -176,11 +177,11 @@ module _ (header : OneHeader) (tree : OneTree) (choice : ListingsGiveOneChoice) 
       let then_ = scene_then one.err_then now in
       let then2 = scene_then two.err_then now2 in
       let kind2 = kind_of_job top found j k one.asked two.asked kind in
-      let first = why header tree fails fails_now left left_now (root_of j) j.usr j.strict one.refusal before then_ is.of is.told is.listed input.err.bytes input.err.of_one j.task kind is.never one.refused in
-      let second = why header tree fails2 fails2_now left2 left2_now (root_of k) k.usr k.strict two.refusal before2 then2 is2.of is2.told is2.listed input.err.bytes input.err.of_two k.task kind2 is2.never two.refused in
+      let first = why header tree fails fails_now left left_now (root_of j) j.usr j.strict one.refusal before then_ is.of is.told is.listed input.err.bytes input.err.of_one stand j.task kind is.never is.named one.refused in
+      let second = why header tree fails2 fails2_now left2 left2_now (root_of k) k.usr k.strict two.refusal before2 then2 is2.of is2.told is2.listed input.err.bytes input.err.of_two stand k.task kind2 is2.never is2.named two.refused in
       let U2 = IsUnwritable (database_folder k.usr (root_of k)) before2.files before2.failures then2.failures in (
         one.says ∙ status_of_job top found j k one.asked two.asked ∙ sym two.says,
-        end_of header tree choice reading fails fails2 (IsUnwritable (database_folder j.usr (root_of j)) before.files before.failures then_.failures) U2 (root_of j) one.refusal two.refusal before then_ before2 then2 (said_first header tree j.task (root_of j) j.usr before.files) input j.task kind first.0
+        end_of header tree choice reading stand fails fails2 (IsUnwritable (database_folder j.usr (root_of j)) before.files before.failures then_.failures) U2 (root_of j) one.refusal two.refusal before then_ before2 then2 (said_first header tree j.task (root_of j) j.usr before.files) input j.task kind first.0
             (why_of_job top header tree fails2 U2 before2.input.bytes before2.files two.refusal found j k one.asked two.asked second.0) first.1
             (subst (λ (t : List ℕ). IsLeftThen header tree input.err.bytes t before2 then2)
             (ap (λ (f : Contents). said_first header tree k.task (root_of k) k.usr f) input.files ∙ said_of_job top header tree before.files found j k one.asked two.asked) second.1),
@@ -193,10 +194,10 @@ module _ (header : OneHeader) (tree : OneTree) (choice : ListingsGiveOneChoice) 
       let j = done.job in
       let k = refused.job in
       let then2 = scene_then refused.err_then now2 in
-      let second = why header tree fails2 fails2_now left2 left2_now (root_of k) k.usr k.strict refused.refusal before2 then2 is.of is.told is.listed input.err.bytes input.err.of_two k.task (kind_of_job top found j k done.asked refused.asked kind) is.never refused.refused in
+      let second = why header tree fails2 fails2_now left2 left2_now (root_of k) k.usr k.strict refused.refusal before2 then2 is.of is.told is.listed input.err.bytes input.err.of_two stand k.task (kind_of_job top found j k done.asked refused.asked kind) is.never is.named refused.refused in
       let U2 = IsUnwritable (database_folder k.usr (root_of k)) before2.files before2.failures then2.failures in
       let told = input.input.bytes in
-      not_both_ends header tree choice reading form fails2 U2 (root_of j) j.usr j.strict status refused.refusal (scene_of fails left before) (scene_of fails_now left_now now) told input.input.of_one j.task kind done.done
+      not_both_ends header tree choice reading stand form fails2 U2 (root_of j) j.usr j.strict status refused.refusal (scene_of fails left before) (scene_of fails_now left_now now) told input.input.of_one j.task kind done.done
       (subst (λ (f : Contents). Why header tree fails2 U2 (Some told) f j.task (root_of j) refused.refusal) input.files
       (subst (λ (i : Option (List ℕ)). Why header tree fails2 U2 i before2.files j.task (root_of j) refused.refusal) input.input.of_two
       (why_of_job top header tree fails2 U2 before2.input.bytes before2.files refused.refusal found j k done.asked refused.asked second.0)))

@@ -36,7 +36,7 @@ or_right : (a b : Bool) → b ≡ true → (a || b) ≡ true
 or_right true b e = refl
 or_right false b e = e
 
-listed_of : (n : List ℕ) (xs : List (List ℕ)) → Contains xs n → lists n xs ≡ true
+pub listed_of : (n : List ℕ) (xs : List (List ℕ)) → Contains xs n → lists n xs ≡ true
 listed_of n [] (k, lt, e) = absurd (omega (arith, lt))
 listed_of n (x ∷ xs) (zero, lt, e) = ap (λ (b : Bool). b || lists n xs) (ap (λ (y : List ℕ). same y n) e ∙ same_itself n)
 listed_of n (x ∷ xs) (suc k, lt, e) = or_right (same x n) (lists n xs) (listed_of n xs (k, omega (arith, lt), e))

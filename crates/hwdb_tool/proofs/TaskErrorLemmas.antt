@@ -6,7 +6,7 @@ use Rattle.std.specs.Prelude.{option_map}
 use Rattle.hwdb_cli.specs.declared.job.Task.{Task}
 use Rattle.hwdb_cli.specs.declared.job.Task.TheVariants.{Ask, Check, Device, Diff, Dump, Explain, List as ListHits, Near, Query, Update, Verify}
 use Rattle.hwdb_spec.specs.Asked.{IsAnswered}
-use Rattle.hwdb_spec.specs.CheckedFiles.{AreCheckedFiles, AreChosenFiles, AreGivenFiles}
+use Rattle.hwdb_spec.specs.CheckedFiles.{AreCheckedFiles, AreChosenFiles, AreNamedFiles, StandFor}
 use Rattle.hwdb_spec.specs.Databases.{IsTextOf}
 use Rattle.hwdb_spec.specs.Done.{IsAsked}
 use Rattle.hwdb_spec.specs.Failures.{HasFailed}
@@ -25,7 +25,7 @@ use Rattle.hwdb_print.specs.declared.form.Form.{Form}
 use Rattle.hwdb_print.specs.declared.form.Form.TheVariants as forms
 use Rattle.hwdb_fs.specs.declared.refusals.Refusal.{Refusal}
 use Rattle.hwdb_tool.specs.OneOutcome.{IsOneInput, ListingsGiveOneChoice, ListingsGiveOneReading, Scene, TellOne, scene_of}
-use Rattle.hwdb_tool.specs.OneRefusal.{DoneIsNoError, ErrorsAreOne, IsOfChecked, IsOfCompared, IsOfDatabase, IsOfListing, IsOfWhatIsRead, IsOneEnd, IsOneError, NeverFails, IsCovered}
+use Rattle.hwdb_tool.specs.OneRefusal.{DoneIsNoError, ErrorsAreOne, IsOfChecked, IsOfCompared, IsOfDatabase, IsOfListing, IsOfNamedFolder, IsOfWhatIsRead, IsOneEnd, IsOneError, NeverFails, IsCovered}
 use Rattle.hwdb_tool.specs.Program.{IsTaskDone}
 use Rattle.hwdb_tool.specs.Queries.{AreAnsweredFrom, AreUnansweredFrom, IfNamed}
 use Rattle.hwdb_tool.specs.TaskRefusals.{IsNotDone, MayPrint}
@@ -34,7 +34,9 @@ use Rattle.hwdb_tool.specs.NamedDatabases.{IsDumpRefused, IsVerifyRefused}
 use Rattle.hwdb_tool.specs.NearMisses.{IsNearRefused}
 use Rattle.hwdb_tool.specs.Readable.{AreAllRead}
 use Rattle.hwdb_tool.specs.Reasons.{HasFilesReason}
-use Rattle.hwdb_tool.specs.Undone.{AreUncheckable, IsAskRefused, IsCheckRefused, IsUnanswered, IsUnprinted, IsUnwritable}
+use Rattle.hwdb_tool.specs.CheckedReasons.{HasCheckedReason, HasNamedReason}
+use Rattle.hwdb_tool.specs.GivenFolders.{AreFoldersUnread, IsNamedUnread}
+use Rattle.hwdb_tool.specs.Undone.{AreUncheckable, IsGivenUnread, IsAskRefused, IsCheckRefused, IsUnanswered, IsUnprinted, IsUnwritable}
 use Rattle.hwdb_tool.proofs.DatabaseErrorLemmas.{OneHeader, OneTree, Unanswered, Undumped, Unlisted, Unverified, answer_answer, answer_done, dump_done, dump_dump, list_done, list_list, unanswered, undumped, unlisted, unverified, verify_done, verify_verify}
 use Rattle.hwdb_tool.proofs.AskErrorLemmas.{OneForm, Unasked, ask_ask, ask_done, unasked_file}
 use Rattle.hwdb_tool.proofs.RefusalLemmas.{NeverNamed}
@@ -89,28 +91,50 @@ some_reason n false P is h = h
 
 abbrev pub Unchecked : (given : List (List ℕ)) (input : Option (List ℕ)) → Contents → (root : List ℕ) → Refusal → Type 0
 Unchecked [] input files root r = Unchosen root files r
-Unchecked (path ∷ more) input files root r = Ungiven (path ∷ more) input files r
+Unchecked (path ∷ more) input files root r = (paths : List (List ℕ)) × StandFor files (path ∷ more) paths × Ungiven paths input files r
 
-module _ (fails : List ℕ → Type 0) (root : List ℕ) (files : Contents) (input : Option (List ℕ)) (n m : ℕ) (whole : HasFailed n m → ⊥) (r : Refusal) (of : IsOfWhatIsRead r) (listed : IsOfListing root r → ⊥) where
+abbrev OneStand : Type 0
+OneStand = (files : Contents) (given ps qs : List (List ℕ)) → StandFor files given ps → StandFor files given qs → ps ≡ qs
+
+module _ (stand : OneStand) (fails : List ℕ → Type 0) (root : List ℕ) (files : Contents) (input : Option (List ℕ)) (n m : ℕ) (whole : HasFailed n m → ⊥) (r : Refusal) (of : IsOfWhatIsRead r) (listed : IsOfListing root r → ⊥) where
+  named_end : (given : List (List ℕ)) → ((path : List ℕ) → fails path → ⊥) → (AreFoldersUnread files given r → ⊥)
+      → IsNamedUnread IsGivenUnread files given r → HasNamedReason fails files input n m given r
+      → (paths : List (List ℕ)) × StandFor files given paths × Ungiven paths input files r
+  named_end given never folder (inl unread) reason = absurd (folder unread)
+  named_end given never folder (inr unread) (inl reason) = absurd (folder reason.0)
+  named_end given never folder (inr unread) (inr reason) = (
+    unread.0,
+    unread.1,
+    ungiven unread.0 files fails input n m (λ path among. never path) whole r unread.2
+        (subst (λ (ps : List (List ℕ)). HasFilesReason true ps fails files input n m r) (stand files given reason.0 unread.0 reason.1 unread.1) reason.2) of,
+  )
+
+  some_named : (k : ℕ) (b : Bool) (given : List (List ℕ)) → (suc k == 0) ≡ b → HasCheckedReason (not b) fails files input n m given r → HasNamedReason fails files input n m given r
+  some_named k true given is h = absurd (let e = eqb-true (suc k) 0 is in omega (arith, e))
+  some_named k false given is h = h
+
   unchecked : (paths : List (String Global)) → ((path : List ℕ) → IsOfChecked (map string_bytes paths) root path → fails path → ⊥)
+      → (AreFoldersUnread files (map string_bytes paths) r → ⊥)
       → IsCheckRefused (AreUncheckable (map string_bytes paths) root files) (AreCheckedFiles (map string_bytes paths) root input files) r
-      → HasFilesReason (not (length paths == 0)) (map string_bytes paths) fails files input n m r → Unchecked (map string_bytes paths) input files root r
-  unchecked [] never (inl unread) reason = unchosen root files fails ⊥ never r unread reason of listed
-  unchecked [] never (inr not) reason = absurd (never_unchecked (AreChosenFiles root files) r (λ sources are. are.within) not of)
-  unchecked (path ∷ more) never (inl unread) reason =
+      → HasCheckedReason (not (length paths == 0)) fails files input n m (map string_bytes paths) r → Unchecked (map string_bytes paths) input files root r
+  unchecked [] never folder (inl unread) reason = unchosen root files fails ⊥ never r unread reason of listed
+  unchecked [] never folder (inr not) reason = absurd (never_unchecked (AreChosenFiles root files) r (λ sources are. are.within) not of)
+  unchecked (path ∷ more) never folder (inl unread) reason =
       let given = map string_bytes (path ∷ more) in
-      ungiven given files fails input n m never whole r unread (some_reason (length more) (suc (length more) == 0) (λ (b : Bool). HasFilesReason b given fails files input n m r) refl reason) of
-  unchecked (path ∷ more) never (inr not) reason =
-      absurd (never_unchecked (AreGivenFiles (map string_bytes (path ∷ more)) input files) r (λ sources are. are.within) not of)
+      named_end given (λ p. never p tt) folder unread (some_named (length more) (suc (length more) == 0) given refl reason)
+  unchecked (path ∷ more) never folder (inr not) reason =
+      absurd (never_unchecked (AreNamedFiles (map string_bytes (path ∷ more)) input files) r (λ sources are. are.2.within) not of)
 
-module _ (choice : ListingsGiveOneChoice) (root : List ℕ) (files : Contents) (told : List ℕ) where
+module _ (choice : ListingsGiveOneChoice) (stand : OneStand) (root : List ℕ) (files : Contents) (told : List ℕ) where
   check_check : (given : List (List ℕ)) (r r2 : Refusal) → Unchecked given (Some told) files root r → Unchecked given (Some told) files root r2 → IsOneError r r2
   check_check [] r r2 one two = chosen_chosen root files choice r r2 one two
-  check_check (path ∷ more) r r2 one two = given_given (path ∷ more) files told r r2 one two
+  check_check (path ∷ more) r r2 one two =
+      given_given one.0 files told r r2 one.2 (subst (λ (ps : List (List ℕ)). Ungiven ps (Some told) files r2) (stand files (path ∷ more) two.0 one.0 two.1 one.1) two.2)
 
   check_done : (given : List (List ℕ)) (sources : List Source) (r : Refusal) → AreCheckedFiles given root (Some told) files sources → Unchecked given (Some told) files root r → ⊥
   check_done [] sources r done not = chosen_done root files choice sources r done not
-  check_done (path ∷ more) sources r done not = given_done (path ∷ more) told files sources done r not
+  check_done (path ∷ more) sources r done not =
+      given_done done.0 told files sources done.2 r (subst (λ (ps : List (List ℕ)). Ungiven ps (Some told) files r) (stand files (path ∷ more) not.0 done.0 not.1 done.1) not.2)
 
 module _ (header : OneHeader) (tree : OneTree) where
   abbrev pub Uncompared : (given : List (List ℕ)) (input : Option (List ℕ)) → Contents → (root : List ℕ) → Refusal → Type 0
@@ -161,7 +185,7 @@ module _ (header : OneHeader) (tree : OneTree) where
     pub out : now.out ≡ before.out
     pub files : (p : List ℕ) → now.files p ≡ before.files p
 
-  module _ (fails fails_now : List ℕ → Type 0) (left left_now : Outcomes) (root : List ℕ) (usr strict : Bool) (r : Refusal) (before now : Scene) (of : IsOfWhatIsRead r) (whole : HasFailed before.input.failures now.input.failures → ⊥) (listed : IsOfListing root r → ⊥) (first : List ℕ) (tells : before.err.bytes ≡ Some first) where
+  module _ (fails fails_now : List ℕ → Type 0) (left left_now : Outcomes) (root : List ℕ) (usr strict : Bool) (r : Refusal) (before now : Scene) (of : IsOfWhatIsRead r) (whole : HasFailed before.input.failures now.input.failures → ⊥) (listed : IsOfListing root r → ⊥) (first : List ℕ) (tells : before.err.bytes ≡ Some first) (stand : OneStand) where
     abbrev Unwritable : Type 0
     Unwritable = IsUnwritable (database_folder usr root) before.files before.failures now.failures
 
@@ -175,44 +199,44 @@ module _ (header : OneHeader) (tree : OneTree) where
     left_then quiet files = record { err = nothing now.err.bytes (ap (λ (t : Told). t.bytes) quiet.err ∙ tells); out = quiet.out; files = files }
 
     -- so is each error, and nothing was written
-    pub why : (task : Task) → IsCovered task → NeverFails fails task root → NotDone task → Why fails Unwritable before.input.bytes before.files task root r × IsLeftThen first (said_first task root usr before.files) before now
-    why (Query devices json) kind never not =
+    pub why : (task : Task) → IsCovered task → NeverFails fails task root → (IsOfNamedFolder task before.files r → ⊥) → NotDone task → Why fails Unwritable before.input.bytes before.files task root r × IsLeftThen first (said_first task root usr before.files) before now
+    why (Query devices json) kind never named not =
         let found = answered_ (is_input (map string_bytes devices.items)) root (forms.Query json) (map string_bytes devices.items) before.input.bytes before.files r before.err now.err before.out now.out kind of not.0.0 in
         (unanswered header fails ⊥ root before.files (never_asked fails root before.files never) r found.0 (of_files _ _ _ _ kind not.1) of, left_then found.1 not.0.1.same)
-    why (Explain device json) kind never not =
+    why (Explain device json) kind never named not =
         let found = answered_ (is_input (string_bytes device ∷ [])) root (forms.Explain json) (string_bytes device ∷ []) before.input.bytes before.files r before.err now.err before.out now.out kind of not.0.0 in
         (unanswered header fails ⊥ root before.files (never_asked fails root before.files never) r found.0 (of_files _ _ _ _ kind not.1) of, left_then found.1 not.0.1.same)
-    why (ListHits after limit device json) kind never not =
+    why (ListHits after limit device json) kind never named not =
         let found = unlisted header fails Unwritable root before.files (never_asked fails root before.files never) json (string_bytes device) (option_map string_bytes after) limit r before.out now.out not.0.0.0 not.1 of in
         (found.0, left_then record { err = not.0.0.1; out = found.1 } not.0.1.same)
-    why (Diff old new) kind never not =
+    why (Diff old new) kind never named not =
         let found = unprinted (IsDiffRefused (string_bytes old) (string_bytes new) before.files) (MayPrint (Diff old new) root strict before.input.bytes before.files) r before.err now.err before.out now.out of not.0.0 in
         (undiffed header (string_bytes old) (string_bytes new) before.files fails Unwritable (never (string_bytes old) (inl refl)) (never (string_bytes new) (inr refl)) r of found.0 not.1, left_then found.1 not.0.1.same)
-    why (Verify database) kind never not =
+    why (Verify database) kind never named not =
         let found = unprinted (IsVerifyRefused (option_map string_bytes database) root before.files) (MayPrint (Verify database) root strict before.input.bytes before.files) r before.err now.err before.out now.out of not.0.0 in
         (unverified header fails Unwritable root before.files (option_map string_bytes database) (never_named fails root before.files (option_map string_bytes database) never) r found.0 not.1 of, left_then found.1 not.0.1.same)
-    why (Dump database) kind never not =
+    why (Dump database) kind never named not =
         let found = unprinted (IsDumpRefused (option_map string_bytes database) root before.files) (MayPrint (Dump database) root strict before.input.bytes before.files) r before.err now.err before.out now.out of not.0.0 in
         (undumped header fails Unwritable root before.files (option_map string_bytes database) (never_named fails root before.files (option_map string_bytes database) never) r found.0 not.1 of, left_then found.1 not.0.1.same)
-    why (Ask file device) kind never not =
+    why (Ask file device) kind never named not =
         let found = unprinted (IsAskRefused (string_bytes file) before.input.bytes before.files) (MayPrint (Ask file device) root strict before.input.bytes before.files) r before.err now.err before.out now.out of not.0.0 in (
           unasked_file (string_bytes file) before.input.bytes before.files fails before.input.failures now.input.failures (never (string_bytes file) refl) whole r of found.0 not.1,
           left_then found.1 not.0.1.same,
         )
-    why (Check paths allowed json) kind never not =
+    why (Check paths allowed json) kind never named not =
         let given = map string_bytes paths.items in
         let found = unprinted (IsCheckRefused (AreUncheckable given root before.files) (AreCheckedFiles given root before.input.bytes before.files)) (MayPrint (Check paths allowed json) root strict before.input.bytes before.files) r before.err now.err before.out now.out of not.0.0 in
-        (unchecked fails root before.files before.input.bytes before.input.failures now.input.failures whole r of listed paths.items never found.0 not.1, left_then found.1 not.0.1.same)
-    why (Near paths device limit json) kind never not =
+        (unchecked stand fails root before.files before.input.bytes before.input.failures now.input.failures whole r of listed paths.items never named found.0 not.1, left_then found.1 not.0.1.same)
+    why (Near paths device limit json) kind never named not =
         let found = unprinted (IsNearRefused (map string_bytes paths.items) root before.files) (MayPrint (Near paths device limit json) root strict before.input.bytes before.files) r before.err now.err before.out now.out of not.0.0 in
         (uncompared fails root before.files before.input.bytes before.input.failures now.input.failures whole r of paths.items never found.0 not.1, left_then found.1 not.0.1.same)
-    why (Device path strings json pattern) kind never not = absurd kind
-    why (Update verbose skip) kind never not =
+    why (Device path strings json pattern) kind never named not = absurd kind
+    why (Update verbose skip) kind never named not =
         let found = undated root usr verbose r of (scene_of fails left before).files (scene_of fails_now left_now now).files first before.err now.err skip fails Unwritable kind tells never listed not.1 not.0.0 in
         (found.0, record { err = found.1.err; out = not.0.1; files = found.1.kept.same })
 
   -- two of them are one
-  module _ (choice : ListingsGiveOneChoice) (reading : ListingsGiveOneReading) (told : List ℕ) where
+  module _ (choice : ListingsGiveOneChoice) (reading : ListingsGiveOneReading) (stand : OneStand) (told : List ℕ) where
     one_why : (fails fails2 : List ℕ → Type 0) (U U2 : Type 0) (files : Contents) (root : List ℕ) (r r2 : Refusal) (task : Task) → IsCovered task
         → Why fails U (Some told) files task root r → Why fails2 U2 (Some told) files task root r2 → IsOneError r r2
     one_why fails fails2 U U2 files root r r2 (Query devices json) kind one two = answer_answer header fails U root files r r2 one two
@@ -222,7 +246,7 @@ module _ (header : OneHeader) (tree : OneTree) where
     one_why fails fails2 U U2 files root r r2 (Verify database) kind one two = verify_verify header fails U root files (option_map string_bytes database) r r2 one two
     one_why fails fails2 U U2 files root r r2 (Dump database) kind one two = dump_dump header fails U root files tree (option_map string_bytes database) r r2 one two
     one_why fails fails2 U U2 files root r r2 (Ask file device) kind one two = ask_ask (string_bytes file) told files r r2 one two
-    one_why fails fails2 U U2 files root r r2 (Check paths allowed json) kind one two = check_check choice root files told (map string_bytes paths.items) r r2 one two
+    one_why fails fails2 U U2 files root r r2 (Check paths allowed json) kind one two = check_check choice stand root files told (map string_bytes paths.items) r r2 one two
     one_why fails fails2 U U2 files root r r2 (Near paths device limit json) kind one two = near_near root files told (map string_bytes paths.items) r r2 one two
     one_why fails fails2 U U2 files root r r2 (Update verbose skip) kind one two = update_update choice reading root files r r2 one two
     one_why fails fails2 U U2 files root r r2 (Device path strings json pattern) kind one two = absurd kind
@@ -235,29 +259,29 @@ module _ (header : OneHeader) (tree : OneTree) where
       → Why fails U input files task root r → Why fails U (Some told) files task root r
   one_told fails U input told files task root r is one = subst (λ (i : Option (List ℕ)). Why fails U i files task root r) is one
 
-  pub end_of : ListingsGiveOneChoice → ListingsGiveOneReading → (fails fails2 : List ℕ → Type 0) (U U2 : Type 0) (root : List ℕ) (r r2 : Refusal) (before now before2 now2 : Scene) → (said : List ℕ) → (input : IsOneInput before before2)
+  pub end_of : ListingsGiveOneChoice → ListingsGiveOneReading → OneStand → (fails fails2 : List ℕ → Type 0) (U U2 : Type 0) (root : List ℕ) (r r2 : Refusal) (before now before2 now2 : Scene) → (said : List ℕ) → (input : IsOneInput before before2)
       → (task : Task) → IsCovered task → Why fails U before.input.bytes before.files task root r → Why fails2 U2 before2.input.bytes before2.files task root r2
       → IsLeftThen input.err.bytes said before now → IsLeftThen input.err.bytes said before2 now2 → IsOneEnd r r2 now now2
-  end_of choice reading fails fails2 U U2 root r r2 before now before2 now2 said input task kind one two left left2 =
+  end_of choice reading stand fails fails2 U U2 root r r2 before now before2 now2 said input task kind one two left left2 =
       let told = input.input.bytes in
       record {
-        one_error = one_why choice reading told fails fails2 U U2 before.files root r r2 task kind (one_told fails U before.input.bytes told before.files task root r input.input.of_one one)
+        one_error = one_why choice reading stand told fails fails2 U U2 before.files root r r2 task kind (one_told fails U before.input.bytes told before.files task root r input.input.of_one one)
             (subst (λ (f : Contents). Why fails2 U2 (Some told) f task root r2) input.files (one_told fails2 U2 before2.input.bytes told before2.files task root r2 input.input.of_two two));
         one_files = λ p. left2.files p ∙ ap (λ (f : Contents). f p) input.files ∙ sym (left.files p);
         one_err = one_taken input.err.bytes now.err.bytes now2.err.bytes said said refl left.err left2.err;
         one_out = same_told before.out before2.out now.out now2.out input.out left.out left2.out;
       }
 
-  pub errors_are_one : ListingsGiveOneChoice → ListingsGiveOneReading → (fails fails_now fails2 fails2_now : List ℕ → Type 0) (left left_now left2 left2_now : Outcomes) → ErrorsAreOne fails fails_now fails2 fails2_now left left_now left2 left2_now
-  errors_are_one choice reading fails fails_now fails2 fails2_now left left_now left2 left2_now = λ task root usr strict r r2 before now before2 now2 kind input is is2 not not2.
-      let one = why fails fails_now left left_now root usr strict r before now is.of is.told is.listed input.err.bytes input.err.of_one task kind is.never not in
-      let two = why fails2 fails2_now left2 left2_now root usr strict r2 before2 now2 is2.of is2.told is2.listed input.err.bytes input.err.of_two task kind is2.never not2 in
-      end_of choice reading fails fails2 (IsUnwritable (database_folder usr root) before.files before.failures now.failures) (IsUnwritable (database_folder usr root) before2.files before2.failures now2.failures)
+  pub errors_are_one : ListingsGiveOneChoice → ListingsGiveOneReading → OneStand → (fails fails_now fails2 fails2_now : List ℕ → Type 0) (left left_now left2 left2_now : Outcomes) → ErrorsAreOne fails fails_now fails2 fails2_now left left_now left2 left2_now
+  errors_are_one choice reading stand fails fails_now fails2 fails2_now left left_now left2 left2_now = λ task root usr strict r r2 before now before2 now2 kind input is is2 not not2.
+      let one = why fails fails_now left left_now root usr strict r before now is.of is.told is.listed input.err.bytes input.err.of_one stand task kind is.never is.named not in
+      let two = why fails2 fails2_now left2 left2_now root usr strict r2 before2 now2 is2.of is2.told is2.listed input.err.bytes input.err.of_two stand task kind is2.never is2.named not2 in
+      end_of choice reading stand fails fails2 (IsUnwritable (database_folder usr root) before.files before.failures now.failures) (IsUnwritable (database_folder usr root) before2.files before2.failures now2.failures)
       root r r2 before now before2 now2 (said_first task root usr before.files) input task kind one.0 two.0 one.1
       (subst (λ (f : Contents). IsLeftThen input.err.bytes (said_first task root usr f) before2 now2) input.files two.1)
 
   -- what is done is no such error
-  module _ (choice : ListingsGiveOneChoice) (reading : ListingsGiveOneReading) (form : OneForm) (fails2 : List ℕ → Type 0) (U : Type 0) (root : List ℕ) (usr strict : Bool) (status : ℕ) (r : Refusal) (before now : World) (told : List ℕ) (tells : before.input.bytes ≡ Some told) where
+  module _ (choice : ListingsGiveOneChoice) (reading : ListingsGiveOneReading) (stand : OneStand) (form : OneForm) (fails2 : List ℕ → Type 0) (U : Type 0) (root : List ℕ) (usr strict : Bool) (status : ℕ) (r : Refusal) (before now : World) (told : List ℕ) (tells : before.input.bytes ≡ Some told) where
     pub not_both_ends : (task : Task) → IsCovered task → IsTaskDone task root usr strict status before now → Why fails2 U (Some told) before.files.seen task root r → ⊥
     not_both_ends (Query devices json) kind done not =
         let printed = given_printed (is_input (map string_bytes devices.items)) before.input.bytes _ kind done.0 in
@@ -278,7 +302,7 @@ module _ (header : OneHeader) (tree : OneTree) where
     not_both_ends (Check paths allowed json) kind done not =
         let given = map string_bytes paths.items in
         let are = done.0.are.1 in
-        check_done choice root before.files.seen told given are.sources r
+        check_done choice stand root before.files.seen told given are.sources r
         (subst (λ (i : Option (List ℕ)). AreCheckedFiles given root i before.files.seen are.sources) tells are.are) not
     not_both_ends (Near paths device limit json) kind done not =
         let given = map string_bytes paths.items in
@@ -294,10 +318,10 @@ module _ (header : OneHeader) (tree : OneTree) where
         (subst (λ (l : List Choice). AreAllRead root (without l root before.files.seen)) none less.read)
         (all_read root verbose strict skip status before.files done.0.err_then now.err place (inl kind) less) not
 
-  pub done_is_no_error : ListingsGiveOneChoice → ListingsGiveOneReading → OneForm → (fails fails_now fails2 fails2_now : List ℕ → Type 0) (left left_now left2 left2_now : Outcomes) → DoneIsNoError fails fails_now fails2 fails2_now left left_now left2 left2_now
-  done_is_no_error choice reading form fails fails_now fails2 fails2_now left left_now left2 left2_now = λ task root usr strict status r before now before2 now2 kind input is done not.
-      let two = why fails2 fails2_now left2 left2_now root usr strict r before2 now2 is.of is.told is.listed input.err.bytes input.err.of_two task kind is.never not in
+  pub done_is_no_error : ListingsGiveOneChoice → ListingsGiveOneReading → OneStand → OneForm → (fails fails_now fails2 fails2_now : List ℕ → Type 0) (left left_now left2 left2_now : Outcomes) → DoneIsNoError fails fails_now fails2 fails2_now left left_now left2 left2_now
+  done_is_no_error choice reading stand form fails fails_now fails2 fails2_now left left_now left2 left2_now = λ task root usr strict status r before now before2 now2 kind input is done not.
+      let two = why fails2 fails2_now left2 left2_now root usr strict r before2 now2 is.of is.told is.listed input.err.bytes input.err.of_two stand task kind is.never is.named not in
       let U2 = IsUnwritable (database_folder usr root) before2.files before2.failures now2.failures in
       let told = input.input.bytes in
-      not_both_ends choice reading form fails2 U2 root usr strict status r (scene_of fails left before) (scene_of fails_now left_now now) told input.input.of_one task kind done
+      not_both_ends choice reading stand form fails2 U2 root usr strict status r (scene_of fails left before) (scene_of fails_now left_now now) told input.input.of_one task kind done
       (subst (λ (f : Contents). Why fails2 U2 (Some told) f task root r) input.files (one_told fails2 U2 before2.input.bytes told before2.files task root r input.input.of_two two.0))

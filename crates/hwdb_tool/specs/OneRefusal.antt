@@ -16,7 +16,9 @@ use Rattle.hwdb_cli.specs.declared.job.WordsFault.TheVariants as words_fault
 use Rattle.hwdb_cli.specs.declared.job.Task.{Task}
 use Rattle.hwdb_cli.specs.declared.job.Task.TheVariants.{Ask, Check, Device, Diff, Dump, Explain, List as ListHits, Near, Query, Update, Verify}
 use Rattle.hwdb_spec.specs.Runs.{Told}
-use Rattle.hwdb_spec.specs.Store.{Outcomes}
+use Rattle.hwdb_spec.specs.CheckedFiles.{StandFor, folder_of}
+use Rattle.hwdb_spec.specs.Store.{Contents, Outcomes, path_in}
+use Rattle.hwdb_tool.specs.GivenFolders.{AreFoldersUnread}
 use Rattle.hwdb_tool.specs.OneOutcome.{IsOneInput, Scene, scene_of}
 use Rattle.hwdb_tool.specs.Program.{IsJobDone, IsTaskDone, reads_input, root_of, streams}
 use Rattle.hwdb_tool.specs.TaskRefusals.{AreRefused, IsJobRefused, IsNotDone, IsRootRefused}
@@ -80,10 +82,10 @@ IsOfDatabase (Some given) root path = path ≡ given
 abbrev pub IsOfFolders : (root path : List ℕ) → Type 0
 IsOfFolders root path = (rest : List ℕ) × ((path ≡ etc_files root ++ rest) ⊎ (path ≡ usr_files root ++ rest))
 
--- the path is one that `check` reads: a given one, or without one that of a text file of the folders
+-- the path may be one that `check` reads: any, if a path is given; without one that of a text file of the folders
 abbrev pub IsOfChecked : (given : List (List ℕ)) (root path : List ℕ) → Type 0
 IsOfChecked [] root path = IsOfFolders root path
-IsOfChecked (first ∷ more) root path = Contains (first ∷ more) path
+IsOfChecked (first ∷ more) root path = Unit {0}
 
 -- the path is one that `near` reads: a given one, or without one that of a database
 abbrev pub IsOfCompared : (given : List (List ℕ)) (root path : List ℕ) → Type 0
@@ -109,13 +111,19 @@ NeverFails fails task root = (path : List ℕ) → MayRead task root path → fa
 abbrev pub IsOfListing : (root : List ℕ) → Refusal → Type 0
 IsOfListing root refusal = IsOver TooLong (etc_files root) refusal ⊎ IsOver TooLong (usr_files root) refusal
 
+-- the error is that of a folder that the words of `check` name: it can't be listed, or has too many text files
+abbrev pub IsOfNamedFolder : Task → Contents → Refusal → Type 0
+IsOfNamedFolder (Check files allowed json) contents refusal = AreFoldersUnread contents (map string_bytes files.items) refusal
+IsOfNamedFolder task contents refusal = ⊥
+
 -- The error of a task comes of what it reads: no reading may fail, and none of standard input has. Memory was granted, both
--- outputs took what they were given, and both folders could be listed.
+-- outputs took what they were given, and the folders could be listed.
 pub record IsOfReading (fails : (path : List ℕ) → Type 0) (task : Task) (root : List ℕ) (before now : Scene) (refusal : Refusal) : Type 0 where
   pub never : NeverFails fails task root
   pub told : HasFailed before.input.failures now.input.failures → ⊥
   pub of : IsOfWhatIsRead refusal
   pub listed : IsOfListing root refusal → ⊥
+  pub named : IsOfNamedFolder task before.files refusal → ⊥
 
 -- two runs that end with an error over one input end alike: with one error, and files and outputs are the same
 pub record IsOneEnd (refusal refusal2 : Refusal) (now now2 : Scene) : Type 0 where
@@ -144,11 +152,16 @@ DoneIsNoError fails fails_now fails2 fails2_now left left_now left2 left2_now =
     → IsNotDone task root usr strict (scene_of fails2 left2 before2) (scene_of fails2_now left2_now now2) refusal → ⊥
 
 -- ---- of standard input
--- the words of a task name text files, and this path among them
-abbrev pub NamesFile : Task → (path : List ℕ) → Type 0
-NamesFile (Check files allowed json) path = Contains (map string_bytes files.items) path
-NamesFile (Near files device limit json) path = Contains (map string_bytes files.items) path
-NamesFile task path = ⊥
+-- the path is that of a folder that the words name, or of something in it
+abbrev pub IsInNamed : (given : List (List ℕ)) (path : List ℕ) → Type 0
+IsInNamed given path = (named : List ℕ) × Contains given named × ((path ≡ folder_of named) ⊎ ((name : List ℕ) × (path ≡ path_in (folder_of named) name)))
+
+-- the words of a task name text files, or of `check` folders, and this path is among them
+abbrev pub NamesFile : Task → Contents → (path : List ℕ) → Type 0
+NamesFile (Check files allowed json) contents path =
+    ((paths : List (List ℕ)) × StandFor contents (map string_bytes files.items) paths × Contains paths path) ⊎ IsInNamed (map string_bytes files.items) path
+NamesFile (Near files device limit json) contents path = Contains (map string_bytes files.items) path
+NamesFile task contents path = ⊥
 
 -- the task reads text files that its words name
 abbrev pub ReadsTexts : Task → Type 0
@@ -162,14 +175,14 @@ abbrev pub InputIsRead : (fails fails_now : (path : List ℕ) → Type 0) (left 
 InputIsRead fails fails_now left left_now = (task : Task) (root : List ℕ) (usr strict : Bool) (refusal : Refusal) (before now : Scene)
     → reads_input task ≡ true → IsOver Read (codes "standard input") refusal
     → IsNotDone task root usr strict (scene_of fails left before) (scene_of fails_now left_now now) refusal
-    → HasFailed before.input.failures now.input.failures ⊎ NamesFile task (codes "standard input")
+    → HasFailed before.input.failures now.input.failures ⊎ NamesFile task before.files (codes "standard input")
 
 -- And a task that reads text files says that this is too long only if it has more bytes than a file may have, where it tells them.
 abbrev pub InputIsLong : (fails fails_now : (path : List ℕ) → Type 0) (left left_now : Outcomes) → Type 0
 InputIsLong fails fails_now left left_now = (task : Task) (root : List ℕ) (usr strict : Bool) (refusal : Refusal) (before now : Scene)
     → ReadsTexts task → reads_input task ≡ true → IsOver TooLong (codes "standard input") refusal
     → IsNotDone task root usr strict (scene_of fails left before) (scene_of fails_now left_now now) refusal
-    → IfSome before.input.bytes (λ told. max_file < length told) ⊎ NamesFile task (codes "standard input")
+    → IfSome before.input.bytes (λ told. max_file < length told) ⊎ NamesFile task before.files (codes "standard input")
 
 -- And one that answers the devices that it names says that a line of it is too long only if it has such a line.
 abbrev pub LineIsLong : (fails fails_now : (path : List ℕ) → Type 0) (left left_now : Outcomes) → Type 0

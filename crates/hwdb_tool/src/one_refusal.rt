@@ -5,6 +5,7 @@ ghost use Rattle.hwdb_tool.specs.OneRefusal.{DoneIsNoError, DoneJobIsNoError, Er
 use crate::one_outcome::listings_give_one_reading;
 use hwdb_fs::System;
 use hwdb_reader::{law_header_faults, law_one_tree};
+use hwdb_text::laws::{names_are_those_that_count, names_ascend, one_ascending_list};
 use hwdb_writer::law_one_written_form;
 
 /// Over one input a task that only reads ends in one way, if no reading may fail: all but an update, and but the answers to
@@ -24,6 +25,9 @@ pub fn errors_are_one<D: System>(first: &D, first_then: &D, second: &D, second_t
     law_header_faults();
     law_one_written_form();
     listings_give_one_reading();
+    names_are_those_that_count();
+    names_ascend();
+    one_ascending_list();
 }
 
 /// So does a run of the program whose words ask for such a task. Its root is entered then, and such words are told nothing but
@@ -48,6 +52,9 @@ pub fn words_end_in_one<D: System>(first: &D, first_then: &D, second: &D, second
     law_header_faults();
     law_one_written_form();
     listings_give_one_reading();
+    names_are_those_that_count();
+    names_ascend();
+    one_ascending_list();
 }
 
 /// What an error says of standard input is so: a call of it failed, or it, or a line of it, has more bytes than a file may have.

@@ -6,5 +6,5 @@ use Rattle.hwdb_tool.proofs.checks.check.Goals as goal
 pub returns-else-is_empty-clause-refused : goal.returns-else-is_empty-clause-refused
 returns-else-is_empty-clause-refused g c = λ tells.
     some_given c.args.root.now (g.I.Source.left c.args.input.now) (g.D.Store.seen c.args.system.now) c.args.given.now
-    (λ Unread Are. IfErr c.check_given.result (IsCheckRefused Unread Are))
-    (sym c.is_empty.ensures ∙ c.if-is_empty.false) (c.check_given.ensures.refused tells)
+    (λ Unread Are. IfErr c.check_named.result (IsCheckRefused Unread Are))
+    (sym c.is_empty.ensures ∙ c.if-is_empty.false) (c.check_named.ensures.refused tells)

@@ -1,11 +1,14 @@
+use Rattle.hwdb_tool.proofs.StandLemmas.{one_stand}
 use Rattle.hwdb_tool.proofs.JobErrorLemmas.{job_is_not_told, no_job_error, one_job_error, root_is_entered}
 use Rattle.hwdb_tool.proofs.one_refusal.words_end_in_one.Goals as goal
 
 pub returns-clause-one : goal.returns-clause-one
-returns-clause-one g c = one_job_error c.law_header_faults.ensures.one c.law_one_tree.ensures c.listings_give_one_reading.ensures.choice c.listings_give_one_reading.ensures.reading _ _ _ _ _ _ _ _
+returns-clause-one g c = one_job_error c.law_header_faults.ensures.one c.law_one_tree.ensures c.listings_give_one_reading.ensures.choice c.listings_give_one_reading.ensures.reading
+    (one_stand c.names_are_those_that_count.ensures c.names_ascend.ensures c.one_ascending_list.ensures) _ _ _ _ _ _ _ _
 
 pub returns-clause-done : goal.returns-clause-done
-returns-clause-done g c = no_job_error c.law_header_faults.ensures.one c.law_one_tree.ensures c.listings_give_one_reading.ensures.choice c.listings_give_one_reading.ensures.reading _ _ _ _ _ _ _ _ c.law_one_written_form.ensures
+returns-clause-done g c = no_job_error c.law_header_faults.ensures.one c.law_one_tree.ensures c.listings_give_one_reading.ensures.choice c.listings_give_one_reading.ensures.reading
+    (one_stand c.names_are_those_that_count.ensures c.names_ascend.ensures c.one_ascending_list.ensures) _ _ _ _ _ _ _ _ c.law_one_written_form.ensures
 
 pub returns-clause-root : goal.returns-clause-root
 returns-clause-root g c = root_is_entered (g.D.System.may_fail c.args.first.now) (g.D.System.may_fail c.args.first_then.now)
