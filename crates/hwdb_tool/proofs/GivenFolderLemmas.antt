@@ -1,12 +1,18 @@
 -- The text files for which given paths stand.
-use Rattle.std.proofs.Common.{◌≡◌, ◌<◌, ◌≤◌, ◌∙◌, ◌++◌, ◌==◌, ◌⊎◌, ap, sym, refl, subst, inl, inr, append_assoc, arith, eqb-true, ℕ, zero, suc, Bool, true, false, List, [], ◌∷◌, Bor, length, map, take, get_or, Option, None, Some, MatchOption, if◌then◌else◌}
-use Rattle.std.specs.Prelude.{Contains, codes, is_some}
+use Rattle.std.proofs.Common.{◌≡◌, ◌<◌, ◌≤◌, ◌∙◌, ◌++◌, ◌==◌, ◌⊎◌, ◌||◌, ◌&&◌, ap, sym, refl, subst, inl, inr, append_assoc, arith, eqb-true, ℕ, zero, suc, Bool, true, false, List, [], ◌∷◌, length, map, take, get_or, string_bytes, Global, String, Vec, Option, None, Some, Result, Ok, Err, IfErr, IfOk, if◌then◌else◌}
+use Rattle.std.specs.Prelude.{Contains, codes, is_some, nat_eq}
+use Rattle.std.proofs.lemmas.List.{length-map, get_or-map, map-append, take_more}
 use Rattle.hwdb_spec.specs.CheckedFiles.{StandFor, StandsFor, files_in, folder_of, is_file}
 use Rattle.hwdb_spec.specs.Folders.{Choice, choice, max_files, names}
-use Rattle.hwdb_spec.specs.Given.{is_dash}
+use Rattle.hwdb_spec.specs.Given.{any_dash, is_dash}
 use Rattle.hwdb_spec.specs.Store.{Contents, path_in}
 use Rattle.hwdb_spec.specs.System.{AreNamesIn, bytes_at}
 use Rattle.hwdb_fs.specs.Reading.{IsFolderAt}
+use Rattle.hwdb_fs.specs.Refusals.{HasReason}
+use Rattle.hwdb_fs.specs.declared.refusals.Refusal.{Refusal}
+use Rattle.hwdb_fs.specs.declared.refusals.Refusal.TheVariants.{Plain}
+use Rattle.hwdb_print.specs.declared.errors.ToolError.TheVariants.{Memory, TooManyFiles}
+use Rattle.hwdb_tool.specs.GivenFolders.{AreFoldersUnread, IsFolderUnread}
 
 -- ---- the folder that a path names
 pub with_slash : (path : List ℕ) → folder_of (path ++ 47 ∷ []) ≡ path
@@ -61,3 +67,99 @@ pub stand_more : (contents : Contents) (given paths : List (List ℕ)) (path : L
 stand_more contents [] paths path own none one = (own, [], ap (λ (l : List (List ℕ)). l ++ own) none ∙ append_none own, one, refl)
 stand_more contents (first ∷ given) paths path own more one =
     (more.0, more.1 ++ own, ap (λ (l : List (List ℕ)). l ++ own) more.2 ∙ append_assoc more.0 more.1 own, more.3, stand_more contents given more.1 path own more.4 one)
+
+-- one more of the given
+pub stand_next : (contents : Contents) (given : List (String Global)) (k : ℕ) (path : String Global) (paths own new : List (String Global)) → path ≡ get_or given k path → k < length given
+    → StandFor contents (map string_bytes (take k given)) (map string_bytes paths)
+    → StandsFor (is_file contents (string_bytes path)) contents (string_bytes path) (map string_bytes own)
+    → map string_bytes new ≡ map string_bytes paths ++ map string_bytes own → StandFor contents (map string_bytes (take (k + 1) given)) (map string_bytes new)
+stand_next contents given k path paths own new is lt stand one more =
+    let before = map string_bytes (take k given) in
+    let next : map string_bytes (take (k + 1) given) ≡ before ++ string_bytes path ∷ [] =
+    ap (map string_bytes) (take_more given k path lt) ∙ map-append string_bytes (take k given) (get_or given k path ∷ [])
+    ∙ ap (λ (s : String Global). before ++ string_bytes s ∷ []) (sym is) in
+    subst (λ (g : List (List ℕ)). StandFor contents g (map string_bytes new)) (sym next)
+    (subst (λ (l : List (List ℕ)). StandFor contents (before ++ string_bytes path ∷ []) l) (sym more)
+    (stand_more contents before (map string_bytes paths) (string_bytes path) (map string_bytes own) stand one))
+
+-- the folder of one of the given
+pub one_unread : (contents : Contents) (given : List (String Global)) (k : ℕ) (path : String Global) (refusal : Refusal) → path ≡ get_or given k path → k < length given
+    → IsFolderUnread contents (string_bytes path) refusal → AreFoldersUnread contents (map string_bytes given) refusal
+one_unread contents given k path refusal is lt unread =
+    (string_bytes path, (k, subst (λ n. k < n) (sym (length-map given string_bytes)) lt, get_or-map string_bytes given k path (string_bytes path) lt ∙ ap string_bytes (sym is)), unread)
+
+-- ---- none is `-`
+neither : (a b : Bool) → (a || b) ≡ false → (a ≡ false) × (b ≡ false)
+neither true b e = absurd (cc)
+neither false b e = (refl, e)
+
+not_both : (a b : Bool) → a ≡ false → b ≡ false → (a || b) ≡ false
+not_both true b e f = absurd (cc)
+not_both false b e f = f
+
+and_none : (a : Bool) → (a && false) ≡ false
+and_none true = refl
+and_none false = refl
+
+pub none_more : (xs ys : List (List ℕ)) → any_dash xs ≡ false → any_dash ys ≡ false → any_dash (xs ++ ys) ≡ false
+none_more [] ys a b = b
+none_more (x ∷ xs) ys a b =
+    let parts = neither (is_dash x) (any_dash xs) a in
+    not_both (is_dash x) (any_dash (xs ++ ys)) parts.0 (none_more xs ys parts.1 b)
+
+pub one_plain : (path : List ℕ) (own : List (List ℕ)) → own ≡ path ∷ [] → is_dash path ≡ false → any_dash own ≡ false
+one_plain path own is plain = ap any_dash is ∙ ap (λ b. b || false) plain
+
+pub member_plain : {X : Type 0} (f : X → List ℕ) (xs : List X) (i : ℕ) (x : X) → x ≡ get_or xs i x → i < length xs → any_dash (map f xs) ≡ false → is_dash (f x) ≡ false
+member_plain f [] i x is lt none = absurd (omega (arith, lt))
+member_plain f (y ∷ more) zero x is lt none = ap (λ p. is_dash (f p)) is ∙ (neither (is_dash (f y)) (any_dash (map f more)) none).0
+member_plain f (y ∷ more) (suc i) x is lt none = member_plain f more i x is (omega (arith, lt)) (neither (is_dash (f y)) (any_dash (map f more)) none).1
+
+slash_plain : (folder name : List ℕ) → is_dash (path_in folder name) ≡ false
+slash_plain [] name = refl
+slash_plain (b ∷ []) name = and_none (nat_eq b 45)
+slash_plain (b ∷ c ∷ more) name = and_none (nat_eq b 45)
+
+paths_plain : (folder : List ℕ) (cs : List Choice) → any_dash (map (λ (c : Choice). path_in folder c.name) cs) ≡ false
+paths_plain folder [] = refl
+paths_plain folder (c ∷ cs) = not_both (is_dash (path_in folder c.name)) (any_dash (map (λ (c : Choice). path_in folder c.name) cs)) (slash_plain folder c.name) (paths_plain folder cs)
+
+pub folder_plain : (folder : List ℕ) (cs : List Choice) (own : List (List ℕ)) → own ≡ map (λ (c : Choice). path_in folder c.name) cs → any_dash own ≡ false
+folder_plain folder cs own is = ap any_dash is ∙ paths_plain folder cs
+
+-- ---- what a path stands for, by its folder's text files
+pub none_in : (path : List ℕ) (all : List (String Global)) (own : List (List ℕ)) → (length all == 0) ≡ true → own ≡ path ∷ [] → own ≡ files_in path (map string_bytes all)
+none_in path [] own none is = is
+none_in path (name ∷ all) own none is = absurd (cc)
+
+pub some_in : (path folder : List ℕ) (all : List (String Global)) (cs : List Choice) (own : List (List ℕ)) → (length all == 0) ≡ false → folder ≡ folder_of path → cs ≡ choice (map string_bytes all) []
+    → own ≡ map (λ (c : Choice). path_in folder c.name) cs → own ≡ files_in path (map string_bytes all)
+some_in path folder [] cs own some named chosen is = absurd (cc)
+some_in path folder (name ∷ all) cs own some named chosen is =
+    is ∙ ap (λ (f : List ℕ). map (λ (c : Choice). path_in f c.name) cs) named ∙ ap (map (λ (c : Choice). path_in (folder_of path) c.name)) chosen
+
+module _ (contents : Contents) (path : List ℕ) (found : List (List ℕ)) (at : IsFolderAt (folder_of path) contents (Some found)) where
+  pub folder_stands : (r : Result (Vec (String Global) Global) Refusal) → is_dash path ≡ false
+      → IfOk r (λ own. map string_bytes own.items ≡ files_in path found) → IfOk r (λ _. length (names found []) ≤ max_files)
+      → IfOk r (λ own. StandsFor (is_file contents path) contents path (map string_bytes own.items))
+  folder_stands (Ok own) plain is few = stands_for contents path (map string_bytes own.items) found plain at few is
+  folder_stands (Err e) plain is few = tt
+
+  folder_unread : (e : Refusal) → (e ≡ Plain Memory) ⊎ ((e ≡ Plain TooManyFiles) × (max_files < length (names found []))) → IsFolderUnread contents path e
+  folder_unread e (inl memory) = subst (IsFolderUnread contents path) (sym memory) (inl tt)
+  folder_unread e (inr many) = inr (many.0, found, at.1, many.1)
+
+  pub folder_refused : (r : Result (Vec (String Global) Global) Refusal) → IfErr r (λ e. (e ≡ Plain Memory) ⊎ ((e ≡ Plain TooManyFiles) × (max_files < length (names found []))))
+      → IfErr r (IsFolderUnread contents path)
+  folder_refused (Ok own) refused = tt
+  folder_refused (Err e) refused = folder_unread e refused
+
+-- these errors tell no path
+plain_reason : (Fails : List ℕ → Type 0) (contents : Contents) (T : Type 0) (e : Refusal) → (e ≡ Plain Memory) ⊎ ((e ≡ Plain TooManyFiles) × T) → HasReason Fails ⊥ contents e
+plain_reason Fails contents T e (inl memory) = subst (HasReason Fails ⊥ contents) (sym memory) tt
+plain_reason Fails contents T e (inr many) = subst (HasReason Fails ⊥ contents) (sym many.0) tt
+
+pub folder_reason : (Fails : List ℕ → Type 0) (contents : Contents) (T : Type 0) (r : Result (Vec (String Global) Global) Refusal) → IfErr r (λ e. (e ≡ Plain Memory) ⊎ ((e ≡ Plain TooManyFiles) × T))
+    → IfErr r (HasReason Fails ⊥ contents)
+folder_reason Fails contents T (Ok own) refused = tt
+folder_reason Fails contents T (Err e) refused = plain_reason Fails contents T e refused

@@ -1,8 +1,9 @@
 //! The text files for which the paths of `check` stand: a path of a folder stands for the text files in it.
-ghost use Rattle.std.specs.Prelude.{[], ◌∷◌, ◌≡◌, ◌≤◌, ◌⊎◌, ◌<◌, length, map, string_bytes, IfErr, IfOk};
+ghost use Rattle.std.specs.Prelude.{[], ◌∷◌, ◌++◌, false, ◌≡◌, ◌≤◌, ◌⊎◌, ◌<◌, length, map, string_bytes, IfErr, IfOk};
 ghost use Rattle.hwdb_spec.specs.CheckedFiles;
 ghost use Rattle.hwdb_spec.specs.CheckedFiles.{StandFor, StandsFor, is_file};
-ghost use Rattle.hwdb_spec.specs.Folders.{max_files, names};
+ghost use Rattle.hwdb_spec.specs.Folders.{choice, max_files, names};
+ghost use Rattle.hwdb_spec.specs.Given.{any_dash, is_dash};
 ghost use Rattle.hwdb_spec.specs.Store as spec;
 ghost use Rattle.hwdb_text.specs.Views.{choice_of};
 ghost use Rattle.hwdb_fs.specs.Refusals.{HasReason};
@@ -19,7 +20,7 @@ use std::alloc::{AllocError, Global};
 fn folder_of(path: &str) -> &str
     ensures { result.now ≡ CheckedFiles.folder_of path.now }
 {
-    match path.strip_suffix('/') {
+    match path.strip_suffix("/") {
         Some(folder) => folder,
         None => path,
     }
@@ -49,7 +50,7 @@ fn paths_in(alloc: Global, folder: &str, chosen: &[Chosen]) -> Result<Vec<String
 /// The files that are chosen of a folder's text files alone.
 fn chosen_of(alloc: Global, all: &[String]) -> Result<Vec<Chosen>, Refusal>
     ensures chosen { IfOk result (λ chosen.
-        map choice_of chosen.items ≡ CheckedFiles.choice (map string_bytes all.now) []) }
+        map choice_of chosen.items ≡ choice (map string_bytes all.now) []) }
     ensures few { IfOk result (λ _. length (names (map string_bytes all.now) []) ≤ max_files) }
     ensures refused { IfErr result (λ r. (r ≡ Plain ToolError.Memory)
         ⊎ ((r ≡ Plain ToolError.TooManyFiles)
@@ -70,6 +71,8 @@ fn files_in(alloc: Global, path: &str, all: &[String]) -> Result<Vec<String>, Re
     ensures refused { IfErr result (λ r. (r ≡ Plain ToolError.Memory)
         ⊎ ((r ≡ Plain ToolError.TooManyFiles)
         × (max_files < length (names (map string_bytes all.now) [])))) }
+    ensures plain { is_dash path.now ≡ false
+        → IfOk result (λ own. any_dash (map string_bytes own.items) ≡ false) }
 {
     let chosen = chosen_of(alloc, all)?;
     if all.is_empty() {
@@ -87,6 +90,8 @@ fn files_at<D: System>(alloc: Global, path: &str, system: &D) -> Result<Vec<Stri
         (IsFolderUnread (D.Store.seen system.now) path.now) }
     ensures reason { IfErr result
         (HasReason (D.System.may_fail system.now) ⊥ (D.Store.seen system.now)) }
+    ensures plain { is_dash path.now ≡ false
+        → IfOk result (λ own. any_dash (map string_bytes own.items) ≡ false) }
 {
     match system.folder_names(alloc, folder_of(path)) {
         Ok(Some(all)) => files_in(alloc, path, &all),
@@ -104,6 +109,8 @@ fn files_for<D: System>(alloc: Global, path: &str, system: &D) -> Result<Vec<Str
         (IsFolderUnread (D.Store.seen system.now) path.now) }
     ensures reason { IfErr result
         (HasReason (D.System.may_fail system.now) ⊥ (D.Store.seen system.now)) }
+    ensures plain { is_dash path.now ≡ false
+        → IfOk result (λ own. any_dash (map string_bytes own.items) ≡ false) }
 {
     if is_dash(path) {
         Ok(alone(alloc, path)?)
@@ -115,7 +122,7 @@ fn files_for<D: System>(alloc: Global, path: &str, system: &D) -> Result<Vec<Str
 /// Adds some paths to others.
 fn put_all(paths: &mut Vec<String>, own: Vec<String>) -> Result<(), AllocError>
     ensures { IfOk result (λ _. map string_bytes paths.new.items
-        ≡ map string_bytes paths.old.items ++ map string_bytes own.entry.items) }
+        ≡ map string_bytes paths.old.items ++ map string_bytes own.items) }
 {
     for path in own {
         paths.push(path)?;
@@ -138,6 +145,8 @@ pub fn named_files<D: System>(
         (AreFoldersUnread (D.Store.seen system.now) (map string_bytes given.now)) }
     ensures reason { IfErr result
         (HasReason (D.System.may_fail system.now) ⊥ (D.Store.seen system.now)) }
+    ensures plain { any_dash (map string_bytes given.now) ≡ false
+        → IfOk result (λ paths. any_dash (map string_bytes paths.items) ≡ false) }
 {
     let mut paths = Vec::new(alloc);
     for path in given {
