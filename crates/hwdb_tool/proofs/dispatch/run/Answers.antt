@@ -253,5 +253,5 @@ returns-in-Device-clause-refused g c = λ tells.
     (subst (λ p. IfOk answer (λ a. OnOut (IsDevicePrinted kind asked_names (root_of job) p sight seen) (texts_in a))) c.text_of-given.ensures
     (subst (λ r. IfOk answer (λ a. OnOut (IsDevicePrinted kind asked_names r given sight seen) (texts_in a))) c.root_of-root.ensures
     (subst (λ k. IfOk answer (λ a. OnOut (IsDevicePrinted k asked_names root given sight seen) (texts_in a))) c.device_form-form.ensures (c.device-answer.ensures.printed tells)))))
-    (each_error _ (IsTaskReason task (root_of job) job.usr before now) answer (λ r has. inl (any_reason _ _ seen r has)) c.device-answer.ensures.reason)
-    (inl tt) c.printed-in-Device.ensures.refused))
+    (each_error _ (IsTaskReason task (root_of job) job.usr before now) answer (λ r has. any_reason _ _ seen r has) c.device-answer.ensures.reason)
+    tt c.printed-in-Device.ensures.refused))
