@@ -1,6 +1,8 @@
 -- The errors of files that words name.
-use Rattle.std.proofs.Common.{◌≡◌, ◌≤◌, ◌⊎◌, inl, inr, sym, subst, refl, ℕ, Bool, true, false, length, List, Option, None, Some, map, string_bytes, Global, String, IfSome}
+use Rattle.std.proofs.Common.{◌≡◌, ◌≤◌, ◌⊎◌, ◌==◌, inl, inr, sym, subst, refl, ℕ, Bool, true, false, length, not, List, [], ◌∷◌, Option, None, Some, map, string_bytes, Global, String, IfSome}
 use Rattle.std.specs.Prelude.{is_some}
+use Rattle.hwdb_spec.specs.CheckedFiles.{AreCheckedFiles}
+use Rattle.hwdb_spec.specs.Folders.{Source}
 use Rattle.hwdb_spec.specs.Given.{any_dash, is_dash}
 use Rattle.hwdb_spec.specs.Store.{Contents}
 use Rattle.hwdb_spec.specs.System.{bytes_at}
@@ -10,6 +12,7 @@ use Rattle.hwdb_print.specs.declared.errors.ToolError.TheVariants.{Read, Write, 
 use Rattle.hwdb_fs.specs.Refusals.{HasReason, IsUnreadAt, IsUnreadable}
 use Rattle.hwdb_fs.specs.declared.refusals.Refusal.{Refusal}
 use Rattle.hwdb_fs.specs.declared.refusals.Refusal.TheVariants.{At, InWords, NoDatabase, Plain}
+use Rattle.hwdb_tool.specs.CheckedReasons.{HasCheckedReason, HasNamedReason}
 use Rattle.hwdb_tool.specs.Queries.{IsWholeInputUnread}
 use Rattle.hwdb_tool.specs.Reasons.{HasFilesReason, HasGivenReason, IsFileReason, IsFirstGiven, IsInputRead, IsOfFiles, TellsNoPath}
 
@@ -74,6 +77,18 @@ module _ (fails : List ℕ → Type 0) (files : Contents) (input : Option (List 
 pub write_reason : (given : List (String Global)) (fails : List ℕ → Type 0) (files : Contents) (input : Option (List ℕ)) (n m : ℕ) (b : Bool) → HasFilesReason b (map string_bytes given) fails files input n m (Plain Write)
 write_reason given fails files input n m true = inl tt
 write_reason given fails files input n m false = tt
+
+-- the same of `check`, of what would have been printed
+module _ (fails : List ℕ → Type 0) (files : Contents) (input : Option (List ℕ)) (n m : ℕ) where
+  if_given : (b : Bool) (given : List (List ℕ)) → HasNamedReason fails files input n m given (Plain Write) → HasCheckedReason b fails files input n m given (Plain Write)
+  if_given true given has = has
+  if_given false given has = tt
+
+  pub checked_write : (given : List (String Global)) (root : List ℕ) (sources : List Source) → AreCheckedFiles (map string_bytes given) root input files sources
+      → HasCheckedReason (not (length given == 0)) fails files input n m (map string_bytes given) (Plain Write)
+  checked_write [] root sources are = tt
+  checked_write (path ∷ more) root sources are =
+      if_given (not (length (path ∷ more) == 0)) (map string_bytes (path ∷ more)) (inr (are.0, are.1, inl tt))
 
 -- an error of several files
 module _ (given : List (List ℕ)) (fails : List ℕ → Type 0) (files : Contents) (input : Option (List ℕ)) (n m : ℕ) where

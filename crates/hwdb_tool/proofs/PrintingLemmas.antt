@@ -71,19 +71,26 @@ listed_done after limit device json root usr strict files input err before now d
   record { same = λ p. refl; no_more = λ p v l. l },
 )
 
--- an answer that can't be had, or not be printed
-pub printed_refused : (answer : Result Answer Refusal) (result : Result ℕ Refusal) (Refuses Reason : Refusal → Type 0) (P : ℕ → Texts → Type 0) (err_before err_now out_before out_now : Told)
-    → IfErr answer Refuses → IfOk answer (λ a. P a.status (texts_in a)) → IfErr answer Reason → Reason (Plain Write) → IfErr result (λ r. IsNotPrinted answer r err_before err_now out_before out_now)
+-- an answer that can't be had, or not be printed; the reason of the second may follow from what would have been printed
+pub refused_or_printed : (answer : Result Answer Refusal) (result : Result ℕ Refusal) (Refuses Reason : Refusal → Type 0) (P : ℕ → Texts → Type 0) (err_before err_now out_before out_now : Told)
+    → IfErr answer Refuses → IfOk answer (λ a. P a.status (texts_in a)) → IfErr answer Reason → ((s : ℕ) (t : Texts) → P s t → Reason (Plain Write))
+    → IfErr result (λ r. IsNotPrinted answer r err_before err_now out_before out_now)
     → IfErr result (λ r. IsUnprinted Refuses (λ t. (s : ℕ) × P s t) r err_before err_now out_before out_now × Reason r)
-printed_refused answer (Ok s) Refuses Reason P eb en ob on refused is reason write not = tt
-printed_refused (Ok a) (Err r) Refuses Reason P eb en ob on refused is reason write not = (
+refused_or_printed answer (Ok s) Refuses Reason P eb en ob on refused is reason write not = tt
+refused_or_printed (Ok a) (Err r) Refuses Reason P eb en ob on refused is reason write not = (
   inr (not.0, record { texts = not.1.texts; are = (a.status, subst (P a.status) (sym not.1.are) is); quiet = not.1.quiet; cut = not.1.cut }),
-  subst Reason (sym not.0) write,
+  subst Reason (sym not.0) (write a.status (texts_in a) is),
 )
-printed_refused (Err e) (Err r) Refuses Reason P eb en ob on refused is reason write not = (
+refused_or_printed (Err e) (Err r) Refuses Reason P eb en ob on refused is reason write not = (
   inl (subst Refuses (sym not.0) refused, not.1, not.2),
   subst Reason (sym not.0) reason,
 )
+
+pub printed_refused : (answer : Result Answer Refusal) (result : Result ℕ Refusal) (Refuses Reason : Refusal → Type 0) (P : ℕ → Texts → Type 0) (err_before err_now out_before out_now : Told)
+    → IfErr answer Refuses → IfOk answer (λ a. P a.status (texts_in a)) → IfErr answer Reason → Reason (Plain Write) → IfErr result (λ r. IsNotPrinted answer r err_before err_now out_before out_now)
+    → IfErr result (λ r. IsUnprinted Refuses (λ t. (s : ℕ) × P s t) r err_before err_now out_before out_now × Reason r)
+printed_refused answer result Refuses Reason P eb en ob on refused is reason write not =
+    refused_or_printed answer result Refuses Reason P eb en ob on refused is reason (λ s t are. write) not
 
 -- a reason that doesn't speak of the database that is written
 pub any_reason : (U : List ℕ → Type 0) (W : Type 0) (contents : Contents) (refusal : Refusal) → HasReason U ⊥ contents refusal → HasReason U W contents refusal

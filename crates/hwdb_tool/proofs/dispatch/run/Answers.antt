@@ -14,14 +14,15 @@ use Rattle.hwdb_tool.specs.NearMisses.{IsNearRefused}
 use Rattle.hwdb_spec.specs.DeviceAsked.{IsDevicePrinted, device_form}
 use Rattle.hwdb_tool.specs.Devices.{IsDeviceRefused, asked_names}
 use Rattle.hwdb_tool.specs.Program.{IsAnswerOf, IsDeviceAnswer, IsTaskDone, OldOrDone, root_of, skips}
+use Rattle.hwdb_tool.specs.CheckedReasons.{HasCheckedReason}
 use Rattle.hwdb_tool.specs.Reasons.{HasFilesReason, HasGivenReason}
 use Rattle.hwdb_tool.specs.Undone.{AreUncheckable, IsAskRefused, IsCheckRefused}
 use Rattle.hwdb_tool.specs.TaskRefusals.{IsNotDone, IsTaskReason, Refuses}
 use Rattle.hwdb_tool.specs.Views.{texts_in}
 use Rattle.hwdb_tool.proofs.MomentLemmas.{leaves_more}
 use Rattle.hwdb_tool.proofs.ErrorLemmas.{both_errors, both_values, each_error, each_value}
-use Rattle.hwdb_tool.proofs.GivenLemmas.{write_reason}
-use Rattle.hwdb_tool.proofs.PrintingLemmas.{any_reason, listed_done, printed_refused}
+use Rattle.hwdb_tool.proofs.GivenLemmas.{checked_write, write_reason}
+use Rattle.hwdb_tool.proofs.PrintingLemmas.{any_reason, listed_done, printed_refused, refused_or_printed}
 use Rattle.hwdb_tool.proofs.dispatch.run.Goals as goal
 
 pub returns-in-Update-clause-any_moment : goal.returns-in-Update-clause-any_moment
@@ -117,7 +118,7 @@ returns-in-Check-clause-refused g c = λ tells.
     let answer = c.check-answer.result in
     subst (λ t. IfErr c.printed-in-Check.result (IsNotDone t (root_of job) job.usr job.strict before now)) (sym c.in-Check.is)
     (each_error _ (IsNotDone task (root_of job) job.usr job.strict before now) c.printed-in-Check.result (λ r both. ((both.0, record { same = λ p. refl; no_more = λ p v l. l }), both.1))
-    (printed_refused answer c.printed-in-Check.result (Refuses task (root_of job) input seen) (IsTaskReason task (root_of job) job.usr before now)
+    (refused_or_printed answer c.printed-in-Check.result (Refuses task (root_of job) input seen) (IsTaskReason task (root_of job) job.usr before now)
     (λ s t. IsAnswerOf task (root_of job) job.strict input seen s t) before.err now.err before.out now.out
     (subst (λ r. IfErr answer (IsCheckRefused (AreUncheckable (map string_bytes given) r seen) (AreCheckedFiles (map string_bytes given) r input seen))) c.root_of-root.ensures
     (subst (λ l. IfErr answer (IsCheckRefused (AreUncheckable (map string_bytes l) root seen) (AreCheckedFiles (map string_bytes l) root input seen))) items (c.check-answer.ensures.refused tells)))
@@ -125,9 +126,9 @@ returns-in-Check-clause-refused g c = λ tells.
     (subst (λ l. IfOk answer (λ a. OnOut (λ text. IsChecked (AreCheckedFiles (map string_bytes l) root input seen) c.in-Check.json job.strict allowed text a.status) (texts_in a))) items
     (subst (λ l. IfOk answer (λ a. OnOut (λ text. IsChecked (AreCheckedFiles (map string_bytes c.deref-in-Check.result.now) root input seen) c.in-Check.json job.strict (map string_bytes l) text a.status) (texts_in a))) left_out
     (c.check-answer.ensures.checked tells))))
-    (subst (λ l. IfErr answer (HasFilesReason (not (length l == 0)) (map string_bytes l) fails seen input before.input.failures now.input.failures)) items
+    (subst (λ l. IfErr answer (HasCheckedReason (not (length l == 0)) fails seen input before.input.failures now.input.failures (map string_bytes l))) items
     (c.check-answer.ensures.reason tells))
-    (write_reason given fails seen input before.input.failures now.input.failures (not (length given == 0))) c.printed-in-Check.ensures.refused))
+    (λ s t is. checked_write fails seen input before.input.failures now.input.failures given (root_of job) is.1.sources is.1.are) c.printed-in-Check.ensures.refused))
 
 pub returns-in-Diff-clause-refused : goal.returns-in-Diff-clause-refused
 returns-in-Diff-clause-refused g c = λ tells.
