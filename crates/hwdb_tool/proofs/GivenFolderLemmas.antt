@@ -1,6 +1,7 @@
 -- The text files for which given paths stand.
-use Rattle.std.proofs.Common.{◌≡◌, ◌<◌, ◌≤◌, ◌∙◌, ◌++◌, ◌==◌, ◌⊎◌, ◌||◌, ◌&&◌, ap, sym, refl, subst, inl, inr, append_assoc, arith, eqb-true, ℕ, zero, suc, Bool, true, false, List, [], ◌∷◌, length, map, take, get_or, string_bytes, Global, String, Vec, Option, None, Some, Result, Ok, Err, IfErr, IfOk, if◌then◌else◌}
+use Rattle.std.proofs.Common.{◌≡◌, ◌<◌, ◌≤◌, ◌∙◌, ◌++◌, ◌+◌, ◌==◌, ◌⊎◌, ◌||◌, ◌&&◌, ap, sym, refl, subst, inl, inr, append_assoc, arith, eqb-true, ℕ, zero, suc, Bool, true, false, List, [], ◌∷◌, length, map, take, get_or, string_bytes, Global, String, Vec, Option, None, Some, Result, Ok, Err, IfErr, IfOk, if◌then◌else◌}
 use Rattle.std.specs.Prelude.{Contains, codes, is_some, nat_eq}
+use Rattle.std.specs.Result.{IsErrAnd}
 use Rattle.std.proofs.lemmas.List.{length-map, get_or-map, map-append, take_more}
 use Rattle.hwdb_spec.specs.CheckedFiles.{StandFor, StandsFor, files_in, folder_of, is_file}
 use Rattle.hwdb_spec.specs.Folders.{Choice, choice, max_files, names}
@@ -12,7 +13,8 @@ use Rattle.hwdb_fs.specs.Refusals.{HasReason}
 use Rattle.hwdb_fs.specs.declared.refusals.Refusal.{Refusal}
 use Rattle.hwdb_fs.specs.declared.refusals.Refusal.TheVariants.{Plain}
 use Rattle.hwdb_print.specs.declared.errors.ToolError.TheVariants.{Memory, TooManyFiles}
-use Rattle.hwdb_tool.specs.GivenFolders.{AreFoldersUnread, IsFolderUnread}
+use Rattle.hwdb_tool.specs.GivenFolders.{AreFoldersUnread, AreTooMany, IsFolderUnread}
+use Rattle.hwdb_tool.proofs.ErrorLemmas.{given_error}
 
 -- ---- the folder that a path names
 pub with_slash : (path : List ℕ) → folder_of (path ++ 47 ∷ []) ≡ path
@@ -88,6 +90,11 @@ pub one_unread : (contents : Contents) (given : List (String Global)) (k : ℕ) 
 one_unread contents given k path refusal is lt unread =
     (string_bytes path, (k, subst (λ n. k < n) (sym (length-map given string_bytes)) lt, get_or-map string_bytes given k path (string_bytes path) lt ∙ ap string_bytes (sym is)), unread)
 
+pub memory_unread : {T : Type 0} (contents : Contents) (given : List (String Global)) (k : ℕ) (path : String Global) (r : Result T Refusal) → path ≡ get_or given k path → k < length given
+    → IsErrAnd r (λ x. x ≡ Plain Memory) → IfErr r (AreFoldersUnread contents (map string_bytes given))
+memory_unread contents given k path r is lt memory =
+    given_error (Plain Memory) (AreFoldersUnread contents (map string_bytes given)) r memory (one_unread contents given k path (Plain Memory) is lt (inl tt))
+
 -- ---- none is `-`
 neither : (a b : Bool) → (a || b) ≡ false → (a ≡ false) × (b ≡ false)
 neither true b e = absurd (cc)
@@ -128,16 +135,6 @@ pub folder_plain : (folder : List ℕ) (cs : List Choice) (own : List (List ℕ)
 folder_plain folder cs own is = ap any_dash is ∙ paths_plain folder cs
 
 -- ---- what a path stands for, by its folder's text files
-pub none_in : (path : List ℕ) (all : List (String Global)) (own : List (List ℕ)) → (length all == 0) ≡ true → own ≡ path ∷ [] → own ≡ files_in path (map string_bytes all)
-none_in path [] own none is = is
-none_in path (name ∷ all) own none is = absurd (cc)
-
-pub some_in : (path folder : List ℕ) (all : List (String Global)) (cs : List Choice) (own : List (List ℕ)) → (length all == 0) ≡ false → folder ≡ folder_of path → cs ≡ choice (map string_bytes all) []
-    → own ≡ map (λ (c : Choice). path_in folder c.name) cs → own ≡ files_in path (map string_bytes all)
-some_in path folder [] cs own some named chosen is = absurd (cc)
-some_in path folder (name ∷ all) cs own some named chosen is =
-    is ∙ ap (λ (f : List ℕ). map (λ (c : Choice). path_in f c.name) cs) named ∙ ap (map (λ (c : Choice). path_in (folder_of path) c.name)) chosen
-
 module _ (contents : Contents) (path : List ℕ) (found : List (List ℕ)) (at : IsFolderAt (folder_of path) contents (Some found)) where
   pub folder_stands : (r : Result (Vec (String Global) Global) Refusal) → is_dash path ≡ false
       → IfOk r (λ own. map string_bytes own.items ≡ files_in path found) → IfOk r (λ _. length (names found []) ≤ max_files)
@@ -147,7 +144,7 @@ module _ (contents : Contents) (path : List ℕ) (found : List (List ℕ)) (at :
 
   folder_unread : (e : Refusal) → (e ≡ Plain Memory) ⊎ ((e ≡ Plain TooManyFiles) × (max_files < length (names found []))) → IsFolderUnread contents path e
   folder_unread e (inl memory) = subst (IsFolderUnread contents path) (sym memory) (inl tt)
-  folder_unread e (inr many) = inr (many.0, found, at.1, many.1)
+  folder_unread e (inr many) = inr (many.0, (found, at.1, many.1))
 
   pub folder_refused : (r : Result (Vec (String Global) Global) Refusal) → IfErr r (λ e. (e ≡ Plain Memory) ⊎ ((e ≡ Plain TooManyFiles) × (max_files < length (names found []))))
       → IfErr r (IsFolderUnread contents path)

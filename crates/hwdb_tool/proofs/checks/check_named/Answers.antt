@@ -1,5 +1,6 @@
-use Rattle.std.proofs.Common.{ap, inl, inr, map, string_bytes, subst, sym}
+use Rattle.std.proofs.Common.{◌≡◌, false, inl, inr, map, string_bytes, subst, sym}
 use Rattle.hwdb_spec.specs.CheckedFiles.{AreNamedFiles, StandFor}
+use Rattle.hwdb_spec.specs.Given.{any_dash}
 use Rattle.hwdb_tool.specs.CheckedReasons.{HasNamedReason}
 use Rattle.hwdb_tool.specs.GivenFolders.{IsNamedUnread}
 use Rattle.hwdb_tool.specs.Undone.{IsCheckRefused, IsGivenUnread}
@@ -46,3 +47,7 @@ returns-clause-reason g c = λ tells.
     c.check_given.result
     (λ r has. inr (paths, subst (λ l. StandFor seen given (map string_bytes l)) (sym c.deref.ensures.value) (c.in_ok-paths.ensures.files tells), has))
     (c.check_given.ensures.reason tells)
+
+pub returns-clause-unread : goal.returns-clause-unread
+returns-clause-unread g c = λ none.
+    c.check_given.ensures.unread (subst (λ l. any_dash (map string_bytes l) ≡ false) (sym c.deref.ensures.value) (c.in_ok-paths.ensures.plain none))
