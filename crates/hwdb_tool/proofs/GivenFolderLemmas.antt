@@ -1,19 +1,16 @@
 -- The text files for which given paths stand.
-use Rattle.std.proofs.Common.{◌≡◌, ◌<◌, ◌≤◌, ◌∙◌, ◌++◌, ◌+◌, ◌==◌, ◌⊎◌, ◌||◌, ◌&&◌, ap, sym, refl, subst, inl, inr, append_assoc, arith, eqb-true, ℕ, zero, suc, Bool, true, false, List, [], ◌∷◌, length, map, take, get_or, string_bytes, Global, String, Vec, Option, None, Some, Result, Ok, Err, IfErr, IfOk, if◌then◌else◌}
-use Rattle.std.specs.Prelude.{Contains, codes, is_some, nat_eq}
+use Rattle.std.proofs.Common.{◌≡◌, ◌<◌, ◌∙◌, ◌++◌, ◌+◌, ◌==◌, ◌||◌, ◌&&◌, ap, sym, refl, subst, inl, append_assoc, arith, eqb-true, ℕ, zero, suc, Bool, true, false, List, [], ◌∷◌, length, map, take, get_or, string_bytes, Global, String, Result, IfErr, if◌then◌else◌}
+use Rattle.std.specs.Prelude.{nat_eq}
 use Rattle.std.specs.Result.{IsErrAnd}
 use Rattle.std.proofs.lemmas.List.{length-map, get_or-map, map-append, take_more}
-use Rattle.hwdb_spec.specs.CheckedFiles.{StandFor, StandsFor, files_in, folder_of, is_file}
-use Rattle.hwdb_spec.specs.Folders.{Choice, choice, max_files, names}
+use Rattle.hwdb_spec.specs.CheckedFiles.{StandFor, StandsFor, folder_of, is_file}
+use Rattle.hwdb_spec.specs.Folders.{Choice}
 use Rattle.hwdb_spec.specs.Given.{any_dash, is_dash}
 use Rattle.hwdb_spec.specs.Store.{Contents, path_in}
-use Rattle.hwdb_spec.specs.System.{AreNamesIn, bytes_at}
-use Rattle.hwdb_fs.specs.Reading.{IsFolderAt}
-use Rattle.hwdb_fs.specs.Refusals.{HasReason}
 use Rattle.hwdb_fs.specs.declared.refusals.Refusal.{Refusal}
 use Rattle.hwdb_fs.specs.declared.refusals.Refusal.TheVariants.{Plain}
-use Rattle.hwdb_print.specs.declared.errors.ToolError.TheVariants.{Memory, TooManyFiles}
-use Rattle.hwdb_tool.specs.GivenFolders.{AreFoldersUnread, AreTooMany, IsFolderUnread}
+use Rattle.hwdb_print.specs.declared.errors.ToolError.TheVariants.{Memory}
+use Rattle.hwdb_tool.specs.GivenFolders.{AreFoldersUnread, IsFolderUnread}
 use Rattle.hwdb_tool.proofs.ErrorLemmas.{given_error}
 
 -- ---- the folder that a path names
@@ -38,27 +35,6 @@ cut_slash path folder is = sym (ap folder_of is ∙ with_slash folder)
 
 pub kept_whole : (path : List ℕ) → ((front : List ℕ) → path ≡ front ++ 47 ∷ [] → ⊥) → path ≡ folder_of path
 kept_whole path not = sym (no_slash path not)
-
--- ---- one path
-module _ (contents : Contents) (path : List ℕ) where
-  by_file : (dash there b : Bool) → b ≡ (if dash then true else there) → dash ≡ false → there ≡ b
-  by_file true there b e f = absurd cc
-  by_file false there b e f = sym e
-
-  -- a file is there
-  pub stands_alone : (own : List (List ℕ)) → is_dash path ≡ false → IsFolderAt (folder_of path) contents None → own ≡ path ∷ [] → StandsFor (is_file contents path) contents path own
-  stands_alone own plain there is =
-      subst (λ (b : Bool). StandsFor b contents path own) (sym (ap (λ (b : Bool). if b then true else is_some (bytes_at contents (folder_of path))) plain ∙ there)) is
-
-  -- `-` is
-  pub dash_alone : (own : List (List ℕ)) → is_dash path ≡ true → own ≡ path ∷ [] → StandsFor (is_file contents path) contents path own
-  dash_alone own dash is = subst (λ (b : Bool). StandsFor b contents path own) (sym (ap (λ (b : Bool). if b then true else is_some (bytes_at contents (folder_of path))) dash)) is
-
-  -- a folder is there
-  pub stands_for : (own found : List (List ℕ)) → is_dash path ≡ false → IsFolderAt (folder_of path) contents (Some found) → length (names found []) ≤ max_files → own ≡ files_in path found
-      → StandsFor (is_file contents path) contents path own
-  stands_for own found plain at few is =
-      subst (λ (b : Bool). StandsFor b contents path own) (sym (ap (λ (b : Bool). if b then true else is_some (bytes_at contents (folder_of path))) plain ∙ at.0)) (found, at.1, few, is)
 
 -- ---- several
 append_none : (l : List (List ℕ)) → l ≡ l ++ []
@@ -114,9 +90,6 @@ none_more (x ∷ xs) ys a b =
     let parts = neither (is_dash x) (any_dash xs) a in
     not_both (is_dash x) (any_dash (xs ++ ys)) parts.0 (none_more xs ys parts.1 b)
 
-pub one_plain : (path : List ℕ) (own : List (List ℕ)) → own ≡ path ∷ [] → is_dash path ≡ false → any_dash own ≡ false
-one_plain path own is plain = ap any_dash is ∙ ap (λ b. b || false) plain
-
 pub member_plain : {X : Type 0} (f : X → List ℕ) (xs : List X) (i : ℕ) (x : X) → x ≡ get_or xs i x → i < length xs → any_dash (map f xs) ≡ false → is_dash (f x) ≡ false
 member_plain f [] i x is lt none = absurd (omega (arith, lt))
 member_plain f (y ∷ more) zero x is lt none = ap (λ p. is_dash (f p)) is ∙ (neither (is_dash (f y)) (any_dash (map f more)) none).0
@@ -133,30 +106,3 @@ paths_plain folder (c ∷ cs) = not_both (is_dash (path_in folder c.name)) (any_
 
 pub folder_plain : (folder : List ℕ) (cs : List Choice) (own : List (List ℕ)) → own ≡ map (λ (c : Choice). path_in folder c.name) cs → any_dash own ≡ false
 folder_plain folder cs own is = ap any_dash is ∙ paths_plain folder cs
-
--- ---- what a path stands for, by its folder's text files
-module _ (contents : Contents) (path : List ℕ) (found : List (List ℕ)) (at : IsFolderAt (folder_of path) contents (Some found)) where
-  pub folder_stands : (r : Result (Vec (String Global) Global) Refusal) → is_dash path ≡ false
-      → IfOk r (λ own. map string_bytes own.items ≡ files_in path found) → IfOk r (λ _. length (names found []) ≤ max_files)
-      → IfOk r (λ own. StandsFor (is_file contents path) contents path (map string_bytes own.items))
-  folder_stands (Ok own) plain is few = stands_for contents path (map string_bytes own.items) found plain at few is
-  folder_stands (Err e) plain is few = tt
-
-  folder_unread : (e : Refusal) → (e ≡ Plain Memory) ⊎ ((e ≡ Plain TooManyFiles) × (max_files < length (names found []))) → IsFolderUnread contents path e
-  folder_unread e (inl memory) = subst (IsFolderUnread contents path) (sym memory) (inl tt)
-  folder_unread e (inr many) = inr (many.0, (found, at.1, many.1))
-
-  pub folder_refused : (r : Result (Vec (String Global) Global) Refusal) → IfErr r (λ e. (e ≡ Plain Memory) ⊎ ((e ≡ Plain TooManyFiles) × (max_files < length (names found []))))
-      → IfErr r (IsFolderUnread contents path)
-  folder_refused (Ok own) refused = tt
-  folder_refused (Err e) refused = folder_unread e refused
-
--- these errors tell no path
-plain_reason : (Fails : List ℕ → Type 0) (contents : Contents) (T : Type 0) (e : Refusal) → (e ≡ Plain Memory) ⊎ ((e ≡ Plain TooManyFiles) × T) → HasReason Fails ⊥ contents e
-plain_reason Fails contents T e (inl memory) = subst (HasReason Fails ⊥ contents) (sym memory) tt
-plain_reason Fails contents T e (inr many) = subst (HasReason Fails ⊥ contents) (sym many.0) tt
-
-pub folder_reason : (Fails : List ℕ → Type 0) (contents : Contents) (T : Type 0) (r : Result (Vec (String Global) Global) Refusal) → IfErr r (λ e. (e ≡ Plain Memory) ⊎ ((e ≡ Plain TooManyFiles) × T))
-    → IfErr r (HasReason Fails ⊥ contents)
-folder_reason Fails contents T (Ok own) refused = tt
-folder_reason Fails contents T (Err e) refused = plain_reason Fails contents T e refused

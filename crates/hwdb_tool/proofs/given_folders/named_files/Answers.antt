@@ -1,4 +1,4 @@
-use Rattle.std.proofs.Common.{◌∙◌, ap, map, string_bytes, subst, take}
+use Rattle.std.proofs.Common.{◌∙◌, ap, map, string_bytes, subst}
 use Rattle.hwdb_spec.specs.CheckedFiles.{StandsFor, is_file}
 use Rattle.hwdb_spec.specs.Given.{any_dash, is_dash}
 use Rattle.hwdb_tool.specs.GivenFolders.{AreFoldersUnread, IsFolderUnread}
