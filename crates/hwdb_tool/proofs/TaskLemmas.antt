@@ -29,7 +29,7 @@ use Rattle.hwdb_query.specs.Laws.{SpellsOne}
 use Rattle.hwdb_print.specs.declared.form.Form.{Form}
 use Rattle.hwdb_print.specs.declared.form.Form.TheVariants as forms
 use Rattle.hwdb_print.specs.Streams.{texts_of}
-use Rattle.hwdb_spec.specs.CheckedFiles.{AreCheckedFiles}
+use Rattle.hwdb_spec.specs.CheckedFiles.{AreCheckedFiles, StandFor}
 use Rattle.hwdb_spec.specs.DeviceAsked.{IsDevicePrinted, IsOfDevice, device_form, device_list, device_meant}
 use Rattle.hwdb_spec.specs.DeviceTexts.{device_text}
 use Rattle.hwdb_spec.specs.DeviceTree.{Sight, sysfs_below}
@@ -141,7 +141,8 @@ named true (Some told) input P is h = h
 
 module _ (tree : (bytes : List ℕ) (t u : Tree) → IsDatabase bytes t → IsDatabase bytes u → t ≡ u)
     (form : (m : Map) (a b : List ℕ) → IsWritten m a → IsWritten m b → a ≡ b)
-    (spells : SpellsOne) (one_choice : ListingsGiveOneChoice) (one_reading : ListingsGiveOneReading) where
+    (spells : SpellsOne) (one_choice : ListingsGiveOneChoice) (one_reading : ListingsGiveOneReading)
+    (one_stand : (files : Contents) (given ps qs : List (List ℕ)) → StandFor files given ps → StandFor files given qs → ps ≡ qs) where
   output : (from_input : Bool) (root : List ℕ) (kind : Form) (devices : List (List ℕ)) (input : List ℕ) (files : Contents) (text text2 : List ℕ)
       → AreAnsweredFrom from_input root kind devices (Some input) files text → AreAnsweredFrom from_input root kind devices (Some input) files text2 → text ≡ text2
   output false root kind devices input files text text2 one two = one_answer tree root (texts_of kind devices) files text text2 one two
@@ -168,7 +169,9 @@ module _ (tree : (bytes : List ℕ) (t u : Tree) → IsDatabase bytes t → IsDa
       let same : choice one.etc one.usr ≡ choice two.etc two.usr = one_choice root files one.etc one.usr two.etc two.usr one.in_etc one.in_usr two.in_etc two.in_usr in
       one_sources xs ys (one.named ∙ ap (λ (cs : List Choice). map path_of cs) same ∙ sym two.named)
       (one.held ∙ ap (λ (cs : List Choice). map (λ c. bytes_at files (root ++ path_of c)) cs) same ∙ sym two.held)
-  sources (path ∷ more) root input files xs ys one two = one_given_sources input files xs ys (one.named ∙ sym two.named) one.held two.held
+  sources (path ∷ more) root input files xs ys one two =
+      let same : one.0 ≡ two.0 = one_stand files (path ∷ more) one.0 two.0 one.1 two.1 in
+      one_given_sources input files xs ys (one.2.named ∙ same ∙ sym two.2.named) one.2.held two.2.held
 
   -- what is printed of the nearest patterns
   nearest_one : (given : List (List ℕ)) (root : List ℕ) (print : List PatternAt → List ℕ) (input : List ℕ) (files : Contents) (text text2 : List ℕ)

@@ -26,6 +26,9 @@ pub fn answers_are_one()
     law_one_tree();
     law_one_written_form();
     positions_are_read_back();
+    names_are_those_that_count();
+    names_ascend();
+    one_ascending_list();
 }
 
 /// Two outcomes that a task may have over one input are the same, where both are done and leave out no file, but for leftovers
@@ -40,6 +43,9 @@ pub fn tasks_are_one<D: System>(first: &D, first_then: &D, second: &D, second_th
     law_one_tree();
     law_one_written_form();
     positions_are_read_back();
+    names_are_those_that_count();
+    names_ascend();
+    one_ascending_list();
 }
 
 /// Two outcomes that words may have over one input are the same, where what they ask for is done and leaves out no file, but
