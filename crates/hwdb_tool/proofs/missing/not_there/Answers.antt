@@ -1,4 +1,4 @@
-use Rattle.std.proofs.Common.{inr, refl, subst, sym, Bool, [], List, ℕ}
+use Rattle.std.proofs.Common.{inr, refl, subst, sym, Bool, []}
 use Rattle.hwdb_spec.specs.DeviceAsked.{no_device_text}
 use Rattle.hwdb_spec.specs.DeviceTree.{last_name, near_name}
 use Rattle.hwdb_sysfs.specs.Answers.{sight_by}
