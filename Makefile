@@ -139,7 +139,7 @@ check-peer: $(PROGRAM) out/libhwdb.so.0
 	tests/peer/peer out/hwdb
 	tests/peer/users out/hwdb
 	tests/peer/clients out/hwdb
-	tests/peer/device --kept
+	tests/peer/device out/hwdb
 	tests/peer/near out/hwdb
 	tests/peer/parse-hwdb
 
