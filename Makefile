@@ -115,9 +115,9 @@ try-over-proved:
 
 try-installed try-library: try-over-proved
 
-# Not tests/peer/device, which needs a network.
-try-device:
-	tests/run/device out/hwdb
+# Not those of tests/peer, which need a network.
+try-device try-near: try-%:
+	tests/run/$* out/hwdb
 
 try-documents try-definitions-page try-reading try-refused: try-%:
 	tests/*/$*
