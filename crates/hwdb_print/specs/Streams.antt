@@ -1,12 +1,14 @@
 -- What answering the devices of a text means, and what it refuses. Our choice.
-use Rattle.std.specs.Prelude.{ℕ, List, true, false, ◌≡◌, ◌<◌, ◌-◌, ◌∷◌, length, Option, None, Some, drop, take}
+use Rattle.std.specs.Prelude.{ℕ, List, true, false, ◌≡◌, ◌<◌, ◌-◌, ◌==◌, ◌⊎◌, ◌∷◌, if◌then◌else◌, length, Option, None, Some, drop, take}
 use Rattle.std.specs.Io.KnownBytes.{prepend_known}
 use Rattle.hwdb_spec.specs.Folders.{Source}
 use Rattle.hwdb_spec.specs.Json.{last_values_json, query_json}
 use Rattle.hwdb_spec.specs.ManyDevices.{explained_lines_json, explained_texts, explains_json, explains_text}
+use Rattle.hwdb_spec.specs.Outputs.{Wrote, WrotePrefix}
 use Rattle.hwdb_spec.specs.Texts.{devices_of, last_values_texts, queries_text}
 use Rattle.hwdb_spec.specs.Tree.{Tree}
 use Rattle.hwdb_spec.specs.Databases.{IsNoDatabase}
+use Rattle.hwdb_print.specs.AnsweredLines.{answered_lines, most_devices}
 use Rattle.hwdb_print.specs.declared.errors.ToolError.{ToolError}
 use Rattle.hwdb_print.specs.declared.errors.ToolError.TheVariants.{BadDatabase, Memory, Read, TooLong, TooManyLines, Write}
 use Rattle.hwdb_print.specs.declared.chunk.LineReader.{LineReader}
@@ -64,3 +66,26 @@ IsStreamRefusal bytes _ = ⊥
 abbrev pub IfBadDatabase : Type 0 → ToolError → Type 0
 IfBadDatabase P (BadDatabase fault) = P
 IfBadDatabase P _ = Unit {0}
+
+-- what ends answering after so many of all lines: too many were answered, or the next one is too long; nothing after all of them
+abbrev pub end_after : (answered all : ℕ) → Option ToolError
+end_after answered all = if answered == most_devices then Some TooManyLines else (if answered == all then None else Some TooLong)
+
+-- the error that ends answering these lines, if one does
+abbrev pub line_error : (lines : List (List ℕ)) → Option ToolError
+line_error lines = end_after (length (answered_lines lines)) (length lines)
+
+-- an error of the lines is that one
+abbrev pub IsLineError : ToolError → (ends : Option ToolError) → Type 0
+IsLineError TooLong ends = ends ≡ Some TooLong
+IsLineError TooManyLines ends = ends ≡ Some TooManyLines
+IsLineError error ends = Unit {0}
+
+-- What a sink took of the texts of such lines before an error. It is the text of each that is answered if the error is one of
+-- the lines, a prefix of it if the sink failed, and else that of some of them.
+abbrev pub IsPrintedBefore : ToolError → (Is : (lines : List (List ℕ)) (text : List ℕ) → Type 0) → (lines : List (List ℕ)) → (before now : Option (List ℕ)) → Type 0
+IsPrintedBefore (BadDatabase fault) Is lines before now = now ≡ before
+IsPrintedBefore TooLong Is lines before now = Wrote (Is (answered_lines lines)) before now
+IsPrintedBefore TooManyLines Is lines before now = Wrote (Is (answered_lines lines)) before now
+IsPrintedBefore Write Is lines before now = WrotePrefix (Is (answered_lines lines)) before now
+IsPrintedBefore error Is lines before now = (now ≡ before) ⊎ ((n : ℕ) × Wrote (Is (take n (answered_lines lines))) before now)

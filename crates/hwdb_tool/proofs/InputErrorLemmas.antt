@@ -154,10 +154,10 @@ ends_so : (root : List ℕ) (files : Contents) (path words : List ℕ) → IsAsk
 ends_so root files path words (inl etc) is = last_of (database_folder false root) words (sym etc ∙ is)
 ends_so root files path words (inr usr) is = last_of (database_folder true root) words (sym usr.0 ∙ is)
 
-asked_not_input : (root : List ℕ) (files : Contents) (path : List ℕ) → IsAskedPath root files path → path ≡ codes "standard input" → ⊥
+pub asked_not_input : (root : List ℕ) (files : Contents) (path : List ℕ) → IsAskedPath root files path → path ≡ codes "standard input" → ⊥
 asked_not_input root files path asked is = let e : 110 ≡ 116 = ends_so root files path (codes "standard input") asked is in omega (arith, e)
 
-asked_not_line : (root : List ℕ) (files : Contents) (path : List ℕ) → IsAskedPath root files path → path ≡ codes "a line of standard input" → ⊥
+pub asked_not_line : (root : List ℕ) (files : Contents) (path : List ℕ) → IsAskedPath root files path → path ≡ codes "a line of standard input" → ⊥
 asked_not_line root files path asked is = let e : 110 ≡ 116 = ends_so root files path (codes "a line of standard input") asked is in omega (arith, e)
 
 module _ (root : List ℕ) (fails : List ℕ → Type 0) (files : Contents) (input : Option (List ℕ)) (n m : ℕ) where

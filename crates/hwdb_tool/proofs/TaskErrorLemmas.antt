@@ -25,7 +25,7 @@ use Rattle.hwdb_print.specs.declared.form.Form.{Form}
 use Rattle.hwdb_print.specs.declared.form.Form.TheVariants as forms
 use Rattle.hwdb_fs.specs.declared.refusals.Refusal.{Refusal}
 use Rattle.hwdb_tool.specs.OneOutcome.{IsOneInput, ListingsGiveOneChoice, ListingsGiveOneReading, Scene, TellOne, scene_of}
-use Rattle.hwdb_tool.specs.OneRefusal.{DoneIsNoError, ErrorsAreOne, IsOfChecked, IsOfCompared, IsOfDatabase, IsOfListing, IsOfNamedFolder, IsOfWhatIsRead, IsOneEnd, IsOneError, NeverFails, IsCovered}
+use Rattle.hwdb_tool.specs.OneRefusal.{DoneEndsSo, EndAlike, IsOfChecked, IsOfCompared, IsOfDatabase, IsOfListing, IsOfNamedFolder, IsOfWhatIsRead, IsOneEnd, IsOneError, NeverFails, IsCovered}
 use Rattle.hwdb_tool.specs.Program.{IsTaskDone}
 use Rattle.hwdb_tool.specs.Queries.{AreAnsweredFrom, AreUnansweredFrom, IfNamed}
 use Rattle.hwdb_tool.specs.TaskRefusals.{IsNotDone, MayPrint}
@@ -272,7 +272,7 @@ module _ (header : OneHeader) (tree : OneTree) where
         one_out = same_told before.out before2.out now.out now2.out input.out left.out left2.out;
       }
 
-  pub errors_are_one : ListingsGiveOneChoice → ListingsGiveOneReading → OneStand → (fails fails_now fails2 fails2_now : List ℕ → Type 0) (left left_now left2 left2_now : Outcomes) → ErrorsAreOne fails fails_now fails2 fails2_now left left_now left2 left2_now
+  pub errors_are_one : ListingsGiveOneChoice → ListingsGiveOneReading → OneStand → (fails fails_now fails2 fails2_now : List ℕ → Type 0) (left left_now left2 left2_now : Outcomes) → EndAlike IsCovered fails fails_now fails2 fails2_now left left_now left2 left2_now
   errors_are_one choice reading stand fails fails_now fails2 fails2_now left left_now left2 left2_now = λ task root usr strict r r2 before now before2 now2 kind input is is2 not not2.
       let one = why fails fails_now left left_now root usr strict r before now is.of is.told is.listed input.err.bytes input.err.of_one stand task kind is.never is.named not in
       let two = why fails2 fails2_now left2 left2_now root usr strict r2 before2 now2 is2.of is2.told is2.listed input.err.bytes input.err.of_two stand task kind is2.never is2.named not2 in
@@ -318,7 +318,7 @@ module _ (header : OneHeader) (tree : OneTree) where
         (subst (λ (l : List Choice). AreAllRead root (without l root before.files.seen)) none less.read)
         (all_read root verbose strict skip status before.files done.0.err_then now.err place (inl kind) less) not
 
-  pub done_is_no_error : ListingsGiveOneChoice → ListingsGiveOneReading → OneStand → OneForm → (fails fails_now fails2 fails2_now : List ℕ → Type 0) (left left_now left2 left2_now : Outcomes) → DoneIsNoError fails fails_now fails2 fails2_now left left_now left2 left2_now
+  pub done_is_no_error : ListingsGiveOneChoice → ListingsGiveOneReading → OneStand → OneForm → (fails fails_now fails2 fails2_now : List ℕ → Type 0) (left left_now left2 left2_now : Outcomes) → DoneEndsSo IsCovered fails fails_now fails2 fails2_now left left_now left2 left2_now
   done_is_no_error choice reading stand form fails fails_now fails2 fails2_now left left_now left2 left2_now = λ task root usr strict status r before now before2 now2 kind input is done not.
       let two = why fails2 fails2_now left2 left2_now root usr strict r before2 now2 is.of is.told is.listed input.err.bytes input.err.of_two stand task kind is.never is.named not in
       let U2 = IsUnwritable (database_folder usr root) before2.files before2.failures now2.failures in

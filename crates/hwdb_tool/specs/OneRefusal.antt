@@ -58,8 +58,8 @@ IsOneError NoDatabase NoDatabase = Unit {0}
 IsOneError (InWords text) (InWords text2) = IsOneText text.items text2.items
 IsOneError refusal refusal2 = ⊥
 
--- The task leaves out no file that can't be read, and doesn't answer devices of standard input, each as it comes. It isn't `device`:
--- what is read of sysfs is no file of the law.
+-- The task leaves out no file that can't be read, and prints its answer at once. It isn't `device`: what is read of sysfs is no file of
+-- the law.
 abbrev pub IsCovered : Task → Type 0
 IsCovered (Update verbose skip) = skip ≡ false
 IsCovered (Query devices json) = is_input (map string_bytes devices.items) ≡ false
@@ -72,6 +72,14 @@ IsCovered (Diff old new) = Unit {0}
 IsCovered (Verify database) = Unit {0}
 IsCovered (Dump database) = Unit {0}
 IsCovered (Device path strings json pattern) = ⊥
+
+-- it answers devices of standard input, each as it comes
+abbrev pub IsStream : Task → Type 0
+IsStream task = streams task ≡ true
+
+-- the laws speak of the task
+abbrev pub IsOfLaw : Task → Type 0
+IsOfLaw task = IsCovered task ⊎ IsStream task
 
 -- the path is one of a database that is read: the given one, or without one that of /etc's or of /usr/lib's
 abbrev pub IsOfDatabase : (given : Option (List ℕ)) (root path : List ℕ) → Type 0
@@ -133,23 +141,29 @@ pub record IsOneEnd (refusal refusal2 : Refusal) (now now2 : Scene) : Type 0 whe
   pub one_out : now.out.bytes ≡ now2.out.bytes
 
 -- ---- laws
--- Such a task ends with one error over one input, if its errors come of what it reads. What a crash may leave, and which readings may
--- fail later, is any.
-abbrev pub ErrorsAreOne : (fails fails_now fails2 fails2_now : (path : List ℕ) → Type 0) (left left_now left2 left2_now : Outcomes) → Type 0
-ErrorsAreOne fails fails_now fails2 fails2_now left left_now left2 left2_now =
+-- Tasks of such a kind end with one error over one input, if their errors come of what they read. What a crash may leave, and which
+-- readings may fail later, is any.
+abbrev pub EndAlike : (Kind : Task → Type 0) (fails fails_now fails2 fails2_now : (path : List ℕ) → Type 0) (left left_now left2 left2_now : Outcomes) → Type 0
+EndAlike Kind fails fails_now fails2 fails2_now left left_now left2 left2_now =
     (task : Task) (root : List ℕ) (usr strict : Bool) (refusal refusal2 : Refusal) (before now before2 now2 : Scene)
-    → IsCovered task → IsOneInput before before2 → IsOfReading fails task root before now refusal → IsOfReading fails2 task root before2 now2 refusal2
+    → Kind task → IsOneInput before before2 → IsOfReading fails task root before now refusal → IsOfReading fails2 task root before2 now2 refusal2
     → IsNotDone task root usr strict (scene_of fails left before) (scene_of fails_now left_now now) refusal
     → IsNotDone task root usr strict (scene_of fails2 left2 before2) (scene_of fails2_now left2_now now2) refusal2
     → IsOneEnd refusal refusal2 now now2
 
--- And a task that may be done over that input doesn't end with such an error.
-abbrev pub DoneIsNoError : (fails fails_now fails2 fails2_now : (path : List ℕ) → Type 0) (left left_now left2 left2_now : Outcomes) → Type 0
-DoneIsNoError fails fails_now fails2 fails2_now left left_now left2 left2_now =
+abbrev pub ErrorsAreOne : (fails fails_now fails2 fails2_now : (path : List ℕ) → Type 0) (left left_now left2 left2_now : Outcomes) → Type 0
+ErrorsAreOne = EndAlike IsOfLaw
+
+-- And one that may be done over that input doesn't end with such an error.
+abbrev pub DoneEndsSo : (Kind : Task → Type 0) (fails fails_now fails2 fails2_now : (path : List ℕ) → Type 0) (left left_now left2 left2_now : Outcomes) → Type 0
+DoneEndsSo Kind fails fails_now fails2 fails2_now left left_now left2 left2_now =
     (task : Task) (root : List ℕ) (usr strict : Bool) (status : ℕ) (refusal : Refusal) (before now before2 now2 : Scene)
-    → IsCovered task → IsOneInput before before2 → IsOfReading fails2 task root before2 now2 refusal
+    → Kind task → IsOneInput before before2 → IsOfReading fails2 task root before2 now2 refusal
     → IsTaskDone task root usr strict status (scene_of fails left before) (scene_of fails_now left_now now)
     → IsNotDone task root usr strict (scene_of fails2 left2 before2) (scene_of fails2_now left2_now now2) refusal → ⊥
+
+abbrev pub DoneIsNoError : (fails fails_now fails2 fails2_now : (path : List ℕ) → Type 0) (left left_now left2 left2_now : Outcomes) → Type 0
+DoneIsNoError = DoneEndsSo IsOfLaw
 
 -- ---- of standard input
 -- the path is that of a folder that the words name, or of something in it
@@ -198,23 +212,29 @@ scene_then err scene = record { files = scene.files; failures = scene.failures; 
 
 -- Words that ask for such a task end with one status and one error over one input, if it comes of what is read. Before its line
 -- both outputs are the same.
-abbrev pub JobEndsInOneError : (fails fails_now fails2 fails2_now : (path : List ℕ) → Type 0) (left left_now left2 left2_now : Outcomes) → Type 0
-JobEndsInOneError fails fails_now fails2 fails2_now left left_now left2 left2_now =
+abbrev pub JobsEndAlike : (Kind : Task → Type 0) (fails fails_now fails2 fails2_now : (path : List ℕ) → Type 0) (left left_now left2 left2_now : Outcomes) → Type 0
+JobsEndAlike Kind fails fails_now fails2 fails2_now left left_now left2 left2_now =
     (words : List (List ℕ)) (status status2 : ℕ) (before now before2 now2 : Scene)
     → IsOneInput before before2
     → (one : IsJobRefused words status (scene_of fails left before) (scene_of fails_now left_now now))
     → (two : IsJobRefused words status2 (scene_of fails2 left2 before2) (scene_of fails2_now left2_now now2))
-    → IsCovered one.job.task
+    → Kind one.job.task
     → IsOfReading fails one.job.task (root_of one.job) before now one.refusal → IsOfReading fails2 two.job.task (root_of two.job) before2 now2 two.refusal
     → (status ≡ status2) × IsOneEnd one.refusal two.refusal (scene_then one.err_then now) (scene_then two.err_then now2)
 
+abbrev pub JobEndsInOneError : (fails fails_now fails2 fails2_now : (path : List ℕ) → Type 0) (left left_now left2 left2_now : Outcomes) → Type 0
+JobEndsInOneError = JobsEndAlike IsOfLaw
+
 -- What they ask for isn't done over an input over which it may end so.
-abbrev pub DoneJobIsNoError : (fails fails_now fails2 fails2_now : (path : List ℕ) → Type 0) (left left_now left2 left2_now : Outcomes) → Type 0
-DoneJobIsNoError fails fails_now fails2 fails2_now left left_now left2 left2_now =
+abbrev pub DoneJobEndsSo : (Kind : Task → Type 0) (fails fails_now fails2 fails2_now : (path : List ℕ) → Type 0) (left left_now left2 left2_now : Outcomes) → Type 0
+DoneJobEndsSo Kind fails fails_now fails2 fails2_now left left_now left2 left2_now =
     (words : List (List ℕ)) (status status2 : ℕ) (before now before2 now2 : Scene) → IsOneInput before before2
     → (done : IsJobDone words status (scene_of fails left before) (scene_of fails_now left_now now))
     → (refused : IsJobRefused words status2 (scene_of fails2 left2 before2) (scene_of fails2_now left2_now now2))
-    → IsCovered done.job.task → IsOfReading fails2 refused.job.task (root_of refused.job) before2 now2 refused.refusal → ⊥
+    → Kind done.job.task → IsOfReading fails2 refused.job.task (root_of refused.job) before2 now2 refused.refusal → ⊥
+
+abbrev pub DoneJobIsNoError : (fails fails_now fails2 fails2_now : (path : List ℕ) → Type 0) (left left_now left2 left2_now : Outcomes) → Type 0
+DoneJobIsNoError = DoneJobEndsSo IsOfLaw
 
 -- The root is entered, if looking at it can't fail, but for want of memory.
 abbrev pub RootIsEntered : (fails fails_now : (path : List ℕ) → Type 0) (left left_now : Outcomes) → Type 0
