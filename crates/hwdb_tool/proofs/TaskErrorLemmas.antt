@@ -80,7 +80,7 @@ never_named fails root files None never path (inl etc) fail = never path (inl et
 never_named fails root files None never path (inr usr) fail = never path (inr usr.0) fail
 never_named fails root files (Some given) never path is fail = never path is fail
 
-never_asked : (fails : List ℕ → Type 0) (root : List ℕ) (files : Contents) → ((path : List ℕ) → IsOfDatabase None root path → fails path → ⊥) → NeverNamed fails root files None
+pub never_asked : (fails : List ℕ → Type 0) (root : List ℕ) (files : Contents) → ((path : List ℕ) → IsOfDatabase None root path → fails path → ⊥) → NeverNamed fails root files None
 never_asked fails root files never = never_named fails root files None never
 
 -- ---- `check` and `near`
