@@ -23,12 +23,12 @@ use crate::errors::CompileError;
 use crate::sources::{ChosenFile, Compiled, FileFault, SourceFile, choose, with_bytes};
 use hwdb_query::compiled_answers_are_last;
 use hwdb_text::{Chosen, Fault, Given, scan};
-use hwdb_writer::{Tree, into_database};
+use hwdb_writer::{Assignments, into_database};
 use std::alloc::{AllocError, Global};
 
 /// Puts what a file with this path and priority gives into the tree, one after another.
 fn put_all<'t>(
-    tree: &mut Tree<'t>,
+    tree: &mut Assignments<'t>,
     path: &'t [u8],
     priority: u16,
     all: &[Given<'t>],
@@ -83,7 +83,7 @@ fn add_file<'t>(
     file: &Chosen,
     path: &'t [u8],
     bytes: &'t [u8],
-    tree: &mut Tree<'t>,
+    tree: &mut Assignments<'t>,
     faults: &mut Vec<FileFault>,
 ) -> Result<usize, CompileError>
     requires storable { IsStorableChoice (choice_of file.now) }
@@ -110,7 +110,7 @@ fn add_files<'t>(
     alloc: Global,
     files: &[ChosenFile<'t>],
     paths: &'t [String],
-    tree: &mut Tree<'t>,
+    tree: &mut Assignments<'t>,
     faults: &mut Vec<FileFault>,
 ) -> Result<usize, CompileError>
     requires storable { All IsStorableChoice (map choice_in files.now) }
@@ -166,7 +166,7 @@ pub fn compile_chosen(
     compiled_answers_are_last();
     let made = paths_of(alloc, files)?;
     let paths = made.as_slice();
-    let mut tree = Tree::new(alloc);
+    let mut tree = Assignments::new(alloc);
     let mut faults = Vec::new(alloc);
     let given = add_files(alloc, files, paths, &mut tree, &mut faults)?;
     let database = into_database(alloc, tree, max_bytes)?;

@@ -42,5 +42,5 @@ pub use errors::NearError;
 pub use found::PatternAt;
 pub use fronts::{Stop, stops};
 pub use laws::{stops_are_computed, worked_rows};
-pub use patterns::{TextFile, push_patterns};
+pub use patterns::{PatternFile, push_patterns};
 pub use printing::{near_json, near_text};

@@ -50,7 +50,7 @@ mod refill;
 mod spelling;
 mod start;
 
-pub use answer::{Answer, Explained};
+pub use answer::{Explained, StoredAssignment};
 pub use cursors::Cursor;
 pub use errors::{CursorError, PositionError};
 pub use explanations::explain;

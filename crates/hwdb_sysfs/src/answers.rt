@@ -5,7 +5,7 @@ ghost use Rattle.hwdb_spec.specs.DeviceTree as tree;
 ghost use Rattle.hwdb_sysfs.specs.Answers.{seen, told};
 ghost use Rattle.hwdb_sysfs.specs.Views.{node_of};
 
-use crate::files::{DeviceFiles, Node};
+use crate::files::{DeviceFiles, DeviceNode};
 use crate::paths::path_in;
 use hwdb_io::Cause;
 use std::alloc::{AllocError, Global};
@@ -99,7 +99,7 @@ pub fn uevent_of<F: DeviceFiles>(
 }
 
 /// The node at a place.
-pub fn node_at<F: DeviceFiles>(files: &F, place: &[u8]) -> Result<Option<Node>, AllocError>
+pub fn node_at<F: DeviceFiles>(files: &F, place: &[u8]) -> Result<Option<DeviceNode>, AllocError>
     ensures { F.tells → IfOk result (λ found. option_map node_of found
         ≡ (seen (F.answers files.now)).node place.now) }
 {

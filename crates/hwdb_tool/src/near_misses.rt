@@ -21,7 +21,7 @@ use crate::databases::asked;
 use crate::given::input_text;
 use hwdb_fs::{Refusal, System};
 use hwdb_io::Source;
-use hwdb_near::{NearError, TextFile, near_in_database, near_in_files};
+use hwdb_near::{NearError, PatternFile, near_in_database, near_in_files};
 use hwdb_print::ToolError;
 use std::alloc::{AllocError, Global};
 
@@ -140,13 +140,13 @@ fn near_given<D: System, I: Source>(
 fn compared<'a>(
     alloc: Global,
     files: &[hwdb_lint::TextFile<'a>],
-) -> Result<Vec<TextFile<'a>>, AllocError>
+) -> Result<Vec<PatternFile<'a>>, AllocError>
     ensures { IfOk result (λ list. map Views.source_of list.items
         ≡ map Checks.source_of files.now) }
 {
     let mut list = Vec::new(alloc);
     for file in files {
-        list.push(TextFile {
+        list.push(PatternFile {
             path: file.path.as_bytes(),
             bytes: file.bytes,
         })?;

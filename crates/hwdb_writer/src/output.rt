@@ -10,7 +10,7 @@ ghost use Rattle.hwdb_writer.specs.Internal.PostOrder.{tree_of, IsPostOrder};
 ghost use Rattle.hwdb_writer.specs.Internal.Stored.{IsAt, AreNodes, IsStored, IsLaidOut, IsMade};
 ghost use Rattle.hwdb_writer.specs.declared.output.StoreError.TheVariants.{Memory};
 
-use crate::assignments::Tree;
+use crate::assignments::Assignments;
 use crate::builder::post_order;
 use crate::entries::last_of_each;
 use crate::keyed::KeyedStr;
@@ -141,7 +141,7 @@ fn database_within(
 }
 
 /// The nodes of the tight tree of what was set, with strings by number. It consumes the tree, and frees what was set.
-fn stored_nodes<'t>(alloc: Global, tree: Tree<'t>) -> Result<Stored<'t>, AllocError>
+fn stored_nodes<'t>(alloc: Global, tree: Assignments<'t>) -> Result<Stored<'t>, AllocError>
     ensures { IfOk result (λ s. (es : List Setting) × (ns : List BuiltNode) × IsStored es ns s
         × IsMade tree.entry (tree_of es ns)) }
 {
@@ -158,7 +158,11 @@ fn stored_nodes<'t>(alloc: Global, tree: Tree<'t>) -> Result<Stored<'t>, AllocEr
 /// it is in proportion to n, however long they are.
 ///
 /// The errors are `TooLarge` if the database would be longer, and `Memory` at any allocation that fails.
-pub fn into_database(alloc: Global, tree: Tree<'_>, max_bytes: u32) -> Result<Vec<u8>, StoreError>
+pub fn into_database(
+    alloc: Global,
+    tree: Assignments<'_>,
+    max_bytes: u32,
+) -> Result<Vec<u8>, StoreError>
     // The bytes are the written form of the map, which is a database of a tree with that map.
     ensures written { IfOk result (λ v. IsWritten tree.entry v.items) }
     ensures database { IfOk result (λ v. IsDatabaseOf tree.entry v.items) }
@@ -177,7 +181,7 @@ pub fn into_database(alloc: Global, tree: Tree<'_>, max_bytes: u32) -> Result<Ve
 /// its list.
 ///
 /// The errors are `TooLarge` if the database would be longer, and `Memory` at any allocation that fails.
-pub fn write(alloc: Global, tree: &Tree<'_>, max_bytes: u32) -> Result<Vec<u8>, StoreError>
+pub fn write(alloc: Global, tree: &Assignments<'_>, max_bytes: u32) -> Result<Vec<u8>, StoreError>
     // The bytes are the written form of the map, which is a database of a tree with that map.
     ensures written { IfOk result (λ v. IsWritten tree.now v.items) }
     ensures database { IfOk result (λ v. IsDatabaseOf tree.now v.items) }

@@ -3,7 +3,7 @@ use Rattle.std.proofs.lemmas.List.{map-append}
 use Rattle.hwdb_near.specs.Views.{pattern_at}
 use Rattle.hwdb_near.specs.Internal.Ratings.{rated_of}
 use Rattle.hwdb_near.proofs.NearestLemmas.{hit_put, miss_put}
-use Rattle.hwdb_near.proofs.nearest.Found.put.Goals as goal
+use Rattle.hwdb_near.proofs.nearest.FoundPatterns.put.Goals as goal
 
 pub returns-then-is_hit-clause-nearest : goal.returns-then-is_hit-clause-nearest
 returns-then-is_hit-clause-nearest c =

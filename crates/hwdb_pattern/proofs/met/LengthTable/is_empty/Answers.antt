@@ -1,7 +1,7 @@
 use Rattle.std.proofs.Common.{List, Bool, ap, ◌∙◌, ◌==◌, length}
 use Rattle.hwdb_pattern.specs.Internal.Tables.{said}
 use Rattle.hwdb_pattern.proofs.TableLemmas.{empty_said}
-use Rattle.hwdb_pattern.proofs.met.Table.is_empty.Goals as goal
+use Rattle.hwdb_pattern.proofs.met.LengthTable.is_empty.Goals as goal
 
 pub returns : goal.returns
 returns c =

@@ -4,7 +4,7 @@ use Rattle.std.proofs.lemmas.List.{take_rest}
 use Rattle.std.proofs.lemmas.List.Elements.{All-contains}
 use Rattle.hwdb_pattern.specs.Internal.Tables.{said}
 use Rattle.hwdb_pattern.proofs.TableLemmas.{said_has, said_nothing, said_on}
-use Rattle.hwdb_pattern.proofs.met.Table.copied.Goals as goal
+use Rattle.hwdb_pattern.proofs.met.LengthTable.copied.Goals as goal
 
 pub overflow_add-result : goal.overflow_add-result
 overflow_add-result c =

@@ -3,7 +3,7 @@ use Rattle.hwdb_spec.specs.Patterns.{admits_byte, token_at}
 use Rattle.hwdb_pattern.specs.Views.{NoneTakes}
 use Rattle.hwdb_pattern.specs.Internal.Tables.{SomeAt, passes_at, said}
 use Rattle.hwdb_pattern.proofs.TableLemmas.{none_takes, some_takes}
-use Rattle.hwdb_pattern.proofs.met.Table.takes.Goals as goal
+use Rattle.hwdb_pattern.proofs.met.LengthTable.takes.Goals as goal
 
 pub returns-clause-none : goal.returns-clause-none
 returns-clause-none c = λ e.

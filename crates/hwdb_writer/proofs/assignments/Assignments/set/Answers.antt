@@ -4,7 +4,7 @@ use Rattle.hwdb_writer.specs.Internal.Storable.{IsText}
 use Rattle.std.specs.List.{AllByRecursion}
 use Rattle.hwdb_writer.specs.Internal.Entries.{IsStorableEntry}
 use Rattle.hwdb_writer.proofs.StorableLemmas.{value_sound, entries_more}
-use Rattle.hwdb_writer.proofs.assignments.Tree.set.Goals as goal
+use Rattle.hwdb_writer.proofs.assignments.Assignments.set.Goals as goal
 
 pub invariant_of-self-2 : goal.invariant_of-self-2
 invariant_of-self-2 c =

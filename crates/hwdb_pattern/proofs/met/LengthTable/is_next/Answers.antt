@@ -3,7 +3,7 @@ use Rattle.hwdb_spec.specs.Patterns.{admits_byte, literal}
 use Rattle.hwdb_pattern.specs.Views.{NoneTakes}
 use Rattle.hwdb_pattern.specs.Internal.Tables.{SomeAt, passes_at, said}
 use Rattle.hwdb_pattern.proofs.TableLemmas.{none_takes}
-use Rattle.hwdb_pattern.proofs.met.Table.is_next.Goals as goal
+use Rattle.hwdb_pattern.proofs.met.LengthTable.is_next.Goals as goal
 
 pub returns : goal.returns
 returns c = λ e.

@@ -3,7 +3,7 @@ use Rattle.std.specs.Prelude.{Contains, All}
 use Rattle.std.proofs.lemmas.List.Elements.{All-contains}
 use Rattle.hwdb_pattern.specs.Internal.Tables.{said}
 use Rattle.hwdb_pattern.proofs.TableLemmas.{said_has, least_said, said_nothing}
-use Rattle.hwdb_pattern.proofs.met.Table.first.Goals as goal
+use Rattle.hwdb_pattern.proofs.met.LengthTable.first.Goals as goal
 
 pub overflow_add-result : goal.overflow_add-result
 overflow_add-result c =

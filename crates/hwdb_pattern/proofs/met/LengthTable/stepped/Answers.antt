@@ -3,7 +3,7 @@ use Rattle.hwdb_spec.specs.Patterns.{token_at}
 use Rattle.hwdb_pattern.specs.Internal.Prefixes.{Steps}
 use Rattle.hwdb_pattern.specs.Internal.Tables.{said}
 use Rattle.hwdb_pattern.proofs.TableLemmas.{steps_kept, written_back}
-use Rattle.hwdb_pattern.proofs.met.Table.stepped.Goals as goal
+use Rattle.hwdb_pattern.proofs.met.LengthTable.stepped.Goals as goal
 
 pub returns : goal.returns
 returns c =

@@ -2,7 +2,7 @@ use Rattle.std.proofs.Common.{List, Bool, arith, subst, sym}
 use Rattle.std.specs.Prelude.{Contains}
 use Rattle.hwdb_pattern.specs.Internal.Tables.{said}
 use Rattle.hwdb_pattern.proofs.TableLemmas.{said_after, said_at, said_there}
-use Rattle.hwdb_pattern.proofs.met.Table.contains.Goals as goal
+use Rattle.hwdb_pattern.proofs.met.LengthTable.contains.Goals as goal
 
 pub returns-then-n-self : goal.returns-then-n-self
 returns-then-n-self c = (λ h. cc, λ h. absurd (said_after c.args.self.now.least c.args.n c.args.self.now.says.items c.if-n-self.true h))
