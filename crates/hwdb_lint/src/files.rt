@@ -57,7 +57,7 @@ pub fn reports_of(
         faults.now) }
 {
     let mut text = Vec::new(alloc);
-    let mut start = first_start(bytes);
+    let mut start = first_start();
     for fault in faults {
         let (found, line) = find_line(bytes, start, fault.line);
         start = found;
