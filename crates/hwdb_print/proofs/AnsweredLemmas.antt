@@ -7,20 +7,21 @@ use Rattle.std.specs.Io.KnownBytes.{Appends, IsAtEnd, prepend_known}
 use Rattle.std.specs.List.{position_or_len}
 use Rattle.std.specs.Prelude.{Any, flat_map}
 use Rattle.std.specs.Result.{IsErrAnd}
-use Rattle.hwdb_io.specs.declared.errors.ReadError.{ReadError}
-use Rattle.hwdb_io.specs.declared.errors.ReadError.TheVariants as reading
+use Rattle.hwdb_spec.specs.declared.errors.ReadError.{ReadError}
+use Rattle.hwdb_spec.specs.declared.errors.ReadError.TheVariants as reading
 use Rattle.hwdb_spec.specs.Lines.{is}
 use Rattle.hwdb_spec.specs.ManyDevices.{HasLongLine}
 use Rattle.hwdb_spec.specs.Outputs.{AppendsPrefix, Wrote, WrotePrefix}
 use Rattle.hwdb_spec.specs.Texts.{devices_of, max_file}
 use Rattle.hwdb_spec.specs.Tree.{Tree}
-use Rattle.hwdb_print.specs.AnsweredLines.{answered_lines, before_long, is_long, most_devices}
+use Rattle.hwdb_spec.specs.AnsweredLines.{IsLineError, IsPrintedBefore, answered_lines, before_long, end_after, is_long, line_error, most_devices}
 use Rattle.hwdb_print.specs.Internal.{answer_text, texts_from}
-use Rattle.hwdb_print.specs.Refusals.{refusal_of_read}
-use Rattle.hwdb_print.specs.Streams.{IsFirstLine, IsLineError, IsPrintedBefore, end_after, line_error, texts_of}
-use Rattle.hwdb_print.specs.declared.errors.ToolError.{ToolError}
-use Rattle.hwdb_print.specs.declared.errors.ToolError.TheVariants.{BadDatabase, BadPosition, Memory, Read, Replace, TooLarge, TooLong, TooManyFiles, TooManyLines, Write}
-use Rattle.hwdb_print.specs.declared.form.Form.{Form}
+use Rattle.hwdb_spec.specs.Errors.{refusal_of_read}
+use Rattle.hwdb_print.specs.Streams.{IsFirstLine}
+use Rattle.hwdb_spec.specs.Streams.{texts_of}
+use Rattle.hwdb_spec.specs.declared.errors.ToolError.{ToolError}
+use Rattle.hwdb_spec.specs.declared.errors.ToolError.TheVariants.{BadDatabase, BadPosition, Memory, Read, Replace, TooLarge, TooLong, TooManyFiles, TooManyLines, Write}
+use Rattle.hwdb_spec.specs.declared.form.Form.{Form}
 use Rattle.hwdb_print.proofs.LineLemmas.{IsFirstLong, first_long, long_behind, long_line, no_lines}
 use Rattle.hwdb_print.proofs.StreamLemmas.{next_text, no_text}
 use Rattle.hwdb_print.proofs.TextLemmas.{part_text, part_texts}

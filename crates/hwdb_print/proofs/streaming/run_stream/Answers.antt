@@ -3,7 +3,7 @@ use Rattle.std.proofs.lemmas.Result.{on_ok_weaker}
 use Rattle.std.specs.Io.KnownBytes.{Appends}
 use Rattle.hwdb_spec.specs.Databases.{IsTextOf}
 use Rattle.hwdb_spec.specs.Texts.{devices_of}
-use Rattle.hwdb_print.specs.Streams.{texts_of}
+use Rattle.hwdb_spec.specs.Streams.{texts_of}
 use Rattle.hwdb_print.proofs.AnsweredLemmas.{told_before}
 use Rattle.hwdb_print.proofs.StreamLemmas.{same_answers, some_weaker}
 use Rattle.hwdb_print.proofs.streaming.run_stream.Goals as goal
