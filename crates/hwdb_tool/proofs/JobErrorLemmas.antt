@@ -32,7 +32,7 @@ use Rattle.hwdb_tool.proofs.DatabaseErrorLemmas.{OneHeader, OneTree, Undumped, U
 use Rattle.hwdb_tool.proofs.AskErrorLemmas.{OneForm, Unasked}
 use Rattle.hwdb_tool.proofs.DiffErrorLemmas.{Undiffed}
 use Rattle.hwdb_tool.proofs.JobLemmas.{apart, cut_last, is_named, one_value, one_values, same_root, word_of}
-use Rattle.hwdb_tool.proofs.TaskErrorLemmas.{IsLeftThen, Unchecked, Uncompared, Why, end_of, not_both_ends, said_first, why}
+use Rattle.hwdb_tool.proofs.TaskErrorLemmas.{IsLeftThen, OneStand, Unchecked, Uncompared, Why, end_of, not_both_ends, said_first, why}
 
 -- two tasks that the same words ask for
 module _ (name : Text) (inner : List Row) where
@@ -167,7 +167,7 @@ pub root_is_entered : (fails fails_now : List ℕ → Type 0) (left left_now : O
 root_is_entered fails fails_now left left_now = λ words status before now refused never of.
     entered fails before.files refused.unread.0 never refused.refusal refused.unread.3 refused.reason of
 
-module _ (header : OneHeader) (tree : OneTree) (choice : ListingsGiveOneChoice) (reading : ListingsGiveOneReading) (stand : (files : Contents) (given ps qs : List (List ℕ)) → StandFor files given ps → StandFor files given qs → ps ≡ qs) (fails fails_now fails2 fails2_now : List ℕ → Type 0) (left left_now left2 left2_now : Outcomes) where
+module _ (header : OneHeader) (tree : OneTree) (choice : ListingsGiveOneChoice) (reading : ListingsGiveOneReading) (stand : OneStand) (fails fails_now fails2 fails2_now : List ℕ → Type 0) (left left_now left2 left2_now : Outcomes) where
   pub one_job_error : JobsEndAlike IsCovered fails fails_now fails2 fails2_now left left_now left2 left2_now
   one_job_error = λ words status status2 before now before2 now2 input one two kind is is2.
       let top = matches_of hwdb_app words in

@@ -4,7 +4,7 @@ use Rattle.std.specs.Prelude.{◌++◌, ◌<◌, ◌∷◌, ◌≡◌, ◌⊎◌
 use Rattle.hwdb_spec.specs.Asked.{database_path}
 use Rattle.hwdb_spec.specs.Failures.{HasFailed}
 use Rattle.hwdb_spec.specs.Given.{is_input}
-use Rattle.hwdb_spec.specs.System.{etc_files, usr_files}
+use Rattle.hwdb_spec.specs.System.{bytes_at, etc_files, usr_files}
 use Rattle.hwdb_spec.specs.ManyDevices.{HasLongLine}
 use Rattle.hwdb_spec.specs.Texts.{max_file}
 use Rattle.hwdb_spec.specs.Verdicts.{verdict_text}
@@ -18,7 +18,6 @@ use Rattle.hwdb_spec.specs.declared.job.Task.TheVariants.{Ask, Check, Device, Di
 use Rattle.hwdb_spec.specs.Runs.{Told}
 use Rattle.hwdb_spec.specs.CheckedFiles.{StandFor, folder_of}
 use Rattle.hwdb_spec.specs.Store.{Contents, Outcomes, path_in}
-use Rattle.hwdb_spec.specs.GivenFolders.{AreFoldersUnread}
 use Rattle.hwdb_tool.specs.OneOutcome.{IsOneInput, Scene, scene_of}
 use Rattle.hwdb_spec.specs.Program.{IsJobDone, IsTaskDone, reads_input, root_of, streams}
 use Rattle.hwdb_spec.specs.TaskRefusals.{AreRefused, IsJobRefused, IsNotDone, IsRootRefused}
@@ -119,9 +118,10 @@ NeverFails fails task root = (path : List ℕ) → MayRead task root path → fa
 abbrev pub IsOfListing : (root : List ℕ) → Refusal → Type 0
 IsOfListing root refusal = IsOver TooLong (etc_files root) refusal ⊎ IsOver TooLong (usr_files root) refusal
 
--- the error is that of a folder that the words of `check` name: it can't be listed, or has too many text files
+-- the same of a folder that the words of `check` name: no file is there
 abbrev pub IsOfNamedFolder : Task → Contents → Refusal → Type 0
-IsOfNamedFolder (Check files allowed json) contents refusal = AreFoldersUnread contents (map string_bytes files.items) refusal
+IsOfNamedFolder (Check files allowed json) contents refusal =
+    (path : List ℕ) × Contains (map string_bytes files.items) path × IsOver TooLong (folder_of path) refusal × (bytes_at contents (folder_of path) ≡ None)
 IsOfNamedFolder task contents refusal = ⊥
 
 -- The error of a task comes of what it reads: no reading may fail, and none of standard input has. Memory was granted, both
