@@ -34,6 +34,7 @@
 //! | `Checks` | what `check` prints, how much it finds, and its status |
 //! | `Progress` | what `update` says of its work |
 //! | `ManyDevices` | what `explain` prints of several devices, and a line of devices that is too long |
+//! | `AnsweredLines` | which lines of standard input are answered, and what was printed before an error |
 //! | `LoneFile` | one text file alone, as `ask` reads it and `dump` writes it |
 //! | `Databases` | what bytes of databases give, and what is so of bytes that are none |
 //! | `Failures` | how failed calls are counted |

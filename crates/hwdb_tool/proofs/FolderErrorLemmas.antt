@@ -122,8 +122,11 @@ module _ (fails : List ℕ → Type 0) (files : Contents) (input : Option (List 
       → IsOfWhatIsRead r → (IsListing r → ⊥) → IsGivenUnread paths r
   file_unread (At Read at cause) path paths in_given u (inl none) of listing = absurd none
   file_unread (At Read at cause) path paths in_given u (inr (inl file)) of listing =
-      inr (at.items, subst (λ (l : List (List ℕ)). Contains l at.items) (sym file.1.0.are) (Contains-append_right file.1.0.before (at.items ∷ file.1.0.after) at.items (0, omega arith, refl)),
-      plain_path (is_dash at.items) at.items file.1.0.plain)
+      inr (
+        at.items,
+        subst (λ (l : List (List ℕ)). Contains l at.items) (sym file.1.0.are) (Contains-append_right file.1.0.before (at.items ∷ file.1.0.after) at.items (0, omega arith, refl)),
+        plain_path (is_dash at.items) at.items file.1.0.plain,
+      )
   file_unread (At Read at cause) path paths in_given u (inr (inr told)) of listing = absurd (whole told.1.1)
   file_unread (At TooLong at cause) path paths in_given u has of listing = absurd (listing (path, in_given, (refl, u.0), u.1))
   file_unread (At Write at cause) path paths in_given u has of listing = absurd of

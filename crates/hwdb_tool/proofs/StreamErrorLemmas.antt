@@ -275,9 +275,9 @@ module _ (header : OneHeader) where
         let taken = input.out.bytes in
         let first = subst (λ (o : Option (List ℕ)). WhyStream form root told before.files r o now.out.bytes) input.out.of_one one in
         let second = subst (λ (o : Option (List ℕ)). WhyStream form root told before.files r2 o now2.out.bytes) input.out.of_two
-            (subst (λ (f : Contents). WhyStream form root told f r2 before2.out.bytes now2.out.bytes) input.files
-            (subst (λ (p : List ℕ). WhyStream form p told before2.files r2 before2.out.bytes now2.out.bytes) same_root
-            (subst (λ (k : Form). WhyStream k root2 told before2.files r2 before2.out.bytes now2.out.bytes) same_form two))) in
+        (subst (λ (f : Contents). WhyStream form root told f r2 before2.out.bytes now2.out.bytes) input.files
+        (subst (λ (p : List ℕ). WhyStream form p told before2.files r2 before2.out.bytes now2.out.bytes) same_root
+        (subst (λ (k : Form). WhyStream k root2 told before2.files r2 before2.out.bytes now2.out.bytes) same_form two))) in
         let ends = one_end tree form root told before.files r r2 taken now.out.bytes now2.out.bytes first second in
         record {
           one_error = ends.0;
