@@ -26,7 +26,7 @@ use Rattle.hwdb_spec.specs.Queries.{AreAnswered, IfNamed, IsQuiet}
 use Rattle.hwdb_spec.specs.Done.{IsAsked, IsLeftByUpdateLess}
 use Rattle.hwdb_spec.specs.HidingTold.{IsUpdatedTelling}
 
--- the root in front of each path; nothing where none was given
+-- the root in front of each path; nothing if none was given
 abbrev pub root_of : Job → List ℕ
 root_of job = option_map_or string_bytes job.root []
 
