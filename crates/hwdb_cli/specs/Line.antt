@@ -1,4 +1,4 @@
--- The command line of hwdb, as the command that `clap` is given: systemd-hwdb(8), with `explain`, `ask`, `list`, `near`, `device`, `check`, `diff`, `verify` and `dump` of our own.
+-- The command line of hwdb, as the command that `clap` is given: systemd-hwdb(8), with `explain`, `ask`, `list`, `near`, `device`, `check`, `test`, `diff`, `verify` and `dump` of our own.
 -- `clap` adds the options for help and the version, and the command `help`.
 use Rattle.std.specs.Prelude.{Some, codes, true}
 use Rattle.clap.specs.Walk.{Rule}
@@ -37,6 +37,14 @@ old_database_rule = record (new_rule (codes "OLD")) { required = true; action = 
 
 abbrev pub new_database_rule : Rule
 new_database_rule = record (new_rule (codes "NEW")) { required = true; action = Some Set }
+
+-- test files, one or more
+abbrev pub test_files_rule : Rule
+test_files_rule = record (new_rule (codes "FILE")) { required = true; action = Some Append }
+
+-- the database that is asked in place of that of both folders
+abbrev pub database_option_rule : Rule
+database_option_rule = record (new_rule (codes "database")) { value_names = 1; long = Some (codes "database"); action = Some Set }
 
 -- a database, or none
 abbrev pub database_rule : Rule
@@ -104,6 +112,9 @@ device_app = with_rule (with_rule (with_rule (with_rule (with_shared (new_app (c
 abbrev pub check_app : App
 check_app = with_rule (with_rule (with_rule (with_shared (new_app (codes "check"))) allow_rule) json_rule) files_rule
 
+abbrev pub test_app : App
+test_app = with_rule (with_rule (with_rule (with_shared (new_app (codes "test"))) database_option_rule) json_rule) test_files_rule
+
 abbrev pub diff_app : App
 diff_app = with_rule (with_rule (with_shared (new_app (codes "diff"))) old_database_rule) new_database_rule
 
@@ -120,9 +131,9 @@ top_app = on_top (λ (s : Shape). record s { has_version = true; subcommand_requ
 abbrev pub with_answers : App → App
 with_answers app = with_subcommand (with_subcommand (with_subcommand (with_subcommand (with_subcommand (with_subcommand app query_app.top) explain_app.top) ask_app.top) list_app.top) near_app.top) device_app.top
 
--- the four commands that look at files and databases
+-- the five commands that look at files and databases
 abbrev pub with_inspections : App → App
-with_inspections app = with_subcommand (with_subcommand (with_subcommand (with_subcommand app check_app.top) diff_app.top) verify_app.top) dump_app.top
+with_inspections app = with_subcommand (with_subcommand (with_subcommand (with_subcommand (with_subcommand app check_app.top) test_app.top) diff_app.top) verify_app.top) dump_app.top
 
 abbrev pub hwdb_app : App
 hwdb_app = with_inspections (with_answers (with_subcommand top_app update_app.top))

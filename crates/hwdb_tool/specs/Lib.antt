@@ -12,6 +12,8 @@ pub mod ComparedDatabases
 pub mod Internal
 pub mod NamedDatabases
 pub mod NearMisses
+pub mod Tested
+pub mod Trials
 pub mod Devices
 pub mod Hiding
 pub mod Colours
