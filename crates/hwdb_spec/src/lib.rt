@@ -56,6 +56,8 @@
 //! | `Near` | the pattern that almost matched a device, and where it stopped |
 //! | `NearAsked` | which patterns `near` compares with a device: those of text files, or of a database |
 //! | `Wanted` | test files, whether a database gives what they want, and what `test` prints |
+//! | `Tested` | which test files `test` tries, and over which database |
+//! | `TestErrors` | what `test` refuses, and when |
 //! | `Colours` | how a text is shown in colour |
 //! | `Inputs` | what kinds of input device udev sees in one |
 //! | `Lookups` | the strings that udev's rules ask for a device, in their order |
@@ -69,12 +71,27 @@ ghost use Rattle.std.specs.Prelude.{◌≡◌};
 ghost use Rattle.hwdb_spec.specs.Records.{fault_text};
 ghost use Rattle.hwdb_spec.specs.Texts.{db_fault_name, db_fault_offset};
 
+mod attributes;
+mod causes;
 mod colours;
 mod devices;
+mod errors;
+mod form;
+mod job;
+mod refusals;
 mod vocabulary;
 
+pub use attributes::ATTRIBUTES;
+pub use causes::{Cause, Message};
 pub use colours::{LinePart, Style, TextKind};
 pub use devices::DeviceForm;
+pub use errors::{
+    CompileError, CursorError, DeviceFailed, DiffError, DumpError, NearError, PositionError,
+    ReadError, ScanError, SelectError, StoreError, ToolError, Unreplaced, VerifyError,
+};
+pub use form::Form;
+pub use job::{Job, Task, WordsFault};
+pub use refusals::Refusal;
 use std::{error, fmt};
 pub use vocabulary::{COMPANIONS, KEY_NAMES, Misuse, PROPERTIES, ValueForm};
 

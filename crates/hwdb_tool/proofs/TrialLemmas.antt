@@ -6,15 +6,15 @@ use Rattle.hwdb_spec.specs.CheckedFiles.{AreGivenFiles}
 use Rattle.hwdb_spec.specs.Folders.{Source}
 use Rattle.hwdb_spec.specs.Runs.{OnOut}
 use Rattle.hwdb_spec.specs.Store.{Contents}
-use Rattle.hwdb_lint.specs.Checks.{IsCheckRefusal}
-use Rattle.hwdb_print.specs.Refusals.{refusal_of_scan}
-use Rattle.hwdb_text.specs.declared.outcome.ScanError.{ScanError}
-use Rattle.hwdb_text.specs.declared.outcome.ScanError.TheVariants as scan
-use Rattle.hwdb_fs.specs.Refusals.{HasReason}
-use Rattle.hwdb_fs.specs.declared.refusals.Refusal.{Refusal}
-use Rattle.hwdb_tool.specs.Tested.{IsTested, IsVerdict}
-use Rattle.hwdb_tool.specs.Trials.{AreUntried, HasTestReason, IsTestRefused, IsTrialRefusal}
-use Rattle.hwdb_tool.specs.Undone.{IsUnreadableIf}
+use Rattle.hwdb_spec.specs.CheckErrors.{IsCheckRefusal}
+use Rattle.hwdb_spec.specs.Errors.{refusal_of_scan}
+use Rattle.hwdb_spec.specs.declared.errors.ScanError.{ScanError}
+use Rattle.hwdb_spec.specs.declared.errors.ScanError.TheVariants as scan
+use Rattle.hwdb_spec.specs.Refusals.{HasReason}
+use Rattle.hwdb_spec.specs.declared.refusals.Refusal.{Refusal}
+use Rattle.hwdb_spec.specs.Tested.{IsTested, IsVerdict}
+use Rattle.hwdb_spec.specs.TestErrors.{AreUntried, HasTestReason, IsTestRefused, IsTrialRefusal}
+use Rattle.hwdb_spec.specs.Undone.{IsUnreadableIf}
 use Rattle.hwdb_tool.specs.Views.{texts_in}
 use Rattle.hwdb_tool.specs.declared.answer.Answer.{Answer}
 

@@ -1,13 +1,13 @@
 //! `test`: test files that are tried over a database. Nothing is written.
 ghost use Rattle.std.specs.Prelude.{◌≡◌, false, is_some, map, option_map, string_bytes, IfErr, IfOk};
-ghost use Rattle.hwdb_fs.specs.Refusals.{HasReason};
+ghost use Rattle.hwdb_spec.specs.Refusals.{HasReason};
 ghost use Rattle.hwdb_lint.specs.Checks.{source_of};
 ghost use Rattle.hwdb_spec.specs.Asked.{IsPrinted};
 ghost use Rattle.hwdb_spec.specs.Given.{any_dash};
 ghost use Rattle.hwdb_spec.specs.Runs.{OnOut};
-ghost use Rattle.hwdb_tool.specs.Tested.{IsTested, IsVerdict};
-ghost use Rattle.hwdb_tool.specs.Trials.{AreUntried, HasTestReason, IsTestRefused, IsTrialRefusal};
-ghost use Rattle.hwdb_tool.specs.Undone.{IsUnreadableIf};
+ghost use Rattle.hwdb_spec.specs.Tested.{IsTested, IsVerdict};
+ghost use Rattle.hwdb_spec.specs.TestErrors.{AreUntried, HasTestReason, IsTestRefused, IsTrialRefusal};
+ghost use Rattle.hwdb_spec.specs.Undone.{IsUnreadableIf};
 ghost use Rattle.hwdb_tool.specs.Views.{texts_in};
 
 use crate::answer::Answer;

@@ -3,7 +3,7 @@ use Rattle.std.specs.Prelude.{option_map}
 use Rattle.std.proofs.lemmas.List.Elements.{All-map}
 use Rattle.hwdb_lint.specs.Checks.{source_of}
 use Rattle.hwdb_spec.specs.Given.{any_dash}
-use Rattle.hwdb_tool.specs.Trials.{HasTestReason}
+use Rattle.hwdb_spec.specs.TestErrors.{HasTestReason}
 use Rattle.hwdb_tool.proofs.CheckLemmas.{IsShort, given_sources, told_of}
 use Rattle.hwdb_tool.proofs.ErrorLemmas.{given_error}
 use Rattle.hwdb_tool.proofs.GivenLemmas.{files_reason, input_read, whole_reason}
