@@ -1,27 +1,18 @@
 -- What `test` reads, and what it refuses.
-use Rattle.std.proofs.Common.{◌≡◌, inl, inr, ℕ, Bool, true, List, Option, Result, Ok, Err, IfErr, IfOk}
+use Rattle.std.proofs.Common.{inr, ℕ, Bool, List, Option, Result, Ok, Err, IfErr, IfOk}
 use Rattle.std.specs.Prelude.{is_some}
 use Rattle.hwdb_spec.specs.Asked.{IsPrinted}
 use Rattle.hwdb_spec.specs.CheckedFiles.{AreGivenFiles}
 use Rattle.hwdb_spec.specs.Folders.{Source}
 use Rattle.hwdb_spec.specs.Runs.{OnOut}
 use Rattle.hwdb_spec.specs.Store.{Contents}
-use Rattle.hwdb_spec.specs.CheckErrors.{IsCheckRefusal}
-use Rattle.hwdb_spec.specs.Errors.{refusal_of_scan}
-use Rattle.hwdb_spec.specs.declared.errors.ScanError.{ScanError}
-use Rattle.hwdb_spec.specs.declared.errors.ScanError.TheVariants as scan
 use Rattle.hwdb_spec.specs.Refusals.{HasReason}
 use Rattle.hwdb_spec.specs.declared.refusals.Refusal.{Refusal}
 use Rattle.hwdb_spec.specs.Tested.{IsTested, IsVerdict}
-use Rattle.hwdb_spec.specs.TestErrors.{AreUntried, HasTestReason, IsTestRefused, IsTrialRefusal}
+use Rattle.hwdb_spec.specs.TestErrors.{AreUntried, HasTestReason, IsTestRefused}
 use Rattle.hwdb_spec.specs.Undone.{IsUnreadableIf}
 use Rattle.hwdb_tool.specs.Views.{texts_in}
 use Rattle.hwdb_tool.specs.declared.answer.Answer.{Answer}
-
--- an error of trying some files
-pub scan_error : (sources : List Source) (bytes : List ℕ) (error : ScanError) → IsCheckRefusal sources error → IsTrialRefusal sources bytes (refusal_of_scan error)
-scan_error sources bytes scan.TooManyLines h = h
-scan_error sources bytes scan.Memory h = tt
 
 module _ (given : List (List ℕ)) (path : Option (List ℕ)) (root : List ℕ) (input : Option (List ℕ)) (contents : Contents) (sources : List Source) (are : AreGivenFiles given input contents sources) where
   -- what they say of the database
