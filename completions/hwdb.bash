@@ -76,7 +76,7 @@ _hwdb() {
         [--after]='POS'
         [--limit]='N'
         [--allow]='KIND'
-        [--database]='PATH'
+        [--database]='DATABASE'
     )
     local -A kinds_of=(
         [KIND]='byte-order-mark leading-tab carriage-return open-bracket empty-range spaced-equals cut-value repeated-match replaced near-name scan-code unknown-key unfit-value zero-row two-defaults unread unpaired unknown-prefix dead-pattern'
