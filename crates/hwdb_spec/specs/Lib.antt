@@ -80,6 +80,8 @@ pub mod Queries
 pub mod NamedDatabases
 pub mod ComparedDatabases
 pub mod NearErrors
+pub mod Tested
+pub mod TestErrors
 pub mod DeviceErrors
 pub mod Readable
 pub mod HidingTold

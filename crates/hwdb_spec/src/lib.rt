@@ -87,6 +87,8 @@
 //! | `NamedDatabases` | the database that `verify` and `dump` read, and their errors |
 //! | `ComparedDatabases` | the errors of `diff`, with their paths |
 //! | `NearErrors` | the errors of `near` |
+//! | `Tested` | which test files `test` tries, and over which database |
+//! | `TestErrors` | what `test` refuses, and when |
 //! | `DeviceErrors` | what `device` asks sysfs, and its errors |
 //! | `Readable` | an update of the text files that can be read |
 //! | `HidingTold` | an update, and before it the line on a database that hides the new one |
