@@ -1,4 +1,4 @@
--- Why it can't be told for which text files the paths of `check` stand, or these can't be read. Our choice.
+-- Why it can't be told which text files the paths of `check` mean, or these can't be read. Our choice.
 use Rattle.std.specs.Prelude.{◌++◌, ◌<◌, ◌∷◌, ◌≡◌, ◌⊎◌, List, None, [], false, length, ℕ}
 use Rattle.hwdb_spec.specs.CheckedFiles.{StandFor, folder_of, is_file}
 use Rattle.hwdb_spec.specs.Folders.{max_files, names}
@@ -15,12 +15,12 @@ AreTooMany contents path refusal =
     (refusal ≡ Plain TooManyFiles) × (is_file contents path ≡ false)
     × ((found : List (List ℕ)) × AreNamesIn (folder_of path) contents found × (max_files < length (names found [])))
 
--- listing a folder is refused; where what is listed is too long, no file is at its path
+-- listing a folder fails; if what is listed is too long, no file is at its path
 abbrev pub IsUnlistedFolder : Contents → (folder : List ℕ) → Refusal → Type 0
 IsUnlistedFolder contents folder (At TooLong at cause) = (at.items ≡ folder) × (bytes_at contents folder ≡ None)
 IsUnlistedFolder contents folder refusal = IsUnlisted folder refusal
 
--- it can't be told for which text files a path stands: its folder can't be listed, or has too many
+-- it can't be told which text files a path means: its folder can't be listed, or has too many
 abbrev pub IsFolderUnread : Contents → (path : List ℕ) → Refusal → Type 0
 IsFolderUnread contents path refusal = IsUnlistedFolder contents (folder_of path) refusal ⊎ AreTooMany contents path refusal
 
@@ -34,7 +34,7 @@ pub record AreFoldersUnread (contents : Contents) (given : List (List ℕ)) (ref
   pub stand : StandFor contents before own
   pub unread : IsFolderUnread contents path refusal
 
--- reading what given paths stand for is refused: that can't be told, or one of these files can't be read
+-- reading what given paths mean fails: that can't be told, or one of these files can't be read
 abbrev pub IsNamedUnread : (Unread : List (List ℕ) → Refusal → Type 0) → Contents → (given : List (List ℕ)) → Refusal → Type 0
 IsNamedUnread Unread contents given refusal =
     AreFoldersUnread contents given refusal ⊎ ((paths : List (List ℕ)) × StandFor contents given paths × Unread paths refusal)

@@ -5,11 +5,11 @@ use Rattle.std.specs.Option.{option_map_or, option_or}
 use Rattle.std.specs.declared.num.ParseIntError.{ParseIntError}
 use Rattle.std.specs.Str.Parse.{ParsesUnsigned, IsNumeral, digits_value, without_leading_plus}
 use Rattle.clap.specs.Walk.{Row, Text, all_of, first_of, one_of}
-use Rattle.hwdb_spec.specs.declared.job.Task.TheVariants.{Ask, Check, Device, Diff, Dump, Explain, List as ListHits, Near, Query, Update, Verify}
+use Rattle.hwdb_spec.specs.declared.job.Task.TheVariants.{Ask, Check, Device, Diff, Dump, Explain, List as ListHits, Near, Query, Test, Update, Verify}
 use Rattle.hwdb_spec.specs.declared.job.Task.{Task}
 use Rattle.hwdb_spec.specs.declared.job.Job.{Job}
 
--- the flag stands on this side
+-- the flag is on this side
 abbrev pub has_flag : Text → List Row → Bool
 has_flag id rows = option_map_or (λ t. bytes_eq t (codes "true")) (first_of id rows) false
 
@@ -17,20 +17,21 @@ has_flag id rows = option_map_or (λ t. bytes_eq t (codes "true")) (first_of id 
 abbrev pub IsValue : Text → List Row → Text → Type 0
 IsValue id rows text = Some text ≡ first_of id rows
 
--- the texts are the argument's values, in the order in which they stand
+-- the texts are the argument's values, in their order
 abbrev pub AreValues : Text → List Row → List Text → Type 0
 AreValues id rows texts = Some texts ≡ all_of id rows
 
--- the texts are the argument's values, in the order in which they stand, and there are none where it has none
+-- the texts are the argument's values, in their order; if it has none there are none
 abbrev pub AreAnyValues : Text → List Row → List Text → Type 0
 AreAnyValues id rows texts = texts ≡ unwrap_or (all_of id rows) []
 
--- the limit is the number that the text writes, and there is none where there is no text
+-- the limit is the number that the text writes; without a text there is none
 abbrev pub IsLimit : Option Text → Option ℕ → Type 0
 IsLimit None limit = limit ≡ None
 IsLimit (Some text) None = ⊥
 IsLimit (Some text) (Some n) = ParsesUnsigned {E = ParseIntError} 64 10 text (Ok n)
 
+-- the task that a command's name and its matches ask for
 abbrev pub IsTask : Text → List Row → Task → Type 0
 IsTask name inner (Update verbose skip) = (name ≡ codes "update") × (verbose ≡ has_flag (codes "verbose") inner) × (skip ≡ has_flag (codes "skip-unreadable") inner)
 IsTask name inner (Query devices json) = (name ≡ codes "query") × (json ≡ has_flag (codes "json") inner) × AreValues (codes "MODALIAS") inner (map string_bytes devices.items)
@@ -44,10 +45,13 @@ IsTask name inner (Device path strings json pattern) = (name ≡ codes "device")
     × (json ≡ has_flag (codes "json") inner) × (pattern ≡ has_flag (codes "pattern") inner)
 IsTask name inner (Check files allowed json) = (name ≡ codes "check") × AreAnyValues (codes "FILE") inner (map string_bytes files.items)
     × AreAnyValues (codes "allow") inner (map string_bytes allowed.items) × (json ≡ has_flag (codes "json") inner)
+IsTask name inner (Test files database json) = (name ≡ codes "test") × (json ≡ has_flag (codes "json") inner) × (option_map string_bytes database ≡ first_of (codes "database") inner)
+    × AreValues (codes "FILE") inner (map string_bytes files.items)
 IsTask name inner (Diff old new) = (name ≡ codes "diff") × IsValue (codes "OLD") inner (string_bytes old) × IsValue (codes "NEW") inner (string_bytes new)
 IsTask name inner (Verify database) = (name ≡ codes "verify") × (option_map string_bytes database ≡ first_of (codes "DATABASE") inner)
 IsTask name inner (Dump database) = (name ≡ codes "dump") × (option_map string_bytes database ≡ first_of (codes "DATABASE") inner)
 
+-- the job of both sides' options and of the command
 pub record IsJob (top : List Row) (name : Text) (inner : List Row) (job : Job) : Type 0 where
   pub usr : job.usr ≡ (has_flag (codes "usr") inner || has_flag (codes "usr") top)
   pub strict : job.strict ≡ (has_flag (codes "strict") inner || has_flag (codes "strict") top)
@@ -69,7 +73,7 @@ HasValue id rows = is_some (first_of id rows) ≡ true
 abbrev pub IsNumber : Text → Type 0
 IsNumber text = IsNumeral 10 (without_leading_plus text) × (digits_value 10 (without_leading_plus text) < 2 ^ 64)
 
--- it is one of the eleven commands, with each argument that this command needs
+-- it is one of the twelve commands, with each argument that this command needs
 abbrev pub IsCommand : Text → List Row → Type 0
 IsCommand name inner = (name ≡ codes "update")
     ⊎ (((name ≡ codes "query") × HasValue (codes "MODALIAS") inner)
@@ -81,4 +85,5 @@ IsCommand name inner = (name ≡ codes "update")
     ⊎ ((name ≡ codes "verify")
     ⊎ ((name ≡ codes "dump")
     ⊎ ((name ≡ codes "device")
-    ⊎ ((name ≡ codes "near") × HasValue (codes "MODALIAS") inner × IfSome (one_of (codes "limit") inner) IsNumber))))))))))
+    ⊎ (((name ≡ codes "near") × HasValue (codes "MODALIAS") inner × IfSome (one_of (codes "limit") inner) IsNumber)
+    ⊎ ((name ≡ codes "test") × HasValue (codes "FILE") inner)))))))))))

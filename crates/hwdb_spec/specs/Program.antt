@@ -1,5 +1,5 @@
--- What the program does with a file system, by the job that its words ask for (systemd-hwdb(8); `explain`, `ask`,
--- `list`, `near`, `device`, `check`, `diff`, `verify` and `dump` are our choice).
+-- What the program does with a file system, by the job that its words ask for: `update` and `query` as systemd-hwdb(8) has them.
+-- The other commands are our choice.
 use Rattle.std.specs.Prelude.{◌≡◌, ◌≢◌, ◌⊎◌, ◌==◌, ℕ, Bool, true, false, not, is_some, length, List, [], ◌∷◌, Option, map, option_map, string_bytes}
 use Rattle.std.specs.Option.{option_map_or}
 use Rattle.clap.specs.Faults.{fault_of}
@@ -11,7 +11,7 @@ use Rattle.hwdb_spec.specs.Runs.{AreKept, HasTaken, OnOut, Printed, World}
 use Rattle.hwdb_spec.specs.Store.{Contents, InPlace, Outcomes}
 use Rattle.hwdb_spec.specs.System.{database_folder}
 use Rattle.hwdb_spec.specs.declared.form.Form.TheVariants as form
-use Rattle.hwdb_spec.specs.declared.job.Task.TheVariants.{Ask, Check, Device, Diff, Dump, Explain, List as ListHits, Near, Query, Update, Verify}
+use Rattle.hwdb_spec.specs.declared.job.Task.TheVariants.{Ask, Check, Device, Diff, Dump, Explain, List as ListHits, Near, Query, Test, Update, Verify}
 use Rattle.hwdb_spec.specs.declared.job.Task.{Task}
 use Rattle.hwdb_spec.specs.declared.job.Job.{Job}
 use Rattle.hwdb_spec.specs.CheckedFiles.{AreCheckedFiles, IsChecked}
@@ -25,8 +25,9 @@ use Rattle.hwdb_spec.specs.DeviceErrors.{asked_names}
 use Rattle.hwdb_spec.specs.Queries.{AreAnswered, IfNamed, IsQuiet}
 use Rattle.hwdb_spec.specs.Done.{IsAsked, IsLeftByUpdateLess}
 use Rattle.hwdb_spec.specs.HidingTold.{IsUpdatedTelling}
+use Rattle.hwdb_spec.specs.Tested.{IsTested}
 
--- the root in front of each path; nothing where none was given
+-- the root in front of each path; nothing if none was given
 abbrev pub root_of : Job → List ℕ
 root_of job = option_map_or string_bytes job.root []
 
@@ -38,6 +39,7 @@ looks_below_root (Check files allowed json) = length files.items == 0
 looks_below_root (Near files device limit json) = length files.items == 0
 looks_below_root (Verify database) = not (is_some database)
 looks_below_root (Dump database) = not (is_some database)
+looks_below_root (Test files database json) = not (is_some database)
 looks_below_root _ = true
 
 -- What a task prints, and its status. An update says what it does while it goes on, and `device` asks sysfs, too.
@@ -56,6 +58,8 @@ IsAnswerOf (Check paths allowed json) root strict input files status texts =
     OnOut (λ text. IsChecked (AreCheckedFiles (map string_bytes paths.items) root input files) json strict (map string_bytes allowed.items) text status) texts
 IsAnswerOf (Near paths device limit json) root strict input files status texts =
     (status ≡ 0) × OnOut (IsNear (map string_bytes paths.items) root (near_form json (string_bytes device) (near_limit limit)) input files) texts
+IsAnswerOf (Test paths database json) root strict input files status texts =
+    OnOut (λ text. IsTested json (map string_bytes paths.items) (option_map string_bytes database) root input files text status) texts
 IsAnswerOf (Diff old_path new_path) root strict input files status texts =
     OnOut (λ text. IsCompared (string_bytes old_path) (string_bytes new_path) files text status) texts
 IsAnswerOf (Verify database) root strict input files status texts =
@@ -112,6 +116,7 @@ reads_input (Explain device json) = is_dash (string_bytes device)
 reads_input (Ask file device) = is_dash (string_bytes file)
 reads_input (Check files allowed json) = any_dash (map string_bytes files.items)
 reads_input (Near files device limit json) = any_dash (map string_bytes files.items)
+reads_input (Test files database json) = any_dash (map string_bytes files.items)
 reads_input _ = false
 
 -- the task is an update

@@ -1,6 +1,6 @@
 -- Words ask for one job, which ends with one error over one input, or is done.
 use Rattle.std.proofs.Common.{◌≡◌, ◌∙◌, ◌∷◌, ⊎_elim, ap, map, sym, subst, refl, Bool, false, List, [], ℕ, Option, None, Some, string_bytes}
-use Rattle.std.specs.Prelude.{codes}
+use Rattle.std.specs.Prelude.{codes, option_map}
 use Rattle.clap.specs.Faults.{fault_of}
 use Rattle.clap.specs.Kinds.{IsAmong, Kinds}
 use Rattle.clap.specs.Simple.{matches_of, subcommand_of}
@@ -11,7 +11,7 @@ use Rattle.hwdb_spec.specs.CommandLine.{hwdb_app}
 use Rattle.hwdb_spec.specs.WordFaults.{IsToldOfOne}
 use Rattle.hwdb_spec.specs.declared.job.Job.{Job}
 use Rattle.hwdb_spec.specs.declared.job.Task.{Task}
-use Rattle.hwdb_spec.specs.declared.job.Task.TheVariants.{Ask, Check, Device, Diff, Dump, Explain, List as ListHits, Near, Query, Update, Verify}
+use Rattle.hwdb_spec.specs.declared.job.Task.TheVariants.{Ask, Check, Device, Diff, Dump, Explain, List as ListHits, Near, Query, Test, Update, Verify}
 use Rattle.hwdb_spec.specs.declared.job.WordsFault.TheVariants as words_fault
 use Rattle.hwdb_spec.specs.declared.job.WordsFault.{WordsFault}
 use Rattle.hwdb_spec.specs.CheckedFiles.{StandFor}
@@ -32,6 +32,7 @@ use Rattle.hwdb_tool.proofs.DatabaseErrorLemmas.{OneHeader, OneTree, Undumped, U
 use Rattle.hwdb_tool.proofs.AskErrorLemmas.{OneForm, Unasked}
 use Rattle.hwdb_tool.proofs.DiffErrorLemmas.{Undiffed}
 use Rattle.hwdb_tool.proofs.JobLemmas.{apart, cut_last, is_named, one_value, one_values, same_root, word_of}
+use Rattle.hwdb_tool.proofs.TrialErrorLemmas.{Untested}
 use Rattle.hwdb_tool.proofs.TaskErrorLemmas.{IsLeftThen, OneStand, Unchecked, Uncompared, Why, end_of, not_both_ends, said_first, why}
 
 -- two tasks that the same words ask for
@@ -49,6 +50,7 @@ module _ (name : Text) (inner : List Row) where
   same_kind (Ask file1 device1) (Ask file2 device2) t u kind = tt
   same_kind (Check files1 allowed1 json1) (Check files2 allowed2 json2) t u kind = tt
   same_kind (Near files1 device1 limit1 json1) (Near files2 device2 limit2 json2) t u kind = tt
+  same_kind (Test files1 database1 json1) (Test files2 database2 json2) t u kind = tt
   same_kind (Device path1 strings1 json1 pattern1) (Device path2 strings2 json2 pattern2) t u kind = absurd kind
   same_kind task1 task2 t u kind = apart (word_of task1) (word_of task2) refl (sym (is_named name inner task1 t) ∙ is_named name inner task2 u)
 
@@ -63,6 +65,7 @@ module _ (name : Text) (inner : List Row) where
   same_status (Ask file1 device1) (Ask file2 device2) t u = refl
   same_status (Check files1 allowed1 json1) (Check files2 allowed2 json2) t u = refl
   same_status (Near files1 device1 limit1 json1) (Near files2 device2 limit2 json2) t u = refl
+  same_status (Test files1 database1 json1) (Test files2 database2 json2) t u = refl
   same_status (Device path1 strings1 json1 pattern1) (Device path2 strings2 json2 pattern2) t u = refl
   same_status task1 task2 t u = apart (word_of task1) (word_of task2) refl (sym (is_named name inner task1 t) ∙ is_named name inner task2 u)
 
@@ -84,6 +87,9 @@ module _ (name : Text) (inner : List Row) where
     same_why (Near files1 device1 limit1 json1) (Near files2 device2 limit2 json2) t u is =
         let one = cut_last (map string_bytes files2.items) (map string_bytes files1.items) (string_bytes device2) (string_bytes device1) (one_values (all_of (codes "MODALIAS") inner) _ _ u.2 t.2) in
         subst (λ (fs : List (List ℕ)). Uncompared header tree fs input files root r) one.0 is
+    same_why (Test files1 database1 json1) (Test files2 database2 json2) t u is =
+        subst (λ (fs : List (List ℕ)). Untested fs (option_map string_bytes database1) input files root r) (one_values (all_of (codes "FILE") inner) _ _ u.3 t.3)
+        (subst (λ (d : Option (List ℕ)). Untested (map string_bytes files2.items) d input files root r) (u.2 ∙ sym t.2) is)
     same_why (Device path1 strings1 json1 pattern1) (Device path2 strings2 json2 pattern2) t u is = absurd is
     same_why task1 task2 t u is = apart (word_of task1) (word_of task2) refl (sym (is_named name inner task1 t) ∙ is_named name inner task2 u)
 
@@ -100,6 +106,7 @@ module _ (name : Text) (inner : List Row) where
   same_said header tree root usr files (Ask file1 device1) (Ask file2 device2) t u = refl
   same_said header tree root usr files (Check files1 allowed1 json1) (Check files2 allowed2 json2) t u = refl
   same_said header tree root usr files (Near files1 device1 limit1 json1) (Near files2 device2 limit2 json2) t u = refl
+  same_said header tree root usr files (Test files1 database1 json1) (Test files2 database2 json2) t u = refl
   same_said header tree root usr files (Device path1 strings1 json1 pattern1) (Device path2 strings2 json2 pattern2) t u = refl
   same_said header tree root usr files task1 task2 t u = apart (word_of task1) (word_of task2) refl (sym (is_named name inner task1 t) ∙ is_named name inner task2 u)
 

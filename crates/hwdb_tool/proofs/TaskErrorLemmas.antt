@@ -4,7 +4,7 @@ use Rattle.std.proofs.lemmas.List.{append-nil}
 use Rattle.std.specs.Io.KnownBytes.{Appends}
 use Rattle.std.specs.Prelude.{Contains, option_map}
 use Rattle.hwdb_spec.specs.declared.job.Task.{Task}
-use Rattle.hwdb_spec.specs.declared.job.Task.TheVariants.{Ask, Check, Device, Diff, Dump, Explain, List as ListHits, Near, Query, Update, Verify}
+use Rattle.hwdb_spec.specs.declared.job.Task.TheVariants.{Ask, Check, Device, Diff, Dump, Explain, List as ListHits, Near, Query, Test, Update, Verify}
 use Rattle.hwdb_spec.specs.Asked.{IsAnswered}
 use Rattle.hwdb_spec.specs.CheckedFiles.{AreCheckedFiles, AreChosenFiles, AreNamedFiles, StandFor, folder_of}
 use Rattle.hwdb_spec.specs.Databases.{IsTextOf}
@@ -35,6 +35,8 @@ use Rattle.hwdb_spec.specs.TaskRefusals.{IsNotDone, MayPrint}
 use Rattle.hwdb_spec.specs.ComparedDatabases.{IsDiffRefused}
 use Rattle.hwdb_spec.specs.NamedDatabases.{IsDumpRefused, IsVerifyRefused}
 use Rattle.hwdb_spec.specs.NearErrors.{IsNearRefused}
+use Rattle.hwdb_spec.specs.Tested.{IsTested}
+use Rattle.hwdb_spec.specs.TestErrors.{IsTestRefused}
 use Rattle.hwdb_spec.specs.Readable.{AreAllRead}
 use Rattle.hwdb_spec.specs.Reasons.{HasFilesReason}
 use Rattle.hwdb_spec.specs.CheckedReasons.{HasCheckedReason, HasNamedReason}
@@ -48,6 +50,7 @@ use Rattle.hwdb_tool.proofs.DiffErrorLemmas.{Undiffed, diff_diff, diff_done, und
 use Rattle.hwdb_tool.proofs.OutcomeLemmas.{one_taken}
 use Rattle.hwdb_tool.proofs.TaskLemmas.{all_read}
 use Rattle.hwdb_tool.proofs.UpdateErrorLemmas.{Undated, undated, update_done, update_update}
+use Rattle.hwdb_tool.proofs.TrialErrorLemmas.{Untested, test_done, test_test, untested}
 use Rattle.hwdb_tool.proofs.TextErrorLemmas.{Unchosen, Ungiven, chosen_chosen, chosen_done, given_done, given_given, never_unchecked, unchosen, ungiven}
 
 -- the reason is one of the files, if standard input isn't read
@@ -169,6 +172,7 @@ module _ (header : OneHeader) (tree : OneTree) where
   Why fails U input files (Ask file device) root r = Unasked (string_bytes file) input files r
   Why fails U input files (Check paths allowed json) root r = Unchecked (map string_bytes paths.items) input files root r
   Why fails U input files (Near paths device limit json) root r = Uncompared (map string_bytes paths.items) input files root r
+  Why fails U input files (Test paths database json) root r = Untested (map string_bytes paths.items) (option_map string_bytes database) input files root r
   Why fails U input files (Update verbose skip) root r = Undated root files r
   Why fails U input files (Device path strings json pattern) root r = ⊥
 
@@ -228,6 +232,13 @@ module _ (header : OneHeader) (tree : OneTree) where
     why (Near paths device limit json) kind never named not =
         let found = unprinted (IsNearRefused (map string_bytes paths.items) root before.files) (MayPrint (Near paths device limit json) root strict before.input.bytes before.files) r before.err now.err before.out now.out of not.0.0 in
         (uncompared fails root before.files before.input.bytes before.input.failures now.input.failures whole r of paths.items never found.0 not.1, left_then found.1 not.0.1.same)
+    why (Test paths database json) kind never named not =
+        let given = map string_bytes paths.items in
+        let path = option_map string_bytes database in
+        let found = unprinted (IsTestRefused given path root before.input.bytes before.files) (MayPrint (Test paths database json) root strict before.input.bytes before.files) r before.err now.err before.out now.out of not.0.0 in (
+          untested header given path root before.files fails (never_named fails root before.files path (λ p is. never p (inr is))) before.input.bytes before.input.failures now.input.failures never whole r not.1 of,
+          left_then found.1 not.0.1.same,
+        )
     why (Device path strings json pattern) kind never named not = absurd kind
     why (Update verbose skip) kind never named not =
         let found = undated root usr verbose r of (scene_of fails left before).files (scene_of fails_now left_now now).files first before.err now.err skip fails Unwritable kind tells never listed not.1 not.0.0 in
@@ -246,6 +257,7 @@ module _ (header : OneHeader) (tree : OneTree) where
     one_why fails fails2 U U2 files root r r2 (Ask file device) kind one two = ask_ask (string_bytes file) told files r r2 one two
     one_why fails fails2 U U2 files root r r2 (Check paths allowed json) kind one two = check_check choice stand root files told (map string_bytes paths.items) r r2 one two
     one_why fails fails2 U U2 files root r r2 (Near paths device limit json) kind one two = near_near root files told (map string_bytes paths.items) r r2 one two
+    one_why fails fails2 U U2 files root r r2 (Test paths database json) kind one two = test_test header (map string_bytes paths.items) (option_map string_bytes database) root files told r r2 one two
     one_why fails fails2 U U2 files root r r2 (Update verbose skip) kind one two = update_update choice reading root files r r2 one two
     one_why fails fails2 U U2 files root r r2 (Device path strings json pattern) kind one two = absurd kind
 
@@ -307,6 +319,11 @@ module _ (header : OneHeader) (tree : OneTree) where
         let form = near_form json (string_bytes device) (near_limit limit) in
         near_done root before.files.seen told form given done.0.texts.out r
         (subst (λ (i : Option (List ℕ)). IsNear given root form i before.files.seen done.0.texts.out) tells done.0.are.1.1) not
+    not_both_ends (Test paths database json) kind done not =
+        let given = map string_bytes paths.items in
+        let path = option_map string_bytes database in
+        test_done header given path root before.files.seen told json done.0.texts.out status r
+        (subst (λ (i : Option (List ℕ)). IsTested json given path root i before.files.seen done.0.texts.out status) tells done.0.are.1) not
     not_both_ends (Device path strings json pattern) kind done not = absurd kind
     not_both_ends (Update verbose skip) kind done not =
         let place : List ℕ → Type 0 = λ database. InPlace (database_folder usr root) database before.files.seen now.files.seen now.files.left in

@@ -14,7 +14,7 @@ use Rattle.hwdb_spec.specs.declared.errors.ToolError.{ToolError}
 use Rattle.hwdb_spec.specs.declared.errors.ToolError.TheVariants.{BadDatabase, Memory, Read, Replace, TooLong, Write}
 use Rattle.hwdb_spec.specs.declared.job.WordsFault.TheVariants as words_fault
 use Rattle.hwdb_spec.specs.declared.job.Task.{Task}
-use Rattle.hwdb_spec.specs.declared.job.Task.TheVariants.{Ask, Check, Device, Diff, Dump, Explain, List as ListHits, Near, Query, Update, Verify}
+use Rattle.hwdb_spec.specs.declared.job.Task.TheVariants.{Ask, Check, Device, Diff, Dump, Explain, List as ListHits, Near, Query, Test, Update, Verify}
 use Rattle.hwdb_spec.specs.Runs.{Told}
 use Rattle.hwdb_spec.specs.CheckedFiles.{StandFor, folder_of}
 use Rattle.hwdb_spec.specs.Store.{Contents, Outcomes, path_in}
@@ -67,6 +67,7 @@ IsCovered (ListHits after limit device json) = Unit {0}
 IsCovered (Ask file device) = Unit {0}
 IsCovered (Check files allowed json) = Unit {0}
 IsCovered (Near files device limit json) = Unit {0}
+IsCovered (Test files database json) = Unit {0}
 IsCovered (Diff old new) = Unit {0}
 IsCovered (Verify database) = Unit {0}
 IsCovered (Dump database) = Unit {0}
@@ -99,11 +100,16 @@ abbrev pub IsOfCompared : (given : List (List ℕ)) (root path : List ℕ) → T
 IsOfCompared [] root path = IsOfDatabase None root path
 IsOfCompared (first ∷ more) root path = Contains (first ∷ more) path
 
+-- the path is one that `test` reads: a given one, or that of its database
+abbrev pub IsOfTried : (given : List (List ℕ)) (database : Option (List ℕ)) (root path : List ℕ) → Type 0
+IsOfTried given database root path = Contains given path ⊎ IsOfDatabase database root path
+
 -- such a task may read the path
 abbrev pub MayRead : Task → (root path : List ℕ) → Type 0
 MayRead (Update verbose skip) root path = IsOfFolders root path
 MayRead (Check files allowed json) root path = IsOfChecked (map string_bytes files.items) root path
 MayRead (Near files device limit json) root path = IsOfCompared (map string_bytes files.items) root path
+MayRead (Test files database json) root path = IsOfTried (map string_bytes files.items) (option_map string_bytes database) root path
 MayRead (Ask file device) root path = path ≡ string_bytes file
 MayRead (Diff old new) root path = (path ≡ string_bytes old) ⊎ (path ≡ string_bytes new)
 MayRead (Verify database) root path = IsOfDatabase (option_map string_bytes database) root path
@@ -170,11 +176,12 @@ DoneIsNoError = DoneEndsSo IsOfLaw
 abbrev pub IsInNamed : (given : List (List ℕ)) (path : List ℕ) → Type 0
 IsInNamed given path = (named : List ℕ) × Contains given named × ((path ≡ folder_of named) ⊎ ((name : List ℕ) × (path ≡ path_in (folder_of named) name)))
 
--- the words of a task name text files, or of `check` folders, and this path is among them
+-- the words of a task name text files, folders of `check` or the database of `test`, and this path is among them
 abbrev pub NamesFile : Task → Contents → (path : List ℕ) → Type 0
 NamesFile (Check files allowed json) contents path =
     ((paths : List (List ℕ)) × StandFor contents (map string_bytes files.items) paths × Contains paths path) ⊎ IsInNamed (map string_bytes files.items) path
 NamesFile (Near files device limit json) contents path = Contains (map string_bytes files.items) path
+NamesFile (Test files database json) contents path = Contains (map string_bytes files.items) path ⊎ (option_map string_bytes database ≡ Some path)
 NamesFile task contents path = ⊥
 
 -- the task reads text files that its words name
@@ -182,6 +189,7 @@ abbrev pub ReadsTexts : Task → Type 0
 ReadsTexts (Ask file device) = Unit {0}
 ReadsTexts (Check files allowed json) = Unit {0}
 ReadsTexts (Near files device limit json) = Unit {0}
+ReadsTexts (Test files database json) = Unit {0}
 ReadsTexts task = ⊥
 
 -- If a task reads standard input, it says that this can't be read only if a call of it failed. A text file may have that name, too.

@@ -22,6 +22,7 @@ use crate::near_misses::near;
 use crate::outlet::Outlet;
 use crate::printing::printed;
 use crate::queries::query;
+use crate::trials::test;
 use crate::verification::verify;
 use hwdb_cli::{Job, Task, WordsFault, read_words};
 use hwdb_fs::{Machine, Refusal, Rooted, refuse_for, refuse_memory};
@@ -29,7 +30,7 @@ use hwdb_io::{Sink, Source, write_text};
 use hwdb_print::ToolError;
 use std::alloc::Global;
 
-/// Does what the words say, the first of which is the program's name, and returns the status: 0; 1 where `check` or
+/// Does what the words say, the first of which is the program's name, and returns the status: 0; 1 where `check`, `test` or
 /// `diff` finds something, or `--strict` says so, and after a refusal, whose line goes to `err`; 2 after one of `diff`.
 /// Words that the command doesn't take, and that ask for no help, are refused. Where the reader of `out` went away the
 /// status is 0, and nothing is said. Of `input` only a command reads that is given `-`.
@@ -114,6 +115,7 @@ fn looks_below_root(task: &Task) -> bool
         Task::Ask { .. } | Task::Diff { .. } => false,
         Task::Check { files, .. } | Task::Near { files, .. } => files.is_empty(),
         Task::Verify { database } | Task::Dump { database } => database.is_none(),
+        Task::Test { database, .. } => database.is_none(),
         _ => true,
     }
 }
@@ -162,7 +164,7 @@ fn refused_status(task: &Task) -> u8
     }
 }
 
-/// Does the job, and returns the status: 1 where `check` or `diff` finds something or `--strict` says so, else 0.
+/// Does the job, and returns the status: 1 where `check`, `test` or `diff` finds something or `--strict` says so, else 0.
 fn run<D: Machine, I: Source, O: Sink, E: Sink>(
     alloc: Global,
     job: &Job,
@@ -250,6 +252,15 @@ fn run<D: Machine, I: Source, O: Sink, E: Sink>(
         } => {
             let device = device.as_bytes();
             let answer = near(alloc, root, files, device, *limit, *json, system, input);
+            printed(answer, out, err)
+        }
+        Task::Test {
+            files,
+            database,
+            json,
+        } => {
+            let database = text_of(database);
+            let answer = test(alloc, root, files, database, *json, system, input);
             printed(answer, out, err)
         }
         Task::Device {

@@ -12,6 +12,7 @@
 //! | `answers` | `explain`, `list` and `ask` |
 //! | `input_devices` | `query -` and `explain -`: the devices that standard input names |
 //! | `checks` | `check` |
+//! | `trials` | `test` |
 //! | `near_misses` | `near` |
 //! | `devices` | `device`; `missing`: what is said if there is no sysfs, or no such device |
 //! | `differences` | `diff` |
@@ -54,6 +55,7 @@ mod outlet;
 mod printing;
 mod progress;
 mod queries;
+mod trials;
 mod updates;
 mod verdicts;
 mod verification;
@@ -83,4 +85,5 @@ pub use one_outcome::{answers_are_one, jobs_are_one, listings_give_one_reading, 
 pub use one_refusal::{errors_are_one, input_errors_are_so, words_end_in_one};
 pub use outlet::Outlet;
 pub use queries::query;
+pub use trials::test;
 pub use verification::verify;
