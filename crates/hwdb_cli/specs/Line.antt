@@ -1,4 +1,4 @@
--- The command line of hwdb, as the command that `clap` is given: systemd-hwdb(8), with `explain`, `ask`, `list`, `near`, `device`, `check`, `diff`, `verify` and `dump` of our own.
+-- The command line of hwdb, as the command that `clap` is given: systemd-hwdb(8), with `explain`, `ask`, `list`, `near`, `device`, `check`, `diff`, `verify`, `dump` and `status` of our own.
 -- `clap` adds the options for help and the version, and the command `help`.
 use Rattle.std.specs.Prelude.{Some, codes, true}
 use Rattle.clap.specs.Walk.{Rule}
@@ -113,6 +113,9 @@ verify_app = with_rule (with_shared (new_app (codes "verify"))) database_rule
 abbrev pub dump_app : App
 dump_app = with_rule (with_shared (new_app (codes "dump"))) database_rule
 
+abbrev pub status_app : App
+status_app = with_rule (with_shared (new_app (codes "status"))) json_rule
+
 abbrev pub top_app : App
 top_app = on_top (λ (s : Shape). record s { has_version = true; subcommand_required = true }) (with_shared (new_app (codes "hwdb")))
 
@@ -120,9 +123,9 @@ top_app = on_top (λ (s : Shape). record s { has_version = true; subcommand_requ
 abbrev pub with_answers : App → App
 with_answers app = with_subcommand (with_subcommand (with_subcommand (with_subcommand (with_subcommand (with_subcommand app query_app.top) explain_app.top) ask_app.top) list_app.top) near_app.top) device_app.top
 
--- the four commands that look at files and databases
+-- the five commands that look at files and databases
 abbrev pub with_inspections : App → App
-with_inspections app = with_subcommand (with_subcommand (with_subcommand (with_subcommand app check_app.top) diff_app.top) verify_app.top) dump_app.top
+with_inspections app = with_subcommand (with_subcommand (with_subcommand (with_subcommand (with_subcommand app check_app.top) diff_app.top) verify_app.top) dump_app.top) status_app.top
 
 abbrev pub hwdb_app : App
 hwdb_app = with_inspections (with_answers (with_subcommand top_app update_app.top))

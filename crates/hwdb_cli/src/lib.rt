@@ -22,6 +22,7 @@ mod list;
 mod matched;
 mod near;
 mod query;
+mod status;
 mod tips;
 mod update;
 mod verify;

@@ -6,6 +6,7 @@ pub mod Undone
 pub mod Readable
 pub mod Queries
 pub mod Reasons
+pub mod Statuses
 pub mod GivenFolders
 pub mod CheckedReasons
 pub mod ComparedDatabases

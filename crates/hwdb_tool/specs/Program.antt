@@ -1,5 +1,5 @@
 -- What the program does with a file system, by the job that its words ask for (systemd-hwdb(8); `explain`, `ask`,
--- `list`, `near`, `device`, `check`, `diff`, `verify` and `dump` are our choice).
+-- `list`, `near`, `device`, `check`, `diff`, `verify`, `dump` and `status` are our choice).
 use Rattle.std.specs.Prelude.{◌≡◌, ◌≢◌, ◌⊎◌, ◌==◌, ℕ, Bool, true, false, not, is_some, length, List, [], ◌∷◌, Option, map, option_map, string_bytes}
 use Rattle.std.specs.Option.{option_map_or}
 use Rattle.clap.specs.Faults.{fault_of}
@@ -11,10 +11,11 @@ use Rattle.hwdb_spec.specs.Runs.{AreKept, HasTaken, OnOut, Printed, World}
 use Rattle.hwdb_spec.specs.Store.{Contents, InPlace, Outcomes}
 use Rattle.hwdb_spec.specs.System.{database_folder}
 use Rattle.hwdb_print.specs.declared.form.Form.TheVariants as form
-use Rattle.hwdb_cli.specs.declared.job.Task.TheVariants.{Ask, Check, Device, Diff, Dump, Explain, List as ListHits, Near, Query, Update, Verify}
+use Rattle.hwdb_cli.specs.declared.job.Task.TheVariants.{Ask, Check, Device, Diff, Dump, Explain, List as ListHits, Near, Query, Status, Update, Verify}
 use Rattle.hwdb_cli.specs.declared.job.Task.{Task}
 use Rattle.hwdb_cli.specs.declared.job.Job.{Job}
 use Rattle.hwdb_spec.specs.CheckedFiles.{AreCheckedFiles, IsChecked}
+use Rattle.hwdb_inspect.specs.Status.{IsStatus}
 use Rattle.hwdb_spec.specs.Asked.{IsCompared, IsDumped, IsPrinted, IsAnswered, IsListFrom}
 use Rattle.hwdb_spec.specs.Databases.{IsSummary}
 use Rattle.hwdb_spec.specs.NearAsked.{IsNear, near_form, near_limit}
@@ -62,6 +63,7 @@ IsAnswerOf (Verify database) root strict input files status texts =
     (status ≡ 0) × OnOut (IsPrinted (option_map string_bytes database) root IsSummary files) texts
 IsAnswerOf (Dump database) root strict input files status texts =
     (status ≡ 0) × OnOut (IsDumped (option_map string_bytes database) root files) texts
+IsAnswerOf (Status json) root strict input files status texts = OnOut (λ text. IsStatus root json files text status) texts
 
 -- what `device` prints in this form, and its status
 abbrev pub IsDeviceAnswer : DeviceForm → (root : List ℕ) (given : Option (List ℕ)) → Sight → Contents → (status : ℕ) → Texts → Type 0

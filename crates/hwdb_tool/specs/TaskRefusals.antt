@@ -5,7 +5,7 @@ use Rattle.clap.specs.Faults.{fault_of}
 use Rattle.hwdb_cli.specs.Line.{hwdb_app}
 use Rattle.hwdb_cli.specs.Words.{AskFor, AskForText, AreToldBy}
 use Rattle.hwdb_cli.specs.declared.job.Job.{Job}
-use Rattle.hwdb_cli.specs.declared.job.Task.TheVariants.{Ask, Check, Device, Diff, Dump, Explain, List as ListHits, Near, Query, Update, Verify}
+use Rattle.hwdb_cli.specs.declared.job.Task.TheVariants.{Ask, Check, Device, Diff, Dump, Explain, List as ListHits, Near, Query, Status, Update, Verify}
 use Rattle.hwdb_cli.specs.declared.job.Task.{Task}
 use Rattle.hwdb_cli.specs.declared.job.WordsFault.TheVariants as words_fault
 use Rattle.hwdb_cli.specs.declared.job.WordsFault.{WordsFault}
@@ -24,6 +24,7 @@ use Rattle.hwdb_tool.specs.NearMisses.{IsNearRefused}
 use Rattle.hwdb_tool.specs.Devices.{IsDeviceRefused}
 use Rattle.hwdb_tool.specs.NamedDatabases.{IsDumpRefused, IsVerifyRefused}
 use Rattle.hwdb_tool.specs.Queries.{AreUnanswered}
+use Rattle.hwdb_tool.specs.Statuses.{IsStatusRefused}
 use Rattle.hwdb_tool.specs.Program.{IsAnswerOf, IsDeviceAnswer, IsJobDone, IsTold, IsUpdate, looks_below_root, root_of}
 use Rattle.hwdb_tool.specs.CheckedReasons.{HasCheckedReason}
 use Rattle.hwdb_tool.specs.Reasons.{HasAskedReason, HasFilesReason, HasGivenReason}
@@ -42,6 +43,7 @@ Refuses (Near paths device limit json) root input files refusal = IsNearRefused 
 Refuses (Diff old_path new_path) root input files refusal = IsDiffRefused (string_bytes old_path) (string_bytes new_path) files refusal
 Refuses (Verify database) root input files refusal = IsVerifyRefused (option_map string_bytes database) root files refusal
 Refuses (Dump database) root input files refusal = IsDumpRefused (option_map string_bytes database) root files refusal
+Refuses (Status json) root input files refusal = IsStatusRefused root files refusal
 Refuses task root input files refusal = IsUnanswered root files refusal
 
 -- what it might have printed, with whatever status
