@@ -1,17 +1,29 @@
 -- What `status` says is one, and what it refuses.
-use Rattle.std.proofs.Common.{◌≡◌, ◌≢◌, ◌∙◌, ◌++◌, ◌∷◌, [], ap, inl, inr, refl, sym, subst, Bool, true, false, List, flat_map, map, ℕ, Option, Some, None}
+use Rattle.std.proofs.Common.{◌≡◌, ◌∙◌, ◌++◌, ◌∷◌, [], ap, inl, inr, refl, sym, subst, Bool, true, false, List, flat_map, map, ℕ, Option, Some, None}
 use Rattle.std.proofs.Math.Path.{fun_ext}
 use Rattle.std.specs.Prelude.{codes, if◌then◌else◌}
-use Rattle.hwdb_inspect.specs.Status.{IsMade, IsState, IsStateOf, IsStatus, State, has_database, masked_of, masked_paths, report_form, report_of, stale_by, status_of_state}
+use Rattle.hwdb_compile.specs.Views.{ForFolders, choice_in}
+use Rattle.hwdb_compile.specs.declared.sources.ChosenFile.{ChosenFile}
+use Rattle.hwdb_fs.specs.Refusals.{IsUnreadAt}
+use Rattle.hwdb_fs.specs.declared.refusals.Refusal.{Refusal}
+use Rattle.hwdb_fs.specs.declared.refusals.Refusal.TheVariants.{Plain}
+use Rattle.hwdb_print.specs.declared.errors.ToolError.TheVariants.{Memory}
+use Rattle.hwdb_inspect.specs.Status.{IsState, IsStateOf, IsStatus, State, has_database, masked_of, masked_paths, report_form, report_of, stale_by, status_of_state}
 use Rattle.hwdb_inspect.specs.Status.State.{Broken, Fresh, Missing, Stale}
+use Rattle.hwdb_spec.specs.Asked.{database_path}
 use Rattle.hwdb_spec.specs.Differences.{differences}
 use Rattle.hwdb_spec.specs.Folders.{Choice, Source, chosen_of, lists}
 use Rattle.hwdb_spec.specs.Format.{IsDatabase}
+use Rattle.hwdb_spec.specs.Runs.{OnOut}
 use Rattle.hwdb_spec.specs.Store.{Contents}
 use Rattle.hwdb_spec.specs.System.{asked_database}
 use Rattle.hwdb_spec.specs.Tree.{Map, Tree, map_of, map_of_files}
-use Rattle.hwdb_spec.specs.Written.{IsWritten}
+use Rattle.hwdb_spec.specs.Written.{IsDatabaseOf, IsWritten}
+use Rattle.hwdb_tool.specs.Internal.{AreReadOf}
 use Rattle.hwdb_tool.specs.OneOutcome.{IsOneReading, ListingsGiveOneReading}
+use Rattle.hwdb_tool.specs.Statuses.{AreMadeOf, AreNotMade, IsAskedUnread, IsNotCompiled, IsReported}
+use Rattle.hwdb_tool.specs.Views.{texts_in}
+use Rattle.hwdb_tool.specs.declared.answer.Answer.{Answer}
 use Rattle.hwdb_tool.proofs.OutcomeLemmas.{one_map}
 
 -- bytes have one state
@@ -68,3 +80,42 @@ one_status_text tree form one_reading root json files text text2 status status2 
       a.is ∙ ap (λ l. report l a.state) masked ∙ ap (report (masked_paths (map (λ (s : Source). s.name) b.of_usr) (chosen_of b.of_etc b.of_usr))) state ∙ sym b.is,
       a.says ∙ ap status_of_state state ∙ sym b.says,
     )
+
+-- ---- what was read
+module _ (root : List ℕ) (contents : Contents) (listed : List (List ℕ)) (files : List ChosenFile) (read : AreReadOf root contents listed files) where
+  -- what is reported beside the bytes that are made of it
+  pub reported_status : (json : Bool) (made : List ℕ) (masked : List (List ℕ)) (a : Answer) → ForFolders files (λ etc usr. AreMadeOf etc usr made)
+      → masked ≡ masked_paths listed (map choice_in files) → ((m : Map) → IsDatabaseOf m made → IsReported root json contents made m masked a)
+      → OnOut (λ text. IsStatus root json contents text a.status) (texts_in a)
+  reported_status json made masked a made_of masks reported =
+      let is = made_of read.of_etc read.of_usr read.are in
+      let told = reported (map_of_files read.of_etc read.of_usr) is.database in
+      let names : masked ≡ masked_paths (map (λ (s : Source). s.name) read.of_usr) (chosen_of read.of_etc read.of_usr) =
+      masks ∙ ap (λ (l : List (List ℕ)). masked_paths l (map choice_in files)) (sym read.named)
+      ∙ ap (masked_paths (map (λ (s : Source). s.name) read.of_usr)) read.are.choices in (
+        told.quiet,
+        record {
+          of_etc = read.of_etc;
+          of_usr = read.of_usr;
+          made = made;
+          is_made = record { in_etc = read.in_etc; in_usr = read.in_usr; accepted = is.accepted; written = is.written; within = is.within };
+          state = told.state;
+          stands = told.stands;
+          is = told.is ∙ ap (λ (l : List (List ℕ)). report_form json (report_of root (has_database false root contents) (has_database true root contents) l told.state)) names;
+          says = told.says;
+        },
+      )
+
+  -- it isn't compiled
+  pub not_made : (refusal : Refusal) → ForFolders files (λ etc usr. IsNotCompiled etc usr refusal) → AreNotMade root contents refusal
+  not_made refusal refused = record {
+    of_etc = read.of_etc;
+    of_usr = read.of_usr;
+    in_etc = read.in_etc;
+    in_usr = read.in_usr;
+    refused = refused read.of_etc read.of_usr read.are;
+  }
+
+-- want of memory, while the asked database is read
+pub asked_memory : (root : List ℕ) (contents : Contents) → IsAskedUnread root contents (Plain Memory)
+asked_memory root contents = (database_path false root, inl refl, tt)

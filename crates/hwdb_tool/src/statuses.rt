@@ -1,5 +1,5 @@
 //! `status`: the database that is asked, beside the one that the text files make. Nothing is written.
-ghost use Rattle.std.specs.Prelude.{◌≡◌, ◌++◌, ℕ, List, All, Some, false, map, option_map, string_bytes, true, IfErr, IfOk, OnOk};
+ghost use Rattle.std.specs.Prelude.{◌≡◌, ◌≤◌, ◌++◌, ℕ, List, All, Some, codes, false, map, option_map, string_bytes, true, IfErr, IfOk, OnOk};
 ghost use Rattle.hwdb_compile.specs.Views.{ForFolders, choice_in};
 ghost use Rattle.hwdb_fs.specs.Internal.{IsNameSet};
 ghost use Rattle.hwdb_fs.specs.Refusals.{HasReason, IsUnreadAt};
@@ -37,6 +37,16 @@ struct AskedDatabase {
     bytes: Option<Vec<u8>>,
 }
 
+/// The path of a text file of /usr/lib.
+fn masked_path(alloc: Global, name: &str) -> Result<Vec<u8>, AllocError>
+    ensures { IfOk result
+        (λ path. path.items ≡ codes "/usr/lib/udev/hwdb.d/" ++ name.now) }
+{
+    let mut path = Vec::from_slice(alloc, b"/usr/lib/udev/hwdb.d/")?;
+    path.extend_from_slice(name.as_bytes())?;
+    Ok(path)
+}
+
 /// Adds the path of the text file of /usr/lib that a chosen one masks, if it does.
 fn push_masked(
     alloc: Global,
@@ -49,9 +59,7 @@ fn push_masked(
         ≡ map (λ p. p.items) paths.old.items ++ masked_of listed (choice_of file.now)) }
 {
     if masks(file, set) {
-        let mut path = Vec::from_slice(alloc, b"/usr/lib/udev/hwdb.d/")?;
-        path.extend_from_slice(file.name.as_bytes())?;
-        paths.push(path)?;
+        paths.push(masked_path(alloc, file.name.as_str())?)?;
     }
     Ok(())
 }
@@ -224,6 +232,16 @@ fn update_words(alloc: Global, usr: bool, root: &str) -> Result<Vec<u8>, AllocEr
     Ok(words)
 }
 
+/// Whether the database of /usr/lib is asked, by whether there is one of /etc and one of /usr/lib.
+fn is_usr_asked(etc: bool, usr: bool) -> bool
+    ensures { result ≡ Status.is_usr_asked etc usr }
+{
+    match (etc, usr) {
+        (false, true) => true,
+        _ => false,
+    }
+}
+
 /// The report of what is there.
 fn report_of(
     alloc: Global,
@@ -242,7 +260,7 @@ fn report_of(
         hides: path_hidden(alloc, root, etc, usr)?,
         masked,
         state,
-        remedy: update_words(alloc, usr && !etc, root)?,
+        remedy: update_words(alloc, is_usr_asked(etc, usr), root)?,
     })
 }
 
