@@ -3,8 +3,8 @@ ghost use Rattle.std.specs.Prelude.{IfOk, codes};
 ghost use Rattle.clap.specs.Walk.{rows_of};
 ghost use Rattle.clap.specs.Matches.{found_of};
 ghost use Rattle.hwdb_cli.specs.Drafts.{IsDraft};
-ghost use Rattle.hwdb_cli.specs.Jobs.{IsTask};
-ghost use Rattle.hwdb_cli.specs.Line.{status_app};
+ghost use Rattle.hwdb_spec.specs.Jobs.{IsTask};
+ghost use Rattle.hwdb_spec.specs.CommandLine.{status_app};
 
 use crate::drafts::{Draft, json_option, shared, with_argument};
 use crate::job::Task;

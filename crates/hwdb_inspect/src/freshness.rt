@@ -4,7 +4,7 @@ ghost use Rattle.hwdb_spec.specs.Differences.{differences};
 ghost use Rattle.hwdb_spec.specs.Folders.{same};
 ghost use Rattle.hwdb_spec.specs.Tree.{IsTree, Map, map_of};
 ghost use Rattle.hwdb_spec.specs.Written.{IsDatabaseOf};
-ghost use Rattle.hwdb_inspect.specs.Status.{IsState, IsStateOf, stale_by, status_of_state};
+ghost use Rattle.hwdb_spec.specs.Status.{IsState, IsStateOf, stale_by, status_of_state};
 ghost use Rattle.hwdb_inspect.specs.Views.{changes_of, state_shown};
 ghost use Rattle.hwdb_inspect.specs.Internal.Counting.{first_kept};
 ghost use Rattle.hwdb_inspect.specs.Internal.Pairing.{to_tell};

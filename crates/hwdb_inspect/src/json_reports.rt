@@ -3,8 +3,8 @@ ghost use Rattle.std.specs.Prelude.{◌≡◌, ◌++◌, map, option_map, IfOk, 
 ghost use Rattle.json.specs.Tree.{json_tokens};
 ghost use Rattle.hwdb_spec.specs.Json.{array_of, json_line, text_json};
 ghost use Rattle.hwdb_show.specs.JsonTokens.{tokens_of_member, tokens_of_members};
-ghost use Rattle.hwdb_inspect.specs.Status;
-ghost use Rattle.hwdb_inspect.specs.Status.{maybe_json, report_json, report_object, stale_members, state_members};
+ghost use Rattle.hwdb_spec.specs.Status;
+ghost use Rattle.hwdb_spec.specs.Status.{maybe_json, report_json, report_object, stale_members, state_members};
 ghost use Rattle.hwdb_inspect.specs.Views.{report_shown, state_shown};
 
 use crate::freshness::State;

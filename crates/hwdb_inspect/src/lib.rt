@@ -15,13 +15,11 @@
 //! | `freshness` | `status`: how a database is beside what the text files make |
 //! | `reports` | the lines of `status`; `json_reports`: the same as JSON |
 //! | `verification` | `verify`: whether bytes are a database, and how much is in it |
-//! | `errors` | why a database isn't summed up, dumped or compared |
 //! | `walk` | all assignments of a database, by pattern and key |
 //! | `laws` | laws of the map of a database, and of its dump |
 #![tactic(auto)]
 
 mod difference;
-mod errors;
 mod freshness;
 mod json_reports;
 mod laws;
@@ -35,8 +33,8 @@ mod verification;
 mod walk;
 
 pub use difference::{Changes, diff};
-pub use errors::{DiffError, DumpError, VerifyError};
 pub use freshness::{State, state_of, status_of};
+pub use hwdb_spec::{DiffError, DumpError, VerifyError};
 pub use laws::{dump_says, dump_tells, members_are_the_map};
 pub use listing::dump;
 pub use reports::{Report, report_in};

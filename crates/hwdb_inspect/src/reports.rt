@@ -1,7 +1,7 @@
 //! The lines of `status`.
 ghost use Rattle.std.specs.Prelude.{◌≡◌, ◌++◌, codes, flat_map, map, option_map, unwrap_or, IfOk, OnOk};
-ghost use Rattle.hwdb_inspect.specs.Status;
-ghost use Rattle.hwdb_inspect.specs.Status.{changes_lines, first_line, remedy_line, report_form, report_text, said_if, said_line};
+ghost use Rattle.hwdb_spec.specs.Status;
+ghost use Rattle.hwdb_spec.specs.Status.{changes_lines, first_line, remedy_line, report_form, report_text, said_if, said_line};
 ghost use Rattle.hwdb_inspect.specs.Views.{report_shown, state_shown};
 
 use crate::freshness::State;

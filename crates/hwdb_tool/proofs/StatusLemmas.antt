@@ -4,12 +4,12 @@ use Rattle.std.proofs.Math.Path.{fun_ext}
 use Rattle.std.specs.Prelude.{codes, if◌then◌else◌}
 use Rattle.hwdb_compile.specs.Views.{ForFolders, choice_in}
 use Rattle.hwdb_compile.specs.declared.sources.ChosenFile.{ChosenFile}
-use Rattle.hwdb_fs.specs.Refusals.{IsUnreadAt}
-use Rattle.hwdb_fs.specs.declared.refusals.Refusal.{Refusal}
-use Rattle.hwdb_fs.specs.declared.refusals.Refusal.TheVariants.{Plain}
-use Rattle.hwdb_print.specs.declared.errors.ToolError.TheVariants.{Memory}
-use Rattle.hwdb_inspect.specs.Status.{IsState, IsStateOf, IsStatus, State, has_database, masked_of, masked_paths, report_form, report_of, stale_by, status_of_state}
-use Rattle.hwdb_inspect.specs.Status.State.{Broken, Fresh, Missing, Stale}
+use Rattle.hwdb_spec.specs.Refusals.{IsUnreadAt}
+use Rattle.hwdb_spec.specs.declared.refusals.Refusal.{Refusal}
+use Rattle.hwdb_spec.specs.declared.refusals.Refusal.TheVariants.{Plain}
+use Rattle.hwdb_spec.specs.declared.errors.ToolError.TheVariants.{Memory}
+use Rattle.hwdb_spec.specs.Status.{IsState, IsStateOf, IsStatus, State, has_database, masked_of, masked_paths, report_form, report_of, stale_by, status_of_state}
+use Rattle.hwdb_spec.specs.Status.State.{Broken, Fresh, Missing, Stale}
 use Rattle.hwdb_spec.specs.Asked.{database_path}
 use Rattle.hwdb_spec.specs.Differences.{differences}
 use Rattle.hwdb_spec.specs.Folders.{Choice, Source, chosen_of, lists}
@@ -21,7 +21,8 @@ use Rattle.hwdb_spec.specs.Tree.{Map, Tree, map_of, map_of_files}
 use Rattle.hwdb_spec.specs.Written.{IsDatabaseOf, IsWritten}
 use Rattle.hwdb_tool.specs.Internal.{AreReadOf}
 use Rattle.hwdb_tool.specs.OneOutcome.{IsOneReading, ListingsGiveOneReading}
-use Rattle.hwdb_tool.specs.Statuses.{AreMadeOf, AreNotMade, IsAskedUnread, IsNotCompiled, IsReported}
+use Rattle.hwdb_spec.specs.StatusErrors.{AreNotMade, IsAskedUnread, IsNotCompiled}
+use Rattle.hwdb_tool.specs.Statuses.{AreMadeOf, IsReported}
 use Rattle.hwdb_tool.specs.Views.{texts_in}
 use Rattle.hwdb_tool.specs.declared.answer.Answer.{Answer}
 use Rattle.hwdb_tool.proofs.OutcomeLemmas.{one_map}

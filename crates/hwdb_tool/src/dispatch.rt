@@ -2,15 +2,15 @@
 ghost use Rattle.std.specs.Prelude.{◌≡◌, ◌<◌, ◌≤◌, ◌⊎◌, false, map, option_map, string_bytes, IfOk, IfErr};
 ghost use Rattle.hwdb_spec.specs.Flushing.{HandsOn, HasHandedOn};
 ghost use Rattle.hwdb_spec.specs.Store as spec;
-ghost use Rattle.hwdb_sysfs.specs.Answers.{sight_by};
+ghost use Rattle.hwdb_spec.specs.SysfsAnswers.{sight_by};
 ghost use Rattle.hwdb_spec.specs.Runs.{files_by, told_by, world_by};
-ghost use Rattle.hwdb_cli.specs.Refusals.{AreWrong};
-ghost use Rattle.hwdb_cli.specs.Words.{AskFor};
-ghost use Rattle.hwdb_cli.specs.declared.job.Job.{Job};
-ghost use Rattle.hwdb_tool.specs.Program.{IsDone, IsUpdate, OldOrAskedFor, OldOrDone, looks_below_root, reads_input, root_of};
-ghost use Rattle.hwdb_tool.specs.TaskRefusals.{HasFailedWith, HasSucceeded, IsJobNotDone, IsRootUnread, IsSaid, refused_status};
-ghost use Rattle.hwdb_fs.specs.Refusals.{HasReason};
-ghost use Rattle.hwdb_fs.specs.declared.refusals.Refusal.TheVariants.{Plain};
+ghost use Rattle.hwdb_spec.specs.WordFaults.{AreWrong};
+ghost use Rattle.hwdb_spec.specs.Words.{AskFor};
+ghost use Rattle.hwdb_spec.specs.declared.job.Job.{Job};
+ghost use Rattle.hwdb_spec.specs.Program.{IsDone, IsUpdate, OldOrAskedFor, OldOrDone, looks_below_root, reads_input, root_of};
+ghost use Rattle.hwdb_spec.specs.TaskRefusals.{HasFailedWith, HasSucceeded, IsJobNotDone, IsRootUnread, IsSaid, refused_status};
+ghost use Rattle.hwdb_spec.specs.Refusals.{HasReason};
+ghost use Rattle.hwdb_spec.specs.declared.refusals.Refusal.TheVariants.{Plain};
 
 use crate::answers::{ask_file, explain, list};
 use crate::checks::check;
@@ -267,13 +267,13 @@ fn run<D: Machine, I: Source, O: Sink, E: Sink>(
         Task::Diff { old, new } => {
             printed(diff(alloc, old.as_str(), new.as_str(), system), out, err)
         }
+        Task::Status { json } => printed(status(alloc, root, *json, system), out, err),
         Task::Verify { database } => {
             printed(verify(alloc, root, text_of(database), system), out, err)
         }
         Task::Dump { database } => {
             printed(dump(alloc, root, text_of(database), system), out, err)
         }
-        Task::Status { json } => printed(status(alloc, root, *json, system), out, err),
     }
 }
 

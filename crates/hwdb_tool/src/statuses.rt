@@ -2,9 +2,9 @@
 ghost use Rattle.std.specs.Prelude.{◌≡◌, ◌≤◌, ◌++◌, ℕ, List, All, Some, codes, false, map, option_map, string_bytes, true, IfErr, IfOk, OnOk};
 ghost use Rattle.hwdb_compile.specs.Views.{ForFolders, choice_in};
 ghost use Rattle.hwdb_fs.specs.Internal.{IsNameSet};
-ghost use Rattle.hwdb_fs.specs.Refusals.{HasReason, IsUnreadAt};
-ghost use Rattle.hwdb_inspect.specs.Status;
-ghost use Rattle.hwdb_inspect.specs.Status.{IsStatus, has_database, masked_of, root_words};
+ghost use Rattle.hwdb_spec.specs.Refusals.{HasReason, IsUnreadAt};
+ghost use Rattle.hwdb_spec.specs.Status;
+ghost use Rattle.hwdb_spec.specs.Status.{IsStatus, has_database, masked_of, root_words};
 ghost use Rattle.hwdb_inspect.specs.Views.{report_shown, state_shown};
 ghost use Rattle.hwdb_spec.specs.Asked;
 ghost use Rattle.hwdb_spec.specs.Runs.{OnOut};
@@ -13,7 +13,8 @@ ghost use Rattle.hwdb_spec.specs.System.{bytes_at};
 ghost use Rattle.hwdb_spec.specs.Tree.{Map};
 ghost use Rattle.hwdb_spec.specs.Written.{IsDatabaseOf};
 ghost use Rattle.hwdb_text.specs.Views.{IsStorableChoice, choice_of};
-ghost use Rattle.hwdb_tool.specs.Statuses.{AreMadeOf, IsAskedUnread, IsNotCompiled, IsReported, IsStatusRefused};
+ghost use Rattle.hwdb_spec.specs.StatusErrors.{IsAskedUnread, IsNotCompiled, IsStatusRefused};
+ghost use Rattle.hwdb_tool.specs.Statuses.{AreMadeOf, IsReported};
 ghost use Rattle.hwdb_tool.specs.Views.{texts_in};
 
 use crate::answer::Answer;

@@ -2,7 +2,7 @@
 use Rattle.std.specs.Prelude.{List, [], ◌∷◌, ℕ}
 use Rattle.hwdb_spec.specs.Assignment.{Assignment}
 use Rattle.hwdb_spec.specs.Differences.{Change}
-use Rattle.hwdb_inspect.specs.Status.{first_text}
+use Rattle.hwdb_spec.specs.Status.{first_text}
 use Rattle.hwdb_inspect.specs.declared.summary.TextPart.{TextPart}
 use Rattle.hwdb_inspect.specs.declared.summary.TextPart.TheVariants.{Path, Pattern, Key}
 

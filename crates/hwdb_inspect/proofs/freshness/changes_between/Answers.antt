@@ -1,6 +1,6 @@
 use Rattle.std.proofs.Common.{ap, map, ◌∙◌}
 use Rattle.std.proofs.lemmas.Result.{IfOk-weaker}
-use Rattle.hwdb_inspect.specs.Status.{stale_by}
+use Rattle.hwdb_spec.specs.Status.{stale_by}
 use Rattle.hwdb_inspect.specs.Views.{assignment_of}
 use Rattle.hwdb_inspect.proofs.MergeLemmas.{listed_differences}
 use Rattle.hwdb_inspect.proofs.freshness.changes_between.Goals as goal

@@ -1,7 +1,7 @@
 use Rattle.std.proofs.Common.{◌≡◌, ◌≤◌, ◌+◌, length}
 use Rattle.hwdb_inspect.specs.Internal.Counting.{first_kept}
 use Rattle.hwdb_inspect.specs.Internal.Pairing.{to_tell, size}
-use Rattle.hwdb_inspect.specs.Status.{first_text}
+use Rattle.hwdb_spec.specs.Status.{first_text}
 use Rattle.hwdb_inspect.proofs.freshness.counted.Given as goal
 
 abbrev pub invariant-pairs : goal.invariant-pairs

@@ -3,7 +3,7 @@ use Rattle.std.specs.Borrow.{Bor}
 use Rattle.std.specs.Prelude.{option_map}
 use Rattle.hwdb_spec.specs.Tree.{Map}
 use Rattle.hwdb_spec.specs.Written.{IsDatabaseOf}
-use Rattle.hwdb_inspect.specs.Status.{IsState}
+use Rattle.hwdb_spec.specs.Status.{IsState}
 use Rattle.hwdb_inspect.specs.Views.{state_shown}
 use Rattle.hwdb_inspect.proofs.freshness.state_of.Goals as goal
 

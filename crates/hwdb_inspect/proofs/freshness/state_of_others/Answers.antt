@@ -1,6 +1,6 @@
 use Rattle.std.proofs.Common.{refl, subst, sym}
 use Rattle.std.proofs.lemmas.Result.{IfOk-weaker}
-use Rattle.hwdb_inspect.specs.Status.{IsStateOf, State}
+use Rattle.hwdb_spec.specs.Status.{IsStateOf, State}
 use Rattle.hwdb_inspect.proofs.StateLemmas.{not_same}
 use Rattle.hwdb_inspect.proofs.freshness.state_of_others.Goals as goal
 

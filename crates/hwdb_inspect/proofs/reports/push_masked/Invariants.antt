@@ -1,6 +1,6 @@
 use Rattle.std.proofs.Common.{◌≡◌, ◌++◌, codes, map, take}
 use Rattle.std.specs.Prelude.{flat_map}
-use Rattle.hwdb_inspect.specs.Status.{said_line}
+use Rattle.hwdb_spec.specs.Status.{said_line}
 use Rattle.hwdb_inspect.proofs.reports.push_masked.Given as goal
 
 abbrev pub invariant-loop-path : goal.invariant-loop-path

@@ -1,5 +1,5 @@
 use Rattle.std.proofs.Common.{ap, map, ◌∙◌}
-use Rattle.hwdb_inspect.specs.Status.{update_words}
+use Rattle.hwdb_spec.specs.Status.{update_words}
 use Rattle.hwdb_inspect.specs.Views.{state_shown}
 use Rattle.hwdb_tool.proofs.statuses.report_of.Goals as goal
 

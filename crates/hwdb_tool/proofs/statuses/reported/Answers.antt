@@ -1,9 +1,9 @@
 use Rattle.std.proofs.Common.{ap, map, subst, ◌∙◌, List, ℕ, Option, Bool}
-use Rattle.hwdb_fs.specs.declared.refusals.Refusal.TheVariants.{Plain}
-use Rattle.hwdb_print.specs.declared.errors.ToolError.TheVariants.{Memory}
-use Rattle.hwdb_inspect.specs.Status.{IsState, has_database, report_form, report_of, status_of_state}
+use Rattle.hwdb_spec.specs.declared.refusals.Refusal.TheVariants.{Plain}
+use Rattle.hwdb_spec.specs.declared.errors.ToolError.TheVariants.{Memory}
+use Rattle.hwdb_spec.specs.Status.{IsState, has_database, report_form, report_of, status_of_state}
 use Rattle.hwdb_inspect.specs.Views.{state_shown}
-use Rattle.hwdb_tool.specs.Statuses.{IsAskedUnread}
+use Rattle.hwdb_spec.specs.StatusErrors.{IsAskedUnread}
 use Rattle.hwdb_tool.proofs.ErrorLemmas.{given_error}
 use Rattle.hwdb_tool.proofs.StatusLemmas.{asked_memory}
 use Rattle.hwdb_tool.proofs.statuses.reported.Goals as goal
