@@ -7,9 +7,9 @@ ghost use Rattle.hwdb_spec.specs.Jobs.{IsTask};
 ghost use Rattle.hwdb_spec.specs.CommandLine.{status_app};
 
 use crate::drafts::{Draft, json_option, shared, with_argument};
-use crate::job::Task;
 use crate::matched::has_flag;
 use clap::ArgMatches;
+use hwdb_spec::Task;
 use std::alloc::{AllocError, Global};
 
 /// What the short help says of it.

@@ -6,6 +6,7 @@ use Rattle.hwdb_spec.specs.Errors.{refusal_of_compile}
 use Rattle.hwdb_spec.specs.Folders.{Source}
 use Rattle.hwdb_spec.specs.Reading.{AreUnread}
 use Rattle.hwdb_spec.specs.Refusals.{IsUnreadAt}
+use Rattle.hwdb_spec.specs.Status.{IsMade}
 use Rattle.hwdb_spec.specs.Store.{Contents}
 use Rattle.hwdb_spec.specs.System.{AreFilesIn, etc_files, usr_files}
 use Rattle.hwdb_spec.specs.Texts.{max_file}
@@ -29,6 +30,14 @@ pub record AreNotMade (root : List ℕ) (contents : Contents) (refusal : Refusal
 abbrev pub IsAskedUnread : (root : List ℕ) → Contents → Refusal → Type 0
 IsAskedUnread root contents refusal = (path : List ℕ) × IsAskedPath root contents path × IsUnreadAt contents path refusal
 
--- `status` is refused: the text files can't be read; or not be compiled; or the database that is asked can't be read
+-- the text files were read and compiled, and the database that is asked can't be read
+pub record IsNotBeside (root : List ℕ) (contents : Contents) (refusal : Refusal) : Type 0 where
+  pub of_etc : List Source
+  pub of_usr : List Source
+  pub made : List ℕ
+  pub is_made : IsMade root contents of_etc of_usr made
+  pub unread : IsAskedUnread root contents refusal
+
+-- `status` is refused: the text files can't be read; or not be compiled; or after that the database that is asked can't be read
 abbrev pub IsStatusRefused : (root : List ℕ) → Contents → Refusal → Type 0
-IsStatusRefused root contents refusal = AreUnread root contents refusal ⊎ (AreNotMade root contents refusal ⊎ IsAskedUnread root contents refusal)
+IsStatusRefused root contents refusal = AreUnread root contents refusal ⊎ (AreNotMade root contents refusal ⊎ IsNotBeside root contents refusal)

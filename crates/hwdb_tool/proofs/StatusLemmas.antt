@@ -8,7 +8,7 @@ use Rattle.hwdb_spec.specs.Refusals.{IsUnreadAt}
 use Rattle.hwdb_spec.specs.declared.refusals.Refusal.{Refusal}
 use Rattle.hwdb_spec.specs.declared.refusals.Refusal.TheVariants.{Plain}
 use Rattle.hwdb_spec.specs.declared.errors.ToolError.TheVariants.{Memory}
-use Rattle.hwdb_spec.specs.Status.{IsState, IsStateOf, IsStatus, State, has_database, masked_of, masked_paths, report_form, report_of, stale_by, status_of_state}
+use Rattle.hwdb_spec.specs.Status.{IsMade, IsState, IsStateOf, IsStatus, State, has_database, masked_of, masked_paths, report_form, report_of, stale_by, status_of_state}
 use Rattle.hwdb_spec.specs.Status.State.{Broken, Fresh, Missing, Stale}
 use Rattle.hwdb_spec.specs.Asked.{database_path}
 use Rattle.hwdb_spec.specs.Differences.{differences}
@@ -21,7 +21,7 @@ use Rattle.hwdb_spec.specs.Tree.{Map, Tree, map_of, map_of_files}
 use Rattle.hwdb_spec.specs.Written.{IsDatabaseOf, IsWritten}
 use Rattle.hwdb_tool.specs.Internal.{AreReadOf}
 use Rattle.hwdb_tool.specs.OneOutcome.{IsOneReading, ListingsGiveOneReading}
-use Rattle.hwdb_spec.specs.StatusErrors.{AreNotMade, IsAskedUnread, IsNotCompiled}
+use Rattle.hwdb_spec.specs.StatusErrors.{AreNotMade, IsAskedUnread, IsNotBeside, IsNotCompiled}
 use Rattle.hwdb_tool.specs.Statuses.{AreMadeOf, IsReported}
 use Rattle.hwdb_tool.specs.Views.{texts_in}
 use Rattle.hwdb_tool.specs.declared.answer.Answer.{Answer}
@@ -84,6 +84,16 @@ one_status_text tree form one_reading root json files text text2 status status2 
 
 -- ---- what was read
 module _ (root : List ℕ) (contents : Contents) (listed : List (List ℕ)) (files : List ChosenFile) (read : AreReadOf root contents listed files) where
+  -- the bytes are what is made of it
+  pub made_from : (made : List ℕ) → ForFolders files (λ etc usr. AreMadeOf etc usr made) → IsMade root contents read.of_etc read.of_usr made
+  made_from made made_of =
+      let is = made_of read.of_etc read.of_usr read.are in
+      record { in_etc = read.in_etc; in_usr = read.in_usr; accepted = is.accepted; written = is.written; within = is.within }
+
+  -- the asked database isn't beside them
+  pub not_beside : (made : List ℕ) (refusal : Refusal) → ForFolders files (λ etc usr. AreMadeOf etc usr made) → IsAskedUnread root contents refusal → IsNotBeside root contents refusal
+  not_beside made refusal made_of unread = record { of_etc = read.of_etc; of_usr = read.of_usr; made = made; is_made = made_from made made_of; unread = unread }
+
   -- what is reported beside the bytes that are made of it
   pub reported_status : (json : Bool) (made : List ℕ) (masked : List (List ℕ)) (a : Answer) → ForFolders files (λ etc usr. AreMadeOf etc usr made)
       → masked ≡ masked_paths listed (map choice_in files) → ((m : Map) → IsDatabaseOf m made → IsReported root json contents made m masked a)
@@ -99,7 +109,7 @@ module _ (root : List ℕ) (contents : Contents) (listed : List (List ℕ)) (fil
           of_etc = read.of_etc;
           of_usr = read.of_usr;
           made = made;
-          is_made = record { in_etc = read.in_etc; in_usr = read.in_usr; accepted = is.accepted; written = is.written; within = is.within };
+          is_made = made_from made made_of;
           state = told.state;
           stands = told.stands;
           is = told.is ∙ ap (λ (l : List (List ℕ)). report_form json (report_of root (has_database false root contents) (has_database true root contents) l told.state)) names;

@@ -16,6 +16,8 @@ ghost use Rattle.hwdb_text.specs.Views.{IsStorableChoice, choice_of};
 ghost use Rattle.hwdb_spec.specs.StatusErrors.{IsAskedUnread, IsNotCompiled, IsStatusRefused};
 ghost use Rattle.hwdb_tool.specs.Statuses.{AreMadeOf, IsReported};
 ghost use Rattle.hwdb_tool.specs.Views.{texts_in};
+ghost use Rattle.hwdb_spec.specs.declared.errors.ToolError.{ToolError};
+ghost use Rattle.hwdb_spec.specs.declared.refusals.Refusal.TheVariants.{Plain};
 
 use crate::answer::Answer;
 use crate::databases::{ETC_FOLDER, USR_FOLDER, found_in};
@@ -89,6 +91,7 @@ fn compiled(alloc: Global, files: &[ChosenFile<'_>]) -> Result<Compiled, Refusal
         (λ c. ForFolders files.now (λ etc usr. AreMadeOf etc usr c.database.items)) }
     ensures refused { IfErr result
         (λ r. ForFolders files.now (λ etc usr. IsNotCompiled etc usr r)) }
+    ensures plain { IfErr result (λ r. (error : ToolError) × (r ≡ Plain error)) }
 {
     match compile_chosen(alloc, files, MAX_BYTES) {
         Ok(compiled) => Ok(compiled),
