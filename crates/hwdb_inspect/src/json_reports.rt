@@ -26,11 +26,7 @@ fn put_maybe(json: &mut Writer, said: &Option<Vec<u8>>) -> Result<(), AllocError
 }
 
 /// The same under a name.
-fn put_maybe_at(
-    json: &mut Writer,
-    name: &str,
-    said: &Option<Vec<u8>>,
-) -> Result<(), AllocError>
+fn put_maybe_at(json: &mut Writer, name: &str, said: &Option<Vec<u8>>) -> Result<(), AllocError>
     ensures before { json.new.before ≡ json.old.before }
     ensures tokens { OnOk result (json.new.tokens ≡ json.old.tokens
         ++ tokens_of_member (name.now, maybe_json (option_map (λ t. t.items) said.now))) }

@@ -109,11 +109,7 @@ fn is_usr_there<D: System>(alloc: Global, root: &str, system: &D) -> Result<bool
 }
 
 /// The database of /usr/lib, if there is none of /etc.
-fn asked_in_usr<D: System>(
-    alloc: Global,
-    root: &str,
-    system: &D,
-) -> Result<AskedDatabase, Refusal>
+fn asked_in_usr<D: System>(alloc: Global, root: &str, system: &D) -> Result<AskedDatabase, Refusal>
     ensures etc { IfOk result (λ a. a.etc ≡ false) }
     ensures usr { D.Store.tells → IfOk result
         (λ a. a.usr ≡ has_database true root.now (D.Store.seen system.now)) }
