@@ -1,6 +1,6 @@
 //! Help: what `clap` says of a command, without options that do nothing for it; and a short one for a line without a
 //! command.
-use crate::{ask, check, device, diff, dump, explain, list, near, query, test, update, verify};
+use crate::{ask, check, device, diff, dump, explain, list, near, query, status, test, update, verify};
 use std::alloc::{AllocError, Global};
 
 /// What is said if no command is given, before the commands.
@@ -24,6 +24,7 @@ const COMMANDS: [(&str, &str); 12] = [
     ("near", near::SHORT),
     ("device", device::SHORT),
     ("ask", ask::SHORT),
+    ("status", status::SHORT),
     ("check", check::SHORT),
     ("test", test::SHORT),
     ("diff", diff::SHORT),

@@ -45,6 +45,7 @@ pub mod LeftOut
 pub mod Asked
 pub mod Library
 pub mod Hiding
+pub mod Status
 pub mod Done
 pub mod Near
 pub mod NearAsked
@@ -62,6 +63,7 @@ pub mod Errors
 pub mod CompileErrors
 pub mod DatabaseErrors
 pub mod VerifyErrors
+pub mod StatusErrors
 pub mod DiffErrors
 pub mod DumpErrors
 pub mod CheckErrors
