@@ -2,6 +2,7 @@
 ghost use Rattle.std.specs.Prelude.{◌≡◌, ◌≤◌, ℕ, List, Some, IfOk, IfErr, IfSome, OnOk, is_some, map, option_map, string_bytes, vec_len};
 ghost use Rattle.hwdb_spec.specs.Texts.{max_file};
 ghost use Rattle.hwdb_spec.specs.System.{AreNamesIn, bytes_at};
+ghost use Rattle.hwdb_spec.specs.GivenFolders.{IsUnlistedFolder};
 ghost use Rattle.hwdb_spec.specs.Reading.{IsFolderAt};
 ghost use Rattle.hwdb_spec.specs.Refusals.{HasReason, IsUnlisted, IsUnread, IsUnreadAt, IsUnreadable};
 
@@ -36,6 +37,8 @@ pub trait System: Store {
         ensures names { Self.tells → IfOk result (λ found. IsFolderAt path.now (Self.seen self.now)
             (option_map (λ names. map string_bytes names.items) found)) }
         ensures refused { IfErr result (IsUnlisted path.now) }
+        ensures folder { Self.tells → IfErr result
+            (IsUnlistedFolder (Self.seen self.now) path.now) }
         ensures reason { IfErr result
             (HasReason (may_fail self.now) ⊥ (Self.seen self.now)) };
 

@@ -67,6 +67,7 @@ pub mod StatusErrors
 pub mod DiffErrors
 pub mod DumpErrors
 pub mod CheckErrors
+pub mod AnsweredLines
 pub mod Refusals
 pub mod Selected
 pub mod Reading

@@ -74,6 +74,7 @@
 //! | `DiffErrors` | the same of comparing two |
 //! | `DumpErrors` | the same of printing one as text |
 //! | `CheckErrors` | the same of checking text files |
+//! | `AnsweredLines` | which lines of standard input are answered, and what was printed before an error |
 //! | `Refusals` | the errors that end the program, and the line of each |
 //! | `Selected` | which text files of two folders are read, and what each holds |
 //! | `Reading` | the errors of reading them |

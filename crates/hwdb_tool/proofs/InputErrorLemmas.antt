@@ -20,7 +20,7 @@ use Rattle.hwdb_spec.specs.Refusals.{IsAt, IsOfDatabase, IsOver, IsUnlisted, IsU
 use Rattle.hwdb_spec.specs.declared.refusals.Refusal.{Refusal}
 use Rattle.hwdb_spec.specs.declared.refusals.Refusal.TheVariants.{At, InWords, NoDatabase, Plain}
 use Rattle.hwdb_spec.specs.CheckedReasons.{HasCheckedReason, HasNamedReason}
-use Rattle.hwdb_spec.specs.GivenFolders.{AreFoldersUnread}
+use Rattle.hwdb_spec.specs.GivenFolders.{AreFoldersUnread, IsFolderUnread, IsUnlistedFolder}
 use Rattle.hwdb_tool.specs.OneRefusal.{InputIsLong, InputIsRead, IsInNamed, LineIsLong}
 use Rattle.hwdb_spec.specs.NamedDatabases.{IsUnnamed}
 use Rattle.hwdb_spec.specs.TestErrors.{AreUntried, HasTestReason, IsNoTrial}
@@ -97,18 +97,18 @@ module _ (fails : List ℕ → Type 0) (files : Contents) (input : Option (List 
     files_long false some r over reason = absurd (some_dash given some dash)
 
 -- ---- the files and folders of `check`
-module _ (given : List (List ℕ)) (path : List ℕ) where
+module _ (files : Contents) (given : List (List ℕ)) (path : List ℕ) where
   in_folder : (read : Bool) (named : List ℕ) (at : List ℕ) → Contains given named → (at ≡ folder_of named) ⊎ ((name : List ℕ) × (at ≡ path_in (folder_of named) name)) → at ≡ path → IsInNamed given path
   in_folder read named at among is same = (named, among, subst (λ (p : List ℕ). (p ≡ folder_of named) ⊎ ((name : List ℕ) × (p ≡ path_in (folder_of named) name))) same is)
 
-  listed_read : (named : List ℕ) (r : Refusal) → Contains given named → IsUnlisted (folder_of named) r → IsOver Read path r → IsInNamed given path
-  listed_read named (At e at cause) among unread over = in_folder true named at.items among (subst (λ (k : ToolError). IsUnlisted (folder_of named) (At k at cause)) over.0 unread) over.1
+  listed_read : (named : List ℕ) (r : Refusal) → Contains given named → IsUnlistedFolder files (folder_of named) r → IsOver Read path r → IsInNamed given path
+  listed_read named (At e at cause) among unread over = in_folder true named at.items among (subst (λ (k : ToolError). IsUnlistedFolder files (folder_of named) (At k at cause)) over.0 unread) over.1
   listed_read named (Plain e) among unread over = absurd over
   listed_read named NoDatabase among unread over = absurd over
   listed_read named (InWords text) among unread over = absurd over
 
-  listed_long : (named : List ℕ) (r : Refusal) → Contains given named → IsUnlisted (folder_of named) r → IsOver TooLong path r → IsInNamed given path
-  listed_long named (At e at cause) among unread over = in_folder false named at.items among (inl (subst (λ (k : ToolError). IsUnlisted (folder_of named) (At k at cause)) over.0 unread)) over.1
+  listed_long : (named : List ℕ) (r : Refusal) → Contains given named → IsUnlistedFolder files (folder_of named) r → IsOver TooLong path r → IsInNamed given path
+  listed_long named (At e at cause) among unread over = in_folder false named at.items among (inl (subst (λ (k : ToolError). IsUnlistedFolder files (folder_of named) (At k at cause)) over.0 unread).0) over.1
   listed_long named (Plain e) among unread over = absurd over
   listed_long named NoDatabase among unread over = absurd over
   listed_long named (InWords text) among unread over = absurd over
@@ -117,13 +117,22 @@ over_plain : (error e : ToolError) (path : List ℕ) (r : Refusal) → r ≡ Pla
 over_plain error e path r is over = subst (IsOver error path) is over
 
 module _ (fails : List ℕ → Type 0) (files : Contents) (input : Option (List ℕ)) (n m : ℕ) where
+  among : (given : List (List ℕ)) (r : Refusal) (folder : AreFoldersUnread files given r) → Contains given folder.path
+  among given r folder = subst (λ (l : List (List ℕ)). Contains l folder.path) (sym folder.are) (Contains-append_right folder.before (folder.path ∷ folder.after) folder.path (0, omega arith, refl))
+
   folder_read : (given : List (List ℕ)) (r : Refusal) → IsOver Read (codes "standard input") r → AreFoldersUnread files given r → IsInNamed given (codes "standard input")
-  folder_read given r over (named, among, inl unread) = listed_read given (codes "standard input") named r among unread over
-  folder_read given r over (named, among, inr many) = absurd (over_plain Read TooManyFiles (codes "standard input") r many.0 over)
+  folder_read given r over folder = by folder.unread
+    where
+      by : IsFolderUnread files folder.path r → IsInNamed given (codes "standard input")
+      by (inl unread) = listed_read files given (codes "standard input") folder.path r (among given r folder) unread over
+      by (inr many) = absurd (over_plain Read TooManyFiles (codes "standard input") r many.0 over)
 
   folder_long : (given : List (List ℕ)) (r : Refusal) → IsOver TooLong (codes "standard input") r → AreFoldersUnread files given r → IsInNamed given (codes "standard input")
-  folder_long given r over (named, among, inl unread) = listed_long given (codes "standard input") named r among unread over
-  folder_long given r over (named, among, inr many) = absurd (over_plain TooLong TooManyFiles (codes "standard input") r many.0 over)
+  folder_long given r over folder = by folder.unread
+    where
+      by : IsFolderUnread files folder.path r → IsInNamed given (codes "standard input")
+      by (inl unread) = listed_long files given (codes "standard input") folder.path r (among given r folder) unread over
+      by (inr many) = absurd (over_plain TooLong TooManyFiles (codes "standard input") r many.0 over)
 
   abbrev Named : (given : List (List ℕ)) → Type 0
   Named given = ((paths : List (List ℕ)) × StandFor files given paths × Contains paths (codes "standard input")) ⊎ IsInNamed given (codes "standard input")
@@ -159,10 +168,10 @@ ends_so : (root : List ℕ) (files : Contents) (path words : List ℕ) → IsAsk
 ends_so root files path words (inl etc) is = last_of (database_folder false root) words (sym etc ∙ is)
 ends_so root files path words (inr usr) is = last_of (database_folder true root) words (sym usr.0 ∙ is)
 
-asked_not_input : (root : List ℕ) (files : Contents) (path : List ℕ) → IsAskedPath root files path → path ≡ codes "standard input" → ⊥
+pub asked_not_input : (root : List ℕ) (files : Contents) (path : List ℕ) → IsAskedPath root files path → path ≡ codes "standard input" → ⊥
 asked_not_input root files path asked is = let e : 110 ≡ 116 = ends_so root files path (codes "standard input") asked is in omega (arith, e)
 
-asked_not_line : (root : List ℕ) (files : Contents) (path : List ℕ) → IsAskedPath root files path → path ≡ codes "a line of standard input" → ⊥
+pub asked_not_line : (root : List ℕ) (files : Contents) (path : List ℕ) → IsAskedPath root files path → path ≡ codes "a line of standard input" → ⊥
 asked_not_line root files path asked is = let e : 110 ≡ 116 = ends_so root files path (codes "a line of standard input") asked is in omega (arith, e)
 
 module _ (root : List ℕ) (fails : List ℕ → Type 0) (files : Contents) (input : Option (List ℕ)) (n m : ℕ) where

@@ -24,7 +24,7 @@ use Rattle.hwdb_spec.specs.Refusals.{HasReason, IsUnentered}
 use Rattle.hwdb_spec.specs.declared.refusals.Refusal.{Refusal}
 use Rattle.hwdb_spec.specs.declared.refusals.Refusal.TheVariants.{At, InWords, NoDatabase, Plain}
 use Rattle.hwdb_tool.specs.OneOutcome.{ListingsGiveOneChoice, ListingsGiveOneReading, scene_of}
-use Rattle.hwdb_tool.specs.OneRefusal.{IsCovered, IsOfWhatIsRead, JobEndsInOneError, DoneJobIsNoError, JobIsNotTold, RootIsEntered, scene_then}
+use Rattle.hwdb_tool.specs.OneRefusal.{DoneJobEndsSo, IsCovered, IsOfWhatIsRead, JobIsNotTold, JobsEndAlike, RootIsEntered, scene_then}
 use Rattle.hwdb_spec.specs.Program.{root_of}
 use Rattle.hwdb_spec.specs.TaskRefusals.{refused_status}
 use Rattle.hwdb_spec.specs.Undone.{IsUnwritable}
@@ -33,7 +33,7 @@ use Rattle.hwdb_tool.proofs.AskErrorLemmas.{OneForm, Unasked}
 use Rattle.hwdb_tool.proofs.DiffErrorLemmas.{Undiffed}
 use Rattle.hwdb_tool.proofs.JobLemmas.{apart, cut_last, is_named, one_value, one_values, same_root, word_of}
 use Rattle.hwdb_tool.proofs.TrialErrorLemmas.{Untested}
-use Rattle.hwdb_tool.proofs.TaskErrorLemmas.{IsLeftThen, Unchecked, Uncompared, Why, end_of, not_both_ends, said_first, why}
+use Rattle.hwdb_tool.proofs.TaskErrorLemmas.{IsLeftThen, OneStand, Unchecked, Uncompared, Why, end_of, not_both_ends, said_first, why}
 
 -- two tasks that the same words ask for
 module _ (name : Text) (inner : List Row) where
@@ -128,7 +128,7 @@ module _ (top : List Row) where
   kind_of_job None j k one two kind = absurd one
   kind_of_job (Some p) j k one two kind = same_kind p.0 p.1 j.task k.task one.task two.task kind
 
-  status_of_job : (found : Option (Text × List Row)) (j k : Job) → IsJobOf top found j → IsJobOf top found k → refused_status j.task ≡ refused_status k.task
+  pub status_of_job : (found : Option (Text × List Row)) (j k : Job) → IsJobOf top found j → IsJobOf top found k → refused_status j.task ≡ refused_status k.task
   status_of_job None j k one two = absurd one
   status_of_job (Some p) j k one two = same_status p.0 p.1 j.task k.task one.task two.task
 
@@ -178,8 +178,8 @@ pub root_is_entered : (fails fails_now : List ℕ → Type 0) (left left_now : O
 root_is_entered fails fails_now left left_now = λ words status before now refused never of.
     entered fails before.files refused.unread.0 never refused.refusal refused.unread.3 refused.reason of
 
-module _ (header : OneHeader) (tree : OneTree) (choice : ListingsGiveOneChoice) (reading : ListingsGiveOneReading) (stand : (files : Contents) (given ps qs : List (List ℕ)) → StandFor files given ps → StandFor files given qs → ps ≡ qs) (fails fails_now fails2 fails2_now : List ℕ → Type 0) (left left_now left2 left2_now : Outcomes) where
-  pub one_job_error : JobEndsInOneError fails fails_now fails2 fails2_now left left_now left2 left2_now
+module _ (header : OneHeader) (tree : OneTree) (choice : ListingsGiveOneChoice) (reading : ListingsGiveOneReading) (stand : OneStand) (fails fails_now fails2 fails2_now : List ℕ → Type 0) (left left_now left2 left2_now : Outcomes) where
+  pub one_job_error : JobsEndAlike IsCovered fails fails_now fails2 fails2_now left left_now left2 left2_now
   one_job_error = λ words status status2 before now before2 now2 input one two kind is is2.
       let top = matches_of hwdb_app words in
       let found = subcommand_of hwdb_app words in
@@ -198,7 +198,7 @@ module _ (header : OneHeader) (tree : OneTree) (choice : ListingsGiveOneChoice) 
             (ap (λ (f : Contents). said_first header tree k.task (root_of k) k.usr f) input.files ∙ said_of_job top header tree before.files found j k one.asked two.asked) second.1),
       )
 
-  pub no_job_error : OneForm → DoneJobIsNoError fails fails_now fails2 fails2_now left left_now left2 left2_now
+  pub no_job_error : OneForm → DoneJobEndsSo IsCovered fails fails_now fails2 fails2_now left left_now left2 left2_now
   no_job_error form = λ words status status2 before now before2 now2 input done refused kind is.
       let top = matches_of hwdb_app words in
       let found = subcommand_of hwdb_app words in

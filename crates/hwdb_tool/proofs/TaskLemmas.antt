@@ -148,7 +148,7 @@ module _ (tree : (bytes : List ℕ) (t u : Tree) → IsDatabase bytes t → IsDa
   output : (from_input : Bool) (root : List ℕ) (kind : Form) (devices : List (List ℕ)) (input : List ℕ) (files : Contents) (text text2 : List ℕ)
       → AreAnsweredFrom from_input root kind devices (Some input) files text → AreAnsweredFrom from_input root kind devices (Some input) files text2 → text ≡ text2
   output false root kind devices input files text text2 one two = one_answer tree root (texts_of kind devices) files text text2 one two
-  output true root kind devices input files text text2 one two = one_answer tree root (texts_of kind (devices_of input)) files text text2 one two
+  output true root kind devices input files text text2 one two = one_answer tree root (texts_of kind (devices_of input)) files text text2 one.1 two.1
 
   from : (after : Option (List ℕ)) (p q : Option Position) → IsFrom after p → IsFrom after q → p ≡ q
   from None None None one two = refl

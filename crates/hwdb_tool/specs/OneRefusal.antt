@@ -4,7 +4,7 @@ use Rattle.std.specs.Prelude.{◌++◌, ◌<◌, ◌∷◌, ◌≡◌, ◌⊎◌
 use Rattle.hwdb_spec.specs.Asked.{database_path}
 use Rattle.hwdb_spec.specs.Failures.{HasFailed}
 use Rattle.hwdb_spec.specs.Given.{is_input}
-use Rattle.hwdb_spec.specs.System.{etc_files, usr_files}
+use Rattle.hwdb_spec.specs.System.{bytes_at, etc_files, usr_files}
 use Rattle.hwdb_spec.specs.ManyDevices.{HasLongLine}
 use Rattle.hwdb_spec.specs.Texts.{max_file}
 use Rattle.hwdb_spec.specs.Verdicts.{verdict_text}
@@ -18,7 +18,6 @@ use Rattle.hwdb_spec.specs.declared.job.Task.TheVariants.{Ask, Check, Device, Di
 use Rattle.hwdb_spec.specs.Runs.{Told}
 use Rattle.hwdb_spec.specs.CheckedFiles.{StandFor, folder_of}
 use Rattle.hwdb_spec.specs.Store.{Contents, Outcomes, path_in}
-use Rattle.hwdb_spec.specs.GivenFolders.{AreFoldersUnread}
 use Rattle.hwdb_tool.specs.OneOutcome.{IsOneInput, Scene, scene_of}
 use Rattle.hwdb_spec.specs.Program.{IsJobDone, IsTaskDone, reads_input, root_of, streams}
 use Rattle.hwdb_spec.specs.TaskRefusals.{AreRefused, IsJobRefused, IsNotDone, IsRootRefused}
@@ -58,8 +57,8 @@ IsOneError NoDatabase NoDatabase = Unit {0}
 IsOneError (InWords text) (InWords text2) = IsOneText text.items text2.items
 IsOneError refusal refusal2 = ⊥
 
--- The task leaves out no file that can't be read, and doesn't answer devices of standard input, each as it comes. It isn't `device`:
--- what is read of sysfs is no file of the law. Nor is it `status`.
+-- The task leaves out no file that can't be read, and prints its answer at once. It isn't `device`: what is read of sysfs is no file of
+-- the law. Nor is it `status`.
 abbrev pub IsCovered : Task → Type 0
 IsCovered (Update verbose skip) = skip ≡ false
 IsCovered (Query devices json) = is_input (map string_bytes devices.items) ≡ false
@@ -74,6 +73,14 @@ IsCovered (Verify database) = Unit {0}
 IsCovered (Dump database) = Unit {0}
 IsCovered (Status json) = ⊥
 IsCovered (Device path strings json pattern) = ⊥
+
+-- it answers devices of standard input, each as it comes
+abbrev pub IsStream : Task → Type 0
+IsStream task = streams task ≡ true
+
+-- the laws speak of the task
+abbrev pub IsOfLaw : Task → Type 0
+IsOfLaw task = IsCovered task ⊎ IsStream task
 
 -- the path is one of a database that is read: the given one, or without one that of /etc's or of /usr/lib's
 abbrev pub IsOfDatabase : (given : Option (List ℕ)) (root path : List ℕ) → Type 0
@@ -118,9 +125,10 @@ NeverFails fails task root = (path : List ℕ) → MayRead task root path → fa
 abbrev pub IsOfListing : (root : List ℕ) → Refusal → Type 0
 IsOfListing root refusal = IsOver TooLong (etc_files root) refusal ⊎ IsOver TooLong (usr_files root) refusal
 
--- the error is that of a folder that the words of `check` name: it can't be listed, or has too many text files
+-- the same of a folder that the words of `check` name: no file is there
 abbrev pub IsOfNamedFolder : Task → Contents → Refusal → Type 0
-IsOfNamedFolder (Check files allowed json) contents refusal = AreFoldersUnread contents (map string_bytes files.items) refusal
+IsOfNamedFolder (Check files allowed json) contents refusal =
+    (path : List ℕ) × Contains (map string_bytes files.items) path × IsOver TooLong (folder_of path) refusal × (bytes_at contents (folder_of path) ≡ None)
 IsOfNamedFolder task contents refusal = ⊥
 
 -- The error of a task comes of what it reads: no reading may fail, and none of standard input has. Memory was granted, both
@@ -140,23 +148,29 @@ pub record IsOneEnd (refusal refusal2 : Refusal) (now now2 : Scene) : Type 0 whe
   pub one_out : now.out.bytes ≡ now2.out.bytes
 
 -- ---- laws
--- Such a task ends with one error over one input, if its errors come of what it reads. What a crash may leave, and which readings may
--- fail later, is any.
-abbrev pub ErrorsAreOne : (fails fails_now fails2 fails2_now : (path : List ℕ) → Type 0) (left left_now left2 left2_now : Outcomes) → Type 0
-ErrorsAreOne fails fails_now fails2 fails2_now left left_now left2 left2_now =
+-- Tasks of such a kind end with one error over one input, if their errors come of what they read. What a crash may leave, and which
+-- readings may fail later, is any.
+abbrev pub EndAlike : (Kind : Task → Type 0) (fails fails_now fails2 fails2_now : (path : List ℕ) → Type 0) (left left_now left2 left2_now : Outcomes) → Type 0
+EndAlike Kind fails fails_now fails2 fails2_now left left_now left2 left2_now =
     (task : Task) (root : List ℕ) (usr strict : Bool) (refusal refusal2 : Refusal) (before now before2 now2 : Scene)
-    → IsCovered task → IsOneInput before before2 → IsOfReading fails task root before now refusal → IsOfReading fails2 task root before2 now2 refusal2
+    → Kind task → IsOneInput before before2 → IsOfReading fails task root before now refusal → IsOfReading fails2 task root before2 now2 refusal2
     → IsNotDone task root usr strict (scene_of fails left before) (scene_of fails_now left_now now) refusal
     → IsNotDone task root usr strict (scene_of fails2 left2 before2) (scene_of fails2_now left2_now now2) refusal2
     → IsOneEnd refusal refusal2 now now2
 
--- And a task that may be done over that input doesn't end with such an error.
-abbrev pub DoneIsNoError : (fails fails_now fails2 fails2_now : (path : List ℕ) → Type 0) (left left_now left2 left2_now : Outcomes) → Type 0
-DoneIsNoError fails fails_now fails2 fails2_now left left_now left2 left2_now =
+abbrev pub ErrorsAreOne : (fails fails_now fails2 fails2_now : (path : List ℕ) → Type 0) (left left_now left2 left2_now : Outcomes) → Type 0
+ErrorsAreOne = EndAlike IsOfLaw
+
+-- And one that may be done over that input doesn't end with such an error.
+abbrev pub DoneEndsSo : (Kind : Task → Type 0) (fails fails_now fails2 fails2_now : (path : List ℕ) → Type 0) (left left_now left2 left2_now : Outcomes) → Type 0
+DoneEndsSo Kind fails fails_now fails2 fails2_now left left_now left2 left2_now =
     (task : Task) (root : List ℕ) (usr strict : Bool) (status : ℕ) (refusal : Refusal) (before now before2 now2 : Scene)
-    → IsCovered task → IsOneInput before before2 → IsOfReading fails2 task root before2 now2 refusal
+    → Kind task → IsOneInput before before2 → IsOfReading fails2 task root before2 now2 refusal
     → IsTaskDone task root usr strict status (scene_of fails left before) (scene_of fails_now left_now now)
     → IsNotDone task root usr strict (scene_of fails2 left2 before2) (scene_of fails2_now left2_now now2) refusal → ⊥
+
+abbrev pub DoneIsNoError : (fails fails_now fails2 fails2_now : (path : List ℕ) → Type 0) (left left_now left2 left2_now : Outcomes) → Type 0
+DoneIsNoError = DoneEndsSo IsOfLaw
 
 -- ---- of standard input
 -- the path is that of a folder that the words name, or of something in it
@@ -207,23 +221,29 @@ scene_then err scene = record { files = scene.files; failures = scene.failures; 
 
 -- Words that ask for such a task end with one status and one error over one input, if it comes of what is read. Before its line
 -- both outputs are the same.
-abbrev pub JobEndsInOneError : (fails fails_now fails2 fails2_now : (path : List ℕ) → Type 0) (left left_now left2 left2_now : Outcomes) → Type 0
-JobEndsInOneError fails fails_now fails2 fails2_now left left_now left2 left2_now =
+abbrev pub JobsEndAlike : (Kind : Task → Type 0) (fails fails_now fails2 fails2_now : (path : List ℕ) → Type 0) (left left_now left2 left2_now : Outcomes) → Type 0
+JobsEndAlike Kind fails fails_now fails2 fails2_now left left_now left2 left2_now =
     (words : List (List ℕ)) (status status2 : ℕ) (before now before2 now2 : Scene)
     → IsOneInput before before2
     → (one : IsJobRefused words status (scene_of fails left before) (scene_of fails_now left_now now))
     → (two : IsJobRefused words status2 (scene_of fails2 left2 before2) (scene_of fails2_now left2_now now2))
-    → IsCovered one.job.task
+    → Kind one.job.task
     → IsOfReading fails one.job.task (root_of one.job) before now one.refusal → IsOfReading fails2 two.job.task (root_of two.job) before2 now2 two.refusal
     → (status ≡ status2) × IsOneEnd one.refusal two.refusal (scene_then one.err_then now) (scene_then two.err_then now2)
 
+abbrev pub JobEndsInOneError : (fails fails_now fails2 fails2_now : (path : List ℕ) → Type 0) (left left_now left2 left2_now : Outcomes) → Type 0
+JobEndsInOneError = JobsEndAlike IsOfLaw
+
 -- What they ask for isn't done over an input over which it may end so.
-abbrev pub DoneJobIsNoError : (fails fails_now fails2 fails2_now : (path : List ℕ) → Type 0) (left left_now left2 left2_now : Outcomes) → Type 0
-DoneJobIsNoError fails fails_now fails2 fails2_now left left_now left2 left2_now =
+abbrev pub DoneJobEndsSo : (Kind : Task → Type 0) (fails fails_now fails2 fails2_now : (path : List ℕ) → Type 0) (left left_now left2 left2_now : Outcomes) → Type 0
+DoneJobEndsSo Kind fails fails_now fails2 fails2_now left left_now left2 left2_now =
     (words : List (List ℕ)) (status status2 : ℕ) (before now before2 now2 : Scene) → IsOneInput before before2
     → (done : IsJobDone words status (scene_of fails left before) (scene_of fails_now left_now now))
     → (refused : IsJobRefused words status2 (scene_of fails2 left2 before2) (scene_of fails2_now left2_now now2))
-    → IsCovered done.job.task → IsOfReading fails2 refused.job.task (root_of refused.job) before2 now2 refused.refusal → ⊥
+    → Kind done.job.task → IsOfReading fails2 refused.job.task (root_of refused.job) before2 now2 refused.refusal → ⊥
+
+abbrev pub DoneJobIsNoError : (fails fails_now fails2 fails2_now : (path : List ℕ) → Type 0) (left left_now left2 left2_now : Outcomes) → Type 0
+DoneJobIsNoError = DoneJobEndsSo IsOfLaw
 
 -- The root is entered, if looking at it can't fail, but for want of memory.
 abbrev pub RootIsEntered : (fails fails_now : (path : List ℕ) → Type 0) (left left_now : Outcomes) → Type 0
