@@ -5,9 +5,10 @@ ghost use Rattle.hwdb_spec.specs.DeviceTexts;
 ghost use Rattle.hwdb_device.specs.Laws.{SameAnswersSameText, TextIsOfFiles};
 ghost use Rattle.hwdb_device.specs.Rows.{KeysRow, ListRow, MouseRow, NoRow, PatternRow, StringsRow, TextRow};
 
+use hwdb_near::patterns_are_of_files;
 use hwdb_query::compiled_answers_are_last;
 
-/// What is printed depends on what each string gets, and on nothing else of a database.
+/// What is printed depends on what each string gets, and of a database on nothing else but the patterns that are near.
 pub fn same_answers_same_text()
     ensures same { SameAnswersSameText }
 {}
@@ -17,6 +18,7 @@ pub fn text_is_of_files()
     ensures files { TextIsOfFiles }
 {
     compiled_answers_are_last();
+    patterns_are_of_files();
     same_answers_same_text();
 }
 

@@ -5,6 +5,7 @@
 //! | Module | What it does |
 //! |---|---|
 //! | `printing` | what is printed of a device |
+//! | `nearest` | what is near to strings that get nothing |
 //! | `row` | the line of a device in a list |
 #![tactic(auto)]
 
@@ -14,6 +15,7 @@ mod gifts;
 mod json_lines;
 mod kinds;
 mod laws;
+mod nearest;
 mod outcomes;
 mod printing;
 mod records;

@@ -30,7 +30,7 @@ fn is_before(a: &PatternAt<'_>, b: &PatternAt<'_>) -> bool
 }
 
 /// Whether two patterns have one text.
-fn same(a: &[u8], b: &[u8]) -> bool
+pub(crate) fn same(a: &[u8], b: &[u8]) -> bool
     ensures { result ≡ Folders.same a.now b.now }
 {
     a.cmp(b).is_eq()

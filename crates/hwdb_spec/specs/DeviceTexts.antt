@@ -1,6 +1,6 @@
 -- What `device` prints of a device: the strings that udev asks for it, what a database gives each, and the properties that the device
 -- has in the end. The command and its forms are our choice.
-use Rattle.std.specs.Prelude.{Bool, true, ℕ, List, [], ◌∷◌, ◌++◌, ◌==◌, Option, None, Some, codes, filter, flat_map, get_or, if◌then◌else◌, map, nat_eq, not, option_map, reverse}
+use Rattle.std.specs.Prelude.{Bool, true, false, ℕ, List, [], ◌∷◌, ◌++◌, ◌==◌, Option, None, Some, codes, filter, flat_map, get_or, if◌then◌else◌, is_some, map, nat_eq, not, option_map, reverse}
 use Rattle.std.specs.List.{starts_with}
 use Rattle.std.specs.Option.{option_map_or, option_or}
 use Rattle.json.specs.Json.{Json}
@@ -12,6 +12,9 @@ use Rattle.hwdb_spec.specs.Explanations.{explained, explanations_text}
 use Rattle.hwdb_spec.specs.Folders.{Source, all_assignments, same}
 use Rattle.hwdb_spec.specs.Json.{has_name, json_line, object_of, property_member, raw_members, text_json}
 use Rattle.hwdb_spec.specs.Lines.{byte, is_none}
+use Rattle.hwdb_spec.specs.Near.{PatternAt}
+use Rattle.hwdb_spec.specs.NearAsked.{database_patterns}
+use Rattle.hwdb_spec.specs.NearEach.{files_patterns, nearest_reports}
 use Rattle.hwdb_spec.specs.Lookups.{Found, Told, first_value, lookups}
 use Rattle.hwdb_spec.specs.Sysfs.{Ancestor, At, Device, attribute_text, first_of, has_text}
 use Rattle.hwdb_spec.specs.Texts.{property_text}
@@ -243,18 +246,37 @@ first_record (f ∷ more) = record_with f.text any_property
 abbrev pub record_text : List Found → List ℕ
 record_text found = record_after (first_record found) found
 
+-- ---- what is near to strings that get nothing
+
+-- a string that gets nothing, though people set properties for such
+abbrev pub is_wanting : Found → Bool
+is_wanting f = if is_none f.told then is_some (settings f.text) else false
+
+-- these strings, ascending, each once
+abbrev pub wanting : List Found → List (List ℕ)
+wanting found = in_order text_cmp (map (λ (f : Found). f.text) (filter is_wanting found))
+
+-- reports of the nearest patterns, after a line that says what they are
+abbrev pub nearest_part : List ℕ → List ℕ
+nearest_part [] = []
+nearest_part (b ∷ rest) = codes "nearest patterns to what got nothing:\n" ++ b ∷ rest
+
+-- for each such string the nearest pattern that begins with the same part, if there is one
+abbrev pub nearest_text : List PatternAt → List Found → List ℕ
+nearest_text patterns found = nearest_part (nearest_reports patterns (wanting found))
+
 -- ---- what is printed
 
--- what is printed of strings that are asked for a device
-abbrev pub found_form : DeviceForm → Device → List Found → List ℕ
-found_form form.Lookups d found = lookups_text d found
-found_form form.Strings d found = strings_text found
-found_form form.Json d found = lookups_json d found
-found_form form.Pattern d found = record_text found
+-- what is printed of strings that are asked for a device, by the patterns of a database
+abbrev pub found_form : DeviceForm → Device → List PatternAt → List Found → List ℕ
+found_form form.Lookups d patterns found = lookups_text d found ++ nearest_text patterns found
+found_form form.Strings d patterns found = strings_text found
+found_form form.Json d patterns found = lookups_json d found
+found_form form.Pattern d patterns found = record_text found
 
 -- what `device` prints of a device, over a database
 abbrev pub device_text : DeviceForm → Device → Tree → List ℕ
-device_text as_form d t = found_form as_form d (asked_for d t)
+device_text as_form d t = found_form as_form d (database_patterns t) (asked_for d t)
 
 -- what a string gets, said of the files' plain list: of the last assignments that match it
 abbrev pub told_of_files : (etc usr : List Source) → List ℕ → Told
@@ -262,7 +284,7 @@ told_of_files etc usr text = explained (last_assignments text None (all_assignme
 
 -- what `device` prints of a device, said of the files' plain list
 abbrev pub files_device_text : DeviceForm → Device → (etc usr : List Source) → List ℕ
-files_device_text as_form d etc usr = found_form as_form d (lookups (told_of_files etc usr) d)
+files_device_text as_form d etc usr = found_form as_form d (files_patterns etc usr) (lookups (told_of_files etc usr) d)
 
 -- an attribute of the first of a device and its parents that has it
 abbrev pub text_in : (attribute : List ℕ) → List Ancestor → Option (List ℕ)
