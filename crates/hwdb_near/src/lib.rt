@@ -19,14 +19,12 @@
 //! | `printing` | what `near` prints of some patterns |
 //! | `asked` | what it prints of text files, and of a database |
 //! | `each` | the nearest pattern of a database to each of some texts |
-//! | `errors` | why a database isn't one |
 //! | `laws` | what is proved of the definitions alone |
 #![tactic(auto)]
 
 mod asked;
 mod databases;
 mod each;
-mod errors;
 mod found;
 mod fronts;
 mod json_lines;
@@ -41,9 +39,9 @@ mod reports;
 
 pub use asked::{near_in_database, near_in_files};
 pub use each::nearest_reports;
-pub use errors::NearError;
 pub use found::PatternAt;
 pub use fronts::{Stop, stops};
+pub use hwdb_spec::NearError;
 pub use laws::{patterns_are_of_files, stops_are_computed, worked_rows};
-pub use patterns::{TextFile, push_patterns};
+pub use patterns::{PatternFile, push_patterns};
 pub use printing::{near_json, near_text};

@@ -32,7 +32,7 @@ mod table;
 mod unread;
 
 pub use device::{Ancestor, Attribute, Device};
-pub use files::{DeviceFiles, Node};
+pub use files::{DeviceFiles, DeviceNode};
 pub use finding::{Unfound, device_of_path, find_device, sysfs_below};
 pub use laws::worked_rows;
 pub use listing::list_links;
