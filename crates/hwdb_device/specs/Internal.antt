@@ -1,12 +1,8 @@
 -- What the proofs of this crate speak of.
 use Rattle.std.specs.Prelude.{Bool, List, ℕ}
-use Rattle.hwdb_spec.specs.Lookups.{Found, is_one, is_set}
+use Rattle.hwdb_spec.specs.Lookups.{is_one, is_set}
 use Rattle.hwdb_device.specs.declared.kinds.Test.{Test}
 use Rattle.hwdb_device.specs.declared.kinds.Test.TheVariants as test
-
--- the string that was asked
-abbrev pub text_of : Found → List ℕ
-text_of f = f.text
 
 -- what is asked of a value
 abbrev pub test_of : Test → List ℕ → Bool

@@ -1,117 +1,72 @@
 //! What is near to strings that get nothing.
-ghost use Rattle.std.specs.Prelude.{◌≡◌, ◌++◌, ◌∷◌, [], IfOk, OnOk, filter, is_some, map};
-ghost use Rattle.hwdb_spec.specs.Assignment.{in_order, put_all, text_cmp};
+ghost use Rattle.std.specs.Prelude.{◌≡◌, ◌++◌, ◌∷◌, [], IfOk, OnOk, filter, flat_map, map};
 ghost use Rattle.hwdb_spec.specs.DeviceTexts;
 ghost use Rattle.hwdb_spec.specs.NearAsked.{database_patterns};
-ghost use Rattle.hwdb_spec.specs.NearEach as near;
-ghost use Rattle.hwdb_device.specs.Internal.{text_of};
+ghost use Rattle.hwdb_spec.specs.NearPrefixes.{prefix_report};
+ghost use Rattle.hwdb_near.specs.Views.{pattern_at};
 ghost use Rattle.hwdb_device.specs.Views.{all_found, found_of};
 
 use crate::found::Found;
-use crate::outcomes::add_key;
-use crate::records::settings;
-use hwdb_near::nearest_reports;
+use hwdb_inspect::assignments;
+use hwdb_near::{PatternAt, patterns_of, push_prefix_report};
 use hwdb_reader::Db;
 use std::alloc::{AllocError, Global};
-use std::collections::BTreeSet;
 
-/// Whether people set properties for a string.
-fn is_set_for(text: &[u8]) -> bool
-    ensures { result ≡ is_some (DeviceTexts.settings text.now) }
-{
-    match settings(text) {
-        Some(_) => true,
-        None => false,
-    }
-}
-
-/// Whether a string gets nothing, though people set properties for such.
-fn is_wanting(found: &Found<'_>) -> bool
-    ensures { result ≡ DeviceTexts.is_wanting (found_of found.now) }
-{
-    if !found.told.is_empty() {
-        return false;
-    }
-    is_set_for(&found.text)
-}
-
-/// Adds such a string. The only error, here and below, is `AllocError`.
-fn push_if_wanting<'f>(texts: &mut Vec<&'f [u8]>, found: &'f Found<'_>) -> Result<(), AllocError>
+/// Adds a string that gets nothing. The only error, here and below, is `AllocError`.
+fn push_wanting<'f>(texts: &mut Vec<&'f [u8]>, found: &'f Found<'_>) -> Result<(), AllocError>
     ensures { OnOk result (map (λ t. t.now) texts.new.items ≡ map (λ t. t.now) texts.old.items
-        ++ map text_of (filter DeviceTexts.is_wanting (found_of found.now ∷ []))) }
+        ++ DeviceTexts.wanting (found_of found.now ∷ [])) }
 {
-    if is_wanting(found) {
+    if found.told.is_empty() {
         texts.push(&found.text)?;
     }
     Ok(())
 }
 
-/// Those of some strings, in order.
-fn all_wanting<'f>(alloc: Global, found: &'f [Found<'_>]) -> Result<Vec<&'f [u8]>, AllocError>
+/// The strings that get nothing.
+fn wanting<'f>(alloc: Global, found: &'f [Found<'_>]) -> Result<Vec<&'f [u8]>, AllocError>
     ensures { IfOk result (λ texts. map (λ t. t.now) texts.items
-        ≡ map text_of (filter DeviceTexts.is_wanting (all_found found.now))) }
+        ≡ DeviceTexts.wanting (all_found found.now)) }
 {
     let mut texts: Vec<&'f [u8]> = Vec::new(alloc);
     for one in found {
-        push_if_wanting(&mut texts, one)?;
+        push_wanting(&mut texts, one)?;
     }
     Ok(texts)
 }
 
-/// Adds some texts to a set. It calls itself once for each.
-#[tactic(auto, unfolding(hwdb_spec::specs::Assignment::put_all))]
-fn add_all(
+/// For each prefix that people set properties at the report of the pattern that is nearest to one of some texts, if there is one.
+fn prefix_reports(
     alloc: Global,
-    set: &mut BTreeSet<Vec<u8>>,
+    patterns: &[PatternAt<'_>],
     texts: &[&[u8]],
-) -> Result<(), AllocError>
-    ensures { OnOk result (map (λ t. t.items) set.new.keys
-        ≡ put_all text_cmp (map (λ t. t.now) texts.now) (map (λ t. t.items) set.old.keys)) }
+) -> Result<Vec<u8>, AllocError>
+    ensures { IfOk result (λ reports. reports.items ≡ flat_map
+        (prefix_report (map pattern_at patterns.now) (map (λ t. t.now) texts.now))
+        DeviceTexts.set_prefixes) }
 {
-    let Some((first, more)) = texts.split_first() else {
-        return Ok(());
-    };
-    add_key(alloc, set, first)?;
-    add_all(alloc, set, more)
+    let mut reports = Vec::new(alloc);
+    push_prefix_report(alloc, &mut reports, patterns, texts, b"evdev:")?;
+    push_prefix_report(alloc, &mut reports, patterns, texts, b"sensor:")?;
+    push_prefix_report(alloc, &mut reports, patterns, texts, b"mouse:")?;
+    push_prefix_report(alloc, &mut reports, patterns, texts, b"touchpad:")?;
+    push_prefix_report(alloc, &mut reports, patterns, texts, b"joystick:")?;
+    Ok(reports)
 }
 
-/// Some texts in order, each once.
-fn set_of(alloc: Global, texts: &[&[u8]]) -> Result<BTreeSet<Vec<u8>>, AllocError>
-    ensures { IfOk result (λ set. map (λ t. t.items) set.keys
-        ≡ in_order text_cmp (map (λ t. t.now) texts.now)) }
-{
-    let mut set = BTreeSet::new(alloc);
-    add_all(alloc, &mut set, texts)?;
-    Ok(set)
-}
-
-/// The strings that get nothing, though people set properties for such: ascending, each once.
-fn wanting(alloc: Global, found: &[Found<'_>]) -> Result<Vec<Vec<u8>>, AllocError>
-    ensures { IfOk result (λ texts. map (λ t. t.items) texts.items
-        ≡ DeviceTexts.wanting (all_found found.now)) }
-{
-    let all = all_wanting(alloc, found)?;
-    let mut set = set_of(alloc, &all)?;
-    let mut texts = Vec::new(alloc);
-    'texts: while let Some(text) = set.pop_first() {
-        texts.push(text)?;
-    }
-    Ok(texts)
-}
-
-/// The reports of the nearest patterns to such strings.
+/// The same of the patterns of a database.
 fn reports(alloc: Global, db: &Db<'_>, found: &[Found<'_>]) -> Result<Vec<u8>, AllocError>
-    ensures { IfOk result (λ reports. reports.items
-        ≡ near.nearest_reports (database_patterns db.now) (DeviceTexts.wanting (all_found found.now))) }
+    ensures { IfOk result (λ reports. reports.items ≡ flat_map
+        (prefix_report (database_patterns db.now) (DeviceTexts.wanting (all_found found.now)))
+        DeviceTexts.set_prefixes) }
 {
     let texts = wanting(alloc, found)?;
-    if texts.is_empty() {
-        return Ok(Vec::new(alloc));
-    }
-    nearest_reports(alloc, db, &texts)
+    let all = assignments(alloc, db)?;
+    let patterns = patterns_of(alloc, &all)?;
+    prefix_reports(alloc, &patterns, &texts)
 }
 
-/// Adds for each such string the nearest pattern that begins with the same part, if there is one.
+/// Adds for each such prefix the pattern that is nearest to a string that gets nothing, if there is one.
 pub(crate) fn push_nearest(
     alloc: Global,
     text: &mut Vec<u8>,

@@ -20,7 +20,7 @@ pub(crate) struct Outcome<'f> {
 }
 
 /// Adds a key, unless it is in the set. The only error, here and below, is `AllocError`.
-pub(crate) fn add_key(alloc: Global, keys: &mut BTreeSet<Vec<u8>>, key: &[u8]) -> Result<(), AllocError>
+fn add_key(alloc: Global, keys: &mut BTreeSet<Vec<u8>>, key: &[u8]) -> Result<(), AllocError>
     ensures { OnOk result (map (λ k. k.items) keys.new.keys
         ≡ put text_cmp key.now (map (λ k. k.items) keys.old.keys)) }
 {

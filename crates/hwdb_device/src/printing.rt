@@ -58,8 +58,7 @@ fn found_form(
 /// Each string that udev asks is asked, in its order: a walk ends with an answer. The memory is that of all answers, and a
 /// few copies of their keys. Takes time in proportion to the keys times the properties, beside that of the answers.
 ///
-/// Without options the database is walked once if a string that people set properties for gets nothing. The memory is then also
-/// that of all its assignments.
+/// Without options the database is walked once, and the memory is also that of all its assignments.
 pub fn device_text(
     alloc: Global,
     db: &Db<'_>,

@@ -28,7 +28,7 @@ fn push_pattern(made: &mut Vec<u8>, text: &[u8]) -> Result<(), AllocError>
 }
 
 /// The properties that people set at a pattern for a string, by what it begins with.
-pub(crate) fn settings(text: &[u8]) -> Option<&'static [u8]>
+fn settings(text: &[u8]) -> Option<&'static [u8]>
     ensures { option_map (λ s. s.now) result ≡ DeviceTexts.settings text.now }
 {
     if text.starts_with(b"evdev:") {

@@ -1,5 +1,5 @@
 pub mod ComputedLemmas
-mod EachLemmas
+mod PrefixLemmas
 pub mod OrderedLemmas
 pub mod NearestLemmas
 pub mod FileLemmas

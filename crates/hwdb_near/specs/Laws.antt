@@ -3,7 +3,7 @@ use Rattle.std.specs.Prelude.{List, ℕ, ◌≡◌}
 use Rattle.hwdb_spec.specs.Folders.{Source}
 use Rattle.hwdb_spec.specs.Format.{IsDatabase}
 use Rattle.hwdb_spec.specs.NearAsked.{database_patterns}
-use Rattle.hwdb_spec.specs.NearEach.{files_patterns}
+use Rattle.hwdb_spec.specs.NearPrefixes.{files_patterns}
 use Rattle.hwdb_spec.specs.Patterns.{Token}
 use Rattle.hwdb_spec.specs.Tree.{Tree, map_of_files}
 use Rattle.hwdb_spec.specs.Written.{IsDatabaseOf}

@@ -30,7 +30,7 @@ fn is_before(a: &PatternAt<'_>, b: &PatternAt<'_>) -> bool
 }
 
 /// Whether two patterns have one text.
-pub(crate) fn same(a: &[u8], b: &[u8]) -> bool
+fn same(a: &[u8], b: &[u8]) -> bool
     ensures { result ≡ Folders.same a.now b.now }
 {
     a.cmp(b).is_eq()
@@ -56,8 +56,8 @@ fn gather<'a>(patterns: &mut Vec<PatternAt<'a>>, at: PatternAt<'a>) -> Result<()
     Ok(())
 }
 
-/// The patterns of some assignments, which are by pattern: each once, at the first of its places.
-pub(crate) fn patterns_of<'a>(
+/// The patterns of some assignments, which are by pattern: each once, at the first of its places. The only error is `AllocError`.
+pub fn patterns_of<'a>(
     alloc: Global,
     found: &'a [StoredAssignment<'_>],
 ) -> Result<Vec<PatternAt<'a>>, AllocError>

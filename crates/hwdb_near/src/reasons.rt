@@ -39,7 +39,7 @@ fn token_text(text: &[u8]) -> &[u8]
 }
 
 /// A text up to its first colon, with it.
-pub(crate) fn head_of(text: &[u8]) -> &[u8]
+fn head_of(text: &[u8]) -> &[u8]
     ensures { result.now ≡ Near.head_of text.now }
 {
     first(text, end_of(b':', text) + 1)

@@ -1,6 +1,6 @@
 -- What `device` prints of a device: the strings that udev asks for it, what a database gives each, and the properties that the device
 -- has in the end. The command and its forms are our choice.
-use Rattle.std.specs.Prelude.{Bool, true, false, ℕ, List, [], ◌∷◌, ◌++◌, ◌==◌, Option, None, Some, codes, filter, flat_map, get_or, if◌then◌else◌, is_some, map, nat_eq, not, option_map, reverse}
+use Rattle.std.specs.Prelude.{Bool, true, ℕ, List, [], ◌∷◌, ◌++◌, ◌==◌, Option, None, Some, codes, filter, flat_map, get_or, if◌then◌else◌, map, nat_eq, not, option_map, reverse}
 use Rattle.std.specs.List.{starts_with}
 use Rattle.std.specs.Option.{option_map_or, option_or}
 use Rattle.json.specs.Json.{Json}
@@ -14,7 +14,7 @@ use Rattle.hwdb_spec.specs.Json.{has_name, json_line, object_of, property_member
 use Rattle.hwdb_spec.specs.Lines.{byte, is_none}
 use Rattle.hwdb_spec.specs.Near.{PatternAt}
 use Rattle.hwdb_spec.specs.NearAsked.{database_patterns}
-use Rattle.hwdb_spec.specs.NearEach.{files_patterns, nearest_reports}
+use Rattle.hwdb_spec.specs.NearPrefixes.{files_patterns, prefix_report}
 use Rattle.hwdb_spec.specs.Lookups.{Found, Told, first_value, lookups}
 use Rattle.hwdb_spec.specs.Sysfs.{Ancestor, At, Device, attribute_text, first_of, has_text}
 use Rattle.hwdb_spec.specs.Texts.{property_text}
@@ -248,22 +248,31 @@ record_text found = record_after (first_record found) found
 
 -- ---- what is near to strings that get nothing
 
--- a string that gets nothing, though people set properties for such
-abbrev pub is_wanting : Found → Bool
-is_wanting f = if is_none f.told then is_some (settings f.text) else false
+-- the prefixes of strings that people set properties for (60-keyboard.hwdb, 60-sensor.hwdb, 70-mouse.hwdb, 70-touchpad.hwdb,
+-- 70-joystick.hwdb)
+abbrev pub set_prefixes : List (List ℕ)
+set_prefixes = codes "evdev:" ∷ codes "sensor:" ∷ codes "mouse:" ∷ codes "touchpad:" ∷ codes "joystick:" ∷ []
 
--- these strings, ascending, each once
+-- whether a string gets nothing
+abbrev pub gets_nothing : Found → Bool
+gets_nothing f = is_none f.told
+
+-- the string that was asked
+abbrev pub text_of : Found → List ℕ
+text_of f = f.text
+
+-- the strings that get nothing
 abbrev pub wanting : List Found → List (List ℕ)
-wanting found = in_order text_cmp (map (λ (f : Found). f.text) (filter is_wanting found))
+wanting found = map text_of (filter gets_nothing found)
 
 -- reports of the nearest patterns, after a line that says what they are
 abbrev pub nearest_part : List ℕ → List ℕ
 nearest_part [] = []
 nearest_part (b ∷ rest) = codes "nearest patterns to what got nothing:\n" ++ b ∷ rest
 
--- for each such string the nearest pattern that begins with the same part, if there is one
+-- for each such prefix the pattern that is nearest to a string that gets nothing, if there is one
 abbrev pub nearest_text : List PatternAt → List Found → List ℕ
-nearest_text patterns found = nearest_part (nearest_reports patterns (wanting found))
+nearest_text patterns found = nearest_part (flat_map (prefix_report patterns (wanting found)) set_prefixes)
 
 -- ---- what is printed
 

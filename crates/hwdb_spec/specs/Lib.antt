@@ -48,7 +48,7 @@ pub mod Hiding
 pub mod Done
 pub mod Near
 pub mod NearAsked
-pub mod NearEach
+pub mod NearPrefixes
 pub mod Wanted
 pub mod Colours
 pub mod Inputs

@@ -1,5 +1,5 @@
 use Rattle.hwdb_spec.specs.Tree.{map_of_files}
-use Rattle.hwdb_near.proofs.EachLemmas.{patterns_of_map}
+use Rattle.hwdb_near.proofs.PrefixLemmas.{patterns_of_map}
 use Rattle.hwdb_near.proofs.laws.patterns_are_of_files.Goals as goal
 
 pub returns : goal.returns

@@ -1,8 +1,0 @@
-use Rattle.std.proofs.Common.{◌≡◌, filter, map, take}
-use Rattle.hwdb_spec.specs.DeviceTexts
-use Rattle.hwdb_device.specs.Internal.{text_of}
-use Rattle.hwdb_device.specs.Views.{all_found}
-use Rattle.hwdb_device.proofs.nearest.all_wanting.Given as goal
-
-abbrev pub invariant-loop-one : goal.invariant-loop-one
-invariant-loop-one l = map (λ t. t.now) l.texts.items ≡ map text_of (filter DeviceTexts.is_wanting (all_found (take l.one-index l.found)))
