@@ -1,6 +1,7 @@
 -- The worked rows, computed.
 use Rattle.std.proofs.Common.{refl}
 use Rattle.std.specs.Fmt.{digits}
+use Rattle.std.specs.Char.{encode_utf8}
 use Rattle.std.specs.Str.{chars, is_utf8}
 use Rattle.json.specs.Print.{escape_byte, print_from}
 use Rattle.hwdb_spec.specs.Assignment.{put, put_all}
@@ -57,7 +58,7 @@ unfolding closest_after put put_all
 left_out_rows = refl
 
 pub json_row : JsonRow
-unfolding put put_all escape_byte print_from items_of members_of is_utf8 chars
+unfolding put put_all escape_byte print_from items_of members_of is_utf8 chars encode_utf8
 json_row = refl
 
 pub link_rows : LinkRows

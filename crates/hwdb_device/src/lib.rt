@@ -26,7 +26,8 @@ mod told;
 
 pub use hwdb_spec::DeviceForm;
 pub use laws::{
-    asked_rows, device_rows, pattern_is_matched, same_answers_same_text, text_is_of_files, text_rows,
+    asked_rows, device_rows, pattern_is_matched, same_answers_same_text, text_is_of_files,
+    text_rows,
 };
 pub use printing::device_text;
 pub use row::device_row;

@@ -39,15 +39,11 @@ fn is_nowhere(cause: Cause) -> bool
 }
 
 /// What can't be read at a path for this cause: nothing, if the cause says that it leads nowhere.
-fn unread_at(alloc: Global, path: &[u8], cause: Cause) -> Result<Option<Unread>, AllocError>
-    ensures memory { IfOk result (λ _. cause ≢ Memory) }
+fn unless_nowhere(alloc: Global, path: &[u8], cause: Cause) -> Result<Option<Unread>, AllocError>
     ensures path { IfOk result (λ found. option_map (λ u. u.path.items) found
         ≡ (if is_nowhere cause then None else Some path.now)) }
     ensures cause { IfOk result (λ found. IfSome found (λ u. u.cause ≡ cause)) }
 {
-    if cause == Cause::Memory {
-        return Err(AllocError);
-    }
     if is_nowhere(cause) {
         return Ok(None);
     }
@@ -55,6 +51,19 @@ fn unread_at(alloc: Global, path: &[u8], cause: Cause) -> Result<Option<Unread>,
         path: Vec::from_slice(alloc, path)?,
         cause,
     }))
+}
+
+/// The same, if memory wasn't refused.
+fn unread_at(alloc: Global, path: &[u8], cause: Cause) -> Result<Option<Unread>, AllocError>
+    ensures memory { IfOk result (λ _. cause ≢ Memory) }
+    ensures path { IfOk result (λ found. option_map (λ u. u.path.items) found
+        ≡ (if is_nowhere cause then None else Some path.now)) }
+    ensures cause { IfOk result (λ found. IfSome found (λ u. u.cause ≡ cause)) }
+{
+    match cause {
+        Cause::Memory => Err(AllocError),
+        _ => unless_nowhere(alloc, path, cause),
+    }
 }
 
 /// What can't be read of the regular file at a place.

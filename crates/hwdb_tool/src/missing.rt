@@ -34,9 +34,8 @@ fn unmounted(alloc: Global, why: Unfound) -> Refusal
 {
     match why {
         Unfound::NoSysfs(path, cause) => no_sysfs(alloc, &path, cause),
-        Unfound::Memory | Unfound::Untold(..) | Unfound::Unread(_) | Unfound::NoDevice => {
-            Refusal::from(AllocError)
-        }
+        Unfound::Untold(path, cause) => unread(alloc, &path, cause),
+        Unfound::Memory | Unfound::Unread(_) | Unfound::NoDevice => Refusal::from(AllocError),
     }
 }
 
