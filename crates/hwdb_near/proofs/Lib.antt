@@ -1,4 +1,5 @@
 pub mod ComputedLemmas
+mod PrefixLemmas
 pub mod OrderedLemmas
 pub mod NearestLemmas
 pub mod FileLemmas

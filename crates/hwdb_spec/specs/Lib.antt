@@ -49,6 +49,7 @@ pub mod Status
 pub mod Done
 pub mod Near
 pub mod NearAsked
+pub mod NearPrefixes
 pub mod Wanted
 pub mod Colours
 pub mod Inputs

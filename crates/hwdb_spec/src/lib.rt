@@ -56,6 +56,7 @@
 //! | `Done` | what `update` and `ask` leave, and what a crash leaves during an update |
 //! | `Near` | the pattern that almost matched a device, and where it stopped |
 //! | `NearAsked` | which patterns `near` compares with a device: those of text files, or of a database |
+//! | `NearPrefixes` | of some strings with a prefix and of some patterns with it the two that are nearest |
 //! | `Wanted` | test files, whether a database gives what they want, and what `test` prints |
 //! | `Colours` | how a text is shown in colour |
 //! | `Inputs` | what kinds of input device udev sees in one |
