@@ -2,7 +2,7 @@
 ghost use Rattle.std.specs.Prelude.{◌≡◌};
 ghost use Rattle.hwdb_compile.specs.declared.errors.CompileError.TheVariants.{Memory};
 
-use hwdb_text::{ScanError, SelectError};
+use hwdb_text::{MOST_FILES, ScanError, SelectError};
 use hwdb_writer::StoreError;
 use std::alloc::AllocError;
 use thiserror::Error;
@@ -11,10 +11,10 @@ use thiserror::Error;
 #[derive(Clone, Copy, Debug, PartialEq, Eq, Error)]
 pub enum CompileError {
     /// More than 65,535 files are chosen: there are no more priorities.
-    #[error("more than 65535 files")]
+    #[error("more than {most} files", most = MOST_FILES)]
     TooManyFiles,
     /// A file has more than 4,294,967,295 lines: a database has no more numbers for them.
-    #[error("a file has more than 4294967295 lines")]
+    #[error("a file has more than {most} lines", most = u32::MAX)]
     TooManyLines,
     /// The database would have more bytes than the limit of the call.
     #[error("the database would be larger than the limit")]

@@ -1,7 +1,9 @@
 //! Why a file or folder can't be read or written, in the system's words.
 ghost use Rattle.std.specs.Prelude.{◌≤◌};
 ghost use Rattle.hwdb_spec.specs.Failures.{IsOneLine};
+ghost use Rattle.hwdb_io.specs.declared.causes.TheConstants.{ROOM};
 
+use memchr::memchr;
 use std::fmt::{self, Write};
 use std::io::{self, ErrorKind};
 
@@ -72,22 +74,21 @@ impl Cause {
 fn first_line(text: &[u8]) -> &[u8]
     ensures { IsOneLine result.now }
 {
-    let mut end = 0;
-    while end < text.len() && text[end] != b'\n' {
-        end += 1;
+    match memchr(b'\n', text) {
+        Some(end) => &text[..end],
+        None => text,
     }
-    &text[..end]
 }
 
 /// How many bytes of a message are kept.
 const ROOM: usize = 128;
 
-/// The words of a cause, of which the first 128 bytes are kept.
+/// The words of a cause, of which the first `ROOM` bytes are kept.
 #[derive(Drop)]
 pub struct Message {
-    bytes: [u8; 128],
+    bytes: [u8; ROOM],
     len: usize,
-    ghost within: { len ≤ 128 },
+    ghost within: { len ≤ ROOM },
 }
 
 impl Message {

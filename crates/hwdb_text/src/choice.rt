@@ -17,7 +17,7 @@ use std::alloc::{AllocError, Global};
 use std::collections::BTreeMap;
 
 /// How many files may be chosen: as many as there are priorities.
-const MOST_FILES: usize = 65535;
+pub const MOST_FILES: usize = 65535;
 
 /// A file that was chosen.
 #[derive(Debug, Drop, PartialEq, Eq)]

@@ -18,7 +18,7 @@ mod parser;
 mod pieces;
 mod records;
 
-pub use crate::choice::{Chosen, counts, select};
+pub use crate::choice::{Chosen, MOST_FILES, counts, select};
 pub use crate::line::{Content, begins_with, content_of, end_of, unindented};
 pub use crate::outcome::{Assignment, Given, Parsed, ScanError, Scanned, SelectError};
 pub use crate::parser::{next_line, parse, scan};

@@ -1,6 +1,7 @@
 //! What the calls of this crate answer.
 ghost use Rattle.std.specs.Prelude.{◌≡◌};
 
+use crate::choice::MOST_FILES;
 use hwdb_spec::Fault;
 use std::alloc::AllocError;
 use thiserror::Error;
@@ -57,7 +58,7 @@ pub struct Scanned<'b> {
 #[derive(Clone, Copy, Debug, Error, PartialEq, Eq)]
 pub enum SelectError {
     /// More than 65,535 files would be chosen: there are no more priorities.
-    #[error("more than 65535 files")]
+    #[error("more than {most} files", most = MOST_FILES)]
     TooManyFiles,
     /// An allocation failed.
     #[error("out of memory")]
@@ -78,7 +79,7 @@ impl From<AllocError> for SelectError {
 #[derive(Clone, Copy, Debug, Error, PartialEq, Eq)]
 pub enum ScanError {
     /// It has more than 4,294,967,295 lines: a database has no more numbers for them.
-    #[error("a file has more than 4294967295 lines")]
+    #[error("a file has more than {most} lines", most = u32::MAX)]
     TooManyLines,
     /// An allocation failed.
     #[error("out of memory")]
