@@ -1,6 +1,7 @@
 //! The lines of test files, each tried for each of its devices.
 ghost use Rattle.std.specs.Prelude.{◌≡◌, ◌≤◌, ◌++◌, ◌∷◌, [], false, flat_map, map, IfErr, IfOk, OnOk};
-ghost use Rattle.hwdb_lint.specs.Checks.{IsCheckRefusal, IsFileRefusal, source_of};
+ghost use Rattle.hwdb_spec.specs.CheckErrors.{IsCheckRefusal, IsFileRefusal};
+ghost use Rattle.hwdb_lint.specs.Checks.{source_of};
 ghost use Rattle.hwdb_spec.specs.Wanted;
 ghost use Rattle.hwdb_expect.specs.Internal.{tried_text};
 ghost use Rattle.hwdb_expect.specs.Views.{given_at, line_at, pair_at, record_at};

@@ -1,6 +1,6 @@
 //! The file system as it is asked for devices: a call of the library for each answer, and nothing decided (docs/assumptions.md).
 ghost use Rattle.std.specs.Prelude.{Err};
-ghost use Rattle.hwdb_io.specs.declared.causes.Cause.TheVariants.{Memory};
+ghost use Rattle.hwdb_spec.specs.declared.causes.Cause.TheVariants.{Memory};
 
 use crate::files::SystemStore;
 use crate::parts::Lockable;

@@ -3,15 +3,15 @@ ghost use Rattle.std.specs.Prelude.{◌≡◌, None, map, flat_map, OnOk, IfOk, 
 ghost use Rattle.hwdb_spec.specs.Assignment.{assignment_cmp};
 ghost use Rattle.hwdb_spec.specs.Dump.{dumped, dump_text, record_text, first_unsaid};
 ghost use Rattle.hwdb_spec.specs.Databases.{IsTextOf, IsSayable};
-ghost use Rattle.hwdb_inspect.specs.Dumps.{IsDumpRefusal, IsUnsaidRefusal};
+ghost use Rattle.hwdb_spec.specs.DumpErrors.{IsDumpRefusal, IsUnsaidRefusal};
 ghost use Rattle.hwdb_inspect.specs.Views.{assignment_of};
 
-use crate::errors::DumpError;
 use crate::pairs::by_place;
 use crate::records::{is_said, push_record};
 use crate::walk::assignments;
 use hwdb_query::StoredAssignment;
 use hwdb_reader::{Db, check};
+use hwdb_spec::DumpError;
 use std::alloc::{AllocError, Global};
 use std::cmp::Ordering;
 

@@ -4,7 +4,7 @@ ghost use Rattle.std.specs.Option.{option_map_or};
 ghost use Rattle.hwdb_spec.specs.DeviceTree as tree;
 ghost use Rattle.hwdb_spec.specs.Lines.{byte, has};
 ghost use Rattle.hwdb_spec.specs.Store as store;
-ghost use Rattle.hwdb_sysfs.specs.Answers.{seen};
+ghost use Rattle.hwdb_spec.specs.SysfsAnswers.{seen};
 ghost use Rattle.hwdb_sysfs.specs.Finding.{IsMissing, IsNoSysfs, IsUnfound, LeadsAstray};
 ghost use Rattle.hwdb_sysfs.specs.Views.{node_of};
 ghost use Rattle.hwdb_sysfs.specs.declared.finding.Unfound.TheVariants.{Memory};

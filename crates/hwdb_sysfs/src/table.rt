@@ -1,6 +1,6 @@
 //! A tree in memory that tells its answers, for laws and tests: what is at each path.
 ghost use Rattle.std.specs.Prelude.{◌≡◌, Ok, option_map};
-ghost use Rattle.hwdb_sysfs.specs.Answers.{IsTold};
+ghost use Rattle.hwdb_spec.specs.SysfsAnswers.{IsTold};
 ghost use Rattle.hwdb_sysfs.specs.Tables.{answers_of, row_at};
 
 use crate::files::{DeviceFiles, DeviceNode};

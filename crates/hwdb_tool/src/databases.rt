@@ -4,10 +4,10 @@ ghost use Rattle.hwdb_spec.specs.Store as spec;
 ghost use Rattle.hwdb_spec.specs.System as Folder;
 ghost use Rattle.hwdb_spec.specs.System.{asked_database, bytes_at};
 ghost use Rattle.hwdb_spec.specs.Texts.{max_file};
-ghost use Rattle.hwdb_fs.specs.Refusals.{HasReason, IsUnreadAt, IsUnreadable};
+ghost use Rattle.hwdb_spec.specs.Refusals.{HasReason, IsUnreadAt, IsUnreadable};
 ghost use Rattle.hwdb_spec.specs.Asked.{IsNamedPath, named_database, IsAskedPath};
-ghost use Rattle.hwdb_tool.specs.NamedDatabases.{IsUnnamed};
-ghost use Rattle.hwdb_tool.specs.Undone.{IsUnfound, IsUnreadableIf};
+ghost use Rattle.hwdb_spec.specs.NamedDatabases.{IsUnnamed};
+ghost use Rattle.hwdb_spec.specs.Undone.{IsUnfound, IsUnreadableIf};
 
 use hwdb_fs::{Refusal, System, joined, path_in};
 use hwdb_replace::DATABASE;

@@ -1,6 +1,6 @@
 //! `near`: the patterns that almost matched a device, of text files or of the database below the root. Nothing is written.
 ghost use Rattle.std.specs.Prelude.{◌≡◌, ◌==◌, true, false, not, length, map, string_bytes, IfErr, IfOk, List};
-ghost use Rattle.hwdb_fs.specs.Refusals.{HasReason};
+ghost use Rattle.hwdb_spec.specs.Refusals.{HasReason};
 ghost use Rattle.hwdb_lint.specs.Checks;
 ghost use Rattle.hwdb_near.specs.Views;
 ghost use Rattle.hwdb_spec.specs.Asked.{IsAnswered};
@@ -10,9 +10,9 @@ ghost use Rattle.hwdb_spec.specs.Folders.{Source};
 ghost use Rattle.hwdb_spec.specs.Given.{any_dash};
 ghost use Rattle.hwdb_spec.specs.NearAsked.{IsNear, database_patterns, near_form, near_limit, patterns_from};
 ghost use Rattle.hwdb_spec.specs.Runs.{OnOut};
-ghost use Rattle.hwdb_tool.specs.NearMisses.{IsNearRefused, error_of};
-ghost use Rattle.hwdb_tool.specs.Reasons.{HasFilesReason};
-ghost use Rattle.hwdb_tool.specs.Undone.{IsGivenUnread, IsUnanswered};
+ghost use Rattle.hwdb_spec.specs.NearErrors.{IsNearRefused, error_of};
+ghost use Rattle.hwdb_spec.specs.Reasons.{HasFilesReason};
+ghost use Rattle.hwdb_spec.specs.Undone.{IsGivenUnread, IsUnanswered};
 ghost use Rattle.hwdb_tool.specs.Views.{texts_in};
 
 use crate::answer::Answer;

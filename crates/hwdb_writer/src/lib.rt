@@ -23,4 +23,5 @@ mod strings;
 
 pub use crate::assignments::{Assignments, Assignments as Tree};
 pub use crate::laws::{law_one_tight_tree, law_one_written_form};
-pub use crate::output::{StoreError, into_database, write};
+pub use crate::output::{into_database, write};
+pub use hwdb_spec::StoreError;

@@ -8,7 +8,6 @@ ghost use Rattle.hwdb_writer.specs.declared.nodes.BuiltNode.{BuiltNode};
 ghost use Rattle.hwdb_writer.specs.Internal.Narrow.{IsNarrow};
 ghost use Rattle.hwdb_writer.specs.Internal.PostOrder.{tree_of, IsPostOrder};
 ghost use Rattle.hwdb_writer.specs.Internal.Stored.{IsAt, AreNodes, IsStored, IsLaidOut, IsMade};
-ghost use Rattle.hwdb_writer.specs.declared.output.StoreError.TheVariants.{Memory};
 
 use crate::assignments::Assignments;
 use crate::builder::post_order;
@@ -20,27 +19,8 @@ use crate::records::{
 };
 use crate::stored::{Stored, StoredNode, StoredValue, store};
 use crate::strings::{in_order, places_of, section_length};
+use hwdb_spec::StoreError;
 use std::alloc::{AllocError, Global};
-use thiserror::Error;
-
-/// Why nothing was written.
-#[derive(Debug, Drop, Error)]
-pub enum StoreError {
-    /// The database would have more bytes than the limit.
-    #[error("the database would be larger than the limit")]
-    TooLarge,
-    /// An allocation failed.
-    #[error("out of memory")]
-    Memory,
-}
-
-impl From<AllocError> for StoreError {
-    ghost from_gives = { λ _ e. e ≡ Memory };
-
-    fn from(_e: AllocError) -> StoreError {
-        StoreError::Memory
-    }
-}
 
 /// The version of the tool in the header: our choice.
 const TOOL_VERSION: usize = 1;
