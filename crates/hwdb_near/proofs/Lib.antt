@@ -3,7 +3,6 @@ pub mod OrderedLemmas
 pub mod NearestLemmas
 pub mod FileLemmas
 pub mod GatheredLemmas
-pub mod JsonLemmas
 pub mod ReportLemmas
 pub mod MatchingLemmas
 pub mod ComputedRows
