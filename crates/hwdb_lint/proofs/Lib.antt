@@ -9,5 +9,4 @@ pub mod RunLemmas
 pub mod AnyLemmas
 pub mod SoughtLemmas
 pub mod PieceLemmas
-pub mod JsonLemmas
 pub mod LawLemmas
