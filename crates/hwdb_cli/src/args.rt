@@ -7,19 +7,19 @@ ghost use Rattle.clap.specs.Simple.{matches_of, subcommand_of};
 ghost use Rattle.clap.specs.Takes.{takes};
 ghost use Rattle.clap.specs.Faults.{fault_of};
 ghost use Rattle.clap.specs.Values.{kind_of};
-ghost use Rattle.hwdb_cli.specs.Line.{hwdb_app};
-ghost use Rattle.hwdb_cli.specs.Jobs.{IsCommand, IsJob, IsJobOf, IsTask, has_flag};
-ghost use Rattle.hwdb_cli.specs.Refusals.{IsToldOf, IsToldOfOne};
-ghost use Rattle.hwdb_cli.specs.declared.job.WordsFault.TheVariants.{Memory};
+ghost use Rattle.hwdb_spec.specs.CommandLine.{hwdb_app};
+ghost use Rattle.hwdb_spec.specs.Jobs.{IsCommand, IsJob, IsJobOf, IsTask, has_flag};
+ghost use Rattle.hwdb_spec.specs.WordFaults.{IsToldOf, IsToldOfOne};
+ghost use Rattle.hwdb_spec.specs.declared.job.WordsFault.TheVariants.{Memory};
 
 use crate::command::hwdb_command;
 use crate::help::{fitting_help, short_help};
-use crate::job::{Job, Task, WordsFault};
 use crate::matched::{copied, has_flag, text_of};
 use crate::tips::{with_command_tip, with_fitting_tip};
 use crate::{ask, check, device, diff, dump, explain, list, near, query, update, verify};
 use clap::error::ErrorKind;
 use clap::{ArgMatches, Error};
+use hwdb_spec::{Job, Task, WordsFault};
 use std::alloc::{AllocError, Global};
 
 /// The task of the subcommand with its matches.

@@ -3,7 +3,7 @@
 //! shown by tests.
 ghost use Rattle.std.specs.Prelude.{◌≡◌, IfOk};
 ghost use Rattle.clap.specs.Simple.{app_of};
-ghost use Rattle.hwdb_cli.specs.Line.{hwdb_app, top_app};
+ghost use Rattle.hwdb_spec.specs.CommandLine.{hwdb_app, top_app};
 ghost use Rattle.hwdb_cli.specs.Drafts.{IsDraft};
 
 use crate::drafts::{Draft, shared, with_command};

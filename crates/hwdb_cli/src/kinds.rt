@@ -1,6 +1,6 @@
 //! The kinds of warnings that `check --allow` names.
-use crate::job::Task;
 use crate::tips::ALIKE;
+use hwdb_spec::Task;
 use std::alloc::{AllocError, Global};
 use strsim::jaro;
 

@@ -16,7 +16,6 @@ mod drafts;
 mod dump;
 mod explain;
 mod help;
-mod job;
 mod kinds;
 mod list;
 mod matched;
@@ -28,5 +27,5 @@ mod verify;
 
 pub use args::read_words;
 pub use command::hwdb_command;
-pub use job::{Job, Task, WordsFault};
+pub use hwdb_spec::{Job, Task, WordsFault};
 pub use kinds::kind_fault;

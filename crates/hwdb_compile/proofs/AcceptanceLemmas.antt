@@ -9,14 +9,15 @@ use Rattle.std.proofs.lemmas.List.Elements.{All-nil, All-cons, All-head, All-tai
 use Rattle.hwdb_spec.specs.Records.{assignments, faults}
 use Rattle.hwdb_spec.specs.Folders.{Choice, path_of, Source, first_of, all_assignments, contents, file_assignments, file_faults, fault_in, faults_of_files, AreAccepted, FaultIn}
 use Rattle.hwdb_compile.specs.declared.sources.ChosenFile.{ChosenFile}
-use Rattle.hwdb_compile.specs.Views.{FewLines, ManyLines, AreChosenOf, IsRefusal, bytes_in, choice_in}
+use Rattle.hwdb_compile.specs.Views.{FewLines, ManyLines, AreChosenOf, bytes_in, choice_in}
+use Rattle.hwdb_spec.specs.CompileErrors.{IsRefusal}
 use Rattle.hwdb_spec.specs.Tree.{Map, surviving, map_of_files}
 use Rattle.hwdb_spec.specs.Written.{IsLonger}
-use Rattle.hwdb_writer.specs.declared.output.StoreError.{StoreError}
-use Rattle.hwdb_writer.specs.declared.output.StoreError.TheVariants as store
-use Rattle.hwdb_compile.specs.declared.errors.CompileError.{CompileError}
-use Rattle.hwdb_compile.specs.declared.errors.CompileError.TheVariants.{TooManyFiles, TooManyLines, TooLarge, Memory}
-use Rattle.hwdb_compile.specs.Internal.Conversions.{of_store}
+use Rattle.hwdb_spec.specs.declared.errors.StoreError.{StoreError}
+use Rattle.hwdb_spec.specs.declared.errors.StoreError.TheVariants as store
+use Rattle.hwdb_spec.specs.declared.errors.CompileError.{CompileError}
+use Rattle.hwdb_spec.specs.declared.errors.CompileError.TheVariants.{TooManyFiles, TooManyLines, TooLarge, Memory}
+use Rattle.hwdb_spec.specs.Errors.{of_store}
 use Rattle.hwdb_compile.specs.Internal.Reading.{assignments_in, bytes_at, faults_in, IsFileRefusal, IsFilesRefusal}
 use Rattle.hwdb_compile.proofs.GatherLemmas.{any_at, empty_index}
 

@@ -1,3 +1,2 @@
 -- What the proofs of this crate speak of.
 pub mod Reading
-pub mod Conversions

@@ -14,21 +14,22 @@ ghost use Rattle.std.specs.String.{string_bytes};
 ghost use Rattle.hwdb_spec.specs.Folders.{path_of, all_assignments, file_assignments, file_faults, faults_of_files, fault_in, AreAccepted};
 ghost use Rattle.hwdb_text.specs.Views.{IsStorableChoice};
 ghost use Rattle.hwdb_compile.specs.Views.{FewLines, ForFolders, bytes_in, choice_in};
-ghost use Rattle.hwdb_compile.specs.Views.{sources, fault_of, IsRefusal};
+ghost use Rattle.hwdb_compile.specs.Views.{sources, fault_of};
+ghost use Rattle.hwdb_spec.specs.CompileErrors.{IsRefusal};
 ghost use Rattle.hwdb_spec.specs.Tree.{surviving, map_of_files};
 ghost use Rattle.hwdb_query.specs.Laws.{AnswersAreLast};
 ghost use Rattle.hwdb_compile.specs.Internal.Reading.{path_in, assignments_in, faults_in, IsPuttable, TakesUp, IsFileRefusal, IsFilesRefusal};
 
-use crate::errors::CompileError;
 use crate::sources::{ChosenFile, Compiled, FileFault, SourceFile, choose, with_bytes};
 use hwdb_query::compiled_answers_are_last;
+use hwdb_spec::CompileError;
 use hwdb_text::{Chosen, Fault, Given, scan};
-use hwdb_writer::{Tree, into_database};
+use hwdb_writer::{Assignments, into_database};
 use std::alloc::{AllocError, Global};
 
 /// Puts what a file with this path and priority gives into the tree, one after another.
 fn put_all<'t>(
-    tree: &mut Tree<'t>,
+    tree: &mut Assignments<'t>,
     path: &'t [u8],
     priority: u16,
     all: &[Given<'t>],
@@ -83,7 +84,7 @@ fn add_file<'t>(
     file: &Chosen,
     path: &'t [u8],
     bytes: &'t [u8],
-    tree: &mut Tree<'t>,
+    tree: &mut Assignments<'t>,
     faults: &mut Vec<FileFault>,
 ) -> Result<usize, CompileError>
     requires storable { IsStorableChoice (choice_of file.now) }
@@ -110,7 +111,7 @@ fn add_files<'t>(
     alloc: Global,
     files: &[ChosenFile<'t>],
     paths: &'t [String],
-    tree: &mut Tree<'t>,
+    tree: &mut Assignments<'t>,
     faults: &mut Vec<FileFault>,
 ) -> Result<usize, CompileError>
     requires storable { All IsStorableChoice (map choice_in files.now) }
@@ -166,7 +167,7 @@ pub fn compile_chosen(
     compiled_answers_are_last();
     let made = paths_of(alloc, files)?;
     let paths = made.as_slice();
-    let mut tree = Tree::new(alloc);
+    let mut tree = Assignments::new(alloc);
     let mut faults = Vec::new(alloc);
     let given = add_files(alloc, files, paths, &mut tree, &mut faults)?;
     let database = into_database(alloc, tree, max_bytes)?;

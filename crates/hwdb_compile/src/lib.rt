@@ -8,15 +8,13 @@
 //! | `sources` | the files of two folders, and the chosen ones among them |
 //! | `compiler` | the files of two folders, made into one database |
 //! | `laws` | what is proved of the definitions alone |
-//! | `errors` | the compiler's errors |
 #![tactic(auto)]
 
 mod compiler;
-mod errors;
 mod laws;
 mod sources;
 
 pub use compiler::{compile, compile_chosen};
-pub use errors::CompileError;
+pub use hwdb_spec::CompileError;
 pub use laws::{last_is_latest, survivors_are_latest};
 pub use sources::{ChosenFile, Compiled, FileFault, SourceFile, choose, with_bytes};

@@ -3,10 +3,11 @@ ghost use Rattle.std.specs.Prelude.{◌≡◌, ◌≤◌, ℕ, List, map, length
 ghost use Rattle.std.specs.String.{string_bytes};
 ghost use Rattle.hwdb_spec.specs.Folders.{chosen_of, first_of, max_files};
 ghost use Rattle.hwdb_text.specs.Views.{choice_of, IsStorableChoice};
-ghost use Rattle.hwdb_compile.specs.Views.{sources, name_of, choice_in, AreChosenOf, IsChoiceRefusal};
+ghost use Rattle.hwdb_compile.specs.Views.{sources, name_of, choice_in, AreChosenOf};
+ghost use Rattle.hwdb_spec.specs.CompileErrors.{IsChoiceRefusal};
 ghost use Rattle.hwdb_compile.specs.Internal.Reading.{bytes_at};
 
-use crate::errors::CompileError;
+use hwdb_spec::CompileError;
 use hwdb_text::{Chosen, Fault, select};
 use std::alloc::{AllocError, Global};
 use std::collections::BTreeMap;

@@ -5,7 +5,7 @@ ghost use Rattle.hwdb_spec.specs.Lookups;
 ghost use Rattle.hwdb_query.specs.Views.{assignment_of_answer, explained_values};
 ghost use Rattle.hwdb_device.specs.Views.{tells_of};
 
-use hwdb_query::{Answer, Explained, explain};
+use hwdb_query::{Explained, StoredAssignment, explain};
 use hwdb_reader::Db;
 use std::alloc::{AllocError, Global};
 
@@ -24,7 +24,7 @@ pub(crate) fn told<'a>(
 }
 
 /// The value of the first of some answers; empty if there is none.
-pub(crate) fn first_value<'t>(answers: &'t [Answer<'_>]) -> &'t [u8]
+pub(crate) fn first_value<'t>(answers: &'t [StoredAssignment<'_>]) -> &'t [u8]
     ensures { result.now ≡ Lookups.first_value (map assignment_of_answer answers.now) }
 {
     match answers.split_first() {

@@ -3,10 +3,11 @@ use Rattle.std.proofs.Common.{◌≡◌, ◌∙◌, ◌+◌, ◌++◌, ap, appen
 use Rattle.std.specs.Prelude.{Any}
 use Rattle.std.specs.Result.{IsErrAnd}
 use Rattle.hwdb_spec.specs.Folders.{Source}
-use Rattle.hwdb_text.specs.declared.outcome.ScanError.{ScanError}
-use Rattle.hwdb_text.specs.declared.outcome.ScanError.TheVariants.{Memory, TooManyLines}
+use Rattle.hwdb_spec.specs.declared.errors.ScanError.{ScanError}
+use Rattle.hwdb_spec.specs.declared.errors.ScanError.TheVariants.{Memory, TooManyLines}
 use Rattle.hwdb_lint.specs.declared.files.TextFile.{TextFile}
-use Rattle.hwdb_lint.specs.Checks.{source_of, IsFileRefusal, IsCheckRefusal}
+use Rattle.hwdb_lint.specs.Checks.{source_of}
+use Rattle.hwdb_spec.specs.CheckErrors.{IsFileRefusal, IsCheckRefusal}
 
 -- a file that gives an error is one of some files
 any_at : (P : Source → Type 0) (fs : List TextFile) (i : ℕ) (d : TextFile) → i < length fs → P (source_of (get_or fs i d)) → Any P (map source_of fs)

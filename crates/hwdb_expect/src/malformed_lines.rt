@@ -95,7 +95,7 @@ pub fn malformed_of(alloc: Global, bytes: &[u8], all: &[Fault]) -> Result<Vec<Fa
         (λ f. not (Wanted.is_excused f (text_of_line (lines bytes.now) f.line))) all.now) }
 {
     let mut list = Vec::new(alloc);
-    let mut start = first_start(bytes);
+    let mut start = first_start();
     for fault in all {
         let (found, line) = find_line(bytes, start, fault.line);
         start = found;

@@ -1,6 +1,7 @@
 //! The lines of test files, each tried for each of its devices.
 ghost use Rattle.std.specs.Prelude.{◌≡◌, ◌≤◌, ◌++◌, ◌∷◌, [], false, flat_map, map, IfErr, IfOk, OnOk};
-ghost use Rattle.hwdb_lint.specs.Checks.{IsCheckRefusal, IsFileRefusal, source_of};
+ghost use Rattle.hwdb_spec.specs.CheckErrors.{IsCheckRefusal, IsFileRefusal};
+ghost use Rattle.hwdb_lint.specs.Checks.{source_of};
 ghost use Rattle.hwdb_spec.specs.Wanted;
 ghost use Rattle.hwdb_expect.specs.Internal.{tried_text};
 ghost use Rattle.hwdb_expect.specs.Views.{given_at, line_at, pair_at, record_at};
@@ -20,7 +21,7 @@ use std::alloc::{AllocError, Global};
 
 /// What a database is asked, and what is said.
 #[derive(Clone, Copy)]
-struct Form<'a> {
+struct FileForm<'a> {
     /// Whether lines of JSON are printed.
     json: bool,
     /// The path that is printed for the file.
@@ -48,7 +49,7 @@ pub struct Tested {
 /// Tries a line of a record among the properties of a device. The only error, here and below, is `AllocError`.
 fn try_line(
     alloc: Global,
-    form: Form<'_>,
+    form: FileForm<'_>,
     told: &mut Told,
     device: &[u8],
     all: &[WantedLine<'_>],
@@ -81,7 +82,7 @@ fn try_line(
 /// Tries the lines of a record among the properties of a device.
 fn try_lines(
     alloc: Global,
-    form: Form<'_>,
+    form: FileForm<'_>,
     told: &mut Told,
     device: &[u8],
     all: &[WantedLine<'_>],
@@ -103,7 +104,7 @@ fn try_lines(
 fn try_device(
     alloc: Global,
     db: &Db<'_>,
-    form: Form<'_>,
+    form: FileForm<'_>,
     told: &mut Told,
     all: &[WantedLine<'_>],
     device: &[u8],
@@ -122,7 +123,7 @@ fn try_device(
 fn try_record(
     alloc: Global,
     db: &Db<'_>,
-    form: Form<'_>,
+    form: FileForm<'_>,
     told: &mut Told,
     record: &Record<'_>,
 ) -> Result<(), AllocError>
@@ -141,7 +142,7 @@ fn try_record(
 fn try_records(
     alloc: Global,
     db: &Db<'_>,
-    form: Form<'_>,
+    form: FileForm<'_>,
     told: &mut Told,
     records: &[Record<'_>],
 ) -> Result<(), AllocError>
@@ -210,7 +211,7 @@ fn try_well_formed(
 {
     let path = file.path.as_bytes();
     let records = records_of(alloc, file.bytes)?;
-    try_records(alloc, db, Form { json, path }, told, &records)
+    try_records(alloc, db, FileForm { json, path }, told, &records)
 }
 
 /// Tries a test file: says which lines are malformed, or if none is tries its records.

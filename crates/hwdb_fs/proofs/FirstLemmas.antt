@@ -2,9 +2,9 @@
 use Rattle.std.proofs.Common.{◌≡◌, ◌<◌, ◌∷◌, ◌++◌, ◌∙◌, All, List, None, Option, Some, [], ap, arith, length, subst, sym, ℕ}
 use Rattle.std.proofs.lemmas.List.Elements.{All-head, All-tail}
 use Rattle.hwdb_fs.specs.Laws.{IsLongAt}
-use Rattle.hwdb_fs.specs.Reading.{IsFirstUnread, IsText}
-use Rattle.hwdb_fs.specs.Refusals.{IsUnread}
-use Rattle.hwdb_fs.specs.declared.refusals.Refusal.{Refusal}
+use Rattle.hwdb_spec.specs.Reading.{IsFirstUnread, IsText}
+use Rattle.hwdb_spec.specs.Refusals.{IsUnread}
+use Rattle.hwdb_spec.specs.declared.refusals.Refusal.{Refusal}
 use Rattle.hwdb_spec.specs.Folders.{Choice, path_of}
 use Rattle.hwdb_spec.specs.Store.{Contents}
 use Rattle.hwdb_spec.specs.Texts.{max_file}

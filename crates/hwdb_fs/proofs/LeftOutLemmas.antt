@@ -6,20 +6,21 @@ use Rattle.std.proofs.lemmas.Bool.{or_left, or_right}
 use Rattle.std.proofs.lemmas.List.{append-nil, append_cancel_left, get_or-map, length-map, map-append}
 use Rattle.std.proofs.lemmas.List.Elements.{All-contains, All-filter, All-nil, All-push, filter_passes}
 use Rattle.std.proofs.lemmas.Slice.Eq.{bytes_eq-Decides}
-use Rattle.hwdb_io.specs.declared.causes.Cause.{Cause}
+use Rattle.hwdb_spec.specs.declared.causes.Cause.{Cause}
 use Rattle.hwdb_spec.specs.Folders.{Choice, choice, lists, path_of, same}
 use Rattle.hwdb_spec.specs.Store.{Contents, Stored, path_in}
 use Rattle.hwdb_spec.specs.System.{AreNamesIn, IsNameIn, etc_files, usr_files}
-use Rattle.hwdb_text.specs.Views.{IsListed, choice_of}
+use Rattle.hwdb_spec.specs.Selected.{IsListed, AreNamed, AreSelected, IsPartOf}
+use Rattle.hwdb_text.specs.Views.{choice_of}
 use Rattle.hwdb_text.specs.declared.choice.Chosen.{Chosen}
-use Rattle.hwdb_fs.specs.Internal.{AreNamed, AreSelected, IsPartOf}
-use Rattle.hwdb_fs.specs.LeftOut.{AreFound, AreSelectedLess, AreTold, AreToldOf, AreUnreadLess, IsNoted, IsNotedOf, left_out_line}
+use Rattle.hwdb_fs.specs.LeftOut.{AreFound, AreToldOf, IsNoted, IsNotedOf}
+use Rattle.hwdb_spec.specs.LeftOutTold.{AreSelectedLess, AreTold, AreUnreadLess, left_out_line}
 use Rattle.hwdb_spec.specs.LeftOut.{AreLeftOut, IsLeftOut, is_named, less}
-use Rattle.hwdb_fs.specs.Reading.{AreUnread, AreUnreadIn, IsChosenUnread}
-use Rattle.hwdb_fs.specs.Refusals.{HasReason, IsUnread, IsUnreadable, file_text}
-use Rattle.hwdb_fs.specs.declared.refusals.Refusal.{Refusal}
-use Rattle.hwdb_fs.specs.declared.refusals.Refusal.TheVariants.{At, InWords, NoDatabase, Plain}
-use Rattle.hwdb_print.specs.declared.errors.ToolError.TheVariants.{Read, Write, TooLong, TooManyFiles, TooManyLines, TooLarge, BadPosition, BadDatabase, Replace, Memory}
+use Rattle.hwdb_spec.specs.Reading.{AreUnread, AreUnreadIn, IsChosenUnread}
+use Rattle.hwdb_spec.specs.Refusals.{HasReason, IsUnread, IsUnreadable, file_text}
+use Rattle.hwdb_spec.specs.declared.refusals.Refusal.{Refusal}
+use Rattle.hwdb_spec.specs.declared.refusals.Refusal.TheVariants.{At, InWords, NoDatabase, Plain}
+use Rattle.hwdb_spec.specs.declared.errors.ToolError.TheVariants.{Read, Write, TooLong, TooManyFiles, TooManyLines, TooLarge, BadPosition, BadDatabase, Replace, Memory}
 use Rattle.hwdb_fs.proofs.NameLemmas.{contains_filter, same_itself, same_name}
 use Rattle.hwdb_fs.proofs.ReasonLemmas.{chosen_fails, chosen_reason}
 use Rattle.hwdb_fs.proofs.SelectionLemmas.{any_unread, chosen_unread}

@@ -6,12 +6,12 @@ use Rattle.std.specs.Io.KnownBytes.{Appends}
 use Rattle.std.proofs.KnownBytes.{Appends-trans}
 use Rattle.hwdb_spec.specs.Outputs.{AppendsPrefix}
 use Rattle.hwdb_spec.specs.declared.DbFault.{DbFault}
-use Rattle.hwdb_io.specs.declared.causes.Cause.{Cause}
-use Rattle.hwdb_print.specs.declared.errors.ToolError.{ToolError}
-use Rattle.hwdb_print.specs.declared.errors.ToolError.TheVariants.{Read, Write, TooLong, TooManyFiles, TooManyLines, TooLarge, BadPosition, BadDatabase, Replace, Memory}
+use Rattle.hwdb_spec.specs.declared.causes.Cause.{Cause}
+use Rattle.hwdb_spec.specs.declared.errors.ToolError.{ToolError}
+use Rattle.hwdb_spec.specs.declared.errors.ToolError.TheVariants.{Read, Write, TooLong, TooManyFiles, TooManyLines, TooLarge, BadPosition, BadDatabase, Replace, Memory}
 use Rattle.hwdb_fs.specs.Internal.{line_at}
-use Rattle.hwdb_fs.specs.Refusals.{Refused, refusal_line, path_text}
-use Rattle.hwdb_print.specs.Refusals.{error_text}
+use Rattle.hwdb_spec.specs.Refusals.{Refused, refusal_line, path_text}
+use Rattle.hwdb_spec.specs.Errors.{error_text}
 use Rattle.hwdb_spec.specs.Texts.{at_offset, db_fault_name, db_fault_offset}
 use Rattle.hwdb_spec.specs.Verdicts.{fault_line, remedy}
 

@@ -6,10 +6,9 @@ use Rattle.std.proofs.lemmas.List.Elements.{All-push, Contains-append_left, Cont
 use Rattle.std.specs.Borrow.{Bor}
 use Rattle.std.proofs.lemmas.List.{append_cancel_left}
 use Rattle.hwdb_spec.specs.Lines.{has}
-use Rattle.hwdb_spec.specs.Store.{path_in}
+use Rattle.hwdb_spec.specs.Store.{path_in, Stored}
 use Rattle.hwdb_spec.specs.System.{IsNameIn}
 use Rattle.std.proofs.lemmas.Slice.Eq.{bytes_eq-Decides}
-use Rattle.hwdb_spec.specs.Store.{Stored}
 use Rattle.hwdb_spec.specs.Crashes.{Traces, begin, changed}
 use Rattle.hwdb_replace.specs.Memory.{state_of, after, seen_of, stored}
 use Rattle.hwdb_replace.specs.declared.memory.Step.{Step}

@@ -1,13 +1,13 @@
 -- What is made of the answers of a file system.
 use Rattle.std.proofs.Common.{◌≡◌, ◌⊎◌, inl, inr, Bool, true, false, List, ℕ, Option, None, Result, Err, sym, ap, subst, if◌then◌else◌}
 use Rattle.std.proofs.lemmas.Bool.{true≢false}
-use Rattle.hwdb_io.specs.declared.causes.Cause.{Cause}
-use Rattle.hwdb_io.specs.declared.causes.Cause.TheVariants as why
-use Rattle.hwdb_print.specs.declared.errors.ToolError.TheVariants.{Read, TooLong}
+use Rattle.hwdb_spec.specs.declared.causes.Cause.{Cause}
+use Rattle.hwdb_spec.specs.declared.causes.Cause.TheVariants as why
+use Rattle.hwdb_spec.specs.declared.errors.ToolError.TheVariants.{Read, TooLong}
 use Rattle.hwdb_fs.specs.declared.raw.Unread.{Unread}
 use Rattle.hwdb_fs.specs.declared.raw.Unread.TheVariants as unread
-use Rattle.hwdb_fs.specs.declared.refusals.Refusal.{Refusal}
-use Rattle.hwdb_fs.specs.declared.refusals.Refusal.TheVariants.{At}
+use Rattle.hwdb_spec.specs.declared.refusals.Refusal.{Refusal}
+use Rattle.hwdb_spec.specs.declared.refusals.Refusal.TheVariants.{At}
 use Rattle.hwdb_fs.specs.Raw.{IsOfMemory, IsRefusedAs, IsRefusedFor, at_place, failed}
 
 cause_of : Unread → Option Cause

@@ -3,9 +3,9 @@ use Rattle.std.proofs.Common.{◌≡◌, inl, inr, refl, sym, ap, ◌∙◌, Boo
 use Rattle.std.specs.Prelude.{codes}
 use Rattle.std.proofs.lemmas.Bool.{true≢false}
 use Rattle.hwdb_spec.specs.Lines.{pieces}
-use Rattle.hwdb_print.specs.declared.errors.ToolError.TheVariants.{Read, TooLong}
+use Rattle.hwdb_spec.specs.declared.errors.ToolError.TheVariants.{Read, TooLong}
 use Rattle.hwdb_fs.specs.declared.raw.Unread.{Unread}
-use Rattle.hwdb_fs.specs.declared.refusals.Refusal.TheVariants.{At}
+use Rattle.hwdb_spec.specs.declared.refusals.Refusal.TheVariants.{At}
 use Rattle.hwdb_fs.specs.ReadLaws.{ErrorsHaveOneCause, KindsAreTold, ReadIsNoError, listed}
 
 pub kinds_are_told : KindsAreTold

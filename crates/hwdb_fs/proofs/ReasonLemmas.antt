@@ -6,13 +6,12 @@ use Rattle.std.proofs.lemmas.List.Elements.{All-contains, All-head, All-tail, Al
 use Rattle.hwdb_spec.specs.Folders.{Choice, path_of}
 use Rattle.hwdb_spec.specs.Store.{Contents}
 use Rattle.hwdb_spec.specs.System.{AreNamesIn, IsNameIn, bytes_at, etc_files, usr_files}
-use Rattle.hwdb_text.specs.Views.{IsListed}
-use Rattle.hwdb_print.specs.declared.errors.ToolError.TheVariants.{Read, Write, TooLong, TooManyFiles, TooManyLines, TooLarge, BadPosition, BadDatabase, Replace, Memory}
-use Rattle.hwdb_fs.specs.Internal.{AreNamed, IsPartOf}
-use Rattle.hwdb_fs.specs.Reading.{IsChosenUnread, IsFirstUnread, IsText}
-use Rattle.hwdb_fs.specs.Refusals.{HasReason, IsUnread, IsUnreadable}
-use Rattle.hwdb_fs.specs.declared.refusals.Refusal.{Refusal}
-use Rattle.hwdb_fs.specs.declared.refusals.Refusal.TheVariants.{At, InWords, NoDatabase, Plain}
+use Rattle.hwdb_spec.specs.Selected.{IsListed, AreNamed, IsPartOf}
+use Rattle.hwdb_spec.specs.declared.errors.ToolError.TheVariants.{Read, Write, TooLong, TooManyFiles, TooManyLines, TooLarge, BadPosition, BadDatabase, Replace, Memory}
+use Rattle.hwdb_spec.specs.Reading.{IsChosenUnread, IsFirstUnread, IsText}
+use Rattle.hwdb_spec.specs.Refusals.{HasReason, IsUnread, IsUnreadable}
+use Rattle.hwdb_spec.specs.declared.refusals.Refusal.{Refusal}
+use Rattle.hwdb_spec.specs.declared.refusals.Refusal.TheVariants.{At, InWords, NoDatabase, Plain}
 
 -- the chosen of a folder's files are there
 there_at : (root : List ℕ) (contents : Contents) (etc usr : List (List ℕ)) (from_etc : Bool) (name : List ℕ) → AreNamesIn (etc_files root) contents etc → AreNamesIn (usr_files root) contents usr

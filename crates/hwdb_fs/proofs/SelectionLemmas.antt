@@ -10,15 +10,15 @@ use Rattle.hwdb_spec.specs.Store.{Contents}
 use Rattle.hwdb_spec.specs.System.{AreNamesIn, bytes_at, etc_files, usr_files}
 use Rattle.hwdb_text.specs.Views.{choice_of}
 use Rattle.hwdb_text.specs.declared.choice.Chosen.{Chosen}
-use Rattle.hwdb_text.specs.declared.outcome.SelectError.{SelectError}
-use Rattle.hwdb_text.specs.declared.outcome.SelectError.TheVariants as select
-use Rattle.hwdb_print.specs.Refusals.{refusal_of_select}
-use Rattle.hwdb_print.specs.declared.errors.ToolError.TheVariants.{Memory}
-use Rattle.hwdb_fs.specs.Internal.{AreNamed, AreTexts}
-use Rattle.hwdb_fs.specs.Refusals.{IsUnread}
-use Rattle.hwdb_fs.specs.Reading.{AreUnread, AreUnreadAt, AreUnreadIn, IsChosenUnread, IsFirstUnread, IsText}
-use Rattle.hwdb_fs.specs.declared.refusals.Refusal.{Refusal}
-use Rattle.hwdb_fs.specs.declared.refusals.Refusal.TheVariants.{Plain}
+use Rattle.hwdb_spec.specs.declared.errors.SelectError.{SelectError}
+use Rattle.hwdb_spec.specs.declared.errors.SelectError.TheVariants as select
+use Rattle.hwdb_spec.specs.Errors.{refusal_of_select}
+use Rattle.hwdb_spec.specs.declared.errors.ToolError.TheVariants.{Memory}
+use Rattle.hwdb_spec.specs.Selected.{AreNamed, AreTexts}
+use Rattle.hwdb_spec.specs.Refusals.{IsUnread}
+use Rattle.hwdb_spec.specs.Reading.{AreUnread, AreUnreadAt, AreUnreadIn, IsChosenUnread, IsFirstUnread, IsText}
+use Rattle.hwdb_spec.specs.declared.refusals.Refusal.{Refusal}
+use Rattle.hwdb_spec.specs.declared.refusals.Refusal.TheVariants.{Plain}
 
 -- a property of the error that is handed on
 pub given_error : {T E : Type 0} (e : E) (P : E → Type 0) (r : Result T E) → IsErrAnd r (λ x. x ≡ e) → P e → IfErr r P

@@ -1,24 +1,19 @@
 -- What the steps of an update hold, and what a store in memory answers.
-use Rattle.std.specs.Prelude.{IsUtf8, ◌≡◌, ◌≢◌, ◌≤◌, ◌⊎◌, All, length, ℕ, Bool, true, false, if◌then◌else◌, not, ◌||◌, is_some, List, [], ◌∷◌, ◌++◌, Option, Some, None, codes, map}
+use Rattle.std.specs.Prelude.{IsUtf8, ◌≡◌, ◌≢◌, ◌⊎◌, ℕ, Bool, false, if◌then◌else◌, not, ◌||◌, is_some, List, [], ◌∷◌, ◌++◌, Option, Some, None, codes}
 use Rattle.std.specs.Borrow.{Bor}
 use Rattle.std.specs.BTreeSet.{BTreeSet}
 use Rattle.std.specs.List.{list_any}
-use Rattle.hwdb_spec.specs.Folders.{Choice, choice, names, max_files, path_of, counts, lists, same}
+use Rattle.hwdb_spec.specs.Folders.{names, counts, lists, same}
 use Rattle.hwdb_spec.specs.Lines.{has}
-use Rattle.hwdb_spec.specs.Store.{Contents, path_in}
-use Rattle.hwdb_spec.specs.Texts.{at_offset, max_file}
-use Rattle.hwdb_spec.specs.System.{AreNamesIn, bytes_at, etc_files, usr_files, IsNameIn}
-use Rattle.hwdb_text.specs.Views.{IsListed}
-use Rattle.hwdb_print.specs.declared.errors.ToolError.TheVariants.{Memory, Read}
+use Rattle.hwdb_spec.specs.Store.{path_in}
+use Rattle.hwdb_spec.specs.Texts.{at_offset}
+use Rattle.hwdb_spec.specs.System.{bytes_at, IsNameIn}
+use Rattle.hwdb_spec.specs.declared.errors.ToolError.TheVariants.{Memory, Read}
 use Rattle.hwdb_replace.specs.Memory.{seen_of}
 use Rattle.hwdb_replace.specs.declared.memory.Step.{Step}
 use Rattle.hwdb_replace.specs.declared.memory.Step.TheVariants.{Changed, Moved}
-use Rattle.hwdb_fs.specs.declared.refusals.Refusal.TheVariants.{At, Plain}
-use Rattle.hwdb_fs.specs.declared.refusals.Refusal.{Refusal}
-
--- the texts are what is read of the chosen files below a root
-abbrev pub AreTexts : (root : List ℕ) (contents : Contents) → List Choice → (texts : List (List ℕ)) → Type 0
-AreTexts root contents chosen texts = map Some texts ≡ map (λ c. bytes_at contents (root ++ path_of c)) chosen
+use Rattle.hwdb_spec.specs.declared.refusals.Refusal.TheVariants.{At, Plain}
+use Rattle.hwdb_spec.specs.declared.refusals.Refusal.{Refusal}
 
 -- what a read gives after some steps of a store in memory
 abbrev pub bytes_after : List Step → (path : List ℕ) → Option (List ℕ)
@@ -58,27 +53,6 @@ IsNamedBy steps folder step (Some name) = IsNameIn folder (seen_of steps) name �
 abbrev pub IsPushed : List Step → (folder : List ℕ) → Step → (old new : List (List ℕ)) → Type 0
 IsPushed steps folder step old new =
     (IsNamedBy steps folder step None × (new ≡ old)) ⊎ ((name : List ℕ) × IsNamedBy steps folder step (Some name) × (new ≡ old ++ name ∷ []))
-
--- what stands under a path of the part stands there in the whole
-abbrev pub IsPartOf : (whole part : Contents) → Type 0
-IsPartOf whole part = (path : List ℕ) → is_some (bytes_at part path) ≡ true → bytes_at part path ≡ bytes_at whole path
-
--- the names of the text files of both folders, among some of all files
-pub record AreNamed (root : List ℕ) (all files : Contents) (etc usr : List (List ℕ)) : Type 0 where
-  pub part : IsPartOf all files
-  pub in_etc : AreNamesIn (etc_files root) files etc
-  pub in_usr : AreNamesIn (usr_files root) files usr
-
--- the chosen of the folders' text files, and what each holds, no longer than a file may be; `usr` are the names in /usr/lib
-pub record AreSelected (root : List ℕ) (contents : Contents) (usr : List (List ℕ)) (chosen : List Choice) (texts : List (List ℕ)) : Type 0 where
-  pub etc : List (List ℕ)
-  pub in_etc : AreNamesIn (etc_files root) contents etc
-  pub in_usr : AreNamesIn (usr_files root) contents usr
-  pub is : chosen ≡ choice etc usr
-  pub few : length (names etc usr) ≤ max_files
-  pub listed : All (IsListed etc usr) chosen
-  pub read : AreTexts root contents chosen texts
-  pub within : All (λ (t : List ℕ). length t ≤ max_file) texts
 
 -- a fault of the database at a path: its name, its offset if it has one, the path, and what to do
 abbrev pub line_at : (path name : List ℕ) → (offset : Option ℕ) → (what : List ℕ) → List ℕ

@@ -1,15 +1,15 @@
 -- What two errors of reading text files have in common.
 use Rattle.std.specs.Prelude.{◌≡◌, ◌<◌, List, Option, Some, Vec, length, ℕ}
 use Rattle.std.specs.Global.{Global}
-use Rattle.hwdb_io.specs.declared.causes.Cause.{Cause}
-use Rattle.hwdb_fs.specs.Reading.{IsFirstUnread}
-use Rattle.hwdb_fs.specs.declared.refusals.Refusal.{Refusal}
-use Rattle.hwdb_fs.specs.declared.refusals.Refusal.TheVariants.{At}
+use Rattle.hwdb_spec.specs.declared.causes.Cause.{Cause}
+use Rattle.hwdb_spec.specs.Reading.{IsFirstUnread}
+use Rattle.hwdb_spec.specs.declared.refusals.Refusal.{Refusal}
+use Rattle.hwdb_spec.specs.declared.refusals.Refusal.TheVariants.{At}
 use Rattle.hwdb_spec.specs.Folders.{Choice}
 use Rattle.hwdb_spec.specs.Store.{Contents}
 use Rattle.hwdb_spec.specs.System.{bytes_at}
 use Rattle.hwdb_spec.specs.Texts.{max_file}
-use Rattle.hwdb_print.specs.declared.errors.ToolError.TheVariants.{TooLong}
+use Rattle.hwdb_spec.specs.declared.errors.ToolError.TheVariants.{TooLong}
 
 -- the error says that the file at this path is too long, and so it is
 pub record IsLongAt (contents : Contents) (path : List ℕ) (refusal : Refusal) : Type 0 where

@@ -1,5 +1,3 @@
-pub mod Refusals
-pub mod Reading
 pub mod Roots
 pub mod Internal
 pub mod LeftOut

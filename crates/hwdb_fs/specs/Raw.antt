@@ -5,15 +5,15 @@ use Rattle.hwdb_spec.specs.Folders.{counts}
 use Rattle.hwdb_spec.specs.Lines.{is, pieces}
 use Rattle.hwdb_spec.specs.Store.{path_in}
 use Rattle.hwdb_spec.specs.Texts.{max_file}
-use Rattle.hwdb_io.specs.declared.causes.Cause.{Cause}
-use Rattle.hwdb_io.specs.declared.causes.Cause.TheVariants as why
-use Rattle.hwdb_print.specs.declared.errors.ToolError.TheVariants.{Read, TooLong, Memory}
+use Rattle.hwdb_spec.specs.declared.causes.Cause.{Cause}
+use Rattle.hwdb_spec.specs.declared.causes.Cause.TheVariants as why
+use Rattle.hwdb_spec.specs.declared.errors.ToolError.TheVariants.{Read, TooLong, Memory}
 use Rattle.hwdb_fs.specs.declared.raw.Kind.{Kind}
 use Rattle.hwdb_fs.specs.declared.raw.Kind.TheVariants.{File, Null, Folder, Pipe, Socket, Device}
 use Rattle.hwdb_fs.specs.declared.raw.Unread.{Unread}
 use Rattle.hwdb_fs.specs.declared.raw.Unread.TheVariants as unread
-use Rattle.hwdb_fs.specs.declared.refusals.Refusal.{Refusal}
-use Rattle.hwdb_fs.specs.declared.refusals.Refusal.TheVariants.{Plain, At}
+use Rattle.hwdb_spec.specs.declared.refusals.Refusal.{Refusal}
+use Rattle.hwdb_spec.specs.declared.refusals.Refusal.TheVariants.{Plain, At}
 
 -- a call told the answer, or had no memory for it
 abbrev pub IsTold : {X Y : Type 0} (value : Y → X) (answer : Result X Cause) → Result Y Cause → Type 0

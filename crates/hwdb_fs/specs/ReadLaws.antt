@@ -1,10 +1,10 @@
 -- What the definitions of Raw come to, case by case: a claim that said less would be noticed here.
 use Rattle.std.specs.Prelude.{◌≡◌, ℕ, List, [], ◌∷◌, ◌++◌, codes, true, false, Option, Some, None, Result, Ok, Err}
-use Rattle.hwdb_io.specs.declared.causes.Cause.TheVariants as why
+use Rattle.hwdb_spec.specs.declared.causes.Cause.TheVariants as why
 use Rattle.hwdb_fs.specs.declared.raw.Kind.{Kind}
 use Rattle.hwdb_fs.specs.declared.raw.Kind.TheVariants.{File, Null, Folder, Pipe, Socket, Device}
 use Rattle.hwdb_fs.specs.declared.raw.Unread.{Unread}
-use Rattle.hwdb_fs.specs.declared.refusals.Refusal.{Refusal}
+use Rattle.hwdb_spec.specs.declared.refusals.Refusal.{Refusal}
 use Rattle.hwdb_fs.specs.Raw.{IsOfMemory, IsRefusedAs, IsRefusedFor, database_answer, failed, names_answer, text_answer}
 
 -- every place is of one kind, and holds these bytes

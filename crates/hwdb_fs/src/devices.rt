@@ -1,12 +1,12 @@
 //! The file system as it is asked for devices: a call of the library for each answer, and nothing decided (docs/assumptions.md).
 ghost use Rattle.std.specs.Prelude.{Err};
-ghost use Rattle.hwdb_io.specs.declared.causes.Cause.TheVariants.{Memory};
+ghost use Rattle.hwdb_spec.specs.declared.causes.Cause.TheVariants.{Memory};
 
 use crate::files::SystemStore;
 use crate::parts::Lockable;
 use crate::raw::{StdFiles, Unread, all_of, up_to};
 use hwdb_io::Cause;
-use hwdb_sysfs::{DeviceFiles, Node};
+use hwdb_sysfs::{DeviceFiles, DeviceNode};
 use std::alloc::Global;
 use std::fs::{self, File};
 use std::io;
@@ -44,10 +44,10 @@ fn why_unread(why: Unread) -> Cause {
 }
 
 /// The node that `stat` found.
-fn node_of(found: &fs::Metadata) -> Option<Node> {
+fn node_of(found: &fs::Metadata) -> Option<DeviceNode> {
     let kind = found.file_type();
     if kind.is_block_device() || kind.is_char_device() {
-        Some(Node {
+        Some(DeviceNode {
             block: kind.is_block_device(),
             number: found.rdev(),
         })
@@ -76,7 +76,7 @@ where
         Ok(place.into_bytes())
     }
 
-    fn node_at(&self, place: &[u8]) -> Result<Option<Node>, Cause> {
+    fn node_at(&self, place: &[u8]) -> Result<Option<DeviceNode>, Cause> {
         let found = fs::metadata(self.runtime(), text_of(place)?).map_err(cause_of)?;
         Ok(node_of(&found))
     }
@@ -115,7 +115,7 @@ where
         self.files().real_path(alloc, path)
     }
 
-    fn node_at(&self, place: &[u8]) -> Result<Option<Node>, Cause> {
+    fn node_at(&self, place: &[u8]) -> Result<Option<DeviceNode>, Cause> {
         self.files().node_at(place)
     }
 

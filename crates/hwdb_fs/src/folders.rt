@@ -6,16 +6,16 @@ ghost use Rattle.hwdb_spec.specs.Texts.{max_file};
 ghost use Rattle.hwdb_text.specs.Views.{IsStorableChoice, choice_of};
 ghost use Rattle.hwdb_compile.specs.Views.{bytes_in, choice_in};
 ghost use Rattle.hwdb_spec.specs.Store.{Contents};
-ghost use Rattle.hwdb_fs.specs.Internal.{AreNamed, AreSelected, AreTexts};
-ghost use Rattle.hwdb_fs.specs.Refusals.{HasReason, IsUnlisted, IsUnread, IsUnreadable};
-ghost use Rattle.hwdb_fs.specs.Reading.{AreUnread, IsChosenUnread, IsFirstUnread};
-ghost use Rattle.hwdb_fs.specs.declared.refusals.Refusal.TheVariants.{Plain};
+ghost use Rattle.hwdb_spec.specs.Selected.{AreNamed, AreSelected, AreTexts};
+ghost use Rattle.hwdb_spec.specs.Refusals.{HasReason, IsUnlisted, IsUnread, IsUnreadable};
+ghost use Rattle.hwdb_spec.specs.Reading.{AreUnread, IsChosenUnread, IsFirstUnread};
+ghost use Rattle.hwdb_spec.specs.declared.refusals.Refusal.TheVariants.{Plain};
 
 use crate::files::joined;
-use crate::refusals::Refusal;
 use crate::system::System;
 use hwdb_compile::ChosenFile;
 use hwdb_print::ToolError;
+use hwdb_spec::Refusal;
 use hwdb_text::{Chosen, select};
 use std::alloc::{AllocError, Global};
 

@@ -2,18 +2,20 @@
 ghost use Rattle.std.specs.Prelude.{◌≡◌, ◌≢◌, ◌⊎◌, ◌++◌, ◌∷◌, [], ℕ, List, All, Err, IfErr, IfOk, OnOk, cond, filter, length, map, not, string_bytes, true};
 ghost use Rattle.hwdb_spec.specs.Folders.{lists};
 ghost use Rattle.hwdb_text.specs.Views.{IsStorableChoice, choice_of};
-ghost use Rattle.hwdb_fs.specs.Internal.{AreNamed, AreSelected, IsNameSet};
-ghost use Rattle.hwdb_fs.specs.LeftOut.{AreFound, AreSelectedLess, AreToldOf, AreUnreadLess, IsNoted, IsNotedOf, left_out_line};
+ghost use Rattle.hwdb_spec.specs.Selected.{AreNamed, AreSelected};
+ghost use Rattle.hwdb_fs.specs.Internal.{IsNameSet};
+ghost use Rattle.hwdb_fs.specs.LeftOut.{AreFound, AreToldOf, IsNoted, IsNotedOf};
+ghost use Rattle.hwdb_spec.specs.LeftOutTold.{AreSelectedLess, AreUnreadLess, left_out_line};
 ghost use Rattle.hwdb_spec.specs.LeftOut.{less};
-ghost use Rattle.hwdb_fs.specs.Reading.{AreUnread, AreUnreadIn, IsChosenUnread};
-ghost use Rattle.hwdb_fs.specs.Refusals.{HasReason, IsUnreadable, file_text};
-ghost use Rattle.hwdb_fs.specs.declared.refusals.Refusal.TheVariants.{Plain};
+ghost use Rattle.hwdb_spec.specs.Reading.{AreUnread, AreUnreadIn, IsChosenUnread};
+ghost use Rattle.hwdb_spec.specs.Refusals.{HasReason, IsUnreadable, file_text};
+ghost use Rattle.hwdb_spec.specs.declared.refusals.Refusal.TheVariants.{Plain};
 
 use crate::folders::{ETC_FILES, Selection, USR_FILES, listed, read_file, selected, selected_of};
-use crate::refusals::Refusal;
 use crate::system::System;
 use hwdb_io::Cause;
 use hwdb_print::ToolError;
+use hwdb_spec::Refusal;
 use hwdb_text::{Chosen, select};
 use std::alloc::{AllocError, Global};
 use std::collections::BTreeSet;

@@ -35,6 +35,7 @@ mod system;
 
 pub use files::{SystemStore, joined, path_in};
 pub use folders::{Selection, selected, with_texts};
+pub use hwdb_spec::Refusal;
 pub use laws::first_long_file_is_named;
 pub use left_out::{ReadableSelection, name_set, selected_readable};
 pub use machine::Machine;
@@ -43,6 +44,6 @@ pub use parts::Lockable;
 pub use raw::{Kind, RawFiles, StdFiles, Unread};
 pub use read_laws::answers_are_told;
 pub use reads::{database_bytes, is_there, text_bytes};
-pub use refusals::{Refusal, refuse_for, refuse_memory, remedy};
+pub use refusals::{refuse_for, refuse_memory, remedy};
 pub use rooted::Rooted;
 pub use system::System;

@@ -4,16 +4,16 @@ ghost use Rattle.hwdb_spec.specs.Store.{path_in};
 ghost use Rattle.hwdb_spec.specs.Texts.{max_file};
 ghost use Rattle.hwdb_replace.specs.Memory.{seen_of};
 ghost use Rattle.hwdb_fs.specs.Internal.{IsMisnamed, IsNamedBy, IsOfName, IsPushed, bytes_after, is_text_file, made_by};
-ghost use Rattle.hwdb_fs.specs.Refusals.{HasReason, IsUnlisted, IsUnread, IsUnreadAt, IsUnreadable};
+ghost use Rattle.hwdb_spec.specs.Refusals.{HasReason, IsUnlisted, IsUnread, IsUnreadAt, IsUnreadable};
 
 use crate::files::text_of;
-use crate::refusals::Refusal;
 use crate::rooted::Rooted;
 use crate::system::System;
 use hwdb_io::{Cause, MAX_BYTES};
 use hwdb_print::ToolError;
 use hwdb_replace::memory::state_of;
 use hwdb_replace::{Memory, Step};
+use hwdb_spec::Refusal;
 use hwdb_text::counts;
 use std::alloc::{AllocError, Global};
 

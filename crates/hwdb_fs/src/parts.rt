@@ -11,9 +11,9 @@
 use crate::files::{joined, path_in};
 use crate::raw::{Unread, all_of};
 use crate::reads::refused;
-use crate::refusals::Refusal;
 use hwdb_io::Cause;
 use hwdb_replace::{part_name, part_number};
+use hwdb_spec::Refusal;
 use std::alloc::Global;
 use std::fs::{self, File, OpenFile, TryLockError};
 use std::io::{self, ErrorKind};

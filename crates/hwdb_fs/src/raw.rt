@@ -1,8 +1,8 @@
 //! What a file system answers, call by call, and nothing decided: this alone is believed of reading (docs/assumptions.md).
 ghost use Rattle.std.specs.Prelude.{◌≡◌, ◌≤◌, ℕ, List, Bool, false, Option, Result, Err, IfOk, IfSome, string_bytes, vec_len, option_map};
 ghost use Rattle.hwdb_spec.specs.Texts.{max_file};
-ghost use Rattle.hwdb_io.specs.declared.causes.Cause.{Cause};
-ghost use Rattle.hwdb_io.specs.declared.causes.Cause.TheVariants.{Memory};
+ghost use Rattle.hwdb_spec.specs.declared.causes.Cause.{Cause};
+ghost use Rattle.hwdb_spec.specs.declared.causes.Cause.TheVariants.{Memory};
 ghost use Rattle.hwdb_fs.specs.declared.raw.Kind.{Kind};
 ghost use Rattle.hwdb_fs.specs.declared.raw.Unread.{Unread};
 ghost use Rattle.hwdb_fs.specs.declared.raw.Unread.TheVariants.{TooLong};

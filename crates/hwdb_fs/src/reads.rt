@@ -4,14 +4,14 @@ ghost use Rattle.hwdb_spec.specs.Texts.{max_file};
 ghost use Rattle.hwdb_spec.specs.Folders.{counts};
 ghost use Rattle.hwdb_fs.specs.Raw.{AreFolderNamesAs, AreNamesAs, IsMisnamedAt, is_folder, entries, names_answer, IsOfMemory, IsReadAs, IsRefusedFor, at_place, bytes_of, bytes_at, database_answer, failed, text_answer, text_at, text_of_kind, there_answer};
 ghost use Rattle.hwdb_fs.specs.declared.raw.Unread.{Unread};
-ghost use Rattle.hwdb_io.specs.declared.causes.Cause.TheVariants.{Memory};
-ghost use Rattle.hwdb_fs.specs.Refusals.{IsUnread, IsUnlisted};
+ghost use Rattle.hwdb_spec.specs.declared.causes.Cause.TheVariants.{Memory};
+ghost use Rattle.hwdb_spec.specs.Refusals.{IsUnread, IsUnlisted};
 
 use crate::files::text_of;
 use crate::raw::{Kind, RawFiles, Unread};
-use crate::refusals::Refusal;
 use hwdb_io::Cause;
 use hwdb_print::ToolError;
+use hwdb_spec::Refusal;
 use hwdb_text::{counts, end_of};
 use std::alloc::{AllocError, Global};
 

@@ -1,9 +1,9 @@
 //! A file system that may be looked at from a root below its own.
 ghost use Rattle.std.specs.Prelude.{◌≡◌, IfErr};
-ghost use Rattle.hwdb_fs.specs.Refusals.{HasReason, IsUnentered};
+ghost use Rattle.hwdb_spec.specs.Refusals.{HasReason, IsUnentered};
 
-use crate::refusals::Refusal;
 use crate::system::System;
+use hwdb_spec::Refusal;
 
 /// A [`System`] that may go below a root.
 pub trait Rooted: System {

@@ -1,12 +1,12 @@
 //! Where a path below a root leads: each link on the way is followed inside the root, as if the root were `/`.
 ghost use Rattle.std.specs.Prelude.{◌≡◌, ◌<◌, All, false, length, map, string_bytes, IfErr, IfOk, IfSome};
 ghost use Rattle.hwdb_spec.specs.Lines.{has};
-ghost use Rattle.hwdb_fs.specs.Refusals.{IsUnentered};
+ghost use Rattle.hwdb_spec.specs.Refusals.{IsUnentered};
 ghost use Rattle.hwdb_fs.specs.Roots.{IsBelow, IsName, below};
 
 use crate::place::Place;
-use crate::refusals::Refusal;
 use hwdb_io::Cause;
+use hwdb_spec::Refusal;
 use std::alloc::Global;
 use std::path::PathBuf;
 use std::rt::Files;

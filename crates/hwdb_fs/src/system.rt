@@ -2,12 +2,12 @@
 ghost use Rattle.std.specs.Prelude.{◌≡◌, ◌≤◌, ℕ, List, Some, IfOk, IfErr, IfSome, OnOk, is_some, map, option_map, string_bytes, vec_len};
 ghost use Rattle.hwdb_spec.specs.Texts.{max_file};
 ghost use Rattle.hwdb_spec.specs.System.{AreNamesIn, bytes_at};
-ghost use Rattle.hwdb_fs.specs.Reading.{IsFolderAt};
-ghost use Rattle.hwdb_fs.specs.Refusals.{HasReason, IsUnlisted, IsUnread, IsUnreadAt, IsUnreadable};
+ghost use Rattle.hwdb_spec.specs.Reading.{IsFolderAt};
+ghost use Rattle.hwdb_spec.specs.Refusals.{HasReason, IsUnlisted, IsUnread, IsUnreadAt, IsUnreadable};
 
-use crate::refusals::Refusal;
 use hwdb_io::Cause;
 use hwdb_replace::Store;
+use hwdb_spec::Refusal;
 use std::alloc::{AllocError, Global};
 
 /// Files that the program reads, in a [`Store`] whose database it replaces.

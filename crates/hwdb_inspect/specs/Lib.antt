@@ -1,6 +1,3 @@
 pub mod Views
-pub mod Diffs
-pub mod Dumps
-pub mod Summaries
 pub mod Laws
 pub mod Internal

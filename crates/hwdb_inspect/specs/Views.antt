@@ -5,12 +5,12 @@ use Rattle.hwdb_spec.specs.Differences.{Change, change_between}
 use Rattle.hwdb_spec.specs.Differences.Change.{Came, Went}
 use Rattle.hwdb_spec.specs.Summary.{Summary}
 use Rattle.hwdb_query.specs.Views.{assignment_of_answer}
-use Rattle.hwdb_query.specs.declared.answer.Answer.{Answer}
+use Rattle.hwdb_query.specs.declared.answer.StoredAssignment.{StoredAssignment}
 use Rattle.hwdb_inspect.specs.declared.pairs.Pair.{Pair}
 use Rattle.hwdb_inspect.specs.declared.pairs.Pair.TheVariants.{Old, New, Both}
 use Rattle.hwdb_inspect.specs.declared.summary.Counts.{Counts}
 
-abbrev pub assignment_of : Answer → Assignment
+abbrev pub assignment_of : StoredAssignment → Assignment
 assignment_of a = assignment_of_answer a
 
 -- what happened at a pattern and key

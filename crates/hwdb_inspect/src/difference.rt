@@ -6,14 +6,14 @@ ghost use Rattle.hwdb_spec.specs.Tree.{Tree, IsTree};
 ghost use Rattle.hwdb_spec.specs.Written.{IsCompiled};
 ghost use Rattle.hwdb_spec.specs.Differences.{changes_text, are_some, differ, diff_text, files_diff_text};
 ghost use Rattle.hwdb_spec.specs.Databases.{IsDiffText, IsDifferent};
-ghost use Rattle.hwdb_inspect.specs.Diffs.{IsDiffRefusal};
+ghost use Rattle.hwdb_spec.specs.DiffErrors.{IsDiffRefusal};
 ghost use Rattle.hwdb_inspect.specs.Internal.Pairing.{to_tell};
 
-use crate::errors::DiffError;
 use crate::lines::push_pair;
 use crate::pairs::Pairs;
 use crate::walk::assignments;
 use hwdb_reader::{Db, check, law_ascending, law_one_tree};
+use hwdb_spec::DiffError;
 use std::alloc::{AllocError, Global};
 
 /// What changed from one database to another.

@@ -13,13 +13,11 @@
 //! | `difference` | `diff`: what changed from one database to another |
 //! | `summary` | how much is in a database |
 //! | `verification` | `verify`: whether bytes are a database, and how much is in it |
-//! | `errors` | why a database isn't summed up, dumped or compared |
 //! | `walk` | all assignments of a database, by pattern and key |
 //! | `laws` | laws of the map of a database, and of its dump |
 #![tactic(auto)]
 
 mod difference;
-mod errors;
 mod laws;
 mod lines;
 mod listing;
@@ -30,7 +28,7 @@ mod verification;
 mod walk;
 
 pub use difference::{Changes, diff};
-pub use errors::{DiffError, DumpError, VerifyError};
+pub use hwdb_spec::{DiffError, DumpError, VerifyError};
 pub use laws::{dump_says, dump_tells, members_are_the_map};
 pub use listing::dump;
 pub use verification::verify;

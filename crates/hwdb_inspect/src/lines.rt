@@ -5,13 +5,13 @@ ghost use Rattle.hwdb_spec.specs.Differences.Change.{Came, Went, Changed};
 ghost use Rattle.hwdb_inspect.specs.Views.{assignment_of, changes_of};
 
 use crate::pairs::Pair;
-use hwdb_query::Answer;
+use hwdb_query::StoredAssignment;
 use itoa::Buffer;
 use std::alloc::AllocError;
 use std::cmp::Ordering;
 
 /// Adds `KEY=VALUE`, a tab, and where it comes from.
-fn push_origin(text: &mut Vec<u8>, f: &Answer<'_>) -> Result<(), AllocError>
+fn push_origin(text: &mut Vec<u8>, f: &StoredAssignment<'_>) -> Result<(), AllocError>
     ensures { OnOk result (text.new.items ≡ text.old.items ++ origin_text (assignment_of f.now)) }
 {
     let mut number = Buffer::new();
@@ -26,7 +26,7 @@ fn push_origin(text: &mut Vec<u8>, f: &Answer<'_>) -> Result<(), AllocError>
 }
 
 /// Adds a sign, a tab, the pattern, a tab, and an assignment.
-fn push_signed(text: &mut Vec<u8>, sign: u8, f: &Answer<'_>) -> Result<(), AllocError>
+fn push_signed(text: &mut Vec<u8>, sign: u8, f: &StoredAssignment<'_>) -> Result<(), AllocError>
     ensures { OnOk result
         (text.new.items ≡ text.old.items ++ signed_text sign (assignment_of f.now)) }
 {
@@ -39,7 +39,7 @@ fn push_signed(text: &mut Vec<u8>, sign: u8, f: &Answer<'_>) -> Result<(), Alloc
 }
 
 /// Adds the line of what went.
-fn push_went(text: &mut Vec<u8>, old: &Answer<'_>) -> Result<(), AllocError>
+fn push_went(text: &mut Vec<u8>, old: &StoredAssignment<'_>) -> Result<(), AllocError>
     ensures { OnOk result
         (text.new.items ≡ text.old.items ++ change_text (Went (assignment_of old.now))) }
 {
@@ -49,7 +49,7 @@ fn push_went(text: &mut Vec<u8>, old: &Answer<'_>) -> Result<(), AllocError>
 }
 
 /// Adds the line of what came.
-fn push_came(text: &mut Vec<u8>, new: &Answer<'_>) -> Result<(), AllocError>
+fn push_came(text: &mut Vec<u8>, new: &StoredAssignment<'_>) -> Result<(), AllocError>
     ensures { OnOk result
         (text.new.items ≡ text.old.items ++ change_text (Came (assignment_of new.now))) }
 {
@@ -59,7 +59,11 @@ fn push_came(text: &mut Vec<u8>, new: &Answer<'_>) -> Result<(), AllocError>
 }
 
 /// Adds the line of what changed.
-fn push_changed(text: &mut Vec<u8>, old: &Answer<'_>, new: &Answer<'_>) -> Result<(), AllocError>
+fn push_changed(
+    text: &mut Vec<u8>,
+    old: &StoredAssignment<'_>,
+    new: &StoredAssignment<'_>,
+) -> Result<(), AllocError>
     ensures { OnOk result
         (text.new.items ≡ text.old.items
         ++ change_text (Changed (assignment_of old.now) (assignment_of new.now))) }

@@ -3,21 +3,21 @@ ghost use Rattle.std.specs.Prelude.{◌≡◌, None, map, flat_map, OnOk, IfOk, 
 ghost use Rattle.hwdb_spec.specs.Assignment.{assignment_cmp};
 ghost use Rattle.hwdb_spec.specs.Dump.{dumped, dump_text, record_text, first_unsaid};
 ghost use Rattle.hwdb_spec.specs.Databases.{IsTextOf, IsSayable};
-ghost use Rattle.hwdb_inspect.specs.Dumps.{IsDumpRefusal, IsUnsaidRefusal};
+ghost use Rattle.hwdb_spec.specs.DumpErrors.{IsDumpRefusal, IsUnsaidRefusal};
 ghost use Rattle.hwdb_inspect.specs.Views.{assignment_of};
 
-use crate::errors::DumpError;
 use crate::pairs::by_place;
 use crate::records::{is_said, push_record};
 use crate::walk::assignments;
-use hwdb_query::Answer;
+use hwdb_query::StoredAssignment;
 use hwdb_reader::{Db, check};
+use hwdb_spec::DumpError;
 use std::alloc::{AllocError, Global};
 use std::cmp::Ordering;
 
 /// Compares by priority, line, pattern and key.
 #[tactic(auto, unfolding(hwdb_spec::specs::Assignment::assignment_cmp, hwdb_spec::specs::Assignment::position_cmp))]
-fn by_position(x: &Answer<'_>, y: &Answer<'_>) -> Ordering
+fn by_position(x: &StoredAssignment<'_>, y: &StoredAssignment<'_>) -> Ordering
     ensures { result ≡ assignment_cmp (assignment_of x.now) (assignment_of y.now) }
 {
     match x.priority.cmp(&y.priority) {
@@ -30,7 +30,7 @@ fn by_position(x: &Answer<'_>, y: &Answer<'_>) -> Ordering
 }
 
 /// All that the database assigns, by priority, line, pattern and key. The only error is `AllocError`.
-fn ordered<'a>(alloc: Global, db: &Db<'a>) -> Result<Vec<Answer<'a>>, AllocError>
+fn ordered<'a>(alloc: Global, db: &Db<'a>) -> Result<Vec<StoredAssignment<'a>>, AllocError>
     ensures { IfOk result (λ list. map assignment_of list.items ≡ dumped db.now) }
 {
     let _root = db.root();
@@ -40,7 +40,7 @@ fn ordered<'a>(alloc: Global, db: &Db<'a>) -> Result<Vec<Answer<'a>>, AllocError
 }
 
 /// The first of some assignments that its record doesn't say is an error.
-fn check_sayable(alloc: Global, list: &[Answer<'_>]) -> Result<(), DumpError>
+fn check_sayable(alloc: Global, list: &[StoredAssignment<'_>]) -> Result<(), DumpError>
     ensures said { OnOk result (first_unsaid (map assignment_of list.now) ≡ None) }
     ensures unsaid { IfErr result (IsUnsaidRefusal (map assignment_of list.now)) }
 {
@@ -54,7 +54,7 @@ fn check_sayable(alloc: Global, list: &[Answer<'_>]) -> Result<(), DumpError>
 }
 
 /// The record of each assignment. The only error is `AllocError`.
-fn records_of(alloc: Global, list: &[Answer<'_>]) -> Result<Vec<u8>, AllocError>
+fn records_of(alloc: Global, list: &[StoredAssignment<'_>]) -> Result<Vec<u8>, AllocError>
     ensures { IfOk result
         (λ text. text.items ≡ flat_map record_text (map assignment_of list.now)) }
 {

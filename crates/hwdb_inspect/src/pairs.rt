@@ -4,25 +4,25 @@ ghost use Rattle.hwdb_inspect.specs.Views.{assignment_of, changes_of};
 ghost use Rattle.hwdb_inspect.specs.Internal.Merging.{by_place, merged};
 ghost use Rattle.hwdb_inspect.specs.Internal.Pairing.{to_tell, size};
 
-use hwdb_query::Answer;
+use hwdb_query::StoredAssignment;
 use std::cmp::Ordering;
 
 /// What two databases have at a pattern and key.
 #[derive(Clone, Copy)]
 pub(crate) enum Pair<'r, 'a> {
     /// The old one alone.
-    Old(&'r Answer<'a>),
+    Old(&'r StoredAssignment<'a>),
     /// The new one alone.
-    New(&'r Answer<'a>),
+    New(&'r StoredAssignment<'a>),
     /// Both.
-    Both(&'r Answer<'a>, &'r Answer<'a>),
+    Both(&'r StoredAssignment<'a>, &'r StoredAssignment<'a>),
 }
 
 /// What is left of the assignments of two databases.
 #[derive(Clone, Copy)]
 pub(crate) struct Pairs<'r, 'a> {
-    before: &'r [Answer<'a>],
-    after: &'r [Answer<'a>],
+    before: &'r [StoredAssignment<'a>],
+    after: &'r [StoredAssignment<'a>],
     /// How many of the old ones were taken.
     old_taken: usize,
     /// How many of the new ones were taken.
@@ -30,7 +30,7 @@ pub(crate) struct Pairs<'r, 'a> {
 }
 
 /// Compares by pattern and then by key.
-pub(crate) fn by_place(x: &Answer<'_>, y: &Answer<'_>) -> Ordering
+pub(crate) fn by_place(x: &StoredAssignment<'_>, y: &StoredAssignment<'_>) -> Ordering
     ensures { result ≡ by_place (assignment_of x.now) (assignment_of y.now) }
 {
     match x.pattern.as_slice().cmp(y.pattern.as_slice()) {
@@ -40,7 +40,7 @@ pub(crate) fn by_place(x: &Answer<'_>, y: &Answer<'_>) -> Ordering
 }
 
 /// The member number `i`, if there is one.
-fn at<'r, 'a>(list: &'r [Answer<'a>], i: usize) -> Option<&'r Answer<'a>>
+fn at<'r, 'a>(list: &'r [StoredAssignment<'a>], i: usize) -> Option<&'r StoredAssignment<'a>>
     ensures some { IfSome result (λ x. drop i list.now ≡ x.now ∷ drop (i + 1) list.now) }
     ensures within { OnSome result (i < length list.now) }
     ensures none { IfNone result (drop i list.now ≡ []) }
@@ -50,7 +50,10 @@ fn at<'r, 'a>(list: &'r [Answer<'a>], i: usize) -> Option<&'r Answer<'a>>
 
 impl<'r, 'a> Pairs<'r, 'a> {
     /// Two lists, before anything was taken.
-    pub(crate) fn new(before: &'r [Answer<'a>], after: &'r [Answer<'a>]) -> Pairs<'r, 'a>
+    pub(crate) fn new(
+        before: &'r [StoredAssignment<'a>],
+        after: &'r [StoredAssignment<'a>],
+    ) -> Pairs<'r, 'a>
         ensures { to_tell result
             ≡ merged (map assignment_of before.entry.now) (map assignment_of after.entry.now) }
     {
@@ -87,7 +90,11 @@ impl<'r, 'a> Pairs<'r, 'a> {
     }
 
     /// Takes the lesser of the first that are left of both, or both if they have one pattern and key.
-    fn take_least(&mut self, old: &'r Answer<'a>, new: &'r Answer<'a>) -> Pair<'r, 'a>
+    fn take_least(
+        &mut self,
+        old: &'r StoredAssignment<'a>,
+        new: &'r StoredAssignment<'a>,
+    ) -> Pair<'r, 'a>
         requires old { drop self.old.old_taken self.old.before.now
             ≡ old.now ∷ drop (self.old.old_taken + 1) self.old.before.now }
         requires new { drop self.old.new_taken self.old.after.now

@@ -7,13 +7,13 @@ ghost use Rattle.hwdb_spec.specs.Lines.{is_none};
 ghost use Rattle.hwdb_text.specs.Views.{given_in};
 ghost use Rattle.hwdb_inspect.specs.Views.{assignment_of};
 
-use hwdb_query::Answer;
+use hwdb_query::StoredAssignment;
 use hwdb_text::{Given, ScanError, Scanned, scan};
 use itoa::Buffer;
 use std::alloc::{AllocError, Global};
 
 /// Adds `# `, the path, `:`, the line and a newline.
-fn push_comment(text: &mut Vec<u8>, f: &Answer<'_>) -> Result<(), AllocError>
+fn push_comment(text: &mut Vec<u8>, f: &StoredAssignment<'_>) -> Result<(), AllocError>
     ensures { OnOk result (text.new.items ≡ text.old.items ++ comment_text (assignment_of f.now)) }
 {
     let mut number = Buffer::new();
@@ -26,7 +26,7 @@ fn push_comment(text: &mut Vec<u8>, f: &Answer<'_>) -> Result<(), AllocError>
 }
 
 /// Adds the record of an assignment: a comment, its pattern, its property, and an empty line.
-pub(crate) fn push_record(text: &mut Vec<u8>, f: &Answer<'_>) -> Result<(), AllocError>
+pub(crate) fn push_record(text: &mut Vec<u8>, f: &StoredAssignment<'_>) -> Result<(), AllocError>
     ensures { OnOk result (text.new.items ≡ text.old.items ++ record_text (assignment_of f.now)) }
 {
     push_comment(text, f)?;
@@ -40,7 +40,7 @@ pub(crate) fn push_record(text: &mut Vec<u8>, f: &Answer<'_>) -> Result<(), Allo
 }
 
 /// Whether a file gives a pattern, a key and a value.
-fn gives(given: &Given<'_>, f: &Answer<'_>) -> bool
+fn gives(given: &Given<'_>, f: &StoredAssignment<'_>) -> bool
     ensures { result ≡ Dump.is_alone (assignment_of f.now)
         (given_in (Dump.origin_of (assignment_of f.now)) given.now ∷ []) }
 {
@@ -50,7 +50,7 @@ fn gives(given: &Given<'_>, f: &Answer<'_>) -> bool
 }
 
 /// Whether a file without faults gives a pattern, a key and a value, and nothing else.
-fn says(scanned: &Scanned<'_>, f: &Answer<'_>) -> bool
+fn says(scanned: &Scanned<'_>, f: &StoredAssignment<'_>) -> bool
     ensures { result ≡ (if is_none scanned.now.faults.items
         then Dump.is_alone (assignment_of f.now)
         (map (given_in (Dump.origin_of (assignment_of f.now))) scanned.now.assignments.items)
@@ -60,7 +60,11 @@ fn says(scanned: &Scanned<'_>, f: &Answer<'_>) -> bool
 }
 
 /// Whether the record of an assignment says it. What is in `text` before is dropped. The only error is `AllocError`.
-pub(crate) fn is_said(alloc: Global, text: &mut Vec<u8>, f: &Answer<'_>) -> Result<bool, AllocError>
+pub(crate) fn is_said(
+    alloc: Global,
+    text: &mut Vec<u8>,
+    f: &StoredAssignment<'_>,
+) -> Result<bool, AllocError>
     ensures { IfOk result (λ said. said ≡ Dump.is_said (assignment_of f.now)) }
 {
     text.clear();

@@ -5,7 +5,7 @@ ghost use Rattle.hwdb_inspect.specs.Views.{assignment_of, summary_shown};
 ghost use Rattle.hwdb_inspect.specs.Internal.Counting.{part_of};
 
 use crate::walk::survey;
-use hwdb_query::Answer;
+use hwdb_query::StoredAssignment;
 use hwdb_reader::Db;
 use std::alloc::{AllocError, Global};
 
@@ -30,7 +30,7 @@ enum TextPart {
 }
 
 /// A part of an assignment.
-fn text_of<'l>(assigned: &'l Answer<'_>, part: TextPart) -> &'l [u8]
+fn text_of<'l>(assigned: &'l StoredAssignment<'_>, part: TextPart) -> &'l [u8]
     ensures { result.now ≡ part_of part (assignment_of assigned.now) }
 {
     match part {
@@ -43,7 +43,7 @@ fn text_of<'l>(assigned: &'l Answer<'_>, part: TextPart) -> &'l [u8]
 /// This part of each assignment.
 fn texts_of<'l>(
     alloc: Global,
-    list: &'l [Answer<'_>],
+    list: &'l [StoredAssignment<'_>],
     part: TextPart,
 ) -> Result<Vec<&'l [u8]>, AllocError>
     ensures { IfOk result (λ texts. map (λ t. t.now) texts.items
@@ -77,7 +77,11 @@ fn count_different(texts: Vec<&[u8]>) -> Result<usize, AllocError>
 }
 
 /// How many different texts there are in one part of the assignments.
-fn count_parts(alloc: Global, list: &[Answer<'_>], part: TextPart) -> Result<usize, AllocError>
+fn count_parts(
+    alloc: Global,
+    list: &[StoredAssignment<'_>],
+    part: TextPart,
+) -> Result<usize, AllocError>
     ensures { IfOk result
         (λ n. n ≡ different (map (part_of part) (map assignment_of list.now))) }
 {

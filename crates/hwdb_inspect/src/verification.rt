@@ -2,12 +2,12 @@
 ghost use Rattle.std.specs.Prelude.{◌≡◌, ◌++◌, IfOk, IfErr, OnOk};
 ghost use Rattle.hwdb_spec.specs.Databases.{IsSummary};
 ghost use Rattle.hwdb_spec.specs.Summary.{count_line, summary_text};
-ghost use Rattle.hwdb_inspect.specs.Summaries.{IsVerifyRefusal};
+ghost use Rattle.hwdb_spec.specs.VerifyErrors.{IsVerifyRefusal};
 ghost use Rattle.hwdb_inspect.specs.Views.{summary_shown};
 
-use crate::errors::VerifyError;
 use crate::summary::{Counts, summarize};
 use hwdb_reader::check;
+use hwdb_spec::VerifyError;
 use itoa::Buffer;
 use std::alloc::{AllocError, Global};
 

@@ -15,7 +15,7 @@ ghost use Rattle.hwdb_inspect.specs.Views.{assignment_of};
 ghost use Rattle.hwdb_query.specs.Internal.Members.{own_members};
 ghost use Rattle.hwdb_inspect.specs.Internal.Walks.{to_come, StandsOn, left, steps, deepest_to_come, Opened};
 
-use hwdb_query::{Answer, push_answers};
+use hwdb_query::{StoredAssignment, push_answers};
 use hwdb_reader::{Db, Entered, Inside, Node};
 use std::alloc::{AllocError, Global};
 
@@ -36,7 +36,7 @@ struct Walk<'a> {
     path: Vec<u8>,
     /// The nodes that aren't done, each below the one before it.
     stack: Vec<OpenVisit<'a>>,
-    found: Vec<Answer<'a>>,
+    found: Vec<StoredAssignment<'a>>,
     entered: Entered,
     /// The most nodes that were on one path so far.
     deepest: usize,
@@ -44,8 +44,8 @@ struct Walk<'a> {
 
 /// What a walk over a whole database found.
 #[derive(Drop)]
-pub(crate) struct Findings<'a> {
-    pub assignments: Vec<Answer<'a>>,
+pub(crate) struct WalkedDatabase<'a> {
+    pub assignments: Vec<StoredAssignment<'a>>,
     pub nodes: u64,
     /// The most nodes on one path, the root counted.
     pub depth: usize,
@@ -136,7 +136,7 @@ impl<'a> Walk<'a> {
 
 /// All that the database assigns, by pattern and then by key, and how many nodes it has. The only error is
 /// `AllocError`.
-pub(crate) fn survey<'a>(alloc: Global, db: &Db<'a>) -> Result<Findings<'a>, AllocError>
+pub(crate) fn survey<'a>(alloc: Global, db: &Db<'a>) -> Result<WalkedDatabase<'a>, AllocError>
     ensures list { IfOk result
         (λ found. map assignment_of found.assignments.items ≡ members_under [] db.now) }
     ensures nodes { IfOk result (λ found. found.nodes ≡ nodes db.now) }
@@ -149,7 +149,7 @@ pub(crate) fn survey<'a>(alloc: Global, db: &Db<'a>) -> Result<Findings<'a>, All
     while let Some(top) = walk.stack.pop() {
         walk.go_on(alloc, top)?;
     }
-    Ok(Findings {
+    Ok(WalkedDatabase {
         nodes: walk.entered.count(),
         depth: walk.deepest,
         assignments: walk.found,
@@ -160,7 +160,7 @@ pub(crate) fn survey<'a>(alloc: Global, db: &Db<'a>) -> Result<Findings<'a>, All
 ///
 /// The time grows with the number of nodes and with the bytes of the patterns. The memory is a record for each
 /// assignment, and a copy of each pattern that has one. The only error is `AllocError`.
-pub fn assignments<'a>(alloc: Global, db: &Db<'a>) -> Result<Vec<Answer<'a>>, AllocError>
+pub fn assignments<'a>(alloc: Global, db: &Db<'a>) -> Result<Vec<StoredAssignment<'a>>, AllocError>
     ensures list { IfOk result (λ list. map assignment_of list.items ≡ members_under [] db.now) }
 {
     let found = survey(alloc, db)?;

@@ -4,8 +4,8 @@ ghost use Rattle.std.specs.Io.{ReadsAtMost, WritesAtMost};
 ghost use Rattle.std.specs.Io.KnownBytes.{ReadConsumes, WriteAppends};
 ghost use Rattle.hwdb_spec.specs.Failures.{after_failure};
 
-use crate::causes::Cause;
-use crate::devices::{DeviceFailed, Sink, Source};
+use crate::devices::{Sink, Source};
+use hwdb_spec::{Cause, DeviceFailed};
 use std::io::{self, ErrorKind, Read, Write};
 
 /// The count of failed calls after one more, which stays at its greatest value.

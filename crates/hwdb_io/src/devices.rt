@@ -3,11 +3,7 @@ ghost use Rattle.std.specs.Prelude.{◌≡◌, ◌<◌, ◌≤◌, ℕ, List, Op
 ghost use Rattle.std.specs.Io.KnownBytes.{Keeps, ReadConsumes, WriteAppends};
 ghost use Rattle.hwdb_spec.specs.Failures.{CountsFailures};
 
-use crate::causes::Cause;
-
-/// A call of a device that failed, for whatever reason.
-#[derive(Clone, Copy, Debug, PartialEq, Eq)]
-pub struct DeviceFailed;
+use hwdb_spec::{Cause, DeviceFailed};
 
 /// Where bytes come from, shaped as std's `Read`.
 pub trait Source {

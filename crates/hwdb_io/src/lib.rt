@@ -6,23 +6,18 @@
 //! | `devices` | a source and a sink, and what they promise |
 //! | `adapters` | std's readers and writers as devices |
 //! | `testing` | a sink in memory |
-//! | `causes` | why the system failed, in its words |
-//! | `errors` | why a source isn't read |
 //! | `transfer` | a whole source is read, a whole text is written |
 //! | `laws` | laws of failed calls, and of what an output took |
 #![tactic(auto)]
 
 mod adapters;
-mod causes;
 mod devices;
-mod errors;
 mod laws;
 pub mod testing;
 mod transfer;
 
 pub use adapters::{FromRead, ToWrite, after_failure, write_on};
-pub use causes::{Cause, Message};
-pub use devices::{DeviceFailed, Sink, Source};
-pub use errors::ReadError;
+pub use devices::{Sink, Source};
+pub use hwdb_spec::{Cause, DeviceFailed, Message, ReadError};
 pub use laws::{nothing_is_held_back, one_failed_has_failed, outputs_have_what_they_took};
 pub use transfer::{CHUNK, MAX_BYTES, read_all, write_text};

@@ -2,7 +2,8 @@
 ghost use Rattle.std.specs.Prelude.{◌≡◌, ◌≤◌, Some, take, true};
 
 use crate::adapters::after_failure;
-use crate::devices::{DeviceFailed, Sink};
+use crate::devices::Sink;
+use hwdb_spec::DeviceFailed;
 
 /// A sink into an array.
 #[derive(Drop)]

@@ -4,8 +4,8 @@ ghost use Rattle.std.specs.Io.KnownBytes.{IsAtEnd};
 ghost use Rattle.hwdb_spec.specs.Flushing.{HandsOn};
 ghost use Rattle.hwdb_spec.specs.Outputs.{CutShort, FailedOnly, Took};
 
-use crate::devices::{DeviceFailed, Sink, Source};
-use crate::errors::ReadError;
+use crate::devices::{Sink, Source};
+use hwdb_spec::{DeviceFailed, ReadError};
 use std::alloc::Global;
 
 /// The program's limit: a text file or database that it reads, and the database that it writes, has at

@@ -7,10 +7,11 @@ use Rattle.hwdb_spec.specs.Folders.{Source}
 use Rattle.hwdb_spec.specs.Checks.{empty_tally, tally_from, tally_of, tally_of_both}
 use Rattle.hwdb_spec.specs.Findings.{file_text}
 use Rattle.hwdb_spec.specs.declared.Tally.{Tally}
-use Rattle.hwdb_text.specs.declared.outcome.ScanError.{ScanError}
-use Rattle.hwdb_text.specs.declared.outcome.ScanError.TheVariants.{Memory, TooManyLines}
+use Rattle.hwdb_spec.specs.declared.errors.ScanError.{ScanError}
+use Rattle.hwdb_spec.specs.declared.errors.ScanError.TheVariants.{Memory, TooManyLines}
 use Rattle.hwdb_lint.specs.declared.files.TextFile.{TextFile}
-use Rattle.hwdb_lint.specs.Checks.{source_of, files_text, IsFileRefusal, IsCheckRefusal}
+use Rattle.hwdb_lint.specs.Checks.{source_of, files_text}
+use Rattle.hwdb_spec.specs.CheckErrors.{IsFileRefusal, IsCheckRefusal}
 
 abbrev first_files : ℕ → List TextFile → List Source
 first_files i fs = map source_of (take i fs)

@@ -11,10 +11,9 @@ use Rattle.std.proofs.Math.Nat.{max_comm, max-zero, zero-max, max-eq_left, max-e
 use Rattle.std.proofs.lemmas.Bool.{cases_lt, lt-ltb, ltb-true}
 use Rattle.hwdb_spec.specs.Assignment.{Assignment}
 use Rattle.hwdb_spec.specs.Lines.{is, is_none}
-use Rattle.hwdb_spec.specs.Warnings.{gives_value, greatest, last_with, replaces}
+use Rattle.hwdb_spec.specs.Warnings.{gives_value, greatest, last_with, replaces, replacing}
 use Rattle.std.proofs.lemmas.List.{map-append, take_more}
 use Rattle.hwdb_spec.specs.Records.{assignments}
-use Rattle.hwdb_spec.specs.Warnings.{replacing}
 use Rattle.hwdb_text.specs.declared.outcome.Given.{Given}
 use Rattle.hwdb_text.specs.Views.{given_in}
 use Rattle.hwdb_lint.specs.Internal.{IsLastOf, IsReplacedBy, IsSameOf, RaisesLast, RaisesLine, RaisesSame, behind, gives, last_at, line_at, lines_with, own, raised, replacing_of, same_at}

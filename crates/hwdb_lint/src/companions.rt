@@ -7,13 +7,11 @@ ghost use Rattle.hwdb_text.specs.Views.{given_in};
 ghost use Rattle.hwdb_lint.specs.Internal.{ArePlacesOf, IsUnpairedOf, has_companions, holds, lacks_of, lines_where, own};
 
 use crate::repeats::set_of;
+use crate::replacements::PatternAndKey;
 use hwdb_properties::companions_of;
 use hwdb_text::{Given, Pieces};
 use std::alloc::{AllocError, Global};
 use std::collections::BTreeSet;
-
-/// A pattern and a key that it is given.
-type Place<'b> = (&'b [u8], &'b [u8]);
 
 /// Whether the property of an assignment is read with others alone.
 fn has_companions(given: &Given<'_>) -> bool
@@ -35,7 +33,10 @@ fn any_has_companions(all: &[Given<'_>]) -> bool
 }
 
 /// The patterns and keys of assignments. The only error, here and below, is `AllocError`.
-fn places_of<'b>(alloc: Global, all: &[Given<'b>]) -> Result<BTreeSet<Place<'b>>, AllocError>
+fn places_of<'b>(
+    alloc: Global,
+    all: &[Given<'b>],
+) -> Result<BTreeSet<PatternAndKey<'b>>, AllocError>
     ensures { IfOk result (ArePlacesOf (map (given_in own) all.now)) }
 {
     let mut places = BTreeSet::new(alloc);
@@ -46,7 +47,7 @@ fn places_of<'b>(alloc: Global, all: &[Given<'b>]) -> Result<BTreeSet<Place<'b>>
 }
 
 /// Whether a pattern isn't given one of some keys, which have commas between.
-fn lacks<'b>(places: &BTreeSet<Place<'b>>, pattern: &'b [u8], keys: &'b [u8]) -> bool
+fn lacks<'b>(places: &BTreeSet<PatternAndKey<'b>>, pattern: &'b [u8], keys: &'b [u8]) -> bool
     ensures { result ≡ lacks_of places.now pattern.now keys.now }
 {
     for key in Pieces::new(b',', keys) {
@@ -60,7 +61,7 @@ fn lacks<'b>(places: &BTreeSet<Place<'b>>, pattern: &'b [u8], keys: &'b [u8]) ->
 /// Adds the line of an assignment, if its pattern lacks a companion of its property.
 fn put_alone<'b>(
     lines: &mut Vec<u64>,
-    places: &BTreeSet<Place<'b>>,
+    places: &BTreeSet<PatternAndKey<'b>>,
     given: &Given<'b>,
 ) -> Result<(), AllocError>
     ensures { OnOk result (lines.new.items ≡ lines.old.items
@@ -76,7 +77,7 @@ fn put_alone<'b>(
 /// The lines of the assignments whose pattern lacks a companion of their property.
 fn alone_lines<'b>(
     alloc: Global,
-    places: &BTreeSet<Place<'b>>,
+    places: &BTreeSet<PatternAndKey<'b>>,
     all: &[Given<'b>],
 ) -> Result<Vec<u64>, AllocError>
     ensures { IfOk result (λ lines. lines.items

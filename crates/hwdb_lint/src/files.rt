@@ -4,7 +4,8 @@ ghost use Rattle.hwdb_spec.specs.Lines.{lines};
 ghost use Rattle.hwdb_spec.specs.Reports.{text_of_line};
 ghost use Rattle.hwdb_spec.specs.Findings.{file_text, told_fault};
 ghost use Rattle.hwdb_spec.specs.Checks.{tally_of, empty_tally, tally_from, check_text, check_status, end_text};
-ghost use Rattle.hwdb_lint.specs.Checks.{source_of, files_text, IsFileRefusal, IsCheckRefusal};
+ghost use Rattle.hwdb_lint.specs.Checks.{source_of, files_text};
+ghost use Rattle.hwdb_spec.specs.CheckErrors.{IsFileRefusal, IsCheckRefusal};
 
 use crate::kinds::Telling;
 use crate::line_texts::{find_line, first_start};
@@ -57,7 +58,7 @@ pub fn reports_of(
         faults.now) }
 {
     let mut text = Vec::new(alloc);
-    let mut start = first_start(bytes);
+    let mut start = first_start();
     for fault in faults {
         let (found, line) = find_line(bytes, start, fault.line);
         start = found;

@@ -1,5 +1,5 @@
 //! The text of a line, by its number.
-ghost use Rattle.std.specs.Prelude.{◌≡◌, ◌⊎◌, ◌+◌, ◌<◌, ◌≤◌, length};
+ghost use Rattle.std.specs.Prelude.{◌≡◌, ◌⊎◌, ◌+◌, ◌<◌, ◌≤◌, ℕ, List, length};
 ghost use Rattle.hwdb_spec.specs.Lines.{lines};
 ghost use Rattle.hwdb_spec.specs.Reports.{text_of_line};
 ghost use Rattle.hwdb_lint.specs.Internal.{IsStart};
@@ -15,12 +15,11 @@ pub struct LineStart {
     pub at: usize,
 }
 
-/// The beginning of the first line.
-pub fn first_start(bytes: &[u8]) -> LineStart
-    ensures start { IsStart bytes.now result }
+/// The beginning of the first line of any file.
+pub fn first_start() -> LineStart
+    ensures start { (file : List ℕ) → IsStart file result }
     ensures first { result.number ≡ 1 }
 {
-    let _any = bytes;
     LineStart { number: 1, at: 0 }
 }
 
@@ -57,13 +56,12 @@ fn seek(bytes: &[u8], from: LineStart, number: u32) -> LineStart
 }
 
 /// The text of the line that begins at a place; nothing at the end of the file.
-fn text_at(bytes: &[u8], start: LineStart, number: u32) -> &[u8]
-    requires start { IsStart bytes.now start }
-    requires before { start.number ≤ number }
-    requires found { (start.number ≡ number) ⊎ (length bytes.now ≤ start.at) }
-    ensures { result.now ≡ text_of_line (lines bytes.now) number }
+fn text_at(bytes: &[u8], start: LineStart) -> &[u8]
+    requires { IsStart bytes.now start }
+    ensures { (number : ℕ) → start.number ≤ number
+        → (start.number ≡ number) ⊎ (length bytes.now ≤ start.at)
+        → result.now ≡ text_of_line (lines bytes.now) number }
 {
-    let _number = number;
     if start.at >= bytes.len() {
         return &[];
     }
@@ -83,10 +81,10 @@ pub fn find_line(bytes: &[u8], from: LineStart, number: u32) -> (LineStart, &[u8
         return (from, &[]);
     }
     let from = if number < from.number {
-        first_start(bytes)
+        first_start()
     } else {
         from
     };
     let start = seek(bytes, from, number);
-    (start, text_at(bytes, start, number))
+    (start, text_at(bytes, start))
 }

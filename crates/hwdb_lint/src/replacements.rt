@@ -18,16 +18,19 @@ use std::cmp::Ordering;
 use std::collections::BTreeMap;
 
 /// A pattern and a key.
-type Place<'b> = (&'b [u8], &'b [u8]);
+pub type PatternAndKey<'b> = (&'b [u8], &'b [u8]);
 
 /// A pattern and a key, and the value that they are given.
-type Valued<'b> = (Place<'b>, &'b [u8]);
+type Valued<'b> = (PatternAndKey<'b>, &'b [u8]);
 
 /// Reads an assignment. If none after it was read, its line counts as the last one with its pattern and key. One look
 /// is enough if assignments come by line.
 ///
 /// The only error, here and below, is `AllocError`.
-fn put_last<'b>(last: &mut BTreeMap<Place<'b>, u64>, given: &Given<'b>) -> Result<(), AllocError>
+fn put_last<'b>(
+    last: &mut BTreeMap<PatternAndKey<'b>, u64>,
+    given: &Given<'b>,
+) -> Result<(), AllocError>
     ensures { OnOk result (RaisesLast (given_in own given.now) last.old last.new) }
 {
     let place = (given.pattern, given.key);
@@ -40,7 +43,10 @@ fn put_last<'b>(last: &mut BTreeMap<Place<'b>, u64>, given: &Given<'b>) -> Resul
 }
 
 /// The last line of some assignments with each pattern and key.
-fn last_lines<'b>(alloc: Global, all: &[Given<'b>]) -> Result<BTreeMap<Place<'b>, u64>, AllocError>
+fn last_lines<'b>(
+    alloc: Global,
+    all: &[Given<'b>],
+) -> Result<BTreeMap<PatternAndKey<'b>, u64>, AllocError>
     ensures { IfOk result (IsLastOf (map (given_in own) all.now)) }
 {
     let mut last = BTreeMap::new(alloc);
@@ -87,7 +93,7 @@ fn put_line(replaced: &mut BTreeMap<u64, u64>, line: u64, by: u64) -> Result<(),
 /// gives its value too. That line gives another value.
 fn put_given<'b>(
     replaced: &mut BTreeMap<u64, u64>,
-    last: &BTreeMap<Place<'b>, u64>,
+    last: &BTreeMap<PatternAndKey<'b>, u64>,
     same: &BTreeMap<Valued<'b>, u64>,
     given: &Given<'b>,
 ) -> Result<(), AllocError>

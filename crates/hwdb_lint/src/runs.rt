@@ -6,11 +6,11 @@ use hwdb_show::push_byte;
 use std::alloc::{AllocError, Global};
 
 /// The first byte of a run, and its last one.
-type Run = (u8, u8);
+type ByteRun = (u8, u8);
 
 /// Reads a byte after a run: it goes on with it, or is a run of its own. The only error, here and below, is
 /// `AllocError`.
-fn step(runs: &mut Vec<Run>, run: Run, byte: u8) -> Result<Run, AllocError>
+fn step(runs: &mut Vec<ByteRun>, run: ByteRun, byte: u8) -> Result<ByteRun, AllocError>
     ensures { IfOk result (λ now. (more : List ℕ)
         → runs.new.items ++ Unmatched.runs_from now.0 now.1 more
         ≡ runs.old.items ++ Unmatched.runs_from run.0 run.1 (byte ∷ more)) }
@@ -23,7 +23,7 @@ fn step(runs: &mut Vec<Run>, run: Run, byte: u8) -> Result<Run, AllocError>
 }
 
 /// Bytes in order as runs.
-pub fn runs_of(alloc: Global, bytes: &[u8]) -> Result<Vec<Run>, AllocError>
+pub fn runs_of(alloc: Global, bytes: &[u8]) -> Result<Vec<ByteRun>, AllocError>
     ensures { IfOk result (λ runs. runs.items ≡ Unmatched.runs bytes.now) }
 {
     let mut runs = Vec::new(alloc);
@@ -39,7 +39,7 @@ pub fn runs_of(alloc: Global, bytes: &[u8]) -> Result<Vec<Run>, AllocError>
 }
 
 /// Adds a run.
-fn push_run(text: &mut Vec<u8>, run: Run) -> Result<(), AllocError>
+fn push_run(text: &mut Vec<u8>, run: ByteRun) -> Result<(), AllocError>
     ensures { OnOk result (text.new.items ≡ text.old.items ++ Unmatched.run_text run) }
 {
     push_byte(text, run.0)?;
@@ -51,7 +51,7 @@ fn push_run(text: &mut Vec<u8>, run: Run) -> Result<(), AllocError>
 }
 
 /// Adds more runs.
-fn push_more(text: &mut Vec<u8>, more: &[Run]) -> Result<(), AllocError>
+fn push_more(text: &mut Vec<u8>, more: &[ByteRun]) -> Result<(), AllocError>
     ensures { OnOk result (text.new.items ≡ text.old.items ++ flat_map Unmatched.or_run more.now) }
 {
     for run in more {
@@ -71,7 +71,7 @@ fn push_compare(text: &mut Vec<u8>) -> Result<(), AllocError>
 }
 
 /// Adds the bytes that could be at a place, if they are at most three runs.
-pub fn push_runs(text: &mut Vec<u8>, runs: &[Run]) -> Result<(), AllocError>
+pub fn push_runs(text: &mut Vec<u8>, runs: &[ByteRun]) -> Result<(), AllocError>
     ensures { OnOk result (text.new.items ≡ text.old.items ++ Unmatched.runs_hint runs.now) }
 {
     if runs.is_empty() {

@@ -4,12 +4,12 @@ use Rattle.std.proofs.lemmas.List.{append-nil}
 use Rattle.hwdb_spec.specs.Near.{PatternAt, patterns_in}
 use Rattle.hwdb_spec.specs.NearAsked.{patterns_from}
 use Rattle.hwdb_near.specs.Views.{source_of}
-use Rattle.hwdb_near.specs.declared.patterns.TextFile.{TextFile}
+use Rattle.hwdb_near.specs.declared.patterns.PatternFile.{PatternFile}
 
-abbrev of_first : (place i : ℕ) → List TextFile → List PatternAt
+abbrev of_first : (place i : ℕ) → List PatternFile → List PatternAt
 of_first place i fs = patterns_from place (map source_of (take i fs))
 
-one_more : (place : ℕ) (fs : List TextFile) (i : ℕ) (d : TextFile) → i < length fs
+one_more : (place : ℕ) (fs : List PatternFile) (i : ℕ) (d : PatternFile) → i < length fs
     → of_first place (suc i) fs ≡ of_first place i fs ++ patterns_in (get_or fs i d).path.now (place + i) (get_or fs i d).bytes.now
 one_more place [] i d h = absurd (omega arith)
 one_more place (x ∷ xs) zero d h =
@@ -21,7 +21,7 @@ one_more place (x ∷ xs) (suc i) d h =
     ∙ ap (λ (n : ℕ). (own ++ of_first (place + 1) i xs) ++ patterns_in (get_or xs i d).path.now n (get_or xs i d).bytes.now) (let e : place + 1 + i ≡ place + suc i = omega arith in e)
 
 -- the patterns of one file more
-pub files_step : (fs : List TextFile) (i : ℕ) (d : TextFile) (place : ℕ) (before after : List PatternAt) → i < length fs → place ≡ i + 1
+pub files_step : (fs : List PatternFile) (i : ℕ) (d : PatternFile) (place : ℕ) (before after : List PatternAt) → i < length fs → place ≡ i + 1
     → after ≡ before ++ patterns_in (get_or fs i d).path.now place (get_or fs i d).bytes.now
     → before ≡ patterns_from 1 (map source_of (take i fs)) → after ≡ patterns_from 1 (map source_of (take (i + 1) fs))
 files_step fs i d place before after h at grown so_far =

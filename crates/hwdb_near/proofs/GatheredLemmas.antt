@@ -6,7 +6,7 @@ use Rattle.hwdb_spec.specs.Folders.{same}
 use Rattle.hwdb_spec.specs.Near.{PatternAt}
 use Rattle.hwdb_spec.specs.NearAsked.{gather, gathered, is_before, pattern_of}
 use Rattle.hwdb_query.specs.Views.{assignment_of_answer}
-use Rattle.hwdb_query.specs.declared.answer.Answer.{Answer}
+use Rattle.hwdb_query.specs.declared.answer.StoredAssignment.{StoredAssignment}
 use Rattle.hwdb_near.specs.Views.{pattern_at}
 use Rattle.hwdb_near.specs.declared.found.PatternAt.{PatternAt as Found}
 
@@ -42,14 +42,14 @@ gather_other old kept mid new at next o m n e =
     ∙ ap (gather_by (pattern_at at) (pattern_at next) more) (sym e)
     ∙ ap (gather (pattern_at at)) (sym (ap (λ (l : List Found). reverse (map pattern_at l)) o ∙ last_first kept next))
 
-abbrev of_answers : List Answer → List PatternAt
+abbrev of_answers : List StoredAssignment → List PatternAt
 of_answers found = gathered (map pattern_of (map assignment_of_answer found))
 
 -- one assignment more
-pub gather_step : (found : List Answer) (i : ℕ) (d : Answer) (old new : List Found) (at : Found) → i < length found → pattern_at at ≡ pattern_of (assignment_of_answer (get_or found i d))
+pub gather_step : (found : List StoredAssignment) (i : ℕ) (d : StoredAssignment) (old new : List Found) (at : Found) → i < length found → pattern_at at ≡ pattern_of (assignment_of_answer (get_or found i d))
     → reverse (map pattern_at old) ≡ of_answers (drop (i + 1) found) → reverse (map pattern_at new) ≡ gather (pattern_at at) (reverse (map pattern_at old)) → reverse (map pattern_at new) ≡ of_answers (drop i found)
 gather_step found i d old new at h is so_far n =
     n ∙ (λ k. gather (is k) (so_far k)) ∙ ap of_answers (sym (drop_more found i d h))
 
-pub gather_begun : (found : List Answer) (i : ℕ) (none : List Found) → length found ≡ i → none ≡ [] → reverse (map pattern_at none) ≡ of_answers (drop i found)
+pub gather_begun : (found : List StoredAssignment) (i : ℕ) (none : List Found) → length found ≡ i → none ≡ [] → reverse (map pattern_at none) ≡ of_answers (drop i found)
 gather_begun found i none e n = ap (λ (l : List Found). reverse (map pattern_at l)) n ∙ ap of_answers (sym (drop_all i found (omega (arith, e))))

@@ -1,7 +1,7 @@
 -- What comparing a device with a database's patterns refuses. Our choice.
 use Rattle.std.specs.Prelude.{List, ℕ}
-use Rattle.hwdb_near.specs.declared.errors.NearError.{NearError}
-use Rattle.hwdb_near.specs.declared.errors.NearError.TheVariants.{Database, Memory}
+use Rattle.hwdb_spec.specs.declared.errors.NearError.{NearError}
+use Rattle.hwdb_spec.specs.declared.errors.NearError.TheVariants.{Database, Memory}
 use Rattle.hwdb_spec.specs.Databases.{IsNoDatabase}
 
 -- when each error comes

@@ -3,7 +3,7 @@ use Rattle.hwdb_spec.specs.Folders.{Source}
 use Rattle.hwdb_spec.specs.Near.{Front, PatternAt}
 use Rattle.hwdb_near.specs.declared.fronts.Stop.{Stop}
 use Rattle.hwdb_near.specs.declared.found.PatternAt.{PatternAt as Found}
-use Rattle.hwdb_near.specs.declared.patterns.TextFile.{TextFile}
+use Rattle.hwdb_near.specs.declared.patterns.PatternFile.{PatternFile}
 
 -- a stop, in tokens of the pattern and bytes of the device
 abbrev pub front_at : Stop → Front
@@ -14,5 +14,5 @@ abbrev pub pattern_at : Found → PatternAt
 pattern_at p = record { path = p.path.now; file = p.file; line = p.line; pattern = p.pattern.now }
 
 -- a text file
-abbrev pub source_of : TextFile → Source
+abbrev pub source_of : PatternFile → Source
 source_of f = record { name = f.path.now; bytes = f.bytes.now }

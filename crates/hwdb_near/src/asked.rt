@@ -6,12 +6,12 @@ ghost use Rattle.hwdb_near.specs.Refusals.{IsNearRefusal};
 ghost use Rattle.hwdb_near.specs.Views.{pattern_at, source_of};
 
 use crate::databases::patterns_of;
-use crate::errors::NearError;
 use crate::found::PatternAt;
-use crate::patterns::{TextFile, patterns_of_files};
+use crate::patterns::{PatternFile, patterns_of_files};
 use crate::printing::{near_json, near_text};
 use hwdb_inspect::assignments;
 use hwdb_reader::check;
+use hwdb_spec::NearError;
 use std::alloc::{AllocError, Global};
 
 /// What is printed of some patterns, as text or with `json`.
@@ -36,7 +36,7 @@ fn printed(
 /// The place of a file is its number, from one on. The only error is `AllocError`.
 pub fn near_in_files(
     alloc: Global,
-    files: &[TextFile<'_>],
+    files: &[PatternFile<'_>],
     device: &[u8],
     limit: usize,
     json: bool,

@@ -7,11 +7,11 @@ ghost use Rattle.hwdb_spec.specs.NearAsked.{gather, gathered};
 ghost use Rattle.hwdb_near.specs.Views.{pattern_at};
 
 use crate::found::PatternAt;
-use hwdb_query::Answer;
+use hwdb_query::StoredAssignment;
 use std::alloc::{AllocError, Global};
 
 /// The pattern of an assignment, at its file and line.
-fn pattern_of<'a>(answer: &'a Answer<'_>) -> PatternAt<'a>
+fn pattern_of<'a>(answer: &'a StoredAssignment<'_>) -> PatternAt<'a>
     ensures { pattern_at result ≡ NearAsked.pattern_of (assignment_of_answer answer.now) }
 {
     PatternAt {
@@ -59,7 +59,7 @@ fn gather<'a>(patterns: &mut Vec<PatternAt<'a>>, at: PatternAt<'a>) -> Result<()
 /// The patterns of some assignments, which are by pattern: each once, at the first of its places.
 pub(crate) fn patterns_of<'a>(
     alloc: Global,
-    found: &'a [Answer<'_>],
+    found: &'a [StoredAssignment<'_>],
 ) -> Result<Vec<PatternAt<'a>>, AllocError>
     ensures { IfOk result (λ patterns. map pattern_at patterns.items
         ≡ gathered (map NearAsked.pattern_of (map assignment_of_answer found.now))) }

@@ -14,7 +14,7 @@ use std::alloc::{AllocError, Global};
 
 /// How far a pattern and a device go together, and whether the pattern matches.
 #[derive(Clone, Copy)]
-struct Reach {
+struct Agreement {
     pattern: usize,
     device: usize,
     matches: bool,
@@ -25,7 +25,7 @@ fn put_place(
     json: &mut Writer,
     device: &[u8],
     at: &PatternAt<'_>,
-    reach: Reach,
+    reach: Agreement,
 ) -> Result<(), AllocError>
     ensures before { json.new.before ≡ json.old.before }
     ensures tokens { OnOk result (json.new.tokens ≡ json.old.tokens ++ json_tokens
@@ -48,7 +48,7 @@ fn place_line(
     alloc: Global,
     device: &[u8],
     at: &PatternAt<'_>,
-    reach: Reach,
+    reach: Agreement,
 ) -> Result<Vec<u8>, AllocError>
     ensures { IfOk result (λ line. line.items ≡ json_line (place_json device.now
         (pattern_at at.now) reach.pattern reach.device reach.matches)) }
@@ -68,7 +68,7 @@ fn push_match(
     ensures { OnOk result (text.new.items
         ≡ text.old.items ++ match_json_line device.now (pattern_at at.now)) }
 {
-    let reach = Reach {
+    let reach = Agreement {
         pattern: at.pattern.len(),
         device: device.len(),
         matches: true,
@@ -89,7 +89,7 @@ fn push_near(
         ≡ text.old.items ++ near_json_line device.now (rated_of near.now)) }
 {
     let stop = stops(alloc, near.at.pattern, device)?;
-    let reach = Reach {
+    let reach = Agreement {
         pattern: stop.pattern,
         device: stop.device,
         matches: false,

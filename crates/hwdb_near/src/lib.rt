@@ -18,13 +18,11 @@
 //! | `json_lines` | what is printed of patterns as lines of JSON |
 //! | `printing` | what `near` prints of some patterns |
 //! | `asked` | what it prints of text files, and of a database |
-//! | `errors` | why a database isn't one |
 //! | `laws` | what is proved of the definitions alone |
 #![tactic(auto)]
 
 mod asked;
 mod databases;
-mod errors;
 mod found;
 mod fronts;
 mod json_lines;
@@ -38,9 +36,9 @@ mod reasons;
 mod reports;
 
 pub use asked::{near_in_database, near_in_files};
-pub use errors::NearError;
 pub use found::PatternAt;
 pub use fronts::{Stop, stops};
+pub use hwdb_spec::NearError;
 pub use laws::{stops_are_computed, worked_rows};
-pub use patterns::{TextFile, push_patterns};
+pub use patterns::{PatternFile, push_patterns};
 pub use printing::{near_json, near_text};

@@ -12,7 +12,7 @@ use std::alloc::{AllocError, Global};
 
 /// A device's text, as patterns are compared with it.
 #[derive(Clone, Copy)]
-struct Device<'d> {
+struct ComparedDevice<'d> {
     /// As it is.
     text: &'d [u8],
     /// In lower case.
@@ -23,20 +23,20 @@ struct Device<'d> {
 
 /// What was found.
 #[derive(Drop)]
-pub(crate) struct Found<'a> {
+pub(crate) struct FoundPatterns<'a> {
     /// The patterns that match.
     pub(crate) matching: Vec<PatternAt<'a>>,
     /// Those that don't.
     pub(crate) nearest: Vec<Rated<'a>>,
 }
 
-impl<'a> Found<'a> {
+impl<'a> FoundPatterns<'a> {
     /// Takes one more pattern. The only error, here and below, is `AllocError`.
     fn put(
         &mut self,
         alloc: Global,
         at: PatternAt<'a>,
-        device: Device<'_>,
+        device: ComparedDevice<'_>,
     ) -> Result<(), AllocError>
         requires folded { device.folded.now ≡ Near.folded device.text.now }
         requires reversed { device.reversed.now ≡ reverse device.folded.now }
@@ -67,7 +67,7 @@ fn all_found<'a>(
     alloc: Global,
     patterns: &[PatternAt<'a>],
     device: &[u8],
-) -> Result<Found<'a>, AllocError>
+) -> Result<FoundPatterns<'a>, AllocError>
     ensures matching { IfOk result (λ f. map pattern_at f.matching.items
         ≡ matching device.now (map pattern_at patterns.now)) }
     ensures nearest { IfOk result (λ f. map rated_of f.nearest.items
@@ -76,12 +76,12 @@ fn all_found<'a>(
     let folded = fold_case(alloc, device)?;
     let mut reversed = fold_case(alloc, device)?;
     reversed.reverse();
-    let device = Device {
+    let device = ComparedDevice {
         text: device,
         folded: &folded,
         reversed: &reversed,
     };
-    let mut found = Found {
+    let mut found = FoundPatterns {
         matching: Vec::new(alloc),
         nearest: Vec::new(alloc),
     };
@@ -97,14 +97,14 @@ pub(crate) fn nearest_of<'a>(
     patterns: &[PatternAt<'a>],
     device: &[u8],
     limit: usize,
-) -> Result<Found<'a>, AllocError>
+) -> Result<FoundPatterns<'a>, AllocError>
     ensures matching { IfOk result (λ f. map pattern_at f.matching.items
         ≡ matching device.now (map pattern_at patterns.now)) }
     ensures nearest { IfOk result (λ f. map rated_of f.nearest.items
         ≡ nearest device.now limit (map pattern_at patterns.now)) }
 {
-    let Found { matching, nearest } = all_found(alloc, patterns, device)?;
-    Ok(Found {
+    let FoundPatterns { matching, nearest } = all_found(alloc, patterns, device)?;
+    Ok(FoundPatterns {
         matching,
         nearest: nearest_first(nearest, limit),
     })

@@ -11,7 +11,7 @@ use std::alloc::{AllocError, Global};
 
 /// A text file, whose patterns are wanted.
 #[derive(Clone, Copy)]
-pub struct TextFile<'a> {
+pub struct PatternFile<'a> {
     /// Its path.
     pub path: &'a [u8],
     /// What it holds.
@@ -55,7 +55,7 @@ fn push_line<'a>(
 pub fn push_patterns<'a>(
     patterns: &mut Vec<PatternAt<'a>>,
     place: usize,
-    file: TextFile<'a>,
+    file: PatternFile<'a>,
 ) -> Result<(), AllocError>
     ensures { OnOk result (map pattern_at patterns.new.items ≡ map pattern_at patterns.old.items
         ++ patterns_in file.entry.path.now place file.entry.bytes.now) }
@@ -71,7 +71,7 @@ pub fn push_patterns<'a>(
 /// The match lines of some text files.
 pub(crate) fn patterns_of_files<'a>(
     alloc: Global,
-    files: &[TextFile<'a>],
+    files: &[PatternFile<'a>],
 ) -> Result<Vec<PatternAt<'a>>, AllocError>
     ensures { IfOk result (λ patterns. map pattern_at patterns.items
         ≡ patterns_from 1 (map source_of files.now)) }

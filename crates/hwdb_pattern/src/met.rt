@@ -27,7 +27,7 @@ use std::alloc::{AllocError, Global};
 
 /// Some lengths: those from the least one on at which the table says so.
 #[derive(Drop)]
-pub(crate) struct Table {
+pub(crate) struct LengthTable {
     least: usize,
     says: Vec<bool>,
 }
@@ -40,7 +40,7 @@ pub(crate) enum Met {
     Few(Vec<usize>),
     /// Those after a star.
     From(Rest),
-    Many(Table),
+    Many(LengthTable),
 }
 
 /// No length.
@@ -48,7 +48,7 @@ pub(crate) enum Met {
 fn none(alloc: Global) -> Met
     ensures { lengths_of result ≡ [] }
 {
-    Met::Many(Table {
+    Met::Many(LengthTable {
         least: 0,
         says: Vec::new(alloc),
     })
@@ -66,19 +66,19 @@ fn of_list(lengths: Vec<usize>) -> Met
 }
 
 /// All lengths of the rest, as a table.
-fn all_of(alloc: Global, rest: Rest) -> Result<Table, AllocError>
+fn all_of(alloc: Global, rest: Rest) -> Result<LengthTable, AllocError>
     ensures { IfOk result (λ table.
         said table.least table.says.items ≡ rest_lengths rest.least rest.count) }
 {
     let says = vec![in alloc; true; rest.count]?;
-    Ok(Table {
+    Ok(LengthTable {
         least: rest.least,
         says,
     })
 }
 
 /// The lengths after one token that isn't a star. None are left of a table that begins at the device's end.
-fn table_stepped(alloc: Global, table: Table, device: &[u8], text: &[u8]) -> Met
+fn table_stepped(alloc: Global, table: LengthTable, device: &[u8], text: &[u8]) -> Met
     requires some { 0 < length text.now }
     requires no_star { slice_index text.now 0 ≢ 42 }
     ensures { Steps (token_at text.now) device.now
@@ -92,7 +92,12 @@ fn table_stepped(alloc: Global, table: Table, device: &[u8], text: &[u8]) -> Met
 }
 
 /// As `table_stepped`, of a copy. If the token takes no byte, no memory is asked for.
-fn table_taken(alloc: Global, table: &Table, device: &[u8], text: &[u8]) -> Result<Met, AllocError>
+fn table_taken(
+    alloc: Global,
+    table: &LengthTable,
+    device: &[u8],
+    text: &[u8],
+) -> Result<Met, AllocError>
     requires some { 0 < length text.now }
     requires no_star { slice_index text.now 0 ≢ 42 }
     requires within { Within device.now (said table.now.least table.now.says.items) }
@@ -124,7 +129,7 @@ fn rest_stepped(alloc: Global, rest: Rest, device: &[u8], text: &[u8]) -> Result
     Ok(table_stepped(alloc, table, device, text))
 }
 
-impl Table {
+impl LengthTable {
     /// Whether there is no length.
     fn is_empty(&self) -> bool
         ensures { result ≡ (length (said self.now.least self.now.says.items) == 0) }
@@ -163,7 +168,7 @@ impl Table {
     }
 
     /// The same lengths, with no place before the first one.
-    fn copied(&self, alloc: Global, end: usize) -> Result<Table, AllocError>
+    fn copied(&self, alloc: Global, end: usize) -> Result<LengthTable, AllocError>
         requires room { end + 1 < 2 ^ 64 }
         requires within { All (λ n. n ≤ end) (said self.now.least self.now.says.items) }
         ensures { IfOk result (λ table.
@@ -173,12 +178,12 @@ impl Table {
         match first_place(says) {
             Some(at) => {
                 let rest = Vec::from_slice(alloc, &says[at..])?;
-                Ok(Table {
+                Ok(LengthTable {
                     least: self.least + at,
                     says: rest,
                 })
             }
-            None => Ok(Table {
+            None => Ok(LengthTable {
                 least: 0,
                 says: Vec::new(alloc),
             }),
@@ -213,18 +218,18 @@ impl Table {
     }
 
     /// The lengths after one token that isn't a star.
-    fn stepped(self, device: &[u8], text: &[u8]) -> Table
+    fn stepped(self, device: &[u8], text: &[u8]) -> LengthTable
         requires some { 0 < length text.now }
         requires no_star { slice_index text.now 0 ≢ 42 }
         requires within { self.least < length device.now }
         ensures { Steps (token_at text.now) device.now
             (said self.least self.says.items) (said result.least result.says.items) }
     {
-        let Table { least, mut says } = self;
+        let LengthTable { least, mut says } = self;
         let bytes = bytes_after(device, least);
         says.truncate(bytes.len());
         keep(&mut says, bytes, text);
-        Table {
+        LengthTable {
             least: least + 1,
             says,
         }

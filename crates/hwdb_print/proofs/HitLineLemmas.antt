@@ -10,7 +10,8 @@ use Rattle.hwdb_query.specs.Views.{Gives, assignment_of_hit}
 use Rattle.hwdb_query.specs.declared.hit.Hit.{Hit}
 use Rattle.hwdb_spec.specs.Outputs.{AppendsPrefix}
 use Rattle.hwdb_print.specs.Internal.{AppendsLines}
-use Rattle.hwdb_print.specs.Lookups.{TookLines, last_list, line_of, one_less}
+use Rattle.hwdb_print.specs.Lookups.{TookLines, last_list, one_less}
+use Rattle.hwdb_spec.specs.Listings.{line_of}
 use Rattle.hwdb_spec.specs.Answers.{last_assignments}
 use Rattle.hwdb_spec.specs.Asked.{list_form}
 use Rattle.hwdb_spec.specs.Assignment.{Assignment, Position}

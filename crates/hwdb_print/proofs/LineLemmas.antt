@@ -5,11 +5,11 @@ use Rattle.std.specs.Io.KnownBytes.{Consumes, IsAtEnd, Keeps, prepend_known}
 use Rattle.std.specs.List.{onto_first, position_or_len}
 use Rattle.hwdb_spec.specs.Lines.{has, is, pieces}
 use Rattle.hwdb_spec.specs.ManyDevices.{HasLongLine}
-use Rattle.hwdb_io.specs.declared.errors.ReadError.{ReadError}
-use Rattle.hwdb_io.specs.declared.errors.ReadError.TheVariants as reading
-use Rattle.hwdb_print.specs.Refusals.{refusal_of_read}
-use Rattle.hwdb_print.specs.declared.errors.ToolError.{ToolError}
-use Rattle.hwdb_print.specs.declared.errors.ToolError.TheVariants.{TooLong}
+use Rattle.hwdb_spec.specs.declared.errors.ReadError.{ReadError}
+use Rattle.hwdb_spec.specs.declared.errors.ReadError.TheVariants as reading
+use Rattle.hwdb_spec.specs.Errors.{refusal_of_read}
+use Rattle.hwdb_spec.specs.declared.errors.ToolError.{ToolError}
+use Rattle.hwdb_spec.specs.declared.errors.ToolError.TheVariants.{TooLong}
 use Rattle.hwdb_print.specs.Internal.{IsRefilled, IsTaken}
 use Rattle.std.specs.Prelude.{Any, IsErrOf}
 use Rattle.std.specs.Result.{IsErrAnd}

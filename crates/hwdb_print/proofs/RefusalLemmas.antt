@@ -7,19 +7,19 @@ use Rattle.std.specs.Result.{IsErrAnd}
 use Rattle.std.specs.Borrow.{Bor}
 use Rattle.hwdb_spec.specs.Assignment.{Position, ascending, put}
 use Rattle.hwdb_spec.specs.Texts.{IsSpelling}
-use Rattle.hwdb_query.specs.declared.errors.PositionError.{PositionError}
-use Rattle.hwdb_query.specs.declared.errors.PositionError.TheVariants as positions
-use Rattle.hwdb_print.specs.declared.errors.ToolError.{ToolError}
-use Rattle.hwdb_print.specs.Refusals.{refusal_of_compile, refusal_of_position}
-use Rattle.hwdb_compile.specs.Views.{IsRefusal}
-use Rattle.hwdb_compile.specs.declared.errors.CompileError.{CompileError}
-use Rattle.hwdb_compile.specs.declared.errors.CompileError.TheVariants as compiling
-use Rattle.hwdb_print.specs.Lookups.{IsPositionRefusal, IsListRefusal}
-use Rattle.hwdb_print.specs.Databases.{IsDatabaseRefusal}
-use Rattle.hwdb_print.specs.Updates.{IsAskRefusal, OnUnreplaced}
+use Rattle.hwdb_spec.specs.declared.errors.PositionError.{PositionError}
+use Rattle.hwdb_spec.specs.declared.errors.PositionError.TheVariants as positions
+use Rattle.hwdb_spec.specs.declared.errors.ToolError.{ToolError}
+use Rattle.hwdb_spec.specs.Errors.{refusal_of_compile, refusal_of_position}
+use Rattle.hwdb_spec.specs.CompileErrors.{IsRefusal}
+use Rattle.hwdb_spec.specs.declared.errors.CompileError.{CompileError}
+use Rattle.hwdb_spec.specs.declared.errors.CompileError.TheVariants as compiling
+use Rattle.hwdb_spec.specs.Listings.{IsPositionRefusal, IsListRefusal}
+use Rattle.hwdb_spec.specs.DatabaseErrors.{IsDatabaseRefusal}
+use Rattle.hwdb_spec.specs.UpdateErrors.{IsAskRefusal, OnUnreplaced}
 use Rattle.hwdb_spec.specs.LoneFile.{lone}
-use Rattle.hwdb_replace.specs.declared.replacement.Unreplaced.{Unreplaced}
-use Rattle.hwdb_print.specs.declared.errors.ToolError.TheVariants.{Write, BadDatabase, Memory, Replace, TooLarge, TooManyLines}
+use Rattle.hwdb_spec.specs.declared.errors.Unreplaced.{Unreplaced}
+use Rattle.hwdb_spec.specs.declared.errors.ToolError.TheVariants.{Write, BadDatabase, Memory, Replace, TooLarge, TooManyLines}
 use Rattle.hwdb_spec.specs.Tree.{Map}
 use Rattle.hwdb_spec.specs.Written.{IsDatabaseOf}
 

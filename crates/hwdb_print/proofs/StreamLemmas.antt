@@ -16,10 +16,11 @@ use Rattle.hwdb_spec.specs.Tree.{Tree, answers}
 use Rattle.hwdb_spec.specs.Outputs.{AppendsPrefix}
 use Rattle.hwdb_print.proofs.TextLemmas.{part_text, part_texts, same_lines, same_texts, whole_texts}
 use Rattle.hwdb_print.proofs.LineLemmas.{long_behind, long_line, no_lines}
-use Rattle.hwdb_print.specs.declared.form.Form.{Form}
-use Rattle.hwdb_print.specs.declared.form.Form.TheVariants.{Explain, Query}
+use Rattle.hwdb_spec.specs.declared.form.Form.{Form}
+use Rattle.hwdb_spec.specs.declared.form.Form.TheVariants.{Explain, Query}
 use Rattle.hwdb_print.specs.Internal.{answer_text, texts_from}
-use Rattle.hwdb_print.specs.Streams.{IsFirstLine, last_texts_of, texts_of}
+use Rattle.hwdb_print.specs.Streams.{IsFirstLine}
+use Rattle.hwdb_spec.specs.Streams.{last_texts_of, texts_of}
 
 -- what stands behind a text
 behind : (text : List ℕ → List ℕ) (more : List (List ℕ)) → empty_line (map text more) ++ with_empty_lines (map text more) ≡ flat_map (λ device. 10 ∷ text device) more

@@ -8,9 +8,9 @@ use Rattle.hwdb_spec.specs.Json.{device_json, explain_json, json_line}
 use Rattle.hwdb_spec.specs.Lines.{byte, has}
 use Rattle.hwdb_spec.specs.Texts.{query_text}
 use Rattle.hwdb_spec.specs.Tree.{Tree, answers}
-use Rattle.hwdb_print.specs.declared.form.Form.{Form}
-use Rattle.hwdb_print.specs.declared.form.Form.TheVariants.{Explain, Query}
-use Rattle.hwdb_print.specs.Streams.{texts_of}
+use Rattle.hwdb_spec.specs.declared.form.Form.{Form}
+use Rattle.hwdb_spec.specs.declared.form.Form.TheVariants.{Explain, Query}
+use Rattle.hwdb_spec.specs.Streams.{texts_of}
 
 -- a sink took the lines of the first of some hits, whole
 abbrev pub AppendsLines : (Assignment → List ℕ) → Option (List ℕ) → Option (List ℕ) → List Assignment → Type 0

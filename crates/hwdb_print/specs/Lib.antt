@@ -1,7 +1,4 @@
-pub mod Databases
 pub mod Lookups
-pub mod Refusals
-pub mod Updates
 pub mod JsonLaws
 pub mod Streams
 pub mod Internal

@@ -1,17 +1,8 @@
 -- What answering the devices of a text means, and what it refuses. Our choice.
-use Rattle.std.specs.Prelude.{ℕ, List, true, false, ◌≡◌, ◌<◌, ◌-◌, ◌∷◌, length, Option, None, Some, drop, take}
+use Rattle.std.specs.Prelude.{ℕ, List, ◌≡◌, ◌<◌, ◌-◌, ◌∷◌, length, Option, None, Some, drop, take}
 use Rattle.std.specs.Io.KnownBytes.{prepend_known}
-use Rattle.hwdb_spec.specs.Folders.{Source}
-use Rattle.hwdb_spec.specs.Json.{last_values_json, query_json}
-use Rattle.hwdb_spec.specs.ManyDevices.{explained_lines_json, explained_texts, explains_json, explains_text}
-use Rattle.hwdb_spec.specs.Texts.{devices_of, last_values_texts, queries_text}
-use Rattle.hwdb_spec.specs.Tree.{Tree}
-use Rattle.hwdb_spec.specs.Databases.{IsNoDatabase}
-use Rattle.hwdb_print.specs.declared.errors.ToolError.{ToolError}
-use Rattle.hwdb_print.specs.declared.errors.ToolError.TheVariants.{BadDatabase, Memory, Read, TooLong, TooManyLines, Write}
+use Rattle.hwdb_spec.specs.Texts.{devices_of}
 use Rattle.hwdb_print.specs.declared.chunk.LineReader.{LineReader}
-use Rattle.hwdb_print.specs.declared.form.Form.{Form}
-use Rattle.hwdb_print.specs.declared.form.Form.TheVariants.{Explain, Query}
 
 -- the bytes that were read and not handed on
 abbrev pub held : LineReader → List ℕ
@@ -26,41 +17,3 @@ abbrev pub IsFirstLine : (line : List ℕ) → Option (List ℕ) → Option (Lis
 IsFirstLine line None now = Unit {0}
 IsFirstLine line (Some before) None = ⊥
 IsFirstLine line (Some before) (Some now) = (devices_of before ≡ line ∷ devices_of now) × (length now < length before)
-
--- what is printed of some devices
-abbrev pub texts_of : Form → List (List ℕ) → Tree → List ℕ
-texts_of (Query false) = queries_text
-texts_of (Query true) = query_json
-texts_of (Explain false) = explains_text
-texts_of (Explain true) = explains_json
-
--- the same, of what the files assign
-abbrev pub last_texts_of : Form → List (List ℕ) → (etc usr : List Source) → List ℕ
-last_texts_of (Query false) = last_values_texts
-last_texts_of (Query true) = last_values_json
-last_texts_of (Explain false) = explained_texts
-last_texts_of (Explain true) = explained_lines_json
-
--- what answering the devices of a text may refuse, once there is a database
-abbrev pub IsAnswerRefusal : ToolError → Type 0
-IsAnswerRefusal Read = Unit {0}
-IsAnswerRefusal Write = Unit {0}
-IsAnswerRefusal TooLong = Unit {0}
-IsAnswerRefusal TooManyLines = Unit {0}
-IsAnswerRefusal Memory = Unit {0}
-IsAnswerRefusal _ = ⊥
-
--- what it may refuse
-abbrev pub IsStreamRefusal : (bytes : List ℕ) → ToolError → Type 0
-IsStreamRefusal bytes (BadDatabase fault) = IsNoDatabase bytes fault
-IsStreamRefusal bytes Read = Unit {0}
-IsStreamRefusal bytes Write = Unit {0}
-IsStreamRefusal bytes TooLong = Unit {0}
-IsStreamRefusal bytes TooManyLines = Unit {0}
-IsStreamRefusal bytes Memory = Unit {0}
-IsStreamRefusal bytes _ = ⊥
-
--- what holds where bytes are no database
-abbrev pub IfBadDatabase : Type 0 → ToolError → Type 0
-IfBadDatabase P (BadDatabase fault) = P
-IfBadDatabase P _ = Unit {0}

@@ -6,15 +6,15 @@ ghost use Rattle.hwdb_spec.specs.Json.{device_json, explain_json, json_line};
 ghost use Rattle.hwdb_spec.specs.Texts.{query_text};
 ghost use Rattle.hwdb_spec.specs.Tree.{answers};
 ghost use Rattle.hwdb_print.specs.Internal.{answer_text, text_behind};
-ghost use Rattle.hwdb_print.specs.Streams.{texts_of};
+ghost use Rattle.hwdb_spec.specs.Streams.{texts_of};
 
 use crate::explanation::explanation_lines;
-use crate::form::Form;
 use crate::json_explanations::explanation_lines_json;
 use crate::json_lines::device_line;
 use crate::texts::property_lines;
 use hwdb_query::{effective, explain};
 use hwdb_reader::Db;
+use hwdb_spec::Form;
 use std::alloc::{AllocError, Global};
 
 /// A text, and in front of it an empty line if it isn't the first.

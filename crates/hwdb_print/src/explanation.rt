@@ -4,11 +4,11 @@ ghost use Rattle.hwdb_spec.specs.Explanations.{origin_line, overridden_text, exp
 ghost use Rattle.hwdb_query.specs.Views.{assignment_of_answer, explained_values};
 
 use crate::texts::{push_place, push_property};
-use hwdb_query::{Answer, Explained};
+use hwdb_query::{Explained, StoredAssignment};
 use std::alloc::{AllocError, Global};
 
 /// Adds where an answer comes from: four spaces, its path, `:`, its line, two spaces, its pattern.
-fn push_origin(text: &mut Vec<u8>, answer: &Answer<'_>) -> Result<(), AllocError>
+fn push_origin(text: &mut Vec<u8>, answer: &StoredAssignment<'_>) -> Result<(), AllocError>
     ensures { OnOk result
         (text.new.items ≡ text.old.items ++ origin_line (assignment_of_answer answer.now)) }
 {
@@ -21,7 +21,7 @@ fn push_origin(text: &mut Vec<u8>, answer: &Answer<'_>) -> Result<(), AllocError
 }
 
 /// Adds an answer that is overridden: its `KEY=VALUE` behind `  overrides `, and where it comes from.
-fn push_overridden(text: &mut Vec<u8>, answer: &Answer<'_>) -> Result<(), AllocError>
+fn push_overridden(text: &mut Vec<u8>, answer: &StoredAssignment<'_>) -> Result<(), AllocError>
     ensures { OnOk result
         (text.new.items ≡ text.old.items ++ overridden_text (assignment_of_answer answer.now)) }
 {
@@ -31,7 +31,10 @@ fn push_overridden(text: &mut Vec<u8>, answer: &Answer<'_>) -> Result<(), AllocE
 }
 
 /// Adds one after another.
-fn push_all_overridden(text: &mut Vec<u8>, answers: &[Answer<'_>]) -> Result<(), AllocError>
+fn push_all_overridden(
+    text: &mut Vec<u8>,
+    answers: &[StoredAssignment<'_>],
+) -> Result<(), AllocError>
     ensures { OnOk result (text.new.items
         ≡ text.old.items ++ flat_map overridden_text (map assignment_of_answer answers.now)) }
 {

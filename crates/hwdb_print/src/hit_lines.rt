@@ -2,15 +2,16 @@
 ghost use Rattle.std.specs.Prelude.{flat_map, ◌≡◌, OnOk, IfErr, IsErrOf};
 ghost use Rattle.hwdb_spec.specs.Flushing.{HandsOn};
 ghost use Rattle.hwdb_spec.specs.Outputs.{CutShort, Took};
-ghost use Rattle.hwdb_print.specs.Lookups.{IsPrintRefusal, TookLines, line_of, list_page, one_less};
+ghost use Rattle.hwdb_print.specs.Lookups.{IsPrintRefusal, TookLines, one_less};
+ghost use Rattle.hwdb_spec.specs.Listings.{line_of, list_page};
 ghost use Rattle.hwdb_query.specs.Views.{assignment_of_hit};
 ghost use Rattle.hwdb_spec.specs.Texts.{within_limit};
 
-use crate::errors::ToolError;
 use crate::json_lines::hit_json_line;
 use crate::texts::set_hit_line;
 use hwdb_io::{Sink, write_text};
 use hwdb_query::{Cursor, Hit};
+use hwdb_spec::ToolError;
 use std::alloc::{AllocError, Global};
 
 /// Makes a text the line of a hit: with tabs between its parts, or as an object of JSON.

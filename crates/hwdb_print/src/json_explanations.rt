@@ -5,13 +5,13 @@ ghost use Rattle.hwdb_query.specs.Views.{assignment_of_answer, explained_values}
 ghost use Rattle.hwdb_spec.specs.Json.{answer_members, array_of, explained_key_json, explanation_json, explanations_json, overridden_json};
 ghost use Rattle.hwdb_show.specs.JsonTokens.{tokens_of_members};
 
-use hwdb_query::{Answer, Explained};
+use hwdb_query::{Explained, StoredAssignment};
 use hwdb_show::{ended, put_member, put_number};
 use json::Writer;
 use std::alloc::{AllocError, Global};
 
 /// Adds the members of an answer: its value, and where it comes from.
-fn put_answer(json: &mut Writer, answer: &Answer<'_>) -> Result<(), AllocError>
+fn put_answer(json: &mut Writer, answer: &StoredAssignment<'_>) -> Result<(), AllocError>
     ensures before { json.new.before ≡ json.old.before }
     ensures tokens { OnOk result (json.new.tokens ≡ json.old.tokens
         ++ tokens_of_members (answer_members (assignment_of_answer answer.now))) }
@@ -23,7 +23,7 @@ fn put_answer(json: &mut Writer, answer: &Answer<'_>) -> Result<(), AllocError>
 }
 
 /// Adds an answer that is overridden.
-fn put_overridden(json: &mut Writer, answer: &Answer<'_>) -> Result<(), AllocError>
+fn put_overridden(json: &mut Writer, answer: &StoredAssignment<'_>) -> Result<(), AllocError>
     ensures before { json.new.before ≡ json.old.before }
     ensures tokens { OnOk result (json.new.tokens
         ≡ json.old.tokens ++ json_tokens (overridden_json (assignment_of_answer answer.now))) }
@@ -34,7 +34,7 @@ fn put_overridden(json: &mut Writer, answer: &Answer<'_>) -> Result<(), AllocErr
 }
 
 /// Adds the array of the answers that are overridden.
-fn put_all_overridden(json: &mut Writer, answers: &[Answer<'_>]) -> Result<(), AllocError>
+fn put_all_overridden(json: &mut Writer, answers: &[StoredAssignment<'_>]) -> Result<(), AllocError>
     ensures before { json.new.before ≡ json.old.before }
     ensures tokens { OnOk result (json.new.tokens ≡ json.old.tokens ++ json_tokens
         (array_of (map overridden_json (map assignment_of_answer answers.now)))) }
@@ -51,8 +51,8 @@ fn put_explanation(
     json: &mut Writer,
     device: &[u8],
     key: &[u8],
-    last: &Answer<'_>,
-    overridden: &[Answer<'_>],
+    last: &StoredAssignment<'_>,
+    overridden: &[StoredAssignment<'_>],
 ) -> Result<(), AllocError>
     ensures before { json.new.before ≡ json.old.before }
     ensures tokens { OnOk result (json.new.tokens ≡ json.old.tokens ++ json_tokens

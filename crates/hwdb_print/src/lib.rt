@@ -3,8 +3,6 @@
 //!
 //! | Module | What it does |
 //! |---|---|
-//! | `errors` | why a call refuses: each error of the crates below is one of it |
-//! | `form` | what is printed of a device: its properties, or also where they come from; as text or as JSON |
 //! | `texts` | the lines that are printed |
 //! | `explanation` | the lines of `explain` |
 //! | `json_lines` | the lines of JSON of `query` and `list` |
@@ -23,9 +21,7 @@
 
 mod chunk;
 mod device_texts;
-mod errors;
 mod explanation;
-mod form;
 mod hit_lines;
 mod json_explanations;
 mod json_laws;
@@ -39,9 +35,8 @@ mod texts;
 mod update;
 
 pub use chunk::LineReader;
-pub use errors::ToolError;
 pub use explanation::explanation_lines;
-pub use form::Form;
+pub use hwdb_spec::{Form, ToolError};
 pub use json_explanations::explanation_lines_json;
 pub use json_laws::json_is_read_back;
 pub use json_lines::{put_named, put_raw, raw_of};

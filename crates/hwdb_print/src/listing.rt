@@ -6,13 +6,14 @@ ghost use Rattle.hwdb_spec.specs.Asked.{IsFrom, IsListFrom};
 ghost use Rattle.hwdb_spec.specs.Folders.{Source};
 ghost use Rattle.hwdb_spec.specs.Outputs.{CutShortOne, TookOne};
 ghost use Rattle.hwdb_spec.specs.Written.{IsCompiled};
-ghost use Rattle.hwdb_print.specs.Lookups.{IsLastList, IsListBeginning, IsListRefusal, IsPositionRefusal};
+ghost use Rattle.hwdb_print.specs.Lookups.{IsLastList};
+ghost use Rattle.hwdb_spec.specs.Listings.{IsListBeginning, IsListRefusal, IsPositionRefusal};
 
-use crate::errors::ToolError;
 use crate::hit_lines::print_hits;
 use hwdb_io::Sink;
 use hwdb_query::{Position, compiled_answers_are_last, paged_cursor};
 use hwdb_reader::check;
+use hwdb_spec::ToolError;
 use std::alloc::Global;
 
 /// How many hits are held at most.

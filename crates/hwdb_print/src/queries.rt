@@ -7,15 +7,14 @@ ghost use Rattle.hwdb_spec.specs.Outputs.{CutShortOne, Took, TookOne};
 ghost use Rattle.hwdb_spec.specs.Texts.{last_values_text, query_text};
 ghost use Rattle.hwdb_spec.specs.Written.{IsCompiled};
 ghost use Rattle.hwdb_print.specs.Lookups.{IfWrite};
-ghost use Rattle.hwdb_print.specs.Streams.{last_texts_of, texts_of};
-ghost use Rattle.hwdb_print.specs.Databases.{IsDatabaseRefusal, IsQueryRefusal};
+ghost use Rattle.hwdb_spec.specs.Streams.{last_texts_of, texts_of};
+ghost use Rattle.hwdb_spec.specs.DatabaseErrors.{IsDatabaseRefusal, IsQueryRefusal};
 
 use crate::device_texts::{text_of_device, texts_of_devices};
-use crate::errors::ToolError;
-use crate::form::Form;
 use hwdb_io::{Sink, write_text};
 use hwdb_query::compiled_answers_are_last;
 use hwdb_reader::check;
+use hwdb_spec::{Form, ToolError};
 use std::alloc::Global;
 
 /// Checks the bytes, and answers what is printed of the devices. With `Form::Query` these are the properties of each,

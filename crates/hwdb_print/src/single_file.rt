@@ -7,14 +7,14 @@ ghost use Rattle.hwdb_spec.specs.Outputs.{CutShortTexts, TookTexts};
 ghost use Rattle.hwdb_spec.specs.Texts.{max_file, last_values_text};
 ghost use Rattle.hwdb_spec.specs.Done.{AreAskTexts};
 ghost use Rattle.hwdb_print.specs.Lookups.{IfWrite};
-ghost use Rattle.hwdb_print.specs.Updates.{IsAskRefusal};
+ghost use Rattle.hwdb_spec.specs.UpdateErrors.{IsAskRefusal};
 ghost use Rattle.hwdb_spec.specs.LoneFile.{lone, lone_choice};
 
-use crate::errors::ToolError;
 use crate::queries::properties_of;
 use crate::texts::fault_lines_at;
 use hwdb_compile::{ChosenFile, compile_chosen};
 use hwdb_io::{MAX_BYTES, Sink, write_text};
+use hwdb_spec::ToolError;
 use hwdb_text::Chosen;
 use std::alloc::{AllocError, Global};
 

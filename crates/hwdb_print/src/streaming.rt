@@ -8,15 +8,14 @@ ghost use Rattle.hwdb_spec.specs.Texts.{devices_of, max_file};
 ghost use Rattle.hwdb_spec.specs.Written.{IsCompiled};
 ghost use Rattle.hwdb_spec.specs.Outputs.{AppendsPrefix, FailedOnly, Wrote, WrotePrefix};
 ghost use Rattle.hwdb_spec.specs.Databases.{IsTextOf};
-ghost use Rattle.hwdb_print.specs.Streams.{IsAnswerRefusal, IsStreamRefusal, IfBadDatabase, texts_of, last_texts_of};
+ghost use Rattle.hwdb_spec.specs.Streams.{IsAnswerRefusal, IsStreamRefusal, IfBadDatabase, texts_of, last_texts_of};
 
 use crate::chunk::LineReader;
 use crate::device_texts::text_of_device;
-use crate::errors::ToolError;
-use crate::form::Form;
 use hwdb_io::{MAX_BYTES, Sink, Source, write_text};
 use hwdb_query::compiled_answers_are_last;
 use hwdb_reader::{Db, check};
+use hwdb_spec::{Form, ToolError};
 use std::alloc::Global;
 
 /// Answers each device that the input names. One line and one text are held at a time.

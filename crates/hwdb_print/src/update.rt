@@ -6,15 +6,15 @@ ghost use Rattle.hwdb_spec.specs.Outputs.{CutShort, Took};
 ghost use Rattle.hwdb_spec.specs.Texts.{status_of, faults_text};
 ghost use Rattle.hwdb_spec.specs.Folders.{faults_of_files};
 ghost use Rattle.hwdb_spec.specs.Store.{InPlace, LeavesOnly, OldOrNew};
-ghost use Rattle.hwdb_replace.specs.Views.{IsLeft, IsSeen, failures_after};
+ghost use Rattle.hwdb_spec.specs.NotReplaced.{IsLeft, IsSeen, failures_after};
 ghost use Rattle.hwdb_spec.specs.Done.{Updated, OldOrWritten};
-ghost use Rattle.hwdb_print.specs.Updates.{UpdateUndone, OnUnreplaced, IsPlaceRefusal, IsUpdateRefusal};
+ghost use Rattle.hwdb_spec.specs.UpdateErrors.{UpdateUndone, OnUnreplaced, IsPlaceRefusal, IsUpdateRefusal};
 
-use crate::errors::ToolError;
 use crate::texts::fault_lines;
 use hwdb_compile::{Compiled, FileFault, SourceFile, compile};
 use hwdb_io::{Sink, write_text};
 use hwdb_replace::{Store, Unreplaced, replace};
+use hwdb_spec::ToolError;
 use std::alloc::{AllocError, Global};
 
 /// The status of an update: 1 if `strict` and there is a fault, else 0.

@@ -14,10 +14,9 @@ use Rattle.std.proofs.lemmas.List.{reverse-append, append-nil}
 use Rattle.std.proofs.lemmas.Map.{lookup-none}
 use Rattle.std.proofs.lemmas.Map.Keys.{IsDistinct-from_sorted}
 use Rattle.std.proofs.lemmas.Map.Entries.{lookup_head, lookup_tail, none_past_head, none_below_head}
-use Rattle.hwdb_spec.specs.Assignment.{put, in_order, Assignment, position_cmp, assignment_cmp}
+use Rattle.hwdb_spec.specs.Assignment.{put, in_order, Assignment, position_cmp, assignment_cmp, text_cmp}
 use Rattle.std.specs.List.Sorted.{IsStrictlySortedBy}
 use Rattle.hwdb_spec.specs.Answers.{is_after, key_of_answer, has_key, last_value, effective_of}
-use Rattle.hwdb_spec.specs.Assignment.{text_cmp}
 use Rattle.hwdb_query.specs.Views.{pair_bytes, pairs_bytes}
 use Rattle.hwdb_query.specs.Internal.Pairs.{put_values}
 use Rattle.hwdb_query.specs.Internal.Collected.{Told, told, told_last, told_at, position_at, last_with, Shows}

@@ -18,7 +18,7 @@ use Rattle.hwdb_spec.specs.Assignment.{Assignment, text_cmp, put_all}
 use Rattle.hwdb_spec.specs.Answers.{has_key}
 use Rattle.hwdb_spec.specs.Explanations.{answers_with, explained}
 use Rattle.hwdb_query.specs.Views.{assignment_of_answer, explained_value, explained_values}
-use Rattle.hwdb_query.specs.declared.answer.Answer.{Answer}
+use Rattle.hwdb_query.specs.declared.answer.StoredAssignment.{StoredAssignment}
 use Rattle.hwdb_query.specs.declared.answer.Explained.{Explained}
 use Rattle.hwdb_query.specs.declared.by_key.AnswersByKey.{AnswersByKey}
 use Rattle.hwdb_query.specs.Internal.Explaining.{answers_backwards, explained_entry, backwards_or_none, answers_at, IsByKey}
@@ -26,7 +26,7 @@ use Rattle.hwdb_query.proofs.MemberLemmas.{equal_of, same_text}
 use Rattle.hwdb_query.proofs.KeyLemmas.{after_one, listed_one, flipped}
 
 abbrev pub Answers : Type 0
-Answers = Vec Answer Global
+Answers = Vec StoredAssignment Global
 
 abbrev Entries : Type 0
 Entries = List (Bor (List ℕ) × Answers)
@@ -108,14 +108,14 @@ pub put_at : (m n : AnswersByKey) (k : Bor (List ℕ)) (w : Answers) → n.answe
     → map explained_entry n.answers.entries ≡ insert_entry text_cmp (map explained_entry m.answers.entries) k.now (answers_backwards w)
 put_at m n k w is = ap (λ es. map explained_entry es) is ∙ put_shown m.answers.entries k w
 
-mapped : (xs ys : List Answer) → map assignment_of_answer (xs ++ ys) ≡ map assignment_of_answer xs ++ map assignment_of_answer ys
+mapped : (xs ys : List StoredAssignment) → map assignment_of_answer (xs ++ ys) ≡ map assignment_of_answer xs ++ map assignment_of_answer ys
 mapped [] ys = refl
 mapped (x ∷ xs) ys = ap (λ l. assignment_of_answer x ∷ l) (mapped xs ys)
 
-pub backwards_more : (old : List Answer) (a : Answer) → reverse (map assignment_of_answer (old ++ a ∷ [])) ≡ assignment_of_answer a ∷ reverse (map assignment_of_answer old)
+pub backwards_more : (old : List StoredAssignment) (a : StoredAssignment) → reverse (map assignment_of_answer (old ++ a ∷ [])) ≡ assignment_of_answer a ∷ reverse (map assignment_of_answer old)
 backwards_more old a = ap reverse (mapped old (a ∷ [])) ∙ reverse-append (map assignment_of_answer old) (assignment_of_answer a ∷ [])
 
-turned_is : (xs : List Answer) → map assignment_of_answer (reverse xs) ≡ reverse (map assignment_of_answer xs)
+turned_is : (xs : List StoredAssignment) → map assignment_of_answer (reverse xs) ≡ reverse (map assignment_of_answer xs)
 turned_is [] = refl
 turned_is (x ∷ xs) =
     ap (map assignment_of_answer) (reverse-append (x ∷ []) xs) ∙ mapped (reverse xs) (x ∷ [])

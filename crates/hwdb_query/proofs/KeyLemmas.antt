@@ -10,11 +10,10 @@ use Rattle.std.specs.Cmp.{IsTotalOrder}
 use Rattle.std.specs.BTreeMap.{insert_entry}
 use Rattle.std.specs.FinMap as finite
 use Rattle.std.proofs.lemmas.Cmp.{nat_list_cmp_total, tied_itself}
-use Rattle.hwdb_spec.specs.Assignment.{put, put_all, Assignment}
+use Rattle.hwdb_spec.specs.Assignment.{put, put_all, Assignment, text_cmp}
 use Rattle.std.specs.List.Sorted.{IsStrictlySortedBy}
 use Rattle.hwdb_spec.specs.Tree.{Tree, answers, answers_after}
 use Rattle.hwdb_spec.specs.Answers.{is_after, is_behind, key_of_answer, has_key, value_or_none, last_value, effective_of}
-use Rattle.hwdb_spec.specs.Assignment.{text_cmp}
 use Rattle.hwdb_query.specs.Internal.Pairs.{put_values}
 use Rattle.hwdb_query.proofs.PutLemmas.{ascends_all, all_above}
 

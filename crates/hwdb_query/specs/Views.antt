@@ -4,7 +4,7 @@ use Rattle.std.specs.Borrow.{Bor}
 use Rattle.hwdb_query.specs.declared.position.Position.{Position as OwnedPosition}
 use Rattle.hwdb_spec.specs.Assignment.{Position, Assignment}
 use Rattle.hwdb_query.specs.declared.hit.Hit.{Hit}
-use Rattle.hwdb_query.specs.declared.answer.Answer.{Answer}
+use Rattle.hwdb_query.specs.declared.answer.StoredAssignment.{StoredAssignment}
 use Rattle.hwdb_query.specs.declared.answer.Explained.{Explained}
 use Rattle.hwdb_spec.specs.Tree.{Tree, answers_after}
 
@@ -28,7 +28,7 @@ assignment_of_hit h = record {
 abbrev pub assignments_of_hits : List Hit → List Assignment
 assignments_of_hits hits = map assignment_of_hit hits
 
-abbrev pub assignment_of_answer : Answer → Assignment
+abbrev pub assignment_of_answer : StoredAssignment → Assignment
 assignment_of_answer a = record {
   position = record { priority = a.priority; line = a.line; pattern = a.pattern.value.items; key = a.key.now };
   value = a.value.now;

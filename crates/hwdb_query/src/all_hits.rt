@@ -3,7 +3,7 @@ ghost use Rattle.std.specs.Prelude.{◌≡◌, [], IfOk, OnOk};
 ghost use Rattle.hwdb_query.specs.Internal.Members.{assignment_shown};
 ghost use Rattle.hwdb_reader.specs.Views.{entry_shows};
 
-use crate::answer::Answer;
+use crate::answer::StoredAssignment;
 use crate::by_key::AnswersByKey;
 use crate::collector::Collector;
 use crate::node_answers::shared;
@@ -65,7 +65,7 @@ impl<'a> AllHits<'a> {
         let mut by_key = AnswersByKey::new(alloc);
         for (place, content) in self.hits {
             let (priority, line, pattern, key) = place;
-            let answer = Answer {
+            let answer = StoredAssignment {
                 priority,
                 line,
                 pattern,

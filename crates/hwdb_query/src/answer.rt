@@ -3,7 +3,7 @@ use std::rc::Rc;
 
 /// An assignment of a database: one that is told to a device whose name its pattern matches, or one of all.
 #[derive(Drop)]
-pub struct Answer<'a> {
+pub struct StoredAssignment<'a> {
     /// The priority of its file: 1 for the first that was chosen.
     pub priority: u16,
     /// The line of its property, counted from 1.
@@ -24,5 +24,5 @@ pub struct Explained<'a> {
     /// The key, a part of the database's bytes.
     pub key: &'a [u8],
     /// The answers with this key, the last first: that one counts, and it overrides the others.
-    pub answers: Vec<Answer<'a>>,
+    pub answers: Vec<StoredAssignment<'a>>,
 }

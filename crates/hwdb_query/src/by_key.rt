@@ -3,14 +3,14 @@ ghost use Rattle.std.specs.Prelude.{◌≡◌, List, [], ◌∷◌, ◌++◌, ma
 ghost use Rattle.hwdb_spec.specs.Assignment.{Assignment};
 ghost use Rattle.hwdb_query.specs.Views.{assignment_of_answer, explained_values};
 
-use crate::answer::{Answer, Explained};
+use crate::answer::{Explained, StoredAssignment};
 use std::alloc::{AllocError, Global};
 use std::collections::BTreeMap;
 
 /// The answers so far by key, the last one of a key after the others.
 #[derive(Drop)]
 pub(crate) struct AnswersByKey<'a> {
-    pub answers: BTreeMap<&'a [u8], Vec<Answer<'a>>>,
+    pub answers: BTreeMap<&'a [u8], Vec<StoredAssignment<'a>>>,
 }
 
 impl<'a> AnswersByKey<'a> {
@@ -26,7 +26,11 @@ impl<'a> AnswersByKey<'a> {
     }
 
     /// Adds an answer that comes after all so far.
-    pub(crate) fn add(&mut self, alloc: Global, answer: Answer<'a>) -> Result<(), AllocError>
+    pub(crate) fn add(
+        &mut self,
+        alloc: Global,
+        answer: StoredAssignment<'a>,
+    ) -> Result<(), AllocError>
         ensures { OnOk result ((before : List Assignment) → IsByKey self.old before
             → IsByKey self.new (before ++ assignment_of_answer answer.entry ∷ [])) }
     {

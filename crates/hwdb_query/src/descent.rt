@@ -14,9 +14,8 @@
 ghost use Rattle.std.specs.Prelude.{◌≡◌, ◌<◌, ◌≤◌, ◌+◌, ◌++◌, ◌∷◌, ◌^◌, ℕ, List, [], length, take, drop, filter, reverse, IfOk, OnOk};
 ghost use Rattle.hwdb_pattern.specs.Laws.{MatchesIsTested, LiveIsTested, DeadStaysDead, DeadMatchesNothing};
 ghost use Rattle.hwdb_pattern.specs.Views.{StandsFor};
-ghost use Rattle.hwdb_spec.specs.Tree.{prefix_of, members_under, live_nodes};
+ghost use Rattle.hwdb_spec.specs.Tree.{prefix_of, members_under, live_nodes, values_of};
 ghost use Rattle.hwdb_reader.specs.Views.{node_count};
-ghost use Rattle.hwdb_spec.specs.Tree.{values_of};
 ghost use Rattle.hwdb_reader.specs.Views.{tree_of, entered_tree};
 ghost use Rattle.hwdb_spec.specs.Answers.{is_wanted};
 ghost use Rattle.hwdb_query.specs.Internal.Members.{own_members};

@@ -27,7 +27,6 @@
 //! | `by_key` | answers by key |
 //! | `explanations` | for each key its answers |
 //! | `laws` | what is proved of the definitions alone |
-//! | `errors` | the errors of the calls |
 #![tactic(auto)]
 
 mod all_hits;
@@ -36,7 +35,6 @@ mod by_key;
 mod collector;
 mod cursors;
 mod descent;
-mod errors;
 mod explanations;
 mod hit;
 mod hit_page;
@@ -50,11 +48,11 @@ mod refill;
 mod spelling;
 mod start;
 
-pub use answer::{Answer, Explained};
+pub use answer::{Explained, StoredAssignment};
 pub use cursors::Cursor;
-pub use errors::{CursorError, PositionError};
 pub use explanations::explain;
 pub use hit::Hit;
+pub use hwdb_spec::{CursorError, PositionError};
 pub use laws::{
     after_each_next, answers_are_the_maps, compiled_answers_are_last, databases_show_one_map,
     explained_are_effective, fillings_of_a_run, last_assignments_are_last, last_rows,

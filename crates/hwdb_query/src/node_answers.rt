@@ -5,7 +5,7 @@ ghost use Rattle.hwdb_reader.specs.Views.{entered_tree, entry_shows};
 ghost use Rattle.hwdb_query.specs.Internal.Members.{assignment_shown, own_members};
 ghost use Rattle.hwdb_query.specs.Views.{assignment_of_answer};
 
-use crate::answer::Answer;
+use crate::answer::StoredAssignment;
 use hwdb_reader::{Entry, Inside};
 use std::alloc::{AllocError, Global};
 use std::rc::Rc;
@@ -20,7 +20,7 @@ pub(crate) fn shared(alloc: Global, pattern: &[u8]) -> Result<Rc<Vec<u8>>, Alloc
 
 /// Adds what one value assigns at a pattern.
 fn offer<'a>(
-    into: &mut Vec<Answer<'a>>,
+    into: &mut Vec<StoredAssignment<'a>>,
     pattern: &Rc<Vec<u8>>,
     entry: Entry<'a>,
 ) -> Result<(), AllocError>
@@ -31,7 +31,7 @@ fn offer<'a>(
     let Some(key) = entry.key else {
         return Ok(());
     };
-    into.push(Answer {
+    into.push(StoredAssignment {
         priority: entry.priority,
         line: entry.line,
         pattern: pattern.clone()?,
@@ -49,7 +49,7 @@ pub fn push_answers<'a>(
     alloc: Global,
     inside: Inside<'a>,
     pattern: &[u8],
-    into: &mut Vec<Answer<'a>>,
+    into: &mut Vec<StoredAssignment<'a>>,
 ) -> Result<(), AllocError>
     ensures { OnOk result (map assignment_of_answer into.new.items
         ≡ map assignment_of_answer into.old.items

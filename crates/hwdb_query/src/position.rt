@@ -5,11 +5,11 @@ ghost use Rattle.hwdb_spec.specs.Assignment;
 ghost use Rattle.hwdb_query.specs.Internal.Hits.{parts_position};
 ghost use Rattle.hwdb_query.specs.Views.{position_value};
 ghost use Rattle.hwdb_spec.specs.Texts.{IsSpelling, HasNumbers, canonical};
-ghost use Rattle.hwdb_query.specs.declared.errors.PositionError.TheVariants.{BadPosition, Memory};
+ghost use Rattle.hwdb_spec.specs.declared.errors.PositionError.TheVariants.{BadPosition, Memory};
 
-use crate::errors::PositionError;
 use crate::hit::Parts;
 use crate::spelling::{bytes_of, cut, long_number, short_number};
+use hwdb_spec::PositionError;
 use std::alloc::{AllocError, Global};
 
 /// The place of an assignment in the order: by priority, then line, then the pattern's bytes, then the

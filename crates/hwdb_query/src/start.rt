@@ -5,13 +5,13 @@ ghost use Rattle.hwdb_spec.specs.Folders.{Source, all_assignments};
 ghost use Rattle.hwdb_spec.specs.Answers.{last_assignments};
 ghost use Rattle.hwdb_spec.specs.Last.{AreLast};
 ghost use Rattle.hwdb_query.specs.Views.{fresh, given_position};
-ghost use Rattle.hwdb_query.specs.declared.errors.CursorError.TheVariants.{PageZero};
+ghost use Rattle.hwdb_spec.specs.declared.errors.CursorError.TheVariants.{PageZero};
 
 use crate::cursors::Cursor;
-use crate::errors::CursorError;
 use crate::position::Position;
 use hwdb_pattern::matches_is_tested;
 use hwdb_reader::Db;
+use hwdb_spec::CursorError;
 use std::alloc::{AllocError, Global};
 
 /// A cursor as [`cursor`] makes it, for a caller whose page isn't 0.

@@ -1,9 +1,9 @@
 -- A replacement once leftovers of killed updates are gone, put together.
 use Rattle.std.proofs.Common.{◌≡◌, inl, inr, ⊎_elim, ℕ, List, Option, None, sym, ap, ◌∙◌, subst, arith, Result, Ok, Err, IfErr, OnOk, MatchResult}
 use Rattle.hwdb_spec.specs.Store.{Stored, Contents, Outcomes, AreTaken, Cleared, Elapses, Installed, IsKept, IsPart, IsPartPath, LeavesOnly, NoMore, OldOrCleared, OldOrNew, OldOrPart, Replaced, database_file, database_name, most_parts, part_name, path_in}
-use Rattle.hwdb_replace.specs.Views.{IsLeft, IsSeen, failures_after}
-use Rattle.hwdb_replace.specs.declared.replacement.Unreplaced.{Unreplaced}
-use Rattle.hwdb_replace.specs.declared.replacement.Unreplaced.TheVariants.{Undone, NamesTaken, LeftBehind, Unsynced}
+use Rattle.hwdb_spec.specs.NotReplaced.{IsLeft, IsSeen, failures_after}
+use Rattle.hwdb_spec.specs.declared.errors.Unreplaced.{Unreplaced}
+use Rattle.hwdb_spec.specs.declared.errors.Unreplaced.TheVariants.{Undone, NamesTaken, LeftBehind, Unsynced}
 use Rattle.hwdb_replace.specs.Internal.{IsFirstFree, IsLeftThen, IsSeenThen, OldOrFree, OldOrReplaced}
 use Rattle.hwdb_replace.proofs.MomentLemmas.{elapses_more, elapses_on}
 

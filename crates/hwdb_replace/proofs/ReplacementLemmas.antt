@@ -3,8 +3,8 @@ use Rattle.std.proofs.Common.{◌≡◌, ◌≢◌, ◌⊎◌, inl, inr, ⊎_eli
 use Rattle.std.specs.Result.{IsErrAnd}
 use Rattle.std.proofs.lemmas.List.{append_cancel_left}
 use Rattle.hwdb_spec.specs.Store.{Stored, Contents, Outcomes, Elapses, LeavesOnly, Replaced, Removed, Renamed, Written, ModeSet, Same, SameBut, NoMore, NoMoreBut, NoMoreRenamed, path_in, part_name, part_mode, database_name, database_file, database_mode, most_parts, AreTaken}
-use Rattle.hwdb_replace.specs.declared.replacement.Unreplaced.{Unreplaced}
-use Rattle.hwdb_replace.specs.declared.replacement.Unreplaced.TheVariants.{Undone, NamesTaken, LeftBehind, Unsynced}
+use Rattle.hwdb_spec.specs.declared.errors.Unreplaced.{Unreplaced}
+use Rattle.hwdb_spec.specs.declared.errors.Unreplaced.TheVariants.{Undone, NamesTaken, LeftBehind, Unsynced}
 use Rattle.hwdb_replace.specs.Internal.{OrPart, OrFile, Made, Settled, IsEmpty, IsFirstFree, OldOrFree, OldOrReplaced, IsSeenThen}
 use Rattle.hwdb_replace.proofs.MomentLemmas.{one_or_two, elapses_on, elapses_more, or_part}
 use Rattle.hwdb_replace.proofs.MakingLemmas.{or_made}

@@ -1,8 +1,8 @@
 -- What the steps of a replacement leave.
 use Rattle.std.specs.Prelude.{◌≡◌, ◌≢◌, ◌⊎◌, ◌<◌, ℕ, List, [], Some, None}
 use Rattle.hwdb_spec.specs.Store.{Stored, Contents, Outcomes, path_in, part_name, part_mode, most_parts, database_name, database_file, AreTaken, IsPartPath, Same, Replaced, NoMore, NoMoreBut}
-use Rattle.hwdb_replace.specs.declared.replacement.Unreplaced.{Unreplaced}
-use Rattle.hwdb_replace.specs.declared.replacement.Unreplaced.TheVariants.{Undone, NamesTaken, LeftBehind, Unsynced}
+use Rattle.hwdb_spec.specs.declared.errors.Unreplaced.{Unreplaced}
+use Rattle.hwdb_spec.specs.declared.errors.Unreplaced.TheVariants.{Undone, NamesTaken, LeftBehind, Unsynced}
 
 -- the path of the new file: its name is the first one that nothing has, once leftovers are gone
 pub record IsFirstFree (folder : List ℕ) (old : Contents) (p : List ℕ) : Type 0 where

@@ -1,4 +1,3 @@
-pub mod Views
 pub mod Internal
 pub mod Memory
 pub mod Sharing

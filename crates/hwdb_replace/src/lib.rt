@@ -12,7 +12,8 @@ pub mod others;
 pub mod replacement;
 
 pub use calls::{CallFailed, Store};
+pub use hwdb_spec::Unreplaced;
 pub use laws::{beside_is_whole, memory_tears, unsynced_files_tear};
 pub use memory::{File, Memory, State, Step};
 pub use others::{Others, Rival, Shared, replace_beside};
-pub use replacement::{DATABASE, Unreplaced, part_name, part_number, replace};
+pub use replacement::{DATABASE, part_name, part_number, replace};

@@ -8,7 +8,8 @@ ghost use Rattle.hwdb_replace.specs.Sharing.{WentOn, left_with, since_with, only
 
 use crate::calls::{CallFailed, Store};
 use crate::memory::{DATABASE_MODE, File, Memory, Step, is_same, path_in};
-use crate::replacement::{DATABASE, Unreplaced, part_name, replace};
+use crate::replacement::{DATABASE, part_name, replace};
+use hwdb_spec::Unreplaced;
 use std::alloc::{AllocError, Global};
 
 /// Others that change the files of a store between two calls.

@@ -3,12 +3,13 @@ ghost use Rattle.std.specs.Prelude.{◌≡◌, ◌≢◌, ◌⊎◌, ◌<◌, Li
 ghost use Rattle.hwdb_spec.specs.Failures.{CountsFailures};
 ghost use Rattle.hwdb_spec.specs.Store.{SameBut, Written, NoMore, NoMoreBut, Elapses, Replaced, Installed, Always, LeavesOnly, AreTaken, OldOrNew, IsPartPath, Stored, path_in, part_name, database_name, database_file, most_parts};
 ghost use Rattle.hwdb_spec.specs.Sharing.{OldOrOurs};
-ghost use Rattle.hwdb_replace.specs.Views.{IsSeen, IsLeft, failures_after};
+ghost use Rattle.hwdb_spec.specs.NotReplaced.{IsSeen, IsLeft, failures_after};
 ghost use Rattle.hwdb_replace.specs.Internal.{OldOrFree, OldOrReplaced, IsSeenThen, IsLeftThen, OrPart, OrFile, OrAnyPart, Made, NotMade, Settled, IsEmpty};
-ghost use Rattle.hwdb_replace.specs.declared.replacement.Unreplaced.TheVariants.{Undone, NamesTaken};
+ghost use Rattle.hwdb_spec.specs.declared.errors.Unreplaced.TheVariants.{Undone, NamesTaken};
 
 use crate::calls::{CallFailed, Store};
 use arrayvec::ArrayString;
+use hwdb_spec::Unreplaced;
 use itoa::Buffer;
 use std::str::from_utf8;
 
@@ -20,20 +21,6 @@ const PART: &str = ".#hwdb.bin";
 
 /// How many names are tried for the new file.
 const MOST_PARTS: u32 = 65536;
-
-/// Why a replacement failed, and what it left.
-#[derive(Clone, Copy, Debug, PartialEq, Eq)]
-pub enum Unreplaced {
-    /// A call failed: the database is as it was, and no new file stands beside it.
-    Undone,
-    /// Each name for the new file is taken: all is as it was.
-    NamesTaken,
-    /// A call failed, and then the new file couldn't be removed: it stands beside the database, which is as it was.
-    LeftBehind,
-    /// The new file stands in the database's place, but the folder couldn't be synced: a crash may bring the old
-    /// one back.
-    Unsynced,
-}
 
 impl From<CallFailed> for Unreplaced {
     ghost from_gives = { λ _ e. e ≡ Undone };

@@ -20,7 +20,6 @@
 #![tactic(auto)]
 
 mod ancestors;
-mod attributes;
 mod early;
 mod inputs;
 mod late;
@@ -32,8 +31,8 @@ mod values;
 mod walks;
 
 pub use ancestors::first_text;
-pub use attributes::ATTRIBUTES;
 pub use early::{early_rules, input_id_rules};
+pub use hwdb_spec::ATTRIBUTES;
 pub use inputs::{Kinds, kinds_seen};
 pub use late::late_rules;
 pub use laws::lookup_rows;

@@ -111,7 +111,7 @@ fn is_last_string(is_last: bool, ancestor: &Ancestor) -> bool
 
 /// A walk from a parent on.
 #[derive(Clone, Copy)]
-struct Walk<'w> {
+struct ParentWalk<'w> {
     /// The subsystem of the devices that it looks at; empty for any.
     subsystem: &'w [u8],
     /// What comes before each string.
@@ -127,7 +127,7 @@ struct Walk<'w> {
 fn add_strings(
     alloc: Global,
     questions: &mut Vec<Question>,
-    walk: Walk<'_>,
+    walk: ParentWalk<'_>,
     chain: &[Ancestor],
 ) -> Result<(), AllocError>
     requires { walk.place + length chain.now < 2 ^ 64 }
@@ -164,7 +164,7 @@ fn strings_of(
     ensures { IfOk result (λ q. questions_of q.items
         ≡ strings_from subsystem.now prefix.now 0 false (map ancestor_of chain.now)) }
 {
-    let walk = Walk {
+    let walk = ParentWalk {
         subsystem,
         prefix,
         place: 0,

@@ -1,6 +1,6 @@
 -- Where sysfs has a device, and what is read of it and its parents. The folders are those of the kernel's sysfs-rules.rst; which
 -- files are read is what sd-device of systemd 257 does. That a name is looked for in every class and bus is our choice.
-use Rattle.std.specs.Prelude.{Bool, true, false, ℕ, List, [], ◌∷◌, ◌++◌, ◌+◌, ◌*◌, ◌/◌, ◌%◌, ◌==◌, Option, None, Some, if◌then◌else◌, codes, drop, filter_map, flat_map, length, map, nat_eq, nat_lt, not, option_map, reverse}
+use Rattle.std.specs.Prelude.{Bool, false, ℕ, List, [], ◌∷◌, ◌++◌, ◌+◌, ◌*◌, ◌/◌, ◌%◌, ◌==◌, Option, None, Some, if◌then◌else◌, codes, drop, filter_map, flat_map, length, map, nat_eq, nat_lt, not, option_map, reverse}
 use Rattle.std.specs.Fmt.{decimal}
 use Rattle.std.specs.List.{starts_with}
 use Rattle.std.specs.Option.{option_map_or, unwrap_or}

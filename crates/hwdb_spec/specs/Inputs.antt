@@ -5,7 +5,7 @@ use Rattle.std.specs.List.{after_first, before_first}
 use Rattle.std.specs.Option.{option_map_or}
 use Rattle.hwdb_spec.specs.Lines.{byte, is}
 use Rattle.hwdb_spec.specs.Patterns.{in_span}
-use Rattle.hwdb_spec.specs.Sysfs.{Ancestor, At, attribute, attribute_text, first_of}
+use Rattle.hwdb_spec.specs.Sysfs.{Ancestor, attribute, attribute_text, first_of}
 
 -- what kinds a device has
 pub record Kinds : Type 0 where

@@ -3,8 +3,8 @@
 -- packages upower and libwacom. A sound card's are those of its change, when udev asks for it. Left out: the lines of
 -- 90-iocost.rules, which need a disk's own answers. The driver of a network device is that of its nearest parent with one; udev asks
 -- ethtool.
-use Rattle.std.specs.Prelude.{Bool, true, false, ℕ, zero, suc, List, [], ◌∷◌, ◌++◌, ◌+◌, ◌-◌, ◌/◌, ◌%◌, ◌^◌, ◌==◌, ◌||◌, ◌&&◌, Option, None, Some, cond, if◌then◌else◌, codes, drop, filter, flat_map, get_or, length, map, nat_eq, nat_le, nat_lt, not, option_map, reverse, take}
-use Rattle.std.specs.List.{after_first, before_first, ends_with, starts_with}
+use Rattle.std.specs.Prelude.{Bool, true, false, ℕ, suc, List, [], ◌∷◌, ◌++◌, ◌-◌, ◌==◌, Option, None, Some, if◌then◌else◌, codes, filter, flat_map, get_or, length, map, nat_eq, not}
+use Rattle.std.specs.List.{before_first, ends_with, starts_with}
 use Rattle.std.specs.Option.{option_map_or, option_or, unwrap_or}
 use Rattle.hwdb_spec.specs.Assignment.{Assignment}
 use Rattle.hwdb_spec.specs.Folders.{same}

@@ -1,7 +1,7 @@
 -- What sysfs holds of a device and its parents, and how udev reads it: sd-device and udev-util.c of systemd 257.
-use Rattle.std.specs.Prelude.{Bool, true, false, ℕ, zero, suc, List, [], ◌∷◌, ◌++◌, ◌+◌, ◌-◌, ◌==◌, ◌%◌, Option, None, Some, if◌then◌else◌, codes, drop, length, map, nat_eq, nat_lt, not, option_map, take}
+use Rattle.std.specs.Prelude.{Bool, true, false, ℕ, zero, suc, List, [], ◌∷◌, ◌-◌, ◌==◌, ◌%◌, Option, None, Some, if◌then◌else◌, codes, drop, length, nat_eq, nat_lt, not, option_map, take}
 use Rattle.std.specs.List.{find, list_any, starts_with}
-use Rattle.std.specs.Option.{option_map_or, option_or, unwrap_or}
+use Rattle.std.specs.Option.{option_map_or, unwrap_or}
 use Rattle.std.specs.Str.{is_utf8}
 use Rattle.hwdb_spec.specs.Folders.{same}
 use Rattle.hwdb_spec.specs.Lines.{byte, is, is_blank, is_none, pieces}

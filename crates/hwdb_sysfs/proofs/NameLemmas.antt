@@ -5,7 +5,7 @@ use Rattle.std.specs.Ordering.{match_ordering}
 use Rattle.std.specs.declared.cmp.Ordering.{Ordering}
 use Rattle.std.specs.declared.cmp.Ordering.TheVariants.{Less, Equal, Greater}
 use Rattle.hwdb_spec.specs.Assignment.{put, put_all, text_cmp}
-use Rattle.hwdb_sysfs.specs.Answers.{leads_on}
+use Rattle.hwdb_spec.specs.SysfsAnswers.{leads_on}
 
 abbrev pub items : Vec ℕ Global → List ℕ
 items v = v.items

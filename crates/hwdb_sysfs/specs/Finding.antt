@@ -2,7 +2,7 @@
 use Rattle.std.specs.Prelude.{◌≡◌, ℕ, List, ◌++◌, None, Some, true, Err, is_some}
 use Rattle.hwdb_spec.specs.DeviceTree.{absolute, device_for, missing_folder}
 use Rattle.hwdb_spec.specs.Lines.{byte, has}
-use Rattle.hwdb_sysfs.specs.Answers.{Answers, seen}
+use Rattle.hwdb_spec.specs.SysfsAnswers.{Answers, seen}
 use Rattle.hwdb_sysfs.specs.declared.finding.Unfound.{Unfound}
 use Rattle.hwdb_sysfs.specs.declared.finding.Unfound.TheVariants.{Memory, NoSysfs, Unread, NoDevice}
 

@@ -1,4 +1,3 @@
-pub mod Answers
 pub mod Views
 pub mod Finding
 pub mod Internal

@@ -2,9 +2,9 @@
 use Rattle.std.specs.Prelude.{ℕ, List, Bool, true, false, Option, Some, None, Result, Ok, Err, find}
 use Rattle.hwdb_spec.specs.DeviceTree.{Node}
 use Rattle.hwdb_spec.specs.Folders.{same}
-use Rattle.hwdb_io.specs.declared.causes.Cause.{Cause}
-use Rattle.hwdb_io.specs.declared.causes.Cause.TheVariants.{Unknown}
-use Rattle.hwdb_sysfs.specs.Answers.{Answers}
+use Rattle.hwdb_spec.specs.declared.causes.Cause.{Cause}
+use Rattle.hwdb_spec.specs.declared.causes.Cause.TheVariants.{Unknown}
+use Rattle.hwdb_spec.specs.SysfsAnswers.{Answers}
 use Rattle.hwdb_sysfs.specs.Views.{node_of}
 use Rattle.hwdb_sysfs.specs.declared.table.Row.{Row}
 use Rattle.hwdb_sysfs.specs.declared.table.Thing.{Thing}

@@ -5,7 +5,7 @@ use Rattle.hwdb_spec.specs.Sysfs.{Ancestor, Attribute, Device}
 use Rattle.hwdb_sysfs.specs.declared.device.Ancestor.{Ancestor as Read}
 use Rattle.hwdb_sysfs.specs.declared.device.Attribute.{Attribute as ReadAttribute}
 use Rattle.hwdb_sysfs.specs.declared.device.Device.{Device as ReadDevice}
-use Rattle.hwdb_sysfs.specs.declared.files.Node.{Node as FoundNode}
+use Rattle.hwdb_sysfs.specs.declared.files.DeviceNode.{DeviceNode as FoundNode}
 
 -- an attribute
 abbrev pub attribute_of : ReadAttribute → Attribute

@@ -1,11 +1,11 @@
 //! What is made of the answers of a file system: what can't be told is as if it weren't there, unless memory was refused.
 ghost use Rattle.std.specs.Prelude.{◌≡◌, ◌≢◌, None, Ok, IfOk, option_map};
-ghost use Rattle.hwdb_io.specs.declared.causes.Cause.TheVariants.{Memory};
+ghost use Rattle.hwdb_spec.specs.declared.causes.Cause.TheVariants.{Memory};
 ghost use Rattle.hwdb_spec.specs.DeviceTree as tree;
-ghost use Rattle.hwdb_sysfs.specs.Answers.{seen, told};
+ghost use Rattle.hwdb_spec.specs.SysfsAnswers.{seen, told};
 ghost use Rattle.hwdb_sysfs.specs.Views.{node_of};
 
-use crate::files::{DeviceFiles, Node};
+use crate::files::{DeviceFiles, DeviceNode};
 use crate::paths::path_in;
 use hwdb_io::Cause;
 use std::alloc::{AllocError, Global};
@@ -99,7 +99,7 @@ pub fn uevent_of<F: DeviceFiles>(
 }
 
 /// The node at a place.
-pub fn node_at<F: DeviceFiles>(files: &F, place: &[u8]) -> Result<Option<Node>, AllocError>
+pub fn node_at<F: DeviceFiles>(files: &F, place: &[u8]) -> Result<Option<DeviceNode>, AllocError>
     ensures { F.tells → IfOk result (λ found. option_map node_of found
         ≡ (seen (F.answers files.now)).node place.now) }
 {

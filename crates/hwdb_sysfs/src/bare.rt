@@ -1,7 +1,7 @@
 //! A store in memory as it is asked for devices: it has files alone, and no sysfs.
-ghost use Rattle.hwdb_sysfs.specs.Answers.{nothing_there};
+ghost use Rattle.hwdb_spec.specs.SysfsAnswers.{nothing_there};
 
-use crate::files::{DeviceFiles, Node};
+use crate::files::{DeviceFiles, DeviceNode};
 use hwdb_io::Cause;
 use hwdb_replace::Memory;
 use std::alloc::Global;
@@ -15,7 +15,7 @@ impl DeviceFiles for Memory {
         Err(Cause::Unknown)
     }
 
-    fn node_at(&self, _: &[u8]) -> Result<Option<Node>, Cause> {
+    fn node_at(&self, _: &[u8]) -> Result<Option<DeviceNode>, Cause> {
         Err(Cause::Unknown)
     }
 

@@ -1,6 +1,6 @@
 //! What a file system answers of devices, call by call, and nothing decided.
 ghost use Rattle.std.specs.Prelude.{ℕ, List, Option, Result, option_map};
-ghost use Rattle.hwdb_sysfs.specs.Answers.{Answers, IsTold};
+ghost use Rattle.hwdb_spec.specs.SysfsAnswers.{Answers, IsTold};
 ghost use Rattle.hwdb_sysfs.specs.Views.{node_of};
 
 use hwdb_io::Cause;
@@ -8,7 +8,7 @@ use std::alloc::Global;
 
 /// A device's node.
 #[derive(Clone, Copy)]
-pub struct Node {
+pub struct DeviceNode {
     /// It is a block device; else it is a character device.
     pub block: bool,
     /// Its number, as stat(2) has it.
@@ -28,7 +28,7 @@ pub trait DeviceFiles {
         ensures { tells → IsTold (λ p. p.items) ((answers self.now).real path.now) result };
 
     /// Tells the node at a place; None if something else is there.
-    fn node_at(&self, place: &[u8]) -> Result<Option<Node>, Cause>
+    fn node_at(&self, place: &[u8]) -> Result<Option<DeviceNode>, Cause>
         ensures { tells → IsTold (option_map node_of) ((answers self.now).node place.now) result };
 
     /// Tells whether a regular file is at a place.

@@ -4,13 +4,13 @@ ghost use Rattle.std.specs.Option.{option_map_or};
 ghost use Rattle.hwdb_spec.specs.DeviceTree as tree;
 ghost use Rattle.hwdb_spec.specs.Lines.{byte, has};
 ghost use Rattle.hwdb_spec.specs.Store as store;
-ghost use Rattle.hwdb_sysfs.specs.Answers.{seen};
+ghost use Rattle.hwdb_spec.specs.SysfsAnswers.{seen};
 ghost use Rattle.hwdb_sysfs.specs.Finding.{IsMissing, IsNoSysfs, IsUnfound, LeadsAstray};
 ghost use Rattle.hwdb_sysfs.specs.Views.{node_of};
 ghost use Rattle.hwdb_sysfs.specs.declared.finding.Unfound.TheVariants.{Memory};
 
 use crate::answers::{node_at, place_of, uevent_of};
-use crate::files::{DeviceFiles, Node};
+use crate::files::{DeviceFiles, DeviceNode};
 use crate::names::names_in;
 use crate::paths::{is_below_devices, joined, last_name, path_in};
 use hwdb_io::Cause;
@@ -265,7 +265,7 @@ fn node_of_path<F: DeviceFiles>(
     alloc: Global,
     files: &F,
     path: &[u8],
-) -> Result<Option<Node>, AllocError>
+) -> Result<Option<DeviceNode>, AllocError>
     ensures { F.tells → IfOk result (λ found. option_map node_of found
         ≡ tree.at_place (seen (F.answers files.now)) (seen (F.answers files.now)).node path.now) }
 {
@@ -276,7 +276,7 @@ fn node_of_path<F: DeviceFiles>(
 }
 
 /// Where sysfs has the link to the device of a node.
-fn node_path(alloc: Global, sys: &[u8], node: Node) -> Result<Vec<u8>, AllocError>
+fn node_path(alloc: Global, sys: &[u8], node: DeviceNode) -> Result<Vec<u8>, AllocError>
     ensures { IfOk result (λ path. path.items ≡ tree.node_path sys.now (node_of node)) }
 {
     let front = if node.block {

@@ -30,7 +30,7 @@ mod reading;
 mod table;
 
 pub use device::{Ancestor, Attribute, Device};
-pub use files::{DeviceFiles, Node};
+pub use files::{DeviceFiles, DeviceNode};
 pub use finding::{Unfound, find_device, sysfs_below};
 pub use laws::worked_rows;
 pub use listing::list_devices;

@@ -2,7 +2,7 @@
 ghost use Rattle.std.specs.Prelude.{◌≡◌, ◌++◌, [], IfOk, OnOk, codes, map};
 ghost use Rattle.std.specs.List.{cons_option};
 ghost use Rattle.hwdb_spec.specs.DeviceTree as tree;
-ghost use Rattle.hwdb_sysfs.specs.Answers.{seen};
+ghost use Rattle.hwdb_spec.specs.SysfsAnswers.{seen};
 
 use crate::files::DeviceFiles;
 use crate::finding::{device_of_path, folders_with_links};

@@ -1,7 +1,7 @@
 //! The name that is near one which no device has.
 ghost use Rattle.std.specs.Prelude.{◌≡◌, ◌≤◌, IfOk, length, map};
 ghost use Rattle.hwdb_spec.specs.DeviceTree as tree;
-ghost use Rattle.hwdb_sysfs.specs.Answers.{seen};
+ghost use Rattle.hwdb_spec.specs.SysfsAnswers.{seen};
 
 use crate::files::DeviceFiles;
 use crate::finding::folders_with_links;

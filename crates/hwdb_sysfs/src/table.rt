@@ -1,9 +1,9 @@
 //! A tree in memory that tells its answers, for laws and tests: what is at each path.
 ghost use Rattle.std.specs.Prelude.{◌≡◌, Ok, option_map};
-ghost use Rattle.hwdb_sysfs.specs.Answers.{IsTold};
+ghost use Rattle.hwdb_spec.specs.SysfsAnswers.{IsTold};
 ghost use Rattle.hwdb_sysfs.specs.Tables.{answers_of, row_at};
 
-use crate::files::{DeviceFiles, Node};
+use crate::files::{DeviceFiles, DeviceNode};
 use hwdb_io::Cause;
 use std::alloc::{AllocError, Global};
 
@@ -26,7 +26,7 @@ pub enum Thing {
     /// A folder that lists these names, each with byte 0 after it.
     Folder(Vec<u8>),
     /// A device's node.
-    Node(Node),
+    Node(DeviceNode),
 }
 
 /// What is at each path. Of two rows of a path the first counts.
@@ -74,7 +74,7 @@ impl DeviceFiles for Table {
         }
     }
 
-    fn node_at(&self, place: &[u8]) -> Result<Option<Node>, Cause> {
+    fn node_at(&self, place: &[u8]) -> Result<Option<DeviceNode>, Cause> {
         match self.row(place) {
             Some(
                 Row {

@@ -5,7 +5,7 @@ use Rattle.std.proofs.lemmas.Bool.{cases_Bool}
 use Rattle.std.proofs.lemmas.List.Elements.{All-from_recursion}
 use Rattle.hwdb_spec.specs.Folders.{counts, same, lists, names, choice}
 use Rattle.hwdb_text.specs.Internal.Choosing.{chosen}
-use Rattle.hwdb_text.specs.Views.{IsListed}
+use Rattle.hwdb_spec.specs.Selected.{IsListed}
 use Rattle.hwdb_text.proofs.NameSetLemmas.{same_equal, same_itself, names_are_those_that_count}
 use Rattle.hwdb_text.proofs.StoreLemmas.{each_map, each_weaker}
 

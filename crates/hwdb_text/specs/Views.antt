@@ -1,5 +1,5 @@
 -- What the types of this crate mean.
-use Rattle.std.specs.Prelude.{List, ℕ, length, false, ◌≡◌, ◌≤◌, ◌<◌, Contains, if◌then◌else◌}
+use Rattle.std.specs.Prelude.{List, ℕ, length, false, ◌≡◌, ◌≤◌, ◌<◌}
 use Rattle.hwdb_spec.specs.Lines.{has, max_pattern}
 use Rattle.std.specs.Borrow.{Bor}
 use Rattle.std.specs.String.{string_bytes}
@@ -51,10 +51,6 @@ pub record IsStorable (a : Assignment) : Type 0 where
 pub record IsStorableChoice (c : Choice) : Type 0 where
   pub path : HasNoZero (path_of c)
   pub priority : 0 < c.priority
-
--- a chosen file is in the folder that it is taken from
-abbrev pub IsListed : (etc usr : List (List ℕ)) → Choice → Type 0
-IsListed etc usr c = Contains (if c.from_etc then etc else usr) c.name
 
 abbrev pub choice_of : Chosen → Choice
 choice_of c = record { from_etc = c.from_etc; name = string_bytes c.name; priority = c.priority }

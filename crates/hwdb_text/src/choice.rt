@@ -7,12 +7,13 @@ ghost use Rattle.std.specs.Result.{IsErrOf};
 ghost use Rattle.std.specs.String.{string_bytes};
 ghost use Rattle.hwdb_text.specs.Views.{choice_of};
 ghost use Rattle.hwdb_spec.specs.Folders.{max_files, path_of, names};
-ghost use Rattle.hwdb_text.specs.Views.{IsListed, IsStorableChoice};
+ghost use Rattle.hwdb_spec.specs.Selected.{IsListed};
+ghost use Rattle.hwdb_text.specs.Views.{IsStorableChoice};
 ghost use Rattle.hwdb_spec.specs.Folders;
 ghost use Rattle.hwdb_text.specs.Internal.Choosing.{put_all, entry_of, with_priorities};
 
 use crate::line::{begins_with, end_of};
-use crate::outcome::SelectError;
+use hwdb_spec::SelectError;
 use std::alloc::{AllocError, Global};
 use std::collections::BTreeMap;
 

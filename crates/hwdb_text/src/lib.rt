@@ -20,8 +20,8 @@ mod records;
 
 pub use crate::choice::{Chosen, counts, select};
 pub use crate::line::{Content, begins_with, content_of, end_of, unindented};
-pub use crate::outcome::{Assignment, Given, Parsed, ScanError, Scanned, SelectError};
+pub use crate::outcome::{Assignment, Given, Parsed, Scanned};
 pub use crate::parser::{next_line, parse, scan};
 pub use crate::pieces::{Lines, Pieces};
 pub use crate::records::LONGEST_MATCH;
-pub use hwdb_spec::{Fault, FaultKind};
+pub use hwdb_spec::{Fault, FaultKind, ScanError, SelectError};

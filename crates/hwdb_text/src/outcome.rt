@@ -1,9 +1,5 @@
 //! What the calls of this crate answer.
-ghost use Rattle.std.specs.Prelude.{◌≡◌};
-
 use hwdb_spec::Fault;
-use std::alloc::AllocError;
-use thiserror::Error;
 
 /// What one property line gives one pattern.
 #[derive(Debug, Drop, PartialEq, Eq)]
@@ -51,46 +47,4 @@ pub struct Scanned<'b> {
     pub assignments: Vec<Given<'b>>,
     /// By line, and then by number.
     pub faults: Vec<Fault>,
-}
-
-/// Why no files are chosen.
-#[derive(Clone, Copy, Debug, Error, PartialEq, Eq)]
-pub enum SelectError {
-    /// More than 65,535 files would be chosen: there are no more priorities.
-    #[error("more than 65535 files")]
-    TooManyFiles,
-    /// An allocation failed.
-    #[error("out of memory")]
-    Memory,
-}
-
-impl From<AllocError> for SelectError {
-    ghost use Rattle.hwdb_text.specs.declared.outcome.SelectError.TheVariants.{Memory};
-
-    ghost from_gives = { λ _ e. e ≡ Memory };
-
-    fn from(_error: AllocError) -> SelectError {
-        SelectError::Memory
-    }
-}
-
-/// Why a file isn't read.
-#[derive(Clone, Copy, Debug, Error, PartialEq, Eq)]
-pub enum ScanError {
-    /// It has more than 4,294,967,295 lines: a database has no more numbers for them.
-    #[error("a file has more than 4294967295 lines")]
-    TooManyLines,
-    /// An allocation failed.
-    #[error("out of memory")]
-    Memory,
-}
-
-impl From<AllocError> for ScanError {
-    ghost use Rattle.hwdb_text.specs.declared.outcome.ScanError.TheVariants.{Memory};
-
-    ghost from_gives = { λ _ e. e ≡ Memory };
-
-    fn from(_error: AllocError) -> ScanError {
-        ScanError::Memory
-    }
 }

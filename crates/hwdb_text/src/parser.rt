@@ -9,9 +9,10 @@ ghost use Rattle.hwdb_spec.specs.Records;
 ghost use Rattle.hwdb_spec.specs.Folders.{max_lines};
 ghost use Rattle.hwdb_text.specs.Views.{IsStorable};
 
-use crate::outcome::{Assignment, Given, Parsed, ScanError, Scanned};
+use crate::outcome::{Assignment, Given, Parsed, Scanned};
 use crate::pieces::Lines;
 use crate::records::Reader;
+use hwdb_spec::ScanError;
 use std::alloc::{AllocError, Global};
 
 /// The number of the line after line `before`, which is 0 before the first line. Takes no memory.

@@ -7,24 +7,24 @@ use Rattle.hwdb_spec.specs.Failures.{after_failure}
 use Rattle.hwdb_spec.specs.ManyDevices.{HasLongLine}
 use Rattle.hwdb_spec.specs.Runs.{Told}
 use Rattle.hwdb_spec.specs.declared.DbFault.{DbFault}
-use Rattle.hwdb_io.specs.declared.causes.Cause.{Cause}
+use Rattle.hwdb_spec.specs.declared.causes.Cause.{Cause}
 use Rattle.hwdb_spec.specs.Outputs.{TookOne, Wrote}
 use Rattle.hwdb_spec.specs.Store.{Contents}
 use Rattle.hwdb_spec.specs.System.{asked_database}
 use Rattle.hwdb_spec.specs.Texts.{devices_of, max_file}
-use Rattle.hwdb_print.specs.declared.errors.ToolError.{ToolError}
-use Rattle.hwdb_print.specs.declared.errors.ToolError.TheVariants.{Read, Write, TooLong, TooManyFiles, TooManyLines, TooLarge, BadPosition, BadDatabase, Replace, Memory}
-use Rattle.hwdb_print.specs.declared.form.Form.{Form}
-use Rattle.hwdb_print.specs.Streams.{IfBadDatabase, texts_of}
-use Rattle.hwdb_fs.specs.Refusals.{HasReason, IsAt, IsOfDatabase, IsUnreadAt}
-use Rattle.hwdb_tool.specs.Queries.{IsInputUnread, IsOfInput}
-use Rattle.hwdb_tool.specs.Reasons.{HasAskedReason, IsOfAsked}
-use Rattle.hwdb_tool.specs.Undone.{IsUnanswered, IsUnfound}
+use Rattle.hwdb_spec.specs.declared.errors.ToolError.{ToolError}
+use Rattle.hwdb_spec.specs.declared.errors.ToolError.TheVariants.{Read, Write, TooLong, TooManyFiles, TooManyLines, TooLarge, BadPosition, BadDatabase, Replace, Memory}
+use Rattle.hwdb_spec.specs.declared.form.Form.{Form}
+use Rattle.hwdb_spec.specs.Streams.{IfBadDatabase, texts_of}
+use Rattle.hwdb_spec.specs.Refusals.{HasReason, IsAt, IsOfDatabase, IsUnreadAt}
+use Rattle.hwdb_spec.specs.Queries.{IsInputUnread, IsOfInput}
+use Rattle.hwdb_spec.specs.Reasons.{HasAskedReason, IsOfAsked}
+use Rattle.hwdb_spec.specs.Undone.{IsUnanswered, IsUnfound}
 use Rattle.hwdb_tool.specs.Views.{IsNotPrinted}
 use Rattle.hwdb_tool.specs.declared.answer.Answer.{Answer}
 use Rattle.hwdb_tool.proofs.UsageLemmas.{failed_call}
-use Rattle.hwdb_fs.specs.declared.refusals.Refusal.{Refusal}
-use Rattle.hwdb_fs.specs.declared.refusals.Refusal.TheVariants.{At, InWords, NoDatabase, Plain}
+use Rattle.hwdb_spec.specs.declared.refusals.Refusal.{Refusal}
+use Rattle.hwdb_spec.specs.declared.refusals.Refusal.TheVariants.{At, InWords, NoDatabase, Plain}
 
 -- reading the database that is asked
 pub unfound : (root : List ℕ) (contents : Contents) (path : List ℕ) (refusal : Refusal) → IsAskedPath root contents path → IsUnreadAt contents path refusal → IsUnfound root contents refusal

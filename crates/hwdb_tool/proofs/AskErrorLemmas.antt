@@ -14,15 +14,15 @@ use Rattle.hwdb_spec.specs.System.{bytes_at}
 use Rattle.hwdb_spec.specs.Texts.{max_file}
 use Rattle.hwdb_spec.specs.Tree.{Map, map_of_files}
 use Rattle.hwdb_spec.specs.Written.{IsTooLarge, IsWritten}
-use Rattle.hwdb_print.specs.Updates.{IsAskRefusal}
-use Rattle.hwdb_print.specs.declared.errors.ToolError.{ToolError}
-use Rattle.hwdb_print.specs.declared.errors.ToolError.TheVariants.{Read, Write, TooLong, TooManyFiles, TooManyLines, TooLarge, BadPosition, BadDatabase, Replace, Memory}
-use Rattle.hwdb_fs.specs.Refusals.{IsOver, IsUnread}
-use Rattle.hwdb_fs.specs.declared.refusals.Refusal.{Refusal}
-use Rattle.hwdb_fs.specs.declared.refusals.Refusal.TheVariants.{At, InWords, NoDatabase, Plain}
+use Rattle.hwdb_spec.specs.UpdateErrors.{IsAskRefusal}
+use Rattle.hwdb_spec.specs.declared.errors.ToolError.{ToolError}
+use Rattle.hwdb_spec.specs.declared.errors.ToolError.TheVariants.{Read, Write, TooLong, TooManyFiles, TooManyLines, TooLarge, BadPosition, BadDatabase, Replace, Memory}
+use Rattle.hwdb_spec.specs.Refusals.{IsOver, IsUnread}
+use Rattle.hwdb_spec.specs.declared.refusals.Refusal.{Refusal}
+use Rattle.hwdb_spec.specs.declared.refusals.Refusal.TheVariants.{At, InWords, NoDatabase, Plain}
 use Rattle.hwdb_tool.specs.OneRefusal.{IsOfWhatIsRead, IsOneError}
-use Rattle.hwdb_tool.specs.Reasons.{HasGivenReason}
-use Rattle.hwdb_tool.specs.Undone.{IsAskRefused, IsNotAsked, IsUnreadGiven}
+use Rattle.hwdb_spec.specs.Reasons.{HasGivenReason}
+use Rattle.hwdb_spec.specs.Undone.{IsAskRefused, IsNotAsked, IsUnreadGiven}
 use Rattle.hwdb_tool.proofs.GivenLemmas.{plain_reason}
 use Rattle.hwdb_tool.proofs.DiffErrorLemmas.{IsUnreadOne, held_or_unread, unread_one}
 use Rattle.hwdb_tool.proofs.RefusalLemmas.{one_inside, over_over, unread_given}

@@ -15,13 +15,13 @@ use Rattle.hwdb_spec.specs.Texts.{max_file}
 use Rattle.hwdb_lint.specs.Checks.{source_of}
 use Rattle.hwdb_lint.specs.declared.files.TextFile.{TextFile}
 use Rattle.hwdb_spec.specs.CheckedFiles.{AreCheckedFiles, AreChosenFiles, AreGivenFiles, AreNamedFiles, IsChecked, StandFor}
-use Rattle.hwdb_fs.specs.Internal.{AreSelected}
+use Rattle.hwdb_spec.specs.Selected.{AreSelected}
 use Rattle.hwdb_tool.specs.Internal.{AreTextsGiven, bytes_given, bytes_if}
-use Rattle.hwdb_fs.specs.Refusals.{IsUnread}
-use Rattle.hwdb_tool.specs.GivenFolders.{IsNamedUnread}
-use Rattle.hwdb_tool.specs.Reasons.{IsFirstGiven, IsReadGiven}
-use Rattle.hwdb_tool.specs.Undone.{AreNotChecked, AreUncheckable, IsCheckRefused, IsGivenUnread, told_as, told_path}
-use Rattle.hwdb_fs.specs.declared.refusals.Refusal.{Refusal}
+use Rattle.hwdb_spec.specs.Refusals.{IsUnread}
+use Rattle.hwdb_spec.specs.GivenFolders.{IsNamedUnread}
+use Rattle.hwdb_spec.specs.Reasons.{IsFirstGiven, IsReadGiven}
+use Rattle.hwdb_spec.specs.Undone.{AreNotChecked, AreUncheckable, IsCheckRefused, IsGivenUnread, told_as, told_path}
+use Rattle.hwdb_spec.specs.declared.refusals.Refusal.{Refusal}
 use Rattle.hwdb_tool.specs.Views.{texts_in}
 use Rattle.hwdb_tool.specs.declared.answer.Answer.{Answer}
 

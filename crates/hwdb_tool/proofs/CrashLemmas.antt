@@ -5,11 +5,11 @@ use Rattle.std.specs.Option.{option_map_or, option_or}
 use Rattle.std.proofs.lemmas.List.{append-nil, append_cancel_left}
 use Rattle.clap.specs.Walk.{Row, Text}
 use Rattle.clap.specs.Simple.{matches_of, subcommand_of}
-use Rattle.hwdb_cli.specs.Jobs.{IsJobOf, IsTask, has_flag}
-use Rattle.hwdb_cli.specs.Line.{hwdb_app}
-use Rattle.hwdb_cli.specs.declared.job.Job.{Job}
-use Rattle.hwdb_cli.specs.declared.job.Task.{Task}
-use Rattle.hwdb_cli.specs.declared.job.Task.TheVariants.{Update}
+use Rattle.hwdb_spec.specs.Jobs.{IsJobOf, IsTask, has_flag}
+use Rattle.hwdb_spec.specs.CommandLine.{hwdb_app}
+use Rattle.hwdb_spec.specs.declared.job.Job.{Job}
+use Rattle.hwdb_spec.specs.declared.job.Task.{Task}
+use Rattle.hwdb_spec.specs.declared.job.Task.TheVariants.{Update}
 use Rattle.hwdb_query.specs.Laws.{AllCompiledAnswersAreLast, LastAssignmentsAreLast}
 use Rattle.hwdb_spec.specs.Answers.{effective_of, last_assignments}
 use Rattle.hwdb_spec.specs.Assignment.{Assignment}
@@ -21,7 +21,7 @@ use Rattle.hwdb_spec.specs.Texts as texts
 use Rattle.hwdb_spec.specs.Texts.{properties_text}
 use Rattle.hwdb_spec.specs.Done.{IsLeftByUpdate}
 use Rattle.hwdb_spec.specs.LeftOut.{AreLeftOut, without}
-use Rattle.hwdb_tool.specs.Program.{root_of, skips}
+use Rattle.hwdb_spec.specs.Program.{root_of, skips}
 use Rattle.hwdb_tool.specs.Crash.{AnswersFrom, CrashThenQuery, CrashThenQueryOfAll, FaultsLeaveAll}
 use Rattle.hwdb_tool.proofs.JobLemmas.{one_root}
 use Rattle.hwdb_tool.proofs.OutcomeLemmas.{one_held}

@@ -1,11 +1,11 @@
 -- A task that is refused since an output failed changes nothing.
 use Rattle.std.proofs.Common.{⊎_elim, Bool, List, ℕ}
-use Rattle.hwdb_cli.specs.declared.job.Task.{Task}
-use Rattle.hwdb_cli.specs.declared.job.Task.TheVariants.{Update}
+use Rattle.hwdb_spec.specs.declared.job.Task.{Task}
+use Rattle.hwdb_spec.specs.declared.job.Task.TheVariants.{Update}
 use Rattle.hwdb_spec.specs.Runs.{AreKept, World}
-use Rattle.hwdb_fs.specs.declared.refusals.Refusal.TheVariants.{Plain}
-use Rattle.hwdb_tool.specs.TaskRefusals.{IsTaskRefused}
-use Rattle.hwdb_print.specs.declared.errors.ToolError.TheVariants.{Write}
+use Rattle.hwdb_spec.specs.declared.refusals.Refusal.TheVariants.{Plain}
+use Rattle.hwdb_spec.specs.TaskRefusals.{IsTaskRefused}
+use Rattle.hwdb_spec.specs.declared.errors.ToolError.TheVariants.{Write}
 
 module _ (root : List ℕ) (usr strict : Bool) (before now : World) where
   pub cut_keeps : (task : Task) → IsTaskRefused task root usr strict (Plain Write) before now → AreKept before.files now.files

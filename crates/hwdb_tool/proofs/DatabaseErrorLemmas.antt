@@ -15,23 +15,23 @@ use Rattle.hwdb_spec.specs.Tree.{Tree}
 use Rattle.hwdb_spec.specs.Verdicts.{verdict_text}
 use Rattle.hwdb_spec.specs.declared.DbFault.{DbFault}
 use Rattle.hwdb_reader.specs.Laws.{IsOfHeader}
-use Rattle.hwdb_inspect.specs.Dumps.{IsDumpRefusal}
-use Rattle.hwdb_inspect.specs.Summaries.{IsVerifyRefusal}
-use Rattle.hwdb_inspect.specs.declared.errors.DumpError.{DumpError}
-use Rattle.hwdb_inspect.specs.declared.errors.VerifyError.{VerifyError}
-use Rattle.hwdb_inspect.specs.declared.errors.DumpError.TheVariants as dumping
-use Rattle.hwdb_inspect.specs.declared.errors.VerifyError.TheVariants as verifying
-use Rattle.hwdb_replace.specs.declared.replacement.Unreplaced.{Unreplaced}
-use Rattle.hwdb_print.specs.Databases.{IsDatabaseRefusal}
-use Rattle.hwdb_print.specs.Lookups.{IsListFault, IsListRefusal}
-use Rattle.hwdb_print.specs.declared.errors.ToolError.{ToolError}
-use Rattle.hwdb_print.specs.declared.errors.ToolError.TheVariants.{Read, Write, TooLong, TooManyFiles, TooManyLines, TooLarge, BadPosition, BadDatabase, Replace, Memory}
-use Rattle.hwdb_fs.specs.Refusals.{HasReason, IsAt, IsInWords, IsOfDatabase, IsOver}
-use Rattle.hwdb_fs.specs.declared.refusals.Refusal.{Refusal}
-use Rattle.hwdb_fs.specs.declared.refusals.Refusal.TheVariants.{At, InWords, NoDatabase, Plain}
-use Rattle.hwdb_tool.specs.NamedDatabases.{IsDumpRefused, IsNotDumped, IsNotVerified, IsOfDump, IsOfVerify, IsVerifyRefused}
+use Rattle.hwdb_spec.specs.DumpErrors.{IsDumpRefusal}
+use Rattle.hwdb_spec.specs.VerifyErrors.{IsVerifyRefusal}
+use Rattle.hwdb_spec.specs.declared.errors.DumpError.{DumpError}
+use Rattle.hwdb_spec.specs.declared.errors.VerifyError.{VerifyError}
+use Rattle.hwdb_spec.specs.declared.errors.DumpError.TheVariants as dumping
+use Rattle.hwdb_spec.specs.declared.errors.VerifyError.TheVariants as verifying
+use Rattle.hwdb_spec.specs.declared.errors.Unreplaced.{Unreplaced}
+use Rattle.hwdb_spec.specs.DatabaseErrors.{IsDatabaseRefusal}
+use Rattle.hwdb_spec.specs.Listings.{IsListFault, IsListRefusal}
+use Rattle.hwdb_spec.specs.declared.errors.ToolError.{ToolError}
+use Rattle.hwdb_spec.specs.declared.errors.ToolError.TheVariants.{Read, Write, TooLong, TooManyFiles, TooManyLines, TooLarge, BadPosition, BadDatabase, Replace, Memory}
+use Rattle.hwdb_spec.specs.Refusals.{HasReason, IsAt, IsInWords, IsOfDatabase, IsOver}
+use Rattle.hwdb_spec.specs.declared.refusals.Refusal.{Refusal}
+use Rattle.hwdb_spec.specs.declared.refusals.Refusal.TheVariants.{At, InWords, NoDatabase, Plain}
+use Rattle.hwdb_spec.specs.NamedDatabases.{IsDumpRefused, IsNotDumped, IsNotVerified, IsOfDump, IsOfVerify, IsVerifyRefused}
 use Rattle.hwdb_tool.specs.OneRefusal.{IsOfWhatIsRead, IsOneError, IsOneFault, IsOneText}
-use Rattle.hwdb_tool.specs.Undone.{IsListRefused, IsNotAnswered, IsUnanswered, IsUnlisted, IsUnreadableIf}
+use Rattle.hwdb_spec.specs.Undone.{IsListRefused, IsNotAnswered, IsUnanswered, IsUnlisted, IsUnreadableIf}
 use Rattle.hwdb_tool.proofs.RefusalLemmas.{NeverNamed, IsUnreadNamed, one_inside, one_named_path, named_at, over_over, read_or_unread, unnamed, unread_unread}
 
 -- the words of a refusal

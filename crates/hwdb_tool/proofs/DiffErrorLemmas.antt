@@ -7,13 +7,13 @@ use Rattle.hwdb_spec.specs.Store.{Contents}
 use Rattle.hwdb_spec.specs.System.{bytes_at}
 use Rattle.hwdb_spec.specs.Texts.{max_file}
 use Rattle.hwdb_spec.specs.declared.DbFault.{DbFault}
-use Rattle.hwdb_inspect.specs.Diffs.{IsDiffRefusal}
-use Rattle.hwdb_inspect.specs.declared.errors.DiffError.{DiffError}
-use Rattle.hwdb_inspect.specs.declared.errors.DiffError.TheVariants as differing
-use Rattle.hwdb_print.specs.declared.errors.ToolError.TheVariants.{BadDatabase, Read, TooLong}
-use Rattle.hwdb_fs.specs.Refusals.{HasReason, IsOver, IsUnreadable}
-use Rattle.hwdb_fs.specs.declared.refusals.Refusal.{Refusal}
-use Rattle.hwdb_tool.specs.ComparedDatabases.{IsDiffRefused, IsNotCompared, IsOfDiff, WasRead}
+use Rattle.hwdb_spec.specs.DiffErrors.{IsDiffRefusal}
+use Rattle.hwdb_spec.specs.declared.errors.DiffError.{DiffError}
+use Rattle.hwdb_spec.specs.declared.errors.DiffError.TheVariants as differing
+use Rattle.hwdb_spec.specs.declared.errors.ToolError.TheVariants.{BadDatabase, Read, TooLong}
+use Rattle.hwdb_spec.specs.Refusals.{HasReason, IsOver, IsUnreadable}
+use Rattle.hwdb_spec.specs.declared.refusals.Refusal.{Refusal}
+use Rattle.hwdb_spec.specs.ComparedDatabases.{IsDiffRefused, IsNotCompared, IsOfDiff, WasRead}
 use Rattle.hwdb_tool.specs.OneRefusal.{IsOfWhatIsRead, IsOneError}
 use Rattle.hwdb_tool.proofs.DatabaseErrorLemmas.{OneHeader, is_over, one_fault}
 use Rattle.hwdb_tool.proofs.RefusalLemmas.{IsLongAt, IsMissingAt, no_none, not_both, one_inside, over_over, unread_given}

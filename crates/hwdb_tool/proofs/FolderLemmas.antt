@@ -14,14 +14,13 @@ use Rattle.hwdb_spec.specs.Assignment.{text_cmp}
 use Rattle.hwdb_spec.specs.Folders.{Choice, Source, same, lists, names, choice, chosen_of, contents, first_of, path_of, max_files}
 use Rattle.hwdb_spec.specs.Store.{Contents, path_in}
 use Rattle.hwdb_spec.specs.System.{bytes_at, AreNamesIn, AreFilesIn, etc_files, usr_files}
-use Rattle.hwdb_text.specs.Views.{IsListed}
+use Rattle.hwdb_spec.specs.Selected.{IsListed, AreSelected, AreTexts}
 use Rattle.hwdb_compile.specs.declared.sources.ChosenFile.{ChosenFile}
 use Rattle.hwdb_compile.specs.Views.{AreChosenOf, bytes_in, choice_in}
 use Rattle.hwdb_tool.specs.Internal.{AreReadOf}
-use Rattle.hwdb_fs.specs.Internal.{AreSelected, AreTexts}
-use Rattle.hwdb_fs.specs.Reading.{IsText}
+use Rattle.hwdb_spec.specs.Reading.{IsText}
 use Rattle.hwdb_spec.specs.Texts.{max_file}
-use Rattle.hwdb_tool.specs.Readable.{AreAllRead}
+use Rattle.hwdb_spec.specs.Readable.{AreAllRead}
 
 -- what an option holds, or nothing
 abbrev value : Option (List ℕ) → List ℕ

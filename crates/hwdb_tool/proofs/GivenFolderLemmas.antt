@@ -7,10 +7,10 @@ use Rattle.hwdb_spec.specs.CheckedFiles.{StandFor, StandsFor, folder_of, is_file
 use Rattle.hwdb_spec.specs.Folders.{Choice}
 use Rattle.hwdb_spec.specs.Given.{any_dash, is_dash}
 use Rattle.hwdb_spec.specs.Store.{Contents, path_in}
-use Rattle.hwdb_fs.specs.declared.refusals.Refusal.{Refusal}
-use Rattle.hwdb_fs.specs.declared.refusals.Refusal.TheVariants.{Plain}
-use Rattle.hwdb_print.specs.declared.errors.ToolError.TheVariants.{Memory}
-use Rattle.hwdb_tool.specs.GivenFolders.{AreFoldersUnread, IsFolderUnread}
+use Rattle.hwdb_spec.specs.declared.refusals.Refusal.{Refusal}
+use Rattle.hwdb_spec.specs.declared.refusals.Refusal.TheVariants.{Plain}
+use Rattle.hwdb_spec.specs.declared.errors.ToolError.TheVariants.{Memory}
+use Rattle.hwdb_spec.specs.GivenFolders.{AreFoldersUnread, IsFolderUnread}
 use Rattle.hwdb_tool.proofs.ErrorLemmas.{given_error}
 
 -- ---- the folder that a path names

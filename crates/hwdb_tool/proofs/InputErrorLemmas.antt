@@ -3,7 +3,7 @@ use Rattle.std.proofs.Common.{◌≡◌, ◌<◌, ◌⊎◌, ◌∙◌, ⊎_elim
 use Rattle.std.proofs.lemmas.List.{reverse-append}
 use Rattle.std.proofs.lemmas.List.Elements.{Contains-append_right}
 use Rattle.std.specs.Prelude.{Contains, codes}
-use Rattle.hwdb_cli.specs.declared.job.Task.TheVariants.{Ask, Check, Explain, Near, Query}
+use Rattle.hwdb_spec.specs.declared.job.Task.TheVariants.{Ask, Check, Explain, Near, Query}
 use Rattle.hwdb_spec.specs.Asked.{IsAskedPath}
 use Rattle.hwdb_spec.specs.CheckedFiles.{StandFor, folder_of}
 use Rattle.hwdb_spec.specs.Failures.{HasFailed}
@@ -12,15 +12,15 @@ use Rattle.hwdb_spec.specs.ManyDevices.{HasLongLine}
 use Rattle.hwdb_spec.specs.Store.{Contents, Outcomes, database_name, path_in}
 use Rattle.hwdb_spec.specs.System.{database_folder}
 use Rattle.hwdb_spec.specs.Texts.{max_file}
-use Rattle.hwdb_print.specs.declared.errors.ToolError.{ToolError}
-use Rattle.hwdb_print.specs.declared.errors.ToolError.TheVariants.{Read, TooLong, TooManyFiles}
-use Rattle.hwdb_fs.specs.Refusals.{IsOver, IsUnlisted}
-use Rattle.hwdb_fs.specs.declared.refusals.Refusal.{Refusal}
-use Rattle.hwdb_fs.specs.declared.refusals.Refusal.TheVariants.{At, InWords, NoDatabase, Plain}
-use Rattle.hwdb_tool.specs.CheckedReasons.{HasCheckedReason, HasNamedReason}
-use Rattle.hwdb_tool.specs.GivenFolders.{AreFoldersUnread}
+use Rattle.hwdb_spec.specs.declared.errors.ToolError.{ToolError}
+use Rattle.hwdb_spec.specs.declared.errors.ToolError.TheVariants.{Read, TooLong, TooManyFiles}
+use Rattle.hwdb_spec.specs.Refusals.{IsOver, IsUnlisted}
+use Rattle.hwdb_spec.specs.declared.refusals.Refusal.{Refusal}
+use Rattle.hwdb_spec.specs.declared.refusals.Refusal.TheVariants.{At, InWords, NoDatabase, Plain}
+use Rattle.hwdb_spec.specs.CheckedReasons.{HasCheckedReason, HasNamedReason}
+use Rattle.hwdb_spec.specs.GivenFolders.{AreFoldersUnread}
 use Rattle.hwdb_tool.specs.OneRefusal.{InputIsLong, InputIsRead, IsInNamed, LineIsLong}
-use Rattle.hwdb_tool.specs.Reasons.{HasAskedReason, HasFilesReason, HasGivenReason, IsFirstGiven, IsGivenTooLong, IsGivenUnreadable}
+use Rattle.hwdb_spec.specs.Reasons.{HasAskedReason, HasFilesReason, HasGivenReason, IsFirstGiven, IsGivenTooLong, IsGivenUnreadable}
 
 not_false : (b : Bool) → not b ≡ false → b ≡ true
 not_false true is = refl

@@ -6,28 +6,28 @@ use Rattle.clap.specs.Kinds.{IsAmong, Kinds}
 use Rattle.clap.specs.Simple.{matches_of, subcommand_of}
 use Rattle.clap.specs.Walk.{Row, Text, first_of, all_of}
 use Rattle.clap.specs.declared.error.kind.ErrorKind.TheVariants.{DisplayHelp, DisplayVersion}
-use Rattle.hwdb_cli.specs.Jobs.{IsJobOf, IsTask}
-use Rattle.hwdb_cli.specs.Line.{hwdb_app}
-use Rattle.hwdb_cli.specs.Refusals.{IsToldOfOne}
-use Rattle.hwdb_cli.specs.declared.job.Job.{Job}
-use Rattle.hwdb_cli.specs.declared.job.Task.{Task}
-use Rattle.hwdb_cli.specs.declared.job.Task.TheVariants.{Ask, Check, Device, Diff, Dump, Explain, List as ListHits, Near, Query, Update, Verify}
-use Rattle.hwdb_cli.specs.declared.job.WordsFault.TheVariants as words_fault
-use Rattle.hwdb_cli.specs.declared.job.WordsFault.{WordsFault}
+use Rattle.hwdb_spec.specs.Jobs.{IsJobOf, IsTask}
+use Rattle.hwdb_spec.specs.CommandLine.{hwdb_app}
+use Rattle.hwdb_spec.specs.WordFaults.{IsToldOfOne}
+use Rattle.hwdb_spec.specs.declared.job.Job.{Job}
+use Rattle.hwdb_spec.specs.declared.job.Task.{Task}
+use Rattle.hwdb_spec.specs.declared.job.Task.TheVariants.{Ask, Check, Device, Diff, Dump, Explain, List as ListHits, Near, Query, Update, Verify}
+use Rattle.hwdb_spec.specs.declared.job.WordsFault.TheVariants as words_fault
+use Rattle.hwdb_spec.specs.declared.job.WordsFault.{WordsFault}
 use Rattle.hwdb_spec.specs.CheckedFiles.{StandFor}
 use Rattle.hwdb_spec.specs.Given.{is_input}
 use Rattle.hwdb_spec.specs.Hiding.{hiding_text}
 use Rattle.hwdb_spec.specs.Store.{Contents, Outcomes}
 use Rattle.hwdb_spec.specs.System.{database_folder}
-use Rattle.hwdb_print.specs.declared.errors.ToolError.TheVariants.{Read, Write, TooLong, TooManyFiles, TooManyLines, TooLarge, BadPosition, BadDatabase, Replace, Memory}
-use Rattle.hwdb_fs.specs.Refusals.{HasReason, IsUnentered}
-use Rattle.hwdb_fs.specs.declared.refusals.Refusal.{Refusal}
-use Rattle.hwdb_fs.specs.declared.refusals.Refusal.TheVariants.{At, InWords, NoDatabase, Plain}
+use Rattle.hwdb_spec.specs.declared.errors.ToolError.TheVariants.{Read, Write, TooLong, TooManyFiles, TooManyLines, TooLarge, BadPosition, BadDatabase, Replace, Memory}
+use Rattle.hwdb_spec.specs.Refusals.{HasReason, IsUnentered}
+use Rattle.hwdb_spec.specs.declared.refusals.Refusal.{Refusal}
+use Rattle.hwdb_spec.specs.declared.refusals.Refusal.TheVariants.{At, InWords, NoDatabase, Plain}
 use Rattle.hwdb_tool.specs.OneOutcome.{ListingsGiveOneChoice, ListingsGiveOneReading, scene_of}
 use Rattle.hwdb_tool.specs.OneRefusal.{IsCovered, IsOfWhatIsRead, JobEndsInOneError, DoneJobIsNoError, JobIsNotTold, RootIsEntered, scene_then}
-use Rattle.hwdb_tool.specs.Program.{root_of}
-use Rattle.hwdb_tool.specs.TaskRefusals.{refused_status}
-use Rattle.hwdb_tool.specs.Undone.{IsUnwritable}
+use Rattle.hwdb_spec.specs.Program.{root_of}
+use Rattle.hwdb_spec.specs.TaskRefusals.{refused_status}
+use Rattle.hwdb_spec.specs.Undone.{IsUnwritable}
 use Rattle.hwdb_tool.proofs.DatabaseErrorLemmas.{OneHeader, OneTree, Undumped, Unlisted, Unverified}
 use Rattle.hwdb_tool.proofs.AskErrorLemmas.{OneForm, Unasked}
 use Rattle.hwdb_tool.proofs.DiffErrorLemmas.{Undiffed}

@@ -8,11 +8,11 @@ use Rattle.clap.specs.declared.error.kind.ErrorKind.TheVariants.{DisplayHelp, Di
 use Rattle.clap.specs.Kinds.{IsAmong}
 use Rattle.clap.specs.Walk.{Row, Text, all_of, first_of, one_of}
 use Rattle.clap.specs.Simple.{matches_of, subcommand_of}
-use Rattle.hwdb_cli.specs.Jobs.{IsJob, IsJobOf, IsLimit, IsTask}
-use Rattle.hwdb_cli.specs.Line.{hwdb_app}
-use Rattle.hwdb_cli.specs.declared.job.Job.{Job}
-use Rattle.hwdb_cli.specs.declared.job.Task.{Task}
-use Rattle.hwdb_cli.specs.declared.job.Task.TheVariants.{Ask, Check, Device, Diff, Dump, Explain, List as ListHits, Near, Query, Update, Verify}
+use Rattle.hwdb_spec.specs.Jobs.{IsJob, IsJobOf, IsLimit, IsTask}
+use Rattle.hwdb_spec.specs.CommandLine.{hwdb_app}
+use Rattle.hwdb_spec.specs.declared.job.Job.{Job}
+use Rattle.hwdb_spec.specs.declared.job.Task.{Task}
+use Rattle.hwdb_spec.specs.declared.job.Task.TheVariants.{Ask, Check, Device, Diff, Dump, Explain, List as ListHits, Near, Query, Update, Verify}
 use Rattle.hwdb_spec.specs.Outputs.{Texts}
 use Rattle.hwdb_spec.specs.Runs.{AreKept, OnOut, Printed, World}
 use Rattle.hwdb_spec.specs.Store.{Contents, Outcomes}
@@ -23,11 +23,11 @@ use Rattle.hwdb_spec.specs.Databases.{IsSummary}
 use Rattle.hwdb_spec.specs.NearAsked.{IsNear, near_form, near_limit}
 use Rattle.hwdb_spec.specs.DeviceAsked.{device_form}
 use Rattle.hwdb_spec.specs.declared.devices.DeviceForm.{DeviceForm}
-use Rattle.hwdb_tool.specs.Queries.{AreAnswered, IfNamed, IsQuiet}
-use Rattle.hwdb_print.specs.declared.form.Form.{Form}
-use Rattle.hwdb_print.specs.declared.form.Form.TheVariants as form
+use Rattle.hwdb_spec.specs.Queries.{AreAnswered, IfNamed, IsQuiet}
+use Rattle.hwdb_spec.specs.declared.form.Form.{Form}
+use Rattle.hwdb_spec.specs.declared.form.Form.TheVariants as form
 use Rattle.hwdb_spec.specs.Given.{is_input}
-use Rattle.hwdb_tool.specs.Program.{IsDeviceAnswer, IsDone, IsTaskDone, root_of}
+use Rattle.hwdb_spec.specs.Program.{IsDeviceAnswer, IsDone, IsTaskDone, root_of}
 use Rattle.hwdb_tool.specs.OneOutcome.{DoneIsNotTold, JobsAreOne, TasksAreOne, scene_of}
 
 pub one_value : (o : Option (List ℕ)) (a b : List ℕ) → Some a ≡ o → Some b ≡ o → a ≡ b

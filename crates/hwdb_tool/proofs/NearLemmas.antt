@@ -9,12 +9,12 @@ use Rattle.hwdb_spec.specs.Near.{PatternAt}
 use Rattle.hwdb_spec.specs.NearAsked.{IsNear, database_patterns, patterns_from}
 use Rattle.hwdb_spec.specs.Store.{Contents}
 use Rattle.hwdb_near.specs.Refusals.{IsNearRefusal}
-use Rattle.hwdb_near.specs.declared.errors.NearError.{NearError}
-use Rattle.hwdb_near.specs.declared.errors.NearError.TheVariants as comparing
-use Rattle.hwdb_print.specs.Databases.{IsDatabaseRefusal}
-use Rattle.hwdb_tool.specs.NearMisses.{IsNearRefused, error_of}
-use Rattle.hwdb_tool.specs.Undone.{IsGivenUnread, IsUnanswered}
-use Rattle.hwdb_fs.specs.declared.refusals.Refusal.{Refusal}
+use Rattle.hwdb_spec.specs.declared.errors.NearError.{NearError}
+use Rattle.hwdb_spec.specs.declared.errors.NearError.TheVariants as comparing
+use Rattle.hwdb_spec.specs.DatabaseErrors.{IsDatabaseRefusal}
+use Rattle.hwdb_spec.specs.NearErrors.{IsNearRefused, error_of}
+use Rattle.hwdb_spec.specs.Undone.{IsGivenUnread, IsUnanswered}
+use Rattle.hwdb_spec.specs.declared.refusals.Refusal.{Refusal}
 
 -- an error of the comparison is one of a database
 pub compared_error : (bytes : List ℕ) (error : NearError) → IsNearRefusal bytes error → IsDatabaseRefusal bytes (error_of error)

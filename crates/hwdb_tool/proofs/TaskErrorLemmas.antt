@@ -3,8 +3,8 @@ use Rattle.std.proofs.Common.{◌≡◌, ◌⊎◌, ◌∙◌, ◌==◌, inl, in
 use Rattle.std.proofs.lemmas.List.{append-nil}
 use Rattle.std.specs.Io.KnownBytes.{Appends}
 use Rattle.std.specs.Prelude.{option_map}
-use Rattle.hwdb_cli.specs.declared.job.Task.{Task}
-use Rattle.hwdb_cli.specs.declared.job.Task.TheVariants.{Ask, Check, Device, Diff, Dump, Explain, List as ListHits, Near, Query, Update, Verify}
+use Rattle.hwdb_spec.specs.declared.job.Task.{Task}
+use Rattle.hwdb_spec.specs.declared.job.Task.TheVariants.{Ask, Check, Device, Diff, Dump, Explain, List as ListHits, Near, Query, Update, Verify}
 use Rattle.hwdb_spec.specs.Asked.{IsAnswered}
 use Rattle.hwdb_spec.specs.CheckedFiles.{AreCheckedFiles, AreChosenFiles, AreNamedFiles, StandFor}
 use Rattle.hwdb_spec.specs.Databases.{IsTextOf}
@@ -20,23 +20,23 @@ use Rattle.hwdb_spec.specs.Outputs.{Texts}
 use Rattle.hwdb_spec.specs.Runs.{OnOut, Told, World}
 use Rattle.hwdb_spec.specs.Store.{Contents, InPlace, Outcomes}
 use Rattle.hwdb_spec.specs.System.{database_folder}
-use Rattle.hwdb_print.specs.Streams.{texts_of}
-use Rattle.hwdb_print.specs.declared.form.Form.{Form}
-use Rattle.hwdb_print.specs.declared.form.Form.TheVariants as forms
-use Rattle.hwdb_fs.specs.declared.refusals.Refusal.{Refusal}
+use Rattle.hwdb_spec.specs.Streams.{texts_of}
+use Rattle.hwdb_spec.specs.declared.form.Form.{Form}
+use Rattle.hwdb_spec.specs.declared.form.Form.TheVariants as forms
+use Rattle.hwdb_spec.specs.declared.refusals.Refusal.{Refusal}
 use Rattle.hwdb_tool.specs.OneOutcome.{IsOneInput, ListingsGiveOneChoice, ListingsGiveOneReading, Scene, TellOne, scene_of}
 use Rattle.hwdb_tool.specs.OneRefusal.{DoneIsNoError, ErrorsAreOne, IsOfChecked, IsOfCompared, IsOfDatabase, IsOfListing, IsOfNamedFolder, IsOfWhatIsRead, IsOneEnd, IsOneError, NeverFails, IsCovered}
-use Rattle.hwdb_tool.specs.Program.{IsTaskDone}
-use Rattle.hwdb_tool.specs.Queries.{AreAnsweredFrom, AreUnansweredFrom, IfNamed}
-use Rattle.hwdb_tool.specs.TaskRefusals.{IsNotDone, MayPrint}
-use Rattle.hwdb_tool.specs.ComparedDatabases.{IsDiffRefused}
-use Rattle.hwdb_tool.specs.NamedDatabases.{IsDumpRefused, IsVerifyRefused}
-use Rattle.hwdb_tool.specs.NearMisses.{IsNearRefused}
-use Rattle.hwdb_tool.specs.Readable.{AreAllRead}
-use Rattle.hwdb_tool.specs.Reasons.{HasFilesReason}
-use Rattle.hwdb_tool.specs.CheckedReasons.{HasCheckedReason, HasNamedReason}
-use Rattle.hwdb_tool.specs.GivenFolders.{AreFoldersUnread, IsNamedUnread}
-use Rattle.hwdb_tool.specs.Undone.{AreUncheckable, IsGivenUnread, IsAskRefused, IsCheckRefused, IsUnanswered, IsUnprinted, IsUnwritable}
+use Rattle.hwdb_spec.specs.Program.{IsTaskDone}
+use Rattle.hwdb_spec.specs.Queries.{AreAnsweredFrom, AreUnansweredFrom, IfNamed}
+use Rattle.hwdb_spec.specs.TaskRefusals.{IsNotDone, MayPrint}
+use Rattle.hwdb_spec.specs.ComparedDatabases.{IsDiffRefused}
+use Rattle.hwdb_spec.specs.NamedDatabases.{IsDumpRefused, IsVerifyRefused}
+use Rattle.hwdb_spec.specs.NearErrors.{IsNearRefused}
+use Rattle.hwdb_spec.specs.Readable.{AreAllRead}
+use Rattle.hwdb_spec.specs.Reasons.{HasFilesReason}
+use Rattle.hwdb_spec.specs.CheckedReasons.{HasCheckedReason, HasNamedReason}
+use Rattle.hwdb_spec.specs.GivenFolders.{AreFoldersUnread, IsNamedUnread}
+use Rattle.hwdb_spec.specs.Undone.{AreUncheckable, IsGivenUnread, IsAskRefused, IsCheckRefused, IsUnanswered, IsUnprinted, IsUnwritable}
 use Rattle.hwdb_tool.proofs.DatabaseErrorLemmas.{OneHeader, OneTree, Unanswered, Undumped, Unlisted, Unverified, answer_answer, answer_done, dump_done, dump_dump, list_done, list_list, unanswered, undumped, unlisted, unverified, verify_done, verify_verify}
 use Rattle.hwdb_tool.proofs.AskErrorLemmas.{OneForm, Unasked, ask_ask, ask_done, unasked_file}
 use Rattle.hwdb_tool.proofs.RefusalLemmas.{NeverNamed}

@@ -3,8 +3,8 @@ use Rattle.std.proofs.Common.{◌≡◌, ◌∙◌, inl, inr, ap, refl, sym, sub
 use Rattle.std.specs.Prelude.{option_map}
 use Rattle.std.specs.Option.{option_map_or}
 use Rattle.std.specs.Io.KnownBytes.{Appends}
-use Rattle.hwdb_cli.specs.declared.job.Task.{Task}
-use Rattle.hwdb_cli.specs.declared.job.Task.TheVariants.{Ask, Check, Device, Diff, Dump, Explain, List as ListHits, Near, Query, Update, Verify}
+use Rattle.hwdb_spec.specs.declared.job.Task.{Task}
+use Rattle.hwdb_spec.specs.declared.job.Task.TheVariants.{Ask, Check, Device, Diff, Dump, Explain, List as ListHits, Near, Query, Update, Verify}
 use Rattle.hwdb_spec.specs.Done.{AreAskTexts, IsUpdated}
 use Rattle.hwdb_spec.specs.Databases.{IsDiffText, IsDifferent, IsSummary, IsTextOf}
 use Rattle.hwdb_spec.specs.Assignment.{Position}
@@ -20,15 +20,15 @@ use Rattle.hwdb_spec.specs.Hiding.{hiding_text}
 use Rattle.hwdb_spec.specs.Progress.{listing, update_text}
 use Rattle.hwdb_spec.specs.Runs.{Files, Printed, Told, World}
 use Rattle.hwdb_spec.specs.Store.{Contents, InPlace, Outcomes, Same}
-use Rattle.hwdb_tool.specs.Program.{IsAnswerOf, IsTaskDone, streams}
+use Rattle.hwdb_spec.specs.Program.{IsAnswerOf, IsTaskDone, streams}
 use Rattle.hwdb_spec.specs.System.{asked_database, bytes_at, database_folder}
 use Rattle.hwdb_spec.specs.Texts.{devices_of, query_text}
 use Rattle.hwdb_spec.specs.Tree.{Map, Tree, map_of_files}
 use Rattle.hwdb_spec.specs.Written.{IsWritten}
 use Rattle.hwdb_query.specs.Laws.{SpellsOne}
-use Rattle.hwdb_print.specs.declared.form.Form.{Form}
-use Rattle.hwdb_print.specs.declared.form.Form.TheVariants as forms
-use Rattle.hwdb_print.specs.Streams.{texts_of}
+use Rattle.hwdb_spec.specs.declared.form.Form.{Form}
+use Rattle.hwdb_spec.specs.declared.form.Form.TheVariants as forms
+use Rattle.hwdb_spec.specs.Streams.{texts_of}
 use Rattle.hwdb_spec.specs.CheckedFiles.{AreCheckedFiles, StandFor}
 use Rattle.hwdb_spec.specs.DeviceAsked.{IsDevicePrinted, IsOfDevice, device_form, device_list, device_meant}
 use Rattle.hwdb_spec.specs.DeviceTexts.{device_text}
@@ -36,14 +36,14 @@ use Rattle.hwdb_spec.specs.DeviceTree.{Sight, sysfs_below}
 use Rattle.hwdb_spec.specs.Sysfs.{Device as SeenDevice}
 use Rattle.hwdb_spec.specs.Outputs.{Texts}
 use Rattle.hwdb_spec.specs.declared.devices.DeviceForm.{DeviceForm}
-use Rattle.hwdb_tool.specs.Devices.{asked_names}
+use Rattle.hwdb_spec.specs.DeviceErrors.{asked_names}
 use Rattle.hwdb_spec.specs.Near.{PatternAt}
 use Rattle.hwdb_spec.specs.NearAsked.{IsNear, database_patterns, near_form, near_limit, patterns_from}
 use Rattle.hwdb_spec.specs.Asked.{IsAnswered, IsFrom, IsListFrom, list_form, named_database}
 use Rattle.hwdb_spec.specs.LeftOut.{AreLeftOut, IsLeftOut, without, status_less}
-use Rattle.hwdb_fs.specs.LeftOut.{AreTold}
-use Rattle.hwdb_tool.specs.Readable.{IsUpdatedLess}
-use Rattle.hwdb_tool.specs.Queries.{AreAnsweredFrom, IfNamed}
+use Rattle.hwdb_spec.specs.LeftOutTold.{AreTold}
+use Rattle.hwdb_spec.specs.Readable.{IsUpdatedLess}
+use Rattle.hwdb_spec.specs.Queries.{AreAnsweredFrom, IfNamed}
 use Rattle.hwdb_spec.specs.LoneFile.{lone}
 use Rattle.hwdb_tool.specs.OneOutcome.{AnswersAreOne, IsFunction, IsOneAnswer, IsOneInput, IsOneOutcome, LeavesNothingOut, Scene, scene_of, ListingsGiveOneChoice, ListingsGiveOneReading}
 use Rattle.hwdb_tool.proofs.OutcomeLemmas.{one_answer, one_held, one_kept, one_map, one_place, one_said, one_status, one_taken, one_taken_then, one_text}

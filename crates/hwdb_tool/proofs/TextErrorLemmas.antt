@@ -12,20 +12,20 @@ use Rattle.hwdb_spec.specs.Lines.{byte, is, lines, numbered, pieces}
 use Rattle.hwdb_spec.specs.Store.{Contents}
 use Rattle.hwdb_spec.specs.System.{AreNamesIn, bytes_at, etc_files, usr_files}
 use Rattle.hwdb_spec.specs.Texts.{max_file}
-use Rattle.hwdb_lint.specs.Checks.{HasLongFile, IsCheckRefusal}
-use Rattle.hwdb_text.specs.declared.outcome.ScanError.{ScanError}
-use Rattle.hwdb_text.specs.declared.outcome.ScanError.TheVariants as scan
-use Rattle.hwdb_print.specs.Refusals.{refusal_of_scan}
-use Rattle.hwdb_print.specs.declared.errors.ToolError.TheVariants.{Read, Write, TooLong, TooManyFiles, TooManyLines, TooLarge, BadPosition, BadDatabase, Replace, Memory}
-use Rattle.hwdb_fs.specs.Reading.{AreUnread, IsChoiceRefused, IsFirstUnread, IsText}
-use Rattle.hwdb_fs.specs.Refusals.{HasReason, IsOver, IsUnlisted, IsUnread, IsUnreadable}
-use Rattle.hwdb_fs.specs.declared.refusals.Refusal.{Refusal}
-use Rattle.hwdb_fs.specs.declared.refusals.Refusal.TheVariants.{At, InWords, NoDatabase, Plain}
+use Rattle.hwdb_spec.specs.CheckErrors.{HasLongFile, IsCheckRefusal}
+use Rattle.hwdb_spec.specs.declared.errors.ScanError.{ScanError}
+use Rattle.hwdb_spec.specs.declared.errors.ScanError.TheVariants as scan
+use Rattle.hwdb_spec.specs.Errors.{refusal_of_scan}
+use Rattle.hwdb_spec.specs.declared.errors.ToolError.TheVariants.{Read, Write, TooLong, TooManyFiles, TooManyLines, TooLarge, BadPosition, BadDatabase, Replace, Memory}
+use Rattle.hwdb_spec.specs.Reading.{AreUnread, IsChoiceRefused, IsFirstUnread, IsText}
+use Rattle.hwdb_spec.specs.Refusals.{HasReason, IsOver, IsUnlisted, IsUnread, IsUnreadable}
+use Rattle.hwdb_spec.specs.declared.refusals.Refusal.{Refusal}
+use Rattle.hwdb_spec.specs.declared.refusals.Refusal.TheVariants.{At, InWords, NoDatabase, Plain}
 use Rattle.hwdb_tool.specs.OneOutcome.{ListingsGiveOneChoice}
 use Rattle.hwdb_tool.specs.OneRefusal.{IsOfFolders, IsOfListing, IsOfWhatIsRead, IsOneError}
-use Rattle.hwdb_tool.specs.Queries.{IsWholeInputUnread}
-use Rattle.hwdb_tool.specs.Reasons.{HasFilesReason, IsFileReason, IsFirstGiven, IsInputRead, IsReadGiven, TellsNoPath}
-use Rattle.hwdb_tool.specs.Undone.{AreNotChecked, IsGivenUnread, told_path}
+use Rattle.hwdb_spec.specs.Queries.{IsWholeInputUnread}
+use Rattle.hwdb_spec.specs.Reasons.{HasFilesReason, IsFileReason, IsFirstGiven, IsInputRead, IsReadGiven, TellsNoPath}
+use Rattle.hwdb_spec.specs.Undone.{AreNotChecked, IsGivenUnread, told_path}
 use Rattle.hwdb_tool.proofs.DiffErrorLemmas.{IsUnreadOne, held_or_unread, unread_one}
 use Rattle.hwdb_tool.proofs.RefusalLemmas.{over_over}
 

@@ -15,18 +15,18 @@ use Rattle.hwdb_spec.specs.System.{AreFilesIn, AreNamesIn, etc_files, usr_files}
 use Rattle.hwdb_spec.specs.Texts.{max_file}
 use Rattle.hwdb_spec.specs.Tree.{map_of_files}
 use Rattle.hwdb_spec.specs.Written.{IsTooLarge, IsWritten}
-use Rattle.hwdb_fs.specs.Reading.{AreUnread, AreUnreadIn, IsText}
-use Rattle.hwdb_fs.specs.Refusals.{HasReason, IsOver}
-use Rattle.hwdb_fs.specs.declared.refusals.Refusal.{Refusal}
-use Rattle.hwdb_fs.specs.declared.refusals.Refusal.TheVariants.{At, InWords, NoDatabase, Plain}
-use Rattle.hwdb_print.specs.Updates.{IsUpdateRefusal}
-use Rattle.hwdb_print.specs.declared.errors.ToolError.{ToolError}
-use Rattle.hwdb_print.specs.declared.errors.ToolError.TheVariants.{Read, Write, TooLong, TooManyFiles, TooManyLines, TooLarge, BadPosition, BadDatabase, Replace, Memory}
-use Rattle.hwdb_tool.specs.Hiding.{IsTellingUpdateRefused}
+use Rattle.hwdb_spec.specs.Reading.{AreUnread, AreUnreadIn, IsText}
+use Rattle.hwdb_spec.specs.Refusals.{HasReason, IsOver}
+use Rattle.hwdb_spec.specs.declared.refusals.Refusal.{Refusal}
+use Rattle.hwdb_spec.specs.declared.refusals.Refusal.TheVariants.{At, InWords, NoDatabase, Plain}
+use Rattle.hwdb_spec.specs.UpdateErrors.{IsUpdateRefusal}
+use Rattle.hwdb_spec.specs.declared.errors.ToolError.{ToolError}
+use Rattle.hwdb_spec.specs.declared.errors.ToolError.TheVariants.{Read, Write, TooLong, TooManyFiles, TooManyLines, TooLarge, BadPosition, BadDatabase, Replace, Memory}
+use Rattle.hwdb_spec.specs.HidingTold.{IsTellingUpdateRefused}
 use Rattle.hwdb_tool.specs.OneOutcome.{IsOneReading, ListingsGiveOneChoice, ListingsGiveOneReading}
 use Rattle.hwdb_tool.specs.OneRefusal.{IsOfFolders, IsOfListing, IsOfWhatIsRead, IsOneError}
-use Rattle.hwdb_tool.specs.Readable.{AreAllRead, IsRefusedAfter, IsRefusedLess, IsUpdateRefused}
-use Rattle.hwdb_tool.specs.Undone.{IsSelectedRefused, IsUntold, IsUpdateUndone}
+use Rattle.hwdb_spec.specs.Readable.{AreAllRead, IsRefusedAfter, IsRefusedLess, IsUpdateRefused}
+use Rattle.hwdb_spec.specs.Undone.{IsSelectedRefused, IsUntold, IsUpdateUndone}
 use Rattle.hwdb_tool.proofs.AskErrorLemmas.{OneForm}
 use Rattle.hwdb_tool.proofs.OutcomeLemmas.{one_map}
 use Rattle.hwdb_tool.proofs.TaskLemmas.{all_said, none_said}

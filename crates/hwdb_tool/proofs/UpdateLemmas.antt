@@ -6,18 +6,18 @@ use Rattle.hwdb_spec.specs.Store.{Contents}
 use Rattle.hwdb_spec.specs.System.{database_folder}
 use Rattle.hwdb_spec.specs.Progress.{given_where, update_text}
 use Rattle.hwdb_spec.specs.Texts.{max_file}
-use Rattle.hwdb_replace.specs.declared.replacement.Unreplaced.{Unreplaced}
+use Rattle.hwdb_spec.specs.declared.errors.Unreplaced.{Unreplaced}
 use Rattle.hwdb_compile.specs.declared.sources.ChosenFile.{ChosenFile}
 use Rattle.hwdb_compile.specs.Views.{ForFolders}
-use Rattle.hwdb_print.specs.Updates.{IsUpdateRefusal, OnUnreplaced, UpdateUndone}
-use Rattle.hwdb_print.specs.declared.errors.ToolError.{ToolError}
-use Rattle.hwdb_print.specs.declared.errors.ToolError.TheVariants.{Read, Write, TooLong, TooManyFiles, TooManyLines, TooLarge, BadPosition, BadDatabase, Replace, Memory}
+use Rattle.hwdb_spec.specs.UpdateErrors.{IsUpdateRefusal, OnUnreplaced, UpdateUndone}
+use Rattle.hwdb_spec.specs.declared.errors.ToolError.{ToolError}
+use Rattle.hwdb_spec.specs.declared.errors.ToolError.TheVariants.{Read, Write, TooLong, TooManyFiles, TooManyLines, TooLarge, BadPosition, BadDatabase, Replace, Memory}
 use Rattle.hwdb_tool.specs.Internal.{AreReadOf}
-use Rattle.hwdb_fs.specs.Refusals.{HasReason, IsOfUpdate}
-use Rattle.hwdb_tool.specs.Undone.{IsSelectedRefused}
+use Rattle.hwdb_spec.specs.Refusals.{HasReason, IsOfUpdate}
+use Rattle.hwdb_spec.specs.Undone.{IsSelectedRefused}
 use Rattle.hwdb_spec.specs.Asked.{database_path}
-use Rattle.hwdb_fs.specs.declared.refusals.Refusal.{Refusal}
-use Rattle.hwdb_fs.specs.declared.refusals.Refusal.TheVariants.{At, InWords, NoDatabase, Plain}
+use Rattle.hwdb_spec.specs.declared.refusals.Refusal.{Refusal}
+use Rattle.hwdb_spec.specs.declared.refusals.Refusal.TheVariants.{At, InWords, NoDatabase, Plain}
 
 is_write : ToolError → Type 0
 is_write Write = Unit {0}

@@ -5,7 +5,7 @@ use Rattle.std.proofs.lemmas.List.{take_all}
 use Rattle.std.specs.Io.KnownBytes.{Appends}
 use Rattle.hwdb_spec.specs.Failures.{HasFailed, after_failure}
 use Rattle.hwdb_spec.specs.Outputs.{CutShort, Took}
-use Rattle.hwdb_fs.specs.Refusals.{Refused}
+use Rattle.hwdb_spec.specs.Refusals.{Refused}
 
 rises : (before : ℕ) (b : Bool) → (before == 2 ^ 64 - 1) ≡ b → HasFailed before (cond b before (before + 1))
 rises before true e = inr (eqb-true before (2 ^ 64 - 1) e)

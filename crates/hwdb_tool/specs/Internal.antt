@@ -12,7 +12,7 @@ use Rattle.hwdb_spec.specs.System.{AreFilesIn, bytes_at, etc_files, usr_files}
 use Rattle.hwdb_spec.specs.Tree.{Tree}
 use Rattle.hwdb_text.specs.Views.{choice_of}
 use Rattle.hwdb_compile.specs.Views.{AreChosenOf}
-use Rattle.hwdb_fs.specs.Internal.{AreSelected}
+use Rattle.hwdb_spec.specs.Selected.{AreSelected}
 use Rattle.hwdb_fs.specs.declared.folders.Selection.{Selection}
 use Rattle.hwdb_compile.specs.declared.sources.ChosenFile.{ChosenFile}
 

@@ -10,21 +10,21 @@ use Rattle.hwdb_spec.specs.Texts.{max_file}
 use Rattle.hwdb_spec.specs.Verdicts.{verdict_text}
 use Rattle.hwdb_spec.specs.declared.DbFault.{DbFault}
 use Rattle.hwdb_reader.specs.Laws.{IsOfHeader}
-use Rattle.hwdb_print.specs.declared.errors.ToolError.{ToolError}
-use Rattle.hwdb_print.specs.declared.errors.ToolError.TheVariants.{BadDatabase, Memory, Read, Replace, TooLong, Write}
-use Rattle.hwdb_cli.specs.declared.job.WordsFault.TheVariants as words_fault
-use Rattle.hwdb_cli.specs.declared.job.Task.{Task}
-use Rattle.hwdb_cli.specs.declared.job.Task.TheVariants.{Ask, Check, Device, Diff, Dump, Explain, List as ListHits, Near, Query, Update, Verify}
+use Rattle.hwdb_spec.specs.declared.errors.ToolError.{ToolError}
+use Rattle.hwdb_spec.specs.declared.errors.ToolError.TheVariants.{BadDatabase, Memory, Read, Replace, TooLong, Write}
+use Rattle.hwdb_spec.specs.declared.job.WordsFault.TheVariants as words_fault
+use Rattle.hwdb_spec.specs.declared.job.Task.{Task}
+use Rattle.hwdb_spec.specs.declared.job.Task.TheVariants.{Ask, Check, Device, Diff, Dump, Explain, List as ListHits, Near, Query, Update, Verify}
 use Rattle.hwdb_spec.specs.Runs.{Told}
 use Rattle.hwdb_spec.specs.CheckedFiles.{StandFor, folder_of}
 use Rattle.hwdb_spec.specs.Store.{Contents, Outcomes, path_in}
-use Rattle.hwdb_tool.specs.GivenFolders.{AreFoldersUnread}
+use Rattle.hwdb_spec.specs.GivenFolders.{AreFoldersUnread}
 use Rattle.hwdb_tool.specs.OneOutcome.{IsOneInput, Scene, scene_of}
-use Rattle.hwdb_tool.specs.Program.{IsJobDone, IsTaskDone, reads_input, root_of, streams}
-use Rattle.hwdb_tool.specs.TaskRefusals.{AreRefused, IsJobRefused, IsNotDone, IsRootRefused}
-use Rattle.hwdb_fs.specs.Refusals.{IsOver}
-use Rattle.hwdb_fs.specs.declared.refusals.Refusal.{Refusal}
-use Rattle.hwdb_fs.specs.declared.refusals.Refusal.TheVariants.{At, InWords, NoDatabase, Plain}
+use Rattle.hwdb_spec.specs.Program.{IsJobDone, IsTaskDone, reads_input, root_of, streams}
+use Rattle.hwdb_spec.specs.TaskRefusals.{AreRefused, IsJobRefused, IsNotDone, IsRootRefused}
+use Rattle.hwdb_spec.specs.Refusals.{IsOver}
+use Rattle.hwdb_spec.specs.declared.refusals.Refusal.{Refusal}
+use Rattle.hwdb_spec.specs.declared.refusals.Refusal.TheVariants.{At, InWords, NoDatabase, Plain}
 
 -- the error comes of what is read: memory was granted, both outputs took what they were given, and so did the database's folder
 abbrev pub IsOfWhatIsRead : Refusal → Type 0

@@ -1,11 +1,11 @@
 -- What an answer is, and what its printing leaves.
 use Rattle.std.specs.Prelude.{◌≡◌, MatchResult, Result, IsOkAnd, ℕ}
-use Rattle.hwdb_fs.specs.declared.refusals.Refusal.{Refusal}
-use Rattle.hwdb_fs.specs.declared.refusals.Refusal.TheVariants.{Plain}
+use Rattle.hwdb_spec.specs.declared.refusals.Refusal.{Refusal}
+use Rattle.hwdb_spec.specs.declared.refusals.Refusal.TheVariants.{Plain}
 use Rattle.hwdb_spec.specs.Outputs.{Texts}
 use Rattle.hwdb_spec.specs.Runs.{Printed, PrintedPart, Told}
 use Rattle.hwdb_tool.specs.declared.answer.Answer.{Answer}
-use Rattle.hwdb_print.specs.declared.errors.ToolError.TheVariants.{Write}
+use Rattle.hwdb_spec.specs.declared.errors.ToolError.TheVariants.{Write}
 
 -- its texts
 abbrev pub texts_in : Answer → Texts

@@ -7,11 +7,11 @@ ghost use Rattle.hwdb_spec.specs.Done.{IsAsked};
 ghost use Rattle.hwdb_spec.specs.Given.{is_dash};
 ghost use Rattle.hwdb_spec.specs.Outputs.{TookOne};
 ghost use Rattle.hwdb_spec.specs.Runs.{OnOut, told_by};
-ghost use Rattle.hwdb_print.specs.Streams.{texts_of};
-ghost use Rattle.hwdb_fs.specs.Refusals.{HasReason};
-ghost use Rattle.hwdb_tool.specs.Queries.{AreDone, AreUnanswered};
-ghost use Rattle.hwdb_tool.specs.Reasons.{HasAskedReason, HasGivenReason};
-ghost use Rattle.hwdb_tool.specs.Undone.{IsAskRefused, IsListRefused, IsUnanswered};
+ghost use Rattle.hwdb_spec.specs.Streams.{texts_of};
+ghost use Rattle.hwdb_spec.specs.Refusals.{HasReason};
+ghost use Rattle.hwdb_spec.specs.Queries.{AreDone, AreUnanswered};
+ghost use Rattle.hwdb_spec.specs.Reasons.{HasAskedReason, HasGivenReason};
+ghost use Rattle.hwdb_spec.specs.Undone.{IsAskRefused, IsListRefused, IsUnanswered};
 ghost use Rattle.hwdb_tool.specs.Views.{texts_in};
 
 use crate::answer::Answer;

@@ -4,10 +4,10 @@ ghost use Rattle.hwdb_spec.specs.Store as spec;
 ghost use Rattle.hwdb_spec.specs.System as Folder;
 ghost use Rattle.hwdb_spec.specs.System.{asked_database, bytes_at};
 ghost use Rattle.hwdb_spec.specs.Texts.{max_file};
-ghost use Rattle.hwdb_fs.specs.Refusals.{HasReason, IsUnreadAt, IsUnreadable};
+ghost use Rattle.hwdb_spec.specs.Refusals.{HasReason, IsUnreadAt, IsUnreadable};
 ghost use Rattle.hwdb_spec.specs.Asked.{IsNamedPath, named_database, IsAskedPath};
-ghost use Rattle.hwdb_tool.specs.NamedDatabases.{IsUnnamed};
-ghost use Rattle.hwdb_tool.specs.Undone.{IsUnfound, IsUnreadableIf};
+ghost use Rattle.hwdb_spec.specs.NamedDatabases.{IsUnnamed};
+ghost use Rattle.hwdb_spec.specs.Undone.{IsUnfound, IsUnreadableIf};
 
 use hwdb_fs::{Refusal, System, joined, path_in};
 use hwdb_replace::DATABASE;
@@ -19,7 +19,7 @@ const USR_FOLDER: &str = "/usr/lib/udev";
 
 /// A database that was read, and where it stands.
 #[derive(Drop)]
-pub struct Found {
+pub struct FoundDatabase {
     /// Its path, with the root in front.
     pub path: String,
     /// What it holds.
@@ -27,7 +27,7 @@ pub struct Found {
 }
 
 /// The database that is asked: the one of `/etc` below the root, else the one of `/usr/lib`.
-pub fn asked<D: System>(alloc: Global, root: &str, system: &D) -> Result<Found, Refusal>
+pub fn asked<D: System>(alloc: Global, root: &str, system: &D) -> Result<FoundDatabase, Refusal>
     ensures asked { D.Store.tells → IfOk result
         (λ f. asked_database root.now (D.Store.seen system.now) ≡ Some f.bytes.items) }
     ensures path { D.Store.tells → IfOk result
@@ -54,7 +54,7 @@ fn found_in<D: System>(
     root: &str,
     folder: &str,
     system: &D,
-) -> Result<Option<Found>, Refusal>
+) -> Result<Option<FoundDatabase>, Refusal>
     ensures found { D.Store.tells → IfOk result (λ found. option_map (λ f. f.bytes.items) found
         ≡ bytes_at (D.Store.seen system.now)
         (spec.path_in (root.now ++ folder.now) spec.database_name)) }
@@ -71,7 +71,7 @@ fn found_in<D: System>(
     let folder = joined(alloc, root, folder)?;
     let path = path_in(alloc, folder.as_str(), DATABASE)?;
     match system.database(alloc, path.as_str())? {
-        Some(bytes) => Ok(Some(Found { path, bytes })),
+        Some(bytes) => Ok(Some(FoundDatabase { path, bytes })),
         None => Ok(None),
     }
 }
@@ -82,7 +82,7 @@ pub fn named<D: System>(
     root: &str,
     given: Option<&str>,
     system: &D,
-) -> Result<Found, Refusal>
+) -> Result<FoundDatabase, Refusal>
     ensures named { D.Store.tells → IfOk result
         (λ f. named_database (option_map (λ t. t.now) given.entry) root.now
         (D.Store.seen system.now) ≡ Some f.bytes.items) }
@@ -105,7 +105,7 @@ pub fn named<D: System>(
 }
 
 /// What stands at a path.
-fn given_at<D: System>(alloc: Global, path: &str, system: &D) -> Result<Found, Refusal>
+fn given_at<D: System>(alloc: Global, path: &str, system: &D) -> Result<FoundDatabase, Refusal>
     ensures bytes { D.Store.tells → IfOk result
         (λ f. bytes_at (D.Store.seen system.now) path.now ≡ Some f.bytes.items) }
     ensures path { IfOk result (λ f. string_bytes f.path ≡ path.now) }
@@ -120,7 +120,7 @@ fn given_at<D: System>(alloc: Global, path: &str, system: &D) -> Result<Found, R
 {
     let bytes = system.input(alloc, path)?;
     let path = String::from_str(alloc, path)?;
-    Ok(Found { path, bytes })
+    Ok(FoundDatabase { path, bytes })
 }
 
 /// The folder of the database that is written.

@@ -7,12 +7,12 @@ ghost use Rattle.hwdb_spec.specs.DeviceAsked.{IsDevicePrinted, IsOfDevice, devic
 ghost use Rattle.hwdb_spec.specs.DeviceTexts as texts;
 ghost use Rattle.hwdb_spec.specs.DeviceTree as tree;
 ghost use Rattle.hwdb_spec.specs.Runs.{OnOut};
-ghost use Rattle.hwdb_sysfs.specs.Answers.{sight_by};
+ghost use Rattle.hwdb_spec.specs.SysfsAnswers.{sight_by};
 ghost use Rattle.hwdb_sysfs.specs.Views.{device_of};
-ghost use Rattle.hwdb_print.specs.Databases.{IsDatabaseRefusal};
-ghost use Rattle.hwdb_fs.specs.Refusals.{HasReason};
-ghost use Rattle.hwdb_tool.specs.Devices.{IsDeviceRefused, IsNoSysfs, IsUnmeant, IsWorded, asked_names};
-ghost use Rattle.hwdb_tool.specs.Undone.{IsUnanswered};
+ghost use Rattle.hwdb_spec.specs.DatabaseErrors.{IsDatabaseRefusal};
+ghost use Rattle.hwdb_spec.specs.Refusals.{HasReason};
+ghost use Rattle.hwdb_spec.specs.DeviceErrors.{IsDeviceRefused, IsNoSysfs, IsUnmeant, IsWorded, asked_names};
+ghost use Rattle.hwdb_spec.specs.Undone.{IsUnanswered};
 ghost use Rattle.hwdb_tool.specs.Views.{texts_in};
 
 use crate::answer::Answer;

@@ -1,9 +1,9 @@
 //! `diff`: two databases that are read and compared.
 ghost use Rattle.std.specs.Prelude.{◌≡◌, ◌≤◌, if◌then◌else◌, IfOk, IfErr};
-ghost use Rattle.hwdb_fs.specs.Refusals.{HasReason, IsUnreadable};
+ghost use Rattle.hwdb_spec.specs.Refusals.{HasReason, IsUnreadable};
 ghost use Rattle.hwdb_spec.specs.Asked.{IsCompared};
 ghost use Rattle.hwdb_spec.specs.Runs.{OnOut};
-ghost use Rattle.hwdb_tool.specs.ComparedDatabases.{IsDiffRefused, IsOfDiff};
+ghost use Rattle.hwdb_spec.specs.ComparedDatabases.{IsDiffRefused, IsOfDiff};
 ghost use Rattle.hwdb_tool.specs.Views.{texts_in};
 
 use crate::answer::Answer;

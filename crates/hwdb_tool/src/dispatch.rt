@@ -2,15 +2,15 @@
 ghost use Rattle.std.specs.Prelude.{◌≡◌, ◌<◌, ◌≤◌, ◌⊎◌, false, map, option_map, string_bytes, IfOk, IfErr};
 ghost use Rattle.hwdb_spec.specs.Flushing.{HandsOn, HasHandedOn};
 ghost use Rattle.hwdb_spec.specs.Store as spec;
-ghost use Rattle.hwdb_sysfs.specs.Answers.{sight_by};
+ghost use Rattle.hwdb_spec.specs.SysfsAnswers.{sight_by};
 ghost use Rattle.hwdb_spec.specs.Runs.{files_by, told_by, world_by};
-ghost use Rattle.hwdb_cli.specs.Refusals.{AreWrong};
-ghost use Rattle.hwdb_cli.specs.Words.{AskFor};
-ghost use Rattle.hwdb_cli.specs.declared.job.Job.{Job};
-ghost use Rattle.hwdb_tool.specs.Program.{IsDone, IsUpdate, OldOrAskedFor, OldOrDone, looks_below_root, reads_input, root_of};
-ghost use Rattle.hwdb_tool.specs.TaskRefusals.{HasFailedWith, HasSucceeded, IsJobNotDone, IsRootUnread, IsSaid, refused_status};
-ghost use Rattle.hwdb_fs.specs.Refusals.{HasReason};
-ghost use Rattle.hwdb_fs.specs.declared.refusals.Refusal.TheVariants.{Plain};
+ghost use Rattle.hwdb_spec.specs.WordFaults.{AreWrong};
+ghost use Rattle.hwdb_spec.specs.Words.{AskFor};
+ghost use Rattle.hwdb_spec.specs.declared.job.Job.{Job};
+ghost use Rattle.hwdb_spec.specs.Program.{IsDone, IsUpdate, OldOrAskedFor, OldOrDone, looks_below_root, reads_input, root_of};
+ghost use Rattle.hwdb_spec.specs.TaskRefusals.{HasFailedWith, HasSucceeded, IsJobNotDone, IsRootUnread, IsSaid, refused_status};
+ghost use Rattle.hwdb_spec.specs.Refusals.{HasReason};
+ghost use Rattle.hwdb_spec.specs.declared.refusals.Refusal.TheVariants.{Plain};
 
 use crate::answers::{ask_file, explain, list};
 use crate::checks::check;

@@ -1,11 +1,11 @@
 //! `dump`: a database that is read and printed as a text file.
 ghost use Rattle.std.specs.Prelude.{◌≡◌, is_some, option_map, IfOk, IfErr};
-ghost use Rattle.hwdb_fs.specs.Refusals.{HasReason, IsInWords};
-ghost use Rattle.hwdb_tool.specs.NamedDatabases.{IsDumpRefused, IsOfDump};
+ghost use Rattle.hwdb_spec.specs.Refusals.{HasReason, IsInWords};
+ghost use Rattle.hwdb_spec.specs.NamedDatabases.{IsDumpRefused, IsOfDump};
 ghost use Rattle.hwdb_tool.specs.Views.{texts_in};
 ghost use Rattle.hwdb_spec.specs.Asked.{IsDumped, unsayable_text};
 ghost use Rattle.hwdb_spec.specs.Runs.{OnOut};
-ghost use Rattle.hwdb_tool.specs.Undone.{IsUnreadableIf};
+ghost use Rattle.hwdb_spec.specs.Undone.{IsUnreadableIf};
 
 use crate::answer::Answer;
 use crate::databases::named;

@@ -1,13 +1,13 @@
 //! The files that words name: `-` is standard input, which is read once.
 ghost use Rattle.std.specs.Prelude.{◌≡◌, ◌≤◌, ◌⊎◌, Some, true, false, codes, map, string_bytes, length, IfOk, IfErr, IfSome};
 ghost use Rattle.hwdb_spec.specs.Given.{IsGiven, is_dash, any_dash};
-ghost use Rattle.hwdb_fs.specs.Refusals.{HasReason, IsUnread, IsUnreadAt, IsUnreadable};
+ghost use Rattle.hwdb_spec.specs.Refusals.{HasReason, IsUnread, IsUnreadAt, IsUnreadable};
 ghost use Rattle.hwdb_tool.specs.Internal.{bytes_given};
-ghost use Rattle.hwdb_tool.specs.Queries.{IsOfWholeInput, IsWholeInputUnread};
-ghost use Rattle.hwdb_tool.specs.Reasons.{HasGivenReason};
+ghost use Rattle.hwdb_spec.specs.Queries.{IsOfWholeInput, IsWholeInputUnread};
+ghost use Rattle.hwdb_spec.specs.Reasons.{HasGivenReason};
 ghost use Rattle.hwdb_spec.specs.Texts.{max_file};
-ghost use Rattle.hwdb_tool.specs.Undone.{IsGivenUnread, IsUnreadGiven, told_path};
-ghost use Rattle.hwdb_fs.specs.declared.refusals.Refusal.TheVariants.{Plain};
+ghost use Rattle.hwdb_spec.specs.Undone.{IsGivenUnread, IsUnreadGiven, told_path};
+ghost use Rattle.hwdb_spec.specs.declared.refusals.Refusal.TheVariants.{Plain};
 
 use hwdb_fs::{Refusal, System};
 use hwdb_io::{Cause, MAX_BYTES, Source, read_all};

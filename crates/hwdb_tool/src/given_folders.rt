@@ -6,9 +6,9 @@ ghost use Rattle.hwdb_spec.specs.Folders.{choice, max_files, names};
 ghost use Rattle.hwdb_spec.specs.Given.{any_dash, is_dash};
 ghost use Rattle.hwdb_spec.specs.Store as spec;
 ghost use Rattle.hwdb_text.specs.Views.{choice_of};
-ghost use Rattle.hwdb_fs.specs.Refusals.{HasReason};
-ghost use Rattle.hwdb_fs.specs.declared.refusals.Refusal.TheVariants.{Plain};
-ghost use Rattle.hwdb_tool.specs.GivenFolders.{AreFoldersUnread, IsFolderUnread};
+ghost use Rattle.hwdb_spec.specs.Refusals.{HasReason};
+ghost use Rattle.hwdb_spec.specs.declared.refusals.Refusal.TheVariants.{Plain};
+ghost use Rattle.hwdb_spec.specs.GivenFolders.{AreFoldersUnread, IsFolderUnread};
 
 use crate::given::is_dash;
 use hwdb_fs::{Refusal, System, path_in};

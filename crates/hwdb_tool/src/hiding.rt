@@ -5,10 +5,10 @@ ghost use Rattle.hwdb_spec.specs.Runs.{HasTaken, files_by, told_by};
 ghost use Rattle.hwdb_spec.specs.Hiding.{hiding_line, hiding_text};
 ghost use Rattle.hwdb_spec.specs.Store as spec;
 ghost use Rattle.hwdb_spec.specs.System as Folder;
-ghost use Rattle.hwdb_tool.specs.Hiding.{IsTellingUpdateRefused, IsUpdatedTelling};
+ghost use Rattle.hwdb_spec.specs.HidingTold.{IsTellingUpdateRefused, IsUpdatedTelling};
 ghost use Rattle.hwdb_spec.specs.Done.{OldOrUpdatedLess};
-ghost use Rattle.hwdb_fs.specs.Refusals.{HasReason};
-ghost use Rattle.hwdb_tool.specs.Undone.{IsUntold, IsUnwritable};
+ghost use Rattle.hwdb_spec.specs.Refusals.{HasReason};
+ghost use Rattle.hwdb_spec.specs.Undone.{IsUntold, IsUnwritable};
 ghost use Rattle.hwdb_spec.specs.Asked.{database_path};
 
 use crate::databases::database_folder;

@@ -5,10 +5,10 @@ ghost use Rattle.hwdb_spec.specs.Outputs.{TookOne};
 ghost use Rattle.hwdb_spec.specs.Runs.{told_by};
 ghost use Rattle.hwdb_spec.specs.Texts.{devices_of};
 ghost use Rattle.hwdb_spec.specs.Databases.{IsTextOf};
-ghost use Rattle.hwdb_print.specs.Streams.{texts_of};
+ghost use Rattle.hwdb_spec.specs.Streams.{texts_of};
 ghost use Rattle.hwdb_spec.specs.Asked.{IsAnswered};
-ghost use Rattle.hwdb_tool.specs.Queries.{IsOfInput, IsStreamRefused};
-ghost use Rattle.hwdb_tool.specs.Reasons.{HasAskedReason};
+ghost use Rattle.hwdb_spec.specs.Queries.{IsOfInput, IsStreamRefused};
+ghost use Rattle.hwdb_spec.specs.Reasons.{HasAskedReason};
 
 use crate::databases::asked;
 use hwdb_fs::{Refusal, System};

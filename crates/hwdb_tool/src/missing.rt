@@ -3,10 +3,10 @@ ghost use Rattle.std.specs.Prelude.{◌≡◌, ◌++◌, List, Some, ℕ, IfErr,
 ghost use Rattle.hwdb_spec.specs.DeviceAsked as spec;
 ghost use Rattle.hwdb_spec.specs.DeviceTree as tree;
 ghost use Rattle.hwdb_spec.specs.Failures.{IsOneLine};
-ghost use Rattle.hwdb_sysfs.specs.Answers.{Answers, seen, sight_by};
+ghost use Rattle.hwdb_spec.specs.SysfsAnswers.{Answers, seen, sight_by};
 ghost use Rattle.hwdb_sysfs.specs.Finding as finding;
-ghost use Rattle.hwdb_fs.specs.Refusals.{IsInWords};
-ghost use Rattle.hwdb_tool.specs.Devices.{IsNoDevice, IsNoSysfs, IsWorded};
+ghost use Rattle.hwdb_spec.specs.Refusals.{IsInWords};
+ghost use Rattle.hwdb_spec.specs.DeviceErrors.{IsNoDevice, IsNoSysfs, IsWorded};
 
 use hwdb_fs::Refusal;
 use hwdb_io::Cause;

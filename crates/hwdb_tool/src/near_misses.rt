@@ -1,6 +1,6 @@
 //! `near`: the patterns that almost matched a device, of text files or of the database below the root. Nothing is written.
 ghost use Rattle.std.specs.Prelude.{◌≡◌, ◌==◌, true, false, not, length, map, string_bytes, IfErr, IfOk, List};
-ghost use Rattle.hwdb_fs.specs.Refusals.{HasReason};
+ghost use Rattle.hwdb_spec.specs.Refusals.{HasReason};
 ghost use Rattle.hwdb_lint.specs.Checks;
 ghost use Rattle.hwdb_near.specs.Views;
 ghost use Rattle.hwdb_spec.specs.Asked.{IsAnswered};
@@ -10,9 +10,9 @@ ghost use Rattle.hwdb_spec.specs.Folders.{Source};
 ghost use Rattle.hwdb_spec.specs.Given.{any_dash};
 ghost use Rattle.hwdb_spec.specs.NearAsked.{IsNear, database_patterns, near_form, near_limit, patterns_from};
 ghost use Rattle.hwdb_spec.specs.Runs.{OnOut};
-ghost use Rattle.hwdb_tool.specs.NearMisses.{IsNearRefused, error_of};
-ghost use Rattle.hwdb_tool.specs.Reasons.{HasFilesReason};
-ghost use Rattle.hwdb_tool.specs.Undone.{IsGivenUnread, IsUnanswered};
+ghost use Rattle.hwdb_spec.specs.NearErrors.{IsNearRefused, error_of};
+ghost use Rattle.hwdb_spec.specs.Reasons.{HasFilesReason};
+ghost use Rattle.hwdb_spec.specs.Undone.{IsGivenUnread, IsUnanswered};
 ghost use Rattle.hwdb_tool.specs.Views.{texts_in};
 
 use crate::answer::Answer;
@@ -21,7 +21,7 @@ use crate::databases::asked;
 use crate::given::input_text;
 use hwdb_fs::{Refusal, System};
 use hwdb_io::Source;
-use hwdb_near::{NearError, TextFile, near_in_database, near_in_files};
+use hwdb_near::{NearError, PatternFile, near_in_database, near_in_files};
 use hwdb_print::ToolError;
 use std::alloc::{AllocError, Global};
 
@@ -140,13 +140,13 @@ fn near_given<D: System, I: Source>(
 fn compared<'a>(
     alloc: Global,
     files: &[hwdb_lint::TextFile<'a>],
-) -> Result<Vec<TextFile<'a>>, AllocError>
+) -> Result<Vec<PatternFile<'a>>, AllocError>
     ensures { IfOk result (λ list. map Views.source_of list.items
         ≡ map Checks.source_of files.now) }
 {
     let mut list = Vec::new(alloc);
     for file in files {
-        list.push(TextFile {
+        list.push(PatternFile {
             path: file.path.as_bytes(),
             bytes: file.bytes,
         })?;

@@ -1,6 +1,6 @@
 //! Where what the program prints goes to: a sink whose reader may go away.
 ghost use Rattle.std.specs.Prelude.{◌≡◌, true, pos, Some};
-ghost use Rattle.hwdb_io.specs.declared.causes.Cause.TheVariants.{System};
+ghost use Rattle.hwdb_spec.specs.declared.causes.Cause.TheVariants.{System};
 
 use hwdb_io::{Cause, Sink, ToWrite};
 use std::io::Write;

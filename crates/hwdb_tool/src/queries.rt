@@ -5,11 +5,11 @@ ghost use Rattle.hwdb_spec.specs.Asked.{IsAnswered};
 ghost use Rattle.hwdb_spec.specs.Databases.{IsTextOf};
 ghost use Rattle.hwdb_spec.specs.Given.{is_input};
 ghost use Rattle.hwdb_spec.specs.Runs.{OnOut, told_by};
-ghost use Rattle.hwdb_print.specs.Streams.{texts_of};
-ghost use Rattle.hwdb_fs.specs.Refusals.{HasReason};
-ghost use Rattle.hwdb_tool.specs.Queries.{AreDone, AreUnanswered};
-ghost use Rattle.hwdb_tool.specs.Reasons.{HasAskedReason};
-ghost use Rattle.hwdb_tool.specs.Undone.{IsUnanswered};
+ghost use Rattle.hwdb_spec.specs.Streams.{texts_of};
+ghost use Rattle.hwdb_spec.specs.Refusals.{HasReason};
+ghost use Rattle.hwdb_spec.specs.Queries.{AreDone, AreUnanswered};
+ghost use Rattle.hwdb_spec.specs.Reasons.{HasAskedReason};
+ghost use Rattle.hwdb_spec.specs.Undone.{IsUnanswered};
 ghost use Rattle.hwdb_tool.specs.Views.{texts_in};
 
 use crate::answer::Answer;

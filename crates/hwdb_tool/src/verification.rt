@@ -1,13 +1,13 @@
 //! `verify`: a database that is read whole.
 ghost use Rattle.std.specs.Prelude.{◌≡◌, is_some, option_map, IfOk, IfErr};
 ghost use Rattle.hwdb_spec.specs.Verdicts.{verdict_text};
-ghost use Rattle.hwdb_fs.specs.Refusals.{HasReason, IsInWords};
-ghost use Rattle.hwdb_tool.specs.NamedDatabases.{IsOfVerify, IsVerifyRefused};
+ghost use Rattle.hwdb_spec.specs.Refusals.{HasReason, IsInWords};
+ghost use Rattle.hwdb_spec.specs.NamedDatabases.{IsOfVerify, IsVerifyRefused};
 ghost use Rattle.hwdb_tool.specs.Views.{texts_in};
 ghost use Rattle.hwdb_spec.specs.Asked.{IsPrinted};
 ghost use Rattle.hwdb_spec.specs.Databases.{IsSummary};
 ghost use Rattle.hwdb_spec.specs.Runs.{OnOut};
-ghost use Rattle.hwdb_tool.specs.Undone.{IsUnreadableIf};
+ghost use Rattle.hwdb_spec.specs.Undone.{IsUnreadableIf};
 
 use crate::answer::Answer;
 use crate::databases::named;

@@ -13,7 +13,7 @@ use std::marker::Model;
 /// The assignments, by pattern and key: from these to priority, line, value and path. Their texts are borrowed, not
 /// copied.
 #[derive(Drop)]
-pub struct Tree<'t> {
+pub struct Assignments<'t> {
     /// What was set, one after another.
     pub(crate) entries: Vec<Setting<'t>>,
 }
@@ -27,7 +27,7 @@ fn text_of(bytes: &[u8]) -> &[u8]
     bytes
 }
 
-impl<'t> Model for Tree<'t> {
+impl<'t> Model for Assignments<'t> {
     ghost use Rattle.hwdb_spec.specs.Tree.{Map, surviving};
     ghost use Rattle.hwdb_writer.specs.Internal.Codes.{map_code};
     ghost use Rattle.std.specs.Prelude.{map};
@@ -43,7 +43,7 @@ impl<'t> Model for Tree<'t> {
     ghost invariant = { λ t. AllByRecursion IsStorableEntry t.entries.items };
 }
 
-impl<'t> Tree<'t> {
+impl<'t> Assignments<'t> {
     ghost use Rattle.std.specs.Prelude.{◌≡◌, ◌≤◌, ◌<◌, ◌∷◌, ℕ, List, length, IfOk, OnOk, OnErr};
     ghost use Rattle.std.specs.FinMap.{empty, insert};
     ghost use Rattle.hwdb_text.specs.Views.{origin};
@@ -55,16 +55,16 @@ impl<'t> Tree<'t> {
     pub fn new(alloc: Global) -> Self
         ensures { result ≡ empty }
     {
-        Tree {
+        Assignments {
             entries: Vec::new(alloc),
         }
     }
 
     /// A copy of the list. The texts stay borrowed.
-    pub fn copied(&self, alloc: Global) -> Result<Tree<'t>, AllocError>
+    pub fn copied(&self, alloc: Global) -> Result<Assignments<'t>, AllocError>
         ensures { IfOk result (λ tree. tree ≡ self.now) }
     {
-        Ok(Tree {
+        Ok(Assignments {
             entries: Vec::from_slice(alloc, &self.entries)?,
         })
     }
@@ -99,7 +99,7 @@ impl<'t> Tree<'t> {
 
     /// Sets the map at one place: the assignment's pattern and key. The last assignment put there stays.
     ///
-    /// As [`Tree::set`], of an assignment by itself.
+    /// As [`Assignments::set`], of an assignment by itself.
     pub fn put(&mut self, a: &'t Assignment) -> Result<(), AllocError>
         requires short { length a.now.pattern.items ≤ max_pattern }
         requires pattern { HasNoZero a.now.pattern.items }

@@ -1,6 +1,6 @@
 //! The back end of the compiler: assignments put in any order, and the database of their map.
 //!
-//! A `Tree` holds assignments by pattern and key; `put` sets one place. `write` gives the one byte string that the
+//! `Assignments` are a map from pattern and key; `put` sets one place. `write` gives the one byte string that the
 //! layout (`hwdb-internal.h`) and the map determine, whatever order the assignments were put in.
 //!
 //! The steps of a database, each a module: `assignments` are sorted by `entries`. `builder` makes `nodes` of them.
@@ -21,6 +21,7 @@ mod registry;
 mod stored;
 mod strings;
 
-pub use crate::assignments::Tree;
+pub use crate::assignments::{Assignments, Assignments as Tree};
 pub use crate::laws::{law_one_tight_tree, law_one_written_form};
-pub use crate::output::{StoreError, into_database, write};
+pub use crate::output::{into_database, write};
+pub use hwdb_spec::StoreError;

@@ -8,9 +8,8 @@ ghost use Rattle.hwdb_writer.specs.declared.nodes.BuiltNode.{BuiltNode};
 ghost use Rattle.hwdb_writer.specs.Internal.Narrow.{IsNarrow};
 ghost use Rattle.hwdb_writer.specs.Internal.PostOrder.{tree_of, IsPostOrder};
 ghost use Rattle.hwdb_writer.specs.Internal.Stored.{IsAt, AreNodes, IsStored, IsLaidOut, IsMade};
-ghost use Rattle.hwdb_writer.specs.declared.output.StoreError.TheVariants.{Memory};
 
-use crate::assignments::Tree;
+use crate::assignments::Assignments;
 use crate::builder::post_order;
 use crate::entries::last_of_each;
 use crate::keyed::KeyedStr;
@@ -20,27 +19,8 @@ use crate::records::{
 };
 use crate::stored::{Stored, StoredNode, StoredValue, store};
 use crate::strings::{in_order, places_of, section_length};
+use hwdb_spec::StoreError;
 use std::alloc::{AllocError, Global};
-use thiserror::Error;
-
-/// Why nothing was written.
-#[derive(Debug, Drop, Error)]
-pub enum StoreError {
-    /// The database would have more bytes than the limit.
-    #[error("the database would be larger than the limit")]
-    TooLarge,
-    /// An allocation failed.
-    #[error("out of memory")]
-    Memory,
-}
-
-impl From<AllocError> for StoreError {
-    ghost from_gives = { λ _ e. e ≡ Memory };
-
-    fn from(_e: AllocError) -> StoreError {
-        StoreError::Memory
-    }
-}
 
 /// The version of the tool in the header: our choice.
 const TOOL_VERSION: usize = 1;
@@ -141,7 +121,7 @@ fn database_within(
 }
 
 /// The nodes of the tight tree of what was set, with strings by number. It consumes the tree, and frees what was set.
-fn stored_nodes<'t>(alloc: Global, tree: Tree<'t>) -> Result<Stored<'t>, AllocError>
+fn stored_nodes<'t>(alloc: Global, tree: Assignments<'t>) -> Result<Stored<'t>, AllocError>
     ensures { IfOk result (λ s. (es : List Setting) × (ns : List BuiltNode) × IsStored es ns s
         × IsMade tree.entry (tree_of es ns)) }
 {
@@ -158,7 +138,11 @@ fn stored_nodes<'t>(alloc: Global, tree: Tree<'t>) -> Result<Stored<'t>, AllocEr
 /// it is in proportion to n, however long they are.
 ///
 /// The errors are `TooLarge` if the database would be longer, and `Memory` at any allocation that fails.
-pub fn into_database(alloc: Global, tree: Tree<'_>, max_bytes: u32) -> Result<Vec<u8>, StoreError>
+pub fn into_database(
+    alloc: Global,
+    tree: Assignments<'_>,
+    max_bytes: u32,
+) -> Result<Vec<u8>, StoreError>
     // The bytes are the written form of the map, which is a database of a tree with that map.
     ensures written { IfOk result (λ v. IsWritten tree.entry v.items) }
     ensures database { IfOk result (λ v. IsDatabaseOf tree.entry v.items) }
@@ -177,7 +161,7 @@ pub fn into_database(alloc: Global, tree: Tree<'_>, max_bytes: u32) -> Result<Ve
 /// its list.
 ///
 /// The errors are `TooLarge` if the database would be longer, and `Memory` at any allocation that fails.
-pub fn write(alloc: Global, tree: &Tree<'_>, max_bytes: u32) -> Result<Vec<u8>, StoreError>
+pub fn write(alloc: Global, tree: &Assignments<'_>, max_bytes: u32) -> Result<Vec<u8>, StoreError>
     // The bytes are the written form of the map, which is a database of a tree with that map.
     ensures written { IfOk result (λ v. IsWritten tree.now v.items) }
     ensures database { IfOk result (λ v. IsDatabaseOf tree.now v.items) }

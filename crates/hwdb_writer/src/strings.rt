@@ -14,7 +14,7 @@ use std::alloc::{AllocError, Global};
 
 /// The strings in order, the offset of each, and that of the first one.
 #[derive(Clone, Copy)]
-pub struct Table<'a, 't> {
+pub struct StringTable<'a, 't> {
     pub words: &'a [KeyedStr<'t>],
     pub starts: &'a [usize],
     pub first: usize,
@@ -69,7 +69,7 @@ pub fn starts(alloc: Global, words: &[KeyedStr<'_>], first: usize) -> Result<Vec
 
 /// The offset of the string, or the one at which it would belong. It is looked for first at the remembered place, and
 /// then by halving.
-fn place(table: &Table<'_, '_>, registry: &Registry, word: &KeyedStr<'_>) -> usize
+fn place(table: &StringTable<'_, '_>, registry: &Registry, word: &KeyedStr<'_>) -> usize
     requires { IsTable table.now }
     ensures { result ≡ place_in table.now word.now }
 {
@@ -90,7 +90,7 @@ fn place(table: &Table<'_, '_>, registry: &Registry, word: &KeyedStr<'_>) -> usi
 /// The offset of each of the strings by the table.
 fn places_in(
     alloc: Global,
-    table: &Table<'_, '_>,
+    table: &StringTable<'_, '_>,
     registry: &Registry,
     words: &[KeyedStr<'_>],
 ) -> Result<Vec<usize>, AllocError>
@@ -121,7 +121,7 @@ pub fn places_of(
     let mut registry = interner.registry;
     registry.remember_all(ordered);
     let starts = starts(alloc, ordered, first)?;
-    let table = Table {
+    let table = StringTable {
         words: ordered,
         starts: &starts,
         first,

@@ -11,8 +11,8 @@ use Rattle.hwdb_compile.specs.Views.{ManyLines, bytes_in, choice_in}
 use Rattle.hwdb_compile.specs.declared.sources.ChosenFile.{ChosenFile}
 use Rattle.hwdb_spec.specs.Assignment.{Assignment}
 use Rattle.hwdb_spec.specs.Tree.{Map, surviving}
-use Rattle.hwdb_compile.specs.declared.errors.CompileError.{CompileError}
-use Rattle.hwdb_compile.specs.declared.errors.CompileError.TheVariants.{Memory, TooLarge, TooManyFiles, TooManyLines}
+use Rattle.hwdb_spec.specs.declared.errors.CompileError.{CompileError}
+use Rattle.hwdb_spec.specs.declared.errors.CompileError.TheVariants.{Memory, TooLarge, TooManyFiles, TooManyLines}
 
 -- the bytes of a file in the index; none if its name isn't there
 abbrev pub bytes_at : BTreeMap (Bor (List ℕ)) (Bor (List ℕ)) → List ℕ → List ℕ

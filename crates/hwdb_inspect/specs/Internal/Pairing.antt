@@ -3,11 +3,11 @@ use Rattle.std.specs.Prelude.{List, ℕ, map, length, drop, ◌+◌}
 use Rattle.hwdb_spec.specs.Differences.{Change}
 use Rattle.hwdb_inspect.specs.Views.{assignment_of}
 use Rattle.hwdb_inspect.specs.Internal.Merging.{merged}
-use Rattle.hwdb_query.specs.declared.answer.Answer.{Answer}
+use Rattle.hwdb_query.specs.declared.answer.StoredAssignment.{StoredAssignment}
 use Rattle.hwdb_inspect.specs.declared.pairs.Pairs.{Pairs}
 
 -- the changes from one list to another
-abbrev pub told : List Answer → List Answer → List Change
+abbrev pub told : List StoredAssignment → List StoredAssignment → List Change
 told old new = merged (map assignment_of old) (map assignment_of new)
 
 -- the changes that are left

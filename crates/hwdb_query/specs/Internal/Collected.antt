@@ -2,12 +2,11 @@
 use Rattle.std.specs.Prelude.{List, filter, ◌≡◌, ℕ, Option, option_map, find, reverse}
 use Rattle.std.specs.BTreeMap.{BTreeMap, get_by}
 use Rattle.std.specs.Borrow.{Bor}
-use Rattle.hwdb_spec.specs.Assignment.{Assignment, assignment_cmp, Position, put_all}
+use Rattle.hwdb_spec.specs.Assignment.{Assignment, assignment_cmp, Position, put_all, text_cmp}
 use Rattle.std.specs.List.Sorted.{IsStrictlySortedBy}
 use Rattle.hwdb_query.specs.declared.next_page.NextPage.{NextPage}
 use Rattle.hwdb_query.specs.Internal.Hits.{after_position}
 use Rattle.hwdb_spec.specs.Answers.{is_behind, has_key}
-use Rattle.hwdb_spec.specs.Assignment.{text_cmp}
 use Rattle.hwdb_query.specs.Internal.Lists.{keep_all}
 use Rattle.hwdb_query.specs.declared.last_hits.Last.{Last}
 use Rattle.hwdb_query.specs.declared.last_hits.LastHits.{LastHits}

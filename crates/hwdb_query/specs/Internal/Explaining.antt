@@ -8,7 +8,7 @@ use Rattle.std.specs.BTreeMap.{get_by}
 use Rattle.hwdb_spec.specs.Assignment.{Assignment, assignment_cmp, text_cmp}
 use Rattle.hwdb_spec.specs.Explanations.{answers_with, explained}
 use Rattle.hwdb_query.specs.Views.{assignment_of_answer}
-use Rattle.hwdb_query.specs.declared.answer.Answer.{Answer}
+use Rattle.hwdb_query.specs.declared.answer.StoredAssignment.{StoredAssignment}
 use Rattle.hwdb_query.specs.declared.all_hits.HitValue.{HitValue}
 use Rattle.hwdb_query.specs.declared.all_hits.AllHits.{AllHits}
 use Rattle.hwdb_query.specs.declared.by_key.AnswersByKey.{AnswersByKey}
@@ -44,14 +44,14 @@ unfoldable pub AllCollects : AllHits → List Assignment → AllHits → Type 0
 AllCollects a xs b = all_shown b ≡ set_all xs (all_shown a)
 
 -- answers, the last first
-abbrev pub answers_backwards : Vec Answer Global → List Assignment
+abbrev pub answers_backwards : Vec StoredAssignment Global → List Assignment
 answers_backwards answers = reverse (map assignment_of_answer answers.items)
 
 -- a key and its answers
-abbrev pub explained_entry : Bor (List ℕ) × Vec Answer Global → List ℕ × List Assignment
+abbrev pub explained_entry : Bor (List ℕ) × Vec StoredAssignment Global → List ℕ × List Assignment
 explained_entry e = (e.0.now, answers_backwards e.1)
 
-abbrev pub backwards_or_none : Option (Vec Answer Global) → List Assignment
+abbrev pub backwards_or_none : Option (Vec StoredAssignment Global) → List Assignment
 backwards_or_none None = []
 backwards_or_none (Some answers) = answers_backwards answers
 

@@ -1,8 +1,7 @@
 -- A sorted list of keys and values, into which answers are put.
 use Rattle.std.specs.Prelude.{List, [], ℕ, ◌∷◌}
 use Rattle.std.specs.BTreeMap.{insert_entry}
-use Rattle.hwdb_spec.specs.Assignment.{Assignment}
-use Rattle.hwdb_spec.specs.Assignment.{text_cmp}
+use Rattle.hwdb_spec.specs.Assignment.{Assignment, text_cmp}
 
 -- a sorted list after some answers were put into it, each in place of what stood at its key
 unfoldable pub put_values : List (List ℕ × List ℕ) → List Assignment → List (List ℕ × List ℕ)

@@ -28,7 +28,7 @@ const ROOT_PREFIX: &str =
 /// Files of two folders by name and text, a database with their map, or none for the one that is compiled, and devices,
 /// each with how many nodes are entered for it.
 #[derive(Clone, Copy)]
-struct Row<'t> {
+struct EnteredRow<'t> {
     etc: &'t [(&'t str, &'t str)],
     usr: &'t [(&'t str, &'t str)],
     hex: &'t str,
@@ -37,86 +37,86 @@ struct Row<'t> {
 
 const BRACKETS: &str = "a[b*\n A=1\n\na[bc]x\n B=1\n\na[b\n C=1\n";
 
-const ROWS: [Row<'static>; 14] = [
-    Row {
+const ROWS: [EnteredRow<'static>; 14] = [
+    EnteredRow {
         etc: &[],
         usr: &[],
         hex: "",
         devices: &[("a", 1)],
     },
-    Row {
+    EnteredRow {
         etc: &[("1.hwdb", "a*\n K=1\n\nab\n K=2\n")],
         usr: &[],
         hex: "",
         devices: &[("ab", 4), ("ac", 3), ("x", 1), ("", 1)],
     },
-    Row {
+    EnteredRow {
         etc: &[("20-b.hwdb", "a\n K=2\n"), ("10-a.hwdb", "a\n K=1\n")],
         usr: &[],
         hex: "",
         devices: &[("a", 2)],
     },
-    Row {
+    EnteredRow {
         etc: &[("20-x.hwdb", "a\n K=1\n")],
         usr: &[("30-y.hwdb", "a*\n K=2\n"), ("20-x.hwdb", "a\n K=3\n")],
         hex: "",
         devices: &[("a", 3)],
     },
-    Row {
+    EnteredRow {
         etc: &[("1.hwdb", "x*\nx?\n K=1\n")],
         usr: &[],
         hex: "",
         devices: &[("xy", 4)],
     },
-    Row {
+    EnteredRow {
         etc: &[("1.hwdb", "x\nx\n K=1\n"), ("1.hwdb", "y\n K=1\n")],
         usr: &[],
         hex: "",
         devices: &[("x", 2)],
     },
-    Row {
+    EnteredRow {
         etc: &[("1.hwdb", BRACKETS)],
         usr: &[],
         hex: "",
         devices: &[("a[bzz", 3), ("abzz", 3), ("abx", 4), ("a[b", 3), ("q", 1)],
     },
-    Row {
+    EnteredRow {
         etc: &[("1.hwdb", BRACKETS)],
         usr: &[],
         hex: BRACKETS_BY_BYTE,
         devices: &[("abzz", 7), ("abx", 8), ("q", 1)],
     },
-    Row {
+    EnteredRow {
         etc: &[("1.hwdb", "*\n A=1\n\n\\*\n B=1\n")],
         usr: &[("a.txt", "a\n K=1\n")],
         hex: "",
         devices: &[("*", 2), ("\\q", 3)],
     },
-    Row {
+    EnteredRow {
         etc: &[("1.hwdb", "q\n K=v\n")],
         usr: &[],
         hex: ROOT_PREFIX,
         devices: &[("a", 0), ("q", 1)],
     },
-    Row {
+    EnteredRow {
         etc: &[("1.hwdb", "[[:digit:]]x\n K=1\n")],
         usr: &[],
         hex: "",
         devices: &[("5x", 2), ("d]x", 1)],
     },
-    Row {
+    EnteredRow {
         etc: &[("1.hwdb", "a\n K=K\n")],
         usr: &[],
         hex: SHARED,
         devices: &[("a", 2)],
     },
-    Row {
+    EnteredRow {
         etc: &[("1.hwdb", "ab\n K=v\n")],
         usr: &[],
         hex: "",
         devices: &[("ab", 2)],
     },
-    Row {
+    EnteredRow {
         etc: &[("1.hwdb", "ab\n K=v\n")],
         usr: &[],
         hex: PAIR_BY_BYTE,
@@ -125,7 +125,7 @@ const ROWS: [Row<'static>; 14] = [
 ];
 
 /// The database of a row.
-fn database_of(alloc: Global, row: &Row<'_>) -> Result<Vec<u8>, Fail> {
+fn database_of(alloc: Global, row: &EnteredRow<'_>) -> Result<Vec<u8>, Fail> {
     if row.hex.is_empty() {
         return compiled(alloc, row.etc, row.usr);
     }
@@ -152,7 +152,7 @@ fn enters(alloc: Global, bytes: &[u8], device: &str, nodes: u64) -> Result<bool,
 }
 
 /// Whether each device of a row enters as many nodes as it says.
-fn holds(alloc: Global, row: &Row<'_>) -> Result<bool, Fail> {
+fn holds(alloc: Global, row: &EnteredRow<'_>) -> Result<bool, Fail> {
     let bytes = database_of(alloc, row)?;
     for (device, nodes) in row.devices {
         if !enters(alloc, &bytes, device, *nodes)? {

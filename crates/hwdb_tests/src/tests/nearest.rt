@@ -1,5 +1,5 @@
 //! Which patterns are the nearest to a device, and what is printed of them. The expected texts are written by hand.
-use hwdb_near::{PatternAt, TextFile, near_json, near_text, push_patterns, stops};
+use hwdb_near::{PatternAt, PatternFile, near_json, near_text, push_patterns, stops};
 use std::alloc::{AllocError, Global};
 
 /// A pattern in lower case, one of another product, and one that matches.
@@ -11,7 +11,7 @@ const DEVICE: &[u8] = b"usb:v04D9p0024";
 /// The patterns of the file.
 fn patterns(alloc: Global) -> Result<Vec<PatternAt<'static>>, AllocError> {
     let mut all = Vec::new(alloc);
-    let file = TextFile {
+    let file = PatternFile {
         path: b"f",
         bytes: FILE,
     };

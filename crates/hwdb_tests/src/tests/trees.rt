@@ -1,7 +1,7 @@
 //! Trees that are filled by hand, with the path `/etc/udev/hwdb.d/1.hwdb` and priority 1.
 use crate::fixtures::has_no_zero;
 use hwdb_text::Assignment;
-use hwdb_writer::{StoreError, Tree, write};
+use hwdb_writer::{Assignments, StoreError, write};
 use std::alloc::{AllocError, Global};
 use std::process::Abort;
 use std::test::Fail;
@@ -42,7 +42,11 @@ fn assignments(
 }
 
 /// Puts one assignment.
-fn put<'t>(rt: &impl Abort, tree: &mut Tree<'t>, a: &'t Assignment) -> Result<(), AllocError> {
+fn put<'t>(
+    rt: &impl Abort,
+    tree: &mut Assignments<'t>,
+    a: &'t Assignment,
+) -> Result<(), AllocError> {
     assert!(rt; a.priority > 0);
     assert!(rt; a.pattern.len() <= 4096);
     assert!(rt; has_no_zero(&a.pattern));
@@ -61,7 +65,7 @@ fn database(
     max_bytes: u32,
 ) -> Result<Result<Vec<u8>, StoreError>, Fail> {
     let all = assignments(alloc, patterns, keys)?;
-    let mut tree = Tree::new(alloc);
+    let mut tree = Assignments::new(alloc);
     for one in &all {
         put(rt, &mut tree, one)?;
     }

@@ -1,7 +1,8 @@
 use Rattle.std.proofs.Common.{◌∙◌, length, ap, sym, subst, map, [], Err}
 use Rattle.hwdb_spec.specs.Progress.{within_64_bits}
 use Rattle.hwdb_spec.specs.Written.{IsDatabaseOf, IsWritten}
-use Rattle.hwdb_compile.specs.Views.{ForFolders, fault_of, IsRefusal}
+use Rattle.hwdb_compile.specs.Views.{ForFolders, fault_of}
+use Rattle.hwdb_spec.specs.CompileErrors.{IsRefusal}
 use Rattle.hwdb_compile.proofs.AcceptanceLemmas.{same_assignments, same_map, same_faults, accepted, error_given, refusal, store_refusal}
 use Rattle.hwdb_compile.proofs.compiler.compile_chosen.Goals as goal
 

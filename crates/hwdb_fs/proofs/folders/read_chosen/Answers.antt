@@ -5,9 +5,9 @@ use Rattle.hwdb_spec.specs.Folders.{path_of}
 use Rattle.hwdb_spec.specs.Texts.{max_file}
 use Rattle.hwdb_text.specs.declared.choice.Chosen.{Chosen}
 use Rattle.hwdb_text.specs.Views.{choice_of}
-use Rattle.hwdb_fs.specs.Reading.{IsChosenUnread, IsFirstUnread, IsText}
-use Rattle.hwdb_fs.specs.declared.refusals.Refusal.TheVariants.{Plain}
-use Rattle.hwdb_print.specs.declared.errors.ToolError.TheVariants.{Memory}
+use Rattle.hwdb_spec.specs.Reading.{IsChosenUnread, IsFirstUnread, IsText}
+use Rattle.hwdb_spec.specs.declared.refusals.Refusal.TheVariants.{Plain}
+use Rattle.hwdb_spec.specs.declared.errors.ToolError.TheVariants.{Memory}
 use Rattle.hwdb_fs.proofs.SelectionLemmas.{chosen_unread, first_unread, given_error, texts_more}
 use Rattle.hwdb_fs.proofs.folders.read_chosen.Goals as goal
 

@@ -3,8 +3,8 @@ use Rattle.hwdb_spec.specs.Folders.{path_of}
 use Rattle.hwdb_spec.specs.Texts.{max_file}
 use Rattle.hwdb_text.specs.declared.choice.Chosen.{Chosen}
 use Rattle.hwdb_text.specs.Views.{choice_of}
-use Rattle.hwdb_fs.specs.Internal.{AreTexts}
-use Rattle.hwdb_fs.specs.Reading.{IsText}
+use Rattle.hwdb_spec.specs.Selected.{AreTexts}
+use Rattle.hwdb_spec.specs.Reading.{IsText}
 use Rattle.hwdb_fs.proofs.folders.read_chosen.Given as goal
 
 abbrev pub invariant-loop-file : goal.invariant-loop-file

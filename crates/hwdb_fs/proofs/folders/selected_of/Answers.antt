@@ -1,12 +1,12 @@
 use Rattle.std.proofs.Common.{ℕ, List, ⊎_elim, inl, inr, ◌≡◌, ◌≤◌, All, length, map, string_bytes, ◌∙◌, ap, sym, subst, Err}
 use Rattle.std.proofs.lemmas.List.Elements.{All-map}
-use Rattle.hwdb_text.specs.Views.{IsListed, choice_of}
+use Rattle.hwdb_spec.specs.Selected.{IsListed, AreNamed, AreTexts}
+use Rattle.hwdb_text.specs.Views.{choice_of}
 use Rattle.hwdb_spec.specs.Folders.{choice, max_files, names}
 use Rattle.hwdb_spec.specs.System.{usr_files, AreNamesIn}
 use Rattle.hwdb_spec.specs.Texts.{max_file}
-use Rattle.hwdb_fs.specs.Internal.{AreNamed, AreTexts}
-use Rattle.hwdb_fs.specs.Reading.{AreUnread, IsFirstUnread}
-use Rattle.hwdb_fs.specs.Refusals.{HasReason}
+use Rattle.hwdb_spec.specs.Reading.{AreUnread, IsFirstUnread}
+use Rattle.hwdb_spec.specs.Refusals.{HasReason}
 use Rattle.hwdb_fs.proofs.ReasonLemmas.{chosen_reason, first_in_part, texts_in_part}
 use Rattle.hwdb_fs.proofs.SelectionLemmas.{choice_refused, given_error, texts_refused}
 use Rattle.hwdb_fs.proofs.folders.selected_of.Goals as goal

@@ -1,9 +1,9 @@
 use Rattle.std.proofs.Common.{◌≡◌, ◌⊎◌, ap, map, string_bytes}
 use Rattle.hwdb_text.specs.Views.{choice_of}
-use Rattle.hwdb_fs.specs.Reading.{IsChosenUnread}
-use Rattle.hwdb_fs.specs.Refusals.{IsUnreadable}
-use Rattle.hwdb_fs.specs.declared.refusals.Refusal.TheVariants.{Plain}
-use Rattle.hwdb_print.specs.declared.errors.ToolError.TheVariants.{Memory}
+use Rattle.hwdb_spec.specs.Reading.{IsChosenUnread}
+use Rattle.hwdb_spec.specs.Refusals.{IsUnreadable}
+use Rattle.hwdb_spec.specs.declared.refusals.Refusal.TheVariants.{Plain}
+use Rattle.hwdb_spec.specs.declared.errors.ToolError.TheVariants.{Memory}
 use Rattle.hwdb_fs.proofs.LeftOutLemmas.{chosen_at, handed_unread, none_told, told_more}
 use Rattle.hwdb_fs.proofs.SelectionLemmas.{given_error}
 use Rattle.hwdb_fs.proofs.left_out.find_unreadable.Goals as goal

@@ -1,7 +1,7 @@
 use Rattle.std.proofs.Common.{map, string_bytes}
 use Rattle.hwdb_text.specs.Views.{choice_of}
 use Rattle.hwdb_fs.specs.LeftOut.{AreToldOf}
-use Rattle.hwdb_fs.specs.Refusals.{IsUnreadable}
+use Rattle.hwdb_spec.specs.Refusals.{IsUnreadable}
 use Rattle.hwdb_fs.proofs.left_out.find_unreadable.Given as goal
 
 abbrev pub invariant-loop-file : goal.invariant-loop-file

@@ -1,5 +1,5 @@
 use Rattle.std.proofs.Common.{◌∷◌, [], codes}
-use Rattle.hwdb_fs.specs.Refusals.{file_text}
+use Rattle.hwdb_spec.specs.Refusals.{file_text}
 use Rattle.hwdb_fs.proofs.LeftOutLemmas.{line_pieces}
 use Rattle.hwdb_fs.proofs.left_out.push_line.Goals as goal
 

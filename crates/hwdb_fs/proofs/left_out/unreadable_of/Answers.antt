@@ -1,6 +1,7 @@
 use Rattle.std.proofs.Common.{◌∙◌, All, Err, ap, map, string_bytes, subst, sym, true}
-use Rattle.hwdb_text.specs.Views.{IsListed, choice_of}
-use Rattle.hwdb_fs.specs.Reading.{AreUnreadIn, IsChosenUnread}
+use Rattle.hwdb_spec.specs.Selected.{IsListed}
+use Rattle.hwdb_text.specs.Views.{choice_of}
+use Rattle.hwdb_spec.specs.Reading.{AreUnreadIn, IsChosenUnread}
 use Rattle.hwdb_fs.proofs.LeftOutLemmas.{are_found, chosen_reason_of}
 use Rattle.hwdb_fs.proofs.SelectionLemmas.{choice_refused, each_error, each_value, given_error, texts_refused}
 use Rattle.hwdb_fs.proofs.left_out.unreadable_of.Goals as goal

@@ -1,6 +1,6 @@
 use Rattle.std.proofs.Common.{ap, refl, sym, ◌∙◌, ◌++◌, List, [], ℕ, Option, Some}
-use Rattle.hwdb_fs.specs.Refusals.{refusal_line, file_text}
-use Rattle.hwdb_io.specs.declared.causes.Cause.{Cause}
+use Rattle.hwdb_spec.specs.Refusals.{refusal_line, file_text}
+use Rattle.hwdb_spec.specs.declared.causes.Cause.{Cause}
 use Rattle.hwdb_fs.proofs.LineLemmas.{refused_as, cause_line, two_line}
 use Rattle.hwdb_fs.proofs.refusals.refuse_file.Goals as goal
 

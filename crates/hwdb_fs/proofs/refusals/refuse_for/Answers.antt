@@ -1,6 +1,6 @@
 use Rattle.std.proofs.Common.{ap, refl, sym, ◌∙◌, List, [], ℕ}
-use Rattle.hwdb_fs.specs.Refusals.{refusal_line, refusal_text, path_text}
-use Rattle.hwdb_fs.specs.declared.refusals.Refusal.{Refusal}
+use Rattle.hwdb_spec.specs.Refusals.{refusal_line, refusal_text, path_text}
+use Rattle.hwdb_spec.specs.declared.refusals.Refusal.{Refusal}
 use Rattle.hwdb_fs.proofs.LineLemmas.{refused_as}
 use Rattle.hwdb_fs.proofs.refusals.refuse_for.Goals as goal
 

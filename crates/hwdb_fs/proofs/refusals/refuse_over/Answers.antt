@@ -1,6 +1,6 @@
 use Rattle.std.proofs.Common.{ap, refl, sym, ◌∙◌, ◌++◌, List, [], ℕ}
-use Rattle.hwdb_fs.specs.Refusals.{refusal_line, path_text}
-use Rattle.hwdb_print.specs.declared.errors.ToolError.{ToolError}
+use Rattle.hwdb_spec.specs.Refusals.{refusal_line, path_text}
+use Rattle.hwdb_spec.specs.declared.errors.ToolError.{ToolError}
 use Rattle.hwdb_fs.proofs.LineLemmas.{refused_as, two_line, plain_text}
 use Rattle.hwdb_fs.proofs.refusals.refuse_over.Goals as goal
 

@@ -1,7 +1,7 @@
 use Rattle.std.proofs.Common.{ap, sym}
-use Rattle.hwdb_fs.specs.Refusals.{refusal_line}
-use Rattle.hwdb_print.specs.Refusals.{error_text}
-use Rattle.hwdb_print.specs.declared.errors.ToolError.{ToolError}
+use Rattle.hwdb_spec.specs.Refusals.{refusal_line}
+use Rattle.hwdb_spec.specs.Errors.{error_text}
+use Rattle.hwdb_spec.specs.declared.errors.ToolError.{ToolError}
 use Rattle.hwdb_fs.proofs.LineLemmas.{refused_as}
 use Rattle.hwdb_fs.proofs.refusals.refuse_plainly.Goals as goal
 

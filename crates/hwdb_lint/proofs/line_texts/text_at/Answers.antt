@@ -3,8 +3,9 @@ use Rattle.hwdb_lint.proofs.LineLemmas.{text_at_start, text_at_end}
 use Rattle.hwdb_lint.proofs.line_texts.text_at.Goals as goal
 
 pub returns-then-start-bytes : goal.returns-then-start-bytes
-returns-then-start-bytes c = text_at_end c.args.bytes.now c.args.start c.args.number c.if-start-bytes.true c.requires.before c.requires.start
+returns-then-start-bytes c number before found =
+    text_at_end c.args.bytes.now c.args.start number c.if-start-bytes.true before c.requires
 
 pub returns : goal.returns
-returns c =
-    text_at_start c.args.bytes.now c.args.start c.end_of.result c.args.number _ c.if-start-bytes.false (take_rest c.args.bytes.now c.args.start.at) c.end_of.ensures.place c.requires.start c.requires.found
+returns c number before found =
+    text_at_start c.args.bytes.now c.args.start c.end_of.result number _ c.if-start-bytes.false (take_rest c.args.bytes.now c.args.start.at) c.end_of.ensures.place c.requires found

@@ -1,6 +1,6 @@
 use Rattle.std.proofs.Common.{◌≡◌, ◌++◌, length, map, string_bytes}
 use Rattle.hwdb_print.specs.Internal.{texts_from}
-use Rattle.hwdb_print.specs.Streams.{texts_of}
+use Rattle.hwdb_spec.specs.Streams.{texts_of}
 use Rattle.hwdb_print.proofs.device_texts.texts_of_devices.Given as goal
 
 abbrev pub invariant-answering : goal.invariant-answering

@@ -1,7 +1,7 @@
 use Rattle.std.proofs.Common.{◌∙◌, ap}
 use Rattle.hwdb_spec.specs.Failures.{after_failure}
 use Rattle.hwdb_query.specs.Views.{assignment_of_hit}
-use Rattle.hwdb_print.specs.Lookups.{line_of}
+use Rattle.hwdb_spec.specs.Listings.{line_of}
 use Rattle.hwdb_print.proofs.HitLineLemmas.{given, no_lines, not_reached, took_lines, whole_step, part_step, part_of_line, lines_step}
 use Rattle.hwdb_print.proofs.hit_lines.print_hits.Goals as goal
 

@@ -3,7 +3,7 @@ use Rattle.std.specs.Prelude.{flat_map}
 use Rattle.std.specs.Io.KnownBytes.{Appends}
 use Rattle.hwdb_spec.specs.Outputs.{AppendsPrefix}
 use Rattle.hwdb_print.specs.Internal.{AppendsLines}
-use Rattle.hwdb_print.specs.Lookups.{line_of}
+use Rattle.hwdb_spec.specs.Listings.{line_of}
 use Rattle.hwdb_spec.specs.Texts.{within_limit}
 use Rattle.hwdb_print.proofs.hit_lines.print_hits.Given as goal
 

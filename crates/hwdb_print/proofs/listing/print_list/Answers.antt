@@ -6,7 +6,7 @@ use Rattle.hwdb_spec.specs.Folders.{all_assignments}
 use Rattle.hwdb_spec.specs.Texts.{within_limit}
 use Rattle.hwdb_spec.specs.Tree.{answers_after}
 use Rattle.hwdb_query.specs.Views.{Progress, next_position}
-use Rattle.hwdb_print.specs.Lookups.{line_of}
+use Rattle.hwdb_spec.specs.Listings.{line_of}
 use Rattle.hwdb_print.proofs.HitLineLemmas.{last_list_is, list_is}
 use Rattle.hwdb_print.proofs.RefusalLemmas.{lent_position, list_without_memory}
 use Rattle.hwdb_print.proofs.listing.print_list.Goals as goal

@@ -4,7 +4,8 @@ use Rattle.hwdb_spec.specs.Outputs.{AppendsPrefix}
 use Rattle.hwdb_spec.specs.ManyDevices.{HasLongLine}
 use Rattle.hwdb_spec.specs.Texts.{devices_of, max_file}
 use Rattle.hwdb_print.specs.Internal.{texts_from}
-use Rattle.hwdb_print.specs.Streams.{texts_of, to_come}
+use Rattle.hwdb_spec.specs.Streams.{texts_of}
+use Rattle.hwdb_print.specs.Streams.{to_come}
 use Rattle.hwdb_print.proofs.streaming.answer_lines.Given as goal
 
 abbrev pub invariant-answering : goal.invariant-answering

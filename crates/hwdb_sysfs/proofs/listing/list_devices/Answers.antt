@@ -1,6 +1,6 @@
 use Rattle.std.proofs.Common.{ap, append-nil, codes, map, sym, List, ◌++◌, ℕ, ◌∙◌, Vec, Global}
 use Rattle.hwdb_spec.specs.DeviceTree.{devices_in, others_in}
-use Rattle.hwdb_sysfs.specs.Answers.{seen}
+use Rattle.hwdb_spec.specs.SysfsAnswers.{seen}
 use Rattle.hwdb_sysfs.proofs.LinkLemmas.{items, others_more}
 use Rattle.hwdb_sysfs.proofs.listing.list_devices.Goals as goal
 

@@ -2,7 +2,7 @@ use Rattle.std.proofs.Common.{ap, map, List, ◌++◌, [], ℕ, ◌∙◌}
 use Rattle.std.specs.List.{cons_option}
 use Rattle.hwdb_spec.specs.DeviceTree.{device_of_path}
 use Rattle.hwdb_spec.specs.Store.{path_in}
-use Rattle.hwdb_sysfs.specs.Answers.{seen}
+use Rattle.hwdb_spec.specs.SysfsAnswers.{seen}
 use Rattle.hwdb_sysfs.proofs.LinkLemmas.{found_all, found_more, items}
 use Rattle.hwdb_sysfs.proofs.listing.push_devices.Goals as goal
 

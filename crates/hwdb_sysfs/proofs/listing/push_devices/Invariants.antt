@@ -2,7 +2,7 @@ use Rattle.std.proofs.Common.{◌≡◌, ◌++◌, map, take}
 use Rattle.std.specs.Prelude.{filter_map}
 use Rattle.hwdb_spec.specs.DeviceTree as tree
 use Rattle.hwdb_spec.specs.Store.{path_in}
-use Rattle.hwdb_sysfs.specs.Answers.{seen}
+use Rattle.hwdb_spec.specs.SysfsAnswers.{seen}
 use Rattle.hwdb_sysfs.proofs.listing.push_devices.Given as goal
 
 abbrev pub invariant-loop-name : goal.invariant-loop-name

@@ -2,7 +2,7 @@ use Rattle.std.proofs.Common.{◌≡◌, ◌++◌, ◌∷◌, ◌≤◌, length,
 use Rattle.std.specs.Prelude.{filter_map}
 use Rattle.hwdb_spec.specs.DeviceTree as tree
 use Rattle.hwdb_spec.specs.Lines.{is, pieces}
-use Rattle.hwdb_sysfs.specs.Answers.{seen}
+use Rattle.hwdb_spec.specs.SysfsAnswers.{seen}
 use Rattle.hwdb_sysfs.specs.Views.{ancestor_of}
 use Rattle.hwdb_sysfs.proofs.reading.chain_at.Given as goal
 

@@ -3,7 +3,8 @@ use Rattle.std.specs.String.{string_bytes}
 use Rattle.std.proofs.lemmas.List.Elements.{All-same}
 use Rattle.hwdb_text.specs.Internal.Choosing.{entry_of, with_priorities}
 use Rattle.hwdb_spec.specs.Folders.{choice}
-use Rattle.hwdb_text.specs.Views.{IsListed, IsStorableChoice}
+use Rattle.hwdb_spec.specs.Selected.{IsListed}
+use Rattle.hwdb_text.specs.Views.{IsStorableChoice}
 use Rattle.hwdb_text.proofs.StoreLemmas.{choices_storable}
 use Rattle.hwdb_text.proofs.ListLemmas.{choices_listed}
 use Rattle.hwdb_text.proofs.TakeLemmas.{choice_is, as_many, both_put}

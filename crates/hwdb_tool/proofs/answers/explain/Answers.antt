@@ -1,8 +1,8 @@
 use Rattle.std.proofs.Common.{◌∙◌, inl, subst, sym, IfErr, [], ◌∷◌}
-use Rattle.hwdb_print.specs.declared.form.Form.TheVariants.{Explain}
+use Rattle.hwdb_spec.specs.declared.form.Form.TheVariants.{Explain}
 use Rattle.hwdb_spec.specs.Given.{is_dash}
 use Rattle.hwdb_spec.specs.Runs.{told_by}
-use Rattle.hwdb_tool.specs.Reasons.{HasAskedReason}
+use Rattle.hwdb_spec.specs.Reasons.{HasAskedReason}
 use Rattle.hwdb_tool.proofs.AnswerLemmas.{printed_reason, unanswered_asked}
 use Rattle.hwdb_tool.proofs.ErrorLemmas.{both_errors}
 use Rattle.hwdb_tool.proofs.PrintingLemmas.{streamed_done}

@@ -2,7 +2,7 @@ use Rattle.std.proofs.Common.{map, string_bytes, ap, ◌∙◌, ◌≡◌}
 use Rattle.hwdb_spec.specs.Folders.{path_of}
 use Rattle.hwdb_text.specs.Views.{choice_of}
 use Rattle.hwdb_spec.specs.CheckedFiles.{AreChosenFiles}
-use Rattle.hwdb_fs.specs.Reading.{AreUnread}
+use Rattle.hwdb_spec.specs.Reading.{AreUnread}
 use Rattle.hwdb_tool.proofs.CheckLemmas.{all_checked, chosen_sources, not_checked}
 use Rattle.hwdb_tool.proofs.checks.check_chosen.Goals as goal
 

@@ -1,6 +1,6 @@
 use Rattle.std.proofs.Common.{◌∙◌, ap, inl, inr, refl, sym, true, false}
 use Rattle.std.specs.Prelude.{option_map}
-use Rattle.hwdb_tool.specs.Undone.{IsUnfound}
+use Rattle.hwdb_spec.specs.Undone.{IsUnfound}
 use Rattle.hwdb_spec.specs.Asked.{database_path}
 use Rattle.hwdb_tool.proofs.AnswerLemmas.{unfound}
 use Rattle.hwdb_tool.proofs.ErrorLemmas.{given_error}

@@ -1,8 +1,8 @@
 use Rattle.std.proofs.Common.{ap, map, List, ◌++◌, ℕ, ◌∙◌}
 use Rattle.hwdb_spec.specs.DeviceTexts.{device_row}
 use Rattle.hwdb_spec.specs.DeviceTree.{device_at}
-use Rattle.hwdb_sysfs.specs.Answers.{sight_by}
-use Rattle.hwdb_tool.specs.Devices.{asked_names}
+use Rattle.hwdb_spec.specs.SysfsAnswers.{sight_by}
+use Rattle.hwdb_spec.specs.DeviceErrors.{asked_names}
 use Rattle.hwdb_tool.proofs.DeviceLemmas.{items, rows_all, rows_more}
 use Rattle.hwdb_tool.proofs.devices.list_text.Goals as goal
 

@@ -1,8 +1,8 @@
 use Rattle.std.proofs.Common.{◌≡◌, flat_map, map, take}
 use Rattle.hwdb_spec.specs.DeviceTexts.{device_row}
 use Rattle.hwdb_spec.specs.DeviceTree.{device_at}
-use Rattle.hwdb_sysfs.specs.Answers.{sight_by}
-use Rattle.hwdb_tool.specs.Devices.{asked_names}
+use Rattle.hwdb_spec.specs.SysfsAnswers.{sight_by}
+use Rattle.hwdb_spec.specs.DeviceErrors.{asked_names}
 use Rattle.hwdb_tool.proofs.devices.list_text.Given as goal
 
 abbrev pub invariant-loop-place : goal.invariant-loop-place

@@ -1,6 +1,6 @@
 use Rattle.std.proofs.Common.{◌≡◌, ◌⊎◌, ap, inl, inr, ⊎_elim, refl, string_bytes, subst, sym, ◌==◌, length, map, not, IfOk, IfErr}
 use Rattle.std.specs.Prelude.{option_map}
-use Rattle.hwdb_cli.specs.declared.job.Task.TheVariants.{Ask, Check, Device, Diff, Near, Update}
+use Rattle.hwdb_spec.specs.declared.job.Task.TheVariants.{Ask, Check, Device, Diff, Near, Update}
 use Rattle.hwdb_spec.specs.Asked.{IsAnswered, IsCompared, IsListFrom}
 use Rattle.hwdb_spec.specs.CheckedFiles.{AreCheckedFiles, IsChecked}
 use Rattle.hwdb_spec.specs.Done.{IsAsked, IsLeftByUpdateLess, OldOrUpdatedLess}
@@ -8,16 +8,16 @@ use Rattle.hwdb_spec.specs.Given.{is_dash}
 use Rattle.hwdb_spec.specs.Outputs.{TookOne}
 use Rattle.hwdb_spec.specs.Runs.{OnOut, World, files_by, told_by}
 use Rattle.hwdb_spec.specs.NearAsked.{IsNear, near_form, near_limit}
-use Rattle.hwdb_sysfs.specs.Answers.{sight_by}
-use Rattle.hwdb_tool.specs.ComparedDatabases.{IsDiffRefused}
-use Rattle.hwdb_tool.specs.NearMisses.{IsNearRefused}
+use Rattle.hwdb_spec.specs.SysfsAnswers.{sight_by}
+use Rattle.hwdb_spec.specs.ComparedDatabases.{IsDiffRefused}
+use Rattle.hwdb_spec.specs.NearErrors.{IsNearRefused}
 use Rattle.hwdb_spec.specs.DeviceAsked.{IsDevicePrinted, device_form}
-use Rattle.hwdb_tool.specs.Devices.{IsDeviceRefused, asked_names}
-use Rattle.hwdb_tool.specs.Program.{IsAnswerOf, IsDeviceAnswer, IsTaskDone, OldOrDone, root_of, skips}
-use Rattle.hwdb_tool.specs.CheckedReasons.{HasCheckedReason}
-use Rattle.hwdb_tool.specs.Reasons.{HasFilesReason, HasGivenReason}
-use Rattle.hwdb_tool.specs.Undone.{AreUncheckable, IsAskRefused, IsCheckRefused}
-use Rattle.hwdb_tool.specs.TaskRefusals.{IsNotDone, IsTaskReason, Refuses}
+use Rattle.hwdb_spec.specs.DeviceErrors.{IsDeviceRefused, asked_names}
+use Rattle.hwdb_spec.specs.Program.{IsAnswerOf, IsDeviceAnswer, IsTaskDone, OldOrDone, root_of, skips}
+use Rattle.hwdb_spec.specs.CheckedReasons.{HasCheckedReason}
+use Rattle.hwdb_spec.specs.Reasons.{HasFilesReason, HasGivenReason}
+use Rattle.hwdb_spec.specs.Undone.{AreUncheckable, IsAskRefused, IsCheckRefused}
+use Rattle.hwdb_spec.specs.TaskRefusals.{IsNotDone, IsTaskReason, Refuses}
 use Rattle.hwdb_tool.specs.Views.{texts_in}
 use Rattle.hwdb_tool.proofs.MomentLemmas.{leaves_more}
 use Rattle.hwdb_tool.proofs.ErrorLemmas.{both_errors, both_values, each_error, each_value}

@@ -1,7 +1,7 @@
 use Rattle.std.proofs.Common.{◌∙◌, ap, inl, inr, ⊎_elim, string_bytes, subst, sym, Err, Some, true, ◌≤◌, length, List, ℕ}
 use Rattle.hwdb_spec.specs.Texts.{max_file}
-use Rattle.hwdb_tool.specs.Queries.{IsOfInput}
-use Rattle.hwdb_tool.specs.Reasons.{HasAskedReason}
+use Rattle.hwdb_spec.specs.Queries.{IsOfInput}
+use Rattle.hwdb_spec.specs.Reasons.{HasAskedReason}
 use Rattle.hwdb_tool.proofs.AnswerLemmas.{if_bad, stream_reason, streamed, unfound_asked}
 use Rattle.hwdb_tool.proofs.ErrorLemmas.{given_error}
 use Rattle.hwdb_tool.proofs.input_devices.answer_input.Goals as goal

@@ -5,7 +5,7 @@ use Rattle.hwdb_lint.specs.Checks
 use Rattle.hwdb_near.specs.Views
 use Rattle.hwdb_spec.specs.Folders.{Source}
 use Rattle.hwdb_spec.specs.NearAsked.{near_form, patterns_from}
-use Rattle.hwdb_tool.specs.Reasons.{HasFilesReason}
+use Rattle.hwdb_spec.specs.Reasons.{HasFilesReason}
 use Rattle.hwdb_tool.proofs.CheckLemmas.{IsShort, given_sources, told_of}
 use Rattle.hwdb_tool.proofs.ErrorLemmas.{given_error}
 use Rattle.hwdb_tool.proofs.GivenLemmas.{files_reason, input_read, whole_reason}

@@ -1,8 +1,8 @@
 use Rattle.std.proofs.Common.{inl, inr, refl, subst, sym}
-use Rattle.hwdb_fs.specs.LeftOut.{AreTold}
+use Rattle.hwdb_spec.specs.LeftOutTold.{AreTold}
 use Rattle.hwdb_spec.specs.LeftOut.{without}
 use Rattle.hwdb_spec.specs.Runs.{HasTaken, WasCut, files_by, told_by}
-use Rattle.hwdb_tool.specs.Readable.{IsUpdateRefused}
+use Rattle.hwdb_spec.specs.Readable.{IsUpdateRefused}
 use Rattle.hwdb_tool.proofs.ErrorLemmas.{given_error}
 use Rattle.hwdb_tool.proofs.FlushLemmas.{hands_on_twice}
 use Rattle.hwdb_tool.proofs.FolderLemmas.{all_read}

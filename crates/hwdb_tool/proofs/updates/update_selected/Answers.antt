@@ -3,16 +3,16 @@ use Rattle.std.specs.Io.KnownBytes.{Appends}
 use Rattle.hwdb_spec.specs.Progress.{given_where, update_text}
 use Rattle.hwdb_text.specs.Views.{choice_of}
 use Rattle.hwdb_compile.specs.Views.{ForFolders}
-use Rattle.hwdb_print.specs.declared.errors.ToolError.TheVariants.{Memory}
+use Rattle.hwdb_spec.specs.declared.errors.ToolError.TheVariants.{Memory}
 use Rattle.hwdb_spec.specs.Runs.{WasCut, files_by, told_by}
-use Rattle.hwdb_print.specs.Updates.{OnUnreplaced, UpdateUndone}
+use Rattle.hwdb_spec.specs.UpdateErrors.{OnUnreplaced, UpdateUndone}
 use Rattle.hwdb_spec.specs.Store.{InPlace, database_name, path_in}
 use Rattle.hwdb_spec.specs.System.{database_folder}
 use Rattle.hwdb_tool.specs.Internal.{AreReadOf}
-use Rattle.hwdb_fs.specs.Refusals.{IsOfUpdate}
-use Rattle.hwdb_tool.specs.Undone.{IsSelectedRefused, IsUnwritable}
+use Rattle.hwdb_spec.specs.Refusals.{IsOfUpdate}
+use Rattle.hwdb_spec.specs.Undone.{IsSelectedRefused, IsUnwritable}
 use Rattle.hwdb_spec.specs.Asked.{database_path}
-use Rattle.hwdb_fs.specs.declared.refusals.Refusal.TheVariants.{Plain}
+use Rattle.hwdb_spec.specs.declared.refusals.Refusal.TheVariants.{Plain}
 use Rattle.hwdb_tool.proofs.FolderLemmas.{are_read}
 use Rattle.hwdb_tool.proofs.MomentLemmas.{leaves_old_or_updated}
 use Rattle.hwdb_tool.proofs.ErrorLemmas.{given_error}

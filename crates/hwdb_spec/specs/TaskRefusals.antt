@@ -1,0 +1,196 @@
+-- Which refusals end a task, when each comes, and what it leaves: the files, what standard error had taken before the
+-- refusal's line, and standard output. Our choice.
+use Rattle.std.specs.Prelude.{◌≡◌, ◌≢◌, ◌⊎◌, ◌==◌, ℕ, Bool, true, false, not, is_some, length, List, [], ◌∷◌, Option, Some, map, option_map, string_bytes, codes}
+use Rattle.clap.specs.Faults.{fault_of}
+use Rattle.hwdb_spec.specs.CommandLine.{hwdb_app}
+use Rattle.hwdb_spec.specs.Words.{AskFor, AskForText, AreToldBy}
+use Rattle.hwdb_spec.specs.declared.job.Job.{Job}
+use Rattle.hwdb_spec.specs.declared.job.Task.TheVariants.{Ask, Check, Device, Diff, Dump, Explain, List as ListHits, Near, Query, Update, Verify}
+use Rattle.hwdb_spec.specs.declared.job.Task.{Task}
+use Rattle.hwdb_spec.specs.declared.job.WordsFault.TheVariants as words_fault
+use Rattle.hwdb_spec.specs.declared.job.WordsFault.{WordsFault}
+use Rattle.hwdb_spec.specs.Failures.{IsOneLine}
+use Rattle.hwdb_spec.specs.Given.{is_dash, is_input}
+use Rattle.hwdb_spec.specs.DeviceAsked.{device_form}
+use Rattle.hwdb_spec.specs.Runs.{AreKept, Told, WasCut, World}
+use Rattle.hwdb_spec.specs.Store.{Contents}
+use Rattle.hwdb_spec.specs.System.{database_folder}
+use Rattle.hwdb_spec.specs.Outputs.{Texts}
+use Rattle.hwdb_spec.specs.declared.form.Form.TheVariants as form
+use Rattle.hwdb_spec.specs.declared.errors.ToolError.TheVariants.{Memory, Write}
+use Rattle.hwdb_spec.specs.CheckedFiles.{AreCheckedFiles}
+use Rattle.hwdb_spec.specs.ComparedDatabases.{IsDiffRefused}
+use Rattle.hwdb_spec.specs.NearErrors.{IsNearRefused}
+use Rattle.hwdb_spec.specs.DeviceErrors.{IsDeviceRefused}
+use Rattle.hwdb_spec.specs.NamedDatabases.{IsDumpRefused, IsVerifyRefused}
+use Rattle.hwdb_spec.specs.Queries.{AreUnanswered}
+use Rattle.hwdb_spec.specs.Program.{IsAnswerOf, IsDeviceAnswer, IsJobDone, IsTold, IsUpdate, looks_below_root, root_of}
+use Rattle.hwdb_spec.specs.CheckedReasons.{HasCheckedReason}
+use Rattle.hwdb_spec.specs.Reasons.{HasAskedReason, HasFilesReason, HasGivenReason}
+use Rattle.hwdb_spec.specs.Refusals.{HasReason, IsAt, IsUnentered, IsUnreadable, Refused, refusal_line, refusal_text}
+use Rattle.hwdb_spec.specs.declared.refusals.Refusal.TheVariants.{Plain}
+use Rattle.hwdb_spec.specs.declared.refusals.Refusal.{Refusal}
+use Rattle.hwdb_spec.specs.Undone.{AreUncheckable, IsAskRefused, IsCheckRefused, IsListRefused, IsUnanswered, IsUnprinted, IsUnreadableIf, IsUnwritable}
+use Rattle.hwdb_spec.specs.HidingTold.{IsTellingUpdateRefused}
+
+-- why a task that prints a text can't make it, before it writes anything
+abbrev pub Refuses : Task → (root : List ℕ) (input : Option (List ℕ)) → Contents → Refusal → Type 0
+Refuses (Ask file device) root input files refusal = IsAskRefused (string_bytes file) input files refusal
+Refuses (Check paths allowed json) root input files refusal =
+    IsCheckRefused (AreUncheckable (map string_bytes paths.items) root files) (AreCheckedFiles (map string_bytes paths.items) root input files) refusal
+Refuses (Near paths device limit json) root input files refusal = IsNearRefused (map string_bytes paths.items) root files refusal
+Refuses (Diff old_path new_path) root input files refusal = IsDiffRefused (string_bytes old_path) (string_bytes new_path) files refusal
+Refuses (Verify database) root input files refusal = IsVerifyRefused (option_map string_bytes database) root files refusal
+Refuses (Dump database) root input files refusal = IsDumpRefused (option_map string_bytes database) root files refusal
+Refuses task root input files refusal = IsUnanswered root files refusal
+
+-- what it might have printed, with whatever status
+abbrev pub MayPrint : Task → (root : List ℕ) (strict : Bool) (input : Option (List ℕ)) → Contents → Texts → Type 0
+MayPrint task root strict input files texts = (status : ℕ) × IsAnswerOf task root strict input files status texts
+
+-- a task is refused, by what it leaves on both outputs
+abbrev pub IsPrintingRefused : Task → (root : List ℕ) (strict : Bool) → Refusal → (before now : World) → Type 0
+IsPrintingRefused (Query devices json) root strict refusal before now =
+    AreUnanswered root (form.Query json) (map string_bytes devices.items) before.input.bytes before.files.seen refusal before.err now.err before.out now.out
+IsPrintingRefused (Explain device json) root strict refusal before now =
+    AreUnanswered root (form.Explain json) (string_bytes device ∷ []) before.input.bytes before.files.seen refusal before.err now.err before.out now.out
+IsPrintingRefused (ListHits after limit device json) root strict refusal before now =
+    IsListRefused root json (string_bytes device) (option_map string_bytes after) limit before.files.seen refusal before.out now.out × (now.err ≡ before.err)
+IsPrintingRefused (Device path strings json pattern) root strict refusal before now =
+    IsUnprinted (IsDeviceRefused root (option_map string_bytes path) before.devices before.files.seen)
+    (λ texts. (status : ℕ) × IsDeviceAnswer (device_form strings json pattern) root (option_map string_bytes path) before.devices before.files.seen status texts) refusal before.err now.err before.out now.out
+IsPrintingRefused task root strict refusal before now =
+    IsUnprinted (Refuses task root before.input.bytes before.files.seen) (MayPrint task root strict before.input.bytes before.files.seen) refusal before.err now.err before.out now.out
+
+-- a task is refused: it leaves that, and the files as they were; an update may leave more
+abbrev pub IsTaskRefused : Task → (root : List ℕ) (usr strict : Bool) → Refusal → (before now : World) → Type 0
+IsTaskRefused (Update verbose skip) root usr strict refusal before now =
+    IsTellingUpdateRefused root usr verbose skip refusal before.files now.files before.err now.err × (now.out ≡ before.out)
+IsTaskRefused task root usr strict refusal before now = IsPrintingRefused task root strict refusal before now × AreKept before.files now.files
+
+-- a database that the task asks for can't be read: reading it may fail, or it is one that the words name, and nothing is there
+abbrev pub IsUnreadableFor : Task → (MayFail : (path : List ℕ) → Type 0) → Contents → (path : List ℕ) → Type 0
+IsUnreadableFor (Diff old_path new_path) = IsUnreadable
+IsUnreadableFor (Verify database) = IsUnreadableIf (is_some (option_map string_bytes database))
+IsUnreadableFor (Dump database) = IsUnreadableIf (is_some (option_map string_bytes database))
+IsUnreadableFor _ = IsUnreadableIf false
+
+-- What the error of a task says of a path, or of standard input, is so. If the words name text files, `-` is standard input.
+abbrev pub IsTaskReason : Task → (root : List ℕ) (usr : Bool) (before now : World) → Refusal → Type 0
+IsTaskReason (Query devices json) root usr before now refusal =
+    HasAskedReason (is_input (map string_bytes devices.items)) root before.files.fails before.files.seen before.input.bytes before.input.failures now.input.failures refusal
+IsTaskReason (Explain device json) root usr before now refusal =
+    HasAskedReason (is_dash (string_bytes device)) root before.files.fails before.files.seen before.input.bytes before.input.failures now.input.failures refusal
+IsTaskReason (Ask file device) root usr before now refusal =
+    HasGivenReason (is_dash (string_bytes file)) before.files.fails before.files.seen before.input.bytes before.input.failures now.input.failures refusal
+IsTaskReason (Check files allowed json) root usr before now refusal =
+    HasCheckedReason (not (length files.items == 0)) before.files.fails before.files.seen before.input.bytes before.input.failures now.input.failures (map string_bytes files.items) refusal
+IsTaskReason (Near files device limit json) root usr before now refusal =
+    HasFilesReason (not (length files.items == 0)) (map string_bytes files.items) before.files.fails before.files.seen before.input.bytes before.input.failures now.input.failures refusal
+IsTaskReason task root usr before now refusal =
+    HasReason (IsUnreadableFor task before.files.fails before.files.seen)
+    (IsUnwritable (database_folder usr root) before.files.seen before.files.failures now.files.failures) before.files.seen refusal
+
+-- a task is refused, and for its reason
+abbrev pub IsNotDone : Task → (root : List ℕ) (usr strict : Bool) (before now : World) → Refusal → Type 0
+IsNotDone task root usr strict before now refusal = IsTaskRefused task root usr strict refusal before now × IsTaskReason task root usr before now refusal
+
+-- the same of a job
+abbrev pub IsJobNotDone : Job → (before now : World) → Refusal → Type 0
+IsJobNotDone job = IsNotDone job.task (root_of job) job.usr job.strict
+
+-- the status where a task is refused: 2 of `diff`, whose 1 says that something changed, else 1
+abbrev pub refused_status : Task → ℕ
+refused_status (Diff old_path new_path) = 2
+refused_status _ = 1
+
+-- what is said of a refusal: of standard output's, where the system tells why it failed, that it can't be written
+abbrev pub IsSaidOf : (refusal said : Refusal) → Type 0
+IsSaidOf refusal said = (said ≡ refusal) ⊎ ((refusal ≡ Plain Write) × IsAt Write (codes "standard output") said)
+
+-- standard error took the line of a refusal, or, if it failed, a prefix of it; the words of its cause are on that line
+pub record IsSaid (refusal : Refusal) (before now : Told) : Type 0 where
+  pub said : Refusal
+  pub of : IsSaidOf refusal said
+  pub words : List ℕ
+  pub one_line : IsOneLine words
+  pub line : Refused (refusal_line (refusal_text said words)) before.bytes now.bytes before.failures now.failures
+
+-- what a run leaves but for standard error, on which a line comes yet
+abbrev pub with_err : Told → World → World
+with_err err world = record { files = world.files; input = world.input; out = world.out; err = err; devices = world.devices }
+
+-- The words ask for a job, and have no fault. It is refused with this status, for its reason. Then standard error took the line.
+pub record IsJobRefused (words : List (List ℕ)) (status : ℕ) (before now : World) : Type 0 where
+  pub job : Job
+  pub asked : AskFor words job
+  pub faultless : fault_of hwdb_app words ≡ []
+  pub refusal : Refusal
+  pub err_then : Told
+  pub refused : IsJobNotDone job before (with_err err_then now) refusal
+  pub said : IsSaid refusal err_then now.err
+  pub says : status ≡ refused_status job.task
+
+-- what is told of words that ask for no job; help and the version are told, but standard output failed
+abbrev pub IsWordsTold : WordsFault → (before now : World) → Type 0
+IsWordsTold (words_fault.Help text) before now = WasCut (string_bytes text) before.out now.out × IsSaid (Plain Write) before.err now.err
+IsWordsTold (words_fault.Usage text) before now =
+    Refused (string_bytes text) before.err.bytes now.err.bytes before.err.failures now.err.failures × (now.out ≡ before.out)
+IsWordsTold words_fault.Memory before now = IsSaid (Plain Memory) before.err now.err × (now.out ≡ before.out)
+
+-- the words ask for no job, the status is 1, and the files are as they were
+pub record AreRefused (words : List (List ℕ)) (status : ℕ) (before now : World) : Type 0 where
+  pub fault : WordsFault
+  pub of : AreToldBy words fault
+  pub told : IsWordsTold fault before now
+  pub kept : AreKept before.files now.files
+  pub says : status ≡ 1
+
+-- the root that was given, below which the task looks for files, can't be read
+abbrev pub IsRootUnread : Job → Refusal → Type 0
+IsRootUnread job refusal = (root : List ℕ) × (option_map string_bytes job.root ≡ Some root) × (looks_below_root job.task ≡ true) × IsUnentered root refusal
+
+-- the words ask for a job below such a root: the status is 1, the files are as they were, and standard error took the line
+pub record IsRootRefused (words : List (List ℕ)) (status : ℕ) (before now : World) : Type 0 where
+  pub job : Job
+  pub asked : AskFor words job
+  pub faultless : fault_of hwdb_app words ≡ []
+  pub refusal : Refusal
+  pub unread : IsRootUnread job refusal
+  pub reason : HasReason before.files.fails ⊥ before.files.seen refusal
+  pub kept : AreKept before.files now.files
+  pub said : IsSaid refusal before.err now.err
+  pub out : now.out ≡ before.out
+  pub says : status ≡ 1
+
+-- The words ask for a job, and while it wrote to standard output the reader of that went away: nothing is said of it, the files
+-- are as they were, and standard output took what it does if it can't be written.
+pub record IsCutShort (gone_before gone : Type 0) (words : List (List ℕ)) (before now : World) : Type 0 where
+  pub job : Job
+  pub asked : AskFor words job
+  pub faultless : fault_of hwdb_app words ≡ []
+  pub refused : IsTaskRefused job.task (root_of job) job.usr job.strict (Plain Write) before now
+  pub kept : AreKept before.files now.files
+  pub reader : gone
+  -- an update writes nothing there
+  pub writes : IsUpdate job.task → gone_before
+
+-- the same of help or the version
+pub record IsTextCutShort (gone : Type 0) (words : List (List ℕ)) (before now : World) : Type 0 where
+  pub asked : AskForText words
+  pub text : List ℕ
+  pub some : text ≢ []
+  pub cut : WasCut text before.out now.out
+  pub kept : AreKept before.files now.files
+  pub err : now.err ≡ before.err
+  pub reader : gone
+
+-- a run with status 0: what the words ask for is done, or told, or the reader of standard output went away
+abbrev pub HasSucceeded : (gone_before gone : Type 0) (words : List (List ℕ)) (before now : World) → Type 0
+HasSucceeded gone_before gone words before now =
+    IsJobDone words 0 before now ⊎ (IsTold words before now ⊎ (IsCutShort gone_before gone words before now ⊎ IsTextCutShort gone words before now))
+
+-- a run with another one: what was done found something, or the job, the words or the root are refused
+abbrev pub HasFailedWith : (words : List (List ℕ)) (status : ℕ) (before now : World) → Type 0
+HasFailedWith words status before now =
+    IsJobDone words status before now ⊎ (IsJobRefused words status before now ⊎ (AreRefused words status before now ⊎ IsRootRefused words status before now))
