@@ -5,6 +5,7 @@ pub mod SpacedLemmas
 pub mod RepeatLemmas
 pub mod RaiseLemmas
 pub mod ReplaceLemmas
+pub mod AscendLemmas
 pub mod RunLemmas
 pub mod AnyLemmas
 pub mod SoughtLemmas
