@@ -16,7 +16,9 @@ use crate::command::hwdb_command;
 use crate::help::{fitting_help, short_help};
 use crate::matched::{copied, has_flag, text_of};
 use crate::tips::{with_command_tip, with_fitting_tip};
-use crate::{ask, check, device, diff, dump, explain, list, near, query, status, test, update, verify};
+use crate::{
+    ask, check, device, diff, dump, explain, list, near, query, status, test, update, verify,
+};
 use clap::error::ErrorKind;
 use clap::{ArgMatches, Error};
 use hwdb_spec::{Job, Task, WordsFault};

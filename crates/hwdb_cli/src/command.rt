@@ -7,7 +7,9 @@ ghost use Rattle.hwdb_spec.specs.CommandLine.{hwdb_app, top_app};
 ghost use Rattle.hwdb_cli.specs.Drafts.{IsDraft};
 
 use crate::drafts::{Draft, shared, with_command};
-use crate::{ask, check, device, diff, dump, explain, list, near, query, status, test, update, verify};
+use crate::{
+    ask, check, device, diff, dump, explain, list, near, query, status, test, update, verify,
+};
 use clap::Command;
 use std::alloc::{AllocError, Global};
 

@@ -1,6 +1,8 @@
 //! Help: what `clap` says of a command, without options that do nothing for it; and a short one for a line without a
 //! command.
-use crate::{ask, check, device, diff, dump, explain, list, near, query, status, test, update, verify};
+use crate::{
+    ask, check, device, diff, dump, explain, list, near, query, status, test, update, verify,
+};
 use std::alloc::{AllocError, Global};
 
 /// What is said if no command is given, before the commands.

@@ -68,7 +68,7 @@ before a y h = go (gives (given_in own y) a.pattern.now a.key.now) refl
     go : (b : Bool) → gives (given_in own y) a.pattern.now a.key.now ≡ b → b ≡ false
     go false e = refl
     go true e = let tie : by_place y a ≡ Equal = both (slice_cmp nat_cmp y.pattern.now a.pattern.now) (slice_cmp nat_cmp y.key.now a.key.now) e in
-      let no : Less ≡ Equal = sym h ∙ tie in cc
+        let no : Less ≡ Equal = sym h ∙ tie in cc
 
 after : (a y : Given) → by_place a y ≡ Less → gives (given_in own y) a.pattern.now a.key.now ≡ false
 after a y h = go (gives (given_in own y) a.pattern.now a.key.now) refl
@@ -76,7 +76,7 @@ after a y h = go (gives (given_in own y) a.pattern.now a.key.now) refl
     go : (b : Bool) → gives (given_in own y) a.pattern.now a.key.now ≡ b → b ≡ false
     go false e = refl
     go true e = let tie : by_place y a ≡ Equal = both (slice_cmp nat_cmp y.pattern.now a.pattern.now) (slice_cmp nat_cmp y.key.now a.key.now) e in
-      let no : Less ≡ Equal = sym h ∙ by_place_total.antisymm a y ∙ ap ordering_reverse tie in cc
+        let no : Less ≡ Equal = sym h ∙ by_place_total.antisymm a y ∙ ap ordering_reverse tie in cc
 
 valued : (b c d : Bool) → cond b c false ≡ false → cond b (cond c d false) false ≡ false
 valued true true d e = cc
