@@ -1,4 +1,4 @@
--- The command line of hwdb, as the command that `clap` is given: systemd-hwdb(8), with `explain`, `ask`, `list`, `near`, `device`, `check`, `diff`, `verify` and `dump` of our own.
+-- The command line of hwdb, as the command that `clap` is given: `update` and `query` of systemd-hwdb(8), and commands of our own.
 -- `clap` adds the options for help and the version, and the command `help`.
 use Rattle.std.specs.Prelude.{Some, codes, true}
 use Rattle.clap.specs.Walk.{Rule}
@@ -6,18 +6,23 @@ use Rattle.clap.specs.declared.builder.action.ArgAction.TheVariants.{SetTrue, Se
 use Rattle.clap.specs.Simple.{new_rule, App, with_rule, new_app, Shape, on_top, with_subcommand}
 use Rattle.clap.specs.declared.builder.value_parser.ValueParser.TheVariants as vp
 
+-- `--usr`
 abbrev pub usr_rule : Rule
 usr_rule = record (new_rule (codes "usr")) { long = Some (codes "usr"); action = Some SetTrue }
 
+-- `-s`, `--strict`
 abbrev pub strict_rule : Rule
 strict_rule = record (new_rule (codes "strict")) { short = Some 115; long = Some (codes "strict"); action = Some SetTrue }
 
+-- `-r`, `--root`, with a value
 abbrev pub root_rule : Rule
 root_rule = record (new_rule (codes "root")) { value_names = 1; short = Some 114; long = Some (codes "root"); action = Some Set }
 
+-- `--color`, with a value
 abbrev pub color_rule : Rule
 color_rule = record (new_rule (codes "color")) { value_names = 1; long = Some (codes "color"); action = Some Set }
 
+-- a device
 abbrev pub device_rule : Rule
 device_rule = record (new_rule (codes "MODALIAS")) { required = true; action = Some Set }
 
@@ -25,6 +30,7 @@ device_rule = record (new_rule (codes "MODALIAS")) { required = true; action = S
 abbrev pub devices_rule : Rule
 devices_rule = record (new_rule (codes "MODALIAS")) { required = true; action = Some Append }
 
+-- a file
 abbrev pub file_rule : Rule
 file_rule = record (new_rule (codes "FILE")) { required = true; action = Some Set }
 
@@ -32,9 +38,11 @@ file_rule = record (new_rule (codes "FILE")) { required = true; action = Some Se
 abbrev pub files_rule : Rule
 files_rule = record (new_rule (codes "FILE")) { action = Some Append }
 
+-- the old database
 abbrev pub old_database_rule : Rule
 old_database_rule = record (new_rule (codes "OLD")) { required = true; action = Some Set }
 
+-- the new database
 abbrev pub new_database_rule : Rule
 new_database_rule = record (new_rule (codes "NEW")) { required = true; action = Some Set }
 
@@ -42,15 +50,19 @@ new_database_rule = record (new_rule (codes "NEW")) { required = true; action = 
 abbrev pub database_rule : Rule
 database_rule = record (new_rule (codes "DATABASE")) { action = Some Set }
 
+-- `--after`, with a value
 abbrev pub after_rule : Rule
 after_rule = record (new_rule (codes "after")) { value_names = 1; long = Some (codes "after"); action = Some Set }
 
+-- `--limit`, with a number of 64 bits
 abbrev pub limit_rule : Rule
 limit_rule = record (new_rule (codes "limit")) { value_names = 1; long = Some (codes "limit"); action = Some Set; parser = Some (vp.Unsigned 0 18446744073709551615) }
 
+-- `--verbose`
 abbrev pub verbose_rule : Rule
 verbose_rule = record (new_rule (codes "verbose")) { long = Some (codes "verbose"); action = Some SetTrue }
 
+-- `--skip-unreadable`
 abbrev pub skip_rule : Rule
 skip_rule = record (new_rule (codes "skip-unreadable")) { long = Some (codes "skip-unreadable"); action = Some SetTrue }
 
@@ -58,12 +70,15 @@ skip_rule = record (new_rule (codes "skip-unreadable")) { long = Some (codes "sk
 abbrev pub allow_rule : Rule
 allow_rule = record (new_rule (codes "allow")) { value_names = 1; long = Some (codes "allow"); action = Some Append }
 
+-- `--json`
 abbrev pub json_rule : Rule
 json_rule = record (new_rule (codes "json")) { long = Some (codes "json"); action = Some SetTrue }
 
+-- `--strings`
 abbrev pub strings_rule : Rule
 strings_rule = record (new_rule (codes "strings")) { long = Some (codes "strings"); action = Some SetTrue }
 
+-- `--pattern`
 abbrev pub pattern_rule : Rule
 pattern_rule = record (new_rule (codes "pattern")) { long = Some (codes "pattern"); action = Some SetTrue }
 
@@ -71,7 +86,7 @@ pattern_rule = record (new_rule (codes "pattern")) { long = Some (codes "pattern
 abbrev pub path_rule : Rule
 path_rule = record (new_rule (codes "DEVICE")) { action = Some Set }
 
--- the options that stand before and behind the command's word
+-- the options that come before or after the command's word
 abbrev pub with_shared : App → App
 with_shared a = with_rule (with_rule (with_rule (with_rule a usr_rule) strict_rule) root_rule) color_rule
 
@@ -79,18 +94,23 @@ with_shared a = with_rule (with_rule (with_rule (with_rule a usr_rule) strict_ru
 abbrev pub with_range : App → App
 with_range a = with_rule (with_rule a after_rule) limit_rule
 
+-- `update`
 abbrev pub update_app : App
 update_app = with_rule (with_rule (with_shared (new_app (codes "update"))) verbose_rule) skip_rule
 
+-- `query`
 abbrev pub query_app : App
 query_app = with_rule (with_rule (with_shared (new_app (codes "query"))) json_rule) devices_rule
 
+-- `explain`
 abbrev pub explain_app : App
 explain_app = with_rule (with_rule (with_shared (new_app (codes "explain"))) json_rule) device_rule
 
+-- `ask`
 abbrev pub ask_app : App
 ask_app = with_rule (with_rule (with_shared (new_app (codes "ask"))) file_rule) device_rule
 
+-- `list`
 abbrev pub list_app : App
 list_app = with_rule (with_rule (with_range (with_shared (new_app (codes "list")))) json_rule) device_rule
 
@@ -98,21 +118,27 @@ list_app = with_rule (with_rule (with_range (with_shared (new_app (codes "list")
 abbrev pub near_app : App
 near_app = with_rule (with_rule (with_rule (with_shared (new_app (codes "near"))) limit_rule) json_rule) devices_rule
 
+-- `device`
 abbrev pub device_app : App
 device_app = with_rule (with_rule (with_rule (with_rule (with_shared (new_app (codes "device"))) strings_rule) json_rule) pattern_rule) path_rule
 
+-- `check`
 abbrev pub check_app : App
 check_app = with_rule (with_rule (with_rule (with_shared (new_app (codes "check"))) allow_rule) json_rule) files_rule
 
+-- `diff`
 abbrev pub diff_app : App
 diff_app = with_rule (with_rule (with_shared (new_app (codes "diff"))) old_database_rule) new_database_rule
 
+-- `verify`
 abbrev pub verify_app : App
 verify_app = with_rule (with_shared (new_app (codes "verify"))) database_rule
 
+-- `dump`
 abbrev pub dump_app : App
 dump_app = with_rule (with_shared (new_app (codes "dump"))) database_rule
 
+-- the program's own options
 abbrev pub top_app : App
 top_app = on_top (λ (s : Shape). record s { has_version = true; subcommand_required = true }) (with_shared (new_app (codes "hwdb")))
 
@@ -124,5 +150,6 @@ with_answers app = with_subcommand (with_subcommand (with_subcommand (with_subco
 abbrev pub with_inspections : App → App
 with_inspections app = with_subcommand (with_subcommand (with_subcommand (with_subcommand app check_app.top) diff_app.top) verify_app.top) dump_app.top
 
+-- the command line: the program and its commands
 abbrev pub hwdb_app : App
 hwdb_app = with_inspections (with_answers (with_subcommand top_app update_app.top))

@@ -1,4 +1,4 @@
--- What `device` asks sysfs, and what it refuses. Our choice.
+-- What `device` asks sysfs, and its errors. Our choice.
 use Rattle.std.specs.Prelude.{◌≡◌, ◌⊎◌, List, None, Option, Some, is_some, true, ℕ}
 use Rattle.hwdb_spec.specs.DeviceAsked.{device_meant, missing_text, no_sysfs_text, unread_text}
 use Rattle.hwdb_spec.specs.DeviceTree.{Sight, device_for, missing_folder, sysfs_below, unread_for}
@@ -28,7 +28,7 @@ pub record SaysNoSysfs (root : List ℕ) (sight : Sight) (refusal : Refusal) : T
   pub one_line : IsOneLine words
   pub said : IsInWords (no_sysfs_text path words) refusal
 
--- there is no sysfs below the root, or memory was refused
+-- there is no sysfs below the root, or no memory
 abbrev pub IsNoSysfs : (root : List ℕ) → Sight → Refusal → Type 0
 IsNoSysfs root sight refusal = (refusal ≡ Plain Memory) ⊎ SaysNoSysfs root sight refusal
 
@@ -49,7 +49,7 @@ pub record SaysNoDevice (root sys given : List ℕ) (sight : Sight) (refusal : R
   pub one_line : IsOneLine words
   pub said : IsInWords (missing_text sight root sys given words) refusal
 
--- no device is meant, or it can't be told whether one is, or memory was refused
+-- no device is meant, or it can't be told whether one is, or there is no memory
 abbrev pub IsNoDevice : (root sys given : List ℕ) → Sight → Refusal → Type 0
 IsNoDevice root sys given sight refusal =
     (refusal ≡ Plain Memory) ⊎ (SaysUnread root sys given sight refusal ⊎ SaysNoDevice root sys given sight refusal)
@@ -59,7 +59,7 @@ abbrev pub IsUnmeant : (root given : List ℕ) → Sight → Refusal → Type 0
 IsUnmeant root given sight refusal =
     IsNoSysfs root sight refusal ⊎ ((sys : List ℕ) × (sysfs_below sight root ≡ Some sys) × IsNoDevice root sys given sight refusal)
 
--- `device` is refused: there is no sysfs; or no such device; or after that was found, the database can't be read, or is none
+-- `device` fails: there is no sysfs; or no such device; or after that was found, the database can't be read, or is none
 abbrev pub IsDeviceRefused : (root : List ℕ) (given : Option (List ℕ)) → Sight → Contents → Refusal → Type 0
 IsDeviceRefused root None sight contents refusal = IsNoSysfs root sight refusal
 IsDeviceRefused root (Some given) sight contents refusal =

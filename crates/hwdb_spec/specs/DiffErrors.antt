@@ -1,4 +1,4 @@
--- What `diff` refuses. Our choice.
+-- When each error of comparing two databases comes. Our choice.
 use Rattle.std.specs.Prelude.{List, ℕ}
 use Rattle.hwdb_spec.specs.declared.errors.DiffError.{DiffError}
 use Rattle.hwdb_spec.specs.declared.errors.DiffError.TheVariants.{Memory, New, Old}

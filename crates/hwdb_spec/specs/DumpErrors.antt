@@ -1,4 +1,4 @@
--- What `dump` refuses. Our choice.
+-- When each error of printing a database as text comes. Our choice.
 use Rattle.std.specs.Prelude.{List, ℕ}
 use Rattle.hwdb_spec.specs.declared.errors.DumpError.{DumpError}
 use Rattle.hwdb_spec.specs.declared.errors.DumpError.TheVariants.{Database, Memory, Unsayable}

@@ -16,35 +16,35 @@ use Rattle.hwdb_spec.specs.declared.errors.SelectError.TheVariants as select
 use Rattle.hwdb_spec.specs.declared.errors.StoreError.{StoreError}
 use Rattle.hwdb_spec.specs.declared.errors.StoreError.TheVariants as store
 
--- a refusal of the choice of files, as one of the program
+-- an error of the choice of files, as one of the program
 abbrev pub refusal_of_select : SelectError → ToolError
 refusal_of_select select.TooManyFiles = TooManyFiles
 refusal_of_select select.Memory = Memory
 
--- a refusal of a source's reading
+-- one of a source's reading
 abbrev pub refusal_of_read : ReadError → ToolError
 refusal_of_read reading.Failed = Read
 refusal_of_read reading.TooLong = TooLong
 refusal_of_read reading.Memory = Memory
 
--- a refusal of one file's lines
+-- one of a file's lines
 abbrev pub refusal_of_scan : ScanError → ToolError
 refusal_of_scan scan.TooManyLines = TooManyLines
 refusal_of_scan scan.Memory = Memory
 
--- a refusal of the compiler
+-- one of the compiler
 abbrev pub refusal_of_compile : CompileError → ToolError
 refusal_of_compile compiling.TooManyFiles = TooManyFiles
 refusal_of_compile compiling.TooManyLines = TooManyLines
 refusal_of_compile compiling.TooLarge = TooLarge
 refusal_of_compile compiling.Memory = Memory
 
--- a refusal of a position's text
+-- one of a position's text
 abbrev pub refusal_of_position : PositionError → ToolError
 refusal_of_position positions.BadPosition = BadPosition
 refusal_of_position positions.Memory = Memory
 
--- the words of an error, which go on where the database is at fault
+-- the words of an error; of a fault of the database there are more
 abbrev pub error_words : ToolError → List ℕ
 error_words Read = codes "cannot read"
 error_words Write = codes "cannot write"

@@ -1,4 +1,4 @@
--- Why it can't be told for which text files the paths of `check` stand, or these can't be read. Our choice.
+-- Why it can't be told which text files the paths of `check` mean, or these can't be read. Our choice.
 use Rattle.std.specs.Prelude.{◌<◌, ◌≡◌, ◌⊎◌, Contains, List, [], length, ℕ}
 use Rattle.hwdb_spec.specs.CheckedFiles.{StandFor, folder_of}
 use Rattle.hwdb_spec.specs.Folders.{max_files, names}
@@ -15,7 +15,7 @@ AreTooMany contents path refusal =
     (refusal ≡ Plain TooManyFiles)
     × ((found : List (List ℕ)) × AreNamesIn (folder_of path) contents found × (max_files < length (names found [])))
 
--- it can't be told for which text files a path stands: its folder can't be listed, or has too many
+-- it can't be told which text files a path means: its folder can't be listed, or has too many
 abbrev pub IsFolderUnread : Contents → (path : List ℕ) → Refusal → Type 0
 IsFolderUnread contents path refusal = IsUnlisted (folder_of path) refusal ⊎ AreTooMany contents path refusal
 
@@ -23,7 +23,7 @@ IsFolderUnread contents path refusal = IsUnlisted (folder_of path) refusal ⊎ A
 abbrev pub AreFoldersUnread : Contents → (given : List (List ℕ)) → Refusal → Type 0
 AreFoldersUnread contents given refusal = (path : List ℕ) × Contains given path × IsFolderUnread contents path refusal
 
--- reading what given paths stand for is refused: that can't be told, or one of these files can't be read
+-- reading what given paths mean fails: that can't be told, or one of these files can't be read
 abbrev pub IsNamedUnread : (Unread : List (List ℕ) → Refusal → Type 0) → Contents → (given : List (List ℕ)) → Refusal → Type 0
 IsNamedUnread Unread contents given refusal =
     AreFoldersUnread contents given refusal ⊎ ((paths : List (List ℕ)) × StandFor contents given paths × Unread paths refusal)

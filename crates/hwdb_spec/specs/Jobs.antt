@@ -9,7 +9,7 @@ use Rattle.hwdb_spec.specs.declared.job.Task.TheVariants.{Ask, Check, Device, Di
 use Rattle.hwdb_spec.specs.declared.job.Task.{Task}
 use Rattle.hwdb_spec.specs.declared.job.Job.{Job}
 
--- the flag stands on this side
+-- the flag is on this side
 abbrev pub has_flag : Text → List Row → Bool
 has_flag id rows = option_map_or (λ t. bytes_eq t (codes "true")) (first_of id rows) false
 
@@ -17,20 +17,21 @@ has_flag id rows = option_map_or (λ t. bytes_eq t (codes "true")) (first_of id 
 abbrev pub IsValue : Text → List Row → Text → Type 0
 IsValue id rows text = Some text ≡ first_of id rows
 
--- the texts are the argument's values, in the order in which they stand
+-- the texts are the argument's values, in their order
 abbrev pub AreValues : Text → List Row → List Text → Type 0
 AreValues id rows texts = Some texts ≡ all_of id rows
 
--- the texts are the argument's values, in the order in which they stand, and there are none where it has none
+-- the texts are the argument's values, in their order; if it has none there are none
 abbrev pub AreAnyValues : Text → List Row → List Text → Type 0
 AreAnyValues id rows texts = texts ≡ unwrap_or (all_of id rows) []
 
--- the limit is the number that the text writes, and there is none where there is no text
+-- the limit is the number that the text writes; without a text there is none
 abbrev pub IsLimit : Option Text → Option ℕ → Type 0
 IsLimit None limit = limit ≡ None
 IsLimit (Some text) None = ⊥
 IsLimit (Some text) (Some n) = ParsesUnsigned {E = ParseIntError} 64 10 text (Ok n)
 
+-- the task that a command's name and its matches ask for
 abbrev pub IsTask : Text → List Row → Task → Type 0
 IsTask name inner (Update verbose skip) = (name ≡ codes "update") × (verbose ≡ has_flag (codes "verbose") inner) × (skip ≡ has_flag (codes "skip-unreadable") inner)
 IsTask name inner (Query devices json) = (name ≡ codes "query") × (json ≡ has_flag (codes "json") inner) × AreValues (codes "MODALIAS") inner (map string_bytes devices.items)
@@ -48,6 +49,7 @@ IsTask name inner (Diff old new) = (name ≡ codes "diff") × IsValue (codes "OL
 IsTask name inner (Verify database) = (name ≡ codes "verify") × (option_map string_bytes database ≡ first_of (codes "DATABASE") inner)
 IsTask name inner (Dump database) = (name ≡ codes "dump") × (option_map string_bytes database ≡ first_of (codes "DATABASE") inner)
 
+-- the job of both sides' options and of the command
 pub record IsJob (top : List Row) (name : Text) (inner : List Row) (job : Job) : Type 0 where
   pub usr : job.usr ≡ (has_flag (codes "usr") inner || has_flag (codes "usr") top)
   pub strict : job.strict ≡ (has_flag (codes "strict") inner || has_flag (codes "strict") top)

@@ -10,7 +10,7 @@ use Rattle.hwdb_spec.specs.Refusals.{path_text, refusal_line}
 use Rattle.hwdb_spec.specs.declared.refusals.Refusal.{Refusal}
 use Rattle.hwdb_spec.specs.declared.errors.ToolError.TheVariants.{Read}
 
--- the line of a file that is left out: that of the refusal that it would be, and an ending
+-- the line of a file that is left out: that of the error that it would be, and an ending
 abbrev pub left_out_line : (path : List ℕ) → Option Cause → (words : List ℕ) → List ℕ
 left_out_line path cause words = refusal_line (path_text Read path cause words ++ codes "; left out")
 
@@ -26,7 +26,7 @@ pub record AreSelectedLess (skip : Bool) (MayFail : (path : List ℕ) → Type 0
   pub told : AreTold root left_out said
   pub selected : AreSelected root (without left_out root contents) usr chosen texts
 
--- reading the files that are left is refused
+-- reading the files that are left fails
 abbrev pub AreUnreadLess : (skip : Bool) (MayFail : (path : List ℕ) → Type 0) (root : List ℕ) → Contents → Refusal → Type 0
 AreUnreadLess skip MayFail root contents refusal =
     (left_out : List Choice) × AreLeftOut skip MayFail root contents left_out × AreUnreadIn skip root (without left_out root contents) refusal

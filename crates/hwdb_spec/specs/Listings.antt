@@ -29,7 +29,7 @@ pub record IsListBeginning (json : Bool) (device : List ℕ) (after : Option (Li
   pub lines : ℕ
   pub is : text ≡ flat_map (line_of json) (take lines (within_limit limit (answers_after device from tree)))
 
--- what reading the text of a position may refuse
+-- when each error of reading the text of a position comes
 abbrev pub IsPositionRefusal : (after : Option (List ℕ)) → ToolError → Type 0
 IsPositionRefusal (Some text) BadPosition = (p : Position) → IsSpelling p text → ⊥
 IsPositionRefusal after Memory = Unit {0}
@@ -41,7 +41,7 @@ pub record IsListFault (after : Option (List ℕ)) (bytes : List ℕ) (fault : D
   pub spelled : IsFrom after from
   pub no_database : IsNoDatabase bytes fault
 
--- what `list` may refuse: a text that spells no position before a fault of the database
+-- when each error of `list` comes: a text that spells no position before a fault of the database
 abbrev pub IsListRefusal : (after : Option (List ℕ)) (bytes : List ℕ) → ToolError → Type 0
 IsListRefusal (Some text) bytes BadPosition = (p : Position) → IsSpelling p text → ⊥
 IsListRefusal after bytes (BadDatabase fault) = IsListFault after bytes fault

@@ -1,4 +1,4 @@
--- The database that `verify` and `dump` read: that at a path, or without one the database that is asked; and what they refuse.
+-- The database that `verify` and `dump` read: that at a path, or without one the database that is asked; and their errors.
 -- Our choice.
 use Rattle.std.specs.Prelude.{◌≡◌, ◌≤◌, ◌⊎◌, List, None, Option, Some, length, ℕ}
 use Rattle.hwdb_spec.specs.DumpErrors.{IsDumpRefusal}
@@ -18,17 +18,17 @@ use Rattle.hwdb_spec.specs.declared.refusals.Refusal.TheVariants.{Plain}
 use Rattle.hwdb_spec.specs.Undone.{IsUnfound}
 use Rattle.hwdb_spec.specs.declared.errors.ToolError.TheVariants.{BadDatabase, Memory as OutOfMemory}
 
--- what reading it may refuse
+-- an error of reading it
 abbrev pub IsUnnamed : (given : Option (List ℕ)) (root : List ℕ) → Contents → Refusal → Type 0
 IsUnnamed None root contents refusal = IsUnfound root contents refusal
 IsUnnamed (Some path) root contents refusal = IsUnreadAt contents path refusal
 
--- the refusal of an error: that of a fault says what is wrong
+-- what an error becomes: that of a fault says what is wrong
 abbrev pub IsOfVerify : VerifyError → (path : List ℕ) → Refusal → Type 0
 IsOfVerify (verifying.Database fault) path refusal = IsInWords (verdict_text path fault) refusal
 IsOfVerify verifying.Memory path refusal = refusal ≡ Plain OutOfMemory
 
--- its bytes are refused, which are no more than a file may have
+-- its bytes, no more than a file may have, give an error
 pub record IsNotVerified (given : Option (List ℕ)) (root : List ℕ) (contents : Contents) (refusal : Refusal) : Type 0 where
   pub path : List ℕ
   pub bytes : List ℕ
@@ -40,17 +40,17 @@ pub record IsNotVerified (given : Option (List ℕ)) (root : List ℕ) (contents
   pub is : IsOfVerify error path refusal
   pub refused : IsVerifyRefusal bytes error
 
--- `verify` is refused: the database can't be read, or is none
+-- `verify` fails: the database can't be read, or is none
 abbrev pub IsVerifyRefused : (given : Option (List ℕ)) (root : List ℕ) → Contents → Refusal → Type 0
 IsVerifyRefused given root contents refusal = IsUnnamed given root contents refusal ⊎ IsNotVerified given root contents refusal
 
--- the refusal of an error
+-- what an error becomes
 abbrev pub IsOfDump : DumpError → (path : List ℕ) → Refusal → Type 0
 IsOfDump (dumping.Database fault) path refusal = IsAt (BadDatabase fault) path refusal
 IsOfDump (dumping.Unsayable pattern) path refusal = IsInWords (unsayable_text path pattern.items) refusal
 IsOfDump dumping.Memory path refusal = refusal ≡ Plain OutOfMemory
 
--- its bytes are refused, which are no more than a file may have
+-- its bytes, no more than a file may have, give an error
 pub record IsNotDumped (given : Option (List ℕ)) (root : List ℕ) (contents : Contents) (refusal : Refusal) : Type 0 where
   pub path : List ℕ
   pub bytes : List ℕ
@@ -62,6 +62,6 @@ pub record IsNotDumped (given : Option (List ℕ)) (root : List ℕ) (contents :
   pub is : IsOfDump error path refusal
   pub refused : IsDumpRefusal bytes error
 
--- `dump` is refused: the database can't be read, or is none, or no text says it
+-- `dump` fails: the database can't be read, or is none, or no text says it
 abbrev pub IsDumpRefused : (given : Option (List ℕ)) (root : List ℕ) → Contents → Refusal → Type 0
 IsDumpRefused given root contents refusal = IsUnnamed given root contents refusal ⊎ IsNotDumped given root contents refusal

@@ -1,4 +1,4 @@
--- What `near` refuses: reading the files that are given, or if none is given the database that is asked. Our choice.
+-- The errors of `near`: of reading the files that are given, or if none is given of the database that is asked. Our choice.
 use Rattle.std.specs.Prelude.{List, ℕ, [], ◌∷◌}
 use Rattle.hwdb_spec.specs.Store.{Contents}
 use Rattle.hwdb_spec.specs.declared.refusals.Refusal.{Refusal}
@@ -13,7 +13,7 @@ abbrev pub error_of : NearError → ToolError
 error_of (comparing.Database fault) = BadDatabase fault
 error_of comparing.Memory = Memory
 
--- `near` is refused
+-- `near` fails
 abbrev pub IsNearRefused : (given : List (List ℕ)) (root : List ℕ) → Contents → Refusal → Type 0
 IsNearRefused [] root contents refusal = IsUnanswered root contents refusal
 IsNearRefused (path ∷ more) root contents refusal = IsGivenUnread (path ∷ more) refusal

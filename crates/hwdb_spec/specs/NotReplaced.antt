@@ -1,4 +1,4 @@
--- What a replacement that failed leaves.
+-- What a replacement of the database that failed leaves. Our choice.
 use Rattle.std.specs.Prelude.{◌⊎◌, ℕ, List}
 use Rattle.hwdb_spec.specs.Failures.{after_failure}
 use Rattle.hwdb_spec.specs.Store.{Contents, Outcomes, Same, NoMore, Cleared, Installed, AreTaken, IsKept, IsPart, OldOrCleared, OldOrPart, OldOrNew, most_parts}

@@ -1,5 +1,5 @@
--- What the program does with a file system, by the job that its words ask for (systemd-hwdb(8); `explain`, `ask`,
--- `list`, `near`, `device`, `check`, `diff`, `verify` and `dump` are our choice).
+-- What the program does with a file system, by the job that its words ask for: `update` and `query` as systemd-hwdb(8) has them.
+-- The other commands are our choice.
 use Rattle.std.specs.Prelude.{◌≡◌, ◌≢◌, ◌⊎◌, ◌==◌, ℕ, Bool, true, false, not, is_some, length, List, [], ◌∷◌, Option, map, option_map, string_bytes}
 use Rattle.std.specs.Option.{option_map_or}
 use Rattle.clap.specs.Faults.{fault_of}
@@ -26,7 +26,7 @@ use Rattle.hwdb_spec.specs.Queries.{AreAnswered, IfNamed, IsQuiet}
 use Rattle.hwdb_spec.specs.Done.{IsAsked, IsLeftByUpdateLess}
 use Rattle.hwdb_spec.specs.HidingTold.{IsUpdatedTelling}
 
--- the root in front of each path; nothing where none was given
+-- the root in front of each path; nothing if none was given
 abbrev pub root_of : Job → List ℕ
 root_of job = option_map_or string_bytes job.root []
 

@@ -1,5 +1,5 @@
 -- `query` and `explain` of the devices of their words, or with a lone `-` of those that standard input names, one a line: what
--- they print, and what they refuse. Our choice.
+-- they print, and their errors. Our choice.
 use Rattle.std.specs.Prelude.{◌<◌, ◌≡◌, ◌≢◌, ◌≤◌, ◌⊎◌, Bool, IfSome, List, Option, Some, codes, false, length, true, ℕ}
 use Rattle.hwdb_spec.specs.Asked.{IsAnswered, IsAskedPath}
 use Rattle.hwdb_spec.specs.Databases.{IsTextOf}
@@ -26,6 +26,7 @@ abbrev pub AreAnsweredFrom : (from_input : Bool) (root : List ℕ) (form : Form)
 AreAnsweredFrom false root form devices input contents text = IsAnswered root (IsTextOf (texts_of form devices)) contents text
 AreAnsweredFrom true root form devices input contents text = IfSome input (λ named. IsAnswered root (IsTextOf (texts_of form (devices_of named))) contents text)
 
+-- the same, by whether the devices are standard input
 abbrev pub AreAnswered : (root : List ℕ) (form : Form) (devices : List (List ℕ)) (input : Option (List ℕ)) → Contents → (text : List ℕ) → Type 0
 AreAnswered root form devices = AreAnsweredFrom (is_input devices) root form devices
 
@@ -45,10 +46,11 @@ AreDoneFrom from_input root form devices input contents status err_before err_no
     IfNamed from_input input (Printed (λ texts. (status ≡ 0) × OnOut (AreAnsweredFrom from_input root form devices input contents) texts) err_before err_now out_before out_now)
     × IsQuiet from_input status err_before err_now
 
+-- the same, by whether the devices are standard input
 abbrev pub AreDone : (root : List ℕ) (form : Form) (devices : List (List ℕ)) (input : Option (List ℕ)) → Contents → (status : ℕ) (err_before err_now out_before out_now : Told) → Type 0
 AreDone root form devices = AreDoneFrom (is_input devices) root form devices
 
--- the refusal of an error: one of the input says so, and one of the database has its path
+-- what an error becomes: one of the input says so, and one of the database has its path
 abbrev pub IsOfInput : ToolError → (path : List ℕ) → Refusal → Type 0
 IsOfInput Read path refusal = IsAt Read (codes "standard input") refusal
 IsOfInput TooLong path refusal = IsAt TooLong (codes "a line of standard input") refusal
@@ -72,7 +74,7 @@ IsWholeInputUnread input before now (At Read at cause) = (at.items ≡ codes "st
 IsWholeInputUnread input before now (At TooLong at cause) = (at.items ≡ codes "standard input") × IfSome input (λ told. max_file < length told)
 IsWholeInputUnread input before now refusal = ⊥
 
--- answering the devices of the input was refused, and standard output has what it had, or a prefix
+-- answering the devices of the input failed, and standard output has what it had, or a prefix
 pub record IsUnstreamed (root : List ℕ) (form : Form) (input : Option (List ℕ)) (contents : Contents) (refusal : Refusal) (before now : Told) : Type 0 where
   pub path : List ℕ
   pub bytes : List ℕ
@@ -96,12 +98,13 @@ IsStreamRefused root form input contents refusal before now =
     (IsUnfound root contents refusal × (now ≡ before))
     ⊎ IsUnstreamed root form input contents refusal before now
 
--- the command is refused
+-- the command fails
 abbrev pub AreUnansweredFrom : (from_input : Bool) (root : List ℕ) (form : Form) (devices : List (List ℕ)) (input : Option (List ℕ)) → Contents → Refusal → (err_before err_now out_before out_now : Told) → Type 0
 AreUnansweredFrom false root form devices input contents refusal err_before err_now out_before out_now =
     IsUnprinted (IsUnanswered root contents) (OnOut (IsAnswered root (IsTextOf (texts_of form devices)) contents)) refusal err_before err_now out_before out_now
 AreUnansweredFrom true root form devices input contents refusal err_before err_now out_before out_now =
     IsStreamRefused root form input contents refusal out_before out_now × (err_now ≡ err_before)
 
+-- the same, by whether the devices are standard input
 abbrev pub AreUnanswered : (root : List ℕ) (form : Form) (devices : List (List ℕ)) (input : Option (List ℕ)) → Contents → Refusal → (err_before err_now out_before out_now : Told) → Type 0
 AreUnanswered root form devices = AreUnansweredFrom (is_input devices) root form devices

@@ -1,5 +1,5 @@
 -- An update of the text files that can be read: the others are left out with `--skip-unreadable`, which standard error is told
--- first. What it leaves, and what it refuses. Our choice.
+-- first. What it leaves, and its errors. Our choice.
 use Rattle.std.specs.Prelude.{◌++◌, ◌≡◌, ◌⊎◌, All, Bool, List, ℕ}
 use Rattle.hwdb_spec.specs.Done.{IsUpdated}
 use Rattle.hwdb_spec.specs.Folders.{Choice, choice, path_of}
@@ -33,13 +33,13 @@ pub record IsUpdatedLess (root : List ℕ) (verbose strict skip : Bool) (status 
   pub updated : IsUpdated root verbose strict plainly (without left_out root before.seen) err_then.bytes err_now.bytes in_place
   pub answer : status ≡ status_less strict left_out plainly
 
--- the lines were said, and the update of the others is refused; or saying them was
+-- the lines were said, and the update of the others fails; or saying them did
 abbrev pub IsRefusedAfter : (said root : List ℕ) (usr verbose : Bool) (read : Contents) → Refusal → (before now : Files) (err_before err_now : Told) → Type 0
 IsRefusedAfter said root usr verbose read refusal before now err_before err_now =
     (IsUntold said refusal err_before err_now × AreKept before now)
     ⊎ ((err_said : Told) × HasTaken said err_before err_said × IsSelectedRefused root usr verbose read refusal before now err_said err_now)
 
--- the files were read but for those that are left out, and the update is refused after that
+-- the files were read but for those that are left out, and the update fails after that
 pub record IsRefusedLess (root : List ℕ) (usr verbose skip : Bool) (refusal : Refusal) (before now : Files) (err_before err_now : Told) : Type 0 where
   pub left_out : List Choice
   pub are : AreLeftOut skip before.fails root before.seen left_out
@@ -48,7 +48,7 @@ pub record IsRefusedLess (root : List ℕ) (usr verbose skip : Bool) (refusal : 
   pub read : AreAllRead root (without left_out root before.seen)
   pub refused : IsRefusedAfter said root usr verbose (without left_out root before.seen) refusal before now err_before err_now
 
--- `update` is refused
+-- `update` fails
 abbrev pub IsUpdateRefused : (root : List ℕ) (usr verbose skip : Bool) → Refusal → (before now : Files) (err_before err_now : Told) → Type 0
 IsUpdateRefused root usr verbose skip refusal before now err_before err_now =
     (AreUnreadLess skip before.fails root before.seen refusal × AreKept before now × (err_now ≡ err_before))

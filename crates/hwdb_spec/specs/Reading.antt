@@ -1,4 +1,4 @@
--- What reading the text files of both folders may refuse. Our choice.
+-- The errors of reading the text files of both folders. Our choice.
 use Rattle.std.specs.Prelude.{◌≡◌, ◌⊎◌, ◌<◌, ◌≤◌, ℕ, All, Bool, List, None, Option, Some, ◌++◌, ◌∷◌, Contains, false, is_some, length, true}
 use Rattle.hwdb_spec.specs.Folders.{Choice, choice, max_files, names, path_of}
 use Rattle.hwdb_spec.specs.Store.{Contents}
@@ -13,7 +13,7 @@ use Rattle.hwdb_spec.specs.declared.refusals.Refusal.{Refusal}
 abbrev pub IsChosenUnread : (root : List ℕ) → List Choice → Refusal → Type 0
 IsChosenUnread root chosen refusal = (c : Choice) × Contains chosen c × IsUnread (root ++ path_of c) refusal
 
--- at the path is a folder, whose text files have these names, and no file; where none are told, a file is there
+-- at the path is a folder, whose text files have these names, and no file; if none are told, a file is there
 abbrev pub IsFolderAt : (path : List ℕ) → Contents → Option (List (List ℕ)) → Type 0
 IsFolderAt path contents None = is_some (bytes_at contents path) ≡ true
 IsFolderAt path contents (Some names) = (is_some (bytes_at contents path) ≡ false) × AreNamesIn path contents names
@@ -42,7 +42,7 @@ pub record IsChoiceRefused (Unread : List Choice → Refusal → Type 0) (root :
   pub refused : ((max_files < length (names etc usr)) × (refusal ≡ Plain TooManyFiles))
       ⊎ ((length (names etc usr) ≤ max_files) × Unread (choice etc usr) refusal)
 
--- reading the text files of both folders is refused: listing /etc's, or /usr/lib's, or at a chosen file; or want of memory
+-- reading the text files of both folders fails: listing /etc's, or /usr/lib's, or at a chosen file; or for want of memory
 abbrev pub AreUnreadAt : (Unread : List Choice → Refusal → Type 0) (root : List ℕ) → Contents → Refusal → Type 0
 AreUnreadAt Unread root contents refusal =
     (refusal ≡ Plain Memory)

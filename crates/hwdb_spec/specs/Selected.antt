@@ -13,7 +13,7 @@ IsListed etc usr c = Contains (if c.from_etc then etc else usr) c.name
 abbrev pub AreTexts : (root : List ℕ) (contents : Contents) → List Choice → (texts : List (List ℕ)) → Type 0
 AreTexts root contents chosen texts = map Some texts ≡ map (λ c. bytes_at contents (root ++ path_of c)) chosen
 
--- what stands under a path of the part stands there in the whole
+-- what is under a path of the part is there in the whole
 abbrev pub IsPartOf : (whole part : Contents) → Type 0
 IsPartOf whole part = (path : List ℕ) → is_some (bytes_at part path) ≡ true → bytes_at part path ≡ bytes_at whole path
 

@@ -25,7 +25,7 @@ last_texts_of (Query true) = last_values_json
 last_texts_of (Explain false) = explained_texts
 last_texts_of (Explain true) = explained_lines_json
 
--- what answering the devices of a text may refuse, once there is a database
+-- the errors of answering the devices of a text, if there is a database
 abbrev pub IsAnswerRefusal : ToolError → Type 0
 IsAnswerRefusal Read = Unit {0}
 IsAnswerRefusal Write = Unit {0}
@@ -34,7 +34,7 @@ IsAnswerRefusal TooManyLines = Unit {0}
 IsAnswerRefusal Memory = Unit {0}
 IsAnswerRefusal _ = ⊥
 
--- what it may refuse
+-- when each error comes
 abbrev pub IsStreamRefusal : (bytes : List ℕ) → ToolError → Type 0
 IsStreamRefusal bytes (BadDatabase fault) = IsNoDatabase bytes fault
 IsStreamRefusal bytes Read = Unit {0}
@@ -44,7 +44,7 @@ IsStreamRefusal bytes TooManyLines = Unit {0}
 IsStreamRefusal bytes Memory = Unit {0}
 IsStreamRefusal bytes _ = ⊥
 
--- what holds where bytes are no database
+-- what is so if bytes are no database
 abbrev pub IfBadDatabase : Type 0 → ToolError → Type 0
 IfBadDatabase P (BadDatabase fault) = P
 IfBadDatabase P _ = Unit {0}

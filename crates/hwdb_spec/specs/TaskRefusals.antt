@@ -1,5 +1,5 @@
--- Which refusals end a task, when each comes, and what it leaves: the files, what standard error had taken before the
--- refusal's line, and standard output. Our choice.
+-- Which errors end a task, when each comes, and what it leaves: the files, what standard error had taken before the
+-- error's line, and standard output. Our choice.
 use Rattle.std.specs.Prelude.{◌≡◌, ◌≢◌, ◌⊎◌, ◌==◌, ℕ, Bool, true, false, not, is_some, length, List, [], ◌∷◌, Option, Some, map, option_map, string_bytes, codes}
 use Rattle.clap.specs.Faults.{fault_of}
 use Rattle.hwdb_spec.specs.CommandLine.{hwdb_app}
@@ -48,7 +48,7 @@ Refuses task root input files refusal = IsUnanswered root files refusal
 abbrev pub MayPrint : Task → (root : List ℕ) (strict : Bool) (input : Option (List ℕ)) → Contents → Texts → Type 0
 MayPrint task root strict input files texts = (status : ℕ) × IsAnswerOf task root strict input files status texts
 
--- a task is refused, by what it leaves on both outputs
+-- a task ends with an error, by what it leaves on both outputs
 abbrev pub IsPrintingRefused : Task → (root : List ℕ) (strict : Bool) → Refusal → (before now : World) → Type 0
 IsPrintingRefused (Query devices json) root strict refusal before now =
     AreUnanswered root (form.Query json) (map string_bytes devices.items) before.input.bytes before.files.seen refusal before.err now.err before.out now.out
@@ -62,7 +62,7 @@ IsPrintingRefused (Device path strings json pattern) root strict refusal before 
 IsPrintingRefused task root strict refusal before now =
     IsUnprinted (Refuses task root before.input.bytes before.files.seen) (MayPrint task root strict before.input.bytes before.files.seen) refusal before.err now.err before.out now.out
 
--- a task is refused: it leaves that, and the files as they were; an update may leave more
+-- a task ends with an error: it leaves that, and the files as they were; an update may leave more
 abbrev pub IsTaskRefused : Task → (root : List ℕ) (usr strict : Bool) → Refusal → (before now : World) → Type 0
 IsTaskRefused (Update verbose skip) root usr strict refusal before now =
     IsTellingUpdateRefused root usr verbose skip refusal before.files now.files before.err now.err × (now.out ≡ before.out)
@@ -91,7 +91,7 @@ IsTaskReason task root usr before now refusal =
     HasReason (IsUnreadableFor task before.files.fails before.files.seen)
     (IsUnwritable (database_folder usr root) before.files.seen before.files.failures now.files.failures) before.files.seen refusal
 
--- a task is refused, and for its reason
+-- a task ends with an error, and what that says is so
 abbrev pub IsNotDone : Task → (root : List ℕ) (usr strict : Bool) (before now : World) → Refusal → Type 0
 IsNotDone task root usr strict before now refusal = IsTaskRefused task root usr strict refusal before now × IsTaskReason task root usr before now refusal
 
@@ -99,16 +99,16 @@ IsNotDone task root usr strict before now refusal = IsTaskRefused task root usr 
 abbrev pub IsJobNotDone : Job → (before now : World) → Refusal → Type 0
 IsJobNotDone job = IsNotDone job.task (root_of job) job.usr job.strict
 
--- the status where a task is refused: 2 of `diff`, whose 1 says that something changed, else 1
+-- the status of an error: 2 of `diff`, whose 1 says that something changed, else 1
 abbrev pub refused_status : Task → ℕ
 refused_status (Diff old_path new_path) = 2
 refused_status _ = 1
 
--- what is said of a refusal: of standard output's, where the system tells why it failed, that it can't be written
+-- what is said of an error: if standard output fails and the system tells why, that it can't be written
 abbrev pub IsSaidOf : (refusal said : Refusal) → Type 0
 IsSaidOf refusal said = (said ≡ refusal) ⊎ ((refusal ≡ Plain Write) × IsAt Write (codes "standard output") said)
 
--- standard error took the line of a refusal, or, if it failed, a prefix of it; the words of its cause are on that line
+-- standard error took the line of an error, or, if it failed, a prefix of it; the words of its cause are on that line
 pub record IsSaid (refusal : Refusal) (before now : Told) : Type 0 where
   pub said : Refusal
   pub of : IsSaidOf refusal said
@@ -120,7 +120,7 @@ pub record IsSaid (refusal : Refusal) (before now : Told) : Type 0 where
 abbrev pub with_err : Told → World → World
 with_err err world = record { files = world.files; input = world.input; out = world.out; err = err; devices = world.devices }
 
--- The words ask for a job, and have no fault. It is refused with this status, for its reason. Then standard error took the line.
+-- The words ask for a job, and have no fault. It ends with an error and this status. Then standard error took the line.
 pub record IsJobRefused (words : List (List ℕ)) (status : ℕ) (before now : World) : Type 0 where
   pub job : Job
   pub asked : AskFor words job
@@ -190,7 +190,7 @@ abbrev pub HasSucceeded : (gone_before gone : Type 0) (words : List (List ℕ)) 
 HasSucceeded gone_before gone words before now =
     IsJobDone words 0 before now ⊎ (IsTold words before now ⊎ (IsCutShort gone_before gone words before now ⊎ IsTextCutShort gone words before now))
 
--- a run with another one: what was done found something, or the job, the words or the root are refused
+-- a run with another one: what was done found something, or there is an error of the job, the words or the root
 abbrev pub HasFailedWith : (words : List (List ℕ)) (status : ℕ) (before now : World) → Type 0
 HasFailedWith words status before now =
     IsJobDone words status before now ⊎ (IsJobRefused words status before now ⊎ (AreRefused words status before now ⊎ IsRootRefused words status before now))

@@ -1,4 +1,4 @@
--- What each task may refuse, when, and what it leaves. Our choice.
+-- The errors of each task, when each comes, and what it leaves. Our choice.
 use Rattle.std.specs.Prelude.{◌∷◌, ◌≡◌, ◌≢◌, ◌≤◌, ◌⊎◌, Bool, Contains, List, None, Option, Some, [], codes, false, length, true, ℕ}
 use Rattle.hwdb_spec.specs.Listings.{IsListBeginning, IsListRefusal}
 use Rattle.hwdb_spec.specs.UpdateErrors.{IsAskRefusal, IsUpdateRefusal, UpdateUndone}
@@ -25,12 +25,12 @@ use Rattle.hwdb_spec.specs.Errors.{refusal_of_scan}
 use Rattle.hwdb_spec.specs.declared.errors.ToolError.{ToolError}
 use Rattle.hwdb_spec.specs.declared.errors.ToolError.TheVariants.{Memory, Write}
 
--- what finding that database may refuse: there is none, or it can't be read
+-- an error of finding that database: there is none, or it can't be read
 abbrev pub IsUnfound : (root : List ℕ) → Contents → Refusal → Type 0
 IsUnfound root contents NoDatabase = asked_database root contents ≡ None
 IsUnfound root contents refusal = (path : List ℕ) × IsAskedPath root contents path × IsUnreadAt contents path refusal
 
--- the bytes at the asked path are refused, which are no more than a file may have
+-- the bytes at the asked path, no more than a file may have, give an error
 pub record IsNotAnswered (root : List ℕ) (Refuses : (bytes : List ℕ) → ToolError → Type 0) (contents : Contents) (refusal : Refusal) : Type 0 where
   pub path : List ℕ
   pub bytes : List ℕ
@@ -42,18 +42,18 @@ pub record IsNotAnswered (root : List ℕ) (Refuses : (bytes : List ℕ) → Too
   pub is : IsOfDatabase error path refusal
   pub refused : Refuses bytes error
 
--- a command that answers from the database is refused: it can't be read, or is none
+-- a command that answers from the database fails: it can't be read, or is none
 abbrev pub IsUnanswered : (root : List ℕ) → Contents → Refusal → Type 0
 IsUnanswered root contents refusal = IsUnfound root contents refusal ⊎ IsNotAnswered root IsDatabaseRefusal contents refusal
 
--- A command that prints such texts is refused: before it wrote anything, or since it can't write one.
+-- A command that prints such texts fails: before it wrote anything, or since it can't write one.
 abbrev pub IsUnprinted : (Refuses : Refusal → Type 0) (Are : Texts → Type 0) → Refusal → (err_before err_now out_before out_now : Told) → Type 0
 IsUnprinted Refuses Are refusal err_before err_now out_before out_now =
     (Refuses refusal × (err_now ≡ err_before) × (out_now ≡ out_before))
     ⊎ ((refusal ≡ Plain Write) × PrintedPart Are err_before err_now out_before out_now)
 
--- `list` is refused over the bytes at the asked path, and standard output has what it had, or a prefix if it failed, or
--- whole lines if memory did
+-- `list` fails over the bytes at the asked path. Standard output has what it had, or a prefix if it failed, or whole lines if
+-- memory did.
 pub record IsUnlisted (root : List ℕ) (json : Bool) (device : List ℕ) (after : Option (List ℕ)) (limit : Option ℕ) (contents : Contents) (refusal : Refusal) (before now : Told) : Type 0 where
   pub path : List ℕ
   pub bytes : List ℕ
@@ -74,20 +74,21 @@ IsListRefused root json device after limit contents refusal before now =
     (IsUnfound root contents refusal × (now ≡ before))
     ⊎ IsUnlisted root json device after limit contents refusal before now
 
--- how a refusal names a file that is given: `-` is standard input
+-- how an error names a file that is given: `-` is standard input
 abbrev pub told_as : (dash : Bool) (path : List ℕ) → List ℕ
 told_as true path = codes "standard input"
 told_as false path = path
 
+-- the same, by the path
 abbrev pub told_path : (path : List ℕ) → List ℕ
 told_path path = told_as (is_dash path) path
 
--- reading a file that is given is refused
+-- reading a file that is given fails
 abbrev pub IsUnreadGiven : (dash : Bool) (path : List ℕ) → Contents → Refusal → Type 0
 IsUnreadGiven true path contents refusal = IsUnread (codes "standard input") refusal
 IsUnreadGiven false path contents refusal = IsUnreadAt contents path refusal
 
--- the bytes of the file are refused, which are no more than a file may have
+-- the bytes of the file, no more than a file may have, give an error
 pub record IsNotAsked (file : List ℕ) (input : Option (List ℕ)) (contents : Contents) (refusal : Refusal) : Type 0 where
   pub bytes : List ℕ
   pub read : IsGiven file input contents bytes
@@ -96,25 +97,25 @@ pub record IsNotAsked (file : List ℕ) (input : Option (List ℕ)) (contents : 
   pub is : refusal ≡ Plain error
   pub refused : (error ≢ Write) × IsAskRefusal bytes max_file error
 
--- `ask` is refused: its file can't be read, or not be compiled
+-- `ask` fails: its file can't be read, or not be compiled
 abbrev pub IsAskRefused : (file : List ℕ) (input : Option (List ℕ)) → Contents → Refusal → Type 0
 IsAskRefused file input contents refusal = IsUnreadGiven (is_dash file) file contents refusal ⊎ IsNotAsked file input contents refusal
 
--- a path can't be read: where it is given, also where nothing stands there, else only where reading it may fail
+-- a path can't be read: if it is given, also if nothing is there, else only if reading it may fail
 abbrev pub IsUnreadableIf : (is_given : Bool) (MayFail : (path : List ℕ) → Type 0) → Contents → (path : List ℕ) → Type 0
 IsUnreadableIf true MayFail contents = IsUnreadable MayFail contents
 IsUnreadableIf false MayFail contents = MayFail
 
--- reading one of the given files was refused
+-- reading one of the given files failed
 abbrev pub IsGivenUnread : (given : List (List ℕ)) → Refusal → Type 0
 IsGivenUnread given refusal = (refusal ≡ Plain Memory) ⊎ ((path : List ℕ) × Contains given path × IsUnread (told_path path) refusal)
 
--- reading the files that are to be checked is refused: those for which the given paths stand, or where none is given those of both folders
+-- reading the files that are to be checked fails: those that the given paths mean, or if none is given those of both folders
 abbrev pub AreUncheckable : (given : List (List ℕ)) (root : List ℕ) → Contents → Refusal → Type 0
 AreUncheckable [] root contents refusal = AreUnread root contents refusal
 AreUncheckable (path ∷ more) root contents refusal = IsNamedUnread IsGivenUnread contents (path ∷ more) refusal
 
--- such files are refused
+-- such files give an error
 pub record AreNotChecked (Are : List Source → Type 0) (refusal : Refusal) : Type 0 where
   pub sources : List Source
   pub are : Are sources
@@ -122,11 +123,11 @@ pub record AreNotChecked (Are : List Source → Type 0) (refusal : Refusal) : Ty
   pub is : refusal ≡ Plain (refusal_of_scan error)
   pub refused : IsCheckRefusal sources error
 
--- `check` is refused: its files can't be read, or not be checked
+-- `check` fails: its files can't be read, or not be checked
 abbrev pub IsCheckRefused : (Unread : Refusal → Type 0) (Are : List Source → Type 0) → Refusal → Type 0
 IsCheckRefused Unread Are refusal = Unread refusal ⊎ AreNotChecked Are refusal
 
--- compiling the files is refused, or what is said of them can't be written: nothing of the files changed
+-- compiling the files fails, or what is said of them can't be written: no file changed
 pub record IsUncompiled (of_etc of_usr : List Source) (listed : Option (List (List ℕ))) (refusal : Refusal) (before now : Files) (err_before err_now : Told) : Type 0 where
   pub error : ToolError
   pub is : refusal ≡ Plain error
@@ -146,7 +147,7 @@ pub record IsUnwritten (root : List ℕ) (usr : Bool) (of_etc of_usr : List Sour
 abbrev pub IsUnwritable : (folder : List ℕ) → Contents → (failures_before failures_now : ℕ) → Type 0
 IsUnwritable folder contents before now = HasFailed before now ⊎ AreTaken folder most_parts contents
 
--- these text files of both folders were read, and compiling them or putting their database in its place is refused
+-- these text files of both folders were read, and compiling them or putting their database in its place fails
 pub record IsUpdateUndone (root : List ℕ) (usr verbose : Bool) (read : Contents) (refusal : Refusal) (before now : Files) (err_before err_now : Told) : Type 0 where
   pub of_etc : List Source
   pub of_usr : List Source
@@ -155,13 +156,13 @@ pub record IsUpdateUndone (root : List ℕ) (usr verbose : Bool) (read : Content
   pub refused : IsUncompiled of_etc of_usr (listing verbose of_usr) refusal before now err_before err_now
       ⊎ IsUnwritten root usr of_etc of_usr (listing verbose of_usr) refusal before now err_before err_now
 
--- an update of files that were read is refused: memory, or one of these
+-- an update of files that were read fails: for want of memory, or for one of these
 abbrev pub IsSelectedRefused : (root : List ℕ) (usr verbose : Bool) (read : Contents) → Refusal → (before now : Files) (err_before err_now : Told) → Type 0
 IsSelectedRefused root usr verbose read refusal before now err_before err_now =
     ((refusal ≡ Plain Memory) × AreKept before now × (err_now ≡ err_before))
     ⊎ IsUpdateUndone root usr verbose read refusal before now err_before err_now
 
--- saying lines was refused: memory, or standard error, which took a prefix
+-- saying lines failed: for want of memory, or at standard error, which took a prefix
 abbrev pub IsUntold : (text : List ℕ) → Refusal → (err_before err_now : Told) → Type 0
 IsUntold text refusal err_before err_now =
     ((refusal ≡ Plain Memory) × (err_now ≡ err_before)) ⊎ ((refusal ≡ Plain Write) × WasCut text err_before err_now)

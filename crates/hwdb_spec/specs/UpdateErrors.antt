@@ -1,4 +1,4 @@
--- What `update` and `ask` write and return, as functions of the files (systemd-hwdb(8); `ask` is our choice).
+-- When each error of `update` and `ask` comes, and what it leaves (systemd-hwdb(8); `ask` is our choice).
 use Rattle.std.specs.Io.KnownBytes.{Appends}
 use Rattle.std.specs.Prelude.{List, Option, [], ℕ}
 use Rattle.hwdb_spec.specs.CompileErrors.{IsRefusal}
@@ -27,14 +27,14 @@ pub record UpdateUndone (etc usr : List Source) (listed : Option (List (List ℕ
   pub seen : tells → IsSeen folder database old new u
   pub left : tells → IsLeft folder database old before now u
 
--- what putting a database in its place may refuse
+-- the errors of putting a database in its place
 abbrev pub IsPlaceRefusal : ToolError → Type 0
 IsPlaceRefusal Write = Unit {0}
 IsPlaceRefusal Memory = Unit {0}
 IsPlaceRefusal (Replace _) = Unit {0}
 IsPlaceRefusal _ = ⊥
 
--- what `update` may refuse
+-- when each error of `update` comes
 abbrev pub IsUpdateRefusal : (etc usr : List Source) (max_bytes : ℕ) → ToolError → Type 0
 IsUpdateRefusal etc usr max_bytes TooManyFiles = IsRefusal etc usr max_bytes compiling.TooManyFiles
 IsUpdateRefusal etc usr max_bytes TooManyLines = IsRefusal etc usr max_bytes compiling.TooManyLines
@@ -44,7 +44,7 @@ IsUpdateRefusal etc usr max_bytes Memory = Unit {0}
 IsUpdateRefusal etc usr max_bytes (Replace _) = Unit {0}
 IsUpdateRefusal etc usr max_bytes _ = ⊥
 
--- what `ask` may refuse, with the program's limit
+-- when each error of `ask` comes, with the program's limit
 abbrev pub IsAskRefusal : (bytes : List ℕ) (max_bytes : ℕ) → ToolError → Type 0
 IsAskRefusal bytes max_bytes TooManyLines = HaveManyLines (lone bytes) []
 IsAskRefusal bytes max_bytes TooLarge = IsTooLarge (lone bytes) [] max_bytes

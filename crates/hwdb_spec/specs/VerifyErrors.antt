@@ -1,4 +1,4 @@
--- What `verify` refuses. Our choice.
+-- When each error of summing up a database comes. Our choice.
 use Rattle.std.specs.Prelude.{List, ℕ}
 use Rattle.hwdb_spec.specs.declared.errors.VerifyError.{VerifyError}
 use Rattle.hwdb_spec.specs.declared.errors.VerifyError.TheVariants.{Database, Memory}

@@ -9,7 +9,7 @@ use Rattle.hwdb_spec.specs.declared.job.WordsFault.TheVariants.{Help, Memory, Us
 use Rattle.hwdb_spec.specs.declared.job.WordsFault.{WordsFault}
 use Rattle.hwdb_spec.specs.CommandLine.{hwdb_app}
 
--- help or the version is told where it was asked for, and usage at any other error of the words; the text isn't empty
+-- help or the version is told if it was asked for, and usage at any other error of the words; the text isn't empty
 abbrev pub IsToldOf : ErrorKind → WordsFault → Type 0
 IsToldOf kind (Help text) = ((kind ≡ DisplayHelp) ⊎ (kind ≡ DisplayVersion)) × (string_bytes text ≢ [])
 IsToldOf kind (Usage text) = ((kind ≢ DisplayHelp) × (kind ≢ DisplayVersion) × (kind ≢ OutOfMemory)) × (string_bytes text ≢ [])

@@ -15,7 +15,7 @@ use Rattle.hwdb_spec.specs.CommandLine.{hwdb_app}
 abbrev pub AskFor : List Text → Job → Type 0
 AskFor words = IsJobOf (matches_of hwdb_app words) (subcommand_of hwdb_app words)
 
--- they ask for help, or for the version: by the options, or by the word `help`, which is refused where the next one names no command
+-- they ask for help, or for the version: by the options, or by the word `help` and after it a command or nothing
 abbrev pub AskForText : List Text → Type 0
 AskForText words = IsAmong DisplayHelp (fault_of hwdb_app words) ⊎ IsAmong DisplayVersion (fault_of hwdb_app words)
 

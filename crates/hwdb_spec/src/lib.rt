@@ -62,6 +62,39 @@
 //! | `Lookups` | the strings that udev's rules ask for a device, in their order |
 //! | `DeviceTexts` | what `device` prints: the strings that are asked for a device, and what each gets |
 //! | `DeviceAsked` | the device that `device` is asked for, what it prints, and what it says if there is none |
+//! | `CommandLine` | the command line as data: options, arguments and commands |
+//! | `Jobs` | which job the matches of a command line ask for |
+//! | `Words` | what words ask for |
+//! | `WordFaults` | what is told of words that ask for nothing |
+//! | `Errors` | what an error becomes for the caller of a call, and its words |
+//! | `CompileErrors` | when each error of the compiler comes |
+//! | `DatabaseErrors` | when each error of answering from a database comes |
+//! | `VerifyErrors` | the same of summing up a database |
+//! | `DiffErrors` | the same of comparing two |
+//! | `DumpErrors` | the same of printing one as text |
+//! | `CheckErrors` | the same of checking text files |
+//! | `Refusals` | the errors that end the program, and the line of each |
+//! | `Selected` | which text files of two folders are read, and what each holds |
+//! | `Reading` | the errors of reading them |
+//! | `LeftOutTold` | what is said of those that are left out |
+//! | `SysfsAnswers` | what a file system answers of devices, and what is made of that |
+//! | `Streams` | what the devices of standard input get, and when each error comes |
+//! | `Listings` | what `list` prints, and when each error comes |
+//! | `UpdateErrors` | when each error of `update` and `ask` comes |
+//! | `NotReplaced` | what a replacement that failed leaves |
+//! | `GivenFolders` | why it can't be told which text files the paths of `check` mean |
+//! | `Undone` | the errors of each task, and what they leave |
+//! | `Queries` | what `query` and `explain` print, also of standard input, and their errors |
+//! | `NamedDatabases` | the database that `verify` and `dump` read, and their errors |
+//! | `ComparedDatabases` | the errors of `diff`, with their paths |
+//! | `NearErrors` | the errors of `near` |
+//! | `DeviceErrors` | what `device` asks sysfs, and its errors |
+//! | `Readable` | an update of the text files that can be read |
+//! | `HidingTold` | an update, and before it the line on a database that hides the new one |
+//! | `Reasons` | what an error says of a file is so |
+//! | `CheckedReasons` | the same of `check` |
+//! | `Program` | what the program does, by the job that its words ask for |
+//! | `TaskRefusals` | which errors end a task, and what each leaves: the promise of `program` |
 //!
 //! The types below are those that the definitions name.
 #![tactic(auto)]
