@@ -66,6 +66,18 @@ fn reports(alloc: Global, db: &Db<'_>, found: &[Found<'_>]) -> Result<Vec<u8>, A
     prefix_reports(alloc, &patterns, &texts)
 }
 
+/// Adds reports after a line that says what they are; nothing if there are none.
+fn push_part(text: &mut Vec<u8>, reports: &[u8]) -> Result<(), AllocError>
+    ensures { OnOk result
+        (text.new.items ≡ text.old.items ++ DeviceTexts.nearest_part reports.now) }
+{
+    if reports.is_empty() {
+        return Ok(());
+    }
+    text.extend_from_slice(b"nearest patterns to what got nothing:\n")?;
+    text.extend_from_slice(reports)
+}
+
 /// Adds for each such prefix the pattern that is nearest to a string that gets nothing, if there is one.
 pub(crate) fn push_nearest(
     alloc: Global,
@@ -77,10 +89,5 @@ pub(crate) fn push_nearest(
         ++ DeviceTexts.nearest_text (database_patterns db.now) (all_found found.now)) }
 {
     let reports = reports(alloc, db, found)?;
-    if reports.is_empty() {
-        return Ok(());
-    }
-    text.extend_from_slice(b"nearest patterns to what got nothing:\n")?;
-    text.extend_from_slice(&reports)?;
-    Ok(())
+    push_part(text, &reports)
 }
