@@ -18,7 +18,7 @@ For more information, try 'hwdb help', or 'hwdb help COMMAND'.
 ";
 
 /// Each command, and what it does.
-const COMMANDS: [(&str, &str); 12] = [
+const COMMANDS: [(&str, &str); 13] = [
     ("update", update::SHORT),
     ("query", query::SHORT),
     ("explain", explain::SHORT),
