@@ -21,6 +21,7 @@ mod list;
 mod matched;
 mod near;
 mod query;
+mod status;
 mod test;
 mod tips;
 mod update;

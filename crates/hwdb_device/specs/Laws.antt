@@ -4,16 +4,17 @@ use Rattle.hwdb_spec.specs.DeviceTexts.{device_text, files_device_text, found_fo
 use Rattle.hwdb_spec.specs.Folders.{Source}
 use Rattle.hwdb_spec.specs.Format.{IsDatabase}
 use Rattle.hwdb_spec.specs.Lookups.{Told, lookups}
+use Rattle.hwdb_spec.specs.Near.{PatternAt}
 use Rattle.hwdb_spec.specs.Sysfs.{Device}
 use Rattle.hwdb_spec.specs.Tree.{Tree, map_of_files}
 use Rattle.hwdb_spec.specs.Written.{IsDatabaseOf}
 use Rattle.hwdb_spec.specs.declared.devices.DeviceForm.{DeviceForm}
 
--- if each string gets the same, the same is printed
+-- if each string gets the same, the same is printed, whatever patterns are near
 abbrev pub SameAnswersSameText : Type 0
 SameAnswersSameText =
     (tells other : List ℕ → Told) → ((text : List ℕ) → tells text ≡ other text)
-    → (form : DeviceForm) (d : Device) → found_form form d (lookups tells d) ≡ found_form form d (lookups other d)
+    → (form : DeviceForm) (d : Device) (patterns : List PatternAt) → found_form form d patterns (lookups tells d) ≡ found_form form d patterns (lookups other d)
 
 -- over the database of some files the text is that of the last assignments that they have
 abbrev pub TextIsOfFiles : Type 0

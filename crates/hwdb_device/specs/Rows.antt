@@ -1,9 +1,10 @@
--- Worked rows: what is printed of a keyboard and of a mouse, by what strings get.
-use Rattle.std.specs.Prelude.{List, ℕ, [], ◌∷◌, ◌++◌, ◌≡◌, codes, if◌then◌else◌}
+-- Worked rows: what is printed of a keyboard, of a mouse and of a small device, by what strings get.
+use Rattle.std.specs.Prelude.{List, ℕ, [], ◌∷◌, ◌++◌, ◌≡◌, codes, if◌then◌else◌, map}
 use Rattle.hwdb_spec.specs.Assignment.{Assignment}
-use Rattle.hwdb_spec.specs.DeviceTexts.{device_row, found_form, pattern_for}
+use Rattle.hwdb_spec.specs.DeviceTexts.{device_row, found_form, nearest_text, pattern_for}
 use Rattle.hwdb_spec.specs.Folders.{same}
-use Rattle.hwdb_spec.specs.Lookups.{Told, lookups}
+use Rattle.hwdb_spec.specs.Lookups.{Found, Told, lookups}
+use Rattle.hwdb_spec.specs.Near.{PatternAt}
 use Rattle.hwdb_spec.specs.Sysfs.{Ancestor, Device}
 use Rattle.hwdb_spec.specs.declared.devices.DeviceForm.TheVariants as form
 use Rattle.hwdb_rules.specs.Rows.{keyboard, machine, mouse}
@@ -38,7 +39,7 @@ tells text =
 -- what is printed without options: the later string's value counts
 abbrev pub TextRow : Type 0
 TextRow =
-    found_form form.Lookups (device keyboard) (lookups tells (device keyboard))
+    found_form form.Lookups (device keyboard) [] (lookups tells (device keyboard))
     ≡ l (codes "evdev:input:b0011v0001p0001eAB54-e0,1,4")
     ++ (l (codes "  60-evdev, of /devices/input4: nothing")
     ++ (l (codes "")
@@ -72,7 +73,7 @@ TextRow =
 -- the strings alone
 abbrev pub StringsRow : Type 0
 StringsRow =
-    found_form form.Strings (device keyboard) (lookups tells (device keyboard))
+    found_form form.Strings (device keyboard) [] (lookups tells (device keyboard))
     ≡ l (codes "evdev:input:b0011v0001p0001eAB54-e0,1,4")
     ++ (l (codes "evdev:atkbd:dmi:bvrN1CET81W_1.49_:")
     ++ (l (codes "evdev:name:AT Set _2_:dmi:bvrN1CET81W_1.49_:")
@@ -83,14 +84,14 @@ StringsRow =
 -- a record to begin with: the last string of 60-evdev for a keyboard
 abbrev pub KeysRow : Type 0
 KeysRow =
-    found_form form.Pattern (device keyboard) (lookups tells (device keyboard))
+    found_form form.Pattern (device keyboard) [] (lookups tells (device keyboard))
     ≡ l (codes "evdev:name:AT Set _2_:phys:isa0060:ev:120013:dmi:bvrN1CET81W_1.49_:")
     ++ (l (codes "# KEYBOARD_KEY_<scan code>=<key name>") ++ l (codes "# EVDEV_ABS_<axis>=<min>:<max>:<resolution>"))
 
 -- that of 70-mouse for a mouse
 abbrev pub MouseRow : Type 0
 MouseRow =
-    found_form form.Pattern (device mouse) (lookups tells (device mouse))
+    found_form form.Pattern (device mouse) [] (lookups tells (device mouse))
     ≡ l (codes "mouse:usb:v046dpc077:name:USB Mouse:")
     ++ (l (codes "# MOUSE_DPI=<dpi>@<hz>") ++ l (codes "# MOUSE_WHEEL_CLICK_ANGLE=<degrees>"))
 
@@ -105,3 +106,84 @@ ListRow = device_row (device keyboard) ≡ l (codes "event4  AT Set (2)")
 -- nothing is asked for what isn't there
 abbrev pub NoRow : Type 0
 NoRow = device_row (device []) ≡ []
+
+-- ---- a small device, and what is asked for it
+
+-- a device of a subsystem
+abbrev pub in_subsystem : (subsystem : List ℕ) → Device
+in_subsystem subsystem = device (record { path = codes "/devices/n1"; name = codes "n1"; subsystem = subsystem; driver = []; uevent = []; attributes = [] } ∷ [])
+
+-- a string that was asked of it
+abbrev pub asked : (rule text : List ℕ) → Told → Found
+asked rule text told = record { rule = rule; parent = 0; text = text; told = told }
+
+-- three strings, of which the second gets a property, and people set none for the last
+abbrev pub three : List Found
+three =
+    asked (codes "60-evdev") (codes "evdev:a1") [] ∷ asked (codes "70-mouse") (codes "mouse:b") (gives 2 (codes "mouse:*") (codes "K") (codes "v"))
+    ∷ asked (codes "50-udev-default") (codes "usb:v1") [] ∷ []
+
+-- a pattern at a line
+abbrev pub pattern_at : (line : ℕ) → (pattern : List ℕ) → PatternAt
+pattern_at line pattern = record { path = codes "/etc/a.hwdb"; file = 1; line = line; pattern = pattern }
+
+-- some patterns: two begin as the first string does, and others as the second and as the last
+abbrev pub patterns : List PatternAt
+patterns = pattern_at 2 (codes "mouse:*") ∷ pattern_at 3 (codes "evdev:a2*") ∷ pattern_at 5 (codes "evdev:zz") ∷ pattern_at 7 (codes "usb:v2") ∷ pattern_at 9 (codes "evde:a1") ∷ []
+
+-- the whole text: last what is left out of a network device, and the nearest pattern to the string that gets nothing
+abbrev pub NearestRow : Type 0
+NearestRow =
+    found_form form.Lookups (in_subsystem (codes "net")) patterns three
+    ≡ l (codes "evdev:a1")
+    ++ (l (codes "  60-evdev, of /devices/n1: nothing")
+    ++ (l (codes "")
+    ++ (l (codes "mouse:b")
+    ++ (l (codes "  70-mouse, of /devices/n1")
+    ++ (l (codes "K=v")
+    ++ (l (codes "    /etc/a.hwdb:2  mouse:*")
+    ++ (l (codes "")
+    ++ (l (codes "usb:v1")
+    ++ (l (codes "  50-udev-default, of /devices/n1: nothing")
+    ++ (l (codes "")
+    ++ (l (codes "properties:")
+    ++ (l (codes "K=v")
+    ++ (l (codes "left out: udev asks ethtool for the driver; this is the nearest parent's")
+    ++ (l (codes "nearest patterns to what got nothing:")
+    ++ (l (codes "/etc/a.hwdb:3: the device has `1`, the pattern `2`")
+    ++ (l (codes "    evdev:a2*")
+    ++ (l (codes "           ^")
+    ++ (l (codes "    evdev:a1")
+    ++ l (codes "           ^")))))))))))))))))))
+
+-- of two strings with a prefix the one counts that misses fewer literals, and of two that miss as many the first; each prefix has its own
+abbrev pub ClosestRow : Type 0
+ClosestRow =
+    nearest_text (pattern_at 2 (codes "evdev:abc") ∷ pattern_at 4 (codes "mouse:m") ∷ [])
+    (map (λ text. asked [] text []) (codes "mouse:n" ∷ codes "evdev:axx" ∷ codes "evdev:abx" ∷ codes "evdev:aby" ∷ codes "usb:v1" ∷ []))
+    ≡ l (codes "nearest patterns to what got nothing:")
+    ++ (l (codes "/etc/a.hwdb:2: the device has `x`, the pattern `c`")
+    ++ (l (codes "    evdev:abc")
+    ++ (l (codes "            ^")
+    ++ (l (codes "    evdev:abx")
+    ++ (l (codes "            ^")
+    ++ (l (codes "/etc/a.hwdb:4: the device has `n`, the pattern `m`")
+    ++ (l (codes "    mouse:m")
+    ++ (l (codes "          ^")
+    ++ (l (codes "    mouse:n")
+    ++ l (codes "          ^"))))))))))
+
+-- what is left out of a disk, and nothing of a keyboard
+abbrev pub LeftOutRows : Type 0
+LeftOutRows =
+    map (λ subsystem. found_form form.Lookups (in_subsystem subsystem) [] []) (codes "block" ∷ codes "input" ∷ [])
+    ≡ (l (codes "no properties") ++ l (codes "left out: 90-iocost asks by what the disk itself answers")) ∷ l (codes "no properties") ∷ []
+
+-- lines of JSON: one for each string, and one for the result
+abbrev pub JsonRow : Type 0
+JsonRow =
+    found_form form.Json (in_subsystem (codes "net")) patterns three
+    ≡ l (codes "{\"rule\":\"60-evdev\",\"device\":\"evdev:a1\",\"path\":\"/devices/n1\",\"properties\":{}}")
+    ++ (l (codes "{\"rule\":\"70-mouse\",\"device\":\"mouse:b\",\"path\":\"/devices/n1\",\"properties\":{\"K\":\"v\"}}")
+    ++ (l (codes "{\"rule\":\"50-udev-default\",\"device\":\"usb:v1\",\"path\":\"/devices/n1\",\"properties\":{}}")
+    ++ l (codes "{\"path\":\"/devices/n1\",\"result\":{\"K\":\"v\"}}")))

@@ -5,6 +5,7 @@
 //! | Module | What it does |
 //! |---|---|
 //! | `printing` | what is printed of a device |
+//! | `nearest` | what is near to strings that get nothing |
 //! | `row` | the line of a device in a list |
 #![tactic(auto)]
 
@@ -14,6 +15,7 @@ mod gifts;
 mod json_lines;
 mod kinds;
 mod laws;
+mod nearest;
 mod outcomes;
 mod printing;
 mod records;
@@ -23,6 +25,9 @@ mod texts;
 mod told;
 
 pub use hwdb_spec::DeviceForm;
-pub use laws::{device_rows, pattern_is_matched, same_answers_same_text, text_is_of_files};
+pub use laws::{
+    asked_rows, device_rows, pattern_is_matched, same_answers_same_text, text_is_of_files,
+    text_rows,
+};
 pub use printing::device_text;
 pub use row::device_row;

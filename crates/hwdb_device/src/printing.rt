@@ -1,12 +1,14 @@
 //! What is printed of a device.
-ghost use Rattle.std.specs.Prelude.{◌≡◌, IfOk};
+ghost use Rattle.std.specs.Prelude.{◌≡◌, ◌++◌, IfOk};
 ghost use Rattle.hwdb_spec.specs.DeviceTexts;
+ghost use Rattle.hwdb_spec.specs.NearAsked.{database_patterns};
 ghost use Rattle.hwdb_sysfs.specs.Views.{device_of};
 ghost use Rattle.hwdb_device.specs.Views.{all_found};
 
 use crate::asking::lookups;
 use crate::found::Found;
 use crate::json_lines::lookups_json;
+use crate::nearest::push_nearest;
 use crate::records::record_text;
 use crate::strings::strings_text;
 use crate::texts::lookups_text;
@@ -15,18 +17,36 @@ use hwdb_spec::DeviceForm;
 use hwdb_sysfs::Device;
 use std::alloc::{AllocError, Global};
 
-/// What is printed of strings that are asked for a device. The only error, here and below, is `AllocError`.
+/// What is printed without options: the strings and what they give, and what is near to those that get nothing. The only error, here
+/// and below, is `AllocError`.
+fn whole_text(
+    alloc: Global,
+    db: &Db<'_>,
+    device: &Device,
+    found: &[Found<'_>],
+) -> Result<Vec<u8>, AllocError>
+    ensures { IfOk result (λ text. text.items
+        ≡ DeviceTexts.lookups_text (device_of device.now) (all_found found.now)
+        ++ DeviceTexts.nearest_text (database_patterns db.now) (all_found found.now)) }
+{
+    let mut text = lookups_text(alloc, device, found)?;
+    push_nearest(alloc, &mut text, db, found)?;
+    Ok(text)
+}
+
+/// What is printed of strings that are asked for a device.
 fn found_form(
     alloc: Global,
+    db: &Db<'_>,
     device: &Device,
     found: &[Found<'_>],
     form: DeviceForm,
 ) -> Result<Vec<u8>, AllocError>
-    ensures { IfOk result (λ text. text.items
-        ≡ DeviceTexts.found_form form (device_of device.now) (all_found found.now)) }
+    ensures { IfOk result (λ text. text.items ≡ DeviceTexts.found_form form
+        (device_of device.now) (database_patterns db.now) (all_found found.now)) }
 {
     match form {
-        DeviceForm::Lookups => lookups_text(alloc, device, found),
+        DeviceForm::Lookups => whole_text(alloc, db, device, found),
         DeviceForm::Strings => strings_text(alloc, found),
         DeviceForm::Json => lookups_json(alloc, device, found),
         DeviceForm::Pattern => record_text(alloc, found),
@@ -37,6 +57,8 @@ fn found_form(
 ///
 /// Each string that udev asks is asked, in its order: a walk ends with an answer. The memory is that of all answers, and a
 /// few copies of their keys. Takes time in proportion to the keys times the properties, beside that of the answers.
+///
+/// Without options the database is walked once, and the memory is also that of all its assignments.
 pub fn device_text(
     alloc: Global,
     db: &Db<'_>,
@@ -47,5 +69,5 @@ pub fn device_text(
         (λ text. text.items ≡ DeviceTexts.device_text form (device_of device.now) db.now) }
 {
     let found = lookups(alloc, Some(db), device)?;
-    found_form(alloc, device, &found, form)
+    found_form(alloc, db, device, &found, form)
 }

@@ -42,13 +42,15 @@ pub trait System: Store {
         ensures reason { IfErr result
             (HasReason (may_fail self.now) ⊥ (Self.seen self.now)) };
 
-    /// The bytes of a text file that was chosen. Refuses what is no regular file: an open of a pipe would wait.
+    /// The bytes of a text file that a folder lists. Refuses what is no regular file: an open of a pipe would wait.
     fn text(&self, alloc: Global, path: &str) -> Result<Vec<u8>, Refusal>
         ensures regular { OnOk result (is_regular self.now path.now) }
         ensures bytes { Self.tells → IfOk result
             (λ bytes. bytes_at (Self.seen self.now) path.now ≡ Some bytes.items) }
         ensures within { IfOk result (λ bytes. vec_len bytes ≤ max_file) }
         ensures refused { IfErr result (IsUnread path.now) }
+        ensures unread { Self.tells → IfErr result
+            (IsUnreadAt (Self.seen self.now) path.now) }
         ensures reason { IfErr result (HasReason
             (IsUnreadable (may_fail self.now) (Self.seen self.now)) ⊥ (Self.seen self.now)) };
 

@@ -1,9 +1,9 @@
 pub mod ComputedLemmas
+mod PrefixLemmas
 pub mod OrderedLemmas
 pub mod NearestLemmas
 pub mod FileLemmas
 pub mod GatheredLemmas
-pub mod JsonLemmas
 pub mod ReportLemmas
 pub mod MatchingLemmas
 pub mod ComputedRows

@@ -1,3 +1,4 @@
 -- What the proofs of this crate speak of.
 pub mod Ratings
 pub mod Lines
+pub mod Closest

@@ -1,12 +1,24 @@
 -- What the laws say of where tokens stop.
 use Rattle.std.specs.Prelude.{List, ℕ, ◌≡◌}
+use Rattle.hwdb_spec.specs.Folders.{Source}
+use Rattle.hwdb_spec.specs.Format.{IsDatabase}
+use Rattle.hwdb_spec.specs.NearAsked.{database_patterns}
+use Rattle.hwdb_spec.specs.NearPrefixes.{files_patterns}
 use Rattle.hwdb_spec.specs.Patterns.{Token}
+use Rattle.hwdb_spec.specs.Tree.{Tree, map_of_files}
+use Rattle.hwdb_spec.specs.Written.{IsDatabaseOf}
 use Rattle.hwdb_spec.specs.Near.{Front, Stops, front_tokens, stop_of}
 use Rattle.hwdb_pattern.specs.Fronts.{IsLongest}
 
 -- Tokens stop at one place alone, which `stop_of` computes.
 abbrev pub StopsAreComputed : Type 0
 StopsAreComputed = (ts : List Token) (device : List ℕ) (f : Front) → Stops ts device f → f ≡ stop_of ts device
+
+-- The patterns of a database of some files are those of the files' last assignments.
+abbrev pub PatternsAreOfFiles : Type 0
+PatternsAreOfFiles =
+    (etc usr : List Source) (bytes : List ℕ) → IsDatabaseOf (map_of_files etc usr) bytes → (t : Tree) → IsDatabase bytes t
+    → database_patterns t ≡ files_patterns etc usr
 
 -- So is how many tokens their longest front has.
 abbrev pub LongestIsComputed : Type 0

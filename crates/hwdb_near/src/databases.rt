@@ -56,8 +56,8 @@ fn gather<'a>(patterns: &mut Vec<PatternAt<'a>>, at: PatternAt<'a>) -> Result<()
     Ok(())
 }
 
-/// The patterns of some assignments, which are by pattern: each once, at the first of its places.
-pub(crate) fn patterns_of<'a>(
+/// The patterns of some assignments, which are by pattern: each once, at the first of its places. The only error is `AllocError`.
+pub fn patterns_of<'a>(
     alloc: Global,
     found: &'a [StoredAssignment<'_>],
 ) -> Result<Vec<PatternAt<'a>>, AllocError>

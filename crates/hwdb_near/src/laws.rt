@@ -1,8 +1,11 @@
 //! Laws over the definitions alone. Each function does nothing: its contract is the law.
-ghost use Rattle.hwdb_near.specs.Laws.{LongestIsComputed, StopsAreComputed};
+ghost use Rattle.hwdb_near.specs.Laws.{LongestIsComputed, PatternsAreOfFiles, StopsAreComputed};
 ghost use Rattle.hwdb_near.specs.Rows.{FileRows, GatheredRows, HeadRows, MarkRows, MatchingRows, NearestRows, PlaceRows, RatedRows, StopRows, WordRows};
 
+use hwdb_inspect::members_are_the_map;
 use hwdb_pattern::matches_is_tested;
+use hwdb_query::databases_show_one_map;
+use hwdb_reader::law_ascending;
 
 /// Tokens stop at one place alone, which `stop_of` computes.
 #[tactic(auto, using(crate::proofs::ComputedLemmas::stop_computed))]
@@ -17,6 +20,15 @@ pub(crate) fn longest_is_computed()
     ensures { LongestIsComputed }
 {
     matches_is_tested();
+}
+
+/// The patterns of a database of some files are those of the last assignments that the files have.
+pub fn patterns_are_of_files()
+    ensures files { PatternsAreOfFiles }
+{
+    databases_show_one_map();
+    law_ascending();
+    members_are_the_map();
 }
 
 /// Worked rows: what the definitions give when they are computed.

@@ -18,6 +18,7 @@
 //! | `json_lines` | what is printed of patterns as lines of JSON |
 //! | `printing` | what `near` prints of some patterns |
 //! | `asked` | what it prints of text files, and of a database |
+//! | `prefixes` | of some texts with a prefix and of some patterns with it the two that are nearest |
 //! | `laws` | what is proved of the definitions alone |
 #![tactic(auto)]
 
@@ -30,15 +31,18 @@ mod laws;
 mod matching;
 mod nearest;
 mod patterns;
+mod prefixes;
 mod printing;
 mod rating;
 mod reasons;
 mod reports;
 
 pub use asked::{near_in_database, near_in_files};
+pub use databases::patterns_of;
 pub use found::PatternAt;
 pub use fronts::{Stop, stops};
 pub use hwdb_spec::NearError;
-pub use laws::{stops_are_computed, worked_rows};
+pub use laws::{patterns_are_of_files, stops_are_computed, worked_rows};
 pub use patterns::{PatternFile, push_patterns};
+pub use prefixes::push_prefix_report;
 pub use printing::{near_json, near_text};

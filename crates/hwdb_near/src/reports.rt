@@ -44,7 +44,7 @@ fn push_match(text: &mut Vec<u8>, at: &PatternAt<'_>) -> Result<(), AllocError>
 }
 
 /// Adds the report of a pattern that doesn't match: why it stops, and the pattern and the device, each with a mark.
-fn push_near(
+pub(crate) fn push_near(
     alloc: Global,
     text: &mut Vec<u8>,
     device: &[u8],

@@ -150,6 +150,10 @@ verify_app = with_rule (with_shared (new_app (codes "verify"))) database_rule
 abbrev pub dump_app : App
 dump_app = with_rule (with_shared (new_app (codes "dump"))) database_rule
 
+-- `status`
+abbrev pub status_app : App
+status_app = with_rule (with_shared (new_app (codes "status"))) json_rule
+
 -- the program's own options
 abbrev pub top_app : App
 top_app = on_top (λ (s : Shape). record s { has_version = true; subcommand_required = true }) (with_shared (new_app (codes "hwdb")))
@@ -158,9 +162,9 @@ top_app = on_top (λ (s : Shape). record s { has_version = true; subcommand_requ
 abbrev pub with_answers : App → App
 with_answers app = with_subcommand (with_subcommand (with_subcommand (with_subcommand (with_subcommand (with_subcommand app query_app.top) explain_app.top) ask_app.top) list_app.top) near_app.top) device_app.top
 
--- the five commands that look at files and databases
+-- the six commands that look at files and databases
 abbrev pub with_inspections : App → App
-with_inspections app = with_subcommand (with_subcommand (with_subcommand (with_subcommand (with_subcommand app check_app.top) test_app.top) diff_app.top) verify_app.top) dump_app.top
+with_inspections app = with_subcommand (with_subcommand (with_subcommand (with_subcommand (with_subcommand (with_subcommand app check_app.top) test_app.top) diff_app.top) verify_app.top) dump_app.top) status_app.top
 
 -- the command line: the program and its commands
 abbrev pub hwdb_app : App

@@ -3,8 +3,8 @@ use Rattle.std.specs.Prelude.{◌≡◌, ◌++◌, Bool, false, true, List, [], 
 use Rattle.std.specs.Option.{option_map_or}
 use Rattle.hwdb_spec.specs.Asked.{IsAnswered}
 use Rattle.hwdb_spec.specs.Databases.{IsTextOf}
-use Rattle.hwdb_spec.specs.DeviceTexts.{device_row, device_text}
-use Rattle.hwdb_spec.specs.DeviceTree.{Sight, absolute, all_devices, device_at, device_for, last_name, near_name, sysfs_below}
+use Rattle.hwdb_spec.specs.DeviceTexts.{device_row, device_text, line_of}
+use Rattle.hwdb_spec.specs.DeviceTree.{Sight, absolute, all_links, device_at, device_for, device_of_path, kernel_name, last_name, near_name, sysfs_below, unread_of_path}
 use Rattle.hwdb_spec.specs.Lines.{byte, has}
 use Rattle.hwdb_spec.specs.Store.{Contents}
 use Rattle.hwdb_spec.specs.Sysfs.{Device}
@@ -25,9 +25,19 @@ abbrev pub device_meant : Sight → (names : List (List ℕ)) → (root given : 
 device_meant sight names root given =
     option_map_or (λ sys. option_map (device_at sight names sys) (device_for sight root sys given)) (sysfs_below sight root) None
 
--- a line for each device that something is asked for
+-- the line of what can't be read: the name of the device that may be there, and the path
+abbrev pub unread_row : (link path : List ℕ) → List ℕ
+unread_row link path = line_of (kernel_name link ++ (codes "  cannot read " ++ path))
+
+-- the line of what a link of sysfs leads to: of a device that something is asked for, or of what can't be read
+abbrev pub link_row : Sight → (names : List (List ℕ)) → (sys link : List ℕ) → List ℕ
+link_row sight names sys link =
+    option_map_or (λ place. device_row (device_at sight names sys place)) (device_of_path sight sys link)
+    (option_map_or (unread_row link) (unread_of_path sight sys link) [])
+
+-- a line for each device that something is asked for, and for each that can't be read
 abbrev pub device_list : Sight → (names : List (List ℕ)) → (sys : List ℕ) → List ℕ
-device_list sight names sys = flat_map (λ place. device_row (device_at sight names sys place)) (all_devices sight sys)
+device_list sight names sys = flat_map (link_row sight names sys) (all_links sight sys)
 
 -- what is printed of the device that is meant, over the database that is asked
 pub record IsOfDevice (form : DeviceForm) (names : List (List ℕ)) (root given : List ℕ) (sight : Sight) (contents : Contents) (text : List ℕ) : Type 0 where
@@ -45,6 +55,10 @@ IsDevicePrinted form names root (Some given) sight contents text = IsOfDevice fo
 -- what is said if there is no sysfs: a path that leads nowhere, why, and what to do
 abbrev pub no_sysfs_text : (path words : List ℕ) → List ℕ
 no_sysfs_text path words = codes "no sysfs: " ++ (path ++ (codes ": " ++ (words ++ codes ": mount it, or name another root")))
+
+-- what is said if it can't be told whether a device is there: the path that can't be read, and why
+abbrev pub unread_text : (path words : List ℕ) → List ℕ
+unread_text path words = codes "cannot read " ++ (path ++ (codes ": " ++ words))
 
 -- what to do if there is no such device: to take what is near, or to look at the list
 abbrev pub near_hint : (near : List ℕ) → List ℕ

@@ -1,7 +1,7 @@
 -- What `device` asks sysfs, and its errors. Our choice.
 use Rattle.std.specs.Prelude.{◌≡◌, ◌⊎◌, List, None, Option, Some, is_some, true, ℕ}
-use Rattle.hwdb_spec.specs.DeviceAsked.{device_meant, missing_text, no_sysfs_text}
-use Rattle.hwdb_spec.specs.DeviceTree.{Sight, device_for, missing_folder, sysfs_below}
+use Rattle.hwdb_spec.specs.DeviceAsked.{device_meant, missing_text, no_sysfs_text, unread_text}
+use Rattle.hwdb_spec.specs.DeviceTree.{Sight, device_for, missing_folder, sysfs_below, unread_for}
 use Rattle.hwdb_spec.specs.Failures.{IsOneLine}
 use Rattle.hwdb_spec.specs.Lines.{is, pieces}
 use Rattle.hwdb_spec.specs.Store.{Contents}
@@ -32,16 +32,27 @@ pub record SaysNoSysfs (root : List ℕ) (sight : Sight) (refusal : Refusal) : T
 abbrev pub IsNoSysfs : (root : List ℕ) → Sight → Refusal → Type 0
 IsNoSysfs root sight refusal = (refusal ≡ Plain Memory) ⊎ SaysNoSysfs root sight refusal
 
+-- the error says which path can't be read that would tell whether a device is there, and a cause in one line
+pub record SaysUnread (root sys given : List ℕ) (sight : Sight) (refusal : Refusal) : Type 0 where
+  pub none : device_for sight root sys given ≡ None
+  pub path : List ℕ
+  pub unread : unread_for sight root sys given ≡ Some path
+  pub words : List ℕ
+  pub one_line : IsOneLine words
+  pub said : IsInWords (unread_text path words) refusal
+
 -- the error says which device isn't there, and what is near; and if a path leads nowhere, a cause in one line
 pub record SaysNoDevice (root sys given : List ℕ) (sight : Sight) (refusal : Refusal) : Type 0 where
   pub none : device_for sight root sys given ≡ None
+  pub all_read : unread_for sight root sys given ≡ None
   pub words : List ℕ
   pub one_line : IsOneLine words
   pub said : IsInWords (missing_text sight root sys given words) refusal
 
--- no device is meant, or there is no memory
+-- no device is meant, or it can't be told whether one is, or there is no memory
 abbrev pub IsNoDevice : (root sys given : List ℕ) → Sight → Refusal → Type 0
-IsNoDevice root sys given sight refusal = (refusal ≡ Plain Memory) ⊎ SaysNoDevice root sys given sight refusal
+IsNoDevice root sys given sight refusal =
+    (refusal ≡ Plain Memory) ⊎ (SaysUnread root sys given sight refusal ⊎ SaysNoDevice root sys given sight refusal)
 
 -- there is no sysfs, or no device in it
 abbrev pub IsUnmeant : (root given : List ℕ) → Sight → Refusal → Type 0

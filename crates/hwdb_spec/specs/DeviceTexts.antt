@@ -12,6 +12,9 @@ use Rattle.hwdb_spec.specs.Explanations.{explained, explanations_text}
 use Rattle.hwdb_spec.specs.Folders.{Source, all_assignments, same}
 use Rattle.hwdb_spec.specs.Json.{has_name, json_line, object_of, property_member, raw_members, text_json}
 use Rattle.hwdb_spec.specs.Lines.{byte, is_none}
+use Rattle.hwdb_spec.specs.Near.{PatternAt}
+use Rattle.hwdb_spec.specs.NearAsked.{database_patterns}
+use Rattle.hwdb_spec.specs.NearPrefixes.{files_patterns, prefix_report}
 use Rattle.hwdb_spec.specs.Lookups.{Found, Told, first_value, lookups}
 use Rattle.hwdb_spec.specs.Sysfs.{Ancestor, At, Device, attribute_text, first_of, has_text}
 use Rattle.hwdb_spec.specs.Texts.{property_text}
@@ -243,18 +246,46 @@ first_record (f ∷ more) = record_with f.text any_property
 abbrev pub record_text : List Found → List ℕ
 record_text found = record_after (first_record found) found
 
+-- ---- what is near to strings that get nothing
+
+-- the prefixes of strings that people set properties for (60-keyboard.hwdb, 60-sensor.hwdb, 70-mouse.hwdb, 70-touchpad.hwdb,
+-- 70-joystick.hwdb)
+abbrev pub set_prefixes : List (List ℕ)
+set_prefixes = codes "evdev:" ∷ codes "sensor:" ∷ codes "mouse:" ∷ codes "touchpad:" ∷ codes "joystick:" ∷ []
+
+-- whether a string gets nothing
+abbrev pub gets_nothing : Found → Bool
+gets_nothing f = is_none f.told
+
+-- the string that was asked
+abbrev pub text_of : Found → List ℕ
+text_of f = f.text
+
+-- the strings that get nothing
+abbrev pub wanting : List Found → List (List ℕ)
+wanting found = map text_of (filter gets_nothing found)
+
+-- reports of the nearest patterns, after a line that says what they are
+abbrev pub nearest_part : List ℕ → List ℕ
+nearest_part [] = []
+nearest_part (b ∷ rest) = codes "nearest patterns to what got nothing:\n" ++ b ∷ rest
+
+-- for each such prefix the pattern that is nearest to a string that gets nothing, if there is one
+abbrev pub nearest_text : List PatternAt → List Found → List ℕ
+nearest_text patterns found = nearest_part (flat_map (prefix_report patterns (wanting found)) set_prefixes)
+
 -- ---- what is printed
 
--- what is printed of strings that are asked for a device
-abbrev pub found_form : DeviceForm → Device → List Found → List ℕ
-found_form form.Lookups d found = lookups_text d found
-found_form form.Strings d found = strings_text found
-found_form form.Json d found = lookups_json d found
-found_form form.Pattern d found = record_text found
+-- what is printed of strings that are asked for a device, by the patterns of a database
+abbrev pub found_form : DeviceForm → Device → List PatternAt → List Found → List ℕ
+found_form form.Lookups d patterns found = lookups_text d found ++ nearest_text patterns found
+found_form form.Strings d patterns found = strings_text found
+found_form form.Json d patterns found = lookups_json d found
+found_form form.Pattern d patterns found = record_text found
 
 -- what `device` prints of a device, over a database
 abbrev pub device_text : DeviceForm → Device → Tree → List ℕ
-device_text as_form d t = found_form as_form d (asked_for d t)
+device_text as_form d t = found_form as_form d (database_patterns t) (asked_for d t)
 
 -- what a string gets, said of the files' plain list: of the last assignments that match it
 abbrev pub told_of_files : (etc usr : List Source) → List ℕ → Told
@@ -262,7 +293,7 @@ told_of_files etc usr text = explained (last_assignments text None (all_assignme
 
 -- what `device` prints of a device, said of the files' plain list
 abbrev pub files_device_text : DeviceForm → Device → (etc usr : List Source) → List ℕ
-files_device_text as_form d etc usr = found_form as_form d (lookups (told_of_files etc usr) d)
+files_device_text as_form d etc usr = found_form as_form d (files_patterns etc usr) (lookups (told_of_files etc usr) d)
 
 -- an attribute of the first of a device and its parents that has it
 abbrev pub text_in : (attribute : List ℕ) → List Ancestor → Option (List ℕ)

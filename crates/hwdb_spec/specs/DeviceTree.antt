@@ -15,12 +15,15 @@ pub record Node : Type 0 where
   pub block : Bool
   pub number : ℕ
 
--- A file system as it is asked for devices. A place is a path without a link in it.
+-- A file system as it is asked for devices. A place is a path without a link in it. Last come which paths it doesn't tell where
+-- they lead, though that may be somewhere, and of which small files it doesn't tell the text.
 pub record Sight : Type 0 where
   pub place : (path : List ℕ) → Option (List ℕ)
   pub text : (place : List ℕ) → Option (List ℕ)
   pub names : (place : List ℕ) → List (List ℕ)
   pub node : (place : List ℕ) → Option Node
+  pub lost : (path : List ℕ) → Bool
+  pub closed : (place : List ℕ) → Bool
 
 -- ---- what is read of a device
 
@@ -178,6 +181,29 @@ first_given test (x ∷ rest) = option_map_or Some (test x) (first_given test re
 abbrev pub device_for : Sight → (root sys given : List ℕ) → Option (List ℕ)
 device_for sight root sys given = first_given (device_of_path sight sys) (paths_for sight root sys given)
 
+-- ---- what can't be read
+
+-- a path that can't be told where it leads; of one that leads somewhere what can't be read there
+abbrev pub lost_or : Sight → (List ℕ → Option (List ℕ)) → (path : List ℕ) → Option (List ℕ)
+lost_or sight unread path = if sight.lost path then Some path else at_place sight unread path
+
+-- the place of a small file, if its text can't be told
+abbrev pub closed_at : Sight → (place : List ℕ) → Option (List ℕ)
+closed_at sight place = if sight.closed place then Some place else None
+
+-- what can't be read of the file `uevent` of a folder below that of devices
+abbrev pub unread_of_place : Sight → (sys place : List ℕ) → Option (List ℕ)
+unread_of_place sight sys place =
+    if is_below_devices sys place then lost_or sight (closed_at sight) (path_in place (codes "uevent")) else None
+
+-- What can't be read where a path leads, so that it can't be told whether a device is there.
+abbrev pub unread_of_path : Sight → (sys path : List ℕ) → Option (List ℕ)
+unread_of_path sight sys path = lost_or sight (unread_of_place sight sys) path
+
+-- what can't be read first of the paths at which a device is looked for
+abbrev pub unread_for : Sight → (root sys given : List ℕ) → Option (List ℕ)
+unread_for sight root sys given = first_given (unread_of_path sight sys) (paths_for sight root sys given)
+
 -- ---- what is near a name that no device has
 
 -- how many bytes two texts begin with alike
@@ -200,16 +226,16 @@ near_name sight sys wanted = nearest_of wanted [] (flat_map (names_in sight) (fo
 
 -- ---- all devices
 
--- the devices that a folder has links to, by name
-abbrev pub devices_in : Sight → (sys folder : List ℕ) → List (List ℕ)
-devices_in sight sys folder = filter_map (λ name. device_of_path sight sys (path_in folder name)) (names_in sight folder)
+-- the paths of what a folder lists, by name
+abbrev pub links_in : Sight → (folder : List ℕ) → List (List ℕ)
+links_in sight folder = map (path_in folder) (names_in sight folder)
 
 -- the same, but nothing of the folder of input devices
-abbrev pub others_in : Sight → (sys input folder : List ℕ) → List (List ℕ)
-others_in sight sys input folder = if same folder input then [] else devices_in sight sys folder
+abbrev pub other_links : Sight → (input folder : List ℕ) → List (List ℕ)
+other_links sight input folder = if same folder input then [] else links_in sight folder
 
--- all devices of classes and buses: those of input first
-abbrev pub all_devices : Sight → (sys : List ℕ) → List (List ℕ)
-all_devices sight sys =
+-- the paths of all that classes and buses list: those of input first
+abbrev pub all_links : Sight → (sys : List ℕ) → List (List ℕ)
+all_links sight sys =
     let input = sys ++ codes "/class/input" in
-    devices_in sight sys input ++ flat_map (others_in sight sys input) (folders_with_links sight sys)
+    links_in sight input ++ flat_map (other_links sight input) (folders_with_links sight sys)

@@ -45,9 +45,11 @@ pub mod LeftOut
 pub mod Asked
 pub mod Library
 pub mod Hiding
+pub mod Status
 pub mod Done
 pub mod Near
 pub mod NearAsked
+pub mod NearPrefixes
 pub mod Wanted
 pub mod Colours
 pub mod Inputs
@@ -62,9 +64,11 @@ pub mod Errors
 pub mod CompileErrors
 pub mod DatabaseErrors
 pub mod VerifyErrors
+pub mod StatusErrors
 pub mod DiffErrors
 pub mod DumpErrors
 pub mod CheckErrors
+pub mod AnsweredLines
 pub mod Refusals
 pub mod Selected
 pub mod Reading
@@ -89,4 +93,3 @@ pub mod Reasons
 pub mod CheckedReasons
 pub mod Program
 pub mod TaskRefusals
-pub mod AnsweredLines

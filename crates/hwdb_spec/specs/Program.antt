@@ -11,10 +11,11 @@ use Rattle.hwdb_spec.specs.Runs.{AreKept, HasTaken, OnOut, Printed, World}
 use Rattle.hwdb_spec.specs.Store.{Contents, InPlace, Outcomes}
 use Rattle.hwdb_spec.specs.System.{database_folder}
 use Rattle.hwdb_spec.specs.declared.form.Form.TheVariants as form
-use Rattle.hwdb_spec.specs.declared.job.Task.TheVariants.{Ask, Check, Device, Diff, Dump, Explain, List as ListHits, Near, Query, Test, Update, Verify}
+use Rattle.hwdb_spec.specs.declared.job.Task.TheVariants.{Ask, Check, Device, Diff, Dump, Explain, List as ListHits, Near, Query, Status, Test, Update, Verify}
 use Rattle.hwdb_spec.specs.declared.job.Task.{Task}
 use Rattle.hwdb_spec.specs.declared.job.Job.{Job}
 use Rattle.hwdb_spec.specs.CheckedFiles.{AreCheckedFiles, IsChecked}
+use Rattle.hwdb_spec.specs.Status.{IsStatus}
 use Rattle.hwdb_spec.specs.Asked.{IsCompared, IsDumped, IsPrinted, IsAnswered, IsListFrom}
 use Rattle.hwdb_spec.specs.Databases.{IsSummary}
 use Rattle.hwdb_spec.specs.NearAsked.{IsNear, near_form, near_limit}
@@ -66,6 +67,7 @@ IsAnswerOf (Verify database) root strict input files status texts =
     (status ≡ 0) × OnOut (IsPrinted (option_map string_bytes database) root IsSummary files) texts
 IsAnswerOf (Dump database) root strict input files status texts =
     (status ≡ 0) × OnOut (IsDumped (option_map string_bytes database) root files) texts
+IsAnswerOf (Status json) root strict input files status texts = OnOut (λ text. IsStatus root json files text status) texts
 
 -- what `device` prints in this form, and its status
 abbrev pub IsDeviceAnswer : DeviceForm → (root : List ℕ) (given : Option (List ℕ)) → Sight → Contents → (status : ℕ) → Texts → Type 0

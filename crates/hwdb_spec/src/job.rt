@@ -104,6 +104,11 @@ pub enum Task {
         /// The database's path; none where that of `/etc/udev` or `/usr/lib/udev` is meant.
         database: Option<String>,
     },
+    /// Say whether the database that is asked is what the text files make.
+    Status {
+        /// Whether as JSON.
+        json: bool,
+    },
 }
 
 /// What a command line asks for.

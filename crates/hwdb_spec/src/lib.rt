@@ -34,7 +34,6 @@
 //! | `Checks` | what `check` prints, how much it finds, and its status |
 //! | `Progress` | what `update` says of its work |
 //! | `ManyDevices` | what `explain` prints of several devices, and a line of devices that is too long |
-//! | `AnsweredLines` | which lines of standard input are answered, and what was printed before an error |
 //! | `LoneFile` | one text file alone, as `ask` reads it and `dump` writes it |
 //! | `Databases` | what bytes of databases give, and what is so of bytes that are none |
 //! | `Failures` | how failed calls are counted |
@@ -53,9 +52,11 @@
 //! | `Asked` | the database that a command asks for, and what is printed of it |
 //! | `Library` | what the C library is told |
 //! | `Hiding` | what `update --usr --verbose` says where /etc's database hides the new one |
+//! | `Status` | what `status` says of the database that is asked, beside what the text files make |
 //! | `Done` | what `update` and `ask` leave, and what a crash leaves during an update |
 //! | `Near` | the pattern that almost matched a device, and where it stopped |
 //! | `NearAsked` | which patterns `near` compares with a device: those of text files, or of a database |
+//! | `NearPrefixes` | of some strings with a prefix and of some patterns with it the two that are nearest |
 //! | `Wanted` | test files, whether a database gives what they want, and what `test` prints |
 //! | `Colours` | how a text is shown in colour |
 //! | `Inputs` | what kinds of input device udev sees in one |
@@ -70,9 +71,11 @@
 //! | `CompileErrors` | when each error of the compiler comes |
 //! | `DatabaseErrors` | when each error of answering from a database comes |
 //! | `VerifyErrors` | the same of summing up a database |
+//! | `StatusErrors` | when each error of comparing a database with the text files comes |
 //! | `DiffErrors` | the same of comparing two |
 //! | `DumpErrors` | the same of printing one as text |
 //! | `CheckErrors` | the same of checking text files |
+//! | `AnsweredLines` | which lines of standard input are answered, and what was printed before an error |
 //! | `Refusals` | the errors that end the program, and the line of each |
 //! | `Selected` | which text files of two folders are read, and what each holds |
 //! | `Reading` | the errors of reading them |

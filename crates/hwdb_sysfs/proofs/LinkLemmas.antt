@@ -1,9 +1,6 @@
 -- Names and folders, gone through one by one.
-use Rattle.std.proofs.Common.{◌≡◌, ◌<◌, ◌≤◌, ◌+◌, ℕ, List, [], ◌∷◌, ◌++◌, Global, Option, Vec, ap, append_assoc, flat_map, get_or, length, map, refl, sym, take, ◌∙◌}
+use Rattle.std.proofs.Common.{◌≡◌, ◌<◌, ◌≤◌, ◌+◌, ℕ, List, [], ◌∷◌, ◌++◌, Global, Vec, ap, append_assoc, flat_map, get_or, length, map, refl, sym, take, ◌∙◌}
 use Rattle.std.proofs.lemmas.List.{flat_map_more, map-append, take_all, take_more}
-use Rattle.std.proofs.lemmas.List.Elements.{filter_map-append}
-use Rattle.std.specs.List.{cons_option}
-use Rattle.std.specs.Prelude.{filter_map}
 
 abbrev pub items : Vec ℕ Global → List ℕ
 items v = v.items
@@ -22,17 +19,6 @@ named_all f xs i old new names le whole are =
 one_more : (xs : List (Vec ℕ Global)) (i : ℕ) (d x : Vec ℕ Global) → i < length xs → x ≡ get_or xs i d → map items (take (i + 1) xs) ≡ map items (take i xs) ++ x.items ∷ []
 one_more xs i d x lt is =
     ap (map items) (take_more xs i d lt) ∙ map-append items (take i xs) (get_or xs i d ∷ []) ∙ ap (λ (v : Vec ℕ Global). map items (take i xs) ++ v.items ∷ []) (sym is)
-
-pub found_more : (find : List ℕ → Option (List ℕ)) (xs : List (Vec ℕ Global)) (i : ℕ) (d x : Vec ℕ Global) (old done new : List (List ℕ)) → i < length xs → x ≡ get_or xs i d
-    → done ≡ old ++ filter_map find (map items (take i xs)) → new ≡ done ++ cons_option (find x.items) [] → new ≡ old ++ filter_map find (map items (take (i + 1) xs))
-found_more find xs i d x old done new lt is whole next =
-    next ∙ ap (λ (l : List (List ℕ)). l ++ cons_option (find x.items) []) whole ∙ append_assoc old (filter_map find (map items (take i xs))) (cons_option (find x.items) [])
-    ∙ ap (λ (l : List (List ℕ)). old ++ l) (sym (filter_map-append find (map items (take i xs)) (x.items ∷ [])) ∙ ap (filter_map find) (sym (one_more xs i d x lt is)))
-
-pub found_all : (find : List ℕ → Option (List ℕ)) (xs : List (Vec ℕ Global)) (i : ℕ) (old new names : List (List ℕ)) → length xs ≤ i
-    → new ≡ old ++ filter_map find (map items (take i xs)) → map items xs ≡ names → new ≡ old ++ filter_map find names
-found_all find xs i old new names le whole are =
-    whole ∙ ap (λ (l : List (Vec ℕ Global)). old ++ filter_map find (map items l)) (take_all i xs le) ∙ ap (λ (l : List (List ℕ)). old ++ filter_map find l) are
 
 pub others_more : (f : List ℕ → List (List ℕ)) (xs : List (Vec ℕ Global)) (i : ℕ) (d x : Vec ℕ Global) (old done new : List (List ℕ)) → i < length xs → x ≡ get_or xs i d
     → done ≡ old ++ flat_map f (map items (take i xs)) → new ≡ done ++ f x.items → new ≡ old ++ flat_map f (map items (take (i + 1) xs))

@@ -1,7 +1,8 @@
--- Worked rows over a small sysfs: a keyboard at its port, and a disk's node. What the definitions give when they are computed.
+-- Worked rows over a small sysfs: a keyboard at its port, and a disk's node. It isn't told where the link of `event9` leads, and what is
+-- in the file of `mouse2`. What the definitions give when they are computed.
 use Rattle.std.specs.Prelude.{◌≡◌, ℕ, List, [], ◌∷◌, Option, Some, None, codes, find, map, option_map, false}
 use Rattle.std.specs.Option.{option_map_or}
-use Rattle.hwdb_spec.specs.DeviceTree.{Node, Sight, all_devices, device_at, device_for, kernel_name, last_name, major, minor, missing_folder, near_name, sysfs_below}
+use Rattle.hwdb_spec.specs.DeviceTree.{Node, Sight, all_links, device_at, device_for, kernel_name, last_name, major, minor, missing_folder, near_name, sysfs_below, unread_for}
 use Rattle.hwdb_spec.specs.Folders.{same}
 
 -- what stands beside a text in a table
@@ -19,6 +20,7 @@ places =
     ∷ (codes "/sys/devices/port/event3/subsystem", codes "/sys/class/input") ∷ (codes "/sys/devices/port/driver", codes "/sys/bus/serio/drivers/atkbd")
     ∷ (codes "/sys/devices/port/name", codes "/sys/devices/port/name") ∷ (codes "/sys/class/dmi/id/modalias", codes "/sys/devices/dmi/modalias")
     ∷ (codes "/dev/input/event3", codes "/dev/input/event3") ∷ (codes "/dev/disk", codes "/dev/disk") ∷ (codes "/sys/dev/char/13:67", codes "/sys/devices/port/event3")
+    ∷ (codes "/sys/class/input/mouse2", codes "/sys/devices/mouse2") ∷ (codes "/sys/devices/mouse2/uevent", codes "/sys/devices/mouse2/uevent")
     ∷ (codes "/sys", codes "/sys") ∷ (codes "/sys/devices", codes "/sys/devices") ∷ (codes "/r/sys", codes "/r/sys") ∷ []
 
 -- the texts of small files
@@ -31,7 +33,7 @@ texts =
 abbrev pub folders : List (List ℕ × List (List ℕ))
 folders =
     (codes "/sys/class", codes "net" ∷ codes "input" ∷ []) ∷ (codes "/sys/bus", codes "serio" ∷ [])
-    ∷ (codes "/sys/class/input", codes "event3" ∷ codes "mice" ∷ []) ∷ (codes "/sys/bus/serio/devices", codes "port" ∷ []) ∷ []
+    ∷ (codes "/sys/class/input", codes "event3" ∷ codes "mouse2" ∷ codes "mice" ∷ codes "event9" ∷ []) ∷ (codes "/sys/bus/serio/devices", codes "port" ∷ []) ∷ []
 
 -- the keyboard's node, 13:67
 abbrev pub keyboard : Node
@@ -44,6 +46,8 @@ small = record {
   text = beside texts;
   names = λ place. option_map_or (λ names. names) (beside folders place) [];
   node = beside ((codes "/dev/input/event3", keyboard) ∷ []);
+  lost = λ path. same path (codes "/sys/class/input/event9");
+  closed = λ place. same place (codes "/sys/devices/mouse2/uevent");
 }
 
 -- the device and its port, with the attribute that is there, the links that are there, and what the firmware says
@@ -68,9 +72,18 @@ FoundRows =
     ≡ Some (codes "/sys/devices/port/event3") ∷ Some (codes "/sys/devices/port") ∷ Some (codes "/sys/devices/port/event3") ∷ Some (codes "/sys/devices/port/event3")
     ∷ Some (codes "/sys/devices/port/event3") ∷ Some (codes "/sys/devices/port") ∷ None ∷ None ∷ None ∷ None ∷ []
 
--- all devices: those of input, and then others
+-- what can't be read: where a link leads, or the file of the folder that it leads to; a device that can be read, and what isn't there
+abbrev pub UnreadRows : Type 0
+UnreadRows =
+    map (unread_for small [] (codes "/sys")) (codes "event9" ∷ codes "/dev/input/mouse2" ∷ codes "event3" ∷ codes "event33" ∷ [])
+    ≡ Some (codes "/sys/class/input/event9") ∷ Some (codes "/sys/devices/mouse2/uevent") ∷ None ∷ None ∷ []
+
+-- all that is listed: that of input, and then the rest
 abbrev pub ListedRows : Type 0
-ListedRows = all_devices small (codes "/sys") ≡ codes "/sys/devices/port/event3" ∷ codes "/sys/devices/port" ∷ []
+ListedRows =
+    all_links small (codes "/sys")
+    ≡ codes "/sys/class/input/event3" ∷ codes "/sys/class/input/event9" ∷ codes "/sys/class/input/mice" ∷ codes "/sys/class/input/mouse2"
+    ∷ codes "/sys/bus/serio/devices/port" ∷ []
 
 -- names: the last one, also before a slash at the end; a `!` in it
 abbrev pub NameRows : Type 0

@@ -1,9 +1,9 @@
 -- What a tree in memory answers: the first row of a path says what it leads to.
-use Rattle.std.specs.Prelude.{ℕ, List, Bool, true, false, Option, Some, None, Result, Ok, Err, find}
+use Rattle.std.specs.Prelude.{ℕ, List, Bool, true, false, Option, Some, None, Result, Ok, Err, find, pos}
 use Rattle.hwdb_spec.specs.DeviceTree.{Node}
 use Rattle.hwdb_spec.specs.Folders.{same}
 use Rattle.hwdb_spec.specs.declared.causes.Cause.{Cause}
-use Rattle.hwdb_spec.specs.declared.causes.Cause.TheVariants.{Unknown}
+use Rattle.hwdb_spec.specs.declared.causes.Cause.TheVariants.{System, Unknown}
 use Rattle.hwdb_spec.specs.SysfsAnswers.{Answers}
 use Rattle.hwdb_sysfs.specs.Views.{node_of}
 use Rattle.hwdb_sysfs.specs.declared.table.Row.{Row}
@@ -17,11 +17,11 @@ row_at rows path = find (λ r. same r.path.items path) rows
 -- an answer by what is at a place
 abbrev pub by_thing : {X : Type 0} → (Thing → Result X Cause) → Option Row → Result X Cause
 by_thing answer (Some row) = answer row.thing
-by_thing answer None = Err Unknown
+by_thing answer None = Err (System (pos 2))
 
 abbrev pub real_by : Option Row → Result (List ℕ) Cause
 real_by (Some row) = Ok row.place.items
-real_by None = Err Unknown
+real_by None = Err (System (pos 2))
 
 abbrev pub node_by : Thing → Result (Option Node) Cause
 node_by (thing.Node node) = Ok (Some (node_of node))

@@ -1,7 +1,7 @@
 //! A store in memory as it is asked for devices: it has files alone, and no sysfs.
 ghost use Rattle.hwdb_spec.specs.SysfsAnswers.{nothing_there};
 
-use crate::files::{DeviceFiles, DeviceNode};
+use crate::files::{DeviceFiles, DeviceNode, NO_ENTRY};
 use hwdb_io::Cause;
 use hwdb_replace::Memory;
 use std::alloc::Global;
@@ -12,7 +12,7 @@ impl DeviceFiles for Memory {
     ghost answers = { λ _. nothing_there };
 
     fn real_path(&self, _: Global, _: &[u8]) -> Result<Vec<u8>, Cause> {
-        Err(Cause::Unknown)
+        Err(Cause::System(NO_ENTRY))
     }
 
     fn node_at(&self, _: &[u8]) -> Result<Option<DeviceNode>, Cause> {

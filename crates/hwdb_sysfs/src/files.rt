@@ -6,6 +6,9 @@ ghost use Rattle.hwdb_sysfs.specs.Views.{node_of};
 use hwdb_io::Cause;
 use std::alloc::Global;
 
+/// The number of the error that nothing has a name (errno, on Linux).
+pub const NO_ENTRY: i32 = 2;
+
 /// A device's node.
 #[derive(Clone, Copy)]
 pub struct DeviceNode {

@@ -5,7 +5,7 @@ ghost use Rattle.hwdb_spec.specs.DeviceTree as tree;
 ghost use Rattle.hwdb_spec.specs.Lines.{byte, has};
 ghost use Rattle.hwdb_spec.specs.Store as store;
 ghost use Rattle.hwdb_spec.specs.SysfsAnswers.{seen};
-ghost use Rattle.hwdb_sysfs.specs.Finding.{IsMissing, IsNoSysfs, IsUnfound, LeadsAstray};
+ghost use Rattle.hwdb_sysfs.specs.Finding.{IsMissing, IsNone, IsNoSysfs, IsUnfound, IsUnread, LeadsAstray};
 ghost use Rattle.hwdb_sysfs.specs.Views.{node_of};
 ghost use Rattle.hwdb_sysfs.specs.declared.finding.Unfound.TheVariants.{Memory};
 
@@ -13,6 +13,7 @@ use crate::answers::{node_at, place_of, uevent_of};
 use crate::files::{DeviceFiles, DeviceNode};
 use crate::names::names_in;
 use crate::paths::{is_below_devices, joined, last_name, path_in};
+use crate::unread::{Unread, unread_of_path};
 use hwdb_io::Cause;
 use std::alloc::{AllocError, Global};
 
@@ -23,6 +24,8 @@ pub enum Unfound {
     Memory,
     /// There is no sysfs: this path leads nowhere, for this cause.
     NoSysfs(Vec<u8>, Cause),
+    /// What would tell whether a device is there can't be read: this path, for this cause.
+    Untold(Vec<u8>, Cause),
     /// The path that was given leads nowhere, for this cause.
     Unread(Cause),
     /// Nothing has the name that was given, or what the path leads to is no device.
@@ -204,6 +207,28 @@ fn first_device<F: DeviceFiles>(
     Ok(None)
 }
 
+/// What can't be read first of some paths at which a device may be.
+#[tactic(auto, unfolding(hwdb_spec::specs::DeviceTree::first_given))]
+fn first_unread<F: DeviceFiles>(
+    alloc: Global,
+    files: &F,
+    sys: &[u8],
+    paths: &[Vec<u8>],
+) -> Result<Option<Unread>, AllocError>
+    ensures { F.tells → IfOk result (IsUnread (F.answers files.now)
+        (tree.first_given (tree.unread_of_path (seen (F.answers files.now)) sys.now)
+        (map (λ p. p.items) paths.now))) }
+{
+    let mut left = paths;
+    'paths: while let Some((path, rest)) = left.split_first() {
+        if let Some(unread) = unread_of_path(alloc, files, sys, path)? {
+            return Ok(Some(unread));
+        }
+        left = rest;
+    }
+    Ok(None)
+}
+
 /// A path that isn't absolute is one below /dev.
 fn absolute(alloc: Global, root: &[u8], given: &[u8]) -> Result<Vec<u8>, AllocError>
     ensures { IfOk result (λ path. path.items ≡ root.now ++ tree.absolute given.now) }
@@ -297,6 +322,8 @@ fn node_path(alloc: Global, sys: &[u8], node: DeviceNode) -> Result<Vec<u8>, All
 ///
 /// Below /sys the path itself is the device's. Another path is a node's, by its numbers, and then by its last name. What has no slash
 /// is a name in a class or at a bus. Looks into each class and bus once.
+///
+/// If no device is found, what can't be read there is told first.
 pub fn find_device<F: DeviceFiles>(
     alloc: Global,
     files: &F,
@@ -313,14 +340,35 @@ pub fn find_device<F: DeviceFiles>(
     let paths = paths_for(alloc, files, root, sys, given)?;
     match first_device(alloc, files, sys, &paths)? {
         Some(place) => Ok(place),
-        None => Err(why_none(alloc, files, root, given)),
+        None => Err(why_none(alloc, files, root, sys, given, &paths)),
     }
 }
 
-/// Why no device is meant.
-fn why_none<F: DeviceFiles>(alloc: Global, files: &F, root: &[u8], given: &[u8]) -> Unfound
+/// Why no device is at these paths, which are those for what was given.
+fn why_none<F: DeviceFiles>(
+    alloc: Global,
+    files: &F,
+    root: &[u8],
+    sys: &[u8],
+    given: &[u8],
+    paths: &[Vec<u8>],
+) -> Unfound
+    ensures { F.tells → map (λ p. p.items) paths.now
+        ≡ tree.paths_for (seen (F.answers files.now)) root.now sys.now given.now
+        → tree.device_for (seen (F.answers files.now)) root.now sys.now given.now ≡ None
+        → IsUnfound (F.answers files.now) root.now sys.now given.now result }
+{
+    match first_unread(alloc, files, sys, paths) {
+        Ok(Some(unread)) => Unfound::Untold(unread.path, unread.cause),
+        Ok(None) => why_not_there(alloc, files, root, given),
+        Err(_) => Unfound::Memory,
+    }
+}
+
+/// Why no device is meant, if all was read that would tell of one.
+fn why_not_there<F: DeviceFiles>(alloc: Global, files: &F, root: &[u8], given: &[u8]) -> Unfound
     ensures { F.tells → (sys : List ℕ)
-        → tree.device_for (seen (F.answers files.now)) root.now sys given.now ≡ None
+        → IsNone (F.answers files.now) root.now sys given.now
         → IsUnfound (F.answers files.now) root.now sys given.now result }
 {
     if !given.contains(&b'/') {

@@ -10,7 +10,8 @@
 //! | `near` | the name that is near one which no device has |
 //! | `reading` | a device and its parents, as sysfs has them |
 //! | `finding` | the device that is meant by a path or a name |
-//! | `listing` | all devices |
+//! | `unread` | what can't be read, so that it can't be told whether a device is there |
+//! | `listing` | the paths of all devices |
 //! | `bare` | a store in memory, which has no sysfs |
 //! | `laws` | what is proved of the definitions alone |
 //! | `table` | a tree in memory, for laws and tests |
@@ -28,13 +29,15 @@ mod near;
 mod paths;
 mod reading;
 mod table;
+mod unread;
 
 pub use device::{Ancestor, Attribute, Device};
 pub use files::{DeviceFiles, DeviceNode};
-pub use finding::{Unfound, find_device, sysfs_below};
+pub use finding::{Unfound, device_of_path, find_device, sysfs_below};
 pub use laws::worked_rows;
-pub use listing::list_devices;
+pub use listing::list_links;
 pub use near::near_name;
-pub use paths::last_name;
+pub use paths::{kernel_name, last_name};
 pub use reading::read_device;
 pub use table::{Row, Table, Thing};
+pub use unread::{Unread, unread_of_path};

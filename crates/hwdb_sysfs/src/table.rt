@@ -3,7 +3,7 @@ ghost use Rattle.std.specs.Prelude.{◌≡◌, Ok, option_map};
 ghost use Rattle.hwdb_spec.specs.SysfsAnswers.{IsTold};
 ghost use Rattle.hwdb_sysfs.specs.Tables.{answers_of, row_at};
 
-use crate::files::{DeviceFiles, DeviceNode};
+use crate::files::{DeviceFiles, DeviceNode, NO_ENTRY};
 use hwdb_io::Cause;
 use std::alloc::{AllocError, Global};
 
@@ -70,7 +70,7 @@ impl DeviceFiles for Table {
     fn real_path(&self, alloc: Global, path: &[u8]) -> Result<Vec<u8>, Cause> {
         match self.row(path) {
             Some(row) => copied(alloc, &row.place),
-            None => Err(Cause::Unknown),
+            None => Err(Cause::System(NO_ENTRY)),
         }
     }
 
@@ -83,7 +83,7 @@ impl DeviceFiles for Table {
                 },
             ) => Ok(Some(*node)),
             Some(_) => Ok(None),
-            None => Err(Cause::Unknown),
+            None => Err(Cause::System(NO_ENTRY)),
         }
     }
 
@@ -96,7 +96,7 @@ impl DeviceFiles for Table {
                 },
             ) => Ok(true),
             Some(_) => Ok(false),
-            None => Err(Cause::Unknown),
+            None => Err(Cause::System(NO_ENTRY)),
         }
     }
 

@@ -11,7 +11,7 @@ use Rattle.hwdb_spec.specs.CommandLine.{hwdb_app}
 use Rattle.hwdb_spec.specs.WordFaults.{IsToldOfOne}
 use Rattle.hwdb_spec.specs.declared.job.Job.{Job}
 use Rattle.hwdb_spec.specs.declared.job.Task.{Task}
-use Rattle.hwdb_spec.specs.declared.job.Task.TheVariants.{Ask, Check, Device, Diff, Dump, Explain, List as ListHits, Near, Query, Test, Update, Verify}
+use Rattle.hwdb_spec.specs.declared.job.Task.TheVariants.{Ask, Check, Device, Diff, Dump, Explain, List as ListHits, Near, Query, Status, Test, Update, Verify}
 use Rattle.hwdb_spec.specs.declared.job.WordsFault.TheVariants as words_fault
 use Rattle.hwdb_spec.specs.declared.job.WordsFault.{WordsFault}
 use Rattle.hwdb_spec.specs.CheckedFiles.{StandFor}
@@ -46,6 +46,7 @@ module _ (name : Text) (inner : List Row) where
   same_kind (Diff old1 new1) (Diff old2 new2) t u kind = tt
   same_kind (Verify database1) (Verify database2) t u kind = tt
   same_kind (Dump database1) (Dump database2) t u kind = tt
+  same_kind (Status json1) (Status json2) t u kind = absurd kind
   same_kind (Update v1 k1) (Update v2 k2) t u kind = u.2 ∙ sym t.2 ∙ kind
   same_kind (Ask file1 device1) (Ask file2 device2) t u kind = tt
   same_kind (Check files1 allowed1 json1) (Check files2 allowed2 json2) t u kind = tt
@@ -61,6 +62,7 @@ module _ (name : Text) (inner : List Row) where
   same_status (Diff old1 new1) (Diff old2 new2) t u = refl
   same_status (Verify database1) (Verify database2) t u = refl
   same_status (Dump database1) (Dump database2) t u = refl
+  same_status (Status json1) (Status json2) t u = refl
   same_status (Update v1 k1) (Update v2 k2) t u = refl
   same_status (Ask file1 device1) (Ask file2 device2) t u = refl
   same_status (Check files1 allowed1 json1) (Check files2 allowed2 json2) t u = refl
@@ -80,6 +82,7 @@ module _ (name : Text) (inner : List Row) where
         (subst (λ (p : List ℕ). Undiffed (string_bytes old2) p files r) (one_value (first_of (codes "NEW") inner) _ _ u.2 t.2) is)
     same_why (Verify database1) (Verify database2) t u is = subst (λ (d : Option (List ℕ)). Unverified header fails U root files d r) (u.1 ∙ sym t.1) is
     same_why (Dump database1) (Dump database2) t u is = subst (λ (d : Option (List ℕ)). Undumped header fails U root files d r) (u.1 ∙ sym t.1) is
+    same_why (Status json1) (Status json2) t u is = absurd is
     same_why (Update v1 k1) (Update v2 k2) t u is = is
     same_why (Ask file1 device1) (Ask file2 device2) t u is = subst (λ (f : List ℕ). Unasked f input files r) (one_value (first_of (codes "FILE") inner) _ _ u.1 t.1) is
     same_why (Check files1 allowed1 json1) (Check files2 allowed2 json2) t u is =
@@ -102,6 +105,7 @@ module _ (name : Text) (inner : List Row) where
   same_said header tree root usr files (Diff old1 new1) (Diff old2 new2) t u = refl
   same_said header tree root usr files (Verify database1) (Verify database2) t u = refl
   same_said header tree root usr files (Dump database1) (Dump database2) t u = refl
+  same_said header tree root usr files (Status json1) (Status json2) t u = refl
   same_said header tree root usr files (Update v1 k1) (Update v2 k2) t u = ap (λ (v : Bool). hiding_text usr v root files) (u.1 ∙ sym t.1)
   same_said header tree root usr files (Ask file1 device1) (Ask file2 device2) t u = refl
   same_said header tree root usr files (Check files1 allowed1 json1) (Check files2 allowed2 json2) t u = refl

@@ -12,13 +12,14 @@ use Rattle.hwdb_spec.specs.Jobs.{IsJob, IsJobOf, IsLimit, IsTask}
 use Rattle.hwdb_spec.specs.CommandLine.{hwdb_app}
 use Rattle.hwdb_spec.specs.declared.job.Job.{Job}
 use Rattle.hwdb_spec.specs.declared.job.Task.{Task}
-use Rattle.hwdb_spec.specs.declared.job.Task.TheVariants.{Ask, Check, Device, Diff, Dump, Explain, List as ListHits, Near, Query, Test, Update, Verify}
+use Rattle.hwdb_spec.specs.declared.job.Task.TheVariants.{Ask, Check, Device, Diff, Dump, Explain, List as ListHits, Near, Query, Status, Test, Update, Verify}
 use Rattle.hwdb_spec.specs.Outputs.{Texts}
 use Rattle.hwdb_spec.specs.Runs.{AreKept, OnOut, Printed, World}
 use Rattle.hwdb_spec.specs.Store.{Contents, Outcomes}
 use Rattle.hwdb_spec.specs.CheckedFiles.{AreCheckedFiles, IsChecked}
 use Rattle.hwdb_spec.specs.Asked.{IsCompared, IsAnswered, IsListFrom, IsDumped, IsPrinted}
 use Rattle.hwdb_spec.specs.Done.{IsAsked}
+use Rattle.hwdb_spec.specs.Status.{IsStatus}
 use Rattle.hwdb_spec.specs.Databases.{IsSummary}
 use Rattle.hwdb_spec.specs.NearAsked.{IsNear, near_form, near_limit}
 use Rattle.hwdb_spec.specs.DeviceAsked.{device_form}
@@ -71,6 +72,7 @@ word_of (Test files database json) = codes "test"
 word_of (Diff old_path new_path) = codes "diff"
 word_of (Verify database) = codes "verify"
 word_of (Dump database) = codes "dump"
+word_of (Status json) = codes "status"
 
 pub is_named : (name : Text) (inner : List Row) (task : Task) → IsTask name inner task → name ≡ word_of task
 is_named name inner (Update verbose skip) t = t.0
@@ -150,6 +152,8 @@ module _ (name : Text) (inner : List Row) (root : List ℕ) (usr strict : Bool) 
       subst (λ (d : Option (List ℕ)). Quietly (IsPrinted d root IsSummary old)) (u.1 ∙ sym t.1) done
   same_task (Dump database1) (Dump database2) t u done =
       subst (λ (d : Option (List ℕ)). Quietly (IsDumped d root old)) (u.1 ∙ sym t.1) done
+  same_task (Status json1) (Status json2) t u done =
+      subst (λ (j : Bool). Prints (OnOut (λ text. IsStatus root j old text status))) (u.1 ∙ sym t.1) done
   -- two tasks of two names aren't asked for by one
   same_task task1 task2 t u done = apart (word_of task1) (word_of task2) refl (sym (is_named name inner task1 t) ∙ is_named name inner task2 u)
 

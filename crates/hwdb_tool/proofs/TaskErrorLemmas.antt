@@ -4,7 +4,7 @@ use Rattle.std.proofs.lemmas.List.{append-nil}
 use Rattle.std.specs.Io.KnownBytes.{Appends}
 use Rattle.std.specs.Prelude.{Contains, option_map}
 use Rattle.hwdb_spec.specs.declared.job.Task.{Task}
-use Rattle.hwdb_spec.specs.declared.job.Task.TheVariants.{Ask, Check, Device, Diff, Dump, Explain, List as ListHits, Near, Query, Test, Update, Verify}
+use Rattle.hwdb_spec.specs.declared.job.Task.TheVariants.{Ask, Check, Device, Diff, Dump, Explain, List as ListHits, Near, Query, Status, Test, Update, Verify}
 use Rattle.hwdb_spec.specs.Asked.{IsAnswered}
 use Rattle.hwdb_spec.specs.CheckedFiles.{AreCheckedFiles, AreChosenFiles, AreNamedFiles, StandFor, folder_of}
 use Rattle.hwdb_spec.specs.Databases.{IsTextOf}
@@ -175,6 +175,7 @@ module _ (header : OneHeader) (tree : OneTree) where
   Why fails U input files (Test paths database json) root r = Untested (map string_bytes paths.items) (option_map string_bytes database) input files root r
   Why fails U input files (Update verbose skip) root r = Undated root files r
   Why fails U input files (Device path strings json pattern) root r = ⊥
+  Why fails U input files (Status json) root r = ⊥
 
   -- what a task says before all else
   abbrev pub said_first : Task → (root : List ℕ) (usr : Bool) → Contents → List ℕ
@@ -240,6 +241,7 @@ module _ (header : OneHeader) (tree : OneTree) where
           left_then found.1 not.0.1.same,
         )
     why (Device path strings json pattern) kind never named not = absurd kind
+    why (Status json) kind never named not = absurd kind
     why (Update verbose skip) kind never named not =
         let found = undated root usr verbose r of (scene_of fails left before).files (scene_of fails_now left_now now).files first before.err now.err skip fails Unwritable kind tells never listed not.1 not.0.0 in
         (found.0, record { err = found.1.err; out = not.0.1; files = found.1.kept.same })
@@ -260,6 +262,7 @@ module _ (header : OneHeader) (tree : OneTree) where
     one_why fails fails2 U U2 files root r r2 (Test paths database json) kind one two = test_test header (map string_bytes paths.items) (option_map string_bytes database) root files told r r2 one two
     one_why fails fails2 U U2 files root r r2 (Update verbose skip) kind one two = update_update choice reading root files r r2 one two
     one_why fails fails2 U U2 files root r r2 (Device path strings json pattern) kind one two = absurd kind
+    one_why fails fails2 U U2 files root r r2 (Status json) kind one two = absurd kind
 
   same_told : (one two one_now two_now : Told) → TellOne one two → one_now ≡ one → two_now ≡ two → one_now.bytes ≡ two_now.bytes
   same_told one two one_now two_now tell kept kept2 = ap (λ (t : Told). t.bytes) kept ∙ tell.of_one ∙ sym tell.of_two ∙ sym (ap (λ (t : Told). t.bytes) kept2)
@@ -325,6 +328,7 @@ module _ (header : OneHeader) (tree : OneTree) where
         test_done header given path root before.files.seen told json done.0.texts.out status r
         (subst (λ (i : Option (List ℕ)). IsTested json given path root i before.files.seen done.0.texts.out status) tells done.0.are.1) not
     not_both_ends (Device path strings json pattern) kind done not = absurd kind
+    not_both_ends (Status json) kind done not = absurd kind
     not_both_ends (Update verbose skip) kind done not =
         let place : List ℕ → Type 0 = λ database. InPlace (database_folder usr root) database before.files.seen now.files.seen now.files.left in
         let less = done.0.updated in

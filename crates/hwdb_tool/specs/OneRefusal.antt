@@ -14,7 +14,7 @@ use Rattle.hwdb_spec.specs.declared.errors.ToolError.{ToolError}
 use Rattle.hwdb_spec.specs.declared.errors.ToolError.TheVariants.{BadDatabase, Memory, Read, Replace, TooLong, Write}
 use Rattle.hwdb_spec.specs.declared.job.WordsFault.TheVariants as words_fault
 use Rattle.hwdb_spec.specs.declared.job.Task.{Task}
-use Rattle.hwdb_spec.specs.declared.job.Task.TheVariants.{Ask, Check, Device, Diff, Dump, Explain, List as ListHits, Near, Query, Test, Update, Verify}
+use Rattle.hwdb_spec.specs.declared.job.Task.TheVariants.{Ask, Check, Device, Diff, Dump, Explain, List as ListHits, Near, Query, Status, Test, Update, Verify}
 use Rattle.hwdb_spec.specs.Runs.{Told}
 use Rattle.hwdb_spec.specs.CheckedFiles.{StandFor, folder_of}
 use Rattle.hwdb_spec.specs.Store.{Contents, Outcomes, path_in}
@@ -58,7 +58,7 @@ IsOneError (InWords text) (InWords text2) = IsOneText text.items text2.items
 IsOneError refusal refusal2 = ⊥
 
 -- The task leaves out no file that can't be read, and prints its answer at once. It isn't `device`: what is read of sysfs is no file of
--- the law.
+-- the law. Nor is it `status`.
 abbrev pub IsCovered : Task → Type 0
 IsCovered (Update verbose skip) = skip ≡ false
 IsCovered (Query devices json) = is_input (map string_bytes devices.items) ≡ false
@@ -71,6 +71,7 @@ IsCovered (Test files database json) = Unit {0}
 IsCovered (Diff old new) = Unit {0}
 IsCovered (Verify database) = Unit {0}
 IsCovered (Dump database) = Unit {0}
+IsCovered (Status json) = ⊥
 IsCovered (Device path strings json pattern) = ⊥
 
 -- it answers devices of standard input, each as it comes

@@ -1,9 +1,10 @@
 //! `device`: what udev asks for a device, and what that gets; or a line for each device. Nothing is written.
-ghost use Rattle.std.specs.Prelude.{◌≡◌, ◌++◌, Some, option_map, IfErr, IfOk, OnOk};
+ghost use Rattle.std.specs.Prelude.{◌≡◌, ◌++◌, [], Some, option_map, IfErr, IfOk, OnOk};
+ghost use Rattle.std.specs.Option.{option_map_or};
 ghost use Rattle.hwdb_spec.specs.Asked.{IsAnswered};
 ghost use Rattle.hwdb_spec.specs.Databases.{IsTextOf};
 ghost use Rattle.hwdb_spec.specs.DeviceAsked as spec;
-ghost use Rattle.hwdb_spec.specs.DeviceAsked.{IsDevicePrinted, IsOfDevice, device_list, device_meant};
+ghost use Rattle.hwdb_spec.specs.DeviceAsked.{IsDevicePrinted, IsOfDevice, device_list, device_meant, link_row, unread_row};
 ghost use Rattle.hwdb_spec.specs.DeviceTexts as texts;
 ghost use Rattle.hwdb_spec.specs.DeviceTree as tree;
 ghost use Rattle.hwdb_spec.specs.Runs.{OnOut};
@@ -23,7 +24,9 @@ use hwdb_fs::{Machine, Refusal, System};
 use hwdb_print::ToolError;
 use hwdb_reader::check;
 use hwdb_rules::ATTRIBUTES;
-use hwdb_sysfs::{Device, DeviceFiles, list_devices, read_device};
+use hwdb_sysfs::{
+    Device, DeviceFiles, device_of_path, kernel_name, list_links, read_device, unread_of_path,
+};
 use std::alloc::{AllocError, Global};
 
 /// Which form is printed: of several options `--pattern` counts first, and then `--json`.
@@ -93,16 +96,69 @@ fn list_text<F: DeviceFiles>(alloc: Global, sys: &[u8], files: &F) -> Result<Vec
     ensures { F.tells → IfOk result (λ text. text.items
         ≡ device_list (sight_by F.answers files.now) asked_names sys.now) }
 {
-    let places = list_devices(alloc, files, sys)?;
+    let links = list_links(alloc, files, sys)?;
     let mut text = Vec::new(alloc);
-    for place in &places {
-        push_row(alloc, sys, place, files, &mut text)?;
+    for link in &links {
+        push_row(alloc, sys, link, files, &mut text)?;
     }
     Ok(text)
 }
 
-/// Adds the line of the device at a place.
+/// Adds the line of what a link leads to.
 fn push_row<F: DeviceFiles>(
+    alloc: Global,
+    sys: &[u8],
+    link: &[u8],
+    files: &F,
+    text: &mut Vec<u8>,
+) -> Result<(), AllocError>
+    ensures { F.tells → OnOk result (text.new.items ≡ text.old.items
+        ++ link_row (sight_by F.answers files.now) asked_names sys.now link.now) }
+{
+    match device_of_path(alloc, files, sys, link)? {
+        Some(place) => push_device(alloc, sys, &place, files, text),
+        None => push_unread(alloc, sys, link, files, text),
+    }
+}
+
+/// Adds the line of what can't be read where a link leads.
+fn push_unread<F: DeviceFiles>(
+    alloc: Global,
+    sys: &[u8],
+    link: &[u8],
+    files: &F,
+    text: &mut Vec<u8>,
+) -> Result<(), AllocError>
+    ensures { F.tells → OnOk result (text.new.items ≡ text.old.items ++ option_map_or
+        (unread_row link.now)
+        (tree.unread_of_path (sight_by F.answers files.now) sys.now link.now) []) }
+{
+    match unread_of_path(alloc, files, sys, link)? {
+        Some(unread) => push_unread_row(alloc, text, link, &unread.path),
+        None => Ok(()),
+    }
+}
+
+/// The same of this path.
+fn push_unread_row(
+    alloc: Global,
+    text: &mut Vec<u8>,
+    link: &[u8],
+    path: &[u8],
+) -> Result<(), AllocError>
+    ensures { OnOk result
+        (text.new.items ≡ text.old.items ++ unread_row link.now path.now) }
+{
+    let name = kernel_name(alloc, link)?;
+    text.extend_from_slice(&name)?;
+    text.extend_from_slice(b"  cannot read ")?;
+    text.extend_from_slice(path)?;
+    text.push(b'\n')?;
+    Ok(())
+}
+
+/// Adds the line of the device at a place.
+fn push_device<F: DeviceFiles>(
     alloc: Global,
     sys: &[u8],
     place: &[u8],

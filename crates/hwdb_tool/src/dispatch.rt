@@ -22,6 +22,7 @@ use crate::near_misses::near;
 use crate::outlet::Outlet;
 use crate::printing::printed;
 use crate::queries::query;
+use crate::statuses::status;
 use crate::trials::test;
 use crate::verification::verify;
 use hwdb_cli::{Job, Task, WordsFault, read_words};
@@ -31,7 +32,8 @@ use hwdb_print::ToolError;
 use std::alloc::Global;
 
 /// Does what the words say, the first of which is the program's name, and returns the status: 0; 1 where `check`, `test` or
-/// `diff` finds something, or `--strict` says so, and after a refusal, whose line goes to `err`; 2 after one of `diff`.
+/// `diff` finds something, the database of `status` isn't fresh, or `--strict` says so, and after a refusal, whose line goes
+/// to `err`; 2 after one of `diff`.
 /// Words that the command doesn't take, and that ask for no help, are refused. Where the reader of `out` went away the
 /// status is 0, and nothing is said. Of `input` only a command reads that is given `-`.
 pub fn program<D: Machine, I: Source, O: Outlet, E: Sink>(
@@ -277,6 +279,7 @@ fn run<D: Machine, I: Source, O: Sink, E: Sink>(
         Task::Diff { old, new } => {
             printed(diff(alloc, old.as_str(), new.as_str(), system), out, err)
         }
+        Task::Status { json } => printed(status(alloc, root, *json, system), out, err),
         Task::Verify { database } => {
             printed(verify(alloc, root, text_of(database), system), out, err)
         }

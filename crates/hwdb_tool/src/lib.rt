@@ -18,6 +18,7 @@
 //! | `differences` | `diff` |
 //! | `verification` | `verify`; `verdicts`: its words on bytes that are no database |
 //! | `dumps` | `dump` |
+//! | `statuses` | `status` |
 //! | `databases` | the database that a command asks for |
 //! | `given` | files that words name, or standard input |
 //! | `given_folders` | the text files for which the paths of `check` stand |
@@ -55,6 +56,7 @@ mod outlet;
 mod printing;
 mod progress;
 mod queries;
+mod statuses;
 mod trials;
 mod updates;
 mod verdicts;
@@ -85,5 +87,6 @@ pub use one_outcome::{answers_are_one, jobs_are_one, listings_give_one_reading, 
 pub use one_refusal::{errors_are_one, input_errors_are_so, words_end_in_one};
 pub use outlet::Outlet;
 pub use queries::query;
+pub use statuses::status;
 pub use trials::test;
 pub use verification::verify;

@@ -34,6 +34,7 @@ fn unmounted(alloc: Global, why: Unfound) -> Refusal
 {
     match why {
         Unfound::NoSysfs(path, cause) => no_sysfs(alloc, &path, cause),
+        Unfound::Untold(path, cause) => unread(alloc, &path, cause),
         Unfound::Memory | Unfound::Unread(_) | Unfound::NoDevice => Refusal::from(AllocError),
     }
 }
@@ -103,6 +104,7 @@ fn unmeant<F: DeviceFiles>(
     ensures worded { IsWorded result }
 {
     match why {
+        Unfound::Untold(path, cause) => unread(alloc, &path, cause),
         Unfound::Unread(cause) => {
             let message = cause.message();
             no_device(alloc, sys, given, true, message.as_bytes(), files)
@@ -110,6 +112,36 @@ fn unmeant<F: DeviceFiles>(
         Unfound::NoDevice => not_there(alloc, sys, given, files),
         Unfound::Memory | Unfound::NoSysfs(..) => Refusal::from(AllocError),
     }
+}
+
+/// What is said if a path can't be read that would tell whether a device is there.
+fn unread(alloc: Global, path: &[u8], cause: Cause) -> Refusal
+    ensures { (words : List ℕ) × IsOneLine words
+        × IsInWords (spec.unread_text path.now words) result }
+{
+    let message = cause.message();
+    unread_for(alloc, path, message.as_bytes())
+}
+
+/// The same, with the words of the cause.
+fn unread_for(alloc: Global, path: &[u8], words: &[u8]) -> Refusal
+    ensures { IsInWords (spec.unread_text path.now words.now) result }
+{
+    match unread_text(alloc, path, words) {
+        Ok(text) => Refusal::InWords(text),
+        Err(refused) => Refusal::from(refused),
+    }
+}
+
+/// The words of it.
+fn unread_text(alloc: Global, path: &[u8], words: &[u8]) -> Result<Vec<u8>, AllocError>
+    ensures { IfOk result (λ text. text.items ≡ spec.unread_text path.now words.now) }
+{
+    let mut text = Vec::from_slice(alloc, b"cannot read ")?;
+    text.extend_from_slice(path)?;
+    text.extend_from_slice(b": ")?;
+    text.extend_from_slice(words)?;
+    Ok(text)
 }
 
 /// What is said if what was given leads to no device, and not nowhere.

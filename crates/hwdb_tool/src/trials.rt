@@ -48,7 +48,7 @@ pub fn test<D: System, I: Source>(
         (I.failures input.new)) }
 {
     let text = input_text(alloc, given, input)?;
-    let texts = read_given(alloc, given, &text, system)?;
+    let texts = read_given(alloc, given, given, &text, system)?;
     let files = with_paths(alloc, given, &texts)?;
     tried(alloc, root, database, json, &files, system)
 }

@@ -14,4 +14,5 @@ returns c =
     let test = c.with_command-test.ensures _ _ check c.command-9.ensures in
     let diff = c.with_command-diff.ensures _ _ test c.command-10.ensures in
     let verify = c.with_command-verify.ensures _ _ diff c.command-11.ensures in
-    IfOk-weaker c.with_command.result _ _ (λ r is. is.app) (c.with_command.ensures _ _ verify c.command-12.ensures)
+    let dump = c.with_command-dump.ensures _ _ verify c.command-12.ensures in
+    IfOk-weaker c.with_command.result _ _ (λ r is. is.app) (c.with_command.ensures _ _ dump c.command-13.ensures)

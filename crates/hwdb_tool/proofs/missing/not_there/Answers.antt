@@ -10,10 +10,11 @@ pub returns-clause-said : goal.returns-clause-said
 returns-clause-said g c = λ tells root none.
     let sight = sight_by g.F.DeviceFiles.answers c.args.files.now in
     let given = c.args.given.now in
-    inr record {
-      none = none.0;
+    inr (inr record {
+      none = none.0.0;
+      all_read = none.0.1;
       words = [];
       one_line = refl;
       said = subst (λ (b : Bool). IsInWords (no_device_text b given [] (near_name sight c.args.sys.now (last_name given))) c.no_device.result)
           (sym (leads_somewhere sight root given none.1)) (c.no_device.ensures.said tells);
-    }
+    })

@@ -1,0 +1,93 @@
+//! What is near to strings that get nothing.
+ghost use Rattle.std.specs.Prelude.{◌≡◌, ◌++◌, ◌∷◌, [], IfOk, OnOk, filter, flat_map, map};
+ghost use Rattle.hwdb_spec.specs.DeviceTexts;
+ghost use Rattle.hwdb_spec.specs.NearAsked.{database_patterns};
+ghost use Rattle.hwdb_spec.specs.NearPrefixes.{prefix_report};
+ghost use Rattle.hwdb_near.specs.Views.{pattern_at};
+ghost use Rattle.hwdb_device.specs.Views.{all_found, found_of};
+
+use crate::found::Found;
+use hwdb_inspect::assignments;
+use hwdb_near::{PatternAt, patterns_of, push_prefix_report};
+use hwdb_reader::Db;
+use std::alloc::{AllocError, Global};
+
+/// Adds a string that gets nothing. The only error, here and below, is `AllocError`.
+fn push_wanting<'f>(texts: &mut Vec<&'f [u8]>, found: &'f Found<'_>) -> Result<(), AllocError>
+    ensures { OnOk result (map (λ t. t.now) texts.new.items ≡ map (λ t. t.now) texts.old.items
+        ++ DeviceTexts.wanting (found_of found.now ∷ [])) }
+{
+    if found.told.is_empty() {
+        texts.push(&found.text)?;
+    }
+    Ok(())
+}
+
+/// The strings that get nothing.
+fn wanting<'f>(alloc: Global, found: &'f [Found<'_>]) -> Result<Vec<&'f [u8]>, AllocError>
+    ensures { IfOk result (λ texts. map (λ t. t.now) texts.items
+        ≡ DeviceTexts.wanting (all_found found.now)) }
+{
+    let mut texts: Vec<&'f [u8]> = Vec::new(alloc);
+    for one in found {
+        push_wanting(&mut texts, one)?;
+    }
+    Ok(texts)
+}
+
+/// For each prefix that people set properties at the report of the pattern that is nearest to one of some texts, if there is one.
+fn prefix_reports(
+    alloc: Global,
+    patterns: &[PatternAt<'_>],
+    texts: &[&[u8]],
+) -> Result<Vec<u8>, AllocError>
+    ensures { IfOk result (λ reports. reports.items ≡ flat_map
+        (prefix_report (map pattern_at patterns.now) (map (λ t. t.now) texts.now))
+        DeviceTexts.set_prefixes) }
+{
+    let mut reports = Vec::new(alloc);
+    push_prefix_report(alloc, &mut reports, patterns, texts, b"evdev:")?;
+    push_prefix_report(alloc, &mut reports, patterns, texts, b"sensor:")?;
+    push_prefix_report(alloc, &mut reports, patterns, texts, b"mouse:")?;
+    push_prefix_report(alloc, &mut reports, patterns, texts, b"touchpad:")?;
+    push_prefix_report(alloc, &mut reports, patterns, texts, b"joystick:")?;
+    Ok(reports)
+}
+
+/// The same of the patterns of a database.
+fn reports(alloc: Global, db: &Db<'_>, found: &[Found<'_>]) -> Result<Vec<u8>, AllocError>
+    ensures { IfOk result (λ reports. reports.items ≡ flat_map
+        (prefix_report (database_patterns db.now) (DeviceTexts.wanting (all_found found.now)))
+        DeviceTexts.set_prefixes) }
+{
+    let texts = wanting(alloc, found)?;
+    let all = assignments(alloc, db)?;
+    let patterns = patterns_of(alloc, &all)?;
+    prefix_reports(alloc, &patterns, &texts)
+}
+
+/// Adds reports after a line that says what they are; nothing if there are none.
+fn push_part(text: &mut Vec<u8>, reports: &[u8]) -> Result<(), AllocError>
+    ensures { OnOk result
+        (text.new.items ≡ text.old.items ++ DeviceTexts.nearest_part reports.now) }
+{
+    if reports.is_empty() {
+        return Ok(());
+    }
+    text.extend_from_slice(b"nearest patterns to what got nothing:\n")?;
+    text.extend_from_slice(reports)
+}
+
+/// Adds for each such prefix the pattern that is nearest to a string that gets nothing, if there is one.
+pub(crate) fn push_nearest(
+    alloc: Global,
+    text: &mut Vec<u8>,
+    db: &Db<'_>,
+    found: &[Found<'_>],
+) -> Result<(), AllocError>
+    ensures { OnOk result (text.new.items ≡ text.old.items
+        ++ DeviceTexts.nearest_text (database_patterns db.now) (all_found found.now)) }
+{
+    let reports = reports(alloc, db, found)?;
+    push_part(text, &reports)
+}

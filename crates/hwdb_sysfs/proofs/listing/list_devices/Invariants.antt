@@ -1,9 +1,0 @@
-use Rattle.std.proofs.Common.{◌≡◌, ◌++◌, codes, flat_map, map, take}
-use Rattle.hwdb_spec.specs.DeviceTree as tree
-use Rattle.hwdb_spec.specs.SysfsAnswers.{seen}
-use Rattle.hwdb_sysfs.proofs.listing.list_devices.Given as goal
-
-abbrev pub invariant-loop-folder : goal.invariant-loop-folder
-invariant-loop-folder g l = g.F.DeviceFiles.tells → map (λ p. p.items) l.devices.items
-    ≡ tree.devices_in (seen (g.F.DeviceFiles.answers l.files)) l.sys (l.sys ++ codes "/class/input")
-    ++ flat_map (tree.others_in (seen (g.F.DeviceFiles.answers l.files)) l.sys (l.sys ++ codes "/class/input")) (map (λ f. f.items) (take l.folder-index l.folder-items))
