@@ -56,8 +56,8 @@ status_of_state state = 1
 
 -- ---- what is said
 
--- what `status` reports: the path of the asked database, that of the one it hides, those of masked text files, the asked one's
--- state, and the command that makes it anew
+-- What `status` reports: the paths of the asked database, of the one it hides and of masked text files. Then the asked one's state,
+-- and the command that makes it anew.
 pub record Report : Type 0 where
   pub database : Option (List ℕ)
   pub hides : Option (List ℕ)

@@ -1,4 +1,4 @@
--- What `status` refuses. Our choice.
+-- The errors of `status`. Our choice.
 use Rattle.std.specs.Prelude.{◌≡◌, ◌⊎◌, List, ℕ}
 use Rattle.hwdb_spec.specs.Asked.{IsAskedPath}
 use Rattle.hwdb_spec.specs.CompileErrors.{IsRefusal}
@@ -14,11 +14,11 @@ use Rattle.hwdb_spec.specs.declared.errors.CompileError.{CompileError}
 use Rattle.hwdb_spec.specs.declared.refusals.Refusal.{Refusal}
 use Rattle.hwdb_spec.specs.declared.refusals.Refusal.TheVariants.{Plain}
 
--- the compiler refuses these files
+-- these files give an error of the compiler
 abbrev pub IsNotCompiled : (of_etc of_usr : List Source) → Refusal → Type 0
 IsNotCompiled of_etc of_usr refusal = (error : CompileError) × (refusal ≡ Plain (refusal_of_compile error)) × IsRefusal of_etc of_usr max_file error
 
--- the text files of both folders were read, and the compiler refuses them
+-- the text files of both folders were read, and give an error of the compiler
 pub record AreNotMade (root : List ℕ) (contents : Contents) (refusal : Refusal) : Type 0 where
   pub of_etc : List Source
   pub of_usr : List Source
@@ -38,6 +38,6 @@ pub record IsNotBeside (root : List ℕ) (contents : Contents) (refusal : Refusa
   pub is_made : IsMade root contents of_etc of_usr made
   pub unread : IsAskedUnread root contents refusal
 
--- `status` is refused: the text files can't be read; or not be compiled; or after that the database that is asked can't be read
+-- `status` fails: the text files can't be read; or not be compiled; or after that the database that is asked can't be read
 abbrev pub IsStatusRefused : (root : List ℕ) → Contents → Refusal → Type 0
 IsStatusRefused root contents refusal = AreUnread root contents refusal ⊎ (AreNotMade root contents refusal ⊎ IsNotBeside root contents refusal)

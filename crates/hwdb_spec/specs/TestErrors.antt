@@ -1,4 +1,4 @@
--- What `test` refuses: the first test file that can't be read; after all were read the database; and then what comes of trying
+-- The errors of `test`: the first test file that can't be read; after all were read the database; and then what comes of trying
 -- them over it. What is said of them is so. Our choice.
 use Rattle.std.specs.Prelude.{◌≡◌, ◌≤◌, ◌⊎◌, List, Option, Some, is_some, length, true, ℕ}
 use Rattle.hwdb_spec.specs.Asked.{IsNamedPath, named_database}
@@ -18,14 +18,14 @@ use Rattle.hwdb_spec.specs.NamedDatabases.{IsUnnamed}
 use Rattle.hwdb_spec.specs.Reasons.{HasFilesReason}
 use Rattle.hwdb_spec.specs.Undone.{IsGivenUnread, IsUnreadableIf}
 
--- what trying some files over these bytes may refuse: they are no database, or a file has too many lines
+-- an error of trying some files over these bytes: they are no database, or a file has too many lines
 abbrev pub IsTrialRefusal : (sources : List Source) (bytes : List ℕ) → ToolError → Type 0
 IsTrialRefusal sources bytes (BadDatabase fault) = IsNoDatabase bytes fault
 IsTrialRefusal sources bytes TooManyLines = HasLongFile sources
 IsTrialRefusal sources bytes Memory = Unit {0}
 IsTrialRefusal sources bytes _ = ⊥
 
--- trying the files over the bytes of the database is refused, which are no more than a file may have
+-- trying the files over the bytes of the database, no more than a file may have, gives an error
 pub record IsNoTrial (sources : List Source) (given : Option (List ℕ)) (root : List ℕ) (contents : Contents) (refusal : Refusal) : Type 0 where
   pub path : List ℕ
   pub bytes : List ℕ
@@ -37,11 +37,11 @@ pub record IsNoTrial (sources : List Source) (given : Option (List ℕ)) (root :
   pub is : IsOfDatabase error path refusal
   pub refused : IsTrialRefusal sources bytes error
 
--- the files aren't tried: the database can't be read, or this is refused
+-- the files aren't tried: the database can't be read, or gives an error
 abbrev pub AreUntried : (sources : List Source) (given : Option (List ℕ)) (root : List ℕ) → Contents → Refusal → Type 0
 AreUntried sources given root contents refusal = IsUnnamed given root contents refusal ⊎ IsNoTrial sources given root contents refusal
 
--- `test` is refused: a file can't be read, or all were read and aren't tried
+-- `test` fails: a file can't be read, or all were read and aren't tried
 abbrev pub IsTestRefused : (given : List (List ℕ)) (path : Option (List ℕ)) (root : List ℕ) (input : Option (List ℕ)) → Contents → Refusal → Type 0
 IsTestRefused given path root input contents refusal =
     IsGivenUnread given refusal
