@@ -14,7 +14,7 @@ _hwdb_reply() {
 # _hwdb_value KIND: completions of an argument, of an option's value, or of the command, one of the table `arguments`
 _hwdb_value() {
     case $1 in
-        FILE) _filedir hwdb ;;
+        FILE) _filedir '@(hwdb|test)' ;;
         DATABASE | OLD | NEW) _filedir bin ;;
         PATH) _filedir -d ;;
         COMMAND) mapfile -t COMPREPLY < <(compgen -W "${!arguments[*]}" -- "$cur") ;;
@@ -47,6 +47,7 @@ _hwdb() {
         [near]='FILE|MODALIAS..'
         [device]='DEVICE'
         [check]='FILE..'
+        [test]='FILE..'
         [diff]='OLD NEW'
         [verify]='DATABASE'
         [dump]='DATABASE'
@@ -62,6 +63,7 @@ _hwdb() {
         [near]='-r --root --color --limit --json -h --help'
         [device]='-r --root --color --strings --json --pattern -h --help'
         [check]='-s --strict -r --root --color --allow --json -h --help'
+        [test]='-r --root --color --database --json -h --help'
         [diff]='-r --root --color -h --help'
         [verify]='-r --root --color -h --help'
         [dump]='-r --root --color -h --help'
@@ -74,6 +76,7 @@ _hwdb() {
         [--after]='POS'
         [--limit]='N'
         [--allow]='KIND'
+        [--database]='DATABASE'
     )
     local -A kinds_of=(
         [KIND]='byte-order-mark leading-tab carriage-return open-bracket empty-range spaced-equals cut-value repeated-match replaced near-name scan-code unknown-key unfit-value zero-row two-defaults unread unpaired unknown-prefix dead-pattern'

@@ -60,12 +60,12 @@ end
 complete -c hwdb -f
 # From here on completions/from-help has made it of the program's help.
 function __hwdb_takes_value
-    contains -- $argv[1] -r --root --color --after --limit --allow
+    contains -- $argv[1] -r --root --color --after --limit --allow --database
 end
 
 # The words that `help` takes.
 function __hwdb_command
-    printf '%s\n' update query explain ask list near device check diff verify dump help
+    printf '%s\n' update query explain ask list near device check test diff verify dump help
 end
 
 complete -c hwdb -n __hwdb_none -a update -d 'Compiles the text files of /etc/udev/hwdb.d and /usr/lib/udev/hwdb.d into /etc/udev/hwdb.bin'
@@ -76,6 +76,7 @@ complete -c hwdb -n __hwdb_none -a list -d 'Prints each assignment of the databa
 complete -c hwdb -n __hwdb_none -a near -d 'Prints the patterns that match a device, and the nearest that don\'t, with the place where each stops'
 complete -c hwdb -n __hwdb_none -a device -d 'Prints the strings that udev asks the database for a device, and what each gives; without DEVICE lists the devices'
 complete -c hwdb -n __hwdb_none -a check -d 'Says what is wrong in text files, or hardly meant, and writes no database'
+complete -c hwdb -n __hwdb_none -a test -d 'Says whether a database gives devices the properties that test files want'
 complete -c hwdb -n __hwdb_none -a diff -d 'Prints what changed from one database to another'
 complete -c hwdb -n __hwdb_none -a verify -d 'Says whether a file is a database that can be read, and how much is in it'
 complete -c hwdb -n __hwdb_none -a dump -d 'Prints a database as a text file'
@@ -95,6 +96,7 @@ complete -c hwdb -n '__hwdb_at list' -l color -x -a 'auto always never' -d 'Colo
 complete -c hwdb -n '__hwdb_at near' -l color -x -a 'auto always never' -d 'Color the output: auto, always or never; auto does so on a terminal'
 complete -c hwdb -n '__hwdb_at device' -l color -x -a 'auto always never' -d 'Color the output: auto, always or never; auto does so on a terminal'
 complete -c hwdb -n '__hwdb_at check' -l color -x -a 'auto always never' -d 'Color the output: auto, always or never; auto does so on a terminal'
+complete -c hwdb -n '__hwdb_at test' -l color -x -a 'auto always never' -d 'Color the output: auto, always or never; auto does so on a terminal'
 complete -c hwdb -n '__hwdb_at diff' -l color -x -a 'auto always never' -d 'Color the output: auto, always or never; auto does so on a terminal'
 complete -c hwdb -n '__hwdb_at verify' -l color -x -a 'auto always never' -d 'Color the output: auto, always or never; auto does so on a terminal'
 complete -c hwdb -n '__hwdb_at dump' -l color -x -a 'auto always never' -d 'Color the output: auto, always or never; auto does so on a terminal'
@@ -108,12 +110,14 @@ complete -c hwdb -n '__hwdb_at list' -l json -d 'Print JSON, one object a line'
 complete -c hwdb -n '__hwdb_at near' -l json -d 'Print JSON, one object a line'
 complete -c hwdb -n '__hwdb_at device' -l json -d 'Print JSON, one object a line'
 complete -c hwdb -n '__hwdb_at check' -l json -d 'Print JSON, one object a line'
+complete -c hwdb -n '__hwdb_at test' -l json -d 'Print JSON, one object a line'
 complete -c hwdb -n '__hwdb_at list' -l after -x -d 'Print only what stands after this position, as list prints it'
 complete -c hwdb -n '__hwdb_at list' -l limit -x -d 'Print at most N lines; 0 prints nothing'
 complete -c hwdb -n '__hwdb_at near' -l limit -x -d 'Print at most N patterns that don\'t match, in place of 3'
 complete -c hwdb -n '__hwdb_at device' -l strings -d 'Print the strings alone, one a line'
 complete -c hwdb -n '__hwdb_at device' -l pattern -d 'Print a record to begin with, which fits the device; before --json and --strings'
 complete -c hwdb -n '__hwdb_at check' -l allow -x -a 'byte-order-mark leading-tab carriage-return open-bracket empty-range spaced-equals cut-value repeated-match replaced near-name scan-code unknown-key unfit-value zero-row two-defaults unread unpaired unknown-prefix dead-pattern' -d 'Leave out warnings of this kind; may come more than once'
+complete -c hwdb -n '__hwdb_at test' -l database -x -a '(__hwdb_database)' -d 'Ask this database, in place of that of /etc/udev or /usr/lib/udev'
 
 complete -c hwdb -n '__hwdb_at query' -a '(__hwdb_modalias)' -d MODALIAS
 complete -c hwdb -n '__hwdb_at explain 1' -a '(__hwdb_modalias)' -d MODALIAS
@@ -124,6 +128,7 @@ complete -c hwdb -n '__hwdb_at near' -k -a '(__hwdb_file)' -d FILE
 complete -c hwdb -n '__hwdb_at near' -a '(__hwdb_modalias)' -d MODALIAS
 complete -c hwdb -n '__hwdb_at device 1' -a '(__hwdb_device)' -d DEVICE
 complete -c hwdb -n '__hwdb_at check' -k -a '(__hwdb_file)' -d FILE
+complete -c hwdb -n '__hwdb_at test' -k -a '(__hwdb_file)' -d FILE
 complete -c hwdb -n '__hwdb_at diff 1' -k -a '(__hwdb_database)' -d OLD
 complete -c hwdb -n '__hwdb_at diff 2' -k -a '(__hwdb_database)' -d NEW
 complete -c hwdb -n '__hwdb_at verify 1' -k -a '(__hwdb_database)' -d DATABASE

@@ -1,7 +1,6 @@
 //! Whether `check --allow` names kinds of warnings.
+use crate::MEMORY;
 use hwdb_tool::{KINDS, Sink, kind_fault, read_words, write_text};
-
-const MEMORY: &str = "hwdb: out of memory\n";
 
 /// The status of a run that ends here: if a word after `--allow` names no kind, or memory is refused. What it comes from is said
 /// on standard error.

@@ -1,4 +1,5 @@
 //! The variable of the environment that has an update do nothing, as systemd-hwdb has it from its version 254 on.
+use crate::MEMORY;
 use hwdb_tool::{Sink, Task, WordsFault, read_words, write_text};
 use std::env::{self, VarError};
 
@@ -9,8 +10,6 @@ const SKIPPED: &str = "hwdb: $SYSTEMD_HWDB_UPDATE_BYPASS is enabled, skipping ex
 
 const UNCLEAR: &str =
     "hwdb: $SYSTEMD_HWDB_UPDATE_BYPASS is neither true nor false, and doesn't count\n";
-
-const MEMORY: &str = "hwdb: out of memory\n";
 
 /// What the variable says.
 #[derive(Clone, Copy)]

@@ -15,6 +15,9 @@ use std::io::{self, ErrorKind};
 use std::os::fd::AsFd;
 use std::process::ExitCode;
 
+/// What is said if memory is refused before the program begins.
+const MEMORY: &str = "hwdb: out of memory\n";
+
 /// The words of the command line, the first of which is the program's name.
 fn words_of(rt: &HostRuntime) -> io::Result<Vec<String>> {
     let words = env::args(rt)?.collect(rt.alloc())?;
@@ -70,7 +73,7 @@ fn main(rt: HostRuntime) -> ExitCode {
         }
         Err(error) => {
             let line = match error.kind() {
-                ErrorKind::OutOfMemory => "hwdb: out of memory\n",
+                ErrorKind::OutOfMemory => MEMORY,
                 _ => "hwdb: a word of the command line is not UTF-8\n",
             };
             let _ = write_text(&mut err, line.as_bytes());

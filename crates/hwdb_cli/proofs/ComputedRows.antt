@@ -85,6 +85,21 @@ pub dump_no_database : option_map (λ p. first_of (codes "DATABASE") p.1) (subco
 unfolding clap_on_literals
 dump_no_database = refl
 
+abbrev test_words : List Text
+test_words = codes "hwdb" ∷ codes "test" ∷ codes "--database" ∷ codes "d" ∷ codes "b" ∷ codes "--json" ∷ codes "a" ∷ []
+
+pub test_taken : takes hwdb_app test_words ≡ true
+unfolding clap_on_literals
+test_taken = refl
+
+pub test_files : option_map (λ p. all_of (codes "FILE") p.1) (subcommand_of hwdb_app test_words) ≡ Some (Some (codes "b" ∷ codes "a" ∷ []))
+unfolding clap_on_literals
+test_files = refl
+
+pub test_database : option_map (λ p. first_of (codes "database") p.1) (subcommand_of hwdb_app test_words) ≡ Some (Some (codes "d"))
+unfolding clap_on_literals
+test_database = refl
+
 abbrev help_words : List Text
 help_words = codes "hwdb" ∷ codes "-r" ∷ codes "/x" ∷ codes "help" ∷ codes "query" ∷ []
 

@@ -13,7 +13,7 @@ use Rattle.clap.specs.Simple.{App, Shape, argument_words, built, built_leaf, ent
 use Rattle.clap.proofs.WalkLemmas.{both}
 use Rattle.clap.proofs.ValueTestLemmas.{accepts-Accepts}
 use Rattle.clap.specs.declared.builder.value_parser.ValueParser.TheVariants as vp
-use Rattle.hwdb_spec.specs.CommandLine.{ask_app, check_app, device_app, device_rule, devices_rule, diff_app, dump_app, explain_app, file_rule, hwdb_app, limit_rule, list_app, near_app, new_database_rule, old_database_rule, query_app, update_app, verify_app}
+use Rattle.hwdb_spec.specs.CommandLine.{ask_app, check_app, device_app, device_rule, devices_rule, diff_app, dump_app, explain_app, file_rule, hwdb_app, limit_rule, list_app, near_app, new_database_rule, old_database_rule, query_app, status_app, test_app, test_files_rule, update_app, verify_app}
 use Rattle.hwdb_spec.specs.Jobs.{HasValue, IsCommand, IsNumber}
 use Rattle.hwdb_cli.proofs.WalkLemmas.{IsNotHelp, none_of_both, walk_not_help}
 use Rattle.hwdb_cli.proofs.UseLemmas.{Each, RowFits, StandsAlone, found_each, keeps_values, required_value, rows_fit, same_id, text_read}
@@ -92,6 +92,9 @@ diff_old = stands (built_command diff_app).rules (argument_at 1 old_database_rul
 diff_new : StandsAlone (built_command diff_app).rules (argument_at 2 new_database_rule)
 diff_new = stands (built_command diff_app).rules (argument_at 2 new_database_rule) refl refl refl refl (λ e. cc)
 
+test_words : StandsAlone (built_command test_app).rules (argument_at 1 test_files_rule)
+test_words = stands (built_command test_app).rules (argument_at 1 test_files_rule) refl refl refl refl (λ e. cc)
+
 -- a limit that was read is a number
 limit_number : (rows : List Row) → Each (RowFits (argument_at 1 limit_rule)) rows → IfSome (one_of (codes "limit") rows) IsNumber
 limit_number rows each = go (one_of (codes "limit") rows) refl
@@ -156,11 +159,20 @@ device_gives : Gives (built_command device_app)
 device_gives words e = inr (inr (inr (inr (inr (inr (inr (inr (inr (inl refl)))))))))
 
 near_gives : Gives (built_command near_app)
-near_gives words e = inr (inr (inr (inr (inr (inr (inr (inr (inr (inr (
+near_gives words e = inr (inr (inr (inr (inr (inr (inr (inr (inr (inr (inl (
   refl,
   value_of (built_command near_app) words (argument_at 1 devices_rule) near_words refl refl refl e,
   limit_number _ (rows_fit (built_command near_app) words (argument_at 1 limit_rule) near_limit e),
-))))))))))
+)))))))))))
+
+test_gives : Gives (built_command test_app)
+test_gives words e = inr (inr (inr (inr (inr (inr (inr (inr (inr (inr (inr (inl (
+  refl,
+  value_of (built_command test_app) words (argument_at 1 test_files_rule) test_words refl refl refl e,
+))))))))))))
+
+status_gives : Gives (built_command status_app)
+status_gives words e = inr (inr (inr (inr (inr (inr (inr (inr (inr (inr (inr (inr refl)))))))))))
 
 -- ---- the command line
 
@@ -217,5 +229,5 @@ command_taken words e =
     let has = subcommand_there a.top (finished a.top.rules end.held) (is_some (entered a end.stopped)) refl checks.1 in
     let other = walk_not_help a.top refl (names_of a) (walk_from nothing_held) left tt steps.0 in
     command_entered a end.stopped
-    (inl update_gives, (inl query_gives, (inl explain_gives, (inl ask_gives, (inl list_gives, (inl near_gives, (inl device_gives, (inl check_gives, (inl diff_gives, (inl verify_gives, (inl dump_gives, (inr refl, tt))))))))))))
+    (inl update_gives, (inl query_gives, (inl explain_gives, (inl ask_gives, (inl list_gives, (inl near_gives, (inl device_gives, (inl check_gives, (inl test_gives, (inl diff_gives, (inl verify_gives, (inl dump_gives, (inl status_gives, (inr refl, tt))))))))))))))
     other below.0 has

@@ -16,7 +16,9 @@ use crate::command::hwdb_command;
 use crate::help::{fitting_help, short_help};
 use crate::matched::{copied, has_flag, text_of};
 use crate::tips::{with_command_tip, with_fitting_tip};
-use crate::{ask, check, device, diff, dump, explain, list, near, query, update, verify};
+use crate::{
+    ask, check, device, diff, dump, explain, list, near, query, status, test, update, verify,
+};
 use clap::error::ErrorKind;
 use clap::{ArgMatches, Error};
 use hwdb_spec::{Job, Task, WordsFault};
@@ -35,9 +37,11 @@ fn task_of(alloc: Global, name: &str, inner: &ArgMatches<'_>) -> Result<Task, Al
         "near" => near::task(alloc, inner),
         "device" => device::task(alloc, inner),
         "check" => check::task(alloc, inner),
+        "test" => test::task(alloc, inner),
         "diff" => diff::task(alloc, inner),
         "verify" => verify::task(alloc, inner),
         "dump" => dump::task(alloc, inner),
+        "status" => Ok(status::task(inner)),
         _ => Ok(update::task(inner)),
     }
 }

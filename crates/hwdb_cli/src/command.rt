@@ -7,7 +7,9 @@ ghost use Rattle.hwdb_spec.specs.CommandLine.{hwdb_app, top_app};
 ghost use Rattle.hwdb_cli.specs.Drafts.{IsDraft};
 
 use crate::drafts::{Draft, shared, with_command};
-use crate::{ask, check, device, diff, dump, explain, list, near, query, update, verify};
+use crate::{
+    ask, check, device, diff, dump, explain, list, near, query, status, test, update, verify,
+};
 use clap::Command;
 use std::alloc::{AllocError, Global};
 
@@ -38,7 +40,9 @@ pub fn hwdb_command<'a>(alloc: Global) -> Result<Command<'a>, AllocError>
     let near = with_command(list, near::command(alloc));
     let device = with_command(near, device::command(alloc));
     let check = with_command(device, check::command(alloc));
-    let diff = with_command(check, diff::command(alloc));
+    let test = with_command(check, test::command(alloc));
+    let diff = with_command(test, diff::command(alloc));
     let verify = with_command(diff, verify::command(alloc));
-    with_command(verify, dump::command(alloc))
+    let dump = with_command(verify, dump::command(alloc));
+    with_command(dump, status::command(alloc))
 }

@@ -1,6 +1,8 @@
 //! Help: what `clap` says of a command, without options that do nothing for it; and a short one for a line without a
 //! command.
-use crate::{ask, check, device, diff, dump, explain, list, near, query, update, verify};
+use crate::{
+    ask, check, device, diff, dump, explain, list, near, query, status, test, update, verify,
+};
 use std::alloc::{AllocError, Global};
 
 /// What is said if no command is given, before the commands.
@@ -16,7 +18,7 @@ For more information, try 'hwdb help', or 'hwdb help COMMAND'.
 ";
 
 /// Each command, and what it does.
-const COMMANDS: [(&str, &str); 11] = [
+const COMMANDS: [(&str, &str); 13] = [
     ("update", update::SHORT),
     ("query", query::SHORT),
     ("explain", explain::SHORT),
@@ -24,7 +26,9 @@ const COMMANDS: [(&str, &str); 11] = [
     ("near", near::SHORT),
     ("device", device::SHORT),
     ("ask", ask::SHORT),
+    ("status", status::SHORT),
     ("check", check::SHORT),
+    ("test", test::SHORT),
     ("diff", diff::SHORT),
     ("verify", verify::SHORT),
     ("dump", dump::SHORT),

@@ -21,6 +21,8 @@ mod list;
 mod matched;
 mod near;
 mod query;
+mod status;
+mod test;
 mod tips;
 mod update;
 mod verify;

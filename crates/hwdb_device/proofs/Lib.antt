@@ -1,6 +1,5 @@
 pub mod AskingLemmas
 pub mod ComputedRows
-pub mod JsonLemmas
 pub mod KeyLemmas
 pub mod ListLemmas
 pub mod OutcomeLemmas

@@ -2,7 +2,6 @@ pub mod AnyLemmas
 pub mod LineLemmas
 pub mod RecordLemmas
 pub mod GivenLemmas
-pub mod JsonLemmas
 pub mod LawLemmas
 pub mod ComputedRows
 pub mod FileLemmas

@@ -147,6 +147,10 @@ seen (p ∷ more) d fields ts h ends have =
     ends (λ us. pieces_row (map piece_of more) us (fields_row fields us)) (pieces_family (map piece_of more) (fields_row fields) (fields_family fields))
     (star_pieces (map piece_of more) (fields_row fields (star ∷ [])) (star_fields fields have))
 
+pub seen_at_once : (ps : List Piece) (fields : List (List (List Piece))) (ts : List Token) → ts ≡ star ∷ [] → HaveWays fields → way_met ps fields ts ≡ true
+seen_at_once ps fields ts e have =
+    subst (λ (us : List Token). way_met ps fields us ≡ true) (sym e) (star_pieces ps (fields_row fields (star ∷ [])) (star_fields fields have))
+
 pub way_seen : (ps qs : List Piece) (fields : List (List (List Piece))) (ts us : List Token) (lead : Lead) → Leads ps ts lead → lead.is_dead ≡ false → qs ≡ drop lead.pieces ps → us ≡ drop lead.tokens ts → way_met qs fields us ≡ true → true ≡ way_met ps fields ts
 way_seen ps qs fields ts us lead l e q u h =
     sym (l (fields_row fields) (fields_family fields)

@@ -54,11 +54,22 @@ fn have_ways(fields: &[&[&[Piece]]]) -> bool
     true
 }
 
-/// Whether it is seen without rows that the tokens match the pieces, and then some text of the fields.
+/// Whether the tokens are one star.
+fn is_star_alone(tokens: &[&[u8]]) -> bool
+    ensures { result ≡ true → views tokens.now ≡ star ∷ [] }
+{
+    tokens.len() == 1 && begins_star(tokens[0])
+}
+
+/// Whether it is seen without rows that the tokens match the pieces, and then some text of the fields. A star alone matches what
+/// has a text.
 pub(crate) fn is_seen(pieces: &[Piece], fields: &[&[&[Piece]]], tokens: &[&[u8]]) -> bool
     ensures { result ≡ true
         → way_met (map piece_of pieces.now) (fields_of fields.now) (views tokens.now) ≡ true }
 {
+    if is_star_alone(tokens) {
+        return have_ways(fields);
+    }
     if pieces.is_empty() {
         return false;
     }

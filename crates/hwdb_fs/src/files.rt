@@ -14,7 +14,7 @@ use crate::roots::Root;
 use crate::system::System;
 use hwdb_io::{Cause, after_failure, write_on};
 use hwdb_print::ToolError;
-use hwdb_replace::{CallFailed, Store};
+use hwdb_replace::{CallFailed, DATABASE_MODE, PART_MODE, Store};
 use hwdb_spec::Refusal;
 use std::alloc::{AllocError, Global};
 use std::fs::{self, File, OpenFile, OpenOptions, Permissions};
@@ -67,11 +67,6 @@ pub fn path_in(alloc: Global, folder: &str, name: &str) -> Result<String, AllocE
     path.push_str(name)?;
     Ok(path)
 }
-
-/// Who may read and write a file while it is written, and once it is the database: systemd-hwdb's modes.
-const PART_MODE: u32 = 0o600;
-
-const DATABASE_MODE: u32 = 0o444;
 
 /// The file system as a store, a call of the library for each of its calls. It tells nothing of its contents: no
 /// contract of the library says what stands under a path.

@@ -2,6 +2,7 @@
 ghost use Rattle.std.specs.Prelude.{◌≡◌, ◌≤◌, ℕ, List, Some, IfOk, IfErr, IfSome, OnOk, is_some, map, option_map, string_bytes, vec_len};
 ghost use Rattle.hwdb_spec.specs.Texts.{max_file};
 ghost use Rattle.hwdb_spec.specs.System.{AreNamesIn, bytes_at};
+ghost use Rattle.hwdb_spec.specs.GivenFolders.{IsUnlistedFolder};
 ghost use Rattle.hwdb_spec.specs.Reading.{IsFolderAt};
 ghost use Rattle.hwdb_spec.specs.Refusals.{HasReason, IsUnlisted, IsUnread, IsUnreadAt, IsUnreadable};
 
@@ -36,16 +37,20 @@ pub trait System: Store {
         ensures names { Self.tells → IfOk result (λ found. IsFolderAt path.now (Self.seen self.now)
             (option_map (λ names. map string_bytes names.items) found)) }
         ensures refused { IfErr result (IsUnlisted path.now) }
+        ensures folder { Self.tells → IfErr result
+            (IsUnlistedFolder (Self.seen self.now) path.now) }
         ensures reason { IfErr result
             (HasReason (may_fail self.now) ⊥ (Self.seen self.now)) };
 
-    /// The bytes of a text file that was chosen. Refuses what is no regular file: an open of a pipe would wait.
+    /// The bytes of a text file that a folder lists. Refuses what is no regular file: an open of a pipe would wait.
     fn text(&self, alloc: Global, path: &str) -> Result<Vec<u8>, Refusal>
         ensures regular { OnOk result (is_regular self.now path.now) }
         ensures bytes { Self.tells → IfOk result
             (λ bytes. bytes_at (Self.seen self.now) path.now ≡ Some bytes.items) }
         ensures within { IfOk result (λ bytes. vec_len bytes ≤ max_file) }
         ensures refused { IfErr result (IsUnread path.now) }
+        ensures unread { Self.tells → IfErr result
+            (IsUnreadAt (Self.seen self.now) path.now) }
         ensures reason { IfErr result (HasReason
             (IsUnreadable (may_fail self.now) (Self.seen self.now)) ⊥ (Self.seen self.now)) };
 

@@ -12,4 +12,6 @@ pub mod OrderedLemmas
 pub mod SaidLemmas
 pub mod ReadLemmas
 pub mod PlacedLemmas
+pub mod StateLemmas
+pub mod JsonLemmas
 pub mod ToldLemmas

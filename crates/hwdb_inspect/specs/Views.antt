@@ -1,11 +1,15 @@
 -- What the types of this crate mean.
-use Rattle.std.specs.Prelude.{List, [], ◌∷◌}
+use Rattle.std.specs.Prelude.{List, [], map, option_map, ◌∷◌}
 use Rattle.hwdb_spec.specs.Assignment.{Assignment}
 use Rattle.hwdb_spec.specs.Differences.{Change, change_between}
 use Rattle.hwdb_spec.specs.Differences.Change.{Came, Went}
 use Rattle.hwdb_spec.specs.Summary.{Summary}
 use Rattle.hwdb_query.specs.Views.{assignment_of_answer}
 use Rattle.hwdb_query.specs.declared.answer.StoredAssignment.{StoredAssignment}
+use Rattle.hwdb_spec.specs.Status as status
+use Rattle.hwdb_inspect.specs.declared.freshness.State.{State}
+use Rattle.hwdb_inspect.specs.declared.freshness.State.TheVariants.{Broken, Fresh, Missing, Stale}
+use Rattle.hwdb_inspect.specs.declared.reports.Report.{Report}
 use Rattle.hwdb_inspect.specs.declared.pairs.Pair.{Pair}
 use Rattle.hwdb_inspect.specs.declared.pairs.Pair.TheVariants.{Old, New, Both}
 use Rattle.hwdb_inspect.specs.declared.summary.Counts.{Counts}
@@ -28,4 +32,19 @@ summary_shown c = record {
   nodes = c.nodes;
   depth = c.depth;
   bytes = c.bytes;
+}
+
+abbrev pub state_shown : State → status.State
+state_shown Missing = status.State.Missing
+state_shown Broken = status.State.Broken
+state_shown Fresh = status.State.Fresh
+state_shown (Stale changes first) = status.State.Stale changes first.items
+
+abbrev pub report_shown : Report → status.Report
+report_shown r = record {
+  database = option_map (λ v. v.items) r.database;
+  hides = option_map (λ v. v.items) r.hides;
+  masked = map (λ v. v.items) r.masked.items;
+  state = state_shown r.state;
+  remedy = r.remedy.items;
 }

@@ -12,24 +12,31 @@
 //! | `records` | the records of a dump, and what a record says |
 //! | `difference` | `diff`: what changed from one database to another |
 //! | `summary` | how much is in a database |
+//! | `freshness` | `status`: how a database is beside what the text files make |
+//! | `reports` | the lines of `status`; `json_reports`: the same as JSON |
 //! | `verification` | `verify`: whether bytes are a database, and how much is in it |
 //! | `walk` | all assignments of a database, by pattern and key |
 //! | `laws` | laws of the map of a database, and of its dump |
 #![tactic(auto)]
 
 mod difference;
+mod freshness;
+mod json_reports;
 mod laws;
 mod lines;
 mod listing;
 mod pairs;
 mod records;
+mod reports;
 mod summary;
 mod verification;
 mod walk;
 
 pub use difference::{Changes, diff};
+pub use freshness::{State, state_of, status_of};
 pub use hwdb_spec::{DiffError, DumpError, VerifyError};
 pub use laws::{dump_says, dump_tells, members_are_the_map};
 pub use listing::dump;
+pub use reports::{Report, report_in};
 pub use verification::verify;
 pub use walk::assignments;

@@ -12,7 +12,7 @@ use itoa::Buffer;
 use std::alloc::{AllocError, Global};
 
 /// Adds the line of a number.
-fn push_count(text: &mut Vec<u8>, name: &str, count: u64) -> Result<(), AllocError>
+pub(crate) fn push_count(text: &mut Vec<u8>, name: &str, count: u64) -> Result<(), AllocError>
     ensures { OnOk result (text.new.items ≡ text.old.items ++ count_line name.now count) }
 {
     let mut number = Buffer::new();

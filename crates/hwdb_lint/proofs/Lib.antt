@@ -5,9 +5,9 @@ pub mod SpacedLemmas
 pub mod RepeatLemmas
 pub mod RaiseLemmas
 pub mod ReplaceLemmas
+pub mod AscendLemmas
 pub mod RunLemmas
 pub mod AnyLemmas
 pub mod SoughtLemmas
 pub mod PieceLemmas
-pub mod JsonLemmas
 pub mod LawLemmas

@@ -195,7 +195,7 @@ some_replace read all n =
     some_by (λ b. b.position.line) (λ b. list_any (replaces all b) (filter (λ a. is n a.position.line) read)) (λ b e. any_above all b (filter (λ a. is n a.position.line) read) e) all
 
 -- one assignment more
-more : (all : List Given) (i : ℕ) (d : Given) → i < length all → map (given_in own) (take (i + 1) all) ≡ map (given_in own) (take i all) ++ given_in own (get_or all i d) ∷ []
+pub more : (all : List Given) (i : ℕ) (d : Given) → i < length all → map (given_in own) (take (i + 1) all) ≡ map (given_in own) (take i all) ++ given_in own (get_or all i d) ∷ []
 more all i d h = ap (map (given_in own)) (take_more all i d h) ∙ map-append (given_in own) (take i all) (get_or all i d ∷ [])
 
 pub last_step : (all : List Given) (i : ℕ) (d : Given) (old new : BTreeMap (Bor (List ℕ) × Bor (List ℕ)) ℕ) → i < length all → IsLastOf (map (given_in own) (take i all)) old

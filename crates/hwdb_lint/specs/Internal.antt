@@ -5,7 +5,9 @@ use Rattle.std.specs.Fmt.{decimal}
 use Rattle.std.specs.List.{list_all, list_any}
 use Rattle.std.specs.Option.{unwrap_or}
 use Rattle.std.specs.Ordering.{nat_cmp, ordering_then}
-use Rattle.std.specs.Cmp.Lexicographic.{slice_cmp}
+use Rattle.std.specs.declared.cmp.Ordering.{Ordering}
+use Rattle.std.specs.Cmp.{IsTotalOrder, on_total, then_total}
+use Rattle.std.specs.Cmp.Lexicographic.{nat_list_cmp_total, slice_cmp}
 use Rattle.std.specs.BTreeMap.{BTreeMap, get, get_by}
 use Rattle.std.specs.BTreeSet.{BTreeSet, contains, contains_by}
 use Rattle.hwdb_spec.specs.Assignment.{Assignment}
@@ -18,6 +20,7 @@ use Rattle.hwdb_spec.specs.declared.WarningKind.{WarningKind}
 use Rattle.hwdb_spec.specs.declared.WarningKind.TheVariants.{Misused, Replaced, Unmatched, Unpaired, Unread}
 use Rattle.hwdb_spec.specs.Lines.{Line, byte, clean_line, is, is_none, lines, numbered, pieces}
 use Rattle.hwdb_spec.specs.Reports.{text_of_line}
+use Rattle.hwdb_text.specs.declared.outcome.Given.{Given}
 use Rattle.hwdb_lint.specs.declared.known.Known.{Known}
 use Rattle.hwdb_lint.specs.declared.line_texts.LineStart.{LineStart}
 use Rattle.hwdb_lint.specs.declared.line_warnings.Read.{Read}
@@ -70,6 +73,14 @@ IsSetOf numbers set = (n : ℕ) → contains nat_cmp set n ≡ list_any (is n) n
 -- the origin that the assignments of a file are given
 abbrev pub own : Origin
 own = record { path = []; priority = 1 }
+
+-- the order of assignments by pattern, and then by key
+abbrev pub by_place : Given → Given → Ordering
+by_place a b = ordering_then (slice_cmp nat_cmp a.pattern.now b.pattern.now) (slice_cmp nat_cmp a.key.now b.key.now)
+
+pub by_place_total : IsTotalOrder by_place
+by_place_total =
+    then_total (on_total (λ (g : Given). g.pattern.now) nat_list_cmp_total) (on_total (λ (g : Given). g.key.now) nat_list_cmp_total)
 
 -- whether an assignment gives a pattern a key
 abbrev pub gives : Assignment → (pattern key : List ℕ) → Bool

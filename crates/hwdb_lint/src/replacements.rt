@@ -1,15 +1,20 @@
 //! Assignments that a later line of the same file replaces by another value.
 //!
-//! Two maps are made first: the last line with each pattern and key, and the last with each pattern, key and value. An
-//! assignment is replaced if the first of these is later than the second: then the last value is another one. So no two
-//! assignments are compared, and the time is that of a few looks in a map for each.
-ghost use Rattle.std.specs.Prelude.{◌≡◌, [], map, IfOk, OnOk};
+//! If assignments ascend by pattern and key, as in most large files, none is replaced: each is compared with the next one alone.
+//!
+//! Else two maps are made: the last line with each pattern and key, and the last with each pattern, key and value. An
+//! assignment is replaced if the first of these is later than the second: then the last value is another one. So each
+//! assignment takes a few looks in a map.
+ghost use Rattle.std.specs.Prelude.{◌≡◌, [], map, true, IfOk, OnOk};
 ghost use Rattle.std.specs.Borrow.{Bor};
+ghost use Rattle.std.specs.List.Sorted.{IsStrictlySortedBy};
+ghost use Rattle.std.specs.declared.cmp.Ordering.TheVariants.{Less};
 ghost use Rattle.hwdb_text.specs.Views.{given_in};
-ghost use Rattle.hwdb_lint.specs.Internal.{IsLastOf, IsReplacedBy, IsSameOf, RaisesLast, RaisesLine, RaisesSame, behind, last_at, own, same_at};
+ghost use Rattle.hwdb_lint.specs.Internal.{IsLastOf, IsReplacedBy, IsSameOf, RaisesLast, RaisesLine, RaisesSame, behind, by_place, last_at, own, same_at};
 
 use hwdb_text::Given;
 use std::alloc::{AllocError, Global};
+use std::cmp::Ordering;
 use std::collections::BTreeMap;
 
 /// A pattern and a key.
@@ -106,9 +111,8 @@ fn put_given<'b>(
     Ok(())
 }
 
-/// For the number of each line the number of the last line that replaces one of its assignments. It takes a few looks
-/// among the assignments for each of them.
-pub fn replaced_lines(alloc: Global, all: &[Given<'_>]) -> Result<BTreeMap<u64, u64>, AllocError>
+/// As `replaced_lines`, of assignments in any order. It takes a few looks among them for each of them.
+fn replaced_among(alloc: Global, all: &[Given<'_>]) -> Result<BTreeMap<u64, u64>, AllocError>
     ensures { IfOk result
         (IsReplacedBy (map (given_in own) all.now) (map (given_in own) all.now)) }
 {
@@ -119,4 +123,41 @@ pub fn replaced_lines(alloc: Global, all: &[Given<'_>]) -> Result<BTreeMap<u64, 
         put_given(&mut replaced, &last, &same, given)?;
     }
     Ok(replaced)
+}
+
+/// Whether an assignment comes before another one, by pattern and then by key.
+fn is_before(one: &Given<'_>, other: &Given<'_>) -> bool
+    ensures { result ≡ true → by_place one.now other.now ≡ Less }
+{
+    match one.pattern.cmp(other.pattern) {
+        Ordering::Less => true,
+        Ordering::Equal => one.key.cmp(other.key).is_lt(),
+        Ordering::Greater => false,
+    }
+}
+
+/// Whether each assignment comes before the next one, by pattern and then by key.
+fn ascend(all: &[Given<'_>]) -> bool
+    ensures { result ≡ true → IsStrictlySortedBy by_place all.now }
+{
+    let mut at = 1;
+    while at < all.len() {
+        if !is_before(&all[at - 1], &all[at]) {
+            return false;
+        }
+        at += 1;
+    }
+    true
+}
+
+/// For the number of each line the number of the last line that replaces one of its assignments. If assignments ascend by
+/// pattern and key, it takes a comparison for each, and else a few looks among them.
+pub fn replaced_lines(alloc: Global, all: &[Given<'_>]) -> Result<BTreeMap<u64, u64>, AllocError>
+    ensures { IfOk result
+        (IsReplacedBy (map (given_in own) all.now) (map (given_in own) all.now)) }
+{
+    if ascend(all) {
+        return Ok(BTreeMap::new(alloc));
+    }
+    replaced_among(alloc, all)
 }

@@ -4,7 +4,6 @@ pub mod OrderedLemmas
 pub mod NearestLemmas
 pub mod FileLemmas
 pub mod GatheredLemmas
-pub mod JsonLemmas
 pub mod ReportLemmas
 pub mod MatchingLemmas
 pub mod ComputedRows

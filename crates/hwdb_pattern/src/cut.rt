@@ -6,12 +6,12 @@ ghost use Rattle.hwdb_spec.specs.Forms.{is_star, text_size};
 use crate::tokens::{single_token, token_size};
 use std::alloc::{AllocError, Global};
 
-/// The pattern from each token on.
+/// The pattern from each token on. It asks for memory once: a pattern has at most a token for each byte.
 pub fn token_texts<'p>(alloc: Global, pattern: &'p [u8]) -> Result<Vec<&'p [u8]>, AllocError>
     ensures { IfOk result (λ texts. map (λ text. token_at text.now) texts.items
         ≡ tokens pattern.now) }
 {
-    let mut texts = Vec::new(alloc);
+    let mut texts = Vec::with_capacity(alloc, pattern.len())?;
     let mut at = 0;
     while at < pattern.len() {
         let rest = &pattern[at..];

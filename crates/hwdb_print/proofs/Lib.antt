@@ -1,3 +1,4 @@
+pub mod AnsweredLemmas
 pub mod ExplanationLemmas
 pub mod HitLineLemmas
 pub mod RefusalLemmas

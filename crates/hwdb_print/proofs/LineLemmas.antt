@@ -160,7 +160,7 @@ line_too_long (Some x) (Some y) line held limit p f h =
 -- ---- a line that is too long
 
 -- the first of some lines is longer
-abbrev IsFirstLong : ℕ → List (List ℕ) → Type 0
+abbrev pub IsFirstLong : ℕ → List (List ℕ) → Type 0
 IsFirstLong limit [] = ⊥
 IsFirstLong limit (l ∷ ls) = limit < length l
 
@@ -178,7 +178,7 @@ long_by true x n limit ls f h = absurd (let g : limit < 0 = h in omega (arith, g
 long_by false x n zero ls f h = onto_none x ls
 long_by false x n (suc m) ls f h = onto_long x m ls (f m (let g : suc m < 1 + n = h in omega (arith, g)))
 
-first_long : (xs : List ℕ) (limit : ℕ) → limit < position_or_len (is 10) xs → IsFirstLong limit (pieces (is 10) xs)
+pub first_long : (xs : List ℕ) (limit : ℕ) → limit < position_or_len (is 10) xs → IsFirstLong limit (pieces (is 10) xs)
 unfolding pieces
 first_long [] limit h = absurd (omega (arith, h))
 first_long (x ∷ xs) limit h = long_by (is 10 x) x (position_or_len (is 10) xs) limit (pieces (is 10) xs) (first_long xs) h

@@ -29,7 +29,7 @@ behind text [] = refl
 behind text (d ∷ more) = ap (λ (l : List ℕ). 10 ∷ (text d ++ l)) (behind text more)
 
 -- the first text, and those behind it
-next_text : (form : Form) (is_first : Bool) (t : Tree) (device : List ℕ) (more : List (List ℕ)) → texts_from form is_first (device ∷ more) t ≡ answer_text form is_first device t ++ texts_from form false more t
+pub next_text : (form : Form) (is_first : Bool) (t : Tree) (device : List ℕ) (more : List (List ℕ)) → texts_from form is_first (device ∷ more) t ≡ answer_text form is_first device t ++ texts_from form false more t
 unfolding with_empty_lines
 next_text (Query true) true t device more = refl
 next_text (Query true) false t device more = refl
@@ -40,7 +40,7 @@ next_text (Explain true) false t device more = refl
 next_text (Explain false) true t device more = ap (λ (l : List ℕ). explain_text device t ++ l) (behind (λ d. explain_text d t) more)
 next_text (Explain false) false t device more = refl
 
-no_text : (form : Form) (is_first : Bool) (t : Tree) → texts_from form is_first [] t ≡ []
+pub no_text : (form : Form) (is_first : Bool) (t : Tree) → texts_from form is_first [] t ≡ []
 unfolding with_empty_lines
 no_text (Query true) true t = refl
 no_text (Query true) false t = refl

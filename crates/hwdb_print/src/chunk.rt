@@ -1,5 +1,6 @@
 //! What a reader of lines holds.
 ghost use Rattle.std.specs.Prelude.{◌≤◌};
+ghost use Rattle.hwdb_io.specs.declared.transfer.TheConstants.{CHUNK};
 
 use hwdb_io::CHUNK;
 
@@ -13,5 +14,5 @@ pub struct LineReader {
     /// How many bytes were read.
     pub(crate) end: usize,
     ghost handed: { at ≤ end },
-    ghost within: { end ≤ 65536 },
+    ghost within: { end ≤ CHUNK },
 }

@@ -1,13 +1,14 @@
 //! The devices of a source, each answered as it comes.
-ghost use Rattle.std.specs.Prelude.{◌≡◌, ◌⊎◌, ◌<◌, List, length, IfErr, IfSome, OnOk, IsErrOf};
+ghost use Rattle.std.specs.Prelude.{◌≡◌, List, None, IfErr, IfSome, OnOk, IsErrOf};
 ghost use Rattle.std.specs.Io.KnownBytes.{Appends};
 ghost use Rattle.hwdb_spec.specs.Flushing.{HandsOn};
-ghost use Rattle.hwdb_spec.specs.Folders.{Source, max_lines};
+ghost use Rattle.hwdb_spec.specs.Folders.{Source};
 ghost use Rattle.hwdb_spec.specs.ManyDevices.{HasLongLine};
 ghost use Rattle.hwdb_spec.specs.Texts.{devices_of, max_file};
 ghost use Rattle.hwdb_spec.specs.Written.{IsCompiled};
-ghost use Rattle.hwdb_spec.specs.Outputs.{AppendsPrefix, FailedOnly, Wrote, WrotePrefix};
+ghost use Rattle.hwdb_spec.specs.Outputs.{FailedOnly, Wrote};
 ghost use Rattle.hwdb_spec.specs.Databases.{IsTextOf};
+ghost use Rattle.hwdb_spec.specs.AnsweredLines.{IsLineError, IsPrintedBefore, line_error};
 ghost use Rattle.hwdb_spec.specs.Streams.{IsAnswerRefusal, IsStreamRefusal, IfBadDatabase, texts_of, last_texts_of};
 
 use crate::chunk::LineReader;
@@ -28,16 +29,18 @@ fn answer_lines<I: Source, O: Sink>(
 ) -> Result<(), ToolError>
     ensures printed { OnOk result (IfSome (I.left input.old) (λ text.
         Appends (O.taken out.old) (O.taken out.new) (texts_of form (devices_of text) db.now))) }
+    ensures all { OnOk result
+        (IfSome (I.left input.old) (λ text. line_error (devices_of text) ≡ None)) }
     ensures refusals { IfErr result IsAnswerRefusal }
     ensures too_long { IsErrOf result ToolError.TooLong
         → IfSome (I.left input.old) (HasLongLine max_file) }
-    ensures too_many { IsErrOf result ToolError.TooManyLines
-        → IfSome (I.left input.old) (λ text. max_lines < length (devices_of text)) }
+    ensures line { IfErr result (λ e. IfSome (I.left input.old)
+        (λ text. IsLineError e (line_error (devices_of text)))) }
     ensures reads { FailedOnly ToolError.Read result (I.failures input.old) (I.failures input.new) }
     ensures writes { FailedOnly ToolError.Write result (O.failures out.old) (O.failures out.new) }
-    ensures cut_short { IfErr result (λ _. IfSome (I.left input.old) (λ text.
-        AppendsPrefix (O.taken out.old) (O.taken out.new)
-        (texts_of form (devices_of text) db.now))) }
+    ensures before { IfErr result (λ e. IfSome (I.left input.old) (λ text. IsPrintedBefore e
+        (λ lines written. written ≡ texts_of form lines db.now) (devices_of text)
+        (O.taken out.old) (O.taken out.new))) }
     ensures hands_on { HandsOn (O.is_flushed out.old) (O.is_flushed out.new)
         (O.failures out.old) (O.failures out.new) }
 {
@@ -58,7 +61,8 @@ fn answer_lines<I: Source, O: Sink>(
 /// what [`answers`](crate::answers) answers of these devices. Memory doesn't grow with their number.
 ///
 /// Bytes that are no database are an error before anything is read. Then these are: a failed read, a failed write, a line of
-/// more bytes than `MAX_BYTES`, more lines than can be counted, and memory. What was printed is then a prefix of the whole.
+/// more bytes than `MAX_BYTES`, more lines than can be counted, and memory. Before a line that is too long all lines were
+/// answered, each whole. After a failed read, and without memory, some were; after a failed write a prefix was printed.
 pub fn run_stream<I: Source, O: Sink>(
     alloc: Global,
     bytes: &[u8],
@@ -73,17 +77,18 @@ pub fn run_stream<I: Source, O: Sink>(
         (etc usr : List Source) → IsCompiled etc usr bytes.now
         → Appends (O.taken out.old) (O.taken out.new)
         (last_texts_of form (devices_of text) etc usr))) }
+    ensures all { OnOk result
+        (IfSome (I.left input.old) (λ text. line_error (devices_of text) ≡ None)) }
 
     ensures refusals { IfErr result (IsStreamRefusal bytes.now) }
     ensures too_long { IsErrOf result ToolError.TooLong
         → IfSome (I.left input.old) (HasLongLine max_file) }
-    ensures too_many { IsErrOf result ToolError.TooManyLines
-        → IfSome (I.left input.old) (λ text. max_lines < length (devices_of text)) }
+    ensures line { IfErr result (λ e. IfSome (I.left input.old)
+        (λ text. IsLineError e (line_error (devices_of text)))) }
     ensures reads { FailedOnly ToolError.Read result (I.failures input.old) (I.failures input.new) }
     ensures writes { FailedOnly ToolError.Write result (O.failures out.old) (O.failures out.new) }
-    ensures cut_short { IfErr result (λ _. (out.new ≡ out.old)
-        ⊎ IfSome (I.left input.old) (λ text.
-        WrotePrefix (IsTextOf (texts_of form (devices_of text)) bytes.now)
+    ensures before { IfErr result (λ e. IfSome (I.left input.old) (λ text. IsPrintedBefore e
+        (λ lines. IsTextOf (texts_of form lines) bytes.now) (devices_of text)
         (O.taken out.old) (O.taken out.new))) }
     ensures untouched { IfErr result (IfBadDatabase
         ((input.new ≡ input.old) × (out.new ≡ out.old))) }

@@ -16,4 +16,4 @@ pub use hwdb_spec::Unreplaced;
 pub use laws::{beside_is_whole, memory_tears, unsynced_files_tear};
 pub use memory::{File, Memory, State, Step};
 pub use others::{Others, Rival, Shared, replace_beside};
-pub use replacement::{DATABASE, part_name, part_number, replace};
+pub use replacement::{DATABASE, DATABASE_MODE, PART_MODE, part_name, part_number, replace};

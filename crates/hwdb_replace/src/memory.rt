@@ -8,13 +8,8 @@ ghost use Rattle.hwdb_spec.specs.Crashes.{begin, changed};
 ghost use Rattle.hwdb_replace.specs.Memory.{stored, lent, state_of, after, seen_of, left_of, is_whole_of, since_of, only_now_of, from_now_of, earlier_of, stands_of, IsChange, IsMove, IsSync, IsRemoval, IsClearing, IsCreation, IsPassed};
 
 use crate::calls::{CallFailed, Store};
-use crate::replacement::{part_name, part_number};
+use crate::replacement::{DATABASE_MODE, PART_MODE, part_name, part_number};
 use std::alloc::{AllocError, Global};
-
-/// The modes of a new file and of the database.
-const PART_MODE: u32 = 0o600;
-
-pub const DATABASE_MODE: u32 = 0o444;
 
 /// A file of the store.
 #[derive(Drop)]

@@ -7,8 +7,8 @@ ghost use Rattle.hwdb_replace.specs.Memory.{event, seen_of, left_of, is_whole_of
 ghost use Rattle.hwdb_replace.specs.Sharing.{WentOn, left_with, since_with, only_now_with, from_now_with, earlier_with};
 
 use crate::calls::{CallFailed, Store};
-use crate::memory::{DATABASE_MODE, File, Memory, Step, is_same, path_in};
-use crate::replacement::{DATABASE, part_name, replace};
+use crate::memory::{File, Memory, Step, is_same, path_in};
+use crate::replacement::{DATABASE, DATABASE_MODE, part_name, replace};
 use hwdb_spec::Unreplaced;
 use std::alloc::{AllocError, Global};
 

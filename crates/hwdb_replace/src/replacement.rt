@@ -19,6 +19,11 @@ pub const DATABASE: &str = "hwdb.bin";
 /// How the name of the new file begins, before its number.
 const PART: &str = ".#hwdb.bin";
 
+/// Who may read and write the new file while it is written, and once it is the database: systemd-hwdb's modes.
+pub const PART_MODE: u32 = 0o600;
+
+pub const DATABASE_MODE: u32 = 0o444;
+
 /// How many names are tried for the new file.
 const MOST_PARTS: u32 = 65536;
 

@@ -1,3 +1,2 @@
 pub mod ShownLemmas
 pub mod ColourLemmas
-pub mod JsonLemmas

@@ -15,7 +15,7 @@ use Rattle.hwdb_spec.specs.Tree.{Tree}
 abbrev pub database_path : (usr : Bool) (root : List ℕ) → List ℕ
 database_path usr root = path_in (database_folder usr root) database_name
 
--- the path of the database that is asked: /etc's, or where nothing stands there that of /usr/lib
+-- the path of the database that is asked: /etc's, or if nothing is there that of /usr/lib
 abbrev pub IsAskedPath : (root : List ℕ) → Contents → (path : List ℕ) → Type 0
 IsAskedPath root contents path =
     (path ≡ database_path false root) ⊎ ((path ≡ database_path true root) × (bytes_at contents (database_path false root) ≡ None))
@@ -25,7 +25,7 @@ abbrev pub named_database : (given : Option (List ℕ)) (root : List ℕ) → Co
 named_database None root contents = asked_database root contents
 named_database (Some path) root contents = bytes_at contents path
 
--- where it stands
+-- where it is
 abbrev pub IsNamedPath : (given : Option (List ℕ)) (root : List ℕ) → Contents → (path : List ℕ) → Type 0
 IsNamedPath None root contents path = IsAskedPath root contents path
 IsNamedPath (Some given) root contents path = path ≡ given

@@ -10,7 +10,7 @@ use Rattle.std.specs.Cmp.Lexicographic.{slice_cmp}
 abbrev pub text_cmp : List ℕ → List ℕ → Ordering
 text_cmp a b = slice_cmp nat_cmp a b
 
--- where an assignment stands: the priority of its file, the line of its property, its pattern and its key
+-- where an assignment is: the priority of its file, the line of its property, its pattern and its key
 pub record Position : Type 0 where
   pub priority : ℕ
   pub line : ℕ

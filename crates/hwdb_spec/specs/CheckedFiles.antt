@@ -54,11 +54,11 @@ StandFor contents (path ∷ more) paths =
     (own rest : List (List ℕ)) × (paths ≡ own ++ rest)
     × StandsFor (is_file contents path) contents path own × StandFor contents more rest
 
--- these are the files for which the given paths stand, each with what it has
+-- these are the files that the given paths mean, each with what it has
 abbrev pub AreNamedFiles : (given : List (List ℕ)) (input : Option (List ℕ)) → Contents → List Source → Type 0
 AreNamedFiles given input contents sources = (paths : List (List ℕ)) × StandFor contents given paths × AreGivenFiles paths input contents sources
 
--- the files that are checked: those for which the given paths stand, or where none is given those of both folders
+-- the files that are checked: those that the given paths mean, or if none is given those of both folders
 abbrev pub AreCheckedFiles : (given : List (List ℕ)) (root : List ℕ) (input : Option (List ℕ)) → Contents → List Source → Type 0
 AreCheckedFiles [] root input contents sources = AreChosenFiles root contents sources
 AreCheckedFiles (path ∷ more) root input contents sources = AreNamedFiles (path ∷ more) input contents sources

@@ -46,6 +46,14 @@ old_database_rule = record (new_rule (codes "OLD")) { required = true; action = 
 abbrev pub new_database_rule : Rule
 new_database_rule = record (new_rule (codes "NEW")) { required = true; action = Some Set }
 
+-- test files, one or more
+abbrev pub test_files_rule : Rule
+test_files_rule = record (new_rule (codes "FILE")) { required = true; action = Some Append }
+
+-- the database that is asked in place of that of both folders
+abbrev pub database_option_rule : Rule
+database_option_rule = record (new_rule (codes "database")) { value_names = 1; long = Some (codes "database"); action = Some Set }
+
 -- a database, or none
 abbrev pub database_rule : Rule
 database_rule = record (new_rule (codes "DATABASE")) { action = Some Set }
@@ -126,6 +134,10 @@ device_app = with_rule (with_rule (with_rule (with_rule (with_shared (new_app (c
 abbrev pub check_app : App
 check_app = with_rule (with_rule (with_rule (with_shared (new_app (codes "check"))) allow_rule) json_rule) files_rule
 
+-- `test`
+abbrev pub test_app : App
+test_app = with_rule (with_rule (with_rule (with_shared (new_app (codes "test"))) database_option_rule) json_rule) test_files_rule
+
 -- `diff`
 abbrev pub diff_app : App
 diff_app = with_rule (with_rule (with_shared (new_app (codes "diff"))) old_database_rule) new_database_rule
@@ -138,6 +150,10 @@ verify_app = with_rule (with_shared (new_app (codes "verify"))) database_rule
 abbrev pub dump_app : App
 dump_app = with_rule (with_shared (new_app (codes "dump"))) database_rule
 
+-- `status`
+abbrev pub status_app : App
+status_app = with_rule (with_shared (new_app (codes "status"))) json_rule
+
 -- the program's own options
 abbrev pub top_app : App
 top_app = on_top (λ (s : Shape). record s { has_version = true; subcommand_required = true }) (with_shared (new_app (codes "hwdb")))
@@ -146,9 +162,9 @@ top_app = on_top (λ (s : Shape). record s { has_version = true; subcommand_requ
 abbrev pub with_answers : App → App
 with_answers app = with_subcommand (with_subcommand (with_subcommand (with_subcommand (with_subcommand (with_subcommand app query_app.top) explain_app.top) ask_app.top) list_app.top) near_app.top) device_app.top
 
--- the four commands that look at files and databases
+-- the six commands that look at files and databases
 abbrev pub with_inspections : App → App
-with_inspections app = with_subcommand (with_subcommand (with_subcommand (with_subcommand app check_app.top) diff_app.top) verify_app.top) dump_app.top
+with_inspections app = with_subcommand (with_subcommand (with_subcommand (with_subcommand (with_subcommand (with_subcommand app check_app.top) test_app.top) diff_app.top) verify_app.top) dump_app.top) status_app.top
 
 -- the command line: the program and its commands
 abbrev pub hwdb_app : App

@@ -25,7 +25,7 @@ pub record Traces : Type 0 where
 abbrev pub begin : Traces
 begin = record { now = None; loose = false; before = []; torn = false }
 
--- something else stands under the path
+-- something else is under the path
 abbrev pub changed : Option Stored → Bool → Traces → Traces
 changed now loose s = record { now = now; loose = loose; before = s.before ++ s.now ∷ []; torn = s.torn || loose }
 
@@ -43,11 +43,11 @@ abbrev pub after_events : (p : List ℕ) → Traces → List Event → Traces
 after_events p s [] = s
 after_events p s (x ∷ xs) = after_events p (after_event p s x) xs
 
--- what a crash may leave: what stands there, what stood there, and anything if some of that wasn't on the disk
+-- what a crash may leave: what is there, what was there, and anything if some of that wasn't on the disk
 abbrev pub MayLeave : Traces → Option Stored → Type 0
 MayLeave s v = (v ≡ s.now) ⊎ (Contains s.before v ⊎ (s.torn ≡ true))
 
--- what stands under each path after calls on no files
+-- what is under each path after calls on no files
 abbrev pub contents_after : List Event → Contents
 contents_after xs p = (after_events p begin xs).now
 

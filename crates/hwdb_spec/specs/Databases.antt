@@ -15,7 +15,7 @@ pub record IsTextOf (of : Tree → List ℕ) (bytes text : List ℕ) : Type 0 wh
   pub database : IsDatabase bytes tree
   pub is : text ≡ of tree
 
--- the fault stands, and the bytes are a database of no tree
+-- the fault applies, and the bytes are a database of no tree
 pub record IsNoDatabase (bytes : List ℕ) (fault : DbFault) : Type 0 where
   pub stands : Applies bytes fault
   pub no_tree : (t : Tree) → IsDatabase bytes t → ⊥

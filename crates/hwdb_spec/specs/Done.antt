@@ -59,7 +59,7 @@ pub record IsAsked (file device : List ℕ) (input : Option (List ℕ)) (content
   pub are : AreAskTexts file bytes device texts
 
 -- an update that read these files leaves this under a path: the database of all text files of both folders, whole, in its place;
--- or what may stand under the path of a new file
+-- or what may be under the path of a new file
 pub record IsLeftByUpdate (root : List ℕ) (usr : Bool) (files old : Contents) (p : List ℕ) (v : Option Stored) : Type 0 where
   pub of_etc : List Source
   pub of_usr : List Source

@@ -10,7 +10,7 @@ after_failure before = if before == 2 ^ 64 - 1 then before else before + 1
 abbrev pub CountsFailures : {T E : Type 0} → ℕ → ℕ → Result T E → Type 0
 CountsFailures before now result = MatchResult result (λ _. now ≡ before) (λ _. now ≡ after_failure before)
 
--- a call has failed meanwhile: the count rose, or stood at its greatest value
+-- a call has failed meanwhile: the count rose, or was at its greatest value
 abbrev pub HasFailed : ℕ → ℕ → Type 0
 HasFailed before now = (before < now) ⊎ (before ≡ 2 ^ 64 - 1)
 

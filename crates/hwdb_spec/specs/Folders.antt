@@ -1,5 +1,5 @@
 -- Which files of two folders count, after hwdb(7): a file of /etc masks that of the same name in /usr/lib, and all are
--- ordered by name, whatever folder they stand in. Then what they assign together, and when they are accepted. Which
+-- ordered by name, whatever folder they are in. Then what they assign together, and when they are accepted. Which
 -- names count is our choice but for the ending, and so are the limits.
 use Rattle.std.specs.Prelude.{Bool, List, codes, false, nat_eq, not, ℕ, if◌then◌else◌, [], ◌∷◌, filter, ◌++◌, count_by, ◌+◌, map, flat_map, length, ◌≤◌, ◌<◌, All, Any}
 use Rattle.std.specs.List.{ends_with, list_any}

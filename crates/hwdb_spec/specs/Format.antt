@@ -56,7 +56,7 @@ header_of b = record {
   strings_len = number_at 8 72 b;
 }
 
--- the sizes of the records, and where the parts stand, as the header says
+-- the sizes of the records, and where the parts are, as the header says
 unfoldable pub layout_of : List ℕ → Layout
 layout_of b = record {
   node_size = (header_of b).node_size;
@@ -67,7 +67,7 @@ layout_of b = record {
   strings = (header_of b).header_size + (header_of b).nodes_len;
 }
 
--- where the record at `off` says that its prefix stands
+-- where the record at `off` says that its prefix is
 abbrev pub prefix_off : List ℕ → ℕ → ℕ
 prefix_off b off = number_at 8 off b
 
@@ -79,7 +79,7 @@ children_count b off = slice_index b (off + 8)
 abbrev pub values_count : List ℕ → ℕ → ℕ
 values_count b off = number_at 8 (off + 16) b
 
--- where the child entry i of a node stands
+-- where the child entry i of a node is
 abbrev pub child_entry : Layout → ℕ → ℕ → ℕ
 child_entry l off i = off + l.node_size + l.child_size * i
 
@@ -95,11 +95,11 @@ record_end l b off = value_entries l b off + l.value_size * values_count b off
 abbrev pub child_byte : List ℕ → ℕ → ℕ
 child_byte b entry = slice_index b entry
 
--- where the record of a child entry's node stands
+-- where the record of a child entry's node is
 abbrev pub child_off : List ℕ → ℕ → ℕ
 child_off b entry = number_at 8 (entry + 8) b
 
--- the string that stands at a place: up to the next byte 0
+-- the string that is at a place: up to the next byte 0
 unfoldable pub text_at : List ℕ → ℕ → List ℕ
 text_at b i = take_while (λ x. not (x == 0)) (drop i b)
 
@@ -108,15 +108,15 @@ pub record IsPlace (l : Layout) (b : List ℕ) (i : ℕ) : Type 0 where
   pub above : l.strings ≤ i
   pub below : i < length b
 
--- where a value entry says that its key stands
+-- where a value entry says that its key is
 abbrev pub key_off : List ℕ → ℕ → ℕ
 key_off b entry = number_at 8 entry b
 
--- where it says that its value stands
+-- where it says that its value is
 abbrev pub value_off : List ℕ → ℕ → ℕ
 value_off b entry = number_at 8 (entry + 8) b
 
--- where it says that its path stands
+-- where it says that its path is
 abbrev pub filename_off : List ℕ → ℕ → ℕ
 filename_off b entry = number_at 8 (entry + 16) b
 
@@ -164,7 +164,7 @@ unfoldable mutual
       × (count children ≡ children_count b off)
       × ChildrenText l b levels from (child_entry l off 0) 0 off children
 
-  -- The entries from `entry` on name the children, under bytes above `byte`, and their texts stand one
+  -- The entries from `entry` on name the children, under bytes above `byte`, and their texts are one
   -- after another from `from` to `end`.
   pub ChildrenText : Layout → List ℕ → (levels from entry byte end : ℕ) → Children → Type 0
   ChildrenText l b levels from entry byte end NoMore = from ≡ end
@@ -243,7 +243,7 @@ ValuesFault l b first n (KeyOrder at) =
     (i : ℕ) × (i + 1 < n) × (at ≡ first + l.value_size * (i + 1)) × KeysFall l b (first + l.value_size * i)
 ValuesFault l b first n fault = (i : ℕ) × (i < n) × EntryFault l b (first + l.value_size * i) fault
 
--- A visit to a node: how many levels are left for it, where its text may begin, where its record stands, and where this
+-- A visit to a node: how many levels are left for it, where its text may begin, where its record is, and where this
 -- has to end.
 pub record Visit : Type 0 where
   pub levels : ℕ
@@ -310,7 +310,7 @@ HeaderFault b Strings = IsLong b × IsSigned b × HasSizes b × HasLengths b × 
 HeaderFault b _ = ⊥
 
 -- The fault B1 to B11 applies to the bytes, at its offset. In a database none does (`law_faultless`). Of B1 to B5 one at
--- most does (`law_header_faults`), and what is at fault stands at the offset (`law_offsets`).
+-- most does (`law_header_faults`), and what is at fault is at the offset (`law_offsets`).
 unfoldable pub Applies : List ℕ → DbFault → Type 0
 Applies b fault =
     HeaderFault b fault

@@ -5,7 +5,7 @@ use Rattle.std.specs.Option.{option_map_or, option_or}
 use Rattle.std.specs.declared.num.ParseIntError.{ParseIntError}
 use Rattle.std.specs.Str.Parse.{ParsesUnsigned, IsNumeral, digits_value, without_leading_plus}
 use Rattle.clap.specs.Walk.{Row, Text, all_of, first_of, one_of}
-use Rattle.hwdb_spec.specs.declared.job.Task.TheVariants.{Ask, Check, Device, Diff, Dump, Explain, List as ListHits, Near, Query, Update, Verify}
+use Rattle.hwdb_spec.specs.declared.job.Task.TheVariants.{Ask, Check, Device, Diff, Dump, Explain, List as ListHits, Near, Query, Status, Test, Update, Verify}
 use Rattle.hwdb_spec.specs.declared.job.Task.{Task}
 use Rattle.hwdb_spec.specs.declared.job.Job.{Job}
 
@@ -45,9 +45,12 @@ IsTask name inner (Device path strings json pattern) = (name ≡ codes "device")
     × (json ≡ has_flag (codes "json") inner) × (pattern ≡ has_flag (codes "pattern") inner)
 IsTask name inner (Check files allowed json) = (name ≡ codes "check") × AreAnyValues (codes "FILE") inner (map string_bytes files.items)
     × AreAnyValues (codes "allow") inner (map string_bytes allowed.items) × (json ≡ has_flag (codes "json") inner)
+IsTask name inner (Test files database json) = (name ≡ codes "test") × (json ≡ has_flag (codes "json") inner) × (option_map string_bytes database ≡ first_of (codes "database") inner)
+    × AreValues (codes "FILE") inner (map string_bytes files.items)
 IsTask name inner (Diff old new) = (name ≡ codes "diff") × IsValue (codes "OLD") inner (string_bytes old) × IsValue (codes "NEW") inner (string_bytes new)
 IsTask name inner (Verify database) = (name ≡ codes "verify") × (option_map string_bytes database ≡ first_of (codes "DATABASE") inner)
 IsTask name inner (Dump database) = (name ≡ codes "dump") × (option_map string_bytes database ≡ first_of (codes "DATABASE") inner)
+IsTask name inner (Status json) = (name ≡ codes "status") × (json ≡ has_flag (codes "json") inner)
 
 -- the job of both sides' options and of the command
 pub record IsJob (top : List Row) (name : Text) (inner : List Row) (job : Job) : Type 0 where
@@ -71,7 +74,7 @@ HasValue id rows = is_some (first_of id rows) ≡ true
 abbrev pub IsNumber : Text → Type 0
 IsNumber text = IsNumeral 10 (without_leading_plus text) × (digits_value 10 (without_leading_plus text) < 2 ^ 64)
 
--- it is one of the eleven commands, with each argument that this command needs
+-- it is one of the thirteen commands, with each argument that this command needs
 abbrev pub IsCommand : Text → List Row → Type 0
 IsCommand name inner = (name ≡ codes "update")
     ⊎ (((name ≡ codes "query") × HasValue (codes "MODALIAS") inner)
@@ -83,4 +86,6 @@ IsCommand name inner = (name ≡ codes "update")
     ⊎ ((name ≡ codes "verify")
     ⊎ ((name ≡ codes "dump")
     ⊎ ((name ≡ codes "device")
-    ⊎ ((name ≡ codes "near") × HasValue (codes "MODALIAS") inner × IfSome (one_of (codes "limit") inner) IsNumber))))))))))
+    ⊎ (((name ≡ codes "near") × HasValue (codes "MODALIAS") inner × IfSome (one_of (codes "limit") inner) IsNumber)
+    ⊎ (((name ≡ codes "test") × HasValue (codes "FILE") inner)
+    ⊎ (name ≡ codes "status"))))))))))))

@@ -162,7 +162,7 @@ text_in (string text) = text
 text_in (array bytes) = bytes_in bytes
 text_in _ = []
 
--- the properties that stand there as members
+-- the properties that are there as members
 abbrev pub members_in : Members → List (List ℕ × List ℕ)
 members_in no_members = []
 members_in (member key value more) = (key, text_in value) ∷ members_in more
@@ -172,7 +172,7 @@ abbrev pub pair_in : Json → List ℕ × List ℕ
 pair_in (array (item key (item value no_items))) = (text_in key, text_in value)
 pair_in _ = ([], [])
 
--- the properties that stand there as pairs
+-- the properties that are there as pairs
 abbrev pub pairs_in : Items → List (List ℕ × List ℕ)
 pairs_in no_items = []
 pairs_in (item pair more) = pair_in pair ∷ pairs_in more

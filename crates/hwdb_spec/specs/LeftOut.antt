@@ -11,7 +11,7 @@ use Rattle.hwdb_spec.specs.System.{AreNamesIn, etc_files, usr_files}
 abbrev pub is_named : (root path name : List ℕ) → Bool
 is_named root path name = bytes_eq path (path_in (etc_files root) name) || bytes_eq path (path_in (usr_files root) name)
 
--- the files as if none of these names stood in either folder: what it would mask is left out too
+-- the files as if none of these names was in either folder: what it would mask is left out too
 abbrev pub less : (names : List (List ℕ)) (root : List ℕ) → Contents → Contents
 less names root contents path = if list_any (is_named root path) names then None else contents path
 

@@ -45,6 +45,7 @@ pub mod LeftOut
 pub mod Asked
 pub mod Library
 pub mod Hiding
+pub mod Status
 pub mod Done
 pub mod Near
 pub mod NearAsked
@@ -63,9 +64,11 @@ pub mod Errors
 pub mod CompileErrors
 pub mod DatabaseErrors
 pub mod VerifyErrors
+pub mod StatusErrors
 pub mod DiffErrors
 pub mod DumpErrors
 pub mod CheckErrors
+pub mod AnsweredLines
 pub mod Refusals
 pub mod Selected
 pub mod Reading
@@ -81,6 +84,8 @@ pub mod Queries
 pub mod NamedDatabases
 pub mod ComparedDatabases
 pub mod NearErrors
+pub mod Tested
+pub mod TestErrors
 pub mod DeviceErrors
 pub mod Readable
 pub mod HidingTold

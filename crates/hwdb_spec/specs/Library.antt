@@ -22,11 +22,11 @@ fault_number (StringOffset at) = 9
 fault_number (KeyOrder at) = 10
 fault_number (Priority at) = 11
 
--- the offset at which it stands, or 0 where it has none
+-- its offset, or 0 if it has none
 abbrev pub fault_place : DbFault → ℕ
 fault_place fault = unwrap_or (db_fault_offset fault) 0
 
--- a fault stands in the bytes that has this number and this place
+-- a fault with this number and this place applies to the bytes
 pub record IsFault (bytes : List ℕ) (number place : ℕ) : Type 0 where
   pub fault : DbFault
   pub stands : Applies bytes fault

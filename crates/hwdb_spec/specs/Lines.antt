@@ -37,7 +37,7 @@ abbrev pub begins_with : ℕ → List ℕ → Bool
 begins_with own [] = false
 begins_with own (first ∷ rest) = first == own
 
--- whether a byte stands in a text
+-- whether a byte is in a text
 abbrev pub has : ℕ → List ℕ → Bool
 has own text = list_any (is own) text
 
@@ -67,7 +67,7 @@ unfoldable pub trimmed : List ℕ → List ℕ
 trimmed [] = []
 trimmed (b ∷ rest) = if (if is_none (trimmed rest) then is_blank b else false) then [] else b ∷ trimmed rest
 
--- a line without what stands from the first `#` on, and without the blanks before that
+-- a line without what comes from the first `#` on, and without the blanks before that
 abbrev pub clean_line : Line → Line
 clean_line l = record { number = l.number; text = trimmed (before_first (is (byte "#")) l.text) }
 
@@ -104,7 +104,7 @@ is_indent b = if b == byte " " then true else b == byte "\t"
 abbrev pub property : Line → List ℕ
 property l = drop (prefix_len is_indent l.text) l.text
 
--- whether a `=` stands in a property
+-- whether a `=` is in a property
 abbrev pub has_equals : Line → Bool
 has_equals l = has (byte "=") (property l)
 

@@ -1,4 +1,4 @@
--- What `explain` prints of several devices, and which text of devices is refused. Our choice.
+-- What `explain` prints of several devices, and when a text of devices is too long. Our choice.
 use Rattle.std.specs.Prelude.{List, ℕ, ◌<◌, Any, flat_map, length, map}
 use Rattle.hwdb_spec.specs.Explanations.{explain_text, explained_text}
 use Rattle.hwdb_spec.specs.Folders.{Source}

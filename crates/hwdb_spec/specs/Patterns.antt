@@ -52,7 +52,7 @@ pub record Items : Type 0 where
   pub size : ℕ
   pub spans : List (ℕ × ℕ)
 
--- A range where one stands: a byte, `-`, and a byte that isn't `]`. Else one byte.
+-- A range where one is: a byte, `-`, and a byte that isn't `]`. Else one byte.
 abbrev pub plain_item : List ℕ → Items
 plain_item [] = record { size = 1; spans = [] }
 plain_item (low ∷ []) = record { size = 1; spans = (low, low) ∷ [] }
@@ -188,7 +188,7 @@ has_reversed spans = list_any (λ span. nat_lt span.1 span.0) spans
 abbrev pub one_more_unless : Items → ℕ → ℕ
 one_more_unless found more = if has_reversed found.spans then 0 else 1 + more
 
--- Behind how many bytes of a bracket's items the first reversed range stands, or else the `]` that closes, read as
+-- After how many bytes of a bracket's items the first reversed range is, or else the `]` that closes, read as
 -- `items_from` does.
 unfoldable pub reversed_from : (is_first : Bool) → (skip : ℕ) → List ℕ → ℕ
 reversed_from is_first skip [] = 0
@@ -213,7 +213,7 @@ is_reversed one = false
 is_reversed (bracket found) = has_reversed found.spans
 is_reversed (literal own) = false
 
--- Behind how many bytes of a text its first reversed range stands; its length where there is none. The first `skip`
+-- After how many bytes of a text its first reversed range is; its length where there is none. The first `skip`
 -- bytes belong to the token that was cut before.
 unfoldable pub range_from : (skip : ℕ) → List ℕ → ℕ
 range_from skip [] = 0

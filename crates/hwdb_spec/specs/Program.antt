@@ -11,10 +11,11 @@ use Rattle.hwdb_spec.specs.Runs.{AreKept, HasTaken, OnOut, Printed, World}
 use Rattle.hwdb_spec.specs.Store.{Contents, InPlace, Outcomes}
 use Rattle.hwdb_spec.specs.System.{database_folder}
 use Rattle.hwdb_spec.specs.declared.form.Form.TheVariants as form
-use Rattle.hwdb_spec.specs.declared.job.Task.TheVariants.{Ask, Check, Device, Diff, Dump, Explain, List as ListHits, Near, Query, Update, Verify}
+use Rattle.hwdb_spec.specs.declared.job.Task.TheVariants.{Ask, Check, Device, Diff, Dump, Explain, List as ListHits, Near, Query, Status, Test, Update, Verify}
 use Rattle.hwdb_spec.specs.declared.job.Task.{Task}
 use Rattle.hwdb_spec.specs.declared.job.Job.{Job}
 use Rattle.hwdb_spec.specs.CheckedFiles.{AreCheckedFiles, IsChecked}
+use Rattle.hwdb_spec.specs.Status.{IsStatus}
 use Rattle.hwdb_spec.specs.Asked.{IsCompared, IsDumped, IsPrinted, IsAnswered, IsListFrom}
 use Rattle.hwdb_spec.specs.Databases.{IsSummary}
 use Rattle.hwdb_spec.specs.NearAsked.{IsNear, near_form, near_limit}
@@ -25,6 +26,7 @@ use Rattle.hwdb_spec.specs.DeviceErrors.{asked_names}
 use Rattle.hwdb_spec.specs.Queries.{AreAnswered, IfNamed, IsQuiet}
 use Rattle.hwdb_spec.specs.Done.{IsAsked, IsLeftByUpdateLess}
 use Rattle.hwdb_spec.specs.HidingTold.{IsUpdatedTelling}
+use Rattle.hwdb_spec.specs.Tested.{IsTested}
 
 -- the root in front of each path; nothing if none was given
 abbrev pub root_of : Job → List ℕ
@@ -38,6 +40,7 @@ looks_below_root (Check files allowed json) = length files.items == 0
 looks_below_root (Near files device limit json) = length files.items == 0
 looks_below_root (Verify database) = not (is_some database)
 looks_below_root (Dump database) = not (is_some database)
+looks_below_root (Test files database json) = not (is_some database)
 looks_below_root _ = true
 
 -- What a task prints, and its status. An update says what it does while it goes on, and `device` asks sysfs, too.
@@ -56,12 +59,15 @@ IsAnswerOf (Check paths allowed json) root strict input files status texts =
     OnOut (λ text. IsChecked (AreCheckedFiles (map string_bytes paths.items) root input files) json strict (map string_bytes allowed.items) text status) texts
 IsAnswerOf (Near paths device limit json) root strict input files status texts =
     (status ≡ 0) × OnOut (IsNear (map string_bytes paths.items) root (near_form json (string_bytes device) (near_limit limit)) input files) texts
+IsAnswerOf (Test paths database json) root strict input files status texts =
+    OnOut (λ text. IsTested json (map string_bytes paths.items) (option_map string_bytes database) root input files text status) texts
 IsAnswerOf (Diff old_path new_path) root strict input files status texts =
     OnOut (λ text. IsCompared (string_bytes old_path) (string_bytes new_path) files text status) texts
 IsAnswerOf (Verify database) root strict input files status texts =
     (status ≡ 0) × OnOut (IsPrinted (option_map string_bytes database) root IsSummary files) texts
 IsAnswerOf (Dump database) root strict input files status texts =
     (status ≡ 0) × OnOut (IsDumped (option_map string_bytes database) root files) texts
+IsAnswerOf (Status json) root strict input files status texts = OnOut (λ text. IsStatus root json files text status) texts
 
 -- what `device` prints in this form, and its status
 abbrev pub IsDeviceAnswer : DeviceForm → (root : List ℕ) (given : Option (List ℕ)) → Sight → Contents → (status : ℕ) → Texts → Type 0
@@ -112,6 +118,7 @@ reads_input (Explain device json) = is_dash (string_bytes device)
 reads_input (Ask file device) = is_dash (string_bytes file)
 reads_input (Check files allowed json) = any_dash (map string_bytes files.items)
 reads_input (Near files device limit json) = any_dash (map string_bytes files.items)
+reads_input (Test files database json) = any_dash (map string_bytes files.items)
 reads_input _ = false
 
 -- the task is an update

@@ -1,17 +1,16 @@
 -- `query` and `explain` of the devices of their words, or with a lone `-` of those that standard input names, one a line: what
 -- they print, and their errors. Our choice.
-use Rattle.std.specs.Prelude.{◌<◌, ◌≡◌, ◌≢◌, ◌≤◌, ◌⊎◌, Bool, IfSome, List, Option, Some, codes, false, length, true, ℕ}
+use Rattle.std.specs.Prelude.{◌<◌, ◌≡◌, ◌≢◌, ◌≤◌, ◌⊎◌, Bool, IfSome, List, None, Option, Some, codes, false, length, true, ℕ}
 use Rattle.hwdb_spec.specs.Asked.{IsAnswered, IsAskedPath}
 use Rattle.hwdb_spec.specs.Databases.{IsTextOf}
 use Rattle.hwdb_spec.specs.Failures.{HasFailed, OneFailed}
-use Rattle.hwdb_spec.specs.Folders.{max_lines}
 use Rattle.hwdb_spec.specs.Given.{is_input}
 use Rattle.hwdb_spec.specs.ManyDevices.{HasLongLine}
-use Rattle.hwdb_spec.specs.Outputs.{WrotePrefix}
 use Rattle.hwdb_spec.specs.Runs.{OnOut, Printed, Told}
 use Rattle.hwdb_spec.specs.Store.{Contents}
 use Rattle.hwdb_spec.specs.System.{asked_database, bytes_at}
 use Rattle.hwdb_spec.specs.Texts.{devices_of, max_file}
+use Rattle.hwdb_spec.specs.AnsweredLines.{IsLineError, IsPrintedBefore, line_error}
 use Rattle.hwdb_spec.specs.Streams.{IfBadDatabase, IsStreamRefusal, texts_of}
 use Rattle.hwdb_spec.specs.declared.form.Form.{Form}
 use Rattle.hwdb_spec.specs.Refusals.{IsAt, IsOfDatabase}
@@ -19,12 +18,17 @@ use Rattle.hwdb_spec.specs.declared.refusals.Refusal.{Refusal}
 use Rattle.hwdb_spec.specs.declared.refusals.Refusal.TheVariants.{At, Plain}
 use Rattle.hwdb_spec.specs.Undone.{IsUnanswered, IsUnfound, IsUnprinted}
 use Rattle.hwdb_spec.specs.declared.errors.ToolError.{ToolError}
-use Rattle.hwdb_spec.specs.declared.errors.ToolError.TheVariants.{Read, TooLong, TooManyLines, Write}
+use Rattle.hwdb_spec.specs.declared.errors.ToolError.TheVariants.{Read, TooLong, Write}
+
+-- every line of a text is answered, with this text
+abbrev pub AreNamedAnswered : (root : List ℕ) (form : Form) (named : List ℕ) → Contents → (text : List ℕ) → Type 0
+AreNamedAnswered root form named contents text =
+    (line_error (devices_of named) ≡ None) × IsAnswered root (IsTextOf (texts_of form (devices_of named))) contents text
 
 -- the text is what the database gives these devices, or, if the input tells its bytes, those that it names
 abbrev pub AreAnsweredFrom : (from_input : Bool) (root : List ℕ) (form : Form) (devices : List (List ℕ)) (input : Option (List ℕ)) → Contents → (text : List ℕ) → Type 0
 AreAnsweredFrom false root form devices input contents text = IsAnswered root (IsTextOf (texts_of form devices)) contents text
-AreAnsweredFrom true root form devices input contents text = IfSome input (λ named. IsAnswered root (IsTextOf (texts_of form (devices_of named))) contents text)
+AreAnsweredFrom true root form devices input contents text = IfSome input (λ named. AreNamedAnswered root form named contents text)
 
 -- the same, by whether the devices are standard input
 abbrev pub AreAnswered : (root : List ℕ) (form : Form) (devices : List (List ℕ)) (input : Option (List ℕ)) → Contents → (text : List ℕ) → Type 0
@@ -74,7 +78,8 @@ IsWholeInputUnread input before now (At Read at cause) = (at.items ≡ codes "st
 IsWholeInputUnread input before now (At TooLong at cause) = (at.items ≡ codes "standard input") × IfSome input (λ told. max_file < length told)
 IsWholeInputUnread input before now refusal = ⊥
 
--- answering the devices of the input failed, and standard output has what it had, or a prefix
+-- Answering the devices of the input ends with an error. An error of a line is that of the first line that isn't answered, and standard
+-- output took the texts of those before it.
 pub record IsUnstreamed (root : List ℕ) (form : Form) (input : Option (List ℕ)) (contents : Contents) (refusal : Refusal) (before now : Told) : Type 0 where
   pub path : List ℕ
   pub bytes : List ℕ
@@ -85,10 +90,9 @@ pub record IsUnstreamed (root : List ℕ) (form : Form) (input : Option (List �
   pub error : ToolError
   pub is : IsOfInput error path refusal
   pub refused : IsStreamRefusal bytes error
-  pub long : error ≡ TooLong → IfSome input (HasLongLine max_file)
-  pub many : error ≡ TooManyLines → IfSome input (λ text. max_lines < length (devices_of text))
+  pub line : IfSome input (λ text. IsLineError error (line_error (devices_of text)))
   pub untouched : IfBadDatabase (now.bytes ≡ before.bytes) error
-  pub cut : (now.bytes ≡ before.bytes) ⊎ IfSome input (λ text. WrotePrefix (IsTextOf (texts_of form (devices_of text)) bytes) before.bytes now.bytes)
+  pub printed : IfSome input (λ text. IsPrintedBefore error (λ lines. IsTextOf (texts_of form lines) bytes) (devices_of text) before.bytes now.bytes)
   pub failed : error ≡ Write → OneFailed before.failures now.failures
   pub unfailed : error ≢ Write → now.failures ≡ before.failures
 

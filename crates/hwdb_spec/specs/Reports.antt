@@ -1,4 +1,4 @@
--- What `check` prints of the faults of text files: for each where it stands, its line, the place in that line, and what to do
+-- What `check` prints of the faults of text files: for each where it is, its line, the place in that line, and what to do
 -- about it. Our choice.
 use Rattle.std.specs.Prelude.{ℕ, List, [], ◌∷◌, ◌++◌, ◌==◌, if◌then◌else◌, codes, flat_map, length, map, nat_lt, take}
 use Rattle.std.specs.List.{position_or_len, prefix_len}
@@ -14,7 +14,7 @@ use Rattle.hwdb_spec.specs.declared.FaultKind.TheVariants.{EmptyKey, LongMatch, 
 abbrev pub max_shown : ℕ
 max_shown = 160
 
--- a byte, as it is shown: as it stands where ASCII prints it (bytes 32 to 126), else as `\x` and its two hexadecimal digits
+-- a byte, as it is shown: as it is if ASCII prints it (bytes 32 to 126), else as `\x` and its two hexadecimal digits
 abbrev pub shown_byte : ℕ → List ℕ
 shown_byte b = if in_span b (32, 126) then b ∷ [] else codes "\\x" ++ encode_lower (b ∷ [])
 
@@ -39,7 +39,7 @@ spaces text = map (λ b. byte " ") text
 abbrev pub mark_line : List ℕ → ℕ → List ℕ
 mark_line text at = if nat_lt at max_shown then codes "    " ++ (spaces (shown (take at text)) ++ codes "^\n") else []
 
--- After how many bytes of its line a fault stands: where the property begins, at the line's first byte, at the first byte
+-- After how many bytes of its line a fault is: where the property begins, at the line's first byte, at the first byte
 -- 0, at the first byte that is too much.
 abbrev pub fault_place : FaultKind → List ℕ → ℕ
 fault_place StrayProperty text = prefix_len is_indent text

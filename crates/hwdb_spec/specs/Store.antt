@@ -8,7 +8,7 @@ pub record Stored : Type 0 where
   pub bytes : List ℕ
   pub mode : ℕ
 
--- what stands under each path
+-- what is under each path
 abbrev pub Contents : Type 0
 Contents = List ℕ → Option Stored
 

@@ -18,7 +18,7 @@ unfoldable mutual
   nodes_of (Child byte tree more) = nodes tree + nodes_of more
 
 unfoldable mutual
-  -- how many nodes stand one below the other at most, the root counted
+  -- how many nodes are one below the other at most, the root counted
   pub depth : Tree → ℕ
   depth (Node prefix values children) = 1 + depth_of children
 

@@ -6,11 +6,11 @@ use Rattle.hwdb_spec.specs.Lines.{has}
 use Rattle.hwdb_spec.specs.Folders.{Source, counts}
 use Rattle.hwdb_spec.specs.Store.{Stored, Contents, path_in, database_name}
 
--- the bytes that a read of a path gives, if something stands there
+-- the bytes that a read of a path gives, if something is there
 abbrev pub bytes_at : Contents → (path : List ℕ) → Option (List ℕ)
 bytes_at contents path = option_map (λ (f : Stored). f.bytes) (contents path)
 
--- a text file with this name stands in the folder: the name counts, has no slash (byte 47), and something is there
+-- a text file with this name is in the folder: the name counts, has no slash (byte 47), and something is there
 pub record IsNameIn (folder : List ℕ) (contents : Contents) (name : List ℕ) : Type 0 where
   pub counts : counts name ≡ true
   pub plain : has 47 name ≡ false
@@ -38,7 +38,7 @@ usr_files root = root ++ codes "/usr/lib/udev/hwdb.d"
 abbrev pub database_folder : (usr : Bool) (root : List ℕ) → List ℕ
 database_folder usr root = root ++ (if usr then codes "/usr/lib/udev" else codes "/etc/udev")
 
--- the database below a root that is asked: /etc's, or, if nothing stands there, that of /usr/lib (libudev's order)
+-- the database below a root that is asked: /etc's, or, if nothing is there, that of /usr/lib (libudev's order)
 abbrev pub asked_database : (root : List ℕ) → Contents → Option (List ℕ)
 asked_database root contents =
     option_or (bytes_at contents (path_in (database_folder false root) database_name)) (bytes_at contents (path_in (database_folder true root) database_name))

@@ -5,7 +5,7 @@ use Rattle.clap.specs.Faults.{fault_of}
 use Rattle.hwdb_spec.specs.CommandLine.{hwdb_app}
 use Rattle.hwdb_spec.specs.Words.{AskFor, AskForText, AreToldBy}
 use Rattle.hwdb_spec.specs.declared.job.Job.{Job}
-use Rattle.hwdb_spec.specs.declared.job.Task.TheVariants.{Ask, Check, Device, Diff, Dump, Explain, List as ListHits, Near, Query, Update, Verify}
+use Rattle.hwdb_spec.specs.declared.job.Task.TheVariants.{Ask, Check, Device, Diff, Dump, Explain, List as ListHits, Near, Query, Status, Test, Update, Verify}
 use Rattle.hwdb_spec.specs.declared.job.Task.{Task}
 use Rattle.hwdb_spec.specs.declared.job.WordsFault.TheVariants as words_fault
 use Rattle.hwdb_spec.specs.declared.job.WordsFault.{WordsFault}
@@ -21,9 +21,11 @@ use Rattle.hwdb_spec.specs.declared.errors.ToolError.TheVariants.{Memory, Write}
 use Rattle.hwdb_spec.specs.CheckedFiles.{AreCheckedFiles}
 use Rattle.hwdb_spec.specs.ComparedDatabases.{IsDiffRefused}
 use Rattle.hwdb_spec.specs.NearErrors.{IsNearRefused}
+use Rattle.hwdb_spec.specs.TestErrors.{HasTestReason, IsTestRefused}
 use Rattle.hwdb_spec.specs.DeviceErrors.{IsDeviceRefused}
 use Rattle.hwdb_spec.specs.NamedDatabases.{IsDumpRefused, IsVerifyRefused}
 use Rattle.hwdb_spec.specs.Queries.{AreUnanswered}
+use Rattle.hwdb_spec.specs.StatusErrors.{IsStatusRefused}
 use Rattle.hwdb_spec.specs.Program.{IsAnswerOf, IsDeviceAnswer, IsJobDone, IsTold, IsUpdate, looks_below_root, root_of}
 use Rattle.hwdb_spec.specs.CheckedReasons.{HasCheckedReason}
 use Rattle.hwdb_spec.specs.Reasons.{HasAskedReason, HasFilesReason, HasGivenReason}
@@ -39,9 +41,11 @@ Refuses (Ask file device) root input files refusal = IsAskRefused (string_bytes 
 Refuses (Check paths allowed json) root input files refusal =
     IsCheckRefused (AreUncheckable (map string_bytes paths.items) root files) (AreCheckedFiles (map string_bytes paths.items) root input files) refusal
 Refuses (Near paths device limit json) root input files refusal = IsNearRefused (map string_bytes paths.items) root files refusal
+Refuses (Test paths database json) root input files refusal = IsTestRefused (map string_bytes paths.items) (option_map string_bytes database) root input files refusal
 Refuses (Diff old_path new_path) root input files refusal = IsDiffRefused (string_bytes old_path) (string_bytes new_path) files refusal
 Refuses (Verify database) root input files refusal = IsVerifyRefused (option_map string_bytes database) root files refusal
 Refuses (Dump database) root input files refusal = IsDumpRefused (option_map string_bytes database) root files refusal
+Refuses (Status json) root input files refusal = IsStatusRefused root files refusal
 Refuses task root input files refusal = IsUnanswered root files refusal
 
 -- what it might have printed, with whatever status
@@ -87,6 +91,8 @@ IsTaskReason (Check files allowed json) root usr before now refusal =
     HasCheckedReason (not (length files.items == 0)) before.files.fails before.files.seen before.input.bytes before.input.failures now.input.failures (map string_bytes files.items) refusal
 IsTaskReason (Near files device limit json) root usr before now refusal =
     HasFilesReason (not (length files.items == 0)) (map string_bytes files.items) before.files.fails before.files.seen before.input.bytes before.input.failures now.input.failures refusal
+IsTaskReason (Test paths database json) root usr before now refusal =
+    HasTestReason (map string_bytes paths.items) (option_map string_bytes database) root before.files.fails before.files.seen before.input.bytes before.input.failures now.input.failures refusal
 IsTaskReason task root usr before now refusal =
     HasReason (IsUnreadableFor task before.files.fails before.files.seen)
     (IsUnwritable (database_folder usr root) before.files.seen before.files.failures now.files.failures) before.files.seen refusal

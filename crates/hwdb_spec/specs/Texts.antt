@@ -16,7 +16,7 @@ use Rattle.hwdb_spec.specs.Answers.{effective_of, last_assignments}
 abbrev pub position_text : ℕ → ℕ → List ℕ → List ℕ → List ℕ
 position_text priority line pattern key = decimal priority ++ byte ":" ∷ (decimal line ++ byte ":" ∷ (pattern ++ byte ":" ∷ key))
 
--- The text spells the position: its hexadecimal digits stand in either case.
+-- The text spells the position: its hexadecimal digits are in either case.
 pub record IsSpelling (p : Position) (bytes : List ℕ) : Type 0 where
   pub pattern_text : List ℕ
   pub key_text : List ℕ
@@ -60,11 +60,11 @@ abbrev pub within_limit : Option ℕ → List Assignment → List Assignment
 within_limit None hits = hits
 within_limit (Some n) hits = take n hits
 
--- where a fault stands: the path, `:`, the line's number
+-- where a fault is: the path, `:`, the line's number
 abbrev pub place_text : List ℕ → ℕ → List ℕ
 place_text path line = path ++ byte ":" ∷ decimal line
 
--- the line of a fault: where it stands, `: `, what is wrong
+-- the line of a fault: where it is, `: `, what is wrong
 abbrev pub fault_line : List ℕ → Fault → List ℕ
 fault_line path f = place_text path f.line ++ codes ": " ++ (fault_text f.kind ++ byte "\n" ∷ [])
 
@@ -90,7 +90,7 @@ db_fault_name (StringOffset at) = codes "B9"
 db_fault_name (KeyOrder at) = codes "B10"
 db_fault_name (Priority at) = codes "B11"
 
--- the offset at which a fault of the database stands, if it has one
+-- the offset at which a fault of the database is, if it has one
 abbrev pub db_fault_offset : DbFault → Option ℕ
 db_fault_offset (Place at) = Some at
 db_fault_offset (Depth at) = Some at

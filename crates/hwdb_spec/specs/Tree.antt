@@ -12,7 +12,7 @@ use Rattle.hwdb_spec.specs.Answers.{is_wanted, is_behind}
 use Rattle.hwdb_spec.specs.Patterns.{Token, bracket, literal, one, star, token_at, token_size, Matches, tokens, matches}
 use Rattle.std.specs.FinMap as finite
 
--- A value of a node: its stored key, and what stands beside it.
+-- A value of a node: its stored key, and what is beside it.
 pub record Value : Type 0 where
   pub priority : ℕ
   pub line : ℕ
@@ -133,7 +133,7 @@ is_open one = false
 is_open (bracket found) = false
 is_open (literal own) = own == byte "["
 
--- what stands before the first open `[`; the text's first `skip` bytes belong to the token that was cut before
+-- what is before the first open `[`; the text's first `skip` bytes belong to the token that was cut before
 unfoldable pub closed_from : (skip : ℕ) → List ℕ → List ℕ
 closed_from skip [] = []
 closed_from (suc skip) (first ∷ rest) = first ∷ closed_from skip rest
@@ -141,7 +141,7 @@ closed_from zero (first ∷ rest) =
     if is_open (token_at (first ∷ rest)) then []
     else first ∷ closed_from (token_size (token_at (first ∷ rest)) - 1) rest
 
--- The closed part of a path: what stands before the first `[` of the path, cut from the left as a
+-- The closed part of a path: what is before the first `[` of the path, cut from the left as a
 -- pattern, that begins no closed bracket; the whole path if there is none.
 abbrev pub closed_part : List ℕ → List ℕ
 closed_part path = closed_from 0 path

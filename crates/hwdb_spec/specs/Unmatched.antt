@@ -28,7 +28,7 @@ judgement_text Fine = []
 judgement_text UnknownPrefix = codes "no string that udev asks begins like this"
 judgement_text (Dead place) = codes "no string that udev asks goes on like this"
 
--- after how many bytes of its line it stands
+-- after how many bytes of its line it is
 abbrev pub judgement_place : Judgement → ℕ
 judgement_place Fine = 0
 judgement_place UnknownPrefix = 0

@@ -83,7 +83,7 @@ abbrev pub begins_dark : List ℕ → Bool
 begins_dark [] = false
 begins_dark (b ∷ more) = not (is_blank b)
 
--- whether a line without a value is one of a test file, though it has a fault: `!KEY` has no `=`, and `=` alone has no key
+-- whether a faulty line is one of a test file all the same: `!KEY` has no `=`, and `=` alone has no key
 abbrev pub is_wish : FaultKind → Line → Bool
 is_wish NoEquals l = if begins_with (byte "!") (property l) then begins_dark (drop 1 (property l)) else false
 is_wish EmptyKey l = is_none (value l)

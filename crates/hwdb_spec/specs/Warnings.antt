@@ -37,7 +37,7 @@ repeated_from above (l ∷ more) =
     else repeated_from (l.text ∷ above) more)
     else repeated_from [] more
 
--- the numbers of the match lines of a file that stand in their record already
+-- the numbers of the match lines of a file that are in their record already
 abbrev pub repeated_lines : List ℕ → List ℕ
 repeated_lines file = repeated_from [] (clean (lines file))
 
@@ -78,10 +78,10 @@ misused l =
     else None
 
 -- Whether a line of a file, of which this is the clean line, gets a warning: its clean text begins with the three bytes of a UTF-8
--- byte order mark; with a tab, and so is a match line; a carriage return stands in it, which isn't among its trailing blanks. Of a
+-- byte order mark; with a tab, and so is a match line; a carriage return is in it, which isn't among its trailing blanks. Of a
 -- match line: a `[` of it begins no closed bracket; before the first such `[` a range has no members. Of a property that has a key:
--- a blank stands beside its first `=`. Of a property with a `=`: a `#` cuts it, before which no blank stands. It is a match line that
--- stands in its record already. Lines after it replace what it gives. What is known of properties doesn't fit it, or the
+-- a blank is beside its first `=`. Of a property with a `=`: a `#` cuts it, before which no blank is. It is a match line that
+-- is in its record already. Lines after it replace what it gives. What is known of properties doesn't fit it, or the
 -- patterns of its record don't, or the other properties that these are given. It is a pattern that matches no text that udev asks.
 abbrev pub warns : (file : List ℕ) → WarningKind → (line clean : Line) → Bool
 warns file ByteOrderMark line l = starts_with nat_eq l.text (239 ∷ 187 ∷ 191 ∷ [])
@@ -176,7 +176,7 @@ warning_hint Unread clean = unread_hint (key clean)
 warning_hint Unpaired clean = unpaired_hint (key clean)
 warning_hint (Unmatched told) clean = judgement_hint told clean.text
 
--- the line of a warning: where it stands, `: warning: `, what is unusual
+-- the line of a warning: where it is, `: warning: `, what is unusual
 abbrev pub warning_line : (path : List ℕ) (number : ℕ) → WarningKind → List ℕ
 warning_line path number kind = place_text path number ++ codes ": warning: " ++ (warning_text kind ++ byte "\n" ∷ [])
 

@@ -10,7 +10,7 @@ use Rattle.hwdb_spec.specs.Assignment.{text_cmp, ascending}
 use Rattle.hwdb_spec.specs.Format.{IsDatabase, header_bytes, node_bytes, child_bytes, value_bytes}
 use Rattle.hwdb_spec.specs.Folders.{AreAccepted, Source}
 
--- the strings of a tree, as often as they stand in it
+-- the strings of a tree, as often as they are in it
 abbrev pub strings_of_value : Value → List (List ℕ)
 strings_of_value v = v.key ∷ v.value ∷ v.path ∷ []
 
@@ -36,7 +36,7 @@ ended s = s ++ 0 ∷ []
 abbrev pub section_of : List (List ℕ) → List ℕ
 section_of table = flat_map ended table
 
--- where a string of an ascending table stands, the first of which stands at `from`
+-- where a string of an ascending table is, the first of which is at `from`
 unfoldable pub place_of : ℕ → List (List ℕ) → List ℕ → ℕ
 place_of from [] s = from
 place_of from (t ∷ ts) s = by_order (text_cmp s t) from from (place_of (from + length t + 1) ts s)
@@ -55,7 +55,7 @@ unfoldable mutual
   texts_size NoMore = 0
   texts_size (Child byte tree more) = text_size tree + texts_size more
 
--- where the record of a tree stands whose text begins at `from`
+-- where the record of a tree is whose text begins at `from`
 unfoldable pub record_at : ℕ → Tree → ℕ
 record_at from (Node prefix values children) = from + texts_size children
 

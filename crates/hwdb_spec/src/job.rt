@@ -56,6 +56,15 @@ pub enum Task {
         /// Whether as JSON.
         json: bool,
     },
+    /// Say whether a database gives devices what test files want.
+    Test {
+        /// The test files' paths, one or more.
+        files: Vec<String>,
+        /// The database's path; none if that of `/etc/udev` or `/usr/lib/udev` is meant.
+        database: Option<String>,
+        /// Whether as JSON.
+        json: bool,
+    },
     /// Print the patterns that almost matched the device.
     Near {
         /// The text files' paths; none where the database is meant.
@@ -94,6 +103,11 @@ pub enum Task {
     Dump {
         /// The database's path; none where that of `/etc/udev` or `/usr/lib/udev` is meant.
         database: Option<String>,
+    },
+    /// Say whether the database that is asked is what the text files make.
+    Status {
+        /// Whether as JSON.
+        json: bool,
     },
 }
 

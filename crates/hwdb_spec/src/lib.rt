@@ -52,6 +52,7 @@
 //! | `Asked` | the database that a command asks for, and what is printed of it |
 //! | `Library` | what the C library is told |
 //! | `Hiding` | what `update --usr --verbose` says where /etc's database hides the new one |
+//! | `Status` | what `status` says of the database that is asked, beside what the text files make |
 //! | `Done` | what `update` and `ask` leave, and what a crash leaves during an update |
 //! | `Near` | the pattern that almost matched a device, and where it stopped |
 //! | `NearAsked` | which patterns `near` compares with a device: those of text files, or of a database |
@@ -70,9 +71,11 @@
 //! | `CompileErrors` | when each error of the compiler comes |
 //! | `DatabaseErrors` | when each error of answering from a database comes |
 //! | `VerifyErrors` | the same of summing up a database |
+//! | `StatusErrors` | when each error of comparing a database with the text files comes |
 //! | `DiffErrors` | the same of comparing two |
 //! | `DumpErrors` | the same of printing one as text |
 //! | `CheckErrors` | the same of checking text files |
+//! | `AnsweredLines` | which lines of standard input are answered, and what was printed before an error |
 //! | `Refusals` | the errors that end the program, and the line of each |
 //! | `Selected` | which text files of two folders are read, and what each holds |
 //! | `Reading` | the errors of reading them |
@@ -88,6 +91,8 @@
 //! | `NamedDatabases` | the database that `verify` and `dump` read, and their errors |
 //! | `ComparedDatabases` | the errors of `diff`, with their paths |
 //! | `NearErrors` | the errors of `near` |
+//! | `Tested` | which test files `test` tries, and over which database |
+//! | `TestErrors` | what `test` refuses, and when |
 //! | `DeviceErrors` | what `device` asks sysfs, and its errors |
 //! | `Readable` | an update of the text files that can be read |
 //! | `HidingTold` | an update, and before it the line on a database that hides the new one |

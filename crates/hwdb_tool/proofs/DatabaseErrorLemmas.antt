@@ -110,7 +110,7 @@ module _ (header : OneHeader) where
       let two_here : Applies bytes f = subst (λ b. Applies b f) (sym same) two.stands in
       λ of. ⊎_elim (λ h. header bytes e f h one.stands two_here) (λ h. sym (header bytes f e h two_here one.stands)) of
 
-  one_over : (path path2 : List ℕ) (e f : DbFault) (r r2 : Refusal) → path ≡ path2 → IsOneFault e f → OverPath path e r → OverPath path2 f r2 → IsOneError r r2
+  pub one_over : (path path2 : List ℕ) (e f : DbFault) (r r2 : Refusal) → path ≡ path2 → IsOneFault e f → OverPath path e r → OverPath path2 f r2 → IsOneError r r2
   one_over path path2 e f r r2 same fault one two = over_over (BadDatabase e) (BadDatabase f) path path2 r r2 one two same fault
 
   one_verdict : (path path2 : List ℕ) (e f : DbFault) (r r2 : Refusal) → path ≡ path2 → IsOneFault e f → InVerdict path e r → InVerdict path2 f r2 → IsOneError r r2
@@ -137,7 +137,7 @@ module _ (header : OneHeader) where
         faulty.none.no_tree tree (subst (λ b. IsDatabase b tree) same is)
 
   -- a sum of two kinds of errors
-  both_ways : {A B : Refusal → Type 0} → ((r r2 : Refusal) → A r → A r2 → IsOneError r r2) → ((r r2 : Refusal) → A r → B r2 → ⊥) → ((r r2 : Refusal) → B r → B r2 → IsOneError r r2)
+  pub both_ways : {A B : Refusal → Type 0} → ((r r2 : Refusal) → A r → A r2 → IsOneError r r2) → ((r r2 : Refusal) → A r → B r2 → ⊥) → ((r r2 : Refusal) → B r → B r2 → IsOneError r r2)
       → (r r2 : Refusal) → A r ⊎ B r → A r2 ⊎ B r2 → IsOneError r r2
   both_ways aa ab bb r r2 (inl one) (inl two) = aa r r2 one two
   both_ways aa ab bb r r2 (inl one) (inr two) = absurd (ab r r2 one two)

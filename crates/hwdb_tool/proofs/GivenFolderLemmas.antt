@@ -1,8 +1,8 @@
 -- The text files for which given paths stand.
-use Rattle.std.proofs.Common.{◌≡◌, ◌<◌, ◌∙◌, ◌++◌, ◌+◌, ◌==◌, ◌||◌, ◌&&◌, ap, sym, refl, subst, inl, append_assoc, arith, eqb-true, ℕ, zero, suc, Bool, true, false, List, [], ◌∷◌, length, map, take, get_or, string_bytes, Global, String, Result, IfErr, if◌then◌else◌}
+use Rattle.std.proofs.Common.{◌≡◌, ◌<◌, ◌∙◌, ◌++◌, ◌+◌, ◌==◌, ◌||◌, ◌&&◌, ap, sym, refl, subst, inl, append_assoc, arith, eqb-true, ℕ, zero, suc, Bool, true, false, List, [], ◌∷◌, length, map, take, drop, take-append-drop, get_or, string_bytes, Global, String, Result, IfErr, if◌then◌else◌}
 use Rattle.std.specs.Prelude.{nat_eq}
 use Rattle.std.specs.Result.{IsErrAnd}
-use Rattle.std.proofs.lemmas.List.{length-map, get_or-map, map-append, take_more}
+use Rattle.std.proofs.lemmas.List.{map-append, take_more}
 use Rattle.hwdb_spec.specs.CheckedFiles.{StandFor, StandsFor, folder_of, is_file}
 use Rattle.hwdb_spec.specs.Folders.{Choice}
 use Rattle.hwdb_spec.specs.Given.{any_dash, is_dash}
@@ -60,16 +60,27 @@ stand_next contents given k path paths own new is lt stand one more =
     (subst (λ (l : List (List ℕ)). StandFor contents (before ++ string_bytes path ∷ []) l) (sym more)
     (stand_more contents before (map string_bytes paths) (string_bytes path) (map string_bytes own) stand one))
 
--- the folder of one of the given
-pub one_unread : (contents : Contents) (given : List (String Global)) (k : ℕ) (path : String Global) (refusal : Refusal) → path ≡ get_or given k path → k < length given
-    → IsFolderUnread contents (string_bytes path) refusal → AreFoldersUnread contents (map string_bytes given) refusal
-one_unread contents given k path refusal is lt unread =
-    (string_bytes path, (k, subst (λ n. k < n) (sym (length-map given string_bytes)) lt, get_or-map string_bytes given k path (string_bytes path) lt ∙ ap string_bytes (sym is)), unread)
+-- the folder of one of the given, if those before it stand for text files
+pub one_unread : (contents : Contents) (given : List (String Global)) (k : ℕ) (path : String Global) (own : List (List ℕ)) (refusal : Refusal) → path ≡ get_or given k path → k < length given
+    → StandFor contents (map string_bytes (take k given)) own → IsFolderUnread contents (string_bytes path) refusal → AreFoldersUnread contents (map string_bytes given) refusal
+one_unread contents given k path own refusal is lt stand unread = record {
+  before = map string_bytes (take k given);
+  path = string_bytes path;
+  after = map string_bytes (drop (k + 1) given);
+  are = ap (map string_bytes) (sym (take-append-drop (k + 1) given) ∙ ap (λ (l : List (String Global)). l ++ drop (k + 1) given) (take_more given k path lt))
+      ∙ map-append string_bytes (take k given ++ get_or given k path ∷ []) (drop (k + 1) given)
+      ∙ ap (λ (l : List (List ℕ)). l ++ map string_bytes (drop (k + 1) given)) (map-append string_bytes (take k given) (get_or given k path ∷ []))
+      ∙ append_assoc (map string_bytes (take k given)) (string_bytes (get_or given k path) ∷ []) (map string_bytes (drop (k + 1) given))
+      ∙ ap (λ (s : String Global). map string_bytes (take k given) ++ string_bytes s ∷ map string_bytes (drop (k + 1) given)) (sym is);
+  own = own;
+  stand = stand;
+  unread = unread;
+}
 
-pub memory_unread : {T : Type 0} (contents : Contents) (given : List (String Global)) (k : ℕ) (path : String Global) (r : Result T Refusal) → path ≡ get_or given k path → k < length given
-    → IsErrAnd r (λ x. x ≡ Plain Memory) → IfErr r (AreFoldersUnread contents (map string_bytes given))
-memory_unread contents given k path r is lt memory =
-    given_error (Plain Memory) (AreFoldersUnread contents (map string_bytes given)) r memory (one_unread contents given k path (Plain Memory) is lt (inl tt))
+pub memory_unread : {T : Type 0} (contents : Contents) (given : List (String Global)) (k : ℕ) (path : String Global) (own : List (List ℕ)) (r : Result T Refusal) → path ≡ get_or given k path → k < length given
+    → StandFor contents (map string_bytes (take k given)) own → IsErrAnd r (λ x. x ≡ Plain Memory) → IfErr r (AreFoldersUnread contents (map string_bytes given))
+memory_unread contents given k path own r is lt stand memory =
+    given_error (Plain Memory) (AreFoldersUnread contents (map string_bytes given)) r memory (one_unread contents given k path own (Plain Memory) is lt stand (inl tt))
 
 -- ---- none is `-`
 neither : (a b : Bool) → (a || b) ≡ false → (a ≡ false) × (b ≡ false)

@@ -1,25 +1,30 @@
 -- What an error says of standard input.
-use Rattle.std.proofs.Common.{◌≡◌, ◌<◌, ◌⊎◌, ◌∙◌, ⊎_elim, ap, inl, inr, reverse, sym, subst, refl, arith, eqb-true, ℕ, Bool, true, false, not, ◌==◌, List, [], ◌∷◌, length, map, Option, IfSome, string_bytes, Global, String}
+use Rattle.std.proofs.Common.{◌≡◌, ◌<◌, ◌⊎◌, ◌∙◌, ⊎_elim, ap, inl, inr, reverse, sym, subst, refl, arith, eqb-true, ℕ, Bool, true, false, not, ◌==◌, List, [], ◌∷◌, length, map, Option, None, Some, IfSome, string_bytes, Global, String}
 use Rattle.std.proofs.lemmas.List.{reverse-append}
 use Rattle.std.proofs.lemmas.List.Elements.{Contains-append_right}
-use Rattle.std.specs.Prelude.{Contains, codes}
-use Rattle.hwdb_spec.specs.declared.job.Task.TheVariants.{Ask, Check, Explain, Near, Query}
+use Rattle.std.specs.Prelude.{Contains, codes, option_map}
+use Rattle.hwdb_spec.specs.declared.job.Task.TheVariants.{Ask, Check, Explain, Near, Query, Test}
 use Rattle.hwdb_spec.specs.Asked.{IsAskedPath}
 use Rattle.hwdb_spec.specs.CheckedFiles.{StandFor, folder_of}
 use Rattle.hwdb_spec.specs.Failures.{HasFailed}
+use Rattle.hwdb_spec.specs.Folders.{Source}
 use Rattle.hwdb_spec.specs.Given.{any_dash, is_dash, is_input}
 use Rattle.hwdb_spec.specs.ManyDevices.{HasLongLine}
 use Rattle.hwdb_spec.specs.Store.{Contents, Outcomes, database_name, path_in}
 use Rattle.hwdb_spec.specs.System.{database_folder}
 use Rattle.hwdb_spec.specs.Texts.{max_file}
+use Rattle.hwdb_spec.specs.declared.DbFault.{DbFault}
 use Rattle.hwdb_spec.specs.declared.errors.ToolError.{ToolError}
-use Rattle.hwdb_spec.specs.declared.errors.ToolError.TheVariants.{Read, TooLong, TooManyFiles}
-use Rattle.hwdb_spec.specs.Refusals.{IsOver, IsUnlisted}
+use Rattle.hwdb_spec.specs.declared.errors.ToolError.TheVariants.{Read, Write, TooLong, TooManyFiles, TooManyLines, TooLarge, BadPosition, BadDatabase, Replace, Memory}
+use Rattle.hwdb_spec.specs.Refusals.{IsAt, IsOfDatabase, IsOver, IsUnreadAt}
 use Rattle.hwdb_spec.specs.declared.refusals.Refusal.{Refusal}
 use Rattle.hwdb_spec.specs.declared.refusals.Refusal.TheVariants.{At, InWords, NoDatabase, Plain}
 use Rattle.hwdb_spec.specs.CheckedReasons.{HasCheckedReason, HasNamedReason}
-use Rattle.hwdb_spec.specs.GivenFolders.{AreFoldersUnread}
+use Rattle.hwdb_spec.specs.GivenFolders.{AreFoldersUnread, IsFolderUnread, IsUnlistedFolder}
 use Rattle.hwdb_tool.specs.OneRefusal.{InputIsLong, InputIsRead, IsInNamed, LineIsLong}
+use Rattle.hwdb_spec.specs.NamedDatabases.{IsUnnamed}
+use Rattle.hwdb_spec.specs.TestErrors.{AreUntried, HasTestReason, IsNoTrial}
+use Rattle.hwdb_spec.specs.Undone.{IsUnfound}
 use Rattle.hwdb_spec.specs.Reasons.{HasAskedReason, HasFilesReason, HasGivenReason, IsFirstGiven, IsGivenTooLong, IsGivenUnreadable}
 
 not_false : (b : Bool) → not b ≡ false → b ≡ true
@@ -92,18 +97,18 @@ module _ (fails : List ℕ → Type 0) (files : Contents) (input : Option (List 
     files_long false some r over reason = absurd (some_dash given some dash)
 
 -- ---- the files and folders of `check`
-module _ (given : List (List ℕ)) (path : List ℕ) where
+module _ (files : Contents) (given : List (List ℕ)) (path : List ℕ) where
   in_folder : (read : Bool) (named : List ℕ) (at : List ℕ) → Contains given named → (at ≡ folder_of named) ⊎ ((name : List ℕ) × (at ≡ path_in (folder_of named) name)) → at ≡ path → IsInNamed given path
   in_folder read named at among is same = (named, among, subst (λ (p : List ℕ). (p ≡ folder_of named) ⊎ ((name : List ℕ) × (p ≡ path_in (folder_of named) name))) same is)
 
-  listed_read : (named : List ℕ) (r : Refusal) → Contains given named → IsUnlisted (folder_of named) r → IsOver Read path r → IsInNamed given path
-  listed_read named (At e at cause) among unread over = in_folder true named at.items among (subst (λ (k : ToolError). IsUnlisted (folder_of named) (At k at cause)) over.0 unread) over.1
+  listed_read : (named : List ℕ) (r : Refusal) → Contains given named → IsUnlistedFolder files (folder_of named) r → IsOver Read path r → IsInNamed given path
+  listed_read named (At e at cause) among unread over = in_folder true named at.items among (subst (λ (k : ToolError). IsUnlistedFolder files (folder_of named) (At k at cause)) over.0 unread) over.1
   listed_read named (Plain e) among unread over = absurd over
   listed_read named NoDatabase among unread over = absurd over
   listed_read named (InWords text) among unread over = absurd over
 
-  listed_long : (named : List ℕ) (r : Refusal) → Contains given named → IsUnlisted (folder_of named) r → IsOver TooLong path r → IsInNamed given path
-  listed_long named (At e at cause) among unread over = in_folder false named at.items among (inl (subst (λ (k : ToolError). IsUnlisted (folder_of named) (At k at cause)) over.0 unread)) over.1
+  listed_long : (named : List ℕ) (r : Refusal) → Contains given named → IsUnlistedFolder files (folder_of named) r → IsOver TooLong path r → IsInNamed given path
+  listed_long named (At e at cause) among unread over = in_folder false named at.items among (inl (subst (λ (k : ToolError). IsUnlistedFolder files (folder_of named) (At k at cause)) over.0 unread).0) over.1
   listed_long named (Plain e) among unread over = absurd over
   listed_long named NoDatabase among unread over = absurd over
   listed_long named (InWords text) among unread over = absurd over
@@ -112,13 +117,22 @@ over_plain : (error e : ToolError) (path : List ℕ) (r : Refusal) → r ≡ Pla
 over_plain error e path r is over = subst (IsOver error path) is over
 
 module _ (fails : List ℕ → Type 0) (files : Contents) (input : Option (List ℕ)) (n m : ℕ) where
+  among : (given : List (List ℕ)) (r : Refusal) (folder : AreFoldersUnread files given r) → Contains given folder.path
+  among given r folder = subst (λ (l : List (List ℕ)). Contains l folder.path) (sym folder.are) (Contains-append_right folder.before (folder.path ∷ folder.after) folder.path (0, omega arith, refl))
+
   folder_read : (given : List (List ℕ)) (r : Refusal) → IsOver Read (codes "standard input") r → AreFoldersUnread files given r → IsInNamed given (codes "standard input")
-  folder_read given r over (named, among, inl unread) = listed_read given (codes "standard input") named r among unread over
-  folder_read given r over (named, among, inr many) = absurd (over_plain Read TooManyFiles (codes "standard input") r many.0 over)
+  folder_read given r over folder = by folder.unread
+    where
+      by : IsFolderUnread files folder.path r → IsInNamed given (codes "standard input")
+      by (inl unread) = listed_read files given (codes "standard input") folder.path r (among given r folder) unread over
+      by (inr many) = absurd (over_plain Read TooManyFiles (codes "standard input") r many.0 over)
 
   folder_long : (given : List (List ℕ)) (r : Refusal) → IsOver TooLong (codes "standard input") r → AreFoldersUnread files given r → IsInNamed given (codes "standard input")
-  folder_long given r over (named, among, inl unread) = listed_long given (codes "standard input") named r among unread over
-  folder_long given r over (named, among, inr many) = absurd (over_plain TooLong TooManyFiles (codes "standard input") r many.0 over)
+  folder_long given r over folder = by folder.unread
+    where
+      by : IsFolderUnread files folder.path r → IsInNamed given (codes "standard input")
+      by (inl unread) = listed_long files given (codes "standard input") folder.path r (among given r folder) unread over
+      by (inr many) = absurd (over_plain TooLong TooManyFiles (codes "standard input") r many.0 over)
 
   abbrev Named : (given : List (List ℕ)) → Type 0
   Named given = ((paths : List (List ℕ)) × StandFor files given paths × Contains paths (codes "standard input")) ⊎ IsInNamed given (codes "standard input")
@@ -154,10 +168,10 @@ ends_so : (root : List ℕ) (files : Contents) (path words : List ℕ) → IsAsk
 ends_so root files path words (inl etc) is = last_of (database_folder false root) words (sym etc ∙ is)
 ends_so root files path words (inr usr) is = last_of (database_folder true root) words (sym usr.0 ∙ is)
 
-asked_not_input : (root : List ℕ) (files : Contents) (path : List ℕ) → IsAskedPath root files path → path ≡ codes "standard input" → ⊥
+pub asked_not_input : (root : List ℕ) (files : Contents) (path : List ℕ) → IsAskedPath root files path → path ≡ codes "standard input" → ⊥
 asked_not_input root files path asked is = let e : 110 ≡ 116 = ends_so root files path (codes "standard input") asked is in omega (arith, e)
 
-asked_not_line : (root : List ℕ) (files : Contents) (path : List ℕ) → IsAskedPath root files path → path ≡ codes "a line of standard input" → ⊥
+pub asked_not_line : (root : List ℕ) (files : Contents) (path : List ℕ) → IsAskedPath root files path → path ≡ codes "a line of standard input" → ⊥
 asked_not_line root files path asked is = let e : 110 ≡ 116 = ends_so root files path (codes "a line of standard input") asked is in omega (arith, e)
 
 module _ (root : List ℕ) (fails : List ℕ → Type 0) (files : Contents) (input : Option (List ℕ)) (n m : ℕ) where
@@ -181,6 +195,79 @@ module _ (root : List ℕ) (fails : List ℕ → Type 0) (files : Contents) (inp
   asked_long b NoDatabase over reason = absurd over
   asked_long b (InWords text) over reason = absurd over
 
+-- ---- the files and the database of `test`
+-- it can't be read, or is too long
+abbrev IsUnreadKind : ToolError → Type 0
+IsUnreadKind e = (e ≡ Read) ⊎ (e ≡ TooLong)
+
+no_fault_kind : {X : Type 0} (e : ToolError) (fault : DbFault) → IsUnreadKind e → e ≡ BadDatabase fault → X
+no_fault_kind e fault (inl read) is = let bad : Read ≡ BadDatabase fault = sym read ∙ is in cc
+no_fault_kind e fault (inr long) is = let bad : TooLong ≡ BadDatabase fault = sym long ∙ is in cc
+
+module _ (files : Contents) (e : ToolError) (words : List ℕ) where
+  unread_path : (p : List ℕ) (r : Refusal) → IsUnreadAt files p r → IsOver e words r → p ≡ words
+  unread_path p (At Read at cause) unread over = sym unread ∙ over.1
+  unread_path p (At Write at cause) unread over = absurd unread
+  unread_path p (At TooLong at cause) unread over = sym unread.0 ∙ over.1
+  unread_path p (At TooManyFiles at cause) unread over = absurd unread
+  unread_path p (At TooManyLines at cause) unread over = absurd unread
+  unread_path p (At TooLarge at cause) unread over = absurd unread
+  unread_path p (At BadPosition at cause) unread over = absurd unread
+  unread_path p (At (BadDatabase fault) at cause) unread over = absurd unread
+  unread_path p (At (Replace u) at cause) unread over = absurd unread
+  unread_path p (At Memory at cause) unread over = sym unread ∙ over.1
+  unread_path p (Plain x) unread over = absurd over
+  unread_path p NoDatabase unread over = absurd over
+  unread_path p (InWords text) unread over = absurd over
+
+  module _ (root : List ℕ) where
+    unfound_path : (r : Refusal) → IsUnfound root files r → IsOver e words r → (p : List ℕ) × IsAskedPath root files p × (p ≡ words)
+    unfound_path (At x at cause) unfound over = (unfound.0, unfound.1, unread_path unfound.0 (At x at cause) unfound.2 over)
+    unfound_path (Plain x) unfound over = absurd over
+    unfound_path NoDatabase unfound over = absurd over
+    unfound_path (InWords text) unfound over = absurd over
+
+    module _ (kind : IsUnreadKind e) (other : (p : List ℕ) → IsAskedPath root files p → p ≡ words → ⊥) where
+      unnamed_path : (path : Option (List ℕ)) (r : Refusal) → IsUnnamed path root files r → IsOver e words r → path ≡ Some words
+      unnamed_path None r unfound over = let found = unfound_path r unfound over in absurd (other found.0 found.1 found.2)
+      unnamed_path (Some p) r unread over = ap (λ (q : List ℕ). Some q) (unread_path p r unread over)
+
+      faulty_path : (fault : DbFault) (p : List ℕ) (r : Refusal) → IsAt (BadDatabase fault) p r → IsOver e words r → ⊥
+      faulty_path fault p (At x at cause) is over = no_fault_kind e fault kind (sym over.0 ∙ is.0)
+      faulty_path fault p (Plain x) is over = absurd over
+      faulty_path fault p NoDatabase is over = absurd over
+      faulty_path fault p (InWords text) is over = absurd over
+
+      trial_path : (x : ToolError) (p : List ℕ) (r : Refusal) → IsOfDatabase x p r → IsOver e words r → ⊥
+      trial_path (BadDatabase fault) p r is over = faulty_path fault p r is over
+      trial_path Read p r is over = over_plain e Read words r is over
+      trial_path Write p r is over = over_plain e Write words r is over
+      trial_path TooLong p r is over = over_plain e TooLong words r is over
+      trial_path TooManyFiles p r is over = over_plain e TooManyFiles words r is over
+      trial_path TooManyLines p r is over = over_plain e TooManyLines words r is over
+      trial_path TooLarge p r is over = over_plain e TooLarge words r is over
+      trial_path BadPosition p r is over = over_plain e BadPosition words r is over
+      trial_path (Replace u) p r is over = over_plain e (Replace u) words r is over
+      trial_path Memory p r is over = over_plain e Memory words r is over
+
+      untried_path : (sources : List Source) (path : Option (List ℕ)) (r : Refusal) → AreUntried sources path root files r → IsOver e words r → path ≡ Some words
+      untried_path sources path r (inl unread) over = unnamed_path path r unread over
+      untried_path sources path r (inr not) over = absurd (trial_path not.error not.path r not.is over)
+
+module _ (given : List (List ℕ)) (path : Option (List ℕ)) (root : List ℕ) (fails : List ℕ → Type 0) (files : Contents) (input : Option (List ℕ)) (n m : ℕ) where
+  abbrev InWordsOfTest : Type 0
+  InWordsOfTest = Contains given (codes "standard input") ⊎ (path ≡ Some (codes "standard input"))
+
+  tested_read : (r : Refusal) → IsOver Read (codes "standard input") r → HasTestReason given path root fails files input n m r → HasFailed n m ⊎ InWordsOfTest
+  tested_read r over (inl write) = absurd (over_plain Read Write (codes "standard input") r write over)
+  tested_read r over (inr (inl file)) = ⊎_elim (λ failed. inl failed) (λ among. inr (inl among)) (paths_read fails files input n m given r over file.1)
+  tested_read r over (inr (inr trial)) = inr (inr (untried_path files Read (codes "standard input") root (inl refl) (asked_not_input root files) trial.0 path r trial.2 over))
+
+  tested_long : (r : Refusal) → IsOver TooLong (codes "standard input") r → HasTestReason given path root fails files input n m r → IsInputLong fails files input n m ⊎ InWordsOfTest
+  tested_long r over (inl write) = absurd (over_plain TooLong Write (codes "standard input") r write over)
+  tested_long r over (inr (inl file)) = ⊎_elim (λ long. inl long) (λ among. inr (inl among)) (paths_long fails files input n m given r over file.1)
+  tested_long r over (inr (inr trial)) = inr (inr (untried_path files TooLong (codes "standard input") root (inr refl) (asked_not_input root files) trial.0 path r trial.2 over))
+
 module _ (fails fails_now : List ℕ → Type 0) (left left_now : Outcomes) where
   pub input_is_read : InputIsRead fails fails_now left left_now
   input_is_read (Ask file device) root usr strict r before now dash over not =
@@ -189,6 +276,8 @@ module _ (fails fails_now : List ℕ → Type 0) (left left_now : Outcomes) wher
       checked_read fails before.files before.input.bytes before.input.failures now.input.failures paths.items _ refl dash r over not.1
   input_is_read (Near paths device limit json) root usr strict r before now dash over not =
       files_read fails before.files before.input.bytes before.input.failures now.input.failures paths.items dash _ refl r over not.1
+  input_is_read (Test paths database json) root usr strict r before now dash over not =
+      tested_read (map string_bytes paths.items) (option_map string_bytes database) root fails before.files before.input.bytes before.input.failures now.input.failures r over not.1
   input_is_read (Query devices json) root usr strict r before now dash over not =
       inl (asked_read root fails before.files before.input.bytes before.input.failures now.input.failures (is_input (map string_bytes devices.items)) r over not.1)
   input_is_read (Explain device json) root usr strict r before now dash over not =
@@ -202,6 +291,8 @@ module _ (fails fails_now : List ℕ → Type 0) (left left_now : Outcomes) wher
       checked_long fails before.files before.input.bytes before.input.failures now.input.failures paths.items _ refl dash r over not.1
   input_is_long (Near paths device limit json) root usr strict r before now kind dash over not =
       files_long fails before.files before.input.bytes before.input.failures now.input.failures paths.items dash _ refl r over not.1
+  input_is_long (Test paths database json) root usr strict r before now kind dash over not =
+      tested_long (map string_bytes paths.items) (option_map string_bytes database) root fails before.files before.input.bytes before.input.failures now.input.failures r over not.1
   input_is_long task root usr strict r before now kind dash over not = absurd kind
 
   pub line_is_long : LineIsLong fails fails_now left left_now

@@ -1,6 +1,6 @@
 -- Words ask for one job, which ends with one error over one input, or is done.
 use Rattle.std.proofs.Common.{◌≡◌, ◌∙◌, ◌∷◌, ⊎_elim, ap, map, sym, subst, refl, Bool, false, List, [], ℕ, Option, None, Some, string_bytes}
-use Rattle.std.specs.Prelude.{codes}
+use Rattle.std.specs.Prelude.{codes, option_map}
 use Rattle.clap.specs.Faults.{fault_of}
 use Rattle.clap.specs.Kinds.{IsAmong, Kinds}
 use Rattle.clap.specs.Simple.{matches_of, subcommand_of}
@@ -11,7 +11,7 @@ use Rattle.hwdb_spec.specs.CommandLine.{hwdb_app}
 use Rattle.hwdb_spec.specs.WordFaults.{IsToldOfOne}
 use Rattle.hwdb_spec.specs.declared.job.Job.{Job}
 use Rattle.hwdb_spec.specs.declared.job.Task.{Task}
-use Rattle.hwdb_spec.specs.declared.job.Task.TheVariants.{Ask, Check, Device, Diff, Dump, Explain, List as ListHits, Near, Query, Update, Verify}
+use Rattle.hwdb_spec.specs.declared.job.Task.TheVariants.{Ask, Check, Device, Diff, Dump, Explain, List as ListHits, Near, Query, Status, Test, Update, Verify}
 use Rattle.hwdb_spec.specs.declared.job.WordsFault.TheVariants as words_fault
 use Rattle.hwdb_spec.specs.declared.job.WordsFault.{WordsFault}
 use Rattle.hwdb_spec.specs.CheckedFiles.{StandFor}
@@ -24,7 +24,7 @@ use Rattle.hwdb_spec.specs.Refusals.{HasReason, IsUnentered}
 use Rattle.hwdb_spec.specs.declared.refusals.Refusal.{Refusal}
 use Rattle.hwdb_spec.specs.declared.refusals.Refusal.TheVariants.{At, InWords, NoDatabase, Plain}
 use Rattle.hwdb_tool.specs.OneOutcome.{ListingsGiveOneChoice, ListingsGiveOneReading, scene_of}
-use Rattle.hwdb_tool.specs.OneRefusal.{IsCovered, IsOfWhatIsRead, JobEndsInOneError, DoneJobIsNoError, JobIsNotTold, RootIsEntered, scene_then}
+use Rattle.hwdb_tool.specs.OneRefusal.{DoneJobEndsSo, IsCovered, IsOfWhatIsRead, JobIsNotTold, JobsEndAlike, RootIsEntered, scene_then}
 use Rattle.hwdb_spec.specs.Program.{root_of}
 use Rattle.hwdb_spec.specs.TaskRefusals.{refused_status}
 use Rattle.hwdb_spec.specs.Undone.{IsUnwritable}
@@ -32,7 +32,8 @@ use Rattle.hwdb_tool.proofs.DatabaseErrorLemmas.{OneHeader, OneTree, Undumped, U
 use Rattle.hwdb_tool.proofs.AskErrorLemmas.{OneForm, Unasked}
 use Rattle.hwdb_tool.proofs.DiffErrorLemmas.{Undiffed}
 use Rattle.hwdb_tool.proofs.JobLemmas.{apart, cut_last, is_named, one_value, one_values, same_root, word_of}
-use Rattle.hwdb_tool.proofs.TaskErrorLemmas.{IsLeftThen, Unchecked, Uncompared, Why, end_of, not_both_ends, said_first, why}
+use Rattle.hwdb_tool.proofs.TrialErrorLemmas.{Untested}
+use Rattle.hwdb_tool.proofs.TaskErrorLemmas.{IsLeftThen, OneStand, Unchecked, Uncompared, Why, end_of, not_both_ends, said_first, why}
 
 -- two tasks that the same words ask for
 module _ (name : Text) (inner : List Row) where
@@ -45,10 +46,12 @@ module _ (name : Text) (inner : List Row) where
   same_kind (Diff old1 new1) (Diff old2 new2) t u kind = tt
   same_kind (Verify database1) (Verify database2) t u kind = tt
   same_kind (Dump database1) (Dump database2) t u kind = tt
+  same_kind (Status json1) (Status json2) t u kind = absurd kind
   same_kind (Update v1 k1) (Update v2 k2) t u kind = u.2 ∙ sym t.2 ∙ kind
   same_kind (Ask file1 device1) (Ask file2 device2) t u kind = tt
   same_kind (Check files1 allowed1 json1) (Check files2 allowed2 json2) t u kind = tt
   same_kind (Near files1 device1 limit1 json1) (Near files2 device2 limit2 json2) t u kind = tt
+  same_kind (Test files1 database1 json1) (Test files2 database2 json2) t u kind = tt
   same_kind (Device path1 strings1 json1 pattern1) (Device path2 strings2 json2 pattern2) t u kind = absurd kind
   same_kind task1 task2 t u kind = apart (word_of task1) (word_of task2) refl (sym (is_named name inner task1 t) ∙ is_named name inner task2 u)
 
@@ -59,10 +62,12 @@ module _ (name : Text) (inner : List Row) where
   same_status (Diff old1 new1) (Diff old2 new2) t u = refl
   same_status (Verify database1) (Verify database2) t u = refl
   same_status (Dump database1) (Dump database2) t u = refl
+  same_status (Status json1) (Status json2) t u = refl
   same_status (Update v1 k1) (Update v2 k2) t u = refl
   same_status (Ask file1 device1) (Ask file2 device2) t u = refl
   same_status (Check files1 allowed1 json1) (Check files2 allowed2 json2) t u = refl
   same_status (Near files1 device1 limit1 json1) (Near files2 device2 limit2 json2) t u = refl
+  same_status (Test files1 database1 json1) (Test files2 database2 json2) t u = refl
   same_status (Device path1 strings1 json1 pattern1) (Device path2 strings2 json2 pattern2) t u = refl
   same_status task1 task2 t u = apart (word_of task1) (word_of task2) refl (sym (is_named name inner task1 t) ∙ is_named name inner task2 u)
 
@@ -77,6 +82,7 @@ module _ (name : Text) (inner : List Row) where
         (subst (λ (p : List ℕ). Undiffed (string_bytes old2) p files r) (one_value (first_of (codes "NEW") inner) _ _ u.2 t.2) is)
     same_why (Verify database1) (Verify database2) t u is = subst (λ (d : Option (List ℕ)). Unverified header fails U root files d r) (u.1 ∙ sym t.1) is
     same_why (Dump database1) (Dump database2) t u is = subst (λ (d : Option (List ℕ)). Undumped header fails U root files d r) (u.1 ∙ sym t.1) is
+    same_why (Status json1) (Status json2) t u is = absurd is
     same_why (Update v1 k1) (Update v2 k2) t u is = is
     same_why (Ask file1 device1) (Ask file2 device2) t u is = subst (λ (f : List ℕ). Unasked f input files r) (one_value (first_of (codes "FILE") inner) _ _ u.1 t.1) is
     same_why (Check files1 allowed1 json1) (Check files2 allowed2 json2) t u is =
@@ -84,6 +90,9 @@ module _ (name : Text) (inner : List Row) where
     same_why (Near files1 device1 limit1 json1) (Near files2 device2 limit2 json2) t u is =
         let one = cut_last (map string_bytes files2.items) (map string_bytes files1.items) (string_bytes device2) (string_bytes device1) (one_values (all_of (codes "MODALIAS") inner) _ _ u.2 t.2) in
         subst (λ (fs : List (List ℕ)). Uncompared header tree fs input files root r) one.0 is
+    same_why (Test files1 database1 json1) (Test files2 database2 json2) t u is =
+        subst (λ (fs : List (List ℕ)). Untested fs (option_map string_bytes database1) input files root r) (one_values (all_of (codes "FILE") inner) _ _ u.3 t.3)
+        (subst (λ (d : Option (List ℕ)). Untested (map string_bytes files2.items) d input files root r) (u.2 ∙ sym t.2) is)
     same_why (Device path1 strings1 json1 pattern1) (Device path2 strings2 json2 pattern2) t u is = absurd is
     same_why task1 task2 t u is = apart (word_of task1) (word_of task2) refl (sym (is_named name inner task1 t) ∙ is_named name inner task2 u)
 
@@ -96,10 +105,12 @@ module _ (name : Text) (inner : List Row) where
   same_said header tree root usr files (Diff old1 new1) (Diff old2 new2) t u = refl
   same_said header tree root usr files (Verify database1) (Verify database2) t u = refl
   same_said header tree root usr files (Dump database1) (Dump database2) t u = refl
+  same_said header tree root usr files (Status json1) (Status json2) t u = refl
   same_said header tree root usr files (Update v1 k1) (Update v2 k2) t u = ap (λ (v : Bool). hiding_text usr v root files) (u.1 ∙ sym t.1)
   same_said header tree root usr files (Ask file1 device1) (Ask file2 device2) t u = refl
   same_said header tree root usr files (Check files1 allowed1 json1) (Check files2 allowed2 json2) t u = refl
   same_said header tree root usr files (Near files1 device1 limit1 json1) (Near files2 device2 limit2 json2) t u = refl
+  same_said header tree root usr files (Test files1 database1 json1) (Test files2 database2 json2) t u = refl
   same_said header tree root usr files (Device path1 strings1 json1 pattern1) (Device path2 strings2 json2 pattern2) t u = refl
   same_said header tree root usr files task1 task2 t u = apart (word_of task1) (word_of task2) refl (sym (is_named name inner task1 t) ∙ is_named name inner task2 u)
 
@@ -117,7 +128,7 @@ module _ (top : List Row) where
   kind_of_job None j k one two kind = absurd one
   kind_of_job (Some p) j k one two kind = same_kind p.0 p.1 j.task k.task one.task two.task kind
 
-  status_of_job : (found : Option (Text × List Row)) (j k : Job) → IsJobOf top found j → IsJobOf top found k → refused_status j.task ≡ refused_status k.task
+  pub status_of_job : (found : Option (Text × List Row)) (j k : Job) → IsJobOf top found j → IsJobOf top found k → refused_status j.task ≡ refused_status k.task
   status_of_job None j k one two = absurd one
   status_of_job (Some p) j k one two = same_status p.0 p.1 j.task k.task one.task two.task
 
@@ -167,8 +178,8 @@ pub root_is_entered : (fails fails_now : List ℕ → Type 0) (left left_now : O
 root_is_entered fails fails_now left left_now = λ words status before now refused never of.
     entered fails before.files refused.unread.0 never refused.refusal refused.unread.3 refused.reason of
 
-module _ (header : OneHeader) (tree : OneTree) (choice : ListingsGiveOneChoice) (reading : ListingsGiveOneReading) (stand : (files : Contents) (given ps qs : List (List ℕ)) → StandFor files given ps → StandFor files given qs → ps ≡ qs) (fails fails_now fails2 fails2_now : List ℕ → Type 0) (left left_now left2 left2_now : Outcomes) where
-  pub one_job_error : JobEndsInOneError fails fails_now fails2 fails2_now left left_now left2 left2_now
+module _ (header : OneHeader) (tree : OneTree) (choice : ListingsGiveOneChoice) (reading : ListingsGiveOneReading) (stand : OneStand) (fails fails_now fails2 fails2_now : List ℕ → Type 0) (left left_now left2 left2_now : Outcomes) where
+  pub one_job_error : JobsEndAlike IsCovered fails fails_now fails2 fails2_now left left_now left2 left2_now
   one_job_error = λ words status status2 before now before2 now2 input one two kind is is2.
       let top = matches_of hwdb_app words in
       let found = subcommand_of hwdb_app words in
@@ -187,7 +198,7 @@ module _ (header : OneHeader) (tree : OneTree) (choice : ListingsGiveOneChoice) 
             (ap (λ (f : Contents). said_first header tree k.task (root_of k) k.usr f) input.files ∙ said_of_job top header tree before.files found j k one.asked two.asked) second.1),
       )
 
-  pub no_job_error : OneForm → DoneJobIsNoError fails fails_now fails2 fails2_now left left_now left2 left2_now
+  pub no_job_error : OneForm → DoneJobEndsSo IsCovered fails fails_now fails2 fails2_now left left_now left2 left2_now
   no_job_error form = λ words status status2 before now before2 now2 input done refused kind is.
       let top = matches_of hwdb_app words in
       let found = subcommand_of hwdb_app words in

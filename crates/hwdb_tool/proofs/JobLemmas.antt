@@ -12,13 +12,14 @@ use Rattle.hwdb_spec.specs.Jobs.{IsJob, IsJobOf, IsLimit, IsTask}
 use Rattle.hwdb_spec.specs.CommandLine.{hwdb_app}
 use Rattle.hwdb_spec.specs.declared.job.Job.{Job}
 use Rattle.hwdb_spec.specs.declared.job.Task.{Task}
-use Rattle.hwdb_spec.specs.declared.job.Task.TheVariants.{Ask, Check, Device, Diff, Dump, Explain, List as ListHits, Near, Query, Update, Verify}
+use Rattle.hwdb_spec.specs.declared.job.Task.TheVariants.{Ask, Check, Device, Diff, Dump, Explain, List as ListHits, Near, Query, Status, Test, Update, Verify}
 use Rattle.hwdb_spec.specs.Outputs.{Texts}
 use Rattle.hwdb_spec.specs.Runs.{AreKept, OnOut, Printed, World}
 use Rattle.hwdb_spec.specs.Store.{Contents, Outcomes}
 use Rattle.hwdb_spec.specs.CheckedFiles.{AreCheckedFiles, IsChecked}
 use Rattle.hwdb_spec.specs.Asked.{IsCompared, IsAnswered, IsListFrom, IsDumped, IsPrinted}
 use Rattle.hwdb_spec.specs.Done.{IsAsked}
+use Rattle.hwdb_spec.specs.Status.{IsStatus}
 use Rattle.hwdb_spec.specs.Databases.{IsSummary}
 use Rattle.hwdb_spec.specs.NearAsked.{IsNear, near_form, near_limit}
 use Rattle.hwdb_spec.specs.DeviceAsked.{device_form}
@@ -28,6 +29,7 @@ use Rattle.hwdb_spec.specs.declared.form.Form.{Form}
 use Rattle.hwdb_spec.specs.declared.form.Form.TheVariants as form
 use Rattle.hwdb_spec.specs.Given.{is_input}
 use Rattle.hwdb_spec.specs.Program.{IsDeviceAnswer, IsDone, IsTaskDone, root_of}
+use Rattle.hwdb_spec.specs.Tested.{IsTested}
 use Rattle.hwdb_tool.specs.OneOutcome.{DoneIsNotTold, JobsAreOne, TasksAreOne, scene_of}
 
 pub one_value : (o : Option (List ℕ)) (a b : List ℕ) → Some a ≡ o → Some b ≡ o → a ≡ b
@@ -66,9 +68,11 @@ word_of (Ask file device) = codes "ask"
 word_of (Near files device limit json) = codes "near"
 word_of (Device path strings json pattern) = codes "device"
 word_of (Check files allowed json) = codes "check"
+word_of (Test files database json) = codes "test"
 word_of (Diff old_path new_path) = codes "diff"
 word_of (Verify database) = codes "verify"
 word_of (Dump database) = codes "dump"
+word_of (Status json) = codes "status"
 
 pub is_named : (name : Text) (inner : List Row) (task : Task) → IsTask name inner task → name ≡ word_of task
 is_named name inner (Update verbose skip) t = t.0
@@ -132,6 +136,10 @@ module _ (name : Text) (inner : List Row) (root : List ℕ) (usr strict : Bool) 
       (subst (λ (d : List ℕ). Quietly (IsNear (map string_bytes files2.items) root (near_form json1 d (near_limit limit1)) input old)) one.1
       (subst (λ (l : Option ℕ). Quietly (IsNear (map string_bytes files2.items) root (near_form json1 (string_bytes device2) (near_limit l)) input old)) (one_limit (one_of (codes "limit") inner) limit2 limit1 u.3 t.3)
       (subst (λ (j : Bool). Quietly (IsNear (map string_bytes files2.items) root (near_form j (string_bytes device2) (near_limit limit2)) input old)) (u.1 ∙ sym t.1) done)))
+  same_task (Test files1 database1 json1) (Test files2 database2 json2) t u done =
+      subst (λ (fs : List (List ℕ)). Prints (OnOut (λ text. IsTested json1 fs (option_map string_bytes database1) root input old text status))) (one_values (all_of (codes "FILE") inner) _ _ u.3 t.3)
+      (subst (λ (d : Option (List ℕ)). Prints (OnOut (λ text. IsTested json1 (map string_bytes files2.items) d root input old text status))) (u.2 ∙ sym t.2)
+      (subst (λ (j : Bool). Prints (OnOut (λ text. IsTested j (map string_bytes files2.items) (option_map string_bytes database2) root input old text status))) (u.1 ∙ sym t.1) done))
   same_task (Device path1 strings1 json1 pattern1) (Device path2 strings2 json2 pattern2) t u done =
       subst (λ (p : Option (List ℕ)). OfDevice (device_form strings1 json1 pattern1) p) (u.1 ∙ sym t.1)
       (subst (λ (b : Bool). OfDevice (device_form b json1 pattern1) (option_map string_bytes path2)) (u.2 ∙ sym t.2)
@@ -144,6 +152,8 @@ module _ (name : Text) (inner : List Row) (root : List ℕ) (usr strict : Bool) 
       subst (λ (d : Option (List ℕ)). Quietly (IsPrinted d root IsSummary old)) (u.1 ∙ sym t.1) done
   same_task (Dump database1) (Dump database2) t u done =
       subst (λ (d : Option (List ℕ)). Quietly (IsDumped d root old)) (u.1 ∙ sym t.1) done
+  same_task (Status json1) (Status json2) t u done =
+      subst (λ (j : Bool). Prints (OnOut (λ text. IsStatus root j old text status))) (u.1 ∙ sym t.1) done
   -- two tasks of two names aren't asked for by one
   same_task task1 task2 t u done = apart (word_of task1) (word_of task2) refl (sym (is_named name inner task1 t) ∙ is_named name inner task2 u)
 

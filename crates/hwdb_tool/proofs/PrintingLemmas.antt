@@ -3,6 +3,7 @@ use Rattle.std.proofs.Common.{◌≡◌, inl, inr, refl, subst, sym, Bool, true,
 use Rattle.std.proofs.lemmas.List.{append-nil}
 use Rattle.std.specs.Io.KnownBytes.{Appends}
 use Rattle.hwdb_spec.specs.declared.job.Task.TheVariants.{List as ListHits}
+use Rattle.hwdb_spec.specs.AnsweredLines.{line_error}
 use Rattle.hwdb_spec.specs.Streams.{texts_of}
 use Rattle.hwdb_spec.specs.declared.form.Form.{Form}
 use Rattle.hwdb_spec.specs.Asked.{IsAnswered, IsListFrom}
@@ -30,14 +31,15 @@ nothing (Some xs) = sym (append-nil xs)
 
 -- devices of standard input
 streamed_at : (root : List ℕ) (form : Form) (devices : List (List ℕ)) (input : Option (List ℕ)) (contents : Contents) (result : Result ℕ Refusal) (err before now : Told) → IfOk result (λ s. s ≡ 0)
+    → OnOk result (IfSome input (λ text. line_error (devices_of text) ≡ None))
     → OnOk result (IfSome input (λ text. TookOne (IsAnswered root (IsTextOf (texts_of form (devices_of text))) contents) before.bytes now.bytes before.failures now.failures))
     → IfOk result (λ s. AreDoneFrom true root form devices input contents s err err before now)
-streamed_at root form devices input contents (Err e) err before now zero took = tt
-streamed_at root form devices None contents (Ok s) err before now zero took = (tt, (zero, refl))
-streamed_at root form devices (Some text) contents (Ok s) err before now zero took = (
+streamed_at root form devices input contents (Err e) err before now zero all took = tt
+streamed_at root form devices None contents (Ok s) err before now zero all took = (tt, (zero, refl))
+streamed_at root form devices (Some text) contents (Ok s) err before now zero all took = (
   record {
     texts = record { err = []; out = took.text };
-    are = (zero, (refl, took.is));
+    are = (zero, (refl, (all, took.is)));
     err = record { whole = nothing err.bytes; unfailed = refl };
     quiet = λ e. refl;
     out = took.took;
@@ -46,12 +48,12 @@ streamed_at root form devices (Some text) contents (Ok s) err before now zero to
 )
 
 pub streamed_done : (root : List ℕ) (form : Form) (devices : List (List ℕ)) (input : Option (List ℕ)) (contents : Contents) (result : Result ℕ Refusal) (err before now : Told) → is_input devices ≡ true
-    → IfOk result (λ s. s ≡ 0)
+    → IfOk result (λ s. s ≡ 0) → OnOk result (IfSome input (λ text. line_error (devices_of text) ≡ None))
     → OnOk result (IfSome input (λ text. TookOne (IsAnswered root (IsTextOf (texts_of form (devices_of text))) contents) before.bytes now.bytes before.failures now.failures))
     → IfOk result (λ s. AreDone root form devices input contents s err err before now)
-streamed_done root form devices input contents result err before now is zero took =
+streamed_done root form devices input contents result err before now is zero all took =
     subst (λ (b : Bool). IfOk result (λ s. AreDoneFrom b root form devices input contents s err err before now)) (sym is)
-    (streamed_at root form devices input contents result err before now zero took)
+    (streamed_at root form devices input contents result err before now zero all took)
 
 -- the hits of a device
 pub listed_done : (after : Option (String Global)) (limit : Option ℕ) (device : String Global) (json : Bool) (root : List ℕ) (usr strict : Bool) (files : Files) (input err before now : Told) (devices : Sight) (result : Result ℕ Refusal)

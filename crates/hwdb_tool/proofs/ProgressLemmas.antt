@@ -33,7 +33,7 @@ gathered_more f [] x = append-nil (f x)
 gathered_more f (y ∷ xs) x = ap (λ l. f y ++ l) (gathered_more f xs x) ∙ sym (append_assoc (f y) (flat_map f xs) (f x))
 
 -- the line of one more file
-pub lines_more : (f : Choice → List ℕ) (files : List ChosenFile) (i : ℕ) (x : ChosenFile) (old new : List ℕ) → i < length files → x ≡ get_or files i x
+pub lines_more : {B : Type 0} (f : Choice → List B) (files : List ChosenFile) (i : ℕ) (x : ChosenFile) (old new : List B) → i < length files → x ≡ get_or files i x
     → old ≡ flat_map f (map choice_in (take i files)) → new ≡ old ++ f (choice_in x) → new ≡ flat_map f (map choice_in (take (suc i) files))
 lines_more f files i x old new lt is so_far added =
     added ∙ ap (λ l. l ++ f (choice_in x)) so_far

@@ -17,7 +17,7 @@ choices has set =
 
 module _ (count : NamesAreThoseThatCount) (ascend : NamesAscend) (one : OneAscendingList) (files : Contents) where
   module _ (folder : List ℕ) (xs ys : List (List ℕ)) (in_xs : AreNamesIn folder files xs) (in_ys : AreNamesIn folder files ys) where
-    one_set : names xs [] ≡ names ys []
+    pub one_set : names xs [] ≡ names ys []
     one_set = one (names xs []) (names ys []) (ascend xs []) (ascend ys [])
         (λ n. count xs [] n
         ∙ ap (λ (b : Bool). if counts n then (if b then true else lists n []) else false) (same_names folder files xs ys in_xs in_ys n)

@@ -2,11 +2,11 @@
 use Rattle.std.proofs.Common.{◌≡◌, ◌⊎◌, ◌∙◌, ◌==◌, inl, inr, ap, arith, eqb-true, sym, subst, suc, refl, ℕ, Bool, true, false, length, not, List, [], ◌∷◌, map, Option, None, Some, string_bytes, Global, String}
 use Rattle.std.proofs.lemmas.List.{append-nil}
 use Rattle.std.specs.Io.KnownBytes.{Appends}
-use Rattle.std.specs.Prelude.{option_map}
+use Rattle.std.specs.Prelude.{Contains, option_map}
 use Rattle.hwdb_spec.specs.declared.job.Task.{Task}
-use Rattle.hwdb_spec.specs.declared.job.Task.TheVariants.{Ask, Check, Device, Diff, Dump, Explain, List as ListHits, Near, Query, Update, Verify}
+use Rattle.hwdb_spec.specs.declared.job.Task.TheVariants.{Ask, Check, Device, Diff, Dump, Explain, List as ListHits, Near, Query, Status, Test, Update, Verify}
 use Rattle.hwdb_spec.specs.Asked.{IsAnswered}
-use Rattle.hwdb_spec.specs.CheckedFiles.{AreCheckedFiles, AreChosenFiles, AreNamedFiles, StandFor}
+use Rattle.hwdb_spec.specs.CheckedFiles.{AreCheckedFiles, AreChosenFiles, AreNamedFiles, StandFor, folder_of}
 use Rattle.hwdb_spec.specs.Databases.{IsTextOf}
 use Rattle.hwdb_spec.specs.Done.{IsAsked}
 use Rattle.hwdb_spec.specs.Failures.{HasFailed}
@@ -19,24 +19,30 @@ use Rattle.hwdb_spec.specs.NearAsked.{IsNear, database_patterns, near_form, near
 use Rattle.hwdb_spec.specs.Outputs.{Texts}
 use Rattle.hwdb_spec.specs.Runs.{OnOut, Told, World}
 use Rattle.hwdb_spec.specs.Store.{Contents, InPlace, Outcomes}
-use Rattle.hwdb_spec.specs.System.{database_folder}
+use Rattle.hwdb_spec.specs.System.{bytes_at, database_folder}
 use Rattle.hwdb_spec.specs.Streams.{texts_of}
 use Rattle.hwdb_spec.specs.declared.form.Form.{Form}
 use Rattle.hwdb_spec.specs.declared.form.Form.TheVariants as forms
+use Rattle.hwdb_spec.specs.Refusals.{IsOver}
+use Rattle.hwdb_spec.specs.declared.errors.ToolError.TheVariants.{TooLong, TooManyFiles}
 use Rattle.hwdb_spec.specs.declared.refusals.Refusal.{Refusal}
+use Rattle.hwdb_spec.specs.declared.refusals.Refusal.TheVariants.{Plain}
 use Rattle.hwdb_tool.specs.OneOutcome.{IsOneInput, ListingsGiveOneChoice, ListingsGiveOneReading, Scene, TellOne, scene_of}
-use Rattle.hwdb_tool.specs.OneRefusal.{DoneIsNoError, ErrorsAreOne, IsOfChecked, IsOfCompared, IsOfDatabase, IsOfListing, IsOfNamedFolder, IsOfWhatIsRead, IsOneEnd, IsOneError, NeverFails, IsCovered}
+use Rattle.hwdb_tool.specs.OneRefusal.{DoneEndsSo, EndAlike, IsOfChecked, IsOfCompared, IsOfDatabase, IsOfListing, IsOfNamedFolder, IsOfWhatIsRead, IsOneEnd, IsOneError, NeverFails, IsCovered}
 use Rattle.hwdb_spec.specs.Program.{IsTaskDone}
 use Rattle.hwdb_spec.specs.Queries.{AreAnsweredFrom, AreUnansweredFrom, IfNamed}
 use Rattle.hwdb_spec.specs.TaskRefusals.{IsNotDone, MayPrint}
 use Rattle.hwdb_spec.specs.ComparedDatabases.{IsDiffRefused}
 use Rattle.hwdb_spec.specs.NamedDatabases.{IsDumpRefused, IsVerifyRefused}
 use Rattle.hwdb_spec.specs.NearErrors.{IsNearRefused}
+use Rattle.hwdb_spec.specs.Tested.{IsTested}
+use Rattle.hwdb_spec.specs.TestErrors.{IsTestRefused}
 use Rattle.hwdb_spec.specs.Readable.{AreAllRead}
 use Rattle.hwdb_spec.specs.Reasons.{HasFilesReason}
 use Rattle.hwdb_spec.specs.CheckedReasons.{HasCheckedReason, HasNamedReason}
-use Rattle.hwdb_spec.specs.GivenFolders.{AreFoldersUnread, IsNamedUnread}
+use Rattle.hwdb_spec.specs.GivenFolders.{IsNamedUnread}
 use Rattle.hwdb_spec.specs.Undone.{AreUncheckable, IsGivenUnread, IsAskRefused, IsCheckRefused, IsUnanswered, IsUnprinted, IsUnwritable}
+use Rattle.hwdb_tool.proofs.FolderErrorLemmas.{FullOrStand, IsFolderFull, named_end}
 use Rattle.hwdb_tool.proofs.DatabaseErrorLemmas.{OneHeader, OneTree, Unanswered, Undumped, Unlisted, Unverified, answer_answer, answer_done, dump_done, dump_dump, list_done, list_list, unanswered, undumped, unlisted, unverified, verify_done, verify_verify}
 use Rattle.hwdb_tool.proofs.AskErrorLemmas.{OneForm, Unasked, ask_ask, ask_done, unasked_file}
 use Rattle.hwdb_tool.proofs.RefusalLemmas.{NeverNamed}
@@ -44,6 +50,7 @@ use Rattle.hwdb_tool.proofs.DiffErrorLemmas.{Undiffed, diff_diff, diff_done, und
 use Rattle.hwdb_tool.proofs.OutcomeLemmas.{one_taken}
 use Rattle.hwdb_tool.proofs.TaskLemmas.{all_read}
 use Rattle.hwdb_tool.proofs.UpdateErrorLemmas.{Undated, undated, update_done, update_update}
+use Rattle.hwdb_tool.proofs.TrialErrorLemmas.{Untested, test_done, test_test, untested}
 use Rattle.hwdb_tool.proofs.TextErrorLemmas.{Unchosen, Ungiven, chosen_chosen, chosen_done, given_done, given_given, never_unchecked, unchosen, ungiven}
 
 -- the reason is one of the files, if standard input isn't read
@@ -80,7 +87,7 @@ never_named fails root files None never path (inl etc) fail = never path (inl et
 never_named fails root files None never path (inr usr) fail = never path (inr usr.0) fail
 never_named fails root files (Some given) never path is fail = never path is fail
 
-never_asked : (fails : List ℕ → Type 0) (root : List ℕ) (files : Contents) → ((path : List ℕ) → IsOfDatabase None root path → fails path → ⊥) → NeverNamed fails root files None
+pub never_asked : (fails : List ℕ → Type 0) (root : List ℕ) (files : Contents) → ((path : List ℕ) → IsOfDatabase None root path → fails path → ⊥) → NeverNamed fails root files None
 never_asked fails root files never = never_named fails root files None never
 
 -- ---- `check` and `near`
@@ -91,50 +98,44 @@ some_reason n false P is h = h
 
 abbrev pub Unchecked : (given : List (List ℕ)) (input : Option (List ℕ)) → Contents → (root : List ℕ) → Refusal → Type 0
 Unchecked [] input files root r = Unchosen root files r
-Unchecked (path ∷ more) input files root r = (paths : List (List ℕ)) × StandFor files (path ∷ more) paths × Ungiven paths input files r
+Unchecked (path ∷ more) input files root r =
+    ((paths : List (List ℕ)) × StandFor files (path ∷ more) paths × Ungiven paths input files r) ⊎ IsFolderFull files (path ∷ more) r
 
-abbrev OneStand : Type 0
-OneStand = (files : Contents) (given ps qs : List (List ℕ)) → StandFor files given ps → StandFor files given qs → ps ≡ qs
+abbrev pub OneStand : Type 0
+OneStand = ((files : Contents) (given ps qs : List (List ℕ)) → StandFor files given ps → StandFor files given qs → ps ≡ qs) × FullOrStand
 
 module _ (stand : OneStand) (fails : List ℕ → Type 0) (root : List ℕ) (files : Contents) (input : Option (List ℕ)) (n m : ℕ) (whole : HasFailed n m → ⊥) (r : Refusal) (of : IsOfWhatIsRead r) (listed : IsOfListing root r → ⊥) where
-  named_end : (given : List (List ℕ)) → ((path : List ℕ) → fails path → ⊥) → (AreFoldersUnread files given r → ⊥)
-      → IsNamedUnread IsGivenUnread files given r → HasNamedReason fails files input n m given r
-      → (paths : List (List ℕ)) × StandFor files given paths × Ungiven paths input files r
-  named_end given never folder (inl unread) reason = absurd (folder unread)
-  named_end given never folder (inr unread) (inl reason) = absurd (folder reason.0)
-  named_end given never folder (inr unread) (inr reason) = (
-    unread.0,
-    unread.1,
-    ungiven unread.0 files fails input n m (λ path among. never path) whole r unread.2
-        (subst (λ (ps : List (List ℕ)). HasFilesReason true ps fails files input n m r) (stand files given reason.0 unread.0 reason.1 unread.1) reason.2) of,
-  )
-
   some_named : (k : ℕ) (b : Bool) (given : List (List ℕ)) → (suc k == 0) ≡ b → HasCheckedReason (not b) fails files input n m given r → HasNamedReason fails files input n m given r
   some_named k true given is h = absurd (let e = eqb-true (suc k) 0 is in omega (arith, e))
   some_named k false given is h = h
 
   unchecked : (paths : List (String Global)) → ((path : List ℕ) → IsOfChecked (map string_bytes paths) root path → fails path → ⊥)
-      → (AreFoldersUnread files (map string_bytes paths) r → ⊥)
+      → (((path : List ℕ) × Contains (map string_bytes paths) path × IsOver TooLong (folder_of path) r × (bytes_at files (folder_of path) ≡ None)) → ⊥)
       → IsCheckRefused (AreUncheckable (map string_bytes paths) root files) (AreCheckedFiles (map string_bytes paths) root input files) r
       → HasCheckedReason (not (length paths == 0)) fails files input n m (map string_bytes paths) r → Unchecked (map string_bytes paths) input files root r
   unchecked [] never folder (inl unread) reason = unchosen root files fails ⊥ never r unread reason of listed
   unchecked [] never folder (inr not) reason = absurd (never_unchecked (AreChosenFiles root files) r (λ sources are. are.within) not of)
   unchecked (path ∷ more) never folder (inl unread) reason =
       let given = map string_bytes (path ∷ more) in
-      named_end given (λ p. never p tt) folder unread (some_named (length more) (suc (length more) == 0) given refl reason)
+      named_end fails files input n m whole (λ p. never p tt) given (stand.0 files given) r unread (some_named (length more) (suc (length more) == 0) given refl reason) of folder
   unchecked (path ∷ more) never folder (inr not) reason =
       absurd (never_unchecked (AreNamedFiles (map string_bytes (path ∷ more)) input files) r (λ sources are. are.2.within) not of)
 
 module _ (choice : ListingsGiveOneChoice) (stand : OneStand) (root : List ℕ) (files : Contents) (told : List ℕ) where
   check_check : (given : List (List ℕ)) (r r2 : Refusal) → Unchecked given (Some told) files root r → Unchecked given (Some told) files root r2 → IsOneError r r2
   check_check [] r r2 one two = chosen_chosen root files choice r r2 one two
-  check_check (path ∷ more) r r2 one two =
-      given_given one.0 files told r r2 one.2 (subst (λ (ps : List (List ℕ)). Ungiven ps (Some told) files r2) (stand files (path ∷ more) two.0 one.0 two.1 one.1) two.2)
+  check_check (path ∷ more) r r2 (inl one) (inl two) =
+      given_given one.0 files told r r2 one.2 (subst (λ (ps : List (List ℕ)). Ungiven ps (Some told) files r2) (stand.0 files (path ∷ more) two.0 one.0 two.1 one.1) two.2)
+  check_check (path ∷ more) r r2 (inl one) (inr two) = absurd (stand.1 files (path ∷ more) one.0 r2 two one.1)
+  check_check (path ∷ more) r r2 (inr one) (inl two) = absurd (stand.1 files (path ∷ more) two.0 r one two.1)
+  check_check (path ∷ more) r r2 (inr one) (inr two) =
+      subst (λ (x : Refusal). IsOneError x r2) (sym one.says) (subst (λ (x : Refusal). IsOneError (Plain TooManyFiles) x) (sym two.says) refl)
 
   check_done : (given : List (List ℕ)) (sources : List Source) (r : Refusal) → AreCheckedFiles given root (Some told) files sources → Unchecked given (Some told) files root r → ⊥
   check_done [] sources r done not = chosen_done root files choice sources r done not
-  check_done (path ∷ more) sources r done not =
-      given_done done.0 told files sources done.2 r (subst (λ (ps : List (List ℕ)). Ungiven ps (Some told) files r) (stand files (path ∷ more) not.0 done.0 not.1 done.1) not.2)
+  check_done (path ∷ more) sources r done (inl not) =
+      given_done done.0 told files sources done.2 r (subst (λ (ps : List (List ℕ)). Ungiven ps (Some told) files r) (stand.0 files (path ∷ more) not.0 done.0 not.1 done.1) not.2)
+  check_done (path ∷ more) sources r done (inr full) = stand.1 files (path ∷ more) done.0 r full done.1
 
 module _ (header : OneHeader) (tree : OneTree) where
   abbrev pub Uncompared : (given : List (List ℕ)) (input : Option (List ℕ)) → Contents → (root : List ℕ) → Refusal → Type 0
@@ -171,8 +172,10 @@ module _ (header : OneHeader) (tree : OneTree) where
   Why fails U input files (Ask file device) root r = Unasked (string_bytes file) input files r
   Why fails U input files (Check paths allowed json) root r = Unchecked (map string_bytes paths.items) input files root r
   Why fails U input files (Near paths device limit json) root r = Uncompared (map string_bytes paths.items) input files root r
+  Why fails U input files (Test paths database json) root r = Untested (map string_bytes paths.items) (option_map string_bytes database) input files root r
   Why fails U input files (Update verbose skip) root r = Undated root files r
   Why fails U input files (Device path strings json pattern) root r = ⊥
+  Why fails U input files (Status json) root r = ⊥
 
   -- what a task says before all else
   abbrev pub said_first : Task → (root : List ℕ) (usr : Bool) → Contents → List ℕ
@@ -230,7 +233,15 @@ module _ (header : OneHeader) (tree : OneTree) where
     why (Near paths device limit json) kind never named not =
         let found = unprinted (IsNearRefused (map string_bytes paths.items) root before.files) (MayPrint (Near paths device limit json) root strict before.input.bytes before.files) r before.err now.err before.out now.out of not.0.0 in
         (uncompared fails root before.files before.input.bytes before.input.failures now.input.failures whole r of paths.items never found.0 not.1, left_then found.1 not.0.1.same)
+    why (Test paths database json) kind never named not =
+        let given = map string_bytes paths.items in
+        let path = option_map string_bytes database in
+        let found = unprinted (IsTestRefused given path root before.input.bytes before.files) (MayPrint (Test paths database json) root strict before.input.bytes before.files) r before.err now.err before.out now.out of not.0.0 in (
+          untested header given path root before.files fails (never_named fails root before.files path (λ p is. never p (inr is))) before.input.bytes before.input.failures now.input.failures never whole r not.1 of,
+          left_then found.1 not.0.1.same,
+        )
     why (Device path strings json pattern) kind never named not = absurd kind
+    why (Status json) kind never named not = absurd kind
     why (Update verbose skip) kind never named not =
         let found = undated root usr verbose r of (scene_of fails left before).files (scene_of fails_now left_now now).files first before.err now.err skip fails Unwritable kind tells never listed not.1 not.0.0 in
         (found.0, record { err = found.1.err; out = not.0.1; files = found.1.kept.same })
@@ -248,8 +259,10 @@ module _ (header : OneHeader) (tree : OneTree) where
     one_why fails fails2 U U2 files root r r2 (Ask file device) kind one two = ask_ask (string_bytes file) told files r r2 one two
     one_why fails fails2 U U2 files root r r2 (Check paths allowed json) kind one two = check_check choice stand root files told (map string_bytes paths.items) r r2 one two
     one_why fails fails2 U U2 files root r r2 (Near paths device limit json) kind one two = near_near root files told (map string_bytes paths.items) r r2 one two
+    one_why fails fails2 U U2 files root r r2 (Test paths database json) kind one two = test_test header (map string_bytes paths.items) (option_map string_bytes database) root files told r r2 one two
     one_why fails fails2 U U2 files root r r2 (Update verbose skip) kind one two = update_update choice reading root files r r2 one two
     one_why fails fails2 U U2 files root r r2 (Device path strings json pattern) kind one two = absurd kind
+    one_why fails fails2 U U2 files root r r2 (Status json) kind one two = absurd kind
 
   same_told : (one two one_now two_now : Told) → TellOne one two → one_now ≡ one → two_now ≡ two → one_now.bytes ≡ two_now.bytes
   same_told one two one_now two_now tell kept kept2 = ap (λ (t : Told). t.bytes) kept ∙ tell.of_one ∙ sym tell.of_two ∙ sym (ap (λ (t : Told). t.bytes) kept2)
@@ -272,7 +285,7 @@ module _ (header : OneHeader) (tree : OneTree) where
         one_out = same_told before.out before2.out now.out now2.out input.out left.out left2.out;
       }
 
-  pub errors_are_one : ListingsGiveOneChoice → ListingsGiveOneReading → OneStand → (fails fails_now fails2 fails2_now : List ℕ → Type 0) (left left_now left2 left2_now : Outcomes) → ErrorsAreOne fails fails_now fails2 fails2_now left left_now left2 left2_now
+  pub errors_are_one : ListingsGiveOneChoice → ListingsGiveOneReading → OneStand → (fails fails_now fails2 fails2_now : List ℕ → Type 0) (left left_now left2 left2_now : Outcomes) → EndAlike IsCovered fails fails_now fails2 fails2_now left left_now left2 left2_now
   errors_are_one choice reading stand fails fails_now fails2 fails2_now left left_now left2 left2_now = λ task root usr strict r r2 before now before2 now2 kind input is is2 not not2.
       let one = why fails fails_now left left_now root usr strict r before now is.of is.told is.listed input.err.bytes input.err.of_one stand task kind is.never is.named not in
       let two = why fails2 fails2_now left2 left2_now root usr strict r2 before2 now2 is2.of is2.told is2.listed input.err.bytes input.err.of_two stand task kind is2.never is2.named not2 in
@@ -309,7 +322,13 @@ module _ (header : OneHeader) (tree : OneTree) where
         let form = near_form json (string_bytes device) (near_limit limit) in
         near_done root before.files.seen told form given done.0.texts.out r
         (subst (λ (i : Option (List ℕ)). IsNear given root form i before.files.seen done.0.texts.out) tells done.0.are.1.1) not
+    not_both_ends (Test paths database json) kind done not =
+        let given = map string_bytes paths.items in
+        let path = option_map string_bytes database in
+        test_done header given path root before.files.seen told json done.0.texts.out status r
+        (subst (λ (i : Option (List ℕ)). IsTested json given path root i before.files.seen done.0.texts.out status) tells done.0.are.1) not
     not_both_ends (Device path strings json pattern) kind done not = absurd kind
+    not_both_ends (Status json) kind done not = absurd kind
     not_both_ends (Update verbose skip) kind done not =
         let place : List ℕ → Type 0 = λ database. InPlace (database_folder usr root) database before.files.seen now.files.seen now.files.left in
         let less = done.0.updated in
@@ -318,7 +337,7 @@ module _ (header : OneHeader) (tree : OneTree) where
         (subst (λ (l : List Choice). AreAllRead root (without l root before.files.seen)) none less.read)
         (all_read root verbose strict skip status before.files done.0.err_then now.err place (inl kind) less) not
 
-  pub done_is_no_error : ListingsGiveOneChoice → ListingsGiveOneReading → OneStand → OneForm → (fails fails_now fails2 fails2_now : List ℕ → Type 0) (left left_now left2 left2_now : Outcomes) → DoneIsNoError fails fails_now fails2 fails2_now left left_now left2 left2_now
+  pub done_is_no_error : ListingsGiveOneChoice → ListingsGiveOneReading → OneStand → OneForm → (fails fails_now fails2 fails2_now : List ℕ → Type 0) (left left_now left2 left2_now : Outcomes) → DoneEndsSo IsCovered fails fails_now fails2 fails2_now left left_now left2 left2_now
   done_is_no_error choice reading stand form fails fails_now fails2 fails2_now left left_now left2 left2_now = λ task root usr strict status r before now before2 now2 kind input is done not.
       let two = why fails2 fails2_now left2 left2_now root usr strict r before2 now2 is.of is.told is.listed input.err.bytes input.err.of_two stand task kind is.never is.named not in
       let U2 = IsUnwritable (database_folder usr root) before2.files before2.failures now2.failures in

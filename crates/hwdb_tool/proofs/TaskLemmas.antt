@@ -4,7 +4,7 @@ use Rattle.std.specs.Prelude.{option_map}
 use Rattle.std.specs.Option.{option_map_or}
 use Rattle.std.specs.Io.KnownBytes.{Appends}
 use Rattle.hwdb_spec.specs.declared.job.Task.{Task}
-use Rattle.hwdb_spec.specs.declared.job.Task.TheVariants.{Ask, Check, Device, Diff, Dump, Explain, List as ListHits, Near, Query, Update, Verify}
+use Rattle.hwdb_spec.specs.declared.job.Task.TheVariants.{Ask, Check, Device, Diff, Dump, Explain, List as ListHits, Near, Query, Status, Test, Update, Verify}
 use Rattle.hwdb_spec.specs.Done.{AreAskTexts, IsUpdated}
 use Rattle.hwdb_spec.specs.Databases.{IsDiffText, IsDifferent, IsSummary, IsTextOf}
 use Rattle.hwdb_spec.specs.Assignment.{Position}
@@ -24,6 +24,7 @@ use Rattle.hwdb_spec.specs.Program.{IsAnswerOf, IsTaskDone, streams}
 use Rattle.hwdb_spec.specs.System.{asked_database, bytes_at, database_folder}
 use Rattle.hwdb_spec.specs.Texts.{devices_of, query_text}
 use Rattle.hwdb_spec.specs.Tree.{Map, Tree, map_of_files}
+use Rattle.hwdb_spec.specs.Wanted.{test_status, test_text}
 use Rattle.hwdb_spec.specs.Written.{IsWritten}
 use Rattle.hwdb_query.specs.Laws.{SpellsOne}
 use Rattle.hwdb_spec.specs.declared.form.Form.{Form}
@@ -46,6 +47,7 @@ use Rattle.hwdb_spec.specs.Readable.{IsUpdatedLess}
 use Rattle.hwdb_spec.specs.Queries.{AreAnsweredFrom, IfNamed}
 use Rattle.hwdb_spec.specs.LoneFile.{lone}
 use Rattle.hwdb_tool.specs.OneOutcome.{AnswersAreOne, IsFunction, IsOneAnswer, IsOneInput, IsOneOutcome, LeavesNothingOut, Scene, scene_of, ListingsGiveOneChoice, ListingsGiveOneReading}
+use Rattle.hwdb_tool.proofs.StatusLemmas.{one_status_text}
 use Rattle.hwdb_tool.proofs.OutcomeLemmas.{one_answer, one_held, one_kept, one_map, one_place, one_said, one_status, one_taken, one_taken_then, one_text}
 
 -- an option has one value
@@ -146,7 +148,7 @@ module _ (tree : (bytes : List ℕ) (t u : Tree) → IsDatabase bytes t → IsDa
   output : (from_input : Bool) (root : List ℕ) (kind : Form) (devices : List (List ℕ)) (input : List ℕ) (files : Contents) (text text2 : List ℕ)
       → AreAnsweredFrom from_input root kind devices (Some input) files text → AreAnsweredFrom from_input root kind devices (Some input) files text2 → text ≡ text2
   output false root kind devices input files text text2 one two = one_answer tree root (texts_of kind devices) files text text2 one two
-  output true root kind devices input files text text2 one two = one_answer tree root (texts_of kind (devices_of input)) files text text2 one two
+  output true root kind devices input files text text2 one two = one_answer tree root (texts_of kind (devices_of input)) files text text2 one.1 two.1
 
   from : (after : Option (List ℕ)) (p q : Option Position) → IsFrom after p → IsFrom after q → p ≡ q
   from None None None one two = refl
@@ -181,6 +183,10 @@ module _ (tree : (bytes : List ℕ) (t u : Tree) → IsDatabase bytes t → IsDa
   nearest_one (path ∷ more) root print input files text text2 one two =
       let same : one.0 ≡ two.0 = one_given_sources input files one.0 two.0 (one.1.named ∙ sym two.1.named) one.1.held two.1.held in
       one.2 ∙ ap (λ (xs : List Source). print (patterns_from 1 xs)) same ∙ sym two.2
+
+  -- what test files give over a tree
+  tried_alike : {X : Type 0} (of : List Source → Tree → X) (xs ys : List Source) (t u : Tree) (x y : X) → xs ≡ ys → t ≡ u → x ≡ of xs t → y ≡ of ys u → x ≡ y
+  tried_alike of xs ys t u x y files trees one two = one ∙ ap (λ (zs : List Source). of zs t) files ∙ ap (λ (v : Tree). of ys v) trees ∙ sym two
 
   -- the texts of a task, and its status
   pub one_answer_of : AnswersAreOne
@@ -227,6 +233,17 @@ module _ (tree : (bytes : List ℕ) (t u : Tree) → IsDatabase bytes t → IsDa
     one_err = one.1.0 ∙ sym two.1.0;
     one_out = nearest_one (map string_bytes paths.items) root (near_form json (string_bytes device) (near_limit limit)) input files texts.out texts2.out one.1.1 two.1.1;
   }
+  one_answer_of (Test paths database json) = λ root strict input files status status2 texts texts2 one two.
+      let a = one.1 in
+      let b = two.1 in
+      let same : a.0 ≡ b.0 = one_given_sources input files a.0 b.0 (a.1.named ∙ sym b.1.named) a.1.held b.1.held in
+      let bytes = one_held (named_database (option_map string_bytes database) root files) b.2.bytes a.2.bytes b.2.named a.2.named in
+      let here = tree a.2.bytes a.2.is.tree b.2.is.tree a.2.is.database (subst (λ (bs : List ℕ). IsDatabase bs b.2.is.tree) bytes b.2.is.database) in
+      record {
+        one_status = tried_alike (λ (xs : List Source) (t : Tree). test_status xs t) a.0 b.0 a.2.is.tree b.2.is.tree status status2 same here a.2.is.says b.2.is.says;
+        one_err = one.0 ∙ sym two.0;
+        one_out = tried_alike (λ (xs : List Source) (t : Tree). test_text json xs t) a.0 b.0 a.2.is.tree b.2.is.tree texts.out texts2.out same here a.2.is.is b.2.is.is;
+      }
   one_answer_of (Diff old_path new_path) = λ root strict input files status status2 texts texts2 one two.
       let a = one.1 in
       let b = two.1 in
@@ -261,6 +278,9 @@ module _ (tree : (bytes : List ℕ) (t u : Tree) → IsDatabase bytes t → IsDa
         one_err = one.1.0 ∙ sym two.1.0;
         one_out = one_text tree dump_text a.bytes b.bytes texts.out texts2.out (one_held (named_database (option_map string_bytes database) root files) a.bytes b.bytes a.named b.named) a.is b.is;
       }
+  one_answer_of (Status json) = λ root strict input files status status2 texts texts2 one two.
+      let same = one_status_text tree form one_reading root json files texts.out texts2.out status status2 one.1 two.1 in
+      record { one_status = same.1; one_err = one.0 ∙ sym two.0; one_out = same.0 }
 
   -- what both outputs took of one answer
   one_end : (root : List ℕ) (usr : Bool) (status status2 : ℕ) (before now before2 now2 : Scene) → IsOneInput before before2

@@ -225,7 +225,7 @@ few_lines bytes short =
     let le = pieces_count (byte "\n") bytes in
     omega (arith, count, le, short)
 
-long_file : (sources : List Source) → All (λ (s : Source). length s.bytes ≤ max_file) sources → HasLongFile sources → ⊥
+pub long_file : (sources : List Source) → All (λ (s : Source). length s.bytes ≤ max_file) sources → HasLongFile sources → ⊥
 long_file sources short any =
     let few = few_lines any.1.bytes (All-contains (λ (s : Source). length s.bytes ≤ max_file) sources any.1 short (any.0, any.2, any.3)) in
     let many = any.4 in

@@ -1,6 +1,7 @@
 pub mod Views
 pub mod Laws
 pub mod Internal
+pub mod Statuses
 pub mod Colours
 pub mod Crash
 pub mod Failures

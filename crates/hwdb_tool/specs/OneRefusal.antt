@@ -4,7 +4,7 @@ use Rattle.std.specs.Prelude.{◌++◌, ◌<◌, ◌∷◌, ◌≡◌, ◌⊎◌
 use Rattle.hwdb_spec.specs.Asked.{database_path}
 use Rattle.hwdb_spec.specs.Failures.{HasFailed}
 use Rattle.hwdb_spec.specs.Given.{is_input}
-use Rattle.hwdb_spec.specs.System.{etc_files, usr_files}
+use Rattle.hwdb_spec.specs.System.{bytes_at, etc_files, usr_files}
 use Rattle.hwdb_spec.specs.ManyDevices.{HasLongLine}
 use Rattle.hwdb_spec.specs.Texts.{max_file}
 use Rattle.hwdb_spec.specs.Verdicts.{verdict_text}
@@ -14,11 +14,10 @@ use Rattle.hwdb_spec.specs.declared.errors.ToolError.{ToolError}
 use Rattle.hwdb_spec.specs.declared.errors.ToolError.TheVariants.{BadDatabase, Memory, Read, Replace, TooLong, Write}
 use Rattle.hwdb_spec.specs.declared.job.WordsFault.TheVariants as words_fault
 use Rattle.hwdb_spec.specs.declared.job.Task.{Task}
-use Rattle.hwdb_spec.specs.declared.job.Task.TheVariants.{Ask, Check, Device, Diff, Dump, Explain, List as ListHits, Near, Query, Update, Verify}
+use Rattle.hwdb_spec.specs.declared.job.Task.TheVariants.{Ask, Check, Device, Diff, Dump, Explain, List as ListHits, Near, Query, Status, Test, Update, Verify}
 use Rattle.hwdb_spec.specs.Runs.{Told}
 use Rattle.hwdb_spec.specs.CheckedFiles.{StandFor, folder_of}
 use Rattle.hwdb_spec.specs.Store.{Contents, Outcomes, path_in}
-use Rattle.hwdb_spec.specs.GivenFolders.{AreFoldersUnread}
 use Rattle.hwdb_tool.specs.OneOutcome.{IsOneInput, Scene, scene_of}
 use Rattle.hwdb_spec.specs.Program.{IsJobDone, IsTaskDone, reads_input, root_of, streams}
 use Rattle.hwdb_spec.specs.TaskRefusals.{AreRefused, IsJobRefused, IsNotDone, IsRootRefused}
@@ -58,8 +57,8 @@ IsOneError NoDatabase NoDatabase = Unit {0}
 IsOneError (InWords text) (InWords text2) = IsOneText text.items text2.items
 IsOneError refusal refusal2 = ⊥
 
--- The task leaves out no file that can't be read, and doesn't answer devices of standard input, each as it comes. It isn't `device`:
--- what is read of sysfs is no file of the law.
+-- The task leaves out no file that can't be read, and prints its answer at once. It isn't `device`: what is read of sysfs is no file of
+-- the law. Nor is it `status`.
 abbrev pub IsCovered : Task → Type 0
 IsCovered (Update verbose skip) = skip ≡ false
 IsCovered (Query devices json) = is_input (map string_bytes devices.items) ≡ false
@@ -68,10 +67,20 @@ IsCovered (ListHits after limit device json) = Unit {0}
 IsCovered (Ask file device) = Unit {0}
 IsCovered (Check files allowed json) = Unit {0}
 IsCovered (Near files device limit json) = Unit {0}
+IsCovered (Test files database json) = Unit {0}
 IsCovered (Diff old new) = Unit {0}
 IsCovered (Verify database) = Unit {0}
 IsCovered (Dump database) = Unit {0}
+IsCovered (Status json) = ⊥
 IsCovered (Device path strings json pattern) = ⊥
+
+-- it answers devices of standard input, each as it comes
+abbrev pub IsStream : Task → Type 0
+IsStream task = streams task ≡ true
+
+-- the laws speak of the task
+abbrev pub IsOfLaw : Task → Type 0
+IsOfLaw task = IsCovered task ⊎ IsStream task
 
 -- the path is one of a database that is read: the given one, or without one that of /etc's or of /usr/lib's
 abbrev pub IsOfDatabase : (given : Option (List ℕ)) (root path : List ℕ) → Type 0
@@ -92,11 +101,16 @@ abbrev pub IsOfCompared : (given : List (List ℕ)) (root path : List ℕ) → T
 IsOfCompared [] root path = IsOfDatabase None root path
 IsOfCompared (first ∷ more) root path = Contains (first ∷ more) path
 
+-- the path is one that `test` reads: a given one, or that of its database
+abbrev pub IsOfTried : (given : List (List ℕ)) (database : Option (List ℕ)) (root path : List ℕ) → Type 0
+IsOfTried given database root path = Contains given path ⊎ IsOfDatabase database root path
+
 -- such a task may read the path
 abbrev pub MayRead : Task → (root path : List ℕ) → Type 0
 MayRead (Update verbose skip) root path = IsOfFolders root path
 MayRead (Check files allowed json) root path = IsOfChecked (map string_bytes files.items) root path
 MayRead (Near files device limit json) root path = IsOfCompared (map string_bytes files.items) root path
+MayRead (Test files database json) root path = IsOfTried (map string_bytes files.items) (option_map string_bytes database) root path
 MayRead (Ask file device) root path = path ≡ string_bytes file
 MayRead (Diff old new) root path = (path ≡ string_bytes old) ⊎ (path ≡ string_bytes new)
 MayRead (Verify database) root path = IsOfDatabase (option_map string_bytes database) root path
@@ -111,9 +125,10 @@ NeverFails fails task root = (path : List ℕ) → MayRead task root path → fa
 abbrev pub IsOfListing : (root : List ℕ) → Refusal → Type 0
 IsOfListing root refusal = IsOver TooLong (etc_files root) refusal ⊎ IsOver TooLong (usr_files root) refusal
 
--- the error is that of a folder that the words of `check` name: it can't be listed, or has too many text files
+-- the same of a folder that the words of `check` name: no file is there
 abbrev pub IsOfNamedFolder : Task → Contents → Refusal → Type 0
-IsOfNamedFolder (Check files allowed json) contents refusal = AreFoldersUnread contents (map string_bytes files.items) refusal
+IsOfNamedFolder (Check files allowed json) contents refusal =
+    (path : List ℕ) × Contains (map string_bytes files.items) path × IsOver TooLong (folder_of path) refusal × (bytes_at contents (folder_of path) ≡ None)
 IsOfNamedFolder task contents refusal = ⊥
 
 -- The error of a task comes of what it reads: no reading may fail, and none of standard input has. Memory was granted, both
@@ -133,34 +148,41 @@ pub record IsOneEnd (refusal refusal2 : Refusal) (now now2 : Scene) : Type 0 whe
   pub one_out : now.out.bytes ≡ now2.out.bytes
 
 -- ---- laws
--- Such a task ends with one error over one input, if its errors come of what it reads. What a crash may leave, and which readings may
--- fail later, is any.
-abbrev pub ErrorsAreOne : (fails fails_now fails2 fails2_now : (path : List ℕ) → Type 0) (left left_now left2 left2_now : Outcomes) → Type 0
-ErrorsAreOne fails fails_now fails2 fails2_now left left_now left2 left2_now =
+-- Tasks of such a kind end with one error over one input, if their errors come of what they read. What a crash may leave, and which
+-- readings may fail later, is any.
+abbrev pub EndAlike : (Kind : Task → Type 0) (fails fails_now fails2 fails2_now : (path : List ℕ) → Type 0) (left left_now left2 left2_now : Outcomes) → Type 0
+EndAlike Kind fails fails_now fails2 fails2_now left left_now left2 left2_now =
     (task : Task) (root : List ℕ) (usr strict : Bool) (refusal refusal2 : Refusal) (before now before2 now2 : Scene)
-    → IsCovered task → IsOneInput before before2 → IsOfReading fails task root before now refusal → IsOfReading fails2 task root before2 now2 refusal2
+    → Kind task → IsOneInput before before2 → IsOfReading fails task root before now refusal → IsOfReading fails2 task root before2 now2 refusal2
     → IsNotDone task root usr strict (scene_of fails left before) (scene_of fails_now left_now now) refusal
     → IsNotDone task root usr strict (scene_of fails2 left2 before2) (scene_of fails2_now left2_now now2) refusal2
     → IsOneEnd refusal refusal2 now now2
 
--- And a task that may be done over that input doesn't end with such an error.
-abbrev pub DoneIsNoError : (fails fails_now fails2 fails2_now : (path : List ℕ) → Type 0) (left left_now left2 left2_now : Outcomes) → Type 0
-DoneIsNoError fails fails_now fails2 fails2_now left left_now left2 left2_now =
+abbrev pub ErrorsAreOne : (fails fails_now fails2 fails2_now : (path : List ℕ) → Type 0) (left left_now left2 left2_now : Outcomes) → Type 0
+ErrorsAreOne = EndAlike IsOfLaw
+
+-- And one that may be done over that input doesn't end with such an error.
+abbrev pub DoneEndsSo : (Kind : Task → Type 0) (fails fails_now fails2 fails2_now : (path : List ℕ) → Type 0) (left left_now left2 left2_now : Outcomes) → Type 0
+DoneEndsSo Kind fails fails_now fails2 fails2_now left left_now left2 left2_now =
     (task : Task) (root : List ℕ) (usr strict : Bool) (status : ℕ) (refusal : Refusal) (before now before2 now2 : Scene)
-    → IsCovered task → IsOneInput before before2 → IsOfReading fails2 task root before2 now2 refusal
+    → Kind task → IsOneInput before before2 → IsOfReading fails2 task root before2 now2 refusal
     → IsTaskDone task root usr strict status (scene_of fails left before) (scene_of fails_now left_now now)
     → IsNotDone task root usr strict (scene_of fails2 left2 before2) (scene_of fails2_now left2_now now2) refusal → ⊥
+
+abbrev pub DoneIsNoError : (fails fails_now fails2 fails2_now : (path : List ℕ) → Type 0) (left left_now left2 left2_now : Outcomes) → Type 0
+DoneIsNoError = DoneEndsSo IsOfLaw
 
 -- ---- of standard input
 -- the path is that of a folder that the words name, or of something in it
 abbrev pub IsInNamed : (given : List (List ℕ)) (path : List ℕ) → Type 0
 IsInNamed given path = (named : List ℕ) × Contains given named × ((path ≡ folder_of named) ⊎ ((name : List ℕ) × (path ≡ path_in (folder_of named) name)))
 
--- the words of a task name text files, or of `check` folders, and this path is among them
+-- the words of a task name text files, folders of `check` or the database of `test`, and this path is among them
 abbrev pub NamesFile : Task → Contents → (path : List ℕ) → Type 0
 NamesFile (Check files allowed json) contents path =
     ((paths : List (List ℕ)) × StandFor contents (map string_bytes files.items) paths × Contains paths path) ⊎ IsInNamed (map string_bytes files.items) path
 NamesFile (Near files device limit json) contents path = Contains (map string_bytes files.items) path
+NamesFile (Test files database json) contents path = Contains (map string_bytes files.items) path ⊎ (option_map string_bytes database ≡ Some path)
 NamesFile task contents path = ⊥
 
 -- the task reads text files that its words name
@@ -168,6 +190,7 @@ abbrev pub ReadsTexts : Task → Type 0
 ReadsTexts (Ask file device) = Unit {0}
 ReadsTexts (Check files allowed json) = Unit {0}
 ReadsTexts (Near files device limit json) = Unit {0}
+ReadsTexts (Test files database json) = Unit {0}
 ReadsTexts task = ⊥
 
 -- If a task reads standard input, it says that this can't be read only if a call of it failed. A text file may have that name, too.
@@ -198,23 +221,29 @@ scene_then err scene = record { files = scene.files; failures = scene.failures; 
 
 -- Words that ask for such a task end with one status and one error over one input, if it comes of what is read. Before its line
 -- both outputs are the same.
-abbrev pub JobEndsInOneError : (fails fails_now fails2 fails2_now : (path : List ℕ) → Type 0) (left left_now left2 left2_now : Outcomes) → Type 0
-JobEndsInOneError fails fails_now fails2 fails2_now left left_now left2 left2_now =
+abbrev pub JobsEndAlike : (Kind : Task → Type 0) (fails fails_now fails2 fails2_now : (path : List ℕ) → Type 0) (left left_now left2 left2_now : Outcomes) → Type 0
+JobsEndAlike Kind fails fails_now fails2 fails2_now left left_now left2 left2_now =
     (words : List (List ℕ)) (status status2 : ℕ) (before now before2 now2 : Scene)
     → IsOneInput before before2
     → (one : IsJobRefused words status (scene_of fails left before) (scene_of fails_now left_now now))
     → (two : IsJobRefused words status2 (scene_of fails2 left2 before2) (scene_of fails2_now left2_now now2))
-    → IsCovered one.job.task
+    → Kind one.job.task
     → IsOfReading fails one.job.task (root_of one.job) before now one.refusal → IsOfReading fails2 two.job.task (root_of two.job) before2 now2 two.refusal
     → (status ≡ status2) × IsOneEnd one.refusal two.refusal (scene_then one.err_then now) (scene_then two.err_then now2)
 
+abbrev pub JobEndsInOneError : (fails fails_now fails2 fails2_now : (path : List ℕ) → Type 0) (left left_now left2 left2_now : Outcomes) → Type 0
+JobEndsInOneError = JobsEndAlike IsOfLaw
+
 -- What they ask for isn't done over an input over which it may end so.
-abbrev pub DoneJobIsNoError : (fails fails_now fails2 fails2_now : (path : List ℕ) → Type 0) (left left_now left2 left2_now : Outcomes) → Type 0
-DoneJobIsNoError fails fails_now fails2 fails2_now left left_now left2 left2_now =
+abbrev pub DoneJobEndsSo : (Kind : Task → Type 0) (fails fails_now fails2 fails2_now : (path : List ℕ) → Type 0) (left left_now left2 left2_now : Outcomes) → Type 0
+DoneJobEndsSo Kind fails fails_now fails2 fails2_now left left_now left2 left2_now =
     (words : List (List ℕ)) (status status2 : ℕ) (before now before2 now2 : Scene) → IsOneInput before before2
     → (done : IsJobDone words status (scene_of fails left before) (scene_of fails_now left_now now))
     → (refused : IsJobRefused words status2 (scene_of fails2 left2 before2) (scene_of fails2_now left2_now now2))
-    → IsCovered done.job.task → IsOfReading fails2 refused.job.task (root_of refused.job) before2 now2 refused.refusal → ⊥
+    → Kind done.job.task → IsOfReading fails2 refused.job.task (root_of refused.job) before2 now2 refused.refusal → ⊥
+
+abbrev pub DoneJobIsNoError : (fails fails_now fails2 fails2_now : (path : List ℕ) → Type 0) (left left_now left2 left2_now : Outcomes) → Type 0
+DoneJobIsNoError = DoneJobEndsSo IsOfLaw
 
 -- The root is entered, if looking at it can't fail, but for want of memory.
 abbrev pub RootIsEntered : (fails fails_now : (path : List ℕ) → Type 0) (left left_now : Outcomes) → Type 0

@@ -81,12 +81,13 @@ fn check_named<D: System, I: Source>(
         (I.failures input.old) (I.failures input.new) (map string_bytes given.now)) }
 {
     let paths = named_files(alloc, given, system)?;
-    check_given(alloc, &paths, json, allowed, strict, system, input)
+    check_given(alloc, given, &paths, json, allowed, strict, system, input)
 }
 
-/// The same of the files that are given.
+/// The same of the files with these paths. What a folder lists, and none of the words names, is a regular file.
 fn check_given<D: System, I: Source>(
     alloc: Global,
+    words: &[String],
     given: &[String],
     json: bool,
     allowed: &[String],
@@ -107,7 +108,7 @@ fn check_given<D: System, I: Source>(
         (I.left input.old) (I.failures input.old) (I.failures input.new)) }
 {
     let text = input_text(alloc, given, input)?;
-    let texts = read_given(alloc, given, &text, system)?;
+    let texts = read_given(alloc, words, given, &text, system)?;
     let files = with_paths(alloc, given, &texts)?;
     check_read(alloc, &files, json, allowed, strict)
 }
@@ -157,9 +158,24 @@ fn check_read(
     }
 }
 
-/// What each of the given files has, where standard input had this text.
+/// Whether a path is one of the words: mostly it is the one at its own place.
+fn is_named(words: &[String], place: usize, path: &str) -> bool {
+    if place < words.len() && words[place].as_str() == path {
+        return true;
+    }
+    for word in words {
+        if word.as_str() == path {
+            return true;
+        }
+    }
+    false
+}
+
+/// What each of the given files has, where standard input had this text. A file that none of the words names has to be a regular
+/// one: an open of a pipe would wait.
 pub fn read_given<D: System>(
     alloc: Global,
+    words: &[String],
     given: &[String],
     text: &[u8],
     system: &D,
@@ -176,7 +192,9 @@ pub fn read_given<D: System>(
 {
     let mut texts = Vec::new(alloc);
     for path in given {
-        let bytes = bytes_given(alloc, path.as_str(), text, system)?;
+        let path = path.as_str();
+        let is_named = is_named(words, texts.len(), path);
+        let bytes = bytes_given(alloc, path, is_named, text, system)?;
         texts.push(bytes).map_err(AllocError::from)?;
     }
     Ok(texts)

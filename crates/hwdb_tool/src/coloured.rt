@@ -91,6 +91,7 @@ pub fn kind_of(task: &Task) -> TextKind {
         Task::Explain { json: false, .. } => TextKind::Origins,
         Task::List { json: false, .. } => TextKind::Hits,
         Task::Check { json: false, .. } | Task::Near { json: false, .. } => TextKind::Reports,
+        Task::Test { json: false, .. } => TextKind::Reports,
         Task::Diff { .. } => TextKind::Changes,
         Task::Verify { .. } => TextKind::Counts,
         Task::Dump { .. } => TextKind::Records,

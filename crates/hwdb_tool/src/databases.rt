@@ -13,9 +13,9 @@ use hwdb_fs::{Refusal, System, joined, path_in};
 use hwdb_replace::DATABASE;
 use std::alloc::{AllocError, Global};
 
-const ETC_FOLDER: &str = "/etc/udev";
+pub(crate) const ETC_FOLDER: &str = "/etc/udev";
 
-const USR_FOLDER: &str = "/usr/lib/udev";
+pub(crate) const USR_FOLDER: &str = "/usr/lib/udev";
 
 /// A database that was read, and where it stands.
 #[derive(Drop)]
@@ -49,7 +49,7 @@ pub fn asked<D: System>(alloc: Global, root: &str, system: &D) -> Result<FoundDa
 }
 
 /// The database in a folder below the root, if something stands there.
-fn found_in<D: System>(
+pub(crate) fn found_in<D: System>(
     alloc: Global,
     root: &str,
     folder: &str,

@@ -22,6 +22,8 @@ use crate::near_misses::near;
 use crate::outlet::Outlet;
 use crate::printing::printed;
 use crate::queries::query;
+use crate::statuses::status;
+use crate::trials::test;
 use crate::verification::verify;
 use hwdb_cli::{Job, Task, WordsFault, read_words};
 use hwdb_fs::{Machine, Refusal, Rooted, refuse_for, refuse_memory};
@@ -29,8 +31,9 @@ use hwdb_io::{Sink, Source, write_text};
 use hwdb_print::ToolError;
 use std::alloc::Global;
 
-/// Does what the words say, the first of which is the program's name, and returns the status: 0; 1 where `check` or
-/// `diff` finds something, or `--strict` says so, and after a refusal, whose line goes to `err`; 2 after one of `diff`.
+/// Does what the words say, the first of which is the program's name, and returns the status: 0; 1 where `check`, `test` or
+/// `diff` finds something, the database of `status` isn't fresh, or `--strict` says so, and after a refusal, whose line goes
+/// to `err`; 2 after one of `diff`.
 /// Words that the command doesn't take, and that ask for no help, are refused. Where the reader of `out` went away the
 /// status is 0, and nothing is said. Of `input` only a command reads that is given `-`.
 pub fn program<D: Machine, I: Source, O: Outlet, E: Sink>(
@@ -114,6 +117,7 @@ fn looks_below_root(task: &Task) -> bool
         Task::Ask { .. } | Task::Diff { .. } => false,
         Task::Check { files, .. } | Task::Near { files, .. } => files.is_empty(),
         Task::Verify { database } | Task::Dump { database } => database.is_none(),
+        Task::Test { database, .. } => database.is_none(),
         _ => true,
     }
 }
@@ -162,7 +166,7 @@ fn refused_status(task: &Task) -> u8
     }
 }
 
-/// Does the job, and returns the status: 1 where `check` or `diff` finds something or `--strict` says so, else 0.
+/// Does the job, and returns the status: 1 where `check`, `test` or `diff` finds something or `--strict` says so, else 0.
 fn run<D: Machine, I: Source, O: Sink, E: Sink>(
     alloc: Global,
     job: &Job,
@@ -252,6 +256,15 @@ fn run<D: Machine, I: Source, O: Sink, E: Sink>(
             let answer = near(alloc, root, files, device, *limit, *json, system, input);
             printed(answer, out, err)
         }
+        Task::Test {
+            files,
+            database,
+            json,
+        } => {
+            let database = text_of(database);
+            let answer = test(alloc, root, files, database, *json, system, input);
+            printed(answer, out, err)
+        }
         Task::Device {
             path,
             strings,
@@ -266,6 +279,7 @@ fn run<D: Machine, I: Source, O: Sink, E: Sink>(
         Task::Diff { old, new } => {
             printed(diff(alloc, old.as_str(), new.as_str(), system), out, err)
         }
+        Task::Status { json } => printed(status(alloc, root, *json, system), out, err),
         Task::Verify { database } => {
             printed(verify(alloc, root, text_of(database), system), out, err)
         }

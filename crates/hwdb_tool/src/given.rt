@@ -1,6 +1,7 @@
 //! The files that words name: `-` is standard input, which is read once.
 ghost use Rattle.std.specs.Prelude.{◌≡◌, ◌≤◌, ◌⊎◌, Some, true, false, codes, map, string_bytes, length, IfOk, IfErr, IfSome};
 ghost use Rattle.hwdb_spec.specs.Given.{IsGiven, is_dash, any_dash};
+ghost use Rattle.hwdb_spec.specs.System.{bytes_at};
 ghost use Rattle.hwdb_spec.specs.Refusals.{HasReason, IsUnread, IsUnreadAt, IsUnreadable};
 ghost use Rattle.hwdb_tool.specs.Internal.{bytes_given};
 ghost use Rattle.hwdb_spec.specs.Queries.{IsOfWholeInput, IsWholeInputUnread};
@@ -105,10 +106,35 @@ pub fn input_text<I: Source>(
     }
 }
 
-/// What a path has, where standard input had this text.
+/// What a file has. One that a word names is read, whatever it is; one that a folder lists, if it is a regular file.
+fn file_bytes<D: System>(
+    alloc: Global,
+    path: &str,
+    is_named: bool,
+    system: &D,
+) -> Result<Vec<u8>, Refusal>
+    ensures bytes { D.Store.tells → IfOk result
+        (λ bytes. bytes_at (D.Store.seen system.now) path.now ≡ Some bytes.items) }
+    ensures within { IfOk result (λ bytes. length bytes.items ≤ max_file) }
+    ensures refused { IfErr result (IsUnread path.now) }
+    ensures unread { D.Store.tells → IfErr result
+        (IsUnreadAt (D.Store.seen system.now) path.now) }
+    ensures reason { IfErr result (HasReason
+        (IsUnreadable (D.System.may_fail system.now) (D.Store.seen system.now)) ⊥
+        (D.Store.seen system.now)) }
+{
+    if is_named {
+        system.input(alloc, path)
+    } else {
+        system.text(alloc, path)
+    }
+}
+
+/// What a path has, where standard input had this text. A word may name it, or a folder lists it.
 pub fn bytes_given<D: System>(
     alloc: Global,
     path: &str,
+    is_named: bool,
     text: &[u8],
     system: &D,
 ) -> Result<Vec<u8>, Refusal>
@@ -126,6 +152,6 @@ pub fn bytes_given<D: System>(
     if is_dash(path) {
         Ok(text.to_vec(alloc)?)
     } else {
-        system.input(alloc, path)
+        file_bytes(alloc, path, is_named, system)
     }
 }

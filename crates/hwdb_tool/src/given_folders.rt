@@ -86,7 +86,7 @@ fn files_at<D: System>(alloc: Global, path: &str, system: &D) -> Result<Vec<Stri
     ensures files { D.Store.tells → is_dash path.now ≡ false → IfOk result (λ own. StandsFor
         (is_file (D.Store.seen system.now) path.now) (D.Store.seen system.now) path.now
         (map string_bytes own.items)) }
-    ensures refused { D.Store.tells → IfErr result
+    ensures refused { D.Store.tells → is_dash path.now ≡ false → IfErr result
         (IsFolderUnread (D.Store.seen system.now) path.now) }
     ensures reason { IfErr result
         (HasReason (D.System.may_fail system.now) ⊥ (D.Store.seen system.now)) }
@@ -133,7 +133,7 @@ fn put_all(paths: &mut Vec<String>, own: Vec<String>) -> Result<(), AllocError>
 /// The text files for which the given paths stand, in their order: those of a folder by name. A path stands for itself if a file is
 /// there, or a folder without text files; `-` does.
 ///
-/// Errors are a folder that can't be listed, and one with more than 65,535 text files.
+/// Errors are a folder that can't be listed, and one with more than 65,535 text files: that of the first such path.
 pub fn named_files<D: System>(
     alloc: Global,
     given: &[String],

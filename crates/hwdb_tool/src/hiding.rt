@@ -20,7 +20,7 @@ use hwdb_replace::DATABASE;
 use std::alloc::{AllocError, Global};
 
 /// The path of the database of a folder below the root.
-fn database_path(alloc: Global, root: &str, usr: bool) -> Result<String, AllocError>
+pub(crate) fn database_path(alloc: Global, root: &str, usr: bool) -> Result<String, AllocError>
     ensures { IfOk result (λ path. string_bytes path ≡ database_path usr root.now) }
 {
     let folder = database_folder(alloc, root, usr)?;

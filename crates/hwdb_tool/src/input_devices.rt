@@ -1,10 +1,11 @@
 //! `query -` and `explain -`: the devices that standard input names.
-ghost use Rattle.std.specs.Prelude.{◌≡◌, ◌⊎◌, IfErr, IfOk, IfSome, OnOk, true};
+ghost use Rattle.std.specs.Prelude.{◌≡◌, ◌⊎◌, IfErr, IfOk, IfSome, None, OnOk, true};
 ghost use Rattle.hwdb_spec.specs.Flushing.{HandsOn};
 ghost use Rattle.hwdb_spec.specs.Outputs.{TookOne};
 ghost use Rattle.hwdb_spec.specs.Runs.{told_by};
 ghost use Rattle.hwdb_spec.specs.Texts.{devices_of};
 ghost use Rattle.hwdb_spec.specs.Databases.{IsTextOf};
+ghost use Rattle.hwdb_spec.specs.AnsweredLines.{line_error};
 ghost use Rattle.hwdb_spec.specs.Streams.{texts_of};
 ghost use Rattle.hwdb_spec.specs.Asked.{IsAnswered};
 ghost use Rattle.hwdb_spec.specs.Queries.{IsOfInput, IsStreamRefused};
@@ -29,6 +30,8 @@ pub fn answer_input<D: System, I: Source, O: Sink>(
     ensures answered { D.Store.tells → OnOk result (IfSome (I.left input.old) (λ text. TookOne
         (IsAnswered root.now (IsTextOf (texts_of form (devices_of text))) (D.Store.seen system.now))
         (O.taken out.old) (O.taken out.new) (O.failures out.old) (O.failures out.new))) }
+    ensures all { OnOk result
+        (IfSome (I.left input.old) (λ text. line_error (devices_of text) ≡ None)) }
     ensures refused { D.Store.tells → IfErr result (λ r. IsStreamRefused root.now form
         (I.left input.old) (D.Store.seen system.now) r
         (told_by O.taken O.failures out.old) (told_by O.taken O.failures out.new)) }

@@ -12,11 +12,13 @@
 //! | `answers` | `explain`, `list` and `ask` |
 //! | `input_devices` | `query -` and `explain -`: the devices that standard input names |
 //! | `checks` | `check` |
+//! | `trials` | `test` |
 //! | `near_misses` | `near` |
 //! | `devices` | `device`; `missing`: what is said if there is no sysfs, or no such device |
 //! | `differences` | `diff` |
 //! | `verification` | `verify`; `verdicts`: its words on bytes that are no database |
 //! | `dumps` | `dump` |
+//! | `statuses` | `status` |
 //! | `databases` | the database that a command asks for |
 //! | `given` | files that words name, or standard input |
 //! | `given_folders` | the text files for which the paths of `check` stand |
@@ -54,6 +56,8 @@ mod outlet;
 mod printing;
 mod progress;
 mod queries;
+mod statuses;
+mod trials;
 mod updates;
 mod verdicts;
 mod verification;
@@ -83,4 +87,6 @@ pub use one_outcome::{answers_are_one, jobs_are_one, listings_give_one_reading, 
 pub use one_refusal::{errors_are_one, input_errors_are_so, words_end_in_one};
 pub use outlet::Outlet;
 pub use queries::query;
+pub use statuses::status;
+pub use trials::test;
 pub use verification::verify;

@@ -129,7 +129,7 @@ fn near_given<D: System, I: Source>(
         (I.left input.old) (I.failures input.old) (I.failures input.new)) }
 {
     let text = input_text(alloc, given, input)?;
-    let texts = read_given(alloc, given, &text, system)?;
+    let texts = read_given(alloc, given, given, &text, system)?;
     let files = with_paths(alloc, given, &texts)?;
     let compared = compared(alloc, &files)?;
     let told = near_in_files(alloc, &compared, device, limit, json)?;

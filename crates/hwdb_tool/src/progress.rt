@@ -22,7 +22,7 @@ use std::alloc::{AllocError, Global};
 use std::collections::BTreeSet;
 
 /// Whether a chosen file masks one of /usr/lib, whose names are in the set.
-fn masks(file: &Chosen, set: &BTreeSet<&str>) -> bool
+pub(crate) fn masks(file: &Chosen, set: &BTreeSet<&str>) -> bool
     ensures { (listed : List (List ℕ)) → IsNameSet listed set.now
         → result ≡ masks listed (choice_of file.now) }
 {

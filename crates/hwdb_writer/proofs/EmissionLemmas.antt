@@ -52,11 +52,6 @@ kept_front a b c n e f = (λ i. take (e i) (f i)) ∙ take-append_seam a b
 pub kept_back : (a b c : List ℕ) (n : ℕ) → n ≡ length a → c ≡ a ++ b → drop n c ≡ b
 kept_back a b c n e f = (λ i. drop (e i) (f i)) ∙ drop-append_seam a b
 
--- six pieces, one after another
-pub six : (o a b d e f g p q r s t u : List ℕ) → a ≡ o ++ p → b ≡ a ++ q → d ≡ b ++ r → e ≡ d ++ s → f ≡ e ++ t → g ≡ f ++ u → g ≡ o ++ (p ++ q ++ r ++ s ++ t ++ u)
-six o a b d e f g p q r s t u h i j k l m =
-    m ∙ ap (λ x. x ++ u) (l ∙ ap (λ x. x ++ t) (k ∙ ap (λ x. x ++ s) (j ∙ ap (λ x. x ++ r) (i ∙ ap (λ x. x ++ q) h)))) ∙ (simp append_assoc)
-
 -- three pieces
 pub three : (o a b d p q r : List ℕ) → a ≡ o ++ p → b ≡ a ++ q → d ≡ b ++ r → d ≡ o ++ (p ++ (q ++ r))
 three o a b d p q r e f g = g ∙ ap (λ x. x ++ r) (f ∙ ap (λ x. x ++ q) e) ∙ (simp append_assoc)

@@ -15,6 +15,7 @@ pub mod DistinctLemmas
 pub mod PlaceLemmas
 pub mod LengthLemmas
 pub mod EmissionLemmas
+pub mod NumberLemmas
 pub mod WholeLemmas
 pub mod MadeLemmas
 pub mod SoundnessLemmas

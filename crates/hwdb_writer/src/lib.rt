@@ -11,6 +11,7 @@
 mod assignments;
 mod builder;
 mod entries;
+mod hints;
 mod interner;
 mod keyed;
 mod laws;

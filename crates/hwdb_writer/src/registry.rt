@@ -40,11 +40,4 @@ impl Registry {
             *remembered = place;
         }
     }
-
-    /// Remembers the place of each of the strings.
-    pub fn remember_all(&mut self, words: &[KeyedStr<'_>]) {
-        for (place, word) in words.iter().enumerate() {
-            self.remember(word, place);
-        }
-    }
 }

@@ -7,9 +7,9 @@ ghost use Rattle.hwdb_spec.specs.Written.{section_of, place_of};
 ghost use Rattle.hwdb_spec.specs.Assignment.{ascending};
 ghost use Rattle.hwdb_writer.specs.Internal.Places.{starts_from, IsTable, place_in};
 
+use crate::hints::{hint_at, hints_of};
 use crate::interner::Interner;
 use crate::keyed::KeyedStr;
-use crate::registry::Registry;
 use std::alloc::{AllocError, Global};
 
 /// The strings in order, the offset of each, and that of the first one.
@@ -20,13 +20,15 @@ pub struct StringTable<'a, 't> {
     pub first: usize,
 }
 
-/// Copies of the strings.
+/// Copies of the strings, each marked with its number.
 fn copies<'t>(alloc: Global, words: &[KeyedStr<'t>]) -> Result<Vec<KeyedStr<'t>>, AllocError>
     ensures { IfOk result (λ v. v.items ≡ words.now) }
 {
     let mut copies = Vec::with_capacity(alloc, words.len())?;
+    let mut number = 0u32;
     for word in words {
-        copies.push(word.copied())?;
+        copies.push(word.marked(number))?;
+        number = number.wrapping_add(1);
     }
     Ok(copies)
 }
@@ -69,13 +71,12 @@ pub fn starts(alloc: Global, words: &[KeyedStr<'_>], first: usize) -> Result<Vec
 
 /// The offset of the string, or the one at which it would belong. It is looked for first at the remembered place, and
 /// then by halving.
-fn place(table: &StringTable<'_, '_>, registry: &Registry, word: &KeyedStr<'_>) -> usize
+fn place(table: &StringTable<'_, '_>, remembered: usize, word: &KeyedStr<'_>) -> usize
     requires { IsTable table.now }
     ensures { result ≡ place_in table.now word.now }
 {
     let words = table.words;
     let starts = table.starts;
-    let remembered = registry.lookup(word);
     if remembered < words.len() {
         if words[remembered] == *word {
             return starts[remembered];
@@ -87,25 +88,27 @@ fn place(table: &StringTable<'_, '_>, registry: &Registry, word: &KeyedStr<'_>) 
     }
 }
 
-/// The offset of each of the strings by the table.
+/// The offset of each of the strings by the table. A string is looked for first at the hint for its number.
 fn places_in(
     alloc: Global,
     table: &StringTable<'_, '_>,
-    registry: &Registry,
+    hints: &[u32],
     words: &[KeyedStr<'_>],
 ) -> Result<Vec<usize>, AllocError>
     requires { IsTable table.now }
     ensures { IfOk result (λ places. places.items ≡ map (place_in table.now) words.now) }
 {
     let mut places = Vec::with_capacity(alloc, words.len())?;
+    let mut number = 0usize;
     for word in words {
-        places.push(place(table, registry, word))?;
+        places.push(place(table, hint_at(hints, number), word))?;
+        number = number.wrapping_add(1);
     }
     Ok(places)
 }
 
-/// Returns each interned string's offset. `ordered` is the sorted table of all of them, starting at `first`. Consumes
-/// the interner.
+/// Returns each interned string's offset. `ordered` is the sorted table of all of them, starting at `first`, marked with
+/// their numbers. Consumes the interner.
 pub fn places_of(
     alloc: Global,
     interner: Interner<'_>,
@@ -118,13 +121,12 @@ pub fn places_of(
         places.items ≡ map (place_of first ordered.now) interner.entry.words.items) }
 {
     let words = interner.words;
-    let mut registry = interner.registry;
-    registry.remember_all(ordered);
+    let hints = hints_of(alloc, ordered, words.as_slice().len())?;
     let starts = starts(alloc, ordered, first)?;
     let table = StringTable {
         words: ordered,
         starts: &starts,
         first,
     };
-    places_in(alloc, &table, &registry, &words)
+    places_in(alloc, &table, &hints, &words)
 }

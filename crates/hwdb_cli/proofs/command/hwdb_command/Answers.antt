@@ -11,6 +11,8 @@ returns c =
     let near = c.with_command-near.ensures _ _ list c.command-6.ensures in
     let device = c.with_command-device.ensures _ _ near c.command-7.ensures in
     let check = c.with_command-check.ensures _ _ device c.command-8.ensures in
-    let diff = c.with_command-diff.ensures _ _ check c.command-9.ensures in
-    let verify = c.with_command-verify.ensures _ _ diff c.command-10.ensures in
-    IfOk-weaker c.with_command.result _ _ (λ r is. is.app) (c.with_command.ensures _ _ verify c.command-11.ensures)
+    let test = c.with_command-test.ensures _ _ check c.command-9.ensures in
+    let diff = c.with_command-diff.ensures _ _ test c.command-10.ensures in
+    let verify = c.with_command-verify.ensures _ _ diff c.command-11.ensures in
+    let dump = c.with_command-dump.ensures _ _ verify c.command-12.ensures in
+    IfOk-weaker c.with_command.result _ _ (λ r is. is.app) (c.with_command.ensures _ _ dump c.command-13.ensures)

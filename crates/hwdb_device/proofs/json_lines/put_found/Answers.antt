@@ -7,7 +7,7 @@ use Rattle.hwdb_spec.specs.Json.{text_json}
 use Rattle.hwdb_query.specs.Views.{pairs_bytes}
 use Rattle.hwdb_show.specs.JsonTokens.{tokens_of_member}
 use Rattle.hwdb_sysfs.specs.Views.{device_of}
-use Rattle.hwdb_device.proofs.JsonLemmas.{member_behind, members_behind, no_members_yet, object_closed}
+use Rattle.hwdb_show.specs.Lemmas.Json.{member_behind, members_behind, no_members_yet, object_closed}
 use Rattle.hwdb_device.proofs.json_lines.put_found.Goals as goal
 
 pub returns-clause-tokens : goal.returns-clause-tokens

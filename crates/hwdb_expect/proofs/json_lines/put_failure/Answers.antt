@@ -3,7 +3,7 @@ use Rattle.std.proofs.lemmas.Result.{on_ok_weaker}
 use Rattle.json.specs.Token.{begin_object}
 use Rattle.hwdb_expect.specs.Views.{given_at, line_at}
 use Rattle.hwdb_spec.specs.Wanted.{given_members, wanted_members}
-use Rattle.hwdb_expect.proofs.JsonLemmas.{members_behind, no_members_yet, object_closed}
+use Rattle.hwdb_show.specs.Lemmas.Json.{members_behind, no_members_yet, object_closed}
 use Rattle.hwdb_expect.proofs.json_lines.put_failure.Goals as goal
 
 pub returns-clause-tokens : goal.returns-clause-tokens

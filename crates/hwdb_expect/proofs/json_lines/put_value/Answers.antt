@@ -2,7 +2,7 @@ use Rattle.std.proofs.Common.{List, ℕ, ◌∷◌, [], codes, refl}
 use Rattle.std.proofs.lemmas.Result.{on_ok_weaker}
 use Rattle.json.specs.Json.{Json}
 use Rattle.hwdb_spec.specs.Json.{number_json, text_json}
-use Rattle.hwdb_expect.proofs.JsonLemmas.{member_behind, no_members_yet}
+use Rattle.hwdb_show.specs.Lemmas.Json.{member_behind, no_members_yet}
 use Rattle.hwdb_expect.proofs.json_lines.put_value.Goals as goal
 
 pub returns-clause-tokens : goal.returns-clause-tokens

@@ -5,7 +5,7 @@ use Rattle.json.specs.Token.{begin_object}
 use Rattle.hwdb_spec.specs.Findings.{column}
 use Rattle.hwdb_spec.specs.Json.{number_json, text_json}
 use Rattle.hwdb_show.specs.JsonTokens.{tokens_of_member}
-use Rattle.hwdb_lint.proofs.JsonLemmas.{member_behind, no_members_yet, object_closed}
+use Rattle.hwdb_show.specs.Lemmas.Json.{member_behind, no_members_yet, object_closed}
 use Rattle.hwdb_lint.proofs.json_lines.put_finding.Goals as goal
 
 pub returns-clause-tokens : goal.returns-clause-tokens

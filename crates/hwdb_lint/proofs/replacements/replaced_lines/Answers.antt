@@ -1,13 +1,5 @@
-use Rattle.std.proofs.Common.{map}
-use Rattle.hwdb_text.specs.Views.{given_in}
-use Rattle.hwdb_lint.specs.Internal.{own}
-use Rattle.hwdb_lint.proofs.ReplaceLemmas.{line_step, no_line}
+use Rattle.hwdb_lint.proofs.AscendLemmas.{ascending}
 use Rattle.hwdb_lint.proofs.replacements.replaced_lines.Goals as goal
 
-pub loop-given-init : goal.loop-given-init
-loop-given-init c = no_line (map (given_in own) c.args.all.now) c.new-replaced.result c.new-replaced.ensures.empty
-
-pub loop-given-preserved : goal.loop-given-preserved
-loop-given-preserved c =
-    line_step c.args.all.now c.loop-given.given-index _ c.in_ok-last.last c.in_ok-same.same c.loop-given.replaced c.put_given.new.replaced c.loop-given-test.true c.in_ok-last.ensures c.in_ok-same.ensures
-    c.loop-given.invariant c.in_ok-put_given.ensures
+pub returns-then-ascend : goal.returns-then-ascend
+returns-then-ascend c = ascending c.args.all.now c.new.result (c.ascend.ensures c.if-ascend.true) c.new.ensures.empty

@@ -4,7 +4,7 @@ use Rattle.json.specs.Json.{Json}
 use Rattle.json.specs.Token.{begin_object}
 use Rattle.hwdb_query.specs.Views.{assignment_of_answer}
 use Rattle.hwdb_spec.specs.Json.{answer_members, array_of, overridden_json, text_json}
-use Rattle.hwdb_print.proofs.JsonLemmas.{key_value, member_behind, members_behind, no_members_yet, object_closed}
+use Rattle.hwdb_show.specs.Lemmas.Json.{key_value, member_behind, members_behind, no_members_yet, object_closed}
 use Rattle.hwdb_print.proofs.json_explanations.put_explanation.Goals as goal
 
 pub returns-clause-tokens : goal.returns-clause-tokens

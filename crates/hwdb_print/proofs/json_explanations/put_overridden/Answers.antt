@@ -3,7 +3,7 @@ use Rattle.std.proofs.lemmas.Result.{on_ok_weaker}
 use Rattle.hwdb_query.specs.Views.{assignment_of_answer}
 use Rattle.hwdb_spec.specs.Json.{answer_members}
 use Rattle.hwdb_show.specs.JsonTokens.{tokens_of_members}
-use Rattle.hwdb_print.proofs.JsonLemmas.{object_closed}
+use Rattle.hwdb_show.specs.Lemmas.Json.{object_closed}
 use Rattle.hwdb_print.proofs.json_explanations.put_overridden.Goals as goal
 
 pub returns-clause-tokens : goal.returns-clause-tokens

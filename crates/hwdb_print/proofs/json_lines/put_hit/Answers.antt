@@ -6,7 +6,7 @@ use Rattle.hwdb_query.specs.Views.{assignment_of_hit}
 use Rattle.hwdb_spec.specs.Json.{number_json, text_json}
 use Rattle.hwdb_spec.specs.Texts.{canonical}
 use Rattle.hwdb_show.specs.JsonTokens.{tokens_of_member}
-use Rattle.hwdb_print.proofs.JsonLemmas.{member_behind, no_members_yet, object_closed}
+use Rattle.hwdb_show.specs.Lemmas.Json.{member_behind, no_members_yet, object_closed}
 use Rattle.hwdb_print.proofs.json_lines.put_hit.Goals as goal
 
 pub returns-clause-tokens : goal.returns-clause-tokens

@@ -3,7 +3,7 @@ use Rattle.std.proofs.lemmas.List.{take_all}
 use Rattle.std.proofs.lemmas.Result.{on_ok_weaker}
 use Rattle.hwdb_query.specs.Views.{pairs_bytes}
 use Rattle.hwdb_spec.specs.Json.{has_name, property_member}
-use Rattle.hwdb_print.proofs.JsonLemmas.{object_closed}
+use Rattle.hwdb_show.specs.Lemmas.Json.{object_closed}
 use Rattle.hwdb_print.proofs.json_lines.put_named.Goals as goal
 
 pub returns-clause-tokens : goal.returns-clause-tokens

@@ -1,6 +1,6 @@
 use Rattle.std.proofs.lemmas.Result.{on_ok_weaker}
 use Rattle.hwdb_spec.specs.Json.{text_json}
-use Rattle.hwdb_print.proofs.JsonLemmas.{two_closed}
+use Rattle.hwdb_show.specs.Lemmas.Json.{two_closed}
 use Rattle.hwdb_print.proofs.json_lines.put_pair.Goals as goal
 
 pub returns-clause-tokens : goal.returns-clause-tokens

@@ -3,7 +3,7 @@ use Rattle.std.proofs.lemmas.List.{take_all}
 use Rattle.std.proofs.lemmas.Result.{on_ok_weaker}
 use Rattle.hwdb_query.specs.Views.{pairs_bytes}
 use Rattle.hwdb_spec.specs.Json.{pair_json}
-use Rattle.hwdb_print.proofs.JsonLemmas.{array_closed}
+use Rattle.hwdb_show.specs.Lemmas.Json.{array_closed}
 use Rattle.hwdb_print.proofs.json_lines.put_pairs.Goals as goal
 
 pub returns-clause-tokens : goal.returns-clause-tokens

@@ -1,54 +1,84 @@
-use Rattle.std.proofs.Common.{arith, ap, ◌∙◌, ◌+◌}
-use Rattle.hwdb_spec.specs.Folders.{max_lines}
-use Rattle.hwdb_spec.specs.Texts.{max_file}
-use Rattle.hwdb_print.proofs.TextLemmas.{if_err_any}
+use Rattle.std.proofs.Common.{◌≡◌, ◌∙◌, ◌≤◌, ap, arith, refl, subst, List, ℕ, Err, IfSome, length}
+use Rattle.hwdb_spec.specs.Texts.{devices_of, max_file}
+use Rattle.hwdb_spec.specs.AnsweredLines.{IsLineError, IsPrintedBefore, line_error}
 use Rattle.hwdb_print.specs.Internal.{answer_text}
+use Rattle.hwdb_spec.specs.Errors.{refusal_of_read}
+use Rattle.hwdb_spec.specs.Streams.{texts_of}
+use Rattle.hwdb_spec.specs.declared.errors.ToolError.{ToolError}
+use Rattle.hwdb_spec.specs.declared.errors.ToolError.TheVariants.{Memory, TooManyLines, Write}
+use Rattle.hwdb_print.proofs.AnsweredLemmas.{at_start, handed_on, many_before, memory_before, one_more, told_all, told_line, told_long, told_many, told_whole, unread_before, write_before}
 use Rattle.hwdb_print.proofs.LineLemmas.{read_too_long}
-use Rattle.hwdb_print.proofs.StreamLemmas.{any_left, few_more, fewer_left, first_too_long, later_too_long, no_part, none_of, part_of_text, part_step, some_of, too_many, whole_end, whole_step}
+use Rattle.hwdb_print.proofs.StreamLemmas.{none_of, some_of}
 use Rattle.hwdb_print.proofs.streaming.answer_lines.Goals as goal
+
+pub answering-init : goal.answering-init
+answering-init g c = record {
+  so_far = at_start c.args.form c.args.db.now _ _ _ c.new-lines.ensures;
+  same_input = refl;
+  same_out = refl;
+  flushed = λ f. f;
+}
 
 pub returns-in_err-device-clause-too_long : goal.returns-in_err-device-clause-too_long
 returns-in_err-device-clause-too_long g c = λ is.
-    let long = c.in_err-device.ensures.too_long (read_too_long c.from_residual.result c.in_err-device.field-0.0 c.from_residual.ensures.1 is) in
-    c.answering.invariant.long (first_too_long _ max_file long)
+    told_long c.args.form c.args.db.now c.answering.counter c.answering.is_first _ _ _ _
+    (c.in_err-device.ensures.too_long (read_too_long c.from_residual.result c.in_err-device.field-0.0 c.from_residual.ensures.1 is)) c.answering.invariant.so_far
 
-pub returns-in_err-device-clause-cut_short : goal.returns-in_err-device-clause-cut_short
-returns-in_err-device-clause-cut_short g c =
-    if_err_any c.from_residual.result _ (c.answering.invariant.part _ (no_part c.args.form c.answering.is_first c.args.db.now _ (g.O.Sink.taken c.answering.out)))
+pub returns-in_err-device-clause-line : goal.returns-in_err-device-clause-line
+returns-in_err-device-clause-line g c =
+    let q = c.in_err-device.field-0.0 in
+    handed_on c.from_residual.result (refusal_of_read q) (λ e. IfSome (g.I.Source.left c.args.input.now) (λ text. IsLineError e (line_error (devices_of text)))) c.from_residual.ensures.1
+    (told_line c.args.form c.args.db.now c.answering.counter c.answering.is_first _ _ _ _ q (omega (arith, c.answering-test.true)) (λ e. c.in_err-device.ensures.too_long (ap Err e)) c.answering.invariant.so_far)
+
+pub returns-in_err-device-clause-before : goal.returns-in_err-device-clause-before
+returns-in_err-device-clause-before g c =
+    let q = c.in_err-device.field-0.0 in
+    let Is : List (List ℕ) → List ℕ → Type 0 = λ lines written. written ≡ texts_of c.args.form lines c.args.db.now in
+    handed_on c.from_residual.result (refusal_of_read q)
+    (λ e. IfSome (g.I.Source.left c.args.input.now) (λ text. IsPrintedBefore e Is (devices_of text) (g.O.Sink.taken c.args.out.now) (g.O.Sink.taken c.answering.out))) c.from_residual.ensures.1
+    (unread_before c.args.form c.args.db.now c.answering.counter c.answering.is_first Is (λ lines. refl) _ _ _ _ q (omega (arith, c.answering-test.true)) (λ e. c.in_err-device.ensures.too_long (ap Err e)) c.answering.invariant.so_far)
 
 pub returns-in_default-clause-printed : goal.returns-in_default-clause-printed
 returns-in_default-clause-printed g c =
-    c.answering.invariant.whole _ (whole_end c.args.form c.answering.is_first c.args.db.now _ (g.O.Sink.taken c.answering.out) (none_of c.in_ok-device.field-0 _ c.in_default.not-Some c.in_ok-device.ensures.end))
+    told_whole c.args.form c.args.db.now c.answering.counter c.answering.is_first _ _ _ _ (none_of c.in_ok-device.field-0 _ c.in_default.not-Some c.in_ok-device.ensures.end) c.answering.invariant.so_far
 
-pub returns-in_err-text-clause-cut_short : goal.returns-in_err-text-clause-cut_short
-returns-in_err-text-clause-cut_short g c =
-    if_err_any c.from_residual-in_err-text.result _ (c.answering.invariant.part _ (no_part c.args.form c.answering.is_first c.args.db.now _ (g.O.Sink.taken c.answering.out)))
+pub returns-in_default-clause-all : goal.returns-in_default-clause-all
+returns-in_default-clause-all g c =
+    told_all c.args.form c.args.db.now c.answering.counter c.answering.is_first _ _ _ _ (omega (arith, c.answering-test.true)) (none_of c.in_ok-device.field-0 _ c.in_default.not-Some c.in_ok-device.ensures.end) c.answering.invariant.so_far
 
-pub returns-in_err-write_text-clause-cut_short : goal.returns-in_err-write_text-clause-cut_short
-returns-in_err-write_text-clause-cut_short g c =
-    let first = some_of c.in_ok-device.field-0 c.in-Some.device _ c.in-Some.is c.in_ok-device.ensures.line in
+pub returns-in_err-text-clause-before : goal.returns-in_err-text-clause-before
+returns-in_err-text-clause-before g c =
+    let Is : List (List ℕ) → List ℕ → Type 0 = λ lines written. written ≡ texts_of c.args.form lines c.args.db.now in
+    handed_on c.from_residual-in_err-text.result Memory
+    (λ e. IfSome (g.I.Source.left c.args.input.now) (λ text. IsPrintedBefore e Is (devices_of text) (g.O.Sink.taken c.args.out.now) (g.O.Sink.taken c.answering.out))) c.from_residual-in_err-text.ensures.1
+    (memory_before c.args.form c.args.db.now c.answering.counter c.answering.is_first Is (λ lines. refl) _ _ _ _ (omega (arith, c.answering-test.true)) c.answering.invariant.so_far)
+
+pub returns-in_err-write_text-clause-before : goal.returns-in_err-write_text-clause-before
+returns-in_err-write_text-clause-before g c =
+    let Is : List (List ℕ) → List ℕ → Type 0 = λ lines written. written ≡ texts_of c.args.form lines c.args.db.now in
+    let line = some_of c.in_ok-device.field-0 c.in-Some.device _ c.in-Some.is c.in_ok-device.ensures.line in
+    let fits : length c.in-Some.device.items ≤ max_file = omega (arith, c.in-Some.device.ok.0, some_of c.in_ok-device.field-0 c.in-Some.device _ c.in-Some.is c.in_ok-device.ensures.fits) in
     let is = c.deref-in-answering.ensures.value ∙ c.in_ok-text.ensures ∙ ap (λ d. answer_text c.args.form c.answering.is_first d c.args.db.now) c.deref.ensures.value in
-    if_err_any c.from_residual-in_err-write_text.result _
-    (c.answering.invariant.part _ (part_of_text c.args.form c.answering.is_first c.args.db.now _ _ _ _ c.in-Some.device.items c.deref-in-answering.result.now first is c.in_err-write_text.ensures.cut_short.prefix))
+    handed_on c.from_residual-in_err-write_text.result Write
+    (λ e. IfSome (g.I.Source.left c.args.input.now) (λ text. IsPrintedBefore e Is (devices_of text) (g.O.Sink.taken c.args.out.now) (g.O.Sink.taken c.write_text.new.sink))) c.from_residual-in_err-write_text.ensures.1
+    (write_before c.args.form c.args.db.now c.answering.counter c.answering.is_first Is (λ lines. refl) _ _ _ _ _ _ c.in-Some.device.items c.deref-in-answering.result.now (omega (arith, c.answering-test.true)) line fits is c.in_err-write_text.ensures.cut_short.prefix c.answering.invariant.so_far)
 
 pub answering-preserved : goal.answering-preserved
 answering-preserved g c =
-    let first = some_of c.in_ok-device.field-0 c.in-Some.device _ c.in-Some.is c.in_ok-device.ensures.line in
+    let line = some_of c.in_ok-device.field-0 c.in-Some.device _ c.in-Some.is c.in_ok-device.ensures.line in
+    let fits : length c.in-Some.device.items ≤ max_file = omega (arith, c.in-Some.device.ok.0, some_of c.in_ok-device.field-0 c.in-Some.device _ c.in-Some.is c.in_ok-device.ensures.fits) in
     let is = c.deref-in-answering.ensures.value ∙ c.in_ok-text.ensures ∙ ap (λ d. answer_text c.args.form c.answering.is_first d c.args.db.now) c.deref.ensures.value in
     record {
-      whole = λ end q. c.answering.invariant.whole end (whole_step c.args.form c.answering.is_first c.args.db.now _ _ _ _ end c.in-Some.device.items c.deref-in-answering.result.now first is c.in_ok-write_text.ensures.took.whole q);
-      part = λ end q. c.answering.invariant.part end (part_step c.args.form c.answering.is_first c.args.db.now _ _ _ _ end c.in-Some.device.items c.deref-in-answering.result.now first is c.in_ok-write_text.ensures.took.whole q);
-      long = λ q. c.answering.invariant.long (later_too_long _ _ c.in-Some.device.items max_file first q);
-      few = λ n q. few_more _ c.answering.counter n (c.answering.invariant.few (n + 1) (fewer_left _ _ c.in-Some.device.items n first q));
+      so_far = one_more c.args.form c.args.db.now c.answering.counter c.answering.is_first _ _ _ _ _ _ c.in-Some.device.items c.deref-in-answering.result.now line fits is c.in_ok-write_text.ensures.took.whole c.answering.invariant.so_far;
       same_input = c.in_ok-device.ensures.failures ∙ c.answering.invariant.same_input;
       same_out = c.in_ok-write_text.ensures.took.unfailed ∙ c.answering.invariant.same_out;
       flushed = λ _. c.in_ok-write_text.ensures.flushed;
     }
 
-pub returns-clause-too_many : goal.returns-clause-too_many
-returns-clause-too_many g c = λ _.
-    too_many _ c.answering.counter 0 max_lines (omega (arith, c.answering-test.false)) (c.answering.invariant.few 0 (any_left _))
+pub returns-clause-line : goal.returns-clause-line
+returns-clause-line g c = told_many c.args.form c.args.db.now c.answering.counter c.answering.is_first _ _ _ _ (omega (arith, c.answering-test.false)) c.answering.invariant.so_far
 
-pub returns-clause-cut_short : goal.returns-clause-cut_short
-returns-clause-cut_short g c =
-    c.answering.invariant.part _ (no_part c.args.form c.answering.is_first c.args.db.now _ (g.O.Sink.taken c.answering.out))
+pub returns-clause-before : goal.returns-clause-before
+returns-clause-before g c =
+    let Is : List (List ℕ) → List ℕ → Type 0 = λ lines written. written ≡ texts_of c.args.form lines c.args.db.now in
+    many_before c.args.form c.args.db.now c.answering.counter c.answering.is_first Is (λ lines. refl) _ _ _ _ (omega (arith, c.answering-test.false)) c.answering.invariant.so_far

@@ -1,7 +1,10 @@
-use Rattle.std.proofs.Common.{List, ℕ, subst}
+use Rattle.std.proofs.Common.{List, ℕ, subst, refl}
 use Rattle.std.proofs.lemmas.Result.{on_ok_weaker}
 use Rattle.std.specs.Io.KnownBytes.{Appends}
+use Rattle.hwdb_spec.specs.Databases.{IsTextOf}
 use Rattle.hwdb_spec.specs.Texts.{devices_of}
+use Rattle.hwdb_spec.specs.Streams.{texts_of}
+use Rattle.hwdb_print.proofs.AnsweredLemmas.{told_before}
 use Rattle.hwdb_print.proofs.StreamLemmas.{same_answers, some_weaker}
 use Rattle.hwdb_print.proofs.streaming.run_stream.Goals as goal
 
@@ -16,3 +19,9 @@ returns-clause-headline g c =
     (λ device. c.compiled_answers_are_last.ensures.all etc usr c.args.bytes.now compiled c.in_ok-db.db c.in_ok-db.ensures.accepted device)) p)
     printed)
     c.answer_lines.ensures.printed
+
+pub returns-clause-before : goal.returns-clause-before
+returns-clause-before g c =
+    told_before _ (λ lines. IsTextOf (texts_of c.args.form lines) c.args.bytes.now)
+    (λ lines text is. record { tree = c.in_ok-db.db; database = c.in_ok-db.ensures.accepted; is = is })
+    c.answer_lines.result _ _ _ c.answer_lines.ensures.before

@@ -1,6 +1,6 @@
 use Rattle.std.proofs.Common.{◌∙◌, ◌++◌, ap}
 use Rattle.std.proofs.lemmas.Result.{on_ok_weaker}
-use Rattle.hwdb_show.proofs.JsonLemmas.{byte_tokens, string_tokens}
+use Rattle.hwdb_show.specs.Lemmas.Json.{byte_tokens, string_tokens}
 use Rattle.hwdb_show.proofs.json_values.put_text.Goals as goal
 
 pub returns-in-Ok-clause-tokens : goal.returns-in-Ok-clause-tokens

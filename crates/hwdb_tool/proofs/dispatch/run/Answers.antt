@@ -1,6 +1,6 @@
 use Rattle.std.proofs.Common.{◌≡◌, ◌⊎◌, ap, inl, inr, ⊎_elim, refl, string_bytes, subst, sym, ◌==◌, length, map, not, IfOk, IfErr}
 use Rattle.std.specs.Prelude.{option_map}
-use Rattle.hwdb_spec.specs.declared.job.Task.TheVariants.{Ask, Check, Device, Diff, Near, Update}
+use Rattle.hwdb_spec.specs.declared.job.Task.TheVariants.{Ask, Check, Device, Diff, Near, Test, Update}
 use Rattle.hwdb_spec.specs.Asked.{IsAnswered, IsCompared, IsListFrom}
 use Rattle.hwdb_spec.specs.CheckedFiles.{AreCheckedFiles, IsChecked}
 use Rattle.hwdb_spec.specs.Done.{IsAsked, IsLeftByUpdateLess, OldOrUpdatedLess}
@@ -11,6 +11,8 @@ use Rattle.hwdb_spec.specs.NearAsked.{IsNear, near_form, near_limit}
 use Rattle.hwdb_spec.specs.SysfsAnswers.{sight_by}
 use Rattle.hwdb_spec.specs.ComparedDatabases.{IsDiffRefused}
 use Rattle.hwdb_spec.specs.NearErrors.{IsNearRefused}
+use Rattle.hwdb_spec.specs.Tested.{IsTested}
+use Rattle.hwdb_spec.specs.TestErrors.{HasTestReason, IsTestRefused}
 use Rattle.hwdb_spec.specs.DeviceAsked.{IsDevicePrinted, device_form}
 use Rattle.hwdb_spec.specs.DeviceErrors.{IsDeviceRefused, asked_names}
 use Rattle.hwdb_spec.specs.Program.{IsAnswerOf, IsDeviceAnswer, IsTaskDone, OldOrDone, root_of, skips}
@@ -223,6 +225,46 @@ returns-in-Near-clause-refused g c = λ tells.
     (subst (λ l. IfErr answer (HasFilesReason (not (length l == 0)) (map string_bytes l) fails seen input before.input.failures now.input.failures)) items
     (c.near-answer.ensures.reason tells))
     (write_reason given fails seen input before.input.failures now.input.failures (not (length given == 0))) c.printed-in-Near.ensures.refused))
+
+pub returns-in-Test-clause-refused : goal.returns-in-Test-clause-refused
+returns-in-Test-clause-refused g c = λ tells.
+    let job = c.args.job.now in
+    let F = files_by g.D.Store.seen g.D.System.may_fail g.D.Store.may_leave g.D.Store.failures in
+    let V = sight_by g.D.DeviceFiles.answers in
+    let I = told_by g.I.Source.left g.I.Source.failures in
+    let O = told_by g.O.Sink.taken g.O.Sink.failures in
+    let E = told_by g.E.Sink.taken g.E.Sink.failures in
+    let seen = g.D.Store.seen c.args.system.now in
+    let before : World = record { files = F c.args.system.now; input = I c.args.input.now; out = O c.args.out.now; err = E c.args.err.now; devices = V c.args.system.now } in
+    let now : World = record { files = F c.args.system.now; input = I c.test-answer.new.input; out = O c.printed-in-Test.new.out; err = E c.printed-in-Test.new.err; devices = V c.args.system.now } in
+    let fails = before.files.fails in
+    let input = before.input.bytes in
+    let n = before.input.failures in
+    let m = now.input.failures in
+    let json = c.in-Test.json in
+    let task = Test c.in-Test.files c.in-Test.database json in
+    let root = c.root_of-root.result.now in
+    let path = option_map string_bytes c.in-Test.database in
+    let database = option_map (λ t. t.now) c.text_of-database.result in
+    let of_path = c.text_of-database.ensures in
+    let given = map string_bytes c.in-Test.files.items in
+    let items = c.deref-in-Test.ensures.value in
+    let paths = map string_bytes c.deref-in-Test.result.now in
+    let answer = c.test-answer.result in
+    subst (λ t. IfErr c.printed-in-Test.result (IsNotDone t (root_of job) job.usr job.strict before now)) (sym c.in-Test.is)
+    (each_error _ (IsNotDone task (root_of job) job.usr job.strict before now) c.printed-in-Test.result (λ r both. ((both.0, record { same = λ p. refl; no_more = λ p v l. l }), both.1))
+    (printed_refused answer c.printed-in-Test.result (Refuses task (root_of job) input seen) (IsTaskReason task (root_of job) job.usr before now)
+    (λ s t. IsAnswerOf task (root_of job) job.strict input seen s t) before.err now.err before.out now.out
+    (subst (λ r. IfErr answer (IsTestRefused given path r input seen)) c.root_of-root.ensures
+    (subst (λ d. IfErr answer (IsTestRefused given d root input seen)) of_path
+    (subst (λ l. IfErr answer (IsTestRefused (map string_bytes l) database root input seen)) items (c.test-answer.ensures.refused tells))))
+    (subst (λ r. IfOk answer (λ a. OnOut (λ text. IsTested json given path r input seen text a.status) (texts_in a))) c.root_of-root.ensures
+    (subst (λ d. IfOk answer (λ a. OnOut (λ text. IsTested json given d root input seen text a.status) (texts_in a))) of_path
+    (subst (λ l. IfOk answer (λ a. OnOut (λ text. IsTested json (map string_bytes l) database root input seen text a.status) (texts_in a))) items (c.test-answer.ensures.tested tells))))
+    (subst (λ r. IfErr answer (HasTestReason given path r fails seen input n m)) c.root_of-root.ensures
+    (subst (λ d. IfErr answer (HasTestReason given d root fails seen input n m)) of_path
+    (subst (λ l. IfErr answer (HasTestReason (map string_bytes l) database root fails seen input n m)) items (c.test-answer.ensures.reason tells))))
+    (inl refl) c.printed-in-Test.ensures.refused))
 
 pub returns-in-Device-clause-refused : goal.returns-in-Device-clause-refused
 returns-in-Device-clause-refused g c = λ tells.

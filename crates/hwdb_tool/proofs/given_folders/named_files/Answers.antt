@@ -12,13 +12,13 @@ returns-in_err-own-clause-refused g c = λ tells.
     let given = c.args.given.now in
     let e = c.in_err-own.field-0.0 in
     given_error e (AreFoldersUnread seen (map string_bytes given)) c.from_residual.result c.from_residual.ensures.1
-    (one_unread seen given c.loop-path.path-index c.path-item.result e c.path-item.is c.loop-path-test.true
-    (subst (λ p. IsFolderUnread seen p e) c.as_str.ensures.value (c.in_err-own.ensures.refused tells)))
+    (one_unread seen given c.loop-path.path-index c.path-item.result (map string_bytes c.loop-path.paths.items) e c.path-item.is c.loop-path-test.true
+    (c.loop-path.invariant.files tells) (subst (λ p. IsFolderUnread seen p e) c.as_str.ensures.value (c.in_err-own.ensures.refused tells)))
 
 pub returns-in_err-put_all-clause-refused : goal.returns-in_err-put_all-clause-refused
 returns-in_err-put_all-clause-refused g c = λ tells.
-    memory_unread (g.D.Store.seen c.args.system.now) c.args.given.now c.loop-path.path-index c.path-item.result c.from_residual-in_err-put_all.result
-    c.path-item.is c.loop-path-test.true c.from_residual-in_err-put_all.ensures.1
+    memory_unread (g.D.Store.seen c.args.system.now) c.args.given.now c.loop-path.path-index c.path-item.result (map string_bytes c.loop-path.paths.items) c.from_residual-in_err-put_all.result
+    c.path-item.is c.loop-path-test.true (c.loop-path.invariant.files tells) c.from_residual-in_err-put_all.ensures.1
 
 pub loop-path-preserved : goal.loop-path-preserved
 loop-path-preserved g c =

@@ -1,4 +1,4 @@
-use Rattle.std.proofs.Common.{◌∙◌, ap, inl, inr, ⊎_elim, string_bytes, subst, sym, Err, Some, true, ◌≤◌, length, List, ℕ}
+use Rattle.std.proofs.Common.{◌∙◌, ap, inl, inr, string_bytes, subst, sym, Err, Some, true, ◌≤◌, length, List, ℕ}
 use Rattle.hwdb_spec.specs.Texts.{max_file}
 use Rattle.hwdb_spec.specs.Queries.{IsOfInput}
 use Rattle.hwdb_spec.specs.Reasons.{HasAskedReason}
@@ -23,10 +23,9 @@ returns-clause-refused g c = λ tells. inr record {
   error = c.in-Err.error;
   is = subst (λ p. IsOfInput c.in-Err.error p c.refusal_of.result) c.as_bytes-path.ensures.value c.refusal_of.ensures;
   refused = c.in-Err.ensures.refusals;
-  long = λ w. c.in-Err.ensures.too_long (ap Err w);
-  many = λ w. c.in-Err.ensures.too_many (ap Err w);
+  line = c.in-Err.ensures.line;
   untouched = if_bad c.in-Err.error (λ both. ap g.O.Sink.taken both.1) c.in-Err.ensures.untouched;
-  cut = ⊎_elim (λ same. inl (ap g.O.Sink.taken same)) (λ part. inr part) c.in-Err.ensures.cut_short;
+  printed = c.in-Err.ensures.before;
   failed = c.in-Err.ensures.writes.0;
   unfailed = c.in-Err.ensures.writes.1;
 }

@@ -1,14 +1,29 @@
+use Rattle.std.proofs.Common.{⊎_elim}
+use Rattle.hwdb_tool.proofs.FolderErrorLemmas.{full_or_stand}
 use Rattle.hwdb_tool.proofs.StandLemmas.{one_stand}
 use Rattle.hwdb_tool.proofs.JobErrorLemmas.{job_is_not_told, no_job_error, one_job_error, root_is_entered}
+use Rattle.hwdb_tool.proofs.StreamErrorLemmas.{done_job_is_no_end, stream_jobs_are_one}
 use Rattle.hwdb_tool.proofs.one_refusal.words_end_in_one.Goals as goal
 
 pub returns-clause-one : goal.returns-clause-one
-returns-clause-one g c = one_job_error c.law_header_faults.ensures.one c.law_one_tree.ensures c.listings_give_one_reading.ensures.choice c.listings_give_one_reading.ensures.reading
-    (one_stand c.names_are_those_that_count.ensures c.names_ascend.ensures c.one_ascending_list.ensures) _ _ _ _ _ _ _ _
+returns-clause-one g c = λ words status status2 before now before2 now2 input one two kind is is2.
+    ⊎_elim
+    (λ covered. one_job_error c.law_header_faults.ensures.one c.law_one_tree.ensures c.listings_give_one_reading.ensures.choice c.listings_give_one_reading.ensures.reading
+    (one_stand c.names_are_those_that_count.ensures c.names_ascend.ensures c.one_ascending_list.ensures, full_or_stand c.names_are_those_that_count.ensures c.names_ascend.ensures c.one_ascending_list.ensures) _ _ _ _ _ _ _ _
+    words status status2 before now before2 now2 input one two covered is is2)
+    (λ stream. stream_jobs_are_one c.law_header_faults.ensures.one c.law_one_tree.ensures _ _ _ _ _ _ _ _
+    words status status2 before now before2 now2 input one two stream is is2)
+    kind
 
 pub returns-clause-done : goal.returns-clause-done
-returns-clause-done g c = no_job_error c.law_header_faults.ensures.one c.law_one_tree.ensures c.listings_give_one_reading.ensures.choice c.listings_give_one_reading.ensures.reading
-    (one_stand c.names_are_those_that_count.ensures c.names_ascend.ensures c.one_ascending_list.ensures) _ _ _ _ _ _ _ _ c.law_one_written_form.ensures
+returns-clause-done g c = λ words status status2 before now before2 now2 input done refused kind is.
+    ⊎_elim
+    (λ covered. no_job_error c.law_header_faults.ensures.one c.law_one_tree.ensures c.listings_give_one_reading.ensures.choice c.listings_give_one_reading.ensures.reading
+    (one_stand c.names_are_those_that_count.ensures c.names_ascend.ensures c.one_ascending_list.ensures, full_or_stand c.names_are_those_that_count.ensures c.names_ascend.ensures c.one_ascending_list.ensures) _ _ _ _ _ _ _ _ c.law_one_written_form.ensures
+    words status status2 before now before2 now2 input done refused covered is)
+    (λ stream. done_job_is_no_end c.law_header_faults.ensures.one c.law_one_tree.ensures _ _ _ _ _ _ _ _
+    words status status2 before now before2 now2 input done refused stream is)
+    kind
 
 pub returns-clause-root : goal.returns-clause-root
 returns-clause-root g c = root_is_entered (g.D.System.may_fail c.args.first.now) (g.D.System.may_fail c.args.first_then.now)

@@ -12,7 +12,7 @@ pub returns-then-is_input-clause-answered : goal.returns-then-is_input-clause-an
 returns-then-is_input-clause-answered g c = λ tells.
     streamed_done c.args.root.now (Query c.args.json) (map string_bytes c.args.devices.now) (g.I.Source.left c.args.input.now) (g.D.Store.seen c.args.system.now) c.answer_input.result
     (told_by g.E.Sink.taken g.E.Sink.failures c.args.err.now) (told_by g.O.Sink.taken g.O.Sink.failures c.args.out.now) (told_by g.O.Sink.taken g.O.Sink.failures c.answer_input.new.out)
-    (sym c.is_input.ensures ∙ c.if-is_input.true) c.answer_input.ensures.small (c.answer_input.ensures.answered tells)
+    (sym c.is_input.ensures ∙ c.if-is_input.true) c.answer_input.ensures.small c.answer_input.ensures.all (c.answer_input.ensures.answered tells)
 
 pub returns-then-is_input-clause-reason : goal.returns-then-is_input-clause-reason
 returns-then-is_input-clause-reason g c = λ tells.

@@ -8,7 +8,7 @@ pub loop-word-preserved : goal.loop-word-preserved
 loop-word-preserved c =
     let ws = c.args.words.now in
     let i = c.loop-word.word-index in
-    let e : c.copied.result ≡ get_or ws i nothing = c.copied.ensures ∙ c.word-item.is ∙ get_or_default ws i c.word-item.result nothing c.loop-word-test.true in
+    let e : c.marked.result ≡ get_or ws i nothing = c.marked.ensures ∙ c.word-item.is ∙ get_or_default ws i c.word-item.result nothing c.loop-word-test.true in
     c.in_ok-push.ensures.items ∙ (λ j. c.loop-word.invariant j ++ e j ∷ []) ∙ sym (one_more ws i nothing c.loop-word-test.true)
 
 pub returns : goal.returns

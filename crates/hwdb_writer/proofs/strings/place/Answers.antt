@@ -19,10 +19,10 @@ returns-in-Err c =
     missed_place c.args.table.now.first c.args.table.now.words.now c.requires.ordered c.args.table.now.starts.now c.requires.starts c.args.word.now c.in-Err.i c.in-Err.ensures.bound c.in-Err.ensures.position
 
 pub bounds-starts-remembered : goal.bounds-starts-remembered
-bounds-starts-remembered c = enough c.args.table.now.first c.args.table.now.words.now c.requires.ordered c.args.table.now.starts.now c.requires.starts c.args.word.now c.lookup-remembered.result (omega (arith, c.if-remembered-words.true))
+bounds-starts-remembered c = enough c.args.table.now.first c.args.table.now.words.now c.requires.ordered c.args.table.now.starts.now c.requires.starts c.args.word.now c.args.remembered (omega (arith, c.if-remembered-words.true))
 
 pub returns-then-eq : goal.returns-then-eq
 returns-then-eq c =
     let known = c.index-words-remembered.result in
-    near_place c.args.table.now.first c.args.table.now.words.now c.requires.ordered c.args.table.now.starts.now c.requires.starts c.args.word.now c.lookup-remembered.result c.if-remembered-words.true
-    (get_or_default c.args.table.now.words.now c.lookup-remembered.result nothing known c.if-remembered-words.true ∙ sym c.index-words-remembered.is ∙ same_text known c.args.word.now c.if-eq.ensures)
+    near_place c.args.table.now.first c.args.table.now.words.now c.requires.ordered c.args.table.now.starts.now c.requires.starts c.args.word.now c.args.remembered c.if-remembered-words.true
+    (get_or_default c.args.table.now.words.now c.args.remembered nothing known c.if-remembered-words.true ∙ sym c.index-words-remembered.is ∙ same_text known c.args.word.now c.if-eq.ensures)

@@ -1,12 +1,19 @@
--- The tokens of an object, by those of its members.
-use Rattle.std.proofs.Common.{◌≡◌, ◌∙◌, ap, sym, refl, ℕ, List, [], ◌∷◌, ◌++◌, append_assoc}
+-- The tokens of values, by those of their parts.
+use Rattle.std.proofs.Common.{◌≡◌, ◌∙◌, ap, sym, refl, ℕ, List, [], ◌∷◌, ◌++◌, append_assoc, flat_map}
 use Rattle.std.proofs.lemmas.Grind.{flat_map-append}
 use Rattle.std.proofs.lemmas.List.{append-nil}
 use Rattle.json.specs.Json.{Json}
 use Rattle.json.specs.Token.{Token}
-use Rattle.json.specs.Tree.{json_tokens, members_tokens}
-use Rattle.hwdb_spec.specs.Json.{members_of, object_of}
+use Rattle.json.specs.Tree.{json_tokens, items_tokens, members_tokens}
+use Rattle.hwdb_spec.specs.Json.{array_of, items_of, members_of, object_of}
 use Rattle.hwdb_show.specs.JsonTokens.{tokens_of_member, tokens_of_members}
+
+-- ---- arrays and objects
+
+items_run : (values : List Json) → items_tokens (items_of values) ≡ flat_map json_tokens values ++ Token.end_array ∷ []
+unfolding items_of
+items_run [] = refl
+items_run (v ∷ vs) = ap (λ l. json_tokens v ++ l) (items_run vs) ∙ sym (append_assoc (json_tokens v) (flat_map json_tokens vs) (Token.end_array ∷ []))
 
 members_run : (ms : List (List ℕ × Json)) → members_tokens (members_of ms) ≡ tokens_of_members ms ++ Token.end_object ∷ []
 unfolding members_of
@@ -14,6 +21,15 @@ members_run [] = refl
 members_run (m ∷ ms) =
     ap (λ l. Token.key m.0 ∷ (json_tokens m.1 ++ l)) (members_run ms)
     ∙ ap (λ l. Token.key m.0 ∷ l) (sym (append_assoc (json_tokens m.1) (tokens_of_members ms) (Token.end_object ∷ [])))
+
+-- what is written of an array, once it is closed
+pub array_closed : (before now after : List Token) (done all : List Json) → now ≡ (before ++ Token.begin_array ∷ []) ++ flat_map json_tokens done → done ≡ all
+    → after ≡ now ++ Token.end_array ∷ [] → after ≡ before ++ json_tokens (array_of all)
+array_closed before now after done all so_far whole closed =
+    closed ∙ ap (λ l. l ++ Token.end_array ∷ []) (so_far ∙ ap (λ d. (before ++ Token.begin_array ∷ []) ++ flat_map json_tokens d) whole)
+    ∙ append_assoc (before ++ Token.begin_array ∷ []) (flat_map json_tokens all) (Token.end_array ∷ [])
+    ∙ append_assoc before (Token.begin_array ∷ []) (flat_map json_tokens all ++ Token.end_array ∷ [])
+    ∙ ap (λ l. before ++ Token.begin_array ∷ l) (sym (items_run all))
 
 -- what is written of an object, once it is closed
 pub object_closed : (before now after : List Token) (done all : List (List ℕ × Json)) → now ≡ (before ++ Token.begin_object ∷ []) ++ tokens_of_members done → done ≡ all
@@ -27,6 +43,11 @@ object_closed before now after done all so_far whole closed =
 -- one more behind some
 pub behind : {T : Type 0} (before now after : List T) (some one : List T) → now ≡ before ++ some → after ≡ now ++ one → after ≡ before ++ (some ++ one)
 behind before now after some one so_far is = is ∙ ap (λ l. l ++ one) so_far ∙ append_assoc before some one
+
+-- a name and its value
+pub key_value : (before between after : List Token) (key : List ℕ) (value : Json) → between ≡ before ++ Token.key key ∷ [] → after ≡ between ++ json_tokens value
+    → after ≡ before ++ tokens_of_member (key, value)
+key_value before between after key value named is = behind before between after (Token.key key ∷ []) (json_tokens value) named is
 
 -- one list of members behind another
 pub members_behind : (front before after : List Token) (ms more : List (List ℕ × Json)) → before ≡ front ++ tokens_of_members ms → after ≡ before ++ tokens_of_members more

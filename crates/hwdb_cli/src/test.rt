@@ -1,0 +1,58 @@
+//! `test`: its words, and its task.
+ghost use Rattle.std.specs.Prelude.{IfOk, codes};
+ghost use Rattle.clap.specs.Walk.{rows_of};
+ghost use Rattle.clap.specs.Matches.{found_of};
+ghost use Rattle.hwdb_cli.specs.Drafts.{IsArgument, IsDraft};
+ghost use Rattle.hwdb_spec.specs.Jobs.{HasValue, IsTask};
+ghost use Rattle.hwdb_spec.specs.CommandLine.{database_option_rule, test_app};
+
+use crate::drafts::{Draft, json_option, needed_word, option, shared, with_argument};
+use crate::matched::{copied, has_flag, text_of, values_of};
+use clap::{Arg, ArgAction, ArgMatches};
+use hwdb_spec::Task;
+use std::alloc::{AllocError, Global};
+
+/// What the short help says of it.
+pub const SHORT: &str = "says whether devices get what test files want";
+
+/// What help begins with.
+const ABOUT: &str = "Says whether a database gives devices the properties that test files want";
+
+/// What help ends with.
+const AFTER: &str =
+    "Exit status: 0 if each wanted line holds; 1 if one doesn't, and on errors.\nExample: hwdb test --database new.bin keyboard.test";
+
+/// The command.
+pub fn command<'a>(alloc: Global) -> Draft<'a>
+    ensures { IsDraft test_app result }
+{
+    let help = "A test file, or - for standard input";
+    let command = shared(alloc, "test", ABOUT, AFTER);
+    let with_database = with_argument(command, database_option(alloc));
+    let with_json = with_argument(with_database, json_option(alloc));
+    let files = needed_word(alloc, "FILE", help, ArgAction::Append);
+    with_argument(with_json, files)
+}
+
+/// `--database`.
+fn database_option<'a>(alloc: Global) -> Arg<'a>
+    ensures { IsArgument database_option_rule result }
+{
+    let help = "Ask this database, in place of that of /etc/udev or /usr/lib/udev";
+    option(alloc, "database", "DATABASE", help)
+}
+
+/// The task of `test`.
+pub fn task(alloc: Global, inner: &ArgMatches<'_>) -> Result<Task, AllocError>
+    requires { HasValue (codes "FILE") (rows_of (found_of inner.now)) }
+    ensures { IfOk result (IsTask (codes "test") (rows_of (found_of inner.now))) }
+{
+    let files = values_of(alloc, inner, "FILE")?;
+    let database = copied(alloc, text_of(inner, "database"))?;
+    let json = has_flag(inner, "json");
+    Ok(Task::Test {
+        files,
+        database,
+        json,
+    })
+}

@@ -1,0 +1,161 @@
+//! `status`: how the database that is asked is, beside the one that the text files make.
+ghost use Rattle.std.specs.Prelude.{◌≡◌, ◌≤◌, ◌<◌, ◌+◌, ◌^◌, false, length, option_map, IfOk, OnOk};
+ghost use Rattle.hwdb_spec.specs.Differences.{differences};
+ghost use Rattle.hwdb_spec.specs.Folders.{same};
+ghost use Rattle.hwdb_spec.specs.Tree.{IsTree, Map, map_of};
+ghost use Rattle.hwdb_spec.specs.Written.{IsDatabaseOf};
+ghost use Rattle.hwdb_spec.specs.Status.{IsState, IsStateOf, stale_by, status_of_state};
+ghost use Rattle.hwdb_inspect.specs.Views.{changes_of, state_shown};
+ghost use Rattle.hwdb_inspect.specs.Internal.Counting.{first_kept};
+ghost use Rattle.hwdb_inspect.specs.Internal.Pairing.{to_tell};
+
+use crate::lines::push_pair;
+use crate::pairs::{Pair, Pairs};
+use crate::walk::assignments;
+use hwdb_reader::{Db, check, law_ascending, law_one_tree};
+use std::alloc::{AllocError, Global};
+
+/// The state of the database that is asked.
+#[derive(Drop)]
+pub enum State {
+    /// There is none.
+    Missing,
+    /// Its bytes are no database.
+    Broken,
+    /// Its bytes are those that the text files make.
+    Fresh,
+    /// They are others.
+    Stale {
+        /// How many changes there are from it to what the text files make.
+        changes: usize,
+        /// The line of the first, as `diff` prints it; nothing if there is none.
+        first: Vec<u8>,
+    },
+}
+
+/// How many changes were met, and the line of the first.
+#[derive(Drop)]
+struct Tally {
+    changes: usize,
+    first: Vec<u8>,
+}
+
+impl Tally {
+    /// Counts what happened at a pattern and key. What is in `line` before is dropped. The only error, here and below, is
+    /// `AllocError`.
+    fn count(&mut self, line: &mut Vec<u8>, pair: Pair<'_, '_>) -> Result<(), AllocError>
+        requires { self.old.changes + 1 < 2 ^ 64 }
+        ensures changes { OnOk result
+            (self.new.changes ≡ self.old.changes + length (changes_of pair.entry)) }
+        ensures first { OnOk result
+            (self.new.first.items ≡ first_kept self.old.first.items (changes_of pair.entry)) }
+    {
+        line.clear();
+        if push_pair(line, pair)? {
+            self.changes += 1;
+        }
+        if self.first.is_empty() {
+            self.first.extend_from_slice(line)?;
+        }
+        Ok(())
+    }
+}
+
+/// The changes that are left: how many, and the line of the first.
+fn counted(alloc: Global, pairs: Pairs<'_, '_>) -> Result<State, AllocError>
+    ensures { IfOk result (λ state. state_shown state ≡ stale_by (to_tell pairs.entry)) }
+{
+    let mut left = pairs;
+    let mut line = Vec::new(alloc);
+    let mut tally = Tally {
+        changes: 0,
+        first: Vec::new(alloc),
+    };
+    'pairs: while let Some(pair) = left.next() {
+        tally.count(&mut line, pair)?;
+    }
+    let Tally { changes, first } = tally;
+    Ok(State::Stale { changes, first })
+}
+
+/// What changed from one database to another.
+fn changes_between(alloc: Global, old: &Db<'_>, new: &Db<'_>) -> Result<State, AllocError>
+    requires old { IsTree old.now }
+    requires new { IsTree new.now }
+    ensures { IfOk result
+        (λ state. state_shown state ≡ stale_by (differences (map_of old.now) (map_of new.now))) }
+{
+    let old_ones = assignments(alloc, old)?;
+    let new_ones = assignments(alloc, new)?;
+    counted(alloc, Pairs::new(&old_ones, &new_ones))
+}
+
+/// What changed from a database to the bytes of another.
+fn changes_to(alloc: Global, old: &Db<'_>, made: &[u8]) -> Result<State, AllocError>
+    requires { IsTree old.now }
+    ensures { IfOk result (λ state. (m : Map) → IsDatabaseOf m made.now
+        → state_shown state ≡ stale_by (differences (map_of old.now) m)) }
+{
+    law_one_tree();
+    law_ascending();
+    match check(made) {
+        Ok(new) => changes_between(alloc, old, &new),
+        Err(_) => Ok(State::Broken),
+    }
+}
+
+/// The state of bytes that aren't those that were made.
+fn state_of_others(alloc: Global, bytes: &[u8], made: &[u8]) -> Result<State, AllocError>
+    requires { same bytes.now made.now ≡ false }
+    ensures { IfOk result (λ state. (m : Map) → IsDatabaseOf m made.now
+        → IsStateOf made.now m bytes.now (state_shown state)) }
+{
+    law_ascending();
+    match check(bytes) {
+        Ok(old) => changes_to(alloc, &old, made),
+        Err(_) => Ok(State::Broken),
+    }
+}
+
+/// Whether two texts are one.
+fn is_same(one: &[u8], other: &[u8]) -> bool
+    ensures { result ≡ same one.now other.now }
+{
+    one.cmp(other).is_eq()
+}
+
+/// The state of some bytes beside those that were made.
+fn state_of_bytes(alloc: Global, bytes: &[u8], made: &[u8]) -> Result<State, AllocError>
+    ensures { IfOk result (λ state. (m : Map) → IsDatabaseOf m made.now
+        → IsStateOf made.now m bytes.now (state_shown state)) }
+{
+    if is_same(bytes, made) {
+        Ok(State::Fresh)
+    } else {
+        state_of_others(alloc, bytes, made)
+    }
+}
+
+/// The state of the database that is asked, if there is one, beside the bytes that the text files make.
+///
+/// Bytes that are the same are compared, and no more. Else the memory is all assignments of both, and each is walked once.
+pub fn state_of(alloc: Global, asked: Option<&[u8]>, made: &[u8]) -> Result<State, AllocError>
+    ensures { IfOk result (λ state. (m : Map) → IsDatabaseOf m made.now
+        → IsState made.now m (option_map (λ b. b.now) asked.entry) (state_shown state)) }
+{
+    match asked {
+        Some(bytes) => state_of_bytes(alloc, bytes, made),
+        None => Ok(State::Missing),
+    }
+}
+
+/// The status of a state: 0 if it is fresh, else 1.
+pub fn status_of(state: &State) -> u8
+    ensures is { result ≡ status_of_state (state_shown state.now) }
+    ensures small { result ≤ 1 }
+{
+    match state {
+        State::Fresh => 0,
+        _ => 1,
+    }
+}

@@ -1,0 +1,122 @@
+//! The line of JSON of `status`.
+ghost use Rattle.std.specs.Prelude.{◌≡◌, ◌++◌, map, option_map, IfOk, OnOk};
+ghost use Rattle.json.specs.Tree.{json_tokens};
+ghost use Rattle.hwdb_spec.specs.Json.{array_of, json_line, text_json};
+ghost use Rattle.hwdb_show.specs.JsonTokens.{tokens_of_member, tokens_of_members};
+ghost use Rattle.hwdb_spec.specs.Status;
+ghost use Rattle.hwdb_spec.specs.Status.{maybe_json, report_json, report_object, stale_members, state_members};
+ghost use Rattle.hwdb_inspect.specs.Views.{report_shown, state_shown};
+
+use crate::freshness::State;
+use crate::reports::{Report, state_word};
+use hwdb_show::{ended, put_count, put_member, put_text};
+use json::Writer;
+use std::alloc::{AllocError, Global};
+
+/// Adds a text that there may be. The only error, here and below, is `AllocError`.
+fn put_maybe(json: &mut Writer, said: &Option<Vec<u8>>) -> Result<(), AllocError>
+    ensures before { json.new.before ≡ json.old.before }
+    ensures tokens { OnOk result (json.new.tokens ≡ json.old.tokens
+        ++ json_tokens (maybe_json (option_map (λ t. t.items) said.now))) }
+{
+    match said {
+        Some(said) => put_text(json, said),
+        None => json.null(),
+    }
+}
+
+/// The same under a name.
+fn put_maybe_at(json: &mut Writer, name: &str, said: &Option<Vec<u8>>) -> Result<(), AllocError>
+    ensures before { json.new.before ≡ json.old.before }
+    ensures tokens { OnOk result (json.new.tokens ≡ json.old.tokens
+        ++ tokens_of_member (name.now, maybe_json (option_map (λ t. t.items) said.now))) }
+{
+    json.key(name)?;
+    put_maybe(json, said)
+}
+
+/// Adds some texts as an array.
+fn put_texts(json: &mut Writer, texts: &[Vec<u8>]) -> Result<(), AllocError>
+    ensures before { json.new.before ≡ json.old.before }
+    ensures tokens { OnOk result (json.new.tokens ≡ json.old.tokens
+        ++ json_tokens (array_of (map text_json (map (λ t. t.items) texts.now)))) }
+{
+    json.begin_array()?;
+    for text in texts {
+        put_text(json, text)?;
+    }
+    json.end_array()
+}
+
+/// The same under a name.
+fn put_texts_at(json: &mut Writer, name: &str, texts: &[Vec<u8>]) -> Result<(), AllocError>
+    ensures before { json.new.before ≡ json.old.before }
+    ensures tokens { OnOk result (json.new.tokens ≡ json.old.tokens
+        ++ tokens_of_member (name.now, array_of (map text_json (map (λ t. t.items) texts.now)))) }
+{
+    json.key(name)?;
+    put_texts(json, texts)
+}
+
+/// A line without its end.
+fn without_end(line: &[u8]) -> &[u8]
+    ensures { result.now ≡ Status.without_end line.now }
+{
+    match line.split_last() {
+        Some((_, text)) => text,
+        None => line,
+    }
+}
+
+/// Adds the members that only a stale database has.
+fn put_stale(
+    json: &mut Writer,
+    changes: usize,
+    first: &[u8],
+    remedy: &[u8],
+) -> Result<(), AllocError>
+    ensures before { json.new.before ≡ json.old.before }
+    ensures tokens { OnOk result (json.new.tokens ≡ json.old.tokens
+        ++ tokens_of_members (stale_members changes first.now remedy.now)) }
+{
+    put_count(json, "changes", changes as u64)?;
+    put_member(json, "first", without_end(first))?;
+    put_member(json, "run", remedy)
+}
+
+/// Adds the members that only some states have.
+fn put_state(json: &mut Writer, state: &State, remedy: &[u8]) -> Result<(), AllocError>
+    ensures before { json.new.before ≡ json.old.before }
+    ensures tokens { OnOk result (json.new.tokens ≡ json.old.tokens
+        ++ tokens_of_members (state_members (state_shown state.now) remedy.now)) }
+{
+    match state {
+        State::Fresh => Ok(()),
+        State::Stale { changes, first } => put_stale(json, *changes, first, remedy),
+        _ => put_member(json, "run", remedy),
+    }
+}
+
+/// Adds the object of a report.
+fn put_report(json: &mut Writer, report: &Report) -> Result<(), AllocError>
+    ensures before { json.new.before ≡ json.old.before }
+    ensures tokens { OnOk result (json.new.tokens
+        ≡ json.old.tokens ++ json_tokens (report_object (report_shown report.now))) }
+{
+    json.begin_object()?;
+    put_maybe_at(json, "database", &report.database)?;
+    put_maybe_at(json, "hides", &report.hides)?;
+    put_texts_at(json, "masked", &report.masked)?;
+    put_member(json, "state", state_word(&report.state).as_bytes())?;
+    put_state(json, &report.state, &report.remedy)?;
+    json.end_object()
+}
+
+/// The report as a line of JSON.
+pub(crate) fn report_line(alloc: Global, report: &Report) -> Result<Vec<u8>, AllocError>
+    ensures { IfOk result (λ line. line.items ≡ report_json (report_shown report.now)) }
+{
+    let mut json = Writer::new(Vec::new(alloc));
+    put_report(&mut json, report)?;
+    ended(json)
+}

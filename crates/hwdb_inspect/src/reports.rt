@@ -1,0 +1,153 @@
+//! The lines of `status`.
+ghost use Rattle.std.specs.Prelude.{◌≡◌, ◌++◌, codes, flat_map, map, option_map, unwrap_or, IfOk, OnOk};
+ghost use Rattle.hwdb_spec.specs.Status;
+ghost use Rattle.hwdb_spec.specs.Status.{changes_lines, first_line, remedy_line, report_form, report_text, said_if, said_line};
+ghost use Rattle.hwdb_inspect.specs.Views.{report_shown, state_shown};
+
+use crate::freshness::State;
+use crate::json_reports::report_line;
+use crate::verification::push_count;
+use std::alloc::{AllocError, Global};
+
+/// What `status` reports.
+#[derive(Drop)]
+pub struct Report {
+    /// The path of the database that is asked.
+    pub database: Option<Vec<u8>>,
+    /// The path of the one that it hides.
+    pub hides: Option<Vec<u8>>,
+    /// The paths of text files that others mask.
+    pub masked: Vec<Vec<u8>>,
+    /// The state of the database that is asked.
+    pub state: State,
+    /// The command that makes it anew.
+    pub remedy: Vec<u8>,
+}
+
+/// The word of a state.
+pub(crate) fn state_word(state: &State) -> &'static str
+    ensures { result.now ≡ Status.state_word (state_shown state.now) }
+{
+    match state {
+        State::Missing => "missing",
+        State::Broken => "no database",
+        State::Fresh => "fresh",
+        State::Stale { .. } => "stale",
+    }
+}
+
+/// Adds a line: a name and a text. The only error, here and below, is `AllocError`.
+fn push_line(text: &mut Vec<u8>, name: &str, said: &[u8]) -> Result<(), AllocError>
+    ensures { OnOk result (text.new.items ≡ text.old.items ++ said_line name.now said.now) }
+{
+    text.extend_from_slice(name.as_bytes())?;
+    text.extend_from_slice(b": ")?;
+    text.extend_from_slice(said)?;
+    text.push(b'\n')?;
+    Ok(())
+}
+
+/// Adds a line of a text that there may be.
+fn push_if(text: &mut Vec<u8>, name: &str, said: &Option<Vec<u8>>) -> Result<(), AllocError>
+    ensures { OnOk result (text.new.items
+        ≡ text.old.items ++ said_if name.now (option_map (λ t. t.items) said.now)) }
+{
+    match said {
+        Some(said) => push_line(text, name, said),
+        None => Ok(()),
+    }
+}
+
+/// Adds the line of the database that is asked.
+fn push_database(text: &mut Vec<u8>, path: &Option<Vec<u8>>) -> Result<(), AllocError>
+    ensures { OnOk result (text.new.items ≡ text.old.items ++ said_line (codes "database")
+        (unwrap_or (option_map (λ p. p.items) path.now) (codes "none"))) }
+{
+    match path {
+        Some(path) => push_line(text, "database", path),
+        None => push_line(text, "database", b"none"),
+    }
+}
+
+/// Adds a line for each masked text file.
+fn push_masked(text: &mut Vec<u8>, paths: &[Vec<u8>]) -> Result<(), AllocError>
+    ensures { OnOk result (text.new.items ≡ text.old.items
+        ++ flat_map (said_line (codes "masked")) (map (λ p. p.items) paths.now)) }
+{
+    for path in paths {
+        push_line(text, "masked", path)?;
+    }
+    Ok(())
+}
+
+/// Adds the line of the first change, if there is one.
+fn push_first(text: &mut Vec<u8>, first: &[u8]) -> Result<(), AllocError>
+    ensures { OnOk result (text.new.items ≡ text.old.items ++ first_line first.now) }
+{
+    if first.is_empty() {
+        return Ok(());
+    }
+    text.extend_from_slice(b"first: ")?;
+    text.extend_from_slice(first)?;
+    Ok(())
+}
+
+/// Adds how many changes there are, and the first.
+fn push_changes(text: &mut Vec<u8>, state: &State) -> Result<(), AllocError>
+    ensures { OnOk result
+        (text.new.items ≡ text.old.items ++ changes_lines (state_shown state.now)) }
+{
+    match state {
+        State::Stale { changes, first } => {
+            push_count(text, "changes", *changes as u64)?;
+            push_first(text, first)
+        }
+        _ => Ok(()),
+    }
+}
+
+/// Adds what to run, if the database isn't fresh.
+fn push_remedy(text: &mut Vec<u8>, state: &State, remedy: &[u8]) -> Result<(), AllocError>
+    ensures { OnOk result
+        (text.new.items ≡ text.old.items ++ remedy_line (state_shown state.now) remedy.now) }
+{
+    match state {
+        State::Fresh => Ok(()),
+        _ => push_line(text, "run", remedy),
+    }
+}
+
+/// Adds the lines of a state.
+fn push_state(text: &mut Vec<u8>, state: &State, remedy: &[u8]) -> Result<(), AllocError>
+    ensures { OnOk result (text.new.items ≡ text.old.items
+        ++ (said_line (codes "state") (Status.state_word (state_shown state.now))
+        ++ (changes_lines (state_shown state.now)
+        ++ remedy_line (state_shown state.now) remedy.now))) }
+{
+    push_line(text, "state", state_word(state).as_bytes())?;
+    push_changes(text, state)?;
+    push_remedy(text, state, remedy)
+}
+
+/// The report as lines.
+fn report_lines(alloc: Global, report: &Report) -> Result<Vec<u8>, AllocError>
+    ensures { IfOk result (λ text. text.items ≡ report_text (report_shown report.now)) }
+{
+    let mut text = Vec::new(alloc);
+    push_database(&mut text, &report.database)?;
+    push_if(&mut text, "hides", &report.hides)?;
+    push_masked(&mut text, &report.masked)?;
+    push_state(&mut text, &report.state, &report.remedy)?;
+    Ok(text)
+}
+
+/// The report, as lines or as one line of JSON. The only error is `AllocError`.
+pub fn report_in(alloc: Global, report: &Report, json: bool) -> Result<Vec<u8>, AllocError>
+    ensures { IfOk result (λ text. text.items ≡ report_form json (report_shown report.now)) }
+{
+    if json {
+        report_line(alloc, report)
+    } else {
+        report_lines(alloc, report)
+    }
+}

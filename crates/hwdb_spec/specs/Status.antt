@@ -1,0 +1,209 @@
+-- What `status` says: which database is asked, which one it hides, which text files are masked, and whether the asked one is what
+-- the text files make. The command and its form are our choice.
+use Rattle.std.specs.Prelude.{◌++◌, ◌-◌, ◌∷◌, ◌≡◌, ◌≢◌, ◌≤◌, Bool, List, None, Option, Some, [], codes, false, flat_map, if◌then◌else◌, is_some, length, map, take, true, unwrap_or, ℕ}
+use Rattle.json.specs.Json.{Json, null}
+use Rattle.hwdb_spec.specs.Asked.{database_path}
+use Rattle.hwdb_spec.specs.Differences.{Change, change_text, differences}
+use Rattle.hwdb_spec.specs.Folders.{AreAccepted, Choice, Source, chosen_of}
+use Rattle.hwdb_spec.specs.Format.{IsDatabase}
+use Rattle.hwdb_spec.specs.Json.{array_of, json_line, number_json, object_of, text_json}
+use Rattle.hwdb_spec.specs.Lines.{byte}
+use Rattle.hwdb_spec.specs.Progress.{masks}
+use Rattle.hwdb_spec.specs.Store.{Contents}
+use Rattle.hwdb_spec.specs.Summary.{count_line}
+use Rattle.hwdb_spec.specs.System.{AreFilesIn, asked_database, bytes_at, etc_files, usr_files}
+use Rattle.hwdb_spec.specs.Texts.{max_file}
+use Rattle.hwdb_spec.specs.Tree.{Map, Tree, map_of, map_of_files}
+use Rattle.hwdb_spec.specs.Written.{IsWritten}
+
+-- ---- how a database is, beside what the text files make
+
+-- The state of the asked database: there is none, its bytes are none, or they are those that the text files make. A stale one has
+-- so many changes to that, of which the first has this line.
+pub data State : Type 0 where
+  Missing : State
+  Broken : State
+  Fresh : State
+  Stale : (changes : ℕ) (first : List ℕ) → State
+
+-- the line of the first of some changes, as `diff` prints it; nothing if there is none
+abbrev pub first_text : List Change → List ℕ
+first_text [] = []
+first_text (change ∷ more) = change_text change
+
+-- a stale database with these changes
+abbrev pub stale_by : List Change → State
+stale_by changes = Stale (length changes) (first_text changes)
+
+-- the state of some bytes: fresh exactly if they are the ones made; else by whether they are a database, and what changed from it
+-- to the map of those
+abbrev pub IsStateOf : (made : List ℕ) → Map → (bytes : List ℕ) → State → Type 0
+IsStateOf made m bytes Missing = ⊥
+IsStateOf made m bytes Fresh = bytes ≡ made
+IsStateOf made m bytes Broken = (bytes ≢ made) × ((t : Tree) → IsDatabase bytes t → ⊥)
+IsStateOf made m bytes (Stale changes first) =
+    (bytes ≢ made) × ((t : Tree) × IsDatabase bytes t × (Stale changes first ≡ stale_by (differences (map_of t) m)))
+
+-- the state of the database that is asked, if there is one
+abbrev pub IsState : (made : List ℕ) → Map → (asked : Option (List ℕ)) → State → Type 0
+IsState made m None state = state ≡ Missing
+IsState made m (Some bytes) state = IsStateOf made m bytes state
+
+-- 0 if it is fresh, else 1
+abbrev pub status_of_state : State → ℕ
+status_of_state Fresh = 0
+status_of_state state = 1
+
+-- ---- what is said
+
+-- What `status` reports: the paths of the asked database, of the one it hides and of masked text files. Then the asked one's state,
+-- and the command that makes it anew.
+pub record Report : Type 0 where
+  pub database : Option (List ℕ)
+  pub hides : Option (List ℕ)
+  pub masked : List (List ℕ)
+  pub state : State
+  pub remedy : List ℕ
+
+-- the word of a state
+abbrev pub state_word : State → List ℕ
+state_word Missing = codes "missing"
+state_word Broken = codes "no database"
+state_word Fresh = codes "fresh"
+state_word (Stale changes first) = codes "stale"
+
+-- a line: a name, `: ` and a text
+abbrev pub said_line : (name text : List ℕ) → List ℕ
+said_line name text = name ++ (codes ": " ++ (text ++ byte "\n" ∷ []))
+
+-- the same of a text that there may be
+abbrev pub said_if : (name : List ℕ) → Option (List ℕ) → List ℕ
+said_if name None = []
+said_if name (Some text) = said_line name text
+
+-- the line of the first change, if there is one
+abbrev pub first_line : (first : List ℕ) → List ℕ
+first_line [] = []
+first_line (b ∷ more) = codes "first: " ++ b ∷ more
+
+-- how many changes there are, and the first
+abbrev pub changes_lines : State → List ℕ
+changes_lines (Stale changes first) = count_line (codes "changes") changes ++ first_line first
+changes_lines state = []
+
+-- what to run, if the database isn't fresh
+abbrev pub remedy_line : State → (remedy : List ℕ) → List ℕ
+remedy_line Fresh remedy = []
+remedy_line state remedy = said_line (codes "run") remedy
+
+-- the report as lines
+abbrev pub report_text : Report → List ℕ
+report_text r =
+    said_line (codes "database") (unwrap_or r.database (codes "none"))
+    ++ (said_if (codes "hides") r.hides
+    ++ (flat_map (said_line (codes "masked")) r.masked
+    ++ (said_line (codes "state") (state_word r.state) ++ (changes_lines r.state ++ remedy_line r.state r.remedy))))
+
+-- a text that there may be
+abbrev pub maybe_json : Option (List ℕ) → Json
+maybe_json None = null
+maybe_json (Some text) = text_json text
+
+-- a text without its last byte, the end of its line
+abbrev pub without_end : List ℕ → List ℕ
+without_end text = take (length text - 1) text
+
+-- the members that a stale database has
+abbrev pub stale_members : (changes : ℕ) (first remedy : List ℕ) → List (List ℕ × Json)
+stale_members changes first remedy =
+    (codes "changes", number_json changes) ∷ (codes "first", text_json (without_end first)) ∷ (codes "run", text_json remedy) ∷ []
+
+-- the members that only some states have
+abbrev pub state_members : State → (remedy : List ℕ) → List (List ℕ × Json)
+state_members Fresh remedy = []
+state_members (Stale changes first) remedy = stale_members changes first remedy
+state_members state remedy = (codes "run", text_json remedy) ∷ []
+
+-- the report as an object
+abbrev pub report_object : Report → Json
+report_object r =
+    object_of ((codes "database", maybe_json r.database) ∷ (codes "hides", maybe_json r.hides) ∷ (codes "masked", array_of (map text_json r.masked))
+    ∷ (codes "state", text_json (state_word r.state)) ∷ state_members r.state r.remedy)
+
+-- the same as a line of JSON
+abbrev pub report_json : Report → List ℕ
+report_json r = json_line (report_object r)
+
+-- what is printed, as lines or with `--json`
+abbrev pub report_form : (json : Bool) → Report → List ℕ
+report_form false = report_text
+report_form true = report_json
+
+-- ---- what is there
+
+-- the path of the database that is asked, by whether /etc's and /usr/lib's are there
+abbrev pub path_asked : (root : List ℕ) (etc usr : Bool) → Option (List ℕ)
+path_asked root true usr = Some (database_path false root)
+path_asked root false true = Some (database_path true root)
+path_asked root false false = None
+
+-- the path of /usr/lib's, if /etc's hides it
+abbrev pub path_hidden : (root : List ℕ) (etc usr : Bool) → Option (List ℕ)
+path_hidden root true true = Some (database_path true root)
+path_hidden root etc usr = None
+
+-- whether /usr/lib's database is asked
+abbrev pub is_usr_asked : (etc usr : Bool) → Bool
+is_usr_asked false true = true
+is_usr_asked etc usr = false
+
+-- a root as an option of the command; nothing if none was given
+abbrev pub root_words : (root : List ℕ) → List ℕ
+root_words [] = []
+root_words (b ∷ more) = codes " --root=" ++ b ∷ more
+
+-- the command that makes the database of a folder anew
+abbrev pub update_words : (usr : Bool) (root : List ℕ) → List ℕ
+update_words usr root = codes "hwdb update" ++ ((if usr then codes " --usr" else []) ++ root_words root)
+
+-- the path of the text file of /usr/lib that a chosen one masks, if it does
+abbrev pub masked_of : (listed : List (List ℕ)) → Choice → List (List ℕ)
+masked_of listed c = if masks listed c then (codes "/usr/lib/udev/hwdb.d/" ++ c.name) ∷ [] else []
+
+-- the masked text files, where /usr/lib has these names
+abbrev pub masked_paths : (listed : List (List ℕ)) → List Choice → List (List ℕ)
+masked_paths listed chosen = flat_map (masked_of listed) chosen
+
+-- the report of what is there
+abbrev pub report_of : (root : List ℕ) (etc usr : Bool) (masked : List (List ℕ)) → State → Report
+report_of root etc usr masked state = record {
+  database = path_asked root etc usr;
+  hides = path_hidden root etc usr;
+  masked = masked;
+  state = state;
+  remedy = update_words (is_usr_asked etc usr) root;
+}
+
+-- whether something is in the place of the database of a folder
+abbrev pub has_database : (usr : Bool) (root : List ℕ) → Contents → Bool
+has_database usr root contents = is_some (bytes_at contents (database_path usr root))
+
+-- the text files of both folders, and the database that `update` would make of them
+pub record IsMade (root : List ℕ) (contents : Contents) (of_etc of_usr : List Source) (made : List ℕ) : Type 0 where
+  pub in_etc : AreFilesIn (etc_files root) contents of_etc
+  pub in_usr : AreFilesIn (usr_files root) contents of_usr
+  pub accepted : AreAccepted of_etc of_usr
+  pub written : IsWritten (map_of_files of_etc of_usr) made
+  pub within : length made ≤ max_file
+
+-- the text reports the asked database beside that one, and the status says whether it is fresh
+pub record IsStatus (root : List ℕ) (json : Bool) (contents : Contents) (text : List ℕ) (status : ℕ) : Type 0 where
+  pub of_etc : List Source
+  pub of_usr : List Source
+  pub made : List ℕ
+  pub is_made : IsMade root contents of_etc of_usr made
+  pub state : State
+  pub stands : IsState made (map_of_files of_etc of_usr) (asked_database root contents) state
+  pub is : text ≡ report_form json (report_of root (has_database false root contents) (has_database true root contents)
+      (masked_paths (map (λ (s : Source). s.name) of_usr) (chosen_of of_etc of_usr)) state)
+  pub says : status ≡ status_of_state state

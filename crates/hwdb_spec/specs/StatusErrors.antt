@@ -1,0 +1,43 @@
+-- The errors of `status`. Our choice.
+use Rattle.std.specs.Prelude.{◌≡◌, ◌⊎◌, List, ℕ}
+use Rattle.hwdb_spec.specs.Asked.{IsAskedPath}
+use Rattle.hwdb_spec.specs.CompileErrors.{IsRefusal}
+use Rattle.hwdb_spec.specs.Errors.{refusal_of_compile}
+use Rattle.hwdb_spec.specs.Folders.{Source}
+use Rattle.hwdb_spec.specs.Reading.{AreUnread}
+use Rattle.hwdb_spec.specs.Refusals.{IsUnreadAt}
+use Rattle.hwdb_spec.specs.Status.{IsMade}
+use Rattle.hwdb_spec.specs.Store.{Contents}
+use Rattle.hwdb_spec.specs.System.{AreFilesIn, etc_files, usr_files}
+use Rattle.hwdb_spec.specs.Texts.{max_file}
+use Rattle.hwdb_spec.specs.declared.errors.CompileError.{CompileError}
+use Rattle.hwdb_spec.specs.declared.refusals.Refusal.{Refusal}
+use Rattle.hwdb_spec.specs.declared.refusals.Refusal.TheVariants.{Plain}
+
+-- these files give an error of the compiler
+abbrev pub IsNotCompiled : (of_etc of_usr : List Source) → Refusal → Type 0
+IsNotCompiled of_etc of_usr refusal = (error : CompileError) × (refusal ≡ Plain (refusal_of_compile error)) × IsRefusal of_etc of_usr max_file error
+
+-- the text files of both folders were read, and give an error of the compiler
+pub record AreNotMade (root : List ℕ) (contents : Contents) (refusal : Refusal) : Type 0 where
+  pub of_etc : List Source
+  pub of_usr : List Source
+  pub in_etc : AreFilesIn (etc_files root) contents of_etc
+  pub in_usr : AreFilesIn (usr_files root) contents of_usr
+  pub refused : IsNotCompiled of_etc of_usr refusal
+
+-- the database that is asked can't be read; or want of memory
+abbrev pub IsAskedUnread : (root : List ℕ) → Contents → Refusal → Type 0
+IsAskedUnread root contents refusal = (path : List ℕ) × IsAskedPath root contents path × IsUnreadAt contents path refusal
+
+-- the text files were read and compiled, and the database that is asked can't be read
+pub record IsNotBeside (root : List ℕ) (contents : Contents) (refusal : Refusal) : Type 0 where
+  pub of_etc : List Source
+  pub of_usr : List Source
+  pub made : List ℕ
+  pub is_made : IsMade root contents of_etc of_usr made
+  pub unread : IsAskedUnread root contents refusal
+
+-- `status` fails: the text files can't be read; or not be compiled; or after that the database that is asked can't be read
+abbrev pub IsStatusRefused : (root : List ℕ) → Contents → Refusal → Type 0
+IsStatusRefused root contents refusal = AreUnread root contents refusal ⊎ (AreNotMade root contents refusal ⊎ IsNotBeside root contents refusal)

@@ -1,0 +1,99 @@
+use Rattle.std.proofs.Common.{List, ap, inl, inr, map, refl, string_bytes, subst, sym, ◌∙◌, ◌≡◌, ℕ}
+use Rattle.hwdb_compile.specs.Views.{ForFolders, choice_in}
+use Rattle.hwdb_compile.specs.declared.sources.ChosenFile.{ChosenFile}
+use Rattle.hwdb_spec.specs.Refusals.{HasReason}
+use Rattle.hwdb_spec.specs.Runs.{OnOut}
+use Rattle.hwdb_spec.specs.Status.{IsStatus, masked_paths}
+use Rattle.hwdb_spec.specs.StatusErrors.{IsNotCompiled, IsStatusRefused}
+use Rattle.hwdb_spec.specs.declared.errors.ToolError.TheVariants.{Memory}
+use Rattle.hwdb_spec.specs.declared.refusals.Refusal.TheVariants.{Plain}
+use Rattle.hwdb_text.specs.Views.{choice_of}
+use Rattle.hwdb_tool.specs.Internal.{AreReadOf}
+use Rattle.hwdb_tool.specs.Statuses.{AreMadeOf}
+use Rattle.hwdb_tool.specs.Views.{texts_in}
+use Rattle.hwdb_tool.proofs.ErrorLemmas.{each_error, each_value, given_error}
+use Rattle.hwdb_tool.proofs.FolderLemmas.{are_read}
+use Rattle.hwdb_tool.proofs.StatusLemmas.{not_beside, not_made, reported_status}
+use Rattle.hwdb_tool.proofs.statuses.status.Goals as goal
+
+pub returns-clause-status : goal.returns-clause-status
+returns-clause-status g c = λ tells.
+    let root = c.args.root.now in
+    let seen = g.D.Store.seen c.args.system.now in
+    let chosen = map choice_of c.in_ok-selection.selection.chosen.items in
+    let texts = map (λ t. t.items) c.in_ok-selection.selection.texts.items in
+    let listed = map string_bytes c.in_ok-selection.selection.listed.items in
+    let files = c.in_ok-files.files.items in
+    let read : AreReadOf root seen listed files =
+    are_read root seen listed chosen texts files (c.in_ok-selection.ensures.selected tells)
+    (c.in_ok-files.ensures.choices ∙ ap (map choice_of) c.deref.ensures.value) (c.in_ok-files.ensures.bytes ∙ ap (map (λ t. t.items)) c.deref-2.ensures.value) in
+    let made = c.deref-6.result.now in
+    let made_of : ForFolders files (λ etc usr. AreMadeOf etc usr made) =
+    subst (λ (d : List ℕ). ForFolders files (λ etc usr. AreMadeOf etc usr d)) (sym c.deref-6.ensures.value)
+    (subst (λ (l : List ChosenFile). ForFolders l (λ etc usr. AreMadeOf etc usr c.in_ok-made.made.database.items)) c.deref-3.ensures.value c.in_ok-made.ensures.made) in
+    let masks : map (λ p. p.items) c.in_ok-masked.masked.items ≡ masked_paths listed (map choice_in files) =
+    c.in_ok-masked.ensures
+    ∙ ap (λ l. masked_paths (map string_bytes l) (map choice_in c.deref-4.result.now)) c.deref-5.ensures.value
+    ∙ ap (λ (l : List ChosenFile). masked_paths listed (map choice_in l)) c.deref-4.ensures.value in
+    each_value _ (λ a. OnOut (λ text. IsStatus root c.args.json seen text a.status) (texts_in a)) c.reported.result
+    (λ a told. reported_status root seen listed files read c.args.json made (map (λ p. p.items) c.in_ok-masked.masked.items) a made_of masks told)
+    (c.reported.ensures.reported tells)
+
+pub returns-in_err-selection-clause-refused : goal.returns-in_err-selection-clause-refused
+returns-in_err-selection-clause-refused g c = λ tells.
+    given_error c.in_err-selection.field-0.0 (IsStatusRefused c.args.root.now (g.D.Store.seen c.args.system.now)) c.from_residual.result c.from_residual.ensures.1
+    (inl (c.in_err-selection.ensures.refused tells))
+
+pub returns-in_err-selection-clause-reason : goal.returns-in_err-selection-clause-reason
+returns-in_err-selection-clause-reason g c = λ tells.
+    given_error c.in_err-selection.field-0.0 (HasReason (g.D.System.may_fail c.args.system.now) ⊥ (g.D.Store.seen c.args.system.now)) c.from_residual.result c.from_residual.ensures.1
+    (c.in_err-selection.ensures.reason tells)
+
+pub returns-in_err-files-clause-refused : goal.returns-in_err-files-clause-refused
+returns-in_err-files-clause-refused g c = λ tells.
+    given_error (Plain Memory) (IsStatusRefused c.args.root.now (g.D.Store.seen c.args.system.now)) c.from_residual-in_err-files.result c.from_residual-in_err-files.ensures.1
+    (inl (inl refl))
+
+pub returns-in_err-made-clause-refused : goal.returns-in_err-made-clause-refused
+returns-in_err-made-clause-refused g c = λ tells.
+    let root = c.args.root.now in
+    let seen = g.D.Store.seen c.args.system.now in
+    let chosen = map choice_of c.in_ok-selection.selection.chosen.items in
+    let texts = map (λ t. t.items) c.in_ok-selection.selection.texts.items in
+    let listed = map string_bytes c.in_ok-selection.selection.listed.items in
+    let files = c.in_ok-files.files.items in
+    let r = c.in_err-made.field-0.0 in
+    let read : AreReadOf root seen listed files =
+    are_read root seen listed chosen texts files (c.in_ok-selection.ensures.selected tells)
+    (c.in_ok-files.ensures.choices ∙ ap (map choice_of) c.deref.ensures.value) (c.in_ok-files.ensures.bytes ∙ ap (map (λ t. t.items)) c.deref-2.ensures.value) in
+    given_error r (IsStatusRefused root seen) c.from_residual-in_err-made.result c.from_residual-in_err-made.ensures.1
+    (inr (inl (not_made root seen listed files read r
+    (subst (λ (l : List ChosenFile). ForFolders l (λ etc usr. IsNotCompiled etc usr r)) c.deref-3.ensures.value c.in_err-made.ensures.refused))))
+
+pub returns-in_err-made-clause-reason : goal.returns-in_err-made-clause-reason
+returns-in_err-made-clause-reason g c = λ tells.
+    let r = c.in_err-made.field-0.0 in
+    let Reason = HasReason (g.D.System.may_fail c.args.system.now) ⊥ (g.D.Store.seen c.args.system.now) in
+    given_error r Reason c.from_residual-in_err-made.result c.from_residual-in_err-made.ensures.1
+    (subst Reason (sym c.in_err-made.ensures.plain.1) tt)
+
+pub returns-in_err-masked-clause-refused : goal.returns-in_err-masked-clause-refused
+returns-in_err-masked-clause-refused g c = λ tells.
+    given_error (Plain Memory) (IsStatusRefused c.args.root.now (g.D.Store.seen c.args.system.now)) c.from_residual-in_err-masked.result c.from_residual-in_err-masked.ensures.1
+    (inl (inl refl))
+
+pub returns-clause-refused : goal.returns-clause-refused
+returns-clause-refused g c = λ tells.
+    let root = c.args.root.now in
+    let seen = g.D.Store.seen c.args.system.now in
+    let chosen = map choice_of c.in_ok-selection.selection.chosen.items in
+    let texts = map (λ t. t.items) c.in_ok-selection.selection.texts.items in
+    let listed = map string_bytes c.in_ok-selection.selection.listed.items in
+    let files = c.in_ok-files.files.items in
+    let read : AreReadOf root seen listed files =
+    are_read root seen listed chosen texts files (c.in_ok-selection.ensures.selected tells)
+    (c.in_ok-files.ensures.choices ∙ ap (map choice_of) c.deref.ensures.value) (c.in_ok-files.ensures.bytes ∙ ap (map (λ t. t.items)) c.deref-2.ensures.value) in
+    let made = c.in_ok-made.made.database.items in
+    let made_of : ForFolders files (λ etc usr. AreMadeOf etc usr made) =
+    subst (λ (l : List ChosenFile). ForFolders l (λ etc usr. AreMadeOf etc usr made)) c.deref-3.ensures.value c.in_ok-made.ensures.made in
+    each_error _ (IsStatusRefused root seen) c.reported.result (λ r unread. inr (inr (not_beside root seen listed files read made r made_of unread))) (c.reported.ensures.refused tells)
