@@ -148,9 +148,6 @@ pub fn push_prefix_report(
         (map pattern_at patterns.now) (map (λ t. t.now) texts.now) prefix.now) }
 {
     let texts_there = texts_below(alloc, texts, prefix)?;
-    if texts_there.is_empty() {
-        return Ok(());
-    }
     let patterns_there = patterns_below(alloc, patterns, prefix)?;
     push_closest(alloc, report, &patterns_there, &texts_there)
 }
