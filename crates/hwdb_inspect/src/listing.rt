@@ -7,7 +7,7 @@ ghost use Rattle.hwdb_spec.specs.DumpErrors.{IsDumpRefusal, IsUnsaidRefusal};
 ghost use Rattle.hwdb_inspect.specs.Views.{assignment_of};
 
 use crate::pairs::by_place;
-use crate::records::{is_said, push_record};
+use crate::records::push_said;
 use crate::walk::assignments;
 use hwdb_query::StoredAssignment;
 use hwdb_reader::{Db, check};
@@ -39,28 +39,18 @@ fn ordered<'a>(alloc: Global, db: &Db<'a>) -> Result<Vec<StoredAssignment<'a>>, 
     Ok(list)
 }
 
-/// The first of some assignments that its record doesn't say is an error.
-fn check_sayable(alloc: Global, list: &[StoredAssignment<'_>]) -> Result<(), DumpError>
+/// The record of each assignment. The first assignment that its record doesn't say is an error.
+fn said_records(alloc: Global, list: &[StoredAssignment<'_>]) -> Result<Vec<u8>, DumpError>
+    ensures text { IfOk result
+        (λ text. text.items ≡ flat_map record_text (map assignment_of list.now)) }
     ensures said { OnOk result (first_unsaid (map assignment_of list.now) ≡ None) }
     ensures unsaid { IfErr result (IsUnsaidRefusal (map assignment_of list.now)) }
 {
     let mut text = Vec::new(alloc);
     for f in list {
-        if !is_said(alloc, &mut text, f)? {
+        if !push_said(alloc, &mut text, f)? {
             return Err(DumpError::Unsayable(f.pattern.to_vec(alloc)?));
         }
-    }
-    Ok(())
-}
-
-/// The record of each assignment. The only error is `AllocError`.
-fn records_of(alloc: Global, list: &[StoredAssignment<'_>]) -> Result<Vec<u8>, AllocError>
-    ensures { IfOk result
-        (λ text. text.items ≡ flat_map record_text (map assignment_of list.now)) }
-{
-    let mut text = Vec::new(alloc);
-    'records: for f in list {
-        push_record(&mut text, f)?;
     }
     Ok(text)
 }
@@ -84,6 +74,5 @@ pub fn dump(alloc: Global, bytes: &[u8]) -> Result<Vec<u8>, DumpError>
         Err(fault) => return Err(DumpError::Database(fault)),
     };
     let list = ordered(alloc, &db)?;
-    check_sayable(alloc, &list)?;
-    Ok(records_of(alloc, &list)?)
+    said_records(alloc, &list)
 }

@@ -26,7 +26,7 @@ fn push_comment(text: &mut Vec<u8>, f: &StoredAssignment<'_>) -> Result<(), Allo
 }
 
 /// Adds the record of an assignment: a comment, its pattern, its property, and an empty line.
-pub(crate) fn push_record(text: &mut Vec<u8>, f: &StoredAssignment<'_>) -> Result<(), AllocError>
+fn push_record(text: &mut Vec<u8>, f: &StoredAssignment<'_>) -> Result<(), AllocError>
     ensures { OnOk result (text.new.items ≡ text.old.items ++ record_text (assignment_of f.now)) }
 {
     push_comment(text, f)?;
@@ -59,19 +59,29 @@ fn says(scanned: &Scanned<'_>, f: &StoredAssignment<'_>) -> bool
     scanned.faults.is_empty() && scanned.assignments.len() == 1 && gives(&scanned.assignments[0], f)
 }
 
-/// Whether the record of an assignment says it. What is in `text` before is dropped. The only error is `AllocError`.
-pub(crate) fn is_said(
-    alloc: Global,
-    text: &mut Vec<u8>,
-    f: &StoredAssignment<'_>,
-) -> Result<bool, AllocError>
+/// Whether a text, which is the record of an assignment, says it. The only error is `AllocError`.
+fn is_said(alloc: Global, text: &[u8], f: &StoredAssignment<'_>) -> Result<bool, AllocError>
+    requires { text.now ≡ record_text (assignment_of f.now) }
     ensures { IfOk result (λ said. said ≡ Dump.is_said (assignment_of f.now)) }
 {
-    text.clear();
-    push_record(text, f)?;
     match scan(alloc, text) {
         Ok(scanned) => Ok(says(&scanned, f)),
         Err(ScanError::TooManyLines) => Ok(false),
         Err(ScanError::Memory) => Err(AllocError),
     }
+}
+
+/// Adds the record of an assignment, and answers whether the record says it. The only error is `AllocError`.
+pub(crate) fn push_said(
+    alloc: Global,
+    text: &mut Vec<u8>,
+    f: &StoredAssignment<'_>,
+) -> Result<bool, AllocError>
+    ensures text { OnOk result
+        (text.new.items ≡ text.old.items ++ record_text (assignment_of f.now)) }
+    ensures said { IfOk result (λ said. said ≡ Dump.is_said (assignment_of f.now)) }
+{
+    let from = text.as_slice().len();
+    push_record(text, f)?;
+    is_said(alloc, &text[from..], f)
 }

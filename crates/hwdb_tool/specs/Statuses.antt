@@ -1,5 +1,5 @@
 -- What the steps of `status` hold.
-use Rattle.std.specs.Prelude.{◌≡◌, ◌≤◌, [], Bool, List, length, ℕ}
+use Rattle.std.specs.Prelude.{◌≡◌, ◌≤◌, [], Bool, List, false, length, true, ℕ}
 use Rattle.hwdb_spec.specs.Folders.{AreAccepted, Source}
 use Rattle.hwdb_spec.specs.Status.{IsState, State, has_database, report_form, report_of, status_of_state}
 use Rattle.hwdb_spec.specs.Store.{Contents}

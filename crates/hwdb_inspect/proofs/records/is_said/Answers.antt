@@ -8,8 +8,8 @@ pub returns-in-Ok : goal.returns-in-Ok
 returns-in-Ok c =
     let f = assignment_of c.args.f.now in
     c.says.ensures
-    ∙ said_is f c.deref.result.now _ _ (c.deref.ensures.value ∙ search rules) c.in-Ok.ensures.few c.in-Ok.ensures.faults (c.in-Ok.ensures.assignments (origin_of f))
+    ∙ said_is f c.args.text.now _ _ c.requires c.in-Ok.ensures.few c.in-Ok.ensures.faults (c.in-Ok.ensures.assignments (origin_of f))
 
 pub returns-in-Err-TooManyLines : goal.returns-in-Err-TooManyLines
 returns-in-Err-TooManyLines c =
-    unsaid_is (assignment_of c.args.f.now) c.deref.result.now (c.deref.ensures.value ∙ search rules) (search rules)
+    unsaid_is (assignment_of c.args.f.now) c.args.text.now c.requires (search rules)
