@@ -4,7 +4,7 @@ ghost use Rattle.hwdb_forms.specs.Internal.{Leads, piece_of, piece_size, views};
 ghost use Rattle.hwdb_forms.specs.Internal;
 
 use crate::pieces::Piece;
-use crate::sets::meets;
+use crate::sets::{meets, meets_byte};
 use hwdb_pattern::begins_star;
 use hwdb_spec::ByteSet;
 
@@ -32,7 +32,7 @@ pub(crate) fn pass_fixed(bytes: &[u8], tokens: &[&[u8]]) -> Passed
         if begins_star(tokens[at]) {
             return Passed::Unknown;
         }
-        if !meets(tokens[at], ByteSet::Only(bytes[at])) {
+        if !meets_byte(tokens[at], bytes[at]) {
             return Passed::No;
         }
         at += 1;

@@ -4,6 +4,7 @@ ghost use Rattle.std.specs.List.{list_any};
 ghost use Rattle.hwdb_spec.specs.Patterns.{admits_byte, token_at};
 ghost use Rattle.hwdb_spec.specs.Forms.{candidates, is_in};
 ghost use Rattle.hwdb_spec.specs.Forms;
+ghost use Rattle.hwdb_spec.specs.declared.ByteSet.TheVariants.{Only};
 ghost use Rattle.hwdb_forms.specs.Internal;
 
 use hwdb_pattern::begins_with;
@@ -80,4 +81,26 @@ pub(crate) fn meets(text: &[u8], set: ByteSet) -> bool
         return bracket_meets(text, set);
     }
     has(set, text[0])
+}
+
+/// Whether the byte is this one.
+fn is_own(own: u8, byte: u8) -> bool
+    ensures { result ≡ is_in (Only own) byte }
+{
+    byte == own
+}
+
+/// As `meets`, of one byte. A token for a byte of its own is compared with it at once.
+#[inline(always)]
+pub(crate) fn meets_byte(text: &[u8], byte: u8) -> bool
+    ensures { result ≡ Forms.meets (token_at text.now) (Only byte) }
+{
+    if text.is_empty() {
+        return meets(text, ByteSet::Only(byte));
+    }
+    let first = text[0];
+    if first == b'*' || first == b'?' || first == b'[' {
+        return meets(text, ByteSet::Only(byte));
+    }
+    is_own(byte, first)
 }

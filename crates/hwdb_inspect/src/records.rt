@@ -60,11 +60,7 @@ fn says(scanned: &Scanned<'_>, f: &StoredAssignment<'_>) -> bool
 }
 
 /// Whether a text, which is the record of an assignment, says it. The only error is `AllocError`.
-fn is_said(
-    alloc: Global,
-    text: &[u8],
-    f: &StoredAssignment<'_>,
-) -> Result<bool, AllocError>
+fn is_said(alloc: Global, text: &[u8], f: &StoredAssignment<'_>) -> Result<bool, AllocError>
     requires { text.now ≡ record_text (assignment_of f.now) }
     ensures { IfOk result (λ said. said ≡ Dump.is_said (assignment_of f.now)) }
 {

@@ -1,5 +1,5 @@
 -- Assignments that ascend by pattern and key: none is replaced.
-use Rattle.std.proofs.Common.{◌≡◌, ℕ, ◌+◌, ◌<◌, ◌≤◌, Bool, true, false, List, [], ◌∷◌, map, take, length, get_or, suc, zero, refl, ap, ◌∙◌, sym, subst, cond, arith, add-one}
+use Rattle.std.proofs.Common.{◌≡◌, ℕ, ◌+◌, ◌<◌, ◌≤◌, Bool, true, false, List, [], ◌∷◌, map, take, length, get_or, suc, zero, refl, ap, ◌∙◌, sym, cond, arith, add-one}
 use Rattle.std.specs.Prelude.{filter, max, nat_lt}
 use Rattle.std.specs.List.{AllByRecursion}
 use Rattle.std.specs.List.Sorted.{IsStrictlySortedBy}

@@ -1,11 +1,11 @@
 -- Which lines of standard input were answered so far, and what ends it.
-use Rattle.std.proofs.Common.{◌≡◌, ◌∙◌, ◌⊎◌, ◌+◌, ◌-◌, ◌<◌, ◌≤◌, ◌==◌, ℕ, zero, suc, Bool, true, false, refl, ap, sym, subst, arith, inl, inr, List, [], ◌∷◌, ◌++◌, append_assoc, append-nil, length, length-append, length-take-le, take, Option, None, Some, IfSome, Result, Ok, Err, IfErr, if◌then◌else◌, eq-eqb, ne_eqb, lt-ltb, le-ltb}
+use Rattle.std.proofs.Common.{◌≡◌, ◌∙◌, ◌⊎◌, ◌+◌, ◌-◌, ◌<◌, ◌≤◌, ◌==◌, ℕ, zero, suc, Bool, true, false, refl, ap, sym, subst, arith, inl, inr, List, [], ◌∷◌, ◌++◌, append_assoc, append-nil, length, length-append, take, Option, None, Some, IfSome, Result, Ok, Err, IfErr, if◌then◌else◌, eq-eqb, ne_eqb, lt-ltb, le-ltb}
 use Rattle.std.proofs.KnownBytes.{Appends-nil, Appends-trans, prepend_known-nil}
 use Rattle.std.proofs.Math.Seq.{take-append-add}
 use Rattle.std.proofs.lemmas.List.Concat.{flat_map-append}
 use Rattle.std.specs.Io.KnownBytes.{Appends, IsAtEnd, prepend_known}
 use Rattle.std.specs.List.{position_or_len}
-use Rattle.std.specs.Prelude.{Any, flat_map}
+use Rattle.std.specs.Prelude.{Any}
 use Rattle.std.specs.Result.{IsErrAnd}
 use Rattle.hwdb_spec.specs.declared.errors.ReadError.{ReadError}
 use Rattle.hwdb_spec.specs.declared.errors.ReadError.TheVariants as reading

@@ -1,25 +1,18 @@
 -- Answers that are written, one after another.
-use Rattle.std.proofs.Common.{◌≡◌, ◌∙◌, ℕ, ◌+◌, ◌<◌, ◌≤◌, Bool, true, false, refl, ap, sym, subst, arith, List, [], ◌∷◌, ◌++◌, append_assoc, append-nil, map, length, Option, None, Some, IfSome, IfNone}
-use Rattle.std.specs.Prelude.{Any, flat_map}
-use Rattle.std.specs.List.{position_or_len}
-use Rattle.std.specs.Io.KnownBytes.{Appends, IsAtEnd, prepend_known}
-use Rattle.std.proofs.KnownBytes.{Appends-nil, prepend_known-nil}
+use Rattle.std.proofs.Common.{◌≡◌, ◌∙◌, ℕ, Bool, true, false, refl, ap, sym, subst, arith, List, [], ◌∷◌, ◌++◌, append_assoc, append-nil, map, length, Option, None, Some, IfSome, IfNone}
+use Rattle.std.specs.Prelude.{flat_map}
 use Rattle.hwdb_spec.specs.Folders.{Source, all_assignments}
 use Rattle.hwdb_spec.specs.Assignment.{Assignment}
 use Rattle.hwdb_spec.specs.Answers.{effective_of, last_assignments}
 use Rattle.hwdb_spec.specs.Explanations.{explain_text, explained, explained_text, explanations_text}
 use Rattle.hwdb_spec.specs.Json.{device_json, explain_json, explained_json, explanations_json, json_line}
 use Rattle.hwdb_spec.specs.Lines.{is}
-use Rattle.hwdb_spec.specs.ManyDevices.{HasLongLine}
-use Rattle.hwdb_spec.specs.Texts.{devices_of, empty_line, last_values_text, properties_text, query_text, with_empty_lines}
+use Rattle.hwdb_spec.specs.Texts.{empty_line, last_values_text, properties_text, query_text, with_empty_lines}
 use Rattle.hwdb_spec.specs.Tree.{Tree, answers}
-use Rattle.hwdb_spec.specs.Outputs.{AppendsPrefix}
-use Rattle.hwdb_print.proofs.TextLemmas.{part_text, part_texts, same_lines, same_texts, whole_texts}
-use Rattle.hwdb_print.proofs.LineLemmas.{long_behind, long_line, no_lines}
+use Rattle.hwdb_print.proofs.TextLemmas.{same_lines, same_texts}
 use Rattle.hwdb_spec.specs.declared.form.Form.{Form}
 use Rattle.hwdb_spec.specs.declared.form.Form.TheVariants.{Explain, Query}
 use Rattle.hwdb_print.specs.Internal.{answer_text, texts_from}
-use Rattle.hwdb_print.specs.Streams.{IsFirstLine}
 use Rattle.hwdb_spec.specs.Streams.{last_texts_of, texts_of}
 
 -- what stands behind a text
@@ -83,79 +76,6 @@ pub one_text : (form : Form) (t : Tree) (device : List ℕ) → answer_text form
 one_text form t device =
     sym (next_text form true t device [] ∙ ap (λ (l : List ℕ). answer_text form true device t ++ l) (no_text form false t) ∙ append-nil (answer_text form true device t))
 
-module _ (form : Form) (is_first : Bool) (t : Tree) where
-  step : (text line xs ys : List ℕ) → devices_of xs ≡ line ∷ devices_of ys → text ≡ answer_text form is_first line t
-      → texts_from form is_first (devices_of xs) t ≡ text ++ texts_from form false (devices_of ys) t
-  step text line xs ys first is =
-      ap (λ (ds : List (List ℕ)). texts_from form is_first ds t) first
-      ∙ next_text form is_first t line (devices_of ys)
-      ∙ ap (λ (l : List ℕ). l ++ texts_from form false (devices_of ys) t) (sym is)
-
-  -- a text was written, and those behind it
-  pub whole_step : (b c u v end : Option (List ℕ)) (line text : List ℕ) → IsFirstLine line b c → text ≡ answer_text form is_first line t → Appends u v text
-      → IfSome c (λ ys. Appends v end (texts_from form false (devices_of ys) t)) → IfSome b (λ xs. Appends u end (texts_from form is_first (devices_of xs) t))
-  whole_step None c u v end line text first is p q = tt
-  whole_step (Some x) None u v end line text first is p q = absurd first
-  whole_step (Some x) (Some y) u v end line text first is p q = whole_texts u v end text _ _ (step text line x y first.0 is) p q
-
-  pub part_step : (b c u v end : Option (List ℕ)) (line text : List ℕ) → IsFirstLine line b c → text ≡ answer_text form is_first line t → Appends u v text
-      → IfSome c (λ ys. AppendsPrefix v end (texts_from form false (devices_of ys) t)) → IfSome b (λ xs. AppendsPrefix u end (texts_from form is_first (devices_of xs) t))
-  part_step None c u v end line text first is p q = tt
-  part_step (Some x) None u v end line text first is p q = absurd first
-  part_step (Some x) (Some y) u v end line text first is p q = part_texts u v end text _ _ (step text line x y first.0 is) p q
-
-  -- a part of it was written
-  pub part_of_text : (b c u v : Option (List ℕ)) (line text : List ℕ) → IsFirstLine line b c → text ≡ answer_text form is_first line t → AppendsPrefix u v text
-      → IfSome b (λ xs. AppendsPrefix u v (texts_from form is_first (devices_of xs) t))
-  part_of_text None c u v line text first is p = tt
-  part_of_text (Some x) None u v line text first is p = absurd first
-  part_of_text (Some x) (Some y) u v line text first is p = part_text u v text _ _ (step text line x y first.0 is) p
-
-  -- nothing was written
-  pub no_part : (b u : Option (List ℕ)) → IfSome b (λ xs. AppendsPrefix u u (texts_from form is_first (devices_of xs) t))
-  no_part None u = tt
-  no_part (Some x) u = (0, omega arith, Appends-nil u)
-
-  -- and nothing was to be written
-  pub whole_end : (b u : Option (List ℕ)) → IsAtEnd b → IfSome b (λ xs. Appends u u (texts_from form is_first (devices_of xs) t))
-  whole_end None u e = tt
-  whole_end (Some x) u e =
-      let P : List ℕ → Type 0 = λ l. Appends u u l in
-      subst P (sym (ap (λ (l : List ℕ). texts_from form is_first (devices_of l) t) e ∙ ap (λ (ds : List (List ℕ)). texts_from form is_first ds t) no_lines ∙ no_text form is_first t)) (Appends-nil u)
-
--- what is told at the beginning
-pub told_first : (held : List ℕ) (left : Option (List ℕ)) (P : List ℕ → Type 0) → held ≡ [] → IfSome (prepend_known held left) P → IfSome left P
-told_first held left P none p =
-    let Q : Option (List ℕ) → Type 0 = λ o. IfSome o P in
-    subst Q (ap (λ (l : List ℕ). prepend_known l left) none ∙ prepend_known-nil left) p
-
--- as many lines were read, and as many are left
-pub fewer_left : (b c : Option (List ℕ)) (line : List ℕ) (n : ℕ) → IsFirstLine line b c → IfSome c (λ ys. n ≤ length (devices_of ys)) → IfSome b (λ xs. n + 1 ≤ length (devices_of xs))
-fewer_left None c line n first h = tt
-fewer_left (Some x) None line n first h = absurd first
-fewer_left (Some x) (Some y) line n first h = omega (arith, ap length first.0, h)
-
-pub any_left : (b : Option (List ℕ)) → IfSome b (λ xs. 0 ≤ length (devices_of xs))
-any_left None = tt
-any_left (Some x) = omega arith
-
-pub too_many : (a : Option (List ℕ)) (count n limit : ℕ) → limit < count + n → IfSome a (λ xs. count + n ≤ length (devices_of xs)) → IfSome a (λ xs. limit < length (devices_of xs))
-too_many None count n limit h p = tt
-too_many (Some x) count n limit h p = omega (arith, h, p)
-
--- the first line is too long
-pub first_too_long : (b : Option (List ℕ)) (limit : ℕ) → IfSome b (λ xs. limit < position_or_len (is 10) xs) → IfSome b (HasLongLine limit)
-first_too_long None limit h = tt
-first_too_long (Some x) limit h = long_line limit x h
-
--- or one behind it
-pub later_too_long : (b c : Option (List ℕ)) (line : List ℕ) (limit : ℕ) → IsFirstLine line b c → IfSome c (HasLongLine limit) → IfSome b (HasLongLine limit)
-later_too_long None c line limit first h = tt
-later_too_long (Some x) None line limit first h = absurd first
-later_too_long (Some x) (Some y) line limit first h =
-    let P : List (List ℕ) → Type 0 = λ ls. Any (λ (l : List ℕ). limit < length l) ls in
-    subst P (sym first.0) (long_behind limit line (devices_of y) h)
-
 -- what the database's tree gives is what the files' last assignments give
 pub same_answers : (form : Form) (devices : List (List ℕ)) (etc usr : List Source) (t : Tree) → ((device : List ℕ) → answers device t ≡ last_assignments device None (all_assignments etc usr))
     → texts_of form devices t ≡ last_texts_of form devices etc usr
@@ -180,8 +100,3 @@ some_of {X} o x P is h = let Q : Option X → Type 0 = λ q. IfSome q P in subst
 pub none_of : {X : Type 0} (o : Option X) (P : Type 0) → ((x : X) → o ≡ Some x → ⊥) → IfNone o P → P
 none_of None P other h = h
 none_of (Some x) P other h = absurd (other x refl)
-
--- one more was counted
-pub few_more : (a : Option (List ℕ)) (count n : ℕ) → IfSome a (λ xs. count + (n + 1) ≤ length (devices_of xs)) → IfSome a (λ xs. count + 1 + n ≤ length (devices_of xs))
-few_more None count n h = tt
-few_more (Some x) count n h = omega (arith, h)

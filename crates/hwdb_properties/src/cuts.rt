@@ -7,10 +7,13 @@ ghost use Rattle.hwdb_spec.specs.Properties;
 
 use hwdb_text::{begins_with, end_of};
 
-/// Whether two texts are the same.
+/// Whether two texts are the same. Most that aren't differ in length.
 pub fn same(one: &[u8], other: &[u8]) -> bool
     ensures { result ≡ Folders.same one.now other.now }
 {
+    if one.len() != other.len() {
+        return false;
+    }
     one.cmp(other).is_eq()
 }
 

@@ -108,7 +108,8 @@ impl DeviceFiles for Table {
                     ..
                 },
             ) => copied(alloc, bytes),
-            _ => Err(Cause::Unknown),
+            Some(_) => Err(Cause::Unknown),
+            None => Err(Cause::System(NO_ENTRY)),
         }
     }
 
@@ -120,7 +121,8 @@ impl DeviceFiles for Table {
                     ..
                 },
             ) => copied(alloc, names),
-            _ => Err(Cause::Unknown),
+            Some(_) => Err(Cause::Unknown),
+            None => Err(Cause::System(NO_ENTRY)),
         }
     }
 }

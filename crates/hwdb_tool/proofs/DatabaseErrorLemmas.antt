@@ -46,13 +46,13 @@ is_over error path (At e p cause) at of = at
 is_over error path NoDatabase at of = absurd at
 is_over error path (InWords t) at of = absurd at
 
-says_so : (text : List ℕ) (r : Refusal) → IsInWords text r → IsOfWhatIsRead r → SaysSo text r
+pub says_so : (text : List ℕ) (r : Refusal) → IsInWords text r → IsOfWhatIsRead r → SaysSo text r
 says_so text (Plain e) at of = absurd (subst (λ (x : ToolError). IsOfWhatIsRead (Plain x)) at of)
 says_so text (At e p cause) at of = absurd at
 says_so text NoDatabase at of = absurd at
 says_so text (InWords t) at of = at
 
-said_said : (text text2 : List ℕ) (r r2 : Refusal) → SaysSo text r → SaysSo text2 r2 → IsOneText text text2 → IsOneError r r2
+pub said_said : (text text2 : List ℕ) (r r2 : Refusal) → SaysSo text r → SaysSo text2 r2 → IsOneText text text2 → IsOneError r r2
 said_said text text2 (InWords t) (InWords u) one two same =
     subst (λ (x : List ℕ). IsOneText x u.items) (sym one) (subst (λ (x : List ℕ). IsOneText text x) (sym two) same)
 said_said text text2 (Plain e) r2 one two same = absurd one
@@ -116,7 +116,7 @@ module _ (header : OneHeader) where
   one_verdict : (path path2 : List ℕ) (e f : DbFault) (r r2 : Refusal) → path ≡ path2 → IsOneFault e f → InVerdict path e r → InVerdict path2 f r2 → IsOneError r r2
   one_verdict path path2 e f r r2 same fault one two =
       said_said (verdict_text path e) (verdict_text path2 f) r r2 one two
-      (inr (path, e, f, refl, ap (λ (p : List ℕ). verdict_text p f) (sym same), fault))
+      (inr (inr (path, e, f, refl, ap (λ (p : List ℕ). verdict_text p f) (sym same), fault)))
 
   -- of one database
   module _ (given : Option (List ℕ)) (root : List ℕ) (files : Contents) where

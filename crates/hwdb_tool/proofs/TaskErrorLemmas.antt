@@ -63,7 +63,7 @@ pub record IsQuietEnd (err_before err_now out_before out_now : Told) : Type 0 wh
   pub err : err_now ≡ err_before
   pub out : out_now ≡ out_before
 
-unprinted : (Refuses : Refusal → Type 0) (Are : Texts → Type 0) (r : Refusal) (eb en ob on : Told) → IsOfWhatIsRead r → IsUnprinted Refuses Are r eb en ob on → Refuses r × IsQuietEnd eb en ob on
+pub unprinted : (Refuses : Refusal → Type 0) (Are : Texts → Type 0) (r : Refusal) (eb en ob on : Told) → IsOfWhatIsRead r → IsUnprinted Refuses Are r eb en ob on → Refuses r × IsQuietEnd eb en ob on
 unprinted Refuses Are r eb en ob on of (inl before) = (before.0, record { err = before.1; out = before.2 })
 unprinted Refuses Are r eb en ob on of (inr write) = absurd (subst IsOfWhatIsRead write.0 of)
 

@@ -1,6 +1,7 @@
 -- What a task refuses is one error, and none is refused that is done: what two outcomes over one input have in common, if one
 -- of them or both are errors. Our choice.
 use Rattle.std.specs.Prelude.{◌++◌, ◌<◌, ◌∷◌, ◌≡◌, ◌⊎◌, [], ℕ, Bool, Contains, IfSome, List, None, Option, Some, codes, false, length, map, option_map, string_bytes, true}
+use Rattle.hwdb_spec.specs.DeviceAsked.{no_device_text, no_sysfs_text, unread_text}
 use Rattle.hwdb_spec.specs.Asked.{database_path}
 use Rattle.hwdb_spec.specs.Failures.{HasFailed}
 use Rattle.hwdb_spec.specs.Given.{is_input}
@@ -43,11 +44,19 @@ abbrev pub IsOneKind : ToolError → ToolError → Type 0
 IsOneKind (BadDatabase fault) (BadDatabase fault2) = IsOneFault fault fault2
 IsOneKind error error2 = error ≡ error2
 
--- two texts are one, or the verdicts on one database
+-- two texts of `device` are one but for the words of a cause, which are the system's
+abbrev pub AreButForWords : (text text2 : List ℕ) → Type 0
+AreButForWords text text2 = (words words2 : List ℕ) × (
+    ((path : List ℕ) × (text ≡ no_sysfs_text path words) × (text2 ≡ no_sysfs_text path words2))
+    ⊎ (((path : List ℕ) × (text ≡ unread_text path words) × (text2 ≡ unread_text path words2))
+    ⊎ ((nowhere : Bool) × (given near : List ℕ) × (text ≡ no_device_text nowhere given words near) × (text2 ≡ no_device_text nowhere given words2 near))))
+
+-- two texts are one, or the verdicts on one database, or one but for a cause
 abbrev pub IsOneText : (text text2 : List ℕ) → Type 0
 IsOneText text text2 =
     (text ≡ text2)
-    ⊎ ((path : List ℕ) × (fault fault2 : DbFault) × (text ≡ verdict_text path fault) × (text2 ≡ verdict_text path fault2) × IsOneFault fault fault2)
+    ⊎ (AreButForWords text text2
+    ⊎ ((path : List ℕ) × (fault fault2 : DbFault) × (text ≡ verdict_text path fault) × (text2 ≡ verdict_text path fault2) × IsOneFault fault fault2))
 
 -- two errors are one, but for the words of a cause, which are the system's
 abbrev pub IsOneError : Refusal → Refusal → Type 0
@@ -78,9 +87,14 @@ IsCovered (Device path strings json pattern) = ⊥
 abbrev pub IsStream : Task → Type 0
 IsStream task = streams task ≡ true
 
+-- it asks sysfs for a device
+abbrev pub IsDevice : Task → Type 0
+IsDevice (Device path strings json pattern) = Unit {0}
+IsDevice task = ⊥
+
 -- the laws speak of the task
 abbrev pub IsOfLaw : Task → Type 0
-IsOfLaw task = IsCovered task ⊎ IsStream task
+IsOfLaw task = IsCovered task ⊎ (IsStream task ⊎ IsDevice task)
 
 -- the path is one of a database that is read: the given one, or without one that of /etc's or of /usr/lib's
 abbrev pub IsOfDatabase : (given : Option (List ℕ)) (root path : List ℕ) → Type 0

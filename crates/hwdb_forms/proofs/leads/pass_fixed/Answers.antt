@@ -10,16 +10,16 @@ pub returns-then-begins_star-clause-passed : goal.returns-then-begins_star-claus
 returns-then-begins_star-clause-passed c =
     fixed_star c.args.bytes.now c.args.tokens.now c.loop-at.at c.begins_star.result _ (omega arith) (omega arith) c.begins_star.ensures c.if-begins_star.true c.loop-at.invariant.rest
 
-pub returns-then-not-meets-clause-passed : goal.returns-then-not-meets-clause-passed
-returns-then-not-meets-clause-passed c =
-    fixed_no c.args.bytes.now c.args.tokens.now c.loop-at.at c.begins_star.result c.meets.result _ (omega arith) (omega arith) c.begins_star.ensures c.if-begins_star.false
-    c.meets.ensures c.if-not-meets.true c.loop-at.invariant.rest
+pub returns-then-not-meets_byte-clause-passed : goal.returns-then-not-meets_byte-clause-passed
+returns-then-not-meets_byte-clause-passed c =
+    fixed_no c.args.bytes.now c.args.tokens.now c.loop-at.at c.begins_star.result c.meets_byte.result _ (omega arith) (omega arith) c.begins_star.ensures c.if-begins_star.false
+    c.meets_byte.ensures c.if-not-meets_byte.true c.loop-at.invariant.rest
 
 pub loop-at-preserved : goal.loop-at-preserved
 loop-at-preserved c = record {
   within = omega arith;
-  rest = fixed_goes_on c.args.bytes.now c.args.tokens.now c.loop-at.at (c.loop-at.at + 1) c.begins_star.result c.meets.result _ (omega arith) (omega arith) (add-one c.loop-at.at) c.begins_star.ensures c.if-begins_star.false
-      c.meets.ensures c.if-not-meets.false c.loop-at.invariant.rest;
+  rest = fixed_goes_on c.args.bytes.now c.args.tokens.now c.loop-at.at (c.loop-at.at + 1) c.begins_star.result c.meets_byte.result _ (omega arith) (omega arith) (add-one c.loop-at.at) c.begins_star.ensures c.if-begins_star.false
+      c.meets_byte.ensures c.if-not-meets_byte.false c.loop-at.invariant.rest;
 }
 
 pub returns-clause-passed : goal.returns-clause-passed

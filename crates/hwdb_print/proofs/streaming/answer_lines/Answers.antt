@@ -1,11 +1,10 @@
-use Rattle.std.proofs.Common.{◌≡◌, ◌∙◌, ◌≤◌, ap, arith, refl, subst, List, ℕ, Err, IfSome, length}
+use Rattle.std.proofs.Common.{◌≡◌, ◌∙◌, ◌≤◌, ap, arith, refl, List, ℕ, Err, IfSome, length}
 use Rattle.hwdb_spec.specs.Texts.{devices_of, max_file}
 use Rattle.hwdb_spec.specs.AnsweredLines.{IsLineError, IsPrintedBefore, line_error}
 use Rattle.hwdb_print.specs.Internal.{answer_text}
 use Rattle.hwdb_spec.specs.Errors.{refusal_of_read}
 use Rattle.hwdb_spec.specs.Streams.{texts_of}
-use Rattle.hwdb_spec.specs.declared.errors.ToolError.{ToolError}
-use Rattle.hwdb_spec.specs.declared.errors.ToolError.TheVariants.{Memory, TooManyLines, Write}
+use Rattle.hwdb_spec.specs.declared.errors.ToolError.TheVariants.{Memory, Write}
 use Rattle.hwdb_print.proofs.AnsweredLemmas.{at_start, handed_on, many_before, memory_before, one_more, told_all, told_line, told_long, told_many, told_whole, unread_before, write_before}
 use Rattle.hwdb_print.proofs.LineLemmas.{read_too_long}
 use Rattle.hwdb_print.proofs.StreamLemmas.{none_of, some_of}

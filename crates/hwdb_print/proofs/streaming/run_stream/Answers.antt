@@ -1,4 +1,4 @@
-use Rattle.std.proofs.Common.{List, ℕ, subst, refl}
+use Rattle.std.proofs.Common.{List, ℕ, subst}
 use Rattle.std.proofs.lemmas.Result.{on_ok_weaker}
 use Rattle.std.specs.Io.KnownBytes.{Appends}
 use Rattle.hwdb_spec.specs.Databases.{IsTextOf}

@@ -1,4 +1,5 @@
 use Rattle.std.proofs.Common.{⊎_elim}
+use Rattle.hwdb_tool.proofs.DeviceErrorLemmas.{device_done_job_is_no_end, device_jobs_are_one}
 use Rattle.hwdb_tool.proofs.FolderErrorLemmas.{full_or_stand}
 use Rattle.hwdb_tool.proofs.StandLemmas.{one_stand}
 use Rattle.hwdb_tool.proofs.JobErrorLemmas.{job_is_not_told, no_job_error, one_job_error, root_is_entered}
@@ -11,8 +12,12 @@ returns-clause-one g c = λ words status status2 before now before2 now2 input o
     (λ covered. one_job_error c.law_header_faults.ensures.one c.law_one_tree.ensures c.listings_give_one_reading.ensures.choice c.listings_give_one_reading.ensures.reading
     (one_stand c.names_are_those_that_count.ensures c.names_ascend.ensures c.one_ascending_list.ensures, full_or_stand c.names_are_those_that_count.ensures c.names_ascend.ensures c.one_ascending_list.ensures) _ _ _ _ _ _ _ _
     words status status2 before now before2 now2 input one two covered is is2)
+    (λ other. ⊎_elim
     (λ stream. stream_jobs_are_one c.law_header_faults.ensures.one c.law_one_tree.ensures _ _ _ _ _ _ _ _
     words status status2 before now before2 now2 input one two stream is is2)
+    (λ device. device_jobs_are_one c.law_header_faults.ensures.one _ _ _ _ _ _ _ _
+    words status status2 before now before2 now2 input one two device is is2)
+    other)
     kind
 
 pub returns-clause-done : goal.returns-clause-done
@@ -21,8 +26,12 @@ returns-clause-done g c = λ words status status2 before now before2 now2 input 
     (λ covered. no_job_error c.law_header_faults.ensures.one c.law_one_tree.ensures c.listings_give_one_reading.ensures.choice c.listings_give_one_reading.ensures.reading
     (one_stand c.names_are_those_that_count.ensures c.names_ascend.ensures c.one_ascending_list.ensures, full_or_stand c.names_are_those_that_count.ensures c.names_ascend.ensures c.one_ascending_list.ensures) _ _ _ _ _ _ _ _ c.law_one_written_form.ensures
     words status status2 before now before2 now2 input done refused covered is)
+    (λ other. ⊎_elim
     (λ stream. done_job_is_no_end c.law_header_faults.ensures.one c.law_one_tree.ensures _ _ _ _ _ _ _ _
     words status status2 before now before2 now2 input done refused stream is)
+    (λ device. device_done_job_is_no_end c.law_header_faults.ensures.one _ _ _ _ _ _ _ _
+    words status status2 before now before2 now2 input done refused device is)
+    other)
     kind
 
 pub returns-clause-root : goal.returns-clause-root
