@@ -2,6 +2,7 @@ pub mod AskingLemmas
 pub mod ComputedRows
 pub mod KeyLemmas
 pub mod ListLemmas
+mod NearestLemmas
 pub mod OutcomeLemmas
 pub mod PathLemmas
 pub mod PatternLemmas

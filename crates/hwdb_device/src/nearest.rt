@@ -63,7 +63,8 @@ fn reports(alloc: Global, db: &Db<'_>, found: &[Found<'_>]) -> Result<Vec<u8>, A
     let texts = wanting(alloc, found)?;
     let all = assignments(alloc, db)?;
     let patterns = patterns_of(alloc, &all)?;
-    prefix_reports(alloc, &patterns, &texts)
+    let reports = prefix_reports(alloc, &patterns, &texts)?;
+    Ok(reports)
 }
 
 /// Adds reports after a line that says what they are; nothing if there are none.
@@ -75,7 +76,8 @@ fn push_part(text: &mut Vec<u8>, reports: &[u8]) -> Result<(), AllocError>
         return Ok(());
     }
     text.extend_from_slice(b"nearest patterns to what got nothing:\n")?;
-    text.extend_from_slice(reports)
+    text.extend_from_slice(reports)?;
+    Ok(())
 }
 
 /// Adds for each such prefix the pattern that is nearest to a string that gets nothing, if there is one.
