@@ -51,6 +51,7 @@ _hwdb() {
         [diff]='OLD NEW'
         [verify]='DATABASE'
         [dump]='DATABASE'
+        [status]=''
         [help]='COMMAND'
     )
     local -A options=(
@@ -67,6 +68,7 @@ _hwdb() {
         [diff]='-r --root --color -h --help'
         [verify]='-r --root --color -h --help'
         [dump]='-r --root --color -h --help'
+        [status]='-r --root --color --json -h --help'
         [help]=''
     )
     local -A values=(

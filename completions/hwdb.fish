@@ -65,7 +65,7 @@ end
 
 # The words that `help` takes.
 function __hwdb_command
-    printf '%s\n' update query explain ask list near device check test diff verify dump help
+    printf '%s\n' update query explain ask list near device check test diff verify dump status help
 end
 
 complete -c hwdb -n __hwdb_none -a update -d 'Compiles the text files of /etc/udev/hwdb.d and /usr/lib/udev/hwdb.d into /etc/udev/hwdb.bin'
@@ -80,6 +80,7 @@ complete -c hwdb -n __hwdb_none -a test -d 'Says whether a database gives device
 complete -c hwdb -n __hwdb_none -a diff -d 'Prints what changed from one database to another'
 complete -c hwdb -n __hwdb_none -a verify -d 'Says whether a file is a database that can be read, and how much is in it'
 complete -c hwdb -n __hwdb_none -a dump -d 'Prints a database as a text file'
+complete -c hwdb -n __hwdb_none -a status -d 'Says which database is asked, and whether it is what the text files make'
 complete -c hwdb -n __hwdb_none -a help -d 'Print this message or the help of the given subcommand(s)'
 
 complete -c hwdb -n __hwdb_none -l usr -d 'With update: write /usr/lib/udev/hwdb.bin'
@@ -100,6 +101,7 @@ complete -c hwdb -n '__hwdb_at test' -l color -x -a 'auto always never' -d 'Colo
 complete -c hwdb -n '__hwdb_at diff' -l color -x -a 'auto always never' -d 'Color the output: auto, always or never; auto does so on a terminal'
 complete -c hwdb -n '__hwdb_at verify' -l color -x -a 'auto always never' -d 'Color the output: auto, always or never; auto does so on a terminal'
 complete -c hwdb -n '__hwdb_at dump' -l color -x -a 'auto always never' -d 'Color the output: auto, always or never; auto does so on a terminal'
+complete -c hwdb -n '__hwdb_at status' -l color -x -a 'auto always never' -d 'Color the output: auto, always or never; auto does so on a terminal'
 complete -c hwdb -n 'not __hwdb_at help' -s h -l help -d 'Print help'
 complete -c hwdb -n __hwdb_none -s V -l version -d 'Print version'
 complete -c hwdb -n '__hwdb_at update' -l verbose -d 'Say which files are taken, and how many assignments they have'
@@ -111,6 +113,7 @@ complete -c hwdb -n '__hwdb_at near' -l json -d 'Print JSON, one object a line'
 complete -c hwdb -n '__hwdb_at device' -l json -d 'Print JSON, one object a line'
 complete -c hwdb -n '__hwdb_at check' -l json -d 'Print JSON, one object a line'
 complete -c hwdb -n '__hwdb_at test' -l json -d 'Print JSON, one object a line'
+complete -c hwdb -n '__hwdb_at status' -l json -d 'Print JSON, one object a line'
 complete -c hwdb -n '__hwdb_at list' -l after -x -d 'Print only what stands after this position, as list prints it'
 complete -c hwdb -n '__hwdb_at list' -l limit -x -d 'Print at most N lines; 0 prints nothing'
 complete -c hwdb -n '__hwdb_at near' -l limit -x -d 'Print at most N patterns that don\'t match, in place of 3'

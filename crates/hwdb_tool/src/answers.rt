@@ -25,8 +25,8 @@ use hwdb_print::{Form, answer, ask_texts, print_list};
 use std::alloc::Global;
 
 /// Prints the properties that the database below the root gives the device, and where each comes from. If the device is `-`,
-/// they are those of the devices that `input` names, one a line, and each is answered as soon as its line is read; else
-/// nothing is read of `input`.
+/// `input` names the devices, one a line. Each is answered as soon as its line is read. For any other device nothing is read of
+/// `input`.
 pub fn explain<D: System, I: Source, O: Sink, E: Sink>(
     alloc: Global,
     root: &str,

@@ -26,8 +26,9 @@ use hwdb_print::ToolError;
 use hwdb_text::Chosen;
 use std::alloc::{AllocError, Global};
 
-/// What is wrong in the given text files, of which `-` is what `input` has left and a folder stands for those in it, or if none is
-/// given in those of both folders below the root: as JSON or not, and without the kinds of warnings that are allowed. The status is 1 if there is a fault, or `strict` and a warning, else 0.
+/// What is wrong in the given text files, as JSON or not, and without the kinds of warnings that are allowed. `-` is what `input`
+/// has left, and a folder is the text files in it. If none is given, both folders below the root are checked. The status is 1 if
+/// there is a fault, or `strict` and a warning, else 0.
 pub fn check<D: System, I: Source>(
     alloc: Global,
     root: &str,

@@ -4,9 +4,9 @@ ghost use Rattle.hwdb_tool.specs.Crash.{CrashOfRunThenQuery, CrashThenQuery, Fau
 use hwdb_fs::System;
 use hwdb_query::{compiled_answers_are_last, last_assignments_are_last};
 
-/// After a crash at any moment of a run, and a start, the database's place has what it might have had before, or a query
-/// prints for each key the value of the last assignment of the folders' files: of those that the run didn't leave out, which
-/// it doesn't without `--skip-unreadable`.
+/// After a crash at any moment of a run, and a start, the database's place has what it might have had, or the new one.
+/// A query of that prints for each key the value of the last assignment of the folders' files. Files that the run left out
+/// don't count; it leaves out none without `--skip-unreadable`.
 pub fn crash_then_query<D: System>(old: &D, new: &D)
     ensures crash { CrashThenQuery (D.may_fail old.now) (D.Store.may_leave old.now) }
     ensures of_all { CrashThenQueryOfAll (D.may_fail old.now) (D.Store.may_leave old.now) }

@@ -31,11 +31,13 @@ use hwdb_io::{Sink, Source, write_text};
 use hwdb_print::ToolError;
 use std::alloc::Global;
 
-/// Does what the words say, the first of which is the program's name, and returns the status: 0; 1 where `check`, `test` or
-/// `diff` finds something, the database of `status` isn't fresh, or `--strict` says so, and after a refusal, whose line goes
-/// to `err`; 2 after one of `diff`.
-/// Words that the command doesn't take, and that ask for no help, are refused. Where the reader of `out` went away the
-/// status is 0, and nothing is said. Of `input` only a command reads that is given `-`.
+/// Does what the words say, and returns the status. The first word is the program's name.
+///
+/// The status is 0 on success. It is 1 if `check`, `test` or `diff` finds something, the database of `status` isn't fresh, or
+/// `--strict` says so. After an error it is 1 as well, and 2 for `diff`; the error's line goes to `err`.
+///
+/// Words that the command doesn't take, and that ask for no help, are an error. If the reader of `out` went away the status is
+/// 0, and nothing is said. Only a command that is given `-` reads of `input`.
 pub fn program<D: Machine, I: Source, O: Outlet, E: Sink>(
     alloc: Global,
     words: &[String],

@@ -7,8 +7,8 @@ use hwdb_reader::law_one_tree;
 use hwdb_text::laws::{names_are_those_that_count, names_ascend, one_ascending_list};
 use hwdb_writer::law_one_written_form;
 
-/// Two listings of the text files of both folders, whatever order each has them in, give one choice of files, one reading
-/// of each, and so one list of assignments and one of faults.
+/// Two listings of the text files of both folders give one choice of files and one reading of each, whatever order each has
+/// them in. So they give one list of assignments and one of faults.
 pub fn listings_give_one_reading()
     ensures choice { ListingsGiveOneChoice }
     ensures reading { ListingsGiveOneReading }
@@ -31,8 +31,8 @@ pub fn answers_are_one()
     one_ascending_list();
 }
 
-/// Two outcomes that a task may have over one input are the same, where both are done and leave out no file, but for leftovers
-/// of killed updates.
+/// Two outcomes that a task may have over one input are the same, but for leftovers of killed updates. Both are done, and leave
+/// out no file.
 pub fn tasks_are_one<D: System>(first: &D, first_then: &D, second: &D, second_then: &D)
     ensures { TasksAreOne (D.may_fail first.now) (D.may_fail first_then.now)
         (D.may_fail second.now) (D.may_fail second_then.now)
@@ -48,8 +48,8 @@ pub fn tasks_are_one<D: System>(first: &D, first_then: &D, second: &D, second_th
     one_ascending_list();
 }
 
-/// Two outcomes that words may have over one input are the same, where what they ask for is done and leaves out no file, but
-/// for such leftovers.
+/// Two outcomes that words may have over one input are the same, but for such leftovers. In both what they ask for is done, and
+/// no file is left out.
 pub fn jobs_are_one<D: System>(first: &D, first_then: &D, second: &D, second_then: &D)
     ensures one { JobsAreOne (D.may_fail first.now) (D.may_fail first_then.now)
         (D.may_fail second.now) (D.may_fail second_then.now)

@@ -21,8 +21,8 @@ use hwdb_io::{Sink, Source};
 use hwdb_print::{Form, answers};
 use std::alloc::Global;
 
-/// Prints the properties that the database below the root gives each device. If the only device is `-`, they are those
-/// that `input` names, one a line, and each is answered as soon as its line is read; else nothing is read of `input`.
+/// Prints the properties that the database below the root gives each device. If the only device is `-`, `input` names the
+/// devices, one a line. Each is answered as soon as its line is read. For other devices nothing is read of `input`.
 pub fn query<D: System, I: Source, O: Sink, E: Sink>(
     alloc: Global,
     root: &str,

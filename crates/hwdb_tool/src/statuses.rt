@@ -299,8 +299,9 @@ fn reported<D: System>(
     Ok(Answer::new(alloc, text, status))
 }
 
-/// Which database is asked, which one it hides, which text files are masked, and whether the asked one is what the text files of
-/// both folders below the root make now: as lines, or with `json` as a line of JSON. The status is 0 if it is, else 1.
+/// Which database is asked, which one it hides, and which text files are masked: as lines, or with `json` as a line of JSON. It
+/// says too whether the asked one is what the text files of both folders below the root make now. The status is 0 if it is,
+/// else 1.
 ///
 /// Errors are, in this order: the text files can't be read, they can't be compiled, and the database that is asked can't be read.
 /// The time is that of an update without its sync.

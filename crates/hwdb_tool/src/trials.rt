@@ -22,8 +22,8 @@ use hwdb_print::ToolError;
 use hwdb_reader::check;
 use std::alloc::Global;
 
-/// What the given test files, of which `-` is what `input` has left, say of the database at the path, or if none is given of the
-/// one that is asked. The status is 1 if a wanted line doesn't hold, else 0.
+/// What the given test files say of the database at the path, or without a path of the one that is asked. `-` is what `input` has
+/// left. The status is 1 if a wanted line doesn't hold, else 0.
 ///
 /// All files are read first, in their order, and then the database: the error is the first that comes so.
 pub fn test<D: System, I: Source>(

@@ -29,8 +29,8 @@ use hwdb_replace::{DATABASE, Store, Unreplaced};
 use std::alloc::Global;
 
 /// Compiles chosen files, says of them what is to be said, and puts their database in its place in a folder of the
-/// store. What is said are their fault lines, and before these, where the names of /usr/lib's files are given, which files
-/// they are and how much they assign. Returns the status: 1 where `strict` and there is a fault line, else 0.
+/// store. Their fault lines are said. If the names of /usr/lib's files are given, it is said before which files they are and how
+/// much they assign. Returns the status: 1 if `strict` and there is a fault line, else 0.
 fn update_files<S: Store, E: Sink>(
     alloc: Global,
     files: &[ChosenFile<'_>],

@@ -49,7 +49,7 @@ fn cause_of(fault: DbFault) -> &'static str
     }
 }
 
-/// Adds a fault's name, and behind that its offset.
+/// Adds a fault's name, and after that its offset.
 fn push_name(text: &mut Vec<u8>, fault: DbFault) -> Result<(), AllocError>
     ensures { OnOk result (text.new.items
         ≡ text.old.items ++ at_offset (db_fault_name fault) (db_fault_offset fault)) }

@@ -25,8 +25,8 @@ const SHARED: &str =
 const ROOT_PREFIX: &str =
     "4b534c50484852480100000000000000a8000000000000005000000000000000180000000000000010000000000000002000000000000000500000000000000038000000000000002000000000000000a400000000000000000000000000000001000000000000008900000000000000a6000000000000008c00000000000000020000000100000000204b002f6574632f756465762f687764622e642f312e687764620071007600";
 
-/// Files of two folders by name and text, a database with their map, or none for the one that is compiled, and devices,
-/// each with how many nodes are entered for it.
+/// Files of two folders by name and text, and a database with their map; none for the one that is compiled. Each device has how
+/// many nodes are entered for it.
 #[derive(Clone, Copy)]
 struct EnteredRow<'t> {
     etc: &'t [(&'t str, &'t str)],

@@ -1,5 +1,5 @@
-//! What is said of patterns of systemd's own files, and of typing errors. The expected values are those of an automaton made from the
-//! same forms, which was written apart from this (a Thompson automaton in Python, run token by token).
+//! What is said of patterns of systemd's own files, and of typing errors. The expected values are those of an automaton in
+//! Python. It was written apart from this, and is made from the same forms (Thompson's, run token by token).
 use hwdb_forms::{expected, judge, likely_prefix};
 use hwdb_spec::Judgement;
 use std::alloc::Global;

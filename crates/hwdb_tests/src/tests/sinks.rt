@@ -166,7 +166,7 @@ impl Write for UnflushedWriter {
     }
 }
 
-/// The library's flush is called behind a text, and behind an empty one too: where it fails the call has failed.
+/// The library's flush is called after a text, and after an empty one too: if it fails the call has failed.
 #[test]
 fn unflushed_writers(rt: HostRuntime) {
     for text in [b"".as_slice(), b"abcde".as_slice()] {

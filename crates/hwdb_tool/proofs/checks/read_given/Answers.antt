@@ -18,7 +18,7 @@ pub returns-in_err-bytes-clause-refused : goal.returns-in_err-bytes-clause-refus
 returns-in_err-bytes-clause-refused g c =
     given_error c.in_err-bytes.field-0.0 (IsGivenUnread (map string_bytes c.args.given.now)) c.from_residual.result c.from_residual.ensures.1
     (given_unread c.args.given.now c.loop-path.path-index c.path-item.result _ c.path-item.is c.loop-path-test.true
-    (subst (λ p. IsUnread (told_path p) c.in_err-bytes.field-0.0) c.as_str.ensures.value c.in_err-bytes.ensures.refused))
+    (subst (λ p. IsUnread (told_path p) c.in_err-bytes.field-0.0) c.as_str-path.ensures.value c.in_err-bytes.ensures.refused))
 
 pub returns-in_err-bytes-clause-reason : goal.returns-in_err-bytes-clause-reason
 returns-in_err-bytes-clause-reason g c = λ tells.
@@ -29,7 +29,7 @@ returns-in_err-bytes-clause-reason g c = λ tells.
     given_error r (IsFileReason given (g.D.System.may_fail c.args.system.now) seen) c.from_residual.result c.from_residual.ensures.1 (
       of_given seen given path r
           (λ plain. first_given seen c.args.given.now c.loop-path.path-index c.path-item.result c.path-item.is c.loop-path-test.true (c.loop-path.invariant.files tells) plain)
-          (subst (λ p. (r ≡ Plain Memory) ⊎ ((is_dash p ≡ false) × IsUnreadAt seen p r)) c.as_str.ensures.value (c.in_err-bytes.ensures.file tells)),
+          (subst (λ p. (r ≡ Plain Memory) ⊎ ((is_dash p ≡ false) × IsUnreadAt seen p r)) c.as_str-path.ensures.value (c.in_err-bytes.ensures.file tells)),
       c.in_err-bytes.ensures.reason,
     )
 
@@ -44,10 +44,10 @@ loop-path-preserved g c =
       count = search rules;
       read = λ tells. texts_given_more c.args.text.now seen c.args.given.now c.loop-path.path-index c.path-item.result _ _ _
           (c.loop-path.invariant.read tells) c.path-item.is c.loop-path-test.true
-          (subst (λ p. bytes_given c.args.text.now seen p ≡ Some c.in_ok-bytes.bytes.items) c.as_str.ensures.value (c.in_ok-bytes.ensures.read tells))
+          (subst (λ p. bytes_given c.args.text.now seen p ≡ Some c.in_ok-bytes.bytes.items) c.as_str-path.ensures.value (c.in_ok-bytes.ensures.read tells))
           (ap (map items) more ∙ map-append items c.loop-path.texts.items (c.in_ok-bytes.bytes ∷ []));
       files = λ tells. All-more file c.args.given.now c.loop-path.path-index c.path-item.result c.loop-path-test.true (c.loop-path.invariant.files tells)
-          (subst file c.path-item.is (subst (λ p. IsReadGiven seen p) c.as_str.ensures.value
-          (read_given seen c.as_str.result.now c.args.text.now c.in_ok-bytes.bytes.items (c.in_ok-bytes.ensures.read tells) c.in_ok-bytes.ensures.within)));
+          (subst file c.path-item.is (subst (λ p. IsReadGiven seen p) c.as_str-path.ensures.value
+          (read_given seen c.as_str-path.result.now c.args.text.now c.in_ok-bytes.bytes.items (c.in_ok-bytes.ensures.read tells) c.in_ok-bytes.ensures.within)));
       within = λ s. subst (All short) (sym more) (All-push short c.loop-path.texts.items c.in_ok-bytes.bytes (c.loop-path.invariant.within s) (c.in_ok-bytes.ensures.within (inr s)));
     }
