@@ -1,10 +1,9 @@
 -- What `status` says is one, and what it refuses.
-use Rattle.std.proofs.Common.{◌≡◌, ◌∙◌, ◌++◌, ◌∷◌, [], ap, inl, inr, refl, sym, subst, Bool, true, false, List, flat_map, map, ℕ, Option, Some, None}
+use Rattle.std.proofs.Common.{◌≡◌, ◌∙◌, ◌++◌, ◌∷◌, [], ap, inl, refl, sym, subst, Bool, true, false, List, flat_map, map, ℕ, Option, Some, None}
 use Rattle.std.proofs.Math.Path.{fun_ext}
 use Rattle.std.specs.Prelude.{codes, if◌then◌else◌}
 use Rattle.hwdb_compile.specs.Views.{ForFolders, choice_in}
 use Rattle.hwdb_compile.specs.declared.sources.ChosenFile.{ChosenFile}
-use Rattle.hwdb_spec.specs.Refusals.{IsUnreadAt}
 use Rattle.hwdb_spec.specs.declared.refusals.Refusal.{Refusal}
 use Rattle.hwdb_spec.specs.declared.refusals.Refusal.TheVariants.{Plain}
 use Rattle.hwdb_spec.specs.declared.errors.ToolError.TheVariants.{Memory}
@@ -12,7 +11,7 @@ use Rattle.hwdb_spec.specs.Status.{IsMade, IsState, IsStateOf, IsStatus, State, 
 use Rattle.hwdb_spec.specs.Status.State.{Broken, Fresh, Missing, Stale}
 use Rattle.hwdb_spec.specs.Asked.{database_path}
 use Rattle.hwdb_spec.specs.Differences.{differences}
-use Rattle.hwdb_spec.specs.Folders.{Choice, Source, chosen_of, lists}
+use Rattle.hwdb_spec.specs.Folders.{Choice, Source, chosen_of}
 use Rattle.hwdb_spec.specs.Format.{IsDatabase}
 use Rattle.hwdb_spec.specs.Runs.{OnOut}
 use Rattle.hwdb_spec.specs.Store.{Contents}
