@@ -1,12 +1,12 @@
 -- `device` ends with one error over one input, or is done.
-use Rattle.std.proofs.Common.{◌≡◌, ◌⊎◌, ◌∙◌, inl, inr, ap, sym, subst, refl, ℕ, Bool, true, false, List, [], Option, None, Some, is_some, string_bytes}
+use Rattle.std.proofs.Common.{◌≡◌, ◌⊎◌, ◌∙◌, inl, inr, ap, sym, subst, refl, ℕ, Bool, true, List, Option, None, Some, is_some, string_bytes}
 use Rattle.std.specs.Option.{option_map_or}
 use Rattle.std.specs.Prelude.{codes, option_map, ◌++◌}
 use Rattle.clap.specs.Simple.{matches_of, subcommand_of}
 use Rattle.clap.specs.Walk.{Row, Text}
 use Rattle.hwdb_spec.specs.CommandLine.{hwdb_app}
 use Rattle.hwdb_spec.specs.DeviceAsked.{IsDevicePrinted, device_form, device_list, device_meant, leads_nowhere, missing_text, no_sysfs_text, unread_text}
-use Rattle.hwdb_spec.specs.DeviceErrors.{IsDeviceRefused, IsNoDevice, IsNoSysfs, IsUnmeant, asked_names}
+use Rattle.hwdb_spec.specs.DeviceErrors.{IsDeviceRefused, IsNoDevice, IsNoSysfs, asked_names}
 use Rattle.hwdb_spec.specs.DeviceTexts.{device_text}
 use Rattle.hwdb_spec.specs.DeviceTree.{Sight, device_at, device_for, last_name, missing_folder, near_name, sysfs_below, unread_for}
 use Rattle.hwdb_spec.specs.Jobs.{IsJobOf, IsTask}
@@ -23,7 +23,7 @@ use Rattle.hwdb_spec.specs.declared.job.Task.{Task}
 use Rattle.hwdb_spec.specs.declared.job.Task.TheVariants.{Device as DeviceTask}
 use Rattle.hwdb_spec.specs.declared.refusals.Refusal.{Refusal}
 use Rattle.hwdb_tool.specs.OneOutcome.{IsOneInput, Scene, scene_of}
-use Rattle.hwdb_tool.specs.OneRefusal.{DoneEndsSo, DoneJobEndsSo, EndAlike, IsDevice, IsOfDatabase, IsOfWhatIsRead, IsOneEnd, IsOneError, JobsEndAlike, NeverFails, scene_then}
+use Rattle.hwdb_tool.specs.OneRefusal.{DoneEndsSo, DoneJobEndsSo, EndAlike, IsDevice, IsOfWhatIsRead, IsOneEnd, IsOneError, JobsEndAlike, NeverFails, scene_then}
 use Rattle.hwdb_tool.proofs.DatabaseErrorLemmas.{OneHeader, SaysSo, Unanswered, answer_answer, answer_done, said_said, says_so, unanswered}
 use Rattle.hwdb_tool.proofs.JobErrorLemmas.{status_of_job}
 use Rattle.hwdb_tool.proofs.JobLemmas.{apart, is_named, same_root, word_of}

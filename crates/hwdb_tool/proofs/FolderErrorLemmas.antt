@@ -12,7 +12,7 @@ use Rattle.hwdb_spec.specs.Reasons.{HasFilesReason}
 use Rattle.hwdb_spec.specs.Refusals.{HasReason, IsOver}
 use Rattle.hwdb_spec.specs.Store.{Contents}
 use Rattle.hwdb_spec.specs.System.{AreNamesIn, bytes_at}
-use Rattle.hwdb_spec.specs.Undone.{IsGivenUnread, told_as, told_path}
+use Rattle.hwdb_spec.specs.Undone.{IsGivenUnread, told_as}
 use Rattle.hwdb_spec.specs.declared.errors.ToolError.TheVariants.{BadDatabase, BadPosition, Memory, Read, Replace, TooLarge, TooLong, TooManyFiles, TooManyLines, Write}
 use Rattle.hwdb_spec.specs.declared.refusals.Refusal.{Refusal}
 use Rattle.hwdb_spec.specs.declared.refusals.Refusal.TheVariants.{At, InWords, NoDatabase, Plain}

@@ -23,7 +23,7 @@ use Rattle.hwdb_spec.specs.CheckedReasons.{HasCheckedReason, HasNamedReason}
 use Rattle.hwdb_spec.specs.GivenFolders.{AreFoldersUnread, IsFolderUnread, IsUnlistedFolder}
 use Rattle.hwdb_tool.specs.OneRefusal.{InputIsLong, InputIsRead, IsInNamed, LineIsLong}
 use Rattle.hwdb_spec.specs.NamedDatabases.{IsUnnamed}
-use Rattle.hwdb_spec.specs.TestErrors.{AreUntried, HasTestReason, IsNoTrial}
+use Rattle.hwdb_spec.specs.TestErrors.{AreUntried, HasTestReason}
 use Rattle.hwdb_spec.specs.Undone.{IsUnfound}
 use Rattle.hwdb_spec.specs.Reasons.{HasAskedReason, HasFilesReason, HasGivenReason, IsFirstGiven, IsGivenTooLong, IsGivenUnreadable}
 

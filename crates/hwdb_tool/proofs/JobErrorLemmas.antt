@@ -14,7 +14,6 @@ use Rattle.hwdb_spec.specs.declared.job.Task.{Task}
 use Rattle.hwdb_spec.specs.declared.job.Task.TheVariants.{Ask, Check, Device, Diff, Dump, Explain, List as ListHits, Near, Query, Status, Test, Update, Verify}
 use Rattle.hwdb_spec.specs.declared.job.WordsFault.TheVariants as words_fault
 use Rattle.hwdb_spec.specs.declared.job.WordsFault.{WordsFault}
-use Rattle.hwdb_spec.specs.CheckedFiles.{StandFor}
 use Rattle.hwdb_spec.specs.Given.{is_input}
 use Rattle.hwdb_spec.specs.Hiding.{hiding_text}
 use Rattle.hwdb_spec.specs.Store.{Contents, Outcomes}

@@ -9,7 +9,7 @@ use Rattle.hwdb_spec.specs.CommandLine.{hwdb_app}
 use Rattle.hwdb_spec.specs.declared.job.Job.{Job}
 use Rattle.hwdb_spec.specs.declared.job.Task.{Task}
 use Rattle.hwdb_spec.specs.declared.job.Task.TheVariants.{Explain, Query}
-use Rattle.hwdb_spec.specs.Asked.{IsAnswered, IsAskedPath}
+use Rattle.hwdb_spec.specs.Asked.{IsAnswered}
 use Rattle.hwdb_spec.specs.Databases.{IsTextOf}
 use Rattle.hwdb_spec.specs.Failures.{HasFailed}
 use Rattle.hwdb_spec.specs.Given.{is_input}
@@ -27,14 +27,14 @@ use Rattle.hwdb_spec.specs.declared.form.Form.TheVariants as forms
 use Rattle.hwdb_spec.specs.Refusals.{HasReason, IsOver}
 use Rattle.hwdb_spec.specs.declared.refusals.Refusal.{Refusal}
 use Rattle.hwdb_spec.specs.declared.refusals.Refusal.TheVariants.{At, InWords, NoDatabase, Plain}
-use Rattle.hwdb_tool.specs.OneOutcome.{IsOneInput, Scene, TellOne, scene_of}
+use Rattle.hwdb_tool.specs.OneOutcome.{IsOneInput, Scene, scene_of}
 use Rattle.hwdb_tool.specs.OneRefusal.{DoneEndsSo, DoneJobEndsSo, EndAlike, IsOfDatabase, IsOfWhatIsRead, IsOneEnd, IsOneError, IsStream, JobsEndAlike, NeverFails, scene_then}
-use Rattle.hwdb_spec.specs.Program.{IsTaskDone, root_of, streams}
+use Rattle.hwdb_spec.specs.Program.{IsTaskDone, root_of}
 use Rattle.hwdb_spec.specs.Queries.{AreAnsweredFrom, AreNamedAnswered, AreUnansweredFrom, IfNamed, IsOfInput, IsStreamRefused, IsUnstreamed}
 use Rattle.hwdb_spec.specs.Reasons.{HasAskedReason}
 use Rattle.hwdb_spec.specs.TaskRefusals.{IsNotDone}
 use Rattle.hwdb_spec.specs.Undone.{IsUnfound}
-use Rattle.hwdb_tool.proofs.DatabaseErrorLemmas.{IsFaulty, OneHeader, OneTree, Unanswered, answer_answer, answer_done, is_over, unanswered}
+use Rattle.hwdb_tool.proofs.DatabaseErrorLemmas.{OneHeader, OneTree, Unanswered, answer_answer, answer_done, is_over, unanswered}
 use Rattle.hwdb_tool.proofs.InputErrorLemmas.{asked_not_input, asked_not_line}
 use Rattle.hwdb_tool.proofs.JobErrorLemmas.{status_of_job}
 use Rattle.hwdb_tool.proofs.JobLemmas.{apart, is_named, one_value, one_values, same_root, word_of}

@@ -40,8 +40,7 @@ use Rattle.hwdb_spec.specs.TestErrors.{IsTestRefused}
 use Rattle.hwdb_spec.specs.Readable.{AreAllRead}
 use Rattle.hwdb_spec.specs.Reasons.{HasFilesReason}
 use Rattle.hwdb_spec.specs.CheckedReasons.{HasCheckedReason, HasNamedReason}
-use Rattle.hwdb_spec.specs.GivenFolders.{IsNamedUnread}
-use Rattle.hwdb_spec.specs.Undone.{AreUncheckable, IsGivenUnread, IsAskRefused, IsCheckRefused, IsUnanswered, IsUnprinted, IsUnwritable}
+use Rattle.hwdb_spec.specs.Undone.{AreUncheckable, IsAskRefused, IsCheckRefused, IsUnanswered, IsUnprinted, IsUnwritable}
 use Rattle.hwdb_tool.proofs.FolderErrorLemmas.{FullOrStand, IsFolderFull, named_end}
 use Rattle.hwdb_tool.proofs.DatabaseErrorLemmas.{OneHeader, OneTree, Unanswered, Undumped, Unlisted, Unverified, answer_answer, answer_done, dump_done, dump_dump, list_done, list_list, unanswered, undumped, unlisted, unverified, verify_done, verify_verify}
 use Rattle.hwdb_tool.proofs.AskErrorLemmas.{OneForm, Unasked, ask_ask, ask_done, unasked_file}

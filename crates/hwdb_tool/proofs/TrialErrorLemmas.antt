@@ -1,5 +1,5 @@
 -- Errors over test files and their database: each comes alone.
-use Rattle.std.proofs.Common.{◌≡◌, ◌≤◌, ◌⊎◌, inl, inr, subst, ℕ, Bool, List, Option, Some, length, All}
+use Rattle.std.proofs.Common.{◌≤◌, ◌⊎◌, inl, inr, subst, ℕ, Bool, List, Option, Some, length, All}
 use Rattle.hwdb_spec.specs.CheckedFiles.{AreGivenFiles}
 use Rattle.hwdb_spec.specs.Failures.{HasFailed}
 use Rattle.hwdb_spec.specs.Folders.{Source}
