@@ -15,6 +15,15 @@ four_pieces t a b k e t0 t1 t2 t3 t4 h0 h1 h2 h3 h4 =
     ∙ append_assoc (t ++ a) b (k ++ e)
     ∙ append_assoc t a (b ++ (k ++ e))
 
+-- the line of a name and a path, after a text
+pub row_made : (t a k p e t1 t2 t3 t4 name : List ℕ) → name ≡ a → t1 ≡ t ++ name → t2 ≡ t1 ++ k → t3 ≡ t2 ++ p → t4 ≡ t3 ++ e
+    → t4 ≡ t ++ ((a ++ (k ++ p)) ++ e)
+row_made t a k p e t1 t2 t3 t4 name is h1 h2 h3 h4 =
+    four_pieces t name k p e t t1 t2 t3 t4 refl h1 h2 h3 h4
+    ∙ ap (λ (l : List ℕ). t ++ (l ++ (k ++ (p ++ e)))) is
+    ∙ ap (λ (l : List ℕ). t ++ (a ++ l)) (sym (append_assoc k p e))
+    ∙ ap (λ (l : List ℕ). t ++ l) (sym (append_assoc a (k ++ p) e))
+
 abbrev pub items : Vec ℕ Global → List ℕ
 items v = v.items
 

@@ -159,17 +159,24 @@ fn check_read(
     }
 }
 
-/// Whether a path is one of the words: mostly it is the one at its own place.
-fn is_named(words: &[String], place: usize, path: &str) -> bool {
-    if place < words.len() && words[place].as_str() == path {
-        return true;
-    }
-    for word in words {
+/// The words after the first one that is this path; None if none is.
+fn after<'w>(words: &'w [String], path: &str) -> Option<&'w [String]> {
+    let mut left = words;
+    'words: while let Some((word, rest)) = left.split_first() {
         if word.as_str() == path {
-            return true;
+            return Some(rest);
         }
+        left = rest;
     }
-    false
+    None
+}
+
+/// Whether a path is one of the words, and where to look for the next one: mostly it is the first after the last that was found.
+fn is_named<'w>(words: &'w [String], left: &'w [String], path: &str) -> (bool, &'w [String]) {
+    match after(left, path) {
+        Some(rest) => (true, rest),
+        None => (after(words, path).is_some(), left),
+    }
 }
 
 /// What each of the given files has, where standard input had this text. A file that none of the words names has to be a regular
@@ -192,10 +199,12 @@ pub fn read_given<D: System>(
         (D.System.may_fail system.now) (D.Store.seen system.now)) }
 {
     let mut texts = Vec::new(alloc);
+    let mut left = words;
     for path in given {
         let path = path.as_str();
-        let is_named = is_named(words, texts.len(), path);
-        let bytes = bytes_given(alloc, path, is_named, text, system)?;
+        let (named, rest) = is_named(words, left, path);
+        left = rest;
+        let bytes = bytes_given(alloc, path, named, text, system)?;
         texts.push(bytes).map_err(AllocError::from)?;
     }
     Ok(texts)

@@ -1,22 +1,21 @@
-use Rattle.std.proofs.Common.{ap, inl, inr, refl, sym, ◌∙◌, true, false}
-use Rattle.std.specs.Prelude.{option_map}
+use Rattle.std.proofs.Common.{inl, refl, false}
 use Rattle.hwdb_spec.specs.declared.refusals.Refusal.TheVariants.{Plain}
 use Rattle.hwdb_spec.specs.declared.errors.ToolError.TheVariants.{Memory}
 use Rattle.hwdb_spec.specs.Asked.{database_path}
 use Rattle.hwdb_spec.specs.StatusErrors.{IsAskedUnread}
-use Rattle.hwdb_tool.proofs.ErrorLemmas.{each_error, given_error}
+use Rattle.hwdb_tool.proofs.ErrorLemmas.{given_error}
 use Rattle.hwdb_tool.proofs.StatusLemmas.{asked_memory}
 use Rattle.hwdb_tool.proofs.statuses.asked_database.Goals as goal
 
-pub returns-in_err-found_in-clause-refused : goal.returns-in_err-found_in-clause-refused
-returns-in_err-found_in-clause-refused g c = λ tells.
+pub returns-in_err-found-clause-refused : goal.returns-in_err-found-clause-refused
+returns-in_err-found-clause-refused g c = λ tells.
     let root = c.args.root.now in
     let seen = g.D.Store.seen c.args.system.now in
-    given_error c.in_err-found_in.field-0.0 (IsAskedUnread root seen) c.from_residual.result c.from_residual.ensures.1
-    (database_path false root, inl refl, c.in_err-found_in.ensures.refused tells)
+    given_error c.in_err-found.field-0.0 (IsAskedUnread root seen) c.from_residual.result c.from_residual.ensures.1
+    (database_path false root, inl refl, c.in_err-found.ensures.refused tells)
 
-pub returns-in_err-usr-clause-refused : goal.returns-in_err-usr-clause-refused
-returns-in_err-usr-clause-refused g c = λ tells.
+pub returns-in_err-usr-in-Some-clause-refused : goal.returns-in_err-usr-in-Some-clause-refused
+returns-in_err-usr-in-Some-clause-refused g c = λ tells.
     let root = c.args.root.now in
     let seen = g.D.Store.seen c.args.system.now in
-    given_error (Plain Memory) (IsAskedUnread root seen) c.from_residual-in_err-usr.result c.from_residual-in_err-usr.ensures.1 (asked_memory root seen)
+    given_error (Plain Memory) (IsAskedUnread root seen) c.from_residual-in_err-usr-in-Some.result c.from_residual-in_err-usr-in-Some.ensures.1 (asked_memory root seen)
