@@ -1,11 +1,13 @@
 use Rattle.std.proofs.Common.{◌≡◌, ◌⊎◌, ap, inl, inr, ⊎_elim, refl, string_bytes, subst, sym, ◌==◌, length, map, not, IfOk, IfErr}
 use Rattle.std.specs.Prelude.{option_map}
-use Rattle.hwdb_spec.specs.declared.job.Task.TheVariants.{Ask, Check, Device, Diff, Near, Test, Update}
+use Rattle.hwdb_spec.specs.declared.job.Task.TheVariants.{Ask, Check, Device, Diff, Near, Status, Test, Update}
 use Rattle.hwdb_spec.specs.Asked.{IsAnswered, IsCompared, IsListFrom}
 use Rattle.hwdb_spec.specs.CheckedFiles.{AreCheckedFiles, IsChecked}
 use Rattle.hwdb_spec.specs.Done.{IsAsked, IsLeftByUpdateLess, OldOrUpdatedLess}
 use Rattle.hwdb_spec.specs.Given.{is_dash}
 use Rattle.hwdb_spec.specs.Outputs.{TookOne}
+use Rattle.hwdb_spec.specs.Status.{IsStatus}
+use Rattle.hwdb_spec.specs.StatusErrors.{IsStatusRefused}
 use Rattle.hwdb_spec.specs.Runs.{OnOut, World, files_by, told_by}
 use Rattle.hwdb_spec.specs.NearAsked.{IsNear, near_form, near_limit}
 use Rattle.hwdb_spec.specs.SysfsAnswers.{sight_by}
@@ -297,3 +299,24 @@ returns-in-Device-clause-refused g c = λ tells.
     (subst (λ k. IfOk answer (λ a. OnOut (IsDevicePrinted k asked_names root given sight seen) (texts_in a))) c.device_form-form.ensures (c.device-answer.ensures.printed tells)))))
     (each_error _ (IsTaskReason task (root_of job) job.usr before now) answer (λ r has. any_reason _ _ seen r has) c.device-answer.ensures.reason)
     tt c.printed-in-Device.ensures.refused))
+
+pub returns-in-Status-clause-refused : goal.returns-in-Status-clause-refused
+returns-in-Status-clause-refused g c = λ tells.
+    let job = c.args.job.now in
+    let F = files_by g.D.Store.seen g.D.System.may_fail g.D.Store.may_leave g.D.Store.failures in
+    let V = sight_by g.D.DeviceFiles.answers in
+    let I = told_by g.I.Source.left g.I.Source.failures in
+    let O = told_by g.O.Sink.taken g.O.Sink.failures in
+    let E = told_by g.E.Sink.taken g.E.Sink.failures in
+    let seen = g.D.Store.seen c.args.system.now in
+    let before : World = record { files = F c.args.system.now; input = I c.args.input.now; out = O c.args.out.now; err = E c.args.err.now; devices = V c.args.system.now } in
+    let now : World = record { files = F c.args.system.now; input = I c.args.input.now; out = O c.printed-in-Status.new.out; err = E c.printed-in-Status.new.err; devices = V c.args.system.now } in
+    let task = Status c.in-Status.json in
+    subst (λ t. IfErr c.printed-in-Status.result (IsNotDone t (root_of job) job.usr job.strict before now)) (sym c.in-Status.is)
+    (each_error _ (IsNotDone task (root_of job) job.usr job.strict before now) c.printed-in-Status.result (λ r both. ((both.0, record { same = λ p. refl; no_more = λ p v l. l }), both.1))
+    (printed_refused c.status.result c.printed-in-Status.result (Refuses task (root_of job) before.input.bytes seen) (IsTaskReason task (root_of job) job.usr before now)
+    (λ s t. IsAnswerOf task (root_of job) job.strict before.input.bytes seen s t) before.err now.err before.out now.out
+    (subst (λ r. IfErr c.status.result (IsStatusRefused r seen)) c.root_of-root.ensures (c.status.ensures.refused tells))
+    (subst (λ r. IfOk c.status.result (λ a. OnOut (λ text. IsStatus r c.in-Status.json seen text a.status) (texts_in a))) c.root_of-root.ensures (c.status.ensures.status tells))
+    (each_error _ (IsTaskReason task (root_of job) job.usr before now) c.status.result (λ r has. any_reason _ _ seen r has) (c.status.ensures.reason tells))
+    tt c.printed-in-Status.ensures.refused))
