@@ -54,6 +54,10 @@ test_files_rule = record (new_rule (codes "FILE")) { required = true; action = S
 abbrev pub database_option_rule : Rule
 database_option_rule = record (new_rule (codes "database")) { value_names = 1; long = Some (codes "database"); action = Some Set }
 
+-- files that name devices, or none
+abbrev pub devices_option_rule : Rule
+devices_option_rule = record (new_rule (codes "devices")) { value_names = 1; long = Some (codes "devices"); action = Some Append }
+
 -- a database, or none
 abbrev pub database_rule : Rule
 database_rule = record (new_rule (codes "DATABASE")) { action = Some Set }
@@ -140,7 +144,7 @@ test_app = with_rule (with_rule (with_rule (with_shared (new_app (codes "test"))
 
 -- `diff`
 abbrev pub diff_app : App
-diff_app = with_rule (with_rule (with_shared (new_app (codes "diff"))) old_database_rule) new_database_rule
+diff_app = with_rule (with_rule (with_rule (with_rule (with_shared (new_app (codes "diff"))) devices_option_rule) json_rule) old_database_rule) new_database_rule
 
 -- `verify`
 abbrev pub verify_app : App

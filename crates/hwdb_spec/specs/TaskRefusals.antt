@@ -19,7 +19,7 @@ use Rattle.hwdb_spec.specs.Outputs.{Texts}
 use Rattle.hwdb_spec.specs.declared.form.Form.TheVariants as form
 use Rattle.hwdb_spec.specs.declared.errors.ToolError.TheVariants.{Memory, Write}
 use Rattle.hwdb_spec.specs.CheckedFiles.{AreCheckedFiles}
-use Rattle.hwdb_spec.specs.ComparedDatabases.{IsDiffRefused}
+use Rattle.hwdb_spec.specs.ComparedDatabases.{HasDiffReason, IsDiffRefused}
 use Rattle.hwdb_spec.specs.NearErrors.{IsNearRefused}
 use Rattle.hwdb_spec.specs.TestErrors.{HasTestReason, IsTestRefused}
 use Rattle.hwdb_spec.specs.DeviceErrors.{IsDeviceRefused}
@@ -29,7 +29,7 @@ use Rattle.hwdb_spec.specs.StatusErrors.{IsStatusRefused}
 use Rattle.hwdb_spec.specs.Program.{IsAnswerOf, IsDeviceAnswer, IsJobDone, IsTold, IsUpdate, looks_below_root, root_of}
 use Rattle.hwdb_spec.specs.CheckedReasons.{HasCheckedReason}
 use Rattle.hwdb_spec.specs.Reasons.{HasAskedReason, HasFilesReason, HasGivenReason}
-use Rattle.hwdb_spec.specs.Refusals.{HasReason, IsAt, IsUnentered, IsUnreadable, Refused, refusal_line, refusal_text}
+use Rattle.hwdb_spec.specs.Refusals.{HasReason, IsAt, IsUnentered, Refused, refusal_line, refusal_text}
 use Rattle.hwdb_spec.specs.declared.refusals.Refusal.TheVariants.{Plain}
 use Rattle.hwdb_spec.specs.declared.refusals.Refusal.{Refusal}
 use Rattle.hwdb_spec.specs.Undone.{AreUncheckable, IsAskRefused, IsCheckRefused, IsListRefused, IsUnanswered, IsUnprinted, IsUnreadableIf, IsUnwritable}
@@ -42,7 +42,8 @@ Refuses (Check paths allowed json) root input files refusal =
     IsCheckRefused (AreUncheckable (map string_bytes paths.items) root files) (AreCheckedFiles (map string_bytes paths.items) root input files) refusal
 Refuses (Near paths device limit json) root input files refusal = IsNearRefused (map string_bytes paths.items) root files refusal
 Refuses (Test paths database json) root input files refusal = IsTestRefused (map string_bytes paths.items) (option_map string_bytes database) root input files refusal
-Refuses (Diff old_path new_path) root input files refusal = IsDiffRefused (string_bytes old_path) (string_bytes new_path) files refusal
+Refuses (Diff old_path new_path devices json) root input files refusal =
+    IsDiffRefused (map string_bytes devices.items) (string_bytes old_path) (string_bytes new_path) input files refusal
 Refuses (Verify database) root input files refusal = IsVerifyRefused (option_map string_bytes database) root files refusal
 Refuses (Dump database) root input files refusal = IsDumpRefused (option_map string_bytes database) root files refusal
 Refuses (Status json) root input files refusal = IsStatusRefused root files refusal
@@ -74,7 +75,6 @@ IsTaskRefused task root usr strict refusal before now = IsPrintingRefused task r
 
 -- a database that the task asks for can't be read: reading it may fail, or it is one that the words name, and nothing is there
 abbrev pub IsUnreadableFor : Task → (MayFail : (path : List ℕ) → Type 0) → Contents → (path : List ℕ) → Type 0
-IsUnreadableFor (Diff old_path new_path) = IsUnreadable
 IsUnreadableFor (Verify database) = IsUnreadableIf (is_some (option_map string_bytes database))
 IsUnreadableFor (Dump database) = IsUnreadableIf (is_some (option_map string_bytes database))
 IsUnreadableFor _ = IsUnreadableIf false
@@ -93,6 +93,8 @@ IsTaskReason (Near files device limit json) root usr before now refusal =
     HasFilesReason (not (length files.items == 0)) (map string_bytes files.items) before.files.fails before.files.seen before.input.bytes before.input.failures now.input.failures refusal
 IsTaskReason (Test paths database json) root usr before now refusal =
     HasTestReason (map string_bytes paths.items) (option_map string_bytes database) root before.files.fails before.files.seen before.input.bytes before.input.failures now.input.failures refusal
+IsTaskReason (Diff old_path new_path devices json) root usr before now refusal =
+    HasDiffReason (map string_bytes devices.items) (string_bytes old_path) (string_bytes new_path) before.files.fails before.files.seen before.input.bytes before.input.failures now.input.failures refusal
 IsTaskReason task root usr before now refusal =
     HasReason (IsUnreadableFor task before.files.fails before.files.seen)
     (IsUnwritable (database_folder usr root) before.files.seen before.files.failures now.files.failures) before.files.seen refusal
@@ -107,7 +109,7 @@ IsJobNotDone job = IsNotDone job.task (root_of job) job.usr job.strict
 
 -- the status of an error: 2 of `diff`, whose 1 says that something changed, else 1
 abbrev pub refused_status : Task → ℕ
-refused_status (Diff old_path new_path) = 2
+refused_status (Diff old_path new_path devices json) = 2
 refused_status _ = 1
 
 -- what is said of an error: if standard output fails and the system tells why, that it can't be written

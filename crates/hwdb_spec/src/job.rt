@@ -93,6 +93,10 @@ pub enum Task {
         old: String,
         /// The path of the new one.
         new: String,
+        /// The paths of files that name devices; none if assignments are compared.
+        devices: Vec<String>,
+        /// Whether as JSON.
+        json: bool,
     },
     /// Say whether a file is a database that can be read, and how much is in it.
     Verify {
