@@ -93,5 +93,6 @@ pub mod Readable
 pub mod HidingTold
 pub mod Reasons
 pub mod CheckedReasons
+pub mod OverText
 pub mod Program
 pub mod TaskRefusals

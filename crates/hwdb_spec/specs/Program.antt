@@ -1,6 +1,6 @@
 -- What the program does with a file system, by the job that its words ask for: `update` and `query` as systemd-hwdb(8) has them.
 -- The other commands are our choice.
-use Rattle.std.specs.Prelude.{◌≡◌, ◌≢◌, ◌⊎◌, ◌==◌, ℕ, Bool, true, false, not, is_some, length, List, [], ◌∷◌, Option, map, option_map, string_bytes}
+use Rattle.std.specs.Prelude.{◌≡◌, ◌≢◌, ◌⊎◌, ◌==◌, ◌&&◌, ℕ, Bool, true, false, not, is_some, None, length, List, [], ◌∷◌, Option, map, option_map, string_bytes}
 use Rattle.std.specs.Option.{option_map_or}
 use Rattle.clap.specs.Faults.{fault_of}
 use Rattle.hwdb_spec.specs.CommandLine.{hwdb_app}
@@ -15,7 +15,7 @@ use Rattle.hwdb_spec.specs.declared.job.Task.TheVariants.{Ask, Check, Device, Di
 use Rattle.hwdb_spec.specs.declared.job.Task.{Task}
 use Rattle.hwdb_spec.specs.declared.job.Job.{Job}
 use Rattle.hwdb_spec.specs.CheckedFiles.{AreCheckedFiles, IsChecked}
-use Rattle.hwdb_spec.specs.Status.{IsStatus}
+use Rattle.hwdb_spec.specs.Status.{IsMade, IsStatus}
 use Rattle.hwdb_spec.specs.Asked.{IsDumped, IsPrinted, IsAnswered, IsListFrom}
 use Rattle.hwdb_spec.specs.ComparedDatabases.{IsDiffed}
 use Rattle.hwdb_spec.specs.Databases.{IsSummary}
@@ -28,6 +28,8 @@ use Rattle.hwdb_spec.specs.Queries.{AreAnswered, IfNamed, IsQuiet}
 use Rattle.hwdb_spec.specs.Done.{IsAsked, IsLeftByUpdateLess}
 use Rattle.hwdb_spec.specs.HidingTold.{IsUpdatedTelling}
 use Rattle.hwdb_spec.specs.Tested.{IsTested}
+use Rattle.hwdb_spec.specs.Folders.{Source}
+use Rattle.hwdb_spec.specs.OverText.{misuse_text, takes_text, world_over}
 
 -- the root in front of each path; nothing if none was given
 abbrev pub root_of : Job → List ℕ
@@ -92,9 +94,29 @@ IsTaskDone task root usr strict status before now =
     IfNamed (streams task) before.input.bytes (Printed (IsAnswerOf task root strict before.input.bytes before.files.seen status) before.err now.err before.out now.out)
     × IsQuiet (streams task) status before.err now.err × AreKept before.files now.files
 
+-- With `--text` a task is done over the files as they are, but that the database has the bytes that an update would write now. No
+-- file changes.
+pub record IsDoneOverText (task : Task) (root : List ℕ) (usr strict : Bool) (status : ℕ) (before now : World) : Type 0 where
+  pub fits : misuse_text task ≡ None
+  pub of_etc : List Source
+  pub of_usr : List Source
+  pub made : List ℕ
+  pub is_made : IsMade root before.files.seen of_etc of_usr made
+  pub done : IsTaskDone task root usr strict status (world_over root made before) (world_over root made now)
+  pub kept : AreKept before.files now.files
+
+-- a task is done: over the text files, or else over the files as they are
+abbrev pub IsDoneFrom : (over_text : Bool) → Task → (root : List ℕ) (usr strict : Bool) (status : ℕ) (before now : World) → Type 0
+IsDoneFrom true = IsDoneOverText
+IsDoneFrom false = IsTaskDone
+
+-- a job answers from the text files: it has `--text`, and its command takes it
+abbrev pub asks_text : Job → Bool
+asks_text job = job.text && takes_text job.task
+
 -- what a job leaves that is done
 abbrev pub IsDone : Job → (status : ℕ) (before now : World) → Type 0
-IsDone job = IsTaskDone job.task (root_of job) job.usr job.strict
+IsDone job = IsDoneFrom (asks_text job) job.task (root_of job) job.usr job.strict
 
 -- the words ask for a job, and it is done
 pub record IsJobDone (words : List (List ℕ)) (status : ℕ) (before now : World) : Type 0 where

@@ -1,6 +1,6 @@
 -- Which errors end a task, when each comes, and what it leaves: the files, what standard error had taken before the
 -- error's line, and standard output. Our choice.
-use Rattle.std.specs.Prelude.{◌≡◌, ◌≢◌, ◌⊎◌, ◌==◌, ℕ, Bool, true, false, not, is_some, length, List, [], ◌∷◌, Option, Some, map, option_map, string_bytes, codes}
+use Rattle.std.specs.Prelude.{◌≡◌, ◌≢◌, ◌⊎◌, ◌==◌, ℕ, Bool, true, false, not, is_some, length, List, [], ◌∷◌, Option, None, Some, map, option_map, string_bytes, codes}
 use Rattle.clap.specs.Faults.{fault_of}
 use Rattle.hwdb_spec.specs.CommandLine.{hwdb_app}
 use Rattle.hwdb_spec.specs.Words.{AskFor, AskForText, AreToldBy}
@@ -26,7 +26,10 @@ use Rattle.hwdb_spec.specs.DeviceErrors.{IsDeviceRefused}
 use Rattle.hwdb_spec.specs.NamedDatabases.{IsDumpRefused, IsVerifyRefused}
 use Rattle.hwdb_spec.specs.Queries.{AreUnanswered}
 use Rattle.hwdb_spec.specs.StatusErrors.{IsStatusRefused}
-use Rattle.hwdb_spec.specs.Program.{IsAnswerOf, IsDeviceAnswer, IsJobDone, IsTold, IsUpdate, looks_below_root, root_of}
+use Rattle.hwdb_spec.specs.Program.{IsAnswerOf, IsDeviceAnswer, IsJobDone, IsTold, IsUpdate, asks_text, looks_below_root, root_of}
+use Rattle.hwdb_spec.specs.Folders.{Source}
+use Rattle.hwdb_spec.specs.OverText.{IsNothingAsked, misuse_text, world_over}
+use Rattle.hwdb_spec.specs.Status.{IsMade}
 use Rattle.hwdb_spec.specs.CheckedReasons.{HasCheckedReason}
 use Rattle.hwdb_spec.specs.Reasons.{HasAskedReason, HasFilesReason, HasGivenReason}
 use Rattle.hwdb_spec.specs.Refusals.{HasReason, IsAt, IsUnentered, Refused, refusal_line, refusal_text}
@@ -103,9 +106,32 @@ IsTaskReason task root usr before now refusal =
 abbrev pub IsNotDone : Task → (root : List ℕ) (usr strict : Bool) (before now : World) → Refusal → Type 0
 IsNotDone task root usr strict before now refusal = IsTaskRefused task root usr strict refusal before now × IsTaskReason task root usr before now refusal
 
+-- Before anything is asked a task over text ends with an error. Nothing was printed, no file changed, and what the error says is so.
+pub record IsUnbegun (task : Task) (root : List ℕ) (before now : World) (refusal : Refusal) : Type 0 where
+  pub refused : IsNothingAsked task root before.files.seen refusal
+  pub reason : HasReason before.files.fails ⊥ before.files.seen refusal
+  pub err : now.err ≡ before.err
+  pub out : now.out ≡ before.out
+  pub kept : AreKept before.files now.files
+
+-- A task ends with an error over the database that an update would write now, and what the error says is so. No file changes.
+pub record IsNotDoneOverText (task : Task) (root : List ℕ) (usr strict : Bool) (before now : World) (refusal : Refusal) : Type 0 where
+  pub fits : misuse_text task ≡ None
+  pub of_etc : List Source
+  pub of_usr : List Source
+  pub made : List ℕ
+  pub is_made : IsMade root before.files.seen of_etc of_usr made
+  pub not_done : IsNotDone task root usr strict (world_over root made before) (world_over root made now) refusal
+  pub kept : AreKept before.files now.files
+
+-- a task ends with an error, and what that says is so: over the text files, or else over the files as they are
+abbrev pub IsNotDoneFrom : (over_text : Bool) → Task → (root : List ℕ) (usr strict : Bool) (before now : World) → Refusal → Type 0
+IsNotDoneFrom true task root usr strict before now refusal = IsUnbegun task root before now refusal ⊎ IsNotDoneOverText task root usr strict before now refusal
+IsNotDoneFrom false task root usr strict before now refusal = IsNotDone task root usr strict before now refusal
+
 -- the same of a job
 abbrev pub IsJobNotDone : Job → (before now : World) → Refusal → Type 0
-IsJobNotDone job = IsNotDone job.task (root_of job) job.usr job.strict
+IsJobNotDone job = IsNotDoneFrom (asks_text job) job.task (root_of job) job.usr job.strict
 
 -- the status of an error: 2 of `diff`, whose 1 says that something changed, else 1
 abbrev pub refused_status : Task → ℕ
@@ -177,7 +203,7 @@ pub record IsCutShort (gone_before gone : Type 0) (words : List (List ℕ)) (bef
   pub job : Job
   pub asked : AskFor words job
   pub faultless : fault_of hwdb_app words ≡ []
-  pub refused : IsTaskRefused job.task (root_of job) job.usr job.strict (Plain Write) before now
+  pub refused : IsJobNotDone job before now (Plain Write)
   pub kept : AreKept before.files now.files
   pub reader : gone
   -- an update writes nothing there

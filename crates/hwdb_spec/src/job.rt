@@ -122,6 +122,8 @@ pub struct Job {
     pub usr: bool,
     /// Whether `update` ends with status 1 if a line had a fault, and `check` if there is a warning.
     pub strict: bool,
+    /// Whether the text files of both folders are asked, as `update` would compile them now.
+    pub text: bool,
     /// What to put in front of the paths of folders and databases.
     pub root: Option<String>,
     /// When the output is coloured, as it was given.
