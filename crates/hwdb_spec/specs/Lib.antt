@@ -93,3 +93,4 @@ pub mod Reasons
 pub mod CheckedReasons
 pub mod Program
 pub mod TaskRefusals
+pub mod Lemmas
