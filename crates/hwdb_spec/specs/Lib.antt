@@ -96,3 +96,4 @@ pub mod CheckedReasons
 pub mod OverText
 pub mod Program
 pub mod TaskRefusals
+pub mod Lemmas
