@@ -26,18 +26,7 @@ use Rattle.std.proofs.lemmas.Cmp.{nat_list_cmp_total}
 use Rattle.hwdb_compile.specs.declared.sources.SourceFile.{SourceFile}
 use Rattle.hwdb_compile.specs.Internal.Reading.{bytes_at, IsPuttable}
 use Rattle.hwdb_spec.specs.Lemmas.Orders.{turned}
-
--- one more of a list, mapped
-pub mapped_more : {A B : Type 0} (f : A → B) (xs : List A) (i : ℕ) (x : A) → i < length xs → x ≡ get_or xs i x → map f (take (suc i) xs) ≡ map f (take i xs) ++ f x ∷ []
-mapped_more f [] i x lt e = absurd (omega arith)
-mapped_more f (y ∷ xs) zero x lt e = ap (λ z. f z ∷ []) (sym e)
-mapped_more f (y ∷ xs) (suc i) x lt e = ap (λ l. f y ∷ l) (mapped_more f xs i x (omega arith) e)
-
--- one more of a list
-pub taken_more : {A : Type 0} (xs : List A) (i : ℕ) (x : A) → i < length xs → x ≡ get_or xs i x → take (suc i) xs ≡ take i xs ++ x ∷ []
-taken_more [] i x lt e = absurd (omega arith)
-taken_more (y ∷ xs) zero x lt e = ap (λ z. z ∷ []) (sym e)
-taken_more (y ∷ xs) (suc i) x lt e = ap (λ l. y ∷ l) (taken_more xs i x (omega arith) e)
+use Rattle.hwdb_spec.specs.Lemmas.Lists.{gathered_more}
 
 -- it holds of one of them
 pub any_here : {A : Type 0} (P : A → Type 0) (xs : List A) (i : ℕ) (x : A) → i < length xs → x ≡ get_or xs i x → P x → Any P xs
@@ -143,10 +132,6 @@ puttable o file given is storable path priority =
       path = subst HasNoZero (sym (origin k d lt).0) path;
       priority = subst (λ n. 0 < n) (sym (origin k d lt).1) priority;
     }
-
-pub gathered_more : {A B : Type 0} (f : A → List B) (xs : List A) (x : A) → flat_map f (xs ++ x ∷ []) ≡ flat_map f xs ++ f x
-gathered_more f [] x = append-nil (f x)
-gathered_more f (y ∷ xs) x = ap (λ l. f y ++ l) (gathered_more f xs x) ∙ sym (append_assoc (f y) (flat_map f xs) (f x))
 
 -- the assignments of one more file
 pub tree_step : {A : Type 0} (done : List Assignment) (f : A → List Assignment) (files more : List A) (file : A) (given : List Assignment) (tree : Map)

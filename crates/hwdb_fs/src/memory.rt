@@ -109,7 +109,7 @@ fn named_by<'a>(
     Ok(None)
 }
 
-/// Puts the name of the text file that a step has stand in a folder behind the others.
+/// Puts the name of the text file that a step has in a folder after the others.
 fn push_name(
     alloc: Global,
     steps: &[Step],

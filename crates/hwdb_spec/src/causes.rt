@@ -111,7 +111,7 @@ impl Message {
         &bytes[..self.len]
     }
 
-    /// Cuts the number that the library puts behind the system's words.
+    /// Cuts the number that the library puts after the system's words.
     fn drop_number(&mut self) {
         let number = b" (os error ".as_slice();
         let cut = self

@@ -13,6 +13,7 @@ use Rattle.hwdb_spec.specs.Tree.Tree.{Node}
 use Rattle.hwdb_spec.specs.Tree.Children.{NoMore, Child}
 use Rattle.hwdb_spec.specs.Lemmas.Orders.{then_equal}
 use Rattle.hwdb_spec.specs.Lemmas.Places.{equal_place}
+use Rattle.hwdb_spec.specs.Lemmas.Lists.{same_rest}
 
 abbrev pub Place : Type 0
 Place = List ℕ × List ℕ
@@ -170,13 +171,9 @@ one_other q path k w is other = by (key_of w.key) refl
     by (Some k') h =
         ap (λ b. cond b (Some (given w)) None) (differs q (path, k') (λ same. other (h ∙ ap (λ (x : Place). Some x.1) (sym same ∙ is))))
 
-pub cancel : (path xs ys : List ℕ) → path ++ xs ≡ path ++ ys → xs ≡ ys
-cancel [] xs ys e = e
-cancel (c ∷ path) xs ys e = cancel path xs ys (cc)
-
 pub fork_off : (path : List ℕ) (b d : ℕ) (more : List ℕ) → (d ≡ b → ⊥) → Off (path ++ b ∷ []) (path ++ d ∷ more)
 fork_off path b d more ne r e =
-    let h = cancel path (d ∷ more) (b ∷ r) (e ∙ append_assoc path (b ∷ []) r) in
+    let h = same_rest path (d ∷ more) (b ∷ r) (e ∙ append_assoc path (b ∷ []) r) in
     ne (cc)
 
 -- a path that goes on is not the path
