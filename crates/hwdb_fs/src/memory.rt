@@ -14,11 +14,9 @@ use hwdb_print::ToolError;
 use hwdb_replace::memory::state_of;
 use hwdb_replace::{Memory, Step};
 use hwdb_spec::Refusal;
+use hwdb_sysfs::NO_ENTRY;
 use hwdb_text::counts;
 use std::alloc::{AllocError, Global};
-
-/// The number of the error of a path where nothing stands (errno, on Linux).
-const NO_ENTRY: i32 = 2;
 
 /// The path under which a step has a file stand.
 fn made_by(step: &Step) -> Option<&[u8]>
