@@ -3,9 +3,9 @@ use Rattle.std.proofs.Common.{◌≡◌, ◌∙◌, ◌+◌, ◌-◌, ◌^◌, m
 use Rattle.std.specs.Prelude.{Any, flat_map}
 use Rattle.std.specs.List.{slice_index_or}
 use Rattle.std.specs.FinMap as finite
-use Rattle.std.specs.Ordering.{is_eq, nat_cmp, ordering_reverse}
+use Rattle.std.specs.Ordering.{is_eq, nat_cmp}
 use Rattle.std.specs.Cmp.Lexicographic.{slice_cmp}
-use Rattle.std.proofs.lemmas.List.{get_or_default, length-append, reverse-append, append-nil, take_all}
+use Rattle.std.proofs.lemmas.List.{get_or_default, length-append, reverse-append, take_all}
 use Rattle.std.proofs.lemmas.List.Elements.{All-nil, All-cons, All-head, All-tail, All-append}
 use Rattle.hwdb_spec.specs.Lines.{Line, lines, clean, has_equals, has_key, has}
 use Rattle.hwdb_spec.specs.Records.{sections, Origin, assign, patterns, property_assignments, section_assignments, assignments}
@@ -20,8 +20,6 @@ use Rattle.std.specs.Borrow.{Bor}
 use Rattle.std.specs.Option.{option_map_or}
 use Rattle.std.specs.BTreeMap.{BTreeMap, get_by, is_at}
 use Rattle.std.specs.Map.{lookup}
-use Rattle.std.specs.declared.cmp.Ordering.{Ordering}
-use Rattle.std.specs.declared.cmp.Ordering.TheVariants.{Less, Equal, Greater}
 use Rattle.std.proofs.lemmas.Cmp.{nat_list_cmp_total}
 use Rattle.hwdb_compile.specs.declared.sources.SourceFile.{SourceFile}
 use Rattle.hwdb_compile.specs.Internal.Reading.{bytes_at, IsPuttable}

@@ -1,14 +1,5 @@
 -- Files and malformed lines, one after another.
-use Rattle.std.proofs.Common.{◌≡◌, ◌∙◌, ◌+◌, ◌++◌, ap, append_assoc, take, Bool, false, ℕ, zero, suc, ◌<◌, List, [], ◌∷◌, map, length, get_or, Result, Ok, Err, IfErr, refl, sym, subst, arith}
-use Rattle.std.specs.Prelude.{Any}
-use Rattle.std.specs.Result.{IsErrAnd}
-use Rattle.hwdb_spec.specs.Folders.{Source}
-use Rattle.hwdb_spec.specs.declared.errors.ScanError.{ScanError}
-use Rattle.hwdb_spec.specs.declared.errors.ScanError.TheVariants.{Memory, TooManyLines}
-use Rattle.hwdb_lint.specs.declared.files.TextFile.{TextFile}
-use Rattle.hwdb_lint.specs.Checks.{source_of}
-use Rattle.hwdb_spec.specs.CheckErrors.{IsFileRefusal, IsCheckRefusal}
-use Rattle.hwdb_lint.specs.Lemmas.Files.{any_at, refused_by}
+use Rattle.std.proofs.Common.{◌≡◌, ◌∙◌, ◌+◌, ◌++◌, ap, append_assoc, take, Bool, false, ℕ, zero, suc, ◌<◌, List, [], ◌∷◌, map, length, refl, sym, arith}
 
 one_more : {X : Type 0} (xs : List X) (i : ℕ) → i < length xs → map (λ (x : X). false) (take (suc i) xs) ≡ map (λ (x : X). false) (take i xs) ++ false ∷ []
 one_more [] i h = absurd (omega arith)

@@ -1,7 +1,6 @@
 -- A file, line by line.
-use Rattle.std.proofs.Common.{◌≡◌, ℕ, suc, ◌+◌, ◌<◌, ◌≤◌, Bool, true, false, cond, not, List, [], ◌∷◌, take, drop, length, refl, ap, ◌∙◌, sym, arith}
-use Rattle.std.proofs.lemmas.List.{drop-drop, drop_all, length-drop}
-use Rattle.std.specs.List.{position_or_len, onto_first}
+use Rattle.std.proofs.Common.{◌≡◌, ℕ, ◌+◌, ◌<◌, ◌≤◌, List, [], ◌∷◌, take, drop, length, ap}
+use Rattle.std.specs.List.{position_or_len}
 use Rattle.hwdb_spec.specs.Lines.{is, numbered, pieces}
 use Rattle.hwdb_lint.specs.Lemmas.Pieces.{line_at, no_line_at}
 use Rattle.hwdb_lint.specs.Internal.{line_of}

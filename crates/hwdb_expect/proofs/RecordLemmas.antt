@@ -1,9 +1,9 @@
 -- The records of a test file, line by line.
 use Rattle.std.proofs.Common.{◌≡◌, ℕ, Bool, true, false, List, [], ◌∷◌, ◌++◌, refl, ap, ◌∙◌, sym, cond, not}
-use Rattle.hwdb_spec.specs.Lines.{Line, begins_with, clean, clean_line, has, is_dropped, is_empty, is_match, is_property}
+use Rattle.hwdb_spec.specs.Lines.{Line, begins_with, clean, clean_line, has, is_empty, is_match, is_property}
 use Rattle.hwdb_spec.specs.Wanted.{Record, no_record, records_from, with_line}
 use Rattle.hwdb_lint.specs.Internal.{line_of}
-use Rattle.hwdb_lint.specs.Lemmas.Lines.{clean_by, cleaned, kept}
+use Rattle.hwdb_lint.specs.Lemmas.Lines.{cleaned}
 
 -- what is read of a clean line
 read_by : (e : Bool) (r : Record) (l : Line) (m : List Line) → is_empty l ≡ e → records_from r (l ∷ m) ≡ cond e (r ∷ records_from no_record m) (records_from (with_line r l) m)

@@ -1,7 +1,6 @@
 -- A listing, name by name.
-use Rattle.std.proofs.Common.{◌≡◌, ◌<◌, ◌≤◌, ◌+◌, ℕ, zero, suc, Bool, true, false, List, [], ◌∷◌, ◌++◌, take, drop, length, filter, not, Contains, refl, sym, ap, ◌∙◌, subst, arith, append_assoc, append-nil, length-drop, ◌-◌, if◌then◌else◌}
-use Rattle.std.proofs.lemmas.List.{take_all}
-use Rattle.std.specs.List.{position_or_len, onto_first}
+use Rattle.std.proofs.Common.{◌≡◌, ◌<◌, ◌≤◌, ◌+◌, ℕ, suc, Bool, true, false, List, [], ◌∷◌, ◌++◌, take, drop, length, filter, Contains, refl, sym, ap, ◌∙◌, subst, arith, append_assoc, append-nil, ◌-◌}
+use Rattle.std.specs.List.{position_or_len}
 use Rattle.hwdb_spec.specs.Lines.{is, pieces}
 use Rattle.hwdb_spec.specs.Folders.{counts}
 use Rattle.hwdb_fs.specs.Raw.{entries}

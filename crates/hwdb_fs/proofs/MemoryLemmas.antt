@@ -1,5 +1,5 @@
 -- A store in memory: what stands under a path was put there by one of its steps.
-use Rattle.std.proofs.Common.{◌≡◌, ◌≢◌, ◌∙◌, ◌⊎◌, ◌||◌, inl, inr, ap, sym, refl, subst, bytes_eq, true, false, List, ℕ, [], ◌∷◌, ◌++◌, Option, Some, None, if◌then◌else◌, All, ◌<◌, zero, suc, length, take, get_or, arith}
+use Rattle.std.proofs.Common.{◌≡◌, ◌≢◌, ◌∙◌, ◌⊎◌, ◌||◌, inl, inr, ap, sym, refl, subst, bytes_eq, true, false, List, ℕ, [], ◌∷◌, ◌++◌, Option, Some, None, if◌then◌else◌, All}
 use Rattle.std.specs.Prelude.{is_some, option_map, MatchOption, not, drop, Contains}
 use Rattle.std.specs.Option.{option_map_or}
 use Rattle.std.proofs.lemmas.List.Elements.{All-push, Contains-append_left, Contains-push}

@@ -1,20 +1,19 @@
 -- What a tree assigns ascends by pattern and key.
-use Rattle.std.proofs.Common.{◌≡◌, ◌∙◌, ap, sym, refl, subst, ℕ, ◌<◌, List, [], ◌∷◌, ◌++◌, map, arith, append_assoc, Option, Some, None, Bool, true, false, ◌&&◌, T, if◌then◌else◌, ◌==◌, eqb-true}
+use Rattle.std.proofs.Common.{◌≡◌, ◌∙◌, ap, sym, refl, subst, ℕ, ◌<◌, List, [], ◌∷◌, ◌++◌, map, append_assoc, Option, Some, None, Bool, true, false, ◌&&◌, T}
 use Rattle.std.specs.Prelude.{flat_map}
 use Rattle.std.specs.FinMap as finite
 use Rattle.std.specs.FinMap.Entries.{is_sorted, below_all}
 use Rattle.std.specs.List.{AllByRecursion}
-use Rattle.std.specs.Cmp.{IsTotalOrder, nat_cmp_is}
+use Rattle.std.specs.Cmp.{nat_cmp_is}
 use Rattle.std.specs.Ordering.{ordering_then, is_lt}
 use Rattle.std.specs.declared.cmp.Ordering.{Ordering}
-use Rattle.std.specs.declared.cmp.Ordering.TheVariants.{Less, Equal, Greater}
-use Rattle.std.proofs.lemmas.Cmp.{nat_list_cmp_total, nat_cmp_total, tied_itself, on_total, then_total}
+use Rattle.std.specs.declared.cmp.Ordering.TheVariants.{Less}
+use Rattle.std.proofs.lemmas.Cmp.{nat_list_cmp_total, nat_cmp_total, tied_itself}
 use Rattle.hwdb_spec.specs.Assignment.{Assignment, text_cmp}
 use Rattle.hwdb_spec.specs.Tree.{Tree, Children, Value, values_under, values_below, KeysAscend, IsTree, BytesAscend, members_under, place_cmp, entry_of, key_of, assigned_at, map_of}
 use Rattle.hwdb_spec.specs.Tree.Tree.{Node}
 use Rattle.hwdb_spec.specs.Tree.Children.{NoMore, Child}
 use Rattle.hwdb_query.specs.Internal.Members.{assignment_of as assigned_by}
-use Rattle.hwdb_spec.specs.Lemmas.Orders.{then_equal}
 use Rattle.hwdb_spec.specs.Lemmas.Places.{equal_place, key_is, place_total}
 use Rattle.hwdb_query.specs.Lemmas.Paths.{Above, From, all_map, below_above, keys_above, under_from}
 

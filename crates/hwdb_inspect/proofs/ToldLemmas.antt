@@ -10,7 +10,7 @@ use Rattle.std.specs.declared.cmp.Ordering.{Ordering}
 use Rattle.std.specs.declared.cmp.Ordering.TheVariants.{Less, Equal}
 use Rattle.std.proofs.lemmas.Cmp.{on_total, tied_itself}
 use Rattle.std.proofs.lemmas.List.Kept.{IsStrictlySortedBy-filter}
-use Rattle.hwdb_spec.specs.Answers.{is_match, is_wanted, is_after, is_behind, is_same_place, last_of_each, last_matching, last_assignments, key_of_answer, has_key, value_or_none, last_value, effective_of}
+use Rattle.hwdb_spec.specs.Answers.{is_match, is_wanted, is_same_place, last_of_each, last_matching, last_assignments, key_of_answer, has_key, value_or_none, last_value, effective_of}
 use Rattle.hwdb_spec.specs.Assignment.{Assignment, assignment_cmp, text_cmp, in_order, ascending, put}
 use Rattle.hwdb_spec.specs.Dump.{dumped, dump_text, first_unsaid}
 use Rattle.hwdb_spec.specs.Folders.{same, path_of, chosen_of, contents, first_of, file_assignments, all_assignments}

@@ -1,6 +1,6 @@
 -- The stack of a walk, and what its steps do to it.
 use Rattle.std.proofs.Common.{◌≡◌, ◌∙◌, ap, sym, subst, ℕ, suc, ◌+◌, ◌≤◌, ◌<◌, List, [], ◌∷◌, ◌++◌, take, drop, reverse, length, arith, append_assoc, add-one, Some, slice_get}
-use Rattle.std.proofs.lemmas.List.{reverse-append, take-append-le, length-take-le, length-append}
+use Rattle.std.proofs.lemmas.List.{length-take-le, length-append}
 use Rattle.std.proofs.Math.Seq.{take-length}
 use Rattle.hwdb_spec.specs.Tree.{Tree, prefix_of, values_of, members_under}
 use Rattle.hwdb_reader.specs.Views.{children_of, entered_tree, node_count}

@@ -1,18 +1,12 @@
 -- Files, one after another.
-use Rattle.std.proofs.Common.{Bool, ◌≡◌, ℕ, zero, suc, ◌+◌, ◌<◌, List, [], ◌∷◌, ◌++◌, map, take, length, get_or, Result, Ok, Err, IfErr, refl, ap, ◌∙◌, sym, subst, arith, append_assoc}
-use Rattle.std.specs.Prelude.{Any}
+use Rattle.std.proofs.Common.{Bool, ◌≡◌, ℕ, zero, suc, ◌+◌, ◌<◌, List, [], ◌∷◌, ◌++◌, map, take, length, get_or, refl, ap, ◌∙◌, sym, arith, append_assoc}
 use Rattle.std.proofs.lemmas.List.{append-nil}
-use Rattle.std.specs.Result.{IsErrAnd}
 use Rattle.hwdb_spec.specs.Folders.{Source}
 use Rattle.hwdb_spec.specs.Checks.{empty_tally, tally_from, tally_of, tally_of_both}
 use Rattle.hwdb_spec.specs.Findings.{file_text}
 use Rattle.hwdb_spec.specs.declared.Tally.{Tally}
-use Rattle.hwdb_spec.specs.declared.errors.ScanError.{ScanError}
-use Rattle.hwdb_spec.specs.declared.errors.ScanError.TheVariants.{Memory, TooManyLines}
 use Rattle.hwdb_lint.specs.declared.files.TextFile.{TextFile}
 use Rattle.hwdb_lint.specs.Checks.{source_of, files_text}
-use Rattle.hwdb_spec.specs.CheckErrors.{IsFileRefusal, IsCheckRefusal}
-use Rattle.hwdb_lint.specs.Lemmas.Files.{any_at, refused_by}
 
 abbrev first_files : ℕ → List TextFile → List Source
 first_files i fs = map source_of (take i fs)

@@ -6,7 +6,7 @@ use Rattle.hwdb_spec.specs.Lines.{is, lines, numbered, pieces}
 use Rattle.hwdb_spec.specs.Reports.{text_of_line}
 use Rattle.hwdb_lint.specs.Internal.{IsStart}
 use Rattle.hwdb_lint.specs.declared.line_texts.LineStart.{LineStart}
-use Rattle.hwdb_lint.specs.Lemmas.Pieces.{line_at, no_line_at, no_piece_at, piece_at}
+use Rattle.hwdb_lint.specs.Lemmas.Pieces.{line_at, no_line_at}
 
 text_later : (ps : List (List ℕ)) (p : List ℕ) (number line : ℕ) → number < line → text_of_line (numbered number (p ∷ ps)) line ≡ text_of_line (numbered (number + 1) ps) line
 unfolding numbered

@@ -11,12 +11,12 @@ use Rattle.std.specs.Ordering.{nat_cmp, is_eq, match_ordering, ordering_reverse}
 use Rattle.std.specs.Cmp.Lexicographic.{slice_cmp}
 use Rattle.std.specs.BTreeSet.{BTreeSet, contains, insert_key}
 use Rattle.std.proofs.lemmas.Cmp.{nat_list_cmp_total}
-use Rattle.hwdb_spec.specs.Lines.{Line, begins_with, clean, clean_line, has, is, is_dropped, is_empty, is_none, is_match, numbered, pieces}
+use Rattle.hwdb_spec.specs.Lines.{Line, begins_with, clean, clean_line, has, is, is_empty, is_none, is_match, numbered, pieces}
 use Rattle.hwdb_spec.specs.Folders.{same}
 use Rattle.hwdb_spec.specs.Warnings.{repeated_from}
 use Rattle.hwdb_lint.specs.Internal.{IsSetOf, found_with, line_of}
 use Rattle.hwdb_lint.specs.declared.repeats.Run.{Run}
-use Rattle.hwdb_lint.specs.Lemmas.Lines.{clean_by, cleaned, kept}
+use Rattle.hwdb_lint.specs.Lemmas.Lines.{clean_by, cleaned}
 use Rattle.hwdb_spec.specs.Lemmas.Truth.{or_one_more}
 
 -- texts as a set

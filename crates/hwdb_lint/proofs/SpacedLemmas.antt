@@ -1,5 +1,5 @@
 -- A property, seen from the place of its first `=`.
-use Rattle.std.proofs.Common.{◌≡◌, ℕ, zero, suc, ◌-◌, ◌+◌, ◌≤◌, Bool, true, false, not, List, [], ◌∷◌, take, drop, length, refl, ap, ◌∙◌, sym, cond, arith, ◌||◌}
+use Rattle.std.proofs.Common.{◌≡◌, ℕ, zero, suc, ◌-◌, ◌+◌, ◌≤◌, Bool, true, false, not, List, [], ◌∷◌, take, drop, length, refl, ap, ◌∙◌, sym, cond, arith}
 use Rattle.std.proofs.lemmas.List.{take_rest}
 use Rattle.std.specs.List.{list_any, position_or_len}
 use Rattle.hwdb_spec.specs.Lines.{Line, has, has_equals, has_key, is, is_indent, is_none, is_property, key, property, value}

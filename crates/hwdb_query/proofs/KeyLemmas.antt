@@ -1,5 +1,5 @@
 -- The effective list, as answers are put one after another.
-use Rattle.std.proofs.Common.{◌≡◌, ◌∙◌, ap, sym, refl, subst, ℕ, true, false, List, [], ◌∷◌, ◌++◌, map, reverse, filter, append_assoc, Some, None, cond, if◌then◌else◌}
+use Rattle.std.proofs.Common.{◌≡◌, ◌∙◌, ap, sym, refl, subst, ℕ, true, false, List, [], ◌∷◌, ◌++◌, map, reverse, append_assoc, Some, None, cond, if◌then◌else◌}
 use Rattle.std.specs.Prelude.{find}
 use Rattle.std.proofs.lemmas.List.{reverse-append, append-nil}
 use Rattle.std.specs.List.{AllByRecursion}
@@ -13,7 +13,7 @@ use Rattle.std.proofs.lemmas.Cmp.{nat_list_cmp_total, tied_itself}
 use Rattle.hwdb_spec.specs.Assignment.{put, put_all, Assignment, text_cmp}
 use Rattle.std.specs.List.Sorted.{IsStrictlySortedBy}
 use Rattle.hwdb_spec.specs.Tree.{Tree, answers, answers_after}
-use Rattle.hwdb_spec.specs.Answers.{is_after, is_behind, key_of_answer, has_key, value_or_none, last_value, effective_of}
+use Rattle.hwdb_spec.specs.Answers.{key_of_answer, has_key, value_or_none, last_value, effective_of}
 use Rattle.hwdb_query.specs.Internal.Pairs.{put_values}
 use Rattle.hwdb_query.proofs.PutLemmas.{ascends_all, all_above}
 use Rattle.hwdb_spec.specs.Lemmas.Places.{all_behind}

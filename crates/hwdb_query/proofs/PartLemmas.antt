@@ -1,18 +1,15 @@
 -- The assignments and live nodes of a tree, by the parts of its root.
-use Rattle.std.proofs.Common.{◌≡◌, ◌∙◌, ap, sym, refl, ℕ, zero, suc, ◌+◌, ◌≤◌, true, false, List, [], ◌∷◌, ◌++◌, take, drop, map, filter, length, arith, append_assoc, Option, Some, None, slice_get, option_map, if◌then◌else◌}
-use Rattle.std.specs.Prelude.{flat_map}
-use Rattle.std.proofs.lemmas.Grind.{flat_map-append}
+use Rattle.std.proofs.Common.{◌≡◌, ◌∙◌, ap, sym, refl, ℕ, zero, suc, ◌+◌, ◌≤◌, true, false, List, [], ◌∷◌, ◌++◌, take, drop, filter, length, arith, append_assoc, Option, Some, None, slice_get, option_map, if◌then◌else◌}
 use Rattle.std.proofs.lemmas.List.{append-nil}
 use Rattle.std.proofs.lemmas.List.Elements.{filter-append}
-use Rattle.hwdb_spec.specs.Tree.{Tree, Children, Value, prefix_of, values_under, values_below, key_of, assigned_at, members_under, is_live, live_under, live_below, values_of}
-use Rattle.hwdb_query.specs.Internal.Members.{assignment_of, one_assignment, assignment_shown, members_in, own_members}
-use Rattle.hwdb_reader.specs.Views.{children_of, list_of, node_count, nodes_below, Shown, shown}
+use Rattle.hwdb_spec.specs.Tree.{Tree, Children, Value, prefix_of, is_live, live_under, live_below}
+use Rattle.hwdb_query.specs.Internal.Members.{one_assignment, assignment_shown, own_members}
+use Rattle.hwdb_reader.specs.Views.{children_of, list_of, Shown, shown}
 use Rattle.hwdb_spec.specs.Tree.Tree.{Node}
 use Rattle.hwdb_spec.specs.Tree.Children.{NoMore, Child}
 use Rattle.hwdb_spec.specs.Answers.{is_wanted, is_match}
-use Rattle.hwdb_query.specs.Internal.Live.{live_in, nodes_in}
+use Rattle.hwdb_query.specs.Internal.Live.{live_in}
 use Rattle.hwdb_query.proofs.PutLemmas.{filter_in, filter_out}
-use Rattle.hwdb_query.specs.Lemmas.Parts.{at_once, below_listed, nodes_listed, own_listed}
 
 one_wanted : (device pattern : List ℕ) (s : Shown) (o : Option (List ℕ)) → is_match device pattern ≡ true → filter (is_wanted device) (one_assignment pattern s o) ≡ one_assignment pattern s o
 one_wanted device pattern s None h = refl

@@ -1,6 +1,6 @@
 -- The stack of a descent, and what its steps do to it.
 use Rattle.std.proofs.Common.{◌≡◌, ◌∙◌, ap, sym, refl, subst, ℕ, suc, ◌+◌, ◌-◌, ◌≤◌, ◌<◌, true, List, [], ◌∷◌, ◌++◌, take, drop, reverse, filter, length, get_or, slice_set, arith, append_assoc, append-nil, if◌then◌else◌, zero, inl, inr}
-use Rattle.std.proofs.lemmas.List.{reverse-append, length-take-le, length-append}
+use Rattle.std.proofs.lemmas.List.{length-take-le, length-append}
 use Rattle.std.proofs.lemmas.List.Elements.{filter-append}
 use Rattle.std.proofs.Math.Seq.{take-length}
 use Rattle.hwdb_pattern.specs.Views.{Reached, StandsFor}
@@ -14,7 +14,7 @@ use Rattle.hwdb_query.specs.Internal.Descents.{kids_of, wanted_in, to_come, live
 use Rattle.hwdb_query.specs.declared.descent.OpenNode.{OpenNode}
 use Rattle.hwdb_query.proofs.DescentLemmas.{TakesMore, node_collected}
 use Rattle.hwdb_query.proofs.PartLemmas.{live_split}
-use Rattle.hwdb_query.proofs.StepLemmas.{cut_front, stands_whole}
+use Rattle.hwdb_query.proofs.StepLemmas.{stands_whole}
 use Rattle.hwdb_query.proofs.DeadPathLemmas.{Dead, none_wanted, none_live, none_wanted_behind, none_live_behind}
 use Rattle.hwdb_query.specs.Lemmas.Parts.{kid_behind, members_split, node_and_below}
 use Rattle.hwdb_query.specs.Lemmas.Stacks.{on_top, take_front}

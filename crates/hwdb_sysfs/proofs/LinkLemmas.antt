@@ -1,6 +1,6 @@
 -- Names and folders, gone through one by one.
 use Rattle.std.proofs.Common.{◌≡◌, ◌<◌, ◌≤◌, ◌+◌, ℕ, List, [], ◌∷◌, ◌++◌, Global, Vec, ap, append_assoc, flat_map, get_or, length, map, refl, sym, take, ◌∙◌}
-use Rattle.std.proofs.lemmas.List.{flat_map_more, map-append, take_all, take_more}
+use Rattle.std.proofs.lemmas.List.{flat_map_more, take_all}
 use Rattle.hwdb_sysfs.specs.Lemmas.Names.{items, one_more}
 
 fused : (f : List ℕ → List ℕ) (xs : List (Vec ℕ Global)) → map (λ v. f v.items) xs ≡ map f (map items xs)

@@ -1,12 +1,7 @@
 -- Names as a set.
-use Rattle.std.proofs.Common.{◌≡◌, ℕ, List, [], ◌∷◌, map, refl, ap, Vec, Global, Bool, true, false, filter}
-use Rattle.std.specs.BTreeSet.{insert_key}
-use Rattle.std.specs.Ordering.{match_ordering}
-use Rattle.std.specs.declared.cmp.Ordering.{Ordering}
-use Rattle.std.specs.declared.cmp.Ordering.TheVariants.{Less, Equal, Greater}
-use Rattle.hwdb_spec.specs.Assignment.{put, put_all, text_cmp}
+use Rattle.std.proofs.Common.{◌≡◌, ℕ, List, [], ◌∷◌, refl, Bool, true, false, filter}
+use Rattle.hwdb_spec.specs.Assignment.{put_all, text_cmp}
 use Rattle.hwdb_spec.specs.SysfsAnswers.{leads_on}
-use Rattle.hwdb_sysfs.specs.Lemmas.Names.{by_order, items}
 
 entry_by : (b : Bool) (name : List ℕ) (rest kept : List (List ℕ)) → leads_on name ≡ b
     → put_all text_cmp (filter leads_on (name ∷ rest)) kept ≡ put_all text_cmp (filter leads_on rest) (put_all text_cmp (filter leads_on (name ∷ [])) kept)

@@ -1,6 +1,6 @@
 -- A device, the lines of all of them, and what is said if there is none.
-use Rattle.std.proofs.Common.{◌≡◌, ◌<◌, ◌≤◌, ◌+◌, ◌∙◌, ◌++◌, ◌∷◌, [], ap, append_assoc, false, flat_map, get_or, if◌then◌else◌, is_some, length, map, not, refl, sym, take, true, Bool, Global, List, Vec, ℕ}
-use Rattle.std.proofs.lemmas.List.{flat_map_more, map-append, take_all, take_more}
+use Rattle.std.proofs.Common.{◌≡◌, ◌<◌, ◌≤◌, ◌+◌, ◌∙◌, ◌++◌, [], ap, append_assoc, false, flat_map, get_or, if◌then◌else◌, is_some, length, map, not, refl, sym, take, true, Bool, Global, List, Vec, ℕ}
+use Rattle.std.proofs.lemmas.List.{flat_map_more, take_all}
 use Rattle.hwdb_spec.specs.DeviceAsked.{leads_nowhere}
 use Rattle.hwdb_spec.specs.DeviceTree.{Sight, absolute}
 use Rattle.hwdb_spec.specs.Lines.{byte, has}

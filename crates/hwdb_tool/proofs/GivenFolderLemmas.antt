@@ -1,5 +1,5 @@
 -- The text files for which given paths stand.
-use Rattle.std.proofs.Common.{◌≡◌, ◌<◌, ◌∙◌, ◌++◌, ◌+◌, ◌==◌, ◌||◌, ◌&&◌, ap, sym, refl, subst, inl, append_assoc, arith, eqb-true, ℕ, zero, suc, Bool, true, false, List, [], ◌∷◌, length, map, take, drop, take-append-drop, get_or, string_bytes, Global, String, Result, IfErr, if◌then◌else◌}
+use Rattle.std.proofs.Common.{◌≡◌, ◌<◌, ◌∙◌, ◌++◌, ◌+◌, ◌==◌, ◌&&◌, ap, sym, refl, subst, inl, append_assoc, arith, eqb-true, ℕ, zero, suc, Bool, true, false, List, [], ◌∷◌, length, map, take, drop, take-append-drop, get_or, string_bytes, Global, String, Result, IfErr, if◌then◌else◌}
 use Rattle.std.specs.Prelude.{nat_eq}
 use Rattle.std.specs.Result.{IsErrAnd}
 use Rattle.std.proofs.lemmas.List.{map-append, take_more}

@@ -3,7 +3,7 @@ use Rattle.std.specs.Prelude.{List, ℕ, [], ◌∷◌, ◌++◌, ◌+◌, ◌�
 use Rattle.hwdb_spec.specs.Assignment.{Assignment}
 use Rattle.hwdb_spec.specs.Summary.{depth}
 use Rattle.hwdb_spec.specs.Tree.{Tree}
-use Rattle.hwdb_reader.specs.Views.{node_count, children_of, entered_tree}
+use Rattle.hwdb_reader.specs.Views.{children_of, entered_tree}
 use Rattle.hwdb_query.specs.Internal.Members.{members_in}
 use Rattle.hwdb_inspect.specs.declared.walk.OpenVisit.{OpenVisit}
 use Rattle.hwdb_query.specs.Internal.Live.{nodes_in}

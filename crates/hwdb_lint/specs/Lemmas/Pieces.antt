@@ -1,7 +1,7 @@
 -- A text, seen from the beginning of a piece of it.
-use Rattle.std.proofs.Common.{◌≡◌, ℕ, suc, ◌+◌, ◌<◌, ◌≤◌, Bool, true, false, cond, not, List, [], ◌∷◌, take, drop, length, refl, ap, ◌∙◌, sym, arith, ◌||◌}
+use Rattle.std.proofs.Common.{◌≡◌, ℕ, suc, ◌+◌, ◌<◌, ◌≤◌, Bool, true, false, cond, not, List, [], ◌∷◌, take, drop, length, refl, ap, ◌∙◌, sym, arith}
 use Rattle.std.proofs.lemmas.List.{drop-drop, drop_all, length-drop}
-use Rattle.std.specs.List.{list_any, onto_first, position_or_len}
+use Rattle.std.specs.List.{onto_first, position_or_len}
 use Rattle.hwdb_spec.specs.Lines.{is, pieces}
 
 module _ (b : ℕ) where
