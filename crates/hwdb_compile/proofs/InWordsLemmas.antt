@@ -1,17 +1,11 @@
 -- Of the assignments of files the last one of a pattern and key is the latest by priority and line.
 use Rattle.std.proofs.Common.{◌≡◌, ◌∙◌, ap, sym, refl, subst, ℕ, suc, ◌<◌, ◌≤◌, ◌⊎◌, true, false, List, [], ◌∷◌, ◌++◌, arith, append_assoc, inl, inr, All, map}
-use Rattle.std.specs.Prelude.{Contains, flat_map, if◌then◌else◌}
-use Rattle.std.specs.Ordering.{is_eq, nat_cmp}
-use Rattle.std.specs.Cmp.Lexicographic.{slice_cmp}
-use Rattle.std.specs.FinMap as finite
-use Rattle.std.specs.declared.cmp.Ordering.{Ordering}
-use Rattle.std.specs.declared.cmp.Ordering.TheVariants.{Less, Equal, Greater}
-use Rattle.std.proofs.lemmas.Cmp.{nat_list_cmp_total, tied_itself}
+use Rattle.std.specs.Prelude.{Contains, flat_map}
 use Rattle.std.proofs.lemmas.List.{append-nil}
 use Rattle.std.proofs.lemmas.List.Elements.{All-nil, All-cons, All-append, All-weaker, All-contains, All-contains_itself, Contains-push, Contains-append_left, Contains-append_right, Contains-append_cases}
 use Rattle.hwdb_spec.specs.Assignment.{Assignment}
 use Rattle.hwdb_text.specs.Views.{origin}
-use Rattle.hwdb_spec.specs.Folders.{Choice, same, path_of, chosen_of, contents, file_assignments, all_assignments}
+use Rattle.hwdb_spec.specs.Folders.{Choice, path_of, chosen_of, contents, file_assignments, all_assignments}
 use Rattle.hwdb_compile.specs.Views.{name_of}
 use Rattle.hwdb_spec.specs.Answers.{is_same_place}
 use Rattle.hwdb_spec.specs.Last.{HaveOnePlace, IsLast, IsNoLater, IsLatest}
@@ -19,7 +13,6 @@ use Rattle.hwdb_text.specs.Laws.{PrioritiesCountUp, AssignmentsStandByLine, OneV
 use Rattle.hwdb_compile.specs.Laws.{LastIsLatest}
 use Rattle.hwdb_compile.proofs.GatherLemmas.{From, from_file}
 use Rattle.hwdb_compile.proofs.LatestLemmas.{Rising, Counts, counts, rising_files}
-use Rattle.hwdb_spec.specs.Lemmas.Orders.{equal_of, same_itself, same_text}
 use Rattle.hwdb_spec.specs.Lemmas.Places.{one_place, place_same}
 
 -- what comes before a member isn't later

@@ -1,15 +1,13 @@
 -- The assignments of a database, sorted by their positions.
 use Rattle.std.proofs.Common.{◌≡◌, refl, false, List, [], ◌∷◌, map, T, subst}
-use Rattle.std.specs.Cmp.{IsTotalOrder}
 use Rattle.std.specs.FinMap.Entries.{is_sorted, below_all}
 use Rattle.std.specs.List.{AllByRecursion, IsDistinct}
 use Rattle.std.specs.List.Sorted.{IsPermutation, IsSorted}
 use Rattle.std.specs.Ordering.{nat_cmp, is_eq, is_lt, eq_by_cmp, ordering_then}
 use Rattle.std.specs.declared.cmp.Ordering.{Ordering}
 use Rattle.std.specs.declared.cmp.Ordering.TheVariants.{Less, Equal, Greater}
-use Rattle.std.proofs.lemmas.Cmp.{on_total, then_total, nat_cmp_total, nat_list_cmp_total}
 use Rattle.std.proofs.lemmas.List.Sorted.{IsPermutation-map}
-use Rattle.hwdb_spec.specs.Assignment.{Position, Assignment, position_cmp, assignment_cmp}
+use Rattle.hwdb_spec.specs.Assignment.{Assignment, position_cmp, assignment_cmp}
 use Rattle.hwdb_spec.specs.Dump.{dumped}
 use Rattle.hwdb_spec.specs.Tree.{Tree, IsTree, members_under, place_cmp, entry_of}
 use Rattle.hwdb_inspect.proofs.OrderLemmas.{members_sorted, and_first, and_second}

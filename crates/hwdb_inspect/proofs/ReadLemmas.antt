@@ -3,13 +3,8 @@ use Rattle.std.proofs.Common.{◌≡◌, ◌∙◌, ◌+◌, ◌-◌, ap, sym, r
 use Rattle.std.proofs.lemmas.Grind.{flat_map-append}
 use Rattle.std.proofs.lemmas.List.{length-map}
 use Rattle.std.specs.List.{onto_first, prefix_len}
-use Rattle.hwdb_spec.specs.Assignment.{Assignment, text_cmp}
+use Rattle.hwdb_spec.specs.Assignment.{Assignment}
 use Rattle.hwdb_spec.specs.Dump.{record_text, comment_text, is_said, first_unsaid}
-use Rattle.hwdb_spec.specs.Folders.{same}
-use Rattle.std.specs.FinMap as finite
-use Rattle.std.specs.Ordering.{is_eq}
-use Rattle.std.specs.declared.cmp.Ordering.{Ordering}
-use Rattle.std.specs.declared.cmp.Ordering.TheVariants.{Less, Equal, Greater}
 use Rattle.hwdb_spec.specs.Lines.{trimmed, Line, pieces, is, numbered, lines, clean, clean_line, is_dropped, is_empty, is_none, is_property, is_match, is_long, has_equals, has_key}
 use Rattle.hwdb_spec.specs.Records.{Section, Origin, behind, first_section, size, sections_from, sections, patterns, assign, property_assignments, section_assignments, assignments}
 use Rattle.hwdb_spec.specs.Texts.{property_text}

@@ -10,7 +10,7 @@ use Rattle.std.specs.declared.cmp.Ordering.{Ordering}
 use Rattle.std.specs.declared.cmp.Ordering.TheVariants.{Less, Equal}
 use Rattle.std.proofs.lemmas.Cmp.{on_total, tied_itself}
 use Rattle.std.proofs.lemmas.List.Kept.{IsStrictlySortedBy-filter}
-use Rattle.hwdb_spec.specs.Answers.{is_match, is_wanted, is_after, is_behind, is_same_place, last_of_each, last_matching, last_assignments, key_of_answer, has_key, value_or_none, last_value, effective_of}
+use Rattle.hwdb_spec.specs.Answers.{is_match, is_wanted, is_same_place, last_of_each, last_matching, last_assignments, key_of_answer, has_key, value_or_none, last_value, effective_of}
 use Rattle.hwdb_spec.specs.Assignment.{Assignment, assignment_cmp, text_cmp, in_order, ascending, put}
 use Rattle.hwdb_spec.specs.Dump.{dumped, dump_text, first_unsaid}
 use Rattle.hwdb_spec.specs.Folders.{same, path_of, chosen_of, contents, first_of, file_assignments, all_assignments}
@@ -25,7 +25,7 @@ use Rattle.hwdb_inspect.specs.Laws.{said_of}
 use Rattle.hwdb_inspect.proofs.ReadLemmas.{if_both}
 use Rattle.hwdb_text.specs.Lemmas.Members.{Holds, distinct_single, in_order_from, in_order_rises, kept_in_order, not_above_itself, ordered_again}
 use Rattle.hwdb_spec.specs.Lemmas.Orders.{same_text}
-use Rattle.hwdb_spec.specs.Lemmas.Places.{assignment_total, place_total}
+use Rattle.hwdb_spec.specs.Lemmas.Places.{all_behind, assignment_total, place_total}
 
 -- ---- assignments without a place in common
 
@@ -194,11 +194,6 @@ told_said xs ys h =
     ∙ map_same (λ key. (key, last_value xs key)) (λ key. (key, last_value ys key))
     (λ key. ap (λ v. (key, v)) (last_said xs key ∙ ap (λ l. said_value key (reverse l)) h ∙ sym (last_said ys key)))
     (in_order text_cmp (map key_of_answer ys))
-
-all_behind : (xs : List Assignment) → filter (is_behind None) xs ≡ xs
-unfolding is_after
-all_behind [] = refl
-all_behind (x ∷ xs) = ap (λ l. x ∷ l) (all_behind xs)
 
 -- of assignments that rise, without a place in common
 last_are : (device : List ℕ) (xs : List Assignment) → IsStrictlySortedBy assignment_cmp xs → Apart xs → last_assignments device None xs ≡ filter (is_wanted device) xs

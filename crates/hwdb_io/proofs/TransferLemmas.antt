@@ -1,10 +1,10 @@
 -- Counts of failed calls, and text that is written in parts.
-use Rattle.std.proofs.Common.{◌≡◌, ◌∙◌, ℕ, ◌+◌, ◌-◌, ◌^◌, ◌<◌, ◌==◌, Bool, true, false, cond, refl, ap, subst, inl, inr, List, [], ◌++◌, Option, None, Some, IfSome, length-append, length, take, drop, arith, sym, eqb-true, append_assoc, ⊎_elim}
+use Rattle.std.proofs.Common.{◌≡◌, ◌∙◌, ℕ, ◌+◌, ◌-◌, ◌^◌, ◌<◌, refl, ap, subst, List, [], ◌++◌, Option, None, Some, IfSome, length-append, length, take, drop, arith, sym, append_assoc, ⊎_elim}
 use Rattle.std.proofs.Math.Seq.{take-add}
 use Rattle.std.proofs.lemmas.List.{take-append-drop}
 use Rattle.std.proofs.KnownBytes.{Appends-trans, Consumes-trans, Consumes-all}
 use Rattle.std.specs.Io.KnownBytes.{Appends, Consumes, IsAtEnd}
-use Rattle.hwdb_spec.specs.Failures.{after_failure, HasFailed}
+use Rattle.hwdb_spec.specs.Failures.{HasFailed}
 use Rattle.hwdb_spec.specs.Outputs.{AppendsPrefix}
 
 pub written_more : (a b c : Option (List ℕ)) (text part : List ℕ) (n m : ℕ) → part ≡ drop n text → Appends a b (take n text) → Appends b c (take m part) → Appends a c (take (n + m) text)

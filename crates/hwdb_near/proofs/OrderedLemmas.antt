@@ -1,15 +1,14 @@
 -- What a sort and a dedup leave: a list in order, each place once, is determined by its members.
-use Rattle.std.proofs.Common.{◌≡◌, ◌<◌, ℕ, zero, suc, List, [], ◌∷◌, length, get_or, map, true, refl, sym, ◌∙◌, ap, subst, arith, Ordering, inl, inr, ◌⊎◌, ⊎_elim}
+use Rattle.std.proofs.Common.{◌≡◌, suc, List, [], ◌∷◌, map, true, refl, sym, ◌∙◌, ap, subst, arith, Ordering, inl, inr, ◌⊎◌, ⊎_elim}
 use Rattle.std.specs.declared.cmp.Ordering.TheVariants.{Less, Equal, Greater}
 use Rattle.std.specs.Cmp.{IsTotalOrder, eq_by_cmp_equiv}
-use Rattle.std.specs.Ordering.{match_ordering, ordering_reverse, eq_by_cmp, is_eq}
+use Rattle.std.specs.Ordering.{eq_by_cmp, is_eq}
 use Rattle.std.specs.List.{AllByRecursion, Contains, dedup}
 use Rattle.std.specs.List.Sorted.{IsStrictlySortedBy, IsSorted, IsPermutation}
-use Rattle.std.proofs.lemmas.Cmp.{tied_itself}
 use Rattle.std.proofs.lemmas.List.Kept.{IsStrictlySortedBy-dedup, Any-dedup, Contains-from_dedup}
 use Rattle.std.proofs.lemmas.List.Sorted.{Contains-permutation, IsPermutation-sym}
-use Rattle.hwdb_spec.specs.Assignment.{put, put_all, in_order}
-use Rattle.hwdb_text.specs.Lemmas.Members.{Holds, held, holds_it, one_list, put_all_from, put_all_holds, put_all_ordered, nothing_ordered}
+use Rattle.hwdb_spec.specs.Assignment.{in_order}
+use Rattle.hwdb_text.specs.Lemmas.Members.{Holds, holds_it, one_list, put_all_from, put_all_holds, put_all_ordered, nothing_ordered}
 
 -- ---- members of a list that something is made of
 

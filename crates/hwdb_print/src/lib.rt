@@ -1,5 +1,5 @@
-//! What the commands print: texts and JSON of answers, made of the bytes of a database or of text files, and written to a
-//! [`Sink`](hwdb_io::Sink) that may fail at any byte.
+//! What the commands print: texts and JSON of answers, made of the bytes of a database or of text files. They are written
+//! to a [`Sink`](hwdb_io::Sink) that may fail at any byte.
 //!
 //! | Module | What it does |
 //! |---|---|

@@ -19,9 +19,9 @@ use Rattle.hwdb_query.specs.declared.next_page.NextPage.{NextPage}
 use Rattle.hwdb_query.proofs.PutLemmas.{PlacesApart, keep_all_append, keep_both_ways, apart_filter}
 use Rattle.hwdb_query.proofs.PartLemmas.{own_split, own_taken}
 use Rattle.hwdb_query.proofs.CollectionLemmas.{page_more, page_none, page_values_over}
-use Rattle.hwdb_query.proofs.DistinctLemmas.{keys_above}
 use Rattle.hwdb_spec.specs.Lemmas.Orders.{equal_text, then_equal}
 use Rattle.hwdb_spec.specs.Lemmas.Places.{assignment_total, key_is}
+use Rattle.hwdb_query.specs.Lemmas.Paths.{keys_above}
 
 same_key : (x y : Assignment) → assignment_cmp x y ≡ Equal → x.position.key ≡ y.position.key
 unfolding assignment_cmp position_cmp

@@ -1,15 +1,12 @@
 -- The last assignments are what the words say, and one list alone is so.
-use Rattle.std.proofs.Common.{◌≡◌, ◌∙◌, ap, sym, refl, subst, Bool, true, false, ◌||◌, List, ℕ, [], ◌∷◌, ◌++◌, filter, Option, Some, None, if◌then◌else◌, inl, inr}
+use Rattle.std.proofs.Common.{◌≡◌, ◌∙◌, ap, sym, refl, subst, Bool, true, false, ◌||◌, List, [], ◌∷◌, ◌++◌, filter, Option, Some, None, if◌then◌else◌, inl, inr}
 use Rattle.std.specs.Prelude.{All, Contains}
 use Rattle.std.specs.List.{list_any}
-use Rattle.std.specs.Ordering.{is_eq, is_lt, nat_cmp}
-use Rattle.std.specs.Cmp.Lexicographic.{slice_cmp}
+use Rattle.std.specs.Ordering.{is_lt}
 use Rattle.std.specs.declared.cmp.Ordering.TheVariants.{Equal}
-use Rattle.std.proofs.lemmas.Cmp.{nat_list_cmp_total, tied_itself}
 use Rattle.std.proofs.lemmas.List.Elements.{All-nil, All-cons, All-head, All-tail, All-weaker, All-contains, Contains-push, Contains-append_left, Contains-append_right}
 use Rattle.hwdb_spec.specs.Assignment.{Assignment, Position, position_cmp, assignment_cmp, in_order}
 use Rattle.hwdb_spec.specs.Patterns.{tokens}
-use Rattle.hwdb_spec.specs.Folders.{same}
 use Rattle.hwdb_spec.specs.Answers.{is_wanted, is_after, is_behind, is_same_place, last_of_each, last_matching, last_assignments}
 use Rattle.hwdb_spec.specs.Last.{HaveOnePlace, IsLast, IsBehind}
 use Rattle.hwdb_pattern.specs.Laws.{MatchesIsTested}
@@ -17,7 +14,7 @@ use Rattle.hwdb_query.specs.Laws.{Among, LastAssignmentsAreLast, OneListIsLast}
 use Rattle.hwdb_query.proofs.PutLemmas.{ascends_all, ascends_filter}
 use Rattle.hwdb_query.proofs.MemberLemmas.{all_sound, all_has, filter_sound, filter_complete, none_ascends, in_none}
 use Rattle.hwdb_query.proofs.LastLemmas.{kept_behind, single_place, same_ascending}
-use Rattle.hwdb_spec.specs.Lemmas.Orders.{equal_of, equal_text, less_of, same_itself}
+use Rattle.hwdb_spec.specs.Lemmas.Orders.{equal_text, less_of}
 use Rattle.hwdb_spec.specs.Lemmas.Places.{assignment_total, one_place, place_same}
 
 -- a member, by recursion and by its place

@@ -1,13 +1,11 @@
 -- The answers are the members of the map that match.
-use Rattle.std.proofs.Common.{◌≡◌, ◌∙◌, ap, sym, refl, subst, ℕ, Bool, true, false, List, [], ◌∷◌, ◌++◌, filter, map, Some, None, if◌then◌else◌, cond, ◌==◌, ◌⊎◌, inl, inr, eqb-true}
+use Rattle.std.proofs.Common.{◌≡◌, ◌∙◌, ap, sym, refl, subst, ℕ, Bool, true, false, List, [], ◌∷◌, ◌++◌, filter, map, Some, None, cond, ◌⊎◌, inl, inr}
 use Rattle.std.specs.FinMap as finite
 use Rattle.std.specs.Prelude.{flat_map}
-use Rattle.std.specs.Cmp.{IsTotalOrder}
 use Rattle.std.specs.Cmp.Lexicographic.{slice_cmp}
-use Rattle.std.specs.Ordering.{eq_by_cmp, nat_cmp, is_eq, match_ordering, ordering_then}
-use Rattle.std.specs.declared.cmp.Ordering.{Ordering}
+use Rattle.std.specs.Ordering.{nat_cmp, is_eq, match_ordering}
 use Rattle.std.specs.declared.cmp.Ordering.TheVariants.{Less, Equal, Greater}
-use Rattle.std.proofs.lemmas.Cmp.{nat_list_cmp_total, tied_itself, on_total, then_total}
+use Rattle.std.proofs.lemmas.Cmp.{tied_itself}
 use Rattle.hwdb_spec.specs.Tree.{Tree, Value, values_under, IsTree, place_cmp, map_of, entry_of, assigned_at, key_of, members_under, answers}
 use Rattle.hwdb_query.specs.Internal.Members.{assignment_of}
 use Rattle.hwdb_spec.specs.Patterns.{tokens}
@@ -18,7 +16,7 @@ use Rattle.hwdb_spec.specs.Answers.{is_wanted}
 use Rattle.hwdb_query.specs.Laws.{Among, AreAnswers}
 use Rattle.hwdb_query.proofs.PutLemmas.{ascends_all}
 use Rattle.hwdb_query.proofs.DistinctLemmas.{Apart, Distinct, under_distinct}
-use Rattle.hwdb_spec.specs.Lemmas.Orders.{equal_of, equal_text, then_equal}
+use Rattle.hwdb_spec.specs.Lemmas.Orders.{equal_text, then_equal}
 use Rattle.hwdb_spec.specs.Lemmas.Places.{assignment_total, key_is, place_total}
 
 pub put_sound : (f x : Assignment) (l : List Assignment) → Among f (put assignment_cmp x l) → (x ≡ f) ⊎ Among f l

@@ -3,10 +3,9 @@ use Rattle.std.proofs.Common.{◌≡◌, ◌∙◌, ap, sym, refl, true, false, 
 use Rattle.std.specs.declared.cmp.Ordering.{Ordering}
 use Rattle.std.specs.declared.cmp.Ordering.TheVariants.{Less, Equal, Greater}
 use Rattle.std.specs.Ordering.{is_lt}
-use Rattle.std.specs.Cmp.{IsTotalOrder}
-use Rattle.std.proofs.lemmas.Cmp.{on_total, then_total, nat_cmp_total, nat_list_cmp_total, alike_right}
+use Rattle.std.proofs.lemmas.Cmp.{alike_right}
 use Rattle.hwdb_spec.specs.Tree.{Tree, answers, answers_after, members_under}
-use Rattle.hwdb_spec.specs.Assignment.{Position, Assignment, position_cmp, assignment_cmp}
+use Rattle.hwdb_spec.specs.Assignment.{Position, position_cmp, assignment_cmp}
 use Rattle.hwdb_spec.specs.Answers.{is_after, is_behind, is_wanted}
 use Rattle.hwdb_query.specs.Internal.Members.{wanted}
 use Rattle.hwdb_query.specs.Internal.Lists.{keep_all}

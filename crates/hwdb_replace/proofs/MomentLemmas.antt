@@ -1,7 +1,5 @@
 -- How a run of calls goes on.
-use Rattle.std.proofs.Common.{◌≡◌, ◌≢◌, ◌⊎◌, inl, inr, ⊎_elim, ℕ, ◌+◌, Bool, true, false, bytes_eq, List, ◌++◌, Option, Some, take, drop, refl, sym, ap, ◌∙◌, arith, append_assoc}
-use Rattle.std.proofs.lemmas.Slice.Eq.{bytes_eq-Decides}
-use Rattle.std.proofs.lemmas.Bool.Decides.{not_from_Decides}
+use Rattle.std.proofs.Common.{◌≡◌, ◌⊎◌, inl, inr, ⊎_elim, ℕ, ◌+◌, List, ◌++◌, Option, Some, take, drop, sym, ap, ◌∙◌, arith, append_assoc}
 use Rattle.std.proofs.Math.Seq.{take-add}
 use Rattle.hwdb_spec.specs.Store.{Stored, Contents, Outcomes, Elapses, Written, SameBut, NoMoreBut, NoMore}
 use Rattle.hwdb_replace.specs.Internal.{OrPart}

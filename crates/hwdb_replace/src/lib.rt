@@ -1,8 +1,8 @@
 //! The database's place: a file is replaced whole, whatever call fails and whenever a crash comes.
 //!
-//! A [`calls::Store`] is what the program asks of a file system, call by call; it says what a read gives and what a
-//! crash at each moment may leave. [`replacement`] puts a new file in the database's place by these calls. [`others`] has
-//! a store in which others go on between them.
+//! A [`calls::Store`] is what the program asks of a file system, call by call. It says what a read gives and what a crash
+//! at each moment may leave. [`replacement`] puts a new file in the database's place by these calls. [`others`] has a
+//! store in which others go on between them.
 #![tactic(auto)]
 
 pub mod calls;

@@ -1,5 +1,5 @@
-//! A store in memory, for tests: it tells its contents, keeps what each moment may leave, tears what isn't on the
-//! disk, and fails where it is told to.
+//! A store in memory, for tests. It tells its contents, keeps what each moment may leave, tears what isn't on the disk,
+//! and fails where it is told to.
 ghost use Rattle.std.specs.Prelude.{◌≡◌, ◌≤◌, ◌++◌, ◌∷◌, [], ℕ, length, take, map, false, Some, None, IfOk, IfSome, IsOkAnd, IsTrue, OnOk, OnErr, option_map};
 ghost use Rattle.std.specs.Str.{bytes_eq};
 ghost use Rattle.hwdb_spec.specs.Failures.{after_failure, CountsFailures};

@@ -1,5 +1,5 @@
--- What bytes of databases give: the text of one, what changed from one to another, whether a text file says one, and what is
--- so of bytes that are none. Our choice.
+-- What bytes of databases give: the text of one, what changed from one to another, and whether a text file says one. And
+-- what is so of bytes that are none. Our choice.
 use Rattle.std.specs.Prelude.{◌≡◌, Bool, List, None, Some, length, ℕ}
 use Rattle.hwdb_spec.specs.Assignment.{Assignment}
 use Rattle.hwdb_spec.specs.Dump.{dumped, first_unsaid}

@@ -2,3 +2,5 @@
 pub mod Orders
 pub mod Places
 pub mod Calls
+pub mod Truth
+pub mod Lists

@@ -1,5 +1,5 @@
--- Which errors end a task, when each comes, and what it leaves: the files, what standard error had taken before the
--- error's line, and standard output. Our choice.
+-- Which errors end a task, and when each comes. What it leaves: the files, standard output, and what standard error had taken
+-- before the error's line. Our choice.
 use Rattle.std.specs.Prelude.{◌≡◌, ◌≢◌, ◌⊎◌, ◌==◌, ℕ, Bool, true, false, not, is_some, length, List, [], ◌∷◌, Option, None, Some, map, option_map, string_bytes, codes}
 use Rattle.clap.specs.Faults.{fault_of}
 use Rattle.hwdb_spec.specs.CommandLine.{hwdb_app}
@@ -76,7 +76,8 @@ IsTaskRefused (Update verbose skip) root usr strict refusal before now =
     IsTellingUpdateRefused root usr verbose skip refusal before.files now.files before.err now.err × (now.out ≡ before.out)
 IsTaskRefused task root usr strict refusal before now = IsPrintingRefused task root strict refusal before now × AreKept before.files now.files
 
--- a database that the task asks for can't be read: reading it may fail, or it is one that the words name, and nothing is there
+-- A database that the task asks for can't be read. Reading it may fail, or it is one that the words name, and nothing is
+-- there.
 abbrev pub IsUnreadableFor : Task → (MayFail : (path : List ℕ) → Type 0) → Contents → (path : List ℕ) → Type 0
 IsUnreadableFor (Verify database) = IsUnreadableIf (is_some (option_map string_bytes database))
 IsUnreadableFor (Dump database) = IsUnreadableIf (is_some (option_map string_bytes database))
@@ -184,7 +185,7 @@ pub record AreRefused (words : List (List ℕ)) (status : ℕ) (before now : Wor
 abbrev pub IsRootUnread : Job → Refusal → Type 0
 IsRootUnread job refusal = (root : List ℕ) × (option_map string_bytes job.root ≡ Some root) × (looks_below_root job.task ≡ true) × IsUnentered root refusal
 
--- the words ask for a job below such a root: the status is 1, the files are as they were, and standard error took the line
+-- the words ask for a job below such a root: the status is 1, the files are as they were, standard error took the line
 pub record IsRootRefused (words : List (List ℕ)) (status : ℕ) (before now : World) : Type 0 where
   pub job : Job
   pub asked : AskFor words job
@@ -197,8 +198,8 @@ pub record IsRootRefused (words : List (List ℕ)) (status : ℕ) (before now : 
   pub out : now.out ≡ before.out
   pub says : status ≡ 1
 
--- The words ask for a job, and while it wrote to standard output the reader of that went away: nothing is said of it, the files
--- are as they were, and standard output took what it does if it can't be written.
+-- The words ask for a job, and while it wrote to standard output the reader of that went away. Nothing is said of it, and the
+-- files are as they were. Standard output took what it does if it can't be written.
 pub record IsCutShort (gone_before gone : Type 0) (words : List (List ℕ)) (before now : World) : Type 0 where
   pub job : Job
   pub asked : AskFor words job

@@ -49,7 +49,7 @@ pub enum Task {
     },
     /// Print what is wrong in text files, or hardly meant.
     Check {
-        /// The text files' paths; none where both folders are meant.
+        /// The text files' paths; none if both folders are meant.
         files: Vec<String>,
         /// The names of the kinds of warnings that are left out.
         allowed: Vec<String>,
@@ -67,18 +67,18 @@ pub enum Task {
     },
     /// Print the patterns that almost matched the device.
     Near {
-        /// The text files' paths; none where the database is meant.
+        /// The text files' paths; none if the database is meant.
         files: Vec<String>,
         /// The device string.
         device: String,
-        /// How many patterns that don't match at most; none where three are meant.
+        /// How many patterns that don't match at most; none if three are meant.
         limit: Option<u64>,
         /// Whether as JSON.
         json: bool,
     },
     /// Print what udev asks for a device, and what it gets.
     Device {
-        /// The device's path or name; none where the devices are listed.
+        /// The device's path or name; none if the devices are listed.
         path: Option<String>,
         /// Whether the strings alone are printed.
         strings: bool,
@@ -100,12 +100,12 @@ pub enum Task {
     },
     /// Say whether a file is a database that can be read, and how much is in it.
     Verify {
-        /// The database's path; none where that of `/etc/udev` or `/usr/lib/udev` is meant.
+        /// The database's path; none if that of `/etc/udev` or `/usr/lib/udev` is meant.
         database: Option<String>,
     },
     /// Print a database as a text file.
     Dump {
-        /// The database's path; none where that of `/etc/udev` or `/usr/lib/udev` is meant.
+        /// The database's path; none if that of `/etc/udev` or `/usr/lib/udev` is meant.
         database: Option<String>,
     },
     /// Say whether the database that is asked is what the text files make.

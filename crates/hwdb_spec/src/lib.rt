@@ -53,7 +53,7 @@
 //! | `LeftOut` | text files that can't be read, and that an update leaves out |
 //! | `Asked` | the database that a command asks for, and what is printed of it |
 //! | `Library` | what the C library is told |
-//! | `Hiding` | what `update --usr --verbose` says where /etc's database hides the new one |
+//! | `Hiding` | what `update --usr --verbose` says if /etc's database hides the new one |
 //! | `Status` | what `status` says of the database that is asked, beside what the text files make |
 //! | `Done` | what `update` and `ask` leave, and what a crash leaves during an update |
 //! | `Near` | the pattern that almost matched a device, and where it stopped |
@@ -284,7 +284,7 @@ pub struct Tally {
     pub warnings: u64,
 }
 
-/// How large the records are, and where the parts of a database stand.
+/// How large the records are, and where the parts of a database are.
 ///
 /// Sizes are in bytes, places are offsets from the start of the file.
 #[derive(Clone, Copy, Debug, PartialEq, Eq)]
@@ -303,8 +303,7 @@ pub struct Layout {
     pub strings: usize,
 }
 
-/// Why bytes are no database: the first of B1 to B5 that stands, or one of B6 to B11 with the offset
-/// at which it stands.
+/// Why bytes are no database: the first of B1 to B5 that is so, or one of B6 to B11 with its offset.
 #[derive(Clone, Copy, Debug, PartialEq, Eq)]
 pub enum DbFault {
     /// B1: there are fewer than 80 bytes.

@@ -10,14 +10,14 @@ use crate::paths::{is_below_devices, path_in};
 use hwdb_io::Cause;
 use std::alloc::{AllocError, Global};
 
-/// The numbers of more errors that say that a path leads nowhere (errno, on Linux): no folder is on the way,
-const NO_FOLDER: i32 = 20;
+/// The number of the error that something on the way is no folder (errno, on Linux).
+pub const NO_FOLDER: i32 = 20;
 
-/// a name is too long,
+/// That of a name that is too long.
 const LONG_NAME: i32 = 36;
 
-/// and links lead round.
-const LINK_LOOP: i32 = 40;
+/// That of more links than Linux follows.
+pub const LINK_LOOP: i32 = 40;
 
 /// What can't be read.
 #[derive(Drop)]

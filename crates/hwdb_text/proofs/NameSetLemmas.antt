@@ -1,8 +1,8 @@
 -- Names as sets.
 use Rattle.std.proofs.Common.{◌≡◌, ℕ, ◌<◌, Bool, true, false, List, [], ◌∷◌, ◌++◌, refl, ap, ◌∙◌, sym, subst, cond, ◌||◌, inl, inr, filter}
 use Rattle.std.proofs.lemmas.Bool.{cases_Bool}
-use Rattle.std.proofs.lemmas.Cmp.{nat_list_cmp_total, tied_itself, ranked}
-use Rattle.std.specs.Ordering.{nat_cmp, is_eq, is_lt, match_ordering, ordering_reverse, ordering_then, MatchOrdering}
+use Rattle.std.proofs.lemmas.Cmp.{nat_list_cmp_total, tied_itself}
+use Rattle.std.specs.Ordering.{nat_cmp, is_eq, is_lt, match_ordering, ordering_reverse, MatchOrdering}
 use Rattle.std.specs.declared.cmp.Ordering.{Ordering}
 use Rattle.std.specs.declared.cmp.Ordering.TheVariants.{Less, Equal, Greater}
 use Rattle.std.specs.Cmp.Lexicographic.{slice_cmp}
@@ -10,7 +10,8 @@ use Rattle.hwdb_spec.specs.Folders.{counts, same, lists}
 use Rattle.hwdb_spec.specs.Assignment.{ascending, put, text_cmp}
 use Rattle.hwdb_text.specs.Laws.{is_smaller, NamesAreThoseThatCount, IsBelow, Ascends, NamesAscend, OneAscendingList}
 use Rattle.hwdb_text.specs.Internal.Choosing.{with_name}
-use Rattle.hwdb_spec.specs.Lemmas.Orders.{equal_of, equal_text, less_of, same_itself, same_text, then_equal}
+use Rattle.hwdb_spec.specs.Lemmas.Orders.{less_of, same_itself, same_text}
+use Rattle.hwdb_spec.specs.Lemmas.Truth.{or_assoc}
 
 pub greater_of : (o : Ordering) → is_lt o ≡ false → is_eq o ≡ false → o ≡ Greater
 greater_of Less e f = cc
@@ -49,10 +50,6 @@ or_swap true true l = refl
 or_swap true false l = refl
 or_swap false true l = refl
 or_swap false false l = refl
-
-or_assoc : (a b c : Bool) → (a || (b || c)) ≡ ((a || b) || c)
-or_assoc true b c = refl
-or_assoc false b c = refl
 
 or_cond : (a b : Bool) → (a || b) ≡ cond a true b
 or_cond true b = refl

@@ -1,5 +1,5 @@
 -- What an output holds back after texts that are written one after another.
-use Rattle.std.proofs.Common.{◌≡◌, ◌∙◌, ℕ, ◌+◌, ◌-◌, ◌^◌, ◌==◌, Bool, true, false, cond, refl, ap, subst, inl, inr, arith, sym, eqb-true, true≢false, ⊎_elim}
+use Rattle.std.proofs.Common.{◌≡◌, ◌∙◌, ℕ, ◌+◌, ◌-◌, ◌^◌, ◌==◌, Bool, true, false, cond, refl, ap, subst, inl, inr, arith, sym, true≢false, ⊎_elim}
 use Rattle.hwdb_spec.specs.Failures.{after_failure, HasFailed, OneFailed}
 use Rattle.hwdb_spec.specs.Flushing.{HandsOn, HasHandedOn}
 use Rattle.hwdb_spec.specs.Lemmas.Calls.{failed_call}

@@ -1,16 +1,10 @@
 -- The files of two folders, and those that were read of them.
 use Rattle.std.proofs.Common.{◌≡◌, ◌∙◌, ap, sym, refl, subst, ℕ, zero, suc, ◌≤◌, true, false, Bool, List, [], ◌∷◌, ◌++◌, map, length, get_or, arith, append_assoc, Option, Some, None, if◌then◌else◌, All}
 use Rattle.std.specs.Prelude.{Contains, codes, drop, is_some}
-use Rattle.std.specs.Ordering.{is_eq}
-use Rattle.std.specs.FinMap as finite
 use Rattle.std.specs.Option.{option_map_or}
-use Rattle.std.specs.declared.cmp.Ordering.{Ordering}
-use Rattle.std.specs.declared.cmp.Ordering.TheVariants.{Less, Equal, Greater}
 use Rattle.std.proofs.lemmas.Bool.{or_parts}
-use Rattle.std.proofs.lemmas.Cmp.{nat_list_cmp_total, tied_itself}
 use Rattle.std.proofs.lemmas.List.{length-map}
 use Rattle.std.proofs.lemmas.List.Elements.{All-nil, All-cons, All-head, All-tail, All-map}
-use Rattle.hwdb_spec.specs.Assignment.{text_cmp}
 use Rattle.hwdb_spec.specs.Folders.{Choice, Source, same, lists, names, choice, chosen_of, contents, first_of, path_of, max_files}
 use Rattle.hwdb_spec.specs.Store.{Contents, path_in}
 use Rattle.hwdb_spec.specs.System.{bytes_at, AreNamesIn, AreFilesIn, etc_files, usr_files}

@@ -3,8 +3,6 @@ use Rattle.std.proofs.Common.{◌≡◌, ℕ, zero, suc, ◌<◌, Bool, true, fa
 use Rattle.std.proofs.Math.Path.{fun_ext}
 use Rattle.std.proofs.lemmas.Bool.{cases_Bool}
 use Rattle.std.proofs.lemmas.List.Elements.{All-contains}
-use Rattle.std.proofs.lemmas.Map.Text.{is_eq-slice_cmp}
-use Rattle.std.proofs.lemmas.Slice.Eq.{bytes_eq-Decides}
 use Rattle.std.specs.Prelude.{count_by, ◌+◌, if◌then◌else◌}
 use Rattle.std.specs.Option.{option_map_or}
 use Rattle.std.specs.Ordering.{is_lt}
@@ -15,6 +13,7 @@ use Rattle.hwdb_spec.specs.System.{AreFilesIn, AreNamesIn, IsNameIn, bytes_at, e
 use Rattle.hwdb_text.specs.Laws.{NamesAreThoseThatCount, NamesAscend, OneAscendingList}
 use Rattle.hwdb_tool.specs.OneOutcome.{IsOneReading}
 use Rattle.hwdb_spec.specs.Lemmas.Orders.{same_itself, same_text}
+use Rattle.hwdb_spec.specs.Lemmas.Truth.{or_right}
 
 contains_more : {X : Type 0} (x n : X) (xs : List X) → Contains xs n → Contains (x ∷ xs) n
 contains_more x n xs h = (suc h.0, (let l : h.0 < length xs = h.1 in omega arith), h.2)
@@ -25,10 +24,6 @@ contains_of n (x ∷ xs) e = elim (cases_Bool (same x n)) [
   | inl s ↦ (0, omega arith, same_text x n s)
   | inr s ↦ contains_more x n xs (contains_of n xs (ap (λ (b : Bool). b || lists n xs) (sym s) ∙ e))
 ]
-
-or_right : (a b : Bool) → b ≡ true → (a || b) ≡ true
-or_right true b e = refl
-or_right false b e = e
 
 pub listed_of : (n : List ℕ) (xs : List (List ℕ)) → Contains xs n → lists n xs ≡ true
 listed_of n [] (k, lt, e) = absurd (omega (arith, lt))

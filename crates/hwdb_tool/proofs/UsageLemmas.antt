@@ -1,9 +1,8 @@
 -- What standard error takes of words that the command doesn't take.
-use Rattle.std.proofs.Common.{◌≡◌, ◌+◌, ◌-◌, ◌^◌, ◌==◌, inl, inr, sym, subst, refl, arith, cond, eqb-true, ℕ, Bool, true, false, List, length, Option, Result, Ok, Err, OnOk}
+use Rattle.std.proofs.Common.{inl, inr, sym, subst, arith, ℕ, List, length, Option, Result, Ok, Err, OnOk}
 use Rattle.std.specs.Prelude.{OnErr}
 use Rattle.std.proofs.lemmas.List.{take_all}
 use Rattle.std.specs.Io.KnownBytes.{Appends}
-use Rattle.hwdb_spec.specs.Failures.{HasFailed, after_failure}
 use Rattle.hwdb_spec.specs.Outputs.{CutShort, Took}
 use Rattle.hwdb_spec.specs.Refusals.{Refused}
 use Rattle.hwdb_spec.specs.Lemmas.Calls.{failed_call}

@@ -1,9 +1,8 @@
 -- To set a place of a tree is to set it in the map.
 use Rattle.std.proofs.Common.{◌≡◌, ℕ, List, [], ◌∷◌, ◌++◌, map, flat_map, Bool, true, false, cond, Option, Some, None, refl, sym, ◌∙◌, ap, arith, append_assoc, eqb, Ordering, option_map}
 use Rattle.std.specs.declared.cmp.Ordering.TheVariants.{Less, Equal, Greater}
-use Rattle.std.specs.Ordering.{nat_cmp, eq_by_cmp, is_eq, ordering_then}
-use Rattle.std.specs.Cmp.{IsTotalOrder, then_total, on_total}
-use Rattle.std.specs.Cmp.Lexicographic.{slice_cmp, nat_list_cmp_total}
+use Rattle.std.specs.Ordering.{nat_cmp, eq_by_cmp, is_eq}
+use Rattle.std.specs.Cmp.Lexicographic.{slice_cmp}
 use Rattle.std.specs.FinMap.{IsAntisymmetric, slice_cmp-IsAntisymmetric, nat_cmp-IsAntisymmetric}
 use Rattle.std.specs.FinMap.Entries.{find}
 use Rattle.std.proofs.lemmas.Bool.Decides.{nat_tests}
@@ -13,6 +12,7 @@ use Rattle.hwdb_spec.specs.Tree.Tree.{Node}
 use Rattle.hwdb_spec.specs.Tree.Children.{NoMore, Child}
 use Rattle.hwdb_spec.specs.Lemmas.Orders.{then_equal}
 use Rattle.hwdb_spec.specs.Lemmas.Places.{equal_place}
+use Rattle.hwdb_spec.specs.Lemmas.Lists.{same_rest}
 
 abbrev pub Place : Type 0
 Place = List ℕ × List ℕ
@@ -170,13 +170,9 @@ one_other q path k w is other = by (key_of w.key) refl
     by (Some k') h =
         ap (λ b. cond b (Some (given w)) None) (differs q (path, k') (λ same. other (h ∙ ap (λ (x : Place). Some x.1) (sym same ∙ is))))
 
-pub cancel : (path xs ys : List ℕ) → path ++ xs ≡ path ++ ys → xs ≡ ys
-cancel [] xs ys e = e
-cancel (c ∷ path) xs ys e = cancel path xs ys (cc)
-
 pub fork_off : (path : List ℕ) (b d : ℕ) (more : List ℕ) → (d ≡ b → ⊥) → Off (path ++ b ∷ []) (path ++ d ∷ more)
 fork_off path b d more ne r e =
-    let h = cancel path (d ∷ more) (b ∷ r) (e ∙ append_assoc path (b ∷ []) r) in
+    let h = same_rest path (d ∷ more) (b ∷ r) (e ∙ append_assoc path (b ∷ []) r) in
     ne (cc)
 
 -- a path that goes on is not the path

@@ -1,5 +1,5 @@
 -- What a list of tokens matches, token by token: the steps of the greedy search.
-use Rattle.std.proofs.Common.{◌≡◌, ℕ, Bool, true, false, IsTrue, List, [], ◌∷◌, ◌++◌, refl, sym, ap, subst, ◌∙◌, ◌⊎◌, inl, inr, append_assoc}
+use Rattle.std.proofs.Common.{◌≡◌, ℕ, false, IsTrue, List, [], ◌∷◌, ◌++◌, refl, sym, ap, subst, ◌∙◌, ◌⊎◌, inl, inr, append_assoc}
 use Rattle.hwdb_spec.specs.Forms.{is_star}
 use Rattle.hwdb_spec.specs.Patterns.{Token, star, one, bracket, literal, admits_byte, Admits, Matches}
 

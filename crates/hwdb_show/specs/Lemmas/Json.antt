@@ -1,9 +1,9 @@
 -- What holds of the tokens of values, by those of their parts. For the proofs of each crate that writes JSON.
-use Rattle.std.proofs.Common.{◌≡◌, ◌∙◌, Bool, true, false, ap, sym, refl, ℕ, List, [], ◌∷◌, ◌++◌, append_assoc, flat_map, map, if◌then◌else◌}
+use Rattle.std.proofs.Common.{◌≡◌, ◌∙◌, Bool, ap, sym, refl, ℕ, List, [], ◌∷◌, ◌++◌, append_assoc, flat_map, map, if◌then◌else◌}
 use Rattle.std.proofs.lemmas.Grind.{flat_map-append}
-use Rattle.std.specs.Str.{IsUtf8, is_utf8}
+use Rattle.std.specs.Str.{IsUtf8}
 use Rattle.std.proofs.lemmas.List.{append-nil}
-use Rattle.std.proofs.lemmas.Str.{IsUtf8-from_is_utf8, is_utf8-from_IsUtf8}
+use Rattle.std.proofs.lemmas.Str.{is_utf8-from_IsUtf8}
 use Rattle.json.specs.Json.{Json, string}
 use Rattle.json.specs.Token.{Token}
 use Rattle.json.specs.Tree.{json_tokens, items_tokens, members_tokens}

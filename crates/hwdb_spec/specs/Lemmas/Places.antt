@@ -1,11 +1,11 @@
 -- Patterns and keys: their orders, and when two places are one.
-use Rattle.std.proofs.Common.{◌≡◌, ◌∙◌, ap, sym, refl, ℕ, List, [], ◌∷◌, true, false, Some, None, if◌then◌else◌, ◌==◌, eqb-true}
+use Rattle.std.proofs.Common.{◌≡◌, ◌∙◌, ap, sym, refl, ℕ, List, [], ◌∷◌, true, false, Some, None, filter, if◌then◌else◌, ◌==◌, eqb-true}
 use Rattle.std.specs.FinMap as finite
 use Rattle.std.specs.Cmp.{IsTotalOrder}
 use Rattle.std.specs.Cmp.Lexicographic.{slice_cmp}
 use Rattle.std.specs.Ordering.{eq_by_cmp, nat_cmp}
 use Rattle.std.proofs.lemmas.Cmp.{nat_cmp_total, nat_list_cmp_total, on_total, then_total}
-use Rattle.hwdb_spec.specs.Answers.{is_same_place}
+use Rattle.hwdb_spec.specs.Answers.{is_after, is_behind, is_same_place}
 use Rattle.hwdb_spec.specs.Assignment.{Assignment, Position, assignment_cmp, position_cmp}
 use Rattle.hwdb_spec.specs.Folders.{same}
 use Rattle.hwdb_spec.specs.Last.{HaveOnePlace}
@@ -61,3 +61,9 @@ key_is (c ∷ rest) key h =
       | true ↦ λ e k. let n : c ≡ 32 = eqb-true c 32 e in let r : rest ≡ key = cc in cc
       | false ↦ λ e k. cc
     ] refl h
+
+-- all assignments come after no position
+pub all_behind : (xs : List Assignment) → filter (is_behind None) xs ≡ xs
+unfolding is_after
+all_behind [] = refl
+all_behind (x ∷ xs) = ap (λ l. x ∷ l) (all_behind xs)

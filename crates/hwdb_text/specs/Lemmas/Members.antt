@@ -11,6 +11,7 @@ use Rattle.std.proofs.lemmas.List.Sorted.{Contains-permutation, IsPermutation-sy
 use Rattle.std.proofs.lemmas.Map.Keys.{IsDistinct-IsPermutation, IsDistinct-from_sorted}
 use Rattle.std.proofs.lemmas.List.Kept.{IsStrictlySortedBy-filter}
 use Rattle.hwdb_spec.specs.Assignment.{put, put_all, in_order}
+use Rattle.hwdb_spec.specs.Lemmas.Orders.{turned}
 
 -- it is one of the list
 abbrev pub Holds : {A : Type 0} → List A → A → Type 0
@@ -150,11 +151,6 @@ module _ {A : Type 0} (cmp : A → A → Ordering) (total : IsTotalOrder cmp) wh
 
   flipped : (x y : A) → eq_by_cmp cmp x y ≡ eq_by_cmp cmp y x
   flipped x y = ap is_eq (total.antisymm x y) ∙ turned (cmp y x)
-    where
-      turned : (r : Ordering) → is_eq (ordering_reverse r) ≡ is_eq r
-      turned Less = refl
-      turned Equal = refl
-      turned Greater = refl
 
   -- of a list whose places differ no two members have one place
   pub distinct_single : (xs : List A) → IsDistinct (eq_by_cmp cmp) xs → (x y : A) → Holds xs x → Holds xs y → cmp x y ≡ Equal → x ≡ y
