@@ -78,6 +78,10 @@ verbose_rule = record (new_rule (codes "verbose")) { long = Some (codes "verbose
 abbrev pub skip_rule : Rule
 skip_rule = record (new_rule (codes "skip-unreadable")) { long = Some (codes "skip-unreadable"); action = Some SetTrue }
 
+-- `--check`
+abbrev pub check_rule : Rule
+check_rule = record (new_rule (codes "check")) { long = Some (codes "check"); action = Some SetTrue }
+
 -- kinds of warnings, or none
 abbrev pub allow_rule : Rule
 allow_rule = record (new_rule (codes "allow")) { value_names = 1; long = Some (codes "allow"); action = Some Append }
@@ -112,7 +116,7 @@ with_range a = with_rule (with_rule a after_rule) limit_rule
 
 -- `update`
 abbrev pub update_app : App
-update_app = with_rule (with_rule (with_shared (new_app (codes "update"))) verbose_rule) skip_rule
+update_app = with_rule (with_rule (with_rule (with_shared (new_app (codes "update"))) verbose_rule) skip_rule) check_rule
 
 -- `query`
 abbrev pub query_app : App

@@ -70,7 +70,7 @@ IsAnswerOf (Verify database) root strict input files status texts =
     (status ≡ 0) × OnOut (IsPrinted (option_map string_bytes database) root IsSummary files) texts
 IsAnswerOf (Dump database) root strict input files status texts =
     (status ≡ 0) × OnOut (IsDumped (option_map string_bytes database) root files) texts
-IsAnswerOf (Status json) root strict input files status texts = OnOut (λ text. IsStatus root json files text status) texts
+IsAnswerOf (Status json quiet) root strict input files status texts = OnOut (λ text. IsStatus root json quiet files text status) texts
 
 -- what `device` prints in this form, and its status
 abbrev pub IsDeviceAnswer : DeviceForm → (root : List ℕ) (given : Option (List ℕ)) → Sight → Contents → (status : ℕ) → Texts → Type 0

@@ -49,7 +49,7 @@ Refuses (Diff old_path new_path devices json) root input files refusal =
     IsDiffRefused (map string_bytes devices.items) (string_bytes old_path) (string_bytes new_path) input files refusal
 Refuses (Verify database) root input files refusal = IsVerifyRefused (option_map string_bytes database) root files refusal
 Refuses (Dump database) root input files refusal = IsDumpRefused (option_map string_bytes database) root files refusal
-Refuses (Status json) root input files refusal = IsStatusRefused root files refusal
+Refuses (Status json quiet) root input files refusal = IsStatusRefused root files refusal
 Refuses task root input files refusal = IsUnanswered root files refusal
 
 -- what it might have printed, with whatever status

@@ -112,6 +112,8 @@ pub enum Task {
     Status {
         /// Whether as JSON.
         json: bool,
+        /// Whether the status alone says it, as that of `update --check`.
+        quiet: bool,
     },
 }
 
