@@ -79,9 +79,11 @@ fn job_of(
     let color = shared_text(alloc, top, inner, "color")?;
     let usr = has_flag(inner, "usr") || has_flag(top, "usr");
     let strict = has_flag(inner, "strict") || has_flag(top, "strict");
+    let text = has_flag(inner, "text");
     Ok(Job {
         usr,
         strict,
+        text,
         root,
         color,
         task,

@@ -25,6 +25,7 @@ use Rattle.std.specs.declared.cmp.Ordering.TheVariants.{Less, Equal, Greater}
 use Rattle.std.proofs.lemmas.Cmp.{nat_list_cmp_total}
 use Rattle.hwdb_compile.specs.declared.sources.SourceFile.{SourceFile}
 use Rattle.hwdb_compile.specs.Internal.Reading.{bytes_at, IsPuttable}
+use Rattle.hwdb_spec.specs.Lemmas.Orders.{turned}
 
 -- one more of a list, mapped
 pub mapped_more : {A B : Type 0} (f : A → B) (xs : List A) (i : ℕ) (x : A) → i < length xs → x ≡ get_or xs i x → map f (take (suc i) xs) ≡ map f (take i xs) ++ f x ∷ []
@@ -184,11 +185,6 @@ pub sources_append : (xs ys : List SourceFile) → sources (xs ++ ys) ≡ source
 sources_append [] ys = refl
 sources_append (x ∷ xs) ys = ap (λ l. source_of x ∷ l) (sources_append xs ys)
 
-flipped_equal : (o : Ordering) → is_eq (ordering_reverse o) ≡ is_eq o
-flipped_equal Less = refl
-flipped_equal Equal = refl
-flipped_equal Greater = refl
-
 -- a file that was put is found at its name
 pub put_at : (before after : BTreeMap (Bor (List ℕ)) (Bor (List ℕ))) (key value : Bor (List ℕ)) (name : List ℕ)
     → get_by (λ k. slice_cmp nat_cmp name k.now) after ≡ cond (is_eq (slice_cmp nat_cmp key.now name)) (Some value) (get_by (λ k. slice_cmp nat_cmp name k.now) before)
@@ -199,7 +195,7 @@ put_at before after key value name is =
       | true ↦ refl
       | false ↦ refl
     ]
-    ∙ ap (λ b. if b then value.now else bytes_at before name) (sym (flipped_equal (slice_cmp nat_cmp key.now name)) ∙ sym (ap is_eq (nat_list_cmp_total.antisymm name key.now)))
+    ∙ ap (λ b. if b then value.now else bytes_at before name) (sym (turned (slice_cmp nat_cmp key.now name)) ∙ sym (ap is_eq (nat_list_cmp_total.antisymm name key.now)))
 
 -- the last of some files was put, and those before it are left
 pub files_step : (name : List ℕ) (rest before : List SourceFile) (file : SourceFile) (old new all : List ℕ) (key bytes : List ℕ)

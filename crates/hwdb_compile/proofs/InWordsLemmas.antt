@@ -19,6 +19,8 @@ use Rattle.hwdb_text.specs.Laws.{PrioritiesCountUp, AssignmentsStandByLine, OneV
 use Rattle.hwdb_compile.specs.Laws.{LastIsLatest}
 use Rattle.hwdb_compile.proofs.GatherLemmas.{From, from_file}
 use Rattle.hwdb_compile.proofs.LatestLemmas.{Rising, Counts, counts, rising_files}
+use Rattle.hwdb_spec.specs.Lemmas.Orders.{equal_of, same_itself, same_text}
+use Rattle.hwdb_spec.specs.Lemmas.Places.{one_place, place_same}
 
 -- what comes before a member isn't later
 none_later : (done before : List Assignment) (a : Assignment) (behind : List Assignment) → Rising done (before ++ a ∷ behind) → All (λ b. IsNoLater b a) (done ++ before)
@@ -39,32 +41,6 @@ latest_of all a up h =
           (All-weaker (λ b. IsNoLater b a) P (λ b k _. k) h.before earlier)
           (All-cons P a h.behind (λ _. inr (refl, omega arith)) (All-weaker (λ b. ¬ HaveOnePlace a b) P (λ b no p. absurd (no p)) h.behind h.last)));
     }
-
-equal_of : (o : Ordering) → is_eq o ≡ true → o ≡ Equal
-equal_of Less h = cc
-equal_of Equal h = refl
-equal_of Greater h = cc
-
-same_text : (xs ys : List ℕ) → same xs ys ≡ true → xs ≡ ys
-same_text xs ys e = finite.slice_cmp-IsAntisymmetric finite.nat_cmp-IsAntisymmetric xs ys (equal_of (slice_cmp nat_cmp xs ys) e)
-
-same_itself : (n : List ℕ) → same n n ≡ true
-same_itself n = ap is_eq (tied_itself nat_list_cmp_total n)
-
-one_place : (a b : Assignment) → is_same_place a b ≡ true → HaveOnePlace a b
-one_place a b h =
-    elim (same a.position.pattern b.position.pattern) as (λ x. same a.position.pattern b.position.pattern ≡ x
-    → (if x then same a.position.key b.position.key else false) ≡ true → HaveOnePlace a b) [
-      | true ↦ λ e k. (same_text a.position.pattern b.position.pattern e, same_text a.position.key b.position.key k)
-      | false ↦ λ e k. cc
-    ] refl h
-
-place_same : (a b : Assignment) → HaveOnePlace a b → is_same_place a b ≡ true
-place_same a b h =
-    ap (λ p. if same a.position.pattern p then same a.position.key b.position.key else false) (sym h.0)
-    ∙ ap (λ k. if same a.position.pattern a.position.pattern then same a.position.key k else false) (sym h.1)
-    ∙ ap (λ x. if x then same a.position.key a.position.key else false) (same_itself a.position.pattern)
-    ∙ same_itself a.position.key
 
 -- the last of those with the place of one, if there is any
 record LastAt (a : Assignment) (all : List Assignment) : Type 0 where

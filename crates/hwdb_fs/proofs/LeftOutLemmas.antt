@@ -21,9 +21,10 @@ use Rattle.hwdb_spec.specs.Refusals.{HasReason, IsUnread, IsUnreadable, file_tex
 use Rattle.hwdb_spec.specs.declared.refusals.Refusal.{Refusal}
 use Rattle.hwdb_spec.specs.declared.refusals.Refusal.TheVariants.{At, InWords, NoDatabase, Plain}
 use Rattle.hwdb_spec.specs.declared.errors.ToolError.TheVariants.{Read, Write, TooLong, TooManyFiles, TooManyLines, TooLarge, BadPosition, BadDatabase, Replace, Memory}
-use Rattle.hwdb_fs.proofs.NameLemmas.{contains_filter, same_itself, same_name}
+use Rattle.hwdb_fs.proofs.NameLemmas.{contains_filter}
 use Rattle.hwdb_fs.proofs.ReasonLemmas.{chosen_fails, chosen_reason}
 use Rattle.hwdb_fs.proofs.SelectionLemmas.{any_unread, chosen_unread}
+use Rattle.hwdb_spec.specs.Lemmas.Orders.{same_itself, same_text}
 
 -- ---- what is left is a part
 abbrev bytes_of : Stored → List ℕ
@@ -77,7 +78,7 @@ etc_named root name n = by (same n name) refl
   where
     by : (b : Bool) → same n name ≡ b → b ≡ is_named root (path_in (etc_files root) name) n
     by true e = sym (or_left _ (bytes_eq (path_in (etc_files root) name) (path_in (usr_files root) n))
-        ((bytes_eq-Decides (path_in (etc_files root) name) (path_in (etc_files root) n)).1 (ap (path_in (etc_files root)) (sym (same_name n name e)))))
+        ((bytes_eq-Decides (path_in (etc_files root) name) (path_in (etc_files root) n)).1 (ap (path_in (etc_files root)) (sym (same_text n name e)))))
     by false e = sym (neither (bytes_eq (path_in (etc_files root) name) (path_in (etc_files root) n)) (bytes_eq (path_in (etc_files root) name) (path_in (usr_files root) n))
         (unequal (path_in (etc_files root) name) (path_in (etc_files root) n)
         (λ is. absurd (let h : same n name ≡ true = ap (λ (m : List ℕ). same n m) (same_end name n (append_cancel_left (etc_files root) (47 ∷ name) (47 ∷ n) is)) ∙ same_itself n in cc)))
@@ -88,7 +89,7 @@ usr_named root name n = by (same n name) refl
   where
     by : (b : Bool) → same n name ≡ b → b ≡ is_named root (path_in (usr_files root) name) n
     by true e = sym (or_right (bytes_eq (path_in (usr_files root) name) (path_in (etc_files root) n)) _
-        ((bytes_eq-Decides (path_in (usr_files root) name) (path_in (usr_files root) n)).1 (ap (path_in (usr_files root)) (sym (same_name n name e)))))
+        ((bytes_eq-Decides (path_in (usr_files root) name) (path_in (usr_files root) n)).1 (ap (path_in (usr_files root)) (sym (same_text n name e)))))
     by false e = sym (neither (bytes_eq (path_in (usr_files root) name) (path_in (etc_files root) n)) (bytes_eq (path_in (usr_files root) name) (path_in (usr_files root) n))
         (unequal (path_in (usr_files root) name) (path_in (etc_files root) n) (λ is. folders_apart root n name (sym is)))
         (unequal (path_in (usr_files root) name) (path_in (usr_files root) n)

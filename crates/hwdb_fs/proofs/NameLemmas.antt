@@ -14,6 +14,7 @@ use Rattle.std.proofs.lemmas.List.Folds.{list_any-append}
 use Rattle.hwdb_spec.specs.Assignment.{text_cmp}
 use Rattle.hwdb_spec.specs.Folders.{lists, same}
 use Rattle.hwdb_fs.specs.Internal.{IsNameSet}
+use Rattle.hwdb_spec.specs.Lemmas.Orders.{equal_of}
 
 -- one more of a list, mapped
 mapped_more : {A B : Type 0} (f : A → B) (xs : List A) (i : ℕ) (x : A) → i < length xs → x ≡ get_or xs i x → map f (take (suc i) xs) ≡ map f (take i xs) ++ f x ∷ []
@@ -47,18 +48,6 @@ name_step names i x old new k lt is own so_far put = λ q.
     ∙ one_more (is_eq (order k q)) _ _ (so_far q)
     ∙ ap (λ (t : List ℕ). lists q.now before || (same t q.now || false)) own
     ∙ sym (ap (list_any (λ n. same n q.now)) next ∙ list_any-append (λ n. same n q.now) before (string_bytes x ∷ []))
-
--- equal names
-equal_is : (o : Ordering) → is_eq o ≡ true → o ≡ Equal
-equal_is Less e = absurd (cc)
-equal_is Equal e = refl
-equal_is Greater e = absurd (cc)
-
-pub same_name : (a b : List ℕ) → same a b ≡ true → a ≡ b
-same_name a b e = finite.slice_cmp-IsAntisymmetric finite.nat_cmp-IsAntisymmetric a b (equal_is (text_cmp a b) e)
-
-pub same_itself : (a : List ℕ) → same a a ≡ true
-same_itself a = ap is_eq (tied_itself nat_list_cmp_total a)
 
 -- a name that passes is among those that are kept
 pub contains_filter : (p : List ℕ → Bool) (names : List (List ℕ)) (name : List ℕ) → Contains names name → p name ≡ true → Contains (filter p names) name

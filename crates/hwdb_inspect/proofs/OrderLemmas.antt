@@ -14,22 +14,8 @@ use Rattle.hwdb_spec.specs.Tree.{Tree, Children, Value, values_under, values_bel
 use Rattle.hwdb_spec.specs.Tree.Tree.{Node}
 use Rattle.hwdb_spec.specs.Tree.Children.{NoMore, Child}
 use Rattle.hwdb_query.specs.Internal.Members.{assignment_of as assigned_by}
-
-pub place_total : IsTotalOrder place_cmp
-place_total = then_total (on_total (λ (p : List ℕ × List ℕ). p.0) nat_list_cmp_total) (on_total (λ (p : List ℕ × List ℕ). p.1) nat_list_cmp_total)
-
-then_equal : (a b : Ordering) → ordering_then a b ≡ Equal → (a ≡ Equal) × (b ≡ Equal)
-then_equal Less b h = absurd (cc)
-then_equal Equal b h = (refl, h)
-then_equal Greater b h = absurd (cc)
-
-pub place_same : finite.IsAntisymmetric place_cmp
-place_same x y e =
-    let both = then_equal (text_cmp x.0 y.0) (text_cmp x.1 y.1) e in
-    let text : finite.IsAntisymmetric text_cmp = finite.slice_cmp-IsAntisymmetric finite.nat_cmp-IsAntisymmetric in
-    let pattern : x.0 ≡ y.0 = text x.0 y.0 both.0 in
-    let key : x.1 ≡ y.1 = text x.1 y.1 both.1 in
-    λ i. (pattern i, key i)
+use Rattle.hwdb_spec.specs.Lemmas.Orders.{then_equal}
+use Rattle.hwdb_spec.specs.Lemmas.Places.{equal_place, key_is, place_total}
 
 -- ---- what is below the nodes
 
@@ -178,14 +164,6 @@ and_second false b p = absurd p
 pub is_less : (o : Ordering) → o ≡ Less → T (is_lt o)
 is_less o e = subst (λ r. T (is_lt r)) (sym e) tt
 
-key_is : (k key : List ℕ) → key_of k ≡ Some key → k ≡ 32 ∷ key
-key_is [] key h = cc
-key_is (c ∷ rest) key h =
-    elim (c == 32) as (λ b. (c == 32) ≡ b → (if b then Some rest else None) ≡ Some key → c ∷ rest ≡ 32 ∷ key) [
-      | true ↦ λ e k. let n : c ≡ 32 = eqb-true c 32 e in let r : rest ≡ key = cc in cc
-      | false ↦ λ e k. cc
-    ] refl h
-
 assigned_below : (pattern key : List ℕ) (v : Value) → key_of v.key ≡ Some key → (ps : List (List ℕ × Value)) → Below (pattern, v) ps → T (below_all place_cmp (pattern, key) (map entry_of (flat_map assigned_by ps)))
 assigned_below pattern key v is [] a = tt
 assigned_below pattern key v is (q ∷ ps) a =
@@ -216,7 +194,7 @@ members_sorted t h = assigned_sorted (values_under [] t) (under_rises [] t h)
 pub entries_of_sorted : (es : List ((List ℕ × List ℕ) × Assignment)) → T (is_sorted place_cmp es) → finite.entries (finite.from_entries {R = place_cmp} es) ≡ es
 entries_of_sorted es h =
     let one : finite.from_entries {R = place_cmp} es ≡ finite.from_sorted es =
-    finite.same_map place_total place_same (finite.from_entries es) (finite.from_sorted es) (λ q. finite.get-from_entries place_total es q ∙ sym (finite.get-from_sorted place_cmp es q h)) in
+    finite.same_map place_total equal_place (finite.from_entries es) (finite.from_sorted es) (λ q. finite.get-from_entries place_total es q ∙ sym (finite.get-from_sorted place_cmp es q h)) in
     ap finite.entries one ∙ finite.entries-from_sorted place_cmp es h
 
 pub entries_of_tree : (t : Tree) → IsTree t → finite.entries (map_of t) ≡ map entry_of (members_under [] t)

@@ -304,14 +304,6 @@ pub if_both : (a b : Bool) → (if a then b else false) ≡ true → (a ≡ true
 if_both true b h = (refl, h)
 if_both false b h = cc
 
-pub same_is : (a b : List ℕ) → same a b ≡ true → a ≡ b
-same_is a b h = finite.slice_cmp-IsAntisymmetric finite.nat_cmp-IsAntisymmetric a b (equal (text_cmp a b) h)
-  where
-    equal : (r : Ordering) → is_eq r ≡ true → r ≡ Equal
-    equal Less h = cc
-    equal Equal h = refl
-    equal Greater h = cc
-
 pub none_unsaid : (f : Assignment) (fs : List Assignment) → first_unsaid (f ∷ fs) ≡ None → (is_said f ≡ true) × (first_unsaid fs ≡ None)
 none_unsaid f fs h =
     elim (is_said f) as (λ b. is_said f ≡ b → (is_said f ≡ true) × (first_unsaid fs ≡ None)) [

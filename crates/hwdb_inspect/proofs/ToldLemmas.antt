@@ -18,12 +18,14 @@ use Rattle.hwdb_spec.specs.Records.{Origin, assignments}
 use Rattle.hwdb_spec.specs.Texts.{properties_text, query_text, last_values_text}
 use Rattle.hwdb_spec.specs.LoneFile.{lone, lone_choice}
 use Rattle.hwdb_spec.specs.Tree.{Tree, IsTree, members_under, place_cmp, entry_of, answers}
-use Rattle.hwdb_inspect.proofs.MemberLemmas.{Holds, distinct_single, not_above_itself, ordered_again, kept_in_order, in_order_from, in_order_rises}
-use Rattle.hwdb_inspect.proofs.OrderLemmas.{place_total, members_sorted, and_first, and_second}
-use Rattle.hwdb_inspect.proofs.OrderedLemmas.{assignment_total, distinct, less_apart}
+use Rattle.hwdb_inspect.proofs.OrderLemmas.{members_sorted, and_first, and_second}
+use Rattle.hwdb_inspect.proofs.OrderedLemmas.{distinct, less_apart}
 use Rattle.hwdb_inspect.proofs.PlacedLemmas.{Placed, placed}
 use Rattle.hwdb_inspect.specs.Laws.{said_of}
-use Rattle.hwdb_inspect.proofs.ReadLemmas.{if_both, same_is}
+use Rattle.hwdb_inspect.proofs.ReadLemmas.{if_both}
+use Rattle.hwdb_text.specs.Lemmas.Members.{Holds, distinct_single, in_order_from, in_order_rises, kept_in_order, not_above_itself, ordered_again}
+use Rattle.hwdb_spec.specs.Lemmas.Orders.{same_text}
+use Rattle.hwdb_spec.specs.Lemmas.Places.{assignment_total, place_total}
 
 -- ---- assignments without a place in common
 
@@ -98,8 +100,8 @@ places_distinct (x ∷ xs) h = (
 one_place : (x y : Assignment) → is_same_place x y ≡ true → by_place x y ≡ Equal
 one_place x y h =
     let p = if_both (same x.position.pattern y.position.pattern) (same x.position.key y.position.key) h in
-    let pattern = same_is x.position.pattern y.position.pattern p.0 in
-    let key = same_is x.position.key y.position.key p.1 in
+    let pattern = same_text x.position.pattern y.position.pattern p.0 in
+    let key = same_text x.position.key y.position.key p.1 in
     ap (place_cmp (entry_of x).0) (sym (λ i. (pattern i, key i))) ∙ tied_itself place_total (entry_of x).0
 
 module _ (all : List Assignment) (distinct_places : IsDistinct (eq_by_cmp by_place) all) where

@@ -16,16 +16,12 @@ use Rattle.hwdb_pattern.specs.Fronts.{token_of}
 use Rattle.hwdb_near.specs.declared.found.Rated.{Rated as Found}
 use Rattle.hwdb_near.specs.Internal.Ratings.{by_nearness, by_nearness_total, misses, near_total, rated_of}
 use Rattle.hwdb_near.proofs.OrderedLemmas.{sorted_once}
+use Rattle.hwdb_spec.specs.Lemmas.Orders.{then_equal}
 
 abbrev Text : Type 0
 Text = Bor (List ℕ)
 
 -- ---- two that tie are one
-
-then_equal : (a b : Ordering) → ordering_then a b ≡ Equal → (a ≡ Equal) × (b ≡ Equal)
-then_equal Less b h = absurd (cc)
-then_equal Equal b h = (refl, h)
-then_equal Greater b h = absurd (cc)
 
 single : (x y : Rated) → near_cmp x y ≡ Equal → x ≡ y
 single x y h =

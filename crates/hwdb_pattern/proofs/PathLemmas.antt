@@ -10,10 +10,11 @@ use Rattle.hwdb_spec.specs.Patterns.{Token, star, one, bracket, literal, token_a
 use Rattle.hwdb_pattern.specs.Views.{Lengths, takes, NoneTakes, open_part, Reached, StandsFor, IsLost}
 use Rattle.hwdb_pattern.specs.Internal.Prefixes.{stepped, Spread, Between, Follows, Along, Steps, IsAfter, IsRun}
 use Rattle.hwdb_spec.specs.Tree.{closed_from, closed_part, IsLive}
-use Rattle.hwdb_pattern.proofs.MatchLemmas.{is_star, one_byte}
 use Rattle.hwdb_pattern.proofs.TokenLemmas.{first_token, no_tokens, no_tokens_at, not_star, star_at}
 use Rattle.hwdb_pattern.proofs.ClosedPartLemmas.{closed_tokens, closed_cut, closed_whole, closed_append, open_append}
 use Rattle.hwdb_pattern.proofs.GrowthLemmas.{Front, front_of, take_least}
+use Rattle.hwdb_spec.specs.Forms.{is_star}
+use Rattle.hwdb_pattern.specs.Lemmas.Matching.{one_byte}
 
 -- one more token at the end
 pub matches_more : (ts : List Token) (t : Token) (d piece : List ℕ) → Matches ts d → Admits t piece → Matches (ts ++ t ∷ []) (d ++ piece)

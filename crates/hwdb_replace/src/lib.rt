@@ -14,6 +14,6 @@ pub mod replacement;
 pub use calls::{CallFailed, Store};
 pub use hwdb_spec::Unreplaced;
 pub use laws::{beside_is_whole, memory_tears, unsynced_files_tear};
-pub use memory::{File, Memory, State, Step};
+pub use memory::{File, Memory, PathState, Step};
 pub use others::{Others, Rival, Shared, replace_beside};
 pub use replacement::{DATABASE, DATABASE_MODE, PART_MODE, part_name, part_number, replace};

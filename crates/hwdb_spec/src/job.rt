@@ -93,6 +93,10 @@ pub enum Task {
         old: String,
         /// The path of the new one.
         new: String,
+        /// The paths of files that name devices; none if assignments are compared.
+        devices: Vec<String>,
+        /// Whether as JSON.
+        json: bool,
     },
     /// Say whether a file is a database that can be read, and how much is in it.
     Verify {
@@ -118,6 +122,8 @@ pub struct Job {
     pub usr: bool,
     /// Whether `update` ends with status 1 if a line had a fault, and `check` if there is a warning.
     pub strict: bool,
+    /// Whether the text files of both folders are asked, as `update` would compile them now.
+    pub text: bool,
     /// What to put in front of the paths of folders and databases.
     pub root: Option<String>,
     /// When the output is coloured, as it was given.

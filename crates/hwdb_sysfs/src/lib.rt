@@ -40,4 +40,4 @@ pub use near::near_name;
 pub use paths::{kernel_name, last_name};
 pub use reading::read_device;
 pub use table::{Row, Table, Thing};
-pub use unread::{Unread, unread_of_path};
+pub use unread::{UnreadPath, unread_of_path};

@@ -11,7 +11,7 @@ use Rattle.hwdb_spec.specs.declared.refusals.Refusal.{Refusal}
 use Rattle.hwdb_spec.specs.declared.refusals.Refusal.TheVariants.{Plain}
 use Rattle.hwdb_spec.specs.declared.errors.ToolError.TheVariants.{Memory}
 use Rattle.hwdb_spec.specs.GivenFolders.{AreFoldersUnread, IsFolderUnread}
-use Rattle.hwdb_tool.proofs.ErrorLemmas.{given_error}
+use Rattle.hwdb_spec.specs.Lemmas.Calls.{given_error}
 
 -- ---- the folder that a path names
 pub with_slash : (path : List ℕ) → folder_of (path ++ 47 ∷ []) ≡ path

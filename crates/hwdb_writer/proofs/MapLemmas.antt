@@ -11,6 +11,8 @@ use Rattle.hwdb_spec.specs.Assignment.{Assignment}
 use Rattle.hwdb_spec.specs.Tree.{Value, Tree, Children, place_cmp, entry_of, assigned_at, values_under, values_below, key_of}
 use Rattle.hwdb_spec.specs.Tree.Tree.{Node}
 use Rattle.hwdb_spec.specs.Tree.Children.{NoMore, Child}
+use Rattle.hwdb_spec.specs.Lemmas.Orders.{then_equal}
+use Rattle.hwdb_spec.specs.Lemmas.Places.{equal_place}
 
 abbrev pub Place : Type 0
 Place = List ℕ × List ℕ
@@ -22,21 +24,8 @@ Entry = List ℕ × Value
 abbrev pub assignment_of : Entry → List Assignment
 assignment_of p = assigned_at p.0 p.1 (key_of p.1.key)
 
-pub place_total : IsTotalOrder place_cmp
-place_total = then_total (on_total (λ (p : Place). p.0) nat_list_cmp_total) (on_total (λ (p : Place). p.1) nat_list_cmp_total)
-
 pub bytes_same : IsAntisymmetric (slice_cmp nat_cmp)
 bytes_same = slice_cmp-IsAntisymmetric nat_cmp-IsAntisymmetric
-
-both_equal : (a b : Ordering) → ordering_then a b ≡ Equal → (a ≡ Equal) × (b ≡ Equal)
-both_equal Less b e = absurd (cc)
-both_equal Equal b e = (refl, e)
-both_equal Greater b e = absurd (cc)
-
-pub place_same : IsAntisymmetric place_cmp
-place_same x y e =
-    let b = both_equal (slice_cmp nat_cmp x.0 y.0) (slice_cmp nat_cmp x.1 y.1) e in
-    λ i. (bytes_same x.0 y.0 b.0 i, bytes_same x.1 y.1 b.1 i)
 
 -- the first of two
 unfoldable pub either : {A : Type 0} → Option A → Option A → Option A
@@ -108,7 +97,7 @@ apart q p h = no (place_cmp q p) refl
   where
     no : (r : Ordering) → place_cmp q p ≡ r → is_eq r ≡ false
     no Less e = refl
-    no Equal e = absurd (h (ap (λ (x : Place). x.0) (place_same q p e)))
+    no Equal e = absurd (h (ap (λ (x : Place). x.0) (equal_place q p e)))
     no Greater e = refl
 
 pub one_off : (q : Place) (path : List ℕ) (v : Value) → (q.0 ≡ path → ⊥) → one q path v ≡ None
@@ -154,7 +143,7 @@ is_place q p e = yes (place_cmp q p) refl e
   where
     yes : (r : Ordering) → place_cmp q p ≡ r → is_eq r ≡ true → q ≡ p
     yes Less h t = absurd (cc)
-    yes Equal h t = place_same q p h
+    yes Equal h t = equal_place q p h
     yes Greater h t = absurd (cc)
 
 pub one_is : (q : Place) (path : List ℕ) (v : Value) (k : List ℕ) → key_of v.key ≡ Some k → one q path v ≡ cond (is_at q (path, k)) (Some (given v)) None
@@ -166,19 +155,11 @@ differs q p h = no (place_cmp q p) refl
   where
     no : (r : Ordering) → place_cmp q p ≡ r → is_eq r ≡ false
     no Less e = refl
-    no Equal e = absurd (h (place_same q p e))
+    no Equal e = absurd (h (equal_place q p e))
     no Greater e = refl
 
 alike : (x y : ℕ) → eqb x y ≡ true → x ≡ y
 alike x y e = grind (arith, nat_tests)
-
-pub stored_is : (xs k : List ℕ) → key_of xs ≡ Some k → xs ≡ 32 ∷ k
-stored_is [] k e = absurd (cc)
-stored_is (c ∷ key) k e = by (eqb c 32) refl e
-  where
-    by : (b : Bool) → eqb c 32 ≡ b → cond b (Some key) None ≡ Some k → c ∷ key ≡ 32 ∷ k
-    by true h g = let a = alike c 32 h in cc
-    by false h g = absurd (cc)
 
 pub one_other : (q : Place) (path : List ℕ) (k : List ℕ) (w : Value) → q ≡ (path, k) → (key_of w.key ≡ Some k → ⊥) → one q path w ≡ None
 unfolding one

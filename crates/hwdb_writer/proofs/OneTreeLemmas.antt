@@ -11,7 +11,8 @@ use Rattle.hwdb_spec.specs.Tree.Tree.{Node}
 use Rattle.hwdb_spec.specs.Tree.Children.{NoMore, Child}
 use Rattle.hwdb_spec.specs.Written.{IsTight, AreTight, IsForked, AllKeys, IsTightTree, IsWritten, written}
 use Rattle.hwdb_writer.proofs.MeetingLemmas.{meet, met, Differ}
-use Rattle.hwdb_writer.proofs.MapLemmas.{Place, Entry, Assigned, full, got, found, found_both, found_cons, one, one_is, one_other, either, entries, given, is_at, Off, values_off, off_tree, off_children, off_here, append_nil, place_total, bytes_same, cancel, fork_off, longer, stored_is}
+use Rattle.hwdb_writer.proofs.MapLemmas.{Place, Entry, Assigned, full, got, found, found_both, found_cons, one, one_is, one_other, either, entries, given, is_at, Off, values_off, off_tree, off_children, off_here, append_nil, bytes_same, cancel, fork_off, longer}
+use Rattle.hwdb_spec.specs.Lemmas.Places.{key_is as stored_is, place_total}
 
 -- the first of two places where something may be found
 either_first : {A : Type 0} (x y : Option A) (a : A) → x ≡ Some a → either x y ≡ Some a

@@ -4,9 +4,9 @@ use Rattle.hwdb_spec.specs.declared.errors.ToolError.TheVariants.{Memory}
 use Rattle.hwdb_spec.specs.Status.{IsState, has_database, report_form, report_of}
 use Rattle.hwdb_inspect.specs.Views.{state_shown}
 use Rattle.hwdb_spec.specs.StatusErrors.{IsAskedUnread}
-use Rattle.hwdb_tool.proofs.ErrorLemmas.{given_error}
 use Rattle.hwdb_tool.proofs.StatusLemmas.{asked_memory}
 use Rattle.hwdb_tool.proofs.statuses.reported.Goals as goal
+use Rattle.hwdb_spec.specs.Lemmas.Calls.{given_error}
 
 pub returns-clause-reported : goal.returns-clause-reported
 returns-clause-reported g c = λ tells m is.

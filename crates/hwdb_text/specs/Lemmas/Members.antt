@@ -17,7 +17,7 @@ abbrev pub Holds : {A : Type 0} → List A → A → Type 0
 Holds [] s = ⊥
 Holds (t ∷ ts) s = (s ≡ t) ⊎ Holds ts s
 
-held : {A : Type 0} (xs : List A) (s : A) → Holds xs s → Contains xs s
+pub held : {A : Type 0} (xs : List A) (s : A) → Holds xs s → Contains xs s
 held [] s h = absurd h
 held (x ∷ xs) s h =
     ⊎_elim {C = Contains (x ∷ xs) s} (λ e. (0, omega arith, sym e)) (λ r. let f = held xs s r in (suc f.0, omega (arith, f.1), f.2)) h
@@ -27,7 +27,7 @@ holding [] x k lt e = absurd (omega (arith, lt))
 holding (y ∷ ys) x zero lt e = inl (sym e)
 holding (y ∷ ys) x (suc k) lt e = inr (holding ys x k (omega (arith, lt)) e)
 
-holds_it : {A : Type 0} (xs : List A) (x : A) → Contains xs x → Holds xs x
+pub holds_it : {A : Type 0} (xs : List A) (x : A) → Contains xs x → Holds xs x
 holds_it xs x c = holding xs x c.0 c.1 c.2
 
 module _ {A : Type 0} (cmp : A → A → Ordering) (total : IsTotalOrder cmp) where
