@@ -80,10 +80,12 @@ fn job_of(
     let usr = has_flag(inner, "usr") || has_flag(top, "usr");
     let strict = has_flag(inner, "strict") || has_flag(top, "strict");
     let text = has_flag(inner, "text");
+    let reload = has_flag(inner, "reload");
     Ok(Job {
         usr,
         strict,
         text,
+        reload,
         root,
         color,
         task,

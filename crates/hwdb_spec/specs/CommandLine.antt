@@ -94,6 +94,10 @@ json_rule = record (new_rule (codes "json")) { long = Some (codes "json"); actio
 abbrev pub text_rule : Rule
 text_rule = record (new_rule (codes "text")) { long = Some (codes "text"); action = Some SetTrue }
 
+-- a database that was replaced is read anew
+abbrev pub reload_rule : Rule
+reload_rule = record (new_rule (codes "reload")) { long = Some (codes "reload"); action = Some SetTrue }
+
 -- `--strings`
 abbrev pub strings_rule : Rule
 strings_rule = record (new_rule (codes "strings")) { long = Some (codes "strings"); action = Some SetTrue }
@@ -120,7 +124,7 @@ update_app = with_rule (with_rule (with_rule (with_shared (new_app (codes "updat
 
 -- `query`
 abbrev pub query_app : App
-query_app = with_rule (with_rule (with_rule (with_shared (new_app (codes "query"))) text_rule) json_rule) devices_rule
+query_app = with_rule (with_rule (with_rule (with_rule (with_shared (new_app (codes "query"))) text_rule) reload_rule) json_rule) devices_rule
 
 -- `explain`
 abbrev pub explain_app : App

@@ -61,6 +61,7 @@ pub record IsJob (top : List Row) (name : Text) (inner : List Row) (job : Job) :
   pub root : option_map string_bytes job.root ≡ option_or (first_of (codes "root") inner) (first_of (codes "root") top)
   pub color : option_map string_bytes job.color ≡ option_or (first_of (codes "color") inner) (first_of (codes "color") top)
   pub text : job.text ≡ has_flag (codes "text") inner
+  pub reload : job.reload ≡ has_flag (codes "reload") inner
   pub task : IsTask name inner job.task
 
 -- the job of a command's own matches and of its subcommand's

@@ -126,6 +126,8 @@ pub struct Job {
     pub strict: bool,
     /// Whether the text files of both folders are asked, as `update` would compile them now.
     pub text: bool,
+    /// Whether a database that is replaced between two lines of standard input is read anew.
+    pub reload: bool,
     /// What to put in front of the paths of folders and databases.
     pub root: Option<String>,
     /// When the output is coloured, as it was given.
