@@ -1,18 +1,16 @@
 -- What a database gives a device ascends by key, so that two lists of it are gone through side by side.
-use Rattle.std.proofs.Common.{◌≡◌, ◌∙◌, ap, sym, refl, subst, ℕ, List, [], ◌∷◌, ◌++◌, map, take, filter, reverse, Bool, true, false, cond, T}
+use Rattle.std.proofs.Common.{◌≡◌, ◌∙◌, ap, sym, refl, subst, ℕ, List, [], ◌∷◌, ◌++◌, map, take, filter, reverse, true, false, cond, T}
 use Rattle.std.specs.Prelude.{flat_map}
 use Rattle.std.specs.FinMap as finite
 use Rattle.std.specs.FinMap.Entries.{is_sorted, below_all}
 use Rattle.std.specs.List.{AllByRecursion}
 use Rattle.std.specs.List.Sorted.{IsStrictlySortedBy}
-use Rattle.std.specs.Ordering.{is_eq, is_lt, ordering_then}
-use Rattle.std.specs.declared.cmp.Ordering.{Ordering}
-use Rattle.std.specs.declared.cmp.Ordering.TheVariants.{Less, Equal, Greater}
+use Rattle.std.specs.Ordering.{ordering_then}
+use Rattle.std.specs.declared.cmp.Ordering.TheVariants.{Less, Equal}
 use Rattle.std.proofs.lemmas.Cmp.{nat_list_cmp_total, tied_itself}
 use Rattle.hwdb_spec.specs.Answers.{has_key, key_of_answer}
 use Rattle.hwdb_spec.specs.Assignment.{Assignment, in_order, text_cmp}
 use Rattle.hwdb_spec.specs.DeviceDifferences.{counting_answers, device_differences, gifts, given_to}
-use Rattle.hwdb_spec.specs.Differences.{Change}
 use Rattle.hwdb_spec.specs.Explanations.{answers_with, explained}
 use Rattle.hwdb_spec.specs.Tree.{Tree, answers, entry_of, place_cmp}
 use Rattle.hwdb_inspect.specs.Internal.Merging.{merged}
@@ -36,8 +34,8 @@ abbrev Entry : Type 0
 Entry = (List ℕ × List ℕ) × Assignment
 
 -- the entries of the first answer of each key
-entries_from : (device : List ℕ) (all : List Assignment) (keys : List (List ℕ)) → List Entry
-entries_from device all keys = map entry_of (map (given_to device) (flat_map (λ p. take 1 p.1) (map (λ key. (key, answers_with key all)) keys)))
+abbrev entries_from : (device : List ℕ) (all : List Assignment) (keys : List (List ℕ)) → List Entry
+entries_from device all keys = map entry_of (map (given_to device) (flat_map (λ (p : List ℕ × List Assignment). take 1 p.1) (map (λ key. (key, answers_with key all)) keys)))
 
 first_is : (x y : Assignment) (xs ys : List Assignment) → x ∷ xs ≡ y ∷ ys → x ≡ y
 first_is x y xs ys h = cc
@@ -60,13 +58,13 @@ tied_less key k q tie less = subst (λ (j : List ℕ). text_cmp q j ≡ Less) (f
 
 module _ (device : List ℕ) (all : List Assignment) where
   -- one more key in front, by whether it has an answer
-  step : {P : List Entry → Type 0} (key : List ℕ) (keys : List (List ℕ))
+  step : (P : List Entry → Type 0) (key : List ℕ) (keys : List (List ℕ))
       → P (entries_from device all keys)
       → ((f : Assignment) → text_cmp key f.position.key ≡ Equal → P (entry_of (given_to device f) ∷ entries_from device all keys))
       → P (entries_from device all (key ∷ keys))
-  step {P = P} key keys none some =
+  step P key keys none some =
       elim (answers_with key all) as (λ l. answers_with key all ≡ l
-      → P (map entry_of (map (given_to device) (take 1 l ++ flat_map (λ p. take 1 p.1) (map (λ k. (k, answers_with k all)) keys))))) [
+      → P (map entry_of (map (given_to device) (take 1 l ++ flat_map (λ (p : List ℕ × List Assignment). take 1 p.1) (map (λ k. (k, answers_with k all)) keys))))) [
         | [] ↦ λ is. none
         | f ∷ more ↦ λ is. some f (equal_of (text_cmp key f.position.key) (first_has key f more (reverse all) is))
       ] refl
@@ -75,7 +73,7 @@ module _ (device : List ℕ) (all : List Assignment) where
   below q [] h = tt
   below q (key ∷ keys) h =
       let rest = below q keys h.1 in
-      step {P = λ l. T (below_all place_cmp (device, q) l)} key keys rest
+      step (λ l. T (below_all place_cmp (device, q) l)) key keys rest
       (λ f tie. and_of _ _ (is_less _ (by_key device q f.position.key ∙ tied_less key f.position.key q tie h.0)) rest)
 
   same_below : (key k : List ℕ) (keys : List (List ℕ)) → text_cmp key k ≡ Equal → AllByRecursion (λ j. text_cmp key j ≡ Less) keys → AllByRecursion (λ j. text_cmp k j ≡ Less) keys
@@ -86,7 +84,7 @@ module _ (device : List ℕ) (all : List Assignment) where
   sorted [] up = tt
   sorted (key ∷ keys) up =
       let rest = sorted keys up.1 in
-      step {P = λ l. T (is_sorted place_cmp l)} key keys rest
+      step (λ l. T (is_sorted place_cmp l)) key keys rest
       (λ f tie. and_of _ _ (below f.position.key keys (same_below key f.position.key keys tie up.0)) rest)
 
 gifts_sorted : (device : List ℕ) (t : Tree) → T (is_sorted place_cmp (map entry_of (map (given_to device) (counting_answers device t))))

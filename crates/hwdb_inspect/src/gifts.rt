@@ -1,7 +1,7 @@
 //! What a database gives a device.
 ghost use Rattle.std.specs.Prelude.{◌≡◌, ◌++◌, flat_map, map, take, IfOk, OnOk};
 ghost use Rattle.hwdb_spec.specs.DeviceDifferences.{counting_answers, given_to};
-ghost use Rattle.hwdb_query.specs.Views.{explained_values};
+ghost use Rattle.hwdb_query.specs.Views.{assignment_of_answer, explained_values};
 ghost use Rattle.hwdb_inspect.specs.Views.{assignment_of};
 
 use hwdb_query::{Explained, StoredAssignment, explain};
@@ -25,7 +25,7 @@ fn push_gift<'a>(
 ) -> Result<(), AllocError>
     ensures { OnOk result (map assignment_of gifts.new.items ≡ map assignment_of gifts.old.items
         ++ map (given_to device.now.value.items)
-        (take 1 (map assignment_of explained.now.answers.items))) }
+        (take 1 (map assignment_of_answer explained.now.answers.items))) }
 {
     let Some((last, _)) = explained.answers.split_first() else {
         return Ok(());

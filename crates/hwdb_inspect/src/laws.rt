@@ -15,7 +15,3 @@ pub fn dump_says()
 pub fn dump_tells()
     ensures { DumpTells }
 {}
-
-/// Lemmas alone.
-#[tactic(auto, using(crate::proofs::GiftLemmas::gift_differences, crate::proofs::GiftLemmas::given_all, crate::proofs::ChangeLemmas::changed_lines, crate::proofs::ChangeLemmas::one_by_one, crate::proofs::DiffLemmas::joined))]
-pub fn dummy() {}

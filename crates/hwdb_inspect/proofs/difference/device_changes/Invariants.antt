@@ -7,6 +7,6 @@ use Rattle.hwdb_inspect.proofs.difference.device_changes.Given as goal
 
 abbrev pub invariant-loop-device : goal.invariant-loop-device
 invariant-loop-device l = record {
-  text : l.text.items ≡ flat_map (λ d. device_changes_form l.fn.json d (device_differences d l.fn.old.now l.fn.new.now)) (map (λ d. d.now) (take l.device-index l.devices));
-  differ : l.differ ≡ list_any (λ d. are_some (device_differences d l.fn.old.now l.fn.new.now)) (map (λ d. d.now) (take l.device-index l.devices));
+  text : l.text.items ≡ flat_map (λ d. device_changes_form l.fn.json d (device_differences d l.fn.old l.fn.new)) (map (λ d. d.now) (take l.device-index l.devices));
+  differ : l.differ ≡ list_any (λ d. are_some (device_differences d l.fn.old l.fn.new)) (map (λ d. d.now) (take l.device-index l.devices));
 }

@@ -1,4 +1,4 @@
-use Rattle.std.proofs.Common.{◌∙◌, ap, map, take, sym}
+use Rattle.std.proofs.Common.{◌∙◌, ap, map, take}
 use Rattle.std.specs.Prelude.{flat_map}
 use Rattle.std.proofs.lemmas.Result.{IfOk-weaker}
 use Rattle.hwdb_query.specs.Views.{explained_values}

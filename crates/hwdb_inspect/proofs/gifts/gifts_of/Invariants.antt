@@ -6,4 +6,4 @@ use Rattle.hwdb_inspect.specs.Views.{assignment_of}
 use Rattle.hwdb_inspect.proofs.gifts.gifts_of.Given as goal
 
 abbrev pub invariant-loop-explained : goal.invariant-loop-explained
-invariant-loop-explained l = map assignment_of l.gifts.items ≡ flat_map (λ p. map (given_to l.device.value.items) (take 1 p.1)) (explained_values (take l.explained-index l.list))
+invariant-loop-explained l = map assignment_of l.gifts.items ≡ flat_map (λ p. map (given_to l.fn.device.value.items) (take 1 p.1)) (explained_values (take l.explained-index l.list))

@@ -1,5 +1,4 @@
-use Rattle.std.proofs.Common.{◌∙◌, ap, map, refl, ◌++◌}
-use Rattle.json.specs.Tree.{json_tokens}
+use Rattle.std.proofs.Common.{map, refl}
 use Rattle.hwdb_inspect.specs.Internal.Forms.{change_object}
 use Rattle.hwdb_inspect.specs.Internal.Pairing.{to_tell}
 use Rattle.hwdb_show.specs.Lemmas.Json.{array_closed}

@@ -1,5 +1,4 @@
 use Rattle.std.proofs.Common.{List, ℕ, ◌++◌, ◌∷◌, [], codes, refl}
-use Rattle.std.proofs.lemmas.Result.{on_ok_weaker}
 use Rattle.json.specs.Json.{Json}
 use Rattle.std.proofs.Common.{map}
 use Rattle.json.specs.Token.{begin_object}
