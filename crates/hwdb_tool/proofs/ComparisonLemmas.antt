@@ -1,5 +1,5 @@
 -- What `diff` reads, and what it refuses.
-use Rattle.std.proofs.Common.{◌≡◌, ◌≢◌, ◌∷◌, ap, absurd, inr, refl, sym, ℕ, Bool, List, [], map, Option, None, Some, Result, Ok, Err, IfErr, IfOk, flat_map}
+use Rattle.std.proofs.Common.{◌≡◌, ◌≢◌, ◌∷◌, ap, inr, refl, sym, ℕ, Bool, List, [], map, Option, None, Some, Result, Ok, Err, IfErr, IfOk, flat_map}
 use Rattle.hwdb_lint.specs.Checks.{source_of}
 use Rattle.hwdb_lint.specs.declared.checks.TextFile.{TextFile}
 use Rattle.hwdb_spec.specs.Asked.{IsCompared}
