@@ -116,7 +116,8 @@ pub fn json_option<'a>(alloc: Global) -> Arg<'a>
 pub fn text_option<'a>(alloc: Global) -> Arg<'a>
     ensures { IsArgument text_rule result }
 {
-    let help = "Ask the text files of both folders, as update would compile them now, in place of a database";
+    let help =
+        "Ask the text files of both folders, as update would compile them now, in place of a database";
     flag(alloc, "text", help)
 }
 
