@@ -69,8 +69,8 @@ returns-in_err-text-clause-before g c = λ stays.
     (λ e. IfSome (g.I.Source.left c.args.input.now) (λ text. IsPrintedBefore e Is (devices_of text) (g.O.Sink.taken c.args.out.now) (g.O.Sink.taken c.answering.out))) c.from_residual-in_err-text.ensures.1
     (memory_before c.args.form t c.answering.counter c.answering.is_first Is (λ lines. record { tree = t; database = is; is = refl }) _ _ _ _ (omega (arith, c.answering-test.true)) (c.answering.invariant.so_far stays t is))
 
-pub requires-reopen : goal.requires-reopen
-requires-reopen g c =
+pub reopen-db-requires : goal.reopen-db-requires
+reopen-db-requires g c =
     let renewed = c.renew.ensures.database c.answering.invariant.held.0 c.answering.invariant.held.1 in
     (renewed.0, subst (λ (b : List ℕ). IsDatabase b renewed.0) (sym c.bytes.ensures) renewed.1)
 
@@ -82,8 +82,8 @@ returns-in_err-write_text-clause-before g c = λ stays.
     let line = some_of c.in_ok-device.field-0 c.in-Some.device _ c.in-Some.is c.in_ok-device.ensures.line in
     let fits : length c.in-Some.device.items ≤ max_file = omega (arith, c.in-Some.device.ok.0, some_of c.in_ok-device.field-0 c.in-Some.device _ c.in-Some.is c.in_ok-device.ensures.fits) in
     let same = c.bytes.ensures ∙ c.renew.ensures.same (c.answering.invariant.stays stays) ∙ c.answering.invariant.same stays in
-    let tree = c.reopen.ensures t (subst (λ (b : List ℕ). IsDatabase b t) (sym same) is) in
-    let text = c.deref-in-answering.ensures.value ∙ c.in_ok-text.ensures ∙ ap (λ d. answer_text c.args.form c.answering.is_first d c.reopen.result) c.deref.ensures.value
+    let tree = c.reopen-db.ensures t (subst (λ (b : List ℕ). IsDatabase b t) (sym same) is) in
+    let text = c.deref-in-answering.ensures.value ∙ c.in_ok-text.ensures ∙ ap (λ d. answer_text c.args.form c.answering.is_first d c.reopen-db.result) c.deref.ensures.value
         ∙ ap (λ u. answer_text c.args.form c.answering.is_first c.in-Some.device.items u) tree in
     handed_on c.from_residual-in_err-write_text.result Write
     (λ e. IfSome (g.I.Source.left c.args.input.now) (λ text. IsPrintedBefore e Is (devices_of text) (g.O.Sink.taken c.args.out.now) (g.O.Sink.taken c.write_text.new.sink))) c.from_residual-in_err-write_text.ensures.1
@@ -93,7 +93,7 @@ pub answering-preserved : goal.answering-preserved
 answering-preserved g c =
     let line = some_of c.in_ok-device.field-0 c.in-Some.device _ c.in-Some.is c.in_ok-device.ensures.line in
     let fits : length c.in-Some.device.items ≤ max_file = omega (arith, c.in-Some.device.ok.0, some_of c.in_ok-device.field-0 c.in-Some.device _ c.in-Some.is c.in_ok-device.ensures.fits) in
-    let text = c.deref-in-answering.ensures.value ∙ c.in_ok-text.ensures ∙ ap (λ d. answer_text c.args.form c.answering.is_first d c.reopen.result) c.deref.ensures.value in
+    let text = c.deref-in-answering.ensures.value ∙ c.in_ok-text.ensures ∙ ap (λ d. answer_text c.args.form c.answering.is_first d c.reopen-db.result) c.deref.ensures.value in
     record {
       held = c.renew.ensures.database c.answering.invariant.held.0 c.answering.invariant.held.1;
       same = λ s. c.renew.ensures.same (c.answering.invariant.stays s) ∙ c.answering.invariant.same s;
@@ -101,7 +101,7 @@ answering-preserved g c =
       lines = λ t. one_more c.args.form t c.answering.counter c.answering.is_first _ _ _ _ _ _ c.in-Some.device.items (answer_text c.args.form c.answering.is_first c.in-Some.device.items t) line fits refl tt (c.answering.invariant.lines t);
       so_far = λ s t is.
           let same = c.bytes.ensures ∙ c.renew.ensures.same (c.answering.invariant.stays s) ∙ c.answering.invariant.same s in
-          let tree = c.reopen.ensures t (subst (λ (b : List ℕ). IsDatabase b t) (sym same) is) in
+          let tree = c.reopen-db.ensures t (subst (λ (b : List ℕ). IsDatabase b t) (sym same) is) in
           one_more c.args.form t c.answering.counter c.answering.is_first _ _ _ _ _ _ c.in-Some.device.items c.deref-in-answering.result.now line fits
           (text ∙ ap (λ u. answer_text c.args.form c.answering.is_first c.in-Some.device.items u) tree) c.in_ok-write_text.ensures.took.whole (c.answering.invariant.so_far s t is);
       same_input = c.in_ok-device.ensures.failures ∙ c.answering.invariant.same_input;
