@@ -6,7 +6,7 @@ use Rattle.hwdb_query.specs.Internal.Descents.{kids_of, Passes, IsAt, IsSeen, St
 use Rattle.hwdb_query.specs.declared.descent.OpenNode.{OpenNode}
 use Rattle.hwdb_query.proofs.PartLemmas.{kid_next}
 use Rattle.hwdb_query.proofs.StackLemmas.{passes_on, passes_all}
-use Rattle.hwdb_query.proofs.descent.OpenNode.next_live.Goals as goal
+use Rattle.hwdb_query.proofs.descent.OpenNode.next_seen.Goals as goal
 
 pub returns-in-Some-clause-found : goal.returns-in-Some-clause-found
 returns-in-Some-clause-found c =
