@@ -1,4 +1,4 @@
-use Rattle.std.proofs.Common.{◌≡◌, ◌∙◌, ap, sym, subst, ◌+◌, ◌++◌, append-nil, [], List, ℕ, filter, length, reverse, arith, true}
+use Rattle.std.proofs.Common.{◌≡◌, ◌∙◌, ap, refl, sym, subst, ◌+◌, ◌++◌, append-nil, [], List, ℕ, filter, length, reverse, arith, true}
 use Rattle.hwdb_pattern.specs.Views.{StandsFor}
 use Rattle.hwdb_spec.specs.Tree.{IsLive, is_live, prefix_of, values_of, live_under}
 use Rattle.hwdb_spec.specs.Answers.{is_wanted}
@@ -114,9 +114,11 @@ returns-clause-room g c =
     let start = c.requires.entered in
     omega (arith, rest, counted, start)
 
-pub enter-requires-clause-stands : goal.enter-requires-clause-stands
-enter-requires-clause-stands g c =
+pub enter-requires : goal.enter-requires
+enter-requires g c =
     let path = c.extend_from_slice.new.self.items in
     let tail = c.args.self.now.path.tail.now in
+    let start = c.requires.entered in
     let whole : path ++ tail ≡ path = ap (λ (t : List ℕ). path ++ t) c.requires.tail ∙ append-nil path in
-    subst (StandsFor c.in_ok-reach.reach) (sym whole) (subst (StandsFor c.in_ok-reach.reach) c.deref.ensures.value (c.in_ok-reach.ensures.path [] c.start-start.ensures.path))
+    let stands = subst (StandsFor c.in_ok-reach.reach) c.deref.ensures.value (c.in_ok-reach.ensures.path [] c.start-start.ensures.path) in
+    λ lifetimes. ((refl, tt), (subst (StandsFor c.in_ok-reach.reach) (sym whole) stands, omega (arith, start)))
