@@ -79,9 +79,13 @@ fn job_of(
     let color = shared_text(alloc, top, inner, "color")?;
     let usr = has_flag(inner, "usr") || has_flag(top, "usr");
     let strict = has_flag(inner, "strict") || has_flag(top, "strict");
+    let text = has_flag(inner, "text");
+    let reload = has_flag(inner, "reload");
     Ok(Job {
         usr,
         strict,
+        text,
+        reload,
         root,
         color,
         task,

@@ -4,7 +4,7 @@ ghost use Rattle.hwdb_spec.specs.Differences.{differences};
 ghost use Rattle.hwdb_spec.specs.Folders.{same};
 ghost use Rattle.hwdb_spec.specs.Tree.{IsTree, Map, map_of};
 ghost use Rattle.hwdb_spec.specs.Written.{IsDatabaseOf};
-ghost use Rattle.hwdb_spec.specs.Status.{IsState, IsStateOf, stale_by, status_of_state};
+ghost use Rattle.hwdb_spec.specs.Status.{IsState, IsStateOf, stale_by};
 ghost use Rattle.hwdb_inspect.specs.Views.{changes_of, state_shown};
 ghost use Rattle.hwdb_inspect.specs.Internal.Counting.{first_kept};
 ghost use Rattle.hwdb_inspect.specs.Internal.Pairing.{to_tell};
@@ -146,16 +146,5 @@ pub fn state_of(alloc: Global, asked: Option<&[u8]>, made: &[u8]) -> Result<Stat
     match asked {
         Some(bytes) => state_of_bytes(alloc, bytes, made),
         None => Ok(State::Missing),
-    }
-}
-
-/// The status of a state: 0 if it is fresh, else 1.
-pub fn status_of(state: &State) -> u8
-    ensures is { result ≡ status_of_state (state_shown state.now) }
-    ensures small { result ≤ 1 }
-{
-    match state {
-        State::Fresh => 0,
-        _ => 1,
     }
 }

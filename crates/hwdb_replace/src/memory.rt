@@ -154,7 +154,11 @@ impl<'a> PathState<'a> {
 }
 
 /// What these steps make of a path: what stands there, and what a crash may leave.
-pub fn state_of<'a>(alloc: Global, steps: &'a [Step], path: &[u8]) -> Result<PathState<'a>, AllocError>
+pub fn state_of<'a>(
+    alloc: Global,
+    steps: &'a [Step],
+    path: &[u8],
+) -> Result<PathState<'a>, AllocError>
     ensures { IfOk result (λ s. lent s ≡ state_of path.now begin steps.now) }
 {
     let mut state = PathState {

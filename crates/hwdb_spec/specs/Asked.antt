@@ -56,14 +56,14 @@ pub record AreHeld (old_path new_path : List ℕ) (contents : Contents) (old new
   pub old_within : length old ≤ max_file
   pub new_within : length new ≤ max_file
 
--- the text is what changed from the one database to the other, and the status says whether something did
-pub record IsCompared (old_path new_path : List ℕ) (contents : Contents) (text : List ℕ) (status : ℕ) : Type 0 where
+-- the text is what the trees of both databases give, and the status says whether they differ so
+pub record IsCompared (of : (old new : Tree) → List ℕ) (differ : (old new : Tree) → Bool) (old_path new_path : List ℕ) (contents : Contents) (text : List ℕ) (status : ℕ) : Type 0 where
   pub old : List ℕ
   pub new : List ℕ
   pub held : AreHeld old_path new_path contents old new
-  pub is : IsDiffText old new text
+  pub is : IsDiffText of old new text
   pub answer : Bool
-  pub differ : IsDifferent old new answer
+  pub differs : IsDifferent differ old new answer
   pub says : status ≡ (if answer then 1 else 0)
 
 -- the text is what the database that is asked gives

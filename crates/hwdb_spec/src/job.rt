@@ -93,6 +93,10 @@ pub enum Task {
         old: String,
         /// The path of the new one.
         new: String,
+        /// The paths of files that name devices; none if assignments are compared.
+        devices: Vec<String>,
+        /// Whether as JSON.
+        json: bool,
     },
     /// Say whether a file is a database that can be read, and how much is in it.
     Verify {
@@ -108,6 +112,8 @@ pub enum Task {
     Status {
         /// Whether as JSON.
         json: bool,
+        /// Whether the status alone says it, as that of `update --check`.
+        quiet: bool,
     },
 }
 
@@ -118,6 +124,10 @@ pub struct Job {
     pub usr: bool,
     /// Whether `update` ends with status 1 if a line had a fault, and `check` if there is a warning.
     pub strict: bool,
+    /// Whether the text files of both folders are asked, as `update` would compile them now.
+    pub text: bool,
+    /// Whether a database that is replaced between two lines of standard input is read anew.
+    pub reload: bool,
     /// What to put in front of the paths of folders and databases.
     pub root: Option<String>,
     /// When the output is coloured, as it was given.

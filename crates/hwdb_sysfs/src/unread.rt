@@ -39,7 +39,11 @@ fn is_nowhere(cause: Cause) -> bool
 }
 
 /// What can't be read at a path for this cause: nothing, if the cause says that it leads nowhere.
-fn unless_nowhere(alloc: Global, path: &[u8], cause: Cause) -> Result<Option<UnreadPath>, AllocError>
+fn unless_nowhere(
+    alloc: Global,
+    path: &[u8],
+    cause: Cause,
+) -> Result<Option<UnreadPath>, AllocError>
     ensures path { IfOk result (λ found. option_map (λ u. u.path.items) found
         ≡ (if is_nowhere cause then None else Some path.now)) }
     ensures cause { IfOk result (λ found. IfSome found (λ u. u.cause ≡ cause)) }

@@ -68,7 +68,7 @@ IsOneError (InWords text) (InWords text2) = IsOneText text.items text2.items
 IsOneError refusal refusal2 = ⊥
 
 -- The task leaves out no file that can't be read, and prints its answer at once. It isn't `device`: what is read of sysfs is no file of
--- the law. Nor is it `status`.
+-- the law.
 abbrev pub IsCovered : Task → Type 0
 IsCovered (Update verbose skip) = skip ≡ false
 IsCovered (Query devices json) = is_input (map string_bytes devices.items) ≡ false
@@ -81,7 +81,7 @@ IsCovered (Test files database json) = Unit {0}
 IsCovered (Diff old new) = Unit {0}
 IsCovered (Verify database) = Unit {0}
 IsCovered (Dump database) = Unit {0}
-IsCovered (Status json) = ⊥
+IsCovered (Status json quiet) = Unit {0}
 IsCovered (Device path strings json pattern) = ⊥
 
 -- it answers devices of standard input, each as it comes
@@ -130,6 +130,7 @@ MayRead (Ask file device) root path = path ≡ string_bytes file
 MayRead (Diff old new) root path = (path ≡ string_bytes old) ⊎ (path ≡ string_bytes new)
 MayRead (Verify database) root path = IsOfDatabase (option_map string_bytes database) root path
 MayRead (Dump database) root path = IsOfDatabase (option_map string_bytes database) root path
+MayRead (Status json quiet) root path = IsOfFolders root path ⊎ IsOfDatabase None root path
 MayRead task root path = IsOfDatabase None root path
 
 -- no reading that the task does may fail
