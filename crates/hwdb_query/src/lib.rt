@@ -14,6 +14,7 @@
 //! | `spelling` | the parts of a position's text |
 //! | `hit_page` | the one list of hits of a cursor, never longer than its page |
 //! | `descent` | one descent of the tree along the live paths |
+//! | `among` | the effective list of answers that were collected elsewhere |
 //! | `collector` | what takes the assignments of a descent: a page, the last hits, or all hits |
 //! | `next_page` | a page that is filled |
 //! | `refill` | one filling of a page: the least hits after a position |
@@ -30,6 +31,7 @@
 #![tactic(auto)]
 
 mod all_hits;
+mod among;
 mod answer;
 mod by_key;
 mod collector;
@@ -48,6 +50,7 @@ mod refill;
 mod spelling;
 mod start;
 
+pub use among::effective_among;
 pub use answer::{Explained, StoredAssignment};
 pub use cursors::Cursor;
 pub use explanations::explain;
