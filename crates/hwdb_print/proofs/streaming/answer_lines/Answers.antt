@@ -84,7 +84,7 @@ returns-in_err-write_text-clause-before g c = λ stays.
     let same = c.bytes.ensures ∙ c.renew.ensures.same (c.answering.invariant.stays stays) ∙ c.answering.invariant.same stays in
     let tree = c.reopen.ensures t (subst (λ (b : List ℕ). IsDatabase b t) (sym same) is) in
     let text = c.deref-in-answering.ensures.value ∙ c.in_ok-text.ensures ∙ ap (λ d. answer_text c.args.form c.answering.is_first d c.reopen.result) c.deref.ensures.value
-        ∙ ap (λ u. answer_text c.args.form c.answering.is_first c.in-Some.device.items u) tree in
+    ∙ ap (λ u. answer_text c.args.form c.answering.is_first c.in-Some.device.items u) tree in
     handed_on c.from_residual-in_err-write_text.result Write
     (λ e. IfSome (g.I.Source.left c.args.input.now) (λ text. IsPrintedBefore e Is (devices_of text) (g.O.Sink.taken c.args.out.now) (g.O.Sink.taken c.write_text.new.sink))) c.from_residual-in_err-write_text.ensures.1
     (write_before c.args.form t c.answering.counter c.answering.is_first Is (λ lines. record { tree = t; database = is; is = refl }) _ _ _ _ _ _ c.in-Some.device.items c.deref-in-answering.result.now (omega (arith, c.answering-test.true)) line fits text c.in_err-write_text.ensures.cut_short.prefix (c.answering.invariant.so_far stays t is))
