@@ -44,7 +44,11 @@ pub fn answer_input<D: System, I: Source, O: Sink>(
     ensures hands_on { HandsOn (O.is_flushed out.old) (O.is_flushed out.new)
         (O.failures out.old) (O.failures out.new) }
 {
-    let watch = if reload { Some(Watch::new(alloc, root, system)?) } else { None };
+    let watch = if reload {
+        Some(Watch::new(alloc, root, system)?)
+    } else {
+        None
+    };
     let FoundDatabase { path, bytes } = asked(alloc, root, system)?;
     let mut database = Asked {
         alloc,

@@ -33,7 +33,10 @@ impl Watch {
 
     /// What is there now. Two calls of the system.
     fn identities<D: System>(&self, system: &D) -> Identities {
-        (system.identity(self.etc.as_str()), system.identity(self.usr.as_str()))
+        (
+            system.identity(self.etc.as_str()),
+            system.identity(self.usr.as_str()),
+        )
     }
 }
 
