@@ -82,15 +82,9 @@ returns-in_err-write_text-clause-before g c = λ stays.
     let line = some_of c.in_ok-device.field-0 c.in-Some.device _ c.in-Some.is c.in_ok-device.ensures.line in
     let fits : length c.in-Some.device.items ≤ max_file = omega (arith, c.in-Some.device.ok.0, some_of c.in_ok-device.field-0 c.in-Some.device _ c.in-Some.is c.in_ok-device.ensures.fits) in
     let same = c.bytes.ensures ∙ c.renew.ensures.same (c.answering.invariant.stays stays) ∙ c.answering.invariant.same stays in
-<<<<<<< HEAD
     let tree = c.reopen-db.ensures t (subst (λ (b : List ℕ). IsDatabase b t) (sym same) is) in
     let text = c.deref-in-answering.ensures.value ∙ c.in_ok-text.ensures ∙ ap (λ d. answer_text c.args.form c.answering.is_first d c.reopen-db.result) c.deref.ensures.value
-        ∙ ap (λ u. answer_text c.args.form c.answering.is_first c.in-Some.device.items u) tree in
-=======
-    let tree = c.reopen.ensures t (subst (λ (b : List ℕ). IsDatabase b t) (sym same) is) in
-    let text = c.deref-in-answering.ensures.value ∙ c.in_ok-text.ensures ∙ ap (λ d. answer_text c.args.form c.answering.is_first d c.reopen.result) c.deref.ensures.value
     ∙ ap (λ u. answer_text c.args.form c.answering.is_first c.in-Some.device.items u) tree in
->>>>>>> a2ad2351770f37a5413e292b1a2a40188dc20ac9
     handed_on c.from_residual-in_err-write_text.result Write
     (λ e. IfSome (g.I.Source.left c.args.input.now) (λ text. IsPrintedBefore e Is (devices_of text) (g.O.Sink.taken c.args.out.now) (g.O.Sink.taken c.write_text.new.sink))) c.from_residual-in_err-write_text.ensures.1
     (write_before c.args.form t c.answering.counter c.answering.is_first Is (λ lines. record { tree = t; database = is; is = refl }) _ _ _ _ _ _ c.in-Some.device.items c.deref-in-answering.result.now (omega (arith, c.answering-test.true)) line fits text c.in_err-write_text.ensures.cut_short.prefix (c.answering.invariant.so_far stays t is))
