@@ -8,8 +8,8 @@ ghost use Rattle.hwdb_cli.specs.Drafts.{IsArgument, IsDraft};
 use clap::{Arg, ArgAction, Command};
 use std::alloc::{AllocError, Global};
 
-/// A command, or that memory was refused while it was made. What is added to one that wasn't made is let go: so
-/// a command is written down without a way out behind each of its parts.
+/// A command, or that memory was refused while it was made. What is added to one that wasn't made is let go. So a
+/// command is written down without a way out after each of its parts.
 pub type Draft<'a> = Result<Command<'a>, AllocError>;
 
 /// The command with one more argument.
@@ -116,7 +116,8 @@ pub fn json_option<'a>(alloc: Global) -> Arg<'a>
 pub fn text_option<'a>(alloc: Global) -> Arg<'a>
     ensures { IsArgument text_rule result }
 {
-    let help = "Ask the text files of both folders, as update would compile them now, in place of a database";
+    let help =
+        "Ask the text files of both folders, as update would compile them now, in place of a database";
     flag(alloc, "text", help)
 }
 
@@ -136,7 +137,7 @@ pub fn database_argument<'a>(alloc: Global) -> Arg<'a>
     word(alloc, "DATABASE", help, ArgAction::Set)
 }
 
-/// A command with the options that stand before and behind its word; help begins with `about` and ends with `after`.
+/// A command with the options that are before and after its word; help begins with `about` and ends with `after`.
 pub fn shared<'a>(alloc: Global, name: &'a str, about: &'a str, after: &'a str) -> Draft<'a>
     ensures { IsDraft (with_shared (new_app name.entry.now)) result }
 {

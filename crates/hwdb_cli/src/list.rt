@@ -6,7 +6,9 @@ ghost use Rattle.hwdb_cli.specs.Drafts.{IsArgument, IsDraft};
 ghost use Rattle.hwdb_spec.specs.Jobs.{HasValue, IsLimit, IsNumber, IsTask};
 ghost use Rattle.hwdb_spec.specs.CommandLine.{limit_rule, list_app};
 
-use crate::drafts::{Draft, device_argument, json_option, option, shared, text_option, with_argument};
+use crate::drafts::{
+    Draft, device_argument, json_option, option, shared, text_option, with_argument,
+};
 use crate::matched::{copied, has_flag, text_of, value_of};
 use clap::builder::ValueParser;
 use clap::{Arg, ArgMatches};

@@ -16,7 +16,8 @@ use Rattle.hwdb_spec.specs.declared.job.Task.{Task}
 use Rattle.hwdb_spec.specs.declared.job.Job.{Job}
 use Rattle.hwdb_spec.specs.CheckedFiles.{AreCheckedFiles, IsChecked}
 use Rattle.hwdb_spec.specs.Status.{IsMade, IsStatus}
-use Rattle.hwdb_spec.specs.Asked.{IsCompared, IsDumped, IsPrinted, IsAnswered, IsListFrom}
+use Rattle.hwdb_spec.specs.Asked.{IsDumped, IsPrinted, IsAnswered, IsListFrom}
+use Rattle.hwdb_spec.specs.ComparedDatabases.{IsDiffed}
 use Rattle.hwdb_spec.specs.Databases.{IsSummary}
 use Rattle.hwdb_spec.specs.NearAsked.{IsNear, near_form, near_limit}
 use Rattle.hwdb_spec.specs.DeviceAsked.{IsDevicePrinted, device_form}
@@ -37,7 +38,7 @@ root_of job = option_map_or string_bytes job.root []
 -- the task looks for files below the root: it is one that isn't told by name which it reads
 abbrev pub looks_below_root : Task → Bool
 looks_below_root (Ask file device) = false
-looks_below_root (Diff old_path new_path) = false
+looks_below_root (Diff old_path new_path devices json) = false
 looks_below_root (Check files allowed json) = length files.items == 0
 looks_below_root (Near files device limit json) = length files.items == 0
 looks_below_root (Verify database) = not (is_some database)
@@ -63,13 +64,13 @@ IsAnswerOf (Near paths device limit json) root strict input files status texts =
     (status ≡ 0) × OnOut (IsNear (map string_bytes paths.items) root (near_form json (string_bytes device) (near_limit limit)) input files) texts
 IsAnswerOf (Test paths database json) root strict input files status texts =
     OnOut (λ text. IsTested json (map string_bytes paths.items) (option_map string_bytes database) root input files text status) texts
-IsAnswerOf (Diff old_path new_path) root strict input files status texts =
-    OnOut (λ text. IsCompared (string_bytes old_path) (string_bytes new_path) files text status) texts
+IsAnswerOf (Diff old_path new_path devices json) root strict input files status texts =
+    OnOut (λ text. IsDiffed json (map string_bytes devices.items) (string_bytes old_path) (string_bytes new_path) input files text status) texts
 IsAnswerOf (Verify database) root strict input files status texts =
     (status ≡ 0) × OnOut (IsPrinted (option_map string_bytes database) root IsSummary files) texts
 IsAnswerOf (Dump database) root strict input files status texts =
     (status ≡ 0) × OnOut (IsDumped (option_map string_bytes database) root files) texts
-IsAnswerOf (Status json) root strict input files status texts = OnOut (λ text. IsStatus root json files text status) texts
+IsAnswerOf (Status json quiet) root strict input files status texts = OnOut (λ text. IsStatus root json quiet files text status) texts
 
 -- what `device` prints in this form, and its status
 abbrev pub IsDeviceAnswer : DeviceForm → (root : List ℕ) (given : Option (List ℕ)) → Sight → Contents → (status : ℕ) → Texts → Type 0
@@ -141,6 +142,7 @@ reads_input (Ask file device) = is_dash (string_bytes file)
 reads_input (Check files allowed json) = any_dash (map string_bytes files.items)
 reads_input (Near files device limit json) = any_dash (map string_bytes files.items)
 reads_input (Test files database json) = any_dash (map string_bytes files.items)
+reads_input (Diff old_path new_path devices json) = any_dash (map string_bytes devices.items)
 reads_input _ = false
 
 -- the task is an update

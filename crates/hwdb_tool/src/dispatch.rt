@@ -34,8 +34,8 @@ use std::alloc::Global;
 
 /// Does what the words say, and returns the status. The first word is the program's name.
 ///
-/// The status is 0 on success. It is 1 if `check`, `test` or `diff` finds something, the database of `status` isn't fresh, or
-/// `--strict` says so. After an error it is 1 as well, and 2 for `diff`; the error's line goes to `err`.
+/// The status is 0 on success. It is 1 if `check`, `test` or `diff` finds something, the database of `status` isn't fresh or hides
+/// one, or `--strict` says so. After an error it is 1 as well, and 2 for `diff`; the error's line goes to `err`.
 ///
 /// Words that the command doesn't take, and that ask for no help, are an error. If the reader of `out` went away the status is
 /// 0, and nothing is said. Only a command that is given `-` reads of `input`.
@@ -325,7 +325,9 @@ pub fn run<D: Machine, I: Source, O: Sink, E: Sink>(
         Task::Diff { old, new } => {
             printed(diff(alloc, old.as_str(), new.as_str(), system), out, err)
         }
-        Task::Status { json } => printed(status(alloc, root, *json, system), out, err),
+        Task::Status { json, quiet } => {
+            printed(status(alloc, root, *json, *quiet, system), out, err)
+        }
         Task::Verify { database } => {
             printed(verify(alloc, root, text_of(database), system), out, err)
         }
