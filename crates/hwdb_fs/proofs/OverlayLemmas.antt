@@ -239,14 +239,6 @@ pub kept_value : {T E : Type 0} (P Q : T → Type 0) (listed result : Result T E
 kept_value P Q listed (Ok x) f same p = f x (subst (λ l. IfOk l P) same p)
 kept_value P Q listed (Err e) f same p = tt
 
-pub each_value : {T E : Type 0} (P Q : T → Type 0) (r : Result T E) → ((x : T) → P x → Q x) → IfOk r P → IfOk r Q
-each_value P Q (Ok x) f p = f x p
-each_value P Q (Err x) f p = tt
-
-pub each_error : {T E : Type 0} (P Q : E → Type 0) (r : Result T E) → ((e : E) → P e → Q e) → IfErr r P → IfErr r Q
-each_error P Q (Ok x) f p = tt
-each_error P Q (Err x) f p = f x p
-
 pub both_errors : {T E : Type 0} (P Q R : E → Type 0) (r : Result T E) → ((e : E) → P e → Q e → R e) → IfErr r P → IfErr r Q → IfErr r R
 both_errors P Q R (Ok x) f p q = tt
 both_errors P Q R (Err x) f p q = f x p q

@@ -56,10 +56,12 @@ fn listed_or_none<T>(listed: Result<T, Refusal>) -> Result<T, Refusal>
 impl<'a, D> Overlay<'a, D> {
     /// The file system with these bytes as the database of `/etc` below the root.
     pub fn new(system: &'a D, root: &'a str, bytes: &'a [u8]) -> Overlay<'a, D>
-        ensures system { result.system ≡ system.entry }
-        ensures root { result.root ≡ root.entry }
-        ensures bytes { result.bytes ≡ bytes.entry }
-        ensures failed { result.failed ≡ 0 }
+        ensures { result ≡ record {
+          system = system.entry;
+          root = root.entry;
+          bytes = bytes.entry;
+          failed = 0;
+        } }
     {
         Overlay {
             system,

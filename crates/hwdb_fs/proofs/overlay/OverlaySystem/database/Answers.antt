@@ -1,6 +1,7 @@
 use Rattle.std.proofs.Common.{ap, sym, ◌∙◌}
 use Rattle.std.specs.Prelude.{Some}
-use Rattle.hwdb_fs.proofs.OverlayLemmas.{both_errors, copied_plain, copied_reason, copied_unread, each_error, each_value, looking_reason, same_at, shown, there_at, unread_over}
+use Rattle.hwdb_spec.specs.Lemmas.Calls.{each_error, each_value}
+use Rattle.hwdb_fs.proofs.OverlayLemmas.{both_errors, copied_plain, copied_reason, copied_unread, looking_reason, same_at, there_at, unread_over}
 use Rattle.hwdb_fs.proofs.overlay.OverlaySystem.database.Goals as goal
 
 pub returns-in-Ok-clause-bytes : goal.returns-in-Ok-clause-bytes

@@ -1,6 +1,7 @@
 use Rattle.std.proofs.Common.{ap, map, string_bytes, sym, ◌∙◌}
 use Rattle.std.specs.Prelude.{is_some, option_map}
-use Rattle.hwdb_fs.proofs.OverlayLemmas.{both_errors, each_error, each_value, folder_over, listing_reason, there_at, unlisted_over}
+use Rattle.hwdb_spec.specs.Lemmas.Calls.{each_error, each_value}
+use Rattle.hwdb_fs.proofs.OverlayLemmas.{both_errors, folder_over, listing_reason, there_at, unlisted_over}
 use Rattle.hwdb_fs.proofs.overlay.OverlaySystem.folder_names.Goals as goal
 
 pub returns-then-is_database-clause-names : goal.returns-then-is_database-clause-names

@@ -1,7 +1,8 @@
 use Rattle.std.proofs.Common.{ap, sym, ◌∙◌}
 use Rattle.std.specs.Prelude.{Some}
 use Rattle.hwdb_spec.specs.Refusals.{IsUnreadable}
-use Rattle.hwdb_fs.proofs.OverlayLemmas.{both_errors, copied_plain, copied_reason, copied_unread, each_error, each_value, reading_reason, same_at, shown, there_at, unread_over}
+use Rattle.hwdb_spec.specs.Lemmas.Calls.{each_error, each_value}
+use Rattle.hwdb_fs.proofs.OverlayLemmas.{both_errors, copied_plain, copied_reason, copied_unread, reading_reason, same_at, shown, there_at, unread_over}
 use Rattle.hwdb_fs.proofs.overlay.OverlaySystem.input.Goals as goal
 
 pub returns-then-is_database-clause-bytes : goal.returns-then-is_database-clause-bytes

@@ -1,6 +1,7 @@
 use Rattle.std.proofs.Common.{ap, sym, ◌∙◌}
 use Rattle.std.specs.Prelude.{is_some}
-use Rattle.hwdb_fs.proofs.OverlayLemmas.{each_value, same_at, there_at}
+use Rattle.hwdb_spec.specs.Lemmas.Calls.{each_value}
+use Rattle.hwdb_fs.proofs.OverlayLemmas.{same_at, there_at}
 use Rattle.hwdb_fs.proofs.overlay.OverlaySystem.is_there.Goals as goal
 
 pub returns-then-is_database : goal.returns-then-is_database

@@ -1,5 +1,6 @@
 use Rattle.std.proofs.Common.{map, string_bytes, sym, ◌∙◌}
-use Rattle.hwdb_fs.proofs.OverlayLemmas.{both_errors, each_value, kept_value, listing_reason, names_over}
+use Rattle.hwdb_spec.specs.Lemmas.Calls.{each_value}
+use Rattle.hwdb_fs.proofs.OverlayLemmas.{both_errors, kept_value, listing_reason, names_over}
 use Rattle.hwdb_fs.proofs.overlay.OverlaySystem.names.Goals as goal
 
 pub returns-then-is_database-clause-names : goal.returns-then-is_database-clause-names
