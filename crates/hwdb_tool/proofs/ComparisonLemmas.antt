@@ -1,7 +1,7 @@
 -- What `diff` reads, and what it refuses.
 use Rattle.std.proofs.Common.{◌≡◌, ◌≢◌, ◌∷◌, ap, inr, refl, sym, ℕ, Bool, List, [], map, Option, None, Some, Result, Ok, Err, IfErr, IfOk, flat_map}
 use Rattle.hwdb_lint.specs.Checks.{source_of}
-use Rattle.hwdb_lint.specs.declared.checks.TextFile.{TextFile}
+use Rattle.hwdb_lint.specs.declared.files.TextFile.{TextFile}
 use Rattle.hwdb_spec.specs.Asked.{IsCompared}
 use Rattle.hwdb_spec.specs.CheckedFiles.{AreGivenFiles}
 use Rattle.hwdb_spec.specs.ComparedDatabases.{HasDiffReason, IsDiffed, IsDiffRefused, IsPairRefused}
