@@ -35,12 +35,12 @@ pub enum State {
 
 /// How many changes were met, and the line of the first.
 #[derive(Drop)]
-struct Tally {
+struct ChangeCount {
     changes: usize,
     first: Vec<u8>,
 }
 
-impl Tally {
+impl ChangeCount {
     /// Counts what happened at a pattern and key. What is in `line` before is dropped. The only error, here and below, is
     /// `AllocError`.
     fn count(&mut self, line: &mut Vec<u8>, pair: Pair<'_, '_>) -> Result<(), AllocError>
@@ -67,14 +67,14 @@ fn counted(alloc: Global, pairs: Pairs<'_, '_>) -> Result<State, AllocError>
 {
     let mut left = pairs;
     let mut line = Vec::new(alloc);
-    let mut tally = Tally {
+    let mut tally = ChangeCount {
         changes: 0,
         first: Vec::new(alloc),
     };
     'pairs: while let Some(pair) = left.next() {
         tally.count(&mut line, pair)?;
     }
-    let Tally { changes, first } = tally;
+    let ChangeCount { changes, first } = tally;
     Ok(State::Stale { changes, first })
 }
 

@@ -22,8 +22,8 @@ use std::marker::Model;
 /// The closed part ends before the first `[` that begins no closed bracket in the path. Bytes from there on are kept,
 /// since a later `]` may still close that bracket.
 ///
-/// It holds the kept bytes, and at most one byte for each prefix from the first one that is matched on, or a list of 32
-/// numbers. Before the path's first star, and right after a star, it holds no memory but the kept bytes.
+/// It holds the kept bytes. It also holds a list of 32 numbers, or at most one byte for each prefix from the first one
+/// that is matched on. Before the path's first star, and right after a star, it holds no memory but the kept bytes.
 #[derive(Drop)]
 pub struct Reach<'d> {
     device: &'d [u8],

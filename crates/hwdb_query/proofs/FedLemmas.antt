@@ -7,8 +7,9 @@ use Rattle.hwdb_pattern.specs.Views.{Reached}
 use Rattle.hwdb_spec.specs.Tree.{Tree, prefix_of, IsLive}
 use Rattle.hwdb_query.specs.Internal.Descents.{IsSeen, IsFed}
 use Rattle.hwdb_query.proofs.DeadPathLemmas.{dead_path}
-use Rattle.hwdb_query.proofs.StackLemmas.{lost_at_path, take_front}
+use Rattle.hwdb_query.proofs.StackLemmas.{lost_at_path}
 use Rattle.hwdb_query.proofs.StepLemmas.{dead_is}
+use Rattle.hwdb_query.specs.Lemmas.Stacks.{take_front}
 
 front_and_rest : (n : ℕ) (xs : List ℕ) → take n xs ++ drop (length (take n xs)) xs ≡ xs
 front_and_rest zero xs = refl

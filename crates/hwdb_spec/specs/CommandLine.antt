@@ -54,6 +54,10 @@ test_files_rule = record (new_rule (codes "FILE")) { required = true; action = S
 abbrev pub database_option_rule : Rule
 database_option_rule = record (new_rule (codes "database")) { value_names = 1; long = Some (codes "database"); action = Some Set }
 
+-- files that name devices, or none
+abbrev pub devices_option_rule : Rule
+devices_option_rule = record (new_rule (codes "devices")) { value_names = 1; long = Some (codes "devices"); action = Some Append }
+
 -- a database, or none
 abbrev pub database_rule : Rule
 database_rule = record (new_rule (codes "DATABASE")) { action = Some Set }
@@ -86,6 +90,14 @@ allow_rule = record (new_rule (codes "allow")) { value_names = 1; long = Some (c
 abbrev pub json_rule : Rule
 json_rule = record (new_rule (codes "json")) { long = Some (codes "json"); action = Some SetTrue }
 
+-- `--text`
+abbrev pub text_rule : Rule
+text_rule = record (new_rule (codes "text")) { long = Some (codes "text"); action = Some SetTrue }
+
+-- a database that was replaced is read anew
+abbrev pub reload_rule : Rule
+reload_rule = record (new_rule (codes "reload")) { long = Some (codes "reload"); action = Some SetTrue }
+
 -- `--strings`
 abbrev pub strings_rule : Rule
 strings_rule = record (new_rule (codes "strings")) { long = Some (codes "strings"); action = Some SetTrue }
@@ -112,11 +124,11 @@ update_app = with_rule (with_rule (with_rule (with_shared (new_app (codes "updat
 
 -- `query`
 abbrev pub query_app : App
-query_app = with_rule (with_rule (with_shared (new_app (codes "query"))) json_rule) devices_rule
+query_app = with_rule (with_rule (with_rule (with_rule (with_shared (new_app (codes "query"))) text_rule) reload_rule) json_rule) devices_rule
 
 -- `explain`
 abbrev pub explain_app : App
-explain_app = with_rule (with_rule (with_shared (new_app (codes "explain"))) json_rule) device_rule
+explain_app = with_rule (with_rule (with_rule (with_shared (new_app (codes "explain"))) text_rule) json_rule) device_rule
 
 -- `ask`
 abbrev pub ask_app : App
@@ -124,15 +136,15 @@ ask_app = with_rule (with_rule (with_shared (new_app (codes "ask"))) file_rule) 
 
 -- `list`
 abbrev pub list_app : App
-list_app = with_rule (with_rule (with_range (with_shared (new_app (codes "list")))) json_rule) device_rule
+list_app = with_rule (with_rule (with_rule (with_range (with_shared (new_app (codes "list")))) text_rule) json_rule) device_rule
 
 -- its last word is the device, and those before it are files
 abbrev pub near_app : App
-near_app = with_rule (with_rule (with_rule (with_shared (new_app (codes "near"))) limit_rule) json_rule) devices_rule
+near_app = with_rule (with_rule (with_rule (with_rule (with_shared (new_app (codes "near"))) limit_rule) text_rule) json_rule) devices_rule
 
 -- `device`
 abbrev pub device_app : App
-device_app = with_rule (with_rule (with_rule (with_rule (with_shared (new_app (codes "device"))) strings_rule) json_rule) pattern_rule) path_rule
+device_app = with_rule (with_rule (with_rule (with_rule (with_rule (with_shared (new_app (codes "device"))) text_rule) strings_rule) json_rule) pattern_rule) path_rule
 
 -- `check`
 abbrev pub check_app : App
@@ -140,19 +152,19 @@ check_app = with_rule (with_rule (with_rule (with_shared (new_app (codes "check"
 
 -- `test`
 abbrev pub test_app : App
-test_app = with_rule (with_rule (with_rule (with_shared (new_app (codes "test"))) database_option_rule) json_rule) test_files_rule
+test_app = with_rule (with_rule (with_rule (with_rule (with_shared (new_app (codes "test"))) database_option_rule) text_rule) json_rule) test_files_rule
 
 -- `diff`
 abbrev pub diff_app : App
-diff_app = with_rule (with_rule (with_shared (new_app (codes "diff"))) old_database_rule) new_database_rule
+diff_app = with_rule (with_rule (with_rule (with_rule (with_shared (new_app (codes "diff"))) devices_option_rule) json_rule) old_database_rule) new_database_rule
 
 -- `verify`
 abbrev pub verify_app : App
-verify_app = with_rule (with_shared (new_app (codes "verify"))) database_rule
+verify_app = with_rule (with_rule (with_shared (new_app (codes "verify"))) text_rule) database_rule
 
 -- `dump`
 abbrev pub dump_app : App
-dump_app = with_rule (with_shared (new_app (codes "dump"))) database_rule
+dump_app = with_rule (with_rule (with_shared (new_app (codes "dump"))) text_rule) database_rule
 
 -- `status`
 abbrev pub status_app : App

@@ -1,5 +1,5 @@
--- What `status` says: which database is asked, which one it hides, which text files are masked, and whether the asked one is what
--- the text files make. `update --check` has its status, and says nothing. Both commands and their form are our choice.
+-- What `status` says: which database is asked, which one it hides, and which text files are masked. And whether the asked one is
+-- what the text files make. `update --check` has its status, and says nothing. Both commands and their form are our choice.
 use Rattle.std.specs.Prelude.{◌++◌, ◌-◌, ◌∷◌, ◌≡◌, ◌≢◌, ◌≤◌, Bool, IfSome, List, None, Option, Some, [], codes, false, flat_map, if◌then◌else◌, is_some, length, map, take, true, unwrap_or, ℕ}
 use Rattle.json.specs.Json.{Json, null}
 use Rattle.hwdb_spec.specs.Asked.{database_path}
@@ -36,8 +36,8 @@ first_text (change ∷ more) = change_text change
 abbrev pub stale_by : List Change → State
 stale_by changes = Stale (length changes) (first_text changes)
 
--- the state of some bytes: fresh exactly if they are the ones made; else by whether they are a database, and what changed from it
--- to the map of those
+-- The state of some bytes: fresh exactly if they are the ones made. Else it goes by whether they are a database, and what changed
+-- from it to the map of those.
 abbrev pub IsStateOf : (made : List ℕ) → Map → (bytes : List ℕ) → State → Type 0
 IsStateOf made m bytes Missing = ⊥
 IsStateOf made m bytes Fresh = bytes ≡ made
@@ -175,7 +175,7 @@ remedy_of root etc false = update_words false root
 abbrev pub masked_of : (listed : List (List ℕ)) → Choice → List (List ℕ)
 masked_of listed c = if masks listed c then (codes "/usr/lib/udev/hwdb.d/" ++ c.name) ∷ [] else []
 
--- the masked text files, where /usr/lib has these names
+-- the masked text files, if /usr/lib has these names
 abbrev pub masked_paths : (listed : List (List ℕ)) → List Choice → List (List ℕ)
 masked_paths listed chosen = flat_map (masked_of listed) chosen
 

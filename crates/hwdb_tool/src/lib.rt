@@ -28,7 +28,7 @@
 //! | `crash` | what a crash, a start and a query make of a run |
 //! | `failures` | what failed calls and faulty words leave undone |
 //!
-//! What the tasks ask of a file system is in `hwdb_fs`, what they print in `hwdb_print`, and their devices are in `hwdb_io`; the
+//! What the tasks ask of a file system is in `hwdb_fs`, what they print in `hwdb_print`, and their devices are in `hwdb_io`. The
 //! calls of these are here too.
 #![tactic(auto)]
 

@@ -3,10 +3,10 @@ use Rattle.std.proofs.lemmas.Result.{on_ok_weaker}
 use Rattle.json.specs.Json.{Json}
 use Rattle.json.specs.Token.{begin_object}
 use Rattle.hwdb_spec.specs.Json.{array_of, text_json}
-use Rattle.hwdb_inspect.proofs.JsonLemmas.{member_behind, members_behind, no_members_yet, object_closed}
 use Rattle.hwdb_spec.specs.Status.{maybe_json, remedy_members, stale_members, state_word}
 use Rattle.hwdb_inspect.specs.Views.{report_shown}
 use Rattle.hwdb_inspect.proofs.json_reports.put_report.Goals as goal
+use Rattle.hwdb_show.specs.Lemmas.Json.{member_behind, members_behind, no_members_yet, object_closed}
 
 pub returns-clause-tokens : goal.returns-clause-tokens
 returns-clause-tokens c =

@@ -24,10 +24,11 @@ use Rattle.hwdb_spec.specs.Undone.{AreUncheckable, IsAskRefused, IsCheckRefused}
 use Rattle.hwdb_spec.specs.TaskRefusals.{IsNotDone, IsTaskReason, Refuses}
 use Rattle.hwdb_tool.specs.Views.{texts_in}
 use Rattle.hwdb_tool.proofs.MomentLemmas.{leaves_more}
-use Rattle.hwdb_tool.proofs.ErrorLemmas.{both_errors, both_values, each_error, each_value}
+use Rattle.hwdb_tool.proofs.ErrorLemmas.{both_errors, both_values}
 use Rattle.hwdb_tool.proofs.GivenLemmas.{checked_write, write_reason}
 use Rattle.hwdb_tool.proofs.PrintingLemmas.{any_reason, listed_done, printed_refused, refused_or_printed}
 use Rattle.hwdb_tool.proofs.dispatch.run.Goals as goal
+use Rattle.hwdb_spec.specs.Lemmas.Calls.{each_error, each_value}
 
 pub returns-in-Update-clause-any_moment : goal.returns-in-Update-clause-any_moment
 returns-in-Update-clause-any_moment g c = λ tells.

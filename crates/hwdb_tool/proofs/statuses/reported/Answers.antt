@@ -5,9 +5,9 @@ use Rattle.hwdb_spec.specs.Status.{IsState, has_database, report_of}
 use Rattle.hwdb_spec.specs.Texts.{max_file}
 use Rattle.hwdb_inspect.specs.Views.{report_shown, state_shown}
 use Rattle.hwdb_spec.specs.StatusErrors.{IsAskedUnread}
-use Rattle.hwdb_tool.proofs.ErrorLemmas.{given_error}
 use Rattle.hwdb_tool.proofs.StatusLemmas.{asked_memory}
 use Rattle.hwdb_tool.proofs.statuses.reported.Goals as goal
+use Rattle.hwdb_spec.specs.Lemmas.Calls.{given_error}
 
 pub returns-clause-reported : goal.returns-clause-reported
 returns-clause-reported g c = λ tells m is.

@@ -11,10 +11,10 @@ use Rattle.hwdb_text.specs.Views.{choice_of}
 use Rattle.hwdb_tool.specs.Internal.{AreReadOf}
 use Rattle.hwdb_tool.specs.Statuses.{AreMadeOf}
 use Rattle.hwdb_tool.specs.Views.{texts_in}
-use Rattle.hwdb_tool.proofs.ErrorLemmas.{each_error, each_value, given_error}
 use Rattle.hwdb_tool.proofs.FolderLemmas.{all_read, are_read}
 use Rattle.hwdb_tool.proofs.StatusLemmas.{not_beside, not_made, reported_status}
 use Rattle.hwdb_tool.proofs.statuses.status.Goals as goal
+use Rattle.hwdb_spec.specs.Lemmas.Calls.{each_error, each_value, given_error}
 
 pub returns-clause-status : goal.returns-clause-status
 returns-clause-status g c = λ tells.

@@ -4,9 +4,9 @@ use Rattle.hwdb_spec.specs.Tree.{Tree}
 use Rattle.hwdb_reader.specs.Views.{children_of, tree_of, entered_tree}
 use Rattle.hwdb_query.specs.Internal.Descents.{kids_of, Passes, IsAt, IsSeen, StandsAt}
 use Rattle.hwdb_query.specs.declared.descent.OpenNode.{OpenNode}
-use Rattle.hwdb_query.proofs.PartLemmas.{kid_next}
 use Rattle.hwdb_query.proofs.StackLemmas.{passes_on, passes_all}
 use Rattle.hwdb_query.proofs.descent.OpenNode.next_live.Goals as goal
+use Rattle.hwdb_query.specs.Lemmas.Parts.{kid_next}
 
 pub returns-in-Some-clause-found : goal.returns-in-Some-clause-found
 returns-in-Some-clause-found c =

@@ -11,13 +11,14 @@ use Rattle.std.proofs.lemmas.List.Sorted.{Contains-permutation, IsPermutation-sy
 use Rattle.std.proofs.lemmas.Map.Keys.{IsDistinct-IsPermutation, IsDistinct-from_sorted}
 use Rattle.std.proofs.lemmas.List.Kept.{IsStrictlySortedBy-filter}
 use Rattle.hwdb_spec.specs.Assignment.{put, put_all, in_order}
+use Rattle.hwdb_spec.specs.Lemmas.Orders.{turned}
 
 -- it is one of the list
 abbrev pub Holds : {A : Type 0} → List A → A → Type 0
 Holds [] s = ⊥
 Holds (t ∷ ts) s = (s ≡ t) ⊎ Holds ts s
 
-held : {A : Type 0} (xs : List A) (s : A) → Holds xs s → Contains xs s
+pub held : {A : Type 0} (xs : List A) (s : A) → Holds xs s → Contains xs s
 held [] s h = absurd h
 held (x ∷ xs) s h =
     ⊎_elim {C = Contains (x ∷ xs) s} (λ e. (0, omega arith, sym e)) (λ r. let f = held xs s r in (suc f.0, omega (arith, f.1), f.2)) h
@@ -27,7 +28,7 @@ holding [] x k lt e = absurd (omega (arith, lt))
 holding (y ∷ ys) x zero lt e = inl (sym e)
 holding (y ∷ ys) x (suc k) lt e = inr (holding ys x k (omega (arith, lt)) e)
 
-holds_it : {A : Type 0} (xs : List A) (x : A) → Contains xs x → Holds xs x
+pub holds_it : {A : Type 0} (xs : List A) (x : A) → Contains xs x → Holds xs x
 holds_it xs x c = holding xs x c.0 c.1 c.2
 
 module _ {A : Type 0} (cmp : A → A → Ordering) (total : IsTotalOrder cmp) where
@@ -150,11 +151,6 @@ module _ {A : Type 0} (cmp : A → A → Ordering) (total : IsTotalOrder cmp) wh
 
   flipped : (x y : A) → eq_by_cmp cmp x y ≡ eq_by_cmp cmp y x
   flipped x y = ap is_eq (total.antisymm x y) ∙ turned (cmp y x)
-    where
-      turned : (r : Ordering) → is_eq (ordering_reverse r) ≡ is_eq r
-      turned Less = refl
-      turned Equal = refl
-      turned Greater = refl
 
   -- of a list whose places differ no two members have one place
   pub distinct_single : (xs : List A) → IsDistinct (eq_by_cmp cmp) xs → (x y : A) → Holds xs x → Holds xs y → cmp x y ≡ Equal → x ≡ y

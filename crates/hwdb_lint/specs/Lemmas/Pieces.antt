@@ -1,7 +1,7 @@
 -- A text, seen from the beginning of a piece of it.
-use Rattle.std.proofs.Common.{◌≡◌, ℕ, suc, ◌+◌, ◌<◌, ◌≤◌, Bool, true, false, cond, not, List, [], ◌∷◌, take, drop, length, refl, ap, ◌∙◌, sym, arith, ◌||◌}
+use Rattle.std.proofs.Common.{◌≡◌, ℕ, suc, ◌+◌, ◌<◌, ◌≤◌, Bool, true, false, cond, not, List, [], ◌∷◌, take, drop, length, refl, ap, ◌∙◌, sym, arith}
 use Rattle.std.proofs.lemmas.List.{drop-drop, drop_all, length-drop}
-use Rattle.std.specs.List.{list_any, onto_first, position_or_len}
+use Rattle.std.specs.List.{onto_first, position_or_len}
 use Rattle.hwdb_spec.specs.Lines.{is, pieces}
 
 module _ (b : ℕ) where
@@ -51,3 +51,11 @@ module _ (b : ℕ) where
 
   pub no_piece_at : (file : List ℕ) (at : ℕ) → length file ≤ at → pieces (is b) (drop at file) ≡ []
   no_piece_at file at h = ap (pieces (is b)) (drop_all at file h) ∙ no_pieces
+
+-- the line at a place, and those after it
+pub line_at : (file : List ℕ) (at end : ℕ) (rest : List ℕ) → at < length file → rest ≡ drop at file → end ≡ position_or_len (is 10) rest
+    → pieces (is 10) (drop at file) ≡ take end rest ∷ pieces (is 10) (drop (at + end + 1) file)
+line_at file at end rest h r e = piece_at 10 file at end rest h r e
+
+pub no_line_at : (file : List ℕ) (at : ℕ) → length file ≤ at → pieces (is 10) (drop at file) ≡ []
+no_line_at file at h = no_piece_at 10 file at h

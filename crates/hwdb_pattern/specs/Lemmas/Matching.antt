@@ -1,12 +1,7 @@
 -- What a list of tokens matches, token by token: the steps of the greedy search.
-use Rattle.std.proofs.Common.{◌≡◌, ℕ, Bool, true, false, IsTrue, List, [], ◌∷◌, ◌++◌, refl, sym, ap, subst, ◌∙◌, ◌⊎◌, inl, inr, append_assoc}
+use Rattle.std.proofs.Common.{◌≡◌, ℕ, false, IsTrue, List, [], ◌∷◌, ◌++◌, refl, sym, ap, subst, ◌∙◌, ◌⊎◌, inl, inr, append_assoc}
+use Rattle.hwdb_spec.specs.Forms.{is_star}
 use Rattle.hwdb_spec.specs.Patterns.{Token, star, one, bracket, literal, admits_byte, Admits, Matches}
-
-abbrev pub is_star : Token → Bool
-is_star star = true
-is_star one = false
-is_star (bracket b) = false
-is_star (literal b) = false
 
 -- a piece of one byte, cut from a device
 head_of : (x b : ℕ) (device piece rest : List ℕ) → x ∷ device ≡ piece ++ rest → piece ≡ b ∷ [] → b ≡ x
