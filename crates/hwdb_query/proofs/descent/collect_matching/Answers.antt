@@ -6,7 +6,7 @@ use Rattle.hwdb_spec.specs.Answers.{is_wanted}
 use Rattle.hwdb_pattern.specs.Views.{StandsFor}
 use Rattle.hwdb_query.specs.Internal.LongPaths.{path_of}
 use Rattle.hwdb_query.specs.Internal.Members.{own_members}
-use Rattle.hwdb_query.specs.Lemmas.Parts.{own_behind}
+use Rattle.hwdb_query.proofs.PartLemmas.{own_behind}
 use Rattle.hwdb_query.proofs.DescentLemmas.{collected_none}
 use Rattle.hwdb_query.proofs.descent.collect_matching.Goals as goal
 
