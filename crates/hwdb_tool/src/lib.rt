@@ -11,6 +11,7 @@
 //! | `queries` | `query`, of the devices of the words or of standard input |
 //! | `answers` | `explain`, `list` and `ask` |
 //! | `input_devices` | `query -` and `explain -`: the devices that standard input names |
+//! | `reloading` | the database that answers them, and the one that replaces it |
 //! | `checks` | `check` |
 //! | `trials` | `test` |
 //! | `near_misses` | `near` |
@@ -19,6 +20,7 @@
 //! | `verification` | `verify`; `verdicts`: its words on bytes that are no database |
 //! | `dumps` | `dump` |
 //! | `statuses` | `status` |
+//! | `over_text` | `--text`: the text files in place of a database |
 //! | `databases` | the database that a command asks for |
 //! | `given` | files that words name, or standard input |
 //! | `given_folders` | the text files for which the paths of `check` stand |
@@ -53,9 +55,11 @@ mod near_misses;
 mod one_outcome;
 mod one_refusal;
 mod outlet;
+mod over_text;
 mod printing;
 mod progress;
 mod queries;
+mod reloading;
 mod statuses;
 mod trials;
 mod updates;
