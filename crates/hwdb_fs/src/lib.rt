@@ -8,6 +8,7 @@
 //! | `laws` | which of the chosen files an error names
 //! | `files` | files and folders: the file system that the runtime reaches |
 //! | `raw` | what a file system answers to what reading asks; `reads`: what is made of these answers; `read_laws`: laws of that; `one_file`: answers for tests |
+//! | `identity` | what tells a file from one that replaced it |
 //! | `devices` | the file system as it is asked for devices |
 //! | `overlay` | a file system with another database in its place |
 //! | `parts` | new files of updates: whose they are, and what killed updates left |
@@ -19,6 +20,7 @@
 mod devices;
 mod files;
 mod folders;
+mod identity;
 mod laws;
 mod left_out;
 mod machine;
@@ -38,6 +40,7 @@ mod system;
 pub use files::{SystemStore, joined, path_in};
 pub use folders::{Selection, selected, with_texts};
 pub use hwdb_spec::Refusal;
+pub use identity::Identity;
 pub use laws::first_long_file_is_named;
 pub use left_out::{ReadableSelection, name_set, selected_readable};
 pub use machine::Machine;

@@ -437,4 +437,16 @@ impl Met {
         let after = self.first_token(alloc, device, text)?;
         after.follow(alloc, device, &text[run_size(text)..])
     }
+
+    /// The lengths after all tokens of a text of stars alone. Reads none of them.
+    pub(crate) fn along_stars(&self, alloc: Global, device: &[u8], stars: &[u8]) -> Met
+        requires some { 0 < length stars.now }
+        requires stars { (k : ℕ) → k < length stars.now → slice_index stars.now k ≡ 42 }
+        requires within { Within device.now (lengths_of self.now) }
+        ensures follows { Follows (tokens stars.now) device.now (lengths_of self.now)
+            (lengths_of result) }
+        ensures within { Within device.now (lengths_of result) }
+    {
+        self.after_star(alloc, device.len())
+    }
 }

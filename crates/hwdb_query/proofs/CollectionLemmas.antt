@@ -1,5 +1,5 @@
 -- What is collected one list after another.
-use Rattle.std.proofs.Common.{◌≡◌, ◌∙◌, ap, sym, refl, subst, ℕ, zero, suc, ◌≤◌, List, [], ◌∷◌, ◌++◌, take, drop, length, slice_get, option_map, filter, Some, None, true, false}
+use Rattle.std.proofs.Common.{◌≡◌, ◌∙◌, ap, sym, refl, subst, ℕ, zero, suc, ◌≤◌, ◌<◌, arith, get_or, map, List, [], ◌∷◌, ◌++◌, take, drop, length, slice_get, option_map, filter, Some, None, true, false}
 use Rattle.std.specs.List.{AllByRecursion}
 use Rattle.std.specs.declared.cmp.Ordering.TheVariants.{Less}
 use Rattle.std.proofs.lemmas.List.Elements.{filter-append}
@@ -14,6 +14,8 @@ use Rattle.hwdb_query.specs.Internal.Lists.{keep_all}
 use Rattle.hwdb_query.specs.Internal.Hits.{after_position}
 use Rattle.hwdb_query.specs.Internal.Collected.{PageCollects, LastCollects, Shows}
 use Rattle.hwdb_query.specs.declared.next_page.NextPage.{NextPage}
+use Rattle.hwdb_query.specs.declared.answer.StoredAssignment.{StoredAssignment}
+use Rattle.hwdb_query.specs.Views.{assignment_of_answer}
 use Rattle.hwdb_query.specs.declared.last_hits.LastHits.{LastHits}
 use Rattle.hwdb_query.proofs.PutLemmas.{keep_all_append, ascends_put, ascends_all, filter_in, filter_out}
 use Rattle.hwdb_query.proofs.PartLemmas.{own_next, own_one, own_behind}
@@ -75,6 +77,19 @@ pub last_more : (a b c : LastHits) (xs ys : List Assignment) → LastCollects a 
 unfolding LastCollects
 last_more a b c xs ys p q hits up shows =
     subst (Shows c.hits) (sym (put_both xs ys hits)) (q (put_all assignment_cmp xs hits) (ascends_all assignment_cmp assignment_total xs hits up) (p hits up shows))
+
+-- the answer at a place, and those after it
+pub answer_next : (found : List StoredAssignment) (i : ℕ) (a : StoredAssignment) → i < length found → a ≡ get_or found i a
+    → map assignment_of_answer (drop i found) ≡ assignment_of_answer a ∷ map assignment_of_answer (drop (suc i) found)
+answer_next [] i a lt is = absurd (omega (arith, lt))
+answer_next (x ∷ found) zero a lt is = ap (λ y. assignment_of_answer y ∷ map assignment_of_answer found) (sym is)
+answer_next (x ∷ found) (suc i) a lt is = answer_next found i a (omega (arith, lt)) is
+
+pub answers_over : (found : List StoredAssignment) (i : ℕ) → length found ≤ i → map assignment_of_answer (drop i found) ≡ []
+answers_over [] zero le = refl
+answers_over [] (suc i) le = refl
+answers_over (x ∷ found) zero le = absurd (omega (arith, le))
+answers_over (x ∷ found) (suc i) le = answers_over found i (omega (arith, le))
 
 -- the values of a node are offered one after another
 pub last_values_next : (a b c : LastHits) (pattern : List ℕ) (values : List Value) (i : ℕ) (s : Shown) → option_map shown (slice_get values i) ≡ Some s

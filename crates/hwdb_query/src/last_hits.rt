@@ -1,12 +1,13 @@
 //! The last hit of each key: a map from keys, without an order among the others.
-ghost use Rattle.std.specs.Prelude.{◌≡◌, List, [], IfOk, OnOk};
+ghost use Rattle.std.specs.Prelude.{◌≡◌, List, [], ◌∷◌, IfOk, OnOk};
 ghost use Rattle.hwdb_query.specs.Internal.Members.{assignment_shown};
 ghost use Rattle.hwdb_reader.specs.Views.{entry_shows};
 ghost use Rattle.hwdb_spec.specs.Assignment.{Assignment};
 ghost use Rattle.hwdb_spec.specs.Answers.{is_after, effective_of};
 ghost use Rattle.hwdb_query.specs.Internal.Hits.{parts_position};
-ghost use Rattle.hwdb_query.specs.Views.{pairs_bytes};
+ghost use Rattle.hwdb_query.specs.Views.{assignment_of_answer, pairs_bytes};
 
+use crate::answer::StoredAssignment;
 use crate::collector::Collector;
 use crate::hit::{Parts, order};
 use crate::node_answers::shared;
@@ -97,6 +98,29 @@ impl<'a> LastHits<'a> {
                 value: entry.value,
             };
             self.hits.insert(key, last)?;
+        }
+        Ok(())
+    }
+
+    /// Takes one answer.
+    pub(crate) fn take(&mut self, found: &StoredAssignment<'a>) -> Result<(), AllocError>
+        ensures { OnOk result
+            (LastCollects self.old (assignment_of_answer found.now ∷ []) self.new) }
+    {
+        let parts = Parts {
+            priority: found.priority,
+            line: found.line,
+            pattern: &found.pattern,
+            key: found.key,
+        };
+        if self.is_last(parts) {
+            let last = Last {
+                priority: found.priority,
+                line: found.line,
+                pattern: found.pattern.clone()?,
+                value: found.value,
+            };
+            self.hits.insert(found.key, last)?;
         }
         Ok(())
     }

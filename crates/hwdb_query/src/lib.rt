@@ -14,6 +14,8 @@
 //! | `spelling` | the parts of a position's text |
 //! | `hit_page` | the one list of hits of a cursor, never longer than its page |
 //! | `descent` | one descent of the tree along the live paths |
+//! | `long_path` | the path of a node, whose end isn't copied before something needs it |
+//! | `among` | the effective list of answers that were collected elsewhere |
 //! | `collector` | what takes the assignments of a descent: a page, the last hits, or all hits |
 //! | `next_page` | a page that is filled |
 //! | `refill` | one filling of a page: the least hits after a position |
@@ -30,6 +32,7 @@
 #![tactic(auto)]
 
 mod all_hits;
+mod among;
 mod answer;
 mod by_key;
 mod collector;
@@ -40,6 +43,7 @@ mod hit;
 mod hit_page;
 mod last_hits;
 mod laws;
+mod long_path;
 mod next_page;
 mod node_answers;
 mod position;
@@ -48,6 +52,7 @@ mod refill;
 mod spelling;
 mod start;
 
+pub use among::effective_among;
 pub use answer::{Explained, StoredAssignment};
 pub use cursors::Cursor;
 pub use explanations::explain;

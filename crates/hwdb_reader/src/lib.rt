@@ -11,6 +11,7 @@
 //! - `repeats`: which of two strings is less, in a text in which long stretches occur more than once;
 //! - `fields` and `places`: single fields, and the offsets of records;
 //! - `view`: the nodes, children and values of a database that was accepted;
+//! - `stars`: a long run of stars among the strings;
 //! - `reopened`: the view of a database that was accepted before;
 //! - `laws`: laws of the format, on the definitions alone.
 #![tactic(auto)]
@@ -24,15 +25,22 @@ mod path;
 mod places;
 mod reopened;
 mod repeats;
+mod stars;
 mod values;
 mod view;
 mod walk;
 
 pub use checker::check;
+pub use fields::{is_place, text, text_front, u16_at, u32_at, u64_at};
+pub use frame::Frame;
+pub use header::check_header;
 pub use hwdb_spec::DbFault;
 pub use laws::{
     law_ascending, law_faultless, law_few_nodes, law_header_faults, law_offsets, law_one_tree,
     law_samples,
 };
+pub use places::{child_entry_at, value_entry_at};
 pub use reopened::reopen;
+pub use values::check_value;
 pub use view::{Child, Db, Entered, Entry, Inside, Node, Origin};
+pub use walk::record_end_within;

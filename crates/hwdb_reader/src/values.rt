@@ -10,7 +10,7 @@ use hwdb_spec::DbFault;
 
 /// Tests one value entry: its three strings are inside the string section, its priority isn't 0.
 #[inline(always)]
-fn check_value(b: &[u8], l: Frame, entry: usize) -> Result<(), DbFault>
+pub fn check_value(b: &[u8], l: Frame, entry: usize) -> Result<(), DbFault>
     requires { entry + 32 ≤ length b.now }
     ensures ok { OnOk result (IsValue l.sizes b.now entry) }
     ensures err { OnErr result (IsValue l.sizes b.now entry → ⊥) }

@@ -19,7 +19,7 @@ use hwdb_spec::DbFault;
 
 /// The offset at which the record at `off` ends, if it lies between `from` and `limit`. No sum wraps.
 #[tactic(auto, unfolding(hwdb_spec::specs::Format::record_end))]
-fn record_end_within(b: &[u8], l: Frame, from: usize, off: usize, limit: usize) -> Option<usize>
+pub fn record_end_within(b: &[u8], l: Frame, from: usize, off: usize, limit: usize) -> Option<usize>
     requires { limit ≤ length b.now }
     ensures { SomeIff result ((from ≤ off) × (record_end l.sizes b.now off ≤ limit))
         (record_end l.sizes b.now off) }

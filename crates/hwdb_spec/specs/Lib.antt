@@ -46,6 +46,7 @@ pub mod CheckedFiles
 pub mod LeftOut
 pub mod Asked
 pub mod Library
+pub mod Blocks
 pub mod Hiding
 pub mod Status
 pub mod Done

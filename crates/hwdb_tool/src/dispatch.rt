@@ -219,7 +219,9 @@ fn run<D: Machine, I: Source, O: Sink, E: Sink>(
             )
         }
         Task::Query { devices, json } => {
-            query(alloc, root, devices, *json, system, input, out, err)
+            query(
+                alloc, root, devices, *json, job.reload, system, input, out, err,
+            )
         }
         Task::Explain { device, json } => {
             explain(alloc, root, device.as_str(), *json, system, input, out, err)

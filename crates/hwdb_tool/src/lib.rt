@@ -11,6 +11,7 @@
 //! | `queries` | `query`, of the devices of the words or of standard input |
 //! | `answers` | `explain`, `list` and `ask` |
 //! | `input_devices` | `query -` and `explain -`: the devices that standard input names |
+//! | `reloading` | the database that answers them, and the one that replaces it |
 //! | `checks` | `check` |
 //! | `trials` | `test` |
 //! | `near_misses` | `near` |
@@ -56,6 +57,7 @@ mod outlet;
 mod printing;
 mod progress;
 mod queries;
+mod reloading;
 mod statuses;
 mod trials;
 mod updates;

@@ -1,12 +1,12 @@
-use Rattle.std.proofs.Common.{◌≡◌, ◌∙◌, ap, sym, subst, ◌+◌, ◌∷◌, [], ℕ, take, drop, length, ◌≤◌, arith, add-one, refl}
+use Rattle.std.proofs.Common.{◌≡◌, ◌∙◌, ap, sym, subst, ◌+◌, ◌++◌, ◌∷◌, [], ℕ, take, drop, length, ◌≤◌, arith, add-one, refl}
 use Rattle.hwdb_pattern.specs.Views.{StandsFor}
 use Rattle.hwdb_spec.specs.Tree.{Tree}
 use Rattle.hwdb_reader.specs.Views.{children_of, tree_of, entered_tree}
 use Rattle.hwdb_query.specs.Internal.Descents.{kids_of, Passes, IsAt, IsSeen, StandsAt}
 use Rattle.hwdb_query.specs.declared.descent.OpenNode.{OpenNode}
 use Rattle.hwdb_query.proofs.StackLemmas.{passes_on, passes_all}
-use Rattle.hwdb_query.proofs.descent.OpenNode.next_live.Goals as goal
 use Rattle.hwdb_query.specs.Lemmas.Parts.{kid_next}
+use Rattle.hwdb_query.proofs.descent.OpenNode.next_seen.Goals as goal
 
 pub returns-in-Some-clause-found : goal.returns-in-Some-clause-found
 returns-in-Some-clause-found c =
@@ -17,13 +17,13 @@ returns-in-Some-clause-found c =
     let k : ℕ × Tree = (c.child-child.result.byte, tree_of c.child-child.result.node) in
     let kids = children_of (entered_tree old.inside) in
     let next : drop done kids ≡ k ∷ drop (done + 1) kids = rw (add-one done) (kid_next kids done k c.child-child.ensures) in
-    let seen : IsSeen device (take old.length c.loop-done.path.items) k c.look_at.new.path.items c.in_ok-reach.field-0 =
-    subst (λ (o : OpenNode). IsSeen o.reach.device (take o.length c.loop-done.path.items) k c.look_at.new.path.items c.in_ok-reach.field-0) c.loop-done.invariant.still c.in_ok-reach.ensures.seen in
-    let at : IsAt device (take old.length c.loop-done.path.items) k c.look_at.new.path.items c.in-Some.reach =
+    let seen : IsSeen device (take old.length c.loop-done.path.items) k c.look_at.new.path.items c.in_ok-seen.field-0 =
+    subst (λ (o : OpenNode). IsSeen o.reach.device (take o.length c.loop-done.path.items) k c.look_at.new.path.items c.in_ok-seen.field-0) c.loop-done.invariant.still c.in_ok-seen.ensures.seen in
+    let at : IsAt device (take old.length c.loop-done.path.items) k (c.look_at.new.path.items ++ c.in-Some.seen.tail.now) c.in-Some.seen.reach =
     subst (λ o. IsSeen device (take old.length c.loop-done.path.items) k c.look_at.new.path.items o) c.in-Some.is seen in (
       subst (λ (o : OpenNode). Passes device base (kids_of old) (k ∷ drop (done + 1) (children_of (entered_tree o.inside)))) (sym c.loop-done.invariant.still)
           (subst (λ l. Passes device base (kids_of old) l) next c.loop-done.invariant.passes),
-      subst (λ b. IsAt device b k c.look_at.new.path.items c.in-Some.reach) c.loop-done.invariant.path at,
+      subst (λ b. IsAt device b k (c.look_at.new.path.items ++ c.in-Some.seen.tail.now) c.in-Some.seen.reach) c.loop-done.invariant.path at,
     )
 
 pub loop-done-preserved : goal.loop-done-preserved
@@ -35,16 +35,16 @@ loop-done-preserved c =
     let k : ℕ × Tree = (c.child-child.result.byte, tree_of c.child-child.result.node) in
     let kids = children_of (entered_tree old.inside) in
     let next : drop done kids ≡ k ∷ drop (done + 1) kids = rw (add-one done) (kid_next kids done k c.child-child.ensures) in
-    let seen : IsSeen device (take old.length c.loop-done.path.items) k c.look_at.new.path.items c.in_ok-reach.field-0 =
-    subst (λ (o : OpenNode). IsSeen o.reach.device (take o.length c.loop-done.path.items) k c.look_at.new.path.items c.in_ok-reach.field-0) c.loop-done.invariant.still c.in_ok-reach.ensures.seen in
+    let seen : IsSeen device (take old.length c.loop-done.path.items) k c.look_at.new.path.items c.in_ok-seen.field-0 =
+    subst (λ (o : OpenNode). IsSeen o.reach.device (take o.length c.loop-done.path.items) k c.look_at.new.path.items c.in_ok-seen.field-0) c.loop-done.invariant.still c.in_ok-seen.ensures.seen in
     let none : Passes device (take old.length c.loop-done.path.items) (k ∷ []) [] =
     subst (λ o. IsSeen device (take old.length c.loop-done.path.items) k c.look_at.new.path.items o) c.in_default.is seen in
     let one : Passes device base (k ∷ []) [] = subst (λ b. Passes device b (k ∷ []) []) c.loop-done.invariant.path none in
     record {
       passes = passes_on device base (kids_of old) (drop done kids) (drop (done + 1) kids) k c.loop-done.invariant.passes next one;
       still = c.loop-done.invariant.still;
-      within = subst (λ (o : OpenNode). o.length ≤ length c.look_at.new.path.items) c.loop-done.invariant.still c.in_ok-reach.ensures.within;
-      path = subst (λ (o : OpenNode). take o.length c.look_at.new.path.items ≡ take o.length c.loop-done.path.items) c.loop-done.invariant.still c.in_ok-reach.ensures.path ∙ c.loop-done.invariant.path;
+      within = subst (λ (o : OpenNode). o.length ≤ length c.look_at.new.path.items) c.loop-done.invariant.still c.in_ok-seen.ensures.within;
+      path = subst (λ (o : OpenNode). take o.length c.look_at.new.path.items ≡ take o.length c.loop-done.path.items) c.loop-done.invariant.still c.in_ok-seen.ensures.path ∙ c.loop-done.invariant.path;
     }
 
 pub look_at-requires : goal.look_at-requires

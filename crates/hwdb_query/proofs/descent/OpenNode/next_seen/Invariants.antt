@@ -1,7 +1,7 @@
 use Rattle.std.proofs.Common.{◌≡◌, ◌≤◌, ◌-◌, take, drop, length}
 use Rattle.hwdb_reader.specs.Views.{children_of, entered_tree}
 use Rattle.hwdb_query.specs.Internal.Descents.{kids_of, Passes}
-use Rattle.hwdb_query.proofs.descent.OpenNode.next_live.Given as goal
+use Rattle.hwdb_query.proofs.descent.OpenNode.next_seen.Given as goal
 
 abbrev pub invariant-loop-done : goal.invariant-loop-done
 invariant-loop-done l = record {

@@ -1,0 +1,5 @@
+pub mod KnownLemmas
+pub mod OpeningLemmas
+pub mod TextLemmas
+pub mod TreeLemmas
+pub mod RestLemmas

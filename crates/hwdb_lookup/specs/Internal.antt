@@ -1,0 +1,4 @@
+-- What the proofs of this crate speak of.
+pub mod Agreement
+pub mod Heads
+pub mod Descents

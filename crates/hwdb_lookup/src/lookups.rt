@@ -1,0 +1,39 @@
+//! The properties of a device.
+ghost use Rattle.std.specs.Prelude.{◌≡◌, List, ℕ, IfOk, IfErr};
+ghost use Rattle.hwdb_spec.specs.Tree.{Tree, answers};
+ghost use Rattle.hwdb_spec.specs.Answers.{effective_of};
+ghost use Rattle.hwdb_spec.specs.Format.{IsDatabase};
+ghost use Rattle.hwdb_query.specs.Views.{pairs_bytes};
+ghost use Rattle.hwdb_lookup.specs.Views.{IsOf, Stops};
+
+use crate::descent::descend;
+use crate::known::Known;
+use crate::opening::frame_of;
+use crate::stop::Stop;
+use hwdb_query::effective_among;
+use std::alloc::Global;
+
+/// For each key among the answers for the device the value of the last answer with that key, ascending by key. Keys and
+/// values are parts of the buffer.
+///
+/// Over the blocks of a database this is what `hwdb_query::effective` answers for the whole of it. If a block that is
+/// needed wasn't read, [`Stop::Missing`] has its number. [`Stop::Fault`] comes only if the file is no database,
+/// whatever the blocks hold that weren't read.
+///
+/// Enters each live node once. The records of the nodes that it enters have no more bytes than the file. Each of their
+/// strings is read as far as it may matter.
+pub fn lookup<'a>(
+    alloc: Global,
+    known: Known<'a>,
+    device: &[u8],
+) -> Result<Vec<(&'a [u8], &'a [u8])>, Stop>
+    ensures answer { IfOk result (λ list. (file : List ℕ) (t : Tree) → IsOf known.entry file
+        → IsDatabase file t → pairs_bytes list.items ≡ effective_of (answers device.now t)) }
+    ensures stop { IfErr result
+        (λ s. Stops known.entry (λ file. (t : Tree) × IsDatabase file t) s) }
+{
+    let frame = frame_of(known)?;
+    let found = descend(alloc, known, frame, device)?;
+    let pairs = effective_among(alloc, &found)?;
+    Ok(pairs)
+}
