@@ -42,7 +42,8 @@ fn refused<T>(failed: &mut u64) -> Result<T, CallFailed>
     Err(CallFailed)
 }
 
-/// What was listed, or that memory was refused.
+/// What was listed, or that memory was refused: the one error that says nothing of what is there. No command lists the
+/// database's own path as a folder.
 fn listed_or_none<T>(listed: Result<T, Refusal>) -> Result<T, Refusal>
     ensures same { IfOk result (λ names. listed ≡ Result.Ok names) }
     ensures memory { IfErr result (λ r. r ≡ Plain Memory) }
