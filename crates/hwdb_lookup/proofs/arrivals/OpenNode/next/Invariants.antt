@@ -9,4 +9,4 @@ invariant-loop-done l =
     (file : List ℕ) (from : ℕ) (w : List Assignment) → IsOf l.self.node.known file → Rest file l.self l.self.done from w → Rest file l.self l.done from w
 
 abbrev pub decreases-loop-done : goal.decreases-loop-done
-decreases-loop-done l = l.self.node.children - l.done
+decreases-loop-done l = l.children - l.done
