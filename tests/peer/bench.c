@@ -2,15 +2,17 @@
  *
  *   bench time RUNS COMMAND.. :: COMMAND.. ..   runs each command once, then each once more, and so on, RUNS times, with
  *                 standard output and error thrown away. A line for each: the least and the middle wall time in
- *                 microseconds, and the greatest memory that a run held, in KiB. Where a command's status isn't 0: `failed`, and it
- *                 isn't run again
+ *                 microseconds, and the greatest memory that a run held, in KiB. If a command's status isn't 0: `failed`, and it
+ *                 isn't run again. A command may have status 1 if `!` is before it
  *   bench processor SECONDS RUNS COMMAND.. :: COMMAND.. ..   the same, with the time that the processor spent on the
  *                 command, its own and the system's, in place of wall time; a run that takes more than SECONDS of it has failed
  *   bench links FILE FOLDER COUNT               gives the file so many names in the folder, each ending in .hwdb
- *   bench read FILE                             reads a file into memory, 64 KiB at a time
+ *   bench read FILE..                           reads each file into one buffer, 64 KiB at a time
  *   bench udev LIBRARY DEVICES ROUNDS           with libudev's calls: opens the system's hardware database, looks up each line of
  *                 the file DEVICES, so many times, and prints how many properties came in all
- *   bench sd LIBRARY DEVICES ROUNDS             the same with the calls of sd-hwdb: seek and enumerate */
+ *   bench sd LIBRARY DEVICES ROUNDS             the same with the calls of sd-hwdb: seek and enumerate
+ *   bench opens LIBRARY DEVICE COUNT            opens the system's hardware database by sd_hwdb_new, looks the device up and gives the
+ *                 database back, so many times, and prints how many properties came in all */
 #define _GNU_SOURCE
 #include <dlfcn.h>
 #include <fcntl.h>
@@ -49,7 +51,7 @@ static struct bytes bytes_of(const char *path) {
     return bytes;
 }
 
-/* The same, with byte 0 behind each line. */
+/* The same, with byte 0 after each line. */
 static struct bytes lines_of(const char *path) {
     struct bytes text = bytes_of(path);
     for (size_t i = 0; i < text.length; i++)
@@ -57,7 +59,7 @@ static struct bytes lines_of(const char *path) {
     return text;
 }
 
-struct command { char **words; long times[MOST_RUNS]; long memory; int has_failed; };
+struct command { char **words; long times[MOST_RUNS]; long memory; int most_status; int has_failed; };
 static struct command commands[MOST_COMMANDS];
 
 static int most_seconds;
@@ -84,7 +86,7 @@ static void run_once(struct command *command, int run) {
     command->times[run] = (end.tv_sec - begin.tv_sec) * 1000000 + (end.tv_nsec - begin.tv_nsec) / 1000;
     if (most_seconds) command->times[run] = microseconds(used.ru_utime) + microseconds(used.ru_stime);
     if (used.ru_maxrss > command->memory) command->memory = used.ru_maxrss;
-    if (!WIFEXITED(status) || WEXITSTATUS(status)) command->has_failed = 1;
+    if (!WIFEXITED(status) || WEXITSTATUS(status) > command->most_status) command->has_failed = 1;
 }
 
 static int by_time(const void *a, const void *b) { return (*(long *)a > *(long *)b) - (*(long *)a < *(long *)b); }
@@ -93,6 +95,7 @@ static int time_all(int runs, char **words) {
     int count = 0;
     if (runs < 1 || runs > MOST_RUNS) return 1;
     while (*words && count < MOST_COMMANDS) {
+        if (!strcmp(*words, "!")) commands[count].most_status = 1, words++;
         commands[count++].words = words;
         while (*words && strcmp(*words, "::")) words++;
         if (*words) *words++ = 0;
@@ -166,6 +169,26 @@ static int sd_look_up(const char *path, const char *devices, long rounds) {
     return 0;
 }
 
+typedef void *unref_sd(void *);
+
+static int open_often(const char *path, const char *device, long count) {
+    void *library = dlopen(path, RTLD_NOW), *hwdb;
+    if (!library) return fprintf(stderr, "%s\n", dlerror()), 1;
+    new_sd *new = (new_sd *)named(library, "sd_hwdb_new");
+    seek_sd *seek = (seek_sd *)named(library, "sd_hwdb_seek");
+    enumerate_sd *enumerate = (enumerate_sd *)named(library, "sd_hwdb_enumerate");
+    unref_sd *unref = (unref_sd *)named(library, "sd_hwdb_unref");
+    unsigned long found = 0;
+    const char *key, *value;
+    for (long i = 0; i < count; i++) {
+        if (new(&hwdb) < 0) return fprintf(stderr, "no hardware database\n"), 1;
+        for (seek(hwdb, device); enumerate(hwdb, &key, &value) > 0;) found++;
+        unref(hwdb);
+    }
+    printf("%lu properties\n", found);
+    return 0;
+}
+
 int main(int count, char **words) {
     if (count > 3 && !strcmp(words[1], "time")) return time_all(atoi(words[2]), words + 3);
     if (count > 4 && !strcmp(words[1], "processor")) {
@@ -173,8 +196,13 @@ int main(int count, char **words) {
         return time_all(atoi(words[3]), words + 4);
     }
     if (count == 5 && !strcmp(words[1], "links")) return link_all(words[2], words[3], strtoul(words[4], 0, 10));
-    if (count == 3 && !strcmp(words[1], "read")) return bytes_of(words[2]).length == 0;
+    if (count >= 3 && !strcmp(words[1], "read")) {
+        for (int i = 2; i < count; i++)
+            if (bytes_of(words[i]).length == 0) return 1;
+        return 0;
+    }
     if (count == 5 && !strcmp(words[1], "udev")) return look_up(words[2], words[3], atol(words[4]));
     if (count == 5 && !strcmp(words[1], "sd")) return sd_look_up(words[2], words[3], atol(words[4]));
+    if (count == 5 && !strcmp(words[1], "opens")) return open_often(words[2], words[3], atol(words[4]));
     return fprintf(stderr, "usage: see the source\n"), 1;
 }

@@ -24,7 +24,7 @@ fn words_of(rt: &HostRuntime) -> io::Result<Vec<String>> {
     Ok(words)
 }
 
-/// What holds the number of a standard stream that is closed, so that no file of ours gets it: a line for standard
+/// What holds the number of a standard stream that is closed, so that no file of ours gets it. Else a line for standard
 /// error would be written into the database. It is opened for the other direction: each use of the stream still fails.
 fn held<S: AsFd>(rt: &HostRuntime, stream: &S, is_output: bool) -> io::Result<Option<File>> {
     if stream.as_fd().try_clone_to_owned().is_ok() {

@@ -46,7 +46,7 @@ has_values id rows some = go (find (λ r. bytes_eq r.id id) rows) some
     go None e = absurd (true≢false (sym e))
     go (Some r) e = refl
 
--- what is some behind a function is some
+-- what is some after a function is some
 pub some_behind : {X Y : Type 0} (f : X → Y) (o : Option X) (p : Option Y) → option_map f o ≡ p → is_some p ≡ true → IsSome o
 some_behind f None p e some = absurd (true≢false (sym some ∙ ap is_some (sym e)))
 some_behind f (Some x) p e some = refl

@@ -79,9 +79,13 @@ fn job_of(
     let color = shared_text(alloc, top, inner, "color")?;
     let usr = has_flag(inner, "usr") || has_flag(top, "usr");
     let strict = has_flag(inner, "strict") || has_flag(top, "strict");
+    let text = has_flag(inner, "text");
+    let reload = has_flag(inner, "reload");
     Ok(Job {
         usr,
         strict,
+        text,
+        reload,
         root,
         color,
         task,
@@ -139,8 +143,8 @@ fn some_text(alloc: Global, text: String) -> Result<String, AllocError>
 }
 
 /// What the words ask for; the first is the program's name. Words that the command doesn't take give
-/// `WordsFault::Usage` with a text that says why; `--help`, `help` and `--version` give `WordsFault::Help`, but
-/// `help` with a word that names no command gives `WordsFault::Usage`.
+/// `WordsFault::Usage` with a text that says why. `--help`, `help` and `--version` give `WordsFault::Help`. But `help`
+/// with a word that names no command gives `WordsFault::Usage`.
 pub fn read_words(alloc: Global, words: &[String]) -> Result<Job, WordsFault>
     ensures job { IfOk result
         (IsJobOf (matches_of hwdb_app (map string_bytes words.now))

@@ -1,6 +1,5 @@
-//! The command line of `hwdb`, as `clap` is given it: one level of subcommands, each shared option declared
-//! at both levels; `clap` adds the subcommand `help`. The definition of this command as data is what contracts speak of; help texts are
-//! shown by tests.
+//! The command line of `hwdb`, as `clap` is given it: one level of subcommands, each shared option declared at both levels. `clap`
+//! adds the subcommand `help`. The definition of this command as data is what contracts speak of; help texts are shown by tests.
 ghost use Rattle.std.specs.Prelude.{◌≡◌, IfOk};
 ghost use Rattle.clap.specs.Simple.{app_of};
 ghost use Rattle.hwdb_spec.specs.CommandLine.{hwdb_app, top_app};

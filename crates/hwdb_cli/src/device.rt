@@ -6,7 +6,7 @@ ghost use Rattle.hwdb_cli.specs.Drafts.{IsDraft};
 ghost use Rattle.hwdb_spec.specs.Jobs.{IsTask};
 ghost use Rattle.hwdb_spec.specs.CommandLine.{device_app};
 
-use crate::drafts::{Draft, flag, json_option, shared, with_argument, word};
+use crate::drafts::{Draft, flag, json_option, shared, text_option, with_argument, word};
 use crate::matched::{copied, has_flag, text_of};
 use clap::{ArgAction, ArgMatches};
 use hwdb_spec::Task;
@@ -32,7 +32,8 @@ pub fn command<'a>(alloc: Global) -> Draft<'a>
         "Print a record to begin with, which fits the device; before --json and --strings";
     let path = "A device: its name, as event3, its node below /dev, or its path below /sys";
     let command = shared(alloc, "device", ABOUT, AFTER);
-    let with_strings = with_argument(command, flag(alloc, "strings", strings));
+    let with_text = with_argument(command, text_option(alloc));
+    let with_strings = with_argument(with_text, flag(alloc, "strings", strings));
     let with_json = with_argument(with_strings, json_option(alloc));
     let with_pattern = with_argument(with_json, flag(alloc, "pattern", pattern));
     with_argument(with_pattern, word(alloc, "DEVICE", path, ArgAction::Set))

@@ -2,14 +2,14 @@
 ghost use Rattle.std.specs.Prelude.{Some, true};
 ghost use Rattle.clap.specs.Walk.{Rule};
 ghost use Rattle.clap.specs.Simple.{App, new_app, new_rule, with_rule, with_subcommand};
-ghost use Rattle.hwdb_spec.specs.CommandLine.{color_rule, database_rule, device_rule, json_rule, root_rule, strict_rule, with_shared};
+ghost use Rattle.hwdb_spec.specs.CommandLine.{color_rule, database_rule, device_rule, json_rule, root_rule, strict_rule, text_rule, with_shared};
 ghost use Rattle.hwdb_cli.specs.Drafts.{IsArgument, IsDraft};
 
 use clap::{Arg, ArgAction, Command};
 use std::alloc::{AllocError, Global};
 
-/// A command, or that memory was refused while it was made. What is added to one that wasn't made is let go: so
-/// a command is written down without a way out behind each of its parts.
+/// A command, or that memory was refused while it was made. What is added to one that wasn't made is let go. So a
+/// command is written down without a way out after each of its parts.
 pub type Draft<'a> = Result<Command<'a>, AllocError>;
 
 /// The command with one more argument.
@@ -112,6 +112,15 @@ pub fn json_option<'a>(alloc: Global) -> Arg<'a>
     flag(alloc, "json", "Print JSON, one object a line")
 }
 
+/// `--text`.
+pub fn text_option<'a>(alloc: Global) -> Arg<'a>
+    ensures { IsArgument text_rule result }
+{
+    let help =
+        "Ask the text files of both folders, as update would compile them now, in place of a database";
+    flag(alloc, "text", help)
+}
+
 /// The device.
 pub fn device_argument<'a>(alloc: Global) -> Arg<'a>
     ensures { IsArgument device_rule result }
@@ -128,7 +137,7 @@ pub fn database_argument<'a>(alloc: Global) -> Arg<'a>
     word(alloc, "DATABASE", help, ArgAction::Set)
 }
 
-/// A command with the options that stand before and behind its word; help begins with `about` and ends with `after`.
+/// A command with the options that are before and after its word; help begins with `about` and ends with `after`.
 pub fn shared<'a>(alloc: Global, name: &'a str, about: &'a str, after: &'a str) -> Draft<'a>
     ensures { IsDraft (with_shared (new_app name.entry.now)) result }
 {

@@ -6,7 +6,7 @@ ghost use Rattle.hwdb_cli.specs.Drafts.{IsDraft};
 ghost use Rattle.hwdb_spec.specs.Jobs.{IsTask};
 ghost use Rattle.hwdb_spec.specs.CommandLine.{dump_app};
 
-use crate::drafts::{Draft, database_argument, shared, with_argument};
+use crate::drafts::{Draft, database_argument, shared, text_option, with_argument};
 use crate::matched::{copied, text_of};
 use clap::ArgMatches;
 use hwdb_spec::Task;
@@ -26,7 +26,8 @@ pub fn command<'a>(alloc: Global) -> Draft<'a>
     ensures { IsDraft dump_app result }
 {
     let command = shared(alloc, "dump", ABOUT, AFTER);
-    with_argument(command, database_argument(alloc))
+    let with_text = with_argument(command, text_option(alloc));
+    with_argument(with_text, database_argument(alloc))
 }
 
 /// The task of `dump`.

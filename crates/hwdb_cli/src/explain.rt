@@ -6,7 +6,7 @@ ghost use Rattle.hwdb_cli.specs.Drafts.{IsDraft};
 ghost use Rattle.hwdb_spec.specs.Jobs.{HasValue, IsTask};
 ghost use Rattle.hwdb_spec.specs.CommandLine.{explain_app};
 
-use crate::drafts::{Draft, json_option, needed_word, shared, with_argument};
+use crate::drafts::{Draft, json_option, needed_word, shared, text_option, with_argument};
 use crate::matched::{has_flag, value_of};
 use clap::{ArgAction, ArgMatches};
 use hwdb_spec::Task;
@@ -30,7 +30,8 @@ pub fn command<'a>(alloc: Global) -> Draft<'a>
     let help =
         "The device string, or - for the lines of standard input; one that begins with - stands after --";
     let command = shared(alloc, "explain", ABOUT, AFTER);
-    let with_json = with_argument(command, json_option(alloc));
+    let with_text = with_argument(command, text_option(alloc));
+    let with_json = with_argument(with_text, json_option(alloc));
     let device = needed_word(alloc, "MODALIAS", help, ArgAction::Set);
     with_argument(with_json, device)
 }

@@ -71,7 +71,7 @@ pub fn fitting_help(alloc: Global, text: &str) -> Result<String, AllocError> {
             shown.push_str("\n")?;
         }
     }
-    // The text ends in a newline, behind which there is an empty line.
+    // The text ends in a newline, and an empty line is after it.
     let _ = shown.pop();
     Ok(shown)
 }

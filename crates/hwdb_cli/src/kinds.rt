@@ -53,8 +53,8 @@ fn fault_of(alloc: Global, name: &str, kinds: &str) -> Result<String, AllocError
     Ok(text)
 }
 
-/// What is said of the first word after `--allow` that names no kind of warning: also which kind it is like, if it is like one.
-/// None if each names one, or the task has no such words. `kinds` has a name a line.
+/// What is said of the first word after `--allow` that names no kind of warning. It says which kind the word is like, if there
+/// is one. None if each names one, or the task has no such words. `kinds` has a name a line.
 ///
 /// The only error is that memory is refused.
 pub fn kind_fault(alloc: Global, task: &Task, kinds: &str) -> Result<Option<String>, AllocError> {

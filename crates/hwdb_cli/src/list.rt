@@ -6,7 +6,9 @@ ghost use Rattle.hwdb_cli.specs.Drafts.{IsArgument, IsDraft};
 ghost use Rattle.hwdb_spec.specs.Jobs.{HasValue, IsLimit, IsNumber, IsTask};
 ghost use Rattle.hwdb_spec.specs.CommandLine.{limit_rule, list_app};
 
-use crate::drafts::{Draft, device_argument, json_option, option, shared, with_argument};
+use crate::drafts::{
+    Draft, device_argument, json_option, option, shared, text_option, with_argument,
+};
 use crate::matched::{copied, has_flag, text_of, value_of};
 use clap::builder::ValueParser;
 use clap::{Arg, ArgMatches};
@@ -32,7 +34,8 @@ pub fn command<'a>(alloc: Global) -> Draft<'a>
     let command = shared(alloc, "list", ABOUT, AFTER);
     let with_after = with_argument(command, option(alloc, "after", "POS", help));
     let with_limit = with_argument(with_after, limit_option(alloc));
-    let with_json = with_argument(with_limit, json_option(alloc));
+    let with_text = with_argument(with_limit, text_option(alloc));
+    let with_json = with_argument(with_text, json_option(alloc));
     with_argument(with_json, device_argument(alloc))
 }
 

@@ -6,7 +6,7 @@ ghost use Rattle.hwdb_cli.specs.Drafts.{IsArgument, IsDraft};
 ghost use Rattle.hwdb_spec.specs.Jobs.{HasValue, IsNumber, IsTask};
 ghost use Rattle.hwdb_spec.specs.CommandLine.{limit_rule, near_app};
 
-use crate::drafts::{Draft, json_option, needed_word, option, shared, with_argument};
+use crate::drafts::{Draft, json_option, needed_word, option, shared, text_option, with_argument};
 use crate::list::limit_of;
 use crate::matched::{has_flag, values_of};
 use clap::builder::ValueParser;
@@ -36,7 +36,8 @@ pub fn command<'a>(alloc: Global) -> Draft<'a>
     let help = "Text files, and after them the device string";
     let command = shared(alloc, "near", ABOUT, AFTER);
     let with_limit = with_argument(command, limit_option(alloc));
-    let with_json = with_argument(with_limit, json_option(alloc));
+    let with_text = with_argument(with_limit, text_option(alloc));
+    let with_json = with_argument(with_text, json_option(alloc));
     let words = needed_word(alloc, "MODALIAS", help, ArgAction::Append);
     with_argument(with_json, words)
 }

@@ -6,7 +6,7 @@ ghost use Rattle.hwdb_cli.specs.Drafts.{IsDraft};
 ghost use Rattle.hwdb_spec.specs.Jobs.{HasValue, IsTask};
 ghost use Rattle.hwdb_spec.specs.CommandLine.{query_app};
 
-use crate::drafts::{Draft, json_option, needed_word, shared, with_argument};
+use crate::drafts::{Draft, flag, json_option, needed_word, shared, text_option, with_argument};
 use crate::matched::{has_flag, values_of};
 use clap::{ArgAction, ArgMatches};
 use hwdb_spec::Task;
@@ -29,7 +29,10 @@ pub fn command<'a>(alloc: Global) -> Draft<'a>
     let help =
         "The device strings, or - for the lines of standard input; one that begins with - stands after --";
     let command = shared(alloc, "query", ABOUT, AFTER);
-    let with_json = with_argument(command, json_option(alloc));
+    let with_text = with_argument(command, text_option(alloc));
+    let reload = "With -, read a database that was replaced anew, before the next line is answered";
+    let with_reload = with_argument(with_text, flag(alloc, "reload", reload));
+    let with_json = with_argument(with_reload, json_option(alloc));
     let devices = needed_word(alloc, "MODALIAS", help, ArgAction::Append);
     with_argument(with_json, devices)
 }

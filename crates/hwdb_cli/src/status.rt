@@ -20,7 +20,7 @@ const ABOUT: &str = "Says which database is asked, and whether it is what the te
 
 /// What help ends with.
 const AFTER: &str =
-    "Exit status: 0 if it is; 1 if it isn't or there is none, and on errors.\nExample: hwdb status";
+    "Exit status: 0 if it is and hides none; 1 if it isn't, hides one or there is none, and on errors.\nExample: hwdb status";
 
 /// The command.
 pub fn command<'a>(alloc: Global) -> Draft<'a>
@@ -35,5 +35,5 @@ pub fn task(inner: &ArgMatches<'_>) -> Task
     ensures { IsTask (codes "status") (rows_of (found_of inner.now)) result }
 {
     let json = has_flag(inner, "json");
-    Task::Status { json }
+    Task::Status { json, quiet: false }
 }

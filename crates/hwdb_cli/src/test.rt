@@ -6,7 +6,7 @@ ghost use Rattle.hwdb_cli.specs.Drafts.{IsArgument, IsDraft};
 ghost use Rattle.hwdb_spec.specs.Jobs.{HasValue, IsTask};
 ghost use Rattle.hwdb_spec.specs.CommandLine.{database_option_rule, test_app};
 
-use crate::drafts::{Draft, json_option, needed_word, option, shared, with_argument};
+use crate::drafts::{Draft, json_option, needed_word, option, shared, text_option, with_argument};
 use crate::matched::{copied, has_flag, text_of, values_of};
 use clap::{Arg, ArgAction, ArgMatches};
 use hwdb_spec::Task;
@@ -29,7 +29,8 @@ pub fn command<'a>(alloc: Global) -> Draft<'a>
     let help = "A test file, or - for standard input";
     let command = shared(alloc, "test", ABOUT, AFTER);
     let with_database = with_argument(command, database_option(alloc));
-    let with_json = with_argument(with_database, json_option(alloc));
+    let with_text = with_argument(with_database, text_option(alloc));
+    let with_json = with_argument(with_text, json_option(alloc));
     let files = needed_word(alloc, "FILE", help, ArgAction::Append);
     with_argument(with_json, files)
 }

@@ -1,10 +1,10 @@
-//! The advice in the text of a fault. `clap` takes any name that is a little alike for the one that was meant,
-//! and any word that begins with `-` for a device: what misleads is left out here.
+//! The advice in the text of a fault. `clap` takes any name that is a little alike for the one that was meant, and any
+//! word that begins with `-` for a device. What misleads is left out here.
 use std::alloc::{AllocError, Global};
 use strsim::jaro;
 
-/// How alike an unknown option and a known one have to be, from 0 to 1, for the one to be named as what was meant
-/// (our choice: `--stric` and `--strict` are alike by 0.94, `--foo` and `--root` by 0.72).
+/// How alike an unknown option and a known one have to be, from 0 to 1, so that the known one is proposed. Our choice:
+/// `--stric` and `--strict` are alike by 0.94, `--foo` and `--root` by 0.72.
 pub(crate) const ALIKE: f64 = 0.8;
 
 /// How the advice to take an argument for a device begins, and that to take it for another option.
@@ -18,9 +18,9 @@ const TIP: &str = "  tip: ";
 /// Where the commands stand, for whoever named one that isn't there.
 const COMMANDS_TIP: &str = "  tip: to see all commands, use 'hwdb help'";
 
-/// The text of an unexpected argument's fault, with advice that fits: the known option that it is like, or how it is
-/// passed as a value. `words` are those of the command line. The usage that `clap` makes of a misleading tip goes
-/// with it.
+/// The text of an unexpected argument's fault, with advice that fits. It names the known option that it is like, or
+/// says how it is passed as a value. `words` are those of the command line. The usage that `clap` makes of a misleading
+/// tip goes with it.
 ///
 /// The only error is that memory is refused.
 pub fn with_fitting_tip(alloc: Global, text: &str, words: &[String]) -> Result<String, AllocError> {
@@ -65,7 +65,7 @@ fn push(text: &mut String, paragraph: &str) -> Result<(), AllocError> {
     text.push_str(paragraph)
 }
 
-/// Adds the advice how the argument is passed as a value: that of the option before it, if one stands there, else as
+/// Adds the advice how the argument is passed as a value. It is that of the option before it, if there is one, else as
 /// the tip says.
 fn push_value_tip(
     text: &mut String,

@@ -21,7 +21,7 @@ const ABOUT: &str =
 
 /// What help ends with.
 const AFTER: &str =
-    "Exit status: 0 on success, 1 on errors, and with --strict if a line had a fault or a file was left out.\nExample: hwdb --root /mnt update --strict";
+    "Exit status: 0 on success, 1 on errors, and with --strict if a line had a fault or a file was left out.\nWith --check that of 'hwdb status'.\nExample: hwdb --root /mnt update --strict";
 
 /// The command.
 pub fn command<'a>(alloc: Global) -> Draft<'a>
@@ -29,15 +29,23 @@ pub fn command<'a>(alloc: Global) -> Draft<'a>
 {
     let help = "Say which files are taken, and how many assignments they have";
     let skip_help = "Leave out a text file that can't be read, and say so";
+    let check_help = "Write and say nothing: the status is that of 'hwdb status'";
     let command = shared(alloc, "update", ABOUT, AFTER);
     let with_verbose = with_argument(command, flag(alloc, "verbose", help));
-    with_argument(with_verbose, flag(alloc, "skip-unreadable", skip_help))
+    let with_skip = with_argument(with_verbose, flag(alloc, "skip-unreadable", skip_help));
+    with_argument(with_skip, flag(alloc, "check", check_help))
 }
 
 /// The task of `update`.
 pub fn task(inner: &ArgMatches<'_>) -> Task
     ensures { IsTask (codes "update") (rows_of (found_of inner.now)) result }
 {
+    if has_flag(inner, "check") {
+        return Task::Status {
+            json: false,
+            quiet: true,
+        };
+    }
     Task::Update {
         verbose: has_flag(inner, "verbose"),
         skip_unreadable: has_flag(inner, "skip-unreadable"),

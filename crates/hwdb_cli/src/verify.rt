@@ -6,7 +6,7 @@ ghost use Rattle.hwdb_cli.specs.Drafts.{IsDraft};
 ghost use Rattle.hwdb_spec.specs.Jobs.{IsTask};
 ghost use Rattle.hwdb_spec.specs.CommandLine.{verify_app};
 
-use crate::drafts::{Draft, database_argument, shared, with_argument};
+use crate::drafts::{Draft, database_argument, shared, text_option, with_argument};
 use crate::matched::{copied, text_of};
 use clap::ArgMatches;
 use hwdb_spec::Task;
@@ -27,7 +27,8 @@ pub fn command<'a>(alloc: Global) -> Draft<'a>
     ensures { IsDraft verify_app result }
 {
     let command = shared(alloc, "verify", ABOUT, AFTER);
-    with_argument(command, database_argument(alloc))
+    let with_text = with_argument(command, text_option(alloc));
+    with_argument(with_text, database_argument(alloc))
 }
 
 /// The task of `verify`.

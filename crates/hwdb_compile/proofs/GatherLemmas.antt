@@ -3,9 +3,9 @@ use Rattle.std.proofs.Common.{◌≡◌, ◌∙◌, ◌+◌, ◌-◌, ◌^◌, m
 use Rattle.std.specs.Prelude.{Any, flat_map}
 use Rattle.std.specs.List.{slice_index_or}
 use Rattle.std.specs.FinMap as finite
-use Rattle.std.specs.Ordering.{is_eq, nat_cmp, ordering_reverse}
+use Rattle.std.specs.Ordering.{is_eq, nat_cmp}
 use Rattle.std.specs.Cmp.Lexicographic.{slice_cmp}
-use Rattle.std.proofs.lemmas.List.{get_or_default, length-append, reverse-append, append-nil, take_all}
+use Rattle.std.proofs.lemmas.List.{get_or_default, length-append, reverse-append, take_all}
 use Rattle.std.proofs.lemmas.List.Elements.{All-nil, All-cons, All-head, All-tail, All-append}
 use Rattle.hwdb_spec.specs.Lines.{Line, lines, clean, has_equals, has_key, has}
 use Rattle.hwdb_spec.specs.Records.{sections, Origin, assign, patterns, property_assignments, section_assignments, assignments}
@@ -20,23 +20,11 @@ use Rattle.std.specs.Borrow.{Bor}
 use Rattle.std.specs.Option.{option_map_or}
 use Rattle.std.specs.BTreeMap.{BTreeMap, get_by, is_at}
 use Rattle.std.specs.Map.{lookup}
-use Rattle.std.specs.declared.cmp.Ordering.{Ordering}
-use Rattle.std.specs.declared.cmp.Ordering.TheVariants.{Less, Equal, Greater}
 use Rattle.std.proofs.lemmas.Cmp.{nat_list_cmp_total}
 use Rattle.hwdb_compile.specs.declared.sources.SourceFile.{SourceFile}
 use Rattle.hwdb_compile.specs.Internal.Reading.{bytes_at, IsPuttable}
-
--- one more of a list, mapped
-pub mapped_more : {A B : Type 0} (f : A → B) (xs : List A) (i : ℕ) (x : A) → i < length xs → x ≡ get_or xs i x → map f (take (suc i) xs) ≡ map f (take i xs) ++ f x ∷ []
-mapped_more f [] i x lt e = absurd (omega arith)
-mapped_more f (y ∷ xs) zero x lt e = ap (λ z. f z ∷ []) (sym e)
-mapped_more f (y ∷ xs) (suc i) x lt e = ap (λ l. f y ∷ l) (mapped_more f xs i x (omega arith) e)
-
--- one more of a list
-pub taken_more : {A : Type 0} (xs : List A) (i : ℕ) (x : A) → i < length xs → x ≡ get_or xs i x → take (suc i) xs ≡ take i xs ++ x ∷ []
-taken_more [] i x lt e = absurd (omega arith)
-taken_more (y ∷ xs) zero x lt e = ap (λ z. z ∷ []) (sym e)
-taken_more (y ∷ xs) (suc i) x lt e = ap (λ l. y ∷ l) (taken_more xs i x (omega arith) e)
+use Rattle.hwdb_spec.specs.Lemmas.Orders.{turned}
+use Rattle.hwdb_spec.specs.Lemmas.Lists.{gathered_more}
 
 -- it holds of one of them
 pub any_here : {A : Type 0} (P : A → Type 0) (xs : List A) (i : ℕ) (x : A) → i < length xs → x ≡ get_or xs i x → P x → Any P xs
@@ -143,10 +131,6 @@ puttable o file given is storable path priority =
       priority = subst (λ n. 0 < n) (sym (origin k d lt).1) priority;
     }
 
-pub gathered_more : {A B : Type 0} (f : A → List B) (xs : List A) (x : A) → flat_map f (xs ++ x ∷ []) ≡ flat_map f xs ++ f x
-gathered_more f [] x = append-nil (f x)
-gathered_more f (y ∷ xs) x = ap (λ l. f y ++ l) (gathered_more f xs x) ∙ sym (append_assoc (f y) (flat_map f xs) (f x))
-
 -- the assignments of one more file
 pub tree_step : {A : Type 0} (done : List Assignment) (f : A → List Assignment) (files more : List A) (file : A) (given : List Assignment) (tree : Map)
     → tree ≡ surviving ((done ++ flat_map f files) ++ given) → given ≡ f file → more ≡ files ++ file ∷ [] → tree ≡ surviving (done ++ flat_map f more)
@@ -184,11 +168,6 @@ pub sources_append : (xs ys : List SourceFile) → sources (xs ++ ys) ≡ source
 sources_append [] ys = refl
 sources_append (x ∷ xs) ys = ap (λ l. source_of x ∷ l) (sources_append xs ys)
 
-flipped_equal : (o : Ordering) → is_eq (ordering_reverse o) ≡ is_eq o
-flipped_equal Less = refl
-flipped_equal Equal = refl
-flipped_equal Greater = refl
-
 -- a file that was put is found at its name
 pub put_at : (before after : BTreeMap (Bor (List ℕ)) (Bor (List ℕ))) (key value : Bor (List ℕ)) (name : List ℕ)
     → get_by (λ k. slice_cmp nat_cmp name k.now) after ≡ cond (is_eq (slice_cmp nat_cmp key.now name)) (Some value) (get_by (λ k. slice_cmp nat_cmp name k.now) before)
@@ -199,7 +178,7 @@ put_at before after key value name is =
       | true ↦ refl
       | false ↦ refl
     ]
-    ∙ ap (λ b. if b then value.now else bytes_at before name) (sym (flipped_equal (slice_cmp nat_cmp key.now name)) ∙ sym (ap is_eq (nat_list_cmp_total.antisymm name key.now)))
+    ∙ ap (λ b. if b then value.now else bytes_at before name) (sym (turned (slice_cmp nat_cmp key.now name)) ∙ sym (ap is_eq (nat_list_cmp_total.antisymm name key.now)))
 
 -- the last of some files was put, and those before it are left
 pub files_step : (name : List ℕ) (rest before : List SourceFile) (file : SourceFile) (old new all : List ℕ) (key bytes : List ℕ)

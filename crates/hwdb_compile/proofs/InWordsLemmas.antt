@@ -1,17 +1,11 @@
 -- Of the assignments of files the last one of a pattern and key is the latest by priority and line.
 use Rattle.std.proofs.Common.{◌≡◌, ◌∙◌, ap, sym, refl, subst, ℕ, suc, ◌<◌, ◌≤◌, ◌⊎◌, true, false, List, [], ◌∷◌, ◌++◌, arith, append_assoc, inl, inr, All, map}
-use Rattle.std.specs.Prelude.{Contains, flat_map, if◌then◌else◌}
-use Rattle.std.specs.Ordering.{is_eq, nat_cmp}
-use Rattle.std.specs.Cmp.Lexicographic.{slice_cmp}
-use Rattle.std.specs.FinMap as finite
-use Rattle.std.specs.declared.cmp.Ordering.{Ordering}
-use Rattle.std.specs.declared.cmp.Ordering.TheVariants.{Less, Equal, Greater}
-use Rattle.std.proofs.lemmas.Cmp.{nat_list_cmp_total, tied_itself}
+use Rattle.std.specs.Prelude.{Contains, flat_map}
 use Rattle.std.proofs.lemmas.List.{append-nil}
 use Rattle.std.proofs.lemmas.List.Elements.{All-nil, All-cons, All-append, All-weaker, All-contains, All-contains_itself, Contains-push, Contains-append_left, Contains-append_right, Contains-append_cases}
 use Rattle.hwdb_spec.specs.Assignment.{Assignment}
 use Rattle.hwdb_text.specs.Views.{origin}
-use Rattle.hwdb_spec.specs.Folders.{Choice, same, path_of, chosen_of, contents, file_assignments, all_assignments}
+use Rattle.hwdb_spec.specs.Folders.{Choice, path_of, chosen_of, contents, file_assignments, all_assignments}
 use Rattle.hwdb_compile.specs.Views.{name_of}
 use Rattle.hwdb_spec.specs.Answers.{is_same_place}
 use Rattle.hwdb_spec.specs.Last.{HaveOnePlace, IsLast, IsNoLater, IsLatest}
@@ -19,6 +13,7 @@ use Rattle.hwdb_text.specs.Laws.{PrioritiesCountUp, AssignmentsStandByLine, OneV
 use Rattle.hwdb_compile.specs.Laws.{LastIsLatest}
 use Rattle.hwdb_compile.proofs.GatherLemmas.{From, from_file}
 use Rattle.hwdb_compile.proofs.LatestLemmas.{Rising, Counts, counts, rising_files}
+use Rattle.hwdb_spec.specs.Lemmas.Places.{one_place, place_same}
 
 -- what comes before a member isn't later
 none_later : (done before : List Assignment) (a : Assignment) (behind : List Assignment) → Rising done (before ++ a ∷ behind) → All (λ b. IsNoLater b a) (done ++ before)
@@ -39,32 +34,6 @@ latest_of all a up h =
           (All-weaker (λ b. IsNoLater b a) P (λ b k _. k) h.before earlier)
           (All-cons P a h.behind (λ _. inr (refl, omega arith)) (All-weaker (λ b. ¬ HaveOnePlace a b) P (λ b no p. absurd (no p)) h.behind h.last)));
     }
-
-equal_of : (o : Ordering) → is_eq o ≡ true → o ≡ Equal
-equal_of Less h = cc
-equal_of Equal h = refl
-equal_of Greater h = cc
-
-same_text : (xs ys : List ℕ) → same xs ys ≡ true → xs ≡ ys
-same_text xs ys e = finite.slice_cmp-IsAntisymmetric finite.nat_cmp-IsAntisymmetric xs ys (equal_of (slice_cmp nat_cmp xs ys) e)
-
-same_itself : (n : List ℕ) → same n n ≡ true
-same_itself n = ap is_eq (tied_itself nat_list_cmp_total n)
-
-one_place : (a b : Assignment) → is_same_place a b ≡ true → HaveOnePlace a b
-one_place a b h =
-    elim (same a.position.pattern b.position.pattern) as (λ x. same a.position.pattern b.position.pattern ≡ x
-    → (if x then same a.position.key b.position.key else false) ≡ true → HaveOnePlace a b) [
-      | true ↦ λ e k. (same_text a.position.pattern b.position.pattern e, same_text a.position.key b.position.key k)
-      | false ↦ λ e k. cc
-    ] refl h
-
-place_same : (a b : Assignment) → HaveOnePlace a b → is_same_place a b ≡ true
-place_same a b h =
-    ap (λ p. if same a.position.pattern p then same a.position.key b.position.key else false) (sym h.0)
-    ∙ ap (λ k. if same a.position.pattern a.position.pattern then same a.position.key k else false) (sym h.1)
-    ∙ ap (λ x. if x then same a.position.key a.position.key else false) (same_itself a.position.pattern)
-    ∙ same_itself a.position.key
 
 -- the last of those with the place of one, if there is any
 record LastAt (a : Assignment) (all : List Assignment) : Type 0 where

@@ -14,8 +14,8 @@ use Rattle.hwdb_compile.specs.Views.{name_of}
 use Rattle.hwdb_text.specs.Laws.{PrioritiesCountUp, AssignmentsStandByLine}
 use Rattle.hwdb_spec.specs.Tree.{place_cmp, entry_of, surviving}
 use Rattle.hwdb_compile.specs.Laws.{IsEarlier, SurvivorsAreLatest, SurvivorsAreAssigned, EachPlaceSurvives}
-use Rattle.hwdb_compile.proofs.MemberLemmas.{place_total, same_place}
 use Rattle.hwdb_compile.proofs.GatherLemmas.{surviving_one, from_file}
+use Rattle.hwdb_spec.specs.Lemmas.Places.{place_total, same_place}
 
 abbrev Latest : List Assignment → Type 0
 Latest done = (place : List ℕ × List ℕ) (s : Assignment) → finite.get (surviving done) place ≡ Some s → All (λ a. (entry_of a).0 ≡ place → IsEarlier a s) done

@@ -1,4 +1,3 @@
-pub mod MemberLemmas
 pub mod GatherLemmas
 pub mod AcceptanceLemmas
 pub mod LatestLemmas

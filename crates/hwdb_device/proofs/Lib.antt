@@ -1,6 +1,5 @@
 pub mod AskingLemmas
 pub mod ComputedRows
-pub mod KeyLemmas
 pub mod ListLemmas
 mod NearestLemmas
 pub mod OutcomeLemmas

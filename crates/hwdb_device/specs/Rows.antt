@@ -156,7 +156,8 @@ NearestRow =
     ++ (l (codes "    evdev:a1")
     ++ l (codes "           ^")))))))))))))))))))
 
--- of two strings with a prefix the one counts that misses fewer literals, and of two that miss as many the first; each prefix has its own
+-- Of two strings with a prefix the one that misses fewer literals counts, or the first of two that miss as many. Each prefix has
+-- its own.
 abbrev pub ClosestRow : Type 0
 ClosestRow =
     nearest_text (pattern_at 2 (codes "evdev:abc") ∷ pattern_at 4 (codes "mouse:m") ∷ [])

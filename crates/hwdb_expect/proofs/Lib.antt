@@ -1,4 +1,3 @@
-pub mod AnyLemmas
 pub mod LineLemmas
 pub mod RecordLemmas
 pub mod GivenLemmas

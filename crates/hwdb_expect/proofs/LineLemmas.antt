@@ -1,56 +1,9 @@
 -- A file, line by line.
-use Rattle.std.proofs.Common.{◌≡◌, ℕ, suc, ◌+◌, ◌<◌, ◌≤◌, Bool, true, false, cond, not, List, [], ◌∷◌, take, drop, length, refl, ap, ◌∙◌, sym, arith}
-use Rattle.std.proofs.lemmas.List.{drop-drop, drop_all, length-drop}
-use Rattle.std.specs.List.{position_or_len, onto_first}
+use Rattle.std.proofs.Common.{◌≡◌, ℕ, ◌+◌, ◌<◌, ◌≤◌, List, [], ◌∷◌, take, drop, length, ap}
+use Rattle.std.specs.List.{position_or_len}
 use Rattle.hwdb_spec.specs.Lines.{is, numbered, pieces}
-use Rattle.hwdb_expect.specs.Internal.{line_of}
-
-line_by : (t : Bool) (x : ℕ) (xs : List ℕ) (e : ℕ) (ps : List (List ℕ)) (more : List (List ℕ)) → (t ≡ false → onto_first x ps ≡ (x ∷ take e xs) ∷ more) → (t ≡ true → ps ≡ more)
-    → cond t ([] ∷ ps) (onto_first x ps) ≡ take (cond (not t) (1 + e) 0) (x ∷ xs) ∷ more
-line_by true x xs e ps more f g = ap (λ (r : List (List ℕ)). [] ∷ r) (g refl)
-line_by false x xs e ps more f g = f refl ∙ ap (λ (k : ℕ). take k (x ∷ xs) ∷ more) (let s : suc e ≡ 1 + e = omega arith in s)
-
-rest_by : (t : Bool) (x : ℕ) (xs : List ℕ) (e : ℕ) → t ≡ false → drop (cond (not t) (1 + e) 0 + 1) (x ∷ xs) ≡ drop (e + 1) xs
-rest_by true x xs e f = cc
-rest_by false x xs e f = ap (λ (k : ℕ). drop k (x ∷ xs)) (let s : 1 + e + 1 ≡ suc (e + 1) = omega arith in s)
-
-rest_here : (t : Bool) (x : ℕ) (xs : List ℕ) (e : ℕ) → t ≡ true → drop (cond (not t) (1 + e) 0 + 1) (x ∷ xs) ≡ xs
-rest_here true x xs e f = refl
-rest_here false x xs e f = cc
-
-no_pieces : pieces (is 10) [] ≡ []
-unfolding pieces
-no_pieces = refl
-
--- the first line, and those after it
-line_step : (text : List ℕ) → 0 < length text
-    → pieces (is 10) text ≡ take (position_or_len (is 10) text) text ∷ pieces (is 10) (drop (position_or_len (is 10) text + 1) text)
-unfolding pieces
-line_step [] h = absurd (omega arith)
-line_step (x ∷ []) h =
-    line_by (is 10 x) x [] 0 [] _
-    (λ f. ap (λ (r : List (List ℕ)). (x ∷ []) ∷ r) (sym (ap (pieces (is 10)) (rest_by (is 10 x) x [] 0 f) ∙ no_pieces)))
-    (λ f. sym (ap (pieces (is 10)) (rest_here (is 10 x) x [] 0 f) ∙ no_pieces))
-line_step (x ∷ y ∷ xs) h =
-    line_by (is 10 x) x (y ∷ xs) (position_or_len (is 10) (y ∷ xs)) (pieces (is 10) (y ∷ xs)) _
-    (λ f. ap (onto_first x) (line_step (y ∷ xs) (omega arith))
-    ∙ ap (λ (r : List ℕ). (x ∷ take (position_or_len (is 10) (y ∷ xs)) (y ∷ xs)) ∷ pieces (is 10) r) (sym (rest_by (is 10 x) x (y ∷ xs) (position_or_len (is 10) (y ∷ xs)) f)))
-    (λ f. ap (pieces (is 10)) (sym (rest_here (is 10 x) x (y ∷ xs) (position_or_len (is 10) (y ∷ xs)) f)))
-
--- the line at a place, and those after it
-pub line_at : (file : List ℕ) (at end : ℕ) (rest : List ℕ) → at < length file → rest ≡ drop at file → end ≡ position_or_len (is 10) rest
-    → pieces (is 10) (drop at file) ≡ take end rest ∷ pieces (is 10) (drop (at + end + 1) file)
-line_at file at end rest h r e =
-    let some : 0 < length (drop at file) = omega (arith, length-drop at file) in
-    let q : position_or_len (is 10) (drop at file) ≡ end = sym (e ∙ ap (position_or_len (is 10)) r) in
-    let far : at + (end + 1) ≡ at + end + 1 = omega arith in
-    line_step (drop at file) some
-    ∙ ap (λ (n : ℕ). take n (drop at file) ∷ pieces (is 10) (drop (n + 1) (drop at file))) q
-    ∙ ap (λ (x : List ℕ). take end x ∷ pieces (is 10) (drop (end + 1) (drop at file))) (sym r)
-    ∙ ap (λ (x : List ℕ). take end rest ∷ pieces (is 10) x) (drop-drop (end + 1) at file ∙ ap (λ (n : ℕ). drop n file) far)
-
-pub no_line_at : (file : List ℕ) (at : ℕ) → length file ≤ at → pieces (is 10) (drop at file) ≡ []
-no_line_at file at h = ap (pieces (is 10)) (drop_all at file h) ∙ no_pieces
+use Rattle.hwdb_lint.specs.Lemmas.Pieces.{line_at, no_line_at}
+use Rattle.hwdb_lint.specs.Internal.{line_of}
 
 -- from line to line
 pub first_line : (file : List ℕ) (at end number : ℕ) (rest : List ℕ) → at < length file → rest ≡ drop at file → end ≡ position_or_len (is 10) rest

@@ -1,19 +1,9 @@
 -- The records of a test file, line by line.
 use Rattle.std.proofs.Common.{◌≡◌, ℕ, Bool, true, false, List, [], ◌∷◌, ◌++◌, refl, ap, ◌∙◌, sym, cond, not}
-use Rattle.hwdb_spec.specs.Lines.{Line, begins_with, clean, clean_line, has, is_dropped, is_empty, is_match, is_property}
+use Rattle.hwdb_spec.specs.Lines.{Line, begins_with, clean, clean_line, has, is_empty, is_match, is_property}
 use Rattle.hwdb_spec.specs.Wanted.{Record, no_record, records_from, with_line}
-use Rattle.hwdb_expect.specs.Internal.{line_of}
-
--- a line, by what it says
-clean_by : (d : Bool) (l : Line) (more : List Line) → is_dropped l ≡ d → clean (l ∷ more) ≡ cond d (clean more) (clean_line l ∷ clean more)
-clean_by d l more e = ap (λ (t : Bool). cond t (clean more) (clean_line l ∷ clean more)) e
-
-kept : (c z : Bool) → c ≡ false → z ≡ false → cond c true z ≡ false
-kept true z e f = cc
-kept false z e f = f
-
-pub cleaned : (number : ℕ) (text : List ℕ) (more : List Line) → begins_with 35 text ≡ false → has 0 text ≡ false → clean (line_of number text ∷ more) ≡ clean_line (line_of number text) ∷ clean more
-cleaned number text more e f = clean_by false (line_of number text) more (kept (begins_with 35 text) (has 0 text) e f)
+use Rattle.hwdb_lint.specs.Internal.{line_of}
+use Rattle.hwdb_lint.specs.Lemmas.Lines.{cleaned}
 
 -- what is read of a clean line
 read_by : (e : Bool) (r : Record) (l : Line) (m : List Line) → is_empty l ≡ e → records_from r (l ∷ m) ≡ cond e (r ∷ records_from no_record m) (records_from (with_line r l) m)

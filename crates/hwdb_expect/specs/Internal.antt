@@ -5,10 +5,6 @@ use Rattle.hwdb_spec.specs.Wanted.{GivenValue, Record, about, failures, holds, r
 use Rattle.hwdb_expect.specs.Views.{device_at, line_at, record_at}
 use Rattle.hwdb_expect.specs.declared.records.Reading.{Reading}
 
--- the line with this number and this text
-abbrev pub line_of : ℕ → List ℕ → Line
-line_of number text = record { number = number; text = text }
-
 -- the record that hasn't ended
 abbrev pub open_record : Reading → Record
 open_record r = record { devices = map device_at r.devices.items; lines = map line_at r.lines.items }

@@ -46,8 +46,8 @@ AssignRows =
     flat_map (λ r. flat_map (λ l. map {B = List ℕ × (List ℕ × List ℕ)} (λ d. (d, (key l, value l))) r.devices) r.lines) (records valued_file)
     ≡ map (λ a. (a.position.pattern, (a.position.key, a.value))) (assignments (record { path = []; priority = 1 }) valued_file)
 
--- Which lines are malformed: none of a good file; a property without a device; `B` without `=` or `!`; `!` alone, and with a blank
--- after it; `=1`; a device after a property; a device without properties.
+-- Which lines are malformed: none of a good file. A property without a device, `B` without `=` or `!`, `!` alone, and with a blank
+-- after it. `=1`, a device after a property, a device without properties.
 abbrev pub MalformedRows : Type 0
 MalformedRows =
     map (λ file. map (λ (f : Fault). f.line) (malformed file))
@@ -58,7 +58,8 @@ MalformedRows =
 abbrev pub given : List ℕ → List ℕ → GivenValue
 given key value = record { key = key; value = value; path = codes "/f"; line = 7 }
 
--- What is printed of a line that wants a value, one that wants a key away, and one that wants nothing else; and the last line.
+-- What is printed of a line that wants a value, of one that wants a key away, and of one that wants nothing else. Then the
+-- last line.
 abbrev pub TextRows : Type 0
 TextRows =
     failures false (codes "t") (codes "d") (at_two (codes " A=1")) []

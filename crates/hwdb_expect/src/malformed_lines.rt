@@ -4,7 +4,7 @@ ghost use Rattle.hwdb_spec.specs.Lines;
 ghost use Rattle.hwdb_spec.specs.Lines.{lines};
 ghost use Rattle.hwdb_spec.specs.Reports.{text_of_line};
 ghost use Rattle.hwdb_spec.specs.Wanted;
-ghost use Rattle.hwdb_expect.specs.Internal.{line_of};
+ghost use Rattle.hwdb_lint.specs.Internal.{line_of};
 ghost use Rattle.hwdb_expect.specs.Views.{line_at};
 
 use crate::wanted_lines::{WantedLine, is_none, property_of, tail, value_of};

@@ -4,7 +4,8 @@ ghost use Rattle.hwdb_spec.specs.Lines.{Line, clean};
 ghost use Rattle.hwdb_spec.specs.Wanted;
 ghost use Rattle.hwdb_spec.specs.Wanted.{no_record, records_from};
 ghost use Rattle.hwdb_expect.specs.Views.{record_at};
-ghost use Rattle.hwdb_expect.specs.Internal.{line_of, open_record, read_with};
+ghost use Rattle.hwdb_expect.specs.Internal.{open_record, read_with};
+ghost use Rattle.hwdb_lint.specs.Internal.{line_of};
 
 use crate::wanted_lines::WantedLine;
 use hwdb_text::{Content, content_of, end_of};

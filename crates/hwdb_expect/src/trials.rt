@@ -282,8 +282,8 @@ fn push_end(json: bool, text: &mut Vec<u8>, held: &[bool]) -> Result<(), AllocEr
     Ok(())
 }
 
-/// What the test files say of a database: each line that doesn't hold of a device of its record, or of a file each malformed line;
-/// and at the end how many. The status is 0 if each line holds, else 1.
+/// What the test files say of a database: each line that doesn't hold of a device, or each malformed line of a file. At the end it
+/// says how many. The status is 0 if each line holds, else 1.
 ///
 /// One descent of the tree for each device, and a look at its properties for each line. It is an error if a file has more than
 /// 4,294,967,295 lines, or if an allocation fails.

@@ -8,6 +8,7 @@ use Rattle.hwdb_forms.specs.Laws.{FormsAreTested, FrontsAreTested}
 use Rattle.hwdb_forms.proofs.MeetLemmas.{or_cases, or_first, or_second}
 use Rattle.hwdb_forms.proofs.RowLemmas.{form_met}
 use Rattle.hwdb_forms.proofs.ReadLemmas.{form_out, form_in}
+use Rattle.hwdb_spec.specs.Lemmas.Truth.{or_left}
 
 pub met_out : (form : Form) (ts : List Token) → IsTrue (meets_form ts form) → (text : List ℕ) × HasForm form text × Matches ts text
 met_out form ts h = let m : IsMet (Fits form) ts = (form_met form ts).0 h in (m.0, form_out form m.0 m.1, m.2)
@@ -68,10 +69,6 @@ next_form : (A : Type 0) (f : A → Form) (l : List A) (i : ℕ) (d : A) (ts : L
     → can_match (map f (drop i l)) ts ≡ (meets_form ts (f (get_or l i d)) || can_match (map f (drop (suc i) l)) ts)
 next_form A f l i d ts h = rw (drop-cons l i d h) refl
 
-or_true : (a b : Bool) → a ≡ true → (a || b) ≡ true
-or_true true b e = refl
-or_true false b e = cc
-
 or_false : (a b : Bool) → a ≡ false → (a || b) ≡ b
 or_false true b e = cc
 or_false false b e = refl
@@ -79,7 +76,7 @@ or_false false b e = refl
 pub form_found : (A : Type 0) (f : A → Form) (l : List A) (i : ℕ) (d : A) (ts : List Token) (met whole : Bool) → i < length l → met ≡ meets_form ts (f (get_or l i d)) → met ≡ true
     → can_match (map f (drop i l)) ts ≡ whole → true ≡ whole
 form_found A f l i d ts met whole h e t w =
-    sym (or_true (meets_form ts (f (get_or l i d))) (can_match (map f (drop (suc i) l)) ts) (sym e ∙ t)) ∙ sym (next_form A f l i d ts h) ∙ w
+    sym (or_left (meets_form ts (f (get_or l i d))) (can_match (map f (drop (suc i) l)) ts) (sym e ∙ t)) ∙ sym (next_form A f l i d ts h) ∙ w
 
 pub form_passed : (A : Type 0) (f : A → Form) (l : List A) (i n : ℕ) (d : A) (ts : List Token) (met whole : Bool) → i < length l → n ≡ suc i → met ≡ meets_form ts (f (get_or l i d)) → met ≡ false
     → can_match (map f (drop i l)) ts ≡ whole → can_match (map f (drop n l)) ts ≡ whole
@@ -106,7 +103,7 @@ match_both (form ∷ more) second ts = ap (λ b. meets_form ts form || b) (match
     or_again false b c = refl
 
 pub first_matches : (first second : List Form) (ts : List Token) (met : Bool) → met ≡ can_match first ts → met ≡ true → true ≡ can_match (first ++ second) ts
-first_matches first second ts met e t = sym (match_both first second ts ∙ or_true (can_match first ts) (can_match second ts) (sym e ∙ t))
+first_matches first second ts met e t = sym (match_both first second ts ∙ or_left (can_match first ts) (can_match second ts) (sym e ∙ t))
 
 pub second_tells : (first second : List Form) (ts : List Token) (met told : Bool) → met ≡ can_match first ts → met ≡ false → told ≡ can_match second ts → told ≡ can_match (first ++ second) ts
 second_tells first second ts met told e f k = k ∙ sym (match_both first second ts ∙ or_false (can_match first ts) (can_match second ts) (sym e ∙ f))

@@ -9,17 +9,14 @@ use Rattle.hwdb_spec.specs.Forms.{Form, HasForm, can_begin, meets_form}
 use Rattle.hwdb_spec.specs.FormTable.{asked}
 use Rattle.hwdb_forms.specs.Internal.{AreEnough}
 use Rattle.hwdb_forms.proofs.AnswerLemmas.{match_joined, match_parted, met_in, met_out, star_any}
-
-or_false : (a b : Bool) → (a || b) ≡ false → (a ≡ false) × (b ≡ false)
-or_false true b e = absurd cc
-or_false false b e = (refl, e)
+use Rattle.hwdb_spec.specs.Lemmas.Truth.{or_neither}
 
 -- a byte that is no bracket, after others
 pub plain_more : (text : List ℕ) (i n : ℕ) → i < length text → n ≡ suc i → (get_or text i 0 ≡ 91 → ⊥) → has 91 (take i text) ≡ false → has 91 (take n text) ≡ false
 plain_more [] i n lt e other before = absurd (omega (arith, lt))
 plain_more (b ∷ text) zero n lt e other before = rw e (ap (λ c. c || false) (ne_eqb b 91 other))
 plain_more (b ∷ text) (suc i) n lt e other before =
-    let parts = or_false (b == 91) (has 91 (take i text)) before in
+    let parts = or_neither (b == 91) (has 91 (take i text)) before in
     rw e (ap (λ c. c || has 91 (take (suc i) text)) parts.0 ∙ plain_more text i (suc i) (omega (arith, lt)) refl other parts.1)
 
 -- ---- tokens before the first bracket don't go by what comes after them
@@ -50,7 +47,7 @@ tokens_after : (plain more : List ℕ) → has 91 plain ≡ false → tokens (pl
 unfolding tokens_from
 tokens_after [] more e = refl
 tokens_after (b ∷ plain) more e =
-    let parts = or_false (b == 91) (has 91 plain) e in
+    let parts = or_neither (b == 91) (has 91 plain) e in
     plain_next b (plain ++ more) parts.0
     ∙ ap (λ (ts : List Token). token_at (b ∷ []) ∷ ts) (tokens_after plain more parts.1)
     ∙ sym (ap (λ (ts : List Token). ts ++ tokens more) (plain_next b plain parts.0))

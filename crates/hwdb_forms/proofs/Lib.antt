@@ -1,4 +1,3 @@
-pub mod MatchLemmas
 pub mod MeetLemmas
 pub mod RowLemmas
 pub mod ReadLemmas

@@ -6,8 +6,8 @@ use Rattle.hwdb_spec.specs.declared.ByteSet.{ByteSet}
 use Rattle.hwdb_spec.specs.declared.ByteSet.TheVariants.{Only}
 use Rattle.hwdb_spec.specs.Forms.{Piece, Form, fixed, counted, repeated, is_in, is_star, meets, head, tail, byte_cell, byte_row, many_cell, many_row, fixed_row, counted_row, piece_row, pieces_row, either_row, none_row, end_row, field_row, fields_row, meets_form}
 use Rattle.hwdb_forms.specs.Internal.{ByteThen, ManyThen, FixedThen, CountedThen, PieceThen, PiecesThen, FieldThen, Fields, Fits, IsMet, takes}
-use Rattle.hwdb_forms.proofs.MatchLemmas.{single, single_admits, single_rest, single_empty, star_nothing, star_more, star_step, star_empty}
 use Rattle.hwdb_forms.proofs.MeetLemmas.{either_true, first_true, second_true, both_first, both_second, both_true, meets_in, meets_out}
+use Rattle.hwdb_pattern.specs.Lemmas.Matching.{single, single_admits, single_empty, single_rest, star_empty, star_more, star_nothing, star_step}
 
 -- each cell of the row tells whether some text is met by the tokens from there on
 abbrev pub Knows : (List ℕ → Type 0) → List Token → List Bool → Type 0
@@ -42,7 +42,7 @@ byte_single_out set Told t ts (b ∷ rest) s f m =
 byte_single_in : (set : ByteSet) (Told : List ℕ → Type 0) (t : Token) (ts : List Token) → is_star t ≡ false → IsTrue (meets t set) → IsMet Told ts → IsMet (ByteThen set Told) (t ∷ ts)
 byte_single_in set Told t ts s h m =
     let found : (b : ℕ) × IsTrue (is_in set b) × IsTrue (takes t b) = meets_out t set h in
-    (found.0 ∷ m.0, (found.1, m.1), single t ts found.0 m.0 s (takes_single t found.0 s found.2) m.2)
+    (found.0 ∷ m.0, (found.1, m.1), single t ts found.0 m.0 (takes_single t found.0 s found.2) m.2)
 
 byte_star_out : (set : ByteSet) (Told : List ℕ → Type 0) (ts : List Token) (text : List ℕ) → ByteThen set Told text → Matches (star ∷ ts) text → IsMet (ByteThen set Told) ts ⊎ (IsTrue (meets star set) × IsMet Told (star ∷ ts))
 byte_star_out set Told ts [] f m = absurd f
@@ -81,7 +81,7 @@ many_single_out set Told t ts (b ∷ rest) s f m = elim f [
 many_single_in : (set : ByteSet) (Told : List ℕ → Type 0) (t : Token) (ts : List Token) → is_star t ≡ false → IsTrue (meets t set) → IsMet (ManyThen set Told) ts → IsMet (ManyThen set Told) (t ∷ ts)
 many_single_in set Told t ts s h m =
     let found : (b : ℕ) × IsTrue (is_in set b) × IsTrue (takes t b) = meets_out t set h in
-    (found.0 ∷ m.0, inr (found.1, m.1), single t ts found.0 m.0 s (takes_single t found.0 s found.2) m.2)
+    (found.0 ∷ m.0, inr (found.1, m.1), single t ts found.0 m.0 (takes_single t found.0 s found.2) m.2)
 
 many_star_out : (set : ByteSet) (Told : List ℕ → Type 0) (ts : List Token) (text : List ℕ) → ManyThen set Told text → Matches (star ∷ ts) text → IsMet Told (star ∷ ts) ⊎ IsMet (ManyThen set Told) ts
 many_star_out set Told ts [] f m = inl ([], f, m)

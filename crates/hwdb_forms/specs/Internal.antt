@@ -144,7 +144,7 @@ HaveWays [] = Unit {0}
 HaveWays ([] ∷ more) = ⊥
 HaveWays ((way ∷ ways) ∷ more) = HaveWays more
 
--- Tokens match a piece and what comes after it, if a star alone matches that: they end in a star, and those before it match the
+-- Tokens match a piece and what comes after it, if a star alone matches that. They end in a star, and those before it match the
 -- piece's first bytes.
 abbrev pub StarEnds : Forms.Piece → List Token → Type 0
 StarEnds p ts =

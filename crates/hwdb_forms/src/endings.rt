@@ -1,5 +1,5 @@
-//! Tokens that end in a star: where they match the first bytes of a piece, the star matches all that comes after these, and no row
-//! is needed.
+//! Tokens that end in a star: if they match the first bytes of a piece, the star matches all that comes after these. No row is
+//! needed then.
 ghost use Rattle.std.specs.Prelude.{◌≡◌, ◌∷◌, [], IfSome, drop, map, true};
 ghost use Rattle.hwdb_spec.specs.Patterns.{star};
 ghost use Rattle.hwdb_forms.specs.Internal.{HaveWays, StarEnds, fields_of, passed_counted, piece_of, views, way_met};

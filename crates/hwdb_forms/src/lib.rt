@@ -3,9 +3,9 @@
 //! Which texts are asked is known by forms (`Forms` and `FormTable` of `hwdb_spec`): `usb:v`, four digits, `p`, four digits and so
 //! on. A pattern is judged against all of them, so that a wildcard in its prefix needs no case of its own.
 //!
-//! [`judge`] goes through a form from its back. It keeps one row of cells, one for each place of the pattern's tokens: whether the
-//! tokens from there on match some text of the form's rest. Each byte of the form makes a new row of the last one. So the time is at
-//! most the pattern's length times the forms', and no automaton is built.
+//! [`judge`] goes through a form from its back. It keeps one row of cells, one for each place of the pattern's tokens. A cell says
+//! whether the tokens from there on match some text of the form's rest. Each byte of the form makes a new row of the last one. So
+//! the time is at most the pattern's length times the forms', and no automaton is built.
 //!
 //! | Module | What it does |
 //! |---|---|

@@ -1,4 +1,4 @@
-//! The rows of a form, from its back: each tells of each place of the tokens whether they match, from there on, some text of the
+//! The rows of a form, from its back. Each tells of each place of the tokens whether they match, from there on, some text of the
 //! form's rest.
 ghost use Rattle.std.specs.Prelude.{◌≡◌, ◌+◌, length, map, IfOk, if◌then◌else◌, true, false};
 ghost use Rattle.hwdb_spec.specs.Forms.{head, is_star};

@@ -21,9 +21,11 @@ use Rattle.hwdb_spec.specs.Refusals.{HasReason, IsUnread, IsUnreadable, file_tex
 use Rattle.hwdb_spec.specs.declared.refusals.Refusal.{Refusal}
 use Rattle.hwdb_spec.specs.declared.refusals.Refusal.TheVariants.{At, InWords, NoDatabase, Plain}
 use Rattle.hwdb_spec.specs.declared.errors.ToolError.TheVariants.{Read, Write, TooLong, TooManyFiles, TooManyLines, TooLarge, BadPosition, BadDatabase, Replace, Memory}
-use Rattle.hwdb_fs.proofs.NameLemmas.{contains_filter, same_itself, same_name}
+use Rattle.hwdb_fs.proofs.NameLemmas.{contains_filter}
 use Rattle.hwdb_fs.proofs.ReasonLemmas.{chosen_fails, chosen_reason}
 use Rattle.hwdb_fs.proofs.SelectionLemmas.{any_unread, chosen_unread}
+use Rattle.hwdb_spec.specs.Lemmas.Orders.{same_itself, same_text}
+use Rattle.hwdb_spec.specs.Lemmas.Truth.{neither_or}
 
 -- ---- what is left is a part
 abbrev bytes_of : Stored → List ℕ
@@ -68,17 +70,13 @@ folders_apart root name n e =
     let second : 101 ≡ 117 = ap (λ (l : List ℕ). get_or l 1 0) ends in
     absurd (omega (arith, second))
 
-neither : (a b : Bool) → a ≡ false → b ≡ false → (a || b) ≡ false
-neither true b e f = absurd (cc)
-neither false b e f = f
-
 etc_named : (root name n : List ℕ) → same n name ≡ is_named root (path_in (etc_files root) name) n
 etc_named root name n = by (same n name) refl
   where
     by : (b : Bool) → same n name ≡ b → b ≡ is_named root (path_in (etc_files root) name) n
     by true e = sym (or_left _ (bytes_eq (path_in (etc_files root) name) (path_in (usr_files root) n))
-        ((bytes_eq-Decides (path_in (etc_files root) name) (path_in (etc_files root) n)).1 (ap (path_in (etc_files root)) (sym (same_name n name e)))))
-    by false e = sym (neither (bytes_eq (path_in (etc_files root) name) (path_in (etc_files root) n)) (bytes_eq (path_in (etc_files root) name) (path_in (usr_files root) n))
+        ((bytes_eq-Decides (path_in (etc_files root) name) (path_in (etc_files root) n)).1 (ap (path_in (etc_files root)) (sym (same_text n name e)))))
+    by false e = sym (neither_or (bytes_eq (path_in (etc_files root) name) (path_in (etc_files root) n)) (bytes_eq (path_in (etc_files root) name) (path_in (usr_files root) n))
         (unequal (path_in (etc_files root) name) (path_in (etc_files root) n)
         (λ is. absurd (let h : same n name ≡ true = ap (λ (m : List ℕ). same n m) (same_end name n (append_cancel_left (etc_files root) (47 ∷ name) (47 ∷ n) is)) ∙ same_itself n in cc)))
         (unequal (path_in (etc_files root) name) (path_in (usr_files root) n) (folders_apart root name n)))
@@ -88,8 +86,8 @@ usr_named root name n = by (same n name) refl
   where
     by : (b : Bool) → same n name ≡ b → b ≡ is_named root (path_in (usr_files root) name) n
     by true e = sym (or_right (bytes_eq (path_in (usr_files root) name) (path_in (etc_files root) n)) _
-        ((bytes_eq-Decides (path_in (usr_files root) name) (path_in (usr_files root) n)).1 (ap (path_in (usr_files root)) (sym (same_name n name e)))))
-    by false e = sym (neither (bytes_eq (path_in (usr_files root) name) (path_in (etc_files root) n)) (bytes_eq (path_in (usr_files root) name) (path_in (usr_files root) n))
+        ((bytes_eq-Decides (path_in (usr_files root) name) (path_in (usr_files root) n)).1 (ap (path_in (usr_files root)) (sym (same_text n name e)))))
+    by false e = sym (neither_or (bytes_eq (path_in (usr_files root) name) (path_in (etc_files root) n)) (bytes_eq (path_in (usr_files root) name) (path_in (usr_files root) n))
         (unequal (path_in (usr_files root) name) (path_in (etc_files root) n) (λ is. folders_apart root n name (sym is)))
         (unequal (path_in (usr_files root) name) (path_in (usr_files root) n)
         (λ is. absurd (let h : same n name ≡ true = ap (λ (m : List ℕ). same n m) (same_end name n (append_cancel_left (usr_files root) (47 ∷ name) (47 ∷ n) is)) ∙ same_itself n in cc))))

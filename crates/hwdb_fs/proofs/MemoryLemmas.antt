@@ -1,5 +1,5 @@
 -- A store in memory: what stands under a path was put there by one of its steps.
-use Rattle.std.proofs.Common.{◌≡◌, ◌≢◌, ◌∙◌, ◌⊎◌, ◌||◌, inl, inr, ap, sym, refl, subst, bytes_eq, true, false, List, ℕ, [], ◌∷◌, ◌++◌, Option, Some, None, if◌then◌else◌, All, ◌<◌, zero, suc, length, take, get_or, arith}
+use Rattle.std.proofs.Common.{◌≡◌, ◌≢◌, ◌∙◌, ◌⊎◌, ◌||◌, inl, inr, ap, sym, refl, subst, bytes_eq, true, false, List, ℕ, [], ◌∷◌, ◌++◌, Option, Some, None, if◌then◌else◌, All}
 use Rattle.std.specs.Prelude.{is_some, option_map, MatchOption, not, drop, Contains}
 use Rattle.std.specs.Option.{option_map_or}
 use Rattle.std.proofs.lemmas.List.Elements.{All-push, Contains-append_left, Contains-push}
@@ -79,7 +79,7 @@ made_more (y ∷ xs) x p (inr h) = or_here (made_more xs x p h)
     or_here (inr h) = inr h
 
 -- ---- names
--- the name behind a folder and a slash
+-- the name after a folder and a slash
 pub name_of_path : (folder path rest : List ℕ) (r : Option (Bor (List ℕ))) → path ≡ folder ++ rest
     → MatchOption r ((more : List ℕ) → rest ≢ (47 ∷ []) ++ more) (λ x. rest ≡ (47 ∷ []) ++ x.now)
     → MatchOption r ((name : List ℕ) → path ≡ path_in folder name → ⊥) (λ name. path ≡ path_in folder name.now)
@@ -126,9 +126,3 @@ pushed_all steps folder xs x old new pushed all = λ name is made. by_case name 
     by_case name is (inr (other, found, e)) (inr made) =
         let same : other ≡ name = same_name folder other name (ap (λ o. option_map_or (λ b. b) o []) (sym found.1 ∙ made)) in
         subst (λ l. Contains l name) (sym e) (subst (Contains (old ++ other ∷ [])) same (Contains-push old other))
-
--- one more of a list
-pub taken_more : {A : Type 0} (xs : List A) (i : ℕ) (x : A) → i < length xs → x ≡ get_or xs i x → take (suc i) xs ≡ take i xs ++ x ∷ []
-taken_more [] i x lt e = absurd (omega arith)
-taken_more (y ∷ xs) zero x lt e = ap (λ z. z ∷ []) (sym e)
-taken_more (y ∷ xs) (suc i) x lt e = ap (λ l. y ∷ l) (taken_more xs i x (omega arith) e)

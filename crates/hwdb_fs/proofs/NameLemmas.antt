@@ -3,38 +3,19 @@ use Rattle.std.proofs.Common.{◌≡◌, ◌∙◌, ◌<◌, ◌++◌, ◌||◌,
 use Rattle.std.specs.Borrow.{Bor}
 use Rattle.std.specs.BTreeSet.{BTreeSet, contains}
 use Rattle.std.specs.Cmp.Lexicographic.{slice_cmp}
-use Rattle.std.specs.FinMap as finite
 use Rattle.std.specs.List.{list_any}
 use Rattle.std.specs.Ordering.{is_eq, nat_cmp}
 use Rattle.std.specs.declared.cmp.Ordering.{Ordering}
-use Rattle.std.specs.declared.cmp.Ordering.TheVariants.{Less, Equal, Greater}
 use Rattle.std.proofs.lemmas.Bool.{cond_both}
-use Rattle.std.proofs.lemmas.Cmp.{nat_list_cmp_total, tied_itself}
 use Rattle.std.proofs.lemmas.List.Folds.{list_any-append}
-use Rattle.hwdb_spec.specs.Assignment.{text_cmp}
 use Rattle.hwdb_spec.specs.Folders.{lists, same}
 use Rattle.hwdb_fs.specs.Internal.{IsNameSet}
-
--- one more of a list, mapped
-mapped_more : {A B : Type 0} (f : A → B) (xs : List A) (i : ℕ) (x : A) → i < length xs → x ≡ get_or xs i x → map f (take (suc i) xs) ≡ map f (take i xs) ++ f x ∷ []
-mapped_more f [] i x lt e = absurd (omega arith)
-mapped_more f (y ∷ xs) zero x lt e = ap (λ z. f z ∷ []) (sym e)
-mapped_more f (y ∷ xs) (suc i) x lt e = ap (λ l. f y ∷ l) (mapped_more f xs i x (omega arith) e)
+use Rattle.hwdb_spec.specs.Lemmas.Orders.{equal_of}
+use Rattle.hwdb_spec.specs.Lemmas.Truth.{or_one_more}
+use Rattle.hwdb_spec.specs.Lemmas.Lists.{mapped_more}
 
 abbrev order : Bor (List ℕ) → Bor (List ℕ) → Ordering
 order x y = slice_cmp nat_cmp x.now y.now
-
-or_true : (b : Bool) → true ≡ (b || true)
-or_true true = refl
-or_true false = refl
-
-or_false : (b : Bool) → b ≡ (b || false)
-or_false true = refl
-or_false false = refl
-
-one_more : (c : Bool) (a b : Bool) → a ≡ b → cond c true a ≡ (b || (c || false))
-one_more true a b e = or_true b
-one_more false a b e = e ∙ or_false b
 
 -- one more name in the set
 pub name_step : (names : List (String Global)) (i : ℕ) (x : String Global) (old new : BTreeSet (Bor (List ℕ))) (k : Bor (List ℕ)) → i < length names → x ≡ get_or names i x
@@ -44,21 +25,9 @@ name_step names i x old new k lt is own so_far put = λ q.
     let before = map string_bytes (take i names) in
     let next : map string_bytes (take (suc i) names) ≡ before ++ string_bytes x ∷ [] = mapped_more string_bytes names i x lt is in
     put q
-    ∙ one_more (is_eq (order k q)) _ _ (so_far q)
+    ∙ or_one_more (is_eq (order k q)) _ _ (so_far q)
     ∙ ap (λ (t : List ℕ). lists q.now before || (same t q.now || false)) own
     ∙ sym (ap (list_any (λ n. same n q.now)) next ∙ list_any-append (λ n. same n q.now) before (string_bytes x ∷ []))
-
--- equal names
-equal_is : (o : Ordering) → is_eq o ≡ true → o ≡ Equal
-equal_is Less e = absurd (cc)
-equal_is Equal e = refl
-equal_is Greater e = absurd (cc)
-
-pub same_name : (a b : List ℕ) → same a b ≡ true → a ≡ b
-same_name a b e = finite.slice_cmp-IsAntisymmetric finite.nat_cmp-IsAntisymmetric a b (equal_is (text_cmp a b) e)
-
-pub same_itself : (a : List ℕ) → same a a ≡ true
-same_itself a = ap is_eq (tied_itself nat_list_cmp_total a)
 
 -- a name that passes is among those that are kept
 pub contains_filter : (p : List ℕ → Bool) (names : List (List ℕ)) (name : List ℕ) → Contains names name → p name ≡ true → Contains (filter p names) name

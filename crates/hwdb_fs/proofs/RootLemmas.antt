@@ -19,14 +19,6 @@ pub none_before : (b : ℕ) (text : List ℕ) → has b (before_first (is b) tex
 none_before b [] = refl
 none_before b (x ∷ xs) = none_by (is b x) b x (position_or_len (is b) xs) xs refl (none_before b xs)
 
-absent_by : (t : Bool) (n k : ℕ) (r : Bool) → cond (not t) (1 + n) 0 ≡ suc k → (n ≡ k → r ≡ false) → (t || r) ≡ false
-absent_by true n k r e f = absurd (omega arith)
-absent_by false n k r e f = f (omega arith)
-
-pub none_at_all : (b : ℕ) (text : List ℕ) → position_or_len (is b) text ≡ length text → has b text ≡ false
-none_at_all b [] e = refl
-none_at_all b (x ∷ xs) e = absent_by (is b x) (position_or_len (is b) xs) (length xs) (has b xs) e (none_at_all b xs)
-
 -- all names but the last ones lead inward
 pub front_names : (xs ys : List (String Global)) → All IsName (map string_bytes (xs ++ ys)) → All IsName (map string_bytes xs)
 front_names [] ys all k d lt = absurd (omega (arith, lt))

@@ -1,6 +1,5 @@
 -- What is refused while the folders' files are chosen and read, and while they are compiled.
-use Rattle.std.proofs.Common.{◌+◌, [], Some, ◌≡◌, ◌<◌, ◌≤◌, ◌∷◌, All, Bool, arith, drop, false, length-append, suc, take, true, ◌++◌, ◌∙◌, inl, inr, ◌⊎◌, ⊎_elim, ap, sym, subst, refl, ℕ, List, length, map, get_or, string_bytes, Global, String, Result, Ok, Err, IfErr, IfOk}
-use Rattle.std.specs.Result.{IsErrAnd}
+use Rattle.std.proofs.Common.{◌+◌, [], Some, ◌≡◌, ◌<◌, ◌≤◌, ◌∷◌, All, Bool, arith, drop, false, length-append, suc, take, true, ◌++◌, ◌∙◌, inl, inr, ◌⊎◌, ⊎_elim, ap, sym, subst, refl, ℕ, List, length, map, get_or, string_bytes, Global, String}
 use Rattle.std.proofs.lemmas.List.{length-map, get_or-map, map-append, take_more}
 use Rattle.std.proofs.lemmas.List.Elements.{All-map}
 use Rattle.std.proofs.Math.Seq.{get_or-append_seam, split_at}
@@ -19,20 +18,6 @@ use Rattle.hwdb_spec.specs.Refusals.{IsUnread}
 use Rattle.hwdb_spec.specs.Reading.{AreUnread, AreUnreadAt, AreUnreadIn, IsChosenUnread, IsFirstUnread, IsText}
 use Rattle.hwdb_spec.specs.declared.refusals.Refusal.{Refusal}
 use Rattle.hwdb_spec.specs.declared.refusals.Refusal.TheVariants.{Plain}
-
--- a property of the error that is handed on
-pub given_error : {T E : Type 0} (e : E) (P : E → Type 0) (r : Result T E) → IsErrAnd r (λ x. x ≡ e) → P e → IfErr r P
-given_error e P (Ok x) is p = tt
-given_error e P (Err x) is p = subst P (sym is) p
-
--- of an error, or of a value, what follows from a property
-pub each_error : {T E : Type 0} (P Q : E → Type 0) (r : Result T E) → ((e : E) → P e → Q e) → IfErr r P → IfErr r Q
-each_error P Q (Ok x) f p = tt
-each_error P Q (Err x) f p = f x p
-
-pub each_value : {T E : Type 0} (P Q : T → Type 0) (r : Result T E) → ((x : T) → P x → Q x) → IfOk r P → IfOk r Q
-each_value P Q (Ok x) f p = f x p
-each_value P Q (Err x) f p = tt
 
 -- a chosen file, by its place
 pub chosen_unread : (root : List ℕ) (chosen : List Chosen) (k : ℕ) (file : Chosen) (refusal : Refusal) → file ≡ get_or chosen k file → k < length chosen

@@ -49,7 +49,7 @@ abbrev pub IsNamedBy : List Step → (folder : List ℕ) → Step → Option (Li
 IsNamedBy steps folder step None = (name : List ℕ) → IsNameIn folder (seen_of steps) name → made_by step ≢ Some (path_in folder name)
 IsNamedBy steps folder step (Some name) = IsNameIn folder (seen_of steps) name × (made_by step ≡ Some (path_in folder name))
 
--- that name was put behind the others, or there is none
+-- that name was put after the others, or there is none
 abbrev pub IsPushed : List Step → (folder : List ℕ) → Step → (old new : List (List ℕ)) → Type 0
 IsPushed steps folder step old new =
     (IsNamedBy steps folder step None × (new ≡ old)) ⊎ ((name : List ℕ) × IsNamedBy steps folder step (Some name) × (new ≡ old ++ name ∷ []))

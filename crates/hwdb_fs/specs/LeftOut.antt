@@ -1,5 +1,5 @@
--- Chosen text files that can't be read, and that an update leaves out with `--skip-unreadable`: which these may be, what is said
--- of them, and which files are left. Our choice.
+-- Chosen text files that can't be read, and that an update leaves out with `--skip-unreadable`. It says which these may be, what
+-- is said of them, and which files are left. Our choice.
 use Rattle.std.specs.Prelude.{◌++◌, ◌∷◌, ◌≡◌, All, Contains, Err, List, Ok, Result, [], map, true, ℕ}
 use Rattle.hwdb_spec.specs.Folders.{Choice, path_of}
 use Rattle.hwdb_spec.specs.LeftOut.{AreLeftOut}

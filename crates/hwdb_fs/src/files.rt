@@ -6,6 +6,7 @@ ghost use Rattle.hwdb_fs.specs.Internal.{IsOfName};
 ghost use Rattle.hwdb_fs.specs.Raw.{IsMisnamedAt};
 ghost use Rattle.hwdb_spec.specs.Refusals.{IsUnlisted};
 
+use crate::identity::Identity;
 use crate::parts::{Lockable, clear_parts, is_ours};
 use crate::raw::StdFiles;
 use crate::reads::{any_bytes, database_bytes, folder_names, is_there, names_in, text_bytes};
@@ -354,6 +355,10 @@ where
 
     fn cause(&self) -> Option<Cause> {
         self.cause
+    }
+
+    fn identity(&self, path: &str) -> Option<Identity> {
+        self.files().identity_of(path)
     }
 }
 

@@ -230,8 +230,8 @@ fn selected_but<D: System>(
     selected_of(alloc, root, &etc, usr, system)
 }
 
-/// Chooses among the text files of both folders below the root without those of the chosen ones that can't be read, and
-/// reads the chosen ones. What a file that is left out masks is left out too.
+/// Chooses among the text files of both folders below the root, and reads the chosen ones. Chosen ones that can't be
+/// read are left out. What a file that is left out masks is left out too.
 fn selected_less<D: System>(
     alloc: Global,
     root: &str,

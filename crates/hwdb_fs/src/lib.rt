@@ -8,7 +8,9 @@
 //! | `laws` | which of the chosen files an error names
 //! | `files` | files and folders: the file system that the runtime reaches |
 //! | `raw` | what a file system answers to what reading asks; `reads`: what is made of these answers; `read_laws`: laws of that; `one_file`: answers for tests |
+//! | `identity` | what tells a file from one that replaced it |
 //! | `devices` | the file system as it is asked for devices |
+//! | `overlay` | a file system with another database in its place |
 //! | `parts` | new files of updates: whose they are, and what killed updates left |
 //! | `roots` | where a path below a root leads; `place` is such a place |
 //! | `memory` | a store in memory as such a system, for tests |
@@ -18,11 +20,13 @@
 mod devices;
 mod files;
 mod folders;
+mod identity;
 mod laws;
 mod left_out;
 mod machine;
 mod memory;
 mod one_file;
+mod overlay;
 mod parts;
 mod place;
 mod raw;
@@ -36,10 +40,12 @@ mod system;
 pub use files::{SystemStore, joined, path_in};
 pub use folders::{Selection, selected, with_texts};
 pub use hwdb_spec::Refusal;
+pub use identity::Identity;
 pub use laws::first_long_file_is_named;
 pub use left_out::{ReadableSelection, name_set, selected_readable};
 pub use machine::Machine;
 pub use one_file::OneFile;
+pub use overlay::Overlay;
 pub use parts::Lockable;
 pub use raw::{Kind, RawFiles, StdFiles, Unread};
 pub use read_laws::answers_are_told;

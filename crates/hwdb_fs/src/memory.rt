@@ -14,11 +14,9 @@ use hwdb_print::ToolError;
 use hwdb_replace::memory::state_of;
 use hwdb_replace::{Memory, Step};
 use hwdb_spec::Refusal;
+use hwdb_sysfs::NO_ENTRY;
 use hwdb_text::counts;
 use std::alloc::{AllocError, Global};
-
-/// The number of the error of a path where nothing stands (errno, on Linux).
-const NO_ENTRY: i32 = 2;
 
 /// The path under which a step has a file stand.
 fn made_by(step: &Step) -> Option<&[u8]>
@@ -109,7 +107,7 @@ fn named_by<'a>(
     Ok(None)
 }
 
-/// Puts the name of the text file that a step has stand in a folder behind the others.
+/// Puts the name of the text file that a step has in a folder after the others.
 fn push_name(
     alloc: Global,
     steps: &[Step],

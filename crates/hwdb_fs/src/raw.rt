@@ -8,6 +8,7 @@ ghost use Rattle.hwdb_fs.specs.declared.raw.Unread.{Unread};
 ghost use Rattle.hwdb_fs.specs.declared.raw.Unread.TheVariants.{TooLong};
 ghost use Rattle.hwdb_fs.specs.Raw.{IsTold, IsToldRead};
 
+use crate::identity::Identity;
 use crate::roots::Root;
 use hwdb_io::{Cause, FromRead, MAX_BYTES, ReadError, read_all};
 use std::alloc::Global;
@@ -104,6 +105,17 @@ impl<'a, R: Files> StdFiles<'a, R> {
     /// The runtime.
     pub fn runtime(&self) -> &'a R {
         self.rt
+    }
+
+    /// What tells the file at a path from one that replaces it, if it can be told.
+    pub fn identity_of(&self, path: &str) -> Option<Identity> {
+        let Ok(place) = self.root.place_of(self.rt, path) else {
+            return None;
+        };
+        match fs::metadata(self.rt, place.as_str()) {
+            Ok(found) => Some(Identity::of(&found)),
+            Err(_) => None,
+        }
     }
 
     /// The path of what a path leads to below the root, with no link in it. Fails if nothing is there.

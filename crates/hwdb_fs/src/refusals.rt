@@ -137,7 +137,7 @@ pub fn remedy(path: &[u8]) -> &'static str
     }
 }
 
-/// Writes the line of a fault of the database at a path: its name, where it has one its offset, the path, and what to do.
+/// Writes the line of a fault of the database at a path: its name, any offset, the path, and what to do.
 fn refuse_database_at<E: Sink>(alloc: Global, path: &[u8], fault: DbFault, err: &mut E)
     ensures line { Refused (refusal_line (fault_line path.now fault))
         (E.taken err.old) (E.taken err.new) (E.failures err.old) (E.failures err.new) }

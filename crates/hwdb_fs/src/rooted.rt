@@ -7,7 +7,7 @@ use hwdb_spec::Refusal;
 
 /// A [`System`] that may go below a root.
 pub trait Rooted: System {
-    /// Goes below a root. The paths of folders and databases, and those of the store, which all begin with it from now on,
+    /// Goes below a root. The paths of folders and databases, and those of the store, all begin with it from now on. They
     /// lead on inside it, as if it were `/`, whatever links are on the way. Changes no file. Refuses what is no folder.
     fn enter(&mut self, root: &str) -> Result<(), Refusal>
         ensures same { Self.tells → self.new ≡ self.old }

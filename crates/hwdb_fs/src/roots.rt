@@ -7,6 +7,7 @@ ghost use Rattle.hwdb_fs.specs.Roots.{IsBelow, IsName, below};
 use crate::place::Place;
 use hwdb_io::Cause;
 use hwdb_spec::Refusal;
+use hwdb_sysfs::{LINK_LOOP, NO_FOLDER};
 use std::alloc::Global;
 use std::path::PathBuf;
 use std::rt::Files;
@@ -14,11 +15,6 @@ use std::{fs, io};
 
 /// How many links are followed on the way to one place: as many as Linux follows.
 const MAX_LINKS: usize = 40;
-
-/// The numbers of the errors of a path with more links, and of one on which something is no folder (errno, on Linux).
-const TOO_MANY_LINKS: i32 = 40;
-
-const NO_FOLDER: i32 = 20;
 
 /// What a link that masks a text file says. It counts by its text: a root may have no devices.
 const NULL: &str = "/dev/null";
@@ -101,7 +97,7 @@ fn place_in<R: Files>(alloc: Global, rt: &R, root: &str, path: &str) -> io::Resu
         next.push_str(after)?;
         left = next;
     }
-    Err(io::Error::from_raw_os_error(TOO_MANY_LINKS))
+    Err(io::Error::from_raw_os_error(LINK_LOOP))
 }
 
 /// The place of a root's /dev/null.

@@ -6,6 +6,7 @@ ghost use Rattle.hwdb_spec.specs.GivenFolders.{IsUnlistedFolder};
 ghost use Rattle.hwdb_spec.specs.Reading.{IsFolderAt};
 ghost use Rattle.hwdb_spec.specs.Refusals.{HasReason, IsUnlisted, IsUnread, IsUnreadAt, IsUnreadable};
 
+use crate::identity::Identity;
 use hwdb_io::Cause;
 use hwdb_replace::Store;
 use hwdb_spec::Refusal;
@@ -85,6 +86,12 @@ pub trait System: Store {
 
     /// Why the first call that failed did, where the system knows it. For messages alone: no promise speaks of it.
     fn cause(&self) -> Option<Cause> {
+        None
+    }
+
+    /// What tells the file at a path from one that replaces it; None if nothing is there, or it can't be told. No promise
+    /// speaks of it.
+    fn identity(&self, _path: &str) -> Option<Identity> {
         None
     }
 }

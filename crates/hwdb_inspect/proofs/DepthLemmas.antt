@@ -8,7 +8,8 @@ use Rattle.hwdb_spec.specs.Tree.Children.{NoMore, Child}
 use Rattle.hwdb_reader.specs.Views.{children_of, list_of, node_count, nodes_below, entered_tree}
 use Rattle.hwdb_inspect.specs.Internal.Walks.{kids_of, depth_in, deepest_to_come, Opened}
 use Rattle.hwdb_inspect.specs.declared.walk.OpenVisit.{OpenVisit}
-use Rattle.hwdb_inspect.proofs.WalkLemmas.{gone_on, on_top, opened_top, opened_kids, kids_next}
+use Rattle.hwdb_inspect.proofs.WalkLemmas.{gone_on, opened_top, opened_kids, kids_next}
+use Rattle.hwdb_query.specs.Lemmas.Stacks.{on_top}
 
 mutual
   unfolding nodes node_count

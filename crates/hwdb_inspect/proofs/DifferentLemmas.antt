@@ -7,7 +7,7 @@ use Rattle.std.specs.List.Sorted.{IsPermutation, IsSorted}
 use Rattle.std.specs.Ordering.{is_lt}
 use Rattle.hwdb_spec.specs.Assignment.{ascending, text_cmp}
 use Rattle.hwdb_spec.specs.Summary.{different}
-use Rattle.hwdb_inspect.proofs.AscendingLemmas.{deduped, ordered_is, same_bytes}
+use Rattle.hwdb_text.specs.Lemmas.Ascending.{deduped, ordered_is, same_bytes}
 
 module _ {X : Type 0} (text : X → List ℕ) where
   text_at : (xs : List X) (k : ℕ) (d : List ℕ) (e : X) → k < length xs → get_or (map text xs) k d ≡ text (get_or xs k e)

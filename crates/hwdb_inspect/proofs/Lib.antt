@@ -5,13 +5,10 @@ pub mod MergeLemmas
 pub mod PairLemmas
 pub mod DiffLemmas
 pub mod DepthLemmas
-pub mod AscendingLemmas
 pub mod DifferentLemmas
-pub mod MemberLemmas
 pub mod OrderedLemmas
 pub mod SaidLemmas
 pub mod ReadLemmas
 pub mod PlacedLemmas
 pub mod StateLemmas
-pub mod JsonLemmas
 pub mod ToldLemmas

@@ -12,7 +12,9 @@ use Rattle.hwdb_spec.specs.Tree.{Tree, IsTree, place_cmp, entry_of, map_of, Map,
 use Rattle.hwdb_spec.specs.Differences.{Change, change_between, change_at, joined, differences}
 use Rattle.hwdb_spec.specs.Differences.Change.{Came, Went}
 use Rattle.hwdb_inspect.specs.Internal.Merging.{place_of, by_place, merged, merged_from, Both, Pairs, paired, paired_from}
-use Rattle.hwdb_inspect.proofs.OrderLemmas.{place_total, place_same, and_of, and_first, and_second, is_less, entries_of_tree}
+use Rattle.hwdb_inspect.proofs.OrderLemmas.{and_of, and_first, and_second, is_less, entries_of_tree}
+use Rattle.hwdb_spec.specs.Lemmas.Orders.{equal_of}
+use Rattle.hwdb_spec.specs.Lemmas.Places.{equal_place, place_total}
 
 abbrev Place : Type 0
 Place = List ℕ × List ℕ
@@ -154,11 +156,6 @@ look_came q (y ∷ ys) =
     elim (is_eq (place_cmp q (place_of y))) as (λ b.
     cond b (let is : Option Both = Some (None, Some y) in is) (find place_cmp q (came_pairs ys)) ≡ both_of None (cond b (Some y) (look q ys))) [ true ↦ refl | false ↦ rest ]
 
-equal_of : (o : Ordering) → is_eq o ≡ true → o ≡ Equal
-equal_of Less h = cc
-equal_of Equal h = refl
-equal_of Greater h = cc
-
 look_at : (q : Place) (x : Assignment) (xs : List Assignment) (b : Bool) → is_eq (place_cmp q (place_of x)) ≡ b → look q (x ∷ xs) ≡ cond b (Some x) (look q xs)
 look_at q x xs b e = ap (λ c. cond c (Some x) (look q xs)) e
 
@@ -243,7 +240,7 @@ named_look f g q (e ∷ es) =
     let rest : find place_cmp q (named f g es) ≡ cond (is_some (find place_cmp q es)) (Some (f q, g q)) None = named_look f g q es in
     elim (is_eq (place_cmp q e.0)) as (λ b. is_eq (place_cmp q e.0) ≡ b →
     cond b (Some (f e.0, g e.0)) (find place_cmp q (named f g es)) ≡ cond (is_some (cond b (Some e.1) (find place_cmp q es))) (Some (f q, g q)) None) [
-      | true ↦ λ t. ap (λ (p : Place). let is : Option Both = Some (f p, g p) in is) (sym (place_same q e.0 (equal_of _ t)))
+      | true ↦ λ t. ap (λ (p : Place). let is : Option Both = Some (f p, g p) in is) (sym (equal_place q e.0 (equal_of _ t)))
       | false ↦ λ t. rest
     ] refl
 
@@ -281,7 +278,7 @@ module _ (m n : Map) (xs ys : List Assignment) (old : finite.entries m ≡ entri
       ∙ ap (λ (g : Option Assignment × Option Assignment). is_some g.0 || is_some g.1) (λ i. (sym (finite.get-entries m q) i, sym (finite.get-entries n q) i))
 
   same_pairs : named (finite.get m) (finite.get n) (finite.entries (joined m n)) ≡ paired xs ys
-  same_pairs = same_entries place_cmp place_total place_same _ _
+  same_pairs = same_entries place_cmp place_total equal_place _ _
       (named_sorted (finite.get m) (finite.get n) (finite.entries (joined m n)) (finite.entries_sorted (joined m n)))
       (paired_sorted xs ys sorted_old sorted_new)
       (λ q. named_look (finite.get m) (finite.get n) q (finite.entries (joined m n))

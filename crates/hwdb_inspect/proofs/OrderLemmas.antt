@@ -1,35 +1,21 @@
 -- What a tree assigns ascends by pattern and key.
-use Rattle.std.proofs.Common.{◌≡◌, ◌∙◌, ap, sym, refl, subst, ℕ, ◌<◌, List, [], ◌∷◌, ◌++◌, map, arith, append_assoc, Option, Some, None, Bool, true, false, ◌&&◌, T, if◌then◌else◌, ◌==◌, eqb-true}
+use Rattle.std.proofs.Common.{◌≡◌, ◌∙◌, ap, sym, refl, subst, ℕ, ◌<◌, List, [], ◌∷◌, ◌++◌, map, append_assoc, Option, Some, None, Bool, true, false, ◌&&◌, T}
 use Rattle.std.specs.Prelude.{flat_map}
 use Rattle.std.specs.FinMap as finite
 use Rattle.std.specs.FinMap.Entries.{is_sorted, below_all}
 use Rattle.std.specs.List.{AllByRecursion}
-use Rattle.std.specs.Cmp.{IsTotalOrder, nat_cmp_is}
+use Rattle.std.specs.Cmp.{nat_cmp_is}
 use Rattle.std.specs.Ordering.{ordering_then, is_lt}
 use Rattle.std.specs.declared.cmp.Ordering.{Ordering}
-use Rattle.std.specs.declared.cmp.Ordering.TheVariants.{Less, Equal, Greater}
-use Rattle.std.proofs.lemmas.Cmp.{nat_list_cmp_total, nat_cmp_total, tied_itself, on_total, then_total}
+use Rattle.std.specs.declared.cmp.Ordering.TheVariants.{Less}
+use Rattle.std.proofs.lemmas.Cmp.{nat_list_cmp_total, nat_cmp_total, tied_itself}
 use Rattle.hwdb_spec.specs.Assignment.{Assignment, text_cmp}
 use Rattle.hwdb_spec.specs.Tree.{Tree, Children, Value, values_under, values_below, KeysAscend, IsTree, BytesAscend, members_under, place_cmp, entry_of, key_of, assigned_at, map_of}
 use Rattle.hwdb_spec.specs.Tree.Tree.{Node}
 use Rattle.hwdb_spec.specs.Tree.Children.{NoMore, Child}
 use Rattle.hwdb_query.specs.Internal.Members.{assignment_of as assigned_by}
-
-pub place_total : IsTotalOrder place_cmp
-place_total = then_total (on_total (λ (p : List ℕ × List ℕ). p.0) nat_list_cmp_total) (on_total (λ (p : List ℕ × List ℕ). p.1) nat_list_cmp_total)
-
-then_equal : (a b : Ordering) → ordering_then a b ≡ Equal → (a ≡ Equal) × (b ≡ Equal)
-then_equal Less b h = absurd (cc)
-then_equal Equal b h = (refl, h)
-then_equal Greater b h = absurd (cc)
-
-pub place_same : finite.IsAntisymmetric place_cmp
-place_same x y e =
-    let both = then_equal (text_cmp x.0 y.0) (text_cmp x.1 y.1) e in
-    let text : finite.IsAntisymmetric text_cmp = finite.slice_cmp-IsAntisymmetric finite.nat_cmp-IsAntisymmetric in
-    let pattern : x.0 ≡ y.0 = text x.0 y.0 both.0 in
-    let key : x.1 ≡ y.1 = text x.1 y.1 both.1 in
-    λ i. (pattern i, key i)
+use Rattle.hwdb_spec.specs.Lemmas.Places.{equal_place, key_is, place_total}
+use Rattle.hwdb_query.specs.Lemmas.Paths.{Above, From, all_map, below_above, keys_above, under_from}
 
 -- ---- what is below the nodes
 
@@ -54,15 +40,6 @@ rises_append (p ∷ ps) qs d e far = (both ps qs d.0 far.0, rises_append ps qs d
     both [] qs a b = b
     both (r ∷ ps) qs a b = (a.0, both ps qs a.1 b)
 
--- keys above a key stay above it
-keys_above : (before : List ℕ) (values : List Value) → KeysAscend (Some before) values → AllByRecursion (λ v. text_cmp before v.key ≡ Less) values
-keys_above before [] h = tt
-keys_above before (v ∷ vs) h = (h.0, lift vs (keys_above v.key vs h.1))
-  where
-    lift : (vs : List Value) → AllByRecursion (λ w. text_cmp v.key w.key ≡ Less) vs → AllByRecursion (λ w. text_cmp before w.key ≡ Less) vs
-    lift [] a = tt
-    lift (w ∷ ws) a = (nat_list_cmp_total.trans before v.key w.key h.0 a.0, lift ws a.1)
-
 own_below : (path : List ℕ) (v : Value) (vs : List Value) → AllByRecursion (λ w. text_cmp v.key w.key ≡ Less) vs → Below (path, v) (map (λ w. (path, w)) vs)
 own_below path v [] a = tt
 own_below path v (w ∷ ws) a = (ap (λ o. ordering_then o (text_cmp v.key w.key)) (tied_itself nat_list_cmp_total path) ∙ a.0, own_below path v ws a.1)
@@ -71,49 +48,6 @@ own_rises : (path : List ℕ) (before : Option (List ℕ)) (values : List Value)
 unfolding Rises
 own_rises path before [] h = tt
 own_rises path before (v ∷ vs) h = (own_below path v vs (keys_above v.key vs h.1), own_rises path (Some v.key) vs h.1)
-
--- paths that go on from a path with a byte above `low`
-pub record Above (path : List ℕ) (low : ℕ) (pattern : List ℕ) : Type 0 where
-  pub byte : ℕ
-  pub rest : List ℕ
-  pub is : pattern ≡ path ++ byte ∷ rest
-  pub above : low < byte
-
--- paths that begin with a path
-pub record From (path pattern : List ℕ) : Type 0 where
-  pub rest : List ℕ
-  pub is : pattern ≡ path ++ rest
-
-all_append : (P : List ℕ × Value → Type 0) (ps qs : List (List ℕ × Value)) → AllByRecursion P ps → AllByRecursion P qs → AllByRecursion P (ps ++ qs)
-all_append P [] qs a b = b
-all_append P (p ∷ ps) qs a b = (a.0, all_append P ps qs a.1 b)
-
-all_map : (P Q : List ℕ × Value → Type 0) → ((p : List ℕ × Value) → P p → Q p) → (ps : List (List ℕ × Value)) → AllByRecursion P ps → AllByRecursion Q ps
-all_map P Q f [] a = tt
-all_map P Q f (p ∷ ps) a = (f p a.0, all_map P Q f ps a.1)
-
-own_from : (path prefix : List ℕ) (values : List Value) → AllByRecursion (λ (p : List ℕ × Value). From path p.0) (map (λ v. (path ++ prefix, v)) values)
-own_from path prefix [] = tt
-own_from path prefix (v ∷ vs) = (record { rest = prefix; is = refl }, own_from path prefix vs)
-
-mutual
-  unfolding values_under IsTree
-
-  under_from : (path : List ℕ) (t : Tree) → IsTree t → AllByRecursion (λ (p : List ℕ × Value). From path p.0) (values_under path t)
-  under_from path (Node prefix values children) h =
-      let below : AllByRecursion (λ (p : List ℕ × Value). Above (path ++ prefix) 0 p.0) (values_below (path ++ prefix) children) = below_above (path ++ prefix) 0 children h.1 in
-      all_append (λ (p : List ℕ × Value). From path p.0) (map (λ v. (path ++ prefix, v)) values) (values_below (path ++ prefix) children) (own_from path prefix values)
-      (all_map (λ (p : List ℕ × Value). Above (path ++ prefix) 0 p.0) (λ (p : List ℕ × Value). From path p.0) (λ p a. record { rest = prefix ++ a.byte ∷ a.rest; is = a.is ∙ append_assoc path prefix (a.byte ∷ a.rest) }) _ below)
-
-  below_above : (path : List ℕ) (low : ℕ) (ks : Children) → BytesAscend low ks → AllByRecursion (λ (p : List ℕ × Value). Above path low p.0) (values_below path ks)
-  below_above path low NoMore h = tt
-  below_above path low (Child byte t more) h =
-      let here : AllByRecursion (λ (p : List ℕ × Value). From (path ++ byte ∷ []) p.0) (values_under (path ++ byte ∷ []) t) = under_from (path ++ byte ∷ []) t h.1 in
-      let rest : AllByRecursion (λ (p : List ℕ × Value). Above path byte p.0) (values_below path more) = below_above path byte more h.2 in
-      let more_than = h.0 in
-      all_append (λ (p : List ℕ × Value). Above path low p.0) (values_under (path ++ byte ∷ []) t) (values_below path more)
-      (all_map (λ (p : List ℕ × Value). From (path ++ byte ∷ []) p.0) (λ (p : List ℕ × Value). Above path low p.0) (λ p f. record { byte = byte; rest = f.rest; is = f.is ∙ append_assoc path (byte ∷ []) f.rest; above = more_than }) _ here)
-      (all_map (λ (p : List ℕ × Value). Above path byte p.0) (λ (p : List ℕ × Value). Above path low p.0) (λ p a. let b = a.above in record { byte = a.byte; rest = a.rest; is = a.is; above = omega arith }) _ rest)
 
 -- a text comes before each that goes on from it
 longer_above : (path rest : List ℕ) (byte : ℕ) → text_cmp path (path ++ byte ∷ rest) ≡ Less
@@ -178,14 +112,6 @@ and_second false b p = absurd p
 pub is_less : (o : Ordering) → o ≡ Less → T (is_lt o)
 is_less o e = subst (λ r. T (is_lt r)) (sym e) tt
 
-key_is : (k key : List ℕ) → key_of k ≡ Some key → k ≡ 32 ∷ key
-key_is [] key h = cc
-key_is (c ∷ rest) key h =
-    elim (c == 32) as (λ b. (c == 32) ≡ b → (if b then Some rest else None) ≡ Some key → c ∷ rest ≡ 32 ∷ key) [
-      | true ↦ λ e k. let n : c ≡ 32 = eqb-true c 32 e in let r : rest ≡ key = cc in cc
-      | false ↦ λ e k. cc
-    ] refl h
-
 assigned_below : (pattern key : List ℕ) (v : Value) → key_of v.key ≡ Some key → (ps : List (List ℕ × Value)) → Below (pattern, v) ps → T (below_all place_cmp (pattern, key) (map entry_of (flat_map assigned_by ps)))
 assigned_below pattern key v is [] a = tt
 assigned_below pattern key v is (q ∷ ps) a =
@@ -216,7 +142,7 @@ members_sorted t h = assigned_sorted (values_under [] t) (under_rises [] t h)
 pub entries_of_sorted : (es : List ((List ℕ × List ℕ) × Assignment)) → T (is_sorted place_cmp es) → finite.entries (finite.from_entries {R = place_cmp} es) ≡ es
 entries_of_sorted es h =
     let one : finite.from_entries {R = place_cmp} es ≡ finite.from_sorted es =
-    finite.same_map place_total place_same (finite.from_entries es) (finite.from_sorted es) (λ q. finite.get-from_entries place_total es q ∙ sym (finite.get-from_sorted place_cmp es q h)) in
+    finite.same_map place_total equal_place (finite.from_entries es) (finite.from_sorted es) (λ q. finite.get-from_entries place_total es q ∙ sym (finite.get-from_sorted place_cmp es q h)) in
     ap finite.entries one ∙ finite.entries-from_sorted place_cmp es h
 
 pub entries_of_tree : (t : Tree) → IsTree t → finite.entries (map_of t) ≡ map entry_of (members_under [] t)

@@ -1,26 +1,18 @@
 -- The assignments of a database, sorted by their positions.
 use Rattle.std.proofs.Common.{◌≡◌, refl, false, List, [], ◌∷◌, map, T, subst}
-use Rattle.std.specs.Cmp.{IsTotalOrder}
 use Rattle.std.specs.FinMap.Entries.{is_sorted, below_all}
 use Rattle.std.specs.List.{AllByRecursion, IsDistinct}
 use Rattle.std.specs.List.Sorted.{IsPermutation, IsSorted}
 use Rattle.std.specs.Ordering.{nat_cmp, is_eq, is_lt, eq_by_cmp, ordering_then}
 use Rattle.std.specs.declared.cmp.Ordering.{Ordering}
 use Rattle.std.specs.declared.cmp.Ordering.TheVariants.{Less, Equal, Greater}
-use Rattle.std.proofs.lemmas.Cmp.{on_total, then_total, nat_cmp_total, nat_list_cmp_total}
 use Rattle.std.proofs.lemmas.List.Sorted.{IsPermutation-map}
-use Rattle.hwdb_spec.specs.Assignment.{Position, Assignment, position_cmp, assignment_cmp}
+use Rattle.hwdb_spec.specs.Assignment.{Assignment, position_cmp, assignment_cmp}
 use Rattle.hwdb_spec.specs.Dump.{dumped}
 use Rattle.hwdb_spec.specs.Tree.{Tree, IsTree, members_under, place_cmp, entry_of}
-use Rattle.hwdb_inspect.proofs.MemberLemmas.{sorted_is, sorted_map}
 use Rattle.hwdb_inspect.proofs.OrderLemmas.{members_sorted, and_first, and_second}
-
-pub assignment_total : IsTotalOrder assignment_cmp
-unfolding assignment_cmp position_cmp
-assignment_total = on_total (λ (f : Assignment). f.position)
-    (then_total (on_total (λ (s : Position). s.priority) nat_cmp_total)
-    (then_total (on_total (λ (s : Position). s.line) nat_cmp_total)
-    (then_total (on_total (λ (s : Position). s.pattern) nat_list_cmp_total) (on_total (λ (s : Position). s.key) nat_list_cmp_total))))
+use Rattle.hwdb_text.specs.Lemmas.Members.{sorted_is, sorted_map}
+use Rattle.hwdb_spec.specs.Lemmas.Places.{assignment_total}
 
 -- if the last of two orders decides against a tie, the two together don't tie
 then_apart : (a b : Ordering) → is_eq b ≡ false → is_eq (ordering_then a b) ≡ false

@@ -1,61 +1,8 @@
 -- What a tree assigns, by the parts of its root.
-use Rattle.std.proofs.Common.{◌≡◌, ◌∙◌, ap, refl, ℕ, zero, suc, ◌+◌, ◌≤◌, ◌<◌, List, [], ◌∷◌, ◌++◌, drop, map, length, arith, Option, Some, None, slice_get}
-use Rattle.std.specs.Prelude.{flat_map}
-use Rattle.std.proofs.lemmas.Grind.{flat_map-append}
-use Rattle.hwdb_spec.specs.Tree.{Tree, Children, Value, prefix_of, values_under, values_below, assigned_at, key_of, members_under, values_of}
-use Rattle.hwdb_spec.specs.Tree.Tree.{Node}
-use Rattle.hwdb_spec.specs.Tree.Children.{NoMore, Child}
-use Rattle.hwdb_reader.specs.Views.{children_of, list_of, node_count, nodes_below, shown}
-use Rattle.hwdb_query.specs.Internal.Members.{assignment_of as assigned_by, one_assignment, assignment_shown, members_in, own_members}
-use Rattle.hwdb_inspect.specs.Internal.Walks.{nodes_in}
-
--- what a value assigns, and what it is shown to assign
-at_once : (pattern : List ℕ) (v : Value) (o : Option (List ℕ)) → assigned_at pattern v o ≡ one_assignment pattern (shown v) o
-at_once pattern v None = refl
-at_once pattern v (Some key) = refl
-
-own_listed : (pattern : List ℕ) (values : List Value) → flat_map assigned_by (map (λ v. (pattern, v)) values) ≡ own_members pattern values
-unfolding assignment_shown
-own_listed pattern [] = refl
-own_listed pattern (v ∷ values) =
-    ap (λ r. r ++ flat_map assigned_by (map (λ w. (pattern, w)) values)) (at_once pattern v (key_of v.key)) ∙ ap (λ r. assignment_shown pattern (shown v) ++ r) (own_listed pattern values)
-
-below_listed : (path : List ℕ) (ks : Children) → flat_map assigned_by (values_below path ks) ≡ members_in path (list_of ks)
-unfolding values_below list_of
-below_listed path NoMore = refl
-below_listed path (Child byte t more) =
-    flat_map-append assigned_by (values_under (path ++ byte ∷ []) t) (values_below path more)
-    ∙ ap (λ r. members_under (path ++ byte ∷ []) t ++ r) (below_listed path more)
-
-pub members_split : (path : List ℕ) (t : Tree) → members_under path t ≡ own_members (path ++ prefix_of t) (values_of t) ++ members_in (path ++ prefix_of t) (children_of t)
-unfolding values_under prefix_of values_of children_of
-members_split path (Node prefix values children) =
-    flat_map-append assigned_by (map (λ v. (path ++ prefix, v)) values) (values_below (path ++ prefix) children)
-    ∙ ap (λ r. r ++ flat_map assigned_by (values_below (path ++ prefix) children)) (own_listed (path ++ prefix) values)
-    ∙ ap (λ r. own_members (path ++ prefix) values ++ r) (below_listed (path ++ prefix) children)
-
--- the child at a place, and those after it
-pub kid_next : (kids : List (ℕ × Tree)) (i : ℕ) (k : ℕ × Tree) → slice_get kids i ≡ Some k → drop i kids ≡ k ∷ drop (suc i) kids
-kid_next [] i k h = absurd (cc)
-kid_next (j ∷ kids) zero k h = let e : j ≡ k = cc in ap (λ q. q ∷ kids) e
-kid_next (j ∷ kids) (suc i) k h = kid_next kids i k h
-
-pub kid_behind : (kids : List (ℕ × Tree)) (i : ℕ) → length kids ≤ i → drop i kids ≡ []
-kid_behind [] zero h = refl
-kid_behind [] (suc i) h = refl
-kid_behind (k ∷ kids) zero h = absurd (omega arith)
-kid_behind (k ∷ kids) (suc i) h = kid_behind kids i (omega arith)
+use Rattle.std.proofs.Common.{◌≡◌, ℕ, zero, suc, ◌<◌, List, [], ◌∷◌, length, arith, Some, slice_get}
+use Rattle.hwdb_spec.specs.Tree.{Tree}
 
 pub kid_within : (kids : List (ℕ × Tree)) (i : ℕ) (k : ℕ × Tree) → slice_get kids i ≡ Some k → i < length kids
 kid_within [] i k h = absurd (cc)
 kid_within (j ∷ kids) zero k h = omega arith
 kid_within (j ∷ kids) (suc i) k h = let rest = kid_within kids i k h in omega (arith, rest)
-
-nodes_listed : (ks : Children) → nodes_below ks ≡ nodes_in (list_of ks)
-unfolding node_count list_of
-nodes_listed NoMore = refl
-nodes_listed (Child byte tree more) = ap (λ n. node_count tree + n) (nodes_listed more)
-
-pub node_and_below : (t : Tree) → node_count t ≡ 1 + nodes_in (children_of t)
-unfolding node_count children_of
-node_and_below (Node prefix values children) = ap (λ n. 1 + n) (nodes_listed children)

@@ -12,7 +12,8 @@ use Rattle.hwdb_spec.specs.Folders.{same, max_lines}
 use Rattle.hwdb_spec.specs.Lines.{Line, pieces, numbered, lines, clean, clean_line, is_dropped, is_empty, is_none, is_property, is_match, has_equals, has_key}
 use Rattle.hwdb_spec.specs.Records.{Section, Origin, behind, first_section, size, sections_from, sections, patterns, assign, property_assignments, section_assignments, assignments, faults}
 use Rattle.hwdb_inspect.specs.Laws.{said_of}
-use Rattle.hwdb_inspect.proofs.ReadLemmas.{read_from, read_on, read_behind, none_unsaid, nothing_read, if_both, same_is, lines_in, moved}
+use Rattle.hwdb_inspect.proofs.ReadLemmas.{read_from, read_on, read_behind, none_unsaid, nothing_read, if_both, lines_in, moved}
+use Rattle.hwdb_spec.specs.Lemmas.Orders.{same_text}
 
 append_all : {X : Type 0} (P : X → Type 0) (xs ys : List X) → AllByRecursion P xs → AllByRecursion P ys → AllByRecursion P (xs ++ ys)
 append_all P [] ys a b = b
@@ -124,9 +125,9 @@ alone_one f [] h = cc
 alone_one f (a ∷ []) h =
     let p = if_both (if same a.position.pattern f.position.pattern then same a.position.key f.position.key else false) (same a.value f.value) h in
     let q = if_both (same a.position.pattern f.position.pattern) (same a.position.key f.position.key) p.0 in
-    let pattern = same_is a.position.pattern f.position.pattern q.0 in
-    let key = same_is a.position.key f.position.key q.1 in
-    let value = same_is a.value f.value p.1 in
+    let pattern = same_text a.position.pattern f.position.pattern q.0 in
+    let key = same_text a.position.key f.position.key q.1 in
+    let value = same_text a.value f.value p.1 in
     record { one = a; is = refl; said = λ i. (pattern i, (key i, value i)) }
 alone_one f (a ∷ b ∷ more) h = cc
 

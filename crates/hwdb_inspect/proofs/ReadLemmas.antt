@@ -3,13 +3,8 @@ use Rattle.std.proofs.Common.{◌≡◌, ◌∙◌, ◌+◌, ◌-◌, ap, sym, r
 use Rattle.std.proofs.lemmas.Grind.{flat_map-append}
 use Rattle.std.proofs.lemmas.List.{length-map}
 use Rattle.std.specs.List.{onto_first, prefix_len}
-use Rattle.hwdb_spec.specs.Assignment.{Assignment, text_cmp}
+use Rattle.hwdb_spec.specs.Assignment.{Assignment}
 use Rattle.hwdb_spec.specs.Dump.{record_text, comment_text, is_said, first_unsaid}
-use Rattle.hwdb_spec.specs.Folders.{same}
-use Rattle.std.specs.FinMap as finite
-use Rattle.std.specs.Ordering.{is_eq}
-use Rattle.std.specs.declared.cmp.Ordering.{Ordering}
-use Rattle.std.specs.declared.cmp.Ordering.TheVariants.{Less, Equal, Greater}
 use Rattle.hwdb_spec.specs.Lines.{trimmed, Line, pieces, is, numbered, lines, clean, clean_line, is_dropped, is_empty, is_none, is_property, is_match, is_long, has_equals, has_key}
 use Rattle.hwdb_spec.specs.Records.{Section, Origin, behind, first_section, size, sections_from, sections, patterns, assign, property_assignments, section_assignments, assignments}
 use Rattle.hwdb_spec.specs.Texts.{property_text}
@@ -303,14 +298,6 @@ read_behind o k f more =
 pub if_both : (a b : Bool) → (if a then b else false) ≡ true → (a ≡ true) × (b ≡ true)
 if_both true b h = (refl, h)
 if_both false b h = cc
-
-pub same_is : (a b : List ℕ) → same a b ≡ true → a ≡ b
-same_is a b h = finite.slice_cmp-IsAntisymmetric finite.nat_cmp-IsAntisymmetric a b (equal (text_cmp a b) h)
-  where
-    equal : (r : Ordering) → is_eq r ≡ true → r ≡ Equal
-    equal Less h = cc
-    equal Equal h = refl
-    equal Greater h = cc
 
 pub none_unsaid : (f : Assignment) (fs : List Assignment) → first_unsaid (f ∷ fs) ≡ None → (is_said f ≡ true) × (first_unsaid fs ≡ None)
 none_unsaid f fs h =

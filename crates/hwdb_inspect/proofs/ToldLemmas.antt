@@ -10,7 +10,7 @@ use Rattle.std.specs.declared.cmp.Ordering.{Ordering}
 use Rattle.std.specs.declared.cmp.Ordering.TheVariants.{Less, Equal}
 use Rattle.std.proofs.lemmas.Cmp.{on_total, tied_itself}
 use Rattle.std.proofs.lemmas.List.Kept.{IsStrictlySortedBy-filter}
-use Rattle.hwdb_spec.specs.Answers.{is_match, is_wanted, is_after, is_behind, is_same_place, last_of_each, last_matching, last_assignments, key_of_answer, has_key, value_or_none, last_value, effective_of}
+use Rattle.hwdb_spec.specs.Answers.{is_match, is_wanted, is_same_place, last_of_each, last_matching, last_assignments, key_of_answer, has_key, value_or_none, last_value, effective_of}
 use Rattle.hwdb_spec.specs.Assignment.{Assignment, assignment_cmp, text_cmp, in_order, ascending, put}
 use Rattle.hwdb_spec.specs.Dump.{dumped, dump_text, first_unsaid}
 use Rattle.hwdb_spec.specs.Folders.{same, path_of, chosen_of, contents, first_of, file_assignments, all_assignments}
@@ -18,12 +18,14 @@ use Rattle.hwdb_spec.specs.Records.{Origin, assignments}
 use Rattle.hwdb_spec.specs.Texts.{properties_text, query_text, last_values_text}
 use Rattle.hwdb_spec.specs.LoneFile.{lone, lone_choice}
 use Rattle.hwdb_spec.specs.Tree.{Tree, IsTree, members_under, place_cmp, entry_of, answers}
-use Rattle.hwdb_inspect.proofs.MemberLemmas.{Holds, distinct_single, not_above_itself, ordered_again, kept_in_order, in_order_from, in_order_rises}
-use Rattle.hwdb_inspect.proofs.OrderLemmas.{place_total, members_sorted, and_first, and_second}
-use Rattle.hwdb_inspect.proofs.OrderedLemmas.{assignment_total, distinct, less_apart}
+use Rattle.hwdb_inspect.proofs.OrderLemmas.{members_sorted, and_first, and_second}
+use Rattle.hwdb_inspect.proofs.OrderedLemmas.{distinct, less_apart}
 use Rattle.hwdb_inspect.proofs.PlacedLemmas.{Placed, placed}
 use Rattle.hwdb_inspect.specs.Laws.{said_of}
-use Rattle.hwdb_inspect.proofs.ReadLemmas.{if_both, same_is}
+use Rattle.hwdb_inspect.proofs.ReadLemmas.{if_both}
+use Rattle.hwdb_text.specs.Lemmas.Members.{Holds, distinct_single, in_order_from, in_order_rises, kept_in_order, not_above_itself, ordered_again}
+use Rattle.hwdb_spec.specs.Lemmas.Orders.{same_text}
+use Rattle.hwdb_spec.specs.Lemmas.Places.{all_behind, assignment_total, place_total}
 
 -- ---- assignments without a place in common
 
@@ -98,8 +100,8 @@ places_distinct (x ∷ xs) h = (
 one_place : (x y : Assignment) → is_same_place x y ≡ true → by_place x y ≡ Equal
 one_place x y h =
     let p = if_both (same x.position.pattern y.position.pattern) (same x.position.key y.position.key) h in
-    let pattern = same_is x.position.pattern y.position.pattern p.0 in
-    let key = same_is x.position.key y.position.key p.1 in
+    let pattern = same_text x.position.pattern y.position.pattern p.0 in
+    let key = same_text x.position.key y.position.key p.1 in
     ap (place_cmp (entry_of x).0) (sym (λ i. (pattern i, key i))) ∙ tied_itself place_total (entry_of x).0
 
 module _ (all : List Assignment) (distinct_places : IsDistinct (eq_by_cmp by_place) all) where
@@ -192,11 +194,6 @@ told_said xs ys h =
     ∙ map_same (λ key. (key, last_value xs key)) (λ key. (key, last_value ys key))
     (λ key. ap (λ v. (key, v)) (last_said xs key ∙ ap (λ l. said_value key (reverse l)) h ∙ sym (last_said ys key)))
     (in_order text_cmp (map key_of_answer ys))
-
-all_behind : (xs : List Assignment) → filter (is_behind None) xs ≡ xs
-unfolding is_after
-all_behind [] = refl
-all_behind (x ∷ xs) = ap (λ l. x ∷ l) (all_behind xs)
 
 -- of assignments that rise, without a place in common
 last_are : (device : List ℕ) (xs : List Assignment) → IsStrictlySortedBy assignment_cmp xs → Apart xs → last_assignments device None xs ≡ filter (is_wanted device) xs

@@ -1,20 +1,15 @@
 -- The stack of a walk, and what its steps do to it.
 use Rattle.std.proofs.Common.{◌≡◌, ◌∙◌, ap, sym, subst, ℕ, suc, ◌+◌, ◌≤◌, ◌<◌, List, [], ◌∷◌, ◌++◌, take, drop, reverse, length, arith, append_assoc, add-one, Some, slice_get}
-use Rattle.std.proofs.lemmas.List.{reverse-append, take-append-le, length-take-le, length-append}
+use Rattle.std.proofs.lemmas.List.{length-take-le, length-append}
 use Rattle.std.proofs.Math.Seq.{take-length}
 use Rattle.hwdb_spec.specs.Tree.{Tree, prefix_of, values_of, members_under}
 use Rattle.hwdb_reader.specs.Views.{children_of, entered_tree, node_count}
 use Rattle.hwdb_query.specs.Internal.Members.{members_in, own_members}
-use Rattle.hwdb_inspect.specs.Internal.Walks.{kids_of, nodes_in, to_come, StandsOn, left, steps, Opened}
+use Rattle.hwdb_inspect.specs.Internal.Walks.{kids_of, to_come, StandsOn, left, steps, Opened}
 use Rattle.hwdb_inspect.specs.declared.walk.OpenVisit.{OpenVisit}
-use Rattle.hwdb_inspect.proofs.PartLemmas.{members_split, kid_next, kid_behind, node_and_below}
-
--- the last member is the top
-pub on_top : {A : Type 0} (before : List A) (top : A) → reverse (before ++ top ∷ []) ≡ top ∷ reverse before
-on_top before top = reverse-append before (top ∷ [])
-
-take_front : (n : ℕ) (xs ys : List ℕ) → length xs ≡ n → take n (xs ++ ys) ≡ xs
-take_front n xs ys h = take-append-le n xs ys (omega (arith, h)) ∙ ap (λ k. take k xs) (sym h) ∙ take-length xs
+use Rattle.hwdb_query.specs.Lemmas.Parts.{kid_behind, kid_next, members_split, node_and_below}
+use Rattle.hwdb_query.specs.Internal.Live.{nodes_in}
+use Rattle.hwdb_query.specs.Lemmas.Stacks.{on_top, take_front}
 
 -- the children of a node that was put on top
 pub opened_kids : (before now : List OpenVisit) (t : Tree) (size : ℕ) (o : Opened before now t size) → kids_of o.top ≡ children_of t

@@ -4,7 +4,7 @@ ghost use Rattle.hwdb_spec.specs.Differences.{differences};
 ghost use Rattle.hwdb_spec.specs.Folders.{same};
 ghost use Rattle.hwdb_spec.specs.Tree.{IsTree, Map, map_of};
 ghost use Rattle.hwdb_spec.specs.Written.{IsDatabaseOf};
-ghost use Rattle.hwdb_spec.specs.Status.{IsState, IsStateOf, stale_by, status_of_state};
+ghost use Rattle.hwdb_spec.specs.Status.{IsState, IsStateOf, stale_by};
 ghost use Rattle.hwdb_inspect.specs.Views.{changes_of, state_shown};
 ghost use Rattle.hwdb_inspect.specs.Internal.Counting.{first_kept};
 ghost use Rattle.hwdb_inspect.specs.Internal.Pairing.{to_tell};
@@ -35,12 +35,12 @@ pub enum State {
 
 /// How many changes were met, and the line of the first.
 #[derive(Drop)]
-struct Tally {
+struct ChangeCount {
     changes: usize,
     first: Vec<u8>,
 }
 
-impl Tally {
+impl ChangeCount {
     /// Counts what happened at a pattern and key. What is in `line` before is dropped. The only error, here and below, is
     /// `AllocError`.
     fn count(&mut self, line: &mut Vec<u8>, pair: Pair<'_, '_>) -> Result<(), AllocError>
@@ -67,14 +67,14 @@ fn counted(alloc: Global, pairs: Pairs<'_, '_>) -> Result<State, AllocError>
 {
     let mut left = pairs;
     let mut line = Vec::new(alloc);
-    let mut tally = Tally {
+    let mut tally = ChangeCount {
         changes: 0,
         first: Vec::new(alloc),
     };
     'pairs: while let Some(pair) = left.next() {
         tally.count(&mut line, pair)?;
     }
-    let Tally { changes, first } = tally;
+    let ChangeCount { changes, first } = tally;
     Ok(State::Stale { changes, first })
 }
 
@@ -146,16 +146,5 @@ pub fn state_of(alloc: Global, asked: Option<&[u8]>, made: &[u8]) -> Result<Stat
     match asked {
         Some(bytes) => state_of_bytes(alloc, bytes, made),
         None => Ok(State::Missing),
-    }
-}
-
-/// The status of a state: 0 if it is fresh, else 1.
-pub fn status_of(state: &State) -> u8
-    ensures is { result ≡ status_of_state (state_shown state.now) }
-    ensures small { result ≤ 1 }
-{
-    match state {
-        State::Fresh => 0,
-        _ => 1,
     }
 }

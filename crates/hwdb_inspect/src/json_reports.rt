@@ -4,7 +4,7 @@ ghost use Rattle.json.specs.Tree.{json_tokens};
 ghost use Rattle.hwdb_spec.specs.Json.{array_of, json_line, text_json};
 ghost use Rattle.hwdb_show.specs.JsonTokens.{tokens_of_member, tokens_of_members};
 ghost use Rattle.hwdb_spec.specs.Status;
-ghost use Rattle.hwdb_spec.specs.Status.{maybe_json, report_json, report_object, stale_members, state_members};
+ghost use Rattle.hwdb_spec.specs.Status.{maybe_json, remedy_members, report_json, report_object, stale_members};
 ghost use Rattle.hwdb_inspect.specs.Views.{report_shown, state_shown};
 
 use crate::freshness::State;
@@ -68,33 +68,31 @@ fn without_end(line: &[u8]) -> &[u8]
     }
 }
 
-/// Adds the members that only a stale database has.
-fn put_stale(
-    json: &mut Writer,
-    changes: usize,
-    first: &[u8],
-    remedy: &[u8],
-) -> Result<(), AllocError>
+/// Adds the members that a stale database alone has.
+fn put_stale(json: &mut Writer, state: &State) -> Result<(), AllocError>
     ensures before { json.new.before ≡ json.old.before }
     ensures tokens { OnOk result (json.new.tokens ≡ json.old.tokens
-        ++ tokens_of_members (stale_members changes first.now remedy.now)) }
-{
-    put_count(json, "changes", changes as u64)?;
-    put_member(json, "first", without_end(first))?;
-    put_member(json, "run", remedy)
-}
-
-/// Adds the members that only some states have.
-fn put_state(json: &mut Writer, state: &State, remedy: &[u8]) -> Result<(), AllocError>
-    ensures before { json.new.before ≡ json.old.before }
-    ensures tokens { OnOk result (json.new.tokens ≡ json.old.tokens
-        ++ tokens_of_members (state_members (state_shown state.now) remedy.now)) }
+        ++ tokens_of_members (stale_members (state_shown state.now))) }
 {
     match state {
-        State::Fresh => Ok(()),
-        State::Stale { changes, first } => put_stale(json, *changes, first, remedy),
-        _ => put_member(json, "run", remedy),
+        State::Stale { changes, first } => {
+            put_count(json, "changes", *changes as u64)?;
+            put_member(json, "first", without_end(first))
+        }
+        _ => Ok(()),
     }
+}
+
+/// Adds what to run, unless the database is fresh and hides none.
+fn put_remedy(json: &mut Writer, report: &Report) -> Result<(), AllocError>
+    ensures before { json.new.before ≡ json.old.before }
+    ensures tokens { OnOk result (json.new.tokens ≡ json.old.tokens
+        ++ tokens_of_members (remedy_members (report_shown report.now))) }
+{
+    if report.is_well() {
+        return Ok(());
+    }
+    put_member(json, "run", &report.remedy)
 }
 
 /// Adds the object of a report.
@@ -108,7 +106,8 @@ fn put_report(json: &mut Writer, report: &Report) -> Result<(), AllocError>
     put_maybe_at(json, "hides", &report.hides)?;
     put_texts_at(json, "masked", &report.masked)?;
     put_member(json, "state", state_word(&report.state).as_bytes())?;
-    put_state(json, &report.state, &report.remedy)?;
+    put_stale(json, &report.state)?;
+    put_remedy(json, report)?;
     json.end_object()
 }
 

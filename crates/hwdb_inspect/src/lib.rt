@@ -33,7 +33,7 @@ mod verification;
 mod walk;
 
 pub use difference::{Changes, diff};
-pub use freshness::{State, state_of, status_of};
+pub use freshness::{State, state_of};
 pub use hwdb_spec::{DiffError, DumpError, VerifyError};
 pub use laws::{dump_says, dump_tells, members_are_the_map};
 pub use listing::dump;

@@ -1,7 +1,7 @@
 //! The lines of `status`.
-ghost use Rattle.std.specs.Prelude.{◌≡◌, ◌++◌, codes, flat_map, map, option_map, unwrap_or, IfOk, OnOk};
+ghost use Rattle.std.specs.Prelude.{◌≡◌, ◌≤◌, ◌++◌, codes, flat_map, map, option_map, unwrap_or, IfOk, OnOk};
 ghost use Rattle.hwdb_spec.specs.Status;
-ghost use Rattle.hwdb_spec.specs.Status.{changes_lines, first_line, remedy_line, report_form, report_text, said_if, said_line};
+ghost use Rattle.hwdb_spec.specs.Status.{changes_lines, first_line, is_well, remedy_line, report_form, report_text, said_if, said_line, status_of};
 ghost use Rattle.hwdb_inspect.specs.Views.{report_shown, state_shown};
 
 use crate::freshness::State;
@@ -20,8 +20,29 @@ pub struct Report {
     pub masked: Vec<Vec<u8>>,
     /// The state of the database that is asked.
     pub state: State,
-    /// The command that makes it anew.
+    /// The command after which it is fresh and hides none.
     pub remedy: Vec<u8>,
+}
+
+impl Report {
+    /// Whether the database is fresh and hides none.
+    pub(crate) fn is_well(&self) -> bool
+        ensures { result ≡ is_well (state_shown self.now.state)
+            (option_map (λ t. t.items) self.now.hides) }
+    {
+        match (&self.state, &self.hides) {
+            (State::Fresh, None) => true,
+            _ => false,
+        }
+    }
+
+    /// The status: 0 if the database is fresh and hides none, else 1.
+    pub fn status(&self) -> u8
+        ensures is { result ≡ status_of (report_shown self.now) }
+        ensures small { result ≤ 1 }
+    {
+        if self.is_well() { 0 } else { 1 }
+    }
 }
 
 /// The word of a state.
@@ -106,27 +127,27 @@ fn push_changes(text: &mut Vec<u8>, state: &State) -> Result<(), AllocError>
     }
 }
 
-/// Adds what to run, if the database isn't fresh.
-fn push_remedy(text: &mut Vec<u8>, state: &State, remedy: &[u8]) -> Result<(), AllocError>
+/// Adds what to run, unless the database is fresh and hides none.
+fn push_remedy(text: &mut Vec<u8>, report: &Report) -> Result<(), AllocError>
     ensures { OnOk result
-        (text.new.items ≡ text.old.items ++ remedy_line (state_shown state.now) remedy.now) }
+        (text.new.items ≡ text.old.items ++ remedy_line (report_shown report.now)) }
 {
-    match state {
-        State::Fresh => Ok(()),
-        _ => push_line(text, "run", remedy),
+    if report.is_well() {
+        return Ok(());
     }
+    push_line(text, "run", &report.remedy)
 }
 
-/// Adds the lines of a state.
-fn push_state(text: &mut Vec<u8>, state: &State, remedy: &[u8]) -> Result<(), AllocError>
+/// Adds the lines of the state, and what to run.
+fn push_state(text: &mut Vec<u8>, report: &Report) -> Result<(), AllocError>
     ensures { OnOk result (text.new.items ≡ text.old.items
-        ++ (said_line (codes "state") (Status.state_word (state_shown state.now))
-        ++ (changes_lines (state_shown state.now)
-        ++ remedy_line (state_shown state.now) remedy.now))) }
+        ++ (said_line (codes "state") (Status.state_word (state_shown report.now.state))
+        ++ (changes_lines (state_shown report.now.state)
+        ++ remedy_line (report_shown report.now)))) }
 {
-    push_line(text, "state", state_word(state).as_bytes())?;
-    push_changes(text, state)?;
-    push_remedy(text, state, remedy)
+    push_line(text, "state", state_word(&report.state).as_bytes())?;
+    push_changes(text, &report.state)?;
+    push_remedy(text, report)
 }
 
 /// The report as lines.
@@ -137,15 +158,22 @@ fn report_lines(alloc: Global, report: &Report) -> Result<Vec<u8>, AllocError>
     push_database(&mut text, &report.database)?;
     push_if(&mut text, "hides", &report.hides)?;
     push_masked(&mut text, &report.masked)?;
-    push_state(&mut text, &report.state, &report.remedy)?;
+    push_state(&mut text, report)?;
     Ok(text)
 }
 
-/// The report, as lines or as one line of JSON. The only error is `AllocError`.
-pub fn report_in(alloc: Global, report: &Report, json: bool) -> Result<Vec<u8>, AllocError>
-    ensures { IfOk result (λ text. text.items ≡ report_form json (report_shown report.now)) }
+/// The report, as lines or as one line of JSON; nothing if it is `quiet`. The only error is `AllocError`.
+pub fn report_in(
+    alloc: Global,
+    report: &Report,
+    json: bool,
+    quiet: bool,
+) -> Result<Vec<u8>, AllocError>
+    ensures { IfOk result (λ text. text.items ≡ report_form json quiet (report_shown report.now)) }
 {
-    if json {
+    if quiet {
+        Ok(Vec::new(alloc))
+    } else if json {
         report_line(alloc, report)
     } else {
         report_lines(alloc, report)

@@ -5,8 +5,8 @@
 //! thread's stack than a flat one. Each node is entered once.
 //!
 //! A node's own assignments are those of `hwdb_query`, by one call. The loop isn't: the descent there keeps at each open node what
-//! is known of the device, which takes memory, and passes over what can't match. This one enters all nodes and counts how deep
-//! they stand.
+//! is known of the device, and passes over what can't match. That takes memory. This one enters all nodes and counts how deep they
+//! stand.
 ghost use Rattle.std.specs.Prelude.{◌≡◌, ◌<◌, ◌≤◌, ◌+◌, ◌++◌, ◌∷◌, ◌^◌, [], map, max, reverse, length, IfOk, OnOk};
 ghost use Rattle.hwdb_spec.specs.Summary.{nodes, depth};
 ghost use Rattle.hwdb_spec.specs.Tree.{members_under, prefix_of, values_of};

@@ -1,18 +1,11 @@
 -- Counts of failed calls, and text that is written in parts.
-use Rattle.std.proofs.Common.{◌≡◌, ◌∙◌, ℕ, ◌+◌, ◌-◌, ◌^◌, ◌<◌, ◌==◌, Bool, true, false, cond, refl, ap, subst, inl, inr, List, [], ◌++◌, Option, None, Some, IfSome, length-append, length, take, drop, arith, sym, eqb-true, append_assoc, ⊎_elim}
+use Rattle.std.proofs.Common.{◌≡◌, ◌∙◌, ℕ, ◌+◌, ◌-◌, ◌^◌, ◌<◌, refl, ap, subst, List, [], ◌++◌, Option, None, Some, IfSome, length-append, length, take, drop, arith, sym, append_assoc, ⊎_elim}
 use Rattle.std.proofs.Math.Seq.{take-add}
 use Rattle.std.proofs.lemmas.List.{take-append-drop}
 use Rattle.std.proofs.KnownBytes.{Appends-trans, Consumes-trans, Consumes-all}
 use Rattle.std.specs.Io.KnownBytes.{Appends, Consumes, IsAtEnd}
-use Rattle.hwdb_spec.specs.Failures.{after_failure, HasFailed}
+use Rattle.hwdb_spec.specs.Failures.{HasFailed}
 use Rattle.hwdb_spec.specs.Outputs.{AppendsPrefix}
-
-rises : (before : ℕ) (b : Bool) → (before == 2 ^ 64 - 1) ≡ b → HasFailed before (cond b before (before + 1))
-rises before true e = inr (eqb-true before (2 ^ 64 - 1) e)
-rises before false e = inl (omega arith)
-
-pub failed_call : (before now : ℕ) → now ≡ after_failure before → HasFailed before now
-failed_call before now is = let Q : ℕ → Type 0 = λ n. HasFailed before n in subst Q (sym is) (rises before (before == 2 ^ 64 - 1) refl)
 
 pub written_more : (a b c : Option (List ℕ)) (text part : List ℕ) (n m : ℕ) → part ≡ drop n text → Appends a b (take n text) → Appends b c (take m part) → Appends a c (take (n + m) text)
 written_more a b c text part n m is p q =

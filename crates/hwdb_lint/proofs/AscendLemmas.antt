@@ -6,8 +6,7 @@ use Rattle.std.specs.List.Sorted.{IsStrictlySortedBy}
 use Rattle.std.specs.BTreeMap.{BTreeMap, is_at}
 use Rattle.std.specs.Map.{lookup}
 use Rattle.std.specs.Option.{unwrap_or}
-use Rattle.std.specs.Cmp.{eq_by_cmp_equiv}
-use Rattle.std.specs.Cmp.Lexicographic.{nat_list_cmp_total, slice_cmp}
+use Rattle.std.specs.Cmp.Lexicographic.{slice_cmp}
 use Rattle.std.specs.Ordering.{is_eq, nat_cmp, ordering_reverse, ordering_then}
 use Rattle.std.specs.declared.cmp.Ordering.{Ordering}
 use Rattle.std.specs.declared.cmp.Ordering.TheVariants.{Less, Equal, Greater}
@@ -22,6 +21,7 @@ use Rattle.hwdb_text.specs.declared.outcome.Given.{Given}
 use Rattle.hwdb_text.specs.Views.{given_in}
 use Rattle.hwdb_lint.specs.Internal.{IsReplacedBy, behind, by_place, by_place_total, gives, lines_with, own, raised, replacing_of}
 use Rattle.hwdb_lint.proofs.ReplaceLemmas.{more, replacing_more, replacing_none}
+use Rattle.hwdb_spec.specs.Lemmas.Orders.{equal_of, same_itself}
 
 -- the greatest line of those that pass a test
 abbrev most : (Assignment → Bool) → List Given → ℕ
@@ -51,15 +51,10 @@ alone t (x ∷ all) (suc i) d h s e f g =
     ∙ ap (λ b. cond b (max x.line (most t all)) (most t all)) (f x (Less-from_sorted by_place (x ∷ all) 0 (suc i) d s (omega arith) h))
     ∙ alone t all i d (omega (arith, h)) (sorted_tail by_place x all s) e f g
 
-is_equal : (o : Ordering) → is_eq o ≡ true → o ≡ Equal
-is_equal Less e = cc
-is_equal Equal e = refl
-is_equal Greater e = cc
-
 -- those with one pattern and one key tie
 both : (a b : Ordering) → cond (is_eq a) (is_eq b) false ≡ true → ordering_then a b ≡ Equal
 both Less b e = cc
-both Equal b e = is_equal b e
+both Equal b e = equal_of b e
 both Greater b e = cc
 
 before : (a y : Given) → by_place y a ≡ Less → gives (given_in own y) a.pattern.now a.key.now ≡ false
@@ -83,9 +78,6 @@ valued true true d e = cc
 valued true false d e = refl
 valued false c d e = refl
 
-itself : (text : List ℕ) → same text text ≡ true
-itself text = (eq_by_cmp_equiv nat_list_cmp_total).refl text
-
 behind_itself : (n : ℕ) → behind n n ≡ 0
 behind_itself n = go (nat_lt n n) refl
   where
@@ -100,11 +92,11 @@ last_itself : (all : List Given) (i : ℕ) (d : Given) → i < length all → Is
 last_itself all i d h s =
     let a : Given = get_or all i d in
     let given : gives (given_in own a) a.pattern.now a.key.now ≡ true =
-    ap (λ b. cond b (same a.key.now a.key.now) false) (itself a.pattern.now) ∙ itself a.key.now in
+    ap (λ b. cond b (same a.key.now a.key.now) false) (same_itself a.pattern.now) ∙ same_itself a.key.now in
     let with : gives_value a.pattern.now a.key.now a.value.now (given_in own a) ≡ true =
-    ap (λ b. cond b (cond (same a.key.now a.key.now) (same a.value.now a.value.now) false) false) (itself a.pattern.now)
-    ∙ ap (λ b. cond b (same a.value.now a.value.now) false) (itself a.key.now)
-    ∙ itself a.value.now in
+    ap (λ b. cond b (cond (same a.key.now a.key.now) (same a.value.now a.value.now) false) false) (same_itself a.pattern.now)
+    ∙ ap (λ b. cond b (same a.value.now a.value.now) false) (same_itself a.key.now)
+    ∙ same_itself a.value.now in
     ap (λ m. behind m (most (λ b. gives b a.pattern.now a.key.now) all))
     (alone (gives_value a.pattern.now a.key.now a.value.now) all i d h s with
     (λ y l. valued (same y.pattern.now a.pattern.now) (same y.key.now a.key.now) (same y.value.now a.value.now) (before a y l))

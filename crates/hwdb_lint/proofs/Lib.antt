@@ -7,7 +7,5 @@ pub mod RaiseLemmas
 pub mod ReplaceLemmas
 pub mod AscendLemmas
 pub mod RunLemmas
-pub mod AnyLemmas
 pub mod SoughtLemmas
-pub mod PieceLemmas
 pub mod LawLemmas

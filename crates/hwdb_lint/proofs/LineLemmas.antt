@@ -6,15 +6,7 @@ use Rattle.hwdb_spec.specs.Lines.{is, lines, numbered, pieces}
 use Rattle.hwdb_spec.specs.Reports.{text_of_line}
 use Rattle.hwdb_lint.specs.Internal.{IsStart}
 use Rattle.hwdb_lint.specs.declared.line_texts.LineStart.{LineStart}
-use Rattle.hwdb_lint.proofs.PieceLemmas.{no_piece_at, piece_at}
-
--- the line at a place, and those after it
-pub line_at : (file : List ℕ) (at end : ℕ) (rest : List ℕ) → at < length file → rest ≡ drop at file → end ≡ position_or_len (is 10) rest
-    → pieces (is 10) (drop at file) ≡ take end rest ∷ pieces (is 10) (drop (at + end + 1) file)
-line_at file at end rest h r e = piece_at 10 file at end rest h r e
-
-pub no_line_at : (file : List ℕ) (at : ℕ) → length file ≤ at → pieces (is 10) (drop at file) ≡ []
-no_line_at file at h = no_piece_at 10 file at h
+use Rattle.hwdb_lint.specs.Lemmas.Pieces.{line_at, no_line_at}
 
 text_later : (ps : List (List ℕ)) (p : List ℕ) (number line : ℕ) → number < line → text_of_line (numbered number (p ∷ ps)) line ≡ text_of_line (numbered (number + 1) ps) line
 unfolding numbered

@@ -8,13 +8,13 @@ use Rattle.std.specs.declared.cmp.Ordering.TheVariants.{Less, Equal, Greater}
 use Rattle.std.specs.Ordering.{nat_cmp, is_eq, ordering_then}
 use Rattle.std.specs.Cmp.Lexicographic.{slice_cmp}
 use Rattle.std.specs.BTreeMap.{BTreeMap, get, get_by}
-use Rattle.std.proofs.lemmas.Map.Lookups.{exact_bytes}
 use Rattle.std.proofs.lemmas.Bool.{eqb-true}
 use Rattle.std.proofs.Math.Nat.{max-eq_left, max-eq_right}
 use Rattle.hwdb_spec.specs.Folders.{same}
 use Rattle.hwdb_spec.specs.Lines.{is}
 use Rattle.hwdb_lint.specs.Internal.{last_at, line_at, raised, same_at}
 use Rattle.hwdb_lint.proofs.RepeatLemmas.{equal_number}
+use Rattle.hwdb_spec.specs.Lemmas.Orders.{equal_of, same_text}
 
 -- a look-up, and what it gives, by whether it is at the key
 by_test : (t u : Bool) (new old : Option ℕ) (v number : ℕ) → new ≡ cond t (Some v) old → t ≡ u → (t ≡ true → v ≡ max (unwrap_or old 0) number) → unwrap_or new 0 ≡ raised u number (unwrap_or old 0)
@@ -31,14 +31,6 @@ pub equal_pair : (a b : Ordering) → is_eq (ordering_then a b) ≡ cond (is_eq 
 equal_pair Less b = refl
 equal_pair Equal b = refl
 equal_pair Greater b = refl
-
-is_equal : (o : Ordering) → is_eq o ≡ true → o ≡ Equal
-is_equal Less e = cc
-is_equal Equal e = refl
-is_equal Greater e = cc
-
-same_text : (x y : List ℕ) → same x y ≡ true → x ≡ y
-same_text x y e = exact_bytes x y (is_equal (slice_cmp nat_cmp x y) e)
 
 left : (a b : Bool) → cond a b false ≡ true → a ≡ true
 left true b e = refl

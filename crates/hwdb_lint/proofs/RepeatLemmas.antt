@@ -11,11 +11,13 @@ use Rattle.std.specs.Ordering.{nat_cmp, is_eq, match_ordering, ordering_reverse}
 use Rattle.std.specs.Cmp.Lexicographic.{slice_cmp}
 use Rattle.std.specs.BTreeSet.{BTreeSet, contains, insert_key}
 use Rattle.std.proofs.lemmas.Cmp.{nat_list_cmp_total}
-use Rattle.hwdb_spec.specs.Lines.{Line, begins_with, clean, clean_line, has, is, is_dropped, is_empty, is_none, is_match, numbered, pieces}
+use Rattle.hwdb_spec.specs.Lines.{Line, begins_with, clean, clean_line, has, is, is_empty, is_none, is_match, numbered, pieces}
 use Rattle.hwdb_spec.specs.Folders.{same}
 use Rattle.hwdb_spec.specs.Warnings.{repeated_from}
 use Rattle.hwdb_lint.specs.Internal.{IsSetOf, found_with, line_of}
 use Rattle.hwdb_lint.specs.declared.repeats.Run.{Run}
+use Rattle.hwdb_lint.specs.Lemmas.Lines.{clean_by, cleaned}
+use Rattle.hwdb_spec.specs.Lemmas.Truth.{or_one_more}
 
 -- texts as a set
 abbrev pub texts : List (Bor (List ℕ)) → List (List ℕ)
@@ -108,10 +110,6 @@ put_again ks new k number found after more m n c a =
     ∙ sym (match_first (texts ks) (line_of number k.now) more m
     ∙ ap (λ (b : Bool). cond b (number ∷ repeated_from (k.now ∷ texts ks) more) (repeated_from (k.now ∷ texts ks) more)) (sym (stands_by k.now ks) ∙ c)))
 
--- a line, by what it says
-clean_by : (d : Bool) (l : Line) (more : List Line) → is_dropped l ≡ d → clean (l ∷ more) ≡ cond d (clean more) (clean_line l ∷ clean more)
-clean_by d l more e = ap (λ (t : Bool). cond t (clean more) (clean_line l ∷ clean more)) e
-
 comment_drops : (c z : Bool) → c ≡ true → cond c true z ≡ true
 comment_drops true z e = refl
 comment_drops false z e = cc
@@ -120,18 +118,11 @@ zero_drops : (c z : Bool) → z ≡ true → cond c true z ≡ true
 zero_drops true z e = refl
 zero_drops false z e = e
 
-kept : (c z : Bool) → c ≡ false → z ≡ false → cond c true z ≡ false
-kept true z e f = cc
-kept false z e f = f
-
 pub commented : (number : ℕ) (text : List ℕ) (more : List Line) → begins_with 35 text ≡ true → clean (line_of number text ∷ more) ≡ clean more
 commented number text more e = clean_by true (line_of number text) more (comment_drops (begins_with 35 text) (has 0 text) e)
 
 pub zeroed : (number : ℕ) (text : List ℕ) (more : List Line) → has 0 text ≡ true → clean (line_of number text ∷ more) ≡ clean more
 zeroed number text more e = clean_by true (line_of number text) more (zero_drops (begins_with 35 text) (has 0 text) e)
-
-pub cleaned : (number : ℕ) (text : List ℕ) (more : List Line) → begins_with 35 text ≡ false → has 0 text ≡ false → clean (line_of number text ∷ more) ≡ clean_line (line_of number text) ∷ clean more
-cleaned number text more e f = clean_by false (line_of number text) more (kept (begins_with 35 text) (has 0 text) e f)
 
 pub no_match : (number : ℕ) (text : List ℕ) (ks new : List (Bor (List ℕ))) (found : List ℕ) (more : List Line) → begins_with 35 text ≡ false → has 0 text ≡ false
     → is_match (clean_line (line_of number text)) ≡ false → new ≡ []
@@ -185,23 +176,11 @@ equal_by false false h = refl
 pub equal_number : (k n : ℕ) → is_eq (nat_cmp k n) ≡ (k == n)
 equal_number k n = equal_by _ (k == n) (λ e. le-ltb k n (omega (arith, eqb-true k n e)))
 
-or_true : (b : Bool) → true ≡ (b || true)
-or_true true = refl
-or_true false = refl
-
-or_false : (b : Bool) → b ≡ (b || false)
-or_false true = refl
-or_false false = refl
-
-pub one_more : (c : Bool) (a b : Bool) → a ≡ b → cond c true a ≡ (b || (c || false))
-one_more true a b e = or_true b
-one_more false a b e = e ∙ or_false b
-
 pub set_step : (numbers : List ℕ) (i k : ℕ) (old new : BTreeSet ℕ) → i < length numbers → k ≡ get_or numbers i 0 → IsSetOf (take i numbers) old
     → ((q : ℕ) → contains nat_cmp new q ≡ cond (is_eq (nat_cmp k q)) true (contains nat_cmp old q)) → IsSetOf (take (i + 1) numbers) new
 set_step numbers i k old new h is so_far put = λ n.
     put n
-    ∙ one_more (is_eq (nat_cmp k n)) _ _ (so_far n)
+    ∙ or_one_more (is_eq (nat_cmp k n)) _ _ (so_far n)
     ∙ ap (λ (t : Bool). list_any (λ b. b == n) (take i numbers) || (t || false)) (equal_number k n)
     ∙ ap (λ (x : ℕ). list_any (λ b. b == n) (take i numbers) || ((x == n) || false)) is
     ∙ sym (ap (list_any (λ b. b == n)) (take_more numbers i 0 h) ∙ list_any-append (λ b. b == n) (take i numbers) (get_or numbers i 0 ∷ []))

@@ -22,8 +22,3 @@ module _ (first last b : ℕ) (done : List (ℕ × ℕ)) (more : List ℕ) where
 pub runs_end : (first last at : ℕ) (done : List (ℕ × ℕ)) (bytes : List ℕ) → length bytes ≤ at → done ++ (first, last) ∷ [] ≡ done ++ runs_from first last (drop at bytes)
 unfolding runs_from
 runs_end first last at done bytes h = ap (λ l. done ++ runs_from first last l) (sym (drop_all at bytes h))
-
--- three texts appended
-pub three_pieces : (a b c d lit w end : List ℕ) → b ≡ a ++ lit → c ≡ b ++ w → d ≡ c ++ end → d ≡ a ++ (lit ++ (w ++ end))
-three_pieces a b c d lit w end e f g =
-    g ∙ ap (λ (l : List ℕ). l ++ end) (f ∙ ap (λ (l : List ℕ). l ++ w) e) ∙ append_assoc (a ++ lit) w end ∙ append_assoc a lit (w ++ end)

@@ -19,7 +19,7 @@ use Rattle.hwdb_text.specs.Views.{given_in}
 use Rattle.hwdb_lint.specs.Internal.{ArePlacesOf, IsSetOf, IsUnpairedOf, IsUnreadOf, has_companions, holds, is_read_there, lacks_of, lines_where, own}
 use Rattle.hwdb_lint.specs.declared.unread.UnreadLines.{UnreadLines}
 use Rattle.hwdb_lint.proofs.RaiseLemmas.{equal_pair}
-use Rattle.hwdb_lint.proofs.RepeatLemmas.{one_more}
+use Rattle.hwdb_spec.specs.Lemmas.Truth.{or_one_more}
 
 filter_append : (t : Assignment → Bool) (xs ys : List Assignment) → filter t (xs ++ ys) ≡ filter t xs ++ filter t ys
 filter_append t [] ys = refl
@@ -179,7 +179,7 @@ places_step all i d old new h put so_far = λ p k.
     let a = given_in own (get_or all i d) in
     put (somewhere p, somewhere k)
     ∙ ap (λ b. cond b true (holds old p k)) (equal_pair (slice_cmp nat_cmp a.position.pattern p) (slice_cmp nat_cmp a.position.key k))
-    ∙ one_more (cond (same a.position.pattern p) (same a.position.key k) false) (holds old p k) (is_given (map (given_in own) (take i all)) p k) (so_far p k)
+    ∙ or_one_more (cond (same a.position.pattern p) (same a.position.key k) false) (holds old p k) (is_given (map (given_in own) (take i all)) p k) (so_far p k)
     ∙ sym (ap (λ l. is_given l p k) (given_more all i d h)
     ∙ list_any-append (λ b. cond (same b.position.pattern p) (same b.position.key k) false) (map (given_in own) (take i all)) (a ∷ []))
 

@@ -1,27 +1,12 @@
 -- A property, seen from the place of its first `=`.
-use Rattle.std.proofs.Common.{◌≡◌, ℕ, zero, suc, ◌-◌, ◌+◌, ◌≤◌, Bool, true, false, not, List, [], ◌∷◌, take, drop, length, refl, ap, ◌∙◌, sym, cond, arith, ◌||◌}
+use Rattle.std.proofs.Common.{◌≡◌, ℕ, zero, suc, ◌-◌, ◌+◌, ◌≤◌, Bool, true, false, not, List, [], ◌∷◌, take, drop, length, refl, ap, ◌∙◌, sym, cond, arith}
 use Rattle.std.proofs.lemmas.List.{take_rest}
 use Rattle.std.specs.List.{list_any, position_or_len}
 use Rattle.hwdb_spec.specs.Lines.{Line, has, has_equals, has_key, is, is_indent, is_none, is_property, key, property, value}
 use Rattle.hwdb_spec.specs.Warnings.{is_spaced, warns}
 use Rattle.hwdb_lint.specs.Internal.{line_of}
 use Rattle.hwdb_spec.specs.declared.WarningKind.TheVariants.{SpacedEquals}
-
-none_by : (t : Bool) (n k : ℕ) (r : Bool) → cond (not t) (1 + n) 0 ≡ suc k → (n ≡ k → r ≡ false) → (t || r) ≡ false
-none_by true n k r e f = absurd (omega arith)
-none_by false n k r e f = f (omega arith)
-
-some_by : (t : Bool) (n k : ℕ) (r : Bool) → (cond (not t) (1 + n) 0 ≡ suc k → ⊥) → ((n ≡ k → ⊥) → r ≡ true) → (t || r) ≡ true
-some_by true n k r e f = refl
-some_by false n k r e f = f (λ q. e (omega arith))
-
-has_none : (b : ℕ) (text : List ℕ) → position_or_len (is b) text ≡ length text → has b text ≡ false
-has_none b [] e = refl
-has_none b (x ∷ xs) e = none_by (is b x) (position_or_len (is b) xs) (length xs) (has b xs) e (has_none b xs)
-
-has_some : (b : ℕ) (text : List ℕ) → (position_or_len (is b) text ≡ length text → ⊥) → has b text ≡ true
-has_some b [] e = absurd (e refl)
-has_some b (x ∷ xs) e = some_by (is b x) (position_or_len (is b) xs) (length xs) (has b xs) e (has_some b xs)
+use Rattle.hwdb_text.specs.Lemmas.Bytes.{has_none, has_some}
 
 some_key : (n : ℕ) (text : List ℕ) → (n ≡ 0 → ⊥) → n ≤ length text → not (is_none (take n text)) ≡ true
 some_key zero text n h = absurd (n refl)

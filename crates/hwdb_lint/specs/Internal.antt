@@ -38,8 +38,9 @@ read_line r = line_of r.number r.text.now
 abbrev pub clean_of : Read → Line
 clean_of r = clean_line (read_line r)
 
--- What is read of a line: its clean text, whether its record has it already, the last line that replaces an assignment of
--- it, why it doesn't fit what is known of properties, or what is around it, and what is said of it as a pattern.
+-- What is read of a line: its clean text, whether its record has it already, and the last line that replaces an
+-- assignment of it. Then why it doesn't fit what is known of properties, or what is around it, and what is said of it as
+-- a pattern.
 pub record IsRead (r : Read) : Type 0 where
   pub clean : r.clean.now ≡ (clean_of r).text
   pub repeated : r.repeated ≡ list_any (is r.number) (repeated_lines r.bytes.now)

@@ -21,7 +21,7 @@ run_bytes run = all_bytes_from (suc run.1 - run.0) run.0
 abbrev pub RunsAreAll : Type 0
 RunsAreAll = (bytes : List ℕ) → flat_map run_bytes (runs bytes) ≡ bytes
 
--- a clean text that is a pattern, no property and not too long, is judged; of one that is dead the bytes are named that can follow
+-- a clean text that is a pattern, no property and not too long, is judged; a dead one with the bytes that can follow
 pub record PatternsAreJudged : Type 0 where
   pub judges : (text : List ℕ) → is_none text ≡ false → begins_with (byte " ") text ≡ false → begins_with (byte "\t") text ≡ false
       → length text ≤ max_pattern → judgement_of text ≡ judged asked text

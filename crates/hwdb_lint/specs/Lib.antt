@@ -1,3 +1,4 @@
 pub mod Checks
 pub mod Internal
 pub mod Laws
+pub mod Lemmas

@@ -127,9 +127,9 @@ fn push_end(alloc: Global, json: bool, text: &mut Vec<u8>, tally: Tally) -> Resu
     Ok(())
 }
 
-/// What is printed of the faults and warnings of each file, one file after another: reports, and a last line with how much was
-/// found in all; or a line of JSON for each. Warnings of kinds that are allowed don't count. The status is 1 if there is a fault,
-/// or `strict` and a warning, else 0.
+/// What is printed of the faults and warnings of each file, one file after another. It is reports, and a last line with how much
+/// was found in all, or a line of JSON for each. Warnings of kinds that are allowed don't count. The status is 1 if there is a
+/// fault, or `strict` and a warning, else 0.
 ///
 /// It is an error if a file has more than 4,294,967,295 lines, or if an allocation fails.
 ///

@@ -9,10 +9,9 @@ ghost use Rattle.hwdb_spec.specs.Warnings;
 ghost use Rattle.hwdb_spec.specs.Warnings.{warns};
 ghost use Rattle.hwdb_lint.specs.Internal.{clean_of, line_of, read_line, IsRead};
 
-use crate::places::indent_of;
 use hwdb_pattern::{open_place, range_place};
 use hwdb_spec::{Judgement, Misuse, WarningKind};
-use hwdb_text::end_of;
+use hwdb_text::{end_of, indent_of};
 
 /// A line that is read.
 #[derive(Clone, Copy)]

@@ -5,19 +5,7 @@ ghost use Rattle.hwdb_spec.specs.Lines.{is_indent};
 ghost use Rattle.hwdb_spec.specs.Reports.{fault_place};
 
 use hwdb_spec::FaultKind;
-use hwdb_text::{LONGEST_MATCH, end_of};
-
-/// How many spaces and tabs a line begins with.
-pub fn indent_of(line: &[u8]) -> usize
-    ensures place { result ≡ prefix_len is_indent line.now }
-    ensures within { result ≤ length line.now }
-{
-    let mut at = 0;
-    while at < line.len() && (line[at] == b' ' || line[at] == b'\t') {
-        at += 1;
-    }
-    at
-}
+use hwdb_text::{LONGEST_MATCH, end_of, indent_of};
 
 /// The place of a fault in its line, in bytes from 0.
 pub fn fault_place(kind: FaultKind, line: &[u8]) -> usize

@@ -14,12 +14,11 @@ use crate::kinds::{Telling, is_told, warning_name};
 use crate::known::{Known, known_of};
 use crate::line_warnings::{Read, closed, is_warned, kinds_of};
 use crate::misuses::{misuse_in, push_hint_of_misuse, push_unpaired_hint, push_unread_hint};
-use crate::places::indent_of;
 use hwdb_pattern::{open_place, range_place};
 use hwdb_properties::misuse_text;
 use hwdb_show::{push_mark_line, push_shown_line};
 use hwdb_spec::{Misuse, WarningKind};
-use hwdb_text::{Content, Given, Lines, content_of, end_of};
+use hwdb_text::{Content, Given, Lines, content_of, end_of, indent_of};
 use itoa::Buffer;
 use std::alloc::{AllocError, Global};
 

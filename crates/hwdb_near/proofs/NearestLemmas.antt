@@ -3,9 +3,8 @@ use Rattle.std.proofs.Common.{◌≡◌, ◌∙◌, ap, sym, refl, ℕ, ◌-◌,
 use mathlib.Core.List.{reverse_aux}
 use Rattle.std.specs.Borrow.{Bor}
 use Rattle.std.specs.FinMap as finite
-use Rattle.std.specs.declared.cmp.Ordering.{Ordering}
-use Rattle.std.specs.declared.cmp.Ordering.TheVariants.{Less, Equal, Greater}
-use Rattle.std.specs.Ordering.{eq_by_cmp, nat_cmp, ordering_then}
+use Rattle.std.specs.declared.cmp.Ordering.TheVariants.{Equal}
+use Rattle.std.specs.Ordering.{eq_by_cmp, nat_cmp}
 use Rattle.std.specs.List.{dedup}
 use Rattle.std.specs.List.Sorted.{IsSorted, IsPermutation}
 use Rattle.std.proofs.lemmas.List.{append-nil, take_at, take-append-drop, reverse-append, length-reverse, length-drop, drop-map, take-map}
@@ -16,16 +15,12 @@ use Rattle.hwdb_pattern.specs.Fronts.{token_of}
 use Rattle.hwdb_near.specs.declared.found.Rated.{Rated as Found}
 use Rattle.hwdb_near.specs.Internal.Ratings.{by_nearness, by_nearness_total, misses, near_total, rated_of}
 use Rattle.hwdb_near.proofs.OrderedLemmas.{sorted_once}
+use Rattle.hwdb_spec.specs.Lemmas.Orders.{then_equal}
 
 abbrev Text : Type 0
 Text = Bor (List ℕ)
 
 -- ---- two that tie are one
-
-then_equal : (a b : Ordering) → ordering_then a b ≡ Equal → (a ≡ Equal) × (b ≡ Equal)
-then_equal Less b h = absurd (cc)
-then_equal Equal b h = (refl, h)
-then_equal Greater b h = absurd (cc)
 
 single : (x y : Rated) → near_cmp x y ≡ Equal → x ≡ y
 single x y h =

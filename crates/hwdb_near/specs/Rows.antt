@@ -12,8 +12,8 @@ at_line line pattern = record { path = codes "f"; file = 1; line = line; pattern
 abbrev pub front : ℕ → ℕ → Front
 front tokens bytes = record { tokens = tokens; bytes = bytes }
 
--- where patterns stop: at a letter of the other case; before the last token, of the fronts of the device the least; after a star;
--- at the pattern's end; after a bracket; at the first byte
+-- Where patterns stop: at a letter of the other case, or before the last token, of the fronts of the device the least. After a
+-- star, at the pattern's end, after a bracket, at the first byte.
 abbrev pub StopRows : Type 0
 StopRows =
     map (λ (p : List ℕ × List ℕ). stop_of (tokens p.0) p.1)
@@ -21,8 +21,8 @@ StopRows =
     ∷ (codes "a*b[cd]e", codes "aXbdbcz") ∷ (codes "b", codes "ab") ∷ [])
     ≡ front 3 3 ∷ front 2 1 ∷ front 1 0 ∷ front 2 2 ∷ front 4 4 ∷ front 0 0 ∷ []
 
--- how many literals are missing, and how many the front has: letters' case and a star don't count; a byte in the middle; nothing
--- from either end; a star between
+-- How many literals are missing, and how many the front has: letters' case and a star don't count. A byte in the middle, nothing
+-- from either end, a star between.
 abbrev pub RatedRows : Type 0
 RatedRows =
     map {B = ℕ × ℕ} (λ (p : List ℕ × List ℕ). ((rated p.1 (at_line 1 p.0)).missing, (rated p.1 (at_line 1 p.0)).front))

@@ -1,8 +1,8 @@
 //! The pattern that almost matched a device, and where it stopped: what `near` says.
 //!
 //! A pattern stops after the longest front of its tokens that matches a front of the device ([`stops`]). The nearest
-//! patterns are those of which the fewest literals are missing: neither that front nor the longest back of the rest
-//! matches them, with letters' case folded. All patterns are gone through once, and then sorted.
+//! patterns miss the fewest literals: those that neither that front nor the longest back of the rest matches, with
+//! letters' case folded. All patterns are gone through once, and then sorted.
 //!
 //! | Module | What it does |
 //! |---|---|

@@ -77,8 +77,8 @@ fn texts_below<'t>(
     Ok(kept)
 }
 
-/// Of what was found before and of the nearest pattern to one more text the one that misses fewer literals; of two that miss as many
-/// the one before.
+/// Of what was found before and the nearest pattern to one more text, the one that misses fewer literals. Of two that miss as many
+/// it is the one before.
 fn closer<'t, 'a>(
     before: Option<Close<'t, 'a>>,
     text: &'t [u8],
@@ -133,8 +133,8 @@ fn push_closest(
     }
 }
 
-/// Adds the report of the pattern that is nearest to one of some texts, of the patterns and texts that begin with a prefix; nothing if
-/// there are none. Patterns that match aren't told.
+/// Adds the report of the nearest pattern to one of some texts, among the patterns and texts that begin with a prefix. It adds
+/// nothing if there are none. Patterns that match aren't told.
 ///
 /// The only error is `AllocError`. For each such text the patterns are gone through once.
 pub fn push_prefix_report(

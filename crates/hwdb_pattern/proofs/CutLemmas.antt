@@ -3,8 +3,8 @@ use Rattle.std.proofs.Common.{◌≡◌, ℕ, ◌+◌, ◌<◌, ◌≤◌, true,
 use Rattle.std.proofs.lemmas.List.{drop-drop}
 use Rattle.hwdb_spec.specs.Patterns.{Token, star, one, bracket, literal, token_at, token_size, tokens, admits_byte}
 use Rattle.hwdb_spec.specs.Forms
-use Rattle.hwdb_pattern.proofs.MatchLemmas.{is_star}
 use Rattle.hwdb_pattern.proofs.TokenLemmas.{first_token, not_star, star_at, no_tokens_at}
+use Rattle.hwdb_spec.specs.Forms.{is_star}
 
 map_last : (old : List (Bor (List ℕ))) (b : Bor (List ℕ)) → map (λ text. token_at text.now) (old ++ b ∷ []) ≡ map (λ text. token_at text.now) old ++ token_at b.now ∷ []
 map_last [] b = refl

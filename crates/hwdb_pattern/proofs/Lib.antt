@@ -1,4 +1,3 @@
-pub mod MatchLemmas
 pub mod TokenLemmas
 pub mod TakenLemmas
 pub mod SearchLemmas

@@ -10,10 +10,12 @@ use Rattle.hwdb_spec.specs.Patterns.{Token, star, one, bracket, literal, token_a
 use Rattle.hwdb_pattern.specs.Views.{Lengths, takes, NoneTakes, open_part, Reached, StandsFor, IsLost}
 use Rattle.hwdb_pattern.specs.Internal.Prefixes.{stepped, Spread, Between, Follows, Along, Steps, IsAfter, IsRun}
 use Rattle.hwdb_spec.specs.Tree.{closed_from, closed_part, IsLive}
-use Rattle.hwdb_pattern.proofs.MatchLemmas.{is_star, one_byte}
 use Rattle.hwdb_pattern.proofs.TokenLemmas.{first_token, no_tokens, no_tokens_at, not_star, star_at}
 use Rattle.hwdb_pattern.proofs.ClosedPartLemmas.{closed_tokens, closed_cut, closed_whole, closed_append, open_append}
 use Rattle.hwdb_pattern.proofs.GrowthLemmas.{Front, front_of, take_least}
+use Rattle.hwdb_spec.specs.Forms.{is_star}
+use Rattle.hwdb_pattern.specs.Lemmas.Matching.{one_byte}
+use Rattle.hwdb_spec.specs.Lemmas.Lists.{same_rest}
 
 -- one more token at the end
 pub matches_more : (ts : List Token) (t : Token) (d piece : List ℕ) → Matches ts d → Admits t piece → Matches (ts ++ t ∷ []) (d ++ piece)
@@ -456,10 +458,6 @@ accept_test r path lengths device found e d k f s = (
   (λ m. f.1
       (subst (λ (v : List ℕ). Contains lengths (length v)) (sym d) (subst (λ (l : List ℕ). Contains l (length r.device)) (sym e) (accepts_has r path s k m)))),
 )
-
-same_rest : (front a b : List ℕ) → front ++ a ≡ front ++ b → a ≡ b
-same_rest [] a b e = e
-same_rest (x ∷ front) a b e = let k : front ++ a ≡ front ++ b = cc in same_rest front a b k
 
 -- a path that grows by a piece
 pub fed : (reach : Reached) (device before after text front kept path piece : List ℕ)

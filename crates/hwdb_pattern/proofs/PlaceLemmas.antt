@@ -1,15 +1,15 @@
 -- All lengths from one on, and the places of a device's bytes that a token keeps of them.
-use Rattle.std.proofs.Common.{◌≡◌, ℕ, zero, suc, ◌-◌, ◌+◌, ◌<◌, ◌≤◌, Bool, true, false, List, [], ◌∷◌, ◌++◌, take, drop, replicate, length, get_or, refl, ap, ◌∙◌, sym, subst, cond, ◌==◌, arith, inl, inr, ◌⊎◌, nat_lt, le-ltb}
+use Rattle.std.proofs.Common.{◌≡◌, ℕ, zero, suc, ◌-◌, ◌+◌, ◌<◌, ◌≤◌, Bool, true, false, List, [], ◌∷◌, ◌++◌, take, drop, length, get_or, refl, ap, ◌∙◌, sym, subst, ◌==◌, arith, inl, inr, nat_lt, le-ltb}
 use Rattle.std.specs.Prelude.{Contains, All, Option, Some, None, is_some, IfSome, IfNone}
 use Rattle.std.proofs.lemmas.Bool.{cases_eq, cases_lt}
-use Rattle.std.proofs.lemmas.List.{get_or-take, get_or-drop, length-take, length-drop, length-replicate, take_rest}
+use Rattle.std.proofs.lemmas.List.{get_or-take, get_or-drop, length-take, length-drop}
 use Rattle.std.proofs.lemmas.List.Elements.{Contains-get_or, Contains-push_cases, Contains-push, Contains-append_left}
 use Rattle.hwdb_spec.specs.Patterns.{Token, literal, admits_byte}
 use Rattle.hwdb_pattern.specs.Views.{takes, NoneTakes}
 use Rattle.hwdb_pattern.specs.Internal.Prefixes.{Steps}
 use Rattle.hwdb_pattern.specs.Internal.Tables.{said}
 use Rattle.hwdb_pattern.specs.Internal.Places.{rest_lengths, NonePasses, IsNext, Gathers}
-use Rattle.hwdb_pattern.proofs.PathLemmas.{contains_none, takes_below}
+use Rattle.hwdb_pattern.proofs.PathLemmas.{takes_below}
 use Rattle.hwdb_pattern.proofs.TableLemmas.{said_all, takes_there}
 
 -- which lengths these are

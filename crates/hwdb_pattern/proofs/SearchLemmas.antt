@@ -7,8 +7,9 @@ use Rattle.hwdb_pattern.proofs.LongerPathLemmas.{none_closes}
 use Rattle.hwdb_pattern.specs.Internal.Search.{AreOpen, ArePlain, Reaches, Remains}
 use Rattle.hwdb_pattern.specs.Internal.Parts.{token_part}
 use Rattle.hwdb_pattern.specs.declared.brackets.Part.{Part}
-use Rattle.hwdb_pattern.proofs.MatchLemmas.{is_star, single, single_admits, single_rest, single_empty, star_nothing, star_more, star_step, star_star, star_absorbs, star_empty}
 use Rattle.hwdb_pattern.proofs.TokenLemmas.{first_token, not_star, star_at, no_tokens_at}
+use Rattle.hwdb_spec.specs.Forms.{is_star}
+use Rattle.hwdb_pattern.specs.Lemmas.Matching.{single, single_admits, single_empty, single_rest, star_absorbs, star_empty, star_more, star_nothing, star_star, star_step}
 
 along : (ts us : List Token) (d e : List ℕ) → ts ≡ us → d ≡ e → Matches ts d → Matches us e
 along ts us d e p q m = subst (λ (x : List ℕ). Matches us x) q (subst (λ (x : List Token). Matches x d) p m)

@@ -1,12 +1,12 @@
 -- A path that grows by bytes which are tokens for themselves.
-use Rattle.std.proofs.Common.{◌≡◌, ℕ, ◌+◌, ◌<◌, ◌≤◌, true, List, [], ◌∷◌, ◌++◌, drop, length, get_or, refl, ap, ◌∙◌, sym, subst, cond, arith, eq-eqb}
+use Rattle.std.proofs.Common.{◌≡◌, ℕ, suc, ◌+◌, ◌-◌, ◌<◌, ◌≤◌, true, List, [], ◌∷◌, ◌++◌, drop, length, get_or, refl, ap, ◌∙◌, sym, subst, cond, arith, eq-eqb, if◌then◌else◌}
 use Rattle.std.specs.Prelude.{map}
 use Rattle.std.proofs.lemmas.List.{append-nil, drop_all, length-drop, get_or-drop}
 use Rattle.hwdb_spec.specs.Patterns.{Token, literal, token_at, token_size, tokens}
-use Rattle.hwdb_spec.specs.Tree.{closed_part, IsLive}
-use Rattle.hwdb_pattern.specs.Views.{takes, NoneTakes, open_part, Reached, StandsFor}
+use Rattle.hwdb_spec.specs.Tree.{closed_part, is_open, IsLive}
+use Rattle.hwdb_pattern.specs.Views.{takes, NoneTakes, open_from, open_part, Reached, StandsFor}
 use Rattle.hwdb_pattern.specs.Internal.Prefixes.{stepped, Follows, Along}
-use Rattle.hwdb_pattern.proofs.TokenLemmas.{not_star, token_byte}
+use Rattle.hwdb_pattern.proofs.TokenLemmas.{not_star, star_at, token_byte}
 use Rattle.hwdb_pattern.proofs.ClosedPartLemmas.{ClosedTo, closed_start, closed_step, closed_ends, other_token, part_and_rest}
 use Rattle.hwdb_pattern.proofs.PathLemmas.{alive_has, along_end, along_first, along_none, along_step, fed, follows_none, follows_one, no_bytes, stepped_none, takes_by}
 
@@ -87,3 +87,11 @@ fed_closed r device after path piece kept d k none closed follows stands =
     let whole : piece ≡ closed_part piece = sym (sym (append-nil (closed_part piece)) ∙ ap (λ l. closed_part piece ++ l) (sym closed) ∙ part_and_rest piece) in
     fed r device r.lengths after piece (closed_part piece) kept path piece d refl (ap (λ l. l ++ piece) (sym k)) refl (none ∙ sym closed)
     (subst (λ l. Follows (tokens l) device r.lengths after) whole (subst (λ v. Follows (tokens piece) v r.lengths after) (sym d) follows)) stands
+
+-- no bracket is open in a text of stars alone
+pub stars_closed : (text : List ℕ) → ((k : ℕ) → k < length text → get_or text k 0 ≡ 42) → open_part text ≡ []
+unfolding open_from
+stars_closed [] h = refl
+stars_closed (first ∷ rest) h =
+    ap (λ t. if is_open t then first ∷ rest else open_from (token_size t - 1) rest) (star_at (first ∷ rest) (h 0 (omega arith)))
+    ∙ stars_closed rest (λ k below. h (suc k) (omega (arith, below)))

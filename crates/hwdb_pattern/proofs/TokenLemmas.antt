@@ -5,7 +5,7 @@ use Rattle.hwdb_spec.specs.Patterns.{Bracket, Items, bracket_at, bracket_of, ite
 use Rattle.hwdb_pattern.specs.Internal.Parts.{bracket_or_byte, token_part, bracket_part}
 use Rattle.std.specs.Option.{option_map}
 use Rattle.hwdb_pattern.specs.declared.brackets.Part.{Part}
-use Rattle.hwdb_pattern.proofs.MatchLemmas.{is_star}
+use Rattle.hwdb_spec.specs.Forms.{is_star}
 
 -- bytes of a token that was cut before are passed over
 pub skipped : (skip : ℕ) (text : List ℕ) → tokens_from skip text ≡ tokens (drop skip text)

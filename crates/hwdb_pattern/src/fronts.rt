@@ -58,7 +58,7 @@ fn met_by(alloc: Global, tokens: &[&[u8]], device: &[u8]) -> Result<Met, AllocEr
     Ok(met)
 }
 
-/// Where tokens stop, each of which is given by a text that it begins: the longest front of them that matches a front of
+/// Where tokens stop, each of which is given by a text that it begins. The longest front of them that matches a front of
 /// the device, and the least such front of the device.
 ///
 /// Takes at most as many steps as there are tokens, times the device's length, and a step is a part of an instruction. The

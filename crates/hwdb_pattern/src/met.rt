@@ -8,8 +8,8 @@
 //! most devices. So a list holds them, of at most `FEW` lengths (`rests`). If it keeps more, a table has a truth value
 //! for each length from the least one on. A token keeps some of them in place, and the least length is then one more.
 //!
-//! So each token takes at most as many steps as the device has bytes, and one more, and a step is a part of an
-//! instruction. The memory is at most one byte for each length. A bracket is read at most 256 times a token.
+//! So each token takes at most one step more than the device has bytes, and a step is a part of an instruction. The
+//! memory is at most one byte for each length. A bracket is read at most 256 times a token.
 ghost use Rattle.std.specs.Prelude.{ℕ, ◌≡◌, ◌≢◌, ◌<◌, ◌≤◌, ◌+◌, ◌^◌, ◌==◌, ◌↔◌, [], length, slice_index, drop, take, min, All, Contains, true, false, IsTrue, IfOk, IsOk, IsOkAnd, IfSome, IfNone};
 ghost use Rattle.hwdb_spec.specs.Patterns.{tokens, token_at, literal};
 ghost use Rattle.hwdb_pattern.specs.Views.{takes, NoneTakes};
@@ -436,5 +436,17 @@ impl Met {
         }
         let after = self.first_token(alloc, device, text)?;
         after.follow(alloc, device, &text[run_size(text)..])
+    }
+
+    /// The lengths after all tokens of a text of stars alone. Reads none of them.
+    pub(crate) fn along_stars(&self, alloc: Global, device: &[u8], stars: &[u8]) -> Met
+        requires some { 0 < length stars.now }
+        requires stars { (k : ℕ) → k < length stars.now → slice_index stars.now k ≡ 42 }
+        requires within { Within device.now (lengths_of self.now) }
+        ensures follows { Follows (tokens stars.now) device.now (lengths_of self.now)
+            (lengths_of result) }
+        ensures within { Within device.now (lengths_of result) }
+    {
+        self.after_star(alloc, device.len())
     }
 }

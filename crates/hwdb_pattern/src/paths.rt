@@ -2,7 +2,7 @@
 //!
 //! The state of a node's path is the beginning of each of its children's. So a feed makes a new state, and leaves the
 //! old one to the next child. Most children are dead by their first byte: `may_take` finds that out without a feed.
-ghost use Rattle.std.specs.Prelude.{◌≡◌, ◌≤◌, ◌↔◌, length, List, [], ◌∷◌, ℕ, ◌++◌, false, IsTrue, IfOk, IsOk, IfSome};
+ghost use Rattle.std.specs.Prelude.{◌≡◌, ◌≤◌, ◌<◌, ◌↔◌, length, slice_index, List, [], ◌∷◌, ℕ, ◌++◌, false, IsTrue, IfOk, IsOk, IfSome};
 ghost use Rattle.hwdb_spec.specs.Patterns.{Matches, tokens};
 ghost use Rattle.hwdb_pattern.specs.Internal.Prefixes.{Within, Follows};
 ghost use Rattle.hwdb_pattern.specs.Internal.Met.{lengths_of};
@@ -22,8 +22,8 @@ use std::marker::Model;
 /// The closed part ends before the first `[` that begins no closed bracket in the path. Bytes from there on are kept,
 /// since a later `]` may still close that bracket.
 ///
-/// It holds the kept bytes, and at most one byte for each prefix from the first one that is matched on, or a list of 32
-/// numbers. Before the path's first star, and right after a star, it holds no memory but the kept bytes.
+/// It holds the kept bytes. It also holds a list of 32 numbers, or at most one byte for each prefix from the first one
+/// that is matched on. Before the path's first star, and right after a star, it holds no memory but the kept bytes.
 #[derive(Drop)]
 pub struct Reach<'d> {
     device: &'d [u8],
@@ -80,6 +80,28 @@ impl<'d> Reach<'d> {
         text.extend_from_slice(kept)?;
         text.extend_from_slice(piece)?;
         self.follow_text(alloc, &text)
+    }
+
+    /// The state of the path followed by stars alone: as after one star, since the others change nothing. None if a `[`
+    /// is open, which keeps them.
+    ///
+    /// Takes no memory, and a step for each prefix that is matched. Reads none of the stars.
+    pub fn after_stars(&self, alloc: Global, stars: &[u8]) -> Option<Reach<'d>>
+        requires some { 0 < length stars.now }
+        requires stars { (k : ℕ) → k < length stars.now → slice_index stars.now k ≡ 42 }
+        ensures device { IfSome result (λ next. next.device ≡ self.now.device) }
+        ensures path { IfSome result (λ next. (path : List ℕ)
+            → StandsFor self.now path → StandsFor next (path ++ stars.now)) }
+    {
+        let kept: &[u8] = &self.kept;
+        if !kept.is_empty() {
+            return None;
+        }
+        Some(Reach {
+            device: self.device,
+            met: self.met.along_stars(alloc, self.device, stars),
+            kept: Vec::new(alloc),
+        })
     }
 
     /// The length that is matched after the piece, if one alone was matched before it. Each byte of the piece has to be

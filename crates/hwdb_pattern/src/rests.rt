@@ -27,8 +27,8 @@ const FEW: usize = 32;
 /// If there are more bytes than this, a bracket is read once for each of the 256 bytes, not once for each place.
 const LONG: usize = 256;
 
-/// Which bytes the bracket at the beginning of the text admits, if it is to be looked at for so many bytes that it pays
-/// to know.
+/// Which bytes the bracket at the beginning of the text admits, if so many bytes are to be looked at that it pays to
+/// know.
 fn admitted_by(text: &[u8], count: usize) -> Option<[bool; 256]>
     requires some { 0 < length text.now }
     requires no_star { slice_index text.now 0 ≢ 42 }

@@ -169,7 +169,7 @@ fn bytes_matched(pattern: &[u8], close: usize, opens: &[bool]) -> Option<usize>
     Some(count)
 }
 
-/// From which place of the device on the pattern is to be tried, if it has to lead to the device's end and no place
+/// From which place of the device on the pattern is to be tried. It has to lead to the device's end, and no place
 /// before `met` counts.
 fn first_try(pattern: &[u8], end: usize, met: usize, close: usize, opens: &[bool]) -> usize
     requires closes { NoneCloses pattern.now close }

@@ -1,4 +1,4 @@
--- What is overridden, one answer behind another.
+-- What is overridden, one answer after another.
 use Rattle.std.proofs.Common.{◌≡◌, ◌∙◌, ap, sym, ℕ, zero, suc, ◌<◌, List, [], ◌∷◌, ◌++◌, map, take, length, get_or, append_assoc, arith}
 use Rattle.std.specs.Prelude.{flat_map}
 use Rattle.std.proofs.lemmas.List.{append-nil}
@@ -17,7 +17,7 @@ text_more (y ∷ ys) (suc i) x h is =
     ap (λ l. overridden_text (assignment_of_answer y) ++ l) (text_more ys i x less is)
     ∙ sym (append_assoc (overridden_text (assignment_of_answer y)) (text_of (take i ys)) (overridden_text (assignment_of_answer x)))
 
--- behind a text
+-- after a text
 pub behind_more : (text before after : List ℕ) (xs : List StoredAssignment) (i : ℕ) (x : StoredAssignment) → i < length xs → x ≡ get_or xs i x
     → before ≡ text ++ text_of (take i xs) → after ≡ before ++ overridden_text (assignment_of_answer x) → after ≡ text ++ text_of (take (suc i) xs)
 behind_more text before after xs i x h is so_far pushed =

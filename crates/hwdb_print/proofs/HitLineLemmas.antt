@@ -63,7 +63,7 @@ no_lines text a hits = (0, Appends-nil a)
 pub given : (before after : List Assignment) (o : Option Hit) (hit : Hit) → o ≡ Some hit → Gives before after o → before ≡ assignment_of_hit hit ∷ after
 given before after o hit e g = let P : Option Hit → Type 0 = λ x. Gives before after x in subst P e g
 
--- what is printed of a list behind its first line
+-- what is printed of a list after its first line
 pub whole_step : (text : Assignment → List ℕ) (a b end : Option (List ℕ)) (limit : Option ℕ) (all more : List Assignment) (f : Assignment) (line : List ℕ) → all ≡ f ∷ more → limit ≢ Some 0 → line ≡ text f
     → Appends a b line → Appends b end (flat_map text (within_limit (one_less limit) more)) → Appends a end (flat_map text (within_limit limit all))
 whole_step text a b end limit all more f line e some is p q =

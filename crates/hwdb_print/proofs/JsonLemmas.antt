@@ -6,7 +6,7 @@ use Rattle.std.proofs.lemmas.Str.{is_utf8-from_IsUtf8}
 use Rattle.json.specs.Token.{Token}
 use Rattle.hwdb_spec.specs.Json.{array_of, has_name, pair_json, property_member, raw_members, text_json}
 use Rattle.hwdb_show.specs.JsonTokens.{tokens_of_member, tokens_of_members}
-use Rattle.hwdb_show.specs.Lemmas.Json.{not_utf8}
+use Rattle.hwdb_spec.specs.Lemmas.Orders.{not_utf8}
 
 abbrev pub tokens_if_named : List ℕ × List ℕ → List Token
 tokens_if_named p = tokens_of_members (map property_member (filter has_name (p ∷ [])))

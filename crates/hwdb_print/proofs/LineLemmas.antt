@@ -14,24 +14,21 @@ use Rattle.hwdb_print.specs.Internal.{IsRefilled, IsTaken}
 use Rattle.std.specs.Prelude.{Any, IsErrOf}
 use Rattle.std.specs.Result.{IsErrAnd}
 use Rattle.hwdb_print.specs.Streams.{IsFirstLine}
-
-or_none : (t r : Bool) → (t || r) ≡ false → (t ≡ false) × (r ≡ false)
-or_none true r e = absurd (true≢false e)
-or_none false r e = (refl, e)
+use Rattle.hwdb_spec.specs.Lemmas.Truth.{or_neither}
 
 -- no newline in two parts, none in the whole
 pub none_in_both : (a b : List ℕ) → has 10 a ≡ false → has 10 b ≡ false → has 10 (a ++ b) ≡ false
 none_in_both [] b p q = q
 none_in_both (x ∷ xs) b p q =
-    let h = or_none (is 10 x) (has 10 xs) p in
+    let h = or_neither (is 10 x) (has 10 xs) p in
     ap (λ (t : Bool). t || has 10 (xs ++ b)) h.0 ∙ none_in_both xs b h.1 q
 
--- a line, a newline, and what stands behind them
+-- a line, a newline, and what is after them
 pub line_and_more : (a rest : List ℕ) → has 10 a ≡ false → pieces (is 10) (a ++ 10 ∷ rest) ≡ a ∷ pieces (is 10) rest
 unfolding pieces
 line_and_more [] rest p = refl
 line_and_more (x ∷ xs) rest p =
-    let h = or_none (is 10 x) (has 10 xs) p in
+    let h = or_neither (is 10 x) (has 10 xs) p in
     ap (λ (t : Bool). cond t ([] ∷ pieces (is 10) (xs ++ 10 ∷ rest)) (onto_first x (pieces (is 10) (xs ++ 10 ∷ rest)))) h.0
     ∙ ap (onto_first x) (line_and_more xs rest h.1)
 
@@ -40,10 +37,10 @@ pub last_line : (a : List ℕ) → has 10 a ≡ false → 0 < length a → piece
 unfolding pieces
 last_line [] p h = absurd (omega arith)
 last_line (x ∷ []) p h =
-    let q = or_none (is 10 x) (has 10 []) p in
+    let q = or_neither (is 10 x) (has 10 []) p in
     ap (λ (t : Bool). cond t ([] ∷ []) ((x ∷ []) ∷ [])) q.0
 last_line (x ∷ y ∷ xs) p h =
-    let q = or_none (is 10 x) (has 10 (y ∷ xs)) p in
+    let q = or_neither (is 10 x) (has 10 (y ∷ xs)) p in
     ap (λ (t : Bool). cond t ([] ∷ pieces (is 10) (y ∷ xs)) (onto_first x (pieces (is 10) (y ∷ xs)))) q.0
     ∙ ap (onto_first x) (last_line (y ∷ xs) q.1 (omega arith))
 
@@ -55,7 +52,7 @@ later_by : (t : Bool) (n m : ℕ) → n ≤ m → cond (not t) (1 + n) 0 ≤ con
 later_by true n m h = omega arith
 later_by false n m h = omega (arith, h)
 
--- the first newline stands no earlier where more stands behind
+-- the first newline is no earlier if more is after it
 later : (b c : List ℕ) → position_or_len (is 10) b ≤ position_or_len (is 10) (b ++ c)
 later [] c = omega arith
 later (x ∷ xs) c = later_by (is 10 x) _ _ (later xs c)
@@ -68,7 +65,7 @@ past_by false n m e h = omega (arith, h)
 pub past : (a b c : List ℕ) → has 10 a ≡ false → length a + position_or_len (is 10) b ≤ position_or_len (is 10) (a ++ (b ++ c))
 past [] b c p = omega (arith, later b c)
 past (x ∷ xs) b c p =
-    let h = or_none (is 10 x) (has 10 xs) p in
+    let h = or_neither (is 10 x) (has 10 xs) p in
     let step = past_by (is 10 x) _ _ h.0 (past xs b c h.1) in
     omega (arith, step)
 
@@ -104,7 +101,7 @@ pub nothing_read : (a : Option (List ℕ)) → Consumes a a []
 nothing_read None = tt
 nothing_read (Some x) = refl
 
--- behind the line's beginning stand its last part and a newline
+-- after the line's beginning are its last part and a newline
 together : (line part held_now y : List ℕ) → line ++ ((part ++ 10 ∷ held_now) ++ y) ≡ (line ++ part) ++ 10 ∷ (held_now ++ y)
 together line part held_now y =
     ap (λ (l : List ℕ). line ++ l) (append_assoc part (10 ∷ held_now) y) ∙ sym (append_assoc line part (10 ∷ (held_now ++ y)))
@@ -187,11 +184,11 @@ any_long : (limit : ℕ) (ls : List (List ℕ)) → IsFirstLong limit ls → Any
 any_long limit [] h = absurd h
 any_long limit (l ∷ ls) h = (0, l, omega arith, refl, h)
 
--- the first newline stands too far behind
+-- the first newline is too far from the beginning
 pub long_line : (limit : ℕ) (xs : List ℕ) → limit < position_or_len (is 10) xs → HasLongLine limit xs
 long_line limit xs h = any_long limit (pieces (is 10) xs) (first_long xs limit h)
 
--- a line behind the first
+-- a line after the first
 pub long_behind : (limit : ℕ) (line : List ℕ) (ls : List (List ℕ)) → Any (λ (l : List ℕ). limit < length l) ls → Any (λ (l : List ℕ). limit < length l) (line ∷ ls)
 long_behind limit line ls a = (suc a.0, a.1, omega (arith, a.2), a.3, a.4)
 

@@ -15,13 +15,13 @@ use Rattle.hwdb_spec.specs.declared.form.Form.TheVariants.{Explain, Query}
 use Rattle.hwdb_print.specs.Internal.{answer_text, texts_from}
 use Rattle.hwdb_spec.specs.Streams.{last_texts_of, texts_of}
 
--- what stands behind a text
+-- what is after a text
 behind : (text : List ℕ → List ℕ) (more : List (List ℕ)) → empty_line (map text more) ++ with_empty_lines (map text more) ≡ flat_map (λ device. 10 ∷ text device) more
 unfolding with_empty_lines
 behind text [] = refl
 behind text (d ∷ more) = ap (λ (l : List ℕ). 10 ∷ (text d ++ l)) (behind text more)
 
--- the first text, and those behind it
+-- the first text, and those after it
 pub next_text : (form : Form) (is_first : Bool) (t : Tree) (device : List ℕ) (more : List (List ℕ)) → texts_from form is_first (device ∷ more) t ≡ answer_text form is_first device t ++ texts_from form false more t
 unfolding with_empty_lines
 next_text (Query true) true t device more = refl

@@ -21,14 +21,14 @@ abbrev pub text_behind : (is_first : Bool) → List ℕ → List ℕ
 text_behind true text = text
 text_behind false text = byte "\n" ∷ text
 
--- what is printed of a device behind others
+-- what is printed of a device after others
 abbrev pub answer_text : Form → (is_first : Bool) → List ℕ → Tree → List ℕ
 answer_text (Query false) is_first device t = text_behind is_first (query_text device t)
 answer_text (Query true) is_first device t = json_line (device_json device (effective_of (answers device t)))
 answer_text (Explain false) is_first device t = text_behind is_first (explain_text device t)
 answer_text (Explain true) is_first device t = explain_json device t
 
--- what is printed of some devices, behind others where they aren't the first
+-- what is printed of some devices, after others if they aren't the first
 abbrev pub texts_from : Form → (is_first : Bool) → List (List ℕ) → Tree → List ℕ
 texts_from form true devices t = texts_of form devices t
 texts_from form false devices t = flat_map (λ device. answer_text form false device t) devices
@@ -39,7 +39,7 @@ pub record IsRefilled (before : Option (List ℕ)) (held : List ℕ) (now : Opti
   pub some : more ≡ true → 0 < length held
   pub none : more ≡ false → (held ≡ []) × IsAtEnd now
 
--- a part of what was held, without a newline, went behind a line: up to the first newline, which is dropped, or all
+-- a part of what was held, without a newline, went after a line: up to the first newline, which is dropped, or all
 abbrev pub IsTaken : (line held line_now held_now : List ℕ) → (is_whole : Bool) → Type 0
 IsTaken line held line_now held_now true = (part : List ℕ) × (has (byte "\n") part ≡ false) × (line_now ≡ line ++ part) × (held ≡ part ++ byte "\n" ∷ held_now)
 IsTaken line held line_now held_now false = (has (byte "\n") held ≡ false) × (line_now ≡ line ++ held) × (held_now ≡ [])

@@ -12,7 +12,7 @@ held lines = take (lines.end - lines.at) (drop lines.at lines.chunk)
 abbrev pub to_come : LineReader → Option (List ℕ) → Option (List ℕ)
 to_come lines left = prepend_known (held lines) left
 
--- where the bytes are told, the line is the first one of those before; those now have the lines behind it, and are fewer
+-- where the bytes are told, the line is the first one of those before; those now have the lines after it, and are fewer
 abbrev pub IsFirstLine : (line : List ℕ) → Option (List ℕ) → Option (List ℕ) → Type 0
 IsFirstLine line None now = Unit {0}
 IsFirstLine line (Some before) None = ⊥

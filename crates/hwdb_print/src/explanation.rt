@@ -20,7 +20,7 @@ fn push_origin(text: &mut Vec<u8>, answer: &StoredAssignment<'_>) -> Result<(), 
     Ok(())
 }
 
-/// Adds an answer that is overridden: its `KEY=VALUE` behind `  overrides `, and where it comes from.
+/// Adds an answer that is overridden: its `KEY=VALUE` after ` overrides `, and where it comes from.
 fn push_overridden(text: &mut Vec<u8>, answer: &StoredAssignment<'_>) -> Result<(), AllocError>
     ensures { OnOk result
         (text.new.items ≡ text.old.items ++ overridden_text (assignment_of_answer answer.now)) }

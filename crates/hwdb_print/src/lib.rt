@@ -1,5 +1,5 @@
-//! What the commands print: texts and JSON of answers, made of the bytes of a database or of text files, and written to a
-//! [`Sink`](hwdb_io::Sink) that may fail at any byte.
+//! What the commands print: texts and JSON of answers, made of the bytes of a database or of text files. They are written
+//! to a [`Sink`](hwdb_io::Sink) that may fail at any byte.
 //!
 //! | Module | What it does |
 //! |---|---|
@@ -16,6 +16,7 @@
 //! | `update` | `update`: the database of the files of two folders, put in its place |
 //! | `chunk` | what a reader of lines holds |
 //! | `line_reader` | the lines of a source, one after another |
+//! | `renewal` | the database of a stream: bytes that may be replaced between two answers |
 //! | `streaming` | `query -` and `explain -`: the devices of a source, each answered as it comes |
 #![tactic(auto)]
 
@@ -29,6 +30,7 @@ mod json_lines;
 mod line_reader;
 mod listing;
 mod queries;
+mod renewal;
 mod single_file;
 mod streaming;
 mod texts;
@@ -42,7 +44,8 @@ pub use json_laws::json_is_read_back;
 pub use json_lines::{put_named, put_raw, raw_of};
 pub use listing::{print_list, run_list};
 pub use queries::{answer, answers, run_query};
+pub use renewal::{Kept, Renewal};
 pub use single_file::{AskTexts, ask, ask_texts};
-pub use streaming::run_stream;
+pub use streaming::{run_renewed, run_stream};
 pub use texts::{property_lines, push_property};
 pub use update::{put_in_place, run_update};

@@ -41,7 +41,7 @@ impl LineReader {
         Ok(n > 0)
     }
 
-    /// Hands on what is held up to a newline, or all, behind a line's beginning, and answers whether that was the whole
+    /// Hands on what is held up to a newline, or all, after a line's beginning, and answers whether that was the whole
     /// line.
     ///
     /// Refuses a line of more bytes than `max_bytes`, and memory.

@@ -3,6 +3,8 @@ ghost use Rattle.std.specs.Prelude.{◌≡◌, List, None, IfErr, IfSome, OnOk, 
 ghost use Rattle.std.specs.Io.KnownBytes.{Appends};
 ghost use Rattle.hwdb_spec.specs.Flushing.{HandsOn};
 ghost use Rattle.hwdb_spec.specs.Folders.{Source};
+ghost use Rattle.hwdb_spec.specs.Tree.{Tree};
+ghost use Rattle.hwdb_spec.specs.Format.{IsDatabase};
 ghost use Rattle.hwdb_spec.specs.ManyDevices.{HasLongLine};
 ghost use Rattle.hwdb_spec.specs.Texts.{devices_of, max_file};
 ghost use Rattle.hwdb_spec.specs.Written.{IsCompiled};
@@ -13,22 +15,26 @@ ghost use Rattle.hwdb_spec.specs.Streams.{IsAnswerRefusal, IsStreamRefusal, IfBa
 
 use crate::chunk::LineReader;
 use crate::device_texts::text_of_device;
+use crate::renewal::{Kept, Renewal};
 use hwdb_io::{MAX_BYTES, Sink, Source, write_text};
 use hwdb_query::compiled_answers_are_last;
-use hwdb_reader::{Db, check};
+use hwdb_reader::{check, reopen};
 use hwdb_spec::{Form, ToolError};
 use std::alloc::Global;
 
-/// Answers each device that the input names. One line and one text are held at a time.
-fn answer_lines<I: Source, O: Sink>(
+/// Answers each device that the input names, from the bytes that are there when its line was read. One line and one text are
+/// held at a time.
+fn answer_lines<R: Renewal, I: Source, O: Sink>(
     alloc: Global,
-    db: &Db<'_>,
+    database: &mut R,
     form: Form,
     input: &mut I,
     out: &mut O,
 ) -> Result<(), ToolError>
-    ensures printed { OnOk result (IfSome (I.left input.old) (λ text.
-        Appends (O.taken out.old) (O.taken out.new) (texts_of form (devices_of text) db.now))) }
+    requires database { (t : Tree) × IsDatabase (R.held database.old) t }
+    ensures printed { R.stays database.old → OnOk result (IfSome (I.left input.old) (λ text.
+        Wrote (IsTextOf (texts_of form (devices_of text)) (R.held database.old))
+        (O.taken out.old) (O.taken out.new))) }
     ensures all { OnOk result
         (IfSome (I.left input.old) (λ text. line_error (devices_of text) ≡ None)) }
     ensures refusals { IfErr result IsAnswerRefusal }
@@ -38,8 +44,9 @@ fn answer_lines<I: Source, O: Sink>(
         (λ text. IsLineError e (line_error (devices_of text)))) }
     ensures reads { FailedOnly ToolError.Read result (I.failures input.old) (I.failures input.new) }
     ensures writes { FailedOnly ToolError.Write result (O.failures out.old) (O.failures out.new) }
-    ensures before { IfErr result (λ e. IfSome (I.left input.old) (λ text. IsPrintedBefore e
-        (λ lines written. written ≡ texts_of form lines db.now) (devices_of text)
+    ensures before { R.stays database.old
+        → IfErr result (λ e. IfSome (I.left input.old) (λ text. IsPrintedBefore e
+        (λ lines. IsTextOf (texts_of form lines) (R.held database.old)) (devices_of text)
         (O.taken out.old) (O.taken out.new))) }
     ensures hands_on { HandsOn (O.is_flushed out.old) (O.is_flushed out.new)
         (O.failures out.old) (O.failures out.new) }
@@ -50,11 +57,47 @@ fn answer_lines<I: Source, O: Sink>(
         let Some(device) = lines.next_line(alloc, input, MAX_BYTES)? else {
             return Ok(());
         };
-        let text = text_of_device(alloc, db, &device, form, is_first)?;
+        database.renew();
+        let db = reopen(database.bytes());
+        let text = text_of_device(alloc, &db, &device, form, is_first)?;
         write_text(out, &text)?;
         is_first = false;
     }
     Err(ToolError::TooManyLines)
+}
+
+/// The same as [`run_stream`], of a database that may be replaced between two answers: each is of the bytes that are there
+/// when its line was read. They are checked once here, and whoever renews them checks those that come.
+pub fn run_renewed<R: Renewal, I: Source, O: Sink>(
+    alloc: Global,
+    database: &mut R,
+    form: Form,
+    input: &mut I,
+    out: &mut O,
+) -> Result<(), ToolError>
+    ensures printed { R.stays database.old → OnOk result (IfSome (I.left input.old) (λ text.
+        Wrote (IsTextOf (texts_of form (devices_of text)) (R.held database.old))
+        (O.taken out.old) (O.taken out.new))) }
+    ensures all { OnOk result
+        (IfSome (I.left input.old) (λ text. line_error (devices_of text) ≡ None)) }
+    ensures refusals { IfErr result (IsStreamRefusal (R.held database.old)) }
+    ensures too_long { IsErrOf result ToolError.TooLong
+        → IfSome (I.left input.old) (HasLongLine max_file) }
+    ensures line { IfErr result (λ e. IfSome (I.left input.old)
+        (λ text. IsLineError e (line_error (devices_of text)))) }
+    ensures reads { FailedOnly ToolError.Read result (I.failures input.old) (I.failures input.new) }
+    ensures writes { FailedOnly ToolError.Write result (O.failures out.old) (O.failures out.new) }
+    ensures before { R.stays database.old
+        → IfErr result (λ e. IfSome (I.left input.old) (λ text. IsPrintedBefore e
+        (λ lines. IsTextOf (texts_of form lines) (R.held database.old)) (devices_of text)
+        (O.taken out.old) (O.taken out.new))) }
+    ensures untouched { IfErr result (IfBadDatabase
+        ((input.new ≡ input.old) × (out.new ≡ out.old))) }
+    ensures hands_on { HandsOn (O.is_flushed out.old) (O.is_flushed out.new)
+        (O.failures out.old) (O.failures out.new) }
+{
+    check(database.bytes())?;
+    answer_lines(alloc, database, form, input, out)
 }
 
 /// Checks the bytes, and then reads devices from `input`, one a line. Each is printed to `out` as soon as its line is read:
@@ -96,6 +139,5 @@ pub fn run_stream<I: Source, O: Sink>(
         (O.failures out.old) (O.failures out.new) }
 {
     compiled_answers_are_last();
-    let db = check(bytes)?;
-    answer_lines(alloc, &db, form, input, out)
+    run_renewed(alloc, &mut Kept { bytes }, form, input, out)
 }

@@ -1,4 +1,3 @@
-pub mod AppendedLemmas
 pub mod NameLemmas
 pub mod RowLemmas
 pub mod SameLemmas

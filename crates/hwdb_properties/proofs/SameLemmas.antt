@@ -1,20 +1,14 @@
 -- Texts of different lengths.
 use Rattle.std.proofs.Common.{◌≡◌, ℕ, Bool, true, false, List, length, refl, ap}
-use Rattle.std.specs.declared.cmp.Ordering.{Ordering}
-use Rattle.std.specs.declared.cmp.Ordering.TheVariants.{Less, Equal, Greater}
-use Rattle.std.specs.Ordering.{is_eq, nat_cmp}
+use Rattle.std.specs.Ordering.{nat_cmp}
 use Rattle.std.specs.Cmp.Lexicographic.{slice_cmp}
 use Rattle.std.proofs.lemmas.Map.Lookups.{exact_bytes}
 use Rattle.hwdb_spec.specs.Folders.{same}
-
-is_equal : (o : Ordering) → is_eq o ≡ true → o ≡ Equal
-is_equal Less e = cc
-is_equal Equal e = refl
-is_equal Greater e = cc
+use Rattle.hwdb_spec.specs.Lemmas.Orders.{equal_of}
 
 pub differ : (one other : List ℕ) → (length one ≡ length other → ⊥) → false ≡ same one other
 differ one other h = go (same one other) refl
   where
     go : (b : Bool) → same one other ≡ b → false ≡ b
     go false e = refl
-    go true e = absurd (h (ap length (exact_bytes one other (is_equal (slice_cmp nat_cmp one other) e))))
+    go true e = absurd (h (ap length (exact_bytes one other (equal_of (slice_cmp nat_cmp one other) e))))

@@ -15,9 +15,10 @@ use Rattle.hwdb_query.specs.Internal.Members.{one_assignment, assignment_shown, 
 use Rattle.hwdb_query.specs.Internal.Explaining.{set, set_all, Place, assignment_at_place, all_shown, AllCollects}
 use Rattle.hwdb_query.specs.declared.all_hits.AllHits.{AllHits}
 use Rattle.hwdb_query.specs.declared.all_hits.HitValue.{HitValue}
-use Rattle.hwdb_query.proofs.MemberLemmas.{then_equal, same_text, put_sound, members_single, filter_sound, in_none}
+use Rattle.hwdb_query.proofs.MemberLemmas.{put_sound, members_single, filter_sound, in_none}
 use Rattle.hwdb_query.proofs.DistinctLemmas.{under_distinct}
 use Rattle.hwdb_query.proofs.PartLemmas.{own_next, own_behind}
+use Rattle.hwdb_spec.specs.Lemmas.Orders.{equal_text, then_equal}
 
 -- ---- one after another
 
@@ -56,8 +57,8 @@ same_position x y h =
     let c = then_equal (slice_cmp nat_cmp x.pattern y.pattern) (slice_cmp nat_cmp x.key y.key) b.1 in
     let p : x.priority ≡ y.priority = finite.nat_cmp-IsAntisymmetric x.priority y.priority a.0 in
     let l : x.line ≡ y.line = finite.nat_cmp-IsAntisymmetric x.line y.line b.0 in
-    let pe : x.pattern ≡ y.pattern = same_text x.pattern y.pattern c.0 in
-    let ke : x.key ≡ y.key = same_text x.key y.key c.1 in
+    let pe : x.pattern ≡ y.pattern = equal_text x.pattern y.pattern c.0 in
+    let ke : x.key ≡ y.key = equal_text x.key y.key c.1 in
     λ i. record { priority = p i; line = l i; pattern = pe i; key = ke i }
 
 regrouped : (a b c d : Ordering) → ordering_then (ordering_then (ordering_then a b) c) d ≡ ordering_then a (ordering_then b (ordering_then c d))

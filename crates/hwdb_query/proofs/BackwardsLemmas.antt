@@ -17,11 +17,11 @@ use Rattle.hwdb_query.specs.Internal.Hits.{after_position}
 use Rattle.hwdb_query.specs.Internal.Collected.{PageCollects}
 use Rattle.hwdb_query.specs.declared.next_page.NextPage.{NextPage}
 use Rattle.hwdb_query.proofs.PutLemmas.{PlacesApart, keep_all_append, keep_both_ways, apart_filter}
-use Rattle.hwdb_query.proofs.OrderLemmas.{assignment_total}
 use Rattle.hwdb_query.proofs.PartLemmas.{own_split, own_taken}
 use Rattle.hwdb_query.proofs.CollectionLemmas.{page_more, page_none, page_values_over}
-use Rattle.hwdb_query.proofs.DistinctLemmas.{keys_above}
-use Rattle.hwdb_query.proofs.MemberLemmas.{key_is, then_equal, same_text}
+use Rattle.hwdb_spec.specs.Lemmas.Orders.{equal_text, then_equal}
+use Rattle.hwdb_spec.specs.Lemmas.Places.{assignment_total, key_is}
+use Rattle.hwdb_query.specs.Lemmas.Paths.{keys_above}
 
 same_key : (x y : Assignment) → assignment_cmp x y ≡ Equal → x.position.key ≡ y.position.key
 unfolding assignment_cmp position_cmp
@@ -29,7 +29,7 @@ same_key x y h =
     let a = then_equal (nat_cmp x.position.priority y.position.priority) _ h in
     let b = then_equal (nat_cmp x.position.line y.position.line) _ a.1 in
     let c = then_equal (slice_cmp nat_cmp x.position.pattern y.position.pattern) (slice_cmp nat_cmp x.position.key y.position.key) b.1 in
-    same_text x.position.key y.position.key c.1
+    equal_text x.position.key y.position.key c.1
 
 -- what a value assigns has another place than what values of greater keys assign
 value_apart : (pattern key : List ℕ) (v : Value) (values : List Value) → key_of v.key ≡ Some key → AllByRecursion (λ w. slice_cmp nat_cmp v.key w.key ≡ Less) values

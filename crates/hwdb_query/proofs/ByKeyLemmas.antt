@@ -22,9 +22,9 @@ use Rattle.hwdb_query.specs.Internal.Pairs.{put_values}
 use Rattle.hwdb_query.specs.Internal.Collected.{Told, told, told_last, told_at, position_at, last_with, Shows}
 use Rattle.hwdb_query.specs.declared.last_hits.Last.{Last}
 use Rattle.hwdb_query.proofs.PutLemmas.{ascends_all, all_above, above_of}
-use Rattle.hwdb_query.proofs.OrderLemmas.{assignment_total}
-use Rattle.hwdb_query.proofs.MemberLemmas.{then_equal, equal_of, same_text}
 use Rattle.hwdb_query.proofs.KeyLemmas.{all_put, flipped}
+use Rattle.hwdb_spec.specs.Lemmas.Orders.{equal_of, equal_text, then_equal}
+use Rattle.hwdb_spec.specs.Lemmas.Places.{assignment_total}
 
 -- the first of two that there is
 abbrev first_some : {A : Type 0} → Option A → Option A → Option A
@@ -126,7 +126,7 @@ same_key_of x y h =
     let a = then_equal (nat_cmp x.position.priority y.position.priority) _ h in
     let b = then_equal (nat_cmp x.position.line y.position.line) _ a.1 in
     let c = then_equal (slice_cmp nat_cmp x.position.pattern y.position.pattern) (slice_cmp nat_cmp x.position.key y.position.key) b.1 in
-    same_text x.position.key y.position.key c.1
+    equal_text x.position.key y.position.key c.1
 
 -- if the first has the key, there is a last one
 some_there : (key : List ℕ) (x y : Assignment) (ys : List Assignment) → assignment_cmp x y ≡ Equal → last_at key (y ∷ ys) ≡ None → one key x ≡ None
@@ -182,7 +182,7 @@ with_put : (key : List ℕ) (x : Assignment) (hits : List Assignment) → IsStri
 with_put key x hits up = with_is_at key (put assignment_cmp x hits) ∙ last_put key x hits up ∙ ap (newer key x) (sym (with_is_at key hits))
 
 key_is : (key : List ℕ) (x : Assignment) → has_key key x ≡ true → key ≡ x.position.key
-key_is key x h = same_text key x.position.key (equal_of _ h)
+key_is key x h = equal_text key x.position.key (equal_of _ h)
 
 -- a hit that doesn't come after the one that its key has
 pub left_there : (m : Hits) (hits : List Assignment) (x : Assignment) → IsStrictlySortedBy assignment_cmp hits → Shows m hits → is_after (position_at m x.position.key) x.position ≡ false → Shows m (put assignment_cmp x hits)
@@ -215,7 +215,7 @@ pub inserted_at : (m n : Hits) (x : Assignment) (key : Bor (List ℕ)) (last : L
 inserted_at m n x key last q at same is =
     ap (option_map (told_last q)) is
     ∙ elim (is_eq (text_cmp key.now q)) as (λ b. is_eq (text_cmp key.now q) ≡ b → option_map (told_last q) (cond b (Some last) (get_by (λ k. text_cmp q k.now) m)) ≡ cond b (Some (told x)) (told_at m q)) [
-      | true ↦ λ e. ap Some (ap (λ k. told_last k last) (sym (same_text key.now q (equal_of _ e))) ∙ same)
+      | true ↦ λ e. ap Some (ap (λ k. told_last k last) (sym (equal_text key.now q (equal_of _ e))) ∙ same)
       | false ↦ λ e. refl
     ] refl
     ∙ ap (λ b. cond b (Some (told x)) (told_at m q)) (flipped key.now q ∙ ap (λ k. is_eq (text_cmp q k)) at)
@@ -291,7 +291,7 @@ lookup_inserted q key value (e ∷ es) =
     elim (text_cmp key e.0) as (λ o. text_cmp key e.0 ≡ o → lookup (is_at (text_cmp q)) (match_ordering o ((key, value) ∷ e ∷ es) ((e.0, value) ∷ es) (e ∷ insert_entry text_cmp es key value))
     ≡ cond (is_eq (text_cmp q key)) (Some value) (cond (is_eq (text_cmp q e.0)) (Some e.1) rest)) [
       | Less ↦ λ d. refl
-      | Equal ↦ λ d. let same : key ≡ e.0 = same_text key e.0 d in
+      | Equal ↦ λ d. let same : key ≡ e.0 = equal_text key e.0 d in
           ap (λ k. cond (is_eq (text_cmp q k)) (Some value) rest) (sym same)
           ∙ elim (is_eq (text_cmp q key)) as (λ b. is_eq (text_cmp q key) ≡ b → cond b (Some value) rest ≡ cond b (Some value) (cond (is_eq (text_cmp q e.0)) (Some e.1) rest)) [
             | true ↦ λ h. refl
@@ -306,7 +306,7 @@ lookup_inserted q key value (e ∷ es) =
     ] refl
   where
     apart : is_eq (text_cmp q e.0) ≡ true → text_cmp key e.0 ≡ Greater → is_eq (text_cmp q key) ≡ false
-    apart h d = let same : q ≡ e.0 = same_text q e.0 (equal_of _ h) in
+    apart h d = let same : q ≡ e.0 = equal_text q e.0 (equal_of _ h) in
         ap is_eq (ap (λ k. text_cmp k key) same ∙ nat_list_cmp_total.antisymm e.0 key ∙ ap ordering_reverse d)
 
 value_found : Assignment → List ℕ
@@ -358,7 +358,7 @@ one_head : (e f : List ℕ × List ℕ) (es fs : Entries) → Sorted (e ∷ es) 
 one_head e f es fs s t same =
     elim (text_cmp e.0 f.0) as (λ o. text_cmp e.0 f.0 ≡ o → e.0 ≡ f.0) [
       | Less ↦ λ d. absurd (never e.1 (sym (at_head e es) ∙ same e.0 ∙ lookup-none _ (f ∷ fs) (none_below_head nat_list_cmp_total e.0 f fs t d)))
-      | Equal ↦ λ d. same_text e.0 f.0 d
+      | Equal ↦ λ d. equal_text e.0 f.0 d
       | Greater ↦ λ d. absurd (never f.1 (sym (at_head f fs) ∙ sym (same f.0) ∙ lookup-none _ (e ∷ es) (none_below_head nat_list_cmp_total f.0 e es s (nat_list_cmp_total.antisymm f.0 e.0 ∙ ap ordering_reverse d))))
     ] refl
 

@@ -18,9 +18,9 @@ use Rattle.hwdb_query.specs.declared.answer.StoredAssignment.{StoredAssignment}
 use Rattle.hwdb_query.specs.Views.{assignment_of_answer}
 use Rattle.hwdb_query.specs.declared.last_hits.LastHits.{LastHits}
 use Rattle.hwdb_query.proofs.PutLemmas.{keep_all_append, ascends_put, ascends_all, filter_in, filter_out}
-use Rattle.hwdb_query.proofs.OrderLemmas.{position_total, assignment_total}
 use Rattle.hwdb_query.proofs.PartLemmas.{own_next, own_one, own_behind}
 use Rattle.hwdb_query.proofs.StepLemmas.{keep_none, offered_some, offered_early}
+use Rattle.hwdb_spec.specs.Lemmas.Places.{assignment_total, position_total}
 
 -- what a value assigns at a pattern
 abbrev pub assignment_at : (pattern key : List ℕ) → Shown → Assignment

@@ -11,7 +11,8 @@ use Rattle.hwdb_query.specs.Internal.Members.{assignment_of}
 use Rattle.hwdb_spec.specs.Tree.Tree.{Node}
 use Rattle.hwdb_spec.specs.Tree.Children.{NoMore, Child}
 use Rattle.hwdb_spec.specs.Answers.{is_wanted, is_match}
-use Rattle.hwdb_query.proofs.PartLemmas.{own_listed, own_unwanted}
+use Rattle.hwdb_query.proofs.PartLemmas.{own_unwanted}
+use Rattle.hwdb_query.specs.Lemmas.Parts.{own_listed}
 
 -- what is known of all paths that begin with a dead one
 pub record Dead (device path : List ℕ) : Type 0 where

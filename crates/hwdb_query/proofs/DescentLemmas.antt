@@ -6,7 +6,8 @@ use Rattle.hwdb_reader.specs.Views.{children_of}
 use Rattle.hwdb_spec.specs.Assignment.{Assignment}
 use Rattle.hwdb_spec.specs.Answers.{is_wanted, is_match}
 use Rattle.hwdb_query.specs.Internal.Members.{own_members, members_in}
-use Rattle.hwdb_query.proofs.PartLemmas.{members_split, own_wanted, own_unwanted}
+use Rattle.hwdb_query.proofs.PartLemmas.{own_wanted, own_unwanted}
+use Rattle.hwdb_query.specs.Lemmas.Parts.{members_split}
 
 -- nothing may be taken, and one list after another
 abbrev pub TakesNone : {C : Type 0} → (C → List Assignment → C → Type 0) → Type 0

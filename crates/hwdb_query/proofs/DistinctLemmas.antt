@@ -1,5 +1,5 @@
 -- A tree has no pattern and key twice.
-use Rattle.std.proofs.Common.{◌≡◌, ◌∙◌, ap, sym, refl, ℕ, ◌<◌, List, [], ◌∷◌, ◌++◌, map, arith, append_assoc, Option, Some, None}
+use Rattle.std.proofs.Common.{◌≡◌, ◌∙◌, ap, sym, ℕ, List, [], ◌∷◌, ◌++◌, map, arith, append_assoc, Option, Some, None}
 use Rattle.std.specs.List.{AllByRecursion}
 use Rattle.std.specs.Cmp.Lexicographic.{slice_cmp}
 use Rattle.std.specs.Ordering.{nat_cmp}
@@ -8,6 +8,8 @@ use Rattle.std.proofs.lemmas.Cmp.{nat_list_cmp_total, tied_itself}
 use Rattle.hwdb_spec.specs.Tree.{Tree, Children, Value, values_under, values_below, KeysAscend, IsTree, BytesAscend}
 use Rattle.hwdb_spec.specs.Tree.Tree.{Node}
 use Rattle.hwdb_spec.specs.Tree.Children.{NoMore, Child}
+use Rattle.hwdb_query.specs.Lemmas.Paths.{Above, From, all_map, below_above, keys_above, under_from}
+use Rattle.hwdb_spec.specs.Lemmas.Lists.{same_byte}
 
 -- one entry's path and stored key differ from all those of a list
 abbrev pub Apart : List ℕ × Value → List (List ℕ × Value) → Type 0
@@ -30,15 +32,6 @@ distinct_append (p ∷ ps) qs d e far = (both ps qs d.0 far.0, distinct_append p
     both [] qs a b = b
     both (r ∷ ps) qs a b = (a.0, both ps qs a.1 b)
 
--- keys above a key stay above it
-pub keys_above : (before : List ℕ) (values : List Value) → KeysAscend (Some before) values → AllByRecursion (λ v. slice_cmp nat_cmp before v.key ≡ Less) values
-keys_above before [] h = tt
-keys_above before (v ∷ vs) h = (h.0, lift vs (keys_above v.key vs h.1))
-  where
-    lift : (vs : List Value) → AllByRecursion (λ w. slice_cmp nat_cmp v.key w.key ≡ Less) vs → AllByRecursion (λ w. slice_cmp nat_cmp before w.key ≡ Less) vs
-    lift [] a = tt
-    lift (w ∷ ws) a = (nat_list_cmp_total.trans before v.key w.key h.0 a.0, lift ws a.1)
-
 own_apart : (path : List ℕ) (v : Value) (vs : List Value) → AllByRecursion (λ w. slice_cmp nat_cmp v.key w.key ≡ Less) vs → Apart (path, v) (map (λ w. (path, w)) vs)
 own_apart path v [] a = tt
 own_apart path v (w ∷ ws) a = (
@@ -52,56 +45,9 @@ unfolding Distinct
 own_distinct path before [] h = tt
 own_distinct path before (v ∷ vs) h = (own_apart path v vs (keys_above v.key vs h.1), own_distinct path (Some v.key) vs h.1)
 
--- paths that go on from a path with a byte above `low`
-pub record Above (path : List ℕ) (low : ℕ) (pattern : List ℕ) : Type 0 where
-  pub byte : ℕ
-  pub rest : List ℕ
-  pub is : pattern ≡ path ++ byte ∷ rest
-  pub above : low < byte
-
--- paths that begin with a path
-pub record From (path pattern : List ℕ) : Type 0 where
-  pub rest : List ℕ
-  pub is : pattern ≡ path ++ rest
-
-all_append : (P : List ℕ × Value → Type 0) (ps qs : List (List ℕ × Value)) → AllByRecursion P ps → AllByRecursion P qs → AllByRecursion P (ps ++ qs)
-all_append P [] qs a b = b
-all_append P (p ∷ ps) qs a b = (a.0, all_append P ps qs a.1 b)
-
-all_map : (P Q : List ℕ × Value → Type 0) → ((p : List ℕ × Value) → P p → Q p) → (ps : List (List ℕ × Value)) → AllByRecursion P ps → AllByRecursion Q ps
-all_map P Q f [] a = tt
-all_map P Q f (p ∷ ps) a = (f p a.0, all_map P Q f ps a.1)
-
-own_from : (path prefix : List ℕ) (values : List Value) → AllByRecursion (λ (p : List ℕ × Value). From path p.0) (map (λ v. (path ++ prefix, v)) values)
-own_from path prefix [] = tt
-own_from path prefix (v ∷ vs) = (record { rest = prefix; is = refl }, own_from path prefix vs)
-
-mutual
-  unfolding values_under IsTree
-
-  under_from : (path : List ℕ) (t : Tree) → IsTree t → AllByRecursion (λ (p : List ℕ × Value). From path p.0) (values_under path t)
-  under_from path (Node prefix values children) h =
-      let below : AllByRecursion (λ (p : List ℕ × Value). Above (path ++ prefix) 0 p.0) (values_below (path ++ prefix) children) = below_above (path ++ prefix) 0 children h.1 in
-      all_append (λ (p : List ℕ × Value). From path p.0) (map (λ v. (path ++ prefix, v)) values) (values_below (path ++ prefix) children) (own_from path prefix values)
-      (all_map (λ (p : List ℕ × Value). Above (path ++ prefix) 0 p.0) (λ (p : List ℕ × Value). From path p.0) (λ p a. record { rest = prefix ++ a.byte ∷ a.rest; is = a.is ∙ append_assoc path prefix (a.byte ∷ a.rest) }) _ below)
-
-  below_above : (path : List ℕ) (low : ℕ) (ks : Children) → BytesAscend low ks → AllByRecursion (λ (p : List ℕ × Value). Above path low p.0) (values_below path ks)
-  below_above path low NoMore h = tt
-  below_above path low (Child byte t more) h =
-      let here : AllByRecursion (λ (p : List ℕ × Value). From (path ++ byte ∷ []) p.0) (values_under (path ++ byte ∷ []) t) = under_from (path ++ byte ∷ []) t h.1 in
-      let rest : AllByRecursion (λ (p : List ℕ × Value). Above path byte p.0) (values_below path more) = below_above path byte more h.2 in
-      let more_than = h.0 in
-      all_append (λ (p : List ℕ × Value). Above path low p.0) (values_under (path ++ byte ∷ []) t) (values_below path more)
-      (all_map (λ (p : List ℕ × Value). From (path ++ byte ∷ []) p.0) (λ (p : List ℕ × Value). Above path low p.0) (λ p f. record { byte = byte; rest = f.rest; is = f.is ∙ append_assoc path (byte ∷ []) f.rest; above = more_than }) _ here)
-      (all_map (λ (p : List ℕ × Value). Above path byte p.0) (λ (p : List ℕ × Value). Above path low p.0) (λ p a. let b = a.above in record { byte = a.byte; rest = a.rest; is = a.is; above = omega arith }) _ rest)
-
 longer : (path rest : List ℕ) (byte : ℕ) → path ≡ path ++ byte ∷ rest → ⊥
 longer [] rest byte e = cc
 longer (b ∷ path) rest byte e = let f : path ≡ path ++ byte ∷ rest = cc in longer path rest byte f
-
-other_byte : (path r s : List ℕ) (b c : ℕ) → path ++ b ∷ r ≡ path ++ c ∷ s → b ≡ c
-other_byte [] r s b c e = cc
-other_byte (d ∷ path) r s b c e = let f : path ++ b ∷ r ≡ path ++ c ∷ s = cc in other_byte path r s b c f
 
 far_own : (path : List ℕ) (values : List Value) (qs : List (List ℕ × Value)) → AllByRecursion (λ (q : List ℕ × Value). Above path 0 q.0) qs → AllByRecursion (λ (p : List ℕ × Value). Apart p qs) (map (λ v. (path, v)) values)
 far_own path [] qs a = tt
@@ -114,7 +60,7 @@ far_kids path byte (p ∷ ps) qs a b =
     let f = a.0 in
     let begins : p.0 ≡ path ++ byte ∷ f.rest = f.is ∙ append_assoc path (byte ∷ []) f.rest in (
       all_map (λ (q : List ℕ × Value). Above path byte q.0) (λ (q : List ℕ × Value). (p.0 ≡ q.0) → (p.1.key ≡ q.1.key) → ⊥)
-          (λ q b e k. let same : byte ≡ b.byte = other_byte path f.rest b.rest byte b.byte (sym begins ∙ e ∙ b.is) in let above = b.above in omega arith) qs b,
+          (λ q b e k. let same : byte ≡ b.byte = same_byte path f.rest b.rest byte b.byte (sym begins ∙ e ∙ b.is) in let above = b.above in omega arith) qs b,
       far_kids path byte ps qs a.1 b,
     )
 

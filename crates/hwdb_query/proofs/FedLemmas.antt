@@ -3,12 +3,13 @@ use Rattle.std.proofs.Common.{◌≡◌, ◌∙◌, ap, sym, refl, subst, ℕ, z
 use Rattle.std.proofs.lemmas.Bool.{cases_lt}
 use Rattle.std.proofs.lemmas.List.{take-take, take_all, drop-drop, length-append, length-drop, length-take-le}
 use Rattle.hwdb_pattern.specs.Laws.{MatchesIsTested, LiveIsTested, DeadStaysDead, DeadMatchesNothing}
-use Rattle.hwdb_pattern.specs.Views.{Reached}
+use Rattle.hwdb_query.specs.declared.descent.Seen.{Seen}
 use Rattle.hwdb_spec.specs.Tree.{Tree, prefix_of, IsLive}
 use Rattle.hwdb_query.specs.Internal.Descents.{IsSeen, IsFed}
 use Rattle.hwdb_query.proofs.DeadPathLemmas.{dead_path}
-use Rattle.hwdb_query.proofs.StackLemmas.{lost_at_path, take_front}
+use Rattle.hwdb_query.proofs.StackLemmas.{lost_at_path}
 use Rattle.hwdb_query.proofs.StepLemmas.{dead_is}
+use Rattle.hwdb_query.specs.Lemmas.Stacks.{take_front}
 
 front_and_rest : (n : ℕ) (xs : List ℕ) → take n xs ++ drop (length (take n xs)) xs ≡ xs
 front_and_rest zero xs = refl
@@ -40,6 +41,10 @@ piece_ends xs piece zero p h e = absurd (omega arith)
 piece_ends [] piece (suc n) p h e = refl
 piece_ends (x ∷ xs) piece (suc n) p h e = absurd (omega (arith, e, ap length p))
 
+pub no_bytes : (xs : List ℕ) → length xs ≡ 0 → xs ≡ []
+no_bytes [] h = refl
+no_bytes (x ∷ xs) h = absurd (omega (arith, h))
+
 -- the front of a path stays as it grows
 pub front_stays : (old path more : List ℕ) → take (length old) path ≡ old → take (length old) (path ++ more) ≡ old
 front_stays [] path more e = refl
@@ -57,7 +62,7 @@ pub dead_before : (device path more whole : List ℕ) (b : Bool) → DeadStaysDe
 dead_before device path more whole b stays w e h live = dead_is device path b e h (stays path more device (subst (λ p. IsLive p device) (sym w) live))
 
 -- what a look at a child shows, by what feeding the rest of its prefix shows
-pub seen_by_fed : (device base path piece now : List ℕ) (k : ℕ × Tree) (most : ℕ) (o : Option Reached)
+pub seen_by_fed : (device base path piece now : List ℕ) (k : ℕ × Tree) (most : ℕ) (o : Option Seen)
     → MatchesIsTested → LiveIsTested → DeadStaysDead → DeadMatchesNothing
     → path ≡ (base ++ k.0 ∷ []) ++ piece → piece ≡ take most (prefix_of k.1)
     → IsFed device path (drop (length piece) (prefix_of k.1)) now o → IsSeen device base k now o
@@ -67,11 +72,11 @@ seen_by_fed device base path piece now k most o matched live longer below p f fe
     whole = ap (λ l. l ++ drop (length piece) (prefix_of k.1)) p ∙ append_assoc (base ++ k.0 ∷ []) piece (drop (length piece) (prefix_of k.1))
         ∙ ap (λ l. (base ++ k.0 ∷ []) ++ l) (piece_and_rest (prefix_of k.1) piece most f)
 
-    go : (q : Option Reached) → IsFed device path (drop (length piece) (prefix_of k.1)) now q → IsSeen device base k now q
+    go : (q : Option Seen) → IsFed device path (drop (length piece) (prefix_of k.1)) now q → IsSeen device base k now q
     go None lost =
         lost_at_path device base k
         (dead_path device ((base ++ k.0 ∷ []) ++ prefix_of k.1) matched live longer below (subst (λ l. IsLive l device → ⊥) whole lost))
-    go (Some reach) to = record { path_is = to.path_is ∙ whole; stands = to.stands; same_device = to.same_device; live = to.live }
+    go (Some seen) to = record { path_is = to.path_is ∙ whole; stands = to.stands; same_device = to.same_device; live = to.live }
 
 -- the base stays
 pub base_stays : (size : ℕ) (base path now old : List ℕ) → size ≤ length path → take size path ≡ take size old → take (length path) now ≡ path → take size now ≡ take size old

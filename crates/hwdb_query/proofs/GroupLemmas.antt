@@ -22,8 +22,8 @@ use Rattle.hwdb_query.specs.declared.answer.StoredAssignment.{StoredAssignment}
 use Rattle.hwdb_query.specs.declared.answer.Explained.{Explained}
 use Rattle.hwdb_query.specs.declared.by_key.AnswersByKey.{AnswersByKey}
 use Rattle.hwdb_query.specs.Internal.Explaining.{answers_backwards, explained_entry, backwards_or_none, answers_at, IsByKey}
-use Rattle.hwdb_query.proofs.MemberLemmas.{equal_of, same_text}
 use Rattle.hwdb_query.proofs.KeyLemmas.{after_one, listed_one, flipped}
+use Rattle.hwdb_spec.specs.Lemmas.Orders.{equal_of, equal_text}
 
 abbrev pub Answers : Type 0
 Answers = Vec StoredAssignment Global
@@ -43,7 +43,7 @@ answers_one : (xs : List Assignment) (f : Assignment) (key : List ℕ) → answe
 answers_one xs f key =
     ap (filter (has_key key)) (reverse-append xs (f ∷ []))
     ∙ elim (is_eq (text_cmp key f.position.key)) as (λ b. is_eq (text_cmp key f.position.key) ≡ b → cond b (f ∷ answers_with key xs) (answers_with key xs) ≡ (if b then f ∷ answers_with f.position.key xs else answers_with key xs)) [
-      | true ↦ λ e. ap (λ k. f ∷ answers_with k xs) (same_text key f.position.key (equal_of _ e))
+      | true ↦ λ e. ap (λ k. f ∷ answers_with k xs) (equal_text key f.position.key (equal_of _ e))
       | false ↦ λ e. refl
     ] refl
 

@@ -16,8 +16,8 @@ use Rattle.hwdb_query.specs.Views.{Page, assignment_of_hit, assignments_of_hits}
 use Rattle.hwdb_query.specs.Internal.Hits.{IsLastOfFull, IsPositionOf}
 use Rattle.hwdb_query.specs.declared.hit.Hit.{Hit}
 use Rattle.hwdb_query.proofs.PutLemmas.{put_less, put_same, put_more}
-use Rattle.hwdb_query.proofs.OrderLemmas.{position_total, assignment_total}
 use Rattle.hwdb_query.proofs.PlaceLemmas.{founds_length}
+use Rattle.hwdb_spec.specs.Lemmas.Places.{assignment_total, position_total}
 
 abbrev position_of : Hit → Position
 position_of h = (assignment_of_hit h).position

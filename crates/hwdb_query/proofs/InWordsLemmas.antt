@@ -1,23 +1,21 @@
 -- The last assignments are what the words say, and one list alone is so.
-use Rattle.std.proofs.Common.{◌≡◌, ◌∙◌, ap, sym, refl, subst, Bool, true, false, ◌||◌, List, ℕ, [], ◌∷◌, ◌++◌, filter, Option, Some, None, if◌then◌else◌, inl, inr}
+use Rattle.std.proofs.Common.{◌≡◌, ◌∙◌, ap, sym, refl, subst, Bool, true, false, ◌||◌, List, [], ◌∷◌, ◌++◌, filter, Option, Some, None, if◌then◌else◌, inl, inr}
 use Rattle.std.specs.Prelude.{All, Contains}
 use Rattle.std.specs.List.{list_any}
-use Rattle.std.specs.Ordering.{is_eq, is_lt, nat_cmp}
-use Rattle.std.specs.Cmp.Lexicographic.{slice_cmp}
+use Rattle.std.specs.Ordering.{is_lt}
 use Rattle.std.specs.declared.cmp.Ordering.TheVariants.{Equal}
-use Rattle.std.proofs.lemmas.Cmp.{nat_list_cmp_total, tied_itself}
 use Rattle.std.proofs.lemmas.List.Elements.{All-nil, All-cons, All-head, All-tail, All-weaker, All-contains, Contains-push, Contains-append_left, Contains-append_right}
 use Rattle.hwdb_spec.specs.Assignment.{Assignment, Position, position_cmp, assignment_cmp, in_order}
 use Rattle.hwdb_spec.specs.Patterns.{tokens}
-use Rattle.hwdb_spec.specs.Folders.{same}
 use Rattle.hwdb_spec.specs.Answers.{is_wanted, is_after, is_behind, is_same_place, last_of_each, last_matching, last_assignments}
 use Rattle.hwdb_spec.specs.Last.{HaveOnePlace, IsLast, IsBehind}
 use Rattle.hwdb_pattern.specs.Laws.{MatchesIsTested}
 use Rattle.hwdb_query.specs.Laws.{Among, LastAssignmentsAreLast, OneListIsLast}
 use Rattle.hwdb_query.proofs.PutLemmas.{ascends_all, ascends_filter}
-use Rattle.hwdb_query.proofs.OrderLemmas.{assignment_total, less_of}
-use Rattle.hwdb_query.proofs.MemberLemmas.{all_sound, all_has, filter_sound, filter_complete, none_ascends, in_none, same_text, equal_of}
+use Rattle.hwdb_query.proofs.MemberLemmas.{all_sound, all_has, filter_sound, filter_complete, none_ascends, in_none}
 use Rattle.hwdb_query.proofs.LastLemmas.{kept_behind, single_place, same_ascending}
+use Rattle.hwdb_spec.specs.Lemmas.Orders.{equal_text, less_of}
+use Rattle.hwdb_spec.specs.Lemmas.Places.{assignment_total, one_place, place_same}
 
 -- a member, by recursion and by its place
 among_contains : (f : Assignment) (xs : List Assignment) → Among f xs → Contains xs f
@@ -36,28 +34,6 @@ all_among (x ∷ xs) =
 
 contains_among : (f : Assignment) (xs : List Assignment) → Contains xs f → Among f xs
 contains_among f xs m = All-contains (λ g. Among g xs) xs f (all_among xs) m
-
--- one place, as a test and as a claim
-same_itself : (n : List ℕ) → same n n ≡ true
-same_itself n = ap is_eq (tied_itself nat_list_cmp_total n)
-
-place_same : (a b : Assignment) → HaveOnePlace a b → is_same_place a b ≡ true
-place_same a b h =
-    ap (λ p. if same a.position.pattern p then same a.position.key b.position.key else false) (sym h.0)
-    ∙ ap (λ k. if same a.position.pattern a.position.pattern then same a.position.key k else false) (sym h.1)
-    ∙ ap (λ x. if x then same a.position.key a.position.key else false) (same_itself a.position.pattern)
-    ∙ same_itself a.position.key
-
-one_place : (a b : Assignment) → is_same_place a b ≡ true → HaveOnePlace a b
-one_place a b h =
-    elim (same a.position.pattern b.position.pattern) as (λ x. same a.position.pattern b.position.pattern ≡ x
-    → (if x then same a.position.key b.position.key else false) ≡ true → HaveOnePlace a b) [
-      | true ↦ λ e k. (
-        same_text a.position.pattern b.position.pattern (equal_of (slice_cmp nat_cmp a.position.pattern b.position.pattern) e),
-        same_text a.position.key b.position.key (equal_of (slice_cmp nat_cmp a.position.key b.position.key) k),
-      )
-      | false ↦ λ e k. cc
-    ] refl h
 
 abbrev NoOther : Assignment → List Assignment → Type 0
 NoOther a behind = All (λ b. ¬ HaveOnePlace a b) behind

@@ -1,5 +1,5 @@
 -- The effective list, as answers are put one after another.
-use Rattle.std.proofs.Common.{◌≡◌, ◌∙◌, ap, sym, refl, subst, ℕ, true, false, List, [], ◌∷◌, ◌++◌, map, reverse, filter, append_assoc, Some, None, cond, if◌then◌else◌}
+use Rattle.std.proofs.Common.{◌≡◌, ◌∙◌, ap, sym, refl, subst, ℕ, true, false, List, [], ◌∷◌, ◌++◌, map, reverse, append_assoc, Some, None, cond, if◌then◌else◌}
 use Rattle.std.specs.Prelude.{find}
 use Rattle.std.proofs.lemmas.List.{reverse-append, append-nil}
 use Rattle.std.specs.List.{AllByRecursion}
@@ -13,9 +13,11 @@ use Rattle.std.proofs.lemmas.Cmp.{nat_list_cmp_total, tied_itself}
 use Rattle.hwdb_spec.specs.Assignment.{put, put_all, Assignment, text_cmp}
 use Rattle.std.specs.List.Sorted.{IsStrictlySortedBy}
 use Rattle.hwdb_spec.specs.Tree.{Tree, answers, answers_after}
-use Rattle.hwdb_spec.specs.Answers.{is_after, is_behind, key_of_answer, has_key, value_or_none, last_value, effective_of}
+use Rattle.hwdb_spec.specs.Answers.{key_of_answer, has_key, value_or_none, last_value, effective_of}
 use Rattle.hwdb_query.specs.Internal.Pairs.{put_values}
 use Rattle.hwdb_query.proofs.PutLemmas.{ascends_all, all_above}
+use Rattle.hwdb_spec.specs.Lemmas.Places.{all_behind}
+use Rattle.hwdb_spec.specs.Lemmas.Orders.{turned}
 
 key_total : IsTotalOrder text_cmp
 key_total = nat_list_cmp_total
@@ -53,11 +55,6 @@ above_alike new v g (k ∷ keys) all =
 -- whether two keys are equal doesn't ask for their order
 pub flipped : (a b : List ℕ) → is_eq (text_cmp a b) ≡ is_eq (text_cmp b a)
 flipped a b = ap is_eq (key_total.antisymm a b) ∙ turned (text_cmp b a)
-  where
-    turned : (o : Ordering) → is_eq (ordering_reverse o) ≡ is_eq o
-    turned Less = refl
-    turned Equal = refl
-    turned Greater = refl
 
 same_key : (a b : List ℕ) → text_cmp a b ≡ Equal → a ≡ b
 same_key a b e = finite.slice_cmp-IsAntisymmetric finite.nat_cmp-IsAntisymmetric a b e
@@ -125,11 +122,6 @@ none_effective = refl
 -- the answers, put one after another
 pub all_put : (xs : List Assignment) → put_values [] xs ≡ effective_of xs
 all_put xs = ap (λ l. put_values l xs) (sym none_effective) ∙ effective_more [] xs
-
-all_behind : (fs : List Assignment) → filter (is_behind None) fs ≡ fs
-unfolding is_after
-all_behind [] = refl
-all_behind (f ∷ fs) = ap (λ l. f ∷ l) (all_behind fs)
 
 -- without a position all answers are to come
 pub from_the_first : (device : List ℕ) (t : Tree) → answers_after device None t ≡ answers device t

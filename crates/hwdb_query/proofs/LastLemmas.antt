@@ -17,8 +17,9 @@ use Rattle.hwdb_spec.specs.Tree.{Tree, IsTree, place_cmp, map_of, answers, answe
 use Rattle.hwdb_spec.specs.Answers.{is_wanted, is_behind, is_same_place, last_of_each, last_matching, last_assignments}
 use Rattle.hwdb_query.specs.Laws.{Among}
 use Rattle.hwdb_query.proofs.PutLemmas.{ascends_all}
-use Rattle.hwdb_query.proofs.OrderLemmas.{assignment_total}
-use Rattle.hwdb_query.proofs.MemberLemmas.{all_sound, all_has, filter_sound, filter_complete, none_ascends, in_none, then_equal, same_text, place_total, same_place, are_answers}
+use Rattle.hwdb_query.proofs.MemberLemmas.{all_sound, all_has, filter_sound, filter_complete, none_ascends, in_none, are_answers}
+use Rattle.hwdb_spec.specs.Lemmas.Orders.{equal_text, then_equal}
+use Rattle.hwdb_spec.specs.Lemmas.Places.{assignment_total, place_total, same_place}
 
 -- the first of two that there is
 abbrev first_some : Option Assignment → Option Assignment → Option Assignment
@@ -151,8 +152,8 @@ same_answer x y all hx hy h =
     let a = then_equal (nat_cmp x.position.priority y.position.priority) _ h in
     let b = then_equal (nat_cmp x.position.line y.position.line) _ a.1 in
     let c = then_equal (slice_cmp nat_cmp x.position.pattern y.position.pattern) (slice_cmp nat_cmp x.position.key y.position.key) b.1 in
-    let pe : x.position.pattern ≡ y.position.pattern = same_text x.position.pattern y.position.pattern c.0 in
-    let ke : x.position.key ≡ y.position.key = same_text x.position.key y.position.key c.1 in
+    let pe : x.position.pattern ≡ y.position.pattern = equal_text x.position.pattern y.position.pattern c.0 in
+    let ke : x.position.key ≡ y.position.key = equal_text x.position.key y.position.key c.1 in
     let s : Some x ≡ Some y =
     sym hx ∙ ap (λ p. last_at (p, x.position.key) all) pe ∙ ap (λ k. last_at (y.position.pattern, k) all) ke ∙ hy in
     let v : x ≡ y = cc in

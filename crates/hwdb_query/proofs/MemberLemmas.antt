@@ -1,13 +1,11 @@
 -- The answers are the members of the map that match.
-use Rattle.std.proofs.Common.{◌≡◌, ◌∙◌, ap, sym, refl, subst, ℕ, Bool, true, false, List, [], ◌∷◌, ◌++◌, filter, map, Some, None, if◌then◌else◌, cond, ◌==◌, ◌⊎◌, inl, inr, eqb-true}
+use Rattle.std.proofs.Common.{◌≡◌, ◌∙◌, ap, sym, refl, subst, ℕ, Bool, true, false, List, [], ◌∷◌, ◌++◌, filter, map, Some, None, cond, ◌⊎◌, inl, inr}
 use Rattle.std.specs.FinMap as finite
 use Rattle.std.specs.Prelude.{flat_map}
-use Rattle.std.specs.Cmp.{IsTotalOrder}
 use Rattle.std.specs.Cmp.Lexicographic.{slice_cmp}
-use Rattle.std.specs.Ordering.{eq_by_cmp, nat_cmp, is_eq, match_ordering, ordering_then}
-use Rattle.std.specs.declared.cmp.Ordering.{Ordering}
+use Rattle.std.specs.Ordering.{nat_cmp, is_eq, match_ordering}
 use Rattle.std.specs.declared.cmp.Ordering.TheVariants.{Less, Equal, Greater}
-use Rattle.std.proofs.lemmas.Cmp.{nat_list_cmp_total, tied_itself, on_total, then_total}
+use Rattle.std.proofs.lemmas.Cmp.{tied_itself}
 use Rattle.hwdb_spec.specs.Tree.{Tree, Value, values_under, IsTree, place_cmp, map_of, entry_of, assigned_at, key_of, members_under, answers}
 use Rattle.hwdb_query.specs.Internal.Members.{assignment_of}
 use Rattle.hwdb_spec.specs.Patterns.{tokens}
@@ -17,8 +15,9 @@ use Rattle.std.specs.List.Sorted.{IsStrictlySortedBy}
 use Rattle.hwdb_spec.specs.Answers.{is_wanted}
 use Rattle.hwdb_query.specs.Laws.{Among, AreAnswers}
 use Rattle.hwdb_query.proofs.PutLemmas.{ascends_all}
-use Rattle.hwdb_query.proofs.OrderLemmas.{assignment_total}
 use Rattle.hwdb_query.proofs.DistinctLemmas.{Apart, Distinct, under_distinct}
+use Rattle.hwdb_spec.specs.Lemmas.Orders.{equal_text, then_equal}
+use Rattle.hwdb_spec.specs.Lemmas.Places.{assignment_total, key_is, place_total}
 
 pub put_sound : (f x : Assignment) (l : List Assignment) → Among f (put assignment_cmp x l) → (x ≡ f) ⊎ Among f l
 unfolding put Among
@@ -101,14 +100,6 @@ filter_complete f p (x ∷ xs) m h =
       | false ↦ λ e. elim m [ inl q ↦ (let w : p f ≡ false = ap p (sym q) ∙ e in absurd (let v : true ≡ false = sym h ∙ w in cc)) | inr r ↦ again r ]
     ] refl
 
-pub key_is : (k key : List ℕ) → key_of k ≡ Some key → k ≡ 32 ∷ key
-key_is [] key h = cc
-key_is (c ∷ rest) key h =
-    elim (c == 32) as (λ b. (c == 32) ≡ b → (if b then Some rest else None) ≡ Some key → c ∷ rest ≡ 32 ∷ key) [
-      | true ↦ λ e k. let n : c ≡ 32 = eqb-true c 32 e in let r : rest ≡ key = cc in cc
-      | false ↦ λ e k. cc
-    ] refl h
-
 -- a place that an entry has is no other entry's
 place_free : (pattern key : List ℕ) (v : Value) (ps : List (List ℕ × Value)) → Apart (pattern, v) ps → key_of v.key ≡ Some key → (f : Assignment) → Among f (flat_map assignment_of ps)
     → pattern ≡ f.position.pattern → key ≡ f.position.key → ⊥
@@ -124,22 +115,6 @@ place_free pattern key v (q ∷ ps) apart h f m pe ke =
         | inr r ↦ again r
       ]
     ] refl m
-
-pub then_equal : (a b : Ordering) → ordering_then a b ≡ Equal → (a ≡ Equal) × (b ≡ Equal)
-then_equal Less b h = absurd (cc)
-then_equal Equal b h = (refl, h)
-then_equal Greater b h = absurd (cc)
-
-pub equal_of : (o : Ordering) → is_eq o ≡ true → o ≡ Equal
-equal_of Less h = cc
-equal_of Equal h = refl
-equal_of Greater h = cc
-
-pub same_text : (xs ys : List ℕ) → slice_cmp nat_cmp xs ys ≡ Equal → xs ≡ ys
-same_text xs ys e = finite.slice_cmp-IsAntisymmetric finite.nat_cmp-IsAntisymmetric xs ys e
-
-pub place_total : IsTotalOrder place_cmp
-place_total = then_total (on_total (λ (p : List ℕ × List ℕ). p.0) nat_list_cmp_total) (on_total (λ (p : List ℕ × List ℕ). p.1) nat_list_cmp_total)
 
 entries_of : List (List ℕ × Value) → List ((List ℕ × List ℕ) × Assignment)
 entries_of ps = map entry_of (flat_map assignment_of ps)
@@ -161,7 +136,7 @@ find_sound f (p ∷ ps) d m =
               | Less ↦ λ t. again r
               | Equal ↦ λ t.
                   let b = then_equal (slice_cmp nat_cmp f.position.pattern p.0) (slice_cmp nat_cmp f.position.key key) t in
-                  absurd (place_free p.0 key p.1 ps d.0 e f r (sym (same_text f.position.pattern p.0 b.0)) (sym (same_text f.position.key key b.1)))
+                  absurd (place_free p.0 key p.1 ps d.0 e f r (sym (equal_text f.position.pattern p.0 b.0)) (sym (equal_text f.position.key key b.1)))
               | Greater ↦ λ t. again r
             ] refl
       ]
@@ -192,8 +167,8 @@ members_single ps d x y mx my h =
     let a = then_equal (nat_cmp x.position.priority y.position.priority) _ h in
     let b = then_equal (nat_cmp x.position.line y.position.line) _ a.1 in
     let c = then_equal (slice_cmp nat_cmp x.position.pattern y.position.pattern) (slice_cmp nat_cmp x.position.key y.position.key) b.1 in
-    let pe : x.position.pattern ≡ y.position.pattern = same_text x.position.pattern y.position.pattern c.0 in
-    let ke : x.position.key ≡ y.position.key = same_text x.position.key y.position.key c.1 in
+    let pe : x.position.pattern ≡ y.position.pattern = equal_text x.position.pattern y.position.pattern c.0 in
+    let ke : x.position.key ≡ y.position.key = equal_text x.position.key y.position.key c.1 in
     let s : Some x ≡ Some y =
     sym (find_sound x ps d mx) ∙ ap (λ p. finite.find place_cmp (p, x.position.key) (entries_of ps)) pe ∙ ap (λ k. finite.find place_cmp (y.position.pattern, k) (entries_of ps)) ke ∙ find_sound y ps d my in
     let v : x ≡ y = cc in
@@ -230,9 +205,3 @@ are_answers tested device t tree =
           all_has f (filter w (members_under [] t)) [] here (λ x y mx my e. absurd (in_none y my))
           (λ x y mx my e. members_single ps d x y (filter_sound x w (members_under [] t) mx).0 (filter_sound y w (members_under [] t) my).0 e);
     }
-
--- places that the order takes for equal
-pub same_place : (p q : List ℕ × List ℕ) → eq_by_cmp place_cmp p q ≡ true → p ≡ q
-same_place p q e =
-    let both = then_equal (slice_cmp nat_cmp p.0 q.0) (slice_cmp nat_cmp p.1 q.1) (equal_of (place_cmp p q) e) in
-    λ i. (same_text p.0 q.0 both.0 i, same_text p.1 q.1 both.1 i)

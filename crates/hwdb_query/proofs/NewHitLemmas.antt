@@ -9,8 +9,8 @@ use Rattle.hwdb_spec.specs.Assignment.{Assignment, position_cmp, assignment_cmp,
 use Rattle.hwdb_query.specs.Views.{assignment_of_hit, assignments_of_hits}
 use Rattle.hwdb_query.specs.declared.hit.Hit.{Hit}
 use Rattle.hwdb_query.proofs.HalvingLemmas.{found_taken}
-use Rattle.hwdb_query.proofs.OrderLemmas.{position_total}
 use Rattle.hwdb_query.proofs.PlaceLemmas.{founds_length}
+use Rattle.hwdb_spec.specs.Lemmas.Places.{position_total}
 
 one_longer : {A : Type 0} (i : ℕ) (x : A) (l : List A) → i ≤ length l → length (take i l ++ x ∷ drop i l) ≡ suc (length l)
 one_longer zero x l le = refl

@@ -3,30 +3,15 @@ use Rattle.std.proofs.Common.{◌≡◌, ◌∙◌, ap, sym, refl, true, false, 
 use Rattle.std.specs.declared.cmp.Ordering.{Ordering}
 use Rattle.std.specs.declared.cmp.Ordering.TheVariants.{Less, Equal, Greater}
 use Rattle.std.specs.Ordering.{is_lt}
-use Rattle.std.specs.Cmp.{IsTotalOrder}
-use Rattle.std.proofs.lemmas.Cmp.{on_total, then_total, nat_cmp_total, nat_list_cmp_total, alike_right}
+use Rattle.std.proofs.lemmas.Cmp.{alike_right}
 use Rattle.hwdb_spec.specs.Tree.{Tree, answers, answers_after, members_under}
-use Rattle.hwdb_spec.specs.Assignment.{Position, Assignment, position_cmp, assignment_cmp}
+use Rattle.hwdb_spec.specs.Assignment.{Position, position_cmp, assignment_cmp}
 use Rattle.hwdb_spec.specs.Answers.{is_after, is_behind, is_wanted}
 use Rattle.hwdb_query.specs.Internal.Members.{wanted}
 use Rattle.hwdb_query.specs.Internal.Lists.{keep_all}
 use Rattle.hwdb_query.proofs.PutLemmas.{Upward, filter_put_all, keep_least}
-
-pub position_total : IsTotalOrder position_cmp
-unfolding position_cmp
-position_total =
-    then_total (on_total (λ (s : Position). s.priority) nat_cmp_total)
-    (then_total (on_total (λ (s : Position). s.line) nat_cmp_total)
-    (then_total (on_total (λ (s : Position). s.pattern) nat_list_cmp_total) (on_total (λ (s : Position). s.key) nat_list_cmp_total)))
-
-pub assignment_total : IsTotalOrder assignment_cmp
-unfolding assignment_cmp
-assignment_total = on_total (λ (f : Assignment). f.position) position_total
-
-pub less_of : (o : Ordering) → is_lt o ≡ true → o ≡ Less
-less_of Less h = refl
-less_of Equal h = cc
-less_of Greater h = cc
+use Rattle.hwdb_spec.specs.Lemmas.Orders.{less_of}
+use Rattle.hwdb_spec.specs.Lemmas.Places.{position_total}
 
 -- whether a position comes after the one given, by cases
 pub after_none : (a : Option Position) (s : Position) → a ≡ None → true ≡ is_after a s

@@ -1,42 +1,15 @@
 -- The assignments and live nodes of a tree, by the parts of its root.
-use Rattle.std.proofs.Common.{◌≡◌, ◌∙◌, ap, sym, refl, ℕ, zero, suc, ◌+◌, ◌≤◌, true, false, List, [], ◌∷◌, ◌++◌, take, drop, map, filter, length, arith, append_assoc, Option, Some, None, slice_get, option_map, if◌then◌else◌}
-use Rattle.std.specs.Prelude.{flat_map}
-use Rattle.std.proofs.lemmas.Grind.{flat_map-append}
+use Rattle.std.proofs.Common.{◌≡◌, ◌∙◌, ap, sym, refl, ℕ, zero, suc, ◌+◌, ◌≤◌, true, false, List, [], ◌∷◌, ◌++◌, take, drop, filter, length, arith, append_assoc, Option, Some, None, slice_get, option_map, if◌then◌else◌}
 use Rattle.std.proofs.lemmas.List.{append-nil}
 use Rattle.std.proofs.lemmas.List.Elements.{filter-append}
-use Rattle.hwdb_spec.specs.Tree.{Tree, Children, Value, prefix_of, values_under, values_below, key_of, assigned_at, members_under, is_live, live_under, live_below, values_of}
-use Rattle.hwdb_query.specs.Internal.Members.{assignment_of, one_assignment, assignment_shown, members_in, own_members}
-use Rattle.hwdb_reader.specs.Views.{children_of, list_of, node_count, nodes_below, Shown, shown}
+use Rattle.hwdb_spec.specs.Tree.{Tree, Children, Value, prefix_of, is_live, live_under, live_below}
+use Rattle.hwdb_query.specs.Internal.Members.{one_assignment, assignment_shown, own_members}
+use Rattle.hwdb_reader.specs.Views.{children_of, list_of, Shown, shown}
 use Rattle.hwdb_spec.specs.Tree.Tree.{Node}
 use Rattle.hwdb_spec.specs.Tree.Children.{NoMore, Child}
 use Rattle.hwdb_spec.specs.Answers.{is_wanted, is_match}
-use Rattle.hwdb_query.specs.Internal.Live.{live_in, nodes_in}
+use Rattle.hwdb_query.specs.Internal.Live.{live_in}
 use Rattle.hwdb_query.proofs.PutLemmas.{filter_in, filter_out}
-
--- what a value assigns, and what it is shown to assign
-at_once : (pattern : List ℕ) (v : Value) (o : Option (List ℕ)) → assigned_at pattern v o ≡ one_assignment pattern (shown v) o
-at_once pattern v None = refl
-at_once pattern v (Some key) = refl
-
-pub own_listed : (pattern : List ℕ) (values : List Value) → flat_map assignment_of (map (λ v. (pattern, v)) values) ≡ own_members pattern values
-unfolding assignment_shown
-own_listed pattern [] = refl
-own_listed pattern (v ∷ values) =
-    ap (λ r. r ++ flat_map assignment_of (map (λ w. (pattern, w)) values)) (at_once pattern v (key_of v.key)) ∙ ap (λ r. assignment_shown pattern (shown v) ++ r) (own_listed pattern values)
-
-pub below_listed : (path : List ℕ) (ks : Children) → flat_map assignment_of (values_below path ks) ≡ members_in path (list_of ks)
-unfolding values_below list_of
-below_listed path NoMore = refl
-below_listed path (Child byte t more) =
-    flat_map-append assignment_of (values_under (path ++ byte ∷ []) t) (values_below path more)
-    ∙ ap (λ r. members_under (path ++ byte ∷ []) t ++ r) (below_listed path more)
-
-pub members_split : (path : List ℕ) (t : Tree) → members_under path t ≡ own_members (path ++ prefix_of t) (values_of t) ++ members_in (path ++ prefix_of t) (children_of t)
-unfolding values_under prefix_of values_of children_of
-members_split path (Node prefix values children) =
-    flat_map-append assignment_of (map (λ v. (path ++ prefix, v)) values) (values_below (path ++ prefix) children)
-    ∙ ap (λ r. r ++ flat_map assignment_of (values_below (path ++ prefix) children)) (own_listed (path ++ prefix) values)
-    ∙ ap (λ r. own_members (path ++ prefix) values ++ r) (below_listed (path ++ prefix) children)
 
 one_wanted : (device pattern : List ℕ) (s : Shown) (o : Option (List ℕ)) → is_match device pattern ≡ true → filter (is_wanted device) (one_assignment pattern s o) ≡ one_assignment pattern s o
 one_wanted device pattern s None h = refl
@@ -105,18 +78,6 @@ own_behind pattern [] (suc i) h = refl
 own_behind pattern (v ∷ values) zero h = absurd (omega arith)
 own_behind pattern (v ∷ values) (suc i) h = own_behind pattern values i (omega arith)
 
--- the child at a place, and those after it
-pub kid_next : (kids : List (ℕ × Tree)) (i : ℕ) (k : ℕ × Tree) → slice_get kids i ≡ Some k → drop i kids ≡ k ∷ drop (suc i) kids
-kid_next [] i k h = absurd (cc)
-kid_next (j ∷ kids) zero k h = let e : j ≡ k = cc in ap (λ q. q ∷ kids) e
-kid_next (j ∷ kids) (suc i) k h = kid_next kids i k h
-
-pub kid_behind : (kids : List (ℕ × Tree)) (i : ℕ) → length kids ≤ i → drop i kids ≡ []
-kid_behind [] zero h = refl
-kid_behind [] (suc i) h = refl
-kid_behind (k ∷ kids) zero h = absurd (omega arith)
-kid_behind (k ∷ kids) (suc i) h = kid_behind kids i (omega arith)
-
 live_listed : (device path : List ℕ) (ks : Children) → live_below device path ks ≡ live_in device path (list_of ks)
 unfolding live_below list_of
 live_listed device path NoMore = refl
@@ -125,12 +86,3 @@ live_listed device path (Child byte t more) = ap (λ n. live_under device (path 
 pub live_split : (device path : List ℕ) (t : Tree) → live_under device path t ≡ (if is_live (path ++ prefix_of t) device then 1 else 0) + live_in device (path ++ prefix_of t) (children_of t)
 unfolding live_under prefix_of children_of
 live_split device path (Node prefix values children) = ap (λ n. (if is_live (path ++ prefix) device then 1 else 0) + n) (live_listed device (path ++ prefix) children)
-
-nodes_listed : (ks : Children) → nodes_below ks ≡ nodes_in (list_of ks)
-unfolding node_count list_of
-nodes_listed NoMore = refl
-nodes_listed (Child byte tree more) = ap (λ n. node_count tree + n) (nodes_listed more)
-
-pub node_and_below : (t : Tree) → node_count t ≡ 1 + nodes_in (children_of t)
-unfolding node_count children_of
-node_and_below (Node prefix values children) = ap (λ n. 1 + n) (nodes_listed children)

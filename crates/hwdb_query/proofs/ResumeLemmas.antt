@@ -11,7 +11,9 @@ use Rattle.hwdb_spec.specs.Answers.{is_after, is_behind, is_wanted}
 use Rattle.hwdb_query.specs.Internal.Hits.{IsFirst}
 use Rattle.hwdb_query.specs.Views.{position_value}
 use Rattle.hwdb_query.proofs.PutLemmas.{ascends_all, ascends_filter, behind_last, filter_in, filter_out}
-use Rattle.hwdb_query.proofs.OrderLemmas.{assignment_total, behind_upward, less_of}
+use Rattle.hwdb_query.proofs.OrderLemmas.{behind_upward}
+use Rattle.hwdb_spec.specs.Lemmas.Orders.{less_of}
+use Rattle.hwdb_spec.specs.Lemmas.Places.{assignment_total}
 
 nothing_ascends : let none : List Assignment = [] in IsStrictlySortedBy assignment_cmp none
 unfolding IsStrictlySortedBy

@@ -1,6 +1,6 @@
 -- The stack of a descent, and what its steps do to it.
 use Rattle.std.proofs.Common.{◌≡◌, ◌∙◌, ap, sym, refl, subst, ℕ, suc, ◌+◌, ◌-◌, ◌≤◌, ◌<◌, true, List, [], ◌∷◌, ◌++◌, take, drop, reverse, filter, length, get_or, slice_set, arith, append_assoc, append-nil, if◌then◌else◌, zero, inl, inr}
-use Rattle.std.proofs.lemmas.List.{reverse-append, length-take-le, length-append}
+use Rattle.std.proofs.lemmas.List.{length-take-le, length-append}
 use Rattle.std.proofs.lemmas.List.Elements.{filter-append}
 use Rattle.std.proofs.Math.Seq.{take-length}
 use Rattle.hwdb_pattern.specs.Views.{Reached, StandsFor}
@@ -13,14 +13,13 @@ use Rattle.hwdb_query.specs.Internal.Live.{live_in, nodes_in}
 use Rattle.hwdb_query.specs.Internal.Descents.{kids_of, wanted_in, to_come, live_to_come, left, steps, StandsOn, Passes, IsAt, IsSameNode, OnTop, Opened}
 use Rattle.hwdb_query.specs.declared.descent.OpenNode.{OpenNode}
 use Rattle.hwdb_query.proofs.DescentLemmas.{TakesMore, node_collected}
-use Rattle.hwdb_query.proofs.PartLemmas.{members_split, kid_behind, node_and_below, live_split}
-use Rattle.hwdb_query.proofs.StepLemmas.{cut_front, stands_whole}
+use Rattle.hwdb_query.proofs.PartLemmas.{live_split}
+use Rattle.hwdb_query.proofs.StepLemmas.{stands_whole}
 use Rattle.hwdb_query.proofs.DeadPathLemmas.{Dead, none_wanted, none_live, none_wanted_behind, none_live_behind}
+use Rattle.hwdb_query.specs.Lemmas.Parts.{kid_behind, members_split, node_and_below}
+use Rattle.hwdb_query.specs.Lemmas.Stacks.{on_top, take_front}
 
 -- ---- the path of a child, and the reach that was fed with what comes after the node's own path
-
-pub take_front : (n : ℕ) (xs ys : List ℕ) → length xs ≡ n → take n (xs ++ ys) ≡ xs
-take_front n xs ys h = ap (λ k. take k (xs ++ ys)) (sym h) ∙ cut_front xs ys
 
 pub child_path : (base cut pushed whole prefix : List ℕ) (byte : ℕ) (t : Tree) → cut ≡ base → pushed ≡ cut ++ byte ∷ [] → whole ≡ pushed ++ prefix → prefix ≡ prefix_of t
     → whole ≡ (base ++ byte ∷ []) ++ prefix_of t
@@ -82,9 +81,6 @@ pub passes_all : (device base : List ℕ) (kids all : List (ℕ × Tree)) (i : �
 passes_all device base kids all i passed le = subst (Passes device base kids) (kid_behind all i le) passed
 
 -- ---- the stack
-
-pub on_top : {A : Type 0} (before : List A) (top : A) → reverse (before ++ top ∷ []) ≡ top ∷ reverse before
-on_top before top = reverse-append before (top ∷ [])
 
 module _ (before now : List OpenNode) (t : Tree) (reach : Reached) (path : List ℕ) (o : OnTop before now t reach (length path)) where
   opened_kids : kids_of o.top ≡ children_of t

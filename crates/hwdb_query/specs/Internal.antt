@@ -4,6 +4,7 @@ pub mod Hits
 pub mod Explaining
 pub mod Collected
 pub mod Live
+pub mod LongPaths
 pub mod Descents
 pub mod Pairs
 pub mod Members

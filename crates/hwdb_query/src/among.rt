@@ -10,10 +10,7 @@ use crate::last_hits::LastHits;
 use std::alloc::{AllocError, Global};
 
 /// Takes some answers, one after another.
-fn take_all<'a>(
-    last: &mut LastHits<'a>,
-    found: &[StoredAssignment<'a>],
-) -> Result<(), AllocError>
+fn take_all<'a>(last: &mut LastHits<'a>, found: &[StoredAssignment<'a>]) -> Result<(), AllocError>
     ensures { OnOk result
         (LastCollects last.old (map assignment_of_answer found.now) last.new) }
 {

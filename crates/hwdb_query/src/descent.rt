@@ -11,17 +11,19 @@
 //! It is a loop and no recursion. The nodes whose children may still be live are on a stack of its own, on the heap. A
 //! recursion would take a sixth fewer instructions. But a deep tree would then take more of the thread's stack than a
 //! flat one. Each step enters a live node or closes one, so the loop ends.
-ghost use Rattle.std.specs.Prelude.{◌≡◌, ◌<◌, ◌≤◌, ◌+◌, ◌++◌, ◌∷◌, ◌^◌, ℕ, List, [], length, take, drop, filter, reverse, IfOk, OnOk};
+ghost use Rattle.std.specs.Prelude.{◌≡◌, ◌<◌, ◌≤◌, ◌+◌, ◌++◌, ◌∷◌, ◌^◌, ℕ, List, [], length, take, drop, filter, reverse, IfOk, IfSome, OnOk};
 ghost use Rattle.hwdb_pattern.specs.Laws.{MatchesIsTested, LiveIsTested, DeadStaysDead, DeadMatchesNothing};
 ghost use Rattle.hwdb_pattern.specs.Views.{StandsFor};
-ghost use Rattle.hwdb_spec.specs.Tree.{prefix_of, members_under, live_nodes, values_of};
+ghost use Rattle.hwdb_spec.specs.Tree.{prefix_of, members_under, live_nodes, values_of, IsLive};
 ghost use Rattle.hwdb_reader.specs.Views.{node_count};
 ghost use Rattle.hwdb_reader.specs.Views.{tree_of, entered_tree};
 ghost use Rattle.hwdb_spec.specs.Answers.{is_wanted};
 ghost use Rattle.hwdb_query.specs.Internal.Members.{own_members};
-ghost use Rattle.hwdb_query.specs.Internal.Descents.{device_of, kids_of, to_come, live_to_come, left, steps, StandsAt, StandsOn, IsFed, IsSeen, IsNext, IsSameNode, Opened};
+ghost use Rattle.hwdb_query.specs.Internal.Descents.{device_of, kids_of, to_come, live_to_come, left, steps, StandsAt, StandsOn, IsFed, IsSeen, IsFound, IsNext, IsSameNode, Opened};
+ghost use Rattle.hwdb_query.specs.Internal.LongPaths.{path_of};
 
 use crate::collector::Collector;
+use crate::long_path::LongPath;
 use hwdb_pattern::{
     Reach, dead_matches_nothing, dead_stays_dead, live_is_tested, matches_is_tested,
 };
@@ -41,8 +43,8 @@ fn path_laws()
     dead_matches_nothing();
 }
 
-/// Collects what the values of a node assign at its path, if it matches the device.
-fn collect_matching<'a, C: Collector<'a>>(
+/// Collects what the values of a node assign at a pattern, if it matches the device.
+fn collect_accepted<'a, C: Collector<'a>>(
     alloc: Global,
     inside: Inside<'a>,
     reach: &Reach<'_>,
@@ -55,14 +57,34 @@ fn collect_matching<'a, C: Collector<'a>>(
         (own_members pattern.now (values_of (entered_tree inside.entry)))) into.new) }
 {
     into.law_collects();
-    if inside.values() == 0 {
-        return Ok(());
-    }
     matches_is_tested();
     if !reach.accepts(pattern) {
         return Ok(());
     }
     into.collect(alloc, inside, pattern)
+}
+
+/// Collects what the values of a node assign at its path, if it matches the device. A node without values doesn't need
+/// its path.
+fn collect_matching<'a, C: Collector<'a>>(
+    alloc: Global,
+    inside: Inside<'a>,
+    reach: &Reach<'_>,
+    path: &mut LongPath<'_>,
+    into: &mut C,
+) -> Result<(), AllocError>
+    requires { StandsFor reach.now (path_of path.old) }
+    ensures path { OnOk result (path_of path.new ≡ path_of path.old) }
+    ensures collected { OnOk result (C.collects into.old
+        (filter (is_wanted reach.now.device)
+        (own_members (path_of path.old) (values_of (entered_tree inside.entry)))) into.new) }
+{
+    if inside.values() == 0 {
+        into.law_collects();
+        return Ok(());
+    }
+    path.settle()?;
+    collect_accepted(alloc, inside, reach, &path.copied, into)
 }
 
 /// A node that was entered. Some of its children are done.
@@ -82,6 +104,15 @@ struct OpenNode<'a, 'd> {
 struct Live<'a, 'd> {
     child: Child<'a>,
     reach: Reach<'d>,
+    /// The end of its path.
+    tail: &'a [u8],
+}
+
+/// What is known of the device at a prefix's end, and the end of the path there.
+#[derive(Drop)]
+struct Seen<'a, 'd> {
+    reach: Reach<'d>,
+    tail: &'a [u8],
 }
 
 /// How many open nodes a descent asks memory for at once, when it enters the root: few paths have more.
@@ -90,19 +121,50 @@ const DEPTH: usize = 16;
 /// How many bytes of a prefix are fed at first. Most prefixes have fewer.
 const PIECE: usize = 64;
 
+/// Goes over the rest of a node's prefix at once, if it is known that these are stars alone. None if it isn't known, or
+/// if a `[` is open.
+fn over_stars<'a, 'd>(
+    alloc: Global,
+    node: Node<'a>,
+    reach: &Reach<'d>,
+    fed: usize,
+) -> Option<Seen<'a, 'd>>
+    requires { fed ≤ length (prefix_of (tree_of node)) }
+    ensures device { IfSome result (λ seen. seen.reach.device ≡ reach.now.device) }
+    ensures tail { IfSome result (λ seen.
+        seen.tail.now ≡ drop fed (prefix_of (tree_of node.entry))) }
+    ensures stands { IfSome result (λ seen. (path : List ℕ)
+        → StandsFor reach.now path → StandsFor seen.reach (path ++ seen.tail.now)) }
+    ensures live { IfSome result (λ seen. (path : List ℕ)
+        → StandsFor reach.now path → IsLive (path ++ seen.tail.now) seen.reach.device) }
+{
+    let Some(tail) = node.stars_to_end(fed) else {
+        return None;
+    };
+    let Some(reach) = reach.after_stars(alloc, tail) else {
+        return None;
+    };
+    if reach.is_alive() {
+        Some(Seen { reach, tail })
+    } else {
+        None
+    }
+}
+
 /// Goes on along a node's prefix, of which the first bytes are fed. The answer is what is known of the device at the
-/// prefix's end, if the path there is live; the path becomes that. Else anything may come after the old path.
+/// prefix's end, if the path there is live; the path and the answer's tail become that. Else anything may come after the
+/// old path.
 ///
 /// Each piece doubles what is fed. So a path that is dead soon takes few steps, however long the prefix is. Not inlined,
 /// since few prefixes are so long.
 #[inline(never)]
-fn along_prefix<'d>(
+fn along_prefix<'a, 'd>(
     alloc: Global,
-    node: Node<'_>,
+    node: Node<'a>,
     reach: Reach<'d>,
     path: &mut Vec<u8>,
     fed: usize,
-) -> Result<Option<Reach<'d>>, AllocError>
+) -> Result<Option<Seen<'a, 'd>>, AllocError>
     requires fed { fed ≤ length (prefix_of (tree_of node)) }
     requires stands { StandsFor reach path.old.items }
     ensures path { OnOk result
@@ -114,9 +176,12 @@ fn along_prefix<'d>(
     let mut reach = reach;
     let mut fed = fed;
     'feeding: while reach.is_alive() {
+        if let Some(seen) = over_stars(alloc, node, &reach, fed) {
+            return Ok(Some(seen));
+        }
         let piece = node.prefix_part(fed, fed.max(PIECE));
         if piece.is_empty() {
-            return Ok(Some(reach));
+            return Ok(Some(Seen { reach, tail: piece }));
         }
         path.extend_from_slice(piece)?;
         reach = reach.feed(alloc, piece)?;
@@ -129,21 +194,21 @@ fn along_prefix<'d>(
 #[derive(Drop)]
 struct Descent<'a, 'd> {
     /// The path of the node that was entered last.
-    path: Vec<u8>,
+    path: LongPath<'a>,
     /// The nodes that aren't done, each below the one before it.
     stack: Vec<OpenNode<'a, 'd>>,
     entered: Entered,
 }
 
 impl<'a, 'd> OpenNode<'a, 'd> {
-    /// What is known of the device at a child's path, if that path is live; the path becomes the child's. If it isn't
-    /// live, anything may come after the node's own path.
+    /// What is known of the device at a child's path, if that path is live; the path and the answer's tail become the
+    /// child's. If it isn't live, anything may come after the node's own path.
     fn look_at(
         &self,
         alloc: Global,
         child: Child<'a>,
         path: &mut Vec<u8>,
-    ) -> Result<Option<Reach<'d>>, AllocError>
+    ) -> Result<Option<Seen<'a, 'd>>, AllocError>
         requires { StandsAt self.now.reach.device path.old.items self.now }
         ensures path { OnOk result
             (take self.now.length path.new.items ≡ take self.now.length path.old.items) }
@@ -165,22 +230,22 @@ impl<'a, 'd> OpenNode<'a, 'd> {
             return along_prefix(alloc, child.node, reach, path, front.len());
         }
         if reach.is_alive() {
-            Ok(Some(reach))
+            Ok(Some(Seen { reach, tail: b"" }))
         } else {
             Ok(None)
         }
     }
 
-    /// The next child whose path is live, among those that aren't done. The path becomes the child's, or the node's own
-    /// if there is none.
-    fn next_live(
+    /// The next child whose path is live, among those that aren't done. The path and the answer's tail become the
+    /// child's, or the node's own if there is none.
+    fn next_seen(
         &mut self,
         alloc: Global,
         path: &mut Vec<u8>,
     ) -> Result<Option<Live<'a, 'd>>, AllocError>
         requires { StandsAt self.old.reach.device path.old.items self.old }
         ensures same { OnOk result (IsSameNode self.old self.new) }
-        ensures found { IfOk result (IsNext self.old.reach.device
+        ensures found { IfOk result (IsFound self.old.reach.device
             (take self.old.length path.old.items) (kids_of self.old) (kids_of self.new)
             path.new.items) }
     {
@@ -190,25 +255,48 @@ impl<'a, 'd> OpenNode<'a, 'd> {
         while done < children {
             let child = inside.child(done);
             done += 1;
-            if let Some(reach) = self.look_at(alloc, child, path)? {
+            if let Some(seen) = self.look_at(alloc, child, path)? {
                 self.done = done;
-                return Ok(Some(Live { child, reach }));
+                let Seen { reach, tail } = seen;
+                return Ok(Some(Live { child, reach, tail }));
             }
         }
         self.done = done;
         path.truncate(self.length);
         Ok(None)
     }
+
+    /// The next child whose path is live, among those that aren't done. The path becomes the child's, or the node's own
+    /// if there is none.
+    fn next_live(
+        &mut self,
+        alloc: Global,
+        path: &mut LongPath<'a>,
+    ) -> Result<Option<Live<'a, 'd>>, AllocError>
+        requires { StandsAt self.old.reach.device (path_of path.old) self.old }
+        ensures same { OnOk result (IsSameNode self.old self.new) }
+        ensures found { IfOk result (IsNext self.old.reach.device
+            (take self.old.length (path_of path.old)) (kids_of self.old) (kids_of self.new)
+            (path_of path.new)) }
+    {
+        path.cut(self.length)?;
+        let Some(live) = self.next_seen(alloc, &mut path.copied)? else {
+            return Ok(None);
+        };
+        path.tail = live.tail;
+        Ok(Some(live))
+    }
 }
 
 impl<'a, 'd> Descent<'a, 'd> {
     fn new(alloc: Global) -> Self
-        ensures path { result.path.items ≡ [] }
+        ensures path { result.path.copied.items ≡ [] }
+        ensures tail { result.path.tail.now ≡ [] }
         ensures stack { result.stack.items ≡ [] }
         ensures entered { result.entered ≡ 0 }
     {
         Descent {
-            path: Vec::new(alloc),
+            path: LongPath::new(alloc),
             stack: Vec::new(alloc),
             entered: Entered::new(),
         }
@@ -223,23 +311,24 @@ impl<'a, 'd> Descent<'a, 'd> {
         reach: Reach<'d>,
         into: &mut C,
     ) -> Result<(), AllocError>
-        requires stands { StandsFor reach self.old.path.items }
+        requires stands { StandsFor reach (path_of self.old.path) }
         requires room { self.old.entered + 1 < 2 ^ 64 }
-        ensures path { OnOk result (self.new.path.items ≡ self.old.path.items) }
+        ensures path { OnOk result (path_of self.new.path ≡ path_of self.old.path) }
         ensures stack { OnOk result
             (Opened self.old.stack.items self.new.stack.items (tree_of node.entry) reach.entry
-            (length self.old.path.items)) }
+            (length (path_of self.old.path))) }
         ensures collected { OnOk result (C.collects into.old
             (filter (is_wanted reach.entry.device)
-            (own_members self.old.path.items (values_of (tree_of node.entry)))) into.new) }
+            (own_members (path_of self.old.path) (values_of (tree_of node.entry)))) into.new) }
         ensures counted { OnOk result (self.new.entered ≡ self.old.entered + 1) }
     {
         let inside = node.enter(&mut self.entered);
-        collect_matching(alloc, inside, &reach, &self.path, into)?;
+        collect_matching(alloc, inside, &reach, &mut self.path, into)?;
         if inside.children() == 0 {
             return Ok(());
         }
-        let length = self.path.len();
+        self.path.settle()?;
+        let length = self.path.copied.len();
         self.stack.push(OpenNode {
             inside,
             reach,
@@ -257,27 +346,28 @@ impl<'a, 'd> Descent<'a, 'd> {
         device: &'d [u8],
         into: &mut C,
     ) -> Result<(), AllocError>
-        requires path { self.old.path.items ≡ [] }
+        requires path { self.old.path.copied.items ≡ [] }
+        requires tail { self.old.path.tail.now ≡ [] }
         requires stack { self.old.stack.items ≡ [] }
         requires entered { self.old.entered ≡ 0 }
         ensures stands { OnOk result
-            (StandsOn device.now self.new.path.items (reverse self.new.stack.items)) }
+            (StandsOn device.now (path_of self.new.path) (reverse self.new.stack.items)) }
         ensures collected { OnOk result ((end : C)
-            → C.collects into.new (to_come device.now self.new.path.items
+            → C.collects into.new (to_come device.now (path_of self.new.path)
             (reverse self.new.stack.items)) end
             → C.collects into.old (filter (is_wanted device.now)
             (members_under [] (tree_of root.entry))) end) }
         ensures counted { OnOk result (self.new.entered
-            + live_to_come device.now self.new.path.items (reverse self.new.stack.items)
+            + live_to_come device.now (path_of self.new.path) (reverse self.new.stack.items)
             ≡ live_nodes device.now (tree_of root.entry)) }
         ensures room { OnOk result (self.new.entered + left (reverse self.new.stack.items)
             ≤ node_count (tree_of root.entry)) }
     {
         path_laws();
         into.law_collects();
-        self.path.extend_from_slice(root.prefix())?;
+        self.path.copied.extend_from_slice(root.prefix())?;
         let start = Reach::start(alloc, device);
-        let reach = start.feed(alloc, &self.path)?;
+        let reach = start.feed(alloc, &self.path.copied)?;
         if !reach.is_alive() {
             return Ok(());
         }
@@ -290,21 +380,21 @@ impl<'a, 'd> Descent<'a, 'd> {
     /// if there is none.
     fn go_on<C: Collector<'a>>(&mut self, alloc: Global, into: &mut C) -> Result<(), AllocError>
         requires some { 0 < length self.old.stack.items }
-        requires stands { StandsOn (device_of (reverse self.old.stack.items)) self.old.path.items
+        requires stands { StandsOn (device_of (reverse self.old.stack.items)) (path_of self.old.path)
             (reverse self.old.stack.items) }
         requires room { self.old.entered + left (reverse self.old.stack.items) < 2 ^ 64 }
         ensures stands { OnOk result (StandsOn (device_of (reverse self.old.stack.items))
-            self.new.path.items (reverse self.new.stack.items)) }
+            (path_of self.new.path) (reverse self.new.stack.items)) }
         ensures collected { OnOk result ((end : C)
             → C.collects into.new (to_come (device_of (reverse self.old.stack.items))
-            self.new.path.items (reverse self.new.stack.items)) end
+            (path_of self.new.path) (reverse self.new.stack.items)) end
             → C.collects into.old (to_come (device_of (reverse self.old.stack.items))
-            self.old.path.items (reverse self.old.stack.items)) end) }
+            (path_of self.old.path) (reverse self.old.stack.items)) end) }
         ensures counted { OnOk result (self.new.entered
-            + live_to_come (device_of (reverse self.old.stack.items)) self.new.path.items
+            + live_to_come (device_of (reverse self.old.stack.items)) (path_of self.new.path)
             (reverse self.new.stack.items)
             ≡ self.old.entered + live_to_come (device_of (reverse self.old.stack.items))
-            self.old.path.items (reverse self.old.stack.items)) }
+            (path_of self.old.path) (reverse self.old.stack.items)) }
         ensures room { OnOk result (self.new.entered + left (reverse self.new.stack.items)
             ≤ self.old.entered + left (reverse self.old.stack.items)) }
         ensures fewer { OnOk result (steps (reverse self.new.stack.items)
@@ -336,7 +426,7 @@ pub(crate) fn descend<'a, C: Collector<'a>>(
     root.law_tree();
     into.law_collects();
     let mut descent = Descent::new(alloc);
-    descent.enter_root(alloc, root, device, into)?;
+    descent.enter_root(alloc, root.with_stars(), device, into)?;
     'descending: while !descent.stack.is_empty() {
         descent.go_on(alloc, into)?;
     }

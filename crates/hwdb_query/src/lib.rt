@@ -14,6 +14,7 @@
 //! | `spelling` | the parts of a position's text |
 //! | `hit_page` | the one list of hits of a cursor, never longer than its page |
 //! | `descent` | one descent of the tree along the live paths |
+//! | `long_path` | the path of a node, whose end isn't copied before something needs it |
 //! | `among` | the effective list of answers that were collected elsewhere |
 //! | `collector` | what takes the assignments of a descent: a page, the last hits, or all hits |
 //! | `next_page` | a page that is filled |
@@ -42,6 +43,7 @@ mod hit;
 mod hit_page;
 mod last_hits;
 mod laws;
+mod long_path;
 mod next_page;
 mod node_answers;
 mod position;

@@ -101,8 +101,8 @@ impl<'a, 'p> Collector<'a> for NextPage<'a, 'p> {
 
     ghost collects = { PageCollects };
 
-    /// The values stand by key, and are gone over from the end whose origin comes first: a value that comes before all so far
-    /// is put into the page, and one behind a full page is passed over by its origin.
+    /// The values are in order of their keys, and are gone over from the end whose origin comes first. A value that comes
+    /// before all so far is put into the page. One that comes after a full page is passed over by its origin.
     fn collect(
         &mut self,
         alloc: Global,

@@ -1,7 +1,7 @@
 -- A string ends before the first byte 0.
 use Rattle.std.proofs.Common.{◌≡◌, ◌≤◌, ◌<◌, ◌-◌, ℕ, zero, suc, List, [], ◌∷◌, length, take, drop, get_or, Bool, true, false, not, cond, refl, sym, ◌∙◌, ap, arith, length-drop, ◌==◌, ◌+◌, min}
 use Rattle.std.specs.List.{take_while}
-use Rattle.std.proofs.lemmas.List.{drop-drop}
+use Rattle.std.proofs.lemmas.List.{drop-drop, get_or-drop}
 use Rattle.std.proofs.lemmas.Grind.{common_steps}
 use Rattle.std.proofs.lemmas.List.Sums.{take_while-cons}
 use Rattle.hwdb_spec.specs.Format.{text_at}
@@ -108,3 +108,12 @@ front_short n xs = grind (arith, common_steps)
 -- and so is each part of it
 pub front_within : (b : List ℕ) (i most : ℕ) → i ≤ length b → i + length (take most (text_at b i)) ≤ length b
 front_within b i most h = let s = front_short most (text_at b i) in let w = text_within b i h in omega (arith, s, w)
+
+-- stars before a byte 0 are a whole string
+pub stars_are_text : (b : List ℕ) (from end : ℕ) → from < end → end < length b → ((k : ℕ) → from ≤ k → k < end → get_or b k 0 ≡ 42) → get_or b end 0 ≡ 0
+    → take (end - from) (drop from b) ≡ text_at b from
+unfolding text_at
+stars_are_text b from end some within stars zero_after =
+    front_is (λ x. not (x == 0)) (drop from b) (end - from) (omega (arith, length-drop from b))
+    (λ k lt. ap (λ x. not (x == 0)) (get_or-drop from b k 0 ∙ stars (from + k) (omega arith) (omega arith)))
+    (λ lt. ap (λ x. not (x == 0)) (get_or-drop from b (end - from) 0 ∙ ap (λ i. get_or b i 0) (omega arith) ∙ zero_after))

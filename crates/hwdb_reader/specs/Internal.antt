@@ -5,3 +5,4 @@ pub mod Placed
 pub mod Read
 pub mod Walks
 pub mod Repeats
+pub mod Stars

@@ -14,6 +14,7 @@ ghost use Rattle.hwdb_reader.specs.Views.{node_count};
 ghost use Rattle.hwdb_spec.specs.Format.{IsDatabase, Applies};
 
 use crate::header::check_header;
+use crate::stars::no_stars;
 use crate::view::{Db, Node};
 use crate::walk::walk;
 use hwdb_spec::DbFault;
@@ -50,6 +51,7 @@ pub fn check(bytes: &[u8]) -> Result<Db<'_>, DbFault>
             frame,
             levels: MAX_LEVELS,
             offset: root,
+            stars: no_stars(),
         },
     })
 }

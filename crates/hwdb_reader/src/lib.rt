@@ -11,6 +11,7 @@
 //! - `repeats`: which of two strings is less, in a text in which long stretches occur more than once;
 //! - `fields` and `places`: single fields, and the offsets of records;
 //! - `view`: the nodes, children and values of a database that was accepted;
+//! - `stars`: a long run of stars among the strings;
 //! - `reopened`: the view of a database that was accepted before;
 //! - `laws`: laws of the format, on the definitions alone.
 #![tactic(auto)]
@@ -24,6 +25,7 @@ mod path;
 mod places;
 mod reopened;
 mod repeats;
+mod stars;
 mod values;
 mod view;
 mod walk;

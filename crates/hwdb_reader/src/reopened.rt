@@ -5,6 +5,7 @@ ghost use Rattle.hwdb_spec.specs.Format.{IsDatabase};
 
 use crate::checker::MAX_LEVELS;
 use crate::header::frame_of;
+use crate::stars::no_stars;
 use crate::view::{Db, Node};
 
 /// The view of bytes that [`check`](crate::check) accepted before. Reads the header alone, and takes no memory. For
@@ -20,6 +21,7 @@ pub fn reopen(bytes: &[u8]) -> Db<'_>
             frame,
             levels: MAX_LEVELS,
             offset: frame.sizes.root,
+            stars: no_stars(),
         },
     }
 }

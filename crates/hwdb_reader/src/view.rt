@@ -5,10 +5,12 @@
 //! number of steps. None takes memory, and none fails.
 ghost use Rattle.std.specs.Prelude.{◌<◌};
 ghost use Rattle.hwdb_reader.specs.Internal.Placed.{Placed};
+ghost use Rattle.hwdb_reader.specs.Internal.Stars.{AreStars};
 
 use crate::fields::{text, text_front, u64_at};
 use crate::frame::Frame;
 use crate::places::{child_entry_at, read_origin, read_value, value_entry_at};
+use crate::stars::{StarRun, long_stars};
 use std::marker::Model;
 
 /// Counts the nodes that were entered, from 0 on. By it a contract can say that a walk reads a part of the tree alone.
@@ -50,7 +52,10 @@ pub struct Node<'a> {
     pub(crate) frame: Frame,
     pub(crate) levels: usize,
     pub(crate) offset: usize,
+    /// Where stars are known to be.
+    pub(crate) stars: StarRun,
     ghost placed: { ∥ Placed frame.sizes bytes.now levels offset ∥₁ },
+    ghost starry: { AreStars bytes.now stars.from stars.end },
 }
 
 /// A node that was entered: its children and its values.
@@ -128,7 +133,7 @@ impl<'a> Db<'a> {
 }
 
 impl<'a> Node<'a> {
-    ghost use Rattle.std.specs.Prelude.{◌≡◌, ◌<◌, ◌≤◌, ◌+◌, ◌^◌, length, take, drop};
+    ghost use Rattle.std.specs.Prelude.{ℕ, ◌≡◌, ◌<◌, ◌≤◌, ◌+◌, ◌^◌, length, slice_index, take, drop, IfSome};
     ghost use Rattle.hwdb_spec.specs.Tree.{prefix_of, IsTree};
     ghost use Rattle.hwdb_reader.specs.Views.{node_count};
     ghost use Rattle.hwdb_reader.specs.Views.{tree_of, entered_tree};
@@ -153,6 +158,46 @@ impl<'a> Node<'a> {
         ensures fits { at + length result.now < 2 ^ 64 }
     {
         text_front(self.bytes, u64_at(self.bytes, self.offset) + at, most)
+    }
+
+    /// The same node. It and those below it know where a long run of stars is, if the database has one: see
+    /// [`Node::stars_to_end`]. Looks at some 16 bytes of the database, and reads the runs that it finds there.
+    pub fn with_stars(self) -> Node<'a>
+        ensures { tree_of result ≡ tree_of self.entry }
+    {
+        let Node {
+            bytes,
+            frame,
+            levels,
+            offset,
+            stars: _,
+        } = self;
+        Node {
+            bytes,
+            frame,
+            levels,
+            offset,
+            stars: long_stars(bytes, frame.sizes.strings),
+        }
+    }
+
+    /// The prefix's bytes from a place on, if it is known that these are stars alone. Reads none of them.
+    pub fn stars_to_end(&self, at: usize) -> Option<&'a [u8]>
+        requires { at ≤ length (prefix_of (tree_of self.now)) }
+        ensures rest { IfSome result (λ rest. rest.now ≡ drop at (prefix_of (tree_of self.now))) }
+        ensures some { IfSome result (λ rest. 0 < length rest.now) }
+        ensures stars { IfSome result (λ rest.
+            (k : ℕ) → k < length rest.now → slice_index rest.now k ≡ 42) }
+    {
+        let from = u64_at(self.bytes, self.offset) + at;
+        let StarRun { from: first, end } = self.stars;
+        if from < first || end <= from {
+            return None;
+        }
+        if end >= self.bytes.len() || self.bytes[end] != 0 {
+            return None;
+        }
+        Some(&self.bytes[from..end])
     }
 
     /// Goes into the node, and counts it: the only way to its children and values.
@@ -195,6 +240,7 @@ impl<'a> Inside<'a> {
                 frame: node.frame,
                 levels: node.levels - 1,
                 offset: u64_at(node.bytes, entry + 8),
+                stars: node.stars,
             },
         }
     }

@@ -4,7 +4,7 @@ use Rattle.std.proofs.lemmas.Bool.{true≢false}
 use Rattle.std.proofs.lemmas.Bool.Decides.{eqb_tells}
 use Rattle.hwdb_spec.specs.Store.{Stored, Contents, Outcomes, Created, NoMoreCreated, NoMore, Same, AreTaken, path_in, part_name, most_parts}
 use Rattle.hwdb_replace.specs.Internal.{Made, IsFirstFree, OldOrFree}
-use Rattle.hwdb_replace.proofs.MomentLemmas.{one_or_two}
+use Rattle.hwdb_spec.specs.Lemmas.Orders.{one_or_two}
 
 pub made_of : (folder part name : List ℕ) (number : ℕ) (old mid new : Contents) (before between now : Outcomes) (b : Bool) → number < most_parts → Same old mid → AreTaken folder number old
     → NoMore before between → b ≡ true → name ≡ part_name number → Created b (path_in folder name) part mid new → NoMoreCreated b (path_in folder name) between now

@@ -1,18 +1,9 @@
 -- How a run of calls goes on.
-use Rattle.std.proofs.Common.{◌≡◌, ◌≢◌, ◌⊎◌, inl, inr, ⊎_elim, ℕ, ◌+◌, Bool, true, false, bytes_eq, List, ◌++◌, Option, Some, take, drop, refl, sym, ap, ◌∙◌, arith, append_assoc}
-use Rattle.std.proofs.lemmas.Slice.Eq.{bytes_eq-Decides}
-use Rattle.std.proofs.lemmas.Bool.Decides.{not_from_Decides}
+use Rattle.std.proofs.Common.{◌≡◌, ◌⊎◌, inl, inr, ⊎_elim, ℕ, ◌+◌, List, ◌++◌, Option, Some, take, drop, sym, ap, ◌∙◌, arith, append_assoc}
 use Rattle.std.proofs.Math.Seq.{take-add}
 use Rattle.hwdb_spec.specs.Store.{Stored, Contents, Outcomes, Elapses, Written, SameBut, NoMoreBut, NoMore}
 use Rattle.hwdb_replace.specs.Internal.{OrPart}
-
--- two paths are one, or they aren't
-pub one_or_two : (p q : List ℕ) → (p ≡ q) ⊎ (p ≢ q)
-one_or_two p q = by (bytes_eq p q) refl
-  where
-    by : (b : Bool) → bytes_eq p q ≡ b → (p ≡ q) ⊎ (p ≢ q)
-    by true e = inl ((bytes_eq-Decides p q).0 e)
-    by false e = inr (not_from_Decides (bytes_eq p q) (bytes_eq-Decides p q) e)
+use Rattle.hwdb_spec.specs.Lemmas.Orders.{one_or_two}
 
 -- before the first call
 pub elapses_start : (m : ℕ) (since : ℕ → Outcomes) (more : Outcomes) → Elapses m m since since more

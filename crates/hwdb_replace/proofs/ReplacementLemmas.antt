@@ -6,8 +6,9 @@ use Rattle.hwdb_spec.specs.Store.{Stored, Contents, Outcomes, Elapses, LeavesOnl
 use Rattle.hwdb_spec.specs.declared.errors.Unreplaced.{Unreplaced}
 use Rattle.hwdb_spec.specs.declared.errors.Unreplaced.TheVariants.{Undone, NamesTaken, LeftBehind, Unsynced}
 use Rattle.hwdb_replace.specs.Internal.{OrPart, OrFile, Made, Settled, IsEmpty, IsFirstFree, OldOrFree, OldOrReplaced, IsSeenThen}
-use Rattle.hwdb_replace.proofs.MomentLemmas.{one_or_two, elapses_on, elapses_more, or_part}
+use Rattle.hwdb_replace.proofs.MomentLemmas.{elapses_on, elapses_more, or_part}
 use Rattle.hwdb_replace.proofs.MakingLemmas.{or_made}
+use Rattle.hwdb_spec.specs.Lemmas.Orders.{one_or_two}
 
 -- the new file's name isn't the database's
 pub part_apart : (folder part : List ℕ) (old : Contents) → IsFirstFree folder old part → part ≢ path_in folder database_name

@@ -4,7 +4,8 @@ use Rattle.std.proofs.lemmas.Bool.{true≢false}
 use Rattle.hwdb_spec.specs.Store.{Stored, Outcomes, Elapses, IsPartPath, LeavesOnly, NoMore, NoMoreBut, NoMoreCreated, OldOrCleared, database_file, database_name, most_parts, part_name, path_in}
 use Rattle.hwdb_spec.specs.Sharing.{OldOrOurs}
 use Rattle.hwdb_replace.specs.Internal.{OrAnyPart, OrFile}
-use Rattle.hwdb_replace.proofs.MomentLemmas.{elapses_more, elapses_on, one_or_two}
+use Rattle.hwdb_replace.proofs.MomentLemmas.{elapses_more, elapses_on}
+use Rattle.hwdb_spec.specs.Lemmas.Orders.{one_or_two}
 
 -- a new file's name was tried
 pub or_any_made : (folder name : List ℕ) (number : ℕ) (before between now : Outcomes) (b : Bool) → number < most_parts → name ≡ part_name number → b ≡ true → NoMore before between

@@ -10,12 +10,13 @@ use Rattle.hwdb_spec.specs.Store.{Stored, Contents, Outcomes, Cleared, IsPartPat
 use Rattle.hwdb_replace.specs.declared.calls.CallFailed.{CallFailed}
 use Rattle.std.specs.Borrow.{Bor}
 use Rattle.hwdb_replace.specs.declared.memory.File.{File}
-use Rattle.hwdb_replace.specs.declared.memory.State.{State}
+use Rattle.hwdb_replace.specs.declared.memory.PathState.{PathState}
 use Rattle.hwdb_replace.specs.declared.memory.Step.{Step}
 use Rattle.hwdb_replace.specs.declared.memory.Step.TheVariants.{Changed, Synced, Moved, Removed as Gone, Kept}
 use Rattle.hwdb_spec.specs.Crashes.{Traces, begin, changed, MayLeave}
 use Rattle.hwdb_replace.specs.Memory.{stored, lent, after, state_of, seen_of, left_of, is_whole_of, since_of, IsChange, IsSync, IsMove, IsRemoval, IsClearing, IsCreation}
-use Rattle.hwdb_replace.proofs.MomentLemmas.{elapses_on, elapses_start, one_or_two}
+use Rattle.hwdb_replace.proofs.MomentLemmas.{elapses_on, elapses_start}
+use Rattle.hwdb_spec.specs.Lemmas.Orders.{one_or_two}
 
 pub state_on : (p : List ℕ) (s : Traces) (xs : List Step) (x : Step) → state_of p s (xs ++ x ∷ []) ≡ after p (state_of p s xs) x
 state_on p s [] x = refl
@@ -245,7 +246,7 @@ pub no_more_same : (xs ys : List Step) → ys ≡ xs → NoMore (left_of xs) (le
 no_more_same xs ys is q v left = subst (λ l. left_of l q v) is left
 
 -- what was looked up
-pub standing : (state : State) (steps xs : List Step) (path p : List ℕ) (f : Bor File) → lent state ≡ state_of path begin steps → steps ≡ xs → path ≡ p → state.now ≡ Some f
+pub standing : (state : PathState) (steps xs : List Step) (path p : List ℕ) (f : Bor File) → lent state ≡ state_of path begin steps → steps ≡ xs → path ≡ p → state.now ≡ Some f
     → seen_of xs p ≡ Some (stored f.now)
 standing state steps xs path p f is same1 same2 now =
     ap (λ l. seen_of l p) (sym same1) ∙ ap (λ q. seen_of steps q) (sym same2) ∙ ap (λ (t : Traces). t.now) (sym is) ∙ ap (λ o. option_map (λ (g : Bor File). stored g.now) o) now

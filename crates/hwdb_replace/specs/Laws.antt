@@ -1,4 +1,4 @@
--- That the model of a crash tears, and that of others spares: a store in memory that did neither would meet all promises, and try
+-- That the model of a crash tears, and that of others spares. A store in memory that did neither would meet all promises, and try
 -- nothing.
 use Rattle.std.specs.Prelude.{◌≡◌, ◌≢◌, ◌⊎◌, ℕ, Bool, false, List, [], ◌∷◌, Option, Some, None}
 use Rattle.hwdb_spec.specs.Crashes.{put, synced, moved, removed, names_synced, outcomes_after}

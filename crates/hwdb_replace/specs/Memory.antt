@@ -6,7 +6,7 @@ use Rattle.std.proofs.lemmas.List.{take_all}
 use Rattle.hwdb_spec.specs.Crashes.{Event, put, synced, moved, removed, names_synced, Traces, begin, after_event, after_events, contents_after, outcomes_after}
 use Rattle.hwdb_spec.specs.Store.{Stored, Contents, Outcomes, IsPartPath, part_mode}
 use Rattle.hwdb_replace.specs.declared.memory.File.{File}
-use Rattle.hwdb_replace.specs.declared.memory.State.{State}
+use Rattle.hwdb_replace.specs.declared.memory.PathState.{PathState}
 use Rattle.hwdb_replace.specs.declared.memory.Step.{Step}
 use Rattle.hwdb_replace.specs.declared.memory.Step.TheVariants.{Changed, Synced, Moved, Removed, Kept}
 
@@ -21,7 +21,7 @@ event (Moved from to file loose) = moved from.items to.items (stored file) loose
 event (Removed path) = removed path.items
 event Kept = names_synced
 
-abbrev pub lent : State → Traces
+abbrev pub lent : PathState → Traces
 lent s = record { now = option_map (λ f. stored f.now) s.now; loose = s.loose; before = map (λ o. option_map (λ f. stored f.now) o) s.before.items; torn = s.torn }
 
 abbrev pub after : (p : List ℕ) → Traces → Step → Traces

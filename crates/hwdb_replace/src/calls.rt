@@ -20,7 +20,7 @@ impl From<AllocError> for CallFailed {
 /// A store in memory tells its contents. The file system doesn't: no contract of std says what stands under a path.
 ///
 /// Others may change files between two calls. So a new file is one's own from the call that made it until it is renamed or
-/// removed: only its maker writes, renames or removes it. The calls require that.
+/// removed. Only its maker writes, renames or removes it. The calls require that.
 pub trait Store {
     /// Whether the store tells its contents, which nobody else changes.
     ghost tells: { Type 0 };

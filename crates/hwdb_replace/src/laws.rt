@@ -1,4 +1,4 @@
-//! Laws over the definitions of a crash and of others: without them a model in which nothing is lost, or nobody else is there,
+//! Laws over the definitions of a crash and of others. Without them a model in which nothing is lost, or nobody else is there,
 //! would meet all promises.
 ghost use Rattle.std.specs.Prelude.{Option, OnOk};
 ghost use Rattle.hwdb_spec.specs.Store.{Stored};

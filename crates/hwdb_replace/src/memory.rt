@@ -1,5 +1,5 @@
-//! A store in memory, for tests: it tells its contents, keeps what each moment may leave, tears what isn't on the
-//! disk, and fails where it is told to.
+//! A store in memory, for tests. It tells its contents, keeps what each moment may leave, tears what isn't on the disk,
+//! and fails where it is told to.
 ghost use Rattle.std.specs.Prelude.{◌≡◌, ◌≤◌, ◌++◌, ◌∷◌, [], ℕ, length, take, map, false, Some, None, IfOk, IfSome, IsOkAnd, IsTrue, OnOk, OnErr, option_map};
 ghost use Rattle.std.specs.Str.{bytes_eq};
 ghost use Rattle.hwdb_spec.specs.Failures.{after_failure, CountsFailures};
@@ -61,7 +61,7 @@ pub enum Step {
 
 /// What stands under a path, and what a crash may leave there.
 #[derive(Drop)]
-pub struct State<'a> {
+pub struct PathState<'a> {
     /// What a read gives.
     pub now: Option<&'a File>,
     /// Whether that isn't on the disk.
@@ -97,7 +97,7 @@ pub fn is_same(a: &[u8], b: &[u8]) -> bool
     a == b
 }
 
-impl<'a> State<'a> {
+impl<'a> PathState<'a> {
     /// What another file under the path makes of it.
     fn change(&mut self, now: Option<&'a File>, loose: bool) -> Result<(), AllocError>
         ensures { OnOk result (lent self.new
@@ -111,7 +111,7 @@ impl<'a> State<'a> {
     }
 }
 
-impl<'a> State<'a> {
+impl<'a> PathState<'a> {
     /// What one step more makes of it.
     fn step(&mut self, alloc: Global, path: &[u8], step: &'a Step) -> Result<(), AllocError>
         ensures { OnOk result (lent self.new ≡ after path.now (lent self.old) step.now) }
@@ -154,10 +154,14 @@ impl<'a> State<'a> {
 }
 
 /// What these steps make of a path: what stands there, and what a crash may leave.
-pub fn state_of<'a>(alloc: Global, steps: &'a [Step], path: &[u8]) -> Result<State<'a>, AllocError>
+pub fn state_of<'a>(
+    alloc: Global,
+    steps: &'a [Step],
+    path: &[u8],
+) -> Result<PathState<'a>, AllocError>
     ensures { IfOk result (λ s. lent s ≡ state_of path.now begin steps.now) }
 {
-    let mut state = State {
+    let mut state = PathState {
         now: None,
         loose: false,
         before: Vec::new(alloc),

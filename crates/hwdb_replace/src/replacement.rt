@@ -38,7 +38,7 @@ impl From<CallFailed> for Unreplaced {
 /// Replaces the database in a folder, which is made where it isn't there, by these bytes.
 ///
 /// Leftovers of killed updates are removed first. A new file is made beside the database, `.#hwdb.bin` and the first
-/// number that makes a new name; it gets the bytes and its mode, is synced, and is renamed over `hwdb.bin`; then the
+/// number that makes a new name. It gets the bytes and its mode, is synced, and is renamed over `hwdb.bin`. Then the
 /// folder is synced. After a call that failed the new file is removed. It takes no memory but what the store takes.
 ///
 /// A crash at any moment leaves the old database or the new one, whole, and every other file as it was, but for such

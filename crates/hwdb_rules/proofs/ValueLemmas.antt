@@ -2,11 +2,12 @@
 use Rattle.std.proofs.Common.{◌≡◌, ℕ, zero, suc, ◌-◌, ◌+◌, ◌<◌, ◌≤◌, Bool, true, false, List, [], ◌∷◌, ◌++◌, take, drop, length, get_or, refl, ap, ◌∙◌, sym, arith, append_assoc, append-nil, not, cond, nat_lt}
 use Rattle.std.proofs.lemmas.Bool.{lt-ltb}
 use Rattle.std.proofs.lemmas.List.{take_more}
-use Rattle.std.specs.Str.{IsUtf8, is_utf8}
-use Rattle.std.proofs.lemmas.Str.{IsUtf8-from_is_utf8, is_utf8-from_IsUtf8}
+use Rattle.std.specs.Str.{IsUtf8}
+use Rattle.std.proofs.lemmas.Str.{is_utf8-from_IsUtf8}
 use Rattle.hwdb_spec.specs.Lines.{is_none}
 use Rattle.hwdb_rules.specs.Internal.{kept}
 use Rattle.hwdb_spec.specs.Sysfs.{cut_back, is_left, is_unused, is_used, left_whole, put_for, replaced}
+use Rattle.hwdb_spec.specs.Lemmas.Orders.{not_utf8}
 
 module _ (test : ℕ → Bool) where
   -- one byte less
@@ -83,13 +84,6 @@ no_bytes (b ∷ text) h = absurd (omega arith)
 
 pub used_utf8 : (text : List ℕ) → IsUtf8 text → not (is_unused text) ≡ is_used text
 used_utf8 text utf8 = sym (ap (λ (c : Bool). cond c (not (is_unused text)) false) (is_utf8-from_IsUtf8 text utf8))
-
-not_utf8 : (text : List ℕ) → (IsUtf8 text → ⊥) → is_utf8 text ≡ false
-not_utf8 text none = go (is_utf8 text) refl
-  where
-    go : (b : Bool) → is_utf8 text ≡ b → b ≡ false
-    go true is = absurd (none (IsUtf8-from_is_utf8 text is))
-    go false is = refl
 
 pub used_none : (text : List ℕ) → (IsUtf8 text → ⊥) → false ≡ is_used text
 used_none text none = sym (ap (λ (c : Bool). cond c (not (is_unused text)) false) (not_utf8 text none))

@@ -1,8 +1,8 @@
 //! Which strings udev's rules ask the hardware database for: what `device` asks.
 //!
 //! `hwdb_sysfs` says what sysfs holds of a device and its parents. Rules are of systemd 257, and of the packages upower and
-//! libwacom. Nothing here reads a file, or knows a database: a rule says which strings are to be asked, one after
-//! another, up to the first that has an answer.
+//! libwacom. Nothing here reads a file, or knows a database. A rule says which strings are to be asked, one after another,
+//! up to the first that has an answer.
 //!
 //! | Module | What it does |
 //! |---|---|

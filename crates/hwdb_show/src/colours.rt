@@ -27,6 +27,11 @@ fn first_part(kind: TextKind, byte: u8) -> LinePart
             let other = at(b'#', byte, LinePart::Path, LinePart::Value);
             at(b' ', byte, LinePart::Key, other)
         }
+        TextKind::DeviceChanges => {
+            let tilde = at(b'~', byte, LinePart::Mark, LinePart::Pattern);
+            let other = at(b'-', byte, LinePart::Mark, tilde);
+            at(b'+', byte, LinePart::Mark, other)
+        }
     }
 }
 
@@ -52,6 +57,9 @@ fn next_part(kind: TextKind, before: LinePart, byte: u8) -> LinePart
         (TextKind::Changes, LinePart::Mark) => at(b'\t', byte, LinePart::Pattern, before),
         (TextKind::Changes, LinePart::Value) => at(b'\t', byte, LinePart::Path, before),
         (TextKind::Changes, LinePart::Path) => at(b'\t', byte, LinePart::Key, before),
+        (TextKind::DeviceChanges, LinePart::Mark) => at(b'\t', byte, LinePart::Key, before),
+        (TextKind::DeviceChanges, LinePart::Value) => at(b'\t', byte, LinePart::Path, before),
+        (TextKind::DeviceChanges, LinePart::Path) => at(b'\t', byte, LinePart::Key, before),
         (_, LinePart::Pattern) => at(b'\t', byte, LinePart::Key, before),
         (_, LinePart::Key) => at(b'=', byte, LinePart::Value, before),
         _ => before,

@@ -22,7 +22,8 @@ before_long (line ∷ more) = if is_long line then [] else line ∷ before_long 
 abbrev pub answered_lines : List (List ℕ) → List (List ℕ)
 answered_lines lines = take most_devices (before_long lines)
 
--- what comes after so many of all lines: too many lines if as many as may be were answered, nothing after all, else one that is too long
+-- What comes after so many of all lines: too many lines if as many as may be were answered. If nothing comes after them, nothing,
+-- else one that is too long.
 abbrev pub end_after : (answered all : ℕ) → Option ToolError
 end_after answered all = if answered == most_devices then Some TooManyLines else (if answered == all then None else Some TooLong)
 
@@ -36,8 +37,8 @@ IsLineError TooLong ends = ends ≡ Some TooLong
 IsLineError TooManyLines ends = ends ≡ Some TooManyLines
 IsLineError error ends = Unit {0}
 
--- What a sink took before an error. If that is one of a line, it is the text of all lines that are answered; if the sink failed, a
--- prefix of it; and else the text of some of them.
+-- What a sink took before an error. If that is one of a line, it is the text of all lines that are answered. If the sink failed,
+-- it is a prefix of that, else the text of some of them.
 abbrev pub IsPrintedBefore : ToolError → (Is : (lines : List (List ℕ)) (text : List ℕ) → Type 0) → (lines : List (List ℕ)) → (before now : Option (List ℕ)) → Type 0
 IsPrintedBefore (BadDatabase fault) Is lines before now = now ≡ before
 IsPrintedBefore TooLong Is lines before now = Wrote (Is (answered_lines lines)) before now

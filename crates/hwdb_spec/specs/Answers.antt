@@ -1,6 +1,6 @@
--- The answers for a device, said of the plain list of all assignments (hwdb(7): of the assignments with one pattern and
--- key the last one counts, and for each key the last of those whose pattern matches). That the order goes on by pattern
--- and key, and that the effective list ascends by key, is our choice.
+-- The answers for a device, said of the plain list of all assignments. By hwdb(7) the last assignment with a pattern
+-- and key counts, and for each key the last of those whose pattern matches. That the order goes on by pattern and key,
+-- and that the effective list ascends by key, is our choice.
 use Rattle.std.specs.Prelude.{Bool, List, ℕ, None, Option, Some, true, false, if◌then◌else◌, [], ◌∷◌, filter, map, find, reverse}
 use Rattle.std.specs.Ordering.{is_lt, is_eq}
 use Rattle.std.specs.List.{list_any}
@@ -50,7 +50,7 @@ key_of_answer f = f.position.key
 abbrev pub has_key : List ℕ → Assignment → Bool
 has_key key f = is_eq (text_cmp key f.position.key)
 
--- the value of an answer; nothing where there is none
+-- the value of an answer; nothing if there is none
 abbrev pub value_or_none : Option Assignment → List ℕ
 value_or_none (Some f) = f.value
 value_or_none None = []

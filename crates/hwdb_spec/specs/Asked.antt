@@ -1,4 +1,4 @@
--- The database that a command reads: that at a path, or the one below a root that is asked; and what `query`, `explain`, `list`,
+-- The database that a command reads: that at a path, or the one below a root that is asked. And what `query`, `explain`, `list`,
 -- `verify`, `dump` and `diff` print of it. `query` is systemd-hwdb(8)'s; the others are our choice.
 use Rattle.std.specs.Prelude.{◌++◌, ◌≡◌, ◌≤◌, ◌⊎◌, Bool, List, None, Option, Some, codes, false, if◌then◌else◌, length, true, ℕ}
 use Rattle.hwdb_spec.specs.Assignment.{Position}
@@ -20,7 +20,7 @@ abbrev pub IsAskedPath : (root : List ℕ) → Contents → (path : List ℕ) �
 IsAskedPath root contents path =
     (path ≡ database_path false root) ⊎ ((path ≡ database_path true root) × (bytes_at contents (database_path false root) ≡ None))
 
--- what the database holds: that at the given path, or where none is given the one that is asked
+-- what the database holds: that at the given path, or if none is given the one that is asked
 abbrev pub named_database : (given : Option (List ℕ)) (root : List ℕ) → Contents → Option (List ℕ)
 named_database None root contents = asked_database root contents
 named_database (Some path) root contents = bytes_at contents path
@@ -56,14 +56,14 @@ pub record AreHeld (old_path new_path : List ℕ) (contents : Contents) (old new
   pub old_within : length old ≤ max_file
   pub new_within : length new ≤ max_file
 
--- the text is what changed from the one database to the other, and the status says whether something did
-pub record IsCompared (old_path new_path : List ℕ) (contents : Contents) (text : List ℕ) (status : ℕ) : Type 0 where
+-- the text is what the trees of both databases give, and the status says whether they differ so
+pub record IsCompared (of : (old new : Tree) → List ℕ) (differ : (old new : Tree) → Bool) (old_path new_path : List ℕ) (contents : Contents) (text : List ℕ) (status : ℕ) : Type 0 where
   pub old : List ℕ
   pub new : List ℕ
   pub held : AreHeld old_path new_path contents old new
-  pub is : IsDiffText old new text
+  pub is : IsDiffText of old new text
   pub answer : Bool
-  pub differ : IsDifferent old new answer
+  pub differs : IsDifferent differ old new answer
   pub says : status ≡ (if answer then 1 else 0)
 
 -- the text is what the database that is asked gives

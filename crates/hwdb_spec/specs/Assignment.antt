@@ -1,6 +1,6 @@
 -- An assignment and its position, and the order of positions: by the priority of the file, the line, the pattern and
--- the key (hwdb(7): later files and lines replace earlier ones; that the order goes on by pattern and key is our
--- choice).
+-- the key. By hwdb(7) later files and lines replace earlier ones. That the order goes on by pattern and key is our
+-- choice.
 use Rattle.std.specs.Prelude.{List, ℕ, [], ◌∷◌}
 use Rattle.std.specs.declared.cmp.Ordering.{Ordering}
 use Rattle.std.specs.Ordering.{nat_cmp, ordering_then, match_ordering}
@@ -33,7 +33,7 @@ position_cmp a b =
 unfoldable pub assignment_cmp : Assignment → Assignment → Ordering
 assignment_cmp a b = position_cmp a.position b.position
 
--- a member put in its place; where its place is taken the list stays
+-- a member put in its place; if its place is taken the list stays
 unfoldable pub put : {A : Type 0} → (A → A → Ordering) → A → List A → List A
 put cmp x [] = x ∷ []
 put cmp x (y ∷ ys) = match_ordering (cmp x y) (x ∷ y ∷ ys) (y ∷ ys) (y ∷ put cmp x ys)

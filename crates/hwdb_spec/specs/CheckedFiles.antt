@@ -8,8 +8,8 @@ use Rattle.hwdb_spec.specs.Store.{Contents, path_in}
 use Rattle.hwdb_spec.specs.System.{AreNamesIn, bytes_at, etc_files, usr_files}
 use Rattle.hwdb_spec.specs.Texts.{max_file}
 
--- These are the chosen of both folders' text files below the root, by priority: each under its stored path, as `update` names
--- it, with what it holds. None is longer than a file may be.
+-- These are the chosen of both folders' text files below the root, by priority. Each has its stored path, as `update` names
+-- it, and what it holds. None is longer than a file may be.
 pub record AreChosenFiles (root : List ℕ) (contents : Contents) (sources : List Source) : Type 0 where
   pub etc : List (List ℕ)
   pub usr : List (List ℕ)
@@ -32,7 +32,8 @@ folder_of [] = []
 folder_of (b ∷ []) = if b == byte "/" then [] else b ∷ []
 folder_of (b ∷ next ∷ more) = b ∷ folder_of (next ∷ more)
 
--- the text files of the folder that a path names, chosen as those of one folder: by name, each once; the path itself if it has none
+-- The text files of the folder that a path names, chosen as those of one folder: by name, each once. It is the path
+-- itself if there are no names.
 abbrev pub files_in : (path : List ℕ) (names : List (List ℕ)) → List (List ℕ)
 files_in path [] = path ∷ []
 files_in path (name ∷ more) = map (λ (c : Choice). path_in (folder_of path) c.name) (choice (name ∷ more) [])

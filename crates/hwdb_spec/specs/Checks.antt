@@ -61,7 +61,7 @@ abbrev pub check_text : (json : Bool) → (allowed : List (List ℕ)) → List S
 check_text json allowed files =
     flat_map (λ s. file_text json allowed s.name s.bytes) files ++ end_text json (tally_from allowed empty_tally files)
 
--- 1 where there is a fault, or `strict` and a warning, else 0
+-- 1 if there is a fault, or `strict` and a warning, else 0
 abbrev pub check_status : (strict : Bool) → Tally → ℕ
 check_status true t = if t.faults == 0 then (if t.warnings == 0 then 0 else 1) else 1
 check_status false t = if t.faults == 0 then 0 else 1

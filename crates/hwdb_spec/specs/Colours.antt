@@ -23,6 +23,7 @@ first_part text.Reports b = at (byte " ") b part.Blank part.Path
 first_part text.Changes b = part.Mark
 first_part text.Records b = at (byte " ") b part.Key (at (byte "#") b part.Path part.Value)
 first_part text.Counts b = part.Key
+first_part text.DeviceChanges b = at (byte "+") b part.Mark (at (byte "-") b part.Mark (at (byte "~") b part.Mark part.Pattern))
 
 -- the part that a later byte of a line is in, by that of the byte before it
 abbrev pub next_part : TextKind → LinePart → ℕ → LinePart
@@ -37,6 +38,9 @@ next_part text.Reports part.Number b = at (byte ":") b part.Fault part.Number
 next_part text.Changes part.Mark b = at (byte "\t") b part.Pattern part.Mark
 next_part text.Changes part.Value b = at (byte "\t") b part.Path part.Value
 next_part text.Changes part.Path b = at (byte "\t") b part.Key part.Path
+next_part text.DeviceChanges part.Mark b = at (byte "\t") b part.Key part.Mark
+next_part text.DeviceChanges part.Value b = at (byte "\t") b part.Path part.Value
+next_part text.DeviceChanges part.Path b = at (byte "\t") b part.Key part.Path
 next_part kind part.Pattern b = at (byte "\t") b part.Key part.Pattern
 next_part kind part.Key b = at (byte "=") b part.Value part.Key
 next_part kind before b = before

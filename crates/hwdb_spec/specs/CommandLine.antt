@@ -54,6 +54,10 @@ test_files_rule = record (new_rule (codes "FILE")) { required = true; action = S
 abbrev pub database_option_rule : Rule
 database_option_rule = record (new_rule (codes "database")) { value_names = 1; long = Some (codes "database"); action = Some Set }
 
+-- files that name devices, or none
+abbrev pub devices_option_rule : Rule
+devices_option_rule = record (new_rule (codes "devices")) { value_names = 1; long = Some (codes "devices"); action = Some Append }
+
 -- a database, or none
 abbrev pub database_rule : Rule
 database_rule = record (new_rule (codes "DATABASE")) { action = Some Set }
@@ -74,6 +78,10 @@ verbose_rule = record (new_rule (codes "verbose")) { long = Some (codes "verbose
 abbrev pub skip_rule : Rule
 skip_rule = record (new_rule (codes "skip-unreadable")) { long = Some (codes "skip-unreadable"); action = Some SetTrue }
 
+-- `--check`
+abbrev pub check_rule : Rule
+check_rule = record (new_rule (codes "check")) { long = Some (codes "check"); action = Some SetTrue }
+
 -- kinds of warnings, or none
 abbrev pub allow_rule : Rule
 allow_rule = record (new_rule (codes "allow")) { value_names = 1; long = Some (codes "allow"); action = Some Append }
@@ -81,6 +89,14 @@ allow_rule = record (new_rule (codes "allow")) { value_names = 1; long = Some (c
 -- `--json`
 abbrev pub json_rule : Rule
 json_rule = record (new_rule (codes "json")) { long = Some (codes "json"); action = Some SetTrue }
+
+-- `--text`
+abbrev pub text_rule : Rule
+text_rule = record (new_rule (codes "text")) { long = Some (codes "text"); action = Some SetTrue }
+
+-- a database that was replaced is read anew
+abbrev pub reload_rule : Rule
+reload_rule = record (new_rule (codes "reload")) { long = Some (codes "reload"); action = Some SetTrue }
 
 -- `--strings`
 abbrev pub strings_rule : Rule
@@ -104,15 +120,15 @@ with_range a = with_rule (with_rule a after_rule) limit_rule
 
 -- `update`
 abbrev pub update_app : App
-update_app = with_rule (with_rule (with_shared (new_app (codes "update"))) verbose_rule) skip_rule
+update_app = with_rule (with_rule (with_rule (with_shared (new_app (codes "update"))) verbose_rule) skip_rule) check_rule
 
 -- `query`
 abbrev pub query_app : App
-query_app = with_rule (with_rule (with_shared (new_app (codes "query"))) json_rule) devices_rule
+query_app = with_rule (with_rule (with_rule (with_rule (with_shared (new_app (codes "query"))) text_rule) reload_rule) json_rule) devices_rule
 
 -- `explain`
 abbrev pub explain_app : App
-explain_app = with_rule (with_rule (with_shared (new_app (codes "explain"))) json_rule) device_rule
+explain_app = with_rule (with_rule (with_rule (with_shared (new_app (codes "explain"))) text_rule) json_rule) device_rule
 
 -- `ask`
 abbrev pub ask_app : App
@@ -120,15 +136,15 @@ ask_app = with_rule (with_rule (with_shared (new_app (codes "ask"))) file_rule) 
 
 -- `list`
 abbrev pub list_app : App
-list_app = with_rule (with_rule (with_range (with_shared (new_app (codes "list")))) json_rule) device_rule
+list_app = with_rule (with_rule (with_rule (with_range (with_shared (new_app (codes "list")))) text_rule) json_rule) device_rule
 
 -- its last word is the device, and those before it are files
 abbrev pub near_app : App
-near_app = with_rule (with_rule (with_rule (with_shared (new_app (codes "near"))) limit_rule) json_rule) devices_rule
+near_app = with_rule (with_rule (with_rule (with_rule (with_shared (new_app (codes "near"))) limit_rule) text_rule) json_rule) devices_rule
 
 -- `device`
 abbrev pub device_app : App
-device_app = with_rule (with_rule (with_rule (with_rule (with_shared (new_app (codes "device"))) strings_rule) json_rule) pattern_rule) path_rule
+device_app = with_rule (with_rule (with_rule (with_rule (with_rule (with_shared (new_app (codes "device"))) text_rule) strings_rule) json_rule) pattern_rule) path_rule
 
 -- `check`
 abbrev pub check_app : App
@@ -136,19 +152,19 @@ check_app = with_rule (with_rule (with_rule (with_shared (new_app (codes "check"
 
 -- `test`
 abbrev pub test_app : App
-test_app = with_rule (with_rule (with_rule (with_shared (new_app (codes "test"))) database_option_rule) json_rule) test_files_rule
+test_app = with_rule (with_rule (with_rule (with_rule (with_shared (new_app (codes "test"))) database_option_rule) text_rule) json_rule) test_files_rule
 
 -- `diff`
 abbrev pub diff_app : App
-diff_app = with_rule (with_rule (with_shared (new_app (codes "diff"))) old_database_rule) new_database_rule
+diff_app = with_rule (with_rule (with_rule (with_rule (with_shared (new_app (codes "diff"))) devices_option_rule) json_rule) old_database_rule) new_database_rule
 
 -- `verify`
 abbrev pub verify_app : App
-verify_app = with_rule (with_shared (new_app (codes "verify"))) database_rule
+verify_app = with_rule (with_rule (with_shared (new_app (codes "verify"))) text_rule) database_rule
 
 -- `dump`
 abbrev pub dump_app : App
-dump_app = with_rule (with_shared (new_app (codes "dump"))) database_rule
+dump_app = with_rule (with_rule (with_shared (new_app (codes "dump"))) text_rule) database_rule
 
 -- `status`
 abbrev pub status_app : App

@@ -1,11 +1,12 @@
--- What a crash may leave of files, as the store in memory has it, call by call. fsync() alone has a file's bytes on the disk,
--- and fsync() of its folder its name (POSIX, fsync; Linux, fsync(2)). What a crash leaves of all else is anything: our choice.
+-- What a crash may leave of files, as the store in memory has it, call by call. Only fsync() brings a file's bytes to the
+-- disk. That of its folder brings its name there (POSIX, fsync; Linux, fsync(2)). What a crash leaves of all else is
+-- anything: our choice.
 use Rattle.std.specs.Prelude.{◌≡◌, ◌⊎◌, ℕ, Bool, true, false, ◌||◌, ◌&&◌, if◌then◌else◌, List, [], ◌∷◌, ◌++◌, Option, Some, None, Contains}
 use Rattle.std.specs.Str.{bytes_eq}
 use Rattle.hwdb_spec.specs.Store.{Stored, Contents, Outcomes}
 
--- A call that changed the files, or brought them to the disk: a file was made or changed; it was synced; it has another name,
--- and wasn't synced if it is loose; it was removed; the names of all files were synced.
+-- A call that changed the files, or brought them to the disk. A file was made or changed, or synced, or removed. It has
+-- another name, and wasn't synced if it is loose. Or the names of all files were synced.
 pub data Event : Type 0 where
   put : (path : List ℕ) (file : Stored) → Event
   synced : (path : List ℕ) → Event

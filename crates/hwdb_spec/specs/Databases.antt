@@ -1,8 +1,7 @@
--- What bytes of databases give: the text of one, what changed from one to another, whether a text file says one, and what is
--- so of bytes that are none. Our choice.
+-- What bytes of databases give: the text of one, what changed from one to another, and whether a text file says one. And
+-- what is so of bytes that are none. Our choice.
 use Rattle.std.specs.Prelude.{◌≡◌, Bool, List, None, Some, length, ℕ}
 use Rattle.hwdb_spec.specs.Assignment.{Assignment}
-use Rattle.hwdb_spec.specs.Differences.{diff_text, differ}
 use Rattle.hwdb_spec.specs.Dump.{dumped, first_unsaid}
 use Rattle.hwdb_spec.specs.Format.{Applies, IsDatabase}
 use Rattle.hwdb_spec.specs.Summary.{summary_of, summary_text}
@@ -20,16 +19,16 @@ pub record IsNoDatabase (bytes : List ℕ) (fault : DbFault) : Type 0 where
   pub stands : Applies bytes fault
   pub no_tree : (t : Tree) → IsDatabase bytes t → ⊥
 
--- both are databases, and the text is what changed from the one to the other
-pub record IsDiffText (old new text : List ℕ) : Type 0 where
+-- both are databases, and the text is what their trees give
+pub record IsDiffText (of : (old new : Tree) → List ℕ) (old new text : List ℕ) : Type 0 where
   pub old_tree : Tree
   pub new_tree : Tree
   pub old_database : IsDatabase old old_tree
   pub new_database : IsDatabase new new_tree
-  pub is : text ≡ diff_text old_tree new_tree
+  pub is : text ≡ of old_tree new_tree
 
--- both are databases, and it says whether something changed
-pub record IsDifferent (old new : List ℕ) (answer : Bool) : Type 0 where
+-- both are databases, and it says whether their trees differ so
+pub record IsDifferent (differ : (old new : Tree) → Bool) (old new : List ℕ) (answer : Bool) : Type 0 where
   pub old_tree : Tree
   pub new_tree : Tree
   pub old_database : IsDatabase old old_tree

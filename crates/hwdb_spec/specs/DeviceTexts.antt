@@ -1,5 +1,5 @@
--- What `device` prints of a device: the strings that udev asks for it, what a database gives each, and the properties that the device
--- has in the end. The command and its forms are our choice.
+-- What `device` prints of a device: the strings that udev asks for it, and what a database gives each. Then the properties that the
+-- device has in the end. The command and its forms are our choice.
 use Rattle.std.specs.Prelude.{Bool, true, ℕ, List, [], ◌∷◌, ◌++◌, ◌==◌, Option, None, Some, codes, filter, flat_map, get_or, if◌then◌else◌, map, nat_eq, not, option_map, reverse}
 use Rattle.std.specs.List.{starts_with}
 use Rattle.std.specs.Option.{option_map_or, option_or}

@@ -211,7 +211,7 @@ unfoldable pub alike : List ℕ → List ℕ → ℕ
 alike (a ∷ more) (b ∷ rest) = if a == b then 1 + alike more rest else 0
 alike _ _ = 0
 
--- of a name and one before it the one that begins more as the name that is wanted; of two that begin as much the one before
+-- of a name and one before it, the one that begins more as the wanted name; of two that begin as much the one before
 abbrev pub nearer : (wanted before name : List ℕ) → List ℕ
 nearer wanted before name = if nat_lt (alike before wanted) (alike name wanted) then name else before
 

@@ -1,4 +1,4 @@
--- What came, went and changed from one database to another: by pattern and key, what the two have there; and the lines
+-- What came, went and changed from one database to another: by pattern and key, what the two have there. And the lines
 -- that `diff` prints of it. The command and its form are our choice.
 use Rattle.std.specs.Prelude.{List, ℕ, Bool, true, false, Option, None, Some, [], ◌∷◌, ◌++◌, flat_map, if◌then◌else◌}
 use Rattle.std.specs.FinMap as finite
@@ -14,7 +14,7 @@ pub data Change : Type 0 where
   Went : Assignment → Change
   Changed : Assignment → Assignment → Change
 
--- what an old and a new assignment with one pattern and key are: a change where their values differ
+-- what an old and a new assignment with one pattern and key are: a change if their values differ
 abbrev pub change_between : Assignment → Assignment → List Change
 change_between old new = if same old.value new.value then [] else Changed old new ∷ []
 

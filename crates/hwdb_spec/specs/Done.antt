@@ -26,8 +26,8 @@ pub record Updated (etc usr : List Source) (listed : Option (List (List ℕ))) (
   pub stored : in_place database
   pub answer : status ≡ status_of strict (faults_of_files etc usr)
 
--- what `ask` writes: the fault lines of the one file, and the properties that its database gives the device, which isn't larger
--- than one may be
+-- what `ask` writes: the fault lines of the one file, and the properties that its database gives the device. The database isn't
+-- larger than one may be.
 pub record AreAskTexts (file bytes device : List ℕ) (texts : Texts) : Type 0 where
   pub accepted : AreAccepted (lone bytes) []
   pub database : List ℕ
@@ -58,8 +58,8 @@ pub record IsAsked (file device : List ℕ) (input : Option (List ℕ)) (content
   pub within : length bytes ≤ max_file
   pub are : AreAskTexts file bytes device texts
 
--- an update that read these files leaves this under a path: the database of all text files of both folders, whole, in its place;
--- or what may be under the path of a new file
+-- An update that read these files leaves this under a path. In its place it is the database of all text files of both folders,
+-- whole. Under the path of a new file it is what may be there.
 pub record IsLeftByUpdate (root : List ℕ) (usr : Bool) (files old : Contents) (p : List ℕ) (v : Option Stored) : Type 0 where
   pub of_etc : List Source
   pub of_usr : List Source
@@ -73,7 +73,7 @@ pub record IsLeftByUpdate (root : List ℕ) (usr : Bool) (files old : Contents) 
 abbrev pub OldOrUpdated : (root : List ℕ) (usr : Bool) (files old : Contents) (outcomes : Outcomes) → Outcomes
 OldOrUpdated root usr files old outcomes p v = outcomes p v ⊎ IsLeftByUpdate root usr files old p v
 
--- an update leaves this under a path, where it may have left files out
+-- an update leaves this under a path, if it may have left files out
 pub record IsLeftByUpdateLess (MayFail : (path : List ℕ) → Type 0) (root : List ℕ) (usr skip : Bool) (old : Contents) (p : List ℕ) (v : Option Stored) : Type 0 where
   pub left_out : List Choice
   pub are : AreLeftOut skip MayFail root old left_out

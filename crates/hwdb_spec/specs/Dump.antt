@@ -1,5 +1,5 @@
--- A database as text of the form that hwdb(7) describes: a record for each assignment, by priority, line and pattern, below a
--- comment that says where it comes from; and whether the text says what the database assigns. The command and its form are
+-- A database as text of the form that hwdb(7) describes: a record for each assignment, by priority, line and pattern. Above
+-- it a comment says where it comes from. And whether the text says what the database assigns. The command and its form are
 -- our choice.
 use Rattle.std.specs.Prelude.{Bool, false, not, codes, List, ℕ, Option, [], ◌∷◌, ◌++◌, flat_map, find, if◌then◌else◌, length, nat_le}
 use Rattle.hwdb_spec.specs.Answers.{is_same_place}

@@ -1,4 +1,4 @@
--- What `explain` says of a device: for each key the answer that counts, and those that it overrides, each with the line
+-- What `explain` says of a device: for each key the answer that counts, and those that it overrides. Each has the line
 -- that it comes from. The command and its form are our choice.
 use Rattle.std.specs.Prelude.{codes, List, ℕ, [], ◌∷◌, ◌++◌, map, filter, flat_map, reverse, None}
 use Rattle.hwdb_spec.specs.Assignment.{Assignment, in_order, text_cmp}

@@ -6,7 +6,7 @@ use Rattle.hwdb_spec.specs.Lines.{byte, has}
 abbrev pub after_failure : ℕ → ℕ
 after_failure before = if before == 2 ^ 64 - 1 then before else before + 1
 
--- the call counts as failed exactly where it returns an error
+-- the call counts as failed exactly if it returns an error
 abbrev pub CountsFailures : {T E : Type 0} → ℕ → ℕ → Result T E → Type 0
 CountsFailures before now result = MatchResult result (λ _. now ≡ before) (λ _. now ≡ after_failure before)
 

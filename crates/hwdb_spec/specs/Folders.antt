@@ -1,6 +1,6 @@
--- Which files of two folders count, after hwdb(7): a file of /etc masks that of the same name in /usr/lib, and all are
--- ordered by name, whatever folder they are in. Then what they assign together, and when they are accepted. Which
--- names count is our choice but for the ending, and so are the limits.
+-- Which files of two folders count, after hwdb(7). A file of /etc masks that of the same name in /usr/lib, and all are
+-- ordered by name, whatever folder they are in. Then what they assign together, and when they are accepted. Which names
+-- count is our choice but for the ending, and so are the limits.
 use Rattle.std.specs.Prelude.{Bool, List, codes, false, nat_eq, not, ℕ, if◌then◌else◌, [], ◌∷◌, filter, ◌++◌, count_by, ◌+◌, map, flat_map, length, ◌≤◌, ◌<◌, All, Any}
 use Rattle.std.specs.List.{ends_with, list_any}
 use Rattle.std.specs.Ordering.{is_lt, is_eq}
@@ -54,12 +54,12 @@ pub record Source : Type 0 where
 abbrev pub chosen_of : (etc usr : List Source) → List Choice
 chosen_of etc usr = choice (map (λ (s : Source). s.name) etc) (map (λ (s : Source). s.name) usr)
 
--- the bytes of the first of some files that has a name; others, where none has it
+-- the bytes of the first of some files that has a name; others, if none has it
 unfoldable pub first_of : List ℕ → List Source → (others : List ℕ) → List ℕ
 first_of name [] others = others
 first_of name (s ∷ more) others = if same name s.name then s.bytes else first_of name more others
 
--- the bytes of a chosen file: etc's where etc has its name, else usr's
+-- the bytes of a chosen file: etc's if etc has its name, else usr's
 abbrev pub contents : (etc usr : List Source) → Choice → List ℕ
 contents etc usr c = first_of c.name etc (first_of c.name usr [])
 

@@ -1,6 +1,6 @@
--- When bytes are a database of a tree (the layout of systemd's hwdb-internal.h, under its names; our choice is the order
--- of the nodes: a node's record is after its children's texts), and what is wrong with bytes that are none (our
--- choice of faults). Records may be longer than their known fields.
+-- When bytes are a database of a tree: the layout of systemd's hwdb-internal.h, under its names. Our choice is the order
+-- of the nodes: a node's record is after its children's texts. And what is wrong with bytes that are none (our choice of
+-- faults). Records may be longer than their known fields.
 use Rattle.std.specs.Prelude.{List, drop, ℕ, slice_index, ◌+◌, ◌*◌, not, take_while, ◌==◌, length, ◌<◌, ◌≤◌, Option, Some, [], ◌∷◌, ◌≡◌, None, suc, zero, codes, take, ◌-◌, ◌⊎◌, ◌≢◌}
 use Rattle.std.specs.declared.cmp.Ordering.TheVariants.{Less}
 use Rattle.hwdb_spec.specs.Assignment.{text_cmp}
@@ -152,8 +152,8 @@ ValuesText l b entry before (v ∷ vs) =
     IsValue l b entry × (v ≡ value_at b entry) × IsAbove before v.key × ValuesText l b (entry + l.value_size) (Some v.key) vs
 
 unfoldable mutual
-  -- From `from` to the end of the record at `off` the bytes are the text of a tree of at most so many
-  -- levels: the texts of its children, in order, and then its record.
+  -- From `from` to the end of the record at `off` the bytes are the text of a tree of at most so many levels. It is the
+  -- texts of its children, in order, and then its record.
   pub NodeText : Layout → List ℕ → (levels from off : ℕ) → Tree → Type 0
   NodeText l b zero from off (Node prefix values children) = ⊥
   NodeText l b (suc levels) from off (Node prefix values children) =
@@ -203,8 +203,8 @@ pub record HasStrings (b : List ℕ) : Type 0 where
   pub some : 0 < (header_of b).strings_len
   pub ended : slice_index b (length b - 1) ≡ 0
 
--- The bytes begin with a header (`hwdb-internal.h`): signature, record sizes of at least 80, 24, 16 and 32, and lengths that add
--- up to the file. Its string section ends in byte 0.
+-- The bytes begin with a header (`hwdb-internal.h`): signature, record sizes of at least 80, 24, 16 and 32, and lengths whose
+-- sum is the file's. Its string section ends in byte 0.
 pub record IsHeader (b : List ℕ) : Type 0 where
   pub long : IsLong b
   pub signed : IsSigned b
@@ -243,7 +243,7 @@ ValuesFault l b first n (KeyOrder at) =
     (i : ℕ) × (i + 1 < n) × (at ≡ first + l.value_size * (i + 1)) × KeysFall l b (first + l.value_size * i)
 ValuesFault l b first n fault = (i : ℕ) × (i < n) × EntryFault l b (first + l.value_size * i) fault
 
--- A visit to a node: how many levels are left for it, where its text may begin, where its record is, and where this
+-- A visit to a node: how many levels are left for it, where its text may begin, and where its record is. And where this
 -- has to end.
 pub record Visit : Type 0 where
   pub levels : ℕ
@@ -273,7 +273,7 @@ child_visit l b v i =
 abbrev pub ChildrenFit : Layout → List ℕ → Visit → ℕ → Type 0
 ChildrenFit l b v i = (j : ℕ) → j < i → Fits l b (child_visit l b v j)
 
--- The root is visited; and where a visited node fits and each of its children before i does, child i is.
+-- The root is visited; and if a visited node fits and each of its children before i does, child i is.
 pub data Visited (l : Layout) (b : List ℕ) : Visit → Type 0 where
   Root : Visited l b (root_visit l)
   Below : {v : Visit} (i : ℕ) → Visited l b v → 0 < v.levels → Fits l b v → i < children_count b v.off → ChildrenFit l b v i → Visited l b (child_visit l b v i)

@@ -124,7 +124,7 @@ abbrev pub tail : List Bool → List Bool
 tail [] = []
 tail (b ∷ rest) = rest
 
--- The cell of one byte: `here` and `after` are this cell and the next one in the row of the form's rest, `next` is the next one
+-- The cell of one byte. `here` and `after` are this cell and the next one in the row of the form's rest. `next` is the next one
 -- in this row.
 abbrev pub byte_cell : (star met here after next : Bool) → Bool
 byte_cell true met here after next = if next then true else (if met then here else false)
@@ -221,7 +221,8 @@ text_size (token ∷ more) = token_size token + text_size more
 abbrev pub ends_prefix : ℕ → Bool
 ends_prefix b = if b == byte ":" then true else (if b == byte "*" then true else (if b == byte "?" then true else b == byte "["))
 
--- how many bytes a pattern's prefix takes: up to its first colon, and with it; none if a wildcard comes before it, or there is no colon
+-- How many bytes a pattern's prefix takes: up to its first colon, and with it. It takes none if a wildcard comes before it, or
+-- there is no colon.
 abbrev pub prefix_size : List ℕ → ℕ
 prefix_size pattern =
     if begins_with (byte ":") (drop (position_or_len ends_prefix pattern) pattern) then position_or_len ends_prefix pattern + 1 else 0
@@ -243,8 +244,8 @@ judged forms pattern =
 abbrev pub is_wild : ℕ → Bool
 is_wild b = if b == byte "*" then true else (if b == byte "?" then true else b == byte "[")
 
--- whether a byte, which is no wildcard, may be written after the beginning of a pattern: some text of one of the forms begins with what
--- both match
+-- Whether a byte, which is no wildcard, may be written after the beginning of a pattern. Some text of one of the forms then begins
+-- with what both match.
 abbrev pub is_expected : List Form → (front : List ℕ) → ℕ → Bool
 is_expected forms front b = if is_wild b then false else can_begin forms (tokens (front ++ b ∷ []))
 

@@ -1,5 +1,5 @@
--- Files that the words of `ask` and `check` name: the path `-` has what standard input has left, every other path what is there
--- (POSIX, Utility Syntax Guidelines, 13); and devices, in whose place a lone `-` is for those that standard input names. Our
+-- Files that the words of `ask` and `check` name: the path `-` has what standard input has left, every other path what is
+-- there. That is from POSIX, Utility Syntax Guidelines, 13. And devices: a lone `-` is for those that standard input names. Our
 -- choice.
 use Rattle.std.specs.List.{list_any}
 use Rattle.std.specs.Prelude.{◌∷◌, ◌≡◌, Bool, IfSome, List, Option, Some, [], codes, false, true, ℕ}
@@ -11,7 +11,7 @@ use Rattle.hwdb_spec.specs.System.{bytes_at}
 abbrev pub is_dash : (path : List ℕ) → Bool
 is_dash path = bytes_eq path (codes "-")
 
--- a path has these bytes: `-` those that standard input tells, where it tells them
+-- a path has these bytes: `-` those that standard input tells, if it tells them
 abbrev pub IsContent : (dash : Bool) (path : List ℕ) (input : Option (List ℕ)) → Contents → (bytes : List ℕ) → Type 0
 IsContent true path input contents bytes = IfSome input (λ told. bytes ≡ told)
 IsContent false path input contents bytes = bytes_at contents path ≡ Some bytes

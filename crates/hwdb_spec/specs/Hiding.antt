@@ -1,4 +1,4 @@
--- What `update --usr --verbose` says before its other lines, where something is in the place of /etc's database: that one is
+-- What `update --usr --verbose` says before its other lines, if something is in the place of /etc's database. That one is
 -- asked first (`asked_database`), and so hides the new one. Our choice.
 use Rattle.std.specs.Prelude.{Bool, true, false, ℕ, List, [], ◌++◌, codes, if◌then◌else◌, is_some}
 use Rattle.hwdb_spec.specs.Store.{Contents, path_in, database_name}
@@ -12,7 +12,7 @@ path_of_database usr root = path_in (database_folder usr root) database_name
 abbrev pub hiding_line : (root : List ℕ) → List ℕ
 hiding_line root = path_of_database false root ++ (codes " hides " ++ (path_of_database true root ++ codes ": it is asked first\n"))
 
--- what `update --usr --verbose` says first: that line, where it is to be said
+-- what `update --usr --verbose` says first: that line, if it is to be said
 abbrev pub hiding_text : (usr verbose : Bool) (root : List ℕ) → Contents → List ℕ
 hiding_text false verbose root contents = []
 hiding_text true false root contents = []

@@ -33,7 +33,7 @@ IsLimit (Some text) (Some n) = ParsesUnsigned {E = ParseIntError} 64 10 text (Ok
 
 -- the task that a command's name and its matches ask for
 abbrev pub IsTask : Text → List Row → Task → Type 0
-IsTask name inner (Update verbose skip) = (name ≡ codes "update") × (verbose ≡ has_flag (codes "verbose") inner) × (skip ≡ has_flag (codes "skip-unreadable") inner)
+IsTask name inner (Update verbose skip) = (name ≡ codes "update") × (has_flag (codes "check") inner ≡ false) × (verbose ≡ has_flag (codes "verbose") inner) × (skip ≡ has_flag (codes "skip-unreadable") inner)
 IsTask name inner (Query devices json) = (name ≡ codes "query") × (json ≡ has_flag (codes "json") inner) × AreValues (codes "MODALIAS") inner (map string_bytes devices.items)
 IsTask name inner (Explain device json) = (name ≡ codes "explain") × (json ≡ has_flag (codes "json") inner) × IsValue (codes "MODALIAS") inner (string_bytes device)
 IsTask name inner (Ask file device) = (name ≡ codes "ask") × IsValue (codes "FILE") inner (string_bytes file) × IsValue (codes "MODALIAS") inner (string_bytes device)
@@ -47,10 +47,12 @@ IsTask name inner (Check files allowed json) = (name ≡ codes "check") × AreAn
     × AreAnyValues (codes "allow") inner (map string_bytes allowed.items) × (json ≡ has_flag (codes "json") inner)
 IsTask name inner (Test files database json) = (name ≡ codes "test") × (json ≡ has_flag (codes "json") inner) × (option_map string_bytes database ≡ first_of (codes "database") inner)
     × AreValues (codes "FILE") inner (map string_bytes files.items)
-IsTask name inner (Diff old new) = (name ≡ codes "diff") × IsValue (codes "OLD") inner (string_bytes old) × IsValue (codes "NEW") inner (string_bytes new)
+IsTask name inner (Diff old new devices json) = (name ≡ codes "diff") × (json ≡ has_flag (codes "json") inner) × AreAnyValues (codes "devices") inner (map string_bytes devices.items)
+    × IsValue (codes "OLD") inner (string_bytes old) × IsValue (codes "NEW") inner (string_bytes new)
 IsTask name inner (Verify database) = (name ≡ codes "verify") × (option_map string_bytes database ≡ first_of (codes "DATABASE") inner)
 IsTask name inner (Dump database) = (name ≡ codes "dump") × (option_map string_bytes database ≡ first_of (codes "DATABASE") inner)
-IsTask name inner (Status json) = (name ≡ codes "status") × (json ≡ has_flag (codes "json") inner)
+IsTask name inner (Status json false) = (name ≡ codes "status") × (json ≡ has_flag (codes "json") inner)
+IsTask name inner (Status json true) = (name ≡ codes "update") × (has_flag (codes "check") inner ≡ true) × (json ≡ false)
 
 -- the job of both sides' options and of the command
 pub record IsJob (top : List Row) (name : Text) (inner : List Row) (job : Job) : Type 0 where
@@ -58,6 +60,8 @@ pub record IsJob (top : List Row) (name : Text) (inner : List Row) (job : Job) :
   pub strict : job.strict ≡ (has_flag (codes "strict") inner || has_flag (codes "strict") top)
   pub root : option_map string_bytes job.root ≡ option_or (first_of (codes "root") inner) (first_of (codes "root") top)
   pub color : option_map string_bytes job.color ≡ option_or (first_of (codes "color") inner) (first_of (codes "color") top)
+  pub text : job.text ≡ has_flag (codes "text") inner
+  pub reload : job.reload ≡ has_flag (codes "reload") inner
   pub task : IsTask name inner job.task
 
 -- the job of a command's own matches and of its subcommand's

@@ -41,7 +41,7 @@ object_of members = object (members_of members)
 abbrev pub number_json : ℕ → Json
 number_json n = number (decimal n)
 
--- a text: a string where it is UTF-8, else its bytes as numbers
+-- a text: a string if it is UTF-8, else its bytes as numbers
 abbrev pub text_json : List ℕ → Json
 text_json text = if is_utf8 text then string text else array_of (map number_json text)
 
@@ -187,7 +187,7 @@ abbrev pub raw_in : Option Json → List (List ℕ × List ℕ)
 raw_in (Some (array pairs)) = pairs_in pairs
 raw_in _ = []
 
--- the text under a name; an empty one where there is none
+-- the text under a name; an empty one if there is none
 abbrev pub text_at : List ℕ → Json → List ℕ
 text_at name value = option_map_or text_in (get name value) []
 

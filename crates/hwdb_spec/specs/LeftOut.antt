@@ -33,7 +33,7 @@ pub record AreLeftOut (skip : Bool) (MayFail : (path : List ℕ) → Type 0) (ro
   pub each : All (IsLeftOut MayFail root contents) left_out
   pub asked_for : skip ≡ false → left_out ≡ []
 
--- the status of an update that left out these files, where it would be this one for the others alone
+-- the status of an update that left out these files, if it would be this one for the others alone
 abbrev pub status_less : (strict : Bool) (left_out : List Choice) (status : ℕ) → ℕ
 status_less strict [] status = status
 status_less strict (c ∷ more) status = if strict then 1 else status

@@ -13,6 +13,7 @@ pub mod Written
 pub mod Texts
 pub mod Explanations
 pub mod Differences
+pub mod DeviceDifferences
 pub mod Dump
 pub mod Summary
 pub mod Verdicts
@@ -27,6 +28,7 @@ pub mod Findings
 pub mod Checks
 pub mod Progress
 pub mod ManyDevices
+pub mod Comparisons
 pub mod LoneFile
 pub mod Databases
 pub mod Failures
@@ -92,5 +94,7 @@ pub mod Readable
 pub mod HidingTold
 pub mod Reasons
 pub mod CheckedReasons
+pub mod OverText
 pub mod Program
 pub mod TaskRefusals
+pub mod Lemmas

@@ -205,8 +205,8 @@ head_text pattern device wanted left =
     else (if has_head pattern then codes "the device has no prefix: put " ++ (quoted (head_of pattern) ++ codes " before it")
     else byte_text wanted left)
 
--- Why a pattern stops after so many bytes of a device, and what to do, by what is left of both: one of the two ends; their first
--- parts differ; udev wrote `_`; another byte is there.
+-- Why a pattern stops after so many bytes of a device, and what to do, by what is left of both. One of the two ends, their first
+-- parts differ, udev wrote `_`, or another byte is there.
 abbrev pub why_text : (pattern device : List ℕ) (met : ℕ) (wanted left : List ℕ) → List ℕ
 why_text pattern device met wanted left =
     if is_none left then codes "the device ends here, the pattern goes on: end the pattern here"

@@ -1,5 +1,5 @@
--- Which patterns `near` compares with a device: those of the text files that its words name, or without one those of the database
--- that is asked; and what it prints of them. Our choice.
+-- Which patterns `near` compares with a device: those of the text files that its words name. Without one it takes those of the
+-- database that is asked. And what it prints of them. Our choice.
 use Rattle.std.specs.Prelude.{Bool, false, true, ℕ, List, [], ◌∷◌, ◌++◌, ◌+◌, ◌≡◌, Option, None, Some, if◌then◌else◌, map}
 use Rattle.std.specs.Ordering.{is_lt, nat_cmp, ordering_then}
 use Rattle.hwdb_spec.specs.Asked.{IsAnswered}

@@ -1,6 +1,6 @@
 -- Patterns and what they match, from hwdb(7) and POSIX.1-2017 fnmatch without flags (XCU 2.13). It is over bytes in the C
 -- locale, without collating symbols and equivalence classes. A backslash, `/` and a leading `.` are ordinary bytes. That
--- `^` inverts as `!` does, and that a reversed range has no members, is our choice where POSIX leaves it open.
+-- `^` inverts as `!` does, and that a reversed range has no members, is our choice, since POSIX leaves it open.
 use Rattle.std.specs.Prelude.{ℕ, Bool, false, nat_le, if◌then◌else◌, List, codes, [], ◌∷◌, Option, find, nat_eq, ◌==◌, length, None, Some, ◌++◌, ◌+◌, suc, true, zero, ◌-◌, nat_lt, not, IsTrue, ⊤, ◌≡◌}
 use Rattle.std.specs.List.{list_any, starts_with}
 use Rattle.std.specs.Option.{option_map_or}
@@ -8,7 +8,7 @@ use Rattle.hwdb_spec.specs.Lines.{byte}
 use Rattle.hwdb_spec.specs.declared.Class.TheVariants.{Alnum, Alpha, Blank, Cntrl, Digit, Graph, Lower, Print, Punct, Space, Upper, Xdigit}
 use Rattle.hwdb_spec.specs.declared.Class.{Class}
 
--- whether a byte is in a span: from its first byte to its last, both counted; in none where the first is the greater
+-- whether a byte is in a span: from its first byte to its last, both counted; in none if the first is the greater
 abbrev pub in_span : ℕ → ℕ × ℕ → Bool
 in_span b span = if nat_le span.0 b then nat_le b span.1 else false
 
@@ -52,7 +52,7 @@ pub record Items : Type 0 where
   pub size : ℕ
   pub spans : List (ℕ × ℕ)
 
--- A range where one is: a byte, `-`, and a byte that isn't `]`. Else one byte.
+-- A range, if there is one: a byte, `-`, and a byte that isn't `]`. Else one byte.
 abbrev pub plain_item : List ℕ → Items
 plain_item [] = record { size = 1; spans = [] }
 plain_item (low ∷ []) = record { size = 1; spans = (low, low) ∷ [] }
@@ -184,7 +184,7 @@ matches (token ∷ more) device = piece_then token (matches more) device
 abbrev pub has_reversed : List (ℕ × ℕ) → Bool
 has_reversed spans = list_any (λ span. nat_lt span.1 span.0) spans
 
--- 0 where an item is a reversed range, else one more than a number
+-- 0 if an item is a reversed range, else one more than a number
 abbrev pub one_more_unless : Items → ℕ → ℕ
 one_more_unless found more = if has_reversed found.spans then 0 else 1 + more
 
@@ -213,8 +213,8 @@ is_reversed one = false
 is_reversed (bracket found) = has_reversed found.spans
 is_reversed (literal own) = false
 
--- After how many bytes of a text its first reversed range is; its length where there is none. The first `skip`
--- bytes belong to the token that was cut before.
+-- After how many bytes of a text its first reversed range is; its length if there is none. The first `skip` bytes
+-- belong to the token that was cut before.
 unfoldable pub range_from : (skip : ℕ) → List ℕ → ℕ
 range_from skip [] = 0
 range_from (suc skip) (b ∷ rest) = 1 + range_from skip rest

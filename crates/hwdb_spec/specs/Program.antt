@@ -1,6 +1,6 @@
 -- What the program does with a file system, by the job that its words ask for: `update` and `query` as systemd-hwdb(8) has them.
 -- The other commands are our choice.
-use Rattle.std.specs.Prelude.{◌≡◌, ◌≢◌, ◌⊎◌, ◌==◌, ℕ, Bool, true, false, not, is_some, length, List, [], ◌∷◌, Option, map, option_map, string_bytes}
+use Rattle.std.specs.Prelude.{◌≡◌, ◌≢◌, ◌⊎◌, ◌==◌, ◌&&◌, ℕ, Bool, true, false, not, is_some, None, length, List, [], ◌∷◌, Option, map, option_map, string_bytes}
 use Rattle.std.specs.Option.{option_map_or}
 use Rattle.clap.specs.Faults.{fault_of}
 use Rattle.hwdb_spec.specs.CommandLine.{hwdb_app}
@@ -15,8 +15,9 @@ use Rattle.hwdb_spec.specs.declared.job.Task.TheVariants.{Ask, Check, Device, Di
 use Rattle.hwdb_spec.specs.declared.job.Task.{Task}
 use Rattle.hwdb_spec.specs.declared.job.Job.{Job}
 use Rattle.hwdb_spec.specs.CheckedFiles.{AreCheckedFiles, IsChecked}
-use Rattle.hwdb_spec.specs.Status.{IsStatus}
-use Rattle.hwdb_spec.specs.Asked.{IsCompared, IsDumped, IsPrinted, IsAnswered, IsListFrom}
+use Rattle.hwdb_spec.specs.Status.{IsMade, IsStatus}
+use Rattle.hwdb_spec.specs.Asked.{IsDumped, IsPrinted, IsAnswered, IsListFrom}
+use Rattle.hwdb_spec.specs.ComparedDatabases.{IsDiffed}
 use Rattle.hwdb_spec.specs.Databases.{IsSummary}
 use Rattle.hwdb_spec.specs.NearAsked.{IsNear, near_form, near_limit}
 use Rattle.hwdb_spec.specs.DeviceAsked.{IsDevicePrinted, device_form}
@@ -27,6 +28,8 @@ use Rattle.hwdb_spec.specs.Queries.{AreAnswered, IfNamed, IsQuiet}
 use Rattle.hwdb_spec.specs.Done.{IsAsked, IsLeftByUpdateLess}
 use Rattle.hwdb_spec.specs.HidingTold.{IsUpdatedTelling}
 use Rattle.hwdb_spec.specs.Tested.{IsTested}
+use Rattle.hwdb_spec.specs.Folders.{Source}
+use Rattle.hwdb_spec.specs.OverText.{misuse_text, takes_text, world_over}
 
 -- the root in front of each path; nothing if none was given
 abbrev pub root_of : Job → List ℕ
@@ -35,7 +38,7 @@ root_of job = option_map_or string_bytes job.root []
 -- the task looks for files below the root: it is one that isn't told by name which it reads
 abbrev pub looks_below_root : Task → Bool
 looks_below_root (Ask file device) = false
-looks_below_root (Diff old_path new_path) = false
+looks_below_root (Diff old_path new_path devices json) = false
 looks_below_root (Check files allowed json) = length files.items == 0
 looks_below_root (Near files device limit json) = length files.items == 0
 looks_below_root (Verify database) = not (is_some database)
@@ -61,13 +64,13 @@ IsAnswerOf (Near paths device limit json) root strict input files status texts =
     (status ≡ 0) × OnOut (IsNear (map string_bytes paths.items) root (near_form json (string_bytes device) (near_limit limit)) input files) texts
 IsAnswerOf (Test paths database json) root strict input files status texts =
     OnOut (λ text. IsTested json (map string_bytes paths.items) (option_map string_bytes database) root input files text status) texts
-IsAnswerOf (Diff old_path new_path) root strict input files status texts =
-    OnOut (λ text. IsCompared (string_bytes old_path) (string_bytes new_path) files text status) texts
+IsAnswerOf (Diff old_path new_path devices json) root strict input files status texts =
+    OnOut (λ text. IsDiffed json (map string_bytes devices.items) (string_bytes old_path) (string_bytes new_path) input files text status) texts
 IsAnswerOf (Verify database) root strict input files status texts =
     (status ≡ 0) × OnOut (IsPrinted (option_map string_bytes database) root IsSummary files) texts
 IsAnswerOf (Dump database) root strict input files status texts =
     (status ≡ 0) × OnOut (IsDumped (option_map string_bytes database) root files) texts
-IsAnswerOf (Status json) root strict input files status texts = OnOut (λ text. IsStatus root json files text status) texts
+IsAnswerOf (Status json quiet) root strict input files status texts = OnOut (λ text. IsStatus root json quiet files text status) texts
 
 -- what `device` prints in this form, and its status
 abbrev pub IsDeviceAnswer : DeviceForm → (root : List ℕ) (given : Option (List ℕ)) → Sight → Contents → (status : ℕ) → Texts → Type 0
@@ -91,9 +94,29 @@ IsTaskDone task root usr strict status before now =
     IfNamed (streams task) before.input.bytes (Printed (IsAnswerOf task root strict before.input.bytes before.files.seen status) before.err now.err before.out now.out)
     × IsQuiet (streams task) status before.err now.err × AreKept before.files now.files
 
+-- With `--text` a task is done over the files as they are, but that the database has the bytes that an update would write now. No
+-- file changes.
+pub record IsDoneOverText (task : Task) (root : List ℕ) (usr strict : Bool) (status : ℕ) (before now : World) : Type 0 where
+  pub fits : misuse_text task ≡ None
+  pub of_etc : List Source
+  pub of_usr : List Source
+  pub made : List ℕ
+  pub is_made : IsMade root before.files.seen of_etc of_usr made
+  pub done : IsTaskDone task root usr strict status (world_over root made before) (world_over root made now)
+  pub kept : AreKept before.files now.files
+
+-- a task is done: over the text files, or else over the files as they are
+abbrev pub IsDoneFrom : (over_text : Bool) → Task → (root : List ℕ) (usr strict : Bool) (status : ℕ) (before now : World) → Type 0
+IsDoneFrom true = IsDoneOverText
+IsDoneFrom false = IsTaskDone
+
+-- a job answers from the text files: it has `--text`, and its command takes it
+abbrev pub asks_text : Job → Bool
+asks_text job = job.text && takes_text job.task
+
 -- what a job leaves that is done
 abbrev pub IsDone : Job → (status : ℕ) (before now : World) → Type 0
-IsDone job = IsTaskDone job.task (root_of job) job.usr job.strict
+IsDone job = IsDoneFrom (asks_text job) job.task (root_of job) job.usr job.strict
 
 -- the words ask for a job, and it is done
 pub record IsJobDone (words : List (List ℕ)) (status : ℕ) (before now : World) : Type 0 where
@@ -119,6 +142,7 @@ reads_input (Ask file device) = is_dash (string_bytes file)
 reads_input (Check files allowed json) = any_dash (map string_bytes files.items)
 reads_input (Near files device limit json) = any_dash (map string_bytes files.items)
 reads_input (Test files database json) = any_dash (map string_bytes files.items)
+reads_input (Diff old_path new_path devices json) = any_dash (map string_bytes devices.items)
 reads_input _ = false
 
 -- the task is an update

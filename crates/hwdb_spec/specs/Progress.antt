@@ -17,7 +17,7 @@ masks listed c = if c.from_etc then lists c.name listed else false
 abbrev pub chosen_line : (listed : List (List ℕ)) → Choice → List ℕ
 chosen_line listed c = path_of c ++ ((if masks listed c then codes " masks /usr/lib/udev/hwdb.d/" ++ c.name else []) ++ byte "\n" ∷ [])
 
--- a number, or the greatest one of 64 bits where it is larger
+-- a number, or the greatest one of 64 bits if it is larger
 abbrev pub within_64_bits : ℕ → ℕ
 within_64_bits n = min n (2 ^ 64 - 1)
 
@@ -38,11 +38,11 @@ progress_text (Some listed) etc usr =
 abbrev pub update_text : (listed : Option (List (List ℕ))) (etc usr : List Source) → List ℕ
 update_text listed etc usr = progress_text listed etc usr ++ faults_text (faults_of_files etc usr)
 
--- names that are given where `verbose`
+-- names that are given if `verbose`
 abbrev pub given_where : (verbose : Bool) → List (List ℕ) → Option (List (List ℕ))
 given_where false names = None
 given_where true names = Some names
 
--- the names of /usr/lib's files, given where `verbose`
+-- the names of /usr/lib's files, given if `verbose`
 abbrev pub listing : (verbose : Bool) (usr : List Source) → Option (List (List ℕ))
 listing verbose usr = given_where verbose (map (λ (s : Source). s.name) usr)

@@ -1,6 +1,6 @@
--- What is known of properties: which names they have, which texts are their values, which prefixes they are read below, and what is
--- said of a property that doesn't fit. Which forms a value has is from the heads of systemd's hwdb files, and from what libinput and udev
--- read. The rest is our choice.
+-- What is known of properties: which names they have, which texts are their values, and which prefixes they are read below. And
+-- what is said of a property that doesn't fit. Which forms a value has is from the heads of systemd's hwdb files, and from what
+-- libinput and udev read. The rest is our choice.
 use Rattle.std.specs.Prelude.{Bool, true, false, ℕ, List, [], ◌∷◌, ◌++◌, ◌+◌, ◌-◌, ◌==◌, Option, None, Some, if◌then◌else◌, codes, drop, length, nat_eq, nat_lt, not, take}
 use Rattle.std.specs.List.{after_first, before_first, find, list_all, list_any, prefix_len, starts_with}
 use Rattle.std.specs.Option.{unwrap_or}
@@ -66,7 +66,7 @@ is_near [] ys = same_after_one [] ys
 is_near (x ∷ xs) [] = same_after_one (x ∷ xs) []
 is_near (x ∷ xs) (y ∷ ys) = if lower x == lower y then is_near xs ys else same_after_one (x ∷ xs) (y ∷ ys)
 
--- what of a name a row's name is compared with: as many bytes as that has, if it is for all names that begin with it
+-- what of a name is compared with a row's name: as many bytes as that has, if all names that begin so are meant
 abbrev pub compared_part : (own name : List ℕ) → List ℕ
 compared_part own name = if is_family own then take (length own) name else name
 

@@ -1,4 +1,4 @@
--- `query` and `explain` of the devices of their words, or with a lone `-` of those that standard input names, one a line: what
+-- `query` and `explain` of the devices of their words, or with a lone `-` of those that standard input names, one a line. What
 -- they print, and their errors. Our choice.
 use Rattle.std.specs.Prelude.{◌<◌, ◌≡◌, ◌≢◌, ◌≤◌, ◌⊎◌, Bool, IfSome, List, None, Option, Some, codes, false, length, true, ℕ}
 use Rattle.hwdb_spec.specs.Asked.{IsAnswered, IsAskedPath}
@@ -66,7 +66,7 @@ IsOfWholeInput Read refusal = IsAt Read (codes "standard input") refusal
 IsOfWholeInput TooLong refusal = IsAt TooLong (codes "standard input") refusal
 IsOfWholeInput error refusal = refusal ≡ Plain error
 
--- what an error says of the input is so: that it can't be read, if a call of it failed, or that a line of it is too long
+-- What an error says of the input is so. It can't be read, if a call of it failed, or a line of it is too long.
 abbrev pub IsInputUnread : (input : Option (List ℕ)) (failures_before failures_now : ℕ) → Refusal → Type 0
 IsInputUnread input before now (At Read at cause) = (at.items ≡ codes "standard input") × HasFailed before now
 IsInputUnread input before now (At TooLong at cause) = (at.items ≡ codes "a line of standard input") × IfSome input (HasLongLine max_file)

@@ -45,9 +45,9 @@ sections_from skip [] = []
 sections_from (suc skip) (l ∷ more) = sections_from skip more
 sections_from zero (l ∷ more) = first_section (l ∷ more) ∷ sections_from (size (first_section (l ∷ more)) - 1) more
 
--- The clean lines, cut at the empty ones into blocks, and these into sections: leading properties, the longest run of match
--- lines, the longest run of properties, and a match line that is left. `SectionsAreTheBlock` says that they are the whole
--- block.
+-- The clean lines, cut at the empty ones into blocks, and these into sections. A section is leading properties, the longest
+-- run of match lines, the longest run of properties. A match line that is left is a section, too. `SectionsAreTheBlock`
+-- says that they are the whole block.
 abbrev pub sections : List Line → List Section
 sections ls = flat_map (sections_from 0) (pieces is_empty ls)
 

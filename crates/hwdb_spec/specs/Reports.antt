@@ -1,5 +1,5 @@
--- What `check` prints of the faults of text files: for each where it is, its line, the place in that line, and what to do
--- about it. Our choice.
+-- What `check` prints of the faults of text files: for each where it is, its line, and the place in that line. And what
+-- to do about it. Our choice.
 use Rattle.std.specs.Prelude.{ℕ, List, [], ◌∷◌, ◌++◌, ◌==◌, if◌then◌else◌, codes, flat_map, length, map, nat_lt, take}
 use Rattle.std.specs.List.{position_or_len, prefix_len}
 use Rattle.hex.specs.Hex.{encode_lower}
@@ -39,8 +39,8 @@ spaces text = map (λ b. byte " ") text
 abbrev pub mark_line : List ℕ → ℕ → List ℕ
 mark_line text at = if nat_lt at max_shown then codes "    " ++ (spaces (shown (take at text)) ++ codes "^\n") else []
 
--- After how many bytes of its line a fault is: where the property begins, at the line's first byte, at the first byte
--- 0, at the first byte that is too much.
+-- After how many bytes of its line a fault is: where the property begins, at the line's first byte, or at the first
+-- byte 0. Or it is at the first byte that is too much.
 abbrev pub fault_place : FaultKind → List ℕ → ℕ
 fault_place StrayProperty text = prefix_len is_indent text
 fault_place NoProperty text = 0
@@ -68,7 +68,7 @@ hint_line hint = codes "    hint: " ++ (hint ++ byte "\n" ∷ [])
 abbrev pub report : (path text : List ℕ) → Fault → List ℕ
 report path text f = fault_line path f ++ (shown_line text ++ (mark_line text (fault_place f.kind text) ++ hint_line (fault_hint f.kind)))
 
--- the text of the line with this number; nothing where there is no such line
+-- the text of the line with this number; nothing if there is no such line
 abbrev pub text_of_line : List Line → ℕ → List ℕ
 text_of_line [] number = []
 text_of_line (l ∷ more) number = if l.number == number then l.text else text_of_line more number

@@ -9,7 +9,7 @@ pub record Told : Type 0 where
   pub bytes : Option (List ℕ)
   pub failures : ℕ
 
--- a store of files: what is in each, which may fail to be read, what a crash may leave of each, and how many calls failed
+-- a store of files: what is in each, which reads may fail, what a crash may leave of each; and how many calls failed
 pub record Files : Type 1 where
   pub seen : Contents
   pub fails : (path : List ℕ) → Type 0

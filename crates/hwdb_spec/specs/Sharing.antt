@@ -8,8 +8,8 @@ use Rattle.hwdb_spec.specs.Store.{Stored, Outcomes, IsPartPath, path_in, databas
 abbrev pub IsAnyPart : List ℕ → Type 0
 IsAnyPart p = (folder : List ℕ) × IsPartPath folder p
 
--- others may do this while a path is ours: take or remove names of new files, and put a file that is on the disk in the
--- database's place. Which files these are, `whole` says.
+-- Others may do this while a path is ours. They take or remove names of new files, and put a file that is on the disk
+-- in the database's place. Which files these are, `whole` says.
 abbrev pub MayDo : (whole : Stored → Type 0) (ours : List ℕ) → Event → Type 0
 MayDo whole ours (put path file) = IsAnyPart path × (path ≢ ours)
 MayDo whole ours (synced path) = Unit {0}
@@ -23,7 +23,7 @@ abbrev pub AreTheirs : (whole : Stored → Type 0) → Outcomes
 AreTheirs whole p v =
     IsAnyPart p ⊎ ((folder : List ℕ) × (file : Stored) × (p ≡ path_in folder database_name) × whole file × (v ≡ Some file))
 
--- Under each path what a crash might have left before; in the database's place perhaps the new one, whole; and under the paths
+-- Under each path what a crash might have left before. In the database's place perhaps the new one, whole, and under the paths
 -- of new files anything.
 abbrev pub OldOrOurs : (folder bytes : List ℕ) (outcomes : Outcomes) → Outcomes
 OldOrOurs folder bytes outcomes p v =

@@ -1,9 +1,10 @@
--- The errors of `status`. Our choice.
+-- The errors of `status` and `update --check`. Our choice.
 use Rattle.std.specs.Prelude.{◌≡◌, ◌⊎◌, List, ℕ}
 use Rattle.hwdb_spec.specs.Asked.{IsAskedPath}
 use Rattle.hwdb_spec.specs.CompileErrors.{IsRefusal}
 use Rattle.hwdb_spec.specs.Errors.{refusal_of_compile}
 use Rattle.hwdb_spec.specs.Folders.{Source}
+use Rattle.hwdb_spec.specs.Readable.{AreAllRead}
 use Rattle.hwdb_spec.specs.Reading.{AreUnread}
 use Rattle.hwdb_spec.specs.Refusals.{IsUnreadAt}
 use Rattle.hwdb_spec.specs.Status.{IsMade}
@@ -24,6 +25,7 @@ pub record AreNotMade (root : List ℕ) (contents : Contents) (refusal : Refusal
   pub of_usr : List Source
   pub in_etc : AreFilesIn (etc_files root) contents of_etc
   pub in_usr : AreFilesIn (usr_files root) contents of_usr
+  pub read : AreAllRead root contents
   pub refused : IsNotCompiled of_etc of_usr refusal
 
 -- the database that is asked can't be read; or want of memory
@@ -38,6 +40,6 @@ pub record IsNotBeside (root : List ℕ) (contents : Contents) (refusal : Refusa
   pub is_made : IsMade root contents of_etc of_usr made
   pub unread : IsAskedUnread root contents refusal
 
--- `status` fails: the text files can't be read; or not be compiled; or after that the database that is asked can't be read
+-- they fail: the text files can't be read; or not be compiled; or after that the database that is asked can't be read
 abbrev pub IsStatusRefused : (root : List ℕ) → Contents → Refusal → Type 0
 IsStatusRefused root contents refusal = AreUnread root contents refusal ⊎ (AreNotMade root contents refusal ⊎ IsNotBeside root contents refusal)

@@ -123,7 +123,7 @@ pub record NoMoreRenamed (from to : List ℕ) (file : Option Stored) (is_whole :
 abbrev pub Always : List ℕ → Option Stored → Outcomes → Type 0
 Always path file outcomes = (v : Option Stored) → outcomes path v → v ≡ file
 
--- Time goes on: a crash since t might have left what it might have left before, or one of these; and what it might have left
+-- Time goes on: a crash since t might have left what it might have left before, or one of these. What it might have left
 -- before, it still might.
 pub record Elapses (before now : ℕ) (past since : ℕ → Outcomes) (more : Outcomes) : Type 0 where
   pub later : before ≤ now

@@ -12,8 +12,8 @@ pub record Attribute : Type 0 where
   pub name : List ℕ
   pub value : List ℕ
 
--- A device or a parent of one: its path below sysfs, the kernel's name, and the last names of its links `subsystem` and `driver`,
--- empty without such a link. Then its file `uevent`, and those of its attributes that rules ask for.
+-- A device or a parent of one: its path below sysfs, the kernel's name, and the last names of its links `subsystem` and `driver`.
+-- These are empty without such a link. Then its file `uevent`, and those of its attributes that rules ask for.
 pub record Ancestor : Type 0 where
   pub path : List ℕ
   pub name : List ℕ
@@ -67,7 +67,7 @@ is_used text = if is_utf8 text then not (is_unused text) else false
 abbrev pub is_wide : ℕ → List ℕ → Bool
 is_wide size text = if nat_lt 1 size then (if length text == size then is_used text else false) else false
 
--- how many of the first bytes of a text are left as they are: those of `\x`, those of a character of more than one byte; else none
+-- How many of the first bytes of a text are left as they are: `\x`, and a character of more than one byte. Else it is none.
 abbrev pub left_whole : ℕ → List ℕ → ℕ
 left_whole b rest =
     if (if b == byte "\\" then starts_with nat_eq rest (codes "x") else false) then 2
@@ -149,8 +149,8 @@ pub record At : Type 0 where
   pub place : ℕ
   pub ancestor : Ancestor
 
--- The first that passes, counted from a number on. udev(7): KERNELS, SUBSYSTEMS, DRIVERS and ATTRS search the devpath upwards, and have
--- all to match one device.
+-- The first that passes, counted from a number on. udev(7): KERNELS, SUBSYSTEMS, DRIVERS and ATTRS search the devpath upwards. All
+-- of them have to match one device.
 unfoldable pub first_at : (Ancestor → Bool) → ℕ → List Ancestor → Option At
 first_at test place [] = None
 first_at test place (a ∷ more) = if test a then Some (record { place = place; ancestor = a }) else first_at test (suc place) more

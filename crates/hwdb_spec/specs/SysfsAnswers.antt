@@ -1,4 +1,4 @@
--- What a file system answers of devices, and what is made of that: what can't be told is as if it weren't there, as udev takes it
+-- What a file system answers of devices, and what is made of that. What can't be told is as if it weren't there, as udev takes it
 -- (sd-device).
 use Rattle.std.specs.Prelude.{◌≡◌, ◌⊎◌, ℕ, List, [], Bool, true, Option, Some, None, Result, Ok, Err, MatchResult, codes, false, filter, not, pos, ◌∷◌, if◌then◌else◌}
 use Rattle.std.specs.List.{list_any}
@@ -10,8 +10,8 @@ use Rattle.hwdb_spec.specs.DeviceTree.{Node, Sight}
 use Rattle.hwdb_spec.specs.declared.causes.Cause.{Cause}
 use Rattle.hwdb_spec.specs.declared.causes.Cause.TheVariants.{Memory, System, Unknown}
 
--- the answers of a file system: the path of what a path leads to, with no link in it (realpath(3)); the node at a place; whether a
--- regular file is there; the bytes of a small file; the names in a folder, each with byte 0 after it
+-- The answers of a file system: the path without links of what a path leads to (realpath(3)), and the node at a place.
+-- Whether a regular file is there, and the bytes of a small file. The names in a folder, each with byte 0 after it.
 pub record Answers : Type 0 where
   pub real : (path : List ℕ) → Result (List ℕ) Cause
   pub node : (place : List ℕ) → Result (Option Node) Cause
@@ -42,8 +42,8 @@ node_if (Err cause) = None
 abbrev pub leads_on : List ℕ → Bool
 leads_on name = if same name (codes ".") then false else not (same name (codes ".."))
 
--- An error that says that a path leads nowhere: no such name, no folder on the way, a name that is too long, a loop of links. The
--- numbers are those of ENOENT, ENOTDIR, ENAMETOOLONG and ELOOP on Linux (path_resolution(7)).
+-- An error that says that a path leads nowhere: no such name, no folder on the way, a name too long, a loop of links. The numbers
+-- are those of ENOENT, ENOTDIR, ENAMETOOLONG and ELOOP on Linux (path_resolution(7)).
 abbrev pub is_nowhere : Cause → Bool
 is_nowhere (System number) = list_any (int_eq number) (pos 2 ∷ pos 20 ∷ pos 36 ∷ pos 40 ∷ [])
 is_nowhere cause = false

@@ -1,6 +1,6 @@
--- Which errors end a task, when each comes, and what it leaves: the files, what standard error had taken before the
--- error's line, and standard output. Our choice.
-use Rattle.std.specs.Prelude.{◌≡◌, ◌≢◌, ◌⊎◌, ◌==◌, ℕ, Bool, true, false, not, is_some, length, List, [], ◌∷◌, Option, Some, map, option_map, string_bytes, codes}
+-- Which errors end a task, and when each comes. What it leaves: the files, standard output, and what standard error had taken
+-- before the error's line. Our choice.
+use Rattle.std.specs.Prelude.{◌≡◌, ◌≢◌, ◌⊎◌, ◌==◌, ℕ, Bool, true, false, not, is_some, length, List, [], ◌∷◌, Option, None, Some, map, option_map, string_bytes, codes}
 use Rattle.clap.specs.Faults.{fault_of}
 use Rattle.hwdb_spec.specs.CommandLine.{hwdb_app}
 use Rattle.hwdb_spec.specs.Words.{AskFor, AskForText, AreToldBy}
@@ -19,17 +19,20 @@ use Rattle.hwdb_spec.specs.Outputs.{Texts}
 use Rattle.hwdb_spec.specs.declared.form.Form.TheVariants as form
 use Rattle.hwdb_spec.specs.declared.errors.ToolError.TheVariants.{Memory, Write}
 use Rattle.hwdb_spec.specs.CheckedFiles.{AreCheckedFiles}
-use Rattle.hwdb_spec.specs.ComparedDatabases.{IsDiffRefused}
+use Rattle.hwdb_spec.specs.ComparedDatabases.{HasDiffReason, IsDiffRefused}
 use Rattle.hwdb_spec.specs.NearErrors.{IsNearRefused}
 use Rattle.hwdb_spec.specs.TestErrors.{HasTestReason, IsTestRefused}
 use Rattle.hwdb_spec.specs.DeviceErrors.{IsDeviceRefused}
 use Rattle.hwdb_spec.specs.NamedDatabases.{IsDumpRefused, IsVerifyRefused}
 use Rattle.hwdb_spec.specs.Queries.{AreUnanswered}
 use Rattle.hwdb_spec.specs.StatusErrors.{IsStatusRefused}
-use Rattle.hwdb_spec.specs.Program.{IsAnswerOf, IsDeviceAnswer, IsJobDone, IsTold, IsUpdate, looks_below_root, root_of}
+use Rattle.hwdb_spec.specs.Program.{IsAnswerOf, IsDeviceAnswer, IsJobDone, IsTold, IsUpdate, asks_text, looks_below_root, root_of}
+use Rattle.hwdb_spec.specs.Folders.{Source}
+use Rattle.hwdb_spec.specs.OverText.{IsNothingAsked, misuse_text, world_over}
+use Rattle.hwdb_spec.specs.Status.{IsMade}
 use Rattle.hwdb_spec.specs.CheckedReasons.{HasCheckedReason}
 use Rattle.hwdb_spec.specs.Reasons.{HasAskedReason, HasFilesReason, HasGivenReason}
-use Rattle.hwdb_spec.specs.Refusals.{HasReason, IsAt, IsUnentered, IsUnreadable, Refused, refusal_line, refusal_text}
+use Rattle.hwdb_spec.specs.Refusals.{HasReason, IsAt, IsUnentered, Refused, refusal_line, refusal_text}
 use Rattle.hwdb_spec.specs.declared.refusals.Refusal.TheVariants.{Plain}
 use Rattle.hwdb_spec.specs.declared.refusals.Refusal.{Refusal}
 use Rattle.hwdb_spec.specs.Undone.{AreUncheckable, IsAskRefused, IsCheckRefused, IsListRefused, IsUnanswered, IsUnprinted, IsUnreadableIf, IsUnwritable}
@@ -42,10 +45,11 @@ Refuses (Check paths allowed json) root input files refusal =
     IsCheckRefused (AreUncheckable (map string_bytes paths.items) root files) (AreCheckedFiles (map string_bytes paths.items) root input files) refusal
 Refuses (Near paths device limit json) root input files refusal = IsNearRefused (map string_bytes paths.items) root files refusal
 Refuses (Test paths database json) root input files refusal = IsTestRefused (map string_bytes paths.items) (option_map string_bytes database) root input files refusal
-Refuses (Diff old_path new_path) root input files refusal = IsDiffRefused (string_bytes old_path) (string_bytes new_path) files refusal
+Refuses (Diff old_path new_path devices json) root input files refusal =
+    IsDiffRefused (map string_bytes devices.items) (string_bytes old_path) (string_bytes new_path) input files refusal
 Refuses (Verify database) root input files refusal = IsVerifyRefused (option_map string_bytes database) root files refusal
 Refuses (Dump database) root input files refusal = IsDumpRefused (option_map string_bytes database) root files refusal
-Refuses (Status json) root input files refusal = IsStatusRefused root files refusal
+Refuses (Status json quiet) root input files refusal = IsStatusRefused root files refusal
 Refuses task root input files refusal = IsUnanswered root files refusal
 
 -- what it might have printed, with whatever status
@@ -72,9 +76,9 @@ IsTaskRefused (Update verbose skip) root usr strict refusal before now =
     IsTellingUpdateRefused root usr verbose skip refusal before.files now.files before.err now.err × (now.out ≡ before.out)
 IsTaskRefused task root usr strict refusal before now = IsPrintingRefused task root strict refusal before now × AreKept before.files now.files
 
--- a database that the task asks for can't be read: reading it may fail, or it is one that the words name, and nothing is there
+-- A database that the task asks for can't be read. Reading it may fail, or it is one that the words name, and nothing is
+-- there.
 abbrev pub IsUnreadableFor : Task → (MayFail : (path : List ℕ) → Type 0) → Contents → (path : List ℕ) → Type 0
-IsUnreadableFor (Diff old_path new_path) = IsUnreadable
 IsUnreadableFor (Verify database) = IsUnreadableIf (is_some (option_map string_bytes database))
 IsUnreadableFor (Dump database) = IsUnreadableIf (is_some (option_map string_bytes database))
 IsUnreadableFor _ = IsUnreadableIf false
@@ -93,6 +97,8 @@ IsTaskReason (Near files device limit json) root usr before now refusal =
     HasFilesReason (not (length files.items == 0)) (map string_bytes files.items) before.files.fails before.files.seen before.input.bytes before.input.failures now.input.failures refusal
 IsTaskReason (Test paths database json) root usr before now refusal =
     HasTestReason (map string_bytes paths.items) (option_map string_bytes database) root before.files.fails before.files.seen before.input.bytes before.input.failures now.input.failures refusal
+IsTaskReason (Diff old_path new_path devices json) root usr before now refusal =
+    HasDiffReason (map string_bytes devices.items) (string_bytes old_path) (string_bytes new_path) before.files.fails before.files.seen before.input.bytes before.input.failures now.input.failures refusal
 IsTaskReason task root usr before now refusal =
     HasReason (IsUnreadableFor task before.files.fails before.files.seen)
     (IsUnwritable (database_folder usr root) before.files.seen before.files.failures now.files.failures) before.files.seen refusal
@@ -101,13 +107,36 @@ IsTaskReason task root usr before now refusal =
 abbrev pub IsNotDone : Task → (root : List ℕ) (usr strict : Bool) (before now : World) → Refusal → Type 0
 IsNotDone task root usr strict before now refusal = IsTaskRefused task root usr strict refusal before now × IsTaskReason task root usr before now refusal
 
+-- Before anything is asked a task over text ends with an error. Nothing was printed, no file changed, and what the error says is so.
+pub record IsUnbegun (task : Task) (root : List ℕ) (before now : World) (refusal : Refusal) : Type 0 where
+  pub refused : IsNothingAsked task root before.files.seen refusal
+  pub reason : HasReason before.files.fails ⊥ before.files.seen refusal
+  pub err : now.err ≡ before.err
+  pub out : now.out ≡ before.out
+  pub kept : AreKept before.files now.files
+
+-- A task ends with an error over the database that an update would write now, and what the error says is so. No file changes.
+pub record IsNotDoneOverText (task : Task) (root : List ℕ) (usr strict : Bool) (before now : World) (refusal : Refusal) : Type 0 where
+  pub fits : misuse_text task ≡ None
+  pub of_etc : List Source
+  pub of_usr : List Source
+  pub made : List ℕ
+  pub is_made : IsMade root before.files.seen of_etc of_usr made
+  pub not_done : IsNotDone task root usr strict (world_over root made before) (world_over root made now) refusal
+  pub kept : AreKept before.files now.files
+
+-- a task ends with an error, and what that says is so: over the text files, or else over the files as they are
+abbrev pub IsNotDoneFrom : (over_text : Bool) → Task → (root : List ℕ) (usr strict : Bool) (before now : World) → Refusal → Type 0
+IsNotDoneFrom true task root usr strict before now refusal = IsUnbegun task root before now refusal ⊎ IsNotDoneOverText task root usr strict before now refusal
+IsNotDoneFrom false task root usr strict before now refusal = IsNotDone task root usr strict before now refusal
+
 -- the same of a job
 abbrev pub IsJobNotDone : Job → (before now : World) → Refusal → Type 0
-IsJobNotDone job = IsNotDone job.task (root_of job) job.usr job.strict
+IsJobNotDone job = IsNotDoneFrom (asks_text job) job.task (root_of job) job.usr job.strict
 
 -- the status of an error: 2 of `diff`, whose 1 says that something changed, else 1
 abbrev pub refused_status : Task → ℕ
-refused_status (Diff old_path new_path) = 2
+refused_status (Diff old_path new_path devices json) = 2
 refused_status _ = 1
 
 -- what is said of an error: if standard output fails and the system tells why, that it can't be written
@@ -156,7 +185,7 @@ pub record AreRefused (words : List (List ℕ)) (status : ℕ) (before now : Wor
 abbrev pub IsRootUnread : Job → Refusal → Type 0
 IsRootUnread job refusal = (root : List ℕ) × (option_map string_bytes job.root ≡ Some root) × (looks_below_root job.task ≡ true) × IsUnentered root refusal
 
--- the words ask for a job below such a root: the status is 1, the files are as they were, and standard error took the line
+-- the words ask for a job below such a root: the status is 1, the files are as they were, standard error took the line
 pub record IsRootRefused (words : List (List ℕ)) (status : ℕ) (before now : World) : Type 0 where
   pub job : Job
   pub asked : AskFor words job
@@ -169,13 +198,13 @@ pub record IsRootRefused (words : List (List ℕ)) (status : ℕ) (before now : 
   pub out : now.out ≡ before.out
   pub says : status ≡ 1
 
--- The words ask for a job, and while it wrote to standard output the reader of that went away: nothing is said of it, the files
--- are as they were, and standard output took what it does if it can't be written.
+-- The words ask for a job, and while it wrote to standard output the reader of that went away. Nothing is said of it, and the
+-- files are as they were. Standard output took what it does if it can't be written.
 pub record IsCutShort (gone_before gone : Type 0) (words : List (List ℕ)) (before now : World) : Type 0 where
   pub job : Job
   pub asked : AskFor words job
   pub faultless : fault_of hwdb_app words ≡ []
-  pub refused : IsTaskRefused job.task (root_of job) job.usr job.strict (Plain Write) before now
+  pub refused : IsJobNotDone job before now (Plain Write)
   pub kept : AreKept before.files now.files
   pub reader : gone
   -- an update writes nothing there

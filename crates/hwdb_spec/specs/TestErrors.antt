@@ -1,4 +1,4 @@
--- The errors of `test`: the first test file that can't be read; after all were read the database; and then what comes of trying
+-- The errors of `test`: the first test file that can't be read, and after all were read the database. Then what comes of trying
 -- them over it. What is said of them is so. Our choice.
 use Rattle.std.specs.Prelude.{◌≡◌, ◌≤◌, ◌⊎◌, List, Option, Some, is_some, length, true, ℕ}
 use Rattle.hwdb_spec.specs.Asked.{IsNamedPath, named_database}

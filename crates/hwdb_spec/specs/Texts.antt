@@ -113,7 +113,7 @@ max_file = 268435456
 abbrev pub query_text : List ℕ → Tree → List ℕ
 query_text device t = properties_text (effective_of (answers device t))
 
--- an empty line where more texts follow
+-- an empty line if more texts follow
 abbrev pub empty_line : List (List ℕ) → List ℕ
 empty_line [] = []
 empty_line (text ∷ more) = byte "\n" ∷ []
@@ -147,7 +147,7 @@ last_values_texts devices etc usr = with_empty_lines (map (λ device. last_value
 abbrev pub last_lines_text : (device : List ℕ) (from : Option Position) (limit : Option ℕ) (etc usr : List Source) → List ℕ
 last_lines_text device from limit etc usr = hits_text (within_limit limit (last_assignments device from (all_assignments etc usr)))
 
--- 1 where `strict` and there is a fault, else 0
+-- 1 if `strict` and there is a fault, else 0
 abbrev pub status_of : Bool → List FaultIn → ℕ
 status_of true (f ∷ more) = 1
 status_of true [] = 0

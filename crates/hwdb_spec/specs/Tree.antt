@@ -1,6 +1,6 @@
--- The tree that a database holds (systemd's hwdb-internal.h: a trie with prefixes), the map from patterns and keys that
--- it stands for (hwdb(7)), its answers for a device, and its live nodes. That a stored key without the leading space
--- assigns nothing, and which nodes are live, is our choice.
+-- The tree that a database holds (systemd's hwdb-internal.h: a trie with prefixes), and the map from patterns and keys
+-- that it represents (hwdb(7)). And its answers for a device, and its live nodes. That a stored key without the leading
+-- space assigns nothing, and which nodes are live, is our choice.
 use Rattle.std.specs.Prelude.{List, ℕ, suc, [], ◌∷◌, ◌+◌, None, Option, Some, ◌≡◌, if◌then◌else◌, ◌==◌, map, ◌++◌, flat_map, ◌<◌, reverse, filter, Bool, false, zero, ◌-◌, length, take, ◌≤◌, true}
 use Rattle.std.specs.declared.cmp.Ordering.TheVariants.{Less}
 use Rattle.std.specs.Ordering.{ordering_then}
@@ -64,7 +64,7 @@ unfoldable mutual
   values_below path NoMore = []
   values_below path (Child byte tree more) = values_under (path ++ byte ∷ []) tree ++ values_below path more
 
--- what a value assigns at a pattern; nothing where its stored key begins with no space
+-- what a value assigns at a pattern; nothing if its stored key begins with no space
 abbrev pub assigned_at : List ℕ → Value → Option (List ℕ) → List Assignment
 assigned_at pattern v None = []
 assigned_at pattern v (Some key) =
@@ -86,8 +86,8 @@ Map = finite.FinMap place_cmp Assignment
 abbrev pub entry_of : Assignment → (List ℕ × List ℕ) × Assignment
 entry_of a = ((a.position.pattern, a.position.key), a)
 
--- The map of a tree. For a pattern and a key it is looked up at the node with that path: the priority, line, value and path of
--- the value with the stored key 'space, key'.
+-- The map of a tree. For a pattern and a key it is looked up at the node with that path. It is the priority, line, value and
+-- path of the value with the stored key 'space, key'.
 unfoldable pub map_of : Tree → Map
 map_of t = finite.from_entries (map entry_of (members_under [] t))
 
@@ -141,8 +141,8 @@ closed_from zero (first ∷ rest) =
     if is_open (token_at (first ∷ rest)) then []
     else first ∷ closed_from (token_size (token_at (first ∷ rest)) - 1) rest
 
--- The closed part of a path: what is before the first `[` of the path, cut from the left as a
--- pattern, that begins no closed bracket; the whole path if there is none.
+-- The closed part of a path: what is before its first `[`, cut from the left as a pattern, that begins no closed
+-- bracket. It is the whole path if there is none.
 abbrev pub closed_part : List ℕ → List ℕ
 closed_part path = closed_from 0 path
 

@@ -7,8 +7,8 @@ use Rattle.hwdb_spec.specs.Reports.{shown_byte}
 use Rattle.hwdb_spec.specs.declared.Judgement.{Judgement}
 use Rattle.hwdb_spec.specs.declared.Judgement.TheVariants.{Dead, Fine, UnknownPrefix}
 
--- what is said of a clean text that is a pattern of at most 4,096 bytes; nothing of any other, nor of one that begins with a tab,
--- since that is told
+-- What is said of a clean text that is a pattern of at most 4,096 bytes. Nothing is said of any other, nor of one that begins
+-- with a tab, since that is told.
 unfoldable pub judgement_of : List ℕ → Judgement
 judgement_of text =
     if is_none text then Fine else

@@ -1,4 +1,4 @@
--- What is said of bytes that are no database: which fault it is, where they are, and what to do; `verify` says more words of
+-- What is said of bytes that are no database: which fault it is, where they are, and what to do. `verify` says more words of
 -- it, and where it may come from. Our choice.
 use Rattle.std.specs.Prelude.{codes, List, ℕ, ◌++◌, if◌then◌else◌, nat_eq}
 use Rattle.std.specs.List.{ends_with}
@@ -29,8 +29,8 @@ db_fault_cause Lengths = codes "the file was cut short or written over"
 db_fault_cause Strings = codes "the file was cut short or written over"
 db_fault_cause fault = codes "the file is damaged, or a tool wrote it that orders its records otherwise"
 
--- what to do about a file that is no database: a text file is one for `check`, by the end `.hwdb` of its name; every other
--- file is made anew
+-- What to do about a file that is no database. A text file is one for `check`, by the end `.hwdb` of its name. Every other
+-- file is made anew.
 abbrev pub remedy : (path : List ℕ) → List ℕ
 remedy path = if ends_with nat_eq path (codes ".hwdb") then codes "'hwdb check' is for text files" else codes "make it anew with 'hwdb update'"
 

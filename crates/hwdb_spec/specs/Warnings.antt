@@ -41,7 +41,7 @@ repeated_from above (l ∷ more) =
 abbrev pub repeated_lines : List ℕ → List ℕ
 repeated_lines file = repeated_from [] (clean (lines file))
 
--- the greatest of some numbers; 0 where there are none
+-- the greatest of some numbers; 0 if there are none
 abbrev pub greatest : List ℕ → ℕ
 greatest [] = 0
 greatest (n ∷ more) = max n (greatest more)
@@ -51,11 +51,11 @@ abbrev pub gives_value : (pattern key value : List ℕ) → Assignment → Bool
 gives_value pattern key value a =
     if same a.position.pattern pattern then (if same a.position.key key then same a.value value else false) else false
 
--- the last line of some assignments that gives a pattern a key, and this value; 0 where none does
+-- the last line of some assignments that gives a pattern a key, and this value; 0 if none does
 abbrev pub last_with : (all : List Assignment) → (pattern key value : List ℕ) → ℕ
 last_with all pattern key value = greatest (map (λ a. a.position.line) (filter (gives_value pattern key value) all))
 
--- Whether an assignment of a file replaces another one, which has its pattern and its key: it is after each line that gives
+-- Whether an assignment of a file replaces another one, which has its pattern and its key. It is after each line that gives
 -- these the value of the other one. So an assignment is replaced exactly if the last line with its pattern and its key, which
 -- counts, gives another value.
 abbrev pub replaces : (all : List Assignment) → (later earlier : Assignment) → Bool
@@ -77,12 +77,12 @@ misused l =
     if is_property l then (if has_equals l then (if has_key l then (if is_spaced l then None else misuse (key l) (value l)) else None) else None)
     else None
 
--- Whether a line of a file, of which this is the clean line, gets a warning: its clean text begins with the three bytes of a UTF-8
--- byte order mark; with a tab, and so is a match line; a carriage return is in it, which isn't among its trailing blanks. Of a
--- match line: a `[` of it begins no closed bracket; before the first such `[` a range has no members. Of a property that has a key:
--- a blank is beside its first `=`. Of a property with a `=`: a `#` cuts it, before which no blank is. It is a match line that
--- is in its record already. Lines after it replace what it gives. What is known of properties doesn't fit it, or the
--- patterns of its record don't, or the other properties that these are given. It is a pattern that matches no text that udev asks.
+-- Whether a line of a file, of which this is the clean line, gets a warning. Its clean text begins with the three bytes of a UTF-8
+-- byte order mark, or with a tab, and so is a match line. Or a carriage return is in it, which isn't among its trailing blanks. Of
+-- a match line: a `[` of it begins no closed bracket; before the first such `[` a range has no members. Of a property that has a
+-- key: a blank is beside its first `=`. Of a property with a `=`: a `#` cuts it, before which no blank is. It is a match line that
+-- is in its record already. Lines after it replace what it gives. What is known of properties doesn't fit it, or the patterns of
+-- its record don't, or the other properties that these are given. It is a pattern that matches no text that udev asks.
 abbrev pub warns : (file : List ℕ) → WarningKind → (line clean : Line) → Bool
 warns file ByteOrderMark line l = starts_with nat_eq l.text (239 ∷ 187 ∷ 191 ∷ [])
 warns file LeadingTab line l = begins_with (byte "\t") l.text
@@ -115,7 +115,7 @@ gets allowed file line clean kind = if is_told allowed kind then warns file kind
 abbrev pub all_warnings : (allowed : List (List ℕ)) → (file : List ℕ) → (line clean : Line) → List WarningKind
 all_warnings allowed file line clean = filter (gets allowed file line clean) (line_kinds file clean)
 
--- the warnings of a line of a file; none where the line is dropped
+-- the warnings of a line of a file; none if the line is dropped
 abbrev pub line_warnings : (allowed : List (List ℕ)) → (file : List ℕ) → Line → List WarningKind
 line_warnings allowed file l = if is_dropped l then [] else all_warnings allowed file l (clean_line l)
 

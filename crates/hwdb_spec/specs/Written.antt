@@ -1,5 +1,5 @@
--- The bytes that are written for a map: those of its tight tree (the records of systemd's hwdb-internal.h; our choice are
--- the order of the nodes and that of the strings, and which of the trees with one map is written).
+-- The bytes that are written for a map: those of its tight tree (the records of systemd's hwdb-internal.h). Our choice
+-- are the order of the nodes and that of the strings, and which of the trees with one map is written.
 use Rattle.std.specs.Prelude.{List, [], ℕ, ◌∷◌, flat_map, ◌++◌, length, ◌+◌, ◌*◌, replicate, codes, IsSome, ◌-◌, ◌<◌, ◌≡◌}
 use Rattle.std.specs.FinMap.Entries.{by_order}
 use Rattle.byteorder.specs.Endian.{little_bytes}
@@ -118,8 +118,8 @@ unfoldable mutual
   pub IsForked : Tree → Type 0
   IsForked (Node prefix values children) = 0 < length values + (count children - 1)
 
--- The tree stands for the map, the root has no prefix, and no node is there without need: each other one has a value or at
--- least two children. A map has one such tree.
+-- The tree has the map, the root has no prefix, and no node is there without need. Each other one has a value or at least
+-- two children. A map has one such tree.
 pub record IsTightTree (m : Map) (t : Tree) : Type 0 where
   pub ordered : IsTree t
   pub root : prefix_of t ≡ []

@@ -1,6 +1,7 @@
 //! Why a file or folder can't be read or written, in the system's words.
 ghost use Rattle.std.specs.Prelude.{◌≤◌};
 ghost use Rattle.hwdb_spec.specs.Failures.{IsOneLine};
+ghost use Rattle.hwdb_spec.specs.declared.causes.TheConstants.{ROOM};
 
 use std::fmt::{self, Write};
 use std::io::{self, ErrorKind};
@@ -82,12 +83,12 @@ fn first_line(text: &[u8]) -> &[u8]
 /// How many bytes of a message are kept.
 const ROOM: usize = 128;
 
-/// The words of a cause, of which the first 128 bytes are kept.
+/// The words of a cause, of which the first bytes are kept.
 #[derive(Drop)]
 pub struct Message {
-    bytes: [u8; 128],
+    bytes: [u8; ROOM],
     len: usize,
-    ghost within: { len ≤ 128 },
+    ghost within: { len ≤ ROOM },
 }
 
 impl Message {
@@ -111,7 +112,7 @@ impl Message {
         &bytes[..self.len]
     }
 
-    /// Cuts the number that the library puts behind the system's words.
+    /// Cuts the number that the library puts after the system's words.
     fn drop_number(&mut self) {
         let number = b" (os error ".as_slice();
         let cut = self

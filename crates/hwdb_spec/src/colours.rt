@@ -19,6 +19,8 @@ pub enum TextKind {
     Records,
     /// `NAME: NUMBER`.
     Counts,
+    /// A device, and below it a sign, and `KEY=VALUE` and `PATH:LINE` once or twice, with tabs between.
+    DeviceChanges,
 }
 
 /// The part of a line that a byte is in.

@@ -301,7 +301,7 @@ impl From<AllocError> for NearError {
     }
 }
 
-/// Why a call refused. Each comes only where what it names stands.
+/// Why a call refused. Each comes only if what it names is so.
 #[derive(Clone, Copy, Debug, PartialEq, Eq)]
 pub enum ToolError {
     /// A source failed.
@@ -327,7 +327,7 @@ pub enum ToolError {
 }
 
 impl ToolError {
-    /// What is printed of it; a fault of the database follows where there is one.
+    /// What is printed of it; a fault of the database follows if there is one.
     pub fn words(self) -> &'static str
         ensures { result.now ≡ error_words self }
     {

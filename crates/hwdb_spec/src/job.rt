@@ -49,7 +49,7 @@ pub enum Task {
     },
     /// Print what is wrong in text files, or hardly meant.
     Check {
-        /// The text files' paths; none where both folders are meant.
+        /// The text files' paths; none if both folders are meant.
         files: Vec<String>,
         /// The names of the kinds of warnings that are left out.
         allowed: Vec<String>,
@@ -67,18 +67,18 @@ pub enum Task {
     },
     /// Print the patterns that almost matched the device.
     Near {
-        /// The text files' paths; none where the database is meant.
+        /// The text files' paths; none if the database is meant.
         files: Vec<String>,
         /// The device string.
         device: String,
-        /// How many patterns that don't match at most; none where three are meant.
+        /// How many patterns that don't match at most; none if three are meant.
         limit: Option<u64>,
         /// Whether as JSON.
         json: bool,
     },
     /// Print what udev asks for a device, and what it gets.
     Device {
-        /// The device's path or name; none where the devices are listed.
+        /// The device's path or name; none if the devices are listed.
         path: Option<String>,
         /// Whether the strings alone are printed.
         strings: bool,
@@ -93,21 +93,27 @@ pub enum Task {
         old: String,
         /// The path of the new one.
         new: String,
+        /// The paths of files that name devices; none if assignments are compared.
+        devices: Vec<String>,
+        /// Whether as JSON.
+        json: bool,
     },
     /// Say whether a file is a database that can be read, and how much is in it.
     Verify {
-        /// The database's path; none where that of `/etc/udev` or `/usr/lib/udev` is meant.
+        /// The database's path; none if that of `/etc/udev` or `/usr/lib/udev` is meant.
         database: Option<String>,
     },
     /// Print a database as a text file.
     Dump {
-        /// The database's path; none where that of `/etc/udev` or `/usr/lib/udev` is meant.
+        /// The database's path; none if that of `/etc/udev` or `/usr/lib/udev` is meant.
         database: Option<String>,
     },
     /// Say whether the database that is asked is what the text files make.
     Status {
         /// Whether as JSON.
         json: bool,
+        /// Whether the status alone says it, as that of `update --check`.
+        quiet: bool,
     },
 }
 
@@ -118,6 +124,10 @@ pub struct Job {
     pub usr: bool,
     /// Whether `update` ends with status 1 if a line had a fault, and `check` if there is a warning.
     pub strict: bool,
+    /// Whether the text files of both folders are asked, as `update` would compile them now.
+    pub text: bool,
+    /// Whether a database that is replaced between two lines of standard input is read anew.
+    pub reload: bool,
     /// What to put in front of the paths of folders and databases.
     pub root: Option<String>,
     /// When the output is coloured, as it was given.

@@ -20,6 +20,7 @@
 //! | `Texts` | each line that is printed |
 //! | `Explanations` | for each key the answer that counts and those that it overrides, and their lines |
 //! | `Differences` | what came, went and changed between two databases, and its lines |
+//! | `DeviceDifferences` | the same of what they give a device |
 //! | `Dump` | a database as text of the form that hwdb(7) describes, and whether the text says what the database assigns |
 //! | `Summary` | how much is in a database, and its lines |
 //! | `Verdicts` | what is said of bytes that are no database |
@@ -33,6 +34,7 @@
 //! | `Findings` | what `check` prints of a file: reports, or lines of JSON |
 //! | `Checks` | what `check` prints, how much it finds, and its status |
 //! | `Progress` | what `update` says of its work |
+//! | `Comparisons` | what `diff` compares, and what it prints, as text or JSON |
 //! | `ManyDevices` | what `explain` prints of several devices, and a line of devices that is too long |
 //! | `LoneFile` | one text file alone, as `ask` reads it and `dump` writes it |
 //! | `Databases` | what bytes of databases give, and what is so of bytes that are none |
@@ -51,7 +53,7 @@
 //! | `LeftOut` | text files that can't be read, and that an update leaves out |
 //! | `Asked` | the database that a command asks for, and what is printed of it |
 //! | `Library` | what the C library is told |
-//! | `Hiding` | what `update --usr --verbose` says where /etc's database hides the new one |
+//! | `Hiding` | what `update --usr --verbose` says if /etc's database hides the new one |
 //! | `Status` | what `status` says of the database that is asked, beside what the text files make |
 //! | `Done` | what `update` and `ask` leave, and what a crash leaves during an update |
 //! | `Near` | the pattern that almost matched a device, and where it stopped |
@@ -89,7 +91,7 @@
 //! | `Undone` | the errors of each task, and what they leave |
 //! | `Queries` | what `query` and `explain` print, also of standard input, and their errors |
 //! | `NamedDatabases` | the database that `verify` and `dump` read, and their errors |
-//! | `ComparedDatabases` | the errors of `diff`, with their paths |
+//! | `ComparedDatabases` | what `diff` compares, and its errors, with their paths |
 //! | `NearErrors` | the errors of `near` |
 //! | `Tested` | which test files `test` tries, and over which database |
 //! | `TestErrors` | what `test` refuses, and when |
@@ -282,7 +284,7 @@ pub struct Tally {
     pub warnings: u64,
 }
 
-/// How large the records are, and where the parts of a database stand.
+/// How large the records are, and where the parts of a database are.
 ///
 /// Sizes are in bytes, places are offsets from the start of the file.
 #[derive(Clone, Copy, Debug, PartialEq, Eq)]
@@ -301,8 +303,7 @@ pub struct Layout {
     pub strings: usize,
 }
 
-/// Why bytes are no database: the first of B1 to B5 that stands, or one of B6 to B11 with the offset
-/// at which it stands.
+/// Why bytes are no database: the first of B1 to B5 that is so, or one of B6 to B11 with its offset.
 #[derive(Clone, Copy, Debug, PartialEq, Eq)]
 pub enum DbFault {
     /// B1: there are fewer than 80 bytes.

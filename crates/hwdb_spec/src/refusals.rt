@@ -14,7 +14,7 @@ use std::alloc::{AllocError, Global};
 pub enum Refusal {
     /// A call refused.
     Plain(ToolError),
-    /// A call refused over the file or folder with this path, for this cause where one is known.
+    /// A call refused over the file or folder with this path, for this cause if one is known.
     At(ToolError, Vec<u8>, Option<Cause>),
     /// Neither database is there.
     NoDatabase,

@@ -4,7 +4,7 @@ use Rattle.hwdb_spec.specs.DeviceTree.{absolute, device_for, missing_folder, unr
 use Rattle.hwdb_spec.specs.Lines.{byte, has}
 use Rattle.hwdb_spec.specs.SysfsAnswers.{Answers, IsUnreadFor, seen}
 use Rattle.hwdb_sysfs.specs.declared.finding.Unfound.{Unfound}
-use Rattle.hwdb_sysfs.specs.declared.unread.Unread.{Unread as Found}
+use Rattle.hwdb_sysfs.specs.declared.unread.UnreadPath.{UnreadPath as Found}
 use Rattle.hwdb_sysfs.specs.declared.finding.Unfound.TheVariants.{Memory, NoSysfs, Untold, Unread, NoDevice}
 
 -- a folder of sysfs isn't there: its path leads nowhere for this cause

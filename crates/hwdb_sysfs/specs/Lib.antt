@@ -3,3 +3,4 @@ pub mod Finding
 pub mod Internal
 pub mod Tables
 pub mod Rows
+pub mod Lemmas

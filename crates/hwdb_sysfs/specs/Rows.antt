@@ -62,8 +62,9 @@ ReadRows =
       machine = codes "dmi:\n";
     }
 
--- where a device is looked for: by its name, in a class and at a bus; by a path below /sys; by its node, below /dev too; a node that
--- sysfs doesn't know by its last name. Nothing has a name that no class has, and a folder of sysfs that is none of a device's is none
+-- Where a device is looked for: by its name, in a class and at a bus, and by a path below /sys. By its node, below /dev too, and a
+-- node that sysfs doesn't know by its last name. Nothing has a name that no class has, and a folder of sysfs that is none of a
+-- device's is none
 abbrev pub FoundRows : Type 0
 FoundRows =
     map (device_for small [] (codes "/sys"))
@@ -72,7 +73,8 @@ FoundRows =
     ≡ Some (codes "/sys/devices/port/event3") ∷ Some (codes "/sys/devices/port") ∷ Some (codes "/sys/devices/port/event3") ∷ Some (codes "/sys/devices/port/event3")
     ∷ Some (codes "/sys/devices/port/event3") ∷ Some (codes "/sys/devices/port") ∷ None ∷ None ∷ None ∷ None ∷ []
 
--- what can't be read: where a link leads, or the file of the folder that it leads to; a device that can be read, and what isn't there
+-- What can't be read: where a link leads, or the file of the folder that it leads to. A device that can be read, and what isn't
+-- there.
 abbrev pub UnreadRows : Type 0
 UnreadRows =
     map (unread_for small [] (codes "/sys")) (codes "event9" ∷ codes "/dev/input/mouse2" ∷ codes "event3" ∷ codes "event33" ∷ [])

@@ -13,7 +13,7 @@ use crate::answers::{node_at, place_of, uevent_of};
 use crate::files::{DeviceFiles, DeviceNode};
 use crate::names::names_in;
 use crate::paths::{is_below_devices, joined, last_name, path_in};
-use crate::unread::{Unread, unread_of_path};
+use crate::unread::{UnreadPath, unread_of_path};
 use hwdb_io::Cause;
 use std::alloc::{AllocError, Global};
 
@@ -214,7 +214,7 @@ fn first_unread<F: DeviceFiles>(
     files: &F,
     sys: &[u8],
     paths: &[Vec<u8>],
-) -> Result<Option<Unread>, AllocError>
+) -> Result<Option<UnreadPath>, AllocError>
     ensures { F.tells → IfOk result (IsUnread (F.answers files.now)
         (tree.first_given (tree.unread_of_path (seen (F.answers files.now)) sys.now)
         (map (λ p. p.items) paths.now))) }

@@ -32,7 +32,7 @@ mod table;
 mod unread;
 
 pub use device::{Ancestor, Attribute, Device};
-pub use files::{DeviceFiles, DeviceNode};
+pub use files::{DeviceFiles, DeviceNode, NO_ENTRY};
 pub use finding::{Unfound, device_of_path, find_device, sysfs_below};
 pub use laws::worked_rows;
 pub use listing::list_links;
@@ -40,4 +40,4 @@ pub use near::near_name;
 pub use paths::{kernel_name, last_name};
 pub use reading::read_device;
 pub use table::{Row, Table, Thing};
-pub use unread::{Unread, unread_of_path};
+pub use unread::{LINK_LOOP, NO_FOLDER, UnreadPath, unread_of_path};

@@ -10,18 +10,18 @@ use crate::paths::{is_below_devices, path_in};
 use hwdb_io::Cause;
 use std::alloc::{AllocError, Global};
 
-/// The numbers of more errors that say that a path leads nowhere (errno, on Linux): no folder is on the way,
-const NO_FOLDER: i32 = 20;
+/// The number of the error that something on the way is no folder (errno, on Linux).
+pub const NO_FOLDER: i32 = 20;
 
-/// a name is too long,
+/// That of a name that is too long.
 const LONG_NAME: i32 = 36;
 
-/// and links lead round.
-const LINK_LOOP: i32 = 40;
+/// That of more links than Linux follows.
+pub const LINK_LOOP: i32 = 40;
 
 /// What can't be read.
 #[derive(Drop)]
-pub struct Unread {
+pub struct UnreadPath {
     /// Its path.
     pub path: Vec<u8>,
     /// Why that is so.
@@ -39,7 +39,11 @@ fn is_nowhere(cause: Cause) -> bool
 }
 
 /// What can't be read at a path for this cause: nothing, if the cause says that it leads nowhere.
-fn unless_nowhere(alloc: Global, path: &[u8], cause: Cause) -> Result<Option<Unread>, AllocError>
+fn unless_nowhere(
+    alloc: Global,
+    path: &[u8],
+    cause: Cause,
+) -> Result<Option<UnreadPath>, AllocError>
     ensures path { IfOk result (λ found. option_map (λ u. u.path.items) found
         ≡ (if is_nowhere cause then None else Some path.now)) }
     ensures cause { IfOk result (λ found. IfSome found (λ u. u.cause ≡ cause)) }
@@ -47,14 +51,14 @@ fn unless_nowhere(alloc: Global, path: &[u8], cause: Cause) -> Result<Option<Unr
     if is_nowhere(cause) {
         return Ok(None);
     }
-    Ok(Some(Unread {
+    Ok(Some(UnreadPath {
         path: Vec::from_slice(alloc, path)?,
         cause,
     }))
 }
 
 /// The same, if memory wasn't refused.
-fn unread_at(alloc: Global, path: &[u8], cause: Cause) -> Result<Option<Unread>, AllocError>
+fn unread_at(alloc: Global, path: &[u8], cause: Cause) -> Result<Option<UnreadPath>, AllocError>
     ensures memory { IfOk result (λ _. cause ≢ Memory) }
     ensures path { IfOk result (λ found. option_map (λ u. u.path.items) found
         ≡ (if is_nowhere cause then None else Some path.now)) }
@@ -71,7 +75,7 @@ fn unread_page<F: DeviceFiles>(
     alloc: Global,
     files: &F,
     place: &[u8],
-) -> Result<Option<Unread>, AllocError>
+) -> Result<Option<UnreadPath>, AllocError>
     ensures { F.tells → (F.answers files.now).file place.now ≡ Ok true
         → IfOk result (IsUnread (F.answers files.now)
         (tree.closed_at (seen (F.answers files.now)) place.now)) }
@@ -87,7 +91,7 @@ fn unread_file<F: DeviceFiles>(
     alloc: Global,
     files: &F,
     place: &[u8],
-) -> Result<Option<Unread>, AllocError>
+) -> Result<Option<UnreadPath>, AllocError>
     ensures { F.tells → IfOk result (IsUnread (F.answers files.now)
         (tree.closed_at (seen (F.answers files.now)) place.now)) }
 {
@@ -103,7 +107,7 @@ fn unread_text<F: DeviceFiles>(
     alloc: Global,
     files: &F,
     path: &[u8],
-) -> Result<Option<Unread>, AllocError>
+) -> Result<Option<UnreadPath>, AllocError>
     ensures { F.tells → IfOk result (IsUnread (F.answers files.now)
         (tree.lost_or (seen (F.answers files.now))
         (tree.closed_at (seen (F.answers files.now))) path.now)) }
@@ -120,7 +124,7 @@ fn unread_of_place<F: DeviceFiles>(
     files: &F,
     sys: &[u8],
     place: &[u8],
-) -> Result<Option<Unread>, AllocError>
+) -> Result<Option<UnreadPath>, AllocError>
     ensures { F.tells → IfOk result (IsUnread (F.answers files.now)
         (tree.unread_of_place (seen (F.answers files.now)) sys.now place.now)) }
 {
@@ -139,7 +143,7 @@ pub fn unread_of_path<F: DeviceFiles>(
     files: &F,
     sys: &[u8],
     path: &[u8],
-) -> Result<Option<Unread>, AllocError>
+) -> Result<Option<UnreadPath>, AllocError>
     ensures { F.tells → IfOk result (IsUnread (F.answers files.now)
         (tree.unread_of_path (seen (F.answers files.now)) sys.now path.now)) }
 {

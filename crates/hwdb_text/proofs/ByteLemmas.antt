@@ -1,14 +1,15 @@
 -- One line, seen from a place in it.
-use Rattle.std.proofs.Common.{◌≡◌, ℕ, zero, suc, ◌-◌, ◌+◌, ◌<◌, ◌≤◌, Bool, true, false, not, List, [], ◌∷◌, ◌++◌, take, drop, length, get_or, refl, ap, ◌∙◌, sym, cond, arith, map, ◌||◌, inl, inr}
+use Rattle.std.proofs.Common.{◌≡◌, ℕ, zero, suc, ◌-◌, ◌+◌, ◌<◌, ◌≤◌, Bool, true, false, not, List, [], ◌∷◌, ◌++◌, take, drop, length, get_or, refl, ap, ◌∙◌, sym, cond, arith, map, inl, inr}
 use Rattle.std.proofs.lemmas.Bool.{cases_Bool}
 use Rattle.std.proofs.lemmas.List.{take_more}
 use Rattle.std.specs.List.{position_or_len}
 use Rattle.hwdb_spec.specs.Lines.{Line, numbered, pieces, trimmed, is, has, property, is_blank, is_none, has_equals, has_key}
 use Rattle.hwdb_text.specs.Internal.Contents.{line}
-use Rattle.std.specs.List.{onto_first, before_first, after_first}
+use Rattle.std.specs.List.{before_first, after_first}
 use Rattle.hwdb_spec.specs.Records.{Origin, assign, property_assignments, property_faults, fault}
 use Rattle.hwdb_text.specs.Views.{given}
 use Rattle.hwdb_spec.specs.declared.FaultKind.TheVariants.{NoEquals, EmptyKey}
+use Rattle.hwdb_text.specs.Lemmas.Bytes.{has_none, has_some}
 
 pub place_of : (test : ℕ → Bool) (text : List ℕ) (k : ℕ) → k < length text
     → ((j : ℕ) → j < k → test (get_or text j 0) ≡ true → ⊥) → test (get_or text k 0) ≡ true → position_or_len test text ≡ k
@@ -62,22 +63,6 @@ pub trim_none : (text : List ℕ) → trimmed (take 0 text) ≡ take 0 text
 unfolding trimmed
 trim_none [] = refl
 trim_none (x ∷ text) = refl
-
-has_none_by : (t : Bool) (n k : ℕ) (r : Bool) → cond (not t) (1 + n) 0 ≡ suc k → (n ≡ k → r ≡ false) → (t || r) ≡ false
-has_none_by true n k r e f = absurd (omega arith)
-has_none_by false n k r e f = f (omega arith)
-
-has_some_by : (t : Bool) (n k : ℕ) (r : Bool) → (cond (not t) (1 + n) 0 ≡ suc k → ⊥) → ((n ≡ k → ⊥) → r ≡ true) → (t || r) ≡ true
-has_some_by true n k r e f = refl
-has_some_by false n k r e f = f (λ q. e (omega arith))
-
-pub has_none : (b : ℕ) (text : List ℕ) → position_or_len (is b) text ≡ length text → has b text ≡ false
-has_none b [] e = refl
-has_none b (x ∷ xs) e = has_none_by (is b x) (position_or_len (is b) xs) (length xs) (has b xs) e (has_none b xs)
-
-pub has_some : (b : ℕ) (text : List ℕ) → (position_or_len (is b) text ≡ length text → ⊥) → has b text ≡ true
-has_some b [] e = absurd (e refl)
-has_some b (x ∷ xs) e = has_some_by (is b x) (position_or_len (is b) xs) (length xs) (has b xs) e (has_some b xs)
 
 take_some : (n : ℕ) (text : List ℕ) → (n ≡ 0 → ⊥) → n ≤ length text → is_none (take n text) ≡ false
 take_some zero text n h = absurd (n refl)

@@ -4,7 +4,6 @@ use Rattle.std.specs.Prelude.{codes}
 use Rattle.std.proofs.lemmas.Bool.{cases_eq}
 use Rattle.std.specs.List.{position_or_len, ends_with}
 use Rattle.hwdb_spec.specs.Lines.{is, has, begins_with}
-use Rattle.hwdb_text.proofs.ByteLemmas.{has_none, has_some}
 use Rattle.std.specs.Ordering.{nat_cmp, match_ordering}
 use Rattle.std.specs.declared.cmp.Ordering.{Ordering}
 use Rattle.std.specs.declared.cmp.Ordering.TheVariants.{Less, Equal, Greater}
@@ -15,6 +14,7 @@ use Rattle.hwdb_text.specs.declared.choice.Chosen.{Chosen}
 use Rattle.hwdb_spec.specs.Folders.{Choice, counts}
 use Rattle.hwdb_text.specs.Views.{choice_of}
 use Rattle.hwdb_text.specs.Internal.Choosing.{put_all, entry_of, with_priorities}
+use Rattle.hwdb_text.specs.Lemmas.Bytes.{has_none, has_some}
 
 match_view : (o : Ordering) (a b c : List (Bor (List ℕ) × Bool)) (x y z : List (List ℕ × Bool)) → map entry_of a ≡ x → map entry_of b ≡ y → map entry_of c ≡ z
     → map entry_of (match_ordering o a b c) ≡ match_ordering o x y z

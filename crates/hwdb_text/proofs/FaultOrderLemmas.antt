@@ -14,7 +14,8 @@ use Rattle.hwdb_spec.specs.declared.FaultKind.{FaultKind}
 use Rattle.hwdb_spec.specs.declared.FaultKind.TheVariants.{StrayProperty, NoProperty, StrayMatch, NoEquals, EmptyKey, ZeroByte, LongMatch}
 use Rattle.hwdb_spec.specs.Records.{fault_number, fault_cmp, with_fault, by_line, all_faults}
 use Rattle.hwdb_text.specs.Laws.{FaultsAreAll}
-use Rattle.hwdb_text.proofs.NameSetLemmas.{equal_of, greater_of, nat_equal_by, then_equal}
+use Rattle.hwdb_text.proofs.NameSetLemmas.{greater_of, nat_equal_by}
+use Rattle.hwdb_spec.specs.Lemmas.Orders.{equal_of, then_equal}
 
 kind_at : ℕ → FaultKind
 kind_at n =

@@ -16,7 +16,8 @@ use Rattle.hwdb_spec.specs.Records.{Section, sections, fault, fault_number, faul
 use Rattle.hwdb_text.specs.Laws.{lines_of, FaultsAscend, OneListOfFaults}
 use Rattle.hwdb_text.proofs.FaultOrderLemmas.{AllFrom, Up, fault_equal, fault_total, up_in_order}
 use Rattle.hwdb_text.proofs.JoinLemmas.{sections_are_the_lines}
-use Rattle.hwdb_text.proofs.NameSetLemmas.{less_of, greater_of}
+use Rattle.hwdb_text.proofs.NameSetLemmas.{greater_of}
+use Rattle.hwdb_spec.specs.Lemmas.Orders.{less_of}
 
 -- whether it is the fault, and how often the list has the fault
 abbrev once : Fault → Fault → ℕ

@@ -18,4 +18,3 @@ pub mod JoinLemmas
 pub mod FaultSetLemmas
 pub mod EmptyLemmas
 pub mod OneLineLemmas
-pub mod PieceLemmas

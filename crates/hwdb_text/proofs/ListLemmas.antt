@@ -6,8 +6,10 @@ use Rattle.std.proofs.lemmas.List.Elements.{All-from_recursion}
 use Rattle.hwdb_spec.specs.Folders.{counts, same, lists, names, choice}
 use Rattle.hwdb_text.specs.Internal.Choosing.{chosen}
 use Rattle.hwdb_spec.specs.Selected.{IsListed}
-use Rattle.hwdb_text.proofs.NameSetLemmas.{same_equal, same_itself, names_are_those_that_count}
+use Rattle.hwdb_text.proofs.NameSetLemmas.{names_are_those_that_count}
 use Rattle.hwdb_text.proofs.StoreLemmas.{each_map, each_weaker}
+use Rattle.hwdb_spec.specs.Lemmas.Orders.{same_itself, same_text}
+use Rattle.hwdb_spec.specs.Lemmas.Truth.{or_right}
 
 contains_more : (x n : List ℕ) (xs : List (List ℕ)) → Contains xs n → Contains (x ∷ xs) n
 contains_more x n xs h = (suc h.0, (let l : h.0 < length xs = h.1 in omega arith), h.2)
@@ -15,13 +17,9 @@ contains_more x n xs h = (suc h.0, (let l : h.0 < length xs = h.1 in omega arith
 contains_of : (n : List ℕ) (xs : List (List ℕ)) → lists n xs ≡ true → Contains xs n
 contains_of n [] e = cc
 contains_of n (x ∷ xs) e = elim (cases_Bool (same x n)) [
-  | inl s ↦ (0, omega arith, same_equal x n s)
+  | inl s ↦ (0, omega arith, same_text x n s)
   | inr s ↦ contains_more x n xs (contains_of n xs (ap (λ (b : Bool). b || lists n xs) (sym s) ∙ e))
 ]
-
-or_right : (a b : Bool) → b ≡ true → (a || b) ≡ true
-or_right true b e = refl
-or_right false b e = e
 
 -- a list has each of its names
 lists_own : (xs : List (List ℕ)) → Each (λ n. lists n xs ≡ true) xs

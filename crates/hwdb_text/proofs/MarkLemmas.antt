@@ -8,15 +8,9 @@ use Rattle.hwdb_text.specs.declared.line.Content.TheVariants.{Comment, ZeroByte,
 use Rattle.hwdb_spec.specs.Lines.{is, has, begins_with, trimmed}
 use Rattle.std.specs.List.{before_first}
 use Rattle.hwdb_text.specs.Internal.Contents.{IsKind, IsContent}
-use Rattle.hwdb_text.proofs.ByteLemmas.{place_of, no_place, has_none}
-
-or_left : (a b : Bool) → a ≡ true → (a || b) ≡ true
-or_left true b e = refl
-or_left false b e = cc
-
-or_right : (a b : Bool) → b ≡ true → (a || b) ≡ true
-or_right true b e = refl
-or_right false b e = e
+use Rattle.hwdb_text.proofs.ByteLemmas.{place_of, no_place}
+use Rattle.hwdb_spec.specs.Lemmas.Truth.{or_left, or_right}
+use Rattle.hwdb_text.specs.Lemmas.Bytes.{has_none}
 
 or_other : (a b : Bool) → (a || b) ≡ true → (a ≡ true → ⊥) → b ≡ true
 or_other true b e n = absurd (n refl)

@@ -1,8 +1,8 @@
 -- Names as sets.
 use Rattle.std.proofs.Common.{◌≡◌, ℕ, ◌<◌, Bool, true, false, List, [], ◌∷◌, ◌++◌, refl, ap, ◌∙◌, sym, subst, cond, ◌||◌, inl, inr, filter}
 use Rattle.std.proofs.lemmas.Bool.{cases_Bool}
-use Rattle.std.proofs.lemmas.Cmp.{nat_list_cmp_total, tied_itself, ranked}
-use Rattle.std.specs.Ordering.{nat_cmp, is_eq, is_lt, match_ordering, ordering_reverse, ordering_then, MatchOrdering}
+use Rattle.std.proofs.lemmas.Cmp.{nat_list_cmp_total, tied_itself}
+use Rattle.std.specs.Ordering.{nat_cmp, is_eq, is_lt, match_ordering, ordering_reverse, MatchOrdering}
 use Rattle.std.specs.declared.cmp.Ordering.{Ordering}
 use Rattle.std.specs.declared.cmp.Ordering.TheVariants.{Less, Equal, Greater}
 use Rattle.std.specs.Cmp.Lexicographic.{slice_cmp}
@@ -10,16 +10,8 @@ use Rattle.hwdb_spec.specs.Folders.{counts, same, lists}
 use Rattle.hwdb_spec.specs.Assignment.{ascending, put, text_cmp}
 use Rattle.hwdb_text.specs.Laws.{is_smaller, NamesAreThoseThatCount, IsBelow, Ascends, NamesAscend, OneAscendingList}
 use Rattle.hwdb_text.specs.Internal.Choosing.{with_name}
-
-pub equal_of : (o : Ordering) → is_eq o ≡ true → o ≡ Equal
-equal_of Less e = cc
-equal_of Equal e = refl
-equal_of Greater e = cc
-
-pub less_of : (o : Ordering) → is_lt o ≡ true → o ≡ Less
-less_of Less e = refl
-less_of Equal e = cc
-less_of Greater e = cc
+use Rattle.hwdb_spec.specs.Lemmas.Orders.{less_of, same_itself, same_text}
+use Rattle.hwdb_spec.specs.Lemmas.Truth.{or_assoc}
 
 pub greater_of : (o : Ordering) → is_lt o ≡ false → is_eq o ≡ false → o ≡ Greater
 greater_of Less e f = cc
@@ -30,25 +22,6 @@ pub nat_equal_by : (o : Ordering) (x y : ℕ) → MatchOrdering o (x < y) (x ≡
 nat_equal_by Less x y m e = cc
 nat_equal_by Equal x y m e = m
 nat_equal_by Greater x y m e = cc
-
-pub then_equal : (o p : Ordering) → ordering_then o p ≡ Equal → (o ≡ Equal) × (p ≡ Equal)
-then_equal Less p e = cc
-then_equal Equal p e = (refl, e)
-then_equal Greater p e = cc
-
-bytes_equal : (m n : List ℕ) → slice_cmp nat_cmp m n ≡ Equal → m ≡ n
-bytes_equal [] [] e = refl
-bytes_equal [] (y ∷ ys) e = cc
-bytes_equal (x ∷ xs) [] e = cc
-bytes_equal (x ∷ xs) (y ∷ ys) e =
-    let t = then_equal (nat_cmp x y) (slice_cmp nat_cmp xs ys) e in
-    ap (λ (k : ℕ). k ∷ xs) (nat_equal_by (nat_cmp x y) x y (ranked x y (nat_cmp x y) refl) t.0) ∙ ap (λ (k : List ℕ). y ∷ k) (bytes_equal xs ys t.1)
-
-pub same_equal : (m n : List ℕ) → same m n ≡ true → m ≡ n
-same_equal m n e = bytes_equal m n (equal_of (slice_cmp nat_cmp m n) e)
-
-pub same_itself : (n : List ℕ) → same n n ≡ true
-same_itself n = ap is_eq (tied_itself nat_list_cmp_total n)
 
 pub smaller_trans : (a b c : List ℕ) → is_smaller a b ≡ true → is_smaller b c ≡ true → is_smaller a c ≡ true
 smaller_trans a b c e f = ap is_lt (nat_list_cmp_total.trans a b c (less_of (slice_cmp nat_cmp a b) e) (less_of (slice_cmp nat_cmp b c) f))
@@ -78,10 +51,6 @@ or_swap true false l = refl
 or_swap false true l = refl
 or_swap false false l = refl
 
-or_assoc : (a b c : Bool) → (a || (b || c)) ≡ ((a || b) || c)
-or_assoc true b c = refl
-or_assoc false b c = refl
-
 or_cond : (a b : Bool) → (a || b) ≡ cond a true b
 or_cond true b = refl
 or_cond false b = refl
@@ -95,7 +64,7 @@ lists_with_by n k m more rest false false e i = ap (λ (b : Bool). same m n || b
 pub lists_with_name : (n k : List ℕ) (set : List (List ℕ)) → lists n (with_name k set) ≡ (same k n || lists n set)
 lists_with_name n k [] = refl
 lists_with_name n k (m ∷ more) =
-    lists_with_by n k m more (with_name k more) (is_smaller k m) (same k m) (λ e. ap (λ (x : List ℕ). same x n) (sym (same_equal k m e))) (lists_with_name n k more)
+    lists_with_by n k m more (with_name k more) (is_smaller k m) (same k m) (λ e. ap (λ (x : List ℕ). same x n) (sym (same_text k m e))) (lists_with_name n k more)
 
 put_by : {A : Type 0} (o : Ordering) (a b c : A) → match_ordering o a b c ≡ cond (is_lt o) a (cond (is_eq o) b c)
 put_by Less a b c = refl
@@ -140,7 +109,7 @@ lists_filter n [] = none (counts n) where
   none false = refl
 lists_filter n (x ∷ more) =
     lists_cond n x (counts x) (filter counts more)
-    ∙ filtered_by (same x n) (counts x) (counts n) (lists n (filter counts more)) (lists n more) (λ e. ap counts (same_equal x n e)) (lists_filter n more)
+    ∙ filtered_by (same x n) (counts x) (counts n) (lists n (filter counts more)) (lists n more) (λ e. ap counts (same_text x n e)) (lists_filter n more)
 
 pub names_are_those_that_count : NamesAreThoseThatCount
 names_are_those_that_count etc usr n =
@@ -187,7 +156,7 @@ or_true false b e n = e
 pub below_listed : (a n : List ℕ) (set : List (List ℕ)) → IsBelow a set → lists n set ≡ true → is_smaller a n ≡ true
 below_listed a n [] b e = cc
 below_listed a n (m ∷ more) b e = elim (cases_Bool (same m n)) [
-  | inl s ↦ let P : List ℕ → Type 0 = λ x. is_smaller a x ≡ true in subst P (same_equal m n s) b.0
+  | inl s ↦ let P : List ℕ → Type 0 = λ x. is_smaller a x ≡ true in subst P (same_text m n s) b.0
   | inr s ↦ below_listed a n more b.1 (or_true (same m n) (lists n more) e (λ t. let k : false ≡ true = sym s ∙ t in cc))
 ]
 
@@ -207,16 +176,16 @@ or_rest false a b e h = h
 rests_agree : (x : List ℕ) (xs ys : List (List ℕ)) → IsBelow x xs → IsBelow x ys → ((n : List ℕ) → lists n (x ∷ xs) ≡ lists n (x ∷ ys)) → (n : List ℕ) → lists n xs ≡ lists n ys
 rests_agree x xs ys a b h n =
     or_rest (same x n) (lists n xs) (lists n ys)
-    (λ s. let P : List ℕ → Type 0 = λ m. lists m xs ≡ lists m ys in subst P (same_equal x n s) (not_in_rest x xs a ∙ sym (not_in_rest x ys b)))
+    (λ s. let P : List ℕ → Type 0 = λ m. lists m xs ≡ lists m ys in subst P (same_text x n s) (not_in_rest x xs a ∙ sym (not_in_rest x ys b)))
     (h n)
 
 first_is_same : (x y : List ℕ) (xs ys : List (List ℕ)) → IsBelow x xs → IsBelow y ys → lists x (y ∷ ys) ≡ true → lists y (x ∷ xs) ≡ true → x ≡ y
 first_is_same x y xs ys a b l m = elim (cases_Bool (same x y)) [
-  | inl s ↦ same_equal x y s
+  | inl s ↦ same_text x y s
   | inr s ↦
       let less : is_smaller x y ≡ true = below_listed x y xs a (or_true (same x y) (lists y xs) m (λ t. let k : false ≡ true = sym s ∙ t in cc)) in
       elim (cases_Bool (same y x)) [
-        | inl t ↦ sym (same_equal y x t)
+        | inl t ↦ sym (same_text y x t)
         | inr t ↦
             let more : is_smaller y x ≡ true = below_listed y x ys b (or_true (same y x) (lists x ys) l (λ u. let k : false ≡ true = sym t ∙ u in cc)) in
             let k : true ≡ false = sym more ∙ smaller_back x y less in cc

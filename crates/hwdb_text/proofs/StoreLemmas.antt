@@ -1,5 +1,5 @@
 -- What is read of a file, and what is chosen, can be held by a database.
-use Rattle.std.proofs.Common.{◌≡◌, ℕ, zero, suc, ◌+◌, ◌-◌, ◌≤◌, Bool, true, false, not, List, [], ◌∷◌, ◌++◌, take, drop, length, map, refl, sym, subst, cond, ◌||◌, inl, inr, arith, All, filter}
+use Rattle.std.proofs.Common.{◌≡◌, ℕ, zero, suc, ◌+◌, ◌-◌, ◌≤◌, Bool, true, false, not, List, [], ◌∷◌, ◌++◌, take, drop, length, map, refl, sym, subst, cond, inl, inr, arith, All, filter}
 use Rattle.std.specs.Prelude.{codes, nat_eq, flat_map}
 use Rattle.std.specs.List.{position_or_len, prefix_len, ends_with, AllByRecursion as Each}
 use Rattle.std.proofs.lemmas.Bool.{cases_Bool, ltb-false}
@@ -15,6 +15,7 @@ use Rattle.hwdb_text.proofs.NameSetLemmas.{put_is}
 use Rattle.hwdb_text.specs.Views.{HasNoZero, IsStorable, IsStorableChoice}
 use Rattle.hwdb_spec.specs.Assignment.{ascending}
 use Rattle.hwdb_text.specs.Laws.{is_smaller}
+use Rattle.hwdb_spec.specs.Lemmas.Truth.{neither_or, or_neither}
 
 each_append : {X : Type 0} (P : X → Type 0) (xs ys : List X) → Each P xs → Each P ys → Each P (xs ++ ys)
 each_append P [] ys a b = b
@@ -36,41 +37,33 @@ each_cond : {X : Type 0} (P : X → Type 0) (b : Bool) (xs ys : List X) → Each
 each_cond P true xs ys a b = a
 each_cond P false xs ys a b = b
 
-or_no : (a b : Bool) → (a || b) ≡ false → (a ≡ false) × (b ≡ false)
-or_no true b e = cc
-or_no false b e = (refl, e)
-
-no_or : (a b : Bool) → a ≡ false → b ≡ false → (a || b) ≡ false
-no_or true b e f = cc
-no_or false b e f = f
-
 zero_take : (n : ℕ) (text : List ℕ) → HasNoZero text → HasNoZero (take n text)
 zero_take zero [] h = h
 zero_take zero (x ∷ text) h = refl
 zero_take (suc n) [] h = h
 zero_take (suc n) (x ∷ text) h =
-    let s = or_no (is 0 x) (has 0 text) h in no_or (is 0 x) (has 0 (take n text)) s.0 (zero_take n text s.1)
+    let s = or_neither (is 0 x) (has 0 text) h in neither_or (is 0 x) (has 0 (take n text)) s.0 (zero_take n text s.1)
 
 zero_drop : (n : ℕ) (text : List ℕ) → HasNoZero text → HasNoZero (drop n text)
 zero_drop zero text h = h
 zero_drop (suc n) [] h = h
-zero_drop (suc n) (x ∷ text) h = zero_drop n text (or_no (is 0 x) (has 0 text) h).1
+zero_drop (suc n) (x ∷ text) h = zero_drop n text (or_neither (is 0 x) (has 0 text) h).1
 
 zero_trim_by : (b : Bool) (x : ℕ) (text : List ℕ) → is 0 x ≡ false → HasNoZero text → HasNoZero (cond b [] (x ∷ text))
 zero_trim_by true x text e h = refl
-zero_trim_by false x text e h = no_or (is 0 x) (has 0 text) e h
+zero_trim_by false x text e h = neither_or (is 0 x) (has 0 text) e h
 
 zero_trim : (text : List ℕ) → HasNoZero text → HasNoZero (trimmed text)
 unfolding trimmed
 zero_trim [] h = h
 zero_trim (x ∷ text) h =
-    let s = or_no (is 0 x) (has 0 text) h in
+    let s = or_neither (is 0 x) (has 0 text) h in
     zero_trim_by (cond (is_none (trimmed text)) (is_blank x) false) x (trimmed text) s.0 (zero_trim text s.1)
 
 zero_append : (xs ys : List ℕ) → HasNoZero xs → HasNoZero ys → HasNoZero (xs ++ ys)
 zero_append [] ys a b = b
 zero_append (x ∷ xs) ys a b =
-    let s = or_no (is 0 x) (has 0 xs) a in no_or (is 0 x) (has 0 (xs ++ ys)) s.0 (zero_append xs ys s.1 b)
+    let s = or_neither (is 0 x) (has 0 xs) a in neither_or (is 0 x) (has 0 (xs ++ ys)) s.0 (zero_append xs ys s.1 b)
 
 abbrev Whole : Line → Type 0
 Whole l = HasNoZero l.text

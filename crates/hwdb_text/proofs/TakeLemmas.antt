@@ -12,7 +12,8 @@ use Rattle.hwdb_spec.specs.Folders.{Choice, counts, same, lists, names, choice}
 use Rattle.hwdb_text.specs.Laws.{is_smaller, IsBelow, Ascends}
 use Rattle.hwdb_text.specs.Internal.Choosing.{with_name, entry_of, put_all, all_names, with_priorities}
 use Rattle.hwdb_text.proofs.ChoiceLemmas.{put_yes, put_no}
-use Rattle.hwdb_text.proofs.NameSetLemmas.{same_equal, same_itself, smaller_itself, smaller_not_same, smaller_back, lists_with_name, lists_filter, ascends_with_name, below_listed, one_ascending_list, names_ascend, names_are_those_that_count}
+use Rattle.hwdb_text.proofs.NameSetLemmas.{smaller_itself, smaller_not_same, smaller_back, lists_with_name, lists_filter, ascends_with_name, below_listed, one_ascending_list, names_ascend, names_are_those_that_count}
+use Rattle.hwdb_spec.specs.Lemmas.Orders.{same_itself, same_text}
 
 abbrev firsts : List (List ℕ × Bool) → List (List ℕ)
 firsts es = map (λ e. e.0) es
@@ -99,7 +100,7 @@ apart_by false false v w t n = refl
 -- names that differ aren't both equal to a third
 alike : (k m n : List ℕ) → same k m ≡ false → same k n ≡ true → same m n ≡ true → ⊥
 alike k m n g a b =
-    let e : k ≡ m = same_equal k n a ∙ sym (same_equal m n b) in
+    let e : k ≡ m = same_text k n a ∙ sym (same_text m n b) in
     let P : List ℕ → Type 0 = λ x. same k x ≡ false in
     let f : same k k ≡ false = subst P (sym e) g in
     let c : true ≡ false = sym (same_itself k) ∙ f in cc
@@ -108,7 +109,7 @@ insert_by : (o : Ordering) (n k : List ℕ) (v : Bool) (e : List ℕ × Bool) (e
     → taken n fs ≡ cond (same k n) (Some v) (taken n es)
     → taken n (match_ordering o ((k, v) ∷ (e ∷ es)) ((e.0, v) ∷ es) (e ∷ fs)) ≡ cond (same k n) (Some v) (cond (same e.0 n) (Some (e.1)) (taken n es))
 insert_by Less n k v e es fs o i = refl
-insert_by Equal n k v e es fs o i = equal_by (same k n) (same e.0 n) (Some v) (Some (e.1)) (taken n es) (ap (λ (x : List ℕ). same x n) (same_equal k e.0 (ap is_eq o)))
+insert_by Equal n k v e es fs o i = equal_by (same k n) (same e.0 n) (Some v) (Some (e.1)) (taken n es) (ap (λ (x : List ℕ). same x n) (same_text k e.0 (ap is_eq o)))
 insert_by Greater n k v e es fs o i =
     ap (λ (t : Option Bool). cond (same e.0 n) (Some (e.1)) t) i ∙ apart_by (same k n) (same e.0 n) (Some v) (Some (e.1)) (taken n es) (alike k e.0 n (ap is_eq o))
 

@@ -3,3 +3,4 @@ pub mod PiecesLeft
 pub mod Laws
 pub mod Rows
 pub mod Internal
+pub mod Lemmas

@@ -92,13 +92,21 @@ fn trim(text: &[u8]) -> &[u8]
     &text[..end]
 }
 
-/// A property line without its leading spaces and tabs.
-pub fn unindented(text: &[u8]) -> &[u8]
-    ensures { result.now ≡ drop (prefix_len Lines.is_indent text.now) text.now }
+/// How many spaces and tabs a line begins with.
+pub fn indent_of(text: &[u8]) -> usize
+    ensures place { result ≡ prefix_len Lines.is_indent text.now }
+    ensures within { result ≤ length text.now }
 {
     let mut at = 0;
     while at < text.len() && (text[at] == b' ' || text[at] == b'\t') {
         at += 1;
     }
-    &text[at..]
+    at
+}
+
+/// A property line without its leading spaces and tabs.
+pub fn unindented(text: &[u8]) -> &[u8]
+    ensures { result.now ≡ drop (prefix_len Lines.is_indent text.now) text.now }
+{
+    &text[indent_of(text)..]
 }

@@ -22,9 +22,9 @@ use Rattle.hwdb_spec.specs.Reasons.{HasAskedReason, IsOfAsked}
 use Rattle.hwdb_spec.specs.Undone.{IsUnanswered, IsUnfound}
 use Rattle.hwdb_tool.specs.Views.{IsNotPrinted}
 use Rattle.hwdb_tool.specs.declared.answer.Answer.{Answer}
-use Rattle.hwdb_tool.proofs.UsageLemmas.{failed_call}
 use Rattle.hwdb_spec.specs.declared.refusals.Refusal.{Refusal}
 use Rattle.hwdb_spec.specs.declared.refusals.Refusal.TheVariants.{At, InWords, NoDatabase, Plain}
+use Rattle.hwdb_spec.specs.Lemmas.Calls.{failed_call}
 
 -- reading the database that is asked
 pub unfound : (root : List ℕ) (contents : Contents) (path : List ℕ) (refusal : Refusal) → IsAskedPath root contents path → IsUnreadAt contents path refusal → IsUnfound root contents refusal

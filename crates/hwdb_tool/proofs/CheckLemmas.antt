@@ -24,6 +24,7 @@ use Rattle.hwdb_spec.specs.Undone.{AreNotChecked, AreUncheckable, IsCheckRefused
 use Rattle.hwdb_spec.specs.declared.refusals.Refusal.{Refusal}
 use Rattle.hwdb_tool.specs.Views.{texts_in}
 use Rattle.hwdb_tool.specs.declared.answer.Answer.{Answer}
+use Rattle.hwdb_spec.specs.Lemmas.Truth.{or_left, or_right}
 
 -- a given file, by its place
 pub given_path : (given : List (String Global)) (k : ℕ) (path : String Global) → path ≡ get_or given k path → k < length given → Contains (map string_bytes given) (string_bytes path)
@@ -107,14 +108,6 @@ rest_of : List (Option (List ℕ)) → List (Option (List ℕ))
 rest_of [] = []
 rest_of (o ∷ more) = more
 
-true_or : (a b : Bool) → a ≡ true → (a || b) ≡ true
-true_or true b e = refl
-true_or false b e = absurd (cc)
-
-or_true : (a b : Bool) → b ≡ true → (a || b) ≡ true
-or_true true b e = refl
-or_true false b e = e
-
 abbrev IsHeld : (input : Option (List ℕ)) (contents : Contents) → Source → Type 0
 IsHeld input contents s = IsGiven s.name input contents s.bytes
 
@@ -127,8 +120,8 @@ all_given input contents text (f ∷ files) read told =
     let dash = is_dash f.path.now in
     let others = any_dash (map (λ f. f.path.now) files) in
     All-cons (IsHeld input contents) (source_of f) (map source_of files)
-    (is_from dash f.path.now f.bytes.now text input contents (sym (ap first_of read)) (λ e. told (true_or dash others e)))
-    (all_given input contents text files (ap rest_of read) (λ e. told (or_true dash others e)))
+    (is_from dash f.path.now f.bytes.now text input contents (sym (ap first_of read)) (λ e. told (or_left dash others e)))
+    (all_given input contents text files (ap rest_of read) (λ e. told (or_right dash others e)))
 
 pub given_sources : (input : Option (List ℕ)) (contents : Contents) (text : List ℕ) (given texts : List (List ℕ)) (files : List TextFile) → AreTextsGiven text contents given texts
     → (any_dash given ≡ true → IfSome input (λ told. text ≡ told))
@@ -166,7 +159,7 @@ any_at f xs i x d is lt dash some before =
 pub any_behind : {X : Type 0} (f : X → List ℕ) (xs : List X) (n : ℕ) → length xs ≤ n → any_dash (map f (drop n xs)) ≡ any_dash (map f xs) → false ≡ any_dash (map f xs)
 any_behind f xs n le before = sym (ap (λ l. any_dash (map f l)) (drop_all n xs le)) ∙ before
 
--- the text of standard input, behind a borrow
+-- the text of standard input, by a borrow
 pub told_of : (given : List (List ℕ)) (input : Option (List ℕ)) (text read : List ℕ) → text ≡ read → (any_dash given ≡ true → IfSome input (λ told. read ≡ told))
     → any_dash given ≡ true → IfSome input (λ told. text ≡ told)
 told_of given input text read same told e = subst (λ (t : List ℕ). IfSome input (λ told. t ≡ told)) (sym same) (told e)

@@ -1,9 +1,10 @@
 -- A device, the lines of all of them, and what is said if there is none.
-use Rattle.std.proofs.Common.{◌≡◌, ◌<◌, ◌≤◌, ◌+◌, ◌∙◌, ◌++◌, ◌∷◌, [], ap, append_assoc, false, flat_map, get_or, if◌then◌else◌, is_some, length, map, not, refl, sym, take, true, Bool, Global, List, Vec, ℕ}
-use Rattle.std.proofs.lemmas.List.{flat_map_more, map-append, take_all, take_more}
+use Rattle.std.proofs.Common.{◌≡◌, ◌<◌, ◌≤◌, ◌+◌, ◌∙◌, ◌++◌, [], ap, append_assoc, false, flat_map, get_or, if◌then◌else◌, is_some, length, map, not, refl, sym, take, true, Bool, Global, List, Vec, ℕ}
+use Rattle.std.proofs.lemmas.List.{flat_map_more, take_all}
 use Rattle.hwdb_spec.specs.DeviceAsked.{leads_nowhere}
 use Rattle.hwdb_spec.specs.DeviceTree.{Sight, absolute}
 use Rattle.hwdb_spec.specs.Lines.{byte, has}
+use Rattle.hwdb_sysfs.specs.Lemmas.Names.{items, one_more}
 
 -- a text, and four pieces after it
 pub four_pieces : (t a b k e t0 t1 t2 t3 t4 : List ℕ) → t0 ≡ t → t1 ≡ t0 ++ a → t2 ≡ t1 ++ b → t3 ≡ t2 ++ k → t4 ≡ t3 ++ e
@@ -23,14 +24,6 @@ row_made t a k p e t1 t2 t3 t4 name is h1 h2 h3 h4 =
     ∙ ap (λ (l : List ℕ). t ++ (l ++ (k ++ (p ++ e)))) is
     ∙ ap (λ (l : List ℕ). t ++ (a ++ l)) (sym (append_assoc k p e))
     ∙ ap (λ (l : List ℕ). t ++ l) (sym (append_assoc a (k ++ p) e))
-
-abbrev pub items : Vec ℕ Global → List ℕ
-items v = v.items
-
--- so many places and one more
-one_more : (xs : List (Vec ℕ Global)) (i : ℕ) (d x : Vec ℕ Global) → i < length xs → x ≡ get_or xs i d → map items (take (i + 1) xs) ≡ map items (take i xs) ++ x.items ∷ []
-one_more xs i d x lt is =
-    ap (map items) (take_more xs i d lt) ∙ map-append items (take i xs) (get_or xs i d ∷ []) ∙ ap (λ (v : Vec ℕ Global). map items (take i xs) ++ v.items ∷ []) (sym is)
 
 -- the lines of so many places and of one more
 pub rows_more : (f : List ℕ → List ℕ) (xs : List (Vec ℕ Global)) (i : ℕ) (d x : Vec ℕ Global) (done new : List ℕ) → i < length xs → x ≡ get_or xs i d

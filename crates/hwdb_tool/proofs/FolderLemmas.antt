@@ -1,16 +1,10 @@
 -- The files of two folders, and those that were read of them.
 use Rattle.std.proofs.Common.{◌≡◌, ◌∙◌, ap, sym, refl, subst, ℕ, zero, suc, ◌≤◌, true, false, Bool, List, [], ◌∷◌, ◌++◌, map, length, get_or, arith, append_assoc, Option, Some, None, if◌then◌else◌, All}
 use Rattle.std.specs.Prelude.{Contains, codes, drop, is_some}
-use Rattle.std.specs.Ordering.{is_eq}
-use Rattle.std.specs.FinMap as finite
 use Rattle.std.specs.Option.{option_map_or}
-use Rattle.std.specs.declared.cmp.Ordering.{Ordering}
-use Rattle.std.specs.declared.cmp.Ordering.TheVariants.{Less, Equal, Greater}
 use Rattle.std.proofs.lemmas.Bool.{or_parts}
-use Rattle.std.proofs.lemmas.Cmp.{nat_list_cmp_total, tied_itself}
 use Rattle.std.proofs.lemmas.List.{length-map}
 use Rattle.std.proofs.lemmas.List.Elements.{All-nil, All-cons, All-head, All-tail, All-map}
-use Rattle.hwdb_spec.specs.Assignment.{text_cmp}
 use Rattle.hwdb_spec.specs.Folders.{Choice, Source, same, lists, names, choice, chosen_of, contents, first_of, path_of, max_files}
 use Rattle.hwdb_spec.specs.Store.{Contents, path_in}
 use Rattle.hwdb_spec.specs.System.{bytes_at, AreNamesIn, AreFilesIn, etc_files, usr_files}
@@ -21,6 +15,7 @@ use Rattle.hwdb_tool.specs.Internal.{AreReadOf}
 use Rattle.hwdb_spec.specs.Reading.{IsText}
 use Rattle.hwdb_spec.specs.Texts.{max_file}
 use Rattle.hwdb_spec.specs.Readable.{AreAllRead}
+use Rattle.hwdb_spec.specs.Lemmas.Orders.{equal_of, same_itself, same_text}
 
 -- what an option holds, or nothing
 abbrev value : Option (List ℕ) → List ℕ
@@ -49,18 +44,6 @@ are_files folder seen listed are = record {
       (λ k d lt. some_value _ (are.each k d lt).there);
 }
 
--- ---- names
-equal_is : (o : Ordering) → is_eq o ≡ true → o ≡ Equal
-equal_is Less e = absurd (cc)
-equal_is Equal e = refl
-equal_is Greater e = absurd (cc)
-
-same_name : (a b : List ℕ) → same a b ≡ true → a ≡ b
-same_name a b e = finite.slice_cmp-IsAntisymmetric finite.nat_cmp-IsAntisymmetric a b (equal_is (text_cmp a b) e)
-
-same_itself : (a : List ℕ) → same a a ≡ true
-same_itself a = ap is_eq (tied_itself nat_list_cmp_total a)
-
 in_rest : (n name : List ℕ) (listed : List (List ℕ)) → same name n ≡ false → Contains (n ∷ listed) name → Contains listed name
 in_rest n name listed e (zero, lt, is) = absurd (let h : same name n ≡ true = ap (same name) is ∙ same_itself name in cc)
 in_rest n name listed e (suc k, lt, is) = (k, omega (arith, lt), is)
@@ -72,7 +55,7 @@ unfolding first_of
 first_at folder seen name others [] has = absurd (let h = has.1 in omega (arith, h))
 first_at folder seen name others (n ∷ listed) has =
     elim (same name n) as (λ b. same name n ≡ b → (if b then value (bytes_at seen (path_in folder n)) else first_of name (files_at folder seen listed) others) ≡ value (bytes_at seen (path_in folder name))) [
-      | true ↦ λ e. ap (λ m. value (bytes_at seen (path_in folder m))) (sym (same_name name n e))
+      | true ↦ λ e. ap (λ m. value (bytes_at seen (path_in folder m))) (sym (same_text name n e))
       | false ↦ λ e. first_at folder seen name others listed (in_rest n name listed e has)
     ] refl
 
@@ -84,7 +67,7 @@ first_not folder seen name others [] none = refl
 first_not folder seen name others (n ∷ listed) none =
     let parts = or_parts (same n name) (lists name listed) none in
     elim (same name n) as (λ b. same name n ≡ b → (if b then value (bytes_at seen (path_in folder n)) else first_of name (files_at folder seen listed) others) ≡ others) [
-      | true ↦ λ e. absurd (let h : same n name ≡ true = ap (λ m. same m name) (sym (same_name name n e)) ∙ same_itself name in let k = parts.0 in cc)
+      | true ↦ λ e. absurd (let h : same n name ≡ true = ap (λ m. same m name) (sym (same_text name n e)) ∙ same_itself name in let k = parts.0 in cc)
       | false ↦ λ e. first_not folder seen name others listed parts.1
     ] refl
 

@@ -1,5 +1,5 @@
 -- The text files for which given paths stand.
-use Rattle.std.proofs.Common.{◌≡◌, ◌<◌, ◌∙◌, ◌++◌, ◌+◌, ◌==◌, ◌||◌, ◌&&◌, ap, sym, refl, subst, inl, append_assoc, arith, eqb-true, ℕ, zero, suc, Bool, true, false, List, [], ◌∷◌, length, map, take, drop, take-append-drop, get_or, string_bytes, Global, String, Result, IfErr, if◌then◌else◌}
+use Rattle.std.proofs.Common.{◌≡◌, ◌<◌, ◌∙◌, ◌++◌, ◌+◌, ◌==◌, ◌&&◌, ap, sym, refl, subst, inl, append_assoc, arith, eqb-true, ℕ, zero, suc, Bool, true, false, List, [], ◌∷◌, length, map, take, drop, take-append-drop, get_or, string_bytes, Global, String, Result, IfErr, if◌then◌else◌}
 use Rattle.std.specs.Prelude.{nat_eq}
 use Rattle.std.specs.Result.{IsErrAnd}
 use Rattle.std.proofs.lemmas.List.{map-append, take_more}
@@ -11,7 +11,8 @@ use Rattle.hwdb_spec.specs.declared.refusals.Refusal.{Refusal}
 use Rattle.hwdb_spec.specs.declared.refusals.Refusal.TheVariants.{Plain}
 use Rattle.hwdb_spec.specs.declared.errors.ToolError.TheVariants.{Memory}
 use Rattle.hwdb_spec.specs.GivenFolders.{AreFoldersUnread, IsFolderUnread}
-use Rattle.hwdb_tool.proofs.ErrorLemmas.{given_error}
+use Rattle.hwdb_spec.specs.Lemmas.Calls.{given_error}
+use Rattle.hwdb_spec.specs.Lemmas.Truth.{neither_or, or_neither}
 
 -- ---- the folder that a path names
 pub with_slash : (path : List ℕ) → folder_of (path ++ 47 ∷ []) ≡ path
@@ -82,15 +83,6 @@ pub memory_unread : {T : Type 0} (contents : Contents) (given : List (String Glo
 memory_unread contents given k path own r is lt stand memory =
     given_error (Plain Memory) (AreFoldersUnread contents (map string_bytes given)) r memory (one_unread contents given k path own (Plain Memory) is lt stand (inl tt))
 
--- ---- none is `-`
-neither : (a b : Bool) → (a || b) ≡ false → (a ≡ false) × (b ≡ false)
-neither true b e = absurd (cc)
-neither false b e = (refl, e)
-
-not_both : (a b : Bool) → a ≡ false → b ≡ false → (a || b) ≡ false
-not_both true b e f = absurd (cc)
-not_both false b e f = f
-
 and_none : (a : Bool) → (a && false) ≡ false
 and_none true = refl
 and_none false = refl
@@ -98,13 +90,13 @@ and_none false = refl
 pub none_more : (xs ys : List (List ℕ)) → any_dash xs ≡ false → any_dash ys ≡ false → any_dash (xs ++ ys) ≡ false
 none_more [] ys a b = b
 none_more (x ∷ xs) ys a b =
-    let parts = neither (is_dash x) (any_dash xs) a in
-    not_both (is_dash x) (any_dash (xs ++ ys)) parts.0 (none_more xs ys parts.1 b)
+    let parts = or_neither (is_dash x) (any_dash xs) a in
+    neither_or (is_dash x) (any_dash (xs ++ ys)) parts.0 (none_more xs ys parts.1 b)
 
 pub member_plain : {X : Type 0} (f : X → List ℕ) (xs : List X) (i : ℕ) (x : X) → x ≡ get_or xs i x → i < length xs → any_dash (map f xs) ≡ false → is_dash (f x) ≡ false
 member_plain f [] i x is lt none = absurd (omega (arith, lt))
-member_plain f (y ∷ more) zero x is lt none = ap (λ p. is_dash (f p)) is ∙ (neither (is_dash (f y)) (any_dash (map f more)) none).0
-member_plain f (y ∷ more) (suc i) x is lt none = member_plain f more i x is (omega (arith, lt)) (neither (is_dash (f y)) (any_dash (map f more)) none).1
+member_plain f (y ∷ more) zero x is lt none = ap (λ p. is_dash (f p)) is ∙ (or_neither (is_dash (f y)) (any_dash (map f more)) none).0
+member_plain f (y ∷ more) (suc i) x is lt none = member_plain f more i x is (omega (arith, lt)) (or_neither (is_dash (f y)) (any_dash (map f more)) none).1
 
 slash_plain : (folder name : List ℕ) → is_dash (path_in folder name) ≡ false
 slash_plain [] name = refl
@@ -113,7 +105,7 @@ slash_plain (b ∷ c ∷ more) name = and_none (nat_eq b 45)
 
 paths_plain : (folder : List ℕ) (cs : List Choice) → any_dash (map (λ (c : Choice). path_in folder c.name) cs) ≡ false
 paths_plain folder [] = refl
-paths_plain folder (c ∷ cs) = not_both (is_dash (path_in folder c.name)) (any_dash (map (λ (c : Choice). path_in folder c.name) cs)) (slash_plain folder c.name) (paths_plain folder cs)
+paths_plain folder (c ∷ cs) = neither_or (is_dash (path_in folder c.name)) (any_dash (map (λ (c : Choice). path_in folder c.name) cs)) (slash_plain folder c.name) (paths_plain folder cs)
 
 pub folder_plain : (folder : List ℕ) (cs : List Choice) (own : List (List ℕ)) → own ≡ map (λ (c : Choice). path_in folder c.name) cs → any_dash own ≡ false
 folder_plain folder cs own is = ap any_dash is ∙ paths_plain folder cs

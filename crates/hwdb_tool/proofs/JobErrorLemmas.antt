@@ -1,5 +1,5 @@
 -- Words ask for one job, which ends with one error over one input, or is done.
-use Rattle.std.proofs.Common.{◌≡◌, ◌∙◌, ◌∷◌, ⊎_elim, ap, map, sym, subst, refl, Bool, false, List, [], ℕ, Option, None, Some, string_bytes}
+use Rattle.std.proofs.Common.{◌≡◌, ◌∙◌, ◌∷◌, ⊎_elim, ap, map, sym, subst, refl, Bool, true, false, true≢false, List, [], ℕ, Option, None, Some, string_bytes}
 use Rattle.std.specs.Prelude.{codes, option_map}
 use Rattle.clap.specs.Faults.{fault_of}
 use Rattle.clap.specs.Kinds.{IsAmong, Kinds}
@@ -30,7 +30,7 @@ use Rattle.hwdb_spec.specs.Undone.{IsUnwritable}
 use Rattle.hwdb_tool.proofs.DatabaseErrorLemmas.{OneHeader, OneTree, Undumped, Unlisted, Unverified}
 use Rattle.hwdb_tool.proofs.AskErrorLemmas.{OneForm, Unasked}
 use Rattle.hwdb_tool.proofs.DiffErrorLemmas.{Undiffed}
-use Rattle.hwdb_tool.proofs.JobLemmas.{apart, cut_last, is_named, one_value, one_values, same_root, word_of}
+use Rattle.hwdb_tool.proofs.JobLemmas.{apart, both_words, cut_last, is_named, one_value, one_values, same_root, word_of}
 use Rattle.hwdb_tool.proofs.TrialErrorLemmas.{Untested}
 use Rattle.hwdb_tool.proofs.TaskErrorLemmas.{IsLeftThen, OneStand, Unchecked, Uncompared, Why, end_of, not_both_ends, said_first, why}
 
@@ -45,13 +45,20 @@ module _ (name : Text) (inner : List Row) where
   same_kind (Diff old1 new1) (Diff old2 new2) t u kind = tt
   same_kind (Verify database1) (Verify database2) t u kind = tt
   same_kind (Dump database1) (Dump database2) t u kind = tt
-  same_kind (Status json1) (Status json2) t u kind = absurd kind
-  same_kind (Update v1 k1) (Update v2 k2) t u kind = u.2 ∙ sym t.2 ∙ kind
+  same_kind (Status json1 false) (Status json2 false) t u kind = tt
+  same_kind (Status json1 true) (Status json2 true) t u kind = tt
+  same_kind (Status json1 true) (Update v2 k2) t u kind = both_words t.1 u.1
+  same_kind (Update v1 k1) (Status json2 true) t u kind = both_words u.1 t.1
+  same_kind (Update v1 k1) (Update v2 k2) t u kind = u.3 ∙ sym t.3 ∙ kind
   same_kind (Ask file1 device1) (Ask file2 device2) t u kind = tt
   same_kind (Check files1 allowed1 json1) (Check files2 allowed2 json2) t u kind = tt
   same_kind (Near files1 device1 limit1 json1) (Near files2 device2 limit2 json2) t u kind = tt
   same_kind (Test files1 database1 json1) (Test files2 database2 json2) t u kind = tt
   same_kind (Device path1 strings1 json1 pattern1) (Device path2 strings2 json2 pattern2) t u kind = absurd kind
+  same_kind (Status json1 false) task2 t u kind = apart (codes "status") (word_of task2) refl (sym (is_named name inner (Status json1 false) t) ∙ is_named name inner task2 u)
+  same_kind (Status json1 true) task2 t u kind = apart (codes "update") (word_of task2) refl (sym (is_named name inner (Status json1 true) t) ∙ is_named name inner task2 u)
+  same_kind task1 (Status json2 false) t u kind = apart (word_of task1) (codes "status") refl (sym (is_named name inner task1 t) ∙ is_named name inner (Status json2 false) u)
+  same_kind task1 (Status json2 true) t u kind = apart (word_of task1) (codes "update") refl (sym (is_named name inner task1 t) ∙ is_named name inner (Status json2 true) u)
   same_kind task1 task2 t u kind = apart (word_of task1) (word_of task2) refl (sym (is_named name inner task1 t) ∙ is_named name inner task2 u)
 
   same_status : (t u : Task) → IsTask name inner t → IsTask name inner u → refused_status t ≡ refused_status u
@@ -61,13 +68,20 @@ module _ (name : Text) (inner : List Row) where
   same_status (Diff old1 new1) (Diff old2 new2) t u = refl
   same_status (Verify database1) (Verify database2) t u = refl
   same_status (Dump database1) (Dump database2) t u = refl
-  same_status (Status json1) (Status json2) t u = refl
+  same_status (Status json1 false) (Status json2 false) t u = refl
+  same_status (Status json1 true) (Status json2 true) t u = refl
+  same_status (Status json1 true) (Update v2 k2) t u = refl
+  same_status (Update v1 k1) (Status json2 true) t u = refl
   same_status (Update v1 k1) (Update v2 k2) t u = refl
   same_status (Ask file1 device1) (Ask file2 device2) t u = refl
   same_status (Check files1 allowed1 json1) (Check files2 allowed2 json2) t u = refl
   same_status (Near files1 device1 limit1 json1) (Near files2 device2 limit2 json2) t u = refl
   same_status (Test files1 database1 json1) (Test files2 database2 json2) t u = refl
   same_status (Device path1 strings1 json1 pattern1) (Device path2 strings2 json2 pattern2) t u = refl
+  same_status (Status json1 false) task2 t u = apart (codes "status") (word_of task2) refl (sym (is_named name inner (Status json1 false) t) ∙ is_named name inner task2 u)
+  same_status (Status json1 true) task2 t u = apart (codes "update") (word_of task2) refl (sym (is_named name inner (Status json1 true) t) ∙ is_named name inner task2 u)
+  same_status task1 (Status json2 false) t u = apart (word_of task1) (codes "status") refl (sym (is_named name inner task1 t) ∙ is_named name inner (Status json2 false) u)
+  same_status task1 (Status json2 true) t u = apart (word_of task1) (codes "update") refl (sym (is_named name inner task1 t) ∙ is_named name inner (Status json2 true) u)
   same_status task1 task2 t u = apart (word_of task1) (word_of task2) refl (sym (is_named name inner task1 t) ∙ is_named name inner task2 u)
 
   module _ (header : OneHeader) (tree : OneTree) (fails : List ℕ → Type 0) (U : Type 0) (input : Option (List ℕ)) (files : Contents) (root : List ℕ) (r : Refusal) where
@@ -81,7 +95,10 @@ module _ (name : Text) (inner : List Row) where
         (subst (λ (p : List ℕ). Undiffed (string_bytes old2) p files r) (one_value (first_of (codes "NEW") inner) _ _ u.2 t.2) is)
     same_why (Verify database1) (Verify database2) t u is = subst (λ (d : Option (List ℕ)). Unverified header fails U root files d r) (u.1 ∙ sym t.1) is
     same_why (Dump database1) (Dump database2) t u is = subst (λ (d : Option (List ℕ)). Undumped header fails U root files d r) (u.1 ∙ sym t.1) is
-    same_why (Status json1) (Status json2) t u is = absurd is
+    same_why (Status json1 false) (Status json2 false) t u is = is
+    same_why (Status json1 true) (Status json2 true) t u is = is
+    same_why (Status json1 true) (Update v2 k2) t u is = both_words t.1 u.1
+    same_why (Update v1 k1) (Status json2 true) t u is = both_words u.1 t.1
     same_why (Update v1 k1) (Update v2 k2) t u is = is
     same_why (Ask file1 device1) (Ask file2 device2) t u is = subst (λ (f : List ℕ). Unasked f input files r) (one_value (first_of (codes "FILE") inner) _ _ u.1 t.1) is
     same_why (Check files1 allowed1 json1) (Check files2 allowed2 json2) t u is =
@@ -93,6 +110,10 @@ module _ (name : Text) (inner : List Row) where
         subst (λ (fs : List (List ℕ)). Untested fs (option_map string_bytes database1) input files root r) (one_values (all_of (codes "FILE") inner) _ _ u.3 t.3)
         (subst (λ (d : Option (List ℕ)). Untested (map string_bytes files2.items) d input files root r) (u.2 ∙ sym t.2) is)
     same_why (Device path1 strings1 json1 pattern1) (Device path2 strings2 json2 pattern2) t u is = absurd is
+    same_why (Status json1 false) task2 t u is = apart (codes "status") (word_of task2) refl (sym (is_named name inner (Status json1 false) t) ∙ is_named name inner task2 u)
+    same_why (Status json1 true) task2 t u is = apart (codes "update") (word_of task2) refl (sym (is_named name inner (Status json1 true) t) ∙ is_named name inner task2 u)
+    same_why task1 (Status json2 false) t u is = apart (word_of task1) (codes "status") refl (sym (is_named name inner task1 t) ∙ is_named name inner (Status json2 false) u)
+    same_why task1 (Status json2 true) t u is = apart (word_of task1) (codes "update") refl (sym (is_named name inner task1 t) ∙ is_named name inner (Status json2 true) u)
     same_why task1 task2 t u is = apart (word_of task1) (word_of task2) refl (sym (is_named name inner task1 t) ∙ is_named name inner task2 u)
 
   -- what both say first
@@ -104,13 +125,20 @@ module _ (name : Text) (inner : List Row) where
   same_said header tree root usr files (Diff old1 new1) (Diff old2 new2) t u = refl
   same_said header tree root usr files (Verify database1) (Verify database2) t u = refl
   same_said header tree root usr files (Dump database1) (Dump database2) t u = refl
-  same_said header tree root usr files (Status json1) (Status json2) t u = refl
-  same_said header tree root usr files (Update v1 k1) (Update v2 k2) t u = ap (λ (v : Bool). hiding_text usr v root files) (u.1 ∙ sym t.1)
+  same_said header tree root usr files (Status json1 false) (Status json2 false) t u = refl
+  same_said header tree root usr files (Status json1 true) (Status json2 true) t u = refl
+  same_said header tree root usr files (Status json1 true) (Update v2 k2) t u = both_words t.1 u.1
+  same_said header tree root usr files (Update v1 k1) (Status json2 true) t u = both_words u.1 t.1
+  same_said header tree root usr files (Update v1 k1) (Update v2 k2) t u = ap (λ (v : Bool). hiding_text usr v root files) (u.2 ∙ sym t.2)
   same_said header tree root usr files (Ask file1 device1) (Ask file2 device2) t u = refl
   same_said header tree root usr files (Check files1 allowed1 json1) (Check files2 allowed2 json2) t u = refl
   same_said header tree root usr files (Near files1 device1 limit1 json1) (Near files2 device2 limit2 json2) t u = refl
   same_said header tree root usr files (Test files1 database1 json1) (Test files2 database2 json2) t u = refl
   same_said header tree root usr files (Device path1 strings1 json1 pattern1) (Device path2 strings2 json2 pattern2) t u = refl
+  same_said header tree root usr files (Status json1 false) task2 t u = apart (codes "status") (word_of task2) refl (sym (is_named name inner (Status json1 false) t) ∙ is_named name inner task2 u)
+  same_said header tree root usr files (Status json1 true) task2 t u = apart (codes "update") (word_of task2) refl (sym (is_named name inner (Status json1 true) t) ∙ is_named name inner task2 u)
+  same_said header tree root usr files task1 (Status json2 false) t u = apart (word_of task1) (codes "status") refl (sym (is_named name inner task1 t) ∙ is_named name inner (Status json2 false) u)
+  same_said header tree root usr files task1 (Status json2 true) t u = apart (word_of task1) (codes "update") refl (sym (is_named name inner task1 t) ∙ is_named name inner (Status json2 true) u)
   same_said header tree root usr files task1 task2 t u = apart (word_of task1) (word_of task2) refl (sym (is_named name inner task1 t) ∙ is_named name inner task2 u)
 
 -- two jobs that the same words ask for
@@ -177,7 +205,7 @@ pub root_is_entered : (fails fails_now : List ℕ → Type 0) (left left_now : O
 root_is_entered fails fails_now left left_now = λ words status before now refused never of.
     entered fails before.files refused.unread.0 never refused.refusal refused.unread.3 refused.reason of
 
-module _ (header : OneHeader) (tree : OneTree) (choice : ListingsGiveOneChoice) (reading : ListingsGiveOneReading) (stand : OneStand) (fails fails_now fails2 fails2_now : List ℕ → Type 0) (left left_now left2 left2_now : Outcomes) where
+module _ (header : OneHeader) (tree : OneTree) (choice : ListingsGiveOneChoice) (reading : ListingsGiveOneReading) (stand : OneStand) (form : OneForm) (fails fails_now fails2 fails2_now : List ℕ → Type 0) (left left_now left2 left2_now : Outcomes) where
   pub one_job_error : JobsEndAlike IsCovered fails fails_now fails2 fails2_now left left_now left2 left2_now
   one_job_error = λ words status status2 before now before2 now2 input one two kind is is2.
       let top = matches_of hwdb_app words in
@@ -191,14 +219,14 @@ module _ (header : OneHeader) (tree : OneTree) (choice : ListingsGiveOneChoice) 
       let second = why header tree fails2 fails2_now left2 left2_now (root_of k) k.usr k.strict two.refusal before2 then2 is2.of is2.told is2.listed input.err.bytes input.err.of_two stand k.task kind2 is2.never is2.named two.refused in
       let U2 = IsUnwritable (database_folder k.usr (root_of k)) before2.files before2.failures then2.failures in (
         one.says ∙ status_of_job top found j k one.asked two.asked ∙ sym two.says,
-        end_of header tree choice reading stand fails fails2 (IsUnwritable (database_folder j.usr (root_of j)) before.files before.failures then_.failures) U2 (root_of j) one.refusal two.refusal before then_ before2 then2 (said_first header tree j.task (root_of j) j.usr before.files) input j.task kind first.0
+        end_of header tree choice reading stand form fails fails2 (IsUnwritable (database_folder j.usr (root_of j)) before.files before.failures then_.failures) U2 (root_of j) one.refusal two.refusal before then_ before2 then2 (said_first header tree j.task (root_of j) j.usr before.files) input j.task kind first.0
             (why_of_job top header tree fails2 U2 before2.input.bytes before2.files two.refusal found j k one.asked two.asked second.0) first.1
             (subst (λ (t : List ℕ). IsLeftThen header tree input.err.bytes t before2 then2)
             (ap (λ (f : Contents). said_first header tree k.task (root_of k) k.usr f) input.files ∙ said_of_job top header tree before.files found j k one.asked two.asked) second.1),
       )
 
-  pub no_job_error : OneForm → DoneJobEndsSo IsCovered fails fails_now fails2 fails2_now left left_now left2 left2_now
-  no_job_error form = λ words status status2 before now before2 now2 input done refused kind is.
+  pub no_job_error : DoneJobEndsSo IsCovered fails fails_now fails2 fails2_now left left_now left2 left2_now
+  no_job_error = λ words status status2 before now before2 now2 input done refused kind is.
       let top = matches_of hwdb_app words in
       let found = subcommand_of hwdb_app words in
       let j = done.job in

@@ -1,5 +1,5 @@
 -- Words ask for one job.
-use Rattle.std.proofs.Common.{◌≡◌, ◌∙◌, ap, refl, sym, subst, Bool, false, true≢false, List, [], ◌∷◌, ◌++◌, map, ℕ, Option, Some, None, string_bytes, ⊎_elim}
+use Rattle.std.proofs.Common.{◌≡◌, ◌∙◌, ap, refl, sym, subst, Bool, true, false, true≢false, List, [], ◌∷◌, ◌++◌, map, ℕ, Option, Some, None, string_bytes, ⊎_elim}
 use Rattle.std.specs.Prelude.{codes, option_map}
 use Rattle.std.specs.Option.{option_map_or}
 use Rattle.std.specs.Str.{bytes_eq}
@@ -72,15 +72,22 @@ word_of (Test files database json) = codes "test"
 word_of (Diff old_path new_path) = codes "diff"
 word_of (Verify database) = codes "verify"
 word_of (Dump database) = codes "dump"
-word_of (Status json) = codes "status"
+word_of (Status json false) = codes "status"
+word_of (Status json true) = codes "update"
 
 pub is_named : (name : Text) (inner : List Row) (task : Task) → IsTask name inner task → name ≡ word_of task
 is_named name inner (Update verbose skip) t = t.0
+is_named name inner (Status json false) t = t.0
+is_named name inner (Status json true) t = t.0
 is_named name inner task t = t.0
 
 -- two names aren't one
 pub apart : {X : Type 0} (m n : Text) → bytes_eq m n ≡ false → m ≡ n → X
 apart m n differ is = absurd (true≢false (sym ((bytes_eq-Decides m n).1 is) ∙ differ))
+
+-- a flag that is on and off
+pub both_words : {X : Type 0} {b : Bool} → b ≡ true → b ≡ false → X
+both_words on off = absurd (true≢false (sym on ∙ off))
 
 -- what is done of the one task is done of the other
 module _ (name : Text) (inner : List Row) (root : List ℕ) (usr strict : Bool) (status : ℕ) (before now : World) where
@@ -111,7 +118,7 @@ module _ (name : Text) (inner : List Row) (root : List ℕ) (usr strict : Bool) 
 
   pub same_task : (t u : Task) → IsTask name inner t → IsTask name inner u → Out u → Out t
   same_task (Update v1 k1) (Update v2 k2) t u done =
-      subst (λ (b : Bool). Out (Update b k1)) (u.1 ∙ sym t.1) (subst (λ (b : Bool). Out (Update v2 b)) (u.2 ∙ sym t.2) done)
+      subst (λ (b : Bool). Out (Update b k1)) (u.2 ∙ sym t.2) (subst (λ (b : Bool). Out (Update v2 b)) (u.3 ∙ sym t.3) done)
   same_task (Query devices1 json1) (Query devices2 json2) t u done =
       subst (λ (ds : List (List ℕ)). Answers ds (form.Query json1)) (one_values (all_of (codes "MODALIAS") inner) _ _ u.2 t.2)
       (subst (λ (j : Bool). Answers (map string_bytes devices2.items) (form.Query j)) (u.1 ∙ sym t.1) done)
@@ -152,9 +159,18 @@ module _ (name : Text) (inner : List Row) (root : List ℕ) (usr strict : Bool) 
       subst (λ (d : Option (List ℕ)). Quietly (IsPrinted d root IsSummary old)) (u.1 ∙ sym t.1) done
   same_task (Dump database1) (Dump database2) t u done =
       subst (λ (d : Option (List ℕ)). Quietly (IsDumped d root old)) (u.1 ∙ sym t.1) done
-  same_task (Status json1) (Status json2) t u done =
-      subst (λ (j : Bool). Prints (OnOut (λ text. IsStatus root j old text status))) (u.1 ∙ sym t.1) done
+  same_task (Status json1 false) (Status json2 false) t u done =
+      subst (λ (j : Bool). Prints (OnOut (λ text. IsStatus root j false old text status))) (u.1 ∙ sym t.1) done
+  same_task (Status json1 true) (Status json2 true) t u done =
+      subst (λ (j : Bool). Prints (OnOut (λ text. IsStatus root j true old text status))) (u.2 ∙ sym t.2) done
+  -- `update` with `--check` and without
+  same_task (Status json1 true) (Update v2 k2) t u done = both_words t.1 u.1
+  same_task (Update v1 k1) (Status json2 true) t u done = both_words u.1 t.1
   -- two tasks of two names aren't asked for by one
+  same_task (Status json1 false) task2 t u done = apart (codes "status") (word_of task2) refl (sym (is_named name inner (Status json1 false) t) ∙ is_named name inner task2 u)
+  same_task (Status json1 true) task2 t u done = apart (codes "update") (word_of task2) refl (sym (is_named name inner (Status json1 true) t) ∙ is_named name inner task2 u)
+  same_task task1 (Status json2 false) t u done = apart (word_of task1) (codes "status") refl (sym (is_named name inner task1 t) ∙ is_named name inner (Status json2 false) u)
+  same_task task1 (Status json2 true) t u done = apart (word_of task1) (codes "update") refl (sym (is_named name inner task1 t) ∙ is_named name inner (Status json2 true) u)
   same_task task1 task2 t u done = apart (word_of task1) (word_of task2) refl (sym (is_named name inner task1 t) ∙ is_named name inner task2 u)
 
 one_option : {X : Type 0} (f : X → List ℕ) (o : Option X) → option_map_or f o [] ≡ option_map_or (λ (x : List ℕ). x) (option_map f o) []

@@ -1,8 +1,6 @@
 -- What is printed and stored of one thing.
-use Rattle.std.proofs.Common.{◌≡◌, ◌≢◌, ⊎_elim, ℕ, Bool, true, false, List, [], ◌∷◌, ◌++◌, refl, ap, ◌∙◌, sym, subst, length, flat_map, map, Option, Some, None, ◌⊎◌, inl, inr, bytes_eq}
+use Rattle.std.proofs.Common.{◌≡◌, ⊎_elim, ℕ, Bool, true, false, List, [], ◌∷◌, ◌++◌, refl, ap, ◌∙◌, sym, subst, length, flat_map, map, Option, Some, None, ◌⊎◌, inl, inr}
 use Rattle.std.proofs.Math.Path.{fun_ext}
-use Rattle.std.proofs.lemmas.Slice.Eq.{bytes_eq-Decides}
-use Rattle.std.proofs.lemmas.Bool.Decides.{not_from_Decides}
 use Rattle.std.specs.Prelude.{if◌then◌else◌, codes}
 use Rattle.std.specs.FinMap as finite
 use Rattle.std.specs.Io.KnownBytes.{Appends}
@@ -19,6 +17,7 @@ use Rattle.hwdb_spec.specs.Texts.{faults_text, status_of}
 use Rattle.hwdb_spec.specs.Asked.{IsAnswered}
 use Rattle.hwdb_spec.specs.Databases.{IsTextOf}
 use Rattle.hwdb_tool.specs.OneOutcome.{IsOneReading}
+use Rattle.hwdb_spec.specs.Lemmas.Orders.{one_or_two}
 
 -- a sink that took one text, and another time another one, which is the same
 pub one_taken : (before : List ℕ) (now now2 : Option (List ℕ)) (text text2 : List ℕ) → text ≡ text2 → Appends (Some before) now text → Appends (Some before) now2 text2 → now ≡ now2
@@ -93,13 +92,6 @@ module _ (etc usr etc2 usr2 : List Source) (one : IsOneReading etc usr etc2 usr2
 
   pub one_status : (strict : Bool) → status_of strict (faults_of_files etc usr) ≡ status_of strict (faults_of_files etc2 usr2)
   one_status strict = ap (λ (fs : List FaultIn). status_of strict fs) one_faults
-
-one_or_two : (p q : List ℕ) → (p ≡ q) ⊎ (p ≢ q)
-one_or_two p q = by (bytes_eq p q) refl
-  where
-    by : (b : Bool) → bytes_eq p q ≡ b → (p ≡ q) ⊎ (p ≢ q)
-    by true e = inl ((bytes_eq-Decides p q).0 e)
-    by false e = inr (not_from_Decides (bytes_eq p q) (bytes_eq-Decides p q) e)
 
 -- what was kept twice, but for what went in the one and not in the other
 one_or_gone : (folder : List ℕ) (old new new2 : Contents) (p : List ℕ) → IsKept folder old new p → IsKept folder old new2 p → (new2 p ≡ new p) ⊎ IsPartPath folder p

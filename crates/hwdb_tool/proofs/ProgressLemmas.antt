@@ -1,8 +1,8 @@
 -- What is said of the files of an update.
-use Rattle.std.proofs.Common.{◌≡◌, ◌∙◌, ◌<◌, ◌++◌, ap, append_assoc, arith, sym, get_or, map, length, take, ℕ, zero, suc, List, [], ◌∷◌, Some}
+use Rattle.std.proofs.Common.{◌≡◌, ◌∙◌, ◌<◌, ◌++◌, ap, append_assoc, sym, get_or, map, length, take, ℕ, suc, List, [], Some}
 use Rattle.std.specs.FinMap as finite
 use Rattle.std.specs.Prelude.{flat_map}
-use Rattle.std.proofs.lemmas.List.{append-nil, length-map}
+use Rattle.std.proofs.lemmas.List.{length-map}
 use Rattle.hwdb_spec.specs.Assignment.{Assignment}
 use Rattle.hwdb_spec.specs.Folders.{Choice, Source, chosen_of}
 use Rattle.hwdb_spec.specs.Format.{IsDatabase}
@@ -14,12 +14,7 @@ use Rattle.hwdb_compile.specs.declared.sources.ChosenFile.{ChosenFile}
 use Rattle.hwdb_compile.specs.declared.sources.Compiled.{Compiled}
 use Rattle.hwdb_inspect.specs.Laws.{MembersAreTheMap}
 use Rattle.hwdb_tool.specs.Internal.{IsCompiledOf}
-
--- one more of a list, mapped
-mapped_more : {A B : Type 0} (f : A → B) (xs : List A) (i : ℕ) (x : A) → i < length xs → x ≡ get_or xs i x → map f (take (suc i) xs) ≡ map f (take i xs) ++ f x ∷ []
-mapped_more f [] i x lt e = absurd (omega arith)
-mapped_more f (y ∷ xs) zero x lt e = ap (λ z. f z ∷ []) (sym e)
-mapped_more f (y ∷ xs) (suc i) x lt e = ap (λ l. f y ∷ l) (mapped_more f xs i x (omega arith) e)
+use Rattle.hwdb_spec.specs.Lemmas.Lists.{gathered_more, mapped_more}
 
 -- the pieces of the line that counts, added one after another
 pub kept_pieces : (o a s b k t u y : List ℕ) → t ≡ o ++ (a ++ s) → u ≡ t ++ (b ++ s) → y ≡ u ++ k → y ≡ o ++ (a ++ (s ++ (b ++ (s ++ k))))
@@ -27,10 +22,6 @@ kept_pieces o a s b k t u y first second third =
     third ∙ ap (λ l. l ++ k) (second ∙ ap (λ l. l ++ (b ++ s)) first)
     ∙ append_assoc (o ++ (a ++ s)) (b ++ s) k ∙ append_assoc o (a ++ s) ((b ++ s) ++ k)
     ∙ ap (λ l. o ++ l) (append_assoc a s ((b ++ s) ++ k) ∙ ap (λ l. a ++ (s ++ l)) (append_assoc b s k))
-
-gathered_more : {A B : Type 0} (f : A → List B) (xs : List A) (x : A) → flat_map f (xs ++ x ∷ []) ≡ flat_map f xs ++ f x
-gathered_more f [] x = append-nil (f x)
-gathered_more f (y ∷ xs) x = ap (λ l. f y ++ l) (gathered_more f xs x) ∙ sym (append_assoc (f y) (flat_map f xs) (f x))
 
 -- the line of one more file
 pub lines_more : {B : Type 0} (f : Choice → List B) (files : List ChosenFile) (i : ℕ) (x : ChosenFile) (old new : List B) → i < length files → x ≡ get_or files i x

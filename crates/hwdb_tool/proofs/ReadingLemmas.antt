@@ -3,8 +3,6 @@ use Rattle.std.proofs.Common.{◌≡◌, ℕ, zero, suc, ◌<◌, Bool, true, fa
 use Rattle.std.proofs.Math.Path.{fun_ext}
 use Rattle.std.proofs.lemmas.Bool.{cases_Bool}
 use Rattle.std.proofs.lemmas.List.Elements.{All-contains}
-use Rattle.std.proofs.lemmas.Map.Text.{is_eq-slice_cmp}
-use Rattle.std.proofs.lemmas.Slice.Eq.{bytes_eq-Decides}
 use Rattle.std.specs.Prelude.{count_by, ◌+◌, if◌then◌else◌}
 use Rattle.std.specs.Option.{option_map_or}
 use Rattle.std.specs.Ordering.{is_lt}
@@ -14,13 +12,8 @@ use Rattle.hwdb_spec.specs.Store.{Contents, path_in}
 use Rattle.hwdb_spec.specs.System.{AreFilesIn, AreNamesIn, IsNameIn, bytes_at, etc_files, usr_files}
 use Rattle.hwdb_text.specs.Laws.{NamesAreThoseThatCount, NamesAscend, OneAscendingList}
 use Rattle.hwdb_tool.specs.OneOutcome.{IsOneReading}
-
--- a name is listed where it is one of the list
-same_equal : (m n : List ℕ) → same m n ≡ true → m ≡ n
-same_equal m n e = (bytes_eq-Decides m n).0 (sym (is_eq-slice_cmp m n) ∙ e)
-
-same_itself : (n : List ℕ) → same n n ≡ true
-same_itself n = is_eq-slice_cmp n n ∙ (bytes_eq-Decides n n).1 refl
+use Rattle.hwdb_spec.specs.Lemmas.Orders.{same_itself, same_text}
+use Rattle.hwdb_spec.specs.Lemmas.Truth.{or_right}
 
 contains_more : {X : Type 0} (x n : X) (xs : List X) → Contains xs n → Contains (x ∷ xs) n
 contains_more x n xs h = (suc h.0, (let l : h.0 < length xs = h.1 in omega arith), h.2)
@@ -28,13 +21,9 @@ contains_more x n xs h = (suc h.0, (let l : h.0 < length xs = h.1 in omega arith
 contains_of : (n : List ℕ) (xs : List (List ℕ)) → lists n xs ≡ true → Contains xs n
 contains_of n [] e = cc
 contains_of n (x ∷ xs) e = elim (cases_Bool (same x n)) [
-  | inl s ↦ (0, omega arith, same_equal x n s)
+  | inl s ↦ (0, omega arith, same_text x n s)
   | inr s ↦ contains_more x n xs (contains_of n xs (ap (λ (b : Bool). b || lists n xs) (sym s) ∙ e))
 ]
-
-or_right : (a b : Bool) → b ≡ true → (a || b) ≡ true
-or_right true b e = refl
-or_right false b e = e
 
 pub listed_of : (n : List ℕ) (xs : List (List ℕ)) → Contains xs n → lists n xs ≡ true
 listed_of n [] (k, lt, e) = absurd (omega (arith, lt))
@@ -65,13 +54,13 @@ module _ (folder : List ℕ) (files : Contents) where
       → first_of name more others ≡ cond (lists name (names_of more)) (value name) others
       → cond b s.bytes (first_of name more others) ≡ cond (same s.name name || lists name (names_of more)) (value name) others
   first_by true name s more others e has rest =
-      let is : name ≡ s.name = same_equal name s.name e in
+      let is : name ≡ s.name = same_text name s.name e in
       sym (ap (λ (b : Bool). cond (b || lists name (names_of more)) (value name) others) (ap (λ (n : List ℕ). same n name) (sym is) ∙ same_itself name)
       ∙ ap (λ (n : List ℕ). option_map_or (λ (b : List ℕ). b) (bytes_at files (path_in folder n)) []) is
       ∙ ap (λ (o : Option (List ℕ)). option_map_or (λ (b : List ℕ). b) o []) has)
   first_by false name s more others e has rest =
       rest ∙ sym (ap (λ (b : Bool). cond (b || lists name (names_of more)) (value name) others)
-      (one_bool (same s.name name) false (λ t. sym e ∙ ap (λ (n : List ℕ). same name n) (same_equal s.name name t) ∙ same_itself name) (λ t. cc)))
+      (one_bool (same s.name name) false (λ t. sym e ∙ ap (λ (n : List ℕ). same name n) (same_text s.name name t) ∙ same_itself name) (λ t. cc)))
 
   pub first_is : (name : List ℕ) (xs : List Source) (others : List ℕ) → ((s : Source) → Contains xs s → bytes_at files (path_in folder s.name) ≡ Some s.bytes)
       → first_of name xs others ≡ cond (lists name (names_of xs)) (value name) others

@@ -151,7 +151,7 @@ module _ (fails : List ℕ → Type 0) (U : Type 0) (root : List ℕ) (files : C
   abbrev LongAsked : Refusal → Type 0
   LongAsked r = IsLongDatabase None root files r
 
-  long_asked : NeverNamed fails root files None → (r : Refusal) (path : List ℕ) → IsAskedPath root files path → IsUnreadAt files path r → HasReason fails U files r → IsOfWhatIsRead r → LongAsked r
+  pub long_asked : NeverNamed fails root files None → (r : Refusal) (path : List ℕ) → IsAskedPath root files path → IsUnreadAt files path r → HasReason fails U files r → IsOfWhatIsRead r → LongAsked r
   long_asked never r path at unread reason of = record { path = path; at = at; is = unread_there fails U files path (never path at) r unread reason of }
 
   unasked : NeverNamed fails root files None → (r : Refusal) → IsUnfound root files r → HasReason fails U files r → IsOfWhatIsRead r → IsNoneNamed None root files r ⊎ LongAsked r

@@ -7,12 +7,13 @@ use Rattle.hwdb_compile.specs.declared.sources.ChosenFile.{ChosenFile}
 use Rattle.hwdb_spec.specs.declared.refusals.Refusal.{Refusal}
 use Rattle.hwdb_spec.specs.declared.refusals.Refusal.TheVariants.{Plain}
 use Rattle.hwdb_spec.specs.declared.errors.ToolError.TheVariants.{Memory}
-use Rattle.hwdb_spec.specs.Status.{IsMade, IsState, IsStateOf, IsStatus, State, has_database, masked_of, masked_paths, report_form, report_of, stale_by, status_of_state}
+use Rattle.hwdb_spec.specs.Status.{IsMade, IsState, IsStateOf, IsStatus, Report, State, has_database, masked_of, masked_paths, report_form, report_of, stale_by, status_of}
 use Rattle.hwdb_spec.specs.Status.State.{Broken, Fresh, Missing, Stale}
 use Rattle.hwdb_spec.specs.Asked.{database_path}
 use Rattle.hwdb_spec.specs.Differences.{differences}
 use Rattle.hwdb_spec.specs.Folders.{Choice, Source, chosen_of}
 use Rattle.hwdb_spec.specs.Format.{IsDatabase}
+use Rattle.hwdb_spec.specs.Readable.{AreAllRead}
 use Rattle.hwdb_spec.specs.Runs.{OnOut}
 use Rattle.hwdb_spec.specs.Store.{Contents}
 use Rattle.hwdb_spec.specs.System.{asked_database}
@@ -64,9 +65,9 @@ module _ (etc usr etc2 usr2 : List Source) (one : IsOneReading etc usr etc2 usr2
       ∙ ap (λ (cs : List Choice). flat_map (masked_of (names_in usr2)) cs) one.chosen
 
 pub one_status_text : ((bytes : List ℕ) (t u : Tree) → IsDatabase bytes t → IsDatabase bytes u → t ≡ u) → ((m : Map) (a b : List ℕ) → IsWritten m a → IsWritten m b → a ≡ b) → ListingsGiveOneReading
-    → (root : List ℕ) (json : Bool) (files : Contents) (text text2 : List ℕ) (status status2 : ℕ)
-    → IsStatus root json files text status → IsStatus root json files text2 status2 → (text ≡ text2) × (status ≡ status2)
-one_status_text tree form one_reading root json files text text2 status status2 a b =
+    → (root : List ℕ) (json quiet : Bool) (files : Contents) (text text2 : List ℕ) (status status2 : ℕ)
+    → IsStatus root json quiet files text status → IsStatus root json quiet files text2 status2 → (text ≡ text2) × (status ≡ status2)
+one_status_text tree form one_reading root json quiet files text text2 status status2 a b =
     let reading = one_reading root files a.of_etc a.of_usr b.of_etc b.of_usr a.is_made.in_etc a.is_made.in_usr b.is_made.in_etc b.is_made.in_usr in
     let maps : map_of_files a.of_etc a.of_usr ≡ map_of_files b.of_etc b.of_usr = one_map a.of_etc a.of_usr b.of_etc b.of_usr reading in
     let same : a.made ≡ b.made = form (map_of_files a.of_etc a.of_usr) a.made b.made a.is_made.written
@@ -76,28 +77,28 @@ one_status_text tree form one_reading root json files text text2 status status2 
     subst (λ (m : Map). IsState a.made m asked b.state) (sym maps) (subst (λ (d : List ℕ). IsState d (map_of_files b.of_etc b.of_usr) asked b.state) (sym same) b.stands) in
     let state : a.state ≡ b.state = one_state tree a.made (map_of_files a.of_etc a.of_usr) asked a.state b.state a.stands stands in
     let masked = all_masked a.of_etc a.of_usr b.of_etc b.of_usr reading in
-    let report : List (List ℕ) → State → List ℕ = λ l s. report_form json (report_of root (has_database false root files) (has_database true root files) l s) in (
-      a.is ∙ ap (λ l. report l a.state) masked ∙ ap (report (masked_paths (map (λ (s : Source). s.name) b.of_usr) (chosen_of b.of_etc b.of_usr))) state ∙ sym b.is,
-      a.says ∙ ap status_of_state state ∙ sym b.says,
-    )
+    let report : List (List ℕ) → State → Report = λ l s. report_of root (has_database false root files) (has_database true root files) l s in
+    let reports : a.report ≡ b.report =
+    a.of ∙ ap (λ l. report l a.state) masked ∙ ap (report (masked_paths (map (λ (s : Source). s.name) b.of_usr) (chosen_of b.of_etc b.of_usr))) state ∙ sym b.of in
+    (a.is ∙ ap (report_form json quiet) reports ∙ sym b.is, a.says ∙ ap status_of reports ∙ sym b.says)
 
 -- ---- what was read
-module _ (root : List ℕ) (contents : Contents) (listed : List (List ℕ)) (files : List ChosenFile) (read : AreReadOf root contents listed files) where
+module _ (root : List ℕ) (contents : Contents) (listed : List (List ℕ)) (files : List ChosenFile) (read : AreReadOf root contents listed files) (all : AreAllRead root contents) where
   -- the bytes are what is made of it
   pub made_from : (made : List ℕ) → ForFolders files (λ etc usr. AreMadeOf etc usr made) → IsMade root contents read.of_etc read.of_usr made
   made_from made made_of =
       let is = made_of read.of_etc read.of_usr read.are in
-      record { in_etc = read.in_etc; in_usr = read.in_usr; accepted = is.accepted; written = is.written; within = is.within }
+      record { in_etc = read.in_etc; in_usr = read.in_usr; read = all; accepted = is.accepted; written = is.written; within = is.within }
 
   -- the asked database isn't beside them
   pub not_beside : (made : List ℕ) (refusal : Refusal) → ForFolders files (λ etc usr. AreMadeOf etc usr made) → IsAskedUnread root contents refusal → IsNotBeside root contents refusal
   not_beside made refusal made_of unread = record { of_etc = read.of_etc; of_usr = read.of_usr; made = made; is_made = made_from made made_of; unread = unread }
 
   -- what is reported beside the bytes that are made of it
-  pub reported_status : (json : Bool) (made : List ℕ) (masked : List (List ℕ)) (a : Answer) → ForFolders files (λ etc usr. AreMadeOf etc usr made)
-      → masked ≡ masked_paths listed (map choice_in files) → ((m : Map) → IsDatabaseOf m made → IsReported root json contents made m masked a)
-      → OnOut (λ text. IsStatus root json contents text a.status) (texts_in a)
-  reported_status json made masked a made_of masks reported =
+  pub reported_status : (json quiet : Bool) (made : List ℕ) (masked : List (List ℕ)) (a : Answer) → ForFolders files (λ etc usr. AreMadeOf etc usr made)
+      → masked ≡ masked_paths listed (map choice_in files) → ((m : Map) → IsDatabaseOf m made → IsReported root json quiet contents made m masked a)
+      → OnOut (λ text. IsStatus root json quiet contents text a.status) (texts_in a)
+  reported_status json quiet made masked a made_of masks reported =
       let is = made_of read.of_etc read.of_usr read.are in
       let told = reported (map_of_files read.of_etc read.of_usr) is.database in
       let names : masked ≡ masked_paths (map (λ (s : Source). s.name) read.of_usr) (chosen_of read.of_etc read.of_usr) =
@@ -109,9 +110,12 @@ module _ (root : List ℕ) (contents : Contents) (listed : List (List ℕ)) (fil
           of_usr = read.of_usr;
           made = made;
           is_made = made_from made made_of;
+          short = told.short;
           state = told.state;
           stands = told.stands;
-          is = told.is ∙ ap (λ (l : List (List ℕ)). report_form json (report_of root (has_database false root contents) (has_database true root contents) l told.state)) names;
+          report = told.report;
+          of = told.of ∙ ap (λ (l : List (List ℕ)). report_of root (has_database false root contents) (has_database true root contents) l told.state) names;
+          is = told.is;
           says = told.says;
         },
       )
@@ -123,6 +127,7 @@ module _ (root : List ℕ) (contents : Contents) (listed : List (List ℕ)) (fil
     of_usr = read.of_usr;
     in_etc = read.in_etc;
     in_usr = read.in_usr;
+    read = all;
     refused = refused read.of_etc read.of_usr read.are;
   }
 

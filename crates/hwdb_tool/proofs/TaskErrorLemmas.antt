@@ -35,6 +35,7 @@ use Rattle.hwdb_spec.specs.TaskRefusals.{IsNotDone, MayPrint}
 use Rattle.hwdb_spec.specs.ComparedDatabases.{IsDiffRefused}
 use Rattle.hwdb_spec.specs.NamedDatabases.{IsDumpRefused, IsVerifyRefused}
 use Rattle.hwdb_spec.specs.NearErrors.{IsNearRefused}
+use Rattle.hwdb_spec.specs.StatusErrors.{IsStatusRefused}
 use Rattle.hwdb_spec.specs.Tested.{IsTested}
 use Rattle.hwdb_spec.specs.TestErrors.{IsTestRefused}
 use Rattle.hwdb_spec.specs.Readable.{AreAllRead}
@@ -49,6 +50,7 @@ use Rattle.hwdb_tool.proofs.DiffErrorLemmas.{Undiffed, diff_diff, diff_done, und
 use Rattle.hwdb_tool.proofs.OutcomeLemmas.{one_taken}
 use Rattle.hwdb_tool.proofs.TaskLemmas.{all_read}
 use Rattle.hwdb_tool.proofs.UpdateErrorLemmas.{Undated, undated, update_done, update_update}
+use Rattle.hwdb_tool.proofs.StatusErrorLemmas.{Unstated, status_done, status_status, unstated}
 use Rattle.hwdb_tool.proofs.TrialErrorLemmas.{Untested, test_done, test_test, untested}
 use Rattle.hwdb_tool.proofs.TextErrorLemmas.{Unchosen, Ungiven, chosen_chosen, chosen_done, given_done, given_given, never_unchecked, unchosen, ungiven}
 
@@ -174,7 +176,7 @@ module _ (header : OneHeader) (tree : OneTree) where
   Why fails U input files (Test paths database json) root r = Untested (map string_bytes paths.items) (option_map string_bytes database) input files root r
   Why fails U input files (Update verbose skip) root r = Undated root files r
   Why fails U input files (Device path strings json pattern) root r = ⊥
-  Why fails U input files (Status json) root r = ⊥
+  Why fails U input files (Status json quiet) root r = Unstated root files r
 
   -- what a task says before all else
   abbrev pub said_first : Task → (root : List ℕ) (usr : Bool) → Contents → List ℕ
@@ -240,13 +242,16 @@ module _ (header : OneHeader) (tree : OneTree) where
           left_then found.1 not.0.1.same,
         )
     why (Device path strings json pattern) kind never named not = absurd kind
-    why (Status json) kind never named not = absurd kind
+    why (Status json quiet) kind never named not =
+        let found = unprinted (IsStatusRefused root before.files) (MayPrint (Status json quiet) root strict before.input.bytes before.files) r before.err now.err before.out now.out of not.0.0 in
+        let asked = never_asked fails root before.files (λ p is. never p (inr is)) in
+        (unstated fails Unwritable root before.files (λ p is. never p (inl is)) asked r of listed not.1 found.0, left_then found.1 not.0.1.same)
     why (Update verbose skip) kind never named not =
         let found = undated root usr verbose r of (scene_of fails left before).files (scene_of fails_now left_now now).files first before.err now.err skip fails Unwritable kind tells never listed not.1 not.0.0 in
         (found.0, record { err = found.1.err; out = not.0.1; files = found.1.kept.same })
 
   -- two of them are one
-  module _ (choice : ListingsGiveOneChoice) (reading : ListingsGiveOneReading) (stand : OneStand) (told : List ℕ) where
+  module _ (choice : ListingsGiveOneChoice) (reading : ListingsGiveOneReading) (stand : OneStand) (form : OneForm) (told : List ℕ) where
     one_why : (fails fails2 : List ℕ → Type 0) (U U2 : Type 0) (files : Contents) (root : List ℕ) (r r2 : Refusal) (task : Task) → IsCovered task
         → Why fails U (Some told) files task root r → Why fails2 U2 (Some told) files task root r2 → IsOneError r r2
     one_why fails fails2 U U2 files root r r2 (Query devices json) kind one two = answer_answer header fails U root files r r2 one two
@@ -261,7 +266,7 @@ module _ (header : OneHeader) (tree : OneTree) where
     one_why fails fails2 U U2 files root r r2 (Test paths database json) kind one two = test_test header (map string_bytes paths.items) (option_map string_bytes database) root files told r r2 one two
     one_why fails fails2 U U2 files root r r2 (Update verbose skip) kind one two = update_update choice reading root files r r2 one two
     one_why fails fails2 U U2 files root r r2 (Device path strings json pattern) kind one two = absurd kind
-    one_why fails fails2 U U2 files root r r2 (Status json) kind one two = absurd kind
+    one_why fails fails2 U U2 files root r r2 (Status json quiet) kind one two = status_status choice reading form root files r r2 one two
 
   same_told : (one two one_now two_now : Told) → TellOne one two → one_now ≡ one → two_now ≡ two → one_now.bytes ≡ two_now.bytes
   same_told one two one_now two_now tell kept kept2 = ap (λ (t : Told). t.bytes) kept ∙ tell.of_one ∙ sym tell.of_two ∙ sym (ap (λ (t : Told). t.bytes) kept2)
@@ -271,24 +276,24 @@ module _ (header : OneHeader) (tree : OneTree) where
       → Why fails U input files task root r → Why fails U (Some told) files task root r
   one_told fails U input told files task root r is one = subst (λ (i : Option (List ℕ)). Why fails U i files task root r) is one
 
-  pub end_of : ListingsGiveOneChoice → ListingsGiveOneReading → OneStand → (fails fails2 : List ℕ → Type 0) (U U2 : Type 0) (root : List ℕ) (r r2 : Refusal) (before now before2 now2 : Scene) → (said : List ℕ) → (input : IsOneInput before before2)
+  pub end_of : ListingsGiveOneChoice → ListingsGiveOneReading → OneStand → OneForm → (fails fails2 : List ℕ → Type 0) (U U2 : Type 0) (root : List ℕ) (r r2 : Refusal) (before now before2 now2 : Scene) → (said : List ℕ) → (input : IsOneInput before before2)
       → (task : Task) → IsCovered task → Why fails U before.input.bytes before.files task root r → Why fails2 U2 before2.input.bytes before2.files task root r2
       → IsLeftThen input.err.bytes said before now → IsLeftThen input.err.bytes said before2 now2 → IsOneEnd r r2 now now2
-  end_of choice reading stand fails fails2 U U2 root r r2 before now before2 now2 said input task kind one two left left2 =
+  end_of choice reading stand form fails fails2 U U2 root r r2 before now before2 now2 said input task kind one two left left2 =
       let told = input.input.bytes in
       record {
-        one_error = one_why choice reading stand told fails fails2 U U2 before.files root r r2 task kind (one_told fails U before.input.bytes told before.files task root r input.input.of_one one)
+        one_error = one_why choice reading stand form told fails fails2 U U2 before.files root r r2 task kind (one_told fails U before.input.bytes told before.files task root r input.input.of_one one)
             (subst (λ (f : Contents). Why fails2 U2 (Some told) f task root r2) input.files (one_told fails2 U2 before2.input.bytes told before2.files task root r2 input.input.of_two two));
         one_files = λ p. left2.files p ∙ ap (λ (f : Contents). f p) input.files ∙ sym (left.files p);
         one_err = one_taken input.err.bytes now.err.bytes now2.err.bytes said said refl left.err left2.err;
         one_out = same_told before.out before2.out now.out now2.out input.out left.out left2.out;
       }
 
-  pub errors_are_one : ListingsGiveOneChoice → ListingsGiveOneReading → OneStand → (fails fails_now fails2 fails2_now : List ℕ → Type 0) (left left_now left2 left2_now : Outcomes) → EndAlike IsCovered fails fails_now fails2 fails2_now left left_now left2 left2_now
-  errors_are_one choice reading stand fails fails_now fails2 fails2_now left left_now left2 left2_now = λ task root usr strict r r2 before now before2 now2 kind input is is2 not not2.
+  pub errors_are_one : ListingsGiveOneChoice → ListingsGiveOneReading → OneStand → OneForm → (fails fails_now fails2 fails2_now : List ℕ → Type 0) (left left_now left2 left2_now : Outcomes) → EndAlike IsCovered fails fails_now fails2 fails2_now left left_now left2 left2_now
+  errors_are_one choice reading stand form fails fails_now fails2 fails2_now left left_now left2 left2_now = λ task root usr strict r r2 before now before2 now2 kind input is is2 not not2.
       let one = why fails fails_now left left_now root usr strict r before now is.of is.told is.listed input.err.bytes input.err.of_one stand task kind is.never is.named not in
       let two = why fails2 fails2_now left2 left2_now root usr strict r2 before2 now2 is2.of is2.told is2.listed input.err.bytes input.err.of_two stand task kind is2.never is2.named not2 in
-      end_of choice reading stand fails fails2 (IsUnwritable (database_folder usr root) before.files before.failures now.failures) (IsUnwritable (database_folder usr root) before2.files before2.failures now2.failures)
+      end_of choice reading stand form fails fails2 (IsUnwritable (database_folder usr root) before.files before.failures now.failures) (IsUnwritable (database_folder usr root) before2.files before2.failures now2.failures)
       root r r2 before now before2 now2 (said_first task root usr before.files) input task kind one.0 two.0 one.1
       (subst (λ (f : Contents). IsLeftThen input.err.bytes (said_first task root usr f) before2 now2) input.files two.1)
 
@@ -327,7 +332,7 @@ module _ (header : OneHeader) (tree : OneTree) where
         test_done header given path root before.files.seen told json done.0.texts.out status r
         (subst (λ (i : Option (List ℕ)). IsTested json given path root i before.files.seen done.0.texts.out status) tells done.0.are.1) not
     not_both_ends (Device path strings json pattern) kind done not = absurd kind
-    not_both_ends (Status json) kind done not = absurd kind
+    not_both_ends (Status json quiet) kind done not = status_done choice reading form root before.files.seen json quiet done.0.texts.out status r done.0.are.1 not
     not_both_ends (Update verbose skip) kind done not =
         let place : List ℕ → Type 0 = λ database. InPlace (database_folder usr root) database before.files.seen now.files.seen now.files.left in
         let less = done.0.updated in

@@ -278,8 +278,8 @@ module _ (tree : (bytes : List ℕ) (t u : Tree) → IsDatabase bytes t → IsDa
         one_err = one.1.0 ∙ sym two.1.0;
         one_out = one_text tree dump_text a.bytes b.bytes texts.out texts2.out (one_held (named_database (option_map string_bytes database) root files) a.bytes b.bytes a.named b.named) a.is b.is;
       }
-  one_answer_of (Status json) = λ root strict input files status status2 texts texts2 one two.
-      let same = one_status_text tree form one_reading root json files texts.out texts2.out status status2 one.1 two.1 in
+  one_answer_of (Status json quiet) = λ root strict input files status status2 texts texts2 one two.
+      let same = one_status_text tree form one_reading root json quiet files texts.out texts2.out status status2 one.1 two.1 in
       record { one_status = same.1; one_err = one.0 ∙ sym two.0; one_out = same.0 }
 
   -- what both outputs took of one answer

@@ -28,6 +28,7 @@ use Rattle.hwdb_spec.specs.Reasons.{HasFilesReason, IsFileReason, IsFirstGiven, 
 use Rattle.hwdb_spec.specs.Undone.{AreNotChecked, IsGivenUnread, told_path}
 use Rattle.hwdb_tool.proofs.DiffErrorLemmas.{IsUnreadOne, held_or_unread, unread_one}
 use Rattle.hwdb_tool.proofs.RefusalLemmas.{over_over}
+use Rattle.hwdb_text.specs.Lemmas.Pieces.{few_pieces}
 
 -- the first of some members that lacks what those before it have
 first_in : {X : Type 0} → X → List X → X
@@ -202,18 +203,6 @@ one_longer : (x : ℕ) (rows : List (List ℕ)) (n : ℕ) → length rows ≤ n 
 one_longer x [] n le = omega arith
 one_longer x (row ∷ rows) n le = omega (arith, le)
 
-cut_longer : (b : Bool) (x : ℕ) (rows : List (List ℕ)) (n : ℕ) → length rows ≤ n → length (if b then [] ∷ rows else onto_first x rows) ≤ n + 1
-cut_longer true x rows n le = omega (arith, le)
-cut_longer false x rows n le = one_longer x rows n le
-
-pieces_count : (own : ℕ) (file : List ℕ) → length (pieces (is own) file) ≤ length file
-unfolding pieces
-pieces_count own [] = omega arith
-pieces_count own (x ∷ rest) =
-    let h : length (if is own x then [] ∷ pieces (is own) rest else onto_first x (pieces (is own) rest)) ≤ length rest + 1 =
-    cut_longer (is own x) x (pieces (is own) rest) (length rest) (pieces_count own rest) in
-    omega (arith, h)
-
 numbered_count : (k : ℕ) (rows : List (List ℕ)) → length (numbered k rows) ≡ length rows
 unfolding numbered
 numbered_count k [] = refl
@@ -222,7 +211,7 @@ numbered_count k (row ∷ rows) = ap suc (numbered_count (k + 1) rows)
 pub few_lines : (bytes : List ℕ) → length bytes ≤ max_file → length (lines bytes) ≤ max_lines
 few_lines bytes short =
     let count : length (lines bytes) ≡ length (pieces (is (byte "\n")) bytes) = numbered_count 1 (pieces (is (byte "\n")) bytes) in
-    let le = pieces_count (byte "\n") bytes in
+    let le = few_pieces (byte "\n") bytes in
     omega (arith, count, le, short)
 
 pub long_file : (sources : List Source) → All (λ (s : Source). length s.bytes ≤ max_file) sources → HasLongFile sources → ⊥

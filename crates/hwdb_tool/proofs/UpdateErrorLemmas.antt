@@ -33,7 +33,7 @@ use Rattle.hwdb_tool.proofs.TaskLemmas.{all_said, none_said}
 use Rattle.hwdb_tool.proofs.TextErrorLemmas.{AreTooMany, IsChosenLong, Unchosen, chosen_chosen, not_text, unchosen}
 
 -- too many files are chosen, or one has too many lines, or their database is too large
-abbrev AreTooMuch : (etc usr : List Source) → Refusal → Type 0
+abbrev pub AreTooMuch : (etc usr : List Source) → Refusal → Type 0
 AreTooMuch etc usr r =
     ((r ≡ Plain TooManyFiles) × (max_files < length (chosen_of etc usr)))
     ⊎ (((r ≡ Plain TooManyLines) × HaveManyLines etc usr) ⊎ ((r ≡ Plain TooLarge) × IsTooLarge etc usr max_file))
@@ -216,18 +216,23 @@ module _ (choices : ListingsGiveOneChoice) (readings : ListingsGiveOneReading) (
       (readings root files one.of_etc one.of_usr two.of_etc two.of_usr one.in_etc one.in_usr two.in_etc two.in_usr)
       (readings root files two.of_etc two.of_usr one.of_etc one.of_usr two.in_etc two.in_usr one.in_etc one.in_usr) r r2 one.much two.much
 
-  pub update_done : OneForm → (verbose strict : Bool) (status : ℕ) (err_before err_now : Option (List ℕ)) (place : List ℕ → Type 0) (r : Refusal)
-      → AreAllRead root files → IsUpdated root verbose strict status files err_before err_now place → Undated root files r → ⊥
-  update_done form verbose strict status eb en place r all done (inl (inl many)) = many_or_few r done.of_etc done.of_usr many done.in_etc done.in_usr done.updated.accepted.files
-  update_done form verbose strict status eb en place r all done (inl (inr long)) = long_or_read r long all
-  update_done form verbose strict status eb en place r all done (inr un) =
-      let reading = readings root files un.of_etc un.of_usr done.of_etc done.of_usr un.in_etc un.in_usr done.in_etc done.in_usr in
-      ⊎_elim (λ many. let few = done.updated.accepted.files in let more = many.1 in omega (arith, few, more, ap length reading.chosen))
-      (λ more. ⊎_elim (λ lines. lines_or_few un.of_etc un.of_usr done.of_etc done.of_usr reading lines.1 done.updated.accepted)
+  -- files whose database was made have no such error
+  pub made_or_undated : OneForm → (of_etc of_usr : List Source) (made : List ℕ) → AreFilesIn (etc_files root) files of_etc → AreFilesIn (usr_files root) files of_usr → AreAllRead root files
+      → AreAccepted of_etc of_usr → IsWritten (map_of_files of_etc of_usr) made → length made ≤ max_file → (r : Refusal) → Undated root files r → ⊥
+  made_or_undated form of_etc of_usr made in_etc in_usr all accepted written within r (inl (inl many)) = many_or_few r of_etc of_usr many in_etc in_usr accepted.files
+  made_or_undated form of_etc of_usr made in_etc in_usr all accepted written within r (inl (inr long)) = long_or_read r long all
+  made_or_undated form of_etc of_usr made in_etc in_usr all accepted written within r (inr un) =
+      let reading = readings root files un.of_etc un.of_usr of_etc of_usr un.in_etc un.in_usr in_etc in_usr in
+      ⊎_elim (λ many. let few = accepted.files in let more = many.1 in omega (arith, few, more, ap length reading.chosen))
+      (λ more. ⊎_elim (λ lines. lines_or_few un.of_etc un.of_usr of_etc of_usr reading lines.1 accepted)
       (λ large.
       let longer = large.1.longer in
-      let forms : length longer.0 ≡ length done.updated.database = ap length (form (map_of_files un.of_etc un.of_usr) longer.0 done.updated.database longer.1
-      (subst (λ m. IsWritten m done.updated.database) (sym (one_map un.of_etc un.of_usr done.of_etc done.of_usr reading)) done.updated.written)) in
-      let few = done.updated.within in
+      let forms : length longer.0 ≡ length made = ap length (form (map_of_files un.of_etc un.of_usr) longer.0 made longer.1
+      (subst (λ m. IsWritten m made) (sym (one_map un.of_etc un.of_usr of_etc of_usr reading)) written)) in
       let long = longer.2 in
-      omega (arith, few, long, forms)) more) un.much
+      omega (arith, within, long, forms)) more) un.much
+
+  pub update_done : OneForm → (verbose strict : Bool) (status : ℕ) (err_before err_now : Option (List ℕ)) (place : List ℕ → Type 0) (r : Refusal)
+      → AreAllRead root files → IsUpdated root verbose strict status files err_before err_now place → Undated root files r → ⊥
+  update_done form verbose strict status eb en place r all done =
+      made_or_undated form done.of_etc done.of_usr done.updated.database done.in_etc done.in_usr all done.updated.accepted done.updated.written done.updated.within r

@@ -1,18 +1,11 @@
 -- What standard error takes of words that the command doesn't take.
-use Rattle.std.proofs.Common.{◌≡◌, ◌+◌, ◌-◌, ◌^◌, ◌==◌, inl, inr, sym, subst, refl, arith, cond, eqb-true, ℕ, Bool, true, false, List, length, Option, Result, Ok, Err, OnOk}
+use Rattle.std.proofs.Common.{inl, inr, sym, subst, arith, ℕ, List, length, Option, Result, Ok, Err, OnOk}
 use Rattle.std.specs.Prelude.{OnErr}
 use Rattle.std.proofs.lemmas.List.{take_all}
 use Rattle.std.specs.Io.KnownBytes.{Appends}
-use Rattle.hwdb_spec.specs.Failures.{HasFailed, after_failure}
 use Rattle.hwdb_spec.specs.Outputs.{CutShort, Took}
 use Rattle.hwdb_spec.specs.Refusals.{Refused}
-
-rises : (before : ℕ) (b : Bool) → (before == 2 ^ 64 - 1) ≡ b → HasFailed before (cond b before (before + 1))
-rises before true e = inr (eqb-true before (2 ^ 64 - 1) e)
-rises before false e = inl (omega arith)
-
-pub failed_call : (before now : ℕ) → now ≡ after_failure before → HasFailed before now
-failed_call before now is = let Q : ℕ → Type 0 = λ n. HasFailed before n in subst Q (sym is) (rises before (before == 2 ^ 64 - 1) refl)
+use Rattle.hwdb_spec.specs.Lemmas.Calls.{failed_call}
 
 -- the text that was written, or a prefix of it
 pub usage_line : {T E : Type 0} (text : List ℕ) (r : Result T E) (a b : Option (List ℕ)) (m n : ℕ) → OnOk r (Took text a b m n) → OnErr r (CutShort text a b m n) → Refused text a b m n

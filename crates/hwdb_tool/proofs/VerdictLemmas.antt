@@ -1,4 +1,4 @@
--- Five pieces, one behind another.
+-- Five pieces, one after another.
 use Rattle.std.proofs.Common.{◌≡◌, ◌∙◌, ◌++◌, ap, append_assoc, List, ℕ}
 
 pub five_pieces : (t a w b k e t1 t2 t3 t4 t5 : List ℕ) → t1 ≡ t ++ a → t2 ≡ t1 ++ w → t3 ≡ t2 ++ b → t4 ≡ t3 ++ k → t5 ≡ t4 ++ e

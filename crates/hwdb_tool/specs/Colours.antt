@@ -8,7 +8,7 @@ use Rattle.hwdb_spec.specs.declared.colours.TextKind.TheVariants.{Plain}
 abbrev pub IsShown : TextKind → (text shown : List ℕ) → Type 0
 IsShown kind text shown = (shown ≡ painted kind text) ⊎ (shown ≡ text)
 
--- what is told of the bytes that were taken: all that is told of those that were handed on, if they are handed on as they are
+-- what is told of the bytes that were taken: all that is told of those that were handed on, if they go as they are
 abbrev pub told_through : TextKind → Option (List ℕ) → Option (List ℕ)
 told_through Plain told = told
 told_through kind told = None

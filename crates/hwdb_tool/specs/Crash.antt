@@ -28,7 +28,7 @@ AnswersFromRead MayFail job old after = (left_out : List Choice) × AreLeftOut (
     × AnswersFrom (root_of job) (without left_out (root_of job) old) after
 
 -- The words ask for a job below a root whose database is /etc's. Its place has what a crash might have left there before the
--- run, or a query over what stands prints what the text files assign last that the job doesn't leave out.
+-- run. Or a query over what is there prints what the text files assign last that the job doesn't leave out.
 abbrev pub CrashThenQuery : (MayFail : (path : List ℕ) → Type 0) (before : Outcomes) → Type 0
 CrashThenQuery MayFail before = (words : List (List ℕ)) (job : Job) → AskFor words job → job.usr ≡ false
     → (old after : Contents) → Booted (OldOrAskedFor MayFail words old before) after
@@ -50,7 +50,7 @@ CrashOfRunThenQuery moment left_since seen may_leave MayFail old new = (words : 
     → may_leave old (path_in (database_folder false (root_of job)) database_name) (after (path_in (database_folder false (root_of job)) database_name))
     ⊎ AnswersFromRead MayFail job (seen old) after
 
--- A moment of a run between two of its calls: it isn't before the run, and what a crash might have left by then, it still might
+-- A moment of a run between two of its calls. It isn't before the run. What a crash might have left by then, it still might
 -- have at the run's end. Each call sees to both (`Elapses`, the first and the last part).
 pub record IsBetween {D : Type 0} (moment : D → ℕ) (left_since : D → ℕ → Outcomes) (old middle new : D) : Type 0 where
   pub begun : moment old ≤ moment middle
@@ -61,7 +61,7 @@ abbrev pub KillLeavesWhatStood : (tells : Type 0) {D : Type 0} (moment : D → �
 KillLeavesWhatStood tells moment left_since seen old middle new =
     tells → IsBetween moment left_since old middle new → Booted (left_since new (moment old)) (seen middle)
 
--- So after a kill the database's place has what a crash might have left there before the run, or a query prints what the text
+-- So after a kill the database's place has what a crash might have left there before the run. Or a query prints what the text
 -- files assign last that the job doesn't leave out.
 abbrev pub KillThenQuery : (tells : Type 0) {D : Type 0} (moment : D → ℕ) (left_since : D → ℕ → Outcomes) (seen : D → Contents) (may_leave : D → Outcomes) (MayFail : (path : List ℕ) → Type 0) (old middle new : D) → Type 0
 KillThenQuery tells moment left_since seen may_leave MayFail old middle new = tells → IsBetween moment left_since old middle new

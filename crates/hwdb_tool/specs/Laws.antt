@@ -11,8 +11,8 @@ use Rattle.hwdb_spec.specs.Databases.{IsTextOf}
 use Rattle.hwdb_spec.specs.Asked.{IsAnswered}
 use Rattle.hwdb_spec.specs.Done.{IsUpdated}
 
--- The text is for each key the value of the last assignment: of those that the text files of both folders have, the last of
--- each pattern and key whose pattern matches the device.
+-- The text is for each key the value of the last assignment. Of those that the text files of both folders have, it is the
+-- last of each pattern and key whose pattern matches the device.
 pub record IsOfLast (root : List ℕ) (contents : Contents) (device text : List ℕ) : Type 0 where
   pub of_etc : List Source
   pub of_usr : List Source
@@ -22,8 +22,8 @@ pub record IsOfLast (root : List ℕ) (contents : Contents) (device text : List 
   pub are_last : AreLast device None (all_assignments of_etc of_usr) last
   pub is : text ≡ properties_text (effective_of last)
 
--- A query of a device, where the database of an update stands in its place in /etc: its text is what the files assign last that the
--- update read.
+-- A query of a device, if the database of an update is in its place in /etc. Its text is what the files assign last that the update
+-- read.
 abbrev pub UpdateThenQuery : Type 0
 UpdateThenQuery =
     (root : List ℕ) (verbose strict : Bool) (status : ℕ) (files new : Contents) (err_before err_now : Option (List ℕ)) (device text : List ℕ)

@@ -61,7 +61,7 @@ pub record IsOneInput (one two : Scene) : Type 0 where
   pub err : TellOne one.err two.err
   pub devices : two.devices ≡ one.devices
 
--- Two outcomes are the same. Only under the paths of new files they may differ: what a killed update left there may have gone
+-- Two outcomes are the same. Only under the paths of new files they may differ. What a killed update left there may have gone
 -- in the one, and not in the other.
 pub record IsOneOutcome (folder : List ℕ) (status status2 : ℕ) (now now2 : Scene) : Type 0 where
   pub one_status : status ≡ status2
@@ -84,8 +84,8 @@ AnswersAreOne = (task : Task) (root : List ℕ) (strict : Bool) (input : List �
 abbrev pub LeavesNothingOut : (MayFail : (path : List ℕ) → Type 0) → Task → Type 0
 LeavesNothingOut MayFail task = (skips task ≡ false) ⊎ ((path : List ℕ) → MayFail path → ⊥)
 
--- A task that is done is a function of the files, of standard input and of what both outputs had taken, if it leaves out no
--- file: which readings fail is no input. What a crash may leave then is only bounded; it is of two stores, each before and after.
+-- A task that is done, and leaves out no file, is a function of the files, standard input and what both outputs had taken. Which
+-- readings fail is no input. What a crash may leave then is only bounded; it is of two stores, each before and after.
 abbrev pub IsFunction : (fails fails_now fails2 fails2_now : (path : List ℕ) → Type 0) (left left_now left2 left2_now : Outcomes) → Task → Type 0
 IsFunction fails fails_now fails2 fails2_now left left_now left2 left2_now task = (root : List ℕ) (usr strict : Bool) (status status2 : ℕ) (before now before2 now2 : Scene)
     → IsOneInput before before2 → LeavesNothingOut fails task → LeavesNothingOut fails2 task

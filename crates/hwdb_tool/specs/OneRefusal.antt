@@ -1,5 +1,5 @@
--- What a task refuses is one error, and none is refused that is done: what two outcomes over one input have in common, if one
--- of them or both are errors. Our choice.
+-- What a task refuses is one error, and none is refused that is done. It is what two outcomes over one input have in common,
+-- if one of them or both are errors. Our choice.
 use Rattle.std.specs.Prelude.{◌++◌, ◌<◌, ◌∷◌, ◌≡◌, ◌⊎◌, [], ℕ, Bool, Contains, IfSome, List, None, Option, Some, codes, false, length, map, option_map, string_bytes, true}
 use Rattle.hwdb_spec.specs.DeviceAsked.{no_device_text, no_sysfs_text, unread_text}
 use Rattle.hwdb_spec.specs.Asked.{database_path}
@@ -35,7 +35,8 @@ IsOfWhatIsRead (At Memory at cause) = ⊥
 IsOfWhatIsRead (At Write at cause) = ⊥
 IsOfWhatIsRead refusal = Unit {0}
 
--- two faults of one database are one, if one of them is of its header; of its nodes any fault that is there may be told
+-- Two faults of one database are one, if one of them is of its header. Of its nodes any fault that is there may be
+-- told.
 abbrev pub IsOneFault : DbFault → DbFault → Type 0
 IsOneFault fault fault2 = IsOfHeader fault ⊎ IsOfHeader fault2 → fault ≡ fault2
 
@@ -67,7 +68,7 @@ IsOneError (InWords text) (InWords text2) = IsOneText text.items text2.items
 IsOneError refusal refusal2 = ⊥
 
 -- The task leaves out no file that can't be read, and prints its answer at once. It isn't `device`: what is read of sysfs is no file of
--- the law. Nor is it `status`.
+-- the law.
 abbrev pub IsCovered : Task → Type 0
 IsCovered (Update verbose skip) = skip ≡ false
 IsCovered (Query devices json) = is_input (map string_bytes devices.items) ≡ false
@@ -80,7 +81,7 @@ IsCovered (Test files database json) = Unit {0}
 IsCovered (Diff old new) = Unit {0}
 IsCovered (Verify database) = Unit {0}
 IsCovered (Dump database) = Unit {0}
-IsCovered (Status json) = ⊥
+IsCovered (Status json quiet) = Unit {0}
 IsCovered (Device path strings json pattern) = ⊥
 
 -- it answers devices of standard input, each as it comes
@@ -129,6 +130,7 @@ MayRead (Ask file device) root path = path ≡ string_bytes file
 MayRead (Diff old new) root path = (path ≡ string_bytes old) ⊎ (path ≡ string_bytes new)
 MayRead (Verify database) root path = IsOfDatabase (option_map string_bytes database) root path
 MayRead (Dump database) root path = IsOfDatabase (option_map string_bytes database) root path
+MayRead (Status json quiet) root path = IsOfFolders root path ⊎ IsOfDatabase None root path
 MayRead task root path = IsOfDatabase None root path
 
 -- no reading that the task does may fail
@@ -214,7 +216,7 @@ InputIsRead fails fails_now left left_now = (task : Task) (root : List ℕ) (usr
     → IsNotDone task root usr strict (scene_of fails left before) (scene_of fails_now left_now now) refusal
     → HasFailed before.input.failures now.input.failures ⊎ NamesFile task before.files (codes "standard input")
 
--- And a task that reads text files says that this is too long only if it has more bytes than a file may have, where it tells them.
+-- And a task that reads text files says that this is too long only if it has too many bytes and tells them.
 abbrev pub InputIsLong : (fails fails_now : (path : List ℕ) → Type 0) (left left_now : Outcomes) → Type 0
 InputIsLong fails fails_now left left_now = (task : Task) (root : List ℕ) (usr strict : Bool) (refusal : Refusal) (before now : Scene)
     → ReadsTexts task → reads_input task ≡ true → IsOver TooLong (codes "standard input") refusal

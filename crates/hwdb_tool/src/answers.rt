@@ -56,7 +56,15 @@ pub fn explain<D: System, I: Source, O: Sink, E: Sink>(
         (E.failures err.old) (E.failures err.new) }
 {
     if is_dash(device) {
-        return answer_input(alloc, root, Form::Explain { json }, system, input, out);
+        return answer_input(
+            alloc,
+            root,
+            Form::Explain { json },
+            false,
+            system,
+            input,
+            out,
+        );
     }
     let answer = explain_given(alloc, root, device.as_bytes(), json, system);
     printed(answer, out, err)

@@ -171,7 +171,7 @@ fn after<'w>(words: &'w [String], path: &str) -> Option<&'w [String]> {
     None
 }
 
-/// Whether a path is one of the words, and where to look for the next one: mostly it is the first after the last that was found.
+/// Whether a path is one of the words, and where to look for the next one. Mostly it is the first after the last that was found.
 fn is_named<'w>(words: &'w [String], left: &'w [String], path: &str) -> (bool, &'w [String]) {
     match after(left, path) {
         Some(rest) => (true, rest),

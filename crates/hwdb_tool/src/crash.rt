@@ -18,8 +18,8 @@ pub fn crash_then_query<D: System>(old: &D, new: &D)
     last_assignments_are_last();
 }
 
-/// A kill between two calls of a run leaves what stood then, which a crash at that moment may leave, too: so the database's
-/// place has what it might have had before, or a query prints for each key the value of the last assignment.
+/// A kill between two calls of a run leaves what was there then, which a crash at that moment may leave, too. So the
+/// database's place has what it might have had before. Or a query prints for each key the value of the last assignment.
 pub fn kill_then_query<D: System>(old: &D, middle: &D, new: &D)
     ensures stood { KillLeavesWhatStood D.Store.tells D.Store.moment D.Store.left_since
         D.Store.seen old.now middle.now new.now }

@@ -68,12 +68,20 @@ pub(crate) fn found_in<D: System>(
     ensures reason { IfErr result
         (HasReason (D.System.may_fail system.now) ⊥ (D.Store.seen system.now)) }
 {
-    let folder = joined(alloc, root, folder)?;
-    let path = path_in(alloc, folder.as_str(), DATABASE)?;
+    let path = database_path(alloc, root, folder)?;
     match system.database(alloc, path.as_str())? {
         Some(bytes) => Ok(Some(FoundDatabase { path, bytes })),
         None => Ok(None),
     }
+}
+
+/// The path of the database in a folder below the root.
+pub(crate) fn database_path(alloc: Global, root: &str, folder: &str) -> Result<String, AllocError>
+    ensures { IfOk result (λ path. string_bytes path
+        ≡ spec.path_in (root.now ++ folder.now) spec.database_name) }
+{
+    let folder = joined(alloc, root, folder)?;
+    path_in(alloc, folder.as_str(), DATABASE)
 }
 
 /// The database at the path, or where none is given the one that is asked.

@@ -33,8 +33,8 @@ use std::alloc::Global;
 
 /// Does what the words say, and returns the status. The first word is the program's name.
 ///
-/// The status is 0 on success. It is 1 if `check`, `test` or `diff` finds something, the database of `status` isn't fresh, or
-/// `--strict` says so. After an error it is 1 as well, and 2 for `diff`; the error's line goes to `err`.
+/// The status is 0 on success. It is 1 if `check`, `test` or `diff` finds something, the database of `status` isn't fresh or hides
+/// one, or `--strict` says so. After an error it is 1 as well, and 2 for `diff`; the error's line goes to `err`.
 ///
 /// Words that the command doesn't take, and that ask for no help, are an error. If the reader of `out` went away the status is
 /// 0, and nothing is said. Only a command that is given `-` reads of `input`.
@@ -219,7 +219,9 @@ fn run<D: Machine, I: Source, O: Sink, E: Sink>(
             )
         }
         Task::Query { devices, json } => {
-            query(alloc, root, devices, *json, system, input, out, err)
+            query(
+                alloc, root, devices, *json, job.reload, system, input, out, err,
+            )
         }
         Task::Explain { device, json } => {
             explain(alloc, root, device.as_str(), *json, system, input, out, err)
@@ -281,7 +283,9 @@ fn run<D: Machine, I: Source, O: Sink, E: Sink>(
         Task::Diff { old, new } => {
             printed(diff(alloc, old.as_str(), new.as_str(), system), out, err)
         }
-        Task::Status { json } => printed(status(alloc, root, *json, system), out, err),
+        Task::Status { json, quiet } => {
+            printed(status(alloc, root, *json, *quiet, system), out, err)
+        }
         Task::Verify { database } => {
             printed(verify(alloc, root, text_of(database), system), out, err)
         }

@@ -11,17 +11,20 @@ ghost use Rattle.hwdb_spec.specs.Asked.{IsAnswered};
 ghost use Rattle.hwdb_spec.specs.Queries.{IsOfInput, IsStreamRefused};
 ghost use Rattle.hwdb_spec.specs.Reasons.{HasAskedReason};
 
-use crate::databases::asked;
+use crate::databases::{FoundDatabase, asked};
+use crate::reloading::{Asked, Watch};
 use hwdb_fs::{Refusal, System};
 use hwdb_io::{Cause, Sink, Source};
-use hwdb_print::{Form, ToolError, run_stream};
+use hwdb_print::{Form, ToolError, run_renewed};
 use std::alloc::Global;
 
-/// Prints what the database below the root gives each device that `input` names, one a line.
+/// Prints what the database below the root gives each device that `input` names, one a line. With `reload` a database that is
+/// replaced meanwhile is read anew before the next line is answered.
 pub fn answer_input<D: System, I: Source, O: Sink>(
     alloc: Global,
     root: &str,
     form: Form,
+    reload: bool,
     system: &D,
     input: &mut I,
     out: &mut O,
@@ -41,13 +44,22 @@ pub fn answer_input<D: System, I: Source, O: Sink>(
     ensures hands_on { HandsOn (O.is_flushed out.old) (O.is_flushed out.new)
         (O.failures out.old) (O.failures out.new) }
 {
-    let found = asked(alloc, root, system)?;
-    match run_stream(alloc, &found.bytes, form, input, out) {
+    let watch = if reload {
+        Some(Watch::new(alloc, root, system)?)
+    } else {
+        None
+    };
+    let FoundDatabase { path, bytes } = asked(alloc, root, system)?;
+    let mut database = Asked {
+        alloc,
+        root,
+        system,
+        bytes,
+        watch,
+    };
+    match run_renewed(alloc, &mut database, form, input, out) {
         Ok(()) => Ok(0),
-        Err(error) => {
-            let path = found.path.as_bytes();
-            Err(refusal_of(alloc, error, path, input.cause()))
-        }
+        Err(error) => Err(refusal_of(alloc, error, path.as_bytes(), input.cause())),
     }
 }
 

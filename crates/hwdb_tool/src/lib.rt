@@ -11,6 +11,7 @@
 //! | `queries` | `query`, of the devices of the words or of standard input |
 //! | `answers` | `explain`, `list` and `ask` |
 //! | `input_devices` | `query -` and `explain -`: the devices that standard input names |
+//! | `reloading` | the database that answers them, and the one that replaces it |
 //! | `checks` | `check` |
 //! | `trials` | `test` |
 //! | `near_misses` | `near` |
@@ -28,7 +29,7 @@
 //! | `crash` | what a crash, a start and a query make of a run |
 //! | `failures` | what failed calls and faulty words leave undone |
 //!
-//! What the tasks ask of a file system is in `hwdb_fs`, what they print in `hwdb_print`, and their devices are in `hwdb_io`; the
+//! What the tasks ask of a file system is in `hwdb_fs`, what they print in `hwdb_print`, and their devices are in `hwdb_io`. The
 //! calls of these are here too.
 #![tactic(auto)]
 
@@ -56,6 +57,7 @@ mod outlet;
 mod printing;
 mod progress;
 mod queries;
+mod reloading;
 mod statuses;
 mod trials;
 mod updates;

@@ -28,8 +28,8 @@ use std::alloc::{AllocError, Global};
 /// How many of the nearest patterns are told, unless a number is given.
 const TOLD: usize = 3;
 
-/// The patterns of the given text files, of which `-` is what `input` has left, that match the device, and the nearest that
-/// don't: at most so many, or three. If no file is given, those of the database below the root. The status is 0.
+/// The patterns of the given text files that match the device, and the nearest that don't: at most so many, or three. The
+/// file `-` is what `input` has left. If no file is given, those of the database below the root. The status is 0.
 pub fn near<D: System, I: Source>(
     alloc: Global,
     root: &str,

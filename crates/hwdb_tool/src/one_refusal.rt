@@ -8,9 +8,9 @@ use hwdb_reader::{law_header_faults, law_one_tree};
 use hwdb_text::laws::{names_are_those_that_count, names_ascend, one_ascending_list};
 use hwdb_writer::law_one_written_form;
 
-/// Over one input a task that only reads ends in one way, if no reading may fail: all but an update, and but the answers to
-/// devices that standard input names. It is done, or it ends with one error of what it reads, but for the words of a cause.
-/// Which fault of a database's nodes is told is left open.
+/// Over one input a task that only reads ends in one way, if no reading may fail. This is so of all but an update, and but
+/// the answers to devices that standard input names. It is done, or it ends with one error of what it reads, but for the
+/// words of a cause. Which fault of a database's nodes is told is left open.
 pub fn errors_are_one<D: System>(first: &D, first_then: &D, second: &D, second_then: &D)
     ensures one { ErrorsAreOne (D.may_fail first.now) (D.may_fail first_then.now)
         (D.may_fail second.now) (D.may_fail second_then.now)
@@ -57,7 +57,8 @@ pub fn words_end_in_one<D: System>(first: &D, first_then: &D, second: &D, second
     one_ascending_list();
 }
 
-/// What an error says of standard input is so: a call of it failed, or it, or a line of it, has more bytes than a file may have.
+/// What an error says of standard input is so: a call of it failed, or it has more bytes than a file may have. Or a line of it
+/// has.
 pub fn input_errors_are_so<D: System>(before: &D, then: &D)
     ensures read { InputIsRead (D.may_fail before.now) (D.may_fail then.now)
         (D.Store.may_leave before.now) (D.Store.may_leave then.now) }

@@ -135,8 +135,8 @@ fn full_progress(
     Ok(text)
 }
 
-/// What is said of chosen files before their fault lines: where the names of /usr/lib's files are given, a line for each
-/// chosen file, and how much they assign; else nothing. Counting takes a walk over the database.
+/// What is said of chosen files before their fault lines. If the names of /usr/lib's files are given, it is a line for
+/// each chosen file, and how much they assign. Else it is nothing. Counting takes a walk over the database.
 pub fn progress(
     alloc: Global,
     files: &[ChosenFile<'_>],

@@ -28,6 +28,7 @@ pub fn query<D: System, I: Source, O: Sink, E: Sink>(
     root: &str,
     devices: &[String],
     json: bool,
+    reload: bool,
     system: &D,
     input: &mut I,
     out: &mut O,
@@ -53,7 +54,15 @@ pub fn query<D: System, I: Source, O: Sink, E: Sink>(
         (E.failures err.old) (E.failures err.new) }
 {
     if is_input(devices) {
-        return answer_input(alloc, root, Form::Query { json }, system, input, out);
+        return answer_input(
+            alloc,
+            root,
+            Form::Query { json },
+            reload,
+            system,
+            input,
+            out,
+        );
     }
     let answer = query_given(alloc, root, devices, json, system);
     printed(answer, out, err)

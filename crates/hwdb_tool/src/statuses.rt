@@ -1,5 +1,5 @@
 //! `status`: the database that is asked, beside the one that the text files make. Nothing is written.
-ghost use Rattle.std.specs.Prelude.{◌≡◌, ◌≤◌, ◌++◌, ℕ, List, All, Some, codes, false, map, option_map, string_bytes, true, IfErr, IfOk, OnOk};
+ghost use Rattle.std.specs.Prelude.{◌≡◌, ◌≤◌, ◌++◌, ℕ, List, All, Some, codes, false, length, map, option_map, string_bytes, true, IfErr, IfOk, IfSome, OnOk};
 ghost use Rattle.hwdb_compile.specs.Views.{ForFolders, choice_in};
 ghost use Rattle.hwdb_fs.specs.Internal.{IsNameSet};
 ghost use Rattle.hwdb_spec.specs.Refusals.{HasReason, IsUnreadAt};
@@ -10,6 +10,7 @@ ghost use Rattle.hwdb_spec.specs.Asked;
 ghost use Rattle.hwdb_spec.specs.Runs.{OnOut};
 ghost use Rattle.hwdb_spec.specs.System as Folder;
 ghost use Rattle.hwdb_spec.specs.System.{bytes_at};
+ghost use Rattle.hwdb_spec.specs.Texts.{max_file};
 ghost use Rattle.hwdb_spec.specs.Tree.{Map};
 ghost use Rattle.hwdb_spec.specs.Written.{IsDatabaseOf};
 ghost use Rattle.hwdb_text.specs.Views.{IsStorableChoice, choice_of};
@@ -25,7 +26,7 @@ use crate::hiding::database_path;
 use crate::progress::masks;
 use hwdb_compile::{ChosenFile, Compiled, compile_chosen};
 use hwdb_fs::{Refusal, System, name_set, selected, with_texts};
-use hwdb_inspect::{Report, State, report_in, state_of, status_of};
+use hwdb_inspect::{Report, State, report_in, state_of};
 use hwdb_io::MAX_BYTES;
 use hwdb_print::ToolError;
 use hwdb_text::Chosen;
@@ -115,6 +116,8 @@ fn asked_in_usr<D: System>(alloc: Global, root: &str, system: &D) -> Result<Aske
         (λ a. a.usr ≡ has_database true root.now (D.Store.seen system.now)) }
     ensures bytes { D.Store.tells → IfOk result (λ a. option_map (λ b. b.items) a.bytes
         ≡ bytes_at (D.Store.seen system.now) (Asked.database_path true root.now)) }
+    ensures within { IfOk result (λ a. IfSome (option_map (λ b. b.items) a.bytes)
+        (λ b. length b ≤ max_file)) }
     ensures refused { D.Store.tells → IfErr result (IsUnreadAt (D.Store.seen system.now)
         (Asked.database_path true root.now)) }
     ensures reason { IfErr result
@@ -146,6 +149,8 @@ fn asked_database<D: System>(
         (λ a. a.usr ≡ has_database true root.now (D.Store.seen system.now)) }
     ensures bytes { D.Store.tells → IfOk result (λ a. option_map (λ b. b.items) a.bytes
         ≡ Folder.asked_database root.now (D.Store.seen system.now)) }
+    ensures within { IfOk result (λ a. IfSome (option_map (λ b. b.items) a.bytes)
+        (λ b. length b ≤ max_file)) }
     ensures refused { D.Store.tells
         → IfErr result (IsAskedUnread root.now (D.Store.seen system.now)) }
     ensures reason { IfErr result
@@ -232,13 +237,26 @@ fn update_words(alloc: Global, usr: bool, root: &str) -> Result<Vec<u8>, AllocEr
     Ok(words)
 }
 
-/// Whether the database of /usr/lib is asked, by whether there is one of /etc and one of /usr/lib.
-fn is_usr_asked(etc: bool, usr: bool) -> bool
-    ensures { result ≡ Status.is_usr_asked etc usr }
+/// The command that makes the database of /usr/lib anew, and removes the one that hides it.
+fn unhiding_words(alloc: Global, root: &str) -> Result<Vec<u8>, AllocError>
+    ensures { IfOk result (λ words. words.items ≡ Status.update_words true root.now
+        ++ (codes " && rm " ++ Asked.database_path false root.now)) }
+{
+    let hiding = database_path(alloc, root, false)?;
+    let mut words = update_words(alloc, true, root)?;
+    words.extend_from_slice(b" && rm ")?;
+    words.extend_from_slice(hiding.as_bytes())?;
+    Ok(words)
+}
+
+/// The command after which the asked database is fresh and hides none, by whether there is one of /etc and one of /usr/lib.
+fn remedy_of(alloc: Global, root: &str, etc: bool, usr: bool) -> Result<Vec<u8>, AllocError>
+    ensures { IfOk result (λ words. words.items ≡ Status.remedy_of root.now etc usr) }
 {
     match (etc, usr) {
-        (false, true) => true,
-        _ => false,
+        (true, true) => unhiding_words(alloc, root),
+        (false, true) => update_words(alloc, true, root),
+        (_, false) => update_words(alloc, false, root),
     }
 }
 
@@ -260,7 +278,7 @@ fn report_of(
         hides: path_hidden(alloc, root, etc, usr)?,
         masked,
         state,
-        remedy: update_words(alloc, is_usr_asked(etc, usr), root)?,
+        remedy: remedy_of(alloc, root, etc, usr)?,
     })
 }
 
@@ -279,12 +297,13 @@ fn reported<D: System>(
     alloc: Global,
     root: &str,
     json: bool,
+    quiet: bool,
     made: &[u8],
     masked: Vec<Vec<u8>>,
     system: &D,
 ) -> Result<Answer, Refusal>
     ensures reported { D.Store.tells → IfOk result (λ a. (m : Map) → IsDatabaseOf m made.now
-        → IsReported root.now json (D.Store.seen system.now) made.now m
+        → IsReported root.now json quiet (D.Store.seen system.now) made.now m
         (map (λ p. p.items) masked.items) a) }
     ensures refused { D.Store.tells
         → IfErr result (IsAskedUnread root.now (D.Store.seen system.now)) }
@@ -293,15 +312,14 @@ fn reported<D: System>(
 {
     let asked = asked_database(alloc, root, system)?;
     let state = state_of(alloc, bytes_of(&asked.bytes), made)?;
-    let status = status_of(&state);
     let report = report_of(alloc, root, asked.etc, asked.usr, masked, state)?;
-    let text = report_in(alloc, &report, json)?;
-    Ok(Answer::new(alloc, text, status))
+    let text = report_in(alloc, &report, json, quiet)?;
+    Ok(Answer::new(alloc, text, report.status()))
 }
 
 /// Which database is asked, which one it hides, and which text files are masked: as lines, or with `json` as a line of JSON. It
-/// says too whether the asked one is what the text files of both folders below the root make now. The status is 0 if it is,
-/// else 1.
+/// says too whether the asked one is what the text files of both folders below the root make now. The status is 0 if it is, and
+/// hides none, else 1. If `quiet` the status alone is told.
 ///
 /// Errors are, in this order: the text files can't be read, they can't be compiled, and the database that is asked can't be read.
 /// The time is that of an update without its sync.
@@ -309,10 +327,11 @@ pub fn status<D: System>(
     alloc: Global,
     root: &str,
     json: bool,
+    quiet: bool,
     system: &D,
 ) -> Result<Answer, Refusal>
-    ensures status { D.Store.tells → IfOk result (λ a. OnOut
-        (λ text. IsStatus root.now json (D.Store.seen system.now) text a.status) (texts_in a)) }
+    ensures status { D.Store.tells → IfOk result (λ a. OnOut (λ text. IsStatus
+        root.now json quiet (D.Store.seen system.now) text a.status) (texts_in a)) }
     ensures refused { D.Store.tells
         → IfErr result (IsStatusRefused root.now (D.Store.seen system.now)) }
     ensures reason { D.Store.tells → IfErr result
@@ -322,5 +341,5 @@ pub fn status<D: System>(
     let files = with_texts(alloc, &selection.chosen, &selection.texts)?;
     let made = compiled(alloc, &files)?;
     let masked = masked_paths(alloc, &files, &selection.listed)?;
-    reported(alloc, root, json, &made.database, masked, system)
+    reported(alloc, root, json, quiet, &made.database, masked, system)
 }

@@ -96,7 +96,7 @@ fn fault_at(alloc: Global, path: &[u8], fault: DbFault) -> Result<Vec<u8>, Alloc
     Ok(text)
 }
 
-/// The words of a fault of the database at a path: its name and the path, and below them what is wrong, where that may come
+/// The words of a fault of the database at a path: its name and the path. Below them is what is wrong, where that may come
 /// from, and what to do.
 pub fn verdict(alloc: Global, path: &[u8], fault: DbFault) -> Result<Vec<u8>, AllocError>
     ensures { IfOk result (λ text. text.items ≡ verdict_text path.now fault) }

@@ -9,12 +9,12 @@ use Rattle.hwdb_spec.specs.Tree.Tree.{Node}
 use Rattle.hwdb_spec.specs.Tree.Children.{NoMore, Child}
 use Rattle.hwdb_spec.specs.Format.{number_at, text_at, prefix_off, children_count, values_count, record_end, value_at, IsPlace, IsValue, ValuesText, NodeText, ChildrenText, layout_of, IsHeader, IsDatabase}
 use Rattle.hwdb_spec.specs.Written.{strings_of, strings_below, strings_of_value, table_of, section_of, ended, place_of, text_size, texts_size, record_at, padding, value_text, entries_text, node_text, nodes_text, header_text, written}
-use Rattle.hwdb_writer.specs.Internal.Membership.{Holds}
 use Rattle.hwdb_writer.specs.Internal.Storable.{HasNoZero, IsText, IsStorableValue, IsStorable, AreStorable, IsSound}
-use Rattle.hwdb_writer.proofs.DistinctLemmas.{IsOrdered, ascending_ordered, holds_ascending}
 use Rattle.hwdb_writer.proofs.LengthLemmas.{length-node, length-nodes, length-entries, length-value}
 use Rattle.hwdb_writer.proofs.WholeLemmas.{length-written}
 use Rattle.hwdb_writer.proofs.ReadBackLemmas.{Stands, stands_front, stands_back, stands_bound, stands_same, number_read, byte_read, text_read, place_stands, place_above, last_zero}
+use Rattle.hwdb_text.specs.Lemmas.Ascending.{IsOrdered, ascending_ordered, holds_ascending}
+use Rattle.hwdb_text.specs.Lemmas.Members.{Holds}
 
 -- the layout of what is written
 abbrev sizes : ℕ → ℕ → Layout

@@ -5,9 +5,9 @@ use Rattle.hwdb_writer.specs.Internal.Spine.{Frame, node_of, under, full_path, s
 use Rattle.hwdb_writer.specs.declared.entries.Setting.{Setting}
 use Rattle.hwdb_writer.specs.declared.builder.OpenBranch.{OpenBranch}
 use Rattle.hwdb_writer.specs.declared.builder.Builder.{Builder}
-use Rattle.hwdb_writer.proofs.MapLemmas.{cancel}
 use Rattle.hwdb_writer.proofs.SpineLemmas.{count-in, append_none, closed_frame, close_values, close_path, close_forked, whole_frame, cut_frame, cut_values, cut_path, length-under, below_more}
 use Rattle.hwdb_writer.proofs.OpenLemmas.{above_it, close_open, cut_open, lowest_end, last_is}
+use Rattle.hwdb_spec.specs.Lemmas.Lists.{same_byte, same_rest}
 
 pub forked_filled : (fs : List Frame) → IsForkedTop fs → IsFilled fs
 unfolding IsForked
@@ -22,11 +22,6 @@ first_of : ℕ → List ℕ → ℕ
 first_of d [] = d
 first_of d (x ∷ xs) = x
 
--- what is in front of two rests
-first_same : (xs ys zs : List ℕ) (c d : ℕ) → xs ++ c ∷ ys ≡ xs ++ d ∷ zs → c ≡ d
-unfolding first_of
-first_same xs ys zs c d e = ap (first_of 0) (cancel xs (c ∷ ys) (d ∷ zs) e)
-
 -- one more is closed or cut, after others
 closed_more : (old mid new : List Frame) (c : ℕ) (rest : List ℕ) → IsClosed old mid → spine_values new ≡ spine_values mid → full_path mid ≡ full_path new ++ c ∷ rest → IsFilled new
     → ((b : ℕ) → c < b → AllBelow b (lowest_done new)) → IsClosed old new
@@ -38,7 +33,7 @@ closed_more old mid new c rest is v p filled below =
       front = (c ∷ (rest ++ r), q);
       filled = filled;
       same = λ e. absurd (same_length (full_path new) c (rest ++ r) (sym e ∙ q));
-      below = λ d more b e lt. let s = first_same (full_path new) (rest ++ r) more c d (sym q ∙ e) in below b (omega (arith, s, lt));
+      below = λ d more b e lt. let s = same_byte (full_path new) (rest ++ r) more c d (sym q ∙ e) in below b (omega (arith, s, lt));
     }
 
 pub start : (es : List Setting) (at : ℕ) (b : Builder) (fs : List Frame) → IsClosable es b fs → at ≤ b.top.end → IsClosing es at b b fs fs

@@ -52,10 +52,6 @@ kept_front a b c n e f = (λ i. take (e i) (f i)) ∙ take-append_seam a b
 pub kept_back : (a b c : List ℕ) (n : ℕ) → n ≡ length a → c ≡ a ++ b → drop n c ≡ b
 kept_back a b c n e f = (λ i. drop (e i) (f i)) ∙ drop-append_seam a b
 
--- three pieces
-pub three : (o a b d p q r : List ℕ) → a ≡ o ++ p → b ≡ a ++ q → d ≡ b ++ r → d ≡ o ++ (p ++ (q ++ r))
-three o a b d p q r e f g = g ∙ ap (λ x. x ++ r) (f ∙ ap (λ x. x ++ q) e) ∙ (simp append_assoc)
-
 abbrev pub M : ℕ
 M = 2 ^ 64 - 1
 

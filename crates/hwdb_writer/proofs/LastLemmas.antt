@@ -15,7 +15,8 @@ use Rattle.hwdb_spec.specs.Assignment.{Assignment}
 use Rattle.hwdb_spec.specs.Tree.{Map, place_cmp, entry_of, surviving}
 use Rattle.hwdb_writer.specs.Internal.Entries.{assignment_of, place_of, by_place, by_place_total, IsStorableEntry}
 use Rattle.hwdb_writer.specs.declared.entries.Setting.{Setting}
-use Rattle.hwdb_writer.proofs.MapLemmas.{Place, place_total, place_same, is_place}
+use Rattle.hwdb_writer.proofs.MapLemmas.{Place, is_place}
+use Rattle.hwdb_spec.specs.Lemmas.Places.{equal_place, place_total}
 
 -- what the entries have at a place: the first
 abbrev at : Place → List Setting → Option Assignment
@@ -89,7 +90,7 @@ abbrev pub map_of_entries : List Setting → Map
 map_of_entries es = from_entries (map entry_of (map assignment_of es))
 
 pub same_at : (xs ys : List Setting) → ((q : Place) → at q xs ≡ at q ys) → map_of_entries xs ≡ map_of_entries ys
-same_at xs ys h = same_map place_total place_same _ _ (λ q. get-from_entries place_total _ q ∙ h q ∙ sym (get-from_entries place_total _ q))
+same_at xs ys h = same_map place_total equal_place _ _ (λ q. get-from_entries place_total _ q ∙ h q ∙ sym (get-from_entries place_total _ q))
 
 reversed : (es : List Setting) → map assignment_of (reverse es) ≡ reverse (map assignment_of es)
 reversed [] = refl

@@ -11,7 +11,6 @@ pub mod StoredLemmas
 pub mod RecordLemmas
 pub mod StorableLemmas
 pub mod SpacedLemmas
-pub mod DistinctLemmas
 pub mod PlaceLemmas
 pub mod LengthLemmas
 pub mod EmissionLemmas

@@ -1,9 +1,8 @@
 -- To set a place of a tree is to set it in the map.
 use Rattle.std.proofs.Common.{◌≡◌, ℕ, List, [], ◌∷◌, ◌++◌, map, flat_map, Bool, true, false, cond, Option, Some, None, refl, sym, ◌∙◌, ap, arith, append_assoc, eqb, Ordering, option_map}
 use Rattle.std.specs.declared.cmp.Ordering.TheVariants.{Less, Equal, Greater}
-use Rattle.std.specs.Ordering.{nat_cmp, eq_by_cmp, is_eq, ordering_then}
-use Rattle.std.specs.Cmp.{IsTotalOrder, then_total, on_total}
-use Rattle.std.specs.Cmp.Lexicographic.{slice_cmp, nat_list_cmp_total}
+use Rattle.std.specs.Ordering.{nat_cmp, eq_by_cmp, is_eq}
+use Rattle.std.specs.Cmp.Lexicographic.{slice_cmp}
 use Rattle.std.specs.FinMap.{IsAntisymmetric, slice_cmp-IsAntisymmetric, nat_cmp-IsAntisymmetric}
 use Rattle.std.specs.FinMap.Entries.{find}
 use Rattle.std.proofs.lemmas.Bool.Decides.{nat_tests}
@@ -11,6 +10,9 @@ use Rattle.hwdb_spec.specs.Assignment.{Assignment}
 use Rattle.hwdb_spec.specs.Tree.{Value, Tree, Children, place_cmp, entry_of, assigned_at, values_under, values_below, key_of}
 use Rattle.hwdb_spec.specs.Tree.Tree.{Node}
 use Rattle.hwdb_spec.specs.Tree.Children.{NoMore, Child}
+use Rattle.hwdb_spec.specs.Lemmas.Orders.{then_equal}
+use Rattle.hwdb_spec.specs.Lemmas.Places.{equal_place}
+use Rattle.hwdb_spec.specs.Lemmas.Lists.{same_rest}
 
 abbrev pub Place : Type 0
 Place = List ℕ × List ℕ
@@ -22,21 +24,8 @@ Entry = List ℕ × Value
 abbrev pub assignment_of : Entry → List Assignment
 assignment_of p = assigned_at p.0 p.1 (key_of p.1.key)
 
-pub place_total : IsTotalOrder place_cmp
-place_total = then_total (on_total (λ (p : Place). p.0) nat_list_cmp_total) (on_total (λ (p : Place). p.1) nat_list_cmp_total)
-
 pub bytes_same : IsAntisymmetric (slice_cmp nat_cmp)
 bytes_same = slice_cmp-IsAntisymmetric nat_cmp-IsAntisymmetric
-
-both_equal : (a b : Ordering) → ordering_then a b ≡ Equal → (a ≡ Equal) × (b ≡ Equal)
-both_equal Less b e = absurd (cc)
-both_equal Equal b e = (refl, e)
-both_equal Greater b e = absurd (cc)
-
-pub place_same : IsAntisymmetric place_cmp
-place_same x y e =
-    let b = both_equal (slice_cmp nat_cmp x.0 y.0) (slice_cmp nat_cmp x.1 y.1) e in
-    λ i. (bytes_same x.0 y.0 b.0 i, bytes_same x.1 y.1 b.1 i)
 
 -- the first of two
 unfoldable pub either : {A : Type 0} → Option A → Option A → Option A
@@ -108,7 +97,7 @@ apart q p h = no (place_cmp q p) refl
   where
     no : (r : Ordering) → place_cmp q p ≡ r → is_eq r ≡ false
     no Less e = refl
-    no Equal e = absurd (h (ap (λ (x : Place). x.0) (place_same q p e)))
+    no Equal e = absurd (h (ap (λ (x : Place). x.0) (equal_place q p e)))
     no Greater e = refl
 
 pub one_off : (q : Place) (path : List ℕ) (v : Value) → (q.0 ≡ path → ⊥) → one q path v ≡ None
@@ -154,7 +143,7 @@ is_place q p e = yes (place_cmp q p) refl e
   where
     yes : (r : Ordering) → place_cmp q p ≡ r → is_eq r ≡ true → q ≡ p
     yes Less h t = absurd (cc)
-    yes Equal h t = place_same q p h
+    yes Equal h t = equal_place q p h
     yes Greater h t = absurd (cc)
 
 pub one_is : (q : Place) (path : List ℕ) (v : Value) (k : List ℕ) → key_of v.key ≡ Some k → one q path v ≡ cond (is_at q (path, k)) (Some (given v)) None
@@ -166,19 +155,11 @@ differs q p h = no (place_cmp q p) refl
   where
     no : (r : Ordering) → place_cmp q p ≡ r → is_eq r ≡ false
     no Less e = refl
-    no Equal e = absurd (h (place_same q p e))
+    no Equal e = absurd (h (equal_place q p e))
     no Greater e = refl
 
 alike : (x y : ℕ) → eqb x y ≡ true → x ≡ y
 alike x y e = grind (arith, nat_tests)
-
-pub stored_is : (xs k : List ℕ) → key_of xs ≡ Some k → xs ≡ 32 ∷ k
-stored_is [] k e = absurd (cc)
-stored_is (c ∷ key) k e = by (eqb c 32) refl e
-  where
-    by : (b : Bool) → eqb c 32 ≡ b → cond b (Some key) None ≡ Some k → c ∷ key ≡ 32 ∷ k
-    by true h g = let a = alike c 32 h in cc
-    by false h g = absurd (cc)
 
 pub one_other : (q : Place) (path : List ℕ) (k : List ℕ) (w : Value) → q ≡ (path, k) → (key_of w.key ≡ Some k → ⊥) → one q path w ≡ None
 unfolding one
@@ -189,13 +170,9 @@ one_other q path k w is other = by (key_of w.key) refl
     by (Some k') h =
         ap (λ b. cond b (Some (given w)) None) (differs q (path, k') (λ same. other (h ∙ ap (λ (x : Place). Some x.1) (sym same ∙ is))))
 
-pub cancel : (path xs ys : List ℕ) → path ++ xs ≡ path ++ ys → xs ≡ ys
-cancel [] xs ys e = e
-cancel (c ∷ path) xs ys e = cancel path xs ys (cc)
-
 pub fork_off : (path : List ℕ) (b d : ℕ) (more : List ℕ) → (d ≡ b → ⊥) → Off (path ++ b ∷ []) (path ++ d ∷ more)
 fork_off path b d more ne r e =
-    let h = cancel path (d ∷ more) (b ∷ r) (e ∙ append_assoc path (b ∷ []) r) in
+    let h = same_rest path (d ∷ more) (b ∷ r) (e ∙ append_assoc path (b ∷ []) r) in
     ne (cc)
 
 -- a path that goes on is not the path

@@ -1,8 +1,9 @@
 -- Lists with the same members.
 use Rattle.std.proofs.Common.{◌≡◌, ◌<◌, ℕ, zero, suc, arith, List, [], ◌∷◌, ◌++◌, length, get_or, refl, sym, ◌∙◌, ap, subst, append_assoc, ◌⊎◌, inl, inr, ⊎_elim}
 use Rattle.hwdb_spec.specs.Assignment.{ascending}
-use Rattle.hwdb_writer.specs.Internal.Membership.{Holds, SameMembers}
-use Rattle.hwdb_writer.proofs.DistinctLemmas.{one_list, ascending_ordered, holds_ascending, ascending_holds}
+use Rattle.hwdb_writer.specs.Internal.Membership.{SameMembers}
+use Rattle.hwdb_text.specs.Lemmas.Ascending.{ascending_holds, ascending_ordered, holds_ascending, one_list}
+use Rattle.hwdb_text.specs.Lemmas.Members.{Holds}
 
 pub same_refl : (xs : List (List ℕ)) → SameMembers xs xs
 same_refl xs = record { into = λ s h. h; back = λ s h. h }

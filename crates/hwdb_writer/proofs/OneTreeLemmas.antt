@@ -11,7 +11,9 @@ use Rattle.hwdb_spec.specs.Tree.Tree.{Node}
 use Rattle.hwdb_spec.specs.Tree.Children.{NoMore, Child}
 use Rattle.hwdb_spec.specs.Written.{IsTight, AreTight, IsForked, AllKeys, IsTightTree, IsWritten, written}
 use Rattle.hwdb_writer.proofs.MeetingLemmas.{meet, met, Differ}
-use Rattle.hwdb_writer.proofs.MapLemmas.{Place, Entry, Assigned, full, got, found, found_both, found_cons, one, one_is, one_other, either, entries, given, is_at, Off, values_off, off_tree, off_children, off_here, append_nil, place_total, bytes_same, cancel, fork_off, longer, stored_is}
+use Rattle.hwdb_writer.proofs.MapLemmas.{Place, Entry, Assigned, full, got, found, found_both, found_cons, one, one_is, one_other, either, entries, given, is_at, Off, values_off, off_tree, off_children, off_here, append_nil, bytes_same, fork_off, longer}
+use Rattle.hwdb_spec.specs.Lemmas.Places.{key_is as stored_is, place_total}
+use Rattle.hwdb_spec.specs.Lemmas.Lists.{same_rest}
 
 -- the first of two places where something may be found
 either_first : {A : Type 0} (x y : Option A) (a : A) → x ≡ Some a → either x y ≡ Some a
@@ -145,8 +147,8 @@ parted path front c l right values ks u o h f e df same = by right e df
     clash x a at ne =
         let q : Place = ((path ++ prefix_of u) ++ a.rest, a.key) in
         let off : Off (path ++ (front ++ c ∷ l)) q.0 = λ r g.
-        let k = cancel path (front ++ x) ((front ++ c ∷ l) ++ r) (sym at ∙ g ∙ append_assoc path (front ++ c ∷ l) r) in
-        let m = cancel front x (c ∷ l ++ r) (k ∙ append_assoc front (c ∷ l) r) in
+        let k = same_rest path (front ++ x) ((front ++ c ∷ l) ++ r) (sym at ∙ g ∙ append_assoc path (front ++ c ∷ l) r) in
+        let m = same_rest front x (c ∷ l ++ r) (k ∙ append_assoc front (c ∷ l) r) in
         ne (l ++ r) m in
         let none = off_prefix q path (front ++ c ∷ l) values ks off in
         let some = same q ∙ a.here in

@@ -13,7 +13,7 @@ use Rattle.hwdb_spec.specs.Written.{place_of, section_of, ended}
 use Rattle.hwdb_writer.specs.Internal.Places.{starts_from}
 use Rattle.hwdb_writer.specs.Internal.Found.{IsHit, IsGap}
 use Rattle.hwdb_writer.proofs.SearchLemmas.{Up, searched, hit_more, gap_more, turned, turned_back}
-use Rattle.hwdb_writer.proofs.DistinctLemmas.{IsOrdered}
+use Rattle.hwdb_text.specs.Lemmas.Ascending.{IsOrdered}
 
 pub length-section : (s : List ℕ) (ss : List (List ℕ)) → length (section_of (s ∷ ss)) ≡ length s + 1 + length (section_of ss)
 length-section s ss = length-append (ended s) (section_of ss) ∙ ap (λ n. n + length (section_of ss)) (length-append s (0 ∷ []))

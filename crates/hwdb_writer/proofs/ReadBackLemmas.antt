@@ -14,9 +14,9 @@ use Rattle.byteorder.specs.Endian.{little_bytes, little_number}
 use Rattle.byteorder.specs.Numbers.{little_number-reads_back}
 use Rattle.hwdb_spec.specs.Format.{number_at, text_at}
 use Rattle.hwdb_spec.specs.Written.{place_of, section_of, ended}
-use Rattle.hwdb_writer.specs.Internal.Membership.{Holds}
 use Rattle.hwdb_writer.specs.Internal.Storable.{HasNoZero}
-use Rattle.hwdb_writer.proofs.DistinctLemmas.{IsOrdered}
+use Rattle.hwdb_text.specs.Lemmas.Ascending.{IsOrdered}
+use Rattle.hwdb_text.specs.Lemmas.Members.{Holds}
 
 -- the text is in b at i
 pub record Stands (b : List ℕ) (i : ℕ) (text : List ℕ) : Type 0 where

@@ -5,7 +5,7 @@ use Rattle.byteorder.specs.Endian.{little_bytes}
 use Rattle.hwdb_spec.specs.Tree.{Tree}
 use Rattle.hwdb_spec.specs.Written.{text_size, record_at, node_text, place_of, table_of, section_of, header_text, written}
 use Rattle.hwdb_writer.proofs.LengthLemmas.{length-node}
-use Rattle.hwdb_writer.proofs.DistinctLemmas.{IsOrdered, ascending_ordered}
+use Rattle.hwdb_text.specs.Lemmas.Ascending.{IsOrdered, ascending_ordered}
 
 pub length-written : (t : Tree) → length (written t) ≡ 80 + text_size t + length (section_of (table_of t))
 unfolding written

@@ -3,18 +3,14 @@ use Rattle.std.specs.Prelude.{List, ℕ, [], ◌∷◌, ◌++◌, ◌+◌, ◌�
 use Rattle.hwdb_spec.specs.Assignment.{Assignment}
 use Rattle.hwdb_spec.specs.Summary.{depth}
 use Rattle.hwdb_spec.specs.Tree.{Tree}
-use Rattle.hwdb_reader.specs.Views.{node_count, children_of, entered_tree}
+use Rattle.hwdb_reader.specs.Views.{children_of, entered_tree}
 use Rattle.hwdb_query.specs.Internal.Members.{members_in}
 use Rattle.hwdb_inspect.specs.declared.walk.OpenVisit.{OpenVisit}
+use Rattle.hwdb_query.specs.Internal.Live.{nodes_in}
 
 -- the children of a node that aren't done
 abbrev pub kids_of : OpenVisit → List (ℕ × Tree)
 kids_of o = drop o.done (children_of (entered_tree o.inside))
-
--- how many nodes the trees of children have
-abbrev pub nodes_in : List (ℕ × Tree) → ℕ
-nodes_in [] = 0
-nodes_in (k ∷ kids) = node_count k.1 + nodes_in kids
 
 -- the most nodes on one path of the trees of children
 abbrev pub depth_in : List (ℕ × Tree) → ℕ

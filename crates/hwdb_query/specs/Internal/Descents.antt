@@ -9,6 +9,7 @@ use Rattle.hwdb_query.specs.Internal.Members.{members_in}
 use Rattle.hwdb_query.specs.Internal.Live.{live_in, nodes_in}
 use Rattle.hwdb_query.specs.declared.descent.OpenNode.{OpenNode}
 use Rattle.hwdb_query.specs.declared.descent.Live.{Live}
+use Rattle.hwdb_query.specs.declared.descent.Seen.{Seen}
 
 -- the children of a node that aren't done
 abbrev pub kids_of : OpenNode → List (ℕ × Tree)
@@ -68,9 +69,9 @@ pub record IsFedTo (device path more now : List ℕ) (reach : Reached) : Type 0 
   pub live : is_live now device ≡ true
 
 -- what feeding more after a path shows
-abbrev pub IsFed : (device path more now : List ℕ) → Option Reached → Type 0
+abbrev pub IsFed : (device path more now : List ℕ) → Option Seen → Type 0
 IsFed device path more now None = IsLive (path ++ more) device → ⊥
-IsFed device path more now (Some reach) = IsFedTo device path more now reach
+IsFed device path more now (Some seen) = IsFedTo device path more (now ++ seen.tail.now) seen.reach
 
 -- the path is that of a child, and it is live
 pub record IsAt (device base : List ℕ) (k : ℕ × Tree) (path : List ℕ) (reach : Reached) : Type 0 where
@@ -80,12 +81,17 @@ pub record IsAt (device base : List ℕ) (k : ℕ × Tree) (path : List ℕ) (re
   pub live : is_live path device ≡ true
 
 -- what a look at one child shows
-abbrev pub IsSeen : (device base : List ℕ) (k : ℕ × Tree) (path : List ℕ) → Option Reached → Type 0
+abbrev pub IsSeen : (device base : List ℕ) (k : ℕ × Tree) (path : List ℕ) → Option Seen → Type 0
 IsSeen device base k path None = Passes device base (k ∷ []) []
-IsSeen device base k path (Some reach) = IsAt device base k path reach
+IsSeen device base k path (Some seen) = IsAt device base k (path ++ seen.tail.now) seen.reach
 
 abbrev pub child_of : Live → ℕ × Tree
 child_of l = (l.child.byte, tree_of l.child.node)
+
+-- the next child whose path is live, whose end isn't copied yet, and those after it
+abbrev pub IsFound : (device base : List ℕ) (kids rest : List (ℕ × Tree)) (path : List ℕ) → Option Live → Type 0
+IsFound device base kids rest path None = Passes device base kids [] × (path ≡ base)
+IsFound device base kids rest path (Some l) = Passes device base kids (child_of l ∷ rest) × IsAt device base (child_of l) (path ++ l.tail.now) l.reach
 
 -- the next child whose path is live, and those after it
 abbrev pub IsNext : (device base : List ℕ) (kids rest : List (ℕ × Tree)) (path : List ℕ) → Option Live → Type 0

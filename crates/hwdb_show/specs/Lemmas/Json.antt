@@ -1,14 +1,15 @@
 -- What holds of the tokens of values, by those of their parts. For the proofs of each crate that writes JSON.
-use Rattle.std.proofs.Common.{◌≡◌, ◌∙◌, Bool, true, false, ap, sym, refl, ℕ, List, [], ◌∷◌, ◌++◌, append_assoc, flat_map, map, if◌then◌else◌}
+use Rattle.std.proofs.Common.{◌≡◌, ◌∙◌, Bool, ap, sym, refl, ℕ, List, [], ◌∷◌, ◌++◌, append_assoc, flat_map, map, if◌then◌else◌}
 use Rattle.std.proofs.lemmas.Grind.{flat_map-append}
-use Rattle.std.specs.Str.{IsUtf8, is_utf8}
+use Rattle.std.specs.Str.{IsUtf8}
 use Rattle.std.proofs.lemmas.List.{append-nil}
-use Rattle.std.proofs.lemmas.Str.{IsUtf8-from_is_utf8, is_utf8-from_IsUtf8}
+use Rattle.std.proofs.lemmas.Str.{is_utf8-from_IsUtf8}
 use Rattle.json.specs.Json.{Json, string}
 use Rattle.json.specs.Token.{Token}
 use Rattle.json.specs.Tree.{json_tokens, items_tokens, members_tokens}
 use Rattle.hwdb_spec.specs.Json.{array_of, items_of, members_of, number_json, object_of, text_json}
 use Rattle.hwdb_show.specs.JsonTokens.{tokens_of_member, tokens_of_members}
+use Rattle.hwdb_spec.specs.Lemmas.Orders.{not_utf8}
 
 -- ---- arrays and objects
 
@@ -77,14 +78,6 @@ pub no_members_yet : (front now : List Token) → now ≡ front → now ≡ fron
 no_members_yet front now is = is ∙ sym (append-nil front)
 
 -- ---- texts
-
--- a text that isn't UTF-8 is told so
-pub not_utf8 : (text : List ℕ) → (IsUtf8 text → ⊥) → is_utf8 text ≡ false
-not_utf8 text none = go (is_utf8 text) refl
-  where
-    go : (b : Bool) → is_utf8 text ≡ b → b ≡ false
-    go true is = absurd (none (IsUtf8-from_is_utf8 text is))
-    go false is = refl
 
 -- the tokens of a text, if it is UTF-8 and if it isn't
 abbrev text_tokens : List ℕ → Bool → List Token

@@ -1,4 +1,4 @@
-//! The calls of the commands without their clauses: a test compares what they did, and its proof is short where it has
+//! The calls of the commands without their clauses. A test compares what they did, and its proof is short if it has
 //! only plain values before it.
 use hwdb_io::Sink;
 use hwdb_print::ToolError;

@@ -1,4 +1,4 @@
-//! How many nodes a lookup enters: over what the compiler makes of text files, and over databases of the same maps, as another
+//! How many nodes a lookup enters: over what the compiler makes of text files. And over databases of the same maps, as another
 //! tool may write them.
 use crate::tests::compiling::compiled;
 use hwdb_query::cursor;

@@ -1,10 +1,6 @@
 -- Which strings a list has, in any order and however often.
-use Rattle.std.specs.Prelude.{List, [], ℕ, ◌∷◌, ◌≡◌, ◌⊎◌}
-
--- the text is one of the list
-abbrev pub Holds : List (List ℕ) → List ℕ → Type 0
-Holds [] s = ⊥
-Holds (t ∷ ts) s = (s ≡ t) ⊎ Holds ts s
+use Rattle.std.specs.Prelude.{List, ℕ}
+use Rattle.hwdb_text.specs.Lemmas.Members.{Holds}
 
 -- each text of one list is one of the other
 pub record SameMembers (xs ys : List (List ℕ)) : Type 0 where

@@ -1,4 +1,4 @@
 use Rattle.hwdb_cli.proofs.query.command.Goals as goal
 
 pub returns : goal.returns
-returns c = c.with_argument.ensures _ _ (c.with_argument-with_json.ensures _ _ c.shared-command.ensures c.json_option.ensures) c.needed_word-devices.ensures
+returns c = c.with_argument.ensures _ _ (c.with_argument-with_json.ensures _ _ (c.with_argument-with_reload.ensures _ _ (c.with_argument-with_text.ensures _ _ c.shared-command.ensures c.text_option.ensures) c.flag.ensures) c.json_option.ensures) c.needed_word-devices.ensures

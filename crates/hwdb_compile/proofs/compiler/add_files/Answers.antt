@@ -6,9 +6,10 @@ use Rattle.hwdb_text.specs.Views.{IsStorableChoice}
 use Rattle.hwdb_compile.specs.declared.sources.ChosenFile.{ChosenFile}
 use Rattle.hwdb_compile.specs.Views.{FewLines, ManyLines, bytes_in, choice_in, fault_of}
 use Rattle.hwdb_compile.specs.Internal.Reading.{path_in, assignments_in, faults_in, IsFilesRefusal}
-use Rattle.hwdb_compile.proofs.GatherLemmas.{all_at, same_at, as_long, any_here, counted_more, taken_more, tree_step, list_step}
+use Rattle.hwdb_compile.proofs.GatherLemmas.{all_at, same_at, as_long, any_here, counted_more, tree_step, list_step}
 use Rattle.hwdb_compile.proofs.AcceptanceLemmas.{error_given, files_refusal}
 use Rattle.hwdb_compile.proofs.compiler.add_files.Goals as goal
+use Rattle.hwdb_spec.specs.Lemmas.Lists.{taken_more}
 
 pub bounds-paths-i : goal.bounds-paths-i
 bounds-paths-i c = let same = as_long string_bytes path_in c.args.paths.now c.args.files.now c.requires.paths in omega (arith, same, c.loop-i-test.true)

@@ -4,8 +4,9 @@ use Rattle.hwdb_text.specs.declared.outcome.Given.{Given}
 use Rattle.hwdb_text.specs.Views.{origin, given_in}
 use Rattle.hwdb_spec.specs.Tree.{surviving}
 use Rattle.hwdb_compile.specs.Internal.Reading.{IsPuttable}
-use Rattle.hwdb_compile.proofs.GatherLemmas.{all_at, no_zero, mapped_more, mapped_all, put_step}
+use Rattle.hwdb_compile.proofs.GatherLemmas.{all_at, no_zero, mapped_all, put_step}
 use Rattle.hwdb_compile.proofs.compiler.put_all.Goals as goal
+use Rattle.hwdb_spec.specs.Lemmas.Lists.{mapped_more}
 
 -- what an index reads after the end of the list
 abbrev none : Given

@@ -5,9 +5,10 @@ use Rattle.hwdb_text.specs.Views.{choice_of}
 use Rattle.hwdb_compile.specs.declared.sources.ChosenFile.{ChosenFile}
 use Rattle.hwdb_compile.specs.Views.{sources, bytes_in, choice_in}
 use Rattle.hwdb_compile.specs.Internal.Reading.{bytes_at}
-use Rattle.hwdb_compile.proofs.GatherLemmas.{mapped_more, mapped_all}
+use Rattle.hwdb_compile.proofs.GatherLemmas.{mapped_all}
 use Rattle.hwdb_compile.proofs.AcceptanceLemmas.{same_contents}
 use Rattle.hwdb_compile.proofs.sources.with_bytes.Goals as goal
+use Rattle.hwdb_spec.specs.Lemmas.Lists.{mapped_more}
 
 pub loop-choice-init : goal.loop-choice-init
 loop-choice-init c =

@@ -1,10 +1,10 @@
 use Rattle.std.proofs.Common.{Global, List, Vec, map, refl, ap, ◌∙◌, ℕ}
 use Rattle.hwdb_spec.specs.Assignment.{put, text_cmp}
-use Rattle.hwdb_device.proofs.KeyLemmas.{key_put}
 use Rattle.hwdb_device.proofs.outcomes.add_key.Goals as goal
+use Rattle.hwdb_sysfs.specs.Lemmas.Names.{name_put}
 
 pub returns : goal.returns
 returns c =
     let items = λ (v : Vec ℕ Global). v.items in
-    ap (map items) c.in_ok-insert.ensures.keys ∙ key_put _ (λ a b. refl) c.args.keys.now.keys c.in_ok-key.key
+    ap (map items) c.in_ok-insert.ensures.keys ∙ name_put _ (λ a b. refl) c.args.keys.now.keys c.in_ok-key.key
     ∙ ap (λ (t : List ℕ). put text_cmp t (map items c.args.keys.now.keys)) c.in_ok-key.ensures.items

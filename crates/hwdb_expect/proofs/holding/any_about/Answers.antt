@@ -1,8 +1,8 @@
 use Rattle.std.proofs.Common.{◌+◌, List, add-one, map, ℕ}
 use Rattle.hwdb_spec.specs.Wanted.{is_about}
 use Rattle.hwdb_expect.specs.Views.{line_at, pair_at}
-use Rattle.hwdb_expect.proofs.AnyLemmas.{any_found, any_none, any_passed}
 use Rattle.hwdb_expect.proofs.holding.any_about.Goals as goal
+use Rattle.hwdb_lint.specs.Lemmas.Any.{any_found, any_none, any_passed}
 
 pub returns-then-is_about : goal.returns-then-is_about
 returns-then-is_about c =

@@ -1,5 +1,5 @@
-use Rattle.hwdb_expect.proofs.FileLemmas.{file_refused}
 use Rattle.hwdb_expect.proofs.trials.try_files.Goals as goal
+use Rattle.hwdb_lint.specs.Lemmas.Files.{file_refused}
 
 pub returns-in_err-try_file-clause-errors : goal.returns-in_err-try_file-clause-errors
 returns-in_err-try_file-clause-errors c =

@@ -1,8 +1,8 @@
 use Rattle.std.proofs.Common.{◌+◌, add-one}
 use Rattle.hwdb_spec.specs.Wanted.{names}
 use Rattle.hwdb_expect.specs.Views.{line_at}
-use Rattle.hwdb_expect.proofs.AnyLemmas.{any_found, any_none, any_passed}
 use Rattle.hwdb_expect.proofs.wanted_lines.any_names.Goals as goal
+use Rattle.hwdb_lint.specs.Lemmas.Any.{any_found, any_none, any_passed}
 
 pub returns-then-names : goal.returns-then-names
 returns-then-names c =

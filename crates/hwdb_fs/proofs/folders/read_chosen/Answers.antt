@@ -8,8 +8,9 @@ use Rattle.hwdb_text.specs.Views.{choice_of}
 use Rattle.hwdb_spec.specs.Reading.{IsChosenUnread, IsFirstUnread, IsText}
 use Rattle.hwdb_spec.specs.declared.refusals.Refusal.TheVariants.{Plain}
 use Rattle.hwdb_spec.specs.declared.errors.ToolError.TheVariants.{Memory}
-use Rattle.hwdb_fs.proofs.SelectionLemmas.{chosen_unread, first_unread, given_error, texts_more}
+use Rattle.hwdb_fs.proofs.SelectionLemmas.{chosen_unread, first_unread, texts_more}
 use Rattle.hwdb_fs.proofs.folders.read_chosen.Goals as goal
+use Rattle.hwdb_spec.specs.Lemmas.Calls.{given_error}
 
 pub returns-in_err-bytes-clause-refused : goal.returns-in_err-bytes-clause-refused
 returns-in_err-bytes-clause-refused g c =

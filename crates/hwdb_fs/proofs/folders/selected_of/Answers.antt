@@ -8,8 +8,9 @@ use Rattle.hwdb_spec.specs.Texts.{max_file}
 use Rattle.hwdb_spec.specs.Reading.{AreUnread, IsFirstUnread}
 use Rattle.hwdb_spec.specs.Refusals.{HasReason}
 use Rattle.hwdb_fs.proofs.ReasonLemmas.{chosen_reason, first_in_part, texts_in_part}
-use Rattle.hwdb_fs.proofs.SelectionLemmas.{choice_refused, given_error, texts_refused}
+use Rattle.hwdb_fs.proofs.SelectionLemmas.{choice_refused, texts_refused}
 use Rattle.hwdb_fs.proofs.folders.selected_of.Goals as goal
+use Rattle.hwdb_spec.specs.Lemmas.Calls.{given_error}
 
 pub returns-in_err-chosen-clause-refused : goal.returns-in_err-chosen-clause-refused
 returns-in_err-chosen-clause-refused g c = λ files named tells.

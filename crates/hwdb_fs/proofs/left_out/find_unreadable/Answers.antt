@@ -5,8 +5,8 @@ use Rattle.hwdb_spec.specs.Refusals.{IsUnreadable}
 use Rattle.hwdb_spec.specs.declared.refusals.Refusal.TheVariants.{Plain}
 use Rattle.hwdb_spec.specs.declared.errors.ToolError.TheVariants.{Memory}
 use Rattle.hwdb_fs.proofs.LeftOutLemmas.{chosen_at, handed_unread, none_told, told_more}
-use Rattle.hwdb_fs.proofs.SelectionLemmas.{given_error}
 use Rattle.hwdb_fs.proofs.left_out.find_unreadable.Goals as goal
+use Rattle.hwdb_spec.specs.Lemmas.Calls.{given_error}
 
 pub loop-file-init : goal.loop-file-init
 loop-file-init g c =

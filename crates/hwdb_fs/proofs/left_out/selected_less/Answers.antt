@@ -2,8 +2,9 @@ use Rattle.std.proofs.Common.{ap, map, string_bytes, true}
 use Rattle.hwdb_spec.specs.LeftOutTold.{AreUnreadLess}
 use Rattle.hwdb_spec.specs.Refusals.{HasReason}
 use Rattle.hwdb_fs.proofs.LeftOutLemmas.{less_unread, selected_among, whole_unread}
-use Rattle.hwdb_fs.proofs.SelectionLemmas.{both_named, given_error}
+use Rattle.hwdb_fs.proofs.SelectionLemmas.{both_named}
 use Rattle.hwdb_fs.proofs.left_out.selected_less.Goals as goal
+use Rattle.hwdb_spec.specs.Lemmas.Calls.{given_error}
 
 pub returns-in_err-found-clause-refused : goal.returns-in_err-found-clause-refused
 returns-in_err-found-clause-refused g c = λ tells.

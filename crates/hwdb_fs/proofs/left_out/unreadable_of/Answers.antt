@@ -3,8 +3,9 @@ use Rattle.hwdb_spec.specs.Selected.{IsListed}
 use Rattle.hwdb_text.specs.Views.{choice_of}
 use Rattle.hwdb_spec.specs.Reading.{AreUnreadIn, IsChosenUnread}
 use Rattle.hwdb_fs.proofs.LeftOutLemmas.{are_found, chosen_reason_of}
-use Rattle.hwdb_fs.proofs.SelectionLemmas.{choice_refused, each_error, each_value, given_error, texts_refused}
+use Rattle.hwdb_fs.proofs.SelectionLemmas.{choice_refused, texts_refused}
 use Rattle.hwdb_fs.proofs.left_out.unreadable_of.Goals as goal
+use Rattle.hwdb_spec.specs.Lemmas.Calls.{each_error, each_value, given_error}
 
 pub returns-in_err-chosen-clause-refused : goal.returns-in_err-chosen-clause-refused
 returns-in_err-chosen-clause-refused g c = λ named.

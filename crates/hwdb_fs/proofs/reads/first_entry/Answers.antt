@@ -1,8 +1,9 @@
 use Rattle.std.proofs.Common.{◌<◌, ◌∙◌, ◌∷◌, ◌+◌, List, ℕ, ap, arith, length, take}
 use Rattle.std.proofs.lemmas.Grind.{common_steps}
 use Rattle.hwdb_fs.specs.Raw.{entries}
-use Rattle.hwdb_fs.proofs.EntryLemmas.{first_entry_is, last_entry_is, rest_is}
+use Rattle.hwdb_fs.proofs.EntryLemmas.{first_entry_is, last_entry_is}
 use Rattle.hwdb_fs.proofs.reads.first_entry.Goals as goal
+use Rattle.hwdb_text.specs.Lemmas.Pieces.{rest_is}
 
 pub returns-then-end-listing-clause-entry : goal.returns-then-end-listing-clause-entry
 returns-then-end-listing-clause-entry c =

@@ -3,8 +3,8 @@ use Rattle.std.proofs.lemmas.List.{take_all}
 use Rattle.std.proofs.lemmas.Result.{on_ok_weaker}
 use Rattle.std.specs.Prelude.{take}
 use Rattle.hwdb_spec.specs.Json.{text_json}
-use Rattle.hwdb_inspect.proofs.JsonLemmas.{array_closed}
 use Rattle.hwdb_inspect.proofs.json_reports.put_texts.Goals as goal
+use Rattle.hwdb_show.specs.Lemmas.Json.{array_closed}
 
 pub returns-clause-tokens : goal.returns-clause-tokens
 returns-clause-tokens c =

@@ -4,8 +4,9 @@ use Rattle.std.proofs.lemmas.List.Sorted.{ranks_by}
 use Rattle.std.specs.Ordering.{is_lt}
 use Rattle.hwdb_spec.specs.Assignment.{assignment_cmp}
 use Rattle.hwdb_inspect.specs.Views.{assignment_of}
-use Rattle.hwdb_inspect.proofs.OrderedLemmas.{assignment_total, sorted_is_dumped}
+use Rattle.hwdb_inspect.proofs.OrderedLemmas.{sorted_is_dumped}
 use Rattle.hwdb_inspect.proofs.listing.ordered.Goals as goal
+use Rattle.hwdb_spec.specs.Lemmas.Places.{assignment_total}
 
 pub returns : goal.returns
 returns c =

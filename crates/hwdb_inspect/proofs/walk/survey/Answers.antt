@@ -6,10 +6,10 @@ use Rattle.hwdb_inspect.specs.Views.{assignment_of}
 use Rattle.hwdb_query.specs.Internal.Members.{own_members, members_in}
 use Rattle.hwdb_inspect.specs.Internal.Walks.{to_come, left, deepest_to_come, Opened}
 use Rattle.hwdb_inspect.specs.declared.walk.OpenVisit.{OpenVisit}
-use Rattle.hwdb_inspect.proofs.PartLemmas.{members_split, node_and_below}
 use Rattle.hwdb_inspect.proofs.DepthLemmas.{opened_deepest, depth_and_below, nodes_same}
 use Rattle.hwdb_inspect.proofs.WalkLemmas.{opened_comes, opened_stands, opened_left}
 use Rattle.hwdb_inspect.proofs.walk.survey.Goals as goal
+use Rattle.hwdb_query.specs.Lemmas.Parts.{members_split, node_and_below}
 
 pub loop-top-init : goal.loop-top-init
 loop-top-init c =

@@ -1,6 +1,7 @@
 use Rattle.std.proofs.Common.{⊎_elim, refl}
-use Rattle.hwdb_io.proofs.TransferLemmas.{failed_call, not_both}
+use Rattle.hwdb_io.proofs.TransferLemmas.{not_both}
 use Rattle.hwdb_io.proofs.laws.nothing_is_held_back.Goals as goal
+use Rattle.hwdb_spec.specs.Lemmas.Calls.{failed_call}
 
 pub returns-clause-call : goal.returns-clause-call
 returns-clause-call c = λ before now count few one.

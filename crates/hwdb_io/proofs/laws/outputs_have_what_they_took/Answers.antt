@@ -1,5 +1,6 @@
-use Rattle.hwdb_io.proofs.TransferLemmas.{beginning_of, failed_call, not_both}
+use Rattle.hwdb_io.proofs.TransferLemmas.{beginning_of, not_both}
 use Rattle.hwdb_io.proofs.laws.outputs_have_what_they_took.Goals as goal
+use Rattle.hwdb_spec.specs.Lemmas.Calls.{failed_call}
 
 pub returns-clause-whole : goal.returns-clause-whole
 returns-clause-whole c = λ text before now f g took. took.whole

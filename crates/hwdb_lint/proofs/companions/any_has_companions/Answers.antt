@@ -1,8 +1,8 @@
 use Rattle.std.proofs.Common.{◌+◌, add-one}
 use Rattle.hwdb_text.specs.Views.{given_in}
 use Rattle.hwdb_lint.specs.Internal.{has_companions, own}
-use Rattle.hwdb_lint.proofs.AnyLemmas.{any_found, any_none, any_passed}
 use Rattle.hwdb_lint.proofs.companions.any_has_companions.Goals as goal
+use Rattle.hwdb_lint.specs.Lemmas.Any.{any_found, any_none, any_passed}
 
 pub returns-then-has_companions : goal.returns-then-has_companions
 returns-then-has_companions c =

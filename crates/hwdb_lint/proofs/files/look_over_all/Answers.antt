@@ -1,7 +1,8 @@
 use Rattle.std.proofs.Common.{map}
 use Rattle.std.specs.Prelude.{string_bytes}
-use Rattle.hwdb_lint.proofs.FileLemmas.{file_refused, found_step, reports_step}
+use Rattle.hwdb_lint.proofs.FileLemmas.{found_step, reports_step}
 use Rattle.hwdb_lint.proofs.files.look_over_all.Goals as goal
+use Rattle.hwdb_lint.specs.Lemmas.Files.{file_refused}
 
 pub loop-file-preserved : goal.loop-file-preserved
 loop-file-preserved c = record {

@@ -1,7 +1,7 @@
 use Rattle.std.proofs.Common.{◌∷◌, []}
 use Rattle.std.specs.Prelude.{codes}
-use Rattle.hwdb_lint.proofs.RunLemmas.{three_pieces}
 use Rattle.hwdb_lint.proofs.judgements.push_meant.Goals as goal
+use Rattle.hwdb_spec.specs.Lemmas.Lists.{three_pieces}
 
 pub returns : goal.returns
 returns c =

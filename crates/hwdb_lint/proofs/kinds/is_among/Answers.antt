@@ -1,8 +1,8 @@
 use Rattle.std.proofs.Common.{◌∙◌, ◌+◌, add-one, ap}
 use Rattle.std.specs.Prelude.{string_bytes}
 use Rattle.hwdb_spec.specs.Folders.{same}
-use Rattle.hwdb_lint.proofs.AnyLemmas.{any_found, any_none, any_passed}
 use Rattle.hwdb_lint.proofs.kinds.is_among.Goals as goal
+use Rattle.hwdb_lint.specs.Lemmas.Any.{any_found, any_none, any_passed}
 
 pub returns-then-same : goal.returns-then-same
 returns-then-same c =

@@ -1,7 +1,7 @@
 use Rattle.std.proofs.Common.{◌∙◌, ◌∷◌, ◌++◌, [], ap}
 use Rattle.std.specs.Prelude.{codes}
-use Rattle.hwdb_properties.proofs.AppendedLemmas.{three_pieces}
 use Rattle.hwdb_properties.proofs.remarks.push_did_you_mean.Goals as goal
+use Rattle.hwdb_spec.specs.Lemmas.Lists.{three_pieces}
 
 pub returns : goal.returns
 returns c =

@@ -1,26 +1,18 @@
-use Rattle.std.proofs.Common.{ap, arith, filter}
+use Rattle.std.proofs.Common.{◌≡◌, ◌∙◌, ap, arith, filter, subst, List, ℕ}
 use Rattle.std.proofs.lemmas.Result.{on_ok_weaker}
 use Rattle.hwdb_reader.specs.Views.{entered_tree}
 use Rattle.hwdb_spec.specs.Tree.{values_of}
 use Rattle.hwdb_spec.specs.Answers.{is_wanted}
-use Rattle.hwdb_query.proofs.PartLemmas.{own_behind}
-use Rattle.hwdb_query.proofs.StepLemmas.{match_is, mismatch_is}
-use Rattle.hwdb_query.proofs.DescentLemmas.{collected_none, own_collected, own_left}
+use Rattle.hwdb_pattern.specs.Views.{StandsFor}
+use Rattle.hwdb_query.specs.Internal.LongPaths.{path_of}
+use Rattle.hwdb_query.specs.Internal.Members.{own_members}
+use Rattle.hwdb_query.specs.Lemmas.Parts.{own_behind}
+use Rattle.hwdb_query.proofs.DescentLemmas.{collected_none}
 use Rattle.hwdb_query.proofs.descent.collect_matching.Goals as goal
 
-pub returns-then-values-eq0 : goal.returns-then-values-eq0
-returns-then-values-eq0 g c =
+pub returns-then-values-eq0-clause-collected : goal.returns-then-values-eq0-clause-collected
+returns-then-values-eq0-clause-collected g c =
     let n = c.values.ensures in
     let z = c.if-values-eq0.true in
-    collected_none g.C.Collector.collects c.law_collects.ensures.none c.args.into.now _ (ap (filter (is_wanted c.args.reach.now.device)) (own_behind c.args.pattern.now (values_of (entered_tree c.args.inside)) 0 (omega (arith, n, z))))
-
-pub returns-then-not-accepts : goal.returns-then-not-accepts
-returns-then-not-accepts g c =
-    own_left g.C.Collector.collects c.law_collects.ensures.none c.args.reach.now.device c.args.pattern.now (values_of (entered_tree c.args.inside)) c.args.into.now
-    (mismatch_is c.matches_is_tested.ensures c.args.reach.now.device c.args.pattern.now _ c.if-not-accepts.true c.accepts.ensures)
-
-pub returns : goal.returns
-returns g c =
-    on_ok_weaker c.collect.result
-    (λ taken. own_collected g.C.Collector.collects c.args.reach.now.device c.args.pattern.now (values_of (entered_tree c.args.inside)) c.args.into.now c.collect.new.self
-    (match_is c.matches_is_tested.ensures c.args.reach.now.device c.args.pattern.now _ c.if-not-accepts.false c.accepts.ensures) taken) c.collect.ensures
+    collected_none g.C.Collector.collects c.law_collects.ensures.none c.args.into.now _
+    (ap (filter (is_wanted c.args.reach.now.device)) (own_behind (path_of c.args.path.now) (values_of (entered_tree c.args.inside)) 0 (omega (arith, n, z))))

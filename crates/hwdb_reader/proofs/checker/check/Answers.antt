@@ -43,7 +43,7 @@ invariant_of-result c =
     let inside = strings_inside c.args.bytes.now ok.1 in
     let sizes = ap (λ (m : Layout). m.strings) ok.0 in
     let below = e.1.0.1 in
-    record { placed = ∣ record { from = c.in_ok-frame.frame.sizes.nodes; text = e.1.1; inside = omega (arith, below, sizes, inside); small = omega arith } ∣₁ }
+    record { placed = ∣ record { from = c.in_ok-frame.frame.sizes.nodes; text = e.1.1; inside = omega (arith, below, sizes, inside); small = omega arith } ∣₁; starry = c.no_stars.ensures.stars c.args.bytes.now }
 
 pub returns-clause-accepted : goal.returns-clause-accepted
 unfolding tree_of

@@ -8,7 +8,7 @@ invariant_of-result c =
     let l = c.frame_of-frame.result.sizes in
     let e = c.frame_of-frame.ensures in
     let b = c.args.bytes.now in
-    record { placed = ∣ record { from = l.nodes; text = text_of_layout b l e c.requires.0 c.requires.1; inside = inside_of_layout b l e c.requires.0 c.requires.1; small = omega arith } ∣₁ }
+    record { placed = ∣ record { from = l.nodes; text = text_of_layout b l e c.requires.0 c.requires.1; inside = inside_of_layout b l e c.requires.0 c.requires.1; small = omega arith } ∣₁; starry = c.no_stars.ensures.stars c.args.bytes.now }
 
 pub returns : goal.returns
 unfolding tree_of

@@ -1,7 +1,8 @@
 use Rattle.std.proofs.Common.{ap, map, ◌∙◌}
 use Rattle.hwdb_spec.specs.Store.{path_in}
-use Rattle.hwdb_sysfs.proofs.LinkLemmas.{items, named_all}
+use Rattle.hwdb_sysfs.proofs.LinkLemmas.{named_all}
 use Rattle.hwdb_sysfs.proofs.listing.push_links.Goals as goal
+use Rattle.hwdb_sysfs.specs.Lemmas.Names.{items}
 
 pub returns : goal.returns
 returns g c = λ tells.

@@ -1,7 +1,7 @@
 use Rattle.std.proofs.Common.{Global, List, Vec, map, refl, ap, ◌∙◌, ℕ}
 use Rattle.hwdb_spec.specs.Assignment.{put, text_cmp}
-use Rattle.hwdb_sysfs.proofs.NameLemmas.{name_put}
 use Rattle.hwdb_sysfs.proofs.names.add_name.Goals as goal
+use Rattle.hwdb_sysfs.specs.Lemmas.Names.{name_put}
 
 pub returns : goal.returns
 returns c =

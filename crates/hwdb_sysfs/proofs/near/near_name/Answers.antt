@@ -1,9 +1,9 @@
 use Rattle.std.proofs.Common.{◌≡◌, ◌∷◌, Global, List, Vec, ap, flat_map, map, rules, sym, ℕ, ◌∙◌}
 use Rattle.hwdb_spec.specs.DeviceTree.{names_in, nearest_of}
 use Rattle.hwdb_spec.specs.SysfsAnswers.{seen}
-use Rattle.hwdb_sysfs.proofs.LinkLemmas.{items}
 use Rattle.hwdb_sysfs.proofs.NearLemmas.{nearest_after}
 use Rattle.hwdb_sysfs.proofs.near.near_name.Goals as goal
+use Rattle.hwdb_sysfs.specs.Lemmas.Names.{items}
 
 pub folders-preserved : goal.folders-preserved
 folders-preserved g c = λ tells.

@@ -1,8 +1,8 @@
 use Rattle.std.proofs.Common.{◌<◌, ◌∙◌, ◌∷◌, ◌+◌, List, ℕ, ap, arith, length, take}
 use Rattle.std.proofs.lemmas.Grind.{common_steps}
 use Rattle.hwdb_spec.specs.Lines.{is, pieces}
-use Rattle.hwdb_text.proofs.PieceLemmas.{first_is, last_is, rest_is}
 use Rattle.hwdb_text.proofs.pieces.first_piece.Goals as goal
+use Rattle.hwdb_text.specs.Lemmas.Pieces.{first_is, last_is, rest_is}
 
 pub returns-then-end-text-clause-piece : goal.returns-then-end-text-clause-piece
 returns-then-end-text-clause-piece c =

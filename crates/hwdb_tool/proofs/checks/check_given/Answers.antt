@@ -6,9 +6,9 @@ use Rattle.hwdb_spec.specs.CheckedFiles.{AreGivenFiles}
 use Rattle.hwdb_spec.specs.Reasons.{HasFilesReason}
 use Rattle.hwdb_spec.specs.Undone.{IsGivenUnread}
 use Rattle.hwdb_tool.proofs.CheckLemmas.{IsShort, all_checked, given_sources, not_checked, told_of}
-use Rattle.hwdb_tool.proofs.ErrorLemmas.{each_error, given_error}
 use Rattle.hwdb_tool.proofs.GivenLemmas.{files_reason, input_read, pathless_reason, whole_reason}
 use Rattle.hwdb_tool.proofs.checks.check_given.Goals as goal
+use Rattle.hwdb_spec.specs.Lemmas.Calls.{each_error, given_error}
 
 pub returns-clause-checked : goal.returns-clause-checked
 returns-clause-checked g c = λ tells.

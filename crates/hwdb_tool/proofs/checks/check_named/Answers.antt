@@ -5,8 +5,8 @@ use Rattle.hwdb_spec.specs.CheckedReasons.{HasNamedReason}
 use Rattle.hwdb_spec.specs.GivenFolders.{IsNamedUnread}
 use Rattle.hwdb_spec.specs.Undone.{IsCheckRefused, IsGivenUnread}
 use Rattle.hwdb_tool.proofs.CheckLemmas.{named_checked, named_refused}
-use Rattle.hwdb_tool.proofs.ErrorLemmas.{each_error, given_error}
 use Rattle.hwdb_tool.proofs.checks.check_named.Goals as goal
+use Rattle.hwdb_spec.specs.Lemmas.Calls.{each_error, given_error}
 
 pub returns-in_err-paths-clause-refused : goal.returns-in_err-paths-clause-refused
 returns-in_err-paths-clause-refused g c = λ tells.

@@ -10,9 +10,9 @@ use Rattle.hwdb_tool.specs.Internal.{bytes_given}
 use Rattle.hwdb_spec.specs.Reasons.{IsFileReason, IsReadGiven}
 use Rattle.hwdb_spec.specs.Undone.{IsGivenUnread, told_path}
 use Rattle.hwdb_tool.proofs.CheckLemmas.{first_given, given_unread, read_given, texts_given_more}
-use Rattle.hwdb_tool.proofs.ErrorLemmas.{given_error}
 use Rattle.hwdb_tool.proofs.GivenLemmas.{of_given}
 use Rattle.hwdb_tool.proofs.checks.read_given.Goals as goal
+use Rattle.hwdb_spec.specs.Lemmas.Calls.{given_error}
 
 pub returns-in_err-bytes-clause-refused : goal.returns-in_err-bytes-clause-refused
 returns-in_err-bytes-clause-refused g c =

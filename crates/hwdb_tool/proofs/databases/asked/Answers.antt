@@ -3,8 +3,8 @@ use Rattle.std.specs.Prelude.{option_map}
 use Rattle.hwdb_spec.specs.Undone.{IsUnfound}
 use Rattle.hwdb_spec.specs.Asked.{database_path}
 use Rattle.hwdb_tool.proofs.AnswerLemmas.{unfound}
-use Rattle.hwdb_tool.proofs.ErrorLemmas.{given_error}
 use Rattle.hwdb_tool.proofs.databases.asked.Goals as goal
+use Rattle.hwdb_spec.specs.Lemmas.Calls.{given_error}
 
 pub returns-in_err-found-clause-refused : goal.returns-in_err-found-clause-refused
 returns-in_err-found-clause-refused g c = λ tells.

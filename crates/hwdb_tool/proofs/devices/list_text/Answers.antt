@@ -2,8 +2,9 @@ use Rattle.std.proofs.Common.{ap, map, List, ◌++◌, ℕ, ◌∙◌}
 use Rattle.hwdb_spec.specs.DeviceAsked.{link_row}
 use Rattle.hwdb_spec.specs.SysfsAnswers.{sight_by}
 use Rattle.hwdb_spec.specs.DeviceErrors.{asked_names}
-use Rattle.hwdb_tool.proofs.DeviceLemmas.{items, rows_all, rows_more}
+use Rattle.hwdb_tool.proofs.DeviceLemmas.{rows_all, rows_more}
 use Rattle.hwdb_tool.proofs.devices.list_text.Goals as goal
+use Rattle.hwdb_sysfs.specs.Lemmas.Names.{items}
 
 pub loop-link-preserved : goal.loop-link-preserved
 loop-link-preserved g c = λ tells.

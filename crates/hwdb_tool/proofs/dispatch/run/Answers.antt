@@ -24,10 +24,11 @@ use Rattle.hwdb_spec.specs.Undone.{AreUncheckable, IsAskRefused, IsCheckRefused}
 use Rattle.hwdb_spec.specs.TaskRefusals.{IsNotDone, IsTaskReason, Refuses}
 use Rattle.hwdb_tool.specs.Views.{texts_in}
 use Rattle.hwdb_tool.proofs.MomentLemmas.{leaves_more}
-use Rattle.hwdb_tool.proofs.ErrorLemmas.{both_errors, both_values, each_error, each_value}
+use Rattle.hwdb_tool.proofs.ErrorLemmas.{both_errors, both_values}
 use Rattle.hwdb_tool.proofs.GivenLemmas.{checked_write, write_reason}
 use Rattle.hwdb_tool.proofs.PrintingLemmas.{any_reason, listed_done, printed_refused, refused_or_printed}
 use Rattle.hwdb_tool.proofs.dispatch.run.Goals as goal
+use Rattle.hwdb_spec.specs.Lemmas.Calls.{each_error, each_value}
 
 pub returns-in-Update-clause-any_moment : goal.returns-in-Update-clause-any_moment
 returns-in-Update-clause-any_moment g c = λ tells.
@@ -311,12 +312,12 @@ returns-in-Status-clause-refused g c = λ tells.
     let seen = g.D.Store.seen c.args.system.now in
     let before : World = record { files = F c.args.system.now; input = I c.args.input.now; out = O c.args.out.now; err = E c.args.err.now; devices = V c.args.system.now } in
     let now : World = record { files = F c.args.system.now; input = I c.args.input.now; out = O c.printed-in-Status.new.out; err = E c.printed-in-Status.new.err; devices = V c.args.system.now } in
-    let task = Status c.in-Status.json in
+    let task = Status c.in-Status.json c.in-Status.quiet in
     subst (λ t. IfErr c.printed-in-Status.result (IsNotDone t (root_of job) job.usr job.strict before now)) (sym c.in-Status.is)
     (each_error _ (IsNotDone task (root_of job) job.usr job.strict before now) c.printed-in-Status.result (λ r both. ((both.0, record { same = λ p. refl; no_more = λ p v l. l }), both.1))
     (printed_refused c.status.result c.printed-in-Status.result (Refuses task (root_of job) before.input.bytes seen) (IsTaskReason task (root_of job) job.usr before now)
     (λ s t. IsAnswerOf task (root_of job) job.strict before.input.bytes seen s t) before.err now.err before.out now.out
     (subst (λ r. IfErr c.status.result (IsStatusRefused r seen)) c.root_of-root.ensures (c.status.ensures.refused tells))
-    (subst (λ r. IfOk c.status.result (λ a. OnOut (λ text. IsStatus r c.in-Status.json seen text a.status) (texts_in a))) c.root_of-root.ensures (c.status.ensures.status tells))
+    (subst (λ r. IfOk c.status.result (λ a. OnOut (λ text. IsStatus r c.in-Status.json c.in-Status.quiet seen text a.status) (texts_in a))) c.root_of-root.ensures (c.status.ensures.status tells))
     (each_error _ (IsTaskReason task (root_of job) job.usr before now) c.status.result (λ r has. any_reason _ _ seen r has) (c.status.ensures.reason tells))
     tt c.printed-in-Status.ensures.refused))

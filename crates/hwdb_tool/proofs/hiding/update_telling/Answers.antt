@@ -3,9 +3,9 @@ use Rattle.hwdb_spec.specs.Runs.{files_by, told_by}
 use Rattle.hwdb_spec.specs.Store as spec
 use Rattle.hwdb_spec.specs.System.{database_folder}
 use Rattle.hwdb_spec.specs.HidingTold.{IsTellingUpdateRefused, IsUpdatedTelling}
-use Rattle.hwdb_tool.proofs.ErrorLemmas.{each_error, each_value, given_error}
 use Rattle.hwdb_tool.proofs.FlushLemmas.{hands_on_twice}
 use Rattle.hwdb_tool.proofs.hiding.update_telling.Goals as goal
+use Rattle.hwdb_spec.specs.Lemmas.Calls.{each_error, each_value, given_error}
 
 pub returns-in_err-tell_hiding-clause-refused : goal.returns-in_err-tell_hiding-clause-refused
 returns-in_err-tell_hiding-clause-refused g c = λ tells.

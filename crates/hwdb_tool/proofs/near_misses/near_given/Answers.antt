@@ -7,9 +7,9 @@ use Rattle.hwdb_spec.specs.Folders.{Source}
 use Rattle.hwdb_spec.specs.NearAsked.{near_form, patterns_from}
 use Rattle.hwdb_spec.specs.Reasons.{HasFilesReason}
 use Rattle.hwdb_tool.proofs.CheckLemmas.{IsShort, given_sources, told_of}
-use Rattle.hwdb_tool.proofs.ErrorLemmas.{given_error}
 use Rattle.hwdb_tool.proofs.GivenLemmas.{files_reason, input_read, whole_reason}
 use Rattle.hwdb_tool.proofs.near_misses.near_given.Goals as goal
+use Rattle.hwdb_spec.specs.Lemmas.Calls.{given_error}
 
 pub returns-clause-near : goal.returns-clause-near
 returns-clause-near g c = λ tells.

@@ -10,7 +10,7 @@ pub returns-clause-one : goal.returns-clause-one
 returns-clause-one g c = λ task root usr strict r r2 before now before2 now2 kind input is is2 not not2.
     ⊎_elim
     (λ covered. errors_are_one c.law_header_faults.ensures.one c.law_one_tree.ensures c.listings_give_one_reading.ensures.choice c.listings_give_one_reading.ensures.reading
-    (one_stand c.names_are_those_that_count.ensures c.names_ascend.ensures c.one_ascending_list.ensures, full_or_stand c.names_are_those_that_count.ensures c.names_ascend.ensures c.one_ascending_list.ensures) _ _ _ _ _ _ _ _
+    (one_stand c.names_are_those_that_count.ensures c.names_ascend.ensures c.one_ascending_list.ensures, full_or_stand c.names_are_those_that_count.ensures c.names_ascend.ensures c.one_ascending_list.ensures) c.law_one_written_form.ensures _ _ _ _ _ _ _ _
     task root usr strict r r2 before now before2 now2 covered input is is2 not not2)
     (λ other. ⊎_elim
     (λ stream. streams_are_one c.law_header_faults.ensures.one c.law_one_tree.ensures _ _ _ _ _ _ _ _

@@ -1,12 +1,13 @@
-use Rattle.std.proofs.Common.{Bool, List, Option, ap, false, map, subst, ◌∙◌, ℕ}
+use Rattle.std.proofs.Common.{Bool, IfSome, List, Option, ap, false, length, map, subst, ◌≤◌, ◌∙◌, ℕ}
 use Rattle.hwdb_spec.specs.declared.refusals.Refusal.TheVariants.{Plain}
 use Rattle.hwdb_spec.specs.declared.errors.ToolError.TheVariants.{Memory}
-use Rattle.hwdb_spec.specs.Status.{IsState, has_database, report_form, report_of}
-use Rattle.hwdb_inspect.specs.Views.{state_shown}
+use Rattle.hwdb_spec.specs.Status.{IsState, has_database, report_of}
+use Rattle.hwdb_spec.specs.Texts.{max_file}
+use Rattle.hwdb_inspect.specs.Views.{report_shown, state_shown}
 use Rattle.hwdb_spec.specs.StatusErrors.{IsAskedUnread}
-use Rattle.hwdb_tool.proofs.ErrorLemmas.{given_error}
 use Rattle.hwdb_tool.proofs.StatusLemmas.{asked_memory}
 use Rattle.hwdb_tool.proofs.statuses.reported.Goals as goal
+use Rattle.hwdb_spec.specs.Lemmas.Calls.{given_error}
 
 pub returns-clause-reported : goal.returns-clause-reported
 returns-clause-reported g c = λ tells m is.
@@ -16,14 +17,16 @@ returns-clause-reported g c = λ tells m is.
     let asked = c.in_ok-asked.ensures in
     let masked = map (λ p. p.items) c.args.masked.items in
     record {
+      short = subst (λ (o : Option (List ℕ)). IfSome o (λ b. length b ≤ max_file)) (asked.bytes tells) asked.within;
       state = state;
       stands = subst (λ (o : Option (List ℕ)). IsState c.args.made.now m o state) (c.bytes_of.ensures ∙ asked.bytes tells) (c.in_ok-state.ensures m is);
       quiet = c.new.ensures.err;
-      is = c.new.ensures.out ∙ c.in_ok-text.ensures ∙ ap (report_form c.args.json) (
-          c.in_ok-report.ensures
+      report = report_shown c.in_ok-report.report;
+      of = c.in_ok-report.ensures
           ∙ ap (λ (e : Bool). report_of root e c.in_ok-asked.asked.usr masked state) (asked.etc tells)
-          ∙ ap (λ (u : Bool). report_of root (has_database false root seen) u masked state) (asked.usr tells));
-      says = c.new.ensures.status ∙ c.status_of-status.ensures.is;
+          ∙ ap (λ (u : Bool). report_of root (has_database false root seen) u masked state) (asked.usr tells);
+      is = c.new.ensures.out ∙ c.in_ok-text.ensures;
+      says = c.new.ensures.status ∙ c.status.ensures.is;
     }
 
 pub returns-in_err-state-clause-refused : goal.returns-in_err-state-clause-refused

@@ -11,10 +11,10 @@ use Rattle.hwdb_text.specs.Views.{choice_of}
 use Rattle.hwdb_tool.specs.Internal.{AreReadOf}
 use Rattle.hwdb_tool.specs.Statuses.{AreMadeOf}
 use Rattle.hwdb_tool.specs.Views.{texts_in}
-use Rattle.hwdb_tool.proofs.ErrorLemmas.{each_error, each_value, given_error}
-use Rattle.hwdb_tool.proofs.FolderLemmas.{are_read}
+use Rattle.hwdb_tool.proofs.FolderLemmas.{all_read, are_read}
 use Rattle.hwdb_tool.proofs.StatusLemmas.{not_beside, not_made, reported_status}
 use Rattle.hwdb_tool.proofs.statuses.status.Goals as goal
+use Rattle.hwdb_spec.specs.Lemmas.Calls.{each_error, each_value, given_error}
 
 pub returns-clause-status : goal.returns-clause-status
 returns-clause-status g c = λ tells.
@@ -35,8 +35,8 @@ returns-clause-status g c = λ tells.
     c.in_ok-masked.ensures
     ∙ ap (λ l. masked_paths (map string_bytes l) (map choice_in c.deref-4.result.now)) c.deref-5.ensures.value
     ∙ ap (λ (l : List ChosenFile). masked_paths listed (map choice_in l)) c.deref-4.ensures.value in
-    each_value _ (λ a. OnOut (λ text. IsStatus root c.args.json seen text a.status) (texts_in a)) c.reported.result
-    (λ a told. reported_status root seen listed files read c.args.json made (map (λ p. p.items) c.in_ok-masked.masked.items) a made_of masks told)
+    each_value _ (λ a. OnOut (λ text. IsStatus root c.args.json c.args.quiet seen text a.status) (texts_in a)) c.reported.result
+    (λ a told. reported_status root seen listed files read (all_read root seen listed chosen texts (c.in_ok-selection.ensures.selected tells)) c.args.json c.args.quiet made (map (λ p. p.items) c.in_ok-masked.masked.items) a made_of masks told)
     (c.reported.ensures.reported tells)
 
 pub returns-in_err-selection-clause-refused : goal.returns-in_err-selection-clause-refused
@@ -67,7 +67,7 @@ returns-in_err-made-clause-refused g c = λ tells.
     are_read root seen listed chosen texts files (c.in_ok-selection.ensures.selected tells)
     (c.in_ok-files.ensures.choices ∙ ap (map choice_of) c.deref.ensures.value) (c.in_ok-files.ensures.bytes ∙ ap (map (λ t. t.items)) c.deref-2.ensures.value) in
     given_error r (IsStatusRefused root seen) c.from_residual-in_err-made.result c.from_residual-in_err-made.ensures.1
-    (inr (inl (not_made root seen listed files read r
+    (inr (inl (not_made root seen listed files read (all_read root seen listed chosen texts (c.in_ok-selection.ensures.selected tells)) r
     (subst (λ (l : List ChosenFile). ForFolders l (λ etc usr. IsNotCompiled etc usr r)) c.deref-3.ensures.value c.in_err-made.ensures.refused))))
 
 pub returns-in_err-made-clause-reason : goal.returns-in_err-made-clause-reason
@@ -96,4 +96,4 @@ returns-clause-refused g c = λ tells.
     let made = c.in_ok-made.made.database.items in
     let made_of : ForFolders files (λ etc usr. AreMadeOf etc usr made) =
     subst (λ (l : List ChosenFile). ForFolders l (λ etc usr. AreMadeOf etc usr made)) c.deref-3.ensures.value c.in_ok-made.ensures.made in
-    each_error _ (IsStatusRefused root seen) c.reported.result (λ r unread. inr (inr (not_beside root seen listed files read made r made_of unread))) (c.reported.ensures.refused tells)
+    each_error _ (IsStatusRefused root seen) c.reported.result (λ r unread. inr (inr (not_beside root seen listed files read (all_read root seen listed chosen texts (c.in_ok-selection.ensures.selected tells)) made r made_of unread))) (c.reported.ensures.refused tells)

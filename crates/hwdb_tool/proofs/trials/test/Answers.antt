@@ -5,10 +5,10 @@ use Rattle.hwdb_lint.specs.Checks.{source_of}
 use Rattle.hwdb_spec.specs.Given.{any_dash}
 use Rattle.hwdb_spec.specs.TestErrors.{HasTestReason}
 use Rattle.hwdb_tool.proofs.CheckLemmas.{IsShort, given_sources, told_of}
-use Rattle.hwdb_tool.proofs.ErrorLemmas.{given_error}
 use Rattle.hwdb_tool.proofs.GivenLemmas.{files_reason, input_read, whole_reason}
 use Rattle.hwdb_tool.proofs.TrialLemmas.{all_tested, not_tested, tested_reason}
 use Rattle.hwdb_tool.proofs.trials.test.Goals as goal
+use Rattle.hwdb_spec.specs.Lemmas.Calls.{given_error}
 
 pub returns-clause-tested : goal.returns-clause-tested
 returns-clause-tested g c = λ tells.

@@ -3,11 +3,11 @@ use Rattle.hwdb_spec.specs.LeftOutTold.{AreTold}
 use Rattle.hwdb_spec.specs.LeftOut.{without}
 use Rattle.hwdb_spec.specs.Runs.{HasTaken, WasCut, files_by, told_by}
 use Rattle.hwdb_spec.specs.Readable.{IsUpdateRefused}
-use Rattle.hwdb_tool.proofs.ErrorLemmas.{given_error}
 use Rattle.hwdb_tool.proofs.FlushLemmas.{hands_on_twice}
 use Rattle.hwdb_tool.proofs.FolderLemmas.{all_read}
 use Rattle.hwdb_tool.proofs.MomentLemmas.{leaves_less}
 use Rattle.hwdb_tool.proofs.updates.update.Goals as goal
+use Rattle.hwdb_spec.specs.Lemmas.Calls.{given_error}
 
 pub returns-in_err-readable-clause-refused : goal.returns-in_err-readable-clause-refused
 returns-in_err-readable-clause-refused g c = λ tells.

@@ -1,8 +1,8 @@
 use Rattle.std.proofs.Common.{◌∙◌, ap}
 use Rattle.std.proofs.lemmas.List.Filters.{dedup_is}
 use Rattle.hwdb_spec.specs.Assignment.{ascending}
-use Rattle.hwdb_writer.proofs.DistinctLemmas.{ordered_is}
 use Rattle.hwdb_writer.proofs.strings.in_order.Goals as goal
+use Rattle.hwdb_text.specs.Lemmas.Ascending.{ordered_is}
 
 pub returns : goal.returns
 returns c =

@@ -2,8 +2,9 @@ use Rattle.std.proofs.Common.{sym, subst, map, string_bytes, ◌∙◌, add-one,
 use Rattle.std.proofs.lemmas.List.{take_all}
 use Rattle.hwdb_spec.specs.Store.{path_in}
 use Rattle.hwdb_fs.specs.Internal.{IsMade, IsPushed}
-use Rattle.hwdb_fs.proofs.MemoryLemmas.{is_made, pushed_each, pushed_all, taken_more}
+use Rattle.hwdb_fs.proofs.MemoryLemmas.{is_made, pushed_each, pushed_all}
 use Rattle.hwdb_fs.proofs.memory.MemorySystem.names.Goals as goal
+use Rattle.hwdb_spec.specs.Lemmas.Lists.{taken_more}
 
 pub loop-step-preserved : goal.loop-step-preserved
 loop-step-preserved c =

@@ -3,6 +3,7 @@ use Rattle.hwdb_spec.specs.Tree.{values_of}
 use Rattle.hwdb_spec.specs.Answers.{is_wanted}
 use Rattle.hwdb_query.specs.Internal.Members.{own_members}
 use Rattle.hwdb_query.specs.Internal.Descents.{device_of, kids_of, to_come, live_to_come, left, steps, StandsOn, IsNext, Opened, child_of}
+use Rattle.hwdb_query.specs.Internal.LongPaths.{path_of}
 use Rattle.hwdb_query.specs.declared.descent.OpenNode.{OpenNode}
 use Rattle.hwdb_query.proofs.StackLemmas.{popped, last_set, reversed, some_left, child_stands, child_collected_on, child_live, child_left, child_steps, done_comes, done_live, done_left, done_steps}
 use Rattle.hwdb_query.proofs.descent.Descent.go_on.Goals as goal
@@ -17,7 +18,7 @@ next_live-requires g c =
     let top = c.index_mut.result.now in
     let before = take i items in
     let rev : reverse items ≡ top ∷ reverse before = reversed items i top last c.index_mut.ensures.value in
-    let stands = subst (λ l. StandsOn (device_of l) c.args.self.now.path.items l) rev c.requires.stands in
+    let stands = subst (λ l. StandsOn (device_of l) (path_of c.args.self.now.path) l) rev c.requires.stands in
     stands.0
 
 pub enter-requires : goal.enter-requires
@@ -30,11 +31,11 @@ enter-requires g c =
     let top = c.index_mut.result.now in
     let before = take i items in
     let rev : reverse items ≡ top ∷ reverse before = reversed items i top last c.index_mut.ensures.value in
-    let stands = subst (λ l. StandsOn (device_of l) c.args.self.now.path.items l) rev c.requires.stands in
-    let path = c.args.self.now.path.items in
+    let stands = subst (λ l. StandsOn (device_of l) (path_of c.args.self.now.path) l) rev c.requires.stands in
+    let path = path_of c.args.self.now.path in
     let gone = c.next_live.new.self in
     let device = top.reach.device in
-    let long = c.next_live.new.path.items in
+    let long = path_of c.next_live.new.path in
     let kid = child_of c.in-Some.live in
     let found = subst (IsNext device (take top.length path) (kids_of top) (kids_of gone) long) c.in-Some.is c.in_ok-found.ensures.found in
     let one = some_left device (take top.length path) top (reverse before) kid (kids_of gone) found.0 in
@@ -51,17 +52,17 @@ returns-clause-stands g c =
     let top = c.index_mut.result.now in
     let before = take i items in
     let rev : reverse items ≡ top ∷ reverse before = reversed items i top last c.index_mut.ensures.value in
-    let stands = subst (λ l. StandsOn (device_of l) c.args.self.now.path.items l) rev c.requires.stands in
-    let path = c.args.self.now.path.items in
+    let stands = subst (λ l. StandsOn (device_of l) (path_of c.args.self.now.path) l) rev c.requires.stands in
+    let path = path_of c.args.self.now.path in
     let gone = c.next_live.new.self in
     let device = top.reach.device in
-    let long = c.next_live.new.path.items in
+    let long = path_of c.next_live.new.path in
     let k = child_of c.in-Some.live in
     let reach = c.in-Some.live.reach in
     let found = subst (IsNext device (take top.length path) (kids_of top) (kids_of gone) long) c.in-Some.is c.in_ok-found.ensures.found in
     let now = c.enter.new.self.stack.items in
     let opened : Opened (before ++ gone ∷ []) now k.1 reach (length long) = subst (λ b. Opened b now k.1 reach (length long)) (last_set items i gone last) c.in_ok-enter.ensures.stack in
-    subst (λ l. StandsOn (device_of l) c.enter.new.self.path.items (reverse now)) (sym rev) (subst (λ p. StandsOn device p (reverse now)) (sym c.in_ok-enter.ensures.path)
+    subst (λ l. StandsOn (device_of l) (path_of c.enter.new.self.path) (reverse now)) (sym rev) (subst (λ p. StandsOn device p (reverse now)) (sym c.in_ok-enter.ensures.path)
     (child_stands device path long top gone before now k reach stands.0.within c.in_ok-found.ensures.same found.0 found.1 opened stands))
 
 pub returns-clause-collected : goal.returns-clause-collected
@@ -74,11 +75,11 @@ returns-clause-collected g c =
     let top = c.index_mut.result.now in
     let before = take i items in
     let rev : reverse items ≡ top ∷ reverse before = reversed items i top last c.index_mut.ensures.value in
-    let stands = subst (λ l. StandsOn (device_of l) c.args.self.now.path.items l) rev c.requires.stands in
-    let path = c.args.self.now.path.items in
+    let stands = subst (λ l. StandsOn (device_of l) (path_of c.args.self.now.path) l) rev c.requires.stands in
+    let path = path_of c.args.self.now.path in
     let gone = c.next_live.new.self in
     let device = top.reach.device in
-    let long = c.next_live.new.path.items in
+    let long = path_of c.next_live.new.path in
     let k = child_of c.in-Some.live in
     let reach = c.in-Some.live.reach in
     let found = subst (IsNext device (take top.length path) (kids_of top) (kids_of gone) long) c.in-Some.is c.in_ok-found.ensures.found in
@@ -89,7 +90,7 @@ returns-clause-collected g c =
     λ end rest. subst (λ l. g.C.Collector.collects c.args.into.now (to_come (device_of l) path l) end) (sym rev)
     (child_collected_on device path long top gone before now k reach stands.0.within c.in_ok-found.ensures.same found.0 found.1 opened g.C.Collector.collects c.law_collects.ensures.more c.args.into.now c.enter.new.into end own
     (subst (λ p. g.C.Collector.collects c.enter.new.into (to_come device p (reverse now)) end) c.in_ok-enter.ensures.path
-    (subst (λ l. g.C.Collector.collects c.enter.new.into (to_come (device_of l) c.enter.new.self.path.items (reverse now)) end) rev rest)))
+    (subst (λ l. g.C.Collector.collects c.enter.new.into (to_come (device_of l) (path_of c.enter.new.self.path) (reverse now)) end) rev rest)))
 
 pub returns-clause-counted : goal.returns-clause-counted
 returns-clause-counted g c =
@@ -101,19 +102,19 @@ returns-clause-counted g c =
     let top = c.index_mut.result.now in
     let before = take i items in
     let rev : reverse items ≡ top ∷ reverse before = reversed items i top last c.index_mut.ensures.value in
-    let stands = subst (λ l. StandsOn (device_of l) c.args.self.now.path.items l) rev c.requires.stands in
-    let path = c.args.self.now.path.items in
+    let stands = subst (λ l. StandsOn (device_of l) (path_of c.args.self.now.path) l) rev c.requires.stands in
+    let path = path_of c.args.self.now.path in
     let gone = c.next_live.new.self in
     let device = top.reach.device in
-    let long = c.next_live.new.path.items in
+    let long = path_of c.next_live.new.path in
     let k = child_of c.in-Some.live in
     let reach = c.in-Some.live.reach in
     let found = subst (IsNext device (take top.length path) (kids_of top) (kids_of gone) long) c.in-Some.is c.in_ok-found.ensures.found in
     let now = c.enter.new.self.stack.items in
     let opened : Opened (before ++ gone ∷ []) now k.1 reach (length long) = subst (λ b. Opened b now k.1 reach (length long)) (last_set items i gone last) c.in_ok-enter.ensures.stack in
     let live = child_live device path long top gone before now k reach stands.0.within c.in_ok-found.ensures.same found.0 found.1 opened in
-    let same : live_to_come (device_of (reverse items)) c.enter.new.self.path.items (reverse now) ≡ live_to_come device long (reverse now) =
-    ap (λ l. live_to_come (device_of l) c.enter.new.self.path.items (reverse now)) rev ∙ ap (λ p. live_to_come device p (reverse now)) c.in_ok-enter.ensures.path in
+    let same : live_to_come (device_of (reverse items)) (path_of c.enter.new.self.path) (reverse now) ≡ live_to_come device long (reverse now) =
+    ap (λ l. live_to_come (device_of l) (path_of c.enter.new.self.path) (reverse now)) rev ∙ ap (λ p. live_to_come device p (reverse now)) c.in_ok-enter.ensures.path in
     let old : live_to_come (device_of (reverse items)) path (reverse items) ≡ live_to_come device path (top ∷ reverse before) = ap (λ l. live_to_come (device_of l) path l) rev in
     let counted = c.in_ok-enter.ensures.counted in
     omega (arith, live, same, old, counted)
@@ -128,11 +129,11 @@ returns-clause-room g c =
     let top = c.index_mut.result.now in
     let before = take i items in
     let rev : reverse items ≡ top ∷ reverse before = reversed items i top last c.index_mut.ensures.value in
-    let stands = subst (λ l. StandsOn (device_of l) c.args.self.now.path.items l) rev c.requires.stands in
-    let path = c.args.self.now.path.items in
+    let stands = subst (λ l. StandsOn (device_of l) (path_of c.args.self.now.path) l) rev c.requires.stands in
+    let path = path_of c.args.self.now.path in
     let gone = c.next_live.new.self in
     let device = top.reach.device in
-    let long = c.next_live.new.path.items in
+    let long = path_of c.next_live.new.path in
     let k = child_of c.in-Some.live in
     let reach = c.in-Some.live.reach in
     let found = subst (IsNext device (take top.length path) (kids_of top) (kids_of gone) long) c.in-Some.is c.in_ok-found.ensures.found in
@@ -153,11 +154,11 @@ returns-clause-fewer g c =
     let top = c.index_mut.result.now in
     let before = take i items in
     let rev : reverse items ≡ top ∷ reverse before = reversed items i top last c.index_mut.ensures.value in
-    let stands = subst (λ l. StandsOn (device_of l) c.args.self.now.path.items l) rev c.requires.stands in
-    let path = c.args.self.now.path.items in
+    let stands = subst (λ l. StandsOn (device_of l) (path_of c.args.self.now.path) l) rev c.requires.stands in
+    let path = path_of c.args.self.now.path in
     let gone = c.next_live.new.self in
     let device = top.reach.device in
-    let long = c.next_live.new.path.items in
+    let long = path_of c.next_live.new.path in
     let k = child_of c.in-Some.live in
     let reach = c.in-Some.live.reach in
     let found = subst (IsNext device (take top.length path) (kids_of top) (kids_of gone) long) c.in-Some.is c.in_ok-found.ensures.found in
@@ -175,13 +176,13 @@ returns-in_default-clause-stands g c =
     let top = c.index_mut.result.now in
     let before = take i items in
     let rev : reverse items ≡ top ∷ reverse before = reversed items i top last c.index_mut.ensures.value in
-    let stands = subst (λ l. StandsOn (device_of l) c.args.self.now.path.items l) rev c.requires.stands in
-    let path = c.args.self.now.path.items in
+    let stands = subst (λ l. StandsOn (device_of l) (path_of c.args.self.now.path) l) rev c.requires.stands in
+    let path = path_of c.args.self.now.path in
     let gone = c.next_live.new.self in
     let device = top.reach.device in
-    let found = subst (IsNext device (take top.length path) (kids_of top) (kids_of gone) c.next_live.new.path.items) c.in_default.is c.in_ok-found.ensures.found in
+    let found = subst (IsNext device (take top.length path) (kids_of top) (kids_of gone) (path_of c.next_live.new.path)) c.in_default.is c.in_ok-found.ensures.found in
     let rest : c.pop.new.self.items ≡ before = popped items i gone last c.args.self.now.stack.len (let ok = c.args.self.now.stack.ok in omega (arith, ok)) c.pop.new.self.items c.pop.ensures.rest in
-    subst (λ l. StandsOn (device_of l) c.next_live.new.path.items (reverse c.pop.new.self.items)) (sym rev)
+    subst (λ l. StandsOn (device_of l) (path_of c.next_live.new.path) (reverse c.pop.new.self.items)) (sym rev)
     (subst (λ (g : List ℕ × List OpenNode). StandsOn device g.0 (reverse g.1)) (λ j. (sym found.1 j, sym rest j)) stands.1)
 
 pub returns-in_default-clause-collected : goal.returns-in_default-clause-collected
@@ -194,16 +195,16 @@ returns-in_default-clause-collected g c =
     let top = c.index_mut.result.now in
     let before = take i items in
     let rev : reverse items ≡ top ∷ reverse before = reversed items i top last c.index_mut.ensures.value in
-    let stands = subst (λ l. StandsOn (device_of l) c.args.self.now.path.items l) rev c.requires.stands in
-    let path = c.args.self.now.path.items in
+    let stands = subst (λ l. StandsOn (device_of l) (path_of c.args.self.now.path) l) rev c.requires.stands in
+    let path = path_of c.args.self.now.path in
     let gone = c.next_live.new.self in
     let device = top.reach.device in
-    let found = subst (IsNext device (take top.length path) (kids_of top) (kids_of gone) c.next_live.new.path.items) c.in_default.is c.in_ok-found.ensures.found in
+    let found = subst (IsNext device (take top.length path) (kids_of top) (kids_of gone) (path_of c.next_live.new.path)) c.in_default.is c.in_ok-found.ensures.found in
     let rest : c.pop.new.self.items ≡ before = popped items i gone last c.args.self.now.stack.len (let ok = c.args.self.now.stack.ok in omega (arith, ok)) c.pop.new.self.items c.pop.ensures.rest in
     λ end more. subst (λ l. g.C.Collector.collects c.args.into.now (to_come (device_of l) path l) end) (sym rev)
     (subst (λ l. g.C.Collector.collects c.args.into.now l end) (sym (done_comes device path top (reverse before) found.0))
     (subst (λ (w : List ℕ × List OpenNode). g.C.Collector.collects c.args.into.now (to_come device w.0 (reverse w.1)) end) (λ j. (found.1 j, rest j))
-    (subst (λ l. g.C.Collector.collects c.args.into.now (to_come (device_of l) c.next_live.new.path.items (reverse c.pop.new.self.items)) end) rev more)))
+    (subst (λ l. g.C.Collector.collects c.args.into.now (to_come (device_of l) (path_of c.next_live.new.path) (reverse c.pop.new.self.items)) end) rev more)))
 
 pub returns-in_default-clause-counted : goal.returns-in_default-clause-counted
 returns-in_default-clause-counted g c =
@@ -215,16 +216,16 @@ returns-in_default-clause-counted g c =
     let top = c.index_mut.result.now in
     let before = take i items in
     let rev : reverse items ≡ top ∷ reverse before = reversed items i top last c.index_mut.ensures.value in
-    let stands = subst (λ l. StandsOn (device_of l) c.args.self.now.path.items l) rev c.requires.stands in
-    let path = c.args.self.now.path.items in
+    let stands = subst (λ l. StandsOn (device_of l) (path_of c.args.self.now.path) l) rev c.requires.stands in
+    let path = path_of c.args.self.now.path in
     let gone = c.next_live.new.self in
     let device = top.reach.device in
-    let found = subst (IsNext device (take top.length path) (kids_of top) (kids_of gone) c.next_live.new.path.items) c.in_default.is c.in_ok-found.ensures.found in
+    let found = subst (IsNext device (take top.length path) (kids_of top) (kids_of gone) (path_of c.next_live.new.path)) c.in_default.is c.in_ok-found.ensures.found in
     let rest : c.pop.new.self.items ≡ before = popped items i gone last c.args.self.now.stack.len (let ok = c.args.self.now.stack.ok in omega (arith, ok)) c.pop.new.self.items c.pop.ensures.rest in
     let old : live_to_come (device_of (reverse items)) path (reverse items) ≡ live_to_come device path (top ∷ reverse before) = ap (λ l. live_to_come (device_of l) path l) rev in
     let done = done_live device path top (reverse before) found.0 in
-    let same : live_to_come (device_of (reverse items)) c.next_live.new.path.items (reverse c.pop.new.self.items) ≡ live_to_come device (take top.length path) (reverse before) =
-    ap (λ l. live_to_come (device_of l) c.next_live.new.path.items (reverse c.pop.new.self.items)) rev
+    let same : live_to_come (device_of (reverse items)) (path_of c.next_live.new.path) (reverse c.pop.new.self.items) ≡ live_to_come device (take top.length path) (reverse before) =
+    ap (λ l. live_to_come (device_of l) (path_of c.next_live.new.path) (reverse c.pop.new.self.items)) rev
     ∙ ap (λ (g : List ℕ × List OpenNode). live_to_come device g.0 (reverse g.1)) (λ j. (found.1 j, rest j)) in
     omega (arith, old, done, same)
 
@@ -238,11 +239,11 @@ returns-in_default-clause-room g c =
     let top = c.index_mut.result.now in
     let before = take i items in
     let rev : reverse items ≡ top ∷ reverse before = reversed items i top last c.index_mut.ensures.value in
-    let stands = subst (λ l. StandsOn (device_of l) c.args.self.now.path.items l) rev c.requires.stands in
-    let path = c.args.self.now.path.items in
+    let stands = subst (λ l. StandsOn (device_of l) (path_of c.args.self.now.path) l) rev c.requires.stands in
+    let path = path_of c.args.self.now.path in
     let gone = c.next_live.new.self in
     let device = top.reach.device in
-    let found = subst (IsNext device (take top.length path) (kids_of top) (kids_of gone) c.next_live.new.path.items) c.in_default.is c.in_ok-found.ensures.found in
+    let found = subst (IsNext device (take top.length path) (kids_of top) (kids_of gone) (path_of c.next_live.new.path)) c.in_default.is c.in_ok-found.ensures.found in
     let rest : c.pop.new.self.items ≡ before = popped items i gone last c.args.self.now.stack.len (let ok = c.args.self.now.stack.ok in omega (arith, ok)) c.pop.new.self.items c.pop.ensures.rest in
     let old : left (reverse items) ≡ left (top ∷ reverse before) = ap left rev in
     let same : left (reverse c.pop.new.self.items) ≡ left (reverse before) = ap (λ (l : List OpenNode). left (reverse l)) rest in
@@ -259,11 +260,11 @@ returns-in_default-clause-fewer g c =
     let top = c.index_mut.result.now in
     let before = take i items in
     let rev : reverse items ≡ top ∷ reverse before = reversed items i top last c.index_mut.ensures.value in
-    let stands = subst (λ l. StandsOn (device_of l) c.args.self.now.path.items l) rev c.requires.stands in
-    let path = c.args.self.now.path.items in
+    let stands = subst (λ l. StandsOn (device_of l) (path_of c.args.self.now.path) l) rev c.requires.stands in
+    let path = path_of c.args.self.now.path in
     let gone = c.next_live.new.self in
     let device = top.reach.device in
-    let found = subst (IsNext device (take top.length path) (kids_of top) (kids_of gone) c.next_live.new.path.items) c.in_default.is c.in_ok-found.ensures.found in
+    let found = subst (IsNext device (take top.length path) (kids_of top) (kids_of gone) (path_of c.next_live.new.path)) c.in_default.is c.in_ok-found.ensures.found in
     let rest : c.pop.new.self.items ≡ before = popped items i gone last c.args.self.now.stack.len (let ok = c.args.self.now.stack.ok in omega (arith, ok)) c.pop.new.self.items c.pop.ensures.rest in
     let old : steps (reverse items) ≡ steps (top ∷ reverse before) = ap steps rev in
     let same : steps (reverse c.pop.new.self.items) ≡ steps (reverse before) = ap (λ (l : List OpenNode). steps (reverse l)) rest in

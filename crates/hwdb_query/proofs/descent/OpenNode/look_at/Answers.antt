@@ -1,5 +1,6 @@
-use Rattle.std.proofs.Common.{◌∙◌, arith, ap, refl, sym, subst, ◌++◌, ◌∷◌, [], List, ℕ, take}
+use Rattle.std.proofs.Common.{◌∙◌, arith, ap, refl, sym, subst, ◌++◌, ◌∷◌, [], List, ℕ, append-nil, take}
 use Rattle.std.proofs.lemmas.Result.{on_ok_weaker, IfOk-weaker}
+use Rattle.hwdb_pattern.specs.Views.{StandsFor}
 use Rattle.hwdb_spec.specs.Tree.{Tree, IsLive, prefix_of, is_live}
 use Rattle.hwdb_reader.specs.Views.{tree_of}
 use Rattle.hwdb_query.specs.Internal.Descents.{IsSeen}
@@ -71,11 +72,11 @@ returns-then-is_alive-clause-seen c =
     let stands = child_fed c.args.self.now.reach c.in_ok-reach.reach size c.args.path.now.items c.truncate.new.self.items c.push.new.self.items path piece c.deref.result.now _ c.args.child.byte
     c.requires.within c.truncate.ensures.items c.in_ok-push.ensures.items c.in_ok-extend_from_slice.ensures.items c.deref.ensures.value refl c.requires.reach c.in_ok-reach.ensures.path in
     record {
-      path_is = child_path (take size c.args.path.now.items) c.truncate.new.self.items c.push.new.self.items path piece c.args.child.byte (tree_of c.args.child.node)
+      path_is = append-nil path ∙ child_path (take size c.args.path.now.items) c.truncate.new.self.items c.push.new.self.items path piece c.args.child.byte (tree_of c.args.child.node)
           c.truncate.ensures.items c.in_ok-push.ensures.items c.in_ok-extend_from_slice.ensures.items whole;
-      stands = stands;
+      stands = subst (StandsFor c.in_ok-reach.reach) (sym (append-nil path)) stands;
       same_device = dev;
-      live = ap (λ d. is_live path d) (sym dev) ∙ live_is c.path_laws.ensures.live c.in_ok-reach.reach.device path _ c.if-is_alive.true (c.is_alive.ensures path stands);
+      live = ap (λ p. is_live p c.args.self.now.reach.device) (append-nil path) ∙ ap (λ d. is_live path d) (sym dev) ∙ live_is c.path_laws.ensures.live c.in_ok-reach.reach.device path _ c.if-is_alive.true (c.is_alive.ensures path stands);
     }
 
 pub returns-clause-seen : goal.returns-clause-seen

@@ -2,9 +2,9 @@ use Rattle.std.proofs.Common.{◌≡◌, ◌∙◌, sym}
 use Rattle.std.specs.declared.cmp.Ordering.TheVariants.{Less}
 use Rattle.hwdb_spec.specs.Assignment.{assignment_cmp, position_cmp}
 use Rattle.hwdb_query.specs.Views.{assignment_of_hit}
-use Rattle.hwdb_query.proofs.OrderLemmas.{less_of}
 use Rattle.hwdb_query.proofs.HalvingLemmas.{full_page}
 use Rattle.hwdb_query.proofs.hit_page.HitPage.is_full_below.Goals as goal
+use Rattle.hwdb_spec.specs.Lemmas.Orders.{less_of}
 
 pub returns-in-Some : goal.returns-in-Some
 unfolding assignment_cmp

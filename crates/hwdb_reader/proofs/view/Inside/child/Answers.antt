@@ -19,7 +19,7 @@ unfolding tree_of
 invariant_of-result c =
     let n = c.args.self.now.node in
     let lt : c.args.i < children_count n.bytes.now n.offset = subst (λ m. c.args.i < m) (children_number _ _ _ _ n.placed) c.requires in
-    record { placed = rw (c.u64_at.ensures, c.child_entry_at-entry.ensures.place) (child_placed _ _ _ _ n.placed n.frame.node_fields c.args.i lt) }
+    record { placed = rw (c.u64_at.ensures, c.child_entry_at-entry.ensures.place) (child_placed _ _ _ _ n.placed n.frame.node_fields c.args.i lt); starry = n.starry }
 
 pub returns : goal.returns
 unfolding tree_of

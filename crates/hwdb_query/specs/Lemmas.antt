@@ -1,0 +1,4 @@
+-- What proofs of this crate and of those above it cite: statements with their proofs.
+pub mod Parts
+pub mod Paths
+pub mod Stacks
