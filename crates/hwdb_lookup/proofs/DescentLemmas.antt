@@ -274,3 +274,8 @@ all_found file device d all none c =
 -- what is left of a number, and what was taken of it
 pub kept_left : (left size : ℕ) → size ≤ left → (left - size) + size ≡ left
 kept_left left size enough = omega (arith, enough)
+
+-- the same at an equal path and device
+pub enters_at_path : (file : List ℕ) (l : Layout) (levels off : ℕ) (path whole device same : List ℕ) (d : Descent) (all : List Assignment) → path ≡ whole → device ≡ same
+    → Enters file l levels off path device d all → Enters file l levels off whole same d all
+enters_at_path file l levels off path whole device same d all p e h = subst (λ (g : List ℕ × List ℕ). Enters file l levels off g.0 g.1 d all) (λ i. (p i, e i)) h

@@ -1,6 +1,6 @@
 -- What contracts see of a file of which some blocks were read. Our choice.
 use Rattle.std.specs.Prelude.{List, ℕ, ◌*◌, ◌<◌, ◌≢◌, length, slice_index}
-use Rattle.hwdb_lookup.specs.Blocks.{block_bytes, MayBe}
+use Rattle.hwdb_spec.specs.Blocks.{block_bytes, MayBe}
 use Rattle.hwdb_lookup.specs.declared.known.Known.{Known}
 use Rattle.hwdb_lookup.specs.declared.stop.Stop.{Stop}
 use Rattle.hwdb_lookup.specs.declared.stop.Stop.TheVariants.{Missing, Fault, Memory}

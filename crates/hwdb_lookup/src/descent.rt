@@ -214,7 +214,7 @@ impl<'a, 'd> Descent<'a, 'd> {
         known: Known<'a>,
         open: OpenNode<'a, 'd>,
     ) -> Result<(), Stop>
-        requires { AllStand known (open.entry ∷ stack_of self.old) }
+        requires { AllStand known (open ∷ stack_of self.old) }
         ensures all { OnOk result (AllStand known.entry (stack_of self.new)) }
         ensures comes { OnOk result ((file : List ℕ) (all : List Assignment)
             → IsOf known.entry file → ComesOn file open.entry.reach.device (open.entry ∷ stack_of self.old)

@@ -1,5 +1,5 @@
 use Rattle.hwdb_spec.specs.Tree.{Value}
-use Rattle.std.proofs.Common.{List, ℕ, ◌∙◌, ◌++◌, [], refl, sym, ap, map, arith, append-nil}
+use Rattle.std.proofs.Common.{List, ◌∙◌, ◌++◌, sym, ap, map, arith, append-nil}
 use Rattle.hwdb_query.specs.Views.{assignment_of_answer}
 use Rattle.hwdb_lookup.specs.Internal.Heads.{AreValues, own_members, value_of}
 use Rattle.hwdb_lookup.proofs.ValueLemmas.{all_left, none_left, value_next, offered}

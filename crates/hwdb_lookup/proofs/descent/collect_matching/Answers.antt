@@ -1,7 +1,7 @@
-use Rattle.std.proofs.Common.{◌≡◌, ◌∙◌, ◌++◌, [], sym, ap, subst, map, filter, false, true, append-nil}
+use Rattle.std.proofs.Common.{◌≡◌, ◌∙◌, ◌++◌, sym, ap, subst, map, false, true, append-nil}
 use Rattle.std.proofs.lemmas.Result.{on_ok_weaker}
 use Rattle.hwdb_query.specs.Views.{assignment_of_answer}
-use Rattle.hwdb_spec.specs.Answers.{is_wanted, is_match}
+use Rattle.hwdb_spec.specs.Answers.{is_match}
 use Rattle.hwdb_lookup.specs.Internal.Heads.{own_members}
 use Rattle.hwdb_lookup.proofs.TreeLemmas.{own_wanted, own_unwanted, match_is, mismatch_is}
 use Rattle.hwdb_lookup.proofs.descent.collect_matching.Goals as goal

@@ -1,4 +1,4 @@
-use Rattle.std.proofs.Common.{◌≡◌, ◌≤◌, ◌-◌, List, ℕ}
+use Rattle.std.proofs.Common.{◌-◌, List, ℕ}
 use Rattle.hwdb_spec.specs.Assignment.{Assignment}
 use Rattle.hwdb_lookup.specs.Views.{IsOf}
 use Rattle.hwdb_lookup.specs.Internal.Descents.{Rest}
