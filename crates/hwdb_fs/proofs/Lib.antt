@@ -9,3 +9,4 @@ pub mod FirstLemmas
 pub mod RawLemmas
 pub mod EntryLemmas
 pub mod ReadLawLemmas
+pub mod OverlayLemmas

@@ -1,14 +1,13 @@
 //! A file system with another database in its place: what `--text` answers from.
-ghost use Rattle.std.specs.Prelude.{◌≡◌, ◌≤◌, ◌⊎◌, [], Some, IfOk, IfErr, OnErr, Result, string_bytes, vec_len};
+ghost use Rattle.std.specs.Prelude.{◌≡◌, ◌≤◌, ◌<◌, ◌⊎◌, [], false, length, IfOk, IfErr, Result, vec_len};
 ghost use Rattle.std.specs.Str.{bytes_eq};
 ghost use Rattle.hwdb_spec.specs.Asked.{database_path};
-ghost use Rattle.hwdb_spec.specs.Failures.{after_failure, CountsFailures};
+ghost use Rattle.hwdb_spec.specs.Failures.{CountsFailures};
 ghost use Rattle.hwdb_spec.specs.OverText.{with_database};
-ghost use Rattle.hwdb_spec.specs.Refusals.{HasReason, IsUnread, IsUnreadAt};
-ghost use Rattle.hwdb_spec.specs.System.{bytes_at};
+ghost use Rattle.hwdb_spec.specs.Refusals.{IsAt};
 ghost use Rattle.hwdb_spec.specs.Texts.{max_file};
 ghost use Rattle.hwdb_spec.specs.declared.refusals.Refusal.TheVariants.{Plain};
-ghost use Rattle.hwdb_spec.specs.declared.errors.ToolError.TheVariants.{Memory};
+ghost use Rattle.hwdb_spec.specs.declared.errors.ToolError.TheVariants.{Memory, TooLong};
 
 use crate::machine::Machine;
 use crate::rooted::Rooted;
@@ -43,7 +42,8 @@ fn refused<T>(failed: &mut u64) -> Result<T, CallFailed>
     Err(CallFailed)
 }
 
-/// What was listed, or that memory was refused.
+/// What was listed, or that memory was refused: the one error that says nothing of what is there. No command lists the
+/// database's own path as a folder.
 fn listed_or_none<T>(listed: Result<T, Refusal>) -> Result<T, Refusal>
     ensures same { IfOk result (λ names. listed ≡ Result.Ok names) }
     ensures memory { IfErr result (λ r. r ≡ Plain Memory) }
@@ -57,10 +57,12 @@ fn listed_or_none<T>(listed: Result<T, Refusal>) -> Result<T, Refusal>
 impl<'a, D> Overlay<'a, D> {
     /// The file system with these bytes as the database of `/etc` below the root.
     pub fn new(system: &'a D, root: &'a str, bytes: &'a [u8]) -> Overlay<'a, D>
-        ensures system { result.system ≡ system.entry }
-        ensures root { result.root ≡ root.entry }
-        ensures bytes { result.bytes ≡ bytes.entry }
-        ensures failed { result.failed ≡ 0 }
+        ensures { result ≡ record {
+          system = system.entry;
+          root = root.entry;
+          bytes = bytes.entry;
+          failed = 0;
+        } }
     {
         Overlay {
             system,
@@ -84,7 +86,8 @@ impl<'a, D> Overlay<'a, D> {
     fn copy(&self, alloc: Global, path: &str) -> Result<Vec<u8>, Refusal>
         ensures bytes { IfOk result (λ b. b.items ≡ self.now.bytes.now) }
         ensures within { IfOk result (λ b. vec_len b ≤ max_file) }
-        ensures refused { IfErr result (IsUnread path.now) }
+        ensures refused { IfErr result (λ r. (r ≡ Plain Memory)
+            ⊎ (IsAt TooLong path.now r × (max_file < length self.now.bytes.now))) }
     {
         if self.bytes.len() > MAX_BYTES as usize {
             return Err(Refusal::at(alloc, ToolError::TooLong, path.as_bytes(), None));
@@ -203,8 +206,10 @@ impl<'a, D: System> System for Overlay<'a, D> {
 
     fn database(&self, alloc: Global, path: &str) -> Result<Option<Vec<u8>>, Refusal> {
         if self.is_database(path) {
-            let bytes = self.copy(alloc, path)?;
-            return Ok(Some(bytes));
+            return match self.copy(alloc, path) {
+                Ok(bytes) => Ok(Some(bytes)),
+                Err(refusal) => Err(refusal),
+            };
         }
         self.system.database(alloc, path)
     }

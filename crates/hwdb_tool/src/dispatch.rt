@@ -7,8 +7,8 @@ ghost use Rattle.hwdb_spec.specs.Runs.{files_by, told_by, world_by};
 ghost use Rattle.hwdb_spec.specs.WordFaults.{AreWrong};
 ghost use Rattle.hwdb_spec.specs.Words.{AskFor};
 ghost use Rattle.hwdb_spec.specs.declared.job.Job.{Job};
-ghost use Rattle.hwdb_spec.specs.Program.{IsDone, IsUpdate, OldOrAskedFor, OldOrDone, looks_below_root, reads_input, root_of};
-ghost use Rattle.hwdb_spec.specs.TaskRefusals.{HasFailedWith, HasSucceeded, IsJobNotDone, IsRootUnread, IsSaid, refused_status};
+ghost use Rattle.hwdb_spec.specs.Program.{IsDone, IsTaskDone, IsUpdate, OldOrAskedFor, OldOrDone, looks_below_root, reads_input, root_of};
+ghost use Rattle.hwdb_spec.specs.TaskRefusals.{HasFailedWith, HasSucceeded, IsJobNotDone, IsNotDone, IsRootUnread, IsSaid, refused_status};
 ghost use Rattle.hwdb_spec.specs.Refusals.{HasReason};
 ghost use Rattle.hwdb_spec.specs.declared.refusals.Refusal.TheVariants.{Plain};
 
@@ -20,6 +20,7 @@ use crate::dumps::dump;
 use crate::hiding::update_telling;
 use crate::near_misses::near;
 use crate::outlet::Outlet;
+use crate::over_text::{asks_text, run_over_text};
 use crate::printing::printed;
 use crate::queries::query;
 use crate::statuses::status;
@@ -73,7 +74,7 @@ pub fn program<D: Machine, I: Source, O: Outlet, E: Sink>(
 {
     match read_words(alloc, words) {
         Ok(job) => match enter_root(&job, system) {
-            Ok(()) => match run(alloc, &job, system, input, out, err) {
+            Ok(()) => match run_job(alloc, &job, system, input, out, err) {
                 Ok(status) => status,
                 Err(refusal) => refuse_job(alloc, refusal, refused_status(&job.task), out, err),
             },
@@ -169,7 +170,7 @@ fn refused_status(task: &Task) -> u8
 }
 
 /// Does the job, and returns the status: 1 where `check`, `test` or `diff` finds something or `--strict` says so, else 0.
-fn run<D: Machine, I: Source, O: Sink, E: Sink>(
+fn run_job<D: Machine, I: Source, O: Sink, E: Sink>(
     alloc: Global,
     job: &Job,
     system: &mut D,
@@ -194,6 +195,49 @@ fn run<D: Machine, I: Source, O: Sink, E: Sink>(
         (files_by D.Store.seen D.System.may_fail D.Store.may_leave D.Store.failures)
         (told_by I.left I.failures) (told_by O.taken O.failures) (told_by E.taken E.failures) in
         IfErr result (IsJobNotDone job.now
+        (world system.old input.old out.old err.old)
+        (world system.new input.new out.new err.new)) }
+    ensures out_hands_on { HandsOn (O.is_flushed out.old) (O.is_flushed out.new)
+        (O.failures out.old) (O.failures out.new) }
+    ensures err_hands_on { HandsOn (E.is_flushed err.old) (E.is_flushed err.new)
+        (E.failures err.old) (E.failures err.new) }
+{
+    if asks_text(job) {
+        return run_over_text(alloc, job, system, input, out, err);
+    }
+    run(alloc, job, system, input, out, err)
+}
+
+/// Does the job's task over the files as they are, and returns the status: 1 where `check`, `test` or `diff` finds something or `--strict`
+/// says so, else 0.
+pub fn run<D: Machine, I: Source, O: Sink, E: Sink>(
+    alloc: Global,
+    job: &Job,
+    system: &mut D,
+    input: &mut I,
+    out: &mut O,
+    err: &mut E,
+) -> Result<u8, Refusal>
+    ensures status { IfOk result (λ status. status ≤ 1) }
+    ensures any_moment { D.Store.tells
+        → spec.LeavesOnly D.Store.moment D.Store.left_since system.old system.new
+        (OldOrDone (D.System.may_fail system.old) job.now
+        (D.Store.seen system.old) (D.Store.may_leave system.old)) }
+    ensures unread { reads_input job.now.task ≡ false → input.new ≡ input.old }
+    ensures kept { (IsUpdate job.now.task → ⊥) → system.new ≡ system.old }
+    ensures update { IsUpdate job.now.task → out.new ≡ out.old }
+    ensures done { D.Store.tells → let world = world_by (sight_by D.answers)
+        (files_by D.Store.seen D.System.may_fail D.Store.may_leave D.Store.failures)
+        (told_by I.left I.failures) (told_by O.taken O.failures) (told_by E.taken E.failures) in
+        IfOk result (λ status. IsTaskDone job.now.task (root_of job.now)
+        job.now.usr job.now.strict status
+        (world system.old input.old out.old err.old)
+        (world system.new input.new out.new err.new)) }
+    ensures refused { D.Store.tells → let world = world_by (sight_by D.answers)
+        (files_by D.Store.seen D.System.may_fail D.Store.may_leave D.Store.failures)
+        (told_by I.left I.failures) (told_by O.taken O.failures) (told_by E.taken E.failures) in
+        IfErr result (IsNotDone job.now.task (root_of job.now)
+        job.now.usr job.now.strict
         (world system.old input.old out.old err.old)
         (world system.new input.new out.new err.new)) }
     ensures out_hands_on { HandsOn (O.is_flushed out.old) (O.is_flushed out.new)
@@ -296,7 +340,7 @@ fn run<D: Machine, I: Source, O: Sink, E: Sink>(
 }
 
 /// What stands in front of the paths of folders and databases.
-fn root_of(job: &Job) -> &str
+pub fn root_of(job: &Job) -> &str
     ensures { result.now ≡ root_of job.now }
 {
     match &job.root {

@@ -20,6 +20,7 @@
 //! | `verification` | `verify`; `verdicts`: its words on bytes that are no database |
 //! | `dumps` | `dump` |
 //! | `statuses` | `status` |
+//! | `over_text` | `--text`: the text files in place of a database |
 //! | `databases` | the database that a command asks for |
 //! | `given` | files that words name, or standard input |
 //! | `given_folders` | the text files for which the paths of `check` stand |
@@ -54,6 +55,7 @@ mod near_misses;
 mod one_outcome;
 mod one_refusal;
 mod outlet;
+mod over_text;
 mod printing;
 mod progress;
 mod queries;

@@ -86,7 +86,7 @@ fn masked_paths(
 }
 
 /// Compiles chosen text files.
-fn compiled(alloc: Global, files: &[ChosenFile<'_>]) -> Result<Compiled, Refusal>
+pub fn compiled(alloc: Global, files: &[ChosenFile<'_>]) -> Result<Compiled, Refusal>
     requires { All IsStorableChoice (map choice_in files.now) }
     ensures made { IfOk result
         (λ c. ForFolders files.now (λ etc usr. AreMadeOf etc usr c.database.items)) }

@@ -7,10 +7,10 @@ use Rattle.hwdb_spec.specs.declared.errors.ToolError.TheVariants.{Memory, Write}
 use Rattle.hwdb_spec.specs.Refusals.{Refused}
 use Rattle.hwdb_spec.specs.declared.refusals.Refusal.TheVariants.{Plain}
 use Rattle.hwdb_spec.specs.declared.refusals.Refusal.{Refusal}
-use Rattle.hwdb_spec.specs.Program.{OldOrAskedFor, OldOrDone, root_of}
-use Rattle.hwdb_spec.specs.TaskRefusals.{IsJobNotDone, IsTaskRefused}
+use Rattle.hwdb_spec.specs.Program.{OldOrAskedFor, OldOrDone, asks_text, root_of}
+use Rattle.hwdb_spec.specs.TaskRefusals.{IsJobNotDone}
 use Rattle.hwdb_tool.proofs.MomentLemmas.{leaves_more, leaves_old}
-use Rattle.hwdb_tool.proofs.CutLemmas.{cut_keeps}
+use Rattle.hwdb_tool.proofs.CutLemmas.{cut_keeps_from}
 use Rattle.hwdb_tool.proofs.FlushLemmas.{handed_on, handed_on_twice}
 use Rattle.hwdb_tool.proofs.UsageLemmas.{usage_line}
 use Rattle.hwdb_tool.proofs.dispatch.program.Goals as goal
@@ -23,14 +23,14 @@ returns-in-Ok-enter_root-clause-refused g c = λ tells is.
     let O = told_by g.O.Sink.taken g.O.Sink.failures in
     let E = told_by g.E.Sink.taken g.E.Sink.failures in
     let at : g.row.D.Denot → World = λ s. record { files = F s; input = I c.args.input.now; out = O c.args.out.now; err = E c.args.err.now; devices = V s } in
-    let left : World = record { files = F c.run.new.system; input = I c.run.new.input; out = O c.run.new.out; err = E c.run.new.err; devices = V c.run.new.system } in
+    let left : World = record { files = F c.run_job.new.system; input = I c.run_job.new.input; out = O c.run_job.new.out; err = E c.run_job.new.err; devices = V c.run_job.new.system } in
     inr (inl record {
       job = c.in-Ok.job;
       asked = c.in-Ok.ensures.job;
       faultless = c.in-Ok.ensures.whole;
-      refusal = c.in-Err-run.refusal;
-      err_then = E c.run.new.err;
-      refused = subst (λ (s : g.row.D.Denot). IsJobNotDone c.in-Ok.job (at s) left c.in-Err-run.refusal) (c.enter_root.ensures.same tells) (c.in-Err-run.ensures.refused tells);
+      refusal = c.in-Err-run_job.refusal;
+      err_then = E c.run_job.new.err;
+      refused = subst (λ (s : g.row.D.Denot). IsJobNotDone c.in-Ok.job (at s) left c.in-Err-run_job.refusal) (c.enter_root.ensures.same tells) (c.in-Err-run_job.ensures.refused tells);
       said = c.refuse_job.ensures.line is;
       says = ⊎_elim (λ none. absurd (let h = none in omega (arith, is, h))) (λ same. same ∙ c.refused_status.ensures.is) c.refuse_job.ensures.status;
     })
@@ -69,32 +69,32 @@ returns-in-Ok-enter_root-clause-done g c = λ tells is.
     let O = told_by g.O.Sink.taken g.O.Sink.failures in
     let E = told_by g.E.Sink.taken g.E.Sink.failures in
     let at : g.row.D.Denot → World = λ s. record { files = F s; input = I c.args.input.now; out = O c.args.out.now; err = E c.args.err.now; devices = V s } in
-    let left : World = record { files = F c.run.new.system; input = I c.run.new.input; out = O c.run.new.out; err = E c.run.new.err; devices = V c.run.new.system } in
-    let now : World = record { files = F c.run.new.system; input = I c.run.new.input; out = O c.run.new.out; err = E c.refuse_job.new.err; devices = V c.run.new.system } in
-    let over = subst (λ (s : g.row.D.Denot). IsJobNotDone job (at s) left c.in-Err-run.refusal) (c.enter_root.ensures.same tells) (c.in-Err-run.ensures.refused tells) in
-    let plain = subst (λ (r : Refusal). IsTaskRefused job.task (root_of job) job.usr job.strict r (at c.args.system.now) left) (c.refuse_job.ensures.said is) over.0 in
-    let same = subst (λ (e : _). IsTaskRefused job.task (root_of job) job.usr job.strict (Plain Write) (at c.args.system.now)
-    (record { files = F c.run.new.system; input = I c.run.new.input; out = O c.run.new.out; err = E e; devices = V c.run.new.system })) (sym (c.refuse_job.ensures.quiet is)) plain in
+    let left : World = record { files = F c.run_job.new.system; input = I c.run_job.new.input; out = O c.run_job.new.out; err = E c.run_job.new.err; devices = V c.run_job.new.system } in
+    let now : World = record { files = F c.run_job.new.system; input = I c.run_job.new.input; out = O c.run_job.new.out; err = E c.refuse_job.new.err; devices = V c.run_job.new.system } in
+    let over = subst (λ (s : g.row.D.Denot). IsJobNotDone job (at s) left c.in-Err-run_job.refusal) (c.enter_root.ensures.same tells) (c.in-Err-run_job.ensures.refused tells) in
+    let plain = subst (λ (r : Refusal). IsJobNotDone job (at c.args.system.now) left r) (c.refuse_job.ensures.said is) over in
+    let same = subst (λ (e : _). IsJobNotDone job (at c.args.system.now)
+    (record { files = F c.run_job.new.system; input = I c.run_job.new.input; out = O c.run_job.new.out; err = E e; devices = V c.run_job.new.system }) (Plain Write)) (sym (c.refuse_job.ensures.quiet is)) plain in
     inr (inr (inl record {
       job = job;
       asked = c.in-Ok.ensures.job;
       faultless = c.in-Ok.ensures.whole;
       refused = same;
-      kept = cut_keeps (root_of job) job.usr job.strict (at c.args.system.now) now job.task same;
+      kept = cut_keeps_from (root_of job) job.usr job.strict (at c.args.system.now) now (asks_text job) job.task same;
       reader = c.refuse_job.ensures.gone is;
-      writes = λ update. subst g.O.Outlet.reader_gone (c.run.ensures.update update) (c.refuse_job.ensures.gone is);
+      writes = λ update. subst g.O.Outlet.reader_gone (c.run_job.ensures.update update) (c.refuse_job.ensures.gone is);
     }))
 
-pub returns-in-Ok-run-clause-any_moment : goal.returns-in-Ok-run-clause-any_moment
-returns-in-Ok-run-clause-any_moment g c = λ tells.
+pub returns-in-Ok-run_job-clause-any_moment : goal.returns-in-Ok-run_job-clause-any_moment
+returns-in-Ok-run_job-clause-any_moment g c = λ tells.
     let words = map string_bytes c.args.words.now in
     let seen = g.D.Store.seen c.enter_root.new.system in
     let left = g.D.Store.may_leave c.enter_root.new.system in
     let fails = g.D.System.may_fail c.enter_root.new.system in
-    subst (λ (s : g.row.D.Denot). LeavesOnly g.D.Store.moment g.D.Store.left_since s c.run.new.system (OldOrAskedFor (g.D.System.may_fail s) words (g.D.Store.seen s) (g.D.Store.may_leave s))) (c.enter_root.ensures.same tells)
-    (leaves_more g.D.Store.moment g.D.Store.left_since c.enter_root.new.system c.run.new.system
+    subst (λ (s : g.row.D.Denot). LeavesOnly g.D.Store.moment g.D.Store.left_since s c.run_job.new.system (OldOrAskedFor (g.D.System.may_fail s) words (g.D.Store.seen s) (g.D.Store.may_leave s))) (c.enter_root.ensures.same tells)
+    (leaves_more g.D.Store.moment g.D.Store.left_since c.enter_root.new.system c.run_job.new.system
     (OldOrDone fails c.in-Ok.job seen left) (OldOrAskedFor fails words seen left)
-    (λ p v now. inr (c.in-Ok.job, c.in-Ok.ensures.job, c.in-Ok.ensures.whole, now)) (c.run.ensures.any_moment tells))
+    (λ p v now. inr (c.in-Ok.job, c.in-Ok.ensures.job, c.in-Ok.ensures.whole, now)) (c.run_job.ensures.any_moment tells))
 
 pub returns-in-Ok-enter_root-clause-any_moment : goal.returns-in-Ok-enter_root-clause-any_moment
 returns-in-Ok-enter_root-clause-any_moment g c = λ tells.
@@ -102,10 +102,10 @@ returns-in-Ok-enter_root-clause-any_moment g c = λ tells.
     let seen = g.D.Store.seen c.enter_root.new.system in
     let left = g.D.Store.may_leave c.enter_root.new.system in
     let fails = g.D.System.may_fail c.enter_root.new.system in
-    subst (λ (s : g.row.D.Denot). LeavesOnly g.D.Store.moment g.D.Store.left_since s c.run.new.system (OldOrAskedFor (g.D.System.may_fail s) words (g.D.Store.seen s) (g.D.Store.may_leave s))) (c.enter_root.ensures.same tells)
-    (leaves_more g.D.Store.moment g.D.Store.left_since c.enter_root.new.system c.run.new.system
+    subst (λ (s : g.row.D.Denot). LeavesOnly g.D.Store.moment g.D.Store.left_since s c.run_job.new.system (OldOrAskedFor (g.D.System.may_fail s) words (g.D.Store.seen s) (g.D.Store.may_leave s))) (c.enter_root.ensures.same tells)
+    (leaves_more g.D.Store.moment g.D.Store.left_since c.enter_root.new.system c.run_job.new.system
     (OldOrDone fails c.in-Ok.job seen left) (OldOrAskedFor fails words seen left)
-    (λ p v now. inr (c.in-Ok.job, c.in-Ok.ensures.job, c.in-Ok.ensures.whole, now)) (c.run.ensures.any_moment tells))
+    (λ p v now. inr (c.in-Ok.job, c.in-Ok.ensures.job, c.in-Ok.ensures.whole, now)) (c.run_job.ensures.any_moment tells))
 
 pub returns-in-Ok-clause-any_moment : goal.returns-in-Ok-clause-any_moment
 returns-in-Ok-clause-any_moment g c = λ tells.
@@ -128,11 +128,11 @@ returns-in-Err-Usage-clause-refused g c = λ tells is.
       says = refl;
     }))
 
-pub returns-in-Ok-run-clause-err_handed_on : goal.returns-in-Ok-run-clause-err_handed_on
-returns-in-Ok-run-clause-err_handed_on g c = handed_on _ _ _ _ c.run.ensures.err_hands_on
+pub returns-in-Ok-run_job-clause-err_handed_on : goal.returns-in-Ok-run_job-clause-err_handed_on
+returns-in-Ok-run_job-clause-err_handed_on g c = handed_on _ _ _ _ c.run_job.ensures.err_hands_on
 
 pub returns-in-Ok-enter_root-clause-err_handed_on : goal.returns-in-Ok-enter_root-clause-err_handed_on
-returns-in-Ok-enter_root-clause-err_handed_on g c = handed_on_twice _ _ _ _ _ _ c.run.ensures.err_hands_on c.refuse_job.ensures.hands_on
+returns-in-Ok-enter_root-clause-err_handed_on g c = handed_on_twice _ _ _ _ _ _ c.run_job.ensures.err_hands_on c.refuse_job.ensures.hands_on
 
 pub returns-in-Ok-clause-err_handed_on : goal.returns-in-Ok-clause-err_handed_on
 returns-in-Ok-clause-err_handed_on g c = handed_on _ _ _ _ c.refuse_for.ensures.hands_on

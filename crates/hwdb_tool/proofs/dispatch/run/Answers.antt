@@ -46,6 +46,9 @@ returns-in-Update-clause-any_moment g c = λ tells.
     )) now)
     (c.update_telling.ensures.any_moment tells)
 
+pub returns-in-Update-clause-kept : goal.returns-in-Update-clause-kept
+returns-in-Update-clause-kept g c = λ other. absurd (other (c.in-Update.verbose, c.in-Update.skip_unreadable, c.in-Update.is))
+
 pub returns-in-Update-clause-done : goal.returns-in-Update-clause-done
 returns-in-Update-clause-done g c = λ tells.
     let job = c.args.job.now in

@@ -1,0 +1,132 @@
+//! `--text`: a task over the text files of both folders, as an update would compile them now. Nothing is written.
+ghost use Rattle.std.specs.Prelude.{◌≡◌, ◌≤◌, List, false, map, option_map, string_bytes, true, IfErr, IfOk};
+ghost use Rattle.hwdb_spec.specs.Flushing.{HandsOn};
+ghost use Rattle.hwdb_spec.specs.Folders.{Source};
+ghost use Rattle.hwdb_spec.specs.OverText.{AreTextsRefused, misuse_text, takes_text};
+ghost use Rattle.hwdb_spec.specs.Program.{IsDoneOverText, asks_text, reads_input, root_of};
+ghost use Rattle.hwdb_spec.specs.Refusals.{HasReason, IsInWords};
+ghost use Rattle.hwdb_spec.specs.Runs.{files_by, told_by, world_by};
+ghost use Rattle.hwdb_spec.specs.Status.{IsMade};
+ghost use Rattle.hwdb_spec.specs.SysfsAnswers.{sight_by};
+ghost use Rattle.hwdb_spec.specs.TaskRefusals.{IsNotDoneFrom};
+
+use crate::dispatch::{root_of, run};
+use crate::statuses::compiled;
+use hwdb_cli::{Job, Task};
+use hwdb_fs::{Machine, Overlay, Refusal, System, selected, with_texts};
+use hwdb_io::{Sink, Source};
+use std::alloc::Global;
+
+/// Whether the task's command takes `--text`: whether it asks a database.
+fn takes_text(task: &Task) -> bool
+    ensures { result ≡ takes_text task.now }
+{
+    matches!(
+        task,
+        Task::Query { .. }
+            | Task::Explain { .. }
+            | Task::List { .. }
+            | Task::Near { .. }
+            | Task::Device { .. }
+            | Task::Test { .. }
+            | Task::Verify { .. }
+            | Task::Dump { .. }
+    )
+}
+
+/// Whether the job answers from the text files.
+pub fn asks_text(job: &Job) -> bool
+    ensures { result ≡ asks_text job.now }
+{
+    job.text && takes_text(&job.task)
+}
+
+/// What is said of other words that don't fit `--text`: they name what is asked, or no database is.
+fn misuse_text(task: &Task) -> Option<&'static str>
+    ensures { option_map (λ t. t.now) result ≡ misuse_text task.now }
+{
+    match task {
+        Task::Near { files, .. } if !files.is_empty() => {
+            Some("--text and FILE are two sources: leave out one of them")
+        }
+        Task::Device { path: None, .. } => {
+            Some("--text needs DEVICE: a list of devices asks no database")
+        }
+        Task::Test {
+            database: Some(_), ..
+        } => Some("--text and --database are two sources: leave out one of them"),
+        Task::Verify { database: Some(_) } | Task::Dump { database: Some(_) } => {
+            Some("--text and DATABASE are two sources: leave out one of them")
+        }
+        _ => None,
+    }
+}
+
+/// The error of such words.
+fn misused(alloc: Global, text: &str) -> Refusal
+    ensures { IsInWords text.now result }
+{
+    match Vec::from_slice(alloc, text.as_bytes()) {
+        Ok(text) => Refusal::InWords(text),
+        Err(refused) => Refusal::from(refused),
+    }
+}
+
+/// The database that an update would write now of the text files of both folders below the root. Errors are, in this order: the
+/// text files can't be read, and they can't be compiled.
+fn made<D: System>(alloc: Global, root: &str, system: &D) -> Result<Vec<u8>, Refusal>
+    ensures made { D.Store.tells → IfOk result (λ b. (of_etc of_usr : List Source)
+        × IsMade root.now (D.Store.seen system.now) of_etc of_usr b.items) }
+    ensures refused { D.Store.tells → IfErr result
+        (AreTextsRefused root.now (D.Store.seen system.now)) }
+    ensures reason { D.Store.tells → IfErr result
+        (HasReason (D.System.may_fail system.now) ⊥ (D.Store.seen system.now)) }
+{
+    let selection = selected(alloc, root, system)?;
+    let files = with_texts(alloc, &selection.chosen, &selection.texts)?;
+    let made = compiled(alloc, &files)?;
+    Ok(made.database)
+}
+
+/// Does the job over the files as they are, but that the database has the bytes that an update would write now. Returns the status.
+///
+/// Errors are, in this order: words don't fit `--text`, the text files can't be read, they can't be compiled, and those of the task.
+/// Beside the task's own time it takes that of an update without its sync.
+pub fn run_over_text<D: Machine, I: Source, O: Sink, E: Sink>(
+    alloc: Global,
+    job: &Job,
+    system: &D,
+    input: &mut I,
+    out: &mut O,
+    err: &mut E,
+) -> Result<u8, Refusal>
+    requires { asks_text job.now ≡ true }
+    ensures status { IfOk result (λ status. status ≤ 1) }
+    ensures unread { reads_input job.now.task ≡ false → input.new ≡ input.old }
+    ensures done { D.Store.tells → let world = world_by (sight_by D.answers)
+        (files_by D.Store.seen D.System.may_fail D.Store.may_leave D.Store.failures)
+        (told_by I.left I.failures) (told_by O.taken O.failures) (told_by E.taken E.failures) in
+        IfOk result (λ status. IsDoneOverText job.now.task (root_of job.now)
+        job.now.usr job.now.strict status
+        (world system.now input.old out.old err.old)
+        (world system.now input.new out.new err.new)) }
+    ensures refused { D.Store.tells → let world = world_by (sight_by D.answers)
+        (files_by D.Store.seen D.System.may_fail D.Store.may_leave D.Store.failures)
+        (told_by I.left I.failures) (told_by O.taken O.failures) (told_by E.taken E.failures) in
+        IfErr result (IsNotDoneFrom true job.now.task (root_of job.now)
+        job.now.usr job.now.strict
+        (world system.now input.old out.old err.old)
+        (world system.now input.new out.new err.new)) }
+    ensures out_hands_on { HandsOn (O.is_flushed out.old) (O.is_flushed out.new)
+        (O.failures out.old) (O.failures out.new) }
+    ensures err_hands_on { HandsOn (E.is_flushed err.old) (E.is_flushed err.new)
+        (E.failures err.old) (E.failures err.new) }
+{
+    if let Some(text) = misuse_text(&job.task) {
+        return Err(misused(alloc, text));
+    }
+    let root = root_of(job);
+    let bytes = made(alloc, root, system)?;
+    let mut shown = Overlay::new(system, root, &bytes);
+    run(alloc, job, &mut shown, input, out, err)
+}
