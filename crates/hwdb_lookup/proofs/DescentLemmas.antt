@@ -1,5 +1,7 @@
 -- The open nodes of a descent, and what its steps do to them.
-use Rattle.std.proofs.Common.{◌≡◌, ◌∙◌, ap, sym, refl, subst, ℕ, zero, suc, ◌+◌, ◌-◌, ◌≤◌, List, [], ◌∷◌, ◌++◌, filter, arith, append_assoc, append-nil, length}
+use Rattle.std.proofs.Common.{◌≡◌, ◌∙◌, ap, sym, refl, subst, ℕ, zero, suc, ◌+◌, ◌-◌, ◌≤◌, List, [], ◌∷◌, ◌++◌, filter, map, reverse, arith, append_assoc, append-nil, length}
+use Rattle.std.proofs.lemmas.List.{reverse-append}
+use Rattle.hwdb_query.specs.Views.{assignment_of_answer}
 use Rattle.hwdb_spec.specs.declared.Layout.{Layout}
 use Rattle.hwdb_spec.specs.Assignment.{Assignment}
 use Rattle.hwdb_spec.specs.Answers.{is_wanted}
@@ -279,3 +281,40 @@ kept_left left size enough = omega (arith, enough)
 pub enters_at_path : (file : List ℕ) (l : Layout) (levels off : ℕ) (path whole device same : List ℕ) (d : Descent) (all : List Assignment) → path ≡ whole → device ≡ same
     → Enters file l levels off path device d all → Enters file l levels off whole same d all
 enters_at_path file l levels off path whole device same d all p e h = subst (λ (g : List ℕ × List ℕ). Enters file l levels off g.0 g.1 d all) (λ i. (p i, e i)) h
+
+-- ---- the stack as a list
+
+-- a node was taken off it
+pub popped : (items rest : List OpenNode) (o : OpenNode) → items ≡ rest ++ o ∷ [] → reverse items ≡ o ∷ reverse rest
+popped items rest o is = ap reverse is ∙ reverse-append rest (o ∷ [])
+
+pub goes_from : (file device : List ℕ) (o : OpenNode) (d gone : Descent) (all : List Assignment) → stack_of d ≡ o ∷ stack_of gone → found_in gone ≡ found_in d → gone.left ≡ d.left
+    → Comes file device d all → IsOf o.node.known file × (o.reach.device ≡ device) × ComesOn file o.reach.device (o ∷ stack_of gone) (found_in gone) gone.left all
+unfolding ToCome
+goes_from file device o d gone all stack found left c =
+    let t = subst (λ s. ToCome file device s c.rest d.left) stack c.to_come in
+    let opens = t.4 in
+    let same = opens.same_device in
+    (
+      opens.known,
+      same,
+      subst (λ x. ComesOn file x (o ∷ stack_of gone) (found_in gone) gone.left all) (sym same)
+      (record {
+        rest = c.rest;
+        to_come = subst (λ n. ToCome file device (o ∷ stack_of gone) c.rest n) (sym left) t;
+        whole = ap (λ f. f ++ c.rest) found ∙ c.whole;
+      }),
+    )
+
+pub begins : (file : List ℕ) (known : Known) (l : Layout) (t : Tree) (device start path : List ℕ) (d : Descent) → IsOf known file → l ≡ layout_of file → IsDatabase file t → d.stack.items ≡ [] → d.found.items ≡ []
+    → d.left ≡ length known.buffer.now → path ≡ [] → start ≡ device → Enters file l max_levels l.root path start d (wanted_under device [] t)
+begins file known l t device start path d m is h stack found left none same =
+    enters_at_path file l max_levels l.root [] path device start d (wanted_under device [] t) (sym none) (sym same)
+    (root_enters file l t device d is h (ap reverse stack) (ap (map assignment_of_answer) found) (left ∙ sym m.size))
+
+no_items : (items : List OpenNode) → length items ≡ 0 → reverse items ≡ []
+no_items [] h = refl
+no_items (o ∷ items) h = absurd (omega (arith, h))
+
+pub none_open : (d : Descent) → d.stack.len ≡ 0 → stack_of d ≡ []
+none_open d h = let size = d.stack.ok in no_items d.stack.items (omega (arith, h, size))

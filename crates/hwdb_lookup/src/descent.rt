@@ -212,30 +212,30 @@ impl<'a, 'd> Descent<'a, 'd> {
         &mut self,
         alloc: Global,
         known: Known<'a>,
-        open: OpenNode<'a, 'd>,
+        last: OpenNode<'a, 'd>,
     ) -> Result<(), Stop>
-        requires { AllStand known (open ∷ stack_of self.old) }
+        requires { AllStand known (last ∷ stack_of self.old) }
         ensures all { OnOk result (AllStand known.entry (stack_of self.new)) }
         ensures comes { OnOk result ((file : List ℕ) (all : List Assignment)
-            → IsOf known.entry file → ComesOn file open.entry.reach.device (open.entry ∷ stack_of self.old)
+            → IsOf known.entry file → ComesOn file last.entry.reach.device (last.entry ∷ stack_of self.old)
             (found_in self.old) self.old.left all
-            → Comes file open.entry.reach.device self.new all) }
+            → Comes file last.entry.reach.device self.new all) }
         ensures steps { OnOk result (self.new.left + length self.new.stack.items
             ≤ self.old.left + length self.old.stack.items) }
         ensures stop { IfErr result (λ s. Stops known.entry
-            (λ file. (all : List Assignment) × ComesOn file open.entry.reach.device
-            (open.entry ∷ stack_of self.old) (found_in self.old) self.old.left all) s) }
+            (λ file. (all : List Assignment) × ComesOn file last.entry.reach.device
+            (last.entry ∷ stack_of self.old) (found_in self.old) self.old.left all) s) }
     {
-        let mut open = open;
-        let Some(next) = open.next()? else {
+        let mut last = last;
+        let Some(next) = last.next()? else {
             return Ok(());
         };
-        open.done = next.done;
-        let path = one_further(alloc, &open.path, next.byte)?;
-        let reach = open.reach.feed(alloc, &[next.byte])?;
-        let frame = open.node.frame;
-        let levels = open.levels;
-        self.open(open)?;
+        last.done = next.done;
+        let path = one_further(alloc, &last.path, next.byte)?;
+        let reach = last.reach.feed(alloc, &[next.byte])?;
+        let frame = last.node.frame;
+        let levels = last.levels;
+        self.open(last)?;
         self.visit(alloc, known, frame, levels, next.off, path, reach)
     }
 }
