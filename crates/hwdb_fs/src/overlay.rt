@@ -132,7 +132,7 @@ impl<'a, D: System> Store for Overlay<'a, D> {
 
     ghost earlier = { λ o t u p v le left. left };
 
-    ghost stands = { λ o p tells. refl };
+    ghost stands = { λ o p tells i. with_database o.root.now o.bytes.now (D.Store.seen o.system.now) p };
 
     fn clear_parts(&mut self, _: &str) {}
 
