@@ -40,7 +40,8 @@ pub fn command<'a>(alloc: Global) -> Draft<'a>
 fn devices_option<'a>(alloc: Global) -> Arg<'a>
     ensures { IsArgument devices_option_rule result }
 {
-    let help = "Compare what the devices of a file get, a line each, or of - for standard input; may come more than once";
+    let help =
+        "Compare what the devices of a file get, a line each, or of - for standard input; may come more than once";
     option(alloc, "devices", "FILE", help).action(ArgAction::Append)
 }
 

@@ -30,11 +30,7 @@ fn put_given(json: &mut Writer, f: &StoredAssignment<'_>) -> Result<(), AllocErr
 }
 
 /// The same under a name.
-fn put_given_at(
-    json: &mut Writer,
-    name: &str,
-    f: &StoredAssignment<'_>,
-) -> Result<(), AllocError>
+fn put_given_at(json: &mut Writer, name: &str, f: &StoredAssignment<'_>) -> Result<(), AllocError>
     ensures before { json.new.before ≡ json.old.before }
     ensures tokens { OnOk result (json.new.tokens
         ≡ json.old.tokens ++ tokens_of_member (name.now, given_json (assignment_of f.now))) }
@@ -199,11 +195,7 @@ fn put_array(json: &mut Writer, pairs: Pairs<'_, '_>) -> Result<bool, AllocError
 }
 
 /// Adds the object of a device, and answers whether something changed for it.
-fn put_device(
-    json: &mut Writer,
-    device: &[u8],
-    pairs: Pairs<'_, '_>,
-) -> Result<bool, AllocError>
+fn put_device(json: &mut Writer, device: &[u8], pairs: Pairs<'_, '_>) -> Result<bool, AllocError>
     ensures before { json.new.before ≡ json.old.before }
     ensures tokens { OnOk result (json.new.tokens ≡ json.old.tokens
         ++ json_tokens (changed_device device.now (to_tell pairs.entry))) }

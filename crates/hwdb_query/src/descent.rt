@@ -380,8 +380,8 @@ impl<'a, 'd> Descent<'a, 'd> {
     /// if there is none.
     fn go_on<C: Collector<'a>>(&mut self, alloc: Global, into: &mut C) -> Result<(), AllocError>
         requires some { 0 < length self.old.stack.items }
-        requires stands { StandsOn (device_of (reverse self.old.stack.items)) (path_of self.old.path)
-            (reverse self.old.stack.items) }
+        requires stands { StandsOn (device_of (reverse self.old.stack.items))
+            (path_of self.old.path) (reverse self.old.stack.items) }
         requires room { self.old.entered + left (reverse self.old.stack.items) < 2 ^ 64 }
         ensures stands { OnOk result (StandsOn (device_of (reverse self.old.stack.items))
             (path_of self.new.path) (reverse self.new.stack.items)) }

@@ -1,4 +1,4 @@
-use Rattle.std.proofs.Common.{◌∷◌, ◌∙◌, [], ap, sym, subst, map, drop, arith, add-one}
+use Rattle.std.proofs.Common.{◌≡◌, ◌+◌, ◌∷◌, [], sym, subst, map, drop, arith, add-one}
 use Rattle.hwdb_query.specs.Internal.Collected.{LastCollects}
 use Rattle.hwdb_query.specs.Views.{assignment_of_answer}
 use Rattle.hwdb_query.proofs.CollectionLemmas.{last_none, last_more, answer_next, answers_over}

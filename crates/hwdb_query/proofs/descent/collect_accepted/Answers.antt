@@ -1,11 +1,8 @@
-use Rattle.std.proofs.Common.{ap, arith, filter}
 use Rattle.std.proofs.lemmas.Result.{on_ok_weaker}
 use Rattle.hwdb_reader.specs.Views.{entered_tree}
 use Rattle.hwdb_spec.specs.Tree.{values_of}
-use Rattle.hwdb_spec.specs.Answers.{is_wanted}
-use Rattle.hwdb_query.proofs.PartLemmas.{own_behind}
 use Rattle.hwdb_query.proofs.StepLemmas.{match_is, mismatch_is}
-use Rattle.hwdb_query.proofs.DescentLemmas.{collected_none, own_collected, own_left}
+use Rattle.hwdb_query.proofs.DescentLemmas.{own_collected, own_left}
 use Rattle.hwdb_query.proofs.descent.collect_accepted.Goals as goal
 
 pub returns-then-not-accepts : goal.returns-then-not-accepts

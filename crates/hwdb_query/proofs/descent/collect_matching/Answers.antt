@@ -1,12 +1,9 @@
-use Rattle.std.proofs.Common.{◌≡◌, ◌∙◌, ap, arith, filter, subst, List, ℕ}
-use Rattle.std.proofs.lemmas.Result.{on_ok_weaker}
+use Rattle.std.proofs.Common.{ap, arith, filter}
 use Rattle.hwdb_reader.specs.Views.{entered_tree}
 use Rattle.hwdb_spec.specs.Tree.{values_of}
 use Rattle.hwdb_spec.specs.Answers.{is_wanted}
-use Rattle.hwdb_pattern.specs.Views.{StandsFor}
 use Rattle.hwdb_query.specs.Internal.LongPaths.{path_of}
-use Rattle.hwdb_query.specs.Internal.Members.{own_members}
-use Rattle.hwdb_query.specs.Lemmas.Parts.{own_behind}
+use Rattle.hwdb_query.proofs.PartLemmas.{own_behind}
 use Rattle.hwdb_query.proofs.DescentLemmas.{collected_none}
 use Rattle.hwdb_query.proofs.descent.collect_matching.Goals as goal
 
