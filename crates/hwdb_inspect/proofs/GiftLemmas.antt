@@ -36,6 +36,14 @@ given_all device (e ∷ es) =
 abbrev Entry : Type 0
 Entry = (List ℕ × List ℕ) × Assignment
 
+-- a key and its value
+abbrev pair_of : Entry → List ℕ × List ℕ
+pair_of e = (e.0.1, e.1.value)
+
+-- a key and the value of its first answer
+abbrev first_of_key : List ℕ × List Assignment → List ℕ × List ℕ
+first_of_key p = (p.0, first_value p.1)
+
 -- the entries of the first answer of each key
 abbrev entries_from : (device : List ℕ) (all : List Assignment) (keys : List (List ℕ)) → List Entry
 entries_from device all keys = map entry_of (map (given_to device) (flat_map (λ (p : List ℕ × List Assignment). take 1 p.1) (map (λ key. (key, answers_with key all)) keys)))
@@ -74,13 +82,13 @@ module _ (device : List ℕ) (all : List Assignment) where
 
   -- they tell of each key the value of its first answer
   told : (keys : List (List ℕ)) → AllByRecursion (λ (p : List ℕ × List Assignment). p.1 ≢ []) (map (λ key. (key, answers_with key all)) keys)
-      → map (λ (e : Entry). (e.0.1, e.1.value)) (entries_from device all keys) ≡ map (λ (p : List ℕ × List Assignment). (p.0, first_value p.1)) (map (λ key. (key, answers_with key all)) keys)
+      → map pair_of (entries_from device all keys) ≡ map first_of_key (map (λ key. (key, answers_with key all)) keys)
   told [] h = refl
   told (key ∷ keys) h =
       let rest = told keys h.1 in
       elim (answers_with key all) as (λ l. answers_with key all ≡ l
-      → map (λ (e : Entry). (e.0.1, e.1.value)) (map entry_of (map (given_to device) (take 1 l ++ flat_map (λ (p : List ℕ × List Assignment). take 1 p.1) (map (λ k. (k, answers_with k all)) keys))))
-      ≡ (key, first_value l) ∷ map (λ (p : List ℕ × List Assignment). (p.0, first_value p.1)) (map (λ k. (k, answers_with k all)) keys)) [
+      → map pair_of (map entry_of (map (given_to device) (take 1 l ++ flat_map (λ (p : List ℕ × List Assignment). take 1 p.1) (map (λ k. (k, answers_with k all)) keys))))
+      ≡ (key, first_value l) ∷ map first_of_key (map (λ k. (k, answers_with k all)) keys)) [
         | [] ↦ λ is. absurd (h.0 is)
         | f ∷ more ↦ λ is.
             let same : key ≡ f.position.key = finite.slice_cmp-IsAntisymmetric finite.nat_cmp-IsAntisymmetric key f.position.key (equal_of (text_cmp key f.position.key) (first_has key f more (reverse all) is)) in
@@ -127,6 +135,6 @@ gift_differences device t u olds news old new =
 pub gifts_told : ExplainedAreEffective → AllAreExplained → GiftsAreEffective
 unfolding explained
 gifts_told are present device t =
-    ap (map (λ (e : Entry). (e.0.1, e.1.value))) (entries_of_gifts device t)
+    ap (map pair_of) (entries_of_gifts device t)
     ∙ told device (answers device t) (in_order text_cmp (map key_of_answer (answers device t))) (recursion_from_All (λ (p : List ℕ × List Assignment). p.1 ≢ []) (explained (answers device t)) (present (answers device t)))
     ∙ are (answers device t)
