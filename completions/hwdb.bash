@@ -56,7 +56,7 @@ _hwdb() {
     )
     local -A options=(
         [hwdb]='--usr -s --strict -r --root --color -h --help -V --version'
-        [update]='--usr -s --strict -r --root --verbose --skip-unreadable -h --help'
+        [update]='--usr -s --strict -r --root --verbose --skip-unreadable --check -h --help'
         [query]='-r --root --color --json -h --help'
         [explain]='-r --root --color --json -h --help'
         [ask]='-r --root --color -h --help'

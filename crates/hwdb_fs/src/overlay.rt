@@ -1,5 +1,5 @@
 //! A file system with another database in its place: what `--text` answers from.
-ghost use Rattle.std.specs.Prelude.{◌≡◌, ◌≤◌, ◌<◌, ◌⊎◌, [], false, length, IfOk, IfErr, Result, vec_len};
+ghost use Rattle.std.specs.Prelude.{◌≡◌, ◌≤◌, ◌<◌, ◌⊎◌, [], false, length, refl, IfOk, IfErr, Result, vec_len};
 ghost use Rattle.std.specs.Str.{bytes_eq};
 ghost use Rattle.hwdb_spec.specs.Asked.{database_path};
 ghost use Rattle.hwdb_spec.specs.Failures.{CountsFailures};
@@ -42,7 +42,8 @@ fn refused<T>(failed: &mut u64) -> Result<T, CallFailed>
     Err(CallFailed)
 }
 
-/// What was listed, or that memory was refused.
+/// What was listed, or that memory was refused: the one error that says nothing of what is there. No command lists the
+/// database's own path as a folder.
 fn listed_or_none<T>(listed: Result<T, Refusal>) -> Result<T, Refusal>
     ensures same { IfOk result (λ names. listed ≡ Result.Ok names) }
     ensures memory { IfErr result (λ r. r ≡ Plain Memory) }

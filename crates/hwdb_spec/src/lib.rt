@@ -34,8 +34,8 @@
 //! | `Findings` | what `check` prints of a file: reports, or lines of JSON |
 //! | `Checks` | what `check` prints, how much it finds, and its status |
 //! | `Progress` | what `update` says of its work |
-//! | `Comparisons` | what `diff` compares, and what it prints, as text or JSON |
 //! | `ManyDevices` | what `explain` prints of several devices, and a line of devices that is too long |
+//! | `Comparisons` | what `diff` compares, and what it prints, as text or JSON |
 //! | `LoneFile` | one text file alone, as `ask` reads it and `dump` writes it |
 //! | `Databases` | what bytes of databases give, and what is so of bytes that are none |
 //! | `Failures` | how failed calls are counted |
@@ -53,6 +53,7 @@
 //! | `LeftOut` | text files that can't be read, and that an update leaves out |
 //! | `Asked` | the database that a command asks for, and what is printed of it |
 //! | `Library` | what the C library is told |
+//! | `Blocks` | blocks of a file that were read, and which files may have them |
 //! | `Hiding` | what `update --usr --verbose` says if /etc's database hides the new one |
 //! | `Status` | what `status` says of the database that is asked, beside what the text files make |
 //! | `Done` | what `update` and `ask` leave, and what a crash leaves during an update |
@@ -100,6 +101,7 @@
 //! | `HidingTold` | an update, and before it the line on a database that hides the new one |
 //! | `Reasons` | what an error says of a file is so |
 //! | `CheckedReasons` | the same of `check` |
+//! | `OverText` | with `--text`, the files as they are but for the database, which is what an update would write |
 //! | `Program` | what the program does, by the job that its words ask for |
 //! | `TaskRefusals` | which errors end a task, and what each leaves: the promise of `program` |
 //!

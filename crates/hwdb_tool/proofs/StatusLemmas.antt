@@ -104,7 +104,7 @@ module _ (root : List ℕ) (contents : Contents) (listed : List (List ℕ)) (fil
       let names : masked ≡ masked_paths (map (λ (s : Source). s.name) read.of_usr) (chosen_of read.of_etc read.of_usr) =
       masks ∙ ap (λ (l : List (List ℕ)). masked_paths l (map choice_in files)) (sym read.named)
       ∙ ap (masked_paths (map (λ (s : Source). s.name) read.of_usr)) read.are.choices in (
-        told.quiet,
+        told.untold,
         record {
           of_etc = read.of_etc;
           of_usr = read.of_usr;

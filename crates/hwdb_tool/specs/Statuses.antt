@@ -21,7 +21,7 @@ pub record IsReported (root : List ℕ) (json quiet : Bool) (contents : Contents
   pub short : IfSome (asked_database root contents) (λ bytes. length bytes ≤ max_file)
   pub state : State
   pub stands : IsState made m (asked_database root contents) state
-  pub quiet : a.err.items ≡ []
+  pub untold : a.err.items ≡ []
   pub report : Report
   pub of : report ≡ report_of root (has_database false root contents) (has_database true root contents) masked state
   pub is : a.out.items ≡ report_form json quiet report

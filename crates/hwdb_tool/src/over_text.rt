@@ -53,7 +53,8 @@ fn misuse_text(task: &Task) -> Option<&'static str>
             Some("--text needs DEVICE: a list of devices asks no database")
         }
         Task::Test {
-            database: Some(_), ..
+            database: Some(_),
+            ..
         } => Some("--text and --database are two sources: leave out one of them"),
         Task::Verify { database: Some(_) } | Task::Dump { database: Some(_) } => {
             Some("--text and DATABASE are two sources: leave out one of them")

@@ -20,7 +20,7 @@ returns-clause-reported g c = λ tells m is.
       short = subst (λ (o : Option (List ℕ)). IfSome o (λ b. length b ≤ max_file)) (asked.bytes tells) asked.within;
       state = state;
       stands = subst (λ (o : Option (List ℕ)). IsState c.args.made.now m o state) (c.bytes_of.ensures ∙ asked.bytes tells) (c.in_ok-state.ensures m is);
-      quiet = c.new.ensures.err;
+      untold = c.new.ensures.err;
       report = report_shown c.in_ok-report.report;
       of = c.in_ok-report.ensures
           ∙ ap (λ (e : Bool). report_of root e c.in_ok-asked.asked.usr masked state) (asked.etc tells)
