@@ -1,5 +1,6 @@
 -- What was read of a file is what is in it.
-use Rattle.std.proofs.Common.{◌≡◌, ◌≢◌, ◌≤◌, ◌<◌, ◌-◌, ◌/◌, ℕ, zero, suc, ◌+◌, ◌*◌, List, [], ◌∷◌, length, take, drop, slice_index, Bool, true, false, not, cond, ◌==◌, refl, sym, ◌∙◌, ap, subst, arith}
+use Rattle.std.proofs.Common.{Result, Ok, Err, IfErr, IsTrue, ◌↔◌, ◌≡◌, ◌≢◌, ◌≤◌, ◌<◌, ◌-◌, ◌/◌, ℕ, zero, suc, ◌+◌, ◌*◌, List, [], ◌∷◌, length, take, drop, slice_index, Bool, true, false, not, cond, ◌==◌, refl, sym, ◌∙◌, ap, subst, arith}
+use Rattle.std.specs.Result.{IsErrAnd}
 use Rattle.std.proofs.lemmas.List.{get_or-drop, length-drop}
 use Rattle.std.proofs.lemmas.List.Sums.{take_while-cons}
 use Rattle.std.specs.List.{take_while}
@@ -18,6 +19,16 @@ pub stops_weaker : (known : Known) (P Q : List ℕ → Type 0) → ((file : List
 stops_weaker known P Q more (Missing block) h = h
 stops_weaker known P Q more (Fault fault) h = λ file is q. h file is (more file is q)
 stops_weaker known P Q more Memory h = h
+
+-- an error that is handed on
+pub stop_given : {A : Type 0} (known : Known) (P Q : List ℕ → Type 0) → ((file : List ℕ) → IsOf known file → Q file → P file) → (s : Stop) (r : Result A Stop) → IsErrAnd r (λ t. t ≡ s) → Stops known P s → IfErr r (λ t. Stops known Q t)
+stop_given known P Q more s (Ok x) is h = tt
+stop_given known P Q more s (Err t) is h = stops_weaker known P Q more t (subst (Stops known P) (sym is) h)
+
+-- an error that is returned
+pub stop_returned : {A : Type 0} (known : Known) (P Q : List ℕ → Type 0) → ((file : List ℕ) → IsOf known file → Q file → P file) → (r : Result A Stop) → IfErr r (λ t. Stops known P t) → IfErr r (λ t. Stops known Q t)
+stop_returned known P Q more (Ok x) h = tt
+stop_returned known P Q more (Err t) h = stops_weaker known P Q more t h
 
 -- the buffer may be the file
 pub itself : (known : Known) → IsOf known known.buffer.now
@@ -161,3 +172,6 @@ pub value_is : (file : List ℕ) (e : ℕ) (v : Value) → v.priority ≡ number
     → v.value ≡ text_at file (number_at 8 (e + 8) file) → v.path ≡ text_at file (number_at 8 (e + 16) file) → v ≡ value_at file e
 unfolding value_at
 value_is file e v p l k w q = λ i. record { priority = p i; line = l i; key = k i; value = w i; path = q i }
+
+pub refuted : (P : Type 0) (b : Bool) → b ≡ false → (IsTrue b ↔ P) → P → ⊥
+refuted P b e h p = let t : b ≡ true = h.1 p in cc

@@ -3,3 +3,5 @@ pub mod OpeningLemmas
 pub mod TextLemmas
 pub mod TreeLemmas
 pub mod RestLemmas
+pub mod ValueLemmas
+pub mod DescentLemmas

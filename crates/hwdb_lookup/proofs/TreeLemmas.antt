@@ -126,6 +126,10 @@ dead_in device path (Node prefix values children) matched patterns dead =
 
 -- ---- texts
 
+record_large : (l : Layout) (b : List ℕ) (off : ℕ) → off ≤ record_end l b off
+unfolding record_end
+record_large l b off = omega arith
+
 mutual
   unfolding NodeText
 
@@ -143,10 +147,6 @@ mutual
       let n = node_begins l b levels from (child_off b entry) t h.2 in
       let k = children_begin l b levels (record_end l b (child_off b entry)) (entry + l.child_size) c end more h.3 in
       omega (arith, n, k)
-
-  record_large : (l : Layout) (b : List ℕ) (off : ℕ) → off ≤ record_end l b off
-  unfolding record_end
-  record_large l b off = omega arith
 
 pub begins_before : (l : Layout) (b : List ℕ) (levels from off : ℕ) (t : Tree) → NodeText l b levels from off t → from ≤ off
 unfolding NodeText

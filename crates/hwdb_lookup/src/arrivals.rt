@@ -124,8 +124,9 @@ impl<'a, 'd> OpenNode<'a, 'd> {
         ensures stop { IfErr result (λ s. Stops self.now.node.known (λ _. Unit {0}) s) }
     {
         path_laws();
+        let children = self.node.children();
         let mut done = self.done;
-        while done < self.node.children {
+        while done < children {
             let child = self.node.child(done)?;
             done += 1;
             if self.reach.may_take(child.byte) {

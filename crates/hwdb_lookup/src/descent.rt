@@ -148,7 +148,7 @@ impl<'a, 'd> Descent<'a, 'd> {
     ) -> Result<(), Stop>
         requires stands { StandsFor open.reach open.path.items }
         requires same { open.node.known ≡ known }
-        requires all { AllStand known.entry (stack_of self.old) }
+        requires all { AllStand known (stack_of self.old) }
         ensures all { OnOk result (AllStand known.entry (stack_of self.new)) }
         ensures lands { OnOk result (Lands open.entry self.old self.new) }
         ensures steps { OnOk result
@@ -158,9 +158,10 @@ impl<'a, 'd> Descent<'a, 'd> {
             (λ file. (values : List Value) × AreValues file open.entry.node values) s) }
     {
         collect_matching(alloc, &open, &mut self.found)?;
-        if open.node.children != 0 {
-            self.open(open)?;
+        if open.node.children == 0 {
+            return Ok(());
         }
+        self.open(open)?;
         Ok(())
     }
 
@@ -178,7 +179,7 @@ impl<'a, 'd> Descent<'a, 'd> {
     ) -> Result<(), Stop>
         requires inside { frame.sizes.strings ≤ length known.buffer.now }
         requires stands { StandsFor reach path.items }
-        requires all { AllStand known.entry (stack_of self.old) }
+        requires all { AllStand known (stack_of self.old) }
         ensures all { OnOk result (AllStand known.entry (stack_of self.new)) }
         ensures comes { OnOk result ((file : List ℕ) (all : List Assignment)
             → IsOf known.entry file
@@ -189,6 +190,7 @@ impl<'a, 'd> Descent<'a, 'd> {
         ensures stop { IfErr result (λ s. Stops known.entry (λ file. (all : List Assignment)
             × Enters file frame.sizes levels off path.items reach.entry.device self.old all) s) }
     {
+        path_laws();
         if levels == 0 {
             return Err(Stop::Fault(DbFault::Depth(off as u64)));
         }
@@ -210,30 +212,30 @@ impl<'a, 'd> Descent<'a, 'd> {
         &mut self,
         alloc: Global,
         known: Known<'a>,
-        open: OpenNode<'a, 'd>,
+        last: OpenNode<'a, 'd>,
     ) -> Result<(), Stop>
-        requires { AllStand known.entry (open.entry ∷ stack_of self.old) }
+        requires { AllStand known (last ∷ stack_of self.old) }
         ensures all { OnOk result (AllStand known.entry (stack_of self.new)) }
         ensures comes { OnOk result ((file : List ℕ) (all : List Assignment)
-            → IsOf known.entry file → ComesOn file open.entry.reach.device (open.entry ∷ stack_of self.old)
+            → IsOf known.entry file → ComesOn file last.entry.reach.device (last.entry ∷ stack_of self.old)
             (found_in self.old) self.old.left all
-            → Comes file open.entry.reach.device self.new all) }
+            → Comes file last.entry.reach.device self.new all) }
         ensures steps { OnOk result (self.new.left + length self.new.stack.items
             ≤ self.old.left + length self.old.stack.items) }
         ensures stop { IfErr result (λ s. Stops known.entry
-            (λ file. (all : List Assignment) × ComesOn file open.entry.reach.device
-            (open.entry ∷ stack_of self.old) (found_in self.old) self.old.left all) s) }
+            (λ file. (all : List Assignment) × ComesOn file last.entry.reach.device
+            (last.entry ∷ stack_of self.old) (found_in self.old) self.old.left all) s) }
     {
-        let mut open = open;
-        let Some(next) = open.next()? else {
+        let mut last = last;
+        let Some(next) = last.next()? else {
             return Ok(());
         };
-        open.done = next.done;
-        let path = one_further(alloc, &open.path, next.byte)?;
-        let reach = open.reach.feed(alloc, &[next.byte])?;
-        let frame = open.node.frame;
-        let levels = open.levels;
-        self.open(open)?;
+        last.done = next.done;
+        let path = one_further(alloc, &last.path, next.byte)?;
+        let reach = last.reach.feed(alloc, &[next.byte])?;
+        let frame = last.node.frame;
+        let levels = last.levels;
+        self.open(last)?;
         self.visit(alloc, known, frame, levels, next.off, path, reach)
     }
 }

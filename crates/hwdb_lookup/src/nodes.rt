@@ -68,6 +68,13 @@ pub fn enter<'a>(known: Known<'a>, frame: Frame, off: usize) -> Result<LazyNode<
 }
 
 impl<'a> LazyNode<'a> {
+    /// How many children the node has.
+    pub fn children(self) -> usize
+        ensures { result ≡ self.entry.children }
+    {
+        self.children
+    }
+
     /// The child entry `i`, counted from 0.
     pub fn child(self, i: usize) -> Result<ChildEntry, Stop>
         requires { i < self.children }

@@ -1,5 +1,5 @@
 -- `device` ends with one error over one input, or is done.
-use Rattle.std.proofs.Common.{◌≡◌, ◌⊎◌, ◌∙◌, inl, inr, ap, sym, subst, refl, ℕ, Bool, true, List, Option, None, Some, is_some, string_bytes}
+use Rattle.std.proofs.Common.{◌≡◌, ◌⊎◌, ◌∙◌, inl, inr, ap, sym, subst, refl, ℕ, Bool, true, false, List, Option, None, Some, is_some, string_bytes}
 use Rattle.std.specs.Option.{option_map_or}
 use Rattle.std.specs.Prelude.{codes, option_map, ◌++◌}
 use Rattle.clap.specs.Simple.{matches_of, subcommand_of}
@@ -20,7 +20,7 @@ use Rattle.hwdb_spec.specs.Undone.{IsUnwritable}
 use Rattle.hwdb_spec.specs.declared.devices.DeviceForm.{DeviceForm}
 use Rattle.hwdb_spec.specs.declared.job.Job.{Job}
 use Rattle.hwdb_spec.specs.declared.job.Task.{Task}
-use Rattle.hwdb_spec.specs.declared.job.Task.TheVariants.{Device as DeviceTask}
+use Rattle.hwdb_spec.specs.declared.job.Task.TheVariants.{Device as DeviceTask, Status}
 use Rattle.hwdb_spec.specs.declared.refusals.Refusal.{Refusal}
 use Rattle.hwdb_tool.specs.OneOutcome.{IsOneInput, Scene, scene_of}
 use Rattle.hwdb_tool.specs.OneRefusal.{DoneEndsSo, DoneJobEndsSo, EndAlike, IsDevice, IsOfWhatIsRead, IsOneEnd, IsOneError, JobsEndAlike, NeverFails, scene_then}
@@ -275,6 +275,10 @@ module _ (header : OneHeader) where
 -- ---- two jobs that the same words ask for
 same_device : (name : Text) (inner : List Row) (t u : Task) → IsTask name inner t → IsTask name inner u → IsDevice t → IsDevice u × (given_of u ≡ given_of t)
 same_device name inner (DeviceTask path1 strings1 json1 pattern1) (DeviceTask path2 strings2 json2 pattern2) t u is = (tt, u.1 ∙ sym t.1)
+same_device name inner (DeviceTask path1 strings1 json1 pattern1) (Status json2 false) t u is =
+    apart (codes "device") (codes "status") refl (sym (is_named name inner (DeviceTask path1 strings1 json1 pattern1) t) ∙ is_named name inner (Status json2 false) u)
+same_device name inner (DeviceTask path1 strings1 json1 pattern1) (Status json2 true) t u is =
+    apart (codes "device") (codes "update") refl (sym (is_named name inner (DeviceTask path1 strings1 json1 pattern1) t) ∙ is_named name inner (Status json2 true) u)
 same_device name inner (DeviceTask path1 strings1 json1 pattern1) task2 t u is =
     apart (codes "device") (word_of task2) refl (sym (is_named name inner (DeviceTask path1 strings1 json1 pattern1) t) ∙ is_named name inner task2 u)
 same_device name inner task1 task2 t u is = absurd is

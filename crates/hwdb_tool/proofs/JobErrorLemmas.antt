@@ -29,7 +29,7 @@ use Rattle.hwdb_spec.specs.TaskRefusals.{refused_status}
 use Rattle.hwdb_spec.specs.Undone.{IsUnwritable}
 use Rattle.hwdb_tool.proofs.DatabaseErrorLemmas.{OneHeader, OneTree, Undumped, Unlisted, Unverified}
 use Rattle.hwdb_tool.proofs.AskErrorLemmas.{OneForm, Unasked}
-use Rattle.hwdb_tool.proofs.DiffErrorLemmas.{Undiffed}
+use Rattle.hwdb_tool.proofs.ComparedErrorLemmas.{Undiffed}
 use Rattle.hwdb_tool.proofs.JobLemmas.{apart, both_words, cut_last, is_named, one_value, one_values, same_root, word_of}
 use Rattle.hwdb_tool.proofs.TrialErrorLemmas.{Untested}
 use Rattle.hwdb_tool.proofs.TaskErrorLemmas.{IsLeftThen, OneStand, Unchecked, Uncompared, Why, end_of, not_both_ends, said_first, why}
@@ -42,7 +42,7 @@ module _ (name : Text) (inner : List Row) where
   same_kind (Explain device1 json1) (Explain device2 json2) t u kind =
       subst (λ (d : List ℕ). is_input (d ∷ []) ≡ false) (sym (one_value (first_of (codes "MODALIAS") inner) _ _ u.2 t.2)) kind
   same_kind (ListHits after1 limit1 device1 json1) (ListHits after2 limit2 device2 json2) t u kind = tt
-  same_kind (Diff old1 new1) (Diff old2 new2) t u kind = tt
+  same_kind (Diff old1 new1 devices1 json1) (Diff old2 new2 devices2 json2) t u kind = tt
   same_kind (Verify database1) (Verify database2) t u kind = tt
   same_kind (Dump database1) (Dump database2) t u kind = tt
   same_kind (Status json1 false) (Status json2 false) t u kind = tt
@@ -65,7 +65,7 @@ module _ (name : Text) (inner : List Row) where
   same_status (Query devices1 json1) (Query devices2 json2) t u = refl
   same_status (Explain device1 json1) (Explain device2 json2) t u = refl
   same_status (ListHits after1 limit1 device1 json1) (ListHits after2 limit2 device2 json2) t u = refl
-  same_status (Diff old1 new1) (Diff old2 new2) t u = refl
+  same_status (Diff old1 new1 devices1 json1) (Diff old2 new2 devices2 json2) t u = refl
   same_status (Verify database1) (Verify database2) t u = refl
   same_status (Dump database1) (Dump database2) t u = refl
   same_status (Status json1 false) (Status json2 false) t u = refl
@@ -90,9 +90,10 @@ module _ (name : Text) (inner : List Row) where
     same_why (Explain device1 json1) (Explain device2 json2) t u is = is
     same_why (ListHits after1 limit1 device1 json1) (ListHits after2 limit2 device2 json2) t u is =
         subst (λ (a : Option (List ℕ)). Unlisted header fails U root files a r) (u.2 ∙ sym t.2) is
-    same_why (Diff old1 new1) (Diff old2 new2) t u is =
-        subst (λ (p : List ℕ). Undiffed p (string_bytes new1) files r) (one_value (first_of (codes "OLD") inner) _ _ u.1 t.1)
-        (subst (λ (p : List ℕ). Undiffed (string_bytes old2) p files r) (one_value (first_of (codes "NEW") inner) _ _ u.2 t.2) is)
+    same_why (Diff old1 new1 devices1 json1) (Diff old2 new2 devices2 json2) t u is =
+        subst (λ (p : List ℕ). Undiffed (map string_bytes devices1.items) p (string_bytes new1) input files r) (one_value (first_of (codes "OLD") inner) _ _ u.3 t.3)
+        (subst (λ (p : List ℕ). Undiffed (map string_bytes devices1.items) (string_bytes old2) p input files r) (one_value (first_of (codes "NEW") inner) _ _ u.4 t.4)
+        (subst (λ (ds : List (List ℕ)). Undiffed ds (string_bytes old2) (string_bytes new2) input files r) (u.2 ∙ sym t.2) is))
     same_why (Verify database1) (Verify database2) t u is = subst (λ (d : Option (List ℕ)). Unverified header fails U root files d r) (u.1 ∙ sym t.1) is
     same_why (Dump database1) (Dump database2) t u is = subst (λ (d : Option (List ℕ)). Undumped header fails U root files d r) (u.1 ∙ sym t.1) is
     same_why (Status json1 false) (Status json2 false) t u is = is
@@ -122,7 +123,7 @@ module _ (name : Text) (inner : List Row) where
   same_said header tree root usr files (Query devices1 json1) (Query devices2 json2) t u = refl
   same_said header tree root usr files (Explain device1 json1) (Explain device2 json2) t u = refl
   same_said header tree root usr files (ListHits after1 limit1 device1 json1) (ListHits after2 limit2 device2 json2) t u = refl
-  same_said header tree root usr files (Diff old1 new1) (Diff old2 new2) t u = refl
+  same_said header tree root usr files (Diff old1 new1 devices1 json1) (Diff old2 new2 devices2 json2) t u = refl
   same_said header tree root usr files (Verify database1) (Verify database2) t u = refl
   same_said header tree root usr files (Dump database1) (Dump database2) t u = refl
   same_said header tree root usr files (Status json1 false) (Status json2 false) t u = refl

@@ -17,7 +17,8 @@ use Rattle.hwdb_spec.specs.Outputs.{Texts}
 use Rattle.hwdb_spec.specs.Runs.{AreKept, OnOut, Printed, World}
 use Rattle.hwdb_spec.specs.Store.{Contents, Outcomes}
 use Rattle.hwdb_spec.specs.CheckedFiles.{AreCheckedFiles, IsChecked}
-use Rattle.hwdb_spec.specs.Asked.{IsCompared, IsAnswered, IsListFrom, IsDumped, IsPrinted}
+use Rattle.hwdb_spec.specs.Asked.{IsAnswered, IsListFrom, IsDumped, IsPrinted}
+use Rattle.hwdb_spec.specs.ComparedDatabases.{IsDiffed}
 use Rattle.hwdb_spec.specs.Done.{IsAsked}
 use Rattle.hwdb_spec.specs.Status.{IsStatus}
 use Rattle.hwdb_spec.specs.Databases.{IsSummary}
@@ -69,7 +70,7 @@ word_of (Near files device limit json) = codes "near"
 word_of (Device path strings json pattern) = codes "device"
 word_of (Check files allowed json) = codes "check"
 word_of (Test files database json) = codes "test"
-word_of (Diff old_path new_path) = codes "diff"
+word_of (Diff old_path new_path devices json) = codes "diff"
 word_of (Verify database) = codes "verify"
 word_of (Dump database) = codes "dump"
 word_of (Status json false) = codes "status"
@@ -152,9 +153,11 @@ module _ (name : Text) (inner : List Row) (root : List ℕ) (usr strict : Bool) 
       (subst (λ (b : Bool). OfDevice (device_form b json1 pattern1) (option_map string_bytes path2)) (u.2 ∙ sym t.2)
       (subst (λ (b : Bool). OfDevice (device_form strings2 b pattern1) (option_map string_bytes path2)) (u.3 ∙ sym t.3)
       (subst (λ (b : Bool). OfDevice (device_form strings2 json2 b) (option_map string_bytes path2)) (u.4 ∙ sym t.4) done)))
-  same_task (Diff old1 new1) (Diff old2 new2) t u done =
-      subst (λ (p : List ℕ). Prints (OnOut (λ text. IsCompared p (string_bytes new1) old text status))) (one_value (first_of (codes "OLD") inner) _ _ u.1 t.1)
-      (subst (λ (p : List ℕ). Prints (OnOut (λ text. IsCompared (string_bytes old2) p old text status))) (one_value (first_of (codes "NEW") inner) _ _ u.2 t.2) done)
+  same_task (Diff old1 new1 devices1 json1) (Diff old2 new2 devices2 json2) t u done =
+      subst (λ (p : List ℕ). Prints (OnOut (λ text. IsDiffed json1 (map string_bytes devices1.items) p (string_bytes new1) input old text status))) (one_value (first_of (codes "OLD") inner) _ _ u.3 t.3)
+      (subst (λ (p : List ℕ). Prints (OnOut (λ text. IsDiffed json1 (map string_bytes devices1.items) (string_bytes old2) p input old text status))) (one_value (first_of (codes "NEW") inner) _ _ u.4 t.4)
+      (subst (λ (ds : List (List ℕ)). Prints (OnOut (λ text. IsDiffed json1 ds (string_bytes old2) (string_bytes new2) input old text status))) (u.2 ∙ sym t.2)
+      (subst (λ (j : Bool). Prints (OnOut (λ text. IsDiffed j (map string_bytes devices2.items) (string_bytes old2) (string_bytes new2) input old text status))) (u.1 ∙ sym t.1) done)))
   same_task (Verify database1) (Verify database2) t u done =
       subst (λ (d : Option (List ℕ)). Quietly (IsPrinted d root IsSummary old)) (u.1 ∙ sym t.1) done
   same_task (Dump database1) (Dump database2) t u done =

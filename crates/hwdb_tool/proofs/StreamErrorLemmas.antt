@@ -8,7 +8,7 @@ use Rattle.hwdb_spec.specs.Jobs.{IsJobOf, IsTask}
 use Rattle.hwdb_spec.specs.CommandLine.{hwdb_app}
 use Rattle.hwdb_spec.specs.declared.job.Job.{Job}
 use Rattle.hwdb_spec.specs.declared.job.Task.{Task}
-use Rattle.hwdb_spec.specs.declared.job.Task.TheVariants.{Explain, Query}
+use Rattle.hwdb_spec.specs.declared.job.Task.TheVariants.{Explain, Query, Status}
 use Rattle.hwdb_spec.specs.Asked.{IsAnswered}
 use Rattle.hwdb_spec.specs.Databases.{IsTextOf}
 use Rattle.hwdb_spec.specs.Failures.{HasFailed}
@@ -132,9 +132,13 @@ some_error e f is = ap (λ (o : Option ToolError). error_in o) is
 same_stream : (name : Text) (inner : List Row) (t u : Task) → IsTask name inner t → IsTask name inner u → IsStream t → IsStream u × (stream_form u ≡ stream_form t)
 same_stream name inner (Query devices1 json1) (Query devices2 json2) t u is =
     (subst (λ (ds : List (List ℕ)). is_input ds ≡ true) (sym (one_values (all_of (codes "MODALIAS") inner) _ _ u.2 t.2)) is, ap (λ (j : Bool). forms.Query j) (u.1 ∙ sym t.1))
+same_stream name inner (Query devices1 json1) (Status json2 false) t u is = apart (codes "query") (codes "status") refl (sym (is_named name inner (Query devices1 json1) t) ∙ is_named name inner (Status json2 false) u)
+same_stream name inner (Query devices1 json1) (Status json2 true) t u is = apart (codes "query") (codes "update") refl (sym (is_named name inner (Query devices1 json1) t) ∙ is_named name inner (Status json2 true) u)
 same_stream name inner (Query devices1 json1) task2 t u is = apart (codes "query") (word_of task2) refl (sym (is_named name inner (Query devices1 json1) t) ∙ is_named name inner task2 u)
 same_stream name inner (Explain device1 json1) (Explain device2 json2) t u is =
     (subst (λ (d : List ℕ). is_input (d ∷ []) ≡ true) (sym (one_value (first_of (codes "MODALIAS") inner) _ _ u.2 t.2)) is, ap (λ (j : Bool). forms.Explain j) (u.1 ∙ sym t.1))
+same_stream name inner (Explain device1 json1) (Status json2 false) t u is = apart (codes "explain") (codes "status") refl (sym (is_named name inner (Explain device1 json1) t) ∙ is_named name inner (Status json2 false) u)
+same_stream name inner (Explain device1 json1) (Status json2 true) t u is = apart (codes "explain") (codes "update") refl (sym (is_named name inner (Explain device1 json1) t) ∙ is_named name inner (Status json2 true) u)
 same_stream name inner (Explain device1 json1) task2 t u is = apart (codes "explain") (word_of task2) refl (sym (is_named name inner (Explain device1 json1) t) ∙ is_named name inner task2 u)
 same_stream name inner task1 task2 t u is = absurd cc
 

@@ -324,8 +324,15 @@ pub fn run<D: Machine, I: Source, O: Sink, E: Sink>(
             let answer = device(alloc, root, given, form, system);
             printed(answer, out, err)
         }
-        Task::Diff { old, new } => {
-            printed(diff(alloc, old.as_str(), new.as_str(), system), out, err)
+        Task::Diff {
+            old,
+            new,
+            devices,
+            json,
+        } => {
+            let (old, new) = (old.as_str(), new.as_str());
+            let answer = diff(alloc, old, new, devices, *json, system, input);
+            printed(answer, out, err)
         }
         Task::Status { json, quiet } => {
             printed(status(alloc, root, *json, *quiet, system), out, err)

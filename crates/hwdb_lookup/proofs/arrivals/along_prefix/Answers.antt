@@ -1,4 +1,4 @@
-use Rattle.std.proofs.Common.{◌≡◌, ◌∙◌, ◌+◌, ◌++◌, [], List, ℕ, ap, sym, subst, arith, length, append_assoc, append-nil, eqb-true}
+use Rattle.std.proofs.Common.{◌≡◌, ◌∙◌, ◌+◌, ◌++◌, List, ℕ, ap, sym, subst, arith, length, append_assoc, append-nil, eqb-true}
 use Rattle.hwdb_pattern.specs.Views.{StandsFor}
 use Rattle.hwdb_spec.specs.Tree.{IsLive}
 use Rattle.hwdb_spec.specs.Format.{text_at}

@@ -1,4 +1,4 @@
-use Rattle.std.proofs.Common.{◌≡◌, ◌≤◌, ◌-◌, List, ℕ}
+use Rattle.std.proofs.Common.{◌-◌, List, ℕ}
 use Rattle.hwdb_spec.specs.Assignment.{Assignment}
 use Rattle.hwdb_lookup.specs.Views.{IsOf}
 use Rattle.hwdb_lookup.specs.Internal.Descents.{Rest}
@@ -9,4 +9,4 @@ invariant-loop-done l =
     (file : List ℕ) (from : ℕ) (w : List Assignment) → IsOf l.self.node.known file → Rest file l.self l.self.done from w → Rest file l.self l.done from w
 
 abbrev pub decreases-loop-done : goal.decreases-loop-done
-decreases-loop-done l = l.self.node.children - l.done
+decreases-loop-done l = l.children - l.done
