@@ -1,5 +1,5 @@
 -- What a database gives a device ascends by key, so that two lists of it are gone through side by side.
-use Rattle.std.proofs.Common.{◌≡◌, ◌∙◌, ap, sym, refl, subst, ℕ, List, [], ◌∷◌, ◌++◌, map, take, filter, reverse, true, false, cond, T}
+use Rattle.std.proofs.Common.{◌≡◌, ◌≢◌, ◌∙◌, ap, sym, refl, subst, ℕ, List, [], ◌∷◌, ◌++◌, map, take, filter, reverse, true, false, cond, T}
 use Rattle.std.specs.Prelude.{flat_map}
 use Rattle.std.specs.FinMap as finite
 use Rattle.std.specs.FinMap.Entries.{is_sorted, below_all}
@@ -8,12 +8,15 @@ use Rattle.std.specs.List.Sorted.{IsStrictlySortedBy}
 use Rattle.std.specs.Ordering.{ordering_then}
 use Rattle.std.specs.declared.cmp.Ordering.TheVariants.{Less, Equal}
 use Rattle.std.proofs.lemmas.Cmp.{nat_list_cmp_total, tied_itself}
+use Rattle.std.proofs.lemmas.List.Elements.{recursion_from_All}
 use Rattle.hwdb_spec.specs.Answers.{has_key, key_of_answer}
 use Rattle.hwdb_spec.specs.Assignment.{Assignment, in_order, text_cmp}
 use Rattle.hwdb_spec.specs.DeviceDifferences.{counting_answers, device_differences, gifts, given_to}
 use Rattle.hwdb_spec.specs.Explanations.{answers_with, explained}
 use Rattle.hwdb_spec.specs.Tree.{Tree, answers, entry_of, place_cmp}
+use Rattle.hwdb_query.specs.Laws.{AllAreExplained, ExplainedAreEffective, first_value}
 use Rattle.hwdb_inspect.specs.Internal.Merging.{merged}
+use Rattle.hwdb_inspect.specs.Laws.{GiftsAreEffective}
 use Rattle.hwdb_spec.specs.Lemmas.Orders.{equal_of}
 use Rattle.hwdb_text.specs.Lemmas.Members.{in_order_rises}
 use Rattle.hwdb_inspect.proofs.MergeLemmas.{merged_differences}
@@ -32,6 +35,14 @@ given_all device (e ∷ es) =
 -- ---- they ascend
 abbrev Entry : Type 0
 Entry = (List ℕ × List ℕ) × Assignment
+
+-- a key and its value
+abbrev pair_of : Entry → List ℕ × List ℕ
+pair_of e = (e.0.1, e.1.value)
+
+-- a key and the value of its first answer
+abbrev first_of_key : List ℕ × List Assignment → List ℕ × List ℕ
+first_of_key p = (p.0, first_value p.1)
 
 -- the entries of the first answer of each key
 abbrev entries_from : (device : List ℕ) (all : List Assignment) (keys : List (List ℕ)) → List Entry
@@ -69,6 +80,21 @@ module _ (device : List ℕ) (all : List Assignment) where
         | f ∷ more ↦ λ is. some f (equal_of (text_cmp key f.position.key) (first_has key f more (reverse all) is))
       ] refl
 
+  -- they tell of each key the value of its first answer
+  told : (keys : List (List ℕ)) → AllByRecursion (λ (p : List ℕ × List Assignment). p.1 ≢ []) (map (λ key. (key, answers_with key all)) keys)
+      → map pair_of (entries_from device all keys) ≡ map first_of_key (map (λ key. (key, answers_with key all)) keys)
+  told [] h = refl
+  told (key ∷ keys) h =
+      let rest = told keys h.1 in
+      elim (answers_with key all) as (λ l. answers_with key all ≡ l
+      → map pair_of (map entry_of (map (given_to device) (take 1 l ++ flat_map (λ (p : List ℕ × List Assignment). take 1 p.1) (map (λ k. (k, answers_with k all)) keys))))
+      ≡ (key, first_value l) ∷ map first_of_key (map (λ k. (k, answers_with k all)) keys)) [
+        | [] ↦ λ is. absurd (h.0 is)
+        | f ∷ more ↦ λ is.
+            let same : key ≡ f.position.key = finite.slice_cmp-IsAntisymmetric finite.nat_cmp-IsAntisymmetric key f.position.key (equal_of (text_cmp key f.position.key) (first_has key f more (reverse all) is)) in
+            λ i. (sym same i, f.value) ∷ rest i
+      ] refl
+
   below : (q : List ℕ) (keys : List (List ℕ)) → AllByRecursion (λ k. text_cmp q k ≡ Less) keys → T (below_all place_cmp (device, q) (entries_from device all keys))
   below q [] h = tt
   below q (key ∷ keys) h =
@@ -104,3 +130,11 @@ gift_differences device t u olds news old new =
     ap (λ (g : List Assignment × List Assignment). merged g.0 g.1) (λ i. (old i, new i))
     ∙ sym (merged_differences (gifts device t) (gifts device u) (map (given_to device) (counting_answers device t)) (map (given_to device) (counting_answers device u))
     (entries_of_gifts device t) (entries_of_gifts device u))
+
+-- what is given is the effective list
+pub gifts_told : ExplainedAreEffective → AllAreExplained → GiftsAreEffective
+unfolding explained
+gifts_told are present device t =
+    ap (map pair_of) (entries_of_gifts device t)
+    ∙ told device (answers device t) (in_order text_cmp (map key_of_answer (answers device t))) (recursion_from_All (λ (p : List ℕ × List Assignment). p.1 ≢ []) (explained (answers device t)) (present (answers device t)))
+    ∙ are (answers device t)

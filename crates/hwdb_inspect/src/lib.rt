@@ -41,7 +41,7 @@ mod walk;
 pub use difference::{Changes, diff, diff_devices};
 pub use freshness::{State, state_of};
 pub use hwdb_spec::{DiffError, DumpError, VerifyError};
-pub use laws::{dump_says, dump_tells, members_are_the_map};
+pub use laws::{dump_says, dump_tells, gifts_are_effective, members_are_the_map};
 pub use listing::dump;
 pub use reports::{Report, report_in};
 pub use verification::verify;

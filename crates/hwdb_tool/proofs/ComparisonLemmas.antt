@@ -1,5 +1,5 @@
 -- What `diff` reads, and what it refuses.
-use Rattle.std.proofs.Common.{◌≡◌, ◌≢◌, ◌∷◌, ap, inr, refl, sym, ℕ, Bool, List, [], map, Option, None, Some, Result, Ok, Err, IfErr, IfOk, flat_map}
+use Rattle.std.proofs.Common.{◌≡◌, ◌==◌, ◌∷◌, ap, inr, sym, ℕ, Bool, false, length, List, [], map, Option, Some, Result, Ok, Err, IfErr, IfOk, flat_map}
 use Rattle.hwdb_lint.specs.Checks.{source_of}
 use Rattle.hwdb_lint.specs.declared.files.TextFile.{TextFile}
 use Rattle.hwdb_spec.specs.Asked.{IsCompared}
@@ -33,12 +33,8 @@ module _ (given : List (List ℕ)) (old_path new_path : List ℕ) (input : Optio
   compared_reason fails n m (Ok a) not reason = tt
   compared_reason fails n m (Err e) not reason = inr (inr (sources, are, not, reason))
 
--- no file names no devices
-pub none_named : (files : List TextFile) → files ≡ [] → devices_named (map source_of files) ≡ None
-none_named files none = ap (λ (fs : List TextFile). devices_named (map source_of fs)) none
-
 -- the devices of some files
-pub all_named : (files : List TextFile) (devices : List (List ℕ)) → files ≢ [] → devices ≡ flat_map (λ (f : Source). devices_of f.bytes) (map source_of files)
+pub all_named : (files : List TextFile) (devices : List (List ℕ)) → (length files == 0) ≡ false → devices ≡ flat_map (λ (f : Source). devices_of f.bytes) (map source_of files)
     → devices_named (map source_of files) ≡ Some devices
-all_named [] devices some are = absurd (some refl)
+all_named [] devices some are = cc
 all_named (f ∷ more) devices some are = ap (λ (ds : List (List ℕ)). Some ds) (sym are)
