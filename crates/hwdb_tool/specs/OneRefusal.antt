@@ -20,7 +20,7 @@ use Rattle.hwdb_spec.specs.Runs.{Told}
 use Rattle.hwdb_spec.specs.CheckedFiles.{StandFor, folder_of}
 use Rattle.hwdb_spec.specs.Store.{Contents, Outcomes, path_in}
 use Rattle.hwdb_tool.specs.OneOutcome.{IsOneInput, Scene, scene_of}
-use Rattle.hwdb_spec.specs.Program.{IsJobDone, IsTaskDone, reads_input, root_of, streams}
+use Rattle.hwdb_spec.specs.Program.{IsJobDone, IsTaskDone, asks_text, reads_input, root_of, streams}
 use Rattle.hwdb_spec.specs.TaskRefusals.{AreRefused, IsJobRefused, IsNotDone, IsRootRefused}
 use Rattle.hwdb_spec.specs.Refusals.{IsOver}
 use Rattle.hwdb_spec.specs.declared.refusals.Refusal.{Refusal}
@@ -241,15 +241,15 @@ LineIsLong fails fails_now left left_now = (task : Task) (root : List ℕ) (usr 
 abbrev pub scene_then : (err : Told) → Scene → Scene
 scene_then err scene = record { files = scene.files; failures = scene.failures; input = scene.input; out = scene.out; err = err; devices = scene.devices }
 
--- Words that ask for such a task end with one status and one error over one input, if it comes of what is read. Before its line
--- both outputs are the same.
+-- Words that ask for such a task without `--text` end with one status and one error over one input, if it comes of what is read.
+-- Before its line both outputs are the same.
 abbrev pub JobsEndAlike : (Kind : Task → Type 0) (fails fails_now fails2 fails2_now : (path : List ℕ) → Type 0) (left left_now left2 left2_now : Outcomes) → Type 0
 JobsEndAlike Kind fails fails_now fails2 fails2_now left left_now left2 left2_now =
     (words : List (List ℕ)) (status status2 : ℕ) (before now before2 now2 : Scene)
     → IsOneInput before before2
     → (one : IsJobRefused words status (scene_of fails left before) (scene_of fails_now left_now now))
     → (two : IsJobRefused words status2 (scene_of fails2 left2 before2) (scene_of fails2_now left2_now now2))
-    → Kind one.job.task
+    → Kind one.job.task → asks_text one.job ≡ false
     → IsOfReading fails one.job.task (root_of one.job) before now one.refusal → IsOfReading fails2 two.job.task (root_of two.job) before2 now2 two.refusal
     → (status ≡ status2) × IsOneEnd one.refusal two.refusal (scene_then one.err_then now) (scene_then two.err_then now2)
 
@@ -262,7 +262,7 @@ DoneJobEndsSo Kind fails fails_now fails2 fails2_now left left_now left2 left2_n
     (words : List (List ℕ)) (status status2 : ℕ) (before now before2 now2 : Scene) → IsOneInput before before2
     → (done : IsJobDone words status (scene_of fails left before) (scene_of fails_now left_now now))
     → (refused : IsJobRefused words status2 (scene_of fails2 left2 before2) (scene_of fails2_now left2_now now2))
-    → Kind done.job.task → IsOfReading fails2 refused.job.task (root_of refused.job) before2 now2 refused.refusal → ⊥
+    → Kind done.job.task → asks_text done.job ≡ false → IsOfReading fails2 refused.job.task (root_of refused.job) before2 now2 refused.refusal → ⊥
 
 abbrev pub DoneJobIsNoError : (fails fails_now fails2 fails2_now : (path : List ℕ) → Type 0) (left left_now left2 left2_now : Outcomes) → Type 0
 DoneJobIsNoError = DoneJobEndsSo IsOfLaw
