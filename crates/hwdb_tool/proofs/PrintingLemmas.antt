@@ -11,7 +11,7 @@ use Rattle.hwdb_spec.specs.Databases.{IsTextOf}
 use Rattle.hwdb_spec.specs.DeviceTree.{Sight}
 use Rattle.hwdb_spec.specs.Given.{is_input}
 use Rattle.hwdb_spec.specs.Outputs.{Texts, TookOne}
-use Rattle.hwdb_spec.specs.Runs.{Files, Told}
+use Rattle.hwdb_spec.specs.Runs.{Files, Printed, Told}
 use Rattle.hwdb_spec.specs.Store.{Contents}
 use Rattle.hwdb_spec.specs.Texts.{devices_of}
 use Rattle.hwdb_spec.specs.Refusals.{HasReason}
@@ -20,7 +20,7 @@ use Rattle.hwdb_spec.specs.declared.refusals.Refusal.TheVariants.{At, InWords, N
 use Rattle.hwdb_spec.specs.Program.{IsTaskDone}
 use Rattle.hwdb_spec.specs.Queries.{AreDone, AreDoneFrom}
 use Rattle.hwdb_spec.specs.Undone.{IsUnprinted}
-use Rattle.hwdb_tool.specs.Views.{IsNotPrinted, texts_in}
+use Rattle.hwdb_tool.specs.Views.{IsNotPrinted, IsPrintedWith, texts_in}
 use Rattle.hwdb_tool.specs.declared.answer.Answer.{Answer}
 use Rattle.hwdb_spec.specs.declared.errors.ToolError.TheVariants.{Read, Write, TooLong, TooManyFiles, TooManyLines, TooLarge, BadPosition, BadDatabase, Replace, Memory}
 
@@ -72,6 +72,20 @@ listed_done after limit device json root usr strict files input err before now d
   tt,
   record { same = λ p. refl; no_more = λ p v l. l },
 )
+
+-- an answer that was had, and printed
+pub printed_done : (answer : Result Answer Refusal) (result : Result ℕ Refusal) (P : ℕ → Texts → Type 0) (err_before err_now out_before out_now : Told)
+    → IfOk answer (λ a. P a.status (texts_in a)) → IfOk result (λ s. IsPrintedWith answer s err_before err_now out_before out_now)
+    → IfOk result (λ s. Printed (P s) err_before err_now out_before out_now)
+printed_done answer (Err e) P eb en ob on is done = tt
+printed_done (Err e) (Ok s) P eb en ob on is done = absurd done
+printed_done (Ok a) (Ok s) P eb en ob on is done = record {
+  texts = done.1.texts;
+  are = subst (λ (n : ℕ). P n done.1.texts) (sym done.0) (subst (P a.status) (sym done.1.are) is);
+  err = done.1.err;
+  quiet = done.1.quiet;
+  out = done.1.out;
+}
 
 -- an answer that can't be had, or not be printed; the reason of the second may follow from what would have been printed
 pub refused_or_printed : (answer : Result Answer Refusal) (result : Result ℕ Refusal) (Refuses Reason : Refusal → Type 0) (P : ℕ → Texts → Type 0) (err_before err_now out_before out_now : Told)

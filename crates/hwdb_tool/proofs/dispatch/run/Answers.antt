@@ -26,7 +26,7 @@ use Rattle.hwdb_tool.specs.Views.{texts_in}
 use Rattle.hwdb_tool.proofs.MomentLemmas.{leaves_more}
 use Rattle.hwdb_tool.proofs.ErrorLemmas.{both_errors, both_values}
 use Rattle.hwdb_tool.proofs.GivenLemmas.{checked_write, write_reason}
-use Rattle.hwdb_tool.proofs.PrintingLemmas.{any_reason, listed_done, printed_refused, refused_or_printed}
+use Rattle.hwdb_tool.proofs.PrintingLemmas.{any_reason, listed_done, printed_done, printed_refused, refused_or_printed}
 use Rattle.hwdb_tool.proofs.dispatch.run.Goals as goal
 use Rattle.hwdb_spec.specs.Lemmas.Calls.{each_error, each_value}
 
@@ -138,6 +138,36 @@ returns-in-Check-clause-refused g c = λ tells.
     (c.check-answer.ensures.reason tells))
     (λ s t is. checked_write fails seen input before.input.failures now.input.failures given (root_of job) is.1.sources is.1.are) c.printed-in-Check.ensures.refused))
 
+pub returns-in-Diff-clause-done : goal.returns-in-Diff-clause-done
+returns-in-Diff-clause-done g c = λ tells.
+    let job = c.args.job.now in
+    let F = files_by g.D.Store.seen g.D.System.may_fail g.D.Store.may_leave g.D.Store.failures in
+    let V = sight_by g.D.DeviceFiles.answers in
+    let I = told_by g.I.Source.left g.I.Source.failures in
+    let O = told_by g.O.Sink.taken g.O.Sink.failures in
+    let E = told_by g.E.Sink.taken g.E.Sink.failures in
+    let seen = g.D.Store.seen c.args.system.now in
+    let before : World = record { files = F c.args.system.now; input = I c.args.input.now; out = O c.args.out.now; err = E c.args.err.now; devices = V c.args.system.now } in
+    let now : World = record { files = F c.args.system.now; input = I c.diff-answer.new.input; out = O c.printed-in-Diff.new.out; err = E c.printed-in-Diff.new.err; devices = V c.args.system.now } in
+    let input = before.input.bytes in
+    let json = c.in-Diff.json in
+    let task = Diff c.in-Diff.old c.in-Diff.new c.in-Diff.devices json in
+    let old = string_bytes c.in-Diff.old in
+    let new = string_bytes c.in-Diff.new in
+    let of_old = c.as_str-old.ensures.value in
+    let of_new = c.as_str-new.ensures.value in
+    let new_path = c.as_str-new.result.now in
+    let items = c.deref-in-Diff.ensures.value in
+    let paths = map string_bytes c.deref-in-Diff.result.now in
+    let answer = c.diff-answer.result in
+    subst (λ t. IfOk c.printed-in-Diff.result (λ s. IsTaskDone t (root_of job) job.usr job.strict s before now)) (sym c.in-Diff.is)
+    (each_value _ (λ s. IsTaskDone task (root_of job) job.usr job.strict s before now) c.printed-in-Diff.result (λ s done. (done, tt, record { same = λ p. refl; no_more = λ p v l. l }))
+    (printed_done answer c.printed-in-Diff.result (λ s t. IsAnswerOf task (root_of job) job.strict input seen s t) before.err now.err before.out now.out
+    (subst (λ l. IfOk answer (λ a. OnOut (λ text. IsDiffed json (map string_bytes l) old new input seen text a.status) (texts_in a))) items
+    (subst (λ p. IfOk answer (λ a. OnOut (λ text. IsDiffed json paths old p input seen text a.status) (texts_in a))) of_new
+    (subst (λ p. IfOk answer (λ a. OnOut (λ text. IsDiffed json paths p new_path input seen text a.status) (texts_in a))) of_old (c.diff-answer.ensures.diffed tells))))
+    c.printed-in-Diff.ensures.done))
+
 pub returns-in-Diff-clause-refused : goal.returns-in-Diff-clause-refused
 returns-in-Diff-clause-refused g c = λ tells.
     let job = c.args.job.now in
@@ -157,9 +187,9 @@ returns-in-Diff-clause-refused g c = λ tells.
     let task = Diff c.in-Diff.old c.in-Diff.new c.in-Diff.devices json in
     let old = string_bytes c.in-Diff.old in
     let new = string_bytes c.in-Diff.new in
-    let of_old = c.as_str-in-Diff.ensures.value in
-    let of_new = c.as_str-in-Diff-2.ensures.value in
-    let new_path = c.as_str-in-Diff-2.result.now in
+    let of_old = c.as_str-old.ensures.value in
+    let of_new = c.as_str-new.ensures.value in
+    let new_path = c.as_str-new.result.now in
     let given = map string_bytes c.in-Diff.devices.items in
     let items = c.deref-in-Diff.ensures.value in
     let paths = map string_bytes c.deref-in-Diff.result.now in
