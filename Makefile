@@ -62,7 +62,7 @@ linked-lib:
 	$(CC) $(WARNINGS) $(CPPFLAGS) $(CFLAGS) -fPIC -c -o $(LIBRARIES)/hwdb.o c/hwdb.c
 	ld -r -z x86-64-v2 -o $(LIBRARIES)/libhwdb.o $(LIBRARIES)/hwdb.o --whole-archive crates/hwdb_c/out/libhwdb_c.a --no-whole-archive \
 		crates/hwdb_c/out/liblibc_c.a
-	objcopy --wildcard --keep-global-symbol='sd_hwdb_*' $(LIBRARIES)/libhwdb.o
+	objcopy --wildcard --keep-global-symbol='sd_hwdb_*' --keep-global-symbol=hwdb_check $(LIBRARIES)/libhwdb.o
 	rm -f $(LIBRARIES)/libhwdb.a
 	ar rcsD $(LIBRARIES)/libhwdb.a $(LIBRARIES)/libhwdb.o
 	$(CC) -shared -Wl,-soname,libhwdb.so.0 -Wl,--version-script=c/hwdb.map $(LDFLAGS) $(HARDENED) -o $(LIBRARIES)/libhwdb.so.0 \

@@ -1,8 +1,9 @@
-/* The calls of hwdb.h over the proved calls of crates/hwdb_c. The code of this file isn't proved, and does little: it opens and
- * reads the file, counts references, and keeps strings. Tests call it (tests/c/library).
+/* The calls of hwdb.h over the proved calls of crates/hwdb_c. The code of this file isn't proved, and does little: it opens the
+ * file, reads its blocks, counts references, and keeps strings. Tests call it (tests/c/library).
  *
- * A file is read whole and not mapped. The proof needs bytes that never change, and a mapping shows what others write to the
- * file. A lookup gives the strings of all properties of a device at once: `get` looks for its key among them. */
+ * A lookup says which block of the file it needs, and is called again when that was read. A file isn't mapped: a mapping shows
+ * what others write to the file, and ends the process if the file is cut. A lookup gives the strings of all properties of a
+ * device at once: `get` looks for its key among them. */
 #define _GNU_SOURCE
 #include "hwdb.h"
 
@@ -32,27 +33,37 @@
 /* The room, in bytes, that there is at first for the strings of one lookup. */
 #define FIRST_ROOM 1024
 
-/* What hwdb_c_properties answers. */
-enum { WRITTEN = 0, TOO_SHORT = 1, NO_MEMORY = 2 };
+/* How many bytes a block has, as in crates/hwdb_lookup. */
+#define BLOCK 4096
 
-/* crates/hwdb_c/src/lib.rt. The first is for any bytes. The second is for bytes for which the first answered 0. These are in
- * memory that nobody else has, and never change. No pointer that is handed to either is NULL. */
+/* After so many blocks each further one that a lookup needs is read with twice as many after it. */
+#define FEW_BLOCKS 64
+
+/* What hwdb_c_lookup answers. */
+enum { WRITTEN = 0, TOO_SHORT = 1, NO_MEMORY = 2, MISSING = 3, FAULT = 4 };
+
+/* crates/hwdb_c/src/lib.rt. Both are for any bytes. No pointer that is handed to either is NULL. */
 uint32_t hwdb_c_check(const uint8_t *bytes, size_t length, uint64_t *place);
-uint32_t hwdb_c_properties(const uint8_t *bytes, size_t length, const uint8_t *device, size_t device_length, uint8_t *out,
-                           size_t room, size_t *needed);
+uint32_t hwdb_c_lookup(const uint8_t *bytes, size_t length, const uint8_t *present, size_t blocks, const uint8_t *device,
+                       size_t device_length, uint8_t *out, size_t room, size_t *needed);
 
-/* What was read of a file. It has a mapping of its own, since malloc(3) may keep what is freed: a database can be large. */
-struct contents {
+/* A file, of which some blocks were read. */
+struct database {
+    int fd;
+    /* which file the descriptor is of: a program may close it, and another file may get its number */
+    dev_t device;
+    ino_t inode;
+    /* as many bytes as the file has; zeros in each block that wasn't read, which take no memory */
     uint8_t *bytes;
     size_t length;
-    /* how long the mapping is */
-    size_t room;
+    /* 1 for each block that was read. They are after the bytes, in the same mapping. */
+    uint8_t *present;
+    size_t blocks;
 };
 
 struct sd_hwdb {
     size_t references;
-    /* the database, which was accepted */
-    struct contents database;
+    struct database database;
     /* the last lookup: key, byte 0, value, byte 0 for each property, `used` bytes in all */
     char *strings;
     size_t room;
@@ -69,37 +80,8 @@ static int compare(const void *a, const void *b) {
     return strcmp(a, b);
 }
 
-/* Memory for a file of so many bytes and one more. By that one a file that grows meanwhile isn't taken for the shorter one.
- * Large pages halve the time to fill it. */
-static int reserve(size_t size, struct contents *file) {
-    void *bytes = mmap(NULL, size + 1, PROT_READ | PROT_WRITE, MAP_PRIVATE | MAP_ANONYMOUS, -1, 0);
-    if (bytes == MAP_FAILED)
-        return -ENOMEM;
-    madvise(bytes, size + 1, MADV_HUGEPAGE);
-    *file = (struct contents){bytes, 0, size + 1};
-    return 0;
-}
-
-static void release(struct contents *file) {
-    munmap(file->bytes, file->room);
-}
-
-/* Reads up to the file's end, or until there is no more room. */
-static int fill(int fd, struct contents *file) {
-    while (file->length < file->room) {
-        ssize_t n = read(fd, file->bytes + file->length, file->room - file->length);
-        if (n == 0)
-            break;
-        if (n > 0)
-            file->length += (size_t)n;
-        else if (errno != EINTR)
-            return -errno;
-    }
-    return 0;
-}
-
-/* All bytes of a file. If the answer is 0, the caller has to release them. */
-static int read_file(int fd, struct contents *file) {
+/* Room for a file's bytes. If the answer is 0, the caller has to release it. The descriptor stays the caller's. */
+static int reserve(int fd, struct database *file) {
     struct stat status;
 
     if (fstat(fd, &status) < 0)
@@ -110,46 +92,116 @@ static int read_file(int fd, struct contents *file) {
         return -EINVAL;
     if (status.st_size > MAX_BYTES)
         return -EFBIG;
-    int r = reserve((size_t)status.st_size, file);
-    if (r < 0)
-        return r;
-    r = fill(fd, file);
-    if (r < 0)
-        release(file);
-    return r;
-}
-
-/* A handle over a file's bytes. If the answer is 0, the handle owns them. */
-static int new_from_contents(const struct contents *file, sd_hwdb **ret) {
-    uint64_t place;
-
-    if (hwdb_c_check(file->bytes, file->length, &place) != 0)
-        return -EUCLEAN;
-    sd_hwdb *hwdb = calloc(1, sizeof *hwdb);
-    if (!hwdb)
+    size_t length = (size_t)status.st_size;
+    size_t blocks = (length + BLOCK - 1) / BLOCK;
+    /* One byte more, since there is no mapping of 0 bytes. */
+    void *bytes = mmap(NULL, length + blocks + 1, PROT_READ | PROT_WRITE, MAP_PRIVATE | MAP_ANONYMOUS | MAP_NORESERVE, -1, 0);
+    if (bytes == MAP_FAILED)
         return -ENOMEM;
-    hwdb->strings = malloc(FIRST_ROOM);
-    if (!hwdb->strings) {
-        free(hwdb);
-        return -ENOMEM;
-    }
-    hwdb->room = FIRST_ROOM;
-    hwdb->references = 1;
-    hwdb->database = *file;
-    *ret = hwdb;
+    *file = (struct database){fd, status.st_dev, status.st_ino, bytes, length, (uint8_t *)bytes + length, blocks};
     return 0;
 }
 
-static int new_from_file(int fd, sd_hwdb **ret) {
-    struct contents file;
+static void release(struct database *file) {
+    munmap(file->bytes, file->length + file->blocks + 1);
+}
 
-    int r = read_file(fd, &file);
-    if (r < 0)
+/* Reads a block, and at most so many in all, up to the next one that was read before. A file that was cut is no database. */
+static int read_blocks(struct database *file, size_t block, size_t most) {
+    struct stat status;
+    size_t after = block + 1;
+
+    if (fstat(file->fd, &status) < 0)
+        return -errno;
+    if (status.st_dev != file->device || status.st_ino != file->inode)
+        return -EBADF;
+    while (after < file->blocks && after - block < most && !file->present[after])
+        after++;
+    size_t at = block * BLOCK, end = after < file->blocks ? after * BLOCK : file->length;
+    while (at < end) {
+        ssize_t n = pread(file->fd, file->bytes + at, end - at, (off_t)at);
+        if (n == 0)
+            return -EUCLEAN;
+        if (n > 0)
+            at += (size_t)n;
+        else if (errno != EINTR)
+            return -errno;
+    }
+    memset(file->present + block, 1, after - block);
+    return 0;
+}
+
+/* Asks for the properties of a device, with the room that there is. Reads the blocks that it needs. */
+static int ask(sd_hwdb *hwdb, const char *modalias, size_t *needed) {
+    struct database *file = &hwdb->database;
+    size_t most = 1;
+
+    for (size_t reads = 0;; reads++) {
+        uint32_t answer = hwdb_c_lookup(file->bytes, file->length, file->present, file->blocks, (const uint8_t *)modalias,
+                                        strlen(modalias), (uint8_t *)hwdb->strings, hwdb->room, needed);
+        if (answer == FAULT)
+            return -EUCLEAN;
+        if (answer != MISSING)
+            return answer == NO_MEMORY ? -ENOMEM : (int)answer;
+        if (reads >= FEW_BLOCKS && most < file->blocks)
+            most *= 2;
+        int r = read_blocks(file, *needed, most);
+        if (r < 0)
+            return r;
+    }
+}
+
+/* Makes the properties of a device the last lookup. */
+static int look_up(sd_hwdb *hwdb, const char *modalias) {
+    size_t needed = 0;
+
+    hwdb->is_spent = true;
+    hwdb->used = 0;
+    hwdb->next = 0;
+    int answer = ask(hwdb, modalias, &needed);
+    if (answer == TOO_SHORT) {
+        char *larger = malloc(needed);
+        if (!larger)
+            return -ENOMEM;
+        free(hwdb->strings);
+        hwdb->strings = larger;
+        hwdb->room = needed;
+        answer = ask(hwdb, modalias, &needed);
+    }
+    if (answer < 0)
+        return answer;
+    hwdb->used = needed;
+    return 0;
+}
+
+static void end(sd_hwdb *hwdb) {
+    tdestroy(hwdb->given, free);
+    free(hwdb->strings);
+    release(&hwdb->database);
+    free(hwdb);
+}
+
+/* A handle over a file's blocks. If the answer is 0, the handle owns the descriptor. The header and the root are checked: a
+ * lookup of the empty device reads them. */
+static int new_from_file(int fd, sd_hwdb **ret) {
+    sd_hwdb *hwdb = calloc(1, sizeof *hwdb);
+    if (!hwdb)
+        return -ENOMEM;
+    int r = reserve(fd, &hwdb->database);
+    if (r < 0) {
+        free(hwdb);
         return r;
-    r = new_from_contents(&file, ret);
-    if (r < 0)
-        release(&file);
-    return r;
+    }
+    hwdb->strings = malloc(FIRST_ROOM);
+    hwdb->room = FIRST_ROOM;
+    hwdb->references = 1;
+    r = hwdb->strings ? look_up(hwdb, "") : -ENOMEM;
+    if (r < 0) {
+        end(hwdb);
+        return r;
+    }
+    *ret = hwdb;
+    return 0;
 }
 
 int sd_hwdb_new_from_path(const char *path, sd_hwdb **ret) {
@@ -159,7 +211,8 @@ int sd_hwdb_new_from_path(const char *path, sd_hwdb **ret) {
     if (fd < 0)
         return -errno;
     int r = new_from_file(fd, ret);
-    close(fd);
+    if (r < 0)
+        close(fd);
     return r;
 }
 
@@ -205,11 +258,23 @@ sd_hwdb *sd_hwdb_ref(sd_hwdb *hwdb) {
 sd_hwdb *sd_hwdb_unref(sd_hwdb *hwdb) {
     if (!hwdb || --hwdb->references > 0)
         return NULL;
-    tdestroy(hwdb->given, free);
-    free(hwdb->strings);
-    release(&hwdb->database);
-    free(hwdb);
+    close(hwdb->database.fd);
+    end(hwdb);
     return NULL;
+}
+
+int hwdb_check(sd_hwdb *hwdb) {
+    uint64_t place;
+
+    if (!hwdb)
+        return -EINVAL;
+    struct database *file = &hwdb->database;
+    for (size_t block = 0; block < file->blocks; block++) {
+        int r = file->present[block] ? 0 : read_blocks(file, block, file->blocks);
+        if (r < 0)
+            return r;
+    }
+    return hwdb_c_check(file->bytes, file->length, &place) == 0 ? 0 : -EUCLEAN;
 }
 
 /* The handle's own copy of a string, which stays as long as the handle; NULL if an allocation fails. */
@@ -223,35 +288,6 @@ static const char *keep(sd_hwdb *hwdb, const char *string) {
         return NULL;
     }
     return copy;
-}
-
-/* Asks for the properties of a device, with the room that there is. */
-static uint32_t ask(sd_hwdb *hwdb, const char *modalias, size_t *needed) {
-    return hwdb_c_properties(hwdb->database.bytes, hwdb->database.length, (const uint8_t *)modalias, strlen(modalias),
-                             (uint8_t *)hwdb->strings, hwdb->room, needed);
-}
-
-/* Makes the properties of a device the last lookup. Answers 0 or -ENOMEM. */
-static int look_up(sd_hwdb *hwdb, const char *modalias) {
-    size_t needed = 0;
-
-    hwdb->is_spent = true;
-    hwdb->used = 0;
-    hwdb->next = 0;
-    uint32_t answer = ask(hwdb, modalias, &needed);
-    if (answer == TOO_SHORT) {
-        char *larger = malloc(needed);
-        if (!larger)
-            return -ENOMEM;
-        free(hwdb->strings);
-        hwdb->strings = larger;
-        hwdb->room = needed;
-        answer = ask(hwdb, modalias, &needed);
-    }
-    if (answer != WRITTEN)
-        return -ENOMEM;
-    hwdb->used = needed;
-    return 0;
 }
 
 /* The property at a place of the last lookup, and the place after it. */

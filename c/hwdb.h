@@ -2,10 +2,11 @@
  *
  * Every call that can fail answers 0 or more, or a negative errno. A handle is for one thread at a time.
  *
- * Cost: opening reads the whole file and checks it once. A lookup takes one descent of the database's tree, and no look at the
- * file again. A handle holds the file in memory, the properties of its last lookup, and each string that it gave, once.
+ * Cost: opening reads a few blocks of the file. A lookup takes one descent of the database's tree, and reads the blocks on its way
+ * that weren't read before. It checks each record and string that it enters. A handle holds the open file and the blocks that
+ * were read, the properties of its last lookup, and each string that it gave, once.
  *
- * Stack use is bounded: 256 KiB are enough for any database that is accepted, trusted or not. */
+ * Stack use is bounded: 256 KiB are enough for any file, trusted or not. */
 #ifndef HWDB_H
 #define HWDB_H
 
@@ -13,10 +14,10 @@
 extern "C" {
 #endif
 
-/* A database that was read and checked whole, and the properties of the last lookup. */
+/* A database, of which some blocks were read and checked, and the properties of the last lookup. */
 typedef struct sd_hwdb sd_hwdb;
 
-/* Reads and checks the first of these whose name is there: /etc/udev/hwdb.bin, /usr/lib/udev/hwdb.bin,
+/* Opens the first of these whose name is there, and checks its header and its root: /etc/udev/hwdb.bin, /usr/lib/udev/hwdb.bin,
  * /etc/systemd/hwdb/hwdb.bin, /usr/lib/systemd/hwdb/hwdb.bin. *ret gets a handle with one reference.
  *
  * Errors: -EINVAL if ret is NULL, or the name is of something other than a file. -EISDIR if it is a folder's. -ENOENT if
@@ -36,13 +37,19 @@ sd_hwdb *sd_hwdb_unref(sd_hwdb *hwdb);
 /* The value that the device has under a key. The string belongs to the handle, and stays until the handle is freed. Each call
  * is a lookup: for more than one key, sd_hwdb_seek takes one for all.
  *
- * Errors: -ENOENT if the device has no such key. -EINVAL if an argument is NULL. -ENOMEM if an allocation fails. */
+ * Errors: -ENOENT if the device has no such key. -EINVAL if an argument is NULL. -ENOMEM if an allocation fails. -EUCLEAN if what
+ * was read on the way is no part of a database, or the file was cut. And the errors of read(2). */
 int sd_hwdb_get(sd_hwdb *hwdb, const char *modalias, const char *key, const char **value);
 
 /* Looks a device up. After it sd_hwdb_enumerate gives the device's properties, from the first one on.
  *
- * Errors: -EINVAL if an argument is NULL. -ENOMEM if an allocation fails. */
+ * Errors: those of sd_hwdb_get but -ENOENT. */
 int sd_hwdb_seek(sd_hwdb *hwdb, const char *modalias);
+
+/* Reads what wasn't read so far, and checks the whole file: 0 if it is a database. A lookup checks only what it enters.
+ *
+ * Errors: -EUCLEAN if the file isn't a database, or was cut. -EINVAL if hwdb is NULL. And the errors of read(2). */
+int hwdb_check(sd_hwdb *hwdb);
 
 /* The next property, ascending by key. Answers 1, or 0 after the last. The strings belong to the handle, and stay until
  * the handle is freed.

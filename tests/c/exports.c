@@ -6,8 +6,8 @@
 #include <string.h>
 
 uint32_t hwdb_c_check(const uint8_t *bytes, size_t length, uint64_t *place);
-uint32_t hwdb_c_properties(const uint8_t *bytes, size_t length, const uint8_t *device, size_t device_length, uint8_t *out,
-                           size_t room, size_t *needed);
+uint32_t hwdb_c_lookup(const uint8_t *bytes, size_t length, const uint8_t *present, size_t blocks, const uint8_t *device,
+                       size_t device_length, uint8_t *out, size_t room, size_t *needed);
 
 static const char EMPTY[] =
     "4b534c50484852480100000000000000690000000000000050000000000000001800000000000000100000000000000020000000000000"
@@ -58,6 +58,13 @@ static const struct lookup LOOKUPS[] = {
     {LATER_KEY, "", 0, 0, 0, ""},
 };
 
+static uint8_t bytes[4096], out[16];
+
+/* Looks a row's device up in the bytes: `present` says whether their one block was read. */
+static uint32_t look_up(const struct lookup *row, size_t length, uint8_t present, uint8_t *to, size_t *needed) {
+    return hwdb_c_lookup(bytes, length, &present, 1, (const uint8_t *)row->device, strlen(row->device), to, row->room, needed);
+}
+
 /* The byte at a place becomes another: the number of the fault, and its offset. */
 struct damage {
     size_t at;
@@ -71,7 +78,6 @@ static const struct damage DAMAGES[] = {
 };
 
 int main(void) {
-    uint8_t bytes[4096] = {0}, out[16];
     uint64_t place = 7;
     size_t lookups = sizeof LOOKUPS / sizeof *LOOKUPS, damages = sizeof DAMAGES / sizeof *DAMAGES;
     judge(hwdb_c_check(bytes, 0, &place) == 1 && place == 0, "no bytes", 0);
@@ -80,14 +86,22 @@ int main(void) {
         size_t length = bytes_of(row->hex, bytes), needed = 0;
         memset(out, '.', sizeof out);
         judge(hwdb_c_check(bytes, length, &place) == 0, "a database", i);
-        uint32_t answer = hwdb_c_properties(bytes, length, (const uint8_t *)row->device, strlen(row->device), out, row->room, &needed);
+        uint32_t answer = look_up(row, length, 1, out, &needed);
         judge(answer == row->answer && needed == row->needed, "an answer", i);
         judge(memcmp(out, row->out, row->room) == 0 && out[row->room] == '.', "what is written", i);
+        /* None of its blocks was read: the first is asked for, and nothing is written. */
+        memset(out, '.', sizeof out);
+        answer = look_up(row, length, 0, out, &needed);
+        judge(answer == 3 && needed == 0 && out[0] == '.', "a block that wasn't read", i);
     }
     for (size_t i = 0; i < damages; i++) {
         size_t length = bytes_of(EMPTY, bytes);
         bytes[DAMAGES[i].at] = DAMAGES[i].byte;
         judge(hwdb_c_check(bytes, length, &place) == DAMAGES[i].number && place == DAMAGES[i].offset, "a fault", i);
+        /* Each of these is on the way of every lookup. */
+        size_t needed = 0;
+        struct lookup row = {EMPTY, "a", 3, 4, 0, "..."};
+        judge(look_up(&row, length, 1, out, &needed) == 4, "a lookup over it", i);
     }
     printf("%zu rows\n", 1 + lookups + damages);
     return failed;

@@ -2,8 +2,8 @@
  *
  *   client devices DATABASE         for each device, a line of standard input: `> DEVICE`, and its properties
  *   client seeks DATABASE           the same by seek and enumerate, and by get, which have to give the same strings
- *   client damaged                  for each line `PATH DEVICE` of standard input: `refused` with the fault, or how many
- *                                   bytes the device's properties have as text, and this text
+ *   client damaged                  for each line `PATH DEVICE` of standard input: a lookup, and then hwdb_check: `refused` with
+ *                                   the fault, or how many bytes the device's properties have as text, and this text
  *   client calls DATABASE OTHER     what each call answers, where no other test says it
  *
  * WITH_FAULTS: linked with the proved calls too, it says which fault a refused file has; and what the library maps is a block
@@ -87,22 +87,16 @@ static void seeks(const char *path) {
 #ifdef WITH_FAULTS
 void *__wrap_mmap(void *at, size_t length, int protection, int flags, int fd, off_t offset);
 int __wrap_munmap(void *at, size_t length);
-int __wrap_madvise(void *at, size_t length, int advice);
 
 void *__wrap_mmap(void *at, size_t length, int protection, int flags, int fd, off_t offset) {
     (void)at, (void)protection, (void)flags, (void)fd, (void)offset;
-    void *block = malloc(length);
+    void *block = calloc(1, length);
     return block ? block : MAP_FAILED;
 }
 
 int __wrap_munmap(void *at, size_t length) {
     (void)length;
     free(at);
-    return 0;
-}
-
-int __wrap_madvise(void *at, size_t length, int advice) {
-    (void)at, (void)length, (void)advice;
     return 0;
 }
 
@@ -162,8 +156,16 @@ static void damaged(void) {
             exit(1);
         print_properties(out, hwdb, device);
         fclose(out);
-        printf("%zu\n", size);
-        fwrite(text, 1, size, stdout);
+        /* A lookup may answer in a file that is no database: it checks what it enters alone. */
+        r = hwdb_check(hwdb);
+        if (r == 0) {
+            EXPECT(sd_hwdb_seek(hwdb, device) == 0);
+            printf("%zu\n", size);
+            fwrite(text, 1, size, stdout);
+        } else if (r == -EUCLEAN)
+            print_fault(line);
+        else
+            printf("refused: %s\n", named(r));
         free(text);
         sd_hwdb_unref(hwdb);
     }
@@ -272,11 +274,13 @@ static void calls(const char *path, const char *other) {
         EXPECT(sd_hwdb_seek(last, "a") == 0);
     }
 
-    /* The file isn't read again: what is written over it later doesn't count. */
+    /* What was read isn't read again, and a file that was overwritten or cut is a database or is refused. */
     hwdb = opened("changed");
     FILE *file = fopen("changed", "r+e");
     EXPECT(file && fputs("nothing at all, and no database", file) >= 0 && fclose(file) == 0 && truncate("changed", 9) == 0);
-    EXPECT(sd_hwdb_get(hwdb, "a", "K", &value) == 0 && strcmp(value, "2") == 0);
+    int r = sd_hwdb_get(hwdb, "a", "K", &value);
+    EXPECT(r == -EUCLEAN || (r == 0 && strcmp(value, "2") == 0));
+    EXPECT(hwdb_check(hwdb) == -EUCLEAN && hwdb_check(NULL) == -EINVAL);
     sd_hwdb_unref(hwdb);
     refuses("changed", -EUCLEAN);
 }

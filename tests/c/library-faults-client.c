@@ -113,7 +113,7 @@ static void place(void) {
     sd_hwdb_unref(hwdb);
 }
 
-/* What opening a path answers; a refusal leaves nothing open, nothing held and no handle. */
+/* What opening a path answers, and checking the whole file after it; a refusal leaves nothing open, nothing held and no handle. */
 static void opens(const char *path, int wanted) {
     long before = libc_held;
     sd_hwdb *hwdb = NULL;
@@ -125,8 +125,10 @@ static void opens(const char *path, int wanted) {
         failed++;
     }
     EXPECT(libc_flags == (O_RDONLY | O_CLOEXEC | O_NOCTTY | O_NONBLOCK));
-    EXPECT(libc_open == 0);
+    EXPECT(libc_open == (r == 0));
+    EXPECT(r < 0 || hwdb_check(hwdb) == 0);
     sd_hwdb_unref(hwdb);
+    EXPECT(libc_open == 0);
     EXPECT(libc_held == before);
 }
 
@@ -159,7 +161,7 @@ static void descriptors(void) {
     opens("largest", 0);
 }
 
-/* A file that changes while it is read: what is there is read before anything else is called. */
+/* A file that changes before its first block is read, and after its size was taken. */
 static void grow(void) {
     libc_before_read = NULL;
     EXPECT(truncate("changed", 1 << 20) == 0);
@@ -170,6 +172,39 @@ static void shrink(void) {
     EXPECT(truncate("changed", 90) == 0);
 }
 
+/* A file that is overwritten, cut or replaced while a handle is over it; calls that read fail, and once more don't. */
+static void later(void) {
+    const char *value;
+    sd_hwdb *hwdb = NULL;
+
+    EXPECT(sd_hwdb_new_from_path("good", &hwdb) == 0);
+    libc_read_error = EIO;
+    EXPECT(hwdb_check(hwdb) == -EIO);
+    libc_read_error = 0;
+    EXPECT(hwdb_check(hwdb) == 0 && hwdb_check(NULL) == -EINVAL);
+    sd_hwdb_unref(hwdb);
+    /* The old file is read on, which has no name. */
+    copy("good", "changed");
+    EXPECT(sd_hwdb_new_from_path("changed", &hwdb) == 0);
+    copy("middle", "another");
+    EXPECT(rename("another", "changed") == 0);
+    EXPECT(sd_hwdb_get(hwdb, "a", "K", &value) == 0 && !strcmp(value, "2"));
+    EXPECT(hwdb_check(hwdb) == 0);
+    sd_hwdb_unref(hwdb);
+    copy("good", "changed");
+    EXPECT(sd_hwdb_new_from_path("changed", &hwdb) == 0);
+    EXPECT(truncate("changed", 90) == 0);
+    EXPECT(hwdb_check(hwdb) == -EUCLEAN);
+    EXPECT(sd_hwdb_seek(hwdb, "many") <= 0);
+    sd_hwdb_unref(hwdb);
+    copy("good", "changed");
+    EXPECT(sd_hwdb_new_from_path("changed", &hwdb) == 0);
+    EXPECT(truncate("changed", 0) == 0 && truncate("changed", 1 << 20) == 0);
+    EXPECT(hwdb_check(hwdb) == -EUCLEAN);
+    sd_hwdb_unref(hwdb);
+    EXPECT(libc_open == 0);
+}
+
 static void reads(void) {
     libc_interrupts = 3;
     opens("good", 0);
@@ -178,11 +213,13 @@ static void reads(void) {
     opens("good", -EIO);
     libc_read_error = 0;
     copy("good", "changed");
+    /* What was added is none of the database. */
     libc_before_read = grow;
-    opens("changed", -EUCLEAN);
+    opens("changed", 0);
     copy("good", "changed");
     libc_before_read = shrink;
     opens("changed", -EUCLEAN);
+    later();
 }
 
 /* What is made before a name is looked at that couldn't be opened; and its end before it is opened once more. */
@@ -252,7 +289,7 @@ static void refused(void) {
         libc_was_refused = 0;
         r = sd_hwdb_new_from_path("good", &hwdb);
         EXPECT(r == (libc_was_refused ? -ENOMEM : 0) && (r == 0) == (hwdb != NULL));
-        EXPECT(libc_open == 0);
+        EXPECT(libc_open == (r == 0));
         if (r < 0 && sd_hwdb_new_from_path("good", &hwdb) < 0)
             exit(1);
         while ((r = sd_hwdb_get(hwdb, "a", "K", &value)) == -ENOMEM)

@@ -114,7 +114,7 @@ int lstat(const char *path, struct stat *status) {
     return fstatat(AT_FDCWD, below_root(path, room), status, AT_SYMLINK_NOFOLLOW);
 }
 
-ssize_t read(int fd, void *bytes, size_t count) {
+ssize_t pread(int fd, void *bytes, size_t count, off_t offset) {
     if (libc_before_read)
         libc_before_read();
     if (libc_interrupts > 0) {
@@ -126,5 +126,5 @@ ssize_t read(int fd, void *bytes, size_t count) {
         errno = libc_read_error;
         return -1;
     }
-    return syscall(SYS_read, fd, bytes, count);
+    return syscall(SYS_pread64, fd, bytes, count, offset);
 }

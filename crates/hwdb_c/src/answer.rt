@@ -1,21 +1,22 @@
-//! The strings of a device's properties.
-ghost use Rattle.std.specs.Prelude.{◌≡◌, IfOk};
+//! The strings of a device's properties, of a file of which some blocks were read.
+ghost use Rattle.std.specs.Prelude.{◌≡◌, List, ℕ, IfOk, IfErr};
 ghost use Rattle.hwdb_spec.specs.Tree.{Tree};
 ghost use Rattle.hwdb_spec.specs.Format.{IsDatabase};
 ghost use Rattle.hwdb_spec.specs.Library.{device_strings};
+ghost use Rattle.hwdb_lookup.specs.Views.{IsOf, Stops};
 
 use crate::strings::write_strings;
-use hwdb_query::effective;
-use hwdb_reader::reopen;
-use std::alloc::{AllocError, Global};
+use hwdb_lookup::{Known, Stop, lookup};
+use std::alloc::Global;
 
-/// The strings of the properties that a database gives a device. The only error is `AllocError`.
-pub fn strings_for(alloc: Global, bytes: &[u8], device: &[u8]) -> Result<Vec<u8>, AllocError>
-    requires { (t : Tree) × IsDatabase bytes.now t }
-    ensures { IfOk result (λ text. (t : Tree) → IsDatabase bytes.now t
-        → text.items ≡ device_strings device.now t) }
+/// The strings of the properties that the file gives a device, if each block that is needed was read.
+pub fn strings_of_known(alloc: Global, known: Known<'_>, device: &[u8]) -> Result<Vec<u8>, Stop>
+    ensures strings { IfOk result (λ text. (file : List ℕ) (t : Tree) → IsOf known.entry file
+        → IsDatabase file t → text.items ≡ device_strings device.now t) }
+    ensures stop { IfErr result
+        (λ s. Stops known.entry (λ file. (t : Tree) × IsDatabase file t) s) }
 {
-    let db = reopen(bytes);
-    let properties = effective(alloc, &db, device)?;
-    write_strings(alloc, &properties)
+    let properties = lookup(alloc, known, device)?;
+    let text = write_strings(alloc, &properties)?;
+    Ok(text)
 }

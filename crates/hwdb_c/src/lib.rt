@@ -1,11 +1,10 @@
 //! What the C library `libhwdb` calls: whether bytes are a database, and the properties of a device.
 //!
-//! C owns all memory that goes in and out. [`hwdb_c_check`] is for any bytes. [`hwdb_c_properties`] is for bytes that
-//! it has accepted: c/hwdb.c calls it for no others. Both promise, over what C sees, what `hwdb_reader::check` and
-//! `hwdb_query::effective` do.
+//! C owns all memory that goes in and out, and reads the file. Both calls are for any bytes. [`hwdb_c_lookup`] says
+//! which block of the file it needs, and is called again when that was read. Both promise, over what C sees, what
+//! `hwdb_reader::check` and `hwdb_lookup::lookup` do.
 //!
-//! No view of the database is kept between two calls, since C can't hold one. So each lookup reads the header again,
-//! which is 80 bytes, and checks nothing twice.
+//! No view of the database is kept between two calls, since C can't hold one. So each lookup begins with the header.
 //!
 //! | Module | What it does |
 //! |---|---|
@@ -15,11 +14,12 @@
 //! | `room` | texts put into a buffer of C's |
 #![tactic(auto)]
 
-ghost use Rattle.std.specs.Prelude.{◌≡◌, ◌≢◌, ◌≤◌, ◌<◌, ◌++◌, List, length, drop};
+ghost use Rattle.std.specs.Prelude.{◌≡◌, ◌≢◌, ◌≤◌, ◌<◌, ◌*◌, ◌++◌, ℕ, List, length, drop, slice_index};
 ghost use Rattle.hwdb_spec.specs.Tree.{Tree};
 ghost use Rattle.hwdb_spec.specs.Folders.{Source};
 ghost use Rattle.hwdb_spec.specs.Format.{IsDatabase};
 ghost use Rattle.hwdb_spec.specs.Written.{IsCompiled};
+ghost use Rattle.hwdb_spec.specs.Blocks.{block_bytes, MayBe};
 ghost use Rattle.hwdb_spec.specs.Library.{IsFault, device_strings, last_strings};
 
 mod answer;
@@ -27,8 +27,9 @@ mod faults;
 mod room;
 mod strings;
 
-use answer::strings_for;
+use answer::strings_of_known;
 use faults::{number_of, place_of};
+use hwdb_lookup::{Known, Stop};
 use hwdb_query::compiled_answers_are_last;
 use hwdb_reader::check;
 use room::put;
@@ -40,6 +41,10 @@ const WRITTEN: u32 = 0;
 const TOO_SHORT: u32 = 1;
 /// An allocation failed.
 const NO_MEMORY: u32 = 2;
+/// A block of the file has to be read first.
+const MISSING: u32 = 3;
+/// The file is no database.
+const FAULT: u32 = 4;
 
 /// Whether the bytes are a database: 0, or the number of a fault, 1 for B1 to 11 for B11. `place` gets the fault's
 /// offset in bytes, or 0 if it has none.
@@ -64,35 +69,56 @@ pub extern "C" fn hwdb_c_check(bytes: &[u8], place: &mut u64) -> u32
     }
 }
 
-/// Writes the properties of the device to the front of `out`: key, byte 0, value, byte 0 for each key, ascending by
-/// key.
+/// Writes the properties of the device to the front of `out`: key, byte 0, value, byte 0 for each key, ascending by key.
+/// They are those of a file of which some blocks were read. `bytes` has the file's length, and `present` a byte for
+/// each block of 4,096 bytes: 1 if the block was read into `bytes`. In other blocks the bytes may be any; zeros are
+/// fastest.
 ///
-/// Answers 0, and in `needed` how many bytes these are. Answers 1 if `out` has less room than `needed` says, and 2 if
-/// an allocation failed. If it doesn't answer 0, `out` stays as it was.
+/// Answers 0, and in `needed` how many bytes were written. Answers 1 if `out` has less room than `needed` says, and 2
+/// if an allocation failed. Answers 3 if a block has to be read first, and in `needed` the block's number, counted from
+/// 0. Answers 4 if the file is no database, whatever its other blocks hold. If it doesn't answer 0, `out` stays as it
+/// was.
 ///
-/// One descent, as `hwdb_query::effective`. The memory that it takes is freed before it answers.
+/// For any bytes. Over the blocks of a database the properties are those of the whole: what `hwdb_query::effective`
+/// answers. The records that are entered have no more bytes than the file, and each of their strings is read as far as
+/// it may matter. The memory that it takes is freed before it answers.
 #[unsafe(no_mangle)]
-pub extern "C" fn hwdb_c_properties(
+pub extern "C" fn hwdb_c_lookup(
     alloc: Global,
     bytes: &[u8],
+    present: &[u8],
     device: &[u8],
     out: &mut [u8],
     needed: &mut usize,
 ) -> u32
-    requires { (t : Tree) × IsDatabase bytes.now t }
-    ensures status { result ≤ 2 }
-    ensures needed { result ≢ 2 → (t : Tree) → IsDatabase bytes.now t
-        → needed.new ≡ length (device_strings device.now t) }
-    ensures written { result ≡ 0 → (t : Tree) → IsDatabase bytes.now t
-        → out.new ≡ device_strings device.now t ++ drop needed.new out.old }
-    ensures headline { result ≡ 0 → (etc usr : List Source) → IsCompiled etc usr bytes.now
+    ensures status { result ≤ 4 }
+    ensures needed { result ≤ 1 → (file : List ℕ) (t : Tree) → MayBe bytes.now present.now file
+        → IsDatabase file t → needed.new ≡ length (device_strings device.now t) }
+    ensures written { result ≡ 0 → (file : List ℕ) (t : Tree) → MayBe bytes.now present.now file
+        → IsDatabase file t → out.new ≡ device_strings device.now t ++ drop needed.new out.old }
+    ensures headline { result ≡ 0 → (file : List ℕ) (t : Tree) (etc usr : List Source)
+        → MayBe bytes.now present.now file → IsDatabase file t → IsCompiled etc usr file
         → out.new ≡ last_strings device.now etc usr ++ drop needed.new out.old }
+    ensures missing { result ≡ 3 → (needed.new * block_bytes < length bytes.now)
+        × (slice_index present.now needed.new ≢ 1) }
+    ensures fault { result ≡ 4 → (file : List ℕ) (t : Tree) → MayBe bytes.now present.now file
+        → IsDatabase file t → ⊥ }
     ensures short { result ≡ 1 → length out.old < needed.new }
     ensures kept { result ≢ 0 → out.new ≡ out.old }
 {
     compiled_answers_are_last();
-    let Ok(strings) = strings_for(alloc, bytes, device) else {
-        return NO_MEMORY;
+    let known = Known {
+        buffer: bytes,
+        present,
+    };
+    let strings = match strings_of_known(alloc, known, device) {
+        Ok(strings) => strings,
+        Err(Stop::Missing(block)) => {
+            *needed = block;
+            return MISSING;
+        }
+        Err(Stop::Fault(_)) => return FAULT,
+        Err(Stop::Memory) => return NO_MEMORY,
     };
     *needed = strings.len();
     if put(&strings, out) {

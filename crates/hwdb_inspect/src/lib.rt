@@ -13,6 +13,7 @@
 //! | `records` | the records of a dump, and what a record says |
 //! | `difference` | `diff`: what changed from one database to another, of all or for devices |
 //! | `summary` | how much is in a database |
+//! | `texts` | whether texts are one |
 //! | `freshness` | `status`: how a database is beside what the text files make |
 //! | `reports` | the lines of `status`; `json_reports`: the same as JSON |
 //! | `verification` | `verify`: whether bytes are a database, and how much is in it |
@@ -33,6 +34,7 @@ mod pairs;
 mod records;
 mod reports;
 mod summary;
+mod texts;
 mod verification;
 mod walk;
 

@@ -5,7 +5,7 @@ use Rattle.hwdb_query.specs.Views.{assignment_of_answer}
 use Rattle.hwdb_spec.specs.declared.Layout.{Layout}
 use Rattle.hwdb_spec.specs.Assignment.{Assignment}
 use Rattle.hwdb_spec.specs.Answers.{is_wanted}
-use Rattle.hwdb_spec.specs.Tree.{Tree, Value, IsLive, prefix_of}
+use Rattle.hwdb_spec.specs.Tree.{Tree, IsLive, prefix_of}
 use Rattle.hwdb_spec.specs.Tree.Tree.{Node}
 use Rattle.hwdb_spec.specs.Format.{NodeText, ChildrenText, IsDatabase, record_end, child_entry, text_at, prefix_off, layout_of, max_levels}
 use Rattle.hwdb_lookup.specs.Views.{IsOf}
@@ -16,8 +16,8 @@ use Rattle.hwdb_pattern.specs.Laws.{MatchesIsTested, DeadMatchesNothing}
 use Rattle.hwdb_lookup.specs.declared.arrivals.OpenNode.{OpenNode}
 use Rattle.hwdb_lookup.specs.declared.arrivals.Candidate.{Candidate}
 use Rattle.hwdb_lookup.specs.declared.descent.Descent.{Descent}
-use Rattle.hwdb_lookup.specs.Internal.Heads.{IsHead, Fits, AreValues, own_members}
-use Rattle.hwdb_lookup.specs.Internal.Descents.{Arrived, ToCome, Opens, Rest, Next, ComesOn, Comes, Enters, Landing, stack_of, found_in, wanted_under, wanted_below}
+use Rattle.hwdb_lookup.specs.Internal.Heads.{IsHead, Fits, own_members}
+use Rattle.hwdb_lookup.specs.Internal.Descents.{Arrived, ToCome, Rest, Next, ComesOn, Comes, Enters, Landing, stack_of, found_in, wanted_under, wanted_below}
 use Rattle.hwdb_lookup.proofs.OpeningLemmas.{strings_inside}
 use Rattle.hwdb_lookup.proofs.TreeLemmas.{under_split, node_begins, children_begin, begins_before, prefix_placed, dead_in}
 use Rattle.hwdb_lookup.proofs.RestLemmas.{rest_ends}
@@ -32,7 +32,6 @@ more_bytes file device (o ∷ below) w m n le h = let few = h.7 in (h.0, h.1, h.
 
 module _ (file : List ℕ) (o : OpenNode) (before now : Descent) (all : List Assignment) (l : Landing file o before all)
     (found : found_in now ≡ found_in before ++ filter (is_wanted o.reach.device) (own_members o.path.items l.values)) (left : now.left ≡ before.left) where
-
   -- and it was put on the stack
   pub lands_open : stack_of now ≡ o ∷ stack_of before → Comes file o.reach.device now all
   unfolding ToCome
@@ -122,21 +121,21 @@ lands_from file o path d now all size e head known done come stack found left pa
           own = theirs;
           bytes = o.node.off - e.begin;
           opens = record {
-              known = known;
-              same_device = refl;
-              from = e.begin;
-              rest = record {
-                  ks = children;
-                  begin = e.begin;
-                  byte = 0;
-                  head = head;
-                  after = omega arith;
-                  text = subst (λ i. ChildrenText l file o.levels e.begin (child_entry l o.node.off i) 0 o.node.off children) (sym done) text.5;
-                  count = omega (arith, count, many, done);
-                  is = refl;
-                };
-              size = omega (arith, begins);
+            known = known;
+            same_device = refl;
+            from = e.begin;
+            rest = record {
+              ks = children;
+              begin = e.begin;
+              byte = 0;
+              head = head;
+              after = omega arith;
+              text = subst (λ i. ChildrenText l file o.levels e.begin (child_entry l o.node.off i) 0 o.node.off children) (sym done) text.5;
+              count = omega (arith, count, many, done);
+              is = refl;
             };
+            size = omega (arith, begins);
+          };
           rest = e.rest;
           below = e.below;
           few = omega (arith, begins, own, few, ends, left, paid);
@@ -224,21 +223,21 @@ module _ (file : List ℕ) (o : OpenNode) (stack : List OpenNode) (found : List 
         size = omega (arith, begins);
         few = omega (arith, begins, ends, after, first, few, size, kept);
         to_come = subst (λ s. ToCome file o.reach.device s (n.more ++ t.1) ((o.node.off - re) + t.3)) (sym on) (
-            n.more,
-            t.1,
-            o.node.off - re,
-            t.3,
-            record {
-              known = opens.known;
-              same_device = opens.same_device;
-              from = re;
-              rest = record { ks = r.ks; begin = r.begin; byte = r.byte; head = r.head; after = r.after; text = r.text; count = r.count; is = r.is };
-              size = omega (arith, ends, after);
-            },
-            t.5,
-            refl,
-            omega arith,
-          );
+          n.more,
+          t.1,
+          o.node.off - re,
+          t.3,
+          record {
+            known = opens.known;
+            same_device = opens.same_device;
+            from = re;
+            rest = record { ks = r.ks; begin = r.begin; byte = r.byte; head = r.head; after = r.after; text = r.text; count = r.count; is = r.is };
+            size = omega (arith, ends, after);
+          },
+          t.5,
+          refl,
+          omega arith,
+        );
         whole = ap (λ f. f ++ (mine ++ (n.more ++ t.1))) same ∙ ap (λ w. found ++ w) (sym (append_assoc mine n.more t.1) ∙ ap (λ w. w ++ t.1) (sym n.is) ∙ sym t.6) ∙ c.whole;
       }
 
@@ -249,22 +248,22 @@ pub root_enters : (file : List ℕ) (l : Layout) (t : Tree) (device : List ℕ) 
 unfolding ToCome
 root_enters file l t device d is h stack found left =
     subst (λ k. Enters file k max_levels k.root [] device d (wanted_under device [] t)) (sym is) (
-      let begins = node_begins (layout_of file) file max_levels (layout_of file).nodes (layout_of file).root t h.text in
-      let whole = h.whole in
-      let inside = strings_inside file h.header in
-      record {
-        tree = t;
-        begin = (layout_of file).nodes;
-        text = h.text;
-        ends = omega (arith, whole);
-        rest = [];
-        own = (layout_of file).strings - (layout_of file).nodes;
-        below = 0;
-        size = omega (arith, begins, whole);
-        few = omega (arith, inside, left);
-        to_come = subst (λ s. ToCome file device s [] 0) (sym stack) refl;
-        whole = ap (λ f. f ++ (wanted_under device [] t ++ [])) found ∙ append-nil (wanted_under device [] t);
-      }
+    let begins = node_begins (layout_of file) file max_levels (layout_of file).nodes (layout_of file).root t h.text in
+    let whole = h.whole in
+    let inside = strings_inside file h.header in
+    record {
+      tree = t;
+      begin = (layout_of file).nodes;
+      text = h.text;
+      ends = omega (arith, whole);
+      rest = [];
+      own = (layout_of file).strings - (layout_of file).nodes;
+      below = 0;
+      size = omega (arith, begins, whole);
+      few = omega (arith, inside, left);
+      to_come = subst (λ s. ToCome file device s [] 0) (sym stack) refl;
+      whole = ap (λ f. f ++ (wanted_under device [] t ++ [])) found ∙ append-nil (wanted_under device [] t);
+    }
     )
 
 pub all_found : (file device : List ℕ) (d : Descent) (all : List Assignment) → stack_of d ≡ [] → Comes file device d all → found_in d ≡ all
@@ -294,16 +293,15 @@ unfolding ToCome
 goes_from file device o d gone all stack found left c =
     let t = subst (λ s. ToCome file device s c.rest d.left) stack c.to_come in
     let opens = t.4 in
-    let same = opens.same_device in
-    (
+    let same = opens.same_device in (
       opens.known,
       same,
       subst (λ x. ComesOn file x (o ∷ stack_of gone) (found_in gone) gone.left all) (sym same)
-      (record {
-        rest = c.rest;
-        to_come = subst (λ n. ToCome file device (o ∷ stack_of gone) c.rest n) (sym left) t;
-        whole = ap (λ f. f ++ c.rest) found ∙ c.whole;
-      }),
+          (record {
+            rest = c.rest;
+            to_come = subst (λ n. ToCome file device (o ∷ stack_of gone) c.rest n) (sym left) t;
+            whole = ap (λ f. f ++ c.rest) found ∙ c.whole;
+          }),
     )
 
 pub begins : (file : List ℕ) (known : Known) (l : Layout) (t : Tree) (device start path : List ℕ) (d : Descent) → IsOf known file → l ≡ layout_of file → IsDatabase file t → d.stack.items ≡ [] → d.found.items ≡ []

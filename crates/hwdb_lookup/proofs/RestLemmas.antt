@@ -1,8 +1,8 @@
 -- The children of an open node that aren't done.
-use Rattle.std.proofs.Common.{◌≡◌, ◌∙◌, ap, sym, refl, subst, ℕ, zero, suc, ◌+◌, ◌≤◌, ◌<◌, List, [], ◌∷◌, ◌++◌, arith, append-nil}
+use Rattle.std.proofs.Common.{◌≡◌, ◌∙◌, ap, sym, refl, subst, ℕ, ◌+◌, ◌≤◌, ◌<◌, List, [], ◌∷◌, ◌++◌, arith}
 use Rattle.hwdb_pattern.specs.Laws.{MatchesIsTested, DeadMatchesNothing}
 use Rattle.hwdb_spec.specs.Assignment.{Assignment}
-use Rattle.hwdb_spec.specs.Tree.{Tree, Children, IsLive, count}
+use Rattle.hwdb_spec.specs.Tree.{Children, IsLive, count}
 use Rattle.hwdb_spec.specs.Tree.Children.{NoMore, Child}
 use Rattle.hwdb_spec.specs.Format.{NodeText, ChildrenText, record_end, child_entry, child_byte, child_off}
 use Rattle.hwdb_lookup.specs.declared.arrivals.OpenNode.{OpenNode}
@@ -21,7 +21,6 @@ rest_ends file o i from w r le = go r.ks r.count r.is
 
 module _ (file : List ℕ) (o : OpenNode) (i from : ℕ) (w : List Assignment) (byte off : ℕ) (lt : i < o.node.children)
     (b : byte ≡ child_byte file (child_entry o.node.frame.sizes o.node.off i)) (k : off ≡ child_off file (child_entry o.node.frame.sizes o.node.off i)) where
-
   -- the first child is at a dead path
   pub rest_passes : MatchesIsTested → DeadMatchesNothing → (IsLive (o.path.items ++ byte ∷ []) o.reach.device → ⊥) → Rest file o i from w → Rest file o (i + 1) from w
   unfolding count NodeText
@@ -70,16 +69,16 @@ module _ (file : List ℕ) (o : OpenNode) (i from : ℕ) (w : List Assignment) (
             text = subst (λ at. NodeText l file o.levels r.begin at t) there text.2;
             more = wanted_below o.reach.device o.path.items more;
             rest = record {
-                ks = more;
-                begin = record_end l file k-is.off;
-                byte = c;
-                head = r.head;
-                after = omega arith;
-                text = subst (λ at. ChildrenText l file o.levels (record_end l file at) (child_entry l o.node.off k-is.done) c o.node.off more) there
-                    (subst (λ at. ChildrenText l file o.levels (record_end l file (child_off file e)) at c o.node.off more) (next_entry l o.node.off i ∙ ap (child_entry l o.node.off) (sym cd)) text.3);
-                count = omega (arith, n, cd);
-                is = refl;
-              };
+              ks = more;
+              begin = record_end l file k-is.off;
+              byte = c;
+              head = r.head;
+              after = omega arith;
+              text = subst (λ at. ChildrenText l file o.levels (record_end l file at) (child_entry l o.node.off k-is.done) c o.node.off more) there
+                  (subst (λ at. ChildrenText l file o.levels (record_end l file (child_off file e)) at c o.node.off more) (next_entry l o.node.off i ∙ ap (child_entry l o.node.off) (sym cd)) text.3);
+              count = omega (arith, n, cd);
+              is = refl;
+            };
             is = is ∙ below_split o.reach.device o.path.items c t more
                 ∙ ap (λ x. wanted_under o.reach.device (o.path.items ++ x ∷ []) t ++ wanted_below o.reach.device o.path.items more) same;
           }

@@ -1,5 +1,5 @@
 -- A string that is read in pieces.
-use Rattle.std.proofs.Common.{◌≡◌, ◌≤◌, ◌-◌, ℕ, zero, suc, List, [], ◌∷◌, ◌++◌, length, take, drop, Bool, true, false, not, cond, refl, sym, ◌∙◌, ap, arith, length-drop, ◌==◌, ◌+◌}
+use Rattle.std.proofs.Common.{◌≡◌, ◌≤◌, ℕ, zero, suc, List, [], ◌∷◌, ◌++◌, length, take, drop, Bool, true, false, not, cond, refl, sym, ◌∙◌, ap, arith, length-drop, ◌==◌, ◌+◌}
 use Rattle.std.specs.List.{take_while}
 use Rattle.std.proofs.lemmas.List.{drop-drop}
 use Rattle.std.proofs.lemmas.Grind.{common_steps}

@@ -1,5 +1,5 @@
 -- What a tree assigns to a device, part by part, and how far its text reaches.
-use Rattle.std.proofs.Common.{◌≡◌, ◌∙◌, ap, sym, refl, ℕ, zero, suc, ◌+◌, ◌*◌, ◌≤◌, ◌<◌, Bool, true, false, List, [], ◌∷◌, ◌++◌, map, filter, length, arith, append_assoc, IsTrue, ◌↔◌, subst, Option, None, Some}
+use Rattle.std.proofs.Common.{◌≡◌, ◌∙◌, ap, sym, refl, ℕ, zero, suc, ◌+◌, ◌*◌, ◌≤◌, Bool, true, false, List, [], ◌∷◌, ◌++◌, map, filter, arith, append_assoc, IsTrue, ◌↔◌, subst, Option, None, Some}
 use Rattle.std.specs.Prelude.{flat_map}
 use Rattle.std.proofs.lemmas.Grind.{flat_map-append}
 use Rattle.std.proofs.lemmas.List.Elements.{filter-append}
@@ -8,10 +8,10 @@ use Rattle.hwdb_spec.specs.declared.Layout.{Layout}
 use Rattle.hwdb_spec.specs.Patterns.{tokens, Matches}
 use Rattle.hwdb_spec.specs.Assignment.{Assignment}
 use Rattle.hwdb_spec.specs.Answers.{is_wanted, is_match}
-use Rattle.hwdb_spec.specs.Tree.{Tree, Children, Value, IsLive, prefix_of, values_under, values_below, members_under, assigned_at, key_of, count}
+use Rattle.hwdb_spec.specs.Tree.{Tree, Children, Value, IsLive, prefix_of, values_under, values_below, assigned_at, key_of}
 use Rattle.hwdb_spec.specs.Tree.Tree.{Node}
 use Rattle.hwdb_spec.specs.Tree.Children.{NoMore, Child}
-use Rattle.hwdb_spec.specs.Format.{NodeText, ChildrenText, ValuesText, IsPlace, record_end, child_entry, child_off, prefix_off, text_at, value_entries, values_count}
+use Rattle.hwdb_spec.specs.Format.{NodeText, ChildrenText, IsPlace, record_end, child_entry, child_off, prefix_off, text_at}
 use Rattle.hwdb_lookup.specs.Internal.Heads.{own_members}
 use Rattle.hwdb_lookup.specs.Internal.Descents.{wanted_under, wanted_below}
 

@@ -1,5 +1,5 @@
 -- The values of a node, one after another.
-use Rattle.std.proofs.Common.{◌≡◌, ◌∙◌, ap, sym, refl, subst, ℕ, zero, suc, ◌+◌, ◌*◌, ◌≤◌, ◌<◌, List, [], ◌∷◌, ◌++◌, length, arith, append-nil, append_assoc, None, Some}
+use Rattle.std.proofs.Common.{◌≡◌, ◌∙◌, ap, sym, refl, subst, ℕ, ◌+◌, ◌*◌, ◌≤◌, ◌<◌, List, [], ◌∷◌, ◌++◌, length, arith, append-nil, append_assoc, None, Some}
 use Rattle.hwdb_spec.specs.Assignment.{Assignment}
 use Rattle.hwdb_spec.specs.Tree.{Value, assigned_at, key_of}
 use Rattle.hwdb_spec.specs.Format.{ValuesText, IsValue, value_at, value_entries}
@@ -49,11 +49,11 @@ value_next file n i left lt = go left.rest left.text left.count
         let first = value_entries n.frame.sizes file n.off in
         record {
           more = record {
-              rest = rest;
-              before = Some w.key;
-              text = subst (λ e. ValuesText n.frame.sizes file e (Some w.key) rest) (next_value n.frame.sizes first i) text.3;
-              count = omega (arith, count);
-            };
+            rest = rest;
+            before = Some w.key;
+            text = subst (λ e. ValuesText n.frame.sizes file e (Some w.key) rest) (next_value n.frame.sizes first i) text.3;
+            count = omega (arith, count);
+          };
           sound = text.0;
           own = λ pattern v is. own_first pattern w rest ∙ ap (λ x. own_members pattern (x ∷ []) ++ own_members pattern rest) (text.1 ∙ sym is);
         }

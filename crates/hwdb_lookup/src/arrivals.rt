@@ -54,10 +54,15 @@ pub struct Candidate {
 /// How many bytes of a prefix are fed at first. Most prefixes have fewer.
 const PIECE: usize = 64;
 
+/// The longest path that is gone on from, in bytes: 16 times the longest pattern of a text file. Each open node has a copy
+/// of its path, and nodes may share a long prefix: so this bounds the memory of a lookup in a hostile file.
+const MAX_PATH: usize = 65_536;
+
 /// Goes on along the prefix at an offset. The answer is what is known of the device at its end, if the path there is
 /// live. The path becomes that.
 ///
-/// Each piece doubles what is fed. So a path that is dead soon takes few steps, however long the prefix is.
+/// Each piece doubles what is fed. So a path that is dead soon takes few steps, however long the prefix is. A live path
+/// that is too long is as memory that is refused.
 fn along_prefix<'d>(
     alloc: Global,
     known: Known<'_>,
@@ -79,6 +84,9 @@ fn along_prefix<'d>(
         let piece = known.text_front(at, (at - prefix).max(PIECE))?;
         if piece.is_empty() {
             return Ok(Some(reach));
+        }
+        if path.len() > MAX_PATH {
+            return Err(Stop::Memory);
         }
         path.extend_from_slice(piece)?;
         reach = reach.feed(alloc, piece)?;

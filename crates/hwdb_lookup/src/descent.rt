@@ -140,12 +140,7 @@ impl<'a, 'd> Descent<'a, 'd> {
     }
 
     /// Collects what the values of a node assign, and puts it on the stack if it has children.
-    fn land(
-        &mut self,
-        alloc: Global,
-        known: Known<'a>,
-        open: OpenNode<'a, 'd>,
-    ) -> Result<(), Stop>
+    fn land(&mut self, alloc: Global, known: Known<'a>, open: OpenNode<'a, 'd>) -> Result<(), Stop>
         requires stands { StandsFor open.reach open.path.items }
         requires same { open.node.known ≡ known }
         requires all { AllStand known (stack_of self.old) }
@@ -188,7 +183,8 @@ impl<'a, 'd> Descent<'a, 'd> {
         ensures steps { OnOk result (self.new.left + length self.new.stack.items + 23
             ≤ self.old.left + length self.old.stack.items) }
         ensures stop { IfErr result (λ s. Stops known.entry (λ file. (all : List Assignment)
-            × Enters file frame.sizes levels off path.items reach.entry.device self.old all) s) }
+            × Enters file frame.sizes levels off path.items reach.entry.device self.old all)
+            s) }
     {
         path_laws();
         if levels == 0 {
@@ -208,16 +204,12 @@ impl<'a, 'd> Descent<'a, 'd> {
 
     /// Goes on from a node that was taken off the stack. Visits its next child that may be live, and puts the node back
     /// below that. If there is none, the node is done.
-    fn go_on(
-        &mut self,
-        alloc: Global,
-        known: Known<'a>,
-        last: OpenNode<'a, 'd>,
-    ) -> Result<(), Stop>
+    fn go_on(&mut self, alloc: Global, known: Known<'a>, last: OpenNode<'a, 'd>) -> Result<(), Stop>
         requires { AllStand known (last ∷ stack_of self.old) }
         ensures all { OnOk result (AllStand known.entry (stack_of self.new)) }
         ensures comes { OnOk result ((file : List ℕ) (all : List Assignment)
-            → IsOf known.entry file → ComesOn file last.entry.reach.device (last.entry ∷ stack_of self.old)
+            → IsOf known.entry file
+            → ComesOn file last.entry.reach.device (last.entry ∷ stack_of self.old)
             (found_in self.old) self.old.left all
             → Comes file last.entry.reach.device self.new all) }
         ensures steps { OnOk result (self.new.left + length self.new.stack.items
@@ -240,7 +232,7 @@ impl<'a, 'd> Descent<'a, 'd> {
     }
 }
 
-/// What the assignments of a file are whose patterns match the device, node by node.
+/// The assignments of a file whose patterns match the device, node by node.
 pub fn descend<'a>(
     alloc: Global,
     known: Known<'a>,
@@ -261,7 +253,15 @@ pub fn descend<'a>(
         left: known.buffer.len(),
     };
     let start = Reach::start(alloc, device);
-    descent.visit(alloc, known, frame, MAX_LEVELS, frame.sizes.root, Vec::new(alloc), start)?;
+    descent.visit(
+        alloc,
+        known,
+        frame,
+        MAX_LEVELS,
+        frame.sizes.root,
+        Vec::new(alloc),
+        start,
+    )?;
     while let Some(open) = descent.stack.pop() {
         descent.go_on(alloc, known, open)?;
     }

@@ -7,7 +7,10 @@ ghost use Rattle.hwdb_lookup.specs.Internal.Heads.{IsHead, Fits, value_of};
 use crate::known::Known;
 use crate::lazy_node::LazyNode;
 use crate::stop::Stop;
-use hwdb_reader::{Frame, check_value, child_entry_at, is_place, record_end_within, u16_at, u32_at, u64_at, value_entry_at};
+use hwdb_reader::{
+    Frame, check_value, child_entry_at, is_place, record_end_within, u16_at, u32_at, u64_at,
+    value_entry_at,
+};
 use hwdb_spec::DbFault;
 
 /// A child entry of a node.

@@ -10,7 +10,7 @@ pub enum Stop {
     Missing(usize),
     /// The file is no database: what was entered has this fault.
     Fault(DbFault),
-    /// An allocation failed.
+    /// An allocation failed, or a live path has more than 65,536 bytes. A text file's patterns have at most 4,096.
     Memory,
 }
 

@@ -8,7 +8,7 @@ use Rattle.hwdb_spec.specs.Tree.{Tree, Children, Value, IsLive, members_under, v
 use Rattle.hwdb_spec.specs.Format.{NodeText, ChildrenText, record_end, child_entry}
 use Rattle.hwdb_query.specs.Views.{assignment_of_answer}
 use Rattle.hwdb_lookup.specs.Views.{IsOf}
-use Rattle.hwdb_lookup.specs.Internal.Heads.{IsHead, Fits, AreValues, own_members}
+use Rattle.hwdb_lookup.specs.Internal.Heads.{IsHead, AreValues, own_members}
 use Rattle.hwdb_lookup.specs.declared.known.Known.{Known}
 use Rattle.hwdb_lookup.specs.declared.lazy_node.LazyNode.{LazyNode}
 use Rattle.hwdb_lookup.specs.declared.arrivals.OpenNode.{OpenNode}

@@ -20,7 +20,7 @@ loop-i-preserved c file values m are =
     let next = value_next file n c.loop-i.i now.0 c.loop-i-test.true in (
       next.more,
       offered pattern _ (value_of v) _ _ _ (now.0).rest (next.more).rest values c.in_ok-shared.ensures c.in_ok-offer.ensures
-      (next.own pattern (value_of v) (c.in_ok-value.ensures.read file m are.head)) now.1,
+          (next.own pattern (value_of v) (c.in_ok-value.ensures.read file m are.head)) now.1,
     )
 
 pub returns-clause-collected : goal.returns-clause-collected

@@ -1,8 +1,7 @@
-use Rattle.std.proofs.Common.{◌≡◌, ◌∙◌, ◌∷◌, [], List, ℕ, ap, map, reverse, length, refl, sym, subst, arith}
+use Rattle.std.proofs.Common.{◌≡◌, ◌∷◌, [], List, length, refl, subst}
 use Rattle.hwdb_spec.specs.Assignment.{Assignment}
 use Rattle.hwdb_spec.specs.Tree.{Tree}
 use Rattle.hwdb_spec.specs.Format.{IsDatabase, layout_of, max_levels}
-use Rattle.hwdb_lookup.specs.Views.{IsOf}
 use Rattle.hwdb_lookup.specs.declared.descent.Descent.{Descent}
 use Rattle.hwdb_lookup.specs.Internal.Descents.{Enters, Comes, ComesOn, stack_of, found_in, wanted_under}
 use Rattle.hwdb_lookup.proofs.KnownLemmas.{stop_given}
