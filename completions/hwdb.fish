@@ -60,7 +60,7 @@ end
 complete -c hwdb -f
 # From here on completions/from-help has made it of the program's help.
 function __hwdb_takes_value
-    contains -- $argv[1] -r --root --color --after --limit --allow --database
+    contains -- $argv[1] -r --root --color --after --limit --allow --database --devices
 end
 
 # The words that `help` takes.
@@ -77,7 +77,7 @@ complete -c hwdb -n __hwdb_none -a near -d 'Prints the patterns that match a dev
 complete -c hwdb -n __hwdb_none -a device -d 'Prints the strings that udev asks the database for a device, and what each gives; without DEVICE lists the devices'
 complete -c hwdb -n __hwdb_none -a check -d 'Says what is wrong in text files, or hardly meant, and writes no database'
 complete -c hwdb -n __hwdb_none -a test -d 'Says whether a database gives devices the properties that test files want'
-complete -c hwdb -n __hwdb_none -a diff -d 'Prints what changed from one database to another'
+complete -c hwdb -n __hwdb_none -a diff -d 'Prints what changed from one database to another: assignments, or what devices get'
 complete -c hwdb -n __hwdb_none -a verify -d 'Says whether a file is a database that can be read, and how much is in it'
 complete -c hwdb -n __hwdb_none -a dump -d 'Prints a database as a text file'
 complete -c hwdb -n __hwdb_none -a status -d 'Says which database is asked, and whether it is what the text files make'
@@ -107,6 +107,15 @@ complete -c hwdb -n __hwdb_none -s V -l version -d 'Print version'
 complete -c hwdb -n '__hwdb_at update' -l verbose -d 'Say which files are taken, and how many assignments they have'
 complete -c hwdb -n '__hwdb_at update' -l skip-unreadable -d 'Leave out a text file that can\'t be read, and say so'
 complete -c hwdb -n '__hwdb_at update' -l check -d 'Write and say nothing: the status is that of \'hwdb status\''
+complete -c hwdb -n '__hwdb_at query' -l text -d 'Ask the text files of both folders, as update would compile them now, in place of a database'
+complete -c hwdb -n '__hwdb_at explain' -l text -d 'Ask the text files of both folders, as update would compile them now, in place of a database'
+complete -c hwdb -n '__hwdb_at list' -l text -d 'Ask the text files of both folders, as update would compile them now, in place of a database'
+complete -c hwdb -n '__hwdb_at near' -l text -d 'Ask the text files of both folders, as update would compile them now, in place of a database'
+complete -c hwdb -n '__hwdb_at device' -l text -d 'Ask the text files of both folders, as update would compile them now, in place of a database'
+complete -c hwdb -n '__hwdb_at test' -l text -d 'Ask the text files of both folders, as update would compile them now, in place of a database'
+complete -c hwdb -n '__hwdb_at verify' -l text -d 'Ask the text files of both folders, as update would compile them now, in place of a database'
+complete -c hwdb -n '__hwdb_at dump' -l text -d 'Ask the text files of both folders, as update would compile them now, in place of a database'
+complete -c hwdb -n '__hwdb_at query' -l reload -d 'With -, read a database that was replaced anew, before the next line is answered'
 complete -c hwdb -n '__hwdb_at query' -l json -d 'Print JSON, one object a line'
 complete -c hwdb -n '__hwdb_at explain' -l json -d 'Print JSON, one object a line'
 complete -c hwdb -n '__hwdb_at list' -l json -d 'Print JSON, one object a line'
@@ -114,6 +123,7 @@ complete -c hwdb -n '__hwdb_at near' -l json -d 'Print JSON, one object a line'
 complete -c hwdb -n '__hwdb_at device' -l json -d 'Print JSON, one object a line'
 complete -c hwdb -n '__hwdb_at check' -l json -d 'Print JSON, one object a line'
 complete -c hwdb -n '__hwdb_at test' -l json -d 'Print JSON, one object a line'
+complete -c hwdb -n '__hwdb_at diff' -l json -d 'Print JSON, one object a line'
 complete -c hwdb -n '__hwdb_at status' -l json -d 'Print JSON, one object a line'
 complete -c hwdb -n '__hwdb_at list' -l after -x -d 'Print only what stands after this position, as list prints it'
 complete -c hwdb -n '__hwdb_at list' -l limit -x -d 'Print at most N lines; 0 prints nothing'
@@ -122,6 +132,7 @@ complete -c hwdb -n '__hwdb_at device' -l strings -d 'Print the strings alone, o
 complete -c hwdb -n '__hwdb_at device' -l pattern -d 'Print a record to begin with, which fits the device; before --json and --strings'
 complete -c hwdb -n '__hwdb_at check' -l allow -x -a 'byte-order-mark leading-tab carriage-return open-bracket empty-range spaced-equals cut-value repeated-match replaced near-name scan-code unknown-key unfit-value zero-row two-defaults unread unpaired unknown-prefix dead-pattern' -d 'Leave out warnings of this kind; may come more than once'
 complete -c hwdb -n '__hwdb_at test' -l database -x -a '(__hwdb_database)' -d 'Ask this database, in place of that of /etc/udev or /usr/lib/udev'
+complete -c hwdb -n '__hwdb_at diff' -l devices -x -a '(__hwdb_file)' -d 'Compare what the devices of a file get, a line each, or of - for standard input; may come more than once'
 
 complete -c hwdb -n '__hwdb_at query' -a '(__hwdb_modalias)' -d MODALIAS
 complete -c hwdb -n '__hwdb_at explain 1' -a '(__hwdb_modalias)' -d MODALIAS

@@ -2,13 +2,13 @@
 ghost use Rattle.std.specs.Prelude.{IfOk, codes};
 ghost use Rattle.clap.specs.Walk.{rows_of};
 ghost use Rattle.clap.specs.Matches.{found_of};
-ghost use Rattle.hwdb_cli.specs.Drafts.{IsDraft};
+ghost use Rattle.hwdb_cli.specs.Drafts.{IsArgument, IsDraft};
 ghost use Rattle.hwdb_spec.specs.Jobs.{HasValue, IsTask};
-ghost use Rattle.hwdb_spec.specs.CommandLine.{diff_app};
+ghost use Rattle.hwdb_spec.specs.CommandLine.{devices_option_rule, diff_app};
 
-use crate::drafts::{Draft, needed_word, shared, with_argument};
-use crate::matched::value_of;
-use clap::{ArgAction, ArgMatches};
+use crate::drafts::{Draft, json_option, needed_word, option, shared, with_argument};
+use crate::matched::{any_values_of, has_flag, value_of};
+use clap::{Arg, ArgAction, ArgMatches};
 use hwdb_spec::Task;
 use std::alloc::{AllocError, Global};
 
@@ -16,7 +16,8 @@ use std::alloc::{AllocError, Global};
 pub const SHORT: &str = "prints what changed between two databases";
 
 /// What help begins with.
-const ABOUT: &str = "Prints what changed from one database to another";
+const ABOUT: &str =
+    "Prints what changed from one database to another: assignments, or what devices get";
 
 /// What help ends with.
 const AFTER: &str =
@@ -27,10 +28,21 @@ pub fn command<'a>(alloc: Global) -> Draft<'a>
     ensures { IsDraft diff_app result }
 {
     let command = shared(alloc, "diff", ABOUT, AFTER);
+    let with_devices = with_argument(command, devices_option(alloc));
+    let with_json = with_argument(with_devices, json_option(alloc));
     let old = needed_word(alloc, "OLD", "The old database", ArgAction::Set);
-    let with_old = with_argument(command, old);
+    let with_old = with_argument(with_json, old);
     let new = needed_word(alloc, "NEW", "The new database", ArgAction::Set);
     with_argument(with_old, new)
+}
+
+/// `--devices`.
+fn devices_option<'a>(alloc: Global) -> Arg<'a>
+    ensures { IsArgument devices_option_rule result }
+{
+    let help =
+        "Compare what the devices of a file get, a line each, or of - for standard input; may come more than once";
+    option(alloc, "devices", "FILE", help).action(ArgAction::Append)
 }
 
 /// The task of `diff`.
@@ -41,5 +53,12 @@ pub fn task(alloc: Global, inner: &ArgMatches<'_>) -> Result<Task, AllocError>
 {
     let old = value_of(alloc, inner, "OLD")?;
     let new = value_of(alloc, inner, "NEW")?;
-    Ok(Task::Diff { old, new })
+    let devices = any_values_of(alloc, inner, "devices")?;
+    let json = has_flag(inner, "json");
+    Ok(Task::Diff {
+        old,
+        new,
+        devices,
+        json,
+    })
 }

@@ -1,5 +1,5 @@
 -- How many nodes a walk meets, and how many of them are on one path.
-use Rattle.std.proofs.Common.{◌≡◌, ◌∙◌, ap, refl, ℕ, suc, ◌+◌, List, [], ◌∷◌, ◌++◌, reverse, length, arith, max, Some, slice_get, length-append}
+use Rattle.std.proofs.Common.{◌≡◌, ◌∙◌, ap, refl, ℕ, suc, ◌+◌, List, [], ◌∷◌, ◌++◌, reverse, length, arith, max, Some, slice_get, length-append, inl, inr}
 use Rattle.std.proofs.lemmas.List.{length-reverse}
 use Rattle.hwdb_spec.specs.Summary.{nodes, nodes_of, depth, depth_of}
 use Rattle.hwdb_spec.specs.Tree.{Tree, Children}
@@ -8,7 +8,7 @@ use Rattle.hwdb_spec.specs.Tree.Children.{NoMore, Child}
 use Rattle.hwdb_reader.specs.Views.{children_of, list_of, node_count, nodes_below, entered_tree}
 use Rattle.hwdb_inspect.specs.Internal.Walks.{kids_of, depth_in, deepest_to_come, Opened}
 use Rattle.hwdb_inspect.specs.declared.walk.OpenVisit.{OpenVisit}
-use Rattle.hwdb_inspect.proofs.WalkLemmas.{gone_on, opened_top, opened_kids, kids_next}
+use Rattle.hwdb_inspect.proofs.WalkLemmas.{gone_on, top_is, top_kids, kids_next}
 use Rattle.hwdb_query.specs.Lemmas.Stacks.{on_top}
 
 mutual
@@ -31,10 +31,16 @@ unfolding depth children_of
 depth_and_below (Node prefix values children) = ap (λ n. 1 + n) (depth_listed children)
 
 pub opened_deepest : (before now : List OpenVisit) (t : Tree) (size : ℕ) → Opened before now t size
-    → deepest_to_come (reverse now) ≡ max (suc (length (reverse before)) + depth_in (children_of t)) (deepest_to_come (reverse before))
-opened_deepest before now t size o =
-    ap deepest_to_come (opened_top before now t size o)
-    ∙ ap (λ ks. max (suc (length (reverse before)) + depth_in ks) (deepest_to_come (reverse before))) (opened_kids before now t size o)
+    → max (suc (length (reverse before))) (deepest_to_come (reverse now)) ≡ max (suc (length (reverse before)) + depth_in (children_of t)) (deepest_to_come (reverse before))
+opened_deepest before now t size (inl o) =
+    let top : deepest_to_come (reverse now) ≡ max (suc (length (reverse before)) + depth_in (children_of t)) (deepest_to_come (reverse before)) =
+    ap deepest_to_come (top_is before now t size o)
+    ∙ ap (λ ks. max (suc (length (reverse before)) + depth_in ks) (deepest_to_come (reverse before))) (top_kids before now t size o) in
+    omega (arith, top)
+opened_deepest before now t size (inr h) =
+    let same : deepest_to_come (reverse now) ≡ deepest_to_come (reverse before) = ap (λ (l : List OpenVisit). deepest_to_come (reverse l)) h.0 in
+    let none : depth_in (children_of t) ≡ 0 = ap depth_in h.1 in
+    omega (arith, same, none)
 
 -- a node with a child that isn't done
 pub child_deepest : (deepest size : ℕ) (top : OpenVisit) (before now : List OpenVisit) (k : ℕ × Tree) → slice_get (children_of (entered_tree top.inside)) top.done ≡ Some k

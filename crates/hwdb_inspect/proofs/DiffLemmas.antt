@@ -1,15 +1,16 @@
 -- Lines of changes, one after another.
-use Rattle.std.proofs.Common.{◌≡◌, ◌∙◌, ℕ, ap, sym, refl, List, [], ◌∷◌, ◌++◌, Bool, true, false, ◌||◌, append_assoc}
+use Rattle.std.proofs.Common.{◌≡◌, ◌∙◌, ap, sym, refl, List, [], ◌∷◌, ◌++◌, Bool, true, false, ◌||◌, append_assoc}
 use Rattle.std.proofs.lemmas.Grind.{flat_map-append}
-use Rattle.hwdb_spec.specs.Differences.{Change, change_text, changes_text, are_some}
+use Rattle.std.specs.Prelude.{flat_map}
+use Rattle.hwdb_spec.specs.Differences.{Change, are_some}
 
-texts_of : (all changes more : List Change) → all ≡ changes ++ more → changes_text all ≡ changes_text changes ++ changes_text more
-texts_of all changes more is = ap (λ cs. changes_text cs) is ∙ flat_map-append change_text changes more
+parts_of : {X : Type 0} (f : Change → List X) (all changes more : List Change) → all ≡ changes ++ more → flat_map f all ≡ flat_map f changes ++ flat_map f more
+parts_of f all changes more is = ap (λ cs. flat_map f cs) is ∙ flat_map-append f changes more
 
--- the text so far, the next changes and those after them
-pub joined : (text next : List ℕ) (all changes more : List Change) → all ≡ changes ++ more → next ≡ text ++ changes_text changes → next ++ changes_text more ≡ text ++ changes_text all
-joined text next all changes more is n =
-    ap (λ l. l ++ changes_text more) n ∙ append_assoc text (changes_text changes) (changes_text more) ∙ ap (λ l. text ++ l) (sym (texts_of all changes more is))
+-- what was written so far, the next changes and those after them
+pub joined : {X : Type 0} (f : Change → List X) (text next : List X) (all changes more : List Change) → all ≡ changes ++ more → next ≡ text ++ flat_map f changes → next ++ flat_map f more ≡ text ++ flat_map f all
+joined f text next all changes more is n =
+    ap (λ l. l ++ flat_map f more) n ∙ append_assoc text (flat_map f changes) (flat_map f more) ∙ ap (λ l. text ++ l) (sym (parts_of f all changes more is))
 
 some_append : (xs ys : List Change) → are_some (xs ++ ys) ≡ (are_some xs || are_some ys)
 some_append [] ys = refl

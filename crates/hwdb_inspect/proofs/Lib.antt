@@ -12,3 +12,5 @@ pub mod ReadLemmas
 pub mod PlacedLemmas
 pub mod StateLemmas
 pub mod ToldLemmas
+pub mod ChangeLemmas
+pub mod GiftLemmas

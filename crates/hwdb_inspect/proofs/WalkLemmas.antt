@@ -1,42 +1,66 @@
 -- The stack of a walk, and what its steps do to it.
-use Rattle.std.proofs.Common.{◌≡◌, ◌∙◌, ap, sym, subst, ℕ, suc, ◌+◌, ◌≤◌, ◌<◌, List, [], ◌∷◌, ◌++◌, take, drop, reverse, length, arith, append_assoc, add-one, Some, slice_get}
+use Rattle.std.proofs.Common.{◌≡◌, ◌∙◌, ap, refl, sym, subst, ℕ, suc, ◌+◌, ◌≤◌, ◌<◌, List, [], ◌∷◌, ◌++◌, take, drop, reverse, length, arith, append_assoc, add-one, Some, slice_get, inl, inr}
 use Rattle.std.proofs.lemmas.List.{length-take-le, length-append}
 use Rattle.std.proofs.Math.Seq.{take-length}
 use Rattle.hwdb_spec.specs.Tree.{Tree, prefix_of, values_of, members_under}
 use Rattle.hwdb_reader.specs.Views.{children_of, entered_tree, node_count}
 use Rattle.hwdb_query.specs.Internal.Members.{members_in, own_members}
-use Rattle.hwdb_inspect.specs.Internal.Walks.{kids_of, to_come, StandsOn, left, steps, Opened}
+use Rattle.hwdb_inspect.specs.Internal.Walks.{kids_of, to_come, StandsOn, left, steps, OnTop, Opened}
 use Rattle.hwdb_inspect.specs.declared.walk.OpenVisit.{OpenVisit}
 use Rattle.hwdb_query.specs.Lemmas.Parts.{kid_behind, kid_next, members_split, node_and_below}
 use Rattle.hwdb_query.specs.Internal.Live.{nodes_in}
 use Rattle.hwdb_query.specs.Lemmas.Stacks.{on_top, take_front}
 
--- the children of a node that was put on top
-pub opened_kids : (before now : List OpenVisit) (t : Tree) (size : ℕ) (o : Opened before now t size) → kids_of o.top ≡ children_of t
-opened_kids before now t size o = ap (λ n. drop n (children_of (entered_tree o.top.inside))) o.none_done ∙ ap children_of o.tree
+pub no_kids : (kids : List (ℕ × Tree)) → length kids ≡ 0 → kids ≡ []
+no_kids [] h = refl
+no_kids (k ∷ kids) h = absurd (omega (arith, h))
 
-pub opened_top : (before now : List OpenVisit) (t : Tree) (size : ℕ) (o : Opened before now t size) → reverse now ≡ o.top ∷ reverse before
-opened_top before now t size o = ap reverse o.stands ∙ on_top before o.top
+-- ---- a node that was put on top
+
+pub top_kids : (before now : List OpenVisit) (t : Tree) (size : ℕ) (o : OnTop before now t size) → kids_of o.top ≡ children_of t
+top_kids before now t size o = ap (λ n. drop n (children_of (entered_tree o.top.inside))) o.none_done ∙ ap children_of o.tree
+
+pub top_is : (before now : List OpenVisit) (t : Tree) (size : ℕ) (o : OnTop before now t size) → reverse now ≡ o.top ∷ reverse before
+top_is before now t size o = ap reverse o.stands ∙ on_top before o.top
+
+-- ---- a node that was entered
+
+pub opened_size : (before now : List OpenVisit) (t : Tree) (size : ℕ) → Opened before now t size → length now ≤ length before + 1
+opened_size before now t size (inl o) = let longer : length now ≡ length before + 1 = ap length o.stands ∙ length-append before (o.top ∷ []) in omega (arith, longer)
+opened_size before now t size (inr h) = let same : length now ≡ length before = ap length h.0 in omega (arith, same)
 
 pub opened_comes : (before now : List OpenVisit) (t : Tree) (path : List ℕ) → Opened before now t (length path) → to_come path (reverse now) ≡ members_in path (children_of t) ++ to_come path (reverse before)
-opened_comes before now t path o =
-    ap (to_come path) (opened_top before now t (length path) o)
+opened_comes before now t path (inl o) =
+    ap (to_come path) (top_is before now t (length path) o)
     ∙ ap (λ n. members_in (take n path) (kids_of o.top) ++ to_come (take n path) (reverse before)) o.reach
     ∙ ap (λ p. members_in p (kids_of o.top) ++ to_come p (reverse before)) (take-length path)
-    ∙ ap (λ ks. members_in path ks ++ to_come path (reverse before)) (opened_kids before now t (length path) o)
+    ∙ ap (λ ks. members_in path ks ++ to_come path (reverse before)) (top_kids before now t (length path) o)
+opened_comes before now t path (inr h) =
+    ap (λ l. to_come path (reverse l)) h.0 ∙ ap (λ ks. members_in path ks ++ to_come path (reverse before)) (sym h.1)
 
 pub opened_stands : (before now : List OpenVisit) (t : Tree) (path : List ℕ) → Opened before now t (length path) → StandsOn path (reverse before) → StandsOn path (reverse now)
-opened_stands before now t path o stands =
+opened_stands before now t path (inl o) stands =
     let reach = o.reach in
     let done = o.none_done in
     let same : path ≡ take o.top.length path = sym (ap (λ n. take n path) o.reach ∙ take-length path) in
-    subst (StandsOn path) (sym (opened_top before now t (length path) o)) (omega (arith, reach), omega (arith, done), subst (λ p. StandsOn p (reverse before)) same stands)
+    subst (StandsOn path) (sym (top_is before now t (length path) o)) (omega (arith, reach), omega (arith, done), subst (λ p. StandsOn p (reverse before)) same stands)
+opened_stands before now t path (inr h) stands = subst (λ l. StandsOn path (reverse l)) (sym h.0) stands
 
 pub opened_left : (before now : List OpenVisit) (t : Tree) (size : ℕ) → Opened before now t size → left (reverse now) ≡ nodes_in (children_of t) + left (reverse before)
-opened_left before now t size o = ap left (opened_top before now t size o) ∙ ap (λ ks. nodes_in ks + left (reverse before)) (opened_kids before now t size o)
+opened_left before now t size (inl o) = ap left (top_is before now t size o) ∙ ap (λ ks. nodes_in ks + left (reverse before)) (top_kids before now t size o)
+opened_left before now t size (inr h) =
+    let same : left (reverse now) ≡ left (reverse before) = ap (λ (l : List OpenVisit). left (reverse l)) h.0 in
+    let none : nodes_in (children_of t) ≡ 0 = ap nodes_in h.1 in
+    omega (arith, same, none)
 
-pub opened_steps : (before now : List OpenVisit) (t : Tree) (size : ℕ) → Opened before now t size → steps (reverse now) ≡ suc (nodes_in (children_of t) + nodes_in (children_of t)) + steps (reverse before)
-opened_steps before now t size o = ap steps (opened_top before now t size o) ∙ ap (λ ks. suc (nodes_in ks + nodes_in ks) + steps (reverse before)) (opened_kids before now t size o)
+pub opened_steps : (before now : List OpenVisit) (t : Tree) (size : ℕ) → Opened before now t size → steps (reverse now) ≤ suc (nodes_in (children_of t) + nodes_in (children_of t)) + steps (reverse before)
+opened_steps before now t size (inl o) =
+    let all : steps (reverse now) ≡ suc (nodes_in (children_of t) + nodes_in (children_of t)) + steps (reverse before) =
+    ap steps (top_is before now t size o) ∙ ap (λ ks. suc (nodes_in ks + nodes_in ks) + steps (reverse before)) (top_kids before now t size o) in
+    omega (arith, all)
+opened_steps before now t size (inr h) =
+    let same : steps (reverse now) ≡ steps (reverse before) = ap (λ (l : List OpenVisit). steps (reverse l)) h.0 in
+    omega (arith, same)
 
 -- ---- a node whose children are done
 

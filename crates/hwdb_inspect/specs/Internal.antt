@@ -3,3 +3,4 @@ pub mod Walks
 pub mod Merging
 pub mod Pairing
 pub mod Counting
+pub mod Forms

@@ -2,7 +2,7 @@
 use Rattle.std.specs.Prelude.{List, [], map, option_map, ◌∷◌}
 use Rattle.hwdb_spec.specs.Assignment.{Assignment}
 use Rattle.hwdb_spec.specs.Differences.{Change, change_between}
-use Rattle.hwdb_spec.specs.Differences.Change.{Came, Went}
+use Rattle.hwdb_spec.specs.Differences.Change.{Came, Went, Changed}
 use Rattle.hwdb_spec.specs.Summary.{Summary}
 use Rattle.hwdb_query.specs.Views.{assignment_of_answer}
 use Rattle.hwdb_query.specs.declared.answer.StoredAssignment.{StoredAssignment}
@@ -22,6 +22,12 @@ abbrev pub changes_of : Pair → List Change
 changes_of (Old old) = Went (assignment_of old.now) ∷ []
 changes_of (New new) = Came (assignment_of new.now) ∷ []
 changes_of (Both old new) = change_between (assignment_of old.now) (assignment_of new.now)
+
+-- the change that two such assignments are
+abbrev pub change_shown : Pair → Change
+change_shown (Old old) = Went (assignment_of old.now)
+change_shown (New new) = Came (assignment_of new.now)
+change_shown (Both old new) = Changed (assignment_of old.now) (assignment_of new.now)
 
 abbrev pub summary_shown : Counts → Summary
 summary_shown c = record {

@@ -11,6 +11,7 @@ ghost use Rattle.hwdb_inspect.specs.Internal.Pairing.{to_tell};
 
 use crate::lines::push_pair;
 use crate::pairs::{Pair, Pairs};
+use crate::texts::is_same;
 use crate::walk::assignments;
 use hwdb_reader::{Db, check, law_ascending, law_one_tree};
 use std::alloc::{AllocError, Global};
@@ -115,13 +116,6 @@ fn state_of_others(alloc: Global, bytes: &[u8], made: &[u8]) -> Result<State, Al
         Ok(old) => changes_to(alloc, &old, made),
         Err(_) => Ok(State::Broken),
     }
-}
-
-/// Whether two texts are one.
-fn is_same(one: &[u8], other: &[u8]) -> bool
-    ensures { result ≡ same one.now other.now }
-{
-    one.cmp(other).is_eq()
 }
 
 /// The state of some bytes beside those that were made.

@@ -1,5 +1,7 @@
 //! Laws of databases. Each function holds no code: its contract is a law of the definitions of `hwdb_spec`.
-ghost use Rattle.hwdb_inspect.specs.Laws.{MembersAreTheMap, DumpSays, DumpTells};
+ghost use Rattle.hwdb_inspect.specs.Laws.{MembersAreTheMap, DumpSays, DumpTells, GiftsAreEffective};
+
+use hwdb_query::explained_are_effective;
 
 /// All that a tree assigns, in the order of its nodes and values, is the tree's map, by pattern and key.
 pub fn members_are_the_map()
@@ -15,3 +17,10 @@ pub fn dump_says()
 pub fn dump_tells()
     ensures { DumpTells }
 {}
+
+/// What a database gives a device, as `diff` of devices compares it, is by key what `query` tells the device.
+pub fn gifts_are_effective()
+    ensures { GiftsAreEffective }
+{
+    explained_are_effective();
+}

@@ -7,11 +7,13 @@
 //! | Module | What it does |
 //! |---|---|
 //! | `pairs` | two ascending lists of assignments, gone through side by side |
-//! | `lines` | the lines of changes |
+//! | `lines` | the lines of changes; `device_lines`: those of a device; `json_changes`: both as JSON |
+//! | `gifts` | what a database gives a device |
 //! | `listing` | `dump`: a database as text |
 //! | `records` | the records of a dump, and what a record says |
-//! | `difference` | `diff`: what changed from one database to another |
+//! | `difference` | `diff`: what changed from one database to another, of all or for devices |
 //! | `summary` | how much is in a database |
+//! | `texts` | whether texts are one |
 //! | `freshness` | `status`: how a database is beside what the text files make |
 //! | `reports` | the lines of `status`; `json_reports`: the same as JSON |
 //! | `verification` | `verify`: whether bytes are a database, and how much is in it |
@@ -19,8 +21,11 @@
 //! | `laws` | laws of the map of a database, and of its dump |
 #![tactic(auto)]
 
+mod device_lines;
 mod difference;
 mod freshness;
+mod gifts;
+mod json_changes;
 mod json_reports;
 mod laws;
 mod lines;
@@ -29,13 +34,14 @@ mod pairs;
 mod records;
 mod reports;
 mod summary;
+mod texts;
 mod verification;
 mod walk;
 
-pub use difference::{Changes, diff};
+pub use difference::{Changes, diff, diff_devices};
 pub use freshness::{State, state_of};
 pub use hwdb_spec::{DiffError, DumpError, VerifyError};
-pub use laws::{dump_says, dump_tells, members_are_the_map};
+pub use laws::{dump_says, dump_tells, gifts_are_effective, members_are_the_map};
 pub use listing::dump;
 pub use reports::{Report, report_in};
 pub use verification::verify;

@@ -11,7 +11,7 @@ use std::alloc::AllocError;
 use std::cmp::Ordering;
 
 /// Adds `KEY=VALUE`, a tab, and where it comes from.
-fn push_origin(text: &mut Vec<u8>, f: &StoredAssignment<'_>) -> Result<(), AllocError>
+pub(crate) fn push_origin(text: &mut Vec<u8>, f: &StoredAssignment<'_>) -> Result<(), AllocError>
     ensures { OnOk result (text.new.items ≡ text.old.items ++ origin_text (assignment_of f.now)) }
 {
     let mut number = Buffer::new();

@@ -1,6 +1,7 @@
 //! Two ascending lists of assignments, gone through side by side.
 ghost use Rattle.std.specs.Prelude.{◌≡◌, ◌<◌, ◌+◌, ◌++◌, ◌∷◌, [], map, drop, length, IfSome, IfNone, OnSome};
-ghost use Rattle.hwdb_inspect.specs.Views.{assignment_of, changes_of};
+ghost use Rattle.hwdb_spec.specs.Differences.{change_between};
+ghost use Rattle.hwdb_inspect.specs.Views.{assignment_of, change_shown, changes_of};
 ghost use Rattle.hwdb_inspect.specs.Internal.Merging.{by_place, merged};
 ghost use Rattle.hwdb_inspect.specs.Internal.Pairing.{to_tell, size};
 
@@ -36,6 +37,33 @@ pub(crate) fn by_place(x: &StoredAssignment<'_>, y: &StoredAssignment<'_>) -> Or
     match x.pattern.as_slice().cmp(y.pattern.as_slice()) {
         Ordering::Equal => x.key.cmp(y.key),
         other => other,
+    }
+}
+
+/// Both, if their values differ.
+fn both<'r, 'a>(
+    old: &'r StoredAssignment<'a>,
+    new: &'r StoredAssignment<'a>,
+) -> Option<Pair<'r, 'a>>
+    ensures some { IfSome result (λ change. change_between (assignment_of old.now)
+        (assignment_of new.now) ≡ change_shown change ∷ []) }
+    ensures none { IfNone result
+        (change_between (assignment_of old.now) (assignment_of new.now) ≡ []) }
+{
+    match old.value.cmp(new.value) {
+        Ordering::Equal => None,
+        _ => Some(Pair::Both(old, new)),
+    }
+}
+
+/// What happened at a pattern and key, if something did: an old one and a new one have two values.
+pub(crate) fn change_in<'r, 'a>(pair: Pair<'r, 'a>) -> Option<Pair<'r, 'a>>
+    ensures some { IfSome result (λ change. changes_of pair.entry ≡ change_shown change ∷ []) }
+    ensures none { IfNone result (changes_of pair.entry ≡ []) }
+{
+    match pair {
+        Pair::Both(old, new) => both(old, new),
+        change => Some(change),
     }
 }
 

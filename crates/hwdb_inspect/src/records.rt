@@ -7,6 +7,7 @@ ghost use Rattle.hwdb_spec.specs.Lines.{is_none};
 ghost use Rattle.hwdb_text.specs.Views.{given_in};
 ghost use Rattle.hwdb_inspect.specs.Views.{assignment_of};
 
+use crate::texts::is_same;
 use hwdb_query::StoredAssignment;
 use hwdb_text::{Given, ScanError, Scanned, scan};
 use itoa::Buffer;
@@ -44,9 +45,7 @@ fn gives(given: &Given<'_>, f: &StoredAssignment<'_>) -> bool
     ensures { result ≡ Dump.is_alone (assignment_of f.now)
         (given_in (Dump.origin_of (assignment_of f.now)) given.now ∷ []) }
 {
-    given.pattern.cmp(f.pattern.as_slice()).is_eq()
-        && given.key.cmp(f.key).is_eq()
-        && given.value.cmp(f.value).is_eq()
+    is_same(given.pattern, &f.pattern) && is_same(given.key, f.key) && is_same(given.value, f.value)
 }
 
 /// Whether a file without faults gives a pattern, a key and a value, and nothing else.

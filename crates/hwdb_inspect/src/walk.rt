@@ -42,6 +42,9 @@ struct Walk<'a> {
     deepest: usize,
 }
 
+/// Room on the stack for the node that is entered.
+const NODE: usize = 1;
+
 /// What a walk over a whole database found.
 #[derive(Drop)]
 pub(crate) struct WalkedDatabase<'a> {
@@ -68,7 +71,8 @@ impl<'a> Walk<'a> {
         }
     }
 
-    /// Enters a node, and takes what its values assign. The walk's path is the node's without its prefix.
+    /// Enters a node, and takes what its values assign. The walk's path is the node's without its prefix. Puts the node on
+    /// the stack if it has children, as few nodes do.
     fn enter(&mut self, alloc: Global, node: Node<'a>) -> Result<(), AllocError>
         requires { self.old.entered + 1 < 2 ^ 64 }
         ensures path { OnOk result
@@ -87,13 +91,17 @@ impl<'a> Walk<'a> {
         self.path.extend_from_slice(node.prefix())?;
         let inside = node.enter(&mut self.entered);
         push_answers(alloc, inside, &self.path, &mut self.found)?;
+        self.stack.reserve(NODE)?;
+        self.deepest = self.deepest.max(self.stack.len() + 1);
+        if inside.children() == 0 {
+            return Ok(());
+        }
         let length = self.path.len();
         self.stack.push(OpenVisit {
             inside,
             done: 0,
             length,
         })?;
-        self.deepest = self.deepest.max(self.stack.len());
         Ok(())
     }
 

@@ -9,7 +9,7 @@ use Rattle.hwdb_spec.specs.Jobs.{IsJobOf, IsTask, has_flag}
 use Rattle.hwdb_spec.specs.CommandLine.{hwdb_app}
 use Rattle.hwdb_spec.specs.declared.job.Job.{Job}
 use Rattle.hwdb_spec.specs.declared.job.Task.{Task}
-use Rattle.hwdb_spec.specs.declared.job.Task.TheVariants.{Update}
+use Rattle.hwdb_spec.specs.declared.job.Task.TheVariants.{Status, Update}
 use Rattle.hwdb_query.specs.Laws.{AllCompiledAnswersAreLast, LastAssignmentsAreLast}
 use Rattle.hwdb_spec.specs.Answers.{effective_of, last_assignments}
 use Rattle.hwdb_spec.specs.Assignment.{Assignment}
@@ -26,12 +26,18 @@ use Rattle.hwdb_tool.specs.Crash.{AnswersFrom, CrashThenQuery, CrashThenQueryOfA
 use Rattle.hwdb_tool.proofs.JobLemmas.{one_root}
 use Rattle.hwdb_tool.proofs.OutcomeLemmas.{one_held}
 
--- what can't be read is left out by the command and its flag
+-- what can't be read is left out by the command and its flags
+abbrev by_flags : (check : Bool) → List Row → Bool
+by_flags true inner = false
+by_flags false inner = has_flag (codes "skip-unreadable") inner
+
 abbrev by_name : Text → List Row → Bool
-by_name name inner = if bytes_eq name (codes "update") then has_flag (codes "skip-unreadable") inner else false
+by_name name inner = if bytes_eq name (codes "update") then by_flags (has_flag (codes "check") inner) inner else false
 
 skips_by_name : (name : Text) (inner : List Row) (t : Task) → IsTask name inner t → skips t ≡ by_name name inner
-skips_by_name name inner (Update verbose skip) t = t.2 ∙ ap (λ (n : Text). by_name n inner) (sym t.0)
+skips_by_name name inner (Update verbose skip) t = t.3 ∙ ap (λ (b : Bool). by_flags b inner) (sym t.1) ∙ ap (λ (n : Text). by_name n inner) (sym t.0)
+skips_by_name name inner (Status json true) t = ap (λ (b : Bool). by_flags b inner) (sym t.1) ∙ ap (λ (n : Text). by_name n inner) (sym t.0)
+skips_by_name name inner (Status json false) t = ap (λ (n : Text). by_name n inner) (sym t.0)
 skips_by_name name inner task t = ap (λ (n : Text). by_name n inner) (sym t.0)
 
 -- words ask for one root and one folder, and one thing about what can't be read

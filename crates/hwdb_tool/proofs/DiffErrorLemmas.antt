@@ -1,11 +1,12 @@
 -- Errors over the bytes of two databases: each comes alone.
-use Rattle.std.proofs.Common.{◌≡◌, ◌≤◌, ◌⊎◌, inl, inr, ⊎_elim, sym, subst, refl, ℕ, List, length, Some}
+use Rattle.std.proofs.Common.{◌≡◌, ◌≤◌, ◌⊎◌, inl, inr, ⊎_elim, sym, subst, refl, Bool, ℕ, List, length, Some}
 use Rattle.hwdb_spec.specs.Asked.{AreHeld, IsCompared}
 use Rattle.hwdb_spec.specs.Databases.{IsNewRefused, IsNoDatabase}
 use Rattle.hwdb_spec.specs.Format.{IsDatabase}
 use Rattle.hwdb_spec.specs.Store.{Contents}
 use Rattle.hwdb_spec.specs.System.{bytes_at}
 use Rattle.hwdb_spec.specs.Texts.{max_file}
+use Rattle.hwdb_spec.specs.Tree.{Tree}
 use Rattle.hwdb_spec.specs.declared.DbFault.{DbFault}
 use Rattle.hwdb_spec.specs.DiffErrors.{IsDiffRefusal}
 use Rattle.hwdb_spec.specs.declared.errors.DiffError.{DiffError}
@@ -13,7 +14,7 @@ use Rattle.hwdb_spec.specs.declared.errors.DiffError.TheVariants as differing
 use Rattle.hwdb_spec.specs.declared.errors.ToolError.TheVariants.{BadDatabase, Read, TooLong}
 use Rattle.hwdb_spec.specs.Refusals.{HasReason, IsOver, IsUnreadable}
 use Rattle.hwdb_spec.specs.declared.refusals.Refusal.{Refusal}
-use Rattle.hwdb_spec.specs.ComparedDatabases.{IsDiffRefused, IsNotCompared, IsOfDiff, WasRead}
+use Rattle.hwdb_spec.specs.ComparedDatabases.{IsNotCompared, IsOfDiff, IsPairRefused, WasRead}
 use Rattle.hwdb_tool.specs.OneRefusal.{IsOfWhatIsRead, IsOneError}
 use Rattle.hwdb_tool.proofs.DatabaseErrorLemmas.{OneHeader, is_over, one_fault}
 use Rattle.hwdb_tool.proofs.RefusalLemmas.{IsLongAt, IsMissingAt, no_none, not_both, one_inside, over_over, unread_given}
@@ -44,8 +45,8 @@ pub record IsFaultyPair (old_path new_path : List ℕ) (files : Contents) (r : R
   pub held : AreHeld old_path new_path files old new
   pub fault : IsFaultOf old_path new_path old new r
 
-abbrev pub Undiffed : (old_path new_path : List ℕ) → Contents → Refusal → Type 0
-Undiffed old_path new_path files r =
+abbrev pub Unpaired : (old_path new_path : List ℕ) → Contents → Refusal → Type 0
+Unpaired old_path new_path files r =
     IsUnreadOne files old_path r ⊎ ((WasRead old_path files × IsUnreadOne files new_path r) ⊎ IsFaultyPair old_path new_path files r)
 
 module _ (header : OneHeader) (old_path new_path : List ℕ) (files : Contents) where
@@ -58,10 +59,10 @@ module _ (header : OneHeader) (old_path new_path : List ℕ) (files : Contents) 
         by (differing.New fault) is refused = inr (fault, refused, is_over (BadDatabase fault) new_path r is of)
         by differing.Memory is refused = absurd (subst IsOfWhatIsRead is of)
 
-    pub undiffed : IsDiffRefused old_path new_path files r → HasReason (IsUnreadable fails files) U files r → Undiffed old_path new_path files r
-    undiffed (inl old) reason = inl (unread_given fails U files old_path never_old r old reason of)
-    undiffed (inr (inl new)) reason = inr (inl (new.0, unread_given fails U files new_path never_new r new.1 reason of))
-    undiffed (inr (inr not)) reason = inr (inr (not_compared not))
+    pub unpaired : IsPairRefused old_path new_path files r → HasReason (IsUnreadable fails files) U files r → Unpaired old_path new_path files r
+    unpaired (inl old) reason = inl (unread_given fails U files old_path never_old r old reason of)
+    unpaired (inr (inl new)) reason = inr (inl (new.0, unread_given fails U files new_path never_new r new.1 reason of))
+    unpaired (inr (inr not)) reason = inr (inr (not_compared not))
 
   one_held_pair : (r r2 : Refusal) (one : IsFaultyPair old_path new_path files r) (two : IsFaultyPair old_path new_path files r2) → (one.old ≡ two.old) × (one.new ≡ two.new)
   one_held_pair r r2 one two =
@@ -84,22 +85,23 @@ module _ (header : OneHeader) (old_path new_path : List ℕ) (files : Contents) 
   pair_new : (r r2 : Refusal) → IsFaultyPair old_path new_path files r → IsUnreadOne files new_path r2 → ⊥
   pair_new r r2 pair unread = held_or_unread files new_path pair.new r2 pair.held.of_new pair.held.new_within unread
 
-  pub diff_diff : (r r2 : Refusal) → Undiffed old_path new_path files r → Undiffed old_path new_path files r2 → IsOneError r r2
-  diff_diff r r2 (inl one) (inl two) = unread_one files old_path r r2 one two
-  diff_diff r r2 (inl one) (inr (inl two)) = absurd (old_read r two.0 one)
-  diff_diff r r2 (inl one) (inr (inr two)) = absurd (pair_old r2 r two one)
-  diff_diff r r2 (inr (inl one)) (inl two) = absurd (old_read r2 one.0 two)
-  diff_diff r r2 (inr (inr one)) (inl two) = absurd (pair_old r r2 one two)
-  diff_diff r r2 (inr (inl one)) (inr (inl two)) = unread_one files new_path r r2 one.1 two.1
-  diff_diff r r2 (inr (inl one)) (inr (inr two)) = absurd (pair_new r2 r two one.1)
-  diff_diff r r2 (inr (inr one)) (inr (inl two)) = absurd (pair_new r r2 one two.1)
-  diff_diff r r2 (inr (inr one)) (inr (inr two)) =
+  pub pair_pair : (r r2 : Refusal) → Unpaired old_path new_path files r → Unpaired old_path new_path files r2 → IsOneError r r2
+  pair_pair r r2 (inl one) (inl two) = unread_one files old_path r r2 one two
+  pair_pair r r2 (inl one) (inr (inl two)) = absurd (old_read r two.0 one)
+  pair_pair r r2 (inl one) (inr (inr two)) = absurd (pair_old r2 r two one)
+  pair_pair r r2 (inr (inl one)) (inl two) = absurd (old_read r2 one.0 two)
+  pair_pair r r2 (inr (inr one)) (inl two) = absurd (pair_old r r2 one two)
+  pair_pair r r2 (inr (inl one)) (inr (inl two)) = unread_one files new_path r r2 one.1 two.1
+  pair_pair r r2 (inr (inl one)) (inr (inr two)) = absurd (pair_new r2 r two one.1)
+  pair_pair r r2 (inr (inr one)) (inr (inl two)) = absurd (pair_new r r2 one two.1)
+  pair_pair r r2 (inr (inr one)) (inr (inr two)) =
       let same = one_held_pair r r2 one two in fault_fault r r2 one.old two.old one.new two.new same.0 same.1 one.fault two.fault
 
-  pub diff_done : (text : List ℕ) (status : ℕ) (r : Refusal) → IsCompared old_path new_path files text status → Undiffed old_path new_path files r → ⊥
-  diff_done text status r done (inl unread) = held_or_unread files old_path done.old r done.held.of_old done.held.old_within unread
-  diff_done text status r done (inr (inl unread)) = held_or_unread files new_path done.new r done.held.of_new done.held.new_within unread.1
-  diff_done text status r done (inr (inr pair)) =
+  pub pair_done : (of : (old new : Tree) → List ℕ) (differ : (old new : Tree) → Bool) (text : List ℕ) (status : ℕ) (r : Refusal) → IsCompared of differ old_path new_path files text status
+      → Unpaired old_path new_path files r → ⊥
+  pair_done of differ text status r done (inl unread) = held_or_unread files old_path done.old r done.held.of_old done.held.old_within unread
+  pair_done of differ text status r done (inr (inl unread)) = held_or_unread files new_path done.new r done.held.of_new done.held.new_within unread.1
+  pair_done of differ text status r done (inr (inr pair)) =
       let olds = one_inside (bytes_at files old_path) done.old pair.old done.held.of_old pair.held.of_old in
       let news = one_inside (bytes_at files new_path) done.new pair.new done.held.of_new pair.held.of_new in
       ⊎_elim (λ old. old.1.no_tree done.is.old_tree (subst (λ b. IsDatabase b done.is.old_tree) olds done.is.old_database))

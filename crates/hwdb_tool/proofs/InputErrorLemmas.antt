@@ -3,7 +3,7 @@ use Rattle.std.proofs.Common.{◌≡◌, ◌<◌, ◌⊎◌, ◌∙◌, ⊎_elim
 use Rattle.std.proofs.lemmas.List.{reverse-append}
 use Rattle.std.proofs.lemmas.List.Elements.{Contains-append_right}
 use Rattle.std.specs.Prelude.{Contains, codes, option_map}
-use Rattle.hwdb_spec.specs.declared.job.Task.TheVariants.{Ask, Check, Explain, Near, Query, Test}
+use Rattle.hwdb_spec.specs.declared.job.Task.TheVariants.{Ask, Check, Diff, Explain, Near, Query, Test}
 use Rattle.hwdb_spec.specs.Asked.{IsAskedPath}
 use Rattle.hwdb_spec.specs.CheckedFiles.{StandFor, folder_of}
 use Rattle.hwdb_spec.specs.Failures.{HasFailed}
@@ -14,6 +14,9 @@ use Rattle.hwdb_spec.specs.Store.{Contents, Outcomes, database_name, path_in}
 use Rattle.hwdb_spec.specs.System.{database_folder}
 use Rattle.hwdb_spec.specs.Texts.{max_file}
 use Rattle.hwdb_spec.specs.declared.DbFault.{DbFault}
+use Rattle.hwdb_spec.specs.ComparedDatabases.{HasDiffReason, IsOfDiff, IsPairRefused}
+use Rattle.hwdb_spec.specs.declared.errors.DiffError.{DiffError}
+use Rattle.hwdb_spec.specs.declared.errors.DiffError.TheVariants as differing
 use Rattle.hwdb_spec.specs.declared.errors.ToolError.{ToolError}
 use Rattle.hwdb_spec.specs.declared.errors.ToolError.TheVariants.{Read, Write, TooLong, TooManyFiles, TooManyLines, TooLarge, BadPosition, BadDatabase, Replace, Memory}
 use Rattle.hwdb_spec.specs.Refusals.{IsAt, IsOfDatabase, IsOver, IsUnreadAt}
@@ -21,7 +24,7 @@ use Rattle.hwdb_spec.specs.declared.refusals.Refusal.{Refusal}
 use Rattle.hwdb_spec.specs.declared.refusals.Refusal.TheVariants.{At, InWords, NoDatabase, Plain}
 use Rattle.hwdb_spec.specs.CheckedReasons.{HasCheckedReason, HasNamedReason}
 use Rattle.hwdb_spec.specs.GivenFolders.{AreFoldersUnread, IsFolderUnread, IsUnlistedFolder}
-use Rattle.hwdb_tool.specs.OneRefusal.{InputIsLong, InputIsRead, IsInNamed, LineIsLong}
+use Rattle.hwdb_tool.specs.OneRefusal.{InputIsLong, InputIsRead, IsInNamed, IsOfDiffed, LineIsLong}
 use Rattle.hwdb_spec.specs.NamedDatabases.{IsUnnamed}
 use Rattle.hwdb_spec.specs.TestErrors.{AreUntried, HasTestReason}
 use Rattle.hwdb_spec.specs.Undone.{IsUnfound}
@@ -220,6 +223,12 @@ module _ (files : Contents) (e : ToolError) (words : List ℕ) where
   unread_path p NoDatabase unread over = absurd over
   unread_path p (InWords text) unread over = absurd over
 
+  faulty_path : IsUnreadKind e → (fault : DbFault) (p : List ℕ) (r : Refusal) → IsAt (BadDatabase fault) p r → IsOver e words r → ⊥
+  faulty_path kind fault p (At x at cause) is over = no_fault_kind e fault kind (sym over.0 ∙ is.0)
+  faulty_path kind fault p (Plain x) is over = absurd over
+  faulty_path kind fault p NoDatabase is over = absurd over
+  faulty_path kind fault p (InWords text) is over = absurd over
+
   module _ (root : List ℕ) where
     unfound_path : (r : Refusal) → IsUnfound root files r → IsOver e words r → (p : List ℕ) × IsAskedPath root files p × (p ≡ words)
     unfound_path (At x at cause) unfound over = (unfound.0, unfound.1, unread_path unfound.0 (At x at cause) unfound.2 over)
@@ -232,14 +241,8 @@ module _ (files : Contents) (e : ToolError) (words : List ℕ) where
       unnamed_path None r unfound over = let found = unfound_path r unfound over in absurd (other found.0 found.1 found.2)
       unnamed_path (Some p) r unread over = ap (λ (q : List ℕ). Some q) (unread_path p r unread over)
 
-      faulty_path : (fault : DbFault) (p : List ℕ) (r : Refusal) → IsAt (BadDatabase fault) p r → IsOver e words r → ⊥
-      faulty_path fault p (At x at cause) is over = no_fault_kind e fault kind (sym over.0 ∙ is.0)
-      faulty_path fault p (Plain x) is over = absurd over
-      faulty_path fault p NoDatabase is over = absurd over
-      faulty_path fault p (InWords text) is over = absurd over
-
       trial_path : (x : ToolError) (p : List ℕ) (r : Refusal) → IsOfDatabase x p r → IsOver e words r → ⊥
-      trial_path (BadDatabase fault) p r is over = faulty_path fault p r is over
+      trial_path (BadDatabase fault) p r is over = faulty_path kind fault p r is over
       trial_path Read p r is over = over_plain e Read words r is over
       trial_path Write p r is over = over_plain e Write words r is over
       trial_path TooLong p r is over = over_plain e TooLong words r is over
@@ -268,6 +271,30 @@ module _ (given : List (List ℕ)) (path : Option (List ℕ)) (root : List ℕ) 
   tested_long r over (inr (inl file)) = ⊎_elim (λ long. inl long) (λ among. inr (inl among)) (paths_long fails files input n m given r over file.1)
   tested_long r over (inr (inr trial)) = inr (inr (untried_path files TooLong (codes "standard input") root (inr refl) (asked_not_input root files) trial.0 path r trial.2 over))
 
+-- ---- the files and the databases of `diff`
+module _ (old_path new_path : List ℕ) (files : Contents) (e : ToolError) (words : List ℕ) (kind : IsUnreadKind e) where
+  uncompared_path : (x : DiffError) (r : Refusal) → IsOfDiff x old_path new_path r → IsOver e words r → ⊥
+  uncompared_path (differing.Old fault) r is over = faulty_path files e words kind fault old_path r is over
+  uncompared_path (differing.New fault) r is over = faulty_path files e words kind fault new_path r is over
+  uncompared_path differing.Memory r is over = over_plain e Memory words r is over
+
+  pair_path : (r : Refusal) → IsPairRefused old_path new_path files r → IsOver e words r → (words ≡ old_path) ⊎ (words ≡ new_path)
+  pair_path r (inl old) over = inl (sym (unread_path files e words old_path r old over))
+  pair_path r (inr (inl new)) over = inr (sym (unread_path files e words new_path r new.1 over))
+  pair_path r (inr (inr not)) over = absurd (uncompared_path not.error r not.is over)
+
+module _ (given : List (List ℕ)) (old_path new_path : List ℕ) (fails : List ℕ → Type 0) (files : Contents) (input : Option (List ℕ)) (n m : ℕ) where
+  diffed_read : (r : Refusal) → IsOver Read (codes "standard input") r → HasDiffReason given old_path new_path fails files input n m r → HasFailed n m ⊎ IsOfDiffed given old_path new_path (codes "standard input")
+  diffed_read r over (inl write) = absurd (over_plain Read Write (codes "standard input") r write over)
+  diffed_read r over (inr (inl file)) = ⊎_elim (λ failed. inl failed) (λ among. inr (inl among)) (paths_read fails files input n m given r over file.1)
+  diffed_read r over (inr (inr pair)) = inr (inr (pair_path old_path new_path files Read (codes "standard input") (inl refl) r pair.2 over))
+
+  diffed_long : (r : Refusal) → IsOver TooLong (codes "standard input") r → HasDiffReason given old_path new_path fails files input n m r
+      → IsInputLong fails files input n m ⊎ IsOfDiffed given old_path new_path (codes "standard input")
+  diffed_long r over (inl write) = absurd (over_plain TooLong Write (codes "standard input") r write over)
+  diffed_long r over (inr (inl file)) = ⊎_elim (λ long. inl long) (λ among. inr (inl among)) (paths_long fails files input n m given r over file.1)
+  diffed_long r over (inr (inr pair)) = inr (inr (pair_path old_path new_path files TooLong (codes "standard input") (inr refl) r pair.2 over))
+
 module _ (fails fails_now : List ℕ → Type 0) (left left_now : Outcomes) where
   pub input_is_read : InputIsRead fails fails_now left left_now
   input_is_read (Ask file device) root usr strict r before now dash over not =
@@ -282,6 +309,8 @@ module _ (fails fails_now : List ℕ → Type 0) (left left_now : Outcomes) wher
       inl (asked_read root fails before.files before.input.bytes before.input.failures now.input.failures (is_input (map string_bytes devices.items)) r over not.1)
   input_is_read (Explain device json) root usr strict r before now dash over not =
       inl (asked_read root fails before.files before.input.bytes before.input.failures now.input.failures (is_dash (string_bytes device)) r over not.1)
+  input_is_read (Diff old new devices json) root usr strict r before now dash over not =
+      diffed_read (map string_bytes devices.items) (string_bytes old) (string_bytes new) fails before.files before.input.bytes before.input.failures now.input.failures r over not.1
   input_is_read task root usr strict r before now dash over not = absurd cc
 
   pub input_is_long : InputIsLong fails fails_now left left_now
@@ -293,6 +322,8 @@ module _ (fails fails_now : List ℕ → Type 0) (left left_now : Outcomes) wher
       files_long fails before.files before.input.bytes before.input.failures now.input.failures paths.items dash _ refl r over not.1
   input_is_long (Test paths database json) root usr strict r before now kind dash over not =
       tested_long (map string_bytes paths.items) (option_map string_bytes database) root fails before.files before.input.bytes before.input.failures now.input.failures r over not.1
+  input_is_long (Diff old new devices json) root usr strict r before now kind dash over not =
+      diffed_long (map string_bytes devices.items) (string_bytes old) (string_bytes new) fails before.files before.input.bytes before.input.failures now.input.failures r over not.1
   input_is_long task root usr strict r before now kind dash over not = absurd kind
 
   pub line_is_long : LineIsLong fails fails_now left left_now

@@ -1,6 +1,7 @@
 -- Words ask for one job.
-use Rattle.std.proofs.Common.{◌≡◌, ◌∙◌, ap, refl, sym, subst, Bool, true, false, true≢false, List, [], ◌∷◌, ◌++◌, map, ℕ, Option, Some, None, string_bytes, ⊎_elim}
-use Rattle.std.specs.Prelude.{codes, option_map}
+use Rattle.std.proofs.Common.{◌≡◌, ◌∙◌, ◌&&◌, ◌==◌, if◌then◌else◌, length, not, ap, refl, sym, subst, Bool, true, false, true≢false, List, [], ◌∷◌, ◌++◌, map, ℕ, Option, Some, None, string_bytes, ⊎_elim}
+use Rattle.std.proofs.lemmas.List.{length-map}
+use Rattle.std.specs.Prelude.{codes, is_some, option_map}
 use Rattle.std.specs.Option.{option_map_or}
 use Rattle.std.specs.Str.{bytes_eq}
 use Rattle.std.proofs.lemmas.Slice.Eq.{bytes_eq-Decides}
@@ -17,9 +18,10 @@ use Rattle.hwdb_spec.specs.Outputs.{Texts}
 use Rattle.hwdb_spec.specs.Runs.{AreKept, OnOut, Printed, World}
 use Rattle.hwdb_spec.specs.Store.{Contents, Outcomes}
 use Rattle.hwdb_spec.specs.CheckedFiles.{AreCheckedFiles, IsChecked}
-use Rattle.hwdb_spec.specs.Asked.{IsCompared, IsAnswered, IsListFrom, IsDumped, IsPrinted}
+use Rattle.hwdb_spec.specs.Asked.{IsAnswered, IsListFrom, IsDumped, IsPrinted}
+use Rattle.hwdb_spec.specs.ComparedDatabases.{IsDiffed}
 use Rattle.hwdb_spec.specs.Done.{IsAsked}
-use Rattle.hwdb_spec.specs.Status.{IsStatus}
+use Rattle.hwdb_spec.specs.Status.{IsMade, IsStatus}
 use Rattle.hwdb_spec.specs.Databases.{IsSummary}
 use Rattle.hwdb_spec.specs.NearAsked.{IsNear, near_form, near_limit}
 use Rattle.hwdb_spec.specs.DeviceAsked.{device_form}
@@ -28,9 +30,18 @@ use Rattle.hwdb_spec.specs.Queries.{AreAnswered, IfNamed, IsQuiet}
 use Rattle.hwdb_spec.specs.declared.form.Form.{Form}
 use Rattle.hwdb_spec.specs.declared.form.Form.TheVariants as form
 use Rattle.hwdb_spec.specs.Given.{is_input}
-use Rattle.hwdb_spec.specs.Program.{IsDeviceAnswer, IsDone, IsTaskDone, root_of}
+use Rattle.hwdb_spec.specs.Program.{IsDeviceAnswer, IsDone, IsDoneFrom, IsTaskDone, asks_text, root_of}
+use Rattle.hwdb_spec.specs.Folders.{Source}
+use Rattle.hwdb_spec.specs.OverText.{misuse_text, takes_text, text_if, with_database, world_over}
+use Rattle.hwdb_spec.specs.Store.{Same}
+use Rattle.hwdb_spec.specs.System.{database_folder}
+use Rattle.hwdb_spec.specs.TaskRefusals.{IsNotDone, IsNotDoneFrom}
+use Rattle.hwdb_spec.specs.Tree.{Map, map_of_files}
+use Rattle.hwdb_spec.specs.declared.refusals.Refusal.{Refusal}
+use Rattle.hwdb_spec.specs.Written.{IsWritten}
+use Rattle.hwdb_tool.proofs.OutcomeLemmas.{one_kept, one_map}
 use Rattle.hwdb_spec.specs.Tested.{IsTested}
-use Rattle.hwdb_tool.specs.OneOutcome.{DoneIsNotTold, JobsAreOne, TasksAreOne, scene_of}
+use Rattle.hwdb_tool.specs.OneOutcome.{DoneIsNotTold, IsOneInput, IsOneOutcome, JobsAreOne, LeavesNothingOut, ListingsGiveOneReading, Scene, TasksAreOne, scene_of}
 
 pub one_value : (o : Option (List ℕ)) (a b : List ℕ) → Some a ≡ o → Some b ≡ o → a ≡ b
 one_value o a b one two = ap (λ (p : Option (List ℕ)). option_map_or (λ (x : List ℕ). x) p []) (one ∙ sym two)
@@ -69,7 +80,7 @@ word_of (Near files device limit json) = codes "near"
 word_of (Device path strings json pattern) = codes "device"
 word_of (Check files allowed json) = codes "check"
 word_of (Test files database json) = codes "test"
-word_of (Diff old_path new_path) = codes "diff"
+word_of (Diff old_path new_path devices json) = codes "diff"
 word_of (Verify database) = codes "verify"
 word_of (Dump database) = codes "dump"
 word_of (Status json false) = codes "status"
@@ -152,9 +163,11 @@ module _ (name : Text) (inner : List Row) (root : List ℕ) (usr strict : Bool) 
       (subst (λ (b : Bool). OfDevice (device_form b json1 pattern1) (option_map string_bytes path2)) (u.2 ∙ sym t.2)
       (subst (λ (b : Bool). OfDevice (device_form strings2 b pattern1) (option_map string_bytes path2)) (u.3 ∙ sym t.3)
       (subst (λ (b : Bool). OfDevice (device_form strings2 json2 b) (option_map string_bytes path2)) (u.4 ∙ sym t.4) done)))
-  same_task (Diff old1 new1) (Diff old2 new2) t u done =
-      subst (λ (p : List ℕ). Prints (OnOut (λ text. IsCompared p (string_bytes new1) old text status))) (one_value (first_of (codes "OLD") inner) _ _ u.1 t.1)
-      (subst (λ (p : List ℕ). Prints (OnOut (λ text. IsCompared (string_bytes old2) p old text status))) (one_value (first_of (codes "NEW") inner) _ _ u.2 t.2) done)
+  same_task (Diff old1 new1 devices1 json1) (Diff old2 new2 devices2 json2) t u done =
+      subst (λ (p : List ℕ). Prints (OnOut (λ text. IsDiffed json1 (map string_bytes devices1.items) p (string_bytes new1) input old text status))) (one_value (first_of (codes "OLD") inner) _ _ u.3 t.3)
+      (subst (λ (p : List ℕ). Prints (OnOut (λ text. IsDiffed json1 (map string_bytes devices1.items) (string_bytes old2) p input old text status))) (one_value (first_of (codes "NEW") inner) _ _ u.4 t.4)
+      (subst (λ (ds : List (List ℕ)). Prints (OnOut (λ text. IsDiffed json1 ds (string_bytes old2) (string_bytes new2) input old text status))) (u.2 ∙ sym t.2)
+      (subst (λ (j : Bool). Prints (OnOut (λ text. IsDiffed j (map string_bytes devices2.items) (string_bytes old2) (string_bytes new2) input old text status))) (u.1 ∙ sym t.1) done)))
   same_task (Verify database1) (Verify database2) t u done =
       subst (λ (d : Option (List ℕ)). Quietly (IsPrinted d root IsSummary old)) (u.1 ∙ sym t.1) done
   same_task (Dump database1) (Dump database2) t u done =
@@ -183,24 +196,154 @@ one_root j = one_option string_bytes j.root
 pub same_root : (top : List Row) (name : Text) (inner : List Row) (j k : Job) → IsJob top name inner j → IsJob top name inner k → root_of k ≡ root_of j
 same_root top name inner j k one two = one_root k ∙ ap (λ (o : Option (List ℕ)). option_map_or (λ (x : List ℕ). x) o []) (two.root ∙ sym one.root) ∙ sym (one_root j)
 
-module _ (status : ℕ) (before now : World) where
-  abbrev Done : Task → List ℕ → Bool → Bool → Type 0
-  Done task root usr strict = IsTaskDone task root usr strict status before now
+-- ---- `--text`
+-- without it a task isn't done over the text files, and so doesn't it end with an error over them
+pub plainly_done : (over : Bool) (task : Task) (root : List ℕ) (usr strict : Bool) (status : ℕ) (before now : World) → over ≡ false → IsDoneFrom over task root usr strict status before now → IsTaskDone task root usr strict status before now
+plainly_done true task root usr strict status before now none done = both_words refl none
+plainly_done false task root usr strict status before now none done = done
 
-  same_job : (top : List Row) (found : Option (Text × List Row)) (j k : Job) → IsJobOf top found j → IsJobOf top found k → IsDone k status before now → IsDone j status before now
+pub plainly_not_done : (over : Bool) (task : Task) (root : List ℕ) (usr strict : Bool) (before now : World) (r : Refusal) → over ≡ false → IsNotDoneFrom over task root usr strict before now r → IsNotDone task root usr strict before now r
+plainly_not_done true task root usr strict before now r none not_done = both_words refl none
+plainly_not_done false task root usr strict before now r none not_done = not_done
+
+-- whether a command takes it, by its word
+abbrev takes_named : Text → Bool
+takes_named name =
+    if bytes_eq name (codes "query") then true else (if bytes_eq name (codes "explain") then true else (if bytes_eq name (codes "list") then true else (if bytes_eq name (codes "near") then true
+    else (if bytes_eq name (codes "device") then true else (if bytes_eq name (codes "test") then true else (if bytes_eq name (codes "verify") then true else bytes_eq name (codes "dump")))))))
+
+takes_by_name : (name : Text) (inner : List Row) (t : Task) → IsTask name inner t → takes_text t ≡ takes_named name
+takes_by_name name inner (Status json false) t = ap takes_named (sym t.0)
+takes_by_name name inner (Status json true) t = ap takes_named (sym t.0)
+takes_by_name name inner task t = ap takes_named (sym t.0)
+
+-- two jobs that the same words ask for both answer from the text files, or neither does
+pub same_asks : (top : List Row) (found : Option (Text × List Row)) (j k : Job) → IsJobOf top found j → IsJobOf top found k → asks_text k ≡ asks_text j
+same_asks top None j k one two = absurd one
+same_asks top (Some p) j k one two =
+    ap (λ (b : Bool). b && takes_text k.task) (two.text ∙ sym one.text)
+    ∙ ap (λ (b : Bool). j.text && b) (takes_by_name p.0 p.1 k.task two.task ∙ sym (takes_by_name p.0 p.1 j.task one.task))
+
+some_mapped : {X : Type 0} (f : X → List ℕ) (o : Option X) → is_some (option_map f o) ≡ is_some o
+some_mapped f None = refl
+some_mapped f (Some x) = refl
+
+one_some : {X : Type 0} (f : X → List ℕ) (o p : Option X) → option_map f o ≡ option_map f p → is_some o ≡ is_some p
+one_some f o p same = sym (some_mapped f o) ∙ ap is_some same ∙ some_mapped f p
+
+one_length : {X : Type 0} (f : X → List ℕ) (xs ys : List X) → map f xs ≡ map f ys → length xs ≡ length ys
+one_length f xs ys same = sym (length-map xs f) ∙ ap length same ∙ length-map ys f
+
+-- what doesn't fit it is said of the words
+same_misuse : (name : Text) (inner : List Row) (t u : Task) → IsTask name inner t → IsTask name inner u → takes_text t ≡ true → takes_text u ≡ true → misuse_text u ≡ misuse_text t
+same_misuse name inner (Query devices1 json1) (Query devices2 json2) t u takes takes2 = refl
+same_misuse name inner (Explain device1 json1) (Explain device2 json2) t u takes takes2 = refl
+same_misuse name inner (ListHits after1 limit1 device1 json1) (ListHits after2 limit2 device2 json2) t u takes takes2 = refl
+same_misuse name inner (Near files1 device1 limit1 json1) (Near files2 device2 limit2 json2) t u takes takes2 =
+    let one = cut_last (map string_bytes files2.items) (map string_bytes files1.items) (string_bytes device2) (string_bytes device1) (one_values (all_of (codes "MODALIAS") inner) _ _ u.2 t.2) in
+    ap (λ (n : ℕ). text_if (not (n == 0)) (codes "--text and FILE are two sources: leave out one of them")) (one_length string_bytes files2.items files1.items one.0)
+same_misuse name inner (Device path1 strings1 json1 pattern1) (Device path2 strings2 json2 pattern2) t u takes takes2 =
+    ap (λ (b : Bool). text_if (not b) (codes "--text needs DEVICE: a list of devices asks no database")) (one_some string_bytes path2 path1 (u.1 ∙ sym t.1))
+same_misuse name inner (Test files1 database1 json1) (Test files2 database2 json2) t u takes takes2 =
+    ap (λ (b : Bool). text_if b (codes "--text and --database are two sources: leave out one of them")) (one_some string_bytes database2 database1 (u.2 ∙ sym t.2))
+same_misuse name inner (Verify database1) (Verify database2) t u takes takes2 =
+    ap (λ (b : Bool). text_if b (codes "--text and DATABASE are two sources: leave out one of them")) (one_some string_bytes database2 database1 (u.1 ∙ sym t.1))
+same_misuse name inner (Dump database1) (Dump database2) t u takes takes2 =
+    ap (λ (b : Bool). text_if b (codes "--text and DATABASE are two sources: leave out one of them")) (one_some string_bytes database2 database1 (u.1 ∙ sym t.1))
+same_misuse name inner (Update v1 k1) task2 t u takes takes2 = both_words (sym takes) refl
+same_misuse name inner (Ask file1 device1) task2 t u takes takes2 = both_words (sym takes) refl
+same_misuse name inner (Check files1 allowed1 json1) task2 t u takes takes2 = both_words (sym takes) refl
+same_misuse name inner (Diff old1 new1 devices1 json1) task2 t u takes takes2 = both_words (sym takes) refl
+same_misuse name inner (Status json1 quiet1) task2 t u takes takes2 = both_words (sym takes) refl
+same_misuse name inner task1 (Update v2 k2) t u takes takes2 = both_words (sym takes2) refl
+same_misuse name inner task1 (Ask file2 device2) t u takes takes2 = both_words (sym takes2) refl
+same_misuse name inner task1 (Check files2 allowed2 json2) t u takes takes2 = both_words (sym takes2) refl
+same_misuse name inner task1 (Diff old2 new2 devices2 json2) t u takes takes2 = both_words (sym takes2) refl
+same_misuse name inner task1 (Status json2 quiet2) t u takes takes2 = both_words (sym takes2) refl
+same_misuse name inner task1 task2 t u takes takes2 = apart (word_of task1) (word_of task2) refl (sym (is_named name inner task1 t) ∙ is_named name inner task2 u)
+
+takes_of : (text : Bool) (task : Task) → (text && takes_text task) ≡ true → takes_text task ≡ true
+takes_of true task e = e
+takes_of false task e = both_words (sym e) refl
+
+module _ (status : ℕ) (before now : World) where
+  abbrev Done : Bool → Task → List ℕ → Bool → Bool → Type 0
+  Done over task root usr strict = IsDoneFrom over task root usr strict status before now
+
+  same_from : (name : Text) (inner : List Row) (root : List ℕ) (usr strict over : Bool) (t u : Task) → IsTask name inner t → IsTask name inner u
+      → (over ≡ true → (takes_text t ≡ true) × (takes_text u ≡ true)) → Done over u root usr strict → Done over t root usr strict
+  same_from name inner root usr strict false t u one two takes done = same_task name inner root usr strict status before now t u one two done
+  same_from name inner root usr strict true t u one two takes done =
+      let both = takes refl in
+      record {
+        fits = sym (same_misuse name inner t u one two both.0 both.1) ∙ done.fits;
+        of_etc = done.of_etc;
+        of_usr = done.of_usr;
+        made = done.made;
+        is_made = done.is_made;
+        done = same_task name inner root usr strict status (world_over root done.made before) (world_over root done.made now) t u one two done.done;
+        kept = done.kept;
+      }
+
+  same_job : (top : List Row) (found : Option (Text × List Row)) (j k : Job) → IsJobOf top found j → IsJobOf top found k → IsDone k status before now → Done (asks_text j) j.task (root_of j) j.usr j.strict
   same_job top None j k one two done = absurd one
   same_job top (Some p) j k one two done =
       let roots : root_of k ≡ root_of j = same_root top p.0 p.1 j k one two in
-      same_task p.0 p.1 (root_of j) j.usr j.strict status before now j.task k.task one.task two.task
-      (subst (λ (r : List ℕ). Done k.task r j.usr j.strict) roots
-      (subst (λ (b : Bool). Done k.task (root_of k) b j.strict) (two.usr ∙ sym one.usr)
-      (subst (λ (b : Bool). Done k.task (root_of k) k.usr b) (two.strict ∙ sym one.strict) done)))
+      let asks : asks_text k ≡ asks_text j = same_asks top (Some p) j k one two in
+      same_from p.0 p.1 (root_of j) j.usr j.strict (asks_text j) j.task k.task one.task two.task
+      (λ yes_. (takes_of j.text j.task yes_, takes_of k.text k.task (asks ∙ yes_)))
+      (subst (λ (b : Bool). Done b k.task (root_of j) j.usr j.strict) asks
+      (subst (λ (r : List ℕ). Done (asks_text k) k.task r j.usr j.strict) roots
+      (subst (λ (b : Bool). Done (asks_text k) k.task (root_of k) b j.strict) (two.usr ∙ sym one.usr)
+      (subst (λ (b : Bool). Done (asks_text k) k.task (root_of k) k.usr b) (two.strict ∙ sym one.strict) done))))
 
-pub one_job : (fails fails_now fails2 fails2_now : List ℕ → Type 0) (left left_now left2 left2_now : Outcomes)
-    → TasksAreOne fails fails_now fails2 fails2_now left left_now left2 left2_now → JobsAreOne fails fails_now fails2 fails2_now left left_now left2 left2_now
-one_job fails fails_now fails2 fails2_now left left_now left2 left2_now tasks = λ words status status2 before now before2 now2 input one two nothing nothing2.
-    tasks one.job.task (root_of one.job) one.job.usr one.job.strict status status2 before now before2 now2 input nothing nothing2 one.done
-    (same_job status2 (scene_of fails2 left2 before2) (scene_of fails2_now left2_now now2) (matches_of hwdb_app words) (subcommand_of hwdb_app words) one.job two.job one.asked two.asked two.done)
+abbrev OneForm : Type 0
+OneForm = (m : Map) (a b : List ℕ) → IsWritten m a → IsWritten m b → a ≡ b
+
+-- what an update would write is one
+pub one_made : ListingsGiveOneReading → OneForm → (root : List ℕ) (files : Contents) (etc usr etc2 usr2 : List Source) (made made2 : List ℕ)
+    → IsMade root files etc usr made → IsMade root files etc2 usr2 made2 → made ≡ made2
+one_made one_reading form root files etc usr etc2 usr2 made made2 one two =
+    let reading = one_reading root files etc usr etc2 usr2 one.in_etc one.in_usr two.in_etc two.in_usr in
+    form (map_of_files etc usr) made made2 one.written (subst (λ m. IsWritten m made2) (sym (one_map etc usr etc2 usr2 reading)) two.written)
+
+-- a scene with that database
+abbrev over_scene : (root made : List ℕ) → Scene → Scene
+over_scene root made s = record { files = with_database root made s.files; failures = s.failures; input = s.input; out = s.out; err = s.err; devices = s.devices }
+
+module _ (one_reading : ListingsGiveOneReading) (form : OneForm) (fails fails_now fails2 fails2_now : List ℕ → Type 0) (left left_now left2 left2_now : Outcomes)
+    (tasks : TasksAreOne fails fails_now fails2 fails2_now left left_now left2 left2_now) where
+  one_from : (over : Bool) (task : Task) (root : List ℕ) (usr strict : Bool) (status status2 : ℕ) (before now before2 now2 : Scene)
+      → IsOneInput before before2 → LeavesNothingOut fails task → LeavesNothingOut fails2 task
+      → IsDoneFrom over task root usr strict status (scene_of fails left before) (scene_of fails_now left_now now)
+      → IsDoneFrom over task root usr strict status2 (scene_of fails2 left2 before2) (scene_of fails2_now left2_now now2)
+      → IsOneOutcome (database_folder usr root) status status2 now now2
+  one_from false task root usr strict status status2 before now before2 now2 input nothing nothing2 one two =
+      tasks task root usr strict status status2 before now before2 now2 input nothing nothing2 one two
+  one_from true task root usr strict status status2 before now before2 now2 input nothing nothing2 one two =
+      let m = one.made in
+      let second = subst (λ (f : Contents). IsMade root f two.of_etc two.of_usr two.made) input.files two.is_made in
+      let same : two.made ≡ m = sym (one_made one_reading form root before.files one.of_etc one.of_usr two.of_etc two.of_usr m two.made one.is_made second) in
+      let done2 = subst (λ (d : List ℕ). IsTaskDone task root usr strict status2 (world_over root d (scene_of fails2 left2 before2)) (world_over root d (scene_of fails2_now left2_now now2))) same two.done in
+      let over_input : IsOneInput (over_scene root m before) (over_scene root m before2) = record {
+        files = ap (with_database root m) input.files;
+        input = input.input;
+        out = input.out;
+        err = input.err;
+        devices = input.devices;
+      } in
+      let out = tasks task root usr strict status status2 (over_scene root m before) (over_scene root m now) (over_scene root m before2) (over_scene root m now2) over_input nothing nothing2 one.done done2 in
+      record {
+        one_status = out.one_status;
+        one_files = one_kept (database_folder usr root) before.files now.files now2.files one.kept.same (subst (λ (f : Contents). Same f now2.files) input.files two.kept.same);
+        one_err = out.one_err;
+        one_out = out.one_out;
+      }
+
+  pub one_job : JobsAreOne fails fails_now fails2 fails2_now left left_now left2 left2_now
+  one_job = λ words status status2 before now before2 now2 input one two nothing nothing2.
+      one_from (asks_text one.job) one.job.task (root_of one.job) one.job.usr one.job.strict status status2 before now before2 now2 input nothing nothing2 one.done
+      (same_job status2 (scene_of fails2 left2 before2) (scene_of fails2_now left2_now now2) (matches_of hwdb_app words) (subcommand_of hwdb_app words) one.job two.job one.asked two.asked two.done)
 
 pub not_told : (fails fails_now fails2 fails2_now : List ℕ → Type 0) (left left_now left2 left2_now : Outcomes) → DoneIsNotTold fails fails_now fails2 fails2_now left left_now left2 left2_now
 not_told fails fails_now fails2 fails2_now left left_now left2 left2_now words status before now before2 now2 done told =

@@ -1,14 +1,13 @@
 -- A task over the text files: what is done over the database that they make, and what fails before it.
 use Rattle.std.proofs.Common.{◌≡◌, ◌∙◌, ◌⊎◌, ◌&&◌, inl, inr, ⊎_elim, ap, sym, refl, subst, arith, true, false, true≢false, List, ℕ, Bool, Option, None, Some}
-use Rattle.hwdb_compile.specs.Views.{ForFolders}
-use Rattle.hwdb_compile.specs.declared.sources.ChosenFile.{ChosenFile}
+use Rattle.std.specs.Borrow.{Bor}
+use Rattle.std.specs.Prelude.{option_map}
 use Rattle.hwdb_spec.specs.DeviceTree.{Sight}
 use Rattle.hwdb_spec.specs.Failures.{HasFailed}
-use Rattle.hwdb_spec.specs.Folders.{Source}
-use Rattle.hwdb_spec.specs.OverText.{AreTextsRefused, takes_text}
-use Rattle.hwdb_spec.specs.Program.{IsDoneOverText, IsTaskDone, IsUpdate}
+use Rattle.hwdb_spec.specs.OverText.{misuse_text, takes_text}
+use Rattle.hwdb_spec.specs.Program.{IsTaskDone, IsUpdate}
 use Rattle.hwdb_spec.specs.Refusals.{HasReason, IsInWords}
-use Rattle.hwdb_spec.specs.Runs.{AreKept, Files, Told, World}
+use Rattle.hwdb_spec.specs.Runs.{Told, World}
 use Rattle.hwdb_spec.specs.Store.{Contents, Outcomes}
 use Rattle.hwdb_spec.specs.TaskRefusals.{IsNotDone, IsTaskReason, IsTaskRefused}
 use Rattle.hwdb_spec.specs.Undone.{IsUnwritable}
@@ -29,6 +28,11 @@ no_update text task takes is = and_false text (subst (λ t. (text && takes_text 
 pub taken : (text : Bool) (task : Task) → (text && takes_text task) ≡ true → takes_text task ≡ true
 taken true task e = e
 taken false task e = absurd (true≢false (sym e))
+
+-- words that fit
+pub no_misuse : (found : Option (Bor (List ℕ))) (task : Task) → ((text : Bor (List ℕ)) → found ≡ Some text → ⊥) → option_map (λ t. t.now) found ≡ misuse_text task → misuse_text task ≡ None
+no_misuse None task none is = sym is
+no_misuse (Some text) task none is = absurd (none text refl)
 
 -- words have any reason
 pub words_reason : (Un : List ℕ → Type 0) (U : Type 0) (files : Contents) (text : List ℕ) (r : Refusal) → IsInWords text r → HasReason Un U files r

@@ -8,7 +8,7 @@ use Rattle.hwdb_spec.specs.Jobs.{IsJobOf, IsTask}
 use Rattle.hwdb_spec.specs.CommandLine.{hwdb_app}
 use Rattle.hwdb_spec.specs.declared.job.Job.{Job}
 use Rattle.hwdb_spec.specs.declared.job.Task.{Task}
-use Rattle.hwdb_spec.specs.declared.job.Task.TheVariants.{Explain, Query}
+use Rattle.hwdb_spec.specs.declared.job.Task.TheVariants.{Explain, Query, Status}
 use Rattle.hwdb_spec.specs.Asked.{IsAnswered}
 use Rattle.hwdb_spec.specs.Databases.{IsTextOf}
 use Rattle.hwdb_spec.specs.Failures.{HasFailed}
@@ -29,7 +29,7 @@ use Rattle.hwdb_spec.specs.declared.refusals.Refusal.{Refusal}
 use Rattle.hwdb_spec.specs.declared.refusals.Refusal.TheVariants.{At, InWords, NoDatabase, Plain}
 use Rattle.hwdb_tool.specs.OneOutcome.{IsOneInput, Scene, scene_of}
 use Rattle.hwdb_tool.specs.OneRefusal.{DoneEndsSo, DoneJobEndsSo, EndAlike, IsOfDatabase, IsOfWhatIsRead, IsOneEnd, IsOneError, IsStream, JobsEndAlike, NeverFails, scene_then}
-use Rattle.hwdb_spec.specs.Program.{IsTaskDone, root_of}
+use Rattle.hwdb_spec.specs.Program.{IsTaskDone, asks_text, root_of}
 use Rattle.hwdb_spec.specs.Queries.{AreAnsweredFrom, AreNamedAnswered, AreUnansweredFrom, IfNamed, IsOfInput, IsStreamRefused, IsUnstreamed}
 use Rattle.hwdb_spec.specs.Reasons.{HasAskedReason}
 use Rattle.hwdb_spec.specs.TaskRefusals.{IsNotDone}
@@ -37,7 +37,7 @@ use Rattle.hwdb_spec.specs.Undone.{IsUnfound}
 use Rattle.hwdb_tool.proofs.DatabaseErrorLemmas.{OneHeader, OneTree, Unanswered, answer_answer, answer_done, is_over, unanswered}
 use Rattle.hwdb_tool.proofs.InputErrorLemmas.{asked_not_input, asked_not_line}
 use Rattle.hwdb_tool.proofs.JobErrorLemmas.{status_of_job}
-use Rattle.hwdb_tool.proofs.JobLemmas.{apart, is_named, one_value, one_values, same_root, word_of}
+use Rattle.hwdb_tool.proofs.JobLemmas.{apart, is_named, one_value, one_values, plainly_done, plainly_not_done, same_asks, same_root, word_of}
 use Rattle.hwdb_tool.proofs.OutcomeLemmas.{one_answer, one_taken}
 use Rattle.hwdb_tool.proofs.RefusalLemmas.{over_over}
 use Rattle.hwdb_tool.proofs.TaskErrorLemmas.{never_asked}
@@ -132,9 +132,13 @@ some_error e f is = ap (λ (o : Option ToolError). error_in o) is
 same_stream : (name : Text) (inner : List Row) (t u : Task) → IsTask name inner t → IsTask name inner u → IsStream t → IsStream u × (stream_form u ≡ stream_form t)
 same_stream name inner (Query devices1 json1) (Query devices2 json2) t u is =
     (subst (λ (ds : List (List ℕ)). is_input ds ≡ true) (sym (one_values (all_of (codes "MODALIAS") inner) _ _ u.2 t.2)) is, ap (λ (j : Bool). forms.Query j) (u.1 ∙ sym t.1))
+same_stream name inner (Query devices1 json1) (Status json2 false) t u is = apart (codes "query") (codes "status") refl (sym (is_named name inner (Query devices1 json1) t) ∙ is_named name inner (Status json2 false) u)
+same_stream name inner (Query devices1 json1) (Status json2 true) t u is = apart (codes "query") (codes "update") refl (sym (is_named name inner (Query devices1 json1) t) ∙ is_named name inner (Status json2 true) u)
 same_stream name inner (Query devices1 json1) task2 t u is = apart (codes "query") (word_of task2) refl (sym (is_named name inner (Query devices1 json1) t) ∙ is_named name inner task2 u)
 same_stream name inner (Explain device1 json1) (Explain device2 json2) t u is =
     (subst (λ (d : List ℕ). is_input (d ∷ []) ≡ true) (sym (one_value (first_of (codes "MODALIAS") inner) _ _ u.2 t.2)) is, ap (λ (j : Bool). forms.Explain j) (u.1 ∙ sym t.1))
+same_stream name inner (Explain device1 json1) (Status json2 false) t u is = apart (codes "explain") (codes "status") refl (sym (is_named name inner (Explain device1 json1) t) ∙ is_named name inner (Status json2 false) u)
+same_stream name inner (Explain device1 json1) (Status json2 true) t u is = apart (codes "explain") (codes "update") refl (sym (is_named name inner (Explain device1 json1) t) ∙ is_named name inner (Status json2 true) u)
 same_stream name inner (Explain device1 json1) task2 t u is = apart (codes "explain") (word_of task2) refl (sym (is_named name inner (Explain device1 json1) t) ∙ is_named name inner task2 u)
 same_stream name inner task1 task2 t u is = absurd cc
 
@@ -312,7 +316,7 @@ module _ (header : OneHeader) where
 
     -- ---- jobs
     pub stream_jobs_are_one : JobsEndAlike IsStream fails fails_now fails2 fails2_now left left_now left2 left2_now
-    stream_jobs_are_one = λ words status status2 before now before2 now2 input one two kind is is2.
+    stream_jobs_are_one = λ words status status2 before now before2 now2 input one two kind none is is2.
         let top = matches_of hwdb_app words in
         let found = subcommand_of hwdb_app words in
         let j = one.job in
@@ -320,8 +324,8 @@ module _ (header : OneHeader) where
         let then_ = scene_then one.err_then now in
         let then2 = scene_then two.err_then now2 in
         let same = stream_of_job top found j k one.asked two.asked kind in
-        let first = stream_end j.task (root_of j) j.usr j.strict (scene_of fails left before) (scene_of fails_now left_now then_) one.refusal kind one.refused in
-        let second = stream_end k.task (root_of k) k.usr k.strict (scene_of fails2 left2 before2) (scene_of fails2_now left2_now then2) two.refusal same.0 two.refused in (
+        let first = stream_end j.task (root_of j) j.usr j.strict (scene_of fails left before) (scene_of fails_now left_now then_) one.refusal kind (plainly_not_done (asks_text j) j.task (root_of j) j.usr j.strict (scene_of fails left before) (scene_of fails_now left_now then_) one.refusal none one.refused) in
+        let second = stream_end k.task (root_of k) k.usr k.strict (scene_of fails2 left2 before2) (scene_of fails2_now left2_now then2) two.refusal same.0 (plainly_not_done (asks_text k) k.task (root_of k) k.usr k.strict (scene_of fails2 left2 before2) (scene_of fails2_now left2_now then2) two.refusal (same_asks top found j k one.asked two.asked ∙ none) two.refused) in (
           one.says ∙ status_of_job top found j k one.asked two.asked ∙ sym two.says,
           both_ends (stream_form j.task) (stream_form k.task) (root_of j) (root_of k) one.refusal two.refusal before then_ before2 then2 input same.1 same.2
               (end_of_stream fails fails_now left left_now j.task (root_of j) j.usr j.strict one.refusal before then_ input.input.bytes input.input.of_one kind is.never is.told is.of first)
@@ -330,14 +334,14 @@ module _ (header : OneHeader) where
         )
 
     pub done_job_is_no_end : DoneJobEndsSo IsStream fails fails_now fails2 fails2_now left left_now left2 left2_now
-    done_job_is_no_end = λ words status status2 before now before2 now2 input done refused kind is.
+    done_job_is_no_end = λ words status status2 before now before2 now2 input done refused kind none is.
         let top = matches_of hwdb_app words in
         let found = subcommand_of hwdb_app words in
         let j = done.job in
         let k = refused.job in
         let then2 = scene_then refused.err_then now2 in
         let same = stream_of_job top found j k done.asked refused.asked kind in
-        let second = stream_end k.task (root_of k) k.usr k.strict (scene_of fails2 left2 before2) (scene_of fails2_now left2_now then2) refused.refusal same.0 refused.refused in
+        let second = stream_end k.task (root_of k) k.usr k.strict (scene_of fails2 left2 before2) (scene_of fails2_now left2_now then2) refused.refusal same.0 (plainly_not_done (asks_text k) k.task (root_of k) k.usr k.strict (scene_of fails2 left2 before2) (scene_of fails2_now left2_now then2) refused.refusal (same_asks top found j k done.asked refused.asked ∙ none) refused.refused) in
         not_both (stream_form j.task) (stream_form k.task) (root_of j) (root_of k) refused.refusal input.input.bytes before before2 then2 input same.1 same.2
-        (stream_done j.task (root_of j) j.usr j.strict status (scene_of fails left before) (scene_of fails_now left_now now) input.input.bytes kind input.input.of_one done.done)
+        (stream_done j.task (root_of j) j.usr j.strict status (scene_of fails left before) (scene_of fails_now left_now now) input.input.bytes kind input.input.of_one (plainly_done (asks_text j) j.task (root_of j) j.usr j.strict status (scene_of fails left before) (scene_of fails_now left_now now) none done.done))
         (end_of_stream fails2 fails2_now left2 left2_now k.task (root_of k) k.usr k.strict refused.refusal before2 then2 input.input.bytes input.input.of_two same.0 is.never is.told is.of second)

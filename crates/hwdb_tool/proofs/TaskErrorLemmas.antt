@@ -32,7 +32,7 @@ use Rattle.hwdb_tool.specs.OneRefusal.{DoneEndsSo, EndAlike, IsOfChecked, IsOfCo
 use Rattle.hwdb_spec.specs.Program.{IsTaskDone}
 use Rattle.hwdb_spec.specs.Queries.{AreAnsweredFrom, AreUnansweredFrom, IfNamed}
 use Rattle.hwdb_spec.specs.TaskRefusals.{IsNotDone, MayPrint}
-use Rattle.hwdb_spec.specs.ComparedDatabases.{IsDiffRefused}
+use Rattle.hwdb_spec.specs.ComparedDatabases.{IsDiffed, IsDiffRefused}
 use Rattle.hwdb_spec.specs.NamedDatabases.{IsDumpRefused, IsVerifyRefused}
 use Rattle.hwdb_spec.specs.NearErrors.{IsNearRefused}
 use Rattle.hwdb_spec.specs.StatusErrors.{IsStatusRefused}
@@ -46,7 +46,7 @@ use Rattle.hwdb_tool.proofs.FolderErrorLemmas.{FullOrStand, IsFolderFull, named_
 use Rattle.hwdb_tool.proofs.DatabaseErrorLemmas.{OneHeader, OneTree, Unanswered, Undumped, Unlisted, Unverified, answer_answer, answer_done, dump_done, dump_dump, list_done, list_list, unanswered, undumped, unlisted, unverified, verify_done, verify_verify}
 use Rattle.hwdb_tool.proofs.AskErrorLemmas.{OneForm, Unasked, ask_ask, ask_done, unasked_file}
 use Rattle.hwdb_tool.proofs.RefusalLemmas.{NeverNamed}
-use Rattle.hwdb_tool.proofs.DiffErrorLemmas.{Undiffed, diff_diff, diff_done, undiffed}
+use Rattle.hwdb_tool.proofs.ComparedErrorLemmas.{Undiffed, diff_diff, diff_done, undiffed}
 use Rattle.hwdb_tool.proofs.OutcomeLemmas.{one_taken}
 use Rattle.hwdb_tool.proofs.TaskLemmas.{all_read}
 use Rattle.hwdb_tool.proofs.UpdateErrorLemmas.{Undated, undated, update_done, update_update}
@@ -167,7 +167,7 @@ module _ (header : OneHeader) (tree : OneTree) where
   Why fails U input files (Query devices json) root r = Unanswered header fails U root files r
   Why fails U input files (Explain device json) root r = Unanswered header fails U root files r
   Why fails U input files (ListHits after limit device json) root r = Unlisted header fails U root files (option_map string_bytes after) r
-  Why fails U input files (Diff old new) root r = Undiffed (string_bytes old) (string_bytes new) files r
+  Why fails U input files (Diff old new devices json) root r = Undiffed (map string_bytes devices.items) (string_bytes old) (string_bytes new) input files r
   Why fails U input files (Verify database) root r = Unverified header fails U root files (option_map string_bytes database) r
   Why fails U input files (Dump database) root r = Undumped header fails U root files (option_map string_bytes database) r
   Why fails U input files (Ask file device) root r = Unasked (string_bytes file) input files r
@@ -213,9 +213,12 @@ module _ (header : OneHeader) (tree : OneTree) where
     why (ListHits after limit device json) kind never named not =
         let found = unlisted header fails Unwritable root before.files (never_asked fails root before.files never) json (string_bytes device) (option_map string_bytes after) limit r before.out now.out not.0.0.0 not.1 of in
         (found.0, left_then record { err = not.0.0.1; out = found.1 } not.0.1.same)
-    why (Diff old new) kind never named not =
-        let found = unprinted (IsDiffRefused (string_bytes old) (string_bytes new) before.files) (MayPrint (Diff old new) root strict before.input.bytes before.files) r before.err now.err before.out now.out of not.0.0 in
-        (undiffed header (string_bytes old) (string_bytes new) before.files fails Unwritable (never (string_bytes old) (inl refl)) (never (string_bytes new) (inr refl)) r of found.0 not.1, left_then found.1 not.0.1.same)
+    why (Diff old new devices json) kind never named not =
+        let given = map string_bytes devices.items in
+        let found = unprinted (IsDiffRefused given (string_bytes old) (string_bytes new) before.input.bytes before.files) (MayPrint (Diff old new devices json) root strict before.input.bytes before.files) r before.err now.err before.out now.out of not.0.0 in (
+          undiffed header given (string_bytes old) (string_bytes new) before.files fails never before.input.bytes before.input.failures now.input.failures whole r not.1 of,
+          left_then found.1 not.0.1.same,
+        )
     why (Verify database) kind never named not =
         let found = unprinted (IsVerifyRefused (option_map string_bytes database) root before.files) (MayPrint (Verify database) root strict before.input.bytes before.files) r before.err now.err before.out now.out of not.0.0 in
         (unverified header fails Unwritable root before.files (option_map string_bytes database) (never_named fails root before.files (option_map string_bytes database) never) r found.0 not.1 of, left_then found.1 not.0.1.same)
@@ -257,7 +260,7 @@ module _ (header : OneHeader) (tree : OneTree) where
     one_why fails fails2 U U2 files root r r2 (Query devices json) kind one two = answer_answer header fails U root files r r2 one two
     one_why fails fails2 U U2 files root r r2 (Explain device json) kind one two = answer_answer header fails U root files r r2 one two
     one_why fails fails2 U U2 files root r r2 (ListHits after limit device json) kind one two = list_list header fails U root files (option_map string_bytes after) r r2 one two
-    one_why fails fails2 U U2 files root r r2 (Diff old new) kind one two = diff_diff header (string_bytes old) (string_bytes new) files r r2 one two
+    one_why fails fails2 U U2 files root r r2 (Diff old new devices json) kind one two = diff_diff header (map string_bytes devices.items) (string_bytes old) (string_bytes new) files told r r2 one two
     one_why fails fails2 U U2 files root r r2 (Verify database) kind one two = verify_verify header fails U root files (option_map string_bytes database) r r2 one two
     one_why fails fails2 U U2 files root r r2 (Dump database) kind one two = dump_dump header fails U root files tree (option_map string_bytes database) r r2 one two
     one_why fails fails2 U U2 files root r r2 (Ask file device) kind one two = ask_ask (string_bytes file) told files r r2 one two
@@ -310,7 +313,10 @@ module _ (header : OneHeader) (tree : OneTree) where
         (given_text (is_input (string_bytes device ∷ [])) root (forms.Explain json) (string_bytes device ∷ []) before.input.bytes before.files.seen printed.texts.out kind printed.are.1.1) not
     not_both_ends (ListHits after limit device json) kind done not =
         list_done header fails2 U root before.files.seen json (string_bytes device) (option_map string_bytes after) limit done.0.texts.out r done.0.are.1.1 not
-    not_both_ends (Diff old new) kind done not = diff_done header (string_bytes old) (string_bytes new) before.files.seen done.0.texts.out status r done.0.are.1 not
+    not_both_ends (Diff old new devices json) kind done not =
+        let given = map string_bytes devices.items in
+        diff_done header given (string_bytes old) (string_bytes new) before.files.seen told json done.0.texts.out status r
+        (subst (λ (i : Option (List ℕ)). IsDiffed json given (string_bytes old) (string_bytes new) i before.files.seen done.0.texts.out status) tells done.0.are.1) not
     not_both_ends (Verify database) kind done not = verify_done header fails2 U root before.files.seen (option_map string_bytes database) done.0.texts.out r done.0.are.1.1 not
     not_both_ends (Dump database) kind done not = dump_done header fails2 U root before.files.seen tree (option_map string_bytes database) done.0.texts.out r done.0.are.1.1 not
     not_both_ends (Ask file device) kind done not =

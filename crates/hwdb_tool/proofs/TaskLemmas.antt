@@ -9,7 +9,7 @@ use Rattle.hwdb_spec.specs.Done.{AreAskTexts, IsUpdated}
 use Rattle.hwdb_spec.specs.Databases.{IsDiffText, IsDifferent, IsSummary, IsTextOf}
 use Rattle.hwdb_spec.specs.Assignment.{Position}
 use Rattle.hwdb_spec.specs.Checks.{check_status, check_text, empty_tally, tally_from}
-use Rattle.hwdb_spec.specs.Differences.{diff_text, differ}
+use Rattle.hwdb_spec.specs.Comparisons.{comparison_text, devices_named, has_changed}
 use Rattle.hwdb_spec.specs.Dump.{dump_text}
 use Rattle.hwdb_spec.specs.Folders.{Choice, Source, choice, path_of}
 use Rattle.hwdb_spec.specs.Format.{IsDatabase}
@@ -244,22 +244,29 @@ module _ (tree : (bytes : List ℕ) (t u : Tree) → IsDatabase bytes t → IsDa
         one_err = one.0 ∙ sym two.0;
         one_out = tried_alike (λ (xs : List Source) (t : Tree). test_text json xs t) a.0 b.0 a.2.is.tree b.2.is.tree texts.out texts2.out same here a.2.is.is b.2.is.is;
       }
-  one_answer_of (Diff old_path new_path) = λ root strict input files status status2 texts texts2 one two.
-      let a = one.1 in
-      let b = two.1 in
+  one_answer_of (Diff old_path new_path devices json) = λ root strict input files status status2 texts texts2 one two.
+      let first = one.1 in
+      let second = two.1 in
+      let same : first.0 ≡ second.0 = one_given_sources input files first.0 second.0 (first.1.named ∙ sym second.1.named) first.1.held second.1.held in
+      let a = first.2 in
+      let b = second.2 in
+      let said : List Source → Tree → Tree → List ℕ = λ xs t u. comparison_text json (devices_named xs) t u in
+      let changed : List Source → Tree → Tree → Bool = λ xs t u. has_changed (devices_named xs) t u in
       let olds = one_held (bytes_at files (string_bytes old_path)) b.old a.old b.held.of_old a.held.of_old in
       let news = one_held (bytes_at files (string_bytes new_path)) b.new a.new b.held.of_new a.held.of_new in
       let x = a.is in
-      let y = subst (λ (bs : List ℕ). IsDiffText a.old bs texts2.out) news (subst (λ (bs : List ℕ). IsDiffText bs b.new texts2.out) olds b.is) in
-      let v = a.differ in
-      let w = subst (λ (bs : List ℕ). IsDifferent a.old bs b.answer) news (subst (λ (bs : List ℕ). IsDifferent bs b.new b.answer) olds b.differ) in
-      let answer : a.answer ≡ b.answer = v.is ∙ ap (λ (t : Tree). differ t v.new_tree) (tree a.old v.old_tree w.old_tree v.old_database w.old_database)
-      ∙ ap (λ (t : Tree). differ w.old_tree t) (tree a.new v.new_tree w.new_tree v.new_database w.new_database) ∙ sym w.is in
+      let y = subst (λ (bs : List ℕ). IsDiffText (said second.0) a.old bs texts2.out) news (subst (λ (bs : List ℕ). IsDiffText (said second.0) bs b.new texts2.out) olds b.is) in
+      let v = a.differs in
+      let w = subst (λ (bs : List ℕ). IsDifferent (changed second.0) a.old bs b.answer) news (subst (λ (bs : List ℕ). IsDifferent (changed second.0) bs b.new b.answer) olds b.differs) in
+      let answer : a.answer ≡ b.answer = v.is ∙ ap (λ (xs : List Source). changed xs v.old_tree v.new_tree) same
+      ∙ ap (λ (t : Tree). changed second.0 t v.new_tree) (tree a.old v.old_tree w.old_tree v.old_database w.old_database)
+      ∙ ap (λ (t : Tree). changed second.0 w.old_tree t) (tree a.new v.new_tree w.new_tree v.new_database w.new_database) ∙ sym w.is in
       record {
         one_status = a.says ∙ ap (λ (d : Bool). if d then 1 else 0) answer ∙ sym b.says;
         one_err = one.0 ∙ sym two.0;
-        one_out = x.is ∙ ap (λ (t : Tree). diff_text t x.new_tree) (tree a.old x.old_tree y.old_tree x.old_database y.old_database)
-            ∙ ap (λ (t : Tree). diff_text y.old_tree t) (tree a.new x.new_tree y.new_tree x.new_database y.new_database) ∙ sym y.is;
+        one_out = x.is ∙ ap (λ (xs : List Source). said xs x.old_tree x.new_tree) same
+            ∙ ap (λ (t : Tree). said second.0 t x.new_tree) (tree a.old x.old_tree y.old_tree x.old_database y.old_database)
+            ∙ ap (λ (t : Tree). said second.0 y.old_tree t) (tree a.new x.new_tree y.new_tree x.new_database y.new_database) ∙ sym y.is;
       }
   one_answer_of (Verify database) = λ root strict input files status status2 texts texts2 one two.
       let a = one.1.1 in

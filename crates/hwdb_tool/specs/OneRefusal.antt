@@ -20,7 +20,7 @@ use Rattle.hwdb_spec.specs.Runs.{Told}
 use Rattle.hwdb_spec.specs.CheckedFiles.{StandFor, folder_of}
 use Rattle.hwdb_spec.specs.Store.{Contents, Outcomes, path_in}
 use Rattle.hwdb_tool.specs.OneOutcome.{IsOneInput, Scene, scene_of}
-use Rattle.hwdb_spec.specs.Program.{IsJobDone, IsTaskDone, reads_input, root_of, streams}
+use Rattle.hwdb_spec.specs.Program.{IsJobDone, IsTaskDone, asks_text, reads_input, root_of, streams}
 use Rattle.hwdb_spec.specs.TaskRefusals.{AreRefused, IsJobRefused, IsNotDone, IsRootRefused}
 use Rattle.hwdb_spec.specs.Refusals.{IsOver}
 use Rattle.hwdb_spec.specs.declared.refusals.Refusal.{Refusal}
@@ -78,7 +78,7 @@ IsCovered (Ask file device) = Unit {0}
 IsCovered (Check files allowed json) = Unit {0}
 IsCovered (Near files device limit json) = Unit {0}
 IsCovered (Test files database json) = Unit {0}
-IsCovered (Diff old new) = Unit {0}
+IsCovered (Diff old new devices json) = Unit {0}
 IsCovered (Verify database) = Unit {0}
 IsCovered (Dump database) = Unit {0}
 IsCovered (Status json quiet) = Unit {0}
@@ -120,6 +120,10 @@ IsOfCompared (first ∷ more) root path = Contains (first ∷ more) path
 abbrev pub IsOfTried : (given : List (List ℕ)) (database : Option (List ℕ)) (root path : List ℕ) → Type 0
 IsOfTried given database root path = Contains given path ⊎ IsOfDatabase database root path
 
+-- the path is one that `diff` reads: that of a given file of devices, or of one of both databases
+abbrev pub IsOfDiffed : (given : List (List ℕ)) (old_path new_path path : List ℕ) → Type 0
+IsOfDiffed given old_path new_path path = Contains given path ⊎ ((path ≡ old_path) ⊎ (path ≡ new_path))
+
 -- such a task may read the path
 abbrev pub MayRead : Task → (root path : List ℕ) → Type 0
 MayRead (Update verbose skip) root path = IsOfFolders root path
@@ -127,7 +131,7 @@ MayRead (Check files allowed json) root path = IsOfChecked (map string_bytes fil
 MayRead (Near files device limit json) root path = IsOfCompared (map string_bytes files.items) root path
 MayRead (Test files database json) root path = IsOfTried (map string_bytes files.items) (option_map string_bytes database) root path
 MayRead (Ask file device) root path = path ≡ string_bytes file
-MayRead (Diff old new) root path = (path ≡ string_bytes old) ⊎ (path ≡ string_bytes new)
+MayRead (Diff old new devices json) root path = IsOfDiffed (map string_bytes devices.items) (string_bytes old) (string_bytes new) path
 MayRead (Verify database) root path = IsOfDatabase (option_map string_bytes database) root path
 MayRead (Dump database) root path = IsOfDatabase (option_map string_bytes database) root path
 MayRead (Status json quiet) root path = IsOfFolders root path ⊎ IsOfDatabase None root path
@@ -193,12 +197,13 @@ DoneIsNoError = DoneEndsSo IsOfLaw
 abbrev pub IsInNamed : (given : List (List ℕ)) (path : List ℕ) → Type 0
 IsInNamed given path = (named : List ℕ) × Contains given named × ((path ≡ folder_of named) ⊎ ((name : List ℕ) × (path ≡ path_in (folder_of named) name)))
 
--- the words of a task name text files, folders of `check` or the database of `test`, and this path is among them
+-- the words of a task name text files, folders of `check` or databases of `test` and `diff`, and this path is among them
 abbrev pub NamesFile : Task → Contents → (path : List ℕ) → Type 0
 NamesFile (Check files allowed json) contents path =
     ((paths : List (List ℕ)) × StandFor contents (map string_bytes files.items) paths × Contains paths path) ⊎ IsInNamed (map string_bytes files.items) path
 NamesFile (Near files device limit json) contents path = Contains (map string_bytes files.items) path
 NamesFile (Test files database json) contents path = Contains (map string_bytes files.items) path ⊎ (option_map string_bytes database ≡ Some path)
+NamesFile (Diff old new devices json) contents path = IsOfDiffed (map string_bytes devices.items) (string_bytes old) (string_bytes new) path
 NamesFile task contents path = ⊥
 
 -- the task reads text files that its words name
@@ -207,6 +212,7 @@ ReadsTexts (Ask file device) = Unit {0}
 ReadsTexts (Check files allowed json) = Unit {0}
 ReadsTexts (Near files device limit json) = Unit {0}
 ReadsTexts (Test files database json) = Unit {0}
+ReadsTexts (Diff old new devices json) = Unit {0}
 ReadsTexts task = ⊥
 
 -- If a task reads standard input, it says that this can't be read only if a call of it failed. A text file may have that name, too.
@@ -235,15 +241,15 @@ LineIsLong fails fails_now left left_now = (task : Task) (root : List ℕ) (usr 
 abbrev pub scene_then : (err : Told) → Scene → Scene
 scene_then err scene = record { files = scene.files; failures = scene.failures; input = scene.input; out = scene.out; err = err; devices = scene.devices }
 
--- Words that ask for such a task end with one status and one error over one input, if it comes of what is read. Before its line
--- both outputs are the same.
+-- Words that ask for such a task without `--text` end with one status and one error over one input, if it comes of what is read.
+-- Before its line both outputs are the same.
 abbrev pub JobsEndAlike : (Kind : Task → Type 0) (fails fails_now fails2 fails2_now : (path : List ℕ) → Type 0) (left left_now left2 left2_now : Outcomes) → Type 0
 JobsEndAlike Kind fails fails_now fails2 fails2_now left left_now left2 left2_now =
     (words : List (List ℕ)) (status status2 : ℕ) (before now before2 now2 : Scene)
     → IsOneInput before before2
     → (one : IsJobRefused words status (scene_of fails left before) (scene_of fails_now left_now now))
     → (two : IsJobRefused words status2 (scene_of fails2 left2 before2) (scene_of fails2_now left2_now now2))
-    → Kind one.job.task
+    → Kind one.job.task → asks_text one.job ≡ false
     → IsOfReading fails one.job.task (root_of one.job) before now one.refusal → IsOfReading fails2 two.job.task (root_of two.job) before2 now2 two.refusal
     → (status ≡ status2) × IsOneEnd one.refusal two.refusal (scene_then one.err_then now) (scene_then two.err_then now2)
 
@@ -256,7 +262,7 @@ DoneJobEndsSo Kind fails fails_now fails2 fails2_now left left_now left2 left2_n
     (words : List (List ℕ)) (status status2 : ℕ) (before now before2 now2 : Scene) → IsOneInput before before2
     → (done : IsJobDone words status (scene_of fails left before) (scene_of fails_now left_now now))
     → (refused : IsJobRefused words status2 (scene_of fails2 left2 before2) (scene_of fails2_now left2_now now2))
-    → Kind done.job.task → IsOfReading fails2 refused.job.task (root_of refused.job) before2 now2 refused.refusal → ⊥
+    → Kind done.job.task → asks_text done.job ≡ false → IsOfReading fails2 refused.job.task (root_of refused.job) before2 now2 refused.refusal → ⊥
 
 abbrev pub DoneJobIsNoError : (fails fails_now fails2 fails2_now : (path : List ℕ) → Type 0) (left left_now left2 left2_now : Outcomes) → Type 0
 DoneJobIsNoError = DoneJobEndsSo IsOfLaw

@@ -92,9 +92,22 @@ pub fn kind_of(task: &Task) -> TextKind {
         Task::List { json: false, .. } => TextKind::Hits,
         Task::Check { json: false, .. } | Task::Near { json: false, .. } => TextKind::Reports,
         Task::Test { json: false, .. } => TextKind::Reports,
-        Task::Diff { .. } => TextKind::Changes,
+        Task::Diff {
+            devices,
+            json: false,
+            ..
+        } => changes_kind(devices),
         Task::Verify { .. } => TextKind::Counts,
         Task::Dump { .. } => TextKind::Records,
         _ => TextKind::Plain,
+    }
+}
+
+/// What kind of text changes are: of assignments, or for the devices of some files.
+fn changes_kind(devices: &[String]) -> TextKind {
+    if devices.is_empty() {
+        TextKind::Changes
+    } else {
+        TextKind::DeviceChanges
     }
 }

@@ -1,40 +1,129 @@
-//! `diff`: two databases that are read and compared.
-ghost use Rattle.std.specs.Prelude.{◌≡◌, ◌≤◌, if◌then◌else◌, IfOk, IfErr};
+//! `diff`: two databases that are read and compared, in all that they assign, or in what the devices of files get.
+ghost use Rattle.std.specs.Prelude.{◌≡◌, ◌≤◌, ◌++◌, false, flat_map, if◌then◌else◌, map, string_bytes, IfOk, IfErr, OnOk};
+ghost use Rattle.hwdb_lint.specs.Checks.{source_of};
 ghost use Rattle.hwdb_spec.specs.Refusals.{HasReason, IsUnreadable};
 ghost use Rattle.hwdb_spec.specs.Asked.{IsCompared};
+ghost use Rattle.hwdb_spec.specs.Comparisons.{comparison_text, devices_named, has_changed};
+ghost use Rattle.hwdb_spec.specs.Databases.{IsDiffText, IsDifferent};
+ghost use Rattle.hwdb_spec.specs.DiffErrors.{IsDiffRefusal};
+ghost use Rattle.hwdb_spec.specs.Folders as folders;
+ghost use Rattle.hwdb_spec.specs.Given.{any_dash};
 ghost use Rattle.hwdb_spec.specs.Runs.{OnOut};
-ghost use Rattle.hwdb_spec.specs.ComparedDatabases.{IsDiffRefused, IsOfDiff};
+ghost use Rattle.hwdb_spec.specs.ComparedDatabases.{HasDiffReason, IsDiffed, IsDiffRefused, IsOfDiff, IsPairRefused};
+ghost use Rattle.hwdb_spec.specs.Texts.{devices_of};
 ghost use Rattle.hwdb_tool.specs.Views.{texts_in};
 
 use crate::answer::Answer;
+use crate::checks::{read_given, with_paths};
+use crate::given::input_text;
 use hwdb_fs::{Refusal, System};
-use hwdb_inspect::DiffError;
+use hwdb_inspect::{Changes, DiffError, diff_devices};
+use hwdb_io::Source;
+use hwdb_lint::TextFile;
 use hwdb_print::ToolError;
-use std::alloc::Global;
+use hwdb_text::Lines;
+use std::alloc::{AllocError, Global};
 
-/// What changed from the database at one path to that at another: a line for each pattern and key for which the two
-/// differ. The status is 1 if there is one, else 0.
-pub fn diff<D: System>(
+/// What changed from the database at one path to that at another, as text or JSON. For the devices of the given files, a line each,
+/// it is what changed in what each of them gets; without a file it is each pattern and key for which the two differ. `-` is what
+/// `input` has left. The status is 1 if something changed, else 0.
+///
+/// All files of devices are read first, in their order, and then the old database and the new one: the error is the first that comes so.
+pub fn diff<D: System, I: Source>(
     alloc: Global,
     old_path: &str,
     new_path: &str,
+    given: &[String],
+    json: bool,
+    system: &D,
+    input: &mut I,
+) -> Result<Answer, Refusal>
+    ensures diffed { D.Store.tells → IfOk result (λ a. OnOut (λ text. IsDiffed json
+        (map string_bytes given.now) old_path.now new_path.now (I.left input.old)
+        (D.Store.seen system.now) text a.status) (texts_in a)) }
+    ensures refused { D.Store.tells → IfErr result (IsDiffRefused (map string_bytes given.now)
+        old_path.now new_path.now (I.left input.old) (D.Store.seen system.now)) }
+    ensures unread { any_dash (map string_bytes given.now) ≡ false → input.new ≡ input.old }
+    ensures reason { D.Store.tells → IfErr result (HasDiffReason (map string_bytes given.now)
+        old_path.now new_path.now (D.System.may_fail system.now) (D.Store.seen system.now)
+        (I.left input.old) (I.failures input.old) (I.failures input.new)) }
+{
+    let text = input_text(alloc, given, input)?;
+    let texts = read_given(alloc, given, given, &text, system)?;
+    let files = with_paths(alloc, given, &texts)?;
+    compared(alloc, old_path, new_path, json, &files, system)
+}
+
+/// The same of files that were read.
+fn compared<D: System>(
+    alloc: Global,
+    old_path: &str,
+    new_path: &str,
+    json: bool,
+    files: &[TextFile<'_>],
     system: &D,
 ) -> Result<Answer, Refusal>
-    ensures compared { D.Store.tells → IfOk result (λ a. OnOut
-        (λ text. IsCompared old_path.now new_path.now (D.Store.seen system.now) text a.status)
-        (texts_in a)) }
+    ensures compared { D.Store.tells → IfOk result (λ a. OnOut (λ text. IsCompared
+        (comparison_text json (devices_named (map source_of files.now)))
+        (has_changed (devices_named (map source_of files.now)))
+        old_path.now new_path.now (D.Store.seen system.now) text a.status) (texts_in a)) }
     ensures refused { D.Store.tells → IfErr result
-        (IsDiffRefused old_path.now new_path.now (D.Store.seen system.now)) }
+        (IsPairRefused old_path.now new_path.now (D.Store.seen system.now)) }
     ensures reason { IfErr result (HasReason
         (IsUnreadable (D.System.may_fail system.now) (D.Store.seen system.now)) ⊥
         (D.Store.seen system.now)) }
 {
     let old = system.input(alloc, old_path)?;
     let new = system.input(alloc, new_path)?;
-    match hwdb_inspect::diff(alloc, &old, &new) {
+    match changes_of(alloc, json, files, &old, &new) {
         Ok(changes) => Ok(Answer::new(alloc, changes.text, status_of(changes.differ))),
         Err(error) => Err(refusal_of(alloc, error, old_path, new_path)),
     }
+}
+
+/// What changed from one database to another, for the devices of some files if there are any.
+fn changes_of(
+    alloc: Global,
+    json: bool,
+    files: &[TextFile<'_>],
+    old: &[u8],
+    new: &[u8],
+) -> Result<Changes, DiffError>
+    ensures text { IfOk result (λ changes. IsDiffText
+        (comparison_text json (devices_named (map source_of files.now)))
+        old.now new.now changes.text.items) }
+    ensures differ { IfOk result (λ changes. IsDifferent
+        (has_changed (devices_named (map source_of files.now))) old.now new.now changes.differ) }
+    ensures errors { IfErr result (IsDiffRefusal old.now new.now) }
+{
+    if files.is_empty() {
+        return hwdb_inspect::diff(alloc, json, old, new);
+    }
+    let devices = devices_in(alloc, files)?;
+    diff_devices(alloc, json, old, new, &devices)
+}
+
+/// Adds the devices that a text names, a line each. The only error, here and below, is `AllocError`.
+fn push_devices<'a>(devices: &mut Vec<&'a [u8]>, text: &'a [u8]) -> Result<(), AllocError>
+    ensures { OnOk result (map (λ d. d.now) devices.new.items
+        ≡ map (λ d. d.now) devices.old.items ++ devices_of text.now) }
+{
+    for line in Lines::new(text) {
+        devices.push(line)?;
+    }
+    Ok(())
+}
+
+/// The devices of some files.
+fn devices_in<'a>(alloc: Global, files: &[TextFile<'a>]) -> Result<Vec<&'a [u8]>, AllocError>
+    ensures { IfOk result (λ devices. map (λ d. d.now) devices.items ≡ flat_map
+        (λ (f : folders.Source). devices_of f.bytes) (map source_of files.now)) }
+{
+    let mut devices = Vec::new(alloc);
+    for file in files {
+        push_devices(&mut devices, file.bytes)?;
+    }
+    Ok(devices)
 }
 
 /// The status: 1 if the two differ, else 0.

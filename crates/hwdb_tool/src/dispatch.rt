@@ -229,16 +229,14 @@ pub fn run<D: Machine, I: Source, O: Sink, E: Sink>(
     ensures done { D.Store.tells → let world = world_by (sight_by D.answers)
         (files_by D.Store.seen D.System.may_fail D.Store.may_leave D.Store.failures)
         (told_by I.left I.failures) (told_by O.taken O.failures) (told_by E.taken E.failures) in
-        IfOk result (λ status. IsTaskDone job.now.task (root_of job.now)
-        job.now.usr job.now.strict status
-        (world system.old input.old out.old err.old)
+        IfOk result (λ status. IsTaskDone job.now.task (root_of job.now) job.now.usr
+        job.now.strict status (world system.old input.old out.old err.old)
         (world system.new input.new out.new err.new)) }
     ensures refused { D.Store.tells → let world = world_by (sight_by D.answers)
         (files_by D.Store.seen D.System.may_fail D.Store.may_leave D.Store.failures)
         (told_by I.left I.failures) (told_by O.taken O.failures) (told_by E.taken E.failures) in
-        IfErr result (IsNotDone job.now.task (root_of job.now)
-        job.now.usr job.now.strict
-        (world system.old input.old out.old err.old)
+        IfErr result (IsNotDone job.now.task (root_of job.now) job.now.usr
+        job.now.strict (world system.old input.old out.old err.old)
         (world system.new input.new out.new err.new)) }
     ensures out_hands_on { HandsOn (O.is_flushed out.old) (O.is_flushed out.new)
         (O.failures out.old) (O.failures out.new) }
@@ -324,8 +322,15 @@ pub fn run<D: Machine, I: Source, O: Sink, E: Sink>(
             let answer = device(alloc, root, given, form, system);
             printed(answer, out, err)
         }
-        Task::Diff { old, new } => {
-            printed(diff(alloc, old.as_str(), new.as_str(), system), out, err)
+        Task::Diff {
+            old,
+            new,
+            devices,
+            json,
+        } => {
+            let (old, new) = (old.as_str(), new.as_str());
+            let answer = diff(alloc, old, new, devices, *json, system, input);
+            printed(answer, out, err)
         }
         Task::Status { json, quiet } => {
             printed(status(alloc, root, *json, *quiet, system), out, err)

@@ -61,4 +61,6 @@ pub fn jobs_are_one<D: System>(first: &D, first_then: &D, second: &D, second_the
         (D.Store.may_leave second.now) (D.Store.may_leave second_then.now) }
 {
     tasks_are_one(first, first_then, second, second_then);
+    listings_give_one_reading();
+    law_one_written_form();
 }

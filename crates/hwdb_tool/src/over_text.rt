@@ -107,16 +107,14 @@ pub fn run_over_text<D: Machine, I: Source, O: Sink, E: Sink>(
     ensures done { D.Store.tells → let world = world_by (sight_by D.answers)
         (files_by D.Store.seen D.System.may_fail D.Store.may_leave D.Store.failures)
         (told_by I.left I.failures) (told_by O.taken O.failures) (told_by E.taken E.failures) in
-        IfOk result (λ status. IsDoneOverText job.now.task (root_of job.now)
-        job.now.usr job.now.strict status
-        (world system.now input.old out.old err.old)
+        IfOk result (λ status. IsDoneOverText job.now.task (root_of job.now) job.now.usr
+        job.now.strict status (world system.now input.old out.old err.old)
         (world system.now input.new out.new err.new)) }
     ensures refused { D.Store.tells → let world = world_by (sight_by D.answers)
         (files_by D.Store.seen D.System.may_fail D.Store.may_leave D.Store.failures)
         (told_by I.left I.failures) (told_by O.taken O.failures) (told_by E.taken E.failures) in
-        IfErr result (IsNotDoneFrom true job.now.task (root_of job.now)
-        job.now.usr job.now.strict
-        (world system.now input.old out.old err.old)
+        IfErr result (IsNotDoneFrom true job.now.task (root_of job.now) job.now.usr
+        job.now.strict (world system.now input.old out.old err.old)
         (world system.now input.new out.new err.new)) }
     ensures out_hands_on { HandsOn (O.is_flushed out.old) (O.is_flushed out.new)
         (O.failures out.old) (O.failures out.new) }

@@ -1,5 +1,5 @@
 -- The stack of a walk: what is still to come, and how many nodes are left. The list begins with the top.
-use Rattle.std.specs.Prelude.{List, ℕ, [], ◌∷◌, ◌++◌, ◌+◌, ◌≤◌, ◌≡◌, suc, take, drop, length, max}
+use Rattle.std.specs.Prelude.{List, ℕ, [], ◌∷◌, ◌++◌, ◌+◌, ◌≤◌, ◌≡◌, ◌⊎◌, suc, take, drop, length, max}
 use Rattle.hwdb_spec.specs.Assignment.{Assignment}
 use Rattle.hwdb_spec.specs.Summary.{depth}
 use Rattle.hwdb_spec.specs.Tree.{Tree}
@@ -44,9 +44,13 @@ deepest_to_come [] = 0
 deepest_to_come (o ∷ below) = max (suc (length below) + depth_in (kids_of o)) (deepest_to_come below)
 
 -- one node was put on top, with none of its children done
-pub record Opened (before now : List OpenVisit) (t : Tree) (size : ℕ) : Type 0 where
+pub record OnTop (before now : List OpenVisit) (t : Tree) (size : ℕ) : Type 0 where
   pub top : OpenVisit
   pub stands : now ≡ before ++ top ∷ []
   pub tree : entered_tree top.inside ≡ t
   pub none_done : top.done ≡ 0
   pub reach : top.length ≡ size
+
+-- a node was entered: it was put on top, if it has children
+abbrev pub Opened : (before now : List OpenVisit) (t : Tree) (size : ℕ) → Type 0
+Opened before now t size = OnTop before now t size ⊎ ((now ≡ before) × (children_of t ≡ []))

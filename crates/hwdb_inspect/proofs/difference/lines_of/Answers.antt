@@ -1,4 +1,5 @@
 use Rattle.std.proofs.Common.{◌∙◌, refl, ◌||◌}
+use Rattle.hwdb_inspect.specs.Internal.Forms.{change_form}
 use Rattle.hwdb_inspect.specs.Views.{changes_of}
 use Rattle.hwdb_inspect.specs.Internal.Pairing.{to_tell}
 use Rattle.hwdb_inspect.proofs.DiffLemmas.{joined, differ_step}
@@ -10,6 +11,6 @@ pairs-preserved c =
     let changes = changes_of c.in-Some.pair in
     let more = to_tell c.next.new.self in
     record {
-      text = joined c.pairs.text.items c.push_pair.new.text.items all changes more c.in-Some.ensures.some c.in_ok-differ.ensures.text ∙ c.pairs.invariant.text;
+      text = joined (change_form c.args.json) c.pairs.text.items c.push_form.new.text.items all changes more c.in-Some.ensures.some c.in_ok-differ.ensures.text ∙ c.pairs.invariant.text;
       differ = differ_step c.pairs.differ c.in_ok-differ.field-0 (c.pairs.differ || c.in_ok-differ.field-0) all changes more c.in-Some.ensures.some c.in_ok-differ.ensures.differs refl ∙ c.pairs.invariant.differ;
     }

@@ -1,4 +1,4 @@
-use Rattle.std.proofs.Common.{◌≡◌, ◌∙◌, ap, sym, ◌++◌, ◌+◌, ◌-◌, [], map, max, reverse, take, length, arith, subst, append-nil, List, ℕ}
+use Rattle.std.proofs.Common.{◌≡◌, ◌∙◌, ap, sym, ◌++◌, ◌+◌, ◌-◌, ◌≤◌, [], map, max, reverse, take, length, arith, subst, append-nil, List, ℕ}
 use Rattle.hwdb_spec.specs.Summary.{depth}
 use Rattle.hwdb_spec.specs.Tree.{members_under, prefix_of, values_of}
 use Rattle.hwdb_reader.specs.Views.{children_of, tree_of, node_count}
@@ -7,7 +7,7 @@ use Rattle.hwdb_query.specs.Internal.Members.{own_members, members_in}
 use Rattle.hwdb_inspect.specs.Internal.Walks.{to_come, left, deepest_to_come, Opened}
 use Rattle.hwdb_inspect.specs.declared.walk.OpenVisit.{OpenVisit}
 use Rattle.hwdb_inspect.proofs.DepthLemmas.{opened_deepest, depth_and_below, nodes_same}
-use Rattle.hwdb_inspect.proofs.WalkLemmas.{opened_comes, opened_stands, opened_left}
+use Rattle.hwdb_inspect.proofs.WalkLemmas.{opened_size, opened_comes, opened_stands, opened_left}
 use Rattle.hwdb_inspect.proofs.walk.survey.Goals as goal
 use Rattle.hwdb_query.specs.Lemmas.Parts.{members_split, node_and_below}
 
@@ -32,7 +32,7 @@ loop-top-init c =
     c.in_ok-enter.ensures.deepest ∙ ap (λ (g : ℕ × List OpenVisit). max g.0 (length g.1 + 1)) (λ i. (c.new-walk.ensures.deepest i, c.new-walk.ensures.stack i)) in
     let opened_deep = opened_deepest [] c.enter.new.self.stack.items tree (length path) opened in
     let below = depth_and_below tree in
-    let one : length c.enter.new.self.stack.items ≡ 1 = ap length opened.stands in
+    let one : length c.enter.new.self.stack.items ≤ 1 = opened_size [] c.enter.new.self.stack.items tree (length path) opened in
     record {
       found = ap (λ (g : List _ × List _). g.0 ++ g.1) (λ i. (own i, kids i)) ∙ sym (members_split [] tree) ∙ ap (members_under []) c.root-root.ensures.root;
       stands = opened_stands [] c.enter.new.self.stack.items tree path opened tt;

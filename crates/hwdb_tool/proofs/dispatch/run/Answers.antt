@@ -1,7 +1,7 @@
 use Rattle.std.proofs.Common.{◌≡◌, ◌⊎◌, ap, inl, inr, ⊎_elim, refl, string_bytes, subst, sym, ◌==◌, length, map, not, IfOk, IfErr}
 use Rattle.std.specs.Prelude.{option_map}
 use Rattle.hwdb_spec.specs.declared.job.Task.TheVariants.{Ask, Check, Device, Diff, Near, Status, Test, Update}
-use Rattle.hwdb_spec.specs.Asked.{IsAnswered, IsCompared, IsListFrom}
+use Rattle.hwdb_spec.specs.Asked.{IsAnswered, IsListFrom}
 use Rattle.hwdb_spec.specs.CheckedFiles.{AreCheckedFiles, IsChecked}
 use Rattle.hwdb_spec.specs.Done.{IsAsked, IsLeftByUpdateLess, OldOrUpdatedLess}
 use Rattle.hwdb_spec.specs.Given.{is_dash}
@@ -11,7 +11,7 @@ use Rattle.hwdb_spec.specs.StatusErrors.{IsStatusRefused}
 use Rattle.hwdb_spec.specs.Runs.{OnOut, World, files_by, told_by}
 use Rattle.hwdb_spec.specs.NearAsked.{IsNear, near_form, near_limit}
 use Rattle.hwdb_spec.specs.SysfsAnswers.{sight_by}
-use Rattle.hwdb_spec.specs.ComparedDatabases.{IsDiffRefused}
+use Rattle.hwdb_spec.specs.ComparedDatabases.{HasDiffReason, IsDiffed, IsDiffRefused}
 use Rattle.hwdb_spec.specs.NearErrors.{IsNearRefused}
 use Rattle.hwdb_spec.specs.Tested.{IsTested}
 use Rattle.hwdb_spec.specs.TestErrors.{HasTestReason, IsTestRefused}
@@ -148,21 +148,36 @@ returns-in-Diff-clause-refused g c = λ tells.
     let E = told_by g.E.Sink.taken g.E.Sink.failures in
     let seen = g.D.Store.seen c.args.system.now in
     let before : World = record { files = F c.args.system.now; input = I c.args.input.now; out = O c.args.out.now; err = E c.args.err.now; devices = V c.args.system.now } in
-    let now : World = record { files = F c.args.system.now; input = I c.args.input.now; out = O c.printed-in-Diff.new.out; err = E c.printed-in-Diff.new.err; devices = V c.args.system.now } in
-    let task = Diff c.in-Diff.old c.in-Diff.new in
+    let now : World = record { files = F c.args.system.now; input = I c.diff-answer.new.input; out = O c.printed-in-Diff.new.out; err = E c.printed-in-Diff.new.err; devices = V c.args.system.now } in
+    let fails = before.files.fails in
+    let input = before.input.bytes in
+    let n = before.input.failures in
+    let m = now.input.failures in
+    let json = c.in-Diff.json in
+    let task = Diff c.in-Diff.old c.in-Diff.new c.in-Diff.devices json in
     let old = string_bytes c.in-Diff.old in
+    let new = string_bytes c.in-Diff.new in
     let of_old = c.as_str-in-Diff.ensures.value in
     let of_new = c.as_str-in-Diff-2.ensures.value in
     let new_path = c.as_str-in-Diff-2.result.now in
+    let given = map string_bytes c.in-Diff.devices.items in
+    let items = c.deref-in-Diff.ensures.value in
+    let paths = map string_bytes c.deref-in-Diff.result.now in
+    let answer = c.diff-answer.result in
     subst (λ t. IfErr c.printed-in-Diff.result (IsNotDone t (root_of job) job.usr job.strict before now)) (sym c.in-Diff.is)
     (each_error _ (IsNotDone task (root_of job) job.usr job.strict before now) c.printed-in-Diff.result (λ r both. ((both.0, record { same = λ p. refl; no_more = λ p v l. l }), both.1))
-    (printed_refused c.diff.result c.printed-in-Diff.result (Refuses task (root_of job) before.input.bytes seen) (IsTaskReason task (root_of job) job.usr before now)
-    (λ s t. IsAnswerOf task (root_of job) job.strict before.input.bytes seen s t) before.err now.err before.out now.out
-    (subst (λ n. IfErr c.diff.result (IsDiffRefused old n seen)) of_new (subst (λ o. IfErr c.diff.result (IsDiffRefused o new_path seen)) of_old (c.diff.ensures.refused tells)))
-    (subst (λ n. IfOk c.diff.result (λ a. OnOut (λ text. IsCompared old n seen text a.status) (texts_in a))) of_new
-    (subst (λ o. IfOk c.diff.result (λ a. OnOut (λ text. IsCompared o new_path seen text a.status) (texts_in a))) of_old (c.diff.ensures.compared tells)))
-    (each_error _ (IsTaskReason task (root_of job) job.usr before now) c.diff.result (λ r has. any_reason _ _ seen r has) c.diff.ensures.reason)
-    tt c.printed-in-Diff.ensures.refused))
+    (printed_refused answer c.printed-in-Diff.result (Refuses task (root_of job) input seen) (IsTaskReason task (root_of job) job.usr before now)
+    (λ s t. IsAnswerOf task (root_of job) job.strict input seen s t) before.err now.err before.out now.out
+    (subst (λ l. IfErr answer (IsDiffRefused (map string_bytes l) old new input seen)) items
+    (subst (λ p. IfErr answer (IsDiffRefused paths old p input seen)) of_new
+    (subst (λ p. IfErr answer (IsDiffRefused paths p new_path input seen)) of_old (c.diff-answer.ensures.refused tells))))
+    (subst (λ l. IfOk answer (λ a. OnOut (λ text. IsDiffed json (map string_bytes l) old new input seen text a.status) (texts_in a))) items
+    (subst (λ p. IfOk answer (λ a. OnOut (λ text. IsDiffed json paths old p input seen text a.status) (texts_in a))) of_new
+    (subst (λ p. IfOk answer (λ a. OnOut (λ text. IsDiffed json paths p new_path input seen text a.status) (texts_in a))) of_old (c.diff-answer.ensures.diffed tells))))
+    (subst (λ l. IfErr answer (HasDiffReason (map string_bytes l) old new fails seen input n m)) items
+    (subst (λ p. IfErr answer (HasDiffReason paths old p fails seen input n m)) of_new
+    (subst (λ p. IfErr answer (HasDiffReason paths p new_path fails seen input n m)) of_old (c.diff-answer.ensures.reason tells))))
+    (inl refl) c.printed-in-Diff.ensures.refused))
 
 pub returns-in-Ask-clause-refused : goal.returns-in-Ask-clause-refused
 returns-in-Ask-clause-refused g c = λ tells.

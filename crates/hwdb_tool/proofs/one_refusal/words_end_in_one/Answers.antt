@@ -7,30 +7,30 @@ use Rattle.hwdb_tool.proofs.StreamErrorLemmas.{done_job_is_no_end, stream_jobs_a
 use Rattle.hwdb_tool.proofs.one_refusal.words_end_in_one.Goals as goal
 
 pub returns-clause-one : goal.returns-clause-one
-returns-clause-one g c = λ words status status2 before now before2 now2 input one two kind is is2.
+returns-clause-one g c = λ words status status2 before now before2 now2 input one two kind none is is2.
     ⊎_elim
     (λ covered. one_job_error c.law_header_faults.ensures.one c.law_one_tree.ensures c.listings_give_one_reading.ensures.choice c.listings_give_one_reading.ensures.reading
     (one_stand c.names_are_those_that_count.ensures c.names_ascend.ensures c.one_ascending_list.ensures, full_or_stand c.names_are_those_that_count.ensures c.names_ascend.ensures c.one_ascending_list.ensures) c.law_one_written_form.ensures _ _ _ _ _ _ _ _
-    words status status2 before now before2 now2 input one two covered is is2)
+    words status status2 before now before2 now2 input one two covered none is is2)
     (λ other. ⊎_elim
     (λ stream. stream_jobs_are_one c.law_header_faults.ensures.one c.law_one_tree.ensures _ _ _ _ _ _ _ _
-    words status status2 before now before2 now2 input one two stream is is2)
+    words status status2 before now before2 now2 input one two stream none is is2)
     (λ device. device_jobs_are_one c.law_header_faults.ensures.one _ _ _ _ _ _ _ _
-    words status status2 before now before2 now2 input one two device is is2)
+    words status status2 before now before2 now2 input one two device none is is2)
     other)
     kind
 
 pub returns-clause-done : goal.returns-clause-done
-returns-clause-done g c = λ words status status2 before now before2 now2 input done refused kind is.
+returns-clause-done g c = λ words status status2 before now before2 now2 input done refused kind none is.
     ⊎_elim
     (λ covered. no_job_error c.law_header_faults.ensures.one c.law_one_tree.ensures c.listings_give_one_reading.ensures.choice c.listings_give_one_reading.ensures.reading
     (one_stand c.names_are_those_that_count.ensures c.names_ascend.ensures c.one_ascending_list.ensures, full_or_stand c.names_are_those_that_count.ensures c.names_ascend.ensures c.one_ascending_list.ensures) c.law_one_written_form.ensures _ _ _ _ _ _ _ _
-    words status status2 before now before2 now2 input done refused covered is)
+    words status status2 before now before2 now2 input done refused covered none is)
     (λ other. ⊎_elim
     (λ stream. done_job_is_no_end c.law_header_faults.ensures.one c.law_one_tree.ensures _ _ _ _ _ _ _ _
-    words status status2 before now before2 now2 input done refused stream is)
+    words status status2 before now before2 now2 input done refused stream none is)
     (λ device. device_done_job_is_no_end c.law_header_faults.ensures.one _ _ _ _ _ _ _ _
-    words status status2 before now before2 now2 input done refused device is)
+    words status status2 before now before2 now2 input done refused device none is)
     other)
     kind
 

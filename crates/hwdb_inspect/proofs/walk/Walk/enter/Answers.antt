@@ -1,11 +1,20 @@
-use Rattle.std.proofs.Common.{refl, ◌∙◌, sym, ap, length}
+use Rattle.std.proofs.Common.{refl, ◌∙◌, ◌++◌, ◌∷◌, [], List, sym, ap, length, arith, inl, inr}
+use Rattle.hwdb_reader.specs.Views.{children_of}
+use Rattle.hwdb_inspect.specs.declared.walk.OpenVisit.{OpenVisit}
+use Rattle.hwdb_inspect.proofs.WalkLemmas.{no_kids}
 use Rattle.hwdb_inspect.proofs.walk.Walk.enter.Goals as goal
 
 pub returns-clause-stack : goal.returns-clause-stack
-returns-clause-stack c = record {
+returns-clause-stack c = inl (record {
   top = _;
-  stands = c.in_ok-push.ensures.items;
+  stands = c.in_ok-push.ensures.items ∙ ap (λ (l : List OpenVisit). l ++ record { inside = c.enter-inside.result; done = 0; length = c.len-length.result } ∷ []) c.reserve.ensures.items;
   tree = c.enter-inside.ensures.same;
   none_done = refl;
   reach = c.len-length.ensures ∙ sym c.deref.ensures.len ∙ ap length c.deref.ensures.value;
-}
+})
+
+pub returns-then-children-eq0-clause-stack : goal.returns-then-children-eq0-clause-stack
+returns-then-children-eq0-clause-stack c =
+    let count = c.children.ensures in
+    let zero_is = c.if-children-eq0.true in
+    inr (c.in_ok-reserve.ensures.items, ap children_of (sym c.enter-inside.ensures.same) ∙ no_kids _ (omega (arith, count, zero_is)))

@@ -6,7 +6,7 @@ use Rattle.hwdb_query.specs.Internal.Members.{own_members}
 use Rattle.hwdb_inspect.specs.Internal.Walks.{to_come, deepest_to_come, Opened}
 use Rattle.hwdb_inspect.proofs.PartLemmas.{kid_within}
 use Rattle.hwdb_inspect.proofs.DepthLemmas.{child_deepest}
-use Rattle.hwdb_inspect.proofs.WalkLemmas.{gone_on, some_left, child_comes, child_counted, child_steps, child_stands}
+use Rattle.hwdb_inspect.proofs.WalkLemmas.{gone_on, opened_size, some_left, child_comes, child_counted, child_steps, child_stands}
 use Rattle.hwdb_inspect.proofs.walk.Walk.go_on.Goals as goal
 
 pub enter-requires : goal.enter-requires
@@ -62,3 +62,11 @@ returns-clause-deepest c =
     let below : c.push-2.new.self.items ≡ c.args.self.now.stack.items ++ gone_on c.args.top ∷ [] = c.in_ok-push-2.ensures.items in
     ap (λ d. max d (deepest_to_come (reverse c.enter.new.self.stack.items))) (grown ∙ ap (λ (b : List _). max c.args.self.now.deepest (length b + 1)) below)
     ∙ child_deepest c.args.self.now.deepest (length c.enter.new.self.path.items) c.args.top c.args.self.now.stack.items c.enter.new.self.stack.items k c.child-child.ensures (opened c)
+
+pub returns-clause-reached : goal.returns-clause-reached
+returns-clause-reached c =
+    let k : ℕ × Tree = (c.child-child.result.byte, tree_of c.child-child.result.node) in
+    let size = opened_size (c.args.self.now.stack.items ++ gone_on c.args.top ∷ []) c.enter.new.self.stack.items k.1 (length c.enter.new.self.path.items) (opened c) in
+    let below : length c.push-2.new.self.items ≡ length (c.args.self.now.stack.items ++ gone_on c.args.top ∷ []) = ap length c.in_ok-push-2.ensures.items in
+    let grown = c.in_ok-enter.ensures.deepest in
+    omega (arith, size, below, grown)
