@@ -200,6 +200,7 @@ static int new_from_file(int fd, sd_hwdb **ret) {
         end(hwdb);
         return r;
     }
+    hwdb->is_spent = false;
     *ret = hwdb;
     return 0;
 }

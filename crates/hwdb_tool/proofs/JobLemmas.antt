@@ -250,21 +250,21 @@ same_misuse name inner (Verify database1) (Verify database2) t u takes takes2 =
     ap (λ (b : Bool). text_if b (codes "--text and DATABASE are two sources: leave out one of them")) (one_some string_bytes database2 database1 (u.1 ∙ sym t.1))
 same_misuse name inner (Dump database1) (Dump database2) t u takes takes2 =
     ap (λ (b : Bool). text_if b (codes "--text and DATABASE are two sources: leave out one of them")) (one_some string_bytes database2 database1 (u.1 ∙ sym t.1))
-same_misuse name inner (Update v1 k1) task2 t u takes takes2 = both_words (sym takes) refl
-same_misuse name inner (Ask file1 device1) task2 t u takes takes2 = both_words (sym takes) refl
-same_misuse name inner (Check files1 allowed1 json1) task2 t u takes takes2 = both_words (sym takes) refl
-same_misuse name inner (Diff old1 new1 devices1 json1) task2 t u takes takes2 = both_words (sym takes) refl
-same_misuse name inner (Status json1 quiet1) task2 t u takes takes2 = both_words (sym takes) refl
-same_misuse name inner task1 (Update v2 k2) t u takes takes2 = both_words (sym takes2) refl
-same_misuse name inner task1 (Ask file2 device2) t u takes takes2 = both_words (sym takes2) refl
-same_misuse name inner task1 (Check files2 allowed2 json2) t u takes takes2 = both_words (sym takes2) refl
-same_misuse name inner task1 (Diff old2 new2 devices2 json2) t u takes takes2 = both_words (sym takes2) refl
-same_misuse name inner task1 (Status json2 quiet2) t u takes takes2 = both_words (sym takes2) refl
+same_misuse name inner (Update v1 k1) task2 t u takes takes2 = both_words takes refl
+same_misuse name inner (Ask file1 device1) task2 t u takes takes2 = both_words takes refl
+same_misuse name inner (Check files1 allowed1 json1) task2 t u takes takes2 = both_words takes refl
+same_misuse name inner (Diff old1 new1 devices1 json1) task2 t u takes takes2 = both_words takes refl
+same_misuse name inner (Status json1 quiet1) task2 t u takes takes2 = both_words takes refl
+same_misuse name inner task1 (Update v2 k2) t u takes takes2 = both_words takes2 refl
+same_misuse name inner task1 (Ask file2 device2) t u takes takes2 = both_words takes2 refl
+same_misuse name inner task1 (Check files2 allowed2 json2) t u takes takes2 = both_words takes2 refl
+same_misuse name inner task1 (Diff old2 new2 devices2 json2) t u takes takes2 = both_words takes2 refl
+same_misuse name inner task1 (Status json2 quiet2) t u takes takes2 = both_words takes2 refl
 same_misuse name inner task1 task2 t u takes takes2 = apart (word_of task1) (word_of task2) refl (sym (is_named name inner task1 t) ∙ is_named name inner task2 u)
 
 takes_of : (text : Bool) (task : Task) → (text && takes_text task) ≡ true → takes_text task ≡ true
 takes_of true task e = e
-takes_of false task e = both_words (sym e) refl
+takes_of false task e = both_words e refl
 
 module _ (status : ℕ) (before now : World) where
   abbrev Done : Bool → Task → List ℕ → Bool → Bool → Type 0

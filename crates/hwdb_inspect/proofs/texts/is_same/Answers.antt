@@ -1,8 +1,7 @@
 use Rattle.std.proofs.Common.{◌≡◌, subst, true}
 use Rattle.std.specs.Prelude.{Decides}
-use Rattle.core.specs.Bool.{one_answer}
 use Rattle.std.proofs.lemmas.Slice.Eq.{slice_eq-Decides}
-use Rattle.std.proofs.lemmas.Bool.Decides.{Decides-eqb}
+use Rattle.std.proofs.lemmas.Bool.Decides.{Decides-eqb, same_from_decides}
 use Rattle.hwdb_spec.specs.Folders.{same}
 use Rattle.hwdb_spec.specs.Lemmas.Orders.{same_text, same_itself}
 use Rattle.hwdb_inspect.proofs.texts.is_same.Goals as goal
@@ -11,5 +10,5 @@ pub returns : goal.returns
 returns c =
     let one = c.args.one.now in
     let other = c.args.other.now in
-    one_answer c.eq.result (same one other) (slice_eq-Decides Decides-eqb one other c.eq.result c.eq.ensures)
+    same_from_decides c.eq.result (same one other) (slice_eq-Decides Decides-eqb one other c.eq.result c.eq.ensures)
     (same_text one other, λ e. subst (λ t. same one t ≡ true) e (same_itself one))
