@@ -39,13 +39,16 @@
 /* After so many blocks each further one that a lookup needs is read with twice as many after it. */
 #define FEW_BLOCKS 64
 
-/* What hwdb_c_lookup answers. */
-enum { WRITTEN = 0, TOO_SHORT = 1, NO_MEMORY = 2, MISSING = 3, FAULT = 4 };
+/* What hwdb_c_lookup and hwdb_c_properties answer. */
+enum { WRITTEN = 0, TOO_SHORT = 1, NO_MEMORY = 2, MISSING = 3, FAULT = 4, LONG_PATH = 5 };
 
-/* crates/hwdb_c/src/lib.rt. Both are for any bytes. No pointer that is handed to either is NULL. */
+/* crates/hwdb_c/src/lib.rt. The first two are for any bytes, the third for bytes for which the first answered 0. No pointer that
+ * is handed to them is NULL. */
 uint32_t hwdb_c_check(const uint8_t *bytes, size_t length, uint64_t *place);
 uint32_t hwdb_c_lookup(const uint8_t *bytes, size_t length, const uint8_t *present, size_t blocks, const uint8_t *device,
                        size_t device_length, uint8_t *out, size_t room, size_t *needed);
+uint32_t hwdb_c_properties(const uint8_t *bytes, size_t length, const uint8_t *device, size_t device_length, uint8_t *out,
+                           size_t room, size_t *needed);
 
 /* A file, of which some blocks were read. */
 struct database {
@@ -131,6 +134,16 @@ static int read_blocks(struct database *file, size_t block, size_t most) {
     return 0;
 }
 
+/* The same of the whole file, which is checked first: some pattern that may match is too long for the other way. */
+static int ask_whole(sd_hwdb *hwdb, const char *modalias, size_t *needed) {
+    int r = hwdb_check(hwdb);
+    if (r < 0)
+        return r;
+    uint32_t answer = hwdb_c_properties(hwdb->database.bytes, hwdb->database.length, (const uint8_t *)modalias, strlen(modalias),
+                                        (uint8_t *)hwdb->strings, hwdb->room, needed);
+    return answer == NO_MEMORY ? -ENOMEM : (int)answer;
+}
+
 /* Asks for the properties of a device, with the room that there is. Reads the blocks that it needs. */
 static int ask(sd_hwdb *hwdb, const char *modalias, size_t *needed) {
     struct database *file = &hwdb->database;
@@ -141,6 +154,8 @@ static int ask(sd_hwdb *hwdb, const char *modalias, size_t *needed) {
                                         strlen(modalias), (uint8_t *)hwdb->strings, hwdb->room, needed);
         if (answer == FAULT)
             return -EUCLEAN;
+        if (answer == LONG_PATH)
+            return ask_whole(hwdb, modalias, needed);
         if (answer != MISSING)
             return answer == NO_MEMORY ? -ENOMEM : (int)answer;
         if (reads >= FEW_BLOCKS && most < file->blocks)

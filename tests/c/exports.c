@@ -9,6 +9,9 @@ uint32_t hwdb_c_check(const uint8_t *bytes, size_t length, uint64_t *place);
 uint32_t hwdb_c_lookup(const uint8_t *bytes, size_t length, const uint8_t *present, size_t blocks, const uint8_t *device,
                        size_t device_length, uint8_t *out, size_t room, size_t *needed);
 
+uint32_t hwdb_c_properties(const uint8_t *bytes, size_t length, const uint8_t *device, size_t device_length, uint8_t *out,
+                           size_t room, size_t *needed);
+
 static const char EMPTY[] =
     "4b534c50484852480100000000000000690000000000000050000000000000001800000000000000100000000000000020000000000000"
     "0050000000000000001800000000000000010000000000000068000000000000000000000000000000000000000000000000";
@@ -89,6 +92,11 @@ int main(void) {
         uint32_t answer = look_up(row, length, 1, out, &needed);
         judge(answer == row->answer && needed == row->needed, "an answer", i);
         judge(memcmp(out, row->out, row->room) == 0 && out[row->room] == '.', "what is written", i);
+        memset(out, '.', sizeof out);
+        needed = 0;
+        answer = hwdb_c_properties(bytes, length, (const uint8_t *)row->device, strlen(row->device), out, row->room, &needed);
+        judge(answer == row->answer && needed == row->needed, "an answer from the whole", i);
+        judge(memcmp(out, row->out, row->room) == 0 && out[row->room] == '.', "what is written from the whole", i);
         /* None of its blocks was read: the first is asked for, and nothing is written. */
         memset(out, '.', sizeof out);
         answer = look_up(row, length, 0, out, &needed);

@@ -1,8 +1,9 @@
 //! What the C library `libhwdb` calls: whether bytes are a database, and the properties of a device.
 //!
-//! C owns all memory that goes in and out, and reads the file. Both calls are for any bytes. [`hwdb_c_lookup`] says
-//! which block of the file it needs, and is called again when that was read. Both promise, over what C sees, what
-//! `hwdb_reader::check` and `hwdb_lookup::lookup` do.
+//! C owns all memory that goes in and out, and reads the file. [`hwdb_c_check`] and [`hwdb_c_lookup`] are for any bytes.
+//! The latter says which block of the file it needs, and is called again when that was read. [`hwdb_c_properties`] is
+//! for bytes that were accepted: c/hwdb.c calls it for no others. They promise, over what C sees, what
+//! `hwdb_reader::check`, `hwdb_lookup::lookup` and `hwdb_query::effective` do.
 //!
 //! No view of the database is kept between two calls, since C can't hold one. So each lookup begins with the header.
 //!
@@ -10,7 +11,8 @@
 //! |---|---|
 //! | `faults` | the number and the place of a fault |
 //! | `strings` | properties as C's strings |
-//! | `answer` | the strings of a device's properties |
+//! | `answer` | the strings of a device's properties, of a file of which some blocks were read |
+//! | `whole` | the same, of a whole database |
 //! | `room` | texts put into a buffer of C's |
 #![tactic(auto)]
 
@@ -26,6 +28,7 @@ mod answer;
 mod faults;
 mod room;
 mod strings;
+mod whole;
 
 use answer::strings_of_known;
 use faults::{number_of, place_of};
@@ -34,6 +37,7 @@ use hwdb_query::compiled_answers_are_last;
 use hwdb_reader::check;
 use room::put;
 use std::alloc::Global;
+use whole::strings_for;
 
 /// The properties were written.
 const WRITTEN: u32 = 0;
@@ -45,6 +49,8 @@ const NO_MEMORY: u32 = 2;
 const MISSING: u32 = 3;
 /// The file is no database.
 const FAULT: u32 = 4;
+/// A path is too long for a lookup that checks what it enters.
+const LONG_PATH: u32 = 5;
 
 /// Whether the bytes are a database: 0, or the number of a fault, 1 for B1 to 11 for B11. `place` gets the fault's
 /// offset in bytes, or 0 if it has none.
@@ -76,8 +82,9 @@ pub extern "C" fn hwdb_c_check(bytes: &[u8], place: &mut u64) -> u32
 ///
 /// Answers 0, and in `needed` how many bytes were written. Answers 1 if `out` has less room than `needed` says, and 2
 /// if an allocation failed. Answers 3 if a block has to be read first, and in `needed` the block's number, counted from
-/// 0. Answers 4 if the file is no database, whatever its other blocks hold. If it doesn't answer 0, `out` stays as it
-/// was.
+/// 0. Answers 4 if the file is no database, whatever its other blocks hold. Answers 5 only if a path that may match has
+/// more than 65,536 bytes: then the whole file has to be checked, and [`hwdb_c_properties`] asked. If it doesn't answer
+/// 0, `out` stays as it was.
 ///
 /// For any bytes. Over the blocks of a database the properties are those of the whole: what `hwdb_query::effective`
 /// answers. The records that are entered have no more bytes than the file, and each of their strings is read as far as
@@ -91,7 +98,7 @@ pub extern "C" fn hwdb_c_lookup(
     out: &mut [u8],
     needed: &mut usize,
 ) -> u32
-    ensures status { result ≤ 4 }
+    ensures status { result ≤ 5 }
     ensures needed { result ≤ 1 → (file : List ℕ) (t : Tree) → MayBe bytes.now present.now file
         → IsDatabase file t → needed.new ≡ length (device_strings device.now t) }
     ensures written { result ≡ 0 → (file : List ℕ) (t : Tree) → MayBe bytes.now present.now file
@@ -118,7 +125,46 @@ pub extern "C" fn hwdb_c_lookup(
             return MISSING;
         }
         Err(Stop::Fault(_)) => return FAULT,
+        Err(Stop::LongPath) => return LONG_PATH,
         Err(Stop::Memory) => return NO_MEMORY,
+    };
+    *needed = strings.len();
+    if put(&strings, out) {
+        WRITTEN
+    } else {
+        TOO_SHORT
+    }
+}
+
+/// Writes the properties of the device to the front of `out`: key, byte 0, value, byte 0 for each key, ascending by
+/// key. It is for bytes that [`hwdb_c_check`] has accepted.
+///
+/// Answers 0, and in `needed` how many bytes these are. Answers 1 if `out` has less room than `needed` says, and 2 if
+/// an allocation failed. If it doesn't answer 0, `out` stays as it was.
+///
+/// One descent, as `hwdb_query::effective`. The memory that it takes is freed before it answers.
+#[unsafe(no_mangle)]
+pub extern "C" fn hwdb_c_properties(
+    alloc: Global,
+    bytes: &[u8],
+    device: &[u8],
+    out: &mut [u8],
+    needed: &mut usize,
+) -> u32
+    requires { (t : Tree) × IsDatabase bytes.now t }
+    ensures status { result ≤ 2 }
+    ensures needed { result ≢ 2 → (t : Tree) → IsDatabase bytes.now t
+        → needed.new ≡ length (device_strings device.now t) }
+    ensures written { result ≡ 0 → (t : Tree) → IsDatabase bytes.now t
+        → out.new ≡ device_strings device.now t ++ drop needed.new out.old }
+    ensures headline { result ≡ 0 → (etc usr : List Source) → IsCompiled etc usr bytes.now
+        → out.new ≡ last_strings device.now etc usr ++ drop needed.new out.old }
+    ensures short { result ≡ 1 → length out.old < needed.new }
+    ensures kept { result ≢ 0 → out.new ≡ out.old }
+{
+    compiled_answers_are_last();
+    let Ok(strings) = strings_for(alloc, bytes, device) else {
+        return NO_MEMORY;
     };
     *needed = strings.len();
     if put(&strings, out) {

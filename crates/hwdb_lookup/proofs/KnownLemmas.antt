@@ -12,12 +12,13 @@ use Rattle.hwdb_lookup.specs.Views.{IsOf, Stops}
 use Rattle.hwdb_lookup.specs.Internal.Agreement.{AgreeIn}
 use Rattle.hwdb_lookup.specs.declared.known.Known.{Known}
 use Rattle.hwdb_lookup.specs.declared.stop.Stop.{Stop}
-use Rattle.hwdb_lookup.specs.declared.stop.Stop.TheVariants.{Missing, Fault, Memory}
+use Rattle.hwdb_lookup.specs.declared.stop.Stop.TheVariants.{Missing, Fault, LongPath, Memory}
 
 -- why it stops stays so where more is said of a file
 pub stops_weaker : (known : Known) (P Q : List ℕ → Type 0) → ((file : List ℕ) → IsOf known file → Q file → P file) → (s : Stop) → Stops known P s → Stops known Q s
 stops_weaker known P Q more (Missing block) h = h
 stops_weaker known P Q more (Fault fault) h = λ file is q. h file is (more file is q)
+stops_weaker known P Q more LongPath h = h
 stops_weaker known P Q more Memory h = h
 
 -- an error that is handed on

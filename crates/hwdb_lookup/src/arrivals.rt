@@ -62,7 +62,7 @@ const MAX_PATH: usize = 65_536;
 /// live. The path becomes that.
 ///
 /// Each piece doubles what is fed. So a path that is dead soon takes few steps, however long the prefix is. A live path
-/// that is too long is as memory that is refused.
+/// that is too long stops the lookup.
 fn along_prefix<'d>(
     alloc: Global,
     known: Known<'_>,
@@ -86,7 +86,7 @@ fn along_prefix<'d>(
             return Ok(Some(reach));
         }
         if path.len() > MAX_PATH {
-            return Err(Stop::Memory);
+            return Err(Stop::LongPath);
         }
         path.extend_from_slice(piece)?;
         reach = reach.feed(alloc, piece)?;

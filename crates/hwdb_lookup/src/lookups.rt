@@ -20,7 +20,8 @@ use std::alloc::Global;
 /// needed wasn't read, [`Stop::Missing`] has its number. [`Stop::Fault`] comes only if the file is no database,
 /// whatever the blocks hold that weren't read.
 ///
-/// [`Stop::Memory`] comes if an allocation fails, or if a live path has more than 65,536 bytes.
+/// [`Stop::LongPath`] comes only if a live path has more than 65,536 bytes: then the whole file has to be checked, and
+/// asked by `hwdb_query::effective`. [`Stop::Memory`] comes if an allocation fails.
 ///
 /// Enters each live node once. The records of the nodes that it enters have no more bytes than the file. Each of their
 /// strings is read as far as it may matter.

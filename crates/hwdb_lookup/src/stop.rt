@@ -10,7 +10,10 @@ pub enum Stop {
     Missing(usize),
     /// The file is no database: what was entered has this fault.
     Fault(DbFault),
-    /// An allocation failed, or a live path has more than 65,536 bytes. A text file's patterns have at most 4,096.
+    /// A live path has more than 65,536 bytes, and this lookup goes on from none that is so long. A text file's patterns
+    /// have at most 4,096 bytes.
+    LongPath,
+    /// An allocation failed.
     Memory,
 }
 
