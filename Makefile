@@ -4,6 +4,7 @@
 # `make completions` writes the completions and README's table of commands from the program's help.
 # `make demo` runs the program on a file of our own, `make check` is the whole gate, `make check-edits` tries more wrong bodies,
 # `make check-survivors` those that the prover accepts, `make check-peer` compares with Debian's own files, `make bench` measures on them.
+# `make fuzz` gives the C library's calls changed files for five minutes, or for as long as SECONDS says.
 # `make install` and `make uninstall` go by the folders below and need no toolchain, `make deb` makes Debian packages in out/, `make
 # dist` an archive of the sources, and `make check-package` tries all but the last; it installs what it needs with apt-get.
 VERSION := $(shell cat VERSION)
@@ -30,11 +31,13 @@ LIBRARY ?= out/libhwdb.so.0
 CC ?= cc
 CFLAGS ?= -O2
 LIBRARIES ?= out
+# How long `make fuzz` runs.
+SECONDS ?= 300
 WARNINGS := -std=c11 -Wall -Wextra -Werror
 HARDENED := -Wl,-z,relro -Wl,-z,now -Wl,-z,noexecstack -Wl,--no-undefined
 
-.PHONY: all program lib linked-lib hardened-lib kit unproved completions demo check scripts timed check-edits check-survivors check-peer check-package \
-	bench install uninstall deb dist clean
+.PHONY: all program lib linked-lib hardened-lib kit unproved completions demo check scripts timed check-edits check-survivors fuzz check-peer \
+	check-package bench install uninstall deb dist clean
 
 # The library over what the program's proofs built; c/over-proved proves its calls.
 all: program
@@ -95,8 +98,9 @@ check: kit
 
 # What tries the built program and library, in lanes, the longest first.
 scripts: try-memory try-wrong-bodies try-definitions try-reading try-over-proved try-random try-rows try-crash try-documents \
-	try-definitions-page try-refused try-words try-command-line try-installed try-library try-readme try-runs try-folders \
-	try-refusals try-footprint try-reload try-streams try-colours try-near try-mistakes try-device try-test-files try-status try-text
+	try-definitions-page try-refused try-words try-command-line try-installed try-library try-readme try-runs try-folders try-sides \
+	try-refusals try-footprint try-reload try-streams try-colours try-near try-mistakes try-device try-test-files try-status try-text \
+	try-fuzz
 
 # What looks at the processor's times, after all others.
 timed: try-growth try-hostile
@@ -113,7 +117,7 @@ try-over-proved:
 	c/over-proved
 	$(MAKE) linked-lib
 
-try-installed try-library: try-over-proved
+try-installed try-library try-fuzz: try-over-proved
 
 # Not those of tests/peer, which need a network.
 try-device try-near: try-%:
@@ -133,6 +137,10 @@ check-edits:
 check-survivors:
 	tests/proofs/unproved --judge
 	tests/proofs/caught $(EDITS)
+
+# It keeps what it finds, and what is new to it, in out/.
+fuzz: $(PROGRAM) out/libhwdb.so.0
+	tests/hostile/fuzz '$(PROGRAM)' $(SECONDS)
 
 check-peer: $(PROGRAM) out/libhwdb.so.0
 	tests/proofs/key-names

@@ -36,7 +36,8 @@
 /* How many bytes a block has, as in crates/hwdb_lookup. */
 #define BLOCK 4096
 
-/* After so many blocks each further one that a lookup needs is read with twice as many after it. */
+/* A handle reads one block at once for each so many that it has read. So who asks much reads in larger pieces, of which few bytes
+ * are for nothing. Whatever a file's bytes are, some hundred reads are enough for all of it. */
 #define FEW_BLOCKS 64
 
 /* What hwdb_c_lookup and hwdb_c_properties answer. */
@@ -62,6 +63,8 @@ struct database {
     /* 1 for each block that was read. They are after the bytes, in the same mapping. */
     uint8_t *present;
     size_t blocks;
+    /* how many were read */
+    size_t read;
 };
 
 struct sd_hwdb {
@@ -101,7 +104,7 @@ static int reserve(int fd, struct database *file) {
     void *bytes = mmap(NULL, length + blocks + 1, PROT_READ | PROT_WRITE, MAP_PRIVATE | MAP_ANONYMOUS | MAP_NORESERVE, -1, 0);
     if (bytes == MAP_FAILED)
         return -ENOMEM;
-    *file = (struct database){fd, status.st_dev, status.st_ino, bytes, length, (uint8_t *)bytes + length, blocks};
+    *file = (struct database){fd, status.st_dev, status.st_ino, bytes, length, (uint8_t *)bytes + length, blocks, 0};
     return 0;
 }
 
@@ -109,29 +112,40 @@ static void release(struct database *file) {
     munmap(file->bytes, file->length + file->blocks + 1);
 }
 
-/* Reads a block, and at most so many in all, up to the next one that was read before. A file that was cut is no database. */
+/* Reads blocks that weren't read, from the first on. If that one can't be read, the answer says why. A file that was cut before the
+ * block's end is no database. */
+static int read_run(struct database *file, size_t first, size_t after) {
+    size_t at = first * BLOCK, end = after < file->blocks ? after * BLOCK : file->length;
+    ssize_t n = 1;
+
+    while (at < end && (n > 0 || (n < 0 && errno == EINTR))) {
+        n = pread(file->fd, file->bytes + at, end - at, (off_t)at);
+        at += n > 0 ? (size_t)n : 0;
+    }
+    size_t whole = at < end ? at / BLOCK : after;
+    memset(file->present + first, 1, whole - first);
+    file->read += whole - first;
+    return whole > first ? 0 : n == 0 ? -EUCLEAN : -errno;
+}
+
+/* Reads a block, and others around it that weren't read: at most `most` in all, or what FEW_BLOCKS says. */
 static int read_blocks(struct database *file, size_t block, size_t most) {
     struct stat status;
-    size_t after = block + 1;
 
     if (fstat(file->fd, &status) < 0)
         return -errno;
     if (status.st_dev != file->device || status.st_ino != file->inode)
         return -EBADF;
+    size_t first = block, after = block + 1;
+    if (most < file->read / FEW_BLOCKS)
+        most = file->read / FEW_BLOCKS;
     while (after < file->blocks && after - block < most && !file->present[after])
         after++;
-    size_t at = block * BLOCK, end = after < file->blocks ? after * BLOCK : file->length;
-    while (at < end) {
-        ssize_t n = pread(file->fd, file->bytes + at, end - at, (off_t)at);
-        if (n == 0)
-            return -EUCLEAN;
-        if (n > 0)
-            at += (size_t)n;
-        else if (errno != EINTR)
-            return -errno;
-    }
-    memset(file->present + block, 1, after - block);
-    return 0;
+    while (first > 0 && after - first < most && !file->present[first - 1])
+        first--;
+    read_run(file, first, after);
+    /* Another one may be unreadable: only who needs it is told. */
+    return file->present[block] ? 0 : read_run(file, block, block + 1);
 }
 
 /* The same of the whole file, which is checked first: some pattern that may match is too long for the other way. */
@@ -144,12 +158,12 @@ static int ask_whole(sd_hwdb *hwdb, const char *modalias, size_t *needed) {
     return answer == NO_MEMORY ? -ENOMEM : (int)answer;
 }
 
-/* Asks for the properties of a device, with the room that there is. Reads the blocks that it needs. */
+/* Asks for the properties of a device, with the room that there is. Reads the blocks that it needs. Each is one that wasn't read
+ * (the clause `missing` of hwdb_c_lookup), and is read then: so it is called at most once more than the file has blocks. */
 static int ask(sd_hwdb *hwdb, const char *modalias, size_t *needed) {
     struct database *file = &hwdb->database;
-    size_t most = 1;
 
-    for (size_t reads = 0;; reads++) {
+    for (;;) {
         uint32_t answer = hwdb_c_lookup(file->bytes, file->length, file->present, file->blocks, (const uint8_t *)modalias,
                                         strlen(modalias), (uint8_t *)hwdb->strings, hwdb->room, needed);
         if (answer == FAULT)
@@ -158,9 +172,7 @@ static int ask(sd_hwdb *hwdb, const char *modalias, size_t *needed) {
             return ask_whole(hwdb, modalias, needed);
         if (answer != MISSING)
             return answer == NO_MEMORY ? -ENOMEM : (int)answer;
-        if (reads >= FEW_BLOCKS && most < file->blocks)
-            most *= 2;
-        int r = read_blocks(file, *needed, most);
+        int r = read_blocks(file, *needed, 1);
         if (r < 0)
             return r;
     }

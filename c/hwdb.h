@@ -3,8 +3,9 @@
  * Every call that can fail answers 0 or more, or a negative errno. A handle is for one thread at a time.
  *
  * Cost: opening reads a few blocks of the file. A lookup takes one descent of the database's tree, and reads the blocks on its way
- * that weren't read before. It checks each record and string that it enters. A handle holds the open file and the blocks that
- * were read, the properties of its last lookup, and each string that it gave, once.
+ * that weren't read before; the more a handle has read, the more it reads at once. It checks each record and string that it
+ * enters. A handle holds the open file and the blocks that were read, the properties of its last lookup, and each string that it
+ * gave, once.
  *
  * Stack use is bounded: 256 KiB are enough for any file, trusted or not. */
 #ifndef HWDB_H

@@ -15,7 +15,8 @@ _hwdb_reply() {
 _hwdb_value() {
     case $1 in
         FILE) _filedir '@(hwdb|test)' ;;
-        DATABASE | OLD | NEW) _filedir bin ;;
+        DATABASE) _filedir bin ;;
+        OLD | NEW) _filedir '@(bin|hwdb)' ;;
         PATH) _filedir -d ;;
         COMMAND) mapfile -t COMPREPLY < <(compgen -W "${!arguments[*]}" -- "$cur") ;;
         MODALIAS)
@@ -65,7 +66,7 @@ _hwdb() {
         [device]='-r --root --color --text --strings --json --pattern -h --help'
         [check]='-s --strict -r --root --color --allow --json -h --help'
         [test]='-r --root --color --database --text --json -h --help'
-        [diff]='-r --root --color --devices --json -h --help'
+        [diff]='-r --root --color --devices --stat --json -h --help'
         [verify]='-r --root --color --text -h --help'
         [dump]='-r --root --color --text -h --help'
         [status]='-r --root --color --json -h --help'

@@ -57,6 +57,13 @@ function __hwdb_database
     __fish_complete_suffix .bin
 end
 
+# Databases and text files first, and then all else.
+function __hwdb_side
+    set -l all (__fish_complete_path (commandline -ct))
+    string match -r '.*\.(?:bin|hwdb)(?:\t.*)?$' -- $all
+    string match -rv '\.(?:bin|hwdb)(?:\t.*)?$' -- $all
+end
+
 complete -c hwdb -f
 # From here on completions/from-help has made it of the program's help.
 function __hwdb_takes_value
@@ -77,7 +84,7 @@ complete -c hwdb -n __hwdb_none -a near -d 'Prints the patterns that match a dev
 complete -c hwdb -n __hwdb_none -a device -d 'Prints the strings that udev asks the database for a device, and what each gives; without DEVICE lists the devices'
 complete -c hwdb -n __hwdb_none -a check -d 'Says what is wrong in text files, or hardly meant, and writes no database'
 complete -c hwdb -n __hwdb_none -a test -d 'Says whether a database gives devices the properties that test files want'
-complete -c hwdb -n __hwdb_none -a diff -d 'Prints what changed from one database to another: assignments, or what devices get'
+complete -c hwdb -n __hwdb_none -a diff -d 'Prints what changed from one database, text file, folder or root to another: assignments, or what devices get'
 complete -c hwdb -n __hwdb_none -a verify -d 'Says whether a file is a database that can be read, and how much is in it'
 complete -c hwdb -n __hwdb_none -a dump -d 'Prints a database as a text file'
 complete -c hwdb -n __hwdb_none -a status -d 'Says which database is asked, and whether it is what the text files make'
@@ -133,6 +140,7 @@ complete -c hwdb -n '__hwdb_at device' -l pattern -d 'Print a record to begin wi
 complete -c hwdb -n '__hwdb_at check' -l allow -x -a 'byte-order-mark leading-tab carriage-return open-bracket empty-range spaced-equals cut-value repeated-match replaced near-name scan-code unknown-key unfit-value zero-row two-defaults unread unpaired unknown-prefix dead-pattern' -d 'Leave out warnings of this kind; may come more than once'
 complete -c hwdb -n '__hwdb_at test' -l database -x -a '(__hwdb_database)' -d 'Ask this database, in place of that of /etc/udev or /usr/lib/udev'
 complete -c hwdb -n '__hwdb_at diff' -l devices -x -a '(__hwdb_file)' -d 'Compare what the devices of a file get, a line each, or of - for standard input; may come more than once'
+complete -c hwdb -n '__hwdb_at diff' -l stat -d 'Print how many assignments came, went and changed, by file and by key'
 
 complete -c hwdb -n '__hwdb_at query' -a '(__hwdb_modalias)' -d MODALIAS
 complete -c hwdb -n '__hwdb_at explain 1' -a '(__hwdb_modalias)' -d MODALIAS
@@ -144,8 +152,8 @@ complete -c hwdb -n '__hwdb_at near' -a '(__hwdb_modalias)' -d MODALIAS
 complete -c hwdb -n '__hwdb_at device 1' -a '(__hwdb_device)' -d DEVICE
 complete -c hwdb -n '__hwdb_at check' -k -a '(__hwdb_file)' -d FILE
 complete -c hwdb -n '__hwdb_at test' -k -a '(__hwdb_file)' -d FILE
-complete -c hwdb -n '__hwdb_at diff 1' -k -a '(__hwdb_database)' -d OLD
-complete -c hwdb -n '__hwdb_at diff 2' -k -a '(__hwdb_database)' -d NEW
+complete -c hwdb -n '__hwdb_at diff 1' -k -a '(__hwdb_side)' -d OLD
+complete -c hwdb -n '__hwdb_at diff 2' -k -a '(__hwdb_side)' -d NEW
 complete -c hwdb -n '__hwdb_at verify 1' -k -a '(__hwdb_database)' -d DATABASE
 complete -c hwdb -n '__hwdb_at dump 1' -k -a '(__hwdb_database)' -d DATABASE
 complete -c hwdb -n '__hwdb_at help 1' -a '(__hwdb_command)' -d COMMAND

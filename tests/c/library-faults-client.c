@@ -4,7 +4,7 @@
  *   client faults          calls that fail, and files that change meanwhile: what is answered, and what is held then
  *
  * `faults` is run in a folder with `root` and these files: `good` (device `a` has K=2, device `many` forty keys), `bad`,
- * `middle` (a database of 13 MB), `largest` (of 256 MiB) and `larger` (of a byte more). */
+ * `middle` (a database of 13 MB), `largest` (of 256 MiB), `larger` (of a byte more), and `scattered`, whose nodes are a block apart. */
 #define _GNU_SOURCE
 #include <errno.h>
 #include <fcntl.h>
@@ -222,6 +222,26 @@ static void reads(void) {
     later();
 }
 
+/* How many reads there were. */
+static int counted;
+
+static void count(void) {
+    counted++;
+}
+
+/* A file of a thousand blocks: each node that a lookup enters is in the block before that of the last one. One read for each block would
+ * begin the lookup a thousand times. */
+static void scattered(void) {
+    sd_hwdb *hwdb = NULL;
+
+    libc_before_read = count;
+    EXPECT(sd_hwdb_new_from_path("scattered", &hwdb) == 0);
+    EXPECT(sd_hwdb_seek(hwdb, "abcdefghijklmnopqrstuvwxyzABCDEabcdefghijklmnopqrstuvwxyzABCDE") == 0);
+    libc_before_read = NULL;
+    EXPECT(counted > 100 && counted < 400);
+    sd_hwdb_unref(hwdb);
+}
+
 /* What is made before a name is looked at that couldn't be opened; and its end before it is opened once more. */
 static void make(void) {
     EXPECT(link("good", ETC) == 0);
@@ -316,6 +336,7 @@ static void faults(void) {
     given_back();
     descriptors();
     reads();
+    scattered();
     between();
     refused();
 }

@@ -14,6 +14,7 @@
 //! | `answer` | the strings of a device's properties, of a file of which some blocks were read |
 //! | `whole` | the same, of a whole database |
 //! | `room` | texts put into a buffer of C's |
+//! | `laws` | laws of what C reads |
 #![tactic(auto)]
 
 ghost use Rattle.std.specs.Prelude.{◌≡◌, ◌≢◌, ◌≤◌, ◌<◌, ◌*◌, ◌++◌, ℕ, List, length, drop, slice_index};
@@ -26,6 +27,7 @@ ghost use Rattle.hwdb_spec.specs.Library.{IsFault, device_strings, last_strings}
 
 mod answer;
 mod faults;
+mod laws;
 mod room;
 mod strings;
 mod whole;
@@ -35,6 +37,7 @@ use faults::{number_of, place_of};
 use hwdb_lookup::{Known, Stop};
 use hwdb_query::compiled_answers_are_last;
 use hwdb_reader::check;
+pub use laws::reads_are_of_the_file;
 use room::put;
 use std::alloc::Global;
 use whole::strings_for;
@@ -82,9 +85,10 @@ pub extern "C" fn hwdb_c_check(bytes: &[u8], place: &mut u64) -> u32
 ///
 /// Answers 0, and in `needed` how many bytes were written. Answers 1 if `out` has less room than `needed` says, and 2
 /// if an allocation failed. Answers 3 if a block has to be read first, and in `needed` the block's number, counted from
-/// 0. Answers 4 if the file is no database, whatever its other blocks hold. Answers 5 only if a path that may match has
-/// more than 65,536 bytes: then the whole file has to be checked, and [`hwdb_c_properties`] asked. If it doesn't answer
-/// 0, `out` stays as it was.
+/// 0. It is one that `present` says wasn't read. So who reads each block that is asked for, and calls again, has
+/// another answer after at most as many calls as the file has blocks. Answers 4 if the file is no database, whatever
+/// its other blocks hold. Answers 5 only if a path that may match has more than 65,536 bytes: then the whole file has
+/// to be checked, and [`hwdb_c_properties`] asked. If it doesn't answer 0, `out` stays as it was.
 ///
 /// For any bytes. Over the blocks of a database the properties are those of the whole: what `hwdb_query::effective`
 /// answers. The records that are entered have no more bytes than the file, and each of their strings is read as far as

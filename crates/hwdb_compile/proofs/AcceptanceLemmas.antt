@@ -6,8 +6,8 @@ use Rattle.std.specs.FinMap as finite
 use Rattle.std.specs.Borrow.{Bor}
 use Rattle.std.specs.BTreeMap.{BTreeMap}
 use Rattle.std.proofs.lemmas.List.Elements.{All-nil, All-cons, All-head, All-tail}
-use Rattle.hwdb_spec.specs.Records.{assignments, faults}
-use Rattle.hwdb_spec.specs.Folders.{Choice, path_of, Source, first_of, all_assignments, contents, file_assignments, file_faults, fault_in, faults_of_files, AreAccepted, FaultIn}
+use Rattle.hwdb_spec.specs.Records.{faults}
+use Rattle.hwdb_spec.specs.Folders.{Choice, path_of, Source, first_of, contents, file_faults, fault_in, faults_of_files, AreAccepted, FaultIn}
 use Rattle.hwdb_compile.specs.declared.sources.ChosenFile.{ChosenFile}
 use Rattle.hwdb_compile.specs.Views.{FewLines, ManyLines, AreChosenOf, bytes_in, choice_in}
 use Rattle.hwdb_spec.specs.CompileErrors.{IsRefusal}
@@ -19,6 +19,7 @@ use Rattle.hwdb_spec.specs.declared.errors.CompileError.{CompileError}
 use Rattle.hwdb_spec.specs.declared.errors.CompileError.TheVariants.{TooManyFiles, TooManyLines, TooLarge, Memory}
 use Rattle.hwdb_spec.specs.Errors.{of_store}
 use Rattle.hwdb_compile.specs.Internal.Reading.{assignments_in, bytes_at, faults_in, IsFileRefusal, IsFilesRefusal}
+use Rattle.hwdb_compile.specs.Lemmas.Files.{all_read, same_assignments}
 use Rattle.hwdb_compile.proofs.GatherLemmas.{any_at, empty_index}
 
 abbrev Index : Type 0
@@ -33,14 +34,6 @@ same_contents etc usr none some all empty first second c =
 
 none_surviving : finite.empty ≡ surviving []
 none_surviving = refl
-
--- what the chosen files give is what those of the folders give
-all_read : {B : Type 0} (f : Choice → List ℕ → List B) (read : Choice → List ℕ) (files : List ChosenFile)
-    → All (λ x. bytes_in x ≡ read (choice_in x)) files → flat_map (λ x. f (choice_in x) (bytes_in x)) files ≡ flat_map (λ c. f c (read c)) (map choice_in files)
-all_read f read [] is = refl
-all_read f read (x ∷ files) is =
-    ap (λ b. f (choice_in x) b ++ flat_map (λ y. f (choice_in y) (bytes_in y)) files) (All-head (λ y. bytes_in y ≡ read (choice_in y)) x files is)
-    ∙ ap (λ l. f (choice_in x) (read (choice_in x)) ++ l) (all_read f read files (All-tail (λ y. bytes_in y ≡ read (choice_in y)) x files is))
 
 -- what holds of the bytes of each file holds of what is read
 each_read : (P : List ℕ → Type 0) (read : Choice → List ℕ) (files : List ChosenFile)
@@ -58,12 +51,6 @@ one_read P read files is one =
   where
     same_at : All (λ x. bytes_in x ≡ read (choice_in x)) files → (i : ℕ) (x : ChosenFile) → i < length files → x ≡ get_or files i x → bytes_in x ≡ read (choice_in x)
     same_at is i x lt e = subst (λ y. bytes_in y ≡ read (choice_in y)) (sym e) (is i x lt)
-
--- what the chosen files assign is what those of the folders assign
-pub same_assignments : (etc usr : List Source) (files : List ChosenFile) → AreChosenOf etc usr files → flat_map assignments_in files ≡ all_assignments etc usr
-same_assignments etc usr files of =
-    all_read (λ c b. assignments (record { path = path_of c; priority = c.priority }) b) (contents etc usr) files of.bytes
-    ∙ ap (flat_map (file_assignments (contents etc usr))) of.choices
 
 -- the tree that was filled has the files' map
 pub same_map : (etc usr : List Source) (files : List ChosenFile) (before after : Map) → AreChosenOf etc usr files → before ≡ finite.empty

@@ -1,3 +1,4 @@
 pub mod Views
 pub mod Laws
 pub mod Internal
+pub mod Lemmas

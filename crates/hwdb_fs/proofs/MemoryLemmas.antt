@@ -1,19 +1,20 @@
 -- A store in memory: what stands under a path was put there by one of its steps.
-use Rattle.std.proofs.Common.{◌≡◌, ◌≢◌, ◌∙◌, ◌⊎◌, ◌||◌, inl, inr, ap, sym, refl, subst, bytes_eq, true, false, List, ℕ, [], ◌∷◌, ◌++◌, Option, Some, None, if◌then◌else◌, All}
+use Rattle.std.proofs.Common.{◌≡◌, ◌≢◌, ◌∙◌, ◌⊎◌, ◌||◌, inl, inr, ap, sym, refl, subst, bytes_eq, true, false, List, ℕ, [], ◌∷◌, ◌++◌, Option, Some, None, if◌then◌else◌, All, Bool}
 use Rattle.std.specs.Prelude.{is_some, option_map, MatchOption, not, drop, Contains}
 use Rattle.std.specs.Option.{option_map_or}
-use Rattle.std.proofs.lemmas.List.Elements.{All-push, Contains-append_left, Contains-push}
+use Rattle.std.proofs.lemmas.List.Elements.{All-push, All-weaker, Contains-append_left, Contains-push}
 use Rattle.std.specs.Borrow.{Bor}
 use Rattle.std.proofs.lemmas.List.{append_cancel_left}
 use Rattle.hwdb_spec.specs.Lines.{has}
-use Rattle.hwdb_spec.specs.Store.{path_in, Stored}
-use Rattle.hwdb_spec.specs.System.{IsNameIn}
+use Rattle.hwdb_spec.specs.Store.{Contents, path_in, Stored}
+use Rattle.hwdb_spec.specs.Ignored.{AreIgnoredIn, IsIgnoredIn}
+use Rattle.hwdb_spec.specs.System.{AreNamesIn, IsNameIn}
 use Rattle.std.proofs.lemmas.Slice.Eq.{bytes_eq-Decides}
 use Rattle.hwdb_spec.specs.Crashes.{Traces, begin, changed}
 use Rattle.hwdb_replace.specs.Memory.{state_of, after, seen_of, stored}
 use Rattle.hwdb_replace.specs.declared.memory.Step.{Step}
 use Rattle.hwdb_replace.specs.declared.memory.Step.TheVariants.{Changed, Synced, Moved, Removed, Kept}
-use Rattle.hwdb_fs.specs.Internal.{made_by, IsMade, IsPushed, bytes_after, is_text_file}
+use Rattle.hwdb_fs.specs.Internal.{made_by, IsMade, IsPushed, IsToldIn, bytes_after, is_told_file}
 
 -- a step that leaves something under a path put it there, or it stood there before
 by_step : (p : List ℕ) (s : Traces) (x : Step) → is_some (after p s x).now ≡ true → (is_some s.now ≡ true) ⊎ (made_by x ≡ Some p)
@@ -92,37 +93,53 @@ no_name folder path none name is = none (47 ∷ name) is
 same_name : (folder a b : List ℕ) → path_in folder a ≡ path_in folder b → a ≡ b
 same_name folder a b e = ap (drop 1) (append_cancel_left folder (47 ∷ a) (47 ∷ b) e)
 
-is_text : (steps : List Step) (folder name : List ℕ) → IsNameIn folder (seen_of steps) name → is_text_file steps name (path_in folder name) ≡ true
-is_text steps folder name is =
-    ap (λ b. if not b || has 47 name then false else is_some (bytes_after steps (path_in folder name))) is.counts
-    ∙ ap (λ b. if false || b then false else is_some (bytes_after steps (path_in folder name))) is.plain ∙ is.there
+module _ (ignored : Bool) where
+  is_one : (steps : List Step) (folder name : List ℕ) → IsToldIn ignored folder (seen_of steps) name → is_told_file ignored steps name (path_in folder name) ≡ true
+  is_one steps folder name is =
+      ap (λ b. if not b || has 47 name then false else is_some (bytes_after steps (path_in folder name))) is.told
+      ∙ ap (λ b. if false || b then false else is_some (bytes_after steps (path_in folder name))) is.plain ∙ is.there
 
--- under a path that is no text file's none has a name
-pub not_named : (steps : List Step) (folder name other path : List ℕ) → path ≡ path_in folder other → is_text_file steps other path ≡ false
-    → IsNameIn folder (seen_of steps) name → path ≡ path_in folder name → ⊥
-not_named steps folder name other path of none is at =
-    let same : other ≡ name = same_name folder other name (sym of ∙ at) in
-    let yes : is_text_file steps other path ≡ true = ap (λ n. is_text_file steps n path) same ∙ ap (is_text_file steps name) at ∙ is_text steps folder name is in
-    absurd (cc)
+  -- under a path that is none of theirs, none has a name
+  pub not_named : (steps : List Step) (folder name other path : List ℕ) → path ≡ path_in folder other → is_told_file ignored steps other path ≡ false
+      → IsToldIn ignored folder (seen_of steps) name → path ≡ path_in folder name → ⊥
+  not_named steps folder name other path of none is at =
+      let same : other ≡ name = same_name folder other name (sym of ∙ at) in
+      let yes : is_told_file ignored steps other path ≡ true = ap (λ n. is_told_file ignored steps n path) same ∙ ap (is_told_file ignored steps name) at ∙ is_one steps folder name is in
+      absurd (cc)
 
--- ---- one step more
-abbrev AreAll : (steps : List Step) (folder : List ℕ) (xs : List Step) (names : List (List ℕ)) → Type 0
-AreAll steps folder xs names = (name : List ℕ) → IsNameIn folder (seen_of steps) name → IsMade xs (path_in folder name) → Contains names name
+  -- ---- one step more
+  abbrev AreAll : (steps : List Step) (folder : List ℕ) (xs : List Step) (names : List (List ℕ)) → Type 0
+  AreAll steps folder xs names = (name : List ℕ) → IsToldIn ignored folder (seen_of steps) name → IsMade xs (path_in folder name) → Contains names name
 
-pub pushed_each : (steps : List Step) (folder : List ℕ) (x : Step) (old new : List (List ℕ)) → IsPushed steps folder x old new
-    → All (IsNameIn folder (seen_of steps)) old → All (IsNameIn folder (seen_of steps)) new
-pushed_each steps folder x old new (inl none) each = subst (All (IsNameIn folder (seen_of steps))) (sym none.1) each
-pushed_each steps folder x old new (inr (name, is, e)) each =
-    subst (All (IsNameIn folder (seen_of steps))) (sym e) (All-push (IsNameIn folder (seen_of steps)) old name each is.0)
+  pub pushed_each : (steps : List Step) (folder : List ℕ) (x : Step) (old new : List (List ℕ)) → IsPushed ignored steps folder x old new
+      → All (IsToldIn ignored folder (seen_of steps)) old → All (IsToldIn ignored folder (seen_of steps)) new
+  pushed_each steps folder x old new (inl none) each = subst (All (IsToldIn ignored folder (seen_of steps))) (sym none.1) each
+  pushed_each steps folder x old new (inr (name, is, e)) each =
+      subst (All (IsToldIn ignored folder (seen_of steps))) (sym e) (All-push (IsToldIn ignored folder (seen_of steps)) old name each is.0)
 
-pub pushed_all : (steps : List Step) (folder : List ℕ) (xs : List Step) (x : Step) (old new : List (List ℕ)) → IsPushed steps folder x old new
-    → AreAll steps folder xs old → AreAll steps folder (xs ++ x ∷ []) new
-pushed_all steps folder xs x old new pushed all = λ name is made. by_case name is pushed (made_more xs x (path_in folder name) made)
-  where
-    by_case : (name : List ℕ) → IsNameIn folder (seen_of steps) name → IsPushed steps folder x old new → IsMade xs (path_in folder name) ⊎ (made_by x ≡ Some (path_in folder name)) → Contains new name
-    by_case name is (inl none) (inl made) = subst (λ l. Contains l name) (sym none.1) (all name is made)
-    by_case name is (inl none) (inr made) = absurd (none.0 name is made)
-    by_case name is (inr (other, found, e)) (inl made) = subst (λ l. Contains l name) (sym e) (Contains-append_left old (other ∷ []) name (all name is made))
-    by_case name is (inr (other, found, e)) (inr made) =
-        let same : other ≡ name = same_name folder other name (ap (λ o. option_map_or (λ b. b) o []) (sym found.1 ∙ made)) in
-        subst (λ l. Contains l name) (sym e) (subst (Contains (old ++ other ∷ [])) same (Contains-push old other))
+  pub pushed_all : (steps : List Step) (folder : List ℕ) (xs : List Step) (x : Step) (old new : List (List ℕ)) → IsPushed ignored steps folder x old new
+      → AreAll steps folder xs old → AreAll steps folder (xs ++ x ∷ []) new
+  pushed_all steps folder xs x old new pushed all = λ name is made. by_case name is pushed (made_more xs x (path_in folder name) made)
+    where
+      by_case : (name : List ℕ) → IsToldIn ignored folder (seen_of steps) name → IsPushed ignored steps folder x old new → IsMade xs (path_in folder name) ⊎ (made_by x ≡ Some (path_in folder name)) → Contains new name
+      by_case name is (inl none) (inl made) = subst (λ l. Contains l name) (sym none.1) (all name is made)
+      by_case name is (inl none) (inr made) = absurd (none.0 name is made)
+      by_case name is (inr (other, found, e)) (inl made) = subst (λ l. Contains l name) (sym e) (Contains-append_left old (other ∷ []) name (all name is made))
+      by_case name is (inr (other, found, e)) (inr made) =
+          let same : other ≡ name = same_name folder other name (ap (λ o. option_map_or (λ b. b) o []) (sym found.1 ∙ made)) in
+          subst (λ l. Contains l name) (sym e) (subst (Contains (old ++ other ∷ [])) same (Contains-push old other))
+
+-- ---- what was told
+pub told_names : (folder : List ℕ) (contents : Contents) (names : List (List ℕ)) → All (IsToldIn false folder contents) names
+    → ((name : List ℕ) → IsToldIn false folder contents name → Contains names name) → AreNamesIn folder contents names
+told_names folder contents names each all = record {
+  each = All-weaker (IsToldIn false folder contents) (IsNameIn folder contents) (λ name is. record { counts = is.told; plain = is.plain; there = is.there }) names each;
+  all = λ name is. all name record { told = is.counts; plain = is.plain; there = is.there };
+}
+
+pub told_ignored : (folder : List ℕ) (contents : Contents) (names : List (List ℕ)) → All (IsToldIn true folder contents) names
+    → ((name : List ℕ) → IsToldIn true folder contents name → Contains names name) → AreIgnoredIn folder contents names
+told_ignored folder contents names each all = record {
+  each = All-weaker (IsToldIn true folder contents) (IsIgnoredIn folder contents) (λ name is. record { ignored = is.told; plain = is.plain; there = is.there }) names each;
+  all = λ name is. all name record { told = is.ignored; plain = is.plain; there = is.there };
+}

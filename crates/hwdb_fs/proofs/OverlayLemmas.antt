@@ -9,6 +9,7 @@ use Rattle.std.specs.List.{list_any}
 use Rattle.hwdb_spec.specs.Asked.{database_path}
 use Rattle.hwdb_spec.specs.Folders.{counts}
 use Rattle.hwdb_spec.specs.GivenFolders.{IsUnlistedFolder}
+use Rattle.hwdb_spec.specs.Ignored.{AreIgnoredIn, IsIgnoredIn, text_folder}
 use Rattle.hwdb_spec.specs.Lines.{has, is as is_byte}
 use Rattle.hwdb_spec.specs.OverText.{with_database}
 use Rattle.hwdb_spec.specs.Reading.{IsFolderAt}
@@ -71,6 +72,19 @@ last_name [] (y ∷ ys) m n plain plain2 e = absurd (true≢false (sym (has_late
 last_name (x ∷ xs) [] m n plain plain2 e = absurd (true≢false (sym (has_later xs m) ∙ ap (has 47) (ap rest_of e) ∙ plain2))
 last_name (x ∷ xs) (y ∷ ys) m n plain plain2 e = last_name xs ys m n plain plain2 (ap rest_of e)
 
+-- what is before the last slash
+last_folder : (xs ys m n : List ℕ) → has 47 m ≡ false → has 47 n ≡ false → xs ++ 47 ∷ m ≡ ys ++ 47 ∷ n → xs ≡ ys
+unfolding first_of rest_of
+last_folder [] [] m n plain plain2 e = refl
+last_folder [] (y ∷ ys) m n plain plain2 e = absurd (true≢false (sym (has_later ys n) ∙ ap (has 47) (sym (ap rest_of e)) ∙ plain))
+last_folder (x ∷ xs) [] m n plain plain2 e = absurd (true≢false (sym (has_later xs m) ∙ ap (has 47) (ap rest_of e) ∙ plain2))
+last_folder (x ∷ xs) (y ∷ ys) m n plain plain2 e = ap (λ h. h ∷ xs) (ap first_of e) ∙ ap (λ (l : List ℕ). y ∷ l) (last_folder xs ys m n plain plain2 (ap rest_of e))
+
+-- a folder of text files has this name, `hwdb.d`
+named_folder : (usr : Bool) (root : List ℕ) → (above : List ℕ) × (text_folder usr root ≡ above ++ 47 ∷ codes "hwdb.d")
+named_folder true root = (root ++ codes "/usr/lib/udev", sym (append_assoc root (codes "/usr/lib/udev") (codes "/hwdb.d")))
+named_folder false root = (root ++ codes "/etc/udev", sym (append_assoc root (codes "/etc/udev") (codes "/hwdb.d")))
+
 module _ (root made : List ℕ) (files : Contents) where
   abbrev pub shown : Contents
   shown p = with_database root made files p
@@ -116,6 +130,44 @@ module _ (root made : List ℕ) (files : Contents) where
     each = All-weaker (IsNameIn folder files) (IsNameIn folder shown) (name_over folder) names are.each;
     all = λ name n. are.all name (name_under folder name n);
   }
+
+  -- a folder of text files isn't the database's path
+  pub text_folder_apart : (usr : Bool) (below : List ℕ) → is_database (text_folder usr below) ≡ false
+  text_folder_apart usr below = go (is_database (text_folder usr below)) refl
+    where
+      go : (b : Bool) → is_database (text_folder usr below) ≡ b → b ≡ false
+      go false e = refl
+      go true e =
+          let one : text_folder usr below ≡ database_path false root = (bytes_eq-Decides (text_folder usr below) (database_path false root)).0 e in
+          let folder = named_folder usr below in
+          let named : codes "hwdb.d" ≡ database_name = last_name folder.0 (root ++ codes "/etc/udev") (codes "hwdb.d") database_name refl refl (sym folder.1 ∙ one) in
+          absurd (true≢false (sym (ap (has 105) named)))
+
+  -- nor is the path of anything in it
+  ignored_apart : (usr : Bool) (below name : List ℕ) → has 47 name ≡ false → is_database (path_in (text_folder usr below) name) ≡ false
+  ignored_apart usr below name plain = go (is_database (path_in (text_folder usr below) name)) refl
+    where
+      go : (b : Bool) → is_database (path_in (text_folder usr below) name) ≡ b → b ≡ false
+      go false e = refl
+      go true e =
+          let path = path_in (text_folder usr below) name in
+          let one : path ≡ database_path false root = (bytes_eq-Decides path (database_path false root)).0 e in
+          let above : text_folder usr below ≡ root ++ codes "/etc/udev" = last_folder (text_folder usr below) (root ++ codes "/etc/udev") name database_name plain refl one in
+          let folder = named_folder usr below in
+          let named : codes "hwdb.d" ≡ codes "udev" =
+          last_name folder.0 (root ++ codes "/etc") (codes "hwdb.d") (codes "udev") refl refl (sym folder.1 ∙ above ∙ sym (append_assoc root (codes "/etc") (codes "/udev"))) in
+          absurd (true≢false (ap (has 46) named))
+
+  -- the ignored files are the same
+  pub ignored_over : (usr : Bool) (below : List ℕ) (names : List (List ℕ)) → AreIgnoredIn (text_folder usr below) files names → AreIgnoredIn (text_folder usr below) shown names
+  ignored_over usr below names are =
+      let folder = text_folder usr below in
+      let same : (name : List ℕ) → has 47 name ≡ false → bytes_at shown (path_in folder name) ≡ bytes_at files (path_in folder name) =
+      λ name plain. same_at (path_in folder name) (ignored_apart usr below name plain) in
+      record {
+        each = All-weaker (IsIgnoredIn folder files) (IsIgnoredIn folder shown) (λ name n. record { ignored = n.ignored; plain = n.plain; there = ap is_some (same name n.plain) ∙ n.there }) names are.each;
+        all = λ name n. are.all name record { ignored = n.ignored; plain = n.plain; there = ap is_some (sym (same name n.plain)) ∙ n.there };
+      }
 
   pub folder_over : (path : List ℕ) (found : Option (List (List ℕ))) → is_database path ≡ false → IsFolderAt path files found → IsFolderAt path shown found
   folder_over path None other at = ap is_some (same_at path other) ∙ at

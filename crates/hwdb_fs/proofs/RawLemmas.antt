@@ -1,5 +1,5 @@
 -- What is made of the answers of a file system.
-use Rattle.std.proofs.Common.{◌≡◌, ◌⊎◌, inl, inr, Bool, true, false, List, ℕ, Option, None, Result, Err, sym, ap, subst, if◌then◌else◌}
+use Rattle.std.proofs.Common.{◌≡◌, ◌⊎◌, inl, inr, Bool, true, false, List, ℕ, Option, None, Result, Err, sym, ap, subst, if◌then◌else◌, ◌∙◌}
 use Rattle.std.proofs.lemmas.Bool.{true≢false}
 use Rattle.hwdb_spec.specs.declared.causes.Cause.{Cause}
 use Rattle.hwdb_spec.specs.declared.causes.Cause.TheVariants as why
@@ -8,7 +8,8 @@ use Rattle.hwdb_fs.specs.declared.raw.Unread.{Unread}
 use Rattle.hwdb_fs.specs.declared.raw.Unread.TheVariants as unread
 use Rattle.hwdb_spec.specs.declared.refusals.Refusal.{Refusal}
 use Rattle.hwdb_spec.specs.declared.refusals.Refusal.TheVariants.{At}
-use Rattle.hwdb_fs.specs.Raw.{IsOfMemory, IsRefusedAs, IsRefusedFor, at_place, failed}
+use Rattle.hwdb_fs.specs.declared.raw.Kind.{Kind}
+use Rattle.hwdb_fs.specs.Raw.{IsOfMemory, IsRefusedAs, IsRefusedFor, at_place, failed, kind_answer, missing_cause}
 
 cause_of : Unread → Option Cause
 cause_of (unread.Failed cause) = cause
@@ -41,3 +42,10 @@ other_as answer w path r is (inr one) = inr (w, is, one)
 pub elsewhere_as : {X : Type 0} (b : Bool) (x y : Result X Unread) (path : List ℕ) (r : Refusal) → b ≡ false → IsRefusedAs y path r → IsRefusedAs (if b then x else y) path r
 elsewhere_as true x y path r is h = absurd (true≢false is)
 elsewhere_as false x y path r is h = h
+
+-- what isn't there is told by its cause, or for want of memory
+pub missing_as : (entry : Result Bool Cause) (kind : Result Kind Cause) (cause result : Cause) → (cause ≡ why.Memory) ⊎ (kind ≡ Err cause)
+    → (result ≡ why.Memory) ⊎ (result ≡ missing_cause cause entry) → (result ≡ why.Memory) ⊎ (kind_answer entry kind ≡ Err result)
+missing_as entry kind cause result told (inl memory) = inl memory
+missing_as entry kind cause result (inl memory) (inr is) = inl (is ∙ ap (λ (c : Cause). missing_cause c entry) memory)
+missing_as entry kind cause result (inr told) (inr is) = inr (ap (kind_answer entry) told ∙ ap (λ (c : Cause). Err c) (sym is))

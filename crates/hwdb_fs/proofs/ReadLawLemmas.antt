@@ -6,7 +6,7 @@ use Rattle.hwdb_spec.specs.Lines.{pieces}
 use Rattle.hwdb_spec.specs.declared.errors.ToolError.TheVariants.{Read, TooLong}
 use Rattle.hwdb_fs.specs.declared.raw.Unread.{Unread}
 use Rattle.hwdb_spec.specs.declared.refusals.Refusal.TheVariants.{At}
-use Rattle.hwdb_fs.specs.ReadLaws.{ErrorsHaveOneCause, KindsAreTold, ReadIsNoError, listed}
+use Rattle.hwdb_fs.specs.ReadLaws.{ErrorsHaveOneCause, KindsAreTold, LinksAreTold, ReadIsNoError, ignored, listed}
 
 pub kinds_are_told : KindsAreTold
 kinds_are_told = record {
@@ -18,6 +18,9 @@ kinds_are_told = record {
   device = λ bytes. (refl, refl);
   missing = λ kind bytes. refl;
 }
+
+pub links_are_told : LinksAreTold
+links_are_told = record { link = refl; none = refl; other = refl; database = refl }
 
 is_read : {X : Type 0} → Result X Unread → Bool
 is_read (Ok x) = true
@@ -36,3 +39,7 @@ errors_have_one_cause v w path refusal first second = absurd first
 pub names_are_listed : listed ≡ Ok (codes "a.hwdb" ∷ (codes "c.hwdb" ∷ []))
 unfolding pieces
 names_are_listed = refl
+
+pub others_are_ignored : ignored ≡ Ok (codes "b" ∷ (codes "e.hwdb.txt" ∷ []))
+unfolding pieces
+others_are_ignored = refl

@@ -1,13 +1,14 @@
 -- What the steps of an update hold, and what a store in memory answers.
-use Rattle.std.specs.Prelude.{IsUtf8, ◌≡◌, ◌≢◌, ◌⊎◌, ℕ, Bool, false, if◌then◌else◌, not, ◌||◌, is_some, List, [], ◌∷◌, ◌++◌, Option, Some, None, codes}
+use Rattle.std.specs.Prelude.{IsUtf8, ◌≡◌, ◌≢◌, ◌⊎◌, ℕ, Bool, false, if◌then◌else◌, not, true, ◌||◌, is_some, List, [], ◌∷◌, ◌++◌, Option, Some, None, codes}
 use Rattle.std.specs.Borrow.{Bor}
 use Rattle.std.specs.BTreeSet.{BTreeSet}
 use Rattle.std.specs.List.{list_any}
 use Rattle.hwdb_spec.specs.Folders.{names, counts, lists, same}
+use Rattle.hwdb_spec.specs.Ignored.{is_ignored}
 use Rattle.hwdb_spec.specs.Lines.{has}
-use Rattle.hwdb_spec.specs.Store.{path_in}
+use Rattle.hwdb_spec.specs.Store.{Contents, path_in}
 use Rattle.hwdb_spec.specs.Texts.{at_offset}
-use Rattle.hwdb_spec.specs.System.{bytes_at, IsNameIn}
+use Rattle.hwdb_spec.specs.System.{bytes_at}
 use Rattle.hwdb_spec.specs.declared.errors.ToolError.TheVariants.{Memory, Read}
 use Rattle.hwdb_replace.specs.Memory.{seen_of}
 use Rattle.hwdb_replace.specs.declared.memory.Step.{Step}
@@ -40,19 +41,30 @@ abbrev pub IsMade : List Step → (path : List ℕ) → Type 0
 IsMade [] path = ⊥
 IsMade (x ∷ steps) path = (made_by x ≡ Some path) ⊎ IsMade steps path
 
--- after these steps a text file with this name stands under the path
-abbrev pub is_text_file : List Step → (name path : List ℕ) → Bool
-is_text_file steps name path = if not (counts name) || has 47 name then false else is_some (bytes_after steps path)
+-- a name is one of those that are told: of ignored files, or of text files
+abbrev pub is_told : (ignored : Bool) (name : List ℕ) → Bool
+is_told ignored name = if ignored then is_ignored name else counts name
 
--- the name of the text file that a step has stand in a folder, or that it has none stand there
-abbrev pub IsNamedBy : List Step → (folder : List ℕ) → Step → Option (List ℕ) → Type 0
-IsNamedBy steps folder step None = (name : List ℕ) → IsNameIn folder (seen_of steps) name → made_by step ≢ Some (path_in folder name)
-IsNamedBy steps folder step (Some name) = IsNameIn folder (seen_of steps) name × (made_by step ≡ Some (path_in folder name))
+-- a file with such a name is in the folder
+pub record IsToldIn (ignored : Bool) (folder : List ℕ) (contents : Contents) (name : List ℕ) : Type 0 where
+  pub told : is_told ignored name ≡ true
+  pub plain : has 47 name ≡ false
+  pub there : is_some (bytes_at contents (path_in folder name)) ≡ true
+
+-- after these steps a file with this name, one of those, stands under the path
+abbrev pub is_told_file : (ignored : Bool) → List Step → (name path : List ℕ) → Bool
+is_told_file ignored steps name path = if not (is_told ignored name) || has 47 name then false else is_some (bytes_after steps path)
+
+-- the name of such a file that a step has stand in a folder, or that it has none stand there
+abbrev pub IsNamedBy : (ignored : Bool) → List Step → (folder : List ℕ) → Step → Option (List ℕ) → Type 0
+IsNamedBy ignored steps folder step None = (name : List ℕ) → IsToldIn ignored folder (seen_of steps) name → made_by step ≢ Some (path_in folder name)
+IsNamedBy ignored steps folder step (Some name) = IsToldIn ignored folder (seen_of steps) name × (made_by step ≡ Some (path_in folder name))
 
 -- that name was put after the others, or there is none
-abbrev pub IsPushed : List Step → (folder : List ℕ) → Step → (old new : List (List ℕ)) → Type 0
-IsPushed steps folder step old new =
-    (IsNamedBy steps folder step None × (new ≡ old)) ⊎ ((name : List ℕ) × IsNamedBy steps folder step (Some name) × (new ≡ old ++ name ∷ []))
+abbrev pub IsPushed : (ignored : Bool) → List Step → (folder : List ℕ) → Step → (old new : List (List ℕ)) → Type 0
+IsPushed ignored steps folder step old new =
+    (IsNamedBy ignored steps folder step None × (new ≡ old))
+    ⊎ ((name : List ℕ) × IsNamedBy ignored steps folder step (Some name) × (new ≡ old ++ name ∷ []))
 
 -- a fault of the database at a path: its name, its offset if it has one, the path, and what to do
 abbrev pub line_at : (path name : List ℕ) → (offset : Option ℕ) → (what : List ℕ) → List ℕ

@@ -1,7 +1,9 @@
 -- Which answers of a file system give which result. The answers are `stat`'s, `lstat`'s and those of a read (POSIX); what is made of
 -- them is our choice.
-use Rattle.std.specs.Prelude.{◌≡◌, ◌⊎◌, ℕ, List, [], Bool, true, false, Option, Some, None, Result, Ok, Err, MatchOption, MatchResult, Contains, IsUtf8, filter, length, nat_le, if◌then◌else◌}
+use Rattle.std.specs.Prelude.{◌≡◌, ◌⊎◌, ℕ, List, [], Bool, true, false, Option, Some, None, Result, Ok, Err, MatchOption, MatchResult, Contains, IsUtf8, filter, length, nat_le, pos, if◌then◌else◌}
+use Rattle.std.specs.Ordering.{int_eq}
 use Rattle.hwdb_spec.specs.Folders.{counts}
+use Rattle.hwdb_spec.specs.Ignored.{is_ignored}
 use Rattle.hwdb_spec.specs.Lines.{is, pieces}
 use Rattle.hwdb_spec.specs.Store.{path_in}
 use Rattle.hwdb_spec.specs.Texts.{max_file}
@@ -46,6 +48,20 @@ abbrev pub at_place : {X Y : Type 0} → Result X Cause → (X → Result Y Unre
 at_place (Ok place) next = next place
 at_place (Err cause) next = Err (failed cause)
 
+-- Why what can't be looked at isn't read. If nothing is there (ENOENT, 2) and something has the name, that is a link to nothing.
+abbrev pub missing_cause : Cause → (entry : Result Bool Cause) → Cause
+missing_cause (why.System number) (Ok true) = if int_eq number (pos 2) then why.Link else why.System number
+missing_cause cause entry = cause
+
+-- what is at a place, or why that isn't told
+abbrev pub kind_answer : (entry : Result Bool Cause) → Result Kind Cause → Result Kind Cause
+kind_answer entry (Ok kind) = Ok kind
+kind_answer entry (Err cause) = Err (missing_cause cause entry)
+
+-- the same of each place to which a path may lead
+abbrev pub kinds_at : (entry : Result Bool Cause) (kind : List ℕ → Result Kind Cause) → List ℕ → Result Kind Cause
+kinds_at entry kind place = kind_answer entry (kind place)
+
 -- the bytes of a regular file at a place
 abbrev pub bytes_at : (kind : List ℕ → Result Kind Cause) (contents : List ℕ → Result (List ℕ) Unread) → List ℕ → Result (List ℕ) Unread
 bytes_at kind contents place = at_place (kind place) (λ k. bytes_of k (contents place))
@@ -56,9 +72,9 @@ text_at null_at kind contents place =
     if null_at place then Ok [] else at_place (kind place) (λ k. text_of_kind k (contents place))
 
 -- what reading a text file gives
-abbrev pub text_answer : (place : Result (List ℕ) Cause) (null_at : List ℕ → Bool) (kind : List ℕ → Result Kind Cause)
-    (contents : List ℕ → Result (List ℕ) Unread) → Result (List ℕ) Unread
-text_answer place null_at kind contents = at_place place (text_at null_at kind contents)
+abbrev pub text_answer : (place : Result (List ℕ) Cause) (entry : Result Bool Cause) (null_at : List ℕ → Bool)
+    (kind : List ℕ → Result Kind Cause) (contents : List ℕ → Result (List ℕ) Unread) → Result (List ℕ) Unread
+text_answer place entry null_at kind contents = at_place place (text_at null_at (kinds_at entry kind) contents)
 
 -- what is there is read
 abbrev pub present : {X : Type 0} → Result X Unread → Result (Option X) Unread
@@ -74,7 +90,7 @@ there_answer (Err cause) = true
 abbrev pub database_answer : (entry : Result Bool Cause) (place : Result (List ℕ) Cause) (kind : List ℕ → Result Kind Cause)
     (contents : List ℕ → Result (List ℕ) Unread) → Result (Option (List ℕ)) Unread
 database_answer entry place kind contents =
-    if there_answer entry then present (at_place place (bytes_at kind contents)) else Ok None
+    if there_answer entry then present (at_place place (bytes_at (kinds_at entry kind) contents)) else Ok None
 
 -- the bytes of a file that tells them, unless they are more than a file may have
 abbrev pub told_bytes : List ℕ → Result (List ℕ) Unread
@@ -89,6 +105,12 @@ abbrev pub names_answer : Result (Option (List ℕ)) Unread → Result (List (Li
 names_answer (Ok None) = Ok []
 names_answer (Ok (Some listing)) = Ok (filter counts (entries listing))
 names_answer (Err w) = Err w
+
+-- those of ignored files
+abbrev pub ignored_answer : Result (Option (List ℕ)) Unread → Result (List (List ℕ)) Unread
+ignored_answer (Ok None) = Ok []
+ignored_answer (Ok (Some listing)) = Ok (filter is_ignored (entries listing))
+ignored_answer (Err w) = Err w
 
 -- memory was refused: that may always be said
 abbrev pub IsOfMemory : (path : List ℕ) → Refusal → Type 0

@@ -7,12 +7,14 @@ ghost use Rattle.hwdb_fs.specs.Raw.{IsMisnamedAt};
 ghost use Rattle.hwdb_spec.specs.Refusals.{IsUnlisted};
 
 use crate::identity::Identity;
+use crate::ignored::{ignored_in, text_folder};
 use crate::parts::{Lockable, clear_parts, is_ours};
 use crate::raw::StdFiles;
 use crate::reads::{any_bytes, database_bytes, folder_names, is_there, names_in, text_bytes};
 use crate::rooted::Rooted;
 use crate::roots::Root;
 use crate::system::System;
+use crate::text_folders::TextFolders;
 use hwdb_io::{Cause, after_failure, write_on};
 use hwdb_print::ToolError;
 use hwdb_replace::{CallFailed, DATABASE_MODE, PART_MODE, Store};
@@ -359,6 +361,16 @@ where
 
     fn identity(&self, path: &str) -> Option<Identity> {
         self.files().identity_of(path)
+    }
+}
+
+impl<'a, R: Files> TextFolders for SystemStore<'a, R>
+where
+    R::File: Drop + Lockable,
+{
+    fn ignored_names(&self, alloc: Global, root: &str, usr: bool) -> Result<Vec<Vec<u8>>, Refusal> {
+        let folder = text_folder(alloc, root, usr)?;
+        ignored_in(alloc, &self.files(), folder.as_str())
     }
 }
 

@@ -8,6 +8,7 @@
 //! | `laws` | which of the chosen files an error names
 //! | `files` | files and folders: the file system that the runtime reaches |
 //! | `raw` | what a file system answers to what reading asks; `reads`: what is made of these answers; `read_laws`: laws of that; `one_file`: answers for tests |
+//! | `text_folders` | what else is in the folders of text files, as it is asked for; `ignored`: of a file system |
 //! | `identity` | what tells a file from one that replaced it |
 //! | `devices` | the file system as it is asked for devices |
 //! | `overlay` | a file system with another database in its place |
@@ -21,6 +22,7 @@ mod devices;
 mod files;
 mod folders;
 mod identity;
+mod ignored;
 mod laws;
 mod left_out;
 mod machine;
@@ -36,6 +38,7 @@ mod refusals;
 mod rooted;
 mod roots;
 mod system;
+mod text_folders;
 
 pub use files::{SystemStore, joined, path_in};
 pub use folders::{Selection, selected, with_texts};
@@ -53,3 +56,4 @@ pub use reads::{database_bytes, is_there, text_bytes};
 pub use refusals::{refuse_for, refuse_memory, remedy};
 pub use rooted::Rooted;
 pub use system::System;
+pub use text_folders::TextFolders;

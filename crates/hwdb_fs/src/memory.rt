@@ -1,14 +1,17 @@
 //! A store in memory as the program's file system, for tests: it tells its contents.
-ghost use Rattle.std.specs.Prelude.{◌≡◌, ◌≤◌, Some, None, List, ℕ, IfOk, IfErr, IfSome, MatchOption, OnOk, map, option_map, string_bytes, vec_len};
+ghost use Rattle.std.specs.Prelude.{◌≡◌, ◌≤◌, Some, None, List, ℕ, IfOk, IfErr, IfSome, MatchOption, OnOk, false, map, option_map, string_bytes, true, vec_len};
+ghost use Rattle.hwdb_spec.specs.Ignored.{AreIgnoredIn};
 ghost use Rattle.hwdb_spec.specs.Store.{path_in};
 ghost use Rattle.hwdb_spec.specs.Texts.{max_file};
 ghost use Rattle.hwdb_replace.specs.Memory.{seen_of};
-ghost use Rattle.hwdb_fs.specs.Internal.{IsMisnamed, IsNamedBy, IsOfName, IsPushed, bytes_after, is_text_file, made_by};
+ghost use Rattle.hwdb_fs.specs.Internal.{IsMisnamed, IsNamedBy, IsOfName, IsPushed, bytes_after, is_told, is_told_file, made_by};
 ghost use Rattle.hwdb_spec.specs.Refusals.{HasReason, IsUnlisted, IsUnread, IsUnreadAt, IsUnreadable};
 
 use crate::files::text_of;
+use crate::ignored::{is_ignored, text_folder};
 use crate::rooted::Rooted;
 use crate::system::System;
+use crate::text_folders::TextFolders;
 use hwdb_io::{Cause, MAX_BYTES};
 use hwdb_print::ToolError;
 use hwdb_replace::memory::state_of;
@@ -74,26 +77,44 @@ fn read_after(alloc: Global, steps: &[Step], path: &[u8]) -> Result<Vec<u8>, Ref
     }
 }
 
-/// Whether a text file with this name stands in its folder, where its path is this one.
-fn is_text_file(alloc: Global, steps: &[Step], name: &[u8], path: &[u8]) -> Result<bool, AllocError>
-    ensures { IfOk result (λ b. b ≡ is_text_file steps.now name.now path.now) }
+/// Whether a name is that of an ignored file, or that of a text file.
+fn is_told(name: &[u8], ignored: bool) -> bool
+    ensures { result ≡ is_told ignored name.now }
 {
-    if !counts(name) || name.contains(&b'/') {
+    if ignored {
+        is_ignored(name)
+    } else {
+        counts(name)
+    }
+}
+
+/// Whether a file with this name, one of those, stands in its folder, where its path is this one.
+fn is_told_file(
+    alloc: Global,
+    steps: &[Step],
+    name: &[u8],
+    path: &[u8],
+    ignored: bool,
+) -> Result<bool, AllocError>
+    ensures { IfOk result (λ b. b ≡ is_told_file ignored steps.now name.now path.now) }
+{
+    if !is_told(name, ignored) || name.contains(&b'/') {
         return Ok(false);
     }
     let state = state_of(alloc, steps, path)?;
     Ok(state.now.is_some())
 }
 
-/// The name of the text file that a step has stand in a folder, if one stands there after all steps.
+/// The name of such a file that a step has stand in a folder, if it stands there after all steps.
 fn named_by<'a>(
     alloc: Global,
     steps: &[Step],
     folder: &str,
     step: &'a Step,
+    ignored: bool,
 ) -> Result<Option<&'a [u8]>, AllocError>
-    ensures { IfOk result
-        (λ found. IsNamedBy steps.now folder.now step.now (option_map (λ n. n.now) found)) }
+    ensures { IfOk result (λ found.
+        IsNamedBy ignored steps.now folder.now step.now (option_map (λ n. n.now) found)) }
 {
     let Some(path) = made_by(step) else {
         return Ok(None);
@@ -101,7 +122,7 @@ fn named_by<'a>(
     let Some(name) = name_in(folder, path) else {
         return Ok(None);
     };
-    if is_text_file(alloc, steps, name, path)? {
+    if is_told_file(alloc, steps, name, path, ignored)? {
         return Ok(Some(name));
     }
     Ok(None)
@@ -115,16 +136,45 @@ fn push_name(
     step: &Step,
     names: &mut Vec<String>,
 ) -> Result<(), Refusal>
-    ensures pushed { OnOk result (IsPushed steps.now folder.now step.now
+    ensures pushed { OnOk result (IsPushed false steps.now folder.now step.now
         (map string_bytes names.old.items) (map string_bytes names.new.items)) }
     ensures refused { IfErr result (IsUnlisted folder.now) }
     ensures reason { IfErr result IsOfName }
 {
-    if let Some(name) = named_by(alloc, steps, folder, step)? {
+    if let Some(name) = named_by(alloc, steps, folder, step, false)? {
         let name = text_of(alloc, folder, name)?;
         names.push(name).map_err(AllocError::from)?;
     }
     Ok(())
+}
+
+/// Puts the name of the ignored file that a step has in a folder after the others.
+fn push_ignored(
+    alloc: Global,
+    steps: &[Step],
+    folder: &str,
+    step: &Step,
+    names: &mut Vec<Vec<u8>>,
+) -> Result<(), AllocError>
+    ensures { OnOk result (IsPushed true steps.now folder.now step.now
+        (map (λ n. n.items) names.old.items) (map (λ n. n.items) names.new.items)) }
+{
+    if let Some(name) = named_by(alloc, steps, folder, step, true)? {
+        names.push(name.to_vec(alloc)?)?;
+    }
+    Ok(())
+}
+
+/// The names of the ignored files that stand in a folder after these steps.
+fn ignored_after(alloc: Global, steps: &[Step], folder: &str) -> Result<Vec<Vec<u8>>, AllocError>
+    ensures { IfOk result (λ names.
+        AreIgnoredIn folder.now (seen_of steps.now) (map (λ n. n.items) names.items)) }
+{
+    let mut names = Vec::new(alloc);
+    for step in steps {
+        push_ignored(alloc, steps, folder, step, &mut names)?;
+    }
+    Ok(names)
 }
 
 impl System for Memory {
@@ -164,6 +214,13 @@ impl System for Memory {
     fn is_there(&self, alloc: Global, path: &str) -> Result<bool, AllocError> {
         let state = state_of(alloc, &self.steps, path.as_bytes())?;
         Ok(state.now.is_some())
+    }
+}
+
+impl TextFolders for Memory {
+    fn ignored_names(&self, alloc: Global, root: &str, usr: bool) -> Result<Vec<Vec<u8>>, Refusal> {
+        let folder = text_folder(alloc, root, usr)?;
+        Ok(ignored_after(alloc, &self.steps, folder.as_str())?)
     }
 }
 

@@ -12,6 +12,7 @@ ghost use Rattle.hwdb_spec.specs.declared.errors.ToolError.TheVariants.{Memory, 
 use crate::machine::Machine;
 use crate::rooted::Rooted;
 use crate::system::System;
+use crate::text_folders::TextFolders;
 use hwdb_io::{Cause, MAX_BYTES, after_failure};
 use hwdb_print::ToolError;
 use hwdb_replace::{CallFailed, Store};
@@ -226,8 +227,15 @@ impl<'a, D: System> System for Overlay<'a, D> {
     }
 }
 
+impl<'a, D: TextFolders> TextFolders for Overlay<'a, D> {
+    // The database isn't in these folders.
+    fn ignored_names(&self, alloc: Global, root: &str, usr: bool) -> Result<Vec<Vec<u8>>, Refusal> {
+        self.system.ignored_names(alloc, root, usr)
+    }
+}
+
 // It is made after the root was entered.
-impl<'a, D: System> Rooted for Overlay<'a, D> {
+impl<'a, D: TextFolders> Rooted for Overlay<'a, D> {
     fn enter(&mut self, _: &str) -> Result<(), Refusal> {
         Ok(())
     }

@@ -2,7 +2,7 @@
 ghost use Rattle.std.specs.Prelude.{◌≡◌, ◌≢◌, ◌≤◌, ◌<◌, ◌⊎◌, ◌++◌, ◌∷◌, [], true, false, Ok, OnOk, filter, length, map, string_bytes, ℕ, List, Result, Err, IfOk, IfErr, IfSome, MatchOption, option_map, vec_len};
 ghost use Rattle.hwdb_spec.specs.Texts.{max_file};
 ghost use Rattle.hwdb_spec.specs.Folders.{counts};
-ghost use Rattle.hwdb_fs.specs.Raw.{AreFolderNamesAs, AreNamesAs, IsMisnamedAt, is_folder, entries, names_answer, IsOfMemory, IsReadAs, IsRefusedFor, at_place, bytes_of, bytes_at, database_answer, failed, text_answer, text_at, text_of_kind, there_answer};
+ghost use Rattle.hwdb_fs.specs.Raw.{AreFolderNamesAs, AreNamesAs, IsMisnamedAt, IsTold, is_folder, entries, kinds_at, missing_cause, names_answer, IsOfMemory, IsReadAs, IsRefusedFor, at_place, bytes_of, bytes_at, database_answer, failed, text_answer, text_at, text_of_kind, there_answer};
 ghost use Rattle.hwdb_fs.specs.declared.raw.Unread.{Unread};
 ghost use Rattle.hwdb_spec.specs.declared.causes.Cause.TheVariants.{Memory};
 ghost use Rattle.hwdb_spec.specs.Refusals.{IsUnread, IsUnlisted};
@@ -12,6 +12,7 @@ use crate::raw::{Kind, RawFiles, Unread};
 use hwdb_io::Cause;
 use hwdb_print::ToolError;
 use hwdb_spec::Refusal;
+use hwdb_sysfs::NO_ENTRY;
 use hwdb_text::{counts, end_of};
 use std::alloc::{AllocError, Global};
 
@@ -33,6 +34,32 @@ fn untold(alloc: Global, path: &str, cause: Cause) -> Refusal
     ensures exact { IsOfMemory path.now result ⊎ IsRefusedFor (failed cause) path.now result }
 {
     refused(alloc, path, Unread::Failed(Some(cause)))
+}
+
+/// Why what isn't there can't be read: a link leads there, if something has the path's name.
+fn missing_cause<F: RawFiles>(files: &F, path: &str, cause: Cause) -> Cause
+    ensures { F.tells → (result ≡ Memory)
+        ⊎ (result ≡ missing_cause cause (F.entry files.now path.now)) }
+{
+    match cause {
+        Cause::System(number) if number == NO_ENTRY => match files.has_entry(path) {
+            Ok(true) => Cause::Link,
+            Err(Cause::Memory) => Cause::Memory,
+            _ => cause,
+        },
+        _ => cause,
+    }
+}
+
+/// What is at a place where a path leads.
+fn kind_at<F: RawFiles>(files: &F, path: &str, place: &str) -> Result<Kind, Cause>
+    ensures { F.tells → IsTold (λ k. k)
+        (kinds_at (F.entry files.now path.now) (F.kind files.now) place.now) result }
+{
+    match files.kind_of(place) {
+        Ok(kind) => Ok(kind),
+        Err(cause) => Err(missing_cause(files, path, cause)),
+    }
 }
 
 /// What is at a place, if it is no regular file.
@@ -113,15 +140,15 @@ fn text_at<F: RawFiles>(
     path: &str,
 ) -> Result<Vec<u8>, Refusal>
     ensures exact { F.tells → IsReadAs (λ v. v.items)
-        (text_at (F.null_at files.now) (F.kind files.now) (F.contents files.now) place.now)
-        path.now result }
+        (text_at (F.null_at files.now) (kinds_at (F.entry files.now path.now) (F.kind files.now))
+        (F.contents files.now) place.now) path.now result }
     ensures within { IfOk result (λ bytes. vec_len bytes ≤ max_file) }
     ensures refused { IfErr result (IsUnread path.now) }
 {
     if files.is_null(place) {
         return Ok(Vec::new(alloc));
     }
-    match files.kind_of(place) {
+    match kind_at(files, path, place) {
         Ok(kind) => text_of_kind(alloc, files, place, path, kind),
         Err(cause) => Err(untold(alloc, path, cause)),
     }
@@ -130,8 +157,8 @@ fn text_at<F: RawFiles>(
 /// All bytes of a text file that was chosen. /dev/null is an empty one: a link to it masks a file.
 pub fn text_bytes<F: RawFiles>(alloc: Global, files: &F, path: &str) -> Result<Vec<u8>, Refusal>
     ensures exact { F.tells → IsReadAs (λ v. v.items)
-        (text_answer (F.place files.now path.now) (F.null_at files.now) (F.kind files.now)
-        (F.contents files.now)) path.now result }
+        (text_answer (F.place files.now path.now) (F.entry files.now path.now)
+        (F.null_at files.now) (F.kind files.now) (F.contents files.now)) path.now result }
     ensures within { IfOk result (λ bytes. vec_len bytes ≤ max_file) }
     ensures refused { IfErr result (IsUnread path.now) }
 {
@@ -149,11 +176,12 @@ fn database_at<F: RawFiles>(
     path: &str,
 ) -> Result<Vec<u8>, Refusal>
     ensures exact { F.tells → IsReadAs (λ v. v.items)
-        (bytes_at (F.kind files.now) (F.contents files.now) place.now) path.now result }
+        (bytes_at (kinds_at (F.entry files.now path.now) (F.kind files.now))
+        (F.contents files.now) place.now) path.now result }
     ensures within { IfOk result (λ bytes. vec_len bytes ≤ max_file) }
     ensures refused { IfErr result (IsUnread path.now) }
 {
-    match files.kind_of(place) {
+    match kind_at(files, path, place) {
         Ok(kind) => bytes_of(alloc, files, place, path, kind),
         Err(cause) => Err(untold(alloc, path, cause)),
     }
@@ -161,9 +189,9 @@ fn database_at<F: RawFiles>(
 
 /// The bytes of a database that has a name.
 fn database_there<F: RawFiles>(alloc: Global, files: &F, path: &str) -> Result<Vec<u8>, Refusal>
-    ensures exact { F.tells → IsReadAs (λ v. v.items)
-        (at_place (F.place files.now path.now) (bytes_at (F.kind files.now) (F.contents files.now)))
-        path.now result }
+    ensures exact { F.tells → IsReadAs (λ v. v.items) (at_place (F.place files.now path.now)
+        (bytes_at (kinds_at (F.entry files.now path.now) (F.kind files.now))
+        (F.contents files.now))) path.now result }
     ensures within { IfOk result (λ bytes. vec_len bytes ≤ max_file) }
     ensures refused { IfErr result (IsUnread path.now) }
 {
@@ -278,7 +306,7 @@ pub fn folder_names<F: RawFiles>(
 }
 
 /// The first name of a listing, and what comes after it; None at the end.
-fn first_entry(listing: &[u8]) -> Option<(&[u8], &[u8])>
+pub(crate) fn first_entry(listing: &[u8]) -> Option<(&[u8], &[u8])>
     ensures entry { MatchOption result (listing.now ≡ [])
         (λ parts. entries listing.now ≡ parts.0.now ∷ entries parts.1.now) }
     ensures shorter { IfSome result (λ parts. length parts.1.now < length listing.now) }

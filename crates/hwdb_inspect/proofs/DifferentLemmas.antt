@@ -32,16 +32,19 @@ module _ {X : Type 0} (text : X → List ℕ) where
         | false ↦ ap (λ l. text x ∷ l) (from_texts y ys)
       ]
 
-  texts_dedup : (xs : List X) → map text (dedup (λ a b. same_bytes (text a) (text b)) xs) ≡ dedup same_bytes (map text xs)
+  pub texts_dedup : (xs : List X) → map text (dedup (λ a b. same_bytes (text a) (text b)) xs) ≡ dedup same_bytes (map text xs)
   texts_dedup [] = refl
   texts_dedup (x ∷ xs) = from_texts x xs
 
   -- what a sort and a dedup leave
+  pub ordered_are : (old sorted new : List X) → IsPermutation old sorted → IsSorted (λ x y. text_cmp (text x) (text y)) sorted
+      → new ≡ dedup (λ a b. same_bytes (text a) (text b)) sorted → map text new ≡ ascending (map text old)
+  ordered_are old sorted new moved up left =
+      ordered_is (map text old) (map text sorted) (map text new) (IsPermutation-map text old sorted moved) (texts_sorted sorted up) (ap (map text) left ∙ texts_dedup sorted)
+
   pub different_are : (old sorted new : List X) → IsPermutation old sorted → IsSorted (λ x y. text_cmp (text x) (text y)) sorted
       → new ≡ dedup (λ a b. same_bytes (text a) (text b)) sorted → length new ≡ different (map text old)
-  different_are old sorted new moved up left =
-      sym (length-map new text)
-      ∙ ap length (ordered_is (map text old) (map text sorted) (map text new) (IsPermutation-map text old sorted moved) (texts_sorted sorted up) (ap (map text) left ∙ texts_dedup sorted))
+  different_are old sorted new moved up left = sym (length-map new text) ∙ ap length (ordered_are old sorted new moved up left)
 
   -- what a dedup alone leaves
   pub different_left : (old new : List X) → new ≡ dedup (λ a b. same_bytes (text a) (text b)) old → different (map text new) ≡ different (map text old)

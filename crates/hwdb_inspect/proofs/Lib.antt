@@ -1,3 +1,5 @@
+pub mod ComputedRows
+pub mod NamedCountLemmas
 pub mod PartLemmas
 pub mod WalkLemmas
 pub mod OrderLemmas
@@ -6,6 +8,8 @@ pub mod PairLemmas
 pub mod DiffLemmas
 pub mod DepthLemmas
 pub mod DifferentLemmas
+pub mod TallyLemmas
+pub mod MeetingLemmas
 pub mod OrderedLemmas
 pub mod SaidLemmas
 pub mod ReadLemmas
@@ -14,3 +18,4 @@ pub mod StateLemmas
 pub mod ToldLemmas
 pub mod ChangeLemmas
 pub mod GiftLemmas
+pub mod ReportLemmas

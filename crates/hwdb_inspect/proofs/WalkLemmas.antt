@@ -1,12 +1,14 @@
 -- The stack of a walk, and what its steps do to it.
-use Rattle.std.proofs.Common.{◌≡◌, ◌∙◌, ap, refl, sym, subst, ℕ, suc, ◌+◌, ◌≤◌, ◌<◌, List, [], ◌∷◌, ◌++◌, take, drop, reverse, length, arith, append_assoc, add-one, Some, slice_get, inl, inr}
+use Rattle.std.proofs.Common.{◌≡◌, ◌∙◌, ap, refl, sym, subst, ℕ, suc, ◌+◌, ◌≤◌, ◌<◌, List, [], ◌∷◌, ◌++◌, take, drop, reverse, length, arith, append_assoc, add-one, Option, None, Some, IfNone, IsSomeAnd, slice_get, inl, inr}
 use Rattle.std.proofs.lemmas.List.{length-take-le, length-append}
 use Rattle.std.proofs.Math.Seq.{take-length}
 use Rattle.hwdb_spec.specs.Tree.{Tree, prefix_of, values_of, members_under}
 use Rattle.hwdb_reader.specs.Views.{children_of, entered_tree, node_count}
 use Rattle.hwdb_query.specs.Internal.Members.{members_in, own_members}
-use Rattle.hwdb_inspect.specs.Internal.Walks.{kids_of, to_come, StandsOn, left, steps, OnTop, Opened}
+use Rattle.hwdb_reader.specs.declared.view.Inside.{Inside}
+use Rattle.hwdb_inspect.specs.Internal.Walks.{kids_of, to_come, StandsOn, left, steps, OnTop, Opened, own_of, rest_of, entered_one}
 use Rattle.hwdb_inspect.specs.declared.walk.OpenVisit.{OpenVisit}
+use Rattle.hwdb_inspect.specs.declared.walk.Walk.{Walk}
 use Rattle.hwdb_query.specs.Lemmas.Parts.{kid_behind, kid_next, members_split, node_and_below}
 use Rattle.hwdb_query.specs.Internal.Live.{nodes_in}
 use Rattle.hwdb_query.specs.Lemmas.Stacks.{on_top, take_front}
@@ -14,6 +16,21 @@ use Rattle.hwdb_query.specs.Lemmas.Stacks.{on_top, take_front}
 pub no_kids : (kids : List (ℕ × Tree)) → length kids ≡ 0 → kids ≡ []
 no_kids [] h = refl
 no_kids (k ∷ kids) h = absurd (omega (arith, h))
+
+-- ---- the node that a walk is at
+
+pub own_entered : (path : List ℕ) (at : Option Inside) (t : Tree) → IsSomeAnd at (λ i. entered_tree i ≡ t) → own_of path at ≡ own_members path (values_of t)
+own_entered path None t h = absurd h
+own_entered path (Some i) t h = ap (λ u. own_members path (values_of u)) h
+
+-- it is at one
+pub not_none : (at : Option Inside) (t : Tree) (P : Type 0) → IsSomeAnd at (λ i. entered_tree i ≡ t) → IfNone at P
+not_none None t P h = absurd h
+not_none (Some i) t P h = tt
+
+pub one_entered : (at : Option Inside) (t : Tree) → IsSomeAnd at (λ i. entered_tree i ≡ t) → entered_one at ≡ 1
+one_entered None t h = absurd h
+one_entered (Some i) t h = refl
 
 -- ---- a node that was put on top
 
@@ -142,3 +159,9 @@ module _ (path long : List ℕ) (top : OpenVisit) (before now : List OpenVisit) 
       let front : length (base ++ k.0 ∷ []) ≡ length base + 1 = length-append base (k.0 ∷ []) in
       opened_stands (before ++ gone_on top ∷ []) now k.1 long o
       (subst (StandsOn long) (sym (on_top before (gone_on top))) (omega (arith, size, parts, front), omega (arith, more), rest))
+
+-- ---- the end of a walk
+
+pub walk_ended : (w : Walk) → w.at ≡ None → w.stack.items ≡ [] → own_of w.path.items w.at ++ rest_of w ≡ []
+walk_ended w none empty =
+    ap (λ (g : Option Inside × List OpenVisit). own_of w.path.items g.0 ++ to_come w.path.items (reverse g.1)) (λ i. (none i, empty i))

@@ -2,5 +2,7 @@
 pub mod Walks
 pub mod Merging
 pub mod Pairing
+pub mod Meeting
 pub mod Counting
 pub mod Forms
+pub mod Counts

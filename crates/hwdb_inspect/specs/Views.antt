@@ -7,6 +7,8 @@ use Rattle.hwdb_spec.specs.Summary.{Summary}
 use Rattle.hwdb_query.specs.Views.{assignment_of_answer}
 use Rattle.hwdb_query.specs.declared.answer.StoredAssignment.{StoredAssignment}
 use Rattle.hwdb_spec.specs.Status as status
+use Rattle.hwdb_inspect.specs.declared.amounts.Amount.{Amount}
+use Rattle.hwdb_inspect.specs.declared.amounts.Amount.TheVariants.{Counted, Uncounted}
 use Rattle.hwdb_inspect.specs.declared.freshness.State.{State}
 use Rattle.hwdb_inspect.specs.declared.freshness.State.TheVariants.{Broken, Fresh, Missing, Stale}
 use Rattle.hwdb_inspect.specs.declared.reports.Report.{Report}
@@ -46,11 +48,18 @@ state_shown Broken = status.State.Broken
 state_shown Fresh = status.State.Fresh
 state_shown (Stale changes first) = status.State.Stale changes first.items
 
+abbrev pub amount_shown : Amount → status.Amount
+amount_shown (Counted files assignments bytes) = status.Amount.Counted files assignments bytes
+amount_shown (Uncounted bytes) = status.Amount.Uncounted bytes
+
 abbrev pub report_shown : Report → status.Report
 report_shown r = record {
   database = option_map (λ v. v.items) r.database;
+  holds = option_map amount_shown r.holds;
   hides = option_map (λ v. v.items) r.hides;
+  hidden = option_map amount_shown r.hidden;
   masked = map (λ v. v.items) r.masked.items;
+  ignored = map (λ v. v.items) r.ignored.items;
   state = state_shown r.state;
   remedy = r.remedy.items;
 }

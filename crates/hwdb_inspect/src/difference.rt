@@ -1,7 +1,7 @@
 //! `diff`: what came, went and changed from one database to another, of all that they assign, or for some devices.
-ghost use Rattle.std.specs.Prelude.{◌≡◌, ◌++◌, ℕ, List, None, Some, flat_map, map, IfOk, IfErr, OnOk};
+ghost use Rattle.std.specs.Prelude.{◌≡◌, ◌++◌, ℕ, List, None, Some, flat_map, true, map, IfOk, IfErr, OnOk};
 ghost use Rattle.std.specs.List.{list_any};
-ghost use Rattle.hwdb_spec.specs.Comparisons.{changes_form, comparison_text, device_changes_form, has_changed};
+ghost use Rattle.hwdb_spec.specs.Comparisons.{changes_form, comparison_form, comparison_text, device_changes_form, has_changed};
 ghost use Rattle.hwdb_spec.specs.DeviceDifferences.{device_differences};
 ghost use Rattle.hwdb_spec.specs.Folders.{Source};
 ghost use Rattle.hwdb_spec.specs.Format.{IsDatabase};
@@ -14,12 +14,14 @@ ghost use Rattle.hwdb_inspect.specs.Views.{changes_of};
 ghost use Rattle.hwdb_inspect.specs.Internal.Forms.{change_form};
 ghost use Rattle.hwdb_inspect.specs.Internal.Pairing.{to_tell};
 
+use crate::counting::{device_stat, stat_between};
+use crate::counts_text::form_of;
 use crate::device_lines::push_device;
 use crate::gifts::gifts;
 use crate::json_changes::{push_device_json, push_json};
 use crate::lines::push_pair;
+use crate::meeting::changes_met;
 use crate::pairs::{Pair, Pairs};
-use crate::walk::assignments;
 use hwdb_reader::{Db, check, law_ascending, law_one_tree};
 use hwdb_spec::DiffError;
 use std::alloc::{AllocError, Global};
@@ -35,7 +37,7 @@ pub struct Changes {
 
 /// Adds the line of what happened at a pattern and key, and answers whether something did. The only error, here and below, is
 /// `AllocError`.
-fn push_form(
+pub(crate) fn push_form(
     alloc: Global,
     json: bool,
     text: &mut Vec<u8>,
@@ -52,22 +54,7 @@ fn push_form(
     }
 }
 
-/// The line of each change that is left.
-fn lines_of(alloc: Global, json: bool, pairs: Pairs<'_, '_>) -> Result<Changes, AllocError>
-    ensures text { IfOk result
-        (λ changes. changes.text.items ≡ flat_map (change_form json) (to_tell pairs.entry)) }
-    ensures differ { IfOk result (λ changes. changes.differ ≡ are_some (to_tell pairs.entry)) }
-{
-    let mut left = pairs;
-    let mut text = Vec::new(alloc);
-    let mut differ = false;
-    'pairs: while let Some(pair) = left.next() {
-        differ |= push_form(alloc, json, &mut text, pair)?;
-    }
-    Ok(Changes { text, differ })
-}
-
-/// What changed from one database to another. Both ascend, so that one pass goes over the two lists side by side.
+/// What changed from one database to another. Both ascend, so that one pass goes over the two side by side.
 fn changes_between(
     alloc: Global,
     json: bool,
@@ -80,9 +67,7 @@ fn changes_between(
         (λ changes. changes.text.items ≡ comparison_text json None old.now new.now) }
     ensures differ { IfOk result (λ changes. changes.differ ≡ has_changed None old.now new.now) }
 {
-    let old_ones = assignments(alloc, old)?;
-    let new_ones = assignments(alloc, new)?;
-    lines_of(alloc, json, Pairs::new(&old_ones, &new_ones))
+    changes_met(alloc, json, old, new)
 }
 
 /// Adds what changed for a device, as text or JSON, and answers whether something did.
@@ -171,7 +156,7 @@ fn check_new(new: &[u8]) -> Result<Db<'_>, DiffError>
 /// for each pattern and key for which the two differ, by pattern and then by key, as text or JSON. Over the databases of an old
 /// and a new state of two folders that is what their files differ in.
 ///
-/// The memory is all assignments of both, and the lines. Each database is walked once.
+/// The memory is the lines, and for each database the nodes of one path. Each is walked once.
 pub fn diff(alloc: Global, json: bool, old: &[u8], new: &[u8]) -> Result<Changes, DiffError>
     ensures text { IfOk result (λ changes.
         IsDiffText (comparison_text json None) old.now new.now changes.text.items) }
@@ -212,4 +197,81 @@ pub fn diff_devices(
     let before = check_old(old)?;
     let after = check_new(new)?;
     Ok(device_changes(alloc, json, &before, &after, devices)?)
+}
+
+/// How many changes there are from one database to another.
+fn stat_changes(
+    alloc: Global,
+    json: bool,
+    old: &Db<'_>,
+    new: &Db<'_>,
+) -> Result<Changes, AllocError>
+    requires old { IsTree old.now }
+    requires new { IsTree new.now }
+    ensures text { IfOk result
+        (λ changes. changes.text.items ≡ comparison_form true json None old.now new.now) }
+    ensures differ { IfOk result (λ changes. changes.differ ≡ has_changed None old.now new.now) }
+{
+    let stat = stat_between(alloc, old, new)?;
+    let differ = stat.differ;
+    let text = form_of(alloc, json, false, stat)?;
+    Ok(Changes { text, differ })
+}
+
+/// The same of what devices get.
+fn device_stat_changes(
+    alloc: Global,
+    json: bool,
+    old: &Db<'_>,
+    new: &Db<'_>,
+    devices: &[&[u8]],
+) -> Result<Changes, AllocError>
+    ensures text { IfOk result (λ changes. changes.text.items
+        ≡ comparison_form true json (Some (map (λ d. d.now) devices.now)) old.now new.now) }
+    ensures differ { IfOk result (λ changes. changes.differ
+        ≡ has_changed (Some (map (λ d. d.now) devices.now)) old.now new.now) }
+{
+    let stat = device_stat(alloc, old, new, devices)?;
+    let differ = stat.differ;
+    let text = form_of(alloc, json, true, stat)?;
+    Ok(Changes { text, differ })
+}
+
+/// Checks the bytes of both, and says how many assignments came, went and changed from the old database to the new one, by file and
+/// by key, as text or JSON.
+///
+/// The memory is all assignments of both, and a count for each file and key. Each database is walked once.
+pub fn stat(alloc: Global, json: bool, old: &[u8], new: &[u8]) -> Result<Changes, DiffError>
+    ensures text { IfOk result (λ changes.
+        IsDiffText (comparison_form true json None) old.now new.now changes.text.items) }
+    ensures differ { IfOk result
+        (λ changes. IsDifferent (has_changed None) old.now new.now changes.differ) }
+    ensures errors { IfErr result (IsDiffRefusal old.now new.now) }
+{
+    law_one_tree();
+    law_ascending();
+    let before = check_old(old)?;
+    let after = check_new(new)?;
+    Ok(stat_changes(alloc, json, &before, &after)?)
+}
+
+/// The same of what the two databases give some devices. It says too how many of these have a change.
+pub fn stat_devices(
+    alloc: Global,
+    json: bool,
+    old: &[u8],
+    new: &[u8],
+    devices: &[&[u8]],
+) -> Result<Changes, DiffError>
+    ensures text { IfOk result (λ changes.
+        IsDiffText (comparison_form true json (Some (map (λ d. d.now) devices.now)))
+        old.now new.now changes.text.items) }
+    ensures differ { IfOk result (λ changes.
+        IsDifferent (has_changed (Some (map (λ d. d.now) devices.now)))
+        old.now new.now changes.differ) }
+    ensures errors { IfErr result (IsDiffRefusal old.now new.now) }
+{
+    let before = check_old(old)?;
+    let after = check_new(new)?;
+    Ok(device_stat_changes(alloc, json, &before, &after, devices)?)
 }

@@ -1,14 +1,17 @@
 //! `status`: how the database that is asked is, beside the one that the text files make.
-ghost use Rattle.std.specs.Prelude.{◌≡◌, ◌≤◌, ◌<◌, ◌+◌, ◌^◌, false, length, option_map, IfOk, OnOk};
+ghost use Rattle.std.specs.Prelude.{◌≡◌, ◌≤◌, ◌<◌, ◌+◌, ◌^◌, Some, false, length, option_map, IfOk, OnOk};
 ghost use Rattle.hwdb_spec.specs.Differences.{differences};
 ghost use Rattle.hwdb_spec.specs.Folders.{same};
 ghost use Rattle.hwdb_spec.specs.Tree.{IsTree, Map, map_of};
 ghost use Rattle.hwdb_spec.specs.Written.{IsDatabaseOf};
-ghost use Rattle.hwdb_spec.specs.Status.{IsState, IsStateOf, stale_by};
-ghost use Rattle.hwdb_inspect.specs.Views.{changes_of, state_shown};
+ghost use Rattle.hwdb_spec.specs.Status;
+ghost use Rattle.hwdb_spec.specs.Status.{IsAmount, IsState, IsStateOf, stale_by};
+ghost use Rattle.hwdb_spec.specs.Summary.{summary_of};
+ghost use Rattle.hwdb_inspect.specs.Views.{amount_shown, changes_of, state_shown};
 ghost use Rattle.hwdb_inspect.specs.Internal.Counting.{first_kept};
 ghost use Rattle.hwdb_inspect.specs.Internal.Pairing.{to_tell};
 
+use crate::amounts::{Amount, amount_in, amount_of};
 use crate::lines::push_pair;
 use crate::pairs::{Pair, Pairs};
 use crate::texts::is_same;
@@ -32,6 +35,14 @@ pub enum State {
         /// The line of the first, as `diff` prints it; nothing if there is none.
         first: Vec<u8>,
     },
+}
+
+/// How the database that is asked is, and how much is in it.
+#[derive(Drop)]
+pub struct Standing {
+    pub state: State,
+    /// None if there is no database.
+    pub holds: Option<Amount>,
 }
 
 /// How many changes were met, and the line of the first.
@@ -105,40 +116,78 @@ fn changes_to(alloc: Global, old: &Db<'_>, made: &[u8]) -> Result<State, AllocEr
     }
 }
 
-/// The state of bytes that aren't those that were made.
-fn state_of_others(alloc: Global, bytes: &[u8], made: &[u8]) -> Result<State, AllocError>
+/// How a database of so many bytes is, if they aren't those that were made.
+fn stale(alloc: Global, size: usize, old: &Db<'_>, made: &[u8]) -> Result<Standing, AllocError>
+    requires { IsTree old.now }
+    ensures state { IfOk result (λ s. (m : Map) → IsDatabaseOf m made.now
+        → state_shown s.state ≡ stale_by (differences (map_of old.now) m)) }
+    ensures holds { IfOk result (λ s. option_map amount_shown s.holds
+        ≡ Some (Status.amount_of (summary_of size old.now))) }
+{
+    let state = changes_to(alloc, old, made)?;
+    let amount = amount_in(alloc, size, old)?;
+    Ok(Standing {
+        state,
+        holds: Some(amount),
+    })
+}
+
+/// How bytes are that aren't those that were made.
+fn standing_of_others(alloc: Global, bytes: &[u8], made: &[u8]) -> Result<Standing, AllocError>
     requires { same bytes.now made.now ≡ false }
-    ensures { IfOk result (λ state. (m : Map) → IsDatabaseOf m made.now
-        → IsStateOf made.now m bytes.now (state_shown state)) }
+    ensures state { IfOk result (λ s. (m : Map) → IsDatabaseOf m made.now
+        → IsStateOf made.now m bytes.now (state_shown s.state)) }
+    ensures holds { IfOk result (λ s. IsAmount (Some bytes.now) (option_map amount_shown s.holds)) }
 {
     law_ascending();
     match check(bytes) {
-        Ok(old) => changes_to(alloc, &old, made),
-        Err(_) => Ok(State::Broken),
+        Ok(old) => stale(alloc, bytes.len(), &old, made),
+        Err(_) => Ok(Standing {
+            state: State::Broken,
+            holds: Some(Amount::Uncounted { bytes: bytes.len() }),
+        }),
     }
 }
 
-/// The state of some bytes beside those that were made.
-fn state_of_bytes(alloc: Global, bytes: &[u8], made: &[u8]) -> Result<State, AllocError>
-    ensures { IfOk result (λ state. (m : Map) → IsDatabaseOf m made.now
-        → IsStateOf made.now m bytes.now (state_shown state)) }
+/// How bytes are that were made.
+fn fresh(alloc: Global, bytes: &[u8]) -> Result<Standing, AllocError>
+    ensures state { IfOk result (λ s. state_shown s.state ≡ Status.State.Fresh) }
+    ensures holds { IfOk result (λ s. IsAmount (Some bytes.now) (option_map amount_shown s.holds)) }
+{
+    let amount = amount_of(alloc, bytes)?;
+    Ok(Standing {
+        state: State::Fresh,
+        holds: Some(amount),
+    })
+}
+
+/// How some bytes are beside those that were made.
+fn standing_of_bytes(alloc: Global, bytes: &[u8], made: &[u8]) -> Result<Standing, AllocError>
+    ensures state { IfOk result (λ s. (m : Map) → IsDatabaseOf m made.now
+        → IsStateOf made.now m bytes.now (state_shown s.state)) }
+    ensures holds { IfOk result (λ s. IsAmount (Some bytes.now) (option_map amount_shown s.holds)) }
 {
     if is_same(bytes, made) {
-        Ok(State::Fresh)
+        fresh(alloc, bytes)
     } else {
-        state_of_others(alloc, bytes, made)
+        standing_of_others(alloc, bytes, made)
     }
 }
 
-/// The state of the database that is asked, if there is one, beside the bytes that the text files make.
+/// How the database that is asked is, if there is one, beside the bytes that the text files make, and how much is in it.
 ///
-/// Bytes that are the same are compared, and no more. Else the memory is all assignments of both, and each is walked once.
-pub fn state_of(alloc: Global, asked: Option<&[u8]>, made: &[u8]) -> Result<State, AllocError>
-    ensures { IfOk result (λ state. (m : Map) → IsDatabaseOf m made.now
-        → IsState made.now m (option_map (λ b. b.now) asked.entry) (state_shown state)) }
+/// Bytes that are the same are checked, and walked once. Else both are checked and walked, with all assignments of both in memory.
+pub fn standing_of(alloc: Global, asked: Option<&[u8]>, made: &[u8]) -> Result<Standing, AllocError>
+    ensures state { IfOk result (λ s. (m : Map) → IsDatabaseOf m made.now
+        → IsState made.now m (option_map (λ b. b.now) asked.entry) (state_shown s.state)) }
+    ensures holds { IfOk result (λ s. IsAmount (option_map (λ b. b.now) asked.entry)
+        (option_map amount_shown s.holds)) }
 {
     match asked {
-        Some(bytes) => state_of_bytes(alloc, bytes, made),
-        None => Ok(State::Missing),
+        Some(bytes) => standing_of_bytes(alloc, bytes, made),
+        None => Ok(Standing {
+            state: State::Missing,
+            holds: None,
+        }),
     }
 }

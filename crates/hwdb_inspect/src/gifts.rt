@@ -9,8 +9,8 @@ use hwdb_reader::Db;
 use std::alloc::{AllocError, Global};
 use std::rc::Rc;
 
-/// A copy of a device, which all that it is given can share. The only error, here and below, is `AllocError`.
-fn shared(alloc: Global, device: &[u8]) -> Result<Rc<Vec<u8>>, AllocError>
+/// A copy of a device, or of a pattern, which assignments can share. The only error, here and below, is `AllocError`.
+pub(crate) fn shared(alloc: Global, device: &[u8]) -> Result<Rc<Vec<u8>>, AllocError>
     ensures { IfOk result (λ copy. copy.value.items ≡ device.now) }
 {
     let copy = Rc::new(alloc, device.to_vec(alloc)?)?;

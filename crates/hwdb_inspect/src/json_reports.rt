@@ -7,6 +7,7 @@ ghost use Rattle.hwdb_spec.specs.Status;
 ghost use Rattle.hwdb_spec.specs.Status.{maybe_json, remedy_members, report_json, report_object, stale_members};
 ghost use Rattle.hwdb_inspect.specs.Views.{report_shown, state_shown};
 
+use crate::amounts::put_amount_at;
 use crate::freshness::State;
 use crate::reports::{Report, state_word};
 use hwdb_show::{ended, put_count, put_member, put_text};
@@ -103,8 +104,11 @@ fn put_report(json: &mut Writer, report: &Report) -> Result<(), AllocError>
 {
     json.begin_object()?;
     put_maybe_at(json, "database", &report.database)?;
+    put_amount_at(json, "holds", report.holds)?;
     put_maybe_at(json, "hides", &report.hides)?;
+    put_amount_at(json, "hidden", report.hidden)?;
     put_texts_at(json, "masked", &report.masked)?;
+    put_texts_at(json, "ignored", &report.ignored)?;
     put_member(json, "state", state_word(&report.state).as_bytes())?;
     put_stale(json, &report.state)?;
     put_remedy(json, report)?;

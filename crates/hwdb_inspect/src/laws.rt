@@ -1,5 +1,6 @@
 //! Laws of databases. Each function holds no code: its contract is a law of the definitions of `hwdb_spec`.
 ghost use Rattle.hwdb_inspect.specs.Laws.{MembersAreTheMap, DumpSays, DumpTells, GiftsAreEffective};
+ghost use Rattle.hwdb_inspect.specs.Rows.{DeviceStatRows, EtcRows, NameRows, StatJsonRows, StatRows, TextRows};
 
 use hwdb_query::explained_are_effective;
 
@@ -24,3 +25,13 @@ pub fn gifts_are_effective()
 {
     explained_are_effective();
 }
+
+/// Worked rows: what the definitions give when they are computed.
+pub fn worked_rows()
+    ensures names { NameRows }
+    ensures texts { TextRows }
+    ensures etc { EtcRows }
+    ensures counts { StatRows }
+    ensures of_devices { DeviceStatRows }
+    ensures as_json { StatJsonRows }
+{}

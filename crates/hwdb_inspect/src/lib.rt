@@ -2,25 +2,32 @@
 //! another.
 //!
 //! Each of these walks the whole tree, without a device. The time is that of one look at each node, and of the bytes of
-//! the patterns. All assignments are held at once: `dump` and `verify` sort them, and `diff` goes through two lists.
+//! the patterns. `dump` holds all assignments at once, and sorts them. `diff` holds the next one of each database.
 //!
 //! | Module | What it does |
 //! |---|---|
 //! | `pairs` | two ascending lists of assignments, gone through side by side |
 //! | `lines` | the lines of changes; `device_lines`: those of a device; `json_changes`: both as JSON |
+//! | `counting` | how many changes there are, by file and by key; `counts_text`: the same as lines or JSON |
 //! | `gifts` | what a database gives a device |
 //! | `listing` | `dump`: a database as text |
 //! | `records` | the records of a dump, and what a record says |
 //! | `difference` | `diff`: what changed from one database to another, of all or for devices |
 //! | `summary` | how much is in a database |
-//! | `texts` | whether texts are one |
+//! | `texts` | whether texts are one; `ordering`: texts in order, each once |
 //! | `freshness` | `status`: how a database is beside what the text files make |
+//! | `amounts` | how much is in a database, as `status` says it |
 //! | `reports` | the lines of `status`; `json_reports`: the same as JSON |
 //! | `verification` | `verify`: whether bytes are a database, and how much is in it |
+//! | `members` | the assignments of a database, one after another while it is walked |
+//! | `meeting` | two databases, walked side by side, and what changed |
 //! | `walk` | all assignments of a database, by pattern and key |
 //! | `laws` | laws of the map of a database, and of its dump |
 #![tactic(auto)]
 
+mod amounts;
+mod counting;
+mod counts_text;
 mod device_lines;
 mod difference;
 mod freshness;
@@ -30,6 +37,9 @@ mod json_reports;
 mod laws;
 mod lines;
 mod listing;
+mod meeting;
+mod members;
+mod ordering;
 mod pairs;
 mod records;
 mod reports;
@@ -38,11 +48,13 @@ mod texts;
 mod verification;
 mod walk;
 
-pub use difference::{Changes, diff, diff_devices};
-pub use freshness::{State, state_of};
+pub use amounts::{Amount, amount_of};
+pub use difference::{Changes, diff, diff_devices, stat, stat_devices};
+pub use freshness::{Standing, State, standing_of};
 pub use hwdb_spec::{DiffError, DumpError, VerifyError};
 pub use laws::{dump_says, dump_tells, gifts_are_effective, members_are_the_map};
 pub use listing::dump;
+pub use ordering::in_order;
 pub use reports::{Report, report_in};
 pub use verification::verify;
 pub use walk::assignments;

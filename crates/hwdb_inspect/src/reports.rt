@@ -1,9 +1,10 @@
 //! The lines of `status`.
 ghost use Rattle.std.specs.Prelude.{◌≡◌, ◌≤◌, ◌++◌, codes, flat_map, map, option_map, unwrap_or, IfOk, OnOk};
 ghost use Rattle.hwdb_spec.specs.Status;
-ghost use Rattle.hwdb_spec.specs.Status.{changes_lines, first_line, is_well, remedy_line, report_form, report_text, said_if, said_line, status_of};
+ghost use Rattle.hwdb_spec.specs.Status.{amount_line, changes_lines, first_line, is_well, remedy_line, report_form, report_text, said_if, said_line, status_of};
 ghost use Rattle.hwdb_inspect.specs.Views.{report_shown, state_shown};
 
+use crate::amounts::{Amount, push_amount_if};
 use crate::freshness::State;
 use crate::json_reports::report_line;
 use crate::verification::push_count;
@@ -14,10 +15,16 @@ use std::alloc::{AllocError, Global};
 pub struct Report {
     /// The path of the database that is asked.
     pub database: Option<Vec<u8>>,
+    /// How much is in it.
+    pub holds: Option<Amount>,
     /// The path of the one that it hides.
     pub hides: Option<Vec<u8>>,
+    /// How much is in that.
+    pub hidden: Option<Amount>,
     /// The paths of text files that others mask.
     pub masked: Vec<Vec<u8>>,
+    /// The paths of files that are none, by their names.
+    pub ignored: Vec<Vec<u8>>,
     /// The state of the database that is asked.
     pub state: State,
     /// The command after which it is fresh and hides none.
@@ -90,15 +97,45 @@ fn push_database(text: &mut Vec<u8>, path: &Option<Vec<u8>>) -> Result<(), Alloc
     }
 }
 
-/// Adds a line for each masked text file.
-fn push_masked(text: &mut Vec<u8>, paths: &[Vec<u8>]) -> Result<(), AllocError>
+/// Adds a line of this name for each path.
+fn push_paths(text: &mut Vec<u8>, name: &str, paths: &[Vec<u8>]) -> Result<(), AllocError>
     ensures { OnOk result (text.new.items ≡ text.old.items
-        ++ flat_map (said_line (codes "masked")) (map (λ p. p.items) paths.now)) }
+        ++ flat_map (said_line name.now) (map (λ p. p.items) paths.now)) }
 {
     for path in paths {
-        push_line(text, "masked", path)?;
+        push_line(text, name, path)?;
     }
     Ok(())
+}
+
+/// Adds the lines of the database that is asked.
+fn push_asked(text: &mut Vec<u8>, report: &Report) -> Result<(), AllocError>
+    ensures { OnOk result (text.new.items ≡ text.old.items ++ (said_line (codes "database")
+        (unwrap_or (report_shown report.now).database (codes "none"))
+        ++ amount_line (report_shown report.now).holds)) }
+{
+    push_database(text, &report.database)?;
+    push_amount_if(text, report.holds)
+}
+
+/// Adds the lines of the database that it hides.
+fn push_hidden(text: &mut Vec<u8>, report: &Report) -> Result<(), AllocError>
+    ensures { OnOk result (text.new.items ≡ text.old.items
+        ++ (said_if (codes "hides") (report_shown report.now).hides
+        ++ amount_line (report_shown report.now).hidden)) }
+{
+    push_if(text, "hides", &report.hides)?;
+    push_amount_if(text, report.hidden)
+}
+
+/// Adds the lines of masked and of ignored text files.
+fn push_unread(text: &mut Vec<u8>, report: &Report) -> Result<(), AllocError>
+    ensures { OnOk result (text.new.items ≡ text.old.items
+        ++ (flat_map (said_line (codes "masked")) (report_shown report.now).masked
+        ++ flat_map (said_line (codes "ignored")) (report_shown report.now).ignored)) }
+{
+    push_paths(text, "masked", &report.masked)?;
+    push_paths(text, "ignored", &report.ignored)
 }
 
 /// Adds the line of the first change, if there is one.
@@ -155,9 +192,9 @@ fn report_lines(alloc: Global, report: &Report) -> Result<Vec<u8>, AllocError>
     ensures { IfOk result (λ text. text.items ≡ report_text (report_shown report.now)) }
 {
     let mut text = Vec::new(alloc);
-    push_database(&mut text, &report.database)?;
-    push_if(&mut text, "hides", &report.hides)?;
-    push_masked(&mut text, &report.masked)?;
+    push_asked(&mut text, report)?;
+    push_hidden(&mut text, report)?;
+    push_unread(&mut text, report)?;
     push_state(&mut text, report)?;
     Ok(text)
 }

@@ -1,5 +1,5 @@
 //! The walk over all nodes of a database, each before its children: so what they assign comes by pattern and then by
-//! key.
+//! key. Who walks takes one node after another, and keeps of it what is needed.
 //!
 //! The nodes whose children aren't all done are on a stack of its own, on the heap. So a deep tree takes no more of the
 //! thread's stack than a flat one. Each node is entered once.
@@ -7,13 +7,11 @@
 //! A node's own assignments are those of `hwdb_query`, by one call. The loop isn't: the descent there keeps at each open node what
 //! is known of the device, and passes over what can't match. That takes memory. This one enters all nodes and counts how deep they
 //! stand.
-ghost use Rattle.std.specs.Prelude.{◌≡◌, ◌<◌, ◌≤◌, ◌+◌, ◌++◌, ◌∷◌, ◌^◌, [], map, max, reverse, length, IfOk, OnOk};
-ghost use Rattle.hwdb_spec.specs.Summary.{nodes, depth};
-ghost use Rattle.hwdb_spec.specs.Tree.{members_under, prefix_of, values_of};
-ghost use Rattle.hwdb_reader.specs.Views.{node_count, children_of, tree_of, entered_tree};
+ghost use Rattle.std.specs.Prelude.{◌≡◌, ◌<◌, ◌≤◌, ◌+◌, ◌++◌, ◌∷◌, ◌^◌, [], None, map, max, reverse, length, is_some, IfNone, IfOk, IsSomeAnd, OnOk};
+ghost use Rattle.hwdb_spec.specs.Tree.{Tree, members_under, prefix_of};
+ghost use Rattle.hwdb_reader.specs.Views.{tree_of, entered_tree};
 ghost use Rattle.hwdb_inspect.specs.Views.{assignment_of};
-ghost use Rattle.hwdb_query.specs.Internal.Members.{own_members};
-ghost use Rattle.hwdb_inspect.specs.Internal.Walks.{to_come, StandsOn, left, steps, deepest_to_come, Opened};
+ghost use Rattle.hwdb_inspect.specs.Internal.Walks.{to_come, StandsOn, left, steps, deepest_to_come, Opened, IsWalkOf, entered_one, own_of, rest_of, still_left};
 
 use hwdb_query::{StoredAssignment, push_answers};
 use hwdb_reader::{Db, Entered, Inside, Node};
@@ -21,7 +19,7 @@ use std::alloc::{AllocError, Global};
 
 /// A node that was entered. Some of its children are done.
 #[derive(Clone, Copy)]
-struct OpenVisit<'a> {
+pub(crate) struct OpenVisit<'a> {
     inside: Inside<'a>,
     /// How many of its children were entered.
     done: usize,
@@ -31,56 +29,66 @@ struct OpenVisit<'a> {
 
 /// How far a walk has come.
 #[derive(Drop)]
-struct Walk<'a> {
+pub(crate) struct Walk<'a> {
     /// The path of the node that was entered last.
-    path: Vec<u8>,
+    pub path: Vec<u8>,
+    /// That node; none at the end.
+    pub at: Option<Inside<'a>>,
     /// The nodes that aren't done, each below the one before it.
     stack: Vec<OpenVisit<'a>>,
-    found: Vec<StoredAssignment<'a>>,
     entered: Entered,
     /// The most nodes that were on one path so far.
-    deepest: usize,
+    pub deepest: usize,
 }
 
 /// Room on the stack for the node that is entered.
 const NODE: usize = 1;
 
-/// What a walk over a whole database found.
-#[derive(Drop)]
-pub(crate) struct WalkedDatabase<'a> {
-    pub assignments: Vec<StoredAssignment<'a>>,
-    pub nodes: u64,
-    /// The most nodes on one path, the root counted.
-    pub depth: usize,
-}
-
 impl<'a> Walk<'a> {
     fn new(alloc: Global) -> Walk<'a>
         ensures path { result.path.items ≡ [] }
         ensures stack { result.stack.items ≡ [] }
-        ensures found { result.found.items ≡ [] }
         ensures entered { result.entered ≡ 0 }
         ensures deepest { result.deepest ≡ 0 }
     {
         Walk {
             path: Vec::new(alloc),
+            at: None,
             stack: Vec::new(alloc),
-            found: Vec::new(alloc),
             entered: Entered::new(),
             deepest: 0,
         }
     }
 
-    /// Enters a node, and takes what its values assign. The walk's path is the node's without its prefix. Puts the node on
-    /// the stack if it has children, as few nodes do.
-    fn enter(&mut self, alloc: Global, node: Node<'a>) -> Result<(), AllocError>
+    /// A walk over a database that is at the root. The only error, here and below, is `AllocError`.
+    pub(crate) fn start(alloc: Global, db: &Db<'a>) -> Result<Walk<'a>, AllocError>
+        ensures walk { IfOk result (λ walk. IsWalkOf db.now walk) }
+        ensures all { IfOk result (λ walk.
+            own_of walk.path.items walk.at ++ rest_of walk ≡ members_under [] db.now) }
+        ensures end { IfOk result (λ walk. IfNone walk.at (walk.stack.items ≡ [])) }
+    {
+        let root = db.root();
+        root.law_tree();
+        let mut walk = Walk::new(alloc);
+        walk.enter(root)?;
+        Ok(walk)
+    }
+
+    /// How many nodes were entered.
+    pub(crate) fn nodes(&self) -> u64
+        ensures { result ≡ self.now.entered }
+    {
+        self.entered.count()
+    }
+
+    /// Enters a node. The walk's path is the node's without its prefix. Puts the node on the stack if it has children, as
+    /// few nodes do.
+    fn enter(&mut self, node: Node<'a>) -> Result<(), AllocError>
         requires { self.old.entered + 1 < 2 ^ 64 }
         ensures path { OnOk result
             (self.new.path.items ≡ self.old.path.items ++ prefix_of (tree_of node.entry)) }
-        ensures found { OnOk result (map assignment_of self.new.found.items
-            ≡ map assignment_of self.old.found.items
-            ++ own_members (self.old.path.items ++ prefix_of (tree_of node.entry))
-            (values_of (tree_of node.entry))) }
+        ensures at { OnOk result
+            (IsSomeAnd self.new.at (λ inside. entered_tree inside ≡ tree_of node.entry)) }
         ensures stack { OnOk result
             (Opened self.old.stack.items self.new.stack.items (tree_of node.entry)
             (length self.new.path.items)) }
@@ -90,7 +98,7 @@ impl<'a> Walk<'a> {
     {
         self.path.extend_from_slice(node.prefix())?;
         let inside = node.enter(&mut self.entered);
-        push_answers(alloc, inside, &self.path, &mut self.found)?;
+        self.at = Some(inside);
         self.stack.reserve(NODE)?;
         self.deepest = self.deepest.max(self.stack.len() + 1);
         if inside.children() == 0 {
@@ -105,20 +113,22 @@ impl<'a> Walk<'a> {
         Ok(())
     }
 
-    /// Goes on from a node that was on top of the stack: enters its next child, if there is one.
-    fn go_on(&mut self, alloc: Global, top: OpenVisit<'a>) -> Result<(), AllocError>
+    /// Goes on from a node that was on top of the stack: enters its next child, if there is one. Answers whether there is.
+    fn go_on(&mut self, top: OpenVisit<'a>) -> Result<bool, AllocError>
+        requires none { self.old.at ≡ None }
         requires stands { StandsOn self.old.path.items (top ∷ reverse self.old.stack.items) }
         requires room { self.old.entered + left (top ∷ reverse self.old.stack.items) < 2 ^ 64 }
         requires reached { length self.old.stack.items < self.old.deepest }
-        ensures found { OnOk result (map assignment_of self.new.found.items
+        ensures found { IfOk result (λ found. found ≡ is_some self.new.at) }
+        ensures rest { OnOk result (own_of self.new.path.items self.new.at
             ++ to_come self.new.path.items (reverse self.new.stack.items)
-            ≡ map assignment_of self.old.found.items
-            ++ to_come self.old.path.items (top.entry ∷ reverse self.old.stack.items)) }
+            ≡ to_come self.old.path.items (top.entry ∷ reverse self.old.stack.items)) }
         ensures stands { OnOk result
             (StandsOn self.new.path.items (reverse self.new.stack.items)) }
         ensures counted { OnOk result
-            (self.new.entered + left (reverse self.new.stack.items)
-            ≡ self.old.entered + left (top.entry ∷ reverse self.old.stack.items)) }
+            (self.new.entered ≡ self.old.entered + entered_one self.new.at) }
+        ensures left { OnOk result (entered_one self.new.at + left (reverse self.new.stack.items)
+            ≡ left (top.entry ∷ reverse self.old.stack.items)) }
         ensures fewer { OnOk result
             (steps (reverse self.new.stack.items)
             < steps (top.entry ∷ reverse self.old.stack.items)) }
@@ -129,7 +139,7 @@ impl<'a> Walk<'a> {
     {
         self.path.truncate(top.length);
         if top.done == top.inside.children() {
-            return Ok(());
+            return Ok(false);
         }
         let child = top.inside.child(top.done);
         self.path.push(child.byte)?;
@@ -137,31 +147,28 @@ impl<'a> Walk<'a> {
             done: top.done + 1,
             ..top
         })?;
-        self.enter(alloc, child.node)?;
+        self.enter(child.node)?;
+        Ok(true)
+    }
+
+    /// Goes on to the next node, each before its children; to none at the end.
+    pub(crate) fn next(&mut self) -> Result<(), AllocError>
+        requires { (t : Tree) × IsWalkOf t self.old }
+        ensures walk { OnOk result ((t : Tree) → IsWalkOf t self.old → IsWalkOf t self.new) }
+        ensures rest { OnOk result
+            (own_of self.new.path.items self.new.at ++ rest_of self.new ≡ rest_of self.old) }
+        ensures end { OnOk result (IfNone self.new.at (self.new.stack.items ≡ [])) }
+        ensures left { OnOk result
+            (entered_one self.new.at + still_left self.new ≡ still_left self.old) }
+    {
+        self.at = None;
+        'nodes: while let Some(top) = self.stack.pop() {
+            if self.go_on(top)? {
+                return Ok(());
+            }
+        }
         Ok(())
     }
-}
-
-/// All that the database assigns, by pattern and then by key, and how many nodes it has. The only error is
-/// `AllocError`.
-pub(crate) fn survey<'a>(alloc: Global, db: &Db<'a>) -> Result<WalkedDatabase<'a>, AllocError>
-    ensures list { IfOk result
-        (λ found. map assignment_of found.assignments.items ≡ members_under [] db.now) }
-    ensures nodes { IfOk result (λ found. found.nodes ≡ nodes db.now) }
-    ensures depth { IfOk result (λ found. found.depth ≡ depth db.now) }
-{
-    let root = db.root();
-    root.law_tree();
-    let mut walk = Walk::new(alloc);
-    walk.enter(alloc, root)?;
-    while let Some(top) = walk.stack.pop() {
-        walk.go_on(alloc, top)?;
-    }
-    Ok(WalkedDatabase {
-        nodes: walk.entered.count(),
-        depth: walk.deepest,
-        assignments: walk.found,
-    })
 }
 
 /// All that the database assigns, by pattern and then by key. Keys, values and paths are parts of the database's bytes.
@@ -171,6 +178,11 @@ pub(crate) fn survey<'a>(alloc: Global, db: &Db<'a>) -> Result<WalkedDatabase<'a
 pub fn assignments<'a>(alloc: Global, db: &Db<'a>) -> Result<Vec<StoredAssignment<'a>>, AllocError>
     ensures list { IfOk result (λ list. map assignment_of list.items ≡ members_under [] db.now) }
 {
-    let found = survey(alloc, db)?;
-    Ok(found.assignments)
+    let mut walk = Walk::start(alloc, db)?;
+    let mut found = Vec::new(alloc);
+    'nodes: while let Some(inside) = walk.at {
+        push_answers(alloc, inside, &walk.path, &mut found)?;
+        walk.next()?;
+    }
+    Ok(found)
 }

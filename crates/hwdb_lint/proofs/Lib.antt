@@ -9,3 +9,4 @@ pub mod AscendLemmas
 pub mod RunLemmas
 pub mod SoughtLemmas
 pub mod LawLemmas
+pub mod BracketLemmas

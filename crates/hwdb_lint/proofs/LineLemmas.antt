@@ -1,7 +1,7 @@
 -- A file, seen from the beginning of a line.
-use Rattle.std.proofs.Common.{◌≡◌, ℕ, suc, ◌+◌, ◌<◌, ◌≤◌, ◌⊎◌, ⊎_elim, Bool, true, false, cond, not, List, [], ◌∷◌, take, drop, length, refl, ap, ◌∙◌, sym, arith, ne_eqb, eq-eqb}
-use Rattle.std.proofs.lemmas.List.{drop-drop, drop_all, length-drop}
-use Rattle.std.specs.List.{position_or_len, onto_first}
+use Rattle.std.proofs.Common.{◌≡◌, ℕ, ◌+◌, ◌<◌, ◌≤◌, ◌⊎◌, ⊎_elim, List, [], ◌∷◌, take, drop, length, refl, ap, ◌∙◌, sym, arith, ne_eqb, eq-eqb}
+use Rattle.std.proofs.lemmas.List.{length-drop}
+use Rattle.std.specs.List.{position_or_len}
 use Rattle.hwdb_spec.specs.Lines.{is, lines, numbered, pieces}
 use Rattle.hwdb_spec.specs.Reports.{text_of_line}
 use Rattle.hwdb_lint.specs.Internal.{IsStart}

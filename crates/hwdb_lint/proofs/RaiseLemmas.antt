@@ -14,7 +14,7 @@ use Rattle.hwdb_spec.specs.Folders.{same}
 use Rattle.hwdb_spec.specs.Lines.{is}
 use Rattle.hwdb_lint.specs.Internal.{last_at, line_at, raised, same_at}
 use Rattle.hwdb_lint.proofs.RepeatLemmas.{equal_number}
-use Rattle.hwdb_spec.specs.Lemmas.Orders.{equal_of, same_text}
+use Rattle.hwdb_spec.specs.Lemmas.Orders.{same_text}
 
 -- a look-up, and what it gives, by whether it is at the key
 by_test : (t u : Bool) (new old : Option ℕ) (v number : ℕ) → new ≡ cond t (Some v) old → t ≡ u → (t ≡ true → v ≡ max (unwrap_or old 0) number) → unwrap_or new 0 ≡ raised u number (unwrap_or old 0)

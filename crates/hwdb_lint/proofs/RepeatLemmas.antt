@@ -1,9 +1,9 @@
 -- Match lines that repeat one of their run, line by line.
-use Rattle.std.proofs.Common.{◌≡◌, ℕ, ◌+◌, ◌<◌, ◌≤◌, Bool, true, false, not, List, [], ◌∷◌, ◌++◌, map, take, drop, length, refl, ap, ◌∙◌, sym, cond, arith, append_assoc, get_or, ◌||◌, ◌==◌}
+use Rattle.std.proofs.Common.{◌≡◌, ℕ, ◌+◌, ◌<◌, Bool, true, false, not, List, [], ◌∷◌, ◌++◌, take, length, refl, ap, ◌∙◌, sym, cond, arith, append_assoc, get_or, ◌||◌, ◌==◌}
 use Rattle.std.proofs.lemmas.List.{append-nil, take_more}
 use Rattle.std.proofs.lemmas.List.Folds.{list_any-append}
 use Rattle.std.proofs.lemmas.Bool.{eqb-true, false≢true, le-ltb}
-use Rattle.std.specs.List.{list_any, position_or_len}
+use Rattle.std.specs.List.{list_any}
 use Rattle.std.specs.Borrow.{Bor}
 use Rattle.std.specs.declared.cmp.Ordering.{Ordering}
 use Rattle.std.specs.declared.cmp.Ordering.TheVariants.{Less, Equal, Greater}
@@ -11,17 +11,13 @@ use Rattle.std.specs.Ordering.{nat_cmp, is_eq, match_ordering, ordering_reverse}
 use Rattle.std.specs.Cmp.Lexicographic.{slice_cmp}
 use Rattle.std.specs.BTreeSet.{BTreeSet, contains, insert_key}
 use Rattle.std.proofs.lemmas.Cmp.{nat_list_cmp_total}
-use Rattle.hwdb_spec.specs.Lines.{Line, begins_with, clean, clean_line, has, is, is_empty, is_none, is_match, numbered, pieces}
+use Rattle.hwdb_spec.specs.Lines.{Line, begins_with, clean, clean_line, has, is, is_empty, is_none, is_match, numbered}
 use Rattle.hwdb_spec.specs.Folders.{same}
 use Rattle.hwdb_spec.specs.Warnings.{repeated_from}
-use Rattle.hwdb_lint.specs.Internal.{IsSetOf, found_with, line_of}
+use Rattle.hwdb_lint.specs.Internal.{AreAlike, IsSetOf, above_texts, found_with, line_of, texts}
 use Rattle.hwdb_lint.specs.declared.repeats.Run.{Run}
 use Rattle.hwdb_lint.specs.Lemmas.Lines.{clean_by, cleaned}
 use Rattle.hwdb_spec.specs.Lemmas.Truth.{or_one_more}
-
--- texts as a set
-abbrev pub texts : List (Bor (List ℕ)) → List (List ℕ)
-texts ks = map (λ t. t.now) ks
 
 abbrev pub order : Bor (List ℕ) → Bor (List ℕ) → Ordering
 order x y = slice_cmp nat_cmp x.now y.now
@@ -50,25 +46,21 @@ put_member t k (x ∷ xs) = go (order k x) refl (put_member t k xs)
     go Equal e h = absorbed (same t k.now) (same t x.now) (list_any (same t) (texts xs)) (same_as t k.now x.now e)
     go Greater e h = ap (λ (b : Bool). same t x.now || b) h ∙ swapped (same t k.now) (same t x.now) (list_any (same t) (texts xs))
 
--- only the set of the texts above matters
-abbrev pub Alike : List (List ℕ) → List (List ℕ) → Type 0
-Alike a b = (t : List ℕ) → list_any (same t) a ≡ list_any (same t) b
-
 either_case : (m c d : Bool) (x y v w : List ℕ) (u z : List ℕ) → c ≡ d → x ≡ y → v ≡ w → u ≡ z → cond m (cond c x v) u ≡ cond m (cond d y w) z
 either_case m c d x y v w u z e f g h =
     ap (λ (t : Bool). cond m (cond t x v) u) e ∙ ap (λ (l : List ℕ). cond m (cond d l v) u) f ∙ ap (λ (l : List ℕ). cond m (cond d y l) u) g ∙ ap (λ (l : List ℕ). cond m (cond d y w) l) h
 
-alike : (a b : List (List ℕ)) → Alike a b → (ls : List Line) → repeated_from a ls ≡ repeated_from b ls
+alike : (a b : List (List ℕ)) → AreAlike a b → (ls : List Line) → repeated_from a ls ≡ repeated_from b ls
 unfolding repeated_from
 alike a b h [] = refl
 alike a b h (l ∷ more) =
     let rest : repeated_from (l.text ∷ a) more ≡ repeated_from (l.text ∷ b) more = alike (l.text ∷ a) (l.text ∷ b) (λ t. ap (λ (r : Bool). same t l.text || r) (h t)) more in
     either_case (is_match l) _ _ _ _ _ _ _ _ (h l.text) (ap (λ (r : List ℕ). l.number ∷ r) rest) rest refl
 
-after_put : (ks : List (Bor (List ℕ))) (k : Bor (List ℕ)) (ls : List Line) → repeated_from (texts (insert_key order ks k)) ls ≡ repeated_from (k.now ∷ texts ks) ls
-after_put ks k ls = alike (texts (insert_key order ks k)) (k.now ∷ texts ks) (λ t. put_member t k ks) ls
+pub put_alike : (k : Bor (List ℕ)) (ks new : List (Bor (List ℕ))) → new ≡ insert_key order ks k → AreAlike (texts new) (k.now ∷ texts ks)
+put_alike k ks new e = λ t. ap (λ (l : List (Bor (List ℕ))). list_any (same t) (texts l)) e ∙ put_member t k ks
 
-stands_by : (x : List ℕ) (ks : List (Bor (List ℕ))) → list_any (λ (k : Bor (List ℕ)). is_eq (slice_cmp nat_cmp x k.now)) ks ≡ list_any (same x) (texts ks)
+pub stands_by : (x : List ℕ) (ks : List (Bor (List ℕ))) → list_any (λ (k : Bor (List ℕ)). is_eq (slice_cmp nat_cmp x k.now)) ks ≡ list_any (same x) (texts ks)
 stands_by x [] = refl
 stands_by x (k ∷ ks) = ap (λ (r : Bool). same x k.now || r) (stands_by x ks)
 
@@ -89,26 +81,21 @@ other_first above l more e = go (is_match l) _ _ e
     go true x y e = cc
     go false x y e = refl
 
--- a match line that is new in its run, and one that isn't
-pub put_new : (ks new : List (Bor (List ℕ))) (k : Bor (List ℕ)) (number : ℕ) (found : List ℕ) (more : List Line) → is_match (line_of number k.now) ≡ true
-    → new ≡ insert_key order ks k → list_any (λ (x : Bor (List ℕ)). is_eq (slice_cmp nat_cmp k.now x.now)) ks ≡ false
-    → found ++ repeated_from (texts new) more ≡ found ++ repeated_from (texts ks) (line_of number k.now ∷ more)
-put_new ks new k number found more m n c =
-    ap (λ (l : List ℕ). found ++ l)
-    (ap (λ (x : List (Bor (List ℕ))). repeated_from (texts x) more) n ∙ after_put ks k more
-    ∙ sym (match_first (texts ks) (line_of number k.now) more m
-    ∙ ap (λ (b : Bool). cond b (number ∷ repeated_from (k.now ∷ texts ks) more) (repeated_from (k.now ∷ texts ks) more)) (sym (stands_by k.now ks) ∙ c)))
-
-pub put_again : (ks new : List (Bor (List ℕ))) (k : Bor (List ℕ)) (number : ℕ) (found after : List ℕ) (more : List Line) → is_match (line_of number k.now) ≡ true
-    → new ≡ insert_key order ks k → list_any (λ (x : Bor (List ℕ)). is_eq (slice_cmp nat_cmp k.now x.now)) ks ≡ true → after ≡ found ++ number ∷ []
-    → after ++ repeated_from (texts new) more ≡ found ++ repeated_from (texts ks) (line_of number k.now ∷ more)
-put_again ks new k number found after more m n c a =
-    ap (λ (l : List ℕ). l ++ repeated_from (texts new) more) a
-    ∙ append_assoc found (number ∷ []) (repeated_from (texts new) more)
-    ∙ ap (λ (l : List ℕ). found ++ l)
-    (ap (λ (x : List (Bor (List ℕ))). number ∷ repeated_from (texts x) more) n ∙ ap (λ (l : List ℕ). number ∷ l) (after_put ks k more)
-    ∙ sym (match_first (texts ks) (line_of number k.now) more m
-    ∙ ap (λ (b : Bool). cond b (number ∷ repeated_from (k.now ∷ texts ks) more) (repeated_from (k.now ∷ texts ks) more)) (sym (stands_by k.now ks) ∙ c)))
+-- a match line: whether its run has it is asked of a set that has the others
+pub put_step : (above between : List (List ℕ)) (k : List ℕ) (number : ℕ) (found after : List ℕ) (more : List Line) (c : Bool) → AreAlike between above → is_match (line_of number k) ≡ true
+    → list_any (same k) between ≡ c → after ≡ cond c (found ++ number ∷ []) found
+    → after ++ repeated_from (k ∷ between) more ≡ found ++ repeated_from above (line_of number k ∷ more)
+put_step above between k number found after more c h m e a =
+    let rest : repeated_from (k ∷ between) more ≡ repeated_from (k ∷ above) more = alike (k ∷ between) (k ∷ above) (λ t. ap (λ (r : Bool). same t k || r) (h t)) more in
+    let first : repeated_from above (line_of number k ∷ more) ≡ cond c (number ∷ repeated_from (k ∷ above) more) (repeated_from (k ∷ above) more) =
+    match_first above (line_of number k) more m
+    ∙ ap (λ (b : Bool). cond b (number ∷ repeated_from (k ∷ above) more) (repeated_from (k ∷ above) more)) (sym (h k) ∙ e)
+    in
+    ap (λ (l : List ℕ). l ++ repeated_from (k ∷ between) more) a ∙ ap (λ (l : List ℕ). cond c (found ++ number ∷ []) found ++ l) rest ∙ joined c (repeated_from (k ∷ above) more) ∙ ap (λ (l : List ℕ). found ++ l) (sym first)
+  where
+    joined : (c : Bool) (l : List ℕ) → cond c (found ++ number ∷ []) found ++ l ≡ found ++ cond c (number ∷ l) l
+    joined true l = append_assoc found (number ∷ []) l
+    joined false l = refl
 
 comment_drops : (c z : Bool) → c ≡ true → cond c true z ≡ true
 comment_drops true z e = refl
@@ -124,13 +111,13 @@ commented number text more e = clean_by true (line_of number text) more (comment
 pub zeroed : (number : ℕ) (text : List ℕ) (more : List Line) → has 0 text ≡ true → clean (line_of number text ∷ more) ≡ clean more
 zeroed number text more e = clean_by true (line_of number text) more (zero_drops (begins_with 35 text) (has 0 text) e)
 
-pub no_match : (number : ℕ) (text : List ℕ) (ks new : List (Bor (List ℕ))) (found : List ℕ) (more : List Line) → begins_with 35 text ≡ false → has 0 text ≡ false
+pub no_match : (number : ℕ) (text : List ℕ) (above new : List (List ℕ)) (found : List ℕ) (more : List Line) → begins_with 35 text ≡ false → has 0 text ≡ false
     → is_match (clean_line (line_of number text)) ≡ false → new ≡ []
-    → found ++ repeated_from (texts new) (clean more) ≡ found ++ repeated_from (texts ks) (clean (line_of number text ∷ more))
-no_match number text ks new found more e f m n =
+    → found ++ repeated_from new (clean more) ≡ found ++ repeated_from above (clean (line_of number text ∷ more))
+no_match number text above new found more e f m n =
     ap (λ (l : List ℕ). found ++ l)
-    (ap (λ (x : List (Bor (List ℕ))). repeated_from (texts x) (clean more)) n
-    ∙ sym (ap (repeated_from (texts ks)) (cleaned number text more e f) ∙ other_first (texts ks) (clean_line (line_of number text)) (clean more) m))
+    (ap (λ (x : List (List ℕ)). repeated_from x (clean more)) n
+    ∙ sym (ap (repeated_from above) (cleaned number text more e f) ∙ other_first above (clean_line (line_of number text)) (clean more) m))
 
 pub empty_no_match : (empty property : Bool) → empty ≡ true → cond empty false (not property) ≡ false
 empty_no_match true p e = refl
@@ -149,18 +136,10 @@ pub none_from : (above : List (List ℕ)) → repeated_from above (clean []) ≡
 unfolding repeated_from
 none_from above = refl
 
-pub was_there : (added there : Bool) → added ≡ not there → added ≡ false → there ≡ true
-was_there added true e f = refl
-was_there added false e f = cc
-
-pub was_new : (added there : Bool) → added ≡ not there → added ≡ true → there ≡ false
-was_new added true e f = cc
-was_new added false e f = refl
-
 pub found_all : (run : Run) (ls : List Line) → ls ≡ [] → run.numbers.items ≡ found_with run (clean ls)
 found_all run ls e =
     sym (append-nil run.numbers.items)
-    ∙ ap (λ (l : List ℕ). run.numbers.items ++ l) (sym (none_from (texts run.above.keys)))
+    ∙ ap (λ (l : List ℕ). run.numbers.items ++ l) (sym (none_from (above_texts run)))
     ∙ ap (λ (l : List Line). found_with run (clean l)) (sym e)
 
 -- numbers as a set

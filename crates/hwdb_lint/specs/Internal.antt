@@ -1,5 +1,5 @@
 -- What the proofs of this crate speak of.
-use Rattle.std.specs.Prelude.{Bool, not, false, ℕ, List, [], ◌++◌, codes, drop, filter, length, map, max, nat_lt, ◌+◌, ◌≡◌, ◌≤◌, if◌then◌else◌}
+use Rattle.std.specs.Prelude.{Bool, not, false, ℕ, List, Option, None, Some, [], ◌∷◌, ◌++◌, codes, drop, filter, length, map, max, nat_lt, ◌+◌, ◌≡◌, ◌≤◌, if◌then◌else◌}
 use Rattle.std.specs.Borrow.{Bor}
 use Rattle.std.specs.Fmt.{decimal}
 use Rattle.std.specs.List.{list_all, list_any}
@@ -12,8 +12,10 @@ use Rattle.std.specs.BTreeMap.{BTreeMap, get, get_by}
 use Rattle.std.specs.BTreeSet.{BTreeSet, contains, contains_by}
 use Rattle.hwdb_spec.specs.Assignment.{Assignment}
 use Rattle.hwdb_spec.specs.Folders.{same}
+use Rattle.hwdb_spec.specs.FormTable.{prefixes}
+use Rattle.hwdb_spec.specs.Properties.{before}
 use Rattle.hwdb_spec.specs.Records.{Origin}
-use Rattle.hwdb_spec.specs.Surroundings.{companions_text, is_alone, is_elsewhere, is_given, is_unpaired, is_unread}
+use Rattle.hwdb_spec.specs.Surroundings.{companions_text, is_alone, is_elsewhere, is_given, is_read_below, is_unpaired, is_unread}
 use Rattle.hwdb_spec.specs.Unmatched.{judgement_of}
 use Rattle.hwdb_spec.specs.Warnings.{gives_value, greatest, last_with, misused, repeated_from, repeated_lines, replaces, replacing}
 use Rattle.hwdb_spec.specs.declared.WarningKind.{WarningKind}
@@ -21,10 +23,12 @@ use Rattle.hwdb_spec.specs.declared.WarningKind.TheVariants.{Misused, Replaced, 
 use Rattle.hwdb_spec.specs.Lines.{Line, byte, clean_line, is, is_none, lines, numbered, pieces}
 use Rattle.hwdb_spec.specs.Reports.{text_of_line}
 use Rattle.hwdb_text.specs.declared.outcome.Given.{Given}
+use Rattle.hwdb_lint.specs.declared.companions.Companions.{Companions}
 use Rattle.hwdb_lint.specs.declared.known.Known.{Known}
 use Rattle.hwdb_lint.specs.declared.line_texts.LineStart.{LineStart}
 use Rattle.hwdb_lint.specs.declared.line_warnings.Read.{Read}
 use Rattle.hwdb_lint.specs.declared.repeats.Run.{Run}
+use Rattle.hwdb_lint.specs.declared.unread.Place.{Place}
 use Rattle.hwdb_lint.specs.declared.unread.UnreadLines.{UnreadLines}
 
 -- the line with this number and this text
@@ -63,9 +67,26 @@ abbrev pub number_text : WarningKind → List ℕ
 number_text (Replaced by) = decimal by ++ codes " replaces"
 number_text _ = []
 
+-- texts as a set
+abbrev pub texts : List (Bor (List ℕ)) → List (List ℕ)
+texts ks = map (λ t. t.now) ks
+
+-- only the set of the texts above matters
+abbrev pub AreAlike : List (List ℕ) → List (List ℕ) → Type 0
+AreAlike a b = (t : List ℕ) → list_any (same t) a ≡ list_any (same t) b
+
+-- the last match line, if there is one
+abbrev pub last_texts : Option (Bor (List ℕ)) → List (List ℕ)
+last_texts None = []
+last_texts (Some t) = t.now ∷ []
+
+-- the match lines directly above
+abbrev pub above_texts : Run → List (List ℕ)
+above_texts r = last_texts r.last ++ texts r.above.keys
+
 -- the match lines that repeat one of their run: those found so far, and those of the clean lines after them
 abbrev pub found_with : Run → List Line → List ℕ
-found_with r more = r.numbers.items ++ repeated_from (map (λ t. t.now) r.above.keys) more
+found_with r more = r.numbers.items ++ repeated_from (above_texts r) more
 
 -- a set of these numbers
 abbrev pub IsSetOf : List ℕ → BTreeSet ℕ → Type 0
@@ -160,6 +181,18 @@ abbrev pub IsUnreadOf : List Assignment → UnreadLines → Type 0
 IsUnreadOf all u =
     (line : ℕ) → tells_unread u line
     ≡ (if is_none (filter (λ a. is line a.position.line) all) then false else list_all is_elsewhere (filter (λ a. is line a.position.line) all))
+
+-- whether a property isn't read below a prefix that udev asks with
+abbrev pub is_elsewhere_below : (key prefix : List ℕ) → Bool
+is_elsewhere_below key prefix = if is_read_below key (before (byte ":") prefix) then false else list_any (same prefix) prefixes
+
+-- of its key and prefix it is told whether the property isn't read there
+abbrev pub IsPlace : Place → Type 0
+IsPlace p = p.elsewhere ≡ is_elsewhere_below p.key.now p.prefix.now
+
+-- the properties with which its key is read
+abbrev pub AreCompanions : Companions → Type 0
+AreCompanions c = c.text.now ≡ companions_text c.key.now
 
 -- whether a property is read with others alone
 abbrev pub has_companions : Assignment → Bool

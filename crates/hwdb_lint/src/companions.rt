@@ -4,7 +4,7 @@ ghost use Rattle.std.specs.List.{list_any};
 ghost use Rattle.hwdb_spec.specs.Lines.{is, pieces};
 ghost use Rattle.hwdb_spec.specs.Surroundings;
 ghost use Rattle.hwdb_text.specs.Views.{given_in};
-ghost use Rattle.hwdb_lint.specs.Internal.{ArePlacesOf, IsUnpairedOf, has_companions, holds, lacks_of, lines_where, own};
+ghost use Rattle.hwdb_lint.specs.Internal.{AreCompanions, ArePlacesOf, IsUnpairedOf, has_companions, holds, lacks_of, lines_where, own};
 
 use crate::repeats::set_of;
 use crate::replacements::PatternAndKey;
@@ -13,19 +13,55 @@ use hwdb_text::{Given, Pieces};
 use std::alloc::{AllocError, Global};
 use std::collections::BTreeSet;
 
-/// Whether the property of an assignment is read with others alone.
-fn has_companions(given: &Given<'_>) -> bool
-    ensures { result ≡ has_companions (given_in own given.now) }
+/// A key, and the properties with which alone it is read. Most assignments have the key of the one before them.
+#[derive(Clone, Copy)]
+struct Companions<'b> {
+    key: &'b [u8],
+    text: &'static [u8],
+}
+
+impl<'b> Companions<'b> {
+    /// Those of a key.
+    fn of(key: &'b [u8]) -> Companions<'b>
+        ensures are { AreCompanions result }
+        ensures key { result.key.now ≡ key.now }
+    {
+        Companions {
+            key,
+            text: companions_of(key),
+        }
+    }
+
+    /// Those of another key.
+    fn next(self, key: &'b [u8]) -> Companions<'b>
+        requires { AreCompanions self }
+        ensures are { AreCompanions result }
+        ensures key { result.key.now ≡ key.now }
+    {
+        if self.key == key {
+            return self;
+        }
+        Companions::of(key)
+    }
+}
+
+/// Whether the property of an assignment is read with others alone. `last` is of an assignment before it.
+fn has_companions<'b>(last: &mut Companions<'b>, given: &Given<'b>) -> bool
+    requires { AreCompanions last.old }
+    ensures are { AreCompanions last.new }
+    ensures has { result ≡ has_companions (given_in own given.now) }
 {
-    !companions_of(given.key).is_empty()
+    *last = last.next(given.key);
+    !last.text.is_empty()
 }
 
 /// Whether one of the assignments is of a property that is read with others alone.
 fn any_has_companions(all: &[Given<'_>]) -> bool
     ensures { result ≡ list_any has_companions (map (given_in own) all.now) }
 {
+    let mut last = Companions::of(&[]);
     for given in all {
-        if has_companions(given) {
+        if has_companions(&mut last, given) {
             return true;
         }
     }

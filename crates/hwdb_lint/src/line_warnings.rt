@@ -1,5 +1,5 @@
 //! Which warnings a line gets, by its clean text.
-ghost use Rattle.std.specs.Prelude.{◌≡◌, ◌-◌, [], drop, length, take, true, if◌then◌else◌};
+ghost use Rattle.std.specs.Prelude.{◌≡◌, ◌-◌, ℕ, List, [], drop, length, nat_lt, take, true, false, if◌then◌else◌};
 ghost use Rattle.std.specs.List.{list_any};
 ghost use Rattle.hwdb_spec.specs.Lines;
 ghost use Rattle.hwdb_spec.specs.Lines.{is_indent};
@@ -56,7 +56,7 @@ fn begins_with_tab(text: &[u8]) -> bool
 fn has_return(text: &[u8]) -> bool
     ensures { result ≡ warns [] WarningKind.CarriageReturn (line_of 0 []) (line_of 0 text.now) }
 {
-    text.iter().any(|byte| *byte == b'\r')
+    end_of(b'\r', text) < text.len()
 }
 
 /// Whether a clean line is a property.
@@ -87,6 +87,13 @@ fn has_open_bracket(clean: &[u8]) -> bool
     is_match(clean) && open_place(clean) < clean.len()
 }
 
+/// Whether a text has a `[`.
+fn holds_bracket(text: &[u8]) -> bool
+    ensures { result ≡ Lines.has 91 text.now }
+{
+    end_of(b'[', text) < text.len()
+}
+
 /// Whether a range of a match line has no members, before the first `[` that begins no closed bracket.
 fn has_empty_range(clean: &[u8]) -> bool
     ensures { result ≡ warns [] WarningKind.EmptyRange (line_of 0 []) (line_of 0 clean.now) }
@@ -95,6 +102,9 @@ fn has_empty_range(clean: &[u8]) -> bool
         return false;
     }
     let part = closed(clean);
+    if !holds_bracket(part) {
+        return false;
+    }
     range_place(part) < part.len()
 }
 
@@ -138,7 +148,7 @@ fn has_spaced_equals(clean: &[u8]) -> bool
 fn holds_equals(text: &[u8]) -> bool
     ensures { result ≡ Lines.has 61 text.now }
 {
-    text.iter().any(|byte| *byte == b'=')
+    end_of(b'=', text) < text.len()
 }
 
 /// Whether a property has a `=`.
@@ -170,6 +180,13 @@ fn is_unmatched(judgement: Judgement) -> bool
     !matches!(judgement, Judgement::Fine)
 }
 
+/// Whether a later line replaces one, if that one's number or 0 is given.
+fn is_replaced(by: u64) -> bool
+    ensures { result ≡ nat_lt 0 by }
+{
+    by > 0
+}
+
 /// Whether a line gets a warning.
 pub fn is_warned(kind: WarningKind, line: &Read<'_>) -> bool
     requires { IsRead line.now }
@@ -185,12 +202,61 @@ pub fn is_warned(kind: WarningKind, line: &Read<'_>) -> bool
         WarningKind::SpacedEquals => has_spaced_equals(line.clean),
         WarningKind::CutValue => has_cut_value(line.text, line.clean),
         WarningKind::RepeatedMatch => line.repeated,
-        WarningKind::Replaced(_) => line.replaced_by > 0,
+        WarningKind::Replaced(_) => is_replaced(line.replaced_by),
         WarningKind::Misused(_) => line.misuse.is_some(),
         WarningKind::Unread => line.unread,
         WarningKind::Unpaired => line.unpaired,
         WarningKind::Unmatched(_) => is_unmatched(line.judgement),
     }
+}
+
+/// Whether a line gets a warning of some kind, told or not. Most lines get none, and aren't asked about again.
+pub fn is_warned_at_all(line: &Read<'_>) -> bool
+    requires { IsRead line.now }
+    ensures { result ≡ false → (allowed : List (List ℕ))
+        → Warnings.all_warnings allowed line.now.bytes.now (read_line line.now) (clean_of line.now)
+        ≡ [] }
+{
+    if line.repeated {
+        return true;
+    }
+    if is_replaced(line.replaced_by) {
+        return true;
+    }
+    if line.misuse.is_some() {
+        return true;
+    }
+    if line.unread {
+        return true;
+    }
+    if line.unpaired {
+        return true;
+    }
+    if is_unmatched(line.judgement) {
+        return true;
+    }
+    if begins_with_mark(line.clean) {
+        return true;
+    }
+    if begins_with_tab(line.clean) {
+        return true;
+    }
+    if has_return(line.clean) {
+        return true;
+    }
+    if has_open_bracket(line.clean) {
+        return true;
+    }
+    if has_empty_range(line.clean) {
+        return true;
+    }
+    if has_spaced_equals(line.clean) {
+        return true;
+    }
+    if has_cut_value(line.text, line.clean) {
+        return true;
+    }
+    false
 }
 
 /// The kinds of warnings that a line may get.

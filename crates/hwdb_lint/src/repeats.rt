@@ -1,12 +1,12 @@
 //! Match lines that their record has already.
-ghost use Rattle.std.specs.Prelude.{◌≡◌, ℕ, List, ◌∷◌, true, IfOk, OnOk};
+ghost use Rattle.std.specs.Prelude.{◌≡◌, ℕ, List, [], ◌∷◌, true, IfOk, OnOk};
 ghost use Rattle.std.specs.List.{list_any};
 ghost use Rattle.std.specs.Ordering.{nat_cmp};
 ghost use Rattle.std.specs.BTreeSet as tree;
 ghost use Rattle.hwdb_spec.specs.Lines;
 ghost use Rattle.hwdb_spec.specs.Lines.{Line};
 ghost use Rattle.hwdb_spec.specs.Warnings.{repeated_lines};
-ghost use Rattle.hwdb_lint.specs.Internal.{found_with, line_of, IsSetOf};
+ghost use Rattle.hwdb_lint.specs.Internal.{AreAlike, above_texts, found_with, line_of, texts, IsSetOf};
 
 use hwdb_text::{Content, content_of};
 use std::alloc::{AllocError, Global};
@@ -15,21 +15,45 @@ use std::collections::BTreeSet;
 /// What was read of the lines so far.
 #[derive(Drop)]
 pub struct Run<'b> {
-    /// The match lines directly above.
+    /// The match lines directly above, but for the last one.
     pub above: BTreeSet<&'b [u8]>,
+    /// The last one. Most records have one match line, for which no set is needed.
+    pub last: Option<&'b [u8]>,
     /// The numbers of those that repeat one of their run.
     pub numbers: Vec<u64>,
 }
 
 impl<'b> Run<'b> {
-    /// Reads a clean match line. The only error, here and below, is `AllocError`.
+    /// Puts the last match line into the set. The only error, here and below, is `AllocError`.
+    fn settle(&mut self) -> Result<(), AllocError>
+        ensures above { OnOk result (AreAlike (texts self.new.above.keys) (above_texts self.old)) }
+        ensures numbers { OnOk result (self.new.numbers ≡ self.old.numbers) }
+    {
+        if let Some(last) = self.last {
+            self.above.insert(last)?;
+        }
+        Ok(())
+    }
+
+    /// Nothing is above the next line.
+    fn clear(&mut self)
+        ensures above { above_texts self.new ≡ [] }
+        ensures numbers { self.new.numbers ≡ self.old.numbers }
+    {
+        self.above.clear();
+        self.last = None;
+    }
+
+    /// Reads a clean match line.
     fn put(&mut self, number: u64, clean: &'b [u8]) -> Result<(), AllocError>
         requires { Lines.is_match (line_of number clean.now) ≡ true }
         ensures { OnOk result ((more : List Line) → found_with self.new more
             ≡ found_with self.old (line_of number clean.now ∷ more)) }
     {
-        let is_new = self.above.insert(clean)?;
-        if !is_new {
+        self.settle()?;
+        let is_there = self.above.contains(&clean);
+        self.last = Some(clean);
+        if is_there {
             self.numbers.push(number)?;
         }
         Ok(())
@@ -44,11 +68,11 @@ impl<'b> Run<'b> {
             Content::Comment => Ok(()),
             Content::ZeroByte => Ok(()),
             Content::Empty => {
-                self.above.clear();
+                self.clear();
                 Ok(())
             }
             Content::Property(_) => {
-                self.above.clear();
+                self.clear();
                 Ok(())
             }
             Content::Match(clean) => self.put(number, clean),
@@ -64,6 +88,7 @@ fn repeated_numbers(alloc: Global, bytes: &[u8]) -> Result<Vec<u64>, AllocError>
 {
     let mut run = Run {
         above: BTreeSet::new(alloc),
+        last: None,
         numbers: Vec::new(alloc),
     };
     let mut number = 1;

@@ -12,7 +12,7 @@ use crate::json_lines::{Finding, finding_line};
 use crate::judgements::{judgement_of, judgement_place, judgement_text, push_judgement_hint};
 use crate::kinds::{Telling, is_told, warning_name};
 use crate::known::{Known, known_of};
-use crate::line_warnings::{Read, closed, is_warned, kinds_of};
+use crate::line_warnings::{Read, closed, is_warned, is_warned_at_all, kinds_of};
 use crate::misuses::{misuse_in, push_hint_of_misuse, push_unpaired_hint, push_unread_hint};
 use hwdb_pattern::{open_place, range_place};
 use hwdb_properties::misuse_text;
@@ -299,6 +299,9 @@ impl Warned {
             ++ all_warnings (map string_bytes telling.now.allowed.now) line.now.bytes.now
             (read_line line.now) (clean_of line.now)) }
     {
+        if !is_warned_at_all(line) {
+            return Ok(());
+        }
         let kinds = kinds_of(line);
         for kind in &kinds {
             self.put_if(alloc, telling, path, line, *kind)?;

@@ -1,5 +1,5 @@
 -- The open nodes of a descent, and what its steps do to them.
-use Rattle.std.proofs.Common.{◌≡◌, ◌∙◌, ap, sym, refl, subst, ℕ, zero, suc, ◌+◌, ◌-◌, ◌≤◌, List, [], ◌∷◌, ◌++◌, filter, map, reverse, arith, append_assoc, append-nil, length}
+use Rattle.std.proofs.Common.{◌≡◌, ◌∙◌, ap, sym, refl, subst, ℕ, zero, suc, ◌+◌, ◌-◌, ◌≤◌, List, [], ◌∷◌, ◌++◌, filter, map, take, get_or, slice_set, reverse, arith, append_assoc, append-nil, length}
 use Rattle.std.proofs.lemmas.List.{reverse-append}
 use Rattle.hwdb_query.specs.Views.{assignment_of_answer}
 use Rattle.hwdb_spec.specs.declared.Layout.{Layout}
@@ -283,26 +283,51 @@ enters_at_path file l levels off path whole device same d all p e h = subst (λ 
 
 -- ---- the stack as a list
 
--- a node was taken off it
-pub popped : (items rest : List OpenNode) (o : OpenNode) → items ≡ rest ++ o ∷ [] → reverse items ≡ o ∷ reverse rest
-popped items rest o is = ap reverse is ∙ reverse-append rest (o ∷ [])
+last_is : (items : List OpenNode) (i : ℕ) (o : OpenNode) → suc i ≡ length items → items ≡ take i items ++ get_or items i o ∷ []
+last_is [] i o h = absurd (omega (arith, h))
+last_is (x ∷ []) zero o h = refl
+last_is (x ∷ y ∷ items) zero o h = absurd (omega (arith, h))
+last_is (x ∷ items) (suc i) o h = ap (λ l. x ∷ l) (last_is items i o (omega (arith, h)))
 
-pub goes_from : (file device : List ℕ) (o : OpenNode) (d gone : Descent) (all : List Assignment) → stack_of d ≡ o ∷ stack_of gone → found_in gone ≡ found_in d → gone.left ≡ d.left
-    → Comes file device d all → IsOf o.node.known file × (o.reach.device ≡ device) × ComesOn file o.reach.device (o ∷ stack_of gone) (found_in gone) gone.left all
+last_set : (items : List OpenNode) (i : ℕ) (o : OpenNode) → suc i ≡ length items → slice_set items i o ≡ take i items ++ o ∷ []
+last_set [] i o h = absurd (omega (arith, h))
+last_set (x ∷ []) zero o h = refl
+last_set (x ∷ z ∷ items) zero o h = absurd (omega (arith, h))
+last_set (x ∷ items) (suc i) o h = ap (λ l. x ∷ l) (last_set items i o (omega (arith, h)))
+
+before_last : (items : List OpenNode) (i : ℕ) (o : OpenNode) → suc i ≡ length items → take i (slice_set items i o) ≡ take i items
+before_last [] i o h = absurd (omega (arith, h))
+before_last (x ∷ items) zero o h = refl
+before_last (x ∷ items) (suc i) o h = ap (λ l. x ∷ l) (before_last items i o (omega (arith, h)))
+
+-- the node on top, and those below it
+pub on_top : (items : List OpenNode) (i : ℕ) (o : OpenNode) → suc i ≡ length items → o ≡ get_or items i o → reverse items ≡ o ∷ reverse (take i items)
+on_top items i o h is = ap reverse (last_is items i o h ∙ ap (λ x. take i items ++ x ∷ []) (sym is)) ∙ reverse-append (take i items) (o ∷ [])
+
+-- another one in its place
+pub changed : (items : List OpenNode) (i : ℕ) (o : OpenNode) → suc i ≡ length items → reverse (slice_set items i o) ≡ o ∷ reverse (take i items)
+changed items i o h = ap reverse (last_set items i o h) ∙ reverse-append (take i items) (o ∷ [])
+
+-- it was taken off
+pub taken_off : (items rest : List OpenNode) (i n : ℕ) (o : OpenNode) → suc i ≡ length items → n ≡ length items → rest ≡ take (n - 1) (slice_set items i o) → reverse rest ≡ reverse (take i items)
+taken_off items rest i n o h e is =
+    let size : n - 1 ≡ i = omega (arith, h, e) in
+    ap reverse (is ∙ ap (λ m. take m (slice_set items i o)) size ∙ before_last items i o h)
+
+-- what comes, by the node on top
+pub goes_from : (file device : List ℕ) (o : OpenNode) (stack below : List OpenNode) (found : List Assignment) (left : ℕ) (all : List Assignment) → stack ≡ o ∷ below
+    → ComesOn file device stack found left all → IsOf o.node.known file × (o.reach.device ≡ device) × ComesOn file o.reach.device (o ∷ below) found left all
 unfolding ToCome
-goes_from file device o d gone all stack found left c =
-    let t = subst (λ s. ToCome file device s c.rest d.left) stack c.to_come in
+goes_from file device o stack below found left all top c =
+    let t = subst (λ s. ToCome file device s c.rest left) top c.to_come in
     let opens = t.4 in
-    let same = opens.same_device in (
-      opens.known,
-      same,
-      subst (λ x. ComesOn file x (o ∷ stack_of gone) (found_in gone) gone.left all) (sym same)
-          (record {
-            rest = c.rest;
-            to_come = subst (λ n. ToCome file device (o ∷ stack_of gone) c.rest n) (sym left) t;
-            whole = ap (λ f. f ++ c.rest) found ∙ c.whole;
-          }),
-    )
+    let same = opens.same_device in
+    (opens.known, same, subst (λ x. ComesOn file x (o ∷ below) found left all) (sym same) (record { rest = c.rest; to_come = t; whole = c.whole }))
+
+-- the same of another device and stack
+pub comes_at : (file device same : List ℕ) (stack now : List OpenNode) (found : List Assignment) (left : ℕ) (all : List Assignment) → device ≡ same → stack ≡ now
+    → ComesOn file device stack found left all → ComesOn file same now found left all
+comes_at file device same stack now found left all d s c = subst (λ (g : List ℕ × List OpenNode). ComesOn file g.0 g.1 found left all) (λ i. (d i, s i)) c
 
 pub begins : (file : List ℕ) (known : Known) (l : Layout) (t : Tree) (device start path : List ℕ) (d : Descent) → IsOf known file → l ≡ layout_of file → IsDatabase file t → d.stack.items ≡ [] → d.found.items ≡ []
     → d.left ≡ length known.buffer.now → path ≡ [] → start ≡ device → Enters file l max_levels l.root path start d (wanted_under device [] t)

@@ -2,12 +2,13 @@
 use Rattle.std.proofs.Common.{Result, Ok, Err, IfErr, IsTrue, ◌↔◌, ◌≡◌, ◌≤◌, ◌<◌, ◌-◌, ◌/◌, ℕ, zero, suc, ◌+◌, ◌*◌, List, [], ◌∷◌, length, take, drop, slice_index, Bool, true, false, not, cond, ◌==◌, refl, sym, ◌∙◌, ap, subst, arith}
 use Rattle.std.specs.Result.{IsErrAnd}
 use Rattle.std.proofs.lemmas.List.{get_or-drop, length-drop}
+use Rattle.std.proofs.lemmas.Nat.{mul-le}
 use Rattle.std.proofs.lemmas.List.Sums.{take_while-cons}
 use Rattle.std.specs.List.{take_while}
 use Rattle.byteorder.specs.Endian.{little_from}
 use Rattle.hwdb_spec.specs.declared.Layout.{Layout}
 use Rattle.hwdb_spec.specs.Tree.{Value}
-use Rattle.hwdb_spec.specs.Format.{number_at, text_at, value_at, IsPlace, IsValue, record_end, child_entry, children_count, values_count, value_entries, prefix_off}
+use Rattle.hwdb_spec.specs.Format.{number_at, text_at, value_at, IsPlace, IsValue, record_end, child_entry, child_byte, child_off, children_count, values_count, value_entries, prefix_off}
 use Rattle.hwdb_lookup.specs.Views.{IsOf, Stops}
 use Rattle.hwdb_lookup.specs.Internal.Agreement.{AgreeIn}
 use Rattle.hwdb_lookup.specs.declared.known.Known.{Known}
@@ -145,6 +146,23 @@ module _ (l : Layout) (a b : List ℕ) (off : ℕ) (same : AgreeIn a b off (off 
   pub end_same : record_end l a off ≡ record_end l b off
   unfolding record_end
   end_same = ap (λ n. n + l.value_size * values_count a off) entries_same ∙ ap (λ n. value_entries l b off + l.value_size * n) values_same
+
+-- one of the child entries is the same where the two agree in all of them
+module _ (l : Layout) (a b : List ℕ) (off count i : ℕ) (big : 16 ≤ l.child_size) (lt : i < count) (same : AgreeIn a b (child_entry l off 0) (child_entry l off count)) where
+  entry_within : (child_entry l off 0 ≤ child_entry l off i) × (child_entry l off i + 16 ≤ child_entry l off count)
+  entry_within =
+      let k : i + 1 ≤ count = omega (arith, lt) in
+      let room = mul-le l.child_size (i + 1) l.child_size count (omega arith) k in (omega arith, omega (arith, room, big))
+
+  pub byte_there : child_byte b (child_entry l off i) ≡ child_byte a (child_entry l off i)
+  byte_there = let w = entry_within in sym (same (child_entry l off i) w.0 (let end = w.1 in omega (arith, end)))
+
+  pub off_there : child_off b (child_entry l off i) ≡ child_off a (child_entry l off i)
+  off_there =
+      let w = entry_within in
+      let first = w.0 in
+      let end = w.1 in
+      sym (number_in a b (child_entry l off 0) (child_entry l off count) 8 (child_entry l off i + 8) (omega (arith, first)) (omega (arith, end)) same)
 
 pub place_same : (l : Layout) (a b : List ℕ) (i j : ℕ) → length a ≡ length b → i ≡ j → IsPlace l a i → IsPlace l b j
 place_same l a b i j size is p = let above = p.above in let below = p.below in record { above = omega (arith, above, is); below = omega (arith, below, is, size) }

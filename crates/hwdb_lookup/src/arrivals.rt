@@ -132,10 +132,11 @@ impl<'a, 'd> OpenNode<'a, 'd> {
         ensures stop { IfErr result (λ s. Stops self.now.node.known (λ _. Unit {0}) s) }
     {
         path_laws();
+        self.node.need_children()?;
         let children = self.node.children();
         let mut done = self.done;
         while done < children {
-            let child = self.node.child(done)?;
+            let child = self.node.child(done);
             done += 1;
             if self.reach.may_take(child.byte) {
                 return Ok(Some(Candidate {

@@ -3,7 +3,7 @@
 //! It is a loop over the nodes whose children aren't all done, on a stack on the heap. Each step enters a node or
 //! closes one. The records that are entered have no more bytes than the file, so it ends: in a database no two records
 //! share a byte, and where nodes are shared the bytes run out.
-ghost use Rattle.std.specs.Prelude.{◌≡◌, ◌≤◌, ◌+◌, ◌++◌, ◌∷◌, ℕ, List, [], length, filter, map, IfOk, OnOk, IfErr};
+ghost use Rattle.std.specs.Prelude.{◌≡◌, ◌≤◌, ◌<◌, ◌+◌, ◌++◌, ◌∷◌, ℕ, List, [], length, filter, map, IfOk, OnOk, IfErr};
 ghost use Rattle.hwdb_pattern.specs.Views.{StandsFor};
 ghost use Rattle.hwdb_query.specs.Views.{assignment_of_answer};
 ghost use Rattle.hwdb_spec.specs.Assignment.{Assignment};
@@ -58,11 +58,15 @@ fn shared(alloc: Global, pattern: &[u8]) -> Result<Rc<Vec<u8>>, AllocError>
     Ok(copy)
 }
 
-/// A path and one more byte.
+/// How much more room a path gets than it needs, in bytes. Most prefixes of nodes have fewer.
+const MORE: usize = 32;
+
+/// A path and one more byte, with room for a prefix.
 fn one_further(alloc: Global, path: &[u8], byte: u8) -> Result<Vec<u8>, AllocError>
     ensures { IfOk result (λ further. further.items ≡ path.now ++ byte ∷ []) }
 {
-    let mut further = path.to_vec(alloc)?;
+    let mut further = Vec::with_capacity(alloc, path.len().saturating_add(MORE))?;
+    further.extend_from_slice(path)?;
     further.push(byte)?;
     Ok(further)
 }
@@ -114,6 +118,9 @@ fn collect_matching<'a>(
 
 /// How many nodes there may be on one path, the root counted: as many as a database may have.
 const MAX_LEVELS: usize = 4097;
+
+/// How many open nodes a descent asks memory for at once: few paths have more.
+const DEPTH: usize = 16;
 
 /// How far a descent has come.
 #[derive(Drop)]
@@ -202,32 +209,31 @@ impl<'a, 'd> Descent<'a, 'd> {
         self.land(alloc, known, open)
     }
 
-    /// Goes on from a node that was taken off the stack. Visits its next child that may be live, and puts the node back
-    /// below that. If there is none, the node is done.
-    fn go_on(&mut self, alloc: Global, known: Known<'a>, last: OpenNode<'a, 'd>) -> Result<(), Stop>
-        requires { AllStand known (last ∷ stack_of self.old) }
+    /// Goes on from the node on top of the stack. Visits its next child that may be live. If there is none, the node is
+    /// done, and is taken off.
+    fn go_on(&mut self, alloc: Global, known: Known<'a>) -> Result<(), Stop>
+        requires some { 0 < length self.old.stack.items }
+        requires all { AllStand known (stack_of self.old) }
         ensures all { OnOk result (AllStand known.entry (stack_of self.new)) }
-        ensures comes { OnOk result ((file : List ℕ) (all : List Assignment)
+        ensures comes { OnOk result ((file device : List ℕ) (all : List Assignment)
             → IsOf known.entry file
-            → ComesOn file last.entry.reach.device (last.entry ∷ stack_of self.old)
-            (found_in self.old) self.old.left all
-            → Comes file last.entry.reach.device self.new all) }
+            → Comes file device self.old all → Comes file device self.new all) }
         ensures steps { OnOk result (self.new.left + length self.new.stack.items
-            ≤ self.old.left + length self.old.stack.items) }
-        ensures stop { IfErr result (λ s. Stops known.entry
-            (λ file. (all : List Assignment) × ComesOn file last.entry.reach.device
-            (last.entry ∷ stack_of self.old) (found_in self.old) self.old.left all) s) }
+            < self.old.left + length self.old.stack.items) }
+        ensures stop { IfErr result (λ s. Stops known.entry (λ file. (device : List ℕ)
+            × (all : List Assignment) × Comes file device self.old all) s) }
     {
-        let mut last = last;
-        let Some(next) = last.next()? else {
+        let last = self.stack.len() - 1;
+        let open = &mut self.stack[last];
+        let Some(next) = open.next()? else {
+            self.stack.pop();
             return Ok(());
         };
-        last.done = next.done;
-        let path = one_further(alloc, &last.path, next.byte)?;
-        let reach = last.reach.feed(alloc, &[next.byte])?;
-        let frame = last.node.frame;
-        let levels = last.levels;
-        self.open(last)?;
+        open.done = next.done;
+        let path = one_further(alloc, &open.path, next.byte)?;
+        let reach = open.reach.feed(alloc, &[next.byte])?;
+        let frame = open.node.frame;
+        let levels = open.levels;
         self.visit(alloc, known, frame, levels, next.off, path, reach)
     }
 }
@@ -248,7 +254,7 @@ pub fn descend<'a>(
         (λ file. (t : Tree) × (frame.sizes ≡ layout_of file) × IsDatabase file t) s) }
 {
     let mut descent = Descent {
-        stack: Vec::new(alloc),
+        stack: Vec::with_capacity(alloc, DEPTH)?,
         found: Vec::new(alloc),
         left: known.buffer.len(),
     };
@@ -262,8 +268,8 @@ pub fn descend<'a>(
         Vec::new(alloc),
         start,
     )?;
-    while let Some(open) = descent.stack.pop() {
-        descent.go_on(alloc, known, open)?;
+    'open: while !descent.stack.is_empty() {
+        descent.go_on(alloc, known)?;
     }
     Ok(descent.found)
 }

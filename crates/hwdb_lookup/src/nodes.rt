@@ -1,7 +1,8 @@
 //! The records of nodes, of a file of which some blocks were read. Each is checked when it is entered.
-ghost use Rattle.std.specs.Prelude.{◌≡◌, ◌≤◌, ◌<◌, ◌+◌, ◌*◌, ℕ, List, length, IfOk, IfErr};
+ghost use Rattle.std.specs.Prelude.{◌≡◌, ◌≤◌, ◌<◌, ◌+◌, ◌*◌, ℕ, List, length, IfOk, OnOk, IfErr};
 ghost use Rattle.hwdb_spec.specs.Format.{child_entry, child_byte, child_off, children_count, values_count, value_entries, value_at, record_end, prefix_off, IsPlace, IsValue};
 ghost use Rattle.hwdb_lookup.specs.Views.{IsOf, Stops};
+ghost use Rattle.hwdb_lookup.specs.Internal.Agreement.{AgreeIn};
 ghost use Rattle.hwdb_lookup.specs.Internal.Heads.{IsHead, Fits, value_of};
 
 use crate::known::Known;
@@ -78,22 +79,35 @@ impl<'a> LazyNode<'a> {
         self.children
     }
 
-    /// The child entry `i`, counted from 0.
-    pub fn child(self, i: usize) -> Result<ChildEntry, Stop>
-        requires { i < self.children }
-        ensures byte { IfOk result (λ c. (file : List ℕ) → IsOf self.entry.known file
-            → c.byte ≡ child_byte file (child_entry self.entry.frame.sizes self.entry.off i)) }
-        ensures place { IfOk result (λ c. (file : List ℕ) → IsOf self.entry.known file
-            → c.off ≡ child_off file (child_entry self.entry.frame.sizes self.entry.off i)) }
+    /// Stops if a block of the child entries wasn't read.
+    #[tactic(auto, unfolding(hwdb_spec::specs::Format::record_end))]
+    pub fn need_children(self) -> Result<(), Stop>
+        ensures read { OnOk result ((file : List ℕ) → IsOf self.entry.known file
+            → AgreeIn file self.entry.known.buffer.now
+            (child_entry self.entry.frame.sizes self.entry.off 0)
+            (child_entry self.entry.frame.sizes self.entry.off self.entry.children)) }
         ensures stop { IfErr result (λ s. Stops self.entry.known (λ _. Unit {0}) s) }
+    {
+        let sizes = self.frame.sizes;
+        let first = self.off + sizes.node_size;
+        self.known
+            .need(first, first + sizes.child_size * self.children)
+    }
+
+    /// The child entry `i`, counted from 0, as the buffer has it.
+    pub fn child(self, i: usize) -> ChildEntry
+        requires { i < self.children }
+        ensures byte { result.byte ≡ child_byte self.entry.known.buffer.now
+            (child_entry self.entry.frame.sizes self.entry.off i) }
+        ensures place { result.off ≡ child_off self.entry.known.buffer.now
+            (child_entry self.entry.frame.sizes self.entry.off i) }
     {
         let buffer = self.known.buffer;
         let entry = child_entry_at(buffer, self.frame, self.off, i);
-        self.known.need(entry, entry + 16)?;
-        Ok(ChildEntry {
+        ChildEntry {
             byte: buffer[entry],
             off: u64_at(buffer, entry + 8),
-        })
+        }
     }
 
     /// The value `i`, counted from 0. Its strings have to be in the string section, and its priority isn't 0.

@@ -1,11 +1,15 @@
 -- The worked rows, computed.
 use Rattle.std.proofs.Common.{refl}
-use Rattle.hwdb_spec.specs.Assignment.{put, put_all}
+use Rattle.std.specs.Fmt.{digits}
+use Rattle.hwdb_spec.specs.Assignment.{ascending, put, put_all}
+use Rattle.hwdb_spec.specs.Folders.{first_of}
+use Rattle.hwdb_spec.specs.Records.{behind, first_section, sections_from}
+use Rattle.hwdb_spec.specs.Replacements.{replacements}
 use Rattle.hwdb_spec.specs.Lines.{numbered, pieces, trimmed}
 use Rattle.hwdb_spec.specs.Patterns.{bracket_at, byte_then, classes, item_at, items_from, matches, piece_then, some_ending, token_at, tokens_from}
 use Rattle.hwdb_spec.specs.Tree.{some_up_to}
 use Rattle.hwdb_spec.specs.Near.{first_up_to, last_up_to}
-use Rattle.hwdb_near.specs.Rows.{FileRows, GatheredRows, HeadRows, MarkRows, MatchingRows, NearestRows, PlaceRows, RatedRows, StopRows, WordRows}
+use Rattle.hwdb_near.specs.Rows.{FileRows, GatheredRows, HeadRows, MarkRows, MaskedRows, MatchingRows, NearestRows, PlaceRows, RatedRows, ReplacedFileRows, ReplacedRows, ReplacedTextRows, StopRows, WordRows}
 
 pub stop_rows : StopRows
 unfolding tokens_from token_at bracket_at items_from item_at classes some_ending byte_then piece_then matches some_up_to last_up_to first_up_to
@@ -44,3 +48,19 @@ gathered_rows = refl
 pub place_rows : PlaceRows
 unfolding numbered pieces trimmed
 place_rows = refl
+
+pub replaced_rows : ReplacedRows
+unfolding replacements
+replaced_rows = refl
+
+pub replaced_file_rows : ReplacedFileRows
+unfolding replacements ascending pieces trimmed numbered behind first_section sections_from token_at tokens_from some_ending byte_then piece_then matches put first_of
+replaced_file_rows = refl
+
+pub masked_rows : MaskedRows
+unfolding put ascending
+masked_rows = refl
+
+pub replaced_text_rows : ReplacedTextRows
+unfolding digits
+replaced_text_rows = refl

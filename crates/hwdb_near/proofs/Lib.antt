@@ -6,4 +6,5 @@ pub mod FileLemmas
 pub mod GatheredLemmas
 pub mod ReportLemmas
 pub mod MatchingLemmas
+pub mod ReplacedLemmas
 pub mod ComputedRows

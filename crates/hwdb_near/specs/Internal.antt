@@ -2,3 +2,4 @@
 pub mod Ratings
 pub mod Lines
 pub mod Closest
+pub mod Places

@@ -1,10 +1,14 @@
 -- What the laws say of where tokens stop.
-use Rattle.std.specs.Prelude.{List, ℕ, ◌≡◌}
+use Rattle.std.specs.List.Sorted.{IsPermutation}
+use Rattle.std.specs.Prelude.{List, map, ℕ, ◌++◌, ◌≡◌}
+use Rattle.hwdb_spec.specs.Answers.{last_of_each}
+use Rattle.hwdb_spec.specs.Assignment.{Assignment}
 use Rattle.hwdb_spec.specs.Folders.{Source}
 use Rattle.hwdb_spec.specs.Format.{IsDatabase}
 use Rattle.hwdb_spec.specs.NearAsked.{database_patterns}
 use Rattle.hwdb_spec.specs.NearPrefixes.{files_patterns}
 use Rattle.hwdb_spec.specs.Patterns.{Token}
+use Rattle.hwdb_spec.specs.Replacements.{Replacement, replacements}
 use Rattle.hwdb_spec.specs.Tree.{Tree, map_of_files}
 use Rattle.hwdb_spec.specs.Written.{IsDatabaseOf}
 use Rattle.hwdb_spec.specs.Near.{Front, Stops, front_tokens, stop_of}
@@ -23,3 +27,7 @@ PatternsAreOfFiles =
 -- So is how many tokens their longest front has.
 abbrev pub LongestIsComputed : Type 0
 LongestIsComputed = (ts : List Token) (device : List ℕ) (count : ℕ) → IsLongest ts device count → count ≡ front_tokens ts device
+
+-- Those of some assignments that count, and those that were replaced, are together all of them: each comes as often in both lists.
+abbrev pub LastAndReplacedAreAll : Type 0
+LastAndReplacedAreAll = (all : List Assignment) → IsPermutation (last_of_each all ++ map (λ (r : Replacement). r.old) (replacements all)) all

@@ -1,9 +1,11 @@
 -- Worked rows of where patterns stop, and of which are the nearest: what the definitions give when they are computed.
-use Rattle.std.specs.Prelude.{List, [], ℕ, codes, drop, map, ◌∷◌, ◌≡◌}
+use Rattle.std.specs.Prelude.{List, [], ℕ, codes, drop, false, map, ◌++◌, ◌∷◌, ◌≡◌}
 use Rattle.hwdb_spec.specs.Patterns.{tokens}
 use Rattle.hwdb_spec.specs.Assignment.{Assignment}
+use Rattle.hwdb_spec.specs.Folders.{Source}
 use Rattle.hwdb_spec.specs.NearAsked.{gathered, pattern_of, patterns_from}
 use Rattle.hwdb_spec.specs.Near.{Front, PatternAt, marked, matching, nearest, pattern_place, patterns_in, rated, stop_of, why_text}
+use Rattle.hwdb_spec.specs.Replacements.{Replacement, masked_files, masked_form, replacement_text, replacements, replacements_for}
 
 -- a pattern at a line of a file `f`
 abbrev pub at_line : ℕ → List ℕ → PatternAt
@@ -94,3 +96,39 @@ abbrev pub FileRows : Type 0
 FileRows =
     map {B = ℕ × List ℕ} (λ (at : PatternAt). (at.line, at.pattern)) (patterns_in (codes "f") 1 (codes "# c\na*  # c\n b=1\n\nd\n"))
     ≡ (2, codes "a*") ∷ (5, codes "d") ∷ []
+
+-- an assignment of a file `f` with a value
+abbrev pub valued : ℕ → ℕ → (pattern key value : List ℕ) → Assignment
+valued priority line pattern key value =
+    record { position = record { priority = priority; line = line; pattern = pattern; key = key }; value = value; path = codes "f" }
+
+-- Which assignments were replaced, each with the value that counts: the first two of three with one pattern and key. Another key, and
+-- another pattern, replace none.
+abbrev pub ReplacedRows : Type 0
+ReplacedRows =
+    map {B = List ℕ × List ℕ} (λ (r : Replacement). (r.old.value, r.new.value))
+    (replacements (valued 1 2 (codes "a") (codes "k") (codes "1") ∷ valued 1 3 (codes "a") (codes "l") (codes "2") ∷ valued 1 5 (codes "b") (codes "k") (codes "3")
+    ∷ valued 2 2 (codes "a") (codes "k") (codes "4") ∷ valued 3 9 (codes "a") (codes "k") (codes "5") ∷ []))
+    ≡ (codes "1", codes "5") ∷ (codes "4", codes "5") ∷ []
+
+-- Of the files of both folders those whose pattern matches. A masked file replaces none, and isn't replaced.
+abbrev pub etc_rows : List Source
+etc_rows = record { name = codes "2.hwdb"; bytes = codes "a*\n K=y\nb*\n K=y\n" } ∷ []
+
+abbrev pub usr_rows : List Source
+usr_rows = record { name = codes "1.hwdb"; bytes = codes "a*\n K=x\nb*\n K=x\n" } ∷ record { name = codes "2.hwdb"; bytes = codes "a*\n K=z\n" } ∷ []
+
+abbrev pub ReplacedFileRows : Type 0
+ReplacedFileRows =
+    map {B = List ℕ × List ℕ} (λ (r : Replacement). (r.old.value, r.new.value)) (replacements_for (codes "ab") etc_rows usr_rows)
+    ≡ (codes "x", codes "y") ∷ []
+
+abbrev pub MaskedRows : Type 0
+MaskedRows = masked_files etc_rows usr_rows ≡ codes "/usr/lib/udev/hwdb.d/2.hwdb" ∷ []
+
+-- what is printed of it
+abbrev pub ReplacedTextRows : Type 0
+ReplacedTextRows =
+    replacement_text (record { old = valued 1 2 (codes "a*") (codes "K") (codes "x"); new = valued 2 5 (codes "a*") (codes "K") (codes "y") })
+    ++ masked_form false (codes "g" ∷ [])
+    ≡ codes "replaced K=x\n    f:2  a*\n  by K=y\n    f:5  a*\nmasked: g\n"

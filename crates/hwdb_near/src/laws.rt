@@ -1,6 +1,6 @@
 //! Laws over the definitions alone. Each function does nothing: its contract is the law.
-ghost use Rattle.hwdb_near.specs.Laws.{LongestIsComputed, PatternsAreOfFiles, StopsAreComputed};
-ghost use Rattle.hwdb_near.specs.Rows.{FileRows, GatheredRows, HeadRows, MarkRows, MatchingRows, NearestRows, PlaceRows, RatedRows, StopRows, WordRows};
+ghost use Rattle.hwdb_near.specs.Laws.{LastAndReplacedAreAll, LongestIsComputed, PatternsAreOfFiles, StopsAreComputed};
+ghost use Rattle.hwdb_near.specs.Rows.{FileRows, GatheredRows, HeadRows, MarkRows, MaskedRows, MatchingRows, NearestRows, PlaceRows, RatedRows, ReplacedFileRows, ReplacedRows, ReplacedTextRows, StopRows, WordRows};
 
 use hwdb_inspect::members_are_the_map;
 use hwdb_pattern::matches_is_tested;
@@ -30,6 +30,19 @@ pub fn patterns_are_of_files()
     law_ascending();
     members_are_the_map();
 }
+
+/// Those of some assignments that count, and those that a later one replaced, are together all of them.
+pub fn last_and_replaced_are_all()
+    ensures { LastAndReplacedAreAll }
+{}
+
+/// Worked rows of what was replaced, and of what is masked.
+pub fn replaced_rows()
+    ensures replaced { ReplacedRows }
+    ensures files { ReplacedFileRows }
+    ensures masked { MaskedRows }
+    ensures text { ReplacedTextRows }
+{}
 
 /// Worked rows: what the definitions give when they are computed.
 pub fn worked_rows()

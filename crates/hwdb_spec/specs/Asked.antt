@@ -1,8 +1,8 @@
 -- The database that a command reads: that at a path, or the one below a root that is asked. And what `query`, `explain`, `list`,
--- `verify`, `dump` and `diff` print of it. `query` is systemd-hwdb(8)'s; the others are our choice.
+-- `verify` and `dump` print of it. `query` is systemd-hwdb(8)'s; the others are our choice.
 use Rattle.std.specs.Prelude.{◌++◌, ◌≡◌, ◌≤◌, ◌⊎◌, Bool, List, None, Option, Some, codes, false, if◌then◌else◌, length, true, ℕ}
 use Rattle.hwdb_spec.specs.Assignment.{Position}
-use Rattle.hwdb_spec.specs.Databases.{IsDiffText, IsDifferent, IsSayable, IsTextOf}
+use Rattle.hwdb_spec.specs.Databases.{IsSayable, IsTextOf}
 use Rattle.hwdb_spec.specs.Dump.{dump_text}
 use Rattle.hwdb_spec.specs.Json.{list_json}
 use Rattle.hwdb_spec.specs.Reports.{shown}
@@ -48,23 +48,6 @@ pub record IsDumped (given : Option (List ℕ)) (root : List ℕ) (contents : Co
 -- the words of a database with an assignment that no text says: its path, and the pattern, as `check` shows bytes
 abbrev pub unsayable_text : (path pattern : List ℕ) → List ℕ
 unsayable_text path pattern = path ++ (codes ": no text file can say an assignment of the pattern " ++ shown pattern)
-
--- the two files hold this, each no more than a file may
-pub record AreHeld (old_path new_path : List ℕ) (contents : Contents) (old new : List ℕ) : Type 0 where
-  pub of_old : bytes_at contents old_path ≡ Some old
-  pub of_new : bytes_at contents new_path ≡ Some new
-  pub old_within : length old ≤ max_file
-  pub new_within : length new ≤ max_file
-
--- the text is what the trees of both databases give, and the status says whether they differ so
-pub record IsCompared (of : (old new : Tree) → List ℕ) (differ : (old new : Tree) → Bool) (old_path new_path : List ℕ) (contents : Contents) (text : List ℕ) (status : ℕ) : Type 0 where
-  pub old : List ℕ
-  pub new : List ℕ
-  pub held : AreHeld old_path new_path contents old new
-  pub is : IsDiffText of old new text
-  pub answer : Bool
-  pub differs : IsDifferent differ old new answer
-  pub says : status ≡ (if answer then 1 else 0)
 
 -- the text is what the database that is asked gives
 abbrev pub IsAnswered : (root : List ℕ) (Is : (bytes text : List ℕ) → Type 0) → Contents → (text : List ℕ) → Type 0

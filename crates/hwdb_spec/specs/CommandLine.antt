@@ -38,11 +38,11 @@ file_rule = record (new_rule (codes "FILE")) { required = true; action = Some Se
 abbrev pub files_rule : Rule
 files_rule = record (new_rule (codes "FILE")) { action = Some Append }
 
--- the old database
+-- the old side
 abbrev pub old_database_rule : Rule
 old_database_rule = record (new_rule (codes "OLD")) { required = true; action = Some Set }
 
--- the new database
+-- the new side
 abbrev pub new_database_rule : Rule
 new_database_rule = record (new_rule (codes "NEW")) { required = true; action = Some Set }
 
@@ -89,6 +89,10 @@ allow_rule = record (new_rule (codes "allow")) { value_names = 1; long = Some (c
 -- `--json`
 abbrev pub json_rule : Rule
 json_rule = record (new_rule (codes "json")) { long = Some (codes "json"); action = Some SetTrue }
+
+-- `--stat`
+abbrev pub stat_rule : Rule
+stat_rule = record (new_rule (codes "stat")) { long = Some (codes "stat"); action = Some SetTrue }
 
 -- `--text`
 abbrev pub text_rule : Rule
@@ -156,7 +160,7 @@ test_app = with_rule (with_rule (with_rule (with_rule (with_shared (new_app (cod
 
 -- `diff`
 abbrev pub diff_app : App
-diff_app = with_rule (with_rule (with_rule (with_rule (with_shared (new_app (codes "diff"))) devices_option_rule) json_rule) old_database_rule) new_database_rule
+diff_app = with_rule (with_rule (with_rule (with_rule (with_rule (with_shared (new_app (codes "diff"))) devices_option_rule) stat_rule) json_rule) old_database_rule) new_database_rule
 
 -- `verify`
 abbrev pub verify_app : App

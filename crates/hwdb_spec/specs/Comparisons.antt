@@ -4,6 +4,7 @@ use Rattle.std.specs.Prelude.{Bool, true, false, List, ℕ, [], ◌∷◌, None,
 use Rattle.std.specs.List.{list_any}
 use Rattle.json.specs.Json.{Json}
 use Rattle.hwdb_spec.specs.Assignment.{Assignment}
+use Rattle.hwdb_spec.specs.ChangeCounts.{stat_form, stat_of}
 use Rattle.hwdb_spec.specs.DeviceDifferences.{device_changes_text, device_differences}
 use Rattle.hwdb_spec.specs.Differences.{Change, are_some, changes_text, differences}
 use Rattle.hwdb_spec.specs.Differences.Change.{Came, Went, Changed}
@@ -62,6 +63,11 @@ devices_named (s ∷ more) = Some (flat_map (λ (f : Source). devices_of f.bytes
 abbrev pub comparison_text : (json : Bool) → Option (List (List ℕ)) → (old new : Tree) → List ℕ
 comparison_text json None old new = changes_form json (differences (map_of old) (map_of new))
 comparison_text json (Some devices) old new = flat_map (λ d. device_changes_form json d (device_differences d old new)) devices
+
+-- the same as lines, or with `--stat` how many changes there are
+abbrev pub comparison_form : (stat json : Bool) → Option (List (List ℕ)) → (old new : Tree) → List ℕ
+comparison_form false json devices old new = comparison_text json devices old new
+comparison_form true json devices old new = stat_form json devices (stat_of devices old new)
 
 -- whether something did
 abbrev pub has_changed : Option (List (List ℕ)) → (old new : Tree) → Bool

@@ -47,7 +47,7 @@ IsTask name inner (Check files allowed json) = (name ≡ codes "check") × AreAn
     × AreAnyValues (codes "allow") inner (map string_bytes allowed.items) × (json ≡ has_flag (codes "json") inner)
 IsTask name inner (Test files database json) = (name ≡ codes "test") × (json ≡ has_flag (codes "json") inner) × (option_map string_bytes database ≡ first_of (codes "database") inner)
     × AreValues (codes "FILE") inner (map string_bytes files.items)
-IsTask name inner (Diff old new devices json) = (name ≡ codes "diff") × (json ≡ has_flag (codes "json") inner) × AreAnyValues (codes "devices") inner (map string_bytes devices.items)
+IsTask name inner (Diff old new devices json stat) = (name ≡ codes "diff") × (json ≡ has_flag (codes "json") inner) × (stat ≡ has_flag (codes "stat") inner) × AreAnyValues (codes "devices") inner (map string_bytes devices.items)
     × IsValue (codes "OLD") inner (string_bytes old) × IsValue (codes "NEW") inner (string_bytes new)
 IsTask name inner (Verify database) = (name ≡ codes "verify") × (option_map string_bytes database ≡ first_of (codes "DATABASE") inner)
 IsTask name inner (Dump database) = (name ≡ codes "dump") × (option_map string_bytes database ≡ first_of (codes "DATABASE") inner)

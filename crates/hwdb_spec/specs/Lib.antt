@@ -28,6 +28,7 @@ pub mod Findings
 pub mod Checks
 pub mod Progress
 pub mod ManyDevices
+pub mod ChangeCounts
 pub mod Comparisons
 pub mod LoneFile
 pub mod Databases
@@ -48,6 +49,7 @@ pub mod Asked
 pub mod Library
 pub mod Blocks
 pub mod Hiding
+pub mod Ignored
 pub mod Status
 pub mod Done
 pub mod Near
@@ -85,7 +87,6 @@ pub mod GivenFolders
 pub mod Undone
 pub mod Queries
 pub mod NamedDatabases
-pub mod ComparedDatabases
 pub mod NearErrors
 pub mod Tested
 pub mod TestErrors
@@ -94,6 +95,9 @@ pub mod Readable
 pub mod HidingTold
 pub mod Reasons
 pub mod CheckedReasons
+pub mod Replacements
+pub mod Sides
+pub mod ComparedDatabases
 pub mod OverText
 pub mod Program
 pub mod TaskRefusals

@@ -1,11 +1,14 @@
 -- `--text`: a command answers from the text files of both folders, as an update would compile them now. It is done over the files
 -- as they are, but that the database of /etc has the bytes that the update would write. The option is our choice.
-use Rattle.std.specs.Prelude.{◌≡◌, ◌==◌, ◌⊎◌, Bool, List, None, Option, Some, codes, false, if◌then◌else◌, is_some, length, not, true, ℕ}
+use Rattle.std.specs.Prelude.{◌≡◌, ◌==◌, ◌⊎◌, Bool, List, None, Option, Some, codes, false, [], if◌then◌else◌, is_some, length, not, string_bytes, true, ℕ}
 use Rattle.std.specs.Str.{bytes_eq}
 use Rattle.hwdb_spec.specs.Asked.{database_path}
+use Rattle.hwdb_spec.specs.Folders.{Source}
+use Rattle.hwdb_spec.specs.Given.{is_dash}
 use Rattle.hwdb_spec.specs.Reading.{AreUnread}
 use Rattle.hwdb_spec.specs.Refusals.{IsInWords}
-use Rattle.hwdb_spec.specs.Runs.{Files, World}
+use Rattle.hwdb_spec.specs.Replacements.{replacements_form}
+use Rattle.hwdb_spec.specs.Runs.{Files, Told, World}
 use Rattle.hwdb_spec.specs.StatusErrors.{AreNotMade}
 use Rattle.hwdb_spec.specs.Store.{Contents, database_file}
 use Rattle.hwdb_spec.specs.declared.job.Task.TheVariants.{Device, Dump, Explain, List as ListHits, Near, Query, Test, Verify}
@@ -23,6 +26,10 @@ files_over root bytes files = record { seen = with_database root bytes files.see
 -- what a run sees or leaves, with that database
 abbrev pub world_over : (root bytes : List ℕ) → World → World
 world_over root bytes world = record { files = files_over root bytes world.files; input = world.input; out = world.out; err = world.err; devices = world.devices }
+
+-- the same, but that standard output took this
+abbrev pub with_out : Told → World → World
+with_out out world = record { files = world.files; input = world.input; out = out; err = world.err; devices = world.devices }
 
 -- the commands that take `--text`: those that ask a database
 abbrev pub takes_text : Task → Bool
@@ -49,6 +56,17 @@ misuse_text (Test files database json) = text_if (is_some database) (codes "--te
 misuse_text (Verify database) = text_if (is_some database) (codes "--text and DATABASE are two sources: leave out one of them")
 misuse_text (Dump database) = text_if (is_some database) (codes "--text and DATABASE are two sources: leave out one of them")
 misuse_text _ = None
+
+-- what is said besides of one device, unless standard input names it
+abbrev pub said_besides : (dash : Bool) → (text : List ℕ) → List ℕ
+said_besides true text = []
+said_besides false text = text
+
+-- what a task prints after what it prints of the database: `explain` says what the files have and the database has not
+abbrev pub text_besides : Task → (etc usr : List Source) → List ℕ
+text_besides (Explain device json) etc usr =
+    said_besides (is_dash (string_bytes device)) (replacements_form json (string_bytes device) etc usr)
+text_besides task etc usr = []
 
 -- the words don't fit `--text`
 abbrev pub IsMisused : Task → Refusal → Type 0

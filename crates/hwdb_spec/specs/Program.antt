@@ -7,7 +7,7 @@ use Rattle.hwdb_spec.specs.CommandLine.{hwdb_app}
 use Rattle.hwdb_spec.specs.Words.{AskFor, AskForText}
 use Rattle.hwdb_spec.specs.Given.{is_dash, any_dash, is_input}
 use Rattle.hwdb_spec.specs.Outputs.{Texts}
-use Rattle.hwdb_spec.specs.Runs.{AreKept, HasTaken, OnOut, Printed, World}
+use Rattle.hwdb_spec.specs.Runs.{AreKept, HasTaken, OnOut, Printed, Told, World}
 use Rattle.hwdb_spec.specs.Store.{Contents, InPlace, Outcomes}
 use Rattle.hwdb_spec.specs.System.{database_folder}
 use Rattle.hwdb_spec.specs.declared.form.Form.TheVariants as form
@@ -29,7 +29,7 @@ use Rattle.hwdb_spec.specs.Done.{IsAsked, IsLeftByUpdateLess}
 use Rattle.hwdb_spec.specs.HidingTold.{IsUpdatedTelling}
 use Rattle.hwdb_spec.specs.Tested.{IsTested}
 use Rattle.hwdb_spec.specs.Folders.{Source}
-use Rattle.hwdb_spec.specs.OverText.{misuse_text, takes_text, world_over}
+use Rattle.hwdb_spec.specs.OverText.{misuse_text, takes_text, text_besides, with_out, world_over}
 
 -- the root in front of each path; nothing if none was given
 abbrev pub root_of : Job → List ℕ
@@ -38,7 +38,7 @@ root_of job = option_map_or string_bytes job.root []
 -- the task looks for files below the root: it is one that isn't told by name which it reads
 abbrev pub looks_below_root : Task → Bool
 looks_below_root (Ask file device) = false
-looks_below_root (Diff old_path new_path devices json) = false
+looks_below_root (Diff old_path new_path devices json stat) = false
 looks_below_root (Check files allowed json) = length files.items == 0
 looks_below_root (Near files device limit json) = length files.items == 0
 looks_below_root (Verify database) = not (is_some database)
@@ -64,8 +64,8 @@ IsAnswerOf (Near paths device limit json) root strict input files status texts =
     (status ≡ 0) × OnOut (IsNear (map string_bytes paths.items) root (near_form json (string_bytes device) (near_limit limit)) input files) texts
 IsAnswerOf (Test paths database json) root strict input files status texts =
     OnOut (λ text. IsTested json (map string_bytes paths.items) (option_map string_bytes database) root input files text status) texts
-IsAnswerOf (Diff old_path new_path devices json) root strict input files status texts =
-    OnOut (λ text. IsDiffed json (map string_bytes devices.items) (string_bytes old_path) (string_bytes new_path) input files text status) texts
+IsAnswerOf (Diff old_path new_path devices json stat) root strict input files status texts =
+    OnOut (λ text. IsDiffed stat json (map string_bytes devices.items) (string_bytes old_path) (string_bytes new_path) input files text status) texts
 IsAnswerOf (Verify database) root strict input files status texts =
     (status ≡ 0) × OnOut (IsPrinted (option_map string_bytes database) root IsSummary files) texts
 IsAnswerOf (Dump database) root strict input files status texts =
@@ -94,15 +94,17 @@ IsTaskDone task root usr strict status before now =
     IfNamed (streams task) before.input.bytes (Printed (IsAnswerOf task root strict before.input.bytes before.files.seen status) before.err now.err before.out now.out)
     × IsQuiet (streams task) status before.err now.err × AreKept before.files now.files
 
--- With `--text` a task is done over the files as they are, but that the database has the bytes that an update would write now. No
--- file changes.
+-- With `--text` a task is done over the files as they are, but that the database has the bytes that an update would write now. Then
+-- standard output took what is said besides. No file changes.
 pub record IsDoneOverText (task : Task) (root : List ℕ) (usr strict : Bool) (status : ℕ) (before now : World) : Type 0 where
   pub fits : misuse_text task ≡ None
   pub of_etc : List Source
   pub of_usr : List Source
   pub made : List ℕ
   pub is_made : IsMade root before.files.seen of_etc of_usr made
-  pub done : IsTaskDone task root usr strict status (world_over root made before) (world_over root made now)
+  pub out_then : Told
+  pub done : IsTaskDone task root usr strict status (world_over root made before) (with_out out_then (world_over root made now))
+  pub besides : HasTaken (text_besides task of_etc of_usr) out_then now.out
   pub kept : AreKept before.files now.files
 
 -- a task is done: over the text files, or else over the files as they are
@@ -142,7 +144,7 @@ reads_input (Ask file device) = is_dash (string_bytes file)
 reads_input (Check files allowed json) = any_dash (map string_bytes files.items)
 reads_input (Near files device limit json) = any_dash (map string_bytes files.items)
 reads_input (Test files database json) = any_dash (map string_bytes files.items)
-reads_input (Diff old_path new_path devices json) = any_dash (map string_bytes devices.items)
+reads_input (Diff old_path new_path devices json stat) = any_dash (map string_bytes devices.items)
 reads_input _ = false
 
 -- the task is an update

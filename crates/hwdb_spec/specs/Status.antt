@@ -1,17 +1,20 @@
--- What `status` says: which database is asked, which one it hides, and which text files are masked. And whether the asked one is
--- what the text files make. `update --check` has its status, and says nothing. Both commands and their form are our choice.
+-- What `status` says: which database is asked, which one it hides, how much is in each, and which text files are masked or ignored.
+-- And whether the asked one is what the text files make. `update --check` has its status, and says nothing. Both are our choice.
 use Rattle.std.specs.Prelude.{◌++◌, ◌-◌, ◌∷◌, ◌≡◌, ◌≢◌, ◌≤◌, Bool, IfSome, List, None, Option, Some, [], codes, false, flat_map, if◌then◌else◌, is_some, length, map, take, true, unwrap_or, ℕ}
 use Rattle.json.specs.Json.{Json, null}
 use Rattle.hwdb_spec.specs.Asked.{database_path}
+use Rattle.hwdb_spec.specs.Assignment.{ascending}
+use Rattle.hwdb_spec.specs.Checks.{count_text}
 use Rattle.hwdb_spec.specs.Differences.{Change, change_text, differences}
 use Rattle.hwdb_spec.specs.Folders.{AreAccepted, Choice, Source, chosen_of}
 use Rattle.hwdb_spec.specs.Format.{IsDatabase}
+use Rattle.hwdb_spec.specs.Ignored.{AreIgnoredIn}
 use Rattle.hwdb_spec.specs.Json.{array_of, json_line, number_json, object_of, text_json}
 use Rattle.hwdb_spec.specs.Lines.{byte}
 use Rattle.hwdb_spec.specs.Progress.{masks}
 use Rattle.hwdb_spec.specs.Readable.{AreAllRead}
 use Rattle.hwdb_spec.specs.Store.{Contents}
-use Rattle.hwdb_spec.specs.Summary.{count_line}
+use Rattle.hwdb_spec.specs.Summary.{Summary, count_line, summary_of}
 use Rattle.hwdb_spec.specs.System.{AreFilesIn, asked_database, bytes_at, etc_files, usr_files}
 use Rattle.hwdb_spec.specs.Texts.{max_file}
 use Rattle.hwdb_spec.specs.Tree.{Map, Tree, map_of, map_of_files}
@@ -50,14 +53,46 @@ abbrev pub IsState : (made : List ℕ) → Map → (asked : Option (List ℕ)) �
 IsState made m None state = state ≡ Missing
 IsState made m (Some bytes) state = IsStateOf made m bytes state
 
+-- ---- how much is in a database
+
+-- How much is in some bytes: of a database files, assignments and bytes, as `verify` counts them. Of others only bytes.
+pub data Amount : Type 0 where
+  Counted : (files assignments bytes : ℕ) → Amount
+  Uncounted : (bytes : ℕ) → Amount
+
+-- what is told of a summary
+abbrev pub amount_of : Summary → Amount
+amount_of s = Counted s.files s.assignments s.bytes
+
+-- this is in these bytes
+abbrev pub IsAmountOf : (bytes : List ℕ) → Amount → Type 0
+IsAmountOf bytes (Counted files assignments size) =
+    (t : Tree) × IsDatabase bytes t × (Counted files assignments size ≡ amount_of (summary_of (length bytes) t))
+IsAmountOf bytes (Uncounted size) = ((t : Tree) → IsDatabase bytes t → ⊥) × (size ≡ length bytes)
+
+-- this is in bytes that there may be
+abbrev pub IsAmount : Option (List ℕ) → Option Amount → Type 0
+IsAmount None amount = amount ≡ None
+IsAmount (Some bytes) None = ⊥
+IsAmount (Some bytes) (Some amount) = IsAmountOf bytes amount
+
+-- an amount in words
+abbrev pub amount_words : Amount → List ℕ
+amount_words (Counted files assignments size) =
+    count_text files (codes "file") ++ (codes ", " ++ (count_text assignments (codes "assignment") ++ (codes ", " ++ count_text size (codes "byte"))))
+amount_words (Uncounted size) = count_text size (codes "byte")
+
 -- ---- what is said
 
--- What `status` reports: the paths of the asked database, of the one it hides and of masked text files. Then the asked one's state,
--- and the command after which it is fresh and hides none.
+-- What `status` reports: the paths of the asked database and of the one it hides, with how much is in each. Those of masked and of
+-- ignored text files. Then the asked one's state, and the command after which it is fresh and hides none.
 pub record Report : Type 0 where
   pub database : Option (List ℕ)
+  pub holds : Option Amount
   pub hides : Option (List ℕ)
+  pub hidden : Option Amount
   pub masked : List (List ℕ)
+  pub ignored : List (List ℕ)
   pub state : State
   pub remedy : List ℕ
 
@@ -86,6 +121,11 @@ abbrev pub said_if : (name : List ℕ) → Option (List ℕ) → List ℕ
 said_if name None = []
 said_if name (Some text) = said_line name text
 
+-- the line of an amount that there may be
+abbrev pub amount_line : Option Amount → List ℕ
+amount_line None = []
+amount_line (Some amount) = said_line (codes "holds") (amount_words amount)
+
 -- the line of the first change, if there is one
 abbrev pub first_line : (first : List ℕ) → List ℕ
 first_line [] = []
@@ -104,14 +144,28 @@ remedy_line r = if is_well r.state r.hides then [] else said_line (codes "run") 
 abbrev pub report_text : Report → List ℕ
 report_text r =
     said_line (codes "database") (unwrap_or r.database (codes "none"))
+    ++ (amount_line r.holds
     ++ (said_if (codes "hides") r.hides
+    ++ (amount_line r.hidden
     ++ (flat_map (said_line (codes "masked")) r.masked
-    ++ (said_line (codes "state") (state_word r.state) ++ (changes_lines r.state ++ remedy_line r))))
+    ++ (flat_map (said_line (codes "ignored")) r.ignored
+    ++ (said_line (codes "state") (state_word r.state) ++ (changes_lines r.state ++ remedy_line r)))))))
 
 -- a text that there may be
 abbrev pub maybe_json : Option (List ℕ) → Json
 maybe_json None = null
 maybe_json (Some text) = text_json text
+
+-- the members of an amount
+abbrev pub amount_members : Amount → List (List ℕ × Json)
+amount_members (Counted files assignments size) =
+    (codes "files", number_json files) ∷ (codes "assignments", number_json assignments) ∷ (codes "bytes", number_json size) ∷ []
+amount_members (Uncounted size) = (codes "bytes", number_json size) ∷ []
+
+-- an amount that there may be
+abbrev pub amount_json : Option Amount → Json
+amount_json None = null
+amount_json (Some amount) = object_of (amount_members amount)
 
 -- a text without its last byte, the end of its line
 abbrev pub without_end : List ℕ → List ℕ
@@ -129,7 +183,9 @@ remedy_members r = if is_well r.state r.hides then [] else (codes "run", text_js
 -- the report as an object
 abbrev pub report_object : Report → Json
 report_object r =
-    object_of ((codes "database", maybe_json r.database) ∷ (codes "hides", maybe_json r.hides) ∷ (codes "masked", array_of (map text_json r.masked))
+    object_of ((codes "database", maybe_json r.database) ∷ (codes "holds", amount_json r.holds)
+    ∷ (codes "hides", maybe_json r.hides) ∷ (codes "hidden", amount_json r.hidden)
+    ∷ (codes "masked", array_of (map text_json r.masked)) ∷ (codes "ignored", array_of (map text_json r.ignored))
     ∷ (codes "state", text_json (state_word r.state)) ∷ (stale_members r.state ++ remedy_members r))
 
 -- the same as a line of JSON
@@ -179,12 +235,21 @@ masked_of listed c = if masks listed c then (codes "/usr/lib/udev/hwdb.d/" ++ c.
 abbrev pub masked_paths : (listed : List (List ℕ)) → List Choice → List (List ℕ)
 masked_paths listed chosen = flat_map (masked_of listed) chosen
 
+-- the paths of ignored files with these names, those of /etc first
+abbrev pub ignored_paths : (etc usr : List (List ℕ)) → List (List ℕ)
+ignored_paths etc usr =
+    map (λ (name : List ℕ). codes "/etc/udev/hwdb.d/" ++ name) (ascending etc)
+    ++ map (λ (name : List ℕ). codes "/usr/lib/udev/hwdb.d/" ++ name) (ascending usr)
+
 -- the report of what is there
-abbrev pub report_of : (root : List ℕ) (etc usr : Bool) (masked : List (List ℕ)) → State → Report
-report_of root etc usr masked state = record {
+abbrev pub report_of : (root : List ℕ) (etc usr : Bool) (holds hidden : Option Amount) (masked ignored : List (List ℕ)) → State → Report
+report_of root etc usr holds hidden masked ignored state = record {
   database = path_asked root etc usr;
+  holds = holds;
   hides = path_hidden root etc usr;
+  hidden = hidden;
   masked = masked;
+  ignored = ignored;
   state = state;
   remedy = remedy_of root etc usr;
 }
@@ -192,6 +257,10 @@ report_of root etc usr masked state = record {
 -- whether something is in the place of the database of a folder
 abbrev pub has_database : (usr : Bool) (root : List ℕ) → Contents → Bool
 has_database usr root contents = is_some (bytes_at contents (database_path usr root))
+
+-- the database of /usr/lib, if that of /etc hides it
+abbrev pub hidden_database : (root : List ℕ) → Contents → Option (List ℕ)
+hidden_database root contents = if has_database false root contents then bytes_at contents (database_path true root) else None
 
 -- the text files of both folders, all of which can be read, and the database that `update` would make of them
 pub record IsMade (root : List ℕ) (contents : Contents) (of_etc of_usr : List Source) (made : List ℕ) : Type 0 where
@@ -202,18 +271,27 @@ pub record IsMade (root : List ℕ) (contents : Contents) (of_etc of_usr : List 
   pub written : IsWritten (map_of_files of_etc of_usr) made
   pub within : length made ≤ max_file
 
--- The text reports the asked database beside that one, and the status says whether it is fresh and hides none. It has no more bytes
--- than a file may have.
+-- The text reports the asked database beside that one, and the status says whether it is fresh and hides none. Neither it nor the one
+-- that it hides has more bytes than a file may have.
 pub record IsStatus (root : List ℕ) (json quiet : Bool) (contents : Contents) (text : List ℕ) (status : ℕ) : Type 0 where
   pub of_etc : List Source
   pub of_usr : List Source
   pub made : List ℕ
   pub is_made : IsMade root contents of_etc of_usr made
+  pub ignored_etc : List (List ℕ)
+  pub ignored_usr : List (List ℕ)
+  pub are_in_etc : AreIgnoredIn (etc_files root) contents ignored_etc
+  pub are_in_usr : AreIgnoredIn (usr_files root) contents ignored_usr
   pub short : IfSome (asked_database root contents) (λ bytes. length bytes ≤ max_file)
+  pub short_hidden : IfSome (hidden_database root contents) (λ bytes. length bytes ≤ max_file)
+  pub holds : Option Amount
+  pub is_held : IsAmount (asked_database root contents) holds
+  pub hidden : Option Amount
+  pub is_hidden : IsAmount (hidden_database root contents) hidden
   pub state : State
   pub stands : IsState made (map_of_files of_etc of_usr) (asked_database root contents) state
   pub report : Report
-  pub of : report ≡ report_of root (has_database false root contents) (has_database true root contents)
-      (masked_paths (map (λ (s : Source). s.name) of_usr) (chosen_of of_etc of_usr)) state
+  pub of : report ≡ report_of root (has_database false root contents) (has_database true root contents) holds hidden
+      (masked_paths (map (λ (s : Source). s.name) of_usr) (chosen_of of_etc of_usr)) (ignored_paths ignored_etc ignored_usr) state
   pub is : text ≡ report_form json quiet report
   pub says : status ≡ status_of report

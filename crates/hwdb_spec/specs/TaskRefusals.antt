@@ -26,9 +26,9 @@ use Rattle.hwdb_spec.specs.DeviceErrors.{IsDeviceRefused}
 use Rattle.hwdb_spec.specs.NamedDatabases.{IsDumpRefused, IsVerifyRefused}
 use Rattle.hwdb_spec.specs.Queries.{AreUnanswered}
 use Rattle.hwdb_spec.specs.StatusErrors.{IsStatusRefused}
-use Rattle.hwdb_spec.specs.Program.{IsAnswerOf, IsDeviceAnswer, IsJobDone, IsTold, IsUpdate, asks_text, looks_below_root, root_of}
+use Rattle.hwdb_spec.specs.Program.{IsAnswerOf, IsDeviceAnswer, IsJobDone, IsTaskDone, IsTold, IsUpdate, asks_text, looks_below_root, root_of}
 use Rattle.hwdb_spec.specs.Folders.{Source}
-use Rattle.hwdb_spec.specs.OverText.{IsNothingAsked, misuse_text, world_over}
+use Rattle.hwdb_spec.specs.OverText.{IsNothingAsked, misuse_text, text_besides, with_out, world_over}
 use Rattle.hwdb_spec.specs.Status.{IsMade}
 use Rattle.hwdb_spec.specs.CheckedReasons.{HasCheckedReason}
 use Rattle.hwdb_spec.specs.Reasons.{HasAskedReason, HasFilesReason, HasGivenReason}
@@ -45,7 +45,7 @@ Refuses (Check paths allowed json) root input files refusal =
     IsCheckRefused (AreUncheckable (map string_bytes paths.items) root files) (AreCheckedFiles (map string_bytes paths.items) root input files) refusal
 Refuses (Near paths device limit json) root input files refusal = IsNearRefused (map string_bytes paths.items) root files refusal
 Refuses (Test paths database json) root input files refusal = IsTestRefused (map string_bytes paths.items) (option_map string_bytes database) root input files refusal
-Refuses (Diff old_path new_path devices json) root input files refusal =
+Refuses (Diff old_path new_path devices json stat) root input files refusal =
     IsDiffRefused (map string_bytes devices.items) (string_bytes old_path) (string_bytes new_path) input files refusal
 Refuses (Verify database) root input files refusal = IsVerifyRefused (option_map string_bytes database) root files refusal
 Refuses (Dump database) root input files refusal = IsDumpRefused (option_map string_bytes database) root files refusal
@@ -97,7 +97,7 @@ IsTaskReason (Near files device limit json) root usr before now refusal =
     HasFilesReason (not (length files.items == 0)) (map string_bytes files.items) before.files.fails before.files.seen before.input.bytes before.input.failures now.input.failures refusal
 IsTaskReason (Test paths database json) root usr before now refusal =
     HasTestReason (map string_bytes paths.items) (option_map string_bytes database) root before.files.fails before.files.seen before.input.bytes before.input.failures now.input.failures refusal
-IsTaskReason (Diff old_path new_path devices json) root usr before now refusal =
+IsTaskReason (Diff old_path new_path devices json stat) root usr before now refusal =
     HasDiffReason (map string_bytes devices.items) (string_bytes old_path) (string_bytes new_path) before.files.fails before.files.seen before.input.bytes before.input.failures now.input.failures refusal
 IsTaskReason task root usr before now refusal =
     HasReason (IsUnreadableFor task before.files.fails before.files.seen)
@@ -115,7 +115,17 @@ pub record IsUnbegun (task : Task) (root : List ℕ) (before now : World) (refus
   pub out : now.out ≡ before.out
   pub kept : AreKept before.files now.files
 
--- A task ends with an error over the database that an update would write now, and what the error says is so. No file changes.
+-- A task was done with some status, and then standard output failed over what is said besides. It took a prefix of that.
+pub record IsCutBesides (task : Task) (root : List ℕ) (usr strict : Bool) (of_etc of_usr : List Source) (before now : World) (refusal : Refusal) : Type 0 where
+  pub is : refusal ≡ Plain Write
+  pub status : ℕ
+  pub out_then : Told
+  pub done : IsTaskDone task root usr strict status before (with_out out_then now)
+  pub some : text_besides task of_etc of_usr ≢ []
+  pub cut : WasCut (text_besides task of_etc of_usr) out_then now.out
+
+-- A task ends with an error over the database that an update would write now, and what the error says is so. Or the error comes
+-- after it was done. No file changes.
 pub record IsNotDoneOverText (task : Task) (root : List ℕ) (usr strict : Bool) (before now : World) (refusal : Refusal) : Type 0 where
   pub fits : misuse_text task ≡ None
   pub of_etc : List Source
@@ -123,6 +133,7 @@ pub record IsNotDoneOverText (task : Task) (root : List ℕ) (usr strict : Bool)
   pub made : List ℕ
   pub is_made : IsMade root before.files.seen of_etc of_usr made
   pub not_done : IsNotDone task root usr strict (world_over root made before) (world_over root made now) refusal
+      ⊎ IsCutBesides task root usr strict of_etc of_usr (world_over root made before) (world_over root made now) refusal
   pub kept : AreKept before.files now.files
 
 -- a task ends with an error, and what that says is so: over the text files, or else over the files as they are
@@ -136,7 +147,7 @@ IsJobNotDone job = IsNotDoneFrom (asks_text job) job.task (root_of job) job.usr 
 
 -- the status of an error: 2 of `diff`, whose 1 says that something changed, else 1
 abbrev pub refused_status : Task → ℕ
-refused_status (Diff old_path new_path devices json) = 2
+refused_status (Diff old_path new_path devices json stat) = 2
 refused_status _ = 1
 
 -- what is said of an error: if standard output fails and the system tells why, that it can't be written

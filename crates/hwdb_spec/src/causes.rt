@@ -27,6 +27,8 @@ pub enum Cause {
     Socket,
     /// A device stands there.
     Device,
+    /// A link stands there, and nothing is where it leads.
+    Link,
 }
 
 impl Cause {
@@ -63,6 +65,7 @@ impl Cause {
             Cause::Pipe => message.write_str("Is a named pipe"),
             Cause::Socket => message.write_str("Is a socket"),
             Cause::Device => message.write_str("Is a device"),
+            Cause::Link => message.write_str("Is a link to nothing"),
         };
         message.drop_number();
         message

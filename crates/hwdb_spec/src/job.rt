@@ -87,9 +87,9 @@ pub enum Task {
         /// Whether a record to begin with is printed.
         pattern: bool,
     },
-    /// Print what changed from one database to another.
+    /// Print what changed from one side to another: a database, a text file, a folder of text files or a root.
     Diff {
-        /// The path of the old database.
+        /// The path of the old side.
         old: String,
         /// The path of the new one.
         new: String,
@@ -97,6 +97,8 @@ pub enum Task {
         devices: Vec<String>,
         /// Whether as JSON.
         json: bool,
+        /// Whether changes are counted by file and key.
+        stat: bool,
     },
     /// Say whether a file is a database that can be read, and how much is in it.
     Verify {

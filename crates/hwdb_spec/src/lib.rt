@@ -35,6 +35,7 @@
 //! | `Checks` | what `check` prints, how much it finds, and its status |
 //! | `Progress` | what `update` says of its work |
 //! | `ManyDevices` | what `explain` prints of several devices, and a line of devices that is too long |
+//! | `ChangeCounts` | how many changes there are, by file and by key, and what `diff --stat` prints of that |
 //! | `Comparisons` | what `diff` compares, and what it prints, as text or JSON |
 //! | `LoneFile` | one text file alone, as `ask` reads it and `dump` writes it |
 //! | `Databases` | what bytes of databases give, and what is so of bytes that are none |
@@ -55,6 +56,7 @@
 //! | `Library` | what the C library is told |
 //! | `Blocks` | blocks of a file that were read, and which files may have them |
 //! | `Hiding` | what `update --usr --verbose` says if /etc's database hides the new one |
+//! | `Ignored` | which files of the folders of text files are none, by their names |
 //! | `Status` | what `status` says of the database that is asked, beside what the text files make |
 //! | `Done` | what `update` and `ask` leave, and what a crash leaves during an update |
 //! | `Near` | the pattern that almost matched a device, and where it stopped |
@@ -92,7 +94,6 @@
 //! | `Undone` | the errors of each task, and what they leave |
 //! | `Queries` | what `query` and `explain` print, also of standard input, and their errors |
 //! | `NamedDatabases` | the database that `verify` and `dump` read, and their errors |
-//! | `ComparedDatabases` | what `diff` compares, and its errors, with their paths |
 //! | `NearErrors` | the errors of `near` |
 //! | `Tested` | which test files `test` tries, and over which database |
 //! | `TestErrors` | what `test` refuses, and when |
@@ -101,6 +102,9 @@
 //! | `HidingTold` | an update, and before it the line on a database that hides the new one |
 //! | `Reasons` | what an error says of a file is so |
 //! | `CheckedReasons` | the same of `check` |
+//! | `Replacements` | what `explain --text` says that no database can: what was replaced, and what is masked |
+//! | `Sides` | what a path of `diff` means: a database, a text file, a folder or a root; and the errors of that |
+//! | `ComparedDatabases` | what `diff` compares, and its errors, with their paths |
 //! | `OverText` | with `--text`, the files as they are but for the database, which is what an update would write |
 //! | `Program` | what the program does, by the job that its words ask for |
 //! | `TaskRefusals` | which errors end a task, and what each leaves: the promise of `program` |

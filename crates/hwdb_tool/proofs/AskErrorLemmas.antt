@@ -24,7 +24,7 @@ use Rattle.hwdb_tool.specs.OneRefusal.{IsOfWhatIsRead, IsOneError}
 use Rattle.hwdb_spec.specs.Reasons.{HasGivenReason}
 use Rattle.hwdb_spec.specs.Undone.{IsAskRefused, IsNotAsked, IsUnreadGiven}
 use Rattle.hwdb_tool.proofs.GivenLemmas.{plain_reason}
-use Rattle.hwdb_tool.proofs.DiffErrorLemmas.{IsUnreadOne, held_or_unread, unread_one}
+use Rattle.hwdb_tool.proofs.UnreadLemmas.{IsUnreadOne, held_or_unread, unread_one}
 use Rattle.hwdb_tool.proofs.RefusalLemmas.{one_inside, over_over, unread_given}
 
 abbrev pub OneForm : Type 0

@@ -1,37 +1,57 @@
 -- What `diff` reads, and what it refuses.
-use Rattle.std.proofs.Common.{◌≡◌, ◌==◌, ◌∷◌, ap, inr, sym, ℕ, Bool, false, length, List, [], map, Option, Some, Result, Ok, Err, IfErr, IfOk, flat_map}
+use Rattle.std.proofs.Common.{◌≡◌, ◌==◌, ◌∷◌, ap, inl, inr, sym, ℕ, Bool, false, length, List, [], map, Option, Some, Result, Ok, Err, IfErr, IfOk, flat_map}
 use Rattle.hwdb_lint.specs.Checks.{source_of}
 use Rattle.hwdb_lint.specs.declared.files.TextFile.{TextFile}
-use Rattle.hwdb_spec.specs.Asked.{IsCompared}
 use Rattle.hwdb_spec.specs.CheckedFiles.{AreGivenFiles}
-use Rattle.hwdb_spec.specs.ComparedDatabases.{HasDiffReason, IsDiffed, IsDiffRefused, IsPairRefused}
-use Rattle.hwdb_spec.specs.Comparisons.{comparison_text, devices_named, has_changed}
+use Rattle.hwdb_spec.specs.ComparedDatabases.{HasDiffReason, IsAny, IsCompared, IsDiffed, IsDiffRefused, IsPairRefused}
+use Rattle.hwdb_spec.specs.Comparisons.{comparison_form, devices_named, has_changed}
 use Rattle.hwdb_spec.specs.Folders.{Source}
+use Rattle.hwdb_spec.specs.Refusals.{HasReason, IsUnreadable}
 use Rattle.hwdb_spec.specs.Runs.{OnOut}
+use Rattle.hwdb_spec.specs.Sides.{AreNotMadeAt, IsSideRefused}
 use Rattle.hwdb_spec.specs.Store.{Contents}
 use Rattle.hwdb_spec.specs.Texts.{devices_of}
-use Rattle.hwdb_spec.specs.Refusals.{HasReason, IsUnreadable}
 use Rattle.hwdb_spec.specs.declared.refusals.Refusal.{Refusal}
+use Rattle.hwdb_tool.specs.SideSteps.{IsPairError}
 use Rattle.hwdb_tool.specs.Views.{texts_in}
 use Rattle.hwdb_tool.specs.declared.answer.Answer.{Answer}
 
+-- an error of a side, whatever is said of its path
+module _ (Lists Reads : Refusal → Type 0) (contents : Contents) (r : Refusal) where
+  any_texts : (path : List ℕ) → AreNotMadeAt Lists Reads path contents r → AreNotMadeAt IsAny IsAny path contents r
+  any_texts path (inl many) = inl many
+  any_texts path (inr (inl read)) = inr (inl (read.0, read.1, read.2, read.3, tt))
+  any_texts path (inr (inr not)) = inr (inr not)
+
+  any_side : (path : List ℕ) → IsSideRefused Lists Reads path contents r → IsSideRefused IsAny IsAny path contents r
+  any_side path (inl un) = inl (un.0, tt)
+  any_side path (inr (inl db)) = inr (inl (db.0, db.1, tt))
+  any_side path (inr (inr (inl texts))) = inr (inr (inl (texts.0, any_texts path texts.1)))
+  any_side path (inr (inr (inr (inl root)))) = inr (inr (inr (inl (root.0, root.1, tt))))
+  any_side path (inr (inr (inr (inr root)))) = inr (inr (inr (inr root)))
+
+  any_pair : (old_path new_path : List ℕ) → IsPairRefused Lists Reads old_path new_path contents r → IsPairRefused IsAny IsAny old_path new_path contents r
+  any_pair old_path new_path (inl old) = inl (any_side old_path old)
+  any_pair old_path new_path (inr (inl new)) = inr (inl (new.0, new.1, any_side new_path new.2))
+  any_pair old_path new_path (inr (inr not)) = inr (inr not)
+
 module _ (given : List (List ℕ)) (old_path new_path : List ℕ) (input : Option (List ℕ)) (contents : Contents) (sources : List Source) (are : AreGivenFiles given input contents sources) where
   -- what changed, for their devices
-  pub all_compared : (json : Bool) (r : Result Answer Refusal)
-      → IfOk r (λ a. OnOut (λ text. IsCompared (comparison_text json (devices_named sources)) (has_changed (devices_named sources)) old_path new_path contents text a.status) (texts_in a))
-      → IfOk r (λ a. OnOut (λ text. IsDiffed json given old_path new_path input contents text a.status) (texts_in a))
-  all_compared json (Ok a) is = (is.0, (sources, are, is.1))
-  all_compared json (Err e) is = tt
+  pub all_compared : (stat json : Bool) (r : Result Answer Refusal)
+      → IfOk r (λ a. OnOut (λ text. IsCompared (comparison_form stat json (devices_named sources)) (has_changed (devices_named sources)) old_path new_path contents text a.status) (texts_in a))
+      → IfOk r (λ a. OnOut (λ text. IsDiffed stat json given old_path new_path input contents text a.status) (texts_in a))
+  all_compared stat json (Ok a) is = (is.0, (sources, are, is.1))
+  all_compared stat json (Err e) is = tt
 
   -- or why nothing is compared
-  pub not_compared : (r : Result Answer Refusal) → IfErr r (IsPairRefused old_path new_path contents) → IfErr r (IsDiffRefused given old_path new_path input contents)
-  not_compared (Ok a) not = tt
-  not_compared (Err e) not = inr (sources, are, not)
+  pub not_compared : (fails : List ℕ → Type 0) (r : Result Answer Refusal) → IfErr r (IsPairError fails contents old_path new_path) → IfErr r (IsDiffRefused given old_path new_path input contents)
+  not_compared fails (Ok a) not = tt
+  not_compared fails (Err e) not = inr (sources, are, any_pair (HasReason fails ⊥ contents) (HasReason (IsUnreadable fails contents) ⊥ contents) contents e old_path new_path not)
 
-  pub compared_reason : (fails : List ℕ → Type 0) (n m : ℕ) (r : Result Answer Refusal) → IfErr r (IsPairRefused old_path new_path contents)
-      → IfErr r (HasReason (IsUnreadable fails contents) ⊥ contents) → IfErr r (HasDiffReason given old_path new_path fails contents input n m)
-  compared_reason fails n m (Ok a) not reason = tt
-  compared_reason fails n m (Err e) not reason = inr (inr (sources, are, not, reason))
+  pub compared_reason : (fails : List ℕ → Type 0) (n m : ℕ) (r : Result Answer Refusal) → IfErr r (IsPairError fails contents old_path new_path)
+      → IfErr r (HasDiffReason given old_path new_path fails contents input n m)
+  compared_reason fails n m (Ok a) not = tt
+  compared_reason fails n m (Err e) not = inr (inr (sources, are, not))
 
 -- the devices of some files
 pub all_named : (files : List TextFile) (devices : List (List ℕ)) → (length files == 0) ≡ false → devices ≡ flat_map (λ (f : Source). devices_of f.bytes) (map source_of files)

@@ -10,7 +10,7 @@ use Rattle.hwdb_spec.specs.DeviceErrors.{IsDeviceRefused, IsNoDevice, IsNoSysfs,
 use Rattle.hwdb_spec.specs.DeviceTexts.{device_text}
 use Rattle.hwdb_spec.specs.DeviceTree.{Sight, device_at, device_for, last_name, missing_folder, near_name, sysfs_below, unread_for}
 use Rattle.hwdb_spec.specs.Jobs.{IsJobOf, IsTask}
-use Rattle.hwdb_spec.specs.Program.{IsDeviceAnswer, IsTaskDone, asks_text, root_of}
+use Rattle.hwdb_spec.specs.Program.{IsDeviceAnswer, IsTaskDone, root_of}
 use Rattle.hwdb_spec.specs.Refusals.{HasReason}
 use Rattle.hwdb_spec.specs.Runs.{AreKept, Told, World}
 use Rattle.hwdb_spec.specs.Store.{Contents, Outcomes}
@@ -23,10 +23,10 @@ use Rattle.hwdb_spec.specs.declared.job.Task.{Task}
 use Rattle.hwdb_spec.specs.declared.job.Task.TheVariants.{Device as DeviceTask, Status}
 use Rattle.hwdb_spec.specs.declared.refusals.Refusal.{Refusal}
 use Rattle.hwdb_tool.specs.OneOutcome.{IsOneInput, Scene, scene_of}
-use Rattle.hwdb_tool.specs.OneRefusal.{DoneEndsSo, DoneJobEndsSo, EndAlike, IsDevice, IsOfWhatIsRead, IsOneEnd, IsOneError, JobsEndAlike, NeverFails, scene_then}
+use Rattle.hwdb_tool.specs.OneRefusal.{DoneEndsSo, EndAlike, IsDevice, IsOfWhatIsRead, IsOneEnd, IsOneError, NeverFails}
 use Rattle.hwdb_tool.proofs.DatabaseErrorLemmas.{OneHeader, SaysSo, Unanswered, answer_answer, answer_done, said_said, says_so, unanswered}
-use Rattle.hwdb_tool.proofs.JobErrorLemmas.{status_of_job}
-use Rattle.hwdb_tool.proofs.JobLemmas.{apart, is_named, plainly_done, plainly_not_done, same_asks, same_root, word_of}
+use Rattle.hwdb_tool.proofs.JobErrorLemmas.{DoneJobTaskEndsSo, JobTasksEndAlike}
+use Rattle.hwdb_tool.proofs.JobLemmas.{apart, is_named, same_root, word_of}
 use Rattle.hwdb_tool.proofs.OutcomeLemmas.{one_held}
 use Rattle.hwdb_tool.proofs.RefusalLemmas.{NeverNamed}
 use Rattle.hwdb_tool.proofs.TaskErrorLemmas.{IsQuietEnd, never_asked, unprinted}
@@ -302,29 +302,16 @@ module _ (header : OneHeader) (fails fails_now fails2 fails2_now : List ℕ → 
       (device_is_done header task root usr strict status (scene_of fails left before) (scene_of fails_now left_now now) kind done)
       (device_end header task root usr strict (scene_of fails2 left2 before2) (scene_of fails2_now left2_now now2) r kind is.never is.of not)
 
-  pub device_jobs_are_one : JobsEndAlike IsDevice fails fails_now fails2 fails2_now left left_now left2 left2_now
-  device_jobs_are_one = λ words status status2 before now before2 now2 input one two kind none is is2.
-      let top = matches_of hwdb_app words in
-      let found = subcommand_of hwdb_app words in
-      let j = one.job in
-      let k = two.job in
-      let then_ = scene_then one.err_then now in
-      let then2 = scene_then two.err_then now2 in
-      let same = device_of_job top found j k one.asked two.asked kind in (
-        one.says ∙ status_of_job top found j k one.asked two.asked ∙ sym two.says,
-        one_end header (given_of j.task) (given_of k.task) (root_of j) (root_of k) one.refusal two.refusal fails fails_now fails2 fails2_now left left_now left2 left2_now before then_ before2 then2 input same.1 same.2
-            (device_end header j.task (root_of j) j.usr j.strict (scene_of fails left before) (scene_of fails_now left_now then_) one.refusal kind is.never is.of (plainly_not_done (asks_text j) j.task (root_of j) j.usr j.strict (scene_of fails left before) (scene_of fails_now left_now then_) one.refusal none one.refused))
-            (device_end header k.task (root_of k) k.usr k.strict (scene_of fails2 left2 before2) (scene_of fails2_now left2_now then2) two.refusal same.0 is2.never is2.of (plainly_not_done (asks_text k) k.task (root_of k) k.usr k.strict (scene_of fails2 left2 before2) (scene_of fails2_now left2_now then2) two.refusal (same_asks top found j k one.asked two.asked ∙ none) two.refused)),
-      )
+  pub device_jobs_are_one : JobTasksEndAlike IsDevice fails fails_now fails2 fails2_now left left_now left2 left2_now
+  device_jobs_are_one = λ words before now before2 now2 j k r r2 asked asked2 input kind is is2 not not2.
+      let same = device_of_job (matches_of hwdb_app words) (subcommand_of hwdb_app words) j k asked asked2 kind in
+      one_end header (given_of j.task) (given_of k.task) (root_of j) (root_of k) r r2 fails fails_now fails2 fails2_now left left_now left2 left2_now before now before2 now2 input same.1 same.2
+      (device_end header j.task (root_of j) j.usr j.strict (scene_of fails left before) (scene_of fails_now left_now now) r kind is.never is.of not)
+      (device_end header k.task (root_of k) k.usr k.strict (scene_of fails2 left2 before2) (scene_of fails2_now left2_now now2) r2 same.0 is2.never is2.of not2)
 
-  pub device_done_job_is_no_end : DoneJobEndsSo IsDevice fails fails_now fails2 fails2_now left left_now left2 left2_now
-  device_done_job_is_no_end = λ words status status2 before now before2 now2 input done refused kind none is.
-      let top = matches_of hwdb_app words in
-      let found = subcommand_of hwdb_app words in
-      let j = done.job in
-      let k = refused.job in
-      let then2 = scene_then refused.err_then now2 in
-      let same = device_of_job top found j k done.asked refused.asked kind in
-      no_end header (given_of j.task) (given_of k.task) (root_of j) (root_of k) refused.refusal fails2 fails2_now left2 left2_now before before2 then2 input same.1 same.2
-      (device_is_done header j.task (root_of j) j.usr j.strict status (scene_of fails left before) (scene_of fails_now left_now now) kind (plainly_done (asks_text j) j.task (root_of j) j.usr j.strict status (scene_of fails left before) (scene_of fails_now left_now now) none done.done))
-      (device_end header k.task (root_of k) k.usr k.strict (scene_of fails2 left2 before2) (scene_of fails2_now left2_now then2) refused.refusal same.0 is.never is.of (plainly_not_done (asks_text k) k.task (root_of k) k.usr k.strict (scene_of fails2 left2 before2) (scene_of fails2_now left2_now then2) refused.refusal (same_asks top found j k done.asked refused.asked ∙ none) refused.refused))
+  pub device_done_job_is_no_end : DoneJobTaskEndsSo IsDevice fails fails_now fails2 fails2_now left left_now left2 left2_now
+  device_done_job_is_no_end = λ words status before now before2 now2 j k r asked asked2 input kind is done not.
+      let same = device_of_job (matches_of hwdb_app words) (subcommand_of hwdb_app words) j k asked asked2 kind in
+      no_end header (given_of j.task) (given_of k.task) (root_of j) (root_of k) r fails2 fails2_now left2 left2_now before before2 now2 input same.1 same.2
+      (device_is_done header j.task (root_of j) j.usr j.strict status (scene_of fails left before) (scene_of fails_now left_now now) kind done)
+      (device_end header k.task (root_of k) k.usr k.strict (scene_of fails2 left2 before2) (scene_of fails2_now left2_now now2) r same.0 is.never is.of not)

@@ -1,5 +1,5 @@
 -- What an error says of standard input.
-use Rattle.std.proofs.Common.{◌≡◌, ◌<◌, ◌⊎◌, ◌∙◌, ⊎_elim, ap, inl, inr, reverse, sym, subst, refl, arith, eqb-true, ℕ, Bool, true, false, not, ◌==◌, List, [], ◌∷◌, length, map, Option, None, Some, IfSome, string_bytes, Global, String}
+use Rattle.std.proofs.Common.{◌≡◌, ◌<◌, ◌⊎◌, ◌∙◌, ◌++◌, append_assoc, append-nil, ⊎_elim, ap, inl, inr, reverse, sym, subst, refl, arith, eqb-true, ℕ, Bool, true, false, not, ◌==◌, List, [], ◌∷◌, length, map, Option, None, Some, IfSome, string_bytes, Global, String}
 use Rattle.std.proofs.lemmas.List.{reverse-append}
 use Rattle.std.proofs.lemmas.List.Elements.{Contains-append_right}
 use Rattle.std.specs.Prelude.{Contains, codes, option_map}
@@ -7,11 +7,11 @@ use Rattle.hwdb_spec.specs.declared.job.Task.TheVariants.{Ask, Check, Diff, Expl
 use Rattle.hwdb_spec.specs.Asked.{IsAskedPath}
 use Rattle.hwdb_spec.specs.CheckedFiles.{StandFor, folder_of}
 use Rattle.hwdb_spec.specs.Failures.{HasFailed}
-use Rattle.hwdb_spec.specs.Folders.{Source}
+use Rattle.hwdb_spec.specs.Folders.{Choice, Source, path_of}
 use Rattle.hwdb_spec.specs.Given.{any_dash, is_dash, is_input}
 use Rattle.hwdb_spec.specs.ManyDevices.{HasLongLine}
 use Rattle.hwdb_spec.specs.Store.{Contents, Outcomes, database_name, path_in}
-use Rattle.hwdb_spec.specs.System.{database_folder}
+use Rattle.hwdb_spec.specs.System.{database_folder, etc_files, usr_files}
 use Rattle.hwdb_spec.specs.Texts.{max_file}
 use Rattle.hwdb_spec.specs.declared.DbFault.{DbFault}
 use Rattle.hwdb_spec.specs.ComparedDatabases.{HasDiffReason, IsOfDiff, IsPairRefused}
@@ -19,16 +19,20 @@ use Rattle.hwdb_spec.specs.declared.errors.DiffError.{DiffError}
 use Rattle.hwdb_spec.specs.declared.errors.DiffError.TheVariants as differing
 use Rattle.hwdb_spec.specs.declared.errors.ToolError.{ToolError}
 use Rattle.hwdb_spec.specs.declared.errors.ToolError.TheVariants.{Read, Write, TooLong, TooManyFiles, TooManyLines, TooLarge, BadPosition, BadDatabase, Replace, Memory}
-use Rattle.hwdb_spec.specs.Refusals.{IsAt, IsOfDatabase, IsOver, IsUnreadAt}
+use Rattle.hwdb_spec.specs.Reading.{AreUnread}
+use Rattle.hwdb_spec.specs.Refusals.{HasReason, IsAt, IsOfDatabase, IsOver, IsUnlisted, IsUnread, IsUnreadAt, IsUnreadable}
+use Rattle.hwdb_spec.specs.Sides.{AreNotMadeAt, IsSideRefused}
+use Rattle.hwdb_spec.specs.Errors.{refusal_of_compile}
 use Rattle.hwdb_spec.specs.declared.refusals.Refusal.{Refusal}
 use Rattle.hwdb_spec.specs.declared.refusals.Refusal.TheVariants.{At, InWords, NoDatabase, Plain}
 use Rattle.hwdb_spec.specs.CheckedReasons.{HasCheckedReason, HasNamedReason}
 use Rattle.hwdb_spec.specs.GivenFolders.{AreFoldersUnread, IsFolderUnread, IsUnlistedFolder}
-use Rattle.hwdb_tool.specs.OneRefusal.{InputIsLong, InputIsRead, IsInNamed, IsOfDiffed, LineIsLong}
+use Rattle.hwdb_tool.specs.OneRefusal.{InputIsLong, InputIsRead, IsInNamed, IsOfDiffed, IsOfSide, LineIsLong}
+use Rattle.hwdb_tool.proofs.SideErrorLemmas.{stand_below}
 use Rattle.hwdb_spec.specs.NamedDatabases.{IsUnnamed}
 use Rattle.hwdb_spec.specs.TestErrors.{AreUntried, HasTestReason}
 use Rattle.hwdb_spec.specs.Undone.{IsUnfound}
-use Rattle.hwdb_spec.specs.Reasons.{HasAskedReason, HasFilesReason, HasGivenReason, IsFirstGiven, IsGivenTooLong, IsGivenUnreadable}
+use Rattle.hwdb_spec.specs.Reasons.{HasAskedReason, HasFilesReason, HasGivenReason, IsFirstGiven, IsGivenTooLong, IsGivenUnreadable, IsOfFiles}
 
 not_false : (b : Bool) → not b ≡ false → b ≡ true
 not_false true is = refl
@@ -271,29 +275,115 @@ module _ (given : List (List ℕ)) (path : Option (List ℕ)) (root : List ℕ) 
   tested_long r over (inr (inl file)) = ⊎_elim (λ long. inl long) (λ among. inr (inl among)) (paths_long fails files input n m given r over file.1)
   tested_long r over (inr (inr trial)) = inr (inr (untried_path files TooLong (codes "standard input") root (inr refl) (asked_not_input root files) trial.0 path r trial.2 over))
 
--- ---- the files and the databases of `diff`
+-- ---- the files and the sides of `diff`
 module _ (old_path new_path : List ℕ) (files : Contents) (e : ToolError) (words : List ℕ) (kind : IsUnreadKind e) where
   uncompared_path : (x : DiffError) (r : Refusal) → IsOfDiff x old_path new_path r → IsOver e words r → ⊥
   uncompared_path (differing.Old fault) r is over = faulty_path files e words kind fault old_path r is over
   uncompared_path (differing.New fault) r is over = faulty_path files e words kind fault new_path r is over
   uncompared_path differing.Memory r is over = over_plain e Memory words r is over
 
-  pair_path : (r : Refusal) → IsPairRefused old_path new_path files r → IsOver e words r → (words ≡ old_path) ⊎ (words ≡ new_path)
-  pair_path r (inl old) over = inl (sym (unread_path files e words old_path r old over))
-  pair_path r (inr (inl new)) over = inr (sym (unread_path files e words new_path r new.1 over))
-  pair_path r (inr (inr not)) over = absurd (uncompared_path not.error r not.is over)
+  first_path : (paths : List (List ℕ)) (r : Refusal) → IsOfFiles paths files r → IsOver e words r → Contains paths words
+  first_path paths (At x at cause) first over =
+      by (subst (λ (k : ToolError). IsOfFiles paths files (At k at cause)) over.0 first) kind
+    where
+      by : IsOfFiles paths files (At e at cause) → IsUnreadKind e → Contains paths words
+      by of (inl read) = subst (λ (p : List ℕ). Contains paths p) over.1 (is_named paths files at.items (subst (λ (k : ToolError). IsOfFiles paths files (At k at cause)) read of))
+      by of (inr long) = subst (λ (p : List ℕ). Contains paths p) over.1 (is_named paths files at.items (subst (λ (k : ToolError). IsOfFiles paths files (At k at cause)) long of).0)
+  first_path paths (Plain x) first over = absurd over
+  first_path paths NoDatabase first over = absurd over
+  first_path paths (InWords text) first over = absurd over
+
+  -- a path in a folder
+  in_side : (path folder at : List ℕ) → ((rest : List ℕ) → IsOfSide path (folder ++ rest)) → (at ≡ folder) ⊎ ((name : List ℕ) × (at ≡ path_in folder name)) → at ≡ words → IsOfSide path words
+  in_side path folder at below (inl is) same = subst (IsOfSide path) (append-nil folder ∙ sym is ∙ same) (below [])
+  in_side path folder at below (inr named) same = subst (IsOfSide path) (sym named.1 ∙ same) (below (47 ∷ named.0))
+
+  listed_side : (path folder : List ℕ) → ((rest : List ℕ) → IsOfSide path (folder ++ rest)) → (r : Refusal) → IsUnlisted folder r → IsOver e words r → IsOfSide path words
+  listed_side path folder below (At Read at cause) u over = in_side path folder at.items below u over.1
+  listed_side path folder below (At TooLong at cause) u over = in_side path folder at.items below (inl u) over.1
+  listed_side path folder below (At Memory at cause) u over = in_side path folder at.items below (inl u) over.1
+  listed_side path folder below (At Write at cause) u over = absurd u
+  listed_side path folder below (At TooManyFiles at cause) u over = absurd u
+  listed_side path folder below (At TooManyLines at cause) u over = absurd u
+  listed_side path folder below (At TooLarge at cause) u over = absurd u
+  listed_side path folder below (At BadPosition at cause) u over = absurd u
+  listed_side path folder below (At (BadDatabase fault) at cause) u over = absurd u
+  listed_side path folder below (At (Replace x) at cause) u over = absurd u
+  listed_side path folder below (Plain x) u over = absurd over
+  listed_side path folder below NoDatabase u over = absurd over
+  listed_side path folder below (InWords text) u over = absurd over
+
+  unlisted_side : (path : List ℕ) (r : Refusal) → IsUnlistedFolder files (folder_of path) r → IsOver e words r → IsOfSide path words
+  unlisted_side path (At Read at cause) u over = listed_side path (folder_of path) (λ rest. inr (rest, refl)) (At Read at cause) u over
+  unlisted_side path (At TooLong at cause) u over = in_side path (folder_of path) at.items (λ rest. inr (rest, refl)) (inl u.0) over.1
+  unlisted_side path (At Memory at cause) u over = in_side path (folder_of path) at.items (λ rest. inr (rest, refl)) (inl u) over.1
+  unlisted_side path (At Write at cause) u over = absurd u
+  unlisted_side path (At TooManyFiles at cause) u over = absurd u
+  unlisted_side path (At TooManyLines at cause) u over = absurd u
+  unlisted_side path (At TooLarge at cause) u over = absurd u
+  unlisted_side path (At BadPosition at cause) u over = absurd u
+  unlisted_side path (At (BadDatabase fault) at cause) u over = absurd u
+  unlisted_side path (At (Replace x) at cause) u over = absurd u
+  unlisted_side path (Plain x) u over = absurd over
+  unlisted_side path NoDatabase u over = absurd over
+  unlisted_side path (InWords text) u over = absurd over
+
+  -- a text file of a root
+  chosen_side : (path : List ℕ) (c : Choice) (r : Refusal) → IsUnread (folder_of path ++ path_of c) r → IsOver e words r → IsOfSide path words
+  chosen_side path c (At Read at cause) u over = inr (path_of c, sym over.1 ∙ u)
+  chosen_side path c (At TooLong at cause) u over = inr (path_of c, sym over.1 ∙ u)
+  chosen_side path c (At Memory at cause) u over = inr (path_of c, sym over.1 ∙ u)
+  chosen_side path c (At Write at cause) u over = absurd u
+  chosen_side path c (At TooManyFiles at cause) u over = absurd u
+  chosen_side path c (At TooManyLines at cause) u over = absurd u
+  chosen_side path c (At TooLarge at cause) u over = absurd u
+  chosen_side path c (At BadPosition at cause) u over = absurd u
+  chosen_side path c (At (BadDatabase fault) at cause) u over = absurd u
+  chosen_side path c (At (Replace x) at cause) u over = absurd u
+  chosen_side path c (Plain x) u over = absurd over
+  chosen_side path c NoDatabase u over = absurd over
+  chosen_side path c (InWords text) u over = absurd over
+
+  root_path : (path : List ℕ) (r : Refusal) → AreUnread (folder_of path) files r → IsOver e words r → IsOfSide path words
+  root_path path r (inl memory) over = absurd (over_plain e Memory words r memory over)
+  root_path path r (inr (inl etc)) over =
+      listed_side path (etc_files (folder_of path)) (λ rest. inr (codes "/etc/udev/hwdb.d" ++ rest, append_assoc (folder_of path) (codes "/etc/udev/hwdb.d") rest)) r etc over
+  root_path path r (inr (inr (inl usr))) over =
+      listed_side path (usr_files (folder_of path)) (λ rest. inr (codes "/usr/lib/udev/hwdb.d" ++ rest, append_assoc (folder_of path) (codes "/usr/lib/udev/hwdb.d") rest)) r usr over
+  root_path path r (inr (inr (inr refused))) over =
+      ⊎_elim (λ many. absurd (over_plain e TooManyFiles words r many.1 over)) (λ unread. chosen_side path unread.1.first r unread.1.unread over) refused.refused
+
+  module _ (Lists Reads : Refusal → Type 0) where
+    side_path : (path : List ℕ) (r : Refusal) → IsSideRefused Lists Reads path files r → IsOver e words r → IsOfSide path words
+    side_path path r (inl un) over = unlisted_side path r un.0 over
+    side_path path r (inr (inl db)) over = inl (sym (unread_path files e words path r db.1 over))
+    side_path path r (inr (inr (inl texts))) over = by texts.1
+      where
+        by : AreNotMadeAt Lists Reads path files r → IsOfSide path words
+        by (inl many) = absurd (over_plain e TooManyFiles words r many.0 over)
+        by (inr (inl read)) = stand_below files path read.0 words read.1 (first_path read.0 r read.3 over)
+        by (inr (inr not)) = absurd (over_plain e (refusal_of_compile not.2.0) words r not.2.1 over)
+    side_path path r (inr (inr (inr (inl root)))) over = root_path path r root.1 over
+    side_path path r (inr (inr (inr (inr root)))) over = absurd (over_plain e (refusal_of_compile root.1.refused.0) words r root.1.refused.1 over)
+
+    pair_path : (r : Refusal) → IsPairRefused Lists Reads old_path new_path files r → IsOver e words r → IsOfSide old_path words ⊎ IsOfSide new_path words
+    pair_path r (inl old) over = inl (side_path old_path r old over)
+    pair_path r (inr (inl new)) over = inr (side_path new_path r new.2 over)
+    pair_path r (inr (inr not)) over = absurd (uncompared_path not.error r not.is over)
 
 module _ (given : List (List ℕ)) (old_path new_path : List ℕ) (fails : List ℕ → Type 0) (files : Contents) (input : Option (List ℕ)) (n m : ℕ) where
   diffed_read : (r : Refusal) → IsOver Read (codes "standard input") r → HasDiffReason given old_path new_path fails files input n m r → HasFailed n m ⊎ IsOfDiffed given old_path new_path (codes "standard input")
   diffed_read r over (inl write) = absurd (over_plain Read Write (codes "standard input") r write over)
   diffed_read r over (inr (inl file)) = ⊎_elim (λ failed. inl failed) (λ among. inr (inl among)) (paths_read fails files input n m given r over file.1)
-  diffed_read r over (inr (inr pair)) = inr (inr (pair_path old_path new_path files Read (codes "standard input") (inl refl) r pair.2 over))
+  diffed_read r over (inr (inr pair)) =
+      inr (inr (pair_path old_path new_path files Read (codes "standard input") (inl refl) (HasReason fails ⊥ files) (HasReason (IsUnreadable fails files) ⊥ files) r pair.2 over))
 
   diffed_long : (r : Refusal) → IsOver TooLong (codes "standard input") r → HasDiffReason given old_path new_path fails files input n m r
       → IsInputLong fails files input n m ⊎ IsOfDiffed given old_path new_path (codes "standard input")
   diffed_long r over (inl write) = absurd (over_plain TooLong Write (codes "standard input") r write over)
   diffed_long r over (inr (inl file)) = ⊎_elim (λ long. inl long) (λ among. inr (inl among)) (paths_long fails files input n m given r over file.1)
-  diffed_long r over (inr (inr pair)) = inr (inr (pair_path old_path new_path files TooLong (codes "standard input") (inr refl) r pair.2 over))
+  diffed_long r over (inr (inr pair)) =
+      inr (inr (pair_path old_path new_path files TooLong (codes "standard input") (inr refl) (HasReason fails ⊥ files) (HasReason (IsUnreadable fails files) ⊥ files) r pair.2 over))
 
 module _ (fails fails_now : List ℕ → Type 0) (left left_now : Outcomes) where
   pub input_is_read : InputIsRead fails fails_now left left_now
@@ -309,7 +399,7 @@ module _ (fails fails_now : List ℕ → Type 0) (left left_now : Outcomes) wher
       inl (asked_read root fails before.files before.input.bytes before.input.failures now.input.failures (is_input (map string_bytes devices.items)) r over not.1)
   input_is_read (Explain device json) root usr strict r before now dash over not =
       inl (asked_read root fails before.files before.input.bytes before.input.failures now.input.failures (is_dash (string_bytes device)) r over not.1)
-  input_is_read (Diff old new devices json) root usr strict r before now dash over not =
+  input_is_read (Diff old new devices json stat) root usr strict r before now dash over not =
       diffed_read (map string_bytes devices.items) (string_bytes old) (string_bytes new) fails before.files before.input.bytes before.input.failures now.input.failures r over not.1
   input_is_read task root usr strict r before now dash over not = absurd cc
 
@@ -322,7 +412,7 @@ module _ (fails fails_now : List ℕ → Type 0) (left left_now : Outcomes) wher
       files_long fails before.files before.input.bytes before.input.failures now.input.failures paths.items dash _ refl r over not.1
   input_is_long (Test paths database json) root usr strict r before now kind dash over not =
       tested_long (map string_bytes paths.items) (option_map string_bytes database) root fails before.files before.input.bytes before.input.failures now.input.failures r over not.1
-  input_is_long (Diff old new devices json) root usr strict r before now kind dash over not =
+  input_is_long (Diff old new devices json stat) root usr strict r before now kind dash over not =
       diffed_long (map string_bytes devices.items) (string_bytes old) (string_bytes new) fails before.files before.input.bytes before.input.failures now.input.failures r over not.1
   input_is_long task root usr strict r before now kind dash over not = absurd kind
 

@@ -9,6 +9,7 @@ use Rattle.clap.specs.declared.error.kind.ErrorKind.TheVariants.{DisplayHelp, Di
 use Rattle.hwdb_spec.specs.Jobs.{IsJobOf, IsTask}
 use Rattle.hwdb_spec.specs.CommandLine.{hwdb_app}
 use Rattle.hwdb_spec.specs.WordFaults.{IsToldOfOne}
+use Rattle.hwdb_spec.specs.Words.{AskFor}
 use Rattle.hwdb_spec.specs.declared.job.Job.{Job}
 use Rattle.hwdb_spec.specs.declared.job.Task.{Task}
 use Rattle.hwdb_spec.specs.declared.job.Task.TheVariants.{Ask, Check, Device, Diff, Dump, Explain, List as ListHits, Near, Query, Status, Test, Update, Verify}
@@ -22,15 +23,15 @@ use Rattle.hwdb_spec.specs.declared.errors.ToolError.TheVariants.{Read, Write, T
 use Rattle.hwdb_spec.specs.Refusals.{HasReason, IsUnentered}
 use Rattle.hwdb_spec.specs.declared.refusals.Refusal.{Refusal}
 use Rattle.hwdb_spec.specs.declared.refusals.Refusal.TheVariants.{At, InWords, NoDatabase, Plain}
-use Rattle.hwdb_tool.specs.OneOutcome.{ListingsGiveOneChoice, ListingsGiveOneReading, scene_of}
-use Rattle.hwdb_tool.specs.OneRefusal.{DoneJobEndsSo, IsCovered, IsOfWhatIsRead, JobIsNotTold, JobsEndAlike, RootIsEntered, scene_then}
-use Rattle.hwdb_spec.specs.Program.{asks_text, root_of}
-use Rattle.hwdb_spec.specs.TaskRefusals.{refused_status}
+use Rattle.hwdb_tool.specs.OneOutcome.{IsOneInput, ListingsGiveOneChoice, ListingsGiveOneReading, Scene, scene_of}
+use Rattle.hwdb_tool.specs.OneRefusal.{IsCovered, IsOfReading, IsOfWhatIsRead, IsOneEnd, JobIsNotTold, RootIsEntered}
+use Rattle.hwdb_spec.specs.Program.{IsTaskDone, root_of}
+use Rattle.hwdb_spec.specs.TaskRefusals.{IsNotDone, refused_status}
 use Rattle.hwdb_spec.specs.Undone.{IsUnwritable}
 use Rattle.hwdb_tool.proofs.DatabaseErrorLemmas.{OneHeader, OneTree, Undumped, Unlisted, Unverified}
 use Rattle.hwdb_tool.proofs.AskErrorLemmas.{OneForm, Unasked}
 use Rattle.hwdb_tool.proofs.ComparedErrorLemmas.{Undiffed}
-use Rattle.hwdb_tool.proofs.JobLemmas.{apart, both_words, cut_last, is_named, one_value, one_values, plainly_done, plainly_not_done, same_asks, same_root, word_of}
+use Rattle.hwdb_tool.proofs.JobLemmas.{apart, both_words, cut_last, is_named, one_value, one_values, same_root, word_of}
 use Rattle.hwdb_tool.proofs.TrialErrorLemmas.{Untested}
 use Rattle.hwdb_tool.proofs.TaskErrorLemmas.{IsLeftThen, OneStand, Unchecked, Uncompared, Why, end_of, not_both_ends, said_first, why}
 
@@ -42,7 +43,7 @@ module _ (name : Text) (inner : List Row) where
   same_kind (Explain device1 json1) (Explain device2 json2) t u kind =
       subst (λ (d : List ℕ). is_input (d ∷ []) ≡ false) (sym (one_value (first_of (codes "MODALIAS") inner) _ _ u.2 t.2)) kind
   same_kind (ListHits after1 limit1 device1 json1) (ListHits after2 limit2 device2 json2) t u kind = tt
-  same_kind (Diff old1 new1 devices1 json1) (Diff old2 new2 devices2 json2) t u kind = tt
+  same_kind (Diff old1 new1 devices1 json1 stat1) (Diff old2 new2 devices2 json2 stat2) t u kind = tt
   same_kind (Verify database1) (Verify database2) t u kind = tt
   same_kind (Dump database1) (Dump database2) t u kind = tt
   same_kind (Status json1 false) (Status json2 false) t u kind = tt
@@ -65,7 +66,7 @@ module _ (name : Text) (inner : List Row) where
   same_status (Query devices1 json1) (Query devices2 json2) t u = refl
   same_status (Explain device1 json1) (Explain device2 json2) t u = refl
   same_status (ListHits after1 limit1 device1 json1) (ListHits after2 limit2 device2 json2) t u = refl
-  same_status (Diff old1 new1 devices1 json1) (Diff old2 new2 devices2 json2) t u = refl
+  same_status (Diff old1 new1 devices1 json1 stat1) (Diff old2 new2 devices2 json2 stat2) t u = refl
   same_status (Verify database1) (Verify database2) t u = refl
   same_status (Dump database1) (Dump database2) t u = refl
   same_status (Status json1 false) (Status json2 false) t u = refl
@@ -90,10 +91,10 @@ module _ (name : Text) (inner : List Row) where
     same_why (Explain device1 json1) (Explain device2 json2) t u is = is
     same_why (ListHits after1 limit1 device1 json1) (ListHits after2 limit2 device2 json2) t u is =
         subst (λ (a : Option (List ℕ)). Unlisted header fails U root files a r) (u.2 ∙ sym t.2) is
-    same_why (Diff old1 new1 devices1 json1) (Diff old2 new2 devices2 json2) t u is =
-        subst (λ (p : List ℕ). Undiffed (map string_bytes devices1.items) p (string_bytes new1) input files r) (one_value (first_of (codes "OLD") inner) _ _ u.3 t.3)
-        (subst (λ (p : List ℕ). Undiffed (map string_bytes devices1.items) (string_bytes old2) p input files r) (one_value (first_of (codes "NEW") inner) _ _ u.4 t.4)
-        (subst (λ (ds : List (List ℕ)). Undiffed ds (string_bytes old2) (string_bytes new2) input files r) (u.2 ∙ sym t.2) is))
+    same_why (Diff old1 new1 devices1 json1 stat1) (Diff old2 new2 devices2 json2 stat2) t u is =
+        subst (λ (p : List ℕ). Undiffed (map string_bytes devices1.items) p (string_bytes new1) input files r) (one_value (first_of (codes "OLD") inner) _ _ u.4 t.4)
+        (subst (λ (p : List ℕ). Undiffed (map string_bytes devices1.items) (string_bytes old2) p input files r) (one_value (first_of (codes "NEW") inner) _ _ u.5 t.5)
+        (subst (λ (ds : List (List ℕ)). Undiffed ds (string_bytes old2) (string_bytes new2) input files r) (u.3 ∙ sym t.3) is))
     same_why (Verify database1) (Verify database2) t u is = subst (λ (d : Option (List ℕ)). Unverified header fails U root files d r) (u.1 ∙ sym t.1) is
     same_why (Dump database1) (Dump database2) t u is = subst (λ (d : Option (List ℕ)). Undumped header fails U root files d r) (u.1 ∙ sym t.1) is
     same_why (Status json1 false) (Status json2 false) t u is = is
@@ -123,7 +124,7 @@ module _ (name : Text) (inner : List Row) where
   same_said header tree root usr files (Query devices1 json1) (Query devices2 json2) t u = refl
   same_said header tree root usr files (Explain device1 json1) (Explain device2 json2) t u = refl
   same_said header tree root usr files (ListHits after1 limit1 device1 json1) (ListHits after2 limit2 device2 json2) t u = refl
-  same_said header tree root usr files (Diff old1 new1 devices1 json1) (Diff old2 new2 devices2 json2) t u = refl
+  same_said header tree root usr files (Diff old1 new1 devices1 json1 stat1) (Diff old2 new2 devices2 json2 stat2) t u = refl
   same_said header tree root usr files (Verify database1) (Verify database2) t u = refl
   same_said header tree root usr files (Dump database1) (Dump database2) t u = refl
   same_said header tree root usr files (Status json1 false) (Status json2 false) t u = refl
@@ -206,37 +207,46 @@ pub root_is_entered : (fails fails_now : List ℕ → Type 0) (left left_now : O
 root_is_entered fails fails_now left left_now = λ words status before now refused never of.
     entered fails before.files refused.unread.0 never refused.refusal refused.unread.3 refused.reason of
 
-module _ (header : OneHeader) (tree : OneTree) (choice : ListingsGiveOneChoice) (reading : ListingsGiveOneReading) (stand : OneStand) (form : OneForm) (fails fails_now fails2 fails2_now : List ℕ → Type 0) (left left_now left2 left2_now : Outcomes) where
-  pub one_job_error : JobsEndAlike IsCovered fails fails_now fails2 fails2_now left left_now left2 left2_now
-  one_job_error = λ words status status2 before now before2 now2 input one two kind none is is2.
-      let top = matches_of hwdb_app words in
-      let found = subcommand_of hwdb_app words in
-      let j = one.job in
-      let k = two.job in
-      let then_ = scene_then one.err_then now in
-      let then2 = scene_then two.err_then now2 in
-      let kind2 = kind_of_job top found j k one.asked two.asked kind in
-      let first = why header tree fails fails_now left left_now (root_of j) j.usr j.strict one.refusal before then_ is.of is.told is.listed input.err.bytes input.err.of_one stand j.task kind is.never is.named (plainly_not_done (asks_text j) j.task (root_of j) j.usr j.strict (scene_of fails left before) (scene_of fails_now left_now then_) one.refusal none one.refused) in
-      let second = why header tree fails2 fails2_now left2 left2_now (root_of k) k.usr k.strict two.refusal before2 then2 is2.of is2.told is2.listed input.err.bytes input.err.of_two stand k.task kind2 is2.never is2.named (plainly_not_done (asks_text k) k.task (root_of k) k.usr k.strict (scene_of fails2 left2 before2) (scene_of fails2_now left2_now then2) two.refusal (same_asks top found j k one.asked two.asked ∙ none) two.refused) in
-      let U2 = IsUnwritable (database_folder k.usr (root_of k)) before2.files before2.failures then2.failures in (
-        one.says ∙ status_of_job top found j k one.asked two.asked ∙ sym two.says,
-        end_of header tree choice reading stand form fails fails2 (IsUnwritable (database_folder j.usr (root_of j)) before.files before.failures then_.failures) U2 (root_of j) one.refusal two.refusal before then_ before2 then2 (said_first header tree j.task (root_of j) j.usr before.files) input j.task kind first.0
-            (why_of_job top header tree fails2 U2 before2.input.bytes before2.files two.refusal found j k one.asked two.asked second.0) first.1
-            (subst (λ (t : List ℕ). IsLeftThen header tree input.err.bytes t before2 then2)
-            (ap (λ (f : Contents). said_first header tree k.task (root_of k) k.usr f) input.files ∙ said_of_job top header tree before.files found j k one.asked two.asked) second.1),
-      )
+-- ---- the tasks of two jobs that the same words ask for
+-- they end alike over one input
+abbrev pub JobTasksEndAlike : (Kind : Task → Type 0) (fails fails_now fails2 fails2_now : (path : List ℕ) → Type 0) (left left_now left2 left2_now : Outcomes) → Type 0
+JobTasksEndAlike Kind fails fails_now fails2 fails2_now left left_now left2 left2_now =
+    (words : List (List ℕ)) (before now before2 now2 : Scene) (j k : Job) (r r2 : Refusal) → AskFor words j → AskFor words k → IsOneInput before before2 → Kind j.task
+    → IsOfReading fails j.task (root_of j) before now r → IsOfReading fails2 k.task (root_of k) before2 now2 r2
+    → IsNotDone j.task (root_of j) j.usr j.strict (scene_of fails left before) (scene_of fails_now left_now now) r
+    → IsNotDone k.task (root_of k) k.usr k.strict (scene_of fails2 left2 before2) (scene_of fails2_now left2_now now2) r2
+    → IsOneEnd r r2 now now2
 
-  pub no_job_error : DoneJobEndsSo IsCovered fails fails_now fails2 fails2_now left left_now left2 left2_now
-  no_job_error = λ words status status2 before now before2 now2 input done refused kind none is.
+-- one isn't done that may end so
+abbrev pub DoneJobTaskEndsSo : (Kind : Task → Type 0) (fails fails_now fails2 fails2_now : (path : List ℕ) → Type 0) (left left_now left2 left2_now : Outcomes) → Type 0
+DoneJobTaskEndsSo Kind fails fails_now fails2 fails2_now left left_now left2 left2_now =
+    (words : List (List ℕ)) (status : ℕ) (before now before2 now2 : Scene) (j k : Job) (r : Refusal) → AskFor words j → AskFor words k → IsOneInput before before2 → Kind j.task
+    → IsOfReading fails2 k.task (root_of k) before2 now2 r
+    → IsTaskDone j.task (root_of j) j.usr j.strict status (scene_of fails left before) (scene_of fails_now left_now now)
+    → IsNotDone k.task (root_of k) k.usr k.strict (scene_of fails2 left2 before2) (scene_of fails2_now left2_now now2) r → ⊥
+
+module _ (header : OneHeader) (tree : OneTree) (choice : ListingsGiveOneChoice) (reading : ListingsGiveOneReading) (stand : OneStand) (form : OneForm) (fails fails_now fails2 fails2_now : List ℕ → Type 0) (left left_now left2 left2_now : Outcomes) where
+  pub one_job_error : JobTasksEndAlike IsCovered fails fails_now fails2 fails2_now left left_now left2 left2_now
+  one_job_error = λ words before now before2 now2 j k r r2 asked asked2 input kind is is2 not not2.
       let top = matches_of hwdb_app words in
       let found = subcommand_of hwdb_app words in
-      let j = done.job in
-      let k = refused.job in
-      let then2 = scene_then refused.err_then now2 in
-      let second = why header tree fails2 fails2_now left2 left2_now (root_of k) k.usr k.strict refused.refusal before2 then2 is.of is.told is.listed input.err.bytes input.err.of_two stand k.task (kind_of_job top found j k done.asked refused.asked kind) is.never is.named (plainly_not_done (asks_text k) k.task (root_of k) k.usr k.strict (scene_of fails2 left2 before2) (scene_of fails2_now left2_now then2) refused.refusal (same_asks top found j k done.asked refused.asked ∙ none) refused.refused) in
-      let U2 = IsUnwritable (database_folder k.usr (root_of k)) before2.files before2.failures then2.failures in
+      let kind2 = kind_of_job top found j k asked asked2 kind in
+      let first = why header tree fails fails_now left left_now (root_of j) j.usr j.strict r before now is.of is.told is.listed input.err.bytes input.err.of_one stand j.task kind is.never is.named not in
+      let second = why header tree fails2 fails2_now left2 left2_now (root_of k) k.usr k.strict r2 before2 now2 is2.of is2.told is2.listed input.err.bytes input.err.of_two stand k.task kind2 is2.never is2.named not2 in
+      let U2 = IsUnwritable (database_folder k.usr (root_of k)) before2.files before2.failures now2.failures in
+      end_of header tree choice reading stand form fails fails2 (IsUnwritable (database_folder j.usr (root_of j)) before.files before.failures now.failures) U2 (root_of j) r r2 before now before2 now2 (said_first header tree j.task (root_of j) j.usr before.files) input j.task kind first.0
+      (why_of_job top header tree fails2 U2 before2.input.bytes before2.files r2 found j k asked asked2 second.0) first.1
+      (subst (λ (t : List ℕ). IsLeftThen header tree input.err.bytes t before2 now2)
+      (ap (λ (f : Contents). said_first header tree k.task (root_of k) k.usr f) input.files ∙ said_of_job top header tree before.files found j k asked asked2) second.1)
+
+  pub no_job_error : DoneJobTaskEndsSo IsCovered fails fails_now fails2 fails2_now left left_now left2 left2_now
+  no_job_error = λ words status before now before2 now2 j k r asked asked2 input kind is done not.
+      let top = matches_of hwdb_app words in
+      let found = subcommand_of hwdb_app words in
+      let second = why header tree fails2 fails2_now left2 left2_now (root_of k) k.usr k.strict r before2 now2 is.of is.told is.listed input.err.bytes input.err.of_two stand k.task (kind_of_job top found j k asked asked2 kind) is.never is.named not in
+      let U2 = IsUnwritable (database_folder k.usr (root_of k)) before2.files before2.failures now2.failures in
       let told = input.input.bytes in
-      not_both_ends header tree choice reading stand form fails2 U2 (root_of j) j.usr j.strict status refused.refusal (scene_of fails left before) (scene_of fails_now left_now now) told input.input.of_one j.task kind (plainly_done (asks_text j) j.task (root_of j) j.usr j.strict status (scene_of fails left before) (scene_of fails_now left_now now) none done.done)
-      (subst (λ (f : Contents). Why header tree fails2 U2 (Some told) f j.task (root_of j) refused.refusal) input.files
-      (subst (λ (i : Option (List ℕ)). Why header tree fails2 U2 i before2.files j.task (root_of j) refused.refusal) input.input.of_two
-      (why_of_job top header tree fails2 U2 before2.input.bytes before2.files refused.refusal found j k done.asked refused.asked second.0)))
+      not_both_ends header tree choice reading stand form fails2 U2 (root_of j) j.usr j.strict status r (scene_of fails left before) (scene_of fails_now left_now now) told input.input.of_one j.task kind done
+      (subst (λ (f : Contents). Why header tree fails2 U2 (Some told) f j.task (root_of j) r) input.files
+      (subst (λ (i : Option (List ℕ)). Why header tree fails2 U2 i before2.files j.task (root_of j) r) input.input.of_two
+      (why_of_job top header tree fails2 U2 before2.input.bytes before2.files r found j k asked asked2 second.0)))

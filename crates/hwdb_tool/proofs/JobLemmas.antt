@@ -1,5 +1,5 @@
 -- Words ask for one job.
-use Rattle.std.proofs.Common.{◌≡◌, ◌∙◌, ◌&&◌, ◌==◌, if◌then◌else◌, length, not, ap, refl, sym, subst, Bool, true, false, true≢false, List, [], ◌∷◌, ◌++◌, map, ℕ, Option, Some, None, string_bytes, ⊎_elim}
+use Rattle.std.proofs.Common.{◌≡◌, ◌∙◌, ◌&&◌, ◌==◌, if◌then◌else◌, length, not, ap, refl, sym, subst, Bool, true, false, true≢false, List, [], ◌∷◌, ◌++◌, filter, map, ℕ, Option, Some, None, string_bytes, ⊎_elim}
 use Rattle.std.proofs.lemmas.List.{length-map}
 use Rattle.std.specs.Prelude.{codes, is_some, option_map}
 use Rattle.std.specs.Option.{option_map_or}
@@ -15,7 +15,11 @@ use Rattle.hwdb_spec.specs.declared.job.Job.{Job}
 use Rattle.hwdb_spec.specs.declared.job.Task.{Task}
 use Rattle.hwdb_spec.specs.declared.job.Task.TheVariants.{Ask, Check, Device, Diff, Dump, Explain, List as ListHits, Near, Query, Status, Test, Update, Verify}
 use Rattle.hwdb_spec.specs.Outputs.{Texts}
-use Rattle.hwdb_spec.specs.Runs.{AreKept, OnOut, Printed, World}
+use Rattle.std.specs.Io.KnownBytes.{Appends}
+use Rattle.hwdb_spec.specs.Answers.{is_wanted}
+use Rattle.hwdb_spec.specs.Assignment.{Assignment}
+use Rattle.hwdb_spec.specs.Replacements.{masked_files, masked_form, replaced_form, replacements, replacements_for, replacements_form}
+use Rattle.hwdb_spec.specs.Runs.{AreKept, HasTaken, OnOut, Printed, Told, World}
 use Rattle.hwdb_spec.specs.Store.{Contents, Outcomes}
 use Rattle.hwdb_spec.specs.CheckedFiles.{AreCheckedFiles, IsChecked}
 use Rattle.hwdb_spec.specs.Asked.{IsAnswered, IsListFrom, IsDumped, IsPrinted}
@@ -29,19 +33,20 @@ use Rattle.hwdb_spec.specs.declared.devices.DeviceForm.{DeviceForm}
 use Rattle.hwdb_spec.specs.Queries.{AreAnswered, IfNamed, IsQuiet}
 use Rattle.hwdb_spec.specs.declared.form.Form.{Form}
 use Rattle.hwdb_spec.specs.declared.form.Form.TheVariants as form
-use Rattle.hwdb_spec.specs.Given.{is_input}
-use Rattle.hwdb_spec.specs.Program.{IsDeviceAnswer, IsDone, IsDoneFrom, IsTaskDone, asks_text, root_of}
+use Rattle.hwdb_spec.specs.Given.{is_dash, is_input}
+use Rattle.hwdb_spec.specs.Program.{IsAnswerOf, IsDeviceAnswer, IsDone, IsDoneFrom, IsTaskDone, asks_text, root_of, streams}
 use Rattle.hwdb_spec.specs.Folders.{Source}
-use Rattle.hwdb_spec.specs.OverText.{misuse_text, takes_text, text_if, with_database, world_over}
+use Rattle.hwdb_spec.specs.OverText.{misuse_text, said_besides, takes_text, text_besides, text_if, with_database, with_out, world_over}
 use Rattle.hwdb_spec.specs.Store.{Same}
 use Rattle.hwdb_spec.specs.System.{database_folder}
 use Rattle.hwdb_spec.specs.TaskRefusals.{IsNotDone, IsNotDoneFrom}
 use Rattle.hwdb_spec.specs.Tree.{Map, map_of_files}
 use Rattle.hwdb_spec.specs.declared.refusals.Refusal.{Refusal}
 use Rattle.hwdb_spec.specs.Written.{IsWritten}
-use Rattle.hwdb_tool.proofs.OutcomeLemmas.{one_kept, one_map}
+use Rattle.hwdb_tool.proofs.OutcomeLemmas.{one_assignments, one_kept, one_map, one_taken}
+use Rattle.hwdb_tool.proofs.StatusLemmas.{all_masked}
 use Rattle.hwdb_spec.specs.Tested.{IsTested}
-use Rattle.hwdb_tool.specs.OneOutcome.{DoneIsNotTold, IsOneInput, IsOneOutcome, JobsAreOne, LeavesNothingOut, ListingsGiveOneReading, Scene, TasksAreOne, scene_of}
+use Rattle.hwdb_tool.specs.OneOutcome.{DoneIsNotTold, IsOneInput, IsOneOutcome, IsOneReading, JobsAreOne, LeavesNothingOut, ListingsGiveOneReading, Scene, TasksAreOne, scene_of}
 
 pub one_value : (o : Option (List ℕ)) (a b : List ℕ) → Some a ≡ o → Some b ≡ o → a ≡ b
 one_value o a b one two = ap (λ (p : Option (List ℕ)). option_map_or (λ (x : List ℕ). x) p []) (one ∙ sym two)
@@ -80,7 +85,7 @@ word_of (Near files device limit json) = codes "near"
 word_of (Device path strings json pattern) = codes "device"
 word_of (Check files allowed json) = codes "check"
 word_of (Test files database json) = codes "test"
-word_of (Diff old_path new_path devices json) = codes "diff"
+word_of (Diff old_path new_path devices json stat) = codes "diff"
 word_of (Verify database) = codes "verify"
 word_of (Dump database) = codes "dump"
 word_of (Status json false) = codes "status"
@@ -163,11 +168,12 @@ module _ (name : Text) (inner : List Row) (root : List ℕ) (usr strict : Bool) 
       (subst (λ (b : Bool). OfDevice (device_form b json1 pattern1) (option_map string_bytes path2)) (u.2 ∙ sym t.2)
       (subst (λ (b : Bool). OfDevice (device_form strings2 b pattern1) (option_map string_bytes path2)) (u.3 ∙ sym t.3)
       (subst (λ (b : Bool). OfDevice (device_form strings2 json2 b) (option_map string_bytes path2)) (u.4 ∙ sym t.4) done)))
-  same_task (Diff old1 new1 devices1 json1) (Diff old2 new2 devices2 json2) t u done =
-      subst (λ (p : List ℕ). Prints (OnOut (λ text. IsDiffed json1 (map string_bytes devices1.items) p (string_bytes new1) input old text status))) (one_value (first_of (codes "OLD") inner) _ _ u.3 t.3)
-      (subst (λ (p : List ℕ). Prints (OnOut (λ text. IsDiffed json1 (map string_bytes devices1.items) (string_bytes old2) p input old text status))) (one_value (first_of (codes "NEW") inner) _ _ u.4 t.4)
-      (subst (λ (ds : List (List ℕ)). Prints (OnOut (λ text. IsDiffed json1 ds (string_bytes old2) (string_bytes new2) input old text status))) (u.2 ∙ sym t.2)
-      (subst (λ (j : Bool). Prints (OnOut (λ text. IsDiffed j (map string_bytes devices2.items) (string_bytes old2) (string_bytes new2) input old text status))) (u.1 ∙ sym t.1) done)))
+  same_task (Diff old1 new1 devices1 json1 stat1) (Diff old2 new2 devices2 json2 stat2) t u done =
+      subst (λ (p : List ℕ). Prints (OnOut (λ text. IsDiffed stat1 json1 (map string_bytes devices1.items) p (string_bytes new1) input old text status))) (one_value (first_of (codes "OLD") inner) _ _ u.4 t.4)
+      (subst (λ (p : List ℕ). Prints (OnOut (λ text. IsDiffed stat1 json1 (map string_bytes devices1.items) (string_bytes old2) p input old text status))) (one_value (first_of (codes "NEW") inner) _ _ u.5 t.5)
+      (subst (λ (ds : List (List ℕ)). Prints (OnOut (λ text. IsDiffed stat1 json1 ds (string_bytes old2) (string_bytes new2) input old text status))) (u.3 ∙ sym t.3)
+      (subst (λ (s : Bool). Prints (OnOut (λ text. IsDiffed s json1 (map string_bytes devices2.items) (string_bytes old2) (string_bytes new2) input old text status))) (u.2 ∙ sym t.2)
+      (subst (λ (j : Bool). Prints (OnOut (λ text. IsDiffed stat2 j (map string_bytes devices2.items) (string_bytes old2) (string_bytes new2) input old text status))) (u.1 ∙ sym t.1) done))))
   same_task (Verify database1) (Verify database2) t u done =
       subst (λ (d : Option (List ℕ)). Quietly (IsPrinted d root IsSummary old)) (u.1 ∙ sym t.1) done
   same_task (Dump database1) (Dump database2) t u done =
@@ -235,7 +241,7 @@ one_length : {X : Type 0} (f : X → List ℕ) (xs ys : List X) → map f xs ≡
 one_length f xs ys same = sym (length-map xs f) ∙ ap length same ∙ length-map ys f
 
 -- what doesn't fit it is said of the words
-same_misuse : (name : Text) (inner : List Row) (t u : Task) → IsTask name inner t → IsTask name inner u → takes_text t ≡ true → takes_text u ≡ true → misuse_text u ≡ misuse_text t
+pub same_misuse : (name : Text) (inner : List Row) (t u : Task) → IsTask name inner t → IsTask name inner u → takes_text t ≡ true → takes_text u ≡ true → misuse_text u ≡ misuse_text t
 same_misuse name inner (Query devices1 json1) (Query devices2 json2) t u takes takes2 = refl
 same_misuse name inner (Explain device1 json1) (Explain device2 json2) t u takes takes2 = refl
 same_misuse name inner (ListHits after1 limit1 device1 json1) (ListHits after2 limit2 device2 json2) t u takes takes2 = refl
@@ -253,16 +259,41 @@ same_misuse name inner (Dump database1) (Dump database2) t u takes takes2 =
 same_misuse name inner (Update v1 k1) task2 t u takes takes2 = both_words takes refl
 same_misuse name inner (Ask file1 device1) task2 t u takes takes2 = both_words takes refl
 same_misuse name inner (Check files1 allowed1 json1) task2 t u takes takes2 = both_words takes refl
-same_misuse name inner (Diff old1 new1 devices1 json1) task2 t u takes takes2 = both_words takes refl
+same_misuse name inner (Diff old1 new1 devices1 json1 stat1) task2 t u takes takes2 = both_words takes refl
 same_misuse name inner (Status json1 quiet1) task2 t u takes takes2 = both_words takes refl
 same_misuse name inner task1 (Update v2 k2) t u takes takes2 = both_words takes2 refl
 same_misuse name inner task1 (Ask file2 device2) t u takes takes2 = both_words takes2 refl
 same_misuse name inner task1 (Check files2 allowed2 json2) t u takes takes2 = both_words takes2 refl
-same_misuse name inner task1 (Diff old2 new2 devices2 json2) t u takes takes2 = both_words takes2 refl
+same_misuse name inner task1 (Diff old2 new2 devices2 json2 stat2) t u takes takes2 = both_words takes2 refl
 same_misuse name inner task1 (Status json2 quiet2) t u takes takes2 = both_words takes2 refl
 same_misuse name inner task1 task2 t u takes takes2 = apart (word_of task1) (word_of task2) refl (sym (is_named name inner task1 t) ∙ is_named name inner task2 u)
 
-takes_of : (text : Bool) (task : Task) → (text && takes_text task) ≡ true → takes_text task ≡ true
+-- what is said besides is of the words, too
+same_besides : (name : Text) (inner : List Row) (t u : Task) → IsTask name inner t → IsTask name inner u → takes_text t ≡ true → takes_text u ≡ true
+    → (etc usr : List Source) → text_besides u etc usr ≡ text_besides t etc usr
+same_besides name inner (Query devices1 json1) (Query devices2 json2) t u takes takes2 etc usr = refl
+same_besides name inner (Explain device1 json1) (Explain device2 json2) t u takes takes2 etc usr =
+    ap (λ (d : List ℕ). said_besides (is_dash d) (replacements_form json2 d etc usr)) (one_value (first_of (codes "MODALIAS") inner) _ _ u.2 t.2)
+    ∙ ap (λ (j : Bool). said_besides (is_dash (string_bytes device1)) (replacements_form j (string_bytes device1) etc usr)) (u.1 ∙ sym t.1)
+same_besides name inner (ListHits after1 limit1 device1 json1) (ListHits after2 limit2 device2 json2) t u takes takes2 etc usr = refl
+same_besides name inner (Near files1 device1 limit1 json1) (Near files2 device2 limit2 json2) t u takes takes2 etc usr = refl
+same_besides name inner (Device path1 strings1 json1 pattern1) (Device path2 strings2 json2 pattern2) t u takes takes2 etc usr = refl
+same_besides name inner (Test files1 database1 json1) (Test files2 database2 json2) t u takes takes2 etc usr = refl
+same_besides name inner (Verify database1) (Verify database2) t u takes takes2 etc usr = refl
+same_besides name inner (Dump database1) (Dump database2) t u takes takes2 etc usr = refl
+same_besides name inner (Update v1 k1) task2 t u takes takes2 etc usr = both_words takes refl
+same_besides name inner (Ask file1 device1) task2 t u takes takes2 etc usr = both_words takes refl
+same_besides name inner (Check files1 allowed1 json1) task2 t u takes takes2 etc usr = both_words takes refl
+same_besides name inner (Diff old1 new1 devices1 json1 stat1) task2 t u takes takes2 etc usr = both_words takes refl
+same_besides name inner (Status json1 quiet1) task2 t u takes takes2 etc usr = both_words takes refl
+same_besides name inner task1 (Update v2 k2) t u takes takes2 etc usr = both_words takes2 refl
+same_besides name inner task1 (Ask file2 device2) t u takes takes2 etc usr = both_words takes2 refl
+same_besides name inner task1 (Check files2 allowed2 json2) t u takes takes2 etc usr = both_words takes2 refl
+same_besides name inner task1 (Diff old2 new2 devices2 json2 stat2) t u takes takes2 etc usr = both_words takes2 refl
+same_besides name inner task1 (Status json2 quiet2) t u takes takes2 etc usr = both_words takes2 refl
+same_besides name inner task1 task2 t u takes takes2 etc usr = apart (word_of task1) (word_of task2) refl (sym (is_named name inner task1 t) ∙ is_named name inner task2 u)
+
+pub takes_of : (text : Bool) (task : Task) → (text && takes_text task) ≡ true → takes_text task ≡ true
 takes_of true task e = e
 takes_of false task e = both_words e refl
 
@@ -281,7 +312,9 @@ module _ (status : ℕ) (before now : World) where
         of_usr = done.of_usr;
         made = done.made;
         is_made = done.is_made;
-        done = same_task name inner root usr strict status (world_over root done.made before) (world_over root done.made now) t u one two done.done;
+        out_then = done.out_then;
+        done = same_task name inner root usr strict status (world_over root done.made before) (with_out done.out_then (world_over root done.made now)) t u one two done.done;
+        besides = subst (λ (text : List ℕ). HasTaken text done.out_then now.out) (same_besides name inner t u one two both.0 both.1 done.of_etc done.of_usr) done.besides;
         kept = done.kept;
       }
 
@@ -307,24 +340,58 @@ one_made one_reading form root files etc usr etc2 usr2 made made2 one two =
     let reading = one_reading root files etc usr etc2 usr2 one.in_etc one.in_usr two.in_etc two.in_usr in
     form (map_of_files etc usr) made made2 one.written (subst (λ m. IsWritten m made2) (sym (one_map etc usr etc2 usr2 reading)) two.written)
 
+-- what is said besides of one reading
+one_besides : (task : Task) (etc usr etc2 usr2 : List Source) → IsOneReading etc usr etc2 usr2 → text_besides task etc usr ≡ text_besides task etc2 usr2
+one_besides (Explain device json) etc usr etc2 usr2 one =
+    ap (λ (all : List Assignment). said_besides (is_dash (string_bytes device)) (replaced_form json (string_bytes device) (replacements (filter (is_wanted (string_bytes device)) all)) ++ masked_form json (masked_files etc usr)))
+    (one_assignments etc usr etc2 usr2 one)
+    ∙ ap (λ (paths : List (List ℕ)). said_besides (is_dash (string_bytes device)) (replaced_form json (string_bytes device) (replacements_for (string_bytes device) etc2 usr2) ++ masked_form json paths))
+    (all_masked etc usr etc2 usr2 one)
+one_besides task etc usr etc2 usr2 one = refl
+
+-- a sink that had taken something, and then a text, twice
+then_taken : (then_ now now2 : Option (List ℕ)) (text : List ℕ) → (then_ ≡ None → ⊥) → Appends then_ now text → Appends then_ now2 text → now ≡ now2
+then_taken None now now2 text some one two = absurd (some refl)
+then_taken (Some xs) now now2 text some one two = one_taken xs now now2 text text refl one two
+
+none_after : (before now : Option (List ℕ)) (bytes text : List ℕ) → Appends before now text → before ≡ Some bytes → now ≡ None → ⊥
+none_after before now bytes text took is none = subst (λ (o : Option (List ℕ)). Appends (Some bytes) o text) none (subst (λ (o : Option (List ℕ)). Appends o now text) is took)
+
+named : (from_input : Bool) (told : List ℕ) (P : Type 0) → IfNamed from_input (Some told) P → P
+named false told P is = is
+named true told P is = is
+
+-- what standard output has is known after a task that is done, if it was before
+pub out_known : (root : List ℕ) (usr strict : Bool) (status : ℕ) (before now : World) (task : Task) (told bytes : List ℕ) → takes_text task ≡ true → before.input.bytes ≡ Some told → before.out.bytes ≡ Some bytes
+    → IsTaskDone task root usr strict status before now → now.out.bytes ≡ None → ⊥
+out_known root usr strict status before now (Update verbose skip) told bytes takes tells had done = both_words takes refl
+out_known root usr strict status before now (Device path strings json pattern) told bytes takes tells had done = none_after before.out.bytes now.out.bytes bytes done.0.texts.out done.0.out.whole had
+out_known root usr strict status before now task told bytes takes tells had done =
+    let printed = named (streams task) told _ (subst (λ (i : Option (List ℕ)). IfNamed (streams task) i (Printed (IsAnswerOf task root strict before.input.bytes before.files.seen status) before.err now.err before.out now.out)) tells done.0) in
+    none_after before.out.bytes now.out.bytes bytes printed.texts.out printed.out.whole had
+
 -- a scene with that database
-abbrev over_scene : (root made : List ℕ) → Scene → Scene
+abbrev pub over_scene : (root made : List ℕ) → Scene → Scene
 over_scene root made s = record { files = with_database root made s.files; failures = s.failures; input = s.input; out = s.out; err = s.err; devices = s.devices }
+
+-- the same, with this on standard output
+abbrev pub scene_out : (out : Told) → Scene → Scene
+scene_out out s = record { files = s.files; failures = s.failures; input = s.input; out = out; err = s.err; devices = s.devices }
 
 module _ (one_reading : ListingsGiveOneReading) (form : OneForm) (fails fails_now fails2 fails2_now : List ℕ → Type 0) (left left_now left2 left2_now : Outcomes)
     (tasks : TasksAreOne fails fails_now fails2 fails2_now left left_now left2 left2_now) where
   one_from : (over : Bool) (task : Task) (root : List ℕ) (usr strict : Bool) (status status2 : ℕ) (before now before2 now2 : Scene)
-      → IsOneInput before before2 → LeavesNothingOut fails task → LeavesNothingOut fails2 task
+      → IsOneInput before before2 → LeavesNothingOut fails task → LeavesNothingOut fails2 task → (over ≡ true → takes_text task ≡ true)
       → IsDoneFrom over task root usr strict status (scene_of fails left before) (scene_of fails_now left_now now)
       → IsDoneFrom over task root usr strict status2 (scene_of fails2 left2 before2) (scene_of fails2_now left2_now now2)
       → IsOneOutcome (database_folder usr root) status status2 now now2
-  one_from false task root usr strict status status2 before now before2 now2 input nothing nothing2 one two =
+  one_from false task root usr strict status status2 before now before2 now2 input nothing nothing2 takes one two =
       tasks task root usr strict status status2 before now before2 now2 input nothing nothing2 one two
-  one_from true task root usr strict status status2 before now before2 now2 input nothing nothing2 one two =
+  one_from true task root usr strict status status2 before now before2 now2 input nothing nothing2 takes one two =
       let m = one.made in
       let second = subst (λ (f : Contents). IsMade root f two.of_etc two.of_usr two.made) input.files two.is_made in
       let same : two.made ≡ m = sym (one_made one_reading form root before.files one.of_etc one.of_usr two.of_etc two.of_usr m two.made one.is_made second) in
-      let done2 = subst (λ (d : List ℕ). IsTaskDone task root usr strict status2 (world_over root d (scene_of fails2 left2 before2)) (world_over root d (scene_of fails2_now left2_now now2))) same two.done in
+      let done2 = subst (λ (d : List ℕ). IsTaskDone task root usr strict status2 (world_over root d (scene_of fails2 left2 before2)) (with_out two.out_then (world_over root d (scene_of fails2_now left2_now now2)))) same two.done in
       let over_input : IsOneInput (over_scene root m before) (over_scene root m before2) = record {
         files = ap (with_database root m) input.files;
         input = input.input;
@@ -332,17 +399,23 @@ module _ (one_reading : ListingsGiveOneReading) (form : OneForm) (fails fails_no
         err = input.err;
         devices = input.devices;
       } in
-      let out = tasks task root usr strict status status2 (over_scene root m before) (over_scene root m now) (over_scene root m before2) (over_scene root m now2) over_input nothing nothing2 one.done done2 in
+      let out = tasks task root usr strict status status2 (over_scene root m before) (over_scene root m (scene_out one.out_then now)) (over_scene root m before2) (over_scene root m (scene_out two.out_then now2)) over_input nothing nothing2 one.done done2 in
+      let text = text_besides task one.of_etc one.of_usr in
+      let texts : text ≡ text_besides task two.of_etc two.of_usr =
+      one_besides task one.of_etc one.of_usr two.of_etc two.of_usr (one_reading root before.files one.of_etc one.of_usr two.of_etc two.of_usr one.is_made.in_etc one.is_made.in_usr second.in_etc second.in_usr) in
+      let took2 = subst (λ (o : Option (List ℕ)). Appends o now2.out.bytes text) (sym out.one_out) (subst (λ (t : List ℕ). Appends two.out_then.bytes now2.out.bytes t) (sym texts) two.besides.whole) in
       record {
         one_status = out.one_status;
         one_files = one_kept (database_folder usr root) before.files now.files now2.files one.kept.same (subst (λ (f : Contents). Same f now2.files) input.files two.kept.same);
         one_err = out.one_err;
-        one_out = out.one_out;
+        one_out = then_taken one.out_then.bytes now.out.bytes now2.out.bytes text
+            (out_known root usr strict status (scene_of fails left (over_scene root m before)) (scene_of fails_now left_now (over_scene root m (scene_out one.out_then now))) task input.input.bytes input.out.bytes (takes refl) input.input.of_one input.out.of_one one.done)
+            one.besides.whole took2;
       }
 
   pub one_job : JobsAreOne fails fails_now fails2 fails2_now left left_now left2 left2_now
   one_job = λ words status status2 before now before2 now2 input one two nothing nothing2.
-      one_from (asks_text one.job) one.job.task (root_of one.job) one.job.usr one.job.strict status status2 before now before2 now2 input nothing nothing2 one.done
+      one_from (asks_text one.job) one.job.task (root_of one.job) one.job.usr one.job.strict status status2 before now before2 now2 input nothing nothing2 (takes_of one.job.text one.job.task) one.done
       (same_job status2 (scene_of fails2 left2 before2) (scene_of fails2_now left2_now now2) (matches_of hwdb_app words) (subcommand_of hwdb_app words) one.job two.job one.asked two.asked two.done)
 
 pub not_told : (fails fails_now fails2 fails2_now : List ℕ → Type 0) (left left_now left2 left2_now : Outcomes) → DoneIsNotTold fails fails_now fails2 fails2_now left left_now left2 left2_now

@@ -1,13 +1,23 @@
 -- What `status` says is one, and what it refuses.
-use Rattle.std.proofs.Common.{◌≡◌, ◌∙◌, ◌++◌, ◌∷◌, [], ap, inl, refl, sym, subst, Bool, true, false, List, flat_map, map, ℕ, Option, Some, None}
+use Rattle.std.proofs.Common.{◌≡◌, ◌≤◌, ◌∙◌, ◌++◌, ◌∷◌, [], ap, inl, inr, refl, sym, subst, Bool, true, false, IfSome, List, flat_map, length, map, ℕ, Option, Some, None}
 use Rattle.std.proofs.Math.Path.{fun_ext}
-use Rattle.std.specs.Prelude.{codes, if◌then◌else◌}
+use Rattle.std.proofs.lemmas.List.Elements.{All-contains}
+use Rattle.std.specs.Prelude.{codes, if◌then◌else◌, is_some}
+use Rattle.std.specs.Option.{option_or}
 use Rattle.hwdb_compile.specs.Views.{ForFolders, choice_in}
 use Rattle.hwdb_compile.specs.declared.sources.ChosenFile.{ChosenFile}
 use Rattle.hwdb_spec.specs.declared.refusals.Refusal.{Refusal}
 use Rattle.hwdb_spec.specs.declared.refusals.Refusal.TheVariants.{Plain}
 use Rattle.hwdb_spec.specs.declared.errors.ToolError.TheVariants.{Memory}
-use Rattle.hwdb_spec.specs.Status.{IsMade, IsState, IsStateOf, IsStatus, Report, State, has_database, masked_of, masked_paths, report_form, report_of, stale_by, status_of}
+use Rattle.hwdb_spec.specs.Assignment.{ascending}
+use Rattle.hwdb_spec.specs.Ignored.{AreIgnoredIn, IsIgnoredIn}
+use Rattle.hwdb_spec.specs.Refusals.{IsUnreadAt}
+use Rattle.hwdb_spec.specs.Summary.{summary_of}
+use Rattle.hwdb_spec.specs.Texts.{max_file}
+use Rattle.hwdb_text.specs.Lemmas.Ascending.{ascending_holds, ascending_ordered, holds_ascending, one_list}
+use Rattle.hwdb_text.specs.Lemmas.Members.{Holds, held, holds_it}
+use Rattle.hwdb_spec.specs.Status.{Amount, IsAmount, IsAmountOf, IsMade, IsState, IsStateOf, IsStatus, Report, State, amount_of, has_database, hidden_database, ignored_paths, masked_of, masked_paths, report_form, report_of, stale_by, status_of}
+use Rattle.hwdb_spec.specs.Status.Amount.{Counted, Uncounted}
 use Rattle.hwdb_spec.specs.Status.State.{Broken, Fresh, Missing, Stale}
 use Rattle.hwdb_spec.specs.Asked.{database_path}
 use Rattle.hwdb_spec.specs.Differences.{differences}
@@ -16,13 +26,13 @@ use Rattle.hwdb_spec.specs.Format.{IsDatabase}
 use Rattle.hwdb_spec.specs.Readable.{AreAllRead}
 use Rattle.hwdb_spec.specs.Runs.{OnOut}
 use Rattle.hwdb_spec.specs.Store.{Contents}
-use Rattle.hwdb_spec.specs.System.{asked_database}
+use Rattle.hwdb_spec.specs.System.{asked_database, bytes_at, etc_files, usr_files}
 use Rattle.hwdb_spec.specs.Tree.{Map, Tree, map_of, map_of_files}
 use Rattle.hwdb_spec.specs.Written.{IsDatabaseOf, IsWritten}
 use Rattle.hwdb_tool.specs.Internal.{AreReadOf}
 use Rattle.hwdb_tool.specs.OneOutcome.{IsOneReading, ListingsGiveOneReading}
-use Rattle.hwdb_spec.specs.StatusErrors.{AreNotMade, IsAskedUnread, IsNotBeside, IsNotCompiled}
-use Rattle.hwdb_tool.specs.Statuses.{AreMadeOf, IsReported}
+use Rattle.hwdb_spec.specs.StatusErrors.{AreNotMade, IsNotBeside, IsNotCompiled}
+use Rattle.hwdb_tool.specs.Statuses.{AreIgnored, AreMadeOf, IsOneUnread, IsReported}
 use Rattle.hwdb_tool.specs.Views.{texts_in}
 use Rattle.hwdb_tool.specs.declared.answer.Answer.{Answer}
 use Rattle.hwdb_tool.proofs.OutcomeLemmas.{one_map}
@@ -49,6 +59,35 @@ module _ (tree : (bytes : List ℕ) (t u : Tree) → IsDatabase bytes t → IsDa
   one_state None s t one two = one ∙ sym two
   one_state (Some bytes) s t one two = state_of_bytes bytes s t one two
 
+-- bytes have one amount
+module _ (tree : (bytes : List ℕ) (t u : Tree) → IsDatabase bytes t → IsDatabase bytes u → t ≡ u) where
+  amount_of_bytes : (bytes : List ℕ) (a b : Amount) → IsAmountOf bytes a → IsAmountOf bytes b → a ≡ b
+  amount_of_bytes bytes (Counted f n s) (Counted f2 n2 s2) one two =
+      one.2 ∙ ap (λ (t : Tree). amount_of (summary_of (length bytes) t)) (tree bytes one.0 two.0 one.1 two.1) ∙ sym two.2
+  amount_of_bytes bytes (Counted f n s) (Uncounted s2) one two = absurd (two.0 one.0 one.1)
+  amount_of_bytes bytes (Uncounted s) (Counted f2 n2 s2) one two = absurd (one.0 two.0 two.1)
+  amount_of_bytes bytes (Uncounted s) (Uncounted s2) one two = ap (λ (n : ℕ). Uncounted n) (one.1 ∙ sym two.1)
+
+  one_amount : (held : Option (List ℕ)) (a b : Option Amount) → IsAmount held a → IsAmount held b → a ≡ b
+  one_amount None a b one two = one ∙ sym two
+  one_amount (Some bytes) None b one two = absurd one
+  one_amount (Some bytes) (Some a) None one two = absurd two
+  one_amount (Some bytes) (Some a) (Some b) one two = ap (λ (x : Amount). Some x) (amount_of_bytes bytes a b one two)
+
+-- the ignored files of a folder
+module _ (folder : List ℕ) (files : Contents) where
+  all_ignored : (xs ys : List (List ℕ)) → AreIgnoredIn folder files xs → AreIgnoredIn folder files ys → (name : List ℕ) → Holds (ascending xs) name → Holds (ascending ys) name
+  all_ignored xs ys one two name is =
+      holds_ascending ys name (holds_it ys name (two.all name (All-contains (IsIgnoredIn folder files) xs name one.each (held xs name (ascending_holds xs name is)))))
+
+  one_ignored : (xs ys : List (List ℕ)) → AreIgnoredIn folder files xs → AreIgnoredIn folder files ys → ascending xs ≡ ascending ys
+  one_ignored xs ys one two = one_list (ascending xs) (ascending ys) (ascending_ordered xs) (ascending_ordered ys) (all_ignored xs ys one two) (all_ignored ys xs two one)
+
+all_ignored_paths : (etc usr etc2 usr2 : List (List ℕ)) → ascending etc ≡ ascending etc2 → ascending usr ≡ ascending usr2 → ignored_paths etc usr ≡ ignored_paths etc2 usr2
+all_ignored_paths etc usr etc2 usr2 one two =
+    ap (λ (names : List (List ℕ)). map (λ (name : List ℕ). codes "/etc/udev/hwdb.d/" ++ name) names ++ map (λ (name : List ℕ). codes "/usr/lib/udev/hwdb.d/" ++ name) (ascending usr)) one
+    ∙ ap (λ (names : List (List ℕ)). map (λ (name : List ℕ). codes "/etc/udev/hwdb.d/" ++ name) (ascending etc2) ++ map (λ (name : List ℕ). codes "/usr/lib/udev/hwdb.d/" ++ name) names) two
+
 -- the masked files of one reading
 module _ (etc usr etc2 usr2 : List Source) (one : IsOneReading etc usr etc2 usr2) where
   names_in : List Source → List (List ℕ)
@@ -58,7 +97,7 @@ module _ (etc usr etc2 usr2 : List Source) (one : IsOneReading etc usr etc2 usr2
   unfolding names_in
   one_masked c = ap (λ (b : Bool). if (if c.from_etc then b else false) then (codes "/usr/lib/udev/hwdb.d/" ++ c.name) ∷ [] else []) (one.named c.name)
 
-  all_masked : masked_paths (map (λ (s : Source). s.name) usr) (chosen_of etc usr) ≡ masked_paths (map (λ (s : Source). s.name) usr2) (chosen_of etc2 usr2)
+  pub all_masked : masked_paths (map (λ (s : Source). s.name) usr) (chosen_of etc usr) ≡ masked_paths (map (λ (s : Source). s.name) usr2) (chosen_of etc2 usr2)
   unfolding names_in
   all_masked =
       ap (λ (f : Choice → List (List ℕ)). flat_map f (chosen_of etc usr)) (fun_ext one_masked)
@@ -77,9 +116,25 @@ one_status_text tree form one_reading root json quiet files text text2 status st
     subst (λ (m : Map). IsState a.made m asked b.state) (sym maps) (subst (λ (d : List ℕ). IsState d (map_of_files b.of_etc b.of_usr) asked b.state) (sym same) b.stands) in
     let state : a.state ≡ b.state = one_state tree a.made (map_of_files a.of_etc a.of_usr) asked a.state b.state a.stands stands in
     let masked = all_masked a.of_etc a.of_usr b.of_etc b.of_usr reading in
-    let report : List (List ℕ) → State → Report = λ l s. report_of root (has_database false root files) (has_database true root files) l s in
+    let holds : a.holds ≡ b.holds = one_amount tree asked a.holds b.holds a.is_held b.is_held in
+    let hidden : a.hidden ≡ b.hidden = one_amount tree (hidden_database root files) a.hidden b.hidden a.is_hidden b.is_hidden in
+    let ignored : ignored_paths a.ignored_etc a.ignored_usr ≡ ignored_paths b.ignored_etc b.ignored_usr =
+    all_ignored_paths a.ignored_etc a.ignored_usr b.ignored_etc b.ignored_usr
+    (one_ignored (etc_files root) files a.ignored_etc b.ignored_etc a.are_in_etc b.are_in_etc) (one_ignored (usr_files root) files a.ignored_usr b.ignored_usr a.are_in_usr b.are_in_usr) in
+    let report : Option Amount → Option Amount → List (List ℕ) → List (List ℕ) → State → Report =
+    λ h k l i s. report_of root (has_database false root files) (has_database true root files) h k l i s in
+    let masks = masked_paths (map (λ (s : Source). s.name) b.of_usr) (chosen_of b.of_etc b.of_usr) in
+    let others = ignored_paths b.ignored_etc b.ignored_usr in
+    let own_masks = masked_paths (map (λ (s : Source). s.name) a.of_usr) (chosen_of a.of_etc a.of_usr) in
+    let own_others = ignored_paths a.ignored_etc a.ignored_usr in
     let reports : a.report ≡ b.report =
-    a.of ∙ ap (λ l. report l a.state) masked ∙ ap (report (masked_paths (map (λ (s : Source). s.name) b.of_usr) (chosen_of b.of_etc b.of_usr))) state ∙ sym b.of in
+    a.of
+    ∙ ap (λ h. report h a.hidden own_masks own_others a.state) holds
+    ∙ ap (λ k. report b.holds k own_masks own_others a.state) hidden
+    ∙ ap (λ l. report b.holds b.hidden l own_others a.state) masked
+    ∙ ap (λ i. report b.holds b.hidden masks i a.state) ignored
+    ∙ ap (λ s. report b.holds b.hidden masks others s) state
+    ∙ sym b.of in
     (a.is ∙ ap (report_form json quiet) reports ∙ sym b.is, a.says ∙ ap status_of reports ∙ sym b.says)
 
 -- ---- what was read
@@ -91,14 +146,15 @@ module _ (root : List ℕ) (contents : Contents) (listed : List (List ℕ)) (fil
       record { in_etc = read.in_etc; in_usr = read.in_usr; read = all; accepted = is.accepted; written = is.written; within = is.within }
 
   -- the asked database isn't beside them
-  pub not_beside : (made : List ℕ) (refusal : Refusal) → ForFolders files (λ etc usr. AreMadeOf etc usr made) → IsAskedUnread root contents refusal → IsNotBeside root contents refusal
+  pub not_beside : (made : List ℕ) (refusal : Refusal) → ForFolders files (λ etc usr. AreMadeOf etc usr made) → IsOneUnread root contents refusal → IsNotBeside root contents refusal
   not_beside made refusal made_of unread = record { of_etc = read.of_etc; of_usr = read.of_usr; made = made; is_made = made_from made made_of; unread = unread }
 
   -- what is reported beside the bytes that are made of it
-  pub reported_status : (json quiet : Bool) (made : List ℕ) (masked : List (List ℕ)) (a : Answer) → ForFolders files (λ etc usr. AreMadeOf etc usr made)
-      → masked ≡ masked_paths listed (map choice_in files) → ((m : Map) → IsDatabaseOf m made → IsReported root json quiet contents made m masked a)
+  pub reported_status : (json quiet : Bool) (made : List ℕ) (masked ignored : List (List ℕ)) (a : Answer) → ForFolders files (λ etc usr. AreMadeOf etc usr made)
+      → masked ≡ masked_paths listed (map choice_in files) → AreIgnored root contents ignored
+      → ((m : Map) → IsDatabaseOf m made → IsReported root json quiet contents made m masked ignored a)
       → OnOut (λ text. IsStatus root json quiet contents text a.status) (texts_in a)
-  reported_status json quiet made masked a made_of masks reported =
+  reported_status json quiet made masked ignored a made_of masks others reported =
       let is = made_of read.of_etc read.of_usr read.are in
       let told = reported (map_of_files read.of_etc read.of_usr) is.database in
       let names : masked ≡ masked_paths (map (λ (s : Source). s.name) read.of_usr) (chosen_of read.of_etc read.of_usr) =
@@ -110,11 +166,23 @@ module _ (root : List ℕ) (contents : Contents) (listed : List (List ℕ)) (fil
           of_usr = read.of_usr;
           made = made;
           is_made = made_from made made_of;
+          ignored_etc = others.of_etc;
+          ignored_usr = others.of_usr;
+          are_in_etc = others.in_etc;
+          are_in_usr = others.in_usr;
           short = told.short;
+          short_hidden = told.short_hidden;
+          holds = told.holds;
+          is_held = told.is_held;
+          hidden = told.hidden;
+          is_hidden = told.is_hidden;
           state = told.state;
           stands = told.stands;
           report = told.report;
-          of = told.of ∙ ap (λ (l : List (List ℕ)). report_of root (has_database false root contents) (has_database true root contents) l told.state) names;
+          of = told.of
+              ∙ ap (λ (l : List (List ℕ)). report_of root (has_database false root contents) (has_database true root contents) told.holds told.hidden l ignored told.state) names
+              ∙ ap (λ (l : List (List ℕ)). report_of root (has_database false root contents) (has_database true root contents) told.holds told.hidden
+              (masked_paths (map (λ (s : Source). s.name) read.of_usr) (chosen_of read.of_etc read.of_usr)) l told.state) others.are;
           is = told.is;
           says = told.says;
         },
@@ -132,5 +200,38 @@ module _ (root : List ℕ) (contents : Contents) (listed : List (List ℕ)) (fil
   }
 
 -- want of memory, while the asked database is read
-pub asked_memory : (root : List ℕ) (contents : Contents) → IsAskedUnread root contents (Plain Memory)
-asked_memory root contents = (database_path false root, inl refl, tt)
+pub asked_memory : (root : List ℕ) (contents : Contents) → IsOneUnread root contents (Plain Memory)
+asked_memory root contents = inl (database_path false root, inl refl, tt)
+
+-- ---- the database of /etc is there
+module _ (root : List ℕ) (contents : Contents) (bytes : List ℕ) (is : Some bytes ≡ bytes_at contents (database_path false root)) where
+  pub there : has_database false root contents ≡ true
+  there = ap is_some (sym is)
+
+  pub asked_is : asked_database root contents ≡ Some bytes
+  asked_is = ap (λ (o : Option (List ℕ)). option_or o (bytes_at contents (database_path true root))) (sym is)
+
+  pub hidden_is : bytes_at contents (database_path true root) ≡ hidden_database root contents
+  hidden_is = sym (ap (λ (b : Bool). if b then bytes_at contents (database_path true root) else None) there)
+
+  -- it hides one that can't be read
+  pub hidden_unread : (refusal : Refusal) → length bytes ≤ max_file → IsUnreadAt contents (database_path true root) refusal → IsOneUnread root contents refusal
+  hidden_unread refusal within unread = inr record {
+    short = subst (λ (o : Option (List ℕ)). IfSome o (λ b. length b ≤ max_file)) (sym asked_is) within;
+    hides = there;
+    unread = unread;
+  }
+
+-- nothing is in its place
+module _ (root : List ℕ) (contents : Contents) (none : None ≡ bytes_at contents (database_path false root)) where
+  pub not_there : false ≡ has_database false root contents
+  not_there = ap is_some none
+
+  pub asked_of_usr : bytes_at contents (database_path true root) ≡ asked_database root contents
+  asked_of_usr = ap (λ (o : Option (List ℕ)). option_or o (bytes_at contents (database_path true root))) none
+
+  pub none_hidden : None ≡ hidden_database root contents
+  none_hidden = ap (λ (b : Bool). if b then bytes_at contents (database_path true root) else None) not_there
+
+  pub usr_unread : (refusal : Refusal) → IsUnreadAt contents (database_path true root) refusal → IsOneUnread root contents refusal
+  usr_unread refusal unread = inl (database_path true root, inr (refl, sym none), unread)

@@ -28,16 +28,16 @@ use Rattle.hwdb_spec.specs.Refusals.{HasReason, IsOver}
 use Rattle.hwdb_spec.specs.declared.refusals.Refusal.{Refusal}
 use Rattle.hwdb_spec.specs.declared.refusals.Refusal.TheVariants.{At, InWords, NoDatabase, Plain}
 use Rattle.hwdb_tool.specs.OneOutcome.{IsOneInput, Scene, scene_of}
-use Rattle.hwdb_tool.specs.OneRefusal.{DoneEndsSo, DoneJobEndsSo, EndAlike, IsOfDatabase, IsOfWhatIsRead, IsOneEnd, IsOneError, IsStream, JobsEndAlike, NeverFails, scene_then}
-use Rattle.hwdb_spec.specs.Program.{IsTaskDone, asks_text, root_of}
+use Rattle.hwdb_tool.specs.OneRefusal.{DoneEndsSo, EndAlike, IsOfDatabase, IsOfWhatIsRead, IsOneEnd, IsOneError, IsStream, NeverFails}
+use Rattle.hwdb_spec.specs.Program.{IsTaskDone, root_of}
 use Rattle.hwdb_spec.specs.Queries.{AreAnsweredFrom, AreNamedAnswered, AreUnansweredFrom, IfNamed, IsOfInput, IsStreamRefused, IsUnstreamed}
 use Rattle.hwdb_spec.specs.Reasons.{HasAskedReason}
 use Rattle.hwdb_spec.specs.TaskRefusals.{IsNotDone}
 use Rattle.hwdb_spec.specs.Undone.{IsUnfound}
 use Rattle.hwdb_tool.proofs.DatabaseErrorLemmas.{OneHeader, OneTree, Unanswered, answer_answer, answer_done, is_over, unanswered}
 use Rattle.hwdb_tool.proofs.InputErrorLemmas.{asked_not_input, asked_not_line}
-use Rattle.hwdb_tool.proofs.JobErrorLemmas.{status_of_job}
-use Rattle.hwdb_tool.proofs.JobLemmas.{apart, is_named, one_value, one_values, plainly_done, plainly_not_done, same_asks, same_root, word_of}
+use Rattle.hwdb_tool.proofs.JobErrorLemmas.{DoneJobTaskEndsSo, JobTasksEndAlike}
+use Rattle.hwdb_tool.proofs.JobLemmas.{apart, is_named, one_value, one_values, same_root, word_of}
 use Rattle.hwdb_tool.proofs.OutcomeLemmas.{one_answer, one_taken}
 use Rattle.hwdb_tool.proofs.RefusalLemmas.{over_over}
 use Rattle.hwdb_tool.proofs.TaskErrorLemmas.{never_asked}
@@ -315,33 +315,20 @@ module _ (header : OneHeader) where
         (end_of_stream fails2 fails2_now left2 left2_now task root usr strict r before2 now2 input.input.bytes input.input.of_two kind is.never is.told is.of two)
 
     -- ---- jobs
-    pub stream_jobs_are_one : JobsEndAlike IsStream fails fails_now fails2 fails2_now left left_now left2 left2_now
-    stream_jobs_are_one = λ words status status2 before now before2 now2 input one two kind none is is2.
-        let top = matches_of hwdb_app words in
-        let found = subcommand_of hwdb_app words in
-        let j = one.job in
-        let k = two.job in
-        let then_ = scene_then one.err_then now in
-        let then2 = scene_then two.err_then now2 in
-        let same = stream_of_job top found j k one.asked two.asked kind in
-        let first = stream_end j.task (root_of j) j.usr j.strict (scene_of fails left before) (scene_of fails_now left_now then_) one.refusal kind (plainly_not_done (asks_text j) j.task (root_of j) j.usr j.strict (scene_of fails left before) (scene_of fails_now left_now then_) one.refusal none one.refused) in
-        let second = stream_end k.task (root_of k) k.usr k.strict (scene_of fails2 left2 before2) (scene_of fails2_now left2_now then2) two.refusal same.0 (plainly_not_done (asks_text k) k.task (root_of k) k.usr k.strict (scene_of fails2 left2 before2) (scene_of fails2_now left2_now then2) two.refusal (same_asks top found j k one.asked two.asked ∙ none) two.refused) in (
-          one.says ∙ status_of_job top found j k one.asked two.asked ∙ sym two.says,
-          both_ends (stream_form j.task) (stream_form k.task) (root_of j) (root_of k) one.refusal two.refusal before then_ before2 then2 input same.1 same.2
-              (end_of_stream fails fails_now left left_now j.task (root_of j) j.usr j.strict one.refusal before then_ input.input.bytes input.input.of_one kind is.never is.told is.of first)
-              (end_of_stream fails2 fails2_now left2 left2_now k.task (root_of k) k.usr k.strict two.refusal before2 then2 input.input.bytes input.input.of_two same.0 is2.never is2.told is2.of second)
-              first.err second.err first.kept.same second.kept.same,
-        )
+    pub stream_jobs_are_one : JobTasksEndAlike IsStream fails fails_now fails2 fails2_now left left_now left2 left2_now
+    stream_jobs_are_one = λ words before now before2 now2 j k r r2 asked asked2 input kind is is2 not not2.
+        let same = stream_of_job (matches_of hwdb_app words) (subcommand_of hwdb_app words) j k asked asked2 kind in
+        let first = stream_end j.task (root_of j) j.usr j.strict (scene_of fails left before) (scene_of fails_now left_now now) r kind not in
+        let second = stream_end k.task (root_of k) k.usr k.strict (scene_of fails2 left2 before2) (scene_of fails2_now left2_now now2) r2 same.0 not2 in
+        both_ends (stream_form j.task) (stream_form k.task) (root_of j) (root_of k) r r2 before now before2 now2 input same.1 same.2
+        (end_of_stream fails fails_now left left_now j.task (root_of j) j.usr j.strict r before now input.input.bytes input.input.of_one kind is.never is.told is.of first)
+        (end_of_stream fails2 fails2_now left2 left2_now k.task (root_of k) k.usr k.strict r2 before2 now2 input.input.bytes input.input.of_two same.0 is2.never is2.told is2.of second)
+        first.err second.err first.kept.same second.kept.same
 
-    pub done_job_is_no_end : DoneJobEndsSo IsStream fails fails_now fails2 fails2_now left left_now left2 left2_now
-    done_job_is_no_end = λ words status status2 before now before2 now2 input done refused kind none is.
-        let top = matches_of hwdb_app words in
-        let found = subcommand_of hwdb_app words in
-        let j = done.job in
-        let k = refused.job in
-        let then2 = scene_then refused.err_then now2 in
-        let same = stream_of_job top found j k done.asked refused.asked kind in
-        let second = stream_end k.task (root_of k) k.usr k.strict (scene_of fails2 left2 before2) (scene_of fails2_now left2_now then2) refused.refusal same.0 (plainly_not_done (asks_text k) k.task (root_of k) k.usr k.strict (scene_of fails2 left2 before2) (scene_of fails2_now left2_now then2) refused.refusal (same_asks top found j k done.asked refused.asked ∙ none) refused.refused) in
-        not_both (stream_form j.task) (stream_form k.task) (root_of j) (root_of k) refused.refusal input.input.bytes before before2 then2 input same.1 same.2
-        (stream_done j.task (root_of j) j.usr j.strict status (scene_of fails left before) (scene_of fails_now left_now now) input.input.bytes kind input.input.of_one (plainly_done (asks_text j) j.task (root_of j) j.usr j.strict status (scene_of fails left before) (scene_of fails_now left_now now) none done.done))
-        (end_of_stream fails2 fails2_now left2 left2_now k.task (root_of k) k.usr k.strict refused.refusal before2 then2 input.input.bytes input.input.of_two same.0 is.never is.told is.of second)
+    pub done_job_is_no_end : DoneJobTaskEndsSo IsStream fails fails_now fails2 fails2_now left left_now left2 left2_now
+    done_job_is_no_end = λ words status before now before2 now2 j k r asked asked2 input kind is done not.
+        let same = stream_of_job (matches_of hwdb_app words) (subcommand_of hwdb_app words) j k asked asked2 kind in
+        let second = stream_end k.task (root_of k) k.usr k.strict (scene_of fails2 left2 before2) (scene_of fails2_now left2_now now2) r same.0 not in
+        not_both (stream_form j.task) (stream_form k.task) (root_of j) (root_of k) r input.input.bytes before before2 now2 input same.1 same.2
+        (stream_done j.task (root_of j) j.usr j.strict status (scene_of fails left before) (scene_of fails_now left_now now) input.input.bytes kind input.input.of_one done)
+        (end_of_stream fails2 fails2_now left2 left2_now k.task (root_of k) k.usr k.strict r before2 now2 input.input.bytes input.input.of_two same.0 is.never is.told is.of second)

@@ -5,7 +5,7 @@ use Rattle.std.specs.Io.KnownBytes.{Appends}
 use Rattle.std.specs.Prelude.{Contains, option_map}
 use Rattle.hwdb_spec.specs.declared.job.Task.{Task}
 use Rattle.hwdb_spec.specs.declared.job.Task.TheVariants.{Ask, Check, Device, Diff, Dump, Explain, List as ListHits, Near, Query, Status, Test, Update, Verify}
-use Rattle.hwdb_spec.specs.Asked.{IsAnswered}
+use Rattle.hwdb_spec.specs.Asked.{IsAnswered, database_path}
 use Rattle.hwdb_spec.specs.CheckedFiles.{AreCheckedFiles, AreChosenFiles, AreNamedFiles, StandFor, folder_of}
 use Rattle.hwdb_spec.specs.Databases.{IsTextOf}
 use Rattle.hwdb_spec.specs.Done.{IsAsked}
@@ -167,7 +167,7 @@ module _ (header : OneHeader) (tree : OneTree) where
   Why fails U input files (Query devices json) root r = Unanswered header fails U root files r
   Why fails U input files (Explain device json) root r = Unanswered header fails U root files r
   Why fails U input files (ListHits after limit device json) root r = Unlisted header fails U root files (option_map string_bytes after) r
-  Why fails U input files (Diff old new devices json) root r = Undiffed (map string_bytes devices.items) (string_bytes old) (string_bytes new) input files r
+  Why fails U input files (Diff old new devices json stat) root r = Undiffed (map string_bytes devices.items) (string_bytes old) (string_bytes new) input files r
   Why fails U input files (Verify database) root r = Unverified header fails U root files (option_map string_bytes database) r
   Why fails U input files (Dump database) root r = Undumped header fails U root files (option_map string_bytes database) r
   Why fails U input files (Ask file device) root r = Unasked (string_bytes file) input files r
@@ -213,10 +213,10 @@ module _ (header : OneHeader) (tree : OneTree) where
     why (ListHits after limit device json) kind never named not =
         let found = unlisted header fails Unwritable root before.files (never_asked fails root before.files never) json (string_bytes device) (option_map string_bytes after) limit r before.out now.out not.0.0.0 not.1 of in
         (found.0, left_then record { err = not.0.0.1; out = found.1 } not.0.1.same)
-    why (Diff old new devices json) kind never named not =
+    why (Diff old new devices json stat) kind never named not =
         let given = map string_bytes devices.items in
-        let found = unprinted (IsDiffRefused given (string_bytes old) (string_bytes new) before.input.bytes before.files) (MayPrint (Diff old new devices json) root strict before.input.bytes before.files) r before.err now.err before.out now.out of not.0.0 in (
-          undiffed header given (string_bytes old) (string_bytes new) before.files fails never before.input.bytes before.input.failures now.input.failures whole r not.1 of,
+        let found = unprinted (IsDiffRefused given (string_bytes old) (string_bytes new) before.input.bytes before.files) (MayPrint (Diff old new devices json stat) root strict before.input.bytes before.files) r before.err now.err before.out now.out of not.0.0 in (
+          undiffed given (string_bytes old) (string_bytes new) before.files fails never before.input.bytes before.input.failures now.input.failures whole r named not.1 of,
           left_then found.1 not.0.1.same,
         )
     why (Verify database) kind never named not =
@@ -248,7 +248,7 @@ module _ (header : OneHeader) (tree : OneTree) where
     why (Status json quiet) kind never named not =
         let found = unprinted (IsStatusRefused root before.files) (MayPrint (Status json quiet) root strict before.input.bytes before.files) r before.err now.err before.out now.out of not.0.0 in
         let asked = never_asked fails root before.files (λ p is. never p (inr is)) in
-        (unstated fails Unwritable root before.files (λ p is. never p (inl is)) asked r of listed not.1 found.0, left_then found.1 not.0.1.same)
+        (unstated fails Unwritable root before.files (λ p is. never p (inl is)) asked (never (database_path true root) (inr (inr refl))) r of listed not.1 found.0, left_then found.1 not.0.1.same)
     why (Update verbose skip) kind never named not =
         let found = undated root usr verbose r of (scene_of fails left before).files (scene_of fails_now left_now now).files first before.err now.err skip fails Unwritable kind tells never listed not.1 not.0.0 in
         (found.0, record { err = found.1.err; out = not.0.1; files = found.1.kept.same })
@@ -260,7 +260,8 @@ module _ (header : OneHeader) (tree : OneTree) where
     one_why fails fails2 U U2 files root r r2 (Query devices json) kind one two = answer_answer header fails U root files r r2 one two
     one_why fails fails2 U U2 files root r r2 (Explain device json) kind one two = answer_answer header fails U root files r r2 one two
     one_why fails fails2 U U2 files root r r2 (ListHits after limit device json) kind one two = list_list header fails U root files (option_map string_bytes after) r r2 one two
-    one_why fails fails2 U U2 files root r r2 (Diff old new devices json) kind one two = diff_diff header (map string_bytes devices.items) (string_bytes old) (string_bytes new) files told r r2 one two
+    one_why fails fails2 U U2 files root r r2 (Diff old new devices json stat) kind one two =
+        diff_diff (map string_bytes devices.items) (string_bytes old) (string_bytes new) files header choice reading form stand.0 stand.1 told r r2 one two
     one_why fails fails2 U U2 files root r r2 (Verify database) kind one two = verify_verify header fails U root files (option_map string_bytes database) r r2 one two
     one_why fails fails2 U U2 files root r r2 (Dump database) kind one two = dump_dump header fails U root files tree (option_map string_bytes database) r r2 one two
     one_why fails fails2 U U2 files root r r2 (Ask file device) kind one two = ask_ask (string_bytes file) told files r r2 one two
@@ -313,10 +314,10 @@ module _ (header : OneHeader) (tree : OneTree) where
         (given_text (is_input (string_bytes device ∷ [])) root (forms.Explain json) (string_bytes device ∷ []) before.input.bytes before.files.seen printed.texts.out kind printed.are.1.1) not
     not_both_ends (ListHits after limit device json) kind done not =
         list_done header fails2 U root before.files.seen json (string_bytes device) (option_map string_bytes after) limit done.0.texts.out r done.0.are.1.1 not
-    not_both_ends (Diff old new devices json) kind done not =
+    not_both_ends (Diff old new devices json stat) kind done not =
         let given = map string_bytes devices.items in
-        diff_done header given (string_bytes old) (string_bytes new) before.files.seen told json done.0.texts.out status r
-        (subst (λ (i : Option (List ℕ)). IsDiffed json given (string_bytes old) (string_bytes new) i before.files.seen done.0.texts.out status) tells done.0.are.1) not
+        diff_done given (string_bytes old) (string_bytes new) before.files.seen header choice reading form stand.0 stand.1 told stat json done.0.texts.out status r
+        (subst (λ (i : Option (List ℕ)). IsDiffed stat json given (string_bytes old) (string_bytes new) i before.files.seen done.0.texts.out status) tells done.0.are.1) not
     not_both_ends (Verify database) kind done not = verify_done header fails2 U root before.files.seen (option_map string_bytes database) done.0.texts.out r done.0.are.1.1 not
     not_both_ends (Dump database) kind done not = dump_done header fails2 U root before.files.seen tree (option_map string_bytes database) done.0.texts.out r done.0.are.1.1 not
     not_both_ends (Ask file device) kind done not =

@@ -9,7 +9,7 @@ use Rattle.hwdb_spec.specs.Done.{AreAskTexts, IsUpdated}
 use Rattle.hwdb_spec.specs.Databases.{IsDiffText, IsDifferent, IsSummary, IsTextOf}
 use Rattle.hwdb_spec.specs.Assignment.{Position}
 use Rattle.hwdb_spec.specs.Checks.{check_status, check_text, empty_tally, tally_from}
-use Rattle.hwdb_spec.specs.Comparisons.{comparison_text, devices_named, has_changed}
+use Rattle.hwdb_spec.specs.Comparisons.{comparison_form, devices_named, has_changed}
 use Rattle.hwdb_spec.specs.Dump.{dump_text}
 use Rattle.hwdb_spec.specs.Folders.{Choice, Source, choice, path_of}
 use Rattle.hwdb_spec.specs.Format.{IsDatabase}
@@ -47,6 +47,7 @@ use Rattle.hwdb_spec.specs.Readable.{IsUpdatedLess}
 use Rattle.hwdb_spec.specs.Queries.{AreAnsweredFrom, IfNamed}
 use Rattle.hwdb_spec.specs.LoneFile.{lone}
 use Rattle.hwdb_tool.specs.OneOutcome.{AnswersAreOne, IsFunction, IsOneAnswer, IsOneInput, IsOneOutcome, LeavesNothingOut, Scene, scene_of, ListingsGiveOneChoice, ListingsGiveOneReading}
+use Rattle.hwdb_tool.proofs.SideLemmas.{OneSideFiles, one_side}
 use Rattle.hwdb_tool.proofs.StatusLemmas.{one_status_text}
 use Rattle.hwdb_tool.proofs.OutcomeLemmas.{one_answer, one_held, one_kept, one_map, one_place, one_said, one_status, one_taken, one_taken_then, one_text}
 
@@ -120,7 +121,7 @@ all_told root verbose strict skip status old first before now hid in_place nothi
 abbrev IsHeld : (input : List ℕ) (files : Contents) → Source → Type 0
 IsHeld input files s = IsGiven s.name (Some input) files s.bytes
 
-one_given_sources : (input : List ℕ) (files : Contents) (xs ys : List Source) → map (λ (s : Source). s.name) xs ≡ map (λ (s : Source). s.name) ys
+pub one_given_sources : (input : List ℕ) (files : Contents) (xs ys : List Source) → map (λ (s : Source). s.name) xs ≡ map (λ (s : Source). s.name) ys
     → All (IsHeld input files) xs → All (IsHeld input files) ys → xs ≡ ys
 unfolding first_or rest_of
 one_given_sources input files [] [] n p q = refl
@@ -244,16 +245,17 @@ module _ (tree : (bytes : List ℕ) (t u : Tree) → IsDatabase bytes t → IsDa
         one_err = one.0 ∙ sym two.0;
         one_out = tried_alike (λ (xs : List Source) (t : Tree). test_text json xs t) a.0 b.0 a.2.is.tree b.2.is.tree texts.out texts2.out same here a.2.is.is b.2.is.is;
       }
-  one_answer_of (Diff old_path new_path devices json) = λ root strict input files status status2 texts texts2 one two.
+  one_answer_of (Diff old_path new_path devices json stat) = λ root strict input files status status2 texts texts2 one two.
       let first = one.1 in
       let second = two.1 in
       let same : first.0 ≡ second.0 = one_given_sources input files first.0 second.0 (first.1.named ∙ sym second.1.named) first.1.held second.1.held in
       let a = first.2 in
       let b = second.2 in
-      let said : List Source → Tree → Tree → List ℕ = λ xs t u. comparison_text json (devices_named xs) t u in
+      let said : List Source → Tree → Tree → List ℕ = λ xs t u. comparison_form stat json (devices_named xs) t u in
       let changed : List Source → Tree → Tree → Bool = λ xs t u. has_changed (devices_named xs) t u in
-      let olds = one_held (bytes_at files (string_bytes old_path)) b.old a.old b.held.of_old a.held.of_old in
-      let news = one_held (bytes_at files (string_bytes new_path)) b.new a.new b.held.of_new a.held.of_new in
+      let same_files : OneSideFiles = λ path fs xs ys x y. sources (path ∷ []) [] [] fs xs ys x y in
+      let olds = one_side form one_choice one_reading same_files (string_bytes old_path) files b.old a.old b.held.of_old a.held.of_old in
+      let news = one_side form one_choice one_reading same_files (string_bytes new_path) files b.new a.new b.held.of_new a.held.of_new in
       let x = a.is in
       let y = subst (λ (bs : List ℕ). IsDiffText (said second.0) a.old bs texts2.out) news (subst (λ (bs : List ℕ). IsDiffText (said second.0) bs b.new texts2.out) olds b.is) in
       let v = a.differs in

@@ -26,7 +26,7 @@ use Rattle.hwdb_tool.specs.OneRefusal.{IsOfFolders, IsOfListing, IsOfWhatIsRead,
 use Rattle.hwdb_spec.specs.Queries.{IsWholeInputUnread}
 use Rattle.hwdb_spec.specs.Reasons.{HasFilesReason, IsFileReason, IsFirstGiven, IsInputRead, IsReadGiven, TellsNoPath}
 use Rattle.hwdb_spec.specs.Undone.{AreNotChecked, IsGivenUnread, told_path}
-use Rattle.hwdb_tool.proofs.DiffErrorLemmas.{IsUnreadOne, held_or_unread, unread_one}
+use Rattle.hwdb_tool.proofs.UnreadLemmas.{IsUnreadOne, held_or_unread, unread_one}
 use Rattle.hwdb_tool.proofs.RefusalLemmas.{over_over}
 use Rattle.hwdb_text.specs.Lemmas.Pieces.{few_pieces}
 

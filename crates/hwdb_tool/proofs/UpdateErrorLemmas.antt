@@ -140,7 +140,7 @@ module _ (root : List ℕ) (usr verbose : Bool) (r : Refusal) (of : IsOfWhatIsRe
       fails U never listed reason tell.refused
 
 -- one has too many lines, or none has
-lines_or_few : (etc usr etc2 usr2 : List Source) → IsOneReading etc usr etc2 usr2 → HaveManyLines etc usr → AreAccepted etc2 usr2 → ⊥
+pub lines_or_few : (etc usr etc2 usr2 : List Source) → IsOneReading etc usr etc2 usr2 → HaveManyLines etc usr → AreAccepted etc2 usr2 → ⊥
 lines_or_few etc usr etc2 usr2 reading many accepted =
     let any = many.lines in
     let few = All-contains (λ (c : Choice). length (lines (contents etc2 usr2 c)) ≤ max_lines) (chosen_of etc2 usr2) any.1 accepted.lines
@@ -148,7 +148,7 @@ lines_or_few etc usr etc2 usr2 reading many accepted =
     let long = any.4 in
     omega (arith, few, long, ap (λ (b : List ℕ). length (lines b)) (reading.held any.1))
 
-plain_plain : (e : ToolError) (r r2 : Refusal) → r ≡ Plain e → r2 ≡ Plain e → IsOneError r r2
+pub plain_plain : (e : ToolError) (r r2 : Refusal) → r ≡ Plain e → r2 ≡ Plain e → IsOneError r r2
 plain_plain e r r2 one two = subst (λ (x : Refusal). IsOneError x r2) (sym one) (subst (λ (x : Refusal). IsOneError (Plain e) x) (sym two) refl)
 
 module _ (choices : ListingsGiveOneChoice) (readings : ListingsGiveOneReading) (root : List ℕ) (files : Contents) where
@@ -196,7 +196,7 @@ module _ (choices : ListingsGiveOneChoice) (readings : ListingsGiveOneReading) (
     few_or_much : length (chosen_of etc usr) ≤ max_files → max_files < length (chosen_of etc2 usr2) → ⊥
     few_or_much few many = omega (arith, many, few, ap length to.chosen)
 
-    much_much : AreTooMuch etc usr r → AreTooMuch etc2 usr2 r2 → IsOneError r r2
+    pub much_much : AreTooMuch etc usr r → AreTooMuch etc2 usr2 r2 → IsOneError r r2
     much_much (inl one) (inl two) = plain_plain TooManyFiles r r2 one.0 two.0
     much_much (inl one) (inr (inl two)) = absurd (much_or_few one.1 two.1.files)
     much_much (inl one) (inr (inr two)) = absurd (much_or_few one.1 two.1.accepted.files)

@@ -12,7 +12,13 @@ use Rattle.hwdb_spec.specs.System.{AreFilesIn, bytes_at, etc_files, usr_files}
 use Rattle.hwdb_spec.specs.Tree.{Tree}
 use Rattle.hwdb_text.specs.Views.{choice_of}
 use Rattle.hwdb_compile.specs.Views.{AreChosenOf}
+use Rattle.hwdb_spec.specs.OverText.{world_over}
+use Rattle.hwdb_spec.specs.Program.{IsTaskDone, root_of}
+use Rattle.hwdb_spec.specs.Runs.{World}
 use Rattle.hwdb_spec.specs.Selected.{AreSelected}
+use Rattle.hwdb_spec.specs.TaskRefusals.{IsNotDone}
+use Rattle.hwdb_spec.specs.declared.job.Job.{Job}
+use Rattle.hwdb_spec.specs.declared.refusals.Refusal.{Refusal}
 use Rattle.hwdb_fs.specs.declared.folders.Selection.{Selection}
 use Rattle.hwdb_compile.specs.declared.sources.ChosenFile.{ChosenFile}
 
@@ -50,3 +56,13 @@ explain_form true = explain_json
 -- a selection among these files
 abbrev pub IsOfSelection : (root : List ℕ) (files : Contents) → Selection → Type 0
 IsOfSelection root files s = AreSelected root files (map string_bytes s.listed.items) (map choice_of s.chosen.items) (map (λ t. t.items) s.texts.items)
+
+-- a job's task is done over the files with this database
+abbrev pub IsDoneOver : Job → (database : List ℕ) (before now : World) (status : ℕ) → Type 0
+IsDoneOver job database before now status =
+    IsTaskDone job.task (root_of job) job.usr job.strict status (world_over (root_of job) database before) (world_over (root_of job) database now)
+
+-- it ends with an error
+abbrev pub IsNotDoneOver : Job → (database : List ℕ) (before now : World) → Refusal → Type 0
+IsNotDoneOver job database before now refusal =
+    IsNotDone job.task (root_of job) job.usr job.strict (world_over (root_of job) database before) (world_over (root_of job) database now) refusal

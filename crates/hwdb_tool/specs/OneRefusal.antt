@@ -13,6 +13,7 @@ use Rattle.hwdb_spec.specs.declared.DbFault.{DbFault}
 use Rattle.hwdb_reader.specs.Laws.{IsOfHeader}
 use Rattle.hwdb_spec.specs.declared.errors.ToolError.{ToolError}
 use Rattle.hwdb_spec.specs.declared.errors.ToolError.TheVariants.{BadDatabase, Memory, Read, Replace, TooLong, Write}
+use Rattle.hwdb_spec.specs.declared.job.Job.{Job}
 use Rattle.hwdb_spec.specs.declared.job.WordsFault.TheVariants as words_fault
 use Rattle.hwdb_spec.specs.declared.job.Task.{Task}
 use Rattle.hwdb_spec.specs.declared.job.Task.TheVariants.{Ask, Check, Device, Diff, Dump, Explain, List as ListHits, Near, Query, Status, Test, Update, Verify}
@@ -78,7 +79,7 @@ IsCovered (Ask file device) = Unit {0}
 IsCovered (Check files allowed json) = Unit {0}
 IsCovered (Near files device limit json) = Unit {0}
 IsCovered (Test files database json) = Unit {0}
-IsCovered (Diff old new devices json) = Unit {0}
+IsCovered (Diff old new devices json stat) = Unit {0}
 IsCovered (Verify database) = Unit {0}
 IsCovered (Dump database) = Unit {0}
 IsCovered (Status json quiet) = Unit {0}
@@ -120,9 +121,13 @@ IsOfCompared (first ∷ more) root path = Contains (first ∷ more) path
 abbrev pub IsOfTried : (given : List (List ℕ)) (database : Option (List ℕ)) (root path : List ℕ) → Type 0
 IsOfTried given database root path = Contains given path ⊎ IsOfDatabase database root path
 
--- the path is one that `diff` reads: that of a given file of devices, or of one of both databases
+-- the path is one that is read of a side of `diff`: its own, or one that begins with it
+abbrev pub IsOfSide : (side path : List ℕ) → Type 0
+IsOfSide side path = (path ≡ side) ⊎ ((rest : List ℕ) × (path ≡ folder_of side ++ rest))
+
+-- the path is one that `diff` reads: that of a given file of devices, or of one of both sides
 abbrev pub IsOfDiffed : (given : List (List ℕ)) (old_path new_path path : List ℕ) → Type 0
-IsOfDiffed given old_path new_path path = Contains given path ⊎ ((path ≡ old_path) ⊎ (path ≡ new_path))
+IsOfDiffed given old_path new_path path = Contains given path ⊎ (IsOfSide old_path path ⊎ IsOfSide new_path path)
 
 -- such a task may read the path
 abbrev pub MayRead : Task → (root path : List ℕ) → Type 0
@@ -131,7 +136,7 @@ MayRead (Check files allowed json) root path = IsOfChecked (map string_bytes fil
 MayRead (Near files device limit json) root path = IsOfCompared (map string_bytes files.items) root path
 MayRead (Test files database json) root path = IsOfTried (map string_bytes files.items) (option_map string_bytes database) root path
 MayRead (Ask file device) root path = path ≡ string_bytes file
-MayRead (Diff old new devices json) root path = IsOfDiffed (map string_bytes devices.items) (string_bytes old) (string_bytes new) path
+MayRead (Diff old new devices json stat) root path = IsOfDiffed (map string_bytes devices.items) (string_bytes old) (string_bytes new) path
 MayRead (Verify database) root path = IsOfDatabase (option_map string_bytes database) root path
 MayRead (Dump database) root path = IsOfDatabase (option_map string_bytes database) root path
 MayRead (Status json quiet) root path = IsOfFolders root path ⊎ IsOfDatabase None root path
@@ -145,10 +150,17 @@ NeverFails fails task root = (path : List ℕ) → MayRead task root path → fa
 abbrev pub IsOfListing : (root : List ℕ) → Refusal → Type 0
 IsOfListing root refusal = IsOver TooLong (etc_files root) refusal ⊎ IsOver TooLong (usr_files root) refusal
 
--- the same of a folder that the words of `check` name: no file is there
+-- the same of a folder that is a side of `diff`, in which there is no file, or of one of those of a root
+abbrev pub IsOfSideListing : (side : List ℕ) → Contents → Refusal → Type 0
+IsOfSideListing side contents refusal =
+    (IsOver TooLong (folder_of side) refusal × (bytes_at contents (folder_of side) ≡ None)) ⊎ IsOfListing (folder_of side) refusal
+
+-- the same of a folder that the words of `check` or `diff` name: no file is there
 abbrev pub IsOfNamedFolder : Task → Contents → Refusal → Type 0
 IsOfNamedFolder (Check files allowed json) contents refusal =
     (path : List ℕ) × Contains (map string_bytes files.items) path × IsOver TooLong (folder_of path) refusal × (bytes_at contents (folder_of path) ≡ None)
+IsOfNamedFolder (Diff old new devices json stat) contents refusal =
+    IsOfSideListing (string_bytes old) contents refusal ⊎ IsOfSideListing (string_bytes new) contents refusal
 IsOfNamedFolder task contents refusal = ⊥
 
 -- The error of a task comes of what it reads: no reading may fail, and none of standard input has. Memory was granted, both
@@ -159,6 +171,15 @@ pub record IsOfReading (fails : (path : List ℕ) → Type 0) (task : Task) (roo
   pub of : IsOfWhatIsRead refusal
   pub listed : IsOfListing root refusal → ⊥
   pub named : IsOfNamedFolder task before.files refusal → ⊥
+
+-- no reading of the text files may fail, if the job answers from them
+abbrev pub TextsNeverFail : (fails : (path : List ℕ) → Type 0) → Job → Type 0
+TextsNeverFail fails job = asks_text job ≡ true → (path : List ℕ) → IsOfFolders (root_of job) path → fails path → ⊥
+
+-- The error of a job comes of what it reads: so does that of its task, and no reading of text files that it answers from may fail.
+pub record IsOfJobReading (fails : (path : List ℕ) → Type 0) (job : Job) (before now : Scene) (refusal : Refusal) : Type 0 where
+  pub task : IsOfReading fails job.task (root_of job) before now refusal
+  pub texts : TextsNeverFail fails job
 
 -- two runs that end with an error over one input end alike: with one error, and files and outputs are the same
 pub record IsOneEnd (refusal refusal2 : Refusal) (now now2 : Scene) : Type 0 where
@@ -197,13 +218,13 @@ DoneIsNoError = DoneEndsSo IsOfLaw
 abbrev pub IsInNamed : (given : List (List ℕ)) (path : List ℕ) → Type 0
 IsInNamed given path = (named : List ℕ) × Contains given named × ((path ≡ folder_of named) ⊎ ((name : List ℕ) × (path ≡ path_in (folder_of named) name)))
 
--- the words of a task name text files, folders of `check` or databases of `test` and `diff`, and this path is among them
+-- the words of a task name text files, folders of `check`, databases of `test` or sides of `diff`, and this path is among them
 abbrev pub NamesFile : Task → Contents → (path : List ℕ) → Type 0
 NamesFile (Check files allowed json) contents path =
     ((paths : List (List ℕ)) × StandFor contents (map string_bytes files.items) paths × Contains paths path) ⊎ IsInNamed (map string_bytes files.items) path
 NamesFile (Near files device limit json) contents path = Contains (map string_bytes files.items) path
 NamesFile (Test files database json) contents path = Contains (map string_bytes files.items) path ⊎ (option_map string_bytes database ≡ Some path)
-NamesFile (Diff old new devices json) contents path = IsOfDiffed (map string_bytes devices.items) (string_bytes old) (string_bytes new) path
+NamesFile (Diff old new devices json stat) contents path = IsOfDiffed (map string_bytes devices.items) (string_bytes old) (string_bytes new) path
 NamesFile task contents path = ⊥
 
 -- the task reads text files that its words name
@@ -212,7 +233,7 @@ ReadsTexts (Ask file device) = Unit {0}
 ReadsTexts (Check files allowed json) = Unit {0}
 ReadsTexts (Near files device limit json) = Unit {0}
 ReadsTexts (Test files database json) = Unit {0}
-ReadsTexts (Diff old new devices json) = Unit {0}
+ReadsTexts (Diff old new devices json stat) = Unit {0}
 ReadsTexts task = ⊥
 
 -- If a task reads standard input, it says that this can't be read only if a call of it failed. A text file may have that name, too.
@@ -241,16 +262,15 @@ LineIsLong fails fails_now left left_now = (task : Task) (root : List ℕ) (usr 
 abbrev pub scene_then : (err : Told) → Scene → Scene
 scene_then err scene = record { files = scene.files; failures = scene.failures; input = scene.input; out = scene.out; err = err; devices = scene.devices }
 
--- Words that ask for such a task without `--text` end with one status and one error over one input, if it comes of what is read.
--- Before its line both outputs are the same.
+-- Words that ask for such a task end with one status and one error over one input, if it comes of what is read. Before its line both
+-- outputs are the same.
 abbrev pub JobsEndAlike : (Kind : Task → Type 0) (fails fails_now fails2 fails2_now : (path : List ℕ) → Type 0) (left left_now left2 left2_now : Outcomes) → Type 0
 JobsEndAlike Kind fails fails_now fails2 fails2_now left left_now left2 left2_now =
     (words : List (List ℕ)) (status status2 : ℕ) (before now before2 now2 : Scene)
     → IsOneInput before before2
     → (one : IsJobRefused words status (scene_of fails left before) (scene_of fails_now left_now now))
     → (two : IsJobRefused words status2 (scene_of fails2 left2 before2) (scene_of fails2_now left2_now now2))
-    → Kind one.job.task → asks_text one.job ≡ false
-    → IsOfReading fails one.job.task (root_of one.job) before now one.refusal → IsOfReading fails2 two.job.task (root_of two.job) before2 now2 two.refusal
+    → Kind one.job.task → IsOfJobReading fails one.job before now one.refusal → IsOfJobReading fails2 two.job before2 now2 two.refusal
     → (status ≡ status2) × IsOneEnd one.refusal two.refusal (scene_then one.err_then now) (scene_then two.err_then now2)
 
 abbrev pub JobEndsInOneError : (fails fails_now fails2 fails2_now : (path : List ℕ) → Type 0) (left left_now left2 left2_now : Outcomes) → Type 0
@@ -262,7 +282,7 @@ DoneJobEndsSo Kind fails fails_now fails2 fails2_now left left_now left2 left2_n
     (words : List (List ℕ)) (status status2 : ℕ) (before now before2 now2 : Scene) → IsOneInput before before2
     → (done : IsJobDone words status (scene_of fails left before) (scene_of fails_now left_now now))
     → (refused : IsJobRefused words status2 (scene_of fails2 left2 before2) (scene_of fails2_now left2_now now2))
-    → Kind done.job.task → asks_text done.job ≡ false → IsOfReading fails2 refused.job.task (root_of refused.job) before2 now2 refused.refusal → ⊥
+    → Kind done.job.task → IsOfJobReading fails2 refused.job before2 now2 refused.refusal → ⊥
 
 abbrev pub DoneJobIsNoError : (fails fails_now fails2 fails2_now : (path : List ℕ) → Type 0) (left left_now left2 left2_now : Outcomes) → Type 0
 DoneJobIsNoError = DoneJobEndsSo IsOfLaw

@@ -1,12 +1,15 @@
 -- What the steps of `status` hold.
-use Rattle.std.specs.Prelude.{◌≡◌, ◌≤◌, [], Bool, IfSome, List, false, length, true, ℕ}
+use Rattle.std.specs.Prelude.{◌++◌, ◌≡◌, ◌≤◌, ◌⊎◌, [], Bool, IfSome, List, Option, codes, false, if◌then◌else◌, length, true, ℕ}
 use Rattle.hwdb_spec.specs.Folders.{AreAccepted, Source}
-use Rattle.hwdb_spec.specs.Status.{IsState, Report, State, has_database, report_form, report_of, status_of}
+use Rattle.hwdb_spec.specs.Ignored.{AreIgnoredIn}
+use Rattle.hwdb_spec.specs.Status.{Amount, IsAmount, IsState, Report, State, has_database, hidden_database, ignored_paths, report_form, report_of, status_of}
+use Rattle.hwdb_spec.specs.StatusErrors.{IsAskedUnread, IsHiddenUnread}
 use Rattle.hwdb_spec.specs.Store.{Contents}
-use Rattle.hwdb_spec.specs.System.{asked_database}
+use Rattle.hwdb_spec.specs.System.{asked_database, etc_files, usr_files}
 use Rattle.hwdb_spec.specs.Texts.{max_file}
 use Rattle.hwdb_spec.specs.Tree.{Map, map_of_files}
 use Rattle.hwdb_spec.specs.Written.{IsDatabaseOf, IsWritten}
+use Rattle.hwdb_spec.specs.declared.refusals.Refusal.{Refusal}
 use Rattle.hwdb_tool.specs.declared.answer.Answer.{Answer}
 
 -- the bytes are what `update` would write of these files
@@ -16,13 +19,34 @@ pub record AreMadeOf (of_etc of_usr : List Source) (made : List ℕ) : Type 0 wh
   pub database : IsDatabaseOf (map_of_files of_etc of_usr) made
   pub within : length made ≤ max_file
 
+-- the path of an ignored file with this name
+abbrev pub ignored_path : (usr : Bool) (name : List ℕ) → List ℕ
+ignored_path usr name = (if usr then codes "/usr/lib/udev/hwdb.d/" else codes "/etc/udev/hwdb.d/") ++ name
+
+-- these are the paths of the ignored files of both folders
+pub record AreIgnored (root : List ℕ) (contents : Contents) (paths : List (List ℕ)) : Type 0 where
+  pub of_etc : List (List ℕ)
+  pub of_usr : List (List ℕ)
+  pub in_etc : AreIgnoredIn (etc_files root) contents of_etc
+  pub in_usr : AreIgnoredIn (usr_files root) contents of_usr
+  pub are : paths ≡ ignored_paths of_etc of_usr
+
+-- the database that is asked can't be read, or the one that it hides
+abbrev pub IsOneUnread : (root : List ℕ) → Contents → Refusal → Type 0
+IsOneUnread root contents refusal = IsAskedUnread root contents refusal ⊎ IsHiddenUnread root contents refusal
+
 -- the answer reports the asked database beside bytes that are made of a map
-pub record IsReported (root : List ℕ) (json quiet : Bool) (contents : Contents) (made : List ℕ) (m : Map) (masked : List (List ℕ)) (a : Answer) : Type 0 where
+pub record IsReported (root : List ℕ) (json quiet : Bool) (contents : Contents) (made : List ℕ) (m : Map) (masked ignored : List (List ℕ)) (a : Answer) : Type 0 where
   pub short : IfSome (asked_database root contents) (λ bytes. length bytes ≤ max_file)
+  pub short_hidden : IfSome (hidden_database root contents) (λ bytes. length bytes ≤ max_file)
+  pub holds : Option Amount
+  pub is_held : IsAmount (asked_database root contents) holds
+  pub hidden : Option Amount
+  pub is_hidden : IsAmount (hidden_database root contents) hidden
   pub state : State
   pub stands : IsState made m (asked_database root contents) state
   pub untold : a.err.items ≡ []
   pub report : Report
-  pub of : report ≡ report_of root (has_database false root contents) (has_database true root contents) masked state
+  pub of : report ≡ report_of root (has_database false root contents) (has_database true root contents) holds hidden masked ignored state
   pub is : a.out.items ≡ report_form json quiet report
   pub says : a.status ≡ status_of report

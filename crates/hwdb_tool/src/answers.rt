@@ -1,5 +1,5 @@
 //! What devices get: from the database, or from one text file.
-ghost use Rattle.std.specs.Prelude.{[], ◌∷◌, ◌≡◌, ◌≤◌, ◌⊎◌, true, false, option_map, IfErr, IfOk};
+ghost use Rattle.std.specs.Prelude.{[], ◌∷◌, ◌≡◌, ◌≤◌, ◌⊎◌, true, false, option_map, IfErr, IfOk, OnOk};
 ghost use Rattle.hwdb_spec.specs.Flushing.{HandsOn};
 ghost use Rattle.hwdb_spec.specs.Asked.{IsAnswered, IsListFrom};
 ghost use Rattle.hwdb_spec.specs.Databases.{IsTextOf};
@@ -50,6 +50,7 @@ pub fn explain<D: System, I: Source, O: Sink, E: Sink>(
     ensures reason { D.Store.tells → IfErr result (HasAskedReason
         (is_dash device.now) root.now (D.System.may_fail system.now) (D.Store.seen system.now)
         (I.left input.old) (I.failures input.old) (I.failures input.new)) }
+    ensures unfailed { OnOk result (O.failures out.new ≡ O.failures out.old) }
     ensures out_hands_on { HandsOn (O.is_flushed out.old) (O.is_flushed out.new)
         (O.failures out.old) (O.failures out.new) }
     ensures err_hands_on { HandsOn (E.is_flushed err.old) (E.is_flushed err.new)
@@ -115,6 +116,7 @@ pub fn list<D: System, O: Sink>(
         (told_by O.taken O.failures out.old) (told_by O.taken O.failures out.new)) }
     ensures reason { IfErr result
         (HasReason (D.System.may_fail system.now) ⊥ (D.Store.seen system.now)) }
+    ensures unfailed { OnOk result (O.failures out.new ≡ O.failures out.old) }
     ensures hands_on { HandsOn (O.is_flushed out.old) (O.is_flushed out.new)
         (O.failures out.old) (O.failures out.new) }
 {

@@ -95,6 +95,7 @@ pub fn kind_of(task: &Task) -> TextKind {
         Task::Diff {
             devices,
             json: false,
+            stat: false,
             ..
         } => changes_kind(devices),
         Task::Verify { .. } => TextKind::Counts,

@@ -1,44 +1,45 @@
-//! `diff`: two databases that are read and compared, in all that they assign, or in what the devices of files get.
-ghost use Rattle.std.specs.Prelude.{◌≡◌, ◌≤◌, ◌++◌, false, flat_map, if◌then◌else◌, map, string_bytes, IfOk, IfErr, OnOk};
+//! `diff`: two sides that are read and compared, in all that they assign, or in what the devices of files get.
+ghost use Rattle.std.specs.Prelude.{◌≡◌, ◌≤◌, ◌++◌, None, Some, false, flat_map, if◌then◌else◌, map, string_bytes, IfOk, IfErr, OnOk};
 ghost use Rattle.hwdb_lint.specs.Checks.{source_of};
-ghost use Rattle.hwdb_spec.specs.Refusals.{HasReason, IsUnreadable};
-ghost use Rattle.hwdb_spec.specs.Asked.{IsCompared};
-ghost use Rattle.hwdb_spec.specs.Comparisons.{comparison_text, devices_named, has_changed};
+ghost use Rattle.hwdb_spec.specs.Comparisons.{comparison_form, devices_named, has_changed};
 ghost use Rattle.hwdb_spec.specs.Databases.{IsDiffText, IsDifferent};
 ghost use Rattle.hwdb_spec.specs.DiffErrors.{IsDiffRefusal};
 ghost use Rattle.hwdb_spec.specs.Folders as folders;
 ghost use Rattle.hwdb_spec.specs.Given.{any_dash};
 ghost use Rattle.hwdb_spec.specs.Runs.{OnOut};
-ghost use Rattle.hwdb_spec.specs.ComparedDatabases.{HasDiffReason, IsDiffed, IsDiffRefused, IsOfDiff, IsPairRefused};
+ghost use Rattle.hwdb_spec.specs.ComparedDatabases.{HasDiffReason, IsCompared, IsDiffed, IsDiffRefused, IsOfDiff};
 ghost use Rattle.hwdb_spec.specs.Texts.{devices_of};
+ghost use Rattle.hwdb_tool.specs.SideSteps.{IsPairError};
 ghost use Rattle.hwdb_tool.specs.Views.{texts_in};
 
 use crate::answer::Answer;
 use crate::checks::{read_given, with_paths};
 use crate::given::input_text;
+use crate::sides::side;
 use hwdb_fs::{Refusal, System};
-use hwdb_inspect::{Changes, DiffError, diff_devices};
+use hwdb_inspect::{Changes, DiffError, diff_devices, stat, stat_devices};
 use hwdb_io::Source;
 use hwdb_lint::TextFile;
 use hwdb_print::ToolError;
 use hwdb_text::Lines;
 use std::alloc::{AllocError, Global};
 
-/// What changed from the database at one path to that at another, as text or JSON. For the devices of the given files, a line each,
-/// it is what changed in what each of them gets; without a file it is each pattern and key for which the two differ. `-` is what
-/// `input` has left. The status is 1 if something changed, else 0.
+/// What changed from the side at one path to that at another, as text or JSON. For the devices of the given files, a line each, it is
+/// what changed in what each of them gets; without a file it is each pattern and key for which the two differ. `-` is what `input` has
+/// left. If `stat` it is how many assignments came, went and changed. The status is 1 if something changed, else 0.
 ///
-/// All files of devices are read first, in their order, and then the old database and the new one: the error is the first that comes so.
+/// All files of devices are read first, in their order, and then the old side and the new one: the error is the first that comes so.
 pub fn diff<D: System, I: Source>(
     alloc: Global,
     old_path: &str,
     new_path: &str,
     given: &[String],
+    stat: bool,
     json: bool,
     system: &D,
     input: &mut I,
 ) -> Result<Answer, Refusal>
-    ensures diffed { D.Store.tells → IfOk result (λ a. OnOut (λ text. IsDiffed json
+    ensures diffed { D.Store.tells → IfOk result (λ a. OnOut (λ text. IsDiffed stat json
         (map string_bytes given.now) old_path.now new_path.now (I.left input.old)
         (D.Store.seen system.now) text a.status) (texts_in a)) }
     ensures refused { D.Store.tells → IfErr result (IsDiffRefused (map string_bytes given.now)
@@ -51,7 +52,7 @@ pub fn diff<D: System, I: Source>(
     let text = input_text(alloc, given, input)?;
     let texts = read_given(alloc, given, given, &text, system)?;
     let files = with_paths(alloc, given, &texts)?;
-    compared(alloc, old_path, new_path, json, &files, system)
+    compared(alloc, old_path, new_path, stat, json, &files, system)
 }
 
 /// The same of files that were read.
@@ -59,48 +60,91 @@ fn compared<D: System>(
     alloc: Global,
     old_path: &str,
     new_path: &str,
+    stat: bool,
     json: bool,
     files: &[TextFile<'_>],
     system: &D,
 ) -> Result<Answer, Refusal>
     ensures compared { D.Store.tells → IfOk result (λ a. OnOut (λ text. IsCompared
-        (comparison_text json (devices_named (map source_of files.now)))
+        (comparison_form stat json (devices_named (map source_of files.now)))
         (has_changed (devices_named (map source_of files.now)))
         old_path.now new_path.now (D.Store.seen system.now) text a.status) (texts_in a)) }
-    ensures refused { D.Store.tells → IfErr result
-        (IsPairRefused old_path.now new_path.now (D.Store.seen system.now)) }
-    ensures reason { IfErr result (HasReason
-        (IsUnreadable (D.System.may_fail system.now) (D.Store.seen system.now)) ⊥
-        (D.Store.seen system.now)) }
+    ensures refused { D.Store.tells → IfErr result (IsPairError
+        (D.System.may_fail system.now) (D.Store.seen system.now) old_path.now new_path.now) }
 {
-    let old = system.input(alloc, old_path)?;
-    let new = system.input(alloc, new_path)?;
-    match changes_of(alloc, json, files, &old, &new) {
+    let old = side(alloc, old_path, system)?;
+    let new = side(alloc, new_path, system)?;
+    match changes_of(alloc, stat, json, files, &old, &new) {
         Ok(changes) => Ok(Answer::new(alloc, changes.text, status_of(changes.differ))),
         Err(error) => Err(refusal_of(alloc, error, old_path, new_path)),
+    }
+}
+
+/// What changed from one database to another, of all that they assign.
+fn assigned_changes(
+    alloc: Global,
+    counts: bool,
+    json: bool,
+    old: &[u8],
+    new: &[u8],
+) -> Result<Changes, DiffError>
+    ensures text { IfOk result (λ changes. IsDiffText
+        (comparison_form counts json None) old.now new.now changes.text.items) }
+    ensures differ { IfOk result
+        (λ changes. IsDifferent (has_changed None) old.now new.now changes.differ) }
+    ensures errors { IfErr result (IsDiffRefusal old.now new.now) }
+{
+    if counts {
+        stat(alloc, json, old, new)
+    } else {
+        hwdb_inspect::diff(alloc, json, old, new)
+    }
+}
+
+/// The same of what some devices get.
+fn device_changes(
+    alloc: Global,
+    counts: bool,
+    json: bool,
+    old: &[u8],
+    new: &[u8],
+    devices: &[&[u8]],
+) -> Result<Changes, DiffError>
+    ensures text { IfOk result (λ changes. IsDiffText
+        (comparison_form counts json (Some (map (λ d. d.now) devices.now)))
+        old.now new.now changes.text.items) }
+    ensures differ { IfOk result (λ changes. IsDifferent
+        (has_changed (Some (map (λ d. d.now) devices.now))) old.now new.now changes.differ) }
+    ensures errors { IfErr result (IsDiffRefusal old.now new.now) }
+{
+    if counts {
+        stat_devices(alloc, json, old, new, devices)
+    } else {
+        diff_devices(alloc, json, old, new, devices)
     }
 }
 
 /// What changed from one database to another, for the devices of some files if there are any.
 fn changes_of(
     alloc: Global,
+    counts: bool,
     json: bool,
     files: &[TextFile<'_>],
     old: &[u8],
     new: &[u8],
 ) -> Result<Changes, DiffError>
     ensures text { IfOk result (λ changes. IsDiffText
-        (comparison_text json (devices_named (map source_of files.now)))
+        (comparison_form counts json (devices_named (map source_of files.now)))
         old.now new.now changes.text.items) }
     ensures differ { IfOk result (λ changes. IsDifferent
         (has_changed (devices_named (map source_of files.now))) old.now new.now changes.differ) }
     ensures errors { IfErr result (IsDiffRefusal old.now new.now) }
 {
     if files.is_empty() {
-        return hwdb_inspect::diff(alloc, json, old, new);
+        return assigned_changes(alloc, counts, json, old, new);
     }
     let devices = devices_in(alloc, files)?;
-    diff_devices(alloc, json, old, new, &devices)
+    device_changes(alloc, counts, json, old, new, &devices)
 }
 
 /// Adds the devices that a text names, a line each. The only error, here and below, is `AllocError`.
@@ -134,7 +178,7 @@ fn status_of(differ: bool) -> u8
     if differ { 1 } else { 0 }
 }
 
-/// What is refused if the databases at these paths can't be compared.
+/// The error if the databases of these sides can't be compared.
 fn refusal_of(alloc: Global, error: DiffError, old_path: &str, new_path: &str) -> Refusal
     ensures { IsOfDiff error old_path.now new_path.now result }
 {

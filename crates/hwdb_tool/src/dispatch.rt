@@ -1,5 +1,5 @@
 //! The program: its words, its files, its status and its refusal lines.
-ghost use Rattle.std.specs.Prelude.{◌≡◌, ◌<◌, ◌≤◌, ◌⊎◌, false, map, option_map, string_bytes, IfOk, IfErr};
+ghost use Rattle.std.specs.Prelude.{◌≡◌, ◌<◌, ◌≤◌, ◌⊎◌, false, map, option_map, string_bytes, IfOk, IfErr, OnOk};
 ghost use Rattle.hwdb_spec.specs.Flushing.{HandsOn, HasHandedOn};
 ghost use Rattle.hwdb_spec.specs.Store as spec;
 ghost use Rattle.hwdb_spec.specs.SysfsAnswers.{sight_by};
@@ -238,6 +238,7 @@ pub fn run<D: Machine, I: Source, O: Sink, E: Sink>(
         IfErr result (IsNotDone job.now.task (root_of job.now) job.now.usr
         job.now.strict (world system.old input.old out.old err.old)
         (world system.new input.new out.new err.new)) }
+    ensures unfailed { OnOk result (O.failures out.new ≡ O.failures out.old) }
     ensures out_hands_on { HandsOn (O.is_flushed out.old) (O.is_flushed out.new)
         (O.failures out.old) (O.failures out.new) }
     ensures err_hands_on { HandsOn (E.is_flushed err.old) (E.is_flushed err.new)
@@ -327,9 +328,10 @@ pub fn run<D: Machine, I: Source, O: Sink, E: Sink>(
             new,
             devices,
             json,
+            stat,
         } => {
             let (old, new) = (old.as_str(), new.as_str());
-            let answer = diff(alloc, old, new, devices, *json, system, input);
+            let answer = diff(alloc, old, new, devices, *stat, *json, system, input);
             printed(answer, out, err)
         }
         Task::Status { json, quiet } => {

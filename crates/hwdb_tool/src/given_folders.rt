@@ -17,7 +17,7 @@ use hwdb_text::{Chosen, SelectError, select};
 use std::alloc::{AllocError, Global};
 
 /// A path without a slash at its end.
-fn folder_of(path: &str) -> &str
+pub fn folder_of(path: &str) -> &str
     ensures { result.now ≡ CheckedFiles.folder_of path.now }
 {
     match path.strip_suffix("/") {
@@ -27,7 +27,7 @@ fn folder_of(path: &str) -> &str
 }
 
 /// A path alone.
-fn alone(alloc: Global, path: &str) -> Result<Vec<String>, AllocError>
+pub fn alone(alloc: Global, path: &str) -> Result<Vec<String>, AllocError>
     ensures { IfOk result (λ own. map string_bytes own.items ≡ path.now ∷ []) }
 {
     let mut own = Vec::new(alloc);
@@ -64,7 +64,7 @@ fn chosen_of(alloc: Global, all: &[String]) -> Result<Vec<Chosen>, Refusal>
 }
 
 /// What a path stands for, if its folder has these text files.
-fn files_in(alloc: Global, path: &str, all: &[String]) -> Result<Vec<String>, Refusal>
+pub fn files_in(alloc: Global, path: &str, all: &[String]) -> Result<Vec<String>, Refusal>
     ensures files { IfOk result (λ own. map string_bytes own.items
         ≡ CheckedFiles.files_in path.now (map string_bytes all.now)) }
     ensures few { IfOk result (λ _. length (names (map string_bytes all.now) []) ≤ max_files) }

@@ -41,6 +41,7 @@ pub fn answer_input<D: System, I: Source, O: Sink>(
     ensures reason { D.Store.tells → IfErr result (HasAskedReason true root.now
         (D.System.may_fail system.now) (D.Store.seen system.now)
         (I.left input.old) (I.failures input.old) (I.failures input.new)) }
+    ensures unfailed { OnOk result (O.failures out.new ≡ O.failures out.old) }
     ensures hands_on { HandsOn (O.is_flushed out.old) (O.is_flushed out.new)
         (O.failures out.old) (O.failures out.new) }
 {

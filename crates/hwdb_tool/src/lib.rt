@@ -20,7 +20,7 @@
 //! | `verification` | `verify`; `verdicts`: its words on bytes that are no database |
 //! | `dumps` | `dump` |
 //! | `statuses` | `status` |
-//! | `over_text` | `--text`: the text files in place of a database |
+//! | `over_text` | `--text`: the text files in place of a database; `besides`: what `explain` tells of them that no database can |
 //! | `databases` | the database that a command asks for |
 //! | `given` | files that words name, or standard input |
 //! | `given_folders` | the text files for which the paths of `check` stand |
@@ -36,6 +36,7 @@
 
 mod answer;
 mod answers;
+mod besides;
 mod checks;
 mod coloured;
 mod crash;
@@ -60,6 +61,7 @@ mod printing;
 mod progress;
 mod queries;
 mod reloading;
+mod sides;
 mod statuses;
 mod trials;
 mod updates;

@@ -1,16 +1,19 @@
 //! `--text`: a task over the text files of both folders, as an update would compile them now. Nothing is written.
-ghost use Rattle.std.specs.Prelude.{◌≡◌, ◌≤◌, List, false, map, option_map, string_bytes, true, IfErr, IfOk};
+ghost use Rattle.std.specs.Prelude.{◌≡◌, ◌≤◌, List, false, map, option_map, string_bytes, true, IfErr, IfOk, OnOk};
 ghost use Rattle.hwdb_spec.specs.Flushing.{HandsOn};
 ghost use Rattle.hwdb_spec.specs.Folders.{Source};
-ghost use Rattle.hwdb_spec.specs.OverText.{AreTextsRefused, misuse_text, takes_text};
+ghost use Rattle.hwdb_spec.specs.OverText.{AreTextsRefused, misuse_text, takes_text, text_besides};
 ghost use Rattle.hwdb_spec.specs.Program.{IsDoneOverText, asks_text, reads_input, root_of};
 ghost use Rattle.hwdb_spec.specs.Refusals.{HasReason, IsInWords};
 ghost use Rattle.hwdb_spec.specs.Runs.{files_by, told_by, world_by};
 ghost use Rattle.hwdb_spec.specs.Status.{IsMade};
 ghost use Rattle.hwdb_spec.specs.SysfsAnswers.{sight_by};
 ghost use Rattle.hwdb_spec.specs.TaskRefusals.{IsNotDoneFrom};
+ghost use Rattle.hwdb_tool.specs.Internal.{IsDoneOver, IsNotDoneOver};
 
+use crate::besides::text_besides;
 use crate::dispatch::{root_of, run};
+use crate::printing::say;
 use crate::statuses::compiled;
 use hwdb_cli::{Job, Task};
 use hwdb_fs::{Machine, Overlay, Refusal, System, selected, with_texts};
@@ -73,11 +76,21 @@ fn misused(alloc: Global, text: &str) -> Refusal
     }
 }
 
-/// The database that an update would write now of the text files of both folders below the root. Errors are, in this order: the
-/// text files can't be read, and they can't be compiled.
-fn made<D: System>(alloc: Global, root: &str, system: &D) -> Result<Vec<u8>, Refusal>
-    ensures made { D.Store.tells → IfOk result (λ b. (of_etc of_usr : List Source)
-        × IsMade root.now (D.Store.seen system.now) of_etc of_usr b.items) }
+/// What `--text` answers from.
+#[derive(Drop)]
+struct Basis {
+    /// The database that an update would write now.
+    database: Vec<u8>,
+    /// What the task says besides.
+    besides: Vec<u8>,
+}
+
+/// The database that an update would write now of the text files of both folders below the root, and what the task says besides.
+/// Errors are, in this order: the text files can't be read, and they can't be compiled.
+fn made<D: System>(alloc: Global, task: &Task, root: &str, system: &D) -> Result<Basis, Refusal>
+    ensures made { D.Store.tells → IfOk result (λ m. (of_etc of_usr : List Source)
+        × IsMade root.now (D.Store.seen system.now) of_etc of_usr m.database.items
+        × (m.besides.items ≡ text_besides task.now of_etc of_usr)) }
     ensures refused { D.Store.tells → IfErr result
         (AreTextsRefused root.now (D.Store.seen system.now)) }
     ensures reason { D.Store.tells → IfErr result
@@ -86,10 +99,51 @@ fn made<D: System>(alloc: Global, root: &str, system: &D) -> Result<Vec<u8>, Ref
     let selection = selected(alloc, root, system)?;
     let files = with_texts(alloc, &selection.chosen, &selection.texts)?;
     let made = compiled(alloc, &files)?;
-    Ok(made.database)
+    let besides = text_besides(alloc, task, &files, &selection.listed)?;
+    Ok(Basis {
+        database: made.database,
+        besides,
+    })
 }
 
-/// Does the job over the files as they are, but that the database has the bytes that an update would write now. Returns the status.
+/// Does the job's task over the files as they are, but that the database has these bytes. Returns the status.
+fn run_over<D: Machine, I: Source, O: Sink, E: Sink>(
+    alloc: Global,
+    job: &Job,
+    database: &[u8],
+    system: &D,
+    input: &mut I,
+    out: &mut O,
+    err: &mut E,
+) -> Result<u8, Refusal>
+    requires { asks_text job.now ≡ true }
+    ensures status { IfOk result (λ status. status ≤ 1) }
+    ensures unread { reads_input job.now.task ≡ false → input.new ≡ input.old }
+    ensures done { D.Store.tells → let world = world_by (sight_by D.answers)
+        (files_by D.Store.seen D.System.may_fail D.Store.may_leave D.Store.failures)
+        (told_by I.left I.failures) (told_by O.taken O.failures) (told_by E.taken E.failures) in
+        IfOk result (IsDoneOver job.now database.now
+        (world system.now input.old out.old err.old)
+        (world system.now input.new out.new err.new)) }
+    ensures refused { D.Store.tells → let world = world_by (sight_by D.answers)
+        (files_by D.Store.seen D.System.may_fail D.Store.may_leave D.Store.failures)
+        (told_by I.left I.failures) (told_by O.taken O.failures) (told_by E.taken E.failures) in
+        IfErr result (IsNotDoneOver job.now database.now
+        (world system.now input.old out.old err.old)
+        (world system.now input.new out.new err.new)) }
+    ensures unfailed { OnOk result (O.failures out.new ≡ O.failures out.old) }
+    ensures out_hands_on { HandsOn (O.is_flushed out.old) (O.is_flushed out.new)
+        (O.failures out.old) (O.failures out.new) }
+    ensures err_hands_on { HandsOn (E.is_flushed err.old) (E.is_flushed err.new)
+        (E.failures err.old) (E.failures err.new) }
+{
+    let root = root_of(job);
+    let mut shown = Overlay::new(system, root, database);
+    run(alloc, job, &mut shown, input, out, err)
+}
+
+/// Does the job over the files as they are, but that the database has the bytes that an update would write now. After that `out` gets what
+/// is said besides. Returns the status.
 ///
 /// Errors are, in this order: words don't fit `--text`, the text files can't be read, they can't be compiled, and those of the task.
 /// Beside the task's own time it takes that of an update without its sync.
@@ -125,7 +179,8 @@ pub fn run_over_text<D: Machine, I: Source, O: Sink, E: Sink>(
         return Err(misused(alloc, text));
     }
     let root = root_of(job);
-    let bytes = made(alloc, root, system)?;
-    let mut shown = Overlay::new(system, root, &bytes);
-    run(alloc, job, &mut shown, input, out, err)
+    let made = made(alloc, &job.task, root, system)?;
+    let status = run_over(alloc, job, &made.database, system, input, out, err)?;
+    say(&made.besides, out)?;
+    Ok(status)
 }

@@ -1,5 +1,5 @@
 //! What a command prints, and the one place where it is printed.
-ghost use Rattle.std.specs.Prelude.{[], ◌≡◌, ◌≤◌, IfErr, IfOk, OnOk};
+ghost use Rattle.std.specs.Prelude.{[], ◌≡◌, ◌≢◌, ◌≤◌, IfErr, IfOk, OnOk};
 ghost use Rattle.hwdb_spec.specs.Flushing.{HandsOn};
 ghost use Rattle.hwdb_spec.specs.Runs.{HasTaken, Printed, PrintedPart, WasCut, told_by};
 ghost use Rattle.hwdb_tool.specs.Views.{IsNotPrinted, IsPrintedWith, texts_in};
@@ -17,6 +17,7 @@ pub fn say<E: Sink>(text: &[u8], err: &mut E) -> Result<(), Refusal>
     ensures quiet { text.now ≡ [] → err.new ≡ err.old }
     ensures refused { IfErr result (λ r. (r ≡ Plain ToolError.Write) × WasCut text.now
         (told_by E.taken E.failures err.old) (told_by E.taken E.failures err.new)) }
+    ensures some { IfErr result (λ _. text.now ≢ []) }
     ensures hands_on { HandsOn (E.is_flushed err.old) (E.is_flushed err.new)
         (E.failures err.old) (E.failures err.new) }
 {
@@ -42,6 +43,7 @@ pub fn printed<O: Sink, E: Sink>(
     ensures refused { IfErr result (λ r. IsNotPrinted answer r
         (told_by E.taken E.failures err.old) (told_by E.taken E.failures err.new)
         (told_by O.taken O.failures out.old) (told_by O.taken O.failures out.new)) }
+    ensures unfailed { OnOk result (O.failures out.new ≡ O.failures out.old) }
     ensures out_hands_on { HandsOn (O.is_flushed out.old) (O.is_flushed out.new)
         (O.failures out.old) (O.failures out.new) }
     ensures err_hands_on { HandsOn (E.is_flushed err.old) (E.is_flushed err.new)
@@ -63,6 +65,7 @@ fn print<O: Sink, E: Sink>(answer: &Answer, out: &mut O, err: &mut E) -> Result<
         × PrintedPart (λ texts. texts ≡ texts_in answer.now)
         (told_by E.taken E.failures err.old) (told_by E.taken E.failures err.new)
         (told_by O.taken O.failures out.old) (told_by O.taken O.failures out.new)) }
+    ensures unfailed { OnOk result (O.failures out.new ≡ O.failures out.old) }
     ensures out_hands_on { HandsOn (O.is_flushed out.old) (O.is_flushed out.new)
         (O.failures out.old) (O.failures out.new) }
     ensures err_hands_on { HandsOn (E.is_flushed err.old) (E.is_flushed err.new)

@@ -1,11 +1,13 @@
 //! `status`: the database that is asked, beside the one that the text files make. Nothing is written.
-ghost use Rattle.std.specs.Prelude.{◌≡◌, ◌≤◌, ◌++◌, ℕ, List, All, Some, codes, false, length, map, option_map, string_bytes, true, IfErr, IfOk, IfSome, OnOk};
+ghost use Rattle.std.specs.Prelude.{◌≡◌, ◌≤◌, ◌++◌, ℕ, List, All, None, Some, codes, false, length, map, option_map, string_bytes, true, IfErr, IfOk, IfSome, OnOk};
 ghost use Rattle.hwdb_compile.specs.Views.{ForFolders, choice_in};
 ghost use Rattle.hwdb_fs.specs.Internal.{IsNameSet};
 ghost use Rattle.hwdb_spec.specs.Refusals.{HasReason, IsUnreadAt};
 ghost use Rattle.hwdb_spec.specs.Status;
-ghost use Rattle.hwdb_spec.specs.Status.{IsStatus, has_database, masked_of, root_words};
-ghost use Rattle.hwdb_inspect.specs.Views.{report_shown, state_shown};
+ghost use Rattle.hwdb_spec.specs.Assignment.{ascending};
+ghost use Rattle.hwdb_spec.specs.Reading.{AreUnread};
+ghost use Rattle.hwdb_spec.specs.Status.{IsAmount, IsStatus, has_database, hidden_database, masked_of, root_words};
+ghost use Rattle.hwdb_inspect.specs.Views.{amount_shown, report_shown, state_shown};
 ghost use Rattle.hwdb_spec.specs.Asked;
 ghost use Rattle.hwdb_spec.specs.Runs.{OnOut};
 ghost use Rattle.hwdb_spec.specs.System as Folder;
@@ -14,8 +16,8 @@ ghost use Rattle.hwdb_spec.specs.Texts.{max_file};
 ghost use Rattle.hwdb_spec.specs.Tree.{Map};
 ghost use Rattle.hwdb_spec.specs.Written.{IsDatabaseOf};
 ghost use Rattle.hwdb_text.specs.Views.{IsStorableChoice, choice_of};
-ghost use Rattle.hwdb_spec.specs.StatusErrors.{IsAskedUnread, IsNotCompiled, IsStatusRefused};
-ghost use Rattle.hwdb_tool.specs.Statuses.{AreMadeOf, IsReported};
+ghost use Rattle.hwdb_spec.specs.StatusErrors.{IsNotCompiled, IsStatusRefused};
+ghost use Rattle.hwdb_tool.specs.Statuses.{AreIgnored, AreMadeOf, IsOneUnread, IsReported, ignored_path};
 ghost use Rattle.hwdb_tool.specs.Views.{texts_in};
 ghost use Rattle.hwdb_spec.specs.declared.errors.ToolError.{ToolError};
 ghost use Rattle.hwdb_spec.specs.declared.refusals.Refusal.TheVariants.{Plain};
@@ -25,20 +27,30 @@ use crate::databases::{ETC_FOLDER, USR_FOLDER, found_in};
 use crate::hiding::database_path;
 use crate::progress::masks;
 use hwdb_compile::{ChosenFile, Compiled, compile_chosen};
-use hwdb_fs::{Refusal, System, name_set, selected, with_texts};
-use hwdb_inspect::{Report, State, report_in, state_of};
+use hwdb_fs::{Refusal, System, TextFolders, name_set, selected, with_texts};
+use hwdb_inspect::{Amount, Report, Standing, amount_of, in_order, report_in, standing_of};
 use hwdb_io::MAX_BYTES;
 use hwdb_print::ToolError;
 use hwdb_text::Chosen;
 use std::alloc::{AllocError, Global};
 use std::collections::BTreeSet;
 
-/// The database that is asked, and of which folders there is one.
+/// The database that is asked, the one that it hides, and of which folders there is one.
 #[derive(Drop)]
 struct AskedDatabase {
     etc: bool,
     usr: bool,
     bytes: Option<Vec<u8>>,
+    hidden: Option<Vec<u8>>,
+}
+
+/// The paths of files that aren't read.
+#[derive(Drop)]
+struct UnreadFiles {
+    /// Of text files that others mask.
+    masked: Vec<Vec<u8>>,
+    /// Of files that are none, by their names.
+    ignored: Vec<Vec<u8>>,
 }
 
 /// The path of a text file of /usr/lib.
@@ -69,7 +81,7 @@ fn push_masked(
 }
 
 /// The paths of text files of /usr/lib that chosen ones mask. The only error is `AllocError`.
-fn masked_paths(
+pub(crate) fn masked_paths(
     alloc: Global,
     files: &[ChosenFile<'_>],
     listed: &[String],
@@ -82,6 +94,58 @@ fn masked_paths(
     for file in files {
         push_masked(alloc, &mut paths, file.choice, &set)?;
     }
+    Ok(paths)
+}
+
+/// The path of an ignored file of a folder.
+fn ignored_path(alloc: Global, usr: bool, name: &[u8]) -> Result<Vec<u8>, AllocError>
+    ensures { IfOk result (λ path. path.items ≡ ignored_path usr name.now) }
+{
+    let folder = if usr {
+        "/usr/lib/udev/hwdb.d/"
+    } else {
+        "/etc/udev/hwdb.d/"
+    };
+    let mut path = Vec::from_slice(alloc, folder.as_bytes())?;
+    path.extend_from_slice(name)?;
+    Ok(path)
+}
+
+/// Adds the paths of ignored files of a folder, in the order of their names, each once.
+fn push_ignored(
+    alloc: Global,
+    paths: &mut Vec<Vec<u8>>,
+    usr: bool,
+    names: &[Vec<u8>],
+) -> Result<(), AllocError>
+    ensures { OnOk result (map (λ p. p.items) paths.new.items ≡ map (λ p. p.items) paths.old.items
+        ++ map (ignored_path usr) (ascending (map (λ n. n.items) names.now))) }
+{
+    let ordered = in_order(alloc, names)?;
+    for name in &ordered {
+        paths.push(ignored_path(alloc, usr, name)?)?;
+    }
+    Ok(())
+}
+
+/// The paths of ignored files of both folders below the root, those of /etc first.
+fn ignored_paths<D: TextFolders>(
+    alloc: Global,
+    root: &str,
+    system: &D,
+) -> Result<Vec<Vec<u8>>, Refusal>
+    ensures paths { D.Store.tells → IfOk result (λ paths. AreIgnored
+        root.now (D.Store.seen system.now) (map (λ p. p.items) paths.items)) }
+    ensures refused { D.Store.tells
+        → IfErr result (AreUnread root.now (D.Store.seen system.now)) }
+    ensures reason { IfErr result
+        (HasReason (D.System.may_fail system.now) ⊥ (D.Store.seen system.now)) }
+{
+    let etc = system.ignored_names(alloc, root, false)?;
+    let usr = system.ignored_names(alloc, root, true)?;
+    let mut paths = Vec::new(alloc);
+    push_ignored(alloc, &mut paths, false, &etc)?;
+    push_ignored(alloc, &mut paths, true, &usr)?;
     Ok(paths)
 }
 
@@ -100,13 +164,25 @@ pub fn compiled(alloc: Global, files: &[ChosenFile<'_>]) -> Result<Compiled, Ref
     }
 }
 
-/// Whether there is a database of /usr/lib.
-fn is_usr_there<D: System>(alloc: Global, root: &str, system: &D) -> Result<bool, AllocError>
-    ensures { D.Store.tells → IfOk result
-        (λ there. there ≡ has_database true root.now (D.Store.seen system.now)) }
+/// The database of /usr/lib, if there is one.
+fn usr_database<D: System>(
+    alloc: Global,
+    root: &str,
+    system: &D,
+) -> Result<Option<Vec<u8>>, Refusal>
+    ensures bytes { D.Store.tells → IfOk result (λ found. option_map (λ b. b.items) found
+        ≡ bytes_at (D.Store.seen system.now) (Asked.database_path true root.now)) }
+    ensures within { IfOk result (λ found. IfSome (option_map (λ b. b.items) found)
+        (λ b. length b ≤ max_file)) }
+    ensures refused { D.Store.tells → IfErr result (IsUnreadAt (D.Store.seen system.now)
+        (Asked.database_path true root.now)) }
+    ensures reason { IfErr result
+        (HasReason (D.System.may_fail system.now) ⊥ (D.Store.seen system.now)) }
 {
-    let path = database_path(alloc, root, true)?;
-    system.is_there(alloc, path.as_str())
+    match found_in(alloc, root, USR_FOLDER, system)? {
+        Some(found) => Ok(Some(found.bytes)),
+        None => Ok(None),
+    }
 }
 
 /// The database of /usr/lib, if there is none of /etc.
@@ -118,26 +194,51 @@ fn asked_in_usr<D: System>(alloc: Global, root: &str, system: &D) -> Result<Aske
         ≡ bytes_at (D.Store.seen system.now) (Asked.database_path true root.now)) }
     ensures within { IfOk result (λ a. IfSome (option_map (λ b. b.items) a.bytes)
         (λ b. length b ≤ max_file)) }
+    ensures hidden { IfOk result (λ a. option_map (λ b. b.items) a.hidden ≡ None) }
     ensures refused { D.Store.tells → IfErr result (IsUnreadAt (D.Store.seen system.now)
         (Asked.database_path true root.now)) }
     ensures reason { IfErr result
         (HasReason (D.System.may_fail system.now) ⊥ (D.Store.seen system.now)) }
 {
-    match found_in(alloc, root, USR_FOLDER, system)? {
-        Some(found) => Ok(AskedDatabase {
-            etc: false,
-            usr: true,
-            bytes: Some(found.bytes),
-        }),
-        None => Ok(AskedDatabase {
-            etc: false,
-            usr: false,
-            bytes: None,
-        }),
-    }
+    let bytes = usr_database(alloc, root, system)?;
+    Ok(AskedDatabase {
+        etc: false,
+        usr: bytes.is_some(),
+        bytes,
+        hidden: None,
+    })
 }
 
-/// The database that is asked, if there is one.
+/// The database of /etc, which has these bytes, and the one of /usr/lib that it hides.
+fn asked_in_etc<D: System>(
+    alloc: Global,
+    root: &str,
+    bytes: Vec<u8>,
+    system: &D,
+) -> Result<AskedDatabase, Refusal>
+    ensures etc { IfOk result (λ a. a.etc ≡ true) }
+    ensures usr { D.Store.tells → IfOk result
+        (λ a. a.usr ≡ has_database true root.now (D.Store.seen system.now)) }
+    ensures bytes { IfOk result (λ a. option_map (λ b. b.items) a.bytes ≡ Some bytes.items) }
+    ensures hidden { D.Store.tells → IfOk result (λ a. option_map (λ b. b.items) a.hidden
+        ≡ bytes_at (D.Store.seen system.now) (Asked.database_path true root.now)) }
+    ensures within { IfOk result (λ a. IfSome (option_map (λ b. b.items) a.hidden)
+        (λ b. length b ≤ max_file)) }
+    ensures refused { D.Store.tells → IfErr result (IsUnreadAt (D.Store.seen system.now)
+        (Asked.database_path true root.now)) }
+    ensures reason { IfErr result
+        (HasReason (D.System.may_fail system.now) ⊥ (D.Store.seen system.now)) }
+{
+    let hidden = usr_database(alloc, root, system)?;
+    Ok(AskedDatabase {
+        etc: true,
+        usr: hidden.is_some(),
+        bytes: Some(bytes),
+        hidden,
+    })
+}
+
+/// The database that is asked, if there is one, and the one that it hides.
 fn asked_database<D: System>(
     alloc: Global,
     root: &str,
@@ -151,20 +252,17 @@ fn asked_database<D: System>(
         ≡ Folder.asked_database root.now (D.Store.seen system.now)) }
     ensures within { IfOk result (λ a. IfSome (option_map (λ b. b.items) a.bytes)
         (λ b. length b ≤ max_file)) }
+    ensures hidden { D.Store.tells → IfOk result (λ a. option_map (λ b. b.items) a.hidden
+        ≡ hidden_database root.now (D.Store.seen system.now)) }
+    ensures hidden_within { IfOk result (λ a. IfSome (option_map (λ b. b.items) a.hidden)
+        (λ b. length b ≤ max_file)) }
     ensures refused { D.Store.tells
-        → IfErr result (IsAskedUnread root.now (D.Store.seen system.now)) }
+        → IfErr result (IsOneUnread root.now (D.Store.seen system.now)) }
     ensures reason { IfErr result
         (HasReason (D.System.may_fail system.now) ⊥ (D.Store.seen system.now)) }
 {
     match found_in(alloc, root, ETC_FOLDER, system)? {
-        Some(found) => {
-            let usr = is_usr_there(alloc, root, system)?;
-            Ok(AskedDatabase {
-                etc: true,
-                usr,
-                bytes: Some(found.bytes),
-            })
-        }
+        Some(found) => asked_in_etc(alloc, root, found.bytes, system),
         None => asked_in_usr(alloc, root, system),
     }
 }
@@ -266,18 +364,23 @@ fn report_of(
     root: &str,
     etc: bool,
     usr: bool,
-    masked: Vec<Vec<u8>>,
-    state: State,
+    standing: Standing,
+    hidden: Option<Amount>,
+    unread: UnreadFiles,
 ) -> Result<Report, AllocError>
-    ensures { IfOk result (λ report. report_shown report
-        ≡ Status.report_of root.now etc usr (map (λ p. p.items) masked.items)
-        (state_shown state)) }
+    ensures { IfOk result (λ report. report_shown report ≡ Status.report_of root.now etc usr
+        (option_map amount_shown standing.holds) (option_map amount_shown hidden)
+        (map (λ p. p.items) unread.masked.items) (map (λ p. p.items) unread.ignored.items)
+        (state_shown standing.state)) }
 {
     Ok(Report {
         database: path_asked(alloc, root, etc, usr)?,
+        holds: standing.holds,
         hides: path_hidden(alloc, root, etc, usr)?,
-        masked,
-        state,
+        hidden,
+        masked: unread.masked,
+        ignored: unread.ignored,
+        state: standing.state,
         remedy: remedy_of(alloc, root, etc, usr)?,
     })
 }
@@ -292,6 +395,17 @@ fn bytes_of(bytes: &Option<Vec<u8>>) -> Option<&[u8]>
     }
 }
 
+/// How much is in bytes that there may be.
+fn amount_if(alloc: Global, bytes: &Option<Vec<u8>>) -> Result<Option<Amount>, AllocError>
+    ensures { IfOk result (λ amount. IsAmount (option_map (λ b. b.items) bytes.now)
+        (option_map amount_shown amount)) }
+{
+    match bytes {
+        Some(bytes) => Ok(Some(amount_of(alloc, bytes.as_slice())?)),
+        None => Ok(None),
+    }
+}
+
 /// What is reported of the asked database, beside bytes that the text files make.
 fn reported<D: System>(
     alloc: Global,
@@ -299,31 +413,32 @@ fn reported<D: System>(
     json: bool,
     quiet: bool,
     made: &[u8],
-    masked: Vec<Vec<u8>>,
+    unread: UnreadFiles,
     system: &D,
 ) -> Result<Answer, Refusal>
     ensures reported { D.Store.tells → IfOk result (λ a. (m : Map) → IsDatabaseOf m made.now
         → IsReported root.now json quiet (D.Store.seen system.now) made.now m
-        (map (λ p. p.items) masked.items) a) }
+        (map (λ p. p.items) unread.masked.items) (map (λ p. p.items) unread.ignored.items) a) }
     ensures refused { D.Store.tells
-        → IfErr result (IsAskedUnread root.now (D.Store.seen system.now)) }
+        → IfErr result (IsOneUnread root.now (D.Store.seen system.now)) }
     ensures reason { IfErr result
         (HasReason (D.System.may_fail system.now) ⊥ (D.Store.seen system.now)) }
 {
     let asked = asked_database(alloc, root, system)?;
-    let state = state_of(alloc, bytes_of(&asked.bytes), made)?;
-    let report = report_of(alloc, root, asked.etc, asked.usr, masked, state)?;
+    let standing = standing_of(alloc, bytes_of(&asked.bytes), made)?;
+    let hidden = amount_if(alloc, &asked.hidden)?;
+    let report = report_of(alloc, root, asked.etc, asked.usr, standing, hidden, unread)?;
     let text = report_in(alloc, &report, json, quiet)?;
     Ok(Answer::new(alloc, text, report.status()))
 }
 
-/// Which database is asked, which one it hides, and which text files are masked: as lines, or with `json` as a line of JSON. It
-/// says too whether the asked one is what the text files of both folders below the root make now. The status is 0 if it is, and
-/// hides none, else 1. If `quiet` the status alone is told.
+/// Which database is asked, which one it hides, how much is in each, and which text files are masked or ignored: as lines, or with
+/// `json` as a line of JSON. It says too whether the asked one is what the text files of both folders below the root make now. The
+/// status is 0 if it is, and hides none, else 1. If `quiet` the status alone is told.
 ///
-/// Errors are, in this order: the text files can't be read, they can't be compiled, and the database that is asked can't be read.
-/// The time is that of an update without its sync.
-pub fn status<D: System>(
+/// Errors are, in this order: the text files can't be read, they can't be compiled, the database that is asked can't be read, and
+/// the one that it hides can't be read. The time is that of an update without its sync, and of a walk over each database.
+pub fn status<D: TextFolders>(
     alloc: Global,
     root: &str,
     json: bool,
@@ -338,8 +453,10 @@ pub fn status<D: System>(
         (HasReason (D.System.may_fail system.now) ⊥ (D.Store.seen system.now)) }
 {
     let selection = selected(alloc, root, system)?;
+    let ignored = ignored_paths(alloc, root, system)?;
     let files = with_texts(alloc, &selection.chosen, &selection.texts)?;
     let made = compiled(alloc, &files)?;
     let masked = masked_paths(alloc, &files, &selection.listed)?;
-    reported(alloc, root, json, quiet, &made.database, masked, system)
+    let unread = UnreadFiles { masked, ignored };
+    reported(alloc, root, json, quiet, &made.database, unread, system)
 }

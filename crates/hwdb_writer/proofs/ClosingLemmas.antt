@@ -7,7 +7,7 @@ use Rattle.hwdb_writer.specs.declared.builder.OpenBranch.{OpenBranch}
 use Rattle.hwdb_writer.specs.declared.builder.Builder.{Builder}
 use Rattle.hwdb_writer.proofs.SpineLemmas.{count-in, append_none, closed_frame, close_values, close_path, close_forked, whole_frame, cut_frame, cut_values, cut_path, length-under, below_more}
 use Rattle.hwdb_writer.proofs.OpenLemmas.{above_it, close_open, cut_open, lowest_end, last_is}
-use Rattle.hwdb_spec.specs.Lemmas.Lists.{same_byte, same_rest}
+use Rattle.hwdb_spec.specs.Lemmas.Lists.{same_byte}
 
 pub forked_filled : (fs : List Frame) → IsForkedTop fs → IsFilled fs
 unfolding IsForked

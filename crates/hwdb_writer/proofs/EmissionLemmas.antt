@@ -34,7 +34,7 @@ one_left G g cons xs i x is lt =
 pub none_left : {X A : Type 0} (G : List X → List A) → G [] ≡ [] → (xs : List X) (i : ℕ) → length xs ≤ i → G (drop i xs) ≡ []
 none_left G none xs i le = ap G (drop_all i xs le) ∙ none
 
-append-[] : {A : Type 0} (ys : List A) → ys ++ [] ≡ ys
+pub append-[] : {A : Type 0} (ys : List A) → ys ++ [] ≡ ys
 append-[] [] = refl
 append-[] (y ∷ ys) = ap (λ l. y ∷ l) (append-[] ys)
 
@@ -367,15 +367,6 @@ module _ (es : List Setting) (ns : List NodeRecord) (p : IsPostOrder es ns) (i :
       let s = ap (λ l. texts_size (children_in l)) next_trees ∙ size_more es trees node fits_here.before fits_here.among in
       omega (arith, a, b, c, s)
 
-  pub strings_step : (old words one next : List (List ℕ)) → SameMembers words (old ++ strings_below (children_in trees)) → (prefix : List ℕ) → prefix ≡ node.prefix.now → SameMembers one (words ++ prefix ∷ []) →
-      (vals : List Setting) → vals ≡ take node.count (drop node.first es) → SameMembers next (one ++ flat_map strings_of_value (map value_of vals)) → SameMembers next (old ++ strings_below (children_in (trees_at es ns (i + 1))))
-  strings_step old words one next a prefix e b vals f c =
-      let P : List Sub → Type 0 = λ l. SameMembers next (old ++ strings_below (children_in l)) in
-      let own : SameMembers next (words ++ (prefix ∷ flat_map strings_of_value (map value_of vals))) =
-      same_trans _ _ _ c (same_trans _ _ _ (same_both one (words ++ prefix ∷ []) _ _ b (same_refl _)) (same_path _ _ (append_assoc words (prefix ∷ []) (flat_map strings_of_value (map value_of vals))))) in
-      let Q : List (List ℕ) → Type 0 = λ z. SameMembers next (words ++ z) in
-      subst P (sym next_trees) (strings_more es trees node fits_here.before words old next a (subst Q (λ j. e j ∷ flat_map strings_of_value (map value_of (f j))) own))
-
   module _ (place : List ℕ → ℕ) (old out ch : List ℕ) (texts : out ≡ old ++ nodes_text place (length old) (children_in trees)) (entries : ch ≡ entries_text place (length old) (children_in trees)) where
     pub roomy_here : 16 * node.children ≤ length ch
     roomy_here = roomy es trees node fits_here.before place (length old) ch entries
@@ -411,10 +402,6 @@ module _ (es : List Setting) (ns : List NodeRecord) (p : IsPostOrder es ns) (i :
 pub size_begin : (es : List Setting) (ns : List NodeRecord) → 0 ≡ min (texts_size (children_in (trees_at es ns 0))) M
 unfolding trees_after text_size
 size_begin es ns = refl
-
-pub strings_begin : (es : List Setting) (ns : List NodeRecord) (old : List (List ℕ)) → SameMembers old (old ++ strings_below (children_in (trees_at es ns 0)))
-unfolding trees_after strings_of
-strings_begin es ns old = same_path _ _ (sym (append-[] old))
 
 pub texts_begin : (es : List Setting) (ns : List NodeRecord) (place : List ℕ → ℕ) (old : List ℕ) → old ≡ old ++ nodes_text place (length old) (children_in (trees_at es ns 0))
 unfolding trees_after node_text

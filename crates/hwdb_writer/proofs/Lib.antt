@@ -22,3 +22,4 @@ pub mod OneTreeLemmas
 pub mod ReadBackLemmas
 pub mod BridgeLemmas
 pub mod MembershipLemmas
+pub mod SplitLemmas

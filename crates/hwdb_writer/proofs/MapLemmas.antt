@@ -10,7 +10,6 @@ use Rattle.hwdb_spec.specs.Assignment.{Assignment}
 use Rattle.hwdb_spec.specs.Tree.{Value, Tree, Children, place_cmp, entry_of, assigned_at, values_under, values_below, key_of}
 use Rattle.hwdb_spec.specs.Tree.Tree.{Node}
 use Rattle.hwdb_spec.specs.Tree.Children.{NoMore, Child}
-use Rattle.hwdb_spec.specs.Lemmas.Orders.{then_equal}
 use Rattle.hwdb_spec.specs.Lemmas.Places.{equal_place}
 use Rattle.hwdb_spec.specs.Lemmas.Lists.{same_rest}
 

@@ -1,5 +1,5 @@
 -- Numbers of fewer bytes, side by side in eight bytes.
-use Rattle.std.proofs.Common.{◌≡◌, ℕ, ◌+◌, ◌*◌, ◌<◌, ◌^◌, ◌++◌, ◌∷◌, [], List, refl, sym, ap, ◌∙◌, arith}
+use Rattle.std.proofs.Common.{◌≡◌, ℕ, ◌+◌, ◌*◌, ◌<◌, ◌++◌, ◌∷◌, [], List, refl, arith}
 use Rattle.byteorder.specs.Endian.{little_bytes}
 use Rattle.hwdb_spec.specs.Tree.{Value}
 use Rattle.hwdb_spec.specs.Written.{padding, value_text}

@@ -88,20 +88,26 @@ fn common(a: &[u8], b: &[u8]) -> usize
     n
 }
 
+/// How many nodes come for an entry at most: the one that is opened for it, and the rest of one that is cut.
+const NODES_AN_ENTRY: usize = 2;
+
 impl<'t> Builder<'t> {
-    /// A root alone.
-    fn new(alloc: Global) -> Builder<'t>
-        ensures { (es : List EntryRecord) → (fs : List Frame) × IsBuilt es 0 result fs }
+    /// A root alone, and room for the nodes of so many entries.
+    fn new(alloc: Global, entries: usize) -> Result<Builder<'t>, AllocError>
+        ensures { IfOk result (λ made. (es : List EntryRecord)
+            → (fs : List Frame) × IsBuilt es 0 made fs) }
     {
-        Builder {
+        let room = entries.saturating_mul(NODES_AN_ENTRY).saturating_add(1);
+        let closed = Vec::with_capacity(alloc, room)?;
+        Ok(Builder {
             path: &[],
             top: OpenBranch {
                 node: BuiltNode::new(0, &[], 0),
                 end: 0,
             },
             above: Vec::new(alloc),
-            closed: Vec::new(alloc),
-        }
+            closed,
+        })
     }
 
     /// Closes the top node: it is one more child of the node above it, which then is the top node.
@@ -250,7 +256,7 @@ pub fn post_order<'t>(
     ensures values { IfOk result (λ nodes. values_under [] (tree_of entries.now nodes.items)
         ≡ map placed entries.now) }
 {
-    let mut builder = Builder::new(alloc);
+    let mut builder = Builder::new(alloc, entries.len())?;
     for (number, entry) in entries.iter().enumerate() {
         builder.add(entry.pattern, number)?;
     }

@@ -20,15 +20,15 @@ pub struct Interner<'t> {
 }
 
 impl<'t> Interner<'t> {
-    /// The empty string alone, and a registry of so many entries.
-    pub fn new(alloc: Global, entries: usize) -> Result<Interner<'t>, AllocError>
+    /// The empty string alone, and room for so many. The registry has as many entries.
+    pub fn new(alloc: Global, strings: usize) -> Result<Interner<'t>, AllocError>
         ensures { IfOk result (λ interner. interner.words.items ≡ [] ∷ []) }
     {
-        let mut words = Vec::new(alloc);
+        let mut words = Vec::with_capacity(alloc, strings.saturating_add(1))?;
         words.push(KeyedStr::new(&[]))?;
         Ok(Interner {
             words,
-            registry: Registry::new(alloc, entries)?,
+            registry: Registry::new(alloc, strings)?,
         })
     }
 

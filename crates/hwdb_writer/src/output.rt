@@ -127,7 +127,7 @@ fn stored_nodes<'t>(alloc: Global, tree: Assignments<'t>) -> Result<Stored<'t>, 
 {
     let entries = last_of_each(tree.entries)?;
     let nodes = post_order(alloc, &entries)?;
-    store(alloc, &entries, &nodes)
+    store(alloc, entries, &nodes)
 }
 
 /// The database of the tree's map, of at most `max_bytes` bytes. It consumes the tree, so that it takes less memory

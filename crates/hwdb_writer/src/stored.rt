@@ -5,7 +5,7 @@ ghost use Rattle.hwdb_spec.specs.Written.{strings_of_value};
 ghost use Rattle.hwdb_writer.specs.Internal.Entries.{value_of};
 ghost use Rattle.hwdb_writer.specs.Internal.PostOrder.{IsPostOrder};
 ghost use Rattle.hwdb_writer.specs.Internal.Membership.{SameMembers};
-ghost use Rattle.hwdb_writer.specs.Internal.Stored.{Grows, AreValues, IsUnder, IsStored};
+ghost use Rattle.hwdb_writer.specs.Internal.Stored.{Grows, AreNodes, AreValues, IsUnder, IsStored, all_values, prefixes};
 
 use crate::entries::Setting;
 use crate::interner::Interner;
@@ -40,9 +40,6 @@ pub struct Stored<'t> {
     pub values: Vec<StoredValue>,
     pub interner: Interner<'t>,
 }
-
-/// How many entries the registry has for each assignment (our choice: some three strings come for one).
-const ENTRIES_AN_ASSIGNMENT: usize = 2;
 
 /// The numbers of the last value's key and path, or 0 if there is none. Most values have the key and path of the value
 /// before them.
@@ -101,33 +98,80 @@ fn push_values<'t>(
     Ok(())
 }
 
-/// The nodes, each after its children, and the values that they have among the entries. Each string of these is looked
-/// up once.
-pub fn store<'t>(
+/// The values of the nodes, one node's after another's. It consumes the entries, so that their memory is free for the
+/// nodes.
+fn store_values<'t>(
     alloc: Global,
-    entries: &[Setting<'t>],
+    entries: Vec<Setting<'t>>,
     nodes: &[BuiltNode<'t>],
-) -> Result<Stored<'t>, AllocError>
-    requires { IsPostOrder entries.now nodes.now }
-    ensures { IfOk result (IsStored entries.now nodes.now) }
+    interner: &mut Interner<'t>,
+) -> Result<Vec<StoredValue>, AllocError>
+    requires { IsPostOrder entries.items nodes.now }
+    ensures members { OnOk result (SameMembers interner.new.words.items
+        (interner.old.words.items
+        ++ flat_map strings_of_value (all_values entries.entry.items nodes.now))) }
+    ensures values { IfOk result (λ v. AreValues (IsUnder interner.new.words.items) v.items
+        (all_values entries.entry.items nodes.now)) }
 {
-    let room = entries.len().saturating_mul(ENTRIES_AN_ASSIGNMENT);
-    let mut interner = Interner::new(alloc, room)?;
-    let mut stored = Vec::with_capacity(alloc, nodes.len())?;
     let mut values = Vec::with_capacity(alloc, entries.len())?;
     for node in nodes {
         let own = &entries[node.first..node.first + node.count];
-        let prefix = interner.intern(KeyedStr::new(node.prefix))?;
+        push_values(own, interner, &mut values)?;
+    }
+    Ok(values)
+}
+
+/// The number of the last node's string, or 0 if there is none. Many nodes have the string of the node before them.
+fn last_prefix(nodes: &[StoredNode]) -> usize {
+    match nodes.last() {
+        Some(last) => last.prefix,
+        None => 0,
+    }
+}
+
+/// The nodes, with their strings by number.
+fn store_nodes<'t>(
+    alloc: Global,
+    nodes: &[BuiltNode<'t>],
+    interner: &mut Interner<'t>,
+) -> Result<Vec<StoredNode>, AllocError>
+    ensures grows { OnOk result (Grows interner.old.words.items interner.new.words.items) }
+    ensures members { OnOk result (SameMembers interner.new.words.items
+        (interner.old.words.items ++ prefixes nodes.now)) }
+    ensures nodes { IfOk result (λ v. AreNodes (IsUnder interner.new.words.items) v.items
+        nodes.now) }
+{
+    let mut stored = Vec::with_capacity(alloc, nodes.len())?;
+    for node in nodes {
+        let near = last_prefix(&stored);
+        let prefix = interner.intern_near(KeyedStr::new(node.prefix), near)?;
         stored.push(StoredNode {
             byte: node.byte,
             prefix,
             count: node.count,
             children: node.children,
         })?;
-        push_values(own, &mut interner, &mut values)?;
     }
+    Ok(stored)
+}
+
+/// The nodes, each after its children, and the values that they have among the entries. Each string of these is looked
+/// up once.
+pub fn store<'t>(
+    alloc: Global,
+    entries: Vec<Setting<'t>>,
+    nodes: &[BuiltNode<'t>],
+) -> Result<Stored<'t>, AllocError>
+    requires { IsPostOrder entries.items nodes.now }
+    ensures { IfOk result (IsStored entries.entry.items nodes.now) }
+{
+    // A string for each node, and one for each value: most keys and paths come again.
+    let room = entries.len().saturating_add(nodes.len());
+    let mut interner = Interner::new(alloc, room)?;
+    let values = store_values(alloc, entries, nodes, &mut interner)?;
+    let nodes = store_nodes(alloc, nodes, &mut interner)?;
     Ok(Stored {
-        nodes: stored,
+        nodes,
         values,
         interner,
     })

@@ -1,16 +1,23 @@
 -- What is counted of assignments.
-use Rattle.std.specs.Prelude.{List, [], ◌∷◌, ℕ}
-use Rattle.hwdb_spec.specs.Assignment.{Assignment}
+use Rattle.std.specs.Prelude.{List, Option, None, Some, [], ◌∷◌, ℕ, zero, suc, ◌+◌, if◌then◌else◌}
 use Rattle.hwdb_spec.specs.Differences.{Change}
+use Rattle.hwdb_spec.specs.Folders.{same}
 use Rattle.hwdb_spec.specs.Status.{first_text}
-use Rattle.hwdb_inspect.specs.declared.summary.TextPart.{TextPart}
-use Rattle.hwdb_inspect.specs.declared.summary.TextPart.TheVariants.{Path, Pattern, Key}
 
--- a text of an assignment
-abbrev pub part_of : TextPart → Assignment → List ℕ
-part_of Path f = f.path
-part_of Pattern f = f.position.pattern
-part_of Key f = f.position.key
+-- the text that was counted last, if one was
+abbrev pub last_of : (count : ℕ) → (last : List ℕ) → Option (List ℕ)
+last_of zero last = None
+last_of (suc n) last = Some last
+
+-- one, if a text isn't the one before it
+abbrev pub one_more : Option (List ℕ) → List ℕ → ℕ
+one_more None text = 1
+one_more (Some last) text = if same text last then 0 else 1
+
+-- how often a text isn't the one before it
+abbrev pub turns : Option (List ℕ) → List (List ℕ) → ℕ
+turns last [] = 0
+turns last (text ∷ more) = turns (Some text) more + one_more last text
 
 -- the line that was kept first, or else that of the first of some changes
 abbrev pub first_kept : (kept : List ℕ) → List Change → List ℕ

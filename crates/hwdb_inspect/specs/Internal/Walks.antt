@@ -1,11 +1,13 @@
 -- The stack of a walk: what is still to come, and how many nodes are left. The list begins with the top.
-use Rattle.std.specs.Prelude.{List, ℕ, [], ◌∷◌, ◌++◌, ◌+◌, ◌≤◌, ◌≡◌, ◌⊎◌, suc, take, drop, length, max}
+use Rattle.std.specs.Prelude.{List, ℕ, Option, None, Some, [], ◌∷◌, ◌++◌, ◌+◌, ◌<◌, ◌≤◌, ◌≡◌, ◌^◌, ◌⊎◌, suc, take, drop, length, max, reverse}
 use Rattle.hwdb_spec.specs.Assignment.{Assignment}
 use Rattle.hwdb_spec.specs.Summary.{depth}
-use Rattle.hwdb_spec.specs.Tree.{Tree}
-use Rattle.hwdb_reader.specs.Views.{children_of, entered_tree}
-use Rattle.hwdb_query.specs.Internal.Members.{members_in}
+use Rattle.hwdb_spec.specs.Tree.{Tree, values_of}
+use Rattle.hwdb_reader.specs.Views.{children_of, entered_tree, node_count}
+use Rattle.hwdb_reader.specs.declared.view.Inside.{Inside}
+use Rattle.hwdb_query.specs.Internal.Members.{members_in, own_members}
 use Rattle.hwdb_inspect.specs.declared.walk.OpenVisit.{OpenVisit}
+use Rattle.hwdb_inspect.specs.declared.walk.Walk.{Walk}
 use Rattle.hwdb_query.specs.Internal.Live.{nodes_in}
 
 -- the children of a node that aren't done
@@ -54,3 +56,31 @@ pub record OnTop (before now : List OpenVisit) (t : Tree) (size : ℕ) : Type 0 
 -- a node was entered: it was put on top, if it has children
 abbrev pub Opened : (before now : List OpenVisit) (t : Tree) (size : ℕ) → Type 0
 Opened before now t size = OnTop before now t size ⊎ ((now ≡ before) × (children_of t ≡ []))
+
+-- ---- a walk
+
+-- what the node assigns that a walk is at
+abbrev pub own_of : List ℕ → Option Inside → List Assignment
+own_of path None = []
+own_of path (Some inside) = own_members path (values_of (entered_tree inside))
+
+-- what the nodes assign that a walk hasn't entered
+abbrev pub rest_of : Walk → List Assignment
+rest_of w = to_come w.path.items (reverse w.stack.items)
+
+-- one, if a walk is at a node
+abbrev pub entered_one : Option Inside → ℕ
+entered_one None = 0
+entered_one (Some inside) = 1
+
+-- how many nodes a walk hasn't entered
+abbrev pub still_left : Walk → ℕ
+still_left w = left (reverse w.stack.items)
+
+-- a walk over a tree
+pub record IsWalkOf (t : Tree) (w : Walk) : Type 0 where
+  pub stands : StandsOn w.path.items (reverse w.stack.items)
+  pub small : node_count t < 2 ^ 64
+  pub counted : w.entered + left (reverse w.stack.items) ≡ node_count t
+  pub deepest : max w.deepest (deepest_to_come (reverse w.stack.items)) ≡ depth t
+  pub reached : length w.stack.items ≤ w.deepest

@@ -99,6 +99,11 @@ fn over_a_path(rt: HostRuntime) -> Result<(), Fail> {
         ),
         (
             ToolError::Read,
+            Some(Cause::Link),
+            "hwdb: cannot read /x/y: Is a link to nothing\n",
+        ),
+        (
+            ToolError::Read,
             Some(Cause::Folder),
             "hwdb: cannot read /x/y: Is a directory\n",
         ),

@@ -1,5 +1,5 @@
 -- Nodes and values with strings by number, and which nodes and values these are.
-use Rattle.std.specs.Prelude.{List, [], ℕ, ◌+◌, ◌++◌, ◌∷◌, ◌^◌, ◌<◌, ◌≡◌, length, flat_map, slice_index_or}
+use Rattle.std.specs.Prelude.{List, [], ℕ, ◌+◌, ◌++◌, ◌∷◌, ◌^◌, ◌<◌, ◌≡◌, length, map, flat_map, slice_index_or}
 use Rattle.byteorder.specs.Endian.{little_bytes}
 use Rattle.std.specs.List.{AllZip}
 use Rattle.hwdb_spec.specs.Assignment.{ascending}
@@ -52,6 +52,10 @@ AreNodes By = AllZip (IsNode By)
 -- the values of the nodes, one node's after another's
 abbrev pub all_values : List Setting → List BuiltNode → List Value
 all_values es ns = flat_map (values_at es) ns
+
+-- the strings of the nodes
+abbrev pub prefixes : List BuiltNode → List (List ℕ)
+prefixes = map (λ (n : BuiltNode). n.prefix.now)
 
 -- the nodes and values of entries, and their strings
 pub record IsStored (es : List Setting) (ns : List BuiltNode) (s : Stored) : Type 0 where

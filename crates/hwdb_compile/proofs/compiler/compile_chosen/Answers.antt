@@ -3,7 +3,8 @@ use Rattle.hwdb_spec.specs.Progress.{within_64_bits}
 use Rattle.hwdb_spec.specs.Written.{IsDatabaseOf, IsWritten}
 use Rattle.hwdb_compile.specs.Views.{ForFolders, fault_of}
 use Rattle.hwdb_spec.specs.CompileErrors.{IsRefusal}
-use Rattle.hwdb_compile.proofs.AcceptanceLemmas.{same_assignments, same_map, same_faults, accepted, error_given, refusal, store_refusal}
+use Rattle.hwdb_compile.proofs.AcceptanceLemmas.{same_map, same_faults, accepted, error_given, refusal, store_refusal}
+use Rattle.hwdb_compile.specs.Lemmas.Files.{same_assignments}
 use Rattle.hwdb_compile.proofs.compiler.compile_chosen.Goals as goal
 
 pub returns-in_err-given-clause-refused : goal.returns-in_err-given-clause-refused

@@ -5,5 +5,5 @@ use Rattle.hwdb_fs.proofs.memory.named_by.Goals as goal
 
 pub returns : goal.returns
 returns c = λ name is made.
-    not_named c.args.steps.now c.args.folder.now name c.in-Some-name_in.name.now c.in-Some.path.now c.in-Some-name_in.ensures
-    (sym c.in_ok-is_text_file.ensures ∙ c.if-branch.false) is (ap (λ o. option_map_or (λ b. b) o []) (c.in-Some.ensures ∙ made))
+    not_named c.args.ignored c.args.steps.now c.args.folder.now name c.in-Some-name_in.name.now c.in-Some.path.now c.in-Some-name_in.ensures
+    (sym c.in_ok-is_told_file.ensures ∙ c.if-branch.false) is (ap (λ o. option_map_or (λ b. b) o []) (c.in-Some.ensures ∙ made))

@@ -1,5 +1,4 @@
 use Rattle.std.proofs.Common.{◌≡◌, subst, true}
-use Rattle.std.specs.Prelude.{Decides}
 use Rattle.std.proofs.lemmas.Slice.Eq.{slice_eq-Decides}
 use Rattle.std.proofs.lemmas.Bool.Decides.{Decides-eqb, same_from_decides}
 use Rattle.hwdb_spec.specs.Folders.{same}

@@ -1,5 +1,4 @@
-use Rattle.std.proofs.Common.{◌≡◌, drop, map, take}
-use Rattle.std.specs.List.{list_any}
+use Rattle.std.proofs.Common.{◌≡◌, map, take}
 use Rattle.hwdb_spec.specs.Surroundings.{companions_text}
 use Rattle.hwdb_text.specs.Views.{given_in}
 use Rattle.hwdb_lint.specs.Internal.{lacks_of, lines_where, own}

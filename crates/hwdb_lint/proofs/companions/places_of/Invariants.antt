@@ -1,6 +1,4 @@
-use Rattle.std.proofs.Common.{◌≡◌, drop, map, take}
-use Rattle.std.specs.List.{list_any}
-use Rattle.hwdb_spec.specs.Surroundings.{companions_text}
+use Rattle.std.proofs.Common.{map, take}
 use Rattle.hwdb_text.specs.Views.{given_in}
 use Rattle.hwdb_lint.specs.Internal.{ArePlacesOf, own}
 use Rattle.hwdb_lint.proofs.companions.places_of.Given as goal

@@ -1,6 +1,6 @@
 use Rattle.std.proofs.Common.{◌∙◌, map, sym}
 use Rattle.hwdb_text.specs.Views.{given_in}
-use Rattle.hwdb_lint.specs.Internal.{has_companions, own}
+use Rattle.hwdb_lint.specs.Internal.{own}
 use Rattle.hwdb_lint.proofs.SoughtLemmas.{set_is, unpaired_is, unpaired_none}
 use Rattle.hwdb_lint.proofs.companions.unpaired_lines.Goals as goal
 

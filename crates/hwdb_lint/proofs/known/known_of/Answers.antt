@@ -1,5 +1,4 @@
 use Rattle.std.proofs.Common.{◌∙◌, ap, refl}
-use Rattle.std.specs.Prelude.{filter}
 use Rattle.hwdb_spec.specs.Warnings.{greatest}
 use Rattle.hwdb_lint.specs.Internal.{replacing_of}
 use Rattle.hwdb_lint.proofs.SoughtLemmas.{all_unread, all_unpaired}

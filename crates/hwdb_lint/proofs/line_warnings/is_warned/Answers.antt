@@ -6,6 +6,7 @@ use Rattle.hwdb_lint.proofs.line_warnings.is_warned.Goals as goal
 
 pub returns-in-Replaced : goal.returns-in-Replaced
 returns-in-Replaced c =
-    ap (nat_lt 0) c.requires.replaced
+    c.is_replaced.ensures
+    ∙ ap (nat_lt 0) c.requires.replaced
     ∙ sym (some_replaces c.args.line.now.bytes.now c.args.line.now.number)
     ∙ ap (λ k. warns c.args.line.now.bytes.now k (read_line c.args.line.now) (line_of c.args.line.now.number c.args.line.now.clean.now)) (sym c.in-Replaced.is)

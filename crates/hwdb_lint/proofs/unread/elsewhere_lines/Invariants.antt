@@ -1,8 +1,11 @@
 use Rattle.std.proofs.Common.{◌≡◌, map, take}
 use Rattle.hwdb_spec.specs.Surroundings.{is_elsewhere}
 use Rattle.hwdb_text.specs.Views.{given_in}
-use Rattle.hwdb_lint.specs.Internal.{lines_where, own}
+use Rattle.hwdb_lint.specs.Internal.{IsPlace, lines_where, own}
 use Rattle.hwdb_lint.proofs.unread.elsewhere_lines.Given as goal
 
 abbrev pub invariant-loop-given : goal.invariant-loop-given
-invariant-loop-given l = l.lines.items ≡ lines_where is_elsewhere (map (given_in own) (take l.given-index l.all))
+invariant-loop-given l = record {
+  lines : l.lines.items ≡ lines_where is_elsewhere (map (given_in own) (take l.given-index l.all));
+  last : IsPlace l.last;
+}

@@ -5,11 +5,11 @@ use Rattle.hwdb_lookup.specs.Views.{IsOf}
 use Rattle.hwdb_lookup.specs.Internal.Descents.{AllStand, Comes, stack_of, wanted_under}
 use Rattle.hwdb_lookup.proofs.descent.descend.Given as goal
 
-abbrev pub invariant-loop-open : goal.invariant-loop-open
-invariant-loop-open l = record {
+abbrev pub invariant-open : goal.invariant-open
+invariant-open l = record {
   all : AllStand l.known (stack_of l.descent);
   comes : (file : List ℕ) (t : Tree) → IsOf l.known file → l.fn.frame.sizes ≡ layout_of file → IsDatabase file t → Comes file l.device l.descent (wanted_under l.device [] t);
 }
 
-abbrev pub decreases-loop-open : goal.decreases-loop-open
-decreases-loop-open l = l.descent.left + length l.descent.stack.items
+abbrev pub decreases-open : goal.decreases-open
+decreases-open l = l.descent.left + length l.descent.stack.items

@@ -22,7 +22,7 @@ returns-clause-diffed g c = λ tells.
     let short = All-map IsShort (λ t. t.items) c.in_ok-texts.texts.items
     (c.in_ok-texts.ensures.within (subst IsShort (sym c.deref.ensures.value) c.in_ok-text.ensures.within)) in
     let are = given_sources input seen _ given _ files (c.in_ok-texts.ensures.read tells) told named held short in
-    all_compared given c.args.old_path.now c.args.new_path.now input seen (map source_of files) are c.args.json c.compared.result (c.compared.ensures.compared tells)
+    all_compared given c.args.old_path.now c.args.new_path.now input seen (map source_of files) are c.args.stat c.args.json c.compared.result (c.compared.ensures.compared tells)
 
 pub returns-clause-refused : goal.returns-clause-refused
 returns-clause-refused g c = λ tells.
@@ -37,7 +37,7 @@ returns-clause-refused g c = λ tells.
     let short = All-map IsShort (λ t. t.items) c.in_ok-texts.texts.items
     (c.in_ok-texts.ensures.within (subst IsShort (sym c.deref.ensures.value) c.in_ok-text.ensures.within)) in
     let are = given_sources input seen _ given _ files (c.in_ok-texts.ensures.read tells) told named held short in
-    not_compared given c.args.old_path.now c.args.new_path.now input seen (map source_of files) are c.compared.result (c.compared.ensures.refused tells)
+    not_compared given c.args.old_path.now c.args.new_path.now input seen (map source_of files) are (g.D.System.may_fail c.args.system.now) c.compared.result (c.compared.ensures.refused tells)
 
 pub returns-clause-reason : goal.returns-clause-reason
 returns-clause-reason g c = λ tells.
@@ -55,7 +55,7 @@ returns-clause-reason g c = λ tells.
     let short = All-map IsShort (λ t. t.items) c.in_ok-texts.texts.items
     (c.in_ok-texts.ensures.within (subst IsShort (sym c.deref.ensures.value) c.in_ok-text.ensures.within)) in
     let are = given_sources input seen _ given _ files (c.in_ok-texts.ensures.read tells) told named held short in
-    compared_reason given c.args.old_path.now c.args.new_path.now input seen (map source_of files) are fails before now c.compared.result (c.compared.ensures.refused tells) c.compared.ensures.reason
+    compared_reason given c.args.old_path.now c.args.new_path.now input seen (map source_of files) are fails before now c.compared.result (c.compared.ensures.refused tells)
 
 pub returns-in_err-text-clause-reason : goal.returns-in_err-text-clause-reason
 returns-in_err-text-clause-reason g c = λ tells.

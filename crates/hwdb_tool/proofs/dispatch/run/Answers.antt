@@ -151,7 +151,8 @@ returns-in-Diff-clause-done g c = λ tells.
     let now : World = record { files = F c.args.system.now; input = I c.diff-answer.new.input; out = O c.printed-in-Diff.new.out; err = E c.printed-in-Diff.new.err; devices = V c.args.system.now } in
     let input = before.input.bytes in
     let json = c.in-Diff.json in
-    let task = Diff c.in-Diff.old c.in-Diff.new c.in-Diff.devices json in
+    let stat = c.in-Diff.stat in
+    let task = Diff c.in-Diff.old c.in-Diff.new c.in-Diff.devices json stat in
     let old = string_bytes c.in-Diff.old in
     let new = string_bytes c.in-Diff.new in
     let of_old = c.as_str-old.ensures.value in
@@ -163,9 +164,9 @@ returns-in-Diff-clause-done g c = λ tells.
     subst (λ t. IfOk c.printed-in-Diff.result (λ s. IsTaskDone t (root_of job) job.usr job.strict s before now)) (sym c.in-Diff.is)
     (each_value _ (λ s. IsTaskDone task (root_of job) job.usr job.strict s before now) c.printed-in-Diff.result (λ s done. (done, tt, record { same = λ p. refl; no_more = λ p v l. l }))
     (printed_done answer c.printed-in-Diff.result (λ s t. IsAnswerOf task (root_of job) job.strict input seen s t) before.err now.err before.out now.out
-    (subst (λ l. IfOk answer (λ a. OnOut (λ text. IsDiffed json (map string_bytes l) old new input seen text a.status) (texts_in a))) items
-    (subst (λ p. IfOk answer (λ a. OnOut (λ text. IsDiffed json paths old p input seen text a.status) (texts_in a))) of_new
-    (subst (λ p. IfOk answer (λ a. OnOut (λ text. IsDiffed json paths p new_path input seen text a.status) (texts_in a))) of_old (c.diff-answer.ensures.diffed tells))))
+    (subst (λ l. IfOk answer (λ a. OnOut (λ text. IsDiffed stat json (map string_bytes l) old new input seen text a.status) (texts_in a))) items
+    (subst (λ p. IfOk answer (λ a. OnOut (λ text. IsDiffed stat json paths old p input seen text a.status) (texts_in a))) of_new
+    (subst (λ p. IfOk answer (λ a. OnOut (λ text. IsDiffed stat json paths p new_path input seen text a.status) (texts_in a))) of_old (c.diff-answer.ensures.diffed tells))))
     c.printed-in-Diff.ensures.done))
 
 pub returns-in-Diff-clause-refused : goal.returns-in-Diff-clause-refused
@@ -184,7 +185,8 @@ returns-in-Diff-clause-refused g c = λ tells.
     let n = before.input.failures in
     let m = now.input.failures in
     let json = c.in-Diff.json in
-    let task = Diff c.in-Diff.old c.in-Diff.new c.in-Diff.devices json in
+    let stat = c.in-Diff.stat in
+    let task = Diff c.in-Diff.old c.in-Diff.new c.in-Diff.devices json stat in
     let old = string_bytes c.in-Diff.old in
     let new = string_bytes c.in-Diff.new in
     let of_old = c.as_str-old.ensures.value in
@@ -201,9 +203,9 @@ returns-in-Diff-clause-refused g c = λ tells.
     (subst (λ l. IfErr answer (IsDiffRefused (map string_bytes l) old new input seen)) items
     (subst (λ p. IfErr answer (IsDiffRefused paths old p input seen)) of_new
     (subst (λ p. IfErr answer (IsDiffRefused paths p new_path input seen)) of_old (c.diff-answer.ensures.refused tells))))
-    (subst (λ l. IfOk answer (λ a. OnOut (λ text. IsDiffed json (map string_bytes l) old new input seen text a.status) (texts_in a))) items
-    (subst (λ p. IfOk answer (λ a. OnOut (λ text. IsDiffed json paths old p input seen text a.status) (texts_in a))) of_new
-    (subst (λ p. IfOk answer (λ a. OnOut (λ text. IsDiffed json paths p new_path input seen text a.status) (texts_in a))) of_old (c.diff-answer.ensures.diffed tells))))
+    (subst (λ l. IfOk answer (λ a. OnOut (λ text. IsDiffed stat json (map string_bytes l) old new input seen text a.status) (texts_in a))) items
+    (subst (λ p. IfOk answer (λ a. OnOut (λ text. IsDiffed stat json paths old p input seen text a.status) (texts_in a))) of_new
+    (subst (λ p. IfOk answer (λ a. OnOut (λ text. IsDiffed stat json paths p new_path input seen text a.status) (texts_in a))) of_old (c.diff-answer.ensures.diffed tells))))
     (subst (λ l. IfErr answer (HasDiffReason (map string_bytes l) old new fails seen input n m)) items
     (subst (λ p. IfErr answer (HasDiffReason paths old p fails seen input n m)) of_new
     (subst (λ p. IfErr answer (HasDiffReason paths p new_path fails seen input n m)) of_old (c.diff-answer.ensures.reason tells))))

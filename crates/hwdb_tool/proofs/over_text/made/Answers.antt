@@ -2,7 +2,8 @@ use Rattle.std.proofs.Common.{List, ap, inl, inr, map, refl, string_bytes, subst
 use Rattle.hwdb_compile.specs.Views.{ForFolders, choice_in}
 use Rattle.hwdb_compile.specs.declared.sources.ChosenFile.{ChosenFile}
 use Rattle.hwdb_spec.specs.Lemmas.Calls.{given_error}
-use Rattle.hwdb_spec.specs.OverText.{AreTextsRefused}
+use Rattle.hwdb_spec.specs.Folders.{Source}
+use Rattle.hwdb_spec.specs.OverText.{AreTextsRefused, text_besides}
 use Rattle.hwdb_spec.specs.Refusals.{HasReason}
 use Rattle.hwdb_spec.specs.StatusErrors.{IsNotCompiled}
 use Rattle.hwdb_spec.specs.declared.errors.ToolError.TheVariants.{Memory}
@@ -28,7 +29,12 @@ returns-clause-made g c = λ tells.
     let made = c.in_ok-made.made.database.items in
     let made_of : ForFolders files (λ etc usr. AreMadeOf etc usr made) =
     subst (λ (l : List ChosenFile). ForFolders l (λ etc usr. AreMadeOf etc usr made)) c.deref-3.ensures.value c.in_ok-made.ensures.made in
-    (read.of_etc, read.of_usr, made_from root seen listed files read (all_read root seen listed chosen texts (c.in_ok-selection.ensures.selected tells)) made made_of)
+    let said = subst (λ (l : List ChosenFile). ForFolders l (λ etc usr. map (λ (s : Source). s.name) usr ≡ map string_bytes c.deref-5.result.now → c.in_ok-besides.besides.items ≡ text_besides c.args.task.now etc usr)) c.deref-4.ensures.value c.in_ok-besides.ensures.said in (
+      read.of_etc,
+      read.of_usr,
+      made_from root seen listed files read (all_read root seen listed chosen texts (c.in_ok-selection.ensures.selected tells)) made made_of,
+      said read.of_etc read.of_usr read.are (read.named ∙ ap (map string_bytes) (sym c.deref-5.ensures.value)),
+    )
 
 pub returns-in_err-selection-clause-refused : goal.returns-in_err-selection-clause-refused
 returns-in_err-selection-clause-refused g c = λ tells.
@@ -67,3 +73,14 @@ returns-in_err-made-clause-reason g c = λ tells.
     let Reason = HasReason (g.D.System.may_fail c.args.system.now) ⊥ (g.D.Store.seen c.args.system.now) in
     given_error r Reason c.from_residual-in_err-made.result c.from_residual-in_err-made.ensures.1
     (subst Reason (sym c.in_err-made.ensures.plain.1) tt)
+
+pub returns-in_err-besides-clause-refused : goal.returns-in_err-besides-clause-refused
+returns-in_err-besides-clause-refused g c = λ tells.
+    given_error c.in_err-besides.field-0.0 (AreTextsRefused c.args.root.now (g.D.Store.seen c.args.system.now)) c.from_residual-in_err-besides.result c.from_residual-in_err-besides.ensures.1
+    (inl (inl c.in_err-besides.ensures.memory))
+
+pub returns-in_err-besides-clause-reason : goal.returns-in_err-besides-clause-reason
+returns-in_err-besides-clause-reason g c = λ tells.
+    let Reason = HasReason (g.D.System.may_fail c.args.system.now) ⊥ (g.D.Store.seen c.args.system.now) in
+    given_error c.in_err-besides.field-0.0 Reason c.from_residual-in_err-besides.result c.from_residual-in_err-besides.ensures.1
+    (subst Reason (sym c.in_err-besides.ensures.memory) tt)

@@ -1,9 +1,6 @@
 use Rattle.std.proofs.Common.{inl, refl, false}
-use Rattle.hwdb_spec.specs.declared.refusals.Refusal.TheVariants.{Plain}
-use Rattle.hwdb_spec.specs.declared.errors.ToolError.TheVariants.{Memory}
 use Rattle.hwdb_spec.specs.Asked.{database_path}
-use Rattle.hwdb_spec.specs.StatusErrors.{IsAskedUnread}
-use Rattle.hwdb_tool.proofs.StatusLemmas.{asked_memory}
+use Rattle.hwdb_tool.specs.Statuses.{IsOneUnread}
 use Rattle.hwdb_tool.proofs.statuses.asked_database.Goals as goal
 use Rattle.hwdb_spec.specs.Lemmas.Calls.{given_error}
 
@@ -11,11 +8,5 @@ pub returns-in_err-found-clause-refused : goal.returns-in_err-found-clause-refus
 returns-in_err-found-clause-refused g c = λ tells.
     let root = c.args.root.now in
     let seen = g.D.Store.seen c.args.system.now in
-    given_error c.in_err-found.field-0.0 (IsAskedUnread root seen) c.from_residual.result c.from_residual.ensures.1
-    (database_path false root, inl refl, c.in_err-found.ensures.refused tells)
-
-pub returns-in_err-usr-in-Some-clause-refused : goal.returns-in_err-usr-in-Some-clause-refused
-returns-in_err-usr-in-Some-clause-refused g c = λ tells.
-    let root = c.args.root.now in
-    let seen = g.D.Store.seen c.args.system.now in
-    given_error (Plain Memory) (IsAskedUnread root seen) c.from_residual-in_err-usr-in-Some.result c.from_residual-in_err-usr-in-Some.ensures.1 (asked_memory root seen)
+    given_error c.in_err-found.field-0.0 (IsOneUnread root seen) c.from_residual.result c.from_residual.ensures.1
+    (inl (database_path false root, inl refl, c.in_err-found.ensures.refused tells))

@@ -1,12 +1,15 @@
-use Rattle.std.proofs.Common.{map}
-use Rattle.hwdb_inspect.specs.Views.{state_shown}
+use Rattle.std.proofs.Common.{map, option_map}
+use Rattle.hwdb_inspect.specs.Views.{amount_shown, state_shown}
 use Rattle.hwdb_tool.proofs.statuses.report_of.Goals as goal
 
 pub returns : goal.returns
 returns c = λ i. record {
   database = c.in_ok-path_asked.ensures i;
+  holds = option_map amount_shown c.args.standing.holds;
   hides = c.in_ok-path_hidden.ensures i;
-  masked = map (λ p. p.items) c.args.masked.items;
-  state = state_shown c.args.state;
+  hidden = option_map amount_shown c.args.hidden;
+  masked = map (λ p. p.items) c.args.unread.masked.items;
+  ignored = map (λ p. p.items) c.args.unread.ignored.items;
+  state = state_shown c.args.standing.state;
   remedy = c.in_ok-remedy_of.ensures i;
 }

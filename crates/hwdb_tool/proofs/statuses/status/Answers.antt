@@ -36,7 +36,7 @@ returns-clause-status g c = λ tells.
     ∙ ap (λ l. masked_paths (map string_bytes l) (map choice_in c.deref-4.result.now)) c.deref-5.ensures.value
     ∙ ap (λ (l : List ChosenFile). masked_paths listed (map choice_in l)) c.deref-4.ensures.value in
     each_value _ (λ a. OnOut (λ text. IsStatus root c.args.json c.args.quiet seen text a.status) (texts_in a)) c.reported.result
-    (λ a told. reported_status root seen listed files read (all_read root seen listed chosen texts (c.in_ok-selection.ensures.selected tells)) c.args.json c.args.quiet made (map (λ p. p.items) c.in_ok-masked.masked.items) a made_of masks told)
+    (λ a told. reported_status root seen listed files read (all_read root seen listed chosen texts (c.in_ok-selection.ensures.selected tells)) c.args.json c.args.quiet made (map (λ p. p.items) c.in_ok-masked.masked.items) (map (λ p. p.items) c.in_ok-ignored.ignored.items) a made_of masks (c.in_ok-ignored.ensures.paths tells) told)
     (c.reported.ensures.reported tells)
 
 pub returns-in_err-selection-clause-refused : goal.returns-in_err-selection-clause-refused
@@ -48,6 +48,16 @@ pub returns-in_err-selection-clause-reason : goal.returns-in_err-selection-claus
 returns-in_err-selection-clause-reason g c = λ tells.
     given_error c.in_err-selection.field-0.0 (HasReason (g.D.System.may_fail c.args.system.now) ⊥ (g.D.Store.seen c.args.system.now)) c.from_residual.result c.from_residual.ensures.1
     (c.in_err-selection.ensures.reason tells)
+
+pub returns-in_err-ignored-clause-refused : goal.returns-in_err-ignored-clause-refused
+returns-in_err-ignored-clause-refused g c = λ tells.
+    given_error c.in_err-ignored.field-0.0 (IsStatusRefused c.args.root.now (g.D.Store.seen c.args.system.now)) c.from_residual-in_err-ignored.result c.from_residual-in_err-ignored.ensures.1
+    (inl (c.in_err-ignored.ensures.refused tells))
+
+pub returns-in_err-ignored-clause-reason : goal.returns-in_err-ignored-clause-reason
+returns-in_err-ignored-clause-reason g c = λ tells.
+    given_error c.in_err-ignored.field-0.0 (HasReason (g.D.System.may_fail c.args.system.now) ⊥ (g.D.Store.seen c.args.system.now)) c.from_residual-in_err-ignored.result c.from_residual-in_err-ignored.ensures.1
+    c.in_err-ignored.ensures.reason
 
 pub returns-in_err-files-clause-refused : goal.returns-in_err-files-clause-refused
 returns-in_err-files-clause-refused g c = λ tells.

@@ -1,4 +1,4 @@
-use Rattle.std.proofs.Common.{refl, ◌∙◌, ◌++◌, ◌∷◌, [], List, sym, ap, length, arith, inl, inr}
+use Rattle.std.proofs.Common.{refl, ◌∙◌, ◌++◌, ◌∷◌, [], List, sym, ap, arith, inl, inr}
 use Rattle.hwdb_reader.specs.Views.{children_of}
 use Rattle.hwdb_inspect.specs.declared.walk.OpenVisit.{OpenVisit}
 use Rattle.hwdb_inspect.proofs.WalkLemmas.{no_kids}
@@ -10,7 +10,7 @@ returns-clause-stack c = inl (record {
   stands = c.in_ok-push.ensures.items ∙ ap (λ (l : List OpenVisit). l ++ record { inside = c.enter-inside.result; done = 0; length = c.len-length.result } ∷ []) c.reserve.ensures.items;
   tree = c.enter-inside.ensures.same;
   none_done = refl;
-  reach = c.len-length.ensures ∙ sym c.deref.ensures.len ∙ ap length c.deref.ensures.value;
+  reach = let read = c.len-length.ensures in let size = c.extend_from_slice.new.self.ok in omega (arith, read, size);
 })
 
 pub returns-then-children-eq0-clause-stack : goal.returns-then-children-eq0-clause-stack

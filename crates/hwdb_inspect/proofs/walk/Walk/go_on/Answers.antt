@@ -1,12 +1,10 @@
-use Rattle.std.proofs.Common.{◌≡◌, ◌∙◌, ap, sym, subst, ◌++◌, ◌∷◌, ◌+◌, [], ℕ, List, map, max, reverse, take, length, arith, append_assoc}
-use Rattle.hwdb_spec.specs.Tree.{Tree, prefix_of, values_of}
+use Rattle.std.proofs.Common.{◌≡◌, ◌∙◌, ap, subst, ◌++◌, ◌∷◌, ◌+◌, [], ℕ, List, max, reverse, take, length, arith}
+use Rattle.hwdb_spec.specs.Tree.{Tree, prefix_of}
 use Rattle.hwdb_reader.specs.Views.{tree_of, children_of, entered_tree}
-use Rattle.hwdb_inspect.specs.Views.{assignment_of}
-use Rattle.hwdb_query.specs.Internal.Members.{own_members}
 use Rattle.hwdb_inspect.specs.Internal.Walks.{to_come, deepest_to_come, Opened}
 use Rattle.hwdb_inspect.proofs.PartLemmas.{kid_within}
 use Rattle.hwdb_inspect.proofs.DepthLemmas.{child_deepest}
-use Rattle.hwdb_inspect.proofs.WalkLemmas.{gone_on, opened_size, some_left, child_comes, child_counted, child_steps, child_stands}
+use Rattle.hwdb_inspect.proofs.WalkLemmas.{gone_on, own_entered, one_entered, opened_size, some_left, child_comes, child_counted, child_steps, child_stands}
 use Rattle.hwdb_inspect.proofs.walk.Walk.go_on.Goals as goal
 
 pub enter-requires : goal.enter-requires
@@ -24,18 +22,15 @@ whole c =
 opened : (c : goal.In_ok-enter) → Opened (c.args.self.now.stack.items ++ gone_on c.args.top ∷ []) c.enter.new.self.stack.items (tree_of c.child-child.result.node) (length c.enter.new.self.path.items)
 opened c = subst (λ b. Opened b c.enter.new.self.stack.items (tree_of c.child-child.result.node) (length c.enter.new.self.path.items)) c.in_ok-push-2.ensures.items c.in_ok-enter.ensures.stack
 
-pub returns-clause-found : goal.returns-clause-found
-returns-clause-found c =
+pub returns-clause-rest : goal.returns-clause-rest
+returns-clause-rest c =
     let k : ℕ × Tree = (c.child-child.result.byte, tree_of c.child-child.result.node) in
     let path = c.args.self.now.path.items in
     let long = c.enter.new.self.path.items in
     let before = c.args.self.now.stack.items in
     let now = c.enter.new.self.stack.items in
-    let found = map assignment_of c.args.self.now.found.items in
-    ap (λ r. r ++ to_come long (reverse now)) c.in_ok-enter.ensures.found
-    ∙ append_assoc found _ (to_come long (reverse now))
-    ∙ ap (λ p. found ++ (own_members p (values_of k.1) ++ to_come long (reverse now))) (sym c.in_ok-enter.ensures.path)
-    ∙ ap (λ r. found ++ r) (child_comes path long c.args.top before now k c.child-child.ensures c.requires.stands.0 (whole c) (opened c))
+    ap (λ r. r ++ to_come long (reverse now)) (own_entered long c.enter.new.self.at k.1 c.in_ok-enter.ensures.at)
+    ∙ child_comes path long c.args.top before now k c.child-child.ensures c.requires.stands.0 (whole c) (opened c)
 
 pub returns-clause-stands : goal.returns-clause-stands
 returns-clause-stands c =
@@ -45,10 +40,16 @@ returns-clause-stands c =
 
 pub returns-clause-counted : goal.returns-clause-counted
 returns-clause-counted c =
+    let one = one_entered c.enter.new.self.at (tree_of c.child-child.result.node) c.in_ok-enter.ensures.at in
+    let counted = c.in_ok-enter.ensures.counted in
+    omega (arith, one, counted)
+
+pub returns-clause-left : goal.returns-clause-left
+returns-clause-left c =
     let k : ℕ × Tree = (c.child-child.result.byte, tree_of c.child-child.result.node) in
     let left_now : _ = child_counted c.args.self.now.path.items c.enter.new.self.path.items c.args.top c.args.self.now.stack.items c.enter.new.self.stack.items k c.child-child.ensures c.requires.stands.0 (whole c) (opened c) in
-    let counted = c.in_ok-enter.ensures.counted in
-    omega (arith, left_now, counted)
+    let one = one_entered c.enter.new.self.at k.1 c.in_ok-enter.ensures.at in
+    omega (arith, left_now, one)
 
 pub returns-clause-fewer : goal.returns-clause-fewer
 returns-clause-fewer c =

@@ -1,12 +1,18 @@
-use Rattle.hwdb_lint.proofs.RepeatLemmas.{put_again, put_new, was_there, was_new}
+use Rattle.std.proofs.Common.{◌∙◌, ap, sym, ◌++◌, ◌∷◌, [], true, false}
+use Rattle.hwdb_lint.specs.Internal.{above_texts, texts}
+use Rattle.hwdb_lint.proofs.RepeatLemmas.{put_step, stands_by}
 use Rattle.hwdb_lint.proofs.repeats.Run.put.Goals as goal
 
 pub returns-in_ok-push : goal.returns-in_ok-push
 returns-in_ok-push c = λ more.
-    put_again c.args.self.now.above.keys _ c.args.clean c.args.number c.args.self.now.numbers.items _ more c.requires
-    c.in_ok-is_new.ensures.keys (was_there _ _ c.in_ok-is_new.ensures.added c.if-not-is_new.true) c.in_ok-push.ensures.items
+    put_step (above_texts c.args.self.now) (texts c.settle.new.self.above.keys) c.args.clean.now c.args.number c.args.self.now.numbers.items c.push.new.self.items more true
+    c.in_ok-settle.ensures.above c.requires
+    (sym (stands_by c.args.clean.now c.settle.new.self.above.keys) ∙ sym c.contains-is_there.ensures ∙ c.if-is_there.true)
+    (c.in_ok-push.ensures.items ∙ ap (λ v. v.items ++ c.args.number ∷ []) c.in_ok-settle.ensures.numbers)
 
-pub returns-else-not-is_new : goal.returns-else-not-is_new
-returns-else-not-is_new c = λ more.
-    put_new c.args.self.now.above.keys _ c.args.clean c.args.number c.args.self.now.numbers.items more c.requires
-    c.in_ok-is_new.ensures.keys (was_new _ _ c.in_ok-is_new.ensures.added c.if-not-is_new.false)
+pub returns-else-is_there : goal.returns-else-is_there
+returns-else-is_there c = λ more.
+    put_step (above_texts c.args.self.now) (texts c.settle.new.self.above.keys) c.args.clean.now c.args.number c.args.self.now.numbers.items c.settle.new.self.numbers.items more false
+    c.in_ok-settle.ensures.above c.requires
+    (sym (stands_by c.args.clean.now c.settle.new.self.above.keys) ∙ sym c.contains-is_there.ensures ∙ c.if-is_there.false)
+    (ap (λ v. v.items) c.in_ok-settle.ensures.numbers)

@@ -1,50 +1,109 @@
-use Rattle.std.proofs.Common.{◌∙◌, ◌∷◌, ◌++◌, [], List, ap, map, sym, subst}
+use Rattle.std.proofs.Common.{◌≡◌, ◌∙◌, ◌∷◌, ◌++◌, ◌-◌, [], List, ℕ, suc, refl, ap, sym, subst, arith, length, take, reverse}
+use Rattle.std.specs.Vec.{with_item}
 use Rattle.std.proofs.lemmas.Result.{on_ok_weaker}
-use Rattle.hwdb_query.specs.Views.{assignment_of_answer}
+use Rattle.hwdb_pattern.specs.Views.{StandsFor}
 use Rattle.hwdb_spec.specs.Assignment.{Assignment}
-use Rattle.hwdb_lookup.specs.Views.{IsOf}
-use Rattle.hwdb_lookup.specs.Internal.Descents.{Enters, Comes, ComesOn, IsNext, stack_of, found_in}
+use Rattle.hwdb_lookup.specs.declared.descent.Descent.{Descent}
+use Rattle.hwdb_lookup.specs.Internal.Descents.{AllStand, Enters, Comes, IsNext, stack_of, found_in}
 use Rattle.hwdb_lookup.proofs.KnownLemmas.{stop_returned}
-use Rattle.hwdb_lookup.proofs.DescentLemmas.{goes_ends, goes_down, enters_at_path}
+use Rattle.hwdb_lookup.proofs.DescentLemmas.{goes_ends, goes_down, goes_from, comes_at, enters_at_path, on_top, changed, taken_off}
 use Rattle.hwdb_lookup.proofs.descent.Descent.go_on.Goals as goal
 
 pub returns-in_default-clause-comes : goal.returns-in_default-clause-comes
-returns-in_default-clause-comes c file all m s =
-    let o = c.args.last in
-    let known = subst (λ k. IsOf k file) (sym c.requires.0) m in
-    goes_ends file o (stack_of c.args.self.now) (found_in c.args.self.now) c.args.self.now.left all s
-    (λ from w rest. subst (IsNext file o from w) c.in_default.is (c.in_ok-next.ensures.next file from w known rest))
+returns-in_default-clause-comes c file device all m h =
+    let d = c.args.self.now in
+    let items = d.stack.items in
+    let i = c.len-last.result - 1 in
+    let size : c.len-last.result ≡ length items = (let e = c.len-last.ensures in let ok = d.stack.ok in omega (arith, e, ok)) in
+    let some = c.requires.some in
+    let last : suc i ≡ length items = omega (arith, size, some) in
+    let top = c.index_mut-open.result.now in
+    let below = reverse (take i items) in
+    let on : stack_of d ≡ top ∷ below = on_top items i top last c.index_mut-open.ensures.value in
+    let stands = subst (AllStand c.args.known) on c.requires.all in
+    let g = goes_from file device top (stack_of d) below (found_in d) d.left all on h in
+    comes_at file top.reach.device device below (reverse c.pop.new.self.items) (found_in d) d.left all g.1
+    (sym (taken_off items c.pop.new.self.items i d.stack.len top last (let ok = d.stack.ok in omega (arith, ok)) c.pop.ensures.rest))
+    (goes_ends file top below (found_in d) d.left all g.2 (λ from w rest. subst (IsNext file top from w) c.in_default.is (c.in_ok-next.ensures.next file from w g.0 rest)))
+
+pub visit-requires-clause-stands : goal.visit-requires-clause-stands
+visit-requires-clause-stands c =
+    let d = c.args.self.now in
+    let items = d.stack.items in
+    let i = c.len-last.result - 1 in
+    let size : c.len-last.result ≡ length items = (let e = c.len-last.ensures in let ok = d.stack.ok in omega (arith, e, ok)) in
+    let some = c.requires.some in
+    let last : suc i ≡ length items = omega (arith, size, some) in
+    let top = c.index_mut-open.result.now in
+    let below = reverse (take i items) in
+    let on : stack_of d ≡ top ∷ below = on_top items i top last c.index_mut-open.ensures.value in
+    let stands = subst (AllStand c.args.known) on c.requires.all in
+    let k = c.in-Some.next in
+    let path = c.in_ok-path.ensures ∙ ap (λ p. p ++ k.byte ∷ []) c.deref.ensures.value in
+    subst (StandsFor c.in_ok-reach.reach) (sym path) (c.in_ok-reach.ensures.path top.path.items stands.1)
+
+pub visit-requires-clause-all : goal.visit-requires-clause-all
+visit-requires-clause-all c =
+    let d = c.args.self.now in
+    let items = d.stack.items in
+    let i = c.len-last.result - 1 in
+    let size : c.len-last.result ≡ length items = (let e = c.len-last.ensures in let ok = d.stack.ok in omega (arith, e, ok)) in
+    let some = c.requires.some in
+    let last : suc i ≡ length items = omega (arith, size, some) in
+    let top = c.index_mut-open.result.now in
+    let below = reverse (take i items) in
+    let on : stack_of d ≡ top ∷ below = on_top items i top last c.index_mut-open.ensures.value in
+    let stands = subst (AllStand c.args.known) on c.requires.all in
+    subst (AllStand c.args.known) (sym (changed items i (record top { done = (c.in-Some.next).done }) last)) stands
 
 pub returns-clause-comes : goal.returns-clause-comes
 returns-clause-comes c =
-    let o = c.args.last in
+    let d = c.args.self.now in
+    let items = d.stack.items in
+    let i = c.len-last.result - 1 in
+    let size : c.len-last.result ≡ length items = (let e = c.len-last.ensures in let ok = d.stack.ok in omega (arith, e, ok)) in
+    let some = c.requires.some in
+    let last : suc i ≡ length items = omega (arith, size, some) in
+    let top = c.index_mut-open.result.now in
+    let below = reverse (take i items) in
+    let on : stack_of d ≡ top ∷ below = on_top items i top last c.index_mut-open.ensures.value in
+    let stands = subst (AllStand c.args.known) on c.requires.all in
     let k = c.in-Some.next in
-    let device = c.in_ok-reach.ensures.device in
+    let now : Descent = record { stack = with_item d.stack i (record top { done = k.done }); found = d.found; left = d.left } in
     let path = c.in_ok-path.ensures ∙ ap (λ p. p ++ k.byte ∷ []) c.deref.ensures.value in
+    let same = c.in_ok-reach.ensures.device in
     on_ok_weaker c.visit.result
-    (λ comes file all m s.
-    let known = subst (λ x. IsOf x file) (sym c.requires.0) m in
-    let e = goes_down file o (stack_of c.args.self.now) (found_in c.args.self.now) c.args.self.now.left all s c.open.new.self k c.in_ok-open.ensures.stack
-    (ap (λ f. map assignment_of_answer f.items) c.in_ok-open.ensures.found) c.in_ok-open.ensures.left
-    (λ from w rest. subst (IsNext file o from w) c.in-Some.is (c.in_ok-next.ensures.next file from w known rest)) in
-    subst (λ d. Comes file d c.visit.new.self all) device
-    (comes file all m
-    (enters_at_path file o.node.frame.sizes o.levels k.off (o.path.items ++ k.byte ∷ []) c.in_ok-path.path.items o.reach.device c.in_ok-reach.reach.device c.open.new.self all (sym path) (sym device) e)))
+    (λ comes file device all m h.
+    let g = goes_from file device top (stack_of d) below (found_in d) d.left all on h in
+    let e = goes_down file top below (found_in d) d.left all g.2 now k (changed items i (record top { done = k.done }) last) refl refl
+    (λ from w rest. subst (IsNext file top from w) c.in-Some.is (c.in_ok-next.ensures.next file from w g.0 rest)) in
+    let at = enters_at_path file top.node.frame.sizes top.levels k.off (top.path.items ++ k.byte ∷ []) c.in_ok-path.path.items top.reach.device c.in_ok-reach.reach.device now all (sym path) (sym same) e in
+    subst (λ x. Comes file x c.visit.new.self all) (same ∙ g.1) (comes file all m at))
     c.visit.ensures.comes
 
 pub returns-clause-stop : goal.returns-clause-stop
 returns-clause-stop c =
-    let o = c.args.last in
+    let d = c.args.self.now in
+    let items = d.stack.items in
+    let i = c.len-last.result - 1 in
+    let size : c.len-last.result ≡ length items = (let e = c.len-last.ensures in let ok = d.stack.ok in omega (arith, e, ok)) in
+    let some = c.requires.some in
+    let last : suc i ≡ length items = omega (arith, size, some) in
+    let top = c.index_mut-open.result.now in
+    let below = reverse (take i items) in
+    let on : stack_of d ≡ top ∷ below = on_top items i top last c.index_mut-open.ensures.value in
+    let stands = subst (AllStand c.args.known) on c.requires.all in
     let k = c.in-Some.next in
-    let device = c.in_ok-reach.ensures.device in
+    let now : Descent = record { stack = with_item d.stack i (record top { done = k.done }); found = d.found; left = d.left } in
     let path = c.in_ok-path.ensures ∙ ap (λ p. p ++ k.byte ∷ []) c.deref.ensures.value in
+    let same = c.in_ok-reach.ensures.device in
     stop_returned c.args.known
-    (λ file. (all : List Assignment) × Enters file o.node.frame.sizes o.levels k.off c.in_ok-path.path.items c.in_ok-reach.reach.device c.open.new.self all)
-    (λ file. (all : List Assignment) × ComesOn file o.reach.device (o ∷ stack_of c.args.self.now) (found_in c.args.self.now) c.args.self.now.left all)
+    (λ file. (all : List Assignment) × Enters file top.node.frame.sizes top.levels k.off c.in_ok-path.path.items c.in_ok-reach.reach.device now all)
+    (λ file. (device : List ℕ) × (all : List Assignment) × Comes file device d all)
     (λ file m s.
-    let known = subst (λ x. IsOf x file) (sym c.requires.0) m in
-    let e = goes_down file o (stack_of c.args.self.now) (found_in c.args.self.now) c.args.self.now.left s.0 s.1 c.open.new.self k c.in_ok-open.ensures.stack
-    (ap (λ f. map assignment_of_answer f.items) c.in_ok-open.ensures.found) c.in_ok-open.ensures.left
-    (λ from w rest. subst (IsNext file o from w) c.in-Some.is (c.in_ok-next.ensures.next file from w known rest)) in
-    (s.0, enters_at_path file o.node.frame.sizes o.levels k.off (o.path.items ++ k.byte ∷ []) c.in_ok-path.path.items o.reach.device c.in_ok-reach.reach.device c.open.new.self s.0 (sym path) (sym device) e))
+    let g = goes_from file s.0 top (stack_of d) below (found_in d) d.left s.1 on s.2 in
+    let e = goes_down file top below (found_in d) d.left s.1 g.2 now k (changed items i (record top { done = k.done }) last) refl refl
+    (λ from w rest. subst (IsNext file top from w) c.in-Some.is (c.in_ok-next.ensures.next file from w g.0 rest)) in
+    let at = enters_at_path file top.node.frame.sizes top.levels k.off (top.path.items ++ k.byte ∷ []) c.in_ok-path.path.items top.reach.device c.in_ok-reach.reach.device now s.1 (sym path) (sym same) e in
+    (s.1, at))
     c.visit.result c.visit.ensures.stop

@@ -1,0 +1,2 @@
+-- What proofs of this crate and of those above it cite: statements with their proofs.
+pub mod Files

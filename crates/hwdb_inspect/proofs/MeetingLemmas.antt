@@ -1,0 +1,116 @@
+-- Two databases that are walked side by side.
+use Rattle.std.proofs.Common.{◌≡◌, ◌∙◌, ap, sym, refl, subst, ℕ, suc, ◌+◌, List, [], ◌∷◌, ◌++◌, drop, reverse, Option, None, Some, true, is_some, append_assoc, add-one, option_map, slice_get, IfNone}
+use Rattle.std.specs.Ordering.{match_ordering}
+use Rattle.std.specs.declared.cmp.Ordering.{Ordering}
+use Rattle.std.specs.declared.cmp.Ordering.TheVariants.{Less, Equal, Greater}
+use Rattle.hwdb_spec.specs.Assignment.{Assignment}
+use Rattle.hwdb_spec.specs.Differences.{change_between}
+use Rattle.hwdb_spec.specs.Differences.Change.{Came, Went}
+use Rattle.hwdb_spec.specs.Tree.{Tree, Value, values_of}
+use Rattle.hwdb_reader.specs.Views.{Shown, entered_tree, shown}
+use Rattle.hwdb_reader.specs.declared.view.Inside.{Inside}
+use Rattle.hwdb_query.specs.Internal.Members.{one_assignment, own_members}
+use Rattle.hwdb_inspect.proofs.PartLemmas.{own_next, shown_some}
+use Rattle.hwdb_inspect.specs.Internal.Merging.{by_place, merged, merged_from}
+use Rattle.hwdb_inspect.specs.Internal.Meeting.{IsUnderWay, after_next, head_of, left_of, member_of, unlooked}
+use Rattle.hwdb_inspect.specs.Internal.Walks.{own_of, rest_of, to_come}
+use Rattle.hwdb_inspect.specs.declared.members.Member.{Member}
+use Rattle.hwdb_inspect.specs.declared.members.Members.{Members}
+use Rattle.hwdb_inspect.specs.declared.walk.OpenVisit.{OpenVisit}
+use Rattle.hwdb_inspect.specs.declared.walk.Walk.{Walk}
+
+-- ---- the assignments of one
+
+-- no value of the node was looked at
+pub none_looked : (path : List ℕ) (at : Option Inside) → unlooked 0 path at ≡ own_of path at
+none_looked path None = refl
+none_looked path (Some inside) = refl
+
+pub some_next : (o : Option Member) (P : Type 0) → true ≡ is_some o → IfNone o P
+some_next None P h = cc
+some_next (Some m) P h = tt
+
+-- a value of the node is the next one
+pub found_here : (walk mine : Walk) (m : Member) (s : Shown) (values : List Value) (i looked : ℕ) → walk ≡ mine → s.key ≡ Some m.key.now
+    → one_assignment mine.path.items s (Some m.key.now) ≡ member_of mine.path.items m ∷ [] → option_map shown (slice_get values i) ≡ Some s
+    → own_members mine.path.items (drop i values) ≡ own_members mine.path.items (drop looked values)
+    → member_of walk.path.items m ∷ own_members walk.path.items (drop (i + 1) values) ≡ own_members mine.path.items (drop looked values)
+found_here walk mine m s values i looked same key one at rest =
+    let p = mine.path.items in
+    ap (λ (w : Walk). member_of w.path.items m ∷ own_members w.path.items (drop (i + 1) values)) same
+    ∙ ap (λ n. member_of p m ∷ own_members p (drop n values)) (add-one i)
+    ∙ ap (λ r. r ++ own_members p (drop (suc i) values)) (sym (shown_some p m.key.now s key ∙ one)) ∙ sym (own_next p values i s at) ∙ rest
+
+-- the next one was found at the node that the walk is at
+pub found_next : (old now : Members) (inside : Inside) → now.walk ≡ old.walk → old.walk.at ≡ Some inside
+    → head_of now.walk.path.items now.next ++ own_members now.walk.path.items (drop now.looked (values_of (entered_tree inside)))
+    ≡ own_members old.walk.path.items (drop old.looked (values_of (entered_tree inside)))
+    → left_of now ≡ after_next old
+found_next old now inside same at found =
+    let here : now.walk.at ≡ Some inside = ap (λ (w : Walk). w.at) same ∙ at in
+    let path = now.walk.path.items in
+    ap (λ (o : Option Inside). head_of path now.next ++ (unlooked now.looked path o ++ rest_of now.walk)) here
+    ∙ sym (append_assoc (head_of path now.next) (own_members path (drop now.looked (values_of (entered_tree inside)))) (rest_of now.walk))
+    ∙ ap (λ l. l ++ rest_of now.walk) found
+    ∙ ap (λ (w : Walk). own_members old.walk.path.items (drop old.looked (values_of (entered_tree inside))) ++ rest_of w) same
+    ∙ ap (λ (o : Option Inside). unlooked old.looked old.walk.path.items o ++ rest_of old.walk) (sym at)
+
+-- the node that the walk is at has none that is left
+pub next_node : (old : Members) (walk now : Walk) (inside : Inside) → walk ≡ old.walk → old.walk.at ≡ Some inside
+    → own_members old.walk.path.items (drop old.looked (values_of (entered_tree inside))) ≡ []
+    → own_of now.path.items now.at ++ rest_of now ≡ rest_of walk
+    → unlooked 0 now.path.items now.at ++ rest_of now ≡ after_next old
+next_node old walk now inside same at none rest =
+    ap (λ l. l ++ rest_of now) (none_looked now.path.items now.at) ∙ rest ∙ ap rest_of same
+    ∙ ap (λ l. l ++ rest_of old.walk) (sym none)
+    ∙ ap (λ (o : Option Inside). unlooked old.looked old.walk.path.items o ++ rest_of old.walk) (sym at)
+
+pub next_is : (m : Members) (x : Member) → m.next ≡ Some x → left_of m ≡ member_of m.walk.path.items x ∷ after_next m
+next_is m x is = ap (λ (n : Option Member). head_of m.walk.path.items n ++ after_next m) is
+
+-- the next one was passed over
+pub passed : (old now : Members) (x : Member) → old.next ≡ Some x → left_of now ≡ after_next old → left_of old ≡ member_of old.walk.path.items x ∷ left_of now
+passed old now x is left =
+    next_is old x is ∙ ap (λ r. member_of old.walk.path.items x ∷ r) (sym left)
+
+-- none is left
+pub none_left : (m : Members) (t : Tree) → IsUnderWay t m → IfNone m.next (m.walk.at ≡ None) → m.next ≡ None → left_of m ≡ []
+none_left m t way end next =
+    let at : m.walk.at ≡ None = subst (λ (o : Option Member). IfNone o (m.walk.at ≡ None)) next end in
+    let empty : m.walk.stack.items ≡ [] = subst (λ (o : Option Inside). IfNone o (m.walk.stack.items ≡ [])) at way.end in
+    ap (λ (g : Option Member × Option Inside × List OpenVisit).
+    head_of m.walk.path.items g.0 ++ (unlooked m.looked m.walk.path.items g.1 ++ to_come m.walk.path.items (reverse g.2)))
+    (λ i. (next i, at i, empty i))
+
+-- ---- the first of two lists
+
+pub old_met : (xs ys more : List Assignment) (x : Assignment) → xs ≡ x ∷ more → ys ≡ [] → merged xs ys ≡ Went x ∷ merged more ys
+unfolding merged merged_from
+old_met xs ys more x o n =
+    ap (λ (g : List Assignment × List Assignment). merged g.0 g.1) (λ i. (o i, n i)) ∙ ap (λ l. Went x ∷ merged more l) (sym n)
+
+pub new_met : (xs ys more : List Assignment) (y : Assignment) → xs ≡ [] → ys ≡ y ∷ more → merged xs ys ≡ Came y ∷ merged xs more
+unfolding merged
+new_met xs ys more y o n =
+    ap (λ (g : List Assignment × List Assignment). merged g.0 g.1) (λ i. (o i, n i)) ∙ ap (λ l. Came y ∷ merged l more) (sym o)
+
+first_of_both : (x y : Assignment) (xs ys : List Assignment) → merged (x ∷ xs) (y ∷ ys)
+    ≡ match_ordering (by_place x y) (Went x ∷ merged xs (y ∷ ys)) (change_between x y ++ merged xs ys) (Came y ∷ merged (x ∷ xs) ys)
+unfolding merged merged_from
+first_of_both x y xs ys = refl
+
+module _ (old new xs ys : List Assignment) (x y : Assignment) (o : old ≡ x ∷ xs) (n : new ≡ y ∷ ys) where
+  met : (r : Ordering) → by_place x y ≡ r → merged old new ≡ match_ordering r (Went x ∷ merged xs new) (change_between x y ++ merged xs ys) (Came y ∷ merged old ys)
+  met r e =
+      ap (λ (g : List Assignment × List Assignment). merged g.0 g.1) (λ i. (o i, n i)) ∙ first_of_both x y xs ys
+      ∙ ap (λ q. match_ordering q (Went x ∷ merged xs (y ∷ ys)) (change_between x y ++ merged xs ys) (Came y ∷ merged (x ∷ xs) ys)) e
+      ∙ ap (λ (g : List Assignment × List Assignment). match_ordering r (Went x ∷ merged xs g.1) (change_between x y ++ merged xs ys) (Came y ∷ merged g.0 ys)) (λ i. (sym o i, sym n i))
+
+  pub less_met : by_place x y ≡ Less → merged old new ≡ Went x ∷ merged xs new
+  less_met e = met Less e
+
+  pub equal_met : by_place x y ≡ Equal → merged old new ≡ change_between x y ++ merged xs ys
+  equal_met e = met Equal e
+
+  pub greater_met : by_place x y ≡ Greater → merged old new ≡ Came y ∷ merged old ys
+  greater_met e = met Greater e

@@ -1,0 +1,21 @@
+use Rattle.std.proofs.Common.{Option, Some, refl, subst, sym}
+use Rattle.std.proofs.lemmas.Result.{IfOk-weaker}
+use Rattle.hwdb_spec.specs.Status.{Amount, IsAmount, IsStateOf, State}
+use Rattle.hwdb_inspect.proofs.StateLemmas.{not_same}
+use Rattle.hwdb_inspect.proofs.freshness.standing_of_others.Goals as goal
+
+pub returns-in-Ok-clause-state : goal.returns-in-Ok-clause-state
+returns-in-Ok-clause-state c =
+    let bytes = c.args.bytes.now in
+    let made = c.args.made.now in
+    IfOk-weaker c.stale.result _ _
+    (λ s told m is. subst (λ (t : State). IsStateOf made m bytes t) (sym (told m is))
+    (not_same bytes made c.requires, (c.in-Ok.old, c.in-Ok.ensures.accepted, refl)))
+    c.stale.ensures.state
+
+pub returns-in-Ok-clause-holds : goal.returns-in-Ok-clause-holds
+returns-in-Ok-clause-holds c =
+    let bytes = c.args.bytes.now in
+    IfOk-weaker c.stale.result _ _
+    (λ s told. subst (λ (a : Option Amount). IsAmount (Some bytes) a) (sym told) (c.in-Ok.old, c.in-Ok.ensures.accepted, refl))
+    c.stale.ensures.holds

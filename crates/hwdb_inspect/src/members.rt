@@ -1,0 +1,129 @@
+//! The assignments of a database, one after another while it is walked. None but the next one is held, without a copy of
+//! its pattern.
+ghost use Rattle.std.specs.Prelude.{◌≡◌, ◌++◌, [], None, Some, false, drop, is_some, IfNone, IfOk, OnOk};
+ghost use Rattle.hwdb_spec.specs.Tree.{Tree, members_under, values_of};
+ghost use Rattle.hwdb_reader.specs.Views.{entered_tree};
+ghost use Rattle.hwdb_query.specs.Internal.Members.{own_members};
+ghost use Rattle.hwdb_inspect.specs.Views.{assignment_of};
+ghost use Rattle.hwdb_inspect.specs.Internal.Walks.{IsWalkOf};
+ghost use Rattle.hwdb_inspect.specs.Internal.Meeting.{IsUnderWay, after_next, head_of, left_of, member_of};
+
+use crate::gifts::shared;
+use crate::walk::Walk;
+use hwdb_query::StoredAssignment;
+use hwdb_reader::{Db, Inside};
+use std::alloc::{AllocError, Global};
+
+/// An assignment without its pattern.
+#[derive(Clone, Copy)]
+pub(crate) struct Member<'a> {
+    pub priority: u16,
+    pub line: u32,
+    pub key: &'a [u8],
+    pub value: &'a [u8],
+    pub path: &'a [u8],
+}
+
+/// The assignments that a walk has still to give.
+#[derive(Drop)]
+pub(crate) struct Members<'a> {
+    walk: Walk<'a>,
+    /// How many values of the node that the walk is at were looked at.
+    looked: usize,
+    /// The next assignment. Its pattern is the walk's path.
+    pub next: Option<Member<'a>>,
+}
+
+impl<'a> Members<'a> {
+    /// All that a database assigns. The only error, here and below, is `AllocError`.
+    pub(crate) fn start(alloc: Global, db: &Db<'a>) -> Result<Members<'a>, AllocError>
+        ensures all { IfOk result (λ members. left_of members ≡ members_under [] db.now) }
+        ensures walk { IfOk result (λ members. IsUnderWay db.now members) }
+        ensures end { IfOk result (λ members. IfNone members.next (members.walk.at ≡ None)) }
+    {
+        let walk = Walk::start(alloc, db)?;
+        let mut members = Members {
+            walk,
+            looked: 0,
+            next: None,
+        };
+        members.pass()?;
+        Ok(members)
+    }
+
+    /// The pattern of the next assignment.
+    pub(crate) fn pattern(&self) -> &[u8]
+        ensures { result.now ≡ self.now.walk.path.items }
+    {
+        &self.walk.path
+    }
+
+    /// The assignment, with a copy of the pattern of the next one.
+    pub(crate) fn copied(
+        &self,
+        alloc: Global,
+        member: Member<'a>,
+    ) -> Result<StoredAssignment<'a>, AllocError>
+        ensures { IfOk result (λ made.
+            assignment_of made
+            ≡ member_of self.now.walk.path.items member.entry) }
+    {
+        let pattern = shared(alloc, &self.walk.path)?;
+        Ok(StoredAssignment {
+            priority: member.priority,
+            line: member.line,
+            pattern,
+            key: member.key,
+            value: member.value,
+            path: member.path,
+        })
+    }
+
+    /// Looks for the next assignment among those values of a node that weren't looked at, and answers whether there is one.
+    fn look(&mut self, inside: Inside<'a>) -> bool
+        ensures rest { head_of self.new.walk.path.items self.new.next
+            ++ own_members self.new.walk.path.items
+            (drop self.new.looked (values_of (entered_tree inside.entry)))
+            ≡ own_members self.old.walk.path.items
+            (drop self.old.looked (values_of (entered_tree inside.entry))) }
+        ensures none { result ≡ false → own_members self.old.walk.path.items
+            (drop self.old.looked (values_of (entered_tree inside.entry))) ≡ [] }
+        ensures found { result ≡ is_some self.new.next }
+        ensures same { self.new.walk ≡ self.old.walk }
+    {
+        self.next = None;
+        for i in self.looked..inside.values() {
+            let entry = inside.value(i);
+            if let Some(key) = entry.key {
+                self.looked = i + 1;
+                self.next = Some(Member {
+                    priority: entry.priority,
+                    line: entry.line,
+                    key,
+                    value: entry.value,
+                    path: entry.path,
+                });
+                return true;
+            }
+        }
+        false
+    }
+
+    /// Passes over the next assignment, to the one after it.
+    pub(crate) fn pass(&mut self) -> Result<(), AllocError>
+        requires { (t : Tree) × IsUnderWay t self.old }
+        ensures walk { OnOk result ((t : Tree) → IsUnderWay t self.old → IsUnderWay t self.new) }
+        ensures left { OnOk result (left_of self.new ≡ after_next self.old) }
+        ensures end { OnOk result (IfNone self.new.next (self.new.walk.at ≡ None)) }
+    {
+        'nodes: while let Some(inside) = self.walk.at {
+            if self.look(inside) {
+                return Ok(());
+            }
+            self.walk.next()?;
+            self.looked = 0;
+        }
+        self.next = None;
+        Ok(())
+    }
+}

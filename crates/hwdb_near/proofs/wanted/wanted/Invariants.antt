@@ -1,0 +1,9 @@
+use Rattle.std.proofs.Common.{◌≡◌, filter, map, take}
+use Rattle.std.specs.Prelude.{flat_map}
+use Rattle.hwdb_compile.specs.Internal.Reading.{assignments_in}
+use Rattle.hwdb_spec.specs.Answers.{is_wanted}
+use Rattle.hwdb_near.specs.Views.{assignment_of}
+use Rattle.hwdb_near.proofs.wanted.wanted.Given as goal
+
+abbrev pub invariant-loop-file : goal.invariant-loop-file
+invariant-loop-file l = map assignment_of l.found.items ≡ filter (is_wanted l.device) (flat_map assignments_in (take l.file-index l.files))

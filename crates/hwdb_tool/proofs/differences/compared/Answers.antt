@@ -1,0 +1,43 @@
+use Rattle.std.proofs.Common.{inl, inr, map, subst, sym, ◌∙◌}
+use Rattle.hwdb_lint.specs.Checks.{source_of}
+use Rattle.hwdb_spec.specs.Comparisons.{comparison_form, devices_named}
+use Rattle.hwdb_spec.specs.Databases.{IsDiffText}
+use Rattle.hwdb_spec.specs.Lemmas.Calls.{given_error}
+use Rattle.hwdb_spec.specs.Sides.{IsSide}
+use Rattle.hwdb_tool.specs.SideSteps.{IsPairError}
+use Rattle.hwdb_tool.proofs.differences.compared.Goals as goal
+
+pub returns-in_err-old-clause-refused : goal.returns-in_err-old-clause-refused
+returns-in_err-old-clause-refused g c = λ tells.
+    given_error c.in_err-old.field-0.0 (IsPairError (g.D.System.may_fail c.args.system.now) (g.D.Store.seen c.args.system.now) c.args.old_path.now c.args.new_path.now)
+    c.from_residual.result c.from_residual.ensures.1 (inl (c.in_err-old.ensures.refused tells))
+
+pub returns-in_err-new-clause-refused : goal.returns-in_err-new-clause-refused
+returns-in_err-new-clause-refused g c = λ tells.
+    given_error c.in_err-new.field-0.0 (IsPairError (g.D.System.may_fail c.args.system.now) (g.D.Store.seen c.args.system.now) c.args.old_path.now c.args.new_path.now)
+    c.from_residual-in_err-new.result c.from_residual-in_err-new.ensures.1 (inr (inl (c.in_ok-old.old.items, c.in_ok-old.ensures.side tells, c.in_err-new.ensures.refused tells)))
+
+pub returns-clause-refused : goal.returns-clause-refused
+returns-clause-refused g c = λ tells.
+    let seen = g.D.Store.seen c.args.system.now in
+    let of_old = subst (IsSide c.args.old_path.now seen) (sym c.deref.ensures.value) (c.in_ok-old.ensures.side tells) in
+    let of_new = subst (IsSide c.args.new_path.now seen) (sym c.deref-2.ensures.value) (c.in_ok-new.ensures.side tells) in
+    inr (inr record { old = c.deref.result.now; new = c.deref-2.result.now; held = record { of_old = of_old; of_new = of_new }; error = c.in-Err.error; is = c.refusal_of.ensures; refused = c.in-Err.ensures.errors })
+
+pub returns-in-Ok-clause-compared : goal.returns-in-Ok-clause-compared
+returns-in-Ok-clause-compared g c = λ tells.
+    let seen = g.D.Store.seen c.args.system.now in
+    let of_old = subst (IsSide c.args.old_path.now seen) (sym c.deref.ensures.value) (c.in_ok-old.ensures.side tells) in
+    let of_new = subst (IsSide c.args.new_path.now seen) (sym c.deref-2.ensures.value) (c.in_ok-new.ensures.side tells) in
+    let of = comparison_form c.args.stat c.args.json (devices_named (map source_of c.args.files.now)) in (
+      c.new.ensures.err,
+      record {
+        old = c.deref.result.now;
+        new = c.deref-2.result.now;
+        held = record { of_old = of_old; of_new = of_new };
+        is = subst (IsDiffText of c.deref.result.now c.deref-2.result.now) (sym c.new.ensures.out) c.in-Ok.ensures.text;
+        answer = c.in-Ok.changes.differ;
+        differs = c.in-Ok.ensures.differ;
+        says = c.new.ensures.status ∙ c.status_of.ensures.is;
+      },
+    )

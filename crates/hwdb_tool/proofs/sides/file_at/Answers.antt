@@ -1,0 +1,21 @@
+use Rattle.std.proofs.Common.{inl, inr, sym, ◌∙◌}
+use Rattle.hwdb_spec.specs.Lemmas.Calls.{each_error}
+use Rattle.hwdb_spec.specs.Refusals.{HasReason, IsUnreadAt, IsUnreadable}
+use Rattle.hwdb_tool.specs.SideSteps.{IsSideError}
+use Rattle.hwdb_tool.proofs.SideReadLemmas.{held_side, unheld_side}
+use Rattle.hwdb_tool.proofs.sides.file_at.Goals as goal
+
+pub returns-then-names_text-clause-side : goal.returns-then-names_text-clause-side
+returns-then-names_text-clause-side g c = λ tells there. c.text_file_at.ensures.side tells there (sym c.names_text.ensures ∙ c.if-names_text.true)
+
+pub returns-then-names_text-clause-refused : goal.returns-then-names_text-clause-refused
+returns-then-names_text-clause-refused g c = λ tells there. c.text_file_at.ensures.refused tells there (sym c.names_text.ensures ∙ c.if-names_text.true)
+
+pub returns-else-names_text-clause-side : goal.returns-else-names_text-clause-side
+returns-else-names_text-clause-side g c = λ tells there.
+    held_side (g.D.Store.seen c.args.system.now) c.args.path.now there (sym c.names_text.ensures ∙ c.if-names_text.false) c.database_at.result (c.database_at.ensures.held tells) c.database_at.ensures.within
+
+pub returns-else-names_text-clause-refused : goal.returns-else-names_text-clause-refused
+returns-else-names_text-clause-refused g c = λ tells there.
+    unheld_side (g.D.System.may_fail c.args.system.now) (g.D.Store.seen c.args.system.now) c.args.path.now there (sym c.names_text.ensures ∙ c.if-names_text.false) c.database_at.result
+    (c.database_at.ensures.unread tells) c.database_at.ensures.reason

@@ -1,0 +1,64 @@
+use Rattle.std.proofs.Common.{List, ap, inl, inr, map, string_bytes, subst, sym, true, false, ◌==◌, ◌∙◌, ◌≡◌, length, ℕ, ⊎_elim}
+use Rattle.std.proofs.lemmas.List.{length-map}
+use Rattle.hwdb_spec.specs.CheckedFiles.{folder_of}
+use Rattle.hwdb_spec.specs.Lemmas.Calls.{each_error, each_value, given_error}
+use Rattle.hwdb_spec.specs.Reading.{AreUnread}
+use Rattle.hwdb_spec.specs.Selected.{AreSelected}
+use Rattle.hwdb_spec.specs.Sides.{HasTexts, IsSide}
+use Rattle.hwdb_spec.specs.Sides.Kind.{Root}
+use Rattle.hwdb_text.specs.Views.{choice_of}
+use Rattle.hwdb_text.specs.declared.choice.Chosen.{Chosen}
+use Rattle.hwdb_tool.specs.SideSteps.{IsSideError}
+use Rattle.hwdb_tool.proofs.SideReadLemmas.{side_memory, texts_of}
+use Rattle.hwdb_tool.proofs.sides.folder_at.Goals as goal
+
+pub returns-in_err-selection-clause-refused : goal.returns-in_err-selection-clause-refused
+returns-in_err-selection-clause-refused g c = λ tells folder.
+    let fails = g.D.System.may_fail c.args.system.now in
+    let seen = g.D.Store.seen c.args.system.now in
+    let r = c.in_err-selection.field-0.0 in
+    let unread = subst (λ p. AreUnread p seen r) c.folder_of.ensures (c.in_err-selection.ensures.refused tells) in
+    given_error r (IsSideError fails seen c.args.path.now) c.from_residual.result c.from_residual.ensures.1
+    (inr (inr (inr (inl (folder.none, unread, c.in_err-selection.ensures.reason tells)))))
+
+pub returns-then-are_none-clause-side : goal.returns-then-are_none-clause-side
+returns-then-are_none-clause-side g c = λ tells folder.
+    let seen = g.D.Store.seen c.args.system.now in
+    let s = c.in_ok-selection.selection in
+    let root = folder_of c.args.path.now in
+    let selected = subst (λ p. AreSelected p seen (map string_bytes s.listed.items) (map choice_of s.chosen.items) (map (λ t. t.items) s.texts.items)) c.folder_of.ensures (c.in_ok-selection.ensures.selected tells) in
+    let none : (length (map choice_of s.chosen.items) == 0) ≡ true = ap (λ (n : ℕ). n == 0) (length-map s.chosen.items choice_of) ∙ ap (λ (l : List Chosen). length l == 0) (sym c.deref.ensures.value) ∙ sym c.are_none.ensures ∙ c.if-are_none.true in
+    c.own_texts.ensures.side tells folder (texts_of root seen (map string_bytes s.listed.items) (map choice_of s.chosen.items) (map (λ t. t.items) s.texts.items) true selected none)
+
+pub returns-then-are_none-clause-refused : goal.returns-then-are_none-clause-refused
+returns-then-are_none-clause-refused g c = λ tells folder.
+    let seen = g.D.Store.seen c.args.system.now in
+    let s = c.in_ok-selection.selection in
+    let root = folder_of c.args.path.now in
+    let selected = subst (λ p. AreSelected p seen (map string_bytes s.listed.items) (map choice_of s.chosen.items) (map (λ t. t.items) s.texts.items)) c.folder_of.ensures (c.in_ok-selection.ensures.selected tells) in
+    let none : (length (map choice_of s.chosen.items) == 0) ≡ true = ap (λ (n : ℕ). n == 0) (length-map s.chosen.items choice_of) ∙ ap (λ (l : List Chosen). length l == 0) (sym c.deref.ensures.value) ∙ sym c.are_none.ensures ∙ c.if-are_none.true in
+    c.own_texts.ensures.refused tells folder (texts_of root seen (map string_bytes s.listed.items) (map choice_of s.chosen.items) (map (λ t. t.items) s.texts.items) true selected none)
+
+pub returns-clause-side : goal.returns-clause-side
+returns-clause-side g c = λ tells folder.
+    let seen = g.D.Store.seen c.args.system.now in
+    let s = c.in_ok-selection.selection in
+    let path = c.args.path.now in
+    let root = folder_of path in
+    let selected = subst (λ p. AreSelected p seen (map string_bytes s.listed.items) (map choice_of s.chosen.items) (map (λ t. t.items) s.texts.items)) c.folder_of.ensures (c.in_ok-selection.ensures.selected tells) in
+    let some : (length (map choice_of s.chosen.items) == 0) ≡ false = ap (λ (n : ℕ). n == 0) (length-map s.chosen.items choice_of) ∙ ap (λ (l : List Chosen). length l == 0) (sym c.deref.ensures.value) ∙ sym c.are_none.ensures ∙ c.if-are_none.false in
+    let has : HasTexts root seen true = texts_of root seen (map string_bytes s.listed.items) (map choice_of s.chosen.items) (map (λ t. t.items) s.texts.items) false selected some in
+    each_value _ (λ b. IsSide path seen b.items) c.root_bytes.result (λ b made. record { kind = Root; is = (folder.none, has); are = made }) (c.root_bytes.ensures.made root seen selected)
+
+pub returns-clause-refused : goal.returns-clause-refused
+returns-clause-refused g c = λ tells folder.
+    let fails = g.D.System.may_fail c.args.system.now in
+    let seen = g.D.Store.seen c.args.system.now in
+    let s = c.in_ok-selection.selection in
+    let path = c.args.path.now in
+    let root = folder_of path in
+    let selected = subst (λ p. AreSelected p seen (map string_bytes s.listed.items) (map choice_of s.chosen.items) (map (λ t. t.items) s.texts.items)) c.folder_of.ensures (c.in_ok-selection.ensures.selected tells) in
+    let some : (length (map choice_of s.chosen.items) == 0) ≡ false = ap (λ (n : ℕ). n == 0) (length-map s.chosen.items choice_of) ∙ ap (λ (l : List Chosen). length l == 0) (sym c.deref.ensures.value) ∙ sym c.are_none.ensures ∙ c.if-are_none.false in
+    let has : HasTexts root seen true = texts_of root seen (map string_bytes s.listed.items) (map choice_of s.chosen.items) (map (λ t. t.items) s.texts.items) false selected some in
+    each_error _ (IsSideError fails seen path) c.root_bytes.result
+    (λ r not. ⊎_elim (λ memory. side_memory fails seen path r memory) (λ un. inr (inr (inr (inr ((folder.none, has), un))))) not) (c.root_bytes.ensures.refused root seen selected)

@@ -1,0 +1,29 @@
+-- What the steps of a side of `diff` hold.
+use Rattle.std.specs.Prelude.{◌≡◌, Bool, List, false, ℕ}
+use Rattle.hwdb_spec.specs.CheckedFiles.{folder_of, is_file}
+use Rattle.hwdb_spec.specs.ComparedDatabases.{IsPairRefused}
+use Rattle.hwdb_spec.specs.Refusals.{HasReason, IsUnreadable}
+use Rattle.hwdb_spec.specs.Sides.{AreNotMadeAt, IsSideRefused}
+use Rattle.hwdb_spec.specs.Store.{Contents}
+use Rattle.hwdb_spec.specs.System.{AreNamesIn}
+use Rattle.hwdb_spec.specs.declared.refusals.Refusal.{Refusal}
+
+-- an error of a side, and what it says is so
+abbrev pub IsSideError : (MayFail : (path : List ℕ) → Type 0) → Contents → (path : List ℕ) → Refusal → Type 0
+IsSideError MayFail contents path refusal =
+    IsSideRefused (HasReason MayFail ⊥ contents) (HasReason (IsUnreadable MayFail contents) ⊥ contents) path contents refusal
+
+-- the same of the text files for which a path stands
+abbrev pub AreTextsError : (MayFail : (path : List ℕ) → Type 0) → Contents → (path : List ℕ) → Refusal → Type 0
+AreTextsError MayFail contents path refusal =
+    AreNotMadeAt (HasReason MayFail ⊥ contents) (HasReason (IsUnreadable MayFail contents) ⊥ contents) path contents refusal
+
+-- the same of two sides
+abbrev pub IsPairError : (MayFail : (path : List ℕ) → Type 0) → Contents → (old_path new_path : List ℕ) → Refusal → Type 0
+IsPairError MayFail contents old_path new_path refusal =
+    IsPairRefused (HasReason MayFail ⊥ contents) (HasReason (IsUnreadable MayFail contents) ⊥ contents) old_path new_path contents refusal
+
+-- at the path is no file, and its folder has text files with these names
+pub record IsFolderOf (path : List ℕ) (contents : Contents) (names : List (List ℕ)) : Type 0 where
+  pub none : is_file contents path ≡ false
+  pub in_folder : AreNamesIn (folder_of path) contents names

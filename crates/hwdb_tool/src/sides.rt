@@ -1,0 +1,281 @@
+//! What a path of `diff` means: a database, a text file, a folder of text files, or a root. Nothing is written.
+ghost use Rattle.std.specs.Prelude.{◌++◌, ◌==◌, ◌∷◌, ◌<◌, ◌≡◌, ◌≤◌, ◌⊎◌, [], ℕ, All, Some, false, length, map, string_bytes, true, IfErr, IfNone, IfOk, IfSome, List};
+ghost use Rattle.hwdb_compile.specs.Views as compiled;
+ghost use Rattle.hwdb_compile.specs.Views.{sources};
+ghost use Rattle.hwdb_lint.specs.Checks.{source_of};
+ghost use Rattle.hwdb_spec.specs.CheckedFiles.{StandFor, folder_of, is_file};
+ghost use Rattle.hwdb_spec.specs.Folders.{Source};
+ghost use Rattle.hwdb_spec.specs.Given.{is_dash};
+ghost use Rattle.hwdb_spec.specs.Lines.{has};
+ghost use Rattle.hwdb_spec.specs.Refusals.{HasReason, IsUnreadAt, IsUnreadable};
+ghost use Rattle.hwdb_spec.specs.Sides;
+ghost use Rattle.hwdb_spec.specs.Sides.{AreMadeAt, HasTexts, IsSide, as_etc, names_text};
+ghost use Rattle.hwdb_spec.specs.Status.{IsMade};
+ghost use Rattle.hwdb_spec.specs.StatusErrors.{AreNotMade, IsNotCompiled};
+ghost use Rattle.hwdb_spec.specs.Store.{Contents};
+ghost use Rattle.hwdb_spec.specs.System.{bytes_at};
+ghost use Rattle.hwdb_spec.specs.Texts.{max_file};
+ghost use Rattle.hwdb_spec.specs.declared.errors.ToolError.{ToolError};
+ghost use Rattle.hwdb_spec.specs.declared.refusals.Refusal.TheVariants.{Plain};
+ghost use Rattle.hwdb_text.specs.Views.{IsStorableChoice, choice_of};
+ghost use Rattle.hwdb_tool.specs.Internal.{IsOfSelection};
+ghost use Rattle.hwdb_tool.specs.SideSteps.{AreTextsError, IsFolderOf, IsSideError};
+ghost use Rattle.hwdb_tool.specs.Statuses.{AreMadeOf};
+
+use crate::checks::{read_given, with_paths};
+use crate::given::is_dash;
+use crate::given_folders::{alone, files_in, folder_of};
+use crate::statuses::compiled;
+use hwdb_compile::{SourceFile, compile};
+use hwdb_fs::{Refusal, Selection, System, selected, with_texts};
+use hwdb_io::MAX_BYTES;
+use hwdb_lint::TextFile;
+use hwdb_print::ToolError;
+use hwdb_text::{Chosen, counts};
+use std::alloc::{AllocError, Global};
+
+/// The texts before and after the first slash of a path.
+fn cut(path: &str) -> Option<(&str, &str)>
+    ensures parts { IfSome result (λ x. path.now ≡ x.0.now ++ 47 ∷ x.1.now) }
+    ensures fewer { IfSome result (λ x. length x.1.now < length path.now) }
+    ensures none { IfNone result (has 47 path.now ≡ false) }
+{
+    path.split_once('/')
+}
+
+/// What comes after the first slash of a path: it ends in the same name.
+fn after_slash(path: &str) -> Option<&str>
+    ensures name { IfSome result
+        (λ rest. Sides.file_name path.now ≡ Sides.file_name rest.now) }
+    ensures fewer { IfSome result (λ rest. length rest.now < length path.now) }
+    ensures alone { IfNone result (Sides.file_name path.now ≡ path.now) }
+{
+    match cut(path) {
+        Some(parts) => Some(parts.1),
+        None => None,
+    }
+}
+
+/// The name of what is at a path: all after the last slash.
+fn file_name(path: &str) -> &str
+    ensures { result.now ≡ Sides.file_name path.now }
+{
+    let mut left = path;
+    'slashes: while let Some(rest) = after_slash(left) {
+        left = rest;
+    }
+    left
+}
+
+/// Whether it is one of a text file.
+fn names_text(path: &str) -> bool
+    ensures { result ≡ names_text path.now }
+{
+    counts(file_name(path).as_bytes())
+}
+
+/// A text file, as if it was in /etc/udev/hwdb.d. The only error, here and below, is `AllocError`.
+fn as_etc(alloc: Global, file: &TextFile<'_>) -> Result<SourceFile, AllocError>
+    ensures { IfOk result (λ etc. compiled.source_of etc ≡ as_etc (source_of file.now)) }
+{
+    Ok(SourceFile {
+        name: String::from_str(alloc, file_name(file.path))?,
+        bytes: Vec::from_slice(alloc, file.bytes)?,
+    })
+}
+
+/// The same of some.
+fn all_as_etc(alloc: Global, files: &[TextFile<'_>]) -> Result<Vec<SourceFile>, AllocError>
+    ensures { IfOk result
+        (λ etc. map compiled.source_of etc.items ≡ map as_etc (map source_of files.now)) }
+{
+    let mut etc = Vec::new(alloc);
+    for file in files {
+        etc.push(as_etc(alloc, file)?)?;
+    }
+    Ok(etc)
+}
+
+/// What `update` would write of text files of /etc.
+fn database_of(alloc: Global, etc: &[SourceFile]) -> Result<Vec<u8>, Refusal>
+    ensures made { IfOk result (λ bytes. AreMadeOf (sources etc.now) [] bytes.items) }
+    ensures refused { IfErr result (IsNotCompiled (sources etc.now) []) }
+{
+    match compile(alloc, etc, &[], MAX_BYTES) {
+        Ok(compiled) => Ok(compiled.database),
+        Err(error) => Err(Refusal::from(ToolError::from(error))),
+    }
+}
+
+/// The same of text files, each of which is read as if it was there.
+fn database_of_texts(alloc: Global, files: &[TextFile<'_>]) -> Result<Vec<u8>, Refusal>
+    ensures made { IfOk result
+        (λ bytes. AreMadeOf (map as_etc (map source_of files.now)) [] bytes.items) }
+    ensures refused { IfErr result (IsNotCompiled (map as_etc (map source_of files.now)) []) }
+{
+    let etc = all_as_etc(alloc, files)?;
+    database_of(alloc, &etc)
+}
+
+/// The same of the text files for which a path stands.
+fn texts_at<D: System>(
+    alloc: Global,
+    path: &str,
+    own: &[String],
+    system: &D,
+) -> Result<Vec<u8>, Refusal>
+    ensures made { D.Store.tells → StandFor (D.Store.seen system.now) (path.now ∷ [])
+        (map string_bytes own.now)
+        → IfOk result (λ bytes. AreMadeAt path.now (D.Store.seen system.now) bytes.items) }
+    ensures refused { D.Store.tells → StandFor (D.Store.seen system.now) (path.now ∷ [])
+        (map string_bytes own.now) → IfErr result (AreTextsError
+        (D.System.may_fail system.now) (D.Store.seen system.now) path.now) }
+{
+    let words = alone(alloc, path)?;
+    let texts = read_given(alloc, &words, own, &[], system)?;
+    let files = with_paths(alloc, own, &texts)?;
+    database_of_texts(alloc, &files)
+}
+
+/// The bytes of a folder without text files of a root, of which the text files have these names.
+fn own_texts<D: System>(
+    alloc: Global,
+    path: &str,
+    names: &[String],
+    system: &D,
+) -> Result<Vec<u8>, Refusal>
+    ensures side { D.Store.tells
+        → IsFolderOf path.now (D.Store.seen system.now) (map string_bytes names.now)
+        → HasTexts (folder_of path.now) (D.Store.seen system.now) false
+        → IfOk result (λ bytes. IsSide path.now (D.Store.seen system.now) bytes.items) }
+    ensures refused { D.Store.tells
+        → IsFolderOf path.now (D.Store.seen system.now) (map string_bytes names.now)
+        → HasTexts (folder_of path.now) (D.Store.seen system.now) false
+        → IfErr result (IsSideError (D.System.may_fail system.now)
+        (D.Store.seen system.now) path.now) }
+{
+    let own = files_in(alloc, path, names)?;
+    texts_at(alloc, path, &own, system)
+}
+
+/// The bytes of a text file.
+fn text_file_at<D: System>(alloc: Global, path: &str, system: &D) -> Result<Vec<u8>, Refusal>
+    ensures side { D.Store.tells → is_file (D.Store.seen system.now) path.now ≡ true
+        → names_text path.now ≡ true
+        → IfOk result (λ bytes. IsSide path.now (D.Store.seen system.now) bytes.items) }
+    ensures refused { D.Store.tells → is_file (D.Store.seen system.now) path.now ≡ true
+        → names_text path.now ≡ true
+        → IfErr result (IsSideError (D.System.may_fail system.now)
+        (D.Store.seen system.now) path.now) }
+{
+    let own = alone(alloc, path)?;
+    texts_at(alloc, path, &own, system)
+}
+
+/// The bytes of a database.
+fn database_at<D: System>(alloc: Global, path: &str, system: &D) -> Result<Vec<u8>, Refusal>
+    ensures held { D.Store.tells → IfOk result
+        (λ bytes. bytes_at (D.Store.seen system.now) path.now ≡ Some bytes.items) }
+    ensures within { IfOk result (λ bytes. length bytes.items ≤ max_file) }
+    ensures unread { D.Store.tells → IfErr result
+        (IsUnreadAt (D.Store.seen system.now) path.now) }
+    ensures reason { IfErr result (HasReason
+        (IsUnreadable (D.System.may_fail system.now) (D.Store.seen system.now)) ⊥
+        (D.Store.seen system.now)) }
+{
+    let bytes = system.input(alloc, path)?;
+    Ok(bytes)
+}
+
+/// The bytes of a file: a text file if it has the name of one, else a database.
+fn file_at<D: System>(alloc: Global, path: &str, system: &D) -> Result<Vec<u8>, Refusal>
+    ensures side { D.Store.tells → is_file (D.Store.seen system.now) path.now ≡ true
+        → IfOk result (λ bytes. IsSide path.now (D.Store.seen system.now) bytes.items) }
+    ensures refused { D.Store.tells → is_file (D.Store.seen system.now) path.now ≡ true
+        → IfErr result (IsSideError (D.System.may_fail system.now)
+        (D.Store.seen system.now) path.now) }
+{
+    if names_text(path) {
+        text_file_at(alloc, path, system)
+    } else {
+        database_at(alloc, path, system)
+    }
+}
+
+/// What `update` would write of the chosen text files of a root.
+fn root_bytes(alloc: Global, selection: &Selection) -> Result<Vec<u8>, Refusal>
+    requires count { length selection.now.texts.items ≡ length selection.now.chosen.items }
+    requires storable { All IsStorableChoice (map choice_of selection.now.chosen.items) }
+    ensures made { (root : List ℕ) (contents : Contents)
+        → IsOfSelection root contents selection.now
+        → IfOk result (λ bytes. (of_etc of_usr : List Source)
+        × IsMade root contents of_etc of_usr bytes.items) }
+    ensures refused { (root : List ℕ) (contents : Contents)
+        → IsOfSelection root contents selection.now
+        → IfErr result (λ r. (r ≡ Plain ToolError.Memory) ⊎ AreNotMade root contents r) }
+{
+    let files = with_texts(alloc, &selection.chosen, &selection.texts)?;
+    let made = compiled(alloc, &files)?;
+    Ok(made.database)
+}
+
+/// Whether no file is chosen.
+fn are_none(chosen: &[Chosen]) -> bool
+    ensures { result ≡ (length chosen.now == 0) }
+{
+    chosen.is_empty()
+}
+
+/// The bytes of a folder: of a root, if it has text files where `update` looks for them, else of its own text files.
+fn folder_at<D: System>(
+    alloc: Global,
+    path: &str,
+    names: &[String],
+    system: &D,
+) -> Result<Vec<u8>, Refusal>
+    ensures side { D.Store.tells
+        → IsFolderOf path.now (D.Store.seen system.now) (map string_bytes names.now)
+        → IfOk result (λ bytes. IsSide path.now (D.Store.seen system.now) bytes.items) }
+    ensures refused { D.Store.tells
+        → IsFolderOf path.now (D.Store.seen system.now) (map string_bytes names.now)
+        → IfErr result (IsSideError (D.System.may_fail system.now)
+        (D.Store.seen system.now) path.now) }
+{
+    let selection = selected(alloc, folder_of(path), system)?;
+    if are_none(&selection.chosen) {
+        own_texts(alloc, path, names, system)
+    } else {
+        root_bytes(alloc, &selection)
+    }
+}
+
+/// The bytes of a side that is no `-`.
+fn plain_side<D: System>(alloc: Global, path: &str, system: &D) -> Result<Vec<u8>, Refusal>
+    ensures side { D.Store.tells → is_dash path.now ≡ false
+        → IfOk result (λ bytes. IsSide path.now (D.Store.seen system.now) bytes.items) }
+    ensures refused { D.Store.tells → is_dash path.now ≡ false → IfErr result
+        (IsSideError (D.System.may_fail system.now) (D.Store.seen system.now) path.now) }
+{
+    let found = system.folder_names(alloc, folder_of(path))?;
+    match found {
+        Some(names) => folder_at(alloc, path, &names, system),
+        None => file_at(alloc, path, system),
+    }
+}
+
+/// The bytes of a side of `diff`: those of a database, or those that `update` would write of a text file, of the text files of a
+/// folder, or of those of a root. A file is a text file if its name is one of a text file; the file `-` is a database.
+///
+/// Errors are, in this order: a folder can't be listed, a file can't be read, and text files can't be compiled.
+pub fn side<D: System>(alloc: Global, path: &str, system: &D) -> Result<Vec<u8>, Refusal>
+    ensures side { D.Store.tells
+        → IfOk result (λ bytes. IsSide path.now (D.Store.seen system.now) bytes.items) }
+    ensures refused { D.Store.tells → IfErr result
+        (IsSideError (D.System.may_fail system.now) (D.Store.seen system.now) path.now) }
+{
+    if is_dash(path) {
+        file_at(alloc, path, system)
+    } else {
+        plain_side(alloc, path, system)
+    }
+}
