@@ -5,7 +5,7 @@ use Rattle.hwdb_spec.specs.Patterns.{tokens}
 use Rattle.hwdb_forms.specs.Internal.{views}
 use Rattle.hwdb_spec.specs.declared.Judgement.TheVariants.{Dead, UnknownPrefix}
 use Rattle.hwdb_forms.proofs.FrontLemmas.{is_fine, not_fine}
-use Rattle.hwdb_forms.proofs.judging.judge.Goals as goal
+use Rattle.hwdb_forms.proofs.judging.judge_tokens.Goals as goal
 
 pub returns-then-branch-clause-fine : goal.returns-then-branch-clause-fine
 returns-then-branch-clause-fine c =
