@@ -1,3 +1,4 @@
 pub mod NameLemmas
 pub mod RowLemmas
 pub mod SameLemmas
+pub mod CommonLemmas
