@@ -12,6 +12,7 @@ pub mod TallyLemmas
 pub mod MeetingLemmas
 pub mod OrderedLemmas
 pub mod SaidLemmas
+pub mod PlainLemmas
 pub mod ReadLemmas
 pub mod PlacedLemmas
 pub mod StateLemmas

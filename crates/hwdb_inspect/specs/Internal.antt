@@ -6,3 +6,4 @@ pub mod Meeting
 pub mod Counting
 pub mod Forms
 pub mod Counts
+pub mod Plain

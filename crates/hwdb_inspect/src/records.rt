@@ -1,12 +1,14 @@
 //! The records of a dump, and what a record says.
-ghost use Rattle.std.specs.Prelude.{◌≡◌, ◌++◌, ◌∷◌, [], if◌then◌else◌, false, OnOk, IfOk, map};
+ghost use Rattle.std.specs.Prelude.{◌≡◌, ◌≤◌, ◌++◌, ◌∷◌, [], drop, length, if◌then◌else◌, false, OnOk, IfOk, map};
 ghost use Rattle.hwdb_spec.specs.Dump;
 ghost use Rattle.hwdb_spec.specs.Dump.{comment_text, record_text};
 ghost use Rattle.hwdb_spec.specs.Folders;
 ghost use Rattle.hwdb_spec.specs.Lines.{is_none};
 ghost use Rattle.hwdb_text.specs.Views.{given_in};
+ghost use Rattle.hwdb_inspect.specs.Internal.Plain.{body_text};
 ghost use Rattle.hwdb_inspect.specs.Views.{assignment_of};
 
+use crate::plain::is_plain;
 use crate::texts::is_same;
 use hwdb_query::StoredAssignment;
 use hwdb_text::{Given, ScanError, Scanned, scan};
@@ -26,11 +28,10 @@ fn push_comment(text: &mut Vec<u8>, f: &StoredAssignment<'_>) -> Result<(), Allo
     Ok(())
 }
 
-/// Adds the record of an assignment: a comment, its pattern, its property, and an empty line.
-fn push_record(text: &mut Vec<u8>, f: &StoredAssignment<'_>) -> Result<(), AllocError>
-    ensures { OnOk result (text.new.items ≡ text.old.items ++ record_text (assignment_of f.now)) }
+/// Adds what comes after the comment of a record: the pattern, the property, and an empty line.
+fn push_body(text: &mut Vec<u8>, f: &StoredAssignment<'_>) -> Result<(), AllocError>
+    ensures { OnOk result (text.new.items ≡ text.old.items ++ body_text (assignment_of f.now)) }
 {
-    push_comment(text, f)?;
     text.extend_from_slice(&f.pattern)?;
     text.extend_from_slice(b"\n ")?;
     text.extend_from_slice(f.key)?;
@@ -38,6 +39,21 @@ fn push_record(text: &mut Vec<u8>, f: &StoredAssignment<'_>) -> Result<(), Alloc
     text.extend_from_slice(f.value)?;
     text.extend_from_slice(b"\n\n")?;
     Ok(())
+}
+
+/// Adds the record of an assignment: a comment, its pattern, its property, and an empty line. Answers where the comment
+/// ends.
+fn push_record(text: &mut Vec<u8>, f: &StoredAssignment<'_>) -> Result<usize, AllocError>
+    ensures text { OnOk result
+        (text.new.items ≡ text.old.items ++ record_text (assignment_of f.now)) }
+    ensures within { IfOk result (λ from. from ≤ length text.new.items) }
+    ensures body { IfOk result (λ from.
+        drop from text.new.items ≡ body_text (assignment_of f.now)) }
+{
+    push_comment(text, f)?;
+    let from = text.as_slice().len();
+    push_body(text, f)?;
+    Ok(from)
 }
 
 /// Whether a file gives a pattern, a key and a value.
@@ -70,7 +86,8 @@ fn is_said(alloc: Global, text: &[u8], f: &StoredAssignment<'_>) -> Result<bool,
     }
 }
 
-/// Adds the record of an assignment, and answers whether the record says it. The only error is `AllocError`.
+/// Adds the record of an assignment, and answers whether the record says it. It is read as a file only if its bytes don't
+/// show that. The only error is `AllocError`.
 pub(crate) fn push_said(
     alloc: Global,
     text: &mut Vec<u8>,
@@ -81,6 +98,9 @@ pub(crate) fn push_said(
     ensures said { IfOk result (λ said. said ≡ Dump.is_said (assignment_of f.now)) }
 {
     let from = text.as_slice().len();
-    push_record(text, f)?;
+    let body = push_record(text, f)?;
+    if is_plain(&text[body..], f) {
+        return Ok(true);
+    }
     is_said(alloc, &text[from..], f)
 }
