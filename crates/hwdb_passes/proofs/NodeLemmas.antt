@@ -5,7 +5,7 @@ use Rattle.hwdb_spec.specs.Tree.{Value, Tree, Children, count}
 use Rattle.hwdb_spec.specs.Tree.Tree.{Node}
 use Rattle.hwdb_spec.specs.Tree.Children.{NoMore, Child}
 use Rattle.hwdb_spec.specs.Format.{number_at, NodeText, ChildrenText, ValuesText, IsPlace, IsDatabase, layout_of, max_levels, record_end, child_entry, child_byte, child_off, children_count, values_count, value_entries, prefix_off, text_at}
-use Rattle.hwdb_passes.specs.Views.{IsPart, IsOf, Stand, pending}
+use Rattle.hwdb_passes.specs.Views.{IsPart, IsOf, Stand, Stands, pending}
 use Rattle.hwdb_passes.specs.Internal.{values_at, ChildrenStand}
 use Rattle.hwdb_passes.specs.declared.outline.Outline.{Outline}
 use Rattle.hwdb_passes.proofs.PartLemmas.{byte_is, number_is, children_there, values_there, prefix_there, end_there}
@@ -158,11 +158,11 @@ row_taken l file offsets heights n m x d end lo lh more stand =
 
 -- the root alone stands
 pub root_stands : (o : Outline) (file offsets heights : List ℕ) (n at : ℕ) → IsOf o file → n ≡ 1 → slice_index offsets 0 ≡ o.frame.sizes.root → slice_index heights 0 ≤ max_levels
-    → at ≡ o.frame.sizes.strings → Stand o.frame.sizes file (pending offsets heights n) at → (t : Tree) × IsDatabase file t
+    → at ≡ o.frame.sizes.strings → Stands file (pending offsets heights n) at → (t : Tree) × IsDatabase file t
 unfolding Stand pending
 root_stands o file offsets heights n at is one root low end stand =
     let l = o.frame.sizes in
-    let s = subst (λ m. Stand l file (pending offsets heights m) at) one stand in
+    let s = subst (λ m. Stand l file (pending offsets heights m) at) one (subst (λ (k : Layout). Stand k file (pending offsets heights n) at) (sym is.layout) stand) in
     let h1 = node_levels l file (slice_index heights 0) max_levels s.1 (slice_index offsets 0) s.0 low s.2 in
     let h2 = subst (λ k. NodeText l file max_levels k (slice_index offsets 0) s.0) s.4 h1 in
     let h3 = subst (λ k. NodeText l file max_levels l.nodes k s.0) root h2 in

@@ -19,6 +19,12 @@ pub record HasSections (l : Layout) (file : List ℕ) : Type 0 where
   pub lengths : HasLengths file
   pub some : 0 < (header_of file).strings_len
 
+-- a file of this size, with these first bytes and these strings
+pub record IsRead (header : List ℕ) (size : ℕ) (strings file : List ℕ) : Type 0 where
+  pub long : length file ≡ size
+  pub front : IsPart file 0 header
+  pub texts : IsPart file (layout_of file).strings strings
+
 -- what was kept is of this file
 pub record IsOf (o : Outline) (file : List ℕ) : Type 0 where
   pub layout : o.frame.sizes ≡ layout_of file
@@ -37,3 +43,7 @@ unfoldable pub Stand : Layout → List ℕ → List (ℕ × ℕ) → (end : ℕ)
 Stand l file [] end = end ≡ l.nodes
 Stand l file (node ∷ more) end =
     (t : Tree) × (from : ℕ) × NodeText l file node.1 from node.0 t × (record_end l file node.0 ≡ end) × Stand l file more from
+
+-- the same of a file, by the layout that its header says
+abbrev pub Stands : List ℕ → List (ℕ × ℕ) → (end : ℕ) → Type 0
+Stands file nodes end = Stand (layout_of file) file nodes end

@@ -2,7 +2,7 @@
 ghost use Rattle.std.specs.Prelude.{◌≡◌, ◌≤◌, ◌<◌, ◌+◌, ℕ, List, length, IfSome, IsTrue};
 ghost use Rattle.hwdb_spec.specs.Tree.{Tree};
 ghost use Rattle.hwdb_spec.specs.Format.{record_end, IsDatabase};
-ghost use Rattle.hwdb_passes.specs.Views.{IsPart, IsOf, Stand, pending};
+ghost use Rattle.hwdb_passes.specs.Views.{IsPart, IsOf, Stands, pending};
 
 use crate::children::children_height;
 use crate::entries::are_values;
@@ -32,8 +32,8 @@ fn take_record(
     ensures room { IfSome result (λ m. (m ≤ length offsets.new) × (m ≤ length heights.new)) }
     ensures stand { IfSome result (λ m. (file : List ℕ) → IsOf o.entry file
         → IsPart file at piece.now
-        → Stand o.entry.frame.sizes file (pending offsets.old heights.old n) (at + off)
-        → Stand o.entry.frame.sizes file (pending offsets.new heights.new m)
+        → Stands file (pending offsets.old heights.old n) (at + off)
+        → Stands file (pending offsets.new heights.new m)
         (at + record_end o.entry.frame.sizes piece.now off)) }
 {
     let count = piece[off + 8] as usize;
@@ -68,9 +68,8 @@ pub fn feed(
     ensures used { IfSome result (λ used. used ≤ length piece.now) }
     ensures stand { IfSome result (λ used. (file : List ℕ) → IsOf o.entry file
         → IsPart file at piece.now
-        → Stand o.entry.frame.sizes file (pending offsets.old heights.old done.old) at
-        → Stand o.entry.frame.sizes file (pending offsets.new heights.new done.new)
-        (at + used)) }
+        → Stands file (pending offsets.old heights.old done.old) at
+        → Stands file (pending offsets.new heights.new done.new) (at + used)) }
 {
     let mut n = *done;
     if n > offsets.len() || n > heights.len() || at > o.size || piece.len() > o.size - at {
@@ -92,7 +91,7 @@ pub fn feed(
 #[tactic(auto, using(crate::proofs::NodeLemmas::root_stands))]
 pub fn is_whole(o: Outline<'_>, at: usize, offsets: &[usize], heights: &[u16], done: usize) -> bool
     ensures { IsTrue result → (file : List ℕ) → IsOf o.entry file
-        → Stand o.entry.frame.sizes file (pending offsets.now heights.now done) at
+        → Stands file (pending offsets.now heights.now done) at
         → (t : Tree) × IsDatabase file t }
 {
     done == 1

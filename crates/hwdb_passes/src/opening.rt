@@ -1,7 +1,7 @@
 //! The header of a file, of which its first 80 bytes and its size are known.
 ghost use Rattle.std.specs.Prelude.{◌≡◌, ◌≤◌, ◌+◌, ℕ, List, length, take, codes, IfSome, IsTrue};
 ghost use Rattle.hwdb_spec.specs.Format.{layout_of, IsHeader};
-ghost use Rattle.hwdb_passes.specs.Views.{IsPart, IsOf, HasSections};
+ghost use Rattle.hwdb_passes.specs.Views.{IsPart, IsRead, IsOf, HasSections};
 
 use crate::outline::Outline;
 use hwdb_reader::{Frame, u64_at};
@@ -20,7 +20,8 @@ fn is_signed(header: &[u8]) -> bool
 pub fn open_sections(header: &[u8], size: usize) -> Option<Frame>
     ensures sections { IfSome result (λ f. (file : List ℕ) → IsPart file 0 header.now
         → length file ≡ size → HasSections f.sizes file) }
-    ensures strings { IfSome result (λ f. f.sizes.strings ≤ size) }
+    ensures inside { IfSome result
+        (λ f. (f.sizes.nodes ≤ f.sizes.strings) × (f.sizes.strings ≤ size)) }
 {
     if header.len() < 80 || !is_signed(header) {
         return None;
@@ -52,9 +53,8 @@ pub fn open_sections(header: &[u8], size: usize) -> Option<Frame>
 
 /// What is kept of a file with this header, this size and this string section.
 pub fn open_outline<'a>(header: &[u8], size: usize, strings: &'a [u8]) -> Option<Outline<'a>>
-    ensures outline { IfSome result (λ o. (file : List ℕ) → IsPart file 0 header.now
-        → length file ≡ size → IsPart file o.frame.sizes.strings strings.now → IsOf o file) }
-    ensures same { IfSome result (λ o. o.size ≡ size) }
+    ensures { IfSome result (λ o. (file : List ℕ) → IsRead header.now size strings.now file
+        → IsOf o file) }
 {
     let Some(frame) = open_sections(header, size) else {
         return None;

@@ -1,5 +1,5 @@
 use Rattle.std.proofs.Common.{◌≡◌, ◌≤◌, ◌+◌, ◌-◌, ℕ, List, length}
-use Rattle.hwdb_passes.specs.Views.{IsPart, IsOf, Stand, pending}
+use Rattle.hwdb_passes.specs.Views.{IsPart, IsOf, Stands, pending}
 use Rattle.hwdb_passes.proofs.feeding.feed.Given as goal
 
 abbrev pub invariant-loop-end : goal.invariant-loop-end
@@ -8,8 +8,8 @@ invariant-loop-end l = record {
   offsets : l.n ≤ length l.offsets;
   heights : l.n ≤ length l.heights;
   place : l.at + length l.piece ≤ l.o.size;
-  stand : (file : List ℕ) → IsOf l.o file → IsPart file l.at l.piece → Stand l.o.frame.sizes file (pending l.fn.offsets l.fn.heights l.fn.done) l.at
-      → Stand l.o.frame.sizes file (pending l.offsets l.heights l.n) (l.at + l.off);
+  stand : (file : List ℕ) → IsOf l.o file → IsPart file l.at l.piece → Stands file (pending l.fn.offsets l.fn.heights l.fn.done) l.at
+      → Stands file (pending l.offsets l.heights l.n) (l.at + l.off);
 }
 
 abbrev pub decreases-loop-end : goal.decreases-loop-end
