@@ -2,3 +2,4 @@ pub mod NameLemmas
 pub mod RowLemmas
 pub mod SameLemmas
 pub mod CommonLemmas
+pub mod ApartLemmas
