@@ -37,8 +37,8 @@ impl<'t> Model for Interner<'t> {
 }
 
 impl<'t> Interner<'t> {
-    /// The empty string alone, and room for so many. The registry has as many entries.
-    pub fn new(alloc: Global, strings: usize) -> Result<Interner<'t>, AllocError>
+    /// The empty string alone, and room for so many more. The registry has so many entries.
+    pub fn new(alloc: Global, strings: usize, entries: usize) -> Result<Interner<'t>, AllocError>
         ensures { IfOk result (λ interner. interner ≡ [] ∷ []) }
     {
         let mut words = Vec::with_capacity(alloc, strings.saturating_add(1))?;
@@ -48,7 +48,7 @@ impl<'t> Interner<'t> {
         })?;
         Ok(Interner {
             words,
-            registry: Registry::new(alloc, strings)?,
+            registry: Registry::new(alloc, entries)?,
         })
     }
 

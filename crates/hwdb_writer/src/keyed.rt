@@ -152,6 +152,9 @@ impl<'t> PartialEq for KeyedStr<'t> {
         if self.head != other.head {
             return false;
         }
+        if self.len() <= HEAD && other.len() <= HEAD {
+            return self.len().cmp(&other.len()).is_eq();
+        }
         if self.is_spaced == other.is_spaced {
             return self.text == other.text;
         }

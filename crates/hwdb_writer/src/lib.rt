@@ -14,6 +14,7 @@ mod entries;
 mod interner;
 mod keyed;
 mod laws;
+mod memory;
 mod nodes;
 mod numbered;
 mod output;

@@ -13,6 +13,7 @@ ghost use Rattle.hwdb_writer.specs.Internal.Stored.{IsAt, AreNodes, IsStored, Is
 use crate::assignments::Assignments;
 use crate::builder::post_order;
 use crate::entries::last_of_each;
+use crate::memory::keep_pages;
 use crate::numbered::NumberedStr;
 use crate::records::{
     CHILD_SIZE, HEADER_SIZE, NODE_SIZE, VALUE_SIZE, push_records, push_u64, record_length,
@@ -126,6 +127,7 @@ fn stored_nodes<'t>(alloc: Global, tree: Assignments<'t>) -> Result<Stored<'t>, 
     ensures { IfOk result (λ s. (es : List Setting) × (ns : List BuiltNode) × IsStored es ns s
         × IsMade tree.entry (tree_of es ns)) }
 {
+    keep_pages(alloc);
     let entries = last_of_each(tree.entries)?;
     let nodes = post_order(alloc, &entries)?;
     store(alloc, entries, &nodes)

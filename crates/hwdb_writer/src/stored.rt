@@ -165,9 +165,9 @@ pub fn store<'t>(
     requires { IsPostOrder entries.items nodes.now }
     ensures { IfOk result (IsStored entries.entry.items nodes.now) }
 {
-    // A string for each node, and one for each value: most keys and paths come again.
-    let room = entries.len().saturating_add(nodes.len());
-    let mut interner = Interner::new(alloc, room)?;
+    // Most keys and paths come again, and so does the string of many a node.
+    let looked_up = entries.len().saturating_add(nodes.len());
+    let mut interner = Interner::new(alloc, nodes.len(), looked_up)?;
     let values = store_values(alloc, entries, nodes, &mut interner)?;
     let nodes = store_nodes(alloc, nodes, &mut interner)?;
     Ok(Stored {
