@@ -13,6 +13,7 @@ pub mod MeetingLemmas
 pub mod OrderedLemmas
 pub mod SaidLemmas
 pub mod PlainLemmas
+pub mod HoldingLemmas
 pub mod ReadLemmas
 pub mod PlacedLemmas
 pub mod StateLemmas

@@ -7,3 +7,4 @@ pub mod Counting
 pub mod Forms
 pub mod Counts
 pub mod Plain
+pub mod Holding

@@ -11,6 +11,7 @@
 //! | `counting` | how many changes there are, by file and by key; `counts_text`: the same as lines or JSON |
 //! | `gifts` | what a database gives a device |
 //! | `listing` | `dump`: a database as text |
+//! | `holding` | all assignments of a database at once, their patterns in one text |
 //! | `records` | the records of a dump, and what a record says; `plain`: those that say it for sure |
 //! | `difference` | `diff`: what changed from one database to another, of all or for devices |
 //! | `summary` | how much is in a database |
@@ -32,6 +33,7 @@ mod device_lines;
 mod difference;
 mod freshness;
 mod gifts;
+mod holding;
 mod json_changes;
 mod json_reports;
 mod laws;

@@ -1,55 +1,49 @@
 //! `dump`: a database as text of the form that hwdb(7) describes.
-ghost use Rattle.std.specs.Prelude.{◌≡◌, None, map, flat_map, OnOk, IfOk, IfErr};
+ghost use Rattle.std.specs.Prelude.{◌≡◌, None, flat_map, OnOk, IfOk, IfErr};
 ghost use Rattle.hwdb_spec.specs.Assignment.{assignment_cmp};
 ghost use Rattle.hwdb_spec.specs.Dump.{dumped, dump_text, record_text, first_unsaid};
 ghost use Rattle.hwdb_spec.specs.Databases.{IsTextOf, IsSayable};
 ghost use Rattle.hwdb_spec.specs.DumpErrors.{IsDumpRefusal, IsUnsaidRefusal};
-ghost use Rattle.hwdb_inspect.specs.Views.{assignment_of};
+ghost use Rattle.hwdb_inspect.specs.Internal.Holding.{all_held, held_in};
 
-use crate::pairs::by_place;
-use crate::records::push_said;
-use crate::walk::assignments;
-use hwdb_query::StoredAssignment;
+use crate::holding::{Held, Kept, by_position, keep};
+use crate::records::{Shown, push_said};
 use hwdb_reader::{Db, check};
 use hwdb_spec::DumpError;
 use std::alloc::{AllocError, Global};
 use std::cmp::Ordering;
 
-/// Compares by priority, line, pattern and key.
-#[tactic(auto, unfolding(hwdb_spec::specs::Assignment::assignment_cmp, hwdb_spec::specs::Assignment::position_cmp))]
-fn by_position(x: &StoredAssignment<'_>, y: &StoredAssignment<'_>) -> Ordering
-    ensures { result ≡ assignment_cmp (assignment_of x.now) (assignment_of y.now) }
-{
-    match x.priority.cmp(&y.priority) {
-        Ordering::Equal => match x.line.cmp(&y.line) {
-            Ordering::Equal => by_place(x, y),
-            other => other,
-        },
-        other => other,
-    }
-}
-
 /// All that the database assigns, by priority, line, pattern and key. The only error is `AllocError`.
-fn ordered<'a>(alloc: Global, db: &Db<'a>) -> Result<Vec<StoredAssignment<'a>>, AllocError>
-    ensures { IfOk result (λ list. map assignment_of list.items ≡ dumped db.now) }
+fn ordered<'a>(alloc: Global, db: &Db<'a>) -> Result<Kept<'a>, AllocError>
+    ensures { IfOk result (λ kept. all_held kept ≡ dumped db.now) }
 {
     let _root = db.root();
-    let mut list = assignments(alloc, db)?;
-    list.sort_unstable_by(|x, y| by_position(x, y));
-    Ok(list)
+    let kept = keep(alloc, db)?;
+    let Kept { patterns, mut list } = kept;
+    let text = patterns.as_slice();
+    let compare = |x: &Held<'_>, y: &Held<'_>| -> Ordering
+        ensures { result
+            ≡ assignment_cmp (held_in text.entry.now x.now) (held_in text.entry.now y.now) }
+    { by_position(text, x, y) };
+    list.sort_unstable_by(compare);
+    Ok(Kept { patterns, list })
 }
 
 /// The record of each assignment. The first assignment that its record doesn't say is an error.
-fn said_records(alloc: Global, list: &[StoredAssignment<'_>]) -> Result<Vec<u8>, DumpError>
-    ensures text { IfOk result
-        (λ text. text.items ≡ flat_map record_text (map assignment_of list.now)) }
-    ensures said { OnOk result (first_unsaid (map assignment_of list.now) ≡ None) }
-    ensures unsaid { IfErr result (IsUnsaidRefusal (map assignment_of list.now)) }
+fn said_records(alloc: Global, kept: &Kept<'_>) -> Result<Vec<u8>, DumpError>
+    ensures text { IfOk result (λ text. text.items ≡ flat_map record_text (all_held kept.now)) }
+    ensures said { OnOk result (first_unsaid (all_held kept.now) ≡ None) }
+    ensures unsaid { IfErr result (IsUnsaidRefusal (all_held kept.now)) }
 {
     let mut text = Vec::new(alloc);
-    for f in list {
-        if !push_said(alloc, &mut text, f)? {
-            return Err(DumpError::Unsayable(f.pattern.to_vec(alloc)?));
+    for one in &kept.list {
+        let pattern = one.pattern(&kept.patterns);
+        let shown = Shown {
+            pattern,
+            member: one.member,
+        };
+        if !push_said(alloc, &mut text, &shown)? {
+            return Err(DumpError::Unsayable(pattern.to_vec(alloc)?));
         }
     }
     Ok(text)
@@ -73,6 +67,6 @@ pub fn dump(alloc: Global, bytes: &[u8]) -> Result<Vec<u8>, DumpError>
         Ok(db) => db,
         Err(fault) => return Err(DumpError::Database(fault)),
     };
-    let list = ordered(alloc, &db)?;
-    said_records(alloc, &list)
+    let kept = ordered(alloc, &db)?;
+    said_records(alloc, &kept)
 }

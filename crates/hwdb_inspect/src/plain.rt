@@ -3,11 +3,11 @@
 ghost use Rattle.std.specs.Prelude.{◌≡◌, ◌<◌, ◌^◌, true, IsTrue};
 ghost use Rattle.hwdb_spec.specs.Dump;
 ghost use Rattle.hwdb_spec.specs.Lines;
+ghost use Rattle.hwdb_inspect.specs.Internal.Holding.{shown_of};
 ghost use Rattle.hwdb_inspect.specs.Internal.Plain;
 ghost use Rattle.hwdb_inspect.specs.Internal.Plain.{body_text};
-ghost use Rattle.hwdb_inspect.specs.Views.{assignment_of};
 
-use hwdb_query::StoredAssignment;
+use crate::records::Shown;
 use hwdb_text::{LONGEST_MATCH, begins_with, end_of};
 
 fn is_blank(byte: u8) -> bool
@@ -67,13 +67,13 @@ fn is_laid_out(body: &[u8], pattern: usize, key: usize) -> bool
 }
 
 /// Whether all tests are passed.
-fn passes(body: &[u8], f: &StoredAssignment<'_>) -> bool
-    ensures { result ≡ Plain.is_plain (assignment_of f.now) body.now }
+fn passes(body: &[u8], f: &Shown<'_, '_>) -> bool
+    ensures { result ≡ Plain.is_plain (shown_of f.now) body.now }
 {
-    lacks(b'\n', f.path)
-        && is_match(&f.pattern)
-        && is_property(f.key, f.value)
-        && is_laid_out(body, f.pattern.len(), f.key.len())
+    lacks(b'\n', f.member.path)
+        && is_match(f.pattern)
+        && is_property(f.member.key, f.member.value)
+        && is_laid_out(body, f.pattern.len(), f.member.key.len())
 }
 
 /// The number of a line has few digits.
@@ -82,10 +82,10 @@ fn law_small(line: u32)
 {}
 
 /// Whether a text, which is a record without its comment, shows at once that the record says its assignment.
-pub(crate) fn is_plain(body: &[u8], f: &StoredAssignment<'_>) -> bool
-    requires { body.now ≡ body_text (assignment_of f.now) }
-    ensures { IsTrue result → Dump.is_said (assignment_of f.now) ≡ true }
+pub(crate) fn is_plain(body: &[u8], f: &Shown<'_, '_>) -> bool
+    requires { body.now ≡ body_text (shown_of f.now) }
+    ensures { IsTrue result → Dump.is_said (shown_of f.now) ≡ true }
 {
-    law_small(f.line);
+    law_small(f.member.line);
     passes(body, f)
 }
